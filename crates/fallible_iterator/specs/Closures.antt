@@ -1,0 +1,44 @@
+-- Calls of stored closures, which may keep state: `call f x r g` says that the closure f, called on x, may answer r and is then g.
+use Rattle.std.specs.Prelude.{◌≡◌, List, Option, Some, None, All}
+use Rattle.std.specs.List.{FoldsTo}
+use Rattle.std.specs.Fn.{Called, CalledAt, Takes, TakesAt, Mut}
+use Rattle.std.specs.Borrow.{Bor}
+
+module _ {F X R : Type 0} (call : F → X → R → F → Type 0) where
+  -- Called in order on the arguments of the pairs, f can give the answers beside them, and is then g.
+  abbrev pub Calls : F → List (X × R) → F → Type 0
+  Calls f pairs g = FoldsTo (λ p c q. call p c.0 c.1 q) f pairs g
+
+  -- In whatever state its calls bring it to, f gives to each argument of the pairs the answer beside it.
+  abbrev pub Steady : F → List (X × R) → Type 0
+  Steady f pairs = (made : List (X × R)) (p q : F) → Calls f made p → All (λ c. (r : R) → call p c.0 r q → r ≡ c.1) pairs
+
+  -- Calls on arguments of which P holds can bring f to the state g.
+  pub record Reaches (P : X → Type 0) (f g : F) : Type 0 where
+    pub made : List (X × R)
+    pub by : FoldsTo (λ p c q. P c.0 × call p c.0 c.1 q) f made g
+
+  -- In each state that calls on arguments of which P holds bring f to, it may be called on each such argument.
+  pub record IsCallable (pre : F → X → Type 0) (P : X → Type 0) (f : F) : Type 0 where
+    pub at : (g : F) (x : X) → Reaches P f g → P x → pre g x
+
+-- A stored closure stands in a slot that is empty only during a call.
+abbrev pub InSlot : {F : Type 0} → Option F → (F → Type 0) → Type 0
+InSlot (Some f) P = P f
+InSlot None P = ⊥
+
+abbrev pub InSlots : {F : Type 0} → Option F → Option F → (F → F → Type 0) → Type 0
+InSlots p q R = InSlot p (λ f. InSlot q (λ g. R f g))
+
+-- a call on an item itself, and one on a reference to it
+abbrev pub call_on : {F A R : Type 0} → Mut F (A × Unit {0}) R → F → A → R → F → Type 0
+call_on g f x r f' = Called g f (x, tt) r f'
+
+abbrev pub takes_on : {F A R : Type 0} → Mut F (A × Unit {0}) R → F → A → Type 0
+takes_on g f x = Takes g f (x, tt)
+
+abbrev pub call_at : {F A R : Type 0} → Mut F (Bor A × Unit {0}) R → F → A → R → F → Type 0
+call_at g f x r f' = CalledAt g f x r f'
+
+abbrev pub takes_at : {F A R : Type 0} → Mut F (Bor A × Unit {0}) R → F → A → Type 0
+takes_at g f x = TakesAt g f x

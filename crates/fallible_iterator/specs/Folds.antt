@@ -1,0 +1,87 @@
+-- Folds.
+use Rattle.std.specs.Prelude.{◌≡◌, ℕ, length, List, [], ◌∷◌, ◌++◌, map, Option, Result, Some, None, Ok, Err}
+use Rattle.std.specs.List.{FoldsTo}
+use Rattle.std.specs.Fn.{Called, Takes, Mut, Shared}
+use Rattle.fallible_iterator.specs.declared.folds.Exit.{Exit}
+use Rattle.fallible_iterator.specs.declared.folds.Exit.TheVariants.{Ended, Failed, Stopped}
+use Rattle.fallible_iterator.specs.Traces.{Answered, Run, Yields, item, end, failure}
+
+-- P holds of each item that may come after items on which the turns went on, with what they made by then
+pub record HoldsAtEachTurn {S A E C : Type 0} (steps : S → Answered A E → S → Type 0) (goes_on : C → A → C → Type 0) (P : C → A → Type 0) (s : S) (c : C) : Type 0 where
+  pub at : (items : List A) (t u : S) (d : C) (x : A) → Yields steps s items t → FoldsTo goes_on c items d → steps t (item x) u → P d x
+
+module _ {A F B E' : Type 0} (g : Mut F (B × (A × Unit {0})) (Result B E')) where
+  -- one call of the closure on the value so far and an item, which went on
+  abbrev pub fold_turn : B × F → A → B × F → Type 0
+  fold_turn p x q = Called g p.1 (p.0, (x, tt)) (Ok q.0) q.1
+
+  -- one call, seen by the fold that carries the value and the closure
+  abbrev pub FoldTurn : B × F → A → Result (B × F) E' → Type 0
+  FoldTurn p x (Ok q) = fold_turn p x q
+  FoldTurn p x (Err e') = (f' : F) × Called g p.1 (p.0, (x, tt)) (Err e') f'
+
+module _ {A E F B E' : Type 0} (g : Mut F (B × (A × Unit {0})) (Result B E')) (from : E → E' → Type 0) where
+  -- the fold's result r by the last answer: the last value at an end; the failure, converted, at a failure; the closure's error where it stopped at an item
+  abbrev pub FoldExit : B → F → Answered A E → Result B E' → Type 0
+  FoldExit b f (Ok None) r = r ≡ Ok b
+  FoldExit b f (Err e) r = (e' : E') × from e e' × (r ≡ Err e')
+  FoldExit b f (Ok (Some x)) r = (f' : F) × (e' : E') × Called g f (b, (x, tt)) (Err e') f' × (r ≡ Err e')
+
+module _ {S A E F B E' : Type 0} (steps : S → Answered A E → S → Type 0) (g : Mut F (B × (A × Unit {0})) (Result B E')) where
+  -- the closure may be called on the value so far and each item that may come
+  abbrev pub CallableInFold : S → F → B → Type 0
+  CallableInFold s f b = HoldsAtEachTurn {C = B × F} steps (fold_turn g) (λ p x. Takes g p.1 (p.0, (x, tt))) s (b, f)
+
+  -- The closure was called on the items in order, each call with the value so far, b at first, and went on. Then came the last answer: an end, a failure, or an item on which the closure failed. The draws answered the items and the last answer, and left t.
+  pub record Folded (from : E → E' → Type 0) (s : S) (b : B) (f : F) (r : Result B E') (t : S) : Type 0 where
+    pub items : List A
+    pub last : Answered A E
+    pub value : B
+    pub closure : F
+    pub ran : Run steps s (map item items ++ last ∷ []) t
+    pub went : FoldsTo {P = B × F} (fold_turn g) (b, f) items (value, closure)
+    pub exit : FoldExit g from value closure last r
+
+-- ---- the fold that carries its closure, which every other one goes through
+
+module _ {A C R K : Type 0} (g : Shared K (C × (A × Unit {0})) (Result C R)) (k : K) where
+  -- one call of k on the carried value and an item, which went on
+  abbrev pub carrying_turn : C → A → C → Type 0
+  carrying_turn c x d = g.post k (c, (x, tt)) (Ok d)
+
+module _ {A E C R K : Type 0} (g : Shared K (C × (A × Unit {0})) (Result C R)) (k : K) where
+  -- every exit hands the carried value back
+  abbrev pub CarryingExit : C → Answered A E → Exit C E R → Type 0
+  CarryingExit c (Ok None) r = r ≡ Ended c
+  CarryingExit c (Err e) r = r ≡ Failed c e
+  CarryingExit c (Ok (Some x)) r = (stop : R) × g.post k (c, (x, tt)) (Err stop) × (r ≡ Stopped stop)
+
+module _ {S A E C R K : Type 0} (steps : S → Answered A E → S → Type 0) (g : Shared K (C × (A × Unit {0})) (Result C R)) (k : K) where
+  -- k may be called on the carried value and each item that may come
+  abbrev pub CallableCarrying : S → C → Type 0
+  CallableCarrying s c = HoldsAtEachTurn steps (carrying_turn g k) (λ d x. g.pre k (d, (x, tt))) s c
+
+  -- k was called on the items in order, each call with the value carried so far, and went on; then came the last answer
+  pub record Carried (s : S) (c : C) (r : Exit C E R) (t : S) : Type 0 where
+    pub items : List A
+    pub last : Answered A E
+    pub carried : C
+    pub ran : Run steps s (map item items ++ last ∷ []) t
+    pub went : FoldsTo (carrying_turn g k) c items carried
+    pub exit : CarryingExit g k carried last r
+
+-- ---- count
+
+-- the number of items n at an end, or the failure
+abbrev pub CountExit : {A E : Type 0} → ℕ → Answered A E → Result ℕ E → Type 0
+CountExit n (Ok None) r = r ≡ Ok n
+CountExit n (Err e) r = r ≡ Err e
+CountExit n (Ok (Some x)) r = ⊥
+
+-- The draws from s answered items and then an end or a failure; the result is the number of the items, or the failure.
+pub record Counted {S A E : Type 0} (steps : S → Answered A E → S → Type 0) (s : S) (r : Result ℕ E) : Type 0 where
+  pub items : List A
+  pub last : Answered A E
+  pub left : S
+  pub ran : Run steps s (map item items ++ last ∷ []) left
+  pub exit : CountExit (length items) last r

@@ -1,0 +1,41 @@
+-- What stays after any number of draws.
+use Rattle.std.specs.Prelude.{◌≡◌, ℕ, ◌≤◌, ◌<◌, List, [], ◌∷◌, Option, Result, Some, None, Ok, Err}
+use Rattle.std.specs.List.{FoldsTo}
+use Rattle.std.proofs.Common.{refl, arith, subst}
+use Rattle.fallible_iterator.specs.Traces.{Answered, Run, Yields, item}
+use Rattle.fallible_iterator.specs.Source.{Source, NoMore, Fewer, OnAnswer, Goes, Stays, Lawful}
+
+module _ {S A E : Type 0} (m : Source S A E) where
+  -- after any answer nothing more is to come than before
+  pub no_more : (s t : S) (r : Answered A E) → OnAnswer m s r t → NoMore m s t
+  no_more s t (Ok (Some x)) h n b = let k = h.1 n b in (k.0, k.1, omega (arith, k.2))
+  no_more s t (Ok None) h n b = h.0 n b
+  no_more s t (Err e) h n b = h.1 n b
+
+  no_more_then : (s t u : S) → NoMore m s t → NoMore m t u → NoMore m s u
+  no_more_then s t u p q n b = let j = p n b in let k = q j.0 j.1 in (k.0, k.1, omega (arith, j.2, k.2))
+
+module _ {S A E : Type 0} {m : Source S A E} where
+  pub stays_after : {s t u : S} {r : Answered A E} → Goes m s r t → Stays m t u → Stays m s u
+  stays_after {s} {t} {u} {r} g h = record {
+    can = h.can;
+    has_end = λ e. h.has_end (g.has_end e);
+    to_come = no_more_then m s t u (no_more m s t r g.answer) h.to_come;
+    gives = λ x p. g.gives x (h.gives x p);
+    fails = λ e p. g.fails e (h.fails e p)
+  }
+
+  pub stays_here : {s : S} → m.can s → Stays m s s
+  stays_here c = record { can = c; has_end = λ e. e; to_come = λ n b. (n, b, omega arith); gives = λ x p. p; fails = λ e p. p }
+
+  pub stays_run : Lawful m → (s : S) (trace : List (Answered A E)) (t : S) → m.can s → Run m.steps s trace t → Stays m s t
+  stays_run l s [] t c ran = subst (λ (u : S). Stays m s u) ran (stays_here c)
+  stays_run l s (r ∷ rest) t c ran = let g = l.goes s r ran.0 c ran.1 in stays_after g (stays_run l ran.0 rest t g.can ran.2)
+
+  pub stays_yields : Lawful m → (s : S) (xs : List A) (t : S) → m.can s → Yields m.steps s xs t → Stays m s t
+  stays_yields l s [] t c ran = subst (λ (u : S). Stays m s u) ran (stays_here c)
+  stays_yields l s (x ∷ xs) t c ran = let g = l.goes s (item x) ran.0 c ran.1 in stays_after g (stays_yields l ran.0 xs t g.can ran.2)
+
+  -- an item that came after others was one to come
+  pub given_after : Lawful m → (s : S) (xs : List A) (t u : S) (x : A) → m.can s → Yields m.steps s xs t → m.steps t (item x) u → m.gives s x
+  given_after l s xs t u x c ran step = let h = stays_yields l s xs t c ran in h.gives x ((l.goes t (item x) u h.can step).answer.0)

@@ -1,0 +1,25 @@
+-- Answers and traces.
+use Rattle.std.specs.Prelude.{Option, Result, List}
+use Rattle.std.specs.Prelude.{Some, None, Ok, Err}
+use Rattle.std.specs.List.{FoldsTo}
+
+-- An answer is what one draw gives: an item, `Ok (Some x)`, a failure, `Err e`, or an end, `Ok None`.
+abbrev pub Answered : Type 0 → Type 0 → Type 0
+Answered A E = Result (Option A) E
+
+abbrev pub item : {A E : Type 0} → A → Answered A E
+item x = Ok (Some x)
+
+abbrev pub failure : {A E : Type 0} → E → Answered A E
+failure e = Err e
+
+abbrev pub end : {A E : Type 0} → Answered A E
+end = Ok None
+
+-- A step relates a value, the answer of one draw and the value after it. A trace is the list of the answers to draws made one after another: from s, draws can answer the trace and leave t.
+abbrev pub Run : {S A E : Type 0} → (S → Answered A E → S → Type 0) → S → List (Answered A E) → S → Type 0
+Run steps s trace t = FoldsTo steps s trace t
+
+-- From s, draws can give the items xs and nothing else, and leave t.
+abbrev pub Yields : {S A E : Type 0} → (S → Answered A E → S → Type 0) → S → List A → S → Type 0
+Yields steps s xs t = FoldsTo (λ u x v. steps u (item x) v) s xs t

@@ -1,0 +1,5 @@
+#![tactic(auto)]
+
+pub mod folds;
+pub mod to_come;
+pub mod traits;

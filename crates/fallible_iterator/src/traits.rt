@@ -1,0 +1,124 @@
+// The trait.
+ghost use Rattle.std.specs.Prelude.{◌≡◌, ℕ, ◌+◌, ◌-◌, ◌≤◌, ◌<◌, ◌^◌, List, Option, Result, ◌↔◌};
+ghost use Rattle.fallible_iterator.specs.Source.{Source, Lawful, Stays};
+ghost use Rattle.fallible_iterator.specs.Folds.{CallableCarrying, Carried, CallableInFold, FoldTurn, Folded, Counted};
+
+use std::convert::Infallible;
+use std::marker::PhantomData;
+use crate::folds::Exit;
+use crate::to_come::Number;
+
+pub trait FallibleIterator: Drop + Sized {
+    type Item;
+    type Error;
+
+    // All that the contract says of the values of this type.
+    ghost source: { Source Self Self.Item Self.Error };
+
+    fn next(&mut self) -> Result<Option<Self::Item>, Self::Error>
+        requires { source.can self.old }
+        ensures { source.steps self.old result self.new };
+
+    fn size_hint(&self) -> (usize, Option<usize>)
+        ensures { source.hints self.now result };
+
+    // A number to come, for drains to count down by.
+    fn number(&self) -> Number
+        requires { (n : ℕ) × source.to_come self.now n }
+        ensures { source.to_come self.now result.value }
+    {
+        Number {
+            marker: PhantomData,
+        }
+    }
+
+    fn try_fold_carrying<C, R, K: Fn(C, Self::Item) -> Result<C, R>>(
+        &mut self,
+        init: C,
+        k: &K,
+    ) -> Exit<C, Self::Error, R>
+    where
+        requires can { source.can self.old }
+        requires finite { source.has_end self.old }
+        requires callable { CallableCarrying source.steps K.Fn k.now self.old init }
+        ensures carried { Carried source.steps K.Fn k.now self.old init result self.new }
+        ensures stays { Stays source self.old self.new }
+    {
+        let mut carried = init;
+        let mut left = (*self).number();
+        loop {
+            match self.next() {
+                Ok(None) => return Exit::Ended(carried),
+                Err(e) => return Exit::Failed(carried, e),
+                Ok(Some(x)) => match k(carried, x) {
+                    Ok(c) => carried = c,
+                    Err(stop) => return Exit::Stopped(stop),
+                },
+            }
+            left = left.one_less();
+        }
+    }
+
+    fn try_fold<B, E, F>(&mut self, init: B, f: F) -> Result<B, E>
+    where
+        B: Drop,
+        E: From<Self::Error>,
+        F: FnMut(B, Self::Item) -> Result<B, E>,
+        requires can { source.can self.old }
+        requires finite { source.has_end self.old }
+        requires callable { CallableInFold source.steps F.FnMut self.old f init }
+        ensures folded { Folded source.steps F.FnMut E.from_gives self.old init f result self.new }
+        ensures stays { Stays source self.old self.new }
+    {
+        let turn = |carried: (B, F), x: Self::Item| -> Result<(B, F), E>
+            requires { F.pre carried.1 carried.0 x }
+            ensures { FoldTurn F.FnMut carried x result }
+        {
+            let (value, mut f) = carried;
+            match f(value, x) {
+                Ok(value) => Ok((value, f)),
+                Err(e) => Err(e),
+            }
+        };
+        match self.try_fold_carrying((init, f), &turn) {
+            Exit::Ended((value, _)) => Ok(value),
+            Exit::Failed(_, e) => Err(E::from(e)),
+            Exit::Stopped(e) => Err(e),
+        }
+    }
+
+    fn fold<B, F>(mut self, init: B, f: F) -> Result<B, Self::Error>
+    where
+        B: Drop,
+        F: FnMut(B, Self::Item) -> Result<B, Self::Error>,
+        requires can { source.can self }
+        requires finite { source.has_end self }
+        requires callable { CallableInFold source.steps F.FnMut self f init }
+        ensures { (left : Self) × Folded source.steps F.FnMut (λ e d. d ≡ e) self init f result left }
+    {
+        self.try_fold(init, f)
+    }
+
+    fn count(mut self) -> Result<usize, Self::Error>
+    where
+        Self::Item: Drop,
+        requires can { source.can self }
+        requires fits { source.to_come self (2 ^ 64 - 1) }
+        ensures { Counted source.steps self result }
+    {
+        let one_more = |n: usize, x: Self::Item| -> Result<usize, Infallible>
+            requires { n < 2 ^ 64 - 1 }
+            ensures { result ≡ Ok (n + 1) }
+        {
+            let _ = x;
+            Ok(n + 1)
+        };
+        match self.try_fold_carrying(0, &one_more) {
+            Exit::Ended(n) => Ok(n),
+            Exit::Failed(_, e) => Err(e),
+            Exit::Stopped(never) => match never {},
+        }
+    }
+
+    ghost lawful: { Lawful source };
+}
