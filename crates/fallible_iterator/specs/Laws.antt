@@ -1,3 +1,7 @@
 -- What follows from the definitions: lemmas that the laws of impls and the proofs cite.
+pub mod Closures
 pub mod Folds
 pub mod Source
+pub mod Passing
+pub mod Filtering
+pub mod Sources

@@ -2,6 +2,7 @@
 pub mod Traces
 pub mod Source
 pub mod Closures
+pub mod Parts
 pub mod Passing
 pub mod Folds
 pub mod Sources

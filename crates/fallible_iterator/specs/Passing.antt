@@ -55,27 +55,26 @@ pub record PassTrace {S F X R B E : Type 0} (steps : S → Answered X E → S �
   pub answers : trace ≡ filter_map (answer_at outcome) places
   pub ends_kept : EndsKept outcome places
 
-module _ {S F X R B E : Type 0} (m : Source S X E) (call : F → X → R → F → Type 0) (pre : F → X → Type 0) (outcome : X → R → Outcome B E) where
-  -- a call on an item that may still come, in a state that such calls lead to, may have this outcome
-  pub record MayGive (s : S) (f : F) (o : Outcome B E) : Type 0 where
-    pub state : F
-    pub argument : X
-    pub answer : R
-    pub left : F
-    pub reached : Reaches call (m.gives s) f state
-    pub given : m.gives s argument
-    pub called : call state argument answer left
-    pub outcome_is : outcome argument answer ≡ o
+-- a call on an item that may still come, in a state that such calls lead to, may have this outcome
+pub record MayGive {S F X R B E : Type 0} (m : Source S X E) (call : F → X → R → F → Type 0) (outcome : X → R → Outcome B E) (s : S) (f : F) (o : Outcome B E) : Type 0 where
+  pub state : F
+  pub argument : X
+  pub answer : R
+  pub left : F
+  pub reached : Reaches call (m.gives s) f state
+  pub given : m.gives s argument
+  pub called : call state argument answer left
+  pub outcome_is : outcome argument answer ≡ o
 
-  -- the contract of such an adapter over a source and the slot of its closure
-  abbrev pub passing : (S → ℕ × Option ℕ → Type 0) → Source (S × Option F) B E
-  passing hints = record {
-    can = λ p. m.can p.0 × InSlot p.1 (λ f. IsCallable call pre (m.gives p.0) f);
-    steps = λ p r q. InSlots p.1 q.1 (λ f g. PassTrace m.steps call outcome p.0 f (r ∷ []) q.0 g);
-    to_come = λ p n. m.to_come p.0 n;
-    has_end = λ p. m.has_end p.0;
-    elements = λ p. m.elements p.0;
-    gives = λ p y. InSlot p.1 (λ f. MayGive p.0 f (kept y));
-    fails = λ p e. m.fails p.0 e ⊎ InSlot p.1 (λ f. MayGive p.0 f (failed e));
-    hints = λ p h. hints p.0 h
-  }
+-- the contract of such an adapter over a source and the slot of its closure
+abbrev pub passing : {S F X R B E : Type 0} → Source S X E → (F → X → R → F → Type 0) → (F → X → Type 0) → (X → R → Outcome B E) → (S → ℕ × Option ℕ → Type 0) → Source (S × Option F) B E
+passing m call pre outcome hints = record {
+  can = λ p. m.can p.0 × InSlot p.1 (λ f. IsCallable call pre (m.gives p.0) f);
+  steps = λ p r q. InSlots p.1 q.1 (λ f g. PassTrace m.steps call outcome p.0 f (r ∷ []) q.0 g);
+  to_come = λ p n. m.to_come p.0 n;
+  has_end = λ p. m.has_end p.0;
+  elements = λ p. m.elements p.0;
+  gives = λ p y. InSlot p.1 (λ f. MayGive m call outcome p.0 f (kept y));
+  fails = λ p e. m.fails p.0 e ⊎ InSlot p.1 (λ f. MayGive m call outcome p.0 f (failed e));
+  hints = λ p h. hints p.0 h
+}

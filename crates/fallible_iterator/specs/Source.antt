@@ -61,3 +61,42 @@ module _ {S A E : Type 0} (m : Source S A E) where
   -- no failure can ever come again
   abbrev pub Sure : S → Type 0
   Sure s = (trace : List (Answered A E)) (t u : S) (e : E) → Run m.steps s trace t → m.steps t (Err e) u → ⊥
+
+-- the contract of a type whose values are seen as those of another, as those of a struct by its parts
+abbrev pub seen_as : {S P A E : Type 0} → (S → P) → Source P A E → Source S A E
+seen_as view m = record {
+  can = λ s. m.can (view s);
+  steps = λ s r t. m.steps (view s) r (view t);
+  to_come = λ s n. m.to_come (view s) n;
+  has_end = λ s. m.has_end (view s);
+  elements = λ s. m.elements (view s);
+  gives = λ s x. m.gives (view s) x;
+  fails = λ s e. m.fails (view s) e;
+  hints = λ s h. m.hints (view s) h
+}
+
+-- The contract of a type that says how it steps and how many items are left at most, and nothing else.
+abbrev pub counting_down : {S A E : Type 0} → (S → Answered A E → S → Type 0) → (S → ℕ) → Source S A E
+counting_down steps left = record {
+  can = λ _. ⊤;
+  steps = steps;
+  to_come = λ s n. left s ≤ n;
+  has_end = λ _. ⊤;
+  elements = λ _. endless;
+  gives = λ _ _. ⊤;
+  fails = λ _ _. ⊤;
+  hints = λ _ h. h ≡ (0, None)
+}
+
+-- The contract of a type that says how it steps, and states no bound on what comes.
+abbrev pub unbounded : {S A E : Type 0} → (S → Answered A E → S → Type 0) → Source S A E
+unbounded steps = record {
+  can = λ _. ⊤;
+  steps = steps;
+  to_come = λ _ _. ⊥;
+  has_end = λ _. ⊥;
+  elements = λ _. endless;
+  gives = λ _ _. ⊤;
+  fails = λ _ _. ⊤;
+  hints = λ _ h. h ≡ (0, None)
+}

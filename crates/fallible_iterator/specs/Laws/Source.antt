@@ -3,7 +3,7 @@ use Rattle.std.specs.Prelude.{◌≡◌, ℕ, ◌≤◌, ◌<◌, List, [], ◌�
 use Rattle.std.specs.List.{FoldsTo}
 use Rattle.std.proofs.Common.{refl, arith, subst}
 use Rattle.fallible_iterator.specs.Traces.{Answered, Run, Yields, item}
-use Rattle.fallible_iterator.specs.Source.{Source, NoMore, Fewer, OnAnswer, Goes, Stays, Lawful}
+use Rattle.fallible_iterator.specs.Source.{Source, NoMore, Fewer, OnAnswer, Goes, Stays, Lawful, seen_as}
 
 module _ {S A E : Type 0} (m : Source S A E) where
   -- after any answer nothing more is to come than before
@@ -12,7 +12,7 @@ module _ {S A E : Type 0} (m : Source S A E) where
   no_more s t (Ok None) h n b = h.0 n b
   no_more s t (Err e) h n b = h.1 n b
 
-  no_more_then : (s t u : S) → NoMore m s t → NoMore m t u → NoMore m s u
+  pub no_more_then : (s t u : S) → NoMore m s t → NoMore m t u → NoMore m s u
   no_more_then s t u p q n b = let j = p n b in let k = q j.0 j.1 in (k.0, k.1, omega (arith, j.2, k.2))
 
 module _ {S A E : Type 0} {m : Source S A E} where
@@ -39,3 +39,17 @@ module _ {S A E : Type 0} {m : Source S A E} where
   -- an item that came after others was one to come
   pub given_after : Lawful m → (s : S) (xs : List A) (t u : S) (x : A) → m.can s → Yields m.steps s xs t → m.steps t (item x) u → m.gives s x
   given_after l s xs t u x c ran step = let h = stays_yields l s xs t c ran in h.gives x ((l.goes t (item x) u h.can step).answer.0)
+
+-- ---- a type whose values are seen as those of another
+
+module _ {S P A E : Type 0} (m : Source P A E) (view : S → P) where
+  answer_seen : (s t : S) (r : Answered A E) → OnAnswer m (view s) r (view t) → OnAnswer (seen_as view m) s r t
+  answer_seen s t (Ok (Some x)) h = h
+  answer_seen s t (Ok None) h = h
+  answer_seen s t (Err e) h = h
+
+  goes_seen : (s t : S) (r : Answered A E) → Goes m (view s) r (view t) → Goes (seen_as view m) s r t
+  goes_seen s t r g = record { can = g.can; has_end = g.has_end; answer = answer_seen s t r g.answer; gives = g.gives; fails = g.fails }
+
+pub lawful_seen : {S P A E : Type 0} {m : Source P A E} (view : S → P) → Lawful m → Lawful (seen_as view m)
+lawful_seen {m = m} view l = record { goes = λ s r t c step. goes_seen m view s t r (l.goes (view s) r (view t) c step); ends = λ s. l.ends (view s) }

@@ -1,0 +1,131 @@
+-- A trace that lets answers pass, answer by answer.
+use Rattle.std.specs.Prelude.{◌≡◌, ℕ, ◌≤◌, ◌<◌, List, [], ◌∷◌, map, Option, Result, Some, None, Ok, Err, IsSome, is_some, Bool, true, false, ◌⊎◌}
+use Rattle.std.specs.List.{FoldsTo, filter_map, cons_option}
+use Rattle.std.proofs.Common.{refl, sym, ap, subst, arith, inl, inr}
+use Rattle.fallible_iterator.specs.Traces.{Answered, Run, item}
+use Rattle.fallible_iterator.specs.Source.{Source, NoMore, Fewer, OnAnswer, Goes, Stays, Lawful}
+use Rattle.fallible_iterator.specs.Closures.{Calls, Reaches, IsCallable, InSlot, InSlots}
+use Rattle.fallible_iterator.specs.Laws.Source.{stays_run, no_more, no_more_then}
+use Rattle.fallible_iterator.specs.Laws.Closures.{reaches_here, reaches_weaken, reaches_then, reaches_from, callable_after}
+use Rattle.fallible_iterator.specs.Passing.{Outcome, kept, left_out, failed, Place, asked, failure_at, end_at, source_answer, call_of, outcome_answer, answer_at, EndsKept, PassTrace, MayGive, passing}
+
+module _ {S F X R B E : Type 0} (steps : S → Answered X E → S → Type 0) (call : F → X → R → F → Type 0) (outcome : X → R → Outcome B E) where
+  -- the same as `PassTrace`, built from the first answer on
+  pub data Passes : S → F → List (Answered B E) → S → F → Type 0 where
+    done : {s : S} {f : F} → Passes s f [] s f
+    ends : {s u t : S} {f g : F} {trace : List (Answered B E)} → steps s (Ok None) u → Passes u f trace t g → Passes s f (Ok None ∷ trace) t g
+    fails : {s u t : S} {f g : F} {trace : List (Answered B E)} (e : E) → steps s (Err e) u → Passes u f trace t g → Passes s f (Err e ∷ trace) t g
+    keeps : {s u t : S} {f h g : F} {trace : List (Answered B E)} (x : X) (v : R) (y : B) → steps s (item x) u → call f x v h → outcome x v ≡ kept y → Passes u h trace t g → Passes s f (item y ∷ trace) t g
+    refuses : {s u t : S} {f h g : F} {trace : List (Answered B E)} (x : X) (v : R) (e : E) → steps s (item x) u → call f x v h → outcome x v ≡ failed e → Passes u h trace t g → Passes s f (Err e ∷ trace) t g
+    leaves_out : {s u t : S} {f h g : F} {r : Answered B E} {trace : List (Answered B E)} (x : X) (v : R) → steps s (item x) u → call f x v h → outcome x v ≡ left_out → Passes u h (r ∷ trace) t g → Passes s f (r ∷ trace) t g
+
+module _ {X R B E : Type 0} (outcome : X → R → Outcome B E) where
+  kept_tail : (p : Place X R E) (rest : List (Place X R E)) → EndsKept outcome (p ∷ rest) → EndsKept outcome rest
+  kept_tail p [] h = tt
+  kept_tail p (q ∷ rest) h = h
+
+  kept_cons : (p : Place X R E) (rest : List (Place X R E)) → IsSome (answer_at outcome p) → EndsKept outcome rest → EndsKept outcome (p ∷ rest)
+  kept_cons p [] some h = some
+  kept_cons p (q ∷ rest) some h = h
+
+  kept_before : (p : Place X R E) (rest : List (Place X R E)) (r : Answered B E) (trace : List (Answered B E)) → r ∷ trace ≡ filter_map (answer_at outcome) rest → EndsKept outcome rest → EndsKept outcome (p ∷ rest)
+  kept_before p [] r trace e h = absurd cc
+  kept_before p (q ∷ rest) r trace e h = h
+
+  some_nonempty : (o : Option (Answered B E)) (rest : List (Answered B E)) → IsSome o → cons_option o rest ≡ [] → ⊥
+  some_nonempty None rest h e = let h' : false ≡ true = h in cc
+  some_nonempty (Some r) rest h e = cc
+
+  cons_nonempty : (o : Option (Answered B E)) (rest : List (Answered B E)) → (rest ≡ [] → ⊥) → cons_option o rest ≡ [] → ⊥
+  cons_nonempty None rest h e = h e
+  cons_nonempty (Some r) rest h e = cc
+
+  -- places that end kept have an answer
+  answered : (p : Place X R E) (rest : List (Place X R E)) → EndsKept outcome (p ∷ rest) → filter_map (answer_at outcome) (p ∷ rest) ≡ [] → ⊥
+  answered p [] h e = some_nonempty (answer_at outcome p) [] h e
+  answered p (q ∷ rest) h e = cons_nonempty (answer_at outcome p) (filter_map (answer_at outcome) (q ∷ rest)) (answered q rest h) e
+
+module _ {S F X R B E : Type 0} {steps : S → Answered X E → S → Type 0} {call : F → X → R → F → Type 0} {outcome : X → R → Outcome B E} where
+  skip_first : {s u t : S} {f h g : F} (x : X) (v : R) (trace : List (Answered B E)) (p : Place X R E) (rest : List (Place X R E)) → steps s (item x) u → call f x v h → outcome x v ≡ left_out → trace ≡ filter_map (answer_at outcome) (p ∷ rest) → EndsKept outcome (p ∷ rest) → Passes steps call outcome u h trace t g → Passes steps call outcome s f trace t g
+  skip_first x v [] p rest step called is e close h = absurd (answered outcome p rest close (sym e))
+  skip_first x v (r ∷ trace) p rest step called is e close h = leaves_out x v step called is h
+
+  mutual_asked : {s u t : S} {f h g : F} (x : X) (v : R) (o : Outcome B E) → outcome x v ≡ o → (rest : List (Place X R E)) (trace : List (Answered B E)) → steps s (item x) u → call f x v h
+      → trace ≡ cons_option (outcome_answer o) (filter_map (answer_at outcome) rest) → EndsKept outcome (asked x v ∷ rest)
+      → Passes steps call outcome u h (filter_map (answer_at outcome) rest) t g → Passes steps call outcome s f trace t g
+  mutual_asked {s} {u} {t} {f} {h} {g} x v (kept y) is rest trace step called e close rests = subst (λ (l : List (Answered B E)). Passes steps call outcome s f l t g) (sym e) (keeps x v y step called is rests)
+  mutual_asked {s} {u} {t} {f} {h} {g} x v (failed d) is rest trace step called e close rests = subst (λ (l : List (Answered B E)). Passes steps call outcome s f l t g) (sym e) (refuses x v d step called is rests)
+  mutual_asked {s} {u} {t} {f} {h} {g} x v left_out is [] trace step called e close rests = absurd (let some : is_some (outcome_answer (outcome x v)) ≡ true = close in let none : is_some (outcome_answer {B = B} {E = E} left_out) ≡ true = subst (λ (o : Outcome B E). is_some (outcome_answer o) ≡ true) is some in cc)
+  mutual_asked {s} {u} {t} {f} {h} {g} x v left_out is (p ∷ rest) trace step called e close rests = subst (λ (l : List (Answered B E)). Passes steps call outcome s f l t g) (sym e) (skip_first x v (filter_map (answer_at outcome) (p ∷ rest)) p rest step called is refl close rests)
+
+  from_places : (places : List (Place X R E)) (s : S) (f : F) (trace : List (Answered B E)) (t : S) (g : F) → Run steps s (map source_answer places) t → Calls call f (filter_map call_of places) g → trace ≡ filter_map (answer_at outcome) places → EndsKept outcome places → Passes steps call outcome s f trace t g
+  from_places [] s f trace t g ran called e close = subst (λ (l : List (Answered B E)). Passes steps call outcome s f l t g) (sym e) (subst (λ (u : S). Passes steps call outcome s f [] u g) ran (subst (λ (h : F). Passes steps call outcome s f [] s h) called done))
+  from_places (failure_at d ∷ places) s f trace t g ran called e close = subst (λ (l : List (Answered B E)). Passes steps call outcome s f l t g) (sym e) (fails d ran.1 (from_places places ran.0 f _ t g ran.2 called refl (kept_tail outcome (failure_at d) places close)))
+  from_places (end_at ∷ places) s f trace t g ran called e close = subst (λ (l : List (Answered B E)). Passes steps call outcome s f l t g) (sym e) (ends ran.1 (from_places places ran.0 f _ t g ran.2 called refl (kept_tail outcome end_at places close)))
+  from_places (asked x v ∷ places) s f trace t g ran called e close = mutual_asked x v (outcome x v) refl places trace ran.1 called.1 e close (from_places places ran.0 called.0 _ t g ran.2 called.2 refl (kept_tail outcome (asked x v) places close))
+
+  pub to_passes : {s t : S} {f g : F} {trace : List (Answered B E)} → PassTrace steps call outcome s f trace t g → Passes steps call outcome s f trace t g
+  to_passes {s} {t} {f} {g} {trace} p = from_places p.places s f trace t g p.drawn p.called p.answers p.ends_kept
+
+  pub from_passes : {s t : S} {f g : F} {trace : List (Answered B E)} → Passes steps call outcome s f trace t g → PassTrace steps call outcome s f trace t g
+  from_passes done = record { places = []; drawn = refl; called = refl; answers = refl; ends_kept = tt }
+  from_passes (ends {u = u} step h) = let p = from_passes h in record { places = end_at ∷ p.places; drawn = (u, step, p.drawn); called = p.called; answers = ap (λ l. Ok None ∷ l) p.answers; ends_kept = kept_cons outcome end_at p.places refl p.ends_kept }
+  from_passes (fails {u = u} e step h) = let p = from_passes h in record { places = failure_at e ∷ p.places; drawn = (u, step, p.drawn); called = p.called; answers = ap (λ l. Err e ∷ l) p.answers; ends_kept = kept_cons outcome (failure_at e) p.places refl p.ends_kept }
+  from_passes (keeps {u = u} {h = j} x v y step called is h) = let p = from_passes h in record { places = asked x v ∷ p.places; drawn = (u, step, p.drawn); called = (j, called, p.called); answers = rw is (ap (λ l. item y ∷ l) p.answers); ends_kept = kept_cons outcome (asked x v) p.places (rw is refl) p.ends_kept }
+  from_passes (refuses {u = u} {h = j} x v e step called is h) = let p = from_passes h in record { places = asked x v ∷ p.places; drawn = (u, step, p.drawn); called = (j, called, p.called); answers = rw is (ap (λ l. Err e ∷ l) p.answers); ends_kept = kept_cons outcome (asked x v) p.places (rw is refl) p.ends_kept }
+  from_passes (leaves_out {u = u} {h = j} {r = r} {trace = trace} x v step called is h) = let p = from_passes h in record { places = asked x v ∷ p.places; drawn = (u, step, p.drawn); called = (j, called, p.called); answers = rw is p.answers; ends_kept = kept_before outcome (asked x v) p.places r trace p.answers p.ends_kept }
+
+-- ---- the contract of what lets answers pass is lawful where the source's is
+
+module _ {S F X R B E : Type 0} (m : Source S X E) (l : Lawful m) (call : F → X → R → F → Type 0) (outcome : X → R → Outcome B E) where
+  abbrev P : S → F → List (Answered B E) → S → F → Type 0
+  P = Passes m.steps call outcome
+
+  passes_stays : (s t : S) (f g : F) (trace : List (Answered B E)) → m.can s → P s f trace t g → Stays m s t
+  passes_stays s t f g trace c p = let q = from_passes p in stays_run l s (map source_answer q.places) t c q.drawn
+
+  passes_reaches : (s t : S) (f g : F) (trace : List (Answered B E)) → m.can s → P s f trace t g → Reaches call (m.gives s) f g
+  passes_reaches s _ f _ _ c done = reaches_here
+  passes_reaches s t f g _ c (ends {u = u} step p) = let a = l.goes s (Ok None) u c step in reaches_weaken a.gives (passes_reaches u t f g _ a.can p)
+  passes_reaches s t f g _ c (fails {u = u} e step p) = let a = l.goes s (Err e) u c step in reaches_weaken a.gives (passes_reaches u t f g _ a.can p)
+  passes_reaches s t f g _ c (keeps {u = u} {h = h} x v y step called is p) = let a = l.goes s (item x) u c step in reaches_from x v a.answer.0 called (reaches_weaken a.gives (passes_reaches u t h g _ a.can p))
+  passes_reaches s t f g _ c (refuses {u = u} {h = h} x v e step called is p) = let a = l.goes s (item x) u c step in reaches_from x v a.answer.0 called (reaches_weaken a.gives (passes_reaches u t h g _ a.can p))
+  passes_reaches s t f g _ c (leaves_out {u = u} {h = h} x v step called is p) = let a = l.goes s (item x) u c step in reaches_from x v a.answer.0 called (reaches_weaken a.gives (passes_reaches u t h g _ a.can p))
+
+  -- what may come after calls on what comes may come
+  may_give_after : (s t : S) (f g : F) (o : Outcome B E) → ((x : X) → m.gives t x → m.gives s x) → Reaches call (m.gives s) f g → MayGive m call outcome t g o → MayGive m call outcome s f o
+  may_give_after s t f g o h r p = record { state = p.state; argument = p.argument; answer = p.answer; left = p.left; reached = reaches_then r (reaches_weaken h p.reached); given = h p.argument p.given; called = p.called; outcome_is = p.outcome_is }
+
+  may_give_here : (s : S) (f g : F) (o : Outcome B E) (x : X) (v : R) → m.gives s x → call f x v g → outcome x v ≡ o → MayGive m call outcome s f o
+  may_give_here s f g o x v given called is = record { state = f; argument = x; answer = v; left = g; reached = reaches_here; given = given; called = called; outcome_is = is }
+
+  module _ (pre : F → X → Type 0) (hints : S → ℕ × Option ℕ → Type 0) where
+    abbrev M : Source (S × Option F) B E
+    M = passing m call pre outcome hints
+
+    -- a draw after a left-out item was a draw
+    answer_after : (s u t : S) (f h g : F) (r : Answered B E) (x : X) (v : R) → Goes m s (item x) u → call f x v h → OnAnswer M (u, Some h) r (t, Some g) → OnAnswer M (s, Some f) r (t, Some g)
+    answer_after s u t f h g (Ok (Some y)) x v a called b = (may_give_after s u f h _ a.gives (reaches_from x v a.answer.0 called reaches_here) b.0, (λ n c. let j = a.answer.1 n c in let k = b.1 j.0 j.1 in (k.0, k.1, omega (arith, j.2, k.2))), (λ e. let j = a.answer.2 e in let k = b.2 j.0 in (k.0, omega (arith, j.1, k.1))))
+    answer_after s u t f h g (Ok None) x v a called b = ((λ n c. let j = a.answer.1 n c in let k = b.0 j.0 j.1 in (k.0, k.1, omega (arith, j.2, k.2))), (λ e. let j = a.answer.2 e in let k = b.1 j.0 in (k.0, omega (arith, j.1, k.1))))
+    answer_after s u t f h g (Err e) x v a called b = (elim b.0 [ inl c ↦ inl (a.fails e c) | inr c ↦ inr (may_give_after s u f h _ a.gives (reaches_from x v a.answer.0 called reaches_here) c) ], (λ n c. let j = a.answer.1 n c in let k = b.1 j.0 j.1 in (k.0, k.1, omega (arith, j.2, k.2))), (λ d. let j = a.answer.2 d in let k = b.2 j.0 in (k.0, omega (arith, j.1, k.1))))
+
+    passes_answer : (s t : S) (f g : F) (r : Answered B E) → m.can s → P s f (r ∷ []) t g → OnAnswer M (s, Some f) r (t, Some g)
+    passes_answer s t f g _ c (ends step done) = (l.goes s (Ok None) t c step).answer
+    passes_answer s t f g _ c (fails e step done) = let a = (l.goes s (Err e) t c step).answer in (inl a.0, a.1, a.2)
+    passes_answer s t f g _ c (keeps x v y step called is done) = let a = (l.goes s (item x) t c step).answer in (may_give_here s f g _ x v a.0 called is, a.1, a.2)
+    passes_answer s t f g _ c (refuses x v e step called is done) = let a = (l.goes s (item x) t c step).answer in (inr (may_give_here s f g _ x v a.0 called is), (λ n b. let k = a.1 n b in (k.0, k.1, omega (arith, k.2))), a.2)
+    passes_answer s t f g r c (leaves_out {u = u} {h = h} x v step called is rest) = let a = l.goes s (item x) u c step in answer_after s u t f h g r x v a called (passes_answer u t h g r a.can rest)
+
+    goes_passing : (p : S × Option F) (r : Answered B E) (q : S × Option F) → M.can p → M.steps p r q → Goes M p r q
+    goes_passing (s, None) r q c step = absurd step
+    goes_passing (s, Some f) r (t, None) c step = absurd step
+    goes_passing (s, Some f) r (t, Some g) c step = let p = to_passes step in let a = passes_stays s t f g _ c.0 p in let reached = passes_reaches s t f g _ c.0 p in record {
+      can = (a.can, callable_after a.gives reached c.1);
+      has_end = a.has_end;
+      answer = passes_answer s t f g r c.0 p;
+      gives = λ y h. may_give_after s t f g _ a.gives reached h;
+      fails = λ e h. elim h [ inl b ↦ inl (a.fails e b) | inr b ↦ inr (may_give_after s t f g _ a.gives reached b) ]
+    }
+
+pub lawful_passing : {S F X R B E : Type 0} {m : Source S X E} (call : F → X → R → F → Type 0) (pre : F → X → Type 0) (outcome : X → R → Outcome B E) (hints : S → ℕ × Option ℕ → Type 0) → Lawful m → Lawful (passing m call pre outcome hints)
+lawful_passing {m} call pre outcome hints l = record { goes = goes_passing m l call outcome pre hints; ends = λ p. l.ends p.0 }

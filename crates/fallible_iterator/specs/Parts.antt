@@ -1,0 +1,25 @@
+-- The parts that the contracts see a value by.
+use Rattle.std.specs.Prelude.{Option}
+use Rattle.fallible_iterator.specs.declared.sources.Convert.{Convert}
+use Rattle.fallible_iterator.specs.declared.sources.Once.{Once}
+use Rattle.fallible_iterator.specs.declared.sources.OnceErr.{OnceErr}
+use Rattle.fallible_iterator.specs.declared.one_to_one.Map.{Map}
+use Rattle.fallible_iterator.specs.declared.filtering.Filter.{Filter}
+
+-- the std iterator
+abbrev pub convert_source_of : {I : Type 0} → Convert I → I
+convert_source_of s = s.it
+
+-- the item, or the failure, that is still to come
+abbrev pub once_item : {T E : Type 0} → Once T E → Option T
+once_item s = s.value
+
+abbrev pub once_failure : {T E : Type 0} → OnceErr T E → Option E
+once_failure s = s.error
+
+-- the source, and the slot of the closure
+abbrev pub map_parts : {I F : Type 0} → Map I F → I × Option F
+map_parts s = (s.it, s.f)
+
+abbrev pub filter_parts : {I F : Type 0} → Filter I F → I × Option F
+filter_parts s = (s.it, s.f)
