@@ -1,8 +1,8 @@
 -- What calls of a stored closure lead to.
-use Rattle.std.specs.Prelude.{◌≡◌, List, [], ◌∷◌, ◌++◌}
+use Rattle.std.specs.Prelude.{◌≡◌, List, [], ◌∷◌, ◌++◌, Option, Some, None}
 use Rattle.std.specs.List.{FoldsTo}
 use Rattle.std.proofs.Common.{refl, sym, subst}
-use Rattle.fallible_iterator.specs.Closures.{Reaches, IsCallable}
+use Rattle.fallible_iterator.specs.Closures.{Reaches, IsCallable, InSlot, InSlots}
 
 -- turns over two lists, one after the other
 pub turns_then : {P A : Type 0} (R : P → A → P → Type 0) (xs ys : List A) (p q r : P) → FoldsTo R p xs q → FoldsTo R q ys r → FoldsTo R p (xs ++ ys) r
@@ -29,3 +29,13 @@ module _ {F X R : Type 0} {call : F → X → R → F → Type 0} where
 
   pub callable_after : {pre : F → X → Type 0} {P Q : X → Type 0} {f g : F} → ((x : X) → Q x → P x) → Reaches call P f g → IsCallable call pre P f → IsCallable call pre Q g
   callable_after h r c = record { at = λ k x s q. c.at k x (reaches_then r (reaches_weaken h s)) (h x q) }
+
+-- ---- slots
+
+pub in_slots : {F : Type 0} (R : F → F → Type 0) {p q : Option F} {f g : F} → p ≡ Some f → q ≡ Some g → R f g → InSlots p q R
+in_slots R {p} {q} {f} {g} e d r = subst (λ o. InSlots o q R) (sym e) (subst (λ o. InSlot o (λ h. R f h)) (sym d) r)
+
+-- where the slot is full and stays as it was
+pub in_slots_kept : {F : Type 0} (P : F → Type 0) (R : F → F → Type 0) (p : Option F) → InSlot p P → ((f : F) → R f f) → InSlots p p R
+in_slots_kept P R (Some f) h r = r f
+in_slots_kept P R None h r = h

@@ -129,3 +129,19 @@ module _ {S F X R B E : Type 0} (m : Source S X E) (l : Lawful m) (call : F → 
 
 pub lawful_passing : {S F X R B E : Type 0} {m : Source S X E} (call : F → X → R → F → Type 0) (pre : F → X → Type 0) (outcome : X → R → Outcome B E) (hints : S → ℕ × Option ℕ → Type 0) → Lawful m → Lawful (passing m call pre outcome hints)
 lawful_passing {m} call pre outcome hints l = record { goes = goes_passing m l call outcome pre hints; ends = λ p. l.ends p.0 }
+
+-- ---- one answer
+
+module _ {S F X R B E : Type 0} {steps : S → Answered X E → S → Type 0} {call : F → X → R → F → Type 0} {outcome : X → R → Outcome B E} {s t : S} {f g : F} where
+  pub passes_item : (x : X) (v : R) (y : B) → steps s (item x) t → call f x v g → outcome x v ≡ kept y → PassTrace steps call outcome s f (item y ∷ []) t g
+  passes_item x v y step called is = from_passes (keeps x v y step called is done)
+
+  pub passes_refusal : (x : X) (v : R) (e : E) → steps s (item x) t → call f x v g → outcome x v ≡ failed e → PassTrace steps call outcome s f (Err e ∷ []) t g
+  passes_refusal x v e step called is = from_passes (refuses x v e step called is done)
+
+module _ {S F X R B E : Type 0} {steps : S → Answered X E → S → Type 0} {call : F → X → R → F → Type 0} {outcome : X → R → Outcome B E} {s t : S} {f : F} where
+  pub passes_end : steps s (Ok None) t → PassTrace steps call outcome s f (Ok None ∷ []) t f
+  passes_end step = from_passes (ends step done)
+
+  pub passes_failure : {e : E} → steps s (Err e) t → PassTrace steps call outcome s f (Err e ∷ []) t f
+  passes_failure {e} step = from_passes (fails e step done)
