@@ -1,11 +1,14 @@
 // Adapters that leave items out.
 ghost use Rattle.std.specs.Prelude.{◌≡◌, Some, Result, Option};
 ghost use Rattle.fallible_iterator.specs.Source.{seen_as};
-ghost use Rattle.fallible_iterator.specs.Filtering.{filter_source};
+ghost use Rattle.fallible_iterator.specs.Closures.{call_at, takes_at};
+ghost use Rattle.fallible_iterator.specs.Passing.{PassTurn, unpacked};
+ghost use Rattle.fallible_iterator.specs.Filtering.{filter_outcome, filter_source};
 ghost use Rattle.fallible_iterator.specs.Parts.{filter_parts};
 ghost use Rattle.fallible_iterator.specs.Laws.Source.{lawful_seen};
 ghost use Rattle.fallible_iterator.specs.Laws.Filtering.{lawful_filter};
 
+use crate::folds::Exit;
 use crate::traits::FallibleIterator;
 
 /// The items to which the predicate answers true. An item on which it fails is lost, and its failure is the answer.
@@ -14,4 +17,64 @@ pub struct Filter<I, F> {
     pub(crate) it: I,
     // empty only during a call
     pub(crate) f: Option<F>,
+}
+
+impl<I: FallibleIterator, F: FnMut(&I::Item) -> Result<bool, I::Error>> FallibleIterator for Filter<I, F>
+where
+    I::Item: Drop,
+{
+    type Item = I::Item;
+    type Error = I::Error;
+
+    ghost source = { seen_as filter_parts (filter_source I.source F.FnMut) };
+
+    /// Draws until an item is kept, a failure comes or an end comes, and calls the predicate on each item.
+    fn next(&mut self) -> Result<Option<I::Item>, I::Error> {
+        let f = match self.f.take() {
+            Some(f) => f,
+            None => unreachable!(),
+        };
+        let ask = |f: F, x: I::Item| -> Result<F, (F, Result<I::Item, I::Error>)>
+            requires { takes_at F.FnMut f x }
+            ensures { PassTurn (call_at F.FnMut) filter_outcome f x result }
+        {
+            let mut f = f;
+            match f(&x) {
+                Ok(keep) => {
+                    if keep {
+                        Err((f, Ok(x)))
+                    } else {
+                        Ok(f)
+                    }
+                }
+                Err(e) => Err((f, Err(e))),
+            }
+        };
+        let (f, answer) = unpack(self.it.try_fold_carrying(f, &ask));
+        self.f = Some(f);
+        answer
+    }
+
+    fn size_hint(&self) -> (usize, Option<usize>) {
+        (0, self.it.size_hint().1)
+    }
+
+    ghost lawful = { lawful_seen filter_parts (lawful_filter F.FnMut I.lawful) };
+}
+
+// The closure and the answer that a fold hands back which stopped at an answer.
+pub(crate) fn unpack<F, T, E>(exit: Exit<F, E, (F, Result<T, E>)>) -> (F, Result<Option<T>, E>)
+    ensures { result ≡ unpacked exit }
+{
+    match exit {
+        Exit::Ended(f) => (f, Ok(None)),
+        Exit::Failed(f, e) => (f, Err(e)),
+        Exit::Stopped(stop) => {
+            let (f, answer) = stop;
+            match answer {
+                Ok(x) => (f, Ok(Some(x))),
+                Err(e) => (f, Err(e)),
+            }
+        }
+    }
 }
