@@ -19,7 +19,7 @@ FilterTrace steps g s f trace t f' = PassTrace steps (call_at g) filter_outcome 
 
 -- (0, u) where u is an upper bound of the source's
 abbrev pub upper_alone : {S A E : Type 0} → Source S A E → S → ℕ × Option ℕ → Type 0
-upper_alone m s h = (l : ℕ) × m.hints s (l, h.1) × (h.0 ≡ 0)
+upper_alone m s h = (k : ℕ × Option ℕ) × m.hints s k × (h ≡ (0, k.1))
 
 -- Its condition: one of the source, and a number to come of it, since one draw may refuse many items.
 abbrev pub filter_source : {S F X E : Type 0} → Source S X E → Mut F (Bor X × Unit {0}) (Result Bool E) → Source (S × Option F) X E

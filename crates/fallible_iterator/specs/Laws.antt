@@ -1,4 +1,5 @@
 -- What follows from the definitions: lemmas that the laws of impls and the proofs cite.
+pub mod Answers
 pub mod Closures
 pub mod Folds
 pub mod Source

@@ -8,4 +8,5 @@ pub mod Folds
 pub mod Sources
 pub mod OneToOne
 pub mod Filtering
+pub mod Answers
 pub mod Laws

@@ -3,6 +3,7 @@
 
 pub mod filtering;
 pub mod folds;
+pub mod laws;
 pub mod one_to_one;
 pub mod sources;
 pub mod to_come;

@@ -1,11 +1,17 @@
 // The trait.
-ghost use Rattle.std.specs.Prelude.{◌≡◌, ℕ, ◌+◌, ◌-◌, ◌≤◌, ◌<◌, ◌^◌, List, Option, Result, ◌↔◌};
+ghost use Rattle.std.specs.Prelude.{◌≡◌, ℕ, ◌+◌, ◌-◌, ◌≤◌, ◌<◌, ◌^◌, List, Option, Result, Some, Ok, ◌↔◌};
 ghost use Rattle.fallible_iterator.specs.Source.{Source, Lawful, Stays};
+ghost use Rattle.fallible_iterator.specs.Closures.{IsCallable, call_on, takes_on, call_at, takes_at};
+ghost use Rattle.fallible_iterator.specs.Parts.{map_parts, filter_parts};
 ghost use Rattle.fallible_iterator.specs.Folds.{CallableCarrying, Carried, CallableInFold, FoldTurn, Folded, Counted};
+
+mod borrowed;
 
 use std::convert::Infallible;
 use std::marker::PhantomData;
+use crate::filtering::Filter;
 use crate::folds::Exit;
+use crate::one_to_one::Map;
 use crate::to_come::Number;
 
 pub trait FallibleIterator: Drop + Sized {
@@ -120,5 +126,33 @@ pub trait FallibleIterator: Drop + Sized {
         }
     }
 
+    // What the other functions know of a draw: see `Goes`.
     ghost lawful: { Lawful source };
+
+    /// Replaces each item by the closure's answer on it. Making the adapter draws nothing and calls nothing.
+    final fn map<F, B>(self, f: F) -> Map<Self, F>
+    where
+        F: FnMut(Self::Item) -> Result<B, Self::Error>,
+        requires { IsCallable (call_on F.FnMut) (takes_on F.FnMut) (source.gives self) f }
+        ensures { map_parts result ≡ (self, Some f) }
+    {
+        Map {
+            it: self,
+            f: Some(f),
+        }
+    }
+
+    /// Keeps the items to which the predicate answers true. Making the adapter draws nothing and calls nothing.
+    final fn filter<F>(self, f: F) -> Filter<Self, F>
+    where
+        F: FnMut(&Self::Item) -> Result<bool, Self::Error>,
+        requires finite { source.has_end self }
+        requires callable { IsCallable (call_at F.FnMut) (takes_at F.FnMut) (source.gives self) f }
+        ensures { filter_parts result ≡ (self, Some f) }
+    {
+        Filter {
+            it: self,
+            f: Some(f),
+        }
+    }
 }

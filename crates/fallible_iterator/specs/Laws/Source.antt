@@ -53,3 +53,17 @@ module _ {S P A E : Type 0} (m : Source P A E) (view : S → P) where
 
 pub lawful_seen : {S P A E : Type 0} {m : Source P A E} (view : S → P) → Lawful m → Lawful (seen_as view m)
 lawful_seen {m = m} view l = record { goes = λ s r t c step. goes_seen m view s t r (l.goes (view s) r (view t) c step); ends = λ s. l.ends (view s) }
+
+module _ {S A E : Type 0} {m : Source S A E} where
+  stays_then : {s t u : S} → Stays m s t → Stays m t u → Stays m s u
+  stays_then {s} {t} {u} p q = record {
+    can = q.can;
+    has_end = λ e. q.has_end (p.has_end e);
+    to_come = no_more_then m s t u p.to_come q.to_come;
+    gives = λ x h. p.gives x (q.gives x h);
+    fails = λ e h. p.fails e (q.fails e h)
+  }
+
+  -- one more draw
+  pub stays_step : {s t u : S} {r : Answered A E} → Lawful m → Stays m s t → m.steps t r u → Stays m s u
+  stays_step {s} {t} {u} {r} l p step = let g = l.goes t r u p.can step in stays_then p (stays_after g (stays_here g.can))

@@ -1,0 +1,16 @@
+-- Each draw adds its answer.
+use Rattle.std.proofs.Common.{ap, arith}
+use Rattle.std.specs.Vec.{vec_len}
+use Rattle.fallible_iterator.specs.Source.{Stays}
+use Rattle.fallible_iterator.specs.Answers.{IsAnswers}
+use Rattle.fallible_iterator.specs.Laws.Source.{stays_step}
+use Rattle.fallible_iterator.specs.Laws.Answers.{one_more_answer}
+use Rattle.fallible_iterator.proofs.laws.answers.Goals as goal
+
+pub loop-it-preserved : goal.loop-it-preserved
+loop-it-preserved g c = let i = c.loop-it.invariant in let d = c.draw-answer.ensures in let e = c.in-Ok.ensures in record {
+  room = omega (arith, i.room, e.capacity);
+  within = rw e.len (omega arith);
+  drawn = rw (e.len, e.items, d.2) (one_more_answer i.drawn d.1);
+  stays = stays_step g.met.I.FallibleIterator.lawful i.stays d.1
+}

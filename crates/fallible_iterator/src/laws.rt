@@ -1,0 +1,52 @@
+// Traces that a test or a caller can look at.
+ghost use Rattle.std.specs.Prelude.{◌≡◌, ℕ, ◌≤◌, IfOk, IfErr, Result, Option};
+ghost use Rattle.fallible_iterator.specs.Source.{Source, Stays};
+ghost use Rattle.fallible_iterator.specs.Answers.{answer_of, IsAnswers};
+
+use crate::traits::FallibleIterator;
+use std::alloc::{AllocError, Global};
+
+/// What one draw answered.
+#[derive(Debug, PartialEq, Eq, Drop)]
+pub enum Answer<T, E> {
+    Item(T),
+    Failure(E),
+    End,
+}
+
+/// Makes `n` calls of `next` and gives their answers in order. It takes all its room first: where that is refused, nothing was drawn.
+pub fn answers<I: FallibleIterator>(
+    alloc: Global,
+    it: &mut I,
+    n: usize,
+) -> Result<Vec<Answer<I::Item, I::Error>>, AllocError>
+where
+    I::Item: Drop,
+    I::Error: Drop,
+    requires { I.source.can it.old }
+    ensures drawn { IfOk result (λ v. IsAnswers I.source.steps it.old n v.items it.new) }
+    ensures refused { IfErr result (λ _. it.new ≡ it.old) }
+    ensures stays { Stays I.source it.old it.new }
+{
+    let mut made = Vec::with_capacity(alloc, n)?;
+    while made.len() < n {
+        let answer = draw(it);
+        match made.push(answer) {
+            Ok(()) => {}
+            Err(_) => unreachable!(),
+        }
+    }
+    Ok(made)
+}
+
+fn draw<I: FallibleIterator>(it: &mut I) -> Answer<I::Item, I::Error>
+where
+    requires { I.source.can it.old }
+    ensures { (r : Result (Option I.Item) I.Error) × I.source.steps it.old r it.new × (result ≡ answer_of r) }
+{
+    match it.next() {
+        Ok(Some(x)) => Answer::Item(x),
+        Ok(None) => Answer::End,
+        Err(e) => Answer::Failure(e),
+    }
+}

@@ -1,0 +1,40 @@
+// A fallible iterator behind a `&mut` or in a `Box` answers as it does itself.
+ghost use Rattle.std.specs.Prelude.{◌≡◌, Result, Option};
+ghost use Rattle.fallible_iterator.specs.Source.{seen_as};
+ghost use Rattle.fallible_iterator.specs.Laws.Source.{lawful_seen};
+
+use crate::traits::FallibleIterator;
+
+impl<I: FallibleIterator> FallibleIterator for &mut I {
+    type Item = I::Item;
+    type Error = I::Error;
+
+    ghost source = { seen_as (λ s. s.now) I.source };
+
+    fn next(&mut self) -> Result<Option<I::Item>, I::Error> {
+        (**self).next()
+    }
+
+    fn size_hint(&self) -> (usize, Option<usize>) {
+        (**self).size_hint()
+    }
+
+    ghost lawful = { lawful_seen (λ s. s.now) I.lawful };
+}
+
+impl<I: FallibleIterator> FallibleIterator for Box<I> {
+    type Item = I::Item;
+    type Error = I::Error;
+
+    ghost source = { seen_as (λ s. s.value) I.source };
+
+    fn next(&mut self) -> Result<Option<I::Item>, I::Error> {
+        (**self).next()
+    }
+
+    fn size_hint(&self) -> (usize, Option<usize>) {
+        (**self).size_hint()
+    }
+
+    ghost lawful = { lawful_seen (λ s. s.value) I.lawful };
+}
