@@ -1,0 +1,17 @@
+// A source over a list of answers, which the tests draw from.
+ghost use Rattle.std.specs.Prelude.{◌≡◌, ℕ, ◌≤◌, ◌^◌, ◌-◌, IfOk};
+
+use fallible_iterator::{Convert, FallibleIterator, convert};
+use std::alloc::{AllocError, Global};
+use std::vec::IntoIter;
+
+// `convert` of the answers, `Ok` for an item and `Err` for a failure.
+pub fn listed<T: Drop, E: Drop, const N: usize>(
+    alloc: Global,
+    answers: [Result<T, E>; N],
+) -> Result<Convert<IntoIter<Result<T, E>>>, AllocError>
+    ensures can { IfOk result ⟦<Convert<IntoIter<Result<T, E>>> as FallibleIterator>⟧.source.can }
+    ensures finite { IfOk result (λ s. ⟦<Convert<IntoIter<Result<T, E>>> as FallibleIterator>⟧.source.to_come s (2 ^ 64 - 1)) }
+{
+    Ok(convert(Vec::from_array(alloc, answers)?.into_iter()))
+}
