@@ -1,5 +1,6 @@
 -- What follows from the definitions: lemmas that the laws of impls and the proofs cite.
 pub mod Answers
+pub mod Borrowed
 pub mod Closures
 pub mod Folds
 pub mod Source

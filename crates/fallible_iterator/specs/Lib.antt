@@ -9,4 +9,5 @@ pub mod Sources
 pub mod OneToOne
 pub mod Filtering
 pub mod Answers
+pub mod Borrowed
 pub mod Laws

@@ -11,6 +11,6 @@ pub mod traits;
 
 pub use filtering::Filter;
 pub use one_to_one::Map;
-pub use sources::making::{convert, once, once_err};
-pub use sources::{Convert, Once, OnceErr};
+pub use sources::making::{convert, empty, from_fn, once, once_err, repeat, repeat_err};
+pub use sources::{Convert, Empty, FromFn, IntoFallible, Once, OnceErr, Repeat, RepeatErr};
 pub use traits::FallibleIterator;

@@ -10,7 +10,7 @@ mod borrowed;
 use std::convert::Infallible;
 use std::marker::PhantomData;
 use crate::filtering::Filter;
-use crate::folds::Exit;
+use crate::folds::{Exit, Turn};
 use crate::one_to_one::Map;
 use crate::to_come::Number;
 
@@ -38,7 +38,7 @@ pub trait FallibleIterator: Drop + Sized {
         }
     }
 
-    fn try_fold_carrying<C, R, K: Fn(C, Self::Item) -> Result<C, R>>(
+    fn try_fold_carrying<C, R, K: Turn<C, Self::Item, R>>(
         &mut self,
         init: C,
         k: &K,
@@ -46,8 +46,8 @@ pub trait FallibleIterator: Drop + Sized {
     where
         requires can { source.can self.old }
         requires finite { source.has_end self.old }
-        requires callable { CallableCarrying source.steps K.Fn k.now self.old init }
-        ensures carried { Carried source.steps K.Fn k.now self.old init result self.new }
+        requires callable { CallableCarrying source.steps (K.turns k.now) (K.can_turn k.now) self.old init }
+        ensures carried { Carried source.steps (K.turns k.now) self.old init result self.new }
         ensures stays { Stays source self.old self.new }
     {
         let mut carried = init;
@@ -56,7 +56,7 @@ pub trait FallibleIterator: Drop + Sized {
             match self.next() {
                 Ok(None) => return Exit::Ended(carried),
                 Err(e) => return Exit::Failed(carried, e),
-                Ok(Some(x)) => match k(carried, x) {
+                Ok(Some(x)) => match k.turn(carried, x) {
                     Ok(c) => carried = c,
                     Err(stop) => return Exit::Stopped(stop),
                 },
@@ -65,7 +65,31 @@ pub trait FallibleIterator: Drop + Sized {
         }
     }
 
-    fn try_fold<B, E, F>(&mut self, init: B, f: F) -> Result<B, E>
+    fn count(mut self) -> Result<usize, Self::Error>
+    where
+        Self::Item: Drop,
+        requires can { source.can self }
+        requires fits { source.to_come self (2 ^ 64 - 1) }
+        ensures { Counted source.steps self result }
+    {
+        let one_more = |n: usize, x: Self::Item| -> Result<usize, Infallible>
+            requires { n < 2 ^ 64 - 1 }
+            ensures { result ≡ Ok (n + 1) }
+        {
+            let _ = x;
+            Ok(n + 1)
+        };
+        match self.try_fold_carrying(0, &one_more) {
+            Exit::Ended(n) => Ok(n),
+            Exit::Failed(_, e) => Err(e),
+            Exit::Stopped(never) => match never {},
+        }
+    }
+
+    // What the other functions know of a draw: see `Goes`.
+    ghost lawful: { Lawful source };
+
+    final fn try_fold<B, E, F>(&mut self, init: B, f: F) -> Result<B, E>
     where
         B: Drop,
         E: From<Self::Error>,
@@ -93,7 +117,7 @@ pub trait FallibleIterator: Drop + Sized {
         }
     }
 
-    fn fold<B, F>(mut self, init: B, f: F) -> Result<B, Self::Error>
+    final fn fold<B, F>(mut self, init: B, f: F) -> Result<B, Self::Error>
     where
         B: Drop,
         F: FnMut(B, Self::Item) -> Result<B, Self::Error>,
@@ -104,30 +128,6 @@ pub trait FallibleIterator: Drop + Sized {
     {
         self.try_fold(init, f)
     }
-
-    fn count(mut self) -> Result<usize, Self::Error>
-    where
-        Self::Item: Drop,
-        requires can { source.can self }
-        requires fits { source.to_come self (2 ^ 64 - 1) }
-        ensures { Counted source.steps self result }
-    {
-        let one_more = |n: usize, x: Self::Item| -> Result<usize, Infallible>
-            requires { n < 2 ^ 64 - 1 }
-            ensures { result ≡ Ok (n + 1) }
-        {
-            let _ = x;
-            Ok(n + 1)
-        };
-        match self.try_fold_carrying(0, &one_more) {
-            Exit::Ended(n) => Ok(n),
-            Exit::Failed(_, e) => Err(e),
-            Exit::Stopped(never) => match never {},
-        }
-    }
-
-    // What the other functions know of a draw: see `Goes`.
-    ghost lawful: { Lawful source };
 
     /// Replaces each item by the closure's answer on it. Making the adapter draws nothing and calls nothing.
     final fn map<F, B>(self, f: F) -> Map<Self, F>

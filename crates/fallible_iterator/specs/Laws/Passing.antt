@@ -2,7 +2,6 @@
 use Rattle.std.specs.Prelude.{◌≡◌, ℕ, ◌≤◌, ◌<◌, List, [], ◌∷◌, ◌++◌, map, Option, Result, Some, None, Ok, Err, IsSome, is_some, Bool, true, false, ◌⊎◌}
 use Rattle.std.specs.List.{FoldsTo, filter_map, cons_option}
 use Rattle.std.proofs.Common.{refl, sym, ap, subst, arith, inl, inr}
-use Rattle.std.specs.Fn.{Shared}
 use Rattle.fallible_iterator.specs.declared.folds.Exit.{Exit}
 use Rattle.fallible_iterator.specs.declared.folds.Exit.TheVariants.{Ended, Failed, Stopped}
 use Rattle.fallible_iterator.specs.Traces.{Answered, Run, Yields, item}
@@ -161,19 +160,19 @@ module _ {S F X R B E : Type 0} (steps : S → Answered X E → S → Type 0) (c
   after_left_out last r t h g final [] s f ran went = subst (λ (k : F). Passes steps call outcome s k (r ∷ []) t g) (sym went) (final s (subst (λ (u : S). steps s last u) ran.2 ran.1))
   after_left_out last r t h g final (x ∷ items) s f ran went = leaves_out x went.1.0 ran.1 went.1.1 went.1.2 (after_left_out last r t h g final items ran.0 went.0 ran.2 went.2)
 
-  module _ {K : Type 0} (k : Shared K (F × (X × Unit {0})) (Result F (F × Result B E))) (c : K) (turn : (f : F) (x : X) (r : Result F (F × Result B E)) → k.post c (f, (x, tt)) r → PassTurn call outcome f x r) where
+  module _ (turns : F → X → Result F (F × Result B E) → Type 0) (turn : (f : F) (x : X) (r : Result F (F × Result B E)) → turns f x r → PassTurn call outcome f x r) where
     stop_turn : (x : X) (p : F × Result B E) (u t : S) (h : F) → steps u (item x) t → PassTurn call outcome h x (Err p) → Passes steps call outcome u h (stopped_answer p.1 ∷ []) t p.0
     stop_turn x (g, Ok y) u t h step w = keeps x w.0 y step w.1 w.2 done
     stop_turn x (g, Err e) u t h step w = refuses x w.0 e step w.1 w.2 done
 
-    final_turn : (last : Answered X E) (exit : Exit F E (F × Result B E)) (u t : S) (h : F) → CarryingExit k c h last exit → steps u last t → Passes steps call outcome u h ((unpacked exit).1 ∷ []) t (unpacked exit).0
+    final_turn : (last : Answered X E) (exit : Exit F E (F × Result B E)) (u t : S) (h : F) → CarryingExit turns h last exit → steps u last t → Passes steps call outcome u h ((unpacked exit).1 ∷ []) t (unpacked exit).0
     final_turn (Ok None) exit u t h e step = subst (λ (x : Exit F E (F × Result B E)). Passes steps call outcome u h ((unpacked x).1 ∷ []) t (unpacked x).0) (sym e) (ends step done)
     final_turn (Err d) exit u t h e step = subst (λ (x : Exit F E (F × Result B E)). Passes steps call outcome u h ((unpacked x).1 ∷ []) t (unpacked x).0) (sym e) (fails d step done)
     final_turn (Ok (Some x)) exit u t h e step = subst (λ (z : Exit F E (F × Result B E)). Passes steps call outcome u h ((unpacked z).1 ∷ []) t (unpacked z).0) (sym e.2) (stop_turn x e.0 u t h step (turn h x (Err e.0) e.1))
 
-pub passes_fold : {S F X R B E K : Type 0} {steps : S → Answered X E → S → Type 0} {call : F → X → R → F → Type 0} {outcome : X → R → Outcome B E} {k : Shared K (F × (X × Unit {0})) (Result F (F × Result B E))} {c : K} {s t : S} {f : F} {exit : Exit F E (F × Result B E)}
-    → ((f : F) (x : X) (r : Result F (F × Result B E)) → k.post c (f, (x, tt)) r → PassTurn call outcome f x r) → Carried steps k c s f exit t → PassTrace steps call outcome s f ((unpacked exit).1 ∷ []) t (unpacked exit).0
-passes_fold {steps = steps} {call = call} {outcome = outcome} {k = k} {c = c} {s = s} {t = t} {f = f} {exit = exit} turn w = from_passes (after_left_out steps call outcome w.last (unpacked exit).1 t w.carried (unpacked exit).0 (λ u step. final_turn steps call outcome k c turn w.last exit u t w.carried w.exit step) w.items s f w.ran (turns_map (λ g x h p. turn g x (Ok h) p) w.items f w.carried w.went))
+pub passes_fold : {S F X R B E : Type 0} {steps : S → Answered X E → S → Type 0} {call : F → X → R → F → Type 0} {outcome : X → R → Outcome B E} {turns : F → X → Result F (F × Result B E) → Type 0} {s t : S} {f : F} {exit : Exit F E (F × Result B E)}
+    → ((f : F) (x : X) (r : Result F (F × Result B E)) → turns f x r → PassTurn call outcome f x r) → Carried steps turns s f exit t → PassTrace steps call outcome s f ((unpacked exit).1 ∷ []) t (unpacked exit).0
+passes_fold {steps = steps} {call = call} {outcome = outcome} {turns = turns} {s = s} {t = t} {f = f} {exit = exit} turn w = from_passes (after_left_out steps call outcome w.last (unpacked exit).1 t w.carried (unpacked exit).0 (λ u step. final_turn steps call outcome turns turn w.last exit u t w.carried w.exit step) w.items s f w.ran (turns_map (λ g x h p. turn g x (Ok h) p) w.items f w.carried w.went))
 
 module _ {S F X R B E : Type 0} (m : Source S X E) (l : Lawful m) (call : F → X → R → F → Type 0) (outcome : X → R → Outcome B E) where
   turns_reach : (items : List X) (s t : S) (f g : F) → m.can s → Yields m.steps s items t → FoldsTo (leaving m.steps call outcome) f items g → Reaches call (m.gives s) f g
