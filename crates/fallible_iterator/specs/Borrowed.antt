@@ -1,7 +1,6 @@
 -- A fallible iterator behind a `&mut`, and one in a `Box`.
 use Rattle.std.specs.Prelude.{◌≡◌}
 use Rattle.std.specs.Borrow.{MutBor}
-use Rattle.std.specs.declared.boxed.Box.{Box}
 use Rattle.fallible_iterator.specs.Source.{Source, seen_as}
 
 -- It steps as the one behind it, and stays the same reference.

@@ -1,9 +1,12 @@
 -- What follows from the definitions: lemmas that the laws of impls and the proofs cite.
 pub mod Answers
 pub mod Borrowed
+pub mod Collecting
 pub mod Closures
 pub mod Folds
 pub mod Source
 pub mod Passing
 pub mod Filtering
 pub mod Sources
+pub mod SourceTraces
+pub mod Views

@@ -9,5 +9,6 @@ pub mod Sources
 pub mod OneToOne
 pub mod Filtering
 pub mod Answers
+pub mod Collecting
 pub mod Borrowed
 pub mod Laws

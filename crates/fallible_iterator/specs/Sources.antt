@@ -75,14 +75,9 @@ abbrev pub held_answer : {A B E : Type 0} → (B → Answered A E) → Option B 
 held_answer f (Some x) = f x ∷ []
 held_answer f None = []
 
--- what is held after the first answer of a trace was given
-abbrev pub held_after : {A E B : Type 0} → List (Answered A E) → Option B → Option B
-held_after [] v = v
-held_after (r ∷ rest) v = None
-
--- A trace of `Once` or `OnceErr` that holds v is a front of the held item or failure, if there is one, and then ends without end.
+-- A trace of `Once` or `OnceErr` that holds v: no draw was made, or the held item or failure came, if there was one, and then ends, and nothing is held any more.
 abbrev pub OnceTrace : {A B E : Type 0} → (B → Answered A E) → Option B → List (Answered A E) → Option B → Type 0
-OnceTrace f v trace w = ((n : ℕ) × (trace ≡ take n (held_answer f v ++ replicate n end))) × (w ≡ held_after trace v)
+OnceTrace f v trace w = ((trace ≡ []) × (w ≡ v)) ⊎ ((n : ℕ) × (trace ≡ held_answer f v ++ replicate n end) × (w ≡ None))
 
 -- one answer: the held one, or an end, and nothing is held then
 abbrev pub once_step : {A B E : Type 0} → (B → Answered A E) → Option B → Answered A E → Option B → Type 0
@@ -174,8 +169,8 @@ module _ {A E : Type 0} (is_clone : A → A → Type 0) (is_infallible : A → T
   RepeatAnswer v (Err e) = ¬ (is_infallible v) × ((a : AllocError) × from a e)
 
   -- `Repeat`: always a clone, or, where the clone is refused, the failure made of the refusal.
-  abbrev pub RepeatTrace : A → List (Answered A E) → Type 0
-  RepeatTrace v trace = All (RepeatAnswer v) trace
+  abbrev pub RepeatTrace : A → List (Answered A E) → A → Type 0
+  RepeatTrace v trace w = All (RepeatAnswer v) trace × (w ≡ v)
 
   abbrev pub repeat_source : Source A A E
   repeat_source = record {
@@ -196,8 +191,8 @@ module _ {A E : Type 0} (is_clone : E → E → Type 0) (is_infallible : E → T
   RepeatErrAnswer v (Err e) = is_clone v e ⊎ (¬ (is_infallible v) × ((a : AllocError) × from a e))
 
   -- `RepeatErr`: always a failure with a clone, or, where the clone is refused, the failure made of the refusal.
-  abbrev pub RepeatErrTrace : E → List (Answered A E) → Type 0
-  RepeatErrTrace v trace = All (RepeatErrAnswer v) trace
+  abbrev pub RepeatErrTrace : E → List (Answered A E) → E → Type 0
+  RepeatErrTrace v trace w = All (RepeatErrAnswer v) trace × (w ≡ v)
 
   abbrev pub repeat_err_source : Source E A E
   repeat_err_source = record {
