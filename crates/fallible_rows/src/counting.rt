@@ -10,7 +10,10 @@ use crate::rows::{row_number, without_last_newline};
 // How many rows are looked at.
 const MAX_ROWS: u32 = 1_000_000;
 
-// How many of the first `MAX_ROWS` rows are above 100. `Row` of the place, from 1, of the first of
+// A row counts where it is above this.
+const LIMIT: u64 = 100;
+
+// How many of the first `MAX_ROWS` rows are above `LIMIT`. `Row` of the place, from 1, of the first of
 // them that is not a number.
 pub(crate) fn count_above(bytes: &[u8]) -> Result<usize, RowFault>
     ensures { MatchResult result (λ count. tally bytes.now ≡ Ok count)
@@ -26,7 +29,7 @@ pub(crate) fn count_above(bytes: &[u8]) -> Result<usize, RowFault>
         let Some(number) = row_number(row) else {
             return Err(RowFault::Row(index + 1));
         };
-        if number > 100 {
+        if number > LIMIT {
             count += 1;
         }
         let Some(more) = more else {

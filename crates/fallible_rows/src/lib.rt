@@ -11,7 +11,7 @@ mod tests;
 
 ghost use Rattle.std.specs.Prelude.{◌≡◌, ◌≢◌, ℕ, List, Ok, Err, OnOk, OnErr};
 ghost use Rattle.std.specs.Io.KnownBytes.{Keeps};
-ghost use Rattle.fallible_rows.specs.Run.{WritesReport, IsRefusedAt, HasReport};
+ghost use Rattle.fallible_rows.specs.Run.{WritesReport, IsRefusedAt, HasReport, TakesFromFront};
 
 pub use fault::{RowFault, fault_line};
 use std::alloc::Global;
@@ -25,7 +25,7 @@ use std::io::{Read, Write};
 /// 20 digits within `u64`; with `Read` where a read fails, for whatever reason, or `u64::MAX` reads
 /// do not reach the end; with `Memory` where the bytes find no room; with `Write` where the writer
 /// fails. Only at `Write` may something have been written that is not the report. After `Ok`, `Row`
-/// and `Write` the reader is at its end; after `Read` and `Memory` it may stand anywhere.
+/// and `Write` the reader is at its end; after `Read` and `Memory` it has lost what was read so far.
 pub fn run<R: Read, W: Write>(alloc: Global, reader: &mut R, writer: &mut W) -> Result<(), RowFault>
     // Each says which bytes were read, and what their report is.
     ensures ok { OnOk result (WritesReport (R.remaining reader.old) (R.remaining reader.new)
@@ -37,6 +37,7 @@ pub fn run<R: Read, W: Write>(alloc: Global, reader: &mut R, writer: &mut W) -> 
 
     ensures unwritten { result ≢ Err RowFault.Write
         → OnErr result (Keeps (W.contents writer.old) (W.contents writer.new)) }
+    ensures taken { TakesFromFront (R.remaining reader.old) (R.remaining reader.new) }
 {
     let bytes = reading::read_all(alloc, reader)?;
     let count = counting::count_above(bytes.as_slice())?;

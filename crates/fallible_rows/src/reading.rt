@@ -1,6 +1,6 @@
 //! Reading all bytes of a reader.
 ghost use Rattle.std.specs.Prelude.{◌≡◌, ◌⊎◌, IfOk, IfErr};
-ghost use Rattle.fallible_rows.specs.Run.{ReadsAll};
+ghost use Rattle.fallible_rows.specs.Run.{ReadsAll, TakesFromFront};
 
 use crate::fault::RowFault;
 use std::alloc::Global;
@@ -14,6 +14,7 @@ const CHUNK: usize = 4096;
 pub(crate) fn read_all<R: Read>(alloc: Global, reader: &mut R) -> Result<Vec<u8>, RowFault>
     ensures ok { IfOk result
         (λ bytes. ReadsAll (R.remaining reader.old) (R.remaining reader.new) bytes.items) }
+    ensures taken { TakesFromFront (R.remaining reader.old) (R.remaining reader.new) }
     ensures err { IfErr result (λ fault. (fault ≡ RowFault.Read) ⊎ (fault ≡ RowFault.Memory)) }
 {
     let mut bytes = Vec::new(alloc);

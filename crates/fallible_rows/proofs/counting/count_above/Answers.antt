@@ -4,7 +4,7 @@ use Rattle.std.proofs.lemmas.Option.{MatchOption-at_none, MatchOption-at_some}
 use Rattle.fallible_rows.specs.Rows.{rows, is_newline}
 use Rattle.fallible_rows.proofs.ReportLemmas.{IsNextRow-from_cut, Passes-more, count_more-above, count_more-not, tally-refused, tally-end, tally-limit}
 use Rattle.fallible_rows.proofs.counting.count_above.Goals as goal
-use Rattle.fallible_rows.proofs.counting.count_above.Goals.{then-number-gt100, else-number-gt100}
+use Rattle.fallible_rows.proofs.counting.count_above.Goals.{then-number-gt-LIMIT, else-number-gt-LIMIT}
 
 pub returns-in_default : goal.returns-in_default
 returns-in_default c =
@@ -19,14 +19,14 @@ returns-in_default-more c =
     let index = c.loop-index.index in
     let number = c.in-Some.number in
     let next = IsNextRow-from_cut _ all index c.split_row.result.0.now c.split_row.result.1 c.loop-index.invariant.0 c.split_row.ensures in
-    let more : c.if-number-gt100.count ≡ c.loop-index.count + cond (nat_lt 100 number) 1 0 =
-    elim c.if-number-gt100.branch [
-      | then-number-gt100 w ↦ w.count-is ∙ count_more-above c.loop-index.count number w.if-number-gt100.true
-      | else-number-gt100 w ↦ w.count-is ∙ count_more-not c.loop-index.count number w.if-number-gt100.false
+    let more : c.if-number-gt-LIMIT.count ≡ c.loop-index.count + cond (nat_lt 100 number) 1 0 =
+    elim c.if-number-gt-LIMIT.branch [
+      | then-number-gt-LIMIT w ↦ w.count-is ∙ count_more-above c.loop-index.count number w.if-number-gt-LIMIT.true
+      | else-number-gt-LIMIT w ↦ w.count-is ∙ count_more-not c.loop-index.count number w.if-number-gt-LIMIT.false
     ] in
-    let passes = Passes-more all index c.loop-index.count c.split_row.result.0.now number c.if-number-gt100.count c.loop-index.invariant.1 next.within next.here c.in-Some.ensures more in
+    let passes = Passes-more all index c.loop-index.count c.split_row.result.0.now number c.if-number-gt-LIMIT.count c.loop-index.invariant.1 next.within next.here c.in-Some.ensures more in
     let end = MatchOption-at_none (length all ≤ index + 1) (λ rest. slice_split is_newline rest.now ≡ drop (index + 1) all) c.in_default-more.is next.after in
-    tally-end c.args.bytes.now (index + 1) c.if-number-gt100.count passes (omega arith) end
+    tally-end c.args.bytes.now (index + 1) c.if-number-gt-LIMIT.count passes (omega arith) end
 
 pub loop-index-preserved : goal.loop-index-preserved
 loop-index-preserved c =
@@ -34,12 +34,12 @@ loop-index-preserved c =
     let index = c.loop-index.index in
     let number = c.in-Some.number in
     let next = IsNextRow-from_cut _ all index c.split_row.result.0.now c.split_row.result.1 c.loop-index.invariant.0 c.split_row.ensures in
-    let more : c.if-number-gt100.count ≡ c.loop-index.count + cond (nat_lt 100 number) 1 0 =
-    elim c.if-number-gt100.branch [
-      | then-number-gt100 w ↦ w.count-is ∙ count_more-above c.loop-index.count number w.if-number-gt100.true
-      | else-number-gt100 w ↦ w.count-is ∙ count_more-not c.loop-index.count number w.if-number-gt100.false
+    let more : c.if-number-gt-LIMIT.count ≡ c.loop-index.count + cond (nat_lt 100 number) 1 0 =
+    elim c.if-number-gt-LIMIT.branch [
+      | then-number-gt-LIMIT w ↦ w.count-is ∙ count_more-above c.loop-index.count number w.if-number-gt-LIMIT.true
+      | else-number-gt-LIMIT w ↦ w.count-is ∙ count_more-not c.loop-index.count number w.if-number-gt-LIMIT.false
     ] in
-    let passes = Passes-more all index c.loop-index.count c.split_row.result.0.now number c.if-number-gt100.count c.loop-index.invariant.1 next.within next.here c.in-Some.ensures more in
+    let passes = Passes-more all index c.loop-index.count c.split_row.result.0.now number c.if-number-gt-LIMIT.count c.loop-index.invariant.1 next.within next.here c.in-Some.ensures more in
     let after = MatchOption-at_some (length all ≤ index + 1) (λ rest. slice_split is_newline rest.now ≡ drop (index + 1) all) _ c.in-Some-more.is next.after in
     (after, passes)
 
