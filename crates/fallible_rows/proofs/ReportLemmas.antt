@@ -1,8 +1,8 @@
 -- Lemmas on what is reported of rows.
-use Rattle.std.proofs.Common.{◌≡◌, ◌≢◌, ℕ, ◌+◌, ◌-◌, ◌<◌, ◌≤◌, Bool, true, false, cond, nat_lt, List, [], ◌∷◌, length, take, drop, get_or, get_or-take, refl, sym, ap, ◌∙◌, arith, lit≤, length-take, length-drop, below_more, Option, Some, None, MatchOption, Bor, is_none, unwrap_or, Ok, Err, count_by, position, ◌==◌}
+use Rattle.std.proofs.Common.{◌≡◌, ℕ, ◌+◌, ◌-◌, ◌<◌, ◌≤◌, Bool, true, false, cond, nat_lt, List, [], ◌∷◌, length, take, drop, get_or, get_or-take, refl, sym, ap, ◌∙◌, arith, length-take, length-drop, below_more, Option, Some, None, MatchOption, Bor, is_none, unwrap_or, Ok, Err, count_by, position}
 use Rattle.std.specs.List.{slice_split}
-use Rattle.std.proofs.lemmas.Bool.{eqb-true, eqb-false, lt-ltb, le-ltb, cond-true, cond-false}
-use Rattle.std.proofs.lemmas.List.{drop_more, take_all, nil_from_length}
+use Rattle.std.proofs.lemmas.Bool.{lt-ltb, le-ltb, cond-true, cond-false}
+use Rattle.std.proofs.lemmas.List.{drop_more, take_all}
 use Rattle.std.proofs.lemmas.List.Sums.{position_or_len_is, sum_by_more}
 use Rattle.fallible_rows.specs.Rows.{rows, is_newline, row_number}
 use Rattle.fallible_rows.specs.Report.{row_limit, first_rows, is_refused, is_above, unless_refused, tally}
@@ -60,9 +60,6 @@ pub record Passes (xs : List (List ℕ)) (n count : ℕ) : Type 0 where
   pub counted : count ≡ count_by is_above (take n xs)
   pub passed : (k : ℕ) → k < n → is_refused (get_or xs k []) ≡ false
 
-pub Passes-none : (xs : List (List ℕ)) → Passes xs 0 0
-Passes-none xs = record { counted = refl; passed = λ k h. absurd (omega arith) }
-
 pub Passes-more : (xs : List (List ℕ)) (n count : ℕ) (row : List ℕ) (number count' : ℕ) → Passes xs n count → n < length xs → get_or xs n [] ≡ row
     → Some number ≡ row_number row → count' ≡ count + cond (nat_lt 100 number) 1 0 → Passes xs (n + 1) count'
 Passes-more xs n count row number count' before within here is more =
@@ -113,13 +110,3 @@ pub tally-limit : (bytes : List ℕ) (n count : ℕ) → Passes (rows bytes) n c
 tally-limit bytes n count before few all =
     let same : n ≡ row_limit = omega (arith, row_limit-is) in
     tally-passed bytes n count before (ap (λ m. take m (rows bytes)) same) (omega (arith, length-take row_limit (rows bytes)))
-
-pub tally-nothing : (bytes : List ℕ) → true ≡ (length bytes == 0) → tally bytes ≡ Ok 0
-tally-nothing bytes is =
-    let nil : bytes ≡ [] = nil_from_length bytes (eqb-true _ _ (sym is)) in
-    tally-end bytes 0 0 (Passes-none (rows bytes)) (lit≤ tt) (rw nil (lit≤ tt))
-
--- bytes that are not empty
-pub rows-from_pieces : (bytes rest : List ℕ) → false ≡ (length bytes == 0) → (bytes ≢ [] → slice_split is_newline rest ≡ rows bytes)
-    → slice_split is_newline rest ≡ rows bytes
-rows-from_pieces bytes rest some same = same (λ e. eqb-false (length bytes) 0 (sym some) (ap length e))

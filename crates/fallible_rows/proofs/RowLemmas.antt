@@ -1,5 +1,5 @@
 -- Lemmas on rows and on the numbers that they write.
-use Rattle.std.proofs.Common.{◌≡◌, ℕ, ◌+◌, ◌-◌, ◌*◌, ◌^◌, ◌<◌, ◌≤◌, ◌⊎◌, Bool, true, false, cond, List, [], ◌∷◌, ◌++◌, length, take, drop, get_or, nat_lt, position, eqb, lit≤, refl, sym, ap, ◌∙◌, inl, inr, arith, Some, None}
+use Rattle.std.proofs.Common.{◌≡◌, ℕ, ◌+◌, ◌-◌, ◌*◌, ◌^◌, ◌<◌, ◌≤◌, Bool, true, false, cond, List, [], ◌∷◌, ◌++◌, length, take, drop, get_or, nat_lt, position, eqb, lit≤, refl, sym, ap, ◌∙◌, arith, Some, None}
 use Rattle.std.specs.List.{slice_split, onto_first, position_or_len}
 use Rattle.std.specs.Str.{all_ascii_digits}
 use Rattle.std.specs.Str.Parse.{AllDigits, digits_value}
@@ -47,11 +47,7 @@ pub row_number-no_number : (row : List ℕ) → (IsNumber row → ⊥) → row_n
 row_number-no_number row not_so =
     cond-false _ _ _ (false_from_ne_true _ (λ h. not_so (IsNumber-from_test row h)))
 
--- why a row is no number: its length, a byte that is no digit, or its value
-pub row_number-by_length : (row : List ℕ) → (length row ≡ 0) ⊎ (20 < length row) → row_number row ≡ None
-row_number-by_length row (inl h) = row_number-no_number row (λ n. let some = n.some in omega arith)
-row_number-by_length row (inr h) = row_number-no_number row (λ n. let few = n.few in omega arith)
-
+-- why a row is no number: a byte that is no digit, or its value
 pub row_number-by_digit : (row : List ℕ) (i : ℕ) → i < length row → (IsInRange 48 57 (get_or row i 0) → ⊥) → row_number row ≡ None
 row_number-by_digit row i l none = row_number-no_number row (λ n. none (digit_at row i n.digits l))
 
