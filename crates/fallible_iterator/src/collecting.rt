@@ -31,7 +31,9 @@ pub enum Fault<E> {
 }
 
 impl<E> From<E> for Fault<E> {
-    ghost from_gives = { λ e fault. fault ≡ Fault.Source e };
+    ghost use Rattle.fallible_iterator.specs.declared.collecting.Fault.TheVariants.{Source};
+
+    ghost from_gives = { λ e fault. fault ≡ Source e };
 
     fn from(error: E) -> Fault<E> {
         Fault::Source(error)

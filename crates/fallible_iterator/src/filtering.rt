@@ -12,7 +12,7 @@ use crate::folds::Exit;
 use crate::traits::FallibleIterator;
 
 /// The items to which the predicate answers true. An item on which it fails is lost, and its failure is the answer.
-#[derive(Drop)]
+#[derive(Clone, Debug, Drop)]
 pub struct Filter<I, F> {
     pub(crate) it: I,
     // empty only during a call

@@ -8,13 +8,22 @@ ghost use Rattle.fallible_iterator.specs.Laws.Source.{lawful_seen};
 ghost use Rattle.fallible_iterator.specs.Laws.Passing.{lawful_passing};
 
 use crate::traits::FallibleIterator;
+use std::fmt;
 
 /// Each item replaced by the closure's answer on it; where the closure fails, its failure is the answer and the item is lost.
-#[derive(Drop)]
+#[derive(Clone, Drop)]
 pub struct Map<T, F> {
     pub(crate) it: T,
     // empty only during a call
     pub(crate) f: Option<F>,
+}
+
+// It asks nothing of the closure.
+impl<T: fmt::Debug, F> fmt::Debug for Map<T, F> {
+    fn fmt<W: fmt::Write>(&self, f: &mut fmt::Formatter<W>) -> fmt::Result {
+        let it = &self.it;
+        write!(f, "Map {{ it: {it:?} }}")
+    }
 }
 
 impl<I: FallibleIterator, B, F: FnMut(I::Item) -> Result<B, I::Error>> FallibleIterator for Map<I, F> {

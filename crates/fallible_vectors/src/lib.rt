@@ -2,6 +2,14 @@
 #![tactic(auto)]
 
 #[cfg(test)]
+mod borrowed;
+#[cfg(test)]
+mod collecting;
+#[cfg(test)]
 mod listed;
 #[cfg(test)]
-mod one_to_one;
+mod own_type;
+#[cfg(test)]
+mod sources;
+#[cfg(test)]
+mod traits;
