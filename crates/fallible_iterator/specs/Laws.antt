@@ -6,3 +6,4 @@ pub mod Source
 pub mod Passing
 pub mod Filtering
 pub mod Sources
+pub mod Parts

@@ -19,11 +19,13 @@ pub struct Filter<I, F> {
     pub(crate) f: Option<F>,
 }
 
-impl<I: FallibleIterator, F: FnMut(&I::Item) -> Result<bool, I::Error>> FallibleIterator for Filter<I, F>
+impl<I: FallibleIterator, F: FnMut(&I::Item) -> Result<bool, I::Error>> FallibleIterator
+    for Filter<I, F>
 where
     I::Item: Drop,
 {
     type Item = I::Item;
+
     type Error = I::Error;
 
     ghost source = { seen_as filter_parts (filter_source I.source F.FnMut) };
@@ -40,13 +42,7 @@ where
         {
             let mut f = f;
             match f(&x) {
-                Ok(keep) => {
-                    if keep {
-                        Err((f, Ok(x)))
-                    } else {
-                        Ok(f)
-                    }
-                }
+                Ok(keep) => { if keep { Err((f, Ok(x))) } else { Ok(f) } }
                 Err(e) => Err((f, Err(e))),
             }
         };

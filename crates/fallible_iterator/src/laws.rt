@@ -3,7 +3,10 @@ ghost use Rattle.std.specs.Prelude.{◌≡◌, ℕ, ◌≤◌, IfOk, IfErr, Resu
 ghost use Rattle.fallible_iterator.specs.Source.{Source, Stays};
 ghost use Rattle.fallible_iterator.specs.Answers.{answer_of, IsAnswers};
 
+mod passing;
+
 use crate::traits::FallibleIterator;
+pub use passing::{law_filter, law_map};
 use std::alloc::{AllocError, Global};
 
 /// What one draw answered.

@@ -17,8 +17,10 @@ pub struct Map<T, F> {
     pub(crate) f: Option<F>,
 }
 
-impl<I: FallibleIterator, B, F: FnMut(I::Item) -> Result<B, I::Error>> FallibleIterator for Map<I, F> {
+impl<I: FallibleIterator, B, F: FnMut(I::Item) -> Result<B, I::Error>> FallibleIterator
+    for Map<I, F> {
     type Item = B;
+
     type Error = I::Error;
 
     ghost source = { seen_as map_parts (map_source I.source F.FnMut) };

@@ -7,15 +7,16 @@ ghost use Rattle.fallible_iterator.specs.Folds.{CallableCarrying, Carried, Calla
 
 mod borrowed;
 
-use std::convert::Infallible;
-use std::marker::PhantomData;
 use crate::filtering::Filter;
 use crate::folds::Exit;
 use crate::one_to_one::Map;
 use crate::to_come::Number;
+use std::convert::Infallible;
+use std::marker::PhantomData;
 
 pub trait FallibleIterator: Drop + Sized {
     type Item;
+
     type Error;
 
     // All that the contract says of the values of this type.

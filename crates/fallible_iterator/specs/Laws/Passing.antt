@@ -1,7 +1,7 @@
 -- A trace that lets answers pass, answer by answer.
 use Rattle.std.specs.Prelude.{◌≡◌, ℕ, ◌≤◌, ◌<◌, List, [], ◌∷◌, ◌++◌, map, Option, Result, Some, None, Ok, Err, IsSome, is_some, Bool, true, false, ◌⊎◌}
 use Rattle.std.specs.List.{FoldsTo, filter_map, cons_option}
-use Rattle.std.proofs.Common.{refl, sym, ap, subst, arith, inl, inr}
+use Rattle.std.proofs.Common.{refl, sym, ◌∙◌, ap, subst, arith, inl, inr}
 use Rattle.std.specs.Fn.{Shared}
 use Rattle.fallible_iterator.specs.declared.folds.Exit.{Exit}
 use Rattle.fallible_iterator.specs.declared.folds.Exit.TheVariants.{Ended, Failed, Stopped}
@@ -12,7 +12,7 @@ use Rattle.fallible_iterator.specs.Laws.Source.{given_after, stays_run, no_more,
 use Rattle.fallible_iterator.specs.Laws.Closures.{reaches_here, reaches_weaken, reaches_then, reaches_from, callable_after}
 use Rattle.fallible_iterator.specs.Folds.{HoldsAtEachTurn, CarryingExit, Carried}
 use Rattle.fallible_iterator.specs.Laws.Folds.{turns_map}
-use Rattle.fallible_iterator.specs.Passing.{PassTurn, stopped_answer, unpacked, Outcome, kept, left_out, failed, Place, asked, failure_at, end_at, source_answer, call_of, outcome_answer, answer_at, EndsKept, PassTrace, MayGive, passing}
+use Rattle.fallible_iterator.specs.Passing.{PassTurn, stopped_answer, unpacked, Outcome, kept, left_out, failed, an_end, Place, asked, failure_at, end_at, source_answer, call_of, outcome_answer, answer_at, EndsKept, PassTrace, MayGive, passing, MeetsDefinition}
 
 module _ {S F X R B E : Type 0} (steps : S → Answered X E → S → Type 0) (call : F → X → R → F → Type 0) (outcome : X → R → Outcome B E) where
   -- the same as `PassTrace`, built from the first answer on
@@ -22,6 +22,7 @@ module _ {S F X R B E : Type 0} (steps : S → Answered X E → S → Type 0) (c
     fails : {s u t : S} {f g : F} {trace : List (Answered B E)} (e : E) → steps s (Err e) u → Passes u f trace t g → Passes s f (Err e ∷ trace) t g
     keeps : {s u t : S} {f h g : F} {trace : List (Answered B E)} (x : X) (v : R) (y : B) → steps s (item x) u → call f x v h → outcome x v ≡ kept y → Passes u h trace t g → Passes s f (item y ∷ trace) t g
     refuses : {s u t : S} {f h g : F} {trace : List (Answered B E)} (x : X) (v : R) (e : E) → steps s (item x) u → call f x v h → outcome x v ≡ failed e → Passes u h trace t g → Passes s f (Err e ∷ trace) t g
+    closes : {s u t : S} {f h g : F} {trace : List (Answered B E)} (x : X) (v : R) → steps s (item x) u → call f x v h → outcome x v ≡ an_end → Passes u h trace t g → Passes s f (Ok None ∷ trace) t g
     leaves_out : {s u t : S} {f h g : F} {r : Answered B E} {trace : List (Answered B E)} (x : X) (v : R) → steps s (item x) u → call f x v h → outcome x v ≡ left_out → Passes u h (r ∷ trace) t g → Passes s f (r ∷ trace) t g
 
 module _ {X R B E : Type 0} (outcome : X → R → Outcome B E) where
@@ -60,6 +61,7 @@ module _ {S F X R B E : Type 0} {steps : S → Answered X E → S → Type 0} {c
       → Passes steps call outcome u h (filter_map (answer_at outcome) rest) t g → Passes steps call outcome s f trace t g
   mutual_asked {s} {u} {t} {f} {h} {g} x v (kept y) is rest trace step called e close rests = subst (λ (l : List (Answered B E)). Passes steps call outcome s f l t g) (sym e) (keeps x v y step called is rests)
   mutual_asked {s} {u} {t} {f} {h} {g} x v (failed d) is rest trace step called e close rests = subst (λ (l : List (Answered B E)). Passes steps call outcome s f l t g) (sym e) (refuses x v d step called is rests)
+  mutual_asked {s} {u} {t} {f} {h} {g} x v an_end is rest trace step called e close rests = subst (λ (l : List (Answered B E)). Passes steps call outcome s f l t g) (sym e) (closes x v step called is rests)
   mutual_asked {s} {u} {t} {f} {h} {g} x v left_out is [] trace step called e close rests = absurd (let some : is_some (outcome_answer (outcome x v)) ≡ true = close in let none : is_some (outcome_answer {B = B} {E = E} left_out) ≡ true = subst (λ (o : Outcome B E). is_some (outcome_answer o) ≡ true) is some in cc)
   mutual_asked {s} {u} {t} {f} {h} {g} x v left_out is (p ∷ rest) trace step called e close rests = subst (λ (l : List (Answered B E)). Passes steps call outcome s f l t g) (sym e) (skip_first x v (filter_map (answer_at outcome) (p ∷ rest)) p rest step called is refl close rests)
 
@@ -78,6 +80,7 @@ module _ {S F X R B E : Type 0} {steps : S → Answered X E → S → Type 0} {c
   from_passes (fails {u = u} e step h) = let p = from_passes h in record { places = failure_at e ∷ p.places; drawn = (u, step, p.drawn); called = p.called; answers = ap (λ l. Err e ∷ l) p.answers; ends_kept = kept_cons outcome (failure_at e) p.places refl p.ends_kept }
   from_passes (keeps {u = u} {h = j} x v y step called is h) = let p = from_passes h in record { places = asked x v ∷ p.places; drawn = (u, step, p.drawn); called = (j, called, p.called); answers = rw is (ap (λ l. item y ∷ l) p.answers); ends_kept = kept_cons outcome (asked x v) p.places (rw is refl) p.ends_kept }
   from_passes (refuses {u = u} {h = j} x v e step called is h) = let p = from_passes h in record { places = asked x v ∷ p.places; drawn = (u, step, p.drawn); called = (j, called, p.called); answers = rw is (ap (λ l. Err e ∷ l) p.answers); ends_kept = kept_cons outcome (asked x v) p.places (rw is refl) p.ends_kept }
+  from_passes (closes {u = u} {h = j} x v step called is h) = let p = from_passes h in record { places = asked x v ∷ p.places; drawn = (u, step, p.drawn); called = (j, called, p.called); answers = rw is (ap (λ l. Ok None ∷ l) p.answers); ends_kept = kept_cons outcome (asked x v) p.places (rw is refl) p.ends_kept }
   from_passes (leaves_out {u = u} {h = j} {r = r} {trace = trace} x v step called is h) = let p = from_passes h in record { places = asked x v ∷ p.places; drawn = (u, step, p.drawn); called = (j, called, p.called); answers = rw is p.answers; ends_kept = kept_before outcome (asked x v) p.places r trace p.answers p.ends_kept }
 
 -- ---- the contract of what lets answers pass is lawful where the source's is
@@ -95,6 +98,7 @@ module _ {S F X R B E : Type 0} (m : Source S X E) (l : Lawful m) (call : F → 
   passes_reaches s t f g _ c (fails {u = u} e step p) = let a = l.goes s (Err e) u c step in reaches_weaken a.gives (passes_reaches u t f g _ a.can p)
   passes_reaches s t f g _ c (keeps {u = u} {h = h} x v y step called is p) = let a = l.goes s (item x) u c step in reaches_from x v a.answer.0 called (reaches_weaken a.gives (passes_reaches u t h g _ a.can p))
   passes_reaches s t f g _ c (refuses {u = u} {h = h} x v e step called is p) = let a = l.goes s (item x) u c step in reaches_from x v a.answer.0 called (reaches_weaken a.gives (passes_reaches u t h g _ a.can p))
+  passes_reaches s t f g _ c (closes {u = u} {h = h} x v step called is p) = let a = l.goes s (item x) u c step in reaches_from x v a.answer.0 called (reaches_weaken a.gives (passes_reaches u t h g _ a.can p))
   passes_reaches s t f g _ c (leaves_out {u = u} {h = h} x v step called is p) = let a = l.goes s (item x) u c step in reaches_from x v a.answer.0 called (reaches_weaken a.gives (passes_reaches u t h g _ a.can p))
 
   -- what may come after calls on what comes may come
@@ -119,6 +123,7 @@ module _ {S F X R B E : Type 0} (m : Source S X E) (l : Lawful m) (call : F → 
     passes_answer s t f g _ c (fails e step done) = let a = (l.goes s (Err e) t c step).answer in (inl a.0, a.1, a.2)
     passes_answer s t f g _ c (keeps x v y step called is done) = let a = (l.goes s (item x) t c step).answer in (may_give_here s f g _ x v a.0 called is, a.1, a.2)
     passes_answer s t f g _ c (refuses x v e step called is done) = let a = (l.goes s (item x) t c step).answer in (inr (may_give_here s f g _ x v a.0 called is), (λ n b. let k = a.1 n b in (k.0, k.1, omega (arith, k.2))), a.2)
+    passes_answer s t f g _ c (closes x v step called is done) = let a = (l.goes s (item x) t c step).answer in ((λ n b. let k = a.1 n b in (k.0, k.1, omega (arith, k.2))), (λ d. let k = a.2 d in (k.0, omega (arith, k.1))))
     passes_answer s t f g r c (leaves_out {u = u} {h = h} x v step called is rest) = let a = l.goes s (item x) u c step in answer_after s u t f h g r x v a called (passes_answer u t h g r a.can rest)
 
     goes_passing : (p : S × Option F) (r : Answered B E) (q : S × Option F) → M.can p → M.steps p r q → Goes M p r q
@@ -129,7 +134,7 @@ module _ {S F X R B E : Type 0} (m : Source S X E) (l : Lawful m) (call : F → 
       has_end = a.has_end;
       answer = passes_answer s t f g r c.0 p;
       gives = λ y h. may_give_after s t f g _ a.gives reached h;
-      fails = λ e h. elim h [ inl b ↦ inl (a.fails e b) | inr b ↦ inr (may_give_after s t f g _ a.gives reached b) ]
+      fails = λ e h. elim h [ inl b ↦ inl (a.fails e b) | inr b ↦ inr (may_give_after s t f g _ a.gives reached b) ];
     }
 
 pub lawful_passing : {S F X R B E : Type 0} {m : Source S X E} (call : F → X → R → F → Type 0) (pre : F → X → Type 0) (outcome : X → R → Outcome B E) (hints : S → ℕ × Option ℕ → Type 0) → Lawful m → Lawful (passing m call pre outcome hints)
@@ -150,6 +155,81 @@ module _ {S F X R B E : Type 0} {steps : S → Answered X E → S → Type 0} {c
 
   pub passes_failure : {e : E} → steps s (Err e) t → PassTrace steps call outcome s f (Err e ∷ []) t f
   passes_failure {e} step = from_passes (fails e step done)
+
+  -- an item that makes an end
+  pub passes_closing : {g : F} (x : X) (v : R) → steps s (item x) t → call f x v g → outcome x v ≡ an_end → PassTrace steps call outcome s f (Ok None ∷ []) t g
+  passes_closing x v step called is = from_passes (closes x v step called is done)
+
+-- ---- a whole trace is its answers, one draw after another
+
+module _ {S F X R B E : Type 0} (steps : S → Answered X E → S → Type 0) (call : F → X → R → F → Type 0) (outcome : X → R → Outcome B E) where
+  passes_cons : (s u t : S) (f h g : F) (r : Answered B E) (rest : List (Answered B E)) → Passes steps call outcome s f (r ∷ []) u h → Passes steps call outcome u h rest t g → Passes steps call outcome s f (r ∷ rest) t g
+  passes_cons s u t f h g _ rest (ends step done) q = ends step q
+  passes_cons s u t f h g _ rest (fails e step done) q = fails e step q
+  passes_cons s u t f h g _ rest (keeps x v y step called is done) q = keeps x v y step called is q
+  passes_cons s u t f h g _ rest (refuses x v e step called is done) q = refuses x v e step called is q
+  passes_cons s u t f h g _ rest (closes x v step called is done) q = closes x v step called is q
+  passes_cons s u t f h g r rest (leaves_out {u = w} {h = j} x v step called is p) q = leaves_out x v step called is (passes_cons w u t j h g r rest p q)
+
+  -- what the first answer leaves, and the rest from there
+  record FirstPassed (s : S) (f : F) (r : Answered B E) (rest : List (Answered B E)) (t : S) (g : F) : Type 0 where
+    source : S
+    closure : F
+    first : Passes steps call outcome s f (r ∷ []) source closure
+    others : Passes steps call outcome source closure rest t g
+
+  passes_split : (s t : S) (f g : F) (r : Answered B E) (rest : List (Answered B E)) → Passes steps call outcome s f (r ∷ rest) t g → FirstPassed s f r rest t g
+  passes_split s t f g _ rest (ends {u = u} step p) = record { source = u; closure = f; first = ends step done; others = p }
+  passes_split s t f g _ rest (fails {u = u} e step p) = record { source = u; closure = f; first = fails e step done; others = p }
+  passes_split s t f g _ rest (keeps {u = u} {h = h} x v y step called is p) = record { source = u; closure = h; first = keeps x v y step called is done; others = p }
+  passes_split s t f g _ rest (refuses {u = u} {h = h} x v e step called is p) = record { source = u; closure = h; first = refuses x v e step called is done; others = p }
+  passes_split s t f g _ rest (closes {u = u} {h = h} x v step called is p) = record { source = u; closure = h; first = closes x v step called is done; others = p }
+  passes_split s t f g r rest (leaves_out {u = u} {h = h} x v step called is p) = let q = passes_split u t h g r rest p in record { source = q.source; closure = q.closure; first = leaves_out x v step called is q.first; others = q.others }
+
+-- The parts name the value: each pair of a source and a closure is the parts of one value.
+pub record IsMadeBy {V S F : Type 0} (parts : V → S × Option F) (make : S → F → V) : Type 0 where
+  pub has : (s : S) (f : F) → parts (make s f) ≡ (s, Some f)
+  pub is : (x : V) (s : S) (f : F) → parts x ≡ (s, Some f) → x ≡ make s f
+
+module _ {V S F X R B E : Type 0} (m : Source S X E) (call : F → X → R → F → Type 0) (outcome : X → R → Outcome B E) (parts : V → S × Option F) (make : S → F → V) (made : IsMadeBy parts make) where
+  abbrev StepsSeen : V → Answered B E → V → Type 0
+  StepsSeen x r y = InSlots (parts x).1 (parts y).1 (λ f g. PassTrace m.steps call outcome (parts x).0 f (r ∷ []) (parts y).0 g)
+
+  abbrev Meant : S → F → List (Answered B E) → V → Type 0
+  Meant s f trace y = (t : S) × (g : F) × (parts y ≡ (t, Some g)) × PassTrace m.steps call outcome s f trace t g
+
+  -- where the slot of the value left is full
+  record Full (p : S × Option F) (P : S → F → Type 0) : Type 0 where
+    source : S
+    closure : F
+    parts_are : p ≡ (source, Some closure)
+    holds : P source closure
+
+  full : (p : S × Option F) (P : S → F → Type 0) → InSlot p.1 (λ g. P p.0 g) → Full p P
+  full (t, Some g) P h = record { source = t; closure = g; parts_are = refl; holds = h }
+  full (t, None) P h = absurd h
+
+  step_full : (s : S) (f : F) (x y : V) (r : Answered B E) → parts x ≡ (s, Some f) → StepsSeen x r y → Full (parts y) (λ t g. PassTrace m.steps call outcome s f (r ∷ []) t g)
+  step_full s f x y r e step = full (parts y) (λ t g. PassTrace m.steps call outcome s f (r ∷ []) t g) (subst (λ (p : S × Option F). InSlots p.1 (parts y).1 (λ h g. PassTrace m.steps call outcome p.0 h (r ∷ []) (parts y).0 g)) e step)
+
+  full_step : (s t : S) (f g : F) (x y : V) (r : Answered B E) → parts x ≡ (s, Some f) → parts y ≡ (t, Some g) → PassTrace m.steps call outcome s f (r ∷ []) t g → StepsSeen x r y
+  full_step s t f g x y r e d p = subst (λ (a : S × Option F). InSlots a.1 (parts y).1 (λ h k. PassTrace m.steps call outcome a.0 h (r ∷ []) (parts y).0 k)) (sym e) (subst (λ (b : S × Option F). InSlot b.1 (λ k. PassTrace m.steps call outcome s f (r ∷ []) b.0 k)) (sym d) p)
+
+  run_means : (trace : List (Answered B E)) (s : S) (f : F) (x y : V) → parts x ≡ (s, Some f) → Run StepsSeen x trace y → Full (parts y) (λ t g. Passes m.steps call outcome s f trace t g)
+  run_means [] s f x y e ran = record { source = s; closure = f; parts_are = subst (λ (z : V). parts z ≡ (s, Some f)) ran e; holds = done }
+  run_means (r ∷ rest) s f x y e ran = let h = step_full s f x ran.0 r e ran.1 in let k = run_means rest h.source h.closure ran.0 y h.parts_are ran.2 in
+      record { source = k.source; closure = k.closure; parts_are = k.parts_are; holds = passes_cons m.steps call outcome s h.source k.source f h.closure k.closure r rest (to_passes h.holds) k.holds }
+
+  done_same : (s t : S) (f g : F) → Passes m.steps call outcome s f [] t g → make s f ≡ make t g
+  done_same s _ f _ done = refl
+
+  means_run : (trace : List (Answered B E)) (s t : S) (f g : F) (x y : V) → parts x ≡ (s, Some f) → parts y ≡ (t, Some g) → Passes m.steps call outcome s f trace t g → Run StepsSeen x trace y
+  means_run [] s t f g x y e d p = made.is x s f e ∙ done_same s t f g p ∙ sym (made.is y t g d)
+  means_run (r ∷ rest) s t f g x y e d p = let q = passes_split m.steps call outcome s t f g r rest p in let mid = made.has q.source q.closure in
+      (make q.source q.closure, full_step s q.source f q.closure x (make q.source q.closure) r e mid (from_passes q.first), means_run rest q.source t q.closure g (make q.source q.closure) y mid d q.others)
+
+  pub law_passing : MeetsDefinition parts StepsSeen (λ s f trace t g. PassTrace m.steps call outcome s f trace t g)
+  law_passing x y s f trace e = ((λ ran. let k = run_means trace s f x y e ran in (k.source, k.closure, k.parts_are, from_passes k.holds)), (λ k. means_run trace s k.0 f k.1 x y e k.2 (to_passes k.3)))
 
 -- ---- one draw as a fold that stops
 

@@ -30,9 +30,9 @@ module _ {S A E : Type 0} (can : S → Type 0) (gives : S → Option (Result A E
       has_end = finite_after s t r step;
       answer = convert_answer s t r c step;
       gives = λ x. comes_after s t r (item x) step;
-      fails = λ e. comes_after s t r (failure e) step
+      fails = λ e. comes_after s t r (failure e) step;
     };
-    ends = λ s. ((λ f. (size (remaining s), (f, omega arith))), (λ p. p.1.0))
+    ends = λ s. ((λ f. (size (remaining s), (f, omega arith))), (λ p. p.1.0));
   }
 
 module _ {A E : Type 0} where

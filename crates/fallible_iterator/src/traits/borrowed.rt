@@ -7,6 +7,7 @@ use crate::traits::FallibleIterator;
 
 impl<I: FallibleIterator> FallibleIterator for &mut I {
     type Item = I::Item;
+
     type Error = I::Error;
 
     ghost source = { seen_as (λ s. s.now) I.source };
@@ -24,6 +25,7 @@ impl<I: FallibleIterator> FallibleIterator for &mut I {
 
 impl<I: FallibleIterator> FallibleIterator for Box<I> {
     type Item = I::Item;
+
     type Error = I::Error;
 
     ghost source = { seen_as (λ s. s.value) I.source };
