@@ -1,7 +1,7 @@
 -- Folds.
 use Rattle.std.specs.Prelude.{◌≡◌, ℕ, length, List, [], ◌∷◌, ◌++◌, map, Option, Result, Some, None, Ok, Err}
 use Rattle.std.specs.List.{FoldsTo}
-use Rattle.std.specs.Fn.{Called, Takes, Mut, Shared}
+use Rattle.std.specs.Fn.{Called, Takes, Mut}
 use Rattle.fallible_iterator.specs.declared.folds.Exit.{Exit}
 use Rattle.fallible_iterator.specs.declared.folds.Exit.TheVariants.{Ended, Failed, Stopped}
 use Rattle.fallible_iterator.specs.Traces.{Answered, Run, Yields, item, end, failure}
@@ -42,33 +42,34 @@ module _ {S A E F B E' : Type 0} (steps : S → Answered A E → S → Type 0) (
     pub went : FoldsTo {P = B × F} (fold_turn g) (b, f) items (value, closure)
     pub exit : FoldExit g from value closure last r
 
--- ---- the fold that carries its closure, which every other one goes through
+-- ---- the fold that carries a value, which every other one goes through
+-- `turns c x r` says that one turn on the carried value c and the item x may answer r: `Ok` of what is carried on, or `Err` where the fold stops.
 
-module _ {A C R K : Type 0} (g : Shared K (C × (A × Unit {0})) (Result C R)) (k : K) where
-  -- one call of k on the carried value and an item, which went on
+module _ {A C R : Type 0} (turns : C → A → Result C R → Type 0) where
+  -- one turn that went on
   abbrev pub carrying_turn : C → A → C → Type 0
-  carrying_turn c x d = g.post k (c, (x, tt)) (Ok d)
+  carrying_turn c x d = turns c x (Ok d)
 
-module _ {A E C R K : Type 0} (g : Shared K (C × (A × Unit {0})) (Result C R)) (k : K) where
+module _ {A E C R : Type 0} (turns : C → A → Result C R → Type 0) where
   -- every exit hands the carried value back
   abbrev pub CarryingExit : C → Answered A E → Exit C E R → Type 0
   CarryingExit c (Ok None) r = r ≡ Ended c
   CarryingExit c (Err e) r = r ≡ Failed c e
-  CarryingExit c (Ok (Some x)) r = (stop : R) × g.post k (c, (x, tt)) (Err stop) × (r ≡ Stopped stop)
+  CarryingExit c (Ok (Some x)) r = (stop : R) × turns c x (Err stop) × (r ≡ Stopped stop)
 
-module _ {S A E C R K : Type 0} (steps : S → Answered A E → S → Type 0) (g : Shared K (C × (A × Unit {0})) (Result C R)) (k : K) where
-  -- k may be called on the carried value and each item that may come
-  abbrev pub CallableCarrying : S → C → Type 0
-  CallableCarrying s c = HoldsAtEachTurn steps (carrying_turn g k) (λ d x. g.pre k (d, (x, tt))) s c
+module _ {S A E C R : Type 0} (steps : S → Answered A E → S → Type 0) (turns : C → A → Result C R → Type 0) where
+  -- a turn may be taken on the carried value and each item that may come
+  abbrev pub CallableCarrying : (C → A → Type 0) → S → C → Type 0
+  CallableCarrying can s c = HoldsAtEachTurn steps (carrying_turn turns) can s c
 
-  -- k was called on the items in order, each call with the value carried so far, and went on; then came the last answer
+  -- Turns on the items in order, each with the value carried so far, went on; then came the last answer.
   pub record Carried (s : S) (c : C) (r : Exit C E R) (t : S) : Type 0 where
     pub items : List A
     pub last : Answered A E
     pub carried : C
     pub ran : Run steps s (map item items ++ last ∷ []) t
-    pub went : FoldsTo (carrying_turn g k) c items carried
-    pub exit : CarryingExit g k carried last r
+    pub went : FoldsTo (carrying_turn turns) c items carried
+    pub exit : CarryingExit turns carried last r
 
 -- ---- count
 

@@ -3,7 +3,9 @@ pub mod Answers
 pub mod Closures
 pub mod Folds
 pub mod Source
+pub mod Definitions
 pub mod Passing
+pub mod OneToOne
 pub mod Filtering
 pub mod Sources
 pub mod Parts

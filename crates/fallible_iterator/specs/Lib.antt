@@ -4,6 +4,7 @@ pub mod Source
 pub mod Closures
 pub mod Parts
 pub mod Passing
+pub mod Definitions
 pub mod Folds
 pub mod Sources
 pub mod OneToOne

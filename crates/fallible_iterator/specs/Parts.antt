@@ -4,7 +4,9 @@ use Rattle.fallible_iterator.specs.declared.sources.Convert.{Convert}
 use Rattle.fallible_iterator.specs.declared.sources.Once.{Once}
 use Rattle.fallible_iterator.specs.declared.sources.OnceErr.{OnceErr}
 use Rattle.fallible_iterator.specs.declared.one_to_one.Map.{Map}
+use Rattle.fallible_iterator.specs.declared.one_to_one.Inspect.{Inspect}
 use Rattle.fallible_iterator.specs.declared.filtering.Filter.{Filter}
+use Rattle.fallible_iterator.specs.declared.filtering.FilterMap.{FilterMap}
 
 -- the std iterator
 abbrev pub convert_source_of : {I : Type 0} → Convert I → I
@@ -23,3 +25,9 @@ map_parts s = (s.it, s.f)
 
 abbrev pub filter_parts : {I F : Type 0} → Filter I F → I × Option F
 filter_parts s = (s.it, s.f)
+
+abbrev pub filter_map_parts : {I F : Type 0} → FilterMap I F → I × Option F
+filter_map_parts s = (s.it, s.f)
+
+abbrev pub inspect_parts : {I F : Type 0} → Inspect I F → I × Option F
+inspect_parts s = (s.it, s.f)

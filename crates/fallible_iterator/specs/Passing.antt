@@ -1,5 +1,5 @@
 -- Adapters that let the answers of one source pass: of each item a closure is asked, and by its answer the item is kept as another, left out, or replaced by a failure or an end.
-use Rattle.std.specs.Prelude.{◌≡◌, ℕ, List, [], ◌∷◌, map, Option, Result, Some, None, Ok, Err, IsSome, ⊤, ◌⊎◌, ◌↔◌}
+use Rattle.std.specs.Prelude.{◌≡◌, ℕ, List, [], ◌∷◌, map, Option, Result, Some, None, Ok, Err, IsSome, ⊤, ◌⊎◌}
 use Rattle.std.specs.List.{filter_map}
 use Rattle.fallible_iterator.specs.declared.folds.Exit.{Exit}
 use Rattle.fallible_iterator.specs.declared.folds.Exit.TheVariants.{Ended, Failed, Stopped}
@@ -71,7 +71,7 @@ pub record MayGive {S F X R B E : Type 0} (m : Source S X E) (call : F → X →
   pub outcome_is : outcome argument answer ≡ o
 
 -- the contract of such an adapter over a source and the slot of its closure
-abbrev pub passing : {S F X R B E : Type 0} → Source S X E → (F → X → R → F → Type 0) → (F → X → Type 0) → (X → R → Outcome B E) → (S → ℕ × Option ℕ → Type 0) → Source (S × Option F) B E
+abbrev pub passing : {S F X R B E : Type 0} → Source S X E → (F → X → R → F → Type 0) → (F → X → Type 0) → (X → R → Outcome B E) → (S × Option F → ℕ × Option ℕ → Type 0) → Source (S × Option F) B E
 passing m call pre outcome hints = record {
   can = λ p. m.can p.0 × InSlot p.1 (λ f. IsCallable call pre (m.gives p.0) f);
   steps = λ p r q. InSlots p.1 q.1 (λ f g. PassTrace m.steps call outcome p.0 f (r ∷ []) q.0 g);
@@ -80,12 +80,8 @@ passing m call pre outcome hints = record {
   elements = λ p. m.elements p.0;
   gives = λ p y. InSlot p.1 (λ f. MayGive m call outcome p.0 f (kept y));
   fails = λ p e. m.fails p.0 e ⊎ InSlot p.1 (λ f. MayGive m call outcome p.0 f (failed e));
-  hints = λ p h. hints p.0 h;
+  hints = hints;
 }
-
--- From a value whose parts are the source s and the closure f, draws can answer a trace and leave y just where the definition relates s, f and the trace to the parts of y.
-abbrev pub MeetsDefinition : {V S F A E : Type 0} → (V → S × Option F) → (V → Answered A E → V → Type 0) → (S → F → List (Answered A E) → S → F → Type 0) → Type 0
-MeetsDefinition {V = V} {S = S} {F = F} {A = A} {E = E} parts steps Definition = (x y : V) (s : S) (f : F) (trace : List (Answered A E)) → parts x ≡ (s, Some f) → Run steps x trace y ↔ ((t : S) × (g : F) × (parts y ≡ (t, Some g)) × Definition s f trace t g)
 
 -- ---- one draw of such an adapter, as a fold of the source that stops
 

@@ -1,12 +1,12 @@
 // Adapters that leave items out.
 ghost use Rattle.std.specs.Prelude.{◌≡◌, Some, Result, Option};
 ghost use Rattle.fallible_iterator.specs.Source.{seen_as};
-ghost use Rattle.fallible_iterator.specs.Closures.{call_at, takes_at};
+ghost use Rattle.fallible_iterator.specs.Closures.{call_on, takes_on, call_at, takes_at};
 ghost use Rattle.fallible_iterator.specs.Passing.{PassTurn, unpacked};
-ghost use Rattle.fallible_iterator.specs.Filtering.{filter_outcome, filter_source};
-ghost use Rattle.fallible_iterator.specs.Parts.{filter_parts};
+ghost use Rattle.fallible_iterator.specs.Filtering.{filter_outcome, filter_source, filter_map_outcome, filter_map_source};
+ghost use Rattle.fallible_iterator.specs.Parts.{filter_parts, filter_map_parts};
 ghost use Rattle.fallible_iterator.specs.Laws.Source.{lawful_seen};
-ghost use Rattle.fallible_iterator.specs.Laws.Filtering.{lawful_filter};
+ghost use Rattle.fallible_iterator.specs.Laws.Filtering.{lawful_filter, lawful_filter_map};
 
 use crate::folds::Exit;
 use crate::traits::FallibleIterator;
@@ -56,6 +56,49 @@ where
     }
 
     ghost lawful = { lawful_seen filter_parts (lawful_filter F.FnMut I.lawful) };
+}
+
+/// The values that the closure answers. An item on which it answers none is left out; an item on which it fails is lost, and its failure is the answer.
+#[derive(Drop)]
+pub struct FilterMap<I, F> {
+    pub(crate) it: I,
+    // empty only during a call
+    pub(crate) f: Option<F>,
+}
+
+impl<I: FallibleIterator, B, F: FnMut(I::Item) -> Result<Option<B>, I::Error>> FallibleIterator for FilterMap<I, F> {
+    type Item = B;
+    type Error = I::Error;
+
+    ghost source = { seen_as filter_map_parts (filter_map_source I.source F.FnMut) };
+
+    /// Draws until the closure answers a value, a failure comes or an end comes, and calls the closure on each item.
+    fn next(&mut self) -> Result<Option<B>, I::Error> {
+        let f = match self.f.take() {
+            Some(f) => f,
+            None => unreachable!(),
+        };
+        let ask = |f: F, x: I::Item| -> Result<F, (F, Result<B, I::Error>)>
+            requires { takes_on F.FnMut f x }
+            ensures { PassTurn (call_on F.FnMut) filter_map_outcome f x result }
+        {
+            let mut f = f;
+            match f(x) {
+                Ok(Some(y)) => Err((f, Ok(y))),
+                Ok(None) => Ok(f),
+                Err(e) => Err((f, Err(e))),
+            }
+        };
+        let (f, answer) = unpack(self.it.try_fold_carrying(f, &ask));
+        self.f = Some(f);
+        answer
+    }
+
+    fn size_hint(&self) -> (usize, Option<usize>) {
+        (0, self.it.size_hint().1)
+    }
+
+    ghost lawful = { lawful_seen filter_map_parts (lawful_filter_map F.FnMut I.lawful) };
 }
 
 // The closure and the answer that a fold hands back which stopped at an answer.

@@ -1,4 +1,5 @@
-// What a fold that carries its closure answers.
+// Folds that carry a value.
+ghost use Rattle.std.specs.Prelude.{Result};
 
 /// How a fold ended that hands the value which it carried back at every exit: at the source's end, at a failure of the source, or where the closure stopped it.
 #[derive(Drop)]
@@ -6,4 +7,27 @@ pub enum Exit<C, E, R> {
     Ended(C),
     Failed(C, E),
     Stopped(R),
+}
+
+/// One turn of a fold that carries a value: on the carried value and an item it answers what is carried on, or stops the fold. Every closure of this shape is one.
+pub trait Turn<C, A, R> {
+    // Holds of a carried value and an item on which the turn may be taken.
+    ghost can_turn: { Self → C → A → Type 0 };
+
+    // Holds of those and what the turn may answer.
+    ghost turns: { Self → C → A → Result C R → Type 0 };
+
+    fn turn(&self, carried: C, item: A) -> Result<C, R>
+        requires { can_turn self.now carried item }
+        ensures { turns self.now carried item result };
+}
+
+impl<C, A, R, F: Fn(C, A) -> Result<C, R>> Turn<C, A, R> for F {
+    ghost can_turn = { λ f c x. F.pre f c x };
+
+    ghost turns = { λ f c x r. F.post f c x r };
+
+    fn turn(&self, carried: C, item: A) -> Result<C, R> {
+        self(carried, item)
+    }
 }

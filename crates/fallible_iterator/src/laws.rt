@@ -6,7 +6,7 @@ ghost use Rattle.fallible_iterator.specs.Answers.{answer_of, IsAnswers};
 mod passing;
 
 use crate::traits::FallibleIterator;
-pub use passing::{law_filter, law_map};
+pub use passing::{law_filter, law_filter_map, law_inspect, law_map};
 use std::alloc::{AllocError, Global};
 
 /// What one draw answered.

@@ -2,14 +2,14 @@
 ghost use Rattle.std.specs.Prelude.{◌≡◌, ℕ, ◌+◌, ◌-◌, ◌≤◌, ◌<◌, ◌^◌, List, Option, Result, Some, Ok, ◌↔◌};
 ghost use Rattle.fallible_iterator.specs.Source.{Source, Lawful, Stays};
 ghost use Rattle.fallible_iterator.specs.Closures.{IsCallable, call_on, takes_on, call_at, takes_at};
-ghost use Rattle.fallible_iterator.specs.Parts.{map_parts, filter_parts};
+ghost use Rattle.fallible_iterator.specs.Parts.{map_parts, inspect_parts, filter_parts, filter_map_parts};
 ghost use Rattle.fallible_iterator.specs.Folds.{CallableCarrying, Carried, CallableInFold, FoldTurn, Folded, Counted};
 
 mod borrowed;
 
-use crate::filtering::Filter;
-use crate::folds::Exit;
-use crate::one_to_one::Map;
+use crate::filtering::{Filter, FilterMap};
+use crate::folds::{Exit, Turn};
+use crate::one_to_one::{Inspect, Map};
 use crate::to_come::Number;
 use std::convert::Infallible;
 use std::marker::PhantomData;
@@ -39,7 +39,7 @@ pub trait FallibleIterator: Drop + Sized {
         }
     }
 
-    fn try_fold_carrying<C, R, K: Fn(C, Self::Item) -> Result<C, R>>(
+    fn try_fold_carrying<C, R, K: Turn<C, Self::Item, R>>(
         &mut self,
         init: C,
         k: &K,
@@ -47,8 +47,8 @@ pub trait FallibleIterator: Drop + Sized {
     where
         requires can { source.can self.old }
         requires finite { source.has_end self.old }
-        requires callable { CallableCarrying source.steps K.Fn k.now self.old init }
-        ensures carried { Carried source.steps K.Fn k.now self.old init result self.new }
+        requires callable { CallableCarrying source.steps (K.turns k.now) (K.can_turn k.now) self.old init }
+        ensures carried { Carried source.steps (K.turns k.now) self.old init result self.new }
         ensures stays { Stays source self.old self.new }
     {
         let mut carried = init;
@@ -57,7 +57,7 @@ pub trait FallibleIterator: Drop + Sized {
             match self.next() {
                 Ok(None) => return Exit::Ended(carried),
                 Err(e) => return Exit::Failed(carried, e),
-                Ok(Some(x)) => match k(carried, x) {
+                Ok(Some(x)) => match k.turn(carried, x) {
                     Ok(c) => carried = c,
                     Err(stop) => return Exit::Stopped(stop),
                 },
@@ -66,7 +66,31 @@ pub trait FallibleIterator: Drop + Sized {
         }
     }
 
-    fn try_fold<B, E, F>(&mut self, init: B, f: F) -> Result<B, E>
+    fn count(mut self) -> Result<usize, Self::Error>
+    where
+        Self::Item: Drop,
+        requires can { source.can self }
+        requires fits { source.to_come self (2 ^ 64 - 1) }
+        ensures { Counted source.steps self result }
+    {
+        let one_more = |n: usize, x: Self::Item| -> Result<usize, Infallible>
+            requires { n < 2 ^ 64 - 1 }
+            ensures { result ≡ Ok (n + 1) }
+        {
+            let _ = x;
+            Ok(n + 1)
+        };
+        match self.try_fold_carrying(0, &one_more) {
+            Exit::Ended(n) => Ok(n),
+            Exit::Failed(_, e) => Err(e),
+            Exit::Stopped(never) => match never {},
+        }
+    }
+
+    // What the other functions know of a draw: see `Goes`.
+    ghost lawful: { Lawful source };
+
+    final fn try_fold<B, E, F>(&mut self, init: B, f: F) -> Result<B, E>
     where
         B: Drop,
         E: From<Self::Error>,
@@ -94,7 +118,7 @@ pub trait FallibleIterator: Drop + Sized {
         }
     }
 
-    fn fold<B, F>(mut self, init: B, f: F) -> Result<B, Self::Error>
+    final fn fold<B, F>(mut self, init: B, f: F) -> Result<B, Self::Error>
     where
         B: Drop,
         F: FnMut(B, Self::Item) -> Result<B, Self::Error>,
@@ -105,30 +129,6 @@ pub trait FallibleIterator: Drop + Sized {
     {
         self.try_fold(init, f)
     }
-
-    fn count(mut self) -> Result<usize, Self::Error>
-    where
-        Self::Item: Drop,
-        requires can { source.can self }
-        requires fits { source.to_come self (2 ^ 64 - 1) }
-        ensures { Counted source.steps self result }
-    {
-        let one_more = |n: usize, x: Self::Item| -> Result<usize, Infallible>
-            requires { n < 2 ^ 64 - 1 }
-            ensures { result ≡ Ok (n + 1) }
-        {
-            let _ = x;
-            Ok(n + 1)
-        };
-        match self.try_fold_carrying(0, &one_more) {
-            Exit::Ended(n) => Ok(n),
-            Exit::Failed(_, e) => Err(e),
-            Exit::Stopped(never) => match never {},
-        }
-    }
-
-    // What the other functions know of a draw: see `Goes`.
-    ghost lawful: { Lawful source };
 
     /// Replaces each item by the closure's answer on it. Making the adapter draws nothing and calls nothing.
     final fn map<F, B>(self, f: F) -> Map<Self, F>
@@ -152,6 +152,33 @@ pub trait FallibleIterator: Drop + Sized {
         ensures { filter_parts result ≡ (self, Some f) }
     {
         Filter {
+            it: self,
+            f: Some(f),
+        }
+    }
+
+    /// Replaces each item by the value that the closure answers on it, and leaves it out where the answer is none. Making the adapter draws nothing and calls nothing.
+    final fn filter_map<B, F>(self, f: F) -> FilterMap<Self, F>
+    where
+        F: FnMut(Self::Item) -> Result<Option<B>, Self::Error>,
+        requires finite { source.has_end self }
+        requires callable { IsCallable (call_on F.FnMut) (takes_on F.FnMut) (source.gives self) f }
+        ensures { filter_map_parts result ≡ (self, Some f) }
+    {
+        FilterMap {
+            it: self,
+            f: Some(f),
+        }
+    }
+
+    /// Shows each item to the closure, and answers it then. Making the adapter draws nothing and calls nothing.
+    final fn inspect<F>(self, f: F) -> Inspect<Self, F>
+    where
+        F: FnMut(&Self::Item) -> Result<(), Self::Error>,
+        requires { IsCallable (call_at F.FnMut) (takes_at F.FnMut) (source.gives self) f }
+        ensures { inspect_parts result ≡ (self, Some f) }
+    {
+        Inspect {
             it: self,
             f: Some(f),
         }

@@ -1,18 +1,18 @@
 -- A trace that lets answers pass, answer by answer.
 use Rattle.std.specs.Prelude.{◌≡◌, ℕ, ◌≤◌, ◌<◌, List, [], ◌∷◌, ◌++◌, map, Option, Result, Some, None, Ok, Err, IsSome, is_some, Bool, true, false, ◌⊎◌}
 use Rattle.std.specs.List.{FoldsTo, filter_map, cons_option}
-use Rattle.std.proofs.Common.{refl, sym, ◌∙◌, ap, subst, arith, inl, inr}
-use Rattle.std.specs.Fn.{Shared}
+use Rattle.std.proofs.Common.{refl, sym, ap, subst, arith, inl, inr}
 use Rattle.fallible_iterator.specs.declared.folds.Exit.{Exit}
 use Rattle.fallible_iterator.specs.declared.folds.Exit.TheVariants.{Ended, Failed, Stopped}
 use Rattle.fallible_iterator.specs.Traces.{Answered, Run, Yields, item}
 use Rattle.fallible_iterator.specs.Source.{Source, NoMore, Fewer, OnAnswer, Goes, Stays, Lawful}
 use Rattle.fallible_iterator.specs.Closures.{Calls, Reaches, IsCallable, InSlot, InSlots}
+use Rattle.fallible_iterator.specs.Laws.Definitions.{FirstOf, IsByAnswers}
 use Rattle.fallible_iterator.specs.Laws.Source.{given_after, stays_run, no_more, no_more_then}
 use Rattle.fallible_iterator.specs.Laws.Closures.{reaches_here, reaches_weaken, reaches_then, reaches_from, callable_after}
 use Rattle.fallible_iterator.specs.Folds.{HoldsAtEachTurn, CarryingExit, Carried}
 use Rattle.fallible_iterator.specs.Laws.Folds.{turns_map}
-use Rattle.fallible_iterator.specs.Passing.{PassTurn, stopped_answer, unpacked, Outcome, kept, left_out, failed, an_end, Place, asked, failure_at, end_at, source_answer, call_of, outcome_answer, answer_at, EndsKept, PassTrace, MayGive, passing, MeetsDefinition}
+use Rattle.fallible_iterator.specs.Passing.{PassTurn, stopped_answer, unpacked, Outcome, kept, left_out, failed, an_end, Place, asked, failure_at, end_at, source_answer, call_of, outcome_answer, answer_at, EndsKept, PassTrace, MayGive, passing}
 
 module _ {S F X R B E : Type 0} (steps : S → Answered X E → S → Type 0) (call : F → X → R → F → Type 0) (outcome : X → R → Outcome B E) where
   -- the same as `PassTrace`, built from the first answer on
@@ -108,7 +108,7 @@ module _ {S F X R B E : Type 0} (m : Source S X E) (l : Lawful m) (call : F → 
   may_give_here : (s : S) (f g : F) (o : Outcome B E) (x : X) (v : R) → m.gives s x → call f x v g → outcome x v ≡ o → MayGive m call outcome s f o
   may_give_here s f g o x v given called is = record { state = f; argument = x; answer = v; left = g; reached = reaches_here; given = given; called = called; outcome_is = is }
 
-  module _ (pre : F → X → Type 0) (hints : S → ℕ × Option ℕ → Type 0) where
+  module _ (pre : F → X → Type 0) (hints : S × Option F → ℕ × Option ℕ → Type 0) where
     abbrev M : Source (S × Option F) B E
     M = passing m call pre outcome hints
 
@@ -137,7 +137,7 @@ module _ {S F X R B E : Type 0} (m : Source S X E) (l : Lawful m) (call : F → 
       fails = λ e h. elim h [ inl b ↦ inl (a.fails e b) | inr b ↦ inr (may_give_after s t f g _ a.gives reached b) ];
     }
 
-pub lawful_passing : {S F X R B E : Type 0} {m : Source S X E} (call : F → X → R → F → Type 0) (pre : F → X → Type 0) (outcome : X → R → Outcome B E) (hints : S → ℕ × Option ℕ → Type 0) → Lawful m → Lawful (passing m call pre outcome hints)
+pub lawful_passing : {S F X R B E : Type 0} {m : Source S X E} (call : F → X → R → F → Type 0) (pre : F → X → Type 0) (outcome : X → R → Outcome B E) (hints : S × Option F → ℕ × Option ℕ → Type 0) → Lawful m → Lawful (passing m call pre outcome hints)
 lawful_passing {m} call pre outcome hints l = record { goes = goes_passing m l call outcome pre hints; ends = λ p. l.ends p.0 }
 
 -- ---- one answer
@@ -186,50 +186,20 @@ module _ {S F X R B E : Type 0} (steps : S → Answered X E → S → Type 0) (c
   passes_split s t f g _ rest (closes {u = u} {h = h} x v step called is p) = record { source = u; closure = h; first = closes x v step called is done; others = p }
   passes_split s t f g r rest (leaves_out {u = u} {h = h} x v step called is p) = let q = passes_split u t h g r rest p in record { source = q.source; closure = q.closure; first = leaves_out x v step called is q.first; others = q.others }
 
--- The parts name the value: each pair of a source and a closure is the parts of one value.
-pub record IsMadeBy {V S F : Type 0} (parts : V → S × Option F) (make : S → F → V) : Type 0 where
-  pub has : (s : S) (f : F) → parts (make s f) ≡ (s, Some f)
-  pub is : (x : V) (s : S) (f : F) → parts x ≡ (s, Some f) → x ≡ make s f
+  -- what a trace of no answers leaves
+  passes_none : (s t : S) (f g : F) → Passes steps call outcome s f [] t g → (s ≡ t) × (f ≡ g)
+  passes_none s _ f _ done = (refl, refl)
 
-module _ {V S F X R B E : Type 0} (m : Source S X E) (call : F → X → R → F → Type 0) (outcome : X → R → Outcome B E) (parts : V → S × Option F) (make : S → F → V) (made : IsMadeBy parts make) where
-  abbrev StepsSeen : V → Answered B E → V → Type 0
-  StepsSeen x r y = InSlots (parts x).1 (parts y).1 (λ f g. PassTrace m.steps call outcome (parts x).0 f (r ∷ []) (parts y).0 g)
+  passes_some : (s t : S) (f g : F) (r : Answered B E) (rest : List (Answered B E)) → FirstPassed s f r rest t g → FirstOf (PassTrace steps call outcome) s f r rest t g
+  passes_some s t f g r rest q = record { source = q.source; closure = q.closure; first = from_passes q.first; others = from_passes q.others }
 
-  abbrev Meant : S → F → List (Answered B E) → V → Type 0
-  Meant s f trace y = (t : S) × (g : F) × (parts y ≡ (t, Some g)) × PassTrace m.steps call outcome s f trace t g
-
-  -- where the slot of the value left is full
-  record Full (p : S × Option F) (P : S → F → Type 0) : Type 0 where
-    source : S
-    closure : F
-    parts_are : p ≡ (source, Some closure)
-    holds : P source closure
-
-  full : (p : S × Option F) (P : S → F → Type 0) → InSlot p.1 (λ g. P p.0 g) → Full p P
-  full (t, Some g) P h = record { source = t; closure = g; parts_are = refl; holds = h }
-  full (t, None) P h = absurd h
-
-  step_full : (s : S) (f : F) (x y : V) (r : Answered B E) → parts x ≡ (s, Some f) → StepsSeen x r y → Full (parts y) (λ t g. PassTrace m.steps call outcome s f (r ∷ []) t g)
-  step_full s f x y r e step = full (parts y) (λ t g. PassTrace m.steps call outcome s f (r ∷ []) t g) (subst (λ (p : S × Option F). InSlots p.1 (parts y).1 (λ h g. PassTrace m.steps call outcome p.0 h (r ∷ []) (parts y).0 g)) e step)
-
-  full_step : (s t : S) (f g : F) (x y : V) (r : Answered B E) → parts x ≡ (s, Some f) → parts y ≡ (t, Some g) → PassTrace m.steps call outcome s f (r ∷ []) t g → StepsSeen x r y
-  full_step s t f g x y r e d p = subst (λ (a : S × Option F). InSlots a.1 (parts y).1 (λ h k. PassTrace m.steps call outcome a.0 h (r ∷ []) (parts y).0 k)) (sym e) (subst (λ (b : S × Option F). InSlot b.1 (λ k. PassTrace m.steps call outcome s f (r ∷ []) b.0 k)) (sym d) p)
-
-  run_means : (trace : List (Answered B E)) (s : S) (f : F) (x y : V) → parts x ≡ (s, Some f) → Run StepsSeen x trace y → Full (parts y) (λ t g. Passes m.steps call outcome s f trace t g)
-  run_means [] s f x y e ran = record { source = s; closure = f; parts_are = subst (λ (z : V). parts z ≡ (s, Some f)) ran e; holds = done }
-  run_means (r ∷ rest) s f x y e ran = let h = step_full s f x ran.0 r e ran.1 in let k = run_means rest h.source h.closure ran.0 y h.parts_are ran.2 in
-      record { source = k.source; closure = k.closure; parts_are = k.parts_are; holds = passes_cons m.steps call outcome s h.source k.source f h.closure k.closure r rest (to_passes h.holds) k.holds }
-
-  done_same : (s t : S) (f g : F) → Passes m.steps call outcome s f [] t g → make s f ≡ make t g
-  done_same s _ f _ done = refl
-
-  means_run : (trace : List (Answered B E)) (s t : S) (f g : F) (x y : V) → parts x ≡ (s, Some f) → parts y ≡ (t, Some g) → Passes m.steps call outcome s f trace t g → Run StepsSeen x trace y
-  means_run [] s t f g x y e d p = made.is x s f e ∙ done_same s t f g p ∙ sym (made.is y t g d)
-  means_run (r ∷ rest) s t f g x y e d p = let q = passes_split m.steps call outcome s t f g r rest p in let mid = made.has q.source q.closure in
-      (make q.source q.closure, full_step s q.source f q.closure x (make q.source q.closure) r e mid (from_passes q.first), means_run rest q.source t q.closure g (make q.source q.closure) y mid d q.others)
-
-  pub law_passing : MeetsDefinition parts StepsSeen (λ s f trace t g. PassTrace m.steps call outcome s f trace t g)
-  law_passing x y s f trace e = ((λ ran. let k = run_means trace s f x y e ran in (k.source, k.closure, k.parts_are, from_passes k.holds)), (λ k. means_run trace s k.0 f k.1 x y e k.2 (to_passes k.3)))
+pub passing_by_answers : {S F X R B E : Type 0} (steps : S → Answered X E → S → Type 0) (call : F → X → R → F → Type 0) (outcome : X → R → Outcome B E) → IsByAnswers (PassTrace steps call outcome)
+passing_by_answers steps call outcome = record {
+  none = λ s f. from_passes done;
+  same = λ s t f g p. passes_none steps call outcome s t f g (to_passes p);
+  joins = λ s u t f h g r rest p q. from_passes (passes_cons steps call outcome s u t f h g r rest (to_passes p) (to_passes q));
+  splits = λ s t f g r rest p. passes_some steps call outcome s t f g r rest (passes_split steps call outcome s t f g r rest (to_passes p))
+}
 
 -- ---- one draw as a fold that stops
 
@@ -241,19 +211,19 @@ module _ {S F X R B E : Type 0} (steps : S → Answered X E → S → Type 0) (c
   after_left_out last r t h g final [] s f ran went = subst (λ (k : F). Passes steps call outcome s k (r ∷ []) t g) (sym went) (final s (subst (λ (u : S). steps s last u) ran.2 ran.1))
   after_left_out last r t h g final (x ∷ items) s f ran went = leaves_out x went.1.0 ran.1 went.1.1 went.1.2 (after_left_out last r t h g final items ran.0 went.0 ran.2 went.2)
 
-  module _ {K : Type 0} (k : Shared K (F × (X × Unit {0})) (Result F (F × Result B E))) (c : K) (turn : (f : F) (x : X) (r : Result F (F × Result B E)) → k.post c (f, (x, tt)) r → PassTurn call outcome f x r) where
+  module _ (turns : F → X → Result F (F × Result B E) → Type 0) (turn : (f : F) (x : X) (r : Result F (F × Result B E)) → turns f x r → PassTurn call outcome f x r) where
     stop_turn : (x : X) (p : F × Result B E) (u t : S) (h : F) → steps u (item x) t → PassTurn call outcome h x (Err p) → Passes steps call outcome u h (stopped_answer p.1 ∷ []) t p.0
     stop_turn x (g, Ok y) u t h step w = keeps x w.0 y step w.1 w.2 done
     stop_turn x (g, Err e) u t h step w = refuses x w.0 e step w.1 w.2 done
 
-    final_turn : (last : Answered X E) (exit : Exit F E (F × Result B E)) (u t : S) (h : F) → CarryingExit k c h last exit → steps u last t → Passes steps call outcome u h ((unpacked exit).1 ∷ []) t (unpacked exit).0
+    final_turn : (last : Answered X E) (exit : Exit F E (F × Result B E)) (u t : S) (h : F) → CarryingExit turns h last exit → steps u last t → Passes steps call outcome u h ((unpacked exit).1 ∷ []) t (unpacked exit).0
     final_turn (Ok None) exit u t h e step = subst (λ (x : Exit F E (F × Result B E)). Passes steps call outcome u h ((unpacked x).1 ∷ []) t (unpacked x).0) (sym e) (ends step done)
     final_turn (Err d) exit u t h e step = subst (λ (x : Exit F E (F × Result B E)). Passes steps call outcome u h ((unpacked x).1 ∷ []) t (unpacked x).0) (sym e) (fails d step done)
     final_turn (Ok (Some x)) exit u t h e step = subst (λ (z : Exit F E (F × Result B E)). Passes steps call outcome u h ((unpacked z).1 ∷ []) t (unpacked z).0) (sym e.2) (stop_turn x e.0 u t h step (turn h x (Err e.0) e.1))
 
-pub passes_fold : {S F X R B E K : Type 0} {steps : S → Answered X E → S → Type 0} {call : F → X → R → F → Type 0} {outcome : X → R → Outcome B E} {k : Shared K (F × (X × Unit {0})) (Result F (F × Result B E))} {c : K} {s t : S} {f : F} {exit : Exit F E (F × Result B E)}
-    → ((f : F) (x : X) (r : Result F (F × Result B E)) → k.post c (f, (x, tt)) r → PassTurn call outcome f x r) → Carried steps k c s f exit t → PassTrace steps call outcome s f ((unpacked exit).1 ∷ []) t (unpacked exit).0
-passes_fold {steps = steps} {call = call} {outcome = outcome} {k = k} {c = c} {s = s} {t = t} {f = f} {exit = exit} turn w = from_passes (after_left_out steps call outcome w.last (unpacked exit).1 t w.carried (unpacked exit).0 (λ u step. final_turn steps call outcome k c turn w.last exit u t w.carried w.exit step) w.items s f w.ran (turns_map (λ g x h p. turn g x (Ok h) p) w.items f w.carried w.went))
+pub passes_fold : {S F X R B E : Type 0} {steps : S → Answered X E → S → Type 0} {call : F → X → R → F → Type 0} {outcome : X → R → Outcome B E} {turns : F → X → Result F (F × Result B E) → Type 0} {s t : S} {f : F} {exit : Exit F E (F × Result B E)}
+    → ((f : F) (x : X) (r : Result F (F × Result B E)) → turns f x r → PassTurn call outcome f x r) → Carried steps turns s f exit t → PassTrace steps call outcome s f ((unpacked exit).1 ∷ []) t (unpacked exit).0
+passes_fold {steps = steps} {call = call} {outcome = outcome} {turns = turns} {s = s} {t = t} {f = f} {exit = exit} turn w = from_passes (after_left_out steps call outcome w.last (unpacked exit).1 t w.carried (unpacked exit).0 (λ u step. final_turn steps call outcome turns turn w.last exit u t w.carried w.exit step) w.items s f w.ran (turns_map (λ g x h p. turn g x (Ok h) p) w.items f w.carried w.went))
 
 module _ {S F X R B E : Type 0} (m : Source S X E) (l : Lawful m) (call : F → X → R → F → Type 0) (outcome : X → R → Outcome B E) where
   turns_reach : (items : List X) (s t : S) (f g : F) → m.can s → Yields m.steps s items t → FoldsTo (leaving m.steps call outcome) f items g → Reaches call (m.gives s) f g
