@@ -6,6 +6,8 @@ pub mod Source
 pub mod Definitions
 pub mod Passing
 pub mod OneToOne
+pub mod MapErr
+pub mod Enumerate
 pub mod Filtering
 pub mod Sources
 pub mod Parts

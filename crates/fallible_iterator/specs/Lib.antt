@@ -8,6 +8,8 @@ pub mod Definitions
 pub mod Folds
 pub mod Sources
 pub mod OneToOne
+pub mod MapErr
+pub mod Enumerate
 pub mod Filtering
 pub mod Answers
 pub mod Laws

@@ -9,8 +9,8 @@ pub mod sources;
 pub mod to_come;
 pub mod traits;
 
-pub use filtering::{Filter, FilterMap};
-pub use one_to_one::{Inspect, Map};
+pub use filtering::{Filter, FilterMap, SkipWhile};
+pub use one_to_one::{Cloned, Enumerate, Inspect, Map, MapErr, Scan};
 pub use sources::making::{convert, once, once_err};
 pub use sources::{Convert, Once, OnceErr};
 pub use traits::FallibleIterator;
