@@ -35,5 +35,5 @@ enumerate_source m = record {
   elements = λ p. m.elements p.0;
   gives = λ p y. InSlot p.1 (λ n. m.gives p.0 y.1 × (n ≤ y.0) × ((k : ℕ) → m.to_come p.0 k → y.0 < n + k));
   fails = λ p e. m.fails p.0 e;
-  hints = λ p h. m.hints p.0 h
+  hints = λ p h. m.hints p.0 h;
 }

@@ -55,5 +55,5 @@ map_err_source m g = record {
   elements = λ p. m.elements p.0;
   gives = λ p x. m.gives p.0 x;
   fails = λ p e. InSlot p.1 (λ f. MayFail m (call_on g) p.0 f e);
-  hints = λ p h. m.hints p.0 h
+  hints = λ p h. m.hints p.0 h;
 }

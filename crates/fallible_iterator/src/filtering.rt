@@ -66,8 +66,10 @@ pub struct FilterMap<I, F> {
     pub(crate) f: Option<F>,
 }
 
-impl<I: FallibleIterator, B, F: FnMut(I::Item) -> Result<Option<B>, I::Error>> FallibleIterator for FilterMap<I, F> {
+impl<I: FallibleIterator, B, F: FnMut(I::Item) -> Result<Option<B>, I::Error>> FallibleIterator
+    for FilterMap<I, F> {
     type Item = B;
+
     type Error = I::Error;
 
     ghost source = { seen_as filter_map_parts (filter_map_source I.source F.FnMut) };
@@ -111,11 +113,13 @@ pub struct SkipWhile<I, P> {
     pub(crate) predicate: Option<P>,
 }
 
-impl<I: FallibleIterator, P: FnMut(&I::Item) -> Result<bool, I::Error>> FallibleIterator for SkipWhile<I, P>
+impl<I: FallibleIterator, P: FnMut(&I::Item) -> Result<bool, I::Error>> FallibleIterator
+    for SkipWhile<I, P>
 where
     I::Item: Drop,
 {
     type Item = I::Item;
+
     type Error = I::Error;
 
     ghost source = { seen_as skip_while_parts (skip_while_source I.source P.FnMut) };
@@ -126,7 +130,10 @@ where
             Some(predicate) => predicate,
             None => unreachable!(),
         };
-        let ask = |state: (bool, P), x: I::Item| -> Result<(bool, P), ((bool, P), Result<I::Item, I::Error>)>
+        let ask = |state: (bool, P), x: I::Item| -> Result<
+            (bool, P),
+            ((bool, P), Result<I::Item, I::Error>),
+        >
             requires { skip_takes P.FnMut state x }
             ensures { PassTurn (skip_call P.FnMut) skip_while_outcome state x result }
         {

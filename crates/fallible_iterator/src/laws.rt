@@ -6,7 +6,10 @@ ghost use Rattle.fallible_iterator.specs.Answers.{answer_of, IsAnswers};
 mod passing;
 
 use crate::traits::FallibleIterator;
-pub use passing::{law_filter, law_filter_map, law_inspect, law_map};
+pub use passing::{
+    law_cloned, law_enumerate, law_filter, law_filter_map, law_inspect, law_map, law_map_err,
+    law_scan, law_skip_while,
+};
 use std::alloc::{AllocError, Global};
 
 /// What one draw answered.

@@ -59,11 +59,13 @@ pub struct Inspect<I, F> {
     pub(crate) f: Option<F>,
 }
 
-impl<I: FallibleIterator, F: FnMut(&I::Item) -> Result<(), I::Error>> FallibleIterator for Inspect<I, F>
+impl<I: FallibleIterator, F: FnMut(&I::Item) -> Result<(), I::Error>> FallibleIterator
+    for Inspect<I, F>
 where
     I::Item: Drop,
 {
     type Item = I::Item;
+
     type Error = I::Error;
 
     ghost source = { seen_as inspect_parts (inspect_source I.source F.FnMut) };
@@ -99,6 +101,7 @@ pub struct MapErr<I, F> {
 
 impl<I: FallibleIterator, B, F: FnMut(I::Error) -> B> FallibleIterator for MapErr<I, F> {
     type Item = I::Item;
+
     type Error = B;
 
     ghost source = { seen_as map_err_parts (map_err_source I.source F.FnMut) };
@@ -128,6 +131,7 @@ pub struct Enumerate<I> {
 
 impl<I: FallibleIterator> FallibleIterator for Enumerate<I> {
     type Item = (usize, I::Item);
+
     type Error = I::Error;
 
     ghost source = { seen_as enumerate_parts (enumerate_source I.source) };
@@ -160,8 +164,14 @@ pub struct Scan<I, St, F> {
     pub(crate) f: F,
 }
 
-impl<I: FallibleIterator, St: Drop, B, F: FnMut(&mut St, I::Item) -> Result<Option<B>, I::Error>> FallibleIterator for Scan<I, St, F> {
+impl<
+    I: FallibleIterator,
+    St: Drop,
+    B,
+    F: FnMut(&mut St, I::Item) -> Result<Option<B>, I::Error>,
+> FallibleIterator for Scan<I, St, F> {
     type Item = B;
+
     type Error = I::Error;
 
     ghost source = { seen_as scan_parts (scan_source I.source F.FnMut) };
@@ -193,6 +203,7 @@ where
     I::Error: From<AllocError>,
 {
     type Item = T;
+
     type Error = I::Error;
 
     ghost source = { seen_as cloned_parts (cloned_source T.is_clone T.is_infallible I.Error.from_gives I.source) };

@@ -48,7 +48,7 @@ module _ {S A E : Type 0} (steps : S → Answered A E → S → Type 0) where
     none = λ s n. from_numbered s s n n [] numbered_none;
     same = λ s t n k p. numbered_same s t n k (to_numbered s t n k [] p);
     joins = λ s u t n j k r rest p q. from_numbered s t n k (r ∷ rest) (numbered_joins s u t n j k r rest (to_numbered s u n j (r ∷ []) p) (to_numbered u t j k rest q));
-    splits = λ s t n k r rest p. numbered_splits s t n k r rest (to_numbered s t n k (r ∷ rest) p)
+    splits = λ s t n k r rest p. numbered_splits s t n k r rest (to_numbered s t n k (r ∷ rest) p);
   }
 
 module _ {S A E : Type 0} {steps : S → Answered A E → S → Type 0} {s t : S} {n : ℕ} where
@@ -71,21 +71,21 @@ module _ {S A E : Type 0} (m : Source S A E) (l : Lawful m) where
     has_end = a.has_end;
     answer = ((a.answer.0, omega arith, (λ j b. let d = a.answer.1 j b in omega (arith, d.2))), a.answer.1, a.answer.2);
     gives = λ y h. (a.gives y.1 h.0, omega (arith, h.1), (λ j b. let d = a.answer.1 j b in let e = h.2 d.0 d.1 in omega (arith, d.2, e)));
-    fails = a.fails
+    fails = a.fails;
   }
   numbered_goes s t n _ _ c (numbered_end step numbered_none) = let a = l.goes s (Ok None) t c.0 step in record {
     can = (a.can, (let b = a.answer.0 c.1.0 c.1.1 in (b.0, b.1, omega (arith, b.2, c.1.2))));
     has_end = a.has_end;
     answer = a.answer;
     gives = λ y h. (a.gives y.1 h.0, h.1, (λ j b. let d = a.answer.0 j b in let e = h.2 d.0 d.1 in omega (arith, d.2, e)));
-    fails = a.fails
+    fails = a.fails;
   }
   numbered_goes s t n _ _ c (numbered_failure e step numbered_none) = let a = l.goes s (Err e) t c.0 step in record {
     can = (a.can, (let b = a.answer.1 c.1.0 c.1.1 in (b.0, b.1, omega (arith, b.2, c.1.2))));
     has_end = a.has_end;
     answer = a.answer;
     gives = λ y h. (a.gives y.1 h.0, h.1, (λ j b. let d = a.answer.1 j b in let e = h.2 d.0 d.1 in omega (arith, d.2, e)));
-    fails = a.fails
+    fails = a.fails;
   }
 
   goes_enumerate : (p : S × Option ℕ) (r : Answered (ℕ × A) E) (q : S × Option ℕ) → M.can p → M.steps p r q → Goes M p r q

@@ -51,7 +51,7 @@ module _ {S F X D E : Type 0} (steps : S → Answered X D → S → Type 0) (cal
     none = λ s f. from_mapped s s f f [] mapped_none;
     same = λ s t f g p. mapped_same s t f g (to_mapped s t f g [] p);
     joins = λ s u t f h g r rest p q. from_mapped s t f g (r ∷ rest) (mapped_joins s u t f h g r rest (to_mapped s u f h (r ∷ []) p) (to_mapped u t h g rest q));
-    splits = λ s t f g r rest p. mapped_splits s t f g r rest (to_mapped s t f g (r ∷ rest) p)
+    splits = λ s t f g r rest p. mapped_splits s t f g r rest (to_mapped s t f g (r ∷ rest) p);
   }
 
 module _ {S F X D E : Type 0} {steps : S → Answered X D → S → Type 0} {call : F → D → E → F → Type 0} {s t : S} {f : F} where
@@ -105,7 +105,7 @@ module _ {S F X D E : Type 0} (m : Source S X D) (l : Lawful m) (g : Mut F (D ×
     has_end = a.has_end;
     answer = mapped_goes s t f h r c.0 p;
     gives = a.gives;
-    fails = λ e k. may_fail_after s t f h e a.fails reached k
+    fails = λ e k. may_fail_after s t f h e a.fails reached k;
   }
 
 pub lawful_map_err : {S F X D E : Type 0} {m : Source S X D} (g : Mut F (D × Unit {0}) E) → Lawful m → Lawful (map_err_source m g)

@@ -198,7 +198,7 @@ passing_by_answers steps call outcome = record {
   none = λ s f. from_passes done;
   same = λ s t f g p. passes_none steps call outcome s t f g (to_passes p);
   joins = λ s u t f h g r rest p q. from_passes (passes_cons steps call outcome s u t f h g r rest (to_passes p) (to_passes q));
-  splits = λ s t f g r rest p. passes_some steps call outcome s t f g r rest (passes_split steps call outcome s t f g r rest (to_passes p))
+  splits = λ s t f g r rest p. passes_some steps call outcome s t f g r rest (passes_split steps call outcome s t f g r rest (to_passes p));
 }
 
 -- ---- one draw as a fold that stops
