@@ -42,3 +42,8 @@ call_at g f x r f' = CalledAt g f x r f'
 
 abbrev pub takes_at : {F A R : Type 0} → Mut F (Bor A × Unit {0}) R → F → A → Type 0
 takes_at g f x = TakesAt g f x
+
+-- what a value holds beside its closure, in the closure's slot
+abbrev pub beside : {A F : Type 0} → A → Option F → Option (A × F)
+beside a (Some f) = Some (a, f)
+beside a None = None

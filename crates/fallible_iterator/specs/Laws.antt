@@ -5,8 +5,13 @@ pub mod Collecting
 pub mod Closures
 pub mod Folds
 pub mod Source
+pub mod Definitions
 pub mod Passing
+pub mod OneToOne
+pub mod MapErr
+pub mod Enumerate
 pub mod Filtering
 pub mod Sources
 pub mod SourceTraces
 pub mod Views
+pub mod Parts

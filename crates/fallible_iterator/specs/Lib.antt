@@ -4,9 +4,12 @@ pub mod Source
 pub mod Closures
 pub mod Parts
 pub mod Passing
+pub mod Definitions
 pub mod Folds
 pub mod Sources
 pub mod OneToOne
+pub mod MapErr
+pub mod Enumerate
 pub mod Filtering
 pub mod Answers
 pub mod Collecting

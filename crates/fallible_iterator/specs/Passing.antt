@@ -1,4 +1,4 @@
--- Adapters that let the answers of one source pass: of each item a closure is asked, and by its answer the item is kept as another, left out, or replaced by a failure.
+-- Adapters that let the answers of one source pass: of each item a closure is asked, and by its answer the item is kept as another, left out, or replaced by a failure or an end.
 use Rattle.std.specs.Prelude.{◌≡◌, ℕ, List, [], ◌∷◌, map, Option, Result, Some, None, Ok, Err, IsSome, ⊤, ◌⊎◌}
 use Rattle.std.specs.List.{filter_map}
 use Rattle.fallible_iterator.specs.declared.folds.Exit.{Exit}
@@ -12,6 +12,7 @@ pub data Outcome (B E : Type 0) : Type 0 where
   kept : B → Outcome B E
   left_out : Outcome B E
   failed : E → Outcome B E
+  an_end : Outcome B E
 
 -- one answer of the source: an item on which the closure was called, with what it answered, a failure, or an end
 pub data Place (X R E : Type 0) : Type 0 where
@@ -35,6 +36,7 @@ abbrev pub outcome_answer : {B E : Type 0} → Outcome B E → Option (Answered 
 outcome_answer (kept y) = Some (item y)
 outcome_answer left_out = None
 outcome_answer (failed e) = Some (failure e)
+outcome_answer an_end = Some end
 
 module _ {X R B E : Type 0} (outcome : X → R → Outcome B E) where
   -- the adapter's answer at a place; none where the item is left out
@@ -49,7 +51,7 @@ module _ {X R B E : Type 0} (outcome : X → R → Outcome B E) where
   EndsKept (p ∷ []) = IsSome (answer_at p)
   EndsKept (p ∷ q ∷ rest) = EndsKept (q ∷ rest)
 
--- The adapter's trace, drawn from a source at s with a closure f, is the source's trace without the left-out items, where an item that is kept as another, and one whose closure failed, is replaced. The source's trace doesn't end in a left-out item. The source is then t, and the closure, called on each item in order, is then g.
+-- The adapter's trace, drawn from a source at s with a closure f, is the source's trace without the left-out items, where an item that is kept as another, one whose closure failed and one that makes an end is replaced. The source's trace doesn't end in a left-out item. The source is then t, and the closure, called on each item in order, is then g.
 pub record PassTrace {S F X R B E : Type 0} (steps : S → Answered X E → S → Type 0) (call : F → X → R → F → Type 0) (outcome : X → R → Outcome B E) (s : S) (f : F) (trace : List (Answered B E)) (t : S) (g : F) : Type 0 where
   pub places : List (Place X R E)
   pub drawn : Run steps s (map source_answer places) t
@@ -69,7 +71,7 @@ pub record MayGive {S F X R B E : Type 0} (m : Source S X E) (call : F → X →
   pub outcome_is : outcome argument answer ≡ o
 
 -- the contract of such an adapter over a source and the slot of its closure
-abbrev pub passing : {S F X R B E : Type 0} → Source S X E → (F → X → R → F → Type 0) → (F → X → Type 0) → (X → R → Outcome B E) → (S → ℕ × Option ℕ → Type 0) → Source (S × Option F) B E
+abbrev pub passing : {S F X R B E : Type 0} → Source S X E → (F → X → R → F → Type 0) → (F → X → Type 0) → (X → R → Outcome B E) → (S × Option F → ℕ × Option ℕ → Type 0) → Source (S × Option F) B E
 passing m call pre outcome hints = record {
   can = λ p. m.can p.0 × InSlot p.1 (λ f. IsCallable call pre (m.gives p.0) f);
   steps = λ p r q. InSlots p.1 q.1 (λ f g. PassTrace m.steps call outcome p.0 f (r ∷ []) q.0 g);
@@ -78,7 +80,7 @@ passing m call pre outcome hints = record {
   elements = λ p. m.elements p.0;
   gives = λ p y. InSlot p.1 (λ f. MayGive m call outcome p.0 f (kept y));
   fails = λ p e. m.fails p.0 e ⊎ InSlot p.1 (λ f. MayGive m call outcome p.0 f (failed e));
-  hints = λ p h. hints p.0 h
+  hints = hints;
 }
 
 -- ---- one draw of such an adapter, as a fold of the source that stops

@@ -72,7 +72,7 @@ seen_as view m = record {
   elements = λ s. m.elements (view s);
   gives = λ s x. m.gives (view s) x;
   fails = λ s e. m.fails (view s) e;
-  hints = λ s h. m.hints (view s) h
+  hints = λ s h. m.hints (view s) h;
 }
 
 -- The contract of a type that says how it steps and how many items are left at most, and nothing else.
@@ -85,7 +85,7 @@ counting_down steps left = record {
   elements = λ _. endless;
   gives = λ _ _. ⊤;
   fails = λ _ _. ⊤;
-  hints = λ _ h. h ≡ (0, None)
+  hints = λ _ h. h ≡ (0, None);
 }
 
 -- The contract of a type that says how it steps, and states no bound on what comes.
@@ -98,5 +98,5 @@ unbounded steps = record {
   elements = λ _. endless;
   gives = λ _ _. ⊤;
   fails = λ _ _. ⊤;
-  hints = λ _ h. h ≡ (0, None)
+  hints = λ _ h. h ≡ (0, None);
 }

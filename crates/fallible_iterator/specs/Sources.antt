@@ -51,7 +51,7 @@ module _ {S A E Z : Type 0} (of_item : A → Z) (of_failure : E → Z) (can : S 
     elements = remaining;
     gives = λ s x. Comes s (item x);
     fails = λ s e. Comes s (failure e);
-    hints = λ s h. IsWithinCount h.0 (remaining s) × IfSome h.1 (UpTo (remaining s))
+    hints = λ s h. IsWithinCount h.0 (remaining s) × IfSome h.1 (UpTo (remaining s));
   }
 
 module _ {S A E : Type 0} (can : S → Type 0) (gives : S → Option (Result A E) → S → Type 0) (remaining : S → Count) where
@@ -98,7 +98,7 @@ once_source = record {
   elements = λ v. at_most (held_count v);
   gives = λ v x. v ≡ Some x;
   fails = λ _ _. ⊥;
-  hints = λ v h. h ≡ (held_count v, Some (held_count v))
+  hints = λ v h. h ≡ (held_count v, Some (held_count v));
 }
 
 abbrev pub once_err_source : {A E : Type 0} → Source (Option E) A E
@@ -110,7 +110,7 @@ once_err_source = record {
   elements = λ v. at_most (held_count v);
   gives = λ _ _. ⊥;
   fails = λ v e. v ≡ Some e;
-  hints = λ _ h. h ≡ (0, Some 0)
+  hints = λ _ h. h ≡ (0, Some 0);
 }
 
 -- ---- `FromFn`

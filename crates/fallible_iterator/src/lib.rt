@@ -11,8 +11,8 @@ pub mod to_come;
 pub mod traits;
 
 pub use collecting::{Collect, Fault};
-pub use filtering::Filter;
-pub use one_to_one::Map;
+pub use filtering::{Filter, FilterMap, SkipWhile};
+pub use one_to_one::{Cloned, Enumerate, Inspect, Map, MapErr, Scan};
 pub use sources::making::{convert, empty, from_fn, once, once_err, repeat, repeat_err};
 pub use sources::{Convert, Empty, FromFn, IntoFallible, Once, OnceErr, Repeat, RepeatErr};
 pub use traits::FallibleIterator;

@@ -21,6 +21,7 @@ pub struct Convert<I> {
 
 impl<T, E, I: std::iter::Iterator<Item = Result<T, E>>> FallibleIterator for Convert<I> {
     type Item = T;
+
     type Error = E;
 
     ghost source = { seen_as convert_source_of (convert_source I.can_next I.next_gives I.remaining) };
@@ -130,6 +131,7 @@ pub struct Once<T, E> {
 
 impl<T: Drop, E> FallibleIterator for Once<T, E> {
     type Item = T;
+
     type Error = E;
 
     ghost source = { seen_as once_item once_source };
@@ -157,6 +159,7 @@ pub struct OnceErr<T, E> {
 
 impl<T, E: Drop> FallibleIterator for OnceErr<T, E> {
     type Item = T;
+
     type Error = E;
 
     ghost source = { seen_as once_failure once_err_source };

@@ -1,25 +1,28 @@
 // The trait.
-ghost use Rattle.std.specs.Prelude.{◌≡◌, ℕ, ◌+◌, ◌-◌, ◌≤◌, ◌<◌, ◌^◌, List, Option, Result, Some, Ok, ◌↔◌};
+ghost use Rattle.std.specs.Prelude.{◌≡◌, ℕ, false, ◌+◌, ◌-◌, ◌≤◌, ◌<◌, ◌^◌, List, Option, Result, Some, Ok, ◌↔◌};
 ghost use Rattle.fallible_iterator.specs.Source.{Source, Lawful, Stays};
 ghost use Rattle.fallible_iterator.specs.Closures.{IsCallable, call_on, takes_on, call_at, takes_at};
-ghost use Rattle.fallible_iterator.specs.Parts.{map_parts, filter_parts};
+ghost use Rattle.fallible_iterator.specs.Filtering.{skip_call, skip_takes};
+ghost use Rattle.fallible_iterator.specs.OneToOne.{scan_call, scan_takes};
+ghost use Rattle.fallible_iterator.specs.Parts.{map_parts, inspect_parts, filter_parts, filter_map_parts, skip_while_parts, map_err_parts, enumerate_parts, scan_parts, cloned_parts};
 ghost use Rattle.fallible_iterator.specs.Collecting.{Collects, PushTurn};
 ghost use Rattle.fallible_iterator.specs.Folds.{CallableCarrying, Carried, CallableInFold, FoldTurn, Folded, Counted};
 
 mod borrowed;
 pub mod conversion;
 
+use crate::collecting::{Collect, Fault};
+use crate::filtering::{Filter, FilterMap, SkipWhile};
+use crate::folds::{Exit, Turn};
+use crate::one_to_one::{Cloned, Enumerate, Inspect, Map, MapErr, Scan};
+use crate::to_come::Number;
 use std::alloc::{AllocError, Global};
 use std::convert::Infallible;
 use std::marker::PhantomData;
-use crate::collecting::{Collect, Fault};
-use crate::filtering::Filter;
-use crate::folds::{Exit, Turn};
-use crate::one_to_one::Map;
-use crate::to_come::Number;
 
 pub trait FallibleIterator: Drop + Sized {
     type Item;
+
     type Error;
 
     // All that the contract says of the values of this type.
@@ -158,6 +161,91 @@ pub trait FallibleIterator: Drop + Sized {
             it: self,
             f: Some(f),
         }
+    }
+
+    /// Replaces each item by the value that the closure answers on it, and leaves it out where the answer is none. Making the adapter draws nothing and calls nothing.
+    final fn filter_map<B, F>(self, f: F) -> FilterMap<Self, F>
+    where
+        F: FnMut(Self::Item) -> Result<Option<B>, Self::Error>,
+        requires finite { source.has_end self }
+        requires callable { IsCallable (call_on F.FnMut) (takes_on F.FnMut) (source.gives self) f }
+        ensures { filter_map_parts result ≡ (self, Some f) }
+    {
+        FilterMap {
+            it: self,
+            f: Some(f),
+        }
+    }
+
+    /// Shows each item to the closure, and answers it then. Making the adapter draws nothing and calls nothing.
+    final fn inspect<F>(self, f: F) -> Inspect<Self, F>
+    where
+        F: FnMut(&Self::Item) -> Result<(), Self::Error>,
+        requires { IsCallable (call_at F.FnMut) (takes_at F.FnMut) (source.gives self) f }
+        ensures { inspect_parts result ≡ (self, Some f) }
+    {
+        Inspect {
+            it: self,
+            f: Some(f),
+        }
+    }
+
+    /// Replaces each failure by the closure's value on it. Making the adapter draws nothing and calls nothing.
+    final fn map_err<B, F>(self, f: F) -> MapErr<Self, F>
+    where
+        F: FnMut(Self::Error) -> B,
+        requires { IsCallable (call_on F.FnMut) (takes_on F.FnMut) (source.fails self) f }
+        ensures { map_err_parts result ≡ (self, Some f) }
+    {
+        MapErr { it: self, f }
+    }
+
+    /// Puts each item beside the number of items before it, from 0 on; the numbers are to fit a `usize`. Making the adapter draws nothing.
+    final fn enumerate(self) -> Enumerate<Self>
+        requires { source.to_come self (2 ^ 64 - 1) }
+        ensures { enumerate_parts result ≡ (self, Some 0) }
+    {
+        Enumerate { it: self, count: 0 }
+    }
+
+    /// Leaves out the items before the first one to which the predicate answers false. Making the adapter draws nothing and calls nothing.
+    final fn skip_while<P>(self, predicate: P) -> SkipWhile<Self, P>
+    where
+        P: FnMut(&Self::Item) -> Result<bool, Self::Error>,
+        requires finite { source.has_end self }
+        requires callable { IsCallable (skip_call P.FnMut) (skip_takes P.FnMut) (source.gives self) (false, predicate) }
+        ensures { skip_while_parts result ≡ (self, Some (false, predicate)) }
+    {
+        SkipWhile {
+            it: self,
+            found: false,
+            predicate: Some(predicate),
+        }
+    }
+
+    /// Replaces each item by the closure's answer on the state and the item, none being an end. Making the adapter draws nothing and calls nothing.
+    final fn scan<St, B, F>(self, initial_state: St, f: F) -> Scan<Self, St, F>
+    where
+        F: FnMut(&mut St, Self::Item) -> Result<Option<B>, Self::Error>,
+        requires { IsCallable (scan_call F.FnMut) (scan_takes F.FnMut) (source.gives self) (initial_state, f) }
+        ensures { scan_parts result ≡ (self, Some (initial_state, f)) }
+    {
+        Scan {
+            it: self,
+            state: initial_state,
+            f,
+        }
+    }
+
+    /// Replaces each item by a clone of what it points to, or by the failure made of a refused clone. Making the adapter draws nothing.
+    final fn cloned<'a, T: 'a>(self) -> Cloned<Self>
+    where
+        Self: FallibleIterator<Item = &'a T>,
+        T: Clone,
+        Self::Error: From<AllocError>,
+        ensures { cloned_parts result ≡ (self, Some tt) }
+    {
+        Cloned { it: self }
     }
 
     /// Makes a collection of the items up to the end. The collection is made first, and then each item is pushed as it is drawn; no room is taken ahead.

@@ -12,7 +12,7 @@ one_more_answer {s = s} {t = t} {u = u} {n = n} {r = r} p step = record {
   trace = p.trace ++ r ∷ [];
   ran = turns_then _ p.trace (r ∷ []) s t u p.ran (u, step, refl);
   values_are = ap (λ l. l ++ answer_of r ∷ []) p.values_are ∙ sym (map-append answer_of p.trace (r ∷ []));
-  count = length-append p.trace (r ∷ []) ∙ ap (λ k. k + 1) p.count
+  count = length-append p.trace (r ∷ []) ∙ ap (λ k. k + 1) p.count;
 }
 
 pub no_answers : {S A E : Type 0} {steps : S → Answered A E → S → Type 0} {s : S} → IsAnswers steps s 0 [] s

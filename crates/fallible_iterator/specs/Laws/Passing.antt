@@ -7,11 +7,12 @@ use Rattle.fallible_iterator.specs.declared.folds.Exit.TheVariants.{Ended, Faile
 use Rattle.fallible_iterator.specs.Traces.{Answered, Run, Yields, item}
 use Rattle.fallible_iterator.specs.Source.{Source, NoMore, Fewer, OnAnswer, Goes, Stays, Lawful}
 use Rattle.fallible_iterator.specs.Closures.{Calls, Reaches, IsCallable, InSlot, InSlots}
+use Rattle.fallible_iterator.specs.Laws.Definitions.{FirstOf, IsByAnswers}
 use Rattle.fallible_iterator.specs.Laws.Source.{given_after, stays_run, no_more, no_more_then}
 use Rattle.fallible_iterator.specs.Laws.Closures.{reaches_here, reaches_weaken, reaches_then, reaches_from, callable_after}
 use Rattle.fallible_iterator.specs.Folds.{HoldsAtEachTurn, CarryingExit, Carried}
 use Rattle.fallible_iterator.specs.Laws.Folds.{turns_map}
-use Rattle.fallible_iterator.specs.Passing.{PassTurn, stopped_answer, unpacked, Outcome, kept, left_out, failed, Place, asked, failure_at, end_at, source_answer, call_of, outcome_answer, answer_at, EndsKept, PassTrace, MayGive, passing}
+use Rattle.fallible_iterator.specs.Passing.{PassTurn, stopped_answer, unpacked, Outcome, kept, left_out, failed, an_end, Place, asked, failure_at, end_at, source_answer, call_of, outcome_answer, answer_at, EndsKept, PassTrace, MayGive, passing}
 
 module _ {S F X R B E : Type 0} (steps : S → Answered X E → S → Type 0) (call : F → X → R → F → Type 0) (outcome : X → R → Outcome B E) where
   -- the same as `PassTrace`, built from the first answer on
@@ -21,6 +22,7 @@ module _ {S F X R B E : Type 0} (steps : S → Answered X E → S → Type 0) (c
     fails : {s u t : S} {f g : F} {trace : List (Answered B E)} (e : E) → steps s (Err e) u → Passes u f trace t g → Passes s f (Err e ∷ trace) t g
     keeps : {s u t : S} {f h g : F} {trace : List (Answered B E)} (x : X) (v : R) (y : B) → steps s (item x) u → call f x v h → outcome x v ≡ kept y → Passes u h trace t g → Passes s f (item y ∷ trace) t g
     refuses : {s u t : S} {f h g : F} {trace : List (Answered B E)} (x : X) (v : R) (e : E) → steps s (item x) u → call f x v h → outcome x v ≡ failed e → Passes u h trace t g → Passes s f (Err e ∷ trace) t g
+    closes : {s u t : S} {f h g : F} {trace : List (Answered B E)} (x : X) (v : R) → steps s (item x) u → call f x v h → outcome x v ≡ an_end → Passes u h trace t g → Passes s f (Ok None ∷ trace) t g
     leaves_out : {s u t : S} {f h g : F} {r : Answered B E} {trace : List (Answered B E)} (x : X) (v : R) → steps s (item x) u → call f x v h → outcome x v ≡ left_out → Passes u h (r ∷ trace) t g → Passes s f (r ∷ trace) t g
 
 module _ {X R B E : Type 0} (outcome : X → R → Outcome B E) where
@@ -59,6 +61,7 @@ module _ {S F X R B E : Type 0} {steps : S → Answered X E → S → Type 0} {c
       → Passes steps call outcome u h (filter_map (answer_at outcome) rest) t g → Passes steps call outcome s f trace t g
   mutual_asked {s} {u} {t} {f} {h} {g} x v (kept y) is rest trace step called e close rests = subst (λ (l : List (Answered B E)). Passes steps call outcome s f l t g) (sym e) (keeps x v y step called is rests)
   mutual_asked {s} {u} {t} {f} {h} {g} x v (failed d) is rest trace step called e close rests = subst (λ (l : List (Answered B E)). Passes steps call outcome s f l t g) (sym e) (refuses x v d step called is rests)
+  mutual_asked {s} {u} {t} {f} {h} {g} x v an_end is rest trace step called e close rests = subst (λ (l : List (Answered B E)). Passes steps call outcome s f l t g) (sym e) (closes x v step called is rests)
   mutual_asked {s} {u} {t} {f} {h} {g} x v left_out is [] trace step called e close rests = absurd (let some : is_some (outcome_answer (outcome x v)) ≡ true = close in let none : is_some (outcome_answer {B = B} {E = E} left_out) ≡ true = subst (λ (o : Outcome B E). is_some (outcome_answer o) ≡ true) is some in cc)
   mutual_asked {s} {u} {t} {f} {h} {g} x v left_out is (p ∷ rest) trace step called e close rests = subst (λ (l : List (Answered B E)). Passes steps call outcome s f l t g) (sym e) (skip_first x v (filter_map (answer_at outcome) (p ∷ rest)) p rest step called is refl close rests)
 
@@ -77,6 +80,7 @@ module _ {S F X R B E : Type 0} {steps : S → Answered X E → S → Type 0} {c
   from_passes (fails {u = u} e step h) = let p = from_passes h in record { places = failure_at e ∷ p.places; drawn = (u, step, p.drawn); called = p.called; answers = ap (λ l. Err e ∷ l) p.answers; ends_kept = kept_cons outcome (failure_at e) p.places refl p.ends_kept }
   from_passes (keeps {u = u} {h = j} x v y step called is h) = let p = from_passes h in record { places = asked x v ∷ p.places; drawn = (u, step, p.drawn); called = (j, called, p.called); answers = rw is (ap (λ l. item y ∷ l) p.answers); ends_kept = kept_cons outcome (asked x v) p.places (rw is refl) p.ends_kept }
   from_passes (refuses {u = u} {h = j} x v e step called is h) = let p = from_passes h in record { places = asked x v ∷ p.places; drawn = (u, step, p.drawn); called = (j, called, p.called); answers = rw is (ap (λ l. Err e ∷ l) p.answers); ends_kept = kept_cons outcome (asked x v) p.places (rw is refl) p.ends_kept }
+  from_passes (closes {u = u} {h = j} x v step called is h) = let p = from_passes h in record { places = asked x v ∷ p.places; drawn = (u, step, p.drawn); called = (j, called, p.called); answers = rw is (ap (λ l. Ok None ∷ l) p.answers); ends_kept = kept_cons outcome (asked x v) p.places (rw is refl) p.ends_kept }
   from_passes (leaves_out {u = u} {h = j} {r = r} {trace = trace} x v step called is h) = let p = from_passes h in record { places = asked x v ∷ p.places; drawn = (u, step, p.drawn); called = (j, called, p.called); answers = rw is p.answers; ends_kept = kept_before outcome (asked x v) p.places r trace p.answers p.ends_kept }
 
 -- ---- the contract of what lets answers pass is lawful where the source's is
@@ -94,6 +98,7 @@ module _ {S F X R B E : Type 0} (m : Source S X E) (l : Lawful m) (call : F → 
   passes_reaches s t f g _ c (fails {u = u} e step p) = let a = l.goes s (Err e) u c step in reaches_weaken a.gives (passes_reaches u t f g _ a.can p)
   passes_reaches s t f g _ c (keeps {u = u} {h = h} x v y step called is p) = let a = l.goes s (item x) u c step in reaches_from x v a.answer.0 called (reaches_weaken a.gives (passes_reaches u t h g _ a.can p))
   passes_reaches s t f g _ c (refuses {u = u} {h = h} x v e step called is p) = let a = l.goes s (item x) u c step in reaches_from x v a.answer.0 called (reaches_weaken a.gives (passes_reaches u t h g _ a.can p))
+  passes_reaches s t f g _ c (closes {u = u} {h = h} x v step called is p) = let a = l.goes s (item x) u c step in reaches_from x v a.answer.0 called (reaches_weaken a.gives (passes_reaches u t h g _ a.can p))
   passes_reaches s t f g _ c (leaves_out {u = u} {h = h} x v step called is p) = let a = l.goes s (item x) u c step in reaches_from x v a.answer.0 called (reaches_weaken a.gives (passes_reaches u t h g _ a.can p))
 
   -- what may come after calls on what comes may come
@@ -103,7 +108,7 @@ module _ {S F X R B E : Type 0} (m : Source S X E) (l : Lawful m) (call : F → 
   may_give_here : (s : S) (f g : F) (o : Outcome B E) (x : X) (v : R) → m.gives s x → call f x v g → outcome x v ≡ o → MayGive m call outcome s f o
   may_give_here s f g o x v given called is = record { state = f; argument = x; answer = v; left = g; reached = reaches_here; given = given; called = called; outcome_is = is }
 
-  module _ (pre : F → X → Type 0) (hints : S → ℕ × Option ℕ → Type 0) where
+  module _ (pre : F → X → Type 0) (hints : S × Option F → ℕ × Option ℕ → Type 0) where
     abbrev M : Source (S × Option F) B E
     M = passing m call pre outcome hints
 
@@ -118,6 +123,7 @@ module _ {S F X R B E : Type 0} (m : Source S X E) (l : Lawful m) (call : F → 
     passes_answer s t f g _ c (fails e step done) = let a = (l.goes s (Err e) t c step).answer in (inl a.0, a.1, a.2)
     passes_answer s t f g _ c (keeps x v y step called is done) = let a = (l.goes s (item x) t c step).answer in (may_give_here s f g _ x v a.0 called is, a.1, a.2)
     passes_answer s t f g _ c (refuses x v e step called is done) = let a = (l.goes s (item x) t c step).answer in (inr (may_give_here s f g _ x v a.0 called is), (λ n b. let k = a.1 n b in (k.0, k.1, omega (arith, k.2))), a.2)
+    passes_answer s t f g _ c (closes x v step called is done) = let a = (l.goes s (item x) t c step).answer in ((λ n b. let k = a.1 n b in (k.0, k.1, omega (arith, k.2))), (λ d. let k = a.2 d in (k.0, omega (arith, k.1))))
     passes_answer s t f g r c (leaves_out {u = u} {h = h} x v step called is rest) = let a = l.goes s (item x) u c step in answer_after s u t f h g r x v a called (passes_answer u t h g r a.can rest)
 
     goes_passing : (p : S × Option F) (r : Answered B E) (q : S × Option F) → M.can p → M.steps p r q → Goes M p r q
@@ -128,10 +134,10 @@ module _ {S F X R B E : Type 0} (m : Source S X E) (l : Lawful m) (call : F → 
       has_end = a.has_end;
       answer = passes_answer s t f g r c.0 p;
       gives = λ y h. may_give_after s t f g _ a.gives reached h;
-      fails = λ e h. elim h [ inl b ↦ inl (a.fails e b) | inr b ↦ inr (may_give_after s t f g _ a.gives reached b) ]
+      fails = λ e h. elim h [ inl b ↦ inl (a.fails e b) | inr b ↦ inr (may_give_after s t f g _ a.gives reached b) ];
     }
 
-pub lawful_passing : {S F X R B E : Type 0} {m : Source S X E} (call : F → X → R → F → Type 0) (pre : F → X → Type 0) (outcome : X → R → Outcome B E) (hints : S → ℕ × Option ℕ → Type 0) → Lawful m → Lawful (passing m call pre outcome hints)
+pub lawful_passing : {S F X R B E : Type 0} {m : Source S X E} (call : F → X → R → F → Type 0) (pre : F → X → Type 0) (outcome : X → R → Outcome B E) (hints : S × Option F → ℕ × Option ℕ → Type 0) → Lawful m → Lawful (passing m call pre outcome hints)
 lawful_passing {m} call pre outcome hints l = record { goes = goes_passing m l call outcome pre hints; ends = λ p. l.ends p.0 }
 
 -- ---- one answer
@@ -149,6 +155,51 @@ module _ {S F X R B E : Type 0} {steps : S → Answered X E → S → Type 0} {c
 
   pub passes_failure : {e : E} → steps s (Err e) t → PassTrace steps call outcome s f (Err e ∷ []) t f
   passes_failure {e} step = from_passes (fails e step done)
+
+  -- an item that makes an end
+  pub passes_closing : {g : F} (x : X) (v : R) → steps s (item x) t → call f x v g → outcome x v ≡ an_end → PassTrace steps call outcome s f (Ok None ∷ []) t g
+  passes_closing x v step called is = from_passes (closes x v step called is done)
+
+-- ---- a whole trace is its answers, one draw after another
+
+module _ {S F X R B E : Type 0} (steps : S → Answered X E → S → Type 0) (call : F → X → R → F → Type 0) (outcome : X → R → Outcome B E) where
+  passes_cons : (s u t : S) (f h g : F) (r : Answered B E) (rest : List (Answered B E)) → Passes steps call outcome s f (r ∷ []) u h → Passes steps call outcome u h rest t g → Passes steps call outcome s f (r ∷ rest) t g
+  passes_cons s u t f h g _ rest (ends step done) q = ends step q
+  passes_cons s u t f h g _ rest (fails e step done) q = fails e step q
+  passes_cons s u t f h g _ rest (keeps x v y step called is done) q = keeps x v y step called is q
+  passes_cons s u t f h g _ rest (refuses x v e step called is done) q = refuses x v e step called is q
+  passes_cons s u t f h g _ rest (closes x v step called is done) q = closes x v step called is q
+  passes_cons s u t f h g r rest (leaves_out {u = w} {h = j} x v step called is p) q = leaves_out x v step called is (passes_cons w u t j h g r rest p q)
+
+  -- what the first answer leaves, and the rest from there
+  record FirstPassed (s : S) (f : F) (r : Answered B E) (rest : List (Answered B E)) (t : S) (g : F) : Type 0 where
+    source : S
+    closure : F
+    first : Passes steps call outcome s f (r ∷ []) source closure
+    others : Passes steps call outcome source closure rest t g
+
+  passes_split : (s t : S) (f g : F) (r : Answered B E) (rest : List (Answered B E)) → Passes steps call outcome s f (r ∷ rest) t g → FirstPassed s f r rest t g
+  passes_split s t f g _ rest (ends {u = u} step p) = record { source = u; closure = f; first = ends step done; others = p }
+  passes_split s t f g _ rest (fails {u = u} e step p) = record { source = u; closure = f; first = fails e step done; others = p }
+  passes_split s t f g _ rest (keeps {u = u} {h = h} x v y step called is p) = record { source = u; closure = h; first = keeps x v y step called is done; others = p }
+  passes_split s t f g _ rest (refuses {u = u} {h = h} x v e step called is p) = record { source = u; closure = h; first = refuses x v e step called is done; others = p }
+  passes_split s t f g _ rest (closes {u = u} {h = h} x v step called is p) = record { source = u; closure = h; first = closes x v step called is done; others = p }
+  passes_split s t f g r rest (leaves_out {u = u} {h = h} x v step called is p) = let q = passes_split u t h g r rest p in record { source = q.source; closure = q.closure; first = leaves_out x v step called is q.first; others = q.others }
+
+  -- what a trace of no answers leaves
+  passes_none : (s t : S) (f g : F) → Passes steps call outcome s f [] t g → (s ≡ t) × (f ≡ g)
+  passes_none s _ f _ done = (refl, refl)
+
+  passes_some : (s t : S) (f g : F) (r : Answered B E) (rest : List (Answered B E)) → FirstPassed s f r rest t g → FirstOf (PassTrace steps call outcome) s f r rest t g
+  passes_some s t f g r rest q = record { source = q.source; closure = q.closure; first = from_passes q.first; others = from_passes q.others }
+
+pub passing_by_answers : {S F X R B E : Type 0} (steps : S → Answered X E → S → Type 0) (call : F → X → R → F → Type 0) (outcome : X → R → Outcome B E) → IsByAnswers (PassTrace steps call outcome)
+passing_by_answers steps call outcome = record {
+  none = λ s f. from_passes done;
+  same = λ s t f g p. passes_none steps call outcome s t f g (to_passes p);
+  joins = λ s u t f h g r rest p q. from_passes (passes_cons steps call outcome s u t f h g r rest (to_passes p) (to_passes q));
+  splits = λ s t f g r rest p. passes_some steps call outcome s t f g r rest (passes_split steps call outcome s t f g r rest (to_passes p));
+}
 
 -- ---- one draw as a fold that stops
 

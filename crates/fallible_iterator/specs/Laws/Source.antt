@@ -22,7 +22,7 @@ module _ {S A E : Type 0} {m : Source S A E} where
     has_end = λ e. h.has_end (g.has_end e);
     to_come = no_more_then m s t u (no_more m s t r g.answer) h.to_come;
     gives = λ x p. g.gives x (h.gives x p);
-    fails = λ e p. g.fails e (h.fails e p)
+    fails = λ e p. g.fails e (h.fails e p);
   }
 
   pub stays_here : {s : S} → m.can s → Stays m s s
@@ -61,7 +61,7 @@ module _ {S A E : Type 0} {m : Source S A E} where
     has_end = λ e. q.has_end (p.has_end e);
     to_come = no_more_then m s t u p.to_come q.to_come;
     gives = λ x h. p.gives x (q.gives x h);
-    fails = λ e h. p.fails e (q.fails e h)
+    fails = λ e h. p.fails e (q.fails e h);
   }
 
   -- one more draw

@@ -34,9 +34,9 @@ module _ {S A E Z : Type 0} (of_item : A → Z) (of_failure : E → Z) (can : S 
       has_end = finite_after s t r step;
       answer = std_answer s t r c step;
       gives = λ x. comes_after s t r (item x) step;
-      fails = λ e. comes_after s t r (failure e) step
+      fails = λ e. comes_after s t r (failure e) step;
     };
-    ends = λ s. ((λ f. (size (remaining s), (f, omega arith))), (λ p. p.1.0))
+    ends = λ s. ((λ f. (size (remaining s), (f, omega arith))), (λ p. p.1.0));
   }
 
 module _ {A E : Type 0} where

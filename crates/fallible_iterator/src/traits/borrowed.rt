@@ -9,6 +9,7 @@ use crate::traits::FallibleIterator;
 
 impl<I: FallibleIterator> FallibleIterator for &mut I {
     type Item = I::Item;
+
     type Error = I::Error;
 
     ghost source = { borrowed I.source };
@@ -26,6 +27,7 @@ impl<I: FallibleIterator> FallibleIterator for &mut I {
 
 impl<I: FallibleIterator> FallibleIterator for Box<I> {
     type Item = I::Item;
+
     type Error = I::Error;
 
     ghost source = { seen_as (λ s. s.value) I.source };

@@ -12,5 +12,5 @@ loop-it-preserved g c = let i = c.loop-it.invariant in let d = c.draw-answer.ens
   room = omega (arith, i.room, e.capacity);
   within = rw e.len (omega arith);
   drawn = rw (e.len, e.items, d.2) (one_more_answer i.drawn d.1);
-  stays = stays_step g.met.I.FallibleIterator.lawful i.stays d.1
+  stays = stays_step g.met.I.FallibleIterator.lawful i.stays d.1;
 }

@@ -9,7 +9,7 @@ invariant-loop-it g l = let m = g.I.FallibleIterator.source in record {
   room : l.n ≤ vec_capacity l.made;
   within : vec_len l.made ≤ l.n;
   drawn : IsAnswers m.steps l.fn.it (vec_len l.made) l.made.items l.it;
-  stays : Stays m l.fn.it l.it
+  stays : Stays m l.fn.it l.it;
 }
 
 abbrev pub decreases-loop-it : goal.decreases-loop-it

@@ -21,11 +21,11 @@ loop-carried-preserved g c = let step = rw c.in-Ok-Some.field-0-is at c.in-Ok-So
     let goes = g.met.Self.FallibleIterator.lawful.goes _ _ _ c.loop-carried.invariant.can step in
     let b = c.loop-carried.invariant.bounded in
     let fewer = goes.answer.1 b.0 b.1 in record {
-  can = goes.can;
-  bounded = (fewer.0, fewer.1, omega (arith, fewer.2, b.2));
-  callable = holds_after c.loop-carried.invariant.callable step c.in-Ok.ensures;
-  whole = λ r t rest. c.loop-carried.invariant.whole r t (carried_after _ step c.in-Ok.ensures rest)
-}
+      can = goes.can;
+      bounded = (fewer.0, fewer.1, omega (arith, fewer.2, b.2));
+      callable = holds_after c.loop-carried.invariant.callable step c.in-Ok.ensures;
+      whole = λ r t rest. c.loop-carried.invariant.whole r t (carried_after _ step c.in-Ok.ensures rest);
+    }
 
 pub returns-in-Ok-None-clause-stays : goal.returns-in-Ok-None-clause-stays
 returns-in-Ok-None-clause-stays g c = let r = c.loop-carried.invariant.whole _ _ (carried_end (rw c.in-Ok-None.field-0-is at c.in-Ok-None.ensures)) in stays_run g.met.Self.FallibleIterator.lawful _ _ _ c.requires.can r.ran

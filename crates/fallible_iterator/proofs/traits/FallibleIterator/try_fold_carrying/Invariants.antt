@@ -8,7 +8,7 @@ invariant-loop-carried g l = let m = g.Self.FallibleIterator.source in record {
   can : m.can l.self;
   bounded : (n : ℕ) × m.to_come l.self n × (n ≤ l.left.value);
   callable : CallableCarrying m.steps (g.K.Turn.turns l.k) (g.K.Turn.can_turn l.k) l.self l.carried;
-  whole : (r : _) (t : _) → Carried m.steps (g.K.Turn.turns l.k) l.self l.carried r t → Carried m.steps (g.K.Turn.turns l.fn.k) l.fn.self l.fn.init r t
+  whole : (r : _) (t : _) → Carried m.steps (g.K.Turn.turns l.k) l.self l.carried r t → Carried m.steps (g.K.Turn.turns l.fn.k) l.fn.self l.fn.init r t;
 }
 
 abbrev pub decreases-loop-carried : goal.decreases-loop-carried
