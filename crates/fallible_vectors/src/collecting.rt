@@ -1,18 +1,157 @@
 // Collections.
-ghost use Rattle.std.specs.Prelude.{◌≡◌, ◌+◌, length, ⊤};
+ghost use Rattle.std.specs.Prelude.{◌≡◌, List, ⊤};
+ghost use Rattle.std.proofs.Common.{rules};
 
 use crate::listed::listed;
-use fallible_iterator::{Collect, FallibleIterator, Fault, IntoFallible};
+use fallible_iterator::{Collect, FallibleIterator, Fault, IntoFallible, IteratorExt};
 use std::alloc::{AllocError, Global};
+use std::convert::Infallible;
 use std::test::Fail;
+
+// What was collected, or the failure, where it was no want of memory.
+fn shown<C: Drop, E: Drop>(made: Result<C, Fault<E>>) -> Option<Result<C, E>> {
+    match made {
+        Ok(collection) => Some(Ok(collection)),
+        Err(Fault::Source(failure)) => Some(Err(failure)),
+        Err(Fault::Memory(_)) => None,
+    }
+}
+
+// Even items pass where 3 divides them, and odd ones fail.
+fn even_thirds(x: &u32) -> Result<bool, u32> {
+    if *x % 2 == 0 { Ok(*x % 3 == 0) } else { Err(*x) }
+}
 
 #[test]
 fn collect_doubled(rt: HostRuntime) -> Result<(), Fail> {
     let it = listed::<u32, u32, 5>(rt.alloc(), [Ok(0), Ok(1), Ok(2), Ok(3), Ok(4)])?;
     let made: Result<Vec<u32>, Fault<u32>> = it.map(|x: u32| Ok(x.wrapping_mul(2))).collect(rt.alloc());
+    let items = shown(made).expect(&rt, "memory").expect(&rt, "a failure");
+    assert_eq!(rt; items.as_slice(), [0, 2, 4, 6, 8].as_slice());
+    Ok(())
+}
+
+#[test]
+fn collect_fails_at_the_first_failure(rt: HostRuntime) -> Result<(), Fail> {
+    let it = listed::<u32, u32, 4>(rt.alloc(), [Ok(0), Err(1), Ok(2), Err(3)])?;
+    let made: Result<Vec<u32>, Fault<u32>> = it.collect(rt.alloc());
+    match shown(made) {
+        Some(Err(failure)) => assert_eq!(rt; failure, 1),
+        _ => assert!(rt; false),
+    }
+    Ok(())
+}
+
+#[test]
+fn collect_filtered_fails_by_the_predicate(rt: HostRuntime) -> Result<(), Fail> {
+    let it = listed::<u32, u32, 4>(rt.alloc(), [Ok(0), Ok(1), Ok(2), Ok(3)])?;
+    let made: Result<Vec<u32>, Fault<u32>> = it.filter(even_thirds).collect(rt.alloc());
+    match shown(made) {
+        Some(Err(failure)) => assert_eq!(rt; failure, 1),
+        _ => assert!(rt; false),
+    }
+    Ok(())
+}
+
+#[test]
+fn collect_filtered(rt: HostRuntime) -> Result<(), Fail> {
+    let it = listed::<u32, u32, 4>(rt.alloc(), [Ok(0), Ok(2), Ok(4), Ok(6)])?;
+    let made: Result<Vec<u32>, Fault<u32>> = it.filter(even_thirds).collect(rt.alloc());
+    let items = shown(made).expect(&rt, "memory").expect(&rt, "a failure");
+    assert_eq!(rt; items.as_slice(), [0, 6].as_slice());
+    Ok(())
+}
+
+#[test]
+fn collect_from_a_std_iterator(rt: HostRuntime) -> Result<(), Fail> {
+    let it = IntoFallible::from(0..4u32);
+    let made: Result<Vec<u32>, Fault<Infallible>> = it.collect(rt.alloc());
     match made {
-        Ok(items) => assert_eq!(rt; items.as_slice(), [0, 2, 4, 6, 8].as_slice()),
+        Ok(items) => assert_eq!(rt; items.as_slice(), [0, 1, 2, 3].as_slice()),
         Err(_) => assert!(rt; false),
     }
+    Ok(())
+}
+
+#[test]
+fn collect_after_into_fallible(rt: HostRuntime) -> Result<(), Fail> {
+    let made: Result<Vec<u32>, Fault<Infallible>> = (0..4u32).into_fallible().collect(rt.alloc());
+    match made {
+        Ok(items) => assert_eq!(rt; items.as_slice(), [0, 1, 2, 3].as_slice()),
+        Err(_) => assert!(rt; false),
+    }
+    Ok(())
+}
+
+// A collection of a user's own, which counts and never refuses.
+#[derive(Drop)]
+struct Total {
+    count: u64,
+}
+
+impl Collect<u32> for Total {
+    ghost made = { λ _ _. ⊤ };
+
+    ghost empty_refuses = { ⊥ };
+
+    ghost push_refuses = { λ _ _. ⊥ };
+
+    fn empty(_alloc: Global) -> Result<Total, AllocError> {
+        Ok(Total { count: 0 })
+    }
+
+    fn push_one(&mut self, _item: u32) -> Result<(), AllocError> {
+        self.count = self.count.wrapping_add(1);
+        Ok(())
+    }
+}
+
+#[test]
+fn collect_into_a_collection_that_counts(rt: HostRuntime) -> Result<(), Fail> {
+    let it = listed::<u32, u32, 3>(rt.alloc(), [Ok(1), Ok(2), Ok(3)])?;
+    let made: Result<Total, Fault<u32>> = it.collect(rt.alloc());
+    let total = shown(made).expect(&rt, "memory").expect(&rt, "a failure");
+    assert_eq!(rt; total.count, 3);
+    Ok(())
+}
+
+// A collection that asks for more room at each push than there is.
+#[derive(Drop)]
+struct Hungry {
+    items: Vec<u32>,
+    alloc: Global,
+}
+
+impl Collect<u32> for Hungry {
+    ghost made = { λ _ _. ⊤ };
+
+    ghost empty_refuses = { ⊥ };
+
+    ghost push_refuses = { λ _ _. ⊤ };
+
+    fn empty(alloc: Global) -> Result<Hungry, AllocError> {
+        Ok(Hungry {
+            items: Vec::new(alloc),
+            alloc,
+        })
+    }
+
+    fn push_one(&mut self, item: u32) -> Result<(), AllocError> {
+        let mut items = Vec::with_capacity(self.alloc, 1 << 60)?;
+        items.push(item)?;
+        self.items = items;
+        Ok(())
+    }
+}
+
+#[test]
+fn collect_refused_memory_leaves_the_rest(rt: HostRuntime) -> Result<(), Fail> {
+    let mut it = listed::<u32, u32, 3>(rt.alloc(), [Ok(1), Ok(2), Ok(3)])?;
+    let made: Result<Hungry, Fault<u32>> = it.by_ref().collect(rt.alloc());
+    match made {
+        Err(Fault::Memory(_)) => {}
+        _ => assert!(rt; false),
+    }
+    assert_eq!(rt; it.next(), Ok(Some(2)));
     Ok(())
 }

@@ -1,6 +1,7 @@
 // Sources.
 use fallible_iterator::laws::{Answer, answers};
-use fallible_iterator::{FallibleIterator, IntoFallible, IteratorExt, empty, from_fn, once, repeat, repeat_err};
+use fallible_iterator::{FallibleIterator, IteratorExt, empty, from_fn, once, repeat, repeat_err};
+use std::cell::Cell;
 use std::alloc::AllocError;
 use std::test::Fail;
 
@@ -63,5 +64,64 @@ fn repeat_err_always_fails(rt: HostRuntime) -> Result<(), Fail> {
     let mut it = repeat_err::<u32, Failure>(Failure::Number(4));
     let drawn = answers(rt.alloc(), &mut it, 3)?;
     assert_eq!(rt; drawn.as_slice(), [Answer::Failure(Failure::Number(4)), Answer::Failure(Failure::Number(4)), Answer::Failure(Failure::Number(4))].as_slice());
+    Ok(())
+}
+
+// A text whose second clone is refused.
+#[derive(Debug, Drop)]
+struct Text<'a> {
+    text: &'a str,
+    clones: &'a Cell<u32>,
+}
+
+impl<'a> Clone for Text<'a> {
+    fn clone(&self) -> Result<Text<'a>, AllocError> {
+        self.clones.set(self.clones.get().wrapping_add(1));
+        if self.clones.get() == 2 {
+            return Err(AllocError);
+        }
+        Ok(Text {
+            text: self.text,
+            clones: self.clones,
+        })
+    }
+}
+
+#[test]
+fn repeat_goes_on_after_a_refused_clone(rt: HostRuntime) {
+    let clones = Cell::new(0);
+    let mut it = repeat::<Text<'_>, Failure>(Text { text: "x", clones: &clones });
+    match it.next() {
+        Ok(Some(clone)) => assert_eq!(rt; clone.text, "x"),
+        _ => assert!(rt; false),
+    }
+    match it.next() {
+        Err(failure) => assert_eq!(rt; failure, Failure::Memory),
+        _ => assert!(rt; false),
+    }
+    match it.next() {
+        Ok(Some(clone)) => assert_eq!(rt; clone.text, "x"),
+        _ => assert!(rt; false),
+    }
+}
+
+#[test]
+fn transposed_gives_items_and_failures(rt: HostRuntime) -> Result<(), Fail> {
+    let mut it = Vec::from_array(rt.alloc(), [Ok::<u32, u32>(1), Err(2)])?
+        .into_iter()
+        .transpose_into_fallible();
+    assert_eq!(rt; it.next(), Ok(Some(1)));
+    assert_eq!(rt; it.next(), Err(2));
+    assert_eq!(rt; it.next(), Ok(None));
+    Ok(())
+}
+
+#[test]
+fn a_clone_answers_as_its_original(rt: HostRuntime) -> Result<(), Fail> {
+    let mut it = once::<u32, u32>(5);
+    let mut copy = it.clone()?;
+    assert_eq!(rt; it.next(), Ok(Some(5)));
+    assert_eq!(rt; it.next(), Ok(None));
+    assert_eq!(rt; copy.next(), Ok(Some(5)));
     Ok(())
 }
