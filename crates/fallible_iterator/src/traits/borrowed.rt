@@ -15,7 +15,7 @@ impl<I: FallibleIterator> FallibleIterator for &mut I {
     ghost source = { borrowed I.source };
 
     fn next(&mut self) -> Result<Option<I::Item>, I::Error> {
-        (**self).next()
+        I::next(&mut **self)
     }
 
     fn size_hint(&self) -> (usize, Option<usize>) {
