@@ -6,3 +6,10 @@ pub mod Source
 pub mod Passing
 pub mod Filtering
 pub mod Sources
+pub mod Views
+pub mod WithSteps
+pub mod Taking
+pub mod Closing
+pub mod Nth
+pub mod Skipping
+pub mod Stepping

@@ -8,5 +8,8 @@ pub mod Folds
 pub mod Sources
 pub mod OneToOne
 pub mod Filtering
+pub mod Cutting
+pub mod Skipping
+pub mod Stepping
 pub mod Answers
 pub mod Laws

@@ -3,7 +3,10 @@ ghost use Rattle.std.specs.Prelude.{◌≡◌, ℕ, ◌≤◌, IfOk, IfErr, Resu
 ghost use Rattle.fallible_iterator.specs.Source.{Source, Stays};
 ghost use Rattle.fallible_iterator.specs.Answers.{answer_of, IsAnswers};
 
+mod cutting;
+
 use crate::traits::FallibleIterator;
+pub use cutting::{law_fuse, law_skip, law_step_by, law_take, law_take_while};
 use std::alloc::{AllocError, Global};
 
 /// What one draw answered.
