@@ -1,5 +1,5 @@
 -- Folds.
-use Rattle.std.specs.Prelude.{◌≡◌, ℕ, length, List, [], ◌∷◌, ◌++◌, map, Option, Result, Some, None, Ok, Err}
+use Rattle.std.specs.Prelude.{◌≡◌, ℕ, ◌≤◌, length, List, [], ◌∷◌, ◌++◌, map, Option, Result, Some, None, Ok, Err}
 use Rattle.std.specs.List.{FoldsTo}
 use Rattle.std.specs.Fn.{Called, Takes, Mut}
 use Rattle.fallible_iterator.specs.declared.folds.Exit.{Exit}
@@ -86,3 +86,17 @@ pub record Counted {S A E : Type 0} (steps : S → Answered A E → S → Type 0
   pub left : S
   pub ran : Run steps s (map item items ++ last ∷ []) left
   pub exit : CountExit (length items) last r
+
+-- ---- nth
+
+-- n items were skipped before an item, and at most n before a failure or an end
+abbrev pub NthExit : {A E : Type 0} → ℕ → ℕ → Answered A E → Type 0
+NthExit n skipped (Ok (Some x)) = skipped ≡ n
+NthExit n skipped (Ok None) = skipped ≤ n
+NthExit n skipped (Err e) = skipped ≤ n
+
+-- The draws from s answered the skipped items and then r, the first answer that is the item with n items before it, a failure, or an end. They left t.
+pub record Nth {S A E : Type 0} (steps : S → Answered A E → S → Type 0) (s : S) (n : ℕ) (r : Answered A E) (t : S) : Type 0 where
+  pub skipped : List A
+  pub ran : Run steps s (map item skipped ++ r ∷ []) t
+  pub exit : NthExit n (length skipped) r

@@ -15,3 +15,9 @@ pub mod Sources
 pub mod SourceTraces
 pub mod Views
 pub mod Parts
+pub mod WithSteps
+pub mod Taking
+pub mod Closing
+pub mod Nth
+pub mod Skipping
+pub mod Stepping

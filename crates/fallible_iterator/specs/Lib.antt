@@ -11,6 +11,9 @@ pub mod OneToOne
 pub mod MapErr
 pub mod Enumerate
 pub mod Filtering
+pub mod Cutting
+pub mod Skipping
+pub mod Stepping
 pub mod Answers
 pub mod Collecting
 pub mod Borrowed

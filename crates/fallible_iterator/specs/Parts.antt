@@ -17,6 +17,11 @@ use Rattle.fallible_iterator.specs.declared.one_to_one.Scan.{Scan}
 use Rattle.fallible_iterator.specs.declared.filtering.SkipWhile.{SkipWhile}
 use Rattle.fallible_iterator.specs.declared.filtering.Filter.{Filter}
 use Rattle.fallible_iterator.specs.declared.filtering.FilterMap.{FilterMap}
+use Rattle.fallible_iterator.specs.declared.cutting.Take.{Take}
+use Rattle.fallible_iterator.specs.declared.cutting.Fuse.{Fuse}
+use Rattle.fallible_iterator.specs.declared.cutting.TakeWhile.{TakeWhile}
+use Rattle.fallible_iterator.specs.declared.cutting.skipping.Skip.{Skip}
+use Rattle.fallible_iterator.specs.declared.cutting.stepping.StepBy.{StepBy}
 
 -- the std iterator
 abbrev pub convert_source_of : {I : Type 0} → Convert I → I
@@ -73,3 +78,38 @@ enumerate_parts s = (s.it, Some s.count)
 -- the source, and nothing else
 abbrev pub cloned_parts : {I : Type 0} → Cloned I → I × Option (Unit {0})
 cloned_parts s = (s.it, Some tt)
+
+-- the source, and how many items are still to be taken, or to be left out
+abbrev pub take_parts : {I : Type 0} → Take I → I × ℕ
+take_parts s = (s.it, s.left)
+
+abbrev pub skip_parts : {I : Type 0} → Skip I → I × ℕ
+skip_parts s = (s.it, s.left)
+
+-- the source, and whether its end was met
+abbrev pub fuse_parts : {I : Type 0} → Fuse I → I × Bool
+fuse_parts s = (s.it, s.ended)
+
+-- the source and the slot of the predicate, and whether an item was refused
+abbrev pub take_while_parts : {I P : Type 0} → TakeWhile I P → (I × Option P) × Bool
+take_while_parts s = ((s.it, s.predicate), s.refused)
+
+-- the source, how many items are left out between two, and whether the first call is still to come
+abbrev pub step_by_parts : {I : Type 0} → StepBy I → I × (ℕ × Bool)
+step_by_parts s = (s.it, (s.between, s.first))
+
+-- the values of these parts
+abbrev pub take_of : {I : Type 0} → I × ℕ → Take I
+take_of p = record { it = p.0; left = p.1 }
+
+abbrev pub skip_of : {I : Type 0} → I × ℕ → Skip I
+skip_of p = record { it = p.0; left = p.1 }
+
+abbrev pub fuse_of : {I : Type 0} → I × Bool → Fuse I
+fuse_of p = record { it = p.0; ended = p.1 }
+
+abbrev pub take_while_of : {I P : Type 0} → (I × Option P) × Bool → TakeWhile I P
+take_while_of p = record { it = (p.0).0; predicate = (p.0).1; refused = p.1 }
+
+abbrev pub step_by_of : {I : Type 0} → I × (ℕ × Bool) → StepBy I
+step_by_of p = record { it = p.0; between = (p.1).0; first = (p.1).1 }

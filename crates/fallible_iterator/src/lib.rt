@@ -2,6 +2,7 @@
 #![tactic(auto)]
 
 pub mod collecting;
+pub mod cutting;
 pub mod filtering;
 pub mod folds;
 pub mod laws;
@@ -11,6 +12,7 @@ pub mod to_come;
 pub mod traits;
 
 pub use collecting::{Collect, Fault};
+pub use cutting::{Fuse, Skip, StepBy, Take, TakeWhile};
 pub use filtering::{Filter, FilterMap, SkipWhile};
 pub use one_to_one::{Cloned, Enumerate, Inspect, Map, MapErr, Scan};
 pub use sources::making::{convert, empty, from_fn, once, once_err, repeat, repeat_err};

@@ -1,17 +1,18 @@
 // The trait.
-ghost use Rattle.std.specs.Prelude.{◌≡◌, ℕ, false, ◌+◌, ◌-◌, ◌≤◌, ◌<◌, ◌^◌, List, Option, Result, Some, Ok, ◌↔◌};
+ghost use Rattle.std.specs.Prelude.{◌≡◌, ℕ, true, false, ◌+◌, ◌-◌, ◌≤◌, ◌<◌, ◌^◌, List, Option, Result, Some, Ok, ◌↔◌};
 ghost use Rattle.fallible_iterator.specs.Source.{Source, Lawful, Stays};
 ghost use Rattle.fallible_iterator.specs.Closures.{IsCallable, call_on, takes_on, call_at, takes_at};
 ghost use Rattle.fallible_iterator.specs.Filtering.{skip_call, skip_takes};
 ghost use Rattle.fallible_iterator.specs.OneToOne.{scan_call, scan_takes};
-ghost use Rattle.fallible_iterator.specs.Parts.{map_parts, inspect_parts, filter_parts, filter_map_parts, skip_while_parts, map_err_parts, enumerate_parts, scan_parts, cloned_parts};
+ghost use Rattle.fallible_iterator.specs.Parts.{map_parts, inspect_parts, filter_parts, filter_map_parts, skip_while_parts, map_err_parts, enumerate_parts, scan_parts, cloned_parts, take_parts, take_while_parts, fuse_parts, skip_parts, step_by_parts};
 ghost use Rattle.fallible_iterator.specs.Collecting.{Collects, PushTurn};
-ghost use Rattle.fallible_iterator.specs.Folds.{CallableCarrying, Carried, CallableInFold, FoldTurn, Folded, Counted};
+ghost use Rattle.fallible_iterator.specs.Folds.{CallableCarrying, Carried, CallableInFold, FoldTurn, Folded, Counted, Nth};
 
 mod borrowed;
 pub mod conversion;
 
 use crate::collecting::{Collect, Fault};
+use crate::cutting::{Fuse, Skip, StepBy, Take, TakeWhile};
 use crate::filtering::{Filter, FilterMap, SkipWhile};
 use crate::folds::{Exit, Turn};
 use crate::one_to_one::{Cloned, Enumerate, Inspect, Map, MapErr, Scan};
@@ -93,6 +94,26 @@ pub trait FallibleIterator: Drop + Sized {
         }
     }
 
+    /// The item with n items before it. It draws at most n + 1 answers; a failure or an end that comes first is the answer, and nothing is drawn after it.
+    fn nth(&mut self, n: usize) -> Result<Option<Self::Item>, Self::Error>
+    where
+        Self::Item: Drop,
+        requires { source.can self.old }
+        ensures nth { Nth source.steps self.old n result self.new }
+        ensures stays { Stays source self.old self.new }
+    {
+        let mut left = n;
+        while 0 < left {
+            match self.next() {
+                Ok(Some(_)) => {}
+                Ok(None) => return Ok(None),
+                Err(e) => return Err(e),
+            }
+            left -= 1;
+        }
+        self.next()
+    }
+
     // What the other functions know of a draw: see `Goes`.
     ghost lawful: { Lawful source };
 
@@ -160,6 +181,56 @@ pub trait FallibleIterator: Drop + Sized {
         Filter {
             it: self,
             f: Some(f),
+        }
+    }
+
+    /// Ends after n items. Making the adapter draws nothing, and so does each call after the n-th item.
+    final fn take(self, n: usize) -> Take<Self>
+        ensures { take_parts result ≡ (self, n) }
+    {
+        Take { it: self, left: n }
+    }
+
+    /// Ends at the first item that the predicate refuses, which is lost. Making the adapter draws nothing and calls nothing.
+    final fn take_while<P>(self, predicate: P) -> TakeWhile<Self, P>
+    where
+        P: FnMut(&Self::Item) -> Result<bool, Self::Error>,
+        requires { IsCallable (call_at P.FnMut) (takes_at P.FnMut) (source.gives self) predicate }
+        ensures { take_while_parts result ≡ ((self, Some predicate), false) }
+    {
+        TakeWhile {
+            it: self,
+            predicate: Some(predicate),
+            refused: false,
+        }
+    }
+
+    /// Ends for good at the first end. Making the adapter draws nothing.
+    final fn fuse(self) -> Fuse<Self>
+        ensures { fuse_parts result ≡ (self, false) }
+    {
+        Fuse {
+            it: self,
+            ended: false,
+        }
+    }
+
+    /// Leaves out the first n items, as far as neither a failure nor an end comes among them. Making the adapter draws nothing: its first call is `nth(n)`.
+    final fn skip(self, n: usize) -> Skip<Self>
+        ensures { skip_parts result ≡ (self, n) }
+    {
+        Skip { it: self, left: n }
+    }
+
+    /// Keeps the first item, and from then on the last of each `step` items. The step is at least 1. Making the adapter draws nothing.
+    final fn step_by(self, step: usize) -> StepBy<Self>
+        requires { 1 ≤ step }
+        ensures { step_by_parts result ≡ (self, (step - 1, true)) }
+    {
+        StepBy {
+            it: self,
+            between: step - 1,
+            first: true,
         }
     }
 

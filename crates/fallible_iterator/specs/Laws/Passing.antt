@@ -102,7 +102,7 @@ module _ {S F X R B E : Type 0} (m : Source S X E) (l : Lawful m) (call : F → 
   passes_reaches s t f g _ c (leaves_out {u = u} {h = h} x v step called is p) = let a = l.goes s (item x) u c step in reaches_from x v a.answer.0 called (reaches_weaken a.gives (passes_reaches u t h g _ a.can p))
 
   -- what may come after calls on what comes may come
-  may_give_after : (s t : S) (f g : F) (o : Outcome B E) → ((x : X) → m.gives t x → m.gives s x) → Reaches call (m.gives s) f g → MayGive m call outcome t g o → MayGive m call outcome s f o
+  pub may_give_after : (s t : S) (f g : F) (o : Outcome B E) → ((x : X) → m.gives t x → m.gives s x) → Reaches call (m.gives s) f g → MayGive m call outcome t g o → MayGive m call outcome s f o
   may_give_after s t f g o h r p = record { state = p.state; argument = p.argument; answer = p.answer; left = p.left; reached = reaches_then r (reaches_weaken h p.reached); given = h p.argument p.given; called = p.called; outcome_is = p.outcome_is }
 
   may_give_here : (s : S) (f g : F) (o : Outcome B E) (x : X) (v : R) → m.gives s x → call f x v g → outcome x v ≡ o → MayGive m call outcome s f o

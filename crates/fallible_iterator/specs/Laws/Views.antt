@@ -16,5 +16,12 @@ module _ {S P A : Type 0} (view : S → P) (make : P → S) (made : (s : S) → 
   pub runs_seen : (trace : List A) (s t : S) → FoldsTo (λ u r v. R (view u) r (view v)) s trace t ↔ FoldsTo R (view s) trace (view t)
   runs_seen trace s t = (to_view trace s t, from_view trace s t)
 
+  -- a law of the runs of what the values are seen as is one of the runs of the values
+  pub run_seen : {X : Type 0} (trace : List A) (p q : P) → FoldsTo R p trace q ↔ X → FoldsTo (λ u r v. R (view u) r (view v)) (make p) trace (make q) ↔ X
+  run_seen {X} trace p q law = (
+    (λ h. law.0 (subst (λ (z : P). FoldsTo R z trace q) (viewed p) (subst (λ (z : P). FoldsTo R (view (make p)) trace z) (viewed q) (to_view trace (make p) (make q) h)))),
+    (λ h. from_view trace (make p) (make q) (subst (λ (z : P). FoldsTo R z trace (view (make q))) (sym (viewed p)) (subst (λ (z : P). FoldsTo R p trace z) (sym (viewed q)) (law.1 h)))),
+  )
+
 pub iff_then : {A B C : Type 0} → A ↔ B → B ↔ C → A ↔ C
 iff_then p q = ((λ a. q.0 (p.0 a)), (λ c. p.1 (q.1 c)))

@@ -1,0 +1,37 @@
+-- `Skip`.
+use Rattle.std.specs.Prelude.{◌≡◌, ℕ, suc, ◌-◌, min, List, [], ◌∷◌, drop, Option, Some, None, Ok, Err, option_map}
+use Rattle.fallible_iterator.specs.Traces.{Answered, Run}
+use Rattle.fallible_iterator.specs.Source.{Source}
+use Rattle.fallible_iterator.specs.Folds.{Nth}
+use Rattle.fallible_iterator.specs.Cutting.{with_steps}
+
+-- how many items a trace begins with
+abbrev pub leading_items : {A E : Type 0} → List (Answered A E) → ℕ
+leading_items [] = 0
+leading_items (Ok (Some x) ∷ rest) = suc (leading_items rest)
+leading_items (Ok None ∷ rest) = 0
+leading_items (Err e ∷ rest) = 0
+
+-- what is left of a number after a trace's first answer: nothing
+abbrev pub left_after : {A E : Type 0} → List (Answered A E) → ℕ → ℕ
+left_after [] n = n
+left_after (r ∷ rest) n = 0
+
+-- `Skip` at n: the source's trace without its first n answers, or without the items that it begins with, where they are fewer. The source's trace doesn't end in a left-out item.
+pub record SkipTrace {S A E : Type 0} (steps : S → Answered A E → S → Type 0) (s : S) (n : ℕ) (trace : List (Answered A E)) (t : S) (left : ℕ) : Type 0 where
+  pub source_trace : List (Answered A E)
+  pub drawn : Run steps s source_trace t
+  pub answers : trace ≡ drop (min n (leading_items source_trace)) source_trace
+  pub last_kept : trace ≡ [] → source_trace ≡ []
+  pub remaining : left ≡ left_after trace n
+
+-- one answer: the source's `nth` at what is left to skip, which is nothing then
+abbrev pub skip_step : {S A E : Type 0} → (S → Answered A E → S → Type 0) → S × ℕ → Answered A E → S × ℕ → Type 0
+skip_step steps p r q = Nth steps p.0 p.1 r q.0 × (q.1 ≡ 0)
+
+-- each bound less n, and not below 0
+abbrev pub hint_less : ℕ → ℕ × Option ℕ → ℕ × Option ℕ
+hint_less n h = (h.0 - n, option_map (λ u. u - n) h.1)
+
+abbrev pub skip_source : {S A E : Type 0} → Source S A E → Source (S × ℕ) A E
+skip_source m = with_steps m (skip_step m.steps) (λ p h. (k : ℕ × Option ℕ) × m.hints p.0 k × (h ≡ hint_less p.1 k))

@@ -1,0 +1,41 @@
+// The whole-trace laws of the adapters that cut a trace off.
+ghost use Rattle.std.specs.Prelude.{◌≡◌, ℕ, Bool, Some, List, Option, Result, ◌↔◌};
+ghost use Rattle.fallible_iterator.specs.Traces.{Run};
+ghost use Rattle.fallible_iterator.specs.Parts.{take_of, fuse_of, take_while_of, skip_of, step_by_of};
+ghost use Rattle.fallible_iterator.specs.Cutting.{TakeTrace, FuseTrace, TakeWhileTrace};
+ghost use Rattle.fallible_iterator.specs.Skipping.{SkipTrace};
+ghost use Rattle.fallible_iterator.specs.Stepping.{StepByTrace};
+
+use crate::cutting::{Fuse, Skip, StepBy, Take, TakeWhile};
+use crate::traits::FallibleIterator;
+
+/// Law: what draws from a `Take` answer and leave is exactly what the definition of its traces says.
+pub fn law_take<I: FallibleIterator>()
+    ensures { (s : I) (n : ℕ) (trace : List (Result (Option I.Item) I.Error)) (t : I) (left : ℕ) → Run ⟦<Take<I> as FallibleIterator>⟧.source.steps (take_of (s, n)) trace (take_of (t, left)) ↔ TakeTrace I.source.steps s n trace t left }
+{}
+
+/// Law: what draws from a `Fuse` answer and leave is exactly what the definition of its traces says.
+pub fn law_fuse<I: FallibleIterator>()
+    ensures { (s : I) (ended : Bool) (trace : List (Result (Option I.Item) I.Error)) (t : I) (ended' : Bool) → Run ⟦<Fuse<I> as FallibleIterator>⟧.source.steps (fuse_of (s, ended)) trace (fuse_of (t, ended')) ↔ FuseTrace I.source.steps s ended trace t ended' }
+{}
+
+/// Law: what draws from a `TakeWhile` answer and leave is exactly what the definition of its traces says.
+pub fn law_take_while<I: FallibleIterator, P: FnMut(&I::Item) -> Result<bool, I::Error>>()
+where
+    I::Item: Drop,
+    ensures { (s : I) (f : P) (refused : Bool) (trace : List (Result (Option I.Item) I.Error)) (t : I) (f' : P) (refused' : Bool) → Run ⟦<TakeWhile<I, P> as FallibleIterator>⟧.source.steps (take_while_of ((s, Some f), refused)) trace (take_while_of ((t, Some f'), refused')) ↔ TakeWhileTrace I.source.steps P.FnMut s f refused trace t f' refused' }
+{}
+
+/// Law: what draws from a `Skip` answer and leave is exactly what the definition of its traces says.
+pub fn law_skip<I: FallibleIterator>()
+where
+    I::Item: Drop,
+    ensures { (s : I) (n : ℕ) (trace : List (Result (Option I.Item) I.Error)) (t : I) (left : ℕ) → Run ⟦<Skip<I> as FallibleIterator>⟧.source.steps (skip_of (s, n)) trace (skip_of (t, left)) ↔ SkipTrace I.source.steps s n trace t left }
+{}
+
+/// Law: what draws from a `StepBy` answer and leave is exactly what the definition of its traces says.
+pub fn law_step_by<I: FallibleIterator>()
+where
+    I::Item: Drop,
+    ensures { (s : I) (between : ℕ) (first : Bool) (trace : List (Result (Option I.Item) I.Error)) (t : I) (between' : ℕ) (first' : Bool) → Run ⟦<StepBy<I> as FallibleIterator>⟧.source.steps (step_by_of (s, (between, first))) trace (step_by_of (t, (between', first'))) ↔ StepByTrace I.source.steps s between first trace t between' first' }
+{}
