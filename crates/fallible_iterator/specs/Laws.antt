@@ -12,6 +12,7 @@ pub mod MapErr
 pub mod Enumerate
 pub mod Filtering
 pub mod Sources
+pub mod ToCome
 pub mod SourceTraces
 pub mod Views
 pub mod Parts

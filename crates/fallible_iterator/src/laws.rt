@@ -7,6 +7,7 @@ pub mod borrowed;
 mod cutting;
 mod passing;
 pub mod sources;
+mod to_come;
 
 use crate::traits::FallibleIterator;
 pub use borrowed::law_borrowed;
@@ -20,6 +21,7 @@ pub use sources::{
     law_repeat_err, law_sources,
 };
 use std::alloc::{AllocError, Global};
+pub use to_come::law_to_come;
 
 /// What one draw answered.
 #[derive(Debug, PartialEq, Eq, Drop)]
