@@ -1,5 +1,7 @@
 -- What follows from the definitions: lemmas that the laws of impls and the proofs cite.
 pub mod Answers
+pub mod Borrowed
+pub mod Collecting
 pub mod Closures
 pub mod Folds
 pub mod Source
@@ -11,3 +13,5 @@ pub mod Enumerate
 pub mod Filtering
 pub mod Sources
 pub mod Parts
+pub mod SourceTraces
+pub mod Views

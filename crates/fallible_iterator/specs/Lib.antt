@@ -12,4 +12,6 @@ pub mod MapErr
 pub mod Enumerate
 pub mod Filtering
 pub mod Answers
+pub mod Collecting
+pub mod Borrowed
 pub mod Laws

@@ -4,6 +4,10 @@ use Rattle.fallible_iterator.specs.Closures.{beside}
 use Rattle.fallible_iterator.specs.declared.sources.Convert.{Convert}
 use Rattle.fallible_iterator.specs.declared.sources.Once.{Once}
 use Rattle.fallible_iterator.specs.declared.sources.OnceErr.{OnceErr}
+use Rattle.fallible_iterator.specs.declared.sources.IntoFallible.{IntoFallible}
+use Rattle.fallible_iterator.specs.declared.sources.FromFn.{FromFn}
+use Rattle.fallible_iterator.specs.declared.sources.Repeat.{Repeat}
+use Rattle.fallible_iterator.specs.declared.sources.RepeatErr.{RepeatErr}
 use Rattle.fallible_iterator.specs.declared.one_to_one.Map.{Map}
 use Rattle.fallible_iterator.specs.declared.one_to_one.Inspect.{Inspect}
 use Rattle.fallible_iterator.specs.declared.one_to_one.Cloned.{Cloned}
@@ -17,6 +21,20 @@ use Rattle.fallible_iterator.specs.declared.filtering.FilterMap.{FilterMap}
 -- the std iterator
 abbrev pub convert_source_of : {I : Type 0} → Convert I → I
 convert_source_of s = s.it
+
+abbrev pub into_fallible_source_of : {I : Type 0} → IntoFallible I → I
+into_fallible_source_of s = s.it
+
+-- the closure
+abbrev pub from_fn_closure : {F : Type 0} → FromFn F → F
+from_fn_closure s = s.fun
+
+-- the value that is cloned
+abbrev pub repeat_value : {T E : Type 0} → Repeat T E → T
+repeat_value s = s.value
+
+abbrev pub repeat_err_value : {T E : Type 0} → RepeatErr T E → E
+repeat_err_value s = s.error
 
 -- the item, or the failure, that is still to come
 abbrev pub once_item : {T E : Type 0} → Once T E → Option T

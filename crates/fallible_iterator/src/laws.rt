@@ -3,12 +3,19 @@ ghost use Rattle.std.specs.Prelude.{◌≡◌, ℕ, ◌≤◌, IfOk, IfErr, Resu
 ghost use Rattle.fallible_iterator.specs.Source.{Source, Stays};
 ghost use Rattle.fallible_iterator.specs.Answers.{answer_of, IsAnswers};
 
+pub mod borrowed;
 mod passing;
+pub mod sources;
 
 use crate::traits::FallibleIterator;
+pub use borrowed::law_borrowed;
 pub use passing::{
     law_cloned, law_enumerate, law_filter, law_filter_map, law_inspect, law_map, law_map_err,
     law_scan, law_skip_while,
+};
+pub use sources::{
+    law_convert, law_empty, law_from_fn, law_into_fallible, law_once, law_once_err, law_repeat,
+    law_repeat_err, law_sources,
 };
 use std::alloc::{AllocError, Global};
 

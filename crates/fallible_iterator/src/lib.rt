@@ -1,6 +1,7 @@
 //! Fallible iterators: iterators whose `next` may fail, with adapters and folds, where every call is proved to meet its contract.
 #![tactic(auto)]
 
+pub mod collecting;
 pub mod filtering;
 pub mod folds;
 pub mod laws;
@@ -9,8 +10,10 @@ pub mod sources;
 pub mod to_come;
 pub mod traits;
 
+pub use collecting::{Collect, Fault};
 pub use filtering::{Filter, FilterMap, SkipWhile};
 pub use one_to_one::{Cloned, Enumerate, Inspect, Map, MapErr, Scan};
-pub use sources::making::{convert, once, once_err};
-pub use sources::{Convert, Once, OnceErr};
+pub use sources::making::{convert, empty, from_fn, once, once_err, repeat, repeat_err};
+pub use sources::{Convert, Empty, FromFn, IntoFallible, Once, OnceErr, Repeat, RepeatErr};
 pub use traits::FallibleIterator;
+pub use traits::conversion::{IntoFallibleIterator, IteratorExt};

@@ -5,15 +5,18 @@ ghost use Rattle.fallible_iterator.specs.Closures.{IsCallable, call_on, takes_on
 ghost use Rattle.fallible_iterator.specs.Filtering.{skip_call, skip_takes};
 ghost use Rattle.fallible_iterator.specs.OneToOne.{scan_call, scan_takes};
 ghost use Rattle.fallible_iterator.specs.Parts.{map_parts, inspect_parts, filter_parts, filter_map_parts, skip_while_parts, map_err_parts, enumerate_parts, scan_parts, cloned_parts};
+ghost use Rattle.fallible_iterator.specs.Collecting.{Collects, PushTurn};
 ghost use Rattle.fallible_iterator.specs.Folds.{CallableCarrying, Carried, CallableInFold, FoldTurn, Folded, Counted};
 
 mod borrowed;
+pub mod conversion;
 
+use crate::collecting::{Collect, Fault};
 use crate::filtering::{Filter, FilterMap, SkipWhile};
 use crate::folds::{Exit, Turn};
 use crate::one_to_one::{Cloned, Enumerate, Inspect, Map, MapErr, Scan};
 use crate::to_come::Number;
-use std::alloc::AllocError;
+use std::alloc::{AllocError, Global};
 use std::convert::Infallible;
 use std::marker::PhantomData;
 
@@ -243,5 +246,45 @@ pub trait FallibleIterator: Drop + Sized {
         ensures { cloned_parts result ≡ (self, Some tt) }
     {
         Cloned { it: self }
+    }
+
+    /// Makes a collection of the items up to the end. The collection is made first, and then each item is pushed as it is drawn; no room is taken ahead.
+    ///
+    /// `Fault::Source` of the first failure, after which nothing is drawn. `Fault::Memory` where the collection refused: nothing was drawn where it could not be made, and else the item that it refused was the last one drawn. Of a collection that never refuses it is never answered.
+    final fn collect<C: Collect<Self::Item>>(
+        mut self,
+        alloc: Global,
+    ) -> Result<C, Fault<Self::Error>>
+    where
+        requires can { source.can self }
+        requires finite { source.has_end self }
+        ensures { Collects source.steps C.made C.empty_refuses C.push_refuses self result }
+    {
+        let made = match C::empty(alloc) {
+            Ok(made) => made,
+            Err(refused) => return Err(Fault::Memory(refused)),
+        };
+        let push = |made: C, x: Self::Item| -> Result<C, AllocError>
+            ensures { PushTurn C.made C.push_refuses made x result }
+        {
+            let mut made = made;
+            match made.push_one(x) {
+                Ok(()) => Ok(made),
+                Err(refused) => Err(refused),
+            }
+        };
+        match self.try_fold_carrying(made, &push) {
+            Exit::Ended(made) => Ok(made),
+            Exit::Failed(_, e) => Err(Fault::Source(e)),
+            Exit::Stopped(refused) => Err(Fault::Memory(refused)),
+        }
+    }
+
+    /// Itself, borrowed: what is drawn from the borrow is drawn from it.
+    final fn by_ref(&mut self) -> &mut Self
+        ensures value { result.now ≡ self.old }
+        ensures same_reference { result.ghost_name ≡ self.entry.ghost_name }
+    {
+        self
     }
 }

@@ -2,6 +2,18 @@
 #![tactic(auto)]
 
 #[cfg(test)]
+mod borrowed;
+#[cfg(test)]
+mod collecting;
+#[cfg(test)]
+mod filtering;
+#[cfg(test)]
 mod listed;
 #[cfg(test)]
 mod one_to_one;
+#[cfg(test)]
+mod own_type;
+#[cfg(test)]
+mod sources;
+#[cfg(test)]
+mod traits;

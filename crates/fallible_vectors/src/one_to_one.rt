@@ -5,13 +5,6 @@ use fallible_iterator::laws::{Answer, answers};
 use std::test::Fail;
 
 #[test]
-fn count_of_four_items(rt: HostRuntime) -> Result<(), Fail> {
-    let it = listed::<u32, u32, 4>(rt.alloc(), [Ok(0), Ok(1), Ok(2), Ok(3)])?;
-    assert_eq!(rt; it.count(), Ok(4));
-    Ok(())
-}
-
-#[test]
 fn enumerate_counts_items_alone(rt: HostRuntime) -> Result<(), Fail> {
     let it = listed::<u32, (), 3>(rt.alloc(), [Ok(5), Err(()), Ok(6)])?;
     let mut it = it.enumerate();

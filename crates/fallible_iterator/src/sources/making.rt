@@ -1,8 +1,11 @@
 // The functions that make sources.
-ghost use Rattle.std.specs.Prelude.{◌≡◌, Some, None};
-ghost use Rattle.fallible_iterator.specs.Parts.{convert_source_of, once_item, once_failure};
+ghost use Rattle.std.specs.Prelude.{◌≡◌, Some, None, ⊤};
+ghost use Rattle.fallible_iterator.specs.Parts.{convert_source_of, from_fn_closure, once_item, once_failure, repeat_value, repeat_err_value};
+ghost use Rattle.fallible_iterator.specs.Closures.{IsCallable};
+ghost use Rattle.fallible_iterator.specs.Sources.{call_of_none};
 
-use crate::sources::{Convert, Once, OnceErr};
+use crate::sources::{Convert, Empty, FromFn, Once, OnceErr, Repeat, RepeatErr};
+use std::alloc::AllocError;
 use std::marker::PhantomData;
 
 /// Makes a fallible iterator of a std iterator over results. It draws nothing.
@@ -31,5 +34,41 @@ pub fn once_err<T, E>(error: E) -> OnceErr<T, E>
     OnceErr {
         item: PhantomData,
         error: Some(error),
+    }
+}
+
+/// Makes a fallible iterator of a closure, which is called once for each draw. It calls nothing now.
+pub fn from_fn<I, E, F: FnMut() -> Result<Option<I>, E>>(fun: F) -> FromFn<F>
+    requires { IsCallable (call_of_none F.FnMut) (λ f _. F.pre f) (λ _. ⊤) fun }
+    ensures { from_fn_closure result ≡ fun }
+{
+    FromFn { fun }
+}
+
+/// Makes a fallible iterator that only ends.
+pub fn empty<T, E>() -> Empty<T, E> {
+    Empty {
+        item: PhantomData,
+        error: PhantomData,
+    }
+}
+
+/// Makes a fallible iterator that always gives a clone of `value`.
+pub fn repeat<T: Clone, E: From<AllocError>>(value: T) -> Repeat<T, E>
+    ensures { repeat_value result ≡ value }
+{
+    Repeat {
+        value,
+        error: PhantomData,
+    }
+}
+
+/// Makes a fallible iterator that always fails with a clone of `error`.
+pub fn repeat_err<T, E: Clone + From<AllocError>>(error: E) -> RepeatErr<T, E>
+    ensures { repeat_err_value result ≡ error }
+{
+    RepeatErr {
+        item: PhantomData,
+        error,
     }
 }

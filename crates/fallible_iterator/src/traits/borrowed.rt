@@ -1,7 +1,9 @@
 // A fallible iterator behind a `&mut` or in a `Box` answers as it does itself.
 ghost use Rattle.std.specs.Prelude.{◌≡◌, Result, Option};
 ghost use Rattle.fallible_iterator.specs.Source.{seen_as};
+ghost use Rattle.fallible_iterator.specs.Borrowed.{borrowed};
 ghost use Rattle.fallible_iterator.specs.Laws.Source.{lawful_seen};
+ghost use Rattle.fallible_iterator.specs.Laws.Borrowed.{lawful_borrowed};
 
 use crate::traits::FallibleIterator;
 
@@ -10,7 +12,7 @@ impl<I: FallibleIterator> FallibleIterator for &mut I {
 
     type Error = I::Error;
 
-    ghost source = { seen_as (λ s. s.now) I.source };
+    ghost source = { borrowed I.source };
 
     fn next(&mut self) -> Result<Option<I::Item>, I::Error> {
         (**self).next()
@@ -20,7 +22,7 @@ impl<I: FallibleIterator> FallibleIterator for &mut I {
         (**self).size_hint()
     }
 
-    ghost lawful = { lawful_seen (λ s. s.now) I.lawful };
+    ghost lawful = { lawful_borrowed I.lawful };
 }
 
 impl<I: FallibleIterator> FallibleIterator for Box<I> {

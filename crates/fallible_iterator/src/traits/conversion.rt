@@ -1,0 +1,59 @@
+// What becomes a fallible iterator.
+ghost use Rattle.std.specs.Prelude.{◌≡◌};
+ghost use Rattle.fallible_iterator.specs.Parts.{convert_source_of, into_fallible_source_of};
+
+use crate::sources::{Convert, IntoFallible};
+use crate::traits::FallibleIterator;
+
+/// A value that becomes a fallible iterator. Every fallible iterator is one, and gives itself.
+pub trait IntoFallibleIterator {
+    type Item;
+
+    type Error;
+
+    type IntoFallibleIter: FallibleIterator<Item = Self::Item, Error = Self::Error>;
+
+    // Holds of the value and of what it may become.
+    ghost into_gives: { Self → Self.IntoFallibleIter → Type 0 };
+
+    /// Becomes the fallible iterator.
+    fn into_fallible_iter(self) -> Self::IntoFallibleIter
+        ensures { into_gives self result };
+}
+
+impl<I: FallibleIterator> IntoFallibleIterator for I {
+    type Item = I::Item;
+
+    type Error = I::Error;
+
+    type IntoFallibleIter = I;
+
+    ghost into_gives = { λ it result. result ≡ it };
+
+    fn into_fallible_iter(self) -> I {
+        self
+    }
+}
+
+/// What every std iterator has besides: two ways to become a fallible one. Neither draws anything.
+pub trait IteratorExt: std::iter::Iterator {
+    /// The fallible iterator whose items are the values of `Ok`, and whose failures are those of `Err`.
+    final fn transpose_into_fallible<T, E>(self) -> Convert<Self>
+    where
+        Self: Sized + std::iter::Iterator<Item = Result<T, E>>,
+        ensures { convert_source_of result ≡ self }
+    {
+        Convert { it: self }
+    }
+
+    /// The fallible iterator that gives the same elements and never fails.
+    final fn into_fallible<T>(self) -> IntoFallible<Self>
+    where
+        Self: Sized + std::iter::Iterator<Item = T>,
+        ensures { into_fallible_source_of result ≡ self }
+    {
+        IntoFallible { it: self }
+    }
+}
+
+impl<I: std::iter::Iterator> IteratorExt for I {}

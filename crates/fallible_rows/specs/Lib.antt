@@ -1,0 +1,4 @@
+pub mod Fault
+pub mod Report
+pub mod Rows
+pub mod Run

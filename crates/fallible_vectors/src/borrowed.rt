@@ -1,0 +1,24 @@
+// Borrowed sources.
+use crate::listed::listed;
+use fallible_iterator::FallibleIterator;
+use std::test::Fail;
+
+#[test]
+fn what_is_drawn_from_a_borrow_is_drawn_from_it(rt: HostRuntime) -> Result<(), Fail> {
+    let mut it = listed::<u32, u32, 3>(rt.alloc(), [Ok(1), Err(2), Ok(3)])?;
+    assert_eq!(rt; it.by_ref().next(), Ok(Some(1)));
+    assert_eq!(rt; it.next(), Err(2));
+    assert_eq!(rt; it.by_ref().count(), Ok(1));
+    assert_eq!(rt; it.next(), Ok(None));
+    Ok(())
+}
+
+#[test]
+fn a_box_answers_as_its_content(rt: HostRuntime) -> Result<(), Fail> {
+    let it = listed::<u32, u32, 2>(rt.alloc(), [Ok(1), Err(2)])?;
+    let mut boxed = Box::new(rt.alloc(), it)?;
+    assert_eq!(rt; boxed.next(), Ok(Some(1)));
+    assert_eq!(rt; boxed.next(), Err(2));
+    assert_eq!(rt; boxed.next(), Ok(None));
+    Ok(())
+}

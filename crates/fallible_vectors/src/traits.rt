@@ -1,0 +1,88 @@
+// The trait's own methods.
+use crate::listed::listed;
+use fallible_iterator::laws::{Answer, answers};
+use fallible_iterator::{FallibleIterator, convert, once, once_err};
+use std::test::Fail;
+
+// The sum, which fails with an item above 2.
+fn checked_sum(sum: u32, x: u32) -> Result<u32, u32> {
+    if x > 2 { Err(x) } else { Ok(sum.wrapping_add(x)) }
+}
+
+#[test]
+fn count_of_four_items(rt: HostRuntime) -> Result<(), Fail> {
+    let it = listed::<u32, u32, 4>(rt.alloc(), [Ok(0), Ok(1), Ok(2), Ok(3)])?;
+    assert_eq!(rt; it.count(), Ok(4));
+    Ok(())
+}
+
+#[test]
+fn count_fails_at_the_first_failure(rt: HostRuntime) -> Result<(), Fail> {
+    let it = listed::<u32, u32, 3>(rt.alloc(), [Ok(0), Err(7), Err(8)])?;
+    assert_eq!(rt; it.count(), Err(7));
+    Ok(())
+}
+
+#[test]
+fn fold_fails_by_its_closure(rt: HostRuntime) -> Result<(), Fail> {
+    let it = listed::<u32, u32, 4>(rt.alloc(), [Ok(0), Ok(1), Ok(3), Ok(2)])?;
+    assert_eq!(rt; it.fold(0, checked_sum), Err(3));
+    Ok(())
+}
+
+#[test]
+fn fold_sums(rt: HostRuntime) -> Result<(), Fail> {
+    let it = listed::<u32, u32, 4>(rt.alloc(), [Ok(0), Ok(1), Ok(2), Ok(1)])?;
+    assert_eq!(rt; it.fold(0, checked_sum), Ok(4));
+    Ok(())
+}
+
+#[test]
+fn try_fold_stops_and_leaves_the_rest(rt: HostRuntime) -> Result<(), Fail> {
+    let mut it = listed::<u32, u32, 4>(rt.alloc(), [Ok(1), Ok(2), Ok(3), Err(9)])?;
+    let stopped: Result<u32, u32> = it.try_fold(0, |sum: u32, x: u32| {
+        if x == 2 { Err(7) } else { Ok(sum.wrapping_add(x)) }
+    });
+    assert_eq!(rt; stopped, Err(7));
+    assert_eq!(rt; it.next(), Ok(Some(3)));
+    assert_eq!(rt; it.next(), Err(9));
+    Ok(())
+}
+
+#[test]
+fn answers_of_a_failure(rt: HostRuntime) -> Result<(), Fail> {
+    let mut it = once_err::<u32, u32>(4);
+    let drawn = answers(rt.alloc(), &mut it, 3)?;
+    assert_eq!(rt; drawn.as_slice(), [Answer::Failure(4), Answer::End, Answer::End].as_slice());
+    Ok(())
+}
+
+#[test]
+fn no_answers_draw_nothing(rt: HostRuntime) -> Result<(), Fail> {
+    let mut it = once::<u32, u32>(5);
+    let drawn = answers(rt.alloc(), &mut it, 0)?;
+    assert_eq!(rt; drawn.len(), 0);
+    assert_eq!(rt; it.next(), Ok(Some(5)));
+    Ok(())
+}
+
+#[test]
+fn answers_go_on_after_a_failure(rt: HostRuntime) -> Result<(), Fail> {
+    let mut it = listed::<u32, u32, 3>(rt.alloc(), [Ok(1), Err(2), Ok(3)])?;
+    let drawn = answers(rt.alloc(), &mut it, 4)?;
+    assert_eq!(rt; drawn.as_slice(), [Answer::Item(1), Answer::Failure(2), Answer::Item(3), Answer::End].as_slice());
+    Ok(())
+}
+
+#[test]
+fn count_of_rows_above_100_fails_at_a_bad_row(rt: HostRuntime) -> Result<(), Fail> {
+    let rows = "100\n200\nfern\n400".lines().map(|line| Ok::<&str, ()>(line));
+    let above = convert(rows.fuse())
+        .filter(|line| match line.parse::<u64>() {
+            Ok(number) => Ok(number > 100),
+            Err(_) => Err(()),
+        })
+        .count();
+    assert_eq!(rt; above, Err(()));
+    Ok(())
+}
