@@ -88,7 +88,7 @@ impl<I: FallibleIterator, B, F: FnMut(I::Item) -> Result<Option<B>, I::Error>> F
             match f(x) {
                 Ok(Some(y)) => Err((f, Ok(y))),
                 Ok(None) => Ok(f),
-                Err(e) => Err((f, Err(e))),
+                Err(failure) => Err((f, Err(failure))),
             }
         };
         let (f, answer) = unpack(self.it.try_fold_carrying(f, &ask));

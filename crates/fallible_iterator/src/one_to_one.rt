@@ -43,7 +43,7 @@ impl<I: FallibleIterator, B, F: FnMut(I::Item) -> Result<B, I::Error>> FallibleI
         match self.it.next() {
             Ok(Some(x)) => match &mut self.f {
                 Some(f) => match f(x) {
-                    Ok(y) => Ok(Some(y)),
+                    Ok(made) => Ok(Some(made)),
                     Err(e) => Err(e),
                 },
                 None => unreachable!(),
@@ -154,7 +154,7 @@ impl<I: FallibleIterator> FallibleIterator for Enumerate<I> {
                 Ok(Some((n, x)))
             }
             Ok(None) => Ok(None),
-            Err(e) => Err(e),
+            Err(failure) => Err(failure),
         }
     }
 

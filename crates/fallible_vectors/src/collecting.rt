@@ -9,7 +9,9 @@ use std::test::Fail;
 #[test]
 fn collect_doubled(rt: HostRuntime) -> Result<(), Fail> {
     let it = listed::<u32, u32, 5>(rt.alloc(), [Ok(0), Ok(1), Ok(2), Ok(3), Ok(4)])?;
-    let made: Result<Vec<u32>, Fault<u32>> = it.map(|x: u32| Ok(x.wrapping_mul(2))).collect(rt.alloc());
+    let made: Result<Vec<u32>, Fault<u32>> = it
+        .map(|x: u32| Ok(x.wrapping_mul(2)))
+        .collect(rt.alloc());
     match made {
         Ok(items) => assert_eq!(rt; items.as_slice(), [0, 2, 4, 6, 8].as_slice()),
         Err(_) => assert!(rt; false),

@@ -1,6 +1,8 @@
 // Sources.
 use fallible_iterator::laws::{Answer, answers};
-use fallible_iterator::{FallibleIterator, IntoFallible, IteratorExt, empty, from_fn, once, repeat, repeat_err};
+use fallible_iterator::{
+    FallibleIterator, IntoFallible, IteratorExt, empty, from_fn, once, repeat, repeat_err,
+};
 use std::alloc::AllocError;
 use std::test::Fail;
 
@@ -16,7 +18,10 @@ fn from_fn_goes_on_after_an_end(rt: HostRuntime) -> Result<(), Fail> {
         }
     });
     let drawn = answers(rt.alloc(), &mut it, 4)?;
-    assert_eq!(rt; drawn.as_slice(), [Answer::Item(1), Answer::End, Answer::Item(2), Answer::End].as_slice());
+    assert_eq!(rt;
+        drawn.as_slice(),
+        [Answer::Item(1), Answer::End, Answer::Item(2), Answer::End].as_slice()
+    );
     Ok(())
 }
 
@@ -62,6 +67,14 @@ impl Clone for Failure {
 fn repeat_err_always_fails(rt: HostRuntime) -> Result<(), Fail> {
     let mut it = repeat_err::<u32, Failure>(Failure::Number(4));
     let drawn = answers(rt.alloc(), &mut it, 3)?;
-    assert_eq!(rt; drawn.as_slice(), [Answer::Failure(Failure::Number(4)), Answer::Failure(Failure::Number(4)), Answer::Failure(Failure::Number(4))].as_slice());
+    assert_eq!(rt;
+        drawn.as_slice(),
+        [
+            Answer::Failure(Failure::Number(4)),
+            Answer::Failure(Failure::Number(4)),
+            Answer::Failure(Failure::Number(4))
+        ]
+        .as_slice()
+    );
     Ok(())
 }
