@@ -25,10 +25,17 @@ pub record EnumerateTrace {S A E : Type 0} (steps : S → Answered A E → S →
   pub answers : trace ≡ numbered_from n source
   pub left : k ≡ n + items_in source
 
+-- The source may be drawn from, and the numbers from n on of all items to come fit a `usize`.
+pub record IsNumberable {S A E : Type 0} (m : Source S A E) (s : S) (n : ℕ) : Type 0 where
+  pub can : m.can s
+  pub bound : ℕ
+  pub bounds : m.to_come s bound
+  pub fits : n + bound ≤ 2 ^ 64 - 1
+
 -- Its condition: one of the source, and the numbers of all items to come fit a `usize`. What may still come is an item that the source may give, with a number from the next one on, below each bound of those to come.
 abbrev pub enumerate_source : {S A E : Type 0} → Source S A E → Source (S × Option ℕ) (ℕ × A) E
 enumerate_source m = record {
-  can = λ p. m.can p.0 × InSlot p.1 (λ n. (k : ℕ) × m.to_come p.0 k × (n + k ≤ 2 ^ 64 - 1));
+  can = λ p. InSlot p.1 (λ n. IsNumberable m p.0 n);
   steps = λ p r q. InSlots p.1 q.1 (λ n k. EnumerateTrace m.steps p.0 n (r ∷ []) q.0 k);
   to_come = λ p n. m.to_come p.0 n;
   has_end = λ p. m.has_end p.0;

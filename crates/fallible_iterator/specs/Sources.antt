@@ -140,7 +140,7 @@ module _ {F A E : Type 0} (g : Mut F (Unit {0}) (Answered A E)) where
     elements = λ _. endless;
     gives = λ f x. Answers f (item x);
     fails = λ f e. Answers f (failure e);
-    hints = λ _ h. h ≡ (0, None)
+    hints = λ _ h. h ≡ (0, None);
   }
 
 -- ---- `Empty`, `Repeat` and `RepeatErr`
@@ -158,7 +158,7 @@ empty_source = record {
   elements = λ _. at_most 0;
   gives = λ _ _. ⊥;
   fails = λ _ _. ⊥;
-  hints = λ _ h. h ≡ (0, Some 0)
+  hints = λ _ h. h ≡ (0, Some 0);
 }
 
 module _ {A E : Type 0} (is_clone : A → A → Type 0) (is_infallible : A → Type 0) (from : AllocError → E → Type 0) where
@@ -181,7 +181,7 @@ module _ {A E : Type 0} (is_clone : A → A → Type 0) (is_infallible : A → T
     elements = λ _. endless;
     gives = λ v x. RepeatAnswer v (item x);
     fails = λ v e. RepeatAnswer v (failure e);
-    hints = λ _ h. h ≡ (2 ^ 64 - 1, None)
+    hints = λ _ h. h ≡ (2 ^ 64 - 1, None);
   }
 
 module _ {A E : Type 0} (is_clone : E → E → Type 0) (is_infallible : E → Type 0) (from : AllocError → E → Type 0) where
@@ -203,5 +203,5 @@ module _ {A E : Type 0} (is_clone : E → E → Type 0) (is_infallible : E → T
     elements = λ _. endless;
     gives = λ _ _. ⊥;
     fails = λ v e. RepeatErrAnswer v (failure e);
-    hints = λ _ h. h ≡ (0, Some 0)
+    hints = λ _ h. h ≡ (0, Some 0);
   }

@@ -59,7 +59,7 @@ where
 }
 
 /// The values that the closure answers. An item on which it answers none is left out; an item on which it fails is lost, and its failure is the answer.
-#[derive(Drop)]
+#[derive(Clone, Debug, Drop)]
 pub struct FilterMap<I, F> {
     pub(crate) it: I,
     // empty only during a call
@@ -88,7 +88,7 @@ impl<I: FallibleIterator, B, F: FnMut(I::Item) -> Result<Option<B>, I::Error>> F
             match f(x) {
                 Ok(Some(y)) => Err((f, Ok(y))),
                 Ok(None) => Ok(f),
-                Err(e) => Err((f, Err(e))),
+                Err(failure) => Err((f, Err(failure))),
             }
         };
         let (f, answer) = unpack(self.it.try_fold_carrying(f, &ask));
@@ -104,7 +104,7 @@ impl<I: FallibleIterator, B, F: FnMut(I::Item) -> Result<Option<B>, I::Error>> F
 }
 
 /// The items from the first one on to which the predicate answers false. It is asked up to and with that item and never again; an item on which it fails is lost, and its failure is the answer.
-#[derive(Drop)]
+#[derive(Clone, Debug, Drop)]
 pub struct SkipWhile<I, P> {
     pub(crate) it: I,
     // the predicate answered false

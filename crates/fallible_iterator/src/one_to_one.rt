@@ -43,7 +43,7 @@ impl<I: FallibleIterator, B, F: FnMut(I::Item) -> Result<B, I::Error>> FallibleI
         match self.it.next() {
             Ok(Some(x)) => match &mut self.f {
                 Some(f) => match f(x) {
-                    Ok(y) => Ok(Some(y)),
+                    Ok(made) => Ok(Some(made)),
                     Err(e) => Err(e),
                 },
                 None => unreachable!(),
@@ -61,7 +61,7 @@ impl<I: FallibleIterator, B, F: FnMut(I::Item) -> Result<B, I::Error>> FallibleI
 }
 
 /// The items of the source, each shown to the closure first. An item on which the closure fails is lost, and its failure is the answer.
-#[derive(Drop)]
+#[derive(Clone, Debug, Drop)]
 pub struct Inspect<I, F> {
     pub(crate) it: I,
     // empty only during a call
@@ -102,7 +102,7 @@ where
 }
 
 /// The source with each failure replaced by the closure's value on it. Its failures are those values; items and ends pass.
-#[derive(Drop)]
+#[derive(Clone, Debug, Drop)]
 pub struct MapErr<I, F> {
     pub(crate) it: I,
     pub(crate) f: F,
@@ -132,7 +132,7 @@ impl<I: FallibleIterator, B, F: FnMut(I::Error) -> B> FallibleIterator for MapEr
 }
 
 /// Each item beside the number of items drawn before it. Failures and ends pass, and don't count.
-#[derive(Drop)]
+#[derive(Clone, Debug, Drop)]
 pub struct Enumerate<I> {
     pub(crate) it: I,
     pub(crate) count: usize,
@@ -154,7 +154,7 @@ impl<I: FallibleIterator> FallibleIterator for Enumerate<I> {
                 Ok(Some((n, x)))
             }
             Ok(None) => Ok(None),
-            Err(e) => Err(e),
+            Err(failure) => Err(failure),
         }
     }
 
@@ -166,7 +166,7 @@ impl<I: FallibleIterator> FallibleIterator for Enumerate<I> {
 }
 
 /// Each item replaced by the closure's answer on the state and the item. None is an end, and the next call goes on; where the closure fails, its failure is the answer and the item is lost.
-#[derive(Drop)]
+#[derive(Clone, Debug, Drop)]
 pub struct Scan<I, St, F> {
     pub(crate) it: I,
     pub(crate) state: St,
@@ -202,7 +202,7 @@ impl<
 }
 
 /// A clone of what each item points to. Where the clone is refused, the failure made of the refusal is the answer and the item is lost.
-#[derive(Drop)]
+#[derive(Clone, Debug, Drop)]
 pub struct Cloned<I> {
     pub(crate) it: I,
 }

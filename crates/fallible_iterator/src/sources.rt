@@ -50,6 +50,7 @@ pub struct IntoFallible<I> {
 
 impl<T, I: std::iter::Iterator<Item = T>> FallibleIterator for IntoFallible<I> {
     type Item = T;
+
     type Error = Infallible;
 
     ghost source = { seen_as into_fallible_source_of (into_fallible_source I.can_next I.next_gives I.remaining) };
@@ -82,6 +83,7 @@ pub struct FromFn<F> {
 
 impl<T, E, F: FnMut() -> Result<Option<T>, E>> FallibleIterator for FromFn<F> {
     type Item = T;
+
     type Error = E;
 
     ghost source = { seen_as from_fn_closure (from_fn_source F.FnMut) };
@@ -107,6 +109,7 @@ pub struct Empty<T, E> {
 
 impl<T, E> FallibleIterator for Empty<T, E> {
     type Item = T;
+
     type Error = E;
 
     ghost source = { empty_source };
@@ -187,6 +190,7 @@ pub struct Repeat<T, E> {
 
 impl<T: Clone, E: From<AllocError>> FallibleIterator for Repeat<T, E> {
     type Item = T;
+
     type Error = E;
 
     ghost source = { seen_as repeat_value (repeat_source T.is_clone T.is_infallible E.from_gives) };
@@ -215,6 +219,7 @@ pub struct RepeatErr<T, E> {
 
 impl<T, E: Clone + From<AllocError>> FallibleIterator for RepeatErr<T, E> {
     type Item = T;
+
     type Error = E;
 
     ghost source = { seen_as repeat_err_value (repeat_err_source E.is_clone E.is_infallible E.from_gives) };

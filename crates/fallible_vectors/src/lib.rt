@@ -6,7 +6,11 @@ mod borrowed;
 #[cfg(test)]
 mod collecting;
 #[cfg(test)]
+mod filtering;
+#[cfg(test)]
 mod listed;
+#[cfg(test)]
+mod one_to_one;
 #[cfg(test)]
 mod own_type;
 #[cfg(test)]

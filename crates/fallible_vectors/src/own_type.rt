@@ -15,6 +15,7 @@ struct Countdown {
 
 impl FallibleIterator for Countdown {
     type Item = u32;
+
     type Error = ();
 
     // What a draw may answer and leave, and how many items are left at most.
@@ -49,6 +50,9 @@ fn is_mapped_and_filtered(rt: HostRuntime) -> Result<(), Fail> {
         .map(|x| Ok(x.wrapping_mul(2)))
         .filter(|x| Ok(*x % 4 == 0));
     let drawn = answers(rt.alloc(), &mut doubled, 3)?;
-    assert_eq!(rt; drawn.as_slice(), [Answer::Item(8), Answer::Item(4), Answer::End].as_slice());
+    assert_eq!(rt;
+        drawn.as_slice(),
+        [Answer::Item(8), Answer::Item(4), Answer::End].as_slice()
+    );
     Ok(())
 }

@@ -6,7 +6,11 @@ use std::test::Fail;
 
 // The sum, which fails with an item above 2.
 fn checked_sum(sum: u32, x: u32) -> Result<u32, u32> {
-    if x > 2 { Err(x) } else { Ok(sum.wrapping_add(x)) }
+    if x > 2 {
+        Err(x)
+    } else {
+        Ok(sum.wrapping_add(x))
+    }
 }
 
 #[test]
@@ -41,7 +45,11 @@ fn fold_sums(rt: HostRuntime) -> Result<(), Fail> {
 fn try_fold_stops_and_leaves_the_rest(rt: HostRuntime) -> Result<(), Fail> {
     let mut it = listed::<u32, u32, 4>(rt.alloc(), [Ok(1), Ok(2), Ok(3), Err(9)])?;
     let stopped: Result<u32, u32> = it.try_fold(0, |sum: u32, x: u32| {
-        if x == 2 { Err(7) } else { Ok(sum.wrapping_add(x)) }
+        if x == 2 {
+            Err(7)
+        } else {
+            Ok(sum.wrapping_add(x))
+        }
     });
     assert_eq!(rt; stopped, Err(7));
     assert_eq!(rt; it.next(), Ok(Some(3)));
@@ -53,7 +61,10 @@ fn try_fold_stops_and_leaves_the_rest(rt: HostRuntime) -> Result<(), Fail> {
 fn answers_of_a_failure(rt: HostRuntime) -> Result<(), Fail> {
     let mut it = once_err::<u32, u32>(4);
     let drawn = answers(rt.alloc(), &mut it, 3)?;
-    assert_eq!(rt; drawn.as_slice(), [Answer::Failure(4), Answer::End, Answer::End].as_slice());
+    assert_eq!(rt;
+        drawn.as_slice(),
+        [Answer::Failure(4), Answer::End, Answer::End].as_slice()
+    );
     Ok(())
 }
 
@@ -70,13 +81,24 @@ fn no_answers_draw_nothing(rt: HostRuntime) -> Result<(), Fail> {
 fn answers_go_on_after_a_failure(rt: HostRuntime) -> Result<(), Fail> {
     let mut it = listed::<u32, u32, 3>(rt.alloc(), [Ok(1), Err(2), Ok(3)])?;
     let drawn = answers(rt.alloc(), &mut it, 4)?;
-    assert_eq!(rt; drawn.as_slice(), [Answer::Item(1), Answer::Failure(2), Answer::Item(3), Answer::End].as_slice());
+    assert_eq!(rt;
+        drawn.as_slice(),
+        [
+            Answer::Item(1),
+            Answer::Failure(2),
+            Answer::Item(3),
+            Answer::End
+        ]
+        .as_slice()
+    );
     Ok(())
 }
 
 #[test]
 fn count_of_rows_above_100_fails_at_a_bad_row(rt: HostRuntime) -> Result<(), Fail> {
-    let rows = "100\n200\nfern\n400".lines().map(|line| Ok::<&str, ()>(line));
+    let rows = "100\n200\nfern\n400"
+        .lines()
+        .map(|line| Ok::<&str, ()>(line));
     let above = convert(rows.fuse())
         .filter(|line| match line.parse::<u64>() {
             Ok(number) => Ok(number > 100),

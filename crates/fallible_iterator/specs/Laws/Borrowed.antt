@@ -18,7 +18,7 @@ module _ {S A E : Type 0} (m : Source S A E) where
 pub lawful_borrowed : {S A E : Type 0} {m : Source S A E} → Lawful m → Lawful (borrowed m)
 lawful_borrowed {m = m} l = record {
   goes = λ s r t c step. let g = l.goes s.now r t.now c step.0 in record { can = g.can; has_end = g.has_end; answer = answer_borrowed m s t r g.answer; gives = g.gives; fails = g.fails };
-  ends = λ s. l.ends s.now
+  ends = λ s. l.ends s.now;
 }
 
 module _ {S A E : Type 0} (steps : S → Answered A E → S → Type 0) where

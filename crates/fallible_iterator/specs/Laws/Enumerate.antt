@@ -4,7 +4,7 @@ use Rattle.std.proofs.Common.{refl, sym, ◌∙◌, ap, subst, arith}
 use Rattle.fallible_iterator.specs.Traces.{Answered, Run, item}
 use Rattle.fallible_iterator.specs.Source.{Source, OnAnswer, Goes, Lawful}
 use Rattle.fallible_iterator.specs.Closures.{InSlot, InSlots}
-use Rattle.fallible_iterator.specs.Enumerate.{items_in, numbered_from, EnumerateTrace, enumerate_source}
+use Rattle.fallible_iterator.specs.Enumerate.{items_in, numbered_from, EnumerateTrace, IsNumberable, enumerate_source}
 use Rattle.fallible_iterator.specs.Laws.Definitions.{FirstOf, IsByAnswers}
 
 module _ {S A E : Type 0} (steps : S → Answered A E → S → Type 0) where
@@ -66,22 +66,22 @@ module _ {S A E : Type 0} (m : Source S A E) (l : Lawful m) where
   M = enumerate_source m
 
   numbered_goes : (s t : S) (n k : ℕ) (r : Answered (ℕ × A) E) → M.can (s, Some n) → Numbered m.steps s n (r ∷ []) t k → Goes M (s, Some n) r (t, Some k)
-  numbered_goes s t n _ _ c (numbered_item x step numbered_none) = let a = l.goes s (item x) t c.0 step in record {
-    can = (a.can, (let b = a.answer.1 c.1.0 c.1.1 in (b.0, b.1, omega (arith, b.2, c.1.2))));
+  numbered_goes s t n _ _ c (numbered_item x step numbered_none) = let a = l.goes s (item x) t c.can step in record {
+    can = (let b = a.answer.1 c.bound c.bounds in record { can = a.can; bound = b.0; bounds = b.1; fits = omega (arith, b.2, c.fits) });
     has_end = a.has_end;
     answer = ((a.answer.0, omega arith, (λ j b. let d = a.answer.1 j b in omega (arith, d.2))), a.answer.1, a.answer.2);
     gives = λ y h. (a.gives y.1 h.0, omega (arith, h.1), (λ j b. let d = a.answer.1 j b in let e = h.2 d.0 d.1 in omega (arith, d.2, e)));
     fails = a.fails;
   }
-  numbered_goes s t n _ _ c (numbered_end step numbered_none) = let a = l.goes s (Ok None) t c.0 step in record {
-    can = (a.can, (let b = a.answer.0 c.1.0 c.1.1 in (b.0, b.1, omega (arith, b.2, c.1.2))));
+  numbered_goes s t n _ _ c (numbered_end step numbered_none) = let a = l.goes s (Ok None) t c.can step in record {
+    can = (let b = a.answer.0 c.bound c.bounds in record { can = a.can; bound = b.0; bounds = b.1; fits = omega (arith, b.2, c.fits) });
     has_end = a.has_end;
     answer = a.answer;
     gives = λ y h. (a.gives y.1 h.0, h.1, (λ j b. let d = a.answer.0 j b in let e = h.2 d.0 d.1 in omega (arith, d.2, e)));
     fails = a.fails;
   }
-  numbered_goes s t n _ _ c (numbered_failure e step numbered_none) = let a = l.goes s (Err e) t c.0 step in record {
-    can = (a.can, (let b = a.answer.1 c.1.0 c.1.1 in (b.0, b.1, omega (arith, b.2, c.1.2))));
+  numbered_goes s t n _ _ c (numbered_failure e step numbered_none) = let a = l.goes s (Err e) t c.can step in record {
+    can = (let b = a.answer.1 c.bound c.bounds in record { can = a.can; bound = b.0; bounds = b.1; fits = omega (arith, b.2, c.fits) });
     has_end = a.has_end;
     answer = a.answer;
     gives = λ y h. (a.gives y.1 h.0, h.1, (λ j b. let d = a.answer.1 j b in let e = h.2 d.0 d.1 in omega (arith, d.2, e)));
@@ -95,7 +95,3 @@ module _ {S A E : Type 0} (m : Source S A E) (l : Lawful m) where
 
 pub lawful_enumerate : {S A E : Type 0} {m : Source S A E} → Lawful m → Lawful (enumerate_source m)
 lawful_enumerate {m = m} l = record { goes = goes_enumerate m l; ends = λ p. l.ends p.0 }
-
--- the number of the next item fits
-pub next_number_fits : {S A E : Type 0} {m : Source S A E} {s t : S} {x : A} (n : ℕ) → Lawful m → m.can s → (k : ℕ) × m.to_come s k × (n + k ≤ 2 ^ 64 - 1) → m.steps s (item x) t → n + 1 ≤ 2 ^ 64 - 1
-next_number_fits {s = s} {t = t} {x = x} n l c b step = let d = (l.goes s (item x) t c step).answer.1 b.0 b.1 in omega (arith, d.2, b.2)

@@ -94,9 +94,9 @@ module _ {F A E : Type 0} (g : Mut F (Unit {0}) (Answered A E)) where
       has_end = λ e. e;
       answer = from_fn_answer f h r called;
       gives = λ x. answers_after f h r (item x) called;
-      fails = λ e. answers_after f h r (failure e) called
+      fails = λ e. answers_after f h r (failure e) called;
     };
-    ends = λ f. ((λ e. absurd e), (λ p. p.1))
+    ends = λ f. ((λ e. absurd e), (λ p. p.1));
   }
 
 module _ {S A E : Type 0} where

@@ -15,5 +15,4 @@ pub fn law_borrowed<'a, I: FallibleIterator + 'a>()
     ensures run_borrowed { (s : MutBor I) (trace : List (Answered I.Item I.Error)) (x : I) → Run I.source.steps s.now trace x → Run ⟦<&'a mut I as FallibleIterator>⟧.source.steps s trace (record s { now = x }) }
     ensures boxed_run { (s : Box I Global) (trace : List (Answered I.Item I.Error)) (t : Box I Global) → Run ⟦<Box<I> as FallibleIterator>⟧.source.steps s trace t → Run I.source.steps s.value trace t.value }
     ensures run_boxed { (s : Box I Global) (trace : List (Answered I.Item I.Error)) (x : I) → Run I.source.steps s.value trace x → Run ⟦<Box<I> as FallibleIterator>⟧.source.steps s trace (record s { value = x }) }
-{
-}
+{}

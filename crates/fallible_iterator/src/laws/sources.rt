@@ -21,50 +21,42 @@ use std::convert::Infallible;
 /// A trace of `Convert` is, place by place, the std iterator's answers: `Ok` is an item, `Err` a failure, none an end.
 pub fn law_convert<T, E, I: std::iter::Iterator<Item = Result<T, E>>>()
     ensures { (s : Convert I) (trace : List (Answered T E)) (t : Convert I) → Run ⟦<Convert<I> as FallibleIterator>⟧.source.steps s trace t ↔ ConvertTrace I.can_next I.next_gives I.remaining (convert_source_of s) trace (convert_source_of t) }
-{
-}
+{}
 
 /// A trace of `IntoFallible` is, place by place, the std iterator's answers: each element is an item, none an end.
 pub fn law_into_fallible<T, I: std::iter::Iterator<Item = T>>()
     ensures { (s : IntoFallible I) (trace : List (Answered T Infallible)) (t : IntoFallible I) → Run ⟦<IntoFallible<I> as FallibleIterator>⟧.source.steps s trace t ↔ IntoFallibleTrace I.can_next I.next_gives I.remaining (into_fallible_source_of s) trace (into_fallible_source_of t) }
-{
-}
+{}
 
 /// A trace of `FromFn` is the closure's answers, one call a draw.
 pub fn law_from_fn<T, E, F: FnMut() -> Result<Option<T>, E>>()
     ensures { (s : FromFn F) (trace : List (Answered T E)) (t : FromFn F) → Run ⟦<FromFn<F> as FallibleIterator>⟧.source.steps s trace t ↔ FromFnTrace F.FnMut (from_fn_closure s) trace (from_fn_closure t) }
-{
-}
+{}
 
 /// A trace of `Empty` has only ends.
 pub fn law_empty<T, E>()
     ensures { (s : Empty T E) (trace : List (Answered T E)) (t : Empty T E) → Run ⟦<Empty<T, E> as FallibleIterator>⟧.source.steps s trace t ↔ EmptyTrace trace }
-{
-}
+{}
 
 /// A trace of `Once` is its item, and then ends.
 pub fn law_once<T: Drop, E>()
     ensures { (s : Once T E) (trace : List (Answered T E)) (t : Once T E) → Run ⟦<Once<T, E> as FallibleIterator>⟧.source.steps s trace t ↔ OnceTrace item (once_item s) trace (once_item t) }
-{
-}
+{}
 
 /// A trace of `OnceErr` is its failure, and then ends.
 pub fn law_once_err<T, E: Drop>()
     ensures { (s : OnceErr T E) (trace : List (Answered T E)) (t : OnceErr T E) → Run ⟦<OnceErr<T, E> as FallibleIterator>⟧.source.steps s trace t ↔ OnceTrace failure (once_failure s) trace (once_failure t) }
-{
-}
+{}
 
 /// A trace of `Repeat` has clones of its value as items, and, where a clone was refused, the failure made of the refusal.
 pub fn law_repeat<T: Clone, E: From<AllocError>>()
     ensures { (s : Repeat T E) (trace : List (Answered T E)) (t : Repeat T E) → Run ⟦<Repeat<T, E> as FallibleIterator>⟧.source.steps s trace t ↔ RepeatTrace T.is_clone T.is_infallible E.from_gives (repeat_value s) trace (repeat_value t) }
-{
-}
+{}
 
 /// A trace of `RepeatErr` has clones of its error as failures, and, where a clone was refused, the failure made of the refusal.
 pub fn law_repeat_err<T, E: Clone + From<AllocError>>()
     ensures { (s : RepeatErr T E) (trace : List (Answered T E)) (t : RepeatErr T E) → Run ⟦<RepeatErr<T, E> as FallibleIterator>⟧.source.steps s trace t ↔ RepeatErrTrace E.is_clone E.is_infallible E.from_gives (repeat_err_value s) trace (repeat_err_value t) }
-{
-}
+{}
 
 /// What a trace of each source is, all together: see the law of each.
 pub fn law_sources<T, E, I, J, F>()

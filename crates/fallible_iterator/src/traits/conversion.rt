@@ -8,7 +8,9 @@ use crate::traits::FallibleIterator;
 /// A value that becomes a fallible iterator. Every fallible iterator is one, and gives itself.
 pub trait IntoFallibleIterator {
     type Item;
+
     type Error;
+
     type IntoFallibleIter: FallibleIterator<Item = Self::Item, Error = Self::Error>;
 
     // Holds of the value and of what it may become.
@@ -21,7 +23,9 @@ pub trait IntoFallibleIterator {
 
 impl<I: FallibleIterator> IntoFallibleIterator for I {
     type Item = I::Item;
+
     type Error = I::Error;
+
     type IntoFallibleIter = I;
 
     ghost into_gives = { λ it result. result ≡ it };

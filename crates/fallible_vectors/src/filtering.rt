@@ -1,0 +1,121 @@
+// Adapters that leave items out.
+use crate::listed::listed;
+use fallible_iterator::FallibleIterator;
+use fallible_iterator::laws::{Answer, answers};
+use std::test::Fail;
+
+#[test]
+fn skip_while_leaves_a_failed_item_and_skips_on(rt: HostRuntime) -> Result<(), Fail> {
+    let it = listed::<u32, u32, 3>(rt.alloc(), [Ok(1), Ok(2), Ok(3)])?;
+    let mut it = it.skip_while(|x: &u32| if *x == 2 { Err(8) } else { Ok(*x < 3) });
+    assert_eq!(rt; it.next(), Err(8));
+    assert_eq!(rt; it.next(), Ok(Some(3)));
+    assert_eq!(rt; it.next(), Ok(None));
+    Ok(())
+}
+
+#[test]
+fn skip_while_nothing_is_refused(rt: HostRuntime) -> Result<(), Fail> {
+    let it = listed::<u32, (), 5>(rt.alloc(), [Ok(1), Ok(2), Ok(3), Ok(4), Ok(1)])?;
+    let mut it = it.skip_while(|x: &u32| Ok(*x < 1));
+    let drawn = answers(rt.alloc(), &mut it, 6)?;
+    assert_eq!(rt;
+        drawn.as_slice(),
+        [
+            Answer::Item(1),
+            Answer::Item(2),
+            Answer::Item(3),
+            Answer::Item(4),
+            Answer::Item(1),
+            Answer::End
+        ]
+        .as_slice()
+    );
+    Ok(())
+}
+
+#[test]
+fn skip_while_keeps_all_from_its_first_false(rt: HostRuntime) -> Result<(), Fail> {
+    let it = listed::<u32, (), 5>(rt.alloc(), [Ok(1), Ok(2), Ok(3), Ok(4), Ok(1)])?;
+    let mut it = it.skip_while(|x: &u32| Ok(*x < 3));
+    let drawn = answers(rt.alloc(), &mut it, 4)?;
+    assert_eq!(rt;
+        drawn.as_slice(),
+        [
+            Answer::Item(3),
+            Answer::Item(4),
+            Answer::Item(1),
+            Answer::End
+        ]
+        .as_slice()
+    );
+    Ok(())
+}
+
+#[test]
+fn skip_while_skips_all(rt: HostRuntime) -> Result<(), Fail> {
+    let it = listed::<u32, (), 5>(rt.alloc(), [Ok(1), Ok(2), Ok(3), Ok(4), Ok(1)])?;
+    let mut it = it.skip_while(|x: &u32| Ok(*x < 5));
+    assert_eq!(rt; it.next(), Ok(None));
+    Ok(())
+}
+
+// Even gives 10 more, divisible by 3 none, and all else fails.
+fn even_or_third(x: u32) -> Result<Option<u32>, u32> {
+    if x % 2 == 0 {
+        Ok(Some(x.wrapping_add(10)))
+    } else if x % 3 == 0 {
+        Ok(None)
+    } else {
+        Err(x)
+    }
+}
+
+#[test]
+fn filter_map_fails_by_its_closure(rt: HostRuntime) -> Result<(), Fail> {
+    let it = listed::<u32, u32, 7>(
+        rt.alloc(),
+        [Ok(0), Ok(1), Ok(2), Ok(3), Ok(4), Ok(5), Ok(6)],
+    )?;
+    let mut it = it.filter_map(even_or_third);
+    assert_eq!(rt; it.next(), Ok(Some(10)));
+    assert_eq!(rt; it.next(), Err(1));
+    Ok(())
+}
+
+#[test]
+fn filter_map_leaves_out_nones(rt: HostRuntime) -> Result<(), Fail> {
+    let it = listed::<u32, u32, 5>(rt.alloc(), [Ok(0), Ok(2), Ok(3), Ok(4), Ok(6)])?;
+    let mut it = it.filter_map(even_or_third);
+    let drawn = answers(rt.alloc(), &mut it, 5)?;
+    assert_eq!(rt;
+        drawn.as_slice(),
+        [
+            Answer::Item(10),
+            Answer::Item(12),
+            Answer::Item(14),
+            Answer::Item(16),
+            Answer::End
+        ]
+        .as_slice()
+    );
+    Ok(())
+}
+
+#[test]
+fn filter_goes_on_after_a_failed_item(rt: HostRuntime) -> Result<(), Fail> {
+    let it = listed::<u32, u32, 4>(rt.alloc(), [Ok(0), Ok(2), Ok(4), Ok(6)])?;
+    let mut it = it.filter(|x: &u32| if *x == 2 { Err(2) } else { Ok(*x != 4) });
+    let drawn = answers(rt.alloc(), &mut it, 4)?;
+    assert_eq!(rt;
+        drawn.as_slice(),
+        [
+            Answer::Item(0),
+            Answer::Failure(2),
+            Answer::Item(6),
+            Answer::End
+        ]
+        .as_slice()
+    );
+    Ok(())
+}

@@ -1,0 +1,232 @@
+// Adapters with one answer for each draw.
+use crate::listed::listed;
+use fallible_iterator::laws::{Answer, answers};
+use fallible_iterator::{FallibleIterator, convert};
+use std::alloc::AllocError;
+use std::test::Fail;
+
+#[test]
+fn map_fails_on_an_item(rt: HostRuntime) -> Result<(), Fail> {
+    let it = listed::<u32, (), 5>(rt.alloc(), [Ok(0), Ok(1), Ok(2), Ok(3), Ok(4)])?;
+    let mut it = it.map(|x: u32| if x == 2 {
+        Err(())
+    } else {
+        Ok(x.wrapping_mul(2))
+    });
+    assert_eq!(rt; it.next(), Ok(Some(0)));
+    assert_eq!(rt; it.next(), Ok(Some(2)));
+    assert_eq!(rt; it.next(), Err(()));
+    Ok(())
+}
+
+#[test]
+fn map_keeps_its_closure_where_a_fold_stops(rt: HostRuntime) -> Result<(), Fail> {
+    let it = listed::<u32, u32, 4>(rt.alloc(), [Ok(1), Ok(2), Ok(3), Ok(4)])?;
+    let mut calls = 0u32;
+    let mut it = it.map(move |x: u32| {
+        calls = calls.wrapping_add(1);
+        Ok(x.wrapping_mul(10).wrapping_add(calls))
+    });
+    let stopped: Result<u32, u32> = it.try_fold(0, |sum: u32, y: u32| {
+        if y == 22 {
+            Err(7)
+        } else {
+            Ok(sum.wrapping_add(y))
+        }
+    });
+    assert_eq!(rt; stopped, Err(7));
+    assert_eq!(rt; it.next(), Ok(Some(33)));
+    Ok(())
+}
+
+#[test]
+fn inspect_shows_each_item(rt: HostRuntime) -> Result<(), Fail> {
+    let it = listed::<u32, (), 4>(rt.alloc(), [Ok(0), Ok(1), Ok(2), Ok(3)])?;
+    let mut seen = Vec::new(rt.alloc());
+    let counted = it
+        .inspect(|x: &u32| match seen.push(*x) {
+            Ok(()) => Ok(()),
+            Err(_) => Err(()),
+        })
+        .count();
+    assert_eq!(rt; counted, Ok(4));
+    assert_eq!(rt; seen.as_slice(), [0, 1, 2, 3].as_slice());
+    Ok(())
+}
+
+#[test]
+fn inspect_fails_on_an_item(rt: HostRuntime) -> Result<(), Fail> {
+    let it = listed::<u32, u32, 3>(rt.alloc(), [Ok(1), Ok(2), Ok(3)])?;
+    let mut it = it.inspect(|x: &u32| if *x == 2 { Err(20) } else { Ok(()) });
+    let drawn = answers(rt.alloc(), &mut it, 4)?;
+    assert_eq!(rt;
+        drawn.as_slice(),
+        [
+            Answer::Item(1),
+            Answer::Failure(20),
+            Answer::Item(3),
+            Answer::End
+        ]
+        .as_slice()
+    );
+    Ok(())
+}
+
+#[test]
+fn enumerate_counts_items_alone(rt: HostRuntime) -> Result<(), Fail> {
+    let it = listed::<u32, (), 3>(rt.alloc(), [Ok(5), Err(()), Ok(6)])?;
+    let mut it = it.enumerate();
+    assert_eq!(rt; it.next(), Ok(Some((0, 5))));
+    assert_eq!(rt; it.next(), Err(()));
+    assert_eq!(rt; it.next(), Ok(Some((1, 6))));
+    Ok(())
+}
+
+#[test]
+fn enumerate_numbers_four_items(rt: HostRuntime) -> Result<(), Fail> {
+    let it = listed::<u32, (), 4>(rt.alloc(), [Ok(5), Ok(6), Ok(7), Ok(8)])?;
+    let mut it = it.enumerate();
+    let drawn = answers(rt.alloc(), &mut it, 5)?;
+    assert_eq!(rt;
+        drawn.as_slice(),
+        [
+            Answer::Item((0, 5)),
+            Answer::Item((1, 6)),
+            Answer::Item((2, 7)),
+            Answer::Item((3, 8)),
+            Answer::End
+        ]
+        .as_slice()
+    );
+    Ok(())
+}
+
+#[test]
+fn scan_goes_on_after_a_none(rt: HostRuntime) -> Result<(), Fail> {
+    let it = listed::<u32, (), 4>(rt.alloc(), [Ok(1), Ok(2), Ok(9), Ok(3)])?;
+    let mut it = it.scan((), |_, x: u32| if x > 5 { Ok(None) } else { Ok(Some(x)) });
+    let drawn = answers(rt.alloc(), &mut it, 4)?;
+    assert_eq!(rt;
+        drawn.as_slice(),
+        [
+            Answer::Item(1),
+            Answer::Item(2),
+            Answer::End,
+            Answer::Item(3)
+        ]
+        .as_slice()
+    );
+    Ok(())
+}
+
+#[test]
+fn scan_keeps_its_state(rt: HostRuntime) -> Result<(), Fail> {
+    let it = listed::<i32, (), 4>(rt.alloc(), [Ok(1), Ok(2), Ok(3), Ok(4)])?;
+    let mut it = it.scan(0, |sum: &mut i32, x: i32| {
+        if x > 3 {
+            return Ok(None);
+        }
+        *sum = sum.wrapping_add(x);
+        Ok(Some(sum.wrapping_neg()))
+    });
+    let drawn = answers(rt.alloc(), &mut it, 4)?;
+    assert_eq!(rt;
+        drawn.as_slice(),
+        [
+            Answer::Item(-1),
+            Answer::Item(-3),
+            Answer::Item(-6),
+            Answer::End
+        ]
+        .as_slice()
+    );
+    Ok(())
+}
+
+#[test]
+fn scan_keeps_its_state_after_a_failure(rt: HostRuntime) -> Result<(), Fail> {
+    let it = listed::<u32, u32, 3>(rt.alloc(), [Ok(1), Ok(2), Ok(3)])?;
+    let mut it = it.scan(0, |sum: &mut u32, x: u32| {
+        *sum = sum.wrapping_add(x);
+        if *sum == 3 { Err(3) } else { Ok(Some(*sum)) }
+    });
+    let drawn = answers(rt.alloc(), &mut it, 4)?;
+    assert_eq!(rt;
+        drawn.as_slice(),
+        [
+            Answer::Item(1),
+            Answer::Failure(3),
+            Answer::Item(6),
+            Answer::End
+        ]
+        .as_slice()
+    );
+    Ok(())
+}
+
+#[test]
+fn map_err_replaces_failures(rt: HostRuntime) -> Result<(), Fail> {
+    let it = listed::<u32, u32, 2>(rt.alloc(), [Ok(1), Err(5)])?;
+    let mut it = it.map_err(|e: u32| e.wrapping_add(100));
+    let drawn = answers(rt.alloc(), &mut it, 3)?;
+    assert_eq!(rt;
+        drawn.as_slice(),
+        [Answer::Item(1), Answer::Failure(105), Answer::End].as_slice()
+    );
+    Ok(())
+}
+
+// A text whose clone may be refused.
+#[derive(Debug, PartialEq, Drop)]
+struct Text {
+    letter: char,
+    refuses: bool,
+}
+
+impl Clone for Text {
+    fn clone(&self) -> Result<Text, AllocError> {
+        if self.refuses {
+            Err(AllocError)
+        } else {
+            Ok(Text {
+                letter: self.letter,
+                refuses: false,
+            })
+        }
+    }
+}
+
+fn clonable(letter: char) -> Text {
+    Text {
+        letter,
+        refuses: false,
+    }
+}
+
+// What a refusal is made into.
+#[derive(Debug, PartialEq, Drop)]
+struct Refused;
+
+impl From<AllocError> for Refused {
+    fn from(_: AllocError) -> Refused {
+        Refused
+    }
+}
+
+#[test]
+fn cloned_fails_where_a_clone_is_refused(rt: HostRuntime) -> Result<(), Fail> {
+    let texts = [
+        clonable('a'),
+        Text {
+            letter: 'b',
+            refuses: true,
+        },
+        clonable('c'),
+    ];
+    let mut it = convert(texts.iter().map(|t| Ok::<&Text, Refused>(t))).cloned();
+    assert_eq!(rt; it.next(), Ok(Some(clonable('a'))));
+    assert_eq!(rt; it.next(), Err(Refused));
+    assert_eq!(rt; it.next(), Ok(Some(clonable('c'))));
+    assert_eq!(rt; it.next(), Ok(None));
+    Ok(())
+}
