@@ -1,15 +1,13 @@
 -- Lemmas on rows and on the numbers that they write.
-use Rattle.std.proofs.Common.{◌≡◌, ℕ, ◌+◌, ◌-◌, ◌*◌, ◌^◌, ◌<◌, ◌≤◌, Bool, true, false, cond, List, [], ◌∷◌, ◌++◌, length, take, drop, get_or, nat_lt, position, eqb, lit≤, refl, sym, ap, ◌∙◌, arith, Some, None}
-use Rattle.std.specs.List.{slice_split, onto_first, position_or_len}
+use Rattle.std.proofs.Common.{◌≡◌, ℕ, ◌+◌, ◌-◌, ◌*◌, ◌^◌, ◌<◌, ◌≤◌, Bool, true, false, List, [], ◌∷◌, ◌++◌, length, take, get_or, eqb, lit≤, refl, sym, ap, ◌∙◌, arith, Some, None}
+use Rattle.std.specs.List.{slice_split, onto_first}
 use Rattle.std.specs.Str.{all_ascii_digits}
 use Rattle.std.specs.Str.Parse.{AllDigits, digits_value}
 use Rattle.std.specs.Char.{digit_value}
 use Rattle.std.specs.Int.{IsInRange}
-use Rattle.std.proofs.lemmas.Bool.{and_parts, and_from, lt-ltb, le-ltb, ltb-true, ltb-false, leb-true, le-leb, false_from_ne_true, cond-true, cond-false, ne_eqb}
-use Rattle.std.proofs.lemmas.Option.{cond_some, none-some}
-use Rattle.std.proofs.lemmas.List.Sums.{fails_before_first}
-use Rattle.std.proofs.lemmas.List.Splits.{slice_split-cons_yes, slice_split-cons_no, length-slice_split, slice_split_first, slice_split_none}
-use Rattle.std.proofs.lemmas.List.{get_or_push, take_at, take_all, take_rest, length_push}
+use Rattle.std.proofs.lemmas.Bool.{and_parts, and_from, lt-ltb, le-ltb, leb-true, le-leb, false_from_ne_true, cond-true, cond-false, ne_eqb}
+use Rattle.std.proofs.lemmas.List.Splits.{slice_split-cons_yes, slice_split-cons_no, length-slice_split}
+use Rattle.std.proofs.lemmas.List.{get_or_push, take_at, take_all, length_push}
 use Rattle.std.proofs.lemmas.Str.Parse.{tells_all_ascii_digits, numerals_by_value, IsNumeralModel, digit_at, digits_value-take-le}
 use Rattle.std.proofs.lemmas.Int.Digits.{digits_more, digits_value_more}
 use Rattle.fallible_rows.specs.Rows.{rows, is_newline, is_number, row_number, without_empty_last}
@@ -154,26 +152,3 @@ rows-last_newline bytes front last is newline = sym (ap rows (is ∙ ap (λ b. f
 pub rows-last_other : (bytes front : List ℕ) (last : ℕ) → bytes ≡ front ++ last ∷ [] → (last ≡ 10 → ⊥) → slice_split is_newline bytes ≡ rows bytes
 rows-last_other bytes front last is other =
     rw is (sym (rows-no_newline front last (ne_eqb last 10 other)))
-
--- where the first newline stands, or that there is none
-pub place_from_position : {X : Type 0} (p : X → Bool) (xs : List X) (end : ℕ) → Some end ≡ position p xs → (position_or_len p xs < length xs) × (position_or_len p xs ≡ end)
-place_from_position p xs end h =
-    let parts = cond_some (nat_lt (position_or_len p xs) (length xs)) (position_or_len p xs) end (sym h) in
-    (ltb-true _ _ parts.0, parts.1)
-
-pub slice_split-position : {X : Type 0} (p : X → Bool) (xs : List X) (end : ℕ) → Some end ≡ position p xs
-    → slice_split p xs ≡ take end xs ∷ slice_split p (take (length xs - (end + 1)) (drop (end + 1) xs))
-slice_split-position p [] end h = absurd (none-some end (sym h))
-slice_split-position p (x ∷ xs) end h =
-    let place = place_from_position p (x ∷ xs) end h in
-    let first = slice_split_first p (x ∷ xs) x place.0 in
-    rw (take_rest (x ∷ xs) (end + 1)) (rw place.1 at first)
-
-none_since : (b : Bool) (x : ℕ) → None ≡ cond b (Some x) None → b ≡ false
-none_since true x h = absurd (none-some x h)
-none_since false x h = refl
-
-pub slice_split-no_position : {X : Type 0} (p : X → Bool) (xs : List X) → None ≡ position p xs → slice_split p xs ≡ xs ∷ []
-slice_split-no_position p xs h =
-    let past = ltb-false _ _ (none_since (nat_lt (position_or_len p xs) (length xs)) (position_or_len p xs) h) in
-    slice_split_none p xs (λ k d l. fails_before_first p xs k d (omega arith))

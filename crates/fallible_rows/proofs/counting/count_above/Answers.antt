@@ -1,47 +1,31 @@
-use Rattle.std.proofs.Common.{◌≡◌, ◌+◌, ◌≤◌, cond, nat_lt, length, drop, refl, ◌∙◌, arith}
+-- The chain's list is followed from the rows to the count.
+use Rattle.std.proofs.Common.{rules, tests, ◌≡◌, ℕ, ◌+◌, ◌≤◌, List, length, take, Ok, Bor, sym, ap, ◌∙◌, arith, length-take, nat_lt}
 use Rattle.std.specs.List.{slice_split}
-use Rattle.std.proofs.lemmas.Option.{MatchOption-at_none, MatchOption-at_some}
-use Rattle.fallible_rows.specs.Rows.{rows, is_newline}
-use Rattle.fallible_rows.proofs.ReportLemmas.{IsNextRow-from_cut, Passes-more, count_more-above, count_more-not, tally-refused, tally-end, tally-limit}
+use Rattle.std.proofs.lemmas.Iterator.{YieldsList-from_take, YieldsList-from_map_by}
+use Rattle.std.proofs.lemmas.Iterator.Consumers.{YieldsList-at}
+use Rattle.std.proofs.lemmas.Iterator.Splits.{YieldsList-from_slice_split}
+use Rattle.fallible_rows.specs.declared.fault.RowFault.TheVariants.{Row}
+use Rattle.fallible_rows.specs.Report.{row_limit, first_rows}
+use Rattle.fallible_rows.specs.Rows.{rows, is_newline, row_number}
+use Rattle.fallible_rows.proofs.ChainLemmas.{ok_seen, YieldsList-from_zip_numbers, YieldsList-from_fuse, AnswersList-from_convert, AnswersList-from_map, AnswersList-from_filter, counted_is}
+use Rattle.fallible_rows.proofs.ReportLemmas.{row_limit-is, number_at, passes, tally-counted}
 use Rattle.fallible_rows.proofs.counting.count_above.Goals as goal
-use Rattle.fallible_rows.proofs.counting.count_above.Goals.{then-number-gt-LIMIT, else-number-gt-LIMIT}
-
-pub returns-in_default : goal.returns-in_default
-returns-in_default c =
-    let row = c.split_row.result.0.now in
-    let index = c.loop-index.index in
-    let next = IsNextRow-from_cut _ (rows c.args.bytes.now) index row c.split_row.result.1 c.loop-index.invariant.0 c.split_row.ensures in
-    (index + 1, refl, tally-refused c.args.bytes.now index c.loop-index.count row c.loop-index.invariant.1 (omega arith) next.within next.here c.in_default.ensures)
-
-pub returns-in_default-more : goal.returns-in_default-more
-returns-in_default-more c =
-    let all = rows c.args.bytes.now in
-    let index = c.loop-index.index in
-    let number = c.in-Some.number in
-    let next = IsNextRow-from_cut _ all index c.split_row.result.0.now c.split_row.result.1 c.loop-index.invariant.0 c.split_row.ensures in
-    let more : c.if-number-gt-LIMIT.count ≡ c.loop-index.count + cond (nat_lt 100 number) 1 0 =
-    elim c.if-number-gt-LIMIT.branch [
-      | then-number-gt-LIMIT w ↦ w.count-is ∙ count_more-above c.loop-index.count number w.if-number-gt-LIMIT.true
-      | else-number-gt-LIMIT w ↦ w.count-is ∙ count_more-not c.loop-index.count number w.if-number-gt-LIMIT.false
-    ] in
-    let passes = Passes-more all index c.loop-index.count c.split_row.result.0.now number c.if-number-gt-LIMIT.count c.loop-index.invariant.1 next.within next.here c.in-Some.ensures more in
-    let end = MatchOption-at_none (length all ≤ index + 1) (λ rest. slice_split is_newline rest.now ≡ drop (index + 1) all) c.in_default-more.is next.after in
-    tally-end c.args.bytes.now (index + 1) c.if-number-gt-LIMIT.count passes (omega arith) end
-
-pub loop-index-preserved : goal.loop-index-preserved
-loop-index-preserved c =
-    let all = rows c.args.bytes.now in
-    let index = c.loop-index.index in
-    let number = c.in-Some.number in
-    let next = IsNextRow-from_cut _ all index c.split_row.result.0.now c.split_row.result.1 c.loop-index.invariant.0 c.split_row.ensures in
-    let more : c.if-number-gt-LIMIT.count ≡ c.loop-index.count + cond (nat_lt 100 number) 1 0 =
-    elim c.if-number-gt-LIMIT.branch [
-      | then-number-gt-LIMIT w ↦ w.count-is ∙ count_more-above c.loop-index.count number w.if-number-gt-LIMIT.true
-      | else-number-gt-LIMIT w ↦ w.count-is ∙ count_more-not c.loop-index.count number w.if-number-gt-LIMIT.false
-    ] in
-    let passes = Passes-more all index c.loop-index.count c.split_row.result.0.now number c.if-number-gt-LIMIT.count c.loop-index.invariant.1 next.within next.here c.in-Some.ensures more in
-    let after = MatchOption-at_some (length all ≤ index + 1) (λ rest. slice_split is_newline rest.now ≡ drop (index + 1) all) _ c.in-Some-more.is next.after in
-    (after, passes)
 
 pub returns : goal.returns
-returns c = tally-limit c.args.bytes.now c.loop-index.index c.loop-index.count c.loop-index.invariant.1 (omega arith) c.loop-index-test.false
+returns c =
+    let left = c.without_last_newline.result.now in
+    let pieces = slice_split is_newline left in
+    let few : 1 + length (take 1000000 pieces) ≤ 4294967295 = omega (arith, length-take 1000000 pieces) in
+    let cut : pieces ≡ rows c.args.bytes.now = c.without_last_newline.ensures (search rules) in
+    let looked_at : take 1000000 pieces ≡ first_rows c.args.bytes.now = ap (λ n. take n pieces) (sym row_limit-is) ∙ ap (take row_limit) cut in
+    tally-counted c.args.bytes.now (take 1000000 pieces) c.count.result looked_at
+    (counted_is c.count.ensures (AnswersList-from_filter _ (passes (λ number. nat_lt 100 number))
+    (AnswersList-from_map _ (λ n. n) (number_at row_number (λ place. Row place))
+    (AnswersList-from_convert (YieldsList-from_fuse (YieldsList-at c.fuse-rows.ensures.source
+    (YieldsList-from_map_by _ (ok_seen (λ (p : Bor (List ℕ) × ℕ). (p.0.now, p.1))) (λ p. Ok p) (YieldsList-at c.map.ensures.source
+    (YieldsList-from_zip_numbers 4294967295 1 (YieldsList-at c.zip.ensures.first
+    (YieldsList-from_take 1000000 (YieldsList-at c.take.ensures.source
+    (YieldsList-from_slice_split _ is_newline left c.split.ensures.rest c.split.ensures.done c.split.ensures.closure (λ x r q k. search (rules, tests)))) c.take.ensures.count))
+    (ap (λ s. s.start) c.zip.ensures.second) few)) c.map.ensures.closure (λ x r q k. search rules))) c.fuse-rows.ensures.done) c.convert.ensures)
+    c.map-2.ensures (λ x r q k. search rules))
+    c.filter.ensures (λ x r q k. search rules)))
