@@ -2,6 +2,7 @@
 ghost use Rattle.std.specs.Prelude.{◌≡◌, ℕ, true, false, ◌+◌, ◌-◌, ◌≤◌, ◌<◌, ◌^◌, List, Option, Result, Some, Ok, ◌↔◌};
 ghost use Rattle.fallible_iterator.specs.Source.{Source, Lawful, Stays};
 ghost use Rattle.fallible_iterator.specs.Closures.{IsCallable, call_on, takes_on, call_at, takes_at};
+ghost use Rattle.fallible_iterator.specs.Enumerate.{IsNumberable};
 ghost use Rattle.fallible_iterator.specs.Filtering.{skip_call, skip_takes};
 ghost use Rattle.fallible_iterator.specs.OneToOne.{scan_call, scan_takes};
 ghost use Rattle.fallible_iterator.specs.Parts.{map_parts, inspect_parts, filter_parts, filter_map_parts, skip_while_parts, map_err_parts, enumerate_parts, scan_parts, cloned_parts, take_parts, take_while_parts, fuse_parts, skip_parts, step_by_parts};
@@ -274,7 +275,8 @@ pub trait FallibleIterator: Drop + Sized {
     /// Puts each item beside the number of items before it, from 0 on; the numbers are to fit a `usize`. Making the adapter draws nothing.
     final fn enumerate(self) -> Enumerate<Self>
         requires { source.to_come self (2 ^ 64 - 1) }
-        ensures { enumerate_parts result ≡ (self, Some 0) }
+        ensures parts { enumerate_parts result ≡ (self, Some 0) }
+        ensures numberable { source.can self → IsNumberable source self 0 }
     {
         Enumerate { it: self, count: 0 }
     }
