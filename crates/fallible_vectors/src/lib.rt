@@ -2,6 +2,8 @@
 #![tactic(auto)]
 
 #[cfg(test)]
+mod cutting;
+#[cfg(test)]
 mod listed;
 #[cfg(test)]
 mod one_to_one;
