@@ -149,6 +149,7 @@ fn skip_is_cut_short_by_a_failure(rt: HostRuntime) -> Result<(), Fail> {
 #[test]
 fn skip_of_all(rt: HostRuntime) -> Result<(), Fail> {
     let mut it = listed::<u32, u32, 1>(rt.alloc(), [Ok(1)])?.skip(usize::MAX);
+    assert_eq!(rt; it.size_hint(), (0, Some(0)));
     let got = answers(rt.alloc(), &mut it, 1)?;
     assert_eq!(rt; got.as_slice(), [Answer::End].as_slice());
     Ok(())
@@ -207,7 +208,15 @@ fn step_by_counts_anew_after_a_failure(rt: HostRuntime) -> Result<(), Fail> {
 #[test]
 fn step_by_the_greatest_step(rt: HostRuntime) -> Result<(), Fail> {
     let mut it = listed::<u32, u32, 2>(rt.alloc(), [Ok(1), Ok(2)])?.step_by(usize::MAX);
+    assert_eq!(rt; it.size_hint(), (1, Some(1)));
     let got = answers(rt.alloc(), &mut it, 2)?;
     assert_eq!(rt; got.as_slice(), [Answer::Item(1), Answer::End].as_slice());
+    Ok(())
+}
+
+#[test]
+fn a_nest_is_counted(rt: HostRuntime) -> Result<(), Fail> {
+    let it = listed::<u32, u32, 5>(rt.alloc(), [Ok(0), Ok(1), Ok(2), Ok(3), Ok(4)])?;
+    assert_eq!(rt; it.skip(1).step_by(2).fuse().take(2).count(), Ok(2));
     Ok(())
 }
