@@ -17,9 +17,9 @@ use Rattle.fallible_iterator.specs.declared.one_to_one.Scan.{Scan}
 use Rattle.fallible_iterator.specs.declared.filtering.SkipWhile.{SkipWhile}
 use Rattle.fallible_iterator.specs.declared.filtering.Filter.{Filter}
 use Rattle.fallible_iterator.specs.declared.filtering.FilterMap.{FilterMap}
-use Rattle.fallible_iterator.specs.declared.cutting.Take.{Take}
-use Rattle.fallible_iterator.specs.declared.cutting.Fuse.{Fuse}
-use Rattle.fallible_iterator.specs.declared.cutting.TakeWhile.{TakeWhile}
+use Rattle.fallible_iterator.specs.declared.cutting.taking.Take.{Take}
+use Rattle.fallible_iterator.specs.declared.cutting.fusing.Fuse.{Fuse}
+use Rattle.fallible_iterator.specs.declared.cutting.taking_while.TakeWhile.{TakeWhile}
 use Rattle.fallible_iterator.specs.declared.cutting.skipping.Skip.{Skip}
 use Rattle.fallible_iterator.specs.declared.cutting.stepping.StepBy.{StepBy}
 
@@ -84,7 +84,7 @@ abbrev pub take_parts : {I : Type 0} → Take I → I × ℕ
 take_parts s = (s.it, s.left)
 
 abbrev pub skip_parts : {I : Type 0} → Skip I → I × ℕ
-skip_parts s = (s.it, s.left)
+skip_parts s = (s.it, s.to_skip)
 
 -- the source, and whether its end was met
 abbrev pub fuse_parts : {I : Type 0} → Fuse I → I × Bool
@@ -103,7 +103,7 @@ abbrev pub take_of : {I : Type 0} → I × ℕ → Take I
 take_of p = record { it = p.0; left = p.1 }
 
 abbrev pub skip_of : {I : Type 0} → I × ℕ → Skip I
-skip_of p = record { it = p.0; left = p.1 }
+skip_of p = record { it = p.0; to_skip = p.1 }
 
 abbrev pub fuse_of : {I : Type 0} → I × Bool → Fuse I
 fuse_of p = record { it = p.0; ended = p.1 }

@@ -185,14 +185,14 @@ pub trait FallibleIterator: Drop + Sized {
         }
     }
 
-    /// Ends after n items. Making the adapter draws nothing, and so does each call after the n-th item.
+    /// Ends after n items; failures and ends of the source pass, and don't count. Making the adapter draws nothing, nor does a call after the n-th item.
     final fn take(self, n: usize) -> Take<Self>
         ensures { take_parts result ≡ (self, n) }
     {
         Take { it: self, left: n }
     }
 
-    /// Ends at the first item that the predicate refuses, which is lost. Making the adapter draws nothing and calls nothing.
+    /// Ends at the first item that the predicate refuses, which is lost, and then without a draw. A failure of the predicate is the answer, and ends nothing. Making the adapter draws nothing and calls nothing.
     final fn take_while<P>(self, predicate: P) -> TakeWhile<Self, P>
     where
         P: FnMut(&Self::Item) -> Result<bool, Self::Error>,
@@ -206,7 +206,7 @@ pub trait FallibleIterator: Drop + Sized {
         }
     }
 
-    /// Ends for good at the first end. Making the adapter draws nothing.
+    /// Ends for good at the source's first end, without a draw from then on. A failure ends nothing. Making the adapter draws nothing.
     final fn fuse(self) -> Fuse<Self>
         ensures { fuse_parts result ≡ (self, false) }
     {
@@ -216,14 +216,14 @@ pub trait FallibleIterator: Drop + Sized {
         }
     }
 
-    /// Leaves out the first n items, as far as neither a failure nor an end comes among them. Making the adapter draws nothing: its first call is `nth(n)`.
+    /// Leaves out the first n items; a failure or an end that comes among them is the answer, and nothing is left out after it. Making the adapter draws nothing: its first call is the source's `nth(n)`.
     final fn skip(self, n: usize) -> Skip<Self>
         ensures { skip_parts result ≡ (self, n) }
     {
-        Skip { it: self, left: n }
+        Skip { it: self, to_skip: n }
     }
 
-    /// Keeps the first item, and from then on the last of each `step` items. The step is at least 1. Making the adapter draws nothing.
+    /// Keeps the first answer, whatever it is, and from then on of each `step` items the last. Failures and ends pass, and items are counted anew after them. The step is at least 1. Making the adapter draws nothing.
     final fn step_by(self, step: usize) -> StepBy<Self>
         requires { 1 ≤ step }
         ensures { step_by_parts result ≡ (self, (step - 1, true)) }

@@ -6,6 +6,8 @@ mod borrowed;
 #[cfg(test)]
 mod collecting;
 #[cfg(test)]
+mod cutting;
+#[cfg(test)]
 mod filtering;
 #[cfg(test)]
 mod listed;

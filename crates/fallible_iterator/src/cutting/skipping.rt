@@ -9,11 +9,11 @@ ghost use Rattle.fallible_iterator.specs.Laws.Skipping.{lawful_skip};
 use crate::traits::FallibleIterator;
 
 /// The source's answers without the first n items. A failure or an end that comes among these is the answer, and no item is left out after it.
-#[derive(Drop)]
+#[derive(Clone, Debug, Drop)]
 pub struct Skip<I> {
     pub(crate) it: I,
     // how many items are still to be left out
-    pub(crate) left: usize,
+    pub(crate) to_skip: usize,
 }
 
 impl<I: FallibleIterator> FallibleIterator for Skip<I>
@@ -28,19 +28,19 @@ where
 
     /// The first call is the source's `nth`, and each later one draws one answer.
     fn next(&mut self) -> Result<Option<I::Item>, I::Error> {
-        let n = self.left;
-        self.left = 0;
+        let n = self.to_skip;
+        self.to_skip = 0;
         self.it.nth(n)
     }
 
     fn size_hint(&self) -> (usize, Option<usize>) {
         let (low, high) = self.it.size_hint();
-        let left = self.left;
+        let to_skip = self.to_skip;
         let high = match high {
-            Some(n) => Some(n.saturating_sub(left)),
+            Some(n) => Some(n.saturating_sub(to_skip)),
             None => None,
         };
-        (low.saturating_sub(left), high)
+        (low.saturating_sub(to_skip), high)
     }
 
     ghost lawful = { lawful_seen skip_parts (lawful_skip I.lawful) };

@@ -9,7 +9,7 @@ ghost use Rattle.fallible_iterator.specs.Laws.Stepping.{lawful_step_by};
 use crate::traits::FallibleIterator;
 
 /// The source's first answer, and from then on of each longest run of items the ones at a multiple of the step. Failures and ends pass, and the counting of items begins anew after them.
-#[derive(Drop)]
+#[derive(Clone, Debug, Drop)]
 pub struct StepBy<I> {
     pub(crate) it: I,
     // how many items are left out between two, which is one less than the step

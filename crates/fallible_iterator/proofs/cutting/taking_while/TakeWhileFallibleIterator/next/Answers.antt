@@ -2,7 +2,7 @@
 use Rattle.std.proofs.Common.{true, false, Ok, Err, refl}
 use Rattle.fallible_iterator.specs.Passing.{asked, failure_at}
 use Rattle.fallible_iterator.specs.Laws.Closures.{in_slots_kept}
-use Rattle.fallible_iterator.proofs.cutting.TakeWhileFallibleIterator.next.Goals as goal
+use Rattle.fallible_iterator.proofs.cutting.taking_while.TakeWhileFallibleIterator.next.Goals as goal
 
 pub returns-then-accepted : goal.returns-then-accepted
 returns-then-accepted g c = rw (c.if-self.false, c.in-Some.is) (asked c.in-Ok-Some.x (Ok true), (rw c.in-Ok-Some.field-0-is at c.in-Ok-Some.ensures, (_, record { shown = _; shows = refl; called = rw c.if-accepted.true at c.in-Ok.ensures }, refl)), refl, refl)
