@@ -1,5 +1,5 @@
 -- Traces as values.
-use Rattle.std.specs.Prelude.{◌≡◌, ℕ, List, map, length, Option, Result, Some, None, Ok, Err}
+use Rattle.std.specs.Prelude.{◌≡◌, ℕ, List, map, length, Some, None, Ok, Err}
 use Rattle.fallible_iterator.specs.declared.laws.Answer.{Answer}
 use Rattle.fallible_iterator.specs.declared.laws.Answer.TheVariants.{Item, Failure, End}
 use Rattle.fallible_iterator.specs.Traces.{Answered, Run}

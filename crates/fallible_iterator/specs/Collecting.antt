@@ -1,5 +1,5 @@
 -- Collections made of items.
-use Rattle.std.specs.Prelude.{◌≡◌, ℕ, ◌≤◌, List, [], ◌∷◌, ◌++◌, map, Option, Result, Some, None, Ok, Err, ◌⊎◌}
+use Rattle.std.specs.Prelude.{List, [], ◌∷◌, ◌++◌, map, Result, Ok, Err, ◌⊎◌}
 use Rattle.std.specs.declared.alloc.AllocError.{AllocError}
 use Rattle.fallible_iterator.specs.declared.collecting.Fault.{Fault}
 use Rattle.fallible_iterator.specs.declared.collecting.Fault.TheVariants.{Source, Memory}

@@ -1,5 +1,5 @@
 -- `MapErr`, whose closure is called on failures.
-use Rattle.std.specs.Prelude.{◌≡◌, List, [], ◌∷◌, map, Option, Result, Some, None, Ok, Err}
+use Rattle.std.specs.Prelude.{◌≡◌, List, [], ◌∷◌, map, Option, Some, None}
 use Rattle.std.specs.List.{filter_map}
 use Rattle.std.specs.Fn.{Mut}
 use Rattle.fallible_iterator.specs.Traces.{Answered, Run, item, failure, end}

@@ -1,5 +1,5 @@
 -- What the contract of a fallible iterator says of its values.
-use Rattle.std.specs.Prelude.{◌≡◌, ℕ, ◌≤◌, ◌<◌, Option, Result, Some, None, Ok, Err, ◌↔◌, ⊤, List}
+use Rattle.std.specs.Prelude.{◌≡◌, ℕ, ◌≤◌, ◌<◌, Option, Some, None, Ok, Err, ◌↔◌, ⊤, List}
 use Rattle.std.specs.Iterator.{Count, IsFinite, size, endless}
 use Rattle.fallible_iterator.specs.Traces.{Answered, Run}
 

@@ -1,5 +1,5 @@
 -- The sources.
-use Rattle.std.specs.Prelude.{◌≡◌, ℕ, ◌≤◌, List, [], ◌∷◌, ◌++◌, take, replicate, map, Option, Result, Some, None, Ok, Err, IfSome, ⊤, ◌⊎◌, ◌^◌, ◌-◌, All}
+use Rattle.std.specs.Prelude.{◌≡◌, ℕ, ◌≤◌, List, [], ◌∷◌, ◌++◌, replicate, map, Option, Result, Some, None, Ok, Err, IfSome, ⊤, ◌⊎◌, ◌^◌, ◌-◌, All}
 use Rattle.std.specs.Iterator.{Count, IsFinite, size, at_most, endless, UpTo, MakesProgress}
 use Rattle.std.specs.Iterator.SizeHint.{IsWithinCount}
 use Rattle.std.specs.List.{FoldsTo}

@@ -220,7 +220,10 @@ pub trait FallibleIterator: Drop + Sized {
     final fn skip(self, n: usize) -> Skip<Self>
         ensures { skip_parts result ≡ (self, n) }
     {
-        Skip { it: self, to_skip: n }
+        Skip {
+            it: self,
+            to_skip: n,
+        }
     }
 
     /// Keeps the first answer, whatever it is, and from then on of each `step` items the last. Failures and ends pass, and items are counted anew after them. The step is at least 1. Making the adapter draws nothing.
@@ -324,7 +327,10 @@ pub trait FallibleIterator: Drop + Sized {
     /// Makes a collection of the items up to the end. The collection is made first, and then each item is pushed as it is drawn; no room is taken ahead.
     ///
     /// `Fault::Source` of the first failure, after which nothing is drawn. `Fault::Memory` where the collection refused: nothing was drawn where it could not be made, and else the item that it refused was the last one drawn. Of a collection that never refuses it is never answered.
-    final fn collect<C: Collect<Self::Item>>(mut self, alloc: Global) -> Result<C, Fault<Self::Error>>
+    final fn collect<C: Collect<Self::Item>>(
+        mut self,
+        alloc: Global,
+    ) -> Result<C, Fault<Self::Error>>
     where
         requires can { source.can self }
         requires finite { source.has_end self }

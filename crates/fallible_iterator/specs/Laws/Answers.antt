@@ -1,9 +1,9 @@
 -- One more answer.
-use Rattle.std.specs.Prelude.{◌≡◌, ℕ, ◌+◌, List, [], ◌∷◌, ◌++◌, map, length, Option, Result}
-use Rattle.std.proofs.Common.{refl, sym, ◌∙◌, ap, arith, length-append}
+use Rattle.std.specs.Prelude.{ℕ, ◌+◌, List, [], ◌∷◌, ◌++◌}
+use Rattle.std.proofs.Common.{refl, sym, ◌∙◌, ap, length-append}
 use Rattle.std.proofs.lemmas.List.{map-append}
 use Rattle.fallible_iterator.specs.declared.laws.Answer.{Answer}
-use Rattle.fallible_iterator.specs.Traces.{Answered, Run}
+use Rattle.fallible_iterator.specs.Traces.{Answered}
 use Rattle.fallible_iterator.specs.Answers.{answer_of, IsAnswers}
 use Rattle.fallible_iterator.specs.Laws.Closures.{turns_then}
 

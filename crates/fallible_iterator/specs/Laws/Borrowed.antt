@@ -1,13 +1,12 @@
 -- The contract of a borrowed fallible iterator is lawful where its own is.
-use Rattle.std.specs.Prelude.{◌≡◌, List, [], ◌∷◌, Option, Result, Some, None, Ok, Err}
+use Rattle.std.specs.Prelude.{◌≡◌, List, [], ◌∷◌, Some, None, Ok, Err}
 use Rattle.std.specs.Borrow.{MutBor}
 use Rattle.std.specs.declared.boxed.Box.{Box}
 use Rattle.std.specs.declared.alloc.Global.{Global}
 use Rattle.std.proofs.Common.{refl, ap}
 use Rattle.fallible_iterator.specs.Traces.{Answered, Run}
-use Rattle.fallible_iterator.specs.Source.{Source, OnAnswer, Goes, Lawful, seen_as}
+use Rattle.fallible_iterator.specs.Source.{Source, OnAnswer, Lawful}
 use Rattle.fallible_iterator.specs.Borrowed.{borrowed}
-use Rattle.fallible_iterator.specs.Laws.Source.{lawful_seen}
 
 module _ {S A E : Type 0} (m : Source S A E) where
   answer_borrowed : (s t : MutBor S) (r : Answered A E) → OnAnswer m s.now r t.now → OnAnswer (borrowed m) s r t

@@ -1,16 +1,14 @@
 -- `collect` by the fold that carries the collection.
-use Rattle.std.specs.Prelude.{◌≡◌, List, [], ◌∷◌, ◌++◌, map, Option, Result, Some, None, Ok, Err, ◌⊎◌}
+use Rattle.std.specs.Prelude.{◌≡◌, List, [], ◌∷◌, ◌++◌, map, Result, Some, None, Ok, Err}
 use Rattle.std.specs.List.{FoldsTo}
 use Rattle.std.specs.declared.alloc.AllocError.{AllocError}
-use Rattle.std.proofs.Common.{refl, sym, ap, subst, append_assoc, append-nil}
+use Rattle.std.proofs.Common.{sym, subst, append_assoc, append-nil}
 use Rattle.fallible_iterator.specs.declared.folds.Exit.{Exit}
 use Rattle.fallible_iterator.specs.declared.folds.Exit.TheVariants.{Ended, Failed, Stopped}
-use Rattle.fallible_iterator.specs.declared.collecting.Fault.{Fault}
-use Rattle.fallible_iterator.specs.declared.collecting.Fault.TheVariants.{Source, Memory}
 use Rattle.fallible_iterator.specs.Traces.{Answered, Run, item}
-use Rattle.fallible_iterator.specs.Folds.{carrying_turn, CarryingExit, Carried}
+use Rattle.fallible_iterator.specs.Folds.{CarryingExit, Carried}
 use Rattle.fallible_iterator.specs.Laws.Folds.{turns_map}
-use Rattle.fallible_iterator.specs.Collecting.{CollectsAll, FailsWith, RefusesItem, Collects, PushTurn}
+use Rattle.fallible_iterator.specs.Collecting.{CollectsAll, FailsWith, RefusesItem, PushTurn}
 
 -- pushes make the collection of the items before and after
 made_of : {A C : Type 0} (made : List A → C → Type 0) (refuses : C → A → Type 0) (before items : List A) (c d : C) → made before c → FoldsTo (λ c x d. PushTurn made refuses c x (Ok d)) c items d → made (before ++ items) d

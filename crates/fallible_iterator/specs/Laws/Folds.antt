@@ -1,13 +1,13 @@
 -- Folds, one turn at a time.
-use Rattle.std.specs.Prelude.{◌≡◌, ℕ, suc, ◌+◌, ◌≤◌, ◌<◌, ◌^◌, ◌-◌, length, List, [], ◌∷◌, ◌++◌, map, Option, Result, Some, None, Ok, Err}
+use Rattle.std.specs.Prelude.{◌≡◌, ℕ, ◌+◌, ◌<◌, length, List, [], ◌∷◌, Result, Some, None, Ok, Err}
 use Rattle.std.specs.List.{FoldsTo}
-use Rattle.std.specs.Fn.{Called, Takes, Mut}
+use Rattle.std.specs.Fn.{Mut}
 use Rattle.std.proofs.Common.{refl, sym, ap, subst, arith}
 use Rattle.fallible_iterator.specs.declared.folds.Exit.{Exit}
 use Rattle.fallible_iterator.specs.declared.folds.Exit.TheVariants.{Ended, Failed, Stopped}
-use Rattle.fallible_iterator.specs.Traces.{Answered, Run, Yields, item, end, failure}
-use Rattle.fallible_iterator.specs.Source.{Source, Goes, Lawful}
-use Rattle.fallible_iterator.specs.Folds.{CountExit, Counted, HoldsAtEachTurn, fold_turn, FoldTurn, CallableInFold, FoldExit, Folded, carrying_turn, CallableCarrying, CarryingExit, Carried}
+use Rattle.fallible_iterator.specs.Traces.{Answered, Yields, item}
+use Rattle.fallible_iterator.specs.Source.{Source, Lawful}
+use Rattle.fallible_iterator.specs.Folds.{CountExit, Counted, HoldsAtEachTurn, FoldTurn, FoldExit, Folded, carrying_turn, CarryingExit, Carried}
 
 module _ {S A E C : Type 0} {steps : S → Answered A E → S → Type 0} {goes_on : C → A → C → Type 0} {P : C → A → Type 0} where
   -- what holds at each turn holds at the first, and at each turn after it

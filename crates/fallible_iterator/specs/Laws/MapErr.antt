@@ -1,11 +1,11 @@
 -- The contract of `MapErr` is lawful where the source's is, and its runs meet the definition.
-use Rattle.std.specs.Prelude.{◌≡◌, ℕ, List, [], ◌∷◌, map, Option, Result, Some, None, Ok, Err}
+use Rattle.std.specs.Prelude.{◌≡◌, List, [], ◌∷◌, map, Option, Some, None, Ok, Err}
 use Rattle.std.specs.List.{filter_map}
 use Rattle.std.specs.Fn.{Mut}
 use Rattle.std.proofs.Common.{refl, sym, ap, subst}
 use Rattle.fallible_iterator.specs.Traces.{Answered, Run, item}
 use Rattle.fallible_iterator.specs.Source.{Source, OnAnswer, Goes, Lawful}
-use Rattle.fallible_iterator.specs.Closures.{Calls, Reaches, IsCallable, InSlot, InSlots, call_on, takes_on}
+use Rattle.fallible_iterator.specs.Closures.{Calls, Reaches, call_on}
 use Rattle.fallible_iterator.specs.MapErr.{FailurePlace, item_here, asked_of, end_here, drawn_answer, failure_call, mapped_answer, MapErrTrace, MayFail, map_err_source}
 use Rattle.fallible_iterator.specs.Laws.Closures.{reaches_here, reaches_weaken, reaches_then, reaches_from, callable_after}
 use Rattle.fallible_iterator.specs.Laws.Definitions.{FirstOf, IsByAnswers}

@@ -1,5 +1,5 @@
 -- The contracts of the adapters with one answer for each draw are lawful where the source's is, and their runs meet the definitions.
-use Rattle.std.specs.Prelude.{ℕ, ⊤, List, [], ◌∷◌, Option, Result, Some, None, Ok, Err}
+use Rattle.std.specs.Prelude.{⊤, [], ◌∷◌, Option, Result, Some, None, Ok, Err}
 use Rattle.std.proofs.Common.{refl}
 use Rattle.std.specs.Fn.{Mut}
 use Rattle.std.specs.Borrow.{Bor, MutBor}

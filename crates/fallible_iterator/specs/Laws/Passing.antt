@@ -1,14 +1,13 @@
 -- A trace that lets answers pass, answer by answer.
-use Rattle.std.specs.Prelude.{◌≡◌, ℕ, ◌≤◌, ◌<◌, List, [], ◌∷◌, ◌++◌, map, Option, Result, Some, None, Ok, Err, IsSome, is_some, Bool, true, false, ◌⊎◌}
+use Rattle.std.specs.Prelude.{◌≡◌, ℕ, List, [], ◌∷◌, ◌++◌, map, Option, Result, Some, None, Ok, Err, IsSome, is_some, true, false}
 use Rattle.std.specs.List.{FoldsTo, filter_map, cons_option}
 use Rattle.std.proofs.Common.{refl, sym, ap, subst, arith, inl, inr}
 use Rattle.fallible_iterator.specs.declared.folds.Exit.{Exit}
-use Rattle.fallible_iterator.specs.declared.folds.Exit.TheVariants.{Ended, Failed, Stopped}
 use Rattle.fallible_iterator.specs.Traces.{Answered, Run, Yields, item}
-use Rattle.fallible_iterator.specs.Source.{Source, NoMore, Fewer, OnAnswer, Goes, Stays, Lawful}
-use Rattle.fallible_iterator.specs.Closures.{Calls, Reaches, IsCallable, InSlot, InSlots}
+use Rattle.fallible_iterator.specs.Source.{Source, OnAnswer, Goes, Stays, Lawful}
+use Rattle.fallible_iterator.specs.Closures.{Calls, Reaches, IsCallable}
 use Rattle.fallible_iterator.specs.Laws.Definitions.{FirstOf, IsByAnswers}
-use Rattle.fallible_iterator.specs.Laws.Source.{given_after, stays_run, no_more, no_more_then}
+use Rattle.fallible_iterator.specs.Laws.Source.{given_after, stays_run}
 use Rattle.fallible_iterator.specs.Laws.Closures.{reaches_here, reaches_weaken, reaches_then, reaches_from, callable_after}
 use Rattle.fallible_iterator.specs.Folds.{HoldsAtEachTurn, CarryingExit, Carried}
 use Rattle.fallible_iterator.specs.Laws.Folds.{turns_map}

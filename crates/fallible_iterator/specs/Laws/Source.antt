@@ -1,9 +1,8 @@
 -- What stays after any number of draws.
-use Rattle.std.specs.Prelude.{◌≡◌, ℕ, ◌≤◌, ◌<◌, List, [], ◌∷◌, Option, Result, Some, None, Ok, Err}
-use Rattle.std.specs.List.{FoldsTo}
-use Rattle.std.proofs.Common.{refl, arith, subst}
+use Rattle.std.specs.Prelude.{List, [], ◌∷◌, Some, None, Ok, Err}
+use Rattle.std.proofs.Common.{arith, subst}
 use Rattle.fallible_iterator.specs.Traces.{Answered, Run, Yields, item}
-use Rattle.fallible_iterator.specs.Source.{Source, NoMore, Fewer, OnAnswer, Goes, Stays, Lawful, seen_as}
+use Rattle.fallible_iterator.specs.Source.{Source, NoMore, OnAnswer, Goes, Stays, Lawful, seen_as}
 
 module _ {S A E : Type 0} (m : Source S A E) where
   -- after any answer nothing more is to come than before

@@ -1,11 +1,10 @@
 -- A run of each source is its trace by definition.
-use Rattle.std.specs.Prelude.{◌≡◌, ℕ, ◌+◌, List, [], ◌∷◌, ◌++◌, map, replicate, Option, Result, Some, None, Ok, Err, All, ◌⊎◌, ◌↔◌}
-use Rattle.std.specs.List.{FoldsTo}
-use Rattle.std.specs.Iterator.{Count, MakesProgress}
-use Rattle.std.proofs.Common.{refl, sym, ap, subst, ◌∙◌, inl, inr, suc, zero}
+use Rattle.std.specs.Prelude.{◌≡◌, ℕ, List, [], ◌∷◌, ◌++◌, replicate, Option, Some, None, All, ◌↔◌}
+use Rattle.std.specs.Iterator.{Count}
+use Rattle.std.proofs.Common.{refl, sym, subst, inl, inr, suc, zero}
 use Rattle.std.proofs.lemmas.List.Elements.{All-nil, All-cons, All-head, All-tail}
 use Rattle.fallible_iterator.specs.Traces.{Answered, Run, end}
-use Rattle.fallible_iterator.specs.Sources.{element_by, std_step, StdTrace, EmptyTrace, held_answer, OnceTrace, once_step}
+use Rattle.fallible_iterator.specs.Sources.{std_step, StdTrace, EmptyTrace, held_answer, OnceTrace, once_step}
 
 module _ {S A E Z : Type 0} (of_item : A → Z) (of_failure : E → Z) (can : S → Type 0) (gives : S → Option Z → S → Type 0) (remaining : S → Count) where
   to_std : (trace : List (Answered A E)) (s t : S) → Run (std_step of_item of_failure can gives remaining) s trace t → StdTrace of_item of_failure can gives remaining s trace t

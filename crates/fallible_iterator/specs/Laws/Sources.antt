@@ -1,14 +1,14 @@
 -- The contracts of the sources are lawful.
-use Rattle.std.specs.Prelude.{◌≡◌, ℕ, ◌≤◌, ◌<◌, List, [], ◌∷◌, Option, Result, Some, None, Ok, Err, ⊤, ◌⊎◌}
-use Rattle.std.specs.Iterator.{Count, IsFinite, size, UpTo, MakesProgress}
+use Rattle.std.specs.Prelude.{◌≡◌, [], ◌∷◌, Option, Some, None, Ok, Err, ⊤}
+use Rattle.std.specs.Iterator.{Count, size}
 use Rattle.std.specs.Fn.{Called, Mut}
 use Rattle.std.specs.declared.alloc.AllocError.{AllocError}
 use Rattle.std.proofs.Common.{refl, sym, subst, arith}
-use Rattle.fallible_iterator.specs.Closures.{Reaches, IsCallable}
+use Rattle.fallible_iterator.specs.Closures.{Reaches}
 use Rattle.fallible_iterator.specs.Laws.Closures.{reaches_here, reaches_from, callable_after}
-use Rattle.fallible_iterator.specs.Traces.{Answered, Run, item, failure, end}
+use Rattle.fallible_iterator.specs.Traces.{Answered, item, failure, end}
 use Rattle.fallible_iterator.specs.Source.{Source, OnAnswer, Goes, Lawful}
-use Rattle.fallible_iterator.specs.Sources.{std_source, IsAskable, Comes, held_count, once_step, once_source, once_err_source, Answers, call_of_none, from_fn_source, empty_source, RepeatAnswer, repeat_source, RepeatErrAnswer, repeat_err_source}
+use Rattle.fallible_iterator.specs.Sources.{std_source, Comes, held_count, once_step, once_source, once_err_source, Answers, call_of_none, from_fn_source, empty_source, RepeatAnswer, repeat_source, RepeatErrAnswer, repeat_err_source}
 
 module _ {S A E Z : Type 0} (of_item : A → Z) (of_failure : E → Z) (can : S → Type 0) (gives : S → Option Z → S → Type 0) (remaining : S → Count) where
   abbrev M : Source S A E

@@ -1,7 +1,7 @@
 -- Runs of a type whose values are seen as those of another.
 use Rattle.std.specs.Prelude.{◌≡◌, List, [], ◌∷◌, ◌↔◌}
 use Rattle.std.specs.List.{FoldsTo}
-use Rattle.std.proofs.Common.{refl, sym, ap, subst, ◌∙◌}
+use Rattle.std.proofs.Common.{sym, ap, subst, ◌∙◌}
 
 module _ {S P A : Type 0} (view : S → P) (make : P → S) (made : (s : S) → make (view s) ≡ s) (viewed : (p : P) → view (make p) ≡ p) (R : P → A → P → Type 0) where
   to_view : (trace : List A) (s t : S) → FoldsTo (λ u r v. R (view u) r (view v)) s trace t → FoldsTo R (view s) trace (view t)

@@ -1,8 +1,5 @@
 -- Each draw adds its answer.
-use Rattle.std.proofs.Common.{ap, arith}
-use Rattle.std.specs.Vec.{vec_len}
-use Rattle.fallible_iterator.specs.Source.{Stays}
-use Rattle.fallible_iterator.specs.Answers.{IsAnswers}
+use Rattle.std.proofs.Common.{arith}
 use Rattle.fallible_iterator.specs.Laws.Source.{stays_step}
 use Rattle.fallible_iterator.specs.Laws.Answers.{one_more_answer}
 use Rattle.fallible_iterator.proofs.laws.answers.Goals as goal

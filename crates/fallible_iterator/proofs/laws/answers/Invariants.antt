@@ -1,5 +1,5 @@
 -- What was made are the answers of as many draws, and there is room for the rest.
-use Rattle.std.proofs.Common.{ℕ, ◌≤◌, ◌-◌, vec_len, vec_capacity}
+use Rattle.std.proofs.Common.{◌≤◌, ◌-◌, vec_len, vec_capacity}
 use Rattle.fallible_iterator.specs.Source.{Stays}
 use Rattle.fallible_iterator.specs.Answers.{IsAnswers}
 use Rattle.fallible_iterator.proofs.laws.answers.Given as goal

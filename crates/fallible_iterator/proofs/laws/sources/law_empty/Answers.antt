@@ -1,6 +1,5 @@
 -- There is one value alone.
 use Rattle.std.proofs.Common.{refl}
-use Rattle.fallible_iterator.specs.Laws.Views.{runs_seen, iff_then}
 use Rattle.fallible_iterator.specs.Laws.SourceTraces.{empty_runs}
 use Rattle.fallible_iterator.proofs.laws.sources.law_empty.Goals as goal
 

@@ -1,6 +1,6 @@
 -- One answer of the source and the call on a reference to it are the trace of one answer.
 use Rattle.std.proofs.Common.{refl}
-use Rattle.fallible_iterator.specs.Laws.Closures.{in_slots, in_slots_kept}
+use Rattle.fallible_iterator.specs.Laws.Closures.{in_slots_kept}
 use Rattle.fallible_iterator.specs.Laws.Passing.{passes_item, passes_refusal, passes_end, passes_failure}
 use Rattle.fallible_iterator.proofs.one_to_one.InspectFallibleIterator.next.Goals as goal
 
