@@ -1,11 +1,12 @@
 -- Adapters that leave items out.
-use Rattle.std.specs.Prelude.{◌≡◌, ℕ, Option, Result, Some, Ok, Err, List, Bool, true, false, None, IfSome, MatchBool}
+use Rattle.std.specs.Prelude.{◌≡◌, ℕ, ⊤, Option, Result, Some, Ok, Err, List, [], ◌∷◌, ◌++◌, map, Bool, true, false, None, IfSome, MatchBool}
+use Rattle.std.specs.List.{filter_map}
 use Rattle.std.specs.Fn.{Mut}
 use Rattle.std.specs.Borrow.{Bor}
-use Rattle.fallible_iterator.specs.Traces.{Answered}
+use Rattle.fallible_iterator.specs.Traces.{Answered, Run}
 use Rattle.fallible_iterator.specs.Source.{Source}
-use Rattle.fallible_iterator.specs.Closures.{call_on, takes_on, call_at, takes_at}
-use Rattle.fallible_iterator.specs.Passing.{Outcome, kept, left_out, failed, PassTrace, passing}
+use Rattle.fallible_iterator.specs.Closures.{Calls, call_on, takes_on, call_at, takes_at}
+use Rattle.fallible_iterator.specs.Passing.{Outcome, kept, left_out, failed, Place, asked, failure_at, end_at, source_answer, call_of, answer_at, EndsKept, PassTrace, passing}
 
 -- The contract of such an adapter. Its condition: one of the source, and a number to come of it, since one draw may leave many items out.
 abbrev pub leaving_out : {S F X R B E : Type 0} → Source S X E → (F → X → R → F → Type 0) → (F → X → Type 0) → (X → R → Outcome B E) → (S × Option F → ℕ × Option ℕ → Type 0) → Source (S × Option F) B E
@@ -68,9 +69,41 @@ skip_while_outcome x (Some (Ok false)) = kept x
 skip_while_outcome x (Some (Ok true)) = left_out
 skip_while_outcome x (Some (Err e)) = failed e
 
--- `SkipWhile`, with the flag beside the predicate: the source's trace without the items that the predicate answers true on, where an item on which it failed is replaced by that failure; from its first false on it isn't asked, and all items are kept. It doesn't end in a left-out item.
-abbrev pub SkipWhileTrace : {S F X E : Type 0} → (S → Answered X E → S → Type 0) → Mut F (Bor X × Unit {0}) (Result Bool E) → S → Bool × F → List (Answered X E) → S → Bool × F → Type 0
-SkipWhileTrace steps g s p trace t q = PassTrace steps (skip_call g) skip_while_outcome s p trace t q
+-- the predicate was asked at the place and answered false
+abbrev pub false_at : {X E : Type 0} → Place X (Result Bool E) E → Bool
+false_at (asked x v) = answers_false v
+false_at (failure_at e) = false
+false_at end_at = false
+
+-- it answers false at none of the places
+abbrev pub NeverFalse : {X E : Type 0} → List (Place X (Result Bool E) E) → Type 0
+NeverFalse [] = ⊤
+NeverFalse (p ∷ rest) = (false_at p ≡ false) × NeverFalse rest
+
+-- it answers false at the last of the places, and at no other
+abbrev pub EndsAtFalse : {X E : Type 0} → List (Place X (Result Bool E) E) → Type 0
+EndsAtFalse [] = ⊥
+EndsAtFalse (p ∷ []) = false_at p ≡ true
+EndsAtFalse (p ∷ q ∷ rest) = (false_at p ≡ false) × EndsAtFalse (q ∷ rest)
+
+-- an item that the predicate is asked of: kept where it answers false, left out where it answers true, and replaced by a failure of it
+abbrev pub asked_outcome : {X E : Type 0} → X → Result Bool E → Outcome X E
+asked_outcome x v = skip_while_outcome x (Some v)
+
+-- The places at which the predicate is asked are those up to and with its first false: none where that came before them, and all where it doesn't come; these don't end in a left-out item.
+abbrev pub AskedUntilFalse : {X E : Type 0} → Bool → List (Place X (Result Bool E) E) → List (Answered X E) → Bool → Type 0
+AskedUntilFalse true met after found = (met ≡ []) × (found ≡ true)
+AskedUntilFalse false met after true = EndsAtFalse met
+AskedUntilFalse false met after false = NeverFalse met × (after ≡ []) × EndsKept asked_outcome met
+
+-- `SkipWhile`, with the flag beside the predicate: the source's trace is what came while the predicate was asked, up to and with its first false, and what came after. Its own trace is the first part without the items that the predicate answered true on, an item on which it failed being replaced by that failure, and then the whole second part.
+pub record SkipWhileTrace {S F X E : Type 0} (steps : S → Answered X E → S → Type 0) (g : Mut F (Bor X × Unit {0}) (Result Bool E)) (s : S) (p : Bool × F) (trace : List (Answered X E)) (t : S) (q : Bool × F) : Type 0 where
+  pub met : List (Place X (Result Bool E) E)
+  pub after : List (Answered X E)
+  pub drawn : Run steps s (map source_answer met ++ after) t
+  pub called : Calls (call_at g) p.1 (filter_map call_of met) q.1
+  pub answers : trace ≡ filter_map (answer_at asked_outcome) met ++ after
+  pub until_false : AskedUntilFalse p.0 met after q.0
 
 -- (0, u) until the first false, and then (l, u)
 abbrev pub skip_while_hints : {S F X E : Type 0} → Source S X E → S × Option (Bool × F) → ℕ × Option ℕ → Type 0

@@ -11,6 +11,7 @@ pub mod OneToOne
 pub mod MapErr
 pub mod Enumerate
 pub mod Filtering
+pub mod SkipWhile
 pub mod Sources
 pub mod ToCome
 pub mod SourceTraces

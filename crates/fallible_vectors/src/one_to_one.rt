@@ -76,9 +76,8 @@ fn inspect_fails_on_an_item(rt: HostRuntime) -> Result<(), Fail> {
 fn enumerate_counts_items_alone(rt: HostRuntime) -> Result<(), Fail> {
     let it = listed::<u32, (), 3>(rt.alloc(), [Ok(5), Err(()), Ok(6)])?;
     let mut it = it.enumerate();
-    assert_eq!(rt; it.next(), Ok(Some((0, 5))));
-    assert_eq!(rt; it.next(), Err(()));
-    assert_eq!(rt; it.next(), Ok(Some((1, 6))));
+    let drawn = answers(rt.alloc(), &mut it, 3)?;
+    assert_eq!(rt; drawn.as_slice(), [Answer::Item((0, 5)), Answer::Failure(()), Answer::Item((1, 6))].as_slice());
     Ok(())
 }
 

@@ -61,3 +61,8 @@ module _ {V S F A E : Type 0} (D : S → F → List (Answered A E) → S → F �
 
   pub meets_definition : MeetsDefinition parts StepsSeen D
   meets_definition x y s f trace e = ((λ ran. let k = run_means trace s f x y e ran in (k.source, k.closure, k.parts_are, k.holds)), (λ k. means_run trace s k.0 f k.1 x y e k.2 k.3))
+
+-- a definition that says the same is met too
+pub meets_same : {V S F A E : Type 0} (D D' : S → F → List (Answered A E) → S → F → Type 0) (parts : V → S × Option F) (steps : V → Answered A E → V → Type 0) → ((s t : S) (f g : F) (trace : List (Answered A E)) → D s f trace t g ↔ D' s f trace t g) → MeetsDefinition parts steps D → MeetsDefinition parts steps D'
+meets_same D D' parts steps same met x y s f trace e = let m = met x y s f trace e in
+    ((λ ran. let k = m.0 ran in (k.0, k.1, k.2, (same s k.0 f k.1 trace).0 k.3)), (λ k. m.1 (k.0, k.1, k.2, (same s k.0 f k.1 trace).1 k.3)))

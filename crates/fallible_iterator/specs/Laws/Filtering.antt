@@ -5,8 +5,8 @@ use Rattle.std.specs.Borrow.{Bor}
 use Rattle.fallible_iterator.specs.Traces.{Answered}
 use Rattle.fallible_iterator.specs.Source.{Source, OnAnswer, Goes, Lawful}
 use Rattle.fallible_iterator.specs.Closures.{call_on, takes_on, call_at, takes_at}
-use Rattle.fallible_iterator.specs.Passing.{Outcome, passing}
-use Rattle.fallible_iterator.specs.Filtering.{leaving_out, upper_alone, filter_outcome, FilterTrace, filter_source, filter_map_outcome, FilterMapTrace, filter_map_source, skip_call, skip_takes, skip_while_outcome, SkipWhileTrace, skip_while_hints, skip_while_source}
+use Rattle.fallible_iterator.specs.Passing.{Outcome, PassTrace, passing}
+use Rattle.fallible_iterator.specs.Filtering.{leaving_out, upper_alone, filter_outcome, FilterTrace, filter_source, filter_map_outcome, FilterMapTrace, filter_map_source, skip_call, skip_takes, skip_while_outcome, skip_while_hints, skip_while_source}
 use Rattle.fallible_iterator.specs.Laws.Definitions.{IsByAnswers}
 use Rattle.fallible_iterator.specs.Laws.Passing.{lawful_passing, passing_by_answers}
 
@@ -43,5 +43,5 @@ filter_map_by_answers steps g = passing_by_answers steps (call_on g) filter_map_
 pub lawful_skip_while : {S F X E : Type 0} {m : Source S X E} (g : Mut F (Bor X × Unit {0}) (Result Bool E)) → Lawful m → Lawful (skip_while_source m g)
 lawful_skip_while {m = m} g l = lawful_leaving_out (skip_call g) (skip_takes g) skip_while_outcome (skip_while_hints m) l
 
-pub skip_while_by_answers : {S F X E : Type 0} (steps : S → Answered X E → S → Type 0) (g : Mut F (Bor X × Unit {0}) (Result Bool E)) → IsByAnswers (SkipWhileTrace steps g)
+pub skip_while_by_answers : {S F X E : Type 0} (steps : S → Answered X E → S → Type 0) (g : Mut F (Bor X × Unit {0}) (Result Bool E)) → IsByAnswers (PassTrace steps (skip_call g) skip_while_outcome)
 skip_while_by_answers steps g = passing_by_answers steps (skip_call g) skip_while_outcome

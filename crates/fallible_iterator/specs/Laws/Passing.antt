@@ -25,15 +25,15 @@ module _ {S F X R B E : Type 0} (steps : S → Answered X E → S → Type 0) (c
     leaves_out : {s u t : S} {f h g : F} {r : Answered B E} {trace : List (Answered B E)} (x : X) (v : R) → steps s (item x) u → call f x v h → outcome x v ≡ left_out → Passes u h (r ∷ trace) t g → Passes s f (r ∷ trace) t g
 
 module _ {X R B E : Type 0} (outcome : X → R → Outcome B E) where
-  kept_tail : (p : Place X R E) (rest : List (Place X R E)) → EndsKept outcome (p ∷ rest) → EndsKept outcome rest
+  pub kept_tail : (p : Place X R E) (rest : List (Place X R E)) → EndsKept outcome (p ∷ rest) → EndsKept outcome rest
   kept_tail p [] h = tt
   kept_tail p (q ∷ rest) h = h
 
-  kept_cons : (p : Place X R E) (rest : List (Place X R E)) → IsSome (answer_at outcome p) → EndsKept outcome rest → EndsKept outcome (p ∷ rest)
+  pub kept_cons : (p : Place X R E) (rest : List (Place X R E)) → IsSome (answer_at outcome p) → EndsKept outcome rest → EndsKept outcome (p ∷ rest)
   kept_cons p [] some h = some
   kept_cons p (q ∷ rest) some h = h
 
-  kept_before : (p : Place X R E) (rest : List (Place X R E)) (r : Answered B E) (trace : List (Answered B E)) → r ∷ trace ≡ filter_map (answer_at outcome) rest → EndsKept outcome rest → EndsKept outcome (p ∷ rest)
+  pub kept_before : (p : Place X R E) (rest : List (Place X R E)) (r : Answered B E) (trace : List (Answered B E)) → r ∷ trace ≡ filter_map (answer_at outcome) rest → EndsKept outcome rest → EndsKept outcome (p ∷ rest)
   kept_before p [] r trace e h = absurd cc
   kept_before p (q ∷ rest) r trace e h = h
 
@@ -46,7 +46,7 @@ module _ {X R B E : Type 0} (outcome : X → R → Outcome B E) where
   cons_nonempty (Some r) rest h e = cc
 
   -- places that end kept have an answer
-  answered : (p : Place X R E) (rest : List (Place X R E)) → EndsKept outcome (p ∷ rest) → filter_map (answer_at outcome) (p ∷ rest) ≡ [] → ⊥
+  pub answered : (p : Place X R E) (rest : List (Place X R E)) → EndsKept outcome (p ∷ rest) → filter_map (answer_at outcome) (p ∷ rest) ≡ [] → ⊥
   answered p [] h e = some_nonempty (answer_at outcome p) [] h e
   answered p (q ∷ rest) h e = cons_nonempty (answer_at outcome p) (filter_map (answer_at outcome) (q ∷ rest)) (answered q rest h) e
 
