@@ -1,5 +1,5 @@
 -- A definition over whole traces, whose step is the definition at one answer, is met by runs of that step.
-use Rattle.std.specs.Prelude.{◌≡◌, List, [], ◌∷◌, Option, Some, None}
+use Rattle.std.specs.Prelude.{◌↔◌, ◌≡◌, List, [], ◌∷◌, Option, Some, None}
 use Rattle.std.proofs.Common.{refl, sym, ◌∙◌, ap, subst}
 use Rattle.fallible_iterator.specs.Traces.{Answered, Run}
 use Rattle.fallible_iterator.specs.Closures.{InSlot, InSlots}
