@@ -17,11 +17,11 @@ use Rattle.fallible_iterator.specs.Source.{seen_as}
 use Rattle.fallible_iterator.specs.Closures.{InSlots, call_on, call_at}
 use Rattle.fallible_iterator.specs.Parts.{convert_source_of, map_parts, filter_parts}
 use Rattle.fallible_iterator.specs.Sources.{std_step, convert_source}
-use Rattle.fallible_iterator.specs.Passing.{Outcome, kept, left_out, failed, PassTrace}
+use Rattle.fallible_iterator.specs.Passing.{Outcome, kept, left_out, failed, an_end, PassTrace}
 use Rattle.fallible_iterator.specs.OneToOne.{map_outcome}
 use Rattle.fallible_iterator.specs.Filtering.{filter_outcome}
 use Rattle.fallible_iterator.specs.Folds.{CountExit, Counted}
-use Rattle.fallible_iterator.specs.Laws.Passing.{Passes, ends, fails, keeps, refuses, leaves_out, done, to_passes, from_passes}
+use Rattle.fallible_iterator.specs.Laws.Passing.{Passes, ends, fails, keeps, refuses, closes, leaves_out, done, to_passes, from_passes}
 
 -- an item or a failure as an answer
 abbrev pub answer_of : {B E : Type 0} → Result B E → Answered B E
@@ -76,18 +76,20 @@ module _ {S A B E : Type 0} (can : S → Type 0) (gives : S → Option (Result A
   answers_std [] s h = λ r t step. none_came s h r t step
   answers_std (y ∷ ys) s h = λ r t step. one_came s y (λ j. AlwaysAnswers draws v j ys) h.0 (λ x j came. let a = h.1 x j came in (a.0, answers_std ys j a.1)) r t step
 
--- ---- an adapter that lets answers pass, where a call leaves the closure as it was and its outcome is o of what u reads of the item
+-- ---- an adapter that lets answers pass, where each call leaves the closure as it was and has the outcome that o says of what u reads of the item
 
 abbrev pub seen_outcome : {B D E : Type 0} → (B → D) → Outcome B E → Outcome D E
 seen_outcome v (kept y) = kept (v y)
 seen_outcome v left_out = left_out
 seen_outcome v (failed e) = failed e
+seen_outcome v an_end = an_end
 
--- an outcome before a list
+-- an outcome before a list, which has no ends
 abbrev pub onto : {D E : Type 0} → Outcome D E → List (Result D E) → List (Result D E)
 onto (kept z) zs = Ok z ∷ zs
 onto left_out zs = zs
 onto (failed e) zs = Err e ∷ zs
+onto an_end zs = zs
 
 -- a list with each item's outcome
 abbrev pub passed : {C D E : Type 0} → (C → Outcome D E) → List (Result C E) → List (Result D E)
@@ -109,7 +111,7 @@ abbrev pub slot_draws : {S F X R B E : Type 0} → (S → Answered X E → S →
 slot_draws steps call outcome p r q = InSlots p.1 q.1 (λ f g. PassTrace steps call outcome p.0 f (r ∷ []) q.0 g)
 
 module _ {S F X R B C D E : Type 0} (steps : S → Answered X E → S → Type 0) (call : F → X → R → F → Type 0) (outcome : X → R → Outcome B E) (u : X → C) (v : B → D) (o : C → Outcome D E) (f : F)
-    (acts : (x : X) (r : R) (g : F) → call f x r g → (g ≡ f) × (seen_outcome v (outcome x r) ≡ o (u x))) where
+    (acts : (x : X) (r : R) (g : F) → call f x r g → (g ≡ f) × (seen_outcome v (outcome x r) ≡ o (u x))) (goes_on : (y : C) → o y ≡ an_end → ⊥) where
   abbrev pass : S × Option F → Answered B E → S × Option F → Type 0
   pass = slot_draws steps call outcome
 
@@ -126,6 +128,7 @@ module _ {S F X R B C D E : Type 0} (steps : S → Answered X E → S → Type 0
   ended s h r t g (fails {u = j} e step p) = absurd (let a : Err e ≡ Ok None = h (Err e) j step in cc)
   ended s h r t g (keeps {u = j} x b y step called is p) = absurd (let a : Ok (Some (u x)) ≡ Ok None = h (item x) j step in cc)
   ended s h r t g (refuses {u = j} x b e step called is p) = absurd (let a : Ok (Some (u x)) ≡ Ok None = h (item x) j step in cc)
+  ended s h r t g (closes {u = j} x b step called is p) = absurd (let a : Ok (Some (u x)) ≡ Ok None = h (item x) j step in cc)
   ended s h r t g (leaves_out {u = j} x b step called is p) = absurd (let a : Ok (Some (u x)) ≡ Ok None = h (item x) j step in cc)
 
   -- a draw where the source fails
@@ -134,6 +137,7 @@ module _ {S F X R B C D E : Type 0} (steps : S → Answered X E → S → Type 0
   refused d ys s h r t g (fails e step done) = let a = h (Err e) t step in (let same : Err e ≡ Err d = a.0 in let e' : e ≡ d = cc in ap (λ (z : E). Err z) e', refl, a.1)
   refused d ys s h r t g (keeps {u = j} x b y step called is p) = absurd (let a : Ok (Some (u x)) ≡ Err d = (h (item x) j step).0 in cc)
   refused d ys s h r t g (refuses {u = j} x b e step called is p) = absurd (let a : Ok (Some (u x)) ≡ Err d = (h (item x) j step).0 in cc)
+  refused d ys s h r t g (closes {u = j} x b step called is p) = absurd (let a : Ok (Some (u x)) ≡ Err d = (h (item x) j step).0 in cc)
   refused d ys s h r t g (leaves_out {u = j} x b step called is p) = absurd (let a : Ok (Some (u x)) ≡ Err d = (h (item x) j step).0 in cc)
 
   -- a draw where an item comes, by its outcome
@@ -141,6 +145,7 @@ module _ {S F X R B C D E : Type 0} (steps : S → Answered X E → S → Type 0
   First ys r t g (kept z) = (seen v r ≡ Ok (Some z)) × (g ≡ f) × AlwaysAnswers steps u t ys
   First ys r t g left_out = (j : S) × AlwaysAnswers steps u j ys × From j r t g
   First ys r t g (failed e) = (seen v r ≡ Err e) × (g ≡ f) × AlwaysAnswers steps u t ys
+  First ys r t g an_end = ⊥
 
   first : (y : C) (ys : List (Result C E)) (s : S) → AlwaysAnswers steps u s (Ok y ∷ ys) → (r : Answered B E) (t : S) (g : F) → From s r t g → First ys r t g (o y)
   unfolding First
@@ -156,6 +161,11 @@ module _ {S F X R B C D E : Type 0} (steps : S → Answered X E → S → Type 0
       let k = acts x b g called in
       let same : failed e ≡ o y = sym (ap (seen_outcome v) is) ∙ k.1 ∙ ap o (came a.0) in
       subst (First ys (Err e) t g) same (refl, k.0, a.1)
+  first y ys s h r t g (closes {u = j} {h = i} x b step called is p) =
+      let a = h (item x) j step in
+      let k = acts x b i called in
+      let same : an_end ≡ o y = sym (ap (seen_outcome v) is) ∙ k.1 ∙ ap o (came a.0) in
+      absurd (goes_on y (sym same))
   first y ys s h r t g (leaves_out {u = j} {h = i} x b step called is rest) =
       let a = h (item x) j step in
       let k = acts x b i called in
@@ -174,6 +184,8 @@ module _ {S F X R B C D E : Type 0} (steps : S → Answered X E → S → Type 0
       (λ t g p. let a = came_first r t g p in ((a.0, Some f), from_passes a.2, rest a.0 a.1)) step)
   by_outcome ys (failed e) zs s came_first rest = λ r q step. at_slot s r q (λ p. (seen v r ≡ Err e) × Answers p zs)
       (λ t g p. let a = came_first r t g p in (a.0, subst (λ (l : F). Answers (t, Some l) zs) (sym a.1) (rest t a.2))) step
+  by_outcome ys an_end zs s came_first rest = rebase pass v zs (s, Some f) (λ r q step. at_slot s r q (λ p. (j : S × Option F) × pass j r p × Answers j zs)
+      (λ t g p. absurd (came_first r t g p)) step)
 
   answers_passed : (ys : List (Result C E)) (s : S) → AlwaysAnswers steps u s ys → Answers (s, Some f) (passed o ys)
   answers_passed [] s h = λ r q step. at_slot s r q (λ p. seen v r ≡ Ok None) (λ t g p. ended s h r t g p) step
@@ -264,6 +276,10 @@ seen_map : {X B C D E : Type 0} (v : B → D) (x : X) (y : C) (r : Result B E) �
 seen_map v x y (Ok b) = refl
 seen_map v x y (Err e) = refl
 
+map_goes_on : {X B E : Type 0} (x : X) (r : Result B E) → map_outcome x r ≡ an_end → ⊥
+map_goes_on x (Ok b) e = cc
+map_goes_on x (Err d) e = cc
+
 -- one draw of `Map`, and one of `Filter`
 abbrev pub map_draws : {S F X B E : Type 0} → (S → Answered X E → S → Type 0) → Mut F (X × Unit {0}) (Result B E) → Map S F → Answered B E → Map S F → Type 0
 map_draws steps g s r t = InSlots (map_parts s).1 (map_parts t).1 (λ f q. PassTrace steps (call_on g) map_outcome (map_parts s).0 f (r ∷ []) (map_parts t).0 q)
@@ -279,13 +295,18 @@ AnswersList-from_map {C = C} {D = D} {E = E} {steps = steps} {u = u} {ys = ys} {
     let o : C → Outcome D E = λ y. map_outcome y (h y) in
     record {
       runs = answers_seen map_parts (slot_draws steps (call_on g) map_outcome) v _ s (subst (λ p. AlwaysAnswers (slot_draws steps (call_on g) map_outcome) v p (passed o ys)) (sym is)
-          (answers_passed steps (call_on g) map_outcome u v o f (λ x r q called. let k = acts x r q called in (k.0, seen_map v x (u x) r ∙ ap (map_outcome (u x)) k.1)) ys j a.runs));
+          (answers_passed steps (call_on g) map_outcome u v o f (λ x r q called. let k = acts x r q called in (k.0, seen_map v x (u x) r ∙ ap (map_outcome (u x)) k.1)) (λ y e. map_goes_on y (h y) e) ys j a.runs));
     }
 
 seen_filter : {X C E : Type 0} (u : X → C) (x : X) (r : Result Bool E) → seen_outcome u (filter_outcome x r) ≡ filter_outcome (u x) r
 seen_filter u x (Ok true) = refl
 seen_filter u x (Ok false) = refl
 seen_filter u x (Err e) = refl
+
+filter_goes_on : {X E : Type 0} (x : X) (r : Result Bool E) → filter_outcome x r ≡ an_end → ⊥
+filter_goes_on x (Ok true) e = cc
+filter_goes_on x (Ok false) e = cc
+filter_goes_on x (Err d) e = cc
 
 -- where the closure stays as it was, and answers what h says of what u reads of the item
 pub AnswersList-from_filter : {S F X C E : Type 0} {steps : S → Answered X E → S → Type 0} {u : X → C} {ys : List (Result C E)} {s : Filter S F} {j : S} {f : F} (g : Mut F (Bor X × Unit {0}) (Result Bool E)) (h : C → Result Bool E)
@@ -295,7 +316,7 @@ AnswersList-from_filter {X = X} {C = C} {E = E} {steps = steps} {u = u} {ys = ys
     let o : C → Outcome C E = λ y. filter_outcome y (h y) in
     record {
       runs = answers_seen filter_parts (slot_draws steps (call_at g) filter_outcome) u _ s (subst (λ p. AlwaysAnswers (slot_draws steps (call_at g) filter_outcome) u p (passed o ys)) (sym is)
-          (answers_passed steps (call_at g) filter_outcome u u o f (λ x r q called. let k = acts x r q called in (k.0, seen_filter u x r ∙ ap (filter_outcome (u x)) k.1)) ys j a.runs));
+          (answers_passed steps (call_at g) filter_outcome u u o f (λ x r q called. let k = acts x r q called in (k.0, seen_filter u x r ∙ ap (filter_outcome (u x)) k.1)) (λ y e. filter_goes_on y (h y) e) ys j a.runs));
     }
 
 pub counted_is : {S A B E : Type 0} {steps : S → Answered A E → S → Type 0} {v : A → B} {ys : List (Result B E)} {s : S} {r : Result ℕ E} → Counted steps s r → AnswersList steps v s ys → r ≡ counted 0 ys

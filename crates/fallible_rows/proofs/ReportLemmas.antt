@@ -15,14 +15,16 @@ pub row_limit-is : row_limit ≡ 1000000
 unfolding row_limit
 row_limit-is = refl
 
--- what the chain's two closures answer: the number where there is one, and else the fault at the place; and whether a number passes
+-- a number where there is one, and else the fault at a place
 abbrev pub number_or_place : {E : Type 0} → (ℕ → E) → Option ℕ → ℕ → Result ℕ E
 number_or_place fault (Some number) place = Ok number
 number_or_place fault None place = Err (fault place)
 
+-- what the closure of `map` answers at an element and its place
 abbrev pub number_at : {X E : Type 0} → (X → Option ℕ) → (ℕ → E) → X × ℕ → Result ℕ E
 number_at number_of fault p = number_or_place fault (number_of p.0) p.1
 
+-- what the closure of `filter` answers at a number
 abbrev pub passes : {E : Type 0} → (ℕ → Bool) → ℕ → Result Bool E
 passes test number = Ok (test number)
 
@@ -44,6 +46,7 @@ module _ {X E : Type 0} (number_of : X → Option ℕ) (test : ℕ → Bool) (fa
   abbrev IsCount : ℕ → ℕ → List X → Result ℕ E → Type 0
   IsCount i n xs r = MatchResult r (λ c. (position_from refuses i xs ≡ None) × (c ≡ fold plus n xs)) (λ e. (j : ℕ) × (e ≡ fault (j + 1)) × (position_from refuses i xs ≡ Some j))
 
+  -- an element that is not refused, before the others
   more : (x : X) (xs : List X) (i n m : ℕ) (r : Result ℕ E) → refuses x ≡ false → plus n x ≡ m → IsCount (i + 1) m xs r → IsCount i n (x ∷ xs) r
   more x xs i n m (Ok c) taken is h = (cond-false _ _ _ taken ∙ h.0, h.1 ∙ ap (λ k. fold plus k xs) (sym is))
   more x xs i n m (Err e) taken is h = (h.0, h.1, cond-false _ _ _ taken ∙ h.2)
@@ -74,7 +77,7 @@ module _ {X E : Type 0} (number_of : X → Option ℕ) (test : ℕ → Bool) (fa
   chain_counts [] i n = (refl, refl)
   chain_counts (x ∷ xs) i n = one_more x xs i n (number_of x) refl (λ m. chain_counts xs (i + 1) m)
 
--- the rows of bytes that are looked at, as the chain comes by them
+-- the chain's answer on rows
 abbrev pub rows_count : List (List ℕ) → Result ℕ RowFault
 rows_count xs = chain_count row_number (λ number. nat_lt 100 number) (λ place. Row place) 0 0 xs
 
@@ -90,7 +93,7 @@ tally_of bytes (Ok c) h = let place = position_from-zero is_refused (first_rows 
 tally_of bytes (Err e) h = let place = position_from-zero is_refused (first_rows bytes) ∙ h.2 in
     (h.0 + 1, h.1, ap (λ p. unless_refused p (count_by is_above (first_rows bytes))) place)
 
--- the count of the rows that are looked at is the tally of the bytes
+-- the chain's answer on the rows that are looked at is the tally of the bytes
 pub tally-counted : (bytes : List ℕ) (xs : List (List ℕ)) (r : Result ℕ RowFault) → xs ≡ first_rows bytes → r ≡ rows_count xs → IsTally bytes r
 tally-counted bytes xs r are is =
     let h : IsRowsCount xs (rows_count xs) = chain_counts row_number (λ number. nat_lt 100 number) (λ place. Row place) xs 0 0 in

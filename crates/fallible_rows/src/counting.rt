@@ -21,6 +21,7 @@ pub(crate) fn count_above(bytes: &[u8]) -> Result<usize, RowFault>
     if bytes.is_empty() {
         return Ok(0);
     }
+    // `fuse` comes last: `convert` wants an iterator that may be asked again after its end.
     let rows = without_last_newline(bytes)
         .split(|byte| *byte == b'\n')
         .take(MAX_ROWS)
