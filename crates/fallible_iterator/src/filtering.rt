@@ -91,9 +91,9 @@ impl<I: FallibleIterator, B, F: FnMut(I::Item) -> Result<Option<B>, I::Error>> F
                 Err(failure) => Err((f, Err(failure))),
             }
         };
-        let (f, answer) = unpack(self.it.try_fold_carrying(f, &ask));
+        let (f, value) = unpack(self.it.try_fold_carrying(f, &ask));
         self.f = Some(f);
-        answer
+        value
     }
 
     fn size_hint(&self) -> (usize, Option<usize>) {

@@ -238,7 +238,9 @@ pub trait FallibleIterator: Drop + Sized {
         }
     }
 
-    /// Replaces each item by the value that the closure answers on it, and leaves it out where the answer is none. Making the adapter draws nothing and calls nothing.
+    /// Replaces each item by the value that the closure answers on it, and leaves it out where the answer is none. Where the closure fails, its failure is the answer, that item is lost, and the next call goes on after it. Making the adapter draws nothing and calls nothing.
+    ///
+    /// It asks a number to come of the source, since one call may leave many items out, and that the closure may be called on each item that may come.
     final fn filter_map<B, F>(self, f: F) -> FilterMap<Self, F>
     where
         F: FnMut(Self::Item) -> Result<Option<B>, Self::Error>,
@@ -252,7 +254,9 @@ pub trait FallibleIterator: Drop + Sized {
         }
     }
 
-    /// Shows each item to the closure, and answers it then. Making the adapter draws nothing and calls nothing.
+    /// Shows each item to the closure, and answers it then. Where the closure fails, its failure is the answer, and that item is lost. Making the adapter draws nothing and calls nothing.
+    ///
+    /// It asks that the closure may be called on a reference to each item that may come.
     final fn inspect<F>(self, f: F) -> Inspect<Self, F>
     where
         F: FnMut(&Self::Item) -> Result<(), Self::Error>,
@@ -265,7 +269,9 @@ pub trait FallibleIterator: Drop + Sized {
         }
     }
 
-    /// Replaces each failure by the closure's value on it. Making the adapter draws nothing and calls nothing.
+    /// Replaces each failure by the closure's value on it, which is called once for each failure and for nothing else. Making the adapter draws nothing and calls nothing.
+    ///
+    /// It asks that the closure may be called on each failure that may come.
     final fn map_err<B, F>(self, f: F) -> MapErr<Self, F>
     where
         F: FnMut(Self::Error) -> B,
@@ -275,7 +281,9 @@ pub trait FallibleIterator: Drop + Sized {
         MapErr { it: self, f }
     }
 
-    /// Puts each item beside the number of items before it, from 0 on; the numbers are to fit a `usize`. Making the adapter draws nothing.
+    /// Puts each item beside the number of items drawn before it, from 0 on; failures and ends don't count. Making the adapter draws nothing.
+    ///
+    /// It asks that at most `usize::MAX` items are still to come, so that each number fits.
     final fn enumerate(self) -> Enumerate<Self>
         requires { source.to_come self (2 ^ 64 - 1) }
         ensures parts { enumerate_parts result ≡ (self, Some 0) }
@@ -284,7 +292,9 @@ pub trait FallibleIterator: Drop + Sized {
         Enumerate { it: self, count: 0 }
     }
 
-    /// Leaves out the items before the first one to which the predicate answers false. Making the adapter draws nothing and calls nothing.
+    /// Leaves out the items before the first one to which the predicate answers false, and asks it no more from there on. Where it fails, its failure is the answer, that item is lost, and the skipping goes on. Making the adapter draws nothing and calls nothing.
+    ///
+    /// It asks a number to come of the source, since one call may leave many items out, and that the predicate may be called on a reference to each item that may come until it first answers false.
     final fn skip_while<P>(self, predicate: P) -> SkipWhile<Self, P>
     where
         P: FnMut(&Self::Item) -> Result<bool, Self::Error>,
@@ -299,7 +309,9 @@ pub trait FallibleIterator: Drop + Sized {
         }
     }
 
-    /// Replaces each item by the closure's answer on the state and the item, none being an end. Making the adapter draws nothing and calls nothing.
+    /// Replaces each item by the closure's answer on the state and the item. None is an end, and the next call goes on; where the closure fails, its failure is the answer, and that item is lost. The state stays as the closure left it. Making the adapter draws nothing and calls nothing.
+    ///
+    /// It asks that the closure may be called on each item that may come, with each state that such calls lead to.
     final fn scan<St, B, F>(self, initial_state: St, f: F) -> Scan<Self, St, F>
     where
         F: FnMut(&mut St, Self::Item) -> Result<Option<B>, Self::Error>,
@@ -313,7 +325,7 @@ pub trait FallibleIterator: Drop + Sized {
         }
     }
 
-    /// Replaces each item by a clone of what it points to, or by the failure made of a refused clone. Making the adapter draws nothing.
+    /// Replaces each item by a clone of what it points to. Where the clone is refused, the failure made of the refusal is the answer, and that item is lost. Making the adapter draws nothing.
     final fn cloned<'a, T: 'a>(self) -> Cloned<Self>
     where
         Self: FallibleIterator<Item = &'a T>,
