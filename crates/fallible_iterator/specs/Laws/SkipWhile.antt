@@ -1,13 +1,13 @@
 -- A trace of `SkipWhile`, answer by answer, is the one that its definition names.
-use Rattle.std.specs.Prelude.{◌≡◌, ℕ, ⊤, List, [], ◌∷◌, ◌++◌, map, Option, Result, Some, None, Ok, Err, Bool, true, false, IsSome, ◌↔◌}
-use Rattle.std.specs.List.{filter_map, cons_option}
+use Rattle.std.specs.Prelude.{◌≡◌, List, [], ◌∷◌, ◌++◌, map, Result, Some, None, Ok, Err, Bool, true, false, IsSome, ◌↔◌}
+use Rattle.std.specs.List.{filter_map}
 use Rattle.std.specs.Fn.{Mut}
 use Rattle.std.specs.Borrow.{Bor}
 use Rattle.std.proofs.Common.{refl, sym, ◌∙◌, ap, subst}
 use Rattle.fallible_iterator.specs.Traces.{Answered, Run, item}
 use Rattle.fallible_iterator.specs.Closures.{Calls, call_at}
-use Rattle.fallible_iterator.specs.Passing.{Outcome, kept, left_out, failed, an_end, Place, asked, failure_at, end_at, source_answer, call_of, outcome_answer, answer_at, EndsKept, PassTrace}
-use Rattle.fallible_iterator.specs.Filtering.{answers_false, skip_call, skip_while_outcome, false_at, NeverFalse, EndsAtFalse, asked_outcome, AskedUntilFalse, SkipWhileTrace}
+use Rattle.fallible_iterator.specs.Passing.{Place, asked, failure_at, end_at, source_answer, call_of, answer_at, PassTrace}
+use Rattle.fallible_iterator.specs.Filtering.{skip_call, skip_while_outcome, false_at, EndsAtFalse, asked_outcome, AskedUntilFalse, SkipWhileTrace}
 use Rattle.fallible_iterator.specs.Laws.Passing.{Passes, done, ends, fails, keeps, refuses, closes, leaves_out, kept_tail, kept_cons, kept_before, answered, to_passes, from_passes}
 
 -- ---- the places met, one before the others

@@ -1,5 +1,5 @@
 -- A number to come bounds the items of every run.
-use Rattle.std.specs.Prelude.{◌≡◌, ℕ, ◌+◌, ◌-◌, ◌≤◌, ◌<◌, List, [], ◌∷◌, Option, Some, None, Ok, Err}
+use Rattle.std.specs.Prelude.{ℕ, ◌-◌, ◌≤◌, ◌<◌, List, [], ◌∷◌, Some, None, Ok, Err}
 use Rattle.std.proofs.Common.{refl, arith}
 use Rattle.fallible_iterator.specs.Traces.{Answered, Run, item, end, items_in}
 use Rattle.fallible_iterator.specs.Source.{Source, OnAnswer, Lawful, BoundsItems}
