@@ -1,15 +1,8 @@
 -- `Enumerate`, which numbers the items.
 use Rattle.std.specs.Prelude.{◌≡◌, ℕ, ◌+◌, ◌-◌, ◌^◌, ◌≤◌, ◌<◌, List, [], ◌∷◌, Option, Some, None, Ok, Err}
-use Rattle.fallible_iterator.specs.Traces.{Answered, Run, item, failure, end}
+use Rattle.fallible_iterator.specs.Traces.{Answered, Run, item, failure, end, items_in}
 use Rattle.fallible_iterator.specs.Source.{Source}
 use Rattle.fallible_iterator.specs.Closures.{InSlot, InSlots}
-
--- how many items a trace has
-abbrev pub items_in : {A E : Type 0} → List (Answered A E) → ℕ
-items_in [] = 0
-items_in (Ok (Some x) ∷ rest) = items_in rest + 1
-items_in (Ok None ∷ rest) = items_in rest
-items_in (Err e ∷ rest) = items_in rest
 
 -- the trace with each item beside its number, which is n and the number of items before it; failures and ends have none
 abbrev pub numbered_from : {A E : Type 0} → ℕ → List (Answered A E) → List (Answered (ℕ × A) E)

@@ -1,7 +1,11 @@
 -- What the contract of a fallible iterator says of its values.
 use Rattle.std.specs.Prelude.{◌≡◌, ℕ, ◌≤◌, ◌<◌, Option, Some, None, Ok, Err, ◌↔◌, ⊤, List}
 use Rattle.std.specs.Iterator.{Count, IsFinite, size, endless}
-use Rattle.fallible_iterator.specs.Traces.{Answered, Run}
+use Rattle.fallible_iterator.specs.Traces.{Answered, Run, items_in}
+
+-- No run from s has more than n items. It is the number to come of a type that states no other.
+pub record BoundsItems {S A E : Type 0} (steps : S → Answered A E → S → Type 0) (s : S) (n : ℕ) : Type 0 where
+  pub at : (trace : List (Answered A E)) (t : S) → Run steps s trace t → items_in trace ≤ n
 
 -- All that the trait's contract says of a type S of fallible iterators over items A and failures E.
 pub record Source (S A E : Type 0) : Type 1 where
@@ -88,13 +92,13 @@ counting_down steps left = record {
   hints = λ _ h. h ≡ (0, None);
 }
 
--- The contract of a type that says how it steps, and states no bound on what comes.
+-- The contract of a type that says how it steps, and nothing else: it has a number to come only where its runs do.
 abbrev pub unbounded : {S A E : Type 0} → (S → Answered A E → S → Type 0) → Source S A E
 unbounded steps = record {
   can = λ _. ⊤;
   steps = steps;
-  to_come = λ _ _. ⊥;
-  has_end = λ _. ⊥;
+  to_come = BoundsItems steps;
+  has_end = λ s. (n : ℕ) × BoundsItems steps s n;
   elements = λ _. endless;
   gives = λ _ _. ⊤;
   fails = λ _ _. ⊤;

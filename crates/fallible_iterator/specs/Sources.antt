@@ -8,7 +8,7 @@ use Rattle.std.specs.declared.alloc.AllocError.{AllocError}
 use Rattle.std.specs.declared.convert.Infallible.{Infallible}
 use Rattle.fallible_iterator.specs.Closures.{Reaches, IsCallable}
 use Rattle.fallible_iterator.specs.Traces.{Answered, Run, item, failure, end}
-use Rattle.fallible_iterator.specs.Source.{Source}
+use Rattle.fallible_iterator.specs.Source.{Source, BoundsItems}
 
 -- The std iterator's answer that an answer comes from: an element for an item or a failure, none for an end.
 abbrev pub element_by : {A E Z : Type 0} → (A → Z) → (E → Z) → Answered A E → Option Z
@@ -135,8 +135,8 @@ module _ {F A E : Type 0} (g : Mut F (Unit {0}) (Answered A E)) where
   from_fn_source = record {
     can = λ f. IsCallable (call_of_none g) (λ p _. g.pre p tt) (λ _. ⊤) f;
     steps = λ f r h. Called g f tt r h;
-    to_come = λ _ _. ⊥;
-    has_end = λ _. ⊥;
+    to_come = BoundsItems (λ p r q. Called g p tt r q);
+    has_end = λ f. (n : ℕ) × BoundsItems (λ p r q. Called g p tt r q) f n;
     elements = λ _. endless;
     gives = λ f x. Answers f (item x);
     fails = λ f e. Answers f (failure e);
@@ -176,8 +176,8 @@ module _ {A E : Type 0} (is_clone : A → A → Type 0) (is_infallible : A → T
   repeat_source = record {
     can = λ _. ⊤;
     steps = λ v r w. RepeatAnswer v r × (w ≡ v);
-    to_come = λ _ _. ⊥;
-    has_end = λ _. ⊥;
+    to_come = BoundsItems (λ u r w. RepeatAnswer u r × (w ≡ u));
+    has_end = λ v. (n : ℕ) × BoundsItems (λ u r w. RepeatAnswer u r × (w ≡ u)) v n;
     elements = λ _. endless;
     gives = λ v x. RepeatAnswer v (item x);
     fails = λ v e. RepeatAnswer v (failure e);

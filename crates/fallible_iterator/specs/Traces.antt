@@ -1,5 +1,5 @@
 -- Answers and traces.
-use Rattle.std.specs.Prelude.{Option, Result, List}
+use Rattle.std.specs.Prelude.{ℕ, ◌+◌, Option, Result, List, [], ◌∷◌}
 use Rattle.std.specs.Prelude.{Some, None, Ok, Err}
 use Rattle.std.specs.List.{FoldsTo}
 
@@ -23,3 +23,10 @@ Run steps s trace t = FoldsTo steps s trace t
 -- From s, draws can give the items xs and nothing else, and leave t.
 abbrev pub Yields : {S A E : Type 0} → (S → Answered A E → S → Type 0) → S → List A → S → Type 0
 Yields steps s xs t = FoldsTo (λ u x v. steps u (item x) v) s xs t
+
+-- how many items a trace has
+abbrev pub items_in : {A E : Type 0} → List (Answered A E) → ℕ
+items_in [] = 0
+items_in (Ok (Some x) ∷ rest) = items_in rest + 1
+items_in (Ok None ∷ rest) = items_in rest
+items_in (Err e ∷ rest) = items_in rest

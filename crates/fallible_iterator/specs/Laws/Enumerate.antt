@@ -1,9 +1,9 @@
 -- The contract of `Enumerate` is lawful where the source's is, and its runs meet the definition.
 use Rattle.std.specs.Prelude.{◌≡◌, ℕ, ◌+◌, List, [], ◌∷◌, Option, Some, None, Ok, Err}
 use Rattle.std.proofs.Common.{refl, sym, ap, subst, arith}
-use Rattle.fallible_iterator.specs.Traces.{Answered, Run, item}
+use Rattle.fallible_iterator.specs.Traces.{Answered, Run, item, items_in}
 use Rattle.fallible_iterator.specs.Source.{Source, Goes, Lawful}
-use Rattle.fallible_iterator.specs.Enumerate.{items_in, numbered_from, EnumerateTrace, enumerate_source}
+use Rattle.fallible_iterator.specs.Enumerate.{numbered_from, EnumerateTrace, enumerate_source}
 use Rattle.fallible_iterator.specs.Laws.Definitions.{FirstOf, IsByAnswers}
 
 module _ {S A E : Type 0} (steps : S → Answered A E → S → Type 0) where

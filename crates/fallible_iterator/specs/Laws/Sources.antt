@@ -5,6 +5,7 @@ use Rattle.std.specs.Fn.{Called, Mut}
 use Rattle.std.specs.declared.alloc.AllocError.{AllocError}
 use Rattle.std.proofs.Common.{refl, sym, subst, arith}
 use Rattle.fallible_iterator.specs.Closures.{Reaches}
+use Rattle.fallible_iterator.specs.Laws.ToCome.{bounds_fewer, bounds_failure, bounds_end, bound_stays}
 use Rattle.fallible_iterator.specs.Laws.Closures.{reaches_here, reaches_from, callable_after}
 use Rattle.fallible_iterator.specs.Traces.{Answered, item, failure, end}
 use Rattle.fallible_iterator.specs.Source.{Source, OnAnswer, Goes, Lawful}
@@ -83,20 +84,20 @@ module _ {F A E : Type 0} (g : Mut F (Unit {0}) (Answered A E)) where
   answers_after f h r q called a = record { state = a.state; left = a.left; reached = reaches_from tt r tt called a.reached; called = a.called }
 
   from_fn_answer : (f h : F) (r : Answered A E) → Called g f tt r h → OnAnswer FromFn f r h
-  from_fn_answer f h (Ok (Some x)) called = (record { state = f; left = h; reached = reaches_here; called = called }, (λ n b. absurd b), (λ e. absurd e))
-  from_fn_answer f h (Ok None) called = ((λ n b. absurd b), (λ e. absurd e))
-  from_fn_answer f h (Err e) called = (record { state = f; left = h; reached = reaches_here; called = called }, (λ n b. absurd b), (λ d. absurd d))
+  from_fn_answer f h (Ok (Some x)) called = (record { state = f; left = h; reached = reaches_here; called = called }, (λ n b. bounds_fewer x called b), (λ e. absurd e))
+  from_fn_answer f h (Ok None) called = ((λ n b. bounds_end called b), (λ e. absurd e))
+  from_fn_answer f h (Err e) called = (record { state = f; left = h; reached = reaches_here; called = called }, (λ n b. bounds_failure e called b), (λ d. absurd d))
 
   pub lawful_from_fn : Lawful FromFn
   lawful_from_fn = record {
     goes = λ f r h c called. record {
       can = callable_after (λ x p. p) (one_call f h r called) c;
-      has_end = λ e. e;
+      has_end = bound_stays FromFn f h r (from_fn_answer f h r called);
       answer = from_fn_answer f h r called;
       gives = λ x. answers_after f h r (item x) called;
       fails = λ e. answers_after f h r (failure e) called;
     };
-    ends = λ f. ((λ e. absurd e), (λ p. p.1));
+    ends = λ f. ((λ e. e), (λ p. p));
   }
 
 module _ {S A E : Type 0} where
@@ -114,15 +115,15 @@ module _ {A E : Type 0} (is_clone : A → A → Type 0) (is_infallible : A → T
   Repeat = repeat_source is_clone is_infallible from
 
   repeat_answer : (v : A) (r : Answered A E) → RepeatAnswer is_clone is_infallible from v r → OnAnswer Repeat v r v
-  repeat_answer v (Ok (Some x)) h = (h, (λ n b. absurd b), (λ f. absurd f))
+  repeat_answer v (Ok (Some x)) h = (h, (λ n b. bounds_fewer {steps = Repeat.steps} x (h, refl) b), (λ f. absurd f))
   repeat_answer v (Ok None) h = absurd h
-  repeat_answer v (Err e) h = (h, (λ n b. absurd b), (λ f. absurd f))
+  repeat_answer v (Err e) h = (h, (λ n b. bounds_failure {steps = Repeat.steps} e (h, refl) b), (λ f. absurd f))
 
   goes_repeat : (v : A) (r : Answered A E) (w : A) → Repeat.steps v r w → Goes Repeat v r w
   goes_repeat v r w step = subst (λ (u : A). Goes Repeat v r u) (sym step.1) (record { can = tt; has_end = λ e. e; answer = repeat_answer v r step.0; gives = λ x h. h; fails = λ e h. h })
 
   pub lawful_repeat : Lawful Repeat
-  lawful_repeat = record { goes = λ v r w c step. goes_repeat v r w step; ends = λ v. ((λ e. absurd e), (λ p. p.1)) }
+  lawful_repeat = record { goes = λ v r w c step. goes_repeat v r w step; ends = λ v. ((λ e. e), (λ p. p)) }
 
 module _ {A E : Type 0} (is_clone : E → E → Type 0) (is_infallible : E → Type 0) (from : AllocError → E → Type 0) where
   abbrev RepeatErr : Source E A E

@@ -1,7 +1,6 @@
 // What a number to come means.
 ghost use Rattle.std.specs.Prelude.{ℕ, ◌≤◌, List};
-ghost use Rattle.fallible_iterator.specs.Traces.{Answered, Run};
-ghost use Rattle.fallible_iterator.specs.Enumerate.{items_in};
+ghost use Rattle.fallible_iterator.specs.Traces.{Answered, Run, items_in};
 
 use crate::traits::FallibleIterator;
 
