@@ -22,6 +22,9 @@ use std::alloc::{AllocError, Global};
 use std::convert::Infallible;
 use std::marker::PhantomData;
 
+/// An iterator whose `next` may fail. It may go on after an end and after a failure.
+///
+/// A type of one's own writes `next`, `size_hint` and `source`: its step, and what it says of what is still to come. `counting_down` of `specs/Source` makes that of a step and a bound. A search then finds `lawful`.
 pub trait FallibleIterator: Drop + Sized {
     type Item;
 
@@ -30,14 +33,16 @@ pub trait FallibleIterator: Drop + Sized {
     // All that the contract says of the values of this type.
     ghost source: { Source Self Self.Item Self.Error };
 
+    /// One answer: an item, a failure or an end. The step of the type says which, and what is left.
     fn next(&mut self) -> Result<Option<Self::Item>, Self::Error>
         requires { source.can self.old }
         ensures { source.steps self.old result self.new };
 
+    /// Bounds on the items of a run up to its first end, where it has no failure. A type with nothing to say answers `(0, None)`.
     fn size_hint(&self) -> (usize, Option<usize>)
         ensures { source.hints self.now result };
 
-    // A number to come, for drains to count down by.
+    // A number to come, for drains to count down by. It is no part of the surface.
     fn number(&self) -> Number
         requires { (n : ℕ) × source.to_come self.now n }
         ensures { source.to_come self.now result.value }
@@ -47,6 +52,7 @@ pub trait FallibleIterator: Drop + Sized {
         }
     }
 
+    // Draws until an end, a failure or a turn that stops, and hands the carried value back at each exit. Every fold goes through it, and a type may override it for all of them. It is no part of the surface.
     fn try_fold_carrying<C, R, K: Turn<C, Self::Item, R>>(
         &mut self,
         init: C,
@@ -74,6 +80,7 @@ pub trait FallibleIterator: Drop + Sized {
         }
     }
 
+    /// The number of items up to the end, or the first failure, after which nothing is drawn. It asks a number to come of at most `usize::MAX`.
     fn count(mut self) -> Result<usize, Self::Error>
     where
         Self::Item: Drop,
@@ -118,6 +125,9 @@ pub trait FallibleIterator: Drop + Sized {
     // What the other functions know of a draw: see `Goes`.
     ghost lawful: { Lawful source };
 
+    /// Calls the closure on the value so far and each item in order. At the end it answers the last value; at a failure that failure, converted; where the closure fails, its error. Nothing is drawn after the answer that decides, and what is left may be drawn from again.
+    ///
+    /// It asks a number to come, and that the closure may be called on each item that may come with the value so far.
     final fn try_fold<B, E, F>(&mut self, init: B, f: F) -> Result<B, E>
     where
         B: Drop,
@@ -146,6 +156,7 @@ pub trait FallibleIterator: Drop + Sized {
         }
     }
 
+    /// `try_fold` on the iterator itself, where the closure fails with the iterator's own error.
     final fn fold<B, F>(mut self, init: B, f: F) -> Result<B, Self::Error>
     where
         B: Drop,

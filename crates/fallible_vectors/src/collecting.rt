@@ -19,13 +19,19 @@ fn shown<C: Drop, E: Drop>(made: Result<C, Fault<E>>) -> Option<Result<C, E>> {
 
 // Even items pass where 3 divides them, and odd ones fail.
 fn even_thirds(x: &u32) -> Result<bool, u32> {
-    if *x % 2 == 0 { Ok(*x % 3 == 0) } else { Err(*x) }
+    if *x % 2 == 0 {
+        Ok(*x % 3 == 0)
+    } else {
+        Err(*x)
+    }
 }
 
 #[test]
 fn collect_doubled(rt: HostRuntime) -> Result<(), Fail> {
     let it = listed::<u32, u32, 5>(rt.alloc(), [Ok(0), Ok(1), Ok(2), Ok(3), Ok(4)])?;
-    let made: Result<Vec<u32>, Fault<u32>> = it.map(|x: u32| Ok(x.wrapping_mul(2))).collect(rt.alloc());
+    let made: Result<Vec<u32>, Fault<u32>> = it
+        .map(|x: u32| Ok(x.wrapping_mul(2)))
+        .collect(rt.alloc());
     let items = shown(made).expect(&rt, "memory").expect(&rt, "a failure");
     assert_eq!(rt; items.as_slice(), [0, 2, 4, 6, 8].as_slice());
     Ok(())

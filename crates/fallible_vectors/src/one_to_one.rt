@@ -77,7 +77,15 @@ fn enumerate_counts_items_alone(rt: HostRuntime) -> Result<(), Fail> {
     let it = listed::<u32, (), 3>(rt.alloc(), [Ok(5), Err(()), Ok(6)])?;
     let mut it = it.enumerate();
     let drawn = answers(rt.alloc(), &mut it, 3)?;
-    assert_eq!(rt; drawn.as_slice(), [Answer::Item((0, 5)), Answer::Failure(()), Answer::Item((1, 6))].as_slice());
+    assert_eq!(rt;
+        drawn.as_slice(),
+        [
+            Answer::Item((0, 5)),
+            Answer::Failure(()),
+            Answer::Item((1, 6))
+        ]
+        .as_slice()
+    );
     Ok(())
 }
 

@@ -1,8 +1,8 @@
 // Sources.
 use fallible_iterator::laws::{Answer, answers};
 use fallible_iterator::{FallibleIterator, IteratorExt, empty, from_fn, once, repeat, repeat_err};
-use std::cell::Cell;
 use std::alloc::AllocError;
+use std::cell::Cell;
 use std::test::Fail;
 
 #[test]
@@ -17,7 +17,10 @@ fn from_fn_goes_on_after_an_end(rt: HostRuntime) -> Result<(), Fail> {
         }
     });
     let drawn = answers(rt.alloc(), &mut it, 4)?;
-    assert_eq!(rt; drawn.as_slice(), [Answer::Item(1), Answer::End, Answer::Item(2), Answer::End].as_slice());
+    assert_eq!(rt;
+        drawn.as_slice(),
+        [Answer::Item(1), Answer::End, Answer::Item(2), Answer::End].as_slice()
+    );
     Ok(())
 }
 
@@ -63,7 +66,15 @@ impl Clone for Failure {
 fn repeat_err_always_fails(rt: HostRuntime) -> Result<(), Fail> {
     let mut it = repeat_err::<u32, Failure>(Failure::Number(4));
     let drawn = answers(rt.alloc(), &mut it, 3)?;
-    assert_eq!(rt; drawn.as_slice(), [Answer::Failure(Failure::Number(4)), Answer::Failure(Failure::Number(4)), Answer::Failure(Failure::Number(4))].as_slice());
+    assert_eq!(rt;
+        drawn.as_slice(),
+        [
+            Answer::Failure(Failure::Number(4)),
+            Answer::Failure(Failure::Number(4)),
+            Answer::Failure(Failure::Number(4))
+        ]
+        .as_slice()
+    );
     Ok(())
 }
 
@@ -90,7 +101,10 @@ impl<'a> Clone for Text<'a> {
 #[test]
 fn repeat_goes_on_after_a_refused_clone(rt: HostRuntime) {
     let clones = Cell::new(0);
-    let mut it = repeat::<Text<'_>, Failure>(Text { text: "x", clones: &clones });
+    let mut it = repeat::<Text<'_>, Failure>(Text {
+        text: "x",
+        clones: &clones,
+    });
     match it.next() {
         Ok(Some(clone)) => assert_eq!(rt; clone.text, "x"),
         _ => assert!(rt; false),
