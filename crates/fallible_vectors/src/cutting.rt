@@ -1,7 +1,7 @@
 // Adapters that cut a trace off, and `nth`.
 use crate::listed::listed;
-use fallible_iterator::FallibleIterator;
 use fallible_iterator::laws::{Answer, answers};
+use fallible_iterator::{FallibleIterator, Fault, from_fn};
 use std::test::Fail;
 
 #[test]
@@ -80,6 +80,76 @@ fn take_while_below_each_bound(rt: HostRuntime) -> Result<(), Fail> {
             Answer::End
         ]
         .as_slice()
+    );
+    Ok(())
+}
+
+#[test]
+fn take_while_goes_on_after_an_end(rt: HostRuntime) -> Result<(), Fail> {
+    let mut calls = 0u32;
+    let mut it = from_fn(move || {
+        calls = calls.wrapping_add(1);
+        match calls {
+            1 => Ok::<Option<u32>, u32>(Some(1)),
+            2 => Ok(None),
+            4 => Ok(Some(2)),
+            _ => Ok(Some(1)),
+        }
+    });
+    let mut low = (&mut it).take_while(|x: &u32| -> Result<bool, u32> { Ok(*x < 2) });
+    let got = answers(rt.alloc(), &mut low, 5)?;
+    assert_eq!(rt;
+        got.as_slice(),
+        [
+            Answer::Item(1),
+            Answer::End,
+            Answer::Item(1),
+            Answer::End,
+            Answer::End
+        ]
+        .as_slice()
+    );
+    assert_eq!(rt; it.next(), Ok(Some(1)));
+    Ok(())
+}
+
+#[test]
+fn take_ends_with_its_source(rt: HostRuntime) -> Result<(), Fail> {
+    let mut calls = 0u32;
+    let it = from_fn(move || {
+        calls = calls.wrapping_add(1);
+        if calls <= 5 {
+            Ok::<Option<u32>, u32>(Some(calls))
+        } else if calls == 6 {
+            Ok(None)
+        } else {
+            Err(calls)
+        }
+    });
+    let made: Result<Vec<u32>, Fault<u32>> = it.take(6).collect(rt.alloc());
+    match made {
+        Ok(items) => assert_eq!(rt; items.as_slice(), [1, 2, 3, 4, 5].as_slice()),
+        Err(_) => assert!(rt; false),
+    }
+    Ok(())
+}
+
+#[test]
+fn fuse_keeps_an_end(rt: HostRuntime) -> Result<(), Fail> {
+    let mut calls = 0u32;
+    let mut it = from_fn(move || {
+        calls = calls.wrapping_add(1);
+        match calls {
+            1 => Ok::<Option<u32>, u32>(Some(1)),
+            2 => Ok(None),
+            _ => Ok(Some(2)),
+        }
+    })
+    .fuse();
+    let got = answers(rt.alloc(), &mut it, 3)?;
+    assert_eq!(rt;
+        got.as_slice(),
+        [Answer::Item(1), Answer::End, Answer::End].as_slice()
     );
     Ok(())
 }

@@ -1,6 +1,8 @@
 // Sources.
 use fallible_iterator::laws::{Answer, answers};
-use fallible_iterator::{FallibleIterator, IteratorExt, empty, from_fn, once, repeat, repeat_err};
+use fallible_iterator::{
+    FallibleIterator, Fault, IteratorExt, empty, from_fn, once, repeat, repeat_err,
+};
 use std::alloc::AllocError;
 use std::cell::Cell;
 use std::test::Fail;
@@ -117,6 +119,18 @@ fn repeat_goes_on_after_a_refused_clone(rt: HostRuntime) {
         Ok(Some(clone)) => assert_eq!(rt; clone.text, "x"),
         _ => assert!(rt; false),
     }
+}
+
+#[test]
+fn repeat_is_cut_by_take(rt: HostRuntime) -> Result<(), Fail> {
+    let made: Result<Vec<u32>, Fault<Failure>> = repeat::<u32, Failure>(5)
+        .take(2)
+        .collect(rt.alloc());
+    match made {
+        Ok(items) => assert_eq!(rt; items.as_slice(), [5, 5].as_slice()),
+        Err(_) => assert!(rt; false),
+    }
+    Ok(())
 }
 
 #[test]
