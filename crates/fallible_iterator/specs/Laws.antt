@@ -23,3 +23,4 @@ pub mod Closing
 pub mod Nth
 pub mod Skipping
 pub mod Stepping
+pub mod Flattening

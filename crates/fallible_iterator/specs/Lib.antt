@@ -14,6 +14,7 @@ pub mod Filtering
 pub mod Cutting
 pub mod Skipping
 pub mod Stepping
+pub mod Flattening
 pub mod Answers
 pub mod Collecting
 pub mod Borrowed

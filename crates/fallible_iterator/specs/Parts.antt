@@ -22,6 +22,8 @@ use Rattle.fallible_iterator.specs.declared.cutting.fusing.Fuse.{Fuse}
 use Rattle.fallible_iterator.specs.declared.cutting.taking_while.TakeWhile.{TakeWhile}
 use Rattle.fallible_iterator.specs.declared.cutting.skipping.Skip.{Skip}
 use Rattle.fallible_iterator.specs.declared.cutting.stepping.StepBy.{StepBy}
+use Rattle.fallible_iterator.specs.declared.joining.flattening.Flatten.{Flatten}
+use Rattle.fallible_iterator.specs.declared.joining.flattening.FlatMap.{FlatMap}
 
 -- the std iterator
 abbrev pub convert_source_of : {I : Type 0} → Convert I → I
@@ -113,3 +115,10 @@ take_while_of p = record { it = (p.0).0; predicate = (p.0).1; refused = p.1 }
 
 abbrev pub step_by_of : {I : Type 0} → I × (ℕ × Bool) → StepBy I
 step_by_of p = record { it = p.0; between = (p.1).0; first = (p.1).1 }
+
+-- the outer source, and the inner iterator in hand
+abbrev pub flatten_parts : {I X E B D C : Type 0} → Flatten I X E B D C → I × Option C
+flatten_parts s = (s.it, s.in_hand)
+
+abbrev pub flat_map_parts : {I U F B D C : Type 0} → FlatMap I U F B D C → Map I F × Option C
+flat_map_parts s = (s.it, s.in_hand)
