@@ -66,3 +66,19 @@ module _ {V S F A E : Type 0} (D : S → F → List (Answered A E) → S → F �
 pub meets_same : {V S F A E : Type 0} (D D' : S → F → List (Answered A E) → S → F → Type 0) (parts : V → S × Option F) (steps : V → Answered A E → V → Type 0) → ((s t : S) (f g : F) (trace : List (Answered A E)) → D s f trace t g ↔ D' s f trace t g) → MeetsDefinition parts steps D → MeetsDefinition parts steps D'
 meets_same D D' parts steps same met x y s f trace e = let m = met x y s f trace e in
     ((λ ran. let k = m.0 ran in (k.0, k.1, k.2, (same s k.0 f k.1 trace).0 k.3)), (λ k. m.1 (k.0, k.1, k.2, (same s k.0 f k.1 trace).1 k.3)))
+
+-- A run of steps that are the definition at one answer is the definition over the whole trace.
+module _ {S F A E : Type 0} (D : S → F → List (Answered A E) → S → F → Type 0) (by : IsByAnswers D) where
+  abbrev at_one_answer : S × F → Answered A E → S × F → Type 0
+  at_one_answer p r q = D p.0 p.1 (r ∷ []) q.0 q.1
+
+  run_to : (trace : List (Answered A E)) (p q : S × F) → Run at_one_answer p trace q → D p.0 p.1 trace q.0 q.1
+  run_to [] p q e = subst (λ (z : S × F). D p.0 p.1 [] z.0 z.1) e (by.none p.0 p.1)
+  run_to (r ∷ rest) p q h = by.joins p.0 h.0.0 q.0 p.1 h.0.1 q.1 r rest h.1 (run_to rest h.0 q h.2)
+
+  run_from : (trace : List (Answered A E)) (s t : S) (f g : F) → D s f trace t g → Run at_one_answer (s, f) trace (t, g)
+  run_from [] s t f g d = let e = by.same s t f g d in ap (λ (u : S). (u, f)) e.0 ∙ ap (λ (h : F). (t, h)) e.1
+  run_from (r ∷ rest) s t f g d = let h = by.splits s t f g r rest d in ((h.source, h.closure), h.first, run_from rest h.source t h.closure g h.others)
+
+  pub runs_by_answers : (trace : List (Answered A E)) (s t : S) (f g : F) → Run at_one_answer (s, f) trace (t, g) ↔ D s f trace t g
+  runs_by_answers trace s t f g = (run_to trace (s, f) (t, g), run_from trace s t f g)

@@ -2,11 +2,14 @@
 use Rattle.std.specs.Prelude.{◌≡◌, ℕ, suc, ◌+◌, ◌*◌, ◌≤◌, ◌<◌, List, [], ◌∷◌, ◌++◌, map, Option, Result, Some, None, Ok, Err, ⊤, ◌⊎◌, ◌↔◌}
 use Rattle.std.specs.List.{FoldsTo, flat_map}
 use Rattle.std.proofs.Common.{refl, sym, ◌∙◌, ap, subst, arith, inl, inr}
-use Rattle.std.proofs.lemmas.List.{append-nil, append_assoc}
+use Rattle.std.proofs.lemmas.List.{append-nil}
+use Rattle.std.proofs.Math.Nat.{mul-suc, mul-le-mul_left}
 use Rattle.fallible_iterator.specs.declared.folds.Exit.{Exit}
 use Rattle.fallible_iterator.specs.Traces.{Answered, Run, Yields, item, failure, end}
 use Rattle.fallible_iterator.specs.Source.{Source, NoMore, OnAnswer, Goes, Stays, Lawful}
-use Rattle.fallible_iterator.specs.Flattening.{NoEnd, NonEmpty, Part, of_inner, of_failure, of_end, outer_answer, part_answers, Finished, Unfinished, FinishedPart, FinishedParts, LastPart, FinishedInHand, Joined, FlattenTrace, nothing_drawn, still_in_hand, outer_drawn}
+use Rattle.fallible_iterator.specs.Laws.Definitions.{FirstOf, IsByAnswers}
+use Rattle.fallible_iterator.specs.Laws.Source.{no_more, goes_later}
+use Rattle.fallible_iterator.specs.Flattening.{flatten_source, EachInHand, NumberInHand, SomeInner, EachInner, FlattenNumber, NoEnd, NonEmpty, Part, of_inner, of_failure, of_end, outer_answer, part_answers, Finished, Unfinished, FinishedPart, FinishedParts, LastPart, FinishedInHand, Joined, FlattenTrace, nothing_drawn, still_in_hand, outer_drawn}
 
 module _ {S X C B E : Type 0} (outer : S → Answered X E → S → Type 0) (into : X → C → Type 0) (inner : C → Answered B E → C → Type 0) where
   -- the same as `FlattenTrace`, built from the first answer on
@@ -150,3 +153,141 @@ module _ {S X C B E : Type 0} (outer : S → Answered X E → S → Type 0) (int
   from_flattens s t _ hand' _ (begins {u = u} {c = c} {r = r} {trace = trace} x step becomes f) = begins_inner s u t c (Some c) hand' x r (r ∷ trace) trace step becomes refl refl (from_flattens u t (Some c) hand' (r ∷ trace) f)
   from_flattens s t _ hand' _ (outer_fails {u = u} {trace = trace} e step f) = answer_by_itself s u t None hand' (of_failure e) (failure e) trace step tt (λ h. h) refl refl (from_flattens u t None hand' trace f)
   from_flattens s t _ hand' _ (outer_ends {u = u} {trace = trace} step f) = answer_by_itself s u t None hand' of_end end trace step tt (λ h. h) refl refl (from_flattens u t None hand' trace f)
+
+  -- ---- a whole trace is its answers, one draw after another
+
+  flattens_cons : (s u t : S) (hand h hand' : Option C) (r : Answered B E) (rest : List (Answered B E)) → F s hand (r ∷ []) u h → F u h rest t hand' → F s hand (r ∷ rest) t hand'
+  flattens_cons s _ t _ _ hand' _ rest (gives y step done) q = gives y step q
+  flattens_cons s _ t _ _ hand' _ rest (fails e step done) q = fails e step q
+  flattens_cons s u t _ h hand' r rest (finishes step p) q = finishes step (flattens_cons s u t None h hand' r rest p q)
+  flattens_cons s u t _ h hand' r rest (begins {u = w} {c = c} x step becomes p) q = begins x step becomes (flattens_cons w u t (Some c) h hand' r rest p q)
+  flattens_cons s u t _ _ hand' _ rest (outer_fails e step done) q = outer_fails e step q
+  flattens_cons s u t _ _ hand' _ rest (outer_ends step done) q = outer_ends step q
+
+  -- what the first answer leaves, and the rest from there
+  record FirstFlattened (s : S) (hand : Option C) (r : Answered B E) (rest : List (Answered B E)) (t : S) (hand' : Option C) : Type 0 where
+    source : S
+    hand_then : Option C
+    first : F s hand (r ∷ []) source hand_then
+    others : F source hand_then rest t hand'
+
+  flattens_split : (s t : S) (hand hand' : Option C) (r : Answered B E) (rest : List (Answered B E)) → F s hand (r ∷ rest) t hand' → FirstFlattened s hand r rest t hand'
+  flattens_split s t _ hand' _ rest (gives {d = d} y step p) = record { source = s; hand_then = Some d; first = gives y step done; others = p }
+  flattens_split s t _ hand' _ rest (fails {d = d} e step p) = record { source = s; hand_then = Some d; first = fails e step done; others = p }
+  flattens_split s t _ hand' r rest (finishes step p) = let q = flattens_split s t None hand' r rest p in record { source = q.source; hand_then = q.hand_then; first = finishes step q.first; others = q.others }
+  flattens_split s t _ hand' r rest (begins {u = u} {c = c} x step becomes p) = let q = flattens_split u t (Some c) hand' r rest p in record { source = q.source; hand_then = q.hand_then; first = begins x step becomes q.first; others = q.others }
+  flattens_split s t _ hand' _ rest (outer_fails {u = u} e step p) = record { source = u; hand_then = None; first = outer_fails e step done; others = p }
+  flattens_split s t _ hand' _ rest (outer_ends {u = u} step p) = record { source = u; hand_then = None; first = outer_ends step done; others = p }
+
+  -- what a trace of no answers leaves
+  flattens_none : (s t : S) (hand hand' : Option C) → F s hand [] t hand' → (s ≡ t) × (hand ≡ hand')
+  flattens_none s _ hand _ done = (refl, refl)
+
+  flattens_some : (s t : S) (hand hand' : Option C) (r : Answered B E) (rest : List (Answered B E)) → FirstFlattened s hand r rest t hand' → FirstOf D s hand r rest t hand'
+  flattens_some s t hand hand' r rest q = record { source = q.source; closure = q.hand_then; first = from_flattens s q.source hand q.hand_then (r ∷ []) q.first; others = from_flattens q.source t q.hand_then hand' rest q.others }
+
+  pub flatten_by_answers : IsByAnswers D
+  flatten_by_answers = record {
+    none = λ s hand. nothing_drawn;
+    same = λ s t hand hand' p. flattens_none s t hand hand' (to_flattens s t hand hand' [] p);
+    joins = λ s u t hand h hand' r rest p q. from_flattens s t hand hand' (r ∷ rest) (flattens_cons s u t hand h hand' r rest (to_flattens s u hand h (r ∷ []) p) (to_flattens u t h hand' rest q));
+    splits = λ s t hand hand' r rest p. flattens_some s t hand hand' r rest (flattens_split s t hand hand' r rest (to_flattens s t hand hand' (r ∷ rest) p));
+  }
+
+-- ---- the contract is lawful where those of the outer source and of the inner iterators are
+
+module _ {S X C B E : Type 0} (m : Source S X E) (l : Lawful m) (into : X → C → Type 0) (inner : Source C B E) (k : Lawful inner) where
+  abbrev M : Source (S × Option C) B E
+  M = flatten_source m into inner
+
+  some_after_draw : (P : C → Type 0) (s u : S) → ((x : X) → m.gives u x → m.gives s x) → SomeInner m into inner P u → SomeInner m into inner P s
+  some_after_draw P s u fewer p = record { argument = p.argument; iterator = p.iterator; given = fewer p.argument p.given; becomes = p.becomes; holds = p.holds }
+
+  each_after_draw : (P : C → Type 0) (s u : S) → ((x : X) → m.gives u x → m.gives s x) → EachInner m into inner P s → EachInner m into inner P u
+  each_after_draw P s u fewer p = record { at = λ x c given becomes. p.at x c (fewer x given) becomes }
+
+  -- the number where there is one more answer of the inner iterator in hand
+  number_in_hand : (s : S) (c d : C) (n j : ℕ) (b : FlattenNumber m into inner s (Some c) n) → inner.to_come d j → FlattenNumber m into inner s (Some d) (b.each * b.outer + j)
+  number_in_hand s c d n j b is = record { outer = b.outer; each = b.each; in_hand = j; outer_is = b.outer_is; each_is = b.each_is; in_hand_is = is; sum = omega arith }
+
+  answer_in_hand : (s : S) (c d : C) (r : Answered B E) → OnAnswer inner c r d → OnAnswer M (s, Some c) r (s, Some d)
+  answer_in_hand s c d (Ok (Some y)) a = (inl a.0, (λ n b. let j = a.1 b.in_hand b.in_hand_is in (b.each * b.outer + j.0, number_in_hand s c d n j.0 b j.1, omega (arith, j.2, b.sum))), (λ f. absurd f))
+  answer_in_hand s c d (Ok None) a = ((λ n b. let j = a.0 b.in_hand b.in_hand_is in (b.each * b.outer + j.0, number_in_hand s c d n j.0 b j.1, omega (arith, j.2, b.sum))), (λ f. absurd f))
+  answer_in_hand s c d (Err e) a = (inr (inl a.0), (λ n b. let j = a.1 b.in_hand b.in_hand_is in (b.each * b.outer + j.0, number_in_hand s c d n j.0 b j.1, omega (arith, j.2, b.sum))), (λ f. absurd f))
+
+  in_hand_goes : (s : S) (c d : C) (r : Answered B E) → M.can (s, Some c) → inner.steps c r d → Goes M (s, Some c) r (s, Some d)
+  in_hand_goes s c d r can step = let g = k.goes c r d can.2 step in record {
+    can = (can.0, can.1, g.can, can.3);
+    has_end = λ e. (e.0, g.has_end e.1, e.2);
+    answer = answer_in_hand s c d r g.answer;
+    gives = λ y h. elim h [ inl p ↦ inl (g.gives y p) | inr p ↦ inr p ];
+    fails = λ e h. elim h [ inl p ↦ inl p | inr p ↦ inr (elim p [ inl q ↦ inl (g.fails e q) | inr q ↦ inr q ]) ];
+  }
+
+  -- an inner iterator that ended is dropped
+  dropped : (s : S) (c : C) → M.can (s, Some c) → Stays M (s, Some c) (s, None)
+  dropped s c can = record {
+    can = (can.0, can.1, tt, can.3);
+    has_end = λ e. (e.0, tt, e.2);
+    to_come = λ n b. (b.each * b.outer, record { outer = b.outer; each = b.each; in_hand = 0; outer_is = b.outer_is; each_is = b.each_is; in_hand_is = refl; sum = omega arith }, omega (arith, b.sum));
+    gives = λ y h. elim h [ inl p ↦ absurd p | inr p ↦ inr p ];
+    fails = λ e h. elim h [ inl p ↦ inl p | inr p ↦ elim p [ inl q ↦ absurd q | inr q ↦ inr (inr q) ] ];
+  }
+
+  one_fewer : (b a j q : ℕ) → j < a → q ≤ b → b * j + q ≤ b * a
+  one_fewer b a j q lt le = let h : b * j + b ≤ b * a = rw (sym (mul-suc b j)) (mul-le-mul_left b lt) in omega (arith, h, le)
+
+  -- an item became an inner iterator, which is in hand then
+  begun_stays : (s u : S) (c : C) (x : X) → M.can (s, None) → m.steps s (item x) u → into x c → Stays M (s, None) (u, Some c)
+  begun_stays s u c x can step becomes = let g = l.goes s (item x) u can.0 step in record {
+    can = (g.can, g.has_end can.1, can.3.at x c g.answer.0 becomes, each_after_draw inner.can s u g.gives can.3);
+    has_end = λ e. (g.has_end e.0, (let n = e.2.1.at x c g.answer.0 becomes in (k.ends c).1 (n.0, n.1)), (e.2.0, each_after_draw _ s u g.gives e.2.1));
+    to_come = λ n b. let j = g.answer.1 b.outer b.outer_is in let q = b.each_is.at x c g.answer.0 becomes in (
+      b.each * j.0 + q.0,
+      record { outer = j.0; each = b.each; in_hand = q.0; outer_is = j.1; each_is = each_after_draw _ s u g.gives b.each_is; in_hand_is = q.1; sum = omega arith },
+      (let le = one_fewer b.each b.outer j.0 q.0 j.2 q.2 in omega (arith, le, b.sum)),
+    );
+    gives = λ y h. inr (elim h [ inl p ↦ record { argument = x; iterator = c; given = g.answer.0; becomes = becomes; holds = p } | inr p ↦ some_after_draw _ s u g.gives p ]);
+    fails = λ e h. elim h [ inl p ↦ inl (g.fails e p) | inr p ↦ inr (inr (elim p [ inl q ↦ record { argument = x; iterator = c; given = g.answer.0; becomes = becomes; holds = q } | inr q ↦ some_after_draw _ s u g.gives q ])) ];
+  }
+
+  -- an answer of the outer source that is no item
+  outer_stays : (s u : S) (r : Answered X E) → M.can (s, None) → Goes m s r u → Stays M (s, None) (u, None)
+  outer_stays s u r can g = record {
+    can = (g.can, g.has_end can.1, tt, each_after_draw inner.can s u g.gives can.3);
+    has_end = λ e. (g.has_end e.0, tt, (e.2.0, each_after_draw _ s u g.gives e.2.1));
+    to_come = λ n b. let j = no_more m s u r g.answer b.outer b.outer_is in (b.each * j.0, record { outer = j.0; each = b.each; in_hand = 0; outer_is = j.1; each_is = each_after_draw _ s u g.gives b.each_is; in_hand_is = refl; sum = omega arith }, (let le = mul-le-mul_left b.each j.2 in omega (arith, le, b.sum)));
+    gives = λ y h. elim h [ inl p ↦ absurd p | inr p ↦ inr (some_after_draw _ s u g.gives p) ];
+    fails = λ e h. elim h [ inl p ↦ inl (g.fails e p) | inr p ↦ elim p [ inl q ↦ absurd q | inr q ↦ inr (inr (some_after_draw _ s u g.gives q)) ] ];
+  }
+
+  end_goes : (p q : S × Option C) → Stays M p q → Goes M p end q
+  end_goes p q h = record { can = h.can; has_end = h.has_end; answer = (h.to_come, (λ f. absurd f)); gives = h.gives; fails = h.fails }
+
+  failure_goes : (p q : S × Option C) (e : E) → M.fails p e → Stays M p q → Goes M p (failure e) q
+  failure_goes p q e given h = record { can = h.can; has_end = h.has_end; answer = (given, h.to_come, (λ f. absurd f)); gives = h.gives; fails = h.fails }
+
+  flattens_goes : (s t : S) (hand hand' : Option C) (r : Answered B E) → M.can (s, hand) → Flattens m.steps into inner.steps s hand (r ∷ []) t hand' → Goes M (s, hand) r (t, hand')
+  flattens_goes s _ _ _ _ can (gives {c = c} {d = d} y step done) = in_hand_goes s c d (item y) can step
+  flattens_goes s _ _ _ _ can (fails {c = c} {d = d} e step done) = in_hand_goes s c d (failure e) can step
+  flattens_goes s t _ hand' r can (finishes {c = c} {d = d} step rest) = let h = dropped s c can in goes_later h (λ f. absurd f) (flattens_goes s t None hand' r h.can rest)
+  flattens_goes s t _ hand' r can (begins {u = u} {c = c} x step becomes rest) = let h = begun_stays s u c x can step becomes in goes_later h (λ f. absurd f) (flattens_goes u t (Some c) hand' r h.can rest)
+  flattens_goes s _ _ _ _ can (outer_fails {u = u} e step done) = let g = l.goes s (failure e) u can.0 step in failure_goes (s, None) (u, None) e (inl g.answer.0) (outer_stays s u (failure e) can g)
+  flattens_goes s _ _ _ _ can (outer_ends {u = u} step done) = end_goes (s, None) (u, None) (outer_stays s u end can (l.goes s end u can.0 step))
+
+  ends_in_hand : (hand : Option C) → EachInHand hand inner.has_end → (j : ℕ) × NumberInHand hand inner.to_come j
+  ends_in_hand (Some c) e = (k.ends c).0 e
+  ends_in_hand None e = (0, refl)
+
+  number_ends : (hand : Option C) (j : ℕ) → NumberInHand hand inner.to_come j → EachInHand hand inner.has_end
+  number_ends (Some c) j is = (k.ends c).1 (j, is)
+  number_ends None j is = tt
+
+  pub lawful_flatten : Lawful M
+  lawful_flatten = record {
+    goes = λ p r q can step. flattens_goes p.0 q.0 p.1 q.1 r can (to_flattens m.steps into inner.steps p.0 q.0 p.1 q.1 (r ∷ []) step);
+    ends = λ p. (
+      (λ e. let a = (l.ends p.0).0 e.0 in let j = ends_in_hand p.1 e.1 in (e.2.0 * a.0 + j.0, record { outer = a.0; each = e.2.0; in_hand = j.0; outer_is = a.1; each_is = e.2.1; in_hand_is = j.1; sum = omega arith })),
+      (λ n. let b = n.1 in ((l.ends p.0).1 (b.outer, b.outer_is), number_ends p.1 b.in_hand b.in_hand_is, (b.each, b.each_is))),
+    );
+  }

@@ -1,5 +1,6 @@
 -- What stays after any number of draws.
-use Rattle.std.specs.Prelude.{List, [], ◌∷◌, Some, None, Ok, Err}
+use Rattle.std.specs.Prelude.{◌≤◌, List, [], ◌∷◌, Some, None, Ok, Err}
+use Rattle.std.specs.Iterator.{IsFinite, size}
 use Rattle.std.proofs.Common.{arith, subst}
 use Rattle.fallible_iterator.specs.Traces.{Answered, Run, Yields, item}
 use Rattle.fallible_iterator.specs.Source.{Source, NoMore, OnAnswer, Goes, Stays, Lawful, seen_as}
@@ -66,3 +67,18 @@ module _ {S A E : Type 0} {m : Source S A E} where
   -- one more draw
   pub stays_step : {s t u : S} {r : Answered A E} → Lawful m → Stays m s t → m.steps t r u → Stays m s u
   stays_step {s} {t} {u} {r} l p step = let g = l.goes t r u p.can step in stays_then p (stays_after g (stays_here g.can))
+
+  answer_later : (s t u : S) (r : Answered A E) → Stays m s t → (IsFinite (m.elements s) → IsFinite (m.elements t) × (size (m.elements t) ≤ size (m.elements s))) → OnAnswer m t r u → OnAnswer m s r u
+  answer_later s t u (Ok (Some x)) p le a = (p.gives x a.0, (λ n b. let j = p.to_come n b in let k = a.1 j.0 j.1 in (k.0, k.1, omega (arith, j.2, k.2))), (λ f. let j = le f in let k = a.2 j.0 in (k.0, omega (arith, j.1, k.1))))
+  answer_later s t u (Ok None) p le a = ((λ n b. let j = p.to_come n b in let k = a.0 j.0 j.1 in (k.0, k.1, omega (arith, j.2, k.2))), (λ f. let j = le f in let k = a.1 j.0 in (k.0, omega (arith, j.1, k.1))))
+  answer_later s t u (Err e) p le a = (p.fails e a.0, (λ n b. let j = p.to_come n b in let k = a.1 j.0 j.1 in (k.0, k.1, omega (arith, j.2, k.2))), (λ f. let j = le f in let k = a.2 j.0 in (k.0, omega (arith, j.1, k.1))))
+
+  -- a draw goes also from where nothing more was to come before it
+  pub goes_later : {s t u : S} {r : Answered A E} → Stays m s t → (IsFinite (m.elements s) → IsFinite (m.elements t) × (size (m.elements t) ≤ size (m.elements s))) → Goes m t r u → Goes m s r u
+  goes_later {s} {t} {u} {r} p elements g = record {
+    can = g.can;
+    has_end = λ e. g.has_end (p.has_end e);
+    answer = answer_later s t u r p elements g.answer;
+    gives = λ x h. p.gives x (g.gives x h);
+    fails = λ e h. p.fails e (g.fails e h);
+  }
