@@ -2,8 +2,11 @@
 use Rattle.std.specs.Prelude.{◌≡◌, ℕ, ◌+◌, ◌*◌, ◌≤◌, List, [], ◌∷◌, ◌++◌, map, Option, Result, Some, None, Ok, Err, ⊤, ◌⊎◌}
 use Rattle.std.specs.List.{flat_map}
 use Rattle.std.specs.Iterator.{endless}
+use Rattle.fallible_iterator.specs.declared.folds.Exit.{Exit}
+use Rattle.fallible_iterator.specs.declared.folds.Exit.TheVariants.{Ended, Failed, Stopped}
 use Rattle.fallible_iterator.specs.Traces.{Answered, Run, item, failure, end}
 use Rattle.fallible_iterator.specs.Source.{Source}
+use Rattle.fallible_iterator.specs.Passing.{stopped_answer}
 
 -- there is no end among the answers
 abbrev pub NoEnd : {A E : Type 0} → List (Answered A E) → Type 0
@@ -148,3 +151,9 @@ abbrev pub BeginTurn : {X C B E : Type 0} → (X → C → Type 0) → (C → An
 BeginTurn {C = C} into inner u x (Ok v) = (c : C) × (d : C) × into x c × inner c end d
 BeginTurn {C = C} into inner u x (Err (d, Ok y)) = (c : C) × into x c × inner c (item y) d
 BeginTurn {C = C} into inner u x (Err (d, Err e)) = (c : C) × into x c × inner c (failure e) d
+
+-- what the fold's exit hands back: the inner iterator at which it stopped, and the answer
+abbrev pub begun : {C B E : Type 0} → Exit (Unit {0}) E (C × Result B E) → Option C × Answered B E
+begun (Ended u) = (None, Ok None)
+begun (Failed u e) = (None, Err e)
+begun (Stopped p) = (Some p.0, stopped_answer p.1)

@@ -7,9 +7,11 @@ use Rattle.std.proofs.Math.Nat.{mul-suc, mul-le-mul_left}
 use Rattle.fallible_iterator.specs.declared.folds.Exit.{Exit}
 use Rattle.fallible_iterator.specs.Traces.{Answered, Run, Yields, item, failure, end}
 use Rattle.fallible_iterator.specs.Source.{Source, NoMore, OnAnswer, Goes, Stays, Lawful}
+use Rattle.fallible_iterator.specs.Folds.{HoldsAtEachTurn, carrying_turn, CarryingExit, Carried}
+use Rattle.fallible_iterator.specs.Passing.{stopped_answer}
 use Rattle.fallible_iterator.specs.Laws.Definitions.{FirstOf, IsByAnswers}
-use Rattle.fallible_iterator.specs.Laws.Source.{no_more, goes_later}
-use Rattle.fallible_iterator.specs.Flattening.{flatten_source, EachInHand, NumberInHand, SomeInner, EachInner, FlattenNumber, NoEnd, NonEmpty, Part, of_inner, of_failure, of_end, outer_answer, part_answers, Finished, Unfinished, FinishedPart, FinishedParts, LastPart, FinishedInHand, Joined, FlattenTrace, nothing_drawn, still_in_hand, outer_drawn}
+use Rattle.fallible_iterator.specs.Laws.Source.{no_more, given_after, goes_later}
+use Rattle.fallible_iterator.specs.Flattening.{BeginTurn, begun, flatten_source, EachInHand, NumberInHand, SomeInner, EachInner, FlattenNumber, NoEnd, NonEmpty, Part, of_inner, of_failure, of_end, outer_answer, part_answers, Finished, Unfinished, FinishedPart, FinishedParts, LastPart, FinishedInHand, Joined, FlattenTrace, nothing_drawn, still_in_hand, outer_drawn}
 
 module _ {S X C B E : Type 0} (outer : S → Answered X E → S → Type 0) (into : X → C → Type 0) (inner : C → Answered B E → C → Type 0) where
   -- the same as `FlattenTrace`, built from the first answer on
@@ -52,8 +54,8 @@ module _ {S X C B E : Type 0} (outer : S → Answered X E → S → Type 0) (int
   nonempty (r ∷ trace) s t hand hand' some f = record { first = r; others = trace; is = refl; flattens = f }
 
   -- one part, and what comes after it
-  begun : (s u t : S) (c : C) (hand : Option C) (x : X) (trace : List (Answered B E)) → outer s (item x) u → into x c → Nonempty u (Some c) trace t hand → Nonempty s None trace t hand
-  begun s u t c hand x trace step becomes n = record { first = n.first; others = n.others; is = n.is; flattens = begins x step becomes n.flattens }
+  begin_with : (s u t : S) (c : C) (hand : Option C) (x : X) (trace : List (Answered B E)) → outer s (item x) u → into x c → Nonempty u (Some c) trace t hand → Nonempty s None trace t hand
+  begin_with s u t c hand x trace step becomes n = record { first = n.first; others = n.others; is = n.is; flattens = begins x step becomes n.flattens }
 
   some_after : (answers : List (Answered B E)) (r : Answered B E) (trace : List (Answered B E)) → NonEmpty (answers ++ r ∷ trace)
   some_after [] r trace = tt
@@ -64,13 +66,13 @@ module _ {S X C B E : Type 0} (outer : S → Answered X E → S → Type 0) (int
 
   -- the last part
   from_last : (last : Part X C B E) (s t : S) (hand : Option C) → Run outer s (outer_answer last ∷ []) t → LastPart into inner last hand → Nonempty s None (part_answers last) t hand
-  from_last (of_inner x c answers) s t hand ran last = let u = last.1.1 in begun s t t c hand x answers (subst (λ (v : S). outer s (item x) v) ran.2 ran.1) last.0 (rw last.1.2 (nonempty answers t t (Some c) (Some last.1.0) u.some (unfinished answers t c last.1.0 u.drawn u.no_end)))
+  from_last (of_inner x c answers) s t hand ran last = let u = last.1.1 in begin_with s t t c hand x answers (subst (λ (v : S). outer s (item x) v) ran.2 ran.1) last.0 (rw last.1.2 (nonempty answers t t (Some c) (Some last.1.0) u.some (unfinished answers t c last.1.0 u.drawn u.no_end)))
   from_last (of_failure e) s t hand ran last = record { first = failure e; others = []; is = refl; flattens = outer_fails e ran.1 (rw (ran.2, last) done) }
   from_last of_end s t hand ran last = record { first = end; others = []; is = refl; flattens = outer_ends ran.1 (rw (ran.2, last) done) }
 
   from_parts : (parts : List (Part X C B E)) (last : Part X C B E) (s t : S) (hand : Option C) → Run outer s (map outer_answer (parts ++ last ∷ [])) t → FinishedParts into inner parts → LastPart into inner last hand → Nonempty s None (flat_map part_answers (parts ++ last ∷ [])) t hand
   from_parts [] last s t hand ran parts_finished at_last = rw (append-nil (part_answers last)) (from_last last s t hand ran at_last)
-  from_parts (of_inner x c answers ∷ parts) last s t hand ran parts_finished at_last = begun s ran.0 t c hand x _ ran.1 parts_finished.0.0 (after_finished ran.0 t c hand answers _ parts_finished.0.1 (from_parts parts last ran.0 t hand ran.2 parts_finished.1 at_last))
+  from_parts (of_inner x c answers ∷ parts) last s t hand ran parts_finished at_last = begin_with s ran.0 t c hand x _ ran.1 parts_finished.0.0 (after_finished ran.0 t c hand answers _ parts_finished.0.1 (from_parts parts last ran.0 t hand ran.2 parts_finished.1 at_last))
   from_parts (of_failure e ∷ parts) last s t hand ran parts_finished at_last = let n = from_parts parts last ran.0 t hand ran.2 parts_finished.1 at_last in record { first = failure e; others = n.first ∷ n.others; is = ap (λ l. failure e ∷ l) n.is; flattens = outer_fails e ran.1 n.flattens }
   from_parts (of_end ∷ parts) last s t hand ran parts_finished at_last = let n = from_parts parts last ran.0 t hand ran.2 parts_finished.1 at_last in record { first = end; others = n.first ∷ n.others; is = ap (λ l. end ∷ l) n.is; flattens = outer_ends ran.1 n.flattens }
 
@@ -291,3 +293,41 @@ module _ {S X C B E : Type 0} (m : Source S X E) (l : Lawful m) (into : X → C 
       (λ n. let b = n.1 in ((l.ends p.0).1 (b.outer, b.outer_is), number_ends p.1 b.in_hand b.in_hand_is, (b.each, b.each_is))),
     );
   }
+
+-- ---- one draw
+
+module _ {S X C B E : Type 0} {outer : S → Answered X E → S → Type 0} {into : X → C → Type 0} {inner : C → Answered B E → C → Type 0} where
+  -- an answer, which is no end, of the inner iterator in hand
+  pub flatten_in_hand : {s : S} {c d : C} {hand : Option C} (r : Answered B E) → hand ≡ Some c → inner c r d → NoEnd (r ∷ []) → FlattenTrace outer into inner s hand (r ∷ []) s (Some d)
+  flatten_in_hand {d = d} r e step free = rw e (still_in_hand {trace = r ∷ []} (record { drawn = (d, step, refl); no_end = free; some = tt }))
+
+  -- the inner iterator in hand ended first
+  pub flatten_after_end : {s t : S} {c : C} {hand hand' : Option C} {r : Answered B E} (d : C) → hand ≡ Some c → inner c end d → FlattenTrace outer into inner s None (r ∷ []) t hand' → FlattenTrace outer into inner s hand (r ∷ []) t hand'
+  flatten_after_end {s} {t} {c} {hand} {hand'} {r} d e step p = rw e (end_in_hand outer into inner s t c d None hand' r (r ∷ []) [] step refl refl p)
+
+-- ---- one draw where nothing is in hand, as a fold of the outer source that stops
+
+module _ {S X C B E : Type 0} (outer : S → Answered X E → S → Type 0) (into : X → C → Type 0) (inner : C → Answered B E → C → Type 0) (turns : Unit {0} → X → Result (Unit {0}) (C × Result B E) → Type 0)
+    (turn : (u : Unit {0}) (x : X) (r : Result (Unit {0}) (C × Result B E)) → turns u x r → BeginTurn into inner u x r) where
+  abbrev G : S → Option C → List (Answered B E) → S → Option C → Type 0
+  G = Flattens outer into inner
+
+  begun_turn : (x : X) (p : C × Result B E) (u t : S) → outer u (item x) t → BeginTurn into inner tt x (Err p) → G u None (stopped_answer p.1 ∷ []) t (Some p.0)
+  begun_turn x (d, Ok y) u t step w = begins x step w.1 (gives y w.2 done)
+  begun_turn x (d, Err e) u t step w = begins x step w.1 (fails e w.2 done)
+
+  begun_exit : (last : Answered X E) (exit : Exit (Unit {0}) E (C × Result B E)) (u t : S) → CarryingExit turns tt last exit → outer u last t → G u None ((begun exit).1 ∷ []) t (begun exit).0
+  begun_exit (Ok None) exit u t e step = rw e (outer_ends step done)
+  begun_exit (Err d) exit u t e step = rw e (outer_fails d step done)
+  begun_exit (Ok (Some x)) exit u t e step = rw e.2 (begun_turn x e.0 u t step (turn tt x (Err e.0) e.1))
+
+  after_ended : (last : Answered X E) (r : Answered B E) (t : S) (hand : Option C) → ((u : S) → outer u last t → G u None (r ∷ []) t hand) → (items : List X) (s : S) (v w : Unit {0}) → Run outer s (map item items ++ last ∷ []) t → FoldsTo (carrying_turn turns) v items w → G s None (r ∷ []) t hand
+  after_ended last r t hand final [] s v w ran went = final s (subst (λ (u : S). outer s last u) ran.2 ran.1)
+  after_ended last r t hand final (x ∷ items) s v w ran went = let b = turn v x (Ok went.0) went.1 in begins x ran.1 b.2 (finishes b.3 (after_ended last r t hand final items ran.0 went.0 w ran.2 went.2))
+
+  pub flatten_fold : {s t : S} {exit : Exit (Unit {0}) E (C × Result B E)} → Carried outer turns s tt exit t → FlattenTrace outer into inner s None ((begun exit).1 ∷ []) t (begun exit).0
+  flatten_fold {s} {t} {exit} w = from_flattens outer into inner s t None (begun exit).0 ((begun exit).1 ∷ []) (after_ended w.last (begun exit).1 t (begun exit).0 (λ u step. begun_exit w.last exit u t w.exit step) w.items s tt w.carried w.ran w.went)
+
+-- each turn of such a fold begins an inner iterator that may be drawn from
+pub callable_begins : {S X C B E : Type 0} {m : Source S X E} (into : X → C → Type 0) (inner : Source C B E) (R : Unit {0} → X → Unit {0} → Type 0) {s : S} → Lawful m → m.can s → EachInner m into inner inner.can s → HoldsAtEachTurn m.steps R (λ u x. (c : C) → into x c → inner.can c) s tt
+callable_begins into inner R {s = s} l can each = record { at = λ items t u d x ran went step c becomes. each.at x c (given_after l s items t u x can ran step) becomes }

@@ -1,5 +1,12 @@
 // The adapters that join the answers of inner iterators.
-ghost use Rattle.std.specs.Prelude.{◌≡◌, List, [], ◌∷◌, Option, Result};
+ghost use Rattle.std.specs.Prelude.{◌≡◌, ℕ, [], ◌∷◌, None, Ok, List, Option, Result};
+ghost use Rattle.fallible_iterator.specs.Source.{seen_as};
+ghost use Rattle.fallible_iterator.specs.OneToOne.{map_source};
+ghost use Rattle.fallible_iterator.specs.Flattening.{EachInHand, EachInner, FlattenTrace, flatten_source, BeginTurn, begun};
+ghost use Rattle.fallible_iterator.specs.Parts.{map_parts, flatten_parts, flat_map_parts};
+ghost use Rattle.fallible_iterator.specs.Laws.Source.{lawful_seen};
+ghost use Rattle.fallible_iterator.specs.Laws.OneToOne.{lawful_map};
+ghost use Rattle.fallible_iterator.specs.Laws.Flattening.{lawful_flatten};
 
 use crate::folds::Exit;
 use crate::one_to_one::Map;
@@ -17,9 +24,122 @@ where
     pub(crate) in_hand: Option<<I::Item as IntoFallibleIterator>::IntoFallibleIter>,
 }
 
+impl<I: FallibleIterator> FallibleIterator for Flatten<I>
+where
+    I::Item: IntoFallibleIterator<Error = I::Error>,
+{
+    type Item = <I::Item as IntoFallibleIterator>::Item;
+
+    type Error = I::Error;
+
+    ghost source = { seen_as flatten_parts (flatten_source I.source I.Item.into_gives I.Item.IntoFallibleIter.source) };
+
+    /// Draws from the inner iterator in hand; where there is none or it ended, draws from the outer source until an item becomes an inner iterator that does not end at once, a failure comes or an end comes.
+    fn next(&mut self) -> Result<Option<<I::Item as IntoFallibleIterator>::Item>, I::Error> {
+        next_joined(&mut self.it, &mut self.in_hand)
+    }
+
+    fn size_hint(&self) -> (usize, Option<usize>) {
+        (0, None)
+    }
+
+    ghost lawful = { lawful_seen flatten_parts (lawful_flatten _ I.lawful I.Item.into_gives _ I.Item.IntoFallibleIter.lawful) };
+}
+
 /// The answers of the inner iterators that the closure makes of the items, as `Flatten` joins them. Where the closure fails, its failure is the answer, and that item is lost.
 #[derive(Clone, Debug, Drop)]
 pub struct FlatMap<I, U: IntoFallibleIterator, F> {
     pub(crate) it: Map<I, F>,
     pub(crate) in_hand: Option<U::IntoFallibleIter>,
+}
+
+impl<
+        I: FallibleIterator,
+        U: IntoFallibleIterator<Error = I::Error>,
+        F: FnMut(I::Item) -> Result<U, I::Error>,
+    > FallibleIterator for FlatMap<I, U, F>
+{
+    type Item = U::Item;
+
+    type Error = I::Error;
+
+    ghost source = { seen_as flat_map_parts (flatten_source (seen_as map_parts (map_source I.source F.FnMut)) U.into_gives U.IntoFallibleIter.source) };
+
+    /// Draws as `Flatten` does, from the inner iterators that the closure makes.
+    fn next(&mut self) -> Result<Option<U::Item>, I::Error> {
+        next_joined(&mut self.it, &mut self.in_hand)
+    }
+
+    fn size_hint(&self) -> (usize, Option<usize>) {
+        (0, None)
+    }
+
+    ghost lawful = { lawful_seen flat_map_parts (lawful_flatten _ (lawful_seen map_parts (lawful_map F.FnMut I.lawful)) U.into_gives _ U.IntoFallibleIter.lawful) };
+}
+
+// One answer of the joined inner iterators. The one in hand is dropped at its end.
+fn next_joined<U: IntoFallibleIterator, O: FallibleIterator<Item = U, Error = U::Error>>(
+    outer: &mut O,
+    in_hand: &mut Option<U::IntoFallibleIter>,
+) -> Result<Option<U::Item>, U::Error>
+where
+    requires can { O.source.can outer.old × O.source.has_end outer.old }
+    requires can_in_hand { EachInHand in_hand.old U.IntoFallibleIter.source.can }
+    requires can_inner { EachInner O.source U.into_gives U.IntoFallibleIter.source U.IntoFallibleIter.source.can outer.old }
+    ensures { FlattenTrace O.source.steps U.into_gives U.IntoFallibleIter.source.steps outer.old in_hand.old (result ∷ []) outer.new in_hand.new }
+{
+    match in_hand {
+        Some(inner) => match inner.next() {
+            Ok(Some(y)) => return Ok(Some(y)),
+            Err(e) => return Err(e),
+            Ok(None) => {}
+        },
+        None => {}
+    }
+    *in_hand = None;
+    let (inner, answer) = begin(outer);
+    *in_hand = inner;
+    answer
+}
+
+// One answer where no inner iterator is in hand, and the one that is in hand then: the outer source's fold, which stops at the first inner iterator that does not end at once.
+fn begin<U: IntoFallibleIterator, O: FallibleIterator<Item = U, Error = U::Error>>(
+    outer: &mut O,
+) -> (Option<U::IntoFallibleIter>, Result<Option<U::Item>, U::Error>)
+where
+    requires can { O.source.can outer.old × O.source.has_end outer.old }
+    requires can_inner { EachInner O.source U.into_gives U.IntoFallibleIter.source U.IntoFallibleIter.source.can outer.old }
+    ensures { FlattenTrace O.source.steps U.into_gives U.IntoFallibleIter.source.steps outer.old None (result.1 ∷ []) outer.new result.0 }
+{
+    let turn = |_nothing: (), x: U| -> Result<(), (U::IntoFallibleIter, Result<U::Item, U::Error>)>
+        requires { (c : U.IntoFallibleIter) → U.into_gives x c → U.IntoFallibleIter.source.can c }
+        ensures { BeginTurn U.into_gives U.IntoFallibleIter.source.steps _nothing x result }
+    {
+        let mut inner = x.into_fallible_iter();
+        match inner.next() {
+            Ok(Some(y)) => Err((inner, Ok(y))),
+            Ok(None) => Ok(()),
+            Err(e) => Err((inner, Err(e))),
+        }
+    };
+    unpack_begun(outer.try_fold_carrying((), &turn))
+}
+
+// The inner iterator and the answer that the fold hands back.
+fn unpack_begun<C, T, E>(
+    exit: Exit<(), E, (C, Result<T, E>)>,
+) -> (Option<C>, Result<Option<T>, E>)
+    ensures { result ≡ begun exit }
+{
+    match exit {
+        Exit::Ended(()) => (None, Ok(None)),
+        Exit::Failed((), e) => (None, Err(e)),
+        Exit::Stopped(stop) => {
+            let (inner, answer) = stop;
+            match answer {
+                Ok(y) => (Some(inner), Ok(Some(y))),
+                Err(e) => (Some(inner), Err(e)),
+            }
+        }
+    }
 }
