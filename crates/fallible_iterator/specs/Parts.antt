@@ -122,3 +122,9 @@ flatten_parts s = (s.it, s.in_hand)
 
 abbrev pub flat_map_parts : {I U F B D C : Type 0} → FlatMap I U F B D C → Map I F × Option C
 flat_map_parts s = (s.it, s.in_hand)
+
+abbrev pub flatten_of : {I X E B D C : Type 0} → I × Option C → Flatten I X E B D C
+flatten_of p = record { it = p.0; in_hand = p.1 }
+
+abbrev pub flat_map_of : {I U F B D C : Type 0} → Map I F × Option C → FlatMap I U F B D C
+flat_map_of p = record { it = p.0; in_hand = p.1 }

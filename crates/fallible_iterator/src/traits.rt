@@ -1,11 +1,11 @@
 // The trait.
-ghost use Rattle.std.specs.Prelude.{◌≡◌, ℕ, true, false, ◌+◌, ◌-◌, ◌≤◌, ◌<◌, ◌^◌, List, Option, Result, Some, Ok, ◌↔◌};
+ghost use Rattle.std.specs.Prelude.{◌≡◌, ℕ, true, false, None, ◌+◌, ◌-◌, ◌≤◌, ◌<◌, ◌^◌, List, Option, Result, Some, Ok, ◌↔◌};
 ghost use Rattle.fallible_iterator.specs.Source.{Source, Lawful, Stays};
 ghost use Rattle.fallible_iterator.specs.Closures.{IsCallable, call_on, takes_on, call_at, takes_at};
 ghost use Rattle.fallible_iterator.specs.Enumerate.{IsNumberable};
 ghost use Rattle.fallible_iterator.specs.Filtering.{skip_call, skip_takes};
 ghost use Rattle.fallible_iterator.specs.OneToOne.{scan_call, scan_takes};
-ghost use Rattle.fallible_iterator.specs.Parts.{map_parts, inspect_parts, filter_parts, filter_map_parts, skip_while_parts, map_err_parts, enumerate_parts, scan_parts, cloned_parts, take_parts, take_while_parts, fuse_parts, skip_parts, step_by_parts};
+ghost use Rattle.fallible_iterator.specs.Parts.{map_parts, inspect_parts, filter_parts, filter_map_parts, skip_while_parts, map_err_parts, enumerate_parts, scan_parts, cloned_parts, take_parts, take_while_parts, fuse_parts, skip_parts, step_by_parts, flatten_parts, flat_map_parts};
 ghost use Rattle.fallible_iterator.specs.Collecting.{Collects, PushTurn};
 ghost use Rattle.fallible_iterator.specs.Folds.{CallableCarrying, Carried, CallableInFold, FoldTurn, Folded, Counted, Nth};
 
@@ -16,8 +16,10 @@ use crate::collecting::{Collect, Fault};
 use crate::cutting::{Fuse, Skip, StepBy, Take, TakeWhile};
 use crate::filtering::{Filter, FilterMap, SkipWhile};
 use crate::folds::{Exit, Turn};
+use crate::joining::{FlatMap, Flatten};
 use crate::one_to_one::{Cloned, Enumerate, Inspect, Map, MapErr, Scan};
 use crate::to_come::Number;
+use crate::traits::conversion::IntoFallibleIterator;
 use std::alloc::{AllocError, Global};
 use std::convert::Infallible;
 use std::marker::PhantomData;
@@ -345,6 +347,39 @@ pub trait FallibleIterator: Drop + Sized {
         ensures { cloned_parts result ≡ (self, Some tt) }
     {
         Cloned { it: self }
+    }
+
+    /// Joins the answers of the inner iterators that the items become: the one in hand answers until its end, at which it is dropped, and then the next item is drawn. A failure or an end of this iterator is the answer, and the next call draws from it again. Making the adapter draws nothing.
+    ///
+    /// It asks a number to come, since many inner iterators may end at once. A drain of it also asks a number to come of the inner iterator in hand, and one that serves for each that may come.
+    final fn flatten(self) -> Flatten<Self>
+    where
+        Self::Item: IntoFallibleIterator<Error = Self::Error>,
+        requires { source.has_end self }
+        ensures { flatten_parts result ≡ (self, None) }
+    {
+        Flatten {
+            it: self,
+            in_hand: None,
+        }
+    }
+
+    /// Joins the answers of the inner iterators that the closure makes of the items, as `flatten` does. Where the closure fails, its failure is the answer, and that item is lost. Making the adapter draws nothing and calls nothing.
+    ///
+    /// It asks a number to come, since many inner iterators may end at once, and that the closure may be called on each item that may come. A drain of it also asks a number to come of the inner iterator in hand, and one that serves for each that may come.
+    final fn flat_map<U, F>(self, f: F) -> FlatMap<Self, U, F>
+    where
+        U: IntoFallibleIterator<Error = Self::Error>,
+        F: FnMut(Self::Item) -> Result<U, Self::Error>,
+        requires finite { source.has_end self }
+        requires callable { IsCallable (call_on F.FnMut) (takes_on F.FnMut) (source.gives self) f }
+        ensures outer { map_parts (flat_map_parts result).0 ≡ (self, Some f) }
+        ensures in_hand { (flat_map_parts result).1 ≡ None }
+    {
+        FlatMap {
+            it: self.map(f),
+            in_hand: None,
+        }
     }
 
     /// Makes a collection of the items up to the end. The collection is made first, and then each item is pushed as it is drawn; no room is taken ahead.

@@ -1,0 +1,27 @@
+// The whole-trace laws of the adapters that join inner iterators.
+ghost use Rattle.std.specs.Prelude.{List, Option, Result, ◌↔◌};
+ghost use Rattle.fallible_iterator.specs.Traces.{Run};
+ghost use Rattle.fallible_iterator.specs.Parts.{flatten_of, flat_map_of};
+ghost use Rattle.fallible_iterator.specs.Flattening.{FlattenTrace};
+
+use crate::joining::{FlatMap, Flatten};
+use crate::one_to_one::Map;
+use crate::traits::FallibleIterator;
+use crate::traits::conversion::IntoFallibleIterator;
+
+/// Law: what draws from a `Flatten` answer and leave is exactly what the definition of its traces says.
+pub fn law_flatten<I: FallibleIterator>()
+where
+    I::Item: IntoFallibleIterator<Error = I::Error>,
+    ensures { (s : I) (hand : Option I.Item.IntoFallibleIter) (trace : List (Result (Option I.Item.Item) I.Error)) (t : I) (hand' : Option I.Item.IntoFallibleIter) → Run ⟦<Flatten<I> as FallibleIterator>⟧.source.steps (flatten_of (s, hand)) trace (flatten_of (t, hand')) ↔ FlattenTrace I.source.steps I.Item.into_gives I.Item.IntoFallibleIter.source.steps s hand trace t hand' }
+{}
+
+/// Law: what draws from a `FlatMap` answer and leave is exactly what the definition of the traces of a `Flatten` over the `Map` of its closure says.
+pub fn law_flat_map<
+    I: FallibleIterator,
+    U: IntoFallibleIterator<Error = I::Error>,
+    F: FnMut(I::Item) -> Result<U, I::Error>,
+>()
+where
+    ensures { (s : Map I F) (hand : Option U.IntoFallibleIter) (trace : List (Result (Option U.Item) I.Error)) (t : Map I F) (hand' : Option U.IntoFallibleIter) → Run ⟦<FlatMap<I, U, F> as FallibleIterator>⟧.source.steps (flat_map_of (s, hand)) trace (flat_map_of (t, hand')) ↔ FlattenTrace ⟦<Map<I, F> as FallibleIterator>⟧.source.steps U.into_gives U.IntoFallibleIter.source.steps s hand trace t hand' }
+{}
