@@ -1,7 +1,7 @@
 // Adapters that join inner iterators.
 use crate::listed::listed;
 use fallible_iterator::laws::{Answer, answers};
-use fallible_iterator::{FallibleIterator, Fault, IntoFallible, from_fn, once};
+use fallible_iterator::{FallibleIterator, Fault, IntoFallible, IntoFallibleIterator, from_fn, once};
 use std::convert::Infallible;
 use std::ops::Range;
 use std::test::Fail;
@@ -56,6 +56,21 @@ fn flat_map_of_three_ranges(rt: HostRuntime) -> Result<(), Fail> {
     Ok(())
 }
 
+// The first answer of the joined inner iterators, and how a fold stopped at the next item ends.
+fn draw_and_stop<U: IntoFallibleIterator<Item = u32, Error = u32>>(
+    inner: U,
+) -> (Result<Option<u32>, u32>, Result<u32, u32>)
+where
+    U: Drop,
+    requires can { (c : U.IntoFallibleIter) → U.into_gives inner c → U.IntoFallibleIter.source.can c }
+    requires finite { (c : U.IntoFallibleIter) → U.into_gives inner c → U.IntoFallibleIter.source.to_come c 9 }
+{
+    let mut it = once::<U, u32>(inner).flatten();
+    let first = it.next();
+    let stopped = it.try_fold(0, |_n: u32, _x: u32| -> Result<u32, u32> { Err(7) });
+    (first, stopped)
+}
+
 #[test]
 fn flatten_draws_no_inner_end_ahead(rt: HostRuntime) -> Result<(), Fail> {
     let mut calls = 0u32;
@@ -69,13 +84,9 @@ fn flatten_draws_no_inner_end_ahead(rt: HostRuntime) -> Result<(), Fail> {
         }
     })
     .take(9);
-    let mut it = once(&mut s).flatten();
-    assert_eq!(rt; it.next(), Ok(Some(1)));
-    let stopped: Result<u32, u32> = it.try_fold(0, |_n: u32, _x: u32| -> Result<u32, u32> {
-        Err(7)
-    });
+    let (first, stopped) = draw_and_stop(&mut s);
+    assert_eq!(rt; first, Ok(Some(1)));
     assert_eq!(rt; stopped, Err(7));
-    drop(it);
     assert_eq!(rt; s.next(), Ok(None));
     assert_eq!(rt; s.next(), Ok(Some(3)));
     Ok(())

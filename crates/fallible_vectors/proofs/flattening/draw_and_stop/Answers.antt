@@ -1,0 +1,45 @@
+-- The one inner iterator may be drawn from, and its number serves for each that may come; so they do after a draw.
+use Rattle.std.proofs.Common.{◌≡◌, ℕ, ◌≤◌, Option, Some, None, [], ◌∷◌, Result, sym, ap, subst, arith}
+use Rattle.fallible_iterator.specs.declared.sources.Once.{Once}
+use Rattle.fallible_iterator.specs.Traces.{Answered}
+use Rattle.fallible_iterator.specs.Source.{Source, Goes, Lawful, seen_as}
+use Rattle.fallible_iterator.specs.Sources.{once_source}
+use Rattle.fallible_iterator.specs.Flattening.{EachInner, EachInHand, flatten_source}
+use Rattle.fallible_iterator.specs.Laws.Source.{lawful_seen}
+use Rattle.fallible_iterator.specs.Laws.Sources.{lawful_once}
+use Rattle.fallible_iterator.specs.Laws.Flattening.{lawful_flatten}
+use Rattle.fallible_vectors.proofs.flattening.draw_and_stop.Goals as goal
+
+module _ {U C B E : Type 0} (into : U → C → Type 0) (inner : Source C B E) (x : U) where
+  abbrev O : Source (Once U E) U E
+  O = seen_as (λ v. v.value) once_source
+
+  abbrev M : Source (Once U E × Option C) B E
+  M = flatten_source O into inner
+
+  none_in_hand : (P : C → Type 0) (hand : Option C) → hand ≡ None → EachInHand hand P
+  none_in_hand P hand e = subst (λ (o : Option C). EachInHand o P) (sym e) tt
+
+  each : (P : C → Type 0) (s : Once U E) → s.value ≡ Some x → ((c : C) → into x c → P c) → EachInner O into inner P s
+  each P s value h = record { at = λ y c given becomes. let same : y ≡ x = cc in h c (subst (λ (z : U). into z c) same becomes) }
+
+  starts : (s : Once U E) (hand : Option C) → s.value ≡ Some x → hand ≡ None → ((c : C) → into x c → inner.can c) → M.can (s, hand)
+  starts s hand value none can = (tt, tt, none_in_hand inner.can hand none, each inner.can s value can)
+
+  finite : (s : Once U E) (hand : Option C) → s.value ≡ Some x → hand ≡ None → ((c : C) → into x c → inner.to_come c 9) → M.has_end (s, hand)
+  finite s hand value none b = (tt, none_in_hand inner.has_end hand none, (9, each _ s value (λ c becomes. (9, b c becomes, omega arith))))
+
+  goes : Lawful inner → (p q : Once U E × Option C) (r : Answered B E) → M.can p → M.steps p r q → Goes M p r q
+  goes k p q r can step = (lawful_flatten O (lawful_seen (λ v. v.value) lawful_once) into inner k).goes p r q can step
+
+pub next-first-requires : goal.next-first-requires
+next-first-requires g c = starts _ _ c.args.inner c.flatten-it.result.it c.flatten-it.result.in_hand (subst (λ s. s.value ≡ Some c.args.inner) (sym (ap (λ p. p.0) c.flatten-it.ensures)) c.once.ensures) (ap (λ p. p.1) c.flatten-it.ensures) c.requires.can
+
+pub try_fold-stopped-requires-clause-can : goal.try_fold-stopped-requires-clause-can
+try_fold-stopped-requires-clause-can g c = let can = starts _ _ c.args.inner c.flatten-it.result.it c.flatten-it.result.in_hand (subst (λ s. s.value ≡ Some c.args.inner) (sym (ap (λ p. p.0) c.flatten-it.ensures)) c.once.ensures) (ap (λ p. p.1) c.flatten-it.ensures) c.requires.can in
+    (goes g.U.IntoFallibleIterator.into_gives _ c.args.inner g.met.U.IntoFallibleIter.FallibleIterator.lawful (c.flatten-it.result.it, c.flatten-it.result.in_hand) (c.next-first.new.self.it, c.next-first.new.self.in_hand) c.next-first.result can c.next-first.ensures).can
+
+pub try_fold-stopped-requires-clause-finite : goal.try_fold-stopped-requires-clause-finite
+try_fold-stopped-requires-clause-finite g c = let value = subst (λ s. s.value ≡ Some c.args.inner) (sym (ap (λ p. p.0) c.flatten-it.ensures)) c.once.ensures in let hand = ap (λ p. p.1) c.flatten-it.ensures in
+    let can = starts _ _ c.args.inner c.flatten-it.result.it c.flatten-it.result.in_hand value hand c.requires.can in
+    (goes g.U.IntoFallibleIterator.into_gives _ c.args.inner g.met.U.IntoFallibleIter.FallibleIterator.lawful (c.flatten-it.result.it, c.flatten-it.result.in_hand) (c.next-first.new.self.it, c.next-first.new.self.in_hand) c.next-first.result can c.next-first.ensures).has_end (finite _ _ c.args.inner c.flatten-it.result.it c.flatten-it.result.in_hand value hand c.requires.finite)
