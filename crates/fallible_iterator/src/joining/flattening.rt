@@ -67,7 +67,8 @@ impl<
 
     /// Draws as `Flatten` does, from the inner iterators that the closure makes.
     fn next(&mut self) -> Result<Option<U::Item>, I::Error> {
-        next_joined(&mut self.it, &mut self.in_hand)
+        let Self { it, in_hand } = self;
+        next_joined(it, in_hand)
     }
 
     fn size_hint(&self) -> (usize, Option<usize>) {
