@@ -1,7 +1,6 @@
 // The adapters that join the answers of inner iterators.
 ghost use Rattle.std.specs.Prelude.{◌≡◌, ℕ, [], ◌∷◌, None, Ok, List, Option, Result};
 ghost use Rattle.fallible_iterator.specs.Source.{seen_as};
-ghost use Rattle.fallible_iterator.specs.OneToOne.{map_source};
 ghost use Rattle.fallible_iterator.specs.Flattening.{EachInHand, EachInner, FlattenTrace, flatten_source, BeginTurn, begun};
 ghost use Rattle.fallible_iterator.specs.Parts.{map_parts, flatten_parts, flat_map_parts};
 ghost use Rattle.fallible_iterator.specs.Laws.Source.{lawful_seen};
@@ -63,7 +62,7 @@ impl<
 
     type Error = I::Error;
 
-    ghost source = { seen_as flat_map_parts (flatten_source (seen_as map_parts (map_source I.source F.FnMut)) U.into_gives U.IntoFallibleIter.source) };
+    ghost source = { seen_as flat_map_parts (flatten_source ⟦<Map<I, F> as FallibleIterator>⟧.source U.into_gives U.IntoFallibleIter.source) };
 
     /// Draws as `Flatten` does, from the inner iterators that the closure makes.
     fn next(&mut self) -> Result<Option<U::Item>, I::Error> {
