@@ -108,3 +108,35 @@ fn flat_map_keeps_its_closures_state(rt: HostRuntime) -> Result<(), Fail> {
     );
     Ok(())
 }
+
+#[test]
+fn flatten_clones_its_inner_iterator_in_hand(rt: HostRuntime) -> Result<(), Fail> {
+    let mut it = listed::<IntoFallible<Range<u32>>, Infallible, 1>(
+        rt.alloc(),
+        [Ok(IntoFallible::from(1..3))],
+    )?
+    .flatten();
+    assert_eq!(rt; it.size_hint(), (0, None));
+    assert_eq!(rt; it.next(), Ok(Some(1)));
+    let mut other = it.clone()?;
+    assert_eq!(rt; it.next(), Ok(Some(2)));
+    assert_eq!(rt; other.next(), Ok(Some(2)));
+    assert_eq!(rt; other.next(), Ok(None));
+    Ok(())
+}
+
+#[test]
+fn flat_map_clones_its_inner_iterator_in_hand(rt: HostRuntime) -> Result<(), Fail> {
+    let mut it = listed::<u32, Infallible, 1>(rt.alloc(), [Ok(1)])?.flat_map(
+        |x: u32| -> Result<IntoFallible<Range<u32>>, Infallible> { Ok(IntoFallible::from(x..3)) },
+    );
+    assert_eq!(rt; it.size_hint(), (0, None));
+    let first = answers(rt.alloc(), &mut it, 1)?;
+    assert_eq!(rt; first.as_slice(), [Answer::Item(1)].as_slice());
+    let mut other = it.clone()?;
+    let got = answers(rt.alloc(), &mut it, 1)?;
+    assert_eq!(rt; got.as_slice(), [Answer::Item(2)].as_slice());
+    let got = answers(rt.alloc(), &mut other, 2)?;
+    assert_eq!(rt; got.as_slice(), [Answer::Item(2), Answer::End].as_slice());
+    Ok(())
+}
