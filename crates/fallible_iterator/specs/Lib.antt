@@ -14,6 +14,8 @@ pub mod Filtering
 pub mod Cutting
 pub mod Skipping
 pub mod Stepping
+pub mod Chaining
+pub mod Zipping
 pub mod Answers
 pub mod Collecting
 pub mod Borrowed

@@ -22,6 +22,9 @@ use Rattle.fallible_iterator.specs.declared.cutting.fusing.Fuse.{Fuse}
 use Rattle.fallible_iterator.specs.declared.cutting.taking_while.TakeWhile.{TakeWhile}
 use Rattle.fallible_iterator.specs.declared.cutting.skipping.Skip.{Skip}
 use Rattle.fallible_iterator.specs.declared.cutting.stepping.StepBy.{StepBy}
+use Rattle.fallible_iterator.specs.declared.joining.chaining.Chain.{Chain}
+use Rattle.fallible_iterator.specs.declared.joining.chaining.Sides.{Sides}
+use Rattle.fallible_iterator.specs.declared.joining.zipping.Zip.{Zip}
 
 -- the std iterator
 abbrev pub convert_source_of : {I : Type 0} → Convert I → I
@@ -113,3 +116,17 @@ take_while_of p = record { it = (p.0).0; predicate = (p.0).1; refused = p.1 }
 
 abbrev pub step_by_of : {I : Type 0} → I × (ℕ × Bool) → StepBy I
 step_by_of p = record { it = p.0; between = (p.1).0; first = (p.1).1 }
+
+-- the front, the back, and which of them are still drawn
+abbrev pub chain_parts : {T U : Type 0} → Chain T U → T × U × Sides
+chain_parts s = (s.front, s.back, s.sides)
+
+abbrev pub chain_of : {T U : Type 0} → T × U × Sides → Chain T U
+chain_of p = record { front = p.0; back = p.1; sides = p.2 }
+
+-- the left and the right
+abbrev pub zip_parts : {T U : Type 0} → Zip T U → T × U
+zip_parts s = (s.left, s.right)
+
+abbrev pub zip_of : {T U : Type 0} → T × U → Zip T U
+zip_of p = record { left = p.0; right = p.1 }

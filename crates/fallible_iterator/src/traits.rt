@@ -6,6 +6,8 @@ ghost use Rattle.fallible_iterator.specs.Enumerate.{IsNumberable};
 ghost use Rattle.fallible_iterator.specs.Filtering.{skip_call, skip_takes};
 ghost use Rattle.fallible_iterator.specs.OneToOne.{scan_call, scan_takes};
 ghost use Rattle.fallible_iterator.specs.Parts.{map_parts, inspect_parts, filter_parts, filter_map_parts, skip_while_parts, map_err_parts, enumerate_parts, scan_parts, cloned_parts, take_parts, take_while_parts, fuse_parts, skip_parts, step_by_parts};
+ghost use Rattle.fallible_iterator.specs.Parts.{chain_parts, zip_parts};
+ghost use Rattle.fallible_iterator.specs.declared.joining.chaining.Sides.TheVariants.{Both};
 ghost use Rattle.fallible_iterator.specs.Collecting.{Collects, PushTurn};
 ghost use Rattle.fallible_iterator.specs.Folds.{CallableCarrying, Carried, CallableInFold, FoldTurn, Folded, Counted, Nth};
 
@@ -16,8 +18,11 @@ use crate::collecting::{Collect, Fault};
 use crate::cutting::{Fuse, Skip, StepBy, Take, TakeWhile};
 use crate::filtering::{Filter, FilterMap, SkipWhile};
 use crate::folds::{Exit, Turn};
+use crate::joining::chaining::Sides;
+use crate::joining::{Chain, Zip};
 use crate::one_to_one::{Cloned, Enumerate, Inspect, Map, MapErr, Scan};
 use crate::to_come::Number;
+use crate::traits::conversion::IntoFallibleIterator;
 use std::alloc::{AllocError, Global};
 use std::convert::Infallible;
 use std::marker::PhantomData;
@@ -345,6 +350,31 @@ pub trait FallibleIterator: Drop + Sized {
         ensures { cloned_parts result ≡ (self, Some tt) }
     {
         Cloned { it: self }
+    }
+
+    /// Answers as itself up to its first end, and in that same draw and from then on as the other, which becomes a fallible iterator here. Failures pass, and change nothing. Making the adapter draws nothing.
+    final fn chain<I>(self, it: I) -> Chain<Self, I::IntoFallibleIter>
+    where
+        I: IntoFallibleIterator<Item = Self::Item, Error = Self::Error>,
+        ensures { (back : I.IntoFallibleIter) × I.into_gives it back × (chain_parts result ≡ (self, back, Both)) }
+    {
+        Chain {
+            front: self,
+            back: it.into_fallible_iter(),
+            sides: Sides::Both,
+        }
+    }
+
+    /// Pairs each item with one of the other, which becomes a fallible iterator here. Each draw makes one of itself and then, where that was no failure, one of the other; an end of either is an end, and a failure of either that failure. An item beside an end or a failure is lost. Making the adapter draws nothing.
+    final fn zip<I>(self, o: I) -> Zip<Self, I::IntoFallibleIter>
+    where
+        I: IntoFallibleIterator<Error = Self::Error>,
+        ensures { (right : I.IntoFallibleIter) × I.into_gives o right × (zip_parts result ≡ (self, right)) }
+    {
+        Zip {
+            left: self,
+            right: o.into_fallible_iter(),
+        }
     }
 
     /// Makes a collection of the items up to the end. The collection is made first, and then each item is pushed as it is drawn; no room is taken ahead.

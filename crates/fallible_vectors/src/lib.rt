@@ -10,6 +10,8 @@ mod cutting;
 #[cfg(test)]
 mod filtering;
 #[cfg(test)]
+mod joining;
+#[cfg(test)]
 mod listed;
 #[cfg(test)]
 mod one_to_one;
