@@ -132,6 +132,7 @@ fn zip_ends_with_the_left(rt: HostRuntime) -> Result<(), Fail> {
     let mut it = left.zip(&mut right);
     assert_eq!(rt; it.next(), Ok(Some((1, 10))));
     assert_eq!(rt; it.next(), Ok(None));
+    drop(it);
     assert_eq!(rt; right.next(), Ok(Some(30)));
     Ok(())
 }

@@ -1,7 +1,6 @@
 -- `Chain`: its contract is lawful, and its runs are the traces that its definition names.
-use Rattle.std.specs.Prelude.{◌≡◌, ◌≢◌, ℕ, ◌+◌, ◌≤◌, ◌<◌, cond, T, Bool, true, false, List, [], ◌∷◌, ◌++◌, Some, None, Ok, Err, ◌⊎◌, ◌↔◌}
-use Rattle.std.specs.Iterator.{Count, IsFinite, count_add}
-use Rattle.std.proofs.Common.{refl, sym, ◌∙◌, ap, arith, inl, inr}
+use Rattle.std.specs.Prelude.{◌≡◌, ◌≢◌, ℕ, ◌+◌, cond, T, Bool, true, false, List, [], ◌∷◌, ◌++◌, Some, None, Ok, Err, ◌↔◌}
+use Rattle.std.proofs.Common.{refl, sym, ap, arith, inl, inr}
 use Rattle.fallible_iterator.specs.declared.joining.chaining.Sides.{Sides}
 use Rattle.fallible_iterator.specs.declared.joining.chaining.Sides.TheVariants.{Both, Front, Back}
 use Rattle.fallible_iterator.specs.Traces.{Answered, Run, end}

@@ -1,8 +1,8 @@
 -- `Zip`: its contract is lawful, and its runs are the traces that its definition names.
-use Rattle.std.specs.Prelude.{◌≡◌, ℕ, ◌≤◌, ◌<◌, List, [], ◌∷◌, map, Option, Some, None, Ok, Err, ◌⊎◌, ◌↔◌}
+use Rattle.std.specs.Prelude.{ℕ, List, [], ◌∷◌, map, Option, Some, None, Ok, Err, ◌↔◌}
 use Rattle.std.specs.List.{filter_map}
-use Rattle.std.proofs.Common.{refl, sym, ap, arith, inl, inr}
-use Rattle.fallible_iterator.specs.Traces.{Answered, Run, item, failure, end}
+use Rattle.std.proofs.Common.{refl, ap, arith, inl, inr}
+use Rattle.fallible_iterator.specs.Traces.{Answered, Run, item, failure}
 use Rattle.fallible_iterator.specs.Source.{Source, NoMore, OnAnswer, Goes, Lawful}
 use Rattle.fallible_iterator.specs.Zipping.{ZipPlace, left_failed, both_drawn, left_answer, right_answer, zip_answer, ZipTrace, right_step, zip_step, zip_source}
 use Rattle.fallible_iterator.specs.Laws.Source.{no_more}

@@ -30,7 +30,7 @@ where
     fn next(&mut self) -> Result<Option<(T::Item, U::Item)>, T::Error> {
         let left = match self.left.next() {
             Ok(left) => left,
-            Err(failure) => return Err(failure),
+            Err(e) => return Err(e),
         };
         let right = match self.right.next() {
             Ok(right) => right,
