@@ -1,6 +1,7 @@
 // Adapters that join two sources.
-pub mod chaining;
+mod chaining;
 mod zipping;
 
 pub use chaining::Chain;
+pub(crate) use chaining::Sides;
 pub use zipping::Zip;

@@ -18,8 +18,7 @@ use crate::collecting::{Collect, Fault};
 use crate::cutting::{Fuse, Skip, StepBy, Take, TakeWhile};
 use crate::filtering::{Filter, FilterMap, SkipWhile};
 use crate::folds::{Exit, Turn};
-use crate::joining::chaining::Sides;
-use crate::joining::{Chain, Zip};
+use crate::joining::{Chain, Sides, Zip};
 use crate::one_to_one::{Cloned, Enumerate, Inspect, Map, MapErr, Scan};
 use crate::to_come::Number;
 use crate::traits::conversion::IntoFallibleIterator;
@@ -352,7 +351,7 @@ pub trait FallibleIterator: Drop + Sized {
         Cloned { it: self }
     }
 
-    /// Answers as itself up to its first end, and in that same draw and from then on as the other, which becomes a fallible iterator here. Failures pass, and change nothing. Making the adapter draws nothing.
+    /// Gives the answers up to the first end, and then those of `it`. The draw that meets that end draws `it` at once, and from then on only `it` is drawn. A failure passes, and changes no side. Making the adapter draws nothing: it calls `into_fallible_iter` once, and keeps what that gives.
     final fn chain<I>(self, it: I) -> Chain<Self, I::IntoFallibleIter>
     where
         I: IntoFallibleIterator<Item = Self::Item, Error = Self::Error>,
@@ -365,7 +364,7 @@ pub trait FallibleIterator: Drop + Sized {
         }
     }
 
-    /// Pairs each item with one of the other, which becomes a fallible iterator here. Each draw makes one of itself and then, where that was no failure, one of the other; an end of either is an end, and a failure of either that failure. An item beside an end or a failure is lost. Making the adapter draws nothing.
+    /// Pairs each item with one of `o`. A call draws one answer, and then, where that isn't a failure, one of `o`, also at an end. Two items make a pair. A failure of either is the answer, and else an end of either is an end; an item beside it is lost, and the next call draws both again. Making the adapter draws nothing: it calls `into_fallible_iter` once, and keeps what that gives.
     final fn zip<I>(self, o: I) -> Zip<Self, I::IntoFallibleIter>
     where
         I: IntoFallibleIterator<Error = Self::Error>,

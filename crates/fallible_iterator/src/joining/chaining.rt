@@ -8,7 +8,7 @@ ghost use Rattle.fallible_iterator.specs.Laws.Chaining.{lawful_chain};
 
 use crate::traits::FallibleIterator;
 
-// Which sides of a `Chain` are still drawn.
+// Which sides of a `Chain` are still drawn. No draw from the front leaves the front alone.
 #[derive(Clone, Debug, Drop)]
 pub(crate) enum Sides {
     Both,
@@ -32,7 +32,7 @@ impl<T: FallibleIterator, U: FallibleIterator<Item = T::Item, Error = T::Error>>
 
     ghost source = { seen_as chain_parts (chain_source T.source U.source) };
 
-    /// Draws one answer of the front; at the front's end, which is lost, and ever after, one of the back.
+    /// Draws one answer of the front; where that is its first end, and ever after, one of the back.
     fn next(&mut self) -> Result<Option<T::Item>, T::Error> {
         match self.sides {
             Sides::Both => match self.front.next() {

@@ -8,7 +8,7 @@ ghost use Rattle.fallible_iterator.specs.Laws.Zipping.{lawful_zip};
 
 use crate::traits::FallibleIterator;
 
-/// The pairs of the left's items and the right's. Where one side ends, the answer is an end, and an item beside it is lost; where one fails, the answer is its failure, and an item of the left beside a failure of the right is lost.
+/// The pairs of the left's items and the right's, place by place. A failure of either side is the answer, and else an end of either is an end; an item beside it is lost.
 #[derive(Clone, Debug, Drop)]
 pub struct Zip<T, U> {
     pub(crate) left: T,
@@ -26,7 +26,7 @@ where
 
     ghost source = { seen_as zip_parts (zip_source T.source U.source) };
 
-    /// Draws one answer of the left, and then, where it isn't a failure, one of the right.
+    /// Draws one answer of the left, and then, where that isn't a failure, one of the right.
     fn next(&mut self) -> Result<Option<(T::Item, U::Item)>, T::Error> {
         let left = match self.left.next() {
             Ok(left) => left,
