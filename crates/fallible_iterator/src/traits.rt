@@ -355,7 +355,9 @@ pub trait FallibleIterator: Drop + Sized {
     final fn chain<I>(self, it: I) -> Chain<Self, I::IntoFallibleIter>
     where
         I: IntoFallibleIterator<Item = Self::Item, Error = Self::Error>,
-        ensures { (back : I.IntoFallibleIter) × I.into_gives it back × (chain_parts result ≡ (self, back, Both)) }
+        ensures front { (chain_parts result).0 ≡ self }
+        ensures back { I.into_gives it (chain_parts result).1 }
+        ensures sides { (chain_parts result).2 ≡ Both }
     {
         Chain {
             front: self,
@@ -368,7 +370,8 @@ pub trait FallibleIterator: Drop + Sized {
     final fn zip<I>(self, o: I) -> Zip<Self, I::IntoFallibleIter>
     where
         I: IntoFallibleIterator<Error = Self::Error>,
-        ensures { (right : I.IntoFallibleIter) × I.into_gives o right × (zip_parts result ≡ (self, right)) }
+        ensures left { (zip_parts result).0 ≡ self }
+        ensures right { I.into_gives o (zip_parts result).1 }
     {
         Zip {
             left: self,

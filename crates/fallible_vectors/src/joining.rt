@@ -197,3 +197,20 @@ fn a_clone_of_a_zip_answers_as_its_original(rt: HostRuntime) -> Result<(), Fail>
     assert_eq!(rt; copy.next(), Ok(Some((1, 2))));
     Ok(())
 }
+
+#[test]
+fn a_nest_of_joins_is_drained(rt: HostRuntime) -> Result<(), Fail> {
+    let left = listed::<u32, u32, 2>(rt.alloc(), [Ok(1), Ok(2)])?
+        .chain(once(3))
+        .chain(once(4));
+    let right = listed::<u32, u32, 3>(rt.alloc(), [Ok(10), Ok(20), Ok(30)])?;
+    let made: Result<Vec<u32>, Fault<u32>> = left
+        .zip(right)
+        .map(|pair: (u32, u32)| Ok(pair.0.wrapping_add(pair.1)))
+        .collect(rt.alloc());
+    match made {
+        Ok(items) => assert_eq!(rt; items.as_slice(), [11, 22, 33].as_slice()),
+        Err(_) => assert!(rt; false),
+    }
+    Ok(())
+}
