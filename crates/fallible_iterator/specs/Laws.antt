@@ -24,3 +24,5 @@ pub mod Nth
 pub mod Skipping
 pub mod Stepping
 pub mod Flattening
+pub mod Chaining
+pub mod Zipping

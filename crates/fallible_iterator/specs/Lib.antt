@@ -15,6 +15,8 @@ pub mod Cutting
 pub mod Skipping
 pub mod Stepping
 pub mod Flattening
+pub mod Chaining
+pub mod Zipping
 pub mod Answers
 pub mod Collecting
 pub mod Borrowed

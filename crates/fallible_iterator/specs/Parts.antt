@@ -24,6 +24,9 @@ use Rattle.fallible_iterator.specs.declared.cutting.skipping.Skip.{Skip}
 use Rattle.fallible_iterator.specs.declared.cutting.stepping.StepBy.{StepBy}
 use Rattle.fallible_iterator.specs.declared.joining.flattening.Flatten.{Flatten}
 use Rattle.fallible_iterator.specs.declared.joining.flattening.FlatMap.{FlatMap}
+use Rattle.fallible_iterator.specs.declared.joining.chaining.Chain.{Chain}
+use Rattle.fallible_iterator.specs.declared.joining.chaining.Sides.{Sides}
+use Rattle.fallible_iterator.specs.declared.joining.zipping.Zip.{Zip}
 
 -- the std iterator
 abbrev pub convert_source_of : {I : Type 0} → Convert I → I
@@ -128,3 +131,17 @@ flatten_of p = record { it = p.0; in_hand = p.1 }
 
 abbrev pub flat_map_of : {I U F B D C : Type 0} → Map I F × Option C → FlatMap I U F B D C
 flat_map_of p = record { it = p.0; in_hand = p.1 }
+
+-- the front, the back, and which of them are still drawn
+abbrev pub chain_parts : {T U : Type 0} → Chain T U → T × U × Sides
+chain_parts s = (s.front, s.back, s.sides)
+
+abbrev pub chain_of : {T U : Type 0} → T × U × Sides → Chain T U
+chain_of p = record { front = p.0; back = p.1; sides = p.2 }
+
+-- the left and the right
+abbrev pub zip_parts : {T U : Type 0} → Zip T U → T × U
+zip_parts s = (s.left, s.right)
+
+abbrev pub zip_of : {T U : Type 0} → T × U → Zip T U
+zip_of p = record { left = p.0; right = p.1 }

@@ -5,7 +5,7 @@ ghost use Rattle.fallible_iterator.specs.Answers.{answer_of, IsAnswers};
 
 pub mod borrowed;
 mod cutting;
-mod flattening;
+mod joining;
 mod passing;
 pub mod sources;
 mod to_come;
@@ -13,7 +13,7 @@ mod to_come;
 use crate::traits::FallibleIterator;
 pub use borrowed::law_borrowed;
 pub use cutting::{law_fuse, law_skip, law_step_by, law_take, law_take_while};
-pub use flattening::{law_flat_map, law_flatten};
+pub use joining::{law_chain, law_flat_map, law_flatten, law_zip};
 pub use passing::{
     law_cloned, law_enumerate, law_filter, law_filter_map, law_inspect, law_map, law_map_err,
     law_scan, law_skip_while,

@@ -15,7 +15,7 @@ pub mod traits;
 pub use collecting::{Collect, Fault};
 pub use cutting::{Fuse, Skip, StepBy, Take, TakeWhile};
 pub use filtering::{Filter, FilterMap, SkipWhile};
-pub use joining::{FlatMap, Flatten};
+pub use joining::{Chain, FlatMap, Flatten, Zip};
 pub use one_to_one::{Cloned, Enumerate, Inspect, Map, MapErr, Scan};
 pub use sources::making::{convert, empty, from_fn, once, once_err, repeat, repeat_err};
 pub use sources::{Convert, Empty, FromFn, IntoFallible, Once, OnceErr, Repeat, RepeatErr};

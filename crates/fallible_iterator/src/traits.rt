@@ -5,7 +5,9 @@ ghost use Rattle.fallible_iterator.specs.Closures.{IsCallable, call_on, takes_on
 ghost use Rattle.fallible_iterator.specs.Enumerate.{IsNumberable};
 ghost use Rattle.fallible_iterator.specs.Filtering.{skip_call, skip_takes};
 ghost use Rattle.fallible_iterator.specs.OneToOne.{scan_call, scan_takes};
-ghost use Rattle.fallible_iterator.specs.Parts.{map_parts, inspect_parts, filter_parts, filter_map_parts, skip_while_parts, map_err_parts, enumerate_parts, scan_parts, cloned_parts, take_parts, take_while_parts, fuse_parts, skip_parts, step_by_parts, flatten_parts, flat_map_parts};
+ghost use Rattle.fallible_iterator.specs.Parts.{map_parts, inspect_parts, filter_parts, filter_map_parts, skip_while_parts, map_err_parts, enumerate_parts, scan_parts, cloned_parts, take_parts, take_while_parts, fuse_parts, skip_parts, step_by_parts};
+ghost use Rattle.fallible_iterator.specs.Parts.{chain_parts, zip_parts, flatten_parts, flat_map_parts};
+ghost use Rattle.fallible_iterator.specs.declared.joining.chaining.Sides.TheVariants.{Both};
 ghost use Rattle.fallible_iterator.specs.Collecting.{Collects, PushTurn};
 ghost use Rattle.fallible_iterator.specs.Folds.{CallableCarrying, Carried, CallableInFold, FoldTurn, Folded, Counted, Nth};
 
@@ -16,7 +18,7 @@ use crate::collecting::{Collect, Fault};
 use crate::cutting::{Fuse, Skip, StepBy, Take, TakeWhile};
 use crate::filtering::{Filter, FilterMap, SkipWhile};
 use crate::folds::{Exit, Turn};
-use crate::joining::{FlatMap, Flatten};
+use crate::joining::{Chain, FlatMap, Flatten, Sides, Zip};
 use crate::one_to_one::{Cloned, Enumerate, Inspect, Map, MapErr, Scan};
 use crate::to_come::Number;
 use crate::traits::conversion::IntoFallibleIterator;
@@ -347,6 +349,34 @@ pub trait FallibleIterator: Drop + Sized {
         ensures { cloned_parts result ≡ (self, Some tt) }
     {
         Cloned { it: self }
+    }
+
+    /// Gives the answers up to the first end, and then those of `it`. The draw that meets that end draws `it` at once, and from then on only `it` is drawn. A failure passes, and changes no side. Making the adapter draws nothing: it calls `into_fallible_iter` once, and keeps what that gives.
+    final fn chain<I>(self, it: I) -> Chain<Self, I::IntoFallibleIter>
+    where
+        I: IntoFallibleIterator<Item = Self::Item, Error = Self::Error>,
+        ensures front { (chain_parts result).0 ≡ self }
+        ensures back { I.into_gives it (chain_parts result).1 }
+        ensures sides { (chain_parts result).2 ≡ Both }
+    {
+        Chain {
+            front: self,
+            back: it.into_fallible_iter(),
+            sides: Sides::Both,
+        }
+    }
+
+    /// Pairs each item with one of `o`. A call draws one answer, and then, where that isn't a failure, one of `o`, also at an end. Two items make a pair. A failure of either is the answer, and else an end of either is an end; an item beside it is lost, and the next call draws both again. Making the adapter draws nothing: it calls `into_fallible_iter` once, and keeps what that gives.
+    final fn zip<I>(self, o: I) -> Zip<Self, I::IntoFallibleIter>
+    where
+        I: IntoFallibleIterator<Error = Self::Error>,
+        ensures left { (zip_parts result).0 ≡ self }
+        ensures right { I.into_gives o (zip_parts result).1 }
+    {
+        Zip {
+            left: self,
+            right: o.into_fallible_iter(),
+        }
     }
 
     /// Joins the answers of the inner iterators that the items become: the one in hand answers until its end, at which it is dropped, and then the next item is drawn. A failure or an end of this iterator is the answer, and the next call draws from it again. Making the adapter draws nothing.

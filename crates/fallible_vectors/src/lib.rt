@@ -11,6 +11,7 @@ mod cutting;
 mod filtering;
 #[cfg(test)]
 mod flattening;
+mod joining;
 #[cfg(test)]
 mod listed;
 #[cfg(test)]

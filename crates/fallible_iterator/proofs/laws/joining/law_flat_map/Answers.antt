@@ -4,7 +4,7 @@ use Rattle.fallible_iterator.specs.Parts.{flat_map_parts, flat_map_of}
 use Rattle.fallible_iterator.specs.Laws.Views.{run_seen}
 use Rattle.fallible_iterator.specs.Laws.Definitions.{runs_by_answers}
 use Rattle.fallible_iterator.specs.Laws.Flattening.{flatten_by_answers}
-use Rattle.fallible_iterator.proofs.laws.flattening.law_flat_map.Goals as goal
+use Rattle.fallible_iterator.proofs.laws.joining.law_flat_map.Goals as goal
 
 pub returns : goal.returns
 returns g c = λ s hand trace t hand'. run_seen flat_map_parts flat_map_of (λ x. refl) (λ p. refl) _ trace (s, hand) (t, hand') (runs_by_answers _ (flatten_by_answers _ _ _) trace s t hand hand')

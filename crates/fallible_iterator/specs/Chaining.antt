@@ -1,0 +1,90 @@
+-- `Chain`: one source's answers up to its first end, and then those of another.
+use Rattle.std.specs.Prelude.{◌≡◌, ◌≢◌, ℕ, ◌+◌, ◌-◌, ◌^◌, ◌≤◌, min, cond, ltb, false, List, [], ◌∷◌, ◌++◌, Option, Some, None, ⊤, ◌⊎◌}
+use Rattle.std.specs.Iterator.{Count, count_add}
+use Rattle.fallible_iterator.specs.declared.joining.chaining.Sides.{Sides}
+use Rattle.fallible_iterator.specs.declared.joining.chaining.Sides.TheVariants.{Both, Front, Back}
+use Rattle.fallible_iterator.specs.Traces.{Answered, Run, end}
+use Rattle.fallible_iterator.specs.Source.{Source}
+use Rattle.fallible_iterator.specs.Cutting.{is_end}
+
+-- no answer of the trace is an end
+abbrev pub IsEndless : {A E : Type 0} → List (Answered A E) → Type 0
+IsEndless [] = ⊤
+IsEndless (r ∷ rest) = (is_end r ≡ false) × IsEndless rest
+
+-- The front's trace is a list without an end, and then an end. The answers are that list, and then the back's trace, which isn't empty.
+pub record JoinedTrace {S U A E : Type 0} (steps : S → Answered A E → S → Type 0) (others : U → Answered A E → U → Type 0) (s : S) (u : U) (trace : List (Answered A E)) (t : S) (v : U) : Type 0 where
+  pub before_end : List (Answered A E)
+  pub back_trace : List (Answered A E)
+  pub front_drawn : Run steps s (before_end ++ end ∷ []) t
+  pub no_end : IsEndless before_end
+  pub back_drawn : Run others u back_trace v
+  pub not_empty : back_trace ≢ []
+  pub answers : trace ≡ before_end ++ back_trace
+
+module _ {S U A E : Type 0} (steps : S → Answered A E → S → Type 0) (others : U → Answered A E → U → Type 0) where
+  -- `Chain` of which both sides are still drawn: the front's trace has no end and is the chain's, and the back isn't drawn; or the front met its end, the answers before it and then the back's trace are the chain's, and the back alone is still drawn. Where one side alone is still drawn, its trace is the chain's, and the other isn't drawn.
+  abbrev pub ChainTrace : S → U → Sides → List (Answered A E) → S → U → Sides → Type 0
+  ChainTrace s u Both trace t v left = (Run steps s trace t × IsEndless trace × (v ≡ u) × (left ≡ Both)) ⊎ (JoinedTrace steps others s u trace t v × (left ≡ Back))
+  ChainTrace s u Front trace t v left = Run steps s trace t × (v ≡ u) × (left ≡ Front)
+  ChainTrace s u Back trace t v left = Run others u trace v × (t ≡ s) × (left ≡ Back)
+
+  -- One answer: that of the front, while it isn't an end; at the front's end that of the back, in the same draw; and where one side alone is still drawn, that of this side.
+  abbrev pub chain_step : S × U × Sides → Answered A E → S × U × Sides → Type 0
+  chain_step (s, u, Both) r q = (steps s r q.0 × (is_end r ≡ false) × (q.1 ≡ u) × (q.2 ≡ Both)) ⊎ (steps s end q.0 × others u r q.1 × (q.2 ≡ Back))
+  chain_step (s, u, Front) r q = steps s r q.0 × (q.1 ≡ u) × (q.2 ≡ Front)
+  chain_step (s, u, Back) r q = others u r q.1 × (q.0 ≡ s) × (q.2 ≡ Back)
+
+-- the sum of two bounds, where it fits a `usize`
+abbrev pub fitting_sum : Option ℕ → Option ℕ → Option ℕ
+fitting_sum (Some x) (Some y) = cond (ltb (x + y) (2 ^ 64)) (Some (x + y)) None
+fitting_sum (Some x) None = None
+fitting_sum None y = None
+
+-- The sums of the bounds. The lower one is at most `usize::MAX`; there is no upper one where either is missing or the sum doesn't fit.
+abbrev pub hint_sum : ℕ × Option ℕ → ℕ × Option ℕ → ℕ × Option ℕ
+hint_sum g h = (min (g.0 + h.0) (2 ^ 64 - 1), fitting_sum g.1 h.1)
+
+-- All else is said by the sides that are still drawn: the sums where both are, and else what the one side says.
+module _ {S U A E : Type 0} (front : Source S A E) (back : Source U A E) where
+  abbrev pub chain_to_come : S × U × Sides → ℕ → Type 0
+  chain_to_come (s, u, Both) n = (a : ℕ) × (b : ℕ) × front.to_come s a × back.to_come u b × (a + b ≤ n)
+  chain_to_come (s, u, Front) n = front.to_come s n
+  chain_to_come (s, u, Back) n = back.to_come u n
+
+  abbrev pub chain_has_end : S × U × Sides → Type 0
+  chain_has_end (s, u, Both) = front.has_end s × back.has_end u
+  chain_has_end (s, u, Front) = front.has_end s
+  chain_has_end (s, u, Back) = back.has_end u
+
+  abbrev pub chain_elements : S × U × Sides → Count
+  chain_elements (s, u, Both) = count_add (front.elements s) (back.elements u)
+  chain_elements (s, u, Front) = front.elements s
+  chain_elements (s, u, Back) = back.elements u
+
+  abbrev pub chain_gives : S × U × Sides → A → Type 0
+  chain_gives (s, u, Both) x = front.gives s x ⊎ back.gives u x
+  chain_gives (s, u, Front) x = front.gives s x
+  chain_gives (s, u, Back) x = back.gives u x
+
+  abbrev pub chain_fails : S × U × Sides → E → Type 0
+  chain_fails (s, u, Both) e = front.fails s e ⊎ back.fails u e
+  chain_fails (s, u, Front) e = front.fails s e
+  chain_fails (s, u, Back) e = back.fails u e
+
+  abbrev pub chain_hints : S × U × Sides → ℕ × Option ℕ → Type 0
+  chain_hints (s, u, Both) h = (f : ℕ × Option ℕ) × (b : ℕ × Option ℕ) × front.hints s f × back.hints u b × (h ≡ hint_sum f b)
+  chain_hints (s, u, Front) h = front.hints s h
+  chain_hints (s, u, Back) h = back.hints u h
+
+  abbrev pub chain_source : Source (S × U × Sides) A E
+  chain_source = record {
+    can = λ p. front.can p.0 × back.can p.1;
+    steps = chain_step front.steps back.steps;
+    to_come = chain_to_come;
+    has_end = chain_has_end;
+    elements = chain_elements;
+    gives = chain_gives;
+    fails = chain_fails;
+    hints = chain_hints;
+  }

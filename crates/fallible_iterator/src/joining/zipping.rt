@@ -1,0 +1,63 @@
+// The adapter that pairs the items of two sources.
+ghost use Rattle.std.specs.Prelude.{◌≡◌, Result, Option};
+ghost use Rattle.fallible_iterator.specs.Source.{seen_as};
+ghost use Rattle.fallible_iterator.specs.Zipping.{hint_smaller, zip_source};
+ghost use Rattle.fallible_iterator.specs.Parts.{zip_parts};
+ghost use Rattle.fallible_iterator.specs.Laws.Source.{lawful_seen};
+ghost use Rattle.fallible_iterator.specs.Laws.Zipping.{lawful_zip};
+
+use crate::traits::FallibleIterator;
+
+/// The pairs of the left's items and the right's, place by place. A failure of either side is the answer, and else an end of either is an end; an item beside it is lost.
+#[derive(Clone, Debug, Drop)]
+pub struct Zip<T, U> {
+    pub(crate) left: T,
+    pub(crate) right: U,
+}
+
+impl<T: FallibleIterator, U: FallibleIterator<Error = T::Error>> FallibleIterator for Zip<T, U>
+where
+    T::Item: Drop,
+    U::Item: Drop,
+{
+    type Item = (T::Item, U::Item);
+
+    type Error = T::Error;
+
+    ghost source = { seen_as zip_parts (zip_source T.source U.source) };
+
+    /// Draws one answer of the left, and then, where that isn't a failure, one of the right.
+    fn next(&mut self) -> Result<Option<(T::Item, U::Item)>, T::Error> {
+        let left = match self.left.next() {
+            Ok(left) => left,
+            Err(e) => return Err(e),
+        };
+        let right = match self.right.next() {
+            Ok(right) => right,
+            Err(e) => return Err(e),
+        };
+        match (left, right) {
+            (Some(x), Some(y)) => Ok(Some((x, y))),
+            (Some(_), None) => Ok(None),
+            (None, _) => Ok(None),
+        }
+    }
+
+    fn size_hint(&self) -> (usize, Option<usize>) {
+        smaller(self.left.size_hint(), self.right.size_hint())
+    }
+
+    ghost lawful = { lawful_seen zip_parts (lawful_zip T.lawful U.lawful) };
+}
+
+// The smaller of two hints' bounds.
+fn smaller(a: (usize, Option<usize>), b: (usize, Option<usize>)) -> (usize, Option<usize>)
+    ensures { result ≡ hint_smaller a b }
+{
+    let high = match (a.1, b.1) {
+        (Some(x), Some(y)) => Some(x.min(y)),
+        (Some(x), None) => Some(x),
+        (None, y) => y,
+    };
+    (a.0.min(b.0), high)
+}
