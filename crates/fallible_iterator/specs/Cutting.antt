@@ -3,7 +3,7 @@ use Rattle.std.specs.Prelude.{◌≡◌, ℕ, zero, suc, ◌+◌, ◌≤◌, ◌
 use Rattle.std.specs.List.{filter_map}
 use Rattle.std.specs.Fn.{Mut}
 use Rattle.std.specs.Borrow.{Bor}
-use Rattle.fallible_iterator.specs.Traces.{Answered, Run, item, failure, end}
+use Rattle.fallible_iterator.specs.Traces.{Answered, Run, item, failure, end, is_end}
 use Rattle.fallible_iterator.specs.Source.{Source}
 use Rattle.fallible_iterator.specs.Closures.{Calls, InSlots, call_at, takes_at}
 use Rattle.fallible_iterator.specs.Passing.{Place, asked, failure_at, end_at, source_answer, call_of, passing}
@@ -18,11 +18,6 @@ item_of (Err e) = None
 -- how many answers of a trace are items
 abbrev pub item_count : {A E : Type 0} → List (Answered A E) → ℕ
 item_count trace = length (filter_map item_of trace)
-
-abbrev pub is_end : {A E : Type 0} → Answered A E → Bool
-is_end (Ok (Some x)) = false
-is_end (Ok None) = true
-is_end (Err e) = false
 
 -- the contract of an adapter that steps and hints in its own way, and of which all else is said as of its source
 abbrev pub with_steps : {S C A E : Type 0} → Source S A E → (S × C → Answered A E → S × C → Type 0) → (S × C → ℕ × Option ℕ → Type 0) → Source (S × C) A E

@@ -4,16 +4,9 @@ use Rattle.std.specs.List.{flat_map}
 use Rattle.std.specs.Iterator.{endless}
 use Rattle.fallible_iterator.specs.declared.folds.Exit.{Exit}
 use Rattle.fallible_iterator.specs.declared.folds.Exit.TheVariants.{Ended, Failed, Stopped}
-use Rattle.fallible_iterator.specs.Traces.{Answered, Run, item, failure, end}
+use Rattle.fallible_iterator.specs.Traces.{Answered, Run, item, failure, end, NoEnd}
 use Rattle.fallible_iterator.specs.Source.{Source}
 use Rattle.fallible_iterator.specs.Passing.{stopped_answer}
-
--- there is no end among the answers
-abbrev pub NoEnd : {A E : Type 0} → List (Answered A E) → Type 0
-NoEnd [] = ⊤
-NoEnd (Ok (Some x) ∷ rest) = NoEnd rest
-NoEnd (Ok None ∷ rest) = ⊥
-NoEnd (Err e ∷ rest) = NoEnd rest
 
 -- there is an answer
 abbrev pub NonEmpty : {R : Type 0} → List R → Type 0

@@ -1,5 +1,5 @@
 -- Answers and traces.
-use Rattle.std.specs.Prelude.{ℕ, ◌+◌, Option, Result, List, [], ◌∷◌}
+use Rattle.std.specs.Prelude.{◌≡◌, ℕ, ◌+◌, Option, Result, List, [], ◌∷◌, Bool, true, false, ⊤}
 use Rattle.std.specs.Prelude.{Some, None, Ok, Err}
 use Rattle.std.specs.List.{FoldsTo}
 
@@ -15,6 +15,17 @@ failure e = Err e
 
 abbrev pub end : {A E : Type 0} → Answered A E
 end = Ok None
+
+-- whether an answer is an end
+abbrev pub is_end : {A E : Type 0} → Answered A E → Bool
+is_end (Ok (Some x)) = false
+is_end (Ok None) = true
+is_end (Err e) = false
+
+-- no answer of the list is an end
+abbrev pub NoEnd : {A E : Type 0} → List (Answered A E) → Type 0
+NoEnd [] = ⊤
+NoEnd (r ∷ rest) = (is_end r ≡ false) × NoEnd rest
 
 -- A step relates a value, the answer of one draw and the value after it. A trace is the list of the answers to draws made one after another: from s, draws can answer the trace and leave t.
 abbrev pub Run : {S A E : Type 0} → (S → Answered A E → S → Type 0) → S → List (Answered A E) → S → Type 0

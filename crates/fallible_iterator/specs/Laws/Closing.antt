@@ -4,12 +4,12 @@ use Rattle.std.specs.List.{FoldsTo, filter_map}
 use Rattle.std.specs.Fn.{Mut}
 use Rattle.std.specs.Borrow.{Bor}
 use Rattle.std.proofs.Common.{refl, sym, ap, subst, arith, inl, inr}
-use Rattle.fallible_iterator.specs.Traces.{Answered, Run, item, failure, end}
+use Rattle.fallible_iterator.specs.Traces.{Answered, Run, item, failure, end, is_end}
 use Rattle.fallible_iterator.specs.Source.{Source, Goes, Lawful}
 use Rattle.fallible_iterator.specs.Closures.{Calls, InSlots, call_at, takes_at}
 use Rattle.fallible_iterator.specs.Passing.{Place, asked, failure_at, end_at, source_answer, call_of, passing}
 use Rattle.fallible_iterator.specs.Filtering.{filter_outcome, upper_alone}
-use Rattle.fallible_iterator.specs.Cutting.{is_end, ClosesLast, ClosingTrace, closing_step, closing, FuseTrace, fuse_source, taken_answer, is_refused, TakeWhileTrace, place_drawn, take_while_source}
+use Rattle.fallible_iterator.specs.Cutting.{ClosesLast, ClosingTrace, closing_step, closing, FuseTrace, fuse_source, taken_answer, is_refused, TakeWhileTrace, place_drawn, take_while_source}
 use Rattle.fallible_iterator.specs.Laws.WithSteps.{goes_with_steps}
 use Rattle.fallible_iterator.specs.Laws.Closures.{reaches_here, reaches_from, callable_after}
 use Rattle.fallible_iterator.specs.Laws.Passing.{lawful_passing, may_give_after, passes_item, passes_refusal, passes_end, passes_failure}

@@ -1,17 +1,17 @@
 -- The joined traces of inner iterators, answer by answer.
-use Rattle.std.specs.Prelude.{◌≡◌, ℕ, suc, ◌+◌, ◌*◌, ◌≤◌, ◌<◌, List, [], ◌∷◌, ◌++◌, map, Option, Result, Some, None, Ok, Err, ⊤, ◌⊎◌, ◌↔◌}
+use Rattle.std.specs.Prelude.{◌≡◌, ℕ, false, suc, ◌+◌, ◌*◌, ◌≤◌, ◌<◌, List, [], ◌∷◌, ◌++◌, map, Option, Result, Some, None, Ok, Err, ⊤, ◌⊎◌, ◌↔◌}
 use Rattle.std.specs.List.{FoldsTo, flat_map}
 use Rattle.std.proofs.Common.{refl, sym, ◌∙◌, ap, subst, arith, inl, inr}
 use Rattle.std.proofs.lemmas.List.{append-nil}
 use Rattle.std.proofs.Math.Nat.{mul-suc, mul-le-mul_left}
 use Rattle.fallible_iterator.specs.declared.folds.Exit.{Exit}
-use Rattle.fallible_iterator.specs.Traces.{Answered, Run, Yields, item, failure, end}
+use Rattle.fallible_iterator.specs.Traces.{Answered, Run, Yields, item, failure, end, is_end, NoEnd}
 use Rattle.fallible_iterator.specs.Source.{Source, NoMore, OnAnswer, Goes, Stays, Lawful}
 use Rattle.fallible_iterator.specs.Folds.{HoldsAtEachTurn, carrying_turn, CarryingExit, Carried}
 use Rattle.fallible_iterator.specs.Passing.{stopped_answer}
 use Rattle.fallible_iterator.specs.Laws.Definitions.{FirstOf, IsByAnswers}
 use Rattle.fallible_iterator.specs.Laws.Source.{no_more, given_after, goes_later}
-use Rattle.fallible_iterator.specs.Flattening.{BeginTurn, begun, flatten_source, EachInHand, NumberInHand, SomeInner, EachInner, FlattenNumber, NoEnd, NonEmpty, Part, of_inner, of_failure, of_end, outer_answer, part_answers, Finished, Unfinished, FinishedPart, FinishedParts, LastPart, FinishedInHand, Joined, FlattenTrace, nothing_drawn, still_in_hand, outer_drawn}
+use Rattle.fallible_iterator.specs.Flattening.{BeginTurn, begun, flatten_source, EachInHand, NumberInHand, SomeInner, EachInner, FlattenNumber, NonEmpty, Part, of_inner, of_failure, of_end, outer_answer, part_answers, Finished, Unfinished, FinishedPart, FinishedParts, LastPart, FinishedInHand, Joined, FlattenTrace, nothing_drawn, still_in_hand, outer_drawn}
 
 module _ {S X C B E : Type 0} (outer : S → Answered X E → S → Type 0) (into : X → C → Type 0) (inner : C → Answered B E → C → Type 0) where
   -- the same as `FlattenTrace`, built from the first answer on
@@ -32,15 +32,15 @@ module _ {S X C B E : Type 0} (outer : S → Answered X E → S → Type 0) (int
 
   unfinished : (answers : List (Answered B E)) (s : S) (c d : C) → Run inner c answers d → NoEnd answers → F s (Some c) answers s (Some d)
   unfinished [] s c d ran free = subst (λ (k : C). F s (Some c) [] s (Some k)) ran done
-  unfinished (Ok (Some y) ∷ rest) s c d ran free = gives y ran.1 (unfinished rest s ran.0 d ran.2 free)
-  unfinished (Ok None ∷ rest) s c d ran free = absurd free
-  unfinished (Err e ∷ rest) s c d ran free = fails e ran.1 (unfinished rest s ran.0 d ran.2 free)
+  unfinished (Ok (Some y) ∷ rest) s c d ran free = gives y ran.1 (unfinished rest s ran.0 d ran.2 free.1)
+  unfinished (Ok None ∷ rest) s c d ran free = absurd (let e = free.0 in cc)
+  unfinished (Err e ∷ rest) s c d ran free = fails e ran.1 (unfinished rest s ran.0 d ran.2 free.1)
 
   finished : (answers : List (Answered B E)) (s t : S) (c d : C) (hand : Option C) (r : Answered B E) (trace : List (Answered B E)) → Run inner c (answers ++ end ∷ []) d → NoEnd answers → F s None (r ∷ trace) t hand → F s (Some c) (answers ++ r ∷ trace) t hand
   finished [] s t c d hand r trace ran free rest = finishes ran.1 rest
-  finished (Ok (Some y) ∷ answers) s t c d hand r trace ran free rest = gives y ran.1 (finished answers s t ran.0 d hand r trace ran.2 free rest)
-  finished (Ok None ∷ answers) s t c d hand r trace ran free rest = absurd free
-  finished (Err e ∷ answers) s t c d hand r trace ran free rest = fails e ran.1 (finished answers s t ran.0 d hand r trace ran.2 free rest)
+  finished (Ok (Some y) ∷ answers) s t c d hand r trace ran free rest = gives y ran.1 (finished answers s t ran.0 d hand r trace ran.2 free.1 rest)
+  finished (Ok None ∷ answers) s t c d hand r trace ran free rest = absurd (let e = free.0 in cc)
+  finished (Err e ∷ answers) s t c d hand r trace ran free rest = fails e ran.1 (finished answers s t ran.0 d hand r trace ran.2 free.1 rest)
 
   -- the traces of what comes after: they have an answer
   record Nonempty (s : S) (hand : Option C) (trace : List (Answered B E)) (t : S) (hand' : Option C) : Type 0 where
@@ -93,31 +93,26 @@ module _ {S X C B E : Type 0} (outer : S → Answered X E → S → Type 0) (int
   abbrev D : S → Option C → List (Answered B E) → S → Option C → Type 0
   D = FlattenTrace outer into inner
 
-  no_end_more : (r : Answered B E) (rest : List (Answered B E)) → NoEnd (r ∷ []) → NoEnd rest → NoEnd (r ∷ rest)
-  no_end_more (Ok (Some y)) rest free h = h
-  no_end_more (Ok None) rest free h = free
-  no_end_more (Err e) rest free h = h
-
   abbrev J : S → Option C → List (Answered B E) → S → Option C → Type 0
   J = Joined outer into inner
 
   -- an answer, which is no end, of the inner iterator in hand
-  joined_more : (s t : S) (c d : C) (hand : Option C) (r : Answered B E) (trace : List (Answered B E)) → inner c r d → NoEnd (r ∷ []) → Joined outer into inner s (Some d) trace t hand → Joined outer into inner s (Some c) (r ∷ trace) t hand
+  joined_more : (s t : S) (c d : C) (hand : Option C) (r : Answered B E) (trace : List (Answered B E)) → inner c r d → is_end r ≡ false → Joined outer into inner s (Some d) trace t hand → Joined outer into inner s (Some c) (r ∷ trace) t hand
   joined_more s t c d hand r trace step free j = let f = j.hand_finished in record {
     in_hand = r ∷ j.in_hand;
     parts = j.parts;
     last = j.last;
     drawn = j.drawn;
-    hand_finished = record { left = f.left; drawn = (d, step, f.drawn); no_end = no_end_more r j.in_hand free f.no_end };
+    hand_finished = record { left = f.left; drawn = (d, step, f.drawn); no_end = (free, f.no_end) };
     finished = j.finished;
     at_last = j.at_last;
     answers = ap (λ l. r ∷ l) j.answers;
   }
 
   -- one more answer of the inner iterator in hand
-  more_in_hand : (s t : S) (c d : C) (hand hand' : Option C) (r : Answered B E) (trace : List (Answered B E)) → inner c r d → NoEnd (r ∷ []) → hand ≡ Some d → D s hand trace t hand' → D s (Some c) (r ∷ trace) t hand'
-  more_in_hand s t c d hand _ r _ step free e nothing_drawn = rw e (still_in_hand {trace = r ∷ []} (record { drawn = (d, step, refl); no_end = free; some = tt }))
-  more_in_hand s _ c d _ _ r trace step free e (still_in_hand {c = k} {d = l} u) = let same : k ≡ d = cc in still_in_hand {trace = r ∷ trace} (record { drawn = (d, step, rw (sym same) u.drawn); no_end = no_end_more r trace free u.no_end; some = tt })
+  more_in_hand : (s t : S) (c d : C) (hand hand' : Option C) (r : Answered B E) (trace : List (Answered B E)) → inner c r d → is_end r ≡ false → hand ≡ Some d → D s hand trace t hand' → D s (Some c) (r ∷ trace) t hand'
+  more_in_hand s t c d hand _ r _ step free e nothing_drawn = rw e (still_in_hand {trace = r ∷ []} (record { drawn = (d, step, refl); no_end = (free, tt); some = tt }))
+  more_in_hand s _ c d _ _ r trace step free e (still_in_hand {c = k} {d = l} u) = let same : k ≡ d = cc in still_in_hand {trace = r ∷ trace} (record { drawn = (d, step, rw (sym same) u.drawn); no_end = (free, u.no_end); some = tt })
   more_in_hand s t c d hand hand' r trace step free e (outer_drawn j) = outer_drawn (joined_more s t c d hand' r trace step free (rw (sym e) j))
 
   none_in_hand : (hand : Option C) (answers : List (Answered B E)) → hand ≡ None → FinishedInHand inner hand answers → answers ≡ []
@@ -149,8 +144,8 @@ module _ {S X C B E : Type 0} (outer : S → Answered X E → S → Type 0) (int
 
   pub from_flattens : (s t : S) (hand hand' : Option C) (trace : List (Answered B E)) → F s hand trace t hand' → D s hand trace t hand'
   from_flattens s _ hand _ _ done = nothing_drawn
-  from_flattens s t _ hand' _ (gives {c = c} {d = d} {trace = trace} y step f) = more_in_hand s t c d (Some d) hand' (item y) trace step tt refl (from_flattens s t (Some d) hand' trace f)
-  from_flattens s t _ hand' _ (fails {c = c} {d = d} {trace = trace} e step f) = more_in_hand s t c d (Some d) hand' (failure e) trace step tt refl (from_flattens s t (Some d) hand' trace f)
+  from_flattens s t _ hand' _ (gives {c = c} {d = d} {trace = trace} y step f) = more_in_hand s t c d (Some d) hand' (item y) trace step refl refl (from_flattens s t (Some d) hand' trace f)
+  from_flattens s t _ hand' _ (fails {c = c} {d = d} {trace = trace} e step f) = more_in_hand s t c d (Some d) hand' (failure e) trace step refl refl (from_flattens s t (Some d) hand' trace f)
   from_flattens s t _ hand' _ (finishes {c = c} {d = d} {r = r} {trace = trace} step f) = end_in_hand s t c d None hand' r (r ∷ trace) trace step refl refl (from_flattens s t None hand' (r ∷ trace) f)
   from_flattens s t _ hand' _ (begins {u = u} {c = c} {r = r} {trace = trace} x step becomes f) = begins_inner s u t c (Some c) hand' x r (r ∷ trace) trace step becomes refl refl (from_flattens u t (Some c) hand' (r ∷ trace) f)
   from_flattens s t _ hand' _ (outer_fails {u = u} {trace = trace} e step f) = answer_by_itself s u t None hand' (of_failure e) (failure e) trace step tt (λ h. h) refl refl (from_flattens u t None hand' trace f)
@@ -298,8 +293,8 @@ module _ {S X C B E : Type 0} (m : Source S X E) (l : Lawful m) (into : X → C 
 
 module _ {S X C B E : Type 0} {outer : S → Answered X E → S → Type 0} {into : X → C → Type 0} {inner : C → Answered B E → C → Type 0} where
   -- an answer, which is no end, of the inner iterator in hand
-  pub flatten_in_hand : {s : S} {c d : C} {hand : Option C} (r : Answered B E) → hand ≡ Some c → inner c r d → NoEnd (r ∷ []) → FlattenTrace outer into inner s hand (r ∷ []) s (Some d)
-  flatten_in_hand {d = d} r e step free = rw e (still_in_hand {trace = r ∷ []} (record { drawn = (d, step, refl); no_end = free; some = tt }))
+  pub flatten_in_hand : {s : S} {c d : C} {hand : Option C} (r : Answered B E) → hand ≡ Some c → inner c r d → is_end r ≡ false → FlattenTrace outer into inner s hand (r ∷ []) s (Some d)
+  flatten_in_hand {d = d} r e step free = rw e (still_in_hand {trace = r ∷ []} (record { drawn = (d, step, refl); no_end = (free, tt); some = tt }))
 
   -- the inner iterator in hand ended first
   pub flatten_after_end : {s t : S} {c : C} {hand hand' : Option C} {r : Answered B E} (d : C) → hand ≡ Some c → inner c end d → FlattenTrace outer into inner s None (r ∷ []) t hand' → FlattenTrace outer into inner s hand (r ∷ []) t hand'

@@ -2,7 +2,8 @@
 use Rattle.std.proofs.Common.{refl}
 use Rattle.fallible_iterator.specs.Parts.{fuse_parts, fuse_of}
 use Rattle.fallible_iterator.specs.Laws.Views.{run_seen}
-use Rattle.fallible_iterator.specs.Cutting.{closing_step, is_end}
+use Rattle.fallible_iterator.specs.Traces.{is_end}
+use Rattle.fallible_iterator.specs.Cutting.{closing_step}
 use Rattle.fallible_iterator.specs.Laws.Closing.{fuse_law}
 use Rattle.fallible_iterator.proofs.laws.cutting.law_fuse.Goals as goal
 
