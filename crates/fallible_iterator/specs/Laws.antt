@@ -23,3 +23,5 @@ pub mod Closing
 pub mod Nth
 pub mod Skipping
 pub mod Stepping
+pub mod Peeking
+pub mod Cycling

@@ -17,4 +17,6 @@ pub mod Stepping
 pub mod Answers
 pub mod Collecting
 pub mod Borrowed
+pub mod Peeking
+pub mod Cycling
 pub mod Laws

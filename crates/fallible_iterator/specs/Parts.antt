@@ -22,6 +22,8 @@ use Rattle.fallible_iterator.specs.declared.cutting.fusing.Fuse.{Fuse}
 use Rattle.fallible_iterator.specs.declared.cutting.taking_while.TakeWhile.{TakeWhile}
 use Rattle.fallible_iterator.specs.declared.cutting.skipping.Skip.{Skip}
 use Rattle.fallible_iterator.specs.declared.cutting.stepping.StepBy.{StepBy}
+use Rattle.fallible_iterator.specs.declared.peeking.Peekable.{Peekable}
+use Rattle.fallible_iterator.specs.declared.joining.cycling.Cycle.{Cycle}
 
 -- the std iterator
 abbrev pub convert_source_of : {I : Type 0} → Convert I → I
@@ -113,3 +115,17 @@ take_while_of p = record { it = (p.0).0; predicate = (p.0).1; refused = p.1 }
 
 abbrev pub step_by_of : {I : Type 0} → I × (ℕ × Bool) → StepBy I
 step_by_of p = record { it = p.0; between = (p.1).0; first = (p.1).1 }
+
+-- the source, and the item that was looked at
+abbrev pub peekable_parts : {I A E : Type 0} → Peekable I A E → I × Option A
+peekable_parts s = (s.it, s.held)
+
+abbrev pub peekable_of : {I A E : Type 0} → I × Option A → Peekable I A E
+peekable_of p = record { it = p.0; held = p.1 }
+
+-- the current run, and the kept source
+abbrev pub cycle_parts : {I : Type 0} → Cycle I → I × I
+cycle_parts s = (s.it, s.source)
+
+abbrev pub cycle_of : {I : Type 0} → I × I → Cycle I
+cycle_of p = record { it = p.0; source = p.1 }

@@ -1,0 +1,4 @@
+// Adapters that join traces.
+mod cycling;
+
+pub use cycling::Cycle;
