@@ -6,6 +6,8 @@ ghost use Rattle.fallible_iterator.specs.Parts.{peekable_parts};
 ghost use Rattle.fallible_iterator.specs.Laws.Source.{lawful_seen};
 ghost use Rattle.fallible_iterator.specs.Laws.Peeking.{lawful_peekable};
 
+mod peek;
+
 use crate::traits::FallibleIterator;
 
 /// The answers of the source, the next item of which can be looked at ahead. The item that was looked at is held, and comes first.

@@ -1,10 +1,12 @@
 -- `Peekable`: its contract is lawful, and its runs are the traces that its definition names.
-use Rattle.std.specs.Prelude.{◌≡◌, ◌+◌, List, [], ◌∷◌, ◌++◌, Option, Some, None, Ok, Err, Bool, true, false, ◌↔◌}
+use Rattle.std.specs.Prelude.{◌≡◌, ◌+◌, List, [], ◌∷◌, ◌++◌, Option, Result, MatchResult, option_copied, Some, None, Ok, Err, Bool, true, false, ◌↔◌}
 use Rattle.std.proofs.Common.{refl, sym, ap, subst, arith, inl, inr}
 use Rattle.fallible_iterator.specs.Traces.{Answered, Run, item, end}
 use Rattle.fallible_iterator.specs.Source.{Source, OnAnswer, Goes, Stays, Lawful}
 use Rattle.fallible_iterator.specs.Sources.{held_answer, held_count}
-use Rattle.fallible_iterator.specs.Peeking.{PeekableTrace, peekable_step, peekable_source, Peeks, NextIf}
+use Rattle.fallible_iterator.specs.Peeking.{PeekableTrace, peekable_step, peekable_source, seen, told, Fills, Peeks, NextIf}
+use Rattle.fallible_iterator.specs.Cutting.{item_of}
+use Rattle.std.specs.Borrow.{Bor}
 use Rattle.fallible_iterator.specs.Laws.Source.{stays_after, stays_here}
 
 module _ {S A E : Type 0} (m : Source S A E) where
@@ -98,6 +100,30 @@ module _ {S A E : Type 0} (steps : S → Answered A E → S → Type 0) where
 
 pub stays_kept : {S A E : Type 0} {m : Source S A E} → Lawful m → (p q : S × Option A) (x : A) → m.can p.0 → peekable_step m.steps p (item x) q → Stays (peekable_source m) p (q.0, Some x)
 stays_kept {m = m} l p q x c step = stays_peek l p (item x) (q.0, Some x) c (peeks_of_item m.steps p q x step)
+
+-- ---- `peek`
+
+module _ {S A E : Type 0} (steps : S → Answered A E → S → Type 0) where
+  held_is : (p q : S × Option A) (a : Answered A E) → Peeks steps p a q → q.1 ≡ item_of a
+  held_is (s, Some x) (t, held) a peeks = rw (peeks.0, peeks.2) refl
+  held_is (s, None) (t, held) a peeks = peeks.1
+
+  -- what is answered, where a failure was told and else what is held is borrowed
+  answered_is : (a : Answered A E) (held : Option A) (shown : Option (Bor A)) (x : Result (Option (Bor A)) E) → held ≡ item_of a → option_copied shown ≡ held → MatchResult (told a) (λ _. x ≡ Ok shown) (λ e. x ≡ Err e) → seen x ≡ a
+  answered_is (Ok (Some y)) held (Some z) x is copied joined = let same : z.now ≡ y = cc in rw joined (ap (λ w. item w) same)
+  answered_is (Ok (Some y)) held None x is copied joined = absurd cc
+  answered_is (Ok None) held (Some z) x is copied joined = absurd cc
+  answered_is (Ok None) held None x is copied joined = rw joined refl
+  answered_is (Err e) held shown x is copied joined = rw joined refl
+
+  pub peeks_joined : (p q : S × Option A) (filled : Result (Unit {0}) E) (shown : Option (Bor A)) (x : Result (Option (Bor A)) E) → Fills steps p filled q → option_copied shown ≡ q.1 → MatchResult filled (λ _. x ≡ Ok shown) (λ e. x ≡ Err e) → Peeks steps p (seen x) q
+  peeks_joined p q filled shown x fills copied joined =
+      let a = fills.0 in
+      let is = answered_is a q.1 shown x (held_is p q a fills.1) copied (subst (λ (r : Result (Unit {0}) E). MatchResult r (λ _. x ≡ Ok shown) (λ e. x ≡ Err e)) fills.2 joined) in
+      subst (λ (r : Answered A E). Peeks steps p r q) (sym is) fills.1
+
+  pub fills_held : (p : S × Option A) (x : A) → p.1 ≡ Some x → Fills steps p (Ok tt) p
+  fills_held (s, held) x e = rw e (item x, (refl, refl, refl), refl)
 
 -- ---- runs
 
