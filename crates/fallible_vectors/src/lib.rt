@@ -8,6 +8,8 @@ mod collecting;
 #[cfg(test)]
 mod cutting;
 #[cfg(test)]
+mod cycling;
+#[cfg(test)]
 mod filtering;
 #[cfg(test)]
 mod listed;
@@ -15,6 +17,8 @@ mod listed;
 mod one_to_one;
 #[cfg(test)]
 mod own_type;
+#[cfg(test)]
+mod peeking;
 #[cfg(test)]
 mod sources;
 #[cfg(test)]
