@@ -90,11 +90,11 @@ where
         ensures stays { Stays (peekable_source I.source) (peekable_parts self.old) (peekable_parts self.new) }
     {
         match self.next() {
-            Ok(Some(x)) => {
-                if x.eq(expected) {
-                    Ok(Some(x))
+            Ok(Some(item)) => {
+                if item.eq(expected) {
+                    Ok(Some(item))
                 } else {
-                    self.held = Some(x);
+                    self.held = Some(item);
                     Ok(None)
                 }
             }

@@ -80,14 +80,22 @@ fn peekable_gives_the_held_item_first(rt: HostRuntime) -> Result<(), Fail> {
     let got = answers(rt.alloc(), &mut it, 4)?;
     assert_eq!(rt;
         got.as_slice(),
-        [Answer::Item(1), Answer::Failure(2), Answer::Item(3), Answer::End].as_slice()
+        [
+            Answer::Item(1),
+            Answer::Failure(2),
+            Answer::Item(3),
+            Answer::End
+        ]
+        .as_slice()
     );
     Ok(())
 }
 
 #[test]
 fn peekable_counts_the_held_item(rt: HostRuntime) -> Result<(), Fail> {
-    let mut it = listed::<u32, u32, 3>(rt.alloc(), [Ok(1), Ok(2), Ok(3)])?.take(2).peekable();
+    let mut it = listed::<u32, u32, 3>(rt.alloc(), [Ok(1), Ok(2), Ok(3)])?
+        .take(2)
+        .peekable();
     assert_eq!(rt; it.peek(), Ok(Some(&1)));
     assert_eq!(rt; it.count(), Ok(2));
     Ok(())

@@ -1,5 +1,5 @@
 // `peek`, apart from its type, whose row its clause names.
-ghost use Rattle.std.specs.Prelude.{◌≡◌, ⊤, Result, Option, Ok, Err, MatchResult, option_copied};
+ghost use Rattle.std.specs.Prelude.{◌≡◌, ⊤, Result, Option, None, Ok, Err, MatchResult, option_copied};
 ghost use Rattle.std.specs.Borrow.{sem, follows_so};
 ghost use mathlib.Core.Option.{none};
 ghost use Rattle.fallible_iterator.specs.Source.{Stays};
@@ -34,14 +34,25 @@ where
     {
         match self.held {
             Some(_) => Ok(()),
-            None => match self.it.next() {
-                Ok(Some(x)) => {
-                    self.held = Some(x);
-                    Ok(())
-                }
-                Ok(None) => Ok(()),
-                Err(e) => Err(e),
-            },
+            None => self.draw(),
+        }
+    }
+
+    // Draws once, where nothing is held, and holds an item.
+    fn draw(&mut self) -> Result<(), I::Error>
+    where
+        requires can { (peekable_source I.source).can (peekable_parts self.old) }
+        requires empty { self.old.held ≡ None }
+        ensures filled { Fills I.source.steps (peekable_parts self.old) result (peekable_parts self.new) }
+        ensures stays { Stays (peekable_source I.source) (peekable_parts self.old) (peekable_parts self.new) }
+    {
+        match self.it.next() {
+            Ok(Some(x)) => {
+                self.held = Some(x);
+                Ok(())
+            }
+            Ok(None) => Ok(()),
+            Err(e) => Err(e),
         }
     }
 

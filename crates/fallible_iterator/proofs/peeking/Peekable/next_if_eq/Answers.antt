@@ -10,7 +10,7 @@ pub returns-else-eq-clause-taken : goal.returns-else-eq-clause-taken
 returns-else-eq-clause-taken g c = keeps_item _ _ _ (peekable_parts c.next.new.self) _ (rw c.in-Ok-Some.field-0-is at c.in-Ok-Some.ensures) c.if-eq.ensures
 
 pub returns-else-eq-clause-stays : goal.returns-else-eq-clause-stays
-returns-else-eq-clause-stays g c = stays_kept g.met.I.FallibleIterator.lawful _ (peekable_parts c.next.new.self) c.in-Ok-Some.x c.requires (rw c.in-Ok-Some.field-0-is at c.in-Ok-Some.ensures)
+returns-else-eq-clause-stays g c = stays_kept g.met.I.FallibleIterator.lawful _ (peekable_parts c.next.new.self) c.in-Ok-Some.item c.requires (rw c.in-Ok-Some.field-0-is at c.in-Ok-Some.ensures)
 
 pub returns-in-Ok-None-clause-taken : goal.returns-in-Ok-None-clause-taken
 returns-in-Ok-None-clause-taken g c = takes_end _ _ _ _ (rw c.in-Ok-None.field-0-is at c.in-Ok-None.ensures)
