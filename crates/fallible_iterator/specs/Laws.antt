@@ -26,3 +26,5 @@ pub mod Stepping
 pub mod Flattening
 pub mod Chaining
 pub mod Zipping
+pub mod Peeking
+pub mod Cycling

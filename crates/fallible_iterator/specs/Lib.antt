@@ -20,4 +20,6 @@ pub mod Zipping
 pub mod Answers
 pub mod Collecting
 pub mod Borrowed
+pub mod Peeking
+pub mod Cycling
 pub mod Laws

@@ -27,6 +27,8 @@ use Rattle.fallible_iterator.specs.declared.joining.flattening.FlatMap.{FlatMap}
 use Rattle.fallible_iterator.specs.declared.joining.chaining.Chain.{Chain}
 use Rattle.fallible_iterator.specs.declared.joining.chaining.Sides.{Sides}
 use Rattle.fallible_iterator.specs.declared.joining.zipping.Zip.{Zip}
+use Rattle.fallible_iterator.specs.declared.peeking.Peekable.{Peekable}
+use Rattle.fallible_iterator.specs.declared.joining.cycling.Cycle.{Cycle}
 
 -- the std iterator
 abbrev pub convert_source_of : {I : Type 0} → Convert I → I
@@ -145,3 +147,17 @@ zip_parts s = (s.left, s.right)
 
 abbrev pub zip_of : {T U : Type 0} → T × U → Zip T U
 zip_of p = record { left = p.0; right = p.1 }
+
+-- the source, and the item that was looked at
+abbrev pub peekable_parts : {I A E : Type 0} → Peekable I A E → I × Option A
+peekable_parts s = (s.it, s.held)
+
+abbrev pub peekable_of : {I A E : Type 0} → I × Option A → Peekable I A E
+peekable_of p = record { it = p.0; held = p.1 }
+
+-- the current run, and the kept source
+abbrev pub cycle_parts : {I : Type 0} → Cycle I → I × I
+cycle_parts s = (s.it, s.source)
+
+abbrev pub cycle_of : {I : Type 0} → I × I → Cycle I
+cycle_of p = record { it = p.0; source = p.1 }

@@ -7,17 +7,19 @@ pub mod borrowed;
 mod cutting;
 mod joining;
 mod passing;
+mod peeking;
 pub mod sources;
 mod to_come;
 
 use crate::traits::FallibleIterator;
 pub use borrowed::law_borrowed;
 pub use cutting::{law_fuse, law_skip, law_step_by, law_take, law_take_while};
-pub use joining::{law_chain, law_flat_map, law_flatten, law_zip};
+pub use joining::{law_chain, law_cycle, law_flat_map, law_flatten, law_zip};
 pub use passing::{
     law_cloned, law_enumerate, law_filter, law_filter_map, law_inspect, law_map, law_map_err,
     law_scan, law_skip_while,
 };
+pub use peeking::law_peekable;
 pub use sources::{
     law_convert, law_empty, law_from_fn, law_into_fallible, law_once, law_once_err, law_repeat,
     law_repeat_err, law_sources,

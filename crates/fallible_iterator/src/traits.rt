@@ -1,12 +1,12 @@
 // The trait.
-ghost use Rattle.std.specs.Prelude.{◌≡◌, ℕ, true, false, None, ◌+◌, ◌-◌, ◌≤◌, ◌<◌, ◌^◌, List, Option, Result, Some, Ok, ◌↔◌};
+ghost use Rattle.std.specs.Prelude.{◌≡◌, ℕ, true, false, ◌+◌, ◌-◌, ◌≤◌, ◌<◌, ◌^◌, List, Option, Result, Some, None, Ok, MatchResult, ◌↔◌};
 ghost use Rattle.fallible_iterator.specs.Source.{Source, Lawful, Stays};
 ghost use Rattle.fallible_iterator.specs.Closures.{IsCallable, call_on, takes_on, call_at, takes_at};
 ghost use Rattle.fallible_iterator.specs.Enumerate.{IsNumberable};
 ghost use Rattle.fallible_iterator.specs.Filtering.{skip_call, skip_takes};
 ghost use Rattle.fallible_iterator.specs.OneToOne.{scan_call, scan_takes};
 ghost use Rattle.fallible_iterator.specs.Parts.{map_parts, inspect_parts, filter_parts, filter_map_parts, skip_while_parts, map_err_parts, enumerate_parts, scan_parts, cloned_parts, take_parts, take_while_parts, fuse_parts, skip_parts, step_by_parts};
-ghost use Rattle.fallible_iterator.specs.Parts.{chain_parts, zip_parts, flatten_parts, flat_map_parts};
+ghost use Rattle.fallible_iterator.specs.Parts.{chain_parts, zip_parts, flatten_parts, flat_map_parts, peekable_parts, cycle_parts};
 ghost use Rattle.fallible_iterator.specs.declared.joining.chaining.Sides.TheVariants.{Both};
 ghost use Rattle.fallible_iterator.specs.Collecting.{Collects, PushTurn};
 ghost use Rattle.fallible_iterator.specs.Folds.{CallableCarrying, Carried, CallableInFold, FoldTurn, Folded, Counted, Nth};
@@ -18,8 +18,9 @@ use crate::collecting::{Collect, Fault};
 use crate::cutting::{Fuse, Skip, StepBy, Take, TakeWhile};
 use crate::filtering::{Filter, FilterMap, SkipWhile};
 use crate::folds::{Exit, Turn};
-use crate::joining::{Chain, FlatMap, Flatten, Sides, Zip};
+use crate::joining::{Chain, Cycle, FlatMap, Flatten, Sides, Zip};
 use crate::one_to_one::{Cloned, Enumerate, Inspect, Map, MapErr, Scan};
+use crate::peeking::Peekable;
 use crate::to_come::Number;
 use crate::traits::conversion::IntoFallibleIterator;
 use std::alloc::{AllocError, Global};
@@ -442,6 +443,33 @@ pub trait FallibleIterator: Drop + Sized {
             Exit::Failed(_, e) => Err(Fault::Source(e)),
             Exit::Stopped(refused) => Err(Fault::Memory(refused)),
         }
+    }
+
+    /// Lets the next item be looked at ahead. Making the adapter draws nothing, and holds nothing.
+    final fn peekable(self) -> Peekable<Self>
+        ensures { peekable_parts result ≡ (self, None) }
+    {
+        Peekable {
+            it: self,
+            held: None,
+        }
+    }
+
+    /// Begins anew with a clone of itself at each end. It clones itself once now, and draws nothing; where the clone is refused, it is dropped, and that is the answer.
+    ///
+    /// It asks that each of its clones may be drawn from, as is so where clones equal their originals. It has no number to come, so it is drained through `take`.
+    final fn cycle(self) -> Result<Cycle<Self>, AllocError>
+    where
+        Self: Clone,
+        Self::Error: From<AllocError>,
+        requires { (c : Self) → Self.is_clone self c → source.can c }
+        ensures { MatchResult result (λ made. Self.is_clone self (cycle_parts made).0 × ((cycle_parts made).1 ≡ self)) (λ _. ¬ (Self.is_infallible self)) }
+    {
+        let run = self.clone()?;
+        Ok(Cycle {
+            it: run,
+            source: self,
+        })
     }
 
     /// Itself, borrowed: what is drawn from the borrow is drawn from it.

@@ -8,9 +8,12 @@ mod collecting;
 #[cfg(test)]
 mod cutting;
 #[cfg(test)]
+mod cycling;
+#[cfg(test)]
 mod filtering;
 #[cfg(test)]
 mod flattening;
+#[cfg(test)]
 mod joining;
 #[cfg(test)]
 mod listed;
@@ -18,6 +21,8 @@ mod listed;
 mod one_to_one;
 #[cfg(test)]
 mod own_type;
+#[cfg(test)]
+mod peeking;
 #[cfg(test)]
 mod sources;
 #[cfg(test)]

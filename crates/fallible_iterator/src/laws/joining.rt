@@ -1,16 +1,18 @@
 // The whole-trace laws of the adapters that join sources.
-ghost use Rattle.std.specs.Prelude.{List, Option, Result, ◌↔◌};
+ghost use Rattle.std.specs.Prelude.{◌≡◌, List, Option, Result, ◌↔◌};
 ghost use Rattle.fallible_iterator.specs.Traces.{Run};
 ghost use Rattle.fallible_iterator.specs.declared.joining.chaining.Sides.{Sides};
-ghost use Rattle.fallible_iterator.specs.Parts.{chain_of, zip_of, flatten_of, flat_map_of};
+ghost use Rattle.fallible_iterator.specs.Parts.{chain_of, zip_of, flatten_of, flat_map_of, cycle_of};
 ghost use Rattle.fallible_iterator.specs.Chaining.{ChainTrace};
 ghost use Rattle.fallible_iterator.specs.Zipping.{ZipTrace};
 ghost use Rattle.fallible_iterator.specs.Flattening.{FlattenTrace};
+ghost use Rattle.fallible_iterator.specs.Cycling.{CycleTrace};
 
-use crate::joining::{Chain, FlatMap, Flatten, Zip};
+use crate::joining::{Chain, Cycle, FlatMap, Flatten, Zip};
 use crate::one_to_one::Map;
 use crate::traits::FallibleIterator;
 use crate::traits::conversion::IntoFallibleIterator;
+use std::alloc::AllocError;
 
 /// Law: what draws from a `Chain` answer and leave is exactly what the definition of its traces says, whichever sides are still drawn.
 pub fn law_chain<T: FallibleIterator, U: FallibleIterator<Item = T::Item, Error = T::Error>>()
@@ -40,4 +42,11 @@ pub fn law_flat_map<
 >()
 where
     ensures { (s : Map I F) (hand : Option U.IntoFallibleIter) (trace : List (Result (Option U.Item) I.Error)) (t : Map I F) (hand' : Option U.IntoFallibleIter) → Run ⟦<FlatMap<I, U, F> as FallibleIterator>⟧.source.steps (flat_map_of (s, hand)) trace (flat_map_of (t, hand')) ↔ FlattenTrace ⟦<Map<I, F> as FallibleIterator>⟧.source.steps U.into_gives U.IntoFallibleIter.source.steps s hand trace t hand' }
+{}
+
+/// Law: what draws from a `Cycle` answer and leave is exactly what the definition of its traces says, and the kept source stays.
+pub fn law_cycle<I: FallibleIterator + Clone>()
+where
+    I::Error: From<AllocError>,
+    ensures { (s k : I) (trace : List (Result (Option I.Item) I.Error)) (t k' : I) → Run ⟦<Cycle<I> as FallibleIterator>⟧.source.steps (cycle_of (s, k)) trace (cycle_of (t, k')) ↔ ((k' ≡ k) × CycleTrace I.is_clone I.is_infallible I.Error.from_gives I.source.steps k s trace t) }
 {}

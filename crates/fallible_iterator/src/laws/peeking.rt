@@ -1,0 +1,15 @@
+// The whole-trace law of the adapter that looks ahead.
+ghost use Rattle.std.specs.Prelude.{List, Option, Result, ◌↔◌};
+ghost use Rattle.fallible_iterator.specs.Traces.{Run};
+ghost use Rattle.fallible_iterator.specs.Parts.{peekable_of};
+ghost use Rattle.fallible_iterator.specs.Peeking.{PeekableTrace};
+
+use crate::peeking::Peekable;
+use crate::traits::FallibleIterator;
+
+/// Law: what draws from a `Peekable` answer and leave is exactly what the definition of its traces says.
+pub fn law_peekable<I: FallibleIterator>()
+where
+    I::Item: Drop,
+    ensures { (s : I) (held : Option I.Item) (trace : List (Result (Option I.Item) I.Error)) (t : I) (held' : Option I.Item) → Run ⟦<Peekable<I> as FallibleIterator>⟧.source.steps (peekable_of (s, held)) trace (peekable_of (t, held')) ↔ PeekableTrace I.source.steps s held trace t held' }
+{}

@@ -1,0 +1,79 @@
+// `peek`, apart from its type, whose row its clause names.
+ghost use Rattle.std.specs.Prelude.{◌≡◌, ⊤, Result, Option, None, Ok, Err, MatchResult, option_copied};
+ghost use Rattle.std.specs.Borrow.{sem, follows_so};
+ghost use mathlib.Core.Option.{none};
+ghost use Rattle.fallible_iterator.specs.Source.{Stays};
+ghost use Rattle.fallible_iterator.specs.Peeking.{peekable_source, seen, Fills, Peeks};
+ghost use Rattle.fallible_iterator.specs.Parts.{peekable_parts};
+ghost use Rattle.fallible_iterator.specs.contracts.peeking.Peekable.{the_row};
+
+use crate::peeking::Peekable;
+use crate::traits::FallibleIterator;
+
+impl<I: FallibleIterator> Peekable<I>
+where
+    I::Item: Drop,
+{
+    /// The next item, which is held then: a reference to it. Where an item is held it is that one, and nothing is drawn. Else it draws once; an end is answered as none, a failure as itself, and neither is held. What is left may be drawn from again.
+    pub fn peek(&mut self) -> Result<Option<&I::Item>, I::Error>
+    where
+        requires { (peekable_source I.source).can (peekable_parts self.old) }
+        ensures* { sem 𝓛 (follows_so (the_row I.row I.Item.row I.Error.row) (the_row I.row I.Item.row I.Error.row) self.entry.ghost_name none (λ _ _. ⊤) (λ v. Peeks I.source.steps (peekable_parts self.old) (seen result) (peekable_parts v) × Stays (peekable_source I.source) (peekable_parts self.old) (peekable_parts v))) }
+    {
+        let filled = self.fill();
+        let held = self.lend();
+        Self::joined(filled, held)
+    }
+
+    // Draws once where nothing is held, and holds an item.
+    fn fill(&mut self) -> Result<(), I::Error>
+    where
+        requires { (peekable_source I.source).can (peekable_parts self.old) }
+        ensures filled { Fills I.source.steps (peekable_parts self.old) result (peekable_parts self.new) }
+        ensures stays { Stays (peekable_source I.source) (peekable_parts self.old) (peekable_parts self.new) }
+    {
+        match self.held {
+            Some(_) => Ok(()),
+            None => self.draw(),
+        }
+    }
+
+    // Draws once, where nothing is held, and holds an item.
+    fn draw(&mut self) -> Result<(), I::Error>
+    where
+        requires can { (peekable_source I.source).can (peekable_parts self.old) }
+        requires empty { self.old.held ≡ None }
+        ensures filled { Fills I.source.steps (peekable_parts self.old) result (peekable_parts self.new) }
+        ensures stays { Stays (peekable_source I.source) (peekable_parts self.old) (peekable_parts self.new) }
+    {
+        match self.it.next() {
+            Ok(Some(x)) => {
+                self.held = Some(x);
+                Ok(())
+            }
+            Ok(None) => Ok(()),
+            Err(e) => Err(e),
+        }
+    }
+
+    // The held item, borrowed.
+    fn lend(&mut self) -> Option<&I::Item>
+    where
+        ensures* { sem 𝓛 (follows_so (the_row I.row I.Item.row I.Error.row) (the_row I.row I.Item.row I.Error.row) self.entry.ghost_name none (λ _ _. ⊤) (λ v. (v ≡ self.old) × (option_copied result ≡ v.held))) }
+    {
+        self.held.as_ref()
+    }
+
+    // The held item, or the failure.
+    fn joined(
+        filled: Result<(), I::Error>,
+        held: Option<&I::Item>,
+    ) -> Result<Option<&I::Item>, I::Error>
+        ensures { MatchResult filled (λ _. result ≡ Ok held.entry) (λ e. result ≡ Err e) }
+    {
+        match filled {
+            Ok(()) => Ok(held),
+            Err(e) => Err(e),
+        }
+    }
+}

@@ -1,0 +1,138 @@
+// The adapter that looks one item ahead.
+use crate::listed::listed;
+use fallible_iterator::laws::{Answer, answers};
+use fallible_iterator::{FallibleIterator, from_fn, once, repeat};
+use std::alloc::AllocError;
+use std::test::Fail;
+
+#[test]
+fn peek_holds_no_end(rt: HostRuntime) {
+    let mut calls = 0u32;
+    let mut it = from_fn(move || {
+        calls = calls.wrapping_add(1);
+        match calls {
+            2 => Ok::<Option<u32>, u32>(Some(7)),
+            _ => Ok(None),
+        }
+    })
+    .peekable();
+    assert_eq!(rt; it.peek(), Ok(None));
+    assert_eq!(rt; it.peek(), Ok(Some(&7)));
+    assert_eq!(rt; it.next(), Ok(Some(7)));
+}
+
+#[test]
+fn peek_holds_no_failure(rt: HostRuntime) -> Result<(), Fail> {
+    let mut it = listed::<u32, u32, 2>(rt.alloc(), [Err(4), Ok(5)])?.peekable();
+    assert_eq!(rt; it.peek(), Err(4));
+    assert_eq!(rt; it.peek(), Ok(Some(&5)));
+    assert_eq!(rt; it.next(), Ok(Some(5)));
+    assert_eq!(rt; it.next(), Ok(None));
+    Ok(())
+}
+
+#[test]
+fn peek_and_next_of_two_items(rt: HostRuntime) -> Result<(), Fail> {
+    let mut it = listed::<u32, u32, 2>(rt.alloc(), [Ok(0), Ok(1)])?.peekable();
+    assert_eq!(rt; it.peek(), Ok(Some(&0)));
+    assert_eq!(rt; it.peek(), Ok(Some(&0)));
+    assert_eq!(rt; it.next(), Ok(Some(0)));
+    assert_eq!(rt; it.next(), Ok(Some(1)));
+    assert_eq!(rt; it.peek(), Ok(None));
+    assert_eq!(rt; it.next(), Ok(None));
+    Ok(())
+}
+
+#[test]
+fn peek_draws_once(rt: HostRuntime) -> Result<(), Fail> {
+    let mut it = listed::<u32, u32, 3>(rt.alloc(), [Ok(1), Ok(2), Ok(3)])?;
+    let mut ahead = (&mut it).peekable();
+    assert_eq!(rt; ahead.peek(), Ok(Some(&1)));
+    assert_eq!(rt; ahead.peek(), Ok(Some(&1)));
+    assert_eq!(rt; it.next(), Ok(Some(2)));
+    Ok(())
+}
+
+#[test]
+fn next_if_takes_an_item_that_is_accepted(rt: HostRuntime) -> Result<(), Fail> {
+    let mut it = listed::<u32, u32, 2>(rt.alloc(), [Ok(1), Ok(2)])?.peekable();
+    assert_eq!(rt; it.next_if(|x: &u32| *x > 1), Ok(None));
+    assert_eq!(rt; it.next_if(|x: &u32| *x == 1), Ok(Some(1)));
+    assert_eq!(rt; it.next_if_eq(&2), Ok(Some(2)));
+    assert_eq!(rt; it.next_if_eq(&2), Ok(None));
+    Ok(())
+}
+
+#[test]
+fn next_if_answers_a_failure(rt: HostRuntime) -> Result<(), Fail> {
+    let mut it = listed::<u32, u32, 3>(rt.alloc(), [Err(4), Ok(1), Err(5)])?.peekable();
+    assert_eq!(rt; it.next_if(|x: &u32| *x == 1), Err(4));
+    assert_eq!(rt; it.next_if_eq(&3), Ok(None));
+    assert_eq!(rt; it.next_if_eq(&1), Ok(Some(1)));
+    assert_eq!(rt; it.next_if_eq(&1), Err(5));
+    Ok(())
+}
+
+#[test]
+fn peekable_gives_the_held_item_first(rt: HostRuntime) -> Result<(), Fail> {
+    let mut it = listed::<u32, u32, 3>(rt.alloc(), [Ok(1), Err(2), Ok(3)])?.peekable();
+    assert_eq!(rt; it.peek(), Ok(Some(&1)));
+    let got = answers(rt.alloc(), &mut it, 4)?;
+    assert_eq!(rt;
+        got.as_slice(),
+        [
+            Answer::Item(1),
+            Answer::Failure(2),
+            Answer::Item(3),
+            Answer::End
+        ]
+        .as_slice()
+    );
+    Ok(())
+}
+
+#[test]
+fn peekable_counts_the_held_item(rt: HostRuntime) -> Result<(), Fail> {
+    let mut it = listed::<u32, u32, 3>(rt.alloc(), [Ok(1), Ok(2), Ok(3)])?
+        .take(2)
+        .peekable();
+    assert_eq!(rt; it.peek(), Ok(Some(&1)));
+    assert_eq!(rt; it.count(), Ok(2));
+    Ok(())
+}
+
+#[test]
+fn peekable_hint_counts_the_held_item(rt: HostRuntime) {
+    let mut it = once::<u32, u32>(1).peekable();
+    assert_eq!(rt; it.size_hint(), (1, Some(1)));
+    assert_eq!(rt; it.peek(), Ok(Some(&1)));
+    assert_eq!(rt; it.size_hint(), (1, Some(1)));
+}
+
+// An error that want of memory becomes.
+#[derive(Debug, PartialEq, Eq, Drop)]
+struct Refused;
+
+impl From<AllocError> for Refused {
+    fn from(_refused: AllocError) -> Refused {
+        Refused
+    }
+}
+
+#[test]
+fn peekable_hint_stays_below_the_greatest_number(rt: HostRuntime) {
+    let mut it = repeat::<u32, Refused>(1).peekable();
+    assert_eq!(rt; it.peek(), Ok(Some(&1)));
+    assert_eq!(rt; it.size_hint(), (usize::MAX, None));
+}
+
+#[test]
+fn a_clone_of_peekable_holds_the_item_too(rt: HostRuntime) -> Result<(), Fail> {
+    let mut it = once::<u32, u32>(1).peekable();
+    assert_eq!(rt; it.peek(), Ok(Some(&1)));
+    let mut copy = it.clone()?;
+    assert_eq!(rt; copy.next(), Ok(Some(1)));
+    assert_eq!(rt; copy.next(), Ok(None));
+    assert_eq!(rt; it.next(), Ok(Some(1)));
+    Ok(())
+}
