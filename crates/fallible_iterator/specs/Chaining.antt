@@ -8,16 +8,16 @@ use Rattle.fallible_iterator.specs.Source.{Source}
 use Rattle.fallible_iterator.specs.Cutting.{is_end}
 
 -- no answer of the trace is an end
-abbrev pub IsEndless : {A E : Type 0} → List (Answered A E) → Type 0
-IsEndless [] = ⊤
-IsEndless (r ∷ rest) = (is_end r ≡ false) × IsEndless rest
+abbrev pub HasNoEnd : {A E : Type 0} → List (Answered A E) → Type 0
+HasNoEnd [] = ⊤
+HasNoEnd (r ∷ rest) = (is_end r ≡ false) × HasNoEnd rest
 
 -- The front's trace is a list without an end, and then an end. The answers are that list, and then the back's trace, which isn't empty.
 pub record JoinedTrace {S U A E : Type 0} (steps : S → Answered A E → S → Type 0) (others : U → Answered A E → U → Type 0) (s : S) (u : U) (trace : List (Answered A E)) (t : S) (v : U) : Type 0 where
   pub before_end : List (Answered A E)
   pub back_trace : List (Answered A E)
   pub front_drawn : Run steps s (before_end ++ end ∷ []) t
-  pub no_end : IsEndless before_end
+  pub no_end : HasNoEnd before_end
   pub back_drawn : Run others u back_trace v
   pub not_empty : back_trace ≢ []
   pub answers : trace ≡ before_end ++ back_trace
@@ -25,7 +25,7 @@ pub record JoinedTrace {S U A E : Type 0} (steps : S → Answered A E → S → 
 module _ {S U A E : Type 0} (steps : S → Answered A E → S → Type 0) (others : U → Answered A E → U → Type 0) where
   -- `Chain` of which both sides are still drawn: the front's trace has no end and is the chain's, and the back isn't drawn; or the front met its end, the answers before it and then the back's trace are the chain's, and the back alone is still drawn. Where one side alone is still drawn, its trace is the chain's, and the other isn't drawn.
   abbrev pub ChainTrace : S → U → Sides → List (Answered A E) → S → U → Sides → Type 0
-  ChainTrace s u Both trace t v left = (Run steps s trace t × IsEndless trace × (v ≡ u) × (left ≡ Both)) ⊎ (JoinedTrace steps others s u trace t v × (left ≡ Back))
+  ChainTrace s u Both trace t v left = (Run steps s trace t × HasNoEnd trace × (v ≡ u) × (left ≡ Both)) ⊎ (JoinedTrace steps others s u trace t v × (left ≡ Back))
   ChainTrace s u Front trace t v left = Run steps s trace t × (v ≡ u) × (left ≡ Front)
   ChainTrace s u Back trace t v left = Run others u trace v × (t ≡ s) × (left ≡ Back)
 

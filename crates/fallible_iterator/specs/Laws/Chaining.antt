@@ -6,7 +6,7 @@ use Rattle.fallible_iterator.specs.declared.joining.chaining.Sides.TheVariants.{
 use Rattle.fallible_iterator.specs.Traces.{Answered, Run, end}
 use Rattle.fallible_iterator.specs.Source.{Source, OnAnswer, Goes, Lawful}
 use Rattle.fallible_iterator.specs.Cutting.{is_end}
-use Rattle.fallible_iterator.specs.Chaining.{IsEndless, JoinedTrace, ChainTrace, chain_step, chain_source}
+use Rattle.fallible_iterator.specs.Chaining.{HasNoEnd, JoinedTrace, ChainTrace, chain_step, chain_source}
 
 -- ---- the contract
 
@@ -147,11 +147,11 @@ module _ {S U A E : Type 0} (steps : S → Answered A E → S → Type 0) (other
   from_back [] s u v ran = rw ran refl
   from_back (r ∷ rest) s u v ran = ((s, ran.0, Back), (ran.1, refl, refl), from_back rest s ran.0 v ran.2)
 
-  from_both : (trace : List (Answered A E)) (s : S) (u : U) (t : S) → Run steps s trace t → IsEndless trace → Run Step (s, u, Both) trace (t, u, Both)
+  from_both : (trace : List (Answered A E)) (s : S) (u : U) (t : S) → Run steps s trace t → HasNoEnd trace → Run Step (s, u, Both) trace (t, u, Both)
   from_both [] s u t ran no_end = rw ran refl
   from_both (r ∷ rest) s u t ran no_end = ((ran.0, u, Both), inl (ran.1, no_end.0, refl, refl), from_both rest ran.0 u t ran.2 no_end.1)
 
-  from_joined : (before trace : List (Answered A E)) (s : S) (u : U) (t : S) (v : U) → Run steps s (before ++ end ∷ []) t → IsEndless before → Run others u trace v → trace ≢ [] → Run Step (s, u, Both) (before ++ trace) (t, v, Back)
+  from_joined : (before trace : List (Answered A E)) (s : S) (u : U) (t : S) (v : U) → Run steps s (before ++ end ∷ []) t → HasNoEnd before → Run others u trace v → trace ≢ [] → Run Step (s, u, Both) (before ++ trace) (t, v, Back)
   from_joined [] [] s u t v ran no_end back some = absurd (some refl)
   from_joined [] (r ∷ rest) s u t v ran no_end back some = rw⁻¹ ran.2 ((ran.0, back.0, Back), inr (ran.1, back.1, refl), from_back rest ran.0 back.0 v back.2)
   from_joined (r ∷ before) trace s u t v ran no_end back some = ((ran.0, u, Both), inl (ran.1, no_end.0, refl, refl), from_joined before trace ran.0 u t v ran.2 no_end.1 back some)
