@@ -1,4 +1,4 @@
--- `Cycle`: the runs of one source after another, each a clone of the same kept one.
+-- `Cycle`: a run, and at its end a fresh clone of the kept source as the next run.
 use Rattle.std.specs.Prelude.{◌≡◌, ℕ, zero, suc, ◌-◌, ◌^◌, List, [], ◌∷◌, ◌++◌, Option, None, false, ◌⊎◌}
 use Rattle.std.specs.Iterator.{endless}
 use Rattle.std.specs.declared.alloc.AllocError.{AllocError}
@@ -16,7 +16,7 @@ RefusedAs is_infallible from k e = ¬ (is_infallible k) × ((a : AllocError) × 
 
 module _ {S A E : Type 0} (is_clone : S → S → Type 0) (is_infallible : S → Type 0) (from : AllocError → E → Type 0) where
   module _ (steps : S → Answered A E → S → Type 0) where
-    -- `Cycle`, whose kept source is k: laps, one after another. A lap is answers of one run without an end, the first of the run that stands. Each but the last was drawn through the end that closes it, which is not answered. Then a fresh clone of k comes, whose first answer, whatever it is, begins the next lap; or the clone is refused, the failure made of that is answered, and the same run goes on with the next lap.
+    -- `Cycle`, whose kept source is k: laps, one after another, the first over the current run. A lap is answers of one run, of which none is an end but, in the lap of a clone, perhaps the first. Each lap but the last was drawn through the end that closes it, which is not answered. Then a fresh clone of k is the run, and its first answer, whatever it is, begins the next lap; or the clone is refused, the failure made of that is answered, and the next lap goes on over the same run.
     pub data CycleTrace (k : S) : S → List (Answered A E) → S → Type 0 where
       last_lap : (s t : S) (lap : List (Answered A E)) → NoEnd lap → Run steps s lap t → CycleTrace k s lap t
       then_a_clone : (s ended clone run t : S) (lap : List (Answered A E)) (first : Answered A E) (rest : List (Answered A E)) → NoEnd lap → Run steps s (lap ++ end ∷ []) ended → is_clone k clone → steps clone first run → CycleTrace k run rest t → CycleTrace k s (lap ++ first ∷ rest) t
