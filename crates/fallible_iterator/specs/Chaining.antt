@@ -1,5 +1,5 @@
 -- `Chain`: one source's answers up to its first end, and then those of another.
-use Rattle.std.specs.Prelude.{◌≡◌, ◌≢◌, ℕ, ◌+◌, ◌-◌, ◌^◌, ◌≤◌, min, cond, ltb, false, List, [], ◌∷◌, ◌++◌, Option, Some, None, ⊤, ◌⊎◌}
+use Rattle.std.specs.Prelude.{◌≡◌, ◌≢◌, ℕ, ◌+◌, ◌-◌, ◌^◌, ◌≤◌, min, cond, ltb, false, List, [], ◌∷◌, ◌++◌, Option, Some, None, ◌⊎◌}
 use Rattle.std.specs.Iterator.{Count, count_add}
 use Rattle.fallible_iterator.specs.declared.joining.chaining.Sides.{Sides}
 use Rattle.fallible_iterator.specs.declared.joining.chaining.Sides.TheVariants.{Both, Front, Back}

@@ -1,7 +1,9 @@
 // Adapters that join inner iterators.
 use crate::listed::listed;
 use fallible_iterator::laws::{Answer, answers};
-use fallible_iterator::{FallibleIterator, Fault, IntoFallible, IntoFallibleIterator, from_fn, once};
+use fallible_iterator::{
+    FallibleIterator, Fault, IntoFallible, IntoFallibleIterator, from_fn, once,
+};
 use std::convert::Infallible;
 use std::ops::Range;
 use std::test::Fail;
@@ -30,7 +32,11 @@ fn flatten_drops_an_inner_iterator_at_its_end(rt: HostRuntime) -> Result<(), Fai
 fn flatten_of_three_ranges(rt: HostRuntime) -> Result<(), Fail> {
     let it = listed::<IntoFallible<Range<u32>>, Infallible, 3>(
         rt.alloc(),
-        [Ok(IntoFallible::from(0..1)), Ok(IntoFallible::from(0..0)), Ok(IntoFallible::from(1..5))],
+        [
+            Ok(IntoFallible::from(0..1)),
+            Ok(IntoFallible::from(0..0)),
+            Ok(IntoFallible::from(1..5)),
+        ],
     )?;
     let made: Result<Vec<u32>, Fault<Infallible>> = it.flatten().take(9).collect(rt.alloc());
     match made {
@@ -98,13 +104,23 @@ fn flat_map_keeps_its_closures_state(rt: HostRuntime) -> Result<(), Fail> {
     let mut it = listed::<u32, u32, 3>(rt.alloc(), [Ok(10), Ok(20), Ok(30)])?.flat_map(
         move |x: u32| -> Result<_, u32> {
             calls = calls.wrapping_add(1);
-            if calls == 2 { Err(x) } else { Ok(once::<u32, u32>(x.wrapping_add(calls))) }
+            if calls == 2 {
+                Err(x)
+            } else {
+                Ok(once::<u32, u32>(x.wrapping_add(calls)))
+            }
         },
     );
     let got = answers(rt.alloc(), &mut it, 4)?;
     assert_eq!(rt;
         got.as_slice(),
-        [Answer::Item(11), Answer::Failure(20), Answer::Item(33), Answer::End].as_slice()
+        [
+            Answer::Item(11),
+            Answer::Failure(20),
+            Answer::Item(33),
+            Answer::End
+        ]
+        .as_slice()
     );
     Ok(())
 }
@@ -114,8 +130,7 @@ fn flatten_clones_its_inner_iterator_in_hand(rt: HostRuntime) -> Result<(), Fail
     let mut it = listed::<IntoFallible<Range<u32>>, Infallible, 1>(
         rt.alloc(),
         [Ok(IntoFallible::from(1..3))],
-    )?
-    .flatten();
+    )?.flatten();
     assert_eq!(rt; it.size_hint(), (0, None));
     assert_eq!(rt; it.next(), Ok(Some(1)));
     let mut other = it.clone()?;
@@ -127,9 +142,10 @@ fn flatten_clones_its_inner_iterator_in_hand(rt: HostRuntime) -> Result<(), Fail
 
 #[test]
 fn flat_map_clones_its_inner_iterator_in_hand(rt: HostRuntime) -> Result<(), Fail> {
-    let mut it = listed::<u32, Infallible, 1>(rt.alloc(), [Ok(1)])?.flat_map(
-        |x: u32| -> Result<IntoFallible<Range<u32>>, Infallible> { Ok(IntoFallible::from(x..3)) },
-    );
+    let mut it = listed::<u32, Infallible, 1>(rt.alloc(), [Ok(1)])?.flat_map(|x: u32| -> Result<
+        IntoFallible<Range<u32>>,
+        Infallible,
+    > { Ok(IntoFallible::from(x..3)) });
     assert_eq!(rt; it.size_hint(), (0, None));
     let first = answers(rt.alloc(), &mut it, 1)?;
     assert_eq!(rt; first.as_slice(), [Answer::Item(1)].as_slice());

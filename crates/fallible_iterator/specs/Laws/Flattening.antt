@@ -1,17 +1,17 @@
 -- The joined traces of inner iterators, answer by answer.
-use Rattle.std.specs.Prelude.{◌≡◌, ℕ, false, suc, ◌+◌, ◌*◌, ◌≤◌, ◌<◌, List, [], ◌∷◌, ◌++◌, map, Option, Result, Some, None, Ok, Err, ⊤, ◌⊎◌, ◌↔◌}
+use Rattle.std.specs.Prelude.{◌≡◌, ℕ, false, ◌+◌, ◌*◌, ◌≤◌, ◌<◌, List, [], ◌∷◌, ◌++◌, map, Option, Result, Some, None, Ok, Err}
 use Rattle.std.specs.List.{FoldsTo, flat_map}
 use Rattle.std.proofs.Common.{refl, sym, ◌∙◌, ap, subst, arith, inl, inr}
 use Rattle.std.proofs.lemmas.List.{append-nil}
 use Rattle.std.proofs.Math.Nat.{mul-suc, mul-le-mul_left}
 use Rattle.fallible_iterator.specs.declared.folds.Exit.{Exit}
-use Rattle.fallible_iterator.specs.Traces.{Answered, Run, Yields, item, failure, end, is_end, NoEnd}
-use Rattle.fallible_iterator.specs.Source.{Source, NoMore, OnAnswer, Goes, Stays, Lawful}
+use Rattle.fallible_iterator.specs.Traces.{Answered, Run, item, failure, end, is_end, NoEnd}
+use Rattle.fallible_iterator.specs.Source.{Source, OnAnswer, Goes, Stays, Lawful}
 use Rattle.fallible_iterator.specs.Folds.{HoldsAtEachTurn, carrying_turn, CarryingExit, Carried}
 use Rattle.fallible_iterator.specs.Passing.{stopped_answer}
 use Rattle.fallible_iterator.specs.Laws.Definitions.{FirstOf, IsByAnswers}
 use Rattle.fallible_iterator.specs.Laws.Source.{no_more, given_after, goes_later}
-use Rattle.fallible_iterator.specs.Flattening.{BeginTurn, begun, flatten_source, EachInHand, NumberInHand, SomeInner, EachInner, FlattenNumber, NonEmpty, Part, of_inner, of_failure, of_end, outer_answer, part_answers, Finished, Unfinished, FinishedPart, FinishedParts, LastPart, FinishedInHand, Joined, FlattenTrace, nothing_drawn, still_in_hand, outer_drawn}
+use Rattle.fallible_iterator.specs.Flattening.{BeginTurn, begun, flatten_source, EachInHand, NumberInHand, SomeInner, EachInner, FlattenNumber, NonEmpty, Part, of_inner, of_failure, of_end, outer_answer, part_answers, Finished, FinishedPart, FinishedParts, LastPart, FinishedInHand, Joined, FlattenTrace, nothing_drawn, still_in_hand, outer_drawn}
 
 module _ {S X C B E : Type 0} (outer : S → Answered X E → S → Type 0) (into : X → C → Type 0) (inner : C → Answered B E → C → Type 0) where
   -- the same as `FlattenTrace`, built from the first answer on

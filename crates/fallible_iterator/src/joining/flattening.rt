@@ -53,11 +53,10 @@ pub struct FlatMap<I, U: IntoFallibleIterator, F> {
 }
 
 impl<
-        I: FallibleIterator,
-        U: IntoFallibleIterator<Error = I::Error>,
-        F: FnMut(I::Item) -> Result<U, I::Error>,
-    > FallibleIterator for FlatMap<I, U, F>
-{
+    I: FallibleIterator,
+    U: IntoFallibleIterator<Error = I::Error>,
+    F: FnMut(I::Item) -> Result<U, I::Error>,
+> FallibleIterator for FlatMap<I, U, F> {
     type Item = U::Item;
 
     type Error = I::Error;
@@ -105,7 +104,10 @@ where
 // One answer where no inner iterator is in hand, and the one that is in hand then: the outer source's fold, which stops at the first inner iterator that does not end at once.
 fn begin<U: IntoFallibleIterator, O: FallibleIterator<Item = U, Error = U::Error>>(
     outer: &mut O,
-) -> (Option<U::IntoFallibleIter>, Result<Option<U::Item>, U::Error>)
+) -> (
+    Option<U::IntoFallibleIter>,
+    Result<Option<U::Item>, U::Error>,
+)
 where
     requires can { O.source.can outer.old × O.source.has_end outer.old }
     requires can_inner { EachInner O.source U.into_gives U.IntoFallibleIter.source U.IntoFallibleIter.source.can outer.old }
@@ -126,9 +128,7 @@ where
 }
 
 // The inner iterator and the answer that the fold hands back.
-fn unpack_begun<C, T, E>(
-    exit: Exit<(), E, (C, Result<T, E>)>,
-) -> (Option<C>, Result<Option<T>, E>)
+fn unpack_begun<C, T, E>(exit: Exit<(), E, (C, Result<T, E>)>) -> (Option<C>, Result<Option<T>, E>)
     ensures { result ≡ begun exit }
 {
     match exit {

@@ -1,5 +1,5 @@
 -- The fold that stops at the first inner iterator that does not end at once is the trace of one answer.
-use Rattle.std.proofs.Common.{rules, sym}
+use Rattle.std.proofs.Common.{rules}
 use Rattle.fallible_iterator.specs.Laws.Folds.{holds_map}
 use Rattle.fallible_iterator.specs.Laws.Flattening.{callable_begins, flatten_fold}
 use Rattle.fallible_iterator.proofs.joining.flattening.begin.Goals as goal

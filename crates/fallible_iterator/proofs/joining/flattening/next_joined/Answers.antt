@@ -12,6 +12,6 @@ returns-in-Err g c = flatten_in_hand (Err c.in-Err.e) c.in-Some.is c.in-Err.ensu
 
 pub returns : goal.returns
 returns g c = elim c.match-in_hand.branch [
-    in-Some+in-Ok-None w ↦ flatten_after_end w.next.new.self w.in-Some.is (rw w.in-Ok-None.field-0-is at w.in-Ok-None.ensures) c.begin-inner.ensures
+  | in-Some+in-Ok-None w ↦ flatten_after_end w.next.new.self w.in-Some.is (rw w.in-Ok-None.field-0-is at w.in-Ok-None.ensures) c.begin-inner.ensures
   | in-None w ↦ rw w.in-None.is c.begin-inner.ensures
 ]
