@@ -2,11 +2,8 @@
 use Rattle.std.specs.Prelude.{◌≡◌, ℕ, ◌+◌, ◌*◌, ◌≤◌, List, [], ◌∷◌, ◌++◌, map, Option, Result, Some, None, Ok, Err, ⊤, ◌⊎◌}
 use Rattle.std.specs.List.{flat_map}
 use Rattle.std.specs.Iterator.{endless}
-use Rattle.fallible_iterator.specs.declared.folds.Exit.{Exit}
-use Rattle.fallible_iterator.specs.declared.folds.Exit.TheVariants.{Ended, Failed, Stopped}
 use Rattle.fallible_iterator.specs.Traces.{Answered, Run, item, failure, end, NoEnd}
 use Rattle.fallible_iterator.specs.Source.{Source}
-use Rattle.fallible_iterator.specs.Passing.{stopped_answer}
 
 -- there is an answer
 abbrev pub NonEmpty : {R : Type 0} → List R → Type 0
@@ -139,14 +136,8 @@ module _ {S X C B E : Type 0} (m : Source S X E) (into : X → C → Type 0) (in
 
 -- ---- one draw, as a fold of the outer source that stops
 
--- One turn: the item became an inner iterator, and this was drawn from once. The fold goes on where it ended at once, and else stops with it and its answer.
-abbrev pub BeginTurn : {X C B E : Type 0} → (X → C → Type 0) → (C → Answered B E → C → Type 0) → Unit {0} → X → Result (Unit {0}) (C × Result B E) → Type 0
-BeginTurn {C = C} into inner u x (Ok v) = (c : C) × (d : C) × into x c × inner c end d
-BeginTurn {C = C} into inner u x (Err (d, Ok y)) = (c : C) × into x c × inner c (item y) d
-BeginTurn {C = C} into inner u x (Err (d, Err e)) = (c : C) × into x c × inner c (failure e) d
-
--- what the fold's exit hands back: the inner iterator at which it stopped, and the answer
-abbrev pub begun : {C B E : Type 0} → Exit (Unit {0}) E (C × Result B E) → Option C × Answered B E
-begun (Ended u) = (None, Ok None)
-begun (Failed u e) = (None, Err e)
-begun (Stopped p) = (Some p.0, stopped_answer p.1)
+-- One turn: the item became an inner iterator, and this was drawn from once. The fold goes on where it ended at once, and else stops with it in hand and its answer.
+abbrev pub BeginTurn : {X C B E : Type 0} → (X → C → Type 0) → (C → Answered B E → C → Type 0) → Option C → X → Result (Option C) (Option C × Result B E) → Type 0
+BeginTurn {C = C} into inner hand x (Ok hand') = (c : C) × (d : C) × into x c × inner c end d × (hand' ≡ hand)
+BeginTurn {C = C} into inner hand x (Err (hand', Ok y)) = (c : C) × (d : C) × into x c × inner c (item y) d × (hand' ≡ Some d)
+BeginTurn {C = C} into inner hand x (Err (hand', Err e)) = (c : C) × (d : C) × into x c × inner c (failure e) d × (hand' ≡ Some d)

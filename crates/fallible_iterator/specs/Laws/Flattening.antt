@@ -8,10 +8,10 @@ use Rattle.fallible_iterator.specs.declared.folds.Exit.{Exit}
 use Rattle.fallible_iterator.specs.Traces.{Answered, Run, item, failure, end, is_end, NoEnd}
 use Rattle.fallible_iterator.specs.Source.{Source, OnAnswer, Goes, Stays, Lawful}
 use Rattle.fallible_iterator.specs.Folds.{HoldsAtEachTurn, carrying_turn, CarryingExit, Carried}
-use Rattle.fallible_iterator.specs.Passing.{stopped_answer}
+use Rattle.fallible_iterator.specs.Passing.{stopped_answer, unpacked}
 use Rattle.fallible_iterator.specs.Laws.Definitions.{FirstOf, IsByAnswers}
 use Rattle.fallible_iterator.specs.Laws.Source.{no_more, given_after, goes_later}
-use Rattle.fallible_iterator.specs.Flattening.{BeginTurn, begun, flatten_source, EachInHand, NumberInHand, SomeInner, EachInner, FlattenNumber, NonEmpty, Part, of_inner, of_failure, of_end, outer_answer, part_answers, Finished, FinishedPart, FinishedParts, LastPart, FinishedInHand, Joined, FlattenTrace, nothing_drawn, still_in_hand, outer_drawn}
+use Rattle.fallible_iterator.specs.Flattening.{BeginTurn, flatten_source, EachInHand, NumberInHand, SomeInner, EachInner, FlattenNumber, NonEmpty, Part, of_inner, of_failure, of_end, outer_answer, part_answers, Finished, FinishedPart, FinishedParts, LastPart, FinishedInHand, Joined, FlattenTrace, nothing_drawn, still_in_hand, outer_drawn}
 
 module _ {S X C B E : Type 0} (outer : S → Answered X E → S → Type 0) (into : X → C → Type 0) (inner : C → Answered B E → C → Type 0) where
   -- the same as `FlattenTrace`, built from the first answer on
@@ -302,27 +302,27 @@ module _ {S X C B E : Type 0} {outer : S → Answered X E → S → Type 0} {int
 
 -- ---- one draw where nothing is in hand, as a fold of the outer source that stops
 
-module _ {S X C B E : Type 0} (outer : S → Answered X E → S → Type 0) (into : X → C → Type 0) (inner : C → Answered B E → C → Type 0) (turns : Unit {0} → X → Result (Unit {0}) (C × Result B E) → Type 0)
-    (turn : (u : Unit {0}) (x : X) (r : Result (Unit {0}) (C × Result B E)) → turns u x r → BeginTurn into inner u x r) where
+module _ {S X C B E : Type 0} (outer : S → Answered X E → S → Type 0) (into : X → C → Type 0) (inner : C → Answered B E → C → Type 0) (turns : Option C → X → Result (Option C) (Option C × Result B E) → Type 0)
+    (turn : (hand : Option C) (x : X) (r : Result (Option C) (Option C × Result B E)) → turns hand x r → BeginTurn into inner hand x r) where
   abbrev G : S → Option C → List (Answered B E) → S → Option C → Type 0
   G = Flattens outer into inner
 
-  begun_turn : (x : X) (p : C × Result B E) (u t : S) → outer u (item x) t → BeginTurn into inner tt x (Err p) → G u None (stopped_answer p.1 ∷ []) t (Some p.0)
-  begun_turn x (d, Ok y) u t step w = begins x step w.1 (gives y w.2 done)
-  begun_turn x (d, Err e) u t step w = begins x step w.1 (fails e w.2 done)
+  begun_turn : (x : X) (p : Option C × Result B E) (hand : Option C) (u t : S) → outer u (item x) t → BeginTurn into inner hand x (Err p) → G u None (stopped_answer p.1 ∷ []) t p.0
+  begun_turn x (hand', Ok y) hand u t step w = rw w.4 (begins x step w.2 (gives y w.3 done))
+  begun_turn x (hand', Err e) hand u t step w = rw w.4 (begins x step w.2 (fails e w.3 done))
 
-  begun_exit : (last : Answered X E) (exit : Exit (Unit {0}) E (C × Result B E)) (u t : S) → CarryingExit turns tt last exit → outer u last t → G u None ((begun exit).1 ∷ []) t (begun exit).0
-  begun_exit (Ok None) exit u t e step = rw e (outer_ends step done)
-  begun_exit (Err d) exit u t e step = rw e (outer_fails d step done)
-  begun_exit (Ok (Some x)) exit u t e step = rw e.2 (begun_turn x e.0 u t step (turn tt x (Err e.0) e.1))
+  begun_exit : (last : Answered X E) (hand : Option C) (exit : Exit (Option C) E (Option C × Result B E)) (u t : S) → hand ≡ None → CarryingExit turns hand last exit → outer u last t → G u None ((unpacked exit).1 ∷ []) t (unpacked exit).0
+  begun_exit (Ok None) hand exit u t none e step = rw (e, none) (outer_ends step done)
+  begun_exit (Err d) hand exit u t none e step = rw (e, none) (outer_fails d step done)
+  begun_exit (Ok (Some x)) hand exit u t none e step = rw e.2 (begun_turn x e.0 hand u t step (turn hand x (Err e.0) e.1))
 
-  after_ended : (last : Answered X E) (r : Answered B E) (t : S) (hand : Option C) → ((u : S) → outer u last t → G u None (r ∷ []) t hand) → (items : List X) (s : S) (v w : Unit {0}) → Run outer s (map item items ++ last ∷ []) t → FoldsTo (carrying_turn turns) v items w → G s None (r ∷ []) t hand
-  after_ended last r t hand final [] s v w ran went = final s (subst (λ (u : S). outer s last u) ran.2 ran.1)
-  after_ended last r t hand final (x ∷ items) s v w ran went = let b = turn v x (Ok went.0) went.1 in begins x ran.1 b.2 (finishes b.3 (after_ended last r t hand final items ran.0 went.0 w ran.2 went.2))
+  after_ended : (last : Answered X E) (r : Answered B E) (t : S) (hand' v : Option C) → ((u : S) → v ≡ None → outer u last t → G u None (r ∷ []) t hand') → (items : List X) (s : S) (hand : Option C) → hand ≡ None → Run outer s (map item items ++ last ∷ []) t → FoldsTo (carrying_turn turns) hand items v → G s None (r ∷ []) t hand'
+  after_ended last r t hand' v final [] s hand none ran went = final s (subst (λ (h : Option C). h ≡ None) went none) (subst (λ (u : S). outer s last u) ran.2 ran.1)
+  after_ended last r t hand' v final (x ∷ items) s hand none ran went = let b = turn hand x (Ok went.0) went.1 in begins x ran.1 b.2 (finishes b.3 (after_ended last r t hand' v final items ran.0 went.0 (b.4 ∙ none) ran.2 went.2))
 
-  pub flatten_fold : {s t : S} {exit : Exit (Unit {0}) E (C × Result B E)} → Carried outer turns s tt exit t → FlattenTrace outer into inner s None ((begun exit).1 ∷ []) t (begun exit).0
-  flatten_fold {s} {t} {exit} w = from_flattens outer into inner s t None (begun exit).0 ((begun exit).1 ∷ []) (after_ended w.last (begun exit).1 t (begun exit).0 (λ u step. begun_exit w.last exit u t w.exit step) w.items s tt w.carried w.ran w.went)
+  pub flatten_fold : {s t : S} {exit : Exit (Option C) E (Option C × Result B E)} → Carried outer turns s None exit t → FlattenTrace outer into inner s None ((unpacked exit).1 ∷ []) t (unpacked exit).0
+  flatten_fold {s} {t} {exit} w = from_flattens outer into inner s t None (unpacked exit).0 ((unpacked exit).1 ∷ []) (after_ended w.last (unpacked exit).1 t (unpacked exit).0 w.carried (λ u none step. begun_exit w.last w.carried exit u t none w.exit step) w.items s None refl w.ran w.went)
 
 -- each turn of such a fold begins an inner iterator that may be drawn from
-pub callable_begins : {S X C B E : Type 0} {m : Source S X E} (into : X → C → Type 0) (inner : Source C B E) (R : Unit {0} → X → Unit {0} → Type 0) {s : S} → Lawful m → m.can s → EachInner m into inner inner.can s → HoldsAtEachTurn m.steps R (λ u x. (c : C) → into x c → inner.can c) s tt
-callable_begins into inner R {s = s} l can each = record { at = λ items t u d x ran went step c becomes. each.at x c (given_after l s items t u x can ran step) becomes }
+pub callable_begins : {S X C B E : Type 0} {m : Source S X E} (into : X → C → Type 0) (inner : Source C B E) (R : Option C → X → Option C → Type 0) {s : S} → Lawful m → m.can s → EachInner m into inner inner.can s → HoldsAtEachTurn m.steps R (λ hand x. (c : C) → into x c → inner.can c) s None
+callable_begins into inner R {s = s} l can each = record { at = λ items t u hand x ran went step c becomes. each.at x c (given_after l s items t u x can ran step) becomes }

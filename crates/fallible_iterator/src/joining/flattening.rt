@@ -1,13 +1,13 @@
 // The adapters that join the answers of inner iterators.
 ghost use Rattle.std.specs.Prelude.{◌≡◌, ℕ, [], ◌∷◌, None, Ok, List, Option, Result};
 ghost use Rattle.fallible_iterator.specs.Source.{seen_as};
-ghost use Rattle.fallible_iterator.specs.Flattening.{EachInHand, EachInner, FlattenTrace, flatten_source, BeginTurn, begun};
+ghost use Rattle.fallible_iterator.specs.Flattening.{EachInHand, EachInner, FlattenTrace, flatten_source, BeginTurn};
 ghost use Rattle.fallible_iterator.specs.Parts.{map_parts, flatten_parts, flat_map_parts};
 ghost use Rattle.fallible_iterator.specs.Laws.Source.{lawful_seen};
 ghost use Rattle.fallible_iterator.specs.Laws.OneToOne.{lawful_map};
 ghost use Rattle.fallible_iterator.specs.Laws.Flattening.{lawful_flatten};
 
-use crate::folds::Exit;
+use crate::filtering::unpack;
 use crate::one_to_one::Map;
 use crate::traits::FallibleIterator;
 use crate::traits::conversion::IntoFallibleIterator;
@@ -113,33 +113,19 @@ where
     requires can_inner { EachInner O.source U.into_gives U.IntoFallibleIter.source U.IntoFallibleIter.source.can outer.old }
     ensures { FlattenTrace O.source.steps U.into_gives U.IntoFallibleIter.source.steps outer.old None (result.1 ∷ []) outer.new result.0 }
 {
-    let turn = |_nothing: (), x: U| -> Result<(), (U::IntoFallibleIter, Result<U::Item, U::Error>)>
+    let turn = |in_hand: Option<U::IntoFallibleIter>, x: U| -> Result<
+        Option<U::IntoFallibleIter>,
+        (Option<U::IntoFallibleIter>, Result<U::Item, U::Error>),
+    >
         requires { (c : U.IntoFallibleIter) → U.into_gives x c → U.IntoFallibleIter.source.can c }
-        ensures { BeginTurn U.into_gives U.IntoFallibleIter.source.steps _nothing x result }
+        ensures { BeginTurn U.into_gives U.IntoFallibleIter.source.steps in_hand x result }
     {
         let mut inner = x.into_fallible_iter();
         match inner.next() {
-            Ok(Some(y)) => Err((inner, Ok(y))),
-            Ok(None) => Ok(()),
-            Err(e) => Err((inner, Err(e))),
+            Ok(Some(y)) => Err((Some(inner), Ok(y))),
+            Ok(None) => Ok(in_hand),
+            Err(e) => Err((Some(inner), Err(e))),
         }
     };
-    unpack_begun(outer.try_fold_carrying((), &turn))
-}
-
-// The inner iterator and the answer that the fold hands back.
-fn unpack_begun<C, T, E>(exit: Exit<(), E, (C, Result<T, E>)>) -> (Option<C>, Result<Option<T>, E>)
-    ensures { result ≡ begun exit }
-{
-    match exit {
-        Exit::Ended(()) => (None, Ok(None)),
-        Exit::Failed((), e) => (None, Err(e)),
-        Exit::Stopped(stop) => {
-            let (inner, answer) = stop;
-            match answer {
-                Ok(y) => (Some(inner), Ok(Some(y))),
-                Err(e) => (Some(inner), Err(e)),
-            }
-        }
-    }
+    unpack(outer.try_fold_carrying(None, &turn))
 }

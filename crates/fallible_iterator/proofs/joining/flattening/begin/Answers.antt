@@ -8,4 +8,4 @@ pub try_fold_carrying-requires-clause-callable : goal.try_fold_carrying-requires
 try_fold_carrying-requires-clause-callable g c = holds_map (λ u x v p. p) (λ u x p. search rules) (callable_begins _ _ _ g.met.O.FallibleIterator.lawful c.requires.can.0 c.requires.can_inner)
 
 pub returns : goal.returns
-returns g c = rw c.unpack_begun.ensures (flatten_fold _ _ _ _ (λ u x r p. search rules) c.try_fold_carrying.ensures.carried)
+returns g c = rw c.unpack.ensures (flatten_fold _ _ _ _ (λ u x r p. search rules) c.try_fold_carrying.ensures.carried)
