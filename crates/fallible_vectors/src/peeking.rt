@@ -1,7 +1,7 @@
 // The adapter that looks one item ahead.
 use crate::listed::listed;
 use fallible_iterator::laws::{Answer, answers};
-use fallible_iterator::{FallibleIterator, from_fn, once, repeat};
+use fallible_iterator::{FallibleIterator, Peekable, from_fn, once, repeat};
 use std::alloc::AllocError;
 use std::test::Fail;
 
@@ -134,5 +134,33 @@ fn a_clone_of_peekable_holds_the_item_too(rt: HostRuntime) -> Result<(), Fail> {
     assert_eq!(rt; copy.next(), Ok(Some(1)));
     assert_eq!(rt; copy.next(), Ok(None));
     assert_eq!(rt; it.next(), Ok(Some(1)));
+    Ok(())
+}
+
+// Takes the item that is looked at. After `fill`, with an item held, `next` is known to answer an item, and no failure.
+fn take_looked_at<I: FallibleIterator>(it: &mut Peekable<I>) -> Result<Option<I::Item>, I::Error>
+where
+    I::Item: Drop,
+    requires { ⟦<Peekable<I> as FallibleIterator>⟧.source.can it.old }
+{
+    match it.fill() {
+        Ok(()) => {}
+        Err(e) => return Err(e),
+    }
+    let is_held = (*it).held().is_some();
+    if !is_held {
+        return Ok(None);
+    }
+    match it.next() {
+        Ok(Some(x)) => Ok(Some(x)),
+        Ok(None) => unreachable!(),
+        Err(_) => unreachable!(),
+    }
+}
+
+#[test]
+fn what_is_looked_at_is_the_next_item(rt: HostRuntime) -> Result<(), Fail> {
+    let mut it = listed::<u32, u32, 2>(rt.alloc(), [Ok(1), Err(2)])?.peekable();
+    assert_eq!(rt; take_looked_at(&mut it), Ok(Some(1)));
     Ok(())
 }

@@ -18,15 +18,16 @@ where
     pub fn peek(&mut self) -> Result<Option<&I::Item>, I::Error>
     where
         requires { (peekable_source I.source).can (peekable_parts self.old) }
-        ensures* { sem 𝓛 (follows_so (the_row I.row I.Item.row I.Error.row) (the_row I.row I.Item.row I.Error.row) self.entry.ghost_name none (λ _ _. ⊤) (λ v. Peeks I.source.steps (peekable_parts self.old) (seen result) (peekable_parts v) × Stays (peekable_source I.source) (peekable_parts self.old) (peekable_parts v))) }
+        ensures answer { (left : I × Option I.Item) × Peeks I.source.steps (peekable_parts self.old) (seen result) left }
+        ensures* held { sem 𝓛 (follows_so (the_row I.row I.Item.row I.Error.row) (the_row I.row I.Item.row I.Error.row) self.entry.ghost_name none (λ _ _. ⊤) (λ v. Peeks I.source.steps (peekable_parts self.old) (seen result) (peekable_parts v) × Stays (peekable_source I.source) (peekable_parts self.old) (peekable_parts v))) }
     {
         let filled = self.fill();
         let held = self.lend();
         Self::joined(filled, held)
     }
 
-    // Draws once where nothing is held, and holds an item.
-    fn fill(&mut self) -> Result<(), I::Error>
+    // Draws once where nothing is held, and holds an item. It is no part of the surface: with `held` it does what `peek` does, in two steps after which a caller's proof knows what is held.
+    pub fn fill(&mut self) -> Result<(), I::Error>
     where
         requires { (peekable_source I.source).can (peekable_parts self.old) }
         ensures filled { Fills I.source.steps (peekable_parts self.old) result (peekable_parts self.new) }
@@ -56,10 +57,22 @@ where
         }
     }
 
-    // The held item, borrowed.
+    // The held item. It is no part of the surface.
+    pub fn held(&self) -> Option<&I::Item>
+    where
+        ensures { option_copied result ≡ (peekable_parts self.now).1 }
+    {
+        match &self.held {
+            Some(x) => Some(x),
+            None => None,
+        }
+    }
+
+    // The held item, lent by the whole.
     fn lend(&mut self) -> Option<&I::Item>
     where
-        ensures* { sem 𝓛 (follows_so (the_row I.row I.Item.row I.Error.row) (the_row I.row I.Item.row I.Error.row) self.entry.ghost_name none (λ _ _. ⊤) (λ v. (v ≡ self.old) × (option_copied result ≡ v.held))) }
+        ensures shown { option_copied result ≡ self.old.held }
+        ensures* kept { sem 𝓛 (follows_so (the_row I.row I.Item.row I.Error.row) (the_row I.row I.Item.row I.Error.row) self.entry.ghost_name none (λ _ _. ⊤) (λ v. v ≡ self.old)) }
     {
         self.held.as_ref()
     }

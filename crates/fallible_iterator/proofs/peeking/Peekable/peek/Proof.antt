@@ -118,12 +118,12 @@ peek_spec 𝓤 𝓛 𝓜 𝓡 wired I X E L L' L'' g d d' d'' m m' m'' =
     use2 𝓛 (raw (G₂.pre z₂)) (id⊢ 𝓤 _) $
     calls_at ! Tab G₂ (lend.met 𝓤 𝓛 𝓜 𝓡 (code.calls-fallible_iterator::peeking::Peekable::lend 𝓡.env wired) I X E L L' L'' g d d' d'' m m' m'') z₂ (and_then ! (get ! refl) (no_more !)) (λ v₂.
     use1 𝓛 (later (some (λ (h : Held.Denot). ((‵ (flft κ q) ⊛ tokens) ⊛ ‵ (Held.own_val h (v₂ ∷ []))) ⊛ some (λ (ws₂ : Lasts T₂ κs z₂.0.3). ‵ (lasts T₂ κs z₂.0.3 ws₂)
-    ⊛ ‵ (follows_so R R r.ghost_name none (λ _ _. ⊤) (λ w. (w ≡ ws.0) × (option_copied h ≡ w.held))))))) (id⊢ 𝓤 _) $
+    ⊛ raw (fact 𝓤 (option_copied h ≡ ws.0.held)) ⊛ ‵ (follows_so R R r.ghost_name none (λ _ _. ⊤) (λ w. w ≡ ws.0)))))) (id⊢ 𝓤 _) $
     await ! tt $ pick ! (λ h. split ! $ split ! $ split ! $ move ! (2 ∷ []) $ peeks ! Held (Is Held) (shows 𝓛 Held) h (v₂ ∷ []) (λ is₂.
     let good₂ = ((held_laws.lawful 𝓛).typed h (v₂ ∷ []) is₂).0 in
     lands_as ! refl refl good₂ $
     -- [the item held; κ's token; the other tokens; the rest of the answer; what was told]
-    move ! (3 ∷ []) $ pick ! (λ ws₂. split ! $ drop ! $
+    move ! (3 ∷ []) $ pick ! (λ ws₂. split ! $ drop ! $ split ! $ heard ! _ (λ copied.
     sets ! (of_opd ! (get ! refl)) refl good₁ $ sets ! (of_opd ! (get ! refl)) refl good₂ $
     -- [what the reference ends as; the item held; κ's token; the other tokens; what was told]
     let G₃ = triple_of 𝓛 (f₃.signature I X E) (f₃.spec I X E g d d' d'' 𝓛 𝓜.mem 𝓡.returns) in
@@ -137,13 +137,15 @@ peek_spec 𝓤 𝓛 𝓜 𝓡 wired I X E L L' L'' g d d' d'' m m' m'' =
     await ! tt $ pick ! (λ x. split ! $ split ! $ split ! $ move ! (2 ∷ []) $ peeks ! Answer (Is Answer) (shows 𝓛 Answer) x (v₃ ∷ []) (λ is₃.
     lands_as ! refl refl ((answer_laws.lawful 𝓛).typed x (v₃ ∷ []) is₃).0 $
     move ! (3 ∷ []) $ pick ! (λ ws₃. split ! $ drop ! $ heard ! _ (λ joins.
+    let peeked = peeks_joined g.source.steps (peekable_parts r.now) (peekable_parts ws.0) u h x fills copied joins in
     -- [the answer; κ's token; the other tokens; what the reference ends as]
     move ! (3 ∷ []) $ use1 𝓛 (‵ (follows_so R R r.ghost_name none (λ _ _. ⊤) (λ w. Peeks g.source.steps (peekable_parts r.now) (seen x) (peekable_parts w) × source.Stays (peekable_source g.source) (peekable_parts r.now) (peekable_parts w))))
-    (said_less 𝓛 R.Denot R.Denot R.coded.code R.coded.code r.ghost_name none (λ _ _. ⊤) (λ w. (w ≡ ws.0) × (option_copied h ≡ w.held)) (λ w. Peeks g.source.steps (peekable_parts r.now) (seen x) (peekable_parts w) × source.Stays (peekable_source g.source) (peekable_parts r.now) (peekable_parts w))
+    (said_less 𝓛 R.Denot R.Denot R.coded.code R.coded.code r.ghost_name none (λ _ _. ⊤) (λ w. w ≡ ws.0) (λ w. Peeks g.source.steps (peekable_parts r.now) (seen x) (peekable_parts w) × source.Stays (peekable_source g.source) (peekable_parts r.now) (peekable_parts w))
     (λ w k. (
-      peeks_joined g.source.steps (peekable_parts r.now) (peekable_parts w) u h x (subst (λ (z : R.Denot). Fills g.source.steps (peekable_parts r.now) u (peekable_parts z)) (sym k.0) fills) k.1 joins,
-      subst (λ (z : R.Denot). source.Stays (peekable_source g.source) (peekable_parts r.now) (peekable_parts z)) (sym k.0) stays,
+      subst (λ (z : R.Denot). Peeks g.source.steps (peekable_parts r.now) (seen x) (peekable_parts z)) (sym k) peeked,
+      subst (λ (z : R.Denot). source.Stays (peekable_source g.source) (peekable_parts r.now) (peekable_parts z)) (sym k) stays,
     ))) $
     returns ! (look_at ! 0 refl) $ free_all ! refl $
+    use0 𝓛 (raw (fact 𝓤 _)) (fact_i 𝓤 _ (emp 𝓤) (peekable_parts ws.0, peeked)) $ join ! $
     suffices ! _ (ends_at 𝓛 T stayed c y v₃ x (tt, tt) (tt, tt)) $
-    move ! (1 ∷ []) $ nothing ! $ nothing ! $ join ! $ move ! (3 ∷ 4 ∷ []) $ join ! $ group ! 3 $ done !)))))))))))))))))))))))
+    move ! (1 ∷ []) $ nothing ! $ nothing ! $ join ! $ move ! (3 ∷ 4 ∷ []) $ join ! $ group ! 3 $ done !))))))))))))))))))))))))
