@@ -57,7 +57,7 @@ impl<I: FallibleIterator> Peekable<I>
 where
     I::Item: Drop,
 {
-    /// The next item, where the closure answers true on it; else it stays held, and the answer is none. It draws once where nothing is held; an end and a failure that come then are the answer, and neither is held. What is left may be drawn from again.
+    /// The next item, where the closure answers true on it; else it stays held, and the answer is none. It draws once where nothing is held; an end and a failure that come then are the answer, and neither is held, nor is the closure called. What is left may be drawn from again.
     ///
     /// It asks that the closure may be called on a reference to each item that may come.
     pub fn next_if<F: Fn(&I::Item) -> bool>(&mut self, f: F) -> Result<Option<I::Item>, I::Error>

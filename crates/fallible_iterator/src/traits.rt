@@ -367,7 +367,7 @@ pub trait FallibleIterator: Drop + Sized {
         }
     }
 
-    /// Pairs each item with one of `o`. A call draws one answer, and then, where that isn't a failure, one of `o`, also at an end. Two items make a pair. A failure of either is the answer, and else an end of either is an end; an item beside it is lost, and the next call draws both again. Making the adapter draws nothing: it calls `into_fallible_iter` once, and keeps what that gives.
+    /// Pairs each item with one of `o`. A call draws one answer, and then, where that isn't a failure, one of `o`, also at an end. Two items make a pair. A failure of either is the answer, and else an end of either is an end; an item beside a failure or an end is lost, and the next call draws both again. Making the adapter draws nothing: it calls `into_fallible_iter` once, and keeps what that gives.
     final fn zip<I>(self, o: I) -> Zip<Self, I::IntoFallibleIter>
     where
         I: IntoFallibleIterator<Error = Self::Error>,
@@ -380,9 +380,9 @@ pub trait FallibleIterator: Drop + Sized {
         }
     }
 
-    /// Joins the answers of the inner iterators that the items become: the one in hand answers until its end, at which it is dropped, and then the next item is drawn. A failure or an end of this iterator is the answer, and the next call draws from it again. Making the adapter draws nothing.
+    /// Joins the answers of the inner iterators that the items become: the one in hand answers until its end, at which it is dropped, and then the next item is drawn. A failure of the inner iterator is the answer, and keeps it in hand. A failure or an end of this iterator is the answer, and the next call draws from it again. Making the adapter draws nothing.
     ///
-    /// It asks a number to come, since many inner iterators may end at once. A drain of it also asks a number to come of the inner iterator in hand, and one that serves for each that may come.
+    /// It asks a number to come, since many inner iterators may end at once. Each draw asks that the inner iterator in hand and each that may come may be drawn from; a drain also asks a number to come of the one in hand, and one that serves for each that may come.
     final fn flatten(self) -> Flatten<Self>
     where
         Self::Item: IntoFallibleIterator<Error = Self::Error>,
@@ -395,9 +395,9 @@ pub trait FallibleIterator: Drop + Sized {
         }
     }
 
-    /// Joins the answers of the inner iterators that the closure makes of the items, as `flatten` does. Where the closure fails, its failure is the answer, and that item is lost. Making the adapter draws nothing and calls nothing.
+    /// Joins the answers of the inner iterators that the closure makes of the items, as `flatten` does. Where the closure fails, its failure is the answer, that item is lost, and the next call goes on after it. Making the adapter draws nothing and calls nothing.
     ///
-    /// It asks a number to come, since many inner iterators may end at once, and that the closure may be called on each item that may come. A drain of it also asks a number to come of the inner iterator in hand, and one that serves for each that may come.
+    /// It asks a number to come, since many inner iterators may end at once, and that the closure may be called on each item that may come. Each draw asks that the inner iterator in hand and each that may come may be drawn from; a drain also asks a number to come of the one in hand, and one that serves for each that may come.
     final fn flat_map<U, F>(self, f: F) -> FlatMap<Self, U, F>
     where
         U: IntoFallibleIterator<Error = Self::Error>,
@@ -455,7 +455,7 @@ pub trait FallibleIterator: Drop + Sized {
         }
     }
 
-    /// Begins anew with a clone of itself at each end. It clones itself once now, and draws nothing; where the clone is refused, it is dropped, and that is the answer.
+    /// Begins anew at each end, with a clone of this iterator, which is kept. It clones once now, for the first run, and draws nothing; where that clone is refused, this iterator is dropped and the answer is `Err(AllocError)`. A clone that is refused later is a failure, after which the run goes on.
     ///
     /// It asks that each of its clones may be drawn from, as is so where clones equal their originals. It has no number to come, so it is drained through `take`.
     final fn cycle(self) -> Result<Cycle<Self>, AllocError>

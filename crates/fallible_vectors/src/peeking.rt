@@ -1,8 +1,13 @@
 // The adapter that looks one item ahead.
+ghost use Rattle.std.specs.Prelude.{◌≡◌, ⊤, Some, None, Ok, MatchResult, MatchOption};
+ghost use Rattle.fallible_iterator.specs.Peeking.{Fills};
+ghost use Rattle.fallible_iterator.specs.Parts.{peekable_parts};
+
 use crate::listed::listed;
 use fallible_iterator::laws::{Answer, answers};
 use fallible_iterator::{FallibleIterator, Peekable, from_fn, once, repeat};
 use std::alloc::AllocError;
+use std::cell::Cell;
 use std::test::Fail;
 
 #[test]
@@ -137,11 +142,12 @@ fn a_clone_of_peekable_holds_the_item_too(rt: HostRuntime) -> Result<(), Fail> {
     Ok(())
 }
 
-// Takes the item that is looked at. After `fill`, with an item held, `next` is known to answer an item, and no failure.
+// Takes the item that is looked at. After `fill`, with an item held, `next` is known to answer that item without a draw.
 fn take_looked_at<I: FallibleIterator>(it: &mut Peekable<I>) -> Result<Option<I::Item>, I::Error>
 where
     I::Item: Drop,
     requires { ⟦<Peekable<I> as FallibleIterator>⟧.source.can it.old }
+    ensures { MatchResult result (λ o. MatchOption o ⊤ (λ x. (s : I) × Fills I.source.steps (peekable_parts it.old) (Ok tt) (s, Some x) × (peekable_parts it.new ≡ (s, None)))) (λ _. ⊤) }
 {
     match it.fill() {
         Ok(()) => {}
@@ -162,5 +168,25 @@ where
 fn what_is_looked_at_is_the_next_item(rt: HostRuntime) -> Result<(), Fail> {
     let mut it = listed::<u32, u32, 2>(rt.alloc(), [Ok(1), Err(2)])?.peekable();
     assert_eq!(rt; take_looked_at(&mut it), Ok(Some(1)));
+    Ok(())
+}
+
+#[test]
+fn next_if_calls_its_closure_once(rt: HostRuntime) -> Result<(), Fail> {
+    let calls = Cell::new(0u32);
+    let mut it = listed::<u32, u32, 2>(rt.alloc(), [Ok(1), Err(2)])?.peekable();
+    let refuse = |_x: &u32| {
+        calls.set(calls.get().wrapping_add(1));
+        false
+    };
+    assert_eq!(rt; it.next_if(refuse), Ok(None));
+    assert_eq!(rt; calls.get(), 1);
+    assert_eq!(rt; it.next(), Ok(Some(1)));
+    let accept = |_x: &u32| {
+        calls.set(calls.get().wrapping_add(1));
+        true
+    };
+    assert_eq!(rt; it.next_if(accept), Err(2));
+    assert_eq!(rt; calls.get(), 1);
     Ok(())
 }

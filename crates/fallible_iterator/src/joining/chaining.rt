@@ -32,7 +32,7 @@ impl<T: FallibleIterator, U: FallibleIterator<Item = T::Item, Error = T::Error>>
 
     ghost source = { seen_as chain_parts (chain_source T.source U.source) };
 
-    /// Draws one answer of the front; where that is its first end, and ever after, one of the back.
+    /// While both sides are drawn it draws one answer of the front, and at its first end, in the same call, one of the back, which alone is drawn from then on; a failure changes no side. Where one side alone is drawn, it draws one answer of that side.
     fn next(&mut self) -> Result<Option<T::Item>, T::Error> {
         match self.sides {
             Sides::Both => match self.front.next() {

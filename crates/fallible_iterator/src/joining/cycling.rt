@@ -28,7 +28,7 @@ where
 
     ghost source = { seen_as cycle_parts (cycle_source I.is_clone I.is_infallible I.Error.from_gives I.source) };
 
-    /// Draws one answer of the current run. Where that is an end, it clones the kept source, which is the current run then, and draws one answer of it, whatever it is. Where the clone is refused, the answer is the failure made of the refusal, and the run stays as drawn past its end. The kept source stays in each case.
+    /// Draws one answer of the current run. It asks that each clone of the kept source may be drawn from. Where that is an end, it clones the kept source, which is the current run then, and draws one answer of it, whatever it is. Where the clone is refused, the answer is the failure made of the refusal, and the run stays as drawn past its end. The kept source stays in each case.
     fn next(&mut self) -> Result<Option<I::Item>, I::Error> {
         match self.it.next() {
             Ok(Some(x)) => Ok(Some(x)),

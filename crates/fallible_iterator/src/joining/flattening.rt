@@ -33,7 +33,7 @@ where
 
     ghost source = { seen_as flatten_parts (flatten_source I.source I.Item.into_gives I.Item.IntoFallibleIter.source) };
 
-    /// Draws from the inner iterator in hand; where there is none or it ended, draws from the outer source until an item becomes an inner iterator that does not end at once, a failure comes or an end comes.
+    /// Draws from the inner iterator in hand; where there is none or it ended, draws from the outer source until an item becomes an inner iterator that does not end at once, a failure comes or an end comes. It asks that the inner iterator in hand and each that may come may be drawn from.
     fn next(&mut self) -> Result<Option<<I::Item as IntoFallibleIterator>::Item>, I::Error> {
         next_joined(&mut self.it, &mut self.in_hand)
     }

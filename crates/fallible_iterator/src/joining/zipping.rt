@@ -8,7 +8,7 @@ ghost use Rattle.fallible_iterator.specs.Laws.Zipping.{lawful_zip};
 
 use crate::traits::FallibleIterator;
 
-/// The pairs of the left's items and the right's, place by place. A failure of either side is the answer, and else an end of either is an end; an item beside it is lost.
+/// The pairs of the left's items and the right's, place by place. A failure of either side is the answer, and else an end of either is an end; an item beside a failure or an end is lost.
 #[derive(Clone, Debug, Drop)]
 pub struct Zip<T, U> {
     pub(crate) left: T,
@@ -30,7 +30,7 @@ where
     fn next(&mut self) -> Result<Option<(T::Item, U::Item)>, T::Error> {
         let left = match self.left.next() {
             Ok(left) => left,
-            Err(e) => return Err(e),
+            Err(failure) => return Err(failure),
         };
         let right = match self.right.next() {
             Ok(right) => right,
