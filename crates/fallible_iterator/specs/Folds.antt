@@ -10,27 +10,35 @@ use Rattle.fallible_iterator.specs.Traces.{Answered, Run, Yields, item}
 pub record HoldsAtEachTurn {S A E C : Type 0} (steps : S → Answered A E → S → Type 0) (goes_on : C → A → C → Type 0) (P : C → A → Type 0) (s : S) (c : C) : Type 0 where
   pub at : (items : List A) (t u : S) (d : C) (x : A) → Yields steps s items t → FoldsTo goes_on c items d → steps t (item x) u → P d x
 
-module _ {A F B E' : Type 0} (g : Mut F (B × (A × Unit {0})) (Result B E')) where
+-- A closure is called on the value so far and an item, which it may know by another name of the item's type: `as_is` is that name.
+module _ {A T F B R : Type 0} (as_is : A → T) (g : Mut F (B × (T × Unit {0})) R) where
+  abbrev pub call_with : F → B → A → R → F → Type 0
+  call_with f b x r f' = Called g f (b, (as_is x, tt)) r f'
+
+  abbrev pub takes_with : F → B → A → Type 0
+  takes_with f b x = Takes g f (b, (as_is x, tt))
+
+module _ {A F B E' : Type 0} (call : F → B → A → Result B E' → F → Type 0) where
   -- one call of the closure on the value so far and an item, which went on
   abbrev pub fold_turn : B × F → A → B × F → Type 0
-  fold_turn p x q = Called g p.1 (p.0, (x, tt)) (Ok q.0) q.1
+  fold_turn p x q = call p.1 p.0 x (Ok q.0) q.1
 
   -- one call, seen by the fold that carries the value and the closure
   abbrev pub FoldTurn : B × F → A → Result (B × F) E' → Type 0
   FoldTurn p x (Ok q) = fold_turn p x q
-  FoldTurn p x (Err e') = (f' : F) × Called g p.1 (p.0, (x, tt)) (Err e') f'
+  FoldTurn p x (Err e') = (f' : F) × call p.1 p.0 x (Err e') f'
 
-module _ {A E F B E' : Type 0} (g : Mut F (B × (A × Unit {0})) (Result B E')) (from : E → E' → Type 0) where
+module _ {A E F B E' : Type 0} (call : F → B → A → Result B E' → F → Type 0) (from : E → E' → Type 0) where
   -- the fold's result r by the last answer: the last value at an end; the failure, converted, at a failure; the closure's error where it stopped at an item
   abbrev pub FoldExit : B → F → Answered A E → Result B E' → Type 0
   FoldExit b f (Ok None) r = r ≡ Ok b
   FoldExit b f (Err e) r = (e' : E') × from e e' × (r ≡ Err e')
-  FoldExit b f (Ok (Some x)) r = (f' : F) × (e' : E') × Called g f (b, (x, tt)) (Err e') f' × (r ≡ Err e')
+  FoldExit b f (Ok (Some x)) r = (f' : F) × (e' : E') × call f b x (Err e') f' × (r ≡ Err e')
 
-module _ {S A E F B E' : Type 0} (steps : S → Answered A E → S → Type 0) (g : Mut F (B × (A × Unit {0})) (Result B E')) where
+module _ {S A E F B E' : Type 0} (steps : S → Answered A E → S → Type 0) (call : F → B → A → Result B E' → F → Type 0) where
   -- the closure may be called on the value so far and each item that may come
-  abbrev pub CallableInFold : S → F → B → Type 0
-  CallableInFold s f b = HoldsAtEachTurn {C = B × F} steps (fold_turn g) (λ p x. Takes g p.1 (p.0, (x, tt))) s (b, f)
+  abbrev pub CallableInFold : (F → B → A → Type 0) → S → F → B → Type 0
+  CallableInFold takes s f b = HoldsAtEachTurn {C = B × F} steps (fold_turn call) (λ p x. takes p.1 p.0 x) s (b, f)
 
   -- The closure was called on the items in order, each call with the value so far, b at first, and went on. Then came the last answer: an end, a failure, or an item on which the closure failed. The draws answered the items and the last answer, and left t.
   pub record Folded (from : E → E' → Type 0) (s : S) (b : B) (f : F) (r : Result B E') (t : S) : Type 0 where
@@ -39,8 +47,8 @@ module _ {S A E F B E' : Type 0} (steps : S → Answered A E → S → Type 0) (
     pub value : B
     pub closure : F
     pub ran : Run steps s (map item items ++ last ∷ []) t
-    pub went : FoldsTo {P = B × F} (fold_turn g) (b, f) items (value, closure)
-    pub exit : FoldExit g from value closure last r
+    pub went : FoldsTo {P = B × F} (fold_turn call) (b, f) items (value, closure)
+    pub exit : FoldExit call from value closure last r
 
 -- ---- the fold that carries a value, which every other one goes through
 -- `turns c x r` says that one turn on the carried value c and the item x may answer r: `Ok` of what is carried on, or `Err` where the fold stops.

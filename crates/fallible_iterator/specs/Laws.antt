@@ -16,6 +16,7 @@ pub mod Sources
 pub mod ToCome
 pub mod SourceTraces
 pub mod Views
+pub mod Overriding
 pub mod Parts
 pub mod WithSteps
 pub mod Taking

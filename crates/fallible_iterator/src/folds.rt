@@ -1,5 +1,5 @@
 // Folds that carry a value.
-ghost use Rattle.std.specs.Prelude.{Result};
+ghost use Rattle.std.specs.Prelude.{◌≡◌, Result};
 
 /// How a fold ended that hands the value which it carried back at every exit: at the source's end, at a failure of the source, or where the closure stopped it.
 #[derive(Drop)]
@@ -29,5 +29,23 @@ impl<C, A, R, F: Fn(C, A) -> Result<C, R>> Turn<C, A, R> for F {
 
     fn turn(&self, carried: C, item: A) -> Result<C, R> {
         self(carried, item)
+    }
+}
+
+/// Held by every type of itself: `T` is another name of `Self`. A method that may be overridden takes its closure's item by such a name.
+pub trait Is<T> {
+    // The value under the other name.
+    ghost as_is: { Self → T };
+
+    /// The value itself.
+    fn this(self) -> T
+        ensures { result ≡ as_is self };
+}
+
+impl<T> Is<T> for T {
+    ghost as_is = { λ x. x };
+
+    fn this(self) -> T {
+        self
     }
 }

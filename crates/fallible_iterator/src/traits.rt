@@ -9,7 +9,7 @@ ghost use Rattle.fallible_iterator.specs.Parts.{map_parts, inspect_parts, filter
 ghost use Rattle.fallible_iterator.specs.Parts.{chain_parts, zip_parts, flatten_parts, flat_map_parts, peekable_parts, cycle_parts};
 ghost use Rattle.fallible_iterator.specs.declared.joining.chaining.Sides.TheVariants.{Both};
 ghost use Rattle.fallible_iterator.specs.Collecting.{Collects, PushTurn};
-ghost use Rattle.fallible_iterator.specs.Folds.{CallableCarrying, Carried, CallableInFold, FoldTurn, Folded, Counted, Nth};
+ghost use Rattle.fallible_iterator.specs.Folds.{CallableCarrying, Carried, CallableInFold, call_with, takes_with, FoldTurn, Folded, Counted, Nth};
 
 mod borrowed;
 pub mod conversion;
@@ -17,7 +17,7 @@ pub mod conversion;
 use crate::collecting::{Collect, Fault};
 use crate::cutting::{Fuse, Skip, StepBy, Take, TakeWhile};
 use crate::filtering::{Filter, FilterMap, SkipWhile};
-use crate::folds::{Exit, Turn};
+use crate::folds::{Exit, Is, Turn};
 use crate::joining::{Chain, Cycle, FlatMap, Flatten, Sides, Zip};
 use crate::one_to_one::{Cloned, Enumerate, Inspect, Map, MapErr, Scan};
 use crate::peeking::Peekable;
@@ -127,29 +127,27 @@ pub trait FallibleIterator: Drop + Sized {
         self.next()
     }
 
-    // What the other functions know of a draw: see `Goes`.
-    ghost lawful: { Lawful source };
-
     /// Calls the closure on the value so far and each item in order. At the end it answers the last value; at a failure that failure, converted; where the closure fails, its error. Nothing is drawn after the answer that decides, and what is left may be drawn from again.
     ///
-    /// It asks a number to come, and that the closure may be called on each item that may come with the value so far.
-    final fn try_fold<B, E, F>(&mut self, init: B, f: F) -> Result<B, E>
+    /// It asks a number to come, and that the closure may be called on each item that may come with the value so far. `T` is the type of the items.
+    fn try_fold<B, E, T, F>(&mut self, init: B, f: F) -> Result<B, E>
     where
         B: Drop,
         E: From<Self::Error>,
-        F: FnMut(B, Self::Item) -> Result<B, E>,
+        Self::Item: Is<T>,
+        F: FnMut(B, T) -> Result<B, E>,
         requires can { source.can self.old }
         requires finite { source.has_end self.old }
-        requires callable { CallableInFold source.steps F.FnMut self.old f init }
-        ensures folded { Folded source.steps F.FnMut E.from_gives self.old init f result self.new }
+        requires callable { CallableInFold source.steps (call_with Self.Item.as_is F.FnMut) (takes_with Self.Item.as_is F.FnMut) self.old f init }
+        ensures folded { Folded source.steps (call_with Self.Item.as_is F.FnMut) E.from_gives self.old init f result self.new }
         ensures stays { Stays source self.old self.new }
     {
         let turn = |carried: (B, F), x: Self::Item| -> Result<(B, F), E>
-            requires { F.pre carried.1 carried.0 x }
-            ensures { FoldTurn F.FnMut carried x result }
+            requires { F.pre carried.1 carried.0 (Self.Item.as_is x) }
+            ensures { FoldTurn (call_with Self.Item.as_is F.FnMut) carried x result }
         {
             let (value, mut f) = carried;
-            match f(value, x) {
+            match f(value, x.this()) {
                 Ok(value) => Ok((value, f)),
                 Err(e) => Err(e),
             }
@@ -161,18 +159,24 @@ pub trait FallibleIterator: Drop + Sized {
         }
     }
 
-    /// `try_fold` on the iterator itself, where the closure fails with the iterator's own error.
-    final fn fold<B, F>(mut self, init: B, f: F) -> Result<B, Self::Error>
+    /// `try_fold` on the iterator itself, where the closure fails with the iterator's own error. `T` is the type of the items, and `E` that of the failures.
+    fn fold<B, E, T, F>(mut self, init: B, f: F) -> Result<B, E>
     where
         B: Drop,
-        F: FnMut(B, Self::Item) -> Result<B, Self::Error>,
+        Self::Item: Is<T>,
+        Self::Error: Is<E>,
+        E: From<Self::Error>,
+        F: FnMut(B, T) -> Result<B, E>,
         requires can { source.can self }
         requires finite { source.has_end self }
-        requires callable { CallableInFold source.steps F.FnMut self f init }
-        ensures { (left : Self) × Folded source.steps F.FnMut (λ e d. d ≡ e) self init f result left }
+        requires callable { CallableInFold source.steps (call_with Self.Item.as_is F.FnMut) (takes_with Self.Item.as_is F.FnMut) self f init }
+        ensures { (left : Self) × Folded source.steps (call_with Self.Item.as_is F.FnMut) E.from_gives self init f result left }
     {
         self.try_fold(init, f)
     }
+
+    // What the other functions know of a draw: see `Goes`.
+    ghost lawful: { Lawful source };
 
     /// Replaces each item by the closure's answer on it. Making the adapter draws nothing and calls nothing.
     final fn map<F, B>(self, f: F) -> Map<Self, F>

@@ -20,6 +20,8 @@ mod listed;
 #[cfg(test)]
 mod one_to_one;
 #[cfg(test)]
+mod overriding;
+#[cfg(test)]
 mod own_type;
 #[cfg(test)]
 mod peeking;

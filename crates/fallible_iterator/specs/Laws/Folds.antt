@@ -1,7 +1,6 @@
 -- Folds, one turn at a time.
 use Rattle.std.specs.Prelude.{◌≡◌, ℕ, ◌+◌, ◌<◌, length, List, [], ◌∷◌, Result, Some, None, Ok, Err}
 use Rattle.std.specs.List.{FoldsTo}
-use Rattle.std.specs.Fn.{Mut}
 use Rattle.std.proofs.Common.{refl, sym, ap, subst, arith}
 use Rattle.fallible_iterator.specs.declared.folds.Exit.{Exit}
 use Rattle.fallible_iterator.specs.declared.folds.Exit.TheVariants.{Ended, Failed, Stopped}
@@ -43,7 +42,7 @@ holds_map {s} {c} narrow weak h = record { at = λ items t u d x ran went step. 
 
 -- ---- `try_fold` by the fold that carries the value and the closure
 
-module _ {A E F B E' : Type 0} (f : Mut F (B × (A × Unit {0})) (Result B E')) (from : E → E' → Type 0) (turns : B × F → A → Result (B × F) E' → Type 0)
+module _ {A E F B E' : Type 0} (f : F → B → A → Result B E' → F → Type 0) (from : E → E' → Type 0) (turns : B × F → A → Result (B × F) E' → Type 0)
     (turn : (p : B × F) (x : A) (r : Result (B × F) E') → turns p x r → FoldTurn f p x r) where
   exit_ended : (last : Answered A E) (p q : B × F) → CarryingExit turns p last (Ended q) → FoldExit f from p.0 p.1 last (Ok q.0)
   exit_ended (Ok None) p q h = let e : q ≡ p = cc in ap (λ (z : B × F). Ok z.0) e
@@ -60,7 +59,7 @@ module _ {A E F B E' : Type 0} (f : Mut F (B × (A × Unit {0})) (Result B E')) 
   exit_stopped (Ok (Some x)) p e' h = let called = turn p x (Err h.0) h.1 in (called.0, h.0, called.1, (let e = h.2 in cc))
   exit_stopped (Err d) p e' h = absurd cc
 
-module _ {S A E F B E' : Type 0} {steps : S → Answered A E → S → Type 0} {f : Mut F (B × (A × Unit {0})) (Result B E')} {from : E → E' → Type 0} {turns : B × F → A → Result (B × F) E' → Type 0}
+module _ {S A E F B E' : Type 0} {steps : S → Answered A E → S → Type 0} {f : F → B → A → Result B E' → F → Type 0} {from : E → E' → Type 0} {turns : B × F → A → Result (B × F) E' → Type 0}
     (turn : (p : B × F) (x : A) (r : Result (B × F) E') → turns p x r → FoldTurn f p x r) {s t : S} {b : B} {h : F} where
   folded_by : {x : Exit (B × F) E E'} (c : Carried steps turns s (b, h) x t) (r : Result B E') → FoldExit f from c.carried.0 c.carried.1 c.last r → Folded steps f from s b h r t
   folded_by c r exit = record { items = c.items; last = c.last; value = c.carried.0; closure = c.carried.1; ran = c.ran; went = turns_map (λ p y q w. turn p y (Ok q) w) c.items (b, h) c.carried c.went; exit = exit }

@@ -1,0 +1,11 @@
+-- What is left of the whole holds what is left of the source.
+use Rattle.std.proofs.Common.{refl}
+use Rattle.fallible_iterator.specs.Laws.Overriding.{holds_held, folded_held}
+use Rattle.fallible_vectors.proofs.Watched.{put}
+use Rattle.fallible_vectors.proofs.overriding.WatchedFallibleIterator.fold.Goals as goal
+
+pub fold-requires-clause-callable : goal.fold-requires-clause-callable
+fold-requires-clause-callable g c = holds_held (λ w. w.it) put (λ w it. refl) g.I.FallibleIterator.source c.requires.callable
+
+pub returns : goal.returns
+returns g c = (put c.args.self c.fold.ensures.0, folded_held (λ w. w.it) put (λ w it. refl) g.I.FallibleIterator.source c.fold.ensures.1)
