@@ -1,14 +1,10 @@
 -- `Flatten` and `FlatMap`: each item of an outer source becomes an inner iterator, and the answers of these are joined.
-use Rattle.std.specs.Prelude.{◌≡◌, ℕ, ◌+◌, ◌*◌, ◌≤◌, List, [], ◌∷◌, ◌++◌, map, Option, Result, Some, None, Ok, Err, ⊤, ◌⊎◌}
+use Rattle.std.specs.Prelude.{◌≡◌, ◌≢◌, ℕ, ◌+◌, ◌*◌, ◌≤◌, List, [], ◌∷◌, ◌++◌, map, Option, Result, Some, None, Ok, Err, IfSome, ⊤, ◌⊎◌}
 use Rattle.std.specs.List.{flat_map}
 use Rattle.std.specs.Iterator.{endless}
 use Rattle.fallible_iterator.specs.Traces.{Answered, Run, item, failure, end, NoEnd}
 use Rattle.fallible_iterator.specs.Source.{Source}
-
--- there is an answer
-abbrev pub NonEmpty : {R : Type 0} → List R → Type 0
-NonEmpty [] = ⊥
-NonEmpty (r ∷ rest) = ⊤
+use Rattle.fallible_iterator.specs.Closures.{InSlot}
 
 -- What one answer of the outer source puts into the trace: an item became an inner iterator, with the answers that came from it; or a failure or an end, which is the answer itself.
 pub data Part (X C B E : Type 0) : Type 0 where
@@ -36,7 +32,7 @@ pub record Finished {C B E : Type 0} (inner : C → Answered B E → C → Type 
 pub record Unfinished {C B E : Type 0} (inner : C → Answered B E → C → Type 0) (c : C) (answers : List (Answered B E)) (d : C) : Type 0 where
   pub drawn : Run inner c answers d
   pub no_end : NoEnd answers
-  pub some : NonEmpty answers
+  pub not_empty : answers ≢ []
 
 module _ {X C B E : Type 0} (into : X → C → Type 0) (inner : C → Answered B E → C → Type 0) where
   -- a part before the last: its inner iterator is finished
@@ -79,16 +75,6 @@ pub data FlattenTrace {S X C B E : Type 0} (outer : S → Answered X E → S →
 
 -- ---- the contract
 
--- P holds of the inner iterator in hand, if there is one
-abbrev pub EachInHand : {C : Type 0} → Option C → (C → Type 0) → Type 0
-EachInHand (Some c) P = P c
-EachInHand None P = ⊤
-
--- there is an inner iterator in hand, and P holds of it
-abbrev pub InHand : {C : Type 0} → Option C → (C → Type 0) → Type 0
-InHand (Some c) P = P c
-InHand None P = ⊥
-
 -- k is a number to come of the inner iterator in hand; 0 where there is none
 abbrev pub NumberInHand : {C : Type 0} → Option C → (C → ℕ → Type 0) → ℕ → Type 0
 NumberInHand (Some c) to_come k = to_come c k
@@ -124,13 +110,13 @@ module _ {S X C B E : Type 0} (m : Source S X E) (into : X → C → Type 0) (in
   -- Its condition: one of the outer source, and a number to come of it, since many inner iterators may end at once; one of the inner iterator in hand and of each that may come. There is a number to come where the outer source and the inner iterator in hand have one, and one serves for all that may come.
   abbrev pub flatten_source : Source (S × Option C) B E
   flatten_source = record {
-    can = λ p. m.can p.0 × m.has_end p.0 × EachInHand p.1 inner.can × EachInner inner.can p.0;
+    can = λ p. m.can p.0 × m.has_end p.0 × IfSome p.1 inner.can × EachInner inner.can p.0;
     steps = λ p r q. FlattenTrace m.steps into inner.steps p.0 p.1 (r ∷ []) q.0 q.1;
     to_come = λ p n. FlattenNumber p.0 p.1 n;
-    has_end = λ p. m.has_end p.0 × EachInHand p.1 inner.has_end × ((b : ℕ) × EachAtMost b p.0);
+    has_end = λ p. m.has_end p.0 × IfSome p.1 inner.has_end × ((b : ℕ) × EachAtMost b p.0);
     elements = λ p. endless;
-    gives = λ p y. InHand p.1 (λ c. inner.gives c y) ⊎ SomeInner (λ c. inner.gives c y) p.0;
-    fails = λ p e. m.fails p.0 e ⊎ (InHand p.1 (λ c. inner.fails c e) ⊎ SomeInner (λ c. inner.fails c e) p.0);
+    gives = λ p y. InSlot p.1 (λ c. inner.gives c y) ⊎ SomeInner (λ c. inner.gives c y) p.0;
+    fails = λ p e. m.fails p.0 e ⊎ (InSlot p.1 (λ c. inner.fails c e) ⊎ SomeInner (λ c. inner.fails c e) p.0);
     hints = λ p h. h ≡ (0, None);
   }
 

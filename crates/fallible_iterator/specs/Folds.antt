@@ -79,6 +79,17 @@ module _ {S A E C R : Type 0} (steps : S → Answered A E → S → Type 0) (tur
     pub went : FoldsTo (carrying_turn turns) c items carried
     pub exit : CarryingExit turns carried last r
 
+-- the answer at which a fold stopped
+abbrev pub stopped_answer : {B E : Type 0} → Result B E → Answered B E
+stopped_answer (Ok y) = Ok (Some y)
+stopped_answer (Err e) = Err e
+
+-- what a fold that stops at an answer hands back at each exit: the value carried, and the answer
+abbrev pub unpacked : {C B E : Type 0} → Exit C E (C × Result B E) → C × Answered B E
+unpacked (Ended c) = (c, Ok None)
+unpacked (Failed c e) = (c, Err e)
+unpacked (Stopped p) = (p.0, stopped_answer p.1)
+
 -- ---- count
 
 -- the number of items n at an end, or the failure

@@ -1,8 +1,6 @@
 -- Adapters that let the answers of one source pass: of each item a closure is asked, and by its answer the item is kept as another, left out, or replaced by a failure or an end.
 use Rattle.std.specs.Prelude.{◌≡◌, ℕ, List, [], ◌∷◌, map, Option, Result, Some, None, Ok, Err, IsSome, ⊤, ◌⊎◌}
 use Rattle.std.specs.List.{filter_map}
-use Rattle.fallible_iterator.specs.declared.folds.Exit.{Exit}
-use Rattle.fallible_iterator.specs.declared.folds.Exit.TheVariants.{Ended, Failed, Stopped}
 use Rattle.fallible_iterator.specs.Traces.{Answered, Run, item, failure, end}
 use Rattle.fallible_iterator.specs.Source.{Source}
 use Rattle.fallible_iterator.specs.Closures.{Calls, Reaches, IsCallable, InSlot, InSlots}
@@ -90,17 +88,7 @@ abbrev pub stopped_outcome : {B E : Type 0} → Result B E → Outcome B E
 stopped_outcome (Ok y) = kept y
 stopped_outcome (Err e) = failed e
 
-abbrev pub stopped_answer : {B E : Type 0} → Result B E → Answered B E
-stopped_answer (Ok y) = Ok (Some y)
-stopped_answer (Err e) = Err e
-
 -- One call of the closure on an item: the fold goes on where the item is left out, and else stops with the closure and the answer.
 abbrev pub PassTurn : {F X R B E : Type 0} → (F → X → R → F → Type 0) → (X → R → Outcome B E) → F → X → Result F (F × Result B E) → Type 0
 PassTurn {R = R} call outcome f x (Ok g) = (v : R) × call f x v g × (outcome x v ≡ left_out)
 PassTurn {R = R} call outcome f x (Err p) = (v : R) × call f x v p.0 × (outcome x v ≡ stopped_outcome p.1)
-
--- the closure and the answer that the fold's exit hands back
-abbrev pub unpacked : {F B E : Type 0} → Exit F E (F × Result B E) → F × Answered B E
-unpacked (Ended f) = (f, Ok None)
-unpacked (Failed f e) = (f, Err e)
-unpacked (Stopped p) = (p.0, stopped_answer p.1)

@@ -2,13 +2,13 @@
 ghost use Rattle.std.specs.Prelude.{◌≡◌, Some, Result, Option};
 ghost use Rattle.fallible_iterator.specs.Source.{seen_as};
 ghost use Rattle.fallible_iterator.specs.Closures.{call_on, takes_on, call_at, takes_at};
-ghost use Rattle.fallible_iterator.specs.Passing.{PassTurn, unpacked};
+ghost use Rattle.fallible_iterator.specs.Passing.{PassTurn};
 ghost use Rattle.fallible_iterator.specs.Filtering.{filter_outcome, filter_source, filter_map_outcome, filter_map_source, skip_call, skip_takes, skip_while_outcome, skip_while_source};
 ghost use Rattle.fallible_iterator.specs.Parts.{filter_parts, filter_map_parts, skip_while_parts};
 ghost use Rattle.fallible_iterator.specs.Laws.Source.{lawful_seen};
 ghost use Rattle.fallible_iterator.specs.Laws.Filtering.{lawful_filter, lawful_filter_map, lawful_skip_while};
 
-use crate::folds::Exit;
+use crate::folds::unpack;
 use crate::traits::FallibleIterator;
 
 /// The items to which the predicate answers true. An item on which it fails is lost, and its failure is the answer.
@@ -168,21 +168,4 @@ where
     }
 
     ghost lawful = { lawful_seen skip_while_parts (lawful_skip_while P.FnMut I.lawful) };
-}
-
-// The closure and the answer that a fold hands back which stopped at an answer.
-pub(crate) fn unpack<F, T, E>(exit: Exit<F, E, (F, Result<T, E>)>) -> (F, Result<Option<T>, E>)
-    ensures { result ≡ unpacked exit }
-{
-    match exit {
-        Exit::Ended(f) => (f, Ok(None)),
-        Exit::Failed(f, e) => (f, Err(e)),
-        Exit::Stopped(stop) => {
-            let (f, answer) = stop;
-            match answer {
-                Ok(x) => (f, Ok(Some(x))),
-                Err(e) => (f, Err(e)),
-            }
-        }
-    }
 }

@@ -1,5 +1,6 @@
 // Folds that carry a value.
 ghost use Rattle.std.specs.Prelude.{◌≡◌, Result};
+ghost use Rattle.fallible_iterator.specs.Folds.{unpacked};
 
 /// How a fold ended that hands the value which it carried back at every exit: at the source's end, at a failure of the source, or where the closure stopped it.
 #[derive(Drop)]
@@ -29,6 +30,23 @@ impl<C, A, R, F: Fn(C, A) -> Result<C, R>> Turn<C, A, R> for F {
 
     fn turn(&self, carried: C, item: A) -> Result<C, R> {
         self(carried, item)
+    }
+}
+
+// What a fold that stops at an answer hands back at each exit: the value carried, and the answer.
+pub(crate) fn unpack<C, T, E>(exit: Exit<C, E, (C, Result<T, E>)>) -> (C, Result<Option<T>, E>)
+    ensures { result ≡ unpacked exit }
+{
+    match exit {
+        Exit::Ended(c) => (c, Ok(None)),
+        Exit::Failed(c, e) => (c, Err(e)),
+        Exit::Stopped(stop) => {
+            let (c, answer) = stop;
+            match answer {
+                Ok(x) => (c, Ok(Some(x))),
+                Err(e) => (c, Err(e)),
+            }
+        }
     }
 }
 

@@ -1,5 +1,5 @@
 -- The joined traces of inner iterators, answer by answer.
-use Rattle.std.specs.Prelude.{◌≡◌, ℕ, false, ◌+◌, ◌*◌, ◌≤◌, ◌<◌, List, [], ◌∷◌, ◌++◌, map, Option, Result, Some, None, Ok, Err}
+use Rattle.std.specs.Prelude.{◌≡◌, ◌≢◌, ℕ, false, ◌+◌, ◌*◌, ◌≤◌, ◌<◌, List, [], ◌∷◌, ◌++◌, map, Option, Result, Some, None, Ok, Err, IfSome}
 use Rattle.std.specs.List.{FoldsTo, flat_map}
 use Rattle.std.proofs.Common.{refl, sym, ◌∙◌, ap, subst, arith, inl, inr}
 use Rattle.std.proofs.lemmas.List.{append-nil}
@@ -7,11 +7,10 @@ use Rattle.std.proofs.Math.Nat.{mul-suc, mul-le-mul_left}
 use Rattle.fallible_iterator.specs.declared.folds.Exit.{Exit}
 use Rattle.fallible_iterator.specs.Traces.{Answered, Run, item, failure, end, is_end, NoEnd}
 use Rattle.fallible_iterator.specs.Source.{Source, OnAnswer, Goes, Stays, Lawful}
-use Rattle.fallible_iterator.specs.Folds.{HoldsAtEachTurn, carrying_turn, CarryingExit, Carried}
-use Rattle.fallible_iterator.specs.Passing.{stopped_answer, unpacked}
+use Rattle.fallible_iterator.specs.Folds.{HoldsAtEachTurn, carrying_turn, CarryingExit, Carried, stopped_answer, unpacked}
 use Rattle.fallible_iterator.specs.Laws.Definitions.{FirstOf, IsByAnswers}
 use Rattle.fallible_iterator.specs.Laws.Source.{no_more, given_after, goes_later}
-use Rattle.fallible_iterator.specs.Flattening.{BeginTurn, flatten_source, EachInHand, NumberInHand, SomeInner, EachInner, FlattenNumber, NonEmpty, Part, of_inner, of_failure, of_end, outer_answer, part_answers, Finished, FinishedPart, FinishedParts, LastPart, FinishedInHand, Joined, FlattenTrace, nothing_drawn, still_in_hand, outer_drawn}
+use Rattle.fallible_iterator.specs.Flattening.{BeginTurn, flatten_source, NumberInHand, SomeInner, EachInner, FlattenNumber, Part, of_inner, of_failure, of_end, outer_answer, part_answers, Finished, FinishedPart, FinishedParts, LastPart, FinishedInHand, Joined, FlattenTrace, nothing_drawn, still_in_hand, outer_drawn}
 
 module _ {S X C B E : Type 0} (outer : S → Answered X E → S → Type 0) (into : X → C → Type 0) (inner : C → Answered B E → C → Type 0) where
   -- the same as `FlattenTrace`, built from the first answer on
@@ -49,24 +48,24 @@ module _ {S X C B E : Type 0} (outer : S → Answered X E → S → Type 0) (int
     is : trace ≡ first ∷ others
     flattens : F s hand (first ∷ others) t hand'
 
-  nonempty : (trace : List (Answered B E)) (s t : S) (hand hand' : Option C) → NonEmpty trace → F s hand trace t hand' → Nonempty s hand trace t hand'
-  nonempty [] s t hand hand' some f = absurd some
+  nonempty : (trace : List (Answered B E)) (s t : S) (hand hand' : Option C) → trace ≢ [] → F s hand trace t hand' → Nonempty s hand trace t hand'
+  nonempty [] s t hand hand' some f = absurd (some refl)
   nonempty (r ∷ trace) s t hand hand' some f = record { first = r; others = trace; is = refl; flattens = f }
 
   -- one part, and what comes after it
   begin_with : (s u t : S) (c : C) (hand : Option C) (x : X) (trace : List (Answered B E)) → outer s (item x) u → into x c → Nonempty u (Some c) trace t hand → Nonempty s None trace t hand
   begin_with s u t c hand x trace step becomes n = record { first = n.first; others = n.others; is = n.is; flattens = begins x step becomes n.flattens }
 
-  some_after : (answers : List (Answered B E)) (r : Answered B E) (trace : List (Answered B E)) → NonEmpty (answers ++ r ∷ trace)
-  some_after [] r trace = tt
-  some_after (q ∷ answers) r trace = tt
+  some_after : (answers : List (Answered B E)) (r : Answered B E) (trace : List (Answered B E)) → (answers ++ r ∷ trace) ≢ []
+  some_after [] r trace = λ e. absurd cc
+  some_after (q ∷ answers) r trace = λ e. absurd cc
 
   after_finished : (s t : S) (c : C) (hand : Option C) (answers trace : List (Answered B E)) → Finished inner c answers → Nonempty s None trace t hand → Nonempty s (Some c) (answers ++ trace) t hand
   after_finished s t c hand answers trace f n = rw n.is (nonempty (answers ++ n.first ∷ n.others) s t (Some c) hand (some_after answers n.first n.others) (finished answers s t c f.left hand n.first n.others f.drawn f.no_end n.flattens))
 
   -- the last part
   from_last : (last : Part X C B E) (s t : S) (hand : Option C) → Run outer s (outer_answer last ∷ []) t → LastPart into inner last hand → Nonempty s None (part_answers last) t hand
-  from_last (of_inner x c answers) s t hand ran last = let u = last.1.1 in begin_with s t t c hand x answers (subst (λ (v : S). outer s (item x) v) ran.2 ran.1) last.0 (rw last.1.2 (nonempty answers t t (Some c) (Some last.1.0) u.some (unfinished answers t c last.1.0 u.drawn u.no_end)))
+  from_last (of_inner x c answers) s t hand ran last = let u = last.1.1 in begin_with s t t c hand x answers (subst (λ (v : S). outer s (item x) v) ran.2 ran.1) last.0 (rw last.1.2 (nonempty answers t t (Some c) (Some last.1.0) u.not_empty (unfinished answers t c last.1.0 u.drawn u.no_end)))
   from_last (of_failure e) s t hand ran last = record { first = failure e; others = []; is = refl; flattens = outer_fails e ran.1 (rw (ran.2, last) done) }
   from_last of_end s t hand ran last = record { first = end; others = []; is = refl; flattens = outer_ends ran.1 (rw (ran.2, last) done) }
 
@@ -111,8 +110,8 @@ module _ {S X C B E : Type 0} (outer : S → Answered X E → S → Type 0) (int
 
   -- one more answer of the inner iterator in hand
   more_in_hand : (s t : S) (c d : C) (hand hand' : Option C) (r : Answered B E) (trace : List (Answered B E)) → inner c r d → is_end r ≡ false → hand ≡ Some d → D s hand trace t hand' → D s (Some c) (r ∷ trace) t hand'
-  more_in_hand s t c d hand _ r _ step free e nothing_drawn = rw e (still_in_hand {trace = r ∷ []} (record { drawn = (d, step, refl); no_end = (free, tt); some = tt }))
-  more_in_hand s _ c d _ _ r trace step free e (still_in_hand {c = k} {d = l} u) = let same : k ≡ d = cc in still_in_hand {trace = r ∷ trace} (record { drawn = (d, step, rw (sym same) u.drawn); no_end = (free, u.no_end); some = tt })
+  more_in_hand s t c d hand _ r _ step free e nothing_drawn = rw e (still_in_hand {trace = r ∷ []} (record { drawn = (d, step, refl); no_end = (free, tt); not_empty = λ e. absurd cc }))
+  more_in_hand s _ c d _ _ r trace step free e (still_in_hand {c = k} {d = l} u) = let same : k ≡ d = cc in still_in_hand {trace = r ∷ trace} (record { drawn = (d, step, rw (sym same) u.drawn); no_end = (free, u.no_end); not_empty = λ e. absurd cc })
   more_in_hand s t c d hand hand' r trace step free e (outer_drawn j) = outer_drawn (joined_more s t c d hand' r trace step free (rw (sym e) j))
 
   none_in_hand : (hand : Option C) (answers : List (Answered B E)) → hand ≡ None → FinishedInHand inner hand answers → answers ≡ []
@@ -272,11 +271,11 @@ module _ {S X C B E : Type 0} (m : Source S X E) (l : Lawful m) (into : X → C 
   flattens_goes s _ _ _ _ can (outer_fails {u = u} e step done) = let g = l.goes s (failure e) u can.0 step in failure_goes (s, None) (u, None) e (inl g.answer.0) (outer_stays s u (failure e) can g)
   flattens_goes s _ _ _ _ can (outer_ends {u = u} step done) = end_goes (s, None) (u, None) (outer_stays s u end can (l.goes s end u can.0 step))
 
-  ends_in_hand : (hand : Option C) → EachInHand hand inner.has_end → (j : ℕ) × NumberInHand hand inner.to_come j
+  ends_in_hand : (hand : Option C) → IfSome hand inner.has_end → (j : ℕ) × NumberInHand hand inner.to_come j
   ends_in_hand (Some c) e = (k.ends c).0 e
   ends_in_hand None e = (0, refl)
 
-  number_ends : (hand : Option C) (j : ℕ) → NumberInHand hand inner.to_come j → EachInHand hand inner.has_end
+  number_ends : (hand : Option C) (j : ℕ) → NumberInHand hand inner.to_come j → IfSome hand inner.has_end
   number_ends (Some c) j is = (k.ends c).1 (j, is)
   number_ends None j is = tt
 
@@ -294,7 +293,7 @@ module _ {S X C B E : Type 0} (m : Source S X E) (l : Lawful m) (into : X → C 
 module _ {S X C B E : Type 0} {outer : S → Answered X E → S → Type 0} {into : X → C → Type 0} {inner : C → Answered B E → C → Type 0} where
   -- an answer, which is no end, of the inner iterator in hand
   pub flatten_in_hand : {s : S} {c d : C} {hand : Option C} (r : Answered B E) → hand ≡ Some c → inner c r d → is_end r ≡ false → FlattenTrace outer into inner s hand (r ∷ []) s (Some d)
-  flatten_in_hand {d = d} r e step free = rw e (still_in_hand {trace = r ∷ []} (record { drawn = (d, step, refl); no_end = (free, tt); some = tt }))
+  flatten_in_hand {d = d} r e step free = rw e (still_in_hand {trace = r ∷ []} (record { drawn = (d, step, refl); no_end = (free, tt); not_empty = λ e. absurd cc }))
 
   -- the inner iterator in hand ended first
   pub flatten_after_end : {s t : S} {c : C} {hand hand' : Option C} {r : Answered B E} (d : C) → hand ≡ Some c → inner c end d → FlattenTrace outer into inner s None (r ∷ []) t hand' → FlattenTrace outer into inner s hand (r ∷ []) t hand'

@@ -2,7 +2,7 @@
 use Rattle.std.specs.Prelude.{◌≡◌, List, [], ◌∷◌, ◌++◌, map, Result}
 use Rattle.std.specs.List.{FoldsTo}
 use Rattle.std.proofs.Common.{refl, sym, subst}
-use Rattle.fallible_iterator.specs.Traces.{Answered, Run, Yields, item}
+use Rattle.fallible_iterator.specs.Traces.{Answered, Yields, item}
 use Rattle.fallible_iterator.specs.Source.{Source, Stays, seen_as}
 use Rattle.fallible_iterator.specs.Folds.{HoldsAtEachTurn, Folded}
 
@@ -21,8 +21,10 @@ module _ {S P : Type 0} (view : S → P) (put : S → P → S) (viewed : (s : S)
   module _ {A E : Type 0} (m : Source P A E) {s : S} where
     -- what holds at each turn over the whole holds at each turn over the held value
     pub holds_held : {C : Type 0} {goes_on : C → A → C → Type 0} {Q : C → A → Type 0} {c : C} → HoldsAtEachTurn (seen_as view m).steps goes_on Q s c → HoldsAtEachTurn m.steps goes_on Q (view s) c
-    holds_held {c} h = record { at = λ items p q d x ran went step. let whole = yields_up m.steps items s p ran in let e = sym (viewed s q) in
-        h.at items whole.0 (put s q) d x whole.1 went (subst (λ (z : P). m.steps z (item x) (view (put s q))) (sym whole.2) (subst (λ (z : P). m.steps p (item x) z) e step)) }
+    holds_held {c} h = record {
+      at = λ items p q d x ran went step. let whole = yields_up m.steps items s p ran in let e = sym (viewed s q) in
+          h.at items whole.0 (put s q) d x whole.1 went (subst (λ (z : P). m.steps z (item x) (view (put s q))) (sym whole.2) (subst (λ (z : P). m.steps p (item x) z) e step));
+    }
 
     -- a fold over the held value is one over the whole
     pub folded_held : {B E' F : Type 0} {call : F → B → A → Result B E' → F → Type 0} {from : E → E' → Type 0} {t : S} {b : B} {f : F} {r : Result B E'} → Folded m.steps call from (view s) b f r (view t) → Folded (seen_as view m).steps call from s b f r t

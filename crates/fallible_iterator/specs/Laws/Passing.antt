@@ -9,9 +9,9 @@ use Rattle.fallible_iterator.specs.Closures.{Calls, Reaches, IsCallable}
 use Rattle.fallible_iterator.specs.Laws.Definitions.{FirstOf, IsByAnswers}
 use Rattle.fallible_iterator.specs.Laws.Source.{given_after, stays_run}
 use Rattle.fallible_iterator.specs.Laws.Closures.{reaches_here, reaches_weaken, reaches_then, reaches_from, callable_after}
-use Rattle.fallible_iterator.specs.Folds.{HoldsAtEachTurn, CarryingExit, Carried}
+use Rattle.fallible_iterator.specs.Folds.{HoldsAtEachTurn, CarryingExit, Carried, stopped_answer, unpacked}
 use Rattle.fallible_iterator.specs.Laws.Folds.{turns_map}
-use Rattle.fallible_iterator.specs.Passing.{PassTurn, stopped_answer, unpacked, Outcome, kept, left_out, failed, an_end, Place, asked, failure_at, end_at, source_answer, call_of, outcome_answer, answer_at, EndsKept, PassTrace, MayGive, passing}
+use Rattle.fallible_iterator.specs.Passing.{PassTurn, Outcome, kept, left_out, failed, an_end, Place, asked, failure_at, end_at, source_answer, call_of, outcome_answer, answer_at, EndsKept, PassTrace, MayGive, passing}
 
 module _ {S F X R B E : Type 0} (steps : S → Answered X E → S → Type 0) (call : F → X → R → F → Type 0) (outcome : X → R → Outcome B E) where
   -- the same as `PassTrace`, built from the first answer on

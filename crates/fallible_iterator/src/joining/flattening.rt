@@ -1,13 +1,13 @@
 // The adapters that join the answers of inner iterators.
-ghost use Rattle.std.specs.Prelude.{◌≡◌, ℕ, [], ◌∷◌, None, Ok, List, Option, Result};
+ghost use Rattle.std.specs.Prelude.{◌≡◌, ℕ, [], ◌∷◌, None, Ok, IfSome, List, Option, Result};
 ghost use Rattle.fallible_iterator.specs.Source.{seen_as};
-ghost use Rattle.fallible_iterator.specs.Flattening.{EachInHand, EachInner, FlattenTrace, flatten_source, BeginTurn};
+ghost use Rattle.fallible_iterator.specs.Flattening.{EachInner, FlattenTrace, flatten_source, BeginTurn};
 ghost use Rattle.fallible_iterator.specs.Parts.{map_parts, flatten_parts, flat_map_parts};
 ghost use Rattle.fallible_iterator.specs.Laws.Source.{lawful_seen};
 ghost use Rattle.fallible_iterator.specs.Laws.OneToOne.{lawful_map};
 ghost use Rattle.fallible_iterator.specs.Laws.Flattening.{lawful_flatten};
 
-use crate::filtering::unpack;
+use crate::folds::unpack;
 use crate::one_to_one::Map;
 use crate::traits::FallibleIterator;
 use crate::traits::conversion::IntoFallibleIterator;
@@ -83,7 +83,7 @@ fn next_joined<U: IntoFallibleIterator, O: FallibleIterator<Item = U, Error = U:
 ) -> Result<Option<U::Item>, U::Error>
 where
     requires can { O.source.can outer.old × O.source.has_end outer.old }
-    requires can_in_hand { EachInHand in_hand.old U.IntoFallibleIter.source.can }
+    requires can_in_hand { IfSome in_hand.old U.IntoFallibleIter.source.can }
     requires can_inner { EachInner O.source U.into_gives U.IntoFallibleIter.source U.IntoFallibleIter.source.can outer.old }
     ensures { FlattenTrace O.source.steps U.into_gives U.IntoFallibleIter.source.steps outer.old in_hand.old (result ∷ []) outer.new in_hand.new }
 {

@@ -3,8 +3,9 @@ use Rattle.std.proofs.Common.{◌≡◌, ℕ, ◌≤◌, Option, Some, None, [],
 use Rattle.fallible_iterator.specs.declared.sources.Once.{Once}
 use Rattle.fallible_iterator.specs.Traces.{Answered}
 use Rattle.fallible_iterator.specs.Source.{Source, Goes, Lawful, seen_as}
+use Rattle.std.specs.Prelude.{IfSome}
 use Rattle.fallible_iterator.specs.Sources.{once_source}
-use Rattle.fallible_iterator.specs.Flattening.{EachInner, EachInHand, flatten_source}
+use Rattle.fallible_iterator.specs.Flattening.{EachInner, flatten_source}
 use Rattle.fallible_iterator.specs.Laws.Source.{lawful_seen}
 use Rattle.fallible_iterator.specs.Laws.Sources.{lawful_once}
 use Rattle.fallible_iterator.specs.Laws.Flattening.{lawful_flatten}
@@ -17,8 +18,8 @@ module _ {U C B E : Type 0} (into : U → C → Type 0) (inner : Source C B E) (
   abbrev M : Source (Once U E × Option C) B E
   M = flatten_source O into inner
 
-  none_in_hand : (P : C → Type 0) (hand : Option C) → hand ≡ None → EachInHand hand P
-  none_in_hand P hand e = subst (λ (o : Option C). EachInHand o P) (sym e) tt
+  none_in_hand : (P : C → Type 0) (hand : Option C) → hand ≡ None → IfSome hand P
+  none_in_hand P hand e = subst (λ (o : Option C). IfSome o P) (sym e) tt
 
   each : (P : C → Type 0) (s : Once U E) → s.value ≡ Some x → ((c : C) → into x c → P c) → EachInner O into inner P s
   each P s value h = record { at = λ y c given becomes. let same : y ≡ x = cc in h c (subst (λ (z : U). into z c) same becomes) }
