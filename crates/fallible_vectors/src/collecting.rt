@@ -150,6 +150,19 @@ impl Collect<u32> for Hungry {
     }
 }
 
+// The gate meets every request, and `rt try --test --fail-alloc N` refuses the N-th: the one that the `Vec` makes for its first item is its only one.
+#[test]
+fn collect_into_a_vec_whose_request_may_be_refused(rt: HostRuntime) -> Result<(), Fail> {
+    let mut it = listed::<u32, u32, 3>(rt.alloc(), [Ok(1), Ok(2), Ok(3)])?;
+    let made: Result<Vec<u32>, Fault<u32>> = it.by_ref().collect(rt.alloc());
+    match made {
+        Ok(items) => assert_eq!(rt; items.as_slice(), [1, 2, 3].as_slice()),
+        Err(Fault::Memory(_)) => assert_eq!(rt; it.next(), Ok(Some(2))),
+        Err(Fault::Source(_)) => assert!(rt; false),
+    }
+    Ok(())
+}
+
 #[test]
 fn collect_refused_memory_leaves_the_rest(rt: HostRuntime) -> Result<(), Fail> {
     let mut it = listed::<u32, u32, 3>(rt.alloc(), [Ok(1), Ok(2), Ok(3)])?;
