@@ -50,7 +50,7 @@ pub(crate) fn unpack<C, T, E>(exit: Exit<C, E, (C, Result<T, E>)>) -> (C, Result
     }
 }
 
-/// Held by every type of itself: `T` is another name of `Self`. A method that may be overridden takes its closure's item by such a name.
+/// Held by every type of itself alone, so that `T` is `Self` by another name. `try_fold` and `fold` take their closure's item by such a name: so a type may override them whose item is a concrete type.
 pub trait Is<T> {
     // The value under the other name.
     ghost as_is: { Self → T };

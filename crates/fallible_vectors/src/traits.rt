@@ -1,4 +1,6 @@
 // The trait's own methods.
+ghost use Rattle.std.specs.Prelude.{◌≡◌, Ok};
+
 use crate::listed::listed;
 use fallible_iterator::laws::{Answer, answers};
 use fallible_iterator::{FallibleIterator, convert, once, once_err};
@@ -39,6 +41,23 @@ fn fold_sums(rt: HostRuntime) -> Result<(), Fail> {
     let it = listed::<u32, u32, 4>(rt.alloc(), [Ok(0), Ok(1), Ok(2), Ok(1)])?;
     assert_eq!(rt; it.fold(0, checked_sum), Ok(4));
     Ok(())
+}
+
+// The contract alone says what a fold answers: here the closure's answer on the one item.
+fn folded_once(x: u32) -> Result<u32, u32>
+    ensures { result ≡ Ok x }
+{
+    once::<u32, u32>(x).fold(
+        0,
+        |_sum: u32, y: u32| -> Result<u32, u32>
+            ensures { result ≡ Ok y }
+        { Ok(y) },
+    )
+}
+
+#[test]
+fn fold_of_one_item(rt: HostRuntime) {
+    assert_eq!(rt; folded_once(5), Ok(5));
 }
 
 #[test]
