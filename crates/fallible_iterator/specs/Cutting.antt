@@ -3,21 +3,11 @@ use Rattle.std.specs.Prelude.{◌≡◌, ℕ, zero, suc, ◌+◌, ◌≤◌, ◌
 use Rattle.std.specs.List.{filter_map}
 use Rattle.std.specs.Fn.{Mut}
 use Rattle.std.specs.Borrow.{Bor}
-use Rattle.fallible_iterator.specs.Traces.{Answered, Run, item, failure, end, is_end}
+use Rattle.fallible_iterator.specs.Traces.{Answered, Run, item, failure, end, is_end, items_in}
 use Rattle.fallible_iterator.specs.Source.{Source}
 use Rattle.fallible_iterator.specs.Closures.{Calls, InSlots, call_at, takes_at}
 use Rattle.fallible_iterator.specs.Passing.{Place, asked, failure_at, end_at, source_answer, call_of, passing}
 use Rattle.fallible_iterator.specs.Filtering.{filter_outcome, upper_alone}
-
--- the item that an answer is, if it is one
-abbrev pub item_of : {A E : Type 0} → Answered A E → Option A
-item_of (Ok (Some x)) = Some x
-item_of (Ok None) = None
-item_of (Err e) = None
-
--- how many answers of a trace are items
-abbrev pub item_count : {A E : Type 0} → List (Answered A E) → ℕ
-item_count trace = length (filter_map item_of trace)
 
 -- the contract of an adapter that steps and hints in its own way, and of which all else is said as of its source
 abbrev pub with_steps : {S C A E : Type 0} → Source S A E → (S × C → Answered A E → S × C → Type 0) → (S × C → ℕ × Option ℕ → Type 0) → Source (S × C) A E
@@ -40,15 +30,15 @@ pub record TakeTrace {S A E : Type 0} (steps : S → Answered A E → S → Type
   pub ends : ℕ
   pub drawn : Run steps s source_trace t
   pub answers : trace ≡ source_trace ++ replicate ends end
-  pub fronts : (front : List (Answered A E)) (r : Answered A E) (rest : List (Answered A E)) → source_trace ≡ front ++ r ∷ rest → item_count front < n
-  pub at_most : item_count source_trace ≤ n
-  pub over : 0 < ends → item_count source_trace ≡ n
-  pub remaining : left + item_count source_trace ≡ n
+  pub fronts : (front : List (Answered A E)) (r : Answered A E) (rest : List (Answered A E)) → source_trace ≡ front ++ r ∷ rest → items_in front < n
+  pub at_most : items_in source_trace ≤ n
+  pub over : 0 < ends → items_in source_trace ≡ n
+  pub remaining : left + items_in source_trace ≡ n
 
 -- One answer: an end without a draw where nothing is left to take, and else the source's answer, of which an item leaves one less.
 abbrev pub take_step : {S A E : Type 0} → (S → Answered A E → S → Type 0) → S × ℕ → Answered A E → S × ℕ → Type 0
 take_step steps (s, zero) r (t, left) = (r ≡ end) × (t ≡ s) × (left ≡ 0)
-take_step steps (s, suc n) r (t, left) = steps s r t × (left + item_count (r ∷ []) ≡ suc n)
+take_step steps (s, suc n) r (t, left) = steps s r t × (left + items_in (r ∷ []) ≡ suc n)
 
 -- the smaller of each bound and n
 abbrev pub hint_up_to : ℕ → ℕ × Option ℕ → ℕ × Option ℕ

@@ -3,16 +3,13 @@ use Rattle.std.specs.Prelude.{◌≡◌, ℕ, zero, suc, ◌-◌, ◌^◌, List,
 use Rattle.std.specs.Iterator.{endless}
 use Rattle.std.specs.declared.alloc.AllocError.{AllocError}
 use Rattle.fallible_iterator.specs.Traces.{Answered, Run, failure, end, is_end, NoEnd}
-use Rattle.fallible_iterator.specs.Source.{Source, BoundsItems}
+use Rattle.fallible_iterator.specs.Source.{Source, ToCome}
+use Rattle.fallible_iterator.specs.Sources.{RefusedAs}
 
 -- The greatest lower bound and no upper one where the kept source has an item for certain, and else nothing.
 abbrev pub cycle_hint : ℕ × Option ℕ → ℕ × Option ℕ
 cycle_hint (zero, high) = (0, None)
 cycle_hint (suc low, high) = (2 ^ 64 - 1, None)
-
--- a clone of k may be refused, and e is the failure made of the refusal
-abbrev pub RefusedAs : {S E : Type 0} → (S → Type 0) → (AllocError → E → Type 0) → S → E → Type 0
-RefusedAs is_infallible from k e = ¬ (is_infallible k) × ((a : AllocError) × from a e)
 
 module _ {S A E : Type 0} (is_clone : S → S → Type 0) (is_infallible : S → Type 0) (from : AllocError → E → Type 0) where
   module _ (steps : S → Answered A E → S → Type 0) where
@@ -36,8 +33,8 @@ module _ {S A E : Type 0} (is_clone : S → S → Type 0) (is_infallible : S →
   cycle_source m = record {
     can = λ p. m.can p.0 × ((c : S) → is_clone p.1 c → m.can c);
     steps = cycle_step m.steps;
-    to_come = BoundsItems (cycle_step m.steps);
-    has_end = λ p. (n : ℕ) × BoundsItems (cycle_step m.steps) p n;
+    to_come = ToCome (cycle_step m.steps);
+    has_end = λ p. (n : ℕ) × ToCome (cycle_step m.steps) p n;
     elements = λ _. endless;
     gives = λ p x. m.gives p.0 x ⊎ ((c : S) × is_clone p.1 c × m.gives c x);
     fails = λ p e. m.fails p.0 e ⊎ ((c : S) × is_clone p.1 c × m.fails c e) ⊎ RefusedAs is_infallible from p.1 e;

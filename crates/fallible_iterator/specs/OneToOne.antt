@@ -6,6 +6,7 @@ use Rattle.std.specs.declared.alloc.AllocError.{AllocError}
 use Rattle.fallible_iterator.specs.Traces.{Answered}
 use Rattle.fallible_iterator.specs.Source.{Source}
 use Rattle.fallible_iterator.specs.Closures.{call_on, takes_on, call_at, takes_at}
+use Rattle.fallible_iterator.specs.Sources.{RefusedAs}
 use Rattle.fallible_iterator.specs.Filtering.{upper_alone}
 use Rattle.fallible_iterator.specs.Passing.{Outcome, kept, failed, an_end, PassTrace, passing}
 
@@ -61,7 +62,7 @@ module _ {T E : Type 0} (is_clone : T → T → Type 0) (is_infallible : T → T
   -- the item's clone, or, where that may be refused, the failure made of the refusal
   abbrev pub cloned_call : Unit {0} → Bor T → Result T E → Unit {0} → Type 0
   cloned_call u x (Ok y) v = is_clone x.now y
-  cloned_call u x (Err e) v = ¬ (is_infallible x.now) × ((a : AllocError) × from a e)
+  cloned_call u x (Err e) v = RefusedAs is_infallible from x.now e
 
   -- `Cloned`: the source's trace, where each item is replaced by a clone of what it points to, or by the failure made of the refusal.
   abbrev pub ClonedTrace : {S : Type 0} → (S → Answered (Bor T) E → S → Type 0) → S → Unit {0} → List (Answered T E) → S → Unit {0} → Type 0

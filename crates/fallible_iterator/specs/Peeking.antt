@@ -3,10 +3,9 @@ use Rattle.std.specs.Prelude.{◌≡◌, ℕ, ◌+◌, ◌-◌, ◌^◌, ◌≤�
 use Rattle.std.specs.Iterator.{endless}
 use Rattle.std.specs.Fn.{Shared, FnReturnsAt}
 use Rattle.std.specs.Borrow.{Bor}
-use Rattle.fallible_iterator.specs.Traces.{Answered, Run, item, failure, end}
+use Rattle.fallible_iterator.specs.Traces.{Answered, Run, item, failure, end, item_of}
 use Rattle.fallible_iterator.specs.Source.{Source}
 use Rattle.fallible_iterator.specs.Sources.{held_answer, held_count}
-use Rattle.fallible_iterator.specs.Cutting.{item_of}
 
 -- What `Peekable` answers where there is an answer: the held item, if there is one, and then the source's trace. Nothing is held afterwards.
 pub record PeekableAnswers {S A E : Type 0} (steps : S → Answered A E → S → Type 0) (s : S) (held : Option A) (trace : List (Answered A E)) (t : S) (held' : Option A) : Type 0 where

@@ -4,7 +4,7 @@ use Rattle.std.specs.Iterator.{Count, IsFinite, size, endless}
 use Rattle.fallible_iterator.specs.Traces.{Answered, Run, items_in}
 
 -- No run from s has more than n items. It is the number to come of a type that states no other.
-pub record BoundsItems {S A E : Type 0} (steps : S → Answered A E → S → Type 0) (s : S) (n : ℕ) : Type 0 where
+pub record ToCome {S A E : Type 0} (steps : S → Answered A E → S → Type 0) (s : S) (n : ℕ) : Type 0 where
   pub at : (trace : List (Answered A E)) (t : S) → Run steps s trace t → items_in trace ≤ n
 
 -- All that the trait's contract says of a type S of fallible iterators over items A and failures E.
@@ -97,8 +97,8 @@ abbrev pub unbounded : {S A E : Type 0} → (S → Answered A E → S → Type 0
 unbounded steps = record {
   can = λ _. ⊤;
   steps = steps;
-  to_come = BoundsItems steps;
-  has_end = λ s. (n : ℕ) × BoundsItems steps s n;
+  to_come = ToCome steps;
+  has_end = λ s. (n : ℕ) × ToCome steps s n;
   elements = λ _. endless;
   gives = λ _ _. ⊤;
   fails = λ _ _. ⊤;

@@ -8,7 +8,7 @@ use Rattle.std.specs.declared.alloc.AllocError.{AllocError}
 use Rattle.std.specs.declared.convert.Infallible.{Infallible}
 use Rattle.fallible_iterator.specs.Closures.{Reaches, IsCallable}
 use Rattle.fallible_iterator.specs.Traces.{Answered, Run, item, failure, end}
-use Rattle.fallible_iterator.specs.Source.{Source, BoundsItems}
+use Rattle.fallible_iterator.specs.Source.{Source, ToCome}
 
 -- The std iterator's answer that an answer comes from: an element for an item or a failure, none for an end.
 abbrev pub element_by : {A E Z : Type 0} → (A → Z) → (E → Z) → Answered A E → Option Z
@@ -135,8 +135,8 @@ module _ {F A E : Type 0} (g : Mut F (Unit {0}) (Answered A E)) where
   from_fn_source = record {
     can = λ f. IsCallable (call_of_none g) (λ p _. g.pre p tt) (λ _. ⊤) f;
     steps = λ f r h. Called g f tt r h;
-    to_come = BoundsItems (λ p r q. Called g p tt r q);
-    has_end = λ f. (n : ℕ) × BoundsItems (λ p r q. Called g p tt r q) f n;
+    to_come = ToCome (λ p r q. Called g p tt r q);
+    has_end = λ f. (n : ℕ) × ToCome (λ p r q. Called g p tt r q) f n;
     elements = λ _. endless;
     gives = λ f x. Answers f (item x);
     fails = λ f e. Answers f (failure e);
@@ -161,12 +161,16 @@ empty_source = record {
   hints = λ _ h. h ≡ (0, Some 0);
 }
 
+-- a clone of k may be refused, and e is the failure made of the refusal
+abbrev pub RefusedAs : {S E : Type 0} → (S → Type 0) → (AllocError → E → Type 0) → S → E → Type 0
+RefusedAs is_infallible from k e = ¬ (is_infallible k) × ((a : AllocError) × from a e)
+
 module _ {A E : Type 0} (is_clone : A → A → Type 0) (is_infallible : A → Type 0) (from : AllocError → E → Type 0) where
   -- one answer of `Repeat`
   abbrev pub RepeatAnswer : A → Answered A E → Type 0
   RepeatAnswer v (Ok (Some x)) = is_clone v x
   RepeatAnswer v (Ok None) = ⊥
-  RepeatAnswer v (Err e) = ¬ (is_infallible v) × ((a : AllocError) × from a e)
+  RepeatAnswer v (Err e) = RefusedAs is_infallible from v e
 
   -- `Repeat`: always a clone, or, where the clone is refused, the failure made of the refusal.
   abbrev pub RepeatTrace : A → List (Answered A E) → A → Type 0
@@ -176,8 +180,8 @@ module _ {A E : Type 0} (is_clone : A → A → Type 0) (is_infallible : A → T
   repeat_source = record {
     can = λ _. ⊤;
     steps = λ v r w. RepeatAnswer v r × (w ≡ v);
-    to_come = BoundsItems (λ u r w. RepeatAnswer u r × (w ≡ u));
-    has_end = λ v. (n : ℕ) × BoundsItems (λ u r w. RepeatAnswer u r × (w ≡ u)) v n;
+    to_come = ToCome (λ u r w. RepeatAnswer u r × (w ≡ u));
+    has_end = λ v. (n : ℕ) × ToCome (λ u r w. RepeatAnswer u r × (w ≡ u)) v n;
     elements = λ _. endless;
     gives = λ v x. RepeatAnswer v (item x);
     fails = λ v e. RepeatAnswer v (failure e);
@@ -188,7 +192,7 @@ module _ {A E : Type 0} (is_clone : E → E → Type 0) (is_infallible : E → T
   -- one answer of `RepeatErr`
   abbrev pub RepeatErrAnswer : E → Answered A E → Type 0
   RepeatErrAnswer v (Ok x) = ⊥
-  RepeatErrAnswer v (Err e) = is_clone v e ⊎ (¬ (is_infallible v) × ((a : AllocError) × from a e))
+  RepeatErrAnswer v (Err e) = is_clone v e ⊎ RefusedAs is_infallible from v e
 
   -- `RepeatErr`: always a failure with a clone, or, where the clone is refused, the failure made of the refusal.
   abbrev pub RepeatErrTrace : E → List (Answered A E) → E → Type 0

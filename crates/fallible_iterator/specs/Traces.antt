@@ -35,6 +35,12 @@ Run steps s trace t = FoldsTo steps s trace t
 abbrev pub Yields : {S A E : Type 0} → (S → Answered A E → S → Type 0) → S → List A → S → Type 0
 Yields steps s xs t = FoldsTo (λ u x v. steps u (item x) v) s xs t
 
+-- the item that an answer is, if it is one
+abbrev pub item_of : {A E : Type 0} → Answered A E → Option A
+item_of (Ok (Some x)) = Some x
+item_of (Ok None) = None
+item_of (Err e) = None
+
 -- how many items a trace has
 abbrev pub items_in : {A E : Type 0} → List (Answered A E) → ℕ
 items_in [] = 0

@@ -1,11 +1,10 @@
 -- `Peekable`: its contract is lawful, and its runs are the traces that its definition names.
 use Rattle.std.specs.Prelude.{◌≡◌, ◌+◌, List, [], ◌∷◌, ◌++◌, Option, Result, MatchResult, option_copied, Some, None, Ok, Err, Bool, true, false, ◌↔◌}
 use Rattle.std.proofs.Common.{refl, sym, ap, subst, arith, inl, inr}
-use Rattle.fallible_iterator.specs.Traces.{Answered, Run, item, end}
+use Rattle.fallible_iterator.specs.Traces.{Answered, Run, item, end, item_of}
 use Rattle.fallible_iterator.specs.Source.{Source, OnAnswer, Goes, Stays, Lawful}
 use Rattle.fallible_iterator.specs.Sources.{held_answer, held_count}
 use Rattle.fallible_iterator.specs.Peeking.{PeekableTrace, peekable_step, peekable_source, seen, told, Fills, Peeks, NextIf}
-use Rattle.fallible_iterator.specs.Cutting.{item_of}
 use Rattle.std.specs.Borrow.{Bor}
 use Rattle.fallible_iterator.specs.Laws.Source.{stays_after, stays_here}
 

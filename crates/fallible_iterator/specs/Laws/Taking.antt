@@ -1,9 +1,9 @@
 -- `Take`: its contract is lawful, and its runs are the traces that its definition names.
 use Rattle.std.specs.Prelude.{◌≡◌, ℕ, zero, suc, ◌+◌, ◌<◌, List, [], ◌∷◌, ◌++◌, replicate, Some, None, Ok, Err, ◌↔◌}
 use Rattle.std.proofs.Common.{refl, ap, arith, inl, inr}
-use Rattle.fallible_iterator.specs.Traces.{Answered, Run, end}
+use Rattle.fallible_iterator.specs.Traces.{Answered, Run, end, items_in}
 use Rattle.fallible_iterator.specs.Source.{Source, OnAnswer, Goes, Lawful}
-use Rattle.fallible_iterator.specs.Cutting.{item_count, TakeTrace, take_step, take_source}
+use Rattle.fallible_iterator.specs.Cutting.{TakeTrace, take_step, take_source}
 
 module _ {S A E : Type 0} (m : Source S A E) where
   abbrev T : Source (S × ℕ) A E
@@ -12,7 +12,7 @@ module _ {S A E : Type 0} (m : Source S A E) where
   take_over : (s : S) → m.can s → Goes T (s, zero) end (s, zero)
   take_over s c = record { can = c; has_end = λ e. e; answer = ((λ n b. (n, b, omega arith)), (λ f. (f, omega arith))); gives = λ x p. p; fails = λ e p. p }
 
-  take_answer : (s t : S) (r : Answered A E) (n k : ℕ) → k + item_count (r ∷ []) ≡ suc n → OnAnswer m s r t → OnAnswer T (s, suc n) r (t, k)
+  take_answer : (s t : S) (r : Answered A E) (n k : ℕ) → k + items_in (r ∷ []) ≡ suc n → OnAnswer m s r t → OnAnswer T (s, suc n) r (t, k)
   take_answer s t (Ok (Some x)) n k e a = (a.0, (λ j b. elim b [ inl h ↦ (k, inl (omega arith), omega (arith, e, h)) | inr h ↦ let i = a.1 j h in (i.0, inr i.1, i.2) ]), a.2)
   take_answer s t (Ok None) n k e a = ((λ j b. elim b [ inl h ↦ (k, inl (omega arith), omega (arith, e, h)) | inr h ↦ let i = a.0 j h in (i.0, inr i.1, i.2) ]), a.1)
   take_answer s t (Err d) n k e a = (a.0, (λ j b. elim b [ inl h ↦ (k, inl (omega arith), omega (arith, e, h)) | inr h ↦ let i = a.1 j h in (i.0, inr i.1, i.2) ]), a.2)
@@ -27,29 +27,29 @@ lawful_take {m = m} l = record { goes = goes_take m l; ends = λ p. ((λ e. (p.1
 -- ---- runs
 
 module _ {A E : Type 0} where
-  count_first : (r : Answered A E) (rest : List (Answered A E)) → item_count (r ∷ rest) ≡ item_count (r ∷ []) + item_count rest
+  count_first : (r : Answered A E) (rest : List (Answered A E)) → items_in (r ∷ rest) ≡ items_in (r ∷ []) + items_in rest
   count_first (Ok (Some x)) rest = omega arith
   count_first (Ok None) rest = omega arith
   count_first (Err e) rest = omega arith
 
   -- every shorter front of a trace has fewer than n items
   abbrev Fronts : List (Answered A E) → ℕ → Type 0
-  Fronts trace n = (front : List (Answered A E)) (r : Answered A E) (rest : List (Answered A E)) → trace ≡ front ++ r ∷ rest → item_count front < n
+  Fronts trace n = (front : List (Answered A E)) (r : Answered A E) (rest : List (Answered A E)) → trace ≡ front ++ r ∷ rest → items_in front < n
 
   no_fronts : (n : ℕ) → Fronts [] n
   no_fronts n [] r rest e = absurd cc
   no_fronts n (x ∷ front) r rest e = absurd cc
 
-  fronts_first : (r : Answered A E) (trace : List (Answered A E)) (n j : ℕ) → j + item_count (r ∷ []) ≡ suc n → Fronts trace j → Fronts (r ∷ trace) (suc n)
+  fronts_first : (r : Answered A E) (trace : List (Answered A E)) (n j : ℕ) → j + items_in (r ∷ []) ≡ suc n → Fronts trace j → Fronts (r ∷ trace) (suc n)
   fronts_first r trace n j c h [] q rest e = omega arith
   fronts_first r trace n j c h (x ∷ front) q rest e = let below = h front q rest cc in let same : x ≡ r = cc in rw same (omega (arith, count_first r front, below, c))
 
-  fronts_rest : (r : Answered A E) (trace : List (Answered A E)) (n j : ℕ) → j + item_count (r ∷ []) ≡ n → Fronts (r ∷ trace) n → Fronts trace j
+  fronts_rest : (r : Answered A E) (trace : List (Answered A E)) (n j : ℕ) → j + items_in (r ∷ []) ≡ n → Fronts (r ∷ trace) n → Fronts trace j
   fronts_rest r trace n j c h front q rest e = let below = h (r ∷ front) q rest (ap {B = List (Answered A E)} (λ l. r ∷ l) e) in omega (arith, count_first r front, below, c)
 
 module _ {S A E : Type 0} (steps : S → Answered A E → S → Type 0) where
   -- an end without a draw more, where nothing is left to take
-  take_over_more : (source : List (Answered A E)) (ends : ℕ) (s : S) (rest : List (Answered A E)) (t : S) (k : ℕ) → Run steps s source t → rest ≡ source ++ replicate ends end → Fronts source 0 → k + item_count source ≡ 0 → TakeTrace steps s 0 (end ∷ rest) t k
+  take_over_more : (source : List (Answered A E)) (ends : ℕ) (s : S) (rest : List (Answered A E)) (t : S) (k : ℕ) → Run steps s source t → rest ≡ source ++ replicate ends end → Fronts source 0 → k + items_in source ≡ 0 → TakeTrace steps s 0 (end ∷ rest) t k
   take_over_more [] ends s rest t k ran e fronts c = record { source_trace = []; ends = suc ends; drawn = ran; answers = ap {B = List (Answered A E)} (λ l. end ∷ l) e; fronts = no_fronts 0; at_most = omega arith; over = λ h. refl; remaining = c }
   take_over_more (r ∷ source) ends s rest t k ran e fronts c = absurd (let h = fronts [] r source refl in omega (arith, h))
 
@@ -75,12 +75,12 @@ module _ {S A E : Type 0} (steps : S → Answered A E → S → Type 0) where
   only_ends zero s n t k e c over = rw (e, c) refl
   only_ends (suc ends) s n t k e c over = let none : n ≡ 0 = over (omega arith) in rw (c, none, ← e) (run_over (suc ends) s)
 
-  from_trace : (source : List (Answered A E)) (ends : ℕ) (s : S) (n : ℕ) (t : S) (k : ℕ) → Run steps s source t → Fronts source n → (0 < ends → item_count source ≡ n) → k + item_count source ≡ n → Run (take_step steps) (s, n) (source ++ replicate ends end) (t, k)
+  from_trace : (source : List (Answered A E)) (ends : ℕ) (s : S) (n : ℕ) (t : S) (k : ℕ) → Run steps s source t → Fronts source n → (0 < ends → items_in source ≡ n) → k + items_in source ≡ n → Run (take_step steps) (s, n) (source ++ replicate ends end) (t, k)
   from_trace [] ends s n t k ran fronts over c = only_ends ends s n t k ran (omega (arith, c)) (λ some. let none = over some in omega (arith, none))
   from_trace (r ∷ source) ends s zero t k ran fronts over c = absurd (let h = fronts [] r source refl in omega (arith, h))
   from_trace (r ∷ source) ends s (suc n) t k ran fronts over c =
-      let j : ℕ = k + item_count source in
-      let here : j + item_count (r ∷ []) ≡ suc n = omega (arith, count_first r source, c) in
+      let j : ℕ = k + items_in source in
+      let here : j + items_in (r ∷ []) ≡ suc n = omega (arith, count_first r source, c) in
       ((ran.0, j), (ran.1, here), from_trace source ends ran.0 j t k ran.2 (fronts_rest r source (suc n) j here fronts) (λ some. let all = over some in omega (arith, count_first r source, all, here)) refl)
 
   pub take_law : (s : S) (n : ℕ) (trace : List (Answered A E)) (t : S) (k : ℕ) → Run (take_step steps) (s, n) trace (t, k) ↔ TakeTrace steps s n trace t k

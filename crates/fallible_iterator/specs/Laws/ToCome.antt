@@ -2,7 +2,7 @@
 use Rattle.std.specs.Prelude.{ℕ, ◌-◌, ◌≤◌, ◌<◌, List, [], ◌∷◌, Some, None, Ok, Err}
 use Rattle.std.proofs.Common.{refl, arith}
 use Rattle.fallible_iterator.specs.Traces.{Answered, Run, item, end, items_in}
-use Rattle.fallible_iterator.specs.Source.{Source, OnAnswer, Lawful, BoundsItems}
+use Rattle.fallible_iterator.specs.Source.{Source, OnAnswer, Lawful, ToCome}
 use Rattle.fallible_iterator.specs.Laws.Source.{no_more}
 
 module _ {S A E : Type 0} {m : Source S A E} (l : Lawful m) where
@@ -16,15 +16,15 @@ module _ {S A E : Type 0} {m : Source S A E} (l : Lawful m) where
 
 module _ {S A E : Type 0} {steps : S → Answered A E → S → Type 0} where
   -- an item lowers it
-  pub bounds_fewer : {s t : S} {n : ℕ} (x : A) → steps s (item x) t → BoundsItems steps s n → (k : ℕ) × BoundsItems steps t k × (k < n)
+  pub bounds_fewer : {s t : S} {n : ℕ} (x : A) → steps s (item x) t → ToCome steps s n → (k : ℕ) × ToCome steps t k × (k < n)
   bounds_fewer {s} {t} {n} x step b = let one = b.at (item x ∷ []) t (t, step, refl) in
       (n - 1, record { at = λ trace u ran. let more = b.at (item x ∷ trace) u (t, step, ran) in omega (arith, more) }, omega (arith, one))
 
   -- a failure and an end leave it
-  pub bounds_failure : {s t : S} {n : ℕ} (e : E) → steps s (Err e) t → BoundsItems steps s n → (k : ℕ) × BoundsItems steps t k × (k ≤ n)
+  pub bounds_failure : {s t : S} {n : ℕ} (e : E) → steps s (Err e) t → ToCome steps s n → (k : ℕ) × ToCome steps t k × (k ≤ n)
   bounds_failure {s} {t} {n} e step b = (n, record { at = λ trace u ran. b.at (Err e ∷ trace) u (t, step, ran) }, omega arith)
 
-  pub bounds_end : {s t : S} {n : ℕ} → steps s (Ok None) t → BoundsItems steps s n → (k : ℕ) × BoundsItems steps t k × (k ≤ n)
+  pub bounds_end : {s t : S} {n : ℕ} → steps s (Ok None) t → ToCome steps s n → (k : ℕ) × ToCome steps t k × (k ≤ n)
   bounds_end {s} {t} {n} step b = (n, record { at = λ trace u ran. b.at (Ok None ∷ trace) u (t, step, ran) }, omega arith)
 
 -- so a number stays where there is one
