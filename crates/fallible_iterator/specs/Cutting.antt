@@ -1,5 +1,5 @@
 -- Adapters that cut a trace off: what they answer is what the source answers, and then ends without draws.
-use Rattle.std.specs.Prelude.{◌≡◌, ℕ, zero, suc, ◌+◌, ◌≤◌, ◌<◌, min, length, List, [], ◌∷◌, ◌++◌, map, replicate, Option, Result, Some, None, Ok, Err, Bool, true, false, ⊤, ◌⊎◌, ◌↔◌, option_map}
+use Rattle.std.specs.Prelude.{◌≡◌, ℕ, zero, suc, ◌+◌, ◌≤◌, ◌<◌, min, List, [], ◌∷◌, ◌++◌, map, replicate, Option, Result, Some, Ok, Err, Bool, true, false, ⊤, ◌⊎◌, ◌↔◌, option_map}
 use Rattle.std.specs.List.{filter_map}
 use Rattle.std.specs.Fn.{Mut}
 use Rattle.std.specs.Borrow.{Bor}

@@ -1,4 +1,4 @@
-// Collections that are made of items.
+//! Collections that are made of items.
 ghost use Rattle.std.specs.Prelude.{◌≡◌, ℕ, ◌≤◌, List, [], ◌∷◌, ◌++◌, MatchResult, vec_len, vec_capacity};
 
 use std::alloc::{AllocError, Global};
@@ -26,7 +26,9 @@ pub trait Collect<T>: Drop + Sized {
 /// Why a collection was not made: the source failed, or memory was refused.
 #[derive(Debug, Drop)]
 pub enum Fault<E> {
+    /// the first failure of the source or of a closure
     Source(E),
+    /// making the collection or adding an item was refused
     Memory(AllocError),
 }
 
@@ -35,6 +37,7 @@ impl<E> From<E> for Fault<E> {
 
     ghost from_gives = { λ e fault. fault ≡ Source e };
 
+    /// `Fault::Source`
     fn from(error: E) -> Fault<E> {
         Fault::Source(error)
     }

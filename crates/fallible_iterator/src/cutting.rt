@@ -1,4 +1,4 @@
-// Adapters that cut a trace off.
+//! Adapters that cut a trace off.
 mod fusing;
 mod skipping;
 mod stepping;

@@ -1,4 +1,4 @@
-// Adapters that leave items out.
+//! Adapters that leave items out.
 ghost use Rattle.std.specs.Prelude.{◌≡◌, Some, Result, Option};
 ghost use Rattle.fallible_iterator.specs.Source.{seen_as};
 ghost use Rattle.fallible_iterator.specs.Closures.{call_on, takes_on, call_at, takes_at};

@@ -1,12 +1,15 @@
-// Folds that carry a value.
+//! Folds that carry a value.
 ghost use Rattle.std.specs.Prelude.{◌≡◌, Result};
 ghost use Rattle.fallible_iterator.specs.Folds.{unpacked};
 
 /// How a fold ended that hands the value which it carried back at every exit: at the source's end, at a failure of the source, or where the closure stopped it.
 #[derive(Drop)]
 pub enum Exit<C, E, R> {
+    /// the source's end
     Ended(C),
+    /// the source's failure
     Failed(C, E),
+    /// what the turn stopped with
     Stopped(R),
 }
 
@@ -18,6 +21,7 @@ pub trait Turn<C, A, R> {
     // Holds of those and what the turn may answer.
     ghost turns: { Self → C → A → Result C R → Type 0 };
 
+    /// Takes the turn: `Ok` of what is carried on, or `Err` of what the fold stops with.
     fn turn(&self, carried: C, item: A) -> Result<C, R>
         requires { can_turn self.now carried item }
         ensures { turns self.now carried item result };

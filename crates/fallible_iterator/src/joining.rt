@@ -1,4 +1,4 @@
-// Adapters that join traces.
+//! Adapters that join traces.
 mod chaining;
 mod cycling;
 mod flattening;

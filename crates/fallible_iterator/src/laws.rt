@@ -1,4 +1,4 @@
-// Traces that a test or a caller can look at.
+//! Traces that a test or a caller can look at.
 ghost use Rattle.std.specs.Prelude.{◌≡◌, ℕ, ◌≤◌, IfOk, IfErr, Result, Option};
 ghost use Rattle.fallible_iterator.specs.Source.{Source, Stays};
 ghost use Rattle.fallible_iterator.specs.Answers.{answer_of, IsAnswers};
@@ -30,8 +30,11 @@ pub use to_come::law_to_come;
 /// What one draw answered.
 #[derive(Debug, PartialEq, Eq, Drop)]
 pub enum Answer<T, E> {
+    /// an item
     Item(T),
+    /// a failure
     Failure(E),
+    /// an end
     End,
 }
 

@@ -1,4 +1,4 @@
-// Adapters with one answer for each draw.
+//! Adapters with one answer for each draw.
 ghost use Rattle.std.specs.Prelude.{◌≡◌, Some, Result, Option};
 ghost use Rattle.fallible_iterator.specs.Source.{seen_as};
 ghost use Rattle.fallible_iterator.specs.OneToOne.{map_source, inspect_source, scan_source, cloned_source};

@@ -1,4 +1,4 @@
-// The adapter that looks one item ahead.
+//! The adapter that looks one item ahead.
 ghost use Rattle.std.specs.Prelude.{◌≡◌, Result, Option};
 ghost use Rattle.fallible_iterator.specs.Source.{seen_as, Stays};
 ghost use Rattle.fallible_iterator.specs.Peeking.{peekable_source, NextIf, TestedBy, IsTestable};

@@ -1,4 +1,4 @@
-// A number to come that only clauses read.
+//! A number to come that only clauses read.
 ghost use Rattle.std.specs.Prelude.{◌≡◌, ℕ, ◌+◌, ◌<◌};
 ghost use base.Fml.{ftrue};
 

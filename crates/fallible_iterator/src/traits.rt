@@ -1,4 +1,4 @@
-// The trait.
+//! The trait.
 ghost use Rattle.std.specs.Prelude.{◌≡◌, ℕ, true, false, ◌+◌, ◌-◌, ◌≤◌, ◌<◌, ◌^◌, List, Option, Result, Some, None, Ok, MatchResult, ◌↔◌};
 ghost use Rattle.fallible_iterator.specs.Source.{Source, Lawful, Stays};
 ghost use Rattle.fallible_iterator.specs.Closures.{IsCallable, call_on, takes_on, call_at, takes_at};
@@ -31,8 +31,10 @@ use std::marker::PhantomData;
 ///
 /// A type of one's own writes `next`, `size_hint` and `source`: its step, and what it says of what is still to come. `counting_down` of `specs/Source` makes that of a step and a bound. A search then finds `lawful`.
 pub trait FallibleIterator: Drop + Sized {
+    /// What it gives.
     type Item;
 
+    /// What it fails with.
     type Error;
 
     // All that the contract says of the values of this type.

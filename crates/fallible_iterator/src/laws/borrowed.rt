@@ -1,4 +1,4 @@
-// A borrowed fallible iterator has the runs of its own.
+//! A borrowed fallible iterator has the runs of its own.
 ghost use Rattle.std.specs.Prelude.{◌≡◌, ◌↔◌, List, Option, Result};
 ghost use Rattle.std.specs.Borrow.{MutBor};
 ghost use Rattle.std.specs.declared.boxed.Box.{Box};

@@ -14,12 +14,12 @@ use crate::traits::FallibleIterator;
 use crate::traits::conversion::IntoFallibleIterator;
 use std::alloc::AllocError;
 
-/// Law: what draws from a `Chain` answer and leave is exactly what the definition of its traces says, whichever sides are still drawn.
+/// A trace of `Chain` is the front's up to its first end, and from the draw that meets this end on the back's; where one side alone is still drawn, it is that side's.
 pub fn law_chain<T: FallibleIterator, U: FallibleIterator<Item = T::Item, Error = T::Error>>()
     ensures { (s : T) (u : U) (sides : Sides) (trace : List (Result (Option T.Item) T.Error)) (t : T) (v : U) (sides' : Sides) → Run ⟦<Chain<T, U> as FallibleIterator>⟧.source.steps (chain_of (s, u, sides)) trace (chain_of (t, v, sides')) ↔ ChainTrace T.source.steps U.source.steps s u sides trace t v sides' }
 {}
 
-/// Law: what draws from a `Zip` answer and leave is exactly what the definition of its traces says.
+/// A trace of `Zip` has an answer for each answer of the left's trace: the left's failure, without a draw of the right; else, beside an answer of the right, the right's failure, the pair of two items, or an end.
 pub fn law_zip<T: FallibleIterator, U: FallibleIterator<Error = T::Error>>()
 where
     T::Item: Drop,
@@ -27,14 +27,14 @@ where
     ensures { (s : T) (u : U) (trace : List (Result (Option (T.Item × U.Item)) T.Error)) (t : T) (v : U) → Run ⟦<Zip<T, U> as FallibleIterator>⟧.source.steps (zip_of (s, u)) trace (zip_of (t, v)) ↔ ZipTrace T.source.steps U.source.steps s u trace t v }
 {}
 
-/// Law: what draws from a `Flatten` answer and leave is exactly what the definition of its traces says.
+/// A trace of `Flatten` joins the answers of the inner iterators, each up to its end, and the outer source's failures and ends; the last inner iterator, where its end was not drawn, stays in hand.
 pub fn law_flatten<I: FallibleIterator>()
 where
     I::Item: IntoFallibleIterator<Error = I::Error>,
     ensures { (s : I) (hand : Option I.Item.IntoFallibleIter) (trace : List (Result (Option I.Item.Item) I.Error)) (t : I) (hand' : Option I.Item.IntoFallibleIter) → Run ⟦<Flatten<I> as FallibleIterator>⟧.source.steps (flatten_of (s, hand)) trace (flatten_of (t, hand')) ↔ FlattenTrace I.source.steps I.Item.into_gives I.Item.IntoFallibleIter.source.steps s hand trace t hand' }
 {}
 
-/// Law: what draws from a `FlatMap` answer and leave is exactly what the definition of the traces of a `Flatten` over the `Map` of its closure says.
+/// A trace of `FlatMap` is one of a `Flatten` over the `Map` of its closure.
 pub fn law_flat_map<
     I: FallibleIterator,
     U: IntoFallibleIterator<Error = I::Error>,
@@ -44,7 +44,7 @@ where
     ensures { (s : Map I F) (hand : Option U.IntoFallibleIter) (trace : List (Result (Option U.Item) I.Error)) (t : Map I F) (hand' : Option U.IntoFallibleIter) → Run ⟦<FlatMap<I, U, F> as FallibleIterator>⟧.source.steps (flat_map_of (s, hand)) trace (flat_map_of (t, hand')) ↔ FlattenTrace ⟦<Map<I, F> as FallibleIterator>⟧.source.steps U.into_gives U.IntoFallibleIter.source.steps s hand trace t hand' }
 {}
 
-/// Law: what draws from a `Cycle` answer and leave is exactly what the definition of its traces says, and the kept source stays.
+/// A trace of `Cycle` is laps: answers of one run up to its end, which is not answered, and then those of a fresh clone, or the failure made of a refused clone, after which the next lap goes on over the same run. The kept source stays.
 pub fn law_cycle<I: FallibleIterator + Clone>()
 where
     I::Error: From<AllocError>,

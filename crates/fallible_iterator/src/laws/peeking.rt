@@ -7,7 +7,7 @@ ghost use Rattle.fallible_iterator.specs.Peeking.{PeekableTrace};
 use crate::peeking::Peekable;
 use crate::traits::FallibleIterator;
 
-/// Law: what draws from a `Peekable` answer and leave is exactly what the definition of its traces says.
+/// A trace of `Peekable` is the held item, if there is one, and then the source's trace; nothing is held then. Where there are no answers, nothing changes.
 pub fn law_peekable<I: FallibleIterator>()
 where
     I::Item: Drop,

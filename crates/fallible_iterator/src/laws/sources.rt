@@ -1,16 +1,7 @@
-// What a trace of each source is.
-ghost use Rattle.std.specs.Prelude.{◌≡◌, ◌↔◌, List, Option, Result};
-ghost use Rattle.fallible_iterator.specs.Traces.{Answered, Run, item, failure};
+//! What a trace of each source is.
+ghost use Rattle.fallible_iterator.specs.Definitions.{MeetsHeld};
+ghost use Rattle.fallible_iterator.specs.Traces.{item, failure};
 ghost use Rattle.fallible_iterator.specs.Sources.{ConvertTrace, IntoFallibleTrace, FromFnTrace, EmptyTrace, OnceTrace, RepeatTrace, RepeatErrTrace};
-ghost use Rattle.std.specs.declared.convert.Infallible.{Infallible};
-ghost use Rattle.fallible_iterator.specs.declared.sources.Convert.{Convert};
-ghost use Rattle.fallible_iterator.specs.declared.sources.IntoFallible.{IntoFallible};
-ghost use Rattle.fallible_iterator.specs.declared.sources.FromFn.{FromFn};
-ghost use Rattle.fallible_iterator.specs.declared.sources.Empty.{Empty};
-ghost use Rattle.fallible_iterator.specs.declared.sources.Once.{Once};
-ghost use Rattle.fallible_iterator.specs.declared.sources.OnceErr.{OnceErr};
-ghost use Rattle.fallible_iterator.specs.declared.sources.Repeat.{Repeat};
-ghost use Rattle.fallible_iterator.specs.declared.sources.RepeatErr.{RepeatErr};
 ghost use Rattle.fallible_iterator.specs.Parts.{convert_source_of, into_fallible_source_of, from_fn_closure, once_item, once_failure, repeat_value, repeat_err_value};
 
 use crate::sources::{Convert, Empty, FromFn, IntoFallible, Once, OnceErr, Repeat, RepeatErr};
@@ -18,47 +9,47 @@ use crate::traits::FallibleIterator;
 use std::alloc::AllocError;
 use std::convert::Infallible;
 
-/// A trace of `Convert` is, place by place, the std iterator's answers: `Ok` is an item, `Err` a failure, none an end.
+/// A trace of `Convert` is, place by place, the std iterator's answers, each with the progress that std's contract states: `Ok` is an item, `Err` a failure, none an end.
 pub fn law_convert<T, E, I: std::iter::Iterator<Item = Result<T, E>>>()
-    ensures { (s : Convert I) (trace : List (Answered T E)) (t : Convert I) → Run ⟦<Convert<I> as FallibleIterator>⟧.source.steps s trace t ↔ ConvertTrace I.can_next I.next_gives I.remaining (convert_source_of s) trace (convert_source_of t) }
+    ensures { MeetsHeld convert_source_of ⟦<Convert<I> as FallibleIterator>⟧.source.steps (ConvertTrace I.can_next I.next_gives I.remaining) }
 {}
 
-/// A trace of `IntoFallible` is, place by place, the std iterator's answers: each element is an item, none an end.
+/// A trace of `IntoFallible` is, place by place, the std iterator's answers, each with the progress that std's contract states: each element is an item, none an end.
 pub fn law_into_fallible<T, I: std::iter::Iterator<Item = T>>()
-    ensures { (s : IntoFallible I) (trace : List (Answered T Infallible)) (t : IntoFallible I) → Run ⟦<IntoFallible<I> as FallibleIterator>⟧.source.steps s trace t ↔ IntoFallibleTrace I.can_next I.next_gives I.remaining (into_fallible_source_of s) trace (into_fallible_source_of t) }
+    ensures { MeetsHeld into_fallible_source_of ⟦<IntoFallible<I> as FallibleIterator>⟧.source.steps (IntoFallibleTrace I.can_next I.next_gives I.remaining) }
 {}
 
 /// A trace of `FromFn` is the closure's answers, one call a draw.
 pub fn law_from_fn<T, E, F: FnMut() -> Result<Option<T>, E>>()
-    ensures { (s : FromFn F) (trace : List (Answered T E)) (t : FromFn F) → Run ⟦<FromFn<F> as FallibleIterator>⟧.source.steps s trace t ↔ FromFnTrace F.FnMut (from_fn_closure s) trace (from_fn_closure t) }
+    ensures { MeetsHeld from_fn_closure ⟦<FromFn<F> as FallibleIterator>⟧.source.steps (FromFnTrace F.FnMut) }
 {}
 
 /// A trace of `Empty` has only ends.
 pub fn law_empty<T, E>()
-    ensures { (s : Empty T E) (trace : List (Answered T E)) (t : Empty T E) → Run ⟦<Empty<T, E> as FallibleIterator>⟧.source.steps s trace t ↔ EmptyTrace trace }
+    ensures { MeetsHeld (λ s. s) ⟦<Empty<T, E> as FallibleIterator>⟧.source.steps (λ _ trace _. EmptyTrace trace) }
 {}
 
 /// A trace of `Once` is its item, and then ends.
 pub fn law_once<T: Drop, E>()
-    ensures { (s : Once T E) (trace : List (Answered T E)) (t : Once T E) → Run ⟦<Once<T, E> as FallibleIterator>⟧.source.steps s trace t ↔ OnceTrace item (once_item s) trace (once_item t) }
+    ensures { MeetsHeld once_item ⟦<Once<T, E> as FallibleIterator>⟧.source.steps (OnceTrace item) }
 {}
 
 /// A trace of `OnceErr` is its failure, and then ends.
 pub fn law_once_err<T, E: Drop>()
-    ensures { (s : OnceErr T E) (trace : List (Answered T E)) (t : OnceErr T E) → Run ⟦<OnceErr<T, E> as FallibleIterator>⟧.source.steps s trace t ↔ OnceTrace failure (once_failure s) trace (once_failure t) }
+    ensures { MeetsHeld once_failure ⟦<OnceErr<T, E> as FallibleIterator>⟧.source.steps (OnceTrace failure) }
 {}
 
 /// A trace of `Repeat` has clones of its value as items, and, where a clone was refused, the failure made of the refusal.
 pub fn law_repeat<T: Clone, E: From<AllocError>>()
-    ensures { (s : Repeat T E) (trace : List (Answered T E)) (t : Repeat T E) → Run ⟦<Repeat<T, E> as FallibleIterator>⟧.source.steps s trace t ↔ RepeatTrace T.is_clone T.is_infallible E.from_gives (repeat_value s) trace (repeat_value t) }
+    ensures { MeetsHeld repeat_value ⟦<Repeat<T, E> as FallibleIterator>⟧.source.steps (RepeatTrace T.is_clone T.is_infallible E.from_gives) }
 {}
 
 /// A trace of `RepeatErr` has clones of its error as failures, and, where a clone was refused, the failure made of the refusal.
 pub fn law_repeat_err<T, E: Clone + From<AllocError>>()
-    ensures { (s : RepeatErr T E) (trace : List (Answered T E)) (t : RepeatErr T E) → Run ⟦<RepeatErr<T, E> as FallibleIterator>⟧.source.steps s trace t ↔ RepeatErrTrace E.is_clone E.is_infallible E.from_gives (repeat_err_value s) trace (repeat_err_value t) }
+    ensures { MeetsHeld repeat_err_value ⟦<RepeatErr<T, E> as FallibleIterator>⟧.source.steps (RepeatErrTrace E.is_clone E.is_infallible E.from_gives) }
 {}
 
-/// What a trace of each source is, all together: see the law of each.
+/// What a trace of each source is, all together. The law of each says the same, and with the bounds that its source needs alone.
 pub fn law_sources<T, E, I, J, F>()
 where
     T: Clone,
@@ -66,14 +57,14 @@ where
     I: std::iter::Iterator<Item = Result<T, E>>,
     J: std::iter::Iterator<Item = T>,
     F: FnMut() -> Result<Option<T>, E>,
-    ensures convert { (s : Convert I) (trace : List (Answered T E)) (t : Convert I) → Run ⟦<Convert<I> as FallibleIterator>⟧.source.steps s trace t ↔ ConvertTrace I.can_next I.next_gives I.remaining (convert_source_of s) trace (convert_source_of t) }
-    ensures into_fallible { (s : IntoFallible J) (trace : List (Answered T Infallible)) (t : IntoFallible J) → Run ⟦<IntoFallible<J> as FallibleIterator>⟧.source.steps s trace t ↔ IntoFallibleTrace J.can_next J.next_gives J.remaining (into_fallible_source_of s) trace (into_fallible_source_of t) }
-    ensures from_fn { (s : FromFn F) (trace : List (Answered T E)) (t : FromFn F) → Run ⟦<FromFn<F> as FallibleIterator>⟧.source.steps s trace t ↔ FromFnTrace F.FnMut (from_fn_closure s) trace (from_fn_closure t) }
-    ensures empty { (s : Empty T E) (trace : List (Answered T E)) (t : Empty T E) → Run ⟦<Empty<T, E> as FallibleIterator>⟧.source.steps s trace t ↔ EmptyTrace trace }
-    ensures once { (s : Once T E) (trace : List (Answered T E)) (t : Once T E) → Run ⟦<Once<T, E> as FallibleIterator>⟧.source.steps s trace t ↔ OnceTrace item (once_item s) trace (once_item t) }
-    ensures once_err { (s : OnceErr T E) (trace : List (Answered T E)) (t : OnceErr T E) → Run ⟦<OnceErr<T, E> as FallibleIterator>⟧.source.steps s trace t ↔ OnceTrace failure (once_failure s) trace (once_failure t) }
-    ensures repeat { (s : Repeat T E) (trace : List (Answered T E)) (t : Repeat T E) → Run ⟦<Repeat<T, E> as FallibleIterator>⟧.source.steps s trace t ↔ RepeatTrace T.is_clone T.is_infallible E.from_gives (repeat_value s) trace (repeat_value t) }
-    ensures repeat_err { (s : RepeatErr T E) (trace : List (Answered T E)) (t : RepeatErr T E) → Run ⟦<RepeatErr<T, E> as FallibleIterator>⟧.source.steps s trace t ↔ RepeatErrTrace E.is_clone E.is_infallible E.from_gives (repeat_err_value s) trace (repeat_err_value t) }
+    ensures convert { MeetsHeld convert_source_of ⟦<Convert<I> as FallibleIterator>⟧.source.steps (ConvertTrace I.can_next I.next_gives I.remaining) }
+    ensures into_fallible { MeetsHeld into_fallible_source_of ⟦<IntoFallible<J> as FallibleIterator>⟧.source.steps (IntoFallibleTrace J.can_next J.next_gives J.remaining) }
+    ensures from_fn { MeetsHeld from_fn_closure ⟦<FromFn<F> as FallibleIterator>⟧.source.steps (FromFnTrace F.FnMut) }
+    ensures empty { MeetsHeld (λ s. s) ⟦<Empty<T, E> as FallibleIterator>⟧.source.steps (λ _ trace _. EmptyTrace trace) }
+    ensures once { MeetsHeld once_item ⟦<Once<T, E> as FallibleIterator>⟧.source.steps (OnceTrace item) }
+    ensures once_err { MeetsHeld once_failure ⟦<OnceErr<T, E> as FallibleIterator>⟧.source.steps (OnceTrace failure) }
+    ensures repeat { MeetsHeld repeat_value ⟦<Repeat<T, E> as FallibleIterator>⟧.source.steps (RepeatTrace T.is_clone T.is_infallible E.from_gives) }
+    ensures repeat_err { MeetsHeld repeat_err_value ⟦<RepeatErr<T, E> as FallibleIterator>⟧.source.steps (RepeatErrTrace E.is_clone E.is_infallible E.from_gives) }
 {
     law_convert::<T, E, I>();
     law_into_fallible::<T, J>();

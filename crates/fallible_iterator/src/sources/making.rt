@@ -1,4 +1,4 @@
-// The functions that make sources.
+//! The functions that make sources.
 ghost use Rattle.std.specs.Prelude.{◌≡◌, Some, None, ⊤};
 ghost use Rattle.fallible_iterator.specs.Parts.{convert_source_of, from_fn_closure, once_item, once_failure, repeat_value, repeat_err_value};
 ghost use Rattle.fallible_iterator.specs.Closures.{IsCallable};

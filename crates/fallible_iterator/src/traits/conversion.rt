@@ -1,4 +1,4 @@
-// What becomes a fallible iterator.
+//! What becomes a fallible iterator.
 ghost use Rattle.std.specs.Prelude.{◌≡◌};
 ghost use Rattle.fallible_iterator.specs.Parts.{convert_source_of, into_fallible_source_of};
 
@@ -7,10 +7,13 @@ use crate::traits::FallibleIterator;
 
 /// A value that becomes a fallible iterator. Every fallible iterator is one, and gives itself.
 pub trait IntoFallibleIterator {
+    /// What the fallible iterator gives.
     type Item;
 
+    /// What it fails with.
     type Error;
 
+    /// The fallible iterator that the value becomes.
     type IntoFallibleIter: FallibleIterator<Item = Self::Item, Error = Self::Error>;
 
     // Holds of the value and of what it may become.
