@@ -4,6 +4,7 @@ use Rattle.fallible_iterator.specs.declared.laws.Answer.{Answer}
 use Rattle.fallible_iterator.specs.declared.laws.Answer.TheVariants.{Item, Failure, End}
 use Rattle.fallible_iterator.specs.Traces.{Answered, Run}
 
+-- the answer that a value tells
 abbrev pub answer_of : {A E : Type 0} → Answered A E → Answer A E
 answer_of (Ok (Some x)) = Item x
 answer_of (Ok None) = End

@@ -71,6 +71,7 @@ module _ {S U A E : Type 0} (front : Source S A E) (back : Source U A E) where
   chain_hints (s, u, Front) h = front.hints s h
   chain_hints (s, u, Back) h = back.hints u h
 
+  -- `Chain`'s contract: both sides may be drawn from, also one that is over.
   abbrev pub chain_source : Source (S × U × Sides) A E
   chain_source = record {
     can = λ p. front.can p.0 × back.can p.1;

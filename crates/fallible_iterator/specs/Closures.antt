@@ -27,6 +27,7 @@ abbrev pub InSlot : {F : Type 0} → Option F → (F → Type 0) → Type 0
 InSlot (Some f) P = P f
 InSlot None P = ⊥
 
+-- Two slots are full, and R holds of what stands in them.
 abbrev pub InSlots : {F : Type 0} → Option F → Option F → (F → F → Type 0) → Type 0
 InSlots p q R = InSlot p (λ f. InSlot q (λ g. R f g))
 

@@ -82,6 +82,7 @@ abbrev pub closing_hints : {P : Type 0} → (P → ℕ × Option ℕ → Type 0)
 closing_hints hints (p, true) h = h ≡ (0, Some 0)
 closing_hints hints (p, false) h = hints p h
 
+-- The contract of such an adapter: that of its source but for the step and the hint, which the flag closes.
 abbrev pub closing : {P Q B E : Type 0} → Source P B E → (P → Q → P → Type 0) → (Q → Answered B E) → (Q → Bool) → Source (P × Bool) B E
 closing m draws answer closes = with_steps m (closing_step draws answer closes) (closing_hints m.hints)
 
@@ -91,6 +92,7 @@ pub record FuseTrace {S A E : Type 0} (steps : S → Answered A E → S → Type
   pub drawn : Run steps s source_trace t
   pub cut : ClosingTrace (λ r. r) is_end ended source_trace trace ended'
 
+-- `Fuse`'s contract, with the flag whether the source's end was met.
 abbrev pub fuse_source : {S A E : Type 0} → Source S A E → Source (S × Bool) A E
 fuse_source m = closing m m.steps (λ r. r) is_end
 
@@ -121,5 +123,6 @@ pub record TakeWhileTrace {S F X E : Type 0} (steps : S → Answered X E → S �
 abbrev pub place_drawn : {S F X R E : Type 0} → (S → Answered X E → S → Type 0) → (F → X → R → F → Type 0) → S × Option F → Place X R E → S × Option F → Type 0
 place_drawn steps call p x q = steps p.0 (source_answer x) q.0 × InSlots p.1 q.1 (λ f g. Calls call f (filter_map call_of (x ∷ [])) g)
 
+-- `TakeWhile`'s contract, with the flag whether an item was refused: the predicate may be called on each item that may come, and until then the hint has the source's upper bound alone.
 abbrev pub take_while_source : {S F X E : Type 0} → Source S X E → Mut F (Bor X × Unit {0}) (Result Bool E) → Source ((S × Option F) × Bool) X E
 take_while_source m g = closing (passing m (call_at g) (takes_at g) filter_outcome (λ p h. upper_alone m p.0 h)) (place_drawn m.steps (call_at g)) taken_answer is_refused

@@ -25,6 +25,7 @@ module _ {S A E : Type 0} (is_clone : S → S → Type 0) (is_infallible : S →
         ⊎ ((ended : S) × (clone : S) × steps s end ended × is_clone k clone × steps clone r t)
         ⊎ ((e : E) × steps s end t × (r ≡ failure e) × RefusedAs is_infallible from k e)
 
+    -- one draw, which keeps the kept source
     abbrev pub cycle_step : S × S → Answered A E → S × S → Type 0
     cycle_step (s, k) r (t, k') = (k' ≡ k) × CycleAnswer k s r t
 

@@ -28,6 +28,7 @@ filter_outcome x (Err e) = failed e
 abbrev pub FilterTrace : {S F X E : Type 0} → (S → Answered X E → S → Type 0) → Mut F (Bor X × Unit {0}) (Result Bool E) → S → F → List (Answered X E) → S → F → Type 0
 FilterTrace steps g s f trace t f' = PassTrace steps (call_at g) filter_outcome s f trace t f'
 
+-- `Filter`'s contract: its hint has the source's upper bound alone.
 abbrev pub filter_source : {S F X E : Type 0} → Source S X E → Mut F (Bor X × Unit {0}) (Result Bool E) → Source (S × Option F) X E
 filter_source m g = leaving_out m (call_at g) (takes_at g) filter_outcome (λ p h. upper_alone m p.0 h)
 
@@ -43,6 +44,7 @@ filter_map_outcome x (Err e) = failed e
 abbrev pub FilterMapTrace : {S F X B E : Type 0} → (S → Answered X E → S → Type 0) → Mut F (X × Unit {0}) (Result (Option B) E) → S → F → List (Answered B E) → S → F → Type 0
 FilterMapTrace steps g s f trace t f' = PassTrace steps (call_on g) filter_map_outcome s f trace t f'
 
+-- `FilterMap`'s contract: its hint has the source's upper bound alone.
 abbrev pub filter_map_source : {S F X B E : Type 0} → Source S X E → Mut F (X × Unit {0}) (Result (Option B) E) → Source (S × Option F) B E
 filter_map_source m g = leaving_out m (call_on g) (takes_on g) filter_map_outcome (λ p h. upper_alone m p.0 h)
 
@@ -59,6 +61,7 @@ abbrev pub skip_call : {F X E : Type 0} → Mut F (Bor X × Unit {0}) (Result Bo
 skip_call g p x None q = (p.0 ≡ true) × (q ≡ p)
 skip_call g p x (Some v) q = (p.0 ≡ false) × call_at g p.1 x v q.1 × (q.0 ≡ answers_false v)
 
+-- the predicate may be called on the item, where it is asked
 abbrev pub skip_takes : {F X E : Type 0} → Mut F (Bor X × Unit {0}) (Result Bool E) → Bool × F → X → Type 0
 skip_takes g p x = p.0 ≡ false → takes_at g p.1 x
 
@@ -109,5 +112,6 @@ pub record SkipWhileTrace {S F X E : Type 0} (steps : S → Answered X E → S �
 abbrev pub skip_while_hints : {S F X E : Type 0} → Source S X E → S × Option (Bool × F) → ℕ × Option ℕ → Type 0
 skip_while_hints m p h = IfSome p.1 (λ q. MatchBool q.0 (m.hints p.0 h) (upper_alone m p.0 h))
 
+-- `SkipWhile`'s contract.
 abbrev pub skip_while_source : {S F X E : Type 0} → Source S X E → Mut F (Bor X × Unit {0}) (Result Bool E) → Source (S × Option (Bool × F)) X E
 skip_while_source m g = leaving_out m (skip_call g) (skip_takes g) skip_while_outcome (skip_while_hints m)

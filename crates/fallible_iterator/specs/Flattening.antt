@@ -12,11 +12,13 @@ pub data Part (X C B E : Type 0) : Type 0 where
   of_failure : E → Part X C B E
   of_end : Part X C B E
 
+-- the outer source's answer in a part
 abbrev pub outer_answer : {X C B E : Type 0} → Part X C B E → Answered X E
 outer_answer (of_inner x c answers) = item x
 outer_answer (of_failure e) = failure e
 outer_answer of_end = end
 
+-- what a part has in the trace
 abbrev pub part_answers : {X C B E : Type 0} → Part X C B E → List (Answered B E)
 part_answers (of_inner x c answers) = answers
 part_answers (of_failure e) = failure e ∷ []
@@ -41,6 +43,7 @@ module _ {X C B E : Type 0} (into : X → C → Type 0) (inner : C → Answered 
   FinishedPart (of_failure e) = ⊤
   FinishedPart of_end = ⊤
 
+  -- each part before the last
   abbrev pub FinishedParts : List (Part X C B E) → Type 0
   FinishedParts [] = ⊤
   FinishedParts (p ∷ rest) = FinishedPart p × FinishedParts rest

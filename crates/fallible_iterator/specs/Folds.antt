@@ -12,9 +12,11 @@ pub record HoldsAtEachTurn {S A E C : Type 0} (steps : S → Answered A E → S 
 
 -- A closure is called on the value so far and an item, which it may know by another name of the item's type: `as_is` is that name.
 module _ {A T F B R : Type 0} (as_is : A → T) (g : Mut F (B × (T × Unit {0})) R) where
+  -- one call, which may answer r and leave the closure as f'
   abbrev pub call_with : F → B → A → R → F → Type 0
   call_with f b x r f' = Called g f (b, (as_is x, tt)) r f'
 
+  -- it may be called so
   abbrev pub takes_with : F → B → A → Type 0
   takes_with f b x = Takes g f (b, (as_is x, tt))
 

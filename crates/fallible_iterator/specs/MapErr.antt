@@ -46,6 +46,7 @@ pub record MayFail {S F X D E : Type 0} (m : Source S X D) (call : F → D → E
   pub failing : m.fails s argument
   pub called : call state argument e left
 
+-- `MapErr`'s contract: the closure may be called on each failure that may come, in each state that such calls bring it to; all else is the source's.
 abbrev pub map_err_source : {S F X D E : Type 0} → Source S X D → Mut F (D × Unit {0}) E → Source (S × Option F) X E
 map_err_source m g = record {
   can = λ p. m.can p.0 × InSlot p.1 (λ f. IsCallable (call_on g) (takes_on g) (m.fails p.0) f);

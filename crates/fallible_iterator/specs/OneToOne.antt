@@ -19,6 +19,7 @@ map_outcome x (Err e) = failed e
 abbrev pub MapTrace : {S F X B E : Type 0} → (S → Answered X E → S → Type 0) → Mut F (X × Unit {0}) (Result B E) → S → F → List (Answered B E) → S → F → Type 0
 MapTrace steps g s f trace t f' = PassTrace steps (call_on g) map_outcome s f trace t f'
 
+-- `Map`'s contract, with the source's hint.
 abbrev pub map_source : {S F X B E : Type 0} → Source S X E → Mut F (X × Unit {0}) (Result B E) → Source (S × Option F) B E
 map_source m g = passing m (call_on g) (takes_on g) map_outcome (λ p h. m.hints p.0 h)
 
@@ -31,6 +32,7 @@ inspect_outcome x (Err e) = failed e
 abbrev pub InspectTrace : {S F X E : Type 0} → (S → Answered X E → S → Type 0) → Mut F (Bor X × Unit {0}) (Result (Unit {0}) E) → S → F → List (Answered X E) → S → F → Type 0
 InspectTrace steps g s f trace t f' = PassTrace steps (call_at g) inspect_outcome s f trace t f'
 
+-- `Inspect`'s contract, with the source's hint.
 abbrev pub inspect_source : {S F X E : Type 0} → Source S X E → Mut F (Bor X × Unit {0}) (Result (Unit {0}) E) → Source (S × Option F) X E
 inspect_source m g = passing m (call_at g) (takes_at g) inspect_outcome (λ p h. m.hints p.0 h)
 
@@ -40,6 +42,7 @@ inspect_source m g = passing m (call_at g) (takes_at g) inspect_outcome (λ p h.
 abbrev pub scan_call : {F T X R : Type 0} → Mut F (MutBor T × (X × Unit {0})) (R × (MutBor T × Unit {0})) → T × F → X → R → T × F → Type 0
 scan_call g p x r q = CalledWithState g p.1 p.0 x r q.1 q.0
 
+-- it may be called so
 abbrev pub scan_takes : {F T X R : Type 0} → Mut F (MutBor T × (X × Unit {0})) (R × (MutBor T × Unit {0})) → T × F → X → Type 0
 scan_takes g p x = TakesWithState g p.1 p.0 x
 
@@ -53,6 +56,7 @@ scan_outcome x (Err e) = failed e
 abbrev pub ScanTrace : {S F T X B E : Type 0} → (S → Answered X E → S → Type 0) → Mut F (MutBor T × (X × Unit {0})) (Result (Option B) E × (MutBor T × Unit {0})) → S → T × F → List (Answered B E) → S → T × F → Type 0
 ScanTrace steps g s p trace t q = PassTrace steps (scan_call g) scan_outcome s p trace t q
 
+-- `Scan`'s contract: its hint has the source's upper bound alone, since none is an end.
 abbrev pub scan_source : {S F T X B E : Type 0} → Source S X E → Mut F (MutBor T × (X × Unit {0})) (Result (Option B) E × (MutBor T × Unit {0})) → Source (S × Option (T × F)) B E
 scan_source m g = passing m (scan_call g) (scan_takes g) scan_outcome (λ p h. upper_alone m p.0 h)
 

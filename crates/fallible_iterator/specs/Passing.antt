@@ -30,6 +30,7 @@ call_of (asked x r) = Some (x, r)
 call_of (failure_at e) = None
 call_of end_at = None
 
+-- the answer that an outcome is; none where the item is left out
 abbrev pub outcome_answer : {B E : Type 0} → Outcome B E → Option (Answered B E)
 outcome_answer (kept y) = Some (item y)
 outcome_answer left_out = None

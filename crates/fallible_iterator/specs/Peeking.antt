@@ -80,5 +80,6 @@ pub record NextIf {S A E : Type 0} (steps : S → Answered A E → S → Type 0)
 abbrev pub TestedBy : {F A : Type 0} → Shared F (Bor A × Unit {0}) Bool → F → A → Bool → Type 0
 TestedBy g f x b = FnReturnsAt g f x b
 
+-- The closure may be called on a reference to each item of which P holds.
 abbrev pub IsTestable : {F A : Type 0} → Shared F (Bor A × Unit {0}) Bool → F → (A → Type 0) → Type 0
 IsTestable {A = A} g f P = (x : Bor A) → P x.now → g.pre f (x, tt)

@@ -33,5 +33,6 @@ skip_step steps p r q = Nth steps p.0 p.1 r q.0 × (q.1 ≡ 0)
 abbrev pub hint_less : ℕ → ℕ × Option ℕ → ℕ × Option ℕ
 hint_less n h = (h.0 - n, option_map (λ u. u - n) h.1)
 
+-- `Skip`'s contract: that of its source but for the step and the hint.
 abbrev pub skip_source : {S A E : Type 0} → Source S A E → Source (S × ℕ) A E
 skip_source m = with_steps m (skip_step m.steps) (λ p h. (k : ℕ × Option ℕ) × m.hints p.0 k × (h ≡ hint_less p.1 k))

@@ -42,6 +42,7 @@ module _ {S A E Z : Type 0} (of_item : A → Z) (of_failure : E → Z) (can : S 
     pub ran : Run std_step s before from
     pub drawn : std_step from r left
 
+  -- The contract over a std iterator: what may come is what a run leads to, the bound that it states counts items and failures alike, and a hint is within that bound.
   abbrev pub std_source : Source S A E
   std_source = record {
     can = IsAskable;
@@ -59,6 +60,7 @@ module _ {S A E : Type 0} (can : S → Type 0) (gives : S → Option (Result A E
   abbrev pub ConvertTrace : S → List (Answered A E) → S → Type 0
   ConvertTrace = StdTrace Ok Err can gives remaining
 
+  -- `Convert`'s contract.
   abbrev pub convert_source : Source S A E
   convert_source = std_source Ok Err can gives remaining
 
@@ -67,6 +69,7 @@ module _ {S A : Type 0} (can : S → Type 0) (gives : S → Option A → S → T
   abbrev pub IntoFallibleTrace : S → List (Answered A Infallible) → S → Type 0
   IntoFallibleTrace = StdTrace (λ x. x) never can gives remaining
 
+  -- `IntoFallible`'s contract.
   abbrev pub into_fallible_source : Source S A Infallible
   into_fallible_source = std_source (λ x. x) never can gives remaining
 
@@ -89,6 +92,7 @@ abbrev pub held_count : {B : Type 0} → Option B → ℕ
 held_count (Some x) = 1
 held_count None = 0
 
+-- `Once`'s contract: what is held is all that may come.
 abbrev pub once_source : {A E : Type 0} → Source (Option A) A E
 once_source = record {
   can = λ _. ⊤;
@@ -101,6 +105,7 @@ once_source = record {
   hints = λ v h. h ≡ (held_count v, Some (held_count v));
 }
 
+-- `OnceErr`'s contract: no item comes, and what is held is the one failure that may.
 abbrev pub once_err_source : {A E : Type 0} → Source (Option E) A E
 once_err_source = record {
   can = λ _. ⊤;
@@ -131,6 +136,7 @@ module _ {F A E : Type 0} (g : Mut F (Unit {0}) (Answered A E)) where
     pub reached : Reaches (call_of_none g) (λ _. ⊤) f state
     pub called : Called g state tt r left
 
+  -- `FromFn`'s contract: the closure may be called in each state that calls bring it to. It has a number to come only where its runs do.
   abbrev pub from_fn_source : Source F A E
   from_fn_source = record {
     can = λ f. IsCallable (call_of_none g) (λ p _. g.pre p tt) (λ _. ⊤) f;
@@ -149,6 +155,7 @@ module _ {F A E : Type 0} (g : Mut F (Unit {0}) (Answered A E)) where
 abbrev pub EmptyTrace : {A E : Type 0} → List (Answered A E) → Type 0
 EmptyTrace trace = (n : ℕ) × (trace ≡ replicate n end)
 
+-- `Empty`'s contract: nothing may come.
 abbrev pub empty_source : {S A E : Type 0} → Source S A E
 empty_source = record {
   can = λ _. ⊤;
@@ -176,6 +183,7 @@ module _ {A E : Type 0} (is_clone : A → A → Type 0) (is_infallible : A → T
   abbrev pub RepeatTrace : A → List (Answered A E) → A → Type 0
   RepeatTrace v trace w = All (RepeatAnswer v) trace × (w ≡ v)
 
+  -- `Repeat`'s contract. It has a number to come only where its runs do.
   abbrev pub repeat_source : Source A A E
   repeat_source = record {
     can = λ _. ⊤;
@@ -198,6 +206,7 @@ module _ {A E : Type 0} (is_clone : E → E → Type 0) (is_infallible : E → T
   abbrev pub RepeatErrTrace : E → List (Answered A E) → E → Type 0
   RepeatErrTrace v trace w = All (RepeatErrAnswer v) trace × (w ≡ v)
 
+  -- `RepeatErr`'s contract: no item comes.
   abbrev pub repeat_err_source : Source E A E
   repeat_err_source = record {
     can = λ _. ⊤;

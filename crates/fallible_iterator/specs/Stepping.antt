@@ -62,8 +62,10 @@ kept_of between true zero = 0
 kept_of between true (suc b) = 1 + b / (between + 1)
 kept_of between false b = b / (between + 1)
 
+-- each bound, of which so many are kept
 abbrev pub hint_kept : ℕ → Bool → ℕ × Option ℕ → ℕ × Option ℕ
 hint_kept between first h = (kept_of between first h.0, option_map (kept_of between first) h.1)
 
+-- `StepBy`'s contract: that of its source but for the step and the hint.
 abbrev pub step_by_source : {S A E : Type 0} → Source S A E → Source (S × (ℕ × Bool)) A E
 step_by_source m = with_steps m (step_by_step m.steps) (λ p h. (k : ℕ × Option ℕ) × m.hints p.0 k × (h ≡ hint_kept (p.1).0 (p.1).1 k))

@@ -10,6 +10,7 @@ pub data ZipPlace (A B E : Type 0) : Type 0 where
   left_failed : E → ZipPlace A B E
   both_drawn : Option A → Answered B E → ZipPlace A B E
 
+-- the left's answer at a place
 abbrev pub left_answer : {A B E : Type 0} → ZipPlace A B E → Answered A E
 left_answer (left_failed e) = failure e
 left_answer (both_drawn x r) = Ok x
@@ -49,6 +50,7 @@ smaller_bound (Some x) (Some y) = Some (min x y)
 smaller_bound (Some x) None = Some x
 smaller_bound None y = y
 
+-- the smaller lower bound, and the smaller of the upper bounds that are known
 abbrev pub hint_smaller : ℕ × Option ℕ → ℕ × Option ℕ → ℕ × Option ℕ
 hint_smaller g h = (min g.0 h.0, smaller_bound g.1 h.1)
 
