@@ -1,4 +1,4 @@
-//! Traces that a test or a caller can look at.
+//! What a trace of each type is, as laws, and traces that a test or a caller can look at.
 ghost use Rattle.std.specs.Prelude.{◌≡◌, ℕ, ◌≤◌, IfOk, IfErr, Result, Option};
 ghost use Rattle.fallible_iterator.specs.Source.{Source, Stays};
 ghost use Rattle.fallible_iterator.specs.Answers.{answer_of, IsAnswers};

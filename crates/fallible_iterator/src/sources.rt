@@ -1,4 +1,4 @@
-//! Sources.
+//! Sources: fallible iterators that draw from no other one.
 ghost use Rattle.std.specs.Prelude.{◌≡◌, Some, Ok, Err, Result, Option};
 ghost use Rattle.fallible_iterator.specs.Source.{seen_as};
 ghost use Rattle.fallible_iterator.specs.Sources.{convert_source, into_fallible_source, never, from_fn_source, empty_source, once_source, once_err_source, repeat_source, repeat_err_source};

@@ -8,7 +8,7 @@ ghost use Rattle.fallible_iterator.specs.Laws.Chaining.{lawful_chain};
 
 use crate::traits::FallibleIterator;
 
-// Which sides of a `Chain` are still drawn. No draw from the front leaves the front alone.
+// Which sides of a `Chain` are still drawn. A draw of `next` never makes it `Front`: that is for draws from the back.
 #[derive(Clone, Debug, Drop)]
 pub(crate) enum Sides {
     Both,
