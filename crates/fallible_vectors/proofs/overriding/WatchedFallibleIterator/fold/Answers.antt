@@ -1,8 +1,12 @@
 -- What is left of the whole holds what is left of the source.
 use Rattle.std.proofs.Common.{refl}
 use Rattle.fallible_iterator.specs.Laws.Overriding.{holds_held, folded_held}
-use Rattle.fallible_vectors.proofs.Watched.{put}
+use Rattle.fallible_vectors.specs.declared.overriding.Watched.{Watched}
 use Rattle.fallible_vectors.proofs.overriding.WatchedFallibleIterator.fold.Goals as goal
+
+-- another source in the place of the one held
+abbrev put : {I : Type 0} → Watched I → I → Watched I
+put w it = record { it = it; folds = w.folds }
 
 pub fold-requires-clause-callable : goal.fold-requires-clause-callable
 fold-requires-clause-callable g c = holds_held (λ w. w.it) put (λ w it. refl) g.I.FallibleIterator.source c.requires.callable

@@ -1,8 +1,12 @@
 -- The source's fold is that of the whole, since its steps are.
 use Rattle.std.proofs.Common.{refl}
 use Rattle.fallible_iterator.specs.Laws.Overriding.{holds_held, folded_held}
-use Rattle.fallible_vectors.proofs.Watched.{put}
+use Rattle.fallible_vectors.specs.declared.overriding.Watched.{Watched}
 use Rattle.fallible_vectors.proofs.overriding.WatchedFallibleIterator.try_fold.Goals as goal
+
+-- another source in the place of the one held
+abbrev put : {I : Type 0} → Watched I → I → Watched I
+put w it = record { it = it; folds = w.folds }
 
 pub try_fold-requires-clause-callable : goal.try_fold-requires-clause-callable
 try_fold-requires-clause-callable g c = holds_held (λ w. w.it) put (λ w it. refl) g.I.FallibleIterator.source c.requires.callable
