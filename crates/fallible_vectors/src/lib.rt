@@ -10,6 +10,8 @@ mod cutting;
 #[cfg(test)]
 mod cycling;
 #[cfg(test)]
+mod draining;
+#[cfg(test)]
 mod filtering;
 #[cfg(test)]
 mod flattening;
