@@ -12,6 +12,8 @@ mod cycling;
 #[cfg(test)]
 mod draining;
 #[cfg(test)]
+mod failure;
+#[cfg(test)]
 mod filtering;
 #[cfg(test)]
 mod flattening;

@@ -1,4 +1,5 @@
 // Adapters with one answer for each draw.
+use crate::failure::Failure;
 use crate::listed::listed;
 use fallible_iterator::laws::{Answer, answers};
 use fallible_iterator::{FallibleIterator, convert};
@@ -210,16 +211,6 @@ fn clonable(letter: char) -> Text {
     }
 }
 
-// What a refusal is made into.
-#[derive(Debug, PartialEq, Drop)]
-struct Refused;
-
-impl From<AllocError> for Refused {
-    fn from(_: AllocError) -> Refused {
-        Refused
-    }
-}
-
 #[test]
 fn cloned_fails_where_a_clone_is_refused(rt: HostRuntime) -> Result<(), Fail> {
     let texts = [
@@ -230,9 +221,9 @@ fn cloned_fails_where_a_clone_is_refused(rt: HostRuntime) -> Result<(), Fail> {
         },
         clonable('c'),
     ];
-    let mut it = convert(texts.iter().map(|t| Ok::<&Text, Refused>(t))).cloned();
+    let mut it = convert(texts.iter().map(|t| Ok::<&Text, Failure>(t))).cloned();
     assert_eq!(rt; it.next(), Ok(Some(clonable('a'))));
-    assert_eq!(rt; it.next(), Err(Refused));
+    assert_eq!(rt; it.next(), Err(Failure::Memory));
     assert_eq!(rt; it.next(), Ok(Some(clonable('c'))));
     assert_eq!(rt; it.next(), Ok(None));
     Ok(())

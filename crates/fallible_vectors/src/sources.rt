@@ -1,4 +1,5 @@
 // Sources.
+use crate::failure::Failure;
 use fallible_iterator::laws::{Answer, answers};
 use fallible_iterator::{
     FallibleIterator, Fault, IteratorExt, empty, from_fn, once, repeat, repeat_err,
@@ -40,28 +41,6 @@ fn once_gives_its_item_and_ends(rt: HostRuntime) -> Result<(), Fail> {
     let drawn = answers(rt.alloc(), &mut it, 2)?;
     assert_eq!(rt; drawn.as_slice(), [Answer::Item(5), Answer::End].as_slice());
     Ok(())
-}
-
-// An error that want of memory becomes.
-#[derive(Debug, PartialEq, Eq, Drop)]
-enum Failure {
-    Number(u32),
-    Memory,
-}
-
-impl From<AllocError> for Failure {
-    fn from(_refused: AllocError) -> Failure {
-        Failure::Memory
-    }
-}
-
-impl Clone for Failure {
-    fn clone(&self) -> Result<Failure, AllocError> {
-        match self {
-            Failure::Number(number) => Ok(Failure::Number(*number)),
-            Failure::Memory => Ok(Failure::Memory),
-        }
-    }
 }
 
 #[test]
