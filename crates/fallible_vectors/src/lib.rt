@@ -32,4 +32,6 @@ mod peeking;
 #[cfg(test)]
 mod sources;
 #[cfg(test)]
+mod text;
+#[cfg(test)]
 mod traits;

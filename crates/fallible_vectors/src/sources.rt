@@ -1,10 +1,10 @@
 // Sources.
 use crate::failure::Failure;
+use crate::text::Text;
 use fallible_iterator::laws::{Answer, answers};
 use fallible_iterator::{
     FallibleIterator, Fault, IteratorExt, empty, from_fn, once, repeat, repeat_err,
 };
-use std::alloc::AllocError;
 use std::cell::Cell;
 use std::test::Fail;
 
@@ -57,26 +57,6 @@ fn repeat_err_always_fails(rt: HostRuntime) -> Result<(), Fail> {
         .as_slice()
     );
     Ok(())
-}
-
-// A text whose second clone is refused.
-#[derive(Debug, Drop)]
-struct Text<'a> {
-    text: &'a str,
-    clones: &'a Cell<u32>,
-}
-
-impl<'a> Clone for Text<'a> {
-    fn clone(&self) -> Result<Text<'a>, AllocError> {
-        self.clones.set(self.clones.get().wrapping_add(1));
-        if self.clones.get() == 2 {
-            return Err(AllocError);
-        }
-        Ok(Text {
-            text: self.text,
-            clones: self.clones,
-        })
-    }
 }
 
 #[test]
