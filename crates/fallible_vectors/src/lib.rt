@@ -4,6 +4,8 @@
 #[cfg(test)]
 mod borrowed;
 #[cfg(test)]
+mod cloning;
+#[cfg(test)]
 mod collecting;
 #[cfg(test)]
 mod cutting;
