@@ -161,3 +161,25 @@ fn fold_in_a_generic_function(rt: HostRuntime) -> Result<(), Fail> {
     assert_eq!(rt; steps_taken(it), Err(6));
     Ok(())
 }
+
+// The greatest length of the items, 0 where there are none.
+fn greatest_length<'a, I: FallibleIterator<Item = &'a str>>(it: I) -> Result<usize, I::Error>
+where
+    requires can { I.source.can it }
+    requires finite { I.source.has_end it }
+{
+    it.fold(0, |so_far, line| {
+        if line.len() < so_far {
+            Ok(so_far)
+        } else {
+            Ok(line.len())
+        }
+    })
+}
+
+#[test]
+fn fold_over_borrowed_items_in_a_generic_function(rt: HostRuntime) {
+    let lines = "ab\nc\ndef".lines().map(|line| Ok::<&str, ()>(line));
+    assert_eq!(rt; greatest_length(convert(lines.fuse())), Ok(3));
+    assert_eq!(rt; greatest_length(once::<&str, u32>("ab")), Ok(2));
+}
