@@ -183,3 +183,26 @@ fn fold_over_borrowed_items_in_a_generic_function(rt: HostRuntime) {
     assert_eq!(rt; greatest_length(convert(lines.fuse())), Ok(3));
     assert_eq!(rt; greatest_length(once::<&str, u32>("ab")), Ok(2));
 }
+
+// How many items equal the wanted one.
+fn equal_to<I: FallibleIterator>(it: I, wanted: &I::Item) -> Result<u32, I::Error>
+where
+    I::Item: Drop + PartialEq,
+    requires can { I.source.can it }
+    requires finite { I.source.has_end it }
+{
+    it.fold(0, |n, x| {
+        if x == *wanted {
+            Ok(n.wrapping_add(1))
+        } else {
+            Ok(n)
+        }
+    })
+}
+
+#[test]
+fn fold_that_calls_a_method_of_its_items_bound(rt: HostRuntime) -> Result<(), Fail> {
+    let it = listed::<u32, u32, 3>(rt.alloc(), [Ok(5), Ok(6), Ok(5)])?;
+    assert_eq!(rt; equal_to(it, &5), Ok(2));
+    Ok(())
+}
