@@ -1,6 +1,5 @@
 // Nothing is drawn after the answer that decides, so a borrowed source still gives the rest.
-ghost use Rattle.std.specs.Prelude.{◌≡◌, List, ⊤};
-ghost use Rattle.std.proofs.Common.{rules};
+ghost use Rattle.std.specs.Prelude.{⊤};
 
 use crate::listed::listed;
 use fallible_iterator::{Collect, FallibleIterator, Fault};
