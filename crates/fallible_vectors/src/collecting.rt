@@ -1,6 +1,5 @@
 // Collections.
-ghost use Rattle.std.specs.Prelude.{◌≡◌, List, ⊤};
-ghost use Rattle.std.proofs.Common.{rules};
+ghost use Rattle.std.specs.Prelude.{⊤};
 
 use crate::listed::listed;
 use fallible_iterator::{Collect, FallibleIterator, Fault, IntoFallible, IteratorExt};

@@ -1,27 +1,15 @@
 // The adapter that begins anew at each end.
-ghost use Rattle.std.specs.Prelude.{◌≡◌, ℕ, ◌+◌, ◌≤◌, MatchResult, MatchOption};
+ghost use Rattle.std.specs.Prelude.{◌≡◌, ◌+◌, ◌≤◌, MatchResult, MatchOption};
 ghost use Rattle.std.proofs.Common.{rules};
 ghost use Rattle.fallible_iterator.specs.Source.{counting_down};
 
+use crate::failure::Failure;
 use crate::listed::listed;
 use fallible_iterator::laws::{Answer, answers};
 use fallible_iterator::{FallibleIterator, Fault, empty, once};
 use std::alloc::AllocError;
 use std::cell::Cell;
 use std::test::Fail;
-
-// An error that want of memory becomes.
-#[derive(Clone, Debug, PartialEq, Eq, Drop)]
-enum Failure {
-    Number(u32),
-    Memory,
-}
-
-impl From<AllocError> for Failure {
-    fn from(_refused: AllocError) -> Failure {
-        Failure::Memory
-    }
-}
 
 #[test]
 fn cycle_of_nothing_ends(rt: HostRuntime) -> Result<(), Fail> {

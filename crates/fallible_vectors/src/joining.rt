@@ -1,24 +1,11 @@
 // Adapters that join two sources.
+use crate::failure::Failure;
 use crate::listed::listed;
 use fallible_iterator::laws::{Answer, answers};
 use fallible_iterator::{
     FallibleIterator, Fault, IteratorExt, empty, from_fn, once, repeat, repeat_err,
 };
-use std::alloc::AllocError;
 use std::test::Fail;
-
-// An error that want of memory becomes.
-#[derive(Clone, Debug, PartialEq, Eq, Drop)]
-enum Failure {
-    Number(u32),
-    Memory,
-}
-
-impl From<AllocError> for Failure {
-    fn from(_refused: AllocError) -> Failure {
-        Failure::Memory
-    }
-}
 
 #[test]
 fn chain_of_two_lists(rt: HostRuntime) -> Result<(), Fail> {

@@ -4,11 +4,17 @@
 #[cfg(test)]
 mod borrowed;
 #[cfg(test)]
+mod cloning;
+#[cfg(test)]
 mod collecting;
 #[cfg(test)]
 mod cutting;
 #[cfg(test)]
 mod cycling;
+#[cfg(test)]
+mod draining;
+#[cfg(test)]
+mod failure;
 #[cfg(test)]
 mod filtering;
 #[cfg(test)]
@@ -27,5 +33,7 @@ mod own_type;
 mod peeking;
 #[cfg(test)]
 mod sources;
+#[cfg(test)]
+mod text;
 #[cfg(test)]
 mod traits;

@@ -1,5 +1,5 @@
 // A source over a list of answers, which the tests draw from.
-ghost use Rattle.std.specs.Prelude.{◌≡◌, ℕ, ◌≤◌, ◌^◌, ◌-◌, IfOk};
+ghost use Rattle.std.specs.Prelude.{◌^◌, ◌-◌, IfOk};
 
 use fallible_iterator::{Convert, FallibleIterator, convert};
 use std::alloc::{AllocError, Global};

@@ -1,8 +1,10 @@
 // Adapters with one answer for each draw.
+use crate::failure::Failure;
 use crate::listed::listed;
+use crate::text::Text;
 use fallible_iterator::laws::{Answer, answers};
 use fallible_iterator::{FallibleIterator, convert};
-use std::alloc::AllocError;
+use std::cell::Cell;
 use std::test::Fail;
 
 #[test]
@@ -183,57 +185,28 @@ fn map_err_replaces_failures(rt: HostRuntime) -> Result<(), Fail> {
     Ok(())
 }
 
-// A text whose clone may be refused.
-#[derive(Debug, PartialEq, Drop)]
-struct Text {
-    letter: char,
-    refuses: bool,
-}
-
-impl Clone for Text {
-    fn clone(&self) -> Result<Text, AllocError> {
-        if self.refuses {
-            Err(AllocError)
-        } else {
-            Ok(Text {
-                letter: self.letter,
-                refuses: false,
-            })
-        }
-    }
-}
-
-fn clonable(letter: char) -> Text {
-    Text {
-        letter,
-        refuses: false,
-    }
-}
-
-// What a refusal is made into.
-#[derive(Debug, PartialEq, Drop)]
-struct Refused;
-
-impl From<AllocError> for Refused {
-    fn from(_: AllocError) -> Refused {
-        Refused
-    }
-}
-
 #[test]
-fn cloned_fails_where_a_clone_is_refused(rt: HostRuntime) -> Result<(), Fail> {
-    let texts = [
-        clonable('a'),
-        Text {
-            letter: 'b',
-            refuses: true,
-        },
-        clonable('c'),
-    ];
-    let mut it = convert(texts.iter().map(|t| Ok::<&Text, Refused>(t))).cloned();
-    assert_eq!(rt; it.next(), Ok(Some(clonable('a'))));
-    assert_eq!(rt; it.next(), Err(Refused));
-    assert_eq!(rt; it.next(), Ok(Some(clonable('c'))));
-    assert_eq!(rt; it.next(), Ok(None));
-    Ok(())
+fn cloned_fails_where_a_clone_is_refused(rt: HostRuntime) {
+    let clones = Cell::new(0);
+    let texts = ["a", "b", "c"].map(|text| Text {
+        text,
+        clones: &clones,
+    });
+    let mut it = convert(texts.iter().map(|t| Ok::<&Text<'_>, Failure>(t))).cloned();
+    match it.next() {
+        Ok(Some(clone)) => assert_eq!(rt; clone.text, "a"),
+        _ => assert!(rt; false),
+    }
+    match it.next() {
+        Err(failure) => assert_eq!(rt; failure, Failure::Memory),
+        _ => assert!(rt; false),
+    }
+    match it.next() {
+        Ok(Some(clone)) => assert_eq!(rt; clone.text, "c"),
+        _ => assert!(rt; false),
+    }
+    match it.next() {
+        Ok(None) => {}
+        _ => assert!(rt; false),
+    }
 }

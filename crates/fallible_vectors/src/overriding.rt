@@ -1,5 +1,4 @@
 // A fallible iterator of a user's own that writes its own folds.
-ghost use Rattle.std.specs.Prelude.{◌≡◌};
 ghost use Rattle.fallible_iterator.specs.Source.{seen_as};
 ghost use Rattle.fallible_iterator.specs.Laws.Source.{lawful_seen};
 

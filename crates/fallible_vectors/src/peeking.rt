@@ -3,10 +3,10 @@ ghost use Rattle.std.specs.Prelude.{◌≡◌, ⊤, Some, None, Ok, MatchResult,
 ghost use Rattle.fallible_iterator.specs.Peeking.{Fills};
 ghost use Rattle.fallible_iterator.specs.Parts.{peekable_parts};
 
+use crate::failure::Failure;
 use crate::listed::listed;
 use fallible_iterator::laws::{Answer, answers};
 use fallible_iterator::{FallibleIterator, Peekable, from_fn, once, repeat};
-use std::alloc::AllocError;
 use std::cell::Cell;
 use std::test::Fail;
 
@@ -114,19 +114,9 @@ fn peekable_hint_counts_the_held_item(rt: HostRuntime) {
     assert_eq!(rt; it.size_hint(), (1, Some(1)));
 }
 
-// An error that want of memory becomes.
-#[derive(Debug, PartialEq, Eq, Drop)]
-struct Refused;
-
-impl From<AllocError> for Refused {
-    fn from(_refused: AllocError) -> Refused {
-        Refused
-    }
-}
-
 #[test]
 fn peekable_hint_stays_below_the_greatest_number(rt: HostRuntime) {
-    let mut it = repeat::<u32, Refused>(1).peekable();
+    let mut it = repeat::<u32, Failure>(1).peekable();
     assert_eq!(rt; it.peek(), Ok(Some(&1)));
     assert_eq!(rt; it.size_hint(), (usize::MAX, None));
 }

@@ -1,9 +1,10 @@
 // Sources.
+use crate::failure::Failure;
+use crate::text::Text;
 use fallible_iterator::laws::{Answer, answers};
 use fallible_iterator::{
     FallibleIterator, Fault, IteratorExt, empty, from_fn, once, repeat, repeat_err,
 };
-use std::alloc::AllocError;
 use std::cell::Cell;
 use std::test::Fail;
 
@@ -42,28 +43,6 @@ fn once_gives_its_item_and_ends(rt: HostRuntime) -> Result<(), Fail> {
     Ok(())
 }
 
-// An error that want of memory becomes.
-#[derive(Debug, PartialEq, Eq, Drop)]
-enum Failure {
-    Number(u32),
-    Memory,
-}
-
-impl From<AllocError> for Failure {
-    fn from(_refused: AllocError) -> Failure {
-        Failure::Memory
-    }
-}
-
-impl Clone for Failure {
-    fn clone(&self) -> Result<Failure, AllocError> {
-        match self {
-            Failure::Number(number) => Ok(Failure::Number(*number)),
-            Failure::Memory => Ok(Failure::Memory),
-        }
-    }
-}
-
 #[test]
 fn repeat_err_always_fails(rt: HostRuntime) -> Result<(), Fail> {
     let mut it = repeat_err::<u32, Failure>(Failure::Number(4));
@@ -78,26 +57,6 @@ fn repeat_err_always_fails(rt: HostRuntime) -> Result<(), Fail> {
         .as_slice()
     );
     Ok(())
-}
-
-// A text whose second clone is refused.
-#[derive(Debug, Drop)]
-struct Text<'a> {
-    text: &'a str,
-    clones: &'a Cell<u32>,
-}
-
-impl<'a> Clone for Text<'a> {
-    fn clone(&self) -> Result<Text<'a>, AllocError> {
-        self.clones.set(self.clones.get().wrapping_add(1));
-        if self.clones.get() == 2 {
-            return Err(AllocError);
-        }
-        Ok(Text {
-            text: self.text,
-            clones: self.clones,
-        })
-    }
 }
 
 #[test]

@@ -127,3 +127,82 @@ fn count_of_rows_above_100_fails_at_a_bad_row(rt: HostRuntime) -> Result<(), Fai
     assert_eq!(rt; above, Err(()));
     Ok(())
 }
+
+// The types of the closure are found, over borrowed items too.
+#[test]
+fn fold_over_borrowed_items(rt: HostRuntime) {
+    let lines = "ab\nc\ndef".lines().map(|line| Ok::<&str, ()>(line));
+    let longest = convert(lines.fuse()).fold(0, |so_far, line| {
+        if line.len() < so_far {
+            Ok(so_far)
+        } else {
+            Ok(line.len())
+        }
+    });
+    assert_eq!(rt; longest, Ok(3));
+}
+
+// The number of items, of a source that nothing is known of. It wraps round at 2 ^ 32.
+fn steps_taken<I: FallibleIterator>(it: I) -> Result<u32, I::Error>
+where
+    I::Item: Drop,
+    requires can { I.source.can it }
+    requires finite { I.source.has_end it }
+{
+    it.fold(0, |n, _x| Ok(n.wrapping_add(1)))
+}
+
+#[test]
+fn fold_in_a_generic_function(rt: HostRuntime) -> Result<(), Fail> {
+    assert_eq!(rt; steps_taken(once::<u32, u32>(5)), Ok(1));
+    let it = listed::<u32, u32, 3>(rt.alloc(), [Ok(5), Ok(6), Ok(7)])?;
+    assert_eq!(rt; steps_taken(it), Ok(3));
+    let it = listed::<u32, u32, 3>(rt.alloc(), [Ok(5), Err(6), Ok(7)])?;
+    assert_eq!(rt; steps_taken(it), Err(6));
+    Ok(())
+}
+
+// The greatest length of the items, 0 where there are none.
+fn greatest_length<'a, I: FallibleIterator<Item = &'a str>>(it: I) -> Result<usize, I::Error>
+where
+    requires can { I.source.can it }
+    requires finite { I.source.has_end it }
+{
+    it.fold(0, |so_far, line| {
+        if line.len() < so_far {
+            Ok(so_far)
+        } else {
+            Ok(line.len())
+        }
+    })
+}
+
+#[test]
+fn fold_over_borrowed_items_in_a_generic_function(rt: HostRuntime) {
+    let lines = "ab\nc\ndef".lines().map(|line| Ok::<&str, ()>(line));
+    assert_eq!(rt; greatest_length(convert(lines.fuse())), Ok(3));
+    assert_eq!(rt; greatest_length(once::<&str, u32>("ab")), Ok(2));
+}
+
+// How many items equal the wanted one.
+fn equal_to<I: FallibleIterator>(it: I, wanted: &I::Item) -> Result<u32, I::Error>
+where
+    I::Item: Drop + PartialEq,
+    requires can { I.source.can it }
+    requires finite { I.source.has_end it }
+{
+    it.fold(0, |n, x| {
+        if x == *wanted {
+            Ok(n.wrapping_add(1))
+        } else {
+            Ok(n)
+        }
+    })
+}
+
+#[test]
+fn fold_that_calls_a_method_of_its_items_bound(rt: HostRuntime) -> Result<(), Fail> {
+    let it = listed::<u32, u32, 3>(rt.alloc(), [Ok(5), Ok(6), Ok(5)])?;
+    assert_eq!(rt; equal_to(it, &5), Ok(2));
+    Ok(())
+}

@@ -1,5 +1,5 @@
 -- The one inner iterator may be drawn from, and its number serves for each that may come; so they do after a draw.
-use Rattle.std.proofs.Common.{◌≡◌, ℕ, ◌≤◌, Option, Some, None, [], ◌∷◌, Result, sym, ap, subst, arith}
+use Rattle.std.proofs.Common.{◌≡◌, Option, Some, None, sym, ap, subst, arith}
 use Rattle.fallible_iterator.specs.declared.sources.Once.{Once}
 use Rattle.fallible_iterator.specs.Traces.{Answered}
 use Rattle.fallible_iterator.specs.Source.{Source, Goes, Lawful, seen_as}

@@ -1,0 +1,82 @@
+// Nothing is drawn after the answer that decides, so a borrowed source still gives the rest.
+ghost use Rattle.std.specs.Prelude.{⊤};
+
+use crate::listed::listed;
+use fallible_iterator::{Collect, FallibleIterator, Fault};
+use std::alloc::{AllocError, Global};
+use std::test::Fail;
+
+#[test]
+fn count_draws_nothing_after_a_failure(rt: HostRuntime) -> Result<(), Fail> {
+    let mut it = listed::<u32, u32, 3>(rt.alloc(), [Ok(1), Err(2), Ok(3)])?;
+    assert_eq!(rt; it.by_ref().count(), Err(2));
+    assert_eq!(rt; it.next(), Ok(Some(3)));
+    Ok(())
+}
+
+// The sum, which fails with an item above 4.
+fn low_sum(sum: u32, x: u32) -> Result<u32, u32> {
+    if x > 4 {
+        Err(x)
+    } else {
+        Ok(sum.wrapping_add(x))
+    }
+}
+
+#[test]
+fn fold_draws_nothing_after_its_closure_fails(rt: HostRuntime) -> Result<(), Fail> {
+    let mut it = listed::<u32, u32, 3>(rt.alloc(), [Ok(1), Ok(5), Ok(3)])?;
+    assert_eq!(rt; it.by_ref().fold(0, low_sum), Err(5));
+    assert_eq!(rt; it.next(), Ok(Some(3)));
+    Ok(())
+}
+
+#[test]
+fn collect_draws_nothing_after_a_failure(rt: HostRuntime) -> Result<(), Fail> {
+    let mut it = listed::<u32, u32, 3>(rt.alloc(), [Ok(0), Err(1), Ok(2)])?;
+    let made: Result<Vec<u32>, Fault<u32>> = it.by_ref().collect(rt.alloc());
+    match made {
+        Err(Fault::Source(failure)) => assert_eq!(rt; failure, 1),
+        _ => assert!(rt; false),
+    }
+    assert_eq!(rt; it.next(), Ok(Some(2)));
+    Ok(())
+}
+
+// A collection that asks for more room at the start than there is.
+#[derive(Drop)]
+struct Greedy {
+    items: Vec<u32>,
+}
+
+impl Collect<u32> for Greedy {
+    ghost made = { λ _ _. ⊤ };
+
+    ghost empty_refuses = { ⊤ };
+
+    ghost push_refuses = { λ _ _. ⊤ };
+
+    fn empty(alloc: Global) -> Result<Greedy, AllocError> {
+        let items = Vec::with_capacity(alloc, 1 << 60)?;
+        Ok(Greedy { items })
+    }
+
+    fn push_one(&mut self, item: u32) -> Result<(), AllocError> {
+        match self.items.push(item) {
+            Ok(()) => Ok(()),
+            Err(refused) => Err(AllocError::from(refused)),
+        }
+    }
+}
+
+#[test]
+fn collect_draws_nothing_where_its_collection_is_refused(rt: HostRuntime) -> Result<(), Fail> {
+    let mut it = listed::<u32, u32, 2>(rt.alloc(), [Ok(1), Ok(2)])?;
+    let made: Result<Greedy, Fault<u32>> = it.by_ref().collect(rt.alloc());
+    match made {
+        Err(Fault::Memory(_)) => {}
+        _ => assert!(rt; false),
+    }
+    assert_eq!(rt; it.next(), Ok(Some(1)));
+    Ok(())
+}

@@ -1,0 +1,22 @@
+// A text whose second clone is refused, the clones of all texts with the same count taken together.
+use std::alloc::AllocError;
+use std::cell::Cell;
+
+#[derive(Debug, Drop)]
+pub struct Text<'a> {
+    pub text: &'a str,
+    pub clones: &'a Cell<u32>,
+}
+
+impl<'a> Clone for Text<'a> {
+    fn clone(&self) -> Result<Text<'a>, AllocError> {
+        self.clones.set(self.clones.get().wrapping_add(1));
+        if self.clones.get() == 2 {
+            return Err(AllocError);
+        }
+        Ok(Text {
+            text: self.text,
+            clones: self.clones,
+        })
+    }
+}
