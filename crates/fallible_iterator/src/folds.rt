@@ -54,7 +54,7 @@ pub(crate) fn unpack<C, T, E>(exit: Exit<C, E, (C, Result<T, E>)>) -> (C, Result
     }
 }
 
-/// Held by every type of itself alone, so that `T` is `Self` by another name. `try_fold` and `fold` take their closure's item by such a name: so a type may override them whose item is a concrete type.
+/// Held by every type of itself, and by nothing here of another type: `T` is `Self` by another name. `try_fold` and `fold` take their closure's item by such a name, so that a type whose item is a concrete type may override them.
 pub trait Is<T> {
     // The value under the other name.
     ghost as_is: { Self → T };
