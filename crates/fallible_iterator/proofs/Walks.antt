@@ -5,7 +5,7 @@ use mir.Val.{Val, vstruct, vcons, vnil}
 use base.Logic.{ent, emp}
 use types.Logic.{Logic, sem}
 use denote.Shadow.{makes_shadow}
-use Rattle.fallible_iterator.specs.contracts.to_come.Number.{the_row as R}
+use Rattle.fallible_iterator.specs.contracts.number.Number.{the_row as R}
 
 -- the machine value of every `Number`
 abbrev pub word : Val

@@ -1,5 +1,5 @@
 -- Calls of stored closures, which may keep state: `call f x r g` says that the closure f, called on x, may answer r and is then g.
-use Rattle.std.specs.Prelude.{◌≡◌, List, Option, Some, None, All}
+use Rattle.std.specs.Prelude.{◌≡◌, List, Option, IsSomeAnd, All}
 use Rattle.std.specs.List.{FoldsTo}
 use Rattle.std.specs.Fn.{Called, CalledAt, Takes, TakesAt, Mut}
 use Rattle.std.specs.Borrow.{Bor}
@@ -22,14 +22,24 @@ module _ {F X R : Type 0} (call : F → X → R → F → Type 0) where
   pub record IsCallable (pre : F → X → Type 0) (P : X → Type 0) (f : F) : Type 0 where
     pub at : (g : F) (x : X) → Reaches P f g → P x → pre g x
 
--- A stored closure stands in a slot that is empty only during a call.
-abbrev pub InSlot : {F : Type 0} → Option F → (F → Type 0) → Type 0
-InSlot (Some f) P = P f
-InSlot None P = ⊥
+  -- In a state that calls on arguments of which P holds bring f to, called on such an argument, it may answer as Q says.
+  pub record MayAnswer (P : X → Type 0) (f : F) (Q : X → R → Type 0) : Type 0 where
+    pub state : F
+    pub argument : X
+    pub answer : R
+    pub left : F
+    pub reached : Reaches P f state
+    pub given : P argument
+    pub called : call state argument answer left
+    pub says : Q argument answer
 
--- Two slots are full, and R holds of what stands in them.
-abbrev pub InSlots : {F : Type 0} → Option F → Option F → (F → F → Type 0) → Type 0
-InSlots p q R = InSlot p (λ f. InSlot q (λ g. R f g))
+-- A stored closure stands in a slot that is empty only during a call. One call of the closure in its slot.
+abbrev pub call_in : {F X R : Type 0} → (F → X → R → F → Type 0) → Option F → X → R → Option F → Type 0
+call_in call p x r q = IsSomeAnd p (λ f. IsSomeAnd q (λ g. call f x r g))
+
+-- The slot is full, and the closure in it may be called on each argument of which P holds.
+abbrev pub IsCallableIn : {F X R : Type 0} → (F → X → R → F → Type 0) → (F → X → Type 0) → (X → Type 0) → Option F → Type 0
+IsCallableIn call pre P slot = IsSomeAnd slot (λ f. IsCallable call pre P f)
 
 -- a call on an item itself, and one on a reference to it
 abbrev pub call_on : {F A R : Type 0} → Mut F (A × Unit {0}) R → F → A → R → F → Type 0
@@ -43,8 +53,3 @@ call_at g f x r f' = CalledAt g f x r f'
 
 abbrev pub takes_at : {F A R : Type 0} → Mut F (Bor A × Unit {0}) R → F → A → Type 0
 takes_at g f x = TakesAt g f x
-
--- what a value holds beside its closure, in the closure's slot
-abbrev pub beside : {A F : Type 0} → A → Option F → Option (A × F)
-beside a (Some f) = Some (a, f)
-beside a None = None

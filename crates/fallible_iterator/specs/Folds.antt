@@ -53,8 +53,8 @@ module _ {S A E F B E' : Type 0} (steps : S → Answered A E → S → Type 0) (
     pub exit : FoldExit call from value closure last r
 
 -- ---- the fold that carries a value, which every other one goes through
--- `turns c x r` says that one turn on the carried value c and the item x may answer r: `Ok` of what is carried on, or `Err` where the fold stops.
 
+-- `turns c x r` says that one turn on the carried value c and the item x may answer r: `Ok` of what is carried on, or `Err` where the fold stops.
 module _ {A C R : Type 0} (turns : C → A → Result C R → Type 0) where
   -- one turn that went on
   abbrev pub carrying_turn : C → A → C → Type 0

@@ -1,9 +1,9 @@
 -- Adapters that let the answers of one source pass: of each item a closure is asked, and by its answer the item is kept as another, left out, or replaced by a failure or an end.
-use Rattle.std.specs.Prelude.{◌≡◌, ℕ, List, [], ◌∷◌, map, Option, Result, Some, None, Ok, Err, IsSome, ⊤, ◌⊎◌}
+use Rattle.std.specs.Prelude.{◌≡◌, ℕ, ⊤, Option, Result, Some, Ok, Err, List, [], ◌∷◌, map, None, IsSome, ◌⊎◌}
 use Rattle.std.specs.List.{filter_map}
-use Rattle.fallible_iterator.specs.Traces.{Answered, Run, item, failure, end}
-use Rattle.fallible_iterator.specs.Source.{Source}
-use Rattle.fallible_iterator.specs.Closures.{Calls, Reaches, IsCallable, InSlot, InSlots}
+use Rattle.fallible_iterator.specs.Traces.{LastKept, Answered, Run, item, failure, end}
+use Rattle.fallible_iterator.specs.Contract.{Contract}
+use Rattle.fallible_iterator.specs.Closures.{Calls, MayAnswer}
 
 -- what becomes of an item by the closure's answer
 pub data Outcome (B E : Type 0) : Type 0 where
@@ -44,43 +44,30 @@ module _ {X R B E : Type 0} (outcome : X → R → Outcome B E) where
   answer_at (failure_at e) = Some (failure e)
   answer_at end_at = Some end
 
-  -- the last place, if there is one, has an answer
-  abbrev pub EndsKept : List (Place X R E) → Type 0
-  EndsKept [] = ⊤
-  EndsKept (p ∷ []) = IsSome (answer_at p)
-  EndsKept (p ∷ q ∷ rest) = EndsKept (q ∷ rest)
-
--- The adapter's trace, drawn from a source at s with a closure f, is the source's trace without the left-out items, where an item that is kept as another, one whose closure failed and one that makes an end is replaced. The source's trace doesn't end in a left-out item. The source is then t, and the closure, called on each item in order, is then g.
-pub record PassTrace {S F X R B E : Type 0} (steps : S → Answered X E → S → Type 0) (call : F → X → R → F → Type 0) (outcome : X → R → Outcome B E) (s : S) (f : F) (trace : List (Answered B E)) (t : S) (g : F) : Type 0 where
+-- The adapter's trace is the source's trace without the left-out items, where an item that is kept as another, one whose closure failed and one that makes an end is replaced. The closure is called on each item in order, and the source's trace doesn't end in a left-out item. The parts are the source and what holds the closure.
+pub record PassTrace {S F X R B E : Type 0} (steps : S → Answered X E → S → Type 0) (call : F → X → R → F → Type 0) (outcome : X → R → Outcome B E) (p : S × F) (trace : List (Answered B E)) (q : S × F) : Type 0 where
   pub places : List (Place X R E)
-  pub drawn : Run steps s (map source_answer places) t
-  pub called : Calls call f (filter_map call_of places) g
+  pub drawn : Run steps p.0 (map source_answer places) q.0
+  pub called : Calls call p.1 (filter_map call_of places) q.1
   pub answers : trace ≡ filter_map (answer_at outcome) places
-  pub ends_kept : EndsKept outcome places
+  pub last_kept : LastKept (answer_at outcome) places
 
--- a call on an item that may still come, in a state that such calls lead to, may have this outcome
-pub record MayGive {S F X R B E : Type 0} (m : Source S X E) (call : F → X → R → F → Type 0) (outcome : X → R → Outcome B E) (s : S) (f : F) (o : Outcome B E) : Type 0 where
-  pub state : F
-  pub argument : X
-  pub answer : R
-  pub left : F
-  pub reached : Reaches call (m.gives s) f state
-  pub given : m.gives s argument
-  pub called : call state argument answer left
-  pub outcome_is : outcome argument answer ≡ o
-
--- the contract of such an adapter over a source and the slot of its closure
-abbrev pub passing : {S F X R B E : Type 0} → Source S X E → (F → X → R → F → Type 0) → (F → X → Type 0) → (X → R → Outcome B E) → (S × Option F → ℕ × Option ℕ → Type 0) → Source (S × Option F) B E
-passing m call pre outcome hints = record {
-  can = λ p. m.can p.0 × InSlot p.1 (λ f. IsCallable call pre (m.gives p.0) f);
-  steps = λ p r q. InSlots p.1 q.1 (λ f g. PassTrace m.steps call outcome p.0 f (r ∷ []) q.0 g);
+-- The contract of such an adapter. It steps as its trace of one answer says. An item of it is what the closure may make of one that the source may give, and a failure of it one of the source's or the closure's.
+abbrev pub passing : {S F X R B E : Type 0} → Contract S X E → (F → X → R → F → Type 0) → ((X → Type 0) → F → Type 0) → (X → R → Outcome B E) → (S × F → ℕ × Option ℕ → Type 0) → Contract (S × F) B E
+passing m call callable outcome hints = record {
+  can = λ p. m.can p.0 × callable (m.gives p.0) p.1;
+  steps = λ p r q. PassTrace m.steps call outcome p (r ∷ []) q;
   to_come = λ p n. m.to_come p.0 n;
   has_end = λ p. m.has_end p.0;
   elements = λ p. m.elements p.0;
-  gives = λ p y. InSlot p.1 (λ f. MayGive m call outcome p.0 f (kept y));
-  fails = λ p e. m.fails p.0 e ⊎ InSlot p.1 (λ f. MayGive m call outcome p.0 f (failed e));
+  gives = λ p y. MayAnswer call (m.gives p.0) p.1 (λ x v. outcome x v ≡ kept y);
+  fails = λ p e. m.fails p.0 e ⊎ MayAnswer call (m.gives p.0) p.1 (λ x v. outcome x v ≡ failed e);
   hints = hints;
 }
+
+-- The contract of one that leaves items out. Its condition: one of the source, and a number to come of it, since one draw may leave many items out.
+abbrev pub leaving_out : {S F X R B E : Type 0} → Contract S X E → (F → X → R → F → Type 0) → ((X → Type 0) → F → Type 0) → (X → R → Outcome B E) → (S × F → ℕ × Option ℕ → Type 0) → Contract (S × F) B E
+leaving_out m call callable outcome hints = let p = passing m call callable outcome hints in record p { can = λ s. m.has_end s.0 × p.can s }
 
 -- ---- one draw of such an adapter, as a fold of the source that stops
 

@@ -1,6 +1,5 @@
 -- Answers and traces.
-use Rattle.std.specs.Prelude.{◌≡◌, ℕ, ◌+◌, Option, Result, List, [], ◌∷◌, Bool, true, false, ⊤}
-use Rattle.std.specs.Prelude.{Some, None, Ok, Err}
+use Rattle.std.specs.Prelude.{◌≡◌, ℕ, ◌+◌, Option, Result, List, [], ◌∷◌, Bool, true, false, ⊤, Some, None, Ok, Err, IsSome}
 use Rattle.std.specs.List.{FoldsTo}
 
 -- An answer is what one draw gives: an item, `Ok (Some x)`, a failure, `Err e`, or an end, `Ok None`.
@@ -47,3 +46,9 @@ items_in [] = 0
 items_in (Ok (Some x) ∷ rest) = items_in rest + 1
 items_in (Ok None ∷ rest) = items_in rest
 items_in (Err e ∷ rest) = items_in rest
+
+-- The last of a list, if there is one, is kept: `keep` has something for it.
+abbrev pub LastKept : {Q R : Type 0} → (Q → Option R) → List Q → Type 0
+LastKept keep [] = ⊤
+LastKept keep (x ∷ []) = IsSome (keep x)
+LastKept keep (x ∷ y ∷ rest) = LastKept keep (y ∷ rest)

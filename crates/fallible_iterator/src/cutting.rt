@@ -1,12 +1,12 @@
 //! Adapters that cut a trace off.
-mod fusing;
-mod skipping;
-mod stepping;
-mod taking;
-mod taking_while;
+mod fuse;
+mod skip;
+mod step_by;
+mod take;
+mod take_while;
 
-pub use fusing::Fuse;
-pub use skipping::Skip;
-pub use stepping::StepBy;
-pub use taking::Take;
-pub use taking_while::TakeWhile;
+pub use fuse::Fuse;
+pub use skip::Skip;
+pub use step_by::StepBy;
+pub use take::Take;
+pub use take_while::TakeWhile;

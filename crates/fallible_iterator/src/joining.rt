@@ -1,11 +1,11 @@
 //! Adapters that join traces.
-mod chaining;
-mod cycling;
-mod flattening;
-mod zipping;
+mod chain;
+mod cycle;
+mod flatten;
+mod zip;
 
-pub use chaining::Chain;
-pub(crate) use chaining::Sides;
-pub use cycling::Cycle;
-pub use flattening::{FlatMap, Flatten};
-pub use zipping::Zip;
+pub use chain::Chain;
+pub(crate) use chain::StillDrawn;
+pub use cycle::Cycle;
+pub use flatten::{FlatMap, Flatten};
+pub use zip::Zip;

@@ -1,12 +1,13 @@
 //! What a trace of each type is, as laws, and traces that a test or a caller can look at.
 ghost use Rattle.std.specs.Prelude.{◌≡◌, ℕ, ◌≤◌, IfOk, IfErr, Result, Option};
-ghost use Rattle.fallible_iterator.specs.Source.{Source, Stays};
+ghost use Rattle.fallible_iterator.specs.Contract.{Contract, Stays};
 ghost use Rattle.fallible_iterator.specs.Answers.{answer_of, IsAnswers};
 
 pub mod borrowed;
 mod cutting;
+mod filtering;
 mod joining;
-mod passing;
+mod one_to_one;
 mod peeking;
 pub mod sources;
 mod to_come;
@@ -14,11 +15,9 @@ mod to_come;
 use crate::traits::FallibleIterator;
 pub use borrowed::law_borrowed;
 pub use cutting::{law_fuse, law_skip, law_step_by, law_take, law_take_while};
+pub use filtering::{law_filter, law_filter_map, law_skip_while};
 pub use joining::{law_chain, law_cycle, law_flat_map, law_flatten, law_zip};
-pub use passing::{
-    law_cloned, law_enumerate, law_filter, law_filter_map, law_inspect, law_map, law_map_err,
-    law_scan, law_skip_while,
-};
+pub use one_to_one::{law_cloned, law_enumerate, law_inspect, law_map, law_map_err, law_scan};
 pub use peeking::law_peekable;
 pub use sources::{
     law_convert, law_empty, law_from_fn, law_into_fallible, law_once, law_once_err, law_repeat,
@@ -47,10 +46,10 @@ pub fn answers<I: FallibleIterator>(
 where
     I::Item: Drop,
     I::Error: Drop,
-    requires { I.source.can it.old }
-    ensures drawn { IfOk result (λ v. IsAnswers I.source.steps it.old n v.items it.new) }
+    requires { I.contract.can it.old }
+    ensures drawn { IfOk result (λ v. IsAnswers I.contract.steps it.old n v.items it.new) }
     ensures refused { IfErr result (λ _. it.new ≡ it.old) }
-    ensures stays { Stays I.source it.old it.new }
+    ensures stays { Stays I.contract it.old it.new }
 {
     let mut made = Vec::with_capacity(alloc, n)?;
     while made.len() < n {
@@ -65,8 +64,8 @@ where
 
 fn draw<I: FallibleIterator>(it: &mut I) -> Answer<I::Item, I::Error>
 where
-    requires { I.source.can it.old }
-    ensures { (r : Result (Option I.Item) I.Error) × I.source.steps it.old r it.new × (result ≡ answer_of r) }
+    requires { I.contract.can it.old }
+    ensures { (r : Result (Option I.Item) I.Error) × I.contract.steps it.old r it.new × (result ≡ answer_of r) }
 {
     match it.next() {
         Ok(Some(x)) => Answer::Item(x),

@@ -5,12 +5,13 @@ pub mod collecting;
 pub mod cutting;
 pub mod filtering;
 pub mod folds;
+mod hints;
 pub mod joining;
 pub mod laws;
+pub mod number;
 pub mod one_to_one;
 pub mod peeking;
 pub mod sources;
-pub mod to_come;
 pub mod traits;
 
 pub use collecting::{Collect, Fault};

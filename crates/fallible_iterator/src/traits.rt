@@ -1,13 +1,30 @@
 //! The trait of fallible iterators: one call that each type writes, and all that comes with it.
 ghost use Rattle.std.specs.Prelude.{◌≡◌, ℕ, true, false, ◌+◌, ◌-◌, ◌≤◌, ◌<◌, ◌^◌, List, Option, Result, Some, None, Ok, MatchResult, ◌↔◌};
-ghost use Rattle.fallible_iterator.specs.Source.{Source, Lawful, Stays};
+ghost use Rattle.fallible_iterator.specs.Contract.{Contract, Lawful, Stays};
 ghost use Rattle.fallible_iterator.specs.Closures.{IsCallable, call_on, takes_on, call_at, takes_at};
-ghost use Rattle.fallible_iterator.specs.Enumerate.{IsNumberable};
-ghost use Rattle.fallible_iterator.specs.Filtering.{skip_call, skip_takes};
-ghost use Rattle.fallible_iterator.specs.OneToOne.{scan_call, scan_takes};
-ghost use Rattle.fallible_iterator.specs.Parts.{map_parts, inspect_parts, filter_parts, filter_map_parts, skip_while_parts, map_err_parts, enumerate_parts, scan_parts, cloned_parts, take_parts, take_while_parts, fuse_parts, skip_parts, step_by_parts};
-ghost use Rattle.fallible_iterator.specs.Parts.{chain_parts, zip_parts, flatten_parts, flat_map_parts, peekable_parts, cycle_parts};
-ghost use Rattle.fallible_iterator.specs.declared.joining.chaining.Sides.TheVariants.{Both};
+ghost use Rattle.fallible_iterator.specs.OneToOne.Enumerate.{IsNumberable};
+ghost use Rattle.fallible_iterator.specs.Filtering.SkipWhile.{skip_call, skip_takes};
+ghost use Rattle.fallible_iterator.specs.OneToOne.Scan.{scan_call, scan_takes};
+ghost use Rattle.fallible_iterator.specs.OneToOne.Map.{map_parts};
+ghost use Rattle.fallible_iterator.specs.OneToOne.Inspect.{inspect_parts};
+ghost use Rattle.fallible_iterator.specs.Filtering.Filter.{filter_parts};
+ghost use Rattle.fallible_iterator.specs.Filtering.FilterMap.{filter_map_parts};
+ghost use Rattle.fallible_iterator.specs.Filtering.SkipWhile.{skip_while_parts};
+ghost use Rattle.fallible_iterator.specs.OneToOne.MapErr.{map_err_parts};
+ghost use Rattle.fallible_iterator.specs.OneToOne.Enumerate.{enumerate_parts};
+ghost use Rattle.fallible_iterator.specs.OneToOne.Scan.{scan_parts};
+ghost use Rattle.fallible_iterator.specs.OneToOne.Cloned.{cloned_parts};
+ghost use Rattle.fallible_iterator.specs.Cutting.Take.{take_parts};
+ghost use Rattle.fallible_iterator.specs.Cutting.TakeWhile.{take_while_parts};
+ghost use Rattle.fallible_iterator.specs.Cutting.Fuse.{fuse_parts};
+ghost use Rattle.fallible_iterator.specs.Cutting.Skip.{skip_parts};
+ghost use Rattle.fallible_iterator.specs.Cutting.StepBy.{step_by_parts};
+ghost use Rattle.fallible_iterator.specs.Joining.Chain.{chain_parts};
+ghost use Rattle.fallible_iterator.specs.Joining.Zip.{zip_parts};
+ghost use Rattle.fallible_iterator.specs.Joining.Flatten.{flatten_parts, flat_map_parts};
+ghost use Rattle.fallible_iterator.specs.Peeking.Peekable.{peekable_parts};
+ghost use Rattle.fallible_iterator.specs.Joining.Cycle.{cycle_parts};
+ghost use Rattle.fallible_iterator.specs.declared.joining.chain.StillDrawn.TheVariants.{Both};
 ghost use Rattle.fallible_iterator.specs.Collecting.{Collects, PushTurn};
 ghost use Rattle.fallible_iterator.specs.Folds.{CallableCarrying, Carried, CallableInFold, call_with, takes_with, FoldTurn, Folded, Counted, Nth};
 
@@ -18,10 +35,10 @@ use crate::collecting::{Collect, Fault};
 use crate::cutting::{Fuse, Skip, StepBy, Take, TakeWhile};
 use crate::filtering::{Filter, FilterMap, SkipWhile};
 use crate::folds::{Exit, Is, Turn};
-use crate::joining::{Chain, Cycle, FlatMap, Flatten, Sides, Zip};
+use crate::joining::{Chain, Cycle, FlatMap, Flatten, StillDrawn, Zip};
+use crate::number::Number;
 use crate::one_to_one::{Cloned, Enumerate, Inspect, Map, MapErr, Scan};
 use crate::peeking::Peekable;
-use crate::to_come::Number;
 use crate::traits::conversion::IntoFallibleIterator;
 use std::alloc::{AllocError, Global};
 use std::convert::Infallible;
@@ -29,7 +46,7 @@ use std::marker::PhantomData;
 
 /// An iterator whose `next` may fail. It may go on after an end and after a failure.
 ///
-/// A type of one's own writes `next`, `size_hint` and `source`: its step, and what it says of what is still to come. `counting_down` of `specs/Source` makes that of a step and a bound. A search then finds `lawful`.
+/// A type of one's own writes `next`, `size_hint` and `contract`: its step, and what it says of what is still to come. `counting_down` of `specs/Source` makes that of a step and a bound. A search then finds `lawful`.
 pub trait FallibleIterator: Drop + Sized {
     /// What it gives.
     type Item;
@@ -38,21 +55,21 @@ pub trait FallibleIterator: Drop + Sized {
     type Error;
 
     // All that the contract says of the values of this type.
-    ghost source: { Source Self Self.Item Self.Error };
+    ghost contract: { Contract Self Self.Item Self.Error };
 
     /// One answer: an item, a failure or an end. The step of the type says which, and what is left.
     fn next(&mut self) -> Result<Option<Self::Item>, Self::Error>
-        requires { source.can self.old }
-        ensures { source.steps self.old result self.new };
+        requires { contract.can self.old }
+        ensures { contract.steps self.old result self.new };
 
     /// Bounds on the items of a run up to its first end, where it has no failure. A type with nothing to say answers `(0, None)`.
     fn size_hint(&self) -> (usize, Option<usize>)
-        ensures { source.hints self.now result };
+        ensures { contract.hints self.now result };
 
     // A number to come, for drains to count down by. It is no part of the surface.
     fn number(&self) -> Number
-        requires { (n : ℕ) × source.to_come self.now n }
-        ensures { source.to_come self.now result.value }
+        requires { (n : ℕ) × contract.to_come self.now n }
+        ensures { contract.to_come self.now result.value }
     {
         Number {
             marker: PhantomData,
@@ -66,11 +83,11 @@ pub trait FallibleIterator: Drop + Sized {
         k: &K,
     ) -> Exit<C, Self::Error, R>
     where
-        requires can { source.can self.old }
-        requires finite { source.has_end self.old }
-        requires callable { CallableCarrying source.steps (K.turns k.now) (K.can_turn k.now) self.old init }
-        ensures carried { Carried source.steps (K.turns k.now) self.old init result self.new }
-        ensures stays { Stays source self.old self.new }
+        requires can { contract.can self.old }
+        requires finite { contract.has_end self.old }
+        requires callable { CallableCarrying contract.steps (K.turns k.now) (K.can_turn k.now) self.old init }
+        ensures carried { Carried contract.steps (K.turns k.now) self.old init result self.new }
+        ensures stays { Stays contract self.old self.new }
     {
         let mut carried = init;
         let mut left = (*self).number();
@@ -91,9 +108,9 @@ pub trait FallibleIterator: Drop + Sized {
     fn count(mut self) -> Result<usize, Self::Error>
     where
         Self::Item: Drop,
-        requires can { source.can self }
-        requires fits { source.to_come self (2 ^ 64 - 1) }
-        ensures { Counted source.steps self result }
+        requires can { contract.can self }
+        requires fits { contract.to_come self (2 ^ 64 - 1) }
+        ensures { Counted contract.steps self result }
     {
         let one_more = |n: usize, x: Self::Item| -> Result<usize, Infallible>
             requires { n < 2 ^ 64 - 1 }
@@ -113,9 +130,9 @@ pub trait FallibleIterator: Drop + Sized {
     fn nth(&mut self, n: usize) -> Result<Option<Self::Item>, Self::Error>
     where
         Self::Item: Drop,
-        requires { source.can self.old }
-        ensures nth { Nth source.steps self.old n result self.new }
-        ensures stays { Stays source self.old self.new }
+        requires { contract.can self.old }
+        ensures nth { Nth contract.steps self.old n result self.new }
+        ensures stays { Stays contract self.old self.new }
     {
         let mut left = n;
         while 0 < left {
@@ -138,11 +155,11 @@ pub trait FallibleIterator: Drop + Sized {
         E: From<Self::Error>,
         Self::Item: Is<T>,
         F: FnMut(B, T) -> Result<B, E>,
-        requires can { source.can self.old }
-        requires finite { source.has_end self.old }
-        requires callable { CallableInFold source.steps (call_with Self.Item.as_is F.FnMut) (takes_with Self.Item.as_is F.FnMut) self.old f init }
-        ensures folded { Folded source.steps (call_with Self.Item.as_is F.FnMut) E.from_gives self.old init f result self.new }
-        ensures stays { Stays source self.old self.new }
+        requires can { contract.can self.old }
+        requires finite { contract.has_end self.old }
+        requires callable { CallableInFold contract.steps (call_with Self.Item.as_is F.FnMut) (takes_with Self.Item.as_is F.FnMut) self.old f init }
+        ensures folded { Folded contract.steps (call_with Self.Item.as_is F.FnMut) E.from_gives self.old init f result self.new }
+        ensures stays { Stays contract self.old self.new }
     {
         let turn = |carried: (B, F), x: Self::Item| -> Result<(B, F), E>
             requires { F.pre carried.1 carried.0 (Self.Item.as_is x) }
@@ -169,22 +186,22 @@ pub trait FallibleIterator: Drop + Sized {
         Self::Error: Is<E>,
         E: From<Self::Error>,
         F: FnMut(B, T) -> Result<B, E>,
-        requires can { source.can self }
-        requires finite { source.has_end self }
-        requires callable { CallableInFold source.steps (call_with Self.Item.as_is F.FnMut) (takes_with Self.Item.as_is F.FnMut) self f init }
-        ensures { (left : Self) × Folded source.steps (call_with Self.Item.as_is F.FnMut) E.from_gives self init f result left }
+        requires can { contract.can self }
+        requires finite { contract.has_end self }
+        requires callable { CallableInFold contract.steps (call_with Self.Item.as_is F.FnMut) (takes_with Self.Item.as_is F.FnMut) self f init }
+        ensures { (left : Self) × Folded contract.steps (call_with Self.Item.as_is F.FnMut) E.from_gives self init f result left }
     {
         self.try_fold(init, f)
     }
 
     // What the other functions know of a draw: see `Goes`.
-    ghost lawful: { Lawful source };
+    ghost lawful: { Lawful contract };
 
     /// Replaces each item by the closure's answer on it. Making the adapter draws nothing and calls nothing.
     final fn map<F, B>(self, f: F) -> Map<Self, F>
     where
         F: FnMut(Self::Item) -> Result<B, Self::Error>,
-        requires { IsCallable (call_on F.FnMut) (takes_on F.FnMut) (source.gives self) f }
+        requires { IsCallable (call_on F.FnMut) (takes_on F.FnMut) (contract.gives self) f }
         ensures { map_parts result ≡ (self, Some f) }
     {
         Map {
@@ -197,8 +214,8 @@ pub trait FallibleIterator: Drop + Sized {
     final fn filter<F>(self, f: F) -> Filter<Self, F>
     where
         F: FnMut(&Self::Item) -> Result<bool, Self::Error>,
-        requires finite { source.has_end self }
-        requires callable { IsCallable (call_at F.FnMut) (takes_at F.FnMut) (source.gives self) f }
+        requires finite { contract.has_end self }
+        requires callable { IsCallable (call_at F.FnMut) (takes_at F.FnMut) (contract.gives self) f }
         ensures { filter_parts result ≡ (self, Some f) }
     {
         Filter {
@@ -218,7 +235,7 @@ pub trait FallibleIterator: Drop + Sized {
     final fn take_while<P>(self, predicate: P) -> TakeWhile<Self, P>
     where
         P: FnMut(&Self::Item) -> Result<bool, Self::Error>,
-        requires { IsCallable (call_at P.FnMut) (takes_at P.FnMut) (source.gives self) predicate }
+        requires { IsCallable (call_at P.FnMut) (takes_at P.FnMut) (contract.gives self) predicate }
         ensures { take_while_parts result ≡ ((self, Some predicate), false) }
     {
         TakeWhile {
@@ -266,8 +283,8 @@ pub trait FallibleIterator: Drop + Sized {
     final fn filter_map<B, F>(self, f: F) -> FilterMap<Self, F>
     where
         F: FnMut(Self::Item) -> Result<Option<B>, Self::Error>,
-        requires finite { source.has_end self }
-        requires callable { IsCallable (call_on F.FnMut) (takes_on F.FnMut) (source.gives self) f }
+        requires finite { contract.has_end self }
+        requires callable { IsCallable (call_on F.FnMut) (takes_on F.FnMut) (contract.gives self) f }
         ensures { filter_map_parts result ≡ (self, Some f) }
     {
         FilterMap {
@@ -282,7 +299,7 @@ pub trait FallibleIterator: Drop + Sized {
     final fn inspect<F>(self, f: F) -> Inspect<Self, F>
     where
         F: FnMut(&Self::Item) -> Result<(), Self::Error>,
-        requires { IsCallable (call_at F.FnMut) (takes_at F.FnMut) (source.gives self) f }
+        requires { IsCallable (call_at F.FnMut) (takes_at F.FnMut) (contract.gives self) f }
         ensures { inspect_parts result ≡ (self, Some f) }
     {
         Inspect {
@@ -297,8 +314,8 @@ pub trait FallibleIterator: Drop + Sized {
     final fn map_err<B, F>(self, f: F) -> MapErr<Self, F>
     where
         F: FnMut(Self::Error) -> B,
-        requires { IsCallable (call_on F.FnMut) (takes_on F.FnMut) (source.fails self) f }
-        ensures { map_err_parts result ≡ (self, Some f) }
+        requires { IsCallable (call_on F.FnMut) (takes_on F.FnMut) (contract.fails self) f }
+        ensures { map_err_parts result ≡ (self, f) }
     {
         MapErr { it: self, f }
     }
@@ -307,9 +324,9 @@ pub trait FallibleIterator: Drop + Sized {
     ///
     /// It asks that at most `usize::MAX` items are still to come, so that each number fits.
     final fn enumerate(self) -> Enumerate<Self>
-        requires { source.to_come self (2 ^ 64 - 1) }
-        ensures parts { enumerate_parts result ≡ (self, Some 0) }
-        ensures numberable { source.can self → IsNumberable source self 0 }
+        requires { contract.to_come self (2 ^ 64 - 1) }
+        ensures parts { enumerate_parts result ≡ (self, 0) }
+        ensures numberable { contract.can self → IsNumberable contract self 0 }
     {
         Enumerate { it: self, count: 0 }
     }
@@ -320,9 +337,9 @@ pub trait FallibleIterator: Drop + Sized {
     final fn skip_while<P>(self, predicate: P) -> SkipWhile<Self, P>
     where
         P: FnMut(&Self::Item) -> Result<bool, Self::Error>,
-        requires finite { source.has_end self }
-        requires callable { IsCallable (skip_call P.FnMut) (skip_takes P.FnMut) (source.gives self) (false, predicate) }
-        ensures { skip_while_parts result ≡ (self, Some (false, predicate)) }
+        requires finite { contract.has_end self }
+        requires callable { IsCallable (skip_call (call_at P.FnMut)) (skip_takes (takes_at P.FnMut)) (contract.gives self) (false, predicate) }
+        ensures { skip_while_parts result ≡ (self, (false, Some predicate)) }
     {
         SkipWhile {
             it: self,
@@ -337,8 +354,8 @@ pub trait FallibleIterator: Drop + Sized {
     final fn scan<St, B, F>(self, initial_state: St, f: F) -> Scan<Self, St, F>
     where
         F: FnMut(&mut St, Self::Item) -> Result<Option<B>, Self::Error>,
-        requires { IsCallable (scan_call F.FnMut) (scan_takes F.FnMut) (source.gives self) (initial_state, f) }
-        ensures { scan_parts result ≡ (self, Some (initial_state, f)) }
+        requires { IsCallable (scan_call F.FnMut) (scan_takes F.FnMut) (contract.gives self) (initial_state, f) }
+        ensures { scan_parts result ≡ (self, (initial_state, f)) }
     {
         Scan {
             it: self,
@@ -353,7 +370,7 @@ pub trait FallibleIterator: Drop + Sized {
         Self: FallibleIterator<Item = &'a T>,
         T: Clone,
         Self::Error: From<AllocError>,
-        ensures { cloned_parts result ≡ (self, Some tt) }
+        ensures { cloned_parts result ≡ (self, tt) }
     {
         Cloned { it: self }
     }
@@ -369,7 +386,7 @@ pub trait FallibleIterator: Drop + Sized {
         Chain {
             front: self,
             back: it.into_fallible_iter(),
-            sides: Sides::Both,
+            still_drawn: StillDrawn::Both,
         }
     }
 
@@ -392,7 +409,7 @@ pub trait FallibleIterator: Drop + Sized {
     final fn flatten(self) -> Flatten<Self>
     where
         Self::Item: IntoFallibleIterator<Error = Self::Error>,
-        requires { source.has_end self }
+        requires { contract.has_end self }
         ensures { flatten_parts result ≡ (self, None) }
     {
         Flatten {
@@ -408,8 +425,8 @@ pub trait FallibleIterator: Drop + Sized {
     where
         U: IntoFallibleIterator<Error = Self::Error>,
         F: FnMut(Self::Item) -> Result<U, Self::Error>,
-        requires finite { source.has_end self }
-        requires callable { IsCallable (call_on F.FnMut) (takes_on F.FnMut) (source.gives self) f }
+        requires finite { contract.has_end self }
+        requires callable { IsCallable (call_on F.FnMut) (takes_on F.FnMut) (contract.gives self) f }
         ensures outer { map_parts (flat_map_parts result).0 ≡ (self, Some f) }
         ensures in_hand { (flat_map_parts result).1 ≡ None }
     {
@@ -427,9 +444,9 @@ pub trait FallibleIterator: Drop + Sized {
         alloc: Global,
     ) -> Result<C, Fault<Self::Error>>
     where
-        requires can { source.can self }
-        requires finite { source.has_end self }
-        ensures { Collects source.steps C.made C.empty_refuses C.push_refuses self result }
+        requires can { contract.can self }
+        requires finite { contract.has_end self }
+        ensures { Collects contract.steps C.made C.empty_refuses C.push_refuses self result }
     {
         let made = match C::empty(alloc) {
             Ok(made) => made,
@@ -468,13 +485,13 @@ pub trait FallibleIterator: Drop + Sized {
     where
         Self: Clone,
         Self::Error: From<AllocError>,
-        requires { (c : Self) → Self.is_clone self c → source.can c }
+        requires { (c : Self) → Self.is_clone self c → contract.can c }
         ensures { MatchResult result (λ made. Self.is_clone self (cycle_parts made).0 × ((cycle_parts made).1 ≡ self)) (λ _. ¬ (Self.is_infallible self)) }
     {
         let run = self.clone()?;
         Ok(Cycle {
             it: run,
-            source: self,
+            kept: self,
         })
     }
 

@@ -1,7 +1,7 @@
 -- Lemmas on chains of fallible iterators of which one list says all that draws give.
 use Rattle.std.proofs.Common.{◌≡◌, ℕ, ◌+◌, ◌-◌, ◌<◌, ◌≤◌, length, List, [], ◌∷◌, ◌++◌, map, Option, Some, None, MatchOption, Result, Ok, Err, Bool, true, false, ◌⊎◌, inl, inr, refl, sym, ap, subst, ◌∙◌, arith}
 use Rattle.std.specs.Iterator.{Count, AlwaysYields}
-use Rattle.std.specs.Iterator.Adapters.{zip_first, zip_second, zip_steps, fuse_source, fuse_done, fuse_steps}
+use Rattle.std.specs.Iterator.Adapters.{zip_first, zip_second, zip_steps, fuse_contract, fuse_done, fuse_steps}
 use Rattle.std.specs.declared.iter.Zip.{Zip}
 use Rattle.std.specs.declared.iter.Fuse.{Fuse}
 use Rattle.std.specs.declared.ops.RangeFrom.{RangeFrom}
@@ -9,17 +9,20 @@ use Rattle.std.specs.Fn.{Mut}
 use Rattle.std.specs.Borrow.{Bor}
 use Rattle.std.proofs.lemmas.Bool.{MatchBool-at_false}
 use Rattle.std.proofs.lemmas.Iterator.{YieldsList}
-use Rattle.fallible_iterator.specs.declared.sources.Convert.{Convert}
-use Rattle.fallible_iterator.specs.declared.one_to_one.Map.{Map}
-use Rattle.fallible_iterator.specs.declared.filtering.Filter.{Filter}
+use Rattle.fallible_iterator.specs.declared.sources.convert.Convert.{Convert}
+use Rattle.fallible_iterator.specs.declared.one_to_one.map.Map.{Map}
+use Rattle.fallible_iterator.specs.declared.filtering.filter.Filter.{Filter}
 use Rattle.fallible_iterator.specs.Traces.{Answered, Run, item}
-use Rattle.fallible_iterator.specs.Source.{seen_as}
+use Rattle.fallible_iterator.specs.Contract.{seen_as}
 use Rattle.fallible_iterator.specs.Closures.{InSlots, call_on, call_at}
-use Rattle.fallible_iterator.specs.Parts.{convert_source_of, map_parts, filter_parts}
-use Rattle.fallible_iterator.specs.Sources.{std_step, convert_source}
+use Rattle.fallible_iterator.specs.Sources.Convert.{convert_parts}
+use Rattle.fallible_iterator.specs.OneToOne.Map.{map_parts}
+use Rattle.fallible_iterator.specs.Filtering.Filter.{filter_parts}
+use Rattle.fallible_iterator.specs.Sources.Std.{std_step}
+use Rattle.fallible_iterator.specs.Sources.Convert.{convert_contract}
 use Rattle.fallible_iterator.specs.Passing.{Outcome, kept, left_out, failed, an_end, PassTrace}
-use Rattle.fallible_iterator.specs.OneToOne.{map_outcome}
-use Rattle.fallible_iterator.specs.Filtering.{filter_outcome}
+use Rattle.fallible_iterator.specs.OneToOne.Map.{map_outcome}
+use Rattle.fallible_iterator.specs.Filtering.Filter.{filter_outcome}
 use Rattle.fallible_iterator.specs.Folds.{CountExit, Counted}
 use Rattle.fallible_iterator.specs.Laws.Passing.{Passes, ends, fails, keeps, refuses, closes, leaves_out, done, to_passes, from_passes}
 
@@ -251,26 +254,26 @@ module _ {S A B : Type 0} (steps : S → Option A → S → Type 0) (v : A → B
       )
 
 module _ {S A B : Type 0} (steps : S → Option A → S → Type 0) (v : A → B) where
-  yields_fused : (ys : List B) (s : Fuse S) → AlwaysYields steps v (fuse_source s) ys → fuse_done s ≡ false → AlwaysYields (fuse_steps steps) v s ys
-  yields_fused [] s h open_still = λ x j step. h x (fuse_source j) (MatchBool-at_false _ _ open_still step.0)
+  yields_fused : (ys : List B) (s : Fuse S) → AlwaysYields steps v (fuse_contract s) ys → fuse_done s ≡ false → AlwaysYields (fuse_steps steps) v s ys
+  yields_fused [] s h open_still = λ x j step. h x (fuse_contract j) (MatchBool-at_false _ _ open_still step.0)
   yields_fused (y ∷ ys) s h open_still = (
-    (λ j step. h.0 (fuse_source j) (MatchBool-at_false _ _ open_still step.0)),
-    λ x j step. let a = h.1 x (fuse_source j) (MatchBool-at_false _ _ open_still step.0) in (a.0, yields_fused ys j a.1 step.1),
+    (λ j step. h.0 (fuse_contract j) (MatchBool-at_false _ _ open_still step.0)),
+    λ x j step. let a = h.1 x (fuse_contract j) (MatchBool-at_false _ _ open_still step.0) in (a.0, yields_fused ys j a.1 step.1),
   )
 
 pub YieldsList-from_zip_numbers : {S A B : Type 0} {steps : S → Option A → S → Type 0} {v : A → B} {ys : List B} {s : Zip S (RangeFrom ℕ)} (top n : ℕ) → YieldsList steps v (zip_first s) ys → (zip_second s).start ≡ n → n + length ys ≤ top
     → YieldsList (zip_steps steps (upward top)) (λ (p : A × ℕ). (v p.0, p.1)) s (numbered n ys)
 YieldsList-from_zip_numbers {steps = steps} {v = v} {ys = ys} {s = s} top n h start few = record { runs = yields_numbered steps v top ys n s h.runs start few }
 
-pub YieldsList-from_fuse : {S A B : Type 0} {steps : S → Option A → S → Type 0} {v : A → B} {ys : List B} {s : Fuse S} → YieldsList steps v (fuse_source s) ys → fuse_done s ≡ false → YieldsList (fuse_steps steps) v s ys
+pub YieldsList-from_fuse : {S A B : Type 0} {steps : S → Option A → S → Type 0} {v : A → B} {ys : List B} {s : Fuse S} → YieldsList steps v (fuse_contract s) ys → fuse_done s ≡ false → YieldsList (fuse_steps steps) v s ys
 YieldsList-from_fuse {steps = steps} {v = v} {ys = ys} {s = s} h open_still = record { runs = yields_fused steps v ys s h.runs open_still }
 
 -- ---- the calls of a chain
 
 pub AnswersList-from_convert : {S A B E : Type 0} {can : S → Type 0} {gives : S → Option (Result A E) → S → Type 0} {remaining : S → Count} {v : A → B} {ys : List (Result B E)} {s : Convert S} {j : S}
-    → YieldsList gives (ok_seen v) j ys → convert_source_of s ≡ j → AnswersList (seen_as convert_source_of (convert_source can gives remaining)).steps v s ys
+    → YieldsList gives (ok_seen v) j ys → convert_parts s ≡ j → AnswersList (seen_as convert_parts (convert_contract can gives remaining)).steps v s ys
 AnswersList-from_convert {can = can} {gives = gives} {remaining = remaining} {v = v} {ys = ys} {s = s} {j = j} h is =
-    record { runs = answers_seen convert_source_of (std_step Ok Err can gives remaining) v ys s (answers_std can gives remaining v ys s.it (subst (λ i. AlwaysYields gives (ok_seen v) i ys) (sym is) h.runs)) }
+    record { runs = answers_seen convert_parts (std_step Ok Err can gives remaining) v ys s (answers_std can gives remaining v ys s.it (subst (λ i. AlwaysYields gives (ok_seen v) i ys) (sym is) h.runs)) }
 
 seen_map : {X B C D E : Type 0} (v : B → D) (x : X) (y : C) (r : Result B E) → seen_outcome v (map_outcome x r) ≡ map_outcome y (ok_seen v r)
 seen_map v x y (Ok b) = refl

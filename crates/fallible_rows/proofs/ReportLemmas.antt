@@ -3,8 +3,8 @@ use Rattle.std.proofs.Common.{◌≡◌, ℕ, ◌+◌, Bool, true, false, cond, 
 use Rattle.std.specs.List.{position_from}
 use Rattle.std.proofs.lemmas.Bool.{cond-false}
 use Rattle.std.proofs.lemmas.Iterator.Adapters.{position_from-zero}
-use Rattle.fallible_iterator.specs.OneToOne.{map_outcome}
-use Rattle.fallible_iterator.specs.Filtering.{filter_outcome}
+use Rattle.fallible_iterator.specs.OneToOne.Map.{map_outcome}
+use Rattle.fallible_iterator.specs.Filtering.Filter.{filter_outcome}
 use Rattle.fallible_rows.specs.declared.fault.RowFault.{RowFault}
 use Rattle.fallible_rows.specs.declared.fault.RowFault.TheVariants.{Row}
 use Rattle.fallible_rows.specs.Rows.{row_number}

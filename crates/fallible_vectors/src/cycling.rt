@@ -1,7 +1,7 @@
 // The adapter that begins anew at each end.
 ghost use Rattle.std.specs.Prelude.{◌≡◌, ◌+◌, ◌≤◌, MatchResult, MatchOption};
 ghost use Rattle.std.proofs.Common.{rules};
-ghost use Rattle.fallible_iterator.specs.Source.{counting_down};
+ghost use Rattle.fallible_iterator.specs.Contract.{counting_down};
 
 use crate::failure::Failure;
 use crate::listed::listed;
@@ -82,7 +82,7 @@ impl FallibleIterator for Late {
 
     type Error = Failure;
 
-    ghost source = { counting_down (λ s r t. MatchResult r (λ o. MatchOption o (t.left ≤ s.left) (λ _. t.left + 1 ≡ s.left)) (λ _. ⊥)) (λ s. s.left) };
+    ghost contract = { counting_down (λ s r t. MatchResult r (λ o. MatchOption o (t.left ≤ s.left) (λ _. t.left + 1 ≡ s.left)) (λ _. ⊥)) (λ s. s.left) };
 
     fn next(&mut self) -> Result<Option<u32>, Failure> {
         match self.left {
@@ -140,7 +140,7 @@ impl<'a> FallibleIterator for Pair<'a> {
 
     type Error = Failure;
 
-    ghost source = { counting_down (λ s r t. MatchResult r (λ o. MatchOption o (t.left ≤ s.left) (λ _. t.left + 1 ≡ s.left)) (λ _. ⊥)) (λ s. s.left) };
+    ghost contract = { counting_down (λ s r t. MatchResult r (λ o. MatchOption o (t.left ≤ s.left) (λ _. t.left + 1 ≡ s.left)) (λ _. ⊥)) (λ s. s.left) };
 
     fn next(&mut self) -> Result<Option<u32>, Failure> {
         match self.left {

@@ -68,8 +68,8 @@ fn draw_and_stop<U: IntoFallibleIterator<Item = u32, Error = u32>>(
 ) -> (Result<Option<u32>, u32>, Result<u32, u32>)
 where
     U: Drop,
-    requires can { (c : U.IntoFallibleIter) → U.into_gives inner c → U.IntoFallibleIter.source.can c }
-    requires finite { (c : U.IntoFallibleIter) → U.into_gives inner c → U.IntoFallibleIter.source.to_come c 9 }
+    requires can { (c : U.IntoFallibleIter) → U.into_gives inner c → U.IntoFallibleIter.contract.can c }
+    requires finite { (c : U.IntoFallibleIter) → U.into_gives inner c → U.IntoFallibleIter.contract.to_come c 9 }
 {
     let mut it = once::<U, u32>(inner).flatten();
     let first = it.next();

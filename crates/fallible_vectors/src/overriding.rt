@@ -1,6 +1,6 @@
 // A fallible iterator of a user's own that writes its own folds.
-ghost use Rattle.fallible_iterator.specs.Source.{seen_as};
-ghost use Rattle.fallible_iterator.specs.Laws.Source.{lawful_seen};
+ghost use Rattle.fallible_iterator.specs.Contract.{seen_as};
+ghost use Rattle.fallible_iterator.specs.Laws.Contract.{lawful_seen};
 
 use crate::listed::listed;
 use fallible_iterator::FallibleIterator;
@@ -19,7 +19,7 @@ impl<I: FallibleIterator<Item = u32, Error = u32>> FallibleIterator for Watched<
 
     type Error = u32;
 
-    ghost source = { seen_as (λ w. w.it) I.source };
+    ghost contract = { seen_as (λ w. w.it) I.contract };
 
     fn next(&mut self) -> Result<Option<u32>, u32> {
         self.it.next()

@@ -1,7 +1,7 @@
 // A fallible iterator of a user's own.
 ghost use Rattle.std.specs.Prelude.{◌≡◌, ◌+◌, MatchResult, MatchOption};
 ghost use Rattle.std.proofs.Common.{rules};
-ghost use Rattle.fallible_iterator.specs.Source.{counting_down};
+ghost use Rattle.fallible_iterator.specs.Contract.{counting_down};
 
 use fallible_iterator::FallibleIterator;
 use fallible_iterator::laws::{Answer, answers};
@@ -19,7 +19,7 @@ impl FallibleIterator for Countdown {
     type Error = ();
 
     // What a draw may answer and leave, and how many items are left at most.
-    ghost source = { counting_down (λ s r t. MatchResult r (λ o. MatchOption o ((s.left ≡ 0) × (t.left ≡ 0)) (λ x. (x ≡ s.left) × (t.left + 1 ≡ s.left))) (λ _. ⊥)) (λ s. s.left) };
+    ghost contract = { counting_down (λ s r t. MatchResult r (λ o. MatchOption o ((s.left ≡ 0) × (t.left ≡ 0)) (λ x. (x ≡ s.left) × (t.left + 1 ≡ s.left))) (λ _. ⊥)) (λ s. s.left) };
 
     fn next(&mut self) -> Result<Option<u32>, ()> {
         if self.left == 0 {

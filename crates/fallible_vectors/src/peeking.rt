@@ -1,7 +1,7 @@
 // The adapter that looks one item ahead.
 ghost use Rattle.std.specs.Prelude.{◌≡◌, ⊤, Some, None, Ok, MatchResult, MatchOption};
-ghost use Rattle.fallible_iterator.specs.Peeking.{Fills};
-ghost use Rattle.fallible_iterator.specs.Parts.{peekable_parts};
+ghost use Rattle.fallible_iterator.specs.Peeking.Peekable.{Fills};
+ghost use Rattle.fallible_iterator.specs.Peeking.Peekable.{peekable_parts};
 
 use crate::failure::Failure;
 use crate::listed::listed;
@@ -136,8 +136,8 @@ fn a_clone_of_peekable_holds_the_item_too(rt: HostRuntime) -> Result<(), Fail> {
 fn take_looked_at<I: FallibleIterator>(it: &mut Peekable<I>) -> Result<Option<I::Item>, I::Error>
 where
     I::Item: Drop,
-    requires { ⟦<Peekable<I> as FallibleIterator>⟧.source.can it.old }
-    ensures { MatchResult result (λ o. MatchOption o ⊤ (λ x. (s : I) × Fills I.source.steps (peekable_parts it.old) (Ok tt) (s, Some x) × (peekable_parts it.new ≡ (s, None)))) (λ _. ⊤) }
+    requires { ⟦<Peekable<I> as FallibleIterator>⟧.contract.can it.old }
+    ensures { MatchResult result (λ o. MatchOption o ⊤ (λ x. (s : I) × Fills I.contract.steps (peekable_parts it.old) (Ok tt) (s, Some x) × (peekable_parts it.new ≡ (s, None)))) (λ _. ⊤) }
 {
     match it.fill() {
         Ok(()) => {}

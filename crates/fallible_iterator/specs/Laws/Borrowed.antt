@@ -1,44 +1,18 @@
 -- The contract of a borrowed fallible iterator is lawful where its own is.
-use Rattle.std.specs.Prelude.{◌≡◌, List, [], ◌∷◌, Some, None, Ok, Err}
+use Rattle.std.specs.Prelude.{Some, None, Ok, Err}
 use Rattle.std.specs.Borrow.{MutBor}
-use Rattle.std.specs.declared.boxed.Box.{Box}
-use Rattle.std.specs.declared.alloc.Global.{Global}
-use Rattle.std.proofs.Common.{refl, ap}
-use Rattle.fallible_iterator.specs.Traces.{Answered, Run}
-use Rattle.fallible_iterator.specs.Source.{Source, OnAnswer, Lawful}
+use Rattle.fallible_iterator.specs.Traces.{Answered}
+use Rattle.fallible_iterator.specs.Contract.{Contract, OnAnswer, Lawful}
 use Rattle.fallible_iterator.specs.Borrowed.{borrowed}
 
-module _ {S A E : Type 0} (m : Source S A E) where
+module _ {S A E : Type 0} (m : Contract S A E) where
   answer_borrowed : (s t : MutBor S) (r : Answered A E) → OnAnswer m s.now r t.now → OnAnswer (borrowed m) s r t
   answer_borrowed s t (Ok (Some x)) h = h
   answer_borrowed s t (Ok None) h = h
   answer_borrowed s t (Err e) h = h
 
-pub lawful_borrowed : {S A E : Type 0} {m : Source S A E} → Lawful m → Lawful (borrowed m)
+pub lawful_borrowed : {S A E : Type 0} {m : Contract S A E} → Lawful m → Lawful (borrowed m)
 lawful_borrowed {m = m} l = record {
   goes = λ s r t c step. let g = l.goes s.now r t.now c step.0 in record { can = g.can; has_end = g.has_end; answer = answer_borrowed m s t r g.answer; gives = g.gives; fails = g.fails };
   ends = λ s. l.ends s.now;
 }
-
-module _ {S A E : Type 0} (steps : S → Answered A E → S → Type 0) where
-  abbrev behind : MutBor S → Answered A E → MutBor S → Type 0
-  behind s r t = steps s.now r t.now × (t.ghost_name ≡ s.ghost_name)
-
-  pub run_behind : (trace : List (Answered A E)) (s t : MutBor S) → Run behind s trace t → Run steps s.now trace t.now
-  run_behind [] s t e = ap (λ (u : MutBor S). u.now) e
-  run_behind (r ∷ rest) s t h = (h.0.now, h.1.0, run_behind rest h.0 t h.2)
-
-  pub run_over : (trace : List (Answered A E)) (s : MutBor S) (x : S) → Run steps s.now trace x → Run behind s trace (record s { now = x })
-  run_over [] s x e = ap (λ (y : S). record s { now = y }) e
-  run_over (r ∷ rest) s x h = let u : MutBor S = record s { now = h.0 } in (u, (h.1, refl), run_over rest u x h.2)
-
-  abbrev in_box : Box S Global → Answered A E → Box S Global → Type 0
-  in_box s r t = steps s.value r t.value
-
-  pub run_in_box : (trace : List (Answered A E)) (s t : Box S Global) → Run in_box s trace t → Run steps s.value trace t.value
-  run_in_box [] s t e = ap (λ (u : Box S Global). u.value) e
-  run_in_box (r ∷ rest) s t h = (h.0.value, h.1, run_in_box rest h.0 t h.2)
-
-  pub run_over_box : (trace : List (Answered A E)) (s : Box S Global) (x : S) → Run steps s.value trace x → Run in_box s trace (record s { value = x })
-  run_over_box [] s x e = ap (λ (y : S). record s { value = y }) e
-  run_over_box (r ∷ rest) s x h = let u : Box S Global = record s { value = h.0 } in (u, h.1, run_over_box rest u x h.2)

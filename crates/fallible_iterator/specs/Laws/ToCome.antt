@@ -1,16 +1,9 @@
 -- A number to come bounds the items of every run.
-use Rattle.std.specs.Prelude.{ℕ, ◌-◌, ◌≤◌, ◌<◌, List, [], ◌∷◌, Some, None, Ok, Err}
+use Rattle.std.specs.Prelude.{ℕ, ◌-◌, ◌≤◌, ◌<◌, [], ◌∷◌, None, Ok, Err}
 use Rattle.std.proofs.Common.{refl, arith}
-use Rattle.fallible_iterator.specs.Traces.{Answered, Run, item, end, items_in}
-use Rattle.fallible_iterator.specs.Source.{Source, OnAnswer, Lawful, ToCome}
-use Rattle.fallible_iterator.specs.Laws.Source.{no_more}
-
-module _ {S A E : Type 0} {m : Source S A E} (l : Lawful m) where
-  pub items_at_most : (trace : List (Answered A E)) (s t : S) (n : ℕ) → m.can s → m.to_come s n → Run m.steps s trace t → items_in trace ≤ n
-  items_at_most [] s t n c b ran = omega arith
-  items_at_most (Ok (Some x) ∷ rest) s t n c b ran = let g = l.goes s (item x) ran.0 c ran.1 in let k = g.answer.1 n b in let h = items_at_most rest ran.0 t k.0 g.can k.1 ran.2 in omega (arith, k.2, h)
-  items_at_most (Ok None ∷ rest) s t n c b ran = let g = l.goes s end ran.0 c ran.1 in let k = g.answer.0 n b in let h = items_at_most rest ran.0 t k.0 g.can k.1 ran.2 in omega (arith, k.2, h)
-  items_at_most (Err e ∷ rest) s t n c b ran = let g = l.goes s (Err e) ran.0 c ran.1 in let k = g.answer.1 n b in let h = items_at_most rest ran.0 t k.0 g.can k.1 ran.2 in omega (arith, k.2, h)
+use Rattle.fallible_iterator.specs.Traces.{Answered, item}
+use Rattle.fallible_iterator.specs.Contract.{Contract, OnAnswer, ToCome}
+use Rattle.fallible_iterator.specs.Laws.Contract.{no_more}
 
 -- ---- the number of a type that states no other
 
@@ -28,5 +21,5 @@ module _ {S A E : Type 0} {steps : S → Answered A E → S → Type 0} where
   bounds_end {s} {t} {n} step b = (n, record { at = λ trace u ran. b.at (Ok None ∷ trace) u (t, step, ran) }, omega arith)
 
 -- so a number stays where there is one
-pub bound_stays : {S A E : Type 0} (m : Source S A E) (s t : S) (r : Answered A E) → OnAnswer m s r t → ((n : ℕ) × m.to_come s n) → ((n : ℕ) × m.to_come t n)
+pub bound_stays : {S A E : Type 0} (m : Contract S A E) (s t : S) (r : Answered A E) → OnAnswer m s r t → ((n : ℕ) × m.to_come s n) → ((n : ℕ) × m.to_come t n)
 bound_stays m s t r a p = let k = no_more m s t r a p.0 p.1 in (k.0, k.1)

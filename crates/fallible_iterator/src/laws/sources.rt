@@ -1,8 +1,20 @@
 //! What a trace of each source is.
 ghost use Rattle.fallible_iterator.specs.Definitions.{MeetsHeld};
 ghost use Rattle.fallible_iterator.specs.Traces.{item, failure};
-ghost use Rattle.fallible_iterator.specs.Sources.{ConvertTrace, IntoFallibleTrace, FromFnTrace, EmptyTrace, OnceTrace, RepeatTrace, RepeatErrTrace};
-ghost use Rattle.fallible_iterator.specs.Parts.{convert_source_of, into_fallible_source_of, from_fn_closure, once_item, once_failure, repeat_value, repeat_err_value};
+ghost use Rattle.fallible_iterator.specs.Sources.Convert.{ConvertTrace};
+ghost use Rattle.fallible_iterator.specs.Sources.IntoFallible.{IntoFallibleTrace};
+ghost use Rattle.fallible_iterator.specs.Sources.FromFn.{FromFnTrace};
+ghost use Rattle.fallible_iterator.specs.Sources.Empty.{EmptyTrace};
+ghost use Rattle.fallible_iterator.specs.Held.{OnceTrace};
+ghost use Rattle.fallible_iterator.specs.Sources.Repeat.{RepeatTrace};
+ghost use Rattle.fallible_iterator.specs.Sources.RepeatErr.{RepeatErrTrace};
+ghost use Rattle.fallible_iterator.specs.Sources.Convert.{convert_parts};
+ghost use Rattle.fallible_iterator.specs.Sources.IntoFallible.{into_fallible_parts};
+ghost use Rattle.fallible_iterator.specs.Sources.FromFn.{from_fn_parts};
+ghost use Rattle.fallible_iterator.specs.Sources.Once.{once_parts};
+ghost use Rattle.fallible_iterator.specs.Sources.OnceErr.{once_err_parts};
+ghost use Rattle.fallible_iterator.specs.Sources.Repeat.{repeat_parts};
+ghost use Rattle.fallible_iterator.specs.Sources.RepeatErr.{repeat_err_parts};
 
 use crate::sources::{Convert, Empty, FromFn, IntoFallible, Once, OnceErr, Repeat, RepeatErr};
 use crate::traits::FallibleIterator;
@@ -11,42 +23,42 @@ use std::convert::Infallible;
 
 /// A trace of `Convert` is, place by place, the std iterator's answers, each with the progress that std's contract states: `Ok` is an item, `Err` a failure, none an end.
 pub fn law_convert<T, E, I: std::iter::Iterator<Item = Result<T, E>>>()
-    ensures { MeetsHeld convert_source_of ⟦<Convert<I> as FallibleIterator>⟧.source.steps (ConvertTrace I.can_next I.next_gives I.remaining) }
+    ensures { MeetsHeld convert_parts ⟦<Convert<I> as FallibleIterator>⟧.contract.steps (ConvertTrace I.can_next I.next_gives I.remaining) }
 {}
 
 /// A trace of `IntoFallible` is, place by place, the std iterator's answers, each with the progress that std's contract states: each element is an item, none an end.
 pub fn law_into_fallible<T, I: std::iter::Iterator<Item = T>>()
-    ensures { MeetsHeld into_fallible_source_of ⟦<IntoFallible<I> as FallibleIterator>⟧.source.steps (IntoFallibleTrace I.can_next I.next_gives I.remaining) }
+    ensures { MeetsHeld into_fallible_parts ⟦<IntoFallible<I> as FallibleIterator>⟧.contract.steps (IntoFallibleTrace I.can_next I.next_gives I.remaining) }
 {}
 
 /// A trace of `FromFn` is the closure's answers, one call a draw.
 pub fn law_from_fn<T, E, F: FnMut() -> Result<Option<T>, E>>()
-    ensures { MeetsHeld from_fn_closure ⟦<FromFn<F> as FallibleIterator>⟧.source.steps (FromFnTrace F.FnMut) }
+    ensures { MeetsHeld from_fn_parts ⟦<FromFn<F> as FallibleIterator>⟧.contract.steps (FromFnTrace F.FnMut) }
 {}
 
 /// A trace of `Empty` has only ends.
 pub fn law_empty<T, E>()
-    ensures { MeetsHeld (λ s. s) ⟦<Empty<T, E> as FallibleIterator>⟧.source.steps (λ _ trace _. EmptyTrace trace) }
+    ensures { MeetsHeld (λ s. s) ⟦<Empty<T, E> as FallibleIterator>⟧.contract.steps (λ _ trace _. EmptyTrace trace) }
 {}
 
 /// A trace of `Once` is its item, and then ends.
 pub fn law_once<T: Drop, E>()
-    ensures { MeetsHeld once_item ⟦<Once<T, E> as FallibleIterator>⟧.source.steps (OnceTrace item) }
+    ensures { MeetsHeld once_parts ⟦<Once<T, E> as FallibleIterator>⟧.contract.steps (OnceTrace item) }
 {}
 
 /// A trace of `OnceErr` is its failure, and then ends.
 pub fn law_once_err<T, E: Drop>()
-    ensures { MeetsHeld once_failure ⟦<OnceErr<T, E> as FallibleIterator>⟧.source.steps (OnceTrace failure) }
+    ensures { MeetsHeld once_err_parts ⟦<OnceErr<T, E> as FallibleIterator>⟧.contract.steps (OnceTrace failure) }
 {}
 
 /// A trace of `Repeat` has clones of its value as items, and, where a clone was refused, the failure made of the refusal.
 pub fn law_repeat<T: Clone, E: From<AllocError>>()
-    ensures { MeetsHeld repeat_value ⟦<Repeat<T, E> as FallibleIterator>⟧.source.steps (RepeatTrace T.is_clone T.is_infallible E.from_gives) }
+    ensures { MeetsHeld repeat_parts ⟦<Repeat<T, E> as FallibleIterator>⟧.contract.steps (RepeatTrace T.is_clone T.is_infallible E.from_gives) }
 {}
 
 /// A trace of `RepeatErr` has clones of its error as failures, and, where a clone was refused, the failure made of the refusal.
 pub fn law_repeat_err<T, E: Clone + From<AllocError>>()
-    ensures { MeetsHeld repeat_err_value ⟦<RepeatErr<T, E> as FallibleIterator>⟧.source.steps (RepeatErrTrace E.is_clone E.is_infallible E.from_gives) }
+    ensures { MeetsHeld repeat_err_parts ⟦<RepeatErr<T, E> as FallibleIterator>⟧.contract.steps (RepeatErrTrace E.is_clone E.is_infallible E.from_gives) }
 {}
 
 /// What a trace of each source is, all together. The law of each says the same, and with the bounds that its source needs alone.
@@ -57,14 +69,14 @@ where
     I: std::iter::Iterator<Item = Result<T, E>>,
     J: std::iter::Iterator<Item = T>,
     F: FnMut() -> Result<Option<T>, E>,
-    ensures convert { MeetsHeld convert_source_of ⟦<Convert<I> as FallibleIterator>⟧.source.steps (ConvertTrace I.can_next I.next_gives I.remaining) }
-    ensures into_fallible { MeetsHeld into_fallible_source_of ⟦<IntoFallible<J> as FallibleIterator>⟧.source.steps (IntoFallibleTrace J.can_next J.next_gives J.remaining) }
-    ensures from_fn { MeetsHeld from_fn_closure ⟦<FromFn<F> as FallibleIterator>⟧.source.steps (FromFnTrace F.FnMut) }
-    ensures empty { MeetsHeld (λ s. s) ⟦<Empty<T, E> as FallibleIterator>⟧.source.steps (λ _ trace _. EmptyTrace trace) }
-    ensures once { MeetsHeld once_item ⟦<Once<T, E> as FallibleIterator>⟧.source.steps (OnceTrace item) }
-    ensures once_err { MeetsHeld once_failure ⟦<OnceErr<T, E> as FallibleIterator>⟧.source.steps (OnceTrace failure) }
-    ensures repeat { MeetsHeld repeat_value ⟦<Repeat<T, E> as FallibleIterator>⟧.source.steps (RepeatTrace T.is_clone T.is_infallible E.from_gives) }
-    ensures repeat_err { MeetsHeld repeat_err_value ⟦<RepeatErr<T, E> as FallibleIterator>⟧.source.steps (RepeatErrTrace E.is_clone E.is_infallible E.from_gives) }
+    ensures convert { MeetsHeld convert_parts ⟦<Convert<I> as FallibleIterator>⟧.contract.steps (ConvertTrace I.can_next I.next_gives I.remaining) }
+    ensures into_fallible { MeetsHeld into_fallible_parts ⟦<IntoFallible<J> as FallibleIterator>⟧.contract.steps (IntoFallibleTrace J.can_next J.next_gives J.remaining) }
+    ensures from_fn { MeetsHeld from_fn_parts ⟦<FromFn<F> as FallibleIterator>⟧.contract.steps (FromFnTrace F.FnMut) }
+    ensures empty { MeetsHeld (λ s. s) ⟦<Empty<T, E> as FallibleIterator>⟧.contract.steps (λ _ trace _. EmptyTrace trace) }
+    ensures once { MeetsHeld once_parts ⟦<Once<T, E> as FallibleIterator>⟧.contract.steps (OnceTrace item) }
+    ensures once_err { MeetsHeld once_err_parts ⟦<OnceErr<T, E> as FallibleIterator>⟧.contract.steps (OnceTrace failure) }
+    ensures repeat { MeetsHeld repeat_parts ⟦<Repeat<T, E> as FallibleIterator>⟧.contract.steps (RepeatTrace T.is_clone T.is_infallible E.from_gives) }
+    ensures repeat_err { MeetsHeld repeat_err_parts ⟦<RepeatErr<T, E> as FallibleIterator>⟧.contract.steps (RepeatErrTrace E.is_clone E.is_infallible E.from_gives) }
 {
     law_convert::<T, E, I>();
     law_into_fallible::<T, J>();

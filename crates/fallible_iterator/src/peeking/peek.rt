@@ -2,10 +2,10 @@
 ghost use Rattle.std.specs.Prelude.{◌≡◌, ⊤, Result, Option, None, Ok, Err, MatchResult, option_copied};
 ghost use Rattle.std.specs.Borrow.{sem, follows_so};
 ghost use mathlib.Core.Option.{none};
-ghost use Rattle.fallible_iterator.specs.Source.{Stays};
-ghost use Rattle.fallible_iterator.specs.Peeking.{peekable_source, seen, Fills, Peeks};
-ghost use Rattle.fallible_iterator.specs.Parts.{peekable_parts};
-ghost use Rattle.fallible_iterator.specs.contracts.peeking.Peekable.{the_row};
+ghost use Rattle.fallible_iterator.specs.Contract.{Stays};
+ghost use Rattle.fallible_iterator.specs.Peeking.Peekable.{peekable_contract, seen, Fills, Peeks};
+ghost use Rattle.fallible_iterator.specs.Peeking.Peekable.{peekable_parts};
+ghost use Rattle.fallible_iterator.specs.contracts.peeking.peekable.Peekable.{the_row};
 
 use crate::peeking::Peekable;
 use crate::traits::FallibleIterator;
@@ -17,9 +17,9 @@ where
     /// The next item, which is held then: a reference to it. Where an item is held it is that one, and nothing is drawn. Else it draws once; an end is answered as none, a failure as itself, and neither is held. What is left may be drawn from again.
     pub fn peek(&mut self) -> Result<Option<&I::Item>, I::Error>
     where
-        requires { (peekable_source I.source).can (peekable_parts self.old) }
-        ensures answer { (left : I × Option I.Item) × Peeks I.source.steps (peekable_parts self.old) (seen result) left }
-        ensures* held { sem 𝓛 (follows_so (the_row I.row I.Item.row I.Error.row) (the_row I.row I.Item.row I.Error.row) self.entry.ghost_name none (λ _ _. ⊤) (λ v. Peeks I.source.steps (peekable_parts self.old) (seen result) (peekable_parts v) × Stays (peekable_source I.source) (peekable_parts self.old) (peekable_parts v))) }
+        requires { (peekable_contract I.contract).can (peekable_parts self.old) }
+        ensures answer { (left : I × Option I.Item) × Peeks I.contract.steps (peekable_parts self.old) (seen result) left }
+        ensures* held { sem 𝓛 (follows_so (the_row I.row I.Item.row I.Error.row) (the_row I.row I.Item.row I.Error.row) self.entry.ghost_name none (λ _ _. ⊤) (λ v. Peeks I.contract.steps (peekable_parts self.old) (seen result) (peekable_parts v) × Stays (peekable_contract I.contract) (peekable_parts self.old) (peekable_parts v))) }
     {
         let filled = self.fill();
         let held = self.lend();
@@ -29,9 +29,9 @@ where
     // Draws once where nothing is held, and holds an item. It is no part of the surface: with `held` it does what `peek` does, in two steps after which a caller's proof knows what is held.
     pub fn fill(&mut self) -> Result<(), I::Error>
     where
-        requires { (peekable_source I.source).can (peekable_parts self.old) }
-        ensures filled { Fills I.source.steps (peekable_parts self.old) result (peekable_parts self.new) }
-        ensures stays { Stays (peekable_source I.source) (peekable_parts self.old) (peekable_parts self.new) }
+        requires { (peekable_contract I.contract).can (peekable_parts self.old) }
+        ensures filled { Fills I.contract.steps (peekable_parts self.old) result (peekable_parts self.new) }
+        ensures stays { Stays (peekable_contract I.contract) (peekable_parts self.old) (peekable_parts self.new) }
     {
         match self.held {
             Some(_) => Ok(()),
@@ -42,10 +42,10 @@ where
     // Draws once, where nothing is held, and holds an item.
     fn draw(&mut self) -> Result<(), I::Error>
     where
-        requires can { (peekable_source I.source).can (peekable_parts self.old) }
+        requires can { (peekable_contract I.contract).can (peekable_parts self.old) }
         requires empty { self.old.held ≡ None }
-        ensures filled { Fills I.source.steps (peekable_parts self.old) result (peekable_parts self.new) }
-        ensures stays { Stays (peekable_source I.source) (peekable_parts self.old) (peekable_parts self.new) }
+        ensures filled { Fills I.contract.steps (peekable_parts self.old) result (peekable_parts self.new) }
+        ensures stays { Stays (peekable_contract I.contract) (peekable_parts self.old) (peekable_parts self.new) }
     {
         match self.it.next() {
             Ok(Some(x)) => {

@@ -1,8 +1,13 @@
 //! The functions that make sources.
 ghost use Rattle.std.specs.Prelude.{◌≡◌, Some, None, ⊤};
-ghost use Rattle.fallible_iterator.specs.Parts.{convert_source_of, from_fn_closure, once_item, once_failure, repeat_value, repeat_err_value};
+ghost use Rattle.fallible_iterator.specs.Sources.Convert.{convert_parts};
+ghost use Rattle.fallible_iterator.specs.Sources.FromFn.{from_fn_parts};
+ghost use Rattle.fallible_iterator.specs.Sources.Once.{once_parts};
+ghost use Rattle.fallible_iterator.specs.Sources.OnceErr.{once_err_parts};
+ghost use Rattle.fallible_iterator.specs.Sources.Repeat.{repeat_parts};
+ghost use Rattle.fallible_iterator.specs.Sources.RepeatErr.{repeat_err_parts};
 ghost use Rattle.fallible_iterator.specs.Closures.{IsCallable};
-ghost use Rattle.fallible_iterator.specs.Sources.{call_of_none};
+ghost use Rattle.fallible_iterator.specs.Sources.FromFn.{call_of_none};
 
 use crate::sources::{Convert, Empty, FromFn, Once, OnceErr, Repeat, RepeatErr};
 use std::alloc::AllocError;
@@ -12,14 +17,14 @@ use std::marker::PhantomData;
 ///
 /// It may be drawn from where the std iterator may be asked again after every answer, also after `None`, and a bound that it states doesn't rise there.
 pub fn convert<T, E, I: Iterator<Item = Result<T, E>>>(it: I) -> Convert<I>
-    ensures { convert_source_of result ≡ it }
+    ensures { convert_parts result ≡ it }
 {
     Convert { it }
 }
 
 /// Makes a fallible iterator of one item.
 pub fn once<T, E>(value: T) -> Once<T, E>
-    ensures { once_item result ≡ Some value }
+    ensures { once_parts result ≡ Some value }
 {
     Once {
         value: Some(value),
@@ -29,7 +34,7 @@ pub fn once<T, E>(value: T) -> Once<T, E>
 
 /// Makes a fallible iterator of one failure.
 pub fn once_err<T, E>(error: E) -> OnceErr<T, E>
-    ensures { once_failure result ≡ Some error }
+    ensures { once_err_parts result ≡ Some error }
 {
     OnceErr {
         item: PhantomData,
@@ -40,7 +45,7 @@ pub fn once_err<T, E>(error: E) -> OnceErr<T, E>
 /// Makes a fallible iterator of a closure, which is called once for each draw. It calls nothing now.
 pub fn from_fn<I, E, F: FnMut() -> Result<Option<I>, E>>(fun: F) -> FromFn<F>
     requires { IsCallable (call_of_none F.FnMut) (λ f _. F.pre f) (λ _. ⊤) fun }
-    ensures { from_fn_closure result ≡ fun }
+    ensures { from_fn_parts result ≡ fun }
 {
     FromFn { fun }
 }
@@ -55,7 +60,7 @@ pub fn empty<T, E>() -> Empty<T, E> {
 
 /// Makes a fallible iterator that always gives a clone of `value`.
 pub fn repeat<T: Clone, E: From<AllocError>>(value: T) -> Repeat<T, E>
-    ensures { repeat_value result ≡ value }
+    ensures { repeat_parts result ≡ value }
 {
     Repeat {
         value,
@@ -65,7 +70,7 @@ pub fn repeat<T: Clone, E: From<AllocError>>(value: T) -> Repeat<T, E>
 
 /// Makes a fallible iterator that always fails with a clone of `error`.
 pub fn repeat_err<T, E: Clone + From<AllocError>>(error: E) -> RepeatErr<T, E>
-    ensures { repeat_err_value result ≡ error }
+    ensures { repeat_err_parts result ≡ error }
 {
     RepeatErr {
         item: PhantomData,

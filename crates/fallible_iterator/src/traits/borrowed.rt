@@ -1,8 +1,8 @@
 // A fallible iterator behind a `&mut` or in a `Box` answers as it does itself.
 ghost use Rattle.std.specs.Prelude.{◌≡◌, Result, Option};
-ghost use Rattle.fallible_iterator.specs.Source.{seen_as};
+ghost use Rattle.fallible_iterator.specs.Contract.{seen_as};
 ghost use Rattle.fallible_iterator.specs.Borrowed.{borrowed};
-ghost use Rattle.fallible_iterator.specs.Laws.Source.{lawful_seen};
+ghost use Rattle.fallible_iterator.specs.Laws.Contract.{lawful_seen};
 ghost use Rattle.fallible_iterator.specs.Laws.Borrowed.{lawful_borrowed};
 
 use crate::traits::FallibleIterator;
@@ -12,10 +12,10 @@ impl<I: FallibleIterator> FallibleIterator for &mut I {
 
     type Error = I::Error;
 
-    ghost source = { borrowed I.source };
+    ghost contract = { borrowed I.contract };
 
     fn next(&mut self) -> Result<Option<I::Item>, I::Error> {
-        I::next(&mut **self)
+        (**self).next()
     }
 
     fn size_hint(&self) -> (usize, Option<usize>) {
@@ -30,7 +30,7 @@ impl<I: FallibleIterator> FallibleIterator for Box<I> {
 
     type Error = I::Error;
 
-    ghost source = { seen_as (λ s. s.value) I.source };
+    ghost contract = { seen_as (λ s. s.value) I.contract };
 
     fn next(&mut self) -> Result<Option<I::Item>, I::Error> {
         (**self).next()

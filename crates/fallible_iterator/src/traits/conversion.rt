@@ -1,6 +1,7 @@
 //! What becomes a fallible iterator.
 ghost use Rattle.std.specs.Prelude.{◌≡◌};
-ghost use Rattle.fallible_iterator.specs.Parts.{convert_source_of, into_fallible_source_of};
+ghost use Rattle.fallible_iterator.specs.Sources.Convert.{convert_parts};
+ghost use Rattle.fallible_iterator.specs.Sources.IntoFallible.{into_fallible_parts};
 
 use crate::sources::{Convert, IntoFallible};
 use crate::traits::FallibleIterator;
@@ -44,7 +45,7 @@ pub trait IteratorExt: std::iter::Iterator {
     final fn transpose_into_fallible<T, E>(self) -> Convert<Self>
     where
         Self: Sized + std::iter::Iterator<Item = Result<T, E>>,
-        ensures { convert_source_of result ≡ self }
+        ensures { convert_parts result ≡ self }
     {
         Convert { it: self }
     }
@@ -53,7 +54,7 @@ pub trait IteratorExt: std::iter::Iterator {
     final fn into_fallible<T>(self) -> IntoFallible<Self>
     where
         Self: Sized + std::iter::Iterator<Item = T>,
-        ensures { into_fallible_source_of result ≡ self }
+        ensures { into_fallible_parts result ≡ self }
     {
         IntoFallible { it: self }
     }

@@ -1,7 +1,7 @@
 -- Each draw adds its answer.
 use Rattle.std.proofs.Common.{arith}
-use Rattle.fallible_iterator.specs.Laws.Source.{stays_step}
-use Rattle.fallible_iterator.specs.Laws.Answers.{one_more_answer}
+use Rattle.fallible_iterator.proofs.Lemmas.Contract.{stays_step}
+use Rattle.fallible_iterator.proofs.Lemmas.Answers.{one_more_answer}
 use Rattle.fallible_iterator.proofs.laws.answers.Goals as goal
 
 pub loop-it-preserved : goal.loop-it-preserved

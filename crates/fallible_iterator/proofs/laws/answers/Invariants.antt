@@ -1,11 +1,11 @@
 -- What was made are the answers of as many draws, and there is room for the rest.
 use Rattle.std.proofs.Common.{◌≤◌, ◌-◌, vec_len, vec_capacity}
-use Rattle.fallible_iterator.specs.Source.{Stays}
+use Rattle.fallible_iterator.specs.Contract.{Stays}
 use Rattle.fallible_iterator.specs.Answers.{IsAnswers}
 use Rattle.fallible_iterator.proofs.laws.answers.Given as goal
 
 abbrev pub invariant-loop-it : goal.invariant-loop-it
-invariant-loop-it g l = let m = g.I.FallibleIterator.source in record {
+invariant-loop-it g l = let m = g.I.FallibleIterator.contract in record {
   room : l.n ≤ vec_capacity l.made;
   within : vec_len l.made ≤ l.n;
   drawn : IsAnswers m.steps l.fn.it (vec_len l.made) l.made.items l.it;

@@ -1,22 +1,22 @@
 -- The one inner iterator may be drawn from, and its number serves for each that may come; so they do after a draw.
 use Rattle.std.proofs.Common.{◌≡◌, Option, Some, None, sym, ap, subst, arith}
-use Rattle.fallible_iterator.specs.declared.sources.Once.{Once}
+use Rattle.fallible_iterator.specs.declared.sources.once.Once.{Once}
 use Rattle.fallible_iterator.specs.Traces.{Answered}
-use Rattle.fallible_iterator.specs.Source.{Source, Goes, Lawful, seen_as}
+use Rattle.fallible_iterator.specs.Contract.{Contract, Goes, Lawful, seen_as}
 use Rattle.std.specs.Prelude.{IfSome}
-use Rattle.fallible_iterator.specs.Sources.{once_source}
-use Rattle.fallible_iterator.specs.Flattening.{EachInner, flatten_source}
-use Rattle.fallible_iterator.specs.Laws.Source.{lawful_seen}
-use Rattle.fallible_iterator.specs.Laws.Sources.{lawful_once}
-use Rattle.fallible_iterator.specs.Laws.Flattening.{lawful_flatten}
+use Rattle.fallible_iterator.specs.Sources.Once.{once_contract}
+use Rattle.fallible_iterator.specs.Joining.Flatten.{EachInner, flatten_contract}
+use Rattle.fallible_iterator.specs.Laws.Contract.{lawful_seen}
+use Rattle.fallible_iterator.specs.Laws.Sources.Once.{lawful_once}
+use Rattle.fallible_iterator.specs.Laws.Joining.Flatten.{lawful_flatten}
 use Rattle.fallible_vectors.proofs.flattening.draw_and_stop.Goals as goal
 
-module _ {U C B E : Type 0} (into : U → C → Type 0) (inner : Source C B E) (x : U) where
-  abbrev O : Source (Once U E) U E
-  O = seen_as (λ v. v.value) once_source
+module _ {U C B E : Type 0} (into : U → C → Type 0) (inner : Contract C B E) (x : U) where
+  abbrev O : Contract (Once U E) U E
+  O = seen_as (λ v. v.value) once_contract
 
-  abbrev M : Source (Once U E × Option C) B E
-  M = flatten_source O into inner
+  abbrev M : Contract (Once U E × Option C) B E
+  M = flatten_contract O into inner
 
   none_in_hand : (P : C → Type 0) (hand : Option C) → hand ≡ None → IfSome hand P
   none_in_hand P hand e = subst (λ (o : Option C). IfSome o P) (sym e) tt

@@ -2,9 +2,9 @@
 use Rattle.std.proofs.Common.{rules, ◌≡◌, ℕ, Result, Ok, Err, Option, Some, None, List, [], ◌∷◌, ◌++◌, sym, ap, ◌∙◌}
 use Rattle.std.specs.Prelude.{map}
 use Rattle.std.specs.List.{FoldsTo}
-use Rattle.fallible_iterator.specs.declared.sources.Once.{Once}
+use Rattle.fallible_iterator.specs.declared.sources.once.Once.{Once}
 use Rattle.fallible_iterator.specs.Traces.{Answered, Run, item}
-use Rattle.fallible_iterator.specs.Sources.{once_step}
+use Rattle.fallible_iterator.specs.Held.{once_step}
 use Rattle.fallible_iterator.specs.Folds.{fold_turn, FoldExit, Folded}
 use Rattle.fallible_vectors.proofs.traits.folded_once.Goals as goal
 

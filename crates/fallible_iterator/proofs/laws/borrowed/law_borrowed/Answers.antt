@@ -1,5 +1,5 @@
 -- Each draw from the borrow is one from the value behind it.
-use Rattle.fallible_iterator.specs.Laws.Borrowed.{run_behind, run_over, run_in_box, run_over_box}
+use Rattle.fallible_iterator.proofs.Lemmas.Borrowed.{run_behind, run_over, run_in_box, run_over_box}
 use Rattle.fallible_iterator.proofs.laws.borrowed.law_borrowed.Goals as goal
 
 pub returns-clause-borrowed_run : goal.returns-clause-borrowed_run

@@ -1,10 +1,9 @@
--- A run of the values is one of their parts, which the law of `Skip` speaks of.
+-- A run of the values is one of their parts, which the law of the parts speaks of.
 use Rattle.std.proofs.Common.{refl}
-use Rattle.fallible_iterator.specs.Parts.{skip_parts, skip_of}
-use Rattle.fallible_iterator.specs.Laws.Views.{run_seen}
-use Rattle.fallible_iterator.specs.Skipping.{skip_step}
-use Rattle.fallible_iterator.specs.Laws.Skipping.{skip_law}
+use Rattle.fallible_iterator.specs.Cutting.Skip.{skip_parts}
+use Rattle.fallible_iterator.proofs.Lemmas.Definitions.{meets_held}
+use Rattle.fallible_iterator.proofs.Lemmas.Cutting.Skip.{skip_law}
 use Rattle.fallible_iterator.proofs.laws.cutting.law_skip.Goals as goal
 
 pub returns : goal.returns
-returns g c = λ s n trace t left. run_seen skip_parts skip_of (λ x. refl) (λ p. refl) (skip_step g.I.FallibleIterator.source.steps) trace (s, n) (t, left) (skip_law _ s n trace t left)
+returns g c = meets_held skip_parts (λ p. record { it = p.0; to_skip = p.1 }) (λ s. refl) (λ p. refl) _ _ (skip_law _)

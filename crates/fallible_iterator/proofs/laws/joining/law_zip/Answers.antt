@@ -1,10 +1,9 @@
--- A run of the values is one of their parts, which the law of `Zip` speaks of.
+-- A run of the values is one of their parts, which the law of the parts speaks of.
 use Rattle.std.proofs.Common.{refl}
-use Rattle.fallible_iterator.specs.Parts.{zip_parts, zip_of}
-use Rattle.fallible_iterator.specs.Laws.Views.{run_seen}
-use Rattle.fallible_iterator.specs.Zipping.{zip_step}
-use Rattle.fallible_iterator.specs.Laws.Zipping.{zip_law}
+use Rattle.fallible_iterator.specs.Joining.Zip.{zip_parts}
+use Rattle.fallible_iterator.proofs.Lemmas.Definitions.{meets_held}
+use Rattle.fallible_iterator.proofs.Lemmas.Joining.Zip.{zip_law}
 use Rattle.fallible_iterator.proofs.laws.joining.law_zip.Goals as goal
 
 pub returns : goal.returns
-returns g c = λ s u trace t v. run_seen zip_parts zip_of (λ x. refl) (λ p. refl) (zip_step g.T.FallibleIterator.source.steps g.U.FallibleIterator.source.steps) trace (s, u) (t, v) (zip_law _ _ s u trace t v)
+returns g c = meets_held zip_parts (λ p. record { left = p.0; right = p.1 }) (λ s. refl) (λ p. refl) _ _ (zip_law _ _)

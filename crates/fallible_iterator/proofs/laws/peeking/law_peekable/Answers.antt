@@ -1,10 +1,9 @@
--- A run of the values is one of their parts, which the law of `Peekable` speaks of.
+-- A run of the values is one of their parts, which the law of the parts speaks of.
 use Rattle.std.proofs.Common.{refl}
-use Rattle.fallible_iterator.specs.Parts.{peekable_parts, peekable_of}
-use Rattle.fallible_iterator.specs.Laws.Views.{run_seen}
-use Rattle.fallible_iterator.specs.Peeking.{peekable_step}
-use Rattle.fallible_iterator.specs.Laws.Peeking.{peekable_law}
+use Rattle.fallible_iterator.specs.Peeking.Peekable.{peekable_parts}
+use Rattle.fallible_iterator.proofs.Lemmas.Definitions.{meets_held}
+use Rattle.fallible_iterator.proofs.Lemmas.Peeking.Peekable.{peekable_law}
 use Rattle.fallible_iterator.proofs.laws.peeking.law_peekable.Goals as goal
 
 pub returns : goal.returns
-returns g c = λ s held trace t held'. run_seen peekable_parts peekable_of (λ x. refl) (λ p. refl) (peekable_step g.I.FallibleIterator.source.steps) trace (s, held) (t, held') (peekable_law _ s held trace t held')
+returns g c = meets_held peekable_parts (λ p. record { it = p.0; held = p.1 }) (λ s. refl) (λ p. refl) _ _ (peekable_law _)

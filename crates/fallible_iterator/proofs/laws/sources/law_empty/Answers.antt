@@ -1,6 +1,6 @@
 -- There is one value alone.
 use Rattle.std.proofs.Common.{refl}
-use Rattle.fallible_iterator.specs.Laws.SourceTraces.{empty_runs}
+use Rattle.fallible_iterator.proofs.Lemmas.Sources.Empty.{empty_runs}
 use Rattle.fallible_iterator.proofs.laws.sources.law_empty.Goals as goal
 
 pub returns : goal.returns

@@ -1,10 +1,9 @@
--- A run of the struct is a run of the failure that is held.
+-- A run of the values is one of their parts, which the law of the parts speaks of.
 use Rattle.std.proofs.Common.{refl}
-use Rattle.fallible_iterator.specs.Laws.Views.{runs_seen, iff_then}
-use Rattle.fallible_iterator.specs.Traces.{failure}
-use Rattle.fallible_iterator.specs.Parts.{once_failure}
-use Rattle.fallible_iterator.specs.Laws.SourceTraces.{once_runs}
+use Rattle.fallible_iterator.specs.Sources.OnceErr.{once_err_parts}
+use Rattle.fallible_iterator.proofs.Lemmas.Definitions.{meets_held}
+use Rattle.fallible_iterator.proofs.Lemmas.Held.{once_runs}
 use Rattle.fallible_iterator.proofs.laws.sources.law_once_err.Goals as goal
 
 pub returns : goal.returns
-returns g c = λ s trace t. iff_then (runs_seen once_failure (λ v. record { item = record {}; error = v }) (λ x. refl) (λ v. refl) _ trace s t) (once_runs failure trace s.error t.error)
+returns g c = meets_held once_err_parts (λ p. record { item = record {}; error = p }) (λ s. refl) (λ p. refl) _ _ (once_runs _)

@@ -1,6 +1,6 @@
 -- The fold that carries the collection collects.
 use Rattle.std.proofs.Common.{rules, inr}
-use Rattle.fallible_iterator.specs.Laws.Collecting.{collected_all, collect_failed, collect_refused}
+use Rattle.fallible_iterator.proofs.Lemmas.Collecting.{collected_all, collect_failed, collect_refused}
 use Rattle.fallible_iterator.proofs.traits.FallibleIterator.collect.Goals as goal
 
 pub returns-in-Ended : goal.returns-in-Ended

@@ -1,6 +1,6 @@
 -- The fold that carries the number of items counts them.
 use Rattle.std.proofs.Common.{rules}
-use Rattle.fallible_iterator.specs.Laws.Folds.{holds_map, count_fits, counted_ended, counted_failed}
+use Rattle.fallible_iterator.proofs.Lemmas.Folds.{holds_map, count_fits, counted_ended, counted_failed}
 use Rattle.fallible_iterator.proofs.traits.FallibleIterator.count.Goals as goal
 
 pub try_fold_carrying-requires-clause-callable : goal.try_fold_carrying-requires-clause-callable

@@ -1,7 +1,8 @@
 -- Each skipped item goes before what is left of the call.
 use Rattle.std.proofs.Common.{arith}
-use Rattle.fallible_iterator.specs.Laws.Nth.{nth_after}
-use Rattle.fallible_iterator.specs.Laws.Source.{stays_here, stays_step}
+use Rattle.fallible_iterator.proofs.Lemmas.Nth.{nth_after}
+use Rattle.fallible_iterator.specs.Laws.Contract.{stays_here}
+use Rattle.fallible_iterator.proofs.Lemmas.Contract.{stays_step}
 use Rattle.fallible_iterator.proofs.traits.FallibleIterator.nth.Goals as goal
 
 pub loop-left-init : goal.loop-left-init

@@ -1,10 +1,10 @@
 -- What `nth` of the items that are left to skip does from here, the whole does.
-use Rattle.fallible_iterator.specs.Source.{Stays}
+use Rattle.fallible_iterator.specs.Contract.{Stays}
 use Rattle.fallible_iterator.specs.Folds.{Nth}
 use Rattle.fallible_iterator.proofs.traits.FallibleIterator.nth.Given as goal
 
 abbrev pub invariant-loop-left : goal.invariant-loop-left
-invariant-loop-left g l = let m = g.Self.FallibleIterator.source in record {
+invariant-loop-left g l = let m = g.Self.FallibleIterator.contract in record {
   whole : (r : _) (t : _) → Nth m.steps l.self l.left r t → Nth m.steps l.fn.self l.fn.n r t;
   stays : Stays m l.fn.self l.self;
 }

@@ -18,7 +18,7 @@ use denote.Steps.{nothing, heard}
 use denote.Triple.Clauses.{Ended}
 use denote.Triple.Entry.{alive}
 use denote.Triple.Walked.{Stays, says, stay_dropped, Goes-dropped, walk_of, ends_at}
-use Rattle.fallible_iterator.specs.contracts.to_come.Number.{the_row as N}
+use Rattle.fallible_iterator.specs.contracts.number.Number.{the_row as N}
 use Rattle.fallible_iterator.specs.contracts.traits.FallibleIterator.number as f
 use Rattle.fallible_iterator.proofs.traits.FallibleIterator.number.Statement.{statement}
 use Rattle.fallible_iterator.proofs.traits.FallibleIterator.number.Code as code

@@ -1,6 +1,6 @@
 -- The fold that carries the value and the closure is the fold.
 use Rattle.std.proofs.Common.{rules}
-use Rattle.fallible_iterator.specs.Laws.Folds.{folded_ended, folded_failed, folded_stopped}
+use Rattle.fallible_iterator.proofs.Lemmas.Folds.{folded_ended, folded_failed, folded_stopped}
 use Rattle.fallible_iterator.proofs.traits.FallibleIterator.try_fold.Goals as goal
 
 pub returns-in-Ended-clause-folded : goal.returns-in-Ended-clause-folded

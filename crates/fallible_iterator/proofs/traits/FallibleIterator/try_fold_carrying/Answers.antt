@@ -1,7 +1,7 @@
 -- Each turn goes before the fold from there on.
 use Rattle.std.proofs.Common.{rules, arith}
-use Rattle.fallible_iterator.specs.Laws.Folds.{holds_here, holds_after, carried_after, carried_end, carried_failure, carried_stop}
-use Rattle.fallible_iterator.specs.Laws.Source.{stays_run}
+use Rattle.fallible_iterator.proofs.Lemmas.Folds.{holds_here, holds_after, carried_after, carried_end, carried_failure, carried_stop}
+use Rattle.fallible_iterator.specs.Laws.Contract.{stays_run}
 use Rattle.fallible_iterator.proofs.traits.FallibleIterator.try_fold_carrying.Goals as goal
 
 pub returns-in-Ok-None-clause-carried : goal.returns-in-Ok-None-clause-carried

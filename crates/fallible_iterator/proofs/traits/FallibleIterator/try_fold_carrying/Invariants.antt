@@ -4,7 +4,7 @@ use Rattle.fallible_iterator.specs.Folds.{CallableCarrying, Carried}
 use Rattle.fallible_iterator.proofs.traits.FallibleIterator.try_fold_carrying.Given as goal
 
 abbrev pub invariant-loop-carried : goal.invariant-loop-carried
-invariant-loop-carried g l = let m = g.Self.FallibleIterator.source in record {
+invariant-loop-carried g l = let m = g.Self.FallibleIterator.contract in record {
   can : m.can l.self;
   bounded : (n : ℕ) × m.to_come l.self n × (n ≤ l.left.value);
   callable : CallableCarrying m.steps (g.K.Turn.turns l.k) (g.K.Turn.can_turn l.k) l.self l.carried;

@@ -1,6 +1,6 @@
 -- What is left of the whole holds what is left of the source.
 use Rattle.std.proofs.Common.{refl}
-use Rattle.fallible_iterator.specs.Laws.Overriding.{holds_held, folded_held}
+use Rattle.fallible_iterator.proofs.Lemmas.Overriding.{holds_held, folded_held}
 use Rattle.fallible_vectors.specs.declared.overriding.Watched.{Watched}
 use Rattle.fallible_vectors.proofs.overriding.WatchedFallibleIterator.fold.Goals as goal
 
@@ -9,7 +9,7 @@ abbrev put : {I : Type 0} → Watched I → I → Watched I
 put w it = record { it = it; folds = w.folds }
 
 pub fold-requires-clause-callable : goal.fold-requires-clause-callable
-fold-requires-clause-callable g c = holds_held (λ w. w.it) put (λ w it. refl) g.I.FallibleIterator.source c.requires.callable
+fold-requires-clause-callable g c = holds_held (λ w. w.it) put (λ w it. refl) g.I.FallibleIterator.contract c.requires.callable
 
 pub returns : goal.returns
-returns g c = (put c.args.self c.fold.ensures.0, folded_held (λ w. w.it) put (λ w it. refl) g.I.FallibleIterator.source c.fold.ensures.1)
+returns g c = (put c.args.self c.fold.ensures.0, folded_held (λ w. w.it) put (λ w it. refl) g.I.FallibleIterator.contract c.fold.ensures.1)

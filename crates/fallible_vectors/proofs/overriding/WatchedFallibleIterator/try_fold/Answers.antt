@@ -1,6 +1,6 @@
 -- The source's fold is that of the whole, since its steps are.
 use Rattle.std.proofs.Common.{refl}
-use Rattle.fallible_iterator.specs.Laws.Overriding.{holds_held, folded_held}
+use Rattle.fallible_iterator.proofs.Lemmas.Overriding.{holds_held, folded_held}
 use Rattle.fallible_vectors.specs.declared.overriding.Watched.{Watched}
 use Rattle.fallible_vectors.proofs.overriding.WatchedFallibleIterator.try_fold.Goals as goal
 
@@ -9,7 +9,7 @@ abbrev put : {I : Type 0} → Watched I → I → Watched I
 put w it = record { it = it; folds = w.folds }
 
 pub try_fold-requires-clause-callable : goal.try_fold-requires-clause-callable
-try_fold-requires-clause-callable g c = holds_held (λ w. w.it) put (λ w it. refl) g.I.FallibleIterator.source c.requires.callable
+try_fold-requires-clause-callable g c = holds_held (λ w. w.it) put (λ w it. refl) g.I.FallibleIterator.contract c.requires.callable
 
 pub returns-clause-folded : goal.returns-clause-folded
-returns-clause-folded g c = folded_held (λ w. w.it) put (λ w it. refl) g.I.FallibleIterator.source c.try_fold.ensures.folded
+returns-clause-folded g c = folded_held (λ w. w.it) put (λ w it. refl) g.I.FallibleIterator.contract c.try_fold.ensures.folded

@@ -1,0 +1,2 @@
+-- Filtering: one file for each type.
+pub mod SkipWhile

@@ -1,0 +1,4 @@
+-- OneToOne: one file for each type.
+pub mod Enumerate
+pub mod MapErr
+pub mod Scan

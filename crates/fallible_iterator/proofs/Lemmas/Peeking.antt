@@ -1,0 +1,2 @@
+-- Peeking: one file for each type.
+pub mod Peekable

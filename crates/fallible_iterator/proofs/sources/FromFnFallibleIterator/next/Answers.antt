@@ -1,6 +1,0 @@
--- The closure may be called now, after no call.
-use Rattle.fallible_iterator.specs.Laws.Closures.{reaches_here}
-use Rattle.fallible_iterator.proofs.sources.FromFnFallibleIterator.next.Goals as goal
-
-pub fun-requires : goal.fun-requires
-fun-requires g c = c.requires.at _ tt reaches_here tt

@@ -1,0 +1,5 @@
+-- Joining: one file for each type.
+pub mod Chain
+pub mod Cycle
+pub mod Flatten
+pub mod Zip

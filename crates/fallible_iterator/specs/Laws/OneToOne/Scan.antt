@@ -1,0 +1,13 @@
+-- The contracts of the adapters with one answer for each draw are lawful where the source's is, and their runs meet the definitions.
+use Rattle.std.specs.Prelude.{Option, Result}
+use Rattle.std.specs.Fn.{Mut}
+use Rattle.std.specs.Borrow.{MutBor}
+use Rattle.fallible_iterator.specs.Contract.{Contract, Lawful}
+use Rattle.fallible_iterator.specs.OneToOne.Scan.{scan_call, scan_takes, scan_outcome, scan_contract}
+use Rattle.fallible_iterator.specs.Closures.{IsCallable}
+use Rattle.fallible_iterator.specs.Laws.Closures.{callable_after}
+use Rattle.fallible_iterator.specs.Hints.{upper_alone}
+use Rattle.fallible_iterator.specs.Laws.Passing.{lawful_passing}
+
+pub lawful_scan : {S F T X B E : Type 0} {m : Contract S X E} (g : Mut F (MutBor T × (X × Unit {0})) (Result (Option B) E × (MutBor T × Unit {0}))) → Lawful m → Lawful (scan_contract m g)
+lawful_scan {m = m} g l = lawful_passing (scan_call g) (λ P h. IsCallable (scan_call g) (scan_takes g) P h) scan_outcome (λ p h. upper_alone m p.0 h) (λ P Q f h weak reached c. callable_after weak reached c) l

@@ -1,0 +1,46 @@
+-- `Peekable`: its contract is lawful, and its runs are the traces that its definition names.
+use Rattle.std.specs.Prelude.{◌+◌, Option, Some, None, Ok, Err}
+use Rattle.std.proofs.Common.{refl, arith, inl, inr}
+use Rattle.fallible_iterator.specs.Traces.{Answered, item}
+use Rattle.fallible_iterator.specs.Contract.{Contract, OnAnswer, Goes, Lawful}
+use Rattle.fallible_iterator.specs.Held.{held_count}
+use Rattle.fallible_iterator.specs.Peeking.Peekable.{peekable_contract}
+
+module _ {S A E : Type 0} (m : Contract S A E) where
+  abbrev P : Contract (S × Option A) A E
+  P = peekable_contract m
+
+  -- the held item comes
+  held_goes : (s : S) (x : A) → m.can s → Goes P (s, Some x) (item x) (s, None)
+  held_goes s x c = record {
+    can = c;
+    has_end = λ e. e;
+    answer = (inl refl, (λ n b. (b.0, (b.0, b.1, omega arith), omega (arith, b.2))), (λ f. absurd f));
+    gives = λ y h. elim h [ inl e ↦ absurd cc | inr g ↦ inr g ];
+    fails = λ e h. h;
+  }
+
+  answer_drawn : (s t : S) (r : Answered A E) → OnAnswer m s r t → OnAnswer P (s, None) r (t, None)
+  answer_drawn s t (Ok (Some x)) a = (inr a.0, (λ n b. let k = a.1 b.0 b.1 in (k.0, (k.0, k.1, omega arith), omega (arith, k.2, b.2))), (λ f. absurd f))
+  answer_drawn s t (Ok None) a = ((λ n b. let k = a.0 b.0 b.1 in (k.0, (k.0, k.1, omega arith), omega (arith, k.2, b.2))), (λ f. absurd f))
+  answer_drawn s t (Err e) a = (a.0, (λ n b. let k = a.1 b.0 b.1 in (k.0, (k.0, k.1, omega arith), omega (arith, k.2, b.2))), (λ f. absurd f))
+
+  -- the source's answer comes, where nothing is held
+  pub drawn_goes : (s t : S) (r : Answered A E) → Goes m s r t → Goes P (s, None) r (t, None)
+  drawn_goes s t r a = record {
+    can = a.can;
+    has_end = a.has_end;
+    answer = answer_drawn s t r a.answer;
+    gives = λ y h. elim h [ inl e ↦ absurd cc | inr g ↦ inr (a.gives y g) ];
+    fails = a.fails;
+  }
+
+  goes_peekable : Lawful m → (p : S × Option A) (r : Answered A E) (q : S × Option A) → P.can p → P.steps p r q → Goes P p r q
+  goes_peekable l (s, Some x) r (t, held) c step = rw (step.0, step.1, step.2) (held_goes s x c)
+  goes_peekable l (s, None) r (t, held) c step = rw step.1 (drawn_goes s t r (l.goes s r t c step.0))
+
+pub lawful_peekable : {S A E : Type 0} {m : Contract S A E} → Lawful m → Lawful (peekable_contract m)
+lawful_peekable {m = m} l = record {
+  goes = goes_peekable m l;
+  ends = λ p. ((λ e. let k = (l.ends p.0).0 e in (k.0 + held_count p.1, (k.0, k.1, omega arith))), (λ h. (l.ends p.0).1 ((h.1).0, (h.1).1)));
+}

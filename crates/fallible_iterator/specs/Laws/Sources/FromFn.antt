@@ -1,0 +1,34 @@
+-- The contract of `FromFn` is lawful.
+use Rattle.std.specs.Prelude.{Some, None, Ok, Err, ⊤}
+use Rattle.std.specs.Fn.{Called, Mut}
+use Rattle.std.proofs.Common.{refl}
+use Rattle.fallible_iterator.specs.Closures.{Reaches}
+use Rattle.fallible_iterator.specs.Laws.ToCome.{bounds_fewer, bounds_failure, bounds_end, bound_stays}
+use Rattle.fallible_iterator.specs.Laws.Closures.{reaches_here, reaches_from, callable_after, may_answer_here, may_answer_after}
+use Rattle.fallible_iterator.specs.Traces.{Answered, item, failure}
+use Rattle.fallible_iterator.specs.Contract.{Contract, OnAnswer, Lawful}
+use Rattle.fallible_iterator.specs.Sources.FromFn.{call_of_none, from_fn_contract}
+
+module _ {F A E : Type 0} (g : Mut F (Unit {0}) (Answered A E)) where
+  abbrev FromFn : Contract F A E
+  FromFn = from_fn_contract g
+
+  one_call : (f h : F) (r : Answered A E) → Called g f tt r h → Reaches (call_of_none g) (λ _. ⊤) f h
+  one_call f h r called = reaches_from tt r tt called reaches_here
+
+  from_fn_answer : (f h : F) (r : Answered A E) → Called g f tt r h → OnAnswer FromFn f r h
+  from_fn_answer f h (Ok (Some x)) called = (may_answer_here h tt (item x) tt called refl, (λ n b. bounds_fewer x called b), (λ e. absurd e))
+  from_fn_answer f h (Ok None) called = ((λ n b. bounds_end called b), (λ e. absurd e))
+  from_fn_answer f h (Err e) called = (may_answer_here h tt (failure e) tt called refl, (λ n b. bounds_failure e called b), (λ d. absurd d))
+
+  pub lawful_from_fn : Lawful FromFn
+  lawful_from_fn = record {
+    goes = λ f r h c called. record {
+      can = callable_after (λ x p. p) (one_call f h r called) c;
+      has_end = bound_stays FromFn f h r (from_fn_answer f h r called);
+      answer = from_fn_answer f h r called;
+      gives = λ x a. may_answer_after (λ u p. p) (one_call f h r called) a;
+      fails = λ e a. may_answer_after (λ u p. p) (one_call f h r called) a;
+    };
+    ends = λ f. ((λ e. e), (λ p. p));
+  }

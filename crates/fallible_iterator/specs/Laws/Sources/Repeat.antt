@@ -1,0 +1,23 @@
+-- The contracts of the sources are lawful.
+use Rattle.std.specs.Prelude.{Some, None, Ok, Err}
+use Rattle.std.specs.declared.alloc.AllocError.{AllocError}
+use Rattle.std.proofs.Common.{refl, sym, subst}
+use Rattle.fallible_iterator.specs.Laws.ToCome.{bounds_fewer, bounds_failure}
+use Rattle.fallible_iterator.specs.Traces.{Answered}
+use Rattle.fallible_iterator.specs.Contract.{Contract, OnAnswer, Goes, Lawful}
+use Rattle.fallible_iterator.specs.Sources.Repeat.{RepeatAnswer, repeat_contract}
+
+module _ {A E : Type 0} (is_clone : A → A → Type 0) (is_infallible : A → Type 0) (from : AllocError → E → Type 0) where
+  abbrev Repeat : Contract A A E
+  Repeat = repeat_contract is_clone is_infallible from
+
+  repeat_answer : (v : A) (r : Answered A E) → RepeatAnswer is_clone is_infallible from v r → OnAnswer Repeat v r v
+  repeat_answer v (Ok (Some x)) h = (h, (λ n b. bounds_fewer {steps = Repeat.steps} x (h, refl) b), (λ f. absurd f))
+  repeat_answer v (Ok None) h = absurd h
+  repeat_answer v (Err e) h = (h, (λ n b. bounds_failure {steps = Repeat.steps} e (h, refl) b), (λ f. absurd f))
+
+  goes_repeat : (v : A) (r : Answered A E) (w : A) → Repeat.steps v r w → Goes Repeat v r w
+  goes_repeat v r w step = subst (λ (u : A). Goes Repeat v r u) (sym step.1) (record { can = tt; has_end = λ e. e; answer = repeat_answer v r step.0; gives = λ x h. h; fails = λ e h. h })
+
+  pub lawful_repeat : Lawful Repeat
+  lawful_repeat = record { goes = λ v r w c step. goes_repeat v r w step; ends = λ v. ((λ e. e), (λ p. p)) }

@@ -1,0 +1,20 @@
+-- `Convert`: the results of a std iterator.
+use Rattle.std.specs.Prelude.{Option, List, Result, Ok, Err}
+use Rattle.std.specs.Iterator.{Count}
+use Rattle.fallible_iterator.specs.declared.sources.convert.Convert.{Convert}
+use Rattle.fallible_iterator.specs.Traces.{Answered}
+use Rattle.fallible_iterator.specs.Contract.{Contract}
+use Rattle.fallible_iterator.specs.Sources.Std.{StdTrace, std_contract}
+
+-- the std iterator
+abbrev pub convert_parts : {I : Type 0} → Convert I → I
+convert_parts s = s.it
+
+module _ {S A E : Type 0} (can : S → Type 0) (gives : S → Option (Result A E) → S → Type 0) (remaining : S → Count) where
+  -- `Convert`: `Ok` is an item, `Err` a failure, none an end.
+  abbrev pub ConvertTrace : S → List (Answered A E) → S → Type 0
+  ConvertTrace = StdTrace Ok Err can gives remaining
+
+  -- `Convert`'s contract.
+  abbrev pub convert_contract : Contract S A E
+  convert_contract = std_contract Ok Err can gives remaining

@@ -1,0 +1,29 @@
+-- `FromFn`: the answers of a closure.
+use Rattle.std.specs.Prelude.{◌≡◌, List, ⊤}
+use Rattle.std.specs.List.{FoldsTo}
+use Rattle.std.specs.Fn.{Called, Mut}
+use Rattle.fallible_iterator.specs.declared.sources.from_fn.FromFn.{FromFn}
+use Rattle.fallible_iterator.specs.Closures.{IsCallable, MayAnswer}
+use Rattle.fallible_iterator.specs.Traces.{Answered, item, failure}
+use Rattle.fallible_iterator.specs.Contract.{Contract, unbounded}
+
+-- the closure
+abbrev pub from_fn_parts : {F : Type 0} → FromFn F → F
+from_fn_parts s = s.fun
+
+-- one call of the closure, which takes nothing
+abbrev pub call_of_none : {F R : Type 0} → Mut F (Unit {0}) R → F → Unit {0} → R → F → Type 0
+call_of_none g f x r h = Called g f x r h
+
+module _ {F A E : Type 0} (g : Mut F (Unit {0}) (Answered A E)) where
+  -- `FromFn`: the closure's answers, one call a draw.
+  abbrev pub FromFnTrace : F → List (Answered A E) → F → Type 0
+  FromFnTrace f trace h = FoldsTo (λ p r q. Called g p tt r q) f trace h
+
+  -- `FromFn`'s contract: the closure may be called in each state that calls bring it to. It has a number to come only where its runs do.
+  abbrev pub from_fn_contract : Contract F A E
+  from_fn_contract = record (unbounded (λ f r h. Called g f tt r h)) {
+    can = λ f. IsCallable (call_of_none g) (λ p _. g.pre p tt) (λ _. ⊤) f;
+    gives = λ f x. MayAnswer (call_of_none g) (λ _. ⊤) f (λ _ r. r ≡ item x);
+    fails = λ f e. MayAnswer (call_of_none g) (λ _. ⊤) f (λ _ r. r ≡ failure e);
+  }

@@ -1,0 +1,24 @@
+-- `IntoFallible`: the elements of a std iterator, none of which is a failure.
+use Rattle.std.specs.Prelude.{Option, List}
+use Rattle.std.specs.Iterator.{Count}
+use Rattle.std.specs.declared.convert.Infallible.{Infallible}
+use Rattle.fallible_iterator.specs.declared.sources.into_fallible.IntoFallible.{IntoFallible}
+use Rattle.fallible_iterator.specs.Traces.{Answered}
+use Rattle.fallible_iterator.specs.Contract.{Contract}
+use Rattle.fallible_iterator.specs.Sources.Std.{StdTrace, std_contract}
+
+abbrev pub into_fallible_parts : {I : Type 0} → IntoFallible I → I
+into_fallible_parts s = s.it
+
+-- nothing is an `Infallible`
+abbrev pub never : {Z : Type 0} → Infallible → Z
+never e = elim e [ ]
+
+module _ {S A : Type 0} (can : S → Type 0) (gives : S → Option A → S → Type 0) (remaining : S → Count) where
+  -- `IntoFallible`: each element is an item, none an end.
+  abbrev pub IntoFallibleTrace : S → List (Answered A Infallible) → S → Type 0
+  IntoFallibleTrace = StdTrace (λ x. x) never can gives remaining
+
+  -- `IntoFallible`'s contract.
+  abbrev pub into_fallible_contract : Contract S A Infallible
+  into_fallible_contract = std_contract (λ x. x) never can gives remaining

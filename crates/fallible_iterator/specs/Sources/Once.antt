@@ -1,0 +1,24 @@
+-- `Once`: one item.
+use Rattle.std.specs.Prelude.{Option, Some, ◌≡◌, ◌≤◌, ⊤}
+use Rattle.std.specs.Iterator.{at_most}
+use Rattle.fallible_iterator.specs.declared.sources.once.Once.{Once}
+use Rattle.fallible_iterator.specs.Traces.{item}
+use Rattle.fallible_iterator.specs.Contract.{Contract}
+use Rattle.fallible_iterator.specs.Held.{once_step, held_count}
+
+-- the item, or the failure, that is still to come
+abbrev pub once_parts : {T E : Type 0} → Once T E → Option T
+once_parts s = s.value
+
+-- `Once`'s contract: what is held is all that may come.
+abbrev pub once_contract : {A E : Type 0} → Contract (Option A) A E
+once_contract = record {
+  can = λ _. ⊤;
+  steps = once_step item;
+  to_come = λ v n. held_count v ≤ n;
+  has_end = λ _. ⊤;
+  elements = λ v. at_most (held_count v);
+  gives = λ v x. v ≡ Some x;
+  fails = λ _ _. ⊥;
+  hints = λ v h. h ≡ (held_count v, Some (held_count v));
+}

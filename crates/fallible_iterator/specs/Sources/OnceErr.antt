@@ -1,0 +1,23 @@
+-- `OnceErr`: one failure.
+use Rattle.std.specs.Prelude.{Option, Some, ◌≡◌, ⊤}
+use Rattle.std.specs.Iterator.{at_most}
+use Rattle.fallible_iterator.specs.declared.sources.once_err.OnceErr.{OnceErr}
+use Rattle.fallible_iterator.specs.Traces.{failure}
+use Rattle.fallible_iterator.specs.Contract.{Contract}
+use Rattle.fallible_iterator.specs.Held.{once_step, held_count}
+
+abbrev pub once_err_parts : {T E : Type 0} → OnceErr T E → Option E
+once_err_parts s = s.error
+
+-- `OnceErr`'s contract: no item comes, and what is held is the one failure that may.
+abbrev pub once_err_contract : {A E : Type 0} → Contract (Option E) A E
+once_err_contract = record {
+  can = λ _. ⊤;
+  steps = once_step failure;
+  to_come = λ _ n. ⊤;
+  has_end = λ _. ⊤;
+  elements = λ v. at_most (held_count v);
+  gives = λ _ _. ⊥;
+  fails = λ v e. v ≡ Some e;
+  hints = λ _ h. h ≡ (0, Some 0);
+}

@@ -1,0 +1,33 @@
+-- `Repeat`: clones as items.
+use Rattle.std.specs.Prelude.{ℕ, Some, ◌≡◌, List, None, Ok, Err, ⊤, ◌^◌, ◌-◌, All}
+use Rattle.std.specs.Iterator.{endless}
+use Rattle.std.specs.declared.alloc.AllocError.{AllocError}
+use Rattle.fallible_iterator.specs.declared.sources.repeat.Repeat.{Repeat}
+use Rattle.fallible_iterator.specs.Traces.{Answered, item, failure}
+use Rattle.fallible_iterator.specs.Contract.{Contract, unbounded}
+use Rattle.fallible_iterator.specs.Refusals.{RefusedAs}
+
+-- the value that is cloned
+abbrev pub repeat_parts : {T E : Type 0} → Repeat T E → T
+repeat_parts s = s.value
+
+-- ---- `Empty`, `Repeat` and `RepeatErr`
+
+module _ {A E : Type 0} (is_clone : A → A → Type 0) (is_infallible : A → Type 0) (from : AllocError → E → Type 0) where
+  -- one answer of `Repeat`
+  abbrev pub RepeatAnswer : A → Answered A E → Type 0
+  RepeatAnswer v (Ok (Some x)) = is_clone v x
+  RepeatAnswer v (Ok None) = ⊥
+  RepeatAnswer v (Err e) = RefusedAs is_infallible from v e
+
+  -- `Repeat`: always a clone, or, where the clone is refused, the failure made of the refusal.
+  abbrev pub RepeatTrace : A → List (Answered A E) → A → Type 0
+  RepeatTrace v trace w = All (RepeatAnswer v) trace × (w ≡ v)
+
+  -- `Repeat`'s contract. It has a number to come only where its runs do.
+  abbrev pub repeat_contract : Contract A A E
+  repeat_contract = record (unbounded (λ v r w. RepeatAnswer v r × (w ≡ v))) {
+    gives = λ v x. RepeatAnswer v (item x);
+    fails = λ v e. RepeatAnswer v (failure e);
+    hints = λ _ h. h ≡ (2 ^ 64 - 1, None);
+  }

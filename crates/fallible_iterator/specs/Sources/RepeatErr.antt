@@ -1,0 +1,36 @@
+-- `RepeatErr`: clones as failures.
+use Rattle.std.specs.Prelude.{Some, ◌≡◌, List, Ok, Err, ⊤, ◌⊎◌, All}
+use Rattle.std.specs.Iterator.{endless}
+use Rattle.std.specs.declared.alloc.AllocError.{AllocError}
+use Rattle.fallible_iterator.specs.declared.sources.repeat_err.RepeatErr.{RepeatErr}
+use Rattle.fallible_iterator.specs.Traces.{Answered, failure}
+use Rattle.fallible_iterator.specs.Contract.{Contract}
+use Rattle.fallible_iterator.specs.Refusals.{RefusedAs}
+
+abbrev pub repeat_err_parts : {T E : Type 0} → RepeatErr T E → E
+repeat_err_parts s = s.error
+
+-- ---- `Empty`, `Repeat` and `RepeatErr`
+
+module _ {A E : Type 0} (is_clone : E → E → Type 0) (is_infallible : E → Type 0) (from : AllocError → E → Type 0) where
+  -- one answer of `RepeatErr`
+  abbrev pub RepeatErrAnswer : E → Answered A E → Type 0
+  RepeatErrAnswer v (Ok x) = ⊥
+  RepeatErrAnswer v (Err e) = is_clone v e ⊎ RefusedAs is_infallible from v e
+
+  -- `RepeatErr`: always a failure with a clone, or, where the clone is refused, the failure made of the refusal.
+  abbrev pub RepeatErrTrace : E → List (Answered A E) → E → Type 0
+  RepeatErrTrace v trace w = All (RepeatErrAnswer v) trace × (w ≡ v)
+
+  -- `RepeatErr`'s contract: no item comes.
+  abbrev pub repeat_err_contract : Contract E A E
+  repeat_err_contract = record {
+    can = λ _. ⊤;
+    steps = λ v r w. RepeatErrAnswer v r × (w ≡ v);
+    to_come = λ _ _. ⊤;
+    has_end = λ _. ⊤;
+    elements = λ _. endless;
+    gives = λ _ _. ⊥;
+    fails = λ v e. RepeatErrAnswer v (failure e);
+    hints = λ _ h. h ≡ (0, Some 0);
+  }

@@ -1,0 +1,32 @@
+// The source that only ends.
+ghost use Rattle.std.specs.Prelude.{Some, Ok, Result, Option};
+ghost use Rattle.fallible_iterator.specs.Sources.Empty.{empty_contract};
+ghost use Rattle.fallible_iterator.specs.Laws.Sources.Empty.{lawful_empty};
+
+use crate::traits::FallibleIterator;
+use std::marker::PhantomData;
+
+/// Only ends.
+#[derive(Clone, Debug, Drop)]
+pub struct Empty<T, E> {
+    pub(crate) item: PhantomData<T>,
+    pub(crate) error: PhantomData<E>,
+}
+
+impl<T, E> FallibleIterator for Empty<T, E> {
+    type Item = T;
+
+    type Error = E;
+
+    ghost contract = { empty_contract };
+
+    fn next(&mut self) -> Result<Option<T>, E> {
+        Ok(None)
+    }
+
+    fn size_hint(&self) -> (usize, Option<usize>) {
+        (0, Some(0))
+    }
+
+    ghost lawful = { lawful_empty };
+}

@@ -1,0 +1,33 @@
+// The fallible iterator of a closure.
+ghost use Rattle.std.specs.Prelude.{Result, Option};
+ghost use Rattle.fallible_iterator.specs.Contract.{seen_as};
+ghost use Rattle.fallible_iterator.specs.Sources.FromFn.{from_fn_contract, from_fn_parts};
+ghost use Rattle.fallible_iterator.specs.Laws.Contract.{lawful_seen};
+ghost use Rattle.fallible_iterator.specs.Laws.Sources.FromFn.{lawful_from_fn};
+
+use crate::traits::FallibleIterator;
+
+/// The fallible iterator of a closure: each draw is one call, and its answer is the closure's.
+#[derive(Clone, Debug, Drop)]
+pub struct FromFn<F> {
+    pub(crate) fun: F,
+}
+
+impl<T, E, F: FnMut() -> Result<Option<T>, E>> FallibleIterator for FromFn<F> {
+    type Item = T;
+
+    type Error = E;
+
+    ghost contract = { seen_as from_fn_parts (from_fn_contract F.FnMut) };
+
+    /// Calls the closure once.
+    fn next(&mut self) -> Result<Option<T>, E> {
+        (self.fun)()
+    }
+
+    fn size_hint(&self) -> (usize, Option<usize>) {
+        (0, None)
+    }
+
+    ghost lawful = { lawful_seen from_fn_parts (lawful_from_fn F.FnMut) };
+}

@@ -1,0 +1,37 @@
+// The source of one item.
+ghost use Rattle.std.specs.Prelude.{Some, Ok, Result, Option};
+ghost use Rattle.fallible_iterator.specs.Contract.{seen_as};
+ghost use Rattle.fallible_iterator.specs.Sources.Once.{once_contract, once_parts};
+ghost use Rattle.fallible_iterator.specs.Laws.Contract.{lawful_seen};
+ghost use Rattle.fallible_iterator.specs.Laws.Sources.Once.{lawful_once};
+
+use crate::traits::FallibleIterator;
+use std::marker::PhantomData;
+
+/// One item, and then ends.
+#[derive(Clone, Debug, Drop)]
+pub struct Once<T, E> {
+    pub(crate) value: Option<T>,
+    pub(crate) error: PhantomData<E>,
+}
+
+impl<T: Drop, E> FallibleIterator for Once<T, E> {
+    type Item = T;
+
+    type Error = E;
+
+    ghost contract = { seen_as once_parts once_contract };
+
+    fn next(&mut self) -> Result<Option<T>, E> {
+        Ok(self.value.take())
+    }
+
+    fn size_hint(&self) -> (usize, Option<usize>) {
+        match &self.value {
+            Some(_) => (1, Some(1)),
+            None => (0, Some(0)),
+        }
+    }
+
+    ghost lawful = { lawful_seen once_parts lawful_once };
+}

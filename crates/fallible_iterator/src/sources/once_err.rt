@@ -1,0 +1,37 @@
+// The source of one failure.
+ghost use Rattle.std.specs.Prelude.{Some, Ok, Err, Result, Option};
+ghost use Rattle.fallible_iterator.specs.Contract.{seen_as};
+ghost use Rattle.fallible_iterator.specs.Sources.OnceErr.{once_err_contract, once_err_parts};
+ghost use Rattle.fallible_iterator.specs.Laws.Contract.{lawful_seen};
+ghost use Rattle.fallible_iterator.specs.Laws.Sources.OnceErr.{lawful_once_err};
+
+use crate::traits::FallibleIterator;
+use std::marker::PhantomData;
+
+/// One failure, and then ends.
+#[derive(Clone, Debug, Drop)]
+pub struct OnceErr<T, E> {
+    pub(crate) item: PhantomData<T>,
+    pub(crate) error: Option<E>,
+}
+
+impl<T, E: Drop> FallibleIterator for OnceErr<T, E> {
+    type Item = T;
+
+    type Error = E;
+
+    ghost contract = { seen_as once_err_parts once_err_contract };
+
+    fn next(&mut self) -> Result<Option<T>, E> {
+        match self.error.take() {
+            Some(e) => Err(e),
+            None => Ok(None),
+        }
+    }
+
+    fn size_hint(&self) -> (usize, Option<usize>) {
+        (0, Some(0))
+    }
+
+    ghost lawful = { lawful_seen once_err_parts lawful_once_err };
+}

@@ -1,0 +1,39 @@
+// The source of clones as items.
+ghost use Rattle.std.specs.Prelude.{Some, Ok, Err, Result, Option};
+ghost use Rattle.fallible_iterator.specs.Contract.{seen_as};
+ghost use Rattle.fallible_iterator.specs.Sources.Repeat.{repeat_contract, repeat_parts};
+ghost use Rattle.fallible_iterator.specs.Laws.Contract.{lawful_seen};
+ghost use Rattle.fallible_iterator.specs.Laws.Sources.Repeat.{lawful_repeat};
+
+use crate::traits::FallibleIterator;
+use std::alloc::AllocError;
+use std::marker::PhantomData;
+
+/// A clone of one value as each item. Where a clone is refused, the answer is the failure made of the refusal, and the value stays.
+#[derive(Clone, Debug, Drop)]
+pub struct Repeat<T, E> {
+    pub(crate) value: T,
+    pub(crate) error: PhantomData<E>,
+}
+
+impl<T: Clone, E: From<AllocError>> FallibleIterator for Repeat<T, E> {
+    type Item = T;
+
+    type Error = E;
+
+    ghost contract = { seen_as repeat_parts (repeat_contract T.is_clone T.is_infallible E.from_gives) };
+
+    /// Clones the value once.
+    fn next(&mut self) -> Result<Option<T>, E> {
+        match self.value.clone() {
+            Ok(x) => Ok(Some(x)),
+            Err(refused) => Err(E::from(refused)),
+        }
+    }
+
+    fn size_hint(&self) -> (usize, Option<usize>) {
+        (usize::MAX, None)
+    }
+
+    ghost lawful = { lawful_seen repeat_parts (lawful_repeat T.is_clone T.is_infallible E.from_gives) };
+}
