@@ -1,5 +1,5 @@
 -- What the contract of a fallible iterator says of its values.
-use Rattle.std.specs.Prelude.{◌≡◌, ℕ, ◌≤◌, ◌<◌, Option, Some, None, Ok, Err, ◌↔◌, ⊤, List}
+use Rattle.std.specs.Prelude.{◌≡◌, ℕ, ◌≤◌, ◌<◌, Option, Some, None, Ok, Err, ◌↔◌, ⊤, ◌⊎◌, List}
 use Rattle.std.specs.Iterator.{Count, IsFinite, size, endless}
 use Rattle.fallible_iterator.specs.Traces.{Answered, Run, items_in}
 
@@ -27,6 +27,10 @@ pub record Contract (S A E : Type 0) : Type 1 where
   pub hints : S → ℕ × Option ℕ → Type 0
 
 module _ {S A E : Type 0} (m : Contract S A E) where
+  -- at most k items are still to come of s: k is a number to come of it, or one that is no greater is
+  abbrev pub AtMost : S → ℕ → Type 0
+  AtMost s k = m.to_come s k ⊎ ((n : ℕ) × m.to_come s n × (n ≤ k))
+
   -- each number to come of s is one of t or more
   abbrev pub NoMore : S → S → Type 0
   NoMore s t = (n : ℕ) → m.to_come s n → (k : ℕ) × m.to_come t k × (k ≤ n)

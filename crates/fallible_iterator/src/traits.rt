@@ -1,6 +1,6 @@
 //! The trait of fallible iterators: one call that each type writes, and all that comes with it.
 ghost use Rattle.std.specs.Prelude.{◌≡◌, ℕ, true, false, ◌+◌, ◌-◌, ◌≤◌, ◌<◌, ◌^◌, List, Option, Result, Some, None, Ok, MatchResult, ◌↔◌};
-ghost use Rattle.fallible_iterator.specs.Contract.{Contract, Lawful, Stays};
+ghost use Rattle.fallible_iterator.specs.Contract.{Contract, AtMost, Lawful, Stays};
 ghost use Rattle.fallible_iterator.specs.Closures.{IsCallable, call_on, takes_on, call_at, takes_at};
 ghost use Rattle.fallible_iterator.specs.OneToOne.Enumerate.{IsNumberable};
 ghost use Rattle.fallible_iterator.specs.Filtering.SkipWhile.{skip_call, skip_takes};
@@ -109,7 +109,7 @@ pub trait FallibleIterator: Drop + Sized {
     where
         Self::Item: Drop,
         requires can { contract.can self }
-        requires fits { contract.to_come self (2 ^ 64 - 1) }
+        requires fits { AtMost contract self (2 ^ 64 - 1) }
         ensures { Counted contract.steps self result }
     {
         let one_more = |n: usize, x: Self::Item| -> Result<usize, Infallible>
@@ -324,7 +324,7 @@ pub trait FallibleIterator: Drop + Sized {
     ///
     /// It asks that at most `usize::MAX` items are still to come, so that each number fits.
     final fn enumerate(self) -> Enumerate<Self>
-        requires { contract.to_come self (2 ^ 64 - 1) }
+        requires { AtMost contract self (2 ^ 64 - 1) }
         ensures parts { enumerate_parts result ≡ (self, 0) }
         ensures numberable { contract.can self → IsNumberable contract self 0 }
     {
@@ -406,7 +406,7 @@ pub trait FallibleIterator: Drop + Sized {
     /// Joins the answers of the inner iterators that the items become: the one in hand answers until its end, at which it is dropped, and then the next item is drawn. A failure of the inner iterator is the answer, and keeps it in hand. A failure or an end of this iterator is the answer, and the next call draws from it again. Making the adapter draws nothing.
     ///
     /// It asks a number to come, since many inner iterators may end at once. Each draw asks that the inner iterator in hand and each that may come may be drawn from; a drain also asks a number to come of the one in hand, and one that serves for each that may come.
-    final fn flatten(self) -> Flatten<Self>
+    final fn flatten(self) -> Flatten<Self, <Self::Item as IntoFallibleIterator>::IntoFallibleIter>
     where
         Self::Item: IntoFallibleIterator<Error = Self::Error>,
         requires { contract.has_end self }
@@ -421,7 +421,7 @@ pub trait FallibleIterator: Drop + Sized {
     /// Joins the answers of the inner iterators that the closure makes of the items, as `flatten` does. Where the closure fails, its failure is the answer, that item is lost, and the next call goes on after it. Making the adapter draws nothing and calls nothing.
     ///
     /// It asks a number to come, since many inner iterators may end at once, and that the closure may be called on each item that may come. Each draw asks that the inner iterator in hand and each that may come may be drawn from; a drain also asks a number to come of the one in hand, and one that serves for each that may come.
-    final fn flat_map<U, F>(self, f: F) -> FlatMap<Self, U, F>
+    final fn flat_map<U, F>(self, f: F) -> FlatMap<Self, U::IntoFallibleIter, F>
     where
         U: IntoFallibleIterator<Error = Self::Error>,
         F: FnMut(Self::Item) -> Result<U, Self::Error>,

@@ -4,6 +4,8 @@
 #[cfg(test)]
 mod borrowed;
 #[cfg(test)]
+mod borrowed_items;
+#[cfg(test)]
 mod cloning;
 #[cfg(test)]
 mod collecting;
@@ -13,6 +15,8 @@ mod cutting;
 mod cycling;
 #[cfg(test)]
 mod draining;
+#[cfg(test)]
+mod exact_count;
 #[cfg(test)]
 mod failure;
 #[cfg(test)]

@@ -28,12 +28,12 @@ module _ {S A E C : Type 0} {steps : S → Answered A E → S → Type 0} {made 
   pub collected_all : {d : C} → Carried steps turns s c (Ended d) t → CollectsAll steps made s d
   collected_all {d} w = all_of d w w.last w.ran w.exit
 
-  failure_of : (d : C) (e : E) (w : Carried steps turns s c (Failed d e) t) (last : Answered A E) → Run steps s (map item w.items ++ last ∷ []) t → CarryingExit turns w.carried last (Failed d e) → FailsWith steps s e
+  failure_of : (d : C) (e : E) (w : Carried steps turns s c (Failed d e) t) (last : Answered A E) → Run steps s (map item w.items ++ last ∷ []) t → CarryingExit turns w.carried last (Failed d e) → FailsWith steps made s e
   failure_of d e w (Ok None) ran h = absurd cc
   failure_of d e w (Ok (Some x)) ran h = absurd (let f = h.2 in cc)
-  failure_of d e w (Err f) ran h = let same : f ≡ e = cc in record { items = w.items; left = t; ran = subst (λ z. Run steps s (map item w.items ++ Err z ∷ []) t) same ran }
+  failure_of d e w (Err f) ran h = let same : f ≡ e = cc in record { items = w.items; collection = w.carried; left = t; ran = subst (λ z. Run steps s (map item w.items ++ Err z ∷ []) t) same ran; is_made = is_made_by w }
 
-  pub collect_failed : {d : C} {e : E} → Carried steps turns s c (Failed d e) t → FailsWith steps s e
+  pub collect_failed : {d : C} {e : E} → Carried steps turns s c (Failed d e) t → FailsWith steps made s e
   collect_failed {d} {e} w = failure_of d e w w.last w.ran w.exit
 
   refusal_of : (a : AllocError) (w : Carried steps turns s c (Stopped a) t) (last : Answered A E) → Run steps s (map item w.items ++ last ∷ []) t → CarryingExit turns w.carried last (Stopped a) → RefusesItem steps made refuses s

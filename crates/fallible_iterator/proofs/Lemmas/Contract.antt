@@ -1,9 +1,15 @@
 -- What stays after any number of draws.
-use Rattle.std.specs.Prelude.{List, [], ◌∷◌}
-use Rattle.std.proofs.Common.{subst}
+use Rattle.std.specs.Prelude.{ℕ, ◌≤◌, List, [], ◌∷◌}
+use Rattle.std.proofs.Common.{arith, subst, inl, inr}
 use Rattle.fallible_iterator.specs.Traces.{Answered, Yields, item}
-use Rattle.fallible_iterator.specs.Contract.{Contract, Stays, Lawful}
+use Rattle.fallible_iterator.specs.Contract.{Contract, AtMost, Stays, Lawful}
 use Rattle.fallible_iterator.specs.Laws.Contract.{no_more_then, stays_after, stays_here}
+
+module _ {S A E : Type 0} (m : Contract S A E) where
+  -- where at most k items are still to come, a number to come says so
+  pub number_of_at_most : (s : S) (k : ℕ) → AtMost m s k → (n : ℕ) × m.to_come s n × (n ≤ k)
+  number_of_at_most s k (inl b) = (k, b, omega arith)
+  number_of_at_most s k (inr b) = b
 
 module _ {S A E : Type 0} {m : Contract S A E} where
   pub stays_yields : Lawful m → (s : S) (xs : List A) (t : S) → m.can s → Yields m.steps s xs t → Stays m s t

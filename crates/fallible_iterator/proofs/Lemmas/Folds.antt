@@ -5,7 +5,8 @@ use Rattle.std.proofs.Common.{refl, sym, ap, subst, arith}
 use Rattle.fallible_iterator.specs.declared.folds.Exit.{Exit}
 use Rattle.fallible_iterator.specs.declared.folds.Exit.TheVariants.{Ended, Failed, Stopped}
 use Rattle.fallible_iterator.specs.Traces.{Answered, Yields, item}
-use Rattle.fallible_iterator.specs.Contract.{Contract, Lawful}
+use Rattle.fallible_iterator.specs.Contract.{Contract, AtMost, Lawful}
+use Rattle.fallible_iterator.proofs.Lemmas.Contract.{number_of_at_most}
 use Rattle.fallible_iterator.specs.Folds.{CountExit, Counted, HoldsAtEachTurn, FoldTurn, FoldExit, Folded, carrying_turn, CarryingExit, Carried}
 
 module _ {S A E C : Type 0} {steps : S → Answered A E → S → Type 0} {goes_on : C → A → C → Type 0} {P : C → A → Type 0} where
@@ -88,9 +89,9 @@ module _ {S A E : Type 0} {m : Contract S A E} where
   came_below l s [] t u x n c b ran step = let step' : m.steps s (item x) u = subst (λ (v : S). m.steps v (item x) u) (sym ran) step in let fewer = (l.goes s (item x) u c step').answer.1 n b in omega (arith, fewer.2)
   came_below l s (y ∷ items) t u x n c b ran step = let g = l.goes s (item y) ran.0 c ran.1 in let fewer = g.answer.1 n b in let k = came_below l ran.0 items t u x fewer.0 g.can fewer.1 ran.2 step in omega (arith, fewer.2, k)
 
-  -- so the count of items fits below it at each turn
-  pub count_fits : {s : S} (n : ℕ) → Lawful m → m.can s → m.to_come s n → HoldsAtEachTurn m.steps counts (λ k x. k < n) s 0
-  count_fits {s} n l c b = record { at = λ items t u k x ran went step. let below = came_below l s items t u x n c b ran step in let e = counted_up items 0 k went in omega (arith, below, e) }
+  -- so where at most n items are to come, their count fits below n at each turn
+  pub count_fits : {s : S} (n : ℕ) → Lawful m → m.can s → AtMost m s n → HoldsAtEachTurn m.steps counts (λ k x. k < n) s 0
+  count_fits {s} n l c h = let b = number_of_at_most m s n h in record { at = λ items t u k x ran went step. let below = came_below l s items t u x b.0 c b.1 ran step in let e = counted_up items 0 k went in omega (arith, below, e, b.2) }
 
 module _ {A R : Type 0} (turns : ℕ → A → Result ℕ R → Type 0) where
   went_up : ((n : ℕ) (x : A) (r : Result ℕ R) → turns n x r → r ≡ Ok (n + 1)) → (items : List A) (n d : ℕ) → FoldsTo (carrying_turn turns) n items d → d ≡ n + length items

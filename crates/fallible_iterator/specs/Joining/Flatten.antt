@@ -138,8 +138,8 @@ BeginTurn {C = C} into inner hand x (Err (hand', Ok y)) = (c : C) × (d : C) × 
 BeginTurn {C = C} into inner hand x (Err (hand', Err e)) = (c : C) × (d : C) × into x c × inner c (failure e) d × (hand' ≡ Some d)
 
 -- the outer source, and the inner iterator in hand
-abbrev pub flatten_parts : {I X E B D C : Type 0} → Flatten I X E B D C → I × Option C
+abbrev pub flatten_parts : {I J : Type 0} → Flatten I J → I × Option J
 flatten_parts s = (s.it, s.in_hand)
 
-abbrev pub flat_map_parts : {I U F B D C : Type 0} → FlatMap I U F B D C → Map I F × Option C
+abbrev pub flat_map_parts : {I J F : Type 0} → FlatMap I J F → Map I F × Option J
 flat_map_parts s = (s.it, s.in_hand)

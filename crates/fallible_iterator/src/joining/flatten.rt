@@ -13,29 +13,23 @@ use crate::one_to_one::Map;
 use crate::traits::FallibleIterator;
 use crate::traits::conversion::IntoFallibleIterator;
 
-/// The answers of the inner iterators that the items become, one inner iterator after the other. The one in hand answers until its end, at which it is dropped; then the next item is drawn. A failure of the inner iterator keeps it. A failure or an end of the outer source is the answer, and the next call draws from it again.
-#[derive_where(Clone; I: Clone, <I::Item as IntoFallibleIterator>::IntoFallibleIter: Clone)]
-#[derive(Drop)]
-pub struct Flatten<I: FallibleIterator>
-where
-    I::Item: IntoFallibleIterator,
-{
+/// The answers of the inner iterators `J` that the items become, one inner iterator after the other. The one in hand answers until its end, at which it is dropped; then the next item is drawn. A failure of the inner iterator keeps it. A failure or an end of the outer source is the answer, and the next call draws from it again.
+#[derive(Clone, Drop)]
+pub struct Flatten<I, J> {
     pub(crate) it: I,
-    pub(crate) in_hand: Option<<I::Item as IntoFallibleIterator>::IntoFallibleIter>,
+    pub(crate) in_hand: Option<J>,
 }
 
-impl<I: FallibleIterator> FallibleIterator for Flatten<I>
-where
-    I::Item: IntoFallibleIterator<Error = I::Error>,
-{
-    type Item = <I::Item as IntoFallibleIterator>::Item;
+impl<U: IntoFallibleIterator, I: FallibleIterator<Item = U, Error = U::Error>> FallibleIterator
+    for Flatten<I, U::IntoFallibleIter> {
+    type Item = U::Item;
 
-    type Error = I::Error;
+    type Error = U::Error;
 
-    ghost contract = { seen_as flatten_parts (flatten_contract I.contract I.Item.into_gives I.Item.IntoFallibleIter.contract) };
+    ghost contract = { seen_as flatten_parts (flatten_contract I.contract U.into_gives U.IntoFallibleIter.contract) };
 
     /// Draws from the inner iterator in hand; where there is none or it ended, draws from the outer source until an item becomes an inner iterator that does not end at once, a failure comes or an end comes. It asks that the inner iterator in hand and each that may come may be drawn from.
-    fn next(&mut self) -> Result<Option<<I::Item as IntoFallibleIterator>::Item>, I::Error> {
+    fn next(&mut self) -> Result<Option<U::Item>, U::Error> {
         next_joined(&mut self.it, &mut self.in_hand)
     }
 
@@ -43,21 +37,21 @@ where
         (0, None)
     }
 
-    ghost lawful = { lawful_seen flatten_parts (lawful_flatten _ I.lawful I.Item.into_gives _ I.Item.IntoFallibleIter.lawful) };
+    ghost lawful = { lawful_seen flatten_parts (lawful_flatten _ I.lawful U.into_gives _ U.IntoFallibleIter.lawful) };
 }
 
-/// The answers of the inner iterators that the closure makes of the items, as `Flatten` joins them. Where the closure fails, its failure is the answer, and that item is lost.
+/// The answers of the inner iterators `J` that the closure makes of the items, as `Flatten` joins them. Where the closure fails, its failure is the answer, and that item is lost.
 #[derive(Clone, Debug, Drop)]
-pub struct FlatMap<I, U: IntoFallibleIterator, F> {
+pub struct FlatMap<I, J, F> {
     pub(crate) it: Map<I, F>,
-    pub(crate) in_hand: Option<U::IntoFallibleIter>,
+    pub(crate) in_hand: Option<J>,
 }
 
 impl<
     I: FallibleIterator,
     U: IntoFallibleIterator<Error = I::Error>,
     F: FnMut(I::Item) -> Result<U, I::Error>,
-> FallibleIterator for FlatMap<I, U, F> {
+> FallibleIterator for FlatMap<I, U::IntoFallibleIter, F> {
     type Item = U::Item;
 
     type Error = I::Error;

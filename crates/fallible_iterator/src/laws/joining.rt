@@ -26,10 +26,8 @@ where
 {}
 
 /// A trace of `Flatten` joins the answers of the inner iterators, each up to its end, and the outer source's failures and ends; the last inner iterator, where its end was not drawn, stays in hand.
-pub fn law_flatten<I: FallibleIterator>()
-where
-    I::Item: IntoFallibleIterator<Error = I::Error>,
-    ensures { MeetsHeld flatten_parts ⟦<Flatten<I> as FallibleIterator>⟧.contract.steps (FlattenTrace I.contract.steps I.Item.into_gives I.Item.IntoFallibleIter.contract.steps) }
+pub fn law_flatten<U: IntoFallibleIterator, I: FallibleIterator<Item = U, Error = U::Error>>()
+    ensures { MeetsHeld flatten_parts ⟦<Flatten<I, U::IntoFallibleIter> as FallibleIterator>⟧.contract.steps (FlattenTrace I.contract.steps U.into_gives U.IntoFallibleIter.contract.steps) }
 {}
 
 /// A trace of `FlatMap` is one of a `Flatten` over the `Map` of its closure.
@@ -39,7 +37,7 @@ pub fn law_flat_map<
     F: FnMut(I::Item) -> Result<U, I::Error>,
 >()
 where
-    ensures { MeetsHeld flat_map_parts ⟦<FlatMap<I, U, F> as FallibleIterator>⟧.contract.steps (FlattenTrace ⟦<Map<I, F> as FallibleIterator>⟧.contract.steps U.into_gives U.IntoFallibleIter.contract.steps) }
+    ensures { MeetsHeld flat_map_parts ⟦<FlatMap<I, U::IntoFallibleIter, F> as FallibleIterator>⟧.contract.steps (FlattenTrace ⟦<Map<I, F> as FallibleIterator>⟧.contract.steps U.into_gives U.IntoFallibleIter.contract.steps) }
 {}
 
 /// A trace of `Cycle` is laps: answers of one run up to its end, which is not answered, and then those of a fresh clone, or the failure made of a refused clone, after which the next lap goes on over the same run. The kept source stays.

@@ -1,0 +1,140 @@
+// Items and inner iterators that borrow from what a caller lends.
+use fallible_iterator::{FallibleIterator, Fault, IntoFallible, convert};
+use std::alloc::Global;
+use std::convert::Infallible;
+use std::test::Fail;
+
+// The numbers on the pages, in order, up to 9 of them. A 0 fails with the number of its page's items.
+fn listed_numbers(alloc: Global, pages: &[&[u32]]) -> Result<Vec<u32>, Fault<usize>> {
+    convert(
+        pages
+            .iter()
+            .map(|page: &&[u32]| {
+                let size = page.len();
+                Ok(convert(
+                    page.iter()
+                        .map(move |x: &u32| if *x == 0 { Err(size) } else { Ok(*x) }),
+                ))
+            })
+            .fuse(),
+    )
+    .flatten()
+    .take(9)
+    .collect(alloc)
+}
+
+#[test]
+fn lent_pages_are_collected(rt: HostRuntime) {
+    let (first, second, third) = ([1, 2], [], [3]);
+    let pages = [first.as_slice(), second.as_slice(), third.as_slice()];
+    match listed_numbers(rt.alloc(), pages.as_slice()) {
+        Ok(items) => assert_eq!(rt; items.as_slice(), [1, 2, 3].as_slice()),
+        Err(_) => assert!(rt; false),
+    }
+}
+
+#[test]
+fn a_failure_on_a_lent_page_stops_the_drain(rt: HostRuntime) {
+    let (first, second) = ([1, 2], [3, 0, 4]);
+    let pages = [first.as_slice(), second.as_slice()];
+    match listed_numbers(rt.alloc(), pages.as_slice()) {
+        Err(Fault::Source(size)) => assert_eq!(rt; size, 3),
+        _ => assert!(rt; false),
+    }
+}
+
+// How many items the pages have, up to 9.
+fn counted_items(pages: &[&[u32]]) -> Result<usize, Infallible> {
+    IntoFallible::from(pages.iter())
+        .flat_map(|page: &&[u32]| Ok(IntoFallible::from(page.iter())))
+        .take(9)
+        .count()
+}
+
+// The same, where each page can be peeked into.
+fn counted_behind_a_peek(pages: &[&[u32]]) -> Result<usize, Infallible> {
+    IntoFallible::from(pages.iter())
+        .flat_map(|page: &&[u32]| Ok(IntoFallible::from(page.iter()).peekable()))
+        .take(9)
+        .count()
+}
+
+#[test]
+fn items_of_lent_pages_are_counted(rt: HostRuntime) {
+    let (first, second, third) = ([5, 6], [], [7]);
+    let pages = [first.as_slice(), second.as_slice(), third.as_slice()];
+    assert_eq!(rt; counted_items(pages.as_slice()), Ok(3));
+    assert_eq!(rt; counted_behind_a_peek(pages.as_slice()), Ok(3));
+}
+
+// How many words the lines of the text have, up to 9.
+fn counted_words(text: &str) -> Result<usize, ()> {
+    convert(text.lines().map(|line| Ok::<&str, ()>(line)).fuse())
+        .flat_map(|line: &str| {
+            Ok(convert(
+                line.split_whitespace()
+                    .map(|word| Ok::<&str, ()>(word))
+                    .fuse(),
+            ))
+        })
+        .take(9)
+        .count()
+}
+
+// The first word of the text.
+fn first_word<'a>(text: &'a str) -> Result<Option<&'a str>, ()> {
+    let mut words = convert(text.lines().map(|line| Ok::<&str, ()>(line)).fuse()).flat_map(
+        |line: &str| {
+            Ok(convert(
+                line.split_whitespace()
+                    .map(|word| Ok::<&str, ()>(word))
+                    .fuse(),
+            ))
+        },
+    );
+    words.next()
+}
+
+#[test]
+fn words_of_lines_are_drained(rt: HostRuntime) {
+    assert_eq!(rt; counted_words("one two\n\n  three\n"), Ok(3));
+    assert_eq!(rt; first_word("\n  one two\nthree"), Ok(Some("one")));
+    assert_eq!(rt; first_word("\n \n"), Ok(None));
+}
+
+// After the first word, where that has three letters, how many words of three letters follow in a row.
+fn short_words_after_a_short_one(text: &str) -> Result<usize, ()> {
+    let mut words = convert(
+        text.split_whitespace()
+            .map(|word| Ok::<&str, ()>(word))
+            .fuse(),
+    )
+    .peekable();
+    if words.next_if(|word: &&str| word.len() == 3)?.is_none() {
+        return Ok(0);
+    }
+    words.take_while(|word: &&str| Ok(word.len() == 3)).count()
+}
+
+#[test]
+fn borrowed_words_are_peeked_at(rt: HostRuntime) -> Result<(), Fail> {
+    assert_eq!(rt;
+        short_words_after_a_short_one("one two six three ten"),
+        Ok(2)
+    );
+    assert_eq!(rt; short_words_after_a_short_one("three ten"), Ok(0));
+    let numbers = [1u32, 2, 3];
+    let mut it = IntoFallible::from(numbers.iter()).peekable();
+    assert_eq!(rt; it.peek(), Ok(Some(&&1)));
+    assert_eq!(rt; it.next(), Ok(Some(&1)));
+    let made: Result<Vec<u32>, Fault<Infallible>> = it
+        .map(|x: &u32| Ok(*x))
+        .filter(|x| Ok(*x > 2))
+        .take(2)
+        .collect(rt.alloc());
+    match made {
+        Ok(items) => assert_eq!(rt; items.as_slice(), [3].as_slice()),
+        Err(_) => assert!(rt; false),
+    }
+    Ok(())
+}

@@ -1,0 +1,59 @@
+// A fallible iterator whose one number to come is the number of its items, and no greater one.
+ghost use Rattle.std.specs.Prelude.{◌≡◌, ◌+◌, MatchResult, MatchOption};
+ghost use Rattle.std.proofs.Common.{rules};
+ghost use Rattle.fallible_iterator.specs.Contract.{counting_down};
+
+use fallible_iterator::FallibleIterator;
+use fallible_iterator::laws::{Answer, answers};
+use std::test::Fail;
+
+// Gives 3 as many times as is left, and then ends.
+#[derive(Drop)]
+struct Threes {
+    left: u64,
+}
+
+impl FallibleIterator for Threes {
+    type Item = u32;
+
+    type Error = ();
+
+    ghost contract = { let m = counting_down (λ s r t. MatchResult r (λ o. MatchOption o ((s.left ≡ 0) × (t.left ≡ 0)) (λ x. (x ≡ 3) × (t.left + 1 ≡ s.left))) (λ _. ⊥)) (λ s. s.left) in record m { to_come = λ s n. s.left ≡ n } };
+
+    fn next(&mut self) -> Result<Option<u32>, ()> {
+        if self.left == 0 {
+            return Ok(None);
+        }
+        self.left -= 1;
+        Ok(Some(3))
+    }
+
+    fn size_hint(&self) -> (usize, Option<usize>) {
+        (0, None)
+    }
+
+    ghost lawful = { Prim.search rules };
+}
+
+#[test]
+fn is_counted(rt: HostRuntime) {
+    let it = Threes { left: 4 };
+    assert_eq!(rt; it.count(), Ok(4));
+}
+
+#[test]
+fn is_numbered(rt: HostRuntime) -> Result<(), Fail> {
+    let mut it = Threes { left: 2 }.enumerate();
+    let drawn = answers(rt.alloc(), &mut it, 3)?;
+    assert_eq!(rt;
+        drawn.as_slice(),
+        [Answer::Item((0, 3)), Answer::Item((1, 3)), Answer::End].as_slice()
+    );
+    Ok(())
+}
+
+#[test]
+fn is_counted_after_it_is_numbered(rt: HostRuntime) {
+    let it = Threes { left: 4 };
+    assert_eq!(rt; it.enumerate().map(|(n, _)| Ok(n)).count(), Ok(4));
+}
