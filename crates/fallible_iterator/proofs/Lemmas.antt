@@ -4,6 +4,7 @@ pub mod Borrowed
 pub mod Closing
 pub mod Collecting
 pub mod Contract
+pub mod Counting
 pub mod Cutting
 pub mod Definitions
 pub mod Filtering

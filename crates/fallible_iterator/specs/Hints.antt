@@ -1,5 +1,5 @@
 -- What the adapters make of their sources' hints.
-use Rattle.std.specs.Prelude.{◌≡◌, ℕ, ◌+◌, ◌-◌, ◌^◌, min, cond, ltb, false, Option, Some, None, zero, suc, ◌<◌, Bool, true, option_map, SomeIff, MatchOption, ◌/◌}
+use Rattle.std.specs.Prelude.{◌≡◌, ℕ, ◌+◌, ◌-◌, ◌^◌, min, cond, ltb, Option, Some, None, zero, suc, option_map, ◌/◌, leb, ◌<◌, SomeIff, MatchOption}
 use Rattle.fallible_iterator.specs.Contract.{Contract}
 
 -- the sum of two bounds, where it fits a `usize`
@@ -11,8 +11,6 @@ fitting_sum None y = None
 -- The sums of the bounds. The lower one is at most `usize::MAX`; there is no upper one where either is missing or the sum doesn't fit.
 abbrev pub hint_sum : ℕ × Option ℕ → ℕ × Option ℕ → ℕ × Option ℕ
 hint_sum g h = (min (g.0 + h.0) (2 ^ 64 - 1), fitting_sum g.1 h.1)
-
--- ---- `Take`
 
 -- the smaller of each bound and n
 abbrev pub hint_up_to : ℕ → ℕ × Option ℕ → ℕ × Option ℕ
@@ -27,24 +25,17 @@ cycle_hint (suc low, high) = (2 ^ 64 - 1, None)
 abbrev pub upper_alone : {S A E : Type 0} → Contract S A E → S → ℕ × Option ℕ → Type 0
 upper_alone m s h = (k : ℕ × Option ℕ) × m.hints s k × (h ≡ (0, k.1))
 
--- The source's hint; with a held item one more on each bound, the lower at most the greatest number there is, and no upper where it would be past that.
-abbrev pub HintWithHeld : {A : Type 0} → Option A → ℕ × Option ℕ → ℕ × Option ℕ → Type 0
-HintWithHeld None k h = h ≡ k
-HintWithHeld (Some x) k h = (h.0 ≡ min (k.0 + 1) (2 ^ 64 - 1)) × MatchOption k.1 (h.1 ≡ None) (λ n. SomeIff h.1 (n + 1 < 2 ^ 64) (n + 1))
-
 -- each bound less n, and not below 0
 abbrev pub hint_less : ℕ → ℕ × Option ℕ → ℕ × Option ℕ
 hint_less n h = (h.0 - n, option_map (λ u. u - n) h.1)
 
--- how many of b items are kept: the first one and then one at each step, or one at each step alone
-abbrev pub kept_of : ℕ → Bool → ℕ → ℕ
-kept_of between true zero = 0
-kept_of between true (suc b) = 1 + b / (between + 1)
-kept_of between false b = b / (between + 1)
+-- how many of b items are kept, where r are left out first: the first one after these, and one more at each step
+abbrev pub kept_of : ℕ → ℕ → ℕ → ℕ
+kept_of between r b = cond (leb b r) 0 (1 + (b - 1 - r) / (between + 1))
 
 -- each bound, of which so many are kept
-abbrev pub hint_kept : ℕ → Bool → ℕ × Option ℕ → ℕ × Option ℕ
-hint_kept between first h = (kept_of between first h.0, option_map (kept_of between first) h.1)
+abbrev pub hint_kept : ℕ → ℕ → ℕ × Option ℕ → ℕ × Option ℕ
+hint_kept between r h = (kept_of between r h.0, option_map (kept_of between r) h.1)
 
 -- the smaller of the upper bounds that are known
 abbrev pub smaller_bound : Option ℕ → Option ℕ → Option ℕ
@@ -55,3 +46,7 @@ smaller_bound None y = y
 -- the smaller lower bound, and the smaller of the upper bounds that are known
 abbrev pub hint_smaller : ℕ × Option ℕ → ℕ × Option ℕ → ℕ × Option ℕ
 hint_smaller g h = (min g.0 h.0, smaller_bound g.1 h.1)
+
+-- One more on each bound, the lower at most the greatest number there is, and no upper where it would be past that
+abbrev pub HintWithItem : ℕ × Option ℕ → ℕ × Option ℕ → Type 0
+HintWithItem k h = (h.0 ≡ min (k.0 + 1) (2 ^ 64 - 1)) × MatchOption k.1 (h.1 ≡ None) (λ n. SomeIff h.1 (n + 1 < 2 ^ 64) (n + 1))

@@ -3,10 +3,10 @@ pub mod Borrowed
 pub mod Closing
 pub mod Closures
 pub mod Contract
+pub mod Counting
 pub mod Cutting
 pub mod Filtering
 pub mod Joining
-pub mod Nth
 pub mod OneToOne
 pub mod Passing
 pub mod Peeking

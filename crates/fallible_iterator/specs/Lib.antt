@@ -5,6 +5,7 @@ pub mod Closing
 pub mod Closures
 pub mod Collecting
 pub mod Contract
+pub mod Counting
 pub mod Cutting
 pub mod Definitions
 pub mod Filtering

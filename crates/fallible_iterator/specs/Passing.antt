@@ -1,5 +1,5 @@
 -- Adapters that let the answers of one source pass: of each item a closure is asked, and by its answer the item is kept as another, left out, or replaced by a failure or an end.
-use Rattle.std.specs.Prelude.{◌≡◌, ℕ, ⊤, Option, Result, Some, Ok, Err, List, [], ◌∷◌, map, None, IsSome, ◌⊎◌}
+use Rattle.std.specs.Prelude.{◌≡◌, ℕ, ⊤, Option, Result, Some, Ok, Err, List, [], ◌∷◌, map, None, is_some, Bool, ◌⊎◌}
 use Rattle.std.specs.List.{filter_map}
 use Rattle.fallible_iterator.specs.Traces.{LastKept, Answered, Run, item, failure, end}
 use Rattle.fallible_iterator.specs.Contract.{Contract}
@@ -44,13 +44,17 @@ module _ {X R B E : Type 0} (outcome : X → R → Outcome B E) where
   answer_at (failure_at e) = Some (failure e)
   answer_at end_at = Some end
 
+  -- whether the adapter has an answer at a place
+  abbrev pub has_answer : Place X R E → Bool
+  has_answer p = is_some (answer_at p)
+
 -- The adapter's trace is the source's trace without the left-out items, where an item that is kept as another, one whose closure failed and one that makes an end is replaced. The closure is called on each item in order, and the source's trace doesn't end in a left-out item. The parts are the source and what holds the closure.
 pub record PassTrace {S F X R B E : Type 0} (steps : S → Answered X E → S → Type 0) (call : F → X → R → F → Type 0) (outcome : X → R → Outcome B E) (p : S × F) (trace : List (Answered B E)) (q : S × F) : Type 0 where
   pub places : List (Place X R E)
   pub drawn : Run steps p.0 (map source_answer places) q.0
   pub called : Calls call p.1 (filter_map call_of places) q.1
   pub answers : trace ≡ filter_map (answer_at outcome) places
-  pub last_kept : LastKept (answer_at outcome) places
+  pub last_kept : LastKept (has_answer outcome) places
 
 -- The contract of such an adapter. It steps as its trace of one answer says. An item of it is what the closure may make of one that the source may give, and a failure of it one of the source's or the closure's.
 abbrev pub passing : {S F X R B E : Type 0} → Contract S X E → (F → X → R → F → Type 0) → ((X → Type 0) → F → Type 0) → (X → R → Outcome B E) → (S × F → ℕ × Option ℕ → Type 0) → Contract (S × F) B E

@@ -1,5 +1,5 @@
 -- Answers and traces.
-use Rattle.std.specs.Prelude.{◌≡◌, ℕ, ◌+◌, Option, Result, List, [], ◌∷◌, Bool, true, false, ⊤, Some, None, Ok, Err, IsSome}
+use Rattle.std.specs.Prelude.{◌≡◌, ℕ, ◌+◌, Option, Result, List, [], ◌∷◌, Bool, true, false, ⊤, Some, None, Ok, Err}
 use Rattle.std.specs.List.{FoldsTo}
 
 -- An answer is what one draw gives: an item, `Ok (Some x)`, a failure, `Err e`, or an end, `Ok None`.
@@ -34,12 +34,6 @@ Run steps s trace t = FoldsTo steps s trace t
 abbrev pub Yields : {S A E : Type 0} → (S → Answered A E → S → Type 0) → S → List A → S → Type 0
 Yields steps s xs t = FoldsTo (λ u x v. steps u (item x) v) s xs t
 
--- the item that an answer is, if it is one
-abbrev pub item_of : {A E : Type 0} → Answered A E → Option A
-item_of (Ok (Some x)) = Some x
-item_of (Ok None) = None
-item_of (Err e) = None
-
 -- how many items a trace has
 abbrev pub items_in : {A E : Type 0} → List (Answered A E) → ℕ
 items_in [] = 0
@@ -47,8 +41,8 @@ items_in (Ok (Some x) ∷ rest) = items_in rest + 1
 items_in (Ok None ∷ rest) = items_in rest
 items_in (Err e ∷ rest) = items_in rest
 
--- The last of a list, if there is one, is kept: `keep` has something for it.
-abbrev pub LastKept : {Q R : Type 0} → (Q → Option R) → List Q → Type 0
-LastKept keep [] = ⊤
-LastKept keep (x ∷ []) = IsSome (keep x)
-LastKept keep (x ∷ y ∷ rest) = LastKept keep (y ∷ rest)
+-- The last of a list, if there is one, is kept.
+abbrev pub LastKept : {Q : Type 0} → (Q → Bool) → List Q → Type 0
+LastKept is_kept [] = ⊤
+LastKept is_kept (x ∷ []) = is_kept x ≡ true
+LastKept is_kept (x ∷ y ∷ rest) = LastKept is_kept (y ∷ rest)

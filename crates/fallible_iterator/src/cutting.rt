@@ -1,4 +1,5 @@
 //! Adapters that cut a trace off.
+mod counting;
 mod fuse;
 mod skip;
 mod step_by;

@@ -29,6 +29,7 @@ ghost use Rattle.fallible_iterator.specs.Collecting.{Collects, PushTurn};
 ghost use Rattle.fallible_iterator.specs.Folds.{CallableCarrying, Carried, CallableInFold, call_with, takes_with, FoldTurn, Folded, Counted, Nth};
 
 mod borrowed;
+mod boxed;
 pub mod conversion;
 
 use crate::collecting::{Collect, Fault};
@@ -255,7 +256,7 @@ pub trait FallibleIterator: Drop + Sized {
         }
     }
 
-    /// Leaves out the first n items; a failure or an end that comes among them is the answer, and nothing is left out after it. Making the adapter draws nothing: its first call is the source's `nth(n)`.
+    /// Leaves out the first n items. A failure or an end that comes among them is the answer, and the rest of them is left out after it. Making the adapter draws nothing; one call draws at most n + 1 answers.
     final fn skip(self, n: usize) -> Skip<Self>
         ensures { skip_parts result ≡ (self, n) }
     {
@@ -265,15 +266,15 @@ pub trait FallibleIterator: Drop + Sized {
         }
     }
 
-    /// Keeps the first answer, whatever it is, and from then on of each `step` items the last. Failures and ends pass, and items are counted anew after them. The step is at least 1. Making the adapter draws nothing.
+    /// Keeps the first item, and then one item at each step, so that of each `step` items one is kept. Failures and ends pass, and don't count. The step is at least 1. Making the adapter draws nothing; one call draws at most `step` answers.
     final fn step_by(self, step: usize) -> StepBy<Self>
         requires { 1 ≤ step }
-        ensures { step_by_parts result ≡ (self, (step - 1, true)) }
+        ensures { step_by_parts result ≡ (self, (step - 1, 0)) }
     {
         StepBy {
             it: self,
             between: step - 1,
-            first: true,
+            left: 0,
         }
     }
 
@@ -468,7 +469,7 @@ pub trait FallibleIterator: Drop + Sized {
         }
     }
 
-    /// Lets the next item be looked at ahead. Making the adapter draws nothing, and holds nothing.
+    /// Lets the next answer be looked at ahead: an item or an end that `peek` saw is held, and comes first. Making the adapter draws nothing, and holds nothing.
     final fn peekable(self) -> Peekable<Self>
         ensures { peekable_parts result ≡ (self, None) }
     {

@@ -200,23 +200,6 @@ fn skip_of_four_items(rt: HostRuntime) -> Result<(), Fail> {
 }
 
 #[test]
-fn skip_is_cut_short_by_a_failure(rt: HostRuntime) -> Result<(), Fail> {
-    let mut it = listed::<u32, u32, 4>(rt.alloc(), [Ok(1), Err(9), Ok(2), Ok(3)])?.skip(3);
-    let got = answers(rt.alloc(), &mut it, 4)?;
-    assert_eq!(rt;
-        got.as_slice(),
-        [
-            Answer::Failure(9),
-            Answer::Item(2),
-            Answer::Item(3),
-            Answer::End
-        ]
-        .as_slice()
-    );
-    Ok(())
-}
-
-#[test]
 fn skip_of_all(rt: HostRuntime) -> Result<(), Fail> {
     let mut it = listed::<u32, u32, 1>(rt.alloc(), [Ok(1)])?.skip(usize::MAX);
     assert_eq!(rt; it.size_hint(), (0, Some(0)));
@@ -249,25 +232,6 @@ fn step_by_three(rt: HostRuntime) -> Result<(), Fail> {
             Answer::Item(0),
             Answer::Item(3),
             Answer::Item(6),
-            Answer::End
-        ]
-        .as_slice()
-    );
-    Ok(())
-}
-
-#[test]
-fn step_by_counts_anew_after_a_failure(rt: HostRuntime) -> Result<(), Fail> {
-    let mut it = listed::<u32, u32, 5>(rt.alloc(), [Ok(1), Ok(2), Err(9), Ok(3), Ok(4)])?.step_by(
-        2,
-    );
-    let got = answers(rt.alloc(), &mut it, 4)?;
-    assert_eq!(rt;
-        got.as_slice(),
-        [
-            Answer::Item(1),
-            Answer::Failure(9),
-            Answer::Item(4),
             Answer::End
         ]
         .as_slice()

@@ -10,6 +10,8 @@ mod cloning;
 #[cfg(test)]
 mod collecting;
 #[cfg(test)]
+mod counting_and_looking;
+#[cfg(test)]
 mod cutting;
 #[cfg(test)]
 mod cycling;

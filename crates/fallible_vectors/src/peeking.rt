@@ -1,30 +1,14 @@
 // The adapter that looks one item ahead.
-ghost use Rattle.std.specs.Prelude.{◌≡◌, ⊤, Some, None, Ok, MatchResult, MatchOption};
+ghost use Rattle.std.specs.Prelude.{◌≡◌, ⊤, Some, None, Ok, MatchResult};
 ghost use Rattle.fallible_iterator.specs.Peeking.Peekable.{Fills};
 ghost use Rattle.fallible_iterator.specs.Peeking.Peekable.{peekable_parts};
 
 use crate::failure::Failure;
 use crate::listed::listed;
 use fallible_iterator::laws::{Answer, answers};
-use fallible_iterator::{FallibleIterator, Peekable, from_fn, once, repeat};
+use fallible_iterator::{FallibleIterator, Peekable, once, repeat};
 use std::cell::Cell;
 use std::test::Fail;
-
-#[test]
-fn peek_holds_no_end(rt: HostRuntime) {
-    let mut calls = 0u32;
-    let mut it = from_fn(move || {
-        calls = calls.wrapping_add(1);
-        match calls {
-            2 => Ok::<Option<u32>, u32>(Some(7)),
-            _ => Ok(None),
-        }
-    })
-    .peekable();
-    assert_eq!(rt; it.peek(), Ok(None));
-    assert_eq!(rt; it.peek(), Ok(Some(&7)));
-    assert_eq!(rt; it.next(), Ok(Some(7)));
-}
 
 #[test]
 fn peek_holds_no_failure(rt: HostRuntime) -> Result<(), Fail> {
@@ -132,24 +116,27 @@ fn a_clone_of_peekable_holds_the_item_too(rt: HostRuntime) -> Result<(), Fail> {
     Ok(())
 }
 
-// Takes the item that is looked at. After `fill`, with an item held, `next` is known to answer that item without a draw.
+// Takes what is looked at. After `fill`, `held` tells whether it is an item or an end, and `next` is known to answer that without a draw.
 fn take_looked_at<I: FallibleIterator>(it: &mut Peekable<I>) -> Result<Option<I::Item>, I::Error>
 where
     I::Item: Drop,
     requires { ⟦<Peekable<I> as FallibleIterator>⟧.contract.can it.old }
-    ensures { MatchResult result (λ o. MatchOption o ⊤ (λ x. (s : I) × Fills I.contract.steps (peekable_parts it.old) (Ok tt) (s, Some x) × (peekable_parts it.new ≡ (s, None)))) (λ _. ⊤) }
+    ensures { MatchResult result (λ o. (s : I) × Fills I.contract.steps (peekable_parts it.old) (Ok tt) (s, Some o) × (peekable_parts it.new ≡ (s, None))) (λ _. ⊤) }
 {
     match it.fill() {
         Ok(()) => {}
         Err(e) => return Err(e),
     }
-    let is_held = (*it).held().is_some();
-    if !is_held {
-        return Ok(None);
-    }
+    let is_item = (*it).held().is_some();
     match it.next() {
-        Ok(Some(x)) => Ok(Some(x)),
-        Ok(None) => unreachable!(),
+        Ok(Some(x)) => {
+            prove!(is_item);
+            Ok(Some(x))
+        }
+        Ok(None) => {
+            prove!(!is_item);
+            Ok(None)
+        }
         Err(_) => unreachable!(),
     }
 }
@@ -158,6 +145,8 @@ where
 fn what_is_looked_at_is_the_next_item(rt: HostRuntime) -> Result<(), Fail> {
     let mut it = listed::<u32, u32, 2>(rt.alloc(), [Ok(1), Err(2)])?.peekable();
     assert_eq!(rt; take_looked_at(&mut it), Ok(Some(1)));
+    assert_eq!(rt; take_looked_at(&mut it), Err(2));
+    assert_eq!(rt; take_looked_at(&mut it), Ok(None));
     Ok(())
 }
 

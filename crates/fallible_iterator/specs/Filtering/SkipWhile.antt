@@ -6,7 +6,7 @@ use Rattle.std.specs.List.{filter_map}
 use Rattle.fallible_iterator.specs.Traces.{Answered, Run, LastKept}
 use Rattle.fallible_iterator.specs.Contract.{Contract}
 use Rattle.fallible_iterator.specs.Closures.{Calls, IsCallable, call_in, call_at, takes_at}
-use Rattle.fallible_iterator.specs.Passing.{Outcome, kept, left_out, failed, Place, asked, failure_at, end_at, source_answer, call_of, answer_at, leaving_out}
+use Rattle.fallible_iterator.specs.Passing.{Outcome, kept, left_out, failed, Place, asked, failure_at, end_at, source_answer, call_of, answer_at, leaving_out, has_answer}
 use Rattle.fallible_iterator.specs.declared.filtering.skip_while.SkipWhile.{SkipWhile}
 use Rattle.fallible_iterator.specs.Hints.{upper_alone}
 
@@ -61,7 +61,7 @@ asked_outcome x v = skip_while_outcome x (Some v)
 abbrev pub AskedUntilFalse : {X E : Type 0} → Bool → List (Place X (Result Bool E) E) → List (Answered X E) → Bool → Type 0
 AskedUntilFalse true met after found = (met ≡ []) × (found ≡ true)
 AskedUntilFalse false met after true = EndsAtFalse met
-AskedUntilFalse false met after false = NeverFalse met × (after ≡ []) × LastKept (answer_at asked_outcome) met
+AskedUntilFalse false met after false = NeverFalse met × (after ≡ []) × LastKept (has_answer asked_outcome) met
 
 -- `SkipWhile`, with the flag beside the predicate: the source's trace is what came while the predicate was asked, up to and with its first false, and what came after. Its own trace is the first part without the items that the predicate answered true on, an item on which it failed being replaced by that failure, and then the whole second part.
 pub record SkipWhileTrace {S F X E : Type 0} (steps : S → Answered X E → S → Type 0) (call : F → X → Result Bool E → F → Type 0) (p : S × (Bool × F)) (trace : List (Answered X E)) (q : S × (Bool × F)) : Type 0 where

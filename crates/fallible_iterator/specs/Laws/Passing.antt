@@ -4,7 +4,7 @@ use Rattle.std.specs.List.{filter_map, cons_option}
 use Rattle.std.proofs.Common.{refl, sym, ap, subst, arith, inl, inr}
 use Rattle.fallible_iterator.specs.Traces.{LastKept, Answered, Run, item}
 use Rattle.fallible_iterator.specs.Contract.{Contract, OnAnswer, Goes, Lawful, Stays}
-use Rattle.fallible_iterator.specs.Passing.{Outcome, PassTrace, passing, leaving_out, kept, left_out, failed, an_end, Place, asked, failure_at, end_at, source_answer, call_of, outcome_answer, answer_at}
+use Rattle.fallible_iterator.specs.Passing.{Outcome, PassTrace, passing, leaving_out, kept, left_out, failed, an_end, Place, asked, failure_at, end_at, source_answer, call_of, outcome_answer, answer_at, has_answer}
 use Rattle.fallible_iterator.specs.Closures.{Calls, Reaches}
 use Rattle.fallible_iterator.specs.Laws.Contract.{stays_run}
 use Rattle.fallible_iterator.specs.Laws.Closures.{reaches_here, reaches_weaken, reaches_from, may_answer_here, may_answer_after}
@@ -21,15 +21,15 @@ module _ {S F X R B E : Type 0} (steps : S → Answered X E → S → Type 0) (c
     leaves_out : {s u t : S} {f h g : F} {r : Answered B E} {trace : List (Answered B E)} (x : X) (v : R) → steps s (item x) u → call f x v h → outcome x v ≡ left_out → Passes u h (r ∷ trace) t g → Passes s f (r ∷ trace) t g
 
 module _ {X R B E : Type 0} (outcome : X → R → Outcome B E) where
-  pub kept_tail : (p : Place X R E) (rest : List (Place X R E)) → LastKept (answer_at outcome) (p ∷ rest) → LastKept (answer_at outcome) rest
+  pub kept_tail : (p : Place X R E) (rest : List (Place X R E)) → LastKept (has_answer outcome) (p ∷ rest) → LastKept (has_answer outcome) rest
   kept_tail p [] h = tt
   kept_tail p (q ∷ rest) h = h
 
-  pub kept_cons : (p : Place X R E) (rest : List (Place X R E)) → IsSome (answer_at outcome p) → LastKept (answer_at outcome) rest → LastKept (answer_at outcome) (p ∷ rest)
+  pub kept_cons : (p : Place X R E) (rest : List (Place X R E)) → IsSome (answer_at outcome p) → LastKept (has_answer outcome) rest → LastKept (has_answer outcome) (p ∷ rest)
   kept_cons p [] some h = some
   kept_cons p (q ∷ rest) some h = h
 
-  pub kept_before : (p : Place X R E) (rest : List (Place X R E)) (r : Answered B E) (trace : List (Answered B E)) → r ∷ trace ≡ filter_map (answer_at outcome) rest → LastKept (answer_at outcome) rest → LastKept (answer_at outcome) (p ∷ rest)
+  pub kept_before : (p : Place X R E) (rest : List (Place X R E)) (r : Answered B E) (trace : List (Answered B E)) → r ∷ trace ≡ filter_map (answer_at outcome) rest → LastKept (has_answer outcome) rest → LastKept (has_answer outcome) (p ∷ rest)
   kept_before p [] r trace e h = absurd cc
   kept_before p (q ∷ rest) r trace e h = h
 
@@ -42,17 +42,17 @@ module _ {X R B E : Type 0} (outcome : X → R → Outcome B E) where
   cons_nonempty (Some r) rest h e = cc
 
   -- places that end kept have an answer
-  pub answered : (p : Place X R E) (rest : List (Place X R E)) → LastKept (answer_at outcome) (p ∷ rest) → filter_map (answer_at outcome) (p ∷ rest) ≡ [] → ⊥
+  pub answered : (p : Place X R E) (rest : List (Place X R E)) → LastKept (has_answer outcome) (p ∷ rest) → filter_map (answer_at outcome) (p ∷ rest) ≡ [] → ⊥
   answered p [] h e = some_nonempty (answer_at outcome p) [] h e
   answered p (q ∷ rest) h e = cons_nonempty (answer_at outcome p) (filter_map (answer_at outcome) (q ∷ rest)) (answered q rest h) e
 
 module _ {S F X R B E : Type 0} {steps : S → Answered X E → S → Type 0} {call : F → X → R → F → Type 0} {outcome : X → R → Outcome B E} where
-  skip_first : {s u t : S} {f h g : F} (x : X) (v : R) (trace : List (Answered B E)) (p : Place X R E) (rest : List (Place X R E)) → steps s (item x) u → call f x v h → outcome x v ≡ left_out → trace ≡ filter_map (answer_at outcome) (p ∷ rest) → LastKept (answer_at outcome) (p ∷ rest) → Passes steps call outcome u h trace t g → Passes steps call outcome s f trace t g
+  skip_first : {s u t : S} {f h g : F} (x : X) (v : R) (trace : List (Answered B E)) (p : Place X R E) (rest : List (Place X R E)) → steps s (item x) u → call f x v h → outcome x v ≡ left_out → trace ≡ filter_map (answer_at outcome) (p ∷ rest) → LastKept (has_answer outcome) (p ∷ rest) → Passes steps call outcome u h trace t g → Passes steps call outcome s f trace t g
   skip_first x v [] p rest step called is e close h = absurd (answered outcome p rest close (sym e))
   skip_first x v (r ∷ trace) p rest step called is e close h = leaves_out x v step called is h
 
   mutual_asked : {s u t : S} {f h g : F} (x : X) (v : R) (o : Outcome B E) → outcome x v ≡ o → (rest : List (Place X R E)) (trace : List (Answered B E)) → steps s (item x) u → call f x v h
-      → trace ≡ cons_option (outcome_answer o) (filter_map (answer_at outcome) rest) → LastKept (answer_at outcome) (asked x v ∷ rest)
+      → trace ≡ cons_option (outcome_answer o) (filter_map (answer_at outcome) rest) → LastKept (has_answer outcome) (asked x v ∷ rest)
       → Passes steps call outcome u h (filter_map (answer_at outcome) rest) t g → Passes steps call outcome s f trace t g
   mutual_asked {s} {u} {t} {f} {h} {g} x v (kept y) is rest trace step called e close rests = subst (λ (l : List (Answered B E)). Passes steps call outcome s f l t g) (sym e) (keeps x v y step called is rests)
   mutual_asked {s} {u} {t} {f} {h} {g} x v (failed d) is rest trace step called e close rests = subst (λ (l : List (Answered B E)). Passes steps call outcome s f l t g) (sym e) (refuses x v d step called is rests)
@@ -60,7 +60,7 @@ module _ {S F X R B E : Type 0} {steps : S → Answered X E → S → Type 0} {c
   mutual_asked {s} {u} {t} {f} {h} {g} x v left_out is [] trace step called e close rests = absurd (let some : is_some (outcome_answer (outcome x v)) ≡ true = close in let none : is_some (outcome_answer {B = B} {E = E} left_out) ≡ true = subst (λ (o : Outcome B E). is_some (outcome_answer o) ≡ true) is some in cc)
   mutual_asked {s} {u} {t} {f} {h} {g} x v left_out is (p ∷ rest) trace step called e close rests = subst (λ (l : List (Answered B E)). Passes steps call outcome s f l t g) (sym e) (skip_first x v (filter_map (answer_at outcome) (p ∷ rest)) p rest step called is refl close rests)
 
-  from_places : (places : List (Place X R E)) (s : S) (f : F) (trace : List (Answered B E)) (t : S) (g : F) → Run steps s (map source_answer places) t → Calls call f (filter_map call_of places) g → trace ≡ filter_map (answer_at outcome) places → LastKept (answer_at outcome) places → Passes steps call outcome s f trace t g
+  from_places : (places : List (Place X R E)) (s : S) (f : F) (trace : List (Answered B E)) (t : S) (g : F) → Run steps s (map source_answer places) t → Calls call f (filter_map call_of places) g → trace ≡ filter_map (answer_at outcome) places → LastKept (has_answer outcome) places → Passes steps call outcome s f trace t g
   from_places [] s f trace t g ran called e close = subst (λ (l : List (Answered B E)). Passes steps call outcome s f l t g) (sym e) (subst (λ (u : S). Passes steps call outcome s f [] u g) ran (subst (λ (h : F). Passes steps call outcome s f [] s h) called done))
   from_places (failure_at d ∷ places) s f trace t g ran called e close = subst (λ (l : List (Answered B E)). Passes steps call outcome s f l t g) (sym e) (fails d ran.1 (from_places places ran.0 f _ t g ran.2 called refl (kept_tail outcome (failure_at d) places close)))
   from_places (end_at ∷ places) s f trace t g ran called e close = subst (λ (l : List (Answered B E)). Passes steps call outcome s f l t g) (sym e) (ends ran.1 (from_places places ran.0 f _ t g ran.2 called refl (kept_tail outcome end_at places close)))

@@ -6,10 +6,11 @@ ghost use Rattle.fallible_iterator.specs.Cutting.Skip.{skip_parts};
 ghost use Rattle.fallible_iterator.specs.Laws.Contract.{lawful_seen};
 ghost use Rattle.fallible_iterator.specs.Laws.Cutting.Skip.{lawful_skip};
 
+use crate::cutting::counting::next_past;
 use crate::hints::less;
 use crate::traits::FallibleIterator;
 
-/// The source's answers without the first n items. A failure or an end that comes among these is the answer, and no item is left out after it.
+/// The source's answers without its first n items. Failures and ends stay, and don't count.
 #[derive(Clone, Debug, Drop)]
 pub struct Skip<I> {
     pub(crate) it: I,
@@ -27,11 +28,9 @@ where
 
     ghost contract = { seen_as skip_parts (skip_contract I.contract) };
 
-    /// The first call is the source's `nth`, and each later one draws one answer.
+    /// Draws the items that are still to be left out, and then one answer. A failure or an end that comes among them is the answer, and the rest of them is left out from the next call on.
     fn next(&mut self) -> Result<Option<I::Item>, I::Error> {
-        let n = self.to_skip;
-        self.to_skip = 0;
-        self.it.nth(n)
+        next_past(&mut self.it, &mut self.to_skip)
     }
 
     fn size_hint(&self) -> (usize, Option<usize>) {

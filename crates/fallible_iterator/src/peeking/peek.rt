@@ -3,7 +3,7 @@ ghost use Rattle.std.specs.Prelude.{◌≡◌, ⊤, Result, Option, None, Ok, Er
 ghost use Rattle.std.specs.Borrow.{sem, follows_so};
 ghost use mathlib.Core.Option.{none};
 ghost use Rattle.fallible_iterator.specs.Contract.{Stays};
-ghost use Rattle.fallible_iterator.specs.Peeking.Peekable.{peekable_contract, seen, Fills, Peeks};
+ghost use Rattle.fallible_iterator.specs.Peeking.Peekable.{peekable_contract, seen, held_item, Fills, Peeks};
 ghost use Rattle.fallible_iterator.specs.Peeking.Peekable.{peekable_parts};
 ghost use Rattle.fallible_iterator.specs.contracts.peeking.peekable.Peekable.{the_row};
 
@@ -14,11 +14,11 @@ impl<I: FallibleIterator> Peekable<I>
 where
     I::Item: Drop,
 {
-    /// The next item, which is held then: a reference to it. Where an item is held it is that one, and nothing is drawn. Else it draws once; an end is answered as none, a failure as itself, and neither is held. What is left may be drawn from again.
+    /// The next item: a reference to it, or none at an end. It is held then, so that `next` answers it without a draw. Where an answer is held it is that one, and nothing is drawn. Else it draws once; a failure is answered, and is not held. What is left may be drawn from again.
     pub fn peek(&mut self) -> Result<Option<&I::Item>, I::Error>
     where
         requires { (peekable_contract I.contract).can (peekable_parts self.old) }
-        ensures answer { (left : I × Option I.Item) × Peeks I.contract.steps (peekable_parts self.old) (seen result) left }
+        ensures answer { (left : I × Option (Option I.Item)) × Peeks I.contract.steps (peekable_parts self.old) (seen result) left }
         ensures* held { sem 𝓛 (follows_so (the_row I.row I.Item.row I.Error.row) (the_row I.row I.Item.row I.Error.row) self.entry.ghost_name none (λ _ _. ⊤) (λ v. Peeks I.contract.steps (peekable_parts self.old) (seen result) (peekable_parts v) × Stays (peekable_contract I.contract) (peekable_parts self.old) (peekable_parts v))) }
     {
         let filled = self.fill();
@@ -26,7 +26,7 @@ where
         Self::joined(filled, held)
     }
 
-    // Draws once where nothing is held, and holds an item. It is no part of the surface: with `held` it does what `peek` does, in two steps after which a caller's proof knows what is held.
+    // Draws once where nothing is held, and holds an item or an end. It is no part of the surface: with `held` it does what `peek` does, in two steps after which a caller's proof knows what is held.
     pub fn fill(&mut self) -> Result<(), I::Error>
     where
         requires { (peekable_contract I.contract).can (peekable_parts self.old) }
@@ -39,7 +39,7 @@ where
         }
     }
 
-    // Draws once, where nothing is held, and holds an item.
+    // Draws once, where nothing is held, and holds an item or an end.
     fn draw(&mut self) -> Result<(), I::Error>
     where
         requires can { (peekable_contract I.contract).can (peekable_parts self.old) }
@@ -48,22 +48,22 @@ where
         ensures stays { Stays (peekable_contract I.contract) (peekable_parts self.old) (peekable_parts self.new) }
     {
         match self.it.next() {
-            Ok(Some(x)) => {
-                self.held = Some(x);
+            Ok(answer) => {
+                self.held = Some(answer);
                 Ok(())
             }
-            Ok(None) => Ok(()),
             Err(e) => Err(e),
         }
     }
 
-    // The held item. It is no part of the surface.
+    // The held item, and none where an end is held. It is no part of the surface.
     pub fn held(&self) -> Option<&I::Item>
     where
-        ensures { option_copied result ≡ (peekable_parts self.now).1 }
+        ensures { option_copied result ≡ held_item (peekable_parts self.now).1 }
     {
         match &self.held {
-            Some(x) => Some(x),
+            Some(Some(x)) => Some(x),
+            Some(None) => None,
             None => None,
         }
     }
@@ -71,10 +71,10 @@ where
     // The held item, lent by the whole.
     fn lend(&mut self) -> Option<&I::Item>
     where
-        ensures shown { option_copied result ≡ self.old.held }
+        ensures shown { option_copied result ≡ held_item self.old.held }
         ensures* kept { sem 𝓛 (follows_so (the_row I.row I.Item.row I.Error.row) (the_row I.row I.Item.row I.Error.row) self.entry.ghost_name none (λ _ _. ⊤) (λ v. v ≡ self.old)) }
     {
-        self.held.as_ref()
+        (*self).held()
     }
 
     // The held item, or the failure.

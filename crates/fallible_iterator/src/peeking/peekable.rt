@@ -5,14 +5,15 @@ ghost use Rattle.fallible_iterator.specs.Peeking.Peekable.{peekable_contract, Ne
 ghost use Rattle.fallible_iterator.specs.Laws.Contract.{lawful_seen};
 ghost use Rattle.fallible_iterator.specs.Laws.Peeking.Peekable.{lawful_peekable};
 
+use crate::hints::one_more;
 use crate::traits::FallibleIterator;
 
-/// The answers of the source, the next item of which can be looked at ahead. The item that was looked at is held, and comes first.
+/// The answers of the source, the next of which can be looked at ahead. An item or an end that was looked at is held, and comes first; a failure is not held.
 #[derive(Clone, Debug, Drop)]
 pub struct Peekable<I: FallibleIterator> {
     pub(crate) it: I,
-    // the item that was looked at, and hasn't come yet
-    pub(crate) held: Option<I::Item>,
+    // the answer that was looked at, an item or an end, and hasn't come yet
+    pub(crate) held: Option<Option<I::Item>>,
 }
 
 impl<I: FallibleIterator> FallibleIterator for Peekable<I>
@@ -25,25 +26,19 @@ where
 
     ghost contract = { seen_as peekable_parts (peekable_contract I.contract) };
 
-    /// Gives the held item without a draw, and draws one answer where none is held.
+    /// Gives the held answer without a draw, and draws one answer where none is held.
     fn next(&mut self) -> Result<Option<I::Item>, I::Error> {
         match self.held.take() {
-            Some(x) => Ok(Some(x)),
+            Some(answer) => Ok(answer),
             None => self.it.next(),
         }
     }
 
     fn size_hint(&self) -> (usize, Option<usize>) {
-        let (low, high) = self.it.size_hint();
         match &self.held {
-            Some(_) => {
-                let high = match high {
-                    Some(n) => n.checked_add(1),
-                    None => None,
-                };
-                (low.saturating_add(1), high)
-            }
-            None => (low, high),
+            Some(Some(_)) => one_more(self.it.size_hint()),
+            Some(None) => (0, Some(0)),
+            None => self.it.size_hint(),
         }
     }
 
@@ -54,7 +49,7 @@ impl<I: FallibleIterator> Peekable<I>
 where
     I::Item: Drop,
 {
-    /// The next item, where the closure answers true on it; else it stays held, and the answer is none. It draws once where nothing is held; an end and a failure that come then are the answer, and neither is held, nor is the closure called. What is left may be drawn from again.
+    /// The next item, where the closure answers true on it; else it stays held, and the answer is none. An end is answered as none and stays held, and the closure isn't called. It draws once where nothing is held; a failure that comes then is the answer, and is not held. What is left may be drawn from again.
     ///
     /// It asks that the closure may be called on a reference to each item that may come.
     pub fn next_if<F: Fn(&I::Item) -> bool>(&mut self, f: F) -> Result<Option<I::Item>, I::Error>
@@ -69,11 +64,14 @@ where
                 if f(&x) {
                     Ok(Some(x))
                 } else {
-                    self.held = Some(x);
+                    self.held = Some(Some(x));
                     Ok(None)
                 }
             }
-            Ok(None) => Ok(None),
+            Ok(None) => {
+                self.held = Some(None);
+                Ok(None)
+            }
             Err(e) => Err(e),
         }
     }
@@ -91,11 +89,14 @@ where
                 if item.eq(expected) {
                     Ok(Some(item))
                 } else {
-                    self.held = Some(item);
+                    self.held = Some(Some(item));
                     Ok(None)
                 }
             }
-            Ok(None) => Ok(None),
+            Ok(None) => {
+                self.held = Some(None);
+                Ok(None)
+            }
             Err(e) => Err(e),
         }
     }

@@ -1,8 +1,6 @@
-// A fallible iterator behind a `&mut` or in a `Box` answers as it does itself.
+// A fallible iterator behind a `&mut` answers as it does itself.
 ghost use Rattle.std.specs.Prelude.{◌≡◌, Result, Option};
-ghost use Rattle.fallible_iterator.specs.Contract.{seen_as};
 ghost use Rattle.fallible_iterator.specs.Borrowed.{borrowed};
-ghost use Rattle.fallible_iterator.specs.Laws.Contract.{lawful_seen};
 ghost use Rattle.fallible_iterator.specs.Laws.Borrowed.{lawful_borrowed};
 
 use crate::traits::FallibleIterator;
@@ -23,22 +21,4 @@ impl<I: FallibleIterator> FallibleIterator for &mut I {
     }
 
     ghost lawful = { lawful_borrowed I.lawful };
-}
-
-impl<I: FallibleIterator> FallibleIterator for Box<I> {
-    type Item = I::Item;
-
-    type Error = I::Error;
-
-    ghost contract = { seen_as (λ s. s.value) I.contract };
-
-    fn next(&mut self) -> Result<Option<I::Item>, I::Error> {
-        (**self).next()
-    }
-
-    fn size_hint(&self) -> (usize, Option<usize>) {
-        (**self).size_hint()
-    }
-
-    ghost lawful = { lawful_seen (λ s. s.value) I.lawful };
 }

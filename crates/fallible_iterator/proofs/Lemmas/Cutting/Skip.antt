@@ -1,72 +1,50 @@
--- The runs of `Skip` are the traces that its definition names.
-use Rattle.std.specs.Prelude.{ℕ, Some, ◌≡◌, zero, suc, ◌+◌, min, length, List, [], ◌∷◌, ◌++◌, map, drop, None, Ok, Err, ◌↔◌}
-use Rattle.std.proofs.Common.{refl, sym, ap, arith}
-use Rattle.fallible_iterator.specs.Traces.{Answered, Run, item}
-use Rattle.fallible_iterator.specs.Folds.{NthExit}
-use Rattle.fallible_iterator.specs.Cutting.Skip.{leading_items, SkipTrace, skip_step}
-use Rattle.fallible_iterator.proofs.Lemmas.Nth.{exit_more, nth_here, nth_single, nth_then, nth_apart}
+-- `Skip`: its runs are the traces that its definition names.
+use Rattle.std.specs.Prelude.{◌≡◌, ℕ, ◌+◌, ◌-◌, ◌≤◌, ltb, List, [], ◌∷◌, Some, None, Ok, Err, ◌↔◌}
+use Rattle.std.proofs.Common.{refl, ap, arith}
+use Rattle.std.proofs.lemmas.Bool.{lt-ltb, le-ltb}
+use Rattle.fallible_iterator.specs.Traces.{Answered, Run}
+use Rattle.fallible_iterator.specs.Cutting.Skip.{SkipTrace, skip_step}
+use Rattle.fallible_iterator.proofs.Lemmas.Definitions.{IsByAnswers, runs_by_answers}
+use Rattle.fallible_iterator.proofs.Lemmas.Counting.{Fits, Leaves, none, keeps_item, keeps_end, keeps_failure, nothing_left, then_others, first_apart, by_number, from_number}
 
-module _ {A E : Type 0} where
-  abbrev dropped : ℕ → List (Answered A E) → List (Answered A E)
-  dropped n trace = drop (min n (leading_items trace)) trace
-
-  drop_none : (n : ℕ) → drop {A = Answered A E} n [] ≡ []
-  drop_none zero = refl
-  drop_none (suc n) = refl
-
-  drop_skipped : (skipped : List A) (rest : List (Answered A E)) → drop (length skipped) (map item skipped ++ rest) ≡ rest
-  drop_skipped [] rest = refl
-  drop_skipped (x ∷ skipped) rest = drop_skipped skipped rest
-
-  leading_skipped : (skipped : List A) (rest : List (Answered A E)) → leading_items (map item skipped ++ rest) ≡ length skipped + leading_items rest
-  leading_skipped [] rest = omega arith
-  leading_skipped (x ∷ skipped) rest = omega (arith, leading_skipped skipped rest)
-
-  number_dropped : (n : ℕ) (skipped : List A) (r : Answered A E) (rest : List (Answered A E)) → NthExit n (length skipped) r → min n (leading_items (map item skipped ++ r ∷ rest)) ≡ length skipped
-  number_dropped n skipped (Ok (Some x)) rest exit = omega (arith, leading_skipped skipped (item x ∷ rest), exit)
-  number_dropped n skipped (Ok None) rest exit = omega (arith, leading_skipped skipped (Ok None ∷ rest), exit)
-  number_dropped n skipped (Err e) rest exit = omega (arith, leading_skipped skipped (Err e ∷ rest), exit)
-
-  item_first : (x : A) {xs ys : List (Answered A E)} → xs ≡ ys → item x ∷ xs ≡ item x ∷ ys
-  item_first x e = cc
-
-  -- what a trace without the left-out items begins with is the answer of a call of `nth`
-  skipped_of : (source : List (Answered A E)) (n : ℕ) (r : Answered A E) (rest : List (Answered A E)) → r ∷ rest ≡ dropped n source → (skipped : List A) × (source ≡ map item skipped ++ r ∷ rest) × NthExit n (length skipped) r
-  skipped_of [] n r rest e = absurd (let none = drop_none (min n 0) in cc)
-  skipped_of (Ok None ∷ source) n r rest e = let none : min n 0 ≡ 0 = omega arith in let e' : r ∷ rest ≡ Ok None ∷ source = rw none at e in let same : r ≡ Ok None = cc in ([], sym e', rw same (omega arith))
-  skipped_of (Err d ∷ source) n r rest e = let none : min n 0 ≡ 0 = omega arith in let e' : r ∷ rest ≡ Err d ∷ source = rw none at e in let same : r ≡ Err d = cc in ([], sym e', rw same (omega arith))
-  skipped_of (Ok (Some x) ∷ source) zero r rest e = let none : min 0 (suc (leading_items source)) ≡ 0 = omega arith in let e' : r ∷ rest ≡ item x ∷ source = rw none at e in let same : r ≡ item x = cc in ([], sym e', rw same refl)
-  skipped_of (Ok (Some x) ∷ source) (suc n) r rest e =
-      let more : min (suc n) (suc (leading_items source)) ≡ suc (min n (leading_items source)) = omega arith in
-      let h = skipped_of source n r rest (rw more at e) in
-      (x ∷ h.0, item_first x {ys = map item h.0 ++ r ∷ rest} h.1, exit_more n (suc n) (length h.0) r (omega arith) h.2)
+-- the items up to the n-th are left out
+skip_fits : (n : ℕ) → Fits (λ k. ltb n k) 0 (λ k. n - k) (λ j k. j ≡ n + 1 - k)
+skip_fits n = record {
+  kept = λ k f. (lt-ltb n k (omega (arith, f)), omega (arith, f));
+  left_out = λ j k f. (le-ltb n k (omega (arith, f)), omega (arith, f));
+  after = λ j k f. omega (arith, f);
+}
 
 module _ {S A E : Type 0} (steps : S → Answered A E → S → Type 0) where
-  -- once nothing is left to skip, it answers as the source does
-  to_plain : (trace : List (Answered A E)) (s t : S) (k : ℕ) → Run (skip_step steps) (s, 0) trace (t, k) → Run steps s trace t × (k ≡ 0)
-  to_plain [] s t k e = (ap (λ p. p.0) e, sym (ap (λ p. p.1) e))
-  to_plain (r ∷ rest) s t k h = let p = to_plain rest h.0.0 t k (rw h.1.1 at h.2) in ((h.0.0, nth_single steps h.1.0, p.0), p.1)
+  -- the definition, built from the first draw on
+  pub skip_leaves : {p q : S × ℕ} {trace : List (Answered A E)} → SkipTrace steps p trace q → Leaves steps 0 p.1 p.0 trace q.0 q.1
+  skip_leaves {p} d = from_number steps (skip_fits p.1) (omega arith) d
 
-  from_plain : (trace : List (Answered A E)) (s t : S) → Run steps s trace t → Run (skip_step steps) (s, 0) trace (t, 0)
-  from_plain [] s t e = rw e refl
-  from_plain (r ∷ rest) s t h = ((h.0, 0), (nth_here h.1, refl), from_plain rest h.0 t h.2)
+  pub leaves_skip : {p q : S × ℕ} {trace : List (Answered A E)} → Leaves steps 0 p.1 p.0 trace q.0 q.1 → SkipTrace steps p trace q
+  leaves_skip {p} h = by_number steps (skip_fits p.1) (omega arith) h
 
-  to_skip_trace : (trace : List (Answered A E)) (s : S) (n : ℕ) (t : S) (k : ℕ) → Run (skip_step steps) (s, n) trace (t, k) → SkipTrace steps (s, n) trace (t, k)
-  to_skip_trace [] s n t k e = record { source_trace = []; drawn = ap (λ p. p.0) e; answers = sym (drop_none (min n 0)); last_kept = λ h. refl; remaining = sym (ap (λ p. p.1) e) }
-  to_skip_trace (r ∷ rest) s n t k h = let p = to_plain rest h.0.0 t k (rw h.1.1 at h.2) in let nth = h.1.0 in record {
-    source_trace = map item nth.skipped ++ r ∷ rest;
-    drawn = nth_then steps nth.skipped s h.0.0 t r rest nth.ran p.0;
-    answers = rw (number_dropped n nth.skipped r rest nth.exit) (sym (drop_skipped nth.skipped (r ∷ rest)));
-    last_kept = λ e. absurd cc;
-    remaining = p.1;
+  draw : {s t : S} (r : Answered A E) → steps s r t → Leaves steps 0 0 s (r ∷ []) t 0
+  draw (Ok (Some x)) step = keeps_item x step none
+  draw (Ok None) step = keeps_end step none
+  draw (Err e) step = keeps_failure e step none
+
+  -- one draw, where no item is left to leave out
+  pub plain_draw : {s t : S} (n : ℕ) (r : Answered A E) → n ≤ 0 → steps s r t → Leaves steps 0 n s (r ∷ []) t n
+  plain_draw {s} {t} n r none_left step = let at : n ≡ 0 = omega (arith, none_left) in rw at (draw r step)
+
+  skip_nothing : (p q : S × ℕ) → SkipTrace steps p [] q ↔ (p ≡ q)
+  skip_nothing (s, n) (t, k) = (
+    (λ d. let h = nothing_left steps 0 (skip_leaves {p = (s, n)} {q = (t, k)} d) in rw (h.0, h.1) refl),
+    (λ e. leaves_skip {p = (s, n)} {q = (t, k)} (let h : s ≡ t = ap (λ z. z.0) e in let i : n ≡ k = ap (λ z. z.1) e in rw (h, i) none)),
+  )
+
+  skip_by_answers : IsByAnswers (SkipTrace steps)
+  skip_by_answers = record {
+    none = λ p. (skip_nothing p p).1 refl;
+    same = λ p q d. (skip_nothing p q).0 d;
+    joins = λ p u q r rest d e. leaves_skip {p = p} {q = q} (then_others steps 0 (skip_leaves {p = p} {q = u} d) (skip_leaves {p = u} {q = q} e));
+    splits = λ p q r rest d. let h = first_apart steps 0 (skip_leaves {p = p} {q = q} d) in record { then_at = (h.0, h.1); first = leaves_skip {p = p} {q = (h.0, h.1)} h.2; others = leaves_skip {p = (h.0, h.1)} {q = q} h.3 };
   }
 
-  from_skip_trace : (trace : List (Answered A E)) (s : S) (n : ℕ) (t : S) (k : ℕ) → SkipTrace steps (s, n) trace (t, k) → Run (skip_step steps) (s, n) trace (t, k)
-  from_skip_trace [] s n t k p = let e : s ≡ t = rw (p.last_kept refl) at p.drawn in rw (p.remaining, e) refl
-  from_skip_trace (r ∷ rest) s n t k p =
-      let h = skipped_of p.source_trace n r rest p.answers in
-      let a = nth_apart steps h.0 s t r rest (rw h.1 at p.drawn) in
-      rw p.remaining ((a.0, 0), (record { skipped = h.0; ran = a.1; exit = h.2 }, refl), from_plain rest a.0 t a.2)
-
   pub skip_law : (p : S × ℕ) (trace : List (Answered A E)) (q : S × ℕ) → Run (skip_step steps) p trace q ↔ SkipTrace steps p trace q
-  skip_law p trace q = (to_skip_trace trace p.0 p.1 q.0 q.1, from_skip_trace trace p.0 p.1 q.0 q.1)
+  skip_law = runs_by_answers (SkipTrace steps) skip_by_answers

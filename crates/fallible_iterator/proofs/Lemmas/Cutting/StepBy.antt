@@ -1,155 +1,104 @@
--- The parts that the contracts see a value by.
-use Rattle.std.specs.Prelude.{ℕ, Bool, Option, Some, ◌≡◌, zero, suc, ◌+◌, ◌-◌, ◌*◌, ◌%◌, ◌≤◌, length, List, [], ◌∷◌, ◌++◌, map, None, Ok, Err, true, false, IsSome, ◌↔◌}
-use Rattle.std.specs.List.{filter_map, cons_option}
-use Rattle.std.proofs.Common.{refl, sym, ap, subst, arith, ◌∙◌}
-use Rattle.std.proofs.Math.Nat.{mul-mod_right, mul-add-mod_self_left, mod-eq_of_lt}
-use Rattle.fallible_iterator.specs.Traces.{Answered, Run, item}
-use Rattle.fallible_iterator.specs.Folds.{NthExit, Nth}
-use Rattle.fallible_iterator.specs.Cutting.StepBy.{numbered, kept_at, first_number, still_first, LastKept, StepByTrace, to_leave_out, step_by_step}
-use Rattle.fallible_iterator.proofs.Lemmas.Nth.{nth_here, nth_end, nth_failure, nth_after}
+-- `StepBy`: its runs are the traces that its definition names.
+use Rattle.std.specs.Prelude.{◌≡◌, ℕ, zero, suc, ◌+◌, ◌-◌, ◌*◌, ◌%◌, ◌≤◌, ◌⊎◌, true, false, List, [], ◌∷◌, Some, None, Ok, Err, ◌↔◌}
+use Rattle.std.proofs.Common.{refl, sym, ap, arith, inl, inr, ◌∙◌}
+use Rattle.std.proofs.lemmas.Bool.{lt-ltb, le-ltb, le-leb, lt-leb}
+use Rattle.std.proofs.Math.Dec.{eqb-suc-zero}
+use Rattle.std.proofs.Math.Nat.{mul-add-mod_self_left, mod-eq_of_lt}
+use Rattle.fallible_iterator.specs.Traces.{Answered, Run}
+use Rattle.fallible_iterator.specs.Cutting.StepBy.{keeps_at_steps, left_after, StepByTrace, step_by_step}
+use Rattle.fallible_iterator.specs.Cutting.Skip.{SkipTrace}
+use Rattle.fallible_iterator.proofs.Lemmas.Cutting.Skip.{skip_leaves}
+use Rattle.fallible_iterator.proofs.Lemmas.Definitions.{IsByAnswers, runs_by_answers}
+use Rattle.fallible_iterator.proofs.Lemmas.Counting.{Fits, Leaves, moved, none, keeps_item, keeps_end, keeps_failure, leaves_out, nothing_left, then_others, first_apart, by_number, from_number}
 
 -- ---- numbers
 
-module _ (between : ℕ) where
-  -- the next item has number c, and j items are left out before one is kept
+module _ (between r : ℕ) where
+  -- The next item has number k, and j items are left out before one is kept, which is the first one or one at a step after it.
   abbrev InStep : ℕ → ℕ → Type 0
-  InStep j c = (q : ℕ) × (c + j ≡ (between + 1) * q) × (j ≤ between)
+  InStep j k = (q : ℕ) × (k + j ≡ r + 1 + (between + 1) * q) × ((q ≡ 0) ⊎ (j ≤ between))
 
-  kept_number : (c : ℕ) → InStep 0 c → c % (between + 1) ≡ 0
-  kept_number c (q, e, le) = let same : c ≡ (between + 1) * q = omega (arith, e) in rw same (mul-mod_right (between + 1) q)
+  -- a number after the first, by its step
+  rest_of : (k q i : ℕ) → k ≡ r + 1 + (between + 1) * q + i → i ≤ between → (k - 1 - r) % (between + 1) ≡ i
+  rest_of k q i e le = let same : k - 1 - r ≡ (between + 1) * q + i = omega (arith, e) in rw same (mul-add-mod_self_left (between + 1) q i ∙ mod-eq_of_lt (omega (arith, le)))
 
-  left_out_number : (j c : ℕ) → InStep (suc j) c → (k : ℕ) × (c % (between + 1) ≡ suc k)
-  left_out_number j c (zero, e, le) = absurd (omega (arith, e))
-  left_out_number j c (suc q, e, le) =
-      let same : c ≡ (between + 1) * q + suc (between - suc j) = omega (arith, e, le) in
-      (between - suc j, rw same (mul-add-mod_self_left (between + 1) q (suc (between - suc j)) ∙ mod-eq_of_lt (omega (arith, le))))
+  number_kept : (k : ℕ) → InStep 0 k → keeps_at_steps between r k ≡ true
+  number_kept k (q, e, le) = rw (lt-ltb r k (omega (arith, e)), rest_of k q 0 (omega (arith, e)) (omega arith)) refl
 
-  after_kept : (c : ℕ) → InStep 0 c → InStep between (c + 1)
-  after_kept c (q, e, le) = (q + 1, omega (arith, e), omega arith)
+  number_left_out : (j k : ℕ) → InStep (suc j) k → keeps_at_steps between r k ≡ false
+  number_left_out j k (zero, e, le) = rw (le-ltb r k (omega (arith, e))) refl
+  number_left_out j k (suc q, e, le) =
+      let below : suc j ≤ between = elim le [ inl h ↦ absurd cc | inr h ↦ h ] in
+      let rest : (k - 1 - r) % (between + 1) ≡ suc (between - suc j) = rest_of k q (suc (between - suc j)) (omega (arith, e, below)) (omega (arith, below)) in
+      rw (lt-ltb r k (omega (arith, e, below)), rest) (eqb-suc-zero (between - suc j))
 
-  after_other : InStep between 1
-  after_other = (1, omega arith, omega arith)
+  still_left : (j k : ℕ) → InStep j (1 + k) → j ≡ left_after between r k
+  still_left j k (zero, e, le) = rw (le-leb k r (omega (arith, e))) (omega (arith, e))
+  still_left j k (suc q, e, le) =
+      let below : j ≤ between = elim le [ inl h ↦ absurd cc | inr h ↦ h ] in
+      let rest : (k - 1 - r) % (between + 1) ≡ between - j = rest_of k q (between - j) (omega (arith, e, below)) (omega (arith, below)) in
+      rw (lt-leb k r (omega (arith, e, below)), rest) (omega (arith, below))
 
-  after_left_out : (j c : ℕ) → InStep (suc j) c → InStep j (c + 1)
-  after_left_out j c (q, e, le) = (q, omega (arith, e), omega (arith, le))
+  step_by_fits : Fits (keeps_at_steps between r) between (left_after between r) InStep
+  step_by_fits = record {
+    kept = λ k f. (number_kept k f, (suc f.0, omega (arith, f.1), inr (omega arith)));
+    left_out = λ j k f. (number_left_out j k f, (f.0, omega (arith, f.1), elim f.2 [ inl h ↦ inl h | inr h ↦ inr (omega (arith, h)) ]));
+    after = still_left;
+  }
 
-  no_number : 0 % (between + 1) ≡ 0
-  no_number = kept_number 0 (0, omega arith, omega arith)
+  pub first_in_step : InStep r 1
+  first_in_step = (0, omega arith, inl refl)
 
--- ---- the last answer is kept
+module _ {S A E : Type 0} (steps : S → Answered A E → S → Type 0) where
+  -- the definition, built from the first draw on
+  abbrev pub Steps : S × (ℕ × ℕ) → List (Answered A E) → S × (ℕ × ℕ) → Type 0
+  Steps p trace q = Leaves steps (p.1).0 (p.1).1 p.0 trace q.0 (q.1).1 × ((q.1).0 ≡ (p.1).0)
 
-module _ {A E : Type 0} (between : ℕ) where
-  last_tail : (p : ℕ × Answered A E) (rest : List (ℕ × Answered A E)) → LastKept between (p ∷ rest) → LastKept between rest
-  last_tail p [] h = tt
-  last_tail p (q ∷ rest) h = h
+  pub step_by_leaves : {p q : S × (ℕ × ℕ)} {trace : List (Answered A E)} → StepByTrace steps p trace q → Steps p trace q
+  step_by_leaves {p} d = (from_number steps (step_by_fits (p.1).0 (p.1).1) (first_in_step (p.1).0 (p.1).1) d.0, d.1)
 
-  last_cons : (p : ℕ × Answered A E) (rest : List (ℕ × Answered A E)) → IsSome (kept_at between p) → LastKept between rest → LastKept between (p ∷ rest)
-  last_cons p [] some h = some
-  last_cons p (q ∷ rest) some h = h
+  pub leaves_step_by : {p q : S × (ℕ × ℕ)} {trace : List (Answered A E)} → Steps p trace q → StepByTrace steps p trace q
+  leaves_step_by {p} h = (by_number steps (step_by_fits (p.1).0 (p.1).1) (first_in_step (p.1).0 (p.1).1) h.0, h.1)
 
-  last_before : (p : ℕ × Answered A E) (rest : List (ℕ × Answered A E)) (r : Answered A E) (trace : List (Answered A E)) → r ∷ trace ≡ filter_map (kept_at between) rest → LastKept between rest → LastKept between (p ∷ rest)
-  last_before p [] r trace e h = absurd cc
-  last_before p (q ∷ rest) r trace e h = h
+  steps_nothing : (p q : S × (ℕ × ℕ)) → Steps p [] q ↔ (p ≡ q)
+  steps_nothing (s, (b, n)) (t, (c, k)) = (
+    (λ d. let h = nothing_left steps b d.0 in rw (h.0, h.1, d.1) refl),
+    (λ e. let h : s ≡ t = ap (λ z. z.0) e in let i : n ≡ k = ap (λ z. (z.1).1) e in let d : c ≡ b = sym (ap (λ z. (z.1).0) e) in (rw (h, i) none, d)),
+  )
 
-  some_nonempty : (o : Option (Answered A E)) (rest : List (Answered A E)) → IsSome o → cons_option o rest ≡ [] → ⊥
-  some_nonempty None rest h e = let h' : false ≡ true = h in cc
-  some_nonempty (Some r) rest h e = cc
+  steps_nothing_defined : (p q : S × (ℕ × ℕ)) → StepByTrace steps p [] q ↔ (p ≡ q)
+  steps_nothing_defined p q = ((λ d. (steps_nothing p q).0 (step_by_leaves {p = p} {q = q} d)), (λ e. leaves_step_by {p = p} {q = q} ((steps_nothing p q).1 e)))
 
-  cons_nonempty : (o : Option (Answered A E)) (rest : List (Answered A E)) → (rest ≡ [] → ⊥) → cons_option o rest ≡ [] → ⊥
-  cons_nonempty None rest h e = h e
-  cons_nonempty (Some r) rest h e = cc
+  joined : (p u q : S × (ℕ × ℕ)) (r : Answered A E) (rest : List (Answered A E)) → Steps p (r ∷ []) u → Steps u rest q → Steps p (r ∷ rest) q
+  joined p (u, (c, i)) q r rest d e = (then_others steps (p.1).0 d.0 (rw d.1 at e.0), e.1 ∙ d.1)
 
-  some_kept : (p : ℕ × Answered A E) (rest : List (ℕ × Answered A E)) → LastKept between (p ∷ rest) → filter_map (kept_at between) (p ∷ rest) ≡ [] → ⊥
-  some_kept p [] h e = some_nonempty (kept_at between p) [] h e
-  some_kept p (q ∷ rest) h e = cons_nonempty (kept_at between p) (filter_map (kept_at between) (q ∷ rest)) (some_kept q rest h) e
+  apart : (p q : S × (ℕ × ℕ)) (r : Answered A E) (rest : List (Answered A E)) → Steps p (r ∷ rest) q → (u : S × (ℕ × ℕ)) × Steps p (r ∷ []) u × Steps u rest q
+  apart p q r rest d = let h = first_apart steps (p.1).0 d.0 in ((h.0, ((p.1).0, h.1)), (h.2, refl), (h.3, d.1))
 
--- ---- runs
+  step_by_answers : IsByAnswers (StepByTrace steps)
+  step_by_answers = record {
+    none = λ p. (steps_nothing_defined p p).1 refl;
+    same = λ p q d. (steps_nothing_defined p q).0 d;
+    joins = λ p u q r rest d e. leaves_step_by {p = p} {q = q} (joined p u q r rest (step_by_leaves {p = p} {q = u} d) (step_by_leaves {p = u} {q = q} e));
+    splits = λ p q r rest d. let h = apart p q r rest (step_by_leaves {p = p} {q = q} d) in record { then_at = h.0; first = leaves_step_by {p = p} {q = h.0} h.1; others = leaves_step_by {p = h.0} {q = q} h.2 };
+  }
 
-module _ {A E : Type 0} where
-  exit_less : (j skipped : ℕ) (r : Answered A E) → NthExit (suc j) (suc skipped) r → NthExit j skipped r
-  exit_less j skipped (Ok (Some x)) h = omega (arith, h)
-  exit_less j skipped (Ok None) h = omega (arith, h)
-  exit_less j skipped (Err e) h = omega (arith, h)
+  pub step_by_law : (p : S × (ℕ × ℕ)) (trace : List (Answered A E)) (q : S × (ℕ × ℕ)) → Run (step_by_step steps) p trace q ↔ StepByTrace steps p trace q
+  step_by_law = runs_by_answers (StepByTrace steps) step_by_answers
 
-  exit_none : (skipped : ℕ) (r : Answered A E) → NthExit 0 (suc skipped) r → ⊥
-  exit_none skipped (Ok (Some x)) h = omega (arith, h)
-  exit_none skipped (Ok None) h = omega (arith, h)
-  exit_none skipped (Err e) h = omega (arith, h)
+  -- ---- one draw: what `Skip` answers, and after an item the items between two are to be left out
 
-  still_false : (trace : List (Answered A E)) → still_first trace false ≡ false
-  still_false [] = refl
-  still_false (r ∷ rest) = refl
+  -- with a kept item as many are left out next as lie between two; a failure and an end leave what was left
+  abbrev LeftNext : ℕ → Answered A E → ℕ → ℕ
+  LeftNext between (Ok (Some x)) k = between
+  LeftNext between (Ok None) k = k
+  LeftNext between (Err e) k = k
 
-module _ {S A E : Type 0} (steps : S → Answered A E → S → Type 0) (between : ℕ) where
-  -- the runs, built from the first draw on, where j items are left out before one is kept
-  data Leaves : ℕ → S → List (Answered A E) → S → Type 0 where
-    done : {j : ℕ} {s : S} → Leaves j s [] s
-    keeps : {s u t : S} {trace : List (Answered A E)} (x : A) → steps s (item x) u → Leaves between u trace t → Leaves zero s (item x ∷ trace) t
-    ends : {j : ℕ} {s u t : S} {trace : List (Answered A E)} → steps s (Ok None) u → Leaves between u trace t → Leaves j s (Ok None ∷ trace) t
-    fails : {j : ℕ} {s u t : S} {trace : List (Answered A E)} (e : E) → steps s (Err e) u → Leaves between u trace t → Leaves j s (Err e ∷ trace) t
-    leaves_out : {j : ℕ} {s u t : S} {r : Answered A E} {trace : List (Answered A E)} (x : A) → steps s (item x) u → Leaves j u (r ∷ trace) t → Leaves (suc j) s (r ∷ trace) t
+  step_of_skip : {s t : S} {r : Answered A E} {n k : ℕ} (between : ℕ) → Leaves steps 0 n s (r ∷ []) t k → Leaves steps between n s (r ∷ []) t (LeftNext between r k)
+  step_of_skip between (keeps_item x step last) = let h = nothing_left steps 0 last in keeps_item x step (moved steps between h.0 refl none)
+  step_of_skip between (keeps_end step last) = let h = nothing_left steps 0 last in keeps_end step (moved steps between h.0 h.1 none)
+  step_of_skip between (keeps_failure e step last) = let h = nothing_left steps 0 last in keeps_failure e step (moved steps between h.0 h.1 none)
+  step_of_skip between (leaves_out x step rest) = leaves_out x step (step_of_skip between rest)
 
-  last_draw : (j : ℕ) (s u t : S) (r : Answered A E) (rest : List (Answered A E)) → steps s r u → NthExit j 0 r → Leaves between u rest t → Leaves j s (r ∷ rest) t
-  last_draw j s u t (Ok (Some x)) rest step exit more = subst (λ (k : ℕ). Leaves k s (item x ∷ rest) t) exit (keeps x step more)
-  last_draw j s u t (Ok None) rest step exit more = ends step more
-  last_draw j s u t (Err e) rest step exit more = fails e step more
-
-  call_then : (skipped : List A) (j : ℕ) (s u t : S) (r : Answered A E) (rest : List (Answered A E)) → Run steps s (map item skipped ++ r ∷ []) u → NthExit j (length skipped) r → Leaves between u rest t → Leaves j s (r ∷ rest) t
-  call_then [] j s u t r rest ran exit more = last_draw j s u t r rest (subst (λ (v : S). steps s r v) ran.2 ran.1) exit more
-  call_then (x ∷ skipped) zero s u t r rest ran exit more = absurd (exit_none (length skipped) r exit)
-  call_then (x ∷ skipped) (suc j) s u t r rest ran exit more = leaves_out x ran.1 (call_then skipped j ran.0 u t r rest ran.2 (exit_less j (length skipped) r exit) more)
-
-  first_call : {j : ℕ} {s t : S} {r : Answered A E} {rest : List (Answered A E)} → Leaves j s (r ∷ rest) t → (u : S) × Nth steps s j r u × Leaves between u rest t
-  first_call (keeps {u = u} x step more) = (u, nth_here step, more)
-  first_call {j} (ends {u = u} step more) = (u, nth_end j step, more)
-  first_call {j} (fails {u = u} e step more) = (u, nth_failure j step, more)
-  first_call (leaves_out {j = i} x step more) = let c = first_call more in (c.0, nth_after i (suc i) x (omega arith) step c.1, c.2)
-
-  nothing_left : {j : ℕ} {s t : S} → Leaves j s [] t → s ≡ t
-  nothing_left done = refl
-
-  to_leaves : (trace : List (Answered A E)) (s : S) (first : Bool) (t : S) (b : ℕ) (f : Bool) → Run (step_by_step steps) (s, (between, first)) trace (t, (b, f)) → Leaves (to_leave_out between first) s trace t × (b ≡ between) × (f ≡ still_first trace first)
-  to_leaves [] s first t b f e = let same : s ≡ t = ap (λ p. p.0) e in (rw (sym same) done, sym (ap (λ p. (p.1).0) e), sym (ap (λ p. (p.1).1) e))
-  to_leaves (r ∷ rest) s first t b f h =
-      let p = to_leaves rest h.0.0 false t b f (rw (h.1.1, h.1.2) at h.2) in
-      let nth = h.1.0 in
-      (call_then nth.skipped (to_leave_out between first) s h.0.0 t r rest nth.ran nth.exit p.0, p.1, p.2 ∙ still_false rest)
-
-  from_leaves : (trace : List (Answered A E)) (s : S) (first : Bool) (t : S) → Leaves (to_leave_out between first) s trace t → Run (step_by_step steps) (s, (between, first)) trace (t, (between, still_first trace first))
-  from_leaves [] s first t h = rw (nothing_left h) refl
-  from_leaves (r ∷ rest) s first t h = let c = first_call h in ((c.0, (between, false)), (c.1, refl, refl), rw (still_false rest) at (from_leaves rest c.0 false t c.2))
-
-  -- what such a run was drawn from, where the first item has number c
-  abbrev DrawnFrom : ℕ → S → List (Answered A E) → S → Type 0
-  DrawnFrom c s trace t = (source : List (Answered A E)) × Run steps s source t × (trace ≡ filter_map (kept_at between) (numbered c source)) × LastKept between (numbered c source)
-
-  to_source : {j : ℕ} {s t : S} {trace : List (Answered A E)} (c : ℕ) → InStep between j c → Leaves j s trace t → DrawnFrom c s trace t
-  to_source c i done = ([], refl, refl, tt)
-  to_source c i (keeps {u = u} x step more) = let d = to_source (c + 1) (after_kept between c i) more in let number = kept_number between c i in
-      (item x ∷ d.0, (u, step, d.1), rw number (ap {B = List (Answered A E)} (λ l. item x ∷ l) d.2), last_cons between (c, item x) (numbered (c + 1) d.0) (rw number refl) d.3)
-  to_source c i (ends {u = u} step more) = let d = to_source 1 (after_other between) more in
-      (Ok None ∷ d.0, (u, step, d.1), rw (no_number between) (ap {B = List (Answered A E)} (λ l. Ok None ∷ l) d.2), last_cons between (0, Ok None) (numbered 1 d.0) (rw (no_number between) refl) d.3)
-  to_source c i (fails {u = u} e step more) = let d = to_source 1 (after_other between) more in
-      (Err e ∷ d.0, (u, step, d.1), rw (no_number between) (ap {B = List (Answered A E)} (λ l. Err e ∷ l) d.2), last_cons between (0, Err e) (numbered 1 d.0) (rw (no_number between) refl) d.3)
-  to_source c i (leaves_out {j = j} {u = u} {r = r} {trace = trace} x step more) = let d = to_source (c + 1) (after_left_out between j c i) more in let number = left_out_number between j c i in
-      (item x ∷ d.0, (u, step, d.1), rw number.1 d.2, last_before between (c, item x) (numbered (c + 1) d.0) r trace d.2 d.3)
-
-  from_source : (source : List (Answered A E)) (c j : ℕ) (s t : S) (trace : List (Answered A E)) → InStep between j c → Run steps s source t → trace ≡ filter_map (kept_at between) (numbered c source) → LastKept between (numbered c source) → Leaves j s trace t
-  from_source [] c j s t trace i ran e last = rw (e, sym ran) done
-  from_source (Ok None ∷ source) c j s t trace i ran e last = rw (rw (no_number between) at e) (ends ran.1 (from_source source 1 between ran.0 t _ (after_other between) ran.2 refl (last_tail between (0, Ok None) (numbered 1 source) last)))
-  from_source (Err d ∷ source) c j s t trace i ran e last = rw (rw (no_number between) at e) (fails d ran.1 (from_source source 1 between ran.0 t _ (after_other between) ran.2 refl (last_tail between (0, Err d) (numbered 1 source) last)))
-  from_source (Ok (Some x) ∷ source) c zero s t trace i ran e last = rw (rw (kept_number between c i) at e) (keeps x ran.1 (from_source source (c + 1) between ran.0 t _ (after_kept between c i) ran.2 refl (last_tail between (c, item x) (numbered (c + 1) source) last)))
-  from_source (Ok (Some x) ∷ source) c (suc j) s t [] i ran e last = absurd (some_kept between (c, item x) (numbered (c + 1) source) last (sym e))
-  from_source (Ok (Some x) ∷ source) c (suc j) s t (r ∷ trace) i ran e last = let number = left_out_number between j c i in leaves_out x ran.1 (from_source source (c + 1) j ran.0 t (r ∷ trace) (after_left_out between j c i) ran.2 (rw number.1 at e) (last_tail between (c, item x) (numbered (c + 1) source) last))
-
-  -- before the first call the items are numbered from 0 and none is left out
-  first_in_step : (first : Bool) → InStep between (to_leave_out between first) (first_number first)
-  first_in_step true = (0, omega arith, omega arith)
-  first_in_step false = after_other between
-
-pub step_by_law : {S A E : Type 0} (steps : S → Answered A E → S → Type 0) (p : S × (ℕ × Bool)) (trace : List (Answered A E)) (q : S × (ℕ × Bool)) → Run (step_by_step steps) p trace q ↔ StepByTrace steps p trace q
-step_by_law steps p trace q = let s = p.0 in let between = (p.1).0 in let first = (p.1).1 in let t = q.0 in (
-  (λ h. let l = to_leaves steps between trace s first t (q.1).0 (q.1).1 h in let d = to_source steps between (first_number first) (first_in_step steps between first) l.0 in
-      record { source_trace = d.0; drawn = d.1; answers = d.2; last_kept = d.3; step_stays = l.1; remaining = l.2 }),
-  (λ d. rw (d.step_stays, d.remaining) (from_leaves steps between trace s first t (from_source steps between d.source_trace (first_number first) (to_leave_out between first) s t trace (first_in_step steps between first) d.drawn d.answers d.last_kept))),
-)
+  pub steps_from_skip : {s t : S} (between n k : ℕ) (r : Answered A E) → SkipTrace steps (s, n) (r ∷ []) (t, k) → StepByTrace steps (s, (between, n)) (r ∷ []) (t, (between, LeftNext between r k))
+  steps_from_skip {s} {t} between n k r d = leaves_step_by {p = (s, (between, n))} {q = (t, (between, LeftNext between r k))} (step_of_skip between (skip_leaves steps {p = (s, n)} {q = (t, k)} d), refl)

@@ -1,21 +1,24 @@
--- `Peekable`: its contract is lawful, and its runs are the traces that its definition names.
+-- `Peekable`'s contract is lawful.
 use Rattle.std.specs.Prelude.{◌+◌, Option, Some, None, Ok, Err}
 use Rattle.std.proofs.Common.{refl, arith, inl, inr}
-use Rattle.fallible_iterator.specs.Traces.{Answered, item}
+use Rattle.fallible_iterator.specs.Traces.{Answered}
 use Rattle.fallible_iterator.specs.Contract.{Contract, OnAnswer, Goes, Lawful}
-use Rattle.fallible_iterator.specs.Held.{held_count}
-use Rattle.fallible_iterator.specs.Peeking.Peekable.{peekable_contract}
+use Rattle.fallible_iterator.specs.Peeking.Peekable.{held_items, peekable_contract}
 
 module _ {S A E : Type 0} (m : Contract S A E) where
-  abbrev P : Contract (S × Option A) A E
+  abbrev P : Contract (S × Option (Option A)) A E
   P = peekable_contract m
 
-  -- the held item comes
-  held_goes : (s : S) (x : A) → m.can s → Goes P (s, Some x) (item x) (s, None)
-  held_goes s x c = record {
+  -- the held answer comes
+  answer_held : (s : S) (o : Option A) → OnAnswer P (s, Some o) (Ok o) (s, None)
+  answer_held s (Some x) = (inl refl, (λ n b. (b.0, (b.0, b.1, omega arith), omega (arith, b.2))), (λ f. absurd f))
+  answer_held s None = ((λ n b. (n, (b.0, b.1, omega (arith, b.2)), omega arith)), (λ f. absurd f))
+
+  held_goes : (s : S) (o : Option A) → m.can s → Goes P (s, Some o) (Ok o) (s, None)
+  held_goes s o c = record {
     can = c;
     has_end = λ e. e;
-    answer = (inl refl, (λ n b. (b.0, (b.0, b.1, omega arith), omega (arith, b.2))), (λ f. absurd f));
+    answer = answer_held s o;
     gives = λ y h. elim h [ inl e ↦ absurd cc | inr g ↦ inr g ];
     fails = λ e h. h;
   }
@@ -35,12 +38,12 @@ module _ {S A E : Type 0} (m : Contract S A E) where
     fails = a.fails;
   }
 
-  goes_peekable : Lawful m → (p : S × Option A) (r : Answered A E) (q : S × Option A) → P.can p → P.steps p r q → Goes P p r q
-  goes_peekable l (s, Some x) r (t, held) c step = rw (step.0, step.1, step.2) (held_goes s x c)
+  goes_peekable : Lawful m → (p : S × Option (Option A)) (r : Answered A E) (q : S × Option (Option A)) → P.can p → P.steps p r q → Goes P p r q
+  goes_peekable l (s, Some o) r (t, held) c step = rw (step.0, step.1, step.2) (held_goes s o c)
   goes_peekable l (s, None) r (t, held) c step = rw step.1 (drawn_goes s t r (l.goes s r t c step.0))
 
 pub lawful_peekable : {S A E : Type 0} {m : Contract S A E} → Lawful m → Lawful (peekable_contract m)
 lawful_peekable {m = m} l = record {
   goes = goes_peekable m l;
-  ends = λ p. ((λ e. let k = (l.ends p.0).0 e in (k.0 + held_count p.1, (k.0, k.1, omega arith))), (λ h. (l.ends p.0).1 ((h.1).0, (h.1).1)));
+  ends = λ p. ((λ e. let k = (l.ends p.0).0 e in (k.0 + held_items p.1, (k.0, k.1, omega arith))), (λ h. (l.ends p.0).1 ((h.1).0, (h.1).1)));
 }

@@ -1,4 +1,4 @@
--- Where an item is held, nothing is drawn.
+-- Where an answer is held, nothing is drawn.
 use Rattle.fallible_iterator.specs.Peeking.Peekable.{peekable_parts}
 use Rattle.fallible_iterator.proofs.Lemmas.Peeking.Peekable.{fills_held}
 use Rattle.fallible_iterator.proofs.peeking.peekable.Peekable.fill.Goals as goal

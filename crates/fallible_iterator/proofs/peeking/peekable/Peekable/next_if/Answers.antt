@@ -1,7 +1,7 @@
--- One draw, after which the item is put back where the closure answers false.
-use Rattle.std.proofs.Common.{refl}
+-- One draw, after which an item that the closure answers false on is put back, and an end.
+use Rattle.std.proofs.Common.{Some, None, refl}
 use Rattle.fallible_iterator.specs.Peeking.Peekable.{peekable_parts}
-use Rattle.fallible_iterator.proofs.Lemmas.Peeking.Peekable.{takes_item, keeps_item, takes_end, takes_failure, stays_kept}
+use Rattle.fallible_iterator.proofs.Lemmas.Peeking.Peekable.{takes_item, keeps_item, keeps_end, takes_failure, stays_kept}
 use Rattle.fallible_iterator.proofs.peeking.peekable.Peekable.next_if.Goals as goal
 
 pub returns-then-f-clause-taken : goal.returns-then-f-clause-taken
@@ -11,10 +11,13 @@ pub returns-in-Ok-Some-clause-taken : goal.returns-in-Ok-Some-clause-taken
 returns-in-Ok-Some-clause-taken g c = keeps_item _ _ _ (peekable_parts c.next.new.self) _ (rw c.in-Ok-Some.field-0-is at c.in-Ok-Some.ensures) record { shown = _; shows = refl; says = record { met = c.if-f.ensures } }
 
 pub returns-in-Ok-Some-clause-stays : goal.returns-in-Ok-Some-clause-stays
-returns-in-Ok-Some-clause-stays g c = stays_kept g.met.I.FallibleIterator.lawful _ (peekable_parts c.next.new.self) c.in-Ok-Some.x c.requires.can (rw c.in-Ok-Some.field-0-is at c.in-Ok-Some.ensures)
+returns-in-Ok-Some-clause-stays g c = stays_kept g.met.I.FallibleIterator.lawful _ (peekable_parts c.next.new.self) (Some c.in-Ok-Some.x) c.requires.can (rw c.in-Ok-Some.field-0-is at c.in-Ok-Some.ensures)
 
 pub returns-in-Ok-None-clause-taken : goal.returns-in-Ok-None-clause-taken
-returns-in-Ok-None-clause-taken g c = takes_end _ _ _ _ (rw c.in-Ok-None.field-0-is at c.in-Ok-None.ensures)
+returns-in-Ok-None-clause-taken g c = keeps_end _ _ _ (peekable_parts c.next.new.self) (rw c.in-Ok-None.field-0-is at c.in-Ok-None.ensures)
+
+pub returns-in-Ok-None-clause-stays : goal.returns-in-Ok-None-clause-stays
+returns-in-Ok-None-clause-stays g c = stays_kept g.met.I.FallibleIterator.lawful _ (peekable_parts c.next.new.self) None c.requires.can (rw c.in-Ok-None.field-0-is at c.in-Ok-None.ensures)
 
 pub returns-clause-taken : goal.returns-clause-taken
 returns-clause-taken g c = takes_failure _ _ _ _ _ c.in-Err.ensures

@@ -35,7 +35,7 @@ use denote.Triple.Table.{framed}
 use denote.Triple.Walked.{Stays, stay_dropped, Goes-dropped, walk_of, ends_at}
 use Rattle.fallible_iterator.specs.Contract as draws
 use Rattle.fallible_iterator.specs.Peeking.Peekable.{peekable_parts}
-use Rattle.fallible_iterator.specs.Peeking.Peekable.{peekable_contract, seen, Fills, Peeks}
+use Rattle.fallible_iterator.specs.Peeking.Peekable.{peekable_contract, seen, held_item, Fills, Peeks}
 use Rattle.fallible_iterator.proofs.Lemmas.Peeking.Peekable.{peeks_joined}
 use Rattle.fallible_iterator.specs.contracts.peeking.peekable.Peekable.{the_row}
 use Rattle.fallible_iterator.specs.contracts.peeking.peekable.Peekable.peek as f
@@ -118,7 +118,7 @@ peek_spec 𝓤 𝓛 𝓜 𝓡 wired I X E L L' L'' g d d' d'' m m' m'' =
     use2 𝓛 (raw (G₂.pre z₂)) (id⊢ 𝓤 _) $
     calls_at ! Tab G₂ (lend.met 𝓤 𝓛 𝓜 𝓡 (code.calls-fallible_iterator::peeking::peekable::Peekable::lend 𝓡.env wired) I X E L L' L'' g d d' d'' m m' m'') z₂ (and_then ! (get ! refl) (no_more !)) (λ v₂.
     use1 𝓛 (later (some (λ (h : Held.Denot). ((‵ (flft κ q) ⊛ tokens) ⊛ ‵ (Held.own_val h (v₂ ∷ []))) ⊛ some (λ (ws₂ : Lasts T₂ κs z₂.0.3). ‵ (lasts T₂ κs z₂.0.3 ws₂)
-    ⊛ raw (fact 𝓤 (option_copied h ≡ ws.0.held)) ⊛ ‵ (follows_so R R r.ghost_name none (λ _ _. ⊤) (λ w. w ≡ ws.0)))))) (id⊢ 𝓤 _) $
+    ⊛ raw (fact 𝓤 (option_copied h ≡ held_item ws.0.held)) ⊛ ‵ (follows_so R R r.ghost_name none (λ _ _. ⊤) (λ w. w ≡ ws.0)))))) (id⊢ 𝓤 _) $
     await ! tt $ pick ! (λ h. split ! $ split ! $ split ! $ move ! (2 ∷ []) $ peeks ! Held (Is Held) (shows 𝓛 Held) h (v₂ ∷ []) (λ is₂.
     let good₂ = ((held_laws.lawful 𝓛).typed h (v₂ ∷ []) is₂).0 in
     lands_as ! refl refl good₂ $
