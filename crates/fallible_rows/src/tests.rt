@@ -52,30 +52,33 @@ impl Write for BrokenWriter {
 }
 
 // What `run` answers, and what it wrote.
-fn run_on(alloc: Global, input: &[u8]) -> (Result<(), RowFault>, Vec<u8>) {
-    let mut reader = input;
+fn run_on<R: Read>(alloc: Global, reader: &mut R) -> (Result<(), RowFault>, Vec<u8>) {
     let mut written = Vec::new(alloc);
-    let outcome = run(alloc, &mut reader, &mut written);
+    let outcome = run(alloc, reader, &mut written);
     (outcome, written)
 }
 
-fn expect_count(rt: &impl Abort, alloc: Global, input: &[u8], output: &[u8]) {
-    let (outcome, written) = run_on(alloc, input);
+fn expect_count_by<R: Read>(rt: &impl Abort, alloc: Global, reader: &mut R, output: &[u8]) {
+    let (outcome, written) = run_on(alloc, reader);
     assert_eq!(rt; outcome, Ok(()));
     assert_eq!(rt; written.as_slice(), output);
 }
 
-fn expect_refused(rt: &impl Abort, alloc: Global, input: &[u8], place: u32) {
-    let (outcome, written) = run_on(alloc, input);
+fn expect_count(rt: &impl Abort, alloc: Global, mut input: &[u8], output: &[u8]) {
+    expect_count_by(rt, alloc, &mut input, output);
+}
+
+fn expect_refused(rt: &impl Abort, alloc: Global, mut input: &[u8], place: u32) {
+    let (outcome, written) = run_on(alloc, &mut input);
     assert_eq!(rt; outcome, Err(RowFault::Row(place)));
     assert!(rt; written.is_empty());
 }
 
-// `count` rows of `7`, and then `last`.
-fn sevens(alloc: Global, count: u32, last: &[u8]) -> Result<Vec<u8>, AllocError> {
+// `row`, with its newline, `count` times, and then `last`.
+fn rows_of(alloc: Global, row: &[u8], count: u32, last: &[u8]) -> Result<Vec<u8>, AllocError> {
     let mut input = Vec::new(alloc);
     for _ in 0..count {
-        input.extend_from_slice(b"7\n")?;
+        input.extend_from_slice(row)?;
     }
     input.extend_from_slice(last)?;
     Ok(input)
@@ -108,20 +111,27 @@ fn run_answers_first_row_that_is_no_number(rt: HostRuntime) {
 #[test]
 fn run_looks_at_first_million_rows(rt: HostRuntime) -> Result<(), Fail> {
     let alloc = rt.alloc();
-    let past = sevens(alloc, 1_000_000, b"x")?;
+    let past = rows_of(alloc, b"7\n", 1_000_000, b"x")?;
     expect_count(&rt, alloc, past.as_slice(), b"0\n");
-    let within = sevens(alloc, 999_999, b"x")?;
+    let within = rows_of(alloc, b"7\n", 999_999, b"x")?;
     expect_refused(&rt, alloc, within.as_slice(), 1_000_000);
     Ok(())
 }
 
 #[test]
 fn run_joins_rows_that_come_in_pieces(rt: HostRuntime) {
-    let alloc = rt.alloc();
     let mut reader = SlowReader(b"99\n101\n1000");
-    let mut written = Vec::new(alloc);
-    assert_eq!(rt; run(alloc, &mut reader, &mut written), Ok(()));
-    assert_eq!(rt; written.as_slice(), b"2\n".as_slice());
+    expect_count_by(&rt, rt.alloc(), &mut reader, b"2\n");
+}
+
+#[test]
+fn run_reads_100_000_bytes_that_come_one_at_a_time(rt: HostRuntime) -> Result<(), Fail> {
+    let alloc = rt.alloc();
+    let input = rows_of(alloc, b"101\n", 25_000, b"")?;
+    assert_eq!(rt; input.len(), 100_000);
+    let mut reader = SlowReader(input.as_slice());
+    expect_count_by(&rt, alloc, &mut reader, b"25000\n");
+    Ok(())
 }
 
 #[test]

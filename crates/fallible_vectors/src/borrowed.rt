@@ -1,6 +1,8 @@
 // Borrowed sources.
+use crate::answered::expect_answers;
 use crate::listed::listed;
 use fallible_iterator::FallibleIterator;
+use fallible_iterator::laws::Answer::{End, Failure, Item};
 use std::test::Fail;
 
 #[test]
@@ -17,8 +19,5 @@ fn what_is_drawn_from_a_borrow_is_drawn_from_it(rt: HostRuntime) -> Result<(), F
 fn a_box_answers_as_its_content(rt: HostRuntime) -> Result<(), Fail> {
     let it = listed::<u32, u32, 2>(rt.alloc(), [Ok(1), Err(2)])?;
     let mut boxed = Box::new(rt.alloc(), it)?;
-    assert_eq!(rt; boxed.next(), Ok(Some(1)));
-    assert_eq!(rt; boxed.next(), Err(2));
-    assert_eq!(rt; boxed.next(), Ok(None));
-    Ok(())
+    expect_answers(&rt, &mut boxed, &[Item(1), Failure(2), End])
 }

@@ -29,7 +29,7 @@ fn lent_pages_are_collected(rt: HostRuntime) {
     let pages = [first.as_slice(), second.as_slice(), third.as_slice()];
     match listed_numbers(rt.alloc(), pages.as_slice()) {
         Ok(items) => assert_eq!(rt; items.as_slice(), [1, 2, 3].as_slice()),
-        Err(_) => assert!(rt; false),
+        Err(_) => panic!(rt; "it failed"),
     }
 }
 
@@ -39,7 +39,7 @@ fn a_failure_on_a_lent_page_stops_the_drain(rt: HostRuntime) {
     let pages = [first.as_slice(), second.as_slice()];
     match listed_numbers(rt.alloc(), pages.as_slice()) {
         Err(Fault::Source(size)) => assert_eq!(rt; size, 3),
-        _ => assert!(rt; false),
+        _ => panic!(rt; "it did not fail"),
     }
 }
 
@@ -134,7 +134,7 @@ fn borrowed_words_are_peeked_at(rt: HostRuntime) -> Result<(), Fail> {
         .collect(rt.alloc());
     match made {
         Ok(items) => assert_eq!(rt; items.as_slice(), [3].as_slice()),
-        Err(_) => assert!(rt; false),
+        Err(_) => panic!(rt; "it failed"),
     }
     Ok(())
 }

@@ -1,26 +1,24 @@
 // A clone goes on where its original stands, and leaves it there.
-use crate::failure::Failure;
+use crate::alike::expect_alike;
+use crate::answered::expect_answers;
 use crate::listed::listed;
-use fallible_iterator::laws::{Answer, answers};
+use crate::test_error::TestError;
+use fallible_iterator::laws::Answer::{End, Failure, Item};
 use fallible_iterator::{
-    FallibleIterator, Fault, IntoFallible, convert, empty, from_fn, once_err, repeat, repeat_err,
+    FallibleIterator, IntoFallible, convert, empty, from_fn, once, once_err, repeat, repeat_err,
 };
 use std::convert::Infallible;
+use std::ops::Range;
 use std::test::Fail;
 
 #[test]
 fn clones_of_convert_and_into_fallible(rt: HostRuntime) -> Result<(), Fail> {
     let mut it = convert((0..3u32).map(|x| Ok::<u32, u32>(x)));
-    assert_eq!(rt; it.next(), Ok(Some(0)));
-    let mut copy = it.clone()?;
-    assert_eq!(rt; copy.next(), Ok(Some(1)));
-    assert_eq!(rt; it.next(), Ok(Some(1)));
+    expect_answers(&rt, &mut it, &[Item(0)])?;
+    expect_alike(&rt, &mut it, &[Item(1)])?;
     let mut it = IntoFallible::from(0..3u32);
-    assert_eq!(rt; it.next(), Ok(Some(0)));
-    let mut copy = it.clone()?;
-    assert_eq!(rt; copy.next(), Ok(Some(1)));
-    assert_eq!(rt; it.next(), Ok(Some(1)));
-    Ok(())
+    expect_answers(&rt, &mut it, &[Item(0)])?;
+    expect_alike(&rt, &mut it, &[Item(1)])
 }
 
 #[test]
@@ -30,39 +28,22 @@ fn clones_of_from_fn_keep_its_closures_state(rt: HostRuntime) -> Result<(), Fail
         calls = calls.wrapping_add(1);
         Ok::<Option<u32>, u32>(Some(calls))
     });
-    assert_eq!(rt; it.next(), Ok(Some(1)));
-    let mut copy = it.clone()?;
-    assert_eq!(rt; copy.next(), Ok(Some(2)));
-    assert_eq!(rt; it.next(), Ok(Some(2)));
-    Ok(())
+    expect_answers(&rt, &mut it, &[Item(1)])?;
+    expect_alike(&rt, &mut it, &[Item(2)])
 }
 
 #[test]
-fn clones_of_empty_and_once_err(rt: HostRuntime) -> Result<(), Fail> {
-    let mut it = empty::<u32, u32>();
-    let mut copy = it.clone()?;
-    assert_eq!(rt; copy.next(), Ok(None));
-    assert_eq!(rt; it.next(), Ok(None));
-    let mut it = once_err::<u32, u32>(4);
-    let mut copy = it.clone()?;
-    assert_eq!(rt; copy.next(), Err(4));
-    assert_eq!(rt; copy.next(), Ok(None));
-    assert_eq!(rt; it.next(), Err(4));
-    assert_eq!(rt; it.next(), Ok(None));
-    Ok(())
+fn clones_of_empty_once_and_once_err(rt: HostRuntime) -> Result<(), Fail> {
+    expect_alike(&rt, &mut empty::<u32, u32>(), &[End])?;
+    expect_alike(&rt, &mut once::<u32, u32>(5), &[Item(5), End])?;
+    expect_alike(&rt, &mut once_err::<u32, u32>(4), &[Failure(4), End])
 }
 
 #[test]
 fn clones_of_repeat_and_repeat_err(rt: HostRuntime) -> Result<(), Fail> {
-    let mut it = repeat::<u32, Failure>(5);
-    let mut copy = it.clone()?;
-    assert_eq!(rt; copy.next(), Ok(Some(5)));
-    assert_eq!(rt; it.next(), Ok(Some(5)));
-    let mut it = repeat_err::<u32, Failure>(Failure::Number(6));
-    let mut copy = it.clone()?;
-    assert_eq!(rt; copy.next(), Err(Failure::Number(6)));
-    assert_eq!(rt; it.next(), Err(Failure::Number(6)));
-    Ok(())
+    expect_alike(&rt, &mut repeat::<u32, TestError>(5), &[Item(5)])?;
+    let mut it = repeat_err::<u32, TestError>(TestError::Number(6));
+    expect_alike(&rt, &mut it, &[Failure(TestError::Number(6))])
 }
 
 fn doubled(x: u32) -> Result<u32, u32> {
@@ -76,16 +57,11 @@ fn look(_x: &u32) -> Result<(), u32> {
 #[test]
 fn clones_of_map_and_inspect(rt: HostRuntime) -> Result<(), Fail> {
     let mut it = listed::<u32, u32, 2>(rt.alloc(), [Ok(1), Ok(2)])?.map(doubled);
-    assert_eq!(rt; it.next(), Ok(Some(2)));
-    let mut copy = it.clone()?;
-    assert_eq!(rt; copy.next(), Ok(Some(4)));
-    assert_eq!(rt; it.next(), Ok(Some(4)));
+    expect_answers(&rt, &mut it, &[Item(2)])?;
+    expect_alike(&rt, &mut it, &[Item(4)])?;
     let mut it = listed::<u32, u32, 2>(rt.alloc(), [Ok(1), Ok(2)])?.inspect(look);
-    assert_eq!(rt; it.next(), Ok(Some(1)));
-    let mut copy = it.clone()?;
-    assert_eq!(rt; copy.next(), Ok(Some(2)));
-    assert_eq!(rt; it.next(), Ok(Some(2)));
-    Ok(())
+    expect_answers(&rt, &mut it, &[Item(1)])?;
+    expect_alike(&rt, &mut it, &[Item(2)])
 }
 
 fn one_more(e: u32) -> u32 {
@@ -95,17 +71,12 @@ fn one_more(e: u32) -> u32 {
 #[test]
 fn clones_of_map_err_and_cloned(rt: HostRuntime) -> Result<(), Fail> {
     let mut it = listed::<u32, u32, 2>(rt.alloc(), [Err(1), Err(2)])?.map_err(one_more);
-    assert_eq!(rt; it.next(), Err(2));
-    let mut copy = it.clone()?;
-    assert_eq!(rt; copy.next(), Err(3));
-    assert_eq!(rt; it.next(), Err(3));
+    expect_answers(&rt, &mut it, &[Failure(2)])?;
+    expect_alike(&rt, &mut it, &[Failure(3)])?;
     let numbers = [1u32, 2];
-    let mut it = convert(numbers.iter().map(|x| Ok::<&u32, Failure>(x))).cloned();
-    assert_eq!(rt; it.next(), Ok(Some(1)));
-    let mut copy = it.clone()?;
-    assert_eq!(rt; copy.next(), Ok(Some(2)));
-    assert_eq!(rt; it.next(), Ok(Some(2)));
-    Ok(())
+    let mut it = convert(numbers.iter().map(|x| Ok::<&u32, TestError>(x))).cloned();
+    expect_answers(&rt, &mut it, &[Item(1)])?;
+    expect_alike(&rt, &mut it, &[Item(2)])
 }
 
 // The sum so far, which is kept.
@@ -115,24 +86,13 @@ fn added(sum: &mut u32, x: u32) -> Result<Option<u32>, u32> {
 }
 
 #[test]
-fn clones_of_enumerate(rt: HostRuntime) -> Result<(), Fail> {
+fn clones_of_enumerate_and_scan(rt: HostRuntime) -> Result<(), Fail> {
     let mut it = IntoFallible::from(5..7u32).enumerate();
-    let first = answers(rt.alloc(), &mut it, 1)?;
-    assert_eq!(rt; first.as_slice(), [Answer::Item((0, 5))].as_slice());
-    let mut copy = it.clone()?;
-    assert_eq!(rt; copy.next(), Ok(Some((1, 6))));
-    assert_eq!(rt; it.next(), Ok(Some((1, 6))));
-    Ok(())
-}
-
-#[test]
-fn clones_of_scan(rt: HostRuntime) -> Result<(), Fail> {
+    expect_answers(&rt, &mut it, &[Item((0, 5))])?;
+    expect_alike(&rt, &mut it, &[Item((1, 6))])?;
     let mut it = listed::<u32, u32, 2>(rt.alloc(), [Ok(1), Ok(2)])?.scan(0, added);
-    assert_eq!(rt; it.next(), Ok(Some(1)));
-    let mut copy = it.clone()?;
-    assert_eq!(rt; copy.next(), Ok(Some(3)));
-    assert_eq!(rt; it.next(), Ok(Some(3)));
-    Ok(())
+    expect_answers(&rt, &mut it, &[Item(1)])?;
+    expect_alike(&rt, &mut it, &[Item(3)])
 }
 
 fn is_odd(x: &u32) -> Result<bool, u32> {
@@ -151,57 +111,39 @@ fn odd_and_ten(x: u32) -> Result<Option<u32>, u32> {
 #[test]
 fn clones_of_filter_and_filter_map(rt: HostRuntime) -> Result<(), Fail> {
     let mut it = listed::<u32, u32, 3>(rt.alloc(), [Ok(1), Ok(2), Ok(3)])?.filter(is_odd);
-    assert_eq!(rt; it.next(), Ok(Some(1)));
-    let mut copy = it.clone()?;
-    assert_eq!(rt; copy.next(), Ok(Some(3)));
-    assert_eq!(rt; it.next(), Ok(Some(3)));
+    expect_answers(&rt, &mut it, &[Item(1)])?;
+    expect_alike(&rt, &mut it, &[Item(3)])?;
     let mut it = listed::<u32, u32, 3>(rt.alloc(), [Ok(1), Ok(2), Ok(3)])?.filter_map(odd_and_ten);
-    assert_eq!(rt; it.next(), Ok(Some(11)));
-    let mut copy = it.clone()?;
-    assert_eq!(rt; copy.next(), Ok(Some(13)));
-    assert_eq!(rt; it.next(), Ok(Some(13)));
-    Ok(())
+    expect_answers(&rt, &mut it, &[Item(11)])?;
+    expect_alike(&rt, &mut it, &[Item(13)])
 }
 
 // The clone of `skip_while` skips no more, and that of `take_while` only ends.
 #[test]
 fn clones_of_skip_while_and_take_while(rt: HostRuntime) -> Result<(), Fail> {
     let mut it = listed::<u32, u32, 3>(rt.alloc(), [Ok(1), Ok(2), Ok(3)])?.skip_while(is_odd);
-    assert_eq!(rt; it.next(), Ok(Some(2)));
-    let mut copy = it.clone()?;
-    assert_eq!(rt; copy.next(), Ok(Some(3)));
-    assert_eq!(rt; it.next(), Ok(Some(3)));
+    expect_answers(&rt, &mut it, &[Item(2)])?;
+    expect_alike(&rt, &mut it, &[Item(3)])?;
     let mut it = listed::<u32, u32, 2>(rt.alloc(), [Ok(2), Ok(3)])?.take_while(is_odd);
-    assert_eq!(rt; it.next(), Ok(None));
-    let mut copy = it.clone()?;
-    assert_eq!(rt; copy.next(), Ok(None));
-    assert_eq!(rt; it.next(), Ok(None));
-    Ok(())
+    expect_answers(&rt, &mut it, &[End])?;
+    expect_alike(&rt, &mut it, &[End])
 }
 
 #[test]
 fn clones_of_take_and_skip(rt: HostRuntime) -> Result<(), Fail> {
     let mut it = listed::<u32, u32, 3>(rt.alloc(), [Ok(1), Ok(2), Ok(3)])?.take(1);
-    assert_eq!(rt; it.next(), Ok(Some(1)));
-    let mut copy = it.clone()?;
-    assert_eq!(rt; copy.next(), Ok(None));
-    assert_eq!(rt; it.next(), Ok(None));
+    expect_answers(&rt, &mut it, &[Item(1)])?;
+    expect_alike(&rt, &mut it, &[End])?;
     let mut it = listed::<u32, u32, 3>(rt.alloc(), [Ok(1), Ok(2), Ok(3)])?.skip(1);
-    assert_eq!(rt; it.next(), Ok(Some(2)));
-    let mut copy = it.clone()?;
-    assert_eq!(rt; copy.next(), Ok(Some(3)));
-    assert_eq!(rt; it.next(), Ok(Some(3)));
-    Ok(())
+    expect_answers(&rt, &mut it, &[Item(2)])?;
+    expect_alike(&rt, &mut it, &[Item(3)])
 }
 
 #[test]
 fn clones_of_step_by(rt: HostRuntime) -> Result<(), Fail> {
     let mut it = listed::<u32, u32, 3>(rt.alloc(), [Ok(1), Ok(2), Ok(3)])?.step_by(2);
-    assert_eq!(rt; it.next(), Ok(Some(1)));
-    let mut copy = it.clone()?;
-    assert_eq!(rt; copy.next(), Ok(Some(3)));
-    assert_eq!(rt; it.next(), Ok(Some(3)));
-    Ok(())
+    expect_answers(&rt, &mut it, &[Item(1)])?;
+    expect_alike(&rt, &mut it, &[Item(3)])
 }
 
 // The source would go on.
@@ -216,25 +158,51 @@ fn clones_of_fuse_keep_its_end(rt: HostRuntime) -> Result<(), Fail> {
         }
     })
     .fuse();
-    assert_eq!(rt; it.next(), Ok(None));
-    let mut copy = it.clone()?;
-    assert_eq!(rt; copy.next(), Ok(None));
-    assert_eq!(rt; it.next(), Ok(None));
-    Ok(())
+    expect_answers(&rt, &mut it, &[End])?;
+    expect_alike(&rt, &mut it, &[End])
 }
 
 #[test]
-fn map_is_shown_without_its_closure(rt: HostRuntime) -> Result<(), Fail> {
-    let it = IntoFallible::from(0..3u32).map(|x: u32| -> Result<u32, Infallible> { Ok(x) });
-    let text = format!(in rt.alloc(); "{it:?}")?;
-    assert_eq!(rt; text.as_str(), "Map { it: IntoFallible { it: 0..3 } }");
-    Ok(())
+fn clones_of_chain_and_zip(rt: HostRuntime) -> Result<(), Fail> {
+    let mut it = once::<u32, u32>(1).chain(once(2));
+    expect_answers(&rt, &mut it, &[Item(1), Item(2)])?;
+    expect_alike(&rt, &mut it, &[End])?;
+    assert_eq!(rt; it.size_hint(), (0, Some(0)));
+    let mut it = once::<u32, u32>(1).zip(once::<u32, u32>(2));
+    expect_alike(&rt, &mut it, &[Item((1, 2)), End])
 }
 
 #[test]
-fn a_failure_becomes_a_fault_of_the_source(rt: HostRuntime) {
-    match Fault::from(7u32) {
-        Fault::Source(failure) => assert_eq!(rt; failure, 7),
-        Fault::Memory(_) => assert!(rt; false),
-    }
+fn clones_of_flatten_hold_its_inner_iterator_in_hand(rt: HostRuntime) -> Result<(), Fail> {
+    let mut it = listed::<IntoFallible<Range<u32>>, Infallible, 1>(
+        rt.alloc(),
+        [Ok(IntoFallible::from(1..3))],
+    )?.flatten();
+    assert_eq!(rt; it.size_hint(), (0, None));
+    expect_answers(&rt, &mut it, &[Item(1)])?;
+    expect_alike(&rt, &mut it, &[Item(2), End])
+}
+
+#[test]
+fn clones_of_flat_map_hold_its_inner_iterator_in_hand(rt: HostRuntime) -> Result<(), Fail> {
+    let mut it = listed::<u32, Infallible, 1>(rt.alloc(), [Ok(1)])?.flat_map(|x: u32| -> Result<
+        IntoFallible<Range<u32>>,
+        Infallible,
+    > { Ok(IntoFallible::from(x..3)) });
+    assert_eq!(rt; it.size_hint(), (0, None));
+    expect_answers(&rt, &mut it, &[Item(1)])?;
+    expect_alike(&rt, &mut it, &[Item(2), End])
+}
+
+#[test]
+fn clones_of_peekable_hold_the_item_too(rt: HostRuntime) -> Result<(), Fail> {
+    let mut it = once::<u32, u32>(1).peekable();
+    assert_eq!(rt; it.peek(), Ok(Some(&1)));
+    expect_alike(&rt, &mut it, &[Item(1), End])
+}
+
+#[test]
+fn clones_of_cycle(rt: HostRuntime) -> Result<(), Fail> {
+    let mut it = once::<u32, TestError>(1).cycle()?;
+    expect_alike(&rt, &mut it, &[Item(1), Item(1)])
 }

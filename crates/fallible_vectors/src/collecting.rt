@@ -1,20 +1,11 @@
 // Collections.
 ghost use Rattle.std.specs.Prelude.{⊤};
 
+use crate::collected::{expect_collected, expect_refused, expect_source_fault};
 use crate::listed::listed;
 use fallible_iterator::{Collect, FallibleIterator, Fault, IntoFallible, IteratorExt};
 use std::alloc::{AllocError, Global};
-use std::convert::Infallible;
 use std::test::Fail;
-
-// What was collected, or the failure, where it was no want of memory.
-fn shown<C: Drop, E: Drop>(made: Result<C, Fault<E>>) -> Option<Result<C, E>> {
-    match made {
-        Ok(collection) => Some(Ok(collection)),
-        Err(Fault::Source(failure)) => Some(Err(failure)),
-        Err(Fault::Memory(_)) => None,
-    }
-}
 
 // Even items pass where 3 divides them, and odd ones fail.
 fn even_thirds(x: &u32) -> Result<bool, u32> {
@@ -28,63 +19,64 @@ fn even_thirds(x: &u32) -> Result<bool, u32> {
 #[test]
 fn collect_doubled(rt: HostRuntime) -> Result<(), Fail> {
     let it = listed::<u32, u32, 5>(rt.alloc(), [Ok(0), Ok(1), Ok(2), Ok(3), Ok(4)])?;
-    let made: Result<Vec<u32>, Fault<u32>> = it
-        .map(|x: u32| Ok(x.wrapping_mul(2)))
-        .collect(rt.alloc());
-    let items = shown(made).expect(&rt, "memory").expect(&rt, "a failure");
-    assert_eq!(rt; items.as_slice(), [0, 2, 4, 6, 8].as_slice());
+    let it = it.map(|x: u32| Ok(x.wrapping_mul(2)));
+    expect_collected(&rt, it.collect(rt.alloc()), &[0, 2, 4, 6, 8]);
     Ok(())
 }
 
 #[test]
 fn collect_fails_at_the_first_failure(rt: HostRuntime) -> Result<(), Fail> {
     let it = listed::<u32, u32, 4>(rt.alloc(), [Ok(0), Err(1), Ok(2), Err(3)])?;
-    let made: Result<Vec<u32>, Fault<u32>> = it.collect(rt.alloc());
-    match shown(made) {
-        Some(Err(failure)) => assert_eq!(rt; failure, 1),
-        _ => assert!(rt; false),
-    }
+    expect_source_fault(&rt, it.collect::<Vec<u32>>(rt.alloc()), 1);
+    Ok(())
+}
+
+#[test]
+fn collect_fails_as_map_err_makes_it(rt: HostRuntime) -> Result<(), Fail> {
+    let it = listed::<u32, u32, 2>(rt.alloc(), [Ok(1), Err(5)])?;
+    let it = it.map_err(|e: u32| e.wrapping_add(100));
+    expect_source_fault(&rt, it.collect::<Vec<u32>>(rt.alloc()), 105);
     Ok(())
 }
 
 #[test]
 fn collect_filtered_fails_by_the_predicate(rt: HostRuntime) -> Result<(), Fail> {
     let it = listed::<u32, u32, 4>(rt.alloc(), [Ok(0), Ok(1), Ok(2), Ok(3)])?;
-    let made: Result<Vec<u32>, Fault<u32>> = it.filter(even_thirds).collect(rt.alloc());
-    match shown(made) {
-        Some(Err(failure)) => assert_eq!(rt; failure, 1),
-        _ => assert!(rt; false),
-    }
+    expect_source_fault(
+        &rt,
+        it.filter(even_thirds).collect::<Vec<u32>>(rt.alloc()),
+        1,
+    );
     Ok(())
 }
 
 #[test]
 fn collect_filtered(rt: HostRuntime) -> Result<(), Fail> {
     let it = listed::<u32, u32, 4>(rt.alloc(), [Ok(0), Ok(2), Ok(4), Ok(6)])?;
-    let made: Result<Vec<u32>, Fault<u32>> = it.filter(even_thirds).collect(rt.alloc());
-    let items = shown(made).expect(&rt, "memory").expect(&rt, "a failure");
-    assert_eq!(rt; items.as_slice(), [0, 6].as_slice());
+    expect_collected(&rt, it.filter(even_thirds).collect(rt.alloc()), &[0, 6]);
     Ok(())
 }
 
 #[test]
-fn collect_from_a_std_iterator(rt: HostRuntime) -> Result<(), Fail> {
+fn collect_from_a_std_iterator(rt: HostRuntime) {
     let it = IntoFallible::from(0..4u32);
-    let made: Result<Vec<u32>, Fault<Infallible>> = it.collect(rt.alloc());
-    match made {
-        Ok(items) => assert_eq!(rt; items.as_slice(), [0, 1, 2, 3].as_slice()),
-        Err(_) => assert!(rt; false),
-    }
-    Ok(())
+    expect_collected(&rt, it.collect(rt.alloc()), &[0, 1, 2, 3]);
 }
 
 #[test]
-fn collect_after_into_fallible(rt: HostRuntime) -> Result<(), Fail> {
-    let made: Result<Vec<u32>, Fault<Infallible>> = (0..4u32).into_fallible().collect(rt.alloc());
-    match made {
-        Ok(items) => assert_eq!(rt; items.as_slice(), [0, 1, 2, 3].as_slice()),
-        Err(_) => assert!(rt; false),
-    }
+fn collect_after_into_fallible(rt: HostRuntime) {
+    let it = (0..4u32).into_fallible();
+    expect_collected(&rt, it.collect(rt.alloc()), &[0, 1, 2, 3]);
+}
+
+// A `Vec` grows with its items, by a factor: for five of them it has nowhere near 1,000 places.
+#[test]
+fn collect_takes_no_room_ahead(rt: HostRuntime) -> Result<(), Fail> {
+    let it = listed::<u32, u32, 5>(rt.alloc(), [Ok(0), Ok(1), Ok(2), Ok(3), Ok(4)])?;
+    let items = it
+        .collect::<Vec<u32>>(rt.alloc())
+        .expect(&rt, "a collection");
+    assert!(rt; items.capacity() < 1_000);
     Ok(())
 }
 
@@ -114,8 +106,7 @@ impl Collect<u32> for Total {
 #[test]
 fn collect_into_a_collection_that_counts(rt: HostRuntime) -> Result<(), Fail> {
     let it = listed::<u32, u32, 3>(rt.alloc(), [Ok(1), Ok(2), Ok(3)])?;
-    let made: Result<Total, Fault<u32>> = it.collect(rt.alloc());
-    let total = shown(made).expect(&rt, "memory").expect(&rt, "a failure");
+    let total = it.collect::<Total>(rt.alloc()).expect(&rt, "a collection");
     assert_eq!(rt; total.count, 3);
     Ok(())
 }
@@ -157,7 +148,7 @@ fn collect_into_a_vec_whose_request_may_be_refused(rt: HostRuntime) -> Result<()
     match made {
         Ok(items) => assert_eq!(rt; items.as_slice(), [1, 2, 3].as_slice()),
         Err(Fault::Memory(_)) => assert_eq!(rt; it.next(), Ok(Some(2))),
-        Err(Fault::Source(_)) => assert!(rt; false),
+        Err(Fault::Source(failure)) => panic!(rt; "the source failed: {failure}"),
     }
     Ok(())
 }
@@ -165,11 +156,12 @@ fn collect_into_a_vec_whose_request_may_be_refused(rt: HostRuntime) -> Result<()
 #[test]
 fn collect_refused_memory_leaves_the_rest(rt: HostRuntime) -> Result<(), Fail> {
     let mut it = listed::<u32, u32, 3>(rt.alloc(), [Ok(1), Ok(2), Ok(3)])?;
-    let made: Result<Hungry, Fault<u32>> = it.by_ref().collect(rt.alloc());
-    match made {
-        Err(Fault::Memory(_)) => {}
-        _ => assert!(rt; false),
-    }
+    expect_refused(&rt, it.by_ref().collect::<Hungry>(rt.alloc()));
     assert_eq!(rt; it.next(), Ok(Some(2)));
     Ok(())
+}
+
+#[test]
+fn a_failure_becomes_a_fault_of_the_source(rt: HostRuntime) {
+    expect_source_fault::<(), u32>(&rt, Err(Fault::from(7)), 7);
 }

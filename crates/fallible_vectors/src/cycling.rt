@@ -3,116 +3,53 @@ ghost use Rattle.std.specs.Prelude.{◌≡◌, ◌+◌, ◌≤◌, MatchResult, 
 ghost use Rattle.std.proofs.Common.{rules};
 ghost use Rattle.fallible_iterator.specs.Contract.{counting_down};
 
-use crate::failure::Failure;
+use crate::answered::expect_answers;
+use crate::collected::expect_collected;
 use crate::listed::listed;
-use fallible_iterator::laws::{Answer, answers};
-use fallible_iterator::{FallibleIterator, Fault, empty, once};
+use crate::scripted::scripted;
+use crate::test_error::TestError;
+use fallible_iterator::laws::Answer::{End, Failure, Item};
+use fallible_iterator::{FallibleIterator, empty, once};
 use std::alloc::AllocError;
 use std::cell::Cell;
 use std::test::Fail;
 
 #[test]
 fn cycle_of_nothing_ends(rt: HostRuntime) -> Result<(), Fail> {
-    let mut it = empty::<u32, Failure>().cycle()?;
+    let mut it = empty::<u32, TestError>().cycle()?;
     assert_eq!(rt; it.size_hint(), (0, None));
-    assert_eq!(rt; it.next(), Ok(None));
-    assert_eq!(rt; it.next(), Ok(None));
-    Ok(())
+    expect_answers(&rt, &mut it, &[End, End])
 }
 
 #[test]
 fn cycle_of_one_item(rt: HostRuntime) -> Result<(), Fail> {
-    let it = once::<u32, Failure>(1).cycle()?;
+    let it = once::<u32, TestError>(1).cycle()?;
     assert_eq!(rt; it.size_hint(), (usize::MAX, None));
-    let made: Result<Vec<u32>, Fault<Failure>> = it.take(3).collect(rt.alloc());
-    match made {
-        Ok(items) => assert_eq!(rt; items.as_slice(), [1, 1, 1].as_slice()),
-        Err(_) => assert!(rt; false),
-    }
+    expect_collected(&rt, it.take(3).collect(rt.alloc()), &[1, 1, 1]);
     Ok(())
 }
 
 #[test]
 fn cycle_passes_failures(rt: HostRuntime) -> Result<(), Fail> {
-    let it = listed::<u32, Failure, 2>(rt.alloc(), [Ok(1), Err(Failure::Number(2))])?;
+    let it = listed::<u32, TestError, 2>(rt.alloc(), [Ok(1), Err(TestError::Number(2))])?;
     let mut it = it.cycle()?;
-    let got = answers(rt.alloc(), &mut it, 4)?;
-    assert_eq!(rt;
-        got.as_slice(),
-        [
-            Answer::Item(1),
-            Answer::Failure(Failure::Number(2)),
-            Answer::Item(1),
-            Answer::Failure(Failure::Number(2))
-        ]
-        .as_slice()
-    );
-    Ok(())
+    let failure = || Failure(TestError::Number(2));
+    expect_answers(&rt, &mut it, &[Item(1), failure(), Item(1), failure()])
 }
 
 #[test]
 fn cycle_of_four_items(rt: HostRuntime) -> Result<(), Fail> {
-    let it = listed::<u32, Failure, 4>(rt.alloc(), [Ok(0), Ok(1), Ok(2), Ok(3)])?;
-    let made: Result<Vec<u32>, Fault<Failure>> = it.cycle()?.take(6).collect(rt.alloc());
-    match made {
-        Ok(items) => assert_eq!(rt; items.as_slice(), [0, 1, 2, 3, 0, 1].as_slice()),
-        Err(_) => assert!(rt; false),
-    }
+    let it = listed::<u32, TestError, 4>(rt.alloc(), [Ok(0), Ok(1), Ok(2), Ok(3)])?;
+    let it = it.cycle()?.take(6);
+    expect_collected(&rt, it.collect(rt.alloc()), &[0, 1, 2, 3, 0, 1]);
     Ok(())
-}
-
-#[test]
-fn a_clone_of_cycle_goes_on_as_its_original(rt: HostRuntime) -> Result<(), Fail> {
-    let mut it = once::<u32, Failure>(1).cycle()?;
-    let mut copy = it.clone()?;
-    assert_eq!(rt; copy.next(), Ok(Some(1)));
-    assert_eq!(rt; copy.next(), Ok(Some(1)));
-    assert_eq!(rt; it.next(), Ok(Some(1)));
-    Ok(())
-}
-
-// Gives an end, 5, and then ends.
-#[derive(Clone, Drop)]
-struct Late {
-    left: u32,
-}
-
-impl FallibleIterator for Late {
-    type Item = u32;
-
-    type Error = Failure;
-
-    ghost contract = { counting_down (λ s r t. MatchResult r (λ o. MatchOption o (t.left ≤ s.left) (λ _. t.left + 1 ≡ s.left)) (λ _. ⊥)) (λ s. s.left) };
-
-    fn next(&mut self) -> Result<Option<u32>, Failure> {
-        match self.left {
-            2 => {
-                self.left = 1;
-                Ok(None)
-            }
-            1 => {
-                self.left = 0;
-                Ok(Some(5))
-            }
-            _ => Ok(None),
-        }
-    }
-
-    fn size_hint(&self) -> (usize, Option<usize>) {
-        (0, None)
-    }
-
-    ghost lawful = { Prim.search rules };
 }
 
 #[test]
 fn cycle_answers_the_end_that_a_clone_begins_with(rt: HostRuntime) -> Result<(), Fail> {
-    let mut it = Late { left: 2 }.cycle()?;
-    assert_eq!(rt; it.next(), Ok(None));
-    assert_eq!(rt; it.next(), Ok(Some(5)));
-    assert_eq!(rt; it.next(), Ok(None));
-    assert_eq!(rt; it.next(), Ok(Some(5)));
-    Ok(())
+    let it = scripted::<u32, TestError, 2>(rt.alloc(), [Ok(None), Ok(Some(5))])?;
+    let mut it = it.cycle()?;
+    expect_answers(&rt, &mut it, &[End, Item(5), End, Item(5)])
 }
 
 // Gives 1, 2, and then ends. Its second clone is refused.
@@ -138,11 +75,11 @@ impl<'a> Clone for Pair<'a> {
 impl<'a> FallibleIterator for Pair<'a> {
     type Item = u32;
 
-    type Error = Failure;
+    type Error = TestError;
 
     ghost contract = { counting_down (λ s r t. MatchResult r (λ o. MatchOption o (t.left ≤ s.left) (λ _. t.left + 1 ≡ s.left)) (λ _. ⊥)) (λ s. s.left) };
 
-    fn next(&mut self) -> Result<Option<u32>, Failure> {
+    fn next(&mut self) -> Result<Option<u32>, TestError> {
         match self.left {
             2 => {
                 self.left = 1;
@@ -171,11 +108,8 @@ fn cycle_goes_on_after_a_refused_clone(rt: HostRuntime) -> Result<(), Fail> {
         clones: &clones,
     }
     .cycle()?;
-    assert_eq!(rt; it.next(), Ok(Some(1)));
-    assert_eq!(rt; it.next(), Ok(Some(2)));
-    assert_eq!(rt; it.next(), Err(Failure::Memory));
-    assert_eq!(rt; it.next(), Ok(Some(1)));
-    Ok(())
+    let refused = Failure(TestError::Memory);
+    expect_answers(&rt, &mut it, &[Item(1), Item(2), refused, Item(1)])
 }
 
 #[test]
@@ -186,8 +120,5 @@ fn cycle_is_refused_where_its_clone_is(rt: HostRuntime) {
         clones: &clones,
     }
     .cycle();
-    match made {
-        Ok(_) => assert!(rt; false),
-        Err(_) => {}
-    }
+    assert!(rt; made.is_err());
 }

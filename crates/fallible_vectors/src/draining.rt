@@ -1,8 +1,9 @@
 // Nothing is drawn after the answer that decides, so a borrowed source still gives the rest.
 ghost use Rattle.std.specs.Prelude.{⊤};
 
+use crate::collected::{expect_refused, expect_source_fault};
 use crate::listed::listed;
-use fallible_iterator::{Collect, FallibleIterator, Fault};
+use fallible_iterator::{Collect, FallibleIterator};
 use std::alloc::{AllocError, Global};
 use std::test::Fail;
 
@@ -34,11 +35,7 @@ fn fold_draws_nothing_after_its_closure_fails(rt: HostRuntime) -> Result<(), Fai
 #[test]
 fn collect_draws_nothing_after_a_failure(rt: HostRuntime) -> Result<(), Fail> {
     let mut it = listed::<u32, u32, 3>(rt.alloc(), [Ok(0), Err(1), Ok(2)])?;
-    let made: Result<Vec<u32>, Fault<u32>> = it.by_ref().collect(rt.alloc());
-    match made {
-        Err(Fault::Source(failure)) => assert_eq!(rt; failure, 1),
-        _ => assert!(rt; false),
-    }
+    expect_source_fault(&rt, it.by_ref().collect::<Vec<u32>>(rt.alloc()), 1);
     assert_eq!(rt; it.next(), Ok(Some(2)));
     Ok(())
 }
@@ -72,11 +69,7 @@ impl Collect<u32> for Greedy {
 #[test]
 fn collect_draws_nothing_where_its_collection_is_refused(rt: HostRuntime) -> Result<(), Fail> {
     let mut it = listed::<u32, u32, 2>(rt.alloc(), [Ok(1), Ok(2)])?;
-    let made: Result<Greedy, Fault<u32>> = it.by_ref().collect(rt.alloc());
-    match made {
-        Err(Fault::Memory(_)) => {}
-        _ => assert!(rt; false),
-    }
+    expect_refused(&rt, it.by_ref().collect::<Greedy>(rt.alloc()));
     assert_eq!(rt; it.next(), Ok(Some(1)));
     Ok(())
 }

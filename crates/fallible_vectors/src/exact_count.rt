@@ -3,8 +3,9 @@ ghost use Rattle.std.specs.Prelude.{◌≡◌, ◌+◌, MatchResult, MatchOption
 ghost use Rattle.std.proofs.Common.{rules};
 ghost use Rattle.fallible_iterator.specs.Contract.{counting_down};
 
+use crate::answered::expect_answers;
 use fallible_iterator::FallibleIterator;
-use fallible_iterator::laws::{Answer, answers};
+use fallible_iterator::laws::Answer::{End, Item};
 use std::test::Fail;
 
 // Gives 3 as many times as is left, and then ends.
@@ -44,12 +45,7 @@ fn is_counted(rt: HostRuntime) {
 #[test]
 fn is_numbered(rt: HostRuntime) -> Result<(), Fail> {
     let mut it = Threes { left: 2 }.enumerate();
-    let drawn = answers(rt.alloc(), &mut it, 3)?;
-    assert_eq!(rt;
-        drawn.as_slice(),
-        [Answer::Item((0, 3)), Answer::Item((1, 3)), Answer::End].as_slice()
-    );
-    Ok(())
+    expect_answers(&rt, &mut it, &[Item((0, 3)), Item((1, 3)), End])
 }
 
 #[test]

@@ -1,63 +1,40 @@
 // Adapters that leave items out.
+use crate::answered::expect_answers;
 use crate::listed::listed;
 use fallible_iterator::FallibleIterator;
-use fallible_iterator::laws::{Answer, answers};
+use fallible_iterator::laws::Answer::{End, Failure, Item};
 use std::test::Fail;
 
 #[test]
 fn skip_while_leaves_a_failed_item_and_skips_on(rt: HostRuntime) -> Result<(), Fail> {
     let it = listed::<u32, u32, 3>(rt.alloc(), [Ok(1), Ok(2), Ok(3)])?;
     let mut it = it.skip_while(|x: &u32| if *x == 2 { Err(8) } else { Ok(*x < 3) });
-    assert_eq!(rt; it.next(), Err(8));
-    assert_eq!(rt; it.next(), Ok(Some(3)));
-    assert_eq!(rt; it.next(), Ok(None));
-    Ok(())
+    expect_answers(&rt, &mut it, &[Failure(8), Item(3), End])
 }
 
 #[test]
 fn skip_while_nothing_is_refused(rt: HostRuntime) -> Result<(), Fail> {
     let it = listed::<u32, (), 5>(rt.alloc(), [Ok(1), Ok(2), Ok(3), Ok(4), Ok(1)])?;
     let mut it = it.skip_while(|x: &u32| Ok(*x < 1));
-    let drawn = answers(rt.alloc(), &mut it, 6)?;
-    assert_eq!(rt;
-        drawn.as_slice(),
-        [
-            Answer::Item(1),
-            Answer::Item(2),
-            Answer::Item(3),
-            Answer::Item(4),
-            Answer::Item(1),
-            Answer::End
-        ]
-        .as_slice()
-    );
-    Ok(())
+    expect_answers(
+        &rt,
+        &mut it,
+        &[Item(1), Item(2), Item(3), Item(4), Item(1), End],
+    )
 }
 
 #[test]
 fn skip_while_keeps_all_from_its_first_false(rt: HostRuntime) -> Result<(), Fail> {
     let it = listed::<u32, (), 5>(rt.alloc(), [Ok(1), Ok(2), Ok(3), Ok(4), Ok(1)])?;
     let mut it = it.skip_while(|x: &u32| Ok(*x < 3));
-    let drawn = answers(rt.alloc(), &mut it, 4)?;
-    assert_eq!(rt;
-        drawn.as_slice(),
-        [
-            Answer::Item(3),
-            Answer::Item(4),
-            Answer::Item(1),
-            Answer::End
-        ]
-        .as_slice()
-    );
-    Ok(())
+    expect_answers(&rt, &mut it, &[Item(3), Item(4), Item(1), End])
 }
 
 #[test]
 fn skip_while_skips_all(rt: HostRuntime) -> Result<(), Fail> {
     let it = listed::<u32, (), 5>(rt.alloc(), [Ok(1), Ok(2), Ok(3), Ok(4), Ok(1)])?;
     let mut it = it.skip_while(|x: &u32| Ok(*x < 5));
-    assert_eq!(rt; it.next(), Ok(None));
-    Ok(())
+    expect_answers(&rt, &mut it, &[End])
 }
 
 // Even gives 10 more, divisible by 3 none, and all else fails.
@@ -78,44 +55,19 @@ fn filter_map_fails_by_its_closure(rt: HostRuntime) -> Result<(), Fail> {
         [Ok(0), Ok(1), Ok(2), Ok(3), Ok(4), Ok(5), Ok(6)],
     )?;
     let mut it = it.filter_map(even_or_third);
-    assert_eq!(rt; it.next(), Ok(Some(10)));
-    assert_eq!(rt; it.next(), Err(1));
-    Ok(())
+    expect_answers(&rt, &mut it, &[Item(10), Failure(1)])
 }
 
 #[test]
 fn filter_map_leaves_out_nones(rt: HostRuntime) -> Result<(), Fail> {
     let it = listed::<u32, u32, 5>(rt.alloc(), [Ok(0), Ok(2), Ok(3), Ok(4), Ok(6)])?;
     let mut it = it.filter_map(even_or_third);
-    let drawn = answers(rt.alloc(), &mut it, 5)?;
-    assert_eq!(rt;
-        drawn.as_slice(),
-        [
-            Answer::Item(10),
-            Answer::Item(12),
-            Answer::Item(14),
-            Answer::Item(16),
-            Answer::End
-        ]
-        .as_slice()
-    );
-    Ok(())
+    expect_answers(&rt, &mut it, &[Item(10), Item(12), Item(14), Item(16), End])
 }
 
 #[test]
 fn filter_goes_on_after_a_failed_item(rt: HostRuntime) -> Result<(), Fail> {
     let it = listed::<u32, u32, 4>(rt.alloc(), [Ok(0), Ok(2), Ok(4), Ok(6)])?;
     let mut it = it.filter(|x: &u32| if *x == 2 { Err(2) } else { Ok(*x != 4) });
-    let drawn = answers(rt.alloc(), &mut it, 4)?;
-    assert_eq!(rt;
-        drawn.as_slice(),
-        [
-            Answer::Item(0),
-            Answer::Failure(2),
-            Answer::Item(6),
-            Answer::End
-        ]
-        .as_slice()
-    );
-    Ok(())
+    expect_answers(&rt, &mut it, &[Item(0), Failure(2), Item(6), End])
 }

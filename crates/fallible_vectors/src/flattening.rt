@@ -1,9 +1,9 @@
 // Adapters that join inner iterators.
+use crate::answered::expect_answers;
+use crate::collected::expect_collected;
 use crate::listed::listed;
-use fallible_iterator::laws::{Answer, answers};
-use fallible_iterator::{
-    FallibleIterator, Fault, IntoFallible, IntoFallibleIterator, from_fn, once,
-};
+use fallible_iterator::laws::Answer::{End, Failure, Item};
+use fallible_iterator::{FallibleIterator, IntoFallible, IntoFallibleIterator, from_fn, once};
 use std::convert::Infallible;
 use std::ops::Range;
 use std::test::Fail;
@@ -20,12 +20,7 @@ fn flatten_drops_an_inner_iterator_at_its_end(rt: HostRuntime) -> Result<(), Fai
         }
     });
     let mut it = listed(rt.alloc(), [Ok(inner), Err(7)])?.flatten();
-    let got = answers(rt.alloc(), &mut it, 3)?;
-    assert_eq!(rt;
-        got.as_slice(),
-        [Answer::Item(1), Answer::Failure(7), Answer::End].as_slice()
-    );
-    Ok(())
+    expect_answers(&rt, &mut it, &[Item(1), Failure(7), End])
 }
 
 #[test]
@@ -38,34 +33,33 @@ fn flatten_of_three_ranges(rt: HostRuntime) -> Result<(), Fail> {
             Ok(IntoFallible::from(1..5)),
         ],
     )?;
-    let made: Result<Vec<u32>, Fault<Infallible>> = it.flatten().take(9).collect(rt.alloc());
-    match made {
-        Ok(items) => assert_eq!(rt; items.as_slice(), [0, 1, 2, 3, 4].as_slice()),
-        Err(_) => panic!(rt; "the drain failed"),
-    }
+    let it = it.flatten().take(9);
+    expect_collected(&rt, it.collect(rt.alloc()), &[0, 1, 2, 3, 4]);
     Ok(())
 }
 
 #[test]
 fn flat_map_of_three_ranges(rt: HostRuntime) -> Result<(), Fail> {
     let it = listed::<Range<u32>, Infallible, 3>(rt.alloc(), [Ok(0..1), Ok(0..0), Ok(1..5)])?;
-    let made: Result<Vec<u32>, Fault<Infallible>> = it
+    let it = it
         .flat_map(|range: Range<u32>| -> Result<IntoFallible<Range<u32>>, Infallible> {
             Ok(IntoFallible::from(range))
         })
-        .take(9)
-        .collect(rt.alloc());
-    match made {
-        Ok(items) => assert_eq!(rt; items.as_slice(), [0, 1, 2, 3, 4].as_slice()),
-        Err(_) => panic!(rt; "the drain failed"),
-    }
+        .take(9);
+    expect_collected(&rt, it.collect(rt.alloc()), &[0, 1, 2, 3, 4]);
     Ok(())
 }
 
-// The first answer of the joined inner iterators, and how a fold stopped at the next item ends.
-fn draw_and_stop<U: IntoFallibleIterator<Item = u32, Error = u32>>(
-    inner: U,
-) -> (Result<Option<u32>, u32>, Result<u32, u32>)
+// The first answer of joined inner iterators, the outcome of a fold that was stopped at the next item, and the item that its closure saw.
+#[derive(Drop)]
+struct Stopped {
+    first: Result<Option<u32>, u32>,
+    outcome: Result<u32, u32>,
+    item: Option<u32>,
+}
+
+// Draws once, and folds with a closure that fails with 7 on its first item.
+fn draw_and_stop<U: IntoFallibleIterator<Item = u32, Error = u32>>(inner: U) -> Stopped
 where
     U: Drop,
     requires can { (c : U.IntoFallibleIter) → U.into_gives inner c → U.IntoFallibleIter.contract.can c }
@@ -73,8 +67,16 @@ where
 {
     let mut it = once::<U, u32>(inner).flatten();
     let first = it.next();
-    let stopped = it.try_fold(0, |_n: u32, _x: u32| -> Result<u32, u32> { Err(7) });
-    (first, stopped)
+    let mut item = None;
+    let outcome = it.try_fold(0, |_n: u32, x: u32| -> Result<u32, u32> {
+        item = Some(x);
+        Err(7)
+    });
+    Stopped {
+        first,
+        outcome,
+        item,
+    }
 }
 
 #[test]
@@ -90,12 +92,11 @@ fn flatten_draws_no_inner_end_ahead(rt: HostRuntime) -> Result<(), Fail> {
         }
     })
     .take(9);
-    let (first, stopped) = draw_and_stop(&mut s);
-    assert_eq!(rt; first, Ok(Some(1)));
-    assert_eq!(rt; stopped, Err(7));
-    assert_eq!(rt; s.next(), Ok(None));
-    assert_eq!(rt; s.next(), Ok(Some(3)));
-    Ok(())
+    let stopped = draw_and_stop(&mut s);
+    assert_eq!(rt; stopped.first, Ok(Some(1)));
+    assert_eq!(rt; stopped.outcome, Err(7));
+    assert_eq!(rt; stopped.item, Some(2));
+    expect_answers(&rt, &mut s, &[End, Item(3)])
 }
 
 #[test]
@@ -111,48 +112,5 @@ fn flat_map_keeps_its_closures_state(rt: HostRuntime) -> Result<(), Fail> {
             }
         },
     );
-    let got = answers(rt.alloc(), &mut it, 4)?;
-    assert_eq!(rt;
-        got.as_slice(),
-        [
-            Answer::Item(11),
-            Answer::Failure(20),
-            Answer::Item(33),
-            Answer::End
-        ]
-        .as_slice()
-    );
-    Ok(())
-}
-
-#[test]
-fn flatten_clones_its_inner_iterator_in_hand(rt: HostRuntime) -> Result<(), Fail> {
-    let mut it = listed::<IntoFallible<Range<u32>>, Infallible, 1>(
-        rt.alloc(),
-        [Ok(IntoFallible::from(1..3))],
-    )?.flatten();
-    assert_eq!(rt; it.size_hint(), (0, None));
-    assert_eq!(rt; it.next(), Ok(Some(1)));
-    let mut other = it.clone()?;
-    assert_eq!(rt; it.next(), Ok(Some(2)));
-    assert_eq!(rt; other.next(), Ok(Some(2)));
-    assert_eq!(rt; other.next(), Ok(None));
-    Ok(())
-}
-
-#[test]
-fn flat_map_clones_its_inner_iterator_in_hand(rt: HostRuntime) -> Result<(), Fail> {
-    let mut it = listed::<u32, Infallible, 1>(rt.alloc(), [Ok(1)])?.flat_map(|x: u32| -> Result<
-        IntoFallible<Range<u32>>,
-        Infallible,
-    > { Ok(IntoFallible::from(x..3)) });
-    assert_eq!(rt; it.size_hint(), (0, None));
-    let first = answers(rt.alloc(), &mut it, 1)?;
-    assert_eq!(rt; first.as_slice(), [Answer::Item(1)].as_slice());
-    let mut other = it.clone()?;
-    let got = answers(rt.alloc(), &mut it, 1)?;
-    assert_eq!(rt; got.as_slice(), [Answer::Item(2)].as_slice());
-    let got = answers(rt.alloc(), &mut other, 2)?;
-    assert_eq!(rt; got.as_slice(), [Answer::Item(2), Answer::End].as_slice());
-    Ok(())
+    expect_answers(&rt, &mut it, &[Item(11), Failure(20), Item(33), End])
 }

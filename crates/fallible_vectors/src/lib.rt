@@ -2,15 +2,19 @@
 #![tactic(auto)]
 
 #[cfg(test)]
+mod alike;
+#[cfg(test)]
+mod answered;
+#[cfg(test)]
 mod borrowed;
 #[cfg(test)]
 mod borrowed_items;
 #[cfg(test)]
 mod cloning;
 #[cfg(test)]
-mod collecting;
+mod collected;
 #[cfg(test)]
-mod counting_and_looking;
+mod collecting;
 #[cfg(test)]
 mod cutting;
 #[cfg(test)]
@@ -20,11 +24,11 @@ mod draining;
 #[cfg(test)]
 mod exact_count;
 #[cfg(test)]
-mod failure;
-#[cfg(test)]
 mod filtering;
 #[cfg(test)]
 mod flattening;
+#[cfg(test)]
+mod fusing;
 #[cfg(test)]
 mod joining;
 #[cfg(test)]
@@ -38,7 +42,11 @@ mod own_type;
 #[cfg(test)]
 mod peeking;
 #[cfg(test)]
+mod scripted;
+#[cfg(test)]
 mod sources;
+#[cfg(test)]
+mod test_error;
 #[cfg(test)]
 mod text;
 #[cfg(test)]

@@ -1,10 +1,12 @@
 // Adapters with one answer for each draw.
-use crate::failure::Failure;
+use crate::answered::expect_answers;
 use crate::listed::listed;
+use crate::test_error::TestError;
 use crate::text::Text;
-use fallible_iterator::laws::{Answer, answers};
-use fallible_iterator::{FallibleIterator, convert};
+use fallible_iterator::laws::Answer::{End, Failure, Item};
+use fallible_iterator::{FallibleIterator, IntoFallible, convert};
 use std::cell::Cell;
+use std::convert::Infallible;
 use std::test::Fail;
 
 #[test]
@@ -15,10 +17,7 @@ fn map_fails_on_an_item(rt: HostRuntime) -> Result<(), Fail> {
     } else {
         Ok(x.wrapping_mul(2))
     });
-    assert_eq!(rt; it.next(), Ok(Some(0)));
-    assert_eq!(rt; it.next(), Ok(Some(2)));
-    assert_eq!(rt; it.next(), Err(()));
-    Ok(())
+    expect_answers(&rt, &mut it, &[Item(0), Item(2), Failure(())])
 }
 
 #[test]
@@ -42,6 +41,14 @@ fn map_keeps_its_closure_where_a_fold_stops(rt: HostRuntime) -> Result<(), Fail>
 }
 
 #[test]
+fn map_is_shown_without_its_closure(rt: HostRuntime) -> Result<(), Fail> {
+    let it = IntoFallible::from(0..3u32).map(|x: u32| -> Result<u32, Infallible> { Ok(x) });
+    let text = format!(in rt.alloc(); "{it:?}")?;
+    assert_eq!(rt; text.as_str(), "Map { it: IntoFallible { it: 0..3 } }");
+    Ok(())
+}
+
+#[test]
 fn inspect_shows_each_item(rt: HostRuntime) -> Result<(), Fail> {
     let it = listed::<u32, (), 4>(rt.alloc(), [Ok(0), Ok(1), Ok(2), Ok(3)])?;
     let mut seen = Vec::new(rt.alloc());
@@ -60,53 +67,33 @@ fn inspect_shows_each_item(rt: HostRuntime) -> Result<(), Fail> {
 fn inspect_fails_on_an_item(rt: HostRuntime) -> Result<(), Fail> {
     let it = listed::<u32, u32, 3>(rt.alloc(), [Ok(1), Ok(2), Ok(3)])?;
     let mut it = it.inspect(|x: &u32| if *x == 2 { Err(20) } else { Ok(()) });
-    let drawn = answers(rt.alloc(), &mut it, 4)?;
-    assert_eq!(rt;
-        drawn.as_slice(),
-        [
-            Answer::Item(1),
-            Answer::Failure(20),
-            Answer::Item(3),
-            Answer::End
-        ]
-        .as_slice()
-    );
-    Ok(())
+    expect_answers(&rt, &mut it, &[Item(1), Failure(20), Item(3), End])
 }
 
 #[test]
 fn enumerate_counts_items_alone(rt: HostRuntime) -> Result<(), Fail> {
     let it = listed::<u32, (), 3>(rt.alloc(), [Ok(5), Err(()), Ok(6)])?;
     let mut it = it.enumerate();
-    let drawn = answers(rt.alloc(), &mut it, 3)?;
-    assert_eq!(rt;
-        drawn.as_slice(),
-        [
-            Answer::Item((0, 5)),
-            Answer::Failure(()),
-            Answer::Item((1, 6))
-        ]
-        .as_slice()
-    );
-    Ok(())
+    expect_answers(&rt, &mut it, &[Item((0, 5)), Failure(()), Item((1, 6))])
 }
 
 #[test]
 fn enumerate_numbers_four_items(rt: HostRuntime) -> Result<(), Fail> {
     let it = listed::<u32, (), 4>(rt.alloc(), [Ok(5), Ok(6), Ok(7), Ok(8)])?;
     let mut it = it.enumerate();
-    let drawn = answers(rt.alloc(), &mut it, 5)?;
-    assert_eq!(rt;
-        drawn.as_slice(),
-        [
-            Answer::Item((0, 5)),
-            Answer::Item((1, 6)),
-            Answer::Item((2, 7)),
-            Answer::Item((3, 8)),
-            Answer::End
-        ]
-        .as_slice()
-    );
+    expect_answers(
+        &rt,
+        &mut it,
+        &[Item((0, 5)), Item((1, 6)), Item((2, 7)), Item((3, 8)), End],
+    )
+}
+
+#[test]
+fn nth_of_enumerate_counts_the_items_that_it_drew(rt: HostRuntime) -> Result<(), Fail> {
+    let it = listed::<u32, (), 3>(rt.alloc(), [Ok(5), Err(()), Ok(6)])?;
+    let mut it = it.enumerate();
+    assert_eq!(rt; it.nth(1), Err(()));
+    assert_eq!(rt; it.next(), Ok(Some((1, 6))));
     Ok(())
 }
 
@@ -114,18 +101,7 @@ fn enumerate_numbers_four_items(rt: HostRuntime) -> Result<(), Fail> {
 fn scan_goes_on_after_a_none(rt: HostRuntime) -> Result<(), Fail> {
     let it = listed::<u32, (), 4>(rt.alloc(), [Ok(1), Ok(2), Ok(9), Ok(3)])?;
     let mut it = it.scan((), |_, x: u32| if x > 5 { Ok(None) } else { Ok(Some(x)) });
-    let drawn = answers(rt.alloc(), &mut it, 4)?;
-    assert_eq!(rt;
-        drawn.as_slice(),
-        [
-            Answer::Item(1),
-            Answer::Item(2),
-            Answer::End,
-            Answer::Item(3)
-        ]
-        .as_slice()
-    );
-    Ok(())
+    expect_answers(&rt, &mut it, &[Item(1), Item(2), End, Item(3)])
 }
 
 #[test]
@@ -138,18 +114,7 @@ fn scan_keeps_its_state(rt: HostRuntime) -> Result<(), Fail> {
         *sum = sum.wrapping_add(x);
         Ok(Some(sum.wrapping_neg()))
     });
-    let drawn = answers(rt.alloc(), &mut it, 4)?;
-    assert_eq!(rt;
-        drawn.as_slice(),
-        [
-            Answer::Item(-1),
-            Answer::Item(-3),
-            Answer::Item(-6),
-            Answer::End
-        ]
-        .as_slice()
-    );
-    Ok(())
+    expect_answers(&rt, &mut it, &[Item(-1), Item(-3), Item(-6), End])
 }
 
 #[test]
@@ -159,54 +124,26 @@ fn scan_keeps_its_state_after_a_failure(rt: HostRuntime) -> Result<(), Fail> {
         *sum = sum.wrapping_add(x);
         if *sum == 3 { Err(3) } else { Ok(Some(*sum)) }
     });
-    let drawn = answers(rt.alloc(), &mut it, 4)?;
-    assert_eq!(rt;
-        drawn.as_slice(),
-        [
-            Answer::Item(1),
-            Answer::Failure(3),
-            Answer::Item(6),
-            Answer::End
-        ]
-        .as_slice()
-    );
-    Ok(())
+    expect_answers(&rt, &mut it, &[Item(1), Failure(3), Item(6), End])
 }
 
 #[test]
 fn map_err_replaces_failures(rt: HostRuntime) -> Result<(), Fail> {
     let it = listed::<u32, u32, 2>(rt.alloc(), [Ok(1), Err(5)])?;
     let mut it = it.map_err(|e: u32| e.wrapping_add(100));
-    let drawn = answers(rt.alloc(), &mut it, 3)?;
-    assert_eq!(rt;
-        drawn.as_slice(),
-        [Answer::Item(1), Answer::Failure(105), Answer::End].as_slice()
-    );
-    Ok(())
+    expect_answers(&rt, &mut it, &[Item(1), Failure(105), End])
 }
 
 #[test]
-fn cloned_fails_where_a_clone_is_refused(rt: HostRuntime) {
+fn cloned_fails_where_a_clone_is_refused(rt: HostRuntime) -> Result<(), Fail> {
     let clones = Cell::new(0);
     let texts = ["a", "b", "c"].map(|text| Text {
         text,
         clones: &clones,
     });
-    let mut it = convert(texts.iter().map(|t| Ok::<&Text<'_>, Failure>(t))).cloned();
-    match it.next() {
-        Ok(Some(clone)) => assert_eq!(rt; clone.text, "a"),
-        _ => assert!(rt; false),
-    }
-    match it.next() {
-        Err(failure) => assert_eq!(rt; failure, Failure::Memory),
-        _ => assert!(rt; false),
-    }
-    match it.next() {
-        Ok(Some(clone)) => assert_eq!(rt; clone.text, "c"),
-        _ => assert!(rt; false),
-    }
-    match it.next() {
-        Ok(None) => {}
-        _ => assert!(rt; false),
-    }
+    let mut it = convert(texts.iter().map(|t| Ok::<&Text<'_>, TestError>(t)))
+        .cloned()
+        .map(|clone: Text<'_>| Ok(clone.text));
+    let refused = Failure(TestError::Memory);
+    expect_answers(&rt, &mut it, &[Item("a"), refused, Item("c"), End])
 }

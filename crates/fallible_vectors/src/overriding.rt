@@ -5,16 +5,18 @@ ghost use Rattle.fallible_iterator.specs.Laws.Contract.{lawful_seen};
 use crate::listed::listed;
 use fallible_iterator::FallibleIterator;
 use fallible_iterator::folds::Is;
+use std::cell::Cell;
 use std::test::Fail;
 
-// Numbers from a source, and how many folds were asked of them.
+// Numbers from a source, and how often each of its own folds was called.
 #[derive(Drop)]
-struct Watched<I> {
+struct Watched<'a, I> {
     it: I,
-    folds: u32,
+    try_folds: &'a Cell<u32>,
+    folds: &'a Cell<u32>,
 }
 
-impl<I: FallibleIterator<Item = u32, Error = u32>> FallibleIterator for Watched<I> {
+impl<'a, I: FallibleIterator<Item = u32, Error = u32>> FallibleIterator for Watched<'a, I> {
     type Item = u32;
 
     type Error = u32;
@@ -36,7 +38,7 @@ impl<I: FallibleIterator<Item = u32, Error = u32>> FallibleIterator for Watched<
         u32: Is<T>,
         F: FnMut(B, T) -> Result<B, E>,
     {
-        self.folds = self.folds.wrapping_add(1);
+        self.try_folds.set(self.try_folds.get().wrapping_add(1));
         self.it.try_fold(init, f)
     }
 
@@ -48,6 +50,7 @@ impl<I: FallibleIterator<Item = u32, Error = u32>> FallibleIterator for Watched<
         E: From<u32>,
         F: FnMut(B, T) -> Result<B, E>,
     {
+        self.folds.set(self.folds.get().wrapping_add(1));
         self.it.fold(init, f)
     }
 
@@ -57,7 +60,12 @@ impl<I: FallibleIterator<Item = u32, Error = u32>> FallibleIterator for Watched<
 #[test]
 fn its_own_try_fold_is_used(rt: HostRuntime) -> Result<(), Fail> {
     let it = listed::<u32, u32, 4>(rt.alloc(), [Ok(1), Ok(2), Ok(4), Ok(8)])?;
-    let mut watched = Watched { it, folds: 0 };
+    let (try_folds, folds) = (Cell::new(0), Cell::new(0));
+    let mut watched = Watched {
+        it,
+        try_folds: &try_folds,
+        folds: &folds,
+    };
     let stopped = watched.try_fold(0, |sum, x| {
         if x.is_power_of_two() && sum == 1 {
             Err(x)
@@ -66,15 +74,22 @@ fn its_own_try_fold_is_used(rt: HostRuntime) -> Result<(), Fail> {
         }
     });
     assert_eq!(rt; stopped, Err(2));
-    assert_eq!(rt; watched.folds, 1);
+    assert_eq!(rt; (try_folds.get(), folds.get()), (1, 0));
     assert_eq!(rt; watched.next(), Ok(Some(4)));
     Ok(())
 }
 
+// The trait's own `fold` goes through `try_fold`.
 #[test]
-fn its_own_fold_fails_as_its_source(rt: HostRuntime) -> Result<(), Fail> {
+fn its_own_fold_is_used_and_fails_as_its_source(rt: HostRuntime) -> Result<(), Fail> {
     let it = listed::<u32, u32, 3>(rt.alloc(), [Ok(1), Err(7), Ok(2)])?;
-    let watched = Watched { it, folds: 0 };
+    let (try_folds, folds) = (Cell::new(0), Cell::new(0));
+    let watched = Watched {
+        it,
+        try_folds: &try_folds,
+        folds: &folds,
+    };
     assert_eq!(rt; watched.fold(0, |sum, x| Ok(x.wrapping_add(sum))), Err(7));
+    assert_eq!(rt; (try_folds.get(), folds.get()), (0, 1));
     Ok(())
 }

@@ -3,8 +3,9 @@ ghost use Rattle.std.specs.Prelude.{◌≡◌, ◌+◌, MatchResult, MatchOption
 ghost use Rattle.std.proofs.Common.{rules};
 ghost use Rattle.fallible_iterator.specs.Contract.{counting_down};
 
+use crate::answered::expect_answers;
 use fallible_iterator::FallibleIterator;
-use fallible_iterator::laws::{Answer, answers};
+use fallible_iterator::laws::Answer::{End, Item};
 use std::test::Fail;
 
 // Counts down to 1, and then ends.
@@ -49,10 +50,5 @@ fn is_mapped_and_filtered(rt: HostRuntime) -> Result<(), Fail> {
     let mut doubled = it
         .map(|x| Ok(x.wrapping_mul(2)))
         .filter(|x| Ok(*x % 4 == 0));
-    let drawn = answers(rt.alloc(), &mut doubled, 3)?;
-    assert_eq!(rt;
-        drawn.as_slice(),
-        [Answer::Item(8), Answer::Item(4), Answer::End].as_slice()
-    );
-    Ok(())
+    expect_answers(&rt, &mut doubled, &[Item(8), Item(4), End])
 }

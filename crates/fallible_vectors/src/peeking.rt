@@ -3,10 +3,11 @@ ghost use Rattle.std.specs.Prelude.{◌≡◌, ⊤, Some, None, Ok, MatchResult}
 ghost use Rattle.fallible_iterator.specs.Peeking.Peekable.{Fills};
 ghost use Rattle.fallible_iterator.specs.Peeking.Peekable.{peekable_parts};
 
-use crate::failure::Failure;
+use crate::answered::expect_answers;
 use crate::listed::listed;
-use fallible_iterator::laws::{Answer, answers};
-use fallible_iterator::{FallibleIterator, Peekable, once, repeat};
+use crate::test_error::TestError;
+use fallible_iterator::laws::Answer::{End, Failure, Item};
+use fallible_iterator::{FallibleIterator, Peekable, convert, from_fn, once, repeat};
 use std::cell::Cell;
 use std::test::Fail;
 
@@ -15,9 +16,7 @@ fn peek_holds_no_failure(rt: HostRuntime) -> Result<(), Fail> {
     let mut it = listed::<u32, u32, 2>(rt.alloc(), [Err(4), Ok(5)])?.peekable();
     assert_eq!(rt; it.peek(), Err(4));
     assert_eq!(rt; it.peek(), Ok(Some(&5)));
-    assert_eq!(rt; it.next(), Ok(Some(5)));
-    assert_eq!(rt; it.next(), Ok(None));
-    Ok(())
+    expect_answers(&rt, &mut it, &[Item(5), End])
 }
 
 #[test]
@@ -25,9 +24,19 @@ fn peek_and_next_of_two_items(rt: HostRuntime) -> Result<(), Fail> {
     let mut it = listed::<u32, u32, 2>(rt.alloc(), [Ok(0), Ok(1)])?.peekable();
     assert_eq!(rt; it.peek(), Ok(Some(&0)));
     assert_eq!(rt; it.peek(), Ok(Some(&0)));
-    assert_eq!(rt; it.next(), Ok(Some(0)));
-    assert_eq!(rt; it.next(), Ok(Some(1)));
+    expect_answers(&rt, &mut it, &[Item(0), Item(1)])?;
     assert_eq!(rt; it.peek(), Ok(None));
+    assert_eq!(rt; it.next(), Ok(None));
+    Ok(())
+}
+
+#[test]
+fn peek_at_borrowed_items(rt: HostRuntime) -> Result<(), Fail> {
+    let numbers = [1u32, 2];
+    let mut it = convert(numbers.iter().map(|x| Ok::<&u32, u32>(x))).peekable();
+    assert_eq!(rt; it.peek(), Ok(Some(&&1)));
+    assert_eq!(rt; it.next(), Ok(Some(&1)));
+    assert_eq!(rt; it.next(), Ok(Some(&2)));
     assert_eq!(rt; it.next(), Ok(None));
     Ok(())
 }
@@ -66,18 +75,7 @@ fn next_if_answers_a_failure(rt: HostRuntime) -> Result<(), Fail> {
 fn peekable_gives_the_held_item_first(rt: HostRuntime) -> Result<(), Fail> {
     let mut it = listed::<u32, u32, 3>(rt.alloc(), [Ok(1), Err(2), Ok(3)])?.peekable();
     assert_eq!(rt; it.peek(), Ok(Some(&1)));
-    let got = answers(rt.alloc(), &mut it, 4)?;
-    assert_eq!(rt;
-        got.as_slice(),
-        [
-            Answer::Item(1),
-            Answer::Failure(2),
-            Answer::Item(3),
-            Answer::End
-        ]
-        .as_slice()
-    );
-    Ok(())
+    expect_answers(&rt, &mut it, &[Item(1), Failure(2), Item(3), End])
 }
 
 #[test]
@@ -100,20 +98,9 @@ fn peekable_hint_counts_the_held_item(rt: HostRuntime) {
 
 #[test]
 fn peekable_hint_stays_below_the_greatest_number(rt: HostRuntime) {
-    let mut it = repeat::<u32, Failure>(1).peekable();
+    let mut it = repeat::<u32, TestError>(1).peekable();
     assert_eq!(rt; it.peek(), Ok(Some(&1)));
     assert_eq!(rt; it.size_hint(), (usize::MAX, None));
-}
-
-#[test]
-fn a_clone_of_peekable_holds_the_item_too(rt: HostRuntime) -> Result<(), Fail> {
-    let mut it = once::<u32, u32>(1).peekable();
-    assert_eq!(rt; it.peek(), Ok(Some(&1)));
-    let mut copy = it.clone()?;
-    assert_eq!(rt; copy.next(), Ok(Some(1)));
-    assert_eq!(rt; copy.next(), Ok(None));
-    assert_eq!(rt; it.next(), Ok(Some(1)));
-    Ok(())
 }
 
 // Takes what is looked at. After `fill`, `held` tells whether it is an item or an end, and `next` is known to answer that without a draw.
@@ -167,5 +154,91 @@ fn next_if_calls_its_closure_once(rt: HostRuntime) -> Result<(), Fail> {
     };
     assert_eq!(rt; it.next_if(accept), Err(2));
     assert_eq!(rt; calls.get(), 1);
+    Ok(())
+}
+
+#[test]
+fn peek_holds_an_end(rt: HostRuntime) {
+    let mut calls = 0u32;
+    let mut it = from_fn(move || {
+        calls = calls.wrapping_add(1);
+        match calls {
+            2 => Ok::<Option<u32>, u32>(Some(7)),
+            _ => Ok(None),
+        }
+    })
+    .peekable();
+    assert_eq!(rt; it.peek(), Ok(None));
+    assert_eq!(rt; it.peek(), Ok(None));
+    assert_eq!(rt; it.next(), Ok(None));
+    assert_eq!(rt; it.next(), Ok(Some(7)));
+}
+
+fn sum(total: u32, x: u32) -> Result<u32, u32> {
+    Ok(total.wrapping_add(x))
+}
+
+#[test]
+fn a_held_end_ends_one_fold(rt: HostRuntime) {
+    let mut calls = 0u32;
+    let mut it = from_fn(move || {
+        calls = calls.wrapping_add(1);
+        match calls {
+            2 => Ok::<Option<u32>, u32>(Some(7)),
+            _ => Ok(None),
+        }
+    })
+    .take(5)
+    .peekable();
+    assert_eq!(rt; it.peek(), Ok(None));
+    assert_eq!(rt; it.size_hint(), (0, Some(0)));
+    assert_eq!(rt; it.next_if(|_x: &u32| true), Ok(None));
+    assert_eq!(rt; it.try_fold(0, sum), Ok(0));
+    assert_eq!(rt; it.try_fold(0, sum), Ok(7));
+}
+
+#[test]
+fn next_if_holds_the_end_that_it_draws(rt: HostRuntime) {
+    let mut calls = 0u32;
+    let mut it = from_fn(move || {
+        calls = calls.wrapping_add(1);
+        match calls {
+            2 => Ok::<Option<u32>, u32>(Some(7)),
+            _ => Ok(None),
+        }
+    })
+    .peekable();
+    assert_eq!(rt; it.next_if_eq(&7), Ok(None));
+    assert_eq!(rt; it.peek(), Ok(None));
+    assert_eq!(rt; it.next(), Ok(None));
+    assert_eq!(rt; it.next_if_eq(&7), Ok(Some(7)));
+}
+
+// Stops at 2.
+
+fn sum_up_to_two(total: u32, x: u32) -> Result<u32, u32> {
+    if x == 2 {
+        Err(7)
+    } else {
+        Ok(total.wrapping_add(x))
+    }
+}
+
+#[test]
+fn a_fold_that_stops_takes_the_held_item(rt: HostRuntime) -> Result<(), Fail> {
+    let mut it = listed::<u32, u32, 3>(rt.alloc(), [Ok(2), Ok(3), Ok(4)])?.peekable();
+    assert_eq!(rt; it.peek(), Ok(Some(&2)));
+    assert_eq!(rt; it.try_fold(0, sum_up_to_two), Err(7));
+    assert_eq!(rt; it.next(), Ok(Some(3)));
+    Ok(())
+}
+
+#[test]
+fn a_fold_stops_after_the_held_item(rt: HostRuntime) -> Result<(), Fail> {
+    let mut it = listed::<u32, u32, 3>(rt.alloc(), [Ok(1), Ok(2), Ok(3)])?.peekable();
+    assert_eq!(rt; it.peek(), Ok(Some(&1)));
+    assert_eq!(rt; it.try_fold(0, sum_up_to_two), Err(7));
+    assert_eq!(rt; it.peek(), Ok(Some(&3)));
+    assert_eq!(rt; it.next(), Ok(Some(3)));
     Ok(())
 }

@@ -1,10 +1,10 @@
 // Sources.
-use crate::failure::Failure;
+use crate::answered::expect_answers;
+use crate::collected::expect_collected;
+use crate::test_error::TestError;
 use crate::text::Text;
-use fallible_iterator::laws::{Answer, answers};
-use fallible_iterator::{
-    FallibleIterator, Fault, IteratorExt, empty, from_fn, once, repeat, repeat_err,
-};
+use fallible_iterator::laws::Answer::{End, Failure, Item};
+use fallible_iterator::{FallibleIterator, IteratorExt, empty, from_fn, once, repeat, repeat_err};
 use std::cell::Cell;
 use std::test::Fail;
 
@@ -19,77 +19,44 @@ fn from_fn_goes_on_after_an_end(rt: HostRuntime) -> Result<(), Fail> {
             _ => Ok(None),
         }
     });
-    let drawn = answers(rt.alloc(), &mut it, 4)?;
-    assert_eq!(rt;
-        drawn.as_slice(),
-        [Answer::Item(1), Answer::End, Answer::Item(2), Answer::End].as_slice()
-    );
-    Ok(())
+    expect_answers(&rt, &mut it, &[Item(1), End, Item(2), End])
 }
 
 #[test]
 fn empty_only_ends(rt: HostRuntime) -> Result<(), Fail> {
     let mut it = empty::<u32, u32>();
-    let drawn = answers(rt.alloc(), &mut it, 2)?;
-    assert_eq!(rt; drawn.as_slice(), [Answer::End, Answer::End].as_slice());
-    Ok(())
+    expect_answers(&rt, &mut it, &[End, End])
 }
 
 #[test]
 fn once_gives_its_item_and_ends(rt: HostRuntime) -> Result<(), Fail> {
     let mut it = once::<u32, u32>(5);
-    let drawn = answers(rt.alloc(), &mut it, 2)?;
-    assert_eq!(rt; drawn.as_slice(), [Answer::Item(5), Answer::End].as_slice());
-    Ok(())
+    expect_answers(&rt, &mut it, &[Item(5), End])
 }
 
 #[test]
 fn repeat_err_always_fails(rt: HostRuntime) -> Result<(), Fail> {
-    let mut it = repeat_err::<u32, Failure>(Failure::Number(4));
-    let drawn = answers(rt.alloc(), &mut it, 3)?;
-    assert_eq!(rt;
-        drawn.as_slice(),
-        [
-            Answer::Failure(Failure::Number(4)),
-            Answer::Failure(Failure::Number(4)),
-            Answer::Failure(Failure::Number(4))
-        ]
-        .as_slice()
-    );
-    Ok(())
+    let mut it = repeat_err::<u32, TestError>(TestError::Number(4));
+    let failure = || Failure(TestError::Number(4));
+    expect_answers(&rt, &mut it, &[failure(), failure(), failure()])
 }
 
 #[test]
-fn repeat_goes_on_after_a_refused_clone(rt: HostRuntime) {
+fn repeat_goes_on_after_a_refused_clone(rt: HostRuntime) -> Result<(), Fail> {
     let clones = Cell::new(0);
-    let mut it = repeat::<Text<'_>, Failure>(Text {
+    let value = Text {
         text: "x",
         clones: &clones,
-    });
-    match it.next() {
-        Ok(Some(clone)) => assert_eq!(rt; clone.text, "x"),
-        _ => assert!(rt; false),
-    }
-    match it.next() {
-        Err(failure) => assert_eq!(rt; failure, Failure::Memory),
-        _ => assert!(rt; false),
-    }
-    match it.next() {
-        Ok(Some(clone)) => assert_eq!(rt; clone.text, "x"),
-        _ => assert!(rt; false),
-    }
+    };
+    let mut it = repeat::<Text<'_>, TestError>(value).map(|clone: Text<'_>| Ok(clone.text));
+    let refused = Failure(TestError::Memory);
+    expect_answers(&rt, &mut it, &[Item("x"), refused, Item("x")])
 }
 
 #[test]
-fn repeat_is_cut_by_take(rt: HostRuntime) -> Result<(), Fail> {
-    let made: Result<Vec<u32>, Fault<Failure>> = repeat::<u32, Failure>(5)
-        .take(2)
-        .collect(rt.alloc());
-    match made {
-        Ok(items) => assert_eq!(rt; items.as_slice(), [5, 5].as_slice()),
-        Err(_) => assert!(rt; false),
-    }
-    Ok(())
+fn repeat_is_cut_by_take(rt: HostRuntime) {
+    let it = repeat::<u32, TestError>(5).take(2);
+    expect_collected(&rt, it.collect(rt.alloc()), &[5, 5]);
 }
 
 #[test]
@@ -97,18 +64,5 @@ fn transposed_gives_items_and_failures(rt: HostRuntime) -> Result<(), Fail> {
     let mut it = Vec::from_array(rt.alloc(), [Ok::<u32, u32>(1), Err(2)])?
         .into_iter()
         .transpose_into_fallible();
-    assert_eq!(rt; it.next(), Ok(Some(1)));
-    assert_eq!(rt; it.next(), Err(2));
-    assert_eq!(rt; it.next(), Ok(None));
-    Ok(())
-}
-
-#[test]
-fn a_clone_answers_as_its_original(rt: HostRuntime) -> Result<(), Fail> {
-    let mut it = once::<u32, u32>(5);
-    let mut copy = it.clone()?;
-    assert_eq!(rt; it.next(), Ok(Some(5)));
-    assert_eq!(rt; it.next(), Ok(None));
-    assert_eq!(rt; copy.next(), Ok(Some(5)));
-    Ok(())
+    expect_answers(&rt, &mut it, &[Item(1), Failure(2), End])
 }

@@ -1,8 +1,10 @@
 // The trait's own methods.
 ghost use Rattle.std.specs.Prelude.{◌≡◌, Ok};
 
+use crate::answered::expect_answers;
 use crate::listed::listed;
-use fallible_iterator::laws::{Answer, answers};
+use fallible_iterator::laws::Answer::{End, Failure, Item};
+use fallible_iterator::laws::answers;
 use fallible_iterator::{FallibleIterator, convert, once, once_err};
 use std::test::Fail;
 
@@ -71,20 +73,13 @@ fn try_fold_stops_and_leaves_the_rest(rt: HostRuntime) -> Result<(), Fail> {
         }
     });
     assert_eq!(rt; stopped, Err(7));
-    assert_eq!(rt; it.next(), Ok(Some(3)));
-    assert_eq!(rt; it.next(), Err(9));
-    Ok(())
+    expect_answers(&rt, &mut it, &[Item(3), Failure(9)])
 }
 
 #[test]
 fn answers_of_a_failure(rt: HostRuntime) -> Result<(), Fail> {
     let mut it = once_err::<u32, u32>(4);
-    let drawn = answers(rt.alloc(), &mut it, 3)?;
-    assert_eq!(rt;
-        drawn.as_slice(),
-        [Answer::Failure(4), Answer::End, Answer::End].as_slice()
-    );
-    Ok(())
+    expect_answers(&rt, &mut it, &[Failure(4), End, End])
 }
 
 #[test]
@@ -99,18 +94,7 @@ fn no_answers_draw_nothing(rt: HostRuntime) -> Result<(), Fail> {
 #[test]
 fn answers_go_on_after_a_failure(rt: HostRuntime) -> Result<(), Fail> {
     let mut it = listed::<u32, u32, 3>(rt.alloc(), [Ok(1), Err(2), Ok(3)])?;
-    let drawn = answers(rt.alloc(), &mut it, 4)?;
-    assert_eq!(rt;
-        drawn.as_slice(),
-        [
-            Answer::Item(1),
-            Answer::Failure(2),
-            Answer::Item(3),
-            Answer::End
-        ]
-        .as_slice()
-    );
-    Ok(())
+    expect_answers(&rt, &mut it, &[Item(1), Failure(2), Item(3), End])
 }
 
 #[test]

@@ -6,7 +6,7 @@ use Rattle.fallible_vectors.proofs.overriding.WatchedFallibleIterator.fold.Goals
 
 -- another source in the place of the one held
 abbrev put : {I : Type 0} → Watched I → I → Watched I
-put w it = record { it = it; folds = w.folds }
+put w it = record { it = it; try_folds = w.try_folds; folds = w.folds }
 
 pub fold-requires-clause-callable : goal.fold-requires-clause-callable
 fold-requires-clause-callable g c = holds_held (λ w. w.it) put (λ w it. refl) g.I.FallibleIterator.contract c.requires.callable

@@ -2,13 +2,13 @@
 use std::alloc::AllocError;
 
 #[derive(Clone, Debug, PartialEq, Eq, Drop)]
-pub enum Failure {
+pub enum TestError {
     Number(u32),
     Memory,
 }
 
-impl From<AllocError> for Failure {
-    fn from(_refused: AllocError) -> Failure {
-        Failure::Memory
+impl From<AllocError> for TestError {
+    fn from(_refused: AllocError) -> TestError {
+        TestError::Memory
     }
 }

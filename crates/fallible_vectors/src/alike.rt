@@ -1,0 +1,32 @@
+// What a clone and its original answer.
+ghost use Rattle.fallible_iterator.specs.Contract.{Stays};
+
+use crate::answered::expect_answers;
+use fallible_iterator::FallibleIterator;
+use fallible_iterator::laws::Answer;
+use std::fmt::Debug;
+use std::process::Abort;
+use std::test::Fail;
+
+// Fails the test where a clone, then the original, and then a second clone, made before either was drawn from, don't each give the answers expected, or hint otherwise than one another.
+pub fn expect_alike<I: FallibleIterator + Clone>(
+    rt: &(impl Abort + AllocGlobal),
+    it: &mut I,
+    expected: &[Answer<I::Item, I::Error>],
+) -> Result<(), Fail>
+where
+    I::Item: Debug + Drop + PartialEq,
+    I::Error: Debug + Drop + PartialEq,
+    requires can { I.contract.can it.old }
+    requires clones { (c : I) → I.is_clone it.old c → I.contract.can c }
+    ensures { Stays I.contract it.old it.new }
+{
+    let mut first = it.clone()?;
+    let mut last = it.clone()?;
+    assert_eq!(rt; first.size_hint(), it.size_hint());
+    expect_answers(rt, &mut first, expected)?;
+    expect_answers(rt, it, expected)?;
+    expect_answers(rt, &mut last, expected)?;
+    assert_eq!(rt; last.size_hint(), it.size_hint());
+    Ok(())
+}

@@ -1,0 +1,44 @@
+// A source of listed answers, ends among them.
+ghost use Rattle.std.specs.Prelude.{◌≡◌, ◌+◌, ◌≤◌, MatchResult, MatchOption};
+ghost use Rattle.std.proofs.Common.{rules};
+ghost use Rattle.std.specs.Vec.Iter.{into_iter_len};
+ghost use Rattle.fallible_iterator.specs.Contract.{counting_down};
+
+use fallible_iterator::FallibleIterator;
+use std::alloc::{AllocError, Global};
+use std::vec::IntoIter;
+
+// Gives the answers, and then ends.
+#[derive(Clone, Drop)]
+pub struct Script<T, E> {
+    answers: IntoIter<Result<Option<T>, E>>,
+}
+
+impl<T: Drop, E: Drop> FallibleIterator for Script<T, E> {
+    type Item = T;
+
+    type Error = E;
+
+    ghost contract = { counting_down (λ s r t. MatchResult r (λ o. MatchOption o (into_iter_len t.answers ≤ into_iter_len s.answers) (λ _. into_iter_len t.answers + 1 ≡ into_iter_len s.answers)) (λ _. into_iter_len t.answers ≤ into_iter_len s.answers)) (λ s. into_iter_len s.answers) };
+
+    fn next(&mut self) -> Result<Option<T>, E> {
+        match self.answers.next() {
+            Some(answer) => answer,
+            None => Ok(None),
+        }
+    }
+
+    fn size_hint(&self) -> (usize, Option<usize>) {
+        (0, None)
+    }
+
+    ghost lawful = { Prim.search rules };
+}
+
+pub fn scripted<T: Drop, E: Drop, const N: usize>(
+    alloc: Global,
+    answers: [Result<Option<T>, E>; N],
+) -> Result<Script<T, E>, AllocError> {
+    let answers = Vec::from_array(alloc, answers)?.into_iter();
+    Ok(Script { answers })
+}
