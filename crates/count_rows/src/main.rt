@@ -6,11 +6,16 @@
 //! printed.
 #![tactic(auto)]
 
-use fallible_rows::{fault_line, run};
+use fallible_rows::{RowFault, fault_line, run};
+use std::io::BufReader;
 use std::process::ExitCode;
 
 fn main(rt: HostRuntime) -> ExitCode {
-    let Err(fault) = run(rt.alloc(), &mut rt.stdin(), &mut rt.stdout()) else {
+    let outcome = match BufReader::new(rt.alloc(), rt.stdin()) {
+        Ok(mut reader) => run(rt.alloc(), &mut reader, &mut rt.stdout()),
+        Err(_) => Err(RowFault::Memory),
+    };
+    let Err(fault) = outcome else {
         return ExitCode::SUCCESS;
     };
     match fault_line(&fault, &mut rt.stderr()) {

@@ -4,8 +4,6 @@ use Rattle.fallible_iterator.specs.Traces.{Answered, end}
 use Rattle.fallible_iterator.specs.Contract.{Contract}
 use Rattle.fallible_iterator.specs.WithSteps.{with_steps}
 
--- ---- adapters that one place closes for good
-
 -- the last place is there and closes
 abbrev pub ClosesLast : {Q : Type 0} → (Q → Bool) → List Q → Type 0
 ClosesLast {Q} closes places = (front : List Q) × (x : Q) × (places ≡ front ++ x ∷ []) × (closes x ≡ true)

@@ -1,4 +1,4 @@
--- Cutting: one file for each type.
+-- Adapters that cut a trace off: one file a type.
 pub mod Fuse
 pub mod Skip
 pub mod StepBy

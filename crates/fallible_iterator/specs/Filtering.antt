@@ -1,4 +1,4 @@
--- Filtering: one file for each type.
+-- Adapters that leave items out: one file a type.
 pub mod Filter
 pub mod FilterMap
 pub mod SkipWhile

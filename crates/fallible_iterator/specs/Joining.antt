@@ -1,4 +1,4 @@
--- Joining: one file for each type.
+-- Adapters that join traces: one file a type.
 pub mod Chain
 pub mod Cycle
 pub mod Flatten

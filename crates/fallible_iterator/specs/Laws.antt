@@ -1,4 +1,4 @@
--- Laws: one file for each type.
+-- What follows from the definitions: the lemmas that ghost members cite.
 pub mod Borrowed
 pub mod Closing
 pub mod Closures

@@ -1,4 +1,4 @@
--- OneToOne: one file for each type.
+-- Adapters with one answer for each draw: one file a type.
 pub mod Cloned
 pub mod Enumerate
 pub mod Inspect

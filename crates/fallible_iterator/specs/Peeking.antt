@@ -1,2 +1,2 @@
--- Peeking: one file for each type.
+-- The adapter that looks ahead.
 pub mod Peekable

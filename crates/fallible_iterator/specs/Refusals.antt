@@ -1,8 +1,6 @@
 -- A refused clone.
 use Rattle.std.specs.declared.alloc.AllocError.{AllocError}
 
--- ---- `Empty`, `Repeat` and `RepeatErr`
-
 -- a clone of k may be refused, and e is the failure made of the refusal
 abbrev pub RefusedAs : {S E : Type 0} → (S → Type 0) → (AllocError → E → Type 0) → S → E → Type 0
 RefusedAs is_infallible from k e = ¬ (is_infallible k) × ((a : AllocError) × from a e)

@@ -1,4 +1,4 @@
--- Sources: one file for each type.
+-- Sources: one file a type.
 pub mod Convert
 pub mod Empty
 pub mod FromFn

@@ -1,100 +1,206 @@
--- Lemmas on what is reported of rows.
-use Rattle.std.proofs.Common.{◌≡◌, ℕ, ◌+◌, Bool, true, false, cond, nat_lt, List, [], ◌∷◌, map, refl, sym, ap, subst, ◌∙◌, arith, Option, Some, None, Result, MatchResult, is_none, unwrap_or, Ok, Err, count_by, fold}
+-- Lemmas on what is reported of rows that were answered.
+use Rattle.std.proofs.Common.{◌≡◌, ℕ, zero, suc, ◌+◌, ◌-◌, ◌<◌, ◌≤◌, inl, inr, true, false, cond, nat_lt, List, [], ◌∷◌, ◌++◌, length, take, map, refl, sym, ap, subst, ◌∙◌, arith, append_assoc, Option, Some, None, is_none, unwrap_or, Ok, Err, count_by, position, IfSome}
 use Rattle.std.specs.List.{position_from}
-use Rattle.std.proofs.lemmas.Bool.{cond-false}
+use Rattle.std.specs.Io.KnownBytes.{Consumes, IsAtEnd}
+use Rattle.std.proofs.KnownBytes.{Consumes-whole}
+use Rattle.std.proofs.lemmas.Bool.{cond-true, cond-false}
 use Rattle.std.proofs.lemmas.Iterator.Adapters.{position_from-zero}
-use Rattle.fallible_iterator.specs.OneToOne.Map.{map_outcome}
-use Rattle.fallible_iterator.specs.Filtering.Filter.{filter_outcome}
+use Rattle.std.proofs.lemmas.List.{take_at, take_all, length_push}
+use Rattle.std.proofs.lemmas.List.Elements.{All-nil, All-cons, All-head, All-tail, All-take}
+use Rattle.std.proofs.lemmas.List.Sums.{sum_by-cons}
+use Rattle.fallible_iterator.specs.Traces.{Answered, item, failure, end}
 use Rattle.fallible_rows.specs.declared.fault.RowFault.{RowFault}
 use Rattle.fallible_rows.specs.declared.fault.RowFault.TheVariants.{Row}
-use Rattle.fallible_rows.specs.Rows.{row_number}
-use Rattle.fallible_rows.specs.Report.{row_limit, first_rows, is_refused, is_above, unless_refused, tally}
-use Rattle.fallible_rows.proofs.ChainLemmas.{numbered, passed, counted}
+use Rattle.fallible_rows.specs.Rows.{rows, row_number}
+use Rattle.fallible_rows.specs.Report.{row_limit, first_rows, is_refused, is_above, unless_refused, tally, report, line_of_count}
+use Rattle.fallible_rows.specs.RowTraces.{told_place, answer_of_number, row_answer, row_answers, IsClosed}
+use Rattle.fallible_rows.specs.Run.{AreNumbers, but_last, ReadsFront}
+use Rattle.fallible_rows.proofs.RowLemmas.{rows-closed, rows-none}
 
 pub row_limit-is : row_limit ≡ 1000000
 unfolding row_limit
 row_limit-is = refl
 
--- a number where there is one, and else the fault at a place
-abbrev pub number_or_place : {E : Type 0} → (ℕ → E) → Option ℕ → ℕ → Result ℕ E
-number_or_place fault (Some number) place = Ok number
-number_or_place fault None place = Err (fault place)
+abbrev Answers : Type 0
+Answers = List (Answered ℕ RowFault)
 
--- what the closure of `map` answers at an element and its place
-abbrev pub number_at : {X E : Type 0} → (X → Option ℕ) → (ℕ → E) → X × ℕ → Result ℕ E
-number_at number_of fault p = number_or_place fault (number_of p.0) p.1
+-- how many of the items are above 100
+abbrev pub above : List ℕ → ℕ
+above [] = 0
+above (x ∷ xs) = cond (nat_lt 100 x) 1 0 + above xs
 
--- what the closure of `filter` answers at a number
-abbrev pub passes : {E : Type 0} → (ℕ → Bool) → ℕ → Result Bool E
-passes test number = Ok (test number)
+-- a row that is not refused
+abbrev pub is_taken : List ℕ → Type 0
+is_taken row = is_refused row ≡ false
 
-module _ {X E : Type 0} (number_of : X → Option ℕ) (test : ℕ → Bool) (fault : ℕ → E) where
-  abbrev refuses : X → Bool
-  refuses x = is_none (number_of x)
+-- ---- answers that are items
 
-  abbrev counts : X → Bool
-  counts x = test (unwrap_or (number_of x) 0)
+-- a row whose answer is an item
+item_row : (place : ℕ) (row : List ℕ) (o : Option ℕ) (x : ℕ) → row_number row ≡ o → answer_of_number place o ≡ item x → is_taken row × (is_above row ≡ nat_lt 100 x)
+item_row place row (Some n) x is e = let same : n ≡ x = cc in (ap is_none is, ap (λ o. nat_lt 100 (unwrap_or o 0)) is ∙ ap (λ k. nat_lt 100 k) same)
+item_row place row None x is e = absurd cc
 
-  abbrev plus : ℕ → X → ℕ
-  plus n x = n + cond (counts x) 1 0
+-- rows whose answers are items
+pub record ItemRows (rs : List (List ℕ)) (xs : List ℕ) : Type 0 where
+  pub numbers : AreNumbers rs
+  pub long : length rs ≡ length xs
+  pub count : count_by is_above rs ≡ above xs
 
-  -- the count of the chain, from the element at index i on, after n that count
-  abbrev pub chain_count : ℕ → ℕ → List X → Result ℕ E
-  chain_count i n xs = counted n (passed (λ y. filter_outcome y (passes test y)) (passed (λ p. map_outcome p (number_at number_of fault p)) (map (λ p. Ok p) (numbered (i + 1) xs))))
+pub item_rows : (place : ℕ) (rs : List (List ℕ)) (xs : List ℕ) → row_answers place rs ≡ map item xs → ItemRows rs xs
+item_rows place [] [] e = record { numbers = All-nil is_taken; long = refl; count = refl }
+item_rows place [] (x ∷ xs) e = absurd cc
+item_rows place (row ∷ rest) [] e = absurd cc
+item_rows place (row ∷ rest) (x ∷ xs) e =
+    let first : row_answer place row ≡ item x = cc in
+    let h = item_row place row (row_number row) x refl first in
+    let others = item_rows (place + 1) rest xs cc in
+    record {
+      numbers = All-cons is_taken row rest h.0 others.numbers;
+      long = let l = others.long in omega (arith, l);
+      count = sum_by-cons (λ r. cond (is_above r) 1 0) row rest ∙ ap (λ b. cond b 1 0 + count_by is_above rest) h.1 ∙ ap (λ n. cond (nat_lt 100 x) 1 0 + n) others.count;
+    }
 
-  -- a count where none is refused, and else the fault at the place of the first that is
-  abbrev IsCount : ℕ → ℕ → List X → Result ℕ E → Type 0
-  IsCount i n xs r = MatchResult r (λ c. (position_from refuses i xs ≡ None) × (c ≡ fold plus n xs)) (λ e. (j : ℕ) × (e ≡ fault (j + 1)) × (position_from refuses i xs ≡ Some j))
+-- rows whose last answer alone is a failure
+pub record RefusedRows (place : ℕ) (rs : List (List ℕ)) (xs : List ℕ) (e : RowFault) : Type 0 where
+  pub good : List (List ℕ)
+  pub bad : List ℕ
+  pub are : rs ≡ good ++ bad ∷ []
+  pub numbers : AreNumbers good
+  pub refused : is_refused bad ≡ true
+  pub long : length good ≡ length xs
+  pub fault : e ≡ Row (told_place (place + length good))
 
-  -- an element that is not refused, before the others
-  more : (x : X) (xs : List X) (i n m : ℕ) (r : Result ℕ E) → refuses x ≡ false → plus n x ≡ m → IsCount (i + 1) m xs r → IsCount i n (x ∷ xs) r
-  more x xs i n m (Ok c) taken is h = (cond-false _ _ _ taken ∙ h.0, h.1 ∙ ap (λ k. fold plus k xs) (sym is))
-  more x xs i n m (Err e) taken is h = (h.0, h.1, cond-false _ _ _ taken ∙ h.2)
+failure_row : (place : ℕ) (row : List ℕ) (o : Option ℕ) (e : RowFault) → row_number row ≡ o → answer_of_number place o ≡ failure e → (is_refused row ≡ true) × (e ≡ Row (told_place place))
+failure_row place row (Some n) e is h = absurd cc
+failure_row place row None e is h = (ap is_none is, cc)
 
-  chain_above : (x : X) (xs : List X) (i n k : ℕ) → number_of x ≡ Some k → test k ≡ true → chain_count (i + 1) (n + 1) xs ≡ chain_count i n (x ∷ xs)
-  chain_above x xs i n k is above_limit = rw (is, above_limit) refl
+pub refused_rows : (place : ℕ) (rs : List (List ℕ)) (xs : List ℕ) (e : RowFault) → row_answers place rs ≡ map item xs ++ failure e ∷ [] → RefusedRows place rs xs e
+refused_rows place [] [] e h = absurd cc
+refused_rows place [] (x ∷ xs) e h = absurd cc
+refused_rows place (row ∷ []) [] e h =
+    let first : row_answer place row ≡ failure e = cc in
+    let f = failure_row place row (row_number row) e refl first in
+    let same : place ≡ place + 0 = omega arith in
+    record { good = []; bad = row; are = refl; numbers = All-nil is_taken; refused = f.0; long = refl; fault = f.1 ∙ ap (λ k. Row (told_place k)) same }
+refused_rows place (row ∷ r ∷ rest) [] e h = absurd cc
+refused_rows place (row ∷ rest) (x ∷ xs) e h =
+    let first : row_answer place row ≡ item x = cc in
+    let taken = item_row place row (row_number row) x refl first in
+    let others = refused_rows (place + 1) rest xs e cc in
+    let same : (place + 1) + length others.good ≡ place + length (row ∷ others.good) = omega arith in
+    record {
+      good = row ∷ others.good;
+      bad = others.bad;
+      are = ap (λ l. row ∷ l) others.are;
+      numbers = All-cons is_taken row others.good taken.0 others.numbers;
+      refused = others.refused;
+      long = let l = others.long in omega (arith, l);
+      fault = others.fault ∙ ap (λ k. Row (told_place k)) same;
+    }
 
-  chain_not : (x : X) (xs : List X) (i n k : ℕ) → number_of x ≡ Some k → test k ≡ false → chain_count (i + 1) n xs ≡ chain_count i n (x ∷ xs)
-  chain_not x xs i n k is not_above = rw (is, not_above) refl
+no_end_row : (place : ℕ) (o : Option ℕ) → answer_of_number place o ≡ end → ⊥
+no_end_row place (Some n) e = cc
+no_end_row place None e = cc
 
-  counts_on : (x : X) (xs : List X) (i n k : ℕ) (b : Bool) → number_of x ≡ Some k → test k ≡ b → ((m : ℕ) → IsCount (i + 1) m xs (chain_count (i + 1) m xs)) → IsCount i n (x ∷ xs) (chain_count i n (x ∷ xs))
-  counts_on x xs i n k true is above_limit rest =
-      let c : counts x ≡ true = ap (λ o. test (unwrap_or o 0)) is ∙ above_limit in
-      let h = more x xs i n (n + 1) (chain_count (i + 1) (n + 1) xs) (ap is_none is) (ap (λ d. n + cond d 1 0) c) (rest (n + 1)) in
-      subst (λ r. IsCount i n (x ∷ xs) r) (chain_above x xs i n k is above_limit) h
-  counts_on x xs i n k false is not_above rest =
-      let c : counts x ≡ false = ap (λ o. test (unwrap_or o 0)) is ∙ not_above in
-      let none_more : n + 0 ≡ n = omega arith in
-      let same : plus n x ≡ n = ap (λ d. n + cond d 1 0) c ∙ none_more in
-      let h = more x xs i n n (chain_count (i + 1) n xs) (ap is_none is) same (rest n) in
-      subst (λ r. IsCount i n (x ∷ xs) r) (chain_not x xs i n k is not_above) h
+-- no row's answer is an end
+pub no_end : (place : ℕ) (rs : List (List ℕ)) (xs : List ℕ) → row_answers place rs ≡ map item xs ++ end ∷ [] → ⊥
+no_end place [] [] e = absurd cc
+no_end place [] (x ∷ xs) e = absurd cc
+no_end place (row ∷ rest) [] e = no_end_row place (row_number row) cc
+no_end place (row ∷ rest) (x ∷ xs) e = no_end (place + 1) rest xs cc
 
-  one_more : (x : X) (xs : List X) (i n : ℕ) (o : Option ℕ) → number_of x ≡ o → ((m : ℕ) → IsCount (i + 1) m xs (chain_count (i + 1) m xs)) → IsCount i n (x ∷ xs) (chain_count i n (x ∷ xs))
-  one_more x xs i n (Some k) is rest = counts_on x xs i n k (test k) is refl rest
-  one_more x xs i n None is rest = rw is (i, refl, refl)
+-- ---- reports
 
-  pub chain_counts : (xs : List X) (i n : ℕ) → IsCount i n xs (chain_count i n xs)
-  chain_counts [] i n = (refl, refl)
-  chain_counts (x ∷ xs) i n = one_more x xs i n (number_of x) refl (λ m. chain_counts xs (i + 1) m)
+none_refused : (i : ℕ) (rs : List (List ℕ)) → AreNumbers rs → position_from is_refused i rs ≡ None
+none_refused i [] h = refl
+none_refused i (row ∷ rest) h = cond-false _ _ _ (All-head is_taken row rest h) ∙ none_refused (i + 1) rest (All-tail is_taken row rest h)
 
--- the chain's answer on rows
-abbrev pub rows_count : List (List ℕ) → Result ℕ RowFault
-rows_count xs = chain_count row_number (λ number. nat_lt 100 number) (λ place. Row place) 0 0 xs
+first_refused : (i : ℕ) (good : List (List ℕ)) (bad : List ℕ) (more : List (List ℕ)) → AreNumbers good → is_refused bad ≡ true → position_from is_refused i (good ++ bad ∷ more) ≡ Some (i + length good)
+first_refused i [] bad more h refused = let same : i ≡ i + 0 = omega arith in cond-true _ _ _ refused ∙ ap (λ k. Some k) same
+first_refused i (row ∷ rest) bad more h refused =
+    let same : (i + 1) + length rest ≡ i + length (row ∷ rest) = omega arith in
+    cond-false _ _ _ (All-head is_taken row rest h) ∙ first_refused (i + 1) rest bad more (All-tail is_taken row rest h) refused ∙ ap (λ k. Some k) same
 
-abbrev pub IsTally : List ℕ → Result ℕ RowFault → Type 0
-IsTally bytes r = MatchResult r (λ count. tally bytes ≡ Ok count) (λ e. (place : ℕ) × (e ≡ Row place) × (tally bytes ≡ Err place))
+pub tally-numbers : (bytes : List ℕ) → AreNumbers (rows bytes) → length (rows bytes) ≤ row_limit → tally bytes ≡ Ok (count_by is_above (rows bytes))
+tally-numbers bytes numbers few =
+    let all : first_rows bytes ≡ rows bytes = take_all row_limit (rows bytes) few in
+    let at = position_from-zero is_refused (rows bytes) ∙ none_refused 0 (rows bytes) numbers in
+    ap (λ rs. unless_refused (position is_refused rs) (count_by is_above rs)) all ∙ ap (λ o. unless_refused o (count_by is_above (rows bytes))) at
 
-abbrev IsRowsCount : List (List ℕ) → Result ℕ RowFault → Type 0
-IsRowsCount xs r = MatchResult r (λ c. (position_from is_refused 0 xs ≡ None) × (c ≡ count_by is_above xs)) (λ e. (j : ℕ) × (e ≡ Row (j + 1)) × (position_from is_refused 0 xs ≡ Some j))
+-- the first rows up to and with one within the limit
+take_bad : (n : ℕ) (good : List (List ℕ)) (bad : List ℕ) (more : List (List ℕ)) → length good < n → (rest : List (List ℕ)) × (take n (good ++ bad ∷ more) ≡ good ++ bad ∷ rest)
+take_bad zero good bad more l = absurd (omega arith)
+take_bad (suc n) [] bad more l = (take n more, refl)
+take_bad (suc n) (row ∷ good) bad more l = let h = take_bad n good bad more (omega arith) in (h.0, ap (λ rs. row ∷ rs) h.1)
 
-tally_of : (bytes : List ℕ) (r : Result ℕ RowFault) → IsRowsCount (first_rows bytes) r → IsTally bytes r
-tally_of bytes (Ok c) h = let place = position_from-zero is_refused (first_rows bytes) ∙ h.0 in
-    ap (λ p. unless_refused p (count_by is_above (first_rows bytes))) place ∙ ap (λ m. Ok m) (sym h.1)
-tally_of bytes (Err e) h = let place = position_from-zero is_refused (first_rows bytes) ∙ h.2 in
-    (h.0 + 1, h.1, ap (λ p. unless_refused p (count_by is_above (first_rows bytes))) place)
+pub tally-refused : (bytes : List ℕ) (good : List (List ℕ)) (bad : List ℕ) (more : List (List ℕ)) → rows bytes ≡ good ++ bad ∷ more → AreNumbers good → is_refused bad ≡ true → length good < row_limit → tally bytes ≡ Err (length good + 1)
+tally-refused bytes good bad more are numbers refused few =
+    let h = take_bad row_limit good bad more few in
+    let first : first_rows bytes ≡ good ++ bad ∷ h.0 = ap (take row_limit) are ∙ h.1 in
+    let at = ap (position is_refused) first ∙ position_from-zero is_refused (good ++ bad ∷ h.0) ∙ first_refused 0 good bad h.0 numbers refused in
+    let none : 0 + length good ≡ length good = omega arith in
+    ap (λ o. unless_refused o (count_by is_above (first_rows bytes))) at ∙ ap (λ n. Err (n + 1)) none
 
--- the chain's answer on the rows that are looked at is the tally of the bytes
-pub tally-counted : (bytes : List ℕ) (xs : List (List ℕ)) (r : Result ℕ RowFault) → xs ≡ first_rows bytes → r ≡ rows_count xs → IsTally bytes r
-tally-counted bytes xs r are is =
-    let h : IsRowsCount xs (rows_count xs) = chain_counts row_number (λ number. nat_lt 100 number) (λ place. Row place) xs 0 0 in
-    tally_of bytes r (subst (λ ys. IsRowsCount ys r) are (subst (λ s. IsRowsCount xs s) (sym is) h))
+-- ---- the front that is read
+
+-- what follows the bytes doesn't change their report
+abbrev SameWithMore : List ℕ → Type 0
+SameWithMore bytes = (more : List ℕ) → report bytes ≡ report (bytes ++ more)
+
+same_report-deciding : (old new : Option (List ℕ)) (bytes : List ℕ) → Consumes old new bytes → SameWithMore bytes → IfSome old (λ known. report bytes ≡ report known)
+same_report-deciding None new bytes taken same = tt
+same_report-deciding (Some x) None bytes taken same = absurd taken
+same_report-deciding (Some x) (Some y) bytes taken same = same y ∙ ap report (sym taken)
+
+-- closed bytes with as many rows as are looked at
+full_same : (bytes : List ℕ) → IsClosed bytes → length (rows bytes) ≡ row_limit → SameWithMore bytes
+full_same bytes closed long more =
+    let rest : first_rows (bytes ++ more) ≡ rows bytes = ap (take row_limit) (rows-closed bytes more closed) ∙ take_at (rows bytes) (rows more) row_limit long in
+    let all : first_rows bytes ≡ rows bytes = take_all row_limit (rows bytes) (omega (arith, long)) in
+    ap (λ rs. line_of_count (unless_refused (position is_refused rs) (count_by is_above rs))) (all ∙ sym rest)
+
+-- closed bytes of which the last row alone is refused
+refused_same : (bytes : List ℕ) (good : List (List ℕ)) (bad : List ℕ) → IsClosed bytes → rows bytes ≡ good ++ bad ∷ [] → AreNumbers good → is_refused bad ≡ true → length good < row_limit → SameWithMore bytes
+refused_same bytes good bad closed are numbers refused few more =
+    let joined : rows (bytes ++ more) ≡ good ++ bad ∷ rows more = rows-closed bytes more closed ∙ ap (λ rs. rs ++ rows more) are ∙ append_assoc good (bad ∷ []) (rows more) in
+    ap line_of_count (tally-refused bytes good bad [] are numbers refused few ∙ sym (tally-refused (bytes ++ more) good bad (rows more) joined numbers refused few))
+
+-- closed bytes with rows end with a newline
+ends_with_newline : (bytes : List ℕ) → IsClosed bytes → 0 < length (rows bytes) → (front : List ℕ) × (bytes ≡ front ++ 10 ∷ [])
+ends_with_newline bytes (inl none) some = absurd (let e = ap (λ l. length (rows l)) none ∙ ap length rows-none in omega (arith, some, e))
+ends_with_newline bytes (inr h) some = h
+
+but_last-numbers : (rs : List (List ℕ)) → AreNumbers rs → AreNumbers (but_last rs)
+but_last-numbers rs h = All-take is_taken (length rs - 1) rs h
+
+but_last-good : (rs good : List (List ℕ)) (bad : List ℕ) → rs ≡ good ++ bad ∷ [] → AreNumbers good → AreNumbers (but_last rs)
+but_last-good rs good bad are h =
+    let long : length (good ++ bad ∷ []) - 1 ≡ length good = omega (arith, length_push good bad) in
+    subst (λ l. AreNumbers (but_last l)) (sym are) (subst AreNumbers (sym (ap (λ n. take n (good ++ bad ∷ [])) long ∙ take_at good (bad ∷ []) (length good) refl)) h)
+
+module _ (old new : Option (List ℕ)) (bytes : List ℕ) (taken : Consumes old new bytes) where
+  pub front_at_end : IsAtEnd new → AreNumbers (but_last (rows bytes)) → length (rows bytes) ≤ row_limit → ReadsFront old new bytes
+  front_at_end at_end numbers few = record { taken = taken; none_sooner = (numbers, few); closed = inr at_end; same_report = Consumes-whole old new bytes (λ known. report bytes ≡ report known) taken at_end refl }
+
+  pub front_full : IsClosed bytes → AreNumbers (rows bytes) → length (rows bytes) ≡ row_limit → ReadsFront old new bytes
+  front_full closed numbers long = record {
+    taken = taken;
+    none_sooner = (but_last-numbers (rows bytes) numbers, omega (arith, long));
+    closed = inl (ends_with_newline bytes closed (omega (arith, long, row_limit-is)), inl long);
+    same_report = same_report-deciding old new bytes taken (full_same bytes closed long);
+  }
+
+  pub front_refused : (good : List (List ℕ)) (bad : List ℕ) → IsClosed bytes → rows bytes ≡ good ++ bad ∷ [] → AreNumbers good → is_refused bad ≡ true → length good < row_limit → ReadsFront old new bytes
+  front_refused good bad closed are numbers refused few =
+      let long : length (rows bytes) ≡ length good + 1 = ap length are ∙ length_push good bad in
+      record {
+        taken = taken;
+        none_sooner = (but_last-good (rows bytes) good bad are numbers, omega (arith, long, few));
+        closed = inl (ends_with_newline bytes closed (omega (arith, long)), inr (length good + 1, ap line_of_count (tally-refused bytes good bad [] are numbers refused few)));
+        same_report = same_report-deciding old new bytes taken (refused_same bytes good bad closed are numbers refused few);
+      }
+
+  pub front_refused_at_end : (good : List (List ℕ)) (bad : List ℕ) → IsAtEnd new → rows bytes ≡ good ++ bad ∷ [] → AreNumbers good → length good < row_limit → ReadsFront old new bytes
+  front_refused_at_end good bad at_end are numbers few =
+      let long : length (rows bytes) ≡ length good + 1 = ap length are ∙ length_push good bad in
+      front_at_end at_end (but_last-good (rows bytes) good bad are numbers) (omega (arith, long, few))

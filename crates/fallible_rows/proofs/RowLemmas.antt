@@ -1,16 +1,19 @@
 -- Lemmas on rows and on the numbers that they write.
-use Rattle.std.proofs.Common.{◌≡◌, ℕ, ◌+◌, ◌-◌, ◌*◌, ◌^◌, ◌<◌, ◌≤◌, Bool, true, false, List, [], ◌∷◌, ◌++◌, length, take, get_or, eqb, lit≤, refl, sym, ap, ◌∙◌, arith, Some, None}
+use Rattle.std.proofs.Common.{◌≡◌, ◌≢◌, ℕ, ◌+◌, ◌-◌, ◌*◌, ◌<◌, ◌≤◌, Bool, true, false, List, [], ◌∷◌, ◌++◌, length, take, get_or, eqb, lit≤, refl, sym, ap, subst, ◌∙◌, arith, append_assoc, Some, None, inl, inr}
 use Rattle.std.specs.List.{slice_split, onto_first}
 use Rattle.std.specs.Str.{all_ascii_digits}
 use Rattle.std.specs.Str.Parse.{AllDigits, digits_value}
 use Rattle.std.specs.Char.{digit_value}
 use Rattle.std.specs.Int.{IsInRange}
-use Rattle.std.proofs.lemmas.Bool.{and_parts, and_from, lt-ltb, le-ltb, leb-true, le-leb, false_from_ne_true, cond-true, cond-false, ne_eqb}
+use Rattle.std.proofs.Math.Seq.{get_or-append_seam}
+use Rattle.std.proofs.lemmas.Bool.{and_parts, and_from, lt-ltb, le-ltb, leb-true, le-leb, false_from_ne_true, cond-true, cond-false, ne_eqb, eqb-true, eqb-false}
 use Rattle.std.proofs.lemmas.List.Splits.{slice_split-cons_yes, slice_split-cons_no, length-slice_split}
-use Rattle.std.proofs.lemmas.List.{get_or_push, take_at, take_all, length_push}
+use Rattle.std.proofs.lemmas.List.Elements.{All-nil, All-cons, All-head, All-tail}
+use Rattle.std.proofs.lemmas.List.{get_or_push, take_at, length_push, length-append}
 use Rattle.std.proofs.lemmas.Str.Parse.{tells_all_ascii_digits, numerals_by_value, IsNumeralModel, digit_at, digits_value-take-le}
-use Rattle.std.proofs.lemmas.Int.Digits.{digits_more, digits_value_more}
+use Rattle.std.proofs.lemmas.Int.Digits.{digits_push, digits_value_push}
 use Rattle.fallible_rows.specs.Rows.{rows, is_newline, is_number, row_number, without_empty_last}
+use Rattle.fallible_rows.specs.RowTraces.{IsOneRow, IsClosed}
 
 -- what the test of a number says
 pub record IsNumber (row : List ℕ) : Type 0 where
@@ -59,96 +62,164 @@ row_number-by_value row i large =
 digit_value-digit : (c : ℕ) → IsInRange 48 57 c → digit_value c ≡ c - 48
 digit_value-digit c h = cond-false _ _ _ (le-ltb c 48 h.0) ∙ cond-true _ _ _ (lt-ltb c 58 (omega arith))
 
+-- ---- bytes and one more
+
 -- one more digit
-pub digits_value-next : (row : List ℕ) (i : ℕ) → i < length row → IsInRange 48 57 (get_or row i 0)
-    → digits_value 10 (take (i + 1) row) ≡ digits_value 10 (take i row) * 10 + (get_or row i 0 - 48)
-digits_value-next row i l h =
-    digits_value_more 10 row i l ∙ ap (λ d. digits_value 10 (take i row) * 10 + d) (digit_value-digit (get_or row i 0) h)
+digits_value-more : (bytes : List ℕ) (byte : ℕ) → IsInRange 48 57 byte → digits_value 10 (bytes ++ byte ∷ []) ≡ digits_value 10 bytes * 10 + (byte - 48)
+digits_value-more bytes byte h = digits_value_push 10 bytes byte ∙ ap (λ d. digits_value 10 bytes * 10 + d) (digit_value-digit byte h)
 
-pub AllDigits-next : (row : List ℕ) (i : ℕ) → i < length row → IsInRange 48 57 (get_or row i 0)
-    → AllDigits 10 (take i row) → AllDigits 10 (take (i + 1) row)
-AllDigits-next row i l h before =
-    digits_more 10 row i l before (rw digit_value-digit (omega (arith, h.0, h.1)))
+-- what the number of a row says of it
+pub number_of_row : (row : List ℕ) (n : ℕ) → row_number row ≡ Some n → IsNumber row × (digits_value 10 row ≡ n)
+number_of_row row n is = by_test (is_number row) refl
+  where
+    by_test : (b : Bool) → is_number row ≡ b → IsNumber row × (digits_value 10 row ≡ n)
+    by_test true h = let number = IsNumber-from_test row h in let e = row_number-number row number in (number, cc)
+    by_test false h = let e : row_number row ≡ None = cond-false _ _ _ h in absurd cc
 
--- all digits read
-pub row_number-all : (row : List ℕ) (i : ℕ) (n : ℕ) → length row ≤ i → 0 < length row → length row ≤ 20 → n < 2 ^ 64
-    → n ≡ digits_value 10 (take i row) → AllDigits 10 (take i row) → Some n ≡ row_number row
-row_number-all row i n end some few small value digits =
-    let all : take i row ≡ row = take_all i row end in
-    let is : n ≡ digits_value 10 row = rw all at value in
-    let number : IsNumber row = record { digits = rw all at digits; some = omega arith; few = few; fits = omega arith } in
-    ap (λ m. Some m) is ∙ sym (row_number-number row number)
+pub row_number-first : (byte : ℕ) → IsInRange 48 57 byte → row_number (byte ∷ []) ≡ Some (byte - 48)
+row_number-first byte h =
+    let value = digits_value-more [] byte h in
+    let zero_value : digits_value 10 [] ≡ 0 = refl in
+    let is : digits_value 10 (byte ∷ []) ≡ byte - 48 = omega (arith, value, zero_value) in
+    let digit = digit_value-digit byte h in
+    let below : digit_value byte < 10 = omega (arith, digit, h.0, h.1) in
+    let number : IsNumber (byte ∷ []) = record { digits = digits_push 10 [] byte tt below; some = omega arith; few = omega arith; fits = omega (arith, is, h.0, h.1) } in
+    row_number-number (byte ∷ []) number ∙ ap (λ v. Some v) is
+
+pub row_number-more : (bytes : List ℕ) (byte n : ℕ) → row_number bytes ≡ Some n → length bytes < 20 → IsInRange 48 57 byte → n * 10 + (byte - 48) ≤ 18446744073709551615 → row_number (bytes ++ byte ∷ []) ≡ Some (n * 10 + (byte - 48))
+row_number-more bytes byte n is few h fits =
+    let before = number_of_row bytes n is in
+    let value = digits_value-more bytes byte h in
+    let digit = digit_value-digit byte h in
+    let below : digit_value byte < 10 = omega (arith, digit, h.0, h.1) in
+    let same : digits_value 10 (bytes ++ byte ∷ []) ≡ n * 10 + (byte - 48) = omega (arith, value, before.1) in
+    let number : IsNumber (bytes ++ byte ∷ []) = record { digits = digits_push 10 bytes byte before.0.digits below; some = omega (arith, length_push bytes byte); few = omega (arith, length_push bytes byte); fits = omega (arith, same) } in
+    row_number-number (bytes ++ byte ∷ []) number ∙ ap (λ v. Some v) same
+
+-- rows that are no number, whatever follows
+pub row_number-other_byte : (bytes : List ℕ) (byte : ℕ) (more : List ℕ) → (IsInRange 48 57 byte → ⊥) → row_number ((bytes ++ byte ∷ []) ++ more) ≡ None
+row_number-other_byte bytes byte more other =
+    let joined : (bytes ++ byte ∷ []) ++ more ≡ bytes ++ byte ∷ more = append_assoc bytes (byte ∷ []) more in
+    let long = length-append bytes (byte ∷ more) in
+    let at : get_or (bytes ++ byte ∷ more) (length bytes) 0 ≡ byte = get_or-append_seam bytes byte more 0 in
+    ap row_number joined ∙ row_number-by_digit (bytes ++ byte ∷ more) (length bytes) (omega (arith, long)) (λ inside. other (subst (IsInRange 48 57) at inside))
+
+pub row_number-too_long : (bytes : List ℕ) (byte : ℕ) (more : List ℕ) → 20 ≤ length bytes → row_number ((bytes ++ byte ∷ []) ++ more) ≡ None
+row_number-too_long bytes byte more long =
+    row_number-no_number ((bytes ++ byte ∷ []) ++ more) (λ n. let few = n.few in omega (arith, length-append (bytes ++ byte ∷ []) more, length_push bytes byte, few))
+
+pub row_number-too_great : (bytes : List ℕ) (byte n : ℕ) (more : List ℕ) → row_number bytes ≡ Some n → IsInRange 48 57 byte → 18446744073709551615 < n * 10 + (byte - 48) → row_number ((bytes ++ byte ∷ []) ++ more) ≡ None
+row_number-too_great bytes byte n more is h great =
+    let before = number_of_row bytes n is in
+    let value = digits_value-more bytes byte h in
+    let front : take (length (bytes ++ byte ∷ [])) ((bytes ++ byte ∷ []) ++ more) ≡ bytes ++ byte ∷ [] = take_at (bytes ++ byte ∷ []) more (length (bytes ++ byte ∷ [])) refl in
+    row_number-by_value ((bytes ++ byte ∷ []) ++ more) (length (bytes ++ byte ∷ [])) (rw front (omega (arith, value, before.1)))
+
+-- ---- rows, one after another
+
+-- a byte that is no newline
+abbrev pub not_newline : ℕ → Type 0
+not_newline byte = byte ≢ 10
+
+newline_no : (byte : ℕ) → byte ≢ 10 → is_newline byte ≡ false
+newline_no byte other = ne_eqb byte 10 other
+
+-- a list of one element or more ends in one
+record Ends {X : Type 0} (xs : List X) : Type 0 where
+  front : List X
+  last : X
+  is : xs ≡ front ++ last ∷ []
+
+ends_cons : {X : Type 0} (x : X) (xs : List X) → Ends xs → Ends (x ∷ xs)
+ends_cons x xs e = record { front = x ∷ e.front; last = e.last; is = ap (λ l. x ∷ l) e.is }
+
+ends_of : {X : Type 0} (x : X) (xs : List X) → Ends (x ∷ xs)
+ends_of x [] = record { front = []; last = x; is = refl }
+ends_of x (y ∷ ys) = ends_cons x (y ∷ ys) (ends_of y ys)
 
 -- a list of pieces whose last one is an empty one, or is not
-pub without_empty_last-empty : (pieces : List (List ℕ)) → without_empty_last (pieces ++ [] ∷ []) ≡ pieces
+without_empty_last-empty : (pieces : List (List ℕ)) → without_empty_last (pieces ++ [] ∷ []) ≡ pieces
 without_empty_last-empty pieces =
     let n : length (pieces ++ [] ∷ []) - 1 ≡ length pieces = omega (arith, length_push pieces []) in
     rw (n, get_or_push pieces [] [] (length pieces) refl) (take_at pieces ([] ∷ []) (length pieces) refl)
 
-pub without_empty_last-full : (pieces : List (List ℕ)) (last : List ℕ) → 0 < length last → without_empty_last (pieces ++ last ∷ []) ≡ pieces ++ last ∷ []
+without_empty_last-full : (pieces : List (List ℕ)) (last : List ℕ) → 0 < length last → without_empty_last (pieces ++ last ∷ []) ≡ pieces ++ last ∷ []
 without_empty_last-full pieces last full =
     let n : length (pieces ++ last ∷ []) - 1 ≡ length pieces = omega (arith, length_push pieces last) in
     let ne : eqb (length last) 0 ≡ false = ne_eqb _ _ (λ e. omega arith) in
     rw (n, get_or_push pieces last [] (length pieces) refl) (cond-false _ _ _ ne)
 
--- the pieces of a list that ends in an element y which is no separator: the last one ends in y too
-pub record EndsIn {X : Type 0} (y : X) (pieces : List (List X)) : Type 0 where
-  pub front : List (List X)
-  pub part : List X
-  pub is : pieces ≡ front ++ (part ++ y ∷ []) ∷ []
+-- a piece before others
+without_empty_last-onto : (piece : List ℕ) (front : List (List ℕ)) (last : List ℕ) → without_empty_last (piece ∷ (front ++ last ∷ [])) ≡ piece ∷ without_empty_last (front ++ last ∷ [])
+without_empty_last-onto piece front [] = without_empty_last-empty (piece ∷ front) ∙ ap (λ l. piece ∷ l) (sym (without_empty_last-empty front))
+without_empty_last-onto piece front (x ∷ xs) = without_empty_last-full (piece ∷ front) (x ∷ xs) (omega arith) ∙ ap (λ l. piece ∷ l) (sym (without_empty_last-full front (x ∷ xs) (omega arith)))
 
-EndsIn-onto_first : {X : Type 0} (x y : X) (front : List (List X)) (part : List X) → EndsIn y (onto_first x (front ++ (part ++ y ∷ []) ∷ []))
-EndsIn-onto_first x y [] part = record { front = []; part = x ∷ part; is = refl }
-EndsIn-onto_first x y (f ∷ fs) part = record { front = (x ∷ f) ∷ fs; part = part; is = refl }
+without_empty_last-cons : (piece : List ℕ) (pieces : List (List ℕ)) → 0 < length pieces → without_empty_last (piece ∷ pieces) ≡ piece ∷ without_empty_last pieces
+without_empty_last-cons piece [] some = absurd (omega arith)
+without_empty_last-cons piece (p ∷ ps) some =
+    let e = ends_of p ps in
+    ap (λ l. without_empty_last (piece ∷ l)) e.is ∙ without_empty_last-onto piece e.front e.last ∙ ap (λ l. piece ∷ without_empty_last l) (sym e.is)
 
-module _ {X : Type 0} (p : X → Bool) where
-  EndsIn-cons : (x y : X) (xs : List X) → EndsIn y (slice_split p xs) → (b : Bool) → p x ≡ b → EndsIn y (slice_split p (x ∷ xs))
-  EndsIn-cons x y xs e true is_so =
-      record { front = [] ∷ e.front; part = e.part; is = slice_split-cons_yes p x xs is_so ∙ ap (λ l. [] ∷ l) e.is }
-  EndsIn-cons x y xs e false not_so =
-      let more = EndsIn-onto_first x y e.front e.part in
-      record { front = more.front; part = more.part; is = slice_split-cons_no p x xs not_so ∙ ap (onto_first x) e.is ∙ more.is }
+split-row : (row rest : List ℕ) → IsOneRow row → slice_split is_newline (row ++ 10 ∷ rest) ≡ row ∷ slice_split is_newline rest
+split-row [] rest one = slice_split-cons_yes is_newline 10 rest refl
+split-row (x ∷ xs) rest one =
+    slice_split-cons_no is_newline x (xs ++ 10 ∷ rest) (newline_no x (All-head not_newline x xs one)) ∙ ap (onto_first x) (split-row xs rest (All-tail not_newline x xs one))
 
-  pub EndsIn-slice_split : (xs : List X) (y : X) → p y ≡ false → EndsIn y (slice_split p (xs ++ y ∷ []))
-  EndsIn-slice_split [] y not_so = record { front = []; part = []; is = slice_split-cons_no p y [] not_so }
-  EndsIn-slice_split (x ∷ xs) y not_so = EndsIn-cons x y (xs ++ y ∷ []) (EndsIn-slice_split xs y not_so) (p x) refl
+split-one : (row : List ℕ) → IsOneRow row → slice_split is_newline row ≡ row ∷ []
+split-one [] one = refl
+split-one (x ∷ xs) one = slice_split-cons_no is_newline x xs (newline_no x (All-head not_newline x xs one)) ∙ ap (onto_first x) (split-one xs (All-tail not_newline x xs one))
 
-  onto_first-append : (x : X) (pieces more : List (List X)) → 0 < length pieces → onto_first x (pieces ++ more) ≡ onto_first x pieces ++ more
-  onto_first-append x [] more some = absurd (omega arith)
-  onto_first-append x (f ∷ fs) more some = refl
+-- the rows of no bytes, of a row and more, and of one row
+pub rows-none : rows [] ≡ []
+rows-none = without_empty_last-empty []
 
-  slice_split-some : (xs : List X) → 0 < length (slice_split p xs)
-  slice_split-some xs = omega (arith, length-slice_split p xs)
+pub rows-row : (row rest : List ℕ) → IsOneRow row → rows (row ++ 10 ∷ rest) ≡ row ∷ rows rest
+rows-row row rest one =
+    ap without_empty_last (split-row row rest one) ∙ without_empty_last-cons row (slice_split is_newline rest) (omega (arith, length-slice_split is_newline rest))
 
-  slice_split_push-cons : (x y : X) (xs : List X) → slice_split p (xs ++ y ∷ []) ≡ slice_split p xs ++ [] ∷ [] → (b : Bool) → p x ≡ b
-      → slice_split p (x ∷ (xs ++ y ∷ [])) ≡ slice_split p (x ∷ xs) ++ [] ∷ []
-  slice_split_push-cons x y xs e true is_so =
-      slice_split-cons_yes p x (xs ++ y ∷ []) is_so ∙ ap (λ l. [] ∷ l) e ∙ ap (λ l. l ++ [] ∷ []) (sym (slice_split-cons_yes p x xs is_so))
-  slice_split_push-cons x y xs e false not_so =
-      slice_split-cons_no p x (xs ++ y ∷ []) not_so ∙ ap (onto_first x) e
-      ∙ onto_first-append x (slice_split p xs) ([] ∷ []) (slice_split-some xs)
-      ∙ ap (λ l. l ++ [] ∷ []) (sym (slice_split-cons_no p x xs not_so))
+pub rows-one : (row : List ℕ) → IsOneRow row → row ≢ [] → rows row ≡ row ∷ []
+rows-one [] one some = absurd (some refl)
+rows-one (x ∷ xs) one some = ap without_empty_last (split-one (x ∷ xs) one) ∙ without_empty_last-full [] (x ∷ xs) (omega arith)
 
-  -- a separator at the end makes one more piece, an empty one
-  pub slice_split_push : (xs : List X) (y : X) → p y ≡ true → slice_split p (xs ++ y ∷ []) ≡ slice_split p xs ++ [] ∷ []
-  slice_split_push [] y is_so = slice_split-cons_yes p y [] is_so
-  slice_split_push (x ∷ xs) y is_so = slice_split_push-cons x y xs (slice_split_push xs y is_so) (p x) refl
+-- ---- closed bytes
 
--- the rows of bytes that end in a newline, and of bytes that do not
-pub rows-newline : (front : List ℕ) → rows (front ++ 10 ∷ []) ≡ slice_split is_newline front
-rows-newline front =
-    ap without_empty_last (slice_split_push is_newline front 10 refl) ∙ without_empty_last-empty (slice_split is_newline front)
+-- closed bytes, row by row
+pub data ClosedRows : List ℕ → Type 0 where
+  no_rows : {bytes : List ℕ} → bytes ≡ [] → ClosedRows bytes
+  row_then : {bytes : List ℕ} (row rest : List ℕ) → bytes ≡ row ++ 10 ∷ rest → IsOneRow row → ClosedRows rest → ClosedRows bytes
 
-pub rows-no_newline : (front : List ℕ) (last : ℕ) → is_newline last ≡ false → rows (front ++ last ∷ []) ≡ slice_split is_newline (front ++ last ∷ [])
-rows-no_newline front last not_so =
-    let e = EndsIn-slice_split is_newline front last not_so in
-    let full : 0 < length (e.part ++ last ∷ []) = omega (arith, length_push e.part last) in
-    ap without_empty_last e.is ∙ without_empty_last-full e.front (e.part ++ last ∷ []) full ∙ sym e.is
+IsClosed-tail : (x y : ℕ) (ys : List ℕ) → IsClosed (x ∷ y ∷ ys) → IsClosed (y ∷ ys)
+IsClosed-tail x y ys (inl e) = absurd cc
+IsClosed-tail x y ys (inr ([], e)) = absurd cc
+IsClosed-tail x y ys (inr (z ∷ zs, e)) = inr (zs, cc)
 
--- bytes that are a list of one byte or more
-pub rows-last_newline : (bytes front : List ℕ) (last : ℕ) → bytes ≡ front ++ last ∷ [] → last ≡ 10 → slice_split is_newline front ≡ rows bytes
-rows-last_newline bytes front last is newline = sym (ap rows (is ∙ ap (λ b. front ++ b ∷ []) newline) ∙ rows-newline front)
+newline_last : (x : ℕ) → IsClosed (x ∷ []) → x ≡ 10
+newline_last x (inl e) = absurd cc
+newline_last x (inr ([], e)) = cc
+newline_last x (inr (z ∷ [], e)) = absurd cc
+newline_last x (inr (z ∷ w ∷ zs, e)) = absurd cc
 
-pub rows-last_other : (bytes front : List ℕ) (last : ℕ) → bytes ≡ front ++ last ∷ [] → (last ≡ 10 → ⊥) → slice_split is_newline bytes ≡ rows bytes
-rows-last_other bytes front last is other =
-    rw is (sym (rows-no_newline front last (ne_eqb last 10 other)))
+onto_closed : (x y : ℕ) (ys : List ℕ) → ClosedRows (y ∷ ys) → (b : Bool) → is_newline x ≡ b → ClosedRows (x ∷ y ∷ ys)
+onto_closed x y ys h true is = row_then [] (y ∷ ys) (ap (λ b. b ∷ y ∷ ys) (eqb-true x 10 is)) (All-nil not_newline) h
+onto_closed x y ys (no_rows e) false other = absurd cc
+onto_closed x y ys (row_then row rest e one h) false other = row_then (x ∷ row) rest (ap (λ l. x ∷ l) e) (All-cons not_newline x row (eqb-false x 10 other) one) h
+
+pub closed_rows : (bytes : List ℕ) → IsClosed bytes → ClosedRows bytes
+closed_rows [] h = no_rows refl
+closed_rows (x ∷ []) h = row_then [] [] (ap (λ b. b ∷ []) (newline_last x h)) (All-nil not_newline) (no_rows refl)
+closed_rows (x ∷ y ∷ ys) h = onto_closed x y ys (closed_rows (y ∷ ys) (IsClosed-tail x y ys h)) (is_newline x) refl
+
+-- a row before closed bytes
+pub IsClosed-row : (row rest : List ℕ) → IsClosed rest → IsClosed (row ++ 10 ∷ rest)
+IsClosed-row row rest (inl e) = inr (row, ap (λ l. row ++ 10 ∷ l) e)
+IsClosed-row row rest (inr (front, e)) = inr (row ++ 10 ∷ front, ap (λ l. row ++ 10 ∷ l) e ∙ sym (append_assoc row (10 ∷ front) (10 ∷ [])))
+
+-- the rows of closed bytes and more
+rows-closed_rows : (bytes more : List ℕ) → ClosedRows bytes → rows (bytes ++ more) ≡ rows bytes ++ rows more
+rows-closed_rows bytes more (no_rows e) = ap (λ l. rows (l ++ more)) e ∙ ap (λ l. l ++ rows more) (sym rows-none) ∙ ap (λ l. rows l ++ rows more) (sym e)
+rows-closed_rows bytes more (row_then row rest e one h) =
+    ap (λ l. rows (l ++ more)) e ∙ ap rows (append_assoc row (10 ∷ rest) more) ∙ rows-row row (rest ++ more) one ∙ ap (λ l. row ∷ l) (rows-closed_rows rest more h)
+    ∙ ap (λ l. l ++ rows more) (sym (rows-row row rest one)) ∙ ap (λ l. rows l ++ rows more) (sym e)
+
+pub rows-closed : (bytes more : List ℕ) → IsClosed bytes → rows (bytes ++ more) ≡ rows bytes ++ rows more
+rows-closed bytes more h = rows-closed_rows bytes more (closed_rows bytes h)

@@ -1,4 +1,9 @@
+pub mod Counting
+pub mod Digits
 pub mod Fault
+pub mod Reading
 pub mod Report
+pub mod RowTraces
 pub mod Rows
 pub mod Run
+pub mod Unbounded

@@ -1,27 +1,55 @@
 -- What a run does to its reader and its writer.
-use Rattle.std.specs.Prelude.{◌≡◌, ℕ, List, IfSome, Option, Ok, Err}
+use Rattle.std.specs.Prelude.{◌≡◌, ℕ, ◌-◌, ◌≤◌, ◌<◌, ◌⊎◌, false, List, [], ◌∷◌, ◌++◌, length, take, All, IfSome, Option, Ok, Err}
 use Rattle.std.specs.Io.KnownBytes.{Appends, Consumes, IsAtEnd}
-use Rattle.fallible_rows.specs.Report.{report}
+use Rattle.fallible_rows.specs.Rows.{rows}
+use Rattle.fallible_rows.specs.RowTraces.{IsOneRow, IsClosed}
+use Rattle.fallible_rows.specs.Report.{row_limit, is_refused, report}
 
--- a reader gave these bytes, which are all that it had left where that is known, and is at its end
-pub record ReadsAll (old new : Option (List ℕ)) (bytes : List ℕ) : Type 0 where
-  pub all : IfSome old (λ known. bytes ≡ known)
-  pub at_end : IsAtEnd new
+-- each of the rows is a number
+abbrev pub AreNumbers : List (List ℕ) → Type 0
+AreNumbers rs = All (λ row. is_refused row ≡ false) rs
+
+-- the rows but the last
+abbrev pub but_last : List (List ℕ) → List (List ℕ)
+but_last rs = take (length rs - 1) rs
+
+-- the bytes close with row 1,000,000, or with the first row that is refused
+abbrev pub CloseDeciding : List ℕ → Type 0
+CloseDeciding bytes =
+    ((front : List ℕ) × (bytes ≡ front ++ 10 ∷ []))
+    × ((length (rows bytes) ≡ row_limit) ⊎ ((place : ℕ) × (report bytes ≡ Err place)))
+
+-- A reader lost these first bytes of those that it had, and no others. They are those up to and with the newline that closes the first row that is refused, or row 1,000,000, whichever is first, and else all that it had; and their report is that of all.
+pub record ReadsFront (old new : Option (List ℕ)) (bytes : List ℕ) : Type 0 where
+  pub taken : Consumes old new bytes
+  pub none_sooner : AreNumbers (but_last (rows bytes)) × (length (rows bytes) ≤ row_limit)
+  pub closed : CloseDeciding bytes ⊎ IsAtEnd new
+  pub same_report : IfSome old (λ known. report bytes ≡ report known)
 
 -- a reader lost some first bytes of those that it had, where these are known, and no others
 abbrev pub TakesFromFront : Option (List ℕ) → Option (List ℕ) → Type 0
 TakesFromFront old new = (bytes : List ℕ) × Consumes old new bytes
 
--- all bytes were read, and their report was written, and nothing else
+-- the front was read, and its report was written, and nothing else
 abbrev pub WritesReport : Option (List ℕ) → Option (List ℕ) → Option (List ℕ) → Option (List ℕ) → Type 0
 WritesReport unread unread' written written' =
-    (bytes : List ℕ) × (text : List ℕ) × ReadsAll unread unread' bytes × (report bytes ≡ Ok text) × Appends written written' text
+    (bytes : List ℕ) × (text : List ℕ) × ReadsFront unread unread' bytes × (report bytes ≡ Ok text) × Appends written written' text
 
--- all bytes were read, and the first of their rows that is refused has this place, from 1
+-- the front was read, and the first of its rows that is refused has this place, from 1
 abbrev pub IsRefusedAt : ℕ → Option (List ℕ) → Option (List ℕ) → Type 0
-IsRefusedAt place unread unread' = (bytes : List ℕ) × ReadsAll unread unread' bytes × (report bytes ≡ Err place)
+IsRefusedAt place unread unread' = (bytes : List ℕ) × ReadsFront unread unread' bytes × (report bytes ≡ Err place)
 
--- all bytes were read, and none of their rows that are looked at is refused
+-- the front was read, and none of its rows is refused
 abbrev pub HasReport : Option (List ℕ) → Option (List ℕ) → Type 0
 HasReport unread unread' =
-    (bytes : List ℕ) × (text : List ℕ) × ReadsAll unread unread' bytes × (report bytes ≡ Ok text)
+    (bytes : List ℕ) × (text : List ℕ) × ReadsFront unread unread' bytes × (report bytes ≡ Ok text)
+
+-- bytes were read, of which no row that was closed is refused, and fewer than 1,000,000 were
+pub record NoneRefusedYet (old new : Option (List ℕ)) : Type 0 where
+  pub closed : List ℕ
+  pub unclosed : List ℕ
+  pub taken : Consumes old new (closed ++ unclosed)
+  pub are_closed : IsClosed closed
+  pub one : IsOneRow unclosed
+  pub numbers : AreNumbers (rows closed)
+  pub few : length (rows closed) < row_limit

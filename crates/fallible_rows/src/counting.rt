@@ -1,10 +1,12 @@
 //! How many rows are above 100.
-ghost use Rattle.std.specs.Prelude.{◌≡◌, ℕ, Ok, Err, MatchResult};
-ghost use Rattle.fallible_rows.specs.Report.{tally};
+ghost use Rattle.std.specs.Prelude.{◌≡◌, ◌+◌, ◌-◌, ◌^◌, ◌<◌, Ok};
+ghost use Rattle.fallible_rows.specs.Counting.{CountsBorrowed, CountsFront};
 
 use crate::fault::RowFault;
-use crate::rows::{row_number, without_last_newline};
-use fallible_iterator::{FallibleIterator, convert};
+use crate::reading::Lent;
+use crate::rows::Rows;
+use fallible_iterator::FallibleIterator;
+use std::io::Read;
 
 // How many rows are looked at.
 const MAX_ROWS: usize = 1_000_000;
@@ -13,23 +15,30 @@ const MAX_ROWS: usize = 1_000_000;
 const LIMIT: u64 = 100;
 
 // How many of the first `MAX_ROWS` rows are above `LIMIT`. `Row` of the place, from 1, of the first of
-// them that is not a number.
-pub(crate) fn count_above(bytes: &[u8]) -> Result<usize, RowFault>
-    ensures { MatchResult result (λ count. tally bytes.now ≡ Ok count)
-        (λ fault. (place : ℕ) × (fault ≡ RowFault.Row place) × (tally bytes.now ≡ Err place)) }
+// them that is not a number; `Read` where a read fails before.
+pub(crate) fn count_above<R: Read>(reader: &mut R) -> Result<usize, RowFault>
+    ensures { CountsFront (R.remaining reader.old) (R.remaining reader.new) result }
 {
-    if bytes.is_empty() {
-        return Ok(0);
-    }
-    // `fuse` comes last: `convert` wants an iterator that may be asked again after its end.
-    let rows = without_last_newline(bytes)
-        .split(|byte| *byte == b'\n')
+    let mut above = Rows::new(Lent { reader })
         .take(MAX_ROWS)
-        .zip(1..)
-        .map(Ok)
-        .fuse();
-    convert(rows)
-        .map(|(row, place)| row_number(row).ok_or(RowFault::Row(place)))
-        .filter(|number| Ok(*number > LIMIT))
-        .count()
+        .filter(|number| Ok(*number > LIMIT));
+    count_of(&mut above)
+}
+
+// `count` of a fallible iterator that is lent, and so also what that leaves.
+fn count_of<I: FallibleIterator>(it: &mut I) -> Result<usize, I::Error>
+where
+    I::Item: Drop,
+    requires can { I.contract.can it.old }
+    requires fits { I.contract.to_come it.old (2 ^ 64 - 1) }
+    ensures { CountsBorrowed I.contract.steps it.old result it.new }
+{
+    let one_more = |count: usize, item: I::Item| -> Result<usize, I::Error>
+        requires { count < 2 ^ 64 - 1 }
+        ensures { result ≡ Ok (count + 1) }
+    {
+        let _ = item;
+        Ok(count + 1)
+    };
+    it.try_fold(0, one_more)
 }

@@ -1,34 +1,60 @@
-//! Reading all bytes of a reader.
-ghost use Rattle.std.specs.Prelude.{◌≡◌, ◌⊎◌, IfOk, IfErr};
-ghost use Rattle.fallible_rows.specs.Run.{ReadsAll, TakesFromFront};
+//! Readers that are asked for one byte at a time.
+ghost use Rattle.std.specs.Prelude.{◌≡◌, ℕ, List, Option, ⊤};
+ghost use Rattle.fallible_rows.specs.Reading.{ReadsOne};
 
-use crate::fault::RowFault;
-use std::alloc::Global;
 use std::io::Read;
 
-// How many bytes a read asks for.
-const CHUNK: usize = 4096;
+/// A read failed.
+#[derive(Debug, Drop)]
+pub struct ReadFailed;
 
-// All bytes that the reader had left. `Read` where a read fails, or where `u64::MAX` of them do not
-// reach the end; `Memory` where the bytes find no room.
-pub(crate) fn read_all<R: Read>(alloc: Global, reader: &mut R) -> Result<Vec<u8>, RowFault>
-    ensures ok { IfOk result
-        (λ bytes. ReadsAll (R.remaining reader.old) (R.remaining reader.new) bytes.items) }
-    ensures taken { TakesFromFront (R.remaining reader.old) (R.remaining reader.new) }
-    ensures err { IfErr result (λ fault. (fault ≡ RowFault.Read) ⊎ (fault ≡ RowFault.Memory)) }
+/// What gives its bytes one at a time, as every reader does.
+pub trait ReadByte: Drop + Sized {
+    // The bytes that are left, where they are known.
+    ghost left: { Self → Option (List ℕ) };
+
+    // What every read keeps as it was.
+    ghost stays: { Self → Self → Type 0 };
+
+    /// The next byte, or none at the end. A failed read takes no byte.
+    fn read_byte(&mut self) -> Result<Option<u8>, ReadFailed>
+        ensures { ReadsOne left stays self.old result self.new };
+}
+
+// One read, for one byte. An interrupted read fails too.
+fn byte_of<R: Read>(reader: &mut R) -> Result<Option<u8>, ReadFailed>
+    ensures { ReadsOne R.remaining (λ _ _. ⊤) reader.old result reader.new }
 {
-    let mut bytes = Vec::new(alloc);
-    let mut chunk = [0u8; CHUNK];
-    for _ in 0..u64::MAX {
-        let Ok(taken) = reader.read(&mut chunk) else {
-            return Err(RowFault::Read);
-        };
-        if taken == 0 {
-            return Ok(bytes);
-        }
-        if bytes.extend_from_slice(&chunk[..taken]).is_err() {
-            return Err(RowFault::Memory);
-        }
+    let mut byte = [0u8; 1];
+    match reader.read(&mut byte) {
+        Ok(0) => Ok(None),
+        Ok(_) => Ok(Some(byte[0])),
+        Err(_) => Err(ReadFailed),
     }
-    Err(RowFault::Read)
+}
+
+impl<R: Read + Drop> ReadByte for R {
+    ghost left = { R.remaining };
+
+    ghost stays = { λ _ _. ⊤ };
+
+    fn read_byte(&mut self) -> Result<Option<u8>, ReadFailed> {
+        byte_of(self)
+    }
+}
+
+// A reader that is lent. It stays the same reference, so what the reads leave is known to its owner.
+#[derive(Drop)]
+pub(crate) struct Lent<'a, R> {
+    pub(crate) reader: &'a mut R,
+}
+
+impl<R: Read> ReadByte for Lent<'_, R> {
+    ghost left = { λ s. R.remaining s.reader.now };
+
+    ghost stays = { λ s t. t.reader.ghost_name ≡ s.reader.ghost_name };
+
+    fn read_byte(&mut self) -> Result<Option<u8>, ReadFailed> {
+        byte_of(&mut *self.reader)
+    }
 }

@@ -1,35 +1,125 @@
-//! Rows, and the numbers that they write.
-ghost use Rattle.std.specs.Prelude.{◌≡◌, ◌≢◌, []};
-ghost use Rattle.std.specs.List.{slice_split};
-ghost use Rattle.fallible_rows.specs.Rows.{rows, is_newline, row_number};
+//! Rows of a reader, as a fallible iterator.
+ghost use Rattle.std.specs.Prelude.{◌≡◌, ◌-◌, ◌^◌};
+ghost use Rattle.fallible_iterator.specs.Contract.{unbounded, seen_as};
+ghost use Rattle.fallible_iterator.specs.Laws.Contract.{lawful_seen};
+ghost use Rattle.fallible_rows.specs.RowTraces.{rows_parts, begun, row_step};
+ghost use Rattle.fallible_rows.specs.Digits.{ReadsRow};
+ghost use Rattle.fallible_rows.specs.Unbounded.{lawful_unbounded};
 
-const MAX_DIGITS: usize = 20;
+use crate::digits::Digits;
+use crate::fault::RowFault;
+use crate::reading::ReadByte;
+use fallible_iterator::FallibleIterator;
 
-// The number that a row writes, where it is one.
-pub(crate) fn row_number(row: &[u8]) -> Option<u64>
-    ensures { result ≡ row_number row.now }
-{
-    if row.is_empty() || row.len() > MAX_DIGITS {
-        return None;
-    }
-    let mut number = 0u64;
-    for byte in row {
-        if !byte.is_ascii_digit() {
-            return None;
-        }
-        let digit = u64::from(*byte - b'0');
-        number = number.checked_mul(10)?.checked_add(digit)?;
-    }
-    Some(number)
+/// The rows of a reader: an item for each that is a number, and the failure `Row(K)` for each that is not, after which the next draw goes on with the next row. K is the place of the row, from 1, or `u32::MAX` where the place is above it.
+///
+/// The bytes are cut at each newline (byte 10), and an empty last piece is no row. A row is a number where it is 1 to 20 ASCII digits with a value of at most 18446744073709551615; zeros may come first, and a sign, a blank or a carriage return may not.
+///
+/// A draw asks the reader for one byte at a time, up to and with the newline that ends a row, or to the input's end; a row is judged then, also where it was known before to be no number. Where a read fails, for whatever reason, or a byte is wanted when as many as the limit were read, it answers the failure `Read`; the input's end wanted after the limit counts as a byte. An interrupted read isn't tried again. After `Read` and after the input's end it ends for good and reads no more.
+///
+/// It states no number to come, so it is drained through `take`. Neither its making nor a draw takes memory.
+#[derive(Drop)]
+pub struct Rows<B> {
+    reader: B,
+    // none once it has ended for good
+    ahead: Option<Ahead>,
 }
 
-// The bytes less one newline at their end. The parts that newlines cut the rest into are the rows,
-// but for no bytes at all, which have no row and one empty part.
-pub(crate) fn without_last_newline(bytes: &[u8]) -> &[u8]
-    ensures { bytes.now ≢ [] → slice_split is_newline result.now ≡ rows bytes.now }
+// What may still be read.
+#[derive(Clone, Copy)]
+pub(crate) struct Ahead {
+    // how many bytes
+    left: u64,
+    // the place of the next row, from 1, or `u32::MAX` where it is above that
+    place: u32,
+}
+
+impl<B: ReadByte> Rows<B> {
+    /// The rows of `reader`, of which at most `u64::MAX` bytes are read. It reads nothing.
+    pub fn new(reader: B) -> Rows<B>
+        ensures { rows_parts result ≡ begun reader (2 ^ 64 - 1) }
+    {
+        Rows::with_limit(reader, u64::MAX)
+    }
+
+    /// The rows of `reader`, of which at most `limit` bytes are read. It reads nothing.
+    pub fn with_limit(reader: B, limit: u64) -> Rows<B>
+        ensures { rows_parts result ≡ begun reader limit }
+    {
+        Rows {
+            reader,
+            ahead: Some(Ahead {
+                left: limit,
+                place: 1,
+            }),
+        }
+    }
+}
+
+// What ended a row.
+enum Close {
+    // A newline, after which so many bytes may be read.
+    Newline { left: u64 },
+    // The reader's end.
+    End,
+    // A failed read, or a byte was wanted beyond the limit.
+    Failure,
+}
+
+// Reads one row, of at most `limit` bytes with its newline.
+fn read_row<B: ReadByte>(reader: &mut B, limit: u64) -> (Digits, Close)
+    ensures { ReadsRow B.left B.stays reader.old limit result reader.new }
 {
-    let Some((last, front)) = bytes.split_last() else {
-        return bytes;
-    };
-    if *last == b'\n' { front } else { bytes }
+    let mut row = Digits::Empty;
+    for read in 0..limit {
+        match reader.read_byte() {
+            Ok(Some(b'\n')) => {
+                return (row, Close::Newline { left: limit - read - 1 });
+            }
+            Ok(Some(byte)) => row = row.followed_by(byte),
+            Ok(None) => return (row, Close::End),
+            Err(_) => return (row, Close::Failure),
+        }
+    }
+    (row, Close::Failure)
+}
+
+impl<B: ReadByte> FallibleIterator for Rows<B> {
+    type Item = u64;
+
+    type Error = RowFault;
+
+    ghost contract = { seen_as rows_parts (unbounded (row_step B.left B.stays)) };
+
+    /// Reads one row and what ends it.
+    fn next(&mut self) -> Result<Option<u64>, RowFault> {
+        let Some(Ahead { left, place }) = self.ahead.take() else {
+            return Ok(None);
+        };
+        let (row, close) = read_row(&mut self.reader, left);
+        match close {
+            Close::Newline { left } => {
+                let place_after = place.saturating_add(1);
+                self.ahead = Some(Ahead {
+                    left,
+                    place: place_after,
+                });
+                row.answer(place)
+            }
+            Close::End => {
+                if row.is_empty() {
+                    Ok(None)
+                } else {
+                    row.answer(place)
+                }
+            }
+            Close::Failure => Err(RowFault::Read),
+        }
+    }
+
+    fn size_hint(&self) -> (usize, Option<usize>) {
+        (0, None)
+    }
+
+    ghost lawful = { lawful_seen rows_parts (lawful_unbounded (row_step B.left B.stays)) };
 }

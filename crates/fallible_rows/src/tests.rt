@@ -1,5 +1,7 @@
 //! What no clause says: the numbers of the examples, and calls that fail or come in pieces.
-use crate::{RowFault, fault_line, run};
+use crate::{RowFault, Rows, fault_line, run};
+use fallible_iterator::FallibleIterator;
+use fallible_iterator::laws::{Answer, answers};
 use std::alloc::{AllocError, Global};
 use std::io;
 use std::io::{ErrorKind, Read, Write};
@@ -152,6 +154,66 @@ fn run_answers_failed_read(rt: HostRuntime) {
     }
 }
 
+// A read that fails after the newline of the first row that is refused is not made; each before is `Read`.
+#[test]
+fn run_answers_each_read_that_fails(rt: HostRuntime) {
+    let input = b"100\n200\nfern\n400\n".as_slice();
+    let closed = 13;
+    for count in 0..=input.len() {
+        let mut reader = BrokenReader {
+            bytes: &input[..count],
+            kind: ErrorKind::Other,
+        };
+        let mut written = Vec::new(rt.alloc());
+        let outcome = run(rt.alloc(), &mut reader, &mut written);
+        if count < closed {
+            assert_eq!(rt; outcome, Err(RowFault::Read));
+        } else {
+            assert_eq!(rt; outcome, Err(RowFault::Row(3)));
+        }
+        assert!(rt; written.is_empty());
+    }
+}
+
+// What `run` answers over a reader that gives these bytes and then fails.
+fn run_on_broken(alloc: Global, bytes: &[u8]) -> Result<(), RowFault> {
+    let mut reader = BrokenReader {
+        bytes,
+        kind: ErrorKind::Other,
+    };
+    run(alloc, &mut reader, &mut Vec::new(alloc))
+}
+
+#[test]
+fn run_answers_row_that_was_closed_before_a_read_fails(rt: HostRuntime) {
+    let alloc = rt.alloc();
+    assert_eq!(rt; run_on_broken(alloc, b"fern\n"), Err(RowFault::Row(1)));
+    assert_eq!(rt; run_on_broken(alloc, b"fern"), Err(RowFault::Read));
+    assert_eq!(rt; run_on_broken(alloc, b"100\n"), Err(RowFault::Read));
+}
+
+#[test]
+fn run_leaves_what_follows_the_refused_row(rt: HostRuntime) {
+    let mut reader: &[u8] = b"100\nfern\n200\n";
+    let mut written = Vec::new(rt.alloc());
+    assert_eq!(rt;
+        run(rt.alloc(), &mut reader, &mut written),
+        Err(RowFault::Row(2))
+    );
+    assert_eq!(rt; reader, b"200\n".as_slice());
+}
+
+#[test]
+fn run_leaves_what_follows_row_1_000_000(rt: HostRuntime) -> Result<(), Fail> {
+    let alloc = rt.alloc();
+    let input = sevens(alloc, 1_000_000, b"x\n8")?;
+    let mut reader = input.as_slice();
+    let mut written = Vec::new(alloc);
+    assert_eq!(rt; run(alloc, &mut reader, &mut written), Ok(()));
+    assert_eq!(rt; reader, b"x\n8".as_slice());
+    Ok(())
+}
+
 #[test]
 fn run_answers_failed_write(rt: HostRuntime) {
     let mut reader: &[u8] = b"100\n200\n";
@@ -179,4 +241,113 @@ fn fault_line_tells_each_fault(rt: HostRuntime) {
         assert_eq!(rt; written.as_slice(), line);
         assert_eq!(rt; fault_line(&fault, &mut BrokenWriter), Err(status));
     }
+}
+
+#[test]
+fn rows_goes_on_after_a_row_that_is_no_number(rt: HostRuntime) {
+    let mut rows = Rows::new(b"1\nx\n3\n".as_slice());
+    assert_eq!(rt; rows.next(), Ok(Some(1)));
+    assert_eq!(rt; rows.next(), Err(RowFault::Row(2)));
+    assert_eq!(rt; rows.next(), Ok(Some(3)));
+    assert_eq!(rt; rows.next(), Ok(None));
+}
+
+#[test]
+fn rows_answers_an_empty_row_and_ends_for_good(rt: HostRuntime) -> Result<(), Fail> {
+    let mut rows = Rows::new(b"7\n\n8".as_slice());
+    let drawn = answers(rt.alloc(), &mut rows, 5)?;
+    assert_eq!(rt;
+        drawn.as_slice(),
+        [
+            Answer::Item(7),
+            Answer::Failure(RowFault::Row(2)),
+            Answer::Item(8),
+            Answer::End,
+            Answer::End
+        ]
+        .as_slice()
+    );
+    Ok(())
+}
+
+#[test]
+fn rows_with_limit_fails_inside_a_row_and_ends(rt: HostRuntime) {
+    let mut rows = Rows::with_limit(b"12\n34\n".as_slice(), 3);
+    assert_eq!(rt; rows.next(), Ok(Some(12)));
+    assert_eq!(rt; rows.next(), Err(RowFault::Read));
+    assert_eq!(rt; rows.next(), Ok(None));
+}
+
+#[test]
+fn rows_with_limit_fails_where_the_end_is_wanted(rt: HostRuntime) {
+    let mut rows = Rows::with_limit(b"12\n".as_slice(), 3);
+    assert_eq!(rt; rows.next(), Ok(Some(12)));
+    assert_eq!(rt; rows.next(), Err(RowFault::Read));
+    let mut none = Rows::with_limit(b"".as_slice(), 0);
+    assert_eq!(rt; none.next(), Err(RowFault::Read));
+}
+
+#[test]
+fn rows_fails_inside_a_row_that_is_no_number(rt: HostRuntime) {
+    let mut rows = Rows::new(BrokenReader {
+        bytes: b"1\nfern",
+        kind: ErrorKind::Interrupted,
+    });
+    assert_eq!(rt; rows.next(), Ok(Some(1)));
+    assert_eq!(rt; rows.next(), Err(RowFault::Read));
+    assert_eq!(rt; rows.next(), Ok(None));
+}
+
+// Tells how many reads were made, and for how many bytes at most.
+#[derive(Drop)]
+struct WatchedReader<'a> {
+    bytes: &'a [u8],
+    reads: u32,
+    longest: usize,
+}
+
+impl Read for WatchedReader<'_> {
+    fn read(&mut self, buf: &mut [u8]) -> io::Result<usize> {
+        self.reads = self.reads.saturating_add(1);
+        self.longest = self.longest.max(buf.len());
+        Read::read(&mut self.bytes, buf)
+    }
+}
+
+#[test]
+fn rows_reads_one_byte_at_a_time_and_none_after_the_end(rt: HostRuntime) {
+    let mut reader = WatchedReader {
+        bytes: b"1\nfern\n3",
+        reads: 0,
+        longest: 0,
+    };
+    let mut rows = Rows::new(&mut reader);
+    assert_eq!(rt; rows.next(), Ok(Some(1)));
+    assert_eq!(rt; rows.next(), Err(RowFault::Row(2)));
+    assert_eq!(rt; rows.next(), Ok(Some(3)));
+    assert_eq!(rt; rows.next(), Ok(None));
+    assert_eq!(rt; rows.next(), Ok(None));
+    assert_eq!(rt; reader.reads, 9);
+    assert_eq!(rt; reader.longest, 1);
+}
+
+#[test]
+fn rows_reads_nothing_where_it_is_made_and_after_a_failed_read(rt: HostRuntime) {
+    let mut reader = WatchedReader {
+        bytes: b"12\n34",
+        reads: 0,
+        longest: 0,
+    };
+    let mut rows = Rows::with_limit(&mut reader, 4);
+    assert_eq!(rt; rows.size_hint(), (0, None));
+    assert_eq!(rt; rows.next(), Ok(Some(12)));
+    assert_eq!(rt; rows.next(), Err(RowFault::Read));
+    assert_eq!(rt; rows.next(), Ok(None));
+    assert_eq!(rt; reader.reads, 4);
+}
+
+#[test]
+fn rows_over_any_reader_are_counted_through_take(rt: HostRuntime) {
+    let rows = Rows::new(SlowReader(b"5\n18446744073709551615\n"));
+    assert_eq!(rt; rows.take(9).count(), Ok(2));
 }

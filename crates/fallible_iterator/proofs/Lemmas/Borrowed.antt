@@ -1,4 +1,4 @@
--- The contract of a borrowed fallible iterator is lawful where its own is.
+-- The runs of a borrowed fallible iterator are those of the one behind it.
 use Rattle.std.specs.Prelude.{◌≡◌, List, [], ◌∷◌}
 use Rattle.std.specs.Borrow.{MutBor}
 use Rattle.std.specs.declared.boxed.Box.{Box}

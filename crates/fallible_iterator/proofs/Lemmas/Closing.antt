@@ -1,4 +1,4 @@
--- Adapters that one place closes for good: their contracts are lawful, and their runs are the traces that their definitions name.
+-- The runs of an adapter that one place closes for good.
 use Rattle.std.specs.Prelude.{◌≡◌, ℕ, zero, suc, ◌<◌, List, [], ◌∷◌, ◌++◌, map, replicate, Bool, true, false, ◌⊎◌, ◌↔◌}
 use Rattle.std.specs.List.{FoldsTo}
 use Rattle.std.proofs.Common.{refl, sym, ap, arith, inl, inr}

@@ -1,4 +1,4 @@
--- Cutting: one file for each type.
+-- Lemmas on the runs of such types: one file a type.
 pub mod Fuse
 pub mod Skip
 pub mod StepBy

@@ -1,2 +1,2 @@
--- Filtering: one file for each type.
+-- Lemmas on the runs of such types: one file a type.
 pub mod SkipWhile

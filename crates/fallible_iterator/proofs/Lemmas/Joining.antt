@@ -1,4 +1,4 @@
--- Joining: one file for each type.
+-- Lemmas on the runs of such types: one file a type.
 pub mod Chain
 pub mod Cycle
 pub mod Flatten

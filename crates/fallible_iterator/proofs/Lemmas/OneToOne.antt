@@ -1,4 +1,4 @@
--- OneToOne: one file for each type.
+-- Lemmas on the runs of such types: one file a type.
 pub mod Enumerate
 pub mod MapErr
 pub mod Scan

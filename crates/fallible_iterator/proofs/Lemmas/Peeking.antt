@@ -1,2 +1,2 @@
--- Lemmas on the adapter that looks ahead.
+-- Lemmas on the runs of such types: one file a type.
 pub mod Peekable

@@ -1,4 +1,4 @@
--- Sources: one file for each type.
+-- Lemmas on the runs of such types: one file a type.
 pub mod Empty
 pub mod Repeat
 pub mod Std

@@ -5,8 +5,6 @@ use Rattle.fallible_iterator.specs.Contract.{Contract}
 use Rattle.fallible_iterator.specs.declared.cutting.fuse.Fuse.{Fuse}
 use Rattle.fallible_iterator.specs.Closing.{ClosingTrace, closing}
 
--- ---- adapters that one place closes for good
-
 -- `Fuse`: the source's trace, which the source's end closes.
 pub record FuseTrace {S A E : Type 0} (steps : S → Answered A E → S → Type 0) (p : S × Bool) (trace : List (Answered A E)) (q : S × Bool) : Type 0 where
   pub source_trace : List (Answered A E)

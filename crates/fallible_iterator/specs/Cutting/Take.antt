@@ -6,8 +6,6 @@ use Rattle.fallible_iterator.specs.WithSteps.{with_steps}
 use Rattle.fallible_iterator.specs.declared.cutting.take.Take.{Take}
 use Rattle.fallible_iterator.specs.Hints.{hint_up_to}
 
--- ---- `Take`
-
 -- `Take` at n: the source's trace, and then ends without draws. Each shorter front of the source's trace has fewer than n items, and the whole at most n; ends without draws come only after n items. What is left to take is n less the items.
 pub record TakeTrace {S A E : Type 0} (steps : S → Answered A E → S → Type 0) (p : S × ℕ) (trace : List (Answered A E)) (q : S × ℕ) : Type 0 where
   pub source_trace : List (Answered A E)

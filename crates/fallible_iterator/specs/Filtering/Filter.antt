@@ -9,8 +9,6 @@ use Rattle.fallible_iterator.specs.Passing.{Outcome, kept, left_out, failed, Pas
 use Rattle.fallible_iterator.specs.declared.filtering.filter.Filter.{Filter}
 use Rattle.fallible_iterator.specs.Hints.{upper_alone}
 
--- ---- filter
-
 -- An item is kept where the predicate answers true, left out where it answers false, and replaced by a failure of it.
 abbrev pub filter_outcome : {X E : Type 0} → X → Result Bool E → Outcome X E
 filter_outcome x (Ok true) = kept x

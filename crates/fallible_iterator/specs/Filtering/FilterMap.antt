@@ -8,8 +8,6 @@ use Rattle.fallible_iterator.specs.Passing.{Outcome, kept, left_out, failed, Pas
 use Rattle.fallible_iterator.specs.declared.filtering.filter_map.FilterMap.{FilterMap}
 use Rattle.fallible_iterator.specs.Hints.{upper_alone}
 
--- ---- filter_map
-
 -- An item is replaced by the value that the closure answers, left out where it answers none, and replaced by a failure of it.
 abbrev pub filter_map_outcome : {X B E : Type 0} → X → Result (Option B) E → Outcome B E
 filter_map_outcome x (Ok (Some y)) = kept y

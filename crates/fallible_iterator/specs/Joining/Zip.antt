@@ -1,4 +1,4 @@
--- The parts that the contracts see a value by.
+-- `Zip`: the pairs of two sources' items, place by place.
 use Rattle.std.specs.Prelude.{ℕ, Option, Some, ◌≡◌, List, map, None, Ok, Err, ◌⊎◌}
 use Rattle.std.specs.List.{filter_map}
 use Rattle.std.specs.Iterator.{endless}

@@ -1,12 +1,10 @@
--- Adapters that one place closes for good: their contracts are lawful, and their runs are the traces that their definitions name.
+-- The contract of an adapter that one place closes for good is lawful where its source's is.
 use Rattle.std.specs.Prelude.{Bool, true, false}
 use Rattle.std.proofs.Common.{arith}
 use Rattle.fallible_iterator.specs.Traces.{Answered, end}
 use Rattle.fallible_iterator.specs.Contract.{Contract, Goes, Lawful}
 use Rattle.fallible_iterator.specs.Closing.{closing}
 use Rattle.fallible_iterator.specs.Laws.WithSteps.{goes_with_steps}
-
--- ---- the contract
 
 module _ {P Q B E : Type 0} (m : Contract P B E) (draws : P → Q → P → Type 0) (answer : Q → Answered B E) (closes : Q → Bool) where
   abbrev M : Contract (P × Bool) B E

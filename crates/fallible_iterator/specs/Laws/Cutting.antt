@@ -1,4 +1,4 @@
--- Cutting: one file for each type.
+-- Lemmas that the ghost members of such types cite: one file a type.
 pub mod Fuse
 pub mod Skip
 pub mod StepBy

@@ -1,4 +1,4 @@
--- Filtering: one file for each type.
+-- Lemmas that the ghost members of such types cite: one file a type.
 pub mod Filter
 pub mod FilterMap
 pub mod SkipWhile

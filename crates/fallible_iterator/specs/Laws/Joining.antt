@@ -1,4 +1,4 @@
--- Joining: one file for each type.
+-- Lemmas that the ghost members of such types cite: one file a type.
 pub mod Chain
 pub mod Cycle
 pub mod Flatten

@@ -1,4 +1,4 @@
--- OneToOne: one file for each type.
+-- Lemmas that the ghost members of such types cite: one file a type.
 pub mod Cloned
 pub mod Enumerate
 pub mod Inspect

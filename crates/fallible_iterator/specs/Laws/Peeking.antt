@@ -1,2 +1,2 @@
--- Peeking: one file for each type.
+-- Lemmas that the ghost members of such types cite: one file a type.
 pub mod Peekable

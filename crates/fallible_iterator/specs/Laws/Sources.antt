@@ -1,4 +1,4 @@
--- Sources: one file for each type.
+-- Lemmas that the ghost members of such types cite: one file a type.
 pub mod Empty
 pub mod FromFn
 pub mod Once

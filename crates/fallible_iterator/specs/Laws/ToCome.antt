@@ -1,4 +1,4 @@
--- A number to come bounds the items of every run.
+-- The number to come of a type that states no other.
 use Rattle.std.specs.Prelude.{ℕ, ◌-◌, ◌≤◌, ◌<◌, [], ◌∷◌, None, Ok, Err}
 use Rattle.std.proofs.Common.{refl, arith}
 use Rattle.fallible_iterator.specs.Traces.{Answered, item}

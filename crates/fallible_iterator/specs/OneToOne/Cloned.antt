@@ -9,8 +9,6 @@ use Rattle.fallible_iterator.specs.Passing.{PassTrace, passing}
 use Rattle.fallible_iterator.specs.declared.one_to_one.cloned.Cloned.{Cloned}
 use Rattle.fallible_iterator.specs.OneToOne.Map.{map_outcome}
 
--- ---- cloned
-
 module _ {T E : Type 0} (is_clone : T → T → Type 0) (is_infallible : T → Type 0) (from : AllocError → E → Type 0) where
   -- the item's clone, or, where that may be refused, the failure made of the refusal
   abbrev pub cloned_call : Unit {0} → Bor T → Result T E → Unit {0} → Type 0

@@ -9,8 +9,6 @@ use Rattle.fallible_iterator.specs.Closures.{IsCallable}
 use Rattle.fallible_iterator.specs.Passing.{Outcome, kept, failed, an_end, PassTrace, passing}
 use Rattle.fallible_iterator.specs.declared.one_to_one.scan.Scan.{Scan}
 
--- ---- scan
-
 -- a call on the state and an item, which may change both the closure and the state
 abbrev pub scan_call : {F T X R : Type 0} → Mut F (MutBor T × (X × Unit {0})) (R × (MutBor T × Unit {0})) → T × F → X → R → T × F → Type 0
 scan_call g p x r q = CalledWithState g p.1 p.0 x r q.1 q.0

@@ -4,8 +4,6 @@ use Rattle.std.specs.Iterator.{at_most}
 use Rattle.fallible_iterator.specs.Traces.{Answered, end}
 use Rattle.fallible_iterator.specs.Contract.{Contract}
 
--- ---- `Empty`, `Repeat` and `RepeatErr`
-
 -- `Empty`: only ends.
 abbrev pub EmptyTrace : {A E : Type 0} → List (Answered A E) → Type 0
 EmptyTrace trace = (n : ℕ) × (trace ≡ replicate n end)

@@ -11,8 +11,6 @@ use Rattle.fallible_iterator.specs.Refusals.{RefusedAs}
 abbrev pub repeat_parts : {T E : Type 0} → Repeat T E → T
 repeat_parts s = s.value
 
--- ---- `Empty`, `Repeat` and `RepeatErr`
-
 module _ {A E : Type 0} (is_clone : A → A → Type 0) (is_infallible : A → Type 0) (from : AllocError → E → Type 0) where
   -- one answer of `Repeat`
   abbrev pub RepeatAnswer : A → Answered A E → Type 0

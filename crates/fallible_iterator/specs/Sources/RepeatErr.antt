@@ -10,8 +10,6 @@ use Rattle.fallible_iterator.specs.Refusals.{RefusedAs}
 abbrev pub repeat_err_parts : {T E : Type 0} → RepeatErr T E → E
 repeat_err_parts s = s.error
 
--- ---- `Empty`, `Repeat` and `RepeatErr`
-
 module _ {A E : Type 0} (is_clone : E → E → Type 0) (is_infallible : E → Type 0) (from : AllocError → E → Type 0) where
   -- one answer of `RepeatErr`
   abbrev pub RepeatErrAnswer : E → Answered A E → Type 0

@@ -1,8 +1,7 @@
 // The adapter that ends for good at the first end.
 ghost use Rattle.std.specs.Prelude.{Result, Option};
 ghost use Rattle.fallible_iterator.specs.Contract.{seen_as};
-ghost use Rattle.fallible_iterator.specs.Cutting.Fuse.{fuse_contract};
-ghost use Rattle.fallible_iterator.specs.Cutting.Fuse.{fuse_parts};
+ghost use Rattle.fallible_iterator.specs.Cutting.Fuse.{fuse_contract, fuse_parts};
 ghost use Rattle.fallible_iterator.specs.Laws.Contract.{lawful_seen};
 ghost use Rattle.fallible_iterator.specs.Laws.Cutting.Fuse.{lawful_fuse};
 

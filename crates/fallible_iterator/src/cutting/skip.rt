@@ -1,8 +1,7 @@
 // The adapter that leaves out the first items.
 ghost use Rattle.std.specs.Prelude.{Result, Option};
 ghost use Rattle.fallible_iterator.specs.Contract.{seen_as};
-ghost use Rattle.fallible_iterator.specs.Cutting.Skip.{skip_contract};
-ghost use Rattle.fallible_iterator.specs.Cutting.Skip.{skip_parts};
+ghost use Rattle.fallible_iterator.specs.Cutting.Skip.{skip_contract, skip_parts};
 ghost use Rattle.fallible_iterator.specs.Laws.Contract.{lawful_seen};
 ghost use Rattle.fallible_iterator.specs.Laws.Cutting.Skip.{lawful_skip};
 

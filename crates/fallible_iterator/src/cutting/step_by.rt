@@ -1,8 +1,7 @@
 // The adapter that keeps one item at each step.
 ghost use Rattle.std.specs.Prelude.{Result, Option};
 ghost use Rattle.fallible_iterator.specs.Contract.{seen_as};
-ghost use Rattle.fallible_iterator.specs.Cutting.StepBy.{step_by_contract};
-ghost use Rattle.fallible_iterator.specs.Cutting.StepBy.{step_by_parts};
+ghost use Rattle.fallible_iterator.specs.Cutting.StepBy.{step_by_contract, step_by_parts};
 ghost use Rattle.fallible_iterator.specs.Laws.Contract.{lawful_seen};
 ghost use Rattle.fallible_iterator.specs.Laws.Cutting.StepBy.{lawful_step_by};
 

@@ -1,8 +1,7 @@
 // The adapter that ends after a number of items.
 ghost use Rattle.std.specs.Prelude.{Result, Option};
 ghost use Rattle.fallible_iterator.specs.Contract.{seen_as};
-ghost use Rattle.fallible_iterator.specs.Cutting.Take.{take_contract};
-ghost use Rattle.fallible_iterator.specs.Cutting.Take.{take_parts};
+ghost use Rattle.fallible_iterator.specs.Cutting.Take.{take_contract, take_parts};
 ghost use Rattle.fallible_iterator.specs.Laws.Contract.{lawful_seen};
 ghost use Rattle.fallible_iterator.specs.Laws.Cutting.Take.{lawful_take};
 

@@ -1,8 +1,7 @@
 // The adapter that ends at the first item which a predicate refuses.
 ghost use Rattle.std.specs.Prelude.{Result, Option};
 ghost use Rattle.fallible_iterator.specs.Contract.{seen_as};
-ghost use Rattle.fallible_iterator.specs.Cutting.TakeWhile.{take_while_contract};
-ghost use Rattle.fallible_iterator.specs.Cutting.TakeWhile.{take_while_parts};
+ghost use Rattle.fallible_iterator.specs.Cutting.TakeWhile.{take_while_contract, take_while_parts};
 ghost use Rattle.fallible_iterator.specs.Laws.Contract.{lawful_seen};
 ghost use Rattle.fallible_iterator.specs.Laws.Cutting.TakeWhile.{lawful_take_while};
 

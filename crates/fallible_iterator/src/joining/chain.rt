@@ -1,8 +1,7 @@
 // The adapter that draws one source up to its first end, and then another.
 ghost use Rattle.std.specs.Prelude.{◌≡◌, Result, Option};
 ghost use Rattle.fallible_iterator.specs.Contract.{seen_as};
-ghost use Rattle.fallible_iterator.specs.Joining.Chain.{chain_contract};
-ghost use Rattle.fallible_iterator.specs.Joining.Chain.{chain_parts};
+ghost use Rattle.fallible_iterator.specs.Joining.Chain.{chain_contract, chain_parts};
 ghost use Rattle.fallible_iterator.specs.Laws.Contract.{lawful_seen};
 ghost use Rattle.fallible_iterator.specs.Laws.Joining.Chain.{lawful_chain};
 

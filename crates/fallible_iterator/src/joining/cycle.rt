@@ -1,8 +1,7 @@
 // The adapter that begins anew at each end.
 ghost use Rattle.std.specs.Prelude.{Result, Option};
 ghost use Rattle.fallible_iterator.specs.Contract.{seen_as};
-ghost use Rattle.fallible_iterator.specs.Joining.Cycle.{cycle_contract};
-ghost use Rattle.fallible_iterator.specs.Joining.Cycle.{cycle_parts};
+ghost use Rattle.fallible_iterator.specs.Joining.Cycle.{cycle_contract, cycle_parts};
 ghost use Rattle.fallible_iterator.specs.Laws.Contract.{lawful_seen};
 ghost use Rattle.fallible_iterator.specs.Laws.Joining.Cycle.{lawful_cycle};
 

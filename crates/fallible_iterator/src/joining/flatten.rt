@@ -1,9 +1,8 @@
 // The adapters that join the answers of inner iterators.
 ghost use Rattle.std.specs.Prelude.{◌≡◌, ℕ, [], ◌∷◌, None, Ok, IfSome, List, Option, Result};
 ghost use Rattle.fallible_iterator.specs.Contract.{seen_as};
-ghost use Rattle.fallible_iterator.specs.Joining.Flatten.{EachInner, FlattenTrace, flatten_contract, BeginTurn};
+ghost use Rattle.fallible_iterator.specs.Joining.Flatten.{EachInner, FlattenTrace, flatten_contract, BeginTurn, flatten_parts, flat_map_parts};
 ghost use Rattle.fallible_iterator.specs.OneToOne.Map.{map_parts};
-ghost use Rattle.fallible_iterator.specs.Joining.Flatten.{flatten_parts, flat_map_parts};
 ghost use Rattle.fallible_iterator.specs.Laws.Contract.{lawful_seen};
 ghost use Rattle.fallible_iterator.specs.Laws.OneToOne.Map.{lawful_map};
 ghost use Rattle.fallible_iterator.specs.Laws.Joining.Flatten.{lawful_flatten};

@@ -1,8 +1,7 @@
 // The adapter that pairs the items of two sources.
 ghost use Rattle.std.specs.Prelude.{◌≡◌, Result, Option};
 ghost use Rattle.fallible_iterator.specs.Contract.{seen_as};
-ghost use Rattle.fallible_iterator.specs.Joining.Zip.{zip_contract};
-ghost use Rattle.fallible_iterator.specs.Joining.Zip.{zip_parts};
+ghost use Rattle.fallible_iterator.specs.Joining.Zip.{zip_contract, zip_parts};
 ghost use Rattle.fallible_iterator.specs.Laws.Contract.{lawful_seen};
 ghost use Rattle.fallible_iterator.specs.Laws.Joining.Zip.{lawful_zip};
 

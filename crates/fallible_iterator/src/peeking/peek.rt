@@ -3,8 +3,7 @@ ghost use Rattle.std.specs.Prelude.{◌≡◌, ⊤, Result, Option, None, Ok, Er
 ghost use Rattle.std.specs.Borrow.{sem, follows_so};
 ghost use mathlib.Core.Option.{none};
 ghost use Rattle.fallible_iterator.specs.Contract.{Stays};
-ghost use Rattle.fallible_iterator.specs.Peeking.Peekable.{peekable_contract, seen, held_item, Fills, Peeks};
-ghost use Rattle.fallible_iterator.specs.Peeking.Peekable.{peekable_parts};
+ghost use Rattle.fallible_iterator.specs.Peeking.Peekable.{peekable_contract, seen, held_item, Fills, Peeks, peekable_parts};
 ghost use Rattle.fallible_iterator.specs.contracts.peeking.peekable.Peekable.{the_row};
 
 use crate::peeking::Peekable;

@@ -1,13 +1,12 @@
 //! The functions that make sources.
 ghost use Rattle.std.specs.Prelude.{◌≡◌, Some, None, ⊤};
 ghost use Rattle.fallible_iterator.specs.Sources.Convert.{convert_parts};
-ghost use Rattle.fallible_iterator.specs.Sources.FromFn.{from_fn_parts};
+ghost use Rattle.fallible_iterator.specs.Sources.FromFn.{from_fn_parts, call_of_none};
 ghost use Rattle.fallible_iterator.specs.Sources.Once.{once_parts};
 ghost use Rattle.fallible_iterator.specs.Sources.OnceErr.{once_err_parts};
 ghost use Rattle.fallible_iterator.specs.Sources.Repeat.{repeat_parts};
 ghost use Rattle.fallible_iterator.specs.Sources.RepeatErr.{repeat_err_parts};
 ghost use Rattle.fallible_iterator.specs.Closures.{IsCallable};
-ghost use Rattle.fallible_iterator.specs.Sources.FromFn.{call_of_none};
 
 use crate::sources::{Convert, Empty, FromFn, Once, OnceErr, Repeat, RepeatErr};
 use std::alloc::AllocError;

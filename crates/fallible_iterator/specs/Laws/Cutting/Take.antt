@@ -1,4 +1,4 @@
--- `Take`: its contract is lawful, and its runs are the traces that its definition names.
+-- The contract of `Take` is lawful where the source's is.
 use Rattle.std.specs.Prelude.{◌≡◌, ℕ, zero, suc, ◌+◌, [], ◌∷◌, Some, None, Ok, Err}
 use Rattle.std.proofs.Common.{arith, inl, inr}
 use Rattle.fallible_iterator.specs.Traces.{Answered, end, items_in}

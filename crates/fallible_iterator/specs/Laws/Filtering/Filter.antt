@@ -1,4 +1,4 @@
--- The contracts of the adapters that leave items out are lawful where the source's is, and their runs meet the definitions.
+-- The contract of `Filter` is lawful where the source's is.
 use Rattle.std.specs.Prelude.{Result, Bool}
 use Rattle.std.specs.Fn.{Mut}
 use Rattle.std.specs.Borrow.{Bor}

@@ -1,4 +1,4 @@
--- The contracts of the adapters that leave items out are lawful where the source's is, and their runs meet the definitions.
+-- The contract of `FilterMap` is lawful where the source's is.
 use Rattle.std.specs.Prelude.{Option, Result}
 use Rattle.std.specs.Fn.{Mut}
 use Rattle.fallible_iterator.specs.Contract.{Contract, Lawful}

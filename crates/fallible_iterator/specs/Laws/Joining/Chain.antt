@@ -1,4 +1,4 @@
--- `Chain`: its contract is lawful, and its runs are the traces that its definition names.
+-- The contract of `Chain` is lawful where those of both sides are.
 use Rattle.std.specs.Prelude.{◌≡◌, ℕ, ◌+◌, cond, T, Bool, true, false, Some, None, Ok, Err, ◌↔◌}
 use Rattle.std.proofs.Common.{arith, inl, inr}
 use Rattle.fallible_iterator.specs.declared.joining.chain.StillDrawn.{StillDrawn}
@@ -6,8 +6,6 @@ use Rattle.fallible_iterator.specs.declared.joining.chain.StillDrawn.TheVariants
 use Rattle.fallible_iterator.specs.Traces.{Answered, end, is_end}
 use Rattle.fallible_iterator.specs.Contract.{Contract, OnAnswer, Goes, Lawful}
 use Rattle.fallible_iterator.specs.Joining.Chain.{chain_contract}
-
--- ---- the contract
 
 -- a sum of counts is finite where both are
 both_finite : (a b : Bool) → T (cond a b false) → T a × T b

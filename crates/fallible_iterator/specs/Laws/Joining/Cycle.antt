@@ -1,4 +1,4 @@
--- `Cycle`: its contract is lawful, and its runs are the traces that its definition names.
+-- The contract of `Cycle` is lawful where the source's is.
 use Rattle.std.specs.Prelude.{Some, None, Ok, Err, ⊤}
 use Rattle.std.specs.declared.alloc.AllocError.{AllocError}
 use Rattle.std.proofs.Common.{refl, inl, inr}

@@ -1,12 +1,10 @@
--- `Zip`: its contract is lawful, and its runs are the traces that its definition names.
+-- The contract of `Zip` is lawful where those of both sides are.
 use Rattle.std.specs.Prelude.{ℕ, Option, Some, None, Ok, Err, ◌↔◌}
 use Rattle.std.proofs.Common.{arith, inl, inr}
 use Rattle.fallible_iterator.specs.Traces.{Answered, item, failure}
 use Rattle.fallible_iterator.specs.Contract.{Contract, NoMore, OnAnswer, Goes, Lawful}
 use Rattle.fallible_iterator.specs.Joining.Zip.{ZipPlace, left_failed, both_drawn, left_answer, zip_answer, right_step, zip_contract}
 use Rattle.fallible_iterator.specs.Laws.Contract.{no_more}
-
--- ---- the contract
 
 module _ {S U A B E : Type 0} (left : Contract S A E) (right : Contract U B E) where
   abbrev Z : Contract (S × U) (A × B) E

@@ -1,4 +1,4 @@
--- The contracts of the adapters with one answer for each draw are lawful where the source's is, and their runs meet the definitions.
+-- The contract of `Inspect` is lawful where the source's is.
 use Rattle.std.specs.Prelude.{Result}
 use Rattle.std.specs.Fn.{Mut}
 use Rattle.std.specs.Borrow.{Bor}

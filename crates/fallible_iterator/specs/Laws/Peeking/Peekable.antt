@@ -1,4 +1,4 @@
--- `Peekable`'s contract is lawful.
+-- The contract of `Peekable` is lawful where the source's is.
 use Rattle.std.specs.Prelude.{◌+◌, Option, Some, None, Ok, Err}
 use Rattle.std.proofs.Common.{refl, arith, inl, inr}
 use Rattle.fallible_iterator.specs.Traces.{Answered}

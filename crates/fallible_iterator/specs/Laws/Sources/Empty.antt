@@ -1,4 +1,4 @@
--- The contracts of the sources are lawful.
+-- The contract of `Empty` is lawful.
 use Rattle.std.specs.Prelude.{◌≡◌}
 use Rattle.std.proofs.Common.{sym, subst, arith}
 use Rattle.fallible_iterator.specs.Traces.{Answered, end}

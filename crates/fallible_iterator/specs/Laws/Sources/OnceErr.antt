@@ -1,4 +1,4 @@
--- The contracts of the sources are lawful.
+-- The contract of `OnceErr` is lawful.
 use Rattle.std.specs.Prelude.{Option, Some, None}
 use Rattle.std.proofs.Common.{refl, sym, subst, arith}
 use Rattle.fallible_iterator.specs.Traces.{Answered, failure, end}

@@ -1,4 +1,4 @@
--- The contracts of the sources are lawful.
+-- The contract of `Repeat` is lawful.
 use Rattle.std.specs.Prelude.{Some, None, Ok, Err}
 use Rattle.std.specs.declared.alloc.AllocError.{AllocError}
 use Rattle.std.proofs.Common.{refl, sym, subst}

@@ -1,4 +1,4 @@
--- The contracts of the sources are lawful.
+-- The contract of `RepeatErr` is lawful.
 use Rattle.std.specs.Prelude.{Some, None, Ok, Err}
 use Rattle.std.specs.declared.alloc.AllocError.{AllocError}
 use Rattle.std.proofs.Common.{sym, subst, arith}

@@ -1,4 +1,4 @@
--- The contracts of the sources are lawful.
+-- The contract over a std iterator is lawful.
 use Rattle.std.specs.Prelude.{[], ◌∷◌, Option, Some, None, Ok, Err}
 use Rattle.std.specs.Iterator.{Count, size}
 use Rattle.std.proofs.Common.{refl, arith}

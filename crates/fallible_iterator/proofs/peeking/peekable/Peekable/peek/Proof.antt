@@ -34,8 +34,7 @@ use denote.Triple.Spec.{triple_of}
 use denote.Triple.Table.{framed}
 use denote.Triple.Walked.{Stays, stay_dropped, Goes-dropped, walk_of, ends_at}
 use Rattle.fallible_iterator.specs.Contract as draws
-use Rattle.fallible_iterator.specs.Peeking.Peekable.{peekable_parts}
-use Rattle.fallible_iterator.specs.Peeking.Peekable.{peekable_contract, seen, held_item, Fills, Peeks}
+use Rattle.fallible_iterator.specs.Peeking.Peekable.{peekable_parts, peekable_contract, seen, held_item, Fills, Peeks}
 use Rattle.fallible_iterator.proofs.Lemmas.Peeking.Peekable.{peeks_joined}
 use Rattle.fallible_iterator.specs.contracts.peeking.peekable.Peekable.{the_row}
 use Rattle.fallible_iterator.specs.contracts.peeking.peekable.Peekable.peek as f

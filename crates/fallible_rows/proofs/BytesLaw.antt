@@ -1,0 +1,126 @@
+-- The rows of a reader that tells its bytes.
+use Rattle.std.proofs.Common.{◌≡◌, ℕ, zero, suc, ◌+◌, ◌<◌, inl, inr, Bool, true, false, List, [], ◌∷◌, ◌++◌, length, take, drop, Option, Some, None, refl, sym, ap, subst, ◌∙◌, arith, append_assoc, append-nil, lit≤}
+use Rattle.std.specs.Prelude.{replicate}
+use Rattle.std.specs.Io.KnownBytes.{Consumes, IsAtEnd}
+use Rattle.std.proofs.Math.Seq.{get_or-append_seam}
+use Rattle.std.proofs.lemmas.Bool.{eqb-true, eqb-false}
+use Rattle.std.proofs.lemmas.List.{take_at, take_all, take-append-drop, length-append}
+use Rattle.std.proofs.lemmas.List.Elements.{All-nil, All-cons}
+use Rattle.fallible_iterator.specs.Traces.{Answered, Run, failure, end}
+use Rattle.fallible_rows.specs.declared.fault.RowFault.{RowFault}
+use Rattle.fallible_rows.specs.declared.fault.RowFault.TheVariants.{Read}
+use Rattle.fallible_rows.specs.declared.rows.Ahead.{Ahead}
+use Rattle.fallible_rows.specs.Rows.{rows, is_newline}
+use Rattle.fallible_rows.specs.RowTraces.{row_answer, row_answers, IsOneRow, IsClosed, GivesBytes, row_step, ReadsRows, AnswersRowsOf, NeverFailsToRead, BeginsWith, CanGiveAll}
+use Rattle.fallible_rows.proofs.RowLemmas.{not_newline, rows-closed}
+use Rattle.fallible_rows.proofs.TraceLemmas.{folds_split}
+use Rattle.fallible_rows.proofs.RowsLaw.{to_trace, from_trace}
+use Rattle.fallible_rows.proofs.FrontLemmas.{gives_consumes, end_consumes}
+
+abbrev Answers : Type 0
+Answers = List (Answered ℕ RowFault)
+
+answers_append : (place : ℕ) (xs ys : List (List ℕ)) → row_answers place (xs ++ ys) ≡ row_answers place xs ++ row_answers (place + length xs) ys
+answers_append place [] ys = let same : place ≡ place + 0 = omega arith in ap (λ k. row_answers k ys) same
+answers_append place (x ∷ xs) ys =
+    let same : (place + 1) + length xs ≡ place + length (x ∷ xs) = omega arith in
+    ap {B = Answers} (λ l. row_answer place x ∷ l) (answers_append (place + 1) xs ys ∙ ap (λ k. row_answers (place + 1) xs ++ row_answers k ys) same)
+
+-- ---- bytes in two parts: closed ones, and one row
+
+record InTwo (bytes : List ℕ) : Type 0 where
+  closed : List ℕ
+  unclosed : List ℕ
+  are : bytes ≡ closed ++ unclosed
+  are_closed : IsClosed closed
+  one : IsOneRow unclosed
+
+closed_onto : (x y : ℕ) (ys : List ℕ) → IsClosed (y ∷ ys) → IsClosed (x ∷ y ∷ ys)
+closed_onto x y ys (inl e) = absurd cc
+closed_onto x y ys (inr h) = inr (x ∷ h.0, ap (λ l. x ∷ l) h.1)
+
+byte_onto : (x : ℕ) (bytes closed unclosed : List ℕ) → bytes ≡ closed ++ unclosed → IsClosed closed → IsOneRow unclosed → (b : Bool) → is_newline x ≡ b → InTwo (x ∷ bytes)
+byte_onto x bytes (y ∷ ys) unclosed are closed one b is = record { closed = x ∷ y ∷ ys; unclosed = unclosed; are = ap (λ l. x ∷ l) are; are_closed = closed_onto x y ys closed; one = one }
+byte_onto x bytes [] unclosed are closed one true is = record { closed = x ∷ []; unclosed = unclosed; are = ap (λ l. x ∷ l) are; are_closed = inr ([], ap (λ b. b ∷ []) (eqb-true x 10 is)); one = one }
+byte_onto x bytes [] unclosed are closed one false is = record { closed = []; unclosed = x ∷ unclosed; are = ap (λ l. x ∷ l) are; are_closed = inl refl; one = All-cons not_newline x unclosed (eqb-false x 10 is) one }
+
+in_two : (bytes : List ℕ) → InTwo bytes
+in_two [] = record { closed = []; unclosed = []; are = refl; are_closed = inl refl; one = All-nil not_newline }
+in_two (x ∷ xs) = let h = in_two xs in byte_onto x xs h.closed h.unclosed h.are h.are_closed h.one (is_newline x) refl
+
+replicate_push : {X : Type 0} (n : ℕ) (x : X) → replicate (suc n) x ≡ replicate n x ++ x ∷ []
+replicate_push zero x = refl
+replicate_push (suc n) x = ap (λ l. x ∷ l) (replicate_push n x)
+
+-- ---- a trace over known bytes
+
+-- what is left after known bytes were consumed
+rest_of : (old new : Option (List ℕ)) (bytes known : List ℕ) → old ≡ Some known → Consumes old new bytes → (rest : List ℕ) × (known ≡ bytes ++ rest) × (IsAtEnd new → rest ≡ [])
+rest_of None new bytes known is taken = absurd cc
+rest_of (Some x) None bytes known is taken = absurd taken
+rest_of (Some x) (Some y) bytes known is taken = let same : x ≡ known = cc in (y, sym same ∙ taken, λ e. e)
+
+fails_there : (front rest : Answers) → NeverFailsToRead (front ++ failure Read ∷ rest) → ⊥
+fails_there front rest h =
+    let long = length-append front (failure Read ∷ rest) in
+    h (length front) end (omega (arith, long)) (get_or-append_seam front (failure Read) rest end)
+
+module _ {B : Type 0} (left : B → Option (List ℕ)) (stays : B → B → Type 0) where
+  answers_known : (bytes : List ℕ) (trace : Answers) (r : B) (a : Ahead) (p : B × Option Ahead) → a.place ≡ 1 → left r ≡ Some bytes → NeverFailsToRead trace → ReadsRows left stays r a trace p → AnswersRowsOf bytes trace
+  answers_known bytes trace r a p first tells never h = elim h.stopped [
+    inl s ↦
+      let whole : h.closed ++ h.unclosed ≡ h.closed = ap (λ l. h.closed ++ l) s.none_unclosed ∙ append-nil h.closed in
+      let k = rest_of (left r) (left h.last) h.closed bytes tells (subst (Consumes (left r) (left h.last)) whole (gives_consumes left stays (h.closed ++ h.unclosed) r h.last h.given)) in
+      let front = row_answers 1 (rows h.closed) in
+      let more = row_answers (1 + length (rows h.closed)) (rows k.0) in
+      let is : trace ≡ front = s.answers ∙ ap (λ n. row_answers n (rows h.closed)) first in
+      let all : row_answers 1 (rows bytes) ++ [] ≡ front ++ more = append-nil (row_answers 1 (rows bytes)) ∙ ap (λ l. row_answers 1 (rows l)) k.1 ∙ ap (row_answers 1) (rows-closed h.closed k.0 h.are_closed) ∙ answers_append 1 (rows h.closed) (rows k.0) in
+      (length front, 0, is ∙ sym (ap (take (length front)) all ∙ take_at front more (length front) refl)) |
+    inr k ↦ elim k [
+      inl s ↦
+        let k = rest_of (left r) (left p.0) (h.closed ++ h.unclosed) bytes tells (end_consumes left stays (h.closed ++ h.unclosed) r h.last p.0 h.given s.met_end) in
+        let same : bytes ≡ h.closed ++ h.unclosed = k.1 ∙ ap (λ l. (h.closed ++ h.unclosed) ++ l) (k.2 s.met_end.1) ∙ append-nil (h.closed ++ h.unclosed) in
+        let all = row_answers 1 (rows bytes) ++ replicate s.ends end in
+        let is : trace ≡ all = s.answers ∙ ap (λ n. row_answers n (rows (h.closed ++ h.unclosed)) ++ replicate s.ends end) first ∙ ap (λ l. row_answers 1 (rows l) ++ replicate s.ends end) (sym same) in
+        (length all, s.ends, is ∙ sym (take_all (length all) all (omega arith))) |
+      inr s ↦ absurd (fails_there (row_answers a.place (rows h.closed)) (replicate s.ends end) (subst NeverFailsToRead s.answers never))
+    ]
+  ]
+
+  pub bytes_only : (bytes : List ℕ) (trace : Answers) (p q : B × Option Ahead) → BeginsWith left stays p bytes → NeverFailsToRead trace → Run (row_step left stays) p trace q → AnswersRowsOf bytes trace
+  bytes_only bytes trace p q b never ran =
+      let ahead : Ahead = record { left = b.limit; place = 1 } in
+      answers_known bytes trace p.0 ahead q refl b.tells never (to_trace left stays trace p.0 ahead q (lit≤ tt) (subst (λ (u : B × Option Ahead). Run (row_step left stays) u trace q) b.begins ran))
+
+  -- all answers, and then ends
+  all_answers : (bytes : List ℕ) (n : ℕ) (p : B × Option Ahead) → BeginsWith left stays p bytes → (c : CanGiveAll left stays p bytes) → Run (row_step left stays) p (row_answers 1 (rows bytes) ++ replicate (suc n) end) (c.after, None)
+  all_answers bytes n p b c =
+      let ahead : Ahead = record { left = b.limit; place = 1 } in
+      let h = in_two bytes in
+      let within = b.within in
+      let reads : ReadsRows left stays p.0 ahead (row_answers 1 (rows bytes) ++ replicate (suc n) end) (c.after, None) = record {
+        closed = h.closed;
+        unclosed = h.unclosed;
+        last = c.last;
+        given = subst (λ l. GivesBytes left stays p.0 l c.last) h.are c.given;
+        are_closed = h.are_closed;
+        one = h.one;
+        stopped = inr (inl (record {
+          ends = suc n;
+          met_end = c.met_end;
+          limit = subst (λ l. length l < b.limit) h.are within;
+          is_left = refl;
+          answers = ap (λ l. row_answers 1 (rows l) ++ replicate (suc n) end) h.are;
+          ended = λ _. omega arith;
+        }));
+      } in
+      subst (λ (u : B × Option Ahead). Run (row_step left stays) u (row_answers 1 (rows bytes) ++ replicate (suc n) end) (c.after, None)) (sym b.begins) (from_trace left stays (row_answers 1 (rows bytes) ++ replicate (suc n) end) p.0 ahead (c.after, None) (lit≤ tt) reads)
+
+  pub bytes_each : (bytes : List ℕ) (trace : Answers) (p : B × Option Ahead) → BeginsWith left stays p bytes → CanGiveAll left stays p bytes → AnswersRowsOf bytes trace → (q : B × Option Ahead) × Run (row_step left stays) p trace q
+  bytes_each bytes trace p b c h =
+      let front = row_answers 1 (rows bytes) in
+      let known = front ++ replicate h.1 end in
+      let one_more : front ++ replicate (suc h.1) end ≡ take h.0 known ++ (drop h.0 known ++ end ∷ []) =
+        ap (λ l. front ++ l) (replicate_push h.1 end) ∙ sym (append_assoc front (replicate h.1 end) (end ∷ [])) ∙ ap (λ l. l ++ end ∷ []) (sym (take-append-drop h.0 known)) ∙ append_assoc (take h.0 known) (drop h.0 known) (end ∷ []) in
+      let parts = folds_split (row_step left stays) (take h.0 known) (drop h.0 known ++ end ∷ []) p (c.after, None) (subst (λ l. Run (row_step left stays) p l (c.after, None)) one_more (all_answers bytes h.1 p b c)) in
+      (parts.0, subst (λ l. Run (row_step left stays) p l parts.0) (sym h.2) parts.1)

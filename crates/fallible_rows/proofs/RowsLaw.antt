@@ -1,0 +1,267 @@
+-- Runs of the rows of a reader are the traces that their definition names.
+use Rattle.std.proofs.Common.{◌≡◌, ◌≢◌, ℕ, zero, suc, ◌+◌, ◌-◌, ◌<◌, ◌≤◌, ◌⊎◌, inl, inr, List, [], ◌∷◌, ◌++◌, length, Option, Some, None, Err, refl, sym, ap, subst, ◌∙◌, arith, append_assoc}
+use Rattle.std.specs.Prelude.{replicate, ◌↔◌}
+use Rattle.std.proofs.lemmas.List.{length-append}
+use Rattle.std.proofs.lemmas.List.Elements.{All-nil}
+use Rattle.fallible_iterator.specs.Traces.{Answered, Run, failure, end}
+use Rattle.fallible_rows.specs.declared.fault.RowFault.{RowFault}
+use Rattle.fallible_rows.specs.declared.fault.RowFault.TheVariants.{Row, Read}
+use Rattle.fallible_rows.specs.declared.rows.Ahead.{Ahead}
+use Rattle.fallible_rows.specs.Reading.{GivesByte}
+use Rattle.fallible_rows.specs.Rows.{rows, row_number}
+use Rattle.fallible_rows.specs.RowTraces.{told_place, answer_of_number, row_answer, row_answers, IsPlaced, IsOneRow, GivesBytes, EndsByEnd, EndsByFailure, DrawsRow, row_step, StopsBetween, StopsAtEnd, StopsAtFailure, ReadsRows, RowsTrace}
+use Rattle.fallible_rows.proofs.RowLemmas.{not_newline, rows-none, rows-row, rows-one, ClosedRows, no_rows, row_then, closed_rows, IsClosed-row}
+use Rattle.fallible_rows.proofs.TraceLemmas.{folds_append, folds_split}
+
+abbrev Answers : Type 0
+Answers = List (Answered ℕ RowFault)
+
+-- ---- places
+
+told_answer : (place : ℕ) (o : Option ℕ) → answer_of_number (told_place place) o ≡ answer_of_number place o
+told_answer place (Some n) = refl
+told_answer place None = let e : told_place (told_place place) ≡ told_place place = omega arith in ap {B = Answered ℕ RowFault} (λ p. Err (Row p)) e
+
+-- a place that is told has the answers of the place
+pub told_answers : (place : ℕ) (rs : List (List ℕ)) → row_answers (told_place place) rs ≡ row_answers place rs
+told_answers place [] = refl
+told_answers place (row ∷ rest) =
+    let next : told_place (told_place place + 1) ≡ told_place (place + 1) = omega arith in
+    let rests : row_answers (told_place place + 1) rest ≡ row_answers (place + 1) rest = sym (told_answers (told_place place + 1) rest) ∙ ap (λ k. row_answers k rest) next ∙ told_answers (place + 1) rest in
+    ap {B = Answers} (λ x. x ∷ row_answers (told_place place + 1) rest) (told_answer place (row_number row)) ∙ ap {B = Answers} (λ l. row_answer place row ∷ l) rests
+
+module _ {B : Type 0} (left : B → Option (List ℕ)) (stays : B → B → Type 0) where
+  abbrev step : B × Option Ahead → Answered ℕ RowFault → B × Option Ahead → Type 0
+  step = row_step left stays
+
+  abbrev Stops : B → Ahead → List ℕ → List ℕ → Answers → B × Option Ahead → Type 0
+  Stops last a closed unclosed trace p = StopsBetween left stays last a closed unclosed trace p ⊎ (StopsAtEnd left stays last a closed unclosed trace p ⊎ StopsAtFailure left stays last a closed unclosed trace p)
+
+  -- ---- ended for good
+
+  over_to : (trace : Answers) (r : B) (o : Option Ahead) (p : B × Option Ahead) → o ≡ None → Run step (r, o) trace p → ((n : ℕ) × (trace ≡ replicate n end)) × (p ≡ (r, None))
+  over_to [] r o p is ran = ((0, refl), sym ran ∙ ap (λ u. (r, u)) is)
+  over_to (x ∷ rest) r None p is ran = let h = over_to rest r None p refl (subst (λ (u : B × Option Ahead). Run step u rest p) ran.1.1 ran.2) in ((suc h.0.0, (λ i. ran.1.0 i ∷ h.0.1 i)), h.1)
+  over_to (x ∷ rest) r (Some a) p is ran = absurd cc
+
+  over_from : (n : ℕ) (r : B) → Run step (r, None) (replicate n end) (r, None)
+  over_from zero r = refl
+  over_from (suc n) r = ((r, None), (refl, refl), over_from n r)
+
+  -- ends after a draw that ended them for good
+  over_after : (n : ℕ) (p : B × Option Ahead) → p.1 ≡ None → Run step p (replicate n end) p
+  over_after n p is = subst (λ (o : Option Ahead). Run step (p.0, o) (replicate n end) (p.0, o)) (sym is) (over_from n p.0)
+
+  -- ---- a row before others
+
+  more_given : (r q last : B) (row closed unclosed : List ℕ) (mid : B) → GivesBytes left stays r row mid → GivesByte left stays mid 10 q → GivesBytes left stays q (closed ++ unclosed) last → GivesBytes left stays r ((row ++ 10 ∷ closed) ++ unclosed) last
+  more_given r q last row closed unclosed mid given newline others =
+      subst (λ l. GivesBytes left stays r l last) (sym (append_assoc row (10 ∷ closed) unclosed)) (folds_append (GivesByte left stays) row (10 ∷ (closed ++ unclosed)) r mid last given (q, newline, others))
+
+  -- the answers of a row and of the others
+  first_answer : (place place' : ℕ) (row bytes : List ℕ) → IsOneRow row → place' ≡ told_place (place + 1) → row_answer place row ∷ row_answers place' (rows bytes) ≡ row_answers place (rows (row ++ 10 ∷ bytes))
+  first_answer place place' row bytes one next =
+      ap {B = Answers} (λ l. row_answer place row ∷ l) (ap (λ k. row_answers k (rows bytes)) next ∙ told_answers (place + 1) (rows bytes)) ∙ ap (row_answers place) (sym (rows-row row bytes one))
+
+  stops_later : (last : B) (a after : Ahead) (row closed unclosed : List ℕ) (trace : Answers) (p : B × Option Ahead) → IsOneRow row → after.left + length row + 1 ≡ a.left → after.place ≡ told_place (a.place + 1) → Stops last after closed unclosed trace p → Stops last a (row ++ 10 ∷ closed) unclosed (row_answer a.place row ∷ trace) p
+  stops_later last a after row closed unclosed trace p one limit next (inl s) =
+      let long = length-append row (10 ∷ closed) in
+      let many : length (rows (row ++ 10 ∷ closed)) ≡ length (row ∷ rows closed) = ap length (rows-row row closed one) in
+      let here = s.limit in let there = s.place in
+      inl (record {
+        after = s.after;
+        none_unclosed = s.none_unclosed;
+        limit = omega (arith, long, here, limit);
+        place = omega (arith, many, there, next);
+        is_left = s.is_left;
+        answers = ap {B = Answers} (λ l. row_answer a.place row ∷ l) s.answers ∙ first_answer a.place after.place row closed one next;
+      })
+  stops_later last a after row closed unclosed trace p one limit next (inr (inl s)) =
+      let long = length-append row (10 ∷ (closed ++ unclosed)) in
+      let joined : (row ++ 10 ∷ closed) ++ unclosed ≡ row ++ 10 ∷ (closed ++ unclosed) = append_assoc row (10 ∷ closed) unclosed in
+      let same : length ((row ++ 10 ∷ closed) ++ unclosed) ≡ length (row ++ 10 ∷ (closed ++ unclosed)) = ap length joined in
+      let here = s.limit in
+      inr (inl (record {
+        ends = s.ends;
+        met_end = s.met_end;
+        limit = omega (arith, long, same, here, limit);
+        is_left = s.is_left;
+        answers = ap {B = Answers} (λ l. row_answer a.place row ∷ l) s.answers ∙ ap (λ l. l ++ replicate s.ends end) (first_answer a.place after.place row (closed ++ unclosed) one next) ∙ ap (λ l. row_answers a.place (rows l) ++ replicate s.ends end) (sym joined);
+        ended = s.ended;
+      }))
+  stops_later last a after row closed unclosed trace p one limit next (inr (inr s)) =
+      let long = length-append row (10 ∷ (closed ++ unclosed)) in
+      let joined : (row ++ 10 ∷ closed) ++ unclosed ≡ row ++ 10 ∷ (closed ++ unclosed) = append_assoc row (10 ∷ closed) unclosed in
+      let same : length ((row ++ 10 ∷ closed) ++ unclosed) ≡ length (closed ++ unclosed) + length row + 1 = ap length joined ∙ omega (arith, long) in
+      inr (inr (record {
+        ends = s.ends;
+        missed = elim s.missed [ inl h ↦ inl (let e = h.0 in omega (arith, same, e, limit), h.1) | inr h ↦ inr (let e = h.0 in omega (arith, same, e, limit), h.1) ];
+        is_left = s.is_left;
+        answers = ap {B = Answers} (λ l. row_answer a.place row ∷ l) s.answers ∙ ap (λ l. l ++ failure Read ∷ replicate s.ends end) (first_answer a.place after.place row closed one next);
+      }))
+
+  row_before : (r q : B) (a after : Ahead) (row : List ℕ) (mid : B) (trace : Answers) (p : B × Option Ahead) → IsOneRow row → GivesBytes left stays r row mid → GivesByte left stays mid 10 q → after.left + length row + 1 ≡ a.left → after.place ≡ told_place (a.place + 1) → ReadsRows left stays q after trace p → ReadsRows left stays r a (row_answer a.place row ∷ trace) p
+  row_before r q a after row mid trace p one given newline limit next h = record {
+    closed = row ++ 10 ∷ h.closed;
+    unclosed = h.unclosed;
+    last = h.last;
+    given = more_given r q h.last row h.closed h.unclosed mid given newline h.given;
+    are_closed = IsClosed-row row h.closed h.are_closed;
+    one = h.one;
+    stopped = stops_later h.last a after row h.closed h.unclosed trace p one limit next h.stopped;
+  }
+
+  -- ---- from runs to traces
+
+  none_read : (r : B) (a : Ahead) (p : B × Option Ahead) → a.place ≤ 4294967295 → (r, Some a) ≡ p → ReadsRows left stays r a [] p
+  none_read r a p placed is =
+      let none : length (rows []) ≡ 0 = ap length rows-none in
+      record {
+        closed = [];
+        unclosed = [];
+        last = r;
+        given = refl;
+        are_closed = inl refl;
+        one = All-nil not_newline;
+        stopped = inl (record { after = a; none_unclosed = refl; limit = omega arith; place = omega (arith, none); is_left = sym is; answers = ap (row_answers a.place) (sym rows-none) });
+      }
+
+  at_end : (r : B) (a : Ahead) (row : List ℕ) (last : B) (n : ℕ) (x : Answered ℕ RowFault) (mid : B × Option Ahead) → IsOneRow row → GivesBytes left stays r row last → EndsByEnd left stays last a row x mid → ReadsRows left stays r a (x ∷ replicate n end) mid
+  at_end r a row last n x mid one given e = elim e.answered [
+    inl h ↦ record {
+      closed = []; unclosed = row; last = last; given = given; are_closed = inl refl; one = one;
+      stopped = inr (inl (record { ends = suc n; met_end = e.met_end; limit = e.limit; is_left = e.is_left;
+        answers = ap {B = Answers} (λ y. y ∷ replicate n end) h.1 ∙ ap (λ l. row_answers a.place l ++ replicate (suc n) end) (sym rows-none ∙ ap rows (sym h.0));
+        ended = λ _. omega arith }));
+    } |
+    inr h ↦ record {
+      closed = []; unclosed = row; last = last; given = given; are_closed = inl refl; one = one;
+      stopped = inr (inl (record { ends = n; met_end = e.met_end; limit = e.limit; is_left = e.is_left;
+        answers = ap {B = Answers} (λ y. y ∷ replicate n end) h.1 ∙ ap (λ l. row_answers a.place l ++ replicate n end) (sym (rows-one row one h.0));
+        ended = λ none. absurd (h.0 none) }));
+    }
+  ]
+
+  at_failure : (r : B) (a : Ahead) (row : List ℕ) (last : B) (n : ℕ) (x : Answered ℕ RowFault) (mid : B × Option Ahead) → IsOneRow row → GivesBytes left stays r row last → EndsByFailure left stays last a row x mid → ReadsRows left stays r a (x ∷ replicate n end) mid
+  at_failure r a row last n x mid one given e = record {
+    closed = []; unclosed = row; last = last; given = given; are_closed = inl refl; one = one;
+    stopped = inr (inr (record { ends = n; missed = e.missed; is_left = e.is_left; answers = ap {B = Answers} (λ y. y ∷ replicate n end) e.answered ∙ ap (λ l. row_answers a.place l ++ failure Read ∷ replicate n end) (sym rows-none) }));
+  }
+
+  pub to_trace : (trace : Answers) (r : B) (a : Ahead) (p : B × Option Ahead) → a.place ≤ 4294967295 → Run step (r, Some a) trace p → ReadsRows left stays r a trace p
+  to_trace [] r a p placed ran = none_read r a p placed ran
+  to_trace (x ∷ rest) r a p placed ran = let d : DrawsRow left stays r a x ran.0 = ran.1 in elim d.ended [
+    inl e ↦ let next = e.place in
+      let others = to_trace rest ran.0.0 e.after p (omega (arith, next)) (subst (λ (o : Option Ahead). Run step (ran.0.0, o) rest p) e.is_left ran.2) in
+      subst (λ (y : Answered ℕ RowFault). ReadsRows left stays r a (y ∷ rest) p) (sym e.answered) (row_before r ran.0.0 a e.after d.row d.last rest p d.one d.given e.newline e.limit e.place others) |
+    inr s ↦ elim s [
+      inl e ↦ let h = over_to rest ran.0.0 ran.0.1 p e.is_left ran.2 in
+        let same : p ≡ ran.0 = h.1 ∙ ap (λ (o : Option Ahead). (ran.0.0, o)) (sym e.is_left) in
+        subst (λ (l : Answers). ReadsRows left stays r a (x ∷ l) p) (sym h.0.1) (subst (λ (q : B × Option Ahead). ReadsRows left stays r a (x ∷ replicate h.0.0 end) q) (sym same) (at_end r a d.row d.last h.0.0 x ran.0 d.one d.given e)) |
+      inr e ↦ let h = over_to rest ran.0.0 ran.0.1 p e.is_left ran.2 in
+        let same : p ≡ ran.0 = h.1 ∙ ap (λ (o : Option Ahead). (ran.0.0, o)) (sym e.is_left) in
+        subst (λ (l : Answers). ReadsRows left stays r a (x ∷ l) p) (sym h.0.1) (subst (λ (q : B × Option Ahead). ReadsRows left stays r a (x ∷ replicate h.0.0 end) q) (sym same) (at_failure r a d.row d.last h.0.0 x ran.0 d.one d.given e))
+    ]
+  ]
+
+  -- ---- from traces to runs
+
+  -- how many bytes were read and closed
+  closed_within : (last : B) (a : Ahead) (closed unclosed : List ℕ) (trace : Answers) (p : B × Option Ahead) → Stops last a closed unclosed trace p → length closed ≤ a.left
+  closed_within last a closed unclosed trace p (inl s) = let e = s.limit in omega (arith, e)
+  closed_within last a closed unclosed trace p (inr (inl s)) = let e = s.limit in let long = length-append closed unclosed in omega (arith, e, long)
+  closed_within last a closed unclosed trace p (inr (inr s)) = let long = length-append closed unclosed in elim s.missed [ inl h ↦ let e = h.0 in omega (arith, e, long) | inr h ↦ let e = h.0 in omega (arith, e, long) ]
+
+  -- the same after the first row
+  pub record StopsAfterRow (last : B) (a after : Ahead) (row closed unclosed : List ℕ) (trace : Answers) (p : B × Option Ahead) : Type 0 where
+    pub rest : Answers
+    pub is : trace ≡ row_answer a.place row ∷ rest
+    pub stopped : Stops last after closed unclosed rest p
+
+  stops_after : (last : B) (a after : Ahead) (row closed unclosed : List ℕ) (trace : Answers) (p : B × Option Ahead) → IsOneRow row → after.left + length row + 1 ≡ a.left → after.place ≡ told_place (a.place + 1) → Stops last a (row ++ 10 ∷ closed) unclosed trace p → StopsAfterRow last a after row closed unclosed trace p
+  stops_after last a after row closed unclosed trace p one limit next (inl s) =
+      let long = length-append row (10 ∷ closed) in
+      let many : length (rows (row ++ 10 ∷ closed)) ≡ length (row ∷ rows closed) = ap length (rows-row row closed one) in
+      let here = s.limit in let there = s.place in
+      record {
+        rest = row_answers after.place (rows closed);
+        is = s.answers ∙ sym (first_answer a.place after.place row closed one next);
+        stopped = inl (record { after = s.after; none_unclosed = s.none_unclosed; limit = omega (arith, long, here, limit); place = omega (arith, many, there, next); is_left = s.is_left; answers = refl });
+      }
+  stops_after last a after row closed unclosed trace p one limit next (inr (inl s)) =
+      let long = length-append row (10 ∷ (closed ++ unclosed)) in
+      let joined : (row ++ 10 ∷ closed) ++ unclosed ≡ row ++ 10 ∷ (closed ++ unclosed) = append_assoc row (10 ∷ closed) unclosed in
+      let same : length ((row ++ 10 ∷ closed) ++ unclosed) ≡ length (row ++ 10 ∷ (closed ++ unclosed)) = ap length joined in
+      let here = s.limit in
+      record {
+        rest = row_answers after.place (rows (closed ++ unclosed)) ++ replicate s.ends end;
+        is = s.answers ∙ ap (λ l. row_answers a.place (rows l) ++ replicate s.ends end) joined ∙ ap (λ l. l ++ replicate s.ends end) (sym (first_answer a.place after.place row (closed ++ unclosed) one next));
+        stopped = inr (inl (record { ends = s.ends; met_end = s.met_end; limit = omega (arith, long, same, here, limit); is_left = s.is_left; answers = refl; ended = s.ended }));
+      }
+  stops_after last a after row closed unclosed trace p one limit next (inr (inr s)) =
+      let long = length-append row (10 ∷ (closed ++ unclosed)) in
+      let joined : (row ++ 10 ∷ closed) ++ unclosed ≡ row ++ 10 ∷ (closed ++ unclosed) = append_assoc row (10 ∷ closed) unclosed in
+      let same : length ((row ++ 10 ∷ closed) ++ unclosed) ≡ length (closed ++ unclosed) + length row + 1 = ap length joined ∙ omega (arith, long) in
+      record {
+        rest = row_answers after.place (rows closed) ++ failure Read ∷ replicate s.ends end;
+        is = s.answers ∙ ap (λ l. l ++ failure Read ∷ replicate s.ends end) (sym (first_answer a.place after.place row closed one next));
+        stopped = inr (inr (record {
+          ends = s.ends;
+          missed = elim s.missed [ inl h ↦ inl (let e = h.0 in omega (arith, same, e, limit), h.1) | inr h ↦ inr (let e = h.0 in omega (arith, same, e, limit), h.1) ];
+          is_left = s.is_left;
+          answers = refl;
+        }));
+      }
+
+  same_ahead : (a b : Ahead) → a.left ≡ b.left → a.place ≡ b.place → a ≡ b
+  same_ahead a b e d = ap (λ (n : ℕ). record { left = n; place = a.place }) e ∙ ap (λ (n : ℕ). record { left = b.left; place = n }) d
+
+  -- where no row was closed
+  last_draw : (r last : B) (a : Ahead) (unclosed : List ℕ) (trace : Answers) (p : B × Option Ahead) → a.place ≤ 4294967295 → GivesBytes left stays r unclosed last → IsOneRow unclosed → Stops last a [] unclosed trace p → Run step (r, Some a) trace p
+  last_draw r last a unclosed trace p placed given one (inl s) =
+      let none : length (rows []) ≡ 0 = ap length rows-none in
+      let e = s.limit in let d = s.place in
+      let same : a ≡ s.after = same_ahead a s.after (omega (arith, e)) (omega (arith, d, none)) in
+      let here : r ≡ last = subst (λ l. GivesBytes left stays r l last) s.none_unclosed given in
+      let is : trace ≡ [] = s.answers ∙ ap (row_answers a.place) rows-none in
+      subst (λ (l : Answers). Run step (r, Some a) l p) (sym is) (ap (λ (b : B). (b, Some a)) here ∙ ap (λ (b : Ahead). (last, Some b)) same ∙ sym s.is_left)
+  last_draw r last a [] trace p placed given one (inr (inl s)) = ends_from s.ends s.answers (s.ended refl)
+    where
+      ends_from : (n : ℕ) → trace ≡ row_answers a.place (rows []) ++ replicate n end → 0 < n → Run step (r, Some a) trace p
+      ends_from zero e some = absurd (omega arith)
+      ends_from (suc n) e some =
+          let is : trace ≡ end ∷ replicate n end = e ∙ ap (λ l. row_answers a.place l ++ replicate (suc n) end) rows-none in
+          let d : DrawsRow left stays r a end p = record { row = []; one = one; last = last; given = given; ended = inr (inl (record { met_end = s.met_end; limit = s.limit; is_left = s.is_left; answered = inl (refl, refl) })) } in
+          subst (λ (l : Answers). Run step (r, Some a) l p) (sym is) (p, d, over_after n p s.is_left)
+  last_draw r last a (x ∷ xs) trace p placed given one (inr (inl s)) =
+      let some : (x ∷ xs) ≢ [] = λ e. cc in
+      let is : trace ≡ row_answer a.place (x ∷ xs) ∷ replicate s.ends end = s.answers ∙ ap (λ l. row_answers a.place l ++ replicate s.ends end) (rows-one (x ∷ xs) one some) in
+      let d : DrawsRow left stays r a (row_answer a.place (x ∷ xs)) p = record { row = x ∷ xs; one = one; last = last; given = given; ended = inr (inl (record { met_end = s.met_end; limit = s.limit; is_left = s.is_left; answered = inr (some, refl) })) } in
+      subst (λ (l : Answers). Run step (r, Some a) l p) (sym is) (p, d, over_after s.ends p s.is_left)
+  last_draw r last a unclosed trace p placed given one (inr (inr s)) =
+      let is : trace ≡ failure Read ∷ replicate s.ends end = s.answers ∙ ap (λ l. row_answers a.place l ++ failure Read ∷ replicate s.ends end) rows-none in
+      let d : DrawsRow left stays r a (failure Read) p = record { row = unclosed; one = one; last = last; given = given; ended = inr (inr (record { missed = s.missed; is_left = s.is_left; answered = refl })) } in
+      subst (λ (l : Answers). Run step (r, Some a) l p) (sym is) (p, d, over_after s.ends p s.is_left)
+
+  from_closed : (closed : List ℕ) → ClosedRows closed → (r last : B) (a : Ahead) (unclosed : List ℕ) (trace : Answers) (p : B × Option Ahead) → a.place ≤ 4294967295 → GivesBytes left stays r (closed ++ unclosed) last → IsOneRow unclosed → Stops last a closed unclosed trace p → Run step (r, Some a) trace p
+  from_closed closed (no_rows e) r last a unclosed trace p placed given one s =
+      last_draw r last a unclosed trace p placed (subst (λ l. GivesBytes left stays r (l ++ unclosed) last) e given) one (subst (λ l. Stops last a l unclosed trace p) e s)
+  from_closed closed (row_then row rest e is_one h) r last a unclosed trace p placed given one s =
+      let joined : closed ++ unclosed ≡ row ++ 10 ∷ (rest ++ unclosed) = ap (λ l. l ++ unclosed) e ∙ append_assoc row (10 ∷ rest) unclosed in
+      let parts = folds_split (GivesByte left stays) row (10 ∷ (rest ++ unclosed)) r last (subst (λ l. GivesBytes left stays r l last) joined given) in
+      let stopped : Stops last a (row ++ 10 ∷ rest) unclosed trace p = subst (λ l. Stops last a l unclosed trace p) e s in
+      let within = closed_within last a (row ++ 10 ∷ rest) unclosed trace p stopped in
+      let long = length-append row (10 ∷ rest) in
+      let after : Ahead = record { left = a.left - length row - 1; place = told_place (a.place + 1) } in
+      let limit : after.left + length row + 1 ≡ a.left = omega (arith, long, within) in
+      let t = stops_after last a after row rest unclosed trace p is_one limit refl stopped in
+      let q = parts.2.0 in
+      let d : DrawsRow left stays r a (row_answer a.place row) (q, Some after) = record { row = row; one = is_one; last = parts.0; given = parts.1; ended = inl (record { after = after; newline = parts.2.1; limit = limit; place = refl; is_left = refl; answered = refl }) } in
+      subst (λ (l : Answers). Run step (r, Some a) l p) (sym t.is) ((q, Some after), d, from_closed rest h q last after unclosed t.rest p (omega arith) parts.2.2 one t.stopped)
+
+  pub from_trace : (trace : Answers) (r : B) (a : Ahead) (p : B × Option Ahead) → a.place ≤ 4294967295 → ReadsRows left stays r a trace p → Run step (r, Some a) trace p
+  from_trace trace r a p placed h = from_closed h.closed (closed_rows h.closed h.are_closed) r h.last a h.unclosed trace p placed h.given h.one h.stopped
+
+  pub rows_runs : (trace : Answers) (p q : B × Option Ahead) → IsPlaced p → Run step p trace q ↔ RowsTrace left stays p trace q
+  rows_runs trace (r, Some a) q placed = (to_trace trace r a q placed, from_trace trace r a q placed)
+  rows_runs trace (r, None) q placed = (over_to trace r None q refl, (λ h. subst (λ (l : Answers). Run step (r, None) l q) (sym h.0.1) (subst (λ (u : B × Option Ahead). Run step (r, None) (replicate h.0.0 end) u) (sym h.1) (over_from h.0.0 r))))

@@ -1,0 +1,63 @@
+-- Lemmas on what draws from the rows of a reader answer.
+use Rattle.std.proofs.Common.{◌≡◌, ◌≢◌, ℕ, ◌+◌, List, [], ◌∷◌, ◌++◌, Option, Some, None, refl, sym, subst, ◌⊎◌, inl, inr}
+use Rattle.std.specs.List.{FoldsTo}
+use Rattle.std.proofs.lemmas.List.Elements.{All-nil, All-cons, All-append}
+use Rattle.fallible_iterator.specs.Traces.{Answered, failure, end}
+use Rattle.fallible_rows.specs.declared.fault.RowFault.{RowFault}
+use Rattle.fallible_rows.specs.declared.fault.RowFault.TheVariants.{Read}
+use Rattle.fallible_rows.specs.declared.digits.Digits.{Digits}
+use Rattle.fallible_rows.specs.declared.rows.Ahead.{Ahead}
+use Rattle.fallible_rows.specs.declared.rows.Close.{Close}
+use Rattle.fallible_rows.specs.declared.rows.Close.TheVariants.{Newline, End, Failure}
+use Rattle.fallible_rows.specs.Digits.{TellsOf, ClosesAs, ReadsRow}
+use Rattle.fallible_rows.specs.Reading.{GivesByte}
+use Rattle.fallible_rows.specs.RowTraces.{told_place, row_answer, IsOneRow, GivesBytes, DrawsRow}
+use Rattle.fallible_rows.proofs.RowLemmas.{not_newline}
+
+-- items one after another
+pub folds_append : {P A : Type 0} (R : P → A → P → Type 0) (xs ys : List A) (p q r : P) → FoldsTo R p xs q → FoldsTo R q ys r → FoldsTo R p (xs ++ ys) r
+folds_append R [] ys p q r h k = subst (λ u. FoldsTo R u ys r) (sym h) k
+folds_append R (x ∷ xs) ys p q r h k = (h.0, h.1, folds_append R xs ys h.0 q r h.2 k)
+
+pub folds_split : {P A : Type 0} (R : P → A → P → Type 0) (xs ys : List A) (p r : P) → FoldsTo R p (xs ++ ys) r → (q : P) × FoldsTo R p xs q × FoldsTo R q ys r
+folds_split R [] ys p r h = (p, refl, h)
+folds_split R (x ∷ xs) ys p r h = let k = folds_split R xs ys h.0 r h.2 in (k.0, (h.0, h.1, k.1), k.2)
+
+pub IsOneRow-more : (row : List ℕ) (byte : ℕ) → IsOneRow row → byte ≢ 10 → IsOneRow (row ++ byte ∷ [])
+IsOneRow-more row byte one other = All-append not_newline row (byte ∷ []) one (All-cons not_newline byte [] other (All-nil not_newline))
+
+pub gives_more : {B : Type 0} (left : B → Option (List ℕ)) (stays : B → B → Type 0) (row : List ℕ) (byte : ℕ) (p q r : B) → GivesBytes left stays p row q → GivesByte left stays q byte r → GivesBytes left stays p (row ++ byte ∷ []) r
+gives_more left stays row byte p q r h k = folds_append (GivesByte left stays) row (byte ∷ []) p q r h (r, k, refl)
+
+-- ---- one draw
+
+module _ {B : Type 0} (left : B → Option (List ℕ)) (stays : B → B → Type 0) (r q : B) (a : Ahead) (digits : Digits) (close : Close) (read : ReadsRow left stays r a.left (digits, close) q) where
+  closes_as : (c : Close) → close ≡ c → ClosesAs left stays a.left read.row read.last c q
+  closes_as c is = subst (λ (z : Close). ClosesAs left stays a.left read.row read.last z q) is read.closed
+
+  pub drawn_by_newline : (more place : ℕ) (answer : Answered ℕ RowFault) → close ≡ Newline more → place ≡ told_place (a.place + 1) → ((bytes : List ℕ) → TellsOf digits bytes → answer ≡ row_answer a.place bytes) → DrawsRow left stays r a answer (q, Some (record { left = more; place = place }))
+  drawn_by_newline more place answer is next answered = let c = closes_as (Newline more) is in record {
+    row = read.row;
+    one = read.one;
+    last = read.last;
+    given = read.given;
+    ended = inl (record { after = record { left = more; place = place }; newline = c.0; limit = c.1; place = next; is_left = refl; answered = answered read.row read.tells });
+  }
+
+  pub drawn_by_end : (answer : Answered ℕ RowFault) → close ≡ End → ((bytes : List ℕ) → TellsOf digits bytes → ((bytes ≡ []) × (answer ≡ end)) ⊎ ((bytes ≢ []) × (answer ≡ row_answer a.place bytes))) → DrawsRow left stays r a answer (q, None)
+  drawn_by_end answer is answered = let c = closes_as End is in record {
+    row = read.row;
+    one = read.one;
+    last = read.last;
+    given = read.given;
+    ended = inr (inl (record { met_end = c.0; limit = c.1; is_left = refl; answered = answered read.row read.tells }));
+  }
+
+  pub drawn_by_failure : close ≡ Failure → DrawsRow left stays r a (failure Read) (q, None)
+  drawn_by_failure is = record {
+    row = read.row;
+    one = read.one;
+    last = read.last;
+    given = read.given;
+    ended = inr (inr (record { missed = closes_as Failure is; is_left = refl; answered = refl }));
+  }

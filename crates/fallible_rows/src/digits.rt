@@ -1,0 +1,76 @@
+//! Rows, judged byte by byte.
+ghost use Rattle.std.specs.Prelude.{◌≡◌, ℕ, ◌+◌, ◌*◌, ◌<◌, ◌^◌, List, [], ◌∷◌, ◌++◌, ◌≤◌, MatchOption, IsTrue, ◌↔◌};
+ghost use Rattle.fallible_rows.specs.RowTraces.{row_answer};
+
+use crate::fault::RowFault;
+
+// The number of digits that a row may have.
+const MAX_DIGITS: u8 = 20;
+
+// What the bytes of a row come to so far.
+#[derive(Clone, Copy)]
+pub(crate) enum Digits {
+    // There are none.
+    Empty,
+    // So many digits, and their value.
+    Number { count: u8, value: u64 },
+    // No number, whatever follows.
+    Refused,
+}
+
+impl Digits {
+    ghost use Rattle.fallible_rows.specs.Digits.{TellsOf};
+
+    pub(crate) fn is_empty(self) -> bool
+        ensures { (bytes : List ℕ) → TellsOf self bytes → IsTrue result ↔ (bytes ≡ []) }
+    {
+        matches!(self, Digits::Empty)
+    }
+
+    // The same, followed by one more byte.
+    pub(crate) fn followed_by(self, byte: u8) -> Digits
+        ensures { (bytes : List ℕ) → TellsOf self bytes → TellsOf result (bytes ++ byte ∷ []) }
+    {
+        if !byte.is_ascii_digit() {
+            return Digits::Refused;
+        }
+        let digit = u64::from(byte - b'0');
+        match self {
+            Digits::Empty => Digits::Number {
+                count: 1,
+                value: digit,
+            },
+            Digits::Number { count, value } => {
+                if count >= MAX_DIGITS {
+                    return Digits::Refused;
+                }
+                match longer(value, digit) {
+                    Some(value) => Digits::Number {
+                        count: count + 1,
+                        value,
+                    },
+                    None => Digits::Refused,
+                }
+            }
+            Digits::Refused => Digits::Refused,
+        }
+    }
+
+    // The row at this place: its number, or the fault.
+    pub(crate) fn answer(self, place: u32) -> Result<Option<u64>, RowFault>
+        ensures { (bytes : List ℕ) → TellsOf self bytes → result ≡ row_answer place bytes }
+    {
+        match self {
+            Digits::Number { count: _, value } => Ok(Some(value)),
+            Digits::Empty => Err(RowFault::Row(place)),
+            Digits::Refused => Err(RowFault::Row(place)),
+        }
+    }
+}
+
+// A value and one more digit, within `u64`.
+fn longer(value: u64, digit: u64) -> Option<u64>
+    ensures { MatchOption result (2 ^ 64 ≤ value * 10 + digit) (λ v. (v ≡ value * 10 + digit) × (v < 2 ^ 64)) }
+{
+    value.checked_mul(10)?.checked_add(digit)
+}
