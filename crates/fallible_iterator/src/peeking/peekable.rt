@@ -84,20 +84,6 @@ where
         ensures taken { NextIf I.contract.steps (λ x b. b ≡ I.Item.eq x expected.now) (peekable_parts self.old) result (peekable_parts self.new) }
         ensures stays { Stays (peekable_contract I.contract) (peekable_parts self.old) (peekable_parts self.new) }
     {
-        match self.next() {
-            Ok(Some(item)) => {
-                if item.eq(expected) {
-                    Ok(Some(item))
-                } else {
-                    self.held = Some(Some(item));
-                    Ok(None)
-                }
-            }
-            Ok(None) => {
-                self.held = Some(None);
-                Ok(None)
-            }
-            Err(e) => Err(e),
-        }
+        self.next_if(|item: &I::Item| item.eq(expected))
     }
 }

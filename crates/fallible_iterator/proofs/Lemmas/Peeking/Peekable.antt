@@ -4,7 +4,7 @@ use Rattle.std.specs.Borrow.{Bor}
 use Rattle.std.proofs.Common.{refl, sym, ap, subst, arith, inl, inr}
 use Rattle.fallible_iterator.specs.Traces.{Answered, Run, item, end}
 use Rattle.fallible_iterator.specs.Contract.{Contract, Goes, Stays, Lawful}
-use Rattle.fallible_iterator.specs.Peeking.Peekable.{held_answers, PeekableTrace, peekable_step, peekable_contract, seen, told, held_of, held_item, Fills, Peeks, NextIf}
+use Rattle.fallible_iterator.specs.Peeking.Peekable.{held_answers, PeekableTrace, peekable_step, peekable_contract, seen, told, held_of, held_item, Fills, Peeks, TakenIf, NextIf}
 use Rattle.fallible_iterator.specs.Laws.Contract.{stays_after, stays_here}
 use Rattle.fallible_iterator.specs.Laws.Peeking.Peekable.{drawn_goes}
 
@@ -120,3 +120,14 @@ module _ {S A E : Type 0} (steps : S → Answered A E → S → Type 0) where
 
   pub peekable_law : (p : S × Option (Option A)) (trace : List (Answered A E)) (q : S × Option (Option A)) → Run (peekable_step steps) p trace q ↔ PeekableTrace steps p trace q
   peekable_law p trace q = (to_trace trace p q, from_trace trace p q)
+
+-- ---- one test for another
+
+module _ {S A E : Type 0} (steps : S → Answered A E → S → Type 0) (test test' : A → Bool → Type 0) (same : (x : A) (b : Bool) → test x b → test' x b) where
+  taken_by : (p : S × Option (Option A)) (peeked r : Answered A E) (q : S × Option (Option A)) → TakenIf steps test p peeked r q → TakenIf steps test' p peeked r q
+  taken_by p (Ok (Some x)) r q h = elim h [ inl t ↦ inl (same x true t.0, t.1, t.2) | inr t ↦ inr (same x false t.0, t.1, t.2) ]
+  taken_by p (Ok None) r q h = h
+  taken_by p (Err e) r q h = h
+
+  pub next_if_by : (p : S × Option (Option A)) (r : Answered A E) (q : S × Option (Option A)) → NextIf steps test p r q → NextIf steps test' p r q
+  next_if_by p r q n = record { peeked = n.peeked; left = n.left; peeks = n.peeks; taken = taken_by n.left n.peeked r q n.taken }
