@@ -68,22 +68,22 @@ fails_there front rest h =
 module _ {B : Type 0} (left : B → Option (List ℕ)) (stays : B → B → Type 0) where
   answers_known : (bytes : List ℕ) (trace : Answers) (r : B) (a : Ahead) (p : B × Option Ahead) → a.place ≡ 1 → left r ≡ Some bytes → NeverFailsToRead trace → ReadsRows left stays r a trace p → AnswersRowsOf bytes trace
   answers_known bytes trace r a p first tells never h = elim h.stopped [
-    inl s ↦
-      let whole : h.closed ++ h.unclosed ≡ h.closed = ap (λ l. h.closed ++ l) s.none_unclosed ∙ append-nil h.closed in
-      let k = rest_of (left r) (left h.last) h.closed bytes tells (subst (Consumes (left r) (left h.last)) whole (gives_consumes left stays (h.closed ++ h.unclosed) r h.last h.given)) in
-      let front = row_answers 1 (rows h.closed) in
-      let more = row_answers (1 + length (rows h.closed)) (rows k.0) in
-      let is : trace ≡ front = s.answers ∙ ap (λ n. row_answers n (rows h.closed)) first in
-      let all : row_answers 1 (rows bytes) ++ [] ≡ front ++ more = append-nil (row_answers 1 (rows bytes)) ∙ ap (λ l. row_answers 1 (rows l)) k.1 ∙ ap (row_answers 1) (rows-closed h.closed k.0 h.are_closed) ∙ answers_append 1 (rows h.closed) (rows k.0) in
-      (length front, 0, is ∙ sym (ap (take (length front)) all ∙ take_at front more (length front) refl)) |
-    inr k ↦ elim k [
-      inl s ↦
-        let k = rest_of (left r) (left p.0) (h.closed ++ h.unclosed) bytes tells (end_consumes left stays (h.closed ++ h.unclosed) r h.last p.0 h.given s.met_end) in
-        let same : bytes ≡ h.closed ++ h.unclosed = k.1 ∙ ap (λ l. (h.closed ++ h.unclosed) ++ l) (k.2 s.met_end.1) ∙ append-nil (h.closed ++ h.unclosed) in
-        let all = row_answers 1 (rows bytes) ++ replicate s.ends end in
-        let is : trace ≡ all = s.answers ∙ ap (λ n. row_answers n (rows (h.closed ++ h.unclosed)) ++ replicate s.ends end) first ∙ ap (λ l. row_answers 1 (rows l) ++ replicate s.ends end) (sym same) in
-        (length all, s.ends, is ∙ sym (take_all (length all) all (omega arith))) |
-      inr s ↦ absurd (fails_there (row_answers a.place (rows h.closed)) (replicate s.ends end) (subst NeverFailsToRead s.answers never))
+    | inl s ↦
+        let whole : h.closed ++ h.unclosed ≡ h.closed = ap (λ l. h.closed ++ l) s.none_unclosed ∙ append-nil h.closed in
+        let k = rest_of (left r) (left h.last) h.closed bytes tells (subst (Consumes (left r) (left h.last)) whole (gives_consumes left stays (h.closed ++ h.unclosed) r h.last h.given)) in
+        let front = row_answers 1 (rows h.closed) in
+        let more = row_answers (1 + length (rows h.closed)) (rows k.0) in
+        let is : trace ≡ front = s.answers ∙ ap (λ n. row_answers n (rows h.closed)) first in
+        let all : row_answers 1 (rows bytes) ++ [] ≡ front ++ more = append-nil (row_answers 1 (rows bytes)) ∙ ap (λ l. row_answers 1 (rows l)) k.1 ∙ ap (row_answers 1) (rows-closed h.closed k.0 h.are_closed) ∙ answers_append 1 (rows h.closed) (rows k.0) in
+        (length front, 0, is ∙ sym (ap (take (length front)) all ∙ take_at front more (length front) refl))
+    | inr k ↦ elim k [
+      | inl s ↦
+          let k = rest_of (left r) (left p.0) (h.closed ++ h.unclosed) bytes tells (end_consumes left stays (h.closed ++ h.unclosed) r h.last p.0 h.given s.met_end) in
+          let same : bytes ≡ h.closed ++ h.unclosed = k.1 ∙ ap (λ l. (h.closed ++ h.unclosed) ++ l) (k.2 s.met_end.1) ∙ append-nil (h.closed ++ h.unclosed) in
+          let all = row_answers 1 (rows bytes) ++ replicate s.ends end in
+          let is : trace ≡ all = s.answers ∙ ap (λ n. row_answers n (rows (h.closed ++ h.unclosed)) ++ replicate s.ends end) first ∙ ap (λ l. row_answers 1 (rows l) ++ replicate s.ends end) (sym same) in
+          (length all, s.ends, is ∙ sym (take_all (length all) all (omega arith)))
+      | inr s ↦ absurd (fails_there (row_answers a.place (rows h.closed)) (replicate s.ends end) (subst NeverFailsToRead s.answers never))
     ]
   ]
 
@@ -121,6 +121,6 @@ module _ {B : Type 0} (left : B → Option (List ℕ)) (stays : B → B → Type
       let front = row_answers 1 (rows bytes) in
       let known = front ++ replicate h.1 end in
       let one_more : front ++ replicate (suc h.1) end ≡ take h.0 known ++ (drop h.0 known ++ end ∷ []) =
-        ap (λ l. front ++ l) (replicate_push h.1 end) ∙ sym (append_assoc front (replicate h.1 end) (end ∷ [])) ∙ ap (λ l. l ++ end ∷ []) (sym (take-append-drop h.0 known)) ∙ append_assoc (take h.0 known) (drop h.0 known) (end ∷ []) in
+      ap (λ l. front ++ l) (replicate_push h.1 end) ∙ sym (append_assoc front (replicate h.1 end) (end ∷ [])) ∙ ap (λ l. l ++ end ∷ []) (sym (take-append-drop h.0 known)) ∙ append_assoc (take h.0 known) (drop h.0 known) (end ∷ []) in
       let parts = folds_split (row_step left stays) (take h.0 known) (drop h.0 known ++ end ∷ []) p (c.after, None) (subst (λ l. Run (row_step left stays) p l (c.after, None)) one_more (all_answers bytes h.1 p b c)) in
       (parts.0, subst (λ l. Run (row_step left stays) p l parts.0) (sym h.2) parts.1)

@@ -2,27 +2,26 @@
 use Rattle.std.proofs.Common.{◌≡◌, ℕ, zero, suc, ◌+◌, ◌<◌, ◌⊎◌, inl, inr, Bool, true, false, cond, nat_lt, List, [], ◌∷◌, ◌++◌, length, map, refl, sym, ap, subst, ◌∙◌, arith, append-nil, lit≤, Option, Some, None, Result, Ok, Err}
 use Rattle.std.specs.Prelude.{replicate}
 use Rattle.std.specs.List.{FoldsTo, filter_map}
-use Rattle.fallible_iterator.specs.Traces.{Answered, Run, item, failure, end, items_in}
-use Rattle.fallible_iterator.specs.Passing.{Place, asked, failure_at, end_at, source_answer, call_of, answer_at, EndsKept}
-use Rattle.fallible_iterator.specs.Filtering.Filter.{filter_outcome, filter_contract, filter_parts}
+use Rattle.fallible_iterator.specs.Traces.{Answered, Run, LastKept, item, failure, end, items_in}
+use Rattle.fallible_iterator.specs.Passing.{Place, asked, failure_at, end_at, source_answer, call_of, answer_at, has_answer, PassTrace}
+use Rattle.fallible_iterator.specs.Filtering.Filter.{filter_outcome, FilterTrace, filter_contract, filter_parts}
 use Rattle.std.specs.Fn.{Mut}
 use Rattle.std.specs.Borrow.{Bor}
 use Rattle.fallible_iterator.specs.declared.cutting.take.Take.{Take}
 use Rattle.fallible_iterator.specs.declared.filtering.filter.Filter.{Filter}
 use Rattle.fallible_iterator.specs.Contract.{seen_as, unbounded}
-use Rattle.fallible_iterator.specs.Closures.{call_at}
+use Rattle.fallible_iterator.specs.Closures.{call_at, call_in}
 use Rattle.fallible_iterator.specs.Cutting.Take.{TakeTrace, take_step, take_contract, take_parts}
 use Rattle.fallible_iterator.specs.Folds.{CountExit}
-use Rattle.fallible_iterator.proofs.Lemmas.Cutting.Take.{take_of, take_law}
-use Rattle.fallible_iterator.proofs.Lemmas.Definitions.{meets_definition}
-use Rattle.fallible_iterator.proofs.Lemmas.Filtering.Filter.{filter_by_answers}
-use Rattle.fallible_iterator.proofs.Lemmas.Parts.{made_filter}
+use Rattle.fallible_iterator.proofs.Lemmas.Cutting.Take.{take_law}
+use Rattle.fallible_iterator.proofs.Lemmas.Definitions.{meets_held, runs_by_answers}
+use Rattle.fallible_iterator.proofs.Lemmas.Passing.{passing_by_answers}
 use Rattle.fallible_iterator.specs.Laws.Passing.{kept_tail, answered}
-use Rattle.fallible_iterator.proofs.Lemmas.Views.{runs_seen}
 use Rattle.fallible_rows.specs.declared.rows.Ahead.{Ahead}
 use Rattle.fallible_rows.specs.declared.rows.Rows.{Rows}
-use Rattle.fallible_rows.specs.RowTraces.{rows_parts, rows_of, begun, row_step, ReadsRows}
+use Rattle.fallible_rows.specs.RowTraces.{rows_parts, begun, row_step, ReadsRows}
 use Rattle.fallible_rows.proofs.RowsLaw.{to_trace}
+use Rattle.fallible_rows.proofs.TraceLemmas.{rows_seen}
 use Rattle.fallible_rows.specs.declared.fault.RowFault.{RowFault}
 use Rattle.fallible_rows.proofs.ReportLemmas.{above}
 
@@ -69,7 +68,7 @@ module _ {F : Type 0} (call : F → ℕ → Result Bool RowFault → F → Type 
   Places = List (Place ℕ (Result Bool RowFault) RowFault)
 
   -- a place that is no item stands last
-  stands_last : (p : Place ℕ (Result Bool RowFault) RowFault) (z last : Answered ℕ RowFault) (rest : Places) (items : List ℕ) → NoItem z → EndsKept filter_outcome (p ∷ rest) → map item items ++ last ∷ [] ≡ z ∷ filter_map (answer_at filter_outcome) rest → source_answer p ≡ z → Below (map source_answer (p ∷ rest)) (length items) last
+  stands_last : (p : Place ℕ (Result Bool RowFault) RowFault) (z last : Answered ℕ RowFault) (rest : Places) (items : List ℕ) → NoItem z → LastKept (has_answer filter_outcome) (p ∷ rest) → map item items ++ last ∷ [] ≡ z ∷ filter_map (answer_at filter_outcome) rest → source_answer p ≡ z → Below (map source_answer (p ∷ rest)) (length items) last
   stands_last p z last [] [] none kept e is = let same : z ≡ last = cc in record { items = []; are = ap {B = Answers} (λ a. a ∷ []) (is ∙ same); count_is = refl }
   stands_last p z last (q ∷ rest) [] none kept e is = absurd (answered filter_outcome q rest (kept_tail filter_outcome p (q ∷ rest) kept) cc)
   stands_last p z last rest (x ∷ items) none kept e is = absurd (none x cc)
@@ -77,7 +76,7 @@ module _ {F : Type 0} (call : F → ℕ → Result Bool RowFault → F → Type 
   kept_before : (x : ℕ) (answers : Answers) (count : ℕ) (last : Answered ℕ RowFault) (b : Bool) → nat_lt 100 x ≡ b → Below answers count last → Below (item x ∷ answers) (cond b 1 0 + count) last
   kept_before x answers count last b is h = record { items = x ∷ h.items; are = ap {B = Answers} (λ l. item x ∷ l) h.are; count_is = ap (λ n. cond b 1 0 + n) h.count_is ∙ ap (λ c. cond c 1 0 + above h.items) (sym is) }
 
-  pub filtered : (places : Places) (f g : F) (items : List ℕ) (last : Answered ℕ RowFault) → NoItem last → FoldsTo (λ p c q. call p c.0 c.1 q) f (filter_map call_of places) g → map item items ++ last ∷ [] ≡ filter_map (answer_at filter_outcome) places → EndsKept filter_outcome places → Below (map source_answer places) (length items) last
+  pub filtered : (places : Places) (f g : F) (items : List ℕ) (last : Answered ℕ RowFault) → NoItem last → FoldsTo (λ p c q. call p c.0 c.1 q) f (filter_map call_of places) g → map item items ++ last ∷ [] ≡ filter_map (answer_at filter_outcome) places → LastKept (has_answer filter_outcome) places → Below (map source_answer places) (length items) last
   filtered [] f g [] last none called e kept = absurd cc
   filtered [] f g (y ∷ items) last none called e kept = absurd cc
   filtered (failure_at d ∷ rest) f g items last none called e kept = stands_last (failure_at d) (failure d) last rest items (no_item-failure d) kept e refl
@@ -106,7 +105,7 @@ abbrev pub IsTaken : Answers → ℕ → List ℕ → Answered ℕ RowFault → 
 IsTaken answers n xs last = ((answers ≡ map item xs ++ last ∷ []) × (length xs < n)) ⊎ ((answers ≡ map item xs) × (last ≡ end) × (length xs ≡ n))
 
 module _ {S : Type 0} (steps : S → Answered ℕ RowFault → S → Type 0) (s t : S) (n left : ℕ) (xs : List ℕ) (last : Answered ℕ RowFault) where
-  pub taken : (trace : Answers) → trace ≡ map item xs ++ last ∷ [] → (h : TakeTrace steps s n trace t left) → IsTaken h.source_trace n xs last
+  pub taken : (trace : Answers) → trace ≡ map item xs ++ last ∷ [] → (h : TakeTrace steps (s, n) trace (t, left)) → IsTaken h.source_trace n xs last
   taken trace are h = by_ends h.ends h.answers h.over
     where
       by_ends : (k : ℕ) → trace ≡ h.source_trace ++ replicate k end → (0 < k → items_in h.source_trace ≡ n) → IsTaken h.source_trace n xs last
@@ -138,6 +137,11 @@ module _ {B F : Type 0} (left : B → Option (List ℕ)) (stays : B → B → Ty
   abbrev chain_steps : Filter (Take (Rows B)) F → Answered ℕ RowFault → Filter (Take (Rows B)) F → Type 0
   chain_steps = (seen_as filter_parts (filter_contract (seen_as take_parts (take_contract (seen_as rows_parts (unbounded (row_step left stays))))) g)).steps
 
+  acts_in : (p : Option F) (x : ℕ) (r : Result Bool RowFault) (q : Option F) → call_in (call_at g) p x r q → r ≡ Ok (nat_lt 100 x)
+  acts_in None x r q called = absurd called
+  acts_in (Some f) x r None called = absurd called
+  acts_in (Some f) x r (Some h) called = acts f x r h called
+
   -- what the rows of the reader answered, and what was read
   pub record ChainReads (r : B) (limit n count : ℕ) (last : Answered ℕ RowFault) (t : Filter (Take (Rows B)) F) : Type 0 where
     pub items : List ℕ
@@ -149,18 +153,17 @@ module _ {B F : Type 0} (left : B → Option (List ℕ)) (stays : B → B → Ty
   pub chain_reads : (s t : Filter (Take (Rows B)) F) (first : Take (Rows B)) (begin : Rows B) (f : F) (r : B) (limit n : ℕ) (items : List ℕ) (last : Answered ℕ RowFault) → filter_parts s ≡ (first, Some f) → take_parts first ≡ (begin, n) → rows_parts begin ≡ begun r limit → NoItem last
       → Run chain_steps s (map item items ++ last ∷ []) t → ChainReads r limit n (length items) last t
   chain_reads s t first begin f r limit n items last at_filter at_take at_rows none ran =
-      let kept = (meets_definition _ (filter_by_answers taken_steps g) filter_parts _ made_filter s t first f (map item items ++ last ∷ []) at_filter).0 ran in
-      let pass = kept.3 in
-      let below = filtered (call_at g) acts pass.places f kept.1 items last none pass.called pass.answers pass.ends_kept in
-      let seen = (runs_seen take_parts take_of (λ x. refl) (λ p. refl) (take_step row_steps) (map source_answer pass.places) first kept.0).0 pass.drawn in
-      let cut = (take_law row_steps begin n (map source_answer pass.places) kept.0.it kept.0.left).0 (subst (λ (p : Rows B × ℕ). Run (take_step row_steps) p (map source_answer pass.places) (take_parts kept.0)) at_take seen) in
-      let drawn = (runs_seen rows_parts rows_of (λ x. refl) (λ p. refl) (row_step left stays) cut.source_trace begin kept.0.it).0 cut.drawn in
-      let reads = to_trace left stays cut.source_trace r (record { left = limit; place = 1 }) (rows_parts kept.0.it) (lit≤ tt) (subst (λ (p : B × Option Ahead). Run (row_step left stays) p cut.source_trace (rows_parts kept.0.it)) at_rows drawn) in
-      let same : t.it ≡ kept.0 = ap (λ (p : Take (Rows B) × Option F). p.0) kept.2 in
+      let filtering = meets_held filter_parts (λ p. record { it = p.0; f = p.1 }) (λ x. refl) (λ p. refl) (λ p r q. FilterTrace taken_steps g p (r ∷ []) q) (FilterTrace taken_steps g) (runs_by_answers (FilterTrace taken_steps g) (passing_by_answers taken_steps (call_in (call_at g)) filter_outcome)) in
+      let taking = meets_held take_parts (λ p. record { it = p.0; left = p.1 }) (λ x. refl) (λ p. refl) (take_step row_steps) (TakeTrace row_steps) (take_law row_steps) in
+      let pass = subst (λ (p : Take (Rows B) × Option F). FilterTrace taken_steps g p (map item items ++ last ∷ []) (filter_parts t)) at_filter ((filtering s (map item items ++ last ∷ []) t).0 ran) in
+      let below = filtered (call_in (call_at g)) acts_in pass.places (Some f) t.f items last none pass.called pass.answers pass.last_kept in
+      let cut = subst (λ (p : Rows B × ℕ). TakeTrace row_steps p (map source_answer pass.places) (take_parts t.it)) at_take ((taking first (map source_answer pass.places) t.it).0 pass.drawn) in
+      let drawn = (rows_seen (row_step left stays) cut.source_trace begin t.it.it).0 cut.drawn in
+      let reads = to_trace left stays cut.source_trace r (record { left = limit; place = 1 }) (rows_parts t.it.it) (lit≤ tt) (subst (λ (p : B × Option Ahead). Run (row_step left stays) p cut.source_trace (rows_parts t.it.it)) at_rows drawn) in
       record {
         items = below.items;
         trace = cut.source_trace;
-        reads = subst (λ (k : Take (Rows B)). ReadsRows left stays r (record { left = limit; place = 1 }) cut.source_trace (rows_parts k.it)) (sym same) reads;
-        is_taken = taken row_steps begin kept.0.it n kept.0.left below.items last (map source_answer pass.places) below.are cut;
+        reads = reads;
+        is_taken = taken row_steps begin t.it.it n t.it.left below.items last (map source_answer pass.places) below.are cut;
         count_is = below.count_is;
       }

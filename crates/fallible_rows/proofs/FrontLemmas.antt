@@ -37,10 +37,10 @@ module _ {B : Type 0} (left : B → Option (List ℕ)) (stays : B → B → Type
 
     pub rows_keep : (r : B) (a : Ahead) (trace : Answers) (p : B × Option Ahead) → ReadsRows left stays r a trace p → name p.0 ≡ name r
     rows_keep r a trace p h = let before = gives_keeps (h.closed ++ h.unclosed) r h.last h.given in elim h.stopped [
-      inl s ↦ ap (λ (q : B × Option Ahead). name q.0) s.is_left ∙ before |
-      inr k ↦ elim k [
-        inl s ↦ kept h.last p.0 s.met_end.2 ∙ before |
-        inr s ↦ elim s.missed [ inl m ↦ ap name m.1 ∙ before | inr m ↦ kept h.last p.0 m.1.1 ∙ before ]
+      | inl s ↦ ap (λ (q : B × Option Ahead). name q.0) s.is_left ∙ before
+      | inr k ↦ elim k [
+        | inl s ↦ kept h.last p.0 s.met_end.2 ∙ before
+        | inr s ↦ elim s.missed [ inl m ↦ ap name m.1 ∙ before | inr m ↦ kept h.last p.0 m.1.1 ∙ before ]
       ]
     ]
 
@@ -53,13 +53,14 @@ module _ {B : Type 0} (left : B → Option (List ℕ)) (stays : B → B → Type
     all_numbers bytes are taken how few =
         let rs = item_rows a.place (rows bytes) xs are in
         let long = rs.long in
-        let within : length (rows bytes) ≤ row_limit = omega (arith, long, few) in
-        (bytes,
+        let within : length (rows bytes) ≤ row_limit = omega (arith, long, few) in (
+          bytes,
           elim how [
-            inl at_end ↦ front_at_end (left r) (left p.0) bytes taken at_end (All-take is_taken (length (rows bytes) - 1) (rows bytes) rs.numbers) within |
-            inr full ↦ front_full (left r) (left p.0) bytes taken full.0 rs.numbers (let e = full.1 in omega (arith, long, e))
+            | inl at_end ↦ front_at_end (left r) (left p.0) bytes taken at_end (All-take is_taken (length (rows bytes) - 1) (rows bytes) rs.numbers) within
+            | inr full ↦ front_full (left r) (left p.0) bytes taken full.0 rs.numbers (let e = full.1 in omega (arith, long, e))
           ],
-          tally-numbers bytes rs.numbers within ∙ ap (λ n. Ok n) (rs.count ∙ sym counted))
+          tally-numbers bytes rs.numbers within ∙ ap (λ n. Ok n) (rs.count ∙ sym counted),
+        )
 
     -- the last row alone is refused
     last_refused : (bytes : List ℕ) (e : RowFault) → row_answers a.place (rows bytes) ≡ map item xs ++ failure e ∷ [] → Consumes (left r) (left p.0) bytes → IsAtEnd (left p.0) ⊎ IsClosed bytes → length xs < row_limit → Counts (Err e)
@@ -68,13 +69,14 @@ module _ {B : Type 0} (left : B → Option (List ℕ)) (stays : B → B → Type
         let long = rs.long in
         let within : length rs.good < row_limit = omega (arith, long, few) in
         let place : told_place (a.place + length rs.good) ≡ length rs.good + 1 = omega (arith, first, within, row_limit-is) in
-        subst (λ (f : RowFault). Counts (Err f)) (sym (rs.fault ∙ ap (λ k. Row k) place))
-        (bytes,
+        subst (λ (f : RowFault). Counts (Err f)) (sym (rs.fault ∙ ap (λ k. Row k) place)) (
+          bytes,
           elim how [
-            inl at_end ↦ front_refused_at_end (left r) (left p.0) bytes taken rs.good rs.bad at_end rs.are rs.numbers within |
-            inr closed ↦ front_refused (left r) (left p.0) bytes taken rs.good rs.bad closed rs.are rs.numbers rs.refused within
+            | inl at_end ↦ front_refused_at_end (left r) (left p.0) bytes taken rs.good rs.bad at_end rs.are rs.numbers within
+            | inr closed ↦ front_refused (left r) (left p.0) bytes taken rs.good rs.bad closed rs.are rs.numbers rs.refused within
           ],
-          ap line_of_count (tally-refused bytes rs.good rs.bad [] rs.are rs.numbers rs.refused within))
+          ap line_of_count (tally-refused bytes rs.good rs.bad [] rs.are rs.numbers rs.refused within),
+        )
 
     -- a read failed after rows that are all numbers
     read_failed : (closed unclosed : List ℕ) → IsClosed closed → IsOneRow unclosed → row_answers a.place (rows closed) ≡ map item xs → Consumes (left r) (left p.0) (closed ++ unclosed) → length xs < row_limit → Counts (Err Read)
@@ -86,10 +88,10 @@ module _ {B : Type 0} (left : B → Option (List ℕ)) (stays : B → B → Type
     -- by the last answer, where it was drawn
     by_end : (trace : Answers) → trace ≡ map item xs ++ end ∷ [] → ReadsRows left stays r a trace p → length xs < row_limit → Counts (Ok count)
     by_end trace are h few = elim h.stopped [
-      inl s ↦ absurd (no_end a.place (rows h.closed) xs (sym s.answers ∙ are)) |
-      inr k ↦ elim k [
-        inl s ↦ by_ends s s.ends s.answers |
-        inr s ↦ absurd (let e = (seam (row_answers a.place (rows h.closed)) (replicate s.ends end) (failure Read) end xs (no_item-failure Read) (sym s.answers ∙ are)).1 in cc)
+      | inl s ↦ absurd (no_end a.place (rows h.closed) xs (sym s.answers ∙ are))
+      | inr k ↦ elim k [
+        | inl s ↦ by_ends s s.ends s.answers
+        | inr s ↦ absurd (let e = (seam (row_answers a.place (rows h.closed)) (replicate s.ends end) (failure Read) end xs (no_item-failure Read) (sym s.answers ∙ are)).1 in cc)
       ]
     ]
       where
@@ -101,13 +103,13 @@ module _ {B : Type 0} (left : B → Option (List ℕ)) (stays : B → B → Type
 
     by_failure : (trace : Answers) (e : RowFault) → trace ≡ map item xs ++ failure e ∷ [] → ReadsRows left stays r a trace p → length xs < row_limit → Counts (Err e)
     by_failure trace e are h few = elim h.stopped [
-      inl s ↦ last_refused h.closed e (sym s.answers ∙ are) (between s) (inr h.are_closed) few |
-      inr k ↦ elim k [
-        inl s ↦ by_ends s s.ends s.answers |
-        inr s ↦ let m = seam (row_answers a.place (rows h.closed)) (replicate s.ends end) (failure Read) (failure e) xs (no_item-failure Read) (sym s.answers ∙ are) in
-          let q = m.1 in
-          let same : Read ≡ e = cc in
-          subst (λ (f : RowFault). Counts (Err f)) same (read_failed h.closed h.unclosed h.are_closed h.one m.0 (missed_consumes (h.closed ++ h.unclosed) a.left (length (h.closed ++ h.unclosed)) r h.last p.0 h.given s.missed) few)
+      | inl s ↦ last_refused h.closed e (sym s.answers ∙ are) (between s) (inr h.are_closed) few
+      | inr k ↦ elim k [
+        | inl s ↦ by_ends s s.ends s.answers
+        | inr s ↦ let m = seam (row_answers a.place (rows h.closed)) (replicate s.ends end) (failure Read) (failure e) xs (no_item-failure Read) (sym s.answers ∙ are) in
+            let q = m.1 in
+            let same : Read ≡ e = cc in
+            subst (λ (f : RowFault). Counts (Err f)) same (read_failed h.closed h.unclosed h.are_closed h.one m.0 (missed_consumes (h.closed ++ h.unclosed) a.left (length (h.closed ++ h.unclosed)) r h.last p.0 h.given s.missed) few)
       ]
     ]
       where
@@ -123,10 +125,10 @@ module _ {B : Type 0} (left : B → Option (List ℕ)) (stays : B → B → Type
     -- where as many rows as are looked at were answered
     by_limit : (trace : Answers) → trace ≡ map item xs → ReadsRows left stays r a trace p → length xs ≡ row_limit → Counts (Ok count)
     by_limit trace are h long = elim h.stopped [
-      inl s ↦ all_numbers h.closed (sym s.answers ∙ are) (between s) (inr (h.are_closed, long)) (omega (arith, long)) |
-      inr k ↦ elim k [
-        inl s ↦ by_ends s s.ends s.answers |
-        inr s ↦ absurd (no_seam (row_answers a.place (rows h.closed)) (replicate s.ends end) (failure Read) xs (no_item-failure Read) (sym s.answers ∙ are))
+      | inl s ↦ all_numbers h.closed (sym s.answers ∙ are) (between s) (inr (h.are_closed, long)) (omega (arith, long))
+      | inr k ↦ elim k [
+        | inl s ↦ by_ends s s.ends s.answers
+        | inr s ↦ absurd (no_seam (row_answers a.place (rows h.closed)) (replicate s.ends end) (failure Read) xs (no_item-failure Read) (sym s.answers ∙ are))
       ]
     ]
       where

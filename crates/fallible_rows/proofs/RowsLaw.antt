@@ -128,39 +128,64 @@ module _ {B : Type 0} (left : B → Option (List ℕ)) (stays : B → B → Type
 
   at_end : (r : B) (a : Ahead) (row : List ℕ) (last : B) (n : ℕ) (x : Answered ℕ RowFault) (mid : B × Option Ahead) → IsOneRow row → GivesBytes left stays r row last → EndsByEnd left stays last a row x mid → ReadsRows left stays r a (x ∷ replicate n end) mid
   at_end r a row last n x mid one given e = elim e.answered [
-    inl h ↦ record {
-      closed = []; unclosed = row; last = last; given = given; are_closed = inl refl; one = one;
-      stopped = inr (inl (record { ends = suc n; met_end = e.met_end; limit = e.limit; is_left = e.is_left;
+    | inl h ↦ record {
+      closed = [];
+      unclosed = row;
+      last = last;
+      given = given;
+      are_closed = inl refl;
+      one = one;
+      stopped = inr (inl (record {
+        ends = suc n;
+        met_end = e.met_end;
+        limit = e.limit;
+        is_left = e.is_left;
         answers = ap {B = Answers} (λ y. y ∷ replicate n end) h.1 ∙ ap (λ l. row_answers a.place l ++ replicate (suc n) end) (sym rows-none ∙ ap rows (sym h.0));
-        ended = λ _. omega arith }));
-    } |
-    inr h ↦ record {
-      closed = []; unclosed = row; last = last; given = given; are_closed = inl refl; one = one;
-      stopped = inr (inl (record { ends = n; met_end = e.met_end; limit = e.limit; is_left = e.is_left;
+        ended = λ _. omega arith;
+      }));
+    }
+    | inr h ↦ record {
+      closed = [];
+      unclosed = row;
+      last = last;
+      given = given;
+      are_closed = inl refl;
+      one = one;
+      stopped = inr (inl (record {
+        ends = n;
+        met_end = e.met_end;
+        limit = e.limit;
+        is_left = e.is_left;
         answers = ap {B = Answers} (λ y. y ∷ replicate n end) h.1 ∙ ap (λ l. row_answers a.place l ++ replicate n end) (sym (rows-one row one h.0));
-        ended = λ none. absurd (h.0 none) }));
+        ended = λ none. absurd (h.0 none);
+      }));
     }
   ]
 
   at_failure : (r : B) (a : Ahead) (row : List ℕ) (last : B) (n : ℕ) (x : Answered ℕ RowFault) (mid : B × Option Ahead) → IsOneRow row → GivesBytes left stays r row last → EndsByFailure left stays last a row x mid → ReadsRows left stays r a (x ∷ replicate n end) mid
   at_failure r a row last n x mid one given e = record {
-    closed = []; unclosed = row; last = last; given = given; are_closed = inl refl; one = one;
+    closed = [];
+    unclosed = row;
+    last = last;
+    given = given;
+    are_closed = inl refl;
+    one = one;
     stopped = inr (inr (record { ends = n; missed = e.missed; is_left = e.is_left; answers = ap {B = Answers} (λ y. y ∷ replicate n end) e.answered ∙ ap (λ l. row_answers a.place l ++ failure Read ∷ replicate n end) (sym rows-none) }));
   }
 
   pub to_trace : (trace : Answers) (r : B) (a : Ahead) (p : B × Option Ahead) → a.place ≤ 4294967295 → Run step (r, Some a) trace p → ReadsRows left stays r a trace p
   to_trace [] r a p placed ran = none_read r a p placed ran
   to_trace (x ∷ rest) r a p placed ran = let d : DrawsRow left stays r a x ran.0 = ran.1 in elim d.ended [
-    inl e ↦ let next = e.place in
-      let others = to_trace rest ran.0.0 e.after p (omega (arith, next)) (subst (λ (o : Option Ahead). Run step (ran.0.0, o) rest p) e.is_left ran.2) in
-      subst (λ (y : Answered ℕ RowFault). ReadsRows left stays r a (y ∷ rest) p) (sym e.answered) (row_before r ran.0.0 a e.after d.row d.last rest p d.one d.given e.newline e.limit e.place others) |
-    inr s ↦ elim s [
-      inl e ↦ let h = over_to rest ran.0.0 ran.0.1 p e.is_left ran.2 in
-        let same : p ≡ ran.0 = h.1 ∙ ap (λ (o : Option Ahead). (ran.0.0, o)) (sym e.is_left) in
-        subst (λ (l : Answers). ReadsRows left stays r a (x ∷ l) p) (sym h.0.1) (subst (λ (q : B × Option Ahead). ReadsRows left stays r a (x ∷ replicate h.0.0 end) q) (sym same) (at_end r a d.row d.last h.0.0 x ran.0 d.one d.given e)) |
-      inr e ↦ let h = over_to rest ran.0.0 ran.0.1 p e.is_left ran.2 in
-        let same : p ≡ ran.0 = h.1 ∙ ap (λ (o : Option Ahead). (ran.0.0, o)) (sym e.is_left) in
-        subst (λ (l : Answers). ReadsRows left stays r a (x ∷ l) p) (sym h.0.1) (subst (λ (q : B × Option Ahead). ReadsRows left stays r a (x ∷ replicate h.0.0 end) q) (sym same) (at_failure r a d.row d.last h.0.0 x ran.0 d.one d.given e))
+    | inl e ↦ let next = e.place in
+        let others = to_trace rest ran.0.0 e.after p (omega (arith, next)) (subst (λ (o : Option Ahead). Run step (ran.0.0, o) rest p) e.is_left ran.2) in
+        subst (λ (y : Answered ℕ RowFault). ReadsRows left stays r a (y ∷ rest) p) (sym e.answered) (row_before r ran.0.0 a e.after d.row d.last rest p d.one d.given e.newline e.limit e.place others)
+    | inr s ↦ elim s [
+      | inl e ↦ let h = over_to rest ran.0.0 ran.0.1 p e.is_left ran.2 in
+          let same : p ≡ ran.0 = h.1 ∙ ap (λ (o : Option Ahead). (ran.0.0, o)) (sym e.is_left) in
+          subst (λ (l : Answers). ReadsRows left stays r a (x ∷ l) p) (sym h.0.1) (subst (λ (q : B × Option Ahead). ReadsRows left stays r a (x ∷ replicate h.0.0 end) q) (sym same) (at_end r a d.row d.last h.0.0 x ran.0 d.one d.given e))
+      | inr e ↦ let h = over_to rest ran.0.0 ran.0.1 p e.is_left ran.2 in
+          let same : p ≡ ran.0 = h.1 ∙ ap (λ (o : Option Ahead). (ran.0.0, o)) (sym e.is_left) in
+          subst (λ (l : Answers). ReadsRows left stays r a (x ∷ l) p) (sym h.0.1) (subst (λ (q : B × Option Ahead). ReadsRows left stays r a (x ∷ replicate h.0.0 end) q) (sym same) (at_failure r a d.row d.last h.0.0 x ran.0 d.one d.given e))
     ]
   ]
 

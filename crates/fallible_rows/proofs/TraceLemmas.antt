@@ -1,17 +1,19 @@
 -- Lemmas on what draws from the rows of a reader answer.
-use Rattle.std.proofs.Common.{◌≡◌, ◌≢◌, ℕ, ◌+◌, List, [], ◌∷◌, ◌++◌, Option, Some, None, refl, sym, subst, ◌⊎◌, inl, inr}
+use Rattle.std.proofs.Common.{◌↔◌, ◌≡◌, ◌≢◌, ℕ, ◌+◌, List, [], ◌∷◌, ◌++◌, Option, Some, None, refl, sym, subst, ◌⊎◌, inl, inr}
 use Rattle.std.specs.List.{FoldsTo}
 use Rattle.std.proofs.lemmas.List.Elements.{All-nil, All-cons, All-append}
-use Rattle.fallible_iterator.specs.Traces.{Answered, failure, end}
+use Rattle.fallible_iterator.specs.Traces.{Answered, Run, failure, end}
+use Rattle.fallible_iterator.proofs.Lemmas.Definitions.{meets_held}
 use Rattle.fallible_rows.specs.declared.fault.RowFault.{RowFault}
 use Rattle.fallible_rows.specs.declared.fault.RowFault.TheVariants.{Read}
 use Rattle.fallible_rows.specs.declared.digits.Digits.{Digits}
 use Rattle.fallible_rows.specs.declared.rows.Ahead.{Ahead}
+use Rattle.fallible_rows.specs.declared.rows.Rows.{Rows}
 use Rattle.fallible_rows.specs.declared.rows.Close.{Close}
 use Rattle.fallible_rows.specs.declared.rows.Close.TheVariants.{Newline, End, Failure}
 use Rattle.fallible_rows.specs.Digits.{TellsOf, ClosesAs, ReadsRow}
 use Rattle.fallible_rows.specs.Reading.{GivesByte}
-use Rattle.fallible_rows.specs.RowTraces.{told_place, row_answer, IsOneRow, GivesBytes, DrawsRow}
+use Rattle.fallible_rows.specs.RowTraces.{rows_parts, rows_of, told_place, row_answer, IsOneRow, GivesBytes, DrawsRow}
 use Rattle.fallible_rows.proofs.RowLemmas.{not_newline}
 
 -- items one after another
@@ -28,6 +30,10 @@ IsOneRow-more row byte one other = All-append not_newline row (byte ∷ []) one 
 
 pub gives_more : {B : Type 0} (left : B → Option (List ℕ)) (stays : B → B → Type 0) (row : List ℕ) (byte : ℕ) (p q r : B) → GivesBytes left stays p row q → GivesByte left stays q byte r → GivesBytes left stays p (row ++ byte ∷ []) r
 gives_more left stays row byte p q r h k = folds_append (GivesByte left stays) row (byte ∷ []) p q r h (r, k, refl)
+
+-- a run of the struct is one of its parts, and the other way round
+pub rows_seen : {B : Type 0} (step : B × Option Ahead → Answered ℕ RowFault → B × Option Ahead → Type 0) (trace : List (Answered ℕ RowFault)) (s t : Rows B) → Run (λ u r v. step (rows_parts u) r (rows_parts v)) s trace t ↔ Run step (rows_parts s) trace (rows_parts t)
+rows_seen step trace s t = meets_held rows_parts rows_of (λ x. refl) (λ p. refl) step (λ p l q. Run step p l q) (λ p l q. ((λ h. h), (λ h. h))) s trace t
 
 -- ---- one draw
 

@@ -74,7 +74,12 @@ fn read_row<B: ReadByte>(reader: &mut B, limit: u64) -> (Digits, Close)
     for read in 0..limit {
         match reader.read_byte() {
             Ok(Some(b'\n')) => {
-                return (row, Close::Newline { left: limit - read - 1 });
+                return (
+                    row,
+                    Close::Newline {
+                        left: limit - read - 1,
+                    },
+                );
             }
             Ok(Some(byte)) => row = row.followed_by(byte),
             Ok(None) => return (row, Close::End),

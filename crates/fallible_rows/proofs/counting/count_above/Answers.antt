@@ -1,5 +1,5 @@
 -- What the chain's rows answered is what was read, and the reader is the one that was lent.
-use Rattle.std.proofs.Common.{rules, tests, sym, subst, refl}
+use Rattle.std.proofs.Common.{rules, tests, ◌≡◌, sym, subst, refl}
 use Rattle.fallible_rows.specs.declared.reading.Lent.{Lent}
 use Rattle.fallible_rows.specs.Counting.{CountsFront}
 use Rattle.fallible_rows.proofs.ChainLemmas.{IsTaken, no_item-last, chain_reads}
@@ -13,5 +13,7 @@ returns g c =
     let read = chain_reads _ _ _ (λ f x r h k. search (rules, tests)) c.filter-above.result c.count_of.new.it c.take.result c.new.result _ _ _ _ counted.items counted.last c.filter-above.ensures c.take.ensures c.new.ensures (no_item-last _ counted.last c.count_of.result counted.exit) counted.ran in
     let trace = read.trace in
     let kept = rows_keep _ _ (λ (s : Lent g.row.R.Denot). s.reader.ghost_name) (λ r q k. k) _ _ trace _ read.reads in
-    subst (λ x. CountsFront (g.R.Read.remaining c.args.reader.now) (g.R.Read.remaining x) c.count_of.result) (sym (c.reader-1.given.1 (sym kept)))
-    (counts_front _ _ _ _ _ refl read.items _ read.count_is trace counted.last c.count_of.result read.reads (subst (λ n. IsTaken trace n read.items counted.last) (sym row_limit-is) read.is_taken) counted.exit)
+    let names = sym kept in
+    let holds = counts_front _ _ _ _ _ refl read.items _ read.count_is trace counted.last c.count_of.result read.reads (subst (λ n. IsTaken trace n read.items counted.last) (sym row_limit-is) read.is_taken) counted.exit in
+    let finally = λ (x : g.row.R.Denot) (same : x ≡ c.count_of.new.it.it.it.reader.reader.now). subst (λ y. CountsFront (g.R.Read.remaining c.args.reader.now) (g.R.Read.remaining y) c.count_of.result) (sym same) holds in
+    finally _ (search (rules, names))

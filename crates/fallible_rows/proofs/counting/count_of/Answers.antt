@@ -1,5 +1,5 @@
 -- The fold that counts its items is their number.
-use Rattle.std.proofs.Common.{◌≡◌, ℕ, ◌+◌, ◌-◌, ◌^◌, ◌<◌, List, [], ◌∷◌, length, Result, Some, None, Ok, Err, ap, subst, arith, rules}
+use Rattle.std.proofs.Common.{◌≡◌, ℕ, ◌+◌, ◌-◌, ◌^◌, ◌<◌, List, [], ◌∷◌, length, Result, Some, None, Ok, Err, inl, ap, subst, arith, rules}
 use Rattle.std.specs.List.{FoldsTo}
 use Rattle.fallible_iterator.specs.Traces.{Answered}
 use Rattle.fallible_iterator.specs.Contract.{Contract, Lawful}
@@ -34,7 +34,7 @@ module _ {A F : Type 0} where
   as_counts (x ∷ items) p q h = (h.0.0, h.1, as_counts items h.0 q h.2)
 
   fits : {S E : Type 0} {m : Contract S A E} (s : S) (f : F) → Lawful m → m.can s → m.to_come s (2 ^ 64 - 1) → HoldsAtEachTurn {C = ℕ × F} m.steps (λ u x v. v.0 ≡ u.0 + 1) (λ u x. u.0 < 2 ^ 64 - 1) s (0, f)
-  fits s f l c b = record { at = λ items t u d x ran went step. (count_fits (2 ^ 64 - 1) l c b).at items t u d.0 x ran (as_counts items (0, f) d went) step }
+  fits s f l c b = record { at = λ items t u d x ran went step. (count_fits (2 ^ 64 - 1) l c (inl b)).at items t u d.0 x ran (as_counts items (0, f) d went) step }
 
 pub try_fold-requires-clause-callable : goal.try_fold-requires-clause-callable
 try_fold-requires-clause-callable g c = holds_map (λ p x q h. search rules) (λ p x h. search rules) (fits c.args.it.now _ g.met.I.FallibleIterator.lawful c.requires.can c.requires.fits)

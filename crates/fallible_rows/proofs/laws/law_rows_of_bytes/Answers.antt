@@ -1,15 +1,14 @@
 -- A run of the struct is a run of its parts.
-use Rattle.std.proofs.Common.{refl}
-use Rattle.fallible_iterator.proofs.Lemmas.Views.{runs_seen}
 use Rattle.fallible_rows.specs.RowTraces.{rows_parts, rows_of, row_step}
 use Rattle.fallible_rows.proofs.BytesLaw.{bytes_only, bytes_each}
+use Rattle.fallible_rows.proofs.TraceLemmas.{rows_seen}
 use Rattle.fallible_rows.proofs.laws.law_rows_of_bytes.Goals as goal
 
 pub returns-clause-only : goal.returns-clause-only
 returns-clause-only g c = λ s bytes trace t b never ran.
-    bytes_only g.B.ReadByte.left g.B.ReadByte.stays bytes trace (rows_parts s) (rows_parts t) b never ((runs_seen rows_parts rows_of (λ x. refl) (λ p. refl) (row_step g.B.ReadByte.left g.B.ReadByte.stays) trace s t).0 ran)
+    bytes_only g.B.ReadByte.left g.B.ReadByte.stays bytes trace (rows_parts s) (rows_parts t) b never ((rows_seen (row_step g.B.ReadByte.left g.B.ReadByte.stays) trace s t).0 ran)
 
 pub returns-clause-each : goal.returns-clause-each
 returns-clause-each g c = λ s bytes trace b can h.
     let q = bytes_each g.B.ReadByte.left g.B.ReadByte.stays bytes trace (rows_parts s) b can h in
-    (rows_of q.0, (runs_seen rows_parts rows_of (λ x. refl) (λ p. refl) (row_step g.B.ReadByte.left g.B.ReadByte.stays) trace s (rows_of q.0)).1 q.1)
+    (rows_of q.0, (rows_seen (row_step g.B.ReadByte.left g.B.ReadByte.stays) trace s (rows_of q.0)).1 q.1)
