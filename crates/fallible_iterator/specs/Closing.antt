@@ -1,5 +1,5 @@
 -- Adapters that one place closes for good: what they answer is what the source answers, and then ends without draws.
-use Rattle.std.specs.Prelude.{◌≡◌, ℕ, ◌+◌, ◌<◌, List, [], ◌∷◌, ◌++◌, map, replicate, Option, Some, Bool, true, false, ◌⊎◌, ◌↔◌}
+use Rattle.std.specs.Prelude.{◌≡◌, ℕ, ◌<◌, List, [], ◌∷◌, ◌++◌, map, replicate, Option, Some, Bool, true, false, ◌⊎◌, ◌↔◌}
 use Rattle.fallible_iterator.specs.Traces.{Answered, end}
 use Rattle.fallible_iterator.specs.Contract.{Contract}
 use Rattle.fallible_iterator.specs.WithSteps.{with_steps}

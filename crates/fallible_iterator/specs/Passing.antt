@@ -1,5 +1,5 @@
 -- Adapters that let the answers of one source pass: of each item a closure is asked, and by its answer the item is kept as another, left out, or replaced by a failure or an end.
-use Rattle.std.specs.Prelude.{◌≡◌, ℕ, ⊤, Option, Result, Some, Ok, Err, List, [], ◌∷◌, map, None, is_some, Bool, ◌⊎◌}
+use Rattle.std.specs.Prelude.{◌≡◌, ℕ, Option, Result, Some, Ok, Err, List, [], ◌∷◌, map, None, is_some, Bool, ◌⊎◌}
 use Rattle.std.specs.List.{filter_map}
 use Rattle.fallible_iterator.specs.Traces.{LastKept, Answered, Run, item, failure, end}
 use Rattle.fallible_iterator.specs.Contract.{Contract}

@@ -3,7 +3,7 @@ use Rattle.std.proofs.Common.{◌≡◌, ℕ, zero, suc, ◌+◌, ◌<◌, ◌�
 use Rattle.std.specs.Prelude.{replicate}
 use Rattle.std.specs.List.{FoldsTo, filter_map}
 use Rattle.fallible_iterator.specs.Traces.{Answered, Run, LastKept, item, failure, end, items_in}
-use Rattle.fallible_iterator.specs.Passing.{Place, asked, failure_at, end_at, source_answer, call_of, answer_at, has_answer, PassTrace}
+use Rattle.fallible_iterator.specs.Passing.{Place, asked, failure_at, end_at, source_answer, call_of, answer_at, has_answer}
 use Rattle.fallible_iterator.specs.Filtering.Filter.{filter_outcome, FilterTrace, filter_contract, filter_parts}
 use Rattle.std.specs.Fn.{Mut}
 use Rattle.std.specs.Borrow.{Bor}

@@ -6,4 +6,3 @@ pub mod Report
 pub mod RowTraces
 pub mod Rows
 pub mod Run
-pub mod Unbounded

@@ -2,9 +2,9 @@
 ghost use Rattle.std.specs.Prelude.{◌≡◌, ◌-◌, ◌^◌};
 ghost use Rattle.fallible_iterator.specs.Contract.{unbounded, seen_as};
 ghost use Rattle.fallible_iterator.specs.Laws.Contract.{lawful_seen};
+ghost use Rattle.fallible_iterator.specs.Laws.ToCome.{lawful_unbounded};
 ghost use Rattle.fallible_rows.specs.RowTraces.{rows_parts, begun, row_step};
 ghost use Rattle.fallible_rows.specs.Digits.{ReadsRow};
-ghost use Rattle.fallible_rows.specs.Unbounded.{lawful_unbounded};
 
 use crate::digits::Digits;
 use crate::fault::RowFault;

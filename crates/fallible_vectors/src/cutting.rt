@@ -124,7 +124,10 @@ fn step_by_three(rt: HostRuntime) -> Result<(), Fail> {
 fn step_by_the_greatest_step(rt: HostRuntime) -> Result<(), Fail> {
     let mut it = listed::<u32, u32, 2>(rt.alloc(), [Ok(1), Ok(2)])?.step_by(usize::MAX);
     assert_eq!(rt; it.size_hint(), (1, Some(1)));
-    expect_answers(&rt, &mut it, &[Item(1), End])
+    expect_answers(&rt, &mut it, &[Item(1), End])?;
+    let it = listed::<u32, u32, 2>(rt.alloc(), [Ok(1), Ok(2)])?.step_by(usize::MAX);
+    expect_collected(&rt, it.collect(rt.alloc()), &[1]);
+    Ok(())
 }
 
 #[test]
@@ -187,9 +190,5 @@ fn step_by_counts_on_after_an_end(rt: HostRuntime) -> Result<(), Fail> {
         ],
     )?
     .step_by(2);
-    expect_answers(
-        &rt,
-        &mut it,
-        &[Item(1), Failure(9), End, Item(1), End],
-    )
+    expect_answers(&rt, &mut it, &[Item(1), Failure(9), End, Item(1), End])
 }

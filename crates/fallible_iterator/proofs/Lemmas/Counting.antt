@@ -1,6 +1,5 @@
 -- Traces of adapters that keep items by their numbers, built from the first draw on.
-use Rattle.std.specs.Prelude.{◌≡◌, ℕ, zero, suc, ◌+◌, ◌-◌, ◌<◌, List, [], ◌∷◌, Option, Some, None, Ok, Err, Bool, true, false, ◌↔◌}
-use Rattle.std.specs.List.{FoldsTo}
+use Rattle.std.specs.Prelude.{◌≡◌, ℕ, zero, suc, ◌+◌, ◌-◌, ◌<◌, List, [], ◌∷◌, Option, Some, None, Ok, Err, Bool, true, false}
 use Rattle.std.proofs.Common.{refl, sym, ap, subst, arith}
 use Rattle.fallible_iterator.specs.Traces.{LastKept, Answered, Run, item, end, failure, items_in}
 use Rattle.fallible_iterator.specs.Counting.{numbered, is_kept, kept, KeptByNumber}

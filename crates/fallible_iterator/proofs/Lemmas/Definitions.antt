@@ -1,7 +1,6 @@
 -- A definition over whole traces is met by runs of a step.
 use Rattle.std.specs.Prelude.{◌↔◌, ◌≡◌, List, [], ◌∷◌}
-use Rattle.std.specs.List.{FoldsTo}
-use Rattle.std.proofs.Common.{refl, sym, ◌∙◌, ap, subst}
+use Rattle.std.proofs.Common.{sym, ◌∙◌, ap, subst}
 use Rattle.fallible_iterator.specs.Traces.{Answered, Run}
 use Rattle.fallible_iterator.specs.Definitions.{MeetsHeld}
 

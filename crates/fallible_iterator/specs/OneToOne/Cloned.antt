@@ -1,5 +1,5 @@
 -- `Cloned`, which clones what each item points to.
-use Rattle.std.specs.Prelude.{⊤, Option, Result, Some, Ok, Err, List}
+use Rattle.std.specs.Prelude.{⊤, Result, Ok, Err, List}
 use Rattle.std.specs.Borrow.{Bor}
 use Rattle.std.specs.declared.alloc.AllocError.{AllocError}
 use Rattle.fallible_iterator.specs.Traces.{Answered}

@@ -1,5 +1,5 @@
 -- `Enumerate`, which numbers the items.
-use Rattle.std.specs.Prelude.{◌≡◌, ℕ, ◌+◌, ◌-◌, ◌^◌, ◌≤◌, ◌<◌, List, [], ◌∷◌, Option, Some, None, Ok, Err}
+use Rattle.std.specs.Prelude.{◌≡◌, ℕ, ◌+◌, ◌-◌, ◌^◌, ◌≤◌, ◌<◌, List, [], ◌∷◌, Some, None, Ok, Err}
 use Rattle.fallible_iterator.specs.Traces.{Answered, Run, item, failure, end, items_in}
 use Rattle.fallible_iterator.specs.Contract.{Contract}
 use Rattle.fallible_iterator.specs.declared.one_to_one.enumerate.Enumerate.{Enumerate}

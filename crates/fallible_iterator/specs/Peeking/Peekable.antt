@@ -1,5 +1,5 @@
 -- The parts that the contracts see a value by.
-use Rattle.std.specs.Prelude.{ℕ, Bool, Option, Some, ◌≡◌, ◌+◌, ◌-◌, ◌^◌, ◌≤◌, ◌<◌, min, List, [], ◌∷◌, ◌++◌, Result, None, Ok, Err, true, false, ◌⊎◌, SomeIff, MatchOption}
+use Rattle.std.specs.Prelude.{ℕ, Bool, Option, Some, ◌≡◌, ◌+◌, ◌≤◌, List, [], ◌∷◌, ◌++◌, Result, None, Ok, Err, true, false, ◌⊎◌}
 use Rattle.std.specs.Iterator.{endless}
 use Rattle.std.specs.Fn.{Shared, FnReturnsAt}
 use Rattle.std.specs.Borrow.{Bor}

@@ -1,6 +1,5 @@
 -- `Repeat`: clones as items.
-use Rattle.std.specs.Prelude.{ℕ, Some, ◌≡◌, List, None, Ok, Err, ⊤, ◌^◌, ◌-◌, All}
-use Rattle.std.specs.Iterator.{endless}
+use Rattle.std.specs.Prelude.{Some, ◌≡◌, List, None, Ok, Err, ◌^◌, ◌-◌, All}
 use Rattle.std.specs.declared.alloc.AllocError.{AllocError}
 use Rattle.fallible_iterator.specs.declared.sources.repeat.Repeat.{Repeat}
 use Rattle.fallible_iterator.specs.Traces.{Answered, item, failure}

@@ -1,5 +1,5 @@
 -- The runs of `TakeWhile` are the traces that its definition names.
-use Rattle.std.specs.Prelude.{Bool, Option, Some, ◌≡◌, List, [], ◌∷◌, map, Result, None, ◌↔◌}
+use Rattle.std.specs.Prelude.{Bool, List, [], ◌∷◌, map, Result, ◌↔◌}
 use Rattle.std.specs.List.{FoldsTo, filter_map}
 use Rattle.std.proofs.Common.{refl, sym, ap, subst}
 use Rattle.fallible_iterator.specs.Traces.{Answered, Run}

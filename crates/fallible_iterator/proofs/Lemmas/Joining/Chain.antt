@@ -1,5 +1,5 @@
 -- The runs of `Chain` are the traces that its definition names.
-use Rattle.std.specs.Prelude.{◌≡◌, ◌≢◌, ◌+◌, T, false, List, [], ◌∷◌, ◌++◌, ◌↔◌}
+use Rattle.std.specs.Prelude.{◌≡◌, ◌≢◌, false, List, [], ◌∷◌, ◌++◌, ◌↔◌}
 use Rattle.std.proofs.Common.{refl, sym, ap, inl, inr}
 use Rattle.fallible_iterator.specs.declared.joining.chain.StillDrawn.{StillDrawn}
 use Rattle.fallible_iterator.specs.declared.joining.chain.StillDrawn.TheVariants.{Both, FrontAlone, BackAlone}

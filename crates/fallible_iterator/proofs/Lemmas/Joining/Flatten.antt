@@ -1,17 +1,15 @@
 -- The runs of `Flatten` are the traces that its definition names, and one draw of it is a fold that stops.
-use Rattle.std.specs.Prelude.{◌≡◌, ◌≢◌, ℕ, false, ◌+◌, ◌*◌, ◌≤◌, ◌<◌, List, [], ◌∷◌, ◌++◌, map, Option, Result, Some, None, Ok, Err, IfSome}
+use Rattle.std.specs.Prelude.{◌≡◌, false, List, [], ◌∷◌, ◌++◌, map, Option, Result, Some, None, Ok, Err}
 use Rattle.std.specs.List.{FoldsTo, flat_map}
-use Rattle.std.proofs.Common.{refl, sym, ◌∙◌, ap, subst, arith, inl, inr}
+use Rattle.std.proofs.Common.{refl, sym, ◌∙◌, ap, subst}
 use Rattle.std.proofs.lemmas.List.{append-nil}
-use Rattle.std.proofs.Math.Nat.{mul-suc, mul-le-mul_left}
 use Rattle.fallible_iterator.specs.declared.folds.Exit.{Exit}
-use Rattle.fallible_iterator.specs.Traces.{Answered, Run, item, failure, end, is_end, NoEnd}
-use Rattle.fallible_iterator.specs.Contract.{Contract, OnAnswer, Goes, Stays, Lawful}
+use Rattle.fallible_iterator.specs.Traces.{Answered, Run, item, failure, end, is_end}
+use Rattle.fallible_iterator.specs.Contract.{Contract, Lawful}
 use Rattle.fallible_iterator.specs.Folds.{HoldsAtEachTurn, carrying_turn, CarryingExit, Carried, stopped_answer, unpacked}
 use Rattle.fallible_iterator.proofs.Lemmas.Definitions.{FirstOf, IsByAnswers}
-use Rattle.fallible_iterator.specs.Laws.Contract.{no_more, goes_later}
 use Rattle.fallible_iterator.proofs.Lemmas.Contract.{given_after}
-use Rattle.fallible_iterator.specs.Joining.Flatten.{FlattenTrace, BeginTurn, flatten_contract, NumberInHand, SomeInner, EachInner, FlattenNumber, Part, of_inner, of_failure, of_end, outer_answer, part_answers, Finished, FinishedPart, FinishedParts, LastPart, FinishedInHand, Joined, FlattenAnswers, nothing_drawn, still_in_hand, outer_drawn}
+use Rattle.fallible_iterator.specs.Joining.Flatten.{FlattenTrace, BeginTurn, EachInner, Part, of_inner, of_failure, of_end, outer_answer, part_answers, Finished, FinishedPart, LastPart, FinishedInHand, Joined, FlattenAnswers, nothing_drawn, still_in_hand, outer_drawn}
 use Rattle.fallible_iterator.specs.Laws.Joining.Flatten.{Flattens, done, gives, fails, finishes, begins, outer_fails, outer_ends, to_flattens}
 
 module _ {S X C B E : Type 0} (outer : S → Answered X E → S → Type 0) (into : X → C → Type 0) (inner : C → Answered B E → C → Type 0) where

@@ -1,5 +1,5 @@
 -- The runs of `MapErr` are the traces that its definition names.
-use Rattle.std.specs.Prelude.{◌≡◌, List, [], ◌∷◌, Some, None, Ok, Err}
+use Rattle.std.specs.Prelude.{◌≡◌, List, [], ◌∷◌, None, Ok, Err}
 use Rattle.std.proofs.Common.{refl, ap}
 use Rattle.fallible_iterator.specs.Traces.{Answered, item}
 use Rattle.fallible_iterator.specs.OneToOne.MapErr.{item_here, asked_of, end_here, MapErrTrace}

@@ -4,7 +4,7 @@ use Rattle.std.proofs.Common.{refl}
 use Rattle.std.specs.Fn.{Mut}
 use Rattle.std.specs.Borrow.{MutBor}
 use Rattle.fallible_iterator.specs.Traces.{Answered, item}
-use Rattle.fallible_iterator.specs.OneToOne.Scan.{scan_call, scan_outcome, ScanTrace}
+use Rattle.fallible_iterator.specs.OneToOne.Scan.{scan_call, ScanTrace}
 use Rattle.fallible_iterator.specs.Laws.Passing.{passes_item, passes_refusal, passes_closing}
 
 -- one answer of the source that is an item, and the call on it

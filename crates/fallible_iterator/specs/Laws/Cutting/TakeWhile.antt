@@ -1,13 +1,12 @@
 -- The contract of `TakeWhile` is lawful where the source's is.
-use Rattle.std.specs.Prelude.{[], ◌∷◌, Option, Result, Some, None, Ok, Err, Bool, true, false}
-use Rattle.std.specs.List.{filter_map}
+use Rattle.std.specs.Prelude.{[], ◌∷◌, Option, Result, Ok, Err, Bool, true, false}
 use Rattle.std.specs.Fn.{Mut}
 use Rattle.std.specs.Borrow.{Bor}
-use Rattle.std.proofs.Common.{refl, sym, subst, arith, inl, inr}
-use Rattle.fallible_iterator.specs.Traces.{Answered, item, failure, end}
+use Rattle.std.proofs.Common.{refl, sym, subst}
+use Rattle.fallible_iterator.specs.Traces.{item, failure, end}
 use Rattle.fallible_iterator.specs.Contract.{Contract, Goes, Lawful}
 use Rattle.fallible_iterator.specs.Closures.{Calls, call_in, IsCallableIn, call_at, takes_at}
-use Rattle.fallible_iterator.specs.Passing.{Place, asked, failure_at, end_at, source_answer, call_of, passing}
+use Rattle.fallible_iterator.specs.Passing.{Place, asked, failure_at, end_at, passing}
 use Rattle.fallible_iterator.specs.Hints.{upper_alone}
 use Rattle.fallible_iterator.specs.Cutting.TakeWhile.{take_while_outcome, taken_answer, is_refused, place_drawn, take_while_contract}
 use Rattle.fallible_iterator.specs.Laws.Closures.{callable_in_after}

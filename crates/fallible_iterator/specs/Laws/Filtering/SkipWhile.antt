@@ -1,5 +1,5 @@
 -- The contract of `SkipWhile` is lawful where the source's is.
-use Rattle.std.specs.Prelude.{◌≡◌, Bool, true, Option, Some, None, Result}
+use Rattle.std.specs.Prelude.{◌≡◌, Bool, Option, Some, None, Result}
 use Rattle.std.specs.Fn.{Mut}
 use Rattle.std.specs.Borrow.{Bor}
 use Rattle.std.proofs.Common.{refl, sym, subst}

@@ -1,6 +1,6 @@
 -- The contract of `Enumerate` is lawful where the source's is.
-use Rattle.std.specs.Prelude.{◌≡◌, ℕ, ◌+◌, List, [], ◌∷◌, Option, Some, None, Ok, Err}
-use Rattle.std.proofs.Common.{refl, sym, ap, subst, arith}
+use Rattle.std.specs.Prelude.{◌≡◌, ℕ, ◌+◌, List, [], ◌∷◌, Some, None, Ok, Err}
+use Rattle.std.proofs.Common.{sym, subst, arith}
 use Rattle.fallible_iterator.specs.Traces.{Answered, Run, item, items_in}
 use Rattle.fallible_iterator.specs.Contract.{Contract, Goes, Lawful}
 use Rattle.fallible_iterator.specs.OneToOne.Enumerate.{numbered_from, EnumerateTrace, enumerate_contract}

@@ -1,8 +1,8 @@
 -- The contract of `MapErr` is lawful where the source's is.
-use Rattle.std.specs.Prelude.{◌≡◌, List, [], ◌∷◌, map, Option, Some, None, Ok, Err}
+use Rattle.std.specs.Prelude.{List, [], ◌∷◌, map, None, Ok, Err}
 use Rattle.std.specs.List.{filter_map}
 use Rattle.std.specs.Fn.{Mut}
-use Rattle.std.proofs.Common.{refl, sym, ap, subst}
+use Rattle.std.proofs.Common.{refl, sym, subst}
 use Rattle.fallible_iterator.specs.Traces.{Answered, Run, item}
 use Rattle.fallible_iterator.specs.Contract.{Contract, OnAnswer, Goes, Lawful}
 use Rattle.fallible_iterator.specs.Closures.{Calls, Reaches, call_on}
