@@ -44,7 +44,7 @@ use std::marker::PhantomData;
 
 /// An iterator whose `next` may fail. It may go on after an end and after a failure.
 ///
-/// A type of one's own writes `next`, `size_hint` and `contract`: its step, and what it says of what is still to come. `counting_down` of `specs/Source` makes that of a step and a bound. A search then finds `lawful`.
+/// A type of one's own writes `next`, `size_hint` and `contract`: its step, and what it says of what is still to come. `counting_down` of `specs/Contract` makes that of a step and a bound. A search then finds `lawful`.
 pub trait FallibleIterator: Drop + Sized {
     /// What it gives.
     type Item;

@@ -13,7 +13,7 @@ use Rattle.fallible_rows.specs.declared.rows.Close.{Close}
 use Rattle.fallible_rows.specs.declared.rows.Close.TheVariants.{Newline, End, Failure}
 use Rattle.fallible_rows.specs.Digits.{TellsOf, ClosesAs, ReadsRow}
 use Rattle.fallible_rows.specs.Reading.{GivesByte}
-use Rattle.fallible_rows.specs.RowTraces.{rows_parts, rows_of, told_place, row_answer, IsOneRow, GivesBytes, DrawsRow}
+use Rattle.fallible_rows.specs.RowTraces.{rows_parts, told_place, row_answer, IsOneRow, GivesBytes, DrawsRow}
 use Rattle.fallible_rows.proofs.RowLemmas.{not_newline}
 
 -- items one after another
@@ -30,6 +30,10 @@ IsOneRow-more row byte one other = All-append not_newline row (byte ∷ []) one 
 
 pub gives_more : {B : Type 0} (left : B → Option (List ℕ)) (stays : B → B → Type 0) (row : List ℕ) (byte : ℕ) (p q r : B) → GivesBytes left stays p row q → GivesByte left stays q byte r → GivesBytes left stays p (row ++ byte ∷ []) r
 gives_more left stays row byte p q r h k = folds_append (GivesByte left stays) row (byte ∷ []) p q r h (r, k, refl)
+
+-- the value of these parts
+abbrev pub rows_of : {B : Type 0} → B × Option Ahead → Rows B
+rows_of p = record { reader = p.0; ahead = p.1 }
 
 -- a run of the struct is one of its parts, and the other way round
 pub rows_seen : {B : Type 0} (step : B × Option Ahead → Answered ℕ RowFault → B × Option Ahead → Type 0) (trace : List (Answered ℕ RowFault)) (s t : Rows B) → Run (λ u r v. step (rows_parts u) r (rows_parts v)) s trace t ↔ Run step (rows_parts s) trace (rows_parts t)

@@ -13,10 +13,6 @@ use Rattle.fallible_rows.specs.Reading.{GivesByte, GivesEnd, FailsToRead}
 abbrev pub rows_parts : {B : Type 0} → Rows B → B × Option Ahead
 rows_parts s = (s.reader, s.ahead)
 
--- the value of these parts
-abbrev pub rows_of : {B : Type 0} → B × Option Ahead → Rows B
-rows_of p = record { reader = p.0; ahead = p.1 }
-
 -- at the start: no byte was read, and the first row has place 1
 abbrev pub begun : {B : Type 0} → B → ℕ → B × Option Ahead
 begun reader limit = (reader, Some (record { left = limit; place = 1 }))

@@ -13,7 +13,7 @@ pub enum RowFault {
     Row(u32),
     /// A read failed.
     Read,
-    /// There was no memory for the bytes.
+    /// There was no memory. `run` never answers it; the program does, where its buffer was refused.
     Memory,
     /// The report could not be written.
     Write,

@@ -8,7 +8,7 @@ use crate::reading::ReadByte;
 use crate::rows::Rows;
 use fallible_iterator::FallibleIterator;
 
-/// A trace of `Rows` is the answers of the rows of the bytes that were read, in order, and then, where the reader's end was met, ends, and where no byte came that was wanted, the failure `Read` and then ends.
+/// A trace of `Rows` is the answers of the rows of the bytes that were read, in order, and then, where the reader's end was met, ends. Where a byte was wanted and none came, it is the answers of the closed rows alone, the failure `Read`, and then ends. It asks that the place of the next row fits a `u32`, as that of each value does.
 pub fn law_rows<B: ReadByte>()
     ensures { (s : Rows B) (trace : List (Answered ℕ RowFault)) (t : Rows B) → IsPlaced (rows_parts s) → Run ⟦<Rows<B> as FallibleIterator>⟧.contract.steps s trace t ↔ RowsTrace B.left B.stays (rows_parts s) trace (rows_parts t) }
 {}

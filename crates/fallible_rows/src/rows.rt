@@ -96,7 +96,7 @@ impl<B: ReadByte> FallibleIterator for Rows<B> {
 
     ghost contract = { seen_as rows_parts (unbounded (row_step B.left B.stays)) };
 
-    /// Reads one row and what ends it.
+    /// Reads one row and what ends it, and nothing once it has ended for good.
     fn next(&mut self) -> Result<Option<u64>, RowFault> {
         let Some(Ahead { left, place }) = self.ahead.take() else {
             return Ok(None);

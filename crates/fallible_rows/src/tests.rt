@@ -39,13 +39,20 @@ impl Read for SlowReader<'_> {
     }
 }
 
-// Takes no byte.
+// Takes so many bytes, one at a time, and then fails.
 #[derive(Drop)]
-struct BrokenWriter;
+struct BrokenWriter {
+    room: usize,
+}
 
 impl Write for BrokenWriter {
-    fn write(&mut self, _buf: &[u8]) -> io::Result<usize> {
-        Err(io::Error::from(ErrorKind::BrokenPipe))
+    fn write(&mut self, buf: &[u8]) -> io::Result<usize> {
+        if self.room == 0 {
+            return Err(io::Error::from(ErrorKind::BrokenPipe));
+        }
+        let count = buf.len().min(1);
+        self.room -= count;
+        Ok(count)
     }
 
     fn flush(&mut self) -> io::Result<()> {
@@ -157,8 +164,7 @@ fn run_answers_failed_read(rt: HostRuntime) {
 // A read that fails after the newline of the first row that is refused is not made; each before is `Read`.
 #[test]
 fn run_answers_each_read_that_fails(rt: HostRuntime) {
-    let input = b"100\n200\nfern\n400\n".as_slice();
-    let closed = 13;
+    let input = b"100\nfern\n".as_slice();
     for count in 0..=input.len() {
         let mut reader = BrokenReader {
             bytes: &input[..count],
@@ -166,10 +172,10 @@ fn run_answers_each_read_that_fails(rt: HostRuntime) {
         };
         let mut written = Vec::new(rt.alloc());
         let outcome = run(rt.alloc(), &mut reader, &mut written);
-        if count < closed {
+        if count < input.len() {
             assert_eq!(rt; outcome, Err(RowFault::Read));
         } else {
-            assert_eq!(rt; outcome, Err(RowFault::Row(3)));
+            assert_eq!(rt; outcome, Err(RowFault::Row(2)));
         }
         assert!(rt; written.is_empty());
     }
@@ -215,12 +221,16 @@ fn run_leaves_what_follows_row_1_000_000(rt: HostRuntime) -> Result<(), Fail> {
 }
 
 #[test]
-fn run_answers_failed_write(rt: HostRuntime) {
-    let mut reader: &[u8] = b"100\n200\n";
-    assert_eq!(rt;
-        run(rt.alloc(), &mut reader, &mut BrokenWriter),
-        Err(RowFault::Write)
-    );
+fn run_answers_each_write_that_fails(rt: HostRuntime) {
+    for (room, outcome) in [
+        (0, Err(RowFault::Write)),
+        (1, Err(RowFault::Write)),
+        (2, Ok(())),
+    ] {
+        let mut reader: &[u8] = b"100\n200\n";
+        let mut writer = BrokenWriter { room };
+        assert_eq!(rt; run(rt.alloc(), &mut reader, &mut writer), outcome);
+    }
 }
 
 #[test]
@@ -239,17 +249,29 @@ fn fault_line_tells_each_fault(rt: HostRuntime) {
         let mut written = Vec::new(rt.alloc());
         assert_eq!(rt; fault_line(&fault, &mut written), Ok(status));
         assert_eq!(rt; written.as_slice(), line);
-        assert_eq!(rt; fault_line(&fault, &mut BrokenWriter), Err(status));
+        for room in 0..line.len() {
+            let mut writer = BrokenWriter { room };
+            assert_eq!(rt; fault_line(&fault, &mut writer), Err(status));
+        }
     }
 }
 
 #[test]
-fn rows_goes_on_after_a_row_that_is_no_number(rt: HostRuntime) {
+fn rows_goes_on_after_a_row_that_is_no_number(rt: HostRuntime) -> Result<(), Fail> {
     let mut rows = Rows::new(b"1\nx\n3\n".as_slice());
-    assert_eq!(rt; rows.next(), Ok(Some(1)));
-    assert_eq!(rt; rows.next(), Err(RowFault::Row(2)));
-    assert_eq!(rt; rows.next(), Ok(Some(3)));
-    assert_eq!(rt; rows.next(), Ok(None));
+    let drawn = answers(rt.alloc(), &mut rows, 5)?;
+    assert_eq!(rt;
+        drawn.as_slice(),
+        [
+            Answer::Item(1),
+            Answer::Failure(RowFault::Row(2)),
+            Answer::Item(3),
+            Answer::End,
+            Answer::End
+        ]
+        .as_slice()
+    );
+    Ok(())
 }
 
 #[test]

@@ -193,7 +193,7 @@ fn a_held_end_ends_one_fold(rt: HostRuntime) {
     assert_eq!(rt; it.size_hint(), (0, Some(0)));
     assert_eq!(rt; it.next_if(|_x: &u32| true), Ok(None));
     assert_eq!(rt; it.try_fold(0, sum), Ok(0));
-    assert_eq!(rt; it.try_fold(0, sum), Ok(7));
+    assert_eq!(rt; it.next(), Ok(Some(7)));
 }
 
 #[test]
@@ -214,7 +214,6 @@ fn next_if_holds_the_end_that_it_draws(rt: HostRuntime) {
 }
 
 // Stops at 2.
-
 fn sum_up_to_two(total: u32, x: u32) -> Result<u32, u32> {
     if x == 2 {
         Err(7)

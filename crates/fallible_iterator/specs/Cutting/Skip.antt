@@ -1,4 +1,4 @@
--- The parts that the contracts see a value by.
+-- `Skip`, which leaves out the first items.
 use Rattle.std.specs.Prelude.{ℕ, Option, ◌≡◌, ◌-◌, ltb, List, [], ◌∷◌}
 use Rattle.fallible_iterator.specs.declared.cutting.skip.Skip.{Skip}
 use Rattle.fallible_iterator.specs.Traces.{Answered}

@@ -1,4 +1,4 @@
--- The parts that the contracts see a value by.
+-- `StepBy`, which keeps one item at each step.
 use Rattle.std.specs.Prelude.{ℕ, Bool, Option, ◌≡◌, ◌+◌, ◌-◌, ◌%◌, ltb, leb, eqb, cond, ◌&&◌, List, [], ◌∷◌}
 use Rattle.fallible_iterator.specs.declared.cutting.step_by.StepBy.{StepBy}
 use Rattle.fallible_iterator.specs.Traces.{Answered}
@@ -19,7 +19,7 @@ keeps_at_steps between r k = ltb r k && eqb ((k - 1 - r) % (between + 1)) 0
 abbrev pub left_after : ℕ → ℕ → ℕ → ℕ
 left_after between r k = cond (leb k r) (r - k) (between - (k - 1 - r) % (between + 1))
 
--- `StepBy` with r items to leave out first: the source's trace with only those items whose number is r + 1 plus a multiple of the step. The parts are the source, the number of items between two that are kept, and r.
+-- `StepBy` with r items to leave out first: the source's trace with only those items whose number, from 1, is r + 1 plus a multiple of the step; failures and ends are kept. The parts are the source, the number of items between two that are kept, and r.
 abbrev pub StepByTrace : {S A E : Type 0} → (S → Answered A E → S → Type 0) → S × (ℕ × ℕ) → List (Answered A E) → S × (ℕ × ℕ) → Type 0
 StepByTrace steps p trace q = KeptByNumber (keeps_at_steps (p.1).0 (p.1).1) (left_after (p.1).0 (p.1).1) steps p.0 trace q.0 (q.1).1 × ((q.1).0 ≡ (p.1).0)
 

@@ -29,6 +29,6 @@ take_contract m = record (with_steps m (take_step m.steps) (λ p h. (k : ℕ × 
   has_end = λ p. ⊤;
 }
 
--- the source, and how many items are still to be taken, or to be left out
+-- the source, and how many items are still to be taken
 abbrev pub take_parts : {I : Type 0} → Take I → I × ℕ
 take_parts s = (s.it, s.left)

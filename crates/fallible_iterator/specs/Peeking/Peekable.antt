@@ -1,4 +1,4 @@
--- The parts that the contracts see a value by.
+-- `Peekable`, which looks one answer ahead and holds it.
 use Rattle.std.specs.Prelude.{ℕ, Bool, Option, Some, ◌≡◌, ◌+◌, ◌≤◌, List, [], ◌∷◌, ◌++◌, Result, None, Ok, Err, true, false, ◌⊎◌}
 use Rattle.std.specs.Iterator.{endless}
 use Rattle.std.specs.Fn.{Shared, FnReturnsAt}

@@ -28,14 +28,14 @@ where
     ensures { MeetsHeld take_while_parts ⟦<TakeWhile<I, P> as FallibleIterator>⟧.contract.steps (TakeWhileTrace I.contract.steps (call_in (call_at P.FnMut))) }
 {}
 
-/// A trace of `Skip` is the source's without the items that it begins with, of which at most n are left out.
+/// A trace of `Skip` is the source's without its first n items; failures and ends stay, and don't count. It doesn't end in a left-out item.
 pub fn law_skip<I: FallibleIterator>()
 where
     I::Item: Drop,
     ensures { MeetsHeld skip_parts ⟦<Skip<I> as FallibleIterator>⟧.contract.steps (SkipTrace I.contract.steps) }
 {}
 
-/// A trace of `StepBy` has of each stretch of items of the source's those whose number in it is a multiple of the step, numbered from 0 in the first stretch and from 1 in each later one; failures and ends stay.
+/// A trace of `StepBy` is the source's with only those items whose number, from 1, is r + 1 plus a multiple of the step, where r items are left out first, none at the beginning; failures and ends stay, and don't count. It doesn't end in a left-out item.
 pub fn law_step_by<I: FallibleIterator>()
 where
     I::Item: Drop,

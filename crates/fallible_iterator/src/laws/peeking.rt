@@ -5,7 +5,7 @@ ghost use Rattle.fallible_iterator.specs.Peeking.Peekable.{peekable_parts, Peeka
 use crate::peeking::Peekable;
 use crate::traits::FallibleIterator;
 
-/// A trace of `Peekable` is the held item, if there is one, and then the source's trace; nothing is held then. Where there are no answers, nothing changes.
+/// A trace of `Peekable` is the held answer, an item or an end, if there is one, and then the source's trace; nothing is held then. Where there are no answers, nothing changes.
 pub fn law_peekable<I: FallibleIterator>()
 where
     I::Item: Drop,

@@ -1,4 +1,4 @@
--- `Skip`'s contract is lawful.
+-- `Skip`'s contract is lawful where the source's is.
 use Rattle.std.specs.Prelude.{◌-◌, ltb}
 use Rattle.fallible_iterator.specs.Contract.{Contract, Lawful}
 use Rattle.fallible_iterator.specs.Cutting.Skip.{skip_contract}

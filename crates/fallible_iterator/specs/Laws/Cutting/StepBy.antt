@@ -1,4 +1,4 @@
--- `StepBy`'s contract is lawful.
+-- `StepBy`'s contract is lawful where the source's is.
 use Rattle.fallible_iterator.specs.Contract.{Contract, Lawful}
 use Rattle.fallible_iterator.specs.Cutting.StepBy.{keeps_at_steps, left_after, step_by_contract}
 use Rattle.fallible_iterator.specs.Laws.Counting.{goes_by_number}

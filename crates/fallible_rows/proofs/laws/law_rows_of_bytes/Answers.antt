@@ -1,7 +1,7 @@
 -- A run of the struct is a run of its parts.
-use Rattle.fallible_rows.specs.RowTraces.{rows_parts, rows_of, row_step}
+use Rattle.fallible_rows.specs.RowTraces.{rows_parts, row_step}
 use Rattle.fallible_rows.proofs.BytesLaw.{bytes_only, bytes_each}
-use Rattle.fallible_rows.proofs.TraceLemmas.{rows_seen}
+use Rattle.fallible_rows.proofs.TraceLemmas.{rows_of, rows_seen}
 use Rattle.fallible_rows.proofs.laws.law_rows_of_bytes.Goals as goal
 
 pub returns-clause-only : goal.returns-clause-only
