@@ -126,52 +126,32 @@ module _ {B : Type 0} (left : B → Option (List ℕ)) (stays : B → B → Type
         stopped = inl (record { after = a; none_unclosed = refl; limit = omega arith; place = omega (arith, none); is_left = sym is; answers = ap (row_answers a.place) (sym rows-none) });
       }
 
+  -- the bytes of one row were read, and then it ended for good
+  in_one_row : (r : B) (a : Ahead) (row : List ℕ) (last : B) (trace : Answers) (p : B × Option Ahead) → IsOneRow row → GivesBytes left stays r row last → StopsAtEnd left stays last a [] row trace p ⊎ StopsAtFailure left stays last a [] row trace p → ReadsRows left stays r a trace p
+  in_one_row r a row last trace p one given stopped = record { closed = []; unclosed = row; last = last; given = given; are_closed = inl refl; one = one; stopped = inr stopped }
+
   at_end : (r : B) (a : Ahead) (row : List ℕ) (last : B) (n : ℕ) (x : Answered ℕ RowFault) (mid : B × Option Ahead) → IsOneRow row → GivesBytes left stays r row last → EndsByEnd left stays last a row x mid → ReadsRows left stays r a (x ∷ replicate n end) mid
-  at_end r a row last n x mid one given e = elim e.answered [
+  at_end r a row last n x mid one given e = in_one_row r a row last (x ∷ replicate n end) mid one given (inl (elim e.answered [
     | inl h ↦ record {
-      closed = [];
-      unclosed = row;
-      last = last;
-      given = given;
-      are_closed = inl refl;
-      one = one;
-      stopped = inr (inl (record {
-        ends = suc n;
-        met_end = e.met_end;
-        limit = e.limit;
-        is_left = e.is_left;
-        answers = ap {B = Answers} (λ y. y ∷ replicate n end) h.1 ∙ ap (λ l. row_answers a.place l ++ replicate (suc n) end) (sym rows-none ∙ ap rows (sym h.0));
-        ended = λ _. omega arith;
-      }));
+      ends = suc n;
+      met_end = e.met_end;
+      limit = e.limit;
+      is_left = e.is_left;
+      answers = ap {B = Answers} (λ y. y ∷ replicate n end) h.1 ∙ ap (λ l. row_answers a.place l ++ replicate (suc n) end) (sym rows-none ∙ ap rows (sym h.0));
+      ended = λ _. omega arith;
     }
     | inr h ↦ record {
-      closed = [];
-      unclosed = row;
-      last = last;
-      given = given;
-      are_closed = inl refl;
-      one = one;
-      stopped = inr (inl (record {
-        ends = n;
-        met_end = e.met_end;
-        limit = e.limit;
-        is_left = e.is_left;
-        answers = ap {B = Answers} (λ y. y ∷ replicate n end) h.1 ∙ ap (λ l. row_answers a.place l ++ replicate n end) (sym (rows-one row one h.0));
-        ended = λ none. absurd (h.0 none);
-      }));
+      ends = n;
+      met_end = e.met_end;
+      limit = e.limit;
+      is_left = e.is_left;
+      answers = ap {B = Answers} (λ y. y ∷ replicate n end) h.1 ∙ ap (λ l. row_answers a.place l ++ replicate n end) (sym (rows-one row one h.0));
+      ended = λ none. absurd (h.0 none);
     }
-  ]
+  ]))
 
   at_failure : (r : B) (a : Ahead) (row : List ℕ) (last : B) (n : ℕ) (x : Answered ℕ RowFault) (mid : B × Option Ahead) → IsOneRow row → GivesBytes left stays r row last → EndsByFailure left stays last a row x mid → ReadsRows left stays r a (x ∷ replicate n end) mid
-  at_failure r a row last n x mid one given e = record {
-    closed = [];
-    unclosed = row;
-    last = last;
-    given = given;
-    are_closed = inl refl;
-    one = one;
-    stopped = inr (inr (record { ends = n; missed = e.missed; is_left = e.is_left; answers = ap {B = Answers} (λ y. y ∷ replicate n end) e.answered ∙ ap (λ l. row_answers a.place l ++ failure Read ∷ replicate n end) (sym rows-none) }));
-  }
+  at_failure r a row last n x mid one given e = in_one_row r a row last (x ∷ replicate n end) mid one given (inr (record { ends = n; missed = e.missed; is_left = e.is_left; answers = ap {B = Answers} (λ y. y ∷ replicate n end) e.answered ∙ ap (λ l. row_answers a.place l ++ failure Read ∷ replicate n end) (sym rows-none) }))
 
   pub to_trace : (trace : Answers) (r : B) (a : Ahead) (p : B × Option Ahead) → a.place ≤ 4294967295 → Run step (r, Some a) trace p → ReadsRows left stays r a trace p
   to_trace [] r a p placed ran = none_read r a p placed ran

@@ -1,7 +1,7 @@
 -- The runs of `SkipWhile` are the traces that its definition names.
 use Rattle.std.specs.Prelude.{Option, Result, Bool, Some, None, Ok, Err, ◌≡◌, List, [], ◌∷◌, ◌++◌, map, true, false, IsSome, ◌↔◌}
 use Rattle.std.specs.List.{filter_map}
-use Rattle.std.proofs.Common.{refl, sym, ◌∙◌, ap, subst}
+use Rattle.std.proofs.Common.{refl, sym, ◌∙◌, ap, subst, append-nil}
 use Rattle.fallible_iterator.specs.Traces.{Answered, Run, item}
 use Rattle.fallible_iterator.specs.Closures.{Calls, call_in}
 use Rattle.fallible_iterator.specs.Laws.Filtering.SkipWhile.{into}
@@ -14,10 +14,6 @@ use Rattle.fallible_iterator.specs.Laws.Passing.{Passes, done, ends, fails, keep
 -- ---- the places met, one before the others
 
 module _ {X E : Type 0} where
-  append_nil : (xs : List (Answered X E)) → xs ++ [] ≡ xs
-  append_nil [] = refl
-  append_nil (x ∷ xs) = ap (λ (l : List (Answered X E)). x ∷ l) (append_nil xs)
-
   ends_at_cons : (p : Place X (Result Bool E) E) (met : List (Place X (Result Bool E) E)) → false_at p ≡ false → EndsAtFalse met → EndsAtFalse (p ∷ met)
   ends_at_cons p [] e h = absurd h
   ends_at_cons p (q ∷ rest) e h = (e, h)
@@ -31,7 +27,7 @@ module _ {X E : Type 0} where
   until_left_out : (p : Place X (Result Bool E) E) (met : List (Place X (Result Bool E) E)) (after : List (Answered X E)) (b : Bool) (r : Answered X E) (trace : List (Answered X E)) → false_at p ≡ false → r ∷ trace ≡ filter_map (answer_at asked_outcome) met ++ after → AskedUntilFalse false met after b → AskedUntilFalse false (p ∷ met) after b
   until_left_out p met after true r trace e answers h = ends_at_cons p met e h
   until_left_out p met after false r trace e answers h = let same : r ∷ trace ≡ filter_map (answer_at asked_outcome) met ++ [] = subst (λ (l : List (Answered X E)). r ∷ trace ≡ filter_map (answer_at asked_outcome) met ++ l) h.1 answers in
-      ((e, h.0), h.1, kept_before asked_outcome p met r trace (same ∙ append_nil (filter_map (answer_at asked_outcome) met)) h.2)
+      ((e, h.0), h.1, kept_before asked_outcome p met r trace (same ∙ append-nil (filter_map (answer_at asked_outcome) met)) h.2)
 
   -- and the other way: what holds of the others
   until_tail : (p : Place X (Result Bool E) E) (met : List (Place X (Result Bool E) E)) (after : List (Answered X E)) (b : Bool) → false_at p ≡ false → AskedUntilFalse false (p ∷ met) after b → AskedUntilFalse false met after b
@@ -122,7 +118,7 @@ module _ {S F X E : Type 0} (steps : S → Answered X E → S → Type 0) (call 
   left_out_first [] after [] x s u t f h (true, k) step called answers until rest = absurd cc
   left_out_first (p ∷ met) after [] x s u t f h (true, k) step called answers until rest = absurd (ends_answered p met after until.1 (sym answers))
   left_out_first [] after [] x s u t f h (false, k) step called answers until rest = absurd (let some : false ≡ true = until.2 in cc)
-  left_out_first (p ∷ met) after [] x s u t f h (false, k) step called answers until rest = absurd (answered asked_outcome p met until.2 (sym (append_nil (filter_map (answer_at asked_outcome) (p ∷ met))) ∙ ap (λ (l : List (Answered X E)). filter_map (answer_at asked_outcome) (p ∷ met) ++ l) (sym until.1) ∙ sym answers))
+  left_out_first (p ∷ met) after [] x s u t f h (false, k) step called answers until rest = absurd (answered asked_outcome p met until.2 (sym (append-nil (filter_map (answer_at asked_outcome) (p ∷ met))) ∙ ap (λ (l : List (Answered X E)). filter_map (answer_at asked_outcome) (p ∷ met) ++ l) (sym until.1) ∙ sym answers))
 
   skips_passes : (met : List (Place X (Result Bool E) E)) (after : List (Answered X E)) (s t : S) (f : F) (q : Bool × F) → Run steps s (map source_answer met ++ after) t → Calls (call) f (filter_map call_of met) q.1 → AskedUntilFalse false met after q.0 → P s (false, f) (filter_map (answer_at asked_outcome) met ++ after) t q
   skips_passes [] after s t f (true, k) ran called until = absurd until
