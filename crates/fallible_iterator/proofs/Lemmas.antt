@@ -11,6 +11,7 @@ pub mod Filtering
 pub mod Folds
 pub mod Held
 pub mod Joining
+pub mod Lists
 pub mod Nth
 pub mod OneToOne
 pub mod Overriding

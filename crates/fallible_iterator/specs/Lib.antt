@@ -14,6 +14,7 @@ pub mod Held
 pub mod Hints
 pub mod Joining
 pub mod Laws
+pub mod Lists
 pub mod OneToOne
 pub mod Passing
 pub mod Peeking

@@ -1,17 +1,17 @@
 //! The trait of fallible iterators: one call that each type writes, and all that comes with it.
-ghost use Rattle.std.specs.Prelude.{◌≡◌, ℕ, true, false, ◌+◌, ◌-◌, ◌≤◌, ◌<◌, ◌^◌, List, Option, Result, Some, None, Ok, MatchResult, ◌↔◌};
-ghost use Rattle.fallible_iterator.specs.Contract.{Contract, AtMost, Lawful, Stays};
+ghost use Rattle.std.specs.Prelude.{◌≡◌, ℕ, true, false, ◌+◌, ◌-◌, ◌≤◌, ◌<◌, ◌^◌, List, Option, Result, Some, None, Ok, Bool, MatchResult, ◌↔◌};
+ghost use Rattle.fallible_iterator.specs.Contract.{Contract, AtMost, Lawful, Stays, seen_as};
 ghost use Rattle.fallible_iterator.specs.Closures.{IsCallable, call_on, takes_on, call_at, takes_at};
 ghost use Rattle.fallible_iterator.specs.OneToOne.Enumerate.{IsNumberable, enumerate_parts};
 ghost use Rattle.fallible_iterator.specs.Filtering.SkipWhile.{skip_call, skip_takes, skip_while_parts};
 ghost use Rattle.fallible_iterator.specs.OneToOne.Scan.{scan_call, scan_takes, scan_parts};
-ghost use Rattle.fallible_iterator.specs.OneToOne.Map.{map_parts};
+ghost use Rattle.fallible_iterator.specs.OneToOne.Map.{map_parts, map_contract};
 ghost use Rattle.fallible_iterator.specs.OneToOne.Inspect.{inspect_parts};
-ghost use Rattle.fallible_iterator.specs.Filtering.Filter.{filter_parts};
+ghost use Rattle.fallible_iterator.specs.Filtering.Filter.{filter_parts, filter_contract};
 ghost use Rattle.fallible_iterator.specs.Filtering.FilterMap.{filter_map_parts};
 ghost use Rattle.fallible_iterator.specs.OneToOne.MapErr.{map_err_parts};
 ghost use Rattle.fallible_iterator.specs.OneToOne.Cloned.{cloned_parts};
-ghost use Rattle.fallible_iterator.specs.Cutting.Take.{take_parts};
+ghost use Rattle.fallible_iterator.specs.Cutting.Take.{take_parts, take_contract};
 ghost use Rattle.fallible_iterator.specs.Cutting.TakeWhile.{take_while_parts};
 ghost use Rattle.fallible_iterator.specs.Cutting.Fuse.{fuse_parts};
 ghost use Rattle.fallible_iterator.specs.Cutting.Skip.{skip_parts};
@@ -23,6 +23,7 @@ ghost use Rattle.fallible_iterator.specs.Peeking.Peekable.{peekable_parts};
 ghost use Rattle.fallible_iterator.specs.Joining.Cycle.{cycle_parts};
 ghost use Rattle.fallible_iterator.specs.declared.joining.chain.StillDrawn.TheVariants.{Both};
 ghost use Rattle.fallible_iterator.specs.Collecting.{Collects, PushTurn};
+ghost use Rattle.fallible_iterator.specs.Lists.{Lists, Acts, mapped, filtered, taken, counted};
 ghost use Rattle.fallible_iterator.specs.Folds.{CallableCarrying, Carried, CallableInFold, call_with, takes_with, FoldTurn, Folded, Counted, Nth};
 
 mod borrowed;
@@ -108,7 +109,8 @@ pub trait FallibleIterator: Drop + Sized {
         Self::Item: Drop,
         requires can { contract.can self }
         requires fits { AtMost contract self (2 ^ 64 - 1) }
-        ensures { Counted contract.steps self result }
+        ensures counted { Counted contract.steps self result }
+        ensures is { (l : List (Result Self.Item Self.Error)) → Lists contract.steps self l → result ≡ counted l }
     {
         let one_more = |n: usize, x: Self::Item| -> Result<usize, Infallible>
             requires { n < 2 ^ 64 - 1 }
@@ -200,7 +202,8 @@ pub trait FallibleIterator: Drop + Sized {
     where
         F: FnMut(Self::Item) -> Result<B, Self::Error>,
         requires { IsCallable (call_on F.FnMut) (takes_on F.FnMut) (contract.gives self) f }
-        ensures { map_parts result ≡ (self, Some f) }
+        ensures parts { map_parts result ≡ (self, Some f) }
+        ensures lists { (h : Self.Item → Result B Self.Error) (l : List (Result Self.Item Self.Error)) → Acts (call_on F.FnMut) f h → Lists contract.steps self l → Lists (seen_as map_parts (map_contract contract F.FnMut)).steps result (mapped h l) }
     {
         Map {
             it: self,
@@ -214,7 +217,8 @@ pub trait FallibleIterator: Drop + Sized {
         F: FnMut(&Self::Item) -> Result<bool, Self::Error>,
         requires finite { contract.has_end self }
         requires callable { IsCallable (call_at F.FnMut) (takes_at F.FnMut) (contract.gives self) f }
-        ensures { filter_parts result ≡ (self, Some f) }
+        ensures parts { filter_parts result ≡ (self, Some f) }
+        ensures lists { (h : Self.Item → Result Bool Self.Error) (l : List (Result Self.Item Self.Error)) → Acts (call_at F.FnMut) f h → Lists contract.steps self l → Lists (seen_as filter_parts (filter_contract contract F.FnMut)).steps result (filtered h l) }
     {
         Filter {
             it: self,
@@ -224,7 +228,8 @@ pub trait FallibleIterator: Drop + Sized {
 
     /// Ends after n items; failures and ends of the source pass, and don't count. Making the adapter draws nothing, nor does a call after the n-th item.
     final fn take(self, n: usize) -> Take<Self>
-        ensures { take_parts result ≡ (self, n) }
+        ensures parts { take_parts result ≡ (self, n) }
+        ensures lists { (l : List (Result Self.Item Self.Error)) → Lists contract.steps self l → Lists (seen_as take_parts (take_contract contract)).steps result (taken n l) }
     {
         Take { it: self, left: n }
     }

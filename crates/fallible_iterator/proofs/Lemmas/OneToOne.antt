@@ -1,4 +1,5 @@
 -- Lemmas on the runs of such types: one file a type.
 pub mod Enumerate
+pub mod Map
 pub mod MapErr
 pub mod Scan

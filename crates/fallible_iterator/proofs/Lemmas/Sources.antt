@@ -1,4 +1,5 @@
 -- Lemmas on the runs of such types: one file a type.
+pub mod Convert
 pub mod Empty
 pub mod Repeat
 pub mod Std

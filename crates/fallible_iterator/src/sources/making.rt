@@ -1,6 +1,8 @@
 //! The functions that make sources.
-ghost use Rattle.std.specs.Prelude.{◌≡◌, Some, None, ⊤};
-ghost use Rattle.fallible_iterator.specs.Sources.Convert.{convert_parts};
+ghost use Rattle.std.specs.Prelude.{◌≡◌, Some, None, Ok, List, Result, ⊤};
+ghost use Rattle.fallible_iterator.specs.Sources.Convert.{convert_parts, convert_contract};
+ghost use Rattle.fallible_iterator.specs.Contract.{seen_as};
+ghost use Rattle.fallible_iterator.specs.Lists.{Lists, RunsRead, results, items};
 ghost use Rattle.fallible_iterator.specs.Sources.FromFn.{from_fn_parts, call_of_none};
 ghost use Rattle.fallible_iterator.specs.Sources.Once.{once_parts};
 ghost use Rattle.fallible_iterator.specs.Sources.OnceErr.{once_err_parts};
@@ -16,7 +18,9 @@ use std::marker::PhantomData;
 ///
 /// It may be drawn from where the std iterator may be asked again after every answer, also after `None`, and a bound that it states doesn't rise there.
 pub fn convert<T, E, I: Iterator<Item = Result<T, E>>>(it: I) -> Convert<I>
-    ensures { convert_parts result ≡ it }
+    ensures parts { convert_parts result ≡ it }
+    ensures results { (l : List (Result T E)) → RunsRead I.next_gives (λ y. y) it l → Lists (seen_as convert_parts (convert_contract I.can_next I.next_gives I.remaining)).steps result (results l) }
+    ensures items { (l : List T) → RunsRead I.next_gives Ok it l → Lists (seen_as convert_parts (convert_contract {A = T} {E = E} I.can_next I.next_gives I.remaining)).steps result (items l) }
 {
     Convert { it }
 }

@@ -1,8 +1,13 @@
 -- The runs of `Take` are the traces that its definition names.
 use Rattle.std.specs.Prelude.{ℕ, Some, ◌≡◌, zero, suc, ◌+◌, ◌<◌, List, [], ◌∷◌, ◌++◌, replicate, None, Ok, Err, ◌↔◌}
-use Rattle.std.proofs.Common.{refl, ap, arith}
+use Rattle.std.specs.declared.result.Result.{Result}
+use Rattle.std.proofs.Common.{refl, ap, subst, arith}
+use Rattle.fallible_iterator.specs.declared.cutting.take.Take.{Take}
+use Rattle.fallible_iterator.specs.Contract.{Contract, seen_as}
+use Rattle.fallible_iterator.specs.Lists.{AlwaysGives, Lists, taken}
+use Rattle.fallible_iterator.proofs.Lemmas.Lists.Passing.{lists_seen}
 use Rattle.fallible_iterator.specs.Traces.{Answered, Run, end, items_in}
-use Rattle.fallible_iterator.specs.Cutting.Take.{TakeTrace, take_step}
+use Rattle.fallible_iterator.specs.Cutting.Take.{TakeTrace, take_step, take_parts, take_contract}
 
 module _ {A E : Type 0} where
   count_first : (r : Answered A E) (rest : List (Answered A E)) → items_in (r ∷ rest) ≡ items_in (r ∷ []) + items_in rest
@@ -63,3 +68,20 @@ module _ {S A E : Type 0} (steps : S → Answered A E → S → Type 0) where
 
   pub take_law : (p : S × ℕ) (trace : List (Answered A E)) (q : S × ℕ) → Run (take_step steps) p trace q ↔ TakeTrace steps p trace q
   take_law p trace q = (to_take_trace trace p.0 p.1 q.0 q.1, (λ d. rw d.answers (from_trace d.source_trace d.ends p.0 p.1 q.0 q.1 d.drawn d.fronts d.over d.remaining)))
+
+-- ---- what it lists
+
+module _ {S A E : Type 0} (steps : S → Answered A E → S → Type 0) where
+  abbrev Gives : S → ℕ → List (Result A E) → Type 0
+  Gives s n l = AlwaysGives (take_step steps) (s, n) l
+
+  taken_gives : (l : List (Result A E)) (s : S) (n : ℕ) → AlwaysGives steps s l → Gives s n (taken n l)
+  unfolding taken
+  taken_gives [] s zero a = λ r t w. w.0
+  taken_gives (y ∷ l) s zero a = λ r t w. w.0
+  taken_gives [] s (suc n) a = λ r t w. a r t.0 w.0
+  taken_gives (Ok x ∷ l) s (suc n) a = λ r t w. let d = a r t.0 w.0 in (d.0, subst (λ (k : ℕ). Gives t.0 k (taken n l)) (let counts : t.1 + items_in (r ∷ []) ≡ suc n = w.1 in let one : items_in (r ∷ []) ≡ 1 = ap (λ (q : Answered A E). items_in (q ∷ [])) d.0 in omega (arith, counts, one)) (taken_gives l t.0 n d.1))
+  taken_gives (Err e ∷ l) s (suc n) a = λ r t w. let d = a r t.0 w.0 in (d.0, subst (λ (k : ℕ). Gives t.0 k (taken (suc n) l)) (let counts : t.1 + items_in (r ∷ []) ≡ suc n = w.1 in let none : items_in (r ∷ []) ≡ 0 = ap (λ (q : Answered A E). items_in (q ∷ [])) d.0 in omega (arith, counts, none)) (taken_gives l t.0 (suc n) d.1))
+
+pub lists_taken : {S A E : Type 0} (m : Contract S A E) (s : Take S) (n : ℕ) (l : List (Result A E)) → take_parts s ≡ (s.it, n) → Lists m.steps s.it l → Lists (seen_as take_parts (take_contract m)).steps s (taken n l)
+lists_taken m s n l parts i = lists_seen take_parts (take_step m.steps) s parts refl (taken_gives m.steps l s.it n i.runs)

@@ -1,8 +1,12 @@
 -- The runs over a std iterator.
-use Rattle.std.specs.Prelude.{List, [], ◌∷◌, Option, ◌↔◌}
+use Rattle.std.specs.Prelude.{◌≡◌, ◌+◌, ◌≤◌, suc, List, [], ◌∷◌, map, length, Option, Some, None, Result, Ok, Err, true, false, ◌↔◌}
 use Rattle.std.specs.Iterator.{Count}
+use Rattle.std.specs.Iterator.Runs as runs
+use Rattle.std.proofs.Common.{refl, sym, ap, subst, ◌∙◌, arith, true≢false}
+use Rattle.std.proofs.iter.runs.Made.{run, took, seen, at-is}
 use Rattle.fallible_iterator.specs.Traces.{Answered, Run}
-use Rattle.fallible_iterator.specs.Sources.Std.{std_step, StdTrace}
+use Rattle.fallible_iterator.specs.Sources.Std.{std_step, StdTrace, element_by}
+use Rattle.fallible_iterator.specs.Lists.{AlwaysGives, RunsRead, result_answer}
 
 module _ {S A E Z : Type 0} (of_item : A → Z) (of_failure : E → Z) (can : S → Type 0) (gives : S → Option Z → S → Type 0) (remaining : S → Count) where
   to_std : (trace : List (Answered A E)) (s t : S) → Run (std_step of_item of_failure can gives remaining) s trace t → StdTrace of_item of_failure can gives remaining s trace t
@@ -15,3 +19,49 @@ module _ {S A E Z : Type 0} (of_item : A → Z) (of_failure : E → Z) (can : S 
 
   pub std_runs : (s : S) (trace : List (Answered A E)) (t : S) → Run (std_step of_item of_failure can gives remaining) s trace t ↔ StdTrace of_item of_failure can gives remaining s trace t
   std_runs s trace t = (to_std trace s t, from_std trace s t)
+
+-- ---- what it lists
+
+module _ {S Z X : Type 0} (gives : S → Option Z → S → Type 0) (h : X → Z) where
+  -- the run of one call
+  abbrev one_call : (s t : S) (z : Z) → gives s (Some z) t → runs.Run gives
+  one_call s t z w = run gives s (z ∷ []) false (t, (t, w, refl), λ e. absurd (true≢false (sym e)))
+
+  abbrev no_more_calls : (s t : S) → gives s None t → runs.Run gives
+  no_more_calls s t w = run gives s [] true (s, refl, λ e. (t, w))
+
+  none_read : (s t : S) (z : Z) → RunsRead gives h s [] → gives s (Some z) t → ⊥
+  none_read s t z reads w = let few : 1 ≤ 0 = (reads (one_call s t z w) (seen 1) refl).0 in omega (arith, few)
+
+  some_read : (s t : S) (x : X) (l : List X) → RunsRead gives h s (x ∷ l) → gives s None t → ⊥
+  some_read s t x l reads w = let all : 0 ≡ suc (length l) = (reads (no_more_calls s t w) (seen 0) refl).1 refl in omega (arith, all)
+
+  first_read : (s t : S) (z : Z) (x : X) (l : List X) → RunsRead gives h s (x ∷ l) → gives s (Some z) t → z ≡ h x
+  first_read s t z x l reads w = let at_0 : Some z ≡ Some (h x) = (reads (one_call s t z w) (seen 1) refl).2 0 x (omega arith) in cc
+
+  -- what is read after the first call
+  rest_read : (s t : S) (z : Z) (x : X) (l : List X) → RunsRead gives h s (x ∷ l) → gives s (Some z) t → RunsRead gives h t l
+  rest_read s t z x l reads w p _ e =
+      let q = reads (run gives s (z ∷ p.items) p.whole ((took p).0, (p.from, subst (gives s (Some z)) (sym e) w, (took p).1), (took p).2)) (seen _) refl in
+      let few : suc (length p.items) ≤ suc (length l) = q.0 in
+      (omega (arith, few, p.long), (λ whole. let all : suc (length p.items) ≡ suc (length l) = q.1 whole in omega (arith, all, p.long)), (λ k d lt. at-is p k ∙ q.2 (suc k) d (omega (arith, lt, p.long))))
+
+module _ {S A E Z X : Type 0} (of_item : A → Z) (of_failure : E → Z) (can : S → Type 0) (gives : S → Option Z → S → Type 0) (remaining : S → Count) (h : X → Z) (to : X → Result A E)
+    (back : (r : Answered A E) (x : X) → element_by of_item of_failure r ≡ Some (h x) → r ≡ result_answer (to x)) where
+  abbrev Gives : S → List (Result A E) → Type 0
+  Gives s l = AlwaysGives (std_step of_item of_failure can gives remaining) s l
+
+  ended : (r : Answered A E) (s t : S) → RunsRead gives h s [] → gives s (element_by of_item of_failure r) t → r ≡ Ok None
+  ended (Ok (Some x)) s t reads w = absurd (none_read gives h s t (of_item x) reads w)
+  ended (Err e) s t reads w = absurd (none_read gives h s t (of_failure e) reads w)
+  ended (Ok None) s t reads w = refl
+
+  -- one call at an element
+  called : (r : Answered A E) (s t : S) (x : X) (l : List X) → RunsRead gives h s (x ∷ l) → gives s (element_by of_item of_failure r) t → (r ≡ result_answer (to x)) × RunsRead gives h t l
+  called (Ok (Some y)) s t x l reads w = (back (Ok (Some y)) x (ap Some (first_read gives h s t (of_item y) x l reads w)), rest_read gives h s t (of_item y) x l reads w)
+  called (Err e) s t x l reads w = (back (Err e) x (ap Some (first_read gives h s t (of_failure e) x l reads w)), rest_read gives h s t (of_failure e) x l reads w)
+  called (Ok None) s t x l reads w = absurd (some_read gives h s t x l reads w)
+
+  pub gives_read : (l : List X) (s : S) → RunsRead gives h s l → Gives s (map to l)
+  gives_read [] s reads = λ r t w. ended r s t reads w.0
+  gives_read (x ∷ l) s reads = λ r t w. let d = called r s t x l reads w.0 in (d.0, gives_read l t d.1)

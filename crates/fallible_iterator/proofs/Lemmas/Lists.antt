@@ -1,0 +1,3 @@
+-- Lists of answers: what callers state.
+pub mod Drawn
+pub mod Passing

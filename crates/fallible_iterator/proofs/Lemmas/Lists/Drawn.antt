@@ -1,0 +1,59 @@
+-- What a consumer makes of a source whose answers are listed.
+use Rattle.std.specs.Prelude.{◌≡◌, ℕ, ◌+◌, ◌≤◌, zero, suc, length, Option, Some, None, Result, Ok, Err, List, [], ◌∷◌, ◌++◌, map}
+use Rattle.std.proofs.Common.{refl, sym, ap, subst, ◌∙◌, arith}
+use Rattle.fallible_iterator.specs.Traces.{Answered, Run, item}
+use Rattle.fallible_iterator.specs.Folds.{Counted, CountExit, Nth, NthExit}
+use Rattle.fallible_iterator.specs.Lists.{AlwaysGives, Lists, result_answer, one_more_than, counted, nth_of}
+
+module _ {A E : Type 0} where
+  -- what is left of the list at the last answer that was drawn
+  abbrev pub LeftAt : Answered A E → List (Result A E) → Type 0
+  LeftAt (Ok (Some x)) l = (rest : List (Result A E)) × (l ≡ Ok x ∷ rest)
+  LeftAt (Ok None) l = l ≡ []
+  LeftAt (Err e) l = (rest : List (Result A E)) × (l ≡ Err e ∷ rest)
+
+  module _ {S : Type 0} (steps : S → Answered A E → S → Type 0) where
+    left_at : (last : Answered A E) (l : List (Result A E)) (s t : S) → AlwaysGives steps s l → steps s last t → LeftAt last l
+    left_at (Ok None) [] s t a w = refl
+    left_at (Ok (Some x)) [] s t a w = absurd (let h = a (Ok (Some x)) t w in cc)
+    left_at (Err e) [] s t a w = absurd (let h = a (Err e) t w in cc)
+    left_at (Ok None) (Ok y ∷ l) s t a w = absurd (let h = (a (Ok None) t w).0 in cc)
+    left_at (Ok None) (Err y ∷ l) s t a w = absurd (let h = (a (Ok None) t w).0 in cc)
+    left_at (Ok (Some x)) (Ok y ∷ l) s t a w = (l, let h = (a (Ok (Some x)) t w).0 in cc)
+    left_at (Ok (Some x)) (Err y ∷ l) s t a w = absurd (let h = (a (Ok (Some x)) t w).0 in cc)
+    left_at (Err e) (Ok y ∷ l) s t a w = absurd (let h = (a (Err e) t w).0 in cc)
+    left_at (Err e) (Err y ∷ l) s t a w = (l, let h = (a (Err e) t w).0 in cc)
+
+    -- the list is the items that were drawn, and what was left at the last answer
+    pub record Drawn (items : List A) (last : Answered A E) (l : List (Result A E)) : Type 0 where
+      pub rest : List (Result A E)
+      pub list_is : l ≡ map (λ x. Ok x) items ++ rest
+      pub left : LeftAt last rest
+
+    pub drawn : (items : List A) (last : Answered A E) (l : List (Result A E)) (s t : S) → AlwaysGives steps s l → Run steps s (map item items ++ last ∷ []) t → Drawn items last l
+    drawn [] last l s t a ran = record { rest = l; list_is = refl; left = left_at last l s ran.0 a ran.1 }
+    drawn (x ∷ items) last [] s t a ran = absurd (let h = a (Ok (Some x)) ran.0 ran.1 in cc)
+    drawn (x ∷ items) last (Err y ∷ l) s t a ran = absurd (let h = (a (Ok (Some x)) ran.0 ran.1).0 in cc)
+    drawn (x ∷ items) last (Ok y ∷ l) s t a ran = let h = a (Ok (Some x)) ran.0 ran.1 in let d = drawn items last l ran.0 t h.1 ran.2 in
+        record { rest = d.rest; list_is = (let same : y ≡ x = (let q = h.0 in cc) in let is = d.list_is in cc); left = d.left }
+
+  -- ---- count
+
+  counted_front : (items : List A) (rest : List (Result A E)) (n : ℕ) → counted rest ≡ Ok n → counted (map (λ x. Ok x) items ++ rest) ≡ Ok (length items + n)
+  unfolding counted
+  counted_front [] rest n e = e ∙ ap (λ k. Ok k) (omega arith)
+  counted_front (x ∷ items) rest n e = ap one_more_than (counted_front items rest n e) ∙ ap (λ k. Ok k) (omega arith)
+
+  failed_front : (items : List A) (rest : List (Result A E)) (e : E) → counted rest ≡ Err e → counted (map (λ x. Ok x) items ++ rest) ≡ Err e
+  unfolding counted
+  failed_front [] rest e is = is
+  failed_front (x ∷ items) rest e is = ap one_more_than (failed_front items rest e is)
+
+  counted_by : (items : List A) (last : Answered A E) (r : Result ℕ E) (l rest : List (Result A E)) → l ≡ map (λ x. Ok x) items ++ rest → LeftAt last rest → CountExit (length items) last r → r ≡ counted l
+  unfolding counted
+  counted_by items (Ok None) r l rest is left exit = exit ∙ ap (λ k. Ok k) (omega arith) ∙ sym (counted_front items rest 0 (ap counted left)) ∙ ap counted (sym is)
+  counted_by items (Err e) r l rest is left exit = exit ∙ sym (failed_front items rest e (ap counted left.1)) ∙ ap counted (sym is)
+  counted_by items (Ok (Some x)) r l rest is left exit = absurd exit
+
+pub counted_is : {S A E : Type 0} {steps : S → Answered A E → S → Type 0} {s : S} {r : Result ℕ E} (l : List (Result A E)) → Counted steps s r → Lists steps s l → r ≡ counted l
+counted_is {steps = steps} {s = s} {r = r} l c i = let d = drawn steps c.items c.last l s c.left i.runs c.ran in counted_by c.items c.last r l d.rest d.list_is d.left c.exit

@@ -1,0 +1,38 @@
+-- What `Convert` lists.
+use Rattle.std.specs.Prelude.{◌≡◌, Option, Some, None, Result, Ok, Err, List, [], ◌∷◌, map}
+use Rattle.std.proofs.Common.{refl, ap, ◌∙◌}
+use Rattle.std.specs.Iterator.{Count}
+use Rattle.fallible_iterator.specs.Traces.{Answered}
+use Rattle.fallible_iterator.specs.declared.sources.convert.Convert.{Convert}
+use Rattle.fallible_iterator.specs.Contract.{seen_as}
+use Rattle.fallible_iterator.specs.Sources.Std.{element_by}
+use Rattle.fallible_iterator.specs.Sources.Convert.{convert_parts, convert_contract}
+use Rattle.fallible_iterator.specs.Lists.{Lists, RunsRead, result_answer, results, items}
+use Rattle.fallible_iterator.proofs.Lemmas.Sources.Std.{gives_read}
+use Rattle.fallible_iterator.proofs.Lemmas.Lists.Passing.{lists_seen}
+
+results_are : {A E : Type 0} (l : List (Result A E)) → map (λ y. y) l ≡ results l
+unfolding results
+results_are [] = refl
+results_are (y ∷ l) = ap (λ t. y ∷ t) (results_are l)
+
+items_are : {A E : Type 0} (l : List A) → map (λ x. Ok x) l ≡ items {E = E} l
+unfolding items
+items_are [] = refl
+items_are {E = E} (x ∷ l) = ap (λ (t : List (Result _ E)). Ok x ∷ t) (items_are l)
+
+module _ {A E : Type 0} where
+  answered : (r : Answered A E) (y : Result A E) → element_by {A = A} {E = E} Ok Err r ≡ Some y → r ≡ result_answer y
+  answered (Ok (Some x)) (Ok y) e = cc
+  answered (Ok (Some x)) (Err y) e = absurd cc
+  answered (Err d) (Ok y) e = absurd cc
+  answered (Err d) (Err y) e = cc
+  answered (Ok None) (Ok y) e = absurd cc
+  answered (Ok None) (Err y) e = absurd cc
+
+module _ {S A E : Type 0} (can : S → Type 0) (gives : S → Option (Result A E) → S → Type 0) (remaining : S → Count) (s : Convert S) where
+  pub lists_results : (l : List (Result A E)) → RunsRead gives (λ y. y) s.it l → Lists (seen_as convert_parts (convert_contract can gives remaining)).steps s (results l)
+  lists_results l reads = lists_seen convert_parts (convert_contract can gives remaining).steps s refl (results_are l) (gives_read Ok Err can gives remaining (λ y. y) (λ y. y) answered l s.it reads)
+
+  pub lists_items : (l : List A) → RunsRead gives Ok s.it l → Lists (seen_as convert_parts (convert_contract can gives remaining)).steps s (items l)
+  lists_items l reads = lists_seen convert_parts (convert_contract can gives remaining).steps s refl (items_are l) (gives_read Ok Err can gives remaining (λ x. Ok x) (λ x. Ok x) (λ r x. answered r (Ok x)) l s.it reads)
