@@ -65,7 +65,9 @@ pub trait FallibleIterator: Drop + Sized {
     fn size_hint(&self) -> (usize, Option<usize>)
         ensures { contract.hints self.now result };
 
-    // A number to come, for drains to count down by. It is no part of the surface.
+    /// A number to come, for a loop of one's own to count down by; it has no bytes, and only clauses read it.
+    ///
+    /// `let mut left = it.number();` before the loop, `left = left.one_less();` after each item, and `left.value` as the measure: the invariant is that the iterator may be drawn from, and that some number to come of it is at most `left.value`.
     fn number(&self) -> Number
         requires { (n : ℕ) × contract.to_come self.now n }
         ensures { contract.to_come self.now result.value }
@@ -496,6 +498,15 @@ pub trait FallibleIterator: Drop + Sized {
             it: run,
             kept: self,
         })
+    }
+
+    /// `next`, which also says that what is left may be drawn from again: so a proof that draws several times by hand goes on by itself.
+    final fn draw(&mut self) -> Result<Option<Self::Item>, Self::Error>
+        requires { contract.can self.old }
+        ensures drawn { contract.steps self.old result self.new }
+        ensures stays { Stays contract self.old self.new }
+    {
+        self.next()
     }
 
     /// Itself, borrowed: what is drawn from the borrow is drawn from it.

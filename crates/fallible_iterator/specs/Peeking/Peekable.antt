@@ -90,6 +90,16 @@ abbrev pub held_item : {A : Type 0} → Option (Option A) → Option A
 held_item (Some o) = o
 held_item None = None
 
+-- what a closure answers on the item that was looked at; none at an end, and the failure where one came
+abbrev pub LooksAt : {F A R E : Type 0} → Shared F (Bor A × Unit {0}) R → F → Answered A E → Result (Option R) E → Type 0
+LooksAt {R = R} g f (Ok (Some x)) r = (v : R) × FnReturnsAt g f x v × (r ≡ Ok (Some v))
+LooksAt g f (Ok None) r = r ≡ Ok None
+LooksAt g f (Err e) r = r ≡ Err e
+
+-- `look`: a peek, and what the closure answers on the item.
+abbrev pub Looks : {S F A R E : Type 0} → (S → Answered A E → S → Type 0) → Shared F (Bor A × Unit {0}) R → F → S × Option (Option A) → Result (Option R) E → S × Option (Option A) → Type 0
+Looks {A = A} {E = E} steps g f p r q = (a : Answered A E) × Peeks steps p a q × LooksAt g f a r
+
 -- what is done with what a peek answered, and left as p: an item that the test is true of is taken, and one that it is false of stays held, as an end does
 abbrev pub TakenIf : {S A E : Type 0} → (S → Answered A E → S → Type 0) → (A → Bool → Type 0) → S × Option (Option A) → Answered A E → Answered A E → S × Option (Option A) → Type 0
 TakenIf steps test p (Ok (Some x)) r q = (test x true × (r ≡ item x) × peekable_step steps p r q) ⊎ (test x false × (r ≡ end) × (q ≡ p))
@@ -108,5 +118,5 @@ abbrev pub TestedBy : {F A : Type 0} → Shared F (Bor A × Unit {0}) Bool → F
 TestedBy g f x b = FnReturnsAt g f x b
 
 -- The closure may be called on a reference to each item of which P holds.
-abbrev pub IsTestable : {F A : Type 0} → Shared F (Bor A × Unit {0}) Bool → F → (A → Type 0) → Type 0
+abbrev pub IsTestable : {F A R : Type 0} → Shared F (Bor A × Unit {0}) R → F → (A → Type 0) → Type 0
 IsTestable {A = A} g f P = (x : Bor A) → P x.now → g.pre f (x, tt)

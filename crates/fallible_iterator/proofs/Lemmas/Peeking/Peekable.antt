@@ -1,10 +1,11 @@
 -- `Peekable`: what is left after a look ahead, and its runs, which are the traces that its definition names.
 use Rattle.std.specs.Prelude.{◌≡◌, List, [], ◌∷◌, ◌++◌, Option, Result, MatchResult, option_copied, Some, None, Ok, Err, Bool, true, false, ◌↔◌}
 use Rattle.std.specs.Borrow.{Bor}
+use Rattle.std.specs.Fn.{Shared, FnReturnsAt}
 use Rattle.std.proofs.Common.{refl, sym, ap, subst, arith, inl, inr}
 use Rattle.fallible_iterator.specs.Traces.{Answered, Run, item, end}
 use Rattle.fallible_iterator.specs.Contract.{Contract, Goes, Stays, Lawful}
-use Rattle.fallible_iterator.specs.Peeking.Peekable.{held_answers, PeekableTrace, peekable_step, peekable_contract, seen, told, held_of, held_item, Fills, Peeks, TakenIf, NextIf}
+use Rattle.fallible_iterator.specs.Peeking.Peekable.{held_answers, PeekableTrace, peekable_step, peekable_contract, seen, told, held_of, held_item, Fills, Peeks, Looks, TakenIf, NextIf}
 use Rattle.fallible_iterator.specs.Laws.Contract.{stays_after, stays_here}
 use Rattle.fallible_iterator.specs.Laws.Peeking.Peekable.{drawn_goes}
 
@@ -131,3 +132,14 @@ module _ {S A E : Type 0} (steps : S → Answered A E → S → Type 0) (test te
 
   pub next_if_by : (p : S × Option (Option A)) (r : Answered A E) (q : S × Option (Option A)) → NextIf steps test p r q → NextIf steps test' p r q
   next_if_by p r q n = record { peeked = n.peeked; left = n.left; peeks = n.peeks; taken = taken_by n.left n.peeked r q n.taken }
+
+-- ---- looking
+
+filled_with : {S A E : Type 0} (steps : S → Answered A E → S → Type 0) (p q : S × Option (Option A)) (a : Answered A E) (x : A) → Peeks steps p a q → Ok tt ≡ told a → held_item q.1 ≡ Some x → a ≡ Ok (Some x)
+filled_with steps (s, Some o) q a x w t h = cc
+filled_with steps (s, None) q (Ok o) x w t h = cc
+filled_with steps (s, None) q (Err e) x w t h = absurd cc
+
+-- what a closure answers on the item that is held is what it answers on the one that was looked at
+pub looks_at_held : {S F A R E : Type 0} (steps : S → Answered A E → S → Type 0) {g : Shared F (Bor A × Unit {0}) R} {f : F} (p q : S × Option (Option A)) (x : A) {v : R} → Fills steps p (Ok tt) q → held_item q.1 ≡ Some x → FnReturnsAt g f x v → Looks steps g f p (Ok (Some v)) q
+looks_at_held {A = A} {E = E} steps p q x {v = v} w h called = (Ok (Some x), subst (λ (a : Answered A E). Peeks steps p a q) (filled_with steps p q w.0 x w.1 w.2 h) w.1, (v, called, refl))
