@@ -23,6 +23,10 @@ module _ {S A E : Type 0} (steps : S → Answered A E → S → Type 0) where
 abbrev pub Acts : {F X R : Type 0} → (F → X → R → F → Type 0) → F → (X → R) → Type 0
 Acts {F} {X} {R} call f h = (x : X) (r : R) (g : F) → call f x r g → (g ≡ f) × (r ≡ h x)
 
+-- The same with a state: called at state t on x the closure answers and leaves what `next t x` says, and stays as it is itself.
+abbrev pub ActsWithState : {F T X R : Type 0} → (T × F → X → R → T × F → Type 0) → F → (T → X → R × T) → Type 0
+ActsWithState {F} {T} {X} {R} call f next = (t : T) (x : X) (r : R) (q : T × F) → call (t, f) x r q → (q ≡ ((next t x).1, f)) × (r ≡ (next t x).0)
+
 -- Whatever calls of a std iterator's `next` give from s, it reads the list: at each place h of the element there, and `None` only after the last one.
 abbrev pub RunsRead : {S X Z : Type 0} → (S → Option Z → S → Type 0) → (X → Z) → S → List X → Type 0
 RunsRead {X = X} gives h s l = EachRunFrom gives s (λ p. (p.len ≤ length l) × (p.whole ≡ true → p.len ≡ length l) × ((k : ℕ) (d : X) → k < p.len → p.at k ≡ Some (h (slice_index_or l k d))))
@@ -64,6 +68,41 @@ taken zero l = []
 taken (suc n) [] = []
 taken (suc n) (Ok x ∷ l) = Ok x ∷ taken n l
 taken (suc n) (Err e ∷ l) = Err e ∷ taken (suc n) l
+
+-- the value that a closure answers before a list; nothing where it answers none
+abbrev pub cons_some : {B E : Type 0} → Result (Option B) E → List (Result B E) → List (Result B E)
+cons_some (Ok (Some y)) l = Ok y ∷ l
+cons_some (Ok None) l = l
+cons_some (Err e) l = Err e ∷ l
+
+-- the value of h x in the place of each item x, and nothing where h x is none; where h x is a failure, that failure in the place of x
+unfoldable pub filter_mapped : {X B E : Type 0} → (X → Result (Option B) E) → List (Result X E) → List (Result B E)
+filter_mapped h [] = []
+filter_mapped h (Ok x ∷ l) = cons_some (h x) (filter_mapped h l)
+filter_mapped h (Err e ∷ l) = Err e ∷ filter_mapped h l
+
+-- an item that a closure has seen, or the closure's failure
+abbrev pub once_seen : {X E : Type 0} → X → Result (Unit {0}) E → Result X E
+once_seen x (Ok u) = Ok x
+once_seen x (Err e) = Err e
+
+-- the same, but where h x is a failure, that failure in the place of x
+unfoldable pub inspected : {X E : Type 0} → (X → Result (Unit {0}) E) → List (Result X E) → List (Result X E)
+inspected h [] = []
+inspected h (Ok x ∷ l) = once_seen x (h x) ∷ inspected h l
+inspected h (Err e ∷ l) = Err e ∷ inspected h l
+
+-- the value that a closure answers before a list; where it answers none, the list ends
+abbrev pub cons_or_end : {B E : Type 0} → Result (Option B) E → List (Result B E) → List (Result B E)
+cons_or_end (Ok (Some y)) l = Ok y ∷ l
+cons_or_end (Ok None) l = []
+cons_or_end (Err e) l = Err e ∷ l
+
+-- at state t the answer of `next t x` in the place of each item x, up to the first none, and the rest at the state that `next t x` leaves
+unfoldable pub scanned : {T X B E : Type 0} → (T → X → Result (Option B) E × T) → T → List (Result X E) → List (Result B E)
+scanned next t [] = []
+scanned next t (Ok x ∷ l) = cons_or_end (next t x).0 (scanned next (next t x).1 l)
+scanned next t (Err e ∷ l) = Err e ∷ scanned next t l
 
 -- ---- what consumers make of a list
 

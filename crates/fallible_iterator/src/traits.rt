@@ -4,11 +4,11 @@ ghost use Rattle.fallible_iterator.specs.Contract.{Contract, AtMost, Lawful, Sta
 ghost use Rattle.fallible_iterator.specs.Closures.{IsCallable, call_on, takes_on, call_at, takes_at};
 ghost use Rattle.fallible_iterator.specs.OneToOne.Enumerate.{IsNumberable, enumerate_parts};
 ghost use Rattle.fallible_iterator.specs.Filtering.SkipWhile.{skip_call, skip_takes, skip_while_parts};
-ghost use Rattle.fallible_iterator.specs.OneToOne.Scan.{scan_call, scan_takes, scan_parts};
+ghost use Rattle.fallible_iterator.specs.OneToOne.Scan.{scan_call, scan_takes, scan_parts, scan_contract};
 ghost use Rattle.fallible_iterator.specs.OneToOne.Map.{map_parts, map_contract};
-ghost use Rattle.fallible_iterator.specs.OneToOne.Inspect.{inspect_parts};
+ghost use Rattle.fallible_iterator.specs.OneToOne.Inspect.{inspect_parts, inspect_contract};
 ghost use Rattle.fallible_iterator.specs.Filtering.Filter.{filter_parts, filter_contract};
-ghost use Rattle.fallible_iterator.specs.Filtering.FilterMap.{filter_map_parts};
+ghost use Rattle.fallible_iterator.specs.Filtering.FilterMap.{filter_map_parts, filter_map_contract};
 ghost use Rattle.fallible_iterator.specs.OneToOne.MapErr.{map_err_parts};
 ghost use Rattle.fallible_iterator.specs.OneToOne.Cloned.{cloned_parts};
 ghost use Rattle.fallible_iterator.specs.Cutting.Take.{take_parts, take_contract};
@@ -23,7 +23,7 @@ ghost use Rattle.fallible_iterator.specs.Peeking.Peekable.{peekable_parts};
 ghost use Rattle.fallible_iterator.specs.Joining.Cycle.{cycle_parts};
 ghost use Rattle.fallible_iterator.specs.declared.joining.chain.StillDrawn.TheVariants.{Both};
 ghost use Rattle.fallible_iterator.specs.Collecting.{Collects, PushTurn};
-ghost use Rattle.fallible_iterator.specs.Lists.{Lists, Acts, mapped, filtered, taken, counted};
+ghost use Rattle.fallible_iterator.specs.Lists.{Lists, Acts, mapped, filtered, taken, counted, filter_mapped, inspected, ActsWithState, scanned};
 ghost use Rattle.fallible_iterator.specs.Folds.{CallableCarrying, Carried, CallableInFold, call_with, takes_with, FoldTurn, Folded, Counted, Nth};
 
 mod borrowed;
@@ -288,7 +288,8 @@ pub trait FallibleIterator: Drop + Sized {
         F: FnMut(Self::Item) -> Result<Option<B>, Self::Error>,
         requires finite { contract.has_end self }
         requires callable { IsCallable (call_on F.FnMut) (takes_on F.FnMut) (contract.gives self) f }
-        ensures { filter_map_parts result ≡ (self, Some f) }
+        ensures parts { filter_map_parts result ≡ (self, Some f) }
+        ensures lists { (h : Self.Item → Result (Option B) Self.Error) (l : List (Result Self.Item Self.Error)) → Acts (call_on F.FnMut) f h → Lists contract.steps self l → Lists (seen_as filter_map_parts (filter_map_contract contract F.FnMut)).steps result (filter_mapped h l) }
     {
         FilterMap {
             it: self,
@@ -303,7 +304,8 @@ pub trait FallibleIterator: Drop + Sized {
     where
         F: FnMut(&Self::Item) -> Result<(), Self::Error>,
         requires { IsCallable (call_at F.FnMut) (takes_at F.FnMut) (contract.gives self) f }
-        ensures { inspect_parts result ≡ (self, Some f) }
+        ensures parts { inspect_parts result ≡ (self, Some f) }
+        ensures lists { (h : Self.Item → Result (Unit {0}) Self.Error) (l : List (Result Self.Item Self.Error)) → Acts (call_at F.FnMut) f h → Lists contract.steps self l → Lists (seen_as inspect_parts (inspect_contract contract F.FnMut)).steps result (inspected h l) }
     {
         Inspect {
             it: self,
@@ -358,7 +360,8 @@ pub trait FallibleIterator: Drop + Sized {
     where
         F: FnMut(&mut St, Self::Item) -> Result<Option<B>, Self::Error>,
         requires { IsCallable (scan_call F.FnMut) (scan_takes F.FnMut) (contract.gives self) (initial_state, f) }
-        ensures { scan_parts result ≡ (self, (initial_state, f)) }
+        ensures parts { scan_parts result ≡ (self, (initial_state, f)) }
+        ensures lists { (next : St → Self.Item → Result (Option B) Self.Error × St) (l : List (Result Self.Item Self.Error)) → ActsWithState (scan_call F.FnMut) f next → Lists contract.steps self l → Lists (seen_as scan_parts (scan_contract contract F.FnMut)).steps result (scanned next initial_state l) }
     {
         Scan {
             it: self,

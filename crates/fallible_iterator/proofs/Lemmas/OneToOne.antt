@@ -1,5 +1,6 @@
 -- Lemmas on the runs of such types: one file a type.
 pub mod Enumerate
+pub mod Inspect
 pub mod Map
 pub mod MapErr
 pub mod Scan
