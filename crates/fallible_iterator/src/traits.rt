@@ -3,7 +3,7 @@ ghost use Rattle.std.specs.Prelude.{◌≡◌, ℕ, true, false, ◌+◌, ◌-�
 ghost use Rattle.fallible_iterator.specs.Contract.{Contract, AtMost, Lawful, Stays, seen_as};
 ghost use Rattle.fallible_iterator.specs.Closures.{IsCallable, call_on, takes_on, call_at, takes_at};
 ghost use Rattle.fallible_iterator.specs.OneToOne.Enumerate.{IsNumberable, enumerate_parts};
-ghost use Rattle.fallible_iterator.specs.Filtering.SkipWhile.{skip_call, skip_takes, skip_while_parts};
+ghost use Rattle.fallible_iterator.specs.Filtering.SkipWhile.{skip_call, skip_takes, skip_while_parts, skip_while_contract};
 ghost use Rattle.fallible_iterator.specs.OneToOne.Scan.{scan_call, scan_takes, scan_parts, scan_contract};
 ghost use Rattle.fallible_iterator.specs.OneToOne.Map.{map_parts, map_contract};
 ghost use Rattle.fallible_iterator.specs.OneToOne.Inspect.{inspect_parts, inspect_contract};
@@ -23,7 +23,7 @@ ghost use Rattle.fallible_iterator.specs.Peeking.Peekable.{peekable_parts};
 ghost use Rattle.fallible_iterator.specs.Joining.Cycle.{cycle_parts};
 ghost use Rattle.fallible_iterator.specs.declared.joining.chain.StillDrawn.TheVariants.{Both};
 ghost use Rattle.fallible_iterator.specs.Collecting.{Collects, PushTurn};
-ghost use Rattle.fallible_iterator.specs.Lists.{Lists, Acts, mapped, filtered, taken, counted, filter_mapped, inspected, ActsWithState, scanned};
+ghost use Rattle.fallible_iterator.specs.Lists.{Lists, Acts, mapped, filtered, taken, counted, filter_mapped, inspected, ActsWithState, scanned, skipped_while};
 ghost use Rattle.fallible_iterator.specs.Folds.{CallableCarrying, Carried, CallableInFold, call_with, takes_with, FoldTurn, Folded, Counted, Nth};
 
 mod borrowed;
@@ -344,7 +344,8 @@ pub trait FallibleIterator: Drop + Sized {
         P: FnMut(&Self::Item) -> Result<bool, Self::Error>,
         requires finite { contract.has_end self }
         requires callable { IsCallable (skip_call (call_at P.FnMut)) (skip_takes (takes_at P.FnMut)) (contract.gives self) (false, predicate) }
-        ensures { skip_while_parts result ≡ (self, (false, Some predicate)) }
+        ensures parts { skip_while_parts result ≡ (self, (false, Some predicate)) }
+        ensures lists { (h : Self.Item → Result Bool Self.Error) (l : List (Result Self.Item Self.Error)) → Acts (call_at P.FnMut) predicate h → Lists contract.steps self l → Lists (seen_as skip_while_parts (skip_while_contract contract P.FnMut)).steps result (skipped_while h l) }
     {
         SkipWhile {
             it: self,
