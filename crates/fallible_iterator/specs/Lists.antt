@@ -116,6 +116,18 @@ skipped_while h [] = []
 skipped_while h (Ok x ∷ l) = cons_from x (h x) l (skipped_while h l)
 skipped_while h (Err e ∷ l) = Err e ∷ skipped_while h l
 
+-- an item before a list where the predicate's answer keeps it; where it refuses it, the list ends
+abbrev pub cons_while : {X E : Type 0} → X → Result Bool E → List (Result X E) → List (Result X E)
+cons_while x (Ok true) l = Ok x ∷ l
+cons_while x (Ok false) l = []
+cons_while x (Err e) l = Err e ∷ l
+
+-- up to the first item x for which h x is false, without it; where h x is a failure, that failure in the place of x
+unfoldable pub taken_while : {X E : Type 0} → (X → Result Bool E) → List (Result X E) → List (Result X E)
+taken_while h [] = []
+taken_while h (Ok x ∷ l) = cons_while x (h x) (taken_while h l)
+taken_while h (Err e ∷ l) = Err e ∷ taken_while h l
+
 -- ---- what consumers make of a list
 
 -- one more, where there is a number

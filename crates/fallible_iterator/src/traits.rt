@@ -12,7 +12,7 @@ ghost use Rattle.fallible_iterator.specs.Filtering.FilterMap.{filter_map_parts, 
 ghost use Rattle.fallible_iterator.specs.OneToOne.MapErr.{map_err_parts};
 ghost use Rattle.fallible_iterator.specs.OneToOne.Cloned.{cloned_parts};
 ghost use Rattle.fallible_iterator.specs.Cutting.Take.{take_parts, take_contract};
-ghost use Rattle.fallible_iterator.specs.Cutting.TakeWhile.{take_while_parts};
+ghost use Rattle.fallible_iterator.specs.Cutting.TakeWhile.{take_while_parts, take_while_contract};
 ghost use Rattle.fallible_iterator.specs.Cutting.Fuse.{fuse_parts};
 ghost use Rattle.fallible_iterator.specs.Cutting.Skip.{skip_parts};
 ghost use Rattle.fallible_iterator.specs.Cutting.StepBy.{step_by_parts};
@@ -23,7 +23,7 @@ ghost use Rattle.fallible_iterator.specs.Peeking.Peekable.{peekable_parts};
 ghost use Rattle.fallible_iterator.specs.Joining.Cycle.{cycle_parts};
 ghost use Rattle.fallible_iterator.specs.declared.joining.chain.StillDrawn.TheVariants.{Both};
 ghost use Rattle.fallible_iterator.specs.Collecting.{Collects, PushTurn};
-ghost use Rattle.fallible_iterator.specs.Lists.{Lists, Acts, mapped, filtered, taken, counted, filter_mapped, inspected, ActsWithState, scanned, skipped_while};
+ghost use Rattle.fallible_iterator.specs.Lists.{Lists, Acts, mapped, filtered, taken, counted, filter_mapped, inspected, ActsWithState, scanned, skipped_while, taken_while};
 ghost use Rattle.fallible_iterator.specs.Folds.{CallableCarrying, Carried, CallableInFold, call_with, takes_with, FoldTurn, Folded, Counted, Nth};
 
 mod borrowed;
@@ -239,7 +239,8 @@ pub trait FallibleIterator: Drop + Sized {
     where
         P: FnMut(&Self::Item) -> Result<bool, Self::Error>,
         requires { IsCallable (call_at P.FnMut) (takes_at P.FnMut) (contract.gives self) predicate }
-        ensures { take_while_parts result ≡ ((self, Some predicate), false) }
+        ensures parts { take_while_parts result ≡ ((self, Some predicate), false) }
+        ensures lists { (h : Self.Item → Result Bool Self.Error) (l : List (Result Self.Item Self.Error)) → Acts (call_at P.FnMut) predicate h → Lists contract.steps self l → Lists (seen_as take_while_parts (take_while_contract contract P.FnMut)).steps result (taken_while h l) }
     {
         TakeWhile {
             it: self,
