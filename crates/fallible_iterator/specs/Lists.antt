@@ -128,6 +128,12 @@ taken_while h [] = []
 taken_while h (Ok x ∷ l) = cons_while x (h x) (taken_while h l)
 taken_while h (Err e ∷ l) = Err e ∷ taken_while h l
 
+-- each item beside its number, from n on; failures have none
+unfoldable pub numbered : {A E : Type 0} → ℕ → List (Result A E) → List (Result (ℕ × A) E)
+numbered n [] = []
+numbered n (Ok x ∷ l) = Ok (n, x) ∷ numbered (n + 1) l
+numbered n (Err e ∷ l) = Err e ∷ numbered n l
+
 -- ---- what consumers make of a list
 
 -- one more, where there is a number

@@ -2,7 +2,7 @@
 ghost use Rattle.std.specs.Prelude.{◌≡◌, ℕ, true, false, ◌+◌, ◌-◌, ◌≤◌, ◌<◌, ◌^◌, List, Option, Result, Some, None, Ok, Bool, MatchResult, ◌↔◌};
 ghost use Rattle.fallible_iterator.specs.Contract.{Contract, AtMost, Lawful, Stays, seen_as};
 ghost use Rattle.fallible_iterator.specs.Closures.{IsCallable, call_on, takes_on, call_at, takes_at};
-ghost use Rattle.fallible_iterator.specs.OneToOne.Enumerate.{IsNumberable, enumerate_parts};
+ghost use Rattle.fallible_iterator.specs.OneToOne.Enumerate.{IsNumberable, enumerate_parts, enumerate_contract};
 ghost use Rattle.fallible_iterator.specs.Filtering.SkipWhile.{skip_call, skip_takes, skip_while_parts, skip_while_contract};
 ghost use Rattle.fallible_iterator.specs.OneToOne.Scan.{scan_call, scan_takes, scan_parts, scan_contract};
 ghost use Rattle.fallible_iterator.specs.OneToOne.Map.{map_parts, map_contract};
@@ -23,7 +23,7 @@ ghost use Rattle.fallible_iterator.specs.Peeking.Peekable.{peekable_parts};
 ghost use Rattle.fallible_iterator.specs.Joining.Cycle.{cycle_parts};
 ghost use Rattle.fallible_iterator.specs.declared.joining.chain.StillDrawn.TheVariants.{Both};
 ghost use Rattle.fallible_iterator.specs.Collecting.{Collects, PushTurn};
-ghost use Rattle.fallible_iterator.specs.Lists.{Lists, Acts, mapped, filtered, taken, counted, filter_mapped, inspected, ActsWithState, scanned, skipped_while, taken_while};
+ghost use Rattle.fallible_iterator.specs.Lists.{Lists, Acts, mapped, filtered, taken, counted, filter_mapped, inspected, ActsWithState, scanned, skipped_while, taken_while, numbered};
 ghost use Rattle.fallible_iterator.specs.Folds.{CallableCarrying, Carried, CallableInFold, call_with, takes_with, FoldTurn, Folded, Counted, Nth};
 
 mod borrowed;
@@ -333,6 +333,7 @@ pub trait FallibleIterator: Drop + Sized {
         requires { AtMost contract self (2 ^ 64 - 1) }
         ensures parts { enumerate_parts result ≡ (self, 0) }
         ensures numberable { contract.can self → IsNumberable contract self 0 }
+        ensures lists { (l : List (Result Self.Item Self.Error)) → Lists contract.steps self l → Lists (seen_as enumerate_parts (enumerate_contract contract)).steps result (numbered 0 l) }
     {
         Enumerate { it: self, count: 0 }
     }
