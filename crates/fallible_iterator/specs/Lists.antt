@@ -134,6 +134,12 @@ numbered n [] = []
 numbered n (Ok x ∷ l) = Ok (n, x) ∷ numbered (n + 1) l
 numbered n (Err e ∷ l) = Err e ∷ numbered n l
 
+-- h e in the place of each failure e
+unfoldable pub failures_mapped : {A D E : Type 0} → (D → E) → List (Result A D) → List (Result A E)
+failures_mapped h [] = []
+failures_mapped h (Ok x ∷ l) = Ok x ∷ failures_mapped h l
+failures_mapped h (Err e ∷ l) = Err (h e) ∷ failures_mapped h l
+
 -- ---- what consumers make of a list
 
 -- one more, where there is a number

@@ -9,7 +9,7 @@ ghost use Rattle.fallible_iterator.specs.OneToOne.Map.{map_parts, map_contract};
 ghost use Rattle.fallible_iterator.specs.OneToOne.Inspect.{inspect_parts, inspect_contract};
 ghost use Rattle.fallible_iterator.specs.Filtering.Filter.{filter_parts, filter_contract};
 ghost use Rattle.fallible_iterator.specs.Filtering.FilterMap.{filter_map_parts, filter_map_contract};
-ghost use Rattle.fallible_iterator.specs.OneToOne.MapErr.{map_err_parts};
+ghost use Rattle.fallible_iterator.specs.OneToOne.MapErr.{map_err_parts, map_err_contract};
 ghost use Rattle.fallible_iterator.specs.OneToOne.Cloned.{cloned_parts};
 ghost use Rattle.fallible_iterator.specs.Cutting.Take.{take_parts, take_contract};
 ghost use Rattle.fallible_iterator.specs.Cutting.TakeWhile.{take_while_parts, take_while_contract};
@@ -23,7 +23,7 @@ ghost use Rattle.fallible_iterator.specs.Peeking.Peekable.{peekable_parts};
 ghost use Rattle.fallible_iterator.specs.Joining.Cycle.{cycle_parts};
 ghost use Rattle.fallible_iterator.specs.declared.joining.chain.StillDrawn.TheVariants.{Both};
 ghost use Rattle.fallible_iterator.specs.Collecting.{Collects, PushTurn};
-ghost use Rattle.fallible_iterator.specs.Lists.{Lists, Acts, mapped, filtered, taken, counted, filter_mapped, inspected, ActsWithState, scanned, skipped_while, taken_while, numbered};
+ghost use Rattle.fallible_iterator.specs.Lists.{Lists, Acts, mapped, filtered, taken, counted, filter_mapped, inspected, ActsWithState, scanned, skipped_while, taken_while, numbered, failures_mapped};
 ghost use Rattle.fallible_iterator.specs.Folds.{CallableCarrying, Carried, CallableInFold, call_with, takes_with, FoldTurn, Folded, Counted, Nth};
 
 mod borrowed;
@@ -321,7 +321,8 @@ pub trait FallibleIterator: Drop + Sized {
     where
         F: FnMut(Self::Error) -> B,
         requires { IsCallable (call_on F.FnMut) (takes_on F.FnMut) (contract.fails self) f }
-        ensures { map_err_parts result ≡ (self, f) }
+        ensures parts { map_err_parts result ≡ (self, f) }
+        ensures lists { (h : Self.Error → B) (l : List (Result Self.Item Self.Error)) → Acts (call_on F.FnMut) f h → Lists contract.steps self l → Lists (seen_as map_err_parts (map_err_contract contract F.FnMut)).steps result (failures_mapped h l) }
     {
         MapErr { it: self, f }
     }
