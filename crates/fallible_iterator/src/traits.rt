@@ -13,7 +13,7 @@ ghost use Rattle.fallible_iterator.specs.OneToOne.MapErr.{map_err_parts, map_err
 ghost use Rattle.fallible_iterator.specs.OneToOne.Cloned.{cloned_parts};
 ghost use Rattle.fallible_iterator.specs.Cutting.Take.{take_parts, take_contract};
 ghost use Rattle.fallible_iterator.specs.Cutting.TakeWhile.{take_while_parts, take_while_contract};
-ghost use Rattle.fallible_iterator.specs.Cutting.Fuse.{fuse_parts};
+ghost use Rattle.fallible_iterator.specs.Cutting.Fuse.{fuse_parts, fuse_contract};
 ghost use Rattle.fallible_iterator.specs.Cutting.Skip.{skip_parts};
 ghost use Rattle.fallible_iterator.specs.Cutting.StepBy.{step_by_parts};
 ghost use Rattle.fallible_iterator.specs.Joining.Chain.{chain_parts};
@@ -251,7 +251,8 @@ pub trait FallibleIterator: Drop + Sized {
 
     /// Ends for good at the source's first end, without a draw from then on. A failure ends nothing. Making the adapter draws nothing.
     final fn fuse(self) -> Fuse<Self>
-        ensures { fuse_parts result ≡ (self, false) }
+        ensures parts { fuse_parts result ≡ (self, false) }
+        ensures lists { (l : List (Result Self.Item Self.Error)) → Lists contract.steps self l → Lists (seen_as fuse_parts (fuse_contract contract)).steps result l }
     {
         Fuse {
             it: self,
