@@ -1,6 +1,7 @@
 -- Lists of answers, from the front: what a caller states that a chain of calls computed.
 use Rattle.std.specs.Prelude.{◌≡◌, ℕ, ◌+◌, zero, suc, ◌≤◌, ◌<◌, length, slice_index_or, Result, Some, None, Ok, Err, List, [], ◌∷◌, Bool, true, false}
 use Rattle.std.specs.Iterator.Runs.{EachRunFrom}
+use Rattle.std.specs.Borrow.{Bor}
 use Rattle.std.specs.declared.option.Option.{Option}
 use Rattle.fallible_iterator.specs.Traces.{Answered, end}
 
@@ -139,6 +140,12 @@ unfoldable pub failures_mapped : {A D E : Type 0} → (D → E) → List (Result
 failures_mapped h [] = []
 failures_mapped h (Ok x ∷ l) = Ok x ∷ failures_mapped h l
 failures_mapped h (Err e ∷ l) = Err (h e) ∷ failures_mapped h l
+
+-- what each item points to, in its place
+unfoldable pub pointed_to : {A E : Type 0} → List (Result (Bor A) E) → List (Result A E)
+pointed_to [] = []
+pointed_to (Ok x ∷ l) = Ok x.now ∷ pointed_to l
+pointed_to (Err e ∷ l) = Err e ∷ pointed_to l
 
 -- ---- what consumers make of a list
 

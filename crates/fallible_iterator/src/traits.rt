@@ -1,5 +1,6 @@
 //! The trait of fallible iterators: one call that each type writes, and all that comes with it.
 ghost use Rattle.std.specs.Prelude.{◌≡◌, ℕ, true, false, ◌+◌, ◌-◌, ◌≤◌, ◌<◌, ◌^◌, List, Option, Result, Some, None, Ok, Bool, MatchResult, ◌↔◌};
+ghost use Rattle.std.specs.Borrow.{Bor};
 ghost use Rattle.fallible_iterator.specs.Contract.{Contract, AtMost, Lawful, Stays, seen_as};
 ghost use Rattle.fallible_iterator.specs.Closures.{IsCallable, call_on, takes_on, call_at, takes_at};
 ghost use Rattle.fallible_iterator.specs.OneToOne.Enumerate.{IsNumberable, enumerate_parts, enumerate_contract};
@@ -10,7 +11,7 @@ ghost use Rattle.fallible_iterator.specs.OneToOne.Inspect.{inspect_parts, inspec
 ghost use Rattle.fallible_iterator.specs.Filtering.Filter.{filter_parts, filter_contract};
 ghost use Rattle.fallible_iterator.specs.Filtering.FilterMap.{filter_map_parts, filter_map_contract};
 ghost use Rattle.fallible_iterator.specs.OneToOne.MapErr.{map_err_parts, map_err_contract};
-ghost use Rattle.fallible_iterator.specs.OneToOne.Cloned.{cloned_parts};
+ghost use Rattle.fallible_iterator.specs.OneToOne.Cloned.{cloned_parts, cloned_contract};
 ghost use Rattle.fallible_iterator.specs.Cutting.Take.{take_parts, take_contract};
 ghost use Rattle.fallible_iterator.specs.Cutting.TakeWhile.{take_while_parts, take_while_contract};
 ghost use Rattle.fallible_iterator.specs.Cutting.Fuse.{fuse_parts, fuse_contract};
@@ -23,7 +24,7 @@ ghost use Rattle.fallible_iterator.specs.Peeking.Peekable.{peekable_parts};
 ghost use Rattle.fallible_iterator.specs.Joining.Cycle.{cycle_parts};
 ghost use Rattle.fallible_iterator.specs.declared.joining.chain.StillDrawn.TheVariants.{Both};
 ghost use Rattle.fallible_iterator.specs.Collecting.{Collects, PushTurn};
-ghost use Rattle.fallible_iterator.specs.Lists.{Lists, Acts, mapped, filtered, taken, counted, filter_mapped, inspected, ActsWithState, scanned, skipped_while, taken_while, numbered, failures_mapped};
+ghost use Rattle.fallible_iterator.specs.Lists.{Lists, Acts, mapped, filtered, taken, counted, filter_mapped, inspected, ActsWithState, scanned, skipped_while, taken_while, numbered, failures_mapped, pointed_to};
 ghost use Rattle.fallible_iterator.specs.Folds.{CallableCarrying, Carried, CallableInFold, call_with, takes_with, FoldTurn, Folded, Counted, Nth};
 
 mod borrowed;
@@ -381,7 +382,8 @@ pub trait FallibleIterator: Drop + Sized {
         Self: FallibleIterator<Item = &'a T>,
         T: Clone,
         Self::Error: From<AllocError>,
-        ensures { cloned_parts result ≡ (self, tt) }
+        ensures parts { cloned_parts result ≡ (self, tt) }
+        ensures lists { (l : List (Result (Bor T) Self.Error)) → ((x y : T) → T.is_clone x y → y ≡ x) → ((x : T) → T.is_infallible x) → Lists contract.steps self l → Lists (seen_as cloned_parts (cloned_contract T.is_clone T.is_infallible Self.Error.from_gives contract)).steps result (pointed_to l) }
     {
         Cloned { it: self }
     }

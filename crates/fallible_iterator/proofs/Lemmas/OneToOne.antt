@@ -1,4 +1,5 @@
 -- Lemmas on the runs of such types: one file a type.
+pub mod Cloned
 pub mod Enumerate
 pub mod Inspect
 pub mod Map
