@@ -5,6 +5,7 @@ ghost use Rattle.fallible_iterator.specs.Contract.{seen_as};
 ghost use Rattle.fallible_iterator.specs.Lists.{Lists, RunsRead, results, items};
 ghost use Rattle.fallible_iterator.specs.Sources.FromFn.{from_fn_parts, call_of_none};
 ghost use Rattle.fallible_iterator.specs.Sources.Once.{once_parts, once_contract};
+ghost use Rattle.fallible_iterator.specs.Sources.Empty.{empty_contract};
 ghost use Rattle.fallible_iterator.specs.Sources.OnceErr.{once_err_parts, once_err_contract};
 ghost use Rattle.fallible_iterator.specs.Sources.Repeat.{repeat_parts};
 ghost use Rattle.fallible_iterator.specs.Sources.RepeatErr.{repeat_err_parts};
@@ -56,7 +57,9 @@ pub fn from_fn<I, E, F: FnMut() -> Result<Option<I>, E>>(fun: F) -> FromFn<F>
 }
 
 /// Makes a fallible iterator that only ends.
-pub fn empty<T, E>() -> Empty<T, E> {
+pub fn empty<T, E>() -> Empty<T, E>
+    ensures lists { Lists (empty_contract {S = Empty T E} {A = T} {E = E}).steps result [] }
+{
     Empty {
         item: PhantomData,
         error: PhantomData,
