@@ -1,6 +1,7 @@
 -- Lists of answers, from the front: what a caller states that a chain of calls computed.
 use Rattle.std.specs.Prelude.{◌≡◌, ℕ, ◌+◌, zero, suc, ◌≤◌, ◌<◌, length, slice_index_or, Result, Some, None, Ok, Err, List, [], ◌∷◌, Bool, true, false}
 use Rattle.std.specs.Iterator.Runs.{EachRunFrom}
+use Rattle.std.specs.Borrow.{Bor}
 use Rattle.std.specs.declared.option.Option.{Option}
 use Rattle.fallible_iterator.specs.Traces.{Answered, end}
 
@@ -22,6 +23,10 @@ module _ {S A E : Type 0} (steps : S → Answered A E → S → Type 0) where
 -- The closure f acts as the function h: called on x it answers h x, and stays as it is.
 abbrev pub Acts : {F X R : Type 0} → (F → X → R → F → Type 0) → F → (X → R) → Type 0
 Acts {F} {X} {R} call f h = (x : X) (r : R) (g : F) → call f x r g → (g ≡ f) × (r ≡ h x)
+
+-- The same with a state: called at state t on x the closure answers and leaves what `next t x` says, and stays as it is itself.
+abbrev pub ActsWithState : {F T X R : Type 0} → (T × F → X → R → T × F → Type 0) → F → (T → X → R × T) → Type 0
+ActsWithState {F} {T} {X} {R} call f next = (t : T) (x : X) (r : R) (q : T × F) → call (t, f) x r q → (q ≡ ((next t x).1, f)) × (r ≡ (next t x).0)
 
 -- Whatever calls of a std iterator's `next` give from s, it reads the list: at each place h of the element there, and `None` only after the last one.
 abbrev pub RunsRead : {S X Z : Type 0} → (S → Option Z → S → Type 0) → (X → Z) → S → List X → Type 0
@@ -64,6 +69,83 @@ taken zero l = []
 taken (suc n) [] = []
 taken (suc n) (Ok x ∷ l) = Ok x ∷ taken n l
 taken (suc n) (Err e ∷ l) = Err e ∷ taken (suc n) l
+
+-- the value that a closure answers before a list; nothing where it answers none
+abbrev pub cons_some : {B E : Type 0} → Result (Option B) E → List (Result B E) → List (Result B E)
+cons_some (Ok (Some y)) l = Ok y ∷ l
+cons_some (Ok None) l = l
+cons_some (Err e) l = Err e ∷ l
+
+-- the value of h x in the place of each item x, and nothing where h x is none; where h x is a failure, that failure in the place of x
+unfoldable pub filter_mapped : {X B E : Type 0} → (X → Result (Option B) E) → List (Result X E) → List (Result B E)
+filter_mapped h [] = []
+filter_mapped h (Ok x ∷ l) = cons_some (h x) (filter_mapped h l)
+filter_mapped h (Err e ∷ l) = Err e ∷ filter_mapped h l
+
+-- an item that a closure has seen, or the closure's failure
+abbrev pub once_seen : {X E : Type 0} → X → Result (Unit {0}) E → Result X E
+once_seen x (Ok u) = Ok x
+once_seen x (Err e) = Err e
+
+-- the same, but where h x is a failure, that failure in the place of x
+unfoldable pub inspected : {X E : Type 0} → (X → Result (Unit {0}) E) → List (Result X E) → List (Result X E)
+inspected h [] = []
+inspected h (Ok x ∷ l) = once_seen x (h x) ∷ inspected h l
+inspected h (Err e ∷ l) = Err e ∷ inspected h l
+
+-- the value that a closure answers before a list; where it answers none, the list ends
+abbrev pub cons_or_end : {B E : Type 0} → Result (Option B) E → List (Result B E) → List (Result B E)
+cons_or_end (Ok (Some y)) l = Ok y ∷ l
+cons_or_end (Ok None) l = []
+cons_or_end (Err e) l = Err e ∷ l
+
+-- at state t the answer of `next t x` in the place of each item x, up to the first none, and the rest at the state that `next t x` leaves
+unfoldable pub scanned : {T X B E : Type 0} → (T → X → Result (Option B) E × T) → T → List (Result X E) → List (Result B E)
+scanned next t [] = []
+scanned next t (Ok x ∷ l) = cons_or_end (next t x).0 (scanned next (next t x).1 l)
+scanned next t (Err e ∷ l) = Err e ∷ scanned next t l
+
+-- an item from where the predicate's first answer on it decides: false keeps it and what comes after it, true leaves it out, and a failure stands in its place
+abbrev pub cons_from : {X E : Type 0} → X → Result Bool E → List (Result X E) → List (Result X E) → List (Result X E)
+cons_from x (Ok false) l skipped = Ok x ∷ l
+cons_from x (Ok true) l skipped = skipped
+cons_from x (Err e) l skipped = Err e ∷ skipped
+
+-- from the first item x on for which h x is false; before it failures stay, and where h x is a failure, that failure in the place of x
+unfoldable pub skipped_while : {X E : Type 0} → (X → Result Bool E) → List (Result X E) → List (Result X E)
+skipped_while h [] = []
+skipped_while h (Ok x ∷ l) = cons_from x (h x) l (skipped_while h l)
+skipped_while h (Err e ∷ l) = Err e ∷ skipped_while h l
+
+-- an item before a list where the predicate's answer keeps it; where it refuses it, the list ends
+abbrev pub cons_while : {X E : Type 0} → X → Result Bool E → List (Result X E) → List (Result X E)
+cons_while x (Ok true) l = Ok x ∷ l
+cons_while x (Ok false) l = []
+cons_while x (Err e) l = Err e ∷ l
+
+-- up to the first item x for which h x is false, without it; where h x is a failure, that failure in the place of x
+unfoldable pub taken_while : {X E : Type 0} → (X → Result Bool E) → List (Result X E) → List (Result X E)
+taken_while h [] = []
+taken_while h (Ok x ∷ l) = cons_while x (h x) (taken_while h l)
+taken_while h (Err e ∷ l) = Err e ∷ taken_while h l
+
+-- each item beside its number, from n on; failures have none
+unfoldable pub numbered : {A E : Type 0} → ℕ → List (Result A E) → List (Result (ℕ × A) E)
+numbered n [] = []
+numbered n (Ok x ∷ l) = Ok (n, x) ∷ numbered (n + 1) l
+numbered n (Err e ∷ l) = Err e ∷ numbered n l
+
+-- h e in the place of each failure e
+unfoldable pub failures_mapped : {A D E : Type 0} → (D → E) → List (Result A D) → List (Result A E)
+failures_mapped h [] = []
+failures_mapped h (Ok x ∷ l) = Ok x ∷ failures_mapped h l
+failures_mapped h (Err e ∷ l) = Err (h e) ∷ failures_mapped h l
+
+-- what each item points to, in its place
+unfoldable pub pointed_to : {A E : Type 0} → List (Result (Bor A) E) → List (Result A E)
+pointed_to [] = []
+pointed_to (Ok x ∷ l) = Ok x.now ∷ pointed_to l
+pointed_to (Err e ∷ l) = Err e ∷ pointed_to l
 
 -- ---- what consumers make of a list
 

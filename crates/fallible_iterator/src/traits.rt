@@ -1,19 +1,20 @@
 //! The trait of fallible iterators: one call that each type writes, and all that comes with it.
 ghost use Rattle.std.specs.Prelude.{◌≡◌, ℕ, true, false, ◌+◌, ◌-◌, ◌≤◌, ◌<◌, ◌^◌, List, Option, Result, Some, None, Ok, Bool, MatchResult, ◌↔◌};
+ghost use Rattle.std.specs.Borrow.{Bor};
 ghost use Rattle.fallible_iterator.specs.Contract.{Contract, AtMost, Lawful, Stays, seen_as};
 ghost use Rattle.fallible_iterator.specs.Closures.{IsCallable, call_on, takes_on, call_at, takes_at};
-ghost use Rattle.fallible_iterator.specs.OneToOne.Enumerate.{IsNumberable, enumerate_parts};
-ghost use Rattle.fallible_iterator.specs.Filtering.SkipWhile.{skip_call, skip_takes, skip_while_parts};
-ghost use Rattle.fallible_iterator.specs.OneToOne.Scan.{scan_call, scan_takes, scan_parts};
+ghost use Rattle.fallible_iterator.specs.OneToOne.Enumerate.{IsNumberable, enumerate_parts, enumerate_contract};
+ghost use Rattle.fallible_iterator.specs.Filtering.SkipWhile.{skip_call, skip_takes, skip_while_parts, skip_while_contract};
+ghost use Rattle.fallible_iterator.specs.OneToOne.Scan.{scan_call, scan_takes, scan_parts, scan_contract};
 ghost use Rattle.fallible_iterator.specs.OneToOne.Map.{map_parts, map_contract};
-ghost use Rattle.fallible_iterator.specs.OneToOne.Inspect.{inspect_parts};
+ghost use Rattle.fallible_iterator.specs.OneToOne.Inspect.{inspect_parts, inspect_contract};
 ghost use Rattle.fallible_iterator.specs.Filtering.Filter.{filter_parts, filter_contract};
-ghost use Rattle.fallible_iterator.specs.Filtering.FilterMap.{filter_map_parts};
-ghost use Rattle.fallible_iterator.specs.OneToOne.MapErr.{map_err_parts};
-ghost use Rattle.fallible_iterator.specs.OneToOne.Cloned.{cloned_parts};
+ghost use Rattle.fallible_iterator.specs.Filtering.FilterMap.{filter_map_parts, filter_map_contract};
+ghost use Rattle.fallible_iterator.specs.OneToOne.MapErr.{map_err_parts, map_err_contract};
+ghost use Rattle.fallible_iterator.specs.OneToOne.Cloned.{cloned_parts, cloned_contract};
 ghost use Rattle.fallible_iterator.specs.Cutting.Take.{take_parts, take_contract};
-ghost use Rattle.fallible_iterator.specs.Cutting.TakeWhile.{take_while_parts};
-ghost use Rattle.fallible_iterator.specs.Cutting.Fuse.{fuse_parts};
+ghost use Rattle.fallible_iterator.specs.Cutting.TakeWhile.{take_while_parts, take_while_contract};
+ghost use Rattle.fallible_iterator.specs.Cutting.Fuse.{fuse_parts, fuse_contract};
 ghost use Rattle.fallible_iterator.specs.Cutting.Skip.{skip_parts};
 ghost use Rattle.fallible_iterator.specs.Cutting.StepBy.{step_by_parts};
 ghost use Rattle.fallible_iterator.specs.Joining.Chain.{chain_parts};
@@ -23,7 +24,7 @@ ghost use Rattle.fallible_iterator.specs.Peeking.Peekable.{peekable_parts};
 ghost use Rattle.fallible_iterator.specs.Joining.Cycle.{cycle_parts};
 ghost use Rattle.fallible_iterator.specs.declared.joining.chain.StillDrawn.TheVariants.{Both};
 ghost use Rattle.fallible_iterator.specs.Collecting.{Collects, PushTurn};
-ghost use Rattle.fallible_iterator.specs.Lists.{Lists, Acts, mapped, filtered, taken, counted};
+ghost use Rattle.fallible_iterator.specs.Lists.{Lists, Acts, mapped, filtered, taken, counted, filter_mapped, inspected, ActsWithState, scanned, skipped_while, taken_while, numbered, failures_mapped, pointed_to};
 ghost use Rattle.fallible_iterator.specs.Folds.{CallableCarrying, Carried, CallableInFold, call_with, takes_with, FoldTurn, Folded, Counted, Nth};
 
 mod borrowed;
@@ -241,7 +242,8 @@ pub trait FallibleIterator: Drop + Sized {
     where
         P: FnMut(&Self::Item) -> Result<bool, Self::Error>,
         requires { IsCallable (call_at P.FnMut) (takes_at P.FnMut) (contract.gives self) predicate }
-        ensures { take_while_parts result ≡ ((self, Some predicate), false) }
+        ensures parts { take_while_parts result ≡ ((self, Some predicate), false) }
+        ensures lists { (h : Self.Item → Result Bool Self.Error) (l : List (Result Self.Item Self.Error)) → Acts (call_at P.FnMut) predicate h → Lists contract.steps self l → Lists (seen_as take_while_parts (take_while_contract contract P.FnMut)).steps result (taken_while h l) }
     {
         TakeWhile {
             it: self,
@@ -252,7 +254,8 @@ pub trait FallibleIterator: Drop + Sized {
 
     /// Ends for good at the source's first end, without a draw from then on. A failure ends nothing. Making the adapter draws nothing.
     final fn fuse(self) -> Fuse<Self>
-        ensures { fuse_parts result ≡ (self, false) }
+        ensures parts { fuse_parts result ≡ (self, false) }
+        ensures lists { (l : List (Result Self.Item Self.Error)) → Lists contract.steps self l → Lists (seen_as fuse_parts (fuse_contract contract)).steps result l }
     {
         Fuse {
             it: self,
@@ -290,7 +293,8 @@ pub trait FallibleIterator: Drop + Sized {
         F: FnMut(Self::Item) -> Result<Option<B>, Self::Error>,
         requires finite { contract.has_end self }
         requires callable { IsCallable (call_on F.FnMut) (takes_on F.FnMut) (contract.gives self) f }
-        ensures { filter_map_parts result ≡ (self, Some f) }
+        ensures parts { filter_map_parts result ≡ (self, Some f) }
+        ensures lists { (h : Self.Item → Result (Option B) Self.Error) (l : List (Result Self.Item Self.Error)) → Acts (call_on F.FnMut) f h → Lists contract.steps self l → Lists (seen_as filter_map_parts (filter_map_contract contract F.FnMut)).steps result (filter_mapped h l) }
     {
         FilterMap {
             it: self,
@@ -305,7 +309,8 @@ pub trait FallibleIterator: Drop + Sized {
     where
         F: FnMut(&Self::Item) -> Result<(), Self::Error>,
         requires { IsCallable (call_at F.FnMut) (takes_at F.FnMut) (contract.gives self) f }
-        ensures { inspect_parts result ≡ (self, Some f) }
+        ensures parts { inspect_parts result ≡ (self, Some f) }
+        ensures lists { (h : Self.Item → Result (Unit {0}) Self.Error) (l : List (Result Self.Item Self.Error)) → Acts (call_at F.FnMut) f h → Lists contract.steps self l → Lists (seen_as inspect_parts (inspect_contract contract F.FnMut)).steps result (inspected h l) }
     {
         Inspect {
             it: self,
@@ -320,7 +325,8 @@ pub trait FallibleIterator: Drop + Sized {
     where
         F: FnMut(Self::Error) -> B,
         requires { IsCallable (call_on F.FnMut) (takes_on F.FnMut) (contract.fails self) f }
-        ensures { map_err_parts result ≡ (self, f) }
+        ensures parts { map_err_parts result ≡ (self, f) }
+        ensures lists { (h : Self.Error → B) (l : List (Result Self.Item Self.Error)) → Acts (call_on F.FnMut) f h → Lists contract.steps self l → Lists (seen_as map_err_parts (map_err_contract contract F.FnMut)).steps result (failures_mapped h l) }
     {
         MapErr { it: self, f }
     }
@@ -332,6 +338,7 @@ pub trait FallibleIterator: Drop + Sized {
         requires { AtMost contract self (2 ^ 64 - 1) }
         ensures parts { enumerate_parts result ≡ (self, 0) }
         ensures numberable { contract.can self → IsNumberable contract self 0 }
+        ensures lists { (l : List (Result Self.Item Self.Error)) → Lists contract.steps self l → Lists (seen_as enumerate_parts (enumerate_contract contract)).steps result (numbered 0 l) }
     {
         Enumerate { it: self, count: 0 }
     }
@@ -344,7 +351,8 @@ pub trait FallibleIterator: Drop + Sized {
         P: FnMut(&Self::Item) -> Result<bool, Self::Error>,
         requires finite { contract.has_end self }
         requires callable { IsCallable (skip_call (call_at P.FnMut)) (skip_takes (takes_at P.FnMut)) (contract.gives self) (false, predicate) }
-        ensures { skip_while_parts result ≡ (self, (false, Some predicate)) }
+        ensures parts { skip_while_parts result ≡ (self, (false, Some predicate)) }
+        ensures lists { (h : Self.Item → Result Bool Self.Error) (l : List (Result Self.Item Self.Error)) → Acts (call_at P.FnMut) predicate h → Lists contract.steps self l → Lists (seen_as skip_while_parts (skip_while_contract contract P.FnMut)).steps result (skipped_while h l) }
     {
         SkipWhile {
             it: self,
@@ -360,7 +368,8 @@ pub trait FallibleIterator: Drop + Sized {
     where
         F: FnMut(&mut St, Self::Item) -> Result<Option<B>, Self::Error>,
         requires { IsCallable (scan_call F.FnMut) (scan_takes F.FnMut) (contract.gives self) (initial_state, f) }
-        ensures { scan_parts result ≡ (self, (initial_state, f)) }
+        ensures parts { scan_parts result ≡ (self, (initial_state, f)) }
+        ensures lists { (next : St → Self.Item → Result (Option B) Self.Error × St) (l : List (Result Self.Item Self.Error)) → ActsWithState (scan_call F.FnMut) f next → Lists contract.steps self l → Lists (seen_as scan_parts (scan_contract contract F.FnMut)).steps result (scanned next initial_state l) }
     {
         Scan {
             it: self,
@@ -375,7 +384,8 @@ pub trait FallibleIterator: Drop + Sized {
         Self: FallibleIterator<Item = &'a T>,
         T: Clone,
         Self::Error: From<AllocError>,
-        ensures { cloned_parts result ≡ (self, tt) }
+        ensures parts { cloned_parts result ≡ (self, tt) }
+        ensures lists { (l : List (Result (Bor T) Self.Error)) → ((x y : T) → T.is_clone x y → y ≡ x) → ((x : T) → T.is_infallible x) → Lists contract.steps self l → Lists (seen_as cloned_parts (cloned_contract T.is_clone T.is_infallible Self.Error.from_gives contract)).steps result (pointed_to l) }
     {
         Cloned { it: self }
     }

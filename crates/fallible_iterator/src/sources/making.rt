@@ -1,11 +1,12 @@
 //! The functions that make sources.
-ghost use Rattle.std.specs.Prelude.{◌≡◌, Some, None, Ok, List, Result, ⊤};
+ghost use Rattle.std.specs.Prelude.{◌≡◌, Some, None, Ok, Err, List, [], ◌∷◌, Result, ⊤};
 ghost use Rattle.fallible_iterator.specs.Sources.Convert.{convert_parts, convert_contract};
 ghost use Rattle.fallible_iterator.specs.Contract.{seen_as};
 ghost use Rattle.fallible_iterator.specs.Lists.{Lists, RunsRead, results, items};
 ghost use Rattle.fallible_iterator.specs.Sources.FromFn.{from_fn_parts, call_of_none};
-ghost use Rattle.fallible_iterator.specs.Sources.Once.{once_parts};
-ghost use Rattle.fallible_iterator.specs.Sources.OnceErr.{once_err_parts};
+ghost use Rattle.fallible_iterator.specs.Sources.Once.{once_parts, once_contract};
+ghost use Rattle.fallible_iterator.specs.Sources.Empty.{empty_contract};
+ghost use Rattle.fallible_iterator.specs.Sources.OnceErr.{once_err_parts, once_err_contract};
 ghost use Rattle.fallible_iterator.specs.Sources.Repeat.{repeat_parts};
 ghost use Rattle.fallible_iterator.specs.Sources.RepeatErr.{repeat_err_parts};
 ghost use Rattle.fallible_iterator.specs.Closures.{IsCallable};
@@ -27,7 +28,8 @@ pub fn convert<T, E, I: Iterator<Item = Result<T, E>>>(it: I) -> Convert<I>
 
 /// Makes a fallible iterator of one item.
 pub fn once<T, E>(value: T) -> Once<T, E>
-    ensures { once_parts result ≡ Some value }
+    ensures parts { once_parts result ≡ Some value }
+    ensures lists { Lists (seen_as once_parts (once_contract {A = T} {E = E})).steps result (Ok value ∷ []) }
 {
     Once {
         value: Some(value),
@@ -37,7 +39,8 @@ pub fn once<T, E>(value: T) -> Once<T, E>
 
 /// Makes a fallible iterator of one failure.
 pub fn once_err<T, E>(error: E) -> OnceErr<T, E>
-    ensures { once_err_parts result ≡ Some error }
+    ensures parts { once_err_parts result ≡ Some error }
+    ensures lists { Lists (seen_as once_err_parts (once_err_contract {A = T} {E = E})).steps result (Err error ∷ []) }
 {
     OnceErr {
         item: PhantomData,
@@ -54,7 +57,9 @@ pub fn from_fn<I, E, F: FnMut() -> Result<Option<I>, E>>(fun: F) -> FromFn<F>
 }
 
 /// Makes a fallible iterator that only ends.
-pub fn empty<T, E>() -> Empty<T, E> {
+pub fn empty<T, E>() -> Empty<T, E>
+    ensures lists { Lists (empty_contract {S = Empty T E} {A = T} {E = E}).steps result [] }
+{
     Empty {
         item: PhantomData,
         error: PhantomData,

@@ -1,7 +1,9 @@
 //! What becomes a fallible iterator.
-ghost use Rattle.std.specs.Prelude.{◌≡◌};
-ghost use Rattle.fallible_iterator.specs.Sources.Convert.{convert_parts};
-ghost use Rattle.fallible_iterator.specs.Sources.IntoFallible.{into_fallible_parts};
+ghost use Rattle.std.specs.Prelude.{◌≡◌, List, Result};
+ghost use Rattle.fallible_iterator.specs.Contract.{seen_as};
+ghost use Rattle.fallible_iterator.specs.Lists.{Lists, RunsRead, results, items};
+ghost use Rattle.fallible_iterator.specs.Sources.Convert.{convert_parts, convert_contract};
+ghost use Rattle.fallible_iterator.specs.Sources.IntoFallible.{into_fallible_parts, into_fallible_contract};
 
 use crate::sources::{Convert, IntoFallible};
 use crate::traits::FallibleIterator;
@@ -45,7 +47,8 @@ pub trait IteratorExt: std::iter::Iterator {
     final fn transpose_into_fallible<T, E>(self) -> Convert<Self>
     where
         Self: Sized + std::iter::Iterator<Item = Result<T, E>>,
-        ensures { convert_parts result ≡ self }
+        ensures parts { convert_parts result ≡ self }
+        ensures lists { (l : List (Result T E)) → RunsRead Self.next_gives (λ y. y) self l → Lists (seen_as convert_parts (convert_contract Self.can_next Self.next_gives Self.remaining)).steps result (results l) }
     {
         Convert { it: self }
     }
@@ -54,7 +57,8 @@ pub trait IteratorExt: std::iter::Iterator {
     final fn into_fallible<T>(self) -> IntoFallible<Self>
     where
         Self: Sized + std::iter::Iterator<Item = T>,
-        ensures { into_fallible_parts result ≡ self }
+        ensures parts { into_fallible_parts result ≡ self }
+        ensures lists { (l : List T) → RunsRead Self.next_gives (λ x. x) self l → Lists (seen_as into_fallible_parts (into_fallible_contract Self.can_next Self.next_gives Self.remaining)).steps result (items l) }
     {
         IntoFallible { it: self }
     }

@@ -1,12 +1,18 @@
--- The runs of `SkipWhile` are the traces that its definition names.
+-- The runs of `SkipWhile` are the traces that its definition names, and what it lists.
 use Rattle.std.specs.Prelude.{Option, Result, Bool, Some, None, Ok, Err, ◌≡◌, List, [], ◌∷◌, ◌++◌, map, true, false, IsSome, ◌↔◌}
 use Rattle.std.specs.List.{filter_map}
 use Rattle.std.proofs.Common.{refl, sym, ◌∙◌, ap, subst, append-nil}
 use Rattle.fallible_iterator.specs.Traces.{Answered, Run, item}
-use Rattle.fallible_iterator.specs.Closures.{Calls, call_in}
+use Rattle.fallible_iterator.specs.Closures.{Calls, call_in, call_at}
+use Rattle.std.specs.Fn.{Mut}
+use Rattle.std.specs.Borrow.{Bor}
+use Rattle.fallible_iterator.specs.declared.filtering.skip_while.SkipWhile.{SkipWhile}
+use Rattle.fallible_iterator.specs.Contract.{Contract, seen_as}
+use Rattle.fallible_iterator.specs.Lists.{Lists, Acts, cons_from, skipped_while}
+use Rattle.fallible_iterator.proofs.Lemmas.Lists.Passing.{passed, by_outcome, all_given, lists_seen}
 use Rattle.fallible_iterator.specs.Laws.Filtering.SkipWhile.{into}
 use Rattle.fallible_iterator.specs.Passing.{PassTrace, Place, asked, failure_at, end_at, source_answer, call_of, answer_at}
-use Rattle.fallible_iterator.specs.Filtering.SkipWhile.{skip_call, skip_while_outcome, false_at, EndsAtFalse, asked_outcome, AskedUntilFalse, SkipWhileTrace}
+use Rattle.fallible_iterator.specs.Filtering.SkipWhile.{skip_call, skip_while_outcome, skip_while_parts, skip_while_contract, answers_false, false_at, EndsAtFalse, asked_outcome, AskedUntilFalse, SkipWhileTrace}
 use Rattle.fallible_iterator.proofs.Lemmas.Definitions.{runs_by_answers}
 use Rattle.fallible_iterator.proofs.Lemmas.Passing.{passing_by_answers, passes_held}
 use Rattle.fallible_iterator.specs.Laws.Passing.{Passes, done, ends, fails, keeps, refuses, closes, leaves_out, kept_tail, kept_cons, kept_before, answered, to_passes, from_passes}
@@ -163,3 +169,52 @@ held_in_slot call p x (Some v) q called = called
 
 pub skips_in_slot : {S F X E : Type 0} {steps : S → Answered X E → S → Type 0} {call : F → X → Result Bool E → F → Type 0} {s t : S} {p q : Bool × F} {trace : List (Answered X E)} → PassTrace steps (skip_call call) skip_while_outcome (s, p) trace (t, q) → PassTrace steps (skip_call (call_in call)) skip_while_outcome (s, (p.0, Some p.1)) trace (t, (q.0, Some q.1))
 skips_in_slot {F = F} {call = call} h = passes_held {F = Bool × F} {H = Bool × Option F} (skip_call call) (skip_call (call_in call)) (into call) (held_in_slot call) h
+
+-- ---- what it lists
+
+-- what the predicate answers on an item, where it is asked, and the flag after it
+abbrev asked_by : {X E : Type 0} → (X → Result Bool E) → Bool → X → Option (Result Bool E)
+asked_by h true x = None
+asked_by h false x = Some (h x)
+
+abbrev flag_after : {X E : Type 0} → (X → Result Bool E) → Bool → X → Bool
+flag_after h true x = true
+flag_after h false x = answers_false (h x)
+
+module _ {X E : Type 0} (h : X → Result Bool E) where
+  abbrev listed : Bool → List (Result X E) → List (Result X E)
+  listed b l = passed skip_while_outcome (asked_by h) (flag_after h) b l
+
+  all_listed : (l : List (Result X E)) → listed true l ≡ l
+  all_listed [] = refl
+  all_listed (Ok x ∷ l) = ap (λ k. Ok x ∷ k) (all_listed l)
+  all_listed (Err e ∷ l) = ap (λ k. Err e ∷ k) (all_listed l)
+
+  first_listed : (x : X) (v : Result Bool E) (l skipped : List (Result X E)) (rest : Bool → List (Result X E)) → rest true ≡ l → rest false ≡ skipped → by_outcome (skip_while_outcome x (Some v)) (rest (answers_false v)) ≡ cons_from x v l skipped
+  first_listed x (Ok false) l skipped rest all some = ap (λ k. Ok x ∷ k) all
+  first_listed x (Ok true) l skipped rest all some = some
+  first_listed x (Err e) l skipped rest all some = ap (λ k. Err e ∷ k) some
+
+  skipped_while_is : (l : List (Result X E)) → listed false l ≡ skipped_while h l
+  unfolding skipped_while
+  skipped_while_is [] = refl
+  skipped_while_is (Ok x ∷ l) = first_listed x (h x) l (skipped_while h l) (λ b. listed b l) (all_listed l) (skipped_while_is l)
+  skipped_while_is (Err e ∷ l) = ap (λ k. Err e ∷ k) (skipped_while_is l)
+
+module _ {F X E : Type 0} (call : F → X → Result Bool E → F → Type 0) (f : F) (h : X → Result Bool E) (acts : Acts call f h) where
+  asked_in_slot : (s : Option F) (x : X) (v : Result Bool E) (t : Option F) → s ≡ Some f → call_in call s x v t → (t ≡ Some f) × (v ≡ h x)
+  asked_in_slot None x v t e c = absurd cc
+  asked_in_slot (Some k) x v None e c = absurd c
+  asked_in_slot (Some k) x v (Some g) e c = let same : k ≡ f = cc in let a = acts x v g (subst (λ (z : F). call z x v g) same c) in (ap Some a.0, a.1)
+
+  acts_until_false : (p : Bool × Option F) (b : Bool) (x : X) (v : Option (Result Bool E)) (q : Bool × Option F) → p ≡ (b, Some f) → skip_call (call_in call) p x v q → (q ≡ (flag_after h b x, Some f)) × (v ≡ asked_by h b x)
+  acts_until_false p true x None q e c = (c.1 ∙ e, refl)
+  acts_until_false p false x None q e c = absurd (let at : p.0 ≡ false = ap (λ z. z.0) e in let found = c.0 in cc)
+  acts_until_false p true x (Some v) q e c = absurd (let at : p.0 ≡ true = ap (λ z. z.0) e in let unfound = c.0 in cc)
+  acts_until_false p false x (Some v) q e c = let a = asked_in_slot p.1 x v q.1 (ap (λ z. z.1) e) c.1 in
+      (ap (λ (b : Bool). (b, q.1)) (c.2 ∙ ap answers_false a.1) ∙ ap (λ (k : Option F). (answers_false (h x), k)) a.0, ap Some a.1)
+
+pub lists_skipped_while : {S F X E : Type 0} (m : Contract S X E) (g : Mut F (Bor X × Unit {0}) (Result Bool E)) (s : SkipWhile S F) (f : F) (h : X → Result Bool E) (l : List (Result X E)) → skip_while_parts s ≡ (s.it, (false, Some f)) → Acts (call_at g) f h → Lists m.steps s.it l
+    → Lists (seen_as skip_while_parts (skip_while_contract m g)).steps s (skipped_while h l)
+lists_skipped_while {F = F} m g s f h l parts a i = lists_seen skip_while_parts (skip_while_contract m g).steps s parts (skipped_while_is h l)
+    (all_given m.steps (skip_call (call_in (call_at g))) skip_while_outcome (λ (p : Bool × Option F) b. p ≡ (b, Some f)) (asked_by h) (flag_after h) (acts_until_false (call_at g) f h a) l s.it (false, Some f) false refl i.runs)

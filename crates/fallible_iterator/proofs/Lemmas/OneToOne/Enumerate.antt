@@ -1,8 +1,12 @@
--- The runs of `Enumerate` are the traces that its definition names.
-use Rattle.std.specs.Prelude.{◌≡◌, ℕ, ◌+◌, List, [], ◌∷◌, None, Ok, Err}
-use Rattle.std.proofs.Common.{refl, ap, arith}
+-- The runs of `Enumerate` are the traces that its definition names, and what it lists.
+use Rattle.std.specs.Prelude.{◌≡◌, ℕ, ◌+◌, List, [], ◌∷◌, Result, Some, None, Ok, Err}
+use Rattle.std.proofs.Common.{refl, sym, ap, subst, arith}
+use Rattle.fallible_iterator.specs.declared.one_to_one.enumerate.Enumerate.{Enumerate}
+use Rattle.fallible_iterator.specs.Contract.{Contract, seen_as}
+use Rattle.fallible_iterator.specs.Lists.{AlwaysGives, Lists, numbered}
+use Rattle.fallible_iterator.proofs.Lemmas.Lists.Passing.{lists_seen}
 use Rattle.fallible_iterator.specs.Traces.{Answered, item}
-use Rattle.fallible_iterator.specs.OneToOne.Enumerate.{EnumerateTrace}
+use Rattle.fallible_iterator.specs.OneToOne.Enumerate.{EnumerateTrace, enumerate_parts, enumerate_contract}
 use Rattle.fallible_iterator.specs.Laws.OneToOne.Enumerate.{Numbered, numbered_none, numbered_item, numbered_end, numbered_failure, to_numbered}
 use Rattle.fallible_iterator.proofs.Lemmas.Definitions.{FirstOf, IsByAnswers}
 
@@ -46,3 +50,33 @@ module _ {S A E : Type 0} {steps : S → Answered A E → S → Type 0} {s t : S
 
   pub enumerate_failure : {e : E} → steps s (Err e) t → EnumerateTrace steps (s, n) (Err e ∷ []) (t, n)
   enumerate_failure {e} step = from_numbered steps s t n n _ (numbered_failure e step numbered_none)
+
+-- ---- what it lists
+
+module _ {S A E : Type 0} (steps : S → Answered A E → S → Type 0) where
+  abbrev numbered_step : S × ℕ → Answered (ℕ × A) E → S × ℕ → Type 0
+  numbered_step p r q = EnumerateTrace steps p (r ∷ []) q
+
+  end_numbered : (s t : S) (n k : ℕ) (r : Answered (ℕ × A) E) → AlwaysGives {A = A} steps s [] → Numbered steps s n (r ∷ []) t k → r ≡ Ok None
+  end_numbered s t n k _ a (numbered_item x step c) = absurd (let h = a (Ok (Some x)) _ step in cc)
+  end_numbered s t n k _ a (numbered_end step c) = refl
+  end_numbered s t n k _ a (numbered_failure e step c) = absurd (let h = a (Err e) _ step in cc)
+
+  item_numbered : (x : A) (l : List (Result A E)) (s t : S) (n k : ℕ) (r : Answered (ℕ × A) E) → AlwaysGives steps s (Ok x ∷ l) → Numbered steps s n (r ∷ []) t k → (r ≡ Ok (Some (n, x))) × (k ≡ n + 1) × AlwaysGives steps t l
+  item_numbered x l s t n _ _ a (numbered_item z step numbered_none) = let h = a (Ok (Some z)) t step in ((let same : z ≡ x = (let e = h.0 in cc) in ap (λ (y : A). Ok (Some (n, y))) same), refl, h.1)
+  item_numbered x l s t n k _ a (numbered_end step c) = absurd (let h = (a (Ok None) _ step).0 in cc)
+  item_numbered x l s t n k _ a (numbered_failure e step c) = absurd (let h = (a (Err e) _ step).0 in cc)
+
+  failure_numbered : (d : E) (l : List (Result A E)) (s t : S) (n k : ℕ) (r : Answered (ℕ × A) E) → AlwaysGives steps s (Err d ∷ l) → Numbered steps s n (r ∷ []) t k → (r ≡ Err d) × (k ≡ n) × AlwaysGives steps t l
+  failure_numbered d l s t n k _ a (numbered_item z step c) = absurd (let h = (a (Ok (Some z)) _ step).0 in cc)
+  failure_numbered d l s t n k _ a (numbered_end step c) = absurd (let h = (a (Ok None) _ step).0 in cc)
+  failure_numbered d l s t n _ _ a (numbered_failure e step numbered_none) = let h = a (Err e) t step in ((let same : e ≡ d = (let q = h.0 in cc) in ap (λ (c : E). Err c) same), refl, h.1)
+
+  numbered_gives : (l : List (Result A E)) (s : S) (n : ℕ) → AlwaysGives steps s l → AlwaysGives numbered_step (s, n) (numbered n l)
+  unfolding numbered
+  numbered_gives [] s n a = λ r t w. end_numbered s t.0 n t.1 r a (to_numbered steps s t.0 n t.1 (r ∷ []) w)
+  numbered_gives (Ok x ∷ l) s n a = λ r t w. let d = item_numbered x l s t.0 n t.1 r a (to_numbered steps s t.0 n t.1 (r ∷ []) w) in (d.0, subst (λ (k : ℕ). AlwaysGives numbered_step (t.0, k) (numbered (n + 1) l)) (sym d.1) (numbered_gives l t.0 (n + 1) d.2))
+  numbered_gives (Err e ∷ l) s n a = λ r t w. let d = failure_numbered e l s t.0 n t.1 r a (to_numbered steps s t.0 n t.1 (r ∷ []) w) in (d.0, subst (λ (k : ℕ). AlwaysGives numbered_step (t.0, k) (numbered n l)) (sym d.1) (numbered_gives l t.0 n d.2))
+
+pub lists_numbered : {S A E : Type 0} (m : Contract S A E) (s : Enumerate S) (n : ℕ) (l : List (Result A E)) → enumerate_parts s ≡ (s.it, n) → Lists m.steps s.it l → Lists (seen_as enumerate_parts (enumerate_contract m)).steps s (numbered n l)
+lists_numbered m s n l parts i = lists_seen enumerate_parts (enumerate_contract m).steps s parts refl (numbered_gives m.steps l s.it n i.runs)

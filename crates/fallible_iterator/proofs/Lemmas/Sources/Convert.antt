@@ -16,7 +16,7 @@ unfolding results
 results_are [] = refl
 results_are (y ∷ l) = ap (λ t. y ∷ t) (results_are l)
 
-items_are : {A E : Type 0} (l : List A) → map (λ x. Ok x) l ≡ items {E = E} l
+pub items_are : {A E : Type 0} (l : List A) → map (λ x. Ok x) l ≡ items {E = E} l
 unfolding items
 items_are [] = refl
 items_are {E = E} (x ∷ l) = ap (λ (t : List (Result _ E)). Ok x ∷ t) (items_are l)

@@ -1,8 +1,10 @@
--- The runs of ends alone.
+-- The runs of ends alone, and what `Empty` lists.
 use Rattle.std.specs.Prelude.{◌≡◌, ℕ, List, [], ◌∷◌, replicate, ◌↔◌}
 use Rattle.std.proofs.Common.{refl, sym, subst, suc, zero}
 use Rattle.fallible_iterator.specs.Traces.{Answered, Run, end}
-use Rattle.fallible_iterator.specs.Sources.Empty.{EmptyTrace}
+use Rattle.fallible_iterator.specs.Sources.Empty.{EmptyTrace, empty_contract}
+use Rattle.fallible_iterator.specs.declared.sources.empty.Empty.{Empty}
+use Rattle.fallible_iterator.specs.Lists.{Lists}
 
 -- ---- ends alone
 
@@ -20,3 +22,8 @@ module _ {S A E : Type 0} (same : (s t : S) → s ≡ t) where
 
   pub empty_runs : (trace : List (Answered A E)) (s t : S) → Run ends_only s trace t ↔ EmptyTrace trace
   empty_runs trace s t = (to_empty trace s t, (λ p. from_empty p.0 trace s t p.1))
+
+-- ---- what it lists
+
+pub lists_none : {A E : Type 0} (s : Empty A E) → Lists (empty_contract {S = Empty A E} {A = A} {E = E}).steps s []
+lists_none s = record { runs = λ r t w. w }
