@@ -23,7 +23,7 @@ ghost use Rattle.fallible_iterator.specs.Peeking.Peekable.{peekable_parts};
 ghost use Rattle.fallible_iterator.specs.Joining.Cycle.{cycle_parts};
 ghost use Rattle.fallible_iterator.specs.declared.joining.chain.StillDrawn.TheVariants.{Both};
 ghost use Rattle.fallible_iterator.specs.Collecting.{Collects, PushTurn};
-ghost use Rattle.fallible_iterator.specs.Lists.{Lists, Acts, mapped, filtered, taken, counted};
+ghost use Rattle.fallible_iterator.specs.Lists.{Lists, Acts, mapped, filtered, taken, counted, CollectedAs};
 ghost use Rattle.fallible_iterator.specs.Folds.{CallableCarrying, Carried, CallableInFold, call_with, takes_with, FoldTurn, Folded, Counted, Nth};
 
 mod borrowed;
@@ -449,7 +449,8 @@ pub trait FallibleIterator: Drop + Sized {
     where
         requires can { contract.can self }
         requires finite { contract.has_end self }
-        ensures { Collects contract.steps C.made C.empty_refuses C.push_refuses self result }
+        ensures collects { Collects contract.steps C.made C.empty_refuses C.push_refuses self result }
+        ensures is { (l : List (Result Self.Item Self.Error)) → Lists contract.steps self l → CollectedAs C.made l result }
     {
         let made = match C::empty(alloc) {
             Ok(made) => made,

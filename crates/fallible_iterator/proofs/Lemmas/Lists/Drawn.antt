@@ -3,7 +3,10 @@ use Rattle.std.specs.Prelude.{◌≡◌, ℕ, ◌+◌, ◌≤◌, zero, suc, len
 use Rattle.std.proofs.Common.{refl, sym, ap, subst, ◌∙◌, arith}
 use Rattle.fallible_iterator.specs.Traces.{Answered, Run, item}
 use Rattle.fallible_iterator.specs.Folds.{Counted, CountExit, Nth, NthExit}
-use Rattle.fallible_iterator.specs.Lists.{AlwaysGives, Lists, result_answer, one_more_than, counted, nth_of}
+use Rattle.fallible_iterator.specs.declared.collecting.Fault.{Fault}
+use Rattle.fallible_iterator.specs.declared.collecting.Fault.TheVariants.{Source, Memory}
+use Rattle.fallible_iterator.specs.Collecting.{Collects}
+use Rattle.fallible_iterator.specs.Lists.{AlwaysGives, Lists, result_answer, one_more_than, counted, nth_of, before, collected, CollectedAs}
 
 module _ {A E : Type 0} where
   -- what is left of the list at the last answer that was drawn
@@ -57,3 +60,24 @@ module _ {A E : Type 0} where
 
 pub counted_is : {S A E : Type 0} {steps : S → Answered A E → S → Type 0} {s : S} {r : Result ℕ E} (l : List (Result A E)) → Counted steps s r → Lists steps s l → r ≡ counted l
 counted_is {steps = steps} {s = s} {r = r} l c i = let d = drawn steps c.items c.last l s c.left i.runs c.ran in counted_by c.items c.last r l d.rest d.list_is d.left c.exit
+
+-- ---- collect
+
+module _ {A E : Type 0} where
+  collected_items : (items : List A) → collected {E = E} (map (λ x. Ok x) items ++ []) ≡ Ok items
+  unfolding collected
+  collected_items [] = refl
+  collected_items (x ∷ items) = ap (before x) (collected_items items)
+
+  collected_failure : (items : List A) (rest : List (Result A E)) (e : E) → collected (map (λ x. Ok x) items ++ Err e ∷ rest) ≡ Err e
+  unfolding collected
+  collected_failure [] rest e = refl
+  collected_failure (x ∷ items) rest e = ap (before x) (collected_failure items rest e)
+
+module _ {S A E C : Type 0} {steps : S → Answered A E → S → Type 0} (made : List A → C → Type 0) (empty_refuses : Type 0) (refuses : C → A → Type 0) {s : S} where
+  pub collected_as : (r : Result C (Fault E)) (l : List (Result A E)) → Collects steps made empty_refuses refuses s r → Lists steps s l → CollectedAs made l r
+  collected_as (Ok c) l k i = let d = drawn steps k.items (Ok None) l s k.left i.runs k.ran in
+      (k.items, ap collected d.list_is ∙ ap (λ (rest : _). collected (map (λ x. Ok x) k.items ++ rest)) d.left ∙ collected_items k.items, k.is_made)
+  collected_as (Err (Source e)) l k i = let d = drawn steps k.items (Err e) l s k.left i.runs k.ran in
+      ap collected d.list_is ∙ ap (λ (rest : _). collected (map (λ x. Ok x) k.items ++ rest)) d.left.1 ∙ collected_failure k.items d.left.0 e
+  collected_as (Err (Memory a)) l k i = tt
