@@ -16,14 +16,14 @@ ghost use Rattle.fallible_iterator.specs.Cutting.TakeWhile.{take_while_parts};
 ghost use Rattle.fallible_iterator.specs.Cutting.Fuse.{fuse_parts};
 ghost use Rattle.fallible_iterator.specs.Cutting.Skip.{skip_parts};
 ghost use Rattle.fallible_iterator.specs.Cutting.StepBy.{step_by_parts};
-ghost use Rattle.fallible_iterator.specs.Joining.Chain.{chain_parts};
+ghost use Rattle.fallible_iterator.specs.Joining.Chain.{chain_parts, chain_contract};
 ghost use Rattle.fallible_iterator.specs.Joining.Zip.{zip_parts};
 ghost use Rattle.fallible_iterator.specs.Joining.Flatten.{flatten_parts, flat_map_parts};
-ghost use Rattle.fallible_iterator.specs.Peeking.Peekable.{peekable_parts};
+ghost use Rattle.fallible_iterator.specs.Peeking.Peekable.{peekable_parts, peekable_contract};
 ghost use Rattle.fallible_iterator.specs.Joining.Cycle.{cycle_parts};
 ghost use Rattle.fallible_iterator.specs.declared.joining.chain.StillDrawn.TheVariants.{Both};
 ghost use Rattle.fallible_iterator.specs.Collecting.{Collects, PushTurn};
-ghost use Rattle.fallible_iterator.specs.Lists.{Lists, Acts, mapped, filtered, taken, counted, CollectedAs};
+ghost use Rattle.fallible_iterator.specs.Lists.{Lists, Acts, mapped, filtered, taken, counted, CollectedAs, chained};
 ghost use Rattle.fallible_iterator.specs.Folds.{CallableCarrying, Carried, CallableInFold, call_with, takes_with, FoldTurn, Folded, Counted, Nth};
 
 mod borrowed;
@@ -385,6 +385,7 @@ pub trait FallibleIterator: Drop + Sized {
         ensures front { (chain_parts result).0 ≡ self }
         ensures back { I.into_gives it (chain_parts result).1 }
         ensures sides { (chain_parts result).2 ≡ Both }
+        ensures lists { (a b : List (Result Self.Item Self.Error)) → Lists contract.steps self a → Lists I.IntoFallibleIter.contract.steps (chain_parts result).1 b → Lists (seen_as chain_parts (chain_contract contract I.IntoFallibleIter.contract)).steps result (chained a b) }
     {
         Chain {
             front: self,
@@ -474,7 +475,8 @@ pub trait FallibleIterator: Drop + Sized {
 
     /// Lets the next answer be looked at ahead: an item or an end that `peek` saw is held, and comes first. Making the adapter draws nothing, and holds nothing.
     final fn peekable(self) -> Peekable<Self>
-        ensures { peekable_parts result ≡ (self, None) }
+        ensures parts { peekable_parts result ≡ (self, None) }
+        ensures lists { (l : List (Result Self.Item Self.Error)) → Lists contract.steps self l → Lists (seen_as peekable_parts (peekable_contract contract)).steps result l }
     {
         Peekable {
             it: self,
