@@ -14,8 +14,8 @@ ghost use Rattle.fallible_iterator.specs.OneToOne.Cloned.{cloned_parts};
 ghost use Rattle.fallible_iterator.specs.Cutting.Take.{take_parts, take_contract};
 ghost use Rattle.fallible_iterator.specs.Cutting.TakeWhile.{take_while_parts};
 ghost use Rattle.fallible_iterator.specs.Cutting.Fuse.{fuse_parts};
-ghost use Rattle.fallible_iterator.specs.Cutting.Skip.{skip_parts};
-ghost use Rattle.fallible_iterator.specs.Cutting.StepBy.{step_by_parts};
+ghost use Rattle.fallible_iterator.specs.Cutting.Skip.{skip_parts, skip_contract};
+ghost use Rattle.fallible_iterator.specs.Cutting.StepBy.{step_by_parts, step_by_contract};
 ghost use Rattle.fallible_iterator.specs.Joining.Chain.{chain_parts, chain_contract};
 ghost use Rattle.fallible_iterator.specs.Joining.Zip.{zip_parts};
 ghost use Rattle.fallible_iterator.specs.Joining.Flatten.{flatten_parts, flat_map_parts};
@@ -23,7 +23,7 @@ ghost use Rattle.fallible_iterator.specs.Peeking.Peekable.{peekable_parts, peeka
 ghost use Rattle.fallible_iterator.specs.Joining.Cycle.{cycle_parts};
 ghost use Rattle.fallible_iterator.specs.declared.joining.chain.StillDrawn.TheVariants.{Both};
 ghost use Rattle.fallible_iterator.specs.Collecting.{Collects, PushTurn};
-ghost use Rattle.fallible_iterator.specs.Lists.{Lists, Acts, mapped, filtered, taken, counted, CollectedAs, chained};
+ghost use Rattle.fallible_iterator.specs.Lists.{Lists, Acts, mapped, filtered, taken, counted, CollectedAs, chained, skipped, stepped};
 ghost use Rattle.fallible_iterator.specs.Folds.{CallableCarrying, Carried, CallableInFold, call_with, takes_with, FoldTurn, Folded, Counted, Nth};
 
 mod borrowed;
@@ -260,7 +260,8 @@ pub trait FallibleIterator: Drop + Sized {
 
     /// Leaves out the first n items. A failure or an end that comes among them is the answer, and the rest of them is left out after it. Making the adapter draws nothing; one call draws at most n + 1 answers.
     final fn skip(self, n: usize) -> Skip<Self>
-        ensures { skip_parts result ≡ (self, n) }
+        ensures parts { skip_parts result ≡ (self, n) }
+        ensures lists { (l : List (Result Self.Item Self.Error)) → Lists contract.steps self l → Lists (seen_as skip_parts (skip_contract contract)).steps result (skipped n l) }
     {
         Skip {
             it: self,
@@ -271,7 +272,8 @@ pub trait FallibleIterator: Drop + Sized {
     /// Keeps the first item, and then one item at each step, so that of each `step` items one is kept. Failures and ends pass, and don't count. The step is at least 1. Making the adapter draws nothing; one call draws at most `step` answers.
     final fn step_by(self, step: usize) -> StepBy<Self>
         requires { 1 ≤ step }
-        ensures { step_by_parts result ≡ (self, (step - 1, 0)) }
+        ensures parts { step_by_parts result ≡ (self, (step - 1, 0)) }
+        ensures lists { (l : List (Result Self.Item Self.Error)) → Lists contract.steps self l → Lists (seen_as step_by_parts (step_by_contract contract)).steps result (stepped (step - 1) 0 l) }
     {
         StepBy {
             it: self,
