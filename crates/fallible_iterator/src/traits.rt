@@ -17,13 +17,13 @@ ghost use Rattle.fallible_iterator.specs.Cutting.Fuse.{fuse_parts};
 ghost use Rattle.fallible_iterator.specs.Cutting.Skip.{skip_parts, skip_contract};
 ghost use Rattle.fallible_iterator.specs.Cutting.StepBy.{step_by_parts, step_by_contract};
 ghost use Rattle.fallible_iterator.specs.Joining.Chain.{chain_parts, chain_contract};
-ghost use Rattle.fallible_iterator.specs.Joining.Zip.{zip_parts};
+ghost use Rattle.fallible_iterator.specs.Joining.Zip.{zip_parts, zip_contract};
 ghost use Rattle.fallible_iterator.specs.Joining.Flatten.{flatten_parts, flat_map_parts};
 ghost use Rattle.fallible_iterator.specs.Peeking.Peekable.{peekable_parts, peekable_contract};
 ghost use Rattle.fallible_iterator.specs.Joining.Cycle.{cycle_parts};
 ghost use Rattle.fallible_iterator.specs.declared.joining.chain.StillDrawn.TheVariants.{Both};
 ghost use Rattle.fallible_iterator.specs.Collecting.{Collects, PushTurn};
-ghost use Rattle.fallible_iterator.specs.Lists.{Lists, Acts, mapped, filtered, taken, counted, CollectedAs, chained, skipped, stepped};
+ghost use Rattle.fallible_iterator.specs.Lists.{Lists, Acts, mapped, filtered, taken, counted, CollectedAs, chained, skipped, stepped, zipped, NoFailureAtEnd};
 ghost use Rattle.fallible_iterator.specs.Folds.{CallableCarrying, Carried, CallableInFold, call_with, takes_with, FoldTurn, Folded, Counted, Nth};
 
 mod borrowed;
@@ -402,6 +402,7 @@ pub trait FallibleIterator: Drop + Sized {
         I: IntoFallibleIterator<Error = Self::Error>,
         ensures left { (zip_parts result).0 ≡ self }
         ensures right { I.into_gives o (zip_parts result).1 }
+        ensures lists { (a : List (Result Self.Item Self.Error)) (b : List (Result I.Item Self.Error)) → NoFailureAtEnd a b → Lists contract.steps self a → Lists I.IntoFallibleIter.contract.steps (zip_parts result).1 b → Lists (seen_as zip_parts (zip_contract contract I.IntoFallibleIter.contract)).steps result (zipped a b) }
     {
         Zip {
             left: self,
