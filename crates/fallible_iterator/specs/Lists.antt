@@ -152,3 +152,11 @@ unfoldable pub folded : {A B E E' : Type 0} → (E → E') → (B → A → Resu
 folded convert h b [] = Ok b
 folded convert h b (Ok x ∷ l) = on_value (h b x) (λ c. folded convert h c l)
 folded convert h b (Err e ∷ l) = Err (convert e)
+
+-- The closure f acts as the function h on a value and an item: it answers h of them, and stays as it is.
+abbrev pub ActsWith : {F B A R : Type 0} → (F → B → A → R → F → Type 0) → F → (B → A → R) → Type 0
+ActsWith {F} {B} {A} {R} call f h = (b : B) (x : A) (r : R) (g : F) → call f b x r g → (g ≡ f) × (r ≡ h b x)
+
+-- Failures convert as the function does.
+abbrev pub Converts : {E E' : Type 0} → (E → E' → Type 0) → (E → E') → Type 0
+Converts {E} {E'} from convert = (e : E) (e' : E') → from e e' → e' ≡ convert e
