@@ -1,5 +1,5 @@
 -- What a consumer makes of a source whose answers are listed.
-use Rattle.std.specs.Prelude.{◌≡◌, ℕ, ◌+◌, ◌-◌, ◌≤◌, zero, suc, length, Option, Some, None, Result, Ok, Err, List, [], ◌∷◌, ◌++◌, map}
+use Rattle.std.specs.Prelude.{◌≡◌, ℕ, ◌+◌, ◌-◌, zero, suc, length, Some, None, Result, Ok, Err, List, [], ◌∷◌, ◌++◌, map}
 use Rattle.std.specs.List.{FoldsTo}
 use Rattle.std.proofs.Common.{refl, sym, ap, subst, ◌∙◌, arith}
 use Rattle.fallible_iterator.specs.Traces.{Answered, Run, item}
@@ -7,7 +7,7 @@ use Rattle.fallible_iterator.specs.Folds.{Counted, CountExit, Nth, NthExit, fold
 use Rattle.fallible_iterator.specs.declared.collecting.Fault.{Fault}
 use Rattle.fallible_iterator.specs.declared.collecting.Fault.TheVariants.{Source, Memory}
 use Rattle.fallible_iterator.specs.Collecting.{Collects}
-use Rattle.fallible_iterator.specs.Lists.{AlwaysGives, Lists, result_answer, one_more_than, counted, nth_of, before, collected, CollectedAs, on_value, folded, ActsWith, Converts}
+use Rattle.fallible_iterator.specs.Lists.{AlwaysGives, Lists, one_more_than, counted, nth_of, before, collected, CollectedAs, on_value, folded, ActsWith, Converts}
 
 module _ {A E : Type 0} where
   -- what is left of the list at the last answer that was drawn
