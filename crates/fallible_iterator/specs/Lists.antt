@@ -1,9 +1,11 @@
 -- Lists of answers, from the front: what a caller states that a chain of calls computed.
-use Rattle.std.specs.Prelude.{◌≡◌, ℕ, ◌+◌, zero, suc, ◌≤◌, ◌<◌, length, slice_index_or, Result, Some, None, Ok, Err, List, [], ◌∷◌, Bool, true, false}
+use Rattle.std.specs.Prelude.{◌≡◌, ℕ, ◌+◌, zero, suc, ◌≤◌, ◌<◌, length, slice_index_or, Result, Some, None, Ok, Err, List, [], ◌∷◌, Bool, true, false, ⊤}
 use Rattle.std.specs.Iterator.Runs.{EachRunFrom}
 use Rattle.std.specs.Borrow.{Bor}
 use Rattle.std.specs.declared.option.Option.{Option}
 use Rattle.fallible_iterator.specs.Traces.{Answered, end}
+use Rattle.fallible_iterator.specs.declared.collecting.Fault.{Fault}
+use Rattle.fallible_iterator.specs.declared.collecting.Fault.TheVariants.{Source, Memory}
 
 -- the answer that a result is: `Ok` an item, `Err` a failure
 abbrev pub result_answer : {A E : Type 0} → Result A E → Answered A E
@@ -177,3 +179,66 @@ unfoldable pub collected : {A E : Type 0} → List (Result A E) → Result (List
 collected [] = Ok []
 collected (Ok x ∷ l) = before x (collected l)
 collected (Err e ∷ l) = Err e
+
+-- ---- joining, leaving out by number, and what consumers make
+
+-- one list and then another
+unfoldable pub chained : {A E : Type 0} → List (Result A E) → List (Result A E) → List (Result A E)
+chained [] b = b
+chained (y ∷ a) b = y ∷ chained a b
+
+-- without the first n items; failures don't count, and stay
+unfoldable pub skipped : {A E : Type 0} → ℕ → List (Result A E) → List (Result A E)
+skipped n [] = []
+skipped n (Err e ∷ l) = Err e ∷ skipped n l
+skipped zero (Ok x ∷ l) = Ok x ∷ skipped zero l
+skipped (suc n) (Ok x ∷ l) = skipped n l
+
+-- without the first n items, and then without those between two of which the second comes `between` items after the first; failures don't count, and stay
+unfoldable pub stepped : {A E : Type 0} → ℕ → ℕ → List (Result A E) → List (Result A E)
+stepped between n [] = []
+stepped between n (Err e ∷ l) = Err e ∷ stepped between n l
+stepped between zero (Ok x ∷ l) = Ok x ∷ stepped between between l
+stepped between (suc n) (Ok x ∷ l) = stepped between n l
+
+-- pairs of an item and what stands beside it, up to the first end; a failure of the first list stands alone, and one of the second takes the item's place
+unfoldable pub zipped : {A B E : Type 0} → List (Result A E) → List (Result B E) → List (Result (A × B) E)
+zipped [] b = []
+zipped (Err e ∷ a) b = Err e ∷ zipped a b
+zipped (Ok x ∷ a) [] = []
+zipped (Ok x ∷ a) (Ok y ∷ b) = Ok (x, y) ∷ zipped a b
+zipped (Ok x ∷ a) (Err e ∷ b) = Err e ∷ zipped a b
+
+-- beside the end of the first list, if the second comes so far, stands no failure
+abbrev pub NoFailureAtEnd : {A B E : Type 0} → List (Result A E) → List (Result B E) → Type 0
+NoFailureAtEnd [] [] = ⊤
+NoFailureAtEnd [] (Ok y ∷ b) = ⊤
+NoFailureAtEnd [] (Err e ∷ b) = ⊥
+NoFailureAtEnd (Err e ∷ a) b = NoFailureAtEnd a b
+NoFailureAtEnd (Ok x ∷ a) [] = ⊤
+NoFailureAtEnd (Ok x ∷ a) (y ∷ b) = NoFailureAtEnd a b
+
+-- The collection is one of the list's items, the source's failure the list's first; want of memory says nothing of the list.
+abbrev pub CollectedAs : {A E C : Type 0} → (List A → C → Type 0) → List (Result A E) → Result C (Fault E) → Type 0
+CollectedAs {A = A} made l (Ok c) = (xs : List A) × (collected l ≡ Ok xs) × made xs c
+CollectedAs made l (Err (Source e)) = collected l ≡ Err e
+CollectedAs made l (Err (Memory a)) = ⊤
+
+-- what f makes of the value, where there is one
+abbrev pub on_value : {A B E : Type 0} → Result A E → (A → Result B E) → Result B E
+on_value (Ok x) f = f x
+on_value (Err e) f = Err e
+
+-- the value that h makes of the value so far and each item, or its first failure, or the list's first, converted
+unfoldable pub folded : {A B E E' : Type 0} → (E → E') → (B → A → Result B E') → B → List (Result A E) → Result B E'
+folded convert h b [] = Ok b
+folded convert h b (Ok x ∷ l) = on_value (h b x) (λ c. folded convert h c l)
+folded convert h b (Err e ∷ l) = Err (convert e)
+
+-- The closure f acts as the function h on a value and an item: it answers h of them, and stays as it is.
+abbrev pub ActsWith : {F B A R : Type 0} → (F → B → A → R → F → Type 0) → F → (B → A → R) → Type 0
+ActsWith {F} {B} {A} {R} call f h = (b : B) (x : A) (r : R) (g : F) → call f b x r g → (g ≡ f) × (r ≡ h b x)
+
+-- Failures convert as the function does.
+abbrev pub Converts : {E E' : Type 0} → (E → E' → Type 0) → (E → E') → Type 0
+Converts {E} {E'} from convert = (e : E) (e' : E') → from e e' → e' ≡ convert e

@@ -15,16 +15,16 @@ ghost use Rattle.fallible_iterator.specs.OneToOne.Cloned.{cloned_parts, cloned_c
 ghost use Rattle.fallible_iterator.specs.Cutting.Take.{take_parts, take_contract};
 ghost use Rattle.fallible_iterator.specs.Cutting.TakeWhile.{take_while_parts, take_while_contract};
 ghost use Rattle.fallible_iterator.specs.Cutting.Fuse.{fuse_parts, fuse_contract};
-ghost use Rattle.fallible_iterator.specs.Cutting.Skip.{skip_parts};
-ghost use Rattle.fallible_iterator.specs.Cutting.StepBy.{step_by_parts};
-ghost use Rattle.fallible_iterator.specs.Joining.Chain.{chain_parts};
-ghost use Rattle.fallible_iterator.specs.Joining.Zip.{zip_parts};
+ghost use Rattle.fallible_iterator.specs.Cutting.Skip.{skip_parts, skip_contract};
+ghost use Rattle.fallible_iterator.specs.Cutting.StepBy.{step_by_parts, step_by_contract};
+ghost use Rattle.fallible_iterator.specs.Joining.Chain.{chain_parts, chain_contract};
+ghost use Rattle.fallible_iterator.specs.Joining.Zip.{zip_parts, zip_contract};
 ghost use Rattle.fallible_iterator.specs.Joining.Flatten.{flatten_parts, flat_map_parts};
-ghost use Rattle.fallible_iterator.specs.Peeking.Peekable.{peekable_parts};
+ghost use Rattle.fallible_iterator.specs.Peeking.Peekable.{peekable_parts, peekable_contract};
 ghost use Rattle.fallible_iterator.specs.Joining.Cycle.{cycle_parts};
 ghost use Rattle.fallible_iterator.specs.declared.joining.chain.StillDrawn.TheVariants.{Both};
 ghost use Rattle.fallible_iterator.specs.Collecting.{Collects, PushTurn};
-ghost use Rattle.fallible_iterator.specs.Lists.{Lists, Acts, mapped, filtered, taken, counted, filter_mapped, inspected, ActsWithState, scanned, skipped_while, taken_while, numbered, failures_mapped, pointed_to};
+ghost use Rattle.fallible_iterator.specs.Lists.{Lists, Acts, mapped, filtered, taken, counted, filter_mapped, inspected, ActsWithState, scanned, skipped_while, taken_while, numbered, failures_mapped, pointed_to, CollectedAs, chained, skipped, stepped, zipped, NoFailureAtEnd};
 ghost use Rattle.fallible_iterator.specs.Folds.{CallableCarrying, Carried, CallableInFold, call_with, takes_with, FoldTurn, Folded, Counted, Nth};
 
 mod borrowed;
@@ -265,7 +265,8 @@ pub trait FallibleIterator: Drop + Sized {
 
     /// Leaves out the first n items. A failure or an end that comes among them is the answer, and the rest of them is left out after it. Making the adapter draws nothing; one call draws at most n + 1 answers.
     final fn skip(self, n: usize) -> Skip<Self>
-        ensures { skip_parts result ≡ (self, n) }
+        ensures parts { skip_parts result ≡ (self, n) }
+        ensures lists { (l : List (Result Self.Item Self.Error)) → Lists contract.steps self l → Lists (seen_as skip_parts (skip_contract contract)).steps result (skipped n l) }
     {
         Skip {
             it: self,
@@ -276,7 +277,8 @@ pub trait FallibleIterator: Drop + Sized {
     /// Keeps the first item, and then one item at each step, so that of each `step` items one is kept. Failures and ends pass, and don't count. The step is at least 1. Making the adapter draws nothing; one call draws at most `step` answers.
     final fn step_by(self, step: usize) -> StepBy<Self>
         requires { 1 ≤ step }
-        ensures { step_by_parts result ≡ (self, (step - 1, 0)) }
+        ensures parts { step_by_parts result ≡ (self, (step - 1, 0)) }
+        ensures lists { (l : List (Result Self.Item Self.Error)) → Lists contract.steps self l → Lists (seen_as step_by_parts (step_by_contract contract)).steps result (stepped (step - 1) 0 l) }
     {
         StepBy {
             it: self,
@@ -397,6 +399,7 @@ pub trait FallibleIterator: Drop + Sized {
         ensures front { (chain_parts result).0 ≡ self }
         ensures back { I.into_gives it (chain_parts result).1 }
         ensures sides { (chain_parts result).2 ≡ Both }
+        ensures lists { (a b : List (Result Self.Item Self.Error)) → Lists contract.steps self a → Lists I.IntoFallibleIter.contract.steps (chain_parts result).1 b → Lists (seen_as chain_parts (chain_contract contract I.IntoFallibleIter.contract)).steps result (chained a b) }
     {
         Chain {
             front: self,
@@ -411,6 +414,7 @@ pub trait FallibleIterator: Drop + Sized {
         I: IntoFallibleIterator<Error = Self::Error>,
         ensures left { (zip_parts result).0 ≡ self }
         ensures right { I.into_gives o (zip_parts result).1 }
+        ensures lists { (a : List (Result Self.Item Self.Error)) (b : List (Result I.Item Self.Error)) → NoFailureAtEnd a b → Lists contract.steps self a → Lists I.IntoFallibleIter.contract.steps (zip_parts result).1 b → Lists (seen_as zip_parts (zip_contract contract I.IntoFallibleIter.contract)).steps result (zipped a b) }
     {
         Zip {
             left: self,
@@ -461,7 +465,8 @@ pub trait FallibleIterator: Drop + Sized {
     where
         requires can { contract.can self }
         requires finite { contract.has_end self }
-        ensures { Collects contract.steps C.made C.empty_refuses C.push_refuses self result }
+        ensures collects { Collects contract.steps C.made C.empty_refuses C.push_refuses self result }
+        ensures is { (l : List (Result Self.Item Self.Error)) → Lists contract.steps self l → CollectedAs C.made l result }
     {
         let made = match C::empty(alloc) {
             Ok(made) => made,
@@ -485,7 +490,8 @@ pub trait FallibleIterator: Drop + Sized {
 
     /// Lets the next answer be looked at ahead: an item or an end that `peek` saw is held, and comes first. Making the adapter draws nothing, and holds nothing.
     final fn peekable(self) -> Peekable<Self>
-        ensures { peekable_parts result ≡ (self, None) }
+        ensures parts { peekable_parts result ≡ (self, None) }
+        ensures lists { (l : List (Result Self.Item Self.Error)) → Lists contract.steps self l → Lists (seen_as peekable_parts (peekable_contract contract)).steps result l }
     {
         Peekable {
             it: self,

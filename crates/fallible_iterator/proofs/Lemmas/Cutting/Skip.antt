@@ -1,11 +1,15 @@
 -- `Skip`: its runs are the traces that its definition names.
-use Rattle.std.specs.Prelude.{◌≡◌, ℕ, ◌+◌, ◌-◌, ◌≤◌, ltb, List, [], ◌∷◌, Some, None, Ok, Err, ◌↔◌}
+use Rattle.std.specs.Prelude.{◌≡◌, ℕ, zero, suc, ◌+◌, ◌-◌, ◌≤◌, ltb, List, [], ◌∷◌, Some, None, Result, Ok, Err, ◌↔◌}
 use Rattle.std.proofs.Common.{refl, ap, arith}
 use Rattle.std.proofs.lemmas.Bool.{lt-ltb, le-ltb}
 use Rattle.fallible_iterator.specs.Traces.{Answered, Run}
-use Rattle.fallible_iterator.specs.Cutting.Skip.{SkipTrace, skip_step}
+use Rattle.fallible_iterator.specs.declared.cutting.skip.Skip.{Skip}
+use Rattle.fallible_iterator.specs.Contract.{Contract, seen_as}
+use Rattle.fallible_iterator.specs.Cutting.Skip.{SkipTrace, skip_step, skip_parts, skip_contract}
+use Rattle.fallible_iterator.specs.Lists.{AlwaysGives, Lists, skipped, stepped}
+use Rattle.fallible_iterator.proofs.Lemmas.Lists.Passing.{lists_seen}
 use Rattle.fallible_iterator.proofs.Lemmas.Definitions.{IsByAnswers, runs_by_answers}
-use Rattle.fallible_iterator.proofs.Lemmas.Counting.{Fits, Leaves, none, keeps_item, keeps_end, keeps_failure, nothing_left, then_others, first_apart, by_number, from_number}
+use Rattle.fallible_iterator.proofs.Lemmas.Counting.{Fits, Leaves, none, keeps_item, keeps_end, keeps_failure, nothing_left, then_others, first_apart, by_number, from_number, leaves_one, stepped_gives}
 
 -- the items up to the n-th are left out
 skip_fits : (n : ℕ) → Fits (λ k. ltb n k) 0 (λ k. n - k) (λ j k. j ≡ n + 1 - k)
@@ -48,3 +52,19 @@ module _ {S A E : Type 0} (steps : S → Answered A E → S → Type 0) where
 
   pub skip_law : (p : S × ℕ) (trace : List (Answered A E)) (q : S × ℕ) → Run (skip_step steps) p trace q ↔ SkipTrace steps p trace q
   skip_law = runs_by_answers (SkipTrace steps) skip_by_answers
+
+-- ---- what it lists
+
+skipped_is : {A E : Type 0} (l : List (Result A E)) (n : ℕ) → stepped 0 n l ≡ skipped n l
+unfolding skipped stepped
+skipped_is [] n = refl
+skipped_is {A = A} {E = E} (Err e ∷ l) n = ap {B = List (Result A E)} (λ k. Err e ∷ k) (skipped_is l n)
+skipped_is {A = A} {E = E} (Ok x ∷ l) zero = ap {B = List (Result A E)} (λ k. Ok x ∷ k) (skipped_is l zero)
+skipped_is (Ok x ∷ l) (suc n) = skipped_is l n
+
+skipped_gives : {S A E : Type 0} (steps : S → Answered A E → S → Type 0) (l : List (Result A E)) (p : S × ℕ) → AlwaysGives (leaves_one steps 0) p l → AlwaysGives (skip_step steps) p l
+skipped_gives steps [] p g = λ r q w. g r q (skip_leaves steps {p = p} {q = q} w)
+skipped_gives steps (y ∷ l) p g = λ r q w. let d = g r q (skip_leaves steps {p = p} {q = q} w) in (d.0, skipped_gives steps l q d.1)
+
+pub lists_skipped : {S A E : Type 0} (m : Contract S A E) (s : Skip S) (n : ℕ) (l : List (Result A E)) → skip_parts s ≡ (s.it, n) → Lists m.steps s.it l → Lists (seen_as skip_parts (skip_contract m)).steps s (skipped n l)
+lists_skipped m s n l parts i = lists_seen skip_parts (skip_step m.steps) s parts (skipped_is l n) (skipped_gives m.steps (stepped 0 n l) (s.it, n) (stepped_gives m.steps 0 l n s.it i.runs))

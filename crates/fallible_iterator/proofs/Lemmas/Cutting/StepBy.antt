@@ -1,15 +1,19 @@
 -- `StepBy`: its runs are the traces that its definition names.
-use Rattle.std.specs.Prelude.{◌≡◌, ℕ, zero, suc, ◌+◌, ◌-◌, ◌*◌, ◌%◌, ◌≤◌, ◌⊎◌, true, false, List, [], ◌∷◌, Some, None, Ok, Err, ◌↔◌}
-use Rattle.std.proofs.Common.{refl, sym, ap, arith, inl, inr, ◌∙◌}
+use Rattle.std.specs.Prelude.{◌≡◌, ℕ, zero, suc, ◌+◌, ◌-◌, ◌*◌, ◌%◌, ◌≤◌, ◌⊎◌, true, false, List, [], ◌∷◌, Some, None, Result, Ok, Err, ◌↔◌}
+use Rattle.std.proofs.Common.{refl, sym, ap, subst, arith, inl, inr, ◌∙◌}
 use Rattle.std.proofs.lemmas.Bool.{lt-ltb, le-ltb, le-leb, lt-leb}
 use Rattle.std.proofs.Math.Dec.{eqb-suc-zero}
 use Rattle.std.proofs.Math.Nat.{mul-add-mod_self_left, mod-eq_of_lt}
 use Rattle.fallible_iterator.specs.Traces.{Answered, Run}
-use Rattle.fallible_iterator.specs.Cutting.StepBy.{keeps_at_steps, left_after, StepByTrace, step_by_step}
+use Rattle.fallible_iterator.specs.declared.cutting.step_by.StepBy.{StepBy}
+use Rattle.fallible_iterator.specs.Contract.{Contract, seen_as}
+use Rattle.fallible_iterator.specs.Cutting.StepBy.{keeps_at_steps, left_after, StepByTrace, step_by_step, step_by_parts, step_by_contract}
+use Rattle.fallible_iterator.specs.Lists.{AlwaysGives, Lists, stepped}
+use Rattle.fallible_iterator.proofs.Lemmas.Lists.Passing.{lists_seen}
 use Rattle.fallible_iterator.specs.Cutting.Skip.{SkipTrace}
 use Rattle.fallible_iterator.proofs.Lemmas.Cutting.Skip.{skip_leaves}
 use Rattle.fallible_iterator.proofs.Lemmas.Definitions.{IsByAnswers, runs_by_answers}
-use Rattle.fallible_iterator.proofs.Lemmas.Counting.{Fits, Leaves, moved, none, keeps_item, keeps_end, keeps_failure, leaves_out, nothing_left, then_others, first_apart, by_number, from_number}
+use Rattle.fallible_iterator.proofs.Lemmas.Counting.{Fits, Leaves, moved, none, keeps_item, keeps_end, keeps_failure, leaves_out, nothing_left, then_others, first_apart, by_number, from_number, leaves_one, stepped_gives}
 
 -- ---- numbers
 
@@ -102,3 +106,14 @@ module _ {S A E : Type 0} (steps : S → Answered A E → S → Type 0) where
 
   pub steps_from_skip : {s t : S} (between n k : ℕ) (r : Answered A E) → SkipTrace steps (s, n) (r ∷ []) (t, k) → StepByTrace steps (s, (between, n)) (r ∷ []) (t, (between, LeftNext between r k))
   steps_from_skip {s} {t} between n k r d = leaves_step_by {p = (s, (between, n))} {q = (t, (between, LeftNext between r k))} (step_of_skip between (skip_leaves steps {p = (s, n)} {q = (t, k)} d), refl)
+
+-- ---- what it lists
+
+module _ {S A E : Type 0} (steps : S → Answered A E → S → Type 0) (between : ℕ) where
+  gives_by_steps : (l : List (Result A E)) (s : S) (n : ℕ) → AlwaysGives (leaves_one steps between) (s, n) l → AlwaysGives (step_by_step steps) (s, (between, n)) l
+  gives_by_steps [] s n g = λ r q w. g r (q.0, (q.1).1) (step_by_leaves steps {p = (s, (between, n))} {q = q} w).0
+  gives_by_steps (y ∷ l) s n g = λ r q w. let d = g r (q.0, (q.1).1) (step_by_leaves steps {p = (s, (between, n))} {q = q} w).0 in
+      (d.0, subst (λ (b : ℕ). AlwaysGives (step_by_step steps) (q.0, (b, (q.1).1)) l) (sym w.1) (gives_by_steps l q.0 (q.1).1 d.1))
+
+pub lists_stepped : {S A E : Type 0} (m : Contract S A E) (s : StepBy S) (between n : ℕ) (l : List (Result A E)) → step_by_parts s ≡ (s.it, (between, n)) → Lists m.steps s.it l → Lists (seen_as step_by_parts (step_by_contract m)).steps s (stepped between n l)
+lists_stepped m s between n l parts i = lists_seen step_by_parts (step_by_step m.steps) s parts refl (gives_by_steps m.steps between (stepped between n l) s.it n (stepped_gives m.steps between l n s.it i.runs))

@@ -1,10 +1,14 @@
 -- The runs of `Chain` are the traces that its definition names.
-use Rattle.std.specs.Prelude.{◌≡◌, ◌≢◌, false, List, [], ◌∷◌, ◌++◌, ◌↔◌}
-use Rattle.std.proofs.Common.{refl, sym, ap, inl, inr}
+use Rattle.std.specs.Prelude.{◌≡◌, ◌≢◌, true, false, List, [], ◌∷◌, ◌++◌, ◌↔◌, Result, Ok, Err}
+use Rattle.std.proofs.Common.{refl, sym, ap, subst, inl, inr}
+use Rattle.fallible_iterator.specs.declared.joining.chain.Chain.{Chain}
+use Rattle.fallible_iterator.specs.Contract.{Contract, seen_as}
+use Rattle.fallible_iterator.specs.Lists.{AlwaysGives, Lists, result_answer, chained}
+use Rattle.fallible_iterator.proofs.Lemmas.Lists.Passing.{lists_seen}
 use Rattle.fallible_iterator.specs.declared.joining.chain.StillDrawn.{StillDrawn}
 use Rattle.fallible_iterator.specs.declared.joining.chain.StillDrawn.TheVariants.{Both, FrontAlone, BackAlone}
 use Rattle.fallible_iterator.specs.Traces.{Answered, Run, end, NoEnd, is_end}
-use Rattle.fallible_iterator.specs.Joining.Chain.{JoinedTrace, ChainTrace, chain_step}
+use Rattle.fallible_iterator.specs.Joining.Chain.{JoinedTrace, ChainTrace, chain_step, chain_parts, chain_contract}
 
 module _ {S U A E : Type 0} (steps : S → Answered A E → S → Type 0) (others : U → Answered A E → U → Type 0) where
   abbrev Step : S × U × StillDrawn → Answered A E → S × U × StillDrawn → Type 0
@@ -62,3 +66,36 @@ module _ {S U A E : Type 0} (steps : S → Answered A E → S → Type 0) (other
   chain_law (s, u, Both) trace (t, v, left) = (to_both trace s u t v left, from_either trace s u t v left)
   chain_law (s, u, FrontAlone) trace (t, v, left) = (to_front trace s u t v left, (λ p. rw (p.1, p.2) (from_front trace s u t p.0)))
   chain_law (s, u, BackAlone) trace (t, v, left) = (to_back trace s u t v left, (λ p. rw (p.1, p.2) (from_back trace s u v p.0)))
+
+-- ---- what it lists
+
+module _ {S U A E : Type 0} (steps : S → Answered A E → S → Type 0) (others : U → Answered A E → U → Type 0) where
+  abbrev Gives : S → U → StillDrawn → List (Result A E) → Type 0
+  Gives s u drawn l = AlwaysGives (chain_step steps others) (s, u, drawn) l
+
+  back_gives : (b : List (Result A E)) (s : S) (u : U) → AlwaysGives others u b → Gives s u BackAlone b
+  back_gives [] s u g = λ r q w. g r q.1 w.0
+  back_gives (y ∷ b) s u g = λ r q w. let d = g r q.1 w.0 in (d.0, subst (λ (k : StillDrawn). Gives q.0 q.1 k b) (sym w.2) (back_gives b q.0 q.1 d.1))
+
+  not_end : (y : Result A E) → end ≡ result_answer y → ⊥
+  not_end (Ok x) e = absurd cc
+  not_end (Err x) e = absurd cc
+
+  -- one draw at the front's end
+  ended_gives : (b : List (Result A E)) (s : S) (u : U) → AlwaysGives {A = A} {E = E} steps s [] → AlwaysGives others u b → Gives s u Both b
+  ended_gives [] s u f g = λ r q w. elim w [ inl p ↦ f r q.0 p.0 | inr p ↦ g r q.1 p.1 ]
+  ended_gives (y ∷ b) s u f g = λ r q w. elim w [
+    | inl p ↦ absurd (let e = f r q.0 p.0 in let no : is_end r ≡ false = p.1 in let yes : is_end r ≡ true = ap is_end e in cc)
+    | inr p ↦ let d = g r q.1 p.1 in (d.0, subst (λ (k : StillDrawn). Gives q.0 q.1 k b) (sym p.2) (back_gives b q.0 q.1 d.1))
+  ]
+
+  chained_gives : (a b : List (Result A E)) (s : S) (u : U) → AlwaysGives steps s a → AlwaysGives others u b → Gives s u Both (chained a b)
+  unfolding chained
+  chained_gives [] b s u f g = ended_gives b s u f g
+  chained_gives (y ∷ a) b s u f g = λ r q w. elim w [
+    | inl p ↦ let d = f r q.0 p.0 in (d.0, rw (p.2, p.3) (chained_gives a b q.0 u d.1 g))
+    | inr p ↦ absurd (not_end y (f end q.0 p.0).0)
+  ]
+
+pub lists_chained : {S U A E : Type 0} (m : Contract S A E) (k : Contract U A E) (c : Chain S U) (s : S) (a b : List (Result A E)) → chain_parts c ≡ (s, c.back, Both) → Lists m.steps s a → Lists k.steps c.back b → Lists (seen_as chain_parts (chain_contract m k)).steps c (chained a b)
+lists_chained m k c s a b parts f g = lists_seen chain_parts (chain_step m.steps k.steps) c parts refl (chained_gives m.steps k.steps a b s c.back f.runs g.runs)

@@ -1,9 +1,13 @@
 -- The runs of `Zip` are the traces that its definition names.
-use Rattle.std.specs.Prelude.{List, [], ◌∷◌, map, ◌↔◌}
+use Rattle.std.specs.Prelude.{◌≡◌, List, [], ◌∷◌, map, ◌↔◌, Some, None, Result, Ok, Err}
 use Rattle.std.specs.List.{filter_map}
-use Rattle.std.proofs.Common.{refl, ap}
-use Rattle.fallible_iterator.specs.Traces.{Answered, Run}
-use Rattle.fallible_iterator.specs.Joining.Zip.{ZipPlace, left_failed, both_drawn, left_answer, right_answer, zip_answer, ZipTrace, right_step, zip_step}
+use Rattle.std.proofs.Common.{refl, ap, ◌∙◌}
+use Rattle.fallible_iterator.specs.declared.joining.zip.Zip.{Zip}
+use Rattle.fallible_iterator.specs.Traces.{Answered, Run, end}
+use Rattle.fallible_iterator.specs.Contract.{Contract, seen_as}
+use Rattle.fallible_iterator.specs.Lists.{AlwaysGives, Lists, zipped, NoFailureAtEnd}
+use Rattle.fallible_iterator.proofs.Lemmas.Lists.Passing.{lists_seen}
+use Rattle.fallible_iterator.specs.Joining.Zip.{ZipPlace, left_failed, both_drawn, left_answer, right_answer, zip_answer, ZipTrace, right_step, zip_step, zip_parts, zip_contract}
 
 module _ {S U A B E : Type 0} (steps : S → Answered A E → S → Type 0) (others : U → Answered B E → U → Type 0) where
   abbrev Step : S × U → Answered (A × B) E → S × U → Type 0
@@ -33,3 +37,42 @@ module _ {S U A B E : Type 0} (steps : S → Answered A E → S → Type 0) (oth
 
   pub zip_law : (p : S × U) (trace : List (Answered (A × B) E)) (q : S × U) → Run Step p trace q ↔ ZipTrace steps others p trace q
   zip_law p trace q = (to_zip_trace trace p.0 p.1 q.0 q.1, (λ d. rw d.answers (from_places d.places p.0 p.1 q.0 q.1 d.left_drawn d.right_drawn)))
+
+-- ---- what it lists
+
+module _ {S U A B E : Type 0} (steps : S → Answered A E → S → Type 0) (others : U → Answered B E → U → Type 0) where
+  -- at an end of the left
+  end_of_left : (b : List (Result B E)) (s t : S) (u v : U) (x : ZipPlace A B E) → NoFailureAtEnd {A = A} [] b → AlwaysGives {A = A} steps s [] → AlwaysGives others u b → steps s (left_answer x) t → right_step others u x v → zip_answer x ≡ end
+  end_of_left b s t u v (left_failed e) clear f g step drawn = absurd (let h = f (Err e) t step in cc)
+  end_of_left b s t u v (both_drawn (Some y) r) clear f g step drawn = absurd (let h = f (Ok (Some y)) t step in cc)
+  end_of_left b s t u v (both_drawn None (Ok y)) clear f g step drawn = refl
+  end_of_left [] s t u v (both_drawn None (Err e)) clear f g step drawn = absurd (let h = g (Err e) v drawn in cc)
+  end_of_left (Ok y ∷ b) s t u v (both_drawn None (Err e)) clear f g step drawn = absurd (let h = (g (Err e) v drawn).0 in cc)
+  end_of_left (Err d ∷ b) s t u v (both_drawn None (Err e)) clear f g step drawn = absurd clear
+
+  -- at a failure of the left
+  failure_of_left : (d : E) (a : List (Result A E)) (s t : S) (u v : U) (x : ZipPlace A B E) → AlwaysGives steps s (Err d ∷ a) → steps s (left_answer x) t → right_step others u x v → (zip_answer x ≡ Err d) × AlwaysGives steps t a × (v ≡ u)
+  failure_of_left d a s t u v (left_failed e) f step drawn = let h = f (Err e) t step in ((let q = h.0 in cc), h.1, drawn)
+  failure_of_left d a s t u v (both_drawn (Some y) r) f step drawn = absurd (let h = (f (Ok (Some y)) t step).0 in cc)
+  failure_of_left d a s t u v (both_drawn None r) f step drawn = absurd (let h = (f (Ok None) t step).0 in cc)
+
+  -- at an item of the left the right is drawn
+  item_of_left : (y : A) (a : List (Result A E)) (s t : S) (u v : U) (x : ZipPlace A B E) → AlwaysGives steps s (Ok y ∷ a) → steps s (left_answer x) t → right_step others u x v → (r : Answered B E) × (x ≡ both_drawn (Some y) r) × others u r v × AlwaysGives steps t a
+  item_of_left y a s t u v (left_failed e) f step drawn = absurd (let h = (f (Err e) t step).0 in cc)
+  item_of_left y a s t u v (both_drawn None r) f step drawn = absurd (let h = (f (Ok None) t step).0 in cc)
+  item_of_left y a s t u v (both_drawn (Some z) r) f step drawn = let h = f (Ok (Some z)) t step in (r, ap (λ (k : A). both_drawn (Some k) r) (let q = h.0 in cc), drawn, h.1)
+
+  -- what is answered there
+  beside : (y : A) (x : ZipPlace A B E) (r k : Answered B E) (answer : Answered (A × B) E) → answer ≡ zip_answer x → x ≡ both_drawn (Some y) r → r ≡ k → answer ≡ zip_answer (both_drawn (Some y) k)
+  beside y x r k answer e is same = e ∙ ap zip_answer is ∙ ap (λ (w : Answered B E). zip_answer (both_drawn (Some y) w)) same
+
+  zipped_gives : (a : List (Result A E)) (b : List (Result B E)) (s : S) (u : U) → NoFailureAtEnd a b → AlwaysGives steps s a → AlwaysGives others u b → AlwaysGives (zip_step steps others) (s, u) (zipped a b)
+  unfolding zipped
+  zipped_gives [] b s u clear f g = λ r q w. w.3 ∙ end_of_left b s q.0 u q.1 w.0 clear f g w.1 w.2
+  zipped_gives (Err d ∷ a) b s u clear f g = λ r q w. let h = failure_of_left d a s q.0 u q.1 w.0 f w.1 w.2 in (w.3 ∙ h.0, rw h.2 (zipped_gives a b q.0 u clear h.1 g))
+  zipped_gives (Ok y ∷ a) [] s u clear f g = λ r q w. let h = item_of_left y a s q.0 u q.1 w.0 f w.1 w.2 in beside y w.0 h.0 end r w.3 h.1 (g h.0 q.1 h.2)
+  zipped_gives (Ok y ∷ a) (Ok z ∷ b) s u clear f g = λ r q w. let h = item_of_left y a s q.0 u q.1 w.0 f w.1 w.2 in let d = g h.0 q.1 h.2 in (beside y w.0 h.0 (Ok (Some z)) r w.3 h.1 d.0, zipped_gives a b q.0 q.1 clear h.3 d.1)
+  zipped_gives (Ok y ∷ a) (Err e ∷ b) s u clear f g = λ r q w. let h = item_of_left y a s q.0 u q.1 w.0 f w.1 w.2 in let d = g h.0 q.1 h.2 in (beside y w.0 h.0 (Err e) r w.3 h.1 d.0, zipped_gives a b q.0 q.1 clear h.3 d.1)
+
+pub lists_zipped : {S U A B E : Type 0} (m : Contract S A E) (k : Contract U B E) (c : Zip S U) (s : S) (a : List (Result A E)) (b : List (Result B E)) → zip_parts c ≡ (s, c.right) → NoFailureAtEnd a b → Lists m.steps s a → Lists k.steps c.right b → Lists (seen_as zip_parts (zip_contract m k)).steps c (zipped a b)
+lists_zipped m k c s a b parts clear f g = lists_seen zip_parts (zip_step m.steps k.steps) c parts refl (zipped_gives m.steps k.steps a b s c.right clear f.runs g.runs)

@@ -4,8 +4,11 @@ use Rattle.std.specs.Borrow.{Bor}
 use Rattle.std.specs.Fn.{Shared, FnReturnsAt}
 use Rattle.std.proofs.Common.{refl, sym, ap, subst, arith, inl, inr}
 use Rattle.fallible_iterator.specs.Traces.{Answered, Run, item, end}
-use Rattle.fallible_iterator.specs.Contract.{Contract, Goes, Stays, Lawful}
-use Rattle.fallible_iterator.specs.Peeking.Peekable.{held_answers, PeekableTrace, peekable_step, peekable_contract, seen, told, held_of, held_item, Fills, Peeks, Looks, TakenIf, NextIf}
+use Rattle.fallible_iterator.specs.declared.peeking.peekable.Peekable.{Peekable}
+use Rattle.fallible_iterator.specs.Contract.{Contract, Goes, Stays, Lawful, seen_as}
+use Rattle.fallible_iterator.specs.Lists.{AlwaysGives, Lists}
+use Rattle.fallible_iterator.proofs.Lemmas.Lists.Passing.{lists_seen}
+use Rattle.fallible_iterator.specs.Peeking.Peekable.{peekable_parts, held_answers, PeekableTrace, peekable_step, peekable_contract, seen, told, held_of, held_item, Fills, Peeks, Looks, TakenIf, NextIf}
 use Rattle.fallible_iterator.specs.Laws.Contract.{stays_after, stays_here}
 use Rattle.fallible_iterator.specs.Laws.Peeking.Peekable.{drawn_goes}
 
@@ -143,3 +146,12 @@ filled_with steps (s, None) q (Err e) x w t h = absurd cc
 -- what a closure answers on the item that is held is what it answers on the one that was looked at
 pub looks_at_held : {S F A R E : Type 0} (steps : S → Answered A E → S → Type 0) {g : Shared F (Bor A × Unit {0}) R} {f : F} (p q : S × Option (Option A)) (x : A) {v : R} → Fills steps p (Ok tt) q → held_item q.1 ≡ Some x → FnReturnsAt g f x v → Looks steps g f p (Ok (Some v)) q
 looks_at_held {A = A} {E = E} steps p q x {v = v} w h called = (Ok (Some x), subst (λ (a : Answered A E). Peeks steps p a q) (filled_with steps p q w.0 x w.1 w.2 h) w.1, (v, called, refl))
+
+-- ---- what it lists, where nothing is held
+
+peekable_gives : {S A E : Type 0} (steps : S → Answered A E → S → Type 0) (l : List (Result A E)) (s : S) → AlwaysGives steps s l → AlwaysGives (peekable_step steps) (s, None) l
+peekable_gives steps [] s g = λ r q w. g r q.0 w.0
+peekable_gives {A = A} steps (y ∷ l) s g = λ r q w. let d = g r q.0 w.0 in (d.0, subst (λ (held : Option (Option A)). AlwaysGives (peekable_step steps) (q.0, held) l) (sym w.1) (peekable_gives steps l q.0 d.1))
+
+pub lists_peekable : {S A E : Type 0} (m : Contract S A E) (s : Peekable S A E) (l : List (Result A E)) → peekable_parts s ≡ (s.it, None) → Lists m.steps s.it l → Lists (seen_as peekable_parts (peekable_contract m)).steps s l
+lists_peekable m s l parts i = lists_seen peekable_parts (peekable_step m.steps) s parts refl (peekable_gives m.steps l s.it i.runs)
