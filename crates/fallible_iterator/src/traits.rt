@@ -24,7 +24,7 @@ ghost use Rattle.fallible_iterator.specs.Peeking.Peekable.{peekable_parts, peeka
 ghost use Rattle.fallible_iterator.specs.Joining.Cycle.{cycle_parts};
 ghost use Rattle.fallible_iterator.specs.declared.joining.chain.StillDrawn.TheVariants.{Both};
 ghost use Rattle.fallible_iterator.specs.Collecting.{Collects, PushTurn};
-ghost use Rattle.fallible_iterator.specs.Lists.{Lists, Acts, mapped, filtered, taken, counted, filter_mapped, inspected, ActsWithState, scanned, skipped_while, taken_while, numbered, failures_mapped, pointed_to, CollectedAs, chained, skipped, stepped, zipped, NoFailureAtEnd};
+ghost use Rattle.fallible_iterator.specs.Lists.{Lists, Acts, mapped, filtered, taken, counted, filter_mapped, inspected, ActsWithState, scanned, skipped_while, taken_while, numbered, failures_mapped, pointed_to, CollectedAs, chained, skipped, stepped, zipped, NoFailureAtEnd, nth_of, folded, ActsWith, Converts};
 ghost use Rattle.fallible_iterator.specs.Folds.{CallableCarrying, Carried, CallableInFold, call_with, takes_with, FoldTurn, Folded, Counted, Nth};
 
 mod borrowed;
@@ -135,6 +135,7 @@ pub trait FallibleIterator: Drop + Sized {
         Self::Item: Drop,
         requires { contract.can self.old }
         ensures nth { Nth contract.steps self.old n result self.new }
+        ensures is { (l : List (Result Self.Item Self.Error)) → Lists contract.steps self.old l → result ≡ nth_of n l }
         ensures stays { Stays contract self.old self.new }
     {
         let mut left = n;
@@ -162,6 +163,7 @@ pub trait FallibleIterator: Drop + Sized {
         requires finite { contract.has_end self.old }
         requires callable { CallableInFold contract.steps (call_with Self.Item.as_is F.FnMut) (takes_with Self.Item.as_is F.FnMut) self.old f init }
         ensures folded { Folded contract.steps (call_with Self.Item.as_is F.FnMut) E.from_gives self.old init f result self.new }
+        ensures is { (convert : Self.Error → E) (h : B → Self.Item → Result B E) (l : List (Result Self.Item Self.Error)) → Converts E.from_gives convert → ActsWith (call_with Self.Item.as_is F.FnMut) f h → Lists contract.steps self.old l → result ≡ folded convert h init l }
         ensures stays { Stays contract self.old self.new }
     {
         let turn = |carried: (B, F), x: Self::Item| -> Result<(B, F), E>
@@ -192,7 +194,8 @@ pub trait FallibleIterator: Drop + Sized {
         requires can { contract.can self }
         requires finite { contract.has_end self }
         requires callable { CallableInFold contract.steps (call_with Self.Item.as_is F.FnMut) (takes_with Self.Item.as_is F.FnMut) self f init }
-        ensures { (left : Self) × Folded contract.steps (call_with Self.Item.as_is F.FnMut) E.from_gives self init f result left }
+        ensures folded { (left : Self) × Folded contract.steps (call_with Self.Item.as_is F.FnMut) E.from_gives self init f result left }
+        ensures is { (convert : Self.Error → E) (h : B → Self.Item → Result B E) (l : List (Result Self.Item Self.Error)) → Converts E.from_gives convert → ActsWith (call_with Self.Item.as_is F.FnMut) f h → Lists contract.steps self l → result ≡ folded convert h init l }
     {
         self.try_fold(init, f)
     }

@@ -11,10 +11,10 @@ pub returns-in-Ended-clause-counted : goal.returns-in-Ended-clause-counted
 returns-in-Ended-clause-counted g c = counted_ended (λ n x r h. search rules) c.in-Ended.ensures.carried
 
 pub returns-in-Ended-clause-is : goal.returns-in-Ended-clause-is
-returns-in-Ended-clause-is g c l i = counted_is l (counted_ended (λ n x r h. search rules) c.in-Ended.ensures.carried) i
+returns-in-Ended-clause-is g c l i = counted_is l (returns-in-Ended-clause-counted g c) i
 
 pub returns-in-Failed-clause-counted : goal.returns-in-Failed-clause-counted
 returns-in-Failed-clause-counted g c = counted_failed (λ n x r h. search rules) c.in-Failed.ensures.carried
 
 pub returns-in-Failed-clause-is : goal.returns-in-Failed-clause-is
-returns-in-Failed-clause-is g c l i = counted_is l (counted_failed (λ n x r h. search rules) c.in-Failed.ensures.carried) i
+returns-in-Failed-clause-is g c l i = counted_is l (returns-in-Failed-clause-counted g c) i
