@@ -1,8 +1,9 @@
 //! What chains of calls compute.
-ghost use Rattle.std.specs.Prelude.{◌≡◌, ◌*◌, ◌<◌, Ok, Err, nat_lt, if◌then◌else◌};
-ghost use Rattle.fallible_iterator.specs.Lists.{items, results, mapped, filtered, taken, counted};
+ghost use Rattle.std.specs.Prelude.{◌≡◌, ◌+◌, ◌*◌, ◌%◌, ◌^◌, ◌<◌, [], ◌∷◌, List, Result, Ok, Err, Option, Some, None, nat_lt, if◌then◌else◌};
+ghost use Rattle.fallible_iterator.specs.Lists.{items, results, mapped, filtered, taken, counted, nth_of, folded, collected, CollectedAs, numbered, skipped_while, taken_while, zipped, scanned, chained, Lists};
 
-use fallible_iterator::{FallibleIterator, convert};
+use fallible_iterator::{FallibleIterator, Fault, convert, once};
+use std::alloc::Global;
 
 /// How many of the numbers are above 100.
 pub fn above_100(numbers: &[u32]) -> Result<usize, u8>
@@ -40,5 +41,92 @@ pub fn all_up_to_100(readings: Vec<Result<u32, u8>>) -> Result<usize, u8>
 {
     convert(readings.into_iter())
         .map(|reading| if reading > 100 { Err(7) } else { Ok(reading) })
+        .count()
+}
+
+/// The item itself.
+pub fn fold_of_one(item: u32) -> Result<u64, u8>
+    ensures { result ≡ Ok item }
+{
+    once::<u32, u8>(item).fold(
+        0,
+        |sum: u64, item: u32| Ok(sum.wrapping_add(u64::from(item))),
+    )
+}
+
+/// The sum of the readings, modulo 2 ^ 64, or the first failure.
+pub fn sum(readings: Vec<Result<u32, u8>>) -> Result<u64, u8>
+    ensures { result ≡ folded (λ e. e) (λ s x. Ok ((s + x) % 2 ^ 64)) 0 (results readings.items) }
+{
+    convert(readings.into_iter()).fold(
+        0,
+        |sum: u64, reading: u32| Ok(sum.wrapping_add(u64::from(reading))),
+    )
+}
+
+/// The fourth of the readings above 100, or the failure or the end that comes first.
+pub fn fourth_above_100(readings: Vec<Result<u32, u8>>) -> Result<Option<u32>, u8>
+    ensures { result ≡ nth_of 3 (filtered (λ x. Ok (nat_lt 100 x)) (results readings.items)) }
+{
+    convert(readings.into_iter())
+        .filter(|reading| Ok(*reading > 100))
+        .nth(3)
+}
+
+/// The readings above 100, where memory suffices.
+pub fn collected_above_100(
+    alloc: Global,
+    readings: Vec<Result<u32, u8>>,
+) -> Result<Vec<u32>, Fault<u8>>
+    ensures { CollectedAs (λ xs v. v.items ≡ xs) (filtered (λ x. Ok (nat_lt 100 x)) (results readings.items)) result }
+{
+    convert(readings.into_iter())
+        .filter(|reading| Ok(*reading > 100))
+        .collect(alloc)
+}
+
+/// The running sums of the readings, modulo 2 ^ 64, where memory suffices.
+pub fn running_sums(alloc: Global, readings: Vec<Result<u32, u8>>) -> Result<Vec<u64>, Fault<u8>>
+    ensures { CollectedAs (λ xs v. v.items ≡ xs) (scanned (λ s x. (Ok (Some ((s + x) % 2 ^ 64)), (s + x) % 2 ^ 64)) 0 (results readings.items)) result }
+{
+    convert(readings.into_iter())
+        .scan(0, |sum: &mut u64, reading: u32| {
+            *sum = sum.wrapping_add(u64::from(reading));
+            Ok(Some(*sum))
+        })
+        .collect(alloc)
+}
+
+/// The sum of the products of two columns, place by place, modulo 2 ^ 64.
+pub fn products(left: &[u32], right: &[u32]) -> Result<u64, u8>
+    ensures { result ≡ folded (λ e. e) (λ s p. Ok ((s + p.0 * p.1) % 2 ^ 64)) 0 (zipped (items left.now) (items right.now)) }
+{
+    convert(left.iter().copied().map(Ok::<u32, u8>))
+        .zip(convert(right.iter().copied().map(Ok)))
+        .fold(
+            0,
+            |sum: u64, pair: (u32, u32)| Ok(sum.wrapping_add(
+                u64::from(pair.0) * u64::from(pair.1),
+            )),
+        )
+}
+
+/// The readings above 100 with their places, from the first one that is above 10 on and up to the first one that is 0.
+pub fn places(alloc: Global, readings: Vec<Result<u32, u8>>) -> Result<Vec<(usize, u32)>, Fault<u8>>
+    ensures { CollectedAs (λ xs v. v.items ≡ xs) (taken_while (λ p. Ok (nat_lt 0 p.1)) (skipped_while (λ p. Ok (nat_lt p.1 11)) (numbered 0 (results readings.items)))) result }
+{
+    convert(readings.into_iter())
+        .enumerate()
+        .skip_while(|place| Ok(place.1 < 11))
+        .take_while(|place| Ok(0 < place.1))
+        .collect(alloc)
+}
+
+/// How many numbers two columns have together.
+pub fn both_columns(left: &[u32], right: &[u32]) -> Result<usize, u8>
+    ensures { result ≡ counted (chained (items left.now) (items right.now)) }
+{
+    convert(left.iter().copied().map(Ok))
+        .chain(convert(right.iter().copied().map(Ok)))
         .count()
 }

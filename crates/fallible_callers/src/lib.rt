@@ -3,3 +3,4 @@
 
 pub mod computing;
 pub mod drawing;
+pub mod generic;

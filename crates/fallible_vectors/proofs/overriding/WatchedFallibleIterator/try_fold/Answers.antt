@@ -1,6 +1,7 @@
 -- The source's fold is that of the whole, since its steps are.
 use Rattle.std.proofs.Common.{refl}
 use Rattle.fallible_iterator.proofs.Lemmas.Overriding.{holds_held, folded_held}
+use Rattle.fallible_iterator.proofs.Lemmas.Lists.Drawn.{folded_is}
 use Rattle.fallible_vectors.specs.declared.overriding.Watched.{Watched}
 use Rattle.fallible_vectors.proofs.overriding.WatchedFallibleIterator.try_fold.Goals as goal
 
@@ -13,3 +14,6 @@ try_fold-requires-clause-callable g c = holds_held (λ w. w.it) put (λ w it. re
 
 pub returns-clause-folded : goal.returns-clause-folded
 returns-clause-folded g c = folded_held (λ w. w.it) put (λ w it. refl) g.I.FallibleIterator.contract c.try_fold.ensures.folded
+
+pub returns-clause-is : goal.returns-clause-is
+returns-clause-is g c convert h l converts acts i = folded_is _ _ convert h _ acts converts l (returns-clause-folded g c) i

@@ -1,0 +1,30 @@
+//! Callers over any fallible iterator.
+ghost use Rattle.std.specs.Prelude.{◌≡◌, ◌+◌, ◌*◌, ◌%◌, ◌^◌, ℕ, List, Result, Ok, nat_lt};
+ghost use Rattle.fallible_iterator.specs.Lists.{Lists, results, mapped, filtered, taken, folded};
+
+use fallible_iterator::{FallibleIterator, convert};
+
+/// The sum of the items, modulo 2 ^ 64, or the first failure.
+pub fn sum_of<I: FallibleIterator<Item = u32>>(it: I) -> Result<u64, I::Error>
+where
+    requires can { I.contract.can it }
+    requires finite { I.contract.has_end it }
+    ensures { (l : List (Result ℕ I.Error)) → Lists I.contract.steps it l → result ≡ folded (λ e. e) (λ s x. Ok ((s + x) % 2 ^ 64)) 0 l }
+{
+    it.fold(
+        0,
+        |sum: u64, item: u32| Ok(sum.wrapping_add(u64::from(item))),
+    )
+}
+
+/// The sum of the first three readings above 100, doubled.
+pub fn sum_of_nest(readings: Vec<Result<u32, u8>>) -> Result<u64, u8>
+    ensures { result ≡ folded (λ e. e) (λ s x. Ok ((s + x) % 2 ^ 64)) 0 (taken 3 (mapped (λ x. Ok (x * 2 % 2 ^ 32)) (filtered (λ x. Ok (nat_lt 100 x)) (results readings.items)))) }
+{
+    sum_of(
+        convert(readings.into_iter())
+            .filter(|reading| Ok(*reading > 100))
+            .map(|reading: u32| Ok(reading.wrapping_mul(2)))
+            .take(3),
+    )
+}
