@@ -187,6 +187,16 @@ unfoldable pub chained : {A E : Type 0} → List (Result A E) → List (Result A
 chained [] b = b
 chained (y ∷ a) b = y ∷ chained a b
 
+-- Whatever iterator `into` allows for an item x, its answers list `inner x`.
+abbrev pub EachLists : {X C B E : Type 0} → (X → C → Type 0) → (C → Answered B E → C → Type 0) → (X → List (Result B E)) → Type 0
+EachLists {X} {C} into steps inner = (x : X) (c : C) → into x c → Lists steps c (inner x)
+
+-- the list `inner x` in the place of each item x; failures stay in their places
+unfoldable pub flattened : {X B E : Type 0} → (X → List (Result B E)) → List (Result X E) → List (Result B E)
+flattened inner [] = []
+flattened inner (Ok x ∷ l) = chained (inner x) (flattened inner l)
+flattened inner (Err e ∷ l) = Err e ∷ flattened inner l
+
 -- without the first n items; failures don't count, and stay
 unfoldable pub skipped : {A E : Type 0} → ℕ → List (Result A E) → List (Result A E)
 skipped n [] = []

@@ -19,12 +19,12 @@ ghost use Rattle.fallible_iterator.specs.Cutting.Skip.{skip_parts, skip_contract
 ghost use Rattle.fallible_iterator.specs.Cutting.StepBy.{step_by_parts, step_by_contract};
 ghost use Rattle.fallible_iterator.specs.Joining.Chain.{chain_parts, chain_contract};
 ghost use Rattle.fallible_iterator.specs.Joining.Zip.{zip_parts, zip_contract};
-ghost use Rattle.fallible_iterator.specs.Joining.Flatten.{flatten_parts, flat_map_parts};
+ghost use Rattle.fallible_iterator.specs.Joining.Flatten.{flatten_parts, flat_map_parts, flatten_contract};
 ghost use Rattle.fallible_iterator.specs.Peeking.Peekable.{peekable_parts, peekable_contract};
 ghost use Rattle.fallible_iterator.specs.Joining.Cycle.{cycle_parts};
 ghost use Rattle.fallible_iterator.specs.declared.joining.chain.StillDrawn.TheVariants.{Both};
 ghost use Rattle.fallible_iterator.specs.Collecting.{Collects, PushTurn};
-ghost use Rattle.fallible_iterator.specs.Lists.{Lists, Acts, mapped, filtered, taken, counted, filter_mapped, inspected, ActsWithState, scanned, skipped_while, taken_while, numbered, failures_mapped, pointed_to, CollectedAs, chained, skipped, stepped, zipped, NoFailureAtEnd, nth_of, folded, ActsWith, Converts};
+ghost use Rattle.fallible_iterator.specs.Lists.{Lists, Acts, EachLists, flattened, mapped, filtered, taken, counted, filter_mapped, inspected, ActsWithState, scanned, skipped_while, taken_while, numbered, failures_mapped, pointed_to, CollectedAs, chained, skipped, stepped, zipped, NoFailureAtEnd, nth_of, folded, ActsWith, Converts};
 ghost use Rattle.fallible_iterator.specs.Folds.{CallableCarrying, Carried, CallableInFold, call_with, takes_with, FoldTurn, Folded, Counted, Nth};
 
 mod borrowed;
@@ -432,7 +432,8 @@ pub trait FallibleIterator: Drop + Sized {
     where
         Self::Item: IntoFallibleIterator<Error = Self::Error>,
         requires { contract.has_end self }
-        ensures { flatten_parts result ≡ (self, None) }
+        ensures parts { flatten_parts result ≡ (self, None) }
+        ensures lists { (inner : Self.Item → List (Result Self.Item.Item Self.Error)) (l : List (Result Self.Item Self.Error)) → EachLists Self.Item.into_gives Self.Item.IntoFallibleIter.contract.steps inner → Lists contract.steps self l → Lists (seen_as flatten_parts (flatten_contract contract Self.Item.into_gives Self.Item.IntoFallibleIter.contract)).steps result (flattened inner l) }
     {
         Flatten {
             it: self,
@@ -451,6 +452,7 @@ pub trait FallibleIterator: Drop + Sized {
         requires callable { IsCallable (call_on F.FnMut) (takes_on F.FnMut) (contract.gives self) f }
         ensures outer { map_parts (flat_map_parts result).0 ≡ (self, Some f) }
         ensures in_hand { (flat_map_parts result).1 ≡ None }
+        ensures lists { (inner : U → List (Result U.Item Self.Error)) (h : Self.Item → Result U Self.Error) (l : List (Result Self.Item Self.Error)) → EachLists U.into_gives U.IntoFallibleIter.contract.steps inner → Acts (call_on F.FnMut) f h → Lists contract.steps self l → Lists (seen_as flat_map_parts (flatten_contract (seen_as map_parts (map_contract contract F.FnMut)) U.into_gives U.IntoFallibleIter.contract)).steps result (flattened inner (mapped h l)) }
     {
         FlatMap {
             it: self.map(f),
