@@ -20,6 +20,7 @@ ghost use Rattle.fallible_iterator.specs.Cutting.StepBy.{step_by_parts, step_by_
 ghost use Rattle.fallible_iterator.specs.Joining.Chain.{chain_parts, chain_contract};
 ghost use Rattle.fallible_iterator.specs.Joining.Zip.{zip_parts, zip_contract};
 ghost use Rattle.fallible_iterator.specs.Joining.Flatten.{flatten_parts, flat_map_parts, flatten_contract};
+ghost use Rattle.fallible_iterator.specs.Borrowed.{borrowed};
 ghost use Rattle.fallible_iterator.specs.Peeking.Peekable.{peekable_parts, peekable_contract};
 ghost use Rattle.fallible_iterator.specs.Joining.Cycle.{cycle_parts};
 ghost use Rattle.fallible_iterator.specs.declared.joining.chain.StillDrawn.TheVariants.{Both};
@@ -534,6 +535,7 @@ pub trait FallibleIterator: Drop + Sized {
     final fn by_ref(&mut self) -> &mut Self
         ensures value { result.now ≡ self.old }
         ensures same_reference { result.ghost_name ≡ self.entry.ghost_name }
+        ensures lists { (l : List (Result Self.Item Self.Error)) → Lists contract.steps self.old l → Lists (borrowed contract).steps result l }
     {
         self
     }
