@@ -3,7 +3,7 @@ use Rattle.std.specs.Prelude.{◌≡◌, ℕ, ◌+◌, zero, suc, ◌≤◌, ◌
 use Rattle.std.specs.Iterator.Runs.{EachRunFrom}
 use Rattle.std.specs.Borrow.{Bor}
 use Rattle.std.specs.declared.option.Option.{Option}
-use Rattle.fallible_iterator.specs.Traces.{Answered, end}
+use Rattle.fallible_iterator.specs.Traces.{Answered, Run, end}
 use Rattle.fallible_iterator.specs.declared.collecting.Fault.{Fault}
 use Rattle.fallible_iterator.specs.declared.collecting.Fault.TheVariants.{Source, Memory}
 
@@ -21,6 +21,10 @@ module _ {S A E : Type 0} (steps : S → Answered A E → S → Type 0) where
   -- The answers of s, up to its first end, list l.
   pub record Lists (s : S) (l : List (Result A E)) : Type 0 where
     pub runs : AlwaysGives s l
+
+  -- Whatever is drawn from s, each answer is y.
+  pub record Repeats (s : S) (y : Result A E) : Type 0 where
+    pub each : (trace : List (Answered A E)) (t u : S) (r : Answered A E) → Run steps s trace t → steps t r u → r ≡ result_answer y
 
 -- The closure f acts as the function h: called on x it answers h x, and stays as it is.
 abbrev pub Acts : {F X R : Type 0} → (F → X → R → F → Type 0) → F → (X → R) → Type 0
@@ -130,6 +134,11 @@ unfoldable pub taken_while : {X E : Type 0} → (X → Result Bool E) → List (
 taken_while h [] = []
 taken_while h (Ok x ∷ l) = cons_while x (h x) (taken_while h l)
 taken_while h (Err e ∷ l) = Err e ∷ taken_while h l
+
+-- n times the item x
+unfoldable pub repeated : {A E : Type 0} → ℕ → A → List (Result A E)
+repeated zero x = []
+repeated (suc n) x = Ok x ∷ repeated n x
 
 -- each item beside its number, from n on; failures have none
 unfoldable pub numbered : {A E : Type 0} → ℕ → List (Result A E) → List (Result (ℕ × A) E)
