@@ -3,7 +3,7 @@ use Rattle.std.specs.Prelude.{◌≡◌, ℕ, ◌+◌, zero, suc, ◌≤◌, ◌
 use Rattle.std.specs.Iterator.Runs.{EachRunFrom}
 use Rattle.std.specs.Borrow.{Bor}
 use Rattle.std.specs.declared.option.Option.{Option}
-use Rattle.fallible_iterator.specs.Traces.{Answered, end}
+use Rattle.fallible_iterator.specs.Traces.{Answered, Run, end}
 use Rattle.fallible_iterator.specs.declared.collecting.Fault.{Fault}
 use Rattle.fallible_iterator.specs.declared.collecting.Fault.TheVariants.{Source, Memory}
 
@@ -21,6 +21,10 @@ module _ {S A E : Type 0} (steps : S → Answered A E → S → Type 0) where
   -- The answers of s, up to its first end, list l.
   pub record Lists (s : S) (l : List (Result A E)) : Type 0 where
     pub runs : AlwaysGives s l
+
+  -- Whatever is drawn from s, each answer is y.
+  pub record Repeats (s : S) (y : Result A E) : Type 0 where
+    pub each : (trace : List (Answered A E)) (t u : S) (r : Answered A E) → Run steps s trace t → steps t r u → r ≡ result_answer y
 
 -- The closure f acts as the function h: called on x it answers h x, and stays as it is.
 abbrev pub Acts : {F X R : Type 0} → (F → X → R → F → Type 0) → F → (X → R) → Type 0
@@ -131,6 +135,11 @@ taken_while h [] = []
 taken_while h (Ok x ∷ l) = cons_while x (h x) (taken_while h l)
 taken_while h (Err e ∷ l) = Err e ∷ taken_while h l
 
+-- n times the item x
+unfoldable pub repeated : {A E : Type 0} → ℕ → A → List (Result A E)
+repeated zero x = []
+repeated (suc n) x = Ok x ∷ repeated n x
+
 -- each item beside its number, from n on; failures have none
 unfoldable pub numbered : {A E : Type 0} → ℕ → List (Result A E) → List (Result (ℕ × A) E)
 numbered n [] = []
@@ -187,6 +196,16 @@ unfoldable pub chained : {A E : Type 0} → List (Result A E) → List (Result A
 chained [] b = b
 chained (y ∷ a) b = y ∷ chained a b
 
+-- Whatever iterator `into` allows for an item x, its answers list `inner x`.
+abbrev pub EachLists : {X C B E : Type 0} → (X → C → Type 0) → (C → Answered B E → C → Type 0) → (X → List (Result B E)) → Type 0
+EachLists {X} {C} into steps inner = (x : X) (c : C) → into x c → Lists steps c (inner x)
+
+-- the list `inner x` in the place of each item x; failures stay in their places
+unfoldable pub flattened : {X B E : Type 0} → (X → List (Result B E)) → List (Result X E) → List (Result B E)
+flattened inner [] = []
+flattened inner (Ok x ∷ l) = chained (inner x) (flattened inner l)
+flattened inner (Err e ∷ l) = Err e ∷ flattened inner l
+
 -- without the first n items; failures don't count, and stay
 unfoldable pub skipped : {A E : Type 0} → ℕ → List (Result A E) → List (Result A E)
 skipped n [] = []
@@ -194,7 +213,7 @@ skipped n (Err e ∷ l) = Err e ∷ skipped n l
 skipped zero (Ok x ∷ l) = Ok x ∷ skipped zero l
 skipped (suc n) (Ok x ∷ l) = skipped n l
 
--- without the first n items, and then without those between two of which the second comes `between` items after the first; failures don't count, and stay
+-- without the first n items, and from there on without the `between` items after each one that is kept; failures don't count, and stay
 unfoldable pub stepped : {A E : Type 0} → ℕ → ℕ → List (Result A E) → List (Result A E)
 stepped between n [] = []
 stepped between n (Err e ∷ l) = Err e ∷ stepped between n l
@@ -219,10 +238,14 @@ NoFailureAtEnd (Ok x ∷ a) [] = ⊤
 NoFailureAtEnd (Ok x ∷ a) (y ∷ b) = NoFailureAtEnd a b
 
 -- The collection is one of the list's items, the source's failure the list's first; want of memory says nothing of the list.
-abbrev pub CollectedAs : {A E C : Type 0} → (List A → C → Type 0) → List (Result A E) → Result C (Fault E) → Type 0
-CollectedAs {A = A} made l (Ok c) = (xs : List A) × (collected l ≡ Ok xs) × made xs c
-CollectedAs made l (Err (Source e)) = collected l ≡ Err e
-CollectedAs made l (Err (Memory a)) = ⊤
+abbrev pub CollectedBy : {A E C : Type 0} → (List A → C → Type 0) → List (Result A E) → Result C (Fault E) → Type 0
+CollectedBy {A = A} made l (Ok c) = (xs : List A) × (collected l ≡ Ok xs) × made xs c
+CollectedBy made l (Err (Source e)) = collected l ≡ Err e
+CollectedBy made l (Err (Memory a)) = ⊤
+
+-- What `collect` answers over the list.
+pub record CollectedAs {A E C : Type 0} (made : List A → C → Type 0) (l : List (Result A E)) (r : Result C (Fault E)) : Type 0 where
+  pub by : CollectedBy made l r
 
 -- what f makes of the value, where there is one
 abbrev pub on_value : {A B E : Type 0} → Result A E → (A → Result B E) → Result B E

@@ -19,12 +19,13 @@ ghost use Rattle.fallible_iterator.specs.Cutting.Skip.{skip_parts, skip_contract
 ghost use Rattle.fallible_iterator.specs.Cutting.StepBy.{step_by_parts, step_by_contract};
 ghost use Rattle.fallible_iterator.specs.Joining.Chain.{chain_parts, chain_contract};
 ghost use Rattle.fallible_iterator.specs.Joining.Zip.{zip_parts, zip_contract};
-ghost use Rattle.fallible_iterator.specs.Joining.Flatten.{flatten_parts, flat_map_parts};
+ghost use Rattle.fallible_iterator.specs.Joining.Flatten.{flatten_parts, flat_map_parts, flatten_contract};
+ghost use Rattle.fallible_iterator.specs.Borrowed.{borrowed};
 ghost use Rattle.fallible_iterator.specs.Peeking.Peekable.{peekable_parts, peekable_contract};
 ghost use Rattle.fallible_iterator.specs.Joining.Cycle.{cycle_parts};
 ghost use Rattle.fallible_iterator.specs.declared.joining.chain.StillDrawn.TheVariants.{Both};
 ghost use Rattle.fallible_iterator.specs.Collecting.{Collects, PushTurn};
-ghost use Rattle.fallible_iterator.specs.Lists.{Lists, Acts, mapped, filtered, taken, counted, filter_mapped, inspected, ActsWithState, scanned, skipped_while, taken_while, numbered, failures_mapped, pointed_to, CollectedAs, chained, skipped, stepped, zipped, NoFailureAtEnd, nth_of, folded, ActsWith, Converts};
+ghost use Rattle.fallible_iterator.specs.Lists.{Lists, Acts, Repeats, repeated, EachLists, flattened, mapped, filtered, taken, counted, filter_mapped, inspected, ActsWithState, scanned, skipped_while, taken_while, numbered, failures_mapped, pointed_to, CollectedAs, chained, skipped, stepped, zipped, NoFailureAtEnd, nth_of, folded, ActsWith, Converts};
 ghost use Rattle.fallible_iterator.specs.Folds.{CallableCarrying, Carried, CallableInFold, call_with, takes_with, FoldTurn, Folded, Counted, Nth};
 
 mod borrowed;
@@ -236,6 +237,7 @@ pub trait FallibleIterator: Drop + Sized {
     final fn take(self, n: usize) -> Take<Self>
         ensures parts { take_parts result ≡ (self, n) }
         ensures lists { (l : List (Result Self.Item Self.Error)) → Lists contract.steps self l → Lists (seen_as take_parts (take_contract contract)).steps result (taken n l) }
+        ensures repeats { (x : Self.Item) → Repeats contract.steps self (Ok x) → Lists (seen_as take_parts (take_contract contract)).steps result (repeated n x) }
     {
         Take { it: self, left: n }
     }
@@ -402,7 +404,7 @@ pub trait FallibleIterator: Drop + Sized {
         ensures front { (chain_parts result).0 ≡ self }
         ensures back { I.into_gives it (chain_parts result).1 }
         ensures sides { (chain_parts result).2 ≡ Both }
-        ensures lists { (a b : List (Result Self.Item Self.Error)) → Lists contract.steps self a → Lists I.IntoFallibleIter.contract.steps (chain_parts result).1 b → Lists (seen_as chain_parts (chain_contract contract I.IntoFallibleIter.contract)).steps result (chained a b) }
+        ensures lists { (a b : List (Result Self.Item Self.Error)) → Lists contract.steps self a → ((back : I.IntoFallibleIter) → I.into_gives it back → Lists I.IntoFallibleIter.contract.steps back b) → Lists (seen_as chain_parts (chain_contract contract I.IntoFallibleIter.contract)).steps result (chained a b) }
     {
         Chain {
             front: self,
@@ -417,7 +419,8 @@ pub trait FallibleIterator: Drop + Sized {
         I: IntoFallibleIterator<Error = Self::Error>,
         ensures left { (zip_parts result).0 ≡ self }
         ensures right { I.into_gives o (zip_parts result).1 }
-        ensures lists { (a : List (Result Self.Item Self.Error)) (b : List (Result I.Item Self.Error)) → NoFailureAtEnd a b → Lists contract.steps self a → Lists I.IntoFallibleIter.contract.steps (zip_parts result).1 b → Lists (seen_as zip_parts (zip_contract contract I.IntoFallibleIter.contract)).steps result (zipped a b) }
+        ensures lists { (a : List (Result Self.Item Self.Error)) (b : List (Result I.Item Self.Error)) → NoFailureAtEnd a b → Lists contract.steps self a → ((right : I.IntoFallibleIter) → I.into_gives o right → Lists I.IntoFallibleIter.contract.steps right b) → Lists (seen_as zip_parts (zip_contract contract I.IntoFallibleIter.contract)).steps result (zipped a b) }
+        ensures items { (a : List (Result Self.Item Self.Error)) (b : List I.Item) → Lists contract.steps self a → ((right : I.IntoFallibleIter) → I.into_gives o right → Lists I.IntoFallibleIter.contract.steps right (items b)) → Lists (seen_as zip_parts (zip_contract contract I.IntoFallibleIter.contract)).steps result (zipped a (items b)) }
     {
         Zip {
             left: self,
@@ -432,7 +435,8 @@ pub trait FallibleIterator: Drop + Sized {
     where
         Self::Item: IntoFallibleIterator<Error = Self::Error>,
         requires { contract.has_end self }
-        ensures { flatten_parts result ≡ (self, None) }
+        ensures parts { flatten_parts result ≡ (self, None) }
+        ensures lists { (inner : Self.Item → List (Result Self.Item.Item Self.Error)) (l : List (Result Self.Item Self.Error)) → EachLists Self.Item.into_gives Self.Item.IntoFallibleIter.contract.steps inner → Lists contract.steps self l → Lists (seen_as flatten_parts (flatten_contract contract Self.Item.into_gives Self.Item.IntoFallibleIter.contract)).steps result (flattened inner l) }
     {
         Flatten {
             it: self,
@@ -451,6 +455,7 @@ pub trait FallibleIterator: Drop + Sized {
         requires callable { IsCallable (call_on F.FnMut) (takes_on F.FnMut) (contract.gives self) f }
         ensures outer { map_parts (flat_map_parts result).0 ≡ (self, Some f) }
         ensures in_hand { (flat_map_parts result).1 ≡ None }
+        ensures lists { (inner : U → List (Result U.Item Self.Error)) (h : Self.Item → Result U Self.Error) (l : List (Result Self.Item Self.Error)) → EachLists U.into_gives U.IntoFallibleIter.contract.steps inner → Acts (call_on F.FnMut) f h → Lists contract.steps self l → Lists (seen_as flat_map_parts (flatten_contract (seen_as map_parts (map_contract contract F.FnMut)) U.into_gives U.IntoFallibleIter.contract)).steps result (flattened inner (mapped h l)) }
     {
         FlatMap {
             it: self.map(f),
@@ -532,6 +537,7 @@ pub trait FallibleIterator: Drop + Sized {
     final fn by_ref(&mut self) -> &mut Self
         ensures value { result.now ≡ self.old }
         ensures same_reference { result.ghost_name ≡ self.entry.ghost_name }
+        ensures lists { (l : List (Result Self.Item Self.Error)) → Lists contract.steps self.old l → Lists (borrowed contract).steps result l }
     {
         self
     }

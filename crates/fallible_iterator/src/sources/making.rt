@@ -2,13 +2,13 @@
 ghost use Rattle.std.specs.Prelude.{◌≡◌, Some, None, Ok, Err, List, [], ◌∷◌, Result, ⊤};
 ghost use Rattle.fallible_iterator.specs.Sources.Convert.{convert_parts, convert_contract};
 ghost use Rattle.fallible_iterator.specs.Contract.{seen_as};
-ghost use Rattle.fallible_iterator.specs.Lists.{Lists, RunsRead, results, items};
+ghost use Rattle.fallible_iterator.specs.Lists.{Lists, RunsRead, Repeats, results, items};
 ghost use Rattle.fallible_iterator.specs.Sources.FromFn.{from_fn_parts, call_of_none};
 ghost use Rattle.fallible_iterator.specs.Sources.Once.{once_parts, once_contract};
 ghost use Rattle.fallible_iterator.specs.Sources.Empty.{empty_contract};
 ghost use Rattle.fallible_iterator.specs.Sources.OnceErr.{once_err_parts, once_err_contract};
-ghost use Rattle.fallible_iterator.specs.Sources.Repeat.{repeat_parts};
-ghost use Rattle.fallible_iterator.specs.Sources.RepeatErr.{repeat_err_parts};
+ghost use Rattle.fallible_iterator.specs.Sources.Repeat.{repeat_parts, repeat_contract};
+ghost use Rattle.fallible_iterator.specs.Sources.RepeatErr.{repeat_err_parts, repeat_err_contract};
 ghost use Rattle.fallible_iterator.specs.Closures.{IsCallable};
 
 use crate::sources::{Convert, Empty, FromFn, Once, OnceErr, Repeat, RepeatErr};
@@ -68,7 +68,8 @@ pub fn empty<T, E>() -> Empty<T, E>
 
 /// Makes a fallible iterator that always gives a clone of `value`.
 pub fn repeat<T: Clone, E: From<AllocError>>(value: T) -> Repeat<T, E>
-    ensures { repeat_parts result ≡ value }
+    ensures parts { repeat_parts result ≡ value }
+    ensures repeats { T.is_infallible value → ((x : T) → T.is_clone value x → x ≡ value) → Repeats (seen_as repeat_parts (repeat_contract T.is_clone T.is_infallible E.from_gives)).steps result (Ok value) }
 {
     Repeat {
         value,
@@ -78,7 +79,8 @@ pub fn repeat<T: Clone, E: From<AllocError>>(value: T) -> Repeat<T, E>
 
 /// Makes a fallible iterator that always fails with a clone of `error`.
 pub fn repeat_err<T, E: Clone + From<AllocError>>(error: E) -> RepeatErr<T, E>
-    ensures { repeat_err_parts result ≡ error }
+    ensures parts { repeat_err_parts result ≡ error }
+    ensures repeats { E.is_infallible error → ((e : E) → E.is_clone error e → e ≡ error) → Repeats (seen_as repeat_err_parts (repeat_err_contract {A = T} E.is_clone E.is_infallible E.from_gives)).steps result (Err error) }
 {
     RepeatErr {
         item: PhantomData,

@@ -4,7 +4,7 @@ use Rattle.std.specs.declared.result.Result.{Result}
 use Rattle.std.proofs.Common.{refl, ap, subst, arith}
 use Rattle.fallible_iterator.specs.declared.cutting.take.Take.{Take}
 use Rattle.fallible_iterator.specs.Contract.{Contract, seen_as}
-use Rattle.fallible_iterator.specs.Lists.{AlwaysGives, Lists, taken}
+use Rattle.fallible_iterator.specs.Lists.{AlwaysGives, Lists, Repeats, taken, repeated}
 use Rattle.fallible_iterator.proofs.Lemmas.Lists.Passing.{lists_seen}
 use Rattle.fallible_iterator.specs.Traces.{Answered, Run, end, items_in}
 use Rattle.fallible_iterator.specs.Cutting.Take.{TakeTrace, take_step, take_parts, take_contract}
@@ -83,5 +83,17 @@ module _ {S A E : Type 0} (steps : S → Answered A E → S → Type 0) where
   taken_gives (Ok x ∷ l) s (suc n) a = λ r t w. let d = a r t.0 w.0 in (d.0, subst (λ (k : ℕ). Gives t.0 k (taken n l)) (let counts : t.1 + items_in (r ∷ []) ≡ suc n = w.1 in let one : items_in (r ∷ []) ≡ 1 = ap (λ (q : Answered A E). items_in (q ∷ [])) d.0 in omega (arith, counts, one)) (taken_gives l t.0 n d.1))
   taken_gives (Err e ∷ l) s (suc n) a = λ r t w. let d = a r t.0 w.0 in (d.0, subst (λ (k : ℕ). Gives t.0 k (taken (suc n) l)) (let counts : t.1 + items_in (r ∷ []) ≡ suc n = w.1 in let none : items_in (r ∷ []) ≡ 0 = ap (λ (q : Answered A E). items_in (q ∷ [])) d.0 in omega (arith, counts, none)) (taken_gives l t.0 (suc n) d.1))
 
+  -- a source that repeats an item does so after a draw
+  repeats_after : (s t : S) (r : Answered A E) (y : Result A E) → Repeats steps s y → steps s r t → Repeats steps t y
+  repeats_after s t r y p step = record { each = λ trace u v q ran last. p.each (r ∷ trace) u v q (t, step, ran) last }
+
+  repeated_gives : (n : ℕ) (s : S) (x : A) → Repeats steps s (Ok x) → Gives s n (repeated n x)
+  unfolding repeated
+  repeated_gives zero s x p = λ r t w. w.0
+  repeated_gives (suc n) s x p = λ r t w. let is : r ≡ Ok (Some x) = p.each [] s t.0 r refl w.0 in (is, subst (λ (k : ℕ). Gives t.0 k (repeated n x)) (let counts : t.1 + items_in (r ∷ []) ≡ suc n = w.1 in let one : items_in (r ∷ []) ≡ 1 = ap (λ (q : Answered A E). items_in (q ∷ [])) is in omega (arith, counts, one)) (repeated_gives n t.0 x (repeats_after s t.0 r (Ok x) p w.0)))
+
 pub lists_taken : {S A E : Type 0} (m : Contract S A E) (s : Take S) (n : ℕ) (l : List (Result A E)) → take_parts s ≡ (s.it, n) → Lists m.steps s.it l → Lists (seen_as take_parts (take_contract m)).steps s (taken n l)
 lists_taken m s n l parts i = lists_seen take_parts (take_step m.steps) s parts refl (taken_gives m.steps l s.it n i.runs)
+
+pub lists_repeated : {S A E : Type 0} (m : Contract S A E) (s : Take S) (n : ℕ) (x : A) → take_parts s ≡ (s.it, n) → Repeats m.steps s.it (Ok x) → Lists (seen_as take_parts (take_contract m)).steps s (repeated n x)
+lists_repeated m s n x parts p = lists_seen take_parts (take_step m.steps) s parts refl (repeated_gives m.steps n s.it x p)

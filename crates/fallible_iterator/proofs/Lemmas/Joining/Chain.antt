@@ -69,6 +69,10 @@ module _ {S U A E : Type 0} (steps : S → Answered A E → S → Type 0) (other
 
 -- ---- what it lists
 
+pub not_end : {A E : Type 0} (y : Result A E) → end ≡ result_answer y → ⊥
+not_end (Ok x) e = absurd cc
+not_end (Err x) e = absurd cc
+
 module _ {S U A E : Type 0} (steps : S → Answered A E → S → Type 0) (others : U → Answered A E → U → Type 0) where
   abbrev Gives : S → U → StillDrawn → List (Result A E) → Type 0
   Gives s u drawn l = AlwaysGives (chain_step steps others) (s, u, drawn) l
@@ -76,10 +80,6 @@ module _ {S U A E : Type 0} (steps : S → Answered A E → S → Type 0) (other
   back_gives : (b : List (Result A E)) (s : S) (u : U) → AlwaysGives others u b → Gives s u BackAlone b
   back_gives [] s u g = λ r q w. g r q.1 w.0
   back_gives (y ∷ b) s u g = λ r q w. let d = g r q.1 w.0 in (d.0, subst (λ (k : StillDrawn). Gives q.0 q.1 k b) (sym w.2) (back_gives b q.0 q.1 d.1))
-
-  not_end : (y : Result A E) → end ≡ result_answer y → ⊥
-  not_end (Ok x) e = absurd cc
-  not_end (Err x) e = absurd cc
 
   -- one draw at the front's end
   ended_gives : (b : List (Result A E)) (s : S) (u : U) → AlwaysGives {A = A} {E = E} steps s [] → AlwaysGives others u b → Gives s u Both b

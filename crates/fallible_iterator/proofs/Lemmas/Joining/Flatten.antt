@@ -1,15 +1,21 @@
--- The runs of `Flatten` are the traces that its definition names, and one draw of it is a fold that stops.
+-- The runs of `Flatten` are the traces that its definition names, one draw of it is a fold that stops, and what it lists.
 use Rattle.std.specs.Prelude.{◌≡◌, false, List, [], ◌∷◌, ◌++◌, map, Option, Result, Some, None, Ok, Err}
 use Rattle.std.specs.List.{FoldsTo, flat_map}
 use Rattle.std.proofs.Common.{refl, sym, ◌∙◌, ap, subst}
 use Rattle.std.proofs.lemmas.List.{append-nil}
 use Rattle.fallible_iterator.specs.declared.folds.Exit.{Exit}
 use Rattle.fallible_iterator.specs.Traces.{Answered, Run, item, failure, end, is_end}
-use Rattle.fallible_iterator.specs.Contract.{Contract, Lawful}
+use Rattle.fallible_iterator.specs.Contract.{Contract, Lawful, seen_as}
+use Rattle.fallible_iterator.specs.declared.one_to_one.map.Map.{Map}
+use Rattle.fallible_iterator.specs.declared.joining.flatten.Flatten.{Flatten}
+use Rattle.fallible_iterator.specs.declared.joining.flatten.FlatMap.{FlatMap}
+use Rattle.fallible_iterator.specs.Lists.{AlwaysGives, Lists, EachLists, result_answer, chained, flattened}
+use Rattle.fallible_iterator.proofs.Lemmas.Lists.Passing.{gives_if, lists_seen}
+use Rattle.fallible_iterator.proofs.Lemmas.Joining.Chain.{not_end}
 use Rattle.fallible_iterator.specs.Folds.{HoldsAtEachTurn, carrying_turn, CarryingExit, Carried, stopped_answer, unpacked}
 use Rattle.fallible_iterator.proofs.Lemmas.Definitions.{FirstOf, IsByAnswers}
 use Rattle.fallible_iterator.proofs.Lemmas.Contract.{given_after}
-use Rattle.fallible_iterator.specs.Joining.Flatten.{FlattenTrace, BeginTurn, EachInner, Part, of_inner, of_failure, of_end, outer_answer, part_answers, Finished, FinishedPart, LastPart, FinishedInHand, Joined, FlattenAnswers, nothing_drawn, still_in_hand, outer_drawn}
+use Rattle.fallible_iterator.specs.Joining.Flatten.{flatten_parts, flat_map_parts, flatten_contract, FlattenTrace, BeginTurn, EachInner, Part, of_inner, of_failure, of_end, outer_answer, part_answers, Finished, FinishedPart, LastPart, FinishedInHand, Joined, FlattenAnswers, nothing_drawn, still_in_hand, outer_drawn}
 use Rattle.fallible_iterator.specs.Laws.Joining.Flatten.{Flattens, done, gives, fails, finishes, begins, outer_fails, outer_ends, to_flattens}
 
 module _ {S X C B E : Type 0} (outer : S → Answered X E → S → Type 0) (into : X → C → Type 0) (inner : C → Answered B E → C → Type 0) where
@@ -159,3 +165,79 @@ module _ {S X C B E : Type 0} (outer : S → Answered X E → S → Type 0) (int
 -- each turn of such a fold begins an inner iterator that may be drawn from
 pub callable_begins : {S X C B E : Type 0} {m : Contract S X E} (into : X → C → Type 0) (inner : Contract C B E) (R : Option C → X → Option C → Type 0) {s : S} → Lawful m → m.can s → EachInner m into inner inner.can s → HoldsAtEachTurn m.steps R (λ hand x. (c : C) → into x c → inner.can c) s None
 callable_begins into inner R {s = s} l can each = record { at = λ items t u hand x ran went step c becomes. each.at x c (given_after l s items t u x can ran step) becomes }
+
+-- ---- what it lists
+
+module _ {S X C B E : Type 0} (outer : S → Answered X E → S → Type 0) (into : X → C → Type 0) (steps : C → Answered B E → C → Type 0) where
+  -- one draw
+  abbrev Draw : S × Option C → Answered B E → S × Option C → Type 0
+  Draw p r q = FlattenTrace outer into steps p (r ∷ []) q
+
+  abbrev Gives : S → Option C → List (Result B E) → Type 0
+  Gives s hand l = AlwaysGives Draw (s, hand) l
+
+  abbrev One : S → Option C → Answered B E → S → Option C → Type 0
+  One s hand r t hand' = Flattens outer into steps s hand (r ∷ []) t hand'
+
+  -- a state from which the same draw is one, and which gives the list
+  record DrawnFrom (r : Answered B E) (q : S × Option C) (l : List (Result B E)) : Type 0 where
+    from : S × Option C
+    draws : Draw from r q
+    all : AlwaysGives Draw from l
+
+  gives_from : (l : List (Result B E)) (s : S) (hand : Option C) → ((r : Answered B E) (t : S) (hand' : Option C) → One s hand r t hand' → DrawnFrom r (t, hand') l) → Gives s hand l
+  gives_from l s hand f = gives_if Draw l (s, hand) (λ r q w. let d = f r q.0 q.1 (to_flattens outer into steps s q.0 hand q.1 (r ∷ []) w) in (d.from, d.draws, d.all))
+
+  drawn_from : (s t : S) (hand hand' : Option C) (r : Answered B E) (l : List (Result B E)) → One s hand r t hand' → Gives s hand l → DrawnFrom r (t, hand') l
+  drawn_from s t hand hand' r l f g = record { from = (s, hand); draws = from_flattens outer into steps s t hand hand' (r ∷ []) f; all = g }
+
+  -- the inner iterator in hand is at its end
+  end_then : (rest : List (Result B E)) (c : C) (s : S) → AlwaysGives {A = B} {E = E} steps c [] → Gives s None rest → (r : Answered B E) (t : S) (hand : Option C) → One s (Some c) r t hand → DrawnFrom r (t, hand) rest
+  end_then rest c s a then _ _ _ (gives {d = d} y step f) = absurd (let h = a (Ok (Some y)) d step in cc)
+  end_then rest c s a then _ _ _ (fails {d = d} e step f) = absurd (let h = a (Err e) d step in cc)
+  end_then rest c s a then r t hand (finishes step f) = drawn_from s t None hand r rest f then
+
+  none_more : (l : List (Result B E)) (s t : S) (hand hand' : Option C) → Flattens outer into steps s hand [] t hand' → Gives s hand l → Gives t hand' l
+  none_more l s t hand hand' f g = subst (λ (p : S × Option C). AlwaysGives Draw p l) (flattens_none outer into steps s t hand hand' f) g
+
+  -- it has an answer
+  answer_then : (y : Result B E) (l rest : List (Result B E)) (c : C) (s : S) → AlwaysGives steps c (y ∷ l) → ((d : C) → AlwaysGives steps d l → Gives s (Some d) rest) → (r : Answered B E) (t : S) (hand : Option C) → One s (Some c) r t hand → (r ≡ result_answer y) × Gives t hand rest
+  answer_then y l rest c s a then _ t hand (gives {d = d} z step f) = let h = a (Ok (Some z)) d step in (h.0, none_more rest s t (Some d) hand f (then d h.1))
+  answer_then y l rest c s a then _ t hand (fails {d = d} e step f) = let h = a (Err e) d step in (h.0, none_more rest s t (Some d) hand f (then d h.1))
+  answer_then y l rest c s a then r t hand (finishes {d = d} step f) = absurd (not_end y (a end d step).0)
+
+  in_hand_gives : (l rest : List (Result B E)) (c : C) (s : S) → AlwaysGives steps c l → Gives s None rest → Gives s (Some c) (chained l rest)
+  unfolding chained
+  in_hand_gives [] rest c s a then = gives_from rest s (Some c) (end_then rest c s a then)
+  in_hand_gives (y ∷ l) rest c s a then = λ r q w. answer_then y l (chained l rest) c s a (λ d b. in_hand_gives l rest d s b then) r q.0 q.1 (to_flattens outer into steps s q.0 (Some c) q.1 (r ∷ []) w)
+
+  -- the outer source is at its end
+  outer_end : (s : S) → AlwaysGives {A = X} {E = E} outer s [] → (r : Answered B E) (t : S) (hand : Option C) → One s None r t hand → r ≡ end
+  outer_end s a r t hand (begins {u = u} x step becomes f) = absurd (let h = a (Ok (Some x)) u step in cc)
+  outer_end s a _ _ _ (outer_fails {u = u} e step done) = absurd (let h = a (Err e) u step in cc)
+  outer_end s a _ _ _ (outer_ends step done) = refl
+
+  -- it has a failure
+  outer_failure : (d : E) (l : List (Result X E)) (rest : List (Result B E)) (s : S) → AlwaysGives outer s (Err d ∷ l) → ((u : S) → AlwaysGives outer u l → Gives u None rest) → (r : Answered B E) (t : S) (hand : Option C) → One s None r t hand → (r ≡ Err d) × Gives t hand rest
+  outer_failure d l rest s a then r t hand (begins {u = u} x step becomes f) = absurd (let h = (a (Ok (Some x)) u step).0 in cc)
+  outer_failure d l rest s a then _ _ _ (outer_fails {u = u} e step done) = let h = a (Err e) u step in ((let q = h.0 in cc), then u h.1)
+  outer_failure d l rest s a then _ _ _ (outer_ends {u = u} step done) = absurd (let h = (a (Ok None) u step).0 in cc)
+
+  -- it has an item, which becomes an inner iterator
+  outer_item : (x : X) (l : List (Result X E)) (rest : List (Result B E)) (s : S) → AlwaysGives outer s (Ok x ∷ l) → ((u : S) (c : C) → into x c → AlwaysGives outer u l → Gives u (Some c) rest) → (r : Answered B E) (t : S) (hand : Option C) → One s None r t hand → DrawnFrom r (t, hand) rest
+  outer_item x l rest s a then r t hand (begins {u = u} {c = c} z step becomes f) = let h = a (Ok (Some z)) u step in let same : z ≡ x = (let q = h.0 in cc) in drawn_from u t (Some c) hand r rest f (then u c (subst (λ (y : X). into y c) same becomes) h.1)
+  outer_item x l rest s a then _ _ _ (outer_fails {u = u} e step done) = absurd (let h = (a (Err e) u step).0 in cc)
+  outer_item x l rest s a then _ _ _ (outer_ends {u = u} step done) = absurd (let h = (a (Ok None) u step).0 in cc)
+
+  flattened_gives : (inner : X → List (Result B E)) → EachLists into steps inner → (l : List (Result X E)) (s : S) → AlwaysGives outer s l → Gives s None (flattened inner l)
+  unfolding flattened
+  flattened_gives inner each [] s a = λ r q w. outer_end s a r q.0 q.1 (to_flattens outer into steps s q.0 None q.1 (r ∷ []) w)
+  flattened_gives inner each (Err d ∷ l) s a = λ r q w. outer_failure d l (flattened inner l) s a (λ u b. flattened_gives inner each l u b) r q.0 q.1 (to_flattens outer into steps s q.0 None q.1 (r ∷ []) w)
+  flattened_gives inner each (Ok x ∷ l) s a = gives_from (chained (inner x) (flattened inner l)) s None (outer_item x l (chained (inner x) (flattened inner l)) s a (λ u c becomes b. in_hand_gives (inner x) (flattened inner l) c u (each x c becomes).runs (flattened_gives inner each l u b)))
+
+module _ {X C B E : Type 0} (into : X → C → Type 0) (k : Contract C B E) (inner : X → List (Result B E)) (l : List (Result X E)) (each : EachLists into k.steps inner) where
+  pub lists_flattened : {S : Type 0} (m : Contract S X E) (f : Flatten S C) → flatten_parts f ≡ (f.it, None) → Lists m.steps f.it l → Lists (seen_as flatten_parts (flatten_contract m into k)).steps f (flattened inner l)
+  lists_flattened m f parts i = lists_seen flatten_parts (flatten_contract m into k).steps f parts refl (flattened_gives m.steps into k.steps inner each l f.it i.runs)
+
+  pub lists_flat_mapped : {S F : Type 0} (m : Contract (Map S F) X E) (f : FlatMap S C F) → flat_map_parts f ≡ (f.it, None) → Lists m.steps f.it l → Lists (seen_as flat_map_parts (flatten_contract m into k)).steps f (flattened inner l)
+  lists_flat_mapped m f parts i = lists_seen flat_map_parts (flatten_contract m into k).steps f parts refl (flattened_gives m.steps into k.steps inner each l f.it i.runs)

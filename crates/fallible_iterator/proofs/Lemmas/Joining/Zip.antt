@@ -5,7 +5,7 @@ use Rattle.std.proofs.Common.{refl, ap, ◌∙◌}
 use Rattle.fallible_iterator.specs.declared.joining.zip.Zip.{Zip}
 use Rattle.fallible_iterator.specs.Traces.{Answered, Run, end}
 use Rattle.fallible_iterator.specs.Contract.{Contract, seen_as}
-use Rattle.fallible_iterator.specs.Lists.{AlwaysGives, Lists, zipped, NoFailureAtEnd}
+use Rattle.fallible_iterator.specs.Lists.{AlwaysGives, Lists, items, zipped, NoFailureAtEnd}
 use Rattle.fallible_iterator.proofs.Lemmas.Lists.Passing.{lists_seen}
 use Rattle.fallible_iterator.specs.Joining.Zip.{ZipPlace, left_failed, both_drawn, left_answer, right_answer, zip_answer, ZipTrace, right_step, zip_step, zip_parts, zip_contract}
 
@@ -76,3 +76,12 @@ module _ {S U A B E : Type 0} (steps : S → Answered A E → S → Type 0) (oth
 
 pub lists_zipped : {S U A B E : Type 0} (m : Contract S A E) (k : Contract U B E) (c : Zip S U) (s : S) (a : List (Result A E)) (b : List (Result B E)) → zip_parts c ≡ (s, c.right) → NoFailureAtEnd a b → Lists m.steps s a → Lists k.steps c.right b → Lists (seen_as zip_parts (zip_contract m k)).steps c (zipped a b)
 lists_zipped m k c s a b parts clear f g = lists_seen zip_parts (zip_step m.steps k.steps) c parts refl (zipped_gives m.steps k.steps a b s c.right clear f.runs g.runs)
+
+-- where the second list has items alone, no failure stands beside the first one's end
+pub no_failure_in_items : {A B E : Type 0} (a : List (Result A E)) (b : List B) → NoFailureAtEnd a (items {E = E} b)
+unfolding items
+no_failure_in_items [] [] = tt
+no_failure_in_items [] (y ∷ b) = tt
+no_failure_in_items (Ok x ∷ a) [] = tt
+no_failure_in_items (Ok x ∷ a) (y ∷ b) = no_failure_in_items a b
+no_failure_in_items (Err e ∷ a) b = no_failure_in_items a b

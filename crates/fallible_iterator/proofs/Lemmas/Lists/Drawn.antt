@@ -7,7 +7,7 @@ use Rattle.fallible_iterator.specs.Folds.{Counted, CountExit, Nth, NthExit, fold
 use Rattle.fallible_iterator.specs.declared.collecting.Fault.{Fault}
 use Rattle.fallible_iterator.specs.declared.collecting.Fault.TheVariants.{Source, Memory}
 use Rattle.fallible_iterator.specs.Collecting.{Collects}
-use Rattle.fallible_iterator.specs.Lists.{AlwaysGives, Lists, one_more_than, counted, nth_of, before, collected, CollectedAs, on_value, folded, ActsWith, Converts}
+use Rattle.fallible_iterator.specs.Lists.{AlwaysGives, Lists, one_more_than, counted, nth_of, before, collected, CollectedBy, CollectedAs, on_value, folded, ActsWith, Converts}
 
 module _ {A E : Type 0} where
   -- what is left of the list at the last answer that was drawn
@@ -76,12 +76,15 @@ module _ {A E : Type 0} where
   collected_failure (x ∷ items) rest e = ap (before x) (collected_failure items rest e)
 
 module _ {S A E C : Type 0} {steps : S → Answered A E → S → Type 0} (made : List A → C → Type 0) (empty_refuses : Type 0) (refuses : C → A → Type 0) {s : S} where
-  pub collected_as : (r : Result C (Fault E)) (l : List (Result A E)) → Collects steps made empty_refuses refuses s r → Lists steps s l → CollectedAs made l r
-  collected_as (Ok c) l k i = let d = drawn steps k.items (Ok None) l s k.left i.runs k.ran in
+  collected_by : (r : Result C (Fault E)) (l : List (Result A E)) → Collects steps made empty_refuses refuses s r → Lists steps s l → CollectedBy made l r
+  collected_by (Ok c) l k i = let d = drawn steps k.items (Ok None) l s k.left i.runs k.ran in
       (k.items, ap collected d.list_is ∙ ap (λ (rest : _). collected (map (λ x. Ok x) k.items ++ rest)) d.left ∙ collected_items k.items, k.is_made)
-  collected_as (Err (Source e)) l k i = let d = drawn steps k.items (Err e) l s k.left i.runs k.ran in
+  collected_by (Err (Source e)) l k i = let d = drawn steps k.items (Err e) l s k.left i.runs k.ran in
       ap collected d.list_is ∙ ap (λ (rest : _). collected (map (λ x. Ok x) k.items ++ rest)) d.left.1 ∙ collected_failure k.items d.left.0 e
-  collected_as (Err (Memory a)) l k i = tt
+  collected_by (Err (Memory a)) l k i = tt
+
+  pub collected_as : (r : Result C (Fault E)) (l : List (Result A E)) → Collects steps made empty_refuses refuses s r → Lists steps s l → CollectedAs made l r
+  collected_as r l k i = record { by = collected_by r l k i }
 
 -- ---- nth
 

@@ -1,8 +1,15 @@
--- The runs of one answer again and again.
-use Rattle.std.specs.Prelude.{◌≡◌, List, [], ◌∷◌, All, ◌↔◌}
-use Rattle.std.proofs.Common.{refl, sym, subst}
+-- The runs of one answer again and again, and that it is the same each time.
+use Rattle.std.specs.Prelude.{◌≡◌, Some, None, Result, Ok, Err, List, [], ◌∷◌, All, ◌↔◌}
+use Rattle.std.specs.declared.alloc.AllocError.{AllocError}
+use Rattle.std.proofs.Common.{refl, sym, subst, ap, ◌∙◌, inl, inr}
 use Rattle.std.proofs.lemmas.List.Elements.{All-nil, All-cons, All-head, All-tail}
 use Rattle.fallible_iterator.specs.Traces.{Answered, Run}
+use Rattle.fallible_iterator.specs.declared.sources.repeat.Repeat.{Repeat}
+use Rattle.fallible_iterator.specs.declared.sources.repeat_err.RepeatErr.{RepeatErr}
+use Rattle.fallible_iterator.specs.Contract.{seen_as}
+use Rattle.fallible_iterator.specs.Sources.Repeat.{RepeatAnswer, repeat_parts, repeat_contract}
+use Rattle.fallible_iterator.specs.Sources.RepeatErr.{RepeatErrAnswer, repeat_err_parts, repeat_err_contract}
+use Rattle.fallible_iterator.specs.Lists.{Repeats, result_answer}
 
 -- ---- one answer again and again
 
@@ -20,3 +27,34 @@ module _ {V A E : Type 0} (P : V → Answered A E → Type 0) where
 
   pub again_runs : (v : V) (trace : List (Answered A E)) (w : V) → Run again v trace w ↔ (All (P v) trace × (w ≡ v))
   again_runs v trace w = (to_again trace v w, from_again trace v w)
+
+-- ---- the same answer each time
+
+-- of a value whose answers are those of what it clones
+module _ {S V A E : Type 0} (view : S → V) (P : V → Answered A E → Type 0) where
+  abbrev viewed : S → Answered A E → S → Type 0
+  viewed s r t = P (view s) r × (view t ≡ view s)
+
+  kept : (trace : List (Answered A E)) (s t : S) → Run viewed s trace t → view t ≡ view s
+  kept [] s t e = ap view (sym e)
+  kept (r ∷ rest) s t h = kept rest h.0 t h.2 ∙ h.1.1
+
+  same_answer : (s : S) (y : Result A E) → ((r : Answered A E) → P (view s) r → r ≡ result_answer y) → Repeats viewed s y
+  same_answer s y f = record { each = λ trace t u r ran step. f r (subst (λ (v : V). P v r) (kept trace s t ran) step.0) }
+
+module _ {A E : Type 0} (is_clone : A → A → Type 0) (is_infallible : A → Type 0) (from : AllocError → E → Type 0) (v : A) (granted : is_infallible v) (exact : (x : A) → is_clone v x → x ≡ v) where
+  clone_answer : (r : Answered A E) → RepeatAnswer is_clone is_infallible from v r → r ≡ Ok (Some v)
+  clone_answer (Ok (Some x)) p = ap (λ (y : A). Ok (Some y)) (exact x p)
+  clone_answer (Ok None) p = absurd p
+  clone_answer (Err e) p = absurd (p.0 granted)
+
+  pub repeats_clones : (s : Repeat A E) → repeat_parts s ≡ v → Repeats (seen_as repeat_parts (repeat_contract is_clone is_infallible from)).steps s (Ok v)
+  repeats_clones s parts = same_answer repeat_parts (RepeatAnswer is_clone is_infallible from) s (Ok v) (λ r p. clone_answer r (subst (λ (w : A). RepeatAnswer is_clone is_infallible from w r) parts p))
+
+module _ {A E : Type 0} (is_clone : E → E → Type 0) (is_infallible : E → Type 0) (from : AllocError → E → Type 0) (v : E) (granted : is_infallible v) (exact : (e : E) → is_clone v e → e ≡ v) where
+  failure_answer : (r : Answered A E) → RepeatErrAnswer is_clone is_infallible from v r → r ≡ Err v
+  failure_answer (Ok x) p = absurd p
+  failure_answer (Err e) p = ap (λ (d : E). Err d) (elim p [ inl q ↦ exact e q | inr q ↦ absurd (q.0 granted) ])
+
+  pub repeats_failures : (s : RepeatErr A E) → repeat_err_parts s ≡ v → Repeats (seen_as repeat_err_parts (repeat_err_contract {A = A} is_clone is_infallible from)).steps s (Err v)
+  repeats_failures s parts = same_answer repeat_err_parts (RepeatErrAnswer is_clone is_infallible from) s (Err v) (λ r p. failure_answer r (subst (λ (w : E). RepeatErrAnswer is_clone is_infallible from w r) parts p))
