@@ -44,9 +44,9 @@ pub fn all_up_to_100(readings: Vec<Result<u32, u8>>) -> Result<usize, u8>
         .count()
 }
 
-/// The item itself.
+/// The sum of one item.
 pub fn fold_of_one(item: u32) -> Result<u64, u8>
-    ensures { result ≡ Ok item }
+    ensures { result ≡ folded (λ e. e) (λ s x. Ok ((s + x) % 2 ^ 64)) 0 (Ok item ∷ []) }
 {
     once::<u32, u8>(item).fold(
         0,

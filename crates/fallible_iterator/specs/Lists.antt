@@ -244,8 +244,8 @@ CollectedBy made l (Err (Source e)) = collected l ≡ Err e
 CollectedBy made l (Err (Memory a)) = ⊤
 
 -- What `collect` answers over the list.
-pub record CollectedAs {A E C : Type 0} (made : List A → C → Type 0) (l : List (Result A E)) (r : Result C (Fault E)) : Type 0 where
-  pub by : CollectedBy made l r
+unfoldable pub CollectedAs : {A E C : Type 0} → (List A → C → Type 0) → List (Result A E) → Result C (Fault E) → Type 0
+CollectedAs made l r = CollectedBy made l r
 
 -- what f makes of the value, where there is one
 abbrev pub on_value : {A B E : Type 0} → Result A E → (A → Result B E) → Result B E

@@ -2,6 +2,7 @@
 use Rattle.std.specs.Prelude.{◌≡◌, ℕ, ◌+◌, ◌-◌, zero, suc, length, Some, None, Result, Ok, Err, List, [], ◌∷◌, ◌++◌, map}
 use Rattle.std.specs.List.{FoldsTo}
 use Rattle.std.proofs.Common.{refl, sym, ap, subst, ◌∙◌, arith}
+use Rattle.std.specs.declared.alloc.AllocError.{AllocError}
 use Rattle.fallible_iterator.specs.Traces.{Answered, Run, item}
 use Rattle.fallible_iterator.specs.Folds.{Counted, CountExit, Nth, NthExit, fold_turn, FoldExit, Folded}
 use Rattle.fallible_iterator.specs.declared.collecting.Fault.{Fault}
@@ -84,7 +85,13 @@ module _ {S A E C : Type 0} {steps : S → Answered A E → S → Type 0} (made 
   collected_by (Err (Memory a)) l k i = tt
 
   pub collected_as : (r : Result C (Fault E)) (l : List (Result A E)) → Collects steps made empty_refuses refuses s r → Lists steps s l → CollectedAs made l r
-  collected_as r l k i = record { by = collected_by r l k i }
+  unfolding CollectedAs
+  collected_as r l k i = collected_by r l k i
+
+-- want of memory says nothing of the list
+pub refused_as : {A E C : Type 0} (made : List A → C → Type 0) (l : List (Result A E)) (a : AllocError) → CollectedAs made l (Err (Memory a))
+unfolding CollectedAs
+refused_as made l a = tt
 
 -- ---- nth
 

@@ -3,7 +3,7 @@ use Rattle.std.specs.Prelude.{Ok, Err}
 use Rattle.std.proofs.Common.{rules, inr}
 use Rattle.fallible_iterator.specs.declared.collecting.Fault.TheVariants.{Source}
 use Rattle.fallible_iterator.proofs.Lemmas.Collecting.{collected_all, collect_failed, collect_refused}
-use Rattle.fallible_iterator.proofs.Lemmas.Lists.Drawn.{collected_as}
+use Rattle.fallible_iterator.proofs.Lemmas.Lists.Drawn.{collected_as, refused_as}
 use Rattle.fallible_iterator.proofs.traits.FallibleIterator.collect.Goals as goal
 
 pub returns-in-Ended-clause-collects : goal.returns-in-Ended-clause-collects
@@ -20,3 +20,9 @@ returns-in-Failed-clause-is g c l i = collected_as g.C.Collect.made g.C.Collect.
 
 pub returns-clause-collects : goal.returns-clause-collects
 returns-clause-collects g c = inr (collect_refused (λ d x r p. search rules) c.in-Ok.ensures c.in-Stopped.ensures.carried)
+
+pub returns-in-Err-clause-is : goal.returns-in-Err-clause-is
+returns-in-Err-clause-is g c l i = refused_as g.C.Collect.made l _
+
+pub returns-clause-is : goal.returns-clause-is
+returns-clause-is g c l i = refused_as g.C.Collect.made l _

@@ -1,0 +1,7 @@
+-- Each column lists its numbers.
+use Rattle.std.proofs.Common.{rules, tests, subst, sym}
+use Rattle.fallible_iterator.specs.Lists.{Lists, items}
+use Rattle.fallible_callers.proofs.computing.both_columns.Goals as goal
+
+pub returns : goal.returns
+returns c = c.count.ensures.is _ (c.chain.ensures.lists _ _ (search rules) (λ back same. rw same (c.convert-2.ensures.items _ (search rules))))
