@@ -1,11 +1,18 @@
 -- What the contract of a fallible iterator says of its values.
 use Rattle.std.specs.Prelude.{◌≡◌, ℕ, ◌≤◌, ◌<◌, Option, Some, None, Ok, Err, ◌↔◌, ⊤, ◌⊎◌, List}
+use Rattle.std.specs.Borrow.{GName}
 use Rattle.std.specs.Iterator.{Count, IsFinite, size, endless}
 use Rattle.fallible_iterator.specs.Traces.{Answered, Run, items_in}
 
 -- No run from s has more than n items. It is the number to come of a type that states no other.
 pub record ToCome {S A E : Type 0} (steps : S → Answered A E → S → Type 0) (s : S) (n : ℕ) : Type 0 where
   pub at : (trace : List (Answered A E)) (t : S) → Run steps s trace t → items_in trace ≤ n
+
+-- The ghost names of the references that a value draws through: of none, of one and of those that its value draws through, or of those of two parts.
+pub data Names : Type 0 where
+  no_names : Names
+  name_and : GName → Names → Names
+  names_of_both : Names → Names → Names
 
 -- All that the trait's contract says of a type S of fallible iterators over items A and failures E.
 pub record Contract (S A E : Type 0) : Type 1 where
@@ -25,6 +32,8 @@ pub record Contract (S A E : Type 0) : Type 1 where
   pub fails : S → E → Type 0
   -- `size_hint` may answer this
   pub hints : S → ℕ × Option ℕ → Type 0
+  -- the names of the references that it draws through, which every draw keeps
+  pub names : S → Names
 
 module _ {S A E : Type 0} (m : Contract S A E) where
   -- at most k items are still to come of s: k is a number to come of it, or one that is no greater is
@@ -45,13 +54,14 @@ module _ {S A E : Type 0} (m : Contract S A E) where
   OnAnswer s (Err e) t = m.fails s e × NoMore s t × (IsFinite (m.elements s) → IsFinite (m.elements t) × (size (m.elements t) < size (m.elements s)))
   OnAnswer s (Ok None) t = NoMore s t × (IsFinite (m.elements s) → IsFinite (m.elements t) × (size (m.elements t) ≤ size (m.elements s)))
 
-  -- After a draw the value may be drawn from again, whatever the answer was; an end to come stays to come, and nothing comes that was not to come.
+  -- After a draw the value may be drawn from again, whatever the answer was; an end to come stays to come, and nothing comes that was not to come, and it draws through the same references.
   pub record Goes (s : S) (r : Answered A E) (t : S) : Type 0 where
     pub can : m.can t
     pub has_end : m.has_end s → m.has_end t
     pub answer : OnAnswer s r t
     pub gives : (x : A) → m.gives t x → m.gives s x
     pub fails : (e : E) → m.fails t e → m.fails s e
+    pub names : m.names t ≡ m.names s
 
   -- The same after any number of draws.
   pub record Stays (s t : S) : Type 0 where
@@ -60,6 +70,7 @@ module _ {S A E : Type 0} (m : Contract S A E) where
     pub to_come : NoMore s t
     pub gives : (x : A) → m.gives t x → m.gives s x
     pub fails : (e : E) → m.fails t e → m.fails s e
+    pub names : m.names t ≡ m.names s
 
   -- What each impl proves: a draw goes, and an end to come is a number to come.
   pub record Lawful : Type 0 where
@@ -81,6 +92,7 @@ seen_as view m = record {
   gives = λ s x. m.gives (view s) x;
   fails = λ s e. m.fails (view s) e;
   hints = λ s h. m.hints (view s) h;
+  names = λ s. m.names (view s);
 }
 
 -- The contract of a type that says how it steps and how many items are left at most, and nothing else.
@@ -94,6 +106,7 @@ counting_down steps left = record {
   gives = λ _ _. ⊤;
   fails = λ _ _. ⊤;
   hints = λ _ h. h ≡ (0, None);
+  names = λ _. no_names;
 }
 
 -- The contract of a type that says how it steps, and nothing else: it has a number to come only where its runs do.
@@ -107,4 +120,5 @@ unbounded steps = record {
   gives = λ _ _. ⊤;
   fails = λ _ _. ⊤;
   hints = λ _ h. h ≡ (0, None);
+  names = λ _. no_names;
 }

@@ -67,6 +67,7 @@ passing m call callable outcome hints = record {
   gives = λ p y. MayAnswer call (m.gives p.0) p.1 (λ x v. outcome x v ≡ kept y);
   fails = λ p e. m.fails p.0 e ⊎ MayAnswer call (m.gives p.0) p.1 (λ x v. outcome x v ≡ failed e);
   hints = hints;
+  names = λ p. m.names p.0;
 }
 
 -- The contract of one that leaves items out. Its condition: one of the source, and a number to come of it, since one draw may leave many items out.

@@ -14,4 +14,5 @@ with_steps m steps hints = record {
   gives = λ p x. m.gives p.0 x;
   fails = λ p e. m.fails p.0 e;
   hints = hints;
+  names = λ p. m.names p.0;
 }

@@ -1,6 +1,6 @@
 -- What stays after any number of draws.
 use Rattle.std.specs.Prelude.{ℕ, ◌≤◌, List, [], ◌∷◌}
-use Rattle.std.proofs.Common.{arith, subst, inl, inr}
+use Rattle.std.proofs.Common.{arith, subst, inl, inr, ◌∙◌}
 use Rattle.fallible_iterator.specs.Traces.{Answered, Yields, item}
 use Rattle.fallible_iterator.specs.Contract.{Contract, AtMost, Stays, Lawful}
 use Rattle.fallible_iterator.specs.Laws.Contract.{no_more_then, stays_after, stays_here}
@@ -30,6 +30,7 @@ module _ {S A E : Type 0} {m : Contract S A E} where
     to_come = no_more_then m s t u p.to_come q.to_come;
     gives = λ x h. p.gives x (q.gives x h);
     fails = λ e h. p.fails e (q.fails e h);
+    names = q.names ∙ p.names;
   }
 
   -- one more draw

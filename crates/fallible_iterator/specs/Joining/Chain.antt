@@ -4,7 +4,7 @@ use Rattle.std.specs.Iterator.{Count, count_add}
 use Rattle.fallible_iterator.specs.declared.joining.chain.StillDrawn.{StillDrawn}
 use Rattle.fallible_iterator.specs.declared.joining.chain.StillDrawn.TheVariants.{Both, FrontAlone, BackAlone}
 use Rattle.fallible_iterator.specs.Traces.{Answered, Run, end, is_end, NoEnd}
-use Rattle.fallible_iterator.specs.Contract.{Contract}
+use Rattle.fallible_iterator.specs.Contract.{Contract, names_of_both}
 use Rattle.fallible_iterator.specs.declared.joining.chain.Chain.{Chain}
 use Rattle.fallible_iterator.specs.Hints.{hint_sum}
 
@@ -74,6 +74,7 @@ module _ {S U A E : Type 0} (front : Contract S A E) (back : Contract U A E) whe
     gives = chain_gives;
     fails = chain_fails;
     hints = chain_hints;
+    names = λ p. names_of_both (front.names p.0) (back.names p.1);
   }
 
 -- the front, the back, and which of them are still drawn

@@ -127,6 +127,7 @@ module _ {S X C B E : Type 0} (m : Contract S X E) (into : X → C → Type 0) (
     gives = λ p y. IsSomeAnd p.1 (λ c. inner.gives c y) ⊎ SomeInner (λ c. inner.gives c y) p.0;
     fails = λ p e. m.fails p.0 e ⊎ (IsSomeAnd p.1 (λ c. inner.fails c e) ⊎ SomeInner (λ c. inner.fails c e) p.0);
     hints = λ p h. h ≡ (0, None);
+    names = λ p. m.names p.0;
   }
 
 -- ---- one draw, as a fold of the outer source that stops

@@ -4,7 +4,7 @@ use Rattle.std.specs.List.{filter_map}
 use Rattle.std.specs.Iterator.{endless}
 use Rattle.fallible_iterator.specs.declared.joining.zip.Zip.{Zip}
 use Rattle.fallible_iterator.specs.Traces.{Answered, Run, item, failure, end}
-use Rattle.fallible_iterator.specs.Contract.{Contract}
+use Rattle.fallible_iterator.specs.Contract.{Contract, names_of_both}
 use Rattle.fallible_iterator.specs.Hints.{hint_smaller}
 
 -- the left and the right
@@ -61,4 +61,5 @@ zip_contract left right = record {
   gives = λ p z. left.gives p.0 z.0 × right.gives p.1 z.1;
   fails = λ p e. left.fails p.0 e ⊎ right.fails p.1 e;
   hints = λ p h. (g : ℕ × Option ℕ) × (k : ℕ × Option ℕ) × left.hints p.0 g × right.hints p.1 k × (h ≡ hint_smaller g k);
+  names = λ p. names_of_both (left.names p.0) (right.names p.1);
 }

@@ -1,7 +1,7 @@
 -- What stays after any number of draws.
 use Rattle.std.specs.Prelude.{◌≤◌, List, [], ◌∷◌, Some, None, Ok, Err}
 use Rattle.std.specs.Iterator.{IsFinite, size}
-use Rattle.std.proofs.Common.{arith, subst}
+use Rattle.std.proofs.Common.{arith, subst, refl, ◌∙◌}
 use Rattle.fallible_iterator.specs.Traces.{Answered, Run}
 use Rattle.fallible_iterator.specs.Contract.{Contract, NoMore, OnAnswer, Goes, Stays, Lawful, seen_as}
 
@@ -23,10 +23,11 @@ module _ {S A E : Type 0} {m : Contract S A E} where
     to_come = no_more_then m s t u (no_more m s t r g.answer) h.to_come;
     gives = λ x p. g.gives x (h.gives x p);
     fails = λ e p. g.fails e (h.fails e p);
+    names = h.names ∙ g.names;
   }
 
   pub stays_here : {s : S} → m.can s → Stays m s s
-  stays_here c = record { can = c; has_end = λ e. e; to_come = λ n b. (n, b, omega arith); gives = λ x p. p; fails = λ e p. p }
+  stays_here c = record { can = c; has_end = λ e. e; to_come = λ n b. (n, b, omega arith); gives = λ x p. p; fails = λ e p. p; names = refl }
 
   pub stays_run : Lawful m → (s : S) (trace : List (Answered A E)) (t : S) → m.can s → Run m.steps s trace t → Stays m s t
   stays_run l s [] t c ran = subst (λ (u : S). Stays m s u) ran (stays_here c)
@@ -41,7 +42,7 @@ module _ {S P A E : Type 0} (m : Contract P A E) (view : S → P) where
   answer_seen s t (Err e) h = h
 
   goes_seen : (s t : S) (r : Answered A E) → Goes m (view s) r (view t) → Goes (seen_as view m) s r t
-  goes_seen s t r g = record { can = g.can; has_end = g.has_end; answer = answer_seen s t r g.answer; gives = g.gives; fails = g.fails }
+  goes_seen s t r g = record { can = g.can; has_end = g.has_end; answer = answer_seen s t r g.answer; gives = g.gives; fails = g.fails; names = g.names }
 
 pub lawful_seen : {S P A E : Type 0} {m : Contract P A E} (view : S → P) → Lawful m → Lawful (seen_as view m)
 lawful_seen {m = m} view l = record { goes = λ s r t c step. goes_seen m view s t r (l.goes (view s) r (view t) c step); ends = λ s. l.ends (view s) }
@@ -60,4 +61,5 @@ module _ {S A E : Type 0} {m : Contract S A E} where
     answer = answer_later s t u r p elements g.answer;
     gives = λ x h. p.gives x (g.gives x h);
     fails = λ e h. p.fails e (g.fails e h);
+    names = g.names ∙ p.names;
   }

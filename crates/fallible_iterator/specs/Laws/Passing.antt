@@ -125,6 +125,7 @@ module _ {S F X R B E : Type 0} (m : Contract S X E) (l : Lawful m) (call : F �
       answer = passes_answer s t f g r c.0 p;
       gives = λ y h. may_answer_after a.gives reached h;
       fails = λ e h. elim h [ inl b ↦ inl (a.fails e b) | inr b ↦ inr (may_answer_after a.gives reached b) ];
+      names = a.names;
     }
 
 -- It is so where the closure stays callable after calls on what comes.
@@ -142,7 +143,7 @@ module _ {S F A E : Type 0} (p : Contract (S × F) A E) (needs : S → Type 0) w
   answer_needing s t (Err e) h = h
 
   goes_needing : (s t : S × F) (r : Answered A E) → needs t.0 → Goes p s r t → Goes needing s r t
-  goes_needing s t r n g = record { can = (n, g.can); has_end = g.has_end; answer = answer_needing s t r g.answer; gives = g.gives; fails = g.fails }
+  goes_needing s t r n g = record { can = (n, g.can); has_end = g.has_end; answer = answer_needing s t r g.answer; gives = g.gives; fails = g.fails; names = g.names }
 
 pub lawful_leaving_out : {S F X R B E : Type 0} {m : Contract S X E} (call : F → X → R → F → Type 0) (callable : (X → Type 0) → F → Type 0) (outcome : X → R → Outcome B E) (hints : S × F → ℕ × Option ℕ → Type 0) → StaysCallable call callable → Lawful m → Lawful (leaving_out m call callable outcome hints)
 lawful_leaving_out {m = m} call callable outcome hints after l = let p = passing m call callable outcome hints in

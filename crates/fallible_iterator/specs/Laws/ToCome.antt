@@ -39,6 +39,7 @@ module _ {S A E : Type 0} (steps : S → Answered A E → S → Type 0) where
       answer = answer_unbounded s t r step;
       gives = λ x g. tt;
       fails = λ e g. tt;
+      names = refl;
     };
     ends = λ s. ((λ e. e), (λ p. p));
   }

@@ -36,6 +36,7 @@ enumerate_contract m = record {
   gives = λ p y. m.gives p.0 y.1 × (p.1 ≤ y.0) × ((k : ℕ) → m.to_come p.0 k → y.0 < p.1 + k);
   fails = λ p e. m.fails p.0 e;
   hints = λ p h. m.hints p.0 h;
+  names = λ p. m.names p.0;
 }
 
 -- the source, and the number of the next item

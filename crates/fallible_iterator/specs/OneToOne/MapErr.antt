@@ -49,6 +49,7 @@ map_err_contract m g = record {
   gives = λ p x. m.gives p.0 x;
   fails = λ p e. MayAnswer (call_on g) (m.fails p.0) p.1 (λ d v. v ≡ e);
   hints = λ p h. m.hints p.0 h;
+  names = λ p. m.names p.0;
 }
 
 -- the source and the closure

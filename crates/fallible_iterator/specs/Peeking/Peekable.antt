@@ -56,6 +56,7 @@ peekable_contract m = record {
   gives = λ p x. (p.1 ≡ Some (Some x)) ⊎ m.gives p.0 x;
   fails = λ p e. m.fails p.0 e;
   hints = peekable_hints m;
+  names = λ p. m.names p.0;
 }
 
 -- ---- looking ahead

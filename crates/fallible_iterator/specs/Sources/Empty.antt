@@ -2,7 +2,7 @@
 use Rattle.std.specs.Prelude.{◌≡◌, ℕ, List, replicate, Some, ⊤}
 use Rattle.std.specs.Iterator.{at_most}
 use Rattle.fallible_iterator.specs.Traces.{Answered, end}
-use Rattle.fallible_iterator.specs.Contract.{Contract}
+use Rattle.fallible_iterator.specs.Contract.{Contract, no_names}
 
 -- `Empty`: only ends.
 abbrev pub EmptyTrace : {A E : Type 0} → List (Answered A E) → Type 0
@@ -19,4 +19,5 @@ empty_contract = record {
   gives = λ _ _. ⊥;
   fails = λ _ _. ⊥;
   hints = λ _ h. h ≡ (0, Some 0);
+  names = λ _. no_names;
 }

@@ -3,7 +3,7 @@ use Rattle.std.specs.Prelude.{Option, Some, ◌≡◌, ◌≤◌, ⊤}
 use Rattle.std.specs.Iterator.{at_most}
 use Rattle.fallible_iterator.specs.declared.sources.once.Once.{Once}
 use Rattle.fallible_iterator.specs.Traces.{item}
-use Rattle.fallible_iterator.specs.Contract.{Contract}
+use Rattle.fallible_iterator.specs.Contract.{Contract, no_names}
 use Rattle.fallible_iterator.specs.Held.{once_step, held_count}
 
 -- the item, or the failure, that is still to come
@@ -21,4 +21,5 @@ once_contract = record {
   gives = λ v x. v ≡ Some x;
   fails = λ _ _. ⊥;
   hints = λ v h. h ≡ (held_count v, Some (held_count v));
+  names = λ _. no_names;
 }

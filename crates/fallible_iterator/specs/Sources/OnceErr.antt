@@ -3,7 +3,7 @@ use Rattle.std.specs.Prelude.{Option, Some, ◌≡◌, ⊤}
 use Rattle.std.specs.Iterator.{at_most}
 use Rattle.fallible_iterator.specs.declared.sources.once_err.OnceErr.{OnceErr}
 use Rattle.fallible_iterator.specs.Traces.{failure}
-use Rattle.fallible_iterator.specs.Contract.{Contract}
+use Rattle.fallible_iterator.specs.Contract.{Contract, no_names}
 use Rattle.fallible_iterator.specs.Held.{once_step, held_count}
 
 abbrev pub once_err_parts : {T E : Type 0} → OnceErr T E → Option E
@@ -20,4 +20,5 @@ once_err_contract = record {
   gives = λ _ _. ⊥;
   fails = λ v e. v ≡ Some e;
   hints = λ _ h. h ≡ (0, Some 0);
+  names = λ _. no_names;
 }

@@ -4,7 +4,7 @@ use Rattle.std.specs.Iterator.{endless}
 use Rattle.std.specs.declared.alloc.AllocError.{AllocError}
 use Rattle.fallible_iterator.specs.declared.sources.repeat_err.RepeatErr.{RepeatErr}
 use Rattle.fallible_iterator.specs.Traces.{Answered, failure}
-use Rattle.fallible_iterator.specs.Contract.{Contract}
+use Rattle.fallible_iterator.specs.Contract.{Contract, no_names}
 use Rattle.fallible_iterator.specs.Refusals.{RefusedAs}
 
 abbrev pub repeat_err_parts : {T E : Type 0} → RepeatErr T E → E
@@ -31,4 +31,5 @@ module _ {A E : Type 0} (is_clone : E → E → Type 0) (is_infallible : E → T
     gives = λ _ _. ⊥;
     fails = λ v e. RepeatErrAnswer v (failure e);
     hints = λ _ h. h ≡ (0, Some 0);
+    names = λ _. no_names;
   }

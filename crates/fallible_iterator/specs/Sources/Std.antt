@@ -4,7 +4,7 @@ use Rattle.std.specs.Iterator.{Count, IsFinite, size, UpTo, MakesProgress}
 use Rattle.std.specs.Iterator.SizeHint.{IsWithinCount}
 use Rattle.std.specs.List.{FoldsTo}
 use Rattle.fallible_iterator.specs.Traces.{Answered, Run, item, failure}
-use Rattle.fallible_iterator.specs.Contract.{Contract}
+use Rattle.fallible_iterator.specs.Contract.{Contract, no_names}
 
 -- The std iterator's answer that an answer comes from: an element for an item or a failure, none for an end.
 abbrev pub element_by : {A E Z : Type 0} → (A → Z) → (E → Z) → Answered A E → Option Z
@@ -45,4 +45,5 @@ module _ {S A E Z : Type 0} (of_item : A → Z) (of_failure : E → Z) (can : S 
     gives = λ s x. Comes s (item x);
     fails = λ s e. Comes s (failure e);
     hints = λ s h. IsWithinCount h.0 (remaining s) × IfSome h.1 (UpTo (remaining s));
+    names = λ _. no_names;
   }

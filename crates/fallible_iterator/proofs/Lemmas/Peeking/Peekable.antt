@@ -26,6 +26,7 @@ module _ {S A E : Type 0} {m : Contract S A E} (l : Lawful m) where
     to_come = λ n b. let k = a.answer.1 b.0 b.1 in (n, (k.0, k.1, omega (arith, k.2, b.2)), omega arith);
     gives = λ y h. elim h [ inl e ↦ (let same : x ≡ y = cc in inr (subst (λ (z : A). m.gives s z) same a.answer.0)) | inr g ↦ inr (a.gives y g) ];
     fails = a.fails;
+    names = a.names;
   }
 
   -- an end that was drawn is held
@@ -36,6 +37,7 @@ module _ {S A E : Type 0} {m : Contract S A E} (l : Lawful m) where
     to_come = λ n b. let k = a.answer.0 b.0 b.1 in (n, (k.0, k.1, omega (arith, k.2, b.2)), omega arith);
     gives = λ y h. elim h [ inl e ↦ absurd cc | inr g ↦ inr (a.gives y g) ];
     fails = a.fails;
+    names = a.names;
   }
 
   peeked_stays : (s t : S) (r : Answered A E) (held : Option (Option A)) → m.can s → Peeks m.steps (s, None) r (t, held) → Stays Q (s, None) (t, held)

@@ -1,10 +1,10 @@
 -- The contract of `Chain` is lawful where those of both sides are.
 use Rattle.std.specs.Prelude.{◌≡◌, ℕ, ◌+◌, cond, T, Bool, true, false, Some, None, Ok, Err, ◌↔◌}
-use Rattle.std.proofs.Common.{arith, inl, inr}
+use Rattle.std.proofs.Common.{arith, inl, inr, refl, ap₂}
 use Rattle.fallible_iterator.specs.declared.joining.chain.StillDrawn.{StillDrawn}
 use Rattle.fallible_iterator.specs.declared.joining.chain.StillDrawn.TheVariants.{Both, FrontAlone, BackAlone}
 use Rattle.fallible_iterator.specs.Traces.{Answered, end, is_end}
-use Rattle.fallible_iterator.specs.Contract.{Contract, OnAnswer, Goes, Lawful}
+use Rattle.fallible_iterator.specs.Contract.{Contract, OnAnswer, Goes, Lawful, names_of_both}
 use Rattle.fallible_iterator.specs.Joining.Chain.{chain_contract}
 
 -- a sum of counts is finite where both are
@@ -63,10 +63,10 @@ module _ {S U A E : Type 0} (front : Contract S A E) (back : Contract U A E) whe
 
   module _ (l : Lawful front) (k : Lawful back) where
     front_goes : (s t : S) (u : U) (r : Answered A E) → C.can (s, u, FrontAlone) → front.steps s r t → Goes C (s, u, FrontAlone) r (t, u, FrontAlone)
-    front_goes s t u r c step = let a = l.goes s r t c.0 step in record { can = (a.can, c.1); has_end = a.has_end; answer = front_answer s t u r a.answer; gives = a.gives; fails = a.fails }
+    front_goes s t u r c step = let a = l.goes s r t c.0 step in record { can = (a.can, c.1); has_end = a.has_end; answer = front_answer s t u r a.answer; gives = a.gives; fails = a.fails; names = ap₂ names_of_both a.names refl }
 
     back_goes : (s : S) (u v : U) (r : Answered A E) → C.can (s, u, BackAlone) → back.steps u r v → Goes C (s, u, BackAlone) r (s, v, BackAlone)
-    back_goes s u v r c step = let b = k.goes u r v c.1 step in record { can = (c.0, b.can); has_end = b.has_end; answer = back_answer s u v r b.answer; gives = b.gives; fails = b.fails }
+    back_goes s u v r c step = let b = k.goes u r v c.1 step in record { can = (c.0, b.can); has_end = b.has_end; answer = back_answer s u v r b.answer; gives = b.gives; fails = b.fails; names = ap₂ names_of_both refl b.names }
 
     before_end_goes : (s t : S) (u : U) (r : Answered A E) → C.can (s, u, Both) → front.steps s r t → is_end r ≡ false → Goes C (s, u, Both) r (t, u, Both)
     before_end_goes s t u r c step e = let a = l.goes s r t c.0 step in record {
@@ -75,6 +75,7 @@ module _ {S U A E : Type 0} (front : Contract S A E) (back : Contract U A E) whe
       answer = before_end_answer s t u r e a.answer;
       gives = λ x h. elim h [ inl h ↦ inl (a.gives x h) | inr h ↦ inr h ];
       fails = λ d h. elim h [ inl h ↦ inl (a.fails d h) | inr h ↦ inr h ];
+      names = ap₂ names_of_both a.names refl;
     }
 
     at_end_goes : (s t : S) (u v : U) (r : Answered A E) → C.can (s, u, Both) → front.steps s end t → back.steps u r v → Goes C (s, u, Both) r (t, v, BackAlone)
@@ -84,6 +85,7 @@ module _ {S U A E : Type 0} (front : Contract S A E) (back : Contract U A E) whe
       answer = at_end_answer s t u v r b.answer;
       gives = λ x h. inr (b.gives x h);
       fails = λ d h. inr (b.fails d h);
+      names = ap₂ names_of_both a.names b.names;
     }
 
     goes_chain : (p : S × U × StillDrawn) (r : Answered A E) (q : S × U × StillDrawn) → C.can p → C.steps p r q → Goes C p r q

@@ -40,6 +40,7 @@ module _ {S A E : Type 0} (is_clone : S → S → Type 0) (is_infallible : S →
     answer = a;
     gives = λ x h. elim h [ inl g ↦ gives x g | inr d ↦ inr d ];
     fails = λ e h. elim h [ inl g ↦ fails e g | inr d ↦ inr d ];
+    names = refl;
   }
 
   goes_cycle : Lawful m → (s t k : S) (r : Answered A E) → C.can (s, k) → CycleAnswer is_clone is_infallible from m.steps k s r t → Goes C (s, k) r (t, k)

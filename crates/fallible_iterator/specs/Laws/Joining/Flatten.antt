@@ -112,6 +112,7 @@ module _ {S X C B E : Type 0} (m : Contract S X E) (l : Lawful m) (into : X → 
     answer = answer_in_hand s c d r g.answer;
     gives = λ y h. elim h [ inl p ↦ inl (g.gives y p) | inr p ↦ inr p ];
     fails = λ e h. elim h [ inl p ↦ inl p | inr p ↦ inr (elim p [ inl q ↦ inl (g.fails e q) | inr q ↦ inr q ]) ];
+    names = refl;
   }
 
   -- an inner iterator that ended is dropped
@@ -122,6 +123,7 @@ module _ {S X C B E : Type 0} (m : Contract S X E) (l : Lawful m) (into : X → 
     to_come = λ n b. (b.each * b.outer, record { outer = b.outer; each = b.each; in_hand = 0; outer_is = b.outer_is; each_is = b.each_is; in_hand_is = refl; sum = omega arith }, omega (arith, b.sum));
     gives = λ y h. elim h [ inl p ↦ absurd p | inr p ↦ inr p ];
     fails = λ e h. elim h [ inl p ↦ inl p | inr p ↦ elim p [ inl q ↦ absurd q | inr q ↦ inr (inr q) ] ];
+    names = refl;
   }
 
   one_fewer : (b a j q : ℕ) → j < a → q ≤ b → b * j + q ≤ b * a
@@ -139,6 +141,7 @@ module _ {S X C B E : Type 0} (m : Contract S X E) (l : Lawful m) (into : X → 
     );
     gives = λ y h. inr (elim h [ inl p ↦ record { argument = x; iterator = c; given = g.answer.0; becomes = becomes; holds = p } | inr p ↦ some_after_draw _ s u g.gives p ]);
     fails = λ e h. elim h [ inl p ↦ inl (g.fails e p) | inr p ↦ inr (inr (elim p [ inl q ↦ record { argument = x; iterator = c; given = g.answer.0; becomes = becomes; holds = q } | inr q ↦ some_after_draw _ s u g.gives q ])) ];
+    names = g.names;
   }
 
   -- an answer of the outer source that is no item
@@ -149,13 +152,14 @@ module _ {S X C B E : Type 0} (m : Contract S X E) (l : Lawful m) (into : X → 
     to_come = λ n b. let j = no_more m s u r g.answer b.outer b.outer_is in (b.each * j.0, record { outer = j.0; each = b.each; in_hand = 0; outer_is = j.1; each_is = each_after_draw _ s u g.gives b.each_is; in_hand_is = refl; sum = omega arith }, (let le = mul-le-mul_left b.each j.2 in omega (arith, le, b.sum)));
     gives = λ y h. elim h [ inl p ↦ absurd p | inr p ↦ inr (some_after_draw _ s u g.gives p) ];
     fails = λ e h. elim h [ inl p ↦ inl (g.fails e p) | inr p ↦ elim p [ inl q ↦ absurd q | inr q ↦ inr (inr (some_after_draw _ s u g.gives q)) ] ];
+    names = g.names;
   }
 
   end_goes : (p q : S × Option C) → Stays M p q → Goes M p end q
-  end_goes p q h = record { can = h.can; has_end = h.has_end; answer = (h.to_come, (λ f. absurd f)); gives = h.gives; fails = h.fails }
+  end_goes p q h = record { can = h.can; has_end = h.has_end; answer = (h.to_come, (λ f. absurd f)); gives = h.gives; fails = h.fails; names = h.names }
 
   failure_goes : (p q : S × Option C) (e : E) → M.fails p e → Stays M p q → Goes M p (failure e) q
-  failure_goes p q e given h = record { can = h.can; has_end = h.has_end; answer = (given, h.to_come, (λ f. absurd f)); gives = h.gives; fails = h.fails }
+  failure_goes p q e given h = record { can = h.can; has_end = h.has_end; answer = (given, h.to_come, (λ f. absurd f)); gives = h.gives; fails = h.fails; names = h.names }
 
   flattens_goes : (s t : S) (hand hand' : Option C) (r : Answered B E) → M.can (s, hand) → Flattens m.steps into inner.steps s hand (r ∷ []) t hand' → Goes M (s, hand) r (t, hand')
   flattens_goes s _ _ _ _ can (gives {c = c} {d = d} y step done) = in_hand_goes s c d (item y) can step

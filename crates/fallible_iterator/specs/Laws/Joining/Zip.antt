@@ -1,8 +1,8 @@
 -- The contract of `Zip` is lawful where those of both sides are.
 use Rattle.std.specs.Prelude.{ℕ, Option, Some, None, Ok, Err, ◌↔◌}
-use Rattle.std.proofs.Common.{arith, inl, inr}
+use Rattle.std.proofs.Common.{arith, inl, inr, refl, ap₂}
 use Rattle.fallible_iterator.specs.Traces.{Answered, item, failure}
-use Rattle.fallible_iterator.specs.Contract.{Contract, NoMore, OnAnswer, Goes, Lawful}
+use Rattle.fallible_iterator.specs.Contract.{Contract, NoMore, OnAnswer, Goes, Lawful, names_of_both}
 use Rattle.fallible_iterator.specs.Joining.Zip.{ZipPlace, left_failed, both_drawn, left_answer, zip_answer, right_step, zip_contract}
 use Rattle.fallible_iterator.specs.Laws.Contract.{no_more}
 
@@ -33,6 +33,7 @@ module _ {S U A B E : Type 0} (left : Contract S A E) (right : Contract U B E) w
       answer = (inl a.answer.0, no_more_pairs s t u u a.answer.1 (λ n h. (n, h, omega arith)), (λ f. absurd f));
       gives = λ z h. (a.gives z.0 h.0, h.1);
       fails = λ d h. elim h [ inl h ↦ inl (a.fails d h) | inr h ↦ inr h ];
+      names = ap₂ names_of_both a.names refl;
     }
     goes_place s t u v (both_drawn x r) c step drawn = let a = l.goes s (Ok x) t c.0 step in let b = k.goes u r v c.1 drawn in record {
       can = (a.can, b.can);
@@ -40,6 +41,7 @@ module _ {S U A B E : Type 0} (left : Contract S A E) (right : Contract U B E) w
       answer = pair_answer s t u v x r a.answer b.answer;
       gives = λ z h. (a.gives z.0 h.0, b.gives z.1 h.1);
       fails = λ d h. elim h [ inl h ↦ inl (a.fails d h) | inr h ↦ inr (b.fails d h) ];
+      names = ap₂ names_of_both a.names b.names;
     }
 
     goes_zip : (p : S × U) (r : Answered (A × B) E) (q : S × U) → Z.can p → Z.steps p r q → Goes Z p r q

@@ -33,6 +33,7 @@ module _ {S A E : Type 0} (m : Contract S A E) (l : Lawful m) where
     answer = ((a.answer.0, omega arith, (λ j b. let d = a.answer.1 j b in omega (arith, d.2))), a.answer.1, a.answer.2);
     gives = λ y h. (a.gives y.1 h.0, omega (arith, h.1), (λ j b. let d = a.answer.1 j b in let e = h.2 d.0 d.1 in omega (arith, d.2, e)));
     fails = a.fails;
+    names = a.names;
   }
   numbered_goes s t n _ _ c (numbered_end step numbered_none) = let a = l.goes s (Ok None) t c.can step in record {
     can = (let b = a.answer.0 c.bound c.bounds in record { can = a.can; bound = b.0; bounds = b.1; fits = omega (arith, b.2, c.fits) });
@@ -40,6 +41,7 @@ module _ {S A E : Type 0} (m : Contract S A E) (l : Lawful m) where
     answer = a.answer;
     gives = λ y h. (a.gives y.1 h.0, h.1, (λ j b. let d = a.answer.0 j b in let e = h.2 d.0 d.1 in omega (arith, d.2, e)));
     fails = a.fails;
+    names = a.names;
   }
   numbered_goes s t n _ _ c (numbered_failure e step numbered_none) = let a = l.goes s (Err e) t c.can step in record {
     can = (let b = a.answer.1 c.bound c.bounds in record { can = a.can; bound = b.0; bounds = b.1; fits = omega (arith, b.2, c.fits) });
@@ -47,6 +49,7 @@ module _ {S A E : Type 0} (m : Contract S A E) (l : Lawful m) where
     answer = a.answer;
     gives = λ y h. (a.gives y.1 h.0, h.1, (λ j b. let d = a.answer.1 j b in let e = h.2 d.0 d.1 in omega (arith, d.2, e)));
     fails = a.fails;
+    names = a.names;
   }
 
   goes_enumerate : (p : S × ℕ) (r : Answered (ℕ × A) E) (q : S × ℕ) → M.can p → M.steps p r q → Goes M p r q

@@ -1,5 +1,5 @@
 -- The contract of `MapErr` is lawful where the source's is.
-use Rattle.std.specs.Prelude.{List, [], ◌∷◌, map, None, Ok, Err}
+use Rattle.std.specs.Prelude.{List, [], ◌∷◌, map, None, Ok, Err, ◌≡◌}
 use Rattle.std.specs.List.{filter_map}
 use Rattle.std.specs.Fn.{Mut}
 use Rattle.std.proofs.Common.{refl, sym, subst}
@@ -41,9 +41,10 @@ module _ {S F X D E : Type 0} (m : Contract S X D) (l : Lawful m) (g : Mut F (D 
     has_end : m.has_end s → m.has_end t
     gives : (x : X) → m.gives t x → m.gives s x
     fails : (d : D) → m.fails t d → m.fails s d
+    names : m.names t ≡ m.names s
 
   came : (s t : S) (r : Answered X D) → Goes m s r t → Came s t
-  came s t r a = record { can = a.can; has_end = a.has_end; gives = a.gives; fails = a.fails }
+  came s t r a = record { can = a.can; has_end = a.has_end; gives = a.gives; fails = a.fails; names = a.names }
 
   mapped_came : (s t : S) (f h : F) (r : Answered X E) → m.can s → Mapped m.steps (call_on g) s f (r ∷ []) t h → Came s t
   mapped_came s t f _ _ c (mapped_item x step mapped_none) = came s t (item x) (l.goes s (item x) t c step)
@@ -62,6 +63,7 @@ module _ {S F X D E : Type 0} (m : Contract S X D) (l : Lawful m) (g : Mut F (D 
     answer = mapped_goes s t f h r c.0 p;
     gives = a.gives;
     fails = λ e k. may_answer_after a.fails reached k;
+    names = a.names;
   }
 
 pub lawful_map_err : {S F X D E : Type 0} {m : Contract S X D} (g : Mut F (D × Unit {0}) E) → Lawful m → Lawful (map_err_contract m g)

@@ -21,6 +21,7 @@ module _ {S A E : Type 0} (m : Contract S A E) where
     answer = answer_held s o;
     gives = λ y h. elim h [ inl e ↦ absurd cc | inr g ↦ inr g ];
     fails = λ e h. h;
+    names = refl;
   }
 
   answer_drawn : (s t : S) (r : Answered A E) → OnAnswer m s r t → OnAnswer P (s, None) r (t, None)
@@ -36,6 +37,7 @@ module _ {S A E : Type 0} (m : Contract S A E) where
     answer = answer_drawn s t r a.answer;
     gives = λ y h. elim h [ inl e ↦ absurd cc | inr g ↦ inr (a.gives y g) ];
     fails = a.fails;
+    names = a.names;
   }
 
   goes_peekable : Lawful m → (p : S × Option (Option A)) (r : Answered A E) (q : S × Option (Option A)) → P.can p → P.steps p r q → Goes P p r q

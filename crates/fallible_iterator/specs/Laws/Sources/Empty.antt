@@ -1,6 +1,6 @@
 -- The contract of `Empty` is lawful.
 use Rattle.std.specs.Prelude.{◌≡◌}
-use Rattle.std.proofs.Common.{sym, subst, arith}
+use Rattle.std.proofs.Common.{sym, subst, arith, refl}
 use Rattle.fallible_iterator.specs.Traces.{Answered, end}
 use Rattle.fallible_iterator.specs.Contract.{Contract, Goes, Lawful}
 use Rattle.fallible_iterator.specs.Sources.Empty.{empty_contract}
@@ -10,7 +10,7 @@ module _ {S A E : Type 0} where
   Empty = empty_contract
 
   goes_empty : (s t : S) (r : Answered A E) → r ≡ end → Goes Empty s r t
-  goes_empty s t r e = subst (λ (q : Answered A E). Goes Empty s q t) (sym e) (record { can = tt; has_end = λ h. h; answer = ((λ n b. (n, tt, omega arith)), (λ f. (f, omega arith))); gives = λ x h. h; fails = λ d h. h })
+  goes_empty s t r e = subst (λ (q : Answered A E). Goes Empty s q t) (sym e) (record { can = tt; has_end = λ h. h; answer = ((λ n b. (n, tt, omega arith)), (λ f. (f, omega arith))); gives = λ x h. h; fails = λ d h. h; names = refl })
 
   pub lawful_empty : Lawful Empty
   lawful_empty = record { goes = λ s r t c e. goes_empty s t r e; ends = λ s. ((λ e. (0, tt)), (λ p. tt)) }

@@ -29,6 +29,7 @@ module _ {F A E : Type 0} (g : Mut F (Unit {0}) (Answered A E)) where
       answer = from_fn_answer f h r called;
       gives = λ x a. may_answer_after (λ u p. p) (one_call f h r called) a;
       fails = λ e a. may_answer_after (λ u p. p) (one_call f h r called) a;
+      names = refl;
     };
     ends = λ f. ((λ e. e), (λ p. p));
   }

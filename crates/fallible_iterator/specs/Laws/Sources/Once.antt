@@ -11,10 +11,10 @@ module _ {A E : Type 0} where
   O = once_contract
 
   once_given : (x : A) → Goes O (Some x) (item x) None
-  once_given x = record { can = tt; has_end = λ e. e; answer = (refl, (λ n b. (0, omega arith, omega (arith, b))), (λ f. (tt, omega arith))); gives = λ y e. absurd cc; fails = λ d e. e }
+  once_given x = record { can = tt; has_end = λ e. e; answer = (refl, (λ n b. (0, omega arith, omega (arith, b))), (λ f. (tt, omega arith))); gives = λ y e. absurd cc; fails = λ d e. e; names = refl }
 
   once_ended : Goes O None end None
-  once_ended = record { can = tt; has_end = λ e. e; answer = ((λ n b. (n, b, omega arith)), (λ f. (f, omega arith))); gives = λ y e. e; fails = λ d e. e }
+  once_ended = record { can = tt; has_end = λ e. e; answer = ((λ n b. (n, b, omega arith)), (λ f. (f, omega arith))); gives = λ y e. e; fails = λ d e. e; names = refl }
 
   goes_once : (v : Option A) (r : Answered A E) (w : Option A) → once_step item v r w → Goes O v r w
   goes_once (Some x) r w step = subst (λ (q : Answered A E). Goes O (Some x) q w) (sym step.0) (subst (λ (u : Option A). Goes O (Some x) (item x) u) (sym step.1) (once_given x))

@@ -17,7 +17,7 @@ module _ {A E : Type 0} (is_clone : A → A → Type 0) (is_infallible : A → T
   repeat_answer v (Err e) h = (h, (λ n b. bounds_failure {steps = Repeat.steps} e (h, refl) b), (λ f. absurd f))
 
   goes_repeat : (v : A) (r : Answered A E) (w : A) → Repeat.steps v r w → Goes Repeat v r w
-  goes_repeat v r w step = subst (λ (u : A). Goes Repeat v r u) (sym step.1) (record { can = tt; has_end = λ e. e; answer = repeat_answer v r step.0; gives = λ x h. h; fails = λ e h. h })
+  goes_repeat v r w step = subst (λ (u : A). Goes Repeat v r u) (sym step.1) (record { can = tt; has_end = λ e. e; answer = repeat_answer v r step.0; gives = λ x h. h; fails = λ e h. h; names = refl })
 
   pub lawful_repeat : Lawful Repeat
   lawful_repeat = record { goes = λ v r w c step. goes_repeat v r w step; ends = λ v. ((λ e. e), (λ p. p)) }

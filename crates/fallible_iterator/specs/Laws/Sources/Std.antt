@@ -31,6 +31,7 @@ module _ {S A E Z : Type 0} (of_item : A → Z) (of_failure : E → Z) (can : S 
       answer = std_answer s t r c step;
       gives = λ x. comes_after s t r (item x) step;
       fails = λ e. comes_after s t r (failure e) step;
+      names = refl;
     };
     ends = λ s. ((λ f. (size (remaining s), (f, omega arith))), (λ p. p.1.0));
   }
