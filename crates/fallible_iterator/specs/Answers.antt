@@ -1,8 +1,9 @@
 -- Traces as values.
-use Rattle.std.specs.Prelude.{◌≡◌, ℕ, List, map, length, Some, None, Ok, Err}
+use Rattle.std.specs.Prelude.{◌≡◌, ℕ, List, [], ◌∷◌, map, length, Result, Some, None, Ok, Err}
 use Rattle.fallible_iterator.specs.declared.laws.Answer.{Answer}
 use Rattle.fallible_iterator.specs.declared.laws.Answer.TheVariants.{Item, Failure, End}
 use Rattle.fallible_iterator.specs.Traces.{Answered, Run}
+use Rattle.fallible_iterator.specs.Lists.{result_answer}
 
 -- the answer that a value tells
 abbrev pub answer_of : {A E : Type 0} → Answered A E → Answer A E
@@ -16,3 +17,8 @@ pub record IsAnswers {S A E : Type 0} (steps : S → Answered A E → S → Type
   pub ran : Run steps s trace t
   pub values_are : values ≡ map answer_of trace
   pub count : length trace ≡ n
+
+-- the values that tell the answers of a list, and then one end
+unfoldable pub answers_of : {A E : Type 0} → List (Result A E) → List (Answer A E)
+answers_of [] = End ∷ []
+answers_of (y ∷ l) = answer_of (result_answer y) ∷ answers_of l

@@ -1,7 +1,8 @@
 //! What a trace of each type is, as laws, and traces that a test or a caller can look at.
-ghost use Rattle.std.specs.Prelude.{◌≡◌, ℕ, ◌≤◌, IfOk, IfErr, Result, Option};
+ghost use Rattle.std.specs.Prelude.{◌≡◌, ℕ, ◌+◌, ◌≤◌, List, length, take, IfOk, IfErr, Result, Option};
 ghost use Rattle.fallible_iterator.specs.Contract.{Contract, Stays};
-ghost use Rattle.fallible_iterator.specs.Answers.{answer_of, IsAnswers};
+ghost use Rattle.fallible_iterator.specs.Answers.{answer_of, IsAnswers, answers_of};
+ghost use Rattle.fallible_iterator.specs.Lists.{Lists};
 
 pub mod borrowed;
 mod cutting;
@@ -48,6 +49,7 @@ where
     I::Error: Drop,
     requires { I.contract.can it.old }
     ensures drawn { IfOk result (λ v. IsAnswers I.contract.steps it.old n v.items it.new) }
+    ensures is { (l : List (Result I.Item I.Error)) → n ≤ length l + 1 → Lists I.contract.steps it.old l → IfOk result (λ v. v.items ≡ take n (answers_of l)) }
     ensures refused { IfErr result (λ _. it.new ≡ it.old) }
     ensures stays { Stays I.contract it.old it.new }
 {

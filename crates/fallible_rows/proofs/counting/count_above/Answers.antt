@@ -10,7 +10,7 @@ use Rattle.fallible_rows.proofs.counting.count_above.Goals as goal
 pub returns : goal.returns
 returns g c =
     let counted = c.count_of.ensures in
-    let read = chain_reads _ _ _ (λ f x r h k. search (rules, tests)) c.filter-above.result c.count_of.new.it c.take.result c.new.result _ _ _ _ counted.items counted.last c.filter-above.ensures c.take.ensures c.new.ensures (no_item-last _ counted.last c.count_of.result counted.exit) counted.ran in
+    let read = chain_reads _ _ _ (λ f x r h k. search (rules, tests)) c.filter-above.result c.count_of.new.it c.take.result c.new.result _ _ _ _ counted.items counted.last c.filter-above.ensures.parts c.take.ensures.parts c.new.ensures (no_item-last _ counted.last c.count_of.result counted.exit) counted.ran in
     let trace = read.trace in
     let kept = rows_keep _ _ (λ (s : Lent g.row.R.Denot). s.reader.ghost_name) (λ r q k. k) _ _ trace _ read.reads in
     let names = sym kept in
