@@ -43,3 +43,38 @@ where
     }
     Ok(())
 }
+
+/// The sum of the first two readings above 100, and the one after them. The two are taken of a borrow, so the rest may still be drawn.
+pub fn two_and_the_next(readings: Vec<Result<u32, u8>>) -> Result<(u32, Option<u32>), u8> {
+    let mut above = convert(readings.into_iter()).filter(|reading| Ok(*reading > 100));
+    let sum: Result<u32, u8> = (&mut above)
+        .take(2)
+        .try_fold(0, |sum: u32, reading: u32| Ok(sum.wrapping_add(reading)));
+    let sum = sum?;
+    Ok((sum, above.draw()?))
+}
+
+/// The item after the first three, which are let go.
+pub fn after_three<I: FallibleIterator>(it: &mut I) -> Result<Option<I::Item>, I::Error>
+where
+    I::Item: Drop,
+    requires { I.contract.can it.old }
+{
+    (&mut *it).take(3).nth(2)?;
+    it.draw()
+}
+
+/// An item of each side, drawn after the first pair of both, which is let go.
+pub fn after_a_pair<I, J>(mut left: I, mut right: J) -> Result<Option<J::Item>, I::Error>
+where
+    I: FallibleIterator,
+    J: FallibleIterator<Error = I::Error>,
+    I::Item: Drop,
+    J::Item: Drop,
+    requires left { I.contract.can left }
+    requires right { J.contract.can right }
+{
+    (&mut left).zip(&mut right).draw()?;
+    left.draw()?;
+    right.draw()
+}

@@ -4,3 +4,5 @@
 pub mod computing;
 pub mod drawing;
 pub mod generic;
+#[cfg(test)]
+mod tests;

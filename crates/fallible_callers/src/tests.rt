@@ -1,0 +1,85 @@
+//! The values of the callers on small inputs.
+use crate::computing::{
+    above_100, above_100_of_ten, all_up_to_100, both_columns, collected_above_100,
+    doubled_above_1000, fold_of_one, fourth_above_100, places, products, running_sums, sum,
+};
+use crate::drawing::{draw_all, second_if_above, third_draw};
+use crate::generic::sum_of_nest;
+use fallible_iterator::{FallibleIterator, Fault, convert};
+use std::alloc::{AllocError, Global};
+use std::fmt::Debug;
+use std::process::Abort;
+use std::test::Fail;
+
+// Five readings above 100 among seven, with a failure before the last two.
+fn readings(alloc: Global) -> Result<Vec<Result<u32, u8>>, AllocError> {
+    Vec::from_array(
+        alloc,
+        [Ok(101), Ok(7), Ok(600), Ok(150), Err(9), Ok(700), Ok(800)],
+    )
+}
+
+// Four readings, and no failure.
+fn good_readings(alloc: Global) -> Result<Vec<Result<u32, u8>>, AllocError> {
+    Vec::from_array(alloc, [Ok(5), Ok(600), Ok(100), Ok(501)])
+}
+
+#[test]
+fn counts(rt: HostRuntime) -> Result<(), Fail> {
+    assert_eq!(rt; above_100(&[1, 101, 100, 250]), Ok(2));
+    assert_eq!(rt; above_100_of_ten(readings(rt.alloc())?), Err(9));
+    assert_eq!(rt; above_100_of_ten(good_readings(rt.alloc())?), Ok(2));
+    assert_eq!(rt; doubled_above_1000(good_readings(rt.alloc())?), Ok(2));
+    assert_eq!(rt; all_up_to_100(good_readings(rt.alloc())?), Err(7));
+    assert_eq!(rt; both_columns(&[1, 2, 3], &[4, 5]), Ok(5));
+    Ok(())
+}
+
+#[test]
+fn folds(rt: HostRuntime) -> Result<(), Fail> {
+    assert_eq!(rt; fold_of_one(5), Ok(5));
+    assert_eq!(rt; sum(good_readings(rt.alloc())?), Ok(1206));
+    assert_eq!(rt; sum(readings(rt.alloc())?), Err(9));
+    assert_eq!(rt; products(&[1, 2, 3], &[4, 5]), Ok(14));
+    assert_eq!(rt; sum_of_nest(good_readings(rt.alloc())?), Ok(2202));
+    Ok(())
+}
+
+#[test]
+fn places_of_items(rt: HostRuntime) -> Result<(), Fail> {
+    assert_eq!(rt; fourth_above_100(readings(rt.alloc())?), Err(9));
+    assert_eq!(rt; third_draw(readings(rt.alloc())?), Ok(Some(300)));
+    assert_eq!(rt; second_if_above(good_readings(rt.alloc())?), Ok(Some(600)));
+    assert_eq!(rt; second_if_above(readings(rt.alloc())?), Ok(None));
+    Ok(())
+}
+
+// Fails the test where anything else than a `Vec` of these items was made.
+fn expect_made<T>(rt: &impl Abort, made: Result<Vec<T>, Fault<u8>>, expected: &[T])
+where
+    T: Debug + Drop + PartialEq,
+{
+    match made {
+        Ok(items) => assert_eq!(rt; items.as_slice(), expected),
+        Err(fault) => panic!(rt; "{fault:?}"),
+    }
+}
+
+#[test]
+fn collections(rt: HostRuntime) -> Result<(), Fail> {
+    let above = collected_above_100(rt.alloc(), good_readings(rt.alloc())?);
+    expect_made(&rt, above, &[600, 501]);
+    let sums = running_sums(rt.alloc(), good_readings(rt.alloc())?);
+    expect_made(&rt, sums, &[5, 605, 705, 1206]);
+    let seen = places(rt.alloc(), good_readings(rt.alloc())?);
+    expect_made(&rt, seen, &[(1, 600), (2, 100), (3, 501)]);
+    Ok(())
+}
+
+#[test]
+fn a_drain_by_hand(rt: HostRuntime) -> Result<(), Fail> {
+    let mut it = convert(readings(rt.alloc())?.into_iter());
+    assert_eq!(rt; draw_all(&mut it), Err(9));
+    assert_eq!(rt; it.next(), Ok(Some(700)));
+    Ok(())
+}
