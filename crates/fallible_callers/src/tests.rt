@@ -13,15 +13,18 @@ use std::test::Fail;
 
 // Five readings above 100 among seven, with a failure before the last two.
 fn readings(alloc: Global) -> Result<Vec<Result<u32, u8>>, AllocError> {
-    Vec::from_array(
+    Ok(Vec::from_array(
         alloc,
         [Ok(101), Ok(7), Ok(600), Ok(150), Err(9), Ok(700), Ok(800)],
-    )
+    )?)
 }
 
 // Four readings, and no failure.
 fn good_readings(alloc: Global) -> Result<Vec<Result<u32, u8>>, AllocError> {
-    Vec::from_array(alloc, [Ok(5), Ok(600), Ok(100), Ok(501)])
+    Ok(Vec::from_array(
+        alloc,
+        [Ok(5), Ok(600), Ok(100), Ok(501)],
+    )?)
 }
 
 #[test]

@@ -1,6 +1,5 @@
 -- Each column lists its numbers.
-use Rattle.std.proofs.Common.{rules, tests, subst, sym}
-use Rattle.fallible_iterator.specs.Lists.{Lists, items}
+use Rattle.std.proofs.Common.{rules}
 use Rattle.fallible_callers.proofs.computing.both_columns.Goals as goal
 
 pub returns : goal.returns
