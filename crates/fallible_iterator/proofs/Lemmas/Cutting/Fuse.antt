@@ -1,5 +1,5 @@
 -- The runs of `Fuse` are the traces that its definition names, and what it lists.
-use Rattle.std.specs.Prelude.{◌≡◌, Bool, true, false, List, [], ◌∷◌, Result, Ok, Err, ◌↔◌}
+use Rattle.std.specs.Prelude.{◌≡◌, Bool, false, List, [], ◌∷◌, Result, Ok, Err, ◌↔◌}
 use Rattle.std.specs.List.{FoldsTo}
 use Rattle.std.proofs.Common.{refl, sym, ap, subst, ◌∙◌}
 use Rattle.fallible_iterator.specs.declared.cutting.fuse.Fuse.{Fuse}

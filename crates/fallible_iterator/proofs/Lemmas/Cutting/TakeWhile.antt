@@ -1,5 +1,5 @@
 -- The runs of `TakeWhile` are the traces that its definition names, and what it lists.
-use Rattle.std.specs.Prelude.{◌≡◌, Bool, true, false, List, [], ◌∷◌, map, Option, Some, Result, Ok, Err, ◌↔◌}
+use Rattle.std.specs.Prelude.{◌≡◌, Bool, true, false, List, [], ◌∷◌, map, Some, Result, Ok, Err, ◌↔◌}
 use Rattle.std.specs.List.{FoldsTo, filter_map}
 use Rattle.std.specs.Fn.{Mut}
 use Rattle.std.specs.Borrow.{Bor}

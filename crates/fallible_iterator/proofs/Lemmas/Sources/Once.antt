@@ -1,5 +1,5 @@
 -- What a value that is held once lists.
-use Rattle.std.specs.Prelude.{◌≡◌, Option, Some, Result, Ok, Err, List, [], ◌∷◌}
+use Rattle.std.specs.Prelude.{◌≡◌, Option, Some, Result, Ok, Err, [], ◌∷◌}
 use Rattle.std.proofs.Common.{refl, subst, ◌∙◌}
 use Rattle.fallible_iterator.specs.declared.sources.once.Once.{Once}
 use Rattle.fallible_iterator.specs.declared.sources.once_err.OnceErr.{OnceErr}

@@ -1,5 +1,5 @@
 -- The runs over a std iterator.
-use Rattle.std.specs.Prelude.{◌≡◌, ◌+◌, ◌≤◌, suc, List, [], ◌∷◌, map, length, Option, Some, None, Result, Ok, Err, true, false, ◌↔◌}
+use Rattle.std.specs.Prelude.{◌≡◌, ◌≤◌, suc, List, [], ◌∷◌, map, length, Option, Some, None, Result, Ok, Err, true, false, ◌↔◌}
 use Rattle.std.specs.Iterator.{Count}
 use Rattle.std.specs.Iterator.Runs as runs
 use Rattle.std.proofs.Common.{refl, sym, ap, subst, ◌∙◌, arith, true≢false}

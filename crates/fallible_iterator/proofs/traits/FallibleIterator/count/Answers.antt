@@ -1,5 +1,5 @@
 -- The fold that carries the number of items counts them.
-use Rattle.std.proofs.Common.{rules, inl}
+use Rattle.std.proofs.Common.{rules}
 use Rattle.fallible_iterator.proofs.Lemmas.Folds.{holds_map, count_fits, counted_ended, counted_failed}
 use Rattle.fallible_iterator.proofs.Lemmas.Lists.Drawn.{counted_is}
 use Rattle.fallible_iterator.proofs.traits.FallibleIterator.count.Goals as goal
