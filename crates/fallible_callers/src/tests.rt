@@ -21,10 +21,7 @@ fn readings(alloc: Global) -> Result<Vec<Result<u32, u8>>, AllocError> {
 
 // Four readings, and no failure.
 fn good_readings(alloc: Global) -> Result<Vec<Result<u32, u8>>, AllocError> {
-    Ok(Vec::from_array(
-        alloc,
-        [Ok(5), Ok(600), Ok(100), Ok(501)],
-    )?)
+    Ok(Vec::from_array(alloc, [Ok(5), Ok(600), Ok(100), Ok(501)])?)
 }
 
 #[test]
