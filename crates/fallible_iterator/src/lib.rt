@@ -1,26 +1,18 @@
 //! Fallible iterators: iterators whose `next` may fail, with adapters and folds, where every call is proved to meet its contract.
+//!
+//! The trait and its adapters are those of `fallible_core`; the sources are this crate's own.
 #![tactic(auto)]
 
-pub mod collecting;
-pub mod cutting;
-pub mod filtering;
-pub mod folds;
-mod hints;
-pub mod joining;
+pub mod conversion;
 pub mod laws;
-pub mod number;
-pub mod one_to_one;
-pub mod peeking;
 pub mod sources;
-pub mod traits;
 
-pub use collecting::{Collect, Fault};
-pub use cutting::{Fuse, Skip, StepBy, Take, TakeWhile};
-pub use filtering::{Filter, FilterMap, SkipWhile};
-pub use joining::{Chain, Cycle, FlatMap, Flatten, Zip};
-pub use one_to_one::{Cloned, Enumerate, Inspect, Map, MapErr, Scan};
-pub use peeking::Peekable;
+pub use conversion::IteratorExt;
+pub use fallible_core::folds;
+pub use fallible_core::{
+    Chain, Cloned, Collect, Cycle, Enumerate, FallibleIterator, Fault, Filter, FilterMap, FlatMap,
+    Flatten, Fuse, Inspect, IntoFallibleIterator, Map, MapErr, Peekable, Scan, Skip, SkipWhile,
+    StepBy, Take, TakeWhile, Zip,
+};
 pub use sources::making::{convert, empty, from_fn, once, once_err, repeat, repeat_err};
 pub use sources::{Convert, Empty, FromFn, IntoFallible, Once, OnceErr, Repeat, RepeatErr};
-pub use traits::FallibleIterator;
-pub use traits::conversion::{IntoFallibleIterator, IteratorExt};

@@ -1,6 +1,6 @@
 // The adapter that looks one item ahead.
 ghost use Rattle.std.specs.Prelude.{◌≡◌, ⊤, Some, None, Ok, MatchResult};
-ghost use Rattle.fallible_iterator.specs.Peeking.Peekable.{Fills, peekable_parts};
+ghost use Rattle.fallible_core.specs.Peeking.Peekable.{Fills, peekable_parts};
 
 use crate::answered::expect_answers;
 use crate::listed::listed;

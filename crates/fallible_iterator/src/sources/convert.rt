@@ -1,11 +1,11 @@
 // The fallible iterator of a std iterator over results.
 ghost use Rattle.std.specs.Prelude.{Some, Ok, Err, Result, Option};
-ghost use Rattle.fallible_iterator.specs.Contract.{seen_as};
+ghost use Rattle.fallible_core.specs.Contract.{seen_as};
 ghost use Rattle.fallible_iterator.specs.Sources.Convert.{convert_contract, convert_parts};
-ghost use Rattle.fallible_iterator.specs.Laws.Contract.{lawful_seen};
+ghost use Rattle.fallible_core.specs.Laws.Contract.{lawful_seen};
 ghost use Rattle.fallible_iterator.specs.Laws.Sources.Std.{lawful_std};
 
-use crate::traits::FallibleIterator;
+use fallible_core::FallibleIterator;
 
 /// The fallible iterator of a std iterator over results: each `Ok` is an item, each `Err` a failure, and none is an end.
 #[derive(Clone, Debug, Drop)]

@@ -3,7 +3,7 @@ ghost use Rattle.std.specs.Prelude.{Some, Ok, Result, Option};
 ghost use Rattle.fallible_iterator.specs.Sources.Empty.{empty_contract};
 ghost use Rattle.fallible_iterator.specs.Laws.Sources.Empty.{lawful_empty};
 
-use crate::traits::FallibleIterator;
+use fallible_core::FallibleIterator;
 use std::marker::PhantomData;
 
 /// Only ends.

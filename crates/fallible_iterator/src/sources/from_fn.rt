@@ -1,11 +1,11 @@
 // The fallible iterator of a closure.
 ghost use Rattle.std.specs.Prelude.{Result, Option};
-ghost use Rattle.fallible_iterator.specs.Contract.{seen_as};
+ghost use Rattle.fallible_core.specs.Contract.{seen_as};
 ghost use Rattle.fallible_iterator.specs.Sources.FromFn.{from_fn_contract, from_fn_parts};
-ghost use Rattle.fallible_iterator.specs.Laws.Contract.{lawful_seen};
+ghost use Rattle.fallible_core.specs.Laws.Contract.{lawful_seen};
 ghost use Rattle.fallible_iterator.specs.Laws.Sources.FromFn.{lawful_from_fn};
 
-use crate::traits::FallibleIterator;
+use fallible_core::FallibleIterator;
 
 /// The fallible iterator of a closure: each draw is one call, and its answer is the closure's.
 #[derive(Clone, Debug, Drop)]

@@ -1,11 +1,11 @@
 // The fallible iterator of a std iterator over any values.
 ghost use Rattle.std.specs.Prelude.{◌≡◌, Ok, Result, Option};
-ghost use Rattle.fallible_iterator.specs.Contract.{seen_as};
+ghost use Rattle.fallible_core.specs.Contract.{seen_as};
 ghost use Rattle.fallible_iterator.specs.Sources.IntoFallible.{into_fallible_contract, never, into_fallible_parts};
-ghost use Rattle.fallible_iterator.specs.Laws.Contract.{lawful_seen};
+ghost use Rattle.fallible_core.specs.Laws.Contract.{lawful_seen};
 ghost use Rattle.fallible_iterator.specs.Laws.Sources.Std.{lawful_std};
 
-use crate::traits::FallibleIterator;
+use fallible_core::FallibleIterator;
 use std::convert::Infallible;
 
 /// The fallible iterator of a std iterator over any values: each is an item, and none is an end. It never fails.

@@ -1,11 +1,11 @@
 // The source of one item.
 ghost use Rattle.std.specs.Prelude.{Some, Ok, Result, Option};
-ghost use Rattle.fallible_iterator.specs.Contract.{seen_as};
+ghost use Rattle.fallible_core.specs.Contract.{seen_as};
 ghost use Rattle.fallible_iterator.specs.Sources.Once.{once_contract, once_parts};
-ghost use Rattle.fallible_iterator.specs.Laws.Contract.{lawful_seen};
+ghost use Rattle.fallible_core.specs.Laws.Contract.{lawful_seen};
 ghost use Rattle.fallible_iterator.specs.Laws.Sources.Once.{lawful_once};
 
-use crate::traits::FallibleIterator;
+use fallible_core::FallibleIterator;
 use std::marker::PhantomData;
 
 /// One item, and then ends.

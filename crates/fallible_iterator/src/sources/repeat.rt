@@ -1,11 +1,11 @@
 // The source of clones as items.
 ghost use Rattle.std.specs.Prelude.{Some, Ok, Err, Result, Option};
-ghost use Rattle.fallible_iterator.specs.Contract.{seen_as};
+ghost use Rattle.fallible_core.specs.Contract.{seen_as};
 ghost use Rattle.fallible_iterator.specs.Sources.Repeat.{repeat_contract, repeat_parts};
-ghost use Rattle.fallible_iterator.specs.Laws.Contract.{lawful_seen};
+ghost use Rattle.fallible_core.specs.Laws.Contract.{lawful_seen};
 ghost use Rattle.fallible_iterator.specs.Laws.Sources.Repeat.{lawful_repeat};
 
-use crate::traits::FallibleIterator;
+use fallible_core::FallibleIterator;
 use std::alloc::AllocError;
 use std::marker::PhantomData;
 

@@ -1,0 +1,32 @@
+-- The runs of `Fuse` are the traces that its definition names, and what it lists.
+use Rattle.std.specs.Prelude.{◌≡◌, Bool, false, List, [], ◌∷◌, Result, Ok, Err, ◌↔◌}
+use Rattle.std.specs.List.{FoldsTo}
+use Rattle.std.proofs.Common.{refl, sym, ap, subst, ◌∙◌}
+use Rattle.fallible_core.specs.declared.cutting.fuse.Fuse.{Fuse}
+use Rattle.fallible_core.specs.Contract.{Contract, seen_as}
+use Rattle.fallible_core.specs.Lists.{AlwaysGives, Lists, result_answer}
+use Rattle.fallible_core.proofs.Lemmas.Lists.Passing.{lists_seen}
+use Rattle.fallible_core.specs.Traces.{Answered, is_end}
+use Rattle.fallible_core.specs.Closing.{closing_step}
+use Rattle.fallible_core.specs.Cutting.Fuse.{FuseTrace, fuse_parts, fuse_contract}
+use Rattle.fallible_core.proofs.Lemmas.Closing.{closing_law}
+
+pub fuse_law : {S A E : Type 0} (steps : S → Answered A E → S → Type 0) (p : S × Bool) (trace : List (Answered A E)) (q : S × Bool) → FoldsTo (closing_step steps (λ r. r) is_end) p trace q ↔ FuseTrace steps p trace q
+fuse_law steps p trace q = let law = closing_law steps (λ r. r) is_end p.0 p.1 trace q.0 q.1 in ((λ h. let d = law.0 h in record { source_trace = d.0; drawn = d.1; cut = d.2 }), (λ h. law.1 (h.source_trace, h.drawn, h.cut)))
+
+-- ---- what it lists
+
+no_end : {A E : Type 0} (y : Result A E) → is_end (result_answer y) ≡ false
+no_end (Ok x) = refl
+no_end (Err e) = refl
+
+module _ {S A E : Type 0} (steps : S → Answered A E → S → Type 0) where
+  abbrev fused_step : S × Bool → Answered A E → S × Bool → Type 0
+  fused_step = closing_step steps (λ r. r) is_end
+
+  fused_gives : (l : List (Result A E)) (s : S) → AlwaysGives steps s l → AlwaysGives fused_step (s, false) l
+  fused_gives [] s a = λ r t w. w.2 ∙ a w.0 t.0 w.1
+  fused_gives (y ∷ l) s a = λ r t w. let d = a w.0 t.0 w.1 in (w.2 ∙ d.0, subst (λ (b : Bool). AlwaysGives fused_step (t.0, b) l) (sym (w.3 ∙ ap is_end d.0 ∙ no_end y)) (fused_gives l t.0 d.1))
+
+pub lists_fused : {S A E : Type 0} (m : Contract S A E) (s : Fuse S) (l : List (Result A E)) → fuse_parts s ≡ (s.it, false) → Lists m.steps s.it l → Lists (seen_as fuse_parts (fuse_contract m)).steps s l
+lists_fused m s l parts i = lists_seen fuse_parts (fuse_contract m).steps s parts refl (fused_gives m.steps l s.it i.runs)

@@ -1,0 +1,91 @@
+-- The runs of `TakeWhile` are the traces that its definition names, and what it lists.
+use Rattle.std.specs.Prelude.{◌≡◌, Bool, true, false, List, [], ◌∷◌, map, Some, Result, Ok, Err, ◌↔◌}
+use Rattle.std.specs.List.{FoldsTo, filter_map}
+use Rattle.std.specs.Fn.{Mut}
+use Rattle.std.specs.Borrow.{Bor}
+use Rattle.std.proofs.Common.{refl, sym, ap, subst, ◌∙◌}
+use Rattle.fallible_core.specs.declared.cutting.take_while.TakeWhile.{TakeWhile}
+use Rattle.fallible_core.specs.Contract.{Contract, seen_as}
+use Rattle.fallible_core.specs.Lists.{AlwaysGives, Lists, Acts, result_answer, cons_while, taken_while}
+use Rattle.fallible_core.proofs.Lemmas.Lists.Passing.{passed, by_outcome, passing_step, lists_seen, lists_passed}
+use Rattle.fallible_core.specs.Traces.{Answered, Run}
+use Rattle.fallible_core.specs.Closures.{Calls, call_in, call_at}
+use Rattle.fallible_core.specs.Passing.{Place, asked, failure_at, end_at, source_answer, call_of}
+use Rattle.fallible_core.specs.Closing.{closing_step}
+use Rattle.fallible_core.specs.Cutting.TakeWhile.{take_while_outcome, taken_answer, is_refused, TakeWhileTrace, place_drawn, take_while_parts, take_while_contract}
+use Rattle.fallible_core.proofs.Lemmas.Closing.{closing_law}
+
+module _ {S F X R E : Type 0} (steps : S → Answered X E → S → Type 0) (call : F → X → R → F → Type 0) where
+  -- the call at a first place, and those at the others
+  first_call : (x : Place X R E) (places : List (Place X R E)) (f h g : F) → Calls call f (filter_map call_of (x ∷ [])) h → Calls call h (filter_map call_of places) g → Calls call f (filter_map call_of (x ∷ places)) g
+  first_call (asked x v) places f h g one rest = (one.0, one.1, subst (λ (k : F). Calls call k (filter_map call_of places) g) (sym one.2) rest)
+  first_call (failure_at e) places f h g one rest = subst (λ (k : F). Calls call k (filter_map call_of places) g) (sym one) rest
+  first_call end_at places f h g one rest = subst (λ (k : F). Calls call k (filter_map call_of places) g) (sym one) rest
+
+  calls_apart : (x : Place X R E) (places : List (Place X R E)) (f g : F) → Calls call f (filter_map call_of (x ∷ places)) g → (h : F) × Calls call f (filter_map call_of (x ∷ [])) h × Calls call h (filter_map call_of places) g
+  calls_apart (asked x v) places f g c = (c.0, (c.0, c.1, refl), c.2)
+  calls_apart (failure_at e) places f g c = (f, refl, c)
+  calls_apart end_at places f g c = (f, refl, c)
+
+  -- the draws from the source, and the calls at their places
+  abbrev Both : List (Place X R E) → S → F → S → F → Type 0
+  Both places s f t g = Run steps s (map source_answer places) t × Calls call f (filter_map call_of places) g
+
+  to_both : (places : List (Place X R E)) (s : S) (f : F) (t : S) (g : F) → FoldsTo (place_drawn steps call) (s, f) places (t, g) → Both places s f t g
+  to_both [] s f t g e = (ap (λ p. p.0) e, ap (λ p. p.1) e)
+  to_both (x ∷ places) s f t g h = let b = to_both places h.0.0 h.0.1 t g h.2 in ((h.0.0, h.1.0, b.0), first_call x places f h.0.1 g h.1.1 b.1)
+
+  from_both : (places : List (Place X R E)) (s : S) (f : F) (t : S) (g : F) → Both places s f t g → FoldsTo (place_drawn steps call) (s, f) places (t, g)
+  from_both [] s f t g b = rw (b.0, b.1) refl
+  from_both (x ∷ places) s f t g b = let c = calls_apart x places f g b.1 in (((b.0).0, c.0), ((b.0).1, c.1), from_both places (b.0).0 c.0 t g ((b.0).2, c.2))
+
+pub take_while_law : {S F X E : Type 0} (steps : S → Answered X E → S → Type 0) (call : F → X → Result Bool E → F → Type 0) (p : (S × F) × Bool) (trace : List (Answered X E)) (q : (S × F) × Bool) → FoldsTo (closing_step (place_drawn steps call) taken_answer is_refused) p trace q ↔ TakeWhileTrace steps call p trace q
+take_while_law steps call p trace q = let law = closing_law (place_drawn steps call) taken_answer is_refused p.0 p.1 trace q.0 q.1 in
+    ((λ h. let d = law.0 h in let both = to_both steps call d.0 (p.0).0 (p.0).1 (q.0).0 (q.0).1 d.1 in record { places = d.0; drawn = both.0; called = both.1; cut = d.2 }), (λ h. law.1 (h.places, from_both steps call h.places (p.0).0 (p.0).1 (q.0).0 (q.0).1 (h.drawn, h.called), h.cut)))
+
+-- ---- what it lists
+
+module _ {S F X E : Type 0} (steps : S → Answered X E → S → Type 0) (call : F → X → Result Bool E → F → Type 0) where
+  abbrev once_drawn : S × F → Answered X E → S × F → Type 0
+  once_drawn = passing_step steps call take_while_outcome
+
+  abbrev until_refused : (S × F) × Bool → Answered X E → (S × F) × Bool → Type 0
+  until_refused = closing_step (place_drawn steps call) taken_answer is_refused
+
+  -- while no item was refused, a draw is one that lets answers pass
+  one_passed : (x : Place X (Result Bool E) E) (p q : S × F) (r : Answered X E) → place_drawn steps call p x q → r ≡ taken_answer x → once_drawn p r q
+  one_passed (asked x (Ok true)) p q r d e = record { places = asked x (Ok true) ∷ []; drawn = (q.0, d.0, refl); called = d.1; answers = ap (λ k. k ∷ []) e; last_kept = refl }
+  one_passed (asked x (Ok false)) p q r d e = record { places = asked x (Ok false) ∷ []; drawn = (q.0, d.0, refl); called = d.1; answers = ap (λ k. k ∷ []) e; last_kept = refl }
+  one_passed (asked x (Err c)) p q r d e = record { places = asked x (Err c) ∷ []; drawn = (q.0, d.0, refl); called = d.1; answers = ap (λ k. k ∷ []) e; last_kept = refl }
+  one_passed (failure_at c) p q r d e = record { places = failure_at c ∷ []; drawn = (q.0, d.0, refl); called = d.1; answers = ap (λ k. k ∷ []) e; last_kept = refl }
+  one_passed end_at p q r d e = record { places = end_at ∷ []; drawn = (q.0, d.0, refl); called = d.1; answers = ap (λ k. k ∷ []) e; last_kept = refl }
+
+  -- what isn't an end is no refusal
+  not_refused : (x : Place X (Result Bool E) E) (y : Result X E) → taken_answer x ≡ result_answer y → is_refused x ≡ false
+  not_refused (asked x (Ok true)) y e = refl
+  not_refused (asked x (Ok false)) (Ok y) e = absurd cc
+  not_refused (asked x (Ok false)) (Err c) e = absurd cc
+  not_refused (asked x (Err c)) y e = refl
+  not_refused (failure_at c) y e = refl
+  not_refused end_at y e = refl
+
+  until_refused_gives : (l : List (Result X E)) (p : S × F) → AlwaysGives once_drawn p l → AlwaysGives until_refused (p, false) l
+  until_refused_gives [] p a = λ r t w. a r t.0 (one_passed w.0 p t.0 r w.1 w.2)
+  until_refused_gives (y ∷ l) p a = λ r t w. let d = a r t.0 (one_passed w.0 p t.0 r w.1 w.2) in
+      (d.0, subst (λ (b : Bool). AlwaysGives until_refused (t.0, b) l) (sym (w.3 ∙ not_refused w.0 y (sym w.2 ∙ d.0))) (until_refused_gives l t.0 d.1))
+
+outcome_listed : {X E : Type 0} (x : X) (v : Result Bool E) (l : List (Result X E)) → by_outcome (take_while_outcome x v) l ≡ cons_while x v l
+outcome_listed x (Ok true) l = refl
+outcome_listed x (Ok false) l = refl
+outcome_listed x (Err e) l = refl
+
+taken_while_is : {X E : Type 0} (h : X → Result Bool E) (l : List (Result X E)) → passed take_while_outcome (λ (p : Unit {0}) x. h x) (λ p x. p) tt l ≡ taken_while h l
+unfolding taken_while
+taken_while_is h [] = refl
+taken_while_is h (Ok x ∷ l) = outcome_listed x (h x) _ ∙ ap (λ t. cons_while x (h x) t) (taken_while_is h l)
+taken_while_is h (Err e ∷ l) = ap (λ t. Err e ∷ t) (taken_while_is h l)
+
+pub lists_taken_while : {S F X E : Type 0} (m : Contract S X E) (g : Mut F (Bor X × Unit {0}) (Result Bool E)) (s : TakeWhile S F) (f : F) (h : X → Result Bool E) (l : List (Result X E)) → take_while_parts s ≡ ((s.it, Some f), false) → Acts (call_at g) f h → Lists m.steps s.it l
+    → Lists (seen_as take_while_parts (take_while_contract m g)).steps s (taken_while h l)
+lists_taken_while m g s f h l parts a i = lists_seen take_while_parts (take_while_contract m g).steps s parts (taken_while_is h l)
+    (until_refused_gives m.steps (call_in (call_at g)) _ (s.it, Some f) (lists_passed (call_at g) f h a m.steps take_while_outcome s.it l i.runs))

@@ -1,0 +1,26 @@
+-- What `Filter` lists.
+use Rattle.std.specs.Prelude.{◌≡◌, Result, Ok, Err, List, [], ◌∷◌, Some, Bool, true, false}
+use Rattle.std.proofs.Common.{refl, ap, ◌∙◌}
+use Rattle.std.specs.Fn.{Mut}
+use Rattle.std.specs.Borrow.{Bor}
+use Rattle.fallible_core.specs.declared.filtering.filter.Filter.{Filter}
+use Rattle.fallible_core.specs.Contract.{Contract, seen_as}
+use Rattle.fallible_core.specs.Closures.{call_at}
+use Rattle.fallible_core.specs.Filtering.Filter.{filter_outcome, filter_parts, filter_contract}
+use Rattle.fallible_core.specs.Lists.{Lists, Acts, cons_if, filtered}
+use Rattle.fallible_core.proofs.Lemmas.Lists.Passing.{passed, by_outcome, lists_seen, lists_passed}
+
+outcome_listed : {X E : Type 0} (x : X) (v : Result Bool E) (l : List (Result X E)) → by_outcome (filter_outcome x v) l ≡ cons_if x v l
+outcome_listed x (Ok true) l = refl
+outcome_listed x (Ok false) l = refl
+outcome_listed x (Err e) l = refl
+
+filtered_is : {X E : Type 0} (h : X → Result Bool E) (l : List (Result X E)) → passed filter_outcome (λ (p : Unit {0}) x. h x) (λ p x. p) tt l ≡ filtered h l
+unfolding filtered
+filtered_is h [] = refl
+filtered_is h (Ok x ∷ l) = outcome_listed x (h x) _ ∙ ap (λ t. cons_if x (h x) t) (filtered_is h l)
+filtered_is h (Err e ∷ l) = ap (λ t. Err e ∷ t) (filtered_is h l)
+
+pub lists_filtered : {S F X E : Type 0} (m : Contract S X E) (g : Mut F (Bor X × Unit {0}) (Result Bool E)) (s : Filter S F) (f : F) (h : X → Result Bool E) (l : List (Result X E)) → filter_parts s ≡ (s.it, Some f) → Acts (call_at g) f h → Lists m.steps s.it l
+    → Lists (seen_as filter_parts (filter_contract m g)).steps s (filtered h l)
+lists_filtered m g s f h l parts a i = lists_seen filter_parts (filter_contract m g).steps s parts (filtered_is h l) (lists_passed (call_at g) f h a m.steps filter_outcome s.it l i.runs)

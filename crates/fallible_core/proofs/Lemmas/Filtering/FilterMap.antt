@@ -1,0 +1,25 @@
+-- What `FilterMap` lists.
+use Rattle.std.specs.Prelude.{◌≡◌, Option, Result, Ok, Err, List, [], ◌∷◌, Some, None}
+use Rattle.std.proofs.Common.{refl, ap, ◌∙◌}
+use Rattle.std.specs.Fn.{Mut}
+use Rattle.fallible_core.specs.declared.filtering.filter_map.FilterMap.{FilterMap}
+use Rattle.fallible_core.specs.Contract.{Contract, seen_as}
+use Rattle.fallible_core.specs.Closures.{call_on}
+use Rattle.fallible_core.specs.Filtering.FilterMap.{filter_map_outcome, filter_map_parts, filter_map_contract}
+use Rattle.fallible_core.specs.Lists.{Lists, Acts, cons_some, filter_mapped}
+use Rattle.fallible_core.proofs.Lemmas.Lists.Passing.{passed, by_outcome, lists_seen, lists_passed}
+
+outcome_listed : {X B E : Type 0} (x : X) (v : Result (Option B) E) (l : List (Result B E)) → by_outcome (filter_map_outcome x v) l ≡ cons_some v l
+outcome_listed x (Ok (Some y)) l = refl
+outcome_listed x (Ok None) l = refl
+outcome_listed x (Err e) l = refl
+
+filter_mapped_is : {X B E : Type 0} (h : X → Result (Option B) E) (l : List (Result X E)) → passed filter_map_outcome (λ (p : Unit {0}) x. h x) (λ p x. p) tt l ≡ filter_mapped h l
+unfolding filter_mapped
+filter_mapped_is h [] = refl
+filter_mapped_is h (Ok x ∷ l) = outcome_listed x (h x) _ ∙ ap (λ t. cons_some (h x) t) (filter_mapped_is h l)
+filter_mapped_is h (Err e ∷ l) = ap (λ t. Err e ∷ t) (filter_mapped_is h l)
+
+pub lists_filter_mapped : {S F X B E : Type 0} (m : Contract S X E) (g : Mut F (X × Unit {0}) (Result (Option B) E)) (s : FilterMap S F) (f : F) (h : X → Result (Option B) E) (l : List (Result X E)) → filter_map_parts s ≡ (s.it, Some f) → Acts (call_on g) f h → Lists m.steps s.it l
+    → Lists (seen_as filter_map_parts (filter_map_contract m g)).steps s (filter_mapped h l)
+lists_filter_mapped m g s f h l parts a i = lists_seen filter_map_parts (filter_map_contract m g).steps s parts (filter_mapped_is h l) (lists_passed (call_on g) f h a m.steps filter_map_outcome s.it l i.runs)

@@ -1,0 +1,220 @@
+-- The runs of `SkipWhile` are the traces that its definition names, and what it lists.
+use Rattle.std.specs.Prelude.{Option, Result, Bool, Some, None, Ok, Err, ◌≡◌, List, [], ◌∷◌, ◌++◌, map, true, false, IsSome, ◌↔◌}
+use Rattle.std.specs.List.{filter_map}
+use Rattle.std.proofs.Common.{refl, sym, ◌∙◌, ap, subst, append-nil}
+use Rattle.fallible_core.specs.Traces.{Answered, Run, item}
+use Rattle.fallible_core.specs.Closures.{Calls, call_in, call_at}
+use Rattle.std.specs.Fn.{Mut}
+use Rattle.std.specs.Borrow.{Bor}
+use Rattle.fallible_core.specs.declared.filtering.skip_while.SkipWhile.{SkipWhile}
+use Rattle.fallible_core.specs.Contract.{Contract, seen_as}
+use Rattle.fallible_core.specs.Lists.{Lists, Acts, cons_from, skipped_while}
+use Rattle.fallible_core.proofs.Lemmas.Lists.Passing.{passed, by_outcome, all_given, lists_seen}
+use Rattle.fallible_core.specs.Laws.Filtering.SkipWhile.{into}
+use Rattle.fallible_core.specs.Passing.{PassTrace, Place, asked, failure_at, end_at, source_answer, call_of, answer_at}
+use Rattle.fallible_core.specs.Filtering.SkipWhile.{skip_call, skip_while_outcome, skip_while_parts, skip_while_contract, answers_false, false_at, EndsAtFalse, asked_outcome, AskedUntilFalse, SkipWhileTrace}
+use Rattle.fallible_core.proofs.Lemmas.Definitions.{runs_by_answers}
+use Rattle.fallible_core.proofs.Lemmas.Passing.{passing_by_answers, passes_held}
+use Rattle.fallible_core.specs.Laws.Passing.{Passes, done, ends, fails, keeps, refuses, closes, leaves_out, kept_tail, kept_cons, kept_before, answered, to_passes, from_passes}
+
+-- ---- the places met, one before the others
+
+module _ {X E : Type 0} where
+  ends_at_cons : (p : Place X (Result Bool E) E) (met : List (Place X (Result Bool E) E)) → false_at p ≡ false → EndsAtFalse met → EndsAtFalse (p ∷ met)
+  ends_at_cons p [] e h = absurd h
+  ends_at_cons p (q ∷ rest) e h = (e, h)
+
+  -- a place with an answer before the others
+  until_cons : (p : Place X (Result Bool E) E) (met : List (Place X (Result Bool E) E)) (after : List (Answered X E)) (b : Bool) → false_at p ≡ false → IsSome (answer_at asked_outcome p) → AskedUntilFalse false met after b → AskedUntilFalse false (p ∷ met) after b
+  until_cons p met after true e some h = ends_at_cons p met e h
+  until_cons p met after false e some h = ((e, h.0), h.1, kept_cons asked_outcome p met some h.2)
+
+  -- a left-out item before the others, of which there are some
+  until_left_out : (p : Place X (Result Bool E) E) (met : List (Place X (Result Bool E) E)) (after : List (Answered X E)) (b : Bool) (r : Answered X E) (trace : List (Answered X E)) → false_at p ≡ false → r ∷ trace ≡ filter_map (answer_at asked_outcome) met ++ after → AskedUntilFalse false met after b → AskedUntilFalse false (p ∷ met) after b
+  until_left_out p met after true r trace e answers h = ends_at_cons p met e h
+  until_left_out p met after false r trace e answers h = let same : r ∷ trace ≡ filter_map (answer_at asked_outcome) met ++ [] = subst (λ (l : List (Answered X E)). r ∷ trace ≡ filter_map (answer_at asked_outcome) met ++ l) h.1 answers in
+      ((e, h.0), h.1, kept_before asked_outcome p met r trace (same ∙ append-nil (filter_map (answer_at asked_outcome) met)) h.2)
+
+  -- and the other way: what holds of the others
+  until_tail : (p : Place X (Result Bool E) E) (met : List (Place X (Result Bool E) E)) (after : List (Answered X E)) (b : Bool) → false_at p ≡ false → AskedUntilFalse false (p ∷ met) after b → AskedUntilFalse false met after b
+  until_tail p [] after true e h = absurd cc
+  until_tail p (q ∷ rest) after true e h = h.1
+  until_tail p met after false e h = (h.0.1, h.1, kept_tail asked_outcome p met h.2)
+
+  -- places that end at a false have an answer
+  ends_answered : (p : Place X (Result Bool E) E) (rest : List (Place X (Result Bool E) E)) (after : List (Answered X E)) → EndsAtFalse (p ∷ rest) → filter_map (answer_at asked_outcome) (p ∷ rest) ++ after ≡ [] → ⊥
+  ends_answered (failure_at e) [] after h d = cc
+  ends_answered end_at [] after h d = cc
+  ends_answered (asked x (Ok false)) [] after h d = cc
+  ends_answered (asked x (Ok true)) [] after h d = cc
+  ends_answered (asked x (Err e)) [] after h d = cc
+  ends_answered (failure_at e) (q ∷ rest) after h d = cc
+  ends_answered end_at (q ∷ rest) after h d = cc
+  ends_answered (asked x (Ok false)) (q ∷ rest) after h d = cc
+  ends_answered (asked x (Ok true)) (q ∷ rest) after h d = ends_answered q rest after h.1 d
+  ends_answered (asked x (Err e)) (q ∷ rest) after h d = cc
+
+module _ {S F X E : Type 0} (steps : S → Answered X E → S → Type 0) (call : F → X → Result Bool E → F → Type 0) where
+  abbrev P : S → Bool × F → List (Answered X E) → S → Bool × F → Type 0
+  P = Passes steps (skip_call call) skip_while_outcome
+
+  -- ---- after the first false all answers pass, and nothing is asked
+
+  record Passed (s : S) (p : Bool × F) (trace : List (Answered X E)) (t : S) (q : Bool × F) : Type 0 where
+    ran : Run steps s trace t
+    same : q ≡ p
+
+  after_false : (s t : S) (p q : Bool × F) (trace : List (Answered X E)) → p.0 ≡ true → P s p trace t q → Passed s p trace t q
+  after_false s _ p _ _ e done = record { ran = refl; same = refl }
+  after_false s t p q _ e (ends {u = u} {trace = rest} step h) = let k = after_false u t p q rest e h in record { ran = (u, step, k.ran); same = k.same }
+  after_false s t p q _ e (fails {u = u} {trace = rest} d step h) = let k = after_false u t p q rest e h in record { ran = (u, step, k.ran); same = k.same }
+  after_false s t p q _ e (keeps {u = u} {h = j} {trace = rest} x None y step called is h) = let k = after_false u t j q rest (ap (λ (z : Bool × F). z.0) called.1 ∙ e) h in
+      let same : x ≡ y = cc in record { ran = (u, subst (λ (z : X). steps s (item z) u) same step, k.ran); same = k.same ∙ called.1 }
+  after_false s t p q _ e (keeps x (Some v) y step called is h) = absurd (let d = called.0 in cc)
+  after_false s t p q _ e (refuses x None d step called is h) = absurd cc
+  after_false s t p q _ e (refuses x (Some v) d step called is h) = absurd (let c = called.0 in cc)
+  after_false s t p q _ e (closes x None step called is h) = absurd cc
+  after_false s t p q _ e (closes x (Some v) step called is h) = absurd (let d = called.0 in cc)
+  after_false s t p q _ e (leaves_out x None step called is h) = absurd cc
+  after_false s t p q _ e (leaves_out x (Some v) step called is h) = absurd (let d = called.0 in cc)
+
+  run_passes : (trace : List (Answered X E)) (s t : S) (f : F) → Run steps s trace t → P s (true, f) trace t (true, f)
+  run_passes [] s t f ran = subst (λ (u : S). P s (true, f) [] u (true, f)) ran done
+  run_passes (Ok None ∷ rest) s t f ran = ends ran.1 (run_passes rest ran.0 t f ran.2)
+  run_passes (Err e ∷ rest) s t f ran = fails e ran.1 (run_passes rest ran.0 t f ran.2)
+  run_passes (Ok (Some x) ∷ rest) s t f ran = keeps x None x ran.1 (refl, refl) refl (run_passes rest ran.0 t f ran.2)
+
+  -- ---- before it
+
+  record Skips (s : S) (f : F) (trace : List (Answered X E)) (t : S) (q : Bool × F) : Type 0 where
+    met : List (Place X (Result Bool E) E)
+    after : List (Answered X E)
+    drawn : Run steps s (map source_answer met ++ after) t
+    called : Calls (call) f (filter_map call_of met) q.1
+    answers : trace ≡ filter_map (answer_at asked_outcome) met ++ after
+    until_false : AskedUntilFalse false met after q.0
+
+  before_false : (s t : S) (p q : Bool × F) (trace : List (Answered X E)) → p.0 ≡ false → P s p trace t q → Skips s p.1 trace t q
+  before_false s _ p _ _ e done = record { met = []; after = []; drawn = refl; called = refl; answers = refl; until_false = subst (λ (b : Bool). AskedUntilFalse {X = X} {E = E} false [] [] b) (sym e) (tt, refl, tt) }
+  before_false s t p q _ e (ends {u = u} {trace = rest} step h) = let k = before_false u t p q rest e h in record { met = end_at ∷ k.met; after = k.after; drawn = (u, step, k.drawn); called = k.called; answers = ap (λ (l : List (Answered X E)). Ok None ∷ l) k.answers; until_false = until_cons end_at k.met k.after q.0 refl refl k.until_false }
+  before_false s t p q _ e (fails {u = u} {trace = rest} d step h) = let k = before_false u t p q rest e h in record { met = failure_at d ∷ k.met; after = k.after; drawn = (u, step, k.drawn); called = k.called; answers = ap (λ (l : List (Answered X E)). Err d ∷ l) k.answers; until_false = until_cons (failure_at d) k.met k.after q.0 refl refl k.until_false }
+  before_false s t p q _ e (keeps x None y step called is h) = absurd (let d = called.0 in cc)
+  before_false s t p q _ e (keeps {u = u} {h = j} {trace = rest} x (Some (Ok false)) y step called is h) = let k = after_false u t j q rest called.2 h in let same : x ≡ y = cc in
+      record { met = asked x (Ok false) ∷ []; after = rest; drawn = (u, step, k.ran); called = (j.1, called.1, ap (λ (z : Bool × F). z.1) (sym k.same)); answers = ap (λ (z : X). item z ∷ rest) (sym same); until_false = subst (λ (b : Bool). AskedUntilFalse false (asked x (Ok false) ∷ []) rest b) (sym (ap (λ (z : Bool × F). z.0) k.same ∙ called.2)) refl }
+  before_false s t p q _ e (keeps x (Some (Ok true)) y step called is h) = absurd cc
+  before_false s t p q _ e (keeps x (Some (Err d)) y step called is h) = absurd cc
+  before_false s t p q _ e (refuses x None d step called is h) = absurd cc
+  before_false s t p q _ e (refuses x (Some (Ok false)) d step called is h) = absurd cc
+  before_false s t p q _ e (refuses x (Some (Ok true)) d step called is h) = absurd cc
+  before_false s t p q _ e (refuses {u = u} {h = j} {trace = rest} x (Some (Err c)) d step called is h) = let k = before_false u t j q rest called.2 h in let same : c ≡ d = cc in
+      record { met = asked x (Err c) ∷ k.met; after = k.after; drawn = (u, step, k.drawn); called = (j.1, called.1, k.called); answers = ap (λ (z : E). Err z ∷ rest) (sym same) ∙ ap (λ (l : List (Answered X E)). Err c ∷ l) k.answers; until_false = until_cons (asked x (Err c)) k.met k.after q.0 refl refl k.until_false }
+  before_false s t p q _ e (closes x None step called is h) = absurd cc
+  before_false s t p q _ e (closes x (Some (Ok false)) step called is h) = absurd cc
+  before_false s t p q _ e (closes x (Some (Ok true)) step called is h) = absurd cc
+  before_false s t p q _ e (closes x (Some (Err c)) step called is h) = absurd cc
+  before_false s t p q _ e (leaves_out x None step called is h) = absurd cc
+  before_false s t p q _ e (leaves_out x (Some (Ok false)) step called is h) = absurd cc
+  before_false s t p q _ e (leaves_out x (Some (Err c)) step called is h) = absurd cc
+  before_false s t p q _ e (leaves_out {u = u} {h = j} {r = r} {trace = rest} x (Some (Ok true)) step called is h) = let k = before_false u t j q (r ∷ rest) called.2 h in
+      record { met = asked x (Ok true) ∷ k.met; after = k.after; drawn = (u, step, k.drawn); called = (j.1, called.1, k.called); answers = k.answers; until_false = until_left_out (asked x (Ok true)) k.met k.after q.0 r rest refl k.answers k.until_false }
+
+  -- a left-out item before an answer
+  left_out_first : (met : List (Place X (Result Bool E) E)) (after : List (Answered X E)) (trace : List (Answered X E)) (x : X) (s u t : S) (f h : F) (q : Bool × F) → steps s (item x) u → call f x (Ok true) h → trace ≡ filter_map (answer_at asked_outcome) met ++ after → AskedUntilFalse false (asked x (Ok true) ∷ met) after q.0 → P u (false, h) trace t q → P s (false, f) trace t q
+  left_out_first met after (r ∷ trace) x s u t f h q step called answers until rest = leaves_out x (Some (Ok true)) step (refl, called, refl) refl rest
+  left_out_first [] after [] x s u t f h (true, k) step called answers until rest = absurd cc
+  left_out_first (p ∷ met) after [] x s u t f h (true, k) step called answers until rest = absurd (ends_answered p met after until.1 (sym answers))
+  left_out_first [] after [] x s u t f h (false, k) step called answers until rest = absurd (let some : false ≡ true = until.2 in cc)
+  left_out_first (p ∷ met) after [] x s u t f h (false, k) step called answers until rest = absurd (answered asked_outcome p met until.2 (sym (append-nil (filter_map (answer_at asked_outcome) (p ∷ met))) ∙ ap (λ (l : List (Answered X E)). filter_map (answer_at asked_outcome) (p ∷ met) ++ l) (sym until.1) ∙ sym answers))
+
+  skips_passes : (met : List (Place X (Result Bool E) E)) (after : List (Answered X E)) (s t : S) (f : F) (q : Bool × F) → Run steps s (map source_answer met ++ after) t → Calls (call) f (filter_map call_of met) q.1 → AskedUntilFalse false met after q.0 → P s (false, f) (filter_map (answer_at asked_outcome) met ++ after) t q
+  skips_passes [] after s t f (true, k) ran called until = absurd until
+  skips_passes [] after s t f (false, k) ran called until = let none = until.1 in let here : Run steps s [] t = subst (λ (l : List (Answered X E)). Run steps s l t) none ran in
+      subst (λ (l : List (Answered X E)). P s (false, f) l t (false, k)) (sym none) (subst (λ (u : S). P s (false, f) [] u (false, k)) here (subst (λ (h : F). P s (false, f) [] s (false, h)) called done))
+  skips_passes (failure_at e ∷ met) after s t f q ran called until = fails e ran.1 (skips_passes met after ran.0 t f q ran.2 called (until_tail (failure_at e) met after q.0 refl until))
+  skips_passes (end_at ∷ met) after s t f q ran called until = ends ran.1 (skips_passes met after ran.0 t f q ran.2 called (until_tail end_at met after q.0 refl until))
+  skips_passes (asked x (Err e) ∷ met) after s t f q ran called until = refuses x (Some (Err e)) e ran.1 (refl, called.1, refl) refl (skips_passes met after ran.0 t called.0 q ran.2 called.2 (until_tail (asked x (Err e)) met after q.0 refl until))
+  skips_passes (asked x (Ok true) ∷ met) after s t f q ran called until = left_out_first met after (filter_map (answer_at asked_outcome) met ++ after) x s ran.0 t f called.0 q ran.1 called.1 refl until (skips_passes met after ran.0 t called.0 q ran.2 called.2 (until_tail (asked x (Ok true)) met after q.0 refl until))
+  skips_passes (asked x (Ok false) ∷ []) after s t f (true, k) ran called until = keeps x (Some (Ok false)) x ran.1 (refl, called.1, refl) refl (subst (λ (h : F). P ran.0 (true, called.0) after t (true, h)) called.2 (run_passes after ran.0 t called.0 ran.2))
+  skips_passes (asked x (Ok false) ∷ p ∷ met) after s t f (true, k) ran called until = absurd (let d = until.0 in cc)
+  skips_passes (asked x (Ok false) ∷ met) after s t f (false, k) ran called until = absurd (let d = until.0.0 in cc)
+
+  -- ---- both ways
+
+  to_skip_while : (s t : S) (p q : Bool × F) (trace : List (Answered X E)) → P s p trace t q → SkipWhileTrace steps call (s, p) trace (t, q)
+  to_skip_while s t (true, f) q trace h = let k = after_false s t (true, f) q trace refl h in record { met = []; after = trace; drawn = k.ran; called = ap (λ (z : Bool × F). z.1) (sym k.same); answers = refl; until_false = (refl, ap (λ (z : Bool × F). z.0) k.same) }
+  to_skip_while s t (false, f) q trace h = let k = before_false s t (false, f) q trace refl h in record { met = k.met; after = k.after; drawn = k.drawn; called = k.called; answers = k.answers; until_false = k.until_false }
+
+  -- what came after the first false, where it came before the trace
+  record OnlyAfter (s : S) (f : F) (trace : List (Answered X E)) (t : S) (q : Bool × F) : Type 0 where
+    ran : Run steps s trace t
+    same : (true, f) ≡ q
+
+  only_after : (met : List (Place X (Result Bool E) E)) (after trace : List (Answered X E)) (s t : S) (f : F) (q : Bool × F) → Run steps s (map source_answer met ++ after) t → Calls (call) f (filter_map call_of met) q.1 → trace ≡ filter_map (answer_at asked_outcome) met ++ after → met ≡ [] → q.0 ≡ true → OnlyAfter s f trace t q
+  only_after [] after trace s t f q ran called answers none found = record { ran = subst (λ (l : List (Answered X E)). Run steps s l t) (sym answers) ran; same = ap (λ (b : Bool). (b, f)) (sym found) ∙ ap (λ (h : F). (q.0, h)) called }
+  only_after (p ∷ met) after trace s t f q ran called answers none found = absurd cc
+
+  from_skip_while : (s t : S) (p q : Bool × F) (trace : List (Answered X E)) → SkipWhileTrace steps call (s, p) trace (t, q) → P s p trace t q
+  from_skip_while s t (true, f) q trace h = let k = only_after h.met h.after trace s t f q h.drawn h.called h.answers h.until_false.0 h.until_false.1 in subst (λ (z : Bool × F). P s (true, f) trace t z) k.same (run_passes trace s t f k.ran)
+  from_skip_while s t (false, f) q trace h = subst (λ (l : List (Answered X E)). P s (false, f) l t q) (sym h.answers) (skips_passes h.met h.after s t f q h.drawn h.called h.until_false)
+
+pub skip_while_law : {S F X E : Type 0} (steps : S → Answered X E → S → Type 0) (call : F → X → Result Bool E → F → Type 0) (p : S × (Bool × F)) (trace : List (Answered X E)) (q : S × (Bool × F)) → Run (λ u r v. PassTrace steps (skip_call call) skip_while_outcome u (r ∷ []) v) p trace q ↔ SkipWhileTrace steps call p trace q
+skip_while_law steps call p trace q = let law = runs_by_answers (PassTrace steps (skip_call call) skip_while_outcome) (passing_by_answers steps (skip_call call) skip_while_outcome) p trace q in
+    ((λ ran. to_skip_while steps call p.0 q.0 p.1 q.1 trace (to_passes (law.0 ran))), (λ d. law.1 (from_passes (from_skip_while steps call p.0 q.0 p.1 q.1 trace d))))
+
+-- ---- the predicate in its slot
+
+held_in_slot : {F X E : Type 0} (call : F → X → Result Bool E → F → Type 0) (p : Bool × F) (x : X) (v : Option (Result Bool E)) (q : Bool × F) → skip_call call p x v q → skip_call (call_in call) (into call p) x v (into call q)
+held_in_slot call p x None q called = (called.0, ap (into call) called.1)
+held_in_slot call p x (Some v) q called = called
+
+pub skips_in_slot : {S F X E : Type 0} {steps : S → Answered X E → S → Type 0} {call : F → X → Result Bool E → F → Type 0} {s t : S} {p q : Bool × F} {trace : List (Answered X E)} → PassTrace steps (skip_call call) skip_while_outcome (s, p) trace (t, q) → PassTrace steps (skip_call (call_in call)) skip_while_outcome (s, (p.0, Some p.1)) trace (t, (q.0, Some q.1))
+skips_in_slot {F = F} {call = call} h = passes_held {F = Bool × F} {H = Bool × Option F} (skip_call call) (skip_call (call_in call)) (into call) (held_in_slot call) h
+
+-- ---- what it lists
+
+-- what the predicate answers on an item, where it is asked, and the flag after it
+abbrev asked_by : {X E : Type 0} → (X → Result Bool E) → Bool → X → Option (Result Bool E)
+asked_by h true x = None
+asked_by h false x = Some (h x)
+
+abbrev flag_after : {X E : Type 0} → (X → Result Bool E) → Bool → X → Bool
+flag_after h true x = true
+flag_after h false x = answers_false (h x)
+
+module _ {X E : Type 0} (h : X → Result Bool E) where
+  abbrev listed : Bool → List (Result X E) → List (Result X E)
+  listed b l = passed skip_while_outcome (asked_by h) (flag_after h) b l
+
+  all_listed : (l : List (Result X E)) → listed true l ≡ l
+  all_listed [] = refl
+  all_listed (Ok x ∷ l) = ap (λ k. Ok x ∷ k) (all_listed l)
+  all_listed (Err e ∷ l) = ap (λ k. Err e ∷ k) (all_listed l)
+
+  first_listed : (x : X) (v : Result Bool E) (l skipped : List (Result X E)) (rest : Bool → List (Result X E)) → rest true ≡ l → rest false ≡ skipped → by_outcome (skip_while_outcome x (Some v)) (rest (answers_false v)) ≡ cons_from x v l skipped
+  first_listed x (Ok false) l skipped rest all some = ap (λ k. Ok x ∷ k) all
+  first_listed x (Ok true) l skipped rest all some = some
+  first_listed x (Err e) l skipped rest all some = ap (λ k. Err e ∷ k) some
+
+  skipped_while_is : (l : List (Result X E)) → listed false l ≡ skipped_while h l
+  unfolding skipped_while
+  skipped_while_is [] = refl
+  skipped_while_is (Ok x ∷ l) = first_listed x (h x) l (skipped_while h l) (λ b. listed b l) (all_listed l) (skipped_while_is l)
+  skipped_while_is (Err e ∷ l) = ap (λ k. Err e ∷ k) (skipped_while_is l)
+
+module _ {F X E : Type 0} (call : F → X → Result Bool E → F → Type 0) (f : F) (h : X → Result Bool E) (acts : Acts call f h) where
+  asked_in_slot : (s : Option F) (x : X) (v : Result Bool E) (t : Option F) → s ≡ Some f → call_in call s x v t → (t ≡ Some f) × (v ≡ h x)
+  asked_in_slot None x v t e c = absurd cc
+  asked_in_slot (Some k) x v None e c = absurd c
+  asked_in_slot (Some k) x v (Some g) e c = let same : k ≡ f = cc in let a = acts x v g (subst (λ (z : F). call z x v g) same c) in (ap Some a.0, a.1)
+
+  acts_until_false : (p : Bool × Option F) (b : Bool) (x : X) (v : Option (Result Bool E)) (q : Bool × Option F) → p ≡ (b, Some f) → skip_call (call_in call) p x v q → (q ≡ (flag_after h b x, Some f)) × (v ≡ asked_by h b x)
+  acts_until_false p true x None q e c = (c.1 ∙ e, refl)
+  acts_until_false p false x None q e c = absurd (let at : p.0 ≡ false = ap (λ z. z.0) e in let found = c.0 in cc)
+  acts_until_false p true x (Some v) q e c = absurd (let at : p.0 ≡ true = ap (λ z. z.0) e in let unfound = c.0 in cc)
+  acts_until_false p false x (Some v) q e c = let a = asked_in_slot p.1 x v q.1 (ap (λ z. z.1) e) c.1 in
+      (ap (λ (b : Bool). (b, q.1)) (c.2 ∙ ap answers_false a.1) ∙ ap (λ (k : Option F). (answers_false (h x), k)) a.0, ap Some a.1)
+
+pub lists_skipped_while : {S F X E : Type 0} (m : Contract S X E) (g : Mut F (Bor X × Unit {0}) (Result Bool E)) (s : SkipWhile S F) (f : F) (h : X → Result Bool E) (l : List (Result X E)) → skip_while_parts s ≡ (s.it, (false, Some f)) → Acts (call_at g) f h → Lists m.steps s.it l
+    → Lists (seen_as skip_while_parts (skip_while_contract m g)).steps s (skipped_while h l)
+lists_skipped_while {F = F} m g s f h l parts a i = lists_seen skip_while_parts (skip_while_contract m g).steps s parts (skipped_while_is h l)
+    (all_given m.steps (skip_call (call_in (call_at g))) skip_while_outcome (λ (p : Bool × Option F) b. p ≡ (b, Some f)) (asked_by h) (flag_after h) (acts_until_false (call_at g) f h a) l s.it (false, Some f) false refl i.runs)

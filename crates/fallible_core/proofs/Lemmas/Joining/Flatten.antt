@@ -1,0 +1,243 @@
+-- The runs of `Flatten` are the traces that its definition names, one draw of it is a fold that stops, and what it lists.
+use Rattle.std.specs.Prelude.{◌≡◌, false, List, [], ◌∷◌, ◌++◌, map, Option, Result, Some, None, Ok, Err}
+use Rattle.std.specs.List.{FoldsTo, flat_map}
+use Rattle.std.proofs.Common.{refl, sym, ◌∙◌, ap, subst}
+use Rattle.std.proofs.lemmas.List.{append-nil}
+use Rattle.fallible_core.specs.declared.folds.Exit.{Exit}
+use Rattle.fallible_core.specs.Traces.{Answered, Run, item, failure, end, is_end}
+use Rattle.fallible_core.specs.Contract.{Contract, Lawful, seen_as}
+use Rattle.fallible_core.specs.declared.one_to_one.map.Map.{Map}
+use Rattle.fallible_core.specs.declared.joining.flatten.Flatten.{Flatten}
+use Rattle.fallible_core.specs.declared.joining.flatten.FlatMap.{FlatMap}
+use Rattle.fallible_core.specs.Lists.{AlwaysGives, Lists, EachLists, result_answer, chained, flattened}
+use Rattle.fallible_core.proofs.Lemmas.Lists.Passing.{gives_if, lists_seen}
+use Rattle.fallible_core.proofs.Lemmas.Joining.Chain.{not_end}
+use Rattle.fallible_core.specs.Folds.{HoldsAtEachTurn, carrying_turn, CarryingExit, Carried, stopped_answer, unpacked}
+use Rattle.fallible_core.proofs.Lemmas.Definitions.{FirstOf, IsByAnswers}
+use Rattle.fallible_core.proofs.Lemmas.Contract.{given_after}
+use Rattle.fallible_core.specs.Joining.Flatten.{flatten_parts, flat_map_parts, flatten_contract, FlattenTrace, BeginTurn, EachInner, Part, of_inner, of_failure, of_end, outer_answer, part_answers, Finished, FinishedPart, LastPart, FinishedInHand, Joined, FlattenAnswers, nothing_drawn, still_in_hand, outer_drawn}
+use Rattle.fallible_core.specs.Laws.Joining.Flatten.{Flattens, done, gives, fails, finishes, begins, outer_fails, outer_ends, to_flattens}
+
+module _ {S X C B E : Type 0} (outer : S → Answered X E → S → Type 0) (into : X → C → Type 0) (inner : C → Answered B E → C → Type 0) where
+  abbrev F : S → Option C → List (Answered B E) → S → Option C → Type 0
+  F = Flattens outer into inner
+
+  -- ---- to the definition
+
+  abbrev D : S → Option C → List (Answered B E) → S → Option C → Type 0
+  D = FlattenAnswers outer into inner
+
+  abbrev J : S → Option C → List (Answered B E) → S → Option C → Type 0
+  J = Joined outer into inner
+
+  -- an answer, which is no end, of the inner iterator in hand
+  joined_more : (s t : S) (c d : C) (hand : Option C) (r : Answered B E) (trace : List (Answered B E)) → inner c r d → is_end r ≡ false → Joined outer into inner s (Some d) trace t hand → Joined outer into inner s (Some c) (r ∷ trace) t hand
+  joined_more s t c d hand r trace step free j = let f = j.hand_finished in record {
+    in_hand = r ∷ j.in_hand;
+    parts = j.parts;
+    last = j.last;
+    drawn = j.drawn;
+    hand_finished = record { left = f.left; drawn = (d, step, f.drawn); no_end = (free, f.no_end) };
+    finished = j.finished;
+    at_last = j.at_last;
+    answers = ap (λ l. r ∷ l) j.answers;
+  }
+
+  -- one more answer of the inner iterator in hand
+  more_in_hand : (s t : S) (c d : C) (hand hand' : Option C) (r : Answered B E) (trace : List (Answered B E)) → inner c r d → is_end r ≡ false → hand ≡ Some d → D s hand trace t hand' → D s (Some c) (r ∷ trace) t hand'
+  more_in_hand s t c d hand _ r _ step free e nothing_drawn = rw e (still_in_hand {trace = r ∷ []} (record { drawn = (d, step, refl); no_end = (free, tt); not_empty = λ e. absurd cc }))
+  more_in_hand s _ c d _ _ r trace step free e (still_in_hand {c = k} {d = l} u) = let same : k ≡ d = cc in still_in_hand {trace = r ∷ trace} (record { drawn = (d, step, rw (sym same) u.drawn); no_end = (free, u.no_end); not_empty = λ e. absurd cc })
+  more_in_hand s t c d hand hand' r trace step free e (outer_drawn j) = outer_drawn (joined_more s t c d hand' r trace step free (rw (sym e) j))
+
+  none_in_hand : (hand : Option C) (answers : List (Answered B E)) → hand ≡ None → FinishedInHand inner hand answers → answers ≡ []
+  none_in_hand None answers e h = h
+  none_in_hand (Some c) answers e h = absurd cc
+
+  hand_finished_at : (hand : Option C) (c : C) (answers : List (Answered B E)) → hand ≡ Some c → FinishedInHand inner hand answers → Finished inner c answers
+  hand_finished_at (Some k) c answers e h = let same : k ≡ c = cc in rw (sym same) h
+  hand_finished_at None c answers e h = absurd cc
+
+  -- the inner iterator in hand ended
+  end_in_hand : (s t : S) (c d : C) (hand hand' : Option C) (r : Answered B E) (trace rest : List (Answered B E)) → inner c end d → hand ≡ None → trace ≡ r ∷ rest → D s hand trace t hand' → D s (Some c) trace t hand'
+  end_in_hand s t c d _ _ r _ rest step e some nothing_drawn = absurd cc
+  end_in_hand s _ c d _ _ r trace rest step e some (still_in_hand u) = absurd cc
+  end_in_hand s t c d hand hand' r trace rest step e some (outer_drawn j) = let none = none_in_hand hand j.in_hand e j.hand_finished in outer_drawn (record { in_hand = []; parts = j.parts; last = j.last; drawn = j.drawn; hand_finished = record { left = d; drawn = (d, step, refl); no_end = tt }; finished = j.finished; at_last = j.at_last; answers = subst (λ (l : List (Answered B E)). trace ≡ l ++ flat_map part_answers (j.parts ++ j.last ∷ [])) none j.answers })
+
+  -- an answer of the outer source that is no item
+  answer_by_itself : (s u t : S) (hand hand' : Option C) (p : Part X C B E) (r : Answered B E) (trace : List (Answered B E)) → outer s (outer_answer p) u → FinishedPart into inner p → (hand' ≡ None → LastPart into inner p hand') → part_answers p ≡ r ∷ [] → hand ≡ None → D u hand trace t hand' → D s None (r ∷ trace) t hand'
+  answer_by_itself s u _ hand _ p r _ step whole last is e nothing_drawn = outer_drawn (record { in_hand = []; parts = []; last = p; drawn = (u, step, refl); hand_finished = refl; finished = tt; at_last = last e; answers = sym (append-nil (part_answers p) ∙ is) })
+  answer_by_itself s u _ _ _ p r trace step whole last is e (still_in_hand k) = absurd cc
+  answer_by_itself s u t hand hand' p r trace step whole last is e (outer_drawn j) = let none = none_in_hand hand j.in_hand e j.hand_finished in let rest : trace ≡ flat_map part_answers (j.parts ++ j.last ∷ []) = subst (λ (l : List (Answered B E)). trace ≡ l ++ flat_map part_answers (j.parts ++ j.last ∷ [])) none j.answers in
+      outer_drawn (record { in_hand = []; parts = p ∷ j.parts; last = j.last; drawn = (u, step, j.drawn); hand_finished = refl; finished = (whole, j.finished); at_last = j.at_last; answers = rw (is, sym rest) refl })
+
+  -- an item that became an inner iterator
+  begins_inner : (s u t : S) (c : C) (hand hand' : Option C) (x : X) (r : Answered B E) (trace rest : List (Answered B E)) → outer s (item x) u → into x c → hand ≡ Some c → trace ≡ r ∷ rest → D u hand trace t hand' → D s None trace t hand'
+  begins_inner s u t c hand _ x r _ rest step becomes e some nothing_drawn = absurd cc
+  begins_inner s u _ c _ _ x r trace rest step becomes e some (still_in_hand {c = k} {d = d} h) = let same : k ≡ c = cc in outer_drawn {hand' = Some d} (record { in_hand = []; parts = []; last = of_inner x c trace; drawn = (u, step, refl); hand_finished = refl; finished = tt; at_last = (becomes, (d, rw (sym same) h, refl)); answers = sym (append-nil trace) })
+  begins_inner s u t c hand hand' x r trace rest step becomes e some (outer_drawn j) = outer_drawn (record { in_hand = []; parts = of_inner x c j.in_hand ∷ j.parts; last = j.last; drawn = (u, step, j.drawn); hand_finished = refl; finished = ((becomes, hand_finished_at hand c j.in_hand e j.hand_finished), j.finished); at_last = j.at_last; answers = j.answers })
+
+  pub from_flattens : (s t : S) (hand hand' : Option C) (trace : List (Answered B E)) → F s hand trace t hand' → D s hand trace t hand'
+  from_flattens s _ hand _ _ done = nothing_drawn
+  from_flattens s t _ hand' _ (gives {c = c} {d = d} {trace = trace} y step f) = more_in_hand s t c d (Some d) hand' (item y) trace step refl refl (from_flattens s t (Some d) hand' trace f)
+  from_flattens s t _ hand' _ (fails {c = c} {d = d} {trace = trace} e step f) = more_in_hand s t c d (Some d) hand' (failure e) trace step refl refl (from_flattens s t (Some d) hand' trace f)
+  from_flattens s t _ hand' _ (finishes {c = c} {d = d} {r = r} {trace = trace} step f) = end_in_hand s t c d None hand' r (r ∷ trace) trace step refl refl (from_flattens s t None hand' (r ∷ trace) f)
+  from_flattens s t _ hand' _ (begins {u = u} {c = c} {r = r} {trace = trace} x step becomes f) = begins_inner s u t c (Some c) hand' x r (r ∷ trace) trace step becomes refl refl (from_flattens u t (Some c) hand' (r ∷ trace) f)
+  from_flattens s t _ hand' _ (outer_fails {u = u} {trace = trace} e step f) = answer_by_itself s u t None hand' (of_failure e) (failure e) trace step tt (λ h. h) refl refl (from_flattens u t None hand' trace f)
+  from_flattens s t _ hand' _ (outer_ends {u = u} {trace = trace} step f) = answer_by_itself s u t None hand' of_end end trace step tt (λ h. h) refl refl (from_flattens u t None hand' trace f)
+
+  -- ---- a whole trace is its answers, one draw after another
+
+  flattens_cons : (s u t : S) (hand h hand' : Option C) (r : Answered B E) (rest : List (Answered B E)) → F s hand (r ∷ []) u h → F u h rest t hand' → F s hand (r ∷ rest) t hand'
+  flattens_cons s _ t _ _ hand' _ rest (gives y step done) q = gives y step q
+  flattens_cons s _ t _ _ hand' _ rest (fails e step done) q = fails e step q
+  flattens_cons s u t _ h hand' r rest (finishes step p) q = finishes step (flattens_cons s u t None h hand' r rest p q)
+  flattens_cons s u t _ h hand' r rest (begins {u = w} {c = c} x step becomes p) q = begins x step becomes (flattens_cons w u t (Some c) h hand' r rest p q)
+  flattens_cons s u t _ _ hand' _ rest (outer_fails e step done) q = outer_fails e step q
+  flattens_cons s u t _ _ hand' _ rest (outer_ends step done) q = outer_ends step q
+
+  -- what the first answer leaves, and the rest from there
+  record FirstFlattened (s : S) (hand : Option C) (r : Answered B E) (rest : List (Answered B E)) (t : S) (hand' : Option C) : Type 0 where
+    source : S
+    hand_then : Option C
+    first : F s hand (r ∷ []) source hand_then
+    others : F source hand_then rest t hand'
+
+  flattens_split : (s t : S) (hand hand' : Option C) (r : Answered B E) (rest : List (Answered B E)) → F s hand (r ∷ rest) t hand' → FirstFlattened s hand r rest t hand'
+  flattens_split s t _ hand' _ rest (gives {d = d} y step p) = record { source = s; hand_then = Some d; first = gives y step done; others = p }
+  flattens_split s t _ hand' _ rest (fails {d = d} e step p) = record { source = s; hand_then = Some d; first = fails e step done; others = p }
+  flattens_split s t _ hand' r rest (finishes step p) = let q = flattens_split s t None hand' r rest p in record { source = q.source; hand_then = q.hand_then; first = finishes step q.first; others = q.others }
+  flattens_split s t _ hand' r rest (begins {u = u} {c = c} x step becomes p) = let q = flattens_split u t (Some c) hand' r rest p in record { source = q.source; hand_then = q.hand_then; first = begins x step becomes q.first; others = q.others }
+  flattens_split s t _ hand' _ rest (outer_fails {u = u} e step p) = record { source = u; hand_then = None; first = outer_fails e step done; others = p }
+  flattens_split s t _ hand' _ rest (outer_ends {u = u} step p) = record { source = u; hand_then = None; first = outer_ends step done; others = p }
+
+  -- what a trace of no answers leaves
+  flattens_none : (s t : S) (hand hand' : Option C) → F s hand [] t hand' → ◌≡◌ {A = S × Option C} (s, hand) (t, hand')
+  flattens_none s _ hand _ done = refl
+
+  flattens_some : (s t : S) (hand hand' : Option C) (r : Answered B E) (rest : List (Answered B E)) → FirstFlattened s hand r rest t hand' → FirstOf (FlattenTrace outer into inner) (s, hand) r rest (t, hand')
+  flattens_some s t hand hand' r rest q = record { then_at = (q.source, q.hand_then); first = from_flattens s q.source hand q.hand_then (r ∷ []) q.first; others = from_flattens q.source t q.hand_then hand' rest q.others }
+
+  abbrev to : (s t : S) (hand hand' : Option C) (trace : List (Answered B E)) → D s hand trace t hand' → F s hand trace t hand'
+  to = to_flattens outer into inner
+
+  pub flatten_by_answers : IsByAnswers (FlattenTrace outer into inner)
+  flatten_by_answers = record {
+    none = λ p. nothing_drawn;
+    same = λ p q d. flattens_none p.0 q.0 p.1 q.1 (to p.0 q.0 p.1 q.1 [] d);
+    joins = λ p u q r rest d e. from_flattens p.0 q.0 p.1 q.1 (r ∷ rest) (flattens_cons p.0 u.0 q.0 p.1 u.1 q.1 r rest (to p.0 u.0 p.1 u.1 (r ∷ []) d) (to u.0 q.0 u.1 q.1 rest e));
+    splits = λ p q r rest d. flattens_some p.0 q.0 p.1 q.1 r rest (flattens_split p.0 q.0 p.1 q.1 r rest (to p.0 q.0 p.1 q.1 (r ∷ rest) d));
+  }
+
+-- ---- one draw
+
+module _ {S X C B E : Type 0} {outer : S → Answered X E → S → Type 0} {into : X → C → Type 0} {inner : C → Answered B E → C → Type 0} where
+  -- an answer, which is no end, of the inner iterator in hand
+  pub flatten_in_hand : {s : S} {c d : C} {hand : Option C} (r : Answered B E) → hand ≡ Some c → inner c r d → is_end r ≡ false → FlattenTrace outer into inner (s, hand) (r ∷ []) (s, (Some d))
+  flatten_in_hand {d = d} r e step free = rw e (still_in_hand {trace = r ∷ []} (record { drawn = (d, step, refl); no_end = (free, tt); not_empty = λ e. absurd cc }))
+
+  -- the inner iterator in hand ended first
+  pub flatten_after_end : {s t : S} {c : C} {hand hand' : Option C} {r : Answered B E} (d : C) → hand ≡ Some c → inner c end d → FlattenTrace outer into inner (s, None) (r ∷ []) (t, hand') → FlattenTrace outer into inner (s, hand) (r ∷ []) (t, hand')
+  flatten_after_end {s} {t} {c} {hand} {hand'} {r} d e step p = rw e (end_in_hand outer into inner s t c d None hand' r (r ∷ []) [] step refl refl p)
+
+-- ---- one draw where nothing is in hand, as a fold of the outer source that stops
+
+module _ {S X C B E : Type 0} (outer : S → Answered X E → S → Type 0) (into : X → C → Type 0) (inner : C → Answered B E → C → Type 0) (turns : Option C → X → Result (Option C) (Option C × Result B E) → Type 0)
+    (turn : (hand : Option C) (x : X) (r : Result (Option C) (Option C × Result B E)) → turns hand x r → BeginTurn into inner hand x r) where
+  abbrev G : S → Option C → List (Answered B E) → S → Option C → Type 0
+  G = Flattens outer into inner
+
+  begun_turn : (x : X) (p : Option C × Result B E) (hand : Option C) (u t : S) → outer u (item x) t → BeginTurn into inner hand x (Err p) → G u None (stopped_answer p.1 ∷ []) t p.0
+  begun_turn x (hand', Ok y) hand u t step w = rw w.4 (begins x step w.2 (gives y w.3 done))
+  begun_turn x (hand', Err e) hand u t step w = rw w.4 (begins x step w.2 (fails e w.3 done))
+
+  begun_exit : (last : Answered X E) (hand : Option C) (exit : Exit (Option C) E (Option C × Result B E)) (u t : S) → hand ≡ None → CarryingExit turns hand last exit → outer u last t → G u None ((unpacked exit).1 ∷ []) t (unpacked exit).0
+  begun_exit (Ok None) hand exit u t none e step = rw (e, none) (outer_ends step done)
+  begun_exit (Err d) hand exit u t none e step = rw (e, none) (outer_fails d step done)
+  begun_exit (Ok (Some x)) hand exit u t none e step = rw e.2 (begun_turn x e.0 hand u t step (turn hand x (Err e.0) e.1))
+
+  after_ended : (last : Answered X E) (r : Answered B E) (t : S) (hand' v : Option C) → ((u : S) → v ≡ None → outer u last t → G u None (r ∷ []) t hand') → (items : List X) (s : S) (hand : Option C) → hand ≡ None → Run outer s (map item items ++ last ∷ []) t → FoldsTo (carrying_turn turns) hand items v → G s None (r ∷ []) t hand'
+  after_ended last r t hand' v final [] s hand none ran went = final s (subst (λ (h : Option C). h ≡ None) went none) (subst (λ (u : S). outer s last u) ran.2 ran.1)
+  after_ended last r t hand' v final (x ∷ items) s hand none ran went = let b = turn hand x (Ok went.0) went.1 in begins x ran.1 b.2 (finishes b.3 (after_ended last r t hand' v final items ran.0 went.0 (b.4 ∙ none) ran.2 went.2))
+
+  pub flatten_fold : {s t : S} {exit : Exit (Option C) E (Option C × Result B E)} → Carried outer turns s None exit t → FlattenTrace outer into inner (s, None) ((unpacked exit).1 ∷ []) (t, (unpacked exit).0)
+  flatten_fold {s} {t} {exit} w = from_flattens outer into inner s t None (unpacked exit).0 ((unpacked exit).1 ∷ []) (after_ended w.last (unpacked exit).1 t (unpacked exit).0 w.carried (λ u none step. begun_exit w.last w.carried exit u t none w.exit step) w.items s None refl w.ran w.went)
+
+-- each turn of such a fold begins an inner iterator that may be drawn from
+pub callable_begins : {S X C B E : Type 0} {m : Contract S X E} (into : X → C → Type 0) (inner : Contract C B E) (R : Option C → X → Option C → Type 0) {s : S} → Lawful m → m.can s → EachInner m into inner inner.can s → HoldsAtEachTurn m.steps R (λ hand x. (c : C) → into x c → inner.can c) s None
+callable_begins into inner R {s = s} l can each = record { at = λ items t u hand x ran went step c becomes. each.at x c (given_after l s items t u x can ran step) becomes }
+
+-- ---- what it lists
+
+module _ {S X C B E : Type 0} (outer : S → Answered X E → S → Type 0) (into : X → C → Type 0) (steps : C → Answered B E → C → Type 0) where
+  -- one draw
+  abbrev Draw : S × Option C → Answered B E → S × Option C → Type 0
+  Draw p r q = FlattenTrace outer into steps p (r ∷ []) q
+
+  abbrev Gives : S → Option C → List (Result B E) → Type 0
+  Gives s hand l = AlwaysGives Draw (s, hand) l
+
+  abbrev One : S → Option C → Answered B E → S → Option C → Type 0
+  One s hand r t hand' = Flattens outer into steps s hand (r ∷ []) t hand'
+
+  -- a state from which the same draw is one, and which gives the list
+  record DrawnFrom (r : Answered B E) (q : S × Option C) (l : List (Result B E)) : Type 0 where
+    from : S × Option C
+    draws : Draw from r q
+    all : AlwaysGives Draw from l
+
+  gives_from : (l : List (Result B E)) (s : S) (hand : Option C) → ((r : Answered B E) (t : S) (hand' : Option C) → One s hand r t hand' → DrawnFrom r (t, hand') l) → Gives s hand l
+  gives_from l s hand f = gives_if Draw l (s, hand) (λ r q w. let d = f r q.0 q.1 (to_flattens outer into steps s q.0 hand q.1 (r ∷ []) w) in (d.from, d.draws, d.all))
+
+  drawn_from : (s t : S) (hand hand' : Option C) (r : Answered B E) (l : List (Result B E)) → One s hand r t hand' → Gives s hand l → DrawnFrom r (t, hand') l
+  drawn_from s t hand hand' r l f g = record { from = (s, hand); draws = from_flattens outer into steps s t hand hand' (r ∷ []) f; all = g }
+
+  -- the inner iterator in hand is at its end
+  end_then : (rest : List (Result B E)) (c : C) (s : S) → AlwaysGives {A = B} {E = E} steps c [] → Gives s None rest → (r : Answered B E) (t : S) (hand : Option C) → One s (Some c) r t hand → DrawnFrom r (t, hand) rest
+  end_then rest c s a then _ _ _ (gives {d = d} y step f) = absurd (let h = a (Ok (Some y)) d step in cc)
+  end_then rest c s a then _ _ _ (fails {d = d} e step f) = absurd (let h = a (Err e) d step in cc)
+  end_then rest c s a then r t hand (finishes step f) = drawn_from s t None hand r rest f then
+
+  none_more : (l : List (Result B E)) (s t : S) (hand hand' : Option C) → Flattens outer into steps s hand [] t hand' → Gives s hand l → Gives t hand' l
+  none_more l s t hand hand' f g = subst (λ (p : S × Option C). AlwaysGives Draw p l) (flattens_none outer into steps s t hand hand' f) g
+
+  -- it has an answer
+  answer_then : (y : Result B E) (l rest : List (Result B E)) (c : C) (s : S) → AlwaysGives steps c (y ∷ l) → ((d : C) → AlwaysGives steps d l → Gives s (Some d) rest) → (r : Answered B E) (t : S) (hand : Option C) → One s (Some c) r t hand → (r ≡ result_answer y) × Gives t hand rest
+  answer_then y l rest c s a then _ t hand (gives {d = d} z step f) = let h = a (Ok (Some z)) d step in (h.0, none_more rest s t (Some d) hand f (then d h.1))
+  answer_then y l rest c s a then _ t hand (fails {d = d} e step f) = let h = a (Err e) d step in (h.0, none_more rest s t (Some d) hand f (then d h.1))
+  answer_then y l rest c s a then r t hand (finishes {d = d} step f) = absurd (not_end y (a end d step).0)
+
+  in_hand_gives : (l rest : List (Result B E)) (c : C) (s : S) → AlwaysGives steps c l → Gives s None rest → Gives s (Some c) (chained l rest)
+  unfolding chained
+  in_hand_gives [] rest c s a then = gives_from rest s (Some c) (end_then rest c s a then)
+  in_hand_gives (y ∷ l) rest c s a then = λ r q w. answer_then y l (chained l rest) c s a (λ d b. in_hand_gives l rest d s b then) r q.0 q.1 (to_flattens outer into steps s q.0 (Some c) q.1 (r ∷ []) w)
+
+  -- the outer source is at its end
+  outer_end : (s : S) → AlwaysGives {A = X} {E = E} outer s [] → (r : Answered B E) (t : S) (hand : Option C) → One s None r t hand → r ≡ end
+  outer_end s a r t hand (begins {u = u} x step becomes f) = absurd (let h = a (Ok (Some x)) u step in cc)
+  outer_end s a _ _ _ (outer_fails {u = u} e step done) = absurd (let h = a (Err e) u step in cc)
+  outer_end s a _ _ _ (outer_ends step done) = refl
+
+  -- it has a failure
+  outer_failure : (d : E) (l : List (Result X E)) (rest : List (Result B E)) (s : S) → AlwaysGives outer s (Err d ∷ l) → ((u : S) → AlwaysGives outer u l → Gives u None rest) → (r : Answered B E) (t : S) (hand : Option C) → One s None r t hand → (r ≡ Err d) × Gives t hand rest
+  outer_failure d l rest s a then r t hand (begins {u = u} x step becomes f) = absurd (let h = (a (Ok (Some x)) u step).0 in cc)
+  outer_failure d l rest s a then _ _ _ (outer_fails {u = u} e step done) = let h = a (Err e) u step in ((let q = h.0 in cc), then u h.1)
+  outer_failure d l rest s a then _ _ _ (outer_ends {u = u} step done) = absurd (let h = (a (Ok None) u step).0 in cc)
+
+  -- it has an item, which becomes an inner iterator
+  outer_item : (x : X) (l : List (Result X E)) (rest : List (Result B E)) (s : S) → AlwaysGives outer s (Ok x ∷ l) → ((u : S) (c : C) → into x c → AlwaysGives outer u l → Gives u (Some c) rest) → (r : Answered B E) (t : S) (hand : Option C) → One s None r t hand → DrawnFrom r (t, hand) rest
+  outer_item x l rest s a then r t hand (begins {u = u} {c = c} z step becomes f) = let h = a (Ok (Some z)) u step in let same : z ≡ x = (let q = h.0 in cc) in drawn_from u t (Some c) hand r rest f (then u c (subst (λ (y : X). into y c) same becomes) h.1)
+  outer_item x l rest s a then _ _ _ (outer_fails {u = u} e step done) = absurd (let h = (a (Err e) u step).0 in cc)
+  outer_item x l rest s a then _ _ _ (outer_ends {u = u} step done) = absurd (let h = (a (Ok None) u step).0 in cc)
+
+  flattened_gives : (inner : X → List (Result B E)) → EachLists into steps inner → (l : List (Result X E)) (s : S) → AlwaysGives outer s l → Gives s None (flattened inner l)
+  unfolding flattened
+  flattened_gives inner each [] s a = λ r q w. outer_end s a r q.0 q.1 (to_flattens outer into steps s q.0 None q.1 (r ∷ []) w)
+  flattened_gives inner each (Err d ∷ l) s a = λ r q w. outer_failure d l (flattened inner l) s a (λ u b. flattened_gives inner each l u b) r q.0 q.1 (to_flattens outer into steps s q.0 None q.1 (r ∷ []) w)
+  flattened_gives inner each (Ok x ∷ l) s a = gives_from (chained (inner x) (flattened inner l)) s None (outer_item x l (chained (inner x) (flattened inner l)) s a (λ u c becomes b. in_hand_gives (inner x) (flattened inner l) c u (each x c becomes).runs (flattened_gives inner each l u b)))
+
+module _ {X C B E : Type 0} (into : X → C → Type 0) (k : Contract C B E) (inner : X → List (Result B E)) (l : List (Result X E)) (each : EachLists into k.steps inner) where
+  pub lists_flattened : {S : Type 0} (m : Contract S X E) (f : Flatten S C) → flatten_parts f ≡ (f.it, None) → Lists m.steps f.it l → Lists (seen_as flatten_parts (flatten_contract m into k)).steps f (flattened inner l)
+  lists_flattened m f parts i = lists_seen flatten_parts (flatten_contract m into k).steps f parts refl (flattened_gives m.steps into k.steps inner each l f.it i.runs)
+
+  pub lists_flat_mapped : {S F : Type 0} (m : Contract (Map S F) X E) (f : FlatMap S C F) → flat_map_parts f ≡ (f.it, None) → Lists m.steps f.it l → Lists (seen_as flat_map_parts (flatten_contract m into k)).steps f (flattened inner l)
+  lists_flat_mapped m f parts i = lists_seen flat_map_parts (flatten_contract m into k).steps f parts refl (flattened_gives m.steps into k.steps inner each l f.it i.runs)

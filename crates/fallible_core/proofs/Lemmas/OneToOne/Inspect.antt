@@ -1,0 +1,25 @@
+-- What `Inspect` lists.
+use Rattle.std.specs.Prelude.{◌≡◌, Result, Ok, Err, List, [], ◌∷◌, Some}
+use Rattle.std.proofs.Common.{refl, ap, ◌∙◌}
+use Rattle.std.specs.Fn.{Mut}
+use Rattle.std.specs.Borrow.{Bor}
+use Rattle.fallible_core.specs.declared.one_to_one.inspect.Inspect.{Inspect}
+use Rattle.fallible_core.specs.Contract.{Contract, seen_as}
+use Rattle.fallible_core.specs.Closures.{call_at}
+use Rattle.fallible_core.specs.OneToOne.Inspect.{inspect_outcome, inspect_parts, inspect_contract}
+use Rattle.fallible_core.specs.Lists.{Lists, Acts, once_seen, inspected}
+use Rattle.fallible_core.proofs.Lemmas.Lists.Passing.{passed, by_outcome, lists_seen, lists_passed}
+
+outcome_listed : {X E : Type 0} (x : X) (v : Result (Unit {0}) E) (l : List (Result X E)) → by_outcome (inspect_outcome x v) l ≡ once_seen x v ∷ l
+outcome_listed x (Ok u) l = refl
+outcome_listed x (Err e) l = refl
+
+inspected_is : {X E : Type 0} (h : X → Result (Unit {0}) E) (l : List (Result X E)) → passed inspect_outcome (λ (p : Unit {0}) x. h x) (λ p x. p) tt l ≡ inspected h l
+unfolding inspected
+inspected_is h [] = refl
+inspected_is h (Ok x ∷ l) = outcome_listed x (h x) _ ∙ ap (λ t. once_seen x (h x) ∷ t) (inspected_is h l)
+inspected_is h (Err e ∷ l) = ap (λ t. Err e ∷ t) (inspected_is h l)
+
+pub lists_inspected : {S F X E : Type 0} (m : Contract S X E) (g : Mut F (Bor X × Unit {0}) (Result (Unit {0}) E)) (s : Inspect S F) (f : F) (h : X → Result (Unit {0}) E) (l : List (Result X E)) → inspect_parts s ≡ (s.it, Some f) → Acts (call_at g) f h → Lists m.steps s.it l
+    → Lists (seen_as inspect_parts (inspect_contract m g)).steps s (inspected h l)
+lists_inspected m g s f h l parts a i = lists_seen inspect_parts (inspect_contract m g).steps s parts (inspected_is h l) (lists_passed (call_at g) f h a m.steps inspect_outcome s.it l i.runs)

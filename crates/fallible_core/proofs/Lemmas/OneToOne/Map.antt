@@ -1,0 +1,24 @@
+-- What `Map` lists.
+use Rattle.std.specs.Prelude.{◌≡◌, Result, Ok, Err, List, [], ◌∷◌, Some}
+use Rattle.std.proofs.Common.{refl, ap, ◌∙◌}
+use Rattle.std.specs.Fn.{Mut}
+use Rattle.fallible_core.specs.declared.one_to_one.map.Map.{Map}
+use Rattle.fallible_core.specs.Contract.{Contract, seen_as}
+use Rattle.fallible_core.specs.Closures.{call_on}
+use Rattle.fallible_core.specs.OneToOne.Map.{map_outcome, map_parts, map_contract}
+use Rattle.fallible_core.specs.Lists.{Lists, Acts, mapped}
+use Rattle.fallible_core.proofs.Lemmas.Lists.Passing.{passed, by_outcome, lists_seen, lists_passed}
+
+outcome_listed : {X B E : Type 0} (x : X) (y : Result B E) (l : List (Result B E)) → by_outcome (map_outcome x y) l ≡ y ∷ l
+outcome_listed x (Ok y) l = refl
+outcome_listed x (Err e) l = refl
+
+mapped_is : {X B E : Type 0} (h : X → Result B E) (l : List (Result X E)) → passed map_outcome (λ (p : Unit {0}) x. h x) (λ p x. p) tt l ≡ mapped h l
+unfolding mapped
+mapped_is h [] = refl
+mapped_is h (Ok x ∷ l) = outcome_listed x (h x) _ ∙ ap (λ t. h x ∷ t) (mapped_is h l)
+mapped_is h (Err e ∷ l) = ap (λ t. Err e ∷ t) (mapped_is h l)
+
+pub lists_mapped : {S F X B E : Type 0} (m : Contract S X E) (g : Mut F (X × Unit {0}) (Result B E)) (s : Map S F) (f : F) (h : X → Result B E) (l : List (Result X E)) → map_parts s ≡ (s.it, Some f) → Acts (call_on g) f h → Lists m.steps s.it l
+    → Lists (seen_as map_parts (map_contract m g)).steps s (mapped h l)
+lists_mapped m g s f h l parts a i = lists_seen map_parts (map_contract m g).steps s parts (mapped_is h l) (lists_passed (call_on g) f h a m.steps map_outcome s.it l i.runs)

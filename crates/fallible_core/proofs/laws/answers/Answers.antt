@@ -1,0 +1,19 @@
+-- Each draw adds its answer, and they tell those of the list.
+use Rattle.std.proofs.Common.{◌≡◌, ℕ, vec_len, subst, arith}
+use Rattle.fallible_core.proofs.Lemmas.Contract.{stays_step}
+use Rattle.fallible_core.proofs.Lemmas.Answers.{one_more_answer, answers_told}
+use Rattle.fallible_core.specs.Answers.{IsAnswers}
+use Rattle.fallible_core.proofs.laws.answers.Goals as goal
+
+pub loop-it-preserved : goal.loop-it-preserved
+loop-it-preserved g c = let i = c.loop-it.invariant in let d = c.draw-answer.ensures in let e = c.in-Ok.ensures in record {
+  room = omega (arith, i.room, e.capacity);
+  within = rw e.len (omega arith);
+  drawn = rw (e.len, e.items, d.2) (one_more_answer i.drawn d.1);
+  stays = stays_step g.met.I.FallibleIterator.lawful i.stays d.1;
+}
+
+pub returns-clause-is : goal.returns-clause-is
+returns-clause-is g c l within listed = let i = c.loop-it.invariant in let steps = g.I.FallibleIterator.contract.steps in
+    let all : vec_len c.loop-it.made ≡ c.args.n = omega (arith, i.within, c.loop-it-test.false, c.len.ensures) in
+    answers_told steps l (subst (λ (n : ℕ). IsAnswers steps c.args.it.now n c.loop-it.made.items c.loop-it.it) all i.drawn) within listed

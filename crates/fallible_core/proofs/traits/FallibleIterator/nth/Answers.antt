@@ -1,0 +1,34 @@
+-- Each skipped item goes before what is left of the call.
+use Rattle.std.proofs.Common.{arith}
+use Rattle.fallible_core.proofs.Lemmas.Nth.{nth_after, nth_now, nth_next}
+use Rattle.fallible_core.proofs.Lemmas.Lists.Drawn.{nth_is}
+use Rattle.fallible_core.specs.Laws.Contract.{stays_here}
+use Rattle.fallible_core.proofs.Lemmas.Contract.{stays_step}
+use Rattle.fallible_core.proofs.traits.FallibleIterator.nth.Goals as goal
+
+pub loop-left-init : goal.loop-left-init
+loop-left-init g c = record { whole = λ r t h. h; stays = stays_here c.requires }
+
+pub loop-left-preserved : goal.loop-left-preserved
+loop-left-preserved g c = let i = c.loop-left.invariant in let step = rw c.in-Ok-Some.field-0-is at c.in-Ok-Some.ensures in record {
+  whole = λ r t rest. i.whole r t (nth_after _ _ _ (omega arith) step rest);
+  stays = stays_step g.met.Self.FallibleIterator.lawful i.stays step;
+}
+
+pub returns-in-Ok-None-clause-nth : goal.returns-in-Ok-None-clause-nth
+returns-in-Ok-None-clause-nth g c = c.loop-left.invariant.whole _ _ (nth_now _ (omega arith) (rw c.in-Ok-None.field-0-is at c.in-Ok-None.ensures))
+
+pub returns-in-Ok-None-clause-is : goal.returns-in-Ok-None-clause-is
+returns-in-Ok-None-clause-is g c l i = nth_is l (returns-in-Ok-None-clause-nth g c) i
+
+pub returns-in-Err-clause-nth : goal.returns-in-Err-clause-nth
+returns-in-Err-clause-nth g c = c.loop-left.invariant.whole _ _ (nth_now _ (omega arith) c.in-Err.ensures)
+
+pub returns-in-Err-clause-is : goal.returns-in-Err-clause-is
+returns-in-Err-clause-is g c l i = nth_is l (returns-in-Err-clause-nth g c) i
+
+pub returns-clause-nth : goal.returns-clause-nth
+returns-clause-nth g c = c.loop-left.invariant.whole _ _ (nth_next c.loop-left.left c.next-2.result c.loop-left-test.false c.next-2.ensures)
+
+pub returns-clause-is : goal.returns-clause-is
+returns-clause-is g c l i = nth_is l (returns-clause-nth g c) i

@@ -1,0 +1,20 @@
+-- `Fuse`, which ends for good at the first end.
+use Rattle.std.specs.Prelude.{List, Bool}
+use Rattle.fallible_core.specs.Traces.{Answered, Run, is_end}
+use Rattle.fallible_core.specs.Contract.{Contract}
+use Rattle.fallible_core.specs.declared.cutting.fuse.Fuse.{Fuse}
+use Rattle.fallible_core.specs.Closing.{ClosingTrace, closing}
+
+-- `Fuse`: the source's trace, which the source's end closes.
+pub record FuseTrace {S A E : Type 0} (steps : S → Answered A E → S → Type 0) (p : S × Bool) (trace : List (Answered A E)) (q : S × Bool) : Type 0 where
+  pub source_trace : List (Answered A E)
+  pub drawn : Run steps p.0 source_trace q.0
+  pub cut : ClosingTrace (λ r. r) is_end p.1 source_trace trace q.1
+
+-- `Fuse`'s contract, with the flag whether the source's end was met.
+abbrev pub fuse_contract : {S A E : Type 0} → Contract S A E → Contract (S × Bool) A E
+fuse_contract m = closing m m.steps (λ r. r) is_end
+
+-- the source, and whether its end was met
+abbrev pub fuse_parts : {I : Type 0} → Fuse I → I × Bool
+fuse_parts s = (s.it, s.ended)

@@ -1,0 +1,23 @@
+-- `Skip`, which leaves out the first items.
+use Rattle.std.specs.Prelude.{ℕ, Option, ◌≡◌, ◌-◌, ltb, List, [], ◌∷◌}
+use Rattle.fallible_core.specs.declared.cutting.skip.Skip.{Skip}
+use Rattle.fallible_core.specs.Traces.{Answered}
+use Rattle.fallible_core.specs.Contract.{Contract}
+use Rattle.fallible_core.specs.Counting.{KeptByNumber}
+use Rattle.fallible_core.specs.WithSteps.{with_steps}
+use Rattle.fallible_core.specs.Hints.{hint_less}
+
+abbrev pub skip_parts : {I : Type 0} → Skip I → I × ℕ
+skip_parts s = (s.it, s.to_skip)
+
+-- `Skip` with n items to leave out: the source's trace without its first n items. What is left to leave out is n less the items drawn, and not below 0. The parts are the source and n.
+abbrev pub SkipTrace : {S A E : Type 0} → (S → Answered A E → S → Type 0) → S × ℕ → List (Answered A E) → S × ℕ → Type 0
+SkipTrace steps p trace q = KeptByNumber (λ k. ltb p.1 k) (λ k. p.1 - k) steps p.0 trace q.0 q.1
+
+-- one answer
+abbrev pub skip_step : {S A E : Type 0} → (S → Answered A E → S → Type 0) → S × ℕ → Answered A E → S × ℕ → Type 0
+skip_step steps p r q = SkipTrace steps p (r ∷ []) q
+
+-- `Skip`'s contract: that of its source but for the step and the hint.
+abbrev pub skip_contract : {S A E : Type 0} → Contract S A E → Contract (S × ℕ) A E
+skip_contract m = with_steps m (skip_step m.steps) (λ p h. (k : ℕ × Option ℕ) × m.hints p.0 k × (h ≡ hint_less p.1 k))

@@ -1,0 +1,32 @@
+-- `StepBy`, which keeps one item at each step.
+use Rattle.std.specs.Prelude.{ℕ, Bool, Option, ◌≡◌, ◌+◌, ◌-◌, ◌%◌, ltb, leb, eqb, cond, ◌&&◌, List, [], ◌∷◌}
+use Rattle.fallible_core.specs.declared.cutting.step_by.StepBy.{StepBy}
+use Rattle.fallible_core.specs.Traces.{Answered}
+use Rattle.fallible_core.specs.Contract.{Contract}
+use Rattle.fallible_core.specs.Counting.{KeptByNumber}
+use Rattle.fallible_core.specs.WithSteps.{with_steps}
+use Rattle.fallible_core.specs.Hints.{hint_kept}
+
+-- the source, and how many items are left out between two and how many next
+abbrev pub step_by_parts : {I : Type 0} → StepBy I → I × (ℕ × ℕ)
+step_by_parts s = (s.it, (s.between, s.left))
+
+-- whether the item with number k is kept, where r are left out at first: k is r + 1 plus a multiple of the step
+abbrev pub keeps_at_steps : ℕ → ℕ → ℕ → Bool
+keeps_at_steps between r k = ltb r k && eqb ((k - 1 - r) % (between + 1)) 0
+
+-- how many items are left out next, once k were drawn: of the first r those that are still to come, and else those up to the next multiple of the step
+abbrev pub left_after : ℕ → ℕ → ℕ → ℕ
+left_after between r k = cond (leb k r) (r - k) (between - (k - 1 - r) % (between + 1))
+
+-- `StepBy` with r items to leave out first: the source's trace with only those items whose number, from 1, is r + 1 plus a multiple of the step; failures and ends are kept. The parts are the source, the number of items between two that are kept, and r.
+abbrev pub StepByTrace : {S A E : Type 0} → (S → Answered A E → S → Type 0) → S × (ℕ × ℕ) → List (Answered A E) → S × (ℕ × ℕ) → Type 0
+StepByTrace steps p trace q = KeptByNumber (keeps_at_steps (p.1).0 (p.1).1) (left_after (p.1).0 (p.1).1) steps p.0 trace q.0 (q.1).1 × ((q.1).0 ≡ (p.1).0)
+
+-- one answer
+abbrev pub step_by_step : {S A E : Type 0} → (S → Answered A E → S → Type 0) → S × (ℕ × ℕ) → Answered A E → S × (ℕ × ℕ) → Type 0
+step_by_step steps p r q = StepByTrace steps p (r ∷ []) q
+
+-- `StepBy`'s contract: that of its source but for the step and the hint.
+abbrev pub step_by_contract : {S A E : Type 0} → Contract S A E → Contract (S × (ℕ × ℕ)) A E
+step_by_contract m = with_steps m (step_by_step m.steps) (λ p h. (k : ℕ × Option ℕ) × m.hints p.0 k × (h ≡ hint_kept (p.1).0 (p.1).1 k))

@@ -1,0 +1,34 @@
+-- `Take`, which ends after a number of items.
+use Rattle.std.specs.Prelude.{◌≡◌, ℕ, zero, suc, ◌+◌, ◌≤◌, ◌<◌, List, [], ◌∷◌, ◌++◌, replicate, Option, ⊤, ◌⊎◌}
+use Rattle.fallible_core.specs.Traces.{Answered, Run, end, items_in}
+use Rattle.fallible_core.specs.Contract.{Contract}
+use Rattle.fallible_core.specs.WithSteps.{with_steps}
+use Rattle.fallible_core.specs.declared.cutting.take.Take.{Take}
+use Rattle.fallible_core.specs.Hints.{hint_up_to}
+
+-- `Take` at n: the source's trace, and then ends without draws. Each shorter front of the source's trace has fewer than n items, and the whole at most n; ends without draws come only after n items. What is left to take is n less the items.
+pub record TakeTrace {S A E : Type 0} (steps : S → Answered A E → S → Type 0) (p : S × ℕ) (trace : List (Answered A E)) (q : S × ℕ) : Type 0 where
+  pub source_trace : List (Answered A E)
+  pub ends : ℕ
+  pub drawn : Run steps p.0 source_trace q.0
+  pub answers : trace ≡ source_trace ++ replicate ends end
+  pub fronts : (front : List (Answered A E)) (r : Answered A E) (rest : List (Answered A E)) → source_trace ≡ front ++ r ∷ rest → items_in front < p.1
+  pub at_most : items_in source_trace ≤ p.1
+  pub over : 0 < ends → items_in source_trace ≡ p.1
+  pub remaining : q.1 + items_in source_trace ≡ p.1
+
+-- One answer: an end without a draw where nothing is left to take, and else the source's answer, of which an item leaves one less.
+abbrev pub take_step : {S A E : Type 0} → (S → Answered A E → S → Type 0) → S × ℕ → Answered A E → S × ℕ → Type 0
+take_step steps (s, zero) r (t, left) = (r ≡ end) × (t ≡ s) × (left ≡ 0)
+take_step steps (s, suc n) r (t, left) = steps s r t × (left + items_in (r ∷ []) ≡ suc n)
+
+-- It always has an end: what is left to take is a number to come, and so is each of the source's.
+abbrev pub take_contract : {S A E : Type 0} → Contract S A E → Contract (S × ℕ) A E
+take_contract m = record (with_steps m (take_step m.steps) (λ p h. (k : ℕ × Option ℕ) × m.hints p.0 k × (h ≡ hint_up_to p.1 k))) {
+  to_come = λ p n. p.1 ≤ n ⊎ m.to_come p.0 n;
+  has_end = λ p. ⊤;
+}
+
+-- the source, and how many items are still to be taken
+abbrev pub take_parts : {I : Type 0} → Take I → I × ℕ
+take_parts s = (s.it, s.left)

@@ -1,0 +1,53 @@
+-- `TakeWhile`, which ends for good at the first item that a predicate refuses.
+use Rattle.std.specs.Prelude.{List, [], ◌∷◌, map, Option, Result, Ok, Err, Bool, true, false}
+use Rattle.std.specs.List.{filter_map}
+use Rattle.std.specs.Fn.{Mut}
+use Rattle.std.specs.Borrow.{Bor}
+use Rattle.fallible_core.specs.Traces.{Answered, Run, item, failure, end}
+use Rattle.fallible_core.specs.Contract.{Contract}
+use Rattle.fallible_core.specs.Closures.{Calls, call_in, IsCallableIn, call_at, takes_at}
+use Rattle.fallible_core.specs.Passing.{Outcome, kept, failed, an_end, Place, asked, failure_at, end_at, source_answer, call_of, passing}
+use Rattle.fallible_core.specs.Hints.{upper_alone}
+use Rattle.fallible_core.specs.declared.cutting.take_while.TakeWhile.{TakeWhile}
+use Rattle.fallible_core.specs.Closing.{ClosingTrace, closing}
+
+-- An item that the predicate accepts is kept; one that it refuses makes an end; a failure of it is the answer.
+abbrev pub take_while_outcome : {X E : Type 0} → X → Result Bool E → Outcome X E
+take_while_outcome x (Ok true) = kept x
+take_while_outcome x (Ok false) = an_end
+take_while_outcome x (Err e) = failed e
+
+-- the answer of `TakeWhile` at a place: an item that the predicate accepts, an end in place of one that it refuses, its failure; and the source's failures and ends
+abbrev pub taken_answer : {X E : Type 0} → Place X (Result Bool E) E → Answered X E
+taken_answer (asked x (Ok true)) = item x
+taken_answer (asked x (Ok false)) = end
+taken_answer (asked x (Err e)) = failure e
+taken_answer (failure_at e) = failure e
+taken_answer end_at = end
+
+-- whether the predicate refuses the item at a place
+abbrev pub is_refused : {X E : Type 0} → Place X (Result Bool E) E → Bool
+is_refused (asked x (Ok true)) = false
+is_refused (asked x (Ok false)) = true
+is_refused (asked x (Err e)) = false
+is_refused (failure_at e) = false
+is_refused end_at = false
+
+-- `TakeWhile`: the source's trace, with the predicate called on each item, in which an item is replaced by the predicate's failure on it, and the first refused one by an end, which closes. The parts are the source and what holds the predicate, and whether an item was refused.
+pub record TakeWhileTrace {S F X E : Type 0} (steps : S → Answered X E → S → Type 0) (call : F → X → Result Bool E → F → Type 0) (p : (S × F) × Bool) (trace : List (Answered X E)) (q : (S × F) × Bool) : Type 0 where
+  pub places : List (Place X (Result Bool E) E)
+  pub drawn : Run steps (p.0).0 (map source_answer places) (q.0).0
+  pub called : Calls call (p.0).1 (filter_map call_of places) (q.0).1
+  pub cut : ClosingTrace taken_answer is_refused p.1 places trace q.1
+
+-- one draw, with a call of the predicate on an item
+abbrev pub place_drawn : {S F X R E : Type 0} → (S → Answered X E → S → Type 0) → (F → X → R → F → Type 0) → S × F → Place X R E → S × F → Type 0
+place_drawn steps call p x q = steps p.0 (source_answer x) q.0 × Calls call p.1 (filter_map call_of (x ∷ [])) q.1
+
+-- `TakeWhile`'s contract, with the flag whether an item was refused: the predicate may be called on each item that may come, and until then the hint has the source's upper bound alone.
+abbrev pub take_while_contract : {S F X E : Type 0} → Contract S X E → Mut F (Bor X × Unit {0}) (Result Bool E) → Contract ((S × Option F) × Bool) X E
+take_while_contract m g = closing (passing m (call_in (call_at g)) (IsCallableIn (call_at g) (takes_at g)) take_while_outcome (λ p h. upper_alone m p.0 h)) (place_drawn m.steps (call_in (call_at g))) taken_answer is_refused
+
+-- the source and the slot of the predicate, and whether an item was refused
+abbrev pub take_while_parts : {I P : Type 0} → TakeWhile I P → (I × Option P) × Bool
+take_while_parts s = ((s.it, s.predicate), s.refused)

@@ -1,0 +1,26 @@
+-- `FilterMap`, which leaves out the items on which its closure answers none.
+use Rattle.std.specs.Prelude.{Option, Result, Some, Ok, Err, List, None}
+use Rattle.std.specs.Fn.{Mut}
+use Rattle.fallible_core.specs.Traces.{Answered}
+use Rattle.fallible_core.specs.Contract.{Contract}
+use Rattle.fallible_core.specs.Closures.{call_on, takes_on, call_in, IsCallableIn}
+use Rattle.fallible_core.specs.Passing.{Outcome, kept, left_out, failed, PassTrace, leaving_out}
+use Rattle.fallible_core.specs.declared.filtering.filter_map.FilterMap.{FilterMap}
+use Rattle.fallible_core.specs.Hints.{upper_alone}
+
+-- An item is replaced by the value that the closure answers, left out where it answers none, and replaced by a failure of it.
+abbrev pub filter_map_outcome : {X B E : Type 0} → X → Result (Option B) E → Outcome B E
+filter_map_outcome x (Ok (Some y)) = kept y
+filter_map_outcome x (Ok None) = left_out
+filter_map_outcome x (Err e) = failed e
+
+-- `FilterMap`: the source's trace without the items answered none, where each other item is replaced by the value or the failure that the closure answers on it; it doesn't end in an item answered none.
+abbrev pub FilterMapTrace : {S F X B E : Type 0} → (S → Answered X E → S → Type 0) → Mut F (X × Unit {0}) (Result (Option B) E) → S × Option F → List (Answered B E) → S × Option F → Type 0
+FilterMapTrace steps g p trace q = PassTrace steps (call_in (call_on g)) filter_map_outcome p trace q
+
+-- `FilterMap`'s contract: its hint has the source's upper bound alone.
+abbrev pub filter_map_contract : {S F X B E : Type 0} → Contract S X E → Mut F (X × Unit {0}) (Result (Option B) E) → Contract (S × Option F) B E
+filter_map_contract m g = leaving_out m (call_in (call_on g)) (IsCallableIn (call_on g) (takes_on g)) filter_map_outcome (λ p h. upper_alone m p.0 h)
+
+abbrev pub filter_map_parts : {I F : Type 0} → FilterMap I F → I × Option F
+filter_map_parts s = (s.it, s.f)

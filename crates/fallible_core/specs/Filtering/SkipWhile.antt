@@ -1,0 +1,85 @@
+-- `SkipWhile`, which leaves out items up to the first one that a predicate refuses.
+use Rattle.std.specs.Prelude.{◌≡◌, List, Option, Some, None, ℕ, ⊤, Result, Ok, Err, [], ◌∷◌, ◌++◌, map, Bool, true, false, IsSomeAnd, MatchBool}
+use Rattle.std.specs.Fn.{Mut}
+use Rattle.std.specs.Borrow.{Bor}
+use Rattle.std.specs.List.{filter_map}
+use Rattle.fallible_core.specs.Traces.{Answered, Run, LastKept}
+use Rattle.fallible_core.specs.Contract.{Contract}
+use Rattle.fallible_core.specs.Closures.{Calls, IsCallable, call_in, call_at, takes_at}
+use Rattle.fallible_core.specs.Passing.{Outcome, kept, left_out, failed, Place, asked, failure_at, end_at, source_answer, call_of, answer_at, leaving_out, has_answer}
+use Rattle.fallible_core.specs.declared.filtering.skip_while.SkipWhile.{SkipWhile}
+use Rattle.fallible_core.specs.Hints.{upper_alone}
+
+-- the predicate answered false
+abbrev pub answers_false : {E : Type 0} → Result Bool E → Bool
+answers_false (Ok false) = true
+answers_false (Ok true) = false
+answers_false (Err e) = false
+
+-- An item meets the predicate until its first false, and the flag says whether that was; then it isn't asked any more, and nothing changes.
+abbrev pub skip_call : {F X E : Type 0} → (F → X → Result Bool E → F → Type 0) → Bool × F → X → Option (Result Bool E) → Bool × F → Type 0
+skip_call call p x None q = (p.0 ≡ true) × (q ≡ p)
+skip_call call p x (Some v) q = (p.0 ≡ false) × call p.1 x v q.1 × (q.0 ≡ answers_false v)
+
+-- the predicate may be called on the item, where it is asked
+abbrev pub skip_takes : {F X : Type 0} → (F → X → Type 0) → Bool × F → X → Type 0
+skip_takes takes p x = p.0 ≡ false → takes p.1 x
+
+-- Its slot is full, and it may be called where it is asked.
+abbrev pub IsAskableIn : {F X E : Type 0} → (F → X → Result Bool E → F → Type 0) → (F → X → Type 0) → (X → Type 0) → Bool × Option F → Type 0
+IsAskableIn call takes P p = IsSomeAnd p.1 (λ f. IsCallable (skip_call call) (skip_takes takes) P (p.0, f))
+
+-- An item is kept where the predicate isn't asked or answers false, left out where it answers true, and replaced by a failure of it.
+abbrev pub skip_while_outcome : {X E : Type 0} → X → Option (Result Bool E) → Outcome X E
+skip_while_outcome x None = kept x
+skip_while_outcome x (Some (Ok false)) = kept x
+skip_while_outcome x (Some (Ok true)) = left_out
+skip_while_outcome x (Some (Err e)) = failed e
+
+-- the predicate was asked at the place and answered false
+abbrev pub false_at : {X E : Type 0} → Place X (Result Bool E) E → Bool
+false_at (asked x v) = answers_false v
+false_at (failure_at e) = false
+false_at end_at = false
+
+-- it answers false at none of the places
+abbrev pub NeverFalse : {X E : Type 0} → List (Place X (Result Bool E) E) → Type 0
+NeverFalse [] = ⊤
+NeverFalse (p ∷ rest) = (false_at p ≡ false) × NeverFalse rest
+
+-- it answers false at the last of the places, and at no other
+abbrev pub EndsAtFalse : {X E : Type 0} → List (Place X (Result Bool E) E) → Type 0
+EndsAtFalse [] = ⊥
+EndsAtFalse (p ∷ []) = false_at p ≡ true
+EndsAtFalse (p ∷ q ∷ rest) = (false_at p ≡ false) × EndsAtFalse (q ∷ rest)
+
+-- an item that the predicate is asked of: kept where it answers false, left out where it answers true, and replaced by a failure of it
+abbrev pub asked_outcome : {X E : Type 0} → X → Result Bool E → Outcome X E
+asked_outcome x v = skip_while_outcome x (Some v)
+
+-- The places at which the predicate is asked are those up to and with its first false: none where that came before them, and all where it doesn't come; these don't end in a left-out item.
+abbrev pub AskedUntilFalse : {X E : Type 0} → Bool → List (Place X (Result Bool E) E) → List (Answered X E) → Bool → Type 0
+AskedUntilFalse true met after found = (met ≡ []) × (found ≡ true)
+AskedUntilFalse false met after true = EndsAtFalse met
+AskedUntilFalse false met after false = NeverFalse met × (after ≡ []) × LastKept (has_answer asked_outcome) met
+
+-- `SkipWhile`, with the flag beside the predicate: the source's trace is what came while the predicate was asked, up to and with its first false, and what came after. Its own trace is the first part without the items that the predicate answered true on, an item on which it failed being replaced by that failure, and then the whole second part.
+pub record SkipWhileTrace {S F X E : Type 0} (steps : S → Answered X E → S → Type 0) (call : F → X → Result Bool E → F → Type 0) (p : S × (Bool × F)) (trace : List (Answered X E)) (q : S × (Bool × F)) : Type 0 where
+  pub met : List (Place X (Result Bool E) E)
+  pub after : List (Answered X E)
+  pub drawn : Run steps p.0 (map source_answer met ++ after) q.0
+  pub called : Calls call (p.1).1 (filter_map call_of met) (q.1).1
+  pub answers : trace ≡ filter_map (answer_at asked_outcome) met ++ after
+  pub until_false : AskedUntilFalse (p.1).0 met after (q.1).0
+
+-- (0, u) until the first false, and then (l, u)
+abbrev pub skip_while_hints : {S F X E : Type 0} → Contract S X E → S × (Bool × F) → ℕ × Option ℕ → Type 0
+skip_while_hints m p h = MatchBool (p.1).0 (m.hints p.0 h) (upper_alone m p.0 h)
+
+-- `SkipWhile`'s contract.
+abbrev pub skip_while_contract : {S F X E : Type 0} → Contract S X E → Mut F (Bor X × Unit {0}) (Result Bool E) → Contract (S × (Bool × Option F)) X E
+skip_while_contract m g = leaving_out m (skip_call (call_in (call_at g))) (IsAskableIn (call_at g) (takes_at g)) skip_while_outcome (skip_while_hints m)
+
+-- the source, whether the predicate answered false, and the predicate's slot
+abbrev pub skip_while_parts : {I P : Type 0} → SkipWhile I P → I × (Bool × Option P)
+skip_while_parts s = (s.it, (s.found, s.predicate))

@@ -1,0 +1,43 @@
+-- `Cycle`: a run, and at its end a fresh clone of the kept source as the next run.
+use Rattle.std.specs.Prelude.{◌≡◌, ℕ, List, [], ◌∷◌, ◌++◌, Option, false, ◌⊎◌}
+use Rattle.std.specs.declared.alloc.AllocError.{AllocError}
+use Rattle.fallible_core.specs.Traces.{Answered, Run, failure, end, is_end, NoEnd}
+use Rattle.fallible_core.specs.Contract.{Contract, unbounded}
+use Rattle.fallible_core.specs.Refusals.{RefusedAs}
+use Rattle.fallible_core.specs.declared.joining.cycle.Cycle.{Cycle}
+use Rattle.fallible_core.specs.Hints.{cycle_hint}
+
+module _ {S A E : Type 0} (is_clone : S → S → Type 0) (is_infallible : S → Type 0) (from : AllocError → E → Type 0) where
+  module _ (steps : S → Answered A E → S → Type 0) where
+    -- Laps over the kept source k, one after another, the first over the current run. A lap is answers of one run, of which none is an end but, in the lap of a clone, perhaps the first. Each lap but the last was drawn through the end that closes it, which is not answered. Then a fresh clone of k is the run, and its first answer, whatever it is, begins the next lap; or the clone is refused, the failure made of that is answered, and the next lap goes on over the same run.
+    pub data Laps (k : S) : S → List (Answered A E) → S → Type 0 where
+      last_lap : (s t : S) (lap : List (Answered A E)) → NoEnd lap → Run steps s lap t → Laps k s lap t
+      then_a_clone : (s ended clone run t : S) (lap : List (Answered A E)) (first : Answered A E) (rest : List (Answered A E)) → NoEnd lap → Run steps s (lap ++ end ∷ []) ended → is_clone k clone → steps clone first run → Laps k run rest t → Laps k s (lap ++ first ∷ rest) t
+      then_a_refusal : (s ended t : S) (lap : List (Answered A E)) (e : E) (rest : List (Answered A E)) → NoEnd lap → Run steps s (lap ++ end ∷ []) ended → RefusedAs is_infallible from k e → Laps k ended rest t → Laps k s (lap ++ failure e ∷ rest) t
+
+    -- `Cycle`: laps over the kept source, which stays. The parts are the current run and the kept source.
+    abbrev pub CycleTrace : S × S → List (Answered A E) → S × S → Type 0
+    CycleTrace p trace q = (q.1 ≡ p.1) × Laps p.1 p.0 trace q.0
+
+    -- One answer: that of the run, where it is no end; else the first answer of a fresh clone of k, or the failure made of a refusal.
+    abbrev pub CycleAnswer : S → S → Answered A E → S → Type 0
+    CycleAnswer k s r t = (steps s r t × (is_end r ≡ false))
+        ⊎ ((ended : S) × (clone : S) × steps s end ended × is_clone k clone × steps clone r t)
+        ⊎ ((e : E) × steps s end t × (r ≡ failure e) × RefusedAs is_infallible from k e)
+
+    -- one draw, which keeps the kept source
+    abbrev pub cycle_step : S × S → Answered A E → S × S → Type 0
+    cycle_step (s, k) r (t, k') = (k' ≡ k) × CycleAnswer k s r t
+
+  -- Each run that a clone of the kept source begins may be drawn from. It has no number to come but what its runs have.
+  abbrev pub cycle_contract : Contract S A E → Contract (S × S) A E
+  cycle_contract m = record (unbounded (cycle_step m.steps)) {
+    can = λ p. m.can p.0 × ((c : S) → is_clone p.1 c → m.can c);
+    gives = λ p x. m.gives p.0 x ⊎ ((c : S) × is_clone p.1 c × m.gives c x);
+    fails = λ p e. m.fails p.0 e ⊎ ((c : S) × is_clone p.1 c × m.fails c e) ⊎ RefusedAs is_infallible from p.1 e;
+    hints = λ p h. (k : ℕ × Option ℕ) × m.hints p.1 k × (h ≡ cycle_hint k);
+  }
+
+-- the current run, and the kept source
+abbrev pub cycle_parts : {I : Type 0} → Cycle I → I × I
+cycle_parts s = (s.it, s.kept)

@@ -1,0 +1,146 @@
+-- `Flatten` and `FlatMap`: each item of an outer source becomes an inner iterator, and the answers of these are joined.
+use Rattle.std.specs.Prelude.{◌≡◌, ◌≢◌, ℕ, ◌+◌, ◌*◌, IsSomeAnd, ◌≤◌, List, [], ◌∷◌, ◌++◌, map, Option, Result, Some, None, Ok, Err, IfSome, ⊤, ◌⊎◌}
+use Rattle.std.specs.List.{flat_map}
+use Rattle.std.specs.Iterator.{endless}
+use Rattle.fallible_core.specs.Traces.{Answered, Run, item, failure, end, NoEnd}
+use Rattle.fallible_core.specs.Contract.{Contract}
+use Rattle.fallible_core.specs.declared.one_to_one.map.Map.{Map}
+use Rattle.fallible_core.specs.declared.joining.flatten.Flatten.{Flatten}
+use Rattle.fallible_core.specs.declared.joining.flatten.FlatMap.{FlatMap}
+
+-- What one answer of the outer source puts into the trace: an item became an inner iterator, with the answers that came from it; or a failure or an end, which is the answer itself.
+pub data Part (X C B E : Type 0) : Type 0 where
+  of_inner : X → C → List (Answered B E) → Part X C B E
+  of_failure : E → Part X C B E
+  of_end : Part X C B E
+
+-- the outer source's answer in a part
+abbrev pub outer_answer : {X C B E : Type 0} → Part X C B E → Answered X E
+outer_answer (of_inner x c answers) = item x
+outer_answer (of_failure e) = failure e
+outer_answer of_end = end
+
+-- what a part has in the trace
+abbrev pub part_answers : {X C B E : Type 0} → Part X C B E → List (Answered B E)
+part_answers (of_inner x c answers) = answers
+part_answers (of_failure e) = failure e ∷ []
+part_answers of_end = end ∷ []
+
+-- A finished inner iterator gave the answers, and then its end was drawn.
+pub record Finished {C B E : Type 0} (inner : C → Answered B E → C → Type 0) (c : C) (answers : List (Answered B E)) : Type 0 where
+  pub left : C
+  pub drawn : Run inner c (answers ++ end ∷ []) left
+  pub no_end : NoEnd answers
+
+-- An unfinished one gave the answers, at least one and no end, and is then d.
+pub record Unfinished {C B E : Type 0} (inner : C → Answered B E → C → Type 0) (c : C) (answers : List (Answered B E)) (d : C) : Type 0 where
+  pub drawn : Run inner c answers d
+  pub no_end : NoEnd answers
+  pub not_empty : answers ≢ []
+
+module _ {X C B E : Type 0} (into : X → C → Type 0) (inner : C → Answered B E → C → Type 0) where
+  -- a part before the last: its inner iterator is finished
+  abbrev pub FinishedPart : Part X C B E → Type 0
+  FinishedPart (of_inner x c answers) = into x c × Finished inner c answers
+  FinishedPart (of_failure e) = ⊤
+  FinishedPart of_end = ⊤
+
+  -- each part before the last
+  abbrev pub FinishedParts : List (Part X C B E) → Type 0
+  FinishedParts [] = ⊤
+  FinishedParts (p ∷ rest) = FinishedPart p × FinishedParts rest
+
+  -- the last part: its inner iterator is unfinished, and it alone is in hand afterwards
+  abbrev pub LastPart : Part X C B E → Option C → Type 0
+  LastPart (of_inner x c answers) hand = into x c × ((d : C) × Unfinished inner c answers d × (hand ≡ Some d))
+  LastPart (of_failure e) hand = hand ≡ None
+  LastPart of_end hand = hand ≡ None
+
+-- the inner iterator in hand, if there is one, gave the answers and is finished
+abbrev pub FinishedInHand : {C B E : Type 0} → (C → Answered B E → C → Type 0) → Option C → List (Answered B E) → Type 0
+FinishedInHand inner (Some c) answers = Finished inner c answers
+FinishedInHand inner None answers = answers ≡ []
+
+-- The outer source was drawn. The trace joins the answers of the inner iterator in hand, if there was one, and a part for each answer of the outer source.
+pub record Joined {S X C B E : Type 0} (outer : S → Answered X E → S → Type 0) (into : X → C → Type 0) (inner : C → Answered B E → C → Type 0) (s : S) (hand : Option C) (trace : List (Answered B E)) (t : S) (hand' : Option C) : Type 0 where
+  pub in_hand : List (Answered B E)
+  pub parts : List (Part X C B E)
+  pub last : Part X C B E
+  pub drawn : Run outer s (map outer_answer (parts ++ last ∷ [])) t
+  pub hand_finished : FinishedInHand inner hand in_hand
+  pub finished : FinishedParts into inner parts
+  pub at_last : LastPart into inner last hand'
+  pub answers : trace ≡ in_hand ++ flat_map part_answers (parts ++ last ∷ [])
+
+-- The answers from an outer source at s: nothing was drawn; or the trace is that of the inner iterator in hand, which is unfinished; or the outer source was drawn.
+pub data FlattenAnswers {S X C B E : Type 0} (outer : S → Answered X E → S → Type 0) (into : X → C → Type 0) (inner : C → Answered B E → C → Type 0) : S → Option C → List (Answered B E) → S → Option C → Type 0 where
+  nothing_drawn : {s : S} {hand : Option C} → FlattenAnswers outer into inner s hand [] s hand
+  still_in_hand : {s : S} {c d : C} {trace : List (Answered B E)} → Unfinished inner c trace d → FlattenAnswers outer into inner s (Some c) trace s (Some d)
+  outer_drawn : {s t : S} {hand hand' : Option C} {trace : List (Answered B E)} → Joined outer into inner s hand trace t hand' → FlattenAnswers outer into inner s hand trace t hand'
+
+-- `Flatten`, by its parts: the outer source, and the inner iterator in hand.
+abbrev pub FlattenTrace : {S X C B E : Type 0} → (S → Answered X E → S → Type 0) → (X → C → Type 0) → (C → Answered B E → C → Type 0) → S × Option C → List (Answered B E) → S × Option C → Type 0
+FlattenTrace outer into inner p trace q = FlattenAnswers outer into inner p.0 p.1 trace q.0 q.1
+
+-- ---- the contract
+
+-- k is a number to come of the inner iterator in hand; 0 where there is none
+abbrev pub NumberInHand : {C : Type 0} → Option C → (C → ℕ → Type 0) → ℕ → Type 0
+NumberInHand (Some c) to_come k = to_come c k
+NumberInHand None to_come k = k ≡ 0
+
+module _ {S X C B E : Type 0} (m : Contract S X E) (into : X → C → Type 0) (inner : Contract C B E) where
+  -- an item that the outer source may still give becomes an inner iterator of which P holds
+  pub record SomeInner (P : C → Type 0) (s : S) : Type 0 where
+    pub argument : X
+    pub iterator : C
+    pub given : m.gives s argument
+    pub becomes : into argument iterator
+    pub holds : P iterator
+
+  -- each item that the outer source may still give becomes an inner iterator of which P holds
+  pub record EachInner (P : C → Type 0) (s : S) : Type 0 where
+    pub at : (x : X) (c : C) → m.gives s x → into x c → P c
+
+  -- no inner iterator that may come has more than b items
+  abbrev pub EachAtMost : ℕ → S → Type 0
+  EachAtMost b s = EachInner (λ c. (k : ℕ) × inner.to_come c k × (k ≤ b)) s
+
+  -- The outer source has at most so many items, each of which becomes at most so many, and the inner iterator in hand has at most so many.
+  pub record FlattenNumber (s : S) (hand : Option C) (n : ℕ) : Type 0 where
+    pub outer : ℕ
+    pub each : ℕ
+    pub in_hand : ℕ
+    pub outer_is : m.to_come s outer
+    pub each_is : EachAtMost each s
+    pub in_hand_is : NumberInHand hand inner.to_come in_hand
+    pub sum : each * outer + in_hand ≤ n
+
+  -- Its condition: one of the outer source, and a number to come of it, since many inner iterators may end at once; one of the inner iterator in hand and of each that may come. There is a number to come where the outer source and the inner iterator in hand have one, and one serves for all that may come.
+  abbrev pub flatten_contract : Contract (S × Option C) B E
+  flatten_contract = record {
+    can = λ p. m.can p.0 × m.has_end p.0 × IfSome p.1 inner.can × EachInner inner.can p.0;
+    steps = λ p r q. FlattenTrace m.steps into inner.steps p (r ∷ []) q;
+    to_come = λ p n. FlattenNumber p.0 p.1 n;
+    has_end = λ p. m.has_end p.0 × IfSome p.1 inner.has_end × ((b : ℕ) × EachAtMost b p.0);
+    elements = λ p. endless;
+    gives = λ p y. IsSomeAnd p.1 (λ c. inner.gives c y) ⊎ SomeInner (λ c. inner.gives c y) p.0;
+    fails = λ p e. m.fails p.0 e ⊎ (IsSomeAnd p.1 (λ c. inner.fails c e) ⊎ SomeInner (λ c. inner.fails c e) p.0);
+    hints = λ p h. h ≡ (0, None);
+    names = λ p. m.names p.0;
+  }
+
+-- ---- one draw, as a fold of the outer source that stops
+
+-- One turn: the item became an inner iterator, and this was drawn from once. The fold goes on where it ended at once, and else stops with it in hand and its answer.
+abbrev pub BeginTurn : {X C B E : Type 0} → (X → C → Type 0) → (C → Answered B E → C → Type 0) → Option C → X → Result (Option C) (Option C × Result B E) → Type 0
+BeginTurn {C = C} into inner hand x (Ok hand') = (c : C) × (d : C) × into x c × inner c end d × (hand' ≡ hand)
+BeginTurn {C = C} into inner hand x (Err (hand', Ok y)) = (c : C) × (d : C) × into x c × inner c (item y) d × (hand' ≡ Some d)
+BeginTurn {C = C} into inner hand x (Err (hand', Err e)) = (c : C) × (d : C) × into x c × inner c (failure e) d × (hand' ≡ Some d)
+
+-- the outer source, and the inner iterator in hand
+abbrev pub flatten_parts : {I J : Type 0} → Flatten I J → I × Option J
+flatten_parts s = (s.it, s.in_hand)
+
+abbrev pub flat_map_parts : {I J F : Type 0} → FlatMap I J F → Map I F × Option J
+flat_map_parts s = (s.it, s.in_hand)

@@ -1,0 +1,65 @@
+-- `Zip`: the pairs of two sources' items, place by place.
+use Rattle.std.specs.Prelude.{ℕ, Option, Some, ◌≡◌, List, map, None, Ok, Err, ◌⊎◌}
+use Rattle.std.specs.List.{filter_map}
+use Rattle.std.specs.Iterator.{endless}
+use Rattle.fallible_core.specs.declared.joining.zip.Zip.{Zip}
+use Rattle.fallible_core.specs.Traces.{Answered, Run, item, failure, end}
+use Rattle.fallible_core.specs.Contract.{Contract, names_of_both}
+use Rattle.fallible_core.specs.Hints.{hint_smaller}
+
+-- the left and the right
+abbrev pub zip_parts : {T U : Type 0} → Zip T U → T × U
+zip_parts s = (s.left, s.right)
+
+-- One place of two traces: a failure of the left, beside which the right has no answer; or an item or an end of the left, and an answer of the right.
+pub data ZipPlace (A B E : Type 0) : Type 0 where
+  left_failed : E → ZipPlace A B E
+  both_drawn : Option A → Answered B E → ZipPlace A B E
+
+-- the left's answer at a place
+abbrev pub left_answer : {A B E : Type 0} → ZipPlace A B E → Answered A E
+left_answer (left_failed e) = failure e
+left_answer (both_drawn x r) = Ok x
+
+-- the right's answer at a place, if it has one
+abbrev pub right_answer : {A B E : Type 0} → ZipPlace A B E → Option (Answered B E)
+right_answer (left_failed e) = None
+right_answer (both_drawn x r) = Some r
+
+-- The answer at a place: the left's failure, else the right's failure, else the pair of two items, else an end.
+abbrev pub zip_answer : {A B E : Type 0} → ZipPlace A B E → Answered (A × B) E
+zip_answer (left_failed e) = failure e
+zip_answer (both_drawn x (Err e)) = failure e
+zip_answer (both_drawn (Some x) (Ok (Some y))) = item (x, y)
+zip_answer (both_drawn (Some x) (Ok None)) = end
+zip_answer (both_drawn None (Ok y)) = end
+
+-- `Zip`: the right's trace has one answer for each answer of the left's that isn't a failure, and the zip's trace has one for each answer of the left's.
+pub record ZipTrace {S U A B E : Type 0} (steps : S → Answered A E → S → Type 0) (others : U → Answered B E → U → Type 0) (p : S × U) (trace : List (Answered (A × B) E)) (q : S × U) : Type 0 where
+  pub places : List (ZipPlace A B E)
+  pub left_drawn : Run steps p.0 (map left_answer places) q.0
+  pub right_drawn : Run others p.1 (filter_map right_answer places) q.1
+  pub answers : trace ≡ map zip_answer places
+
+-- the right is drawn where it has an answer at the place, and else stays as it is
+abbrev pub right_step : {U A B E : Type 0} → (U → Answered B E → U → Type 0) → U → ZipPlace A B E → U → Type 0
+right_step others u (left_failed e) v = v ≡ u
+right_step others u (both_drawn x r) v = others u r v
+
+-- one answer: that of one place
+abbrev pub zip_step : {S U A B E : Type 0} → (S → Answered A E → S → Type 0) → (U → Answered B E → U → Type 0) → S × U → Answered (A × B) E → S × U → Type 0
+zip_step {A = A} {B = B} {E = E} steps others p r q = (x : ZipPlace A B E) × steps p.0 (left_answer x) q.0 × right_step others p.1 x q.1 × (r ≡ zip_answer x)
+
+-- Each number to come of either source is one of the zip, and so it has an end where one of them has.
+abbrev pub zip_contract : {S U A B E : Type 0} → Contract S A E → Contract U B E → Contract (S × U) (A × B) E
+zip_contract left right = record {
+  can = λ p. left.can p.0 × right.can p.1;
+  steps = zip_step left.steps right.steps;
+  to_come = λ p n. left.to_come p.0 n ⊎ right.to_come p.1 n;
+  has_end = λ p. left.has_end p.0 ⊎ right.has_end p.1;
+  elements = λ _. endless;
+  gives = λ p z. left.gives p.0 z.0 × right.gives p.1 z.1;
+  fails = λ p e. left.fails p.0 e ⊎ right.fails p.1 e;
+  hints = λ p h. (g : ℕ × Option ℕ) × (k : ℕ × Option ℕ) × left.hints p.0 g × right.hints p.1 k × (h ≡ hint_smaller g k);
+  names = λ p. names_of_both (left.names p.0) (right.names p.1);
+}

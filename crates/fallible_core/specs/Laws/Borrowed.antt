@@ -1,0 +1,19 @@
+-- The contract of a borrowed fallible iterator is lawful where its own is.
+use Rattle.std.specs.Prelude.{Some, None, Ok, Err}
+use Rattle.std.specs.Borrow.{MutBor}
+use Rattle.std.proofs.Common.{ap₂}
+use Rattle.fallible_core.specs.Traces.{Answered}
+use Rattle.fallible_core.specs.Contract.{Contract, OnAnswer, Lawful, name_and}
+use Rattle.fallible_core.specs.Borrowed.{borrowed}
+
+module _ {S A E : Type 0} (m : Contract S A E) where
+  answer_borrowed : (s t : MutBor S) (r : Answered A E) → OnAnswer m s.now r t.now → OnAnswer (borrowed m) s r t
+  answer_borrowed s t (Ok (Some x)) h = h
+  answer_borrowed s t (Ok None) h = h
+  answer_borrowed s t (Err e) h = h
+
+pub lawful_borrowed : {S A E : Type 0} {m : Contract S A E} → Lawful m → Lawful (borrowed m)
+lawful_borrowed {m = m} l = record {
+  goes = λ s r t c step. let g = l.goes s.now r t.now c step.0 in record { can = g.can; has_end = g.has_end; answer = answer_borrowed m s t r g.answer; gives = g.gives; fails = g.fails; names = ap₂ name_and step.1 g.names };
+  ends = λ s. l.ends s.now;
+}

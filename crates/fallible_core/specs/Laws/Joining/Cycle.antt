@@ -1,0 +1,59 @@
+-- The contract of `Cycle` is lawful where the source's is.
+use Rattle.std.specs.Prelude.{Some, None, Ok, Err, ⊤}
+use Rattle.std.specs.declared.alloc.AllocError.{AllocError}
+use Rattle.std.proofs.Common.{refl, inl, inr}
+use Rattle.fallible_core.specs.Traces.{Answered, end}
+use Rattle.fallible_core.specs.Contract.{Contract, OnAnswer, Goes, Lawful}
+use Rattle.fallible_core.specs.Joining.Cycle.{CycleAnswer, cycle_contract}
+use Rattle.fallible_core.specs.Laws.ToCome.{bounds_fewer, bounds_failure, bounds_end, bound_stays}
+
+module _ {S A E : Type 0} (is_clone : S → S → Type 0) (is_infallible : S → Type 0) (from : AllocError → E → Type 0) (m : Contract S A E) where
+  abbrev C : Contract (S × S) A E
+  C = cycle_contract is_clone is_infallible from m
+
+  -- the answer was one to come
+  abbrev Came : S × S → Answered A E → Type 0
+  Came p (Ok (Some x)) = C.gives p x
+  Came p (Ok None) = ⊤
+  Came p (Err e) = C.fails p e
+
+  on_answer : (p q : S × S) (r : Answered A E) → C.steps p r q → Came p r → OnAnswer C p r q
+  on_answer p q (Ok (Some x)) step came = (came, (λ n b. bounds_fewer {steps = C.steps} x step b), (λ f. absurd f))
+  on_answer p q (Ok None) step came = ((λ n b. bounds_end {steps = C.steps} step b), (λ f. absurd f))
+  on_answer p q (Err e) step came = (came, (λ n b. bounds_failure {steps = C.steps} e step b), (λ f. absurd f))
+
+  came_from_run : (s t k : S) (r : Answered A E) → OnAnswer m s r t → Came (s, k) r
+  came_from_run s t k (Ok (Some x)) a = inl a.0
+  came_from_run s t k (Ok None) a = tt
+  came_from_run s t k (Err e) a = inl a.0
+
+  came_from_clone : (s t k c : S) (r : Answered A E) → is_clone k c → OnAnswer m c r t → Came (s, k) r
+  came_from_clone s t k c (Ok (Some x)) is a = inr (c, is, a.0)
+  came_from_clone s t k c (Ok None) is a = tt
+  came_from_clone s t k c (Err e) is a = inr (inl (c, is, a.0))
+
+  -- with what the answer and what is left have to do with the source, a draw goes
+  goes_by : (s t k : S) (r : Answered A E) → C.can (s, k) → m.can t → C.steps (s, k) r (t, k) → Came (s, k) r → ((x : A) → m.gives t x → C.gives (s, k) x) → ((e : E) → m.fails t e → C.fails (s, k) e) → Goes C (s, k) r (t, k)
+  goes_by s t k r c can step came gives fails = let a = on_answer (s, k) (t, k) r step came in record {
+    can = (can, c.1);
+    has_end = bound_stays C (s, k) (t, k) r a;
+    answer = a;
+    gives = λ x h. elim h [ inl g ↦ gives x g | inr d ↦ inr d ];
+    fails = λ e h. elim h [ inl g ↦ fails e g | inr d ↦ inr d ];
+    names = refl;
+  }
+
+  goes_cycle : Lawful m → (s t k : S) (r : Answered A E) → C.can (s, k) → CycleAnswer is_clone is_infallible from m.steps k s r t → Goes C (s, k) r (t, k)
+  goes_cycle l s t k r c h = elim h [
+    | inl d ↦ (let a = l.goes s r t c.0 d.0 in goes_by s t k r c a.can (refl, inl d) (came_from_run s t k r a.answer) (λ x g. inl (a.gives x g)) (λ e g. inl (a.fails e g)))
+    | inr i ↦ elim i [
+      | inl d ↦ (let a = l.goes d.1 r t (c.1 d.1 d.3) d.4 in goes_by s t k r c a.can (refl, inr (inl d)) (came_from_clone s t k d.1 r d.3 a.answer) (λ x g. inr (d.1, d.3, a.gives x g)) (λ e g. inr (inl (d.1, d.3, a.fails e g))))
+      | inr d ↦ (let a = l.goes s end t c.0 d.1 in goes_by s t k r c a.can (refl, inr (inr d)) (rw d.2 (inr (inr d.3))) (λ x g. inl (a.gives x g)) (λ e g. inl (a.fails e g)))
+    ]
+  ]
+
+  goes_cycle_parts : Lawful m → (p : S × S) (r : Answered A E) (q : S × S) → C.can p → C.steps p r q → Goes C p r q
+  goes_cycle_parts l (s, k) r (t, k') c step = rw step.0 (goes_cycle l s t k r c step.1)
+
+pub lawful_cycle : {S A E : Type 0} {m : Contract S A E} (is_clone : S → S → Type 0) (is_infallible : S → Type 0) (from : AllocError → E → Type 0) → Lawful m → Lawful (cycle_contract is_clone is_infallible from m)
+lawful_cycle {m = m} is_clone is_infallible from l = record { goes = goes_cycle_parts is_clone is_infallible from m l; ends = λ p. ((λ e. e), (λ h. h)) }

@@ -1,0 +1,59 @@
+-- The contract of `Enumerate` is lawful where the source's is.
+use Rattle.std.specs.Prelude.{◌≡◌, ℕ, ◌+◌, List, [], ◌∷◌, Some, None, Ok, Err}
+use Rattle.std.proofs.Common.{sym, subst, arith}
+use Rattle.fallible_core.specs.Traces.{Answered, Run, item, items_in}
+use Rattle.fallible_core.specs.Contract.{Contract, Goes, Lawful}
+use Rattle.fallible_core.specs.OneToOne.Enumerate.{numbered_from, EnumerateTrace, enumerate_contract}
+
+module _ {S A E : Type 0} (steps : S → Answered A E → S → Type 0) where
+  -- the same as `EnumerateTrace`, built from the first answer on
+  pub data Numbered : S → ℕ → List (Answered (ℕ × A) E) → S → ℕ → Type 0 where
+    numbered_none : {s : S} {n : ℕ} → Numbered s n [] s n
+    numbered_item : {s u t : S} {n k : ℕ} {trace : List (Answered (ℕ × A) E)} (x : A) → steps s (item x) u → Numbered u (n + 1) trace t k → Numbered s n (item (n, x) ∷ trace) t k
+    numbered_end : {s u t : S} {n k : ℕ} {trace : List (Answered (ℕ × A) E)} → steps s (Ok None) u → Numbered u n trace t k → Numbered s n (Ok None ∷ trace) t k
+    numbered_failure : {s u t : S} {n k : ℕ} {trace : List (Answered (ℕ × A) E)} (e : E) → steps s (Err e) u → Numbered u n trace t k → Numbered s n (Err e ∷ trace) t k
+
+  from_source : (source : List (Answered A E)) (s t : S) (n k : ℕ) → Run steps s source t → k ≡ n + items_in source → Numbered s n (numbered_from n source) t k
+  from_source [] s t n k ran left = subst (λ (u : S). Numbered s n [] u k) ran (let same : n ≡ k = omega (arith, left) in subst (λ (j : ℕ). Numbered s n [] s j) same numbered_none)
+  from_source (Ok (Some x) ∷ rest) s t n k ran left = numbered_item x ran.1 (from_source rest ran.0 t (n + 1) k ran.2 (omega (arith, left)))
+  from_source (Ok None ∷ rest) s t n k ran left = numbered_end ran.1 (from_source rest ran.0 t n k ran.2 left)
+  from_source (Err e ∷ rest) s t n k ran left = numbered_failure e ran.1 (from_source rest ran.0 t n k ran.2 left)
+
+  pub to_numbered : (s t : S) (n k : ℕ) (trace : List (Answered (ℕ × A) E)) → EnumerateTrace steps (s, n) trace (t, k) → Numbered s n trace t k
+  to_numbered s t n k trace p = subst (λ (l : List (Answered (ℕ × A) E)). Numbered s n l t k) (sym p.answers) (from_source p.source_trace s t n k p.drawn p.left)
+
+module _ {S A E : Type 0} (m : Contract S A E) (l : Lawful m) where
+  abbrev M : Contract (S × ℕ) (ℕ × A) E
+  M = enumerate_contract m
+
+  numbered_goes : (s t : S) (n k : ℕ) (r : Answered (ℕ × A) E) → M.can (s, n) → Numbered m.steps s n (r ∷ []) t k → Goes M (s, n) r (t, k)
+  numbered_goes s t n _ _ c (numbered_item x step numbered_none) = let a = l.goes s (item x) t c.can step in record {
+    can = (let b = a.answer.1 c.bound c.bounds in record { can = a.can; bound = b.0; bounds = b.1; fits = omega (arith, b.2, c.fits) });
+    has_end = a.has_end;
+    answer = ((a.answer.0, omega arith, (λ j b. let d = a.answer.1 j b in omega (arith, d.2))), a.answer.1, a.answer.2);
+    gives = λ y h. (a.gives y.1 h.0, omega (arith, h.1), (λ j b. let d = a.answer.1 j b in let e = h.2 d.0 d.1 in omega (arith, d.2, e)));
+    fails = a.fails;
+    names = a.names;
+  }
+  numbered_goes s t n _ _ c (numbered_end step numbered_none) = let a = l.goes s (Ok None) t c.can step in record {
+    can = (let b = a.answer.0 c.bound c.bounds in record { can = a.can; bound = b.0; bounds = b.1; fits = omega (arith, b.2, c.fits) });
+    has_end = a.has_end;
+    answer = a.answer;
+    gives = λ y h. (a.gives y.1 h.0, h.1, (λ j b. let d = a.answer.0 j b in let e = h.2 d.0 d.1 in omega (arith, d.2, e)));
+    fails = a.fails;
+    names = a.names;
+  }
+  numbered_goes s t n _ _ c (numbered_failure e step numbered_none) = let a = l.goes s (Err e) t c.can step in record {
+    can = (let b = a.answer.1 c.bound c.bounds in record { can = a.can; bound = b.0; bounds = b.1; fits = omega (arith, b.2, c.fits) });
+    has_end = a.has_end;
+    answer = a.answer;
+    gives = λ y h. (a.gives y.1 h.0, h.1, (λ j b. let d = a.answer.1 j b in let e = h.2 d.0 d.1 in omega (arith, d.2, e)));
+    fails = a.fails;
+    names = a.names;
+  }
+
+  goes_enumerate : (p : S × ℕ) (r : Answered (ℕ × A) E) (q : S × ℕ) → M.can p → M.steps p r q → Goes M p r q
+  goes_enumerate (s, n) r (t, k) c step = numbered_goes s t n k r c (to_numbered m.steps s t n k (r ∷ []) step)
+
+pub lawful_enumerate : {S A E : Type 0} {m : Contract S A E} → Lawful m → Lawful (enumerate_contract m)
+lawful_enumerate {m = m} l = record { goes = goes_enumerate m l; ends = λ p. l.ends p.0 }

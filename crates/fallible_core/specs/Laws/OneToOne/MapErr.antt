@@ -1,0 +1,70 @@
+-- The contract of `MapErr` is lawful where the source's is.
+use Rattle.std.specs.Prelude.{List, [], ◌∷◌, map, None, Ok, Err, ◌≡◌}
+use Rattle.std.specs.List.{filter_map}
+use Rattle.std.specs.Fn.{Mut}
+use Rattle.std.proofs.Common.{refl, sym, subst}
+use Rattle.fallible_core.specs.Traces.{Answered, Run, item}
+use Rattle.fallible_core.specs.Contract.{Contract, OnAnswer, Goes, Lawful}
+use Rattle.fallible_core.specs.Closures.{Calls, Reaches, call_on}
+use Rattle.fallible_core.specs.OneToOne.MapErr.{FailurePlace, item_here, asked_of, end_here, source_answer, failure_call, mapped_answer, MapErrTrace, map_err_contract}
+use Rattle.fallible_core.specs.Laws.Closures.{reaches_here, reaches_from, callable_after, may_answer_here, may_answer_after}
+
+module _ {S F X D E : Type 0} (steps : S → Answered X D → S → Type 0) (call : F → D → E → F → Type 0) where
+  -- the same as `MapErrTrace`, built from the first answer on
+  pub data Mapped : S → F → List (Answered X E) → S → F → Type 0 where
+    mapped_none : {s : S} {f : F} → Mapped s f [] s f
+    mapped_item : {s u t : S} {f g : F} {trace : List (Answered X E)} (x : X) → steps s (item x) u → Mapped u f trace t g → Mapped s f (item x ∷ trace) t g
+    mapped_end : {s u t : S} {f g : F} {trace : List (Answered X E)} → steps s (Ok None) u → Mapped u f trace t g → Mapped s f (Ok None ∷ trace) t g
+    mapped_failure : {s u t : S} {f h g : F} {trace : List (Answered X E)} (d : D) (e : E) → steps s (Err d) u → call f d e h → Mapped u h trace t g → Mapped s f (Err e ∷ trace) t g
+
+  from_places : (places : List (FailurePlace X D E)) (s : S) (f : F) (t : S) (g : F) → Run steps s (map source_answer places) t → Calls call f (filter_map failure_call places) g → Mapped s f (map mapped_answer places) t g
+  from_places [] s f t g ran called = subst (λ (u : S). Mapped s f [] u g) ran (subst (λ (h : F). Mapped s f [] s h) called mapped_none)
+  from_places (item_here x ∷ places) s f t g ran called = mapped_item x ran.1 (from_places places ran.0 f t g ran.2 called)
+  from_places (end_here ∷ places) s f t g ran called = mapped_end ran.1 (from_places places ran.0 f t g ran.2 called)
+  from_places (asked_of d e ∷ places) s f t g ran called = mapped_failure d e ran.1 called.1 (from_places places ran.0 called.0 t g ran.2 called.2)
+
+  pub to_mapped : (s t : S) (f g : F) (trace : List (Answered X E)) → MapErrTrace steps call (s, f) trace (t, g) → Mapped s f trace t g
+  to_mapped s t f g trace p = subst (λ (l : List (Answered X E)). Mapped s f l t g) (sym p.answers) (from_places p.places s f t g p.drawn p.called)
+
+module _ {S F X D E : Type 0} (m : Contract S X D) (l : Lawful m) (g : Mut F (D × Unit {0}) E) where
+  abbrev M : Contract (S × F) X E
+  M = map_err_contract m g
+
+  mapped_reaches : (s t : S) (f h : F) (r : Answered X E) → m.can s → Mapped m.steps (call_on g) s f (r ∷ []) t h → Reaches (call_on g) (m.fails s) f h
+  mapped_reaches s t f _ _ c (mapped_item x step mapped_none) = reaches_here
+  mapped_reaches s t f _ _ c (mapped_end step mapped_none) = reaches_here
+  mapped_reaches s t f h _ c (mapped_failure d e step called mapped_none) = reaches_from d e ((l.goes s (Err d) t c step).answer.0) called reaches_here
+
+  -- what the source's draw made of what is to come
+  record Came (s t : S) : Type 0 where
+    can : m.can t
+    has_end : m.has_end s → m.has_end t
+    gives : (x : X) → m.gives t x → m.gives s x
+    fails : (d : D) → m.fails t d → m.fails s d
+    names : m.names t ≡ m.names s
+
+  came : (s t : S) (r : Answered X D) → Goes m s r t → Came s t
+  came s t r a = record { can = a.can; has_end = a.has_end; gives = a.gives; fails = a.fails; names = a.names }
+
+  mapped_came : (s t : S) (f h : F) (r : Answered X E) → m.can s → Mapped m.steps (call_on g) s f (r ∷ []) t h → Came s t
+  mapped_came s t f _ _ c (mapped_item x step mapped_none) = came s t (item x) (l.goes s (item x) t c step)
+  mapped_came s t f _ _ c (mapped_end step mapped_none) = came s t (Ok None) (l.goes s (Ok None) t c step)
+  mapped_came s t f _ _ c (mapped_failure d e step called mapped_none) = came s t (Err d) (l.goes s (Err d) t c step)
+
+  mapped_goes : (s t : S) (f h : F) (r : Answered X E) → m.can s → Mapped m.steps (call_on g) s f (r ∷ []) t h → OnAnswer M (s, f) r (t, h)
+  mapped_goes s t f _ _ c (mapped_item x step mapped_none) = (l.goes s (item x) t c step).answer
+  mapped_goes s t f _ _ c (mapped_end step mapped_none) = (l.goes s (Ok None) t c step).answer
+  mapped_goes s t f h _ c (mapped_failure d e step called mapped_none) = let a = (l.goes s (Err d) t c step).answer in (may_answer_here h d e a.0 called refl, a.1, a.2)
+
+  goes_map_err : (p : S × F) (r : Answered X E) (q : S × F) → M.can p → M.steps p r q → Goes M p r q
+  goes_map_err (s, f) r (t, h) c step = let p = to_mapped m.steps (call_on g) s t f h (r ∷ []) step in let a = mapped_came s t f h r c.0 p in let reached = mapped_reaches s t f h r c.0 p in record {
+    can = (a.can, callable_after a.fails reached c.1);
+    has_end = a.has_end;
+    answer = mapped_goes s t f h r c.0 p;
+    gives = a.gives;
+    fails = λ e k. may_answer_after a.fails reached k;
+    names = a.names;
+  }
+
+pub lawful_map_err : {S F X D E : Type 0} {m : Contract S X D} (g : Mut F (D × Unit {0}) E) → Lawful m → Lawful (map_err_contract m g)
+lawful_map_err {m = m} g l = record { goes = goes_map_err m l g; ends = λ p. l.ends p.0 }

@@ -1,0 +1,28 @@
+-- `Cloned`, which clones what each item points to.
+use Rattle.std.specs.Prelude.{⊤, Result, Ok, Err, List}
+use Rattle.std.specs.Borrow.{Bor}
+use Rattle.std.specs.declared.alloc.AllocError.{AllocError}
+use Rattle.fallible_core.specs.Traces.{Answered}
+use Rattle.fallible_core.specs.Contract.{Contract}
+use Rattle.fallible_core.specs.Refusals.{RefusedAs}
+use Rattle.fallible_core.specs.Passing.{PassTrace, passing}
+use Rattle.fallible_core.specs.declared.one_to_one.cloned.Cloned.{Cloned}
+use Rattle.fallible_core.specs.OneToOne.Map.{map_outcome}
+
+module _ {T E : Type 0} (is_clone : T → T → Type 0) (is_infallible : T → Type 0) (from : AllocError → E → Type 0) where
+  -- the item's clone, or, where that may be refused, the failure made of the refusal
+  abbrev pub cloned_call : Unit {0} → Bor T → Result T E → Unit {0} → Type 0
+  cloned_call u x (Ok y) v = is_clone x.now y
+  cloned_call u x (Err e) v = RefusedAs is_infallible from x.now e
+
+  -- `Cloned`: the source's trace, where each item is replaced by a clone of what it points to, or by the failure made of the refusal.
+  abbrev pub ClonedTrace : {S : Type 0} → (S → Answered (Bor T) E → S → Type 0) → S × Unit {0} → List (Answered T E) → S × Unit {0} → Type 0
+  ClonedTrace steps p trace q = PassTrace steps cloned_call map_outcome p trace q
+
+  -- it asks nothing of a call
+  abbrev pub cloned_contract : {S : Type 0} → Contract S (Bor T) E → Contract (S × Unit {0}) T E
+  cloned_contract m = passing m cloned_call (λ P u. ⊤) map_outcome (λ p h. m.hints p.0 h)
+
+-- the source, and nothing else
+abbrev pub cloned_parts : {I : Type 0} → Cloned I → I × Unit {0}
+cloned_parts s = (s.it, tt)

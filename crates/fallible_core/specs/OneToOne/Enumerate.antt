@@ -1,0 +1,44 @@
+-- `Enumerate`, which numbers the items.
+use Rattle.std.specs.Prelude.{◌≡◌, ℕ, ◌+◌, ◌-◌, ◌^◌, ◌≤◌, ◌<◌, List, [], ◌∷◌, Some, None, Ok, Err}
+use Rattle.fallible_core.specs.Traces.{Answered, Run, item, failure, end, items_in}
+use Rattle.fallible_core.specs.Contract.{Contract}
+use Rattle.fallible_core.specs.declared.one_to_one.enumerate.Enumerate.{Enumerate}
+
+-- the trace with each item beside its number, which is n and the number of items before it; failures and ends have none
+abbrev pub numbered_from : {A E : Type 0} → ℕ → List (Answered A E) → List (Answered (ℕ × A) E)
+numbered_from n [] = []
+numbered_from n (Ok (Some x) ∷ rest) = item (n, x) ∷ numbered_from (n + 1) rest
+numbered_from n (Ok None ∷ rest) = end ∷ numbered_from n rest
+numbered_from n (Err e ∷ rest) = failure e ∷ numbered_from n rest
+
+-- `Enumerate` at n: the source's trace with its items numbered from n on; it is left at n and the number of those items.
+pub record EnumerateTrace {S A E : Type 0} (steps : S → Answered A E → S → Type 0) (p : S × ℕ) (trace : List (Answered (ℕ × A) E)) (q : S × ℕ) : Type 0 where
+  pub source_trace : List (Answered A E)
+  pub drawn : Run steps p.0 source_trace q.0
+  pub answers : trace ≡ numbered_from p.1 source_trace
+  pub left : q.1 ≡ p.1 + items_in source_trace
+
+-- The source may be drawn from, and the numbers from n on of all items to come fit a `usize`.
+pub record IsNumberable {S A E : Type 0} (m : Contract S A E) (s : S) (n : ℕ) : Type 0 where
+  pub can : m.can s
+  pub bound : ℕ
+  pub bounds : m.to_come s bound
+  pub fits : n + bound ≤ 2 ^ 64 - 1
+
+-- Its condition: one of the source, and the numbers of all items to come fit a `usize`. What may still come is an item that the source may give, with a number from the next one on, below each bound of those to come.
+abbrev pub enumerate_contract : {S A E : Type 0} → Contract S A E → Contract (S × ℕ) (ℕ × A) E
+enumerate_contract m = record {
+  can = λ p. IsNumberable m p.0 p.1;
+  steps = λ p r q. EnumerateTrace m.steps p (r ∷ []) q;
+  to_come = λ p n. m.to_come p.0 n;
+  has_end = λ p. m.has_end p.0;
+  elements = λ p. m.elements p.0;
+  gives = λ p y. m.gives p.0 y.1 × (p.1 ≤ y.0) × ((k : ℕ) → m.to_come p.0 k → y.0 < p.1 + k);
+  fails = λ p e. m.fails p.0 e;
+  hints = λ p h. m.hints p.0 h;
+  names = λ p. m.names p.0;
+}
+
+-- the source, and the number of the next item
+abbrev pub enumerate_parts : {I : Type 0} → Enumerate I → I × ℕ
+enumerate_parts s = (s.it, s.count)

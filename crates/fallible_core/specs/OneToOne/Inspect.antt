@@ -1,0 +1,25 @@
+-- `Inspect`, whose closure sees each item.
+use Rattle.std.specs.Prelude.{Option, Result, Ok, Err, List}
+use Rattle.std.specs.Fn.{Mut}
+use Rattle.std.specs.Borrow.{Bor}
+use Rattle.fallible_core.specs.Traces.{Answered}
+use Rattle.fallible_core.specs.Contract.{Contract}
+use Rattle.fallible_core.specs.Closures.{call_at, takes_at, call_in, IsCallableIn}
+use Rattle.fallible_core.specs.Passing.{Outcome, kept, failed, PassTrace, passing}
+use Rattle.fallible_core.specs.declared.one_to_one.inspect.Inspect.{Inspect}
+
+-- An item that the closure saw stays, or becomes the closure's failure.
+abbrev pub inspect_outcome : {X E : Type 0} → X → Result (Unit {0}) E → Outcome X E
+inspect_outcome x (Ok u) = kept x
+inspect_outcome x (Err e) = failed e
+
+-- `Inspect`: the source's trace, where each item on which the closure failed is replaced by that failure.
+abbrev pub InspectTrace : {S F X E : Type 0} → (S → Answered X E → S → Type 0) → Mut F (Bor X × Unit {0}) (Result (Unit {0}) E) → S × Option F → List (Answered X E) → S × Option F → Type 0
+InspectTrace steps g p trace q = PassTrace steps (call_in (call_at g)) inspect_outcome p trace q
+
+-- `Inspect`'s contract, with the source's hint.
+abbrev pub inspect_contract : {S F X E : Type 0} → Contract S X E → Mut F (Bor X × Unit {0}) (Result (Unit {0}) E) → Contract (S × Option F) X E
+inspect_contract m g = passing m (call_in (call_at g)) (IsCallableIn (call_at g) (takes_at g)) inspect_outcome (λ p h. m.hints p.0 h)
+
+abbrev pub inspect_parts : {I F : Type 0} → Inspect I F → I × Option F
+inspect_parts s = (s.it, s.f)

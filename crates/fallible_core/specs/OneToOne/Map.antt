@@ -1,0 +1,25 @@
+-- `Map`, whose closure is called on each item.
+use Rattle.std.specs.Prelude.{Option, Result, Ok, Err, List}
+use Rattle.std.specs.Fn.{Mut}
+use Rattle.fallible_core.specs.Traces.{Answered}
+use Rattle.fallible_core.specs.Contract.{Contract}
+use Rattle.fallible_core.specs.Closures.{call_on, takes_on, call_in, IsCallableIn}
+use Rattle.fallible_core.specs.Passing.{Outcome, kept, failed, PassTrace, passing}
+use Rattle.fallible_core.specs.declared.one_to_one.map.Map.{Map}
+
+-- An item becomes the closure's answer, a failure of it included.
+abbrev pub map_outcome : {X B E : Type 0} → X → Result B E → Outcome B E
+map_outcome x (Ok y) = kept y
+map_outcome x (Err e) = failed e
+
+-- `Map`: the source's trace, where each item is replaced by the closure's answer on it.
+abbrev pub MapTrace : {S F X B E : Type 0} → (S → Answered X E → S → Type 0) → Mut F (X × Unit {0}) (Result B E) → S × Option F → List (Answered B E) → S × Option F → Type 0
+MapTrace steps g p trace q = PassTrace steps (call_in (call_on g)) map_outcome p trace q
+
+-- `Map`'s contract, with the source's hint.
+abbrev pub map_contract : {S F X B E : Type 0} → Contract S X E → Mut F (X × Unit {0}) (Result B E) → Contract (S × Option F) B E
+map_contract m g = passing m (call_in (call_on g)) (IsCallableIn (call_on g) (takes_on g)) map_outcome (λ p h. m.hints p.0 h)
+
+-- the source, and the slot of the closure
+abbrev pub map_parts : {I F : Type 0} → Map I F → I × Option F
+map_parts s = (s.it, s.f)

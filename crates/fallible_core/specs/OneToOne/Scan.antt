@@ -1,0 +1,35 @@
+-- `Scan`, whose closure is called on a state and each item.
+use Rattle.std.specs.Prelude.{Option, Result, Some, None, Ok, Err, List}
+use Rattle.std.specs.Fn.{Mut, TakesWithState, CalledWithState}
+use Rattle.std.specs.Borrow.{MutBor}
+use Rattle.fallible_core.specs.Traces.{Answered}
+use Rattle.fallible_core.specs.Contract.{Contract}
+use Rattle.fallible_core.specs.Hints.{upper_alone}
+use Rattle.fallible_core.specs.Closures.{IsCallable}
+use Rattle.fallible_core.specs.Passing.{Outcome, kept, failed, an_end, PassTrace, passing}
+use Rattle.fallible_core.specs.declared.one_to_one.scan.Scan.{Scan}
+
+-- a call on the state and an item, which may change both the closure and the state
+abbrev pub scan_call : {F T X R : Type 0} → Mut F (MutBor T × (X × Unit {0})) (R × (MutBor T × Unit {0})) → T × F → X → R → T × F → Type 0
+scan_call g p x r q = CalledWithState g p.1 p.0 x r q.1 q.0
+
+-- it may be called so
+abbrev pub scan_takes : {F T X R : Type 0} → Mut F (MutBor T × (X × Unit {0})) (R × (MutBor T × Unit {0})) → T × F → X → Type 0
+scan_takes g p x = TakesWithState g p.1 p.0 x
+
+-- An item is replaced by the value that the closure answers, by an end where it answers none, and by a failure of it.
+abbrev pub scan_outcome : {X B E : Type 0} → X → Result (Option B) E → Outcome B E
+scan_outcome x (Ok (Some y)) = kept y
+scan_outcome x (Ok None) = an_end
+scan_outcome x (Err e) = failed e
+
+-- `Scan`, with the state beside the closure: the source's trace, where each item is replaced by the closure's answer on the state and the item, none being an end.
+abbrev pub ScanTrace : {S F T X B E : Type 0} → (S → Answered X E → S → Type 0) → Mut F (MutBor T × (X × Unit {0})) (Result (Option B) E × (MutBor T × Unit {0})) → S × (T × F) → List (Answered B E) → S × (T × F) → Type 0
+ScanTrace steps g p trace q = PassTrace steps (scan_call g) scan_outcome p trace q
+
+-- `Scan`'s contract: its hint has the source's upper bound alone, since none is an end.
+abbrev pub scan_contract : {S F T X B E : Type 0} → Contract S X E → Mut F (MutBor T × (X × Unit {0})) (Result (Option B) E × (MutBor T × Unit {0})) → Contract (S × (T × F)) B E
+scan_contract m g = passing m (scan_call g) (λ P h. IsCallable (scan_call g) (scan_takes g) P h) scan_outcome (λ p h. upper_alone m p.0 h)
+
+abbrev pub scan_parts : {I T F : Type 0} → Scan I T F → I × (T × F)
+scan_parts s = (s.it, (s.state, s.f))

@@ -1,0 +1,123 @@
+-- `Peekable`, which looks one answer ahead and holds it.
+use Rattle.std.specs.Prelude.{ℕ, Bool, Option, Some, ◌≡◌, ◌+◌, ◌≤◌, List, [], ◌∷◌, ◌++◌, Result, None, Ok, Err, true, false, ◌⊎◌}
+use Rattle.std.specs.Iterator.{endless}
+use Rattle.std.specs.Fn.{Shared, FnReturnsAt}
+use Rattle.std.specs.Borrow.{Bor}
+use Rattle.fallible_core.specs.declared.peeking.peekable.Peekable.{Peekable}
+use Rattle.fallible_core.specs.Traces.{Answered, Run, item, failure, end}
+use Rattle.fallible_core.specs.Contract.{Contract}
+use Rattle.fallible_core.specs.Hints.{HintWithItem}
+
+-- the source, and the answer that was looked at
+abbrev pub peekable_parts : {I A E : Type 0} → Peekable I A E → I × Option (Option A)
+peekable_parts s = (s.it, s.held)
+
+-- the answer that is held, an item or an end, if there is one
+abbrev pub held_answers : {A E : Type 0} → Option (Option A) → List (Answered A E)
+held_answers (Some o) = Ok o ∷ []
+held_answers None = []
+
+-- the held answer, if there is one, and then the source's trace; nothing is held afterwards
+pub record HeldAndDrawn {S A E : Type 0} (steps : S → Answered A E → S → Type 0) (p : S × Option (Option A)) (trace : List (Answered A E)) (q : S × Option (Option A)) : Type 0 where
+  pub source_trace : List (Answered A E)
+  pub drawn : Run steps p.0 source_trace q.0
+  pub answers : trace ≡ held_answers p.1 ++ source_trace
+  pub let_go : q.1 ≡ None
+
+-- `Peekable`: the held answer, if there is one, and then the source's trace, and nothing is held then; where there are no answers, nothing changes. The parts are the source and what is held.
+abbrev pub PeekableTrace : {S A E : Type 0} → (S → Answered A E → S → Type 0) → S × Option (Option A) → List (Answered A E) → S × Option (Option A) → Type 0
+PeekableTrace steps p trace q = ((trace ≡ []) × (q ≡ p)) ⊎ HeldAndDrawn steps p trace q
+
+-- One answer: the held one without a draw, and else the source's.
+abbrev pub peekable_step : {S A E : Type 0} → (S → Answered A E → S → Type 0) → S × Option (Option A) → Answered A E → S × Option (Option A) → Type 0
+peekable_step steps (s, Some o) r (t, held) = (r ≡ Ok o) × (t ≡ s) × (held ≡ None)
+peekable_step steps (s, None) r (t, held) = steps s r t × (held ≡ None)
+
+-- The source's hint; with a held item one more on each bound, and with a held end no items.
+abbrev pub peekable_hints : {S A E : Type 0} → Contract S A E → S × Option (Option A) → ℕ × Option ℕ → Type 0
+peekable_hints m (s, None) h = m.hints s h
+peekable_hints m (s, Some None) h = h ≡ (0, Some 0)
+peekable_hints m (s, Some (Some x)) h = (k : ℕ × Option ℕ) × m.hints s k × HintWithItem k h
+
+-- how many items are held
+abbrev pub held_items : {A : Type 0} → Option (Option A) → ℕ
+held_items (Some (Some x)) = 1
+held_items (Some None) = 0
+held_items None = 0
+
+-- A held item is one more to come than the source's.
+abbrev pub peekable_contract : {S A E : Type 0} → Contract S A E → Contract (S × Option (Option A)) A E
+peekable_contract m = record {
+  can = λ p. m.can p.0;
+  steps = peekable_step m.steps;
+  to_come = λ p n. (k : ℕ) × m.to_come p.0 k × (k + held_items p.1 ≤ n);
+  has_end = λ p. m.has_end p.0;
+  elements = λ _. endless;
+  gives = λ p x. (p.1 ≡ Some (Some x)) ⊎ m.gives p.0 x;
+  fails = λ p e. m.fails p.0 e;
+  hints = peekable_hints m;
+  names = λ p. m.names p.0;
+}
+
+-- ---- looking ahead
+
+-- what is behind the reference that is answered
+abbrev pub seen : {A E : Type 0} → Result (Option (Bor A)) E → Answered A E
+seen (Ok (Some x)) = item x.now
+seen (Ok None) = end
+seen (Err e) = failure e
+
+-- what is held once it was drawn: an item or an end, and no failure
+abbrev pub held_of : {A E : Type 0} → Answered A E → Option (Option A)
+held_of (Ok o) = Some o
+held_of (Err e) = None
+
+-- `peek`: where an answer is held it is that one, nothing is drawn and nothing changes; else one answer is drawn, and an item or an end is held.
+abbrev pub Peeks : {S A E : Type 0} → (S → Answered A E → S → Type 0) → S × Option (Option A) → Answered A E → S × Option (Option A) → Type 0
+Peeks steps (s, Some o) r (t, held) = (r ≡ Ok o) × (t ≡ s) × (held ≡ Some o)
+Peeks steps (s, None) r (t, held) = steps s r t × (held ≡ held_of r)
+
+-- whether the answer was a failure, and which
+abbrev pub told : {A E : Type 0} → Answered A E → Result (Unit {0}) E
+told (Ok x) = Ok tt
+told (Err e) = Err e
+
+-- where nothing is held, one answer is drawn, and an item or an end is held; a failure is told
+abbrev pub Fills : {S A E : Type 0} → (S → Answered A E → S → Type 0) → S × Option (Option A) → Result (Unit {0}) E → S × Option (Option A) → Type 0
+Fills {A = A} {E = E} steps p r q = (a : Answered A E) × Peeks steps p a q × (r ≡ told a)
+
+-- the held item, if it is one that is held
+abbrev pub held_item : {A : Type 0} → Option (Option A) → Option A
+held_item (Some o) = o
+held_item None = None
+
+-- what a closure answers on the item that was looked at; none at an end, and the failure where one came
+abbrev pub LooksAt : {F A R E : Type 0} → Shared F (Bor A × Unit {0}) R → F → Answered A E → Result (Option R) E → Type 0
+LooksAt {R = R} g f (Ok (Some x)) r = (v : R) × FnReturnsAt g f x v × (r ≡ Ok (Some v))
+LooksAt g f (Ok None) r = r ≡ Ok None
+LooksAt g f (Err e) r = r ≡ Err e
+
+-- `look`: a peek, and what the closure answers on the item.
+abbrev pub Looks : {S F A R E : Type 0} → (S → Answered A E → S → Type 0) → Shared F (Bor A × Unit {0}) R → F → S × Option (Option A) → Result (Option R) E → S × Option (Option A) → Type 0
+Looks {A = A} {E = E} steps g f p r q = (a : Answered A E) × Peeks steps p a q × LooksAt g f a r
+
+-- what is done with what a peek answered, and left as p: an item that the test is true of is taken, and one that it is false of stays held, as an end does
+abbrev pub TakenIf : {S A E : Type 0} → (S → Answered A E → S → Type 0) → (A → Bool → Type 0) → S × Option (Option A) → Answered A E → Answered A E → S × Option (Option A) → Type 0
+TakenIf steps test p (Ok (Some x)) r q = (test x true × (r ≡ item x) × peekable_step steps p r q) ⊎ (test x false × (r ≡ end) × (q ≡ p))
+TakenIf steps test p (Ok None) r q = (r ≡ end) × (q ≡ p)
+TakenIf steps test p (Err e) r q = (r ≡ failure e) × (q ≡ p)
+
+-- `next_if`: a peek, and then a draw where the test is true of the item; else what is held stays held, and the answer is an end, or the failure.
+pub record NextIf {S A E : Type 0} (steps : S → Answered A E → S → Type 0) (test : A → Bool → Type 0) (p : S × Option (Option A)) (r : Answered A E) (q : S × Option (Option A)) : Type 0 where
+  pub peeked : Answered A E
+  pub left : S × Option (Option A)
+  pub peeks : Peeks steps p peeked left
+  pub taken : TakenIf steps test left peeked r q
+
+-- the test of an item by a closure, which may be called on a reference to it
+abbrev pub TestedBy : {F A : Type 0} → Shared F (Bor A × Unit {0}) Bool → F → A → Bool → Type 0
+TestedBy g f x b = FnReturnsAt g f x b
+
+-- The closure may be called on a reference to each item of which P holds.
+abbrev pub IsTestable : {F A R : Type 0} → Shared F (Bor A × Unit {0}) R → F → (A → Type 0) → Type 0
+IsTestable {A = A} g f P = (x : Bor A) → P x.now → g.pre f (x, tt)

@@ -1,0 +1,49 @@
+// The adapter that ends for good at the first end.
+ghost use Rattle.std.specs.Prelude.{Result, Option};
+ghost use Rattle.fallible_core.specs.Contract.{seen_as};
+ghost use Rattle.fallible_core.specs.Cutting.Fuse.{fuse_contract, fuse_parts};
+ghost use Rattle.fallible_core.specs.Laws.Contract.{lawful_seen};
+ghost use Rattle.fallible_core.specs.Laws.Cutting.Fuse.{lawful_fuse};
+
+use crate::traits::FallibleIterator;
+
+/// The answers of the source up to its first end, and then ends. A failure ends nothing.
+#[derive(Clone, Debug, Drop)]
+pub struct Fuse<I> {
+    pub(crate) it: I,
+    // whether the source's end was met
+    pub(crate) ended: bool,
+}
+
+impl<I: FallibleIterator> FallibleIterator for Fuse<I> {
+    type Item = I::Item;
+
+    type Error = I::Error;
+
+    ghost contract = { seen_as fuse_parts (fuse_contract I.contract) };
+
+    /// Draws one answer, and none once the source's end was met.
+    fn next(&mut self) -> Result<Option<I::Item>, I::Error> {
+        if self.ended {
+            return Ok(None);
+        }
+        match self.it.next() {
+            Ok(Some(x)) => Ok(Some(x)),
+            Ok(None) => {
+                self.ended = true;
+                Ok(None)
+            }
+            Err(e) => Err(e),
+        }
+    }
+
+    fn size_hint(&self) -> (usize, Option<usize>) {
+        if self.ended {
+            (0, Some(0))
+        } else {
+            self.it.size_hint()
+        }
+    }
+
+    ghost lawful = { lawful_seen fuse_parts (lawful_fuse I.lawful) };
+}

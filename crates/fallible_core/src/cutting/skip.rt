@@ -1,0 +1,40 @@
+// The adapter that leaves out the first items.
+ghost use Rattle.std.specs.Prelude.{Result, Option};
+ghost use Rattle.fallible_core.specs.Contract.{seen_as};
+ghost use Rattle.fallible_core.specs.Cutting.Skip.{skip_contract, skip_parts};
+ghost use Rattle.fallible_core.specs.Laws.Contract.{lawful_seen};
+ghost use Rattle.fallible_core.specs.Laws.Cutting.Skip.{lawful_skip};
+
+use crate::cutting::counting::next_past;
+use crate::hints::less;
+use crate::traits::FallibleIterator;
+
+/// The source's answers without its first n items. Failures and ends stay, and don't count.
+#[derive(Clone, Debug, Drop)]
+pub struct Skip<I> {
+    pub(crate) it: I,
+    // how many items are still to be left out
+    pub(crate) to_skip: usize,
+}
+
+impl<I: FallibleIterator> FallibleIterator for Skip<I>
+where
+    I::Item: Drop,
+{
+    type Item = I::Item;
+
+    type Error = I::Error;
+
+    ghost contract = { seen_as skip_parts (skip_contract I.contract) };
+
+    /// Draws the items that are still to be left out, and then one answer. A failure or an end that comes among them is the answer, and the rest of them is left out from the next call on.
+    fn next(&mut self) -> Result<Option<I::Item>, I::Error> {
+        next_past(&mut self.it, &mut self.to_skip)
+    }
+
+    fn size_hint(&self) -> (usize, Option<usize>) {
+        less(self.it.size_hint(), self.to_skip)
+    }
+
+    ghost lawful = { lawful_seen skip_parts (lawful_skip I.lawful) };
+}

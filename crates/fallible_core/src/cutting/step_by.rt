@@ -1,0 +1,49 @@
+// The adapter that keeps one item at each step.
+ghost use Rattle.std.specs.Prelude.{Result, Option};
+ghost use Rattle.fallible_core.specs.Contract.{seen_as};
+ghost use Rattle.fallible_core.specs.Cutting.StepBy.{step_by_contract, step_by_parts};
+ghost use Rattle.fallible_core.specs.Laws.Contract.{lawful_seen};
+ghost use Rattle.fallible_core.specs.Laws.Cutting.StepBy.{lawful_step_by};
+
+use crate::cutting::counting::next_past;
+use crate::hints::kept;
+use crate::traits::FallibleIterator;
+
+/// The source's first item, and from then on one item at each step. Failures and ends stay, and don't count.
+#[derive(Clone, Debug, Drop)]
+pub struct StepBy<I> {
+    pub(crate) it: I,
+    // how many items are left out between two, which is one less than the step
+    pub(crate) between: usize,
+    // how many items are left out next
+    pub(crate) left: usize,
+}
+
+impl<I: FallibleIterator> FallibleIterator for StepBy<I>
+where
+    I::Item: Drop,
+{
+    type Item = I::Item;
+
+    type Error = I::Error;
+
+    ghost contract = { seen_as step_by_parts (step_by_contract I.contract) };
+
+    /// Draws the items that are left out next, and then one answer. A failure or an end that comes among them is the answer, and the rest of them is left out from the next call on.
+    fn next(&mut self) -> Result<Option<I::Item>, I::Error> {
+        match next_past(&mut self.it, &mut self.left) {
+            Ok(Some(x)) => {
+                self.left = self.between;
+                Ok(Some(x))
+            }
+            Ok(None) => Ok(None),
+            Err(e) => Err(e),
+        }
+    }
+
+    fn size_hint(&self) -> (usize, Option<usize>) {
+        kept(self.it.size_hint(), self.between, self.left)
+    }
+
+    ghost lawful = { lawful_seen step_by_parts (lawful_step_by I.lawful) };
+}

@@ -1,0 +1,46 @@
+// The adapter that ends after a number of items.
+ghost use Rattle.std.specs.Prelude.{Result, Option};
+ghost use Rattle.fallible_core.specs.Contract.{seen_as};
+ghost use Rattle.fallible_core.specs.Cutting.Take.{take_contract, take_parts};
+ghost use Rattle.fallible_core.specs.Laws.Contract.{lawful_seen};
+ghost use Rattle.fallible_core.specs.Laws.Cutting.Take.{lawful_take};
+
+use crate::hints::up_to;
+use crate::traits::FallibleIterator;
+
+/// The answers of the source up to its n-th item, and then ends. Failures and ends of the source pass, and don't count.
+#[derive(Clone, Debug, Drop)]
+pub struct Take<I> {
+    pub(crate) it: I,
+    // how many items are still to be taken
+    pub(crate) left: usize,
+}
+
+impl<I: FallibleIterator> FallibleIterator for Take<I> {
+    type Item = I::Item;
+
+    type Error = I::Error;
+
+    ghost contract = { seen_as take_parts (take_contract I.contract) };
+
+    /// Draws one answer, and none where nothing is left to take.
+    fn next(&mut self) -> Result<Option<I::Item>, I::Error> {
+        if self.left == 0 {
+            return Ok(None);
+        }
+        match self.it.next() {
+            Ok(Some(x)) => {
+                self.left -= 1;
+                Ok(Some(x))
+            }
+            Ok(None) => Ok(None),
+            Err(e) => Err(e),
+        }
+    }
+
+    fn size_hint(&self) -> (usize, Option<usize>) {
+        up_to(self.it.size_hint(), self.left)
+    }
+
+    ghost lawful = { lawful_seen take_parts (lawful_take I.lawful) };
+}

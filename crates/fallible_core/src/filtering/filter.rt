@@ -1,0 +1,64 @@
+// The adapter that leaves out the items which a predicate refuses.
+ghost use Rattle.std.specs.Prelude.{Some, Result, Option};
+ghost use Rattle.fallible_core.specs.Contract.{seen_as};
+ghost use Rattle.fallible_core.specs.Closures.{call_at, takes_at};
+ghost use Rattle.fallible_core.specs.Passing.{PassTurn};
+ghost use Rattle.fallible_core.specs.Filtering.Filter.{filter_outcome, filter_contract, filter_parts};
+ghost use Rattle.fallible_core.specs.Laws.Contract.{lawful_seen};
+ghost use Rattle.fallible_core.specs.Laws.Filtering.Filter.{lawful_filter};
+
+use crate::folds::unpack;
+use crate::traits::FallibleIterator;
+
+/// The items to which the predicate answers true. An item on which it fails is lost, and its failure is the answer.
+#[derive(Clone, Debug, Drop)]
+pub struct Filter<I, F> {
+    pub(crate) it: I,
+    // empty only during a call
+    pub(crate) f: Option<F>,
+}
+
+impl<I: FallibleIterator, F: FnMut(&I::Item) -> Result<bool, I::Error>> FallibleIterator
+    for Filter<I, F>
+where
+    I::Item: Drop,
+{
+    type Item = I::Item;
+
+    type Error = I::Error;
+
+    ghost contract = { seen_as filter_parts (filter_contract I.contract F.FnMut) };
+
+    /// Draws until an item is kept, a failure comes or an end comes, and calls the predicate on each item.
+    fn next(&mut self) -> Result<Option<I::Item>, I::Error> {
+        let f = match self.f.take() {
+            Some(f) => f,
+            None => unreachable!(),
+        };
+        let ask = |f: F, x: I::Item| -> Result<F, (F, Result<I::Item, I::Error>)>
+            requires { takes_at F.FnMut f x }
+            ensures { PassTurn (call_at F.FnMut) filter_outcome f x result }
+        { turn(f, x) };
+        let (f, answer) = unpack(self.it.try_fold_carrying(f, &ask));
+        self.f = Some(f);
+        answer
+    }
+
+    fn size_hint(&self) -> (usize, Option<usize>) {
+        (0, self.it.size_hint().1)
+    }
+
+    ghost lawful = { lawful_seen filter_parts (lawful_filter F.FnMut I.lawful) };
+}
+
+// One turn of a fold: stops at an item that the predicate accepts or fails on, and goes on after one that it refuses.
+fn turn<X: Drop, E, F: FnMut(&X) -> Result<bool, E>>(f: F, x: X) -> Result<F, (F, Result<X, E>)>
+    requires { takes_at F.FnMut f x }
+    ensures { PassTurn (call_at F.FnMut) filter_outcome f x result }
+{
+    let mut f = f;
+    match f(&x) {
+        Ok(keep) => { if keep { Err((f, Ok(x))) } else { Ok(f) } }
+        Err(e) => Err((f, Err(e))),
+    }
+}

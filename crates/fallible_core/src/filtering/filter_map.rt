@@ -1,0 +1,62 @@
+// The adapter that leaves out the items on which its closure answers none.
+ghost use Rattle.std.specs.Prelude.{Some, Result, Option};
+ghost use Rattle.fallible_core.specs.Contract.{seen_as};
+ghost use Rattle.fallible_core.specs.Closures.{call_on, takes_on};
+ghost use Rattle.fallible_core.specs.Passing.{PassTurn};
+ghost use Rattle.fallible_core.specs.Filtering.FilterMap.{filter_map_outcome, filter_map_contract, filter_map_parts};
+ghost use Rattle.fallible_core.specs.Laws.Contract.{lawful_seen};
+ghost use Rattle.fallible_core.specs.Laws.Filtering.FilterMap.{lawful_filter_map};
+
+use crate::folds::unpack;
+use crate::traits::FallibleIterator;
+
+/// The values that the closure answers. An item on which it answers none is left out; an item on which it fails is lost, and its failure is the answer.
+#[derive(Clone, Debug, Drop)]
+pub struct FilterMap<I, F> {
+    pub(crate) it: I,
+    // empty only during a call
+    pub(crate) f: Option<F>,
+}
+
+impl<I: FallibleIterator, B, F: FnMut(I::Item) -> Result<Option<B>, I::Error>> FallibleIterator
+    for FilterMap<I, F> {
+    type Item = B;
+
+    type Error = I::Error;
+
+    ghost contract = { seen_as filter_map_parts (filter_map_contract I.contract F.FnMut) };
+
+    /// Draws until the closure answers a value, a failure comes or an end comes, and calls the closure on each item.
+    fn next(&mut self) -> Result<Option<B>, I::Error> {
+        let f = match self.f.take() {
+            Some(f) => f,
+            None => unreachable!(),
+        };
+        let ask = |f: F, x: I::Item| -> Result<F, (F, Result<B, I::Error>)>
+            requires { takes_on F.FnMut f x }
+            ensures { PassTurn (call_on F.FnMut) filter_map_outcome f x result }
+        { turn(f, x) };
+        let (f, value) = unpack(self.it.try_fold_carrying(f, &ask));
+        self.f = Some(f);
+        value
+    }
+
+    fn size_hint(&self) -> (usize, Option<usize>) {
+        (0, self.it.size_hint().1)
+    }
+
+    ghost lawful = { lawful_seen filter_map_parts (lawful_filter_map F.FnMut I.lawful) };
+}
+
+// One turn of a fold: stops at an item on which the closure answers a value or fails, and goes on after one on which it answers none.
+fn turn<X, B, E, F: FnMut(X) -> Result<Option<B>, E>>(f: F, x: X) -> Result<F, (F, Result<B, E>)>
+    requires { takes_on F.FnMut f x }
+    ensures { PassTurn (call_on F.FnMut) filter_map_outcome f x result }
+{
+    let mut f = f;
+    match f(x) {
+        Ok(Some(y)) => Err((f, Ok(y))),
+        Ok(None) => Ok(f),
+        Err(e) => Err((f, Err(e))),
+    }
+}

@@ -1,0 +1,60 @@
+// The adapter that draws one source up to its first end, and then another.
+ghost use Rattle.std.specs.Prelude.{◌≡◌, Result, Option};
+ghost use Rattle.fallible_core.specs.Contract.{seen_as};
+ghost use Rattle.fallible_core.specs.Joining.Chain.{chain_contract, chain_parts};
+ghost use Rattle.fallible_core.specs.Laws.Contract.{lawful_seen};
+ghost use Rattle.fallible_core.specs.Laws.Joining.Chain.{lawful_chain};
+
+use crate::hints::sum;
+use crate::traits::FallibleIterator;
+
+// Which sides of a `Chain` are still drawn. A draw of `next` never makes it `FrontAlone`: that is for draws from the back.
+#[derive(Clone, Debug, Drop)]
+pub(crate) enum StillDrawn {
+    Both,
+    FrontAlone,
+    BackAlone,
+}
+
+/// The answers of the front up to its first end, and from then on those of the back. A failure changes no side.
+#[derive(Clone, Debug, Drop)]
+pub struct Chain<T, U> {
+    pub(crate) front: T,
+    pub(crate) back: U,
+    pub(crate) still_drawn: StillDrawn,
+}
+
+impl<T: FallibleIterator, U: FallibleIterator<Item = T::Item, Error = T::Error>> FallibleIterator
+    for Chain<T, U> {
+    type Item = T::Item;
+
+    type Error = T::Error;
+
+    ghost contract = { seen_as chain_parts (chain_contract T.contract U.contract) };
+
+    /// While both sides are drawn it draws one answer of the front, and at its first end, in the same call, one of the back, which alone is drawn from then on; a failure changes no side. Where one side alone is drawn, it draws one answer of that side.
+    fn next(&mut self) -> Result<Option<T::Item>, T::Error> {
+        match self.still_drawn {
+            StillDrawn::Both => match self.front.next() {
+                Ok(Some(x)) => Ok(Some(x)),
+                Ok(None) => {
+                    self.still_drawn = StillDrawn::BackAlone;
+                    self.back.next()
+                }
+                Err(e) => Err(e),
+            },
+            StillDrawn::FrontAlone => self.front.next(),
+            StillDrawn::BackAlone => self.back.next(),
+        }
+    }
+
+    fn size_hint(&self) -> (usize, Option<usize>) {
+        match self.still_drawn {
+            StillDrawn::Both => sum(self.front.size_hint(), self.back.size_hint()),
+            StillDrawn::FrontAlone => self.front.size_hint(),
+            StillDrawn::BackAlone => self.back.size_hint(),
+        }
+    }
+
+    ghost lawful = { lawful_seen chain_parts (lawful_chain T.lawful U.lawful) };
+}

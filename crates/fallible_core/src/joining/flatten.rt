@@ -1,0 +1,135 @@
+// The adapters that join the answers of inner iterators.
+ghost use Rattle.std.specs.Prelude.{◌≡◌, ℕ, [], ◌∷◌, None, Ok, IfSome, List, Option, Result};
+ghost use Rattle.fallible_core.specs.Contract.{seen_as};
+ghost use Rattle.fallible_core.specs.Joining.Flatten.{EachInner, FlattenTrace, flatten_contract, BeginTurn, flatten_parts, flat_map_parts};
+ghost use Rattle.fallible_core.specs.OneToOne.Map.{map_parts};
+ghost use Rattle.fallible_core.specs.Laws.Contract.{lawful_seen};
+ghost use Rattle.fallible_core.specs.Laws.OneToOne.Map.{lawful_map};
+ghost use Rattle.fallible_core.specs.Laws.Joining.Flatten.{lawful_flatten};
+
+use crate::folds::unpack;
+use crate::one_to_one::Map;
+use crate::traits::FallibleIterator;
+use crate::traits::conversion::IntoFallibleIterator;
+
+/// The answers of the inner iterators `J` that the items become, one inner iterator after the other. The one in hand answers until its end, at which it is dropped; then the next item is drawn. A failure of the inner iterator keeps it. A failure or an end of the outer source is the answer, and the next call draws from it again.
+#[derive(Clone, Drop)]
+pub struct Flatten<I, J> {
+    pub(crate) it: I,
+    pub(crate) in_hand: Option<J>,
+}
+
+impl<U: IntoFallibleIterator, I: FallibleIterator<Item = U, Error = U::Error>> FallibleIterator
+    for Flatten<I, U::IntoFallibleIter> {
+    type Item = U::Item;
+
+    type Error = U::Error;
+
+    ghost contract = { seen_as flatten_parts (flatten_contract I.contract U.into_gives U.IntoFallibleIter.contract) };
+
+    /// Draws from the inner iterator in hand; where there is none or it ended, draws from the outer source until an item becomes an inner iterator that does not end at once, a failure comes or an end comes. It asks that the inner iterator in hand and each that may come may be drawn from.
+    fn next(&mut self) -> Result<Option<U::Item>, U::Error> {
+        next_joined(&mut self.it, &mut self.in_hand)
+    }
+
+    fn size_hint(&self) -> (usize, Option<usize>) {
+        (0, None)
+    }
+
+    ghost lawful = { lawful_seen flatten_parts (lawful_flatten _ I.lawful U.into_gives _ U.IntoFallibleIter.lawful) };
+}
+
+/// The answers of the inner iterators `J` that the closure makes of the items, as `Flatten` joins them. Where the closure fails, its failure is the answer, and that item is lost.
+#[derive(Clone, Debug, Drop)]
+pub struct FlatMap<I, J, F> {
+    pub(crate) it: Map<I, F>,
+    pub(crate) in_hand: Option<J>,
+}
+
+impl<
+    I: FallibleIterator,
+    U: IntoFallibleIterator<Error = I::Error>,
+    F: FnMut(I::Item) -> Result<U, I::Error>,
+> FallibleIterator for FlatMap<I, U::IntoFallibleIter, F> {
+    type Item = U::Item;
+
+    type Error = I::Error;
+
+    ghost contract = { seen_as flat_map_parts (flatten_contract ⟦<Map<I, F> as FallibleIterator>⟧.contract U.into_gives U.IntoFallibleIter.contract) };
+
+    /// Draws as `Flatten` does, from the inner iterators that the closure makes.
+    fn next(&mut self) -> Result<Option<U::Item>, I::Error> {
+        let Self { it, in_hand } = self;
+        next_joined(it, in_hand)
+    }
+
+    fn size_hint(&self) -> (usize, Option<usize>) {
+        (0, None)
+    }
+
+    ghost lawful = { lawful_seen flat_map_parts (lawful_flatten _ (lawful_seen map_parts (lawful_map F.FnMut I.lawful)) U.into_gives _ U.IntoFallibleIter.lawful) };
+}
+
+// One answer of the joined inner iterators. The one in hand is dropped at its end.
+fn next_joined<U: IntoFallibleIterator, O: FallibleIterator<Item = U, Error = U::Error>>(
+    outer: &mut O,
+    in_hand: &mut Option<U::IntoFallibleIter>,
+) -> Result<Option<U::Item>, U::Error>
+where
+    requires can { O.contract.can outer.old × O.contract.has_end outer.old }
+    requires can_in_hand { IfSome in_hand.old U.IntoFallibleIter.contract.can }
+    requires can_inner { EachInner O.contract U.into_gives U.IntoFallibleIter.contract U.IntoFallibleIter.contract.can outer.old }
+    ensures { FlattenTrace O.contract.steps U.into_gives U.IntoFallibleIter.contract.steps (outer.old, in_hand.old) (result ∷ []) (outer.new, in_hand.new) }
+{
+    match in_hand {
+        Some(inner) => match inner.next() {
+            Ok(Some(y)) => return Ok(Some(y)),
+            Err(e) => return Err(e),
+            Ok(None) => {}
+        },
+        None => {}
+    }
+    *in_hand = None;
+    let (inner, answer) = begin(outer);
+    *in_hand = inner;
+    answer
+}
+
+// One answer where no inner iterator is in hand, and the one that is in hand then: the outer source's fold, which stops at the first inner iterator that does not end at once.
+fn begin<U: IntoFallibleIterator, O: FallibleIterator<Item = U, Error = U::Error>>(
+    outer: &mut O,
+) -> (
+    Option<U::IntoFallibleIter>,
+    Result<Option<U::Item>, U::Error>,
+)
+where
+    requires can { O.contract.can outer.old × O.contract.has_end outer.old }
+    requires can_inner { EachInner O.contract U.into_gives U.IntoFallibleIter.contract U.IntoFallibleIter.contract.can outer.old }
+    ensures { FlattenTrace O.contract.steps U.into_gives U.IntoFallibleIter.contract.steps (outer.old, None) (result.1 ∷ []) (outer.new, result.0) }
+{
+    let begin_with = |in_hand: Option<U::IntoFallibleIter>, x: U| -> Result<
+        Option<U::IntoFallibleIter>,
+        (Option<U::IntoFallibleIter>, Result<U::Item, U::Error>),
+    >
+        requires { (c : U.IntoFallibleIter) → U.into_gives x c → U.IntoFallibleIter.contract.can c }
+        ensures { BeginTurn U.into_gives U.IntoFallibleIter.contract.steps in_hand x result }
+    { turn(in_hand, x) };
+    unpack(outer.try_fold_carrying(None, &begin_with))
+}
+
+// One turn of a fold: stops with the inner iterator that the item becomes in hand, and its first answer, and goes on where it ends at once.
+fn turn<U: IntoFallibleIterator>(
+    in_hand: Option<U::IntoFallibleIter>,
+    x: U,
+) -> Result<Option<U::IntoFallibleIter>, (Option<U::IntoFallibleIter>, Result<U::Item, U::Error>)>
+where
+    requires { (c : U.IntoFallibleIter) → U.into_gives x c → U.IntoFallibleIter.contract.can c }
+    ensures { BeginTurn U.into_gives U.IntoFallibleIter.contract.steps in_hand x result }
+{
+    let mut inner = x.into_fallible_iter();
+    match inner.next() {
+        Ok(Some(y)) => Err((Some(inner), Ok(y))),
+        Ok(None) => Ok(in_hand),
+        Err(e) => Err((Some(inner), Err(e))),
+    }
+}

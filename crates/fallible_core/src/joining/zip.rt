@@ -1,0 +1,45 @@
+// The adapter that pairs the items of two sources.
+ghost use Rattle.std.specs.Prelude.{◌≡◌, Result, Option};
+ghost use Rattle.fallible_core.specs.Contract.{seen_as};
+ghost use Rattle.fallible_core.specs.Joining.Zip.{zip_contract, zip_parts};
+ghost use Rattle.fallible_core.specs.Laws.Contract.{lawful_seen};
+ghost use Rattle.fallible_core.specs.Laws.Joining.Zip.{lawful_zip};
+
+use crate::hints::smaller;
+use crate::traits::FallibleIterator;
+
+/// The pairs of the left's items and the right's, place by place. A failure of either side is the answer, and else an end of either is an end; an item beside a failure or an end is lost.
+#[derive(Clone, Debug, Drop)]
+pub struct Zip<T, U> {
+    pub(crate) left: T,
+    pub(crate) right: U,
+}
+
+impl<T: FallibleIterator, U: FallibleIterator<Error = T::Error>> FallibleIterator for Zip<T, U>
+where
+    T::Item: Drop,
+    U::Item: Drop,
+{
+    type Item = (T::Item, U::Item);
+
+    type Error = T::Error;
+
+    ghost contract = { seen_as zip_parts (zip_contract T.contract U.contract) };
+
+    /// Draws one answer of the left, and then, where that isn't a failure, one of the right.
+    fn next(&mut self) -> Result<Option<(T::Item, U::Item)>, T::Error> {
+        let left = self.left.next()?;
+        let right = self.right.next()?;
+        match (left, right) {
+            (Some(x), Some(y)) => Ok(Some((x, y))),
+            (Some(_), None) => Ok(None),
+            (None, _) => Ok(None),
+        }
+    }
+
+    fn size_hint(&self) -> (usize, Option<usize>) {
+        smaller(self.left.size_hint(), self.right.size_hint())
+    }
+
+    ghost lawful = { lawful_seen zip_parts (lawful_zip T.lawful U.lawful) };
+}

@@ -1,0 +1,23 @@
+//! Fallible iterators: iterators whose `next` may fail, with adapters and folds, where every call is proved to meet its contract.
+#![tactic(auto)]
+
+pub mod collecting;
+pub mod cutting;
+pub mod filtering;
+pub mod folds;
+mod hints;
+pub mod joining;
+pub mod laws;
+pub mod number;
+pub mod one_to_one;
+pub mod peeking;
+pub mod traits;
+
+pub use collecting::{Collect, Fault};
+pub use cutting::{Fuse, Skip, StepBy, Take, TakeWhile};
+pub use filtering::{Filter, FilterMap, SkipWhile};
+pub use joining::{Chain, Cycle, FlatMap, Flatten, Zip};
+pub use one_to_one::{Cloned, Enumerate, Inspect, Map, MapErr, Scan};
+pub use peeking::Peekable;
+pub use traits::FallibleIterator;
+pub use traits::conversion::IntoFallibleIterator;

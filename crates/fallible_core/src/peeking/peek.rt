@@ -1,0 +1,122 @@
+// `peek`, apart from its type, whose row its clause names.
+ghost use Rattle.std.specs.Prelude.{◌≡◌, ⊤, Result, Option, None, Ok, Err, MatchResult, option_copied};
+ghost use Rattle.std.specs.Borrow.{sem, follows_so};
+ghost use mathlib.Core.Option.{none};
+ghost use Rattle.fallible_core.specs.Contract.{Stays};
+ghost use Rattle.fallible_core.specs.Peeking.Peekable.{peekable_contract, seen, held_item, Fills, Peeks, Looks, IsTestable, peekable_parts};
+ghost use Rattle.fallible_core.specs.contracts.peeking.peekable.Peekable.{the_row};
+
+use crate::peeking::Peekable;
+use crate::traits::FallibleIterator;
+
+impl<I: FallibleIterator> Peekable<I>
+where
+    I::Item: Drop,
+{
+    /// The next item: a reference to it, or none at an end. It is held then, so that `next` answers it without a draw. Where an answer is held it is that one, and nothing is drawn. Else it draws once; a failure is answered, and is not held. What is left may be drawn from again.
+    ///
+    /// The reference keeps the whole borrowed while it is used. A caller whose proof goes on after it takes `look`, which hands the item to a closure, or `peek_copied`.
+    pub fn peek(&mut self) -> Result<Option<&I::Item>, I::Error>
+    where
+        requires { (peekable_contract I.contract).can (peekable_parts self.old) }
+        ensures answer { (left : I × Option (Option I.Item)) × Peeks I.contract.steps (peekable_parts self.old) (seen result) left }
+        ensures* held { sem 𝓛 (follows_so (the_row I.row I.Item.row I.Error.row) (the_row I.row I.Item.row I.Error.row) self.entry.ghost_name none (λ _ _. ⊤) (λ v. Peeks I.contract.steps (peekable_parts self.old) (seen result) (peekable_parts v) × Stays (peekable_contract I.contract) (peekable_parts self.old) (peekable_parts v))) }
+    {
+        let filled = self.fill();
+        let held = self.lend();
+        Self::joined(filled, held)
+    }
+
+    /// What the closure answers on a reference to the next item, or none at an end. It looks as `peek` does: where an answer is held it is that one, and nothing is drawn; else it draws once, and holds an item or an end. A failure is answered, and is not held. What is left may be drawn from again, and a caller's proof knows what is held.
+    ///
+    /// It asks that the closure may be called on a reference to each item that may come.
+    pub fn look<R, F: Fn(&I::Item) -> R>(&mut self, f: F) -> Result<Option<R>, I::Error>
+    where
+        requires can { (peekable_contract I.contract).can (peekable_parts self.old) }
+        requires callable { IsTestable F.Fn f ((peekable_contract I.contract).gives (peekable_parts self.old)) }
+        ensures looked { Looks I.contract.steps F.Fn f (peekable_parts self.old) result (peekable_parts self.new) }
+        ensures stays { Stays (peekable_contract I.contract) (peekable_parts self.old) (peekable_parts self.new) }
+    {
+        self.fill()?;
+        match self.held() {
+            Some(x) => Ok(Some(f(x))),
+            None => Ok(None),
+        }
+    }
+
+    /// A copy of the next item, or none at an end. It looks as `peek` does, and a caller's proof knows what is held.
+    pub fn peek_copied(&mut self) -> Result<Option<I::Item>, I::Error>
+    where
+        I::Item: Copy,
+        requires { (peekable_contract I.contract).can (peekable_parts self.old) }
+        ensures peeked { Peeks I.contract.steps (peekable_parts self.old) result (peekable_parts self.new) }
+        ensures stays { Stays (peekable_contract I.contract) (peekable_parts self.old) (peekable_parts self.new) }
+    {
+        self.fill()?;
+        Ok(self.held().copied())
+    }
+
+    /// Draws once where nothing is held, and holds an item or an end; a failure is answered, and is not held. With `held` it does what `peek` does, in two steps after which a caller's proof knows what is held.
+    pub fn fill(&mut self) -> Result<(), I::Error>
+    where
+        requires { (peekable_contract I.contract).can (peekable_parts self.old) }
+        ensures filled { Fills I.contract.steps (peekable_parts self.old) result (peekable_parts self.new) }
+        ensures stays { Stays (peekable_contract I.contract) (peekable_parts self.old) (peekable_parts self.new) }
+    {
+        match self.held {
+            Some(_) => Ok(()),
+            None => self.draw(),
+        }
+    }
+
+    // Draws once, where nothing is held, and holds an item or an end.
+    fn draw(&mut self) -> Result<(), I::Error>
+    where
+        requires can { (peekable_contract I.contract).can (peekable_parts self.old) }
+        requires empty { self.old.held ≡ None }
+        ensures filled { Fills I.contract.steps (peekable_parts self.old) result (peekable_parts self.new) }
+        ensures stays { Stays (peekable_contract I.contract) (peekable_parts self.old) (peekable_parts self.new) }
+    {
+        match self.it.next() {
+            Ok(answer) => {
+                self.held = Some(answer);
+                Ok(())
+            }
+            Err(e) => Err(e),
+        }
+    }
+
+    /// The held item, and none where an end or nothing is held. It draws nothing.
+    pub fn held(&self) -> Option<&I::Item>
+    where
+        ensures { option_copied result ≡ held_item (peekable_parts self.now).1 }
+    {
+        match &self.held {
+            Some(Some(x)) => Some(x),
+            Some(None) => None,
+            None => None,
+        }
+    }
+
+    // The held item, lent by the whole.
+    fn lend(&mut self) -> Option<&I::Item>
+    where
+        ensures shown { option_copied result ≡ held_item self.old.held }
+        ensures* kept { sem 𝓛 (follows_so (the_row I.row I.Item.row I.Error.row) (the_row I.row I.Item.row I.Error.row) self.entry.ghost_name none (λ _ _. ⊤) (λ v. v ≡ self.old)) }
+    {
+        (*self).held()
+    }
+
+    // The held item, or the failure.
+    fn joined(
+        filled: Result<(), I::Error>,
+        held: Option<&I::Item>,
+    ) -> Result<Option<&I::Item>, I::Error>
+        ensures { MatchResult filled (λ _. result ≡ Ok held.entry) (λ e. result ≡ Err e) }
+    {
+        match filled {
+            Ok(()) => Ok(held),
+            Err(e) => Err(e),
+        }
+    }
+}

@@ -1,0 +1,89 @@
+// The adapter that looks ahead.
+ghost use Rattle.std.specs.Prelude.{◌≡◌, Result, Option};
+ghost use Rattle.fallible_core.specs.Contract.{seen_as, Stays};
+ghost use Rattle.fallible_core.specs.Peeking.Peekable.{peekable_contract, NextIf, TestedBy, IsTestable, peekable_parts};
+ghost use Rattle.fallible_core.specs.Laws.Contract.{lawful_seen};
+ghost use Rattle.fallible_core.specs.Laws.Peeking.Peekable.{lawful_peekable};
+
+use crate::hints::one_more;
+use crate::traits::FallibleIterator;
+
+/// The answers of the source, the next of which can be looked at ahead. An item or an end that was looked at is held, and comes first; a failure is not held.
+#[derive(Clone, Debug, Drop)]
+pub struct Peekable<I: FallibleIterator> {
+    pub(crate) it: I,
+    // the answer that was looked at, an item or an end, and hasn't come yet
+    pub(crate) held: Option<Option<I::Item>>,
+}
+
+impl<I: FallibleIterator> FallibleIterator for Peekable<I>
+where
+    I::Item: Drop,
+{
+    type Item = I::Item;
+
+    type Error = I::Error;
+
+    ghost contract = { seen_as peekable_parts (peekable_contract I.contract) };
+
+    /// Gives the held answer without a draw, and draws one answer where none is held.
+    fn next(&mut self) -> Result<Option<I::Item>, I::Error> {
+        match self.held.take() {
+            Some(answer) => Ok(answer),
+            None => self.it.next(),
+        }
+    }
+
+    fn size_hint(&self) -> (usize, Option<usize>) {
+        match &self.held {
+            Some(Some(_)) => one_more(self.it.size_hint()),
+            Some(None) => (0, Some(0)),
+            None => self.it.size_hint(),
+        }
+    }
+
+    ghost lawful = { lawful_seen peekable_parts (lawful_peekable I.lawful) };
+}
+
+impl<I: FallibleIterator> Peekable<I>
+where
+    I::Item: Drop,
+{
+    /// The next item, where the closure answers true on it; else it stays held, and the answer is none. An end is answered as none and stays held, and the closure isn't called. It draws once where nothing is held; a failure that comes then is the answer, and is not held. What is left may be drawn from again.
+    ///
+    /// It asks that the closure may be called on a reference to each item that may come.
+    pub fn next_if<F: Fn(&I::Item) -> bool>(&mut self, f: F) -> Result<Option<I::Item>, I::Error>
+    where
+        requires can { (peekable_contract I.contract).can (peekable_parts self.old) }
+        requires callable { IsTestable F.Fn f ((peekable_contract I.contract).gives (peekable_parts self.old)) }
+        ensures taken { NextIf I.contract.steps (TestedBy F.Fn f) (peekable_parts self.old) result (peekable_parts self.new) }
+        ensures stays { Stays (peekable_contract I.contract) (peekable_parts self.old) (peekable_parts self.new) }
+    {
+        match self.next() {
+            Ok(Some(x)) => {
+                if f(&x) {
+                    Ok(Some(x))
+                } else {
+                    self.held = Some(Some(x));
+                    Ok(None)
+                }
+            }
+            Ok(None) => {
+                self.held = Some(None);
+                Ok(None)
+            }
+            Err(e) => Err(e),
+        }
+    }
+
+    /// `next_if` that takes the next item where it equals the one expected.
+    pub fn next_if_eq(&mut self, expected: &I::Item) -> Result<Option<I::Item>, I::Error>
+    where
+        I::Item: PartialEq,
+        requires { (peekable_contract I.contract).can (peekable_parts self.old) }
+        ensures taken { NextIf I.contract.steps (λ x b. b ≡ I.Item.eq x expected.now) (peekable_parts self.old) result (peekable_parts self.new) }
+        ensures stays { Stays (peekable_contract I.contract) (peekable_parts self.old) (peekable_parts self.new) }
+    {
+        self.next_if(|item: &I::Item| item.eq(expected))
+    }
+}

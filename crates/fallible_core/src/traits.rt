@@ -1,0 +1,544 @@
+//! The trait of fallible iterators: one call that each type writes, and all that comes with it.
+ghost use Rattle.std.specs.Prelude.{◌≡◌, ℕ, true, false, ◌+◌, ◌-◌, ◌≤◌, ◌<◌, ◌^◌, List, Option, Result, Some, None, Ok, Bool, MatchResult, ◌↔◌};
+ghost use Rattle.std.specs.Borrow.{Bor};
+ghost use Rattle.fallible_core.specs.Contract.{Contract, AtMost, Lawful, Stays, seen_as};
+ghost use Rattle.fallible_core.specs.Closures.{IsCallable, call_on, takes_on, call_at, takes_at};
+ghost use Rattle.fallible_core.specs.OneToOne.Enumerate.{IsNumberable, enumerate_parts, enumerate_contract};
+ghost use Rattle.fallible_core.specs.Filtering.SkipWhile.{skip_call, skip_takes, skip_while_parts, skip_while_contract};
+ghost use Rattle.fallible_core.specs.OneToOne.Scan.{scan_call, scan_takes, scan_parts, scan_contract};
+ghost use Rattle.fallible_core.specs.OneToOne.Map.{map_parts, map_contract};
+ghost use Rattle.fallible_core.specs.OneToOne.Inspect.{inspect_parts, inspect_contract};
+ghost use Rattle.fallible_core.specs.Filtering.Filter.{filter_parts, filter_contract};
+ghost use Rattle.fallible_core.specs.Filtering.FilterMap.{filter_map_parts, filter_map_contract};
+ghost use Rattle.fallible_core.specs.OneToOne.MapErr.{map_err_parts, map_err_contract};
+ghost use Rattle.fallible_core.specs.OneToOne.Cloned.{cloned_parts, cloned_contract};
+ghost use Rattle.fallible_core.specs.Cutting.Take.{take_parts, take_contract};
+ghost use Rattle.fallible_core.specs.Cutting.TakeWhile.{take_while_parts, take_while_contract};
+ghost use Rattle.fallible_core.specs.Cutting.Fuse.{fuse_parts, fuse_contract};
+ghost use Rattle.fallible_core.specs.Cutting.Skip.{skip_parts, skip_contract};
+ghost use Rattle.fallible_core.specs.Cutting.StepBy.{step_by_parts, step_by_contract};
+ghost use Rattle.fallible_core.specs.Joining.Chain.{chain_parts, chain_contract};
+ghost use Rattle.fallible_core.specs.Joining.Zip.{zip_parts, zip_contract};
+ghost use Rattle.fallible_core.specs.Joining.Flatten.{flatten_parts, flat_map_parts, flatten_contract};
+ghost use Rattle.fallible_core.specs.Borrowed.{borrowed};
+ghost use Rattle.fallible_core.specs.Peeking.Peekable.{peekable_parts, peekable_contract};
+ghost use Rattle.fallible_core.specs.Joining.Cycle.{cycle_parts};
+ghost use Rattle.fallible_core.specs.declared.joining.chain.StillDrawn.TheVariants.{Both};
+ghost use Rattle.fallible_core.specs.Collecting.{Collects, PushTurn};
+ghost use Rattle.fallible_core.specs.Lists.{items, Lists, Acts, Repeats, repeated, EachLists, flattened, mapped, filtered, taken, counted, filter_mapped, inspected, ActsWithState, scanned, skipped_while, taken_while, numbered, failures_mapped, pointed_to, CollectedAs, chained, skipped, stepped, zipped, NoFailureAtEnd, nth_of, folded, ActsWith, Converts};
+ghost use Rattle.fallible_core.specs.Folds.{CallableCarrying, Carried, CallableInFold, call_with, takes_with, FoldTurn, Folded, Counted, Nth};
+
+mod borrowed;
+mod boxed;
+pub mod conversion;
+
+use crate::collecting::{Collect, Fault};
+use crate::cutting::{Fuse, Skip, StepBy, Take, TakeWhile};
+use crate::filtering::{Filter, FilterMap, SkipWhile};
+use crate::folds::{Exit, Is, Turn};
+use crate::joining::{Chain, Cycle, FlatMap, Flatten, StillDrawn, Zip};
+use crate::number::Number;
+use crate::one_to_one::{Cloned, Enumerate, Inspect, Map, MapErr, Scan};
+use crate::peeking::Peekable;
+use crate::traits::conversion::IntoFallibleIterator;
+use std::alloc::{AllocError, Global};
+use std::convert::Infallible;
+use std::marker::PhantomData;
+
+/// An iterator whose `next` may fail. It may go on after an end and after a failure.
+///
+/// A type of one's own writes `next`, `size_hint` and `contract`: its step, and what it says of what is still to come. `counting_down` of `specs/Contract` makes that of a step and a bound. A search then finds `lawful`.
+pub trait FallibleIterator: Drop + Sized {
+    /// What it gives.
+    type Item;
+
+    /// What it fails with.
+    type Error;
+
+    // All that the contract says of the values of this type.
+    ghost contract: { Contract Self Self.Item Self.Error };
+
+    /// One answer: an item, a failure or an end. The step of the type says which, and what is left.
+    fn next(&mut self) -> Result<Option<Self::Item>, Self::Error>
+        requires { contract.can self.old }
+        ensures { contract.steps self.old result self.new };
+
+    /// Bounds on the items of a run up to its first end, where it has no failure. A type with nothing to say answers `(0, None)`.
+    fn size_hint(&self) -> (usize, Option<usize>)
+        ensures { contract.hints self.now result };
+
+    /// A number to come, for a loop of one's own to count down by; it has no bytes, and only clauses read it.
+    ///
+    /// `let mut left = it.number();` before the loop, `left = left.one_less();` after each item, and `left.value` as the measure: the invariant is that the iterator may be drawn from, and that some number to come of it is at most `left.value`.
+    fn number(&self) -> Number
+        requires { (n : ℕ) × contract.to_come self.now n }
+        ensures { contract.to_come self.now result.value }
+    {
+        Number {
+            marker: PhantomData,
+        }
+    }
+
+    // Draws until an end, a failure or a turn that stops, and hands the carried value back at each exit. Every fold goes through it, and a type may override it for all of them. It is no part of the surface.
+    fn try_fold_carrying<C, R, K: Turn<C, Self::Item, R>>(
+        &mut self,
+        init: C,
+        k: &K,
+    ) -> Exit<C, Self::Error, R>
+    where
+        requires can { contract.can self.old }
+        requires finite { contract.has_end self.old }
+        requires callable { CallableCarrying contract.steps (K.turns k.now) (K.can_turn k.now) self.old init }
+        ensures carried { Carried contract.steps (K.turns k.now) self.old init result self.new }
+        ensures stays { Stays contract self.old self.new }
+    {
+        let mut carried = init;
+        let mut left = (*self).number();
+        loop {
+            match self.next() {
+                Ok(None) => return Exit::Ended(carried),
+                Err(e) => return Exit::Failed(carried, e),
+                Ok(Some(x)) => match k.turn(carried, x) {
+                    Ok(c) => carried = c,
+                    Err(stop) => return Exit::Stopped(stop),
+                },
+            }
+            left = left.one_less();
+        }
+    }
+
+    /// The number of items up to the end, or the first failure, after which nothing is drawn. It asks a number to come of at most `usize::MAX`.
+    fn count(mut self) -> Result<usize, Self::Error>
+    where
+        Self::Item: Drop,
+        requires can { contract.can self }
+        requires fits { AtMost contract self (2 ^ 64 - 1) }
+        ensures counted { Counted contract.steps self result }
+        ensures is { (l : List (Result Self.Item Self.Error)) → Lists contract.steps self l → result ≡ counted l }
+    {
+        let one_more = |n: usize, x: Self::Item| -> Result<usize, Infallible>
+            requires { n < 2 ^ 64 - 1 }
+            ensures { result ≡ Ok (n + 1) }
+        {
+            let _ = x;
+            Ok(n + 1)
+        };
+        match self.try_fold_carrying(0, &one_more) {
+            Exit::Ended(n) => Ok(n),
+            Exit::Failed(_, e) => Err(e),
+            Exit::Stopped(never) => match never {},
+        }
+    }
+
+    /// The item with n items before it. It draws at most n + 1 answers; a failure or an end that comes first is the answer, and nothing is drawn after it.
+    fn nth(&mut self, n: usize) -> Result<Option<Self::Item>, Self::Error>
+    where
+        Self::Item: Drop,
+        requires { contract.can self.old }
+        ensures nth { Nth contract.steps self.old n result self.new }
+        ensures is { (l : List (Result Self.Item Self.Error)) → Lists contract.steps self.old l → result ≡ nth_of n l }
+        ensures stays { Stays contract self.old self.new }
+    {
+        let mut left = n;
+        while 0 < left {
+            match self.next() {
+                Ok(Some(_)) => {}
+                Ok(None) => return Ok(None),
+                Err(e) => return Err(e),
+            }
+            left -= 1;
+        }
+        self.next()
+    }
+
+    /// Calls the closure on the value so far and each item in order. At the end it answers the last value; at a failure that failure, converted; where the closure fails, its error. Nothing is drawn after the answer that decides, and what is left may be drawn from again.
+    ///
+    /// It asks a number to come, and that the closure may be called on each item that may come with the value so far. `T` is the type of the items.
+    fn try_fold<B, E, T, F>(&mut self, init: B, f: F) -> Result<B, E>
+    where
+        B: Drop,
+        E: From<Self::Error>,
+        Self::Item: Is<T>,
+        F: FnMut(B, T) -> Result<B, E>,
+        requires can { contract.can self.old }
+        requires finite { contract.has_end self.old }
+        requires callable { CallableInFold contract.steps (call_with Self.Item.as_is F.FnMut) (takes_with Self.Item.as_is F.FnMut) self.old f init }
+        ensures folded { Folded contract.steps (call_with Self.Item.as_is F.FnMut) E.from_gives self.old init f result self.new }
+        ensures is { (convert : Self.Error → E) (h : B → Self.Item → Result B E) (l : List (Result Self.Item Self.Error)) → Converts E.from_gives convert → ActsWith (call_with Self.Item.as_is F.FnMut) f h → Lists contract.steps self.old l → result ≡ folded convert h init l }
+        ensures stays { Stays contract self.old self.new }
+    {
+        let turn = |carried: (B, F), x: Self::Item| -> Result<(B, F), E>
+            requires { F.pre carried.1 carried.0 (Self.Item.as_is x) }
+            ensures { FoldTurn (call_with Self.Item.as_is F.FnMut) carried x result }
+        {
+            let (value, mut f) = carried;
+            match f(value, x.this()) {
+                Ok(value) => Ok((value, f)),
+                Err(e) => Err(e),
+            }
+        };
+        match self.try_fold_carrying((init, f), &turn) {
+            Exit::Ended((value, _)) => Ok(value),
+            Exit::Failed(_, e) => Err(E::from(e)),
+            Exit::Stopped(e) => Err(e),
+        }
+    }
+
+    /// `try_fold` on the iterator itself, where the closure fails with the iterator's own error. `T` is the type of the items, and `E` that of the failures.
+    fn fold<B, E, T, F>(mut self, init: B, f: F) -> Result<B, E>
+    where
+        B: Drop,
+        Self::Item: Is<T>,
+        Self::Error: Is<E>,
+        E: From<Self::Error>,
+        F: FnMut(B, T) -> Result<B, E>,
+        requires can { contract.can self }
+        requires finite { contract.has_end self }
+        requires callable { CallableInFold contract.steps (call_with Self.Item.as_is F.FnMut) (takes_with Self.Item.as_is F.FnMut) self f init }
+        ensures folded { (left : Self) × Folded contract.steps (call_with Self.Item.as_is F.FnMut) E.from_gives self init f result left }
+        ensures is { (convert : Self.Error → E) (h : B → Self.Item → Result B E) (l : List (Result Self.Item Self.Error)) → Converts E.from_gives convert → ActsWith (call_with Self.Item.as_is F.FnMut) f h → Lists contract.steps self l → result ≡ folded convert h init l }
+    {
+        self.try_fold(init, f)
+    }
+
+    // What the other functions know of a draw: see `Goes`.
+    ghost lawful: { Lawful contract };
+
+    /// Replaces each item by the closure's answer on it. Making the adapter draws nothing and calls nothing.
+    final fn map<F, B>(self, f: F) -> Map<Self, F>
+    where
+        F: FnMut(Self::Item) -> Result<B, Self::Error>,
+        requires { IsCallable (call_on F.FnMut) (takes_on F.FnMut) (contract.gives self) f }
+        ensures parts { map_parts result ≡ (self, Some f) }
+        ensures lists { (h : Self.Item → Result B Self.Error) (l : List (Result Self.Item Self.Error)) → Acts (call_on F.FnMut) f h → Lists contract.steps self l → Lists (seen_as map_parts (map_contract contract F.FnMut)).steps result (mapped h l) }
+    {
+        Map {
+            it: self,
+            f: Some(f),
+        }
+    }
+
+    /// Keeps the items to which the predicate answers true. Making the adapter draws nothing and calls nothing.
+    final fn filter<F>(self, f: F) -> Filter<Self, F>
+    where
+        F: FnMut(&Self::Item) -> Result<bool, Self::Error>,
+        requires finite { contract.has_end self }
+        requires callable { IsCallable (call_at F.FnMut) (takes_at F.FnMut) (contract.gives self) f }
+        ensures parts { filter_parts result ≡ (self, Some f) }
+        ensures lists { (h : Self.Item → Result Bool Self.Error) (l : List (Result Self.Item Self.Error)) → Acts (call_at F.FnMut) f h → Lists contract.steps self l → Lists (seen_as filter_parts (filter_contract contract F.FnMut)).steps result (filtered h l) }
+    {
+        Filter {
+            it: self,
+            f: Some(f),
+        }
+    }
+
+    /// Ends after n items; failures and ends of the source pass, and don't count. Making the adapter draws nothing, nor does a call after the n-th item.
+    final fn take(self, n: usize) -> Take<Self>
+        ensures parts { take_parts result ≡ (self, n) }
+        ensures lists { (l : List (Result Self.Item Self.Error)) → Lists contract.steps self l → Lists (seen_as take_parts (take_contract contract)).steps result (taken n l) }
+        ensures repeats { (x : Self.Item) → Repeats contract.steps self (Ok x) → Lists (seen_as take_parts (take_contract contract)).steps result (repeated n x) }
+    {
+        Take { it: self, left: n }
+    }
+
+    /// Ends at the first item that the predicate refuses, which is lost, and then without a draw. A failure of the predicate is the answer, and ends nothing. Making the adapter draws nothing and calls nothing.
+    final fn take_while<P>(self, predicate: P) -> TakeWhile<Self, P>
+    where
+        P: FnMut(&Self::Item) -> Result<bool, Self::Error>,
+        requires { IsCallable (call_at P.FnMut) (takes_at P.FnMut) (contract.gives self) predicate }
+        ensures parts { take_while_parts result ≡ ((self, Some predicate), false) }
+        ensures lists { (h : Self.Item → Result Bool Self.Error) (l : List (Result Self.Item Self.Error)) → Acts (call_at P.FnMut) predicate h → Lists contract.steps self l → Lists (seen_as take_while_parts (take_while_contract contract P.FnMut)).steps result (taken_while h l) }
+    {
+        TakeWhile {
+            it: self,
+            predicate: Some(predicate),
+            refused: false,
+        }
+    }
+
+    /// Ends for good at the source's first end, without a draw from then on. A failure ends nothing. Making the adapter draws nothing.
+    final fn fuse(self) -> Fuse<Self>
+        ensures parts { fuse_parts result ≡ (self, false) }
+        ensures lists { (l : List (Result Self.Item Self.Error)) → Lists contract.steps self l → Lists (seen_as fuse_parts (fuse_contract contract)).steps result l }
+    {
+        Fuse {
+            it: self,
+            ended: false,
+        }
+    }
+
+    /// Leaves out the first n items. A failure or an end that comes among them is the answer, and the rest of them is left out after it. Making the adapter draws nothing; one call draws at most n + 1 answers.
+    final fn skip(self, n: usize) -> Skip<Self>
+        ensures parts { skip_parts result ≡ (self, n) }
+        ensures lists { (l : List (Result Self.Item Self.Error)) → Lists contract.steps self l → Lists (seen_as skip_parts (skip_contract contract)).steps result (skipped n l) }
+    {
+        Skip {
+            it: self,
+            to_skip: n,
+        }
+    }
+
+    /// Keeps the first item, and then one item at each step, so that of each `step` items one is kept. Failures and ends pass, and don't count. The step is at least 1. Making the adapter draws nothing; one call draws at most `step` answers.
+    final fn step_by(self, step: usize) -> StepBy<Self>
+        requires { 1 ≤ step }
+        ensures parts { step_by_parts result ≡ (self, (step - 1, 0)) }
+        ensures lists { (l : List (Result Self.Item Self.Error)) → Lists contract.steps self l → Lists (seen_as step_by_parts (step_by_contract contract)).steps result (stepped (step - 1) 0 l) }
+    {
+        StepBy {
+            it: self,
+            between: step - 1,
+            left: 0,
+        }
+    }
+
+    /// Replaces each item by the value that the closure answers on it, and leaves it out where the answer is none. Where the closure fails, its failure is the answer, that item is lost, and the next call goes on after it. Making the adapter draws nothing and calls nothing.
+    ///
+    /// It asks a number to come of the source, since one call may leave many items out, and that the closure may be called on each item that may come.
+    final fn filter_map<B, F>(self, f: F) -> FilterMap<Self, F>
+    where
+        F: FnMut(Self::Item) -> Result<Option<B>, Self::Error>,
+        requires finite { contract.has_end self }
+        requires callable { IsCallable (call_on F.FnMut) (takes_on F.FnMut) (contract.gives self) f }
+        ensures parts { filter_map_parts result ≡ (self, Some f) }
+        ensures lists { (h : Self.Item → Result (Option B) Self.Error) (l : List (Result Self.Item Self.Error)) → Acts (call_on F.FnMut) f h → Lists contract.steps self l → Lists (seen_as filter_map_parts (filter_map_contract contract F.FnMut)).steps result (filter_mapped h l) }
+    {
+        FilterMap {
+            it: self,
+            f: Some(f),
+        }
+    }
+
+    /// Shows each item to the closure, and answers it then. Where the closure fails, its failure is the answer, and that item is lost. Making the adapter draws nothing and calls nothing.
+    ///
+    /// It asks that the closure may be called on a reference to each item that may come.
+    final fn inspect<F>(self, f: F) -> Inspect<Self, F>
+    where
+        F: FnMut(&Self::Item) -> Result<(), Self::Error>,
+        requires { IsCallable (call_at F.FnMut) (takes_at F.FnMut) (contract.gives self) f }
+        ensures parts { inspect_parts result ≡ (self, Some f) }
+        ensures lists { (h : Self.Item → Result (Unit {0}) Self.Error) (l : List (Result Self.Item Self.Error)) → Acts (call_at F.FnMut) f h → Lists contract.steps self l → Lists (seen_as inspect_parts (inspect_contract contract F.FnMut)).steps result (inspected h l) }
+    {
+        Inspect {
+            it: self,
+            f: Some(f),
+        }
+    }
+
+    /// Replaces each failure by the closure's value on it, which is called once for each failure and for nothing else. Making the adapter draws nothing and calls nothing.
+    ///
+    /// It asks that the closure may be called on each failure that may come.
+    final fn map_err<B, F>(self, f: F) -> MapErr<Self, F>
+    where
+        F: FnMut(Self::Error) -> B,
+        requires { IsCallable (call_on F.FnMut) (takes_on F.FnMut) (contract.fails self) f }
+        ensures parts { map_err_parts result ≡ (self, f) }
+        ensures lists { (h : Self.Error → B) (l : List (Result Self.Item Self.Error)) → Acts (call_on F.FnMut) f h → Lists contract.steps self l → Lists (seen_as map_err_parts (map_err_contract contract F.FnMut)).steps result (failures_mapped h l) }
+    {
+        MapErr { it: self, f }
+    }
+
+    /// Puts each item beside the number of items drawn before it, from 0 on; failures and ends don't count. Making the adapter draws nothing.
+    ///
+    /// It asks that at most `usize::MAX` items are still to come, so that each number fits.
+    final fn enumerate(self) -> Enumerate<Self>
+        requires { AtMost contract self (2 ^ 64 - 1) }
+        ensures parts { enumerate_parts result ≡ (self, 0) }
+        ensures numberable { contract.can self → IsNumberable contract self 0 }
+        ensures lists { (l : List (Result Self.Item Self.Error)) → Lists contract.steps self l → Lists (seen_as enumerate_parts (enumerate_contract contract)).steps result (numbered 0 l) }
+    {
+        Enumerate { it: self, count: 0 }
+    }
+
+    /// Leaves out the items before the first one to which the predicate answers false, and asks it no more from there on. Where it fails, its failure is the answer, that item is lost, and the skipping goes on. Making the adapter draws nothing and calls nothing.
+    ///
+    /// It asks a number to come of the source, since one call may leave many items out, and that the predicate may be called on a reference to each item that may come until it first answers false.
+    final fn skip_while<P>(self, predicate: P) -> SkipWhile<Self, P>
+    where
+        P: FnMut(&Self::Item) -> Result<bool, Self::Error>,
+        requires finite { contract.has_end self }
+        requires callable { IsCallable (skip_call (call_at P.FnMut)) (skip_takes (takes_at P.FnMut)) (contract.gives self) (false, predicate) }
+        ensures parts { skip_while_parts result ≡ (self, (false, Some predicate)) }
+        ensures lists { (h : Self.Item → Result Bool Self.Error) (l : List (Result Self.Item Self.Error)) → Acts (call_at P.FnMut) predicate h → Lists contract.steps self l → Lists (seen_as skip_while_parts (skip_while_contract contract P.FnMut)).steps result (skipped_while h l) }
+    {
+        SkipWhile {
+            it: self,
+            found: false,
+            predicate: Some(predicate),
+        }
+    }
+
+    /// Replaces each item by the closure's answer on the state and the item. None is an end, and the next call goes on; where the closure fails, its failure is the answer, and that item is lost. The state stays as the closure left it. Making the adapter draws nothing and calls nothing.
+    ///
+    /// It asks that the closure may be called on each item that may come, with each state that such calls lead to.
+    final fn scan<St, B, F>(self, initial_state: St, f: F) -> Scan<Self, St, F>
+    where
+        F: FnMut(&mut St, Self::Item) -> Result<Option<B>, Self::Error>,
+        requires { IsCallable (scan_call F.FnMut) (scan_takes F.FnMut) (contract.gives self) (initial_state, f) }
+        ensures parts { scan_parts result ≡ (self, (initial_state, f)) }
+        ensures lists { (next : St → Self.Item → Result (Option B) Self.Error × St) (l : List (Result Self.Item Self.Error)) → ActsWithState (scan_call F.FnMut) f next → Lists contract.steps self l → Lists (seen_as scan_parts (scan_contract contract F.FnMut)).steps result (scanned next initial_state l) }
+    {
+        Scan {
+            it: self,
+            state: initial_state,
+            f,
+        }
+    }
+
+    /// Replaces each item by a clone of what it points to. Where the clone is refused, the failure made of the refusal is the answer, and that item is lost. Making the adapter draws nothing.
+    final fn cloned<'a, T: 'a>(self) -> Cloned<Self>
+    where
+        Self: FallibleIterator<Item = &'a T>,
+        T: Clone,
+        Self::Error: From<AllocError>,
+        ensures parts { cloned_parts result ≡ (self, tt) }
+        ensures lists { (l : List (Result (Bor T) Self.Error)) → ((x y : T) → T.is_clone x y → y ≡ x) → ((x : T) → T.is_infallible x) → Lists contract.steps self l → Lists (seen_as cloned_parts (cloned_contract T.is_clone T.is_infallible Self.Error.from_gives contract)).steps result (pointed_to l) }
+    {
+        Cloned { it: self }
+    }
+
+    /// Gives the answers up to the first end, and then those of `it`. The draw that meets that end draws `it` at once, and from then on only `it` is drawn. A failure passes, and changes no side. Making the adapter draws nothing: it calls `into_fallible_iter` once, and keeps what that gives.
+    final fn chain<I>(self, it: I) -> Chain<Self, I::IntoFallibleIter>
+    where
+        I: IntoFallibleIterator<Item = Self::Item, Error = Self::Error>,
+        ensures front { (chain_parts result).0 ≡ self }
+        ensures back { I.into_gives it (chain_parts result).1 }
+        ensures sides { (chain_parts result).2 ≡ Both }
+        ensures lists { (a b : List (Result Self.Item Self.Error)) → Lists contract.steps self a → ((back : I.IntoFallibleIter) → I.into_gives it back → Lists I.IntoFallibleIter.contract.steps back b) → Lists (seen_as chain_parts (chain_contract contract I.IntoFallibleIter.contract)).steps result (chained a b) }
+    {
+        Chain {
+            front: self,
+            back: it.into_fallible_iter(),
+            still_drawn: StillDrawn::Both,
+        }
+    }
+
+    /// Pairs each item with one of `o`. A call draws one answer, and then, where that isn't a failure, one of `o`, also at an end. Two items make a pair. A failure of either is the answer, and else an end of either is an end; an item beside a failure or an end is lost, and the next call draws both again. Making the adapter draws nothing: it calls `into_fallible_iter` once, and keeps what that gives.
+    final fn zip<I>(self, o: I) -> Zip<Self, I::IntoFallibleIter>
+    where
+        I: IntoFallibleIterator<Error = Self::Error>,
+        ensures left { (zip_parts result).0 ≡ self }
+        ensures right { I.into_gives o (zip_parts result).1 }
+        ensures lists { (a : List (Result Self.Item Self.Error)) (b : List (Result I.Item Self.Error)) → NoFailureAtEnd a b → Lists contract.steps self a → ((right : I.IntoFallibleIter) → I.into_gives o right → Lists I.IntoFallibleIter.contract.steps right b) → Lists (seen_as zip_parts (zip_contract contract I.IntoFallibleIter.contract)).steps result (zipped a b) }
+        ensures items { (a : List (Result Self.Item Self.Error)) (b : List I.Item) → Lists contract.steps self a → ((right : I.IntoFallibleIter) → I.into_gives o right → Lists I.IntoFallibleIter.contract.steps right (items b)) → Lists (seen_as zip_parts (zip_contract contract I.IntoFallibleIter.contract)).steps result (zipped a (items b)) }
+    {
+        Zip {
+            left: self,
+            right: o.into_fallible_iter(),
+        }
+    }
+
+    /// Joins the answers of the inner iterators that the items become: the one in hand answers until its end, at which it is dropped, and then the next item is drawn. A failure of the inner iterator is the answer, and keeps it in hand. A failure or an end of this iterator is the answer, and the next call draws from it again. Making the adapter draws nothing.
+    ///
+    /// It asks a number to come, since many inner iterators may end at once. Each draw asks that the inner iterator in hand and each that may come may be drawn from; a drain also asks a number to come of the one in hand, and one that serves for each that may come.
+    final fn flatten(self) -> Flatten<Self, <Self::Item as IntoFallibleIterator>::IntoFallibleIter>
+    where
+        Self::Item: IntoFallibleIterator<Error = Self::Error>,
+        requires { contract.has_end self }
+        ensures parts { flatten_parts result ≡ (self, None) }
+        ensures lists { (inner : Self.Item → List (Result Self.Item.Item Self.Error)) (l : List (Result Self.Item Self.Error)) → EachLists Self.Item.into_gives Self.Item.IntoFallibleIter.contract.steps inner → Lists contract.steps self l → Lists (seen_as flatten_parts (flatten_contract contract Self.Item.into_gives Self.Item.IntoFallibleIter.contract)).steps result (flattened inner l) }
+    {
+        Flatten {
+            it: self,
+            in_hand: None,
+        }
+    }
+
+    /// Joins the answers of the inner iterators that the closure makes of the items, as `flatten` does. Where the closure fails, its failure is the answer, that item is lost, and the next call goes on after it. Making the adapter draws nothing and calls nothing.
+    ///
+    /// It asks a number to come, since many inner iterators may end at once, and that the closure may be called on each item that may come. Each draw asks that the inner iterator in hand and each that may come may be drawn from; a drain also asks a number to come of the one in hand, and one that serves for each that may come.
+    final fn flat_map<U, F>(self, f: F) -> FlatMap<Self, U::IntoFallibleIter, F>
+    where
+        U: IntoFallibleIterator<Error = Self::Error>,
+        F: FnMut(Self::Item) -> Result<U, Self::Error>,
+        requires finite { contract.has_end self }
+        requires callable { IsCallable (call_on F.FnMut) (takes_on F.FnMut) (contract.gives self) f }
+        ensures outer { map_parts (flat_map_parts result).0 ≡ (self, Some f) }
+        ensures in_hand { (flat_map_parts result).1 ≡ None }
+        ensures lists { (inner : U → List (Result U.Item Self.Error)) (h : Self.Item → Result U Self.Error) (l : List (Result Self.Item Self.Error)) → EachLists U.into_gives U.IntoFallibleIter.contract.steps inner → Acts (call_on F.FnMut) f h → Lists contract.steps self l → Lists (seen_as flat_map_parts (flatten_contract (seen_as map_parts (map_contract contract F.FnMut)) U.into_gives U.IntoFallibleIter.contract)).steps result (flattened inner (mapped h l)) }
+    {
+        FlatMap {
+            it: self.map(f),
+            in_hand: None,
+        }
+    }
+
+    /// Makes a collection of the items up to the end. The collection is made first, and then each item is pushed as it is drawn; no room is taken ahead.
+    ///
+    /// `Fault::Source` of the first failure, after which nothing is drawn. `Fault::Memory` where the collection refused: nothing was drawn where it could not be made, and else the item that it refused was the last one drawn. Of a collection that never refuses it is never answered.
+    final fn collect<C: Collect<Self::Item>>(
+        mut self,
+        alloc: Global,
+    ) -> Result<C, Fault<Self::Error>>
+    where
+        requires can { contract.can self }
+        requires finite { contract.has_end self }
+        ensures collects { Collects contract.steps C.made C.empty_refuses C.push_refuses self result }
+        ensures is { (l : List (Result Self.Item Self.Error)) → Lists contract.steps self l → CollectedAs C.made l result }
+    {
+        let made = match C::empty(alloc) {
+            Ok(made) => made,
+            Err(refused) => return Err(Fault::Memory(refused)),
+        };
+        let push = |made: C, x: Self::Item| -> Result<C, AllocError>
+            ensures { PushTurn C.made C.push_refuses made x result }
+        {
+            let mut made = made;
+            match made.push_one(x) {
+                Ok(()) => Ok(made),
+                Err(refused) => Err(refused),
+            }
+        };
+        match self.try_fold_carrying(made, &push) {
+            Exit::Ended(made) => Ok(made),
+            Exit::Failed(_, e) => Err(Fault::Source(e)),
+            Exit::Stopped(refused) => Err(Fault::Memory(refused)),
+        }
+    }
+
+    /// Lets the next answer be looked at ahead: an item or an end that `peek` saw is held, and comes first. Making the adapter draws nothing, and holds nothing.
+    final fn peekable(self) -> Peekable<Self>
+        ensures parts { peekable_parts result ≡ (self, None) }
+        ensures lists { (l : List (Result Self.Item Self.Error)) → Lists contract.steps self l → Lists (seen_as peekable_parts (peekable_contract contract)).steps result l }
+    {
+        Peekable {
+            it: self,
+            held: None,
+        }
+    }
+
+    /// Begins anew at each end, with a clone of this iterator, which is kept. It clones once now, for the first run, and draws nothing; where that clone is refused, this iterator is dropped and the answer is `Err(AllocError)`. A clone that is refused later is a failure, after which the run goes on.
+    ///
+    /// It asks that each of its clones may be drawn from, as is so where clones equal their originals. It has no number to come, so it is drained through `take`.
+    final fn cycle(self) -> Result<Cycle<Self>, AllocError>
+    where
+        Self: Clone,
+        Self::Error: From<AllocError>,
+        requires { (c : Self) → Self.is_clone self c → contract.can c }
+        ensures { MatchResult result (λ made. Self.is_clone self (cycle_parts made).0 × ((cycle_parts made).1 ≡ self)) (λ _. ¬ (Self.is_infallible self)) }
+    {
+        let run = self.clone()?;
+        Ok(Cycle {
+            it: run,
+            kept: self,
+        })
+    }
+
+    /// `next`, which also says that what is left may be drawn from again: so a proof that draws several times by hand goes on by itself.
+    final fn draw(&mut self) -> Result<Option<Self::Item>, Self::Error>
+        requires { contract.can self.old }
+        ensures drawn { contract.steps self.old result self.new }
+        ensures stays { Stays contract self.old self.new }
+    {
+        self.next()
+    }
+
+    /// Itself, borrowed: what is drawn from the borrow is drawn from it.
+    final fn by_ref(&mut self) -> &mut Self
+        ensures value { result.now ≡ self.old }
+        ensures same_reference { result.ghost_name ≡ self.entry.ghost_name }
+        ensures lists { (l : List (Result Self.Item Self.Error)) → Lists contract.steps self.old l → Lists (borrowed contract).steps result l }
+    {
+        self
+    }
+}

@@ -1,0 +1,24 @@
+// A fallible iterator behind a `&mut` answers as it does itself.
+ghost use Rattle.std.specs.Prelude.{◌≡◌, Result, Option};
+ghost use Rattle.fallible_core.specs.Borrowed.{borrowed};
+ghost use Rattle.fallible_core.specs.Laws.Borrowed.{lawful_borrowed};
+
+use crate::traits::FallibleIterator;
+
+impl<I: FallibleIterator> FallibleIterator for &mut I {
+    type Item = I::Item;
+
+    type Error = I::Error;
+
+    ghost contract = { borrowed I.contract };
+
+    fn next(&mut self) -> Result<Option<I::Item>, I::Error> {
+        (**self).next()
+    }
+
+    fn size_hint(&self) -> (usize, Option<usize>) {
+        (**self).size_hint()
+    }
+
+    ghost lawful = { lawful_borrowed I.lawful };
+}

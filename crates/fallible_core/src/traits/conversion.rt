@@ -1,0 +1,37 @@
+//! What becomes a fallible iterator.
+ghost use Rattle.std.specs.Prelude.{◌≡◌};
+
+use crate::traits::FallibleIterator;
+
+/// A value that becomes a fallible iterator. Every fallible iterator is one, and gives itself.
+pub trait IntoFallibleIterator {
+    /// What the fallible iterator gives.
+    type Item;
+
+    /// What it fails with.
+    type Error;
+
+    /// The fallible iterator that the value becomes.
+    type IntoFallibleIter: FallibleIterator<Item = Self::Item, Error = Self::Error>;
+
+    // Holds of the value and of what it may become.
+    ghost into_gives: { Self → Self.IntoFallibleIter → Type 0 };
+
+    /// Becomes the fallible iterator.
+    fn into_fallible_iter(self) -> Self::IntoFallibleIter
+        ensures { into_gives self result };
+}
+
+impl<I: FallibleIterator> IntoFallibleIterator for I {
+    type Item = I::Item;
+
+    type Error = I::Error;
+
+    type IntoFallibleIter = I;
+
+    ghost into_gives = { λ it result. result ≡ it };
+
+    fn into_fallible_iter(self) -> I {
+        self
+    }
+}

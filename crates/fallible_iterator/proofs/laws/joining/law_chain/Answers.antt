@@ -1,9 +1,0 @@
--- A run of the values is one of their parts, which the law of the parts speaks of.
-use Rattle.std.proofs.Common.{refl}
-use Rattle.fallible_iterator.specs.Joining.Chain.{chain_parts}
-use Rattle.fallible_iterator.proofs.Lemmas.Definitions.{meets_held}
-use Rattle.fallible_iterator.proofs.Lemmas.Joining.Chain.{chain_law}
-use Rattle.fallible_iterator.proofs.laws.joining.law_chain.Goals as goal
-
-pub returns : goal.returns
-returns g c = meets_held chain_parts (λ p. record { front = p.0; back = p.1; still_drawn = p.2 }) (λ s. refl) (λ p. refl) _ _ (chain_law _ _)

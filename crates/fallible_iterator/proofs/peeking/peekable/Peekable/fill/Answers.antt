@@ -1,7 +1,0 @@
--- Where an answer is held, nothing is drawn.
-use Rattle.fallible_iterator.specs.Peeking.Peekable.{peekable_parts}
-use Rattle.fallible_iterator.proofs.Lemmas.Peeking.Peekable.{fills_held}
-use Rattle.fallible_iterator.proofs.peeking.peekable.Peekable.fill.Goals as goal
-
-pub returns-in-Some-clause-filled : goal.returns-in-Some-clause-filled
-returns-in-Some-clause-filled g c = fills_held g.I.FallibleIterator.contract.steps (peekable_parts c.args.self.now) _ c.in-Some.is

@@ -1,7 +1,0 @@
--- The lists of the inner iterators, joined.
-use Rattle.std.proofs.Common.{refl}
-use Rattle.fallible_iterator.proofs.Lemmas.Joining.Flatten.{lists_flattened}
-use Rattle.fallible_iterator.proofs.traits.FallibleIterator.flatten.Goals as goal
-
-pub returns-clause-lists : goal.returns-clause-lists
-returns-clause-lists g c inner l each i = lists_flattened _ g.Self.Item.IntoFallibleIter.FallibleIterator.contract inner l each g.Self.FallibleIterator.contract _ refl i

@@ -1,8 +1,0 @@
--- The contract of `Fuse` is lawful where the source's is.
-use Rattle.fallible_iterator.specs.Traces.{is_end}
-use Rattle.fallible_iterator.specs.Contract.{Contract, Lawful}
-use Rattle.fallible_iterator.specs.Cutting.Fuse.{fuse_contract}
-use Rattle.fallible_iterator.specs.Laws.Closing.{lawful_closing}
-
-pub lawful_fuse : {S A E : Type 0} {m : Contract S A E} → Lawful m → Lawful (fuse_contract m)
-lawful_fuse {m = m} l = lawful_closing m.steps (λ r. r) is_end l.goes l

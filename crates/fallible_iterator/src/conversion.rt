@@ -1,0 +1,33 @@
+//! What std iterators become.
+ghost use Rattle.std.specs.Prelude.{◌≡◌, List, Result};
+ghost use Rattle.fallible_core.specs.Contract.{seen_as};
+ghost use Rattle.fallible_core.specs.Lists.{Lists, RunsRead, results, items};
+ghost use Rattle.fallible_iterator.specs.Sources.Convert.{convert_parts, convert_contract};
+ghost use Rattle.fallible_iterator.specs.Sources.IntoFallible.{into_fallible_parts, into_fallible_contract};
+
+use crate::sources::{Convert, IntoFallible};
+
+/// What every std iterator has besides: two ways to become a fallible one. Neither draws anything.
+pub trait IteratorExt: std::iter::Iterator {
+    /// The fallible iterator whose items are the values of `Ok`, and whose failures are those of `Err`.
+    final fn transpose_into_fallible<T, E>(self) -> Convert<Self>
+    where
+        Self: Sized + std::iter::Iterator<Item = Result<T, E>>,
+        ensures parts { convert_parts result ≡ self }
+        ensures lists { (l : List (Result T E)) → RunsRead Self.next_gives (λ y. y) self l → Lists (seen_as convert_parts (convert_contract Self.can_next Self.next_gives Self.remaining)).steps result (results l) }
+    {
+        Convert { it: self }
+    }
+
+    /// The fallible iterator that gives the same elements and never fails.
+    final fn into_fallible<T>(self) -> IntoFallible<Self>
+    where
+        Self: Sized + std::iter::Iterator<Item = T>,
+        ensures parts { into_fallible_parts result ≡ self }
+        ensures lists { (l : List T) → RunsRead Self.next_gives (λ x. x) self l → Lists (seen_as into_fallible_parts (into_fallible_contract Self.can_next Self.next_gives Self.remaining)).steps result (items l) }
+    {
+        IntoFallible { it: self }
+    }
+}
+
+impl<I: std::iter::Iterator> IteratorExt for I {}
