@@ -1,6 +1,6 @@
 //! What chains of calls compute.
 ghost use Rattle.std.specs.Prelude.{◌≡◌, ◌+◌, ◌*◌, ◌%◌, ◌^◌, ◌<◌, [], ◌∷◌, List, Result, Ok, Err, Option, Some, None, nat_lt, if◌then◌else◌};
-ghost use Rattle.fallible_core.specs.Lists.{items, results, mapped, filtered, taken, counted, nth_of, folded, collected, CollectedAs, numbered, skipped_while, taken_while, zipped, scanned, chained, Lists};
+ghost use Rattle.fallible_contract.specs.Lists.{items, results, mapped, filtered, taken, counted, nth_of, folded, collected, CollectedAs, numbered, skipped_while, taken_while, zipped, scanned, chained, Lists};
 
 use fallible_iterator::{FallibleIterator, Fault, convert, once};
 use std::alloc::Global;

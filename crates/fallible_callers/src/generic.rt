@@ -1,6 +1,6 @@
 //! Callers over any fallible iterator.
 ghost use Rattle.std.specs.Prelude.{◌≡◌, ◌+◌, ◌*◌, ◌%◌, ◌^◌, ℕ, List, Result, Ok, nat_lt};
-ghost use Rattle.fallible_core.specs.Lists.{Lists, results, mapped, filtered, taken, folded};
+ghost use Rattle.fallible_contract.specs.Lists.{Lists, results, mapped, filtered, taken, folded};
 
 use fallible_iterator::{FallibleIterator, convert};
 

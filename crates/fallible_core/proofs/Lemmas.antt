@@ -1,20 +1,7 @@
 -- Lemmas that no contract and no ghost member cites.
-pub mod Answers
 pub mod Borrowed
-pub mod Closing
-pub mod Collecting
-pub mod Contract
-pub mod Counting
 pub mod Cutting
-pub mod Definitions
 pub mod Filtering
-pub mod Folds
-pub mod Held
 pub mod Joining
-pub mod Lists
-pub mod Nth
 pub mod OneToOne
-pub mod Overriding
-pub mod Passing
 pub mod Peeking
-pub mod ToCome

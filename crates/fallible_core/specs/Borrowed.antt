@@ -1,7 +1,7 @@
 -- A fallible iterator behind a `&mut`, and one in a `Box`.
 use Rattle.std.specs.Prelude.{◌≡◌}
 use Rattle.std.specs.Borrow.{MutBor}
-use Rattle.fallible_core.specs.Contract.{Contract, name_and, seen_as}
+use Rattle.fallible_contract.specs.Contract.{Contract, name_and, seen_as}
 
 -- It steps as the one behind it, and stays the same reference.
 abbrev pub borrowed : {S A E : Type 0} → Contract S A E → Contract (MutBor S) A E

@@ -1,23 +1,8 @@
 -- What the clauses of `src/` cite, and in `Laws` what follows from it: lemmas that the ghost members cite.
-pub mod Answers
 pub mod Borrowed
-pub mod Closing
-pub mod Closures
-pub mod Collecting
-pub mod Contract
-pub mod Counting
 pub mod Cutting
-pub mod Definitions
 pub mod Filtering
-pub mod Folds
-pub mod Held
-pub mod Hints
 pub mod Joining
 pub mod Laws
-pub mod Lists
 pub mod OneToOne
-pub mod Passing
 pub mod Peeking
-pub mod Refusals
-pub mod Traces
-pub mod WithSteps

@@ -1,8 +1,8 @@
 //! What a trace of each type is, as laws, and traces that a test or a caller can look at.
 ghost use Rattle.std.specs.Prelude.{◌≡◌, ℕ, ◌+◌, ◌≤◌, List, length, take, IfOk, IfErr, Result, Option};
-ghost use Rattle.fallible_core.specs.Contract.{Contract, Stays};
-ghost use Rattle.fallible_core.specs.Answers.{answer_of, IsAnswers, answers_of};
-ghost use Rattle.fallible_core.specs.Lists.{Lists};
+ghost use Rattle.fallible_contract.specs.Contract.{Contract, Stays};
+ghost use Rattle.fallible_contract.specs.Answers.{answer_of, IsAnswers, answers_of};
+ghost use Rattle.fallible_contract.specs.Lists.{Lists};
 
 pub mod borrowed;
 mod cutting;
@@ -18,20 +18,10 @@ pub use cutting::{law_fuse, law_skip, law_step_by, law_take, law_take_while};
 pub use filtering::{law_filter, law_filter_map, law_skip_while};
 pub use joining::{law_chain, law_cycle, law_flat_map, law_flatten, law_zip};
 pub use one_to_one::{law_cloned, law_enumerate, law_inspect, law_map, law_map_err, law_scan};
+pub use fallible_contract::answers::Answer;
 pub use peeking::law_peekable;
 use std::alloc::{AllocError, Global};
 pub use to_come::law_to_come;
-
-/// What one draw answered.
-#[derive(Debug, PartialEq, Eq, Drop)]
-pub enum Answer<T, E> {
-    /// an item
-    Item(T),
-    /// a failure
-    Failure(E),
-    /// an end
-    End,
-}
 
 /// Makes `n` calls of `next` and gives their answers in order. It takes all its room first: where that is refused, nothing was drawn.
 pub fn answers<I: FallibleIterator>(

@@ -1,11 +1,8 @@
-//! Fallible iterators: iterators whose `next` may fail, with adapters and folds, where every call is proved to meet its contract.
+//! The trait of fallible iterators and its adapters, where every call is proved to meet its contract.
 #![tactic(auto)]
 
-pub mod collecting;
 pub mod cutting;
 pub mod filtering;
-pub mod folds;
-mod hints;
 pub mod joining;
 pub mod laws;
 pub mod number;
@@ -13,7 +10,6 @@ pub mod one_to_one;
 pub mod peeking;
 pub mod traits;
 
-pub use collecting::{Collect, Fault};
 pub use cutting::{Fuse, Skip, StepBy, Take, TakeWhile};
 pub use filtering::{Filter, FilterMap, SkipWhile};
 pub use joining::{Chain, Cycle, FlatMap, Flatten, Zip};

@@ -1,7 +1,7 @@
 //! What std iterators become.
 ghost use Rattle.std.specs.Prelude.{◌≡◌, List, Result};
-ghost use Rattle.fallible_core.specs.Contract.{seen_as};
-ghost use Rattle.fallible_core.specs.Lists.{Lists, RunsRead, results, items};
+ghost use Rattle.fallible_contract.specs.Contract.{seen_as};
+ghost use Rattle.fallible_contract.specs.Lists.{Lists, RunsRead, results, items};
 ghost use Rattle.fallible_iterator.specs.Sources.Convert.{convert_parts, convert_contract};
 ghost use Rattle.fallible_iterator.specs.Sources.IntoFallible.{into_fallible_parts, into_fallible_contract};
 

@@ -1,6 +1,6 @@
 //! Fallible iterators: iterators whose `next` may fail, with adapters and folds, where every call is proved to meet its contract.
 //!
-//! The trait and its adapters are those of `fallible_core`; the sources are this crate's own.
+//! The trait and its adapters are those of `fallible_core`, and what is said of them is `fallible_contract`; the sources are this crate's own.
 #![tactic(auto)]
 
 pub mod conversion;
@@ -8,10 +8,10 @@ pub mod laws;
 pub mod sources;
 
 pub use conversion::IteratorExt;
-pub use fallible_core::folds;
+pub use fallible_contract::folds;
+pub use fallible_contract::{Collect, Fault};
 pub use fallible_core::{
-    Chain, Cloned, Collect, Cycle, Enumerate, FallibleIterator, Fault, Filter, FilterMap, FlatMap,
-    Flatten, Fuse, Inspect, IntoFallibleIterator, Map, MapErr, Peekable, Scan, Skip, SkipWhile,
+    Chain, Cloned, Cycle, Enumerate, FallibleIterator, Filter, FilterMap, FlatMap, Flatten, Fuse, Inspect, IntoFallibleIterator, Map, MapErr, Peekable, Scan, Skip, SkipWhile,
     StepBy, Take, TakeWhile, Zip,
 };
 pub use sources::making::{convert, empty, from_fn, once, once_err, repeat, repeat_err};

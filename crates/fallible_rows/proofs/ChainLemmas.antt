@@ -2,21 +2,21 @@
 use Rattle.std.proofs.Common.{◌≡◌, ℕ, zero, suc, ◌+◌, ◌<◌, ◌⊎◌, inl, inr, Bool, true, false, cond, nat_lt, List, [], ◌∷◌, ◌++◌, length, map, refl, sym, ap, subst, ◌∙◌, arith, append-nil, lit≤, Option, Some, None, Result, Ok, Err}
 use Rattle.std.specs.Prelude.{replicate}
 use Rattle.std.specs.List.{FoldsTo, filter_map}
-use Rattle.fallible_core.specs.Traces.{Answered, Run, LastKept, item, failure, end, items_in}
-use Rattle.fallible_core.specs.Passing.{Place, asked, failure_at, end_at, source_answer, call_of, answer_at, has_answer}
+use Rattle.fallible_contract.specs.Traces.{Answered, Run, LastKept, item, failure, end, items_in}
+use Rattle.fallible_contract.specs.Passing.{Place, asked, failure_at, end_at, source_answer, call_of, answer_at, has_answer}
 use Rattle.fallible_core.specs.Filtering.Filter.{filter_outcome, FilterTrace, filter_contract, filter_parts}
 use Rattle.std.specs.Fn.{Mut}
 use Rattle.std.specs.Borrow.{Bor}
 use Rattle.fallible_core.specs.declared.cutting.take.Take.{Take}
 use Rattle.fallible_core.specs.declared.filtering.filter.Filter.{Filter}
-use Rattle.fallible_core.specs.Contract.{seen_as, unbounded}
-use Rattle.fallible_core.specs.Closures.{call_at, call_in}
+use Rattle.fallible_contract.specs.Contract.{seen_as, unbounded}
+use Rattle.fallible_contract.specs.Closures.{call_at, call_in}
 use Rattle.fallible_core.specs.Cutting.Take.{TakeTrace, take_step, take_contract, take_parts}
-use Rattle.fallible_core.specs.Folds.{CountExit}
+use Rattle.fallible_contract.specs.Folds.{CountExit}
 use Rattle.fallible_core.proofs.Lemmas.Cutting.Take.{take_law}
-use Rattle.fallible_core.proofs.Lemmas.Definitions.{meets_held, runs_by_answers}
-use Rattle.fallible_core.proofs.Lemmas.Passing.{passing_by_answers}
-use Rattle.fallible_core.specs.Laws.Passing.{kept_tail, answered}
+use Rattle.fallible_contract.proofs.Lemmas.Definitions.{meets_held, runs_by_answers}
+use Rattle.fallible_contract.proofs.Lemmas.Passing.{passing_by_answers}
+use Rattle.fallible_contract.specs.Laws.Passing.{kept_tail, answered}
 use Rattle.fallible_rows.specs.declared.rows.Ahead.{Ahead}
 use Rattle.fallible_rows.specs.declared.rows.Rows.{Rows}
 use Rattle.fallible_rows.specs.RowTraces.{rows_parts, begun, row_step, ReadsRows}

@@ -2,8 +2,8 @@
 use Rattle.std.proofs.Common.{◌↔◌, ◌≡◌, ◌≢◌, ℕ, ◌+◌, List, [], ◌∷◌, ◌++◌, Option, Some, None, refl, sym, subst, ◌⊎◌, inl, inr}
 use Rattle.std.specs.List.{FoldsTo}
 use Rattle.std.proofs.lemmas.List.Elements.{All-nil, All-cons, All-append}
-use Rattle.fallible_core.specs.Traces.{Answered, Run, failure, end}
-use Rattle.fallible_core.proofs.Lemmas.Definitions.{meets_held}
+use Rattle.fallible_contract.specs.Traces.{Answered, Run, failure, end}
+use Rattle.fallible_contract.proofs.Lemmas.Definitions.{meets_held}
 use Rattle.fallible_rows.specs.declared.fault.RowFault.{RowFault}
 use Rattle.fallible_rows.specs.declared.fault.RowFault.TheVariants.{Read}
 use Rattle.fallible_rows.specs.declared.digits.Digits.{Digits}

@@ -1,7 +1,7 @@
 -- What counting answers and leaves.
 use Rattle.std.specs.Prelude.{◌≡◌, ℕ, length, List, [], ◌∷◌, ◌++◌, map, Option, Result, Ok, Err}
-use Rattle.fallible_core.specs.Traces.{Answered, Run, item}
-use Rattle.fallible_core.specs.Folds.{CountExit}
+use Rattle.fallible_contract.specs.Traces.{Answered, Run, item}
+use Rattle.fallible_contract.specs.Folds.{CountExit}
 use Rattle.fallible_rows.specs.declared.fault.RowFault.{RowFault}
 use Rattle.fallible_rows.specs.declared.fault.RowFault.TheVariants.{Row, Read, Memory, Write}
 use Rattle.fallible_rows.specs.Report.{tally}

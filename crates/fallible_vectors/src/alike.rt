@@ -1,5 +1,5 @@
 // What a clone and its original answer.
-ghost use Rattle.fallible_core.specs.Contract.{Stays};
+ghost use Rattle.fallible_contract.specs.Contract.{Stays};
 
 use crate::answered::expect_answers;
 use fallible_iterator::FallibleIterator;

@@ -1,5 +1,5 @@
 // What the next draws answer.
-ghost use Rattle.fallible_core.specs.Contract.{Stays};
+ghost use Rattle.fallible_contract.specs.Contract.{Stays};
 
 use fallible_iterator::FallibleIterator;
 use fallible_iterator::laws::{Answer, answers};

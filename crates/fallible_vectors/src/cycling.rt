@@ -1,7 +1,7 @@
 // The adapter that begins anew at each end.
 ghost use Rattle.std.specs.Prelude.{◌≡◌, ◌+◌, ◌≤◌, MatchResult, MatchOption};
 ghost use Rattle.std.proofs.Common.{rules};
-ghost use Rattle.fallible_core.specs.Contract.{counting_down};
+ghost use Rattle.fallible_contract.specs.Contract.{counting_down};
 
 use crate::answered::expect_answers;
 use crate::collected::expect_collected;

@@ -1,6 +1,6 @@
 // A fallible iterator of a user's own that writes its own folds.
-ghost use Rattle.fallible_core.specs.Contract.{seen_as};
-ghost use Rattle.fallible_core.specs.Laws.Contract.{lawful_seen};
+ghost use Rattle.fallible_contract.specs.Contract.{seen_as};
+ghost use Rattle.fallible_contract.specs.Laws.Contract.{lawful_seen};
 
 use crate::listed::listed;
 use fallible_iterator::FallibleIterator;

@@ -2,7 +2,7 @@
 ghost use Rattle.std.specs.Prelude.{◌≡◌, ◌+◌, ◌≤◌, MatchResult, MatchOption};
 ghost use Rattle.std.proofs.Common.{rules};
 ghost use Rattle.std.specs.Vec.Iter.{into_iter_len};
-ghost use Rattle.fallible_core.specs.Contract.{counting_down};
+ghost use Rattle.fallible_contract.specs.Contract.{counting_down};
 
 use fallible_iterator::FallibleIterator;
 use std::alloc::{AllocError, Global};

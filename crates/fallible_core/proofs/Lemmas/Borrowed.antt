@@ -4,10 +4,10 @@ use Rattle.std.specs.Borrow.{MutBor}
 use Rattle.std.specs.declared.boxed.Box.{Box}
 use Rattle.std.specs.declared.alloc.Global.{Global}
 use Rattle.std.proofs.Common.{refl, ap}
-use Rattle.fallible_core.specs.Traces.{Answered, Run}
-use Rattle.fallible_core.specs.Contract.{Contract}
+use Rattle.fallible_contract.specs.Traces.{Answered, Run}
+use Rattle.fallible_contract.specs.Contract.{Contract}
 use Rattle.fallible_core.specs.Borrowed.{borrowed}
-use Rattle.fallible_core.specs.Lists.{AlwaysGives, Lists}
+use Rattle.fallible_contract.specs.Lists.{AlwaysGives, Lists}
 
 module _ {S A E : Type 0} (steps : S → Answered A E → S → Type 0) where
   abbrev behind : MutBor S → Answered A E → MutBor S → Type 0

@@ -1,11 +1,11 @@
 -- `Skip`, which leaves out the first items.
 use Rattle.std.specs.Prelude.{ℕ, Option, ◌≡◌, ◌-◌, ltb, List, [], ◌∷◌}
 use Rattle.fallible_core.specs.declared.cutting.skip.Skip.{Skip}
-use Rattle.fallible_core.specs.Traces.{Answered}
-use Rattle.fallible_core.specs.Contract.{Contract}
-use Rattle.fallible_core.specs.Counting.{KeptByNumber}
-use Rattle.fallible_core.specs.WithSteps.{with_steps}
-use Rattle.fallible_core.specs.Hints.{hint_less}
+use Rattle.fallible_contract.specs.Traces.{Answered}
+use Rattle.fallible_contract.specs.Contract.{Contract}
+use Rattle.fallible_contract.specs.Counting.{KeptByNumber}
+use Rattle.fallible_contract.specs.WithSteps.{with_steps}
+use Rattle.fallible_contract.specs.Hints.{hint_less}
 
 abbrev pub skip_parts : {I : Type 0} → Skip I → I × ℕ
 skip_parts s = (s.it, s.to_skip)

@@ -1,11 +1,11 @@
 -- `StepBy`, which keeps one item at each step.
 use Rattle.std.specs.Prelude.{ℕ, Bool, Option, ◌≡◌, ◌+◌, ◌-◌, ◌%◌, ltb, leb, eqb, cond, ◌&&◌, List, [], ◌∷◌}
 use Rattle.fallible_core.specs.declared.cutting.step_by.StepBy.{StepBy}
-use Rattle.fallible_core.specs.Traces.{Answered}
-use Rattle.fallible_core.specs.Contract.{Contract}
-use Rattle.fallible_core.specs.Counting.{KeptByNumber}
-use Rattle.fallible_core.specs.WithSteps.{with_steps}
-use Rattle.fallible_core.specs.Hints.{hint_kept}
+use Rattle.fallible_contract.specs.Traces.{Answered}
+use Rattle.fallible_contract.specs.Contract.{Contract}
+use Rattle.fallible_contract.specs.Counting.{KeptByNumber}
+use Rattle.fallible_contract.specs.WithSteps.{with_steps}
+use Rattle.fallible_contract.specs.Hints.{hint_kept}
 
 -- the source, and how many items are left out between two and how many next
 abbrev pub step_by_parts : {I : Type 0} → StepBy I → I × (ℕ × ℕ)

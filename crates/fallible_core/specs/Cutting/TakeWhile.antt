@@ -3,13 +3,13 @@ use Rattle.std.specs.Prelude.{List, [], ◌∷◌, map, Option, Result, Ok, Err,
 use Rattle.std.specs.List.{filter_map}
 use Rattle.std.specs.Fn.{Mut}
 use Rattle.std.specs.Borrow.{Bor}
-use Rattle.fallible_core.specs.Traces.{Answered, Run, item, failure, end}
-use Rattle.fallible_core.specs.Contract.{Contract}
-use Rattle.fallible_core.specs.Closures.{Calls, call_in, IsCallableIn, call_at, takes_at}
-use Rattle.fallible_core.specs.Passing.{Outcome, kept, failed, an_end, Place, asked, failure_at, end_at, source_answer, call_of, passing}
-use Rattle.fallible_core.specs.Hints.{upper_alone}
+use Rattle.fallible_contract.specs.Traces.{Answered, Run, item, failure, end}
+use Rattle.fallible_contract.specs.Contract.{Contract}
+use Rattle.fallible_contract.specs.Closures.{Calls, call_in, IsCallableIn, call_at, takes_at}
+use Rattle.fallible_contract.specs.Passing.{Outcome, kept, failed, an_end, Place, asked, failure_at, end_at, source_answer, call_of, passing}
+use Rattle.fallible_contract.specs.Hints.{upper_alone}
 use Rattle.fallible_core.specs.declared.cutting.take_while.TakeWhile.{TakeWhile}
-use Rattle.fallible_core.specs.Closing.{ClosingTrace, closing}
+use Rattle.fallible_contract.specs.Closing.{ClosingTrace, closing}
 
 -- An item that the predicate accepts is kept; one that it refuses makes an end; a failure of it is the answer.
 abbrev pub take_while_outcome : {X E : Type 0} → X → Result Bool E → Outcome X E

@@ -2,12 +2,12 @@
 use Rattle.std.specs.Prelude.{Option, Result, Ok, Err, List, Bool, true, false}
 use Rattle.std.specs.Fn.{Mut}
 use Rattle.std.specs.Borrow.{Bor}
-use Rattle.fallible_core.specs.Traces.{Answered}
-use Rattle.fallible_core.specs.Contract.{Contract}
-use Rattle.fallible_core.specs.Closures.{call_at, takes_at, call_in, IsCallableIn}
-use Rattle.fallible_core.specs.Passing.{Outcome, kept, left_out, failed, PassTrace, leaving_out}
+use Rattle.fallible_contract.specs.Traces.{Answered}
+use Rattle.fallible_contract.specs.Contract.{Contract}
+use Rattle.fallible_contract.specs.Closures.{call_at, takes_at, call_in, IsCallableIn}
+use Rattle.fallible_contract.specs.Passing.{Outcome, kept, left_out, failed, PassTrace, leaving_out}
 use Rattle.fallible_core.specs.declared.filtering.filter.Filter.{Filter}
-use Rattle.fallible_core.specs.Hints.{upper_alone}
+use Rattle.fallible_contract.specs.Hints.{upper_alone}
 
 -- An item is kept where the predicate answers true, left out where it answers false, and replaced by a failure of it.
 abbrev pub filter_outcome : {X E : Type 0} → X → Result Bool E → Outcome X E

@@ -1,12 +1,12 @@
 -- `FilterMap`, which leaves out the items on which its closure answers none.
 use Rattle.std.specs.Prelude.{Option, Result, Some, Ok, Err, List, None}
 use Rattle.std.specs.Fn.{Mut}
-use Rattle.fallible_core.specs.Traces.{Answered}
-use Rattle.fallible_core.specs.Contract.{Contract}
-use Rattle.fallible_core.specs.Closures.{call_on, takes_on, call_in, IsCallableIn}
-use Rattle.fallible_core.specs.Passing.{Outcome, kept, left_out, failed, PassTrace, leaving_out}
+use Rattle.fallible_contract.specs.Traces.{Answered}
+use Rattle.fallible_contract.specs.Contract.{Contract}
+use Rattle.fallible_contract.specs.Closures.{call_on, takes_on, call_in, IsCallableIn}
+use Rattle.fallible_contract.specs.Passing.{Outcome, kept, left_out, failed, PassTrace, leaving_out}
 use Rattle.fallible_core.specs.declared.filtering.filter_map.FilterMap.{FilterMap}
-use Rattle.fallible_core.specs.Hints.{upper_alone}
+use Rattle.fallible_contract.specs.Hints.{upper_alone}
 
 -- An item is replaced by the value that the closure answers, left out where it answers none, and replaced by a failure of it.
 abbrev pub filter_map_outcome : {X B E : Type 0} → X → Result (Option B) E → Outcome B E

@@ -2,8 +2,8 @@
 use Rattle.std.specs.Prelude.{◌≡◌, ◌≢◌, ℕ, ◌+◌, ◌*◌, IsSomeAnd, ◌≤◌, List, [], ◌∷◌, ◌++◌, map, Option, Result, Some, None, Ok, Err, IfSome, ⊤, ◌⊎◌}
 use Rattle.std.specs.List.{flat_map}
 use Rattle.std.specs.Iterator.{endless}
-use Rattle.fallible_core.specs.Traces.{Answered, Run, item, failure, end, NoEnd}
-use Rattle.fallible_core.specs.Contract.{Contract}
+use Rattle.fallible_contract.specs.Traces.{Answered, Run, item, failure, end, NoEnd}
+use Rattle.fallible_contract.specs.Contract.{Contract}
 use Rattle.fallible_core.specs.declared.one_to_one.map.Map.{Map}
 use Rattle.fallible_core.specs.declared.joining.flatten.Flatten.{Flatten}
 use Rattle.fallible_core.specs.declared.joining.flatten.FlatMap.{FlatMap}

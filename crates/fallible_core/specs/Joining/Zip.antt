@@ -3,9 +3,9 @@ use Rattle.std.specs.Prelude.{ℕ, Option, Some, ◌≡◌, List, map, None, Ok,
 use Rattle.std.specs.List.{filter_map}
 use Rattle.std.specs.Iterator.{endless}
 use Rattle.fallible_core.specs.declared.joining.zip.Zip.{Zip}
-use Rattle.fallible_core.specs.Traces.{Answered, Run, item, failure, end}
-use Rattle.fallible_core.specs.Contract.{Contract, names_of_both}
-use Rattle.fallible_core.specs.Hints.{hint_smaller}
+use Rattle.fallible_contract.specs.Traces.{Answered, Run, item, failure, end}
+use Rattle.fallible_contract.specs.Contract.{Contract, names_of_both}
+use Rattle.fallible_contract.specs.Hints.{hint_smaller}
 
 -- the left and the right
 abbrev pub zip_parts : {T U : Type 0} → Zip T U → T × U

@@ -2,8 +2,8 @@
 use Rattle.std.specs.Prelude.{Some, None, Ok, Err}
 use Rattle.std.specs.Borrow.{MutBor}
 use Rattle.std.proofs.Common.{ap₂}
-use Rattle.fallible_core.specs.Traces.{Answered}
-use Rattle.fallible_core.specs.Contract.{Contract, OnAnswer, Lawful, name_and}
+use Rattle.fallible_contract.specs.Traces.{Answered}
+use Rattle.fallible_contract.specs.Contract.{Contract, OnAnswer, Lawful, name_and}
 use Rattle.fallible_core.specs.Borrowed.{borrowed}
 
 module _ {S A E : Type 0} (m : Contract S A E) where

@@ -2,10 +2,10 @@
 use Rattle.std.specs.Prelude.{⊤, Result, Ok, Err, List}
 use Rattle.std.specs.Borrow.{Bor}
 use Rattle.std.specs.declared.alloc.AllocError.{AllocError}
-use Rattle.fallible_core.specs.Traces.{Answered}
-use Rattle.fallible_core.specs.Contract.{Contract}
-use Rattle.fallible_core.specs.Refusals.{RefusedAs}
-use Rattle.fallible_core.specs.Passing.{PassTrace, passing}
+use Rattle.fallible_contract.specs.Traces.{Answered}
+use Rattle.fallible_contract.specs.Contract.{Contract}
+use Rattle.fallible_contract.specs.Refusals.{RefusedAs}
+use Rattle.fallible_contract.specs.Passing.{PassTrace, passing}
 use Rattle.fallible_core.specs.declared.one_to_one.cloned.Cloned.{Cloned}
 use Rattle.fallible_core.specs.OneToOne.Map.{map_outcome}
 

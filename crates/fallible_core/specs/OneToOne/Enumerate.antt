@@ -1,7 +1,7 @@
 -- `Enumerate`, which numbers the items.
 use Rattle.std.specs.Prelude.{◌≡◌, ℕ, ◌+◌, ◌-◌, ◌^◌, ◌≤◌, ◌<◌, List, [], ◌∷◌, Some, None, Ok, Err}
-use Rattle.fallible_core.specs.Traces.{Answered, Run, item, failure, end, items_in}
-use Rattle.fallible_core.specs.Contract.{Contract}
+use Rattle.fallible_contract.specs.Traces.{Answered, Run, item, failure, end, items_in}
+use Rattle.fallible_contract.specs.Contract.{Contract}
 use Rattle.fallible_core.specs.declared.one_to_one.enumerate.Enumerate.{Enumerate}
 
 -- the trace with each item beside its number, which is n and the number of items before it; failures and ends have none

@@ -2,10 +2,10 @@
 use Rattle.std.specs.Prelude.{Option, Result, Ok, Err, List}
 use Rattle.std.specs.Fn.{Mut}
 use Rattle.std.specs.Borrow.{Bor}
-use Rattle.fallible_core.specs.Traces.{Answered}
-use Rattle.fallible_core.specs.Contract.{Contract}
-use Rattle.fallible_core.specs.Closures.{call_at, takes_at, call_in, IsCallableIn}
-use Rattle.fallible_core.specs.Passing.{Outcome, kept, failed, PassTrace, passing}
+use Rattle.fallible_contract.specs.Traces.{Answered}
+use Rattle.fallible_contract.specs.Contract.{Contract}
+use Rattle.fallible_contract.specs.Closures.{call_at, takes_at, call_in, IsCallableIn}
+use Rattle.fallible_contract.specs.Passing.{Outcome, kept, failed, PassTrace, passing}
 use Rattle.fallible_core.specs.declared.one_to_one.inspect.Inspect.{Inspect}
 
 -- An item that the closure saw stays, or becomes the closure's failure.

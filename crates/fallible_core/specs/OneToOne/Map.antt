@@ -1,10 +1,10 @@
 -- `Map`, whose closure is called on each item.
 use Rattle.std.specs.Prelude.{Option, Result, Ok, Err, List}
 use Rattle.std.specs.Fn.{Mut}
-use Rattle.fallible_core.specs.Traces.{Answered}
-use Rattle.fallible_core.specs.Contract.{Contract}
-use Rattle.fallible_core.specs.Closures.{call_on, takes_on, call_in, IsCallableIn}
-use Rattle.fallible_core.specs.Passing.{Outcome, kept, failed, PassTrace, passing}
+use Rattle.fallible_contract.specs.Traces.{Answered}
+use Rattle.fallible_contract.specs.Contract.{Contract}
+use Rattle.fallible_contract.specs.Closures.{call_on, takes_on, call_in, IsCallableIn}
+use Rattle.fallible_contract.specs.Passing.{Outcome, kept, failed, PassTrace, passing}
 use Rattle.fallible_core.specs.declared.one_to_one.map.Map.{Map}
 
 -- An item becomes the closure's answer, a failure of it included.

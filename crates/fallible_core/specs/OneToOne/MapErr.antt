@@ -2,9 +2,9 @@
 use Rattle.std.specs.Prelude.{◌≡◌, List, [], ◌∷◌, map, Option, Some, None}
 use Rattle.std.specs.List.{filter_map}
 use Rattle.std.specs.Fn.{Mut}
-use Rattle.fallible_core.specs.Traces.{Answered, Run, item, failure, end}
-use Rattle.fallible_core.specs.Contract.{Contract}
-use Rattle.fallible_core.specs.Closures.{Calls, IsCallable, MayAnswer, call_on, takes_on}
+use Rattle.fallible_contract.specs.Traces.{Answered, Run, item, failure, end}
+use Rattle.fallible_contract.specs.Contract.{Contract}
+use Rattle.fallible_contract.specs.Closures.{Calls, IsCallable, MayAnswer, call_on, takes_on}
 use Rattle.fallible_core.specs.declared.one_to_one.map_err.MapErr.{MapErr}
 
 -- one answer of the source: an item, a failure with what the closure answered on it, or an end

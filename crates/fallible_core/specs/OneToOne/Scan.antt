@@ -2,11 +2,11 @@
 use Rattle.std.specs.Prelude.{Option, Result, Some, None, Ok, Err, List}
 use Rattle.std.specs.Fn.{Mut, TakesWithState, CalledWithState}
 use Rattle.std.specs.Borrow.{MutBor}
-use Rattle.fallible_core.specs.Traces.{Answered}
-use Rattle.fallible_core.specs.Contract.{Contract}
-use Rattle.fallible_core.specs.Hints.{upper_alone}
-use Rattle.fallible_core.specs.Closures.{IsCallable}
-use Rattle.fallible_core.specs.Passing.{Outcome, kept, failed, an_end, PassTrace, passing}
+use Rattle.fallible_contract.specs.Traces.{Answered}
+use Rattle.fallible_contract.specs.Contract.{Contract}
+use Rattle.fallible_contract.specs.Hints.{upper_alone}
+use Rattle.fallible_contract.specs.Closures.{IsCallable}
+use Rattle.fallible_contract.specs.Passing.{Outcome, kept, failed, an_end, PassTrace, passing}
 use Rattle.fallible_core.specs.declared.one_to_one.scan.Scan.{Scan}
 
 -- a call on the state and an item, which may change both the closure and the state

@@ -4,9 +4,9 @@ use Rattle.std.specs.Iterator.{endless}
 use Rattle.std.specs.Fn.{Shared, FnReturnsAt}
 use Rattle.std.specs.Borrow.{Bor}
 use Rattle.fallible_core.specs.declared.peeking.peekable.Peekable.{Peekable}
-use Rattle.fallible_core.specs.Traces.{Answered, Run, item, failure, end}
-use Rattle.fallible_core.specs.Contract.{Contract}
-use Rattle.fallible_core.specs.Hints.{HintWithItem}
+use Rattle.fallible_contract.specs.Traces.{Answered, Run, item, failure, end}
+use Rattle.fallible_contract.specs.Contract.{Contract}
+use Rattle.fallible_contract.specs.Hints.{HintWithItem}
 
 -- the source, and the answer that was looked at
 abbrev pub peekable_parts : {I A E : Type 0} → Peekable I A E → I × Option (Option A)

@@ -1,12 +1,12 @@
 // The adapter that leaves out the first items.
 ghost use Rattle.std.specs.Prelude.{Result, Option};
-ghost use Rattle.fallible_core.specs.Contract.{seen_as};
+ghost use Rattle.fallible_contract.specs.Contract.{seen_as};
 ghost use Rattle.fallible_core.specs.Cutting.Skip.{skip_contract, skip_parts};
-ghost use Rattle.fallible_core.specs.Laws.Contract.{lawful_seen};
+ghost use Rattle.fallible_contract.specs.Laws.Contract.{lawful_seen};
 ghost use Rattle.fallible_core.specs.Laws.Cutting.Skip.{lawful_skip};
 
 use crate::cutting::counting::next_past;
-use crate::hints::less;
+use fallible_contract::hints::less;
 use crate::traits::FallibleIterator;
 
 /// The source's answers without its first n items. Failures and ends stay, and don't count.

@@ -1,12 +1,12 @@
 // The adapter that keeps one item at each step.
 ghost use Rattle.std.specs.Prelude.{Result, Option};
-ghost use Rattle.fallible_core.specs.Contract.{seen_as};
+ghost use Rattle.fallible_contract.specs.Contract.{seen_as};
 ghost use Rattle.fallible_core.specs.Cutting.StepBy.{step_by_contract, step_by_parts};
-ghost use Rattle.fallible_core.specs.Laws.Contract.{lawful_seen};
+ghost use Rattle.fallible_contract.specs.Laws.Contract.{lawful_seen};
 ghost use Rattle.fallible_core.specs.Laws.Cutting.StepBy.{lawful_step_by};
 
 use crate::cutting::counting::next_past;
-use crate::hints::kept;
+use fallible_contract::hints::kept;
 use crate::traits::FallibleIterator;
 
 /// The source's first item, and from then on one item at each step. Failures and ends stay, and don't count.

@@ -1,11 +1,11 @@
 // The adapter that ends after a number of items.
 ghost use Rattle.std.specs.Prelude.{Result, Option};
-ghost use Rattle.fallible_core.specs.Contract.{seen_as};
+ghost use Rattle.fallible_contract.specs.Contract.{seen_as};
 ghost use Rattle.fallible_core.specs.Cutting.Take.{take_contract, take_parts};
-ghost use Rattle.fallible_core.specs.Laws.Contract.{lawful_seen};
+ghost use Rattle.fallible_contract.specs.Laws.Contract.{lawful_seen};
 ghost use Rattle.fallible_core.specs.Laws.Cutting.Take.{lawful_take};
 
-use crate::hints::up_to;
+use fallible_contract::hints::up_to;
 use crate::traits::FallibleIterator;
 
 /// The answers of the source up to its n-th item, and then ends. Failures and ends of the source pass, and don't count.

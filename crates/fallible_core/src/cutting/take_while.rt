@@ -1,8 +1,8 @@
 // The adapter that ends at the first item which a predicate refuses.
 ghost use Rattle.std.specs.Prelude.{Result, Option};
-ghost use Rattle.fallible_core.specs.Contract.{seen_as};
+ghost use Rattle.fallible_contract.specs.Contract.{seen_as};
 ghost use Rattle.fallible_core.specs.Cutting.TakeWhile.{take_while_contract, take_while_parts};
-ghost use Rattle.fallible_core.specs.Laws.Contract.{lawful_seen};
+ghost use Rattle.fallible_contract.specs.Laws.Contract.{lawful_seen};
 ghost use Rattle.fallible_core.specs.Laws.Cutting.TakeWhile.{lawful_take_while};
 
 use crate::traits::FallibleIterator;

@@ -1,13 +1,13 @@
 // The adapter that leaves out the items which a predicate refuses.
 ghost use Rattle.std.specs.Prelude.{Some, Result, Option};
-ghost use Rattle.fallible_core.specs.Contract.{seen_as};
-ghost use Rattle.fallible_core.specs.Closures.{call_at, takes_at};
-ghost use Rattle.fallible_core.specs.Passing.{PassTurn};
+ghost use Rattle.fallible_contract.specs.Contract.{seen_as};
+ghost use Rattle.fallible_contract.specs.Closures.{call_at, takes_at};
+ghost use Rattle.fallible_contract.specs.Passing.{PassTurn};
 ghost use Rattle.fallible_core.specs.Filtering.Filter.{filter_outcome, filter_contract, filter_parts};
-ghost use Rattle.fallible_core.specs.Laws.Contract.{lawful_seen};
+ghost use Rattle.fallible_contract.specs.Laws.Contract.{lawful_seen};
 ghost use Rattle.fallible_core.specs.Laws.Filtering.Filter.{lawful_filter};
 
-use crate::folds::unpack;
+use fallible_contract::folds::unpack;
 use crate::traits::FallibleIterator;
 
 /// The items to which the predicate answers true. An item on which it fails is lost, and its failure is the answer.

@@ -1,13 +1,13 @@
 // The adapter that leaves out the items on which its closure answers none.
 ghost use Rattle.std.specs.Prelude.{Some, Result, Option};
-ghost use Rattle.fallible_core.specs.Contract.{seen_as};
-ghost use Rattle.fallible_core.specs.Closures.{call_on, takes_on};
-ghost use Rattle.fallible_core.specs.Passing.{PassTurn};
+ghost use Rattle.fallible_contract.specs.Contract.{seen_as};
+ghost use Rattle.fallible_contract.specs.Closures.{call_on, takes_on};
+ghost use Rattle.fallible_contract.specs.Passing.{PassTurn};
 ghost use Rattle.fallible_core.specs.Filtering.FilterMap.{filter_map_outcome, filter_map_contract, filter_map_parts};
-ghost use Rattle.fallible_core.specs.Laws.Contract.{lawful_seen};
+ghost use Rattle.fallible_contract.specs.Laws.Contract.{lawful_seen};
 ghost use Rattle.fallible_core.specs.Laws.Filtering.FilterMap.{lawful_filter_map};
 
-use crate::folds::unpack;
+use fallible_contract::folds::unpack;
 use crate::traits::FallibleIterator;
 
 /// The values that the closure answers. An item on which it answers none is left out; an item on which it fails is lost, and its failure is the answer.

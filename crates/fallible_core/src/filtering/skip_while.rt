@@ -1,13 +1,13 @@
 // The adapter that leaves out items up to the first one which a predicate refuses.
 ghost use Rattle.std.specs.Prelude.{Some, Result, Option};
-ghost use Rattle.fallible_core.specs.Closures.{call_at, takes_at};
-ghost use Rattle.fallible_core.specs.Contract.{seen_as};
-ghost use Rattle.fallible_core.specs.Passing.{PassTurn};
+ghost use Rattle.fallible_contract.specs.Closures.{call_at, takes_at};
+ghost use Rattle.fallible_contract.specs.Contract.{seen_as};
+ghost use Rattle.fallible_contract.specs.Passing.{PassTurn};
 ghost use Rattle.fallible_core.specs.Filtering.SkipWhile.{skip_call, skip_takes, skip_while_outcome, skip_while_contract, skip_while_parts};
-ghost use Rattle.fallible_core.specs.Laws.Contract.{lawful_seen};
+ghost use Rattle.fallible_contract.specs.Laws.Contract.{lawful_seen};
 ghost use Rattle.fallible_core.specs.Laws.Filtering.SkipWhile.{lawful_skip_while};
 
-use crate::folds::unpack;
+use fallible_contract::folds::unpack;
 use crate::traits::FallibleIterator;
 
 /// The items from the first one on to which the predicate answers false. It is asked up to and with that item and never again; an item on which it fails is lost, and its failure is the answer.

@@ -1,11 +1,11 @@
 // The adapter that draws one source up to its first end, and then another.
 ghost use Rattle.std.specs.Prelude.{◌≡◌, Result, Option};
-ghost use Rattle.fallible_core.specs.Contract.{seen_as};
+ghost use Rattle.fallible_contract.specs.Contract.{seen_as};
 ghost use Rattle.fallible_core.specs.Joining.Chain.{chain_contract, chain_parts};
-ghost use Rattle.fallible_core.specs.Laws.Contract.{lawful_seen};
+ghost use Rattle.fallible_contract.specs.Laws.Contract.{lawful_seen};
 ghost use Rattle.fallible_core.specs.Laws.Joining.Chain.{lawful_chain};
 
-use crate::hints::sum;
+use fallible_contract::hints::sum;
 use crate::traits::FallibleIterator;
 
 // Which sides of a `Chain` are still drawn. A draw of `next` never makes it `FrontAlone`: that is for draws from the back.

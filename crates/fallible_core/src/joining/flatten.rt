@@ -1,13 +1,13 @@
 // The adapters that join the answers of inner iterators.
 ghost use Rattle.std.specs.Prelude.{◌≡◌, ℕ, [], ◌∷◌, None, Ok, IfSome, List, Option, Result};
-ghost use Rattle.fallible_core.specs.Contract.{seen_as};
+ghost use Rattle.fallible_contract.specs.Contract.{seen_as};
 ghost use Rattle.fallible_core.specs.Joining.Flatten.{EachInner, FlattenTrace, flatten_contract, BeginTurn, flatten_parts, flat_map_parts};
 ghost use Rattle.fallible_core.specs.OneToOne.Map.{map_parts};
-ghost use Rattle.fallible_core.specs.Laws.Contract.{lawful_seen};
+ghost use Rattle.fallible_contract.specs.Laws.Contract.{lawful_seen};
 ghost use Rattle.fallible_core.specs.Laws.OneToOne.Map.{lawful_map};
 ghost use Rattle.fallible_core.specs.Laws.Joining.Flatten.{lawful_flatten};
 
-use crate::folds::unpack;
+use fallible_contract::folds::unpack;
 use crate::one_to_one::Map;
 use crate::traits::FallibleIterator;
 use crate::traits::conversion::IntoFallibleIterator;

@@ -1,11 +1,11 @@
 // The adapter that pairs the items of two sources.
 ghost use Rattle.std.specs.Prelude.{◌≡◌, Result, Option};
-ghost use Rattle.fallible_core.specs.Contract.{seen_as};
+ghost use Rattle.fallible_contract.specs.Contract.{seen_as};
 ghost use Rattle.fallible_core.specs.Joining.Zip.{zip_contract, zip_parts};
-ghost use Rattle.fallible_core.specs.Laws.Contract.{lawful_seen};
+ghost use Rattle.fallible_contract.specs.Laws.Contract.{lawful_seen};
 ghost use Rattle.fallible_core.specs.Laws.Joining.Zip.{lawful_zip};
 
-use crate::hints::smaller;
+use fallible_contract::hints::smaller;
 use crate::traits::FallibleIterator;
 
 /// The pairs of the left's items and the right's, place by place. A failure of either side is the answer, and else an end of either is an end; an item beside a failure or an end is lost.

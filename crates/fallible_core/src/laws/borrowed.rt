@@ -3,7 +3,7 @@ ghost use Rattle.std.specs.Prelude.{◌≡◌, ◌↔◌, List, Option, Result};
 ghost use Rattle.std.specs.Borrow.{MutBor};
 ghost use Rattle.std.specs.declared.boxed.Box.{Box};
 ghost use Rattle.std.specs.declared.alloc.Global.{Global};
-ghost use Rattle.fallible_core.specs.Traces.{Answered, Run};
+ghost use Rattle.fallible_contract.specs.Traces.{Answered, Run};
 
 use crate::traits::FallibleIterator;
 

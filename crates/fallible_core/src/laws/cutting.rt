@@ -1,7 +1,7 @@
 // The whole-trace laws of the adapters that cut a trace off.
 ghost use Rattle.std.specs.Prelude.{Result};
-ghost use Rattle.fallible_core.specs.Definitions.{MeetsHeld};
-ghost use Rattle.fallible_core.specs.Closures.{call_at, call_in};
+ghost use Rattle.fallible_contract.specs.Definitions.{MeetsHeld};
+ghost use Rattle.fallible_contract.specs.Closures.{call_at, call_in};
 ghost use Rattle.fallible_core.specs.Cutting.Fuse.{fuse_parts, FuseTrace};
 ghost use Rattle.fallible_core.specs.Cutting.Skip.{skip_parts, SkipTrace};
 ghost use Rattle.fallible_core.specs.Cutting.StepBy.{step_by_parts, StepByTrace};

@@ -1,6 +1,6 @@
 // What a trace of each adapter that leaves items out is.
-ghost use Rattle.fallible_core.specs.Definitions.{MeetsHeld};
-ghost use Rattle.fallible_core.specs.Closures.{call_at, call_in};
+ghost use Rattle.fallible_contract.specs.Definitions.{MeetsHeld};
+ghost use Rattle.fallible_contract.specs.Closures.{call_at, call_in};
 ghost use Rattle.fallible_core.specs.Filtering.Filter.{FilterTrace, filter_parts};
 ghost use Rattle.fallible_core.specs.Filtering.FilterMap.{FilterMapTrace, filter_map_parts};
 ghost use Rattle.fallible_core.specs.Filtering.SkipWhile.{SkipWhileTrace, skip_while_parts};

@@ -1,6 +1,6 @@
 // The whole-trace laws of the adapters that join sources.
 ghost use Rattle.std.specs.Prelude.{Result};
-ghost use Rattle.fallible_core.specs.Definitions.{MeetsHeld};
+ghost use Rattle.fallible_contract.specs.Definitions.{MeetsHeld};
 ghost use Rattle.fallible_core.specs.Joining.Chain.{chain_parts, ChainTrace};
 ghost use Rattle.fallible_core.specs.Joining.Cycle.{cycle_parts, CycleTrace};
 ghost use Rattle.fallible_core.specs.Joining.Flatten.{flatten_parts, flat_map_parts, FlattenTrace};

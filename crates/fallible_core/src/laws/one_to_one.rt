@@ -1,6 +1,6 @@
 // What a trace of each adapter with one answer for each draw is.
-ghost use Rattle.fallible_core.specs.Definitions.{MeetsHeld};
-ghost use Rattle.fallible_core.specs.Closures.{call_on};
+ghost use Rattle.fallible_contract.specs.Definitions.{MeetsHeld};
+ghost use Rattle.fallible_contract.specs.Closures.{call_on};
 ghost use Rattle.fallible_core.specs.OneToOne.Map.{MapTrace, map_parts};
 ghost use Rattle.fallible_core.specs.OneToOne.Inspect.{InspectTrace, inspect_parts};
 ghost use Rattle.fallible_core.specs.OneToOne.Scan.{ScanTrace, scan_parts};

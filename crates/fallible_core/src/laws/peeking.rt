@@ -1,5 +1,5 @@
 // The whole-trace law of the adapter that looks ahead.
-ghost use Rattle.fallible_core.specs.Definitions.{MeetsHeld};
+ghost use Rattle.fallible_contract.specs.Definitions.{MeetsHeld};
 ghost use Rattle.fallible_core.specs.Peeking.Peekable.{peekable_parts, PeekableTrace};
 
 use crate::peeking::Peekable;

@@ -1,6 +1,6 @@
 // What a number to come means.
 ghost use Rattle.std.specs.Prelude.{ℕ, ◌≤◌, List};
-ghost use Rattle.fallible_core.specs.Traces.{Answered, Run, items_in};
+ghost use Rattle.fallible_contract.specs.Traces.{Answered, Run, items_in};
 
 use crate::traits::FallibleIterator;
 

@@ -1,8 +1,8 @@
 // The adapter that clones what each item points to.
 ghost use Rattle.std.specs.Prelude.{Some, Result, Option};
-ghost use Rattle.fallible_core.specs.Contract.{seen_as};
+ghost use Rattle.fallible_contract.specs.Contract.{seen_as};
 ghost use Rattle.fallible_core.specs.OneToOne.Cloned.{cloned_contract, cloned_parts};
-ghost use Rattle.fallible_core.specs.Laws.Contract.{lawful_seen};
+ghost use Rattle.fallible_contract.specs.Laws.Contract.{lawful_seen};
 ghost use Rattle.fallible_core.specs.Laws.OneToOne.Cloned.{lawful_cloned};
 
 use crate::traits::FallibleIterator;

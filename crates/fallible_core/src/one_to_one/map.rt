@@ -1,8 +1,8 @@
 // The adapter that calls a closure on each item.
 ghost use Rattle.std.specs.Prelude.{Some, Result, Option};
-ghost use Rattle.fallible_core.specs.Contract.{seen_as};
+ghost use Rattle.fallible_contract.specs.Contract.{seen_as};
 ghost use Rattle.fallible_core.specs.OneToOne.Map.{map_contract, map_parts};
-ghost use Rattle.fallible_core.specs.Laws.Contract.{lawful_seen};
+ghost use Rattle.fallible_contract.specs.Laws.Contract.{lawful_seen};
 ghost use Rattle.fallible_core.specs.Laws.OneToOne.Map.{lawful_map};
 
 use crate::traits::FallibleIterator;

@@ -2,7 +2,7 @@
 ghost use Rattle.std.specs.Prelude.{◌≡◌, ⊤, Result, Option, None, Ok, Err, MatchResult, option_copied};
 ghost use Rattle.std.specs.Borrow.{sem, follows_so};
 ghost use mathlib.Core.Option.{none};
-ghost use Rattle.fallible_core.specs.Contract.{Stays};
+ghost use Rattle.fallible_contract.specs.Contract.{Stays};
 ghost use Rattle.fallible_core.specs.Peeking.Peekable.{peekable_contract, seen, held_item, Fills, Peeks, Looks, IsTestable, peekable_parts};
 ghost use Rattle.fallible_core.specs.contracts.peeking.peekable.Peekable.{the_row};
 

@@ -1,11 +1,11 @@
 // The adapter that looks ahead.
 ghost use Rattle.std.specs.Prelude.{◌≡◌, Result, Option};
-ghost use Rattle.fallible_core.specs.Contract.{seen_as, Stays};
+ghost use Rattle.fallible_contract.specs.Contract.{seen_as, Stays};
 ghost use Rattle.fallible_core.specs.Peeking.Peekable.{peekable_contract, NextIf, TestedBy, IsTestable, peekable_parts};
-ghost use Rattle.fallible_core.specs.Laws.Contract.{lawful_seen};
+ghost use Rattle.fallible_contract.specs.Laws.Contract.{lawful_seen};
 ghost use Rattle.fallible_core.specs.Laws.Peeking.Peekable.{lawful_peekable};
 
-use crate::hints::one_more;
+use fallible_contract::hints::one_more;
 use crate::traits::FallibleIterator;
 
 /// The answers of the source, the next of which can be looked at ahead. An item or an end that was looked at is held, and comes first; a failure is not held.

@@ -1,7 +1,7 @@
 // A fallible iterator in a `Box` answers as it does itself.
 ghost use Rattle.std.specs.Prelude.{Result, Option};
-ghost use Rattle.fallible_core.specs.Contract.{seen_as};
-ghost use Rattle.fallible_core.specs.Laws.Contract.{lawful_seen};
+ghost use Rattle.fallible_contract.specs.Contract.{seen_as};
+ghost use Rattle.fallible_contract.specs.Laws.Contract.{lawful_seen};
 
 use crate::traits::FallibleIterator;
 

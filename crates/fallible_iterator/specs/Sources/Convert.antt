@@ -2,8 +2,8 @@
 use Rattle.std.specs.Prelude.{Option, List, Result, Ok, Err}
 use Rattle.std.specs.Iterator.{Count}
 use Rattle.fallible_iterator.specs.declared.sources.convert.Convert.{Convert}
-use Rattle.fallible_core.specs.Traces.{Answered}
-use Rattle.fallible_core.specs.Contract.{Contract}
+use Rattle.fallible_contract.specs.Traces.{Answered}
+use Rattle.fallible_contract.specs.Contract.{Contract}
 use Rattle.fallible_iterator.specs.Sources.Std.{StdTrace, std_contract}
 
 -- the std iterator

@@ -1,8 +1,8 @@
 -- `Empty`: only ends.
 use Rattle.std.specs.Prelude.{◌≡◌, ℕ, List, replicate, Some, ⊤}
 use Rattle.std.specs.Iterator.{at_most}
-use Rattle.fallible_core.specs.Traces.{Answered, end}
-use Rattle.fallible_core.specs.Contract.{Contract, no_names}
+use Rattle.fallible_contract.specs.Traces.{Answered, end}
+use Rattle.fallible_contract.specs.Contract.{Contract, no_names}
 
 -- `Empty`: only ends.
 abbrev pub EmptyTrace : {A E : Type 0} → List (Answered A E) → Type 0

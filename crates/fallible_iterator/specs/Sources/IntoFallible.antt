@@ -3,8 +3,8 @@ use Rattle.std.specs.Prelude.{Option, List}
 use Rattle.std.specs.Iterator.{Count}
 use Rattle.std.specs.declared.convert.Infallible.{Infallible}
 use Rattle.fallible_iterator.specs.declared.sources.into_fallible.IntoFallible.{IntoFallible}
-use Rattle.fallible_core.specs.Traces.{Answered}
-use Rattle.fallible_core.specs.Contract.{Contract}
+use Rattle.fallible_contract.specs.Traces.{Answered}
+use Rattle.fallible_contract.specs.Contract.{Contract}
 use Rattle.fallible_iterator.specs.Sources.Std.{StdTrace, std_contract}
 
 abbrev pub into_fallible_parts : {I : Type 0} → IntoFallible I → I

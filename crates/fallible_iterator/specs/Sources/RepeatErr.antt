@@ -3,9 +3,9 @@ use Rattle.std.specs.Prelude.{Some, ◌≡◌, List, Ok, Err, ⊤, ◌⊎◌, Al
 use Rattle.std.specs.Iterator.{endless}
 use Rattle.std.specs.declared.alloc.AllocError.{AllocError}
 use Rattle.fallible_iterator.specs.declared.sources.repeat_err.RepeatErr.{RepeatErr}
-use Rattle.fallible_core.specs.Traces.{Answered, failure}
-use Rattle.fallible_core.specs.Contract.{Contract, no_names}
-use Rattle.fallible_core.specs.Refusals.{RefusedAs}
+use Rattle.fallible_contract.specs.Traces.{Answered, failure}
+use Rattle.fallible_contract.specs.Contract.{Contract, no_names}
+use Rattle.fallible_contract.specs.Refusals.{RefusedAs}
 
 abbrev pub repeat_err_parts : {T E : Type 0} → RepeatErr T E → E
 repeat_err_parts s = s.error

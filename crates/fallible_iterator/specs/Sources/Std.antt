@@ -3,8 +3,8 @@ use Rattle.std.specs.Prelude.{◌≤◌, List, map, Option, Some, None, Ok, Err,
 use Rattle.std.specs.Iterator.{Count, IsFinite, size, UpTo, MakesProgress}
 use Rattle.std.specs.Iterator.SizeHint.{IsWithinCount}
 use Rattle.std.specs.List.{FoldsTo}
-use Rattle.fallible_core.specs.Traces.{Answered, Run, item, failure}
-use Rattle.fallible_core.specs.Contract.{Contract, no_names}
+use Rattle.fallible_contract.specs.Traces.{Answered, Run, item, failure}
+use Rattle.fallible_contract.specs.Contract.{Contract, no_names}
 
 -- The std iterator's answer that an answer comes from: an element for an item or a failure, none for an end.
 abbrev pub element_by : {A E Z : Type 0} → (A → Z) → (E → Z) → Answered A E → Option Z

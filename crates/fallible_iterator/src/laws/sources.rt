@@ -1,11 +1,11 @@
 //! What a trace of each source is.
-ghost use Rattle.fallible_core.specs.Definitions.{MeetsHeld};
-ghost use Rattle.fallible_core.specs.Traces.{item, failure};
+ghost use Rattle.fallible_contract.specs.Definitions.{MeetsHeld};
+ghost use Rattle.fallible_contract.specs.Traces.{item, failure};
 ghost use Rattle.fallible_iterator.specs.Sources.Convert.{ConvertTrace, convert_parts};
 ghost use Rattle.fallible_iterator.specs.Sources.IntoFallible.{IntoFallibleTrace, into_fallible_parts};
 ghost use Rattle.fallible_iterator.specs.Sources.FromFn.{FromFnTrace, from_fn_parts};
 ghost use Rattle.fallible_iterator.specs.Sources.Empty.{EmptyTrace};
-ghost use Rattle.fallible_core.specs.Held.{OnceTrace};
+ghost use Rattle.fallible_contract.specs.Held.{OnceTrace};
 ghost use Rattle.fallible_iterator.specs.Sources.Repeat.{RepeatTrace, repeat_parts};
 ghost use Rattle.fallible_iterator.specs.Sources.RepeatErr.{RepeatErrTrace, repeat_err_parts};
 ghost use Rattle.fallible_iterator.specs.Sources.Once.{once_parts};

@@ -1,8 +1,8 @@
 // The fallible iterator of a std iterator over results.
 ghost use Rattle.std.specs.Prelude.{Some, Ok, Err, Result, Option};
-ghost use Rattle.fallible_core.specs.Contract.{seen_as};
+ghost use Rattle.fallible_contract.specs.Contract.{seen_as};
 ghost use Rattle.fallible_iterator.specs.Sources.Convert.{convert_contract, convert_parts};
-ghost use Rattle.fallible_core.specs.Laws.Contract.{lawful_seen};
+ghost use Rattle.fallible_contract.specs.Laws.Contract.{lawful_seen};
 ghost use Rattle.fallible_iterator.specs.Laws.Sources.Std.{lawful_std};
 
 use fallible_core::FallibleIterator;

@@ -1,15 +1,15 @@
 //! The functions that make sources.
 ghost use Rattle.std.specs.Prelude.{◌≡◌, Some, None, Ok, Err, List, [], ◌∷◌, Result, ⊤};
 ghost use Rattle.fallible_iterator.specs.Sources.Convert.{convert_parts, convert_contract};
-ghost use Rattle.fallible_core.specs.Contract.{seen_as};
-ghost use Rattle.fallible_core.specs.Lists.{Lists, RunsRead, Repeats, results, items};
+ghost use Rattle.fallible_contract.specs.Contract.{seen_as};
+ghost use Rattle.fallible_contract.specs.Lists.{Lists, RunsRead, Repeats, results, items};
 ghost use Rattle.fallible_iterator.specs.Sources.FromFn.{from_fn_parts, call_of_none};
 ghost use Rattle.fallible_iterator.specs.Sources.Once.{once_parts, once_contract};
 ghost use Rattle.fallible_iterator.specs.Sources.Empty.{empty_contract};
 ghost use Rattle.fallible_iterator.specs.Sources.OnceErr.{once_err_parts, once_err_contract};
 ghost use Rattle.fallible_iterator.specs.Sources.Repeat.{repeat_parts, repeat_contract};
 ghost use Rattle.fallible_iterator.specs.Sources.RepeatErr.{repeat_err_parts, repeat_err_contract};
-ghost use Rattle.fallible_core.specs.Closures.{IsCallable};
+ghost use Rattle.fallible_contract.specs.Closures.{IsCallable};
 
 use crate::sources::{Convert, Empty, FromFn, Once, OnceErr, Repeat, RepeatErr};
 use std::alloc::AllocError;

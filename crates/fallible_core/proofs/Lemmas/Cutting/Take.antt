@@ -3,10 +3,10 @@ use Rattle.std.specs.Prelude.{ℕ, Some, ◌≡◌, zero, suc, ◌+◌, ◌<◌,
 use Rattle.std.specs.declared.result.Result.{Result}
 use Rattle.std.proofs.Common.{refl, ap, subst, arith}
 use Rattle.fallible_core.specs.declared.cutting.take.Take.{Take}
-use Rattle.fallible_core.specs.Contract.{Contract, seen_as}
-use Rattle.fallible_core.specs.Lists.{AlwaysGives, Lists, Repeats, taken, repeated}
-use Rattle.fallible_core.proofs.Lemmas.Lists.Passing.{lists_seen}
-use Rattle.fallible_core.specs.Traces.{Answered, Run, end, items_in}
+use Rattle.fallible_contract.specs.Contract.{Contract, seen_as}
+use Rattle.fallible_contract.specs.Lists.{AlwaysGives, Lists, Repeats, taken, repeated}
+use Rattle.fallible_contract.proofs.Lemmas.Lists.Passing.{lists_seen}
+use Rattle.fallible_contract.specs.Traces.{Answered, Run, end, items_in}
 use Rattle.fallible_core.specs.Cutting.Take.{TakeTrace, take_step, take_parts, take_contract}
 
 module _ {A E : Type 0} where

@@ -4,11 +4,11 @@ use Rattle.std.proofs.Common.{refl, ap, ◌∙◌}
 use Rattle.std.specs.Fn.{Mut}
 use Rattle.std.specs.Borrow.{Bor}
 use Rattle.fallible_core.specs.declared.filtering.filter.Filter.{Filter}
-use Rattle.fallible_core.specs.Contract.{Contract, seen_as}
-use Rattle.fallible_core.specs.Closures.{call_at}
+use Rattle.fallible_contract.specs.Contract.{Contract, seen_as}
+use Rattle.fallible_contract.specs.Closures.{call_at}
 use Rattle.fallible_core.specs.Filtering.Filter.{filter_outcome, filter_parts, filter_contract}
-use Rattle.fallible_core.specs.Lists.{Lists, Acts, cons_if, filtered}
-use Rattle.fallible_core.proofs.Lemmas.Lists.Passing.{passed, by_outcome, lists_seen, lists_passed}
+use Rattle.fallible_contract.specs.Lists.{Lists, Acts, cons_if, filtered}
+use Rattle.fallible_contract.proofs.Lemmas.Lists.Passing.{passed, by_outcome, lists_seen, lists_passed}
 
 outcome_listed : {X E : Type 0} (x : X) (v : Result Bool E) (l : List (Result X E)) → by_outcome (filter_outcome x v) l ≡ cons_if x v l
 outcome_listed x (Ok true) l = refl

@@ -3,11 +3,11 @@ use Rattle.std.specs.Prelude.{◌≡◌, Option, Result, Ok, Err, List, [], ◌�
 use Rattle.std.proofs.Common.{refl, ap, ◌∙◌}
 use Rattle.std.specs.Fn.{Mut}
 use Rattle.fallible_core.specs.declared.filtering.filter_map.FilterMap.{FilterMap}
-use Rattle.fallible_core.specs.Contract.{Contract, seen_as}
-use Rattle.fallible_core.specs.Closures.{call_on}
+use Rattle.fallible_contract.specs.Contract.{Contract, seen_as}
+use Rattle.fallible_contract.specs.Closures.{call_on}
 use Rattle.fallible_core.specs.Filtering.FilterMap.{filter_map_outcome, filter_map_parts, filter_map_contract}
-use Rattle.fallible_core.specs.Lists.{Lists, Acts, cons_some, filter_mapped}
-use Rattle.fallible_core.proofs.Lemmas.Lists.Passing.{passed, by_outcome, lists_seen, lists_passed}
+use Rattle.fallible_contract.specs.Lists.{Lists, Acts, cons_some, filter_mapped}
+use Rattle.fallible_contract.proofs.Lemmas.Lists.Passing.{passed, by_outcome, lists_seen, lists_passed}
 
 outcome_listed : {X B E : Type 0} (x : X) (v : Result (Option B) E) (l : List (Result B E)) → by_outcome (filter_map_outcome x v) l ≡ cons_some v l
 outcome_listed x (Ok (Some y)) l = refl

@@ -3,18 +3,18 @@ use Rattle.std.specs.Prelude.{◌≡◌, false, List, [], ◌∷◌, ◌++◌, m
 use Rattle.std.specs.List.{FoldsTo, flat_map}
 use Rattle.std.proofs.Common.{refl, sym, ◌∙◌, ap, subst}
 use Rattle.std.proofs.lemmas.List.{append-nil}
-use Rattle.fallible_core.specs.declared.folds.Exit.{Exit}
-use Rattle.fallible_core.specs.Traces.{Answered, Run, item, failure, end, is_end}
-use Rattle.fallible_core.specs.Contract.{Contract, Lawful, seen_as}
+use Rattle.fallible_contract.specs.declared.folds.Exit.{Exit}
+use Rattle.fallible_contract.specs.Traces.{Answered, Run, item, failure, end, is_end}
+use Rattle.fallible_contract.specs.Contract.{Contract, Lawful, seen_as}
 use Rattle.fallible_core.specs.declared.one_to_one.map.Map.{Map}
 use Rattle.fallible_core.specs.declared.joining.flatten.Flatten.{Flatten}
 use Rattle.fallible_core.specs.declared.joining.flatten.FlatMap.{FlatMap}
-use Rattle.fallible_core.specs.Lists.{AlwaysGives, Lists, EachLists, result_answer, chained, flattened}
-use Rattle.fallible_core.proofs.Lemmas.Lists.Passing.{gives_if, lists_seen}
+use Rattle.fallible_contract.specs.Lists.{AlwaysGives, Lists, EachLists, result_answer, chained, flattened}
+use Rattle.fallible_contract.proofs.Lemmas.Lists.Passing.{gives_if, lists_seen}
 use Rattle.fallible_core.proofs.Lemmas.Joining.Chain.{not_end}
-use Rattle.fallible_core.specs.Folds.{HoldsAtEachTurn, carrying_turn, CarryingExit, Carried, stopped_answer, unpacked}
-use Rattle.fallible_core.proofs.Lemmas.Definitions.{FirstOf, IsByAnswers}
-use Rattle.fallible_core.proofs.Lemmas.Contract.{given_after}
+use Rattle.fallible_contract.specs.Folds.{HoldsAtEachTurn, carrying_turn, CarryingExit, Carried, stopped_answer, unpacked}
+use Rattle.fallible_contract.proofs.Lemmas.Definitions.{FirstOf, IsByAnswers}
+use Rattle.fallible_contract.proofs.Lemmas.Contract.{given_after}
 use Rattle.fallible_core.specs.Joining.Flatten.{flatten_parts, flat_map_parts, flatten_contract, FlattenTrace, BeginTurn, EachInner, Part, of_inner, of_failure, of_end, outer_answer, part_answers, Finished, FinishedPart, LastPart, FinishedInHand, Joined, FlattenAnswers, nothing_drawn, still_in_hand, outer_drawn}
 use Rattle.fallible_core.specs.Laws.Joining.Flatten.{Flattens, done, gives, fails, finishes, begins, outer_fails, outer_ends, to_flattens}
 

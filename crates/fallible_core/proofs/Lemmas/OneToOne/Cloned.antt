@@ -4,11 +4,11 @@ use Rattle.std.specs.Borrow.{Bor}
 use Rattle.std.specs.declared.alloc.AllocError.{AllocError}
 use Rattle.std.proofs.Common.{refl, ap}
 use Rattle.fallible_core.specs.declared.one_to_one.cloned.Cloned.{Cloned}
-use Rattle.fallible_core.specs.Contract.{Contract, seen_as}
+use Rattle.fallible_contract.specs.Contract.{Contract, seen_as}
 use Rattle.fallible_core.specs.OneToOne.Map.{map_outcome}
 use Rattle.fallible_core.specs.OneToOne.Cloned.{cloned_call, cloned_parts, cloned_contract}
-use Rattle.fallible_core.specs.Lists.{Lists, pointed_to}
-use Rattle.fallible_core.proofs.Lemmas.Lists.Passing.{passed, all_given, lists_seen}
+use Rattle.fallible_contract.specs.Lists.{Lists, pointed_to}
+use Rattle.fallible_contract.proofs.Lemmas.Lists.Passing.{passed, all_given, lists_seen}
 
 pointed_to_is : {T E : Type 0} (l : List (Result (Bor T) E)) → passed map_outcome (λ (p : Unit {0}) (x : Bor T). Ok x.now) (λ p x. p) tt l ≡ pointed_to l
 unfolding pointed_to

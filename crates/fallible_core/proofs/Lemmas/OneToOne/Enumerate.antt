@@ -2,13 +2,13 @@
 use Rattle.std.specs.Prelude.{◌≡◌, ℕ, ◌+◌, List, [], ◌∷◌, Result, Some, None, Ok, Err}
 use Rattle.std.proofs.Common.{refl, sym, ap, subst, arith}
 use Rattle.fallible_core.specs.declared.one_to_one.enumerate.Enumerate.{Enumerate}
-use Rattle.fallible_core.specs.Contract.{Contract, seen_as}
-use Rattle.fallible_core.specs.Lists.{AlwaysGives, Lists, numbered}
-use Rattle.fallible_core.proofs.Lemmas.Lists.Passing.{lists_seen}
-use Rattle.fallible_core.specs.Traces.{Answered, item}
+use Rattle.fallible_contract.specs.Contract.{Contract, seen_as}
+use Rattle.fallible_contract.specs.Lists.{AlwaysGives, Lists, numbered}
+use Rattle.fallible_contract.proofs.Lemmas.Lists.Passing.{lists_seen}
+use Rattle.fallible_contract.specs.Traces.{Answered, item}
 use Rattle.fallible_core.specs.OneToOne.Enumerate.{EnumerateTrace, enumerate_parts, enumerate_contract}
 use Rattle.fallible_core.specs.Laws.OneToOne.Enumerate.{Numbered, numbered_none, numbered_item, numbered_end, numbered_failure, to_numbered}
-use Rattle.fallible_core.proofs.Lemmas.Definitions.{FirstOf, IsByAnswers}
+use Rattle.fallible_contract.proofs.Lemmas.Definitions.{FirstOf, IsByAnswers}
 
 module _ {S A E : Type 0} (steps : S → Answered A E → S → Type 0) where
   abbrev M : S → ℕ → List (Answered (ℕ × A) E) → S → ℕ → Type 0

@@ -4,11 +4,11 @@ use Rattle.std.proofs.Common.{refl, ap, ◌∙◌}
 use Rattle.std.specs.Fn.{Mut}
 use Rattle.std.specs.Borrow.{Bor}
 use Rattle.fallible_core.specs.declared.one_to_one.inspect.Inspect.{Inspect}
-use Rattle.fallible_core.specs.Contract.{Contract, seen_as}
-use Rattle.fallible_core.specs.Closures.{call_at}
+use Rattle.fallible_contract.specs.Contract.{Contract, seen_as}
+use Rattle.fallible_contract.specs.Closures.{call_at}
 use Rattle.fallible_core.specs.OneToOne.Inspect.{inspect_outcome, inspect_parts, inspect_contract}
-use Rattle.fallible_core.specs.Lists.{Lists, Acts, once_seen, inspected}
-use Rattle.fallible_core.proofs.Lemmas.Lists.Passing.{passed, by_outcome, lists_seen, lists_passed}
+use Rattle.fallible_contract.specs.Lists.{Lists, Acts, once_seen, inspected}
+use Rattle.fallible_contract.proofs.Lemmas.Lists.Passing.{passed, by_outcome, lists_seen, lists_passed}
 
 outcome_listed : {X E : Type 0} (x : X) (v : Result (Unit {0}) E) (l : List (Result X E)) → by_outcome (inspect_outcome x v) l ≡ once_seen x v ∷ l
 outcome_listed x (Ok u) l = refl

@@ -3,14 +3,14 @@ use Rattle.std.specs.Prelude.{◌≡◌, List, [], ◌∷◌, Result, Some, None
 use Rattle.std.specs.Fn.{Mut}
 use Rattle.std.proofs.Common.{refl, sym, ap, subst, ◌∙◌}
 use Rattle.fallible_core.specs.declared.one_to_one.map_err.MapErr.{MapErr}
-use Rattle.fallible_core.specs.Closures.{call_on}
-use Rattle.fallible_core.specs.Contract.{Contract, seen_as}
-use Rattle.fallible_core.specs.Lists.{AlwaysGives, Lists, Acts, failures_mapped}
-use Rattle.fallible_core.proofs.Lemmas.Lists.Passing.{lists_seen}
-use Rattle.fallible_core.specs.Traces.{Answered, item}
+use Rattle.fallible_contract.specs.Closures.{call_on}
+use Rattle.fallible_contract.specs.Contract.{Contract, seen_as}
+use Rattle.fallible_contract.specs.Lists.{AlwaysGives, Lists, Acts, failures_mapped}
+use Rattle.fallible_contract.proofs.Lemmas.Lists.Passing.{lists_seen}
+use Rattle.fallible_contract.specs.Traces.{Answered, item}
 use Rattle.fallible_core.specs.OneToOne.MapErr.{item_here, asked_of, end_here, MapErrTrace, map_err_parts, map_err_contract}
 use Rattle.fallible_core.specs.Laws.OneToOne.MapErr.{Mapped, mapped_none, mapped_item, mapped_end, mapped_failure, to_mapped}
-use Rattle.fallible_core.proofs.Lemmas.Definitions.{FirstOf, IsByAnswers}
+use Rattle.fallible_contract.proofs.Lemmas.Definitions.{FirstOf, IsByAnswers}
 
 module _ {S F X D E : Type 0} (steps : S → Answered X D → S → Type 0) (call : F → D → E → F → Type 0) where
   abbrev M : S → F → List (Answered X E) → S → F → Type 0

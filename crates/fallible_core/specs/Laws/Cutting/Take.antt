@@ -1,8 +1,8 @@
 -- The contract of `Take` is lawful where the source's is.
 use Rattle.std.specs.Prelude.{◌≡◌, ℕ, zero, suc, ◌+◌, [], ◌∷◌, Some, None, Ok, Err}
 use Rattle.std.proofs.Common.{arith, inl, inr, refl}
-use Rattle.fallible_core.specs.Traces.{Answered, end, items_in}
-use Rattle.fallible_core.specs.Contract.{Contract, OnAnswer, Goes, Lawful}
+use Rattle.fallible_contract.specs.Traces.{Answered, end, items_in}
+use Rattle.fallible_contract.specs.Contract.{Contract, OnAnswer, Goes, Lawful}
 use Rattle.fallible_core.specs.Cutting.Take.{take_contract}
 
 module _ {S A E : Type 0} (m : Contract S A E) where

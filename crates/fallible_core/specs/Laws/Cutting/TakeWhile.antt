@@ -3,15 +3,15 @@ use Rattle.std.specs.Prelude.{[], ◌∷◌, Option, Result, Ok, Err, Bool, true
 use Rattle.std.specs.Fn.{Mut}
 use Rattle.std.specs.Borrow.{Bor}
 use Rattle.std.proofs.Common.{refl, sym, subst}
-use Rattle.fallible_core.specs.Traces.{item, failure, end}
-use Rattle.fallible_core.specs.Contract.{Contract, Goes, Lawful}
-use Rattle.fallible_core.specs.Closures.{Calls, call_in, IsCallableIn, call_at, takes_at}
-use Rattle.fallible_core.specs.Passing.{Place, asked, failure_at, end_at, passing}
-use Rattle.fallible_core.specs.Hints.{upper_alone}
+use Rattle.fallible_contract.specs.Traces.{item, failure, end}
+use Rattle.fallible_contract.specs.Contract.{Contract, Goes, Lawful}
+use Rattle.fallible_contract.specs.Closures.{Calls, call_in, IsCallableIn, call_at, takes_at}
+use Rattle.fallible_contract.specs.Passing.{Place, asked, failure_at, end_at, passing}
+use Rattle.fallible_contract.specs.Hints.{upper_alone}
 use Rattle.fallible_core.specs.Cutting.TakeWhile.{take_while_outcome, taken_answer, is_refused, place_drawn, take_while_contract}
-use Rattle.fallible_core.specs.Laws.Closures.{callable_in_after}
-use Rattle.fallible_core.specs.Laws.Passing.{lawful_passing, passes_closing, passes_item, passes_refusal, passes_end, passes_failure}
-use Rattle.fallible_core.specs.Laws.Closing.{lawful_closing}
+use Rattle.fallible_contract.specs.Laws.Closures.{callable_in_after}
+use Rattle.fallible_contract.specs.Laws.Passing.{lawful_passing, passes_closing, passes_item, passes_refusal, passes_end, passes_failure}
+use Rattle.fallible_contract.specs.Laws.Closing.{lawful_closing}
 
 module _ {S F X E : Type 0} (m : Contract S X E) (l : Lawful m) (g : Mut F (Bor X × Unit {0}) (Result Bool E)) where
   abbrev N : Contract (S × Option F) X E

@@ -2,12 +2,12 @@
 use Rattle.std.specs.Prelude.{Result, Bool}
 use Rattle.std.specs.Fn.{Mut}
 use Rattle.std.specs.Borrow.{Bor}
-use Rattle.fallible_core.specs.Contract.{Contract, Lawful}
-use Rattle.fallible_core.specs.Closures.{call_at, takes_at, call_in, IsCallableIn}
-use Rattle.fallible_core.specs.Laws.Closures.{callable_in_after}
-use Rattle.fallible_core.specs.Hints.{upper_alone}
+use Rattle.fallible_contract.specs.Contract.{Contract, Lawful}
+use Rattle.fallible_contract.specs.Closures.{call_at, takes_at, call_in, IsCallableIn}
+use Rattle.fallible_contract.specs.Laws.Closures.{callable_in_after}
+use Rattle.fallible_contract.specs.Hints.{upper_alone}
 use Rattle.fallible_core.specs.Filtering.Filter.{filter_outcome, filter_contract}
-use Rattle.fallible_core.specs.Laws.Passing.{lawful_leaving_out}
+use Rattle.fallible_contract.specs.Laws.Passing.{lawful_leaving_out}
 
 pub lawful_filter : {S F X E : Type 0} {m : Contract S X E} (g : Mut F (Bor X × Unit {0}) (Result Bool E)) → Lawful m → Lawful (filter_contract m g)
 lawful_filter {m = m} g l = lawful_leaving_out (call_in (call_at g)) (IsCallableIn (call_at g) (takes_at g)) filter_outcome (λ p h. upper_alone m p.0 h) (callable_in_after (call_at g) (takes_at g)) l

@@ -3,8 +3,8 @@ use Rattle.std.specs.Prelude.{◌≡◌, ℕ, ◌+◌, cond, T, Bool, true, fals
 use Rattle.std.proofs.Common.{arith, inl, inr, refl, ap₂}
 use Rattle.fallible_core.specs.declared.joining.chain.StillDrawn.{StillDrawn}
 use Rattle.fallible_core.specs.declared.joining.chain.StillDrawn.TheVariants.{Both, FrontAlone, BackAlone}
-use Rattle.fallible_core.specs.Traces.{Answered, end, is_end}
-use Rattle.fallible_core.specs.Contract.{Contract, OnAnswer, Goes, Lawful, names_of_both}
+use Rattle.fallible_contract.specs.Traces.{Answered, end, is_end}
+use Rattle.fallible_contract.specs.Contract.{Contract, OnAnswer, Goes, Lawful, names_of_both}
 use Rattle.fallible_core.specs.Joining.Chain.{chain_contract}
 
 -- a sum of counts is finite where both are

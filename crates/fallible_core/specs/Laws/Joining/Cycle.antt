@@ -2,10 +2,10 @@
 use Rattle.std.specs.Prelude.{Some, None, Ok, Err, ⊤}
 use Rattle.std.specs.declared.alloc.AllocError.{AllocError}
 use Rattle.std.proofs.Common.{refl, inl, inr}
-use Rattle.fallible_core.specs.Traces.{Answered, end}
-use Rattle.fallible_core.specs.Contract.{Contract, OnAnswer, Goes, Lawful}
+use Rattle.fallible_contract.specs.Traces.{Answered, end}
+use Rattle.fallible_contract.specs.Contract.{Contract, OnAnswer, Goes, Lawful}
 use Rattle.fallible_core.specs.Joining.Cycle.{CycleAnswer, cycle_contract}
-use Rattle.fallible_core.specs.Laws.ToCome.{bounds_fewer, bounds_failure, bounds_end, bound_stays}
+use Rattle.fallible_contract.specs.Laws.ToCome.{bounds_fewer, bounds_failure, bounds_end, bound_stays}
 
 module _ {S A E : Type 0} (is_clone : S → S → Type 0) (is_infallible : S → Type 0) (from : AllocError → E → Type 0) (m : Contract S A E) where
   abbrev C : Contract (S × S) A E

@@ -4,9 +4,9 @@ use Rattle.std.specs.List.{flat_map}
 use Rattle.std.proofs.Common.{refl, sym, ap, subst, arith, inl, inr}
 use Rattle.std.proofs.lemmas.List.{append-nil}
 use Rattle.std.proofs.Math.Nat.{mul-suc, mul-le-mul_left}
-use Rattle.fallible_core.specs.Traces.{Answered, Run, item, failure, end, NoEnd}
-use Rattle.fallible_core.specs.Contract.{Contract, OnAnswer, Goes, Stays, Lawful}
-use Rattle.fallible_core.specs.Laws.Contract.{no_more, goes_later}
+use Rattle.fallible_contract.specs.Traces.{Answered, Run, item, failure, end, NoEnd}
+use Rattle.fallible_contract.specs.Contract.{Contract, OnAnswer, Goes, Stays, Lawful}
+use Rattle.fallible_contract.specs.Laws.Contract.{no_more, goes_later}
 use Rattle.fallible_core.specs.Joining.Flatten.{flatten_contract, NumberInHand, SomeInner, EachInner, FlattenNumber, Part, of_inner, of_failure, of_end, outer_answer, part_answers, Finished, FinishedParts, LastPart, FinishedInHand, Joined, FlattenAnswers, nothing_drawn, still_in_hand, outer_drawn}
 
 module _ {S X C B E : Type 0} (outer : S → Answered X E → S → Type 0) (into : X → C → Type 0) (inner : C → Answered B E → C → Type 0) where

@@ -1,10 +1,10 @@
 -- The contract of `Zip` is lawful where those of both sides are.
 use Rattle.std.specs.Prelude.{ℕ, Option, Some, None, Ok, Err, ◌↔◌}
 use Rattle.std.proofs.Common.{arith, inl, inr, refl, ap₂}
-use Rattle.fallible_core.specs.Traces.{Answered, item, failure}
-use Rattle.fallible_core.specs.Contract.{Contract, NoMore, OnAnswer, Goes, Lawful, names_of_both}
+use Rattle.fallible_contract.specs.Traces.{Answered, item, failure}
+use Rattle.fallible_contract.specs.Contract.{Contract, NoMore, OnAnswer, Goes, Lawful, names_of_both}
 use Rattle.fallible_core.specs.Joining.Zip.{ZipPlace, left_failed, both_drawn, left_answer, zip_answer, right_step, zip_contract}
-use Rattle.fallible_core.specs.Laws.Contract.{no_more}
+use Rattle.fallible_contract.specs.Laws.Contract.{no_more}
 
 module _ {S U A B E : Type 0} (left : Contract S A E) (right : Contract U B E) where
   abbrev Z : Contract (S × U) (A × B) E

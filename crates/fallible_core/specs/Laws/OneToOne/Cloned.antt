@@ -2,10 +2,10 @@
 use Rattle.std.specs.Prelude.{⊤}
 use Rattle.std.specs.Borrow.{Bor}
 use Rattle.std.specs.declared.alloc.AllocError.{AllocError}
-use Rattle.fallible_core.specs.Contract.{Contract, Lawful}
+use Rattle.fallible_contract.specs.Contract.{Contract, Lawful}
 use Rattle.fallible_core.specs.OneToOne.Map.{map_outcome}
 use Rattle.fallible_core.specs.OneToOne.Cloned.{cloned_call, cloned_contract}
-use Rattle.fallible_core.specs.Laws.Passing.{lawful_passing}
+use Rattle.fallible_contract.specs.Laws.Passing.{lawful_passing}
 
 pub lawful_cloned : {S T E : Type 0} {m : Contract S (Bor T) E} (is_clone : T → T → Type 0) (is_infallible : T → Type 0) (from : AllocError → E → Type 0) → Lawful m → Lawful (cloned_contract is_clone is_infallible from m)
 lawful_cloned {m = m} is_clone is_infallible from l = lawful_passing (cloned_call is_clone is_infallible from) (λ P u. ⊤) map_outcome (λ p h. m.hints p.0 h) (λ P Q u v weak reached c. tt) l

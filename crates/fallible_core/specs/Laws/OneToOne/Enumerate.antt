@@ -1,8 +1,8 @@
 -- The contract of `Enumerate` is lawful where the source's is.
 use Rattle.std.specs.Prelude.{◌≡◌, ℕ, ◌+◌, List, [], ◌∷◌, Some, None, Ok, Err}
 use Rattle.std.proofs.Common.{sym, subst, arith}
-use Rattle.fallible_core.specs.Traces.{Answered, Run, item, items_in}
-use Rattle.fallible_core.specs.Contract.{Contract, Goes, Lawful}
+use Rattle.fallible_contract.specs.Traces.{Answered, Run, item, items_in}
+use Rattle.fallible_contract.specs.Contract.{Contract, Goes, Lawful}
 use Rattle.fallible_core.specs.OneToOne.Enumerate.{numbered_from, EnumerateTrace, enumerate_contract}
 
 module _ {S A E : Type 0} (steps : S → Answered A E → S → Type 0) where

@@ -3,11 +3,11 @@ use Rattle.std.specs.Prelude.{List, [], ◌∷◌, map, None, Ok, Err, ◌≡◌
 use Rattle.std.specs.List.{filter_map}
 use Rattle.std.specs.Fn.{Mut}
 use Rattle.std.proofs.Common.{refl, sym, subst}
-use Rattle.fallible_core.specs.Traces.{Answered, Run, item}
-use Rattle.fallible_core.specs.Contract.{Contract, OnAnswer, Goes, Lawful}
-use Rattle.fallible_core.specs.Closures.{Calls, Reaches, call_on}
+use Rattle.fallible_contract.specs.Traces.{Answered, Run, item}
+use Rattle.fallible_contract.specs.Contract.{Contract, OnAnswer, Goes, Lawful}
+use Rattle.fallible_contract.specs.Closures.{Calls, Reaches, call_on}
 use Rattle.fallible_core.specs.OneToOne.MapErr.{FailurePlace, item_here, asked_of, end_here, source_answer, failure_call, mapped_answer, MapErrTrace, map_err_contract}
-use Rattle.fallible_core.specs.Laws.Closures.{reaches_here, reaches_from, callable_after, may_answer_here, may_answer_after}
+use Rattle.fallible_contract.specs.Laws.Closures.{reaches_here, reaches_from, callable_after, may_answer_here, may_answer_after}
 
 module _ {S F X D E : Type 0} (steps : S → Answered X D → S → Type 0) (call : F → D → E → F → Type 0) where
   -- the same as `MapErrTrace`, built from the first answer on

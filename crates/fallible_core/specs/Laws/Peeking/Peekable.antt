@@ -1,8 +1,8 @@
 -- The contract of `Peekable` is lawful where the source's is.
 use Rattle.std.specs.Prelude.{◌+◌, Option, Some, None, Ok, Err}
 use Rattle.std.proofs.Common.{refl, arith, inl, inr}
-use Rattle.fallible_core.specs.Traces.{Answered}
-use Rattle.fallible_core.specs.Contract.{Contract, OnAnswer, Goes, Lawful}
+use Rattle.fallible_contract.specs.Traces.{Answered}
+use Rattle.fallible_contract.specs.Contract.{Contract, OnAnswer, Goes, Lawful}
 use Rattle.fallible_core.specs.Peeking.Peekable.{held_items, peekable_contract}
 
 module _ {S A E : Type 0} (m : Contract S A E) where

@@ -2,14 +2,14 @@
 use Rattle.std.specs.Prelude.{◌≡◌, Option, Some, None, Result, Ok, Err, List, [], ◌∷◌, map}
 use Rattle.std.proofs.Common.{refl, ap}
 use Rattle.std.specs.Iterator.{Count}
-use Rattle.fallible_core.specs.Traces.{Answered}
+use Rattle.fallible_contract.specs.Traces.{Answered}
 use Rattle.fallible_iterator.specs.declared.sources.convert.Convert.{Convert}
-use Rattle.fallible_core.specs.Contract.{seen_as}
+use Rattle.fallible_contract.specs.Contract.{seen_as}
 use Rattle.fallible_iterator.specs.Sources.Std.{element_by}
 use Rattle.fallible_iterator.specs.Sources.Convert.{convert_parts, convert_contract}
-use Rattle.fallible_core.specs.Lists.{Lists, RunsRead, result_answer, results, items}
+use Rattle.fallible_contract.specs.Lists.{Lists, RunsRead, result_answer, results, items}
 use Rattle.fallible_iterator.proofs.Lemmas.Sources.Std.{gives_read}
-use Rattle.fallible_core.proofs.Lemmas.Lists.Passing.{lists_seen}
+use Rattle.fallible_contract.proofs.Lemmas.Lists.Passing.{lists_seen}
 
 results_are : {A E : Type 0} (l : List (Result A E)) → map (λ y. y) l ≡ results l
 unfolding results

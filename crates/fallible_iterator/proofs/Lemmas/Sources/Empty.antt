@@ -1,10 +1,10 @@
 -- The runs of ends alone, and what `Empty` lists.
 use Rattle.std.specs.Prelude.{◌≡◌, ℕ, List, [], ◌∷◌, replicate, ◌↔◌}
 use Rattle.std.proofs.Common.{refl, sym, subst, suc, zero}
-use Rattle.fallible_core.specs.Traces.{Answered, Run, end}
+use Rattle.fallible_contract.specs.Traces.{Answered, Run, end}
 use Rattle.fallible_iterator.specs.Sources.Empty.{EmptyTrace, empty_contract}
 use Rattle.fallible_iterator.specs.declared.sources.empty.Empty.{Empty}
-use Rattle.fallible_core.specs.Lists.{Lists}
+use Rattle.fallible_contract.specs.Lists.{Lists}
 
 -- ---- ends alone
 

@@ -3,13 +3,13 @@ use Rattle.std.specs.Prelude.{◌≡◌, Some, None, Result, Ok, Err, List, [], 
 use Rattle.std.specs.declared.alloc.AllocError.{AllocError}
 use Rattle.std.proofs.Common.{refl, sym, subst, ap, ◌∙◌, inl, inr}
 use Rattle.std.proofs.lemmas.List.Elements.{All-nil, All-cons, All-head, All-tail}
-use Rattle.fallible_core.specs.Traces.{Answered, Run}
+use Rattle.fallible_contract.specs.Traces.{Answered, Run}
 use Rattle.fallible_iterator.specs.declared.sources.repeat.Repeat.{Repeat}
 use Rattle.fallible_iterator.specs.declared.sources.repeat_err.RepeatErr.{RepeatErr}
-use Rattle.fallible_core.specs.Contract.{seen_as}
+use Rattle.fallible_contract.specs.Contract.{seen_as}
 use Rattle.fallible_iterator.specs.Sources.Repeat.{RepeatAnswer, repeat_parts, repeat_contract}
 use Rattle.fallible_iterator.specs.Sources.RepeatErr.{RepeatErrAnswer, repeat_err_parts, repeat_err_contract}
-use Rattle.fallible_core.specs.Lists.{Repeats, result_answer}
+use Rattle.fallible_contract.specs.Lists.{Repeats, result_answer}
 
 -- ---- one answer again and again
 

@@ -1,8 +1,8 @@
 -- The contract of `Empty` is lawful.
 use Rattle.std.specs.Prelude.{◌≡◌}
 use Rattle.std.proofs.Common.{sym, subst, arith, refl}
-use Rattle.fallible_core.specs.Traces.{Answered, end}
-use Rattle.fallible_core.specs.Contract.{Contract, Goes, Lawful}
+use Rattle.fallible_contract.specs.Traces.{Answered, end}
+use Rattle.fallible_contract.specs.Contract.{Contract, Goes, Lawful}
 use Rattle.fallible_iterator.specs.Sources.Empty.{empty_contract}
 
 module _ {S A E : Type 0} where

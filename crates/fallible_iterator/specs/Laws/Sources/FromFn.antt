@@ -2,11 +2,11 @@
 use Rattle.std.specs.Prelude.{Some, None, Ok, Err, ⊤}
 use Rattle.std.specs.Fn.{Called, Mut}
 use Rattle.std.proofs.Common.{refl}
-use Rattle.fallible_core.specs.Closures.{Reaches}
-use Rattle.fallible_core.specs.Laws.ToCome.{bounds_fewer, bounds_failure, bounds_end, bound_stays}
-use Rattle.fallible_core.specs.Laws.Closures.{reaches_here, reaches_from, callable_after, may_answer_here, may_answer_after}
-use Rattle.fallible_core.specs.Traces.{Answered, item, failure}
-use Rattle.fallible_core.specs.Contract.{Contract, OnAnswer, Lawful}
+use Rattle.fallible_contract.specs.Closures.{Reaches}
+use Rattle.fallible_contract.specs.Laws.ToCome.{bounds_fewer, bounds_failure, bounds_end, bound_stays}
+use Rattle.fallible_contract.specs.Laws.Closures.{reaches_here, reaches_from, callable_after, may_answer_here, may_answer_after}
+use Rattle.fallible_contract.specs.Traces.{Answered, item, failure}
+use Rattle.fallible_contract.specs.Contract.{Contract, OnAnswer, Lawful}
 use Rattle.fallible_iterator.specs.Sources.FromFn.{call_of_none, from_fn_contract}
 
 module _ {F A E : Type 0} (g : Mut F (Unit {0}) (Answered A E)) where

@@ -1,9 +1,9 @@
 -- The contract of `Once` is lawful.
 use Rattle.std.specs.Prelude.{Option, Some, None}
 use Rattle.std.proofs.Common.{refl, sym, subst, arith}
-use Rattle.fallible_core.specs.Traces.{Answered, item, end}
-use Rattle.fallible_core.specs.Contract.{Contract, Goes, Lawful}
-use Rattle.fallible_core.specs.Held.{held_count, once_step}
+use Rattle.fallible_contract.specs.Traces.{Answered, item, end}
+use Rattle.fallible_contract.specs.Contract.{Contract, Goes, Lawful}
+use Rattle.fallible_contract.specs.Held.{held_count, once_step}
 use Rattle.fallible_iterator.specs.Sources.Once.{once_contract}
 
 module _ {A E : Type 0} where

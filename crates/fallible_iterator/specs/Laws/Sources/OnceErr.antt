@@ -1,9 +1,9 @@
 -- The contract of `OnceErr` is lawful.
 use Rattle.std.specs.Prelude.{Option, Some, None}
 use Rattle.std.proofs.Common.{refl, sym, subst, arith}
-use Rattle.fallible_core.specs.Traces.{Answered, failure, end}
-use Rattle.fallible_core.specs.Contract.{Contract, Goes, Lawful}
-use Rattle.fallible_core.specs.Held.{once_step}
+use Rattle.fallible_contract.specs.Traces.{Answered, failure, end}
+use Rattle.fallible_contract.specs.Contract.{Contract, Goes, Lawful}
+use Rattle.fallible_contract.specs.Held.{once_step}
 use Rattle.fallible_iterator.specs.Sources.OnceErr.{once_err_contract}
 
 module _ {A E : Type 0} where

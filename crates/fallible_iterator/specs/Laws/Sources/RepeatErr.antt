@@ -2,8 +2,8 @@
 use Rattle.std.specs.Prelude.{Some, None, Ok, Err}
 use Rattle.std.specs.declared.alloc.AllocError.{AllocError}
 use Rattle.std.proofs.Common.{sym, subst, arith, refl}
-use Rattle.fallible_core.specs.Traces.{Answered}
-use Rattle.fallible_core.specs.Contract.{Contract, OnAnswer, Goes, Lawful}
+use Rattle.fallible_contract.specs.Traces.{Answered}
+use Rattle.fallible_contract.specs.Contract.{Contract, OnAnswer, Goes, Lawful}
 use Rattle.fallible_iterator.specs.Sources.RepeatErr.{RepeatErrAnswer, repeat_err_contract}
 
 module _ {A E : Type 0} (is_clone : E → E → Type 0) (is_infallible : E → Type 0) (from : AllocError → E → Type 0) where

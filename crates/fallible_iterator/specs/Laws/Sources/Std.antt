@@ -2,8 +2,8 @@
 use Rattle.std.specs.Prelude.{[], ◌∷◌, Option, Some, None, Ok, Err}
 use Rattle.std.specs.Iterator.{Count, size}
 use Rattle.std.proofs.Common.{refl, arith}
-use Rattle.fallible_core.specs.Traces.{Answered, item, failure}
-use Rattle.fallible_core.specs.Contract.{Contract, OnAnswer, Lawful}
+use Rattle.fallible_contract.specs.Traces.{Answered, item, failure}
+use Rattle.fallible_contract.specs.Contract.{Contract, OnAnswer, Lawful}
 use Rattle.fallible_iterator.specs.Sources.Std.{std_contract, Comes}
 
 module _ {S A E Z : Type 0} (of_item : A → Z) (of_failure : E → Z) (can : S → Type 0) (gives : S → Option Z → S → Type 0) (remaining : S → Count) where

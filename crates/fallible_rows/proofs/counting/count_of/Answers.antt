@@ -1,10 +1,10 @@
 -- The fold that counts its items is their number.
 use Rattle.std.proofs.Common.{◌≡◌, ℕ, ◌+◌, ◌-◌, ◌^◌, ◌<◌, List, [], ◌∷◌, length, Result, Some, None, Ok, Err, inl, ap, subst, arith, rules}
 use Rattle.std.specs.List.{FoldsTo}
-use Rattle.fallible_core.specs.Traces.{Answered}
-use Rattle.fallible_core.specs.Contract.{Contract, Lawful}
-use Rattle.fallible_core.specs.Folds.{HoldsAtEachTurn, fold_turn, FoldExit, Folded, CountExit}
-use Rattle.fallible_core.proofs.Lemmas.Folds.{count_fits, holds_map}
+use Rattle.fallible_contract.specs.Traces.{Answered}
+use Rattle.fallible_contract.specs.Contract.{Contract, Lawful}
+use Rattle.fallible_contract.specs.Folds.{HoldsAtEachTurn, fold_turn, FoldExit, Folded, CountExit}
+use Rattle.fallible_contract.proofs.Lemmas.Folds.{count_fits, holds_map}
 use Rattle.fallible_rows.specs.Counting.{CountsBorrowed}
 use Rattle.fallible_rows.proofs.counting.count_of.Goals as goal
 

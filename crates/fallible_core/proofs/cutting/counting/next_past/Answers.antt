@@ -1,5 +1,5 @@
 -- Each left-out item goes before what follows.
-use Rattle.fallible_core.proofs.Lemmas.Counting.{none, keeps_end, keeps_failure, left_out_first}
+use Rattle.fallible_contract.proofs.Lemmas.Counting.{none, keeps_end, keeps_failure, left_out_first}
 use Rattle.fallible_core.proofs.Lemmas.Cutting.Skip.{leaves_skip, plain_draw}
 use Rattle.fallible_core.proofs.cutting.counting.next_past.Goals as goal
 

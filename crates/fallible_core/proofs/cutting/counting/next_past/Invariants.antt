@@ -1,6 +1,6 @@
 -- What follows from here, with the items that are left to leave out, follows from the start.
 use Rattle.std.proofs.Common.{[], ◌∷◌}
-use Rattle.fallible_core.proofs.Lemmas.Counting.{Leaves}
+use Rattle.fallible_contract.proofs.Lemmas.Counting.{Leaves}
 use Rattle.fallible_core.proofs.cutting.counting.next_past.Given as goal
 
 abbrev pub invariant-loop-left : goal.invariant-loop-left

@@ -1,6 +1,6 @@
 -- The fold that stops at the first inner iterator that does not end at once is the trace of one answer.
 use Rattle.std.proofs.Common.{rules}
-use Rattle.fallible_core.proofs.Lemmas.Folds.{holds_map}
+use Rattle.fallible_contract.proofs.Lemmas.Folds.{holds_map}
 use Rattle.fallible_core.proofs.Lemmas.Joining.Flatten.{callable_begins, flatten_fold}
 use Rattle.fallible_core.proofs.joining.flatten.begin.Goals as goal
 

@@ -1,5 +1,5 @@
 -- Each item lowers the number.
-use Rattle.fallible_core.proofs.Lemmas.ToCome.{items_at_most}
+use Rattle.fallible_contract.proofs.Lemmas.ToCome.{items_at_most}
 use Rattle.fallible_core.proofs.laws.to_come.law_to_come.Goals as goal
 
 pub returns : goal.returns

@@ -1,7 +1,7 @@
 -- The fold that carries the number of items counts them.
 use Rattle.std.proofs.Common.{rules}
-use Rattle.fallible_core.proofs.Lemmas.Folds.{holds_map, count_fits, counted_ended, counted_failed}
-use Rattle.fallible_core.proofs.Lemmas.Lists.Drawn.{counted_is}
+use Rattle.fallible_contract.proofs.Lemmas.Folds.{holds_map, count_fits, counted_ended, counted_failed}
+use Rattle.fallible_contract.proofs.Lemmas.Lists.Drawn.{counted_is}
 use Rattle.fallible_core.proofs.traits.FallibleIterator.count.Goals as goal
 
 pub try_fold_carrying-requires-clause-callable : goal.try_fold_carrying-requires-clause-callable

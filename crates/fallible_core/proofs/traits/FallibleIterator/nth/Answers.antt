@@ -1,9 +1,9 @@
 -- Each skipped item goes before what is left of the call.
 use Rattle.std.proofs.Common.{arith}
-use Rattle.fallible_core.proofs.Lemmas.Nth.{nth_after, nth_now, nth_next}
-use Rattle.fallible_core.proofs.Lemmas.Lists.Drawn.{nth_is}
-use Rattle.fallible_core.specs.Laws.Contract.{stays_here}
-use Rattle.fallible_core.proofs.Lemmas.Contract.{stays_step}
+use Rattle.fallible_contract.proofs.Lemmas.Nth.{nth_after, nth_now, nth_next}
+use Rattle.fallible_contract.proofs.Lemmas.Lists.Drawn.{nth_is}
+use Rattle.fallible_contract.specs.Laws.Contract.{stays_here}
+use Rattle.fallible_contract.proofs.Lemmas.Contract.{stays_step}
 use Rattle.fallible_core.proofs.traits.FallibleIterator.nth.Goals as goal
 
 pub loop-left-init : goal.loop-left-init

@@ -1,6 +1,6 @@
 -- What `nth` of the items that are left to skip does from here, the whole does.
-use Rattle.fallible_core.specs.Contract.{Stays}
-use Rattle.fallible_core.specs.Folds.{Nth}
+use Rattle.fallible_contract.specs.Contract.{Stays}
+use Rattle.fallible_contract.specs.Folds.{Nth}
 use Rattle.fallible_core.proofs.traits.FallibleIterator.nth.Given as goal
 
 abbrev pub invariant-loop-left : goal.invariant-loop-left

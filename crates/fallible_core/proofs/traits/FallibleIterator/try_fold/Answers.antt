@@ -1,7 +1,7 @@
 -- The fold that carries the value and the closure is the fold.
 use Rattle.std.proofs.Common.{rules}
-use Rattle.fallible_core.proofs.Lemmas.Folds.{folded_ended, folded_failed, folded_stopped}
-use Rattle.fallible_core.proofs.Lemmas.Lists.Drawn.{folded_is}
+use Rattle.fallible_contract.proofs.Lemmas.Folds.{folded_ended, folded_failed, folded_stopped}
+use Rattle.fallible_contract.proofs.Lemmas.Lists.Drawn.{folded_is}
 use Rattle.fallible_core.proofs.traits.FallibleIterator.try_fold.Goals as goal
 
 pub returns-in-Ended-clause-folded : goal.returns-in-Ended-clause-folded

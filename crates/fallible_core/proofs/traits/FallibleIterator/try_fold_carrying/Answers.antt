@@ -1,7 +1,7 @@
 -- Each turn goes before the fold from there on.
 use Rattle.std.proofs.Common.{rules, arith}
-use Rattle.fallible_core.proofs.Lemmas.Folds.{holds_here, holds_after, carried_after, carried_end, carried_failure, carried_stop}
-use Rattle.fallible_core.specs.Laws.Contract.{stays_run}
+use Rattle.fallible_contract.proofs.Lemmas.Folds.{holds_here, holds_after, carried_after, carried_end, carried_failure, carried_stop}
+use Rattle.fallible_contract.specs.Laws.Contract.{stays_run}
 use Rattle.fallible_core.proofs.traits.FallibleIterator.try_fold_carrying.Goals as goal
 
 pub returns-in-Ok-None-clause-carried : goal.returns-in-Ok-None-clause-carried

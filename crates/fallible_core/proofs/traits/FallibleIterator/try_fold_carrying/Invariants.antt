@@ -1,6 +1,6 @@
 -- From each turn on the fold may go on, some number to come is at most the one counted down, and what a fold from here does, the whole fold does.
 use Rattle.std.proofs.Common.{ℕ, ◌≤◌}
-use Rattle.fallible_core.specs.Folds.{CallableCarrying, Carried}
+use Rattle.fallible_contract.specs.Folds.{CallableCarrying, Carried}
 use Rattle.fallible_core.proofs.traits.FallibleIterator.try_fold_carrying.Given as goal
 
 abbrev pub invariant-loop-carried : goal.invariant-loop-carried

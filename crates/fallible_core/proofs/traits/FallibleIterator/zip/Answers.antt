@@ -1,6 +1,6 @@
 -- The pairs of what both sides list.
 use Rattle.std.proofs.Common.{refl}
-use Rattle.fallible_core.specs.Lists.{items}
+use Rattle.fallible_contract.specs.Lists.{items}
 use Rattle.fallible_core.proofs.Lemmas.Joining.Zip.{lists_zipped, no_failure_in_items}
 use Rattle.fallible_core.proofs.traits.FallibleIterator.zip.Goals as goal
 

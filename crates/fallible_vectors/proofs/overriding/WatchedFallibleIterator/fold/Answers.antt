@@ -1,7 +1,7 @@
 -- What is left of the whole holds what is left of the source.
 use Rattle.std.proofs.Common.{refl}
-use Rattle.fallible_core.proofs.Lemmas.Overriding.{holds_held, folded_held}
-use Rattle.fallible_core.proofs.Lemmas.Lists.Drawn.{folded_is}
+use Rattle.fallible_contract.proofs.Lemmas.Overriding.{holds_held, folded_held}
+use Rattle.fallible_contract.proofs.Lemmas.Lists.Drawn.{folded_is}
 use Rattle.fallible_vectors.specs.declared.overriding.Watched.{Watched}
 use Rattle.fallible_vectors.proofs.overriding.WatchedFallibleIterator.fold.Goals as goal
 

@@ -1,7 +1,7 @@
 -- The source's fold is that of the whole, since its steps are.
 use Rattle.std.proofs.Common.{refl}
-use Rattle.fallible_core.proofs.Lemmas.Overriding.{holds_held, folded_held}
-use Rattle.fallible_core.proofs.Lemmas.Lists.Drawn.{folded_is}
+use Rattle.fallible_contract.proofs.Lemmas.Overriding.{holds_held, folded_held}
+use Rattle.fallible_contract.proofs.Lemmas.Lists.Drawn.{folded_is}
 use Rattle.fallible_vectors.specs.declared.overriding.Watched.{Watched}
 use Rattle.fallible_vectors.proofs.overriding.WatchedFallibleIterator.try_fold.Goals as goal
 

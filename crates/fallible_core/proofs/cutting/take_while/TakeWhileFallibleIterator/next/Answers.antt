@@ -1,6 +1,6 @@
 -- One answer of the source, and the call on it where it is an item, are one place.
 use Rattle.std.proofs.Common.{true, false, Some, Ok, Err, refl}
-use Rattle.fallible_core.specs.Passing.{asked, failure_at}
+use Rattle.fallible_contract.specs.Passing.{asked, failure_at}
 use Rattle.fallible_core.proofs.cutting.take_while.TakeWhileFallibleIterator.next.Goals as goal
 
 pub returns-then-accepted : goal.returns-then-accepted

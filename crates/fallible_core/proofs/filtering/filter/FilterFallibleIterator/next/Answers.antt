@@ -1,8 +1,8 @@
 -- The fold that stops at the first item kept or failed is the trace of one answer.
 use Rattle.std.proofs.Common.{rules, sym}
 use Rattle.fallible_core.specs.Filtering.Filter.{filter_outcome}
-use Rattle.fallible_core.proofs.Lemmas.Folds.{holds_map}
-use Rattle.fallible_core.proofs.Lemmas.Passing.{callable_turns, passes_fold, passes_in_slot}
+use Rattle.fallible_contract.proofs.Lemmas.Folds.{holds_map}
+use Rattle.fallible_contract.proofs.Lemmas.Passing.{callable_turns, passes_fold, passes_in_slot}
 use Rattle.fallible_core.proofs.filtering.filter.FilterFallibleIterator.next.Goals as goal
 
 pub try_fold_carrying-requires-clause-callable : goal.try_fold_carrying-requires-clause-callable

@@ -1,9 +1,9 @@
 -- The fold that stops at the first item kept or failed is the trace of one answer.
 use Rattle.std.proofs.Common.{rules, sym}
 use Rattle.fallible_core.specs.Filtering.SkipWhile.{skip_while_outcome}
-use Rattle.fallible_core.proofs.Lemmas.Folds.{holds_map}
+use Rattle.fallible_contract.proofs.Lemmas.Folds.{holds_map}
 use Rattle.fallible_core.proofs.Lemmas.Filtering.SkipWhile.{skips_in_slot}
-use Rattle.fallible_core.proofs.Lemmas.Passing.{callable_turns, passes_fold}
+use Rattle.fallible_contract.proofs.Lemmas.Passing.{callable_turns, passes_fold}
 use Rattle.fallible_core.proofs.filtering.skip_while.SkipWhileFallibleIterator.next.Goals as goal
 
 pub try_fold_carrying-requires-clause-callable : goal.try_fold_carrying-requires-clause-callable

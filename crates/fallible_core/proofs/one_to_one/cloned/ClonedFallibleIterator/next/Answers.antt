@@ -1,6 +1,6 @@
 -- One answer of the source, and the clone of what it points to, are the trace of one answer.
 use Rattle.std.proofs.Common.{refl, Ok, Err}
-use Rattle.fallible_core.specs.Laws.Passing.{passes_item, passes_refusal, passes_end, passes_failure}
+use Rattle.fallible_contract.specs.Laws.Passing.{passes_item, passes_refusal, passes_end, passes_failure}
 use Rattle.fallible_core.proofs.one_to_one.cloned.ClonedFallibleIterator.next.Goals as goal
 
 pub returns-in-Ok : goal.returns-in-Ok

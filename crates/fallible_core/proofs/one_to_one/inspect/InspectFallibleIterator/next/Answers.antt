@@ -1,6 +1,6 @@
 -- One answer of the source and the call on a reference to it are the trace of one answer.
 use Rattle.std.proofs.Common.{refl}
-use Rattle.fallible_core.specs.Laws.Passing.{passes_item, passes_refusal, passes_end, passes_failure}
+use Rattle.fallible_contract.specs.Laws.Passing.{passes_item, passes_refusal, passes_end, passes_failure}
 use Rattle.fallible_core.proofs.one_to_one.inspect.InspectFallibleIterator.next.Goals as goal
 
 pub returns-in-Ok : goal.returns-in-Ok

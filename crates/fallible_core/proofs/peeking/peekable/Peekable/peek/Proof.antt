@@ -33,7 +33,7 @@ use denote.Triple.Clauses.{Ended, Lasts, lasts}
 use denote.Triple.Spec.{triple_of}
 use denote.Triple.Table.{framed}
 use denote.Triple.Walked.{Stays, stay_dropped, Goes-dropped, walk_of, ends_at}
-use Rattle.fallible_core.specs.Contract as draws
+use Rattle.fallible_contract.specs.Contract as draws
 use Rattle.fallible_core.specs.Peeking.Peekable.{peekable_parts, peekable_contract, seen, held_item, Fills, Peeks}
 use Rattle.fallible_core.proofs.Lemmas.Peeking.Peekable.{peeks_joined}
 use Rattle.fallible_core.specs.contracts.peeking.peekable.Peekable.{the_row}

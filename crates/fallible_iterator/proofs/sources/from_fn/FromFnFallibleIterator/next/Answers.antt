@@ -1,5 +1,5 @@
 -- The closure may be called now, after no call.
-use Rattle.fallible_core.specs.Laws.Closures.{reaches_here}
+use Rattle.fallible_contract.specs.Laws.Closures.{reaches_here}
 use Rattle.fallible_iterator.proofs.sources.from_fn.FromFnFallibleIterator.next.Goals as goal
 
 pub fun-requires : goal.fun-requires

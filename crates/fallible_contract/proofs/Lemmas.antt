@@ -1,0 +1,14 @@
+-- Lemmas that no contract and no ghost member cites.
+pub mod Answers
+pub mod Closing
+pub mod Collecting
+pub mod Contract
+pub mod Counting
+pub mod Definitions
+pub mod Folds
+pub mod Held
+pub mod Lists
+pub mod Nth
+pub mod Overriding
+pub mod Passing
+pub mod ToCome

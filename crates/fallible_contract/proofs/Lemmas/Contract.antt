@@ -1,0 +1,38 @@
+-- What stays after any number of draws.
+use Rattle.std.specs.Prelude.{ℕ, ◌≤◌, List, [], ◌∷◌}
+use Rattle.std.proofs.Common.{arith, subst, inl, inr, ◌∙◌}
+use Rattle.fallible_contract.specs.Traces.{Answered, Yields, item}
+use Rattle.fallible_contract.specs.Contract.{Contract, AtMost, Stays, Lawful}
+use Rattle.fallible_contract.specs.Laws.Contract.{no_more_then, stays_after, stays_here}
+
+module _ {S A E : Type 0} (m : Contract S A E) where
+  -- where at most k items are still to come, a number to come says so
+  pub number_of_at_most : (s : S) (k : ℕ) → AtMost m s k → (n : ℕ) × m.to_come s n × (n ≤ k)
+  number_of_at_most s k (inl b) = (k, b, omega arith)
+  number_of_at_most s k (inr b) = b
+
+module _ {S A E : Type 0} {m : Contract S A E} where
+  pub stays_yields : Lawful m → (s : S) (xs : List A) (t : S) → m.can s → Yields m.steps s xs t → Stays m s t
+  stays_yields l s [] t c ran = subst (λ (u : S). Stays m s u) ran (stays_here c)
+  stays_yields l s (x ∷ xs) t c ran = let g = l.goes s (item x) ran.0 c ran.1 in stays_after g (stays_yields l ran.0 xs t g.can ran.2)
+
+  -- an item that came after others was one to come
+  pub given_after : Lawful m → (s : S) (xs : List A) (t u : S) (x : A) → m.can s → Yields m.steps s xs t → m.steps t (item x) u → m.gives s x
+  given_after l s xs t u x c ran step = let h = stays_yields l s xs t c ran in h.gives x ((l.goes t (item x) u h.can step).answer.0)
+
+-- ---- a type whose values are seen as those of another
+
+module _ {S A E : Type 0} {m : Contract S A E} where
+  stays_then : {s t u : S} → Stays m s t → Stays m t u → Stays m s u
+  stays_then {s} {t} {u} p q = record {
+    can = q.can;
+    has_end = λ e. q.has_end (p.has_end e);
+    to_come = no_more_then m s t u p.to_come q.to_come;
+    gives = λ x h. p.gives x (q.gives x h);
+    fails = λ e h. p.fails e (q.fails e h);
+    names = q.names ∙ p.names;
+  }
+
+  -- one more draw
+  pub stays_step : {s t u : S} {r : Answered A E} → Lawful m → Stays m s t → m.steps t r u → Stays m s u
+  stays_step {s} {t} {u} {r} l p step = let g = l.goes t r u p.can step in stays_then p (stays_after g (stays_here g.can))

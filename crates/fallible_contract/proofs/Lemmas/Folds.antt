@@ -1,0 +1,119 @@
+-- Folds, one turn at a time.
+use Rattle.std.specs.Prelude.{◌≡◌, ℕ, ◌+◌, ◌<◌, length, List, [], ◌∷◌, Result, Some, None, Ok, Err}
+use Rattle.std.specs.List.{FoldsTo}
+use Rattle.std.proofs.Common.{refl, sym, ap, subst, arith}
+use Rattle.fallible_contract.specs.declared.folds.Exit.{Exit}
+use Rattle.fallible_contract.specs.declared.folds.Exit.TheVariants.{Ended, Failed, Stopped}
+use Rattle.fallible_contract.specs.Traces.{Answered, Yields, item}
+use Rattle.fallible_contract.specs.Contract.{Contract, AtMost, Lawful}
+use Rattle.fallible_contract.proofs.Lemmas.Contract.{number_of_at_most}
+use Rattle.fallible_contract.specs.Folds.{CountExit, Counted, HoldsAtEachTurn, FoldTurn, FoldExit, Folded, carrying_turn, CarryingExit, Carried}
+
+module _ {S A E C : Type 0} {steps : S → Answered A E → S → Type 0} {goes_on : C → A → C → Type 0} {P : C → A → Type 0} where
+  -- what holds at each turn holds at the first, and at each turn after it
+  pub holds_here : {s t : S} {c : C} {x : A} → HoldsAtEachTurn steps goes_on P s c → steps s (item x) t → P c x
+  holds_here {s} {t} {c} {x} h step = h.at [] s t c x refl refl step
+
+  pub holds_after : {s t : S} {c d : C} {x : A} → HoldsAtEachTurn steps goes_on P s c → steps s (item x) t → goes_on c x d → HoldsAtEachTurn steps goes_on P t d
+  holds_after {s} {t} {c} {d} {x} h step turn = record { at = λ items v u e y ran went stepped. h.at (x ∷ items) v u e y (t, step, ran) (d, turn, went) stepped }
+
+module _ {S A E C R : Type 0} {steps : S → Answered A E → S → Type 0} {turns : C → A → Result C R → Type 0} where
+  -- a turn that went on, and then a fold
+  pub carried_after : {s t u : S} {c d : C} {r : Exit C E R} (x : A) → steps s (item x) t → carrying_turn turns c x d → Carried steps turns t d r u → Carried steps turns s c r u
+  carried_after {s} {t} {u} {c} {d} {r} x step turn rest = record { items = x ∷ rest.items; last = rest.last; carried = rest.carried; ran = (t, step, rest.ran); went = (d, turn, rest.went); exit = rest.exit }
+
+  -- the three last turns
+  pub carried_end : {s t : S} {c : C} → steps s (Ok None) t → Carried steps turns s c (Ended c) t
+  carried_end {s} {t} {c} step = record { items = []; last = Ok None; carried = c; ran = (t, step, refl); went = refl; exit = refl }
+
+  pub carried_failure : {s t : S} {c : C} {e : E} → steps s (Err e) t → Carried steps turns s c (Failed c e) t
+  carried_failure {s} {t} {c} {e} step = record { items = []; last = Err e; carried = c; ran = (t, step, refl); went = refl; exit = refl }
+
+  pub carried_stop : {s t : S} {c : C} {stop : R} (x : A) → steps s (item x) t → turns c x (Err stop) → Carried steps turns s c (Stopped stop) t
+  carried_stop {s} {t} {c} {stop} x step turn = record { items = []; last = item x; carried = c; ran = (t, step, refl); went = refl; exit = (stop, turn, refl) }
+
+-- turns that go on are those of another kind of turn
+pub turns_map : {C A : Type 0} {R Q : C → A → C → Type 0} → ((c : C) (x : A) (d : C) → R c x d → Q c x d) → (items : List A) (c d : C) → FoldsTo R c items d → FoldsTo Q c items d
+turns_map h [] c d e = e
+turns_map h (x ∷ items) c d w = (w.0, h c x w.0 w.1, turns_map h items w.0 d w.2)
+
+-- what holds at each turn of one kind holds at each turn of a narrower kind
+pub holds_map : {S A E C : Type 0} {steps : S → Answered A E → S → Type 0} {R Q : C → A → C → Type 0} {P P' : C → A → Type 0} {s : S} {c : C} → ((c : C) (x : A) (d : C) → Q c x d → R c x d) → ((c : C) (x : A) → P c x → P' c x) → HoldsAtEachTurn steps R P s c → HoldsAtEachTurn steps Q P' s c
+holds_map {s} {c} narrow weak h = record { at = λ items t u d x ran went step. weak d x (h.at items t u d x ran (turns_map narrow items c d went) step) }
+
+-- ---- `try_fold` by the fold that carries the value and the closure
+
+module _ {A E F B E' : Type 0} (f : F → B → A → Result B E' → F → Type 0) (from : E → E' → Type 0) (turns : B × F → A → Result (B × F) E' → Type 0)
+    (turn : (p : B × F) (x : A) (r : Result (B × F) E') → turns p x r → FoldTurn f p x r) where
+  exit_ended : (last : Answered A E) (p q : B × F) → CarryingExit turns p last (Ended q) → FoldExit f from p.0 p.1 last (Ok q.0)
+  exit_ended (Ok None) p q h = let e : q ≡ p = cc in ap (λ (z : B × F). Ok z.0) e
+  exit_ended (Ok (Some x)) p q h = absurd (let e = h.2 in cc)
+  exit_ended (Err e) p q h = absurd cc
+
+  exit_failed : (last : Answered A E) (p q : B × F) (e : E) (e' : E') → CarryingExit turns p last (Failed q e) → from e e' → FoldExit f from p.0 p.1 last (Err e')
+  exit_failed (Ok None) p q e e' h c = absurd cc
+  exit_failed (Ok (Some x)) p q e e' h c = absurd (let e = h.2 in cc)
+  exit_failed (Err d) p q e e' h c = let same : e ≡ d = cc in (e', subst (λ (z : E). from z e') same c, refl)
+
+  exit_stopped : (last : Answered A E) (p : B × F) (e' : E') → CarryingExit turns p last (Stopped e') → FoldExit f from p.0 p.1 last (Err e')
+  exit_stopped (Ok None) p e' h = absurd cc
+  exit_stopped (Ok (Some x)) p e' h = let called = turn p x (Err h.0) h.1 in (called.0, h.0, called.1, (let e = h.2 in cc))
+  exit_stopped (Err d) p e' h = absurd cc
+
+module _ {S A E F B E' : Type 0} {steps : S → Answered A E → S → Type 0} {f : F → B → A → Result B E' → F → Type 0} {from : E → E' → Type 0} {turns : B × F → A → Result (B × F) E' → Type 0}
+    (turn : (p : B × F) (x : A) (r : Result (B × F) E') → turns p x r → FoldTurn f p x r) {s t : S} {b : B} {h : F} where
+  folded_by : {x : Exit (B × F) E E'} (c : Carried steps turns s (b, h) x t) (r : Result B E') → FoldExit f from c.carried.0 c.carried.1 c.last r → Folded steps f from s b h r t
+  folded_by c r exit = record { items = c.items; last = c.last; value = c.carried.0; closure = c.carried.1; ran = c.ran; went = turns_map (λ p y q w. turn p y (Ok q) w) c.items (b, h) c.carried c.went; exit = exit }
+
+  pub folded_ended : (q : B × F) → Carried steps turns s (b, h) (Ended q) t → Folded steps f from s b h (Ok q.0) t
+  folded_ended q c = folded_by c _ (exit_ended f from turns turn c.last c.carried q c.exit)
+
+  pub folded_failed : (q : B × F) (e : E) (e' : E') → Carried steps turns s (b, h) (Failed q e) t → from e e' → Folded steps f from s b h (Err e') t
+  folded_failed q e e' c d = folded_by c _ (exit_failed f from turns turn c.last c.carried q e e' c.exit d)
+
+  pub folded_stopped : (e' : E') → Carried steps turns s (b, h) (Stopped e') t → Folded steps f from s b h (Err e') t
+  folded_stopped e' c = folded_by c _ (exit_stopped f from turns turn c.last c.carried e' c.exit)
+
+-- ---- `count` by the fold that carries the number of items
+
+abbrev counts : {A : Type 0} → ℕ → A → ℕ → Type 0
+counts n x k = k ≡ n + 1
+
+counted_up : {A : Type 0} (items : List A) (n k : ℕ) → FoldsTo counts n items k → k ≡ n + length items
+counted_up [] n k e = omega (arith, e)
+counted_up (x ∷ items) n k w = let e = counted_up items w.0 k w.2 in let one : w.0 ≡ n + 1 = w.1 in omega (arith, e, one)
+
+module _ {S A E : Type 0} {m : Contract S A E} where
+  -- fewer items came than a number to come
+  came_below : Lawful m → (s : S) (items : List A) (t u : S) (x : A) (n : ℕ) → m.can s → m.to_come s n → Yields m.steps s items t → m.steps t (item x) u → length items < n
+  came_below l s [] t u x n c b ran step = let step' : m.steps s (item x) u = subst (λ (v : S). m.steps v (item x) u) (sym ran) step in let fewer = (l.goes s (item x) u c step').answer.1 n b in omega (arith, fewer.2)
+  came_below l s (y ∷ items) t u x n c b ran step = let g = l.goes s (item y) ran.0 c ran.1 in let fewer = g.answer.1 n b in let k = came_below l ran.0 items t u x fewer.0 g.can fewer.1 ran.2 step in omega (arith, fewer.2, k)
+
+  -- so where at most n items are to come, their count fits below n at each turn
+  pub count_fits : {s : S} (n : ℕ) → Lawful m → m.can s → AtMost m s n → HoldsAtEachTurn m.steps counts (λ k x. k < n) s 0
+  count_fits {s} n l c h = let b = number_of_at_most m s n h in record { at = λ items t u k x ran went step. let below = came_below l s items t u x b.0 c b.1 ran step in let e = counted_up items 0 k went in omega (arith, below, e, b.2) }
+
+module _ {A R : Type 0} (turns : ℕ → A → Result ℕ R → Type 0) where
+  went_up : ((n : ℕ) (x : A) (r : Result ℕ R) → turns n x r → r ≡ Ok (n + 1)) → (items : List A) (n d : ℕ) → FoldsTo (carrying_turn turns) n items d → d ≡ n + length items
+  went_up turn items n d w = counted_up items n d (turns_map (λ c x e h. let same = turn c x (Ok e) h in cc) items n d w)
+
+  count_ended : {E : Type 0} (last : Answered A E) (n k' : ℕ) → CarryingExit turns n last (Ended k') → CountExit n last (Ok k')
+  count_ended (Ok None) n k' h = cc
+  count_ended (Ok (Some x)) n k' h = let e = h.2 in cc
+  count_ended (Err e) n k' h = absurd cc
+
+  count_failed : {E : Type 0} (last : Answered A E) (n k' : ℕ) (e : E) → CarryingExit turns n last (Failed k' e) → CountExit n last (Err e)
+  count_failed (Ok None) n k' e h = absurd cc
+  count_failed (Ok (Some x)) n k' e h = let e = h.2 in cc
+  count_failed (Err d) n k' e h = cc
+
+module _ {S A E R : Type 0} {steps : S → Answered A E → S → Type 0} {turns : ℕ → A → Result ℕ R → Type 0}
+    (turn : (n : ℕ) (x : A) (r : Result ℕ R) → turns n x r → r ≡ Ok (n + 1)) where
+  counted_by : {s t : S} {x : Exit ℕ E R} (c : Carried steps turns s 0 x t) (r : Result ℕ E) → CountExit c.carried c.last r → Counted steps s r
+  counted_by {t} c r exit = record { items = c.items; last = c.last; left = t; ran = c.ran; exit = subst (λ (n : ℕ). CountExit n c.last r) (let e = went_up turns turn c.items 0 c.carried c.went in omega (arith, e)) exit }
+
+  pub counted_ended : {s t : S} {n : ℕ} → Carried steps turns s 0 (Ended n) t → Counted steps s (Ok n)
+  counted_ended c = counted_by c _ (count_ended turns c.last c.carried _ c.exit)
+
+  pub counted_failed : {s t : S} {n : ℕ} {e : E} → Carried steps turns s 0 (Failed n e) t → Counted steps s (Err e)
+  counted_failed c = counted_by c _ (count_failed turns c.last c.carried _ _ c.exit)

@@ -1,0 +1,147 @@
+-- What a consumer makes of a source whose answers are listed.
+use Rattle.std.specs.Prelude.{◌≡◌, ℕ, ◌+◌, ◌-◌, zero, suc, length, Some, None, Result, Ok, Err, List, [], ◌∷◌, ◌++◌, map}
+use Rattle.std.specs.List.{FoldsTo}
+use Rattle.std.proofs.Common.{refl, sym, ap, subst, ◌∙◌, arith}
+use Rattle.std.specs.declared.alloc.AllocError.{AllocError}
+use Rattle.fallible_contract.specs.Traces.{Answered, Run, item}
+use Rattle.fallible_contract.specs.Folds.{Counted, CountExit, Nth, NthExit, fold_turn, FoldExit, Folded}
+use Rattle.fallible_contract.specs.declared.collecting.Fault.{Fault}
+use Rattle.fallible_contract.specs.declared.collecting.Fault.TheVariants.{Source, Memory}
+use Rattle.fallible_contract.specs.Collecting.{Collects}
+use Rattle.fallible_contract.specs.Lists.{AlwaysGives, Lists, one_more_than, counted, nth_of, before, collected, CollectedBy, CollectedAs, on_value, folded, ActsWith, Converts}
+
+module _ {A E : Type 0} where
+  -- what is left of the list at the last answer that was drawn
+  abbrev pub LeftAt : Answered A E → List (Result A E) → Type 0
+  LeftAt (Ok (Some x)) l = (rest : List (Result A E)) × (l ≡ Ok x ∷ rest)
+  LeftAt (Ok None) l = l ≡ []
+  LeftAt (Err e) l = (rest : List (Result A E)) × (l ≡ Err e ∷ rest)
+
+  module _ {S : Type 0} (steps : S → Answered A E → S → Type 0) where
+    left_at : (last : Answered A E) (l : List (Result A E)) (s t : S) → AlwaysGives steps s l → steps s last t → LeftAt last l
+    left_at (Ok None) [] s t a w = refl
+    left_at (Ok (Some x)) [] s t a w = absurd (let h = a (Ok (Some x)) t w in cc)
+    left_at (Err e) [] s t a w = absurd (let h = a (Err e) t w in cc)
+    left_at (Ok None) (Ok y ∷ l) s t a w = absurd (let h = (a (Ok None) t w).0 in cc)
+    left_at (Ok None) (Err y ∷ l) s t a w = absurd (let h = (a (Ok None) t w).0 in cc)
+    left_at (Ok (Some x)) (Ok y ∷ l) s t a w = (l, let h = (a (Ok (Some x)) t w).0 in cc)
+    left_at (Ok (Some x)) (Err y ∷ l) s t a w = absurd (let h = (a (Ok (Some x)) t w).0 in cc)
+    left_at (Err e) (Ok y ∷ l) s t a w = absurd (let h = (a (Err e) t w).0 in cc)
+    left_at (Err e) (Err y ∷ l) s t a w = (l, let h = (a (Err e) t w).0 in cc)
+
+    -- the list is the items that were drawn, and what was left at the last answer
+    pub record Drawn (items : List A) (last : Answered A E) (l : List (Result A E)) : Type 0 where
+      pub rest : List (Result A E)
+      pub list_is : l ≡ map (λ x. Ok x) items ++ rest
+      pub left : LeftAt last rest
+
+    pub drawn : (items : List A) (last : Answered A E) (l : List (Result A E)) (s t : S) → AlwaysGives steps s l → Run steps s (map item items ++ last ∷ []) t → Drawn items last l
+    drawn [] last l s t a ran = record { rest = l; list_is = refl; left = left_at last l s ran.0 a ran.1 }
+    drawn (x ∷ items) last [] s t a ran = absurd (let h = a (Ok (Some x)) ran.0 ran.1 in cc)
+    drawn (x ∷ items) last (Err y ∷ l) s t a ran = absurd (let h = (a (Ok (Some x)) ran.0 ran.1).0 in cc)
+    drawn (x ∷ items) last (Ok y ∷ l) s t a ran = let h = a (Ok (Some x)) ran.0 ran.1 in let d = drawn items last l ran.0 t h.1 ran.2 in
+        record { rest = d.rest; list_is = (let same : y ≡ x = (let q = h.0 in cc) in let is = d.list_is in cc); left = d.left }
+
+  -- ---- count
+
+  counted_front : (items : List A) (rest : List (Result A E)) (n : ℕ) → counted rest ≡ Ok n → counted (map (λ x. Ok x) items ++ rest) ≡ Ok (length items + n)
+  unfolding counted
+  counted_front [] rest n e = e ∙ ap (λ k. Ok k) (omega arith)
+  counted_front (x ∷ items) rest n e = ap one_more_than (counted_front items rest n e) ∙ ap (λ k. Ok k) (omega arith)
+
+  failed_front : (items : List A) (rest : List (Result A E)) (e : E) → counted rest ≡ Err e → counted (map (λ x. Ok x) items ++ rest) ≡ Err e
+  unfolding counted
+  failed_front [] rest e is = is
+  failed_front (x ∷ items) rest e is = ap one_more_than (failed_front items rest e is)
+
+  counted_by : (items : List A) (last : Answered A E) (r : Result ℕ E) (l rest : List (Result A E)) → l ≡ map (λ x. Ok x) items ++ rest → LeftAt last rest → CountExit (length items) last r → r ≡ counted l
+  unfolding counted
+  counted_by items (Ok None) r l rest is left exit = exit ∙ ap (λ k. Ok k) (omega arith) ∙ sym (counted_front items rest 0 (ap counted left)) ∙ ap counted (sym is)
+  counted_by items (Err e) r l rest is left exit = exit ∙ sym (failed_front items rest e (ap counted left.1)) ∙ ap counted (sym is)
+  counted_by items (Ok (Some x)) r l rest is left exit = absurd exit
+
+pub counted_is : {S A E : Type 0} {steps : S → Answered A E → S → Type 0} {s : S} {r : Result ℕ E} (l : List (Result A E)) → Counted steps s r → Lists steps s l → r ≡ counted l
+counted_is {steps = steps} {s = s} {r = r} l c i = let d = drawn steps c.items c.last l s c.left i.runs c.ran in counted_by c.items c.last r l d.rest d.list_is d.left c.exit
+
+-- ---- collect
+
+module _ {A E : Type 0} where
+  collected_items : (items : List A) → collected {E = E} (map (λ x. Ok x) items ++ []) ≡ Ok items
+  unfolding collected
+  collected_items [] = refl
+  collected_items (x ∷ items) = ap (before x) (collected_items items)
+
+  collected_failure : (items : List A) (rest : List (Result A E)) (e : E) → collected (map (λ x. Ok x) items ++ Err e ∷ rest) ≡ Err e
+  unfolding collected
+  collected_failure [] rest e = refl
+  collected_failure (x ∷ items) rest e = ap (before x) (collected_failure items rest e)
+
+module _ {S A E C : Type 0} {steps : S → Answered A E → S → Type 0} (made : List A → C → Type 0) (empty_refuses : Type 0) (refuses : C → A → Type 0) {s : S} where
+  collected_by : (r : Result C (Fault E)) (l : List (Result A E)) → Collects steps made empty_refuses refuses s r → Lists steps s l → CollectedBy made l r
+  collected_by (Ok c) l k i = let d = drawn steps k.items (Ok None) l s k.left i.runs k.ran in
+      (k.items, ap collected d.list_is ∙ ap (λ (rest : _). collected (map (λ x. Ok x) k.items ++ rest)) d.left ∙ collected_items k.items, k.is_made)
+  collected_by (Err (Source e)) l k i = let d = drawn steps k.items (Err e) l s k.left i.runs k.ran in
+      ap collected d.list_is ∙ ap (λ (rest : _). collected (map (λ x. Ok x) k.items ++ rest)) d.left.1 ∙ collected_failure k.items d.left.0 e
+  collected_by (Err (Memory a)) l k i = tt
+
+  pub collected_as : (r : Result C (Fault E)) (l : List (Result A E)) → Collects steps made empty_refuses refuses s r → Lists steps s l → CollectedAs made l r
+  unfolding CollectedAs
+  collected_as r l k i = collected_by r l k i
+
+-- want of memory says nothing of the list
+pub refused_as : {A E C : Type 0} (made : List A → C → Type 0) (l : List (Result A E)) (a : AllocError) → CollectedAs made l (Err (Memory a))
+unfolding CollectedAs
+refused_as made l a = tt
+
+-- ---- nth
+
+module _ {A E : Type 0} where
+  nth_front : (items : List A) (rest : List (Result A E)) (n k : ℕ) → n ≡ length items + k → nth_of n (map (λ x. Ok x) items ++ rest) ≡ nth_of k rest
+  unfolding nth_of
+  nth_front [] rest n k e = ap (λ (j : ℕ). nth_of j rest) (omega (arith, e))
+  nth_front (x ∷ items) rest zero k e = absurd (omega (arith, e))
+  nth_front (x ∷ items) rest (suc n) k e = nth_front items rest n k (omega (arith, e))
+
+  nth_failure : (n : ℕ) (e : E) (l : List (Result A E)) → nth_of n (Err e ∷ l) ≡ Err e
+  unfolding nth_of
+  nth_failure zero e l = refl
+  nth_failure (suc n) e l = refl
+
+  nth_left : (n skipped : ℕ) (r : Answered A E) (rest : List (Result A E)) → NthExit n skipped r → LeftAt r rest → (k : ℕ) × (n ≡ skipped + k) × (nth_of k rest ≡ r)
+  unfolding nth_of
+  nth_left n skipped (Ok (Some x)) rest exit left = (0, omega (arith, exit), ap (nth_of 0) left.1)
+  nth_left n skipped (Ok None) rest exit left = (n - skipped, omega (arith, exit), ap (nth_of (n - skipped)) left)
+  nth_left n skipped (Err e) rest exit left = (n - skipped, omega (arith, exit), ap (nth_of (n - skipped)) left.1 ∙ nth_failure (n - skipped) e left.0)
+
+pub nth_is : {S A E : Type 0} {steps : S → Answered A E → S → Type 0} {s t : S} {n : ℕ} {r : Answered A E} (l : List (Result A E)) → Nth steps s n r t → Lists steps s l → r ≡ nth_of n l
+nth_is {steps = steps} {s = s} {t = t} {n = n} {r = r} l c i =
+    let d = drawn steps c.skipped r l s t i.runs c.ran in
+    let h = nth_left n (length c.skipped) r d.rest c.exit d.left in
+    sym (ap (nth_of n) d.list_is ∙ nth_front c.skipped d.rest n h.0 h.1 ∙ h.2)
+
+-- ---- try_fold and fold
+
+module _ {A E F B E' : Type 0} (call : F → B → A → Result B E' → F → Type 0) (from : E → E' → Type 0) (convert : E → E') (h : B → A → Result B E') (f : F) (acts : ActsWith call f h) (converts : Converts from convert) where
+  -- the closure went on over the items, and stayed as it is
+  folded_front : (items : List A) (rest : List (Result A E)) (b v : B) (g : F) → FoldsTo {P = B × F} (fold_turn call) (b, f) items (v, g) → (g ≡ f) × (folded convert h b (map (λ x. Ok x) items ++ rest) ≡ folded convert h v rest)
+  unfolding folded
+  folded_front [] rest b v g went = (sym (ap (λ p. p.1) went), ap (λ p. folded convert h p.0 rest) went)
+  folded_front (x ∷ items) rest b v g went =
+      let a = acts b x (Ok (went.0).0) (went.0).1 went.1 in
+      let others : FoldsTo {P = B × F} (fold_turn call) ((went.0).0, f) items (v, g) = subst (λ (k : F). FoldsTo {P = B × F} (fold_turn call) ((went.0).0, k) items (v, g)) a.0 went.2 in
+      let d = folded_front items rest (went.0).0 v g others in
+      (d.0, ap (λ (w : Result B E'). on_value w (λ c. folded convert h c (map (λ x. Ok x) items ++ rest))) (sym a.1) ∙ d.1)
+
+  folded_left : (last : Answered A E) (v : B) (r : Result B E') (rest : List (Result A E)) → FoldExit call from v f last r → LeftAt last rest → r ≡ folded convert h v rest
+  unfolding folded
+  folded_left (Ok None) v r rest exit left = exit ∙ sym (ap (folded convert h v) left)
+  folded_left (Err e) v r rest exit left = exit.2 ∙ ap (λ (k : E'). Err k) (converts e exit.0 exit.1) ∙ sym (ap (folded convert h v) left.1)
+  folded_left (Ok (Some x)) v r rest exit left =
+      let a = acts v x (Err exit.1) exit.0 exit.2 in
+      exit.3 ∙ ap (λ (w : Result B E'). on_value w (λ c. folded convert h c left.0)) a.1 ∙ sym (ap (folded convert h v) left.1)
+
+  pub folded_is : {S : Type 0} {steps : S → Answered A E → S → Type 0} {s t : S} {b : B} {r : Result B E'} (l : List (Result A E)) → Folded steps call from s b f r t → Lists steps s l → r ≡ folded convert h b l
+  folded_is {steps = steps} {s = s} {t = t} {b = b} {r = r} l c i =
+      let d = drawn steps c.items c.last l s t i.runs c.ran in
+      let p = folded_front c.items d.rest b c.value c.closure c.went in
+      folded_left c.last c.value r d.rest (subst (λ (g : F). FoldExit call from c.value g c.last r) p.0 c.exit) d.left ∙ sym (ap (folded convert h b) d.list_is ∙ p.1)

@@ -1,0 +1,143 @@
+-- What an adapter that lets answers pass lists, from what its source lists.
+use Rattle.std.specs.Prelude.{◌≡◌, Option, Result, Some, None, Ok, Err, List, [], ◌∷◌}
+use Rattle.std.proofs.Common.{refl, sym, ap, subst, ◌∙◌}
+use Rattle.fallible_contract.specs.Traces.{Answered}
+use Rattle.fallible_contract.specs.Closures.{call_in}
+use Rattle.fallible_contract.specs.Passing.{Outcome, PassTrace, kept, left_out, failed, an_end}
+use Rattle.fallible_contract.specs.Laws.Passing.{Passes, done, ends, fails, keeps, refuses, closes, leaves_out, to_passes, from_passes}
+use Rattle.fallible_contract.specs.Lists.{AlwaysGives, Lists, Acts}
+
+-- where each draw from s is one from a state that gives the list, s gives it
+module _ {S A E : Type 0} (steps : S → Answered A E → S → Type 0) where
+  pub gives_if : (l : List (Result A E)) (s : S) → ((r : Answered A E) (t : S) → steps s r t → (u : S) × steps u r t × AlwaysGives steps u l) → AlwaysGives steps s l
+  gives_if [] s f = λ r t w. let d = f r t w in d.2 r t d.1
+  gives_if (y ∷ l) s f = λ r t w. let d = f r t w in d.2 r t d.1
+
+-- one draw of such an adapter
+abbrev pub passing_step : {S F X R B E : Type 0} → (S → Answered X E → S → Type 0) → (F → X → R → F → Type 0) → (X → R → Outcome B E) → S × F → Answered B E → S × F → Type 0
+passing_step steps call outcome p r q = PassTrace steps call outcome p (r ∷ []) q
+
+-- a value whose answers are those of its parts lists what they list
+pub gives_seen : {V P A E : Type 0} (view : V → P) (steps : P → Answered A E → P → Type 0) (l : List (Result A E)) (s : V) → AlwaysGives steps (view s) l → AlwaysGives (λ u r v. steps (view u) r (view v)) s l
+gives_seen view steps [] s a = λ r t w. a r (view t) w
+gives_seen view steps (y ∷ l) s a = λ r t w. let d = a r (view t) w in (d.0, gives_seen view steps l t d.1)
+
+-- the same, where parts and list are known by other names
+pub lists_seen : {V P A E : Type 0} (view : V → P) (steps : P → Answered A E → P → Type 0) (s : V) {p : P} {l k : List (Result A E)} → view s ≡ p → l ≡ k → AlwaysGives steps p l → Lists (λ u r v. steps (view u) r (view v)) s k
+lists_seen {A = A} {E = E} view steps s {p = p} {l = l} {k = k} at same a = record { runs = gives_seen view steps k s (subst (λ (q : _). AlwaysGives steps q k) (sym at) (subst (λ (j : List (Result A E)). AlwaysGives steps p j) same a)) }
+
+-- what an outcome puts before the rest of the list
+abbrev pub by_outcome : {B E : Type 0} → Outcome B E → List (Result B E) → List (Result B E)
+by_outcome (kept y) rest = Ok y ∷ rest
+by_outcome left_out rest = rest
+by_outcome (failed e) rest = Err e ∷ rest
+by_outcome an_end rest = []
+
+module _ {P X R B E : Type 0} (outcome : X → R → Outcome B E) (answers : P → X → R) (next : P → X → P) where
+  -- the list of an adapter whose closure is at p: called on x it answers `answers p x`, and is then at `next p x`
+  abbrev pub passed : P → List (Result X E) → List (Result B E)
+  passed p [] = []
+  passed p (Ok x ∷ l) = by_outcome (outcome x (answers p x)) (passed (next p x) l)
+  passed p (Err e ∷ l) = Err e ∷ passed p l
+
+module _ {S F P X R B E : Type 0} (steps : S → Answered X E → S → Type 0) (call : F → X → R → F → Type 0) (outcome : X → R → Outcome B E)
+    (At : F → P → Type 0) (answers : P → X → R) (next : P → X → P) (acts : (f : F) (p : P) (x : X) (v : R) (g : F) → At f p → call f x v g → At g (next p x) × (v ≡ answers p x)) where
+  abbrev Gives : S → F → List (Result B E) → Type 0
+  Gives s f l = AlwaysGives (passing_step steps call outcome) (s, f) l
+
+  -- what one draw gives, where the source's list is empty
+  none_given : (s : S) (f : F) (r : Answered B E) (t : S) (g : F) → AlwaysGives {A = X} steps s [] → Passes steps call outcome s f (r ∷ []) t g → r ≡ Ok None
+  none_given s f _ t g a (ends step d) = refl
+  none_given s f _ t g a (fails e step d) = absurd (let h = a (Err e) _ step in cc)
+  none_given s f _ t g a (keeps x v y step called is d) = absurd (let h = a (Ok (Some x)) _ step in cc)
+  none_given s f _ t g a (refuses x v e step called is d) = absurd (let h = a (Ok (Some x)) _ step in cc)
+  none_given s f _ t g a (closes x v step called is d) = absurd (let h = a (Ok (Some x)) _ step in cc)
+  none_given s f r t g a (leaves_out x v step called is d) = absurd (let h = a (Ok (Some x)) _ step in cc)
+
+  -- one draw at a failure of the source's list
+  failure_given : (d : E) (l : List (Result X E)) (rest : List (Result B E)) (s : S) (f : F) → ((u : S) → AlwaysGives steps u l → Gives u f rest) → AlwaysGives steps s (Err d ∷ l)
+      → (r : Answered B E) (t : S) (g : F) → Passes steps call outcome s f (r ∷ []) t g → (r ≡ Err d) × Gives t g rest
+  failure_given d l rest s f then a _ t g (ends step c) = absurd (let h = (a (Ok None) _ step).0 in cc)
+  failure_given d l rest s f then a _ t g (fails e step done) = let h = a (Err e) t step in ((let q = h.0 in cc), then t h.1)
+  failure_given d l rest s f then a _ t g (keeps x v y step called is c) = absurd (let h = (a (Ok (Some x)) _ step).0 in cc)
+  failure_given d l rest s f then a _ t g (refuses x v e step called is c) = absurd (let h = (a (Ok (Some x)) _ step).0 in cc)
+  failure_given d l rest s f then a _ t g (closes x v step called is c) = absurd (let h = (a (Ok (Some x)) _ step).0 in cc)
+  failure_given d l rest s f then a r t g (leaves_out x v step called is c) = absurd (let h = (a (Ok (Some x)) _ step).0 in cc)
+
+  -- what is known of a call at an item of the source's list
+  record CalledAs (l : List (Result X E)) (p : P) (x z : X) (v : R) (o : Outcome B E) (u : S) (g : F) : Type 0 where
+    outcome_is : outcome z v ≡ o
+    at : At g (next p x)
+    others : AlwaysGives steps u l
+
+  called_as : (l : List (Result X E)) (x : X) (o : Outcome B E) (s : S) (f : F) (p : P) → outcome x (answers p x) ≡ o → At f p → AlwaysGives steps s (Ok x ∷ l)
+      → (z : X) (v : R) (u : S) (g : F) → steps s (Ok (Some z)) u → call f z v g → CalledAs l p x z v o u g
+  called_as l x o s f p is at a z v u g step called = let h = a (Ok (Some z)) u step in let same : z ≡ x = (let q = h.0 in cc) in
+      let c = acts f p z v g at called in record {
+        outcome_is = ap (λ (w : R). outcome z w) c.1 ∙ ap (λ (y : X). outcome y (answers p y)) same ∙ is;
+        at = subst (λ (y : X). At g (next p y)) same c.0;
+        others = h.1;
+      }
+
+  kept_given : (l : List (Result X E)) (rest : List (Result B E)) (x : X) (y : B) (s : S) (f : F) (p : P) → outcome x (answers p x) ≡ kept y → At f p → AlwaysGives steps s (Ok x ∷ l)
+      → ((u : S) (g : F) → At g (next p x) → AlwaysGives steps u l → Gives u g rest) → (r : Answered B E) (t : S) (g : F) → Passes steps call outcome s f (r ∷ []) t g → (r ≡ Ok (Some y)) × Gives t g rest
+  kept_given l rest x y s f p is at a then _ t g (ends step c) = absurd (let h = (a (Ok None) _ step).0 in cc)
+  kept_given l rest x y s f p is at a then _ t g (fails e step c) = absurd (let h = (a (Err e) _ step).0 in cc)
+  kept_given l rest x y s f p is at a then _ t g (keeps z v w step called out done) = let k = called_as l x (kept y) s f p is at a z v t g step called in ((let q = sym out ∙ k.outcome_is in cc), then t g k.at k.others)
+  kept_given l rest x y s f p is at a then _ t g (refuses z v e step called out c) = absurd (let q = sym out ∙ (called_as l x (kept y) s f p is at a z v _ _ step called).outcome_is in cc)
+  kept_given l rest x y s f p is at a then _ t g (closes z v step called out c) = absurd (let q = sym out ∙ (called_as l x (kept y) s f p is at a z v _ _ step called).outcome_is in cc)
+  kept_given l rest x y s f p is at a then r t g (leaves_out z v step called out c) = absurd (let q = sym out ∙ (called_as l x (kept y) s f p is at a z v _ _ step called).outcome_is in cc)
+
+  failed_given : (l : List (Result X E)) (rest : List (Result B E)) (x : X) (d : E) (s : S) (f : F) (p : P) → outcome x (answers p x) ≡ failed d → At f p → AlwaysGives steps s (Ok x ∷ l)
+      → ((u : S) (g : F) → At g (next p x) → AlwaysGives steps u l → Gives u g rest) → (r : Answered B E) (t : S) (g : F) → Passes steps call outcome s f (r ∷ []) t g → (r ≡ Err d) × Gives t g rest
+  failed_given l rest x d s f p is at a then _ t g (ends step c) = absurd (let h = (a (Ok None) _ step).0 in cc)
+  failed_given l rest x d s f p is at a then _ t g (fails e step c) = absurd (let h = (a (Err e) _ step).0 in cc)
+  failed_given l rest x d s f p is at a then _ t g (keeps z v w step called out c) = absurd (let q = sym out ∙ (called_as l x (failed d) s f p is at a z v _ _ step called).outcome_is in cc)
+  failed_given l rest x d s f p is at a then _ t g (refuses z v e step called out done) = let k = called_as l x (failed d) s f p is at a z v t g step called in ((let q = sym out ∙ k.outcome_is in cc), then t g k.at k.others)
+  failed_given l rest x d s f p is at a then _ t g (closes z v step called out c) = absurd (let q = sym out ∙ (called_as l x (failed d) s f p is at a z v _ _ step called).outcome_is in cc)
+  failed_given l rest x d s f p is at a then r t g (leaves_out z v step called out c) = absurd (let q = sym out ∙ (called_as l x (failed d) s f p is at a z v _ _ step called).outcome_is in cc)
+
+  end_given : (l : List (Result X E)) (x : X) (s : S) (f : F) (p : P) → outcome x (answers p x) ≡ an_end → At f p → AlwaysGives steps s (Ok x ∷ l)
+      → (r : Answered B E) (t : S) (g : F) → Passes steps call outcome s f (r ∷ []) t g → r ≡ Ok None
+  end_given l x s f p is at a _ t g (ends step c) = refl
+  end_given l x s f p is at a _ t g (fails e step c) = absurd (let h = (a (Err e) _ step).0 in cc)
+  end_given l x s f p is at a _ t g (keeps z v w step called out c) = absurd (let q = sym out ∙ (called_as l x an_end s f p is at a z v _ _ step called).outcome_is in cc)
+  end_given l x s f p is at a _ t g (refuses z v e step called out c) = absurd (let q = sym out ∙ (called_as l x an_end s f p is at a z v _ _ step called).outcome_is in cc)
+  end_given l x s f p is at a _ t g (closes z v step called out c) = refl
+  end_given l x s f p is at a r t g (leaves_out z v step called out c) = absurd (let q = sym out ∙ (called_as l x an_end s f p is at a z v _ _ step called).outcome_is in cc)
+
+  -- a state from which the draw is made once the item is left out
+  left_given : (l : List (Result X E)) (rest : List (Result B E)) (x : X) (s : S) (f : F) (p : P) → outcome x (answers p x) ≡ left_out → At f p → AlwaysGives steps s (Ok x ∷ l)
+      → ((u : S) (g : F) → At g (next p x) → AlwaysGives steps u l → Gives u g rest) → (r : Answered B E) (t : S) (g : F) → Passes steps call outcome s f (r ∷ []) t g
+      → (q : S × F) × passing_step steps call outcome q r (t, g) × AlwaysGives (passing_step steps call outcome) q rest
+  left_given l rest x s f p is at a then _ t g (ends step c) = absurd (let h = (a (Ok None) _ step).0 in cc)
+  left_given l rest x s f p is at a then _ t g (fails e step c) = absurd (let h = (a (Err e) _ step).0 in cc)
+  left_given l rest x s f p is at a then _ t g (keeps z v w step called out c) = absurd (let q = sym out ∙ (called_as l x left_out s f p is at a z v _ _ step called).outcome_is in cc)
+  left_given l rest x s f p is at a then _ t g (refuses z v e step called out c) = absurd (let q = sym out ∙ (called_as l x left_out s f p is at a z v _ _ step called).outcome_is in cc)
+  left_given l rest x s f p is at a then _ t g (closes z v step called out c) = absurd (let q = sym out ∙ (called_as l x left_out s f p is at a z v _ _ step called).outcome_is in cc)
+  left_given l rest x s f p is at a then r t g (leaves_out {u = u} {h = h} z v step called out c) = let k = called_as l x left_out s f p is at a z v u h step called in ((u, h), from_passes c, then u h k.at k.others)
+
+  item_given : (l : List (Result X E)) (rest : List (Result B E)) (x : X) (o : Outcome B E) (s : S) (f : F) (p : P) → outcome x (answers p x) ≡ o → At f p → AlwaysGives steps s (Ok x ∷ l)
+      → ((u : S) (g : F) → At g (next p x) → AlwaysGives steps u l → Gives u g rest) → Gives s f (by_outcome o rest)
+  item_given l rest x (kept y) s f p is at a then = λ r t w. kept_given l rest x y s f p is at a then r t.0 t.1 (to_passes w)
+  item_given l rest x (failed d) s f p is at a then = λ r t w. failed_given l rest x d s f p is at a then r t.0 t.1 (to_passes w)
+  item_given l rest x an_end s f p is at a then = λ r t w. end_given l x s f p is at a r t.0 t.1 (to_passes w)
+  item_given l rest x left_out s f p is at a then = gives_if (passing_step steps call outcome) rest (s, f) (λ r t w. left_given l rest x s f p is at a then r t.0 t.1 (to_passes w))
+
+  pub all_given : (l : List (Result X E)) (s : S) (f : F) (p : P) → At f p → AlwaysGives steps s l → Gives s f (passed outcome answers next p l)
+  all_given [] s f p at a = λ r t w. none_given s f r t.0 t.1 a (to_passes w)
+  all_given (Err d ∷ l) s f p at a = λ r t w. failure_given d l (passed outcome answers next p l) s f (λ u b. all_given l u f p at b) a r t.0 t.1 (to_passes w)
+  all_given (Ok x ∷ l) s f p at a = item_given l (passed outcome answers next (next p x) l) x (outcome x (answers p x)) s f p refl at a (λ u g k b. all_given l u g (next p x) k b)
+
+-- ---- with a closure in its slot that acts as a function
+
+module _ {F X R : Type 0} (call : F → X → R → F → Type 0) (f : F) (h : X → R) (acts : Acts call f h) where
+  acts_in_slot : (s : Option F) (p : Unit {0}) (x : X) (v : R) (t : Option F) → s ≡ Some f → call_in call s x v t → (t ≡ Some f) × (v ≡ h x)
+  acts_in_slot None p x v t e c = absurd cc
+  acts_in_slot (Some k) p x v None e c = absurd c
+  acts_in_slot (Some k) p x v (Some g) e c = let same : k ≡ f = cc in let a = acts x v g (subst (λ (z : F). call z x v g) same c) in (ap Some a.0, a.1)
+
+  -- what an adapter lists whose closure is asked of each item
+  pub lists_passed : {S B E : Type 0} (steps : S → Answered X E → S → Type 0) (outcome : X → R → Outcome B E) (s : S) (l : List (Result X E)) → AlwaysGives steps s l
+      → AlwaysGives (passing_step steps (call_in call) outcome) (s, Some f) (passed outcome (λ (p : Unit {0}) x. h x) (λ p x. p) tt l)
+  lists_passed steps outcome s l a = all_given steps (call_in call) outcome (λ t p. t ≡ Some f) (λ p x. h x) (λ p x. p) (acts_in_slot) l s (Some f) tt refl a

@@ -1,0 +1,103 @@
+-- A trace that lets answers pass, answer by answer.
+use Rattle.std.specs.Prelude.{◌≡◌, List, [], ◌∷◌, ◌++◌, map, Option, Result, Some, None, Ok, Err}
+use Rattle.std.specs.List.{FoldsTo, filter_map}
+use Rattle.std.proofs.Common.{refl, sym, ap, subst}
+use Rattle.fallible_contract.specs.declared.folds.Exit.{Exit}
+use Rattle.fallible_contract.specs.Traces.{Answered, Run, Yields, item}
+use Rattle.fallible_contract.specs.Contract.{Contract, Lawful}
+use Rattle.fallible_contract.specs.Closures.{Calls, Reaches, IsCallable, call_in}
+use Rattle.fallible_contract.proofs.Lemmas.Definitions.{FirstOf, IsByAnswers}
+use Rattle.fallible_contract.proofs.Lemmas.Contract.{given_after}
+use Rattle.fallible_contract.specs.Laws.Closures.{reaches_here, reaches_weaken, reaches_from}
+use Rattle.fallible_contract.specs.Folds.{HoldsAtEachTurn, CarryingExit, Carried, stopped_answer, unpacked}
+use Rattle.fallible_contract.proofs.Lemmas.Folds.{turns_map}
+use Rattle.fallible_contract.specs.Passing.{PassTurn, Outcome, PassTrace, call_of}
+use Rattle.fallible_contract.specs.Laws.Passing.{Passes, done, ends, fails, keeps, refuses, closes, leaves_out, to_passes, from_passes}
+
+-- ---- a whole trace is its answers, one draw after another
+
+module _ {S F X R B E : Type 0} (steps : S → Answered X E → S → Type 0) (call : F → X → R → F → Type 0) (outcome : X → R → Outcome B E) where
+  passes_cons : (s u t : S) (f h g : F) (r : Answered B E) (rest : List (Answered B E)) → Passes steps call outcome s f (r ∷ []) u h → Passes steps call outcome u h rest t g → Passes steps call outcome s f (r ∷ rest) t g
+  passes_cons s u t f h g _ rest (ends step done) q = ends step q
+  passes_cons s u t f h g _ rest (fails e step done) q = fails e step q
+  passes_cons s u t f h g _ rest (keeps x v y step called is done) q = keeps x v y step called is q
+  passes_cons s u t f h g _ rest (refuses x v e step called is done) q = refuses x v e step called is q
+  passes_cons s u t f h g _ rest (closes x v step called is done) q = closes x v step called is q
+  passes_cons s u t f h g r rest (leaves_out {u = w} {h = j} x v step called is p) q = leaves_out x v step called is (passes_cons w u t j h g r rest p q)
+
+  -- what the first answer leaves, and the rest from there
+  record FirstPassed (s : S) (f : F) (r : Answered B E) (rest : List (Answered B E)) (t : S) (g : F) : Type 0 where
+    source : S
+    closure : F
+    first : Passes steps call outcome s f (r ∷ []) source closure
+    others : Passes steps call outcome source closure rest t g
+
+  passes_split : (s t : S) (f g : F) (r : Answered B E) (rest : List (Answered B E)) → Passes steps call outcome s f (r ∷ rest) t g → FirstPassed s f r rest t g
+  passes_split s t f g _ rest (ends {u = u} step p) = record { source = u; closure = f; first = ends step done; others = p }
+  passes_split s t f g _ rest (fails {u = u} e step p) = record { source = u; closure = f; first = fails e step done; others = p }
+  passes_split s t f g _ rest (keeps {u = u} {h = h} x v y step called is p) = record { source = u; closure = h; first = keeps x v y step called is done; others = p }
+  passes_split s t f g _ rest (refuses {u = u} {h = h} x v e step called is p) = record { source = u; closure = h; first = refuses x v e step called is done; others = p }
+  passes_split s t f g _ rest (closes {u = u} {h = h} x v step called is p) = record { source = u; closure = h; first = closes x v step called is done; others = p }
+  passes_split s t f g r rest (leaves_out {u = u} {h = h} x v step called is p) = let q = passes_split u t h g r rest p in record { source = q.source; closure = q.closure; first = leaves_out x v step called is q.first; others = q.others }
+
+  passes_some : (s t : S) (f g : F) (r : Answered B E) (rest : List (Answered B E)) → FirstPassed s f r rest t g → FirstOf (PassTrace steps call outcome) (s, f) r rest (t, g)
+  passes_some s t f g r rest q = record { then_at = (q.source, q.closure); first = from_passes q.first; others = from_passes q.others }
+
+  none_left : (s t : S) (f g : F) → Passes steps call outcome s f [] t g → ◌≡◌ {A = S × F} (s, f) (t, g)
+  none_left s _ f _ done = refl
+
+pub passing_by_answers : {S F X R B E : Type 0} (steps : S → Answered X E → S → Type 0) (call : F → X → R → F → Type 0) (outcome : X → R → Outcome B E) → IsByAnswers (PassTrace steps call outcome)
+passing_by_answers steps call outcome = record {
+  none = λ p. from_passes done;
+  same = λ p q d. none_left steps call outcome p.0 q.0 p.1 q.1 (to_passes d);
+  joins = λ p u q r rest d e. from_passes (passes_cons steps call outcome p.0 u.0 q.0 p.1 u.1 q.1 r rest (to_passes d) (to_passes e));
+  splits = λ p q r rest d. passes_some steps call outcome p.0 q.0 p.1 q.1 r rest (passes_split steps call outcome p.0 q.0 p.1 q.1 r rest (to_passes d));
+}
+
+-- ---- one draw as a fold that stops
+
+module _ {S F X R B E : Type 0} (steps : S → Answered X E → S → Type 0) (call : F → X → R → F → Type 0) (outcome : X → R → Outcome B E) where
+  abbrev leaving : F → X → F → Type 0
+  leaving f x g = PassTurn {B = B} {E = E} call outcome f x (Ok g)
+
+  after_left_out : (last : Answered X E) (r : Answered B E) (t : S) (h g : F) → ((u : S) → steps u last t → Passes steps call outcome u h (r ∷ []) t g) → (items : List X) (s : S) (f : F) → Run steps s (map item items ++ last ∷ []) t → FoldsTo leaving f items h → Passes steps call outcome s f (r ∷ []) t g
+  after_left_out last r t h g final [] s f ran went = subst (λ (k : F). Passes steps call outcome s k (r ∷ []) t g) (sym went) (final s (subst (λ (u : S). steps s last u) ran.2 ran.1))
+  after_left_out last r t h g final (x ∷ items) s f ran went = leaves_out x went.1.0 ran.1 went.1.1 went.1.2 (after_left_out last r t h g final items ran.0 went.0 ran.2 went.2)
+
+  module _ (turns : F → X → Result F (F × Result B E) → Type 0) (turn : (f : F) (x : X) (r : Result F (F × Result B E)) → turns f x r → PassTurn call outcome f x r) where
+    stop_turn : (x : X) (p : F × Result B E) (u t : S) (h : F) → steps u (item x) t → PassTurn call outcome h x (Err p) → Passes steps call outcome u h (stopped_answer p.1 ∷ []) t p.0
+    stop_turn x (g, Ok y) u t h step w = keeps x w.0 y step w.1 w.2 done
+    stop_turn x (g, Err e) u t h step w = refuses x w.0 e step w.1 w.2 done
+
+    final_turn : (last : Answered X E) (exit : Exit F E (F × Result B E)) (u t : S) (h : F) → CarryingExit turns h last exit → steps u last t → Passes steps call outcome u h ((unpacked exit).1 ∷ []) t (unpacked exit).0
+    final_turn (Ok None) exit u t h e step = subst (λ (x : Exit F E (F × Result B E)). Passes steps call outcome u h ((unpacked x).1 ∷ []) t (unpacked x).0) (sym e) (ends step done)
+    final_turn (Err d) exit u t h e step = subst (λ (x : Exit F E (F × Result B E)). Passes steps call outcome u h ((unpacked x).1 ∷ []) t (unpacked x).0) (sym e) (fails d step done)
+    final_turn (Ok (Some x)) exit u t h e step = subst (λ (z : Exit F E (F × Result B E)). Passes steps call outcome u h ((unpacked z).1 ∷ []) t (unpacked z).0) (sym e.2) (stop_turn x e.0 u t h step (turn h x (Err e.0) e.1))
+
+pub passes_fold : {S F X R B E : Type 0} {steps : S → Answered X E → S → Type 0} {call : F → X → R → F → Type 0} {outcome : X → R → Outcome B E} {turns : F → X → Result F (F × Result B E) → Type 0} {s t : S} {f : F} {exit : Exit F E (F × Result B E)}
+    → ((f : F) (x : X) (r : Result F (F × Result B E)) → turns f x r → PassTurn call outcome f x r) → Carried steps turns s f exit t → PassTrace steps call outcome (s, f) ((unpacked exit).1 ∷ []) (t, (unpacked exit).0)
+passes_fold {steps = steps} {call = call} {outcome = outcome} {turns = turns} {s = s} {t = t} {f = f} {exit = exit} turn w = from_passes (after_left_out steps call outcome w.last (unpacked exit).1 t w.carried (unpacked exit).0 (λ u step. final_turn steps call outcome turns turn w.last exit u t w.carried w.exit step) w.items s f w.ran (turns_map (λ g x h p. turn g x (Ok h) p) w.items f w.carried w.went))
+
+module _ {S F X R B E : Type 0} (m : Contract S X E) (l : Lawful m) (call : F → X → R → F → Type 0) (outcome : X → R → Outcome B E) where
+  turns_reach : (items : List X) (s t : S) (f g : F) → m.can s → Yields m.steps s items t → FoldsTo (leaving m.steps call outcome) f items g → Reaches call (m.gives s) f g
+  turns_reach [] s t f g c ran went = subst (λ (h : F). Reaches call (m.gives s) f h) went reaches_here
+  turns_reach (x ∷ items) s t f g c ran went = let a = l.goes s (item x) ran.0 c ran.1 in reaches_from x went.1.0 a.answer.0 went.1.1 (reaches_weaken a.gives (turns_reach items ran.0 t went.0 g a.can ran.2 went.2))
+
+-- a stored closure may be called at each turn of such a fold
+pub callable_turns : {S F X R B E : Type 0} {m : Contract S X E} {call : F → X → R → F → Type 0} {pre : F → X → Type 0} (outcome : X → R → Outcome B E) {s : S} {f : F} → Lawful m → m.can s → IsCallable call pre (m.gives s) f → HoldsAtEachTurn m.steps (λ g x h. PassTurn {B = B} {E = E} call outcome g x (Ok h)) pre s f
+callable_turns {m = m} {call = call} outcome {s = s} {f = f} l c callable = record { at = λ items t u g x ran went step. callable.at g x (turns_reach m l call outcome items s t f g c ran went) (given_after l s items t u x c ran step) }
+
+-- ---- what holds the closure
+
+module _ {F H X R : Type 0} (call : F → X → R → F → Type 0) (held : H → X → R → H → Type 0) (into : F → H) (holds : (f : F) (x : X) (v : R) (g : F) → call f x v g → held (into f) x v (into g)) where
+  -- calls of a closure are calls of what holds it
+  calls_held : (pairs : List (X × R)) (f g : F) → Calls call f pairs g → Calls held (into f) pairs (into g)
+  calls_held [] f g e = ap into e
+  calls_held (c ∷ pairs) f g w = (into w.0, holds f c.0 c.1 w.0 w.1, calls_held pairs w.0 g w.2)
+
+  pub passes_held : {S B E : Type 0} {steps : S → Answered X E → S → Type 0} {outcome : X → R → Outcome B E} {s t : S} {f g : F} {trace : List (Answered B E)} → PassTrace steps call outcome (s, f) trace (t, g) → PassTrace steps held outcome (s, into f) trace (t, into g)
+  passes_held {f = f} {g = g} p = record { places = p.places; drawn = p.drawn; called = calls_held (filter_map call_of p.places) f g p.called; answers = p.answers; last_kept = p.last_kept }
+
+-- a closure in its slot
+pub passes_in_slot : {S F X R B E : Type 0} {steps : S → Answered X E → S → Type 0} {call : F → X → R → F → Type 0} {outcome : X → R → Outcome B E} {s t : S} {f g : F} {trace : List (Answered B E)} → PassTrace steps call outcome (s, f) trace (t, g) → PassTrace steps (call_in call) outcome (s, Some f) trace (t, Some g)
+passes_in_slot {F = F} {call = call} p = passes_held {F = F} {H = Option F} call (call_in call) Some (λ f x v g called. called) p

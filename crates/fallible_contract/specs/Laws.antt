@@ -1,0 +1,8 @@
+-- What follows from the definitions: the lemmas that ghost members cite.
+pub mod Closing
+pub mod Closures
+pub mod Contract
+pub mod Counting
+pub mod Passing
+pub mod ToCome
+pub mod WithSteps

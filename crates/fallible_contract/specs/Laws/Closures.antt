@@ -1,0 +1,62 @@
+-- What calls of a stored closure lead to.
+use Rattle.std.specs.Prelude.{◌≡◌, List, [], ◌∷◌, ◌++◌, Option, Some, None}
+use Rattle.std.specs.List.{FoldsTo}
+use Rattle.std.proofs.Common.{refl, sym, subst}
+use Rattle.fallible_contract.specs.Closures.{Reaches, IsCallable, IsCallableIn, MayAnswer, call_in}
+
+-- turns over two lists, one after the other
+pub turns_then : {P A : Type 0} (R : P → A → P → Type 0) (xs ys : List A) (p q r : P) → FoldsTo R p xs q → FoldsTo R q ys r → FoldsTo R p (xs ++ ys) r
+turns_then R [] ys p q r e w = subst (λ z. FoldsTo R z ys r) (sym e) w
+turns_then R (x ∷ xs) ys p q r v w = (v.0, v.1, turns_then R xs ys v.0 q r v.2 w)
+
+turns_weaken : {F X R : Type 0} (call : F → X → R → F → Type 0) (P Q : X → Type 0) → ((x : X) → P x → Q x) → (made : List (X × R)) (f g : F) → FoldsTo (λ p c q. P c.0 × call p c.0 c.1 q) f made g → FoldsTo (λ p c q. Q c.0 × call p c.0 c.1 q) f made g
+turns_weaken call P Q h [] f g w = w
+turns_weaken call P Q h (c ∷ made) f g w = (w.0, (h c.0 w.1.0, w.1.1), turns_weaken call P Q h made w.0 g w.2)
+
+module _ {F X R : Type 0} {call : F → X → R → F → Type 0} where
+  pub reaches_here : {P : X → Type 0} {f : F} → Reaches call P f f
+  reaches_here = record { made = []; by = refl }
+
+  pub reaches_weaken : {P Q : X → Type 0} {f g : F} → ((x : X) → P x → Q x) → Reaches call P f g → Reaches call Q f g
+  reaches_weaken {P} {Q} {f} {g} h r = record { made = r.made; by = turns_weaken call P Q h r.made f g r.by }
+
+  pub reaches_then : {P : X → Type 0} {f g h : F} → Reaches call P f g → Reaches call P g h → Reaches call P f h
+  reaches_then {P} {f} {g} {h} r s = record { made = r.made ++ s.made; by = turns_then _ r.made s.made f g h r.by s.by }
+
+  -- one more call, before the others
+  pub reaches_from : {P : X → Type 0} {f g h : F} (x : X) (v : R) → P x → call f x v g → Reaches call P g h → Reaches call P f h
+  reaches_from {P} {f} {g} {h} x v given called r = record { made = (x, v) ∷ r.made; by = (g, (given, called), r.by) }
+
+  pub callable_after : {pre : F → X → Type 0} {P Q : X → Type 0} {f g : F} → ((x : X) → Q x → P x) → Reaches call P f g → IsCallable call pre P f → IsCallable call pre Q g
+  callable_after h r c = record { at = λ k x s q. c.at k x (reaches_then r (reaches_weaken h s)) (h x q) }
+
+module _ {F X R : Type 0} {call : F → X → R → F → Type 0} {P : X → Type 0} {f : F} {Q : X → R → Type 0} where
+  -- what may be answered after calls may be answered
+  pub may_answer_after : {P' : X → Type 0} {g : F} → ((x : X) → P' x → P x) → Reaches call P f g → MayAnswer call P' g Q → MayAnswer call P f Q
+  may_answer_after h r a = record { state = a.state; argument = a.argument; answer = a.answer; left = a.left; reached = reaches_then r (reaches_weaken h a.reached); given = h a.argument a.given; called = a.called; says = a.says }
+
+  pub may_answer_here : (g : F) (x : X) (v : R) → P x → call f x v g → Q x v → MayAnswer call P f Q
+  may_answer_here g x v given called says = record { state = f; argument = x; answer = v; left = g; reached = reaches_here; given = given; called = called; says = says }
+
+-- ---- what holds a closure: each call in there is one of the closure itself
+
+module _ {F H X R : Type 0} (call : F → X → R → F → Type 0) (held : H → X → R → H → Type 0) (into : F → H) (within : (f : F) (x : X) (v : R) (h : H) → held (into f) x v h → (g : F) × (h ≡ into g) × call f x v g) (P : X → Type 0) where
+  folds_within : (made : List (X × R)) (f : F) (h : H) → FoldsTo (λ p c q. P c.0 × held p c.0 c.1 q) (into f) made h → (g : F) × (h ≡ into g) × FoldsTo (λ p c q. P c.0 × call p c.0 c.1 q) f made g
+  folds_within [] f h w = (f, sym w, refl)
+  folds_within (c ∷ made) f h w =
+      let one = within f c.0 c.1 w.0 w.1.1 in
+      let rest = folds_within made one.0 h (subst (λ (k : H). FoldsTo (λ p d q. P d.0 × held p d.0 d.1 q) k made h) one.1 w.2) in
+      (rest.0, rest.1, (one.0, (w.1.0, one.2), rest.2))
+
+  pub reaches_within : (f : F) (h : H) → Reaches held P (into f) h → (g : F) × (h ≡ into g) × Reaches call P f g
+  reaches_within f h r = let k = folds_within r.made f h r.by in (k.0, k.1, record { made = r.made; by = k.2 })
+
+-- a call in a full slot leaves it full
+in_slot_within : {F X R : Type 0} (call : F → X → R → F → Type 0) (f : F) (x : X) (v : R) (slot : Option F) → call_in call (Some f) x v slot → (g : F) × (slot ≡ Some g) × call f x v g
+in_slot_within call f x v (Some g) called = (g, refl, called)
+in_slot_within call f x v None called = absurd called
+
+-- a stored closure that may be called may be called after calls
+pub callable_in_after : {F X R : Type 0} (call : F → X → R → F → Type 0) (pre : F → X → Type 0) (P Q : X → Type 0) (slot slot' : Option F) → ((x : X) → Q x → P x) → Reaches (call_in call) P slot slot' → IsCallableIn call pre P slot → IsCallableIn call pre Q slot'
+callable_in_after {F = F} call pre P Q (Some f) slot' h r c = let k = reaches_within {F = F} {H = Option F} call (call_in call) Some (in_slot_within call) P f slot' r in subst (λ (o : Option F). IsCallableIn call pre Q o) (sym k.1) (callable_after h k.2 c)
+callable_in_after call pre P Q None slot' h r c = absurd c

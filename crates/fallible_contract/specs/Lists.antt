@@ -1,0 +1,267 @@
+-- Lists of answers, from the front: what a caller states that a chain of calls computed.
+use Rattle.std.specs.Prelude.{◌≡◌, ℕ, ◌+◌, zero, suc, ◌≤◌, ◌<◌, length, slice_index_or, Result, Some, None, Ok, Err, List, [], ◌∷◌, Bool, true, false, ⊤}
+use Rattle.std.specs.Iterator.Runs.{EachRunFrom}
+use Rattle.std.specs.Borrow.{Bor}
+use Rattle.std.specs.declared.option.Option.{Option}
+use Rattle.fallible_contract.specs.Traces.{Answered, Run, end}
+use Rattle.fallible_contract.specs.declared.collecting.Fault.{Fault}
+use Rattle.fallible_contract.specs.declared.collecting.Fault.TheVariants.{Source, Memory}
+
+-- the answer that a result is: `Ok` an item, `Err` a failure
+abbrev pub result_answer : {A E : Type 0} → Result A E → Answered A E
+result_answer (Ok x) = Ok (Some x)
+result_answer (Err e) = Err e
+
+module _ {S A E : Type 0} (steps : S → Answered A E → S → Type 0) where
+  -- Whatever is drawn from s, the answers are those of the list, in order, and then an end.
+  abbrev pub AlwaysGives : S → List (Result A E) → Type 0
+  AlwaysGives s [] = (r : Answered A E) (t : S) → steps s r t → r ≡ end
+  AlwaysGives s (y ∷ l) = (r : Answered A E) (t : S) → steps s r t → (r ≡ result_answer y) × AlwaysGives t l
+
+  -- The answers of s, up to its first end, list l.
+  pub record Lists (s : S) (l : List (Result A E)) : Type 0 where
+    pub runs : AlwaysGives s l
+
+  -- Whatever is drawn from s, each answer is y.
+  pub record Repeats (s : S) (y : Result A E) : Type 0 where
+    pub each : (trace : List (Answered A E)) (t u : S) (r : Answered A E) → Run steps s trace t → steps t r u → r ≡ result_answer y
+
+-- The closure f acts as the function h: called on x it answers h x, and stays as it is.
+abbrev pub Acts : {F X R : Type 0} → (F → X → R → F → Type 0) → F → (X → R) → Type 0
+Acts {F} {X} {R} call f h = (x : X) (r : R) (g : F) → call f x r g → (g ≡ f) × (r ≡ h x)
+
+-- The same with a state: called at state t on x the closure answers and leaves what `next t x` says, and stays as it is itself.
+abbrev pub ActsWithState : {F T X R : Type 0} → (T × F → X → R → T × F → Type 0) → F → (T → X → R × T) → Type 0
+ActsWithState {F} {T} {X} {R} call f next = (t : T) (x : X) (r : R) (q : T × F) → call (t, f) x r q → (q ≡ ((next t x).1, f)) × (r ≡ (next t x).0)
+
+-- Whatever calls of a std iterator's `next` give from s, it reads the list: at each place h of the element there, and `None` only after the last one.
+abbrev pub RunsRead : {S X Z : Type 0} → (S → Option Z → S → Type 0) → (X → Z) → S → List X → Type 0
+RunsRead {X = X} gives h s l = EachRunFrom gives s (λ p. (p.len ≤ length l) × (p.whole ≡ true → p.len ≡ length l) × ((k : ℕ) (d : X) → k < p.len → p.at k ≡ Some (h (slice_index_or l k d))))
+
+-- ---- lists of sources
+
+-- the results themselves, as answers
+unfoldable pub results : {A E : Type 0} → List (Result A E) → List (Result A E)
+results l = l
+
+-- each an item
+unfoldable pub items : {A E : Type 0} → List A → List (Result A E)
+items [] = []
+items (x ∷ xs) = Ok x ∷ items xs
+
+-- ---- lists of adapters
+
+-- h x in the place of each item x
+unfoldable pub mapped : {X B E : Type 0} → (X → Result B E) → List (Result X E) → List (Result B E)
+mapped h [] = []
+mapped h (Ok x ∷ l) = h x ∷ mapped h l
+mapped h (Err e ∷ l) = Err e ∷ mapped h l
+
+-- an item before a list, where the predicate's answer keeps it; else nothing, or the predicate's failure
+abbrev pub cons_if : {X E : Type 0} → X → Result Bool E → List (Result X E) → List (Result X E)
+cons_if x (Ok true) l = Ok x ∷ l
+cons_if x (Ok false) l = l
+cons_if x (Err e) l = Err e ∷ l
+
+-- without the items x for which h x is false; where h x is a failure, that failure in the place of x
+unfoldable pub filtered : {X E : Type 0} → (X → Result Bool E) → List (Result X E) → List (Result X E)
+filtered h [] = []
+filtered h (Ok x ∷ l) = cons_if x (h x) (filtered h l)
+filtered h (Err e ∷ l) = Err e ∷ filtered h l
+
+-- up to and with the n-th item; failures don't count
+unfoldable pub taken : {X E : Type 0} → ℕ → List (Result X E) → List (Result X E)
+taken zero l = []
+taken (suc n) [] = []
+taken (suc n) (Ok x ∷ l) = Ok x ∷ taken n l
+taken (suc n) (Err e ∷ l) = Err e ∷ taken (suc n) l
+
+-- the value that a closure answers before a list; nothing where it answers none
+abbrev pub cons_some : {B E : Type 0} → Result (Option B) E → List (Result B E) → List (Result B E)
+cons_some (Ok (Some y)) l = Ok y ∷ l
+cons_some (Ok None) l = l
+cons_some (Err e) l = Err e ∷ l
+
+-- the value of h x in the place of each item x, and nothing where h x is none; where h x is a failure, that failure in the place of x
+unfoldable pub filter_mapped : {X B E : Type 0} → (X → Result (Option B) E) → List (Result X E) → List (Result B E)
+filter_mapped h [] = []
+filter_mapped h (Ok x ∷ l) = cons_some (h x) (filter_mapped h l)
+filter_mapped h (Err e ∷ l) = Err e ∷ filter_mapped h l
+
+-- an item that a closure has seen, or the closure's failure
+abbrev pub once_seen : {X E : Type 0} → X → Result (Unit {0}) E → Result X E
+once_seen x (Ok u) = Ok x
+once_seen x (Err e) = Err e
+
+-- the same, but where h x is a failure, that failure in the place of x
+unfoldable pub inspected : {X E : Type 0} → (X → Result (Unit {0}) E) → List (Result X E) → List (Result X E)
+inspected h [] = []
+inspected h (Ok x ∷ l) = once_seen x (h x) ∷ inspected h l
+inspected h (Err e ∷ l) = Err e ∷ inspected h l
+
+-- the value that a closure answers before a list; where it answers none, the list ends
+abbrev pub cons_or_end : {B E : Type 0} → Result (Option B) E → List (Result B E) → List (Result B E)
+cons_or_end (Ok (Some y)) l = Ok y ∷ l
+cons_or_end (Ok None) l = []
+cons_or_end (Err e) l = Err e ∷ l
+
+-- at state t the answer of `next t x` in the place of each item x, up to the first none, and the rest at the state that `next t x` leaves
+unfoldable pub scanned : {T X B E : Type 0} → (T → X → Result (Option B) E × T) → T → List (Result X E) → List (Result B E)
+scanned next t [] = []
+scanned next t (Ok x ∷ l) = cons_or_end (next t x).0 (scanned next (next t x).1 l)
+scanned next t (Err e ∷ l) = Err e ∷ scanned next t l
+
+-- an item from where the predicate's first answer on it decides: false keeps it and what comes after it, true leaves it out, and a failure stands in its place
+abbrev pub cons_from : {X E : Type 0} → X → Result Bool E → List (Result X E) → List (Result X E) → List (Result X E)
+cons_from x (Ok false) l skipped = Ok x ∷ l
+cons_from x (Ok true) l skipped = skipped
+cons_from x (Err e) l skipped = Err e ∷ skipped
+
+-- from the first item x on for which h x is false; before it failures stay, and where h x is a failure, that failure in the place of x
+unfoldable pub skipped_while : {X E : Type 0} → (X → Result Bool E) → List (Result X E) → List (Result X E)
+skipped_while h [] = []
+skipped_while h (Ok x ∷ l) = cons_from x (h x) l (skipped_while h l)
+skipped_while h (Err e ∷ l) = Err e ∷ skipped_while h l
+
+-- an item before a list where the predicate's answer keeps it; where it refuses it, the list ends
+abbrev pub cons_while : {X E : Type 0} → X → Result Bool E → List (Result X E) → List (Result X E)
+cons_while x (Ok true) l = Ok x ∷ l
+cons_while x (Ok false) l = []
+cons_while x (Err e) l = Err e ∷ l
+
+-- up to the first item x for which h x is false, without it; where h x is a failure, that failure in the place of x
+unfoldable pub taken_while : {X E : Type 0} → (X → Result Bool E) → List (Result X E) → List (Result X E)
+taken_while h [] = []
+taken_while h (Ok x ∷ l) = cons_while x (h x) (taken_while h l)
+taken_while h (Err e ∷ l) = Err e ∷ taken_while h l
+
+-- n times the item x
+unfoldable pub repeated : {A E : Type 0} → ℕ → A → List (Result A E)
+repeated zero x = []
+repeated (suc n) x = Ok x ∷ repeated n x
+
+-- each item beside its number, from n on; failures have none
+unfoldable pub numbered : {A E : Type 0} → ℕ → List (Result A E) → List (Result (ℕ × A) E)
+numbered n [] = []
+numbered n (Ok x ∷ l) = Ok (n, x) ∷ numbered (n + 1) l
+numbered n (Err e ∷ l) = Err e ∷ numbered n l
+
+-- h e in the place of each failure e
+unfoldable pub failures_mapped : {A D E : Type 0} → (D → E) → List (Result A D) → List (Result A E)
+failures_mapped h [] = []
+failures_mapped h (Ok x ∷ l) = Ok x ∷ failures_mapped h l
+failures_mapped h (Err e ∷ l) = Err (h e) ∷ failures_mapped h l
+
+-- what each item points to, in its place
+unfoldable pub pointed_to : {A E : Type 0} → List (Result (Bor A) E) → List (Result A E)
+pointed_to [] = []
+pointed_to (Ok x ∷ l) = Ok x.now ∷ pointed_to l
+pointed_to (Err e ∷ l) = Err e ∷ pointed_to l
+
+-- ---- what consumers make of a list
+
+-- one more, where there is a number
+abbrev pub one_more_than : {E : Type 0} → Result ℕ E → Result ℕ E
+one_more_than (Ok n) = Ok (n + 1)
+one_more_than (Err e) = Err e
+
+-- the number of items, or the first failure
+unfoldable pub counted : {A E : Type 0} → List (Result A E) → Result ℕ E
+counted [] = Ok 0
+counted (Ok x ∷ l) = one_more_than (counted l)
+counted (Err e ∷ l) = Err e
+
+-- the item with n items before it, or the failure or the end that comes first
+unfoldable pub nth_of : {A E : Type 0} → ℕ → List (Result A E) → Answered A E
+nth_of n [] = Ok None
+nth_of zero (Ok x ∷ l) = Ok (Some x)
+nth_of (suc n) (Ok x ∷ l) = nth_of n l
+nth_of n (Err e ∷ l) = Err e
+
+-- an item before a list of items, where there is one
+abbrev pub before : {A E : Type 0} → A → Result (List A) E → Result (List A) E
+before x (Ok xs) = Ok (x ∷ xs)
+before x (Err e) = Err e
+
+-- the list of the items, or the first failure
+unfoldable pub collected : {A E : Type 0} → List (Result A E) → Result (List A) E
+collected [] = Ok []
+collected (Ok x ∷ l) = before x (collected l)
+collected (Err e ∷ l) = Err e
+
+-- ---- joining, leaving out by number, and what consumers make
+
+-- one list and then another
+unfoldable pub chained : {A E : Type 0} → List (Result A E) → List (Result A E) → List (Result A E)
+chained [] b = b
+chained (y ∷ a) b = y ∷ chained a b
+
+-- Whatever iterator `into` allows for an item x, its answers list `inner x`.
+abbrev pub EachLists : {X C B E : Type 0} → (X → C → Type 0) → (C → Answered B E → C → Type 0) → (X → List (Result B E)) → Type 0
+EachLists {X} {C} into steps inner = (x : X) (c : C) → into x c → Lists steps c (inner x)
+
+-- the list `inner x` in the place of each item x; failures stay in their places
+unfoldable pub flattened : {X B E : Type 0} → (X → List (Result B E)) → List (Result X E) → List (Result B E)
+flattened inner [] = []
+flattened inner (Ok x ∷ l) = chained (inner x) (flattened inner l)
+flattened inner (Err e ∷ l) = Err e ∷ flattened inner l
+
+-- without the first n items; failures don't count, and stay
+unfoldable pub skipped : {A E : Type 0} → ℕ → List (Result A E) → List (Result A E)
+skipped n [] = []
+skipped n (Err e ∷ l) = Err e ∷ skipped n l
+skipped zero (Ok x ∷ l) = Ok x ∷ skipped zero l
+skipped (suc n) (Ok x ∷ l) = skipped n l
+
+-- without the first n items, and from there on without the `between` items after each one that is kept; failures don't count, and stay
+unfoldable pub stepped : {A E : Type 0} → ℕ → ℕ → List (Result A E) → List (Result A E)
+stepped between n [] = []
+stepped between n (Err e ∷ l) = Err e ∷ stepped between n l
+stepped between zero (Ok x ∷ l) = Ok x ∷ stepped between between l
+stepped between (suc n) (Ok x ∷ l) = stepped between n l
+
+-- pairs of an item and what stands beside it, up to the first end; a failure of the first list stands alone, and one of the second takes the item's place
+unfoldable pub zipped : {A B E : Type 0} → List (Result A E) → List (Result B E) → List (Result (A × B) E)
+zipped [] b = []
+zipped (Err e ∷ a) b = Err e ∷ zipped a b
+zipped (Ok x ∷ a) [] = []
+zipped (Ok x ∷ a) (Ok y ∷ b) = Ok (x, y) ∷ zipped a b
+zipped (Ok x ∷ a) (Err e ∷ b) = Err e ∷ zipped a b
+
+-- beside the end of the first list, if the second comes so far, stands no failure
+abbrev pub NoFailureAtEnd : {A B E : Type 0} → List (Result A E) → List (Result B E) → Type 0
+NoFailureAtEnd [] [] = ⊤
+NoFailureAtEnd [] (Ok y ∷ b) = ⊤
+NoFailureAtEnd [] (Err e ∷ b) = ⊥
+NoFailureAtEnd (Err e ∷ a) b = NoFailureAtEnd a b
+NoFailureAtEnd (Ok x ∷ a) [] = ⊤
+NoFailureAtEnd (Ok x ∷ a) (y ∷ b) = NoFailureAtEnd a b
+
+-- The collection is one of the list's items, the source's failure the list's first; want of memory says nothing of the list.
+abbrev pub CollectedBy : {A E C : Type 0} → (List A → C → Type 0) → List (Result A E) → Result C (Fault E) → Type 0
+CollectedBy {A = A} made l (Ok c) = (xs : List A) × (collected l ≡ Ok xs) × made xs c
+CollectedBy made l (Err (Source e)) = collected l ≡ Err e
+CollectedBy made l (Err (Memory a)) = ⊤
+
+-- What `collect` answers over the list.
+unfoldable pub CollectedAs : {A E C : Type 0} → (List A → C → Type 0) → List (Result A E) → Result C (Fault E) → Type 0
+CollectedAs made l r = CollectedBy made l r
+
+-- what f makes of the value, where there is one
+abbrev pub on_value : {A B E : Type 0} → Result A E → (A → Result B E) → Result B E
+on_value (Ok x) f = f x
+on_value (Err e) f = Err e
+
+-- the value that h makes of the value so far and each item, or its first failure, or the list's first, converted
+unfoldable pub folded : {A B E E' : Type 0} → (E → E') → (B → A → Result B E') → B → List (Result A E) → Result B E'
+folded convert h b [] = Ok b
+folded convert h b (Ok x ∷ l) = on_value (h b x) (λ c. folded convert h c l)
+folded convert h b (Err e ∷ l) = Err (convert e)
+
+-- The closure f acts as the function h on a value and an item: it answers h of them, and stays as it is.
+abbrev pub ActsWith : {F B A R : Type 0} → (F → B → A → R → F → Type 0) → F → (B → A → R) → Type 0
+ActsWith {F} {B} {A} {R} call f h = (b : B) (x : A) (r : R) (g : F) → call f b x r g → (g ≡ f) × (r ≡ h b x)
+
+-- Failures convert as the function does.
+abbrev pub Converts : {E E' : Type 0} → (E → E' → Type 0) → (E → E') → Type 0
+Converts {E} {E'} from convert = (e : E) (e' : E') → from e e' → e' ≡ convert e

@@ -1,0 +1,87 @@
+-- Adapters that let the answers of one source pass: of each item a closure is asked, and by its answer the item is kept as another, left out, or replaced by a failure or an end.
+use Rattle.std.specs.Prelude.{◌≡◌, ℕ, Option, Result, Some, Ok, Err, List, [], ◌∷◌, map, None, is_some, Bool, ◌⊎◌}
+use Rattle.std.specs.List.{filter_map}
+use Rattle.fallible_contract.specs.Traces.{LastKept, Answered, Run, item, failure, end}
+use Rattle.fallible_contract.specs.Contract.{Contract}
+use Rattle.fallible_contract.specs.Closures.{Calls, MayAnswer}
+
+-- what becomes of an item by the closure's answer
+pub data Outcome (B E : Type 0) : Type 0 where
+  kept : B → Outcome B E
+  left_out : Outcome B E
+  failed : E → Outcome B E
+  an_end : Outcome B E
+
+-- one answer of the source: an item on which the closure was called, with what it answered, a failure, or an end
+pub data Place (X R E : Type 0) : Type 0 where
+  asked : X → R → Place X R E
+  failure_at : E → Place X R E
+  end_at : Place X R E
+
+-- the source's answer at a place
+abbrev pub source_answer : {X R E : Type 0} → Place X R E → Answered X E
+source_answer (asked x r) = item x
+source_answer (failure_at e) = failure e
+source_answer end_at = end
+
+-- the call at a place, if there was one: its argument and its answer
+abbrev pub call_of : {X R E : Type 0} → Place X R E → Option (X × R)
+call_of (asked x r) = Some (x, r)
+call_of (failure_at e) = None
+call_of end_at = None
+
+-- the answer that an outcome is; none where the item is left out
+abbrev pub outcome_answer : {B E : Type 0} → Outcome B E → Option (Answered B E)
+outcome_answer (kept y) = Some (item y)
+outcome_answer left_out = None
+outcome_answer (failed e) = Some (failure e)
+outcome_answer an_end = Some end
+
+module _ {X R B E : Type 0} (outcome : X → R → Outcome B E) where
+  -- the adapter's answer at a place; none where the item is left out
+  abbrev pub answer_at : Place X R E → Option (Answered B E)
+  answer_at (asked x r) = outcome_answer (outcome x r)
+  answer_at (failure_at e) = Some (failure e)
+  answer_at end_at = Some end
+
+  -- whether the adapter has an answer at a place
+  abbrev pub has_answer : Place X R E → Bool
+  has_answer p = is_some (answer_at p)
+
+-- The adapter's trace is the source's trace without the left-out items, where an item that is kept as another, one whose closure failed and one that makes an end is replaced. The closure is called on each item in order, and the source's trace doesn't end in a left-out item. The parts are the source and what holds the closure.
+pub record PassTrace {S F X R B E : Type 0} (steps : S → Answered X E → S → Type 0) (call : F → X → R → F → Type 0) (outcome : X → R → Outcome B E) (p : S × F) (trace : List (Answered B E)) (q : S × F) : Type 0 where
+  pub places : List (Place X R E)
+  pub drawn : Run steps p.0 (map source_answer places) q.0
+  pub called : Calls call p.1 (filter_map call_of places) q.1
+  pub answers : trace ≡ filter_map (answer_at outcome) places
+  pub last_kept : LastKept (has_answer outcome) places
+
+-- The contract of such an adapter. It steps as its trace of one answer says. An item of it is what the closure may make of one that the source may give, and a failure of it one of the source's or the closure's.
+abbrev pub passing : {S F X R B E : Type 0} → Contract S X E → (F → X → R → F → Type 0) → ((X → Type 0) → F → Type 0) → (X → R → Outcome B E) → (S × F → ℕ × Option ℕ → Type 0) → Contract (S × F) B E
+passing m call callable outcome hints = record {
+  can = λ p. m.can p.0 × callable (m.gives p.0) p.1;
+  steps = λ p r q. PassTrace m.steps call outcome p (r ∷ []) q;
+  to_come = λ p n. m.to_come p.0 n;
+  has_end = λ p. m.has_end p.0;
+  elements = λ p. m.elements p.0;
+  gives = λ p y. MayAnswer call (m.gives p.0) p.1 (λ x v. outcome x v ≡ kept y);
+  fails = λ p e. m.fails p.0 e ⊎ MayAnswer call (m.gives p.0) p.1 (λ x v. outcome x v ≡ failed e);
+  hints = hints;
+  names = λ p. m.names p.0;
+}
+
+-- The contract of one that leaves items out. Its condition: one of the source, and a number to come of it, since one draw may leave many items out.
+abbrev pub leaving_out : {S F X R B E : Type 0} → Contract S X E → (F → X → R → F → Type 0) → ((X → Type 0) → F → Type 0) → (X → R → Outcome B E) → (S × F → ℕ × Option ℕ → Type 0) → Contract (S × F) B E
+leaving_out m call callable outcome hints = let p = passing m call callable outcome hints in record p { can = λ s. m.has_end s.0 × p.can s }
+
+-- ---- one draw of such an adapter, as a fold of the source that stops
+
+-- what becomes of the item at which the fold stops
+abbrev pub stopped_outcome : {B E : Type 0} → Result B E → Outcome B E
+stopped_outcome (Ok y) = kept y
+stopped_outcome (Err e) = failed e
+
+-- One call of the closure on an item: the fold goes on where the item is left out, and else stops with the closure and the answer.
+abbrev pub PassTurn : {F X R B E : Type 0} → (F → X → R → F → Type 0) → (X → R → Outcome B E) → F → X → Result F (F × Result B E) → Type 0
+PassTurn {R = R} call outcome f x (Ok g) = (v : R) × call f x v g × (outcome x v ≡ left_out)
+PassTurn {R = R} call outcome f x (Err p) = (v : R) × call f x v p.0 × (outcome x v ≡ stopped_outcome p.1)

@@ -1,0 +1,12 @@
+//! What draws answer, as values that a test or a caller can look at.
+
+/// What one draw answered.
+#[derive(Debug, PartialEq, Eq, Drop)]
+pub enum Answer<T, E> {
+    /// an item
+    Item(T),
+    /// a failure
+    Failure(E),
+    /// an end
+    End,
+}

@@ -1,0 +1,96 @@
+// What the adapters make of their sources' hints.
+ghost use Rattle.std.specs.Prelude.{◌≡◌, ◌+◌, ◌/◌};
+ghost use Rattle.fallible_contract.specs.Hints.{hint_up_to, hint_less, kept_of, hint_kept, HintWithItem, hint_sum, hint_smaller};
+
+// The smaller of each bound and n.
+pub fn up_to(hint: (usize, Option<usize>), n: usize) -> (usize, Option<usize>)
+    ensures { result ≡ hint_up_to n hint }
+{
+    let high = match hint.1 {
+        Some(bound) => Some(bound.min(n)),
+        None => None,
+    };
+    (hint.0.min(n), high)
+}
+
+// Each bound less n, and not below 0.
+pub fn less(hint: (usize, Option<usize>), n: usize) -> (usize, Option<usize>)
+    ensures { result ≡ hint_less n hint }
+{
+    let high = match hint.1 {
+        Some(bound) => Some(bound.saturating_sub(n)),
+        None => None,
+    };
+    (hint.0.saturating_sub(n), high)
+}
+
+// Each bound, of which the items are kept that come after the first `left` ones, at each step.
+pub fn kept(
+    hint: (usize, Option<usize>),
+    between: usize,
+    left: usize,
+) -> (usize, Option<usize>)
+    ensures { result ≡ hint_kept between left hint }
+{
+    let high = match hint.1 {
+        Some(bound) => Some(kept_of_bound(bound, between, left)),
+        None => None,
+    };
+    (kept_of_bound(hint.0, between, left), high)
+}
+
+// How many of n items are kept, where `left` are left out first.
+fn kept_of_bound(n: usize, between: usize, left: usize) -> usize
+    ensures { result ≡ kept_of between left n }
+{
+    if n <= left {
+        0
+    } else {
+        1 + whole_steps(n - 1 - left, between)
+    }
+}
+
+// How many whole steps fit into n items.
+fn whole_steps(n: usize, between: usize) -> usize
+    ensures { result ≡ n / (between + 1) }
+{
+    if n <= between { 0 } else { n / (between + 1) }
+}
+
+// One more on each bound: the lower at most `usize::MAX`, and no upper where it would be past that.
+pub fn one_more(hint: (usize, Option<usize>)) -> (usize, Option<usize>)
+    ensures { HintWithItem hint result }
+{
+    let high = match hint.1 {
+        Some(bound) => bound.checked_add(1),
+        None => None,
+    };
+    (hint.0.saturating_add(1), high)
+}
+
+// The sums of two hints' bounds.
+pub fn sum(a: (usize, Option<usize>), b: (usize, Option<usize>)) -> (usize, Option<usize>)
+    ensures { result ≡ hint_sum a b }
+{
+    let high = match (a.1, b.1) {
+        (Some(x), Some(y)) => x.checked_add(y),
+        (Some(_), None) => None,
+        (None, _) => None,
+    };
+    (a.0.saturating_add(b.0), high)
+}
+
+// The smaller of two hints' bounds.
+pub fn smaller(
+    a: (usize, Option<usize>),
+    b: (usize, Option<usize>),
+) -> (usize, Option<usize>)
+    ensures { result ≡ hint_smaller a b }
+{
+    let high = match (a.1, b.1) {
+        (Some(x), Some(y)) => Some(x.min(y)),
+        (Some(x), None) => Some(x),
+        (None, y) => y,
+    };
+    (a.0.min(b.0), high)
+}

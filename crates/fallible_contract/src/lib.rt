@@ -1,0 +1,9 @@
+//! What is said of fallible iterators, and what the trait is made of: their contract, traces and lists, the turns of folds, the arithmetic of hints, and collections.
+#![tactic(auto)]
+
+pub mod answers;
+pub mod collecting;
+pub mod folds;
+pub mod hints;
+
+pub use collecting::{Collect, Fault};
