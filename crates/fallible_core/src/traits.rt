@@ -19,7 +19,7 @@ ghost use Rattle.fallible_core.specs.Cutting.Skip.{skip_parts, skip_contract};
 ghost use Rattle.fallible_core.specs.Cutting.StepBy.{step_by_parts, step_by_contract};
 ghost use Rattle.fallible_core.specs.Joining.Chain.{chain_parts, chain_contract};
 ghost use Rattle.fallible_core.specs.Joining.Zip.{zip_parts, zip_contract};
-ghost use Rattle.fallible_core.specs.Joining.Flatten.{flatten_parts, flat_map_parts, flatten_contract};
+ghost use Rattle.fallible_core.specs.Joining.Flatten.{flatten_parts, flatten_contract};
 ghost use Rattle.fallible_core.specs.Borrowed.{borrowed};
 ghost use Rattle.fallible_core.specs.Peeking.Peekable.{peekable_parts, peekable_contract};
 ghost use Rattle.fallible_core.specs.Joining.Cycle.{cycle_parts};
@@ -453,11 +453,11 @@ pub trait FallibleIterator: Drop + Sized {
         F: FnMut(Self::Item) -> Result<U, Self::Error>,
         requires finite { contract.has_end self }
         requires callable { IsCallable (call_on F.FnMut) (takes_on F.FnMut) (contract.gives self) f }
-        ensures outer { map_parts (flat_map_parts result).0 ≡ (self, Some f) }
-        ensures in_hand { (flat_map_parts result).1 ≡ None }
-        ensures lists { (inner : U → List (Result U.Item Self.Error)) (h : Self.Item → Result U Self.Error) (l : List (Result Self.Item Self.Error)) → EachLists U.into_gives U.IntoFallibleIter.contract.steps inner → Acts (call_on F.FnMut) f h → Lists contract.steps self l → Lists (seen_as flat_map_parts (flatten_contract (seen_as map_parts (map_contract contract F.FnMut)) U.into_gives U.IntoFallibleIter.contract)).steps result (flattened inner (mapped h l)) }
+        ensures outer { map_parts (flatten_parts result).0 ≡ (self, Some f) }
+        ensures in_hand { (flatten_parts result).1 ≡ None }
+        ensures lists { (inner : U → List (Result U.Item Self.Error)) (h : Self.Item → Result U Self.Error) (l : List (Result Self.Item Self.Error)) → EachLists U.into_gives U.IntoFallibleIter.contract.steps inner → Acts (call_on F.FnMut) f h → Lists contract.steps self l → Lists (seen_as flatten_parts (flatten_contract (seen_as map_parts (map_contract contract F.FnMut)) U.into_gives U.IntoFallibleIter.contract)).steps result (flattened inner (mapped h l)) }
     {
-        FlatMap {
+        Flatten {
             it: self.map(f),
             in_hand: None,
         }

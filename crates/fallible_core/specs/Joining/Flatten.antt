@@ -4,9 +4,7 @@ use Rattle.std.specs.List.{flat_map}
 use Rattle.std.specs.Iterator.{endless}
 use Rattle.fallible_contract.specs.Traces.{Answered, Run, item, failure, end, NoEnd}
 use Rattle.fallible_contract.specs.Contract.{Contract}
-use Rattle.fallible_core.specs.declared.one_to_one.map.Map.{Map}
 use Rattle.fallible_core.specs.declared.joining.flatten.Flatten.{Flatten}
-use Rattle.fallible_core.specs.declared.joining.flatten.FlatMap.{FlatMap}
 
 -- What one answer of the outer source puts into the trace: an item became an inner iterator, with the answers that came from it; or a failure or an end, which is the answer itself.
 pub data Part (X C B E : Type 0) : Type 0 where
@@ -141,6 +139,3 @@ BeginTurn {C = C} into inner hand x (Err (hand', Err e)) = (c : C) × (d : C) ×
 -- the outer source, and the inner iterator in hand
 abbrev pub flatten_parts : {I J : Type 0} → Flatten I J → I × Option J
 flatten_parts s = (s.it, s.in_hand)
-
-abbrev pub flat_map_parts : {I J F : Type 0} → FlatMap I J F → Map I F × Option J
-flat_map_parts s = (s.it, s.in_hand)

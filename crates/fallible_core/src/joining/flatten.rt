@@ -1,10 +1,8 @@
 // The adapters that join the answers of inner iterators.
 ghost use Rattle.std.specs.Prelude.{◌≡◌, ℕ, [], ◌∷◌, None, Ok, IfSome, List, Option, Result};
 ghost use Rattle.fallible_contract.specs.Contract.{seen_as};
-ghost use Rattle.fallible_core.specs.Joining.Flatten.{EachInner, FlattenTrace, flatten_contract, BeginTurn, flatten_parts, flat_map_parts};
-ghost use Rattle.fallible_core.specs.OneToOne.Map.{map_parts};
+ghost use Rattle.fallible_core.specs.Joining.Flatten.{EachInner, FlattenTrace, flatten_contract, BeginTurn, flatten_parts};
 ghost use Rattle.fallible_contract.specs.Laws.Contract.{lawful_seen};
-ghost use Rattle.fallible_core.specs.Laws.OneToOne.Map.{lawful_map};
 ghost use Rattle.fallible_core.specs.Laws.Joining.Flatten.{lawful_flatten};
 
 use fallible_contract::folds::unpack;
@@ -13,7 +11,7 @@ use crate::traits::FallibleIterator;
 use crate::traits::conversion::IntoFallibleIterator;
 
 /// The answers of the inner iterators `J` that the items become, one inner iterator after the other. The one in hand answers until its end, at which it is dropped; then the next item is drawn. A failure of the inner iterator keeps it. A failure or an end of the outer source is the answer, and the next call draws from it again.
-#[derive(Clone, Drop)]
+#[derive(Clone, Debug, Drop)]
 pub struct Flatten<I, J> {
     pub(crate) it: I,
     pub(crate) in_hand: Option<J>,
@@ -39,36 +37,8 @@ impl<U: IntoFallibleIterator, I: FallibleIterator<Item = U, Error = U::Error>> F
     ghost lawful = { lawful_seen flatten_parts (lawful_flatten _ I.lawful U.into_gives _ U.IntoFallibleIter.lawful) };
 }
 
-/// The answers of the inner iterators `J` that the closure makes of the items, as `Flatten` joins them. Where the closure fails, its failure is the answer, and that item is lost.
-#[derive(Clone, Debug, Drop)]
-pub struct FlatMap<I, J, F> {
-    pub(crate) it: Map<I, F>,
-    pub(crate) in_hand: Option<J>,
-}
-
-impl<
-    I: FallibleIterator,
-    U: IntoFallibleIterator<Error = I::Error>,
-    F: FnMut(I::Item) -> Result<U, I::Error>,
-> FallibleIterator for FlatMap<I, U::IntoFallibleIter, F> {
-    type Item = U::Item;
-
-    type Error = I::Error;
-
-    ghost contract = { seen_as flat_map_parts (flatten_contract ⟦<Map<I, F> as FallibleIterator>⟧.contract U.into_gives U.IntoFallibleIter.contract) };
-
-    /// Draws as `Flatten` does, from the inner iterators that the closure makes.
-    fn next(&mut self) -> Result<Option<U::Item>, I::Error> {
-        let Self { it, in_hand } = self;
-        next_joined(it, in_hand)
-    }
-
-    fn size_hint(&self) -> (usize, Option<usize>) {
-        (0, None)
-    }
-
-    ghost lawful = { lawful_seen flat_map_parts (lawful_flatten _ (lawful_seen map_parts (lawful_map F.FnMut I.lawful)) U.into_gives _ U.IntoFallibleIter.lawful) };
-}
+/// The answers of the inner iterators `J` that the closure makes of the items, as `Flatten` joins them: a `Flatten` over the `Map` of the closure. Where the closure fails, its failure is the answer, and that item is lost.
+pub type FlatMap<I, J, F> = Flatten<Map<I, F>, J>;
 
 // One answer of the joined inner iterators. The one in hand is dropped at its end.
 fn next_joined<U: IntoFallibleIterator, O: FallibleIterator<Item = U, Error = U::Error>>(

@@ -3,10 +3,10 @@ ghost use Rattle.std.specs.Prelude.{Result};
 ghost use Rattle.fallible_contract.specs.Definitions.{MeetsHeld};
 ghost use Rattle.fallible_core.specs.Joining.Chain.{chain_parts, ChainTrace};
 ghost use Rattle.fallible_core.specs.Joining.Cycle.{cycle_parts, CycleTrace};
-ghost use Rattle.fallible_core.specs.Joining.Flatten.{flatten_parts, flat_map_parts, FlattenTrace};
+ghost use Rattle.fallible_core.specs.Joining.Flatten.{flatten_parts, FlattenTrace};
 ghost use Rattle.fallible_core.specs.Joining.Zip.{zip_parts, ZipTrace};
 
-use crate::joining::{Chain, Cycle, FlatMap, Flatten, Zip};
+use crate::joining::{Chain, Cycle, Flatten, Zip};
 use crate::one_to_one::Map;
 use crate::traits::FallibleIterator;
 use crate::traits::conversion::IntoFallibleIterator;
@@ -37,7 +37,7 @@ pub fn law_flat_map<
     F: FnMut(I::Item) -> Result<U, I::Error>,
 >()
 where
-    ensures { MeetsHeld flat_map_parts ⟦<FlatMap<I, U::IntoFallibleIter, F> as FallibleIterator>⟧.contract.steps (FlattenTrace ⟦<Map<I, F> as FallibleIterator>⟧.contract.steps U.into_gives U.IntoFallibleIter.contract.steps) }
+    ensures { MeetsHeld flatten_parts ⟦<Flatten<Map<I, F>, U::IntoFallibleIter> as FallibleIterator>⟧.contract.steps (FlattenTrace ⟦<Map<I, F> as FallibleIterator>⟧.contract.steps U.into_gives U.IntoFallibleIter.contract.steps) }
 {}
 
 /// A trace of `Cycle` is laps: answers of one run up to its end, which is not answered, and then those of a fresh clone, or the failure made of a refused clone, after which the next lap goes on over the same run. The kept source stays.

@@ -6,16 +6,14 @@ use Rattle.std.proofs.lemmas.List.{append-nil}
 use Rattle.fallible_contract.specs.declared.folds.Exit.{Exit}
 use Rattle.fallible_contract.specs.Traces.{Answered, Run, item, failure, end, is_end}
 use Rattle.fallible_contract.specs.Contract.{Contract, Lawful, seen_as}
-use Rattle.fallible_core.specs.declared.one_to_one.map.Map.{Map}
 use Rattle.fallible_core.specs.declared.joining.flatten.Flatten.{Flatten}
-use Rattle.fallible_core.specs.declared.joining.flatten.FlatMap.{FlatMap}
 use Rattle.fallible_contract.specs.Lists.{AlwaysGives, Lists, EachLists, result_answer, chained, flattened}
 use Rattle.fallible_contract.proofs.Lemmas.Lists.Passing.{gives_if, lists_seen}
 use Rattle.fallible_core.proofs.Lemmas.Joining.Chain.{not_end}
 use Rattle.fallible_contract.specs.Folds.{HoldsAtEachTurn, carrying_turn, CarryingExit, Carried, stopped_answer, unpacked}
 use Rattle.fallible_contract.proofs.Lemmas.Definitions.{FirstOf, IsByAnswers}
 use Rattle.fallible_contract.proofs.Lemmas.Contract.{given_after}
-use Rattle.fallible_core.specs.Joining.Flatten.{flatten_parts, flat_map_parts, flatten_contract, FlattenTrace, BeginTurn, EachInner, Part, of_inner, of_failure, of_end, outer_answer, part_answers, Finished, FinishedPart, LastPart, FinishedInHand, Joined, FlattenAnswers, nothing_drawn, still_in_hand, outer_drawn}
+use Rattle.fallible_core.specs.Joining.Flatten.{flatten_parts, flatten_contract, FlattenTrace, BeginTurn, EachInner, Part, of_inner, of_failure, of_end, outer_answer, part_answers, Finished, FinishedPart, LastPart, FinishedInHand, Joined, FlattenAnswers, nothing_drawn, still_in_hand, outer_drawn}
 use Rattle.fallible_core.specs.Laws.Joining.Flatten.{Flattens, done, gives, fails, finishes, begins, outer_fails, outer_ends, to_flattens}
 
 module _ {S X C B E : Type 0} (outer : S → Answered X E → S → Type 0) (into : X → C → Type 0) (inner : C → Answered B E → C → Type 0) where
@@ -238,6 +236,3 @@ module _ {S X C B E : Type 0} (outer : S → Answered X E → S → Type 0) (int
 module _ {X C B E : Type 0} (into : X → C → Type 0) (k : Contract C B E) (inner : X → List (Result B E)) (l : List (Result X E)) (each : EachLists into k.steps inner) where
   pub lists_flattened : {S : Type 0} (m : Contract S X E) (f : Flatten S C) → flatten_parts f ≡ (f.it, None) → Lists m.steps f.it l → Lists (seen_as flatten_parts (flatten_contract m into k)).steps f (flattened inner l)
   lists_flattened m f parts i = lists_seen flatten_parts (flatten_contract m into k).steps f parts refl (flattened_gives m.steps into k.steps inner each l f.it i.runs)
-
-  pub lists_flat_mapped : {S F : Type 0} (m : Contract (Map S F) X E) (f : FlatMap S C F) → flat_map_parts f ≡ (f.it, None) → Lists m.steps f.it l → Lists (seen_as flat_map_parts (flatten_contract m into k)).steps f (flattened inner l)
-  lists_flat_mapped m f parts i = lists_seen flat_map_parts (flatten_contract m into k).steps f parts refl (flattened_gives m.steps into k.steps inner each l f.it i.runs)

@@ -3,9 +3,9 @@ use Rattle.std.proofs.Common.{refl}
 use Rattle.fallible_contract.specs.Contract.{seen_as}
 use Rattle.fallible_core.specs.OneToOne.Map.{map_parts, map_contract}
 use Rattle.fallible_contract.specs.Lists.{mapped}
-use Rattle.fallible_core.proofs.Lemmas.Joining.Flatten.{lists_flat_mapped}
+use Rattle.fallible_core.proofs.Lemmas.Joining.Flatten.{lists_flattened}
 use Rattle.fallible_core.proofs.traits.FallibleIterator.flat_map.Goals as goal
 
 pub returns-clause-lists : goal.returns-clause-lists
 returns-clause-lists g c inner h l each acts i =
-    lists_flat_mapped _ g.U.IntoFallibleIter.FallibleIterator.contract inner (mapped h l) each (seen_as map_parts (map_contract g.Self.FallibleIterator.contract g.F.FnMut)) _ refl (c.map.ensures.lists h l acts i)
+    lists_flattened _ g.U.IntoFallibleIter.FallibleIterator.contract inner (mapped h l) each (seen_as map_parts (map_contract g.Self.FallibleIterator.contract g.F.FnMut)) _ refl (c.map.ensures.lists h l acts i)
