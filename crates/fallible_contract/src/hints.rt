@@ -25,11 +25,7 @@ pub fn less(hint: (usize, Option<usize>), n: usize) -> (usize, Option<usize>)
 }
 
 // Each bound, of which the items are kept that come after the first `left` ones, at each step.
-pub fn kept(
-    hint: (usize, Option<usize>),
-    between: usize,
-    left: usize,
-) -> (usize, Option<usize>)
+pub fn kept(hint: (usize, Option<usize>), between: usize, left: usize) -> (usize, Option<usize>)
     ensures { result ≡ hint_kept between left hint }
 {
     let high = match hint.1 {
@@ -81,10 +77,7 @@ pub fn sum(a: (usize, Option<usize>), b: (usize, Option<usize>)) -> (usize, Opti
 }
 
 // The smaller of two hints' bounds.
-pub fn smaller(
-    a: (usize, Option<usize>),
-    b: (usize, Option<usize>),
-) -> (usize, Option<usize>)
+pub fn smaller(a: (usize, Option<usize>), b: (usize, Option<usize>)) -> (usize, Option<usize>)
     ensures { result ≡ hint_smaller a b }
 {
     let high = match (a.1, b.1) {

@@ -32,15 +32,15 @@ mod borrowed;
 mod boxed;
 pub mod conversion;
 
-use fallible_contract::collecting::{Collect, Fault};
 use crate::cutting::{Fuse, Skip, StepBy, Take, TakeWhile};
 use crate::filtering::{Filter, FilterMap, SkipWhile};
-use fallible_contract::folds::{Exit, Is, Turn};
 use crate::joining::{Chain, Cycle, FlatMap, Flatten, StillDrawn, Zip};
 use crate::number::Number;
 use crate::one_to_one::{Cloned, Enumerate, Inspect, Map, MapErr, Scan};
 use crate::peeking::Peekable;
 use crate::traits::conversion::IntoFallibleIterator;
+use fallible_contract::collecting::{Collect, Fault};
+use fallible_contract::folds::{Exit, Is, Turn};
 use std::alloc::{AllocError, Global};
 use std::convert::Infallible;
 use std::marker::PhantomData;

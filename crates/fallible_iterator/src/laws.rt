@@ -1,11 +1,13 @@
 //! What a trace of each type is, as laws, and traces that a test or a caller can look at.
+pub mod answers;
 pub mod sources;
 
+pub use answers::answers;
+pub use fallible_contract::answers::Answer;
 pub use fallible_core::laws::{
-    Answer, answers, law_borrowed, law_chain, law_cloned, law_cycle, law_enumerate, law_filter,
-    law_filter_map, law_flat_map, law_flatten, law_fuse, law_inspect, law_map, law_map_err,
-    law_peekable, law_scan, law_skip, law_skip_while, law_step_by, law_take, law_take_while,
-    law_to_come, law_zip,
+    law_borrowed, law_chain, law_cloned, law_cycle, law_enumerate, law_filter, law_filter_map,
+    law_flat_map, law_flatten, law_fuse, law_inspect, law_map, law_map_err, law_peekable, law_scan,
+    law_skip, law_skip_while, law_step_by, law_take, law_take_while, law_to_come, law_zip,
 };
 pub use sources::{
     law_convert, law_empty, law_from_fn, law_into_fallible, law_once, law_once_err, law_repeat,

@@ -1,9 +1,9 @@
 // Collections.
 ghost use Rattle.std.specs.Prelude.{⊤};
 
-use crate::collected::{expect_collected, expect_refused, expect_source_fault};
-use crate::listed::listed;
 use fallible_iterator::{Collect, FallibleIterator, Fault, IntoFallible, IteratorExt};
+use fallible_testing::collected::{expect_collected, expect_refused, expect_source_fault};
+use fallible_testing::listed::listed;
 use std::alloc::{AllocError, Global};
 use std::test::Fail;
 

@@ -1,9 +1,9 @@
 // Nothing is drawn after the answer that decides, so a borrowed source still gives the rest.
 ghost use Rattle.std.specs.Prelude.{⊤};
 
-use crate::collected::{expect_refused, expect_source_fault};
-use crate::listed::listed;
 use fallible_iterator::{Collect, FallibleIterator};
+use fallible_testing::collected::{expect_refused, expect_source_fault};
+use fallible_testing::listed::listed;
 use std::alloc::{AllocError, Global};
 use std::test::Fail;
 

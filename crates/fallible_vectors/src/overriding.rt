@@ -2,9 +2,9 @@
 ghost use Rattle.fallible_contract.specs.Contract.{seen_as};
 ghost use Rattle.fallible_contract.specs.Laws.Contract.{lawful_seen};
 
-use crate::listed::listed;
 use fallible_iterator::FallibleIterator;
 use fallible_iterator::folds::Is;
+use fallible_testing::listed::listed;
 use std::cell::Cell;
 use std::test::Fail;
 

@@ -3,9 +3,9 @@ ghost use Rattle.std.specs.Prelude.{◌≡◌, ◌+◌, MatchResult, MatchOption
 ghost use Rattle.std.proofs.Common.{rules};
 ghost use Rattle.fallible_contract.specs.Contract.{counting_down};
 
-use crate::answered::expect_answers;
 use fallible_iterator::FallibleIterator;
 use fallible_iterator::laws::Answer::{End, Item};
+use fallible_testing::answered::expect_answers;
 use std::test::Fail;
 
 // Counts down to 1, and then ends.

@@ -1,10 +1,10 @@
 // Sources.
-use crate::answered::expect_answers;
-use crate::collected::expect_collected;
-use crate::test_error::TestError;
-use crate::text::Text;
 use fallible_iterator::laws::Answer::{End, Failure, Item};
 use fallible_iterator::{FallibleIterator, IteratorExt, empty, from_fn, once, repeat, repeat_err};
+use fallible_testing::answered::expect_answers;
+use fallible_testing::collected::expect_collected;
+use fallible_testing::test_error::TestError;
+use fallible_testing::text::Text;
 use std::cell::Cell;
 use std::test::Fail;
 

@@ -1,11 +1,11 @@
 // The trait's own methods.
 ghost use Rattle.std.specs.Prelude.{◌≡◌, Ok};
 
-use crate::answered::expect_answers;
-use crate::listed::listed;
 use fallible_iterator::laws::Answer::{End, Failure, Item};
 use fallible_iterator::laws::answers;
 use fallible_iterator::{FallibleIterator, convert, once, once_err};
+use fallible_testing::answered::expect_answers;
+use fallible_testing::listed::listed;
 use std::test::Fail;
 
 // The sum, which fails with an item above 2.

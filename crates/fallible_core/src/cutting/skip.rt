@@ -6,8 +6,8 @@ ghost use Rattle.fallible_contract.specs.Laws.Contract.{lawful_seen};
 ghost use Rattle.fallible_core.specs.Laws.Cutting.Skip.{lawful_skip};
 
 use crate::cutting::counting::next_past;
-use fallible_contract::hints::less;
 use crate::traits::FallibleIterator;
+use fallible_contract::hints::less;
 
 /// The source's answers without its first n items. Failures and ends stay, and don't count.
 #[derive(Clone, Debug, Drop)]

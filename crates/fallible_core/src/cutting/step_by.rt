@@ -6,8 +6,8 @@ ghost use Rattle.fallible_contract.specs.Laws.Contract.{lawful_seen};
 ghost use Rattle.fallible_core.specs.Laws.Cutting.StepBy.{lawful_step_by};
 
 use crate::cutting::counting::next_past;
-use fallible_contract::hints::kept;
 use crate::traits::FallibleIterator;
+use fallible_contract::hints::kept;
 
 /// The source's first item, and from then on one item at each step. Failures and ends stay, and don't count.
 #[derive(Clone, Debug, Drop)]

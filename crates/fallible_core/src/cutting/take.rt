@@ -5,8 +5,8 @@ ghost use Rattle.fallible_core.specs.Cutting.Take.{take_contract, take_parts};
 ghost use Rattle.fallible_contract.specs.Laws.Contract.{lawful_seen};
 ghost use Rattle.fallible_core.specs.Laws.Cutting.Take.{lawful_take};
 
-use fallible_contract::hints::up_to;
 use crate::traits::FallibleIterator;
+use fallible_contract::hints::up_to;
 
 /// The answers of the source up to its n-th item, and then ends. Failures and ends of the source pass, and don't count.
 #[derive(Clone, Debug, Drop)]

@@ -7,8 +7,8 @@ ghost use Rattle.fallible_core.specs.Filtering.Filter.{filter_outcome, filter_co
 ghost use Rattle.fallible_contract.specs.Laws.Contract.{lawful_seen};
 ghost use Rattle.fallible_core.specs.Laws.Filtering.Filter.{lawful_filter};
 
-use fallible_contract::folds::unpack;
 use crate::traits::FallibleIterator;
+use fallible_contract::folds::unpack;
 
 /// The items to which the predicate answers true. An item on which it fails is lost, and its failure is the answer.
 #[derive(Clone, Debug, Drop)]

@@ -7,8 +7,8 @@ ghost use Rattle.fallible_core.specs.Filtering.FilterMap.{filter_map_outcome, fi
 ghost use Rattle.fallible_contract.specs.Laws.Contract.{lawful_seen};
 ghost use Rattle.fallible_core.specs.Laws.Filtering.FilterMap.{lawful_filter_map};
 
-use fallible_contract::folds::unpack;
 use crate::traits::FallibleIterator;
+use fallible_contract::folds::unpack;
 
 /// The values that the closure answers. An item on which it answers none is left out; an item on which it fails is lost, and its failure is the answer.
 #[derive(Clone, Debug, Drop)]

@@ -7,8 +7,8 @@ ghost use Rattle.fallible_core.specs.Filtering.SkipWhile.{skip_call, skip_takes,
 ghost use Rattle.fallible_contract.specs.Laws.Contract.{lawful_seen};
 ghost use Rattle.fallible_core.specs.Laws.Filtering.SkipWhile.{lawful_skip_while};
 
-use fallible_contract::folds::unpack;
 use crate::traits::FallibleIterator;
+use fallible_contract::folds::unpack;
 
 /// The items from the first one on to which the predicate answers false. It is asked up to and with that item and never again; an item on which it fails is lost, and its failure is the answer.
 #[derive(Clone, Debug, Drop)]

@@ -5,8 +5,8 @@ ghost use Rattle.fallible_core.specs.Joining.Chain.{chain_contract, chain_parts}
 ghost use Rattle.fallible_contract.specs.Laws.Contract.{lawful_seen};
 ghost use Rattle.fallible_core.specs.Laws.Joining.Chain.{lawful_chain};
 
-use fallible_contract::hints::sum;
 use crate::traits::FallibleIterator;
+use fallible_contract::hints::sum;
 
 // Which sides of a `Chain` are still drawn. A draw of `next` never makes it `FrontAlone`: that is for draws from the back.
 #[derive(Clone, Debug, Drop)]

@@ -5,10 +5,10 @@ ghost use Rattle.fallible_core.specs.Joining.Flatten.{EachInner, FlattenTrace, f
 ghost use Rattle.fallible_contract.specs.Laws.Contract.{lawful_seen};
 ghost use Rattle.fallible_core.specs.Laws.Joining.Flatten.{lawful_flatten};
 
-use fallible_contract::folds::unpack;
 use crate::one_to_one::Map;
 use crate::traits::FallibleIterator;
 use crate::traits::conversion::IntoFallibleIterator;
+use fallible_contract::folds::unpack;
 
 /// The answers of the inner iterators `J` that the items become, one inner iterator after the other. The one in hand answers until its end, at which it is dropped; then the next item is drawn. A failure of the inner iterator keeps it. A failure or an end of the outer source is the answer, and the next call draws from it again.
 #[derive(Clone, Debug, Drop)]

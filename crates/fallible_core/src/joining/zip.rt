@@ -5,8 +5,8 @@ ghost use Rattle.fallible_core.specs.Joining.Zip.{zip_contract, zip_parts};
 ghost use Rattle.fallible_contract.specs.Laws.Contract.{lawful_seen};
 ghost use Rattle.fallible_core.specs.Laws.Joining.Zip.{lawful_zip};
 
-use fallible_contract::hints::smaller;
 use crate::traits::FallibleIterator;
+use fallible_contract::hints::smaller;
 
 /// The pairs of the left's items and the right's, place by place. A failure of either side is the answer, and else an end of either is an end; an item beside a failure or an end is lost.
 #[derive(Clone, Debug, Drop)]

@@ -5,8 +5,8 @@ ghost use Rattle.fallible_core.specs.Peeking.Peekable.{peekable_contract, NextIf
 ghost use Rattle.fallible_contract.specs.Laws.Contract.{lawful_seen};
 ghost use Rattle.fallible_core.specs.Laws.Peeking.Peekable.{lawful_peekable};
 
-use fallible_contract::hints::one_more;
 use crate::traits::FallibleIterator;
+use fallible_contract::hints::one_more;
 
 /// The answers of the source, the next of which can be looked at ahead. An item or an end that was looked at is held, and comes first; a failure is not held.
 #[derive(Clone, Debug, Drop)]

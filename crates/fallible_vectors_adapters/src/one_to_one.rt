@@ -1,10 +1,10 @@
 // Adapters with one answer for each draw.
-use crate::answered::expect_answers;
-use crate::listed::listed;
-use crate::test_error::TestError;
-use crate::text::Text;
 use fallible_iterator::laws::Answer::{End, Failure, Item};
 use fallible_iterator::{FallibleIterator, IntoFallible, convert};
+use fallible_testing::answered::expect_answers;
+use fallible_testing::listed::listed;
+use fallible_testing::test_error::TestError;
+use fallible_testing::text::Text;
 use std::cell::Cell;
 use std::convert::Infallible;
 use std::test::Fail;

@@ -3,13 +3,13 @@ ghost use Rattle.std.specs.Prelude.{◌≡◌, ◌+◌, ◌≤◌, MatchResult, 
 ghost use Rattle.std.proofs.Common.{rules};
 ghost use Rattle.fallible_contract.specs.Contract.{counting_down};
 
-use crate::answered::expect_answers;
-use crate::collected::expect_collected;
-use crate::listed::listed;
-use crate::scripted::scripted;
-use crate::test_error::TestError;
 use fallible_iterator::laws::Answer::{End, Failure, Item};
 use fallible_iterator::{FallibleIterator, empty, once};
+use fallible_testing::answered::expect_answers;
+use fallible_testing::collected::expect_collected;
+use fallible_testing::listed::listed;
+use fallible_testing::scripted::scripted;
+use fallible_testing::test_error::TestError;
 use std::alloc::AllocError;
 use std::cell::Cell;
 use std::test::Fail;

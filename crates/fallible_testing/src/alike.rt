@@ -1,4 +1,4 @@
-// What a clone and its original answer.
+//! What a clone and its original answer.
 ghost use Rattle.fallible_contract.specs.Contract.{Stays};
 
 use crate::answered::expect_answers;
@@ -8,7 +8,7 @@ use std::fmt::Debug;
 use std::process::Abort;
 use std::test::Fail;
 
-// Fails the test where a clone, then the original, and then a second clone, made before either was drawn from, don't each give the answers expected, or hint otherwise than one another.
+/// Fails the test where a clone, then the original, and then a second clone, made before either was drawn from, don't each give the answers expected, or hint otherwise than one another.
 pub fn expect_alike<I: FallibleIterator + Clone>(
     rt: &(impl Abort + AllocGlobal),
     it: &mut I,

@@ -1,12 +1,12 @@
 // A clone goes on where its original stands, and leaves it there.
-use crate::alike::expect_alike;
-use crate::answered::expect_answers;
-use crate::listed::listed;
-use crate::test_error::TestError;
 use fallible_iterator::laws::Answer::{End, Failure, Item};
 use fallible_iterator::{
     FallibleIterator, IntoFallible, convert, empty, from_fn, once, once_err, repeat, repeat_err,
 };
+use fallible_testing::alike::expect_alike;
+use fallible_testing::answered::expect_answers;
+use fallible_testing::listed::listed;
+use fallible_testing::test_error::TestError;
 use std::convert::Infallible;
 use std::ops::Range;
 use std::test::Fail;

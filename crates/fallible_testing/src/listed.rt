@@ -1,11 +1,11 @@
-// A source over a list of answers, which the tests draw from.
+//! A source over a list of answers, which the tests draw from.
 ghost use Rattle.std.specs.Prelude.{◌^◌, ◌-◌, IfOk};
 
 use fallible_iterator::{Convert, FallibleIterator, convert};
 use std::alloc::{AllocError, Global};
 use std::vec::IntoIter;
 
-// `convert` of the answers, `Ok` for an item and `Err` for a failure.
+/// `convert` of the answers, `Ok` for an item and `Err` for a failure.
 pub fn listed<T: Drop, E: Drop, const N: usize>(
     alloc: Global,
     answers: [Result<T, E>; N],

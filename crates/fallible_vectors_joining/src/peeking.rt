@@ -2,11 +2,11 @@
 ghost use Rattle.std.specs.Prelude.{◌≡◌, ⊤, Some, None, Ok, MatchResult};
 ghost use Rattle.fallible_core.specs.Peeking.Peekable.{Fills, peekable_parts};
 
-use crate::answered::expect_answers;
-use crate::listed::listed;
-use crate::test_error::TestError;
 use fallible_iterator::laws::Answer::{End, Failure, Item};
 use fallible_iterator::{FallibleIterator, Peekable, convert, from_fn, once, repeat};
+use fallible_testing::answered::expect_answers;
+use fallible_testing::listed::listed;
+use fallible_testing::test_error::TestError;
 use std::cell::Cell;
 use std::test::Fail;
 

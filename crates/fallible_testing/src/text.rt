@@ -1,10 +1,13 @@
-// A text whose second clone is refused, the clones of all texts with the same count taken together.
+//! A text whose second clone is refused, the clones of all texts with the same count taken together.
 use std::alloc::AllocError;
 use std::cell::Cell;
 
+/// A text and the count of its clones.
 #[derive(Debug, Drop)]
 pub struct Text<'a> {
+    /// what it says
     pub text: &'a str,
+    /// how many clones were made of the texts that share it
     pub clones: &'a Cell<u32>,
 }
 

@@ -1,10 +1,10 @@
 // Adapters that cut a trace off, and `nth`.
-use crate::answered::expect_answers;
-use crate::collected::expect_collected;
-use crate::listed::listed;
-use crate::scripted::scripted;
 use fallible_iterator::FallibleIterator;
 use fallible_iterator::laws::Answer::{End, Failure, Item};
+use fallible_testing::answered::expect_answers;
+use fallible_testing::collected::expect_collected;
+use fallible_testing::listed::listed;
+use fallible_testing::scripted::scripted;
 use std::test::Fail;
 
 #[test]

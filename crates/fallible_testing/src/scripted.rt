@@ -1,4 +1,4 @@
-// A source of listed answers, ends among them.
+//! A source of listed answers, ends among them.
 ghost use Rattle.std.specs.Prelude.{◌≡◌, ◌+◌, ◌≤◌, MatchResult, MatchOption};
 ghost use Rattle.std.proofs.Common.{rules};
 ghost use Rattle.std.specs.Vec.Iter.{into_iter_len};
@@ -8,10 +8,11 @@ use fallible_iterator::FallibleIterator;
 use std::alloc::{AllocError, Global};
 use std::vec::IntoIter;
 
-// Gives the answers, and then ends.
+/// Gives the answers, and then ends.
 #[derive(Clone, Drop)]
 pub struct Script<T, E> {
-    answers: IntoIter<Result<Option<T>, E>>,
+    /// the answers that are left
+    pub answers: IntoIter<Result<Option<T>, E>>,
 }
 
 impl<T: Drop, E: Drop> FallibleIterator for Script<T, E> {
@@ -35,6 +36,7 @@ impl<T: Drop, E: Drop> FallibleIterator for Script<T, E> {
     ghost lawful = { Prim.search rules };
 }
 
+/// A source that gives these answers, and then ends.
 pub fn scripted<T: Drop, E: Drop, const N: usize>(
     alloc: Global,
     answers: [Result<Option<T>, E>; N],

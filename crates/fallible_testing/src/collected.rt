@@ -1,9 +1,9 @@
-// What `collect` answers.
+//! What `collect` answers.
 use fallible_iterator::Fault;
 use std::fmt::Debug;
 use std::process::Abort;
 
-// Fails the test where anything else than a `Vec` of these items was made.
+/// Fails the test where anything else than a `Vec` of these items was made.
 pub fn expect_collected<T, E>(rt: &impl Abort, made: Result<Vec<T>, Fault<E>>, expected: &[T])
 where
     T: Debug + Drop + PartialEq,
@@ -15,7 +15,7 @@ where
     }
 }
 
-// Fails the test where the answer isn't this failure of the source.
+/// Fails the test where the answer isn't this failure of the source.
 pub fn expect_source_fault<C, E>(rt: &impl Abort, made: Result<C, Fault<E>>, expected: E)
 where
     C: Drop,
@@ -28,7 +28,7 @@ where
     }
 }
 
-// Fails the test where memory was not refused.
+/// Fails the test where memory was not refused.
 pub fn expect_refused<C, E>(rt: &impl Abort, made: Result<C, Fault<E>>)
 where
     C: Drop,

@@ -1,11 +1,11 @@
 // Adapters that join two sources.
-use crate::answered::expect_answers;
-use crate::collected::expect_collected;
-use crate::listed::listed;
-use crate::scripted::scripted;
-use crate::test_error::TestError;
 use fallible_iterator::laws::Answer::{End, Failure, Item};
 use fallible_iterator::{FallibleIterator, IteratorExt, empty, from_fn, once, repeat, repeat_err};
+use fallible_testing::answered::expect_answers;
+use fallible_testing::collected::expect_collected;
+use fallible_testing::listed::listed;
+use fallible_testing::scripted::scripted;
+use fallible_testing::test_error::TestError;
 use std::test::Fail;
 
 #[test]

@@ -1,9 +1,9 @@
 // Adapters that join inner iterators.
-use crate::answered::expect_answers;
-use crate::collected::expect_collected;
-use crate::listed::listed;
 use fallible_iterator::laws::Answer::{End, Failure, Item};
 use fallible_iterator::{FallibleIterator, IntoFallible, IntoFallibleIterator, from_fn, once};
+use fallible_testing::answered::expect_answers;
+use fallible_testing::collected::expect_collected;
+use fallible_testing::listed::listed;
 use std::convert::Infallible;
 use std::ops::Range;
 use std::test::Fail;

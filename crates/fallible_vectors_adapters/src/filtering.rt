@@ -1,8 +1,8 @@
 // Adapters that leave items out.
-use crate::answered::expect_answers;
-use crate::listed::listed;
 use fallible_iterator::FallibleIterator;
 use fallible_iterator::laws::Answer::{End, Failure, Item};
+use fallible_testing::answered::expect_answers;
+use fallible_testing::listed::listed;
 use std::test::Fail;
 
 #[test]

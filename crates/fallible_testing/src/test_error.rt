@@ -1,9 +1,12 @@
-// An error that want of memory becomes, which the tests fail with.
+//! An error that want of memory becomes, which the tests fail with.
 use std::alloc::AllocError;
 
+/// A number, or want of memory.
 #[derive(Clone, Debug, PartialEq, Eq, Drop)]
 pub enum TestError {
+    /// a number that tells failures apart
     Number(u32),
+    /// what a refused request becomes
     Memory,
 }
 

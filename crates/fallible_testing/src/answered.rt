@@ -1,4 +1,4 @@
-// What the next draws answer.
+//! What the next draws answer.
 ghost use Rattle.fallible_contract.specs.Contract.{Stays};
 
 use fallible_iterator::FallibleIterator;
@@ -7,7 +7,7 @@ use std::fmt::Debug;
 use std::process::Abort;
 use std::test::Fail;
 
-// Draws as often as there are answers expected, and fails the test where others come.
+/// Draws as often as there are answers expected, and fails the test where others come.
 pub fn expect_answers<I: FallibleIterator>(
     rt: &(impl Abort + AllocGlobal),
     it: &mut I,

@@ -1,9 +1,9 @@
 // The adapter that ends for good: an end that it met is kept, whoever drew it.
-use crate::answered::expect_answers;
-use crate::listed::listed;
-use crate::scripted::{Script, scripted};
 use fallible_iterator::FallibleIterator;
 use fallible_iterator::laws::Answer::{End, Failure, Item};
+use fallible_testing::answered::expect_answers;
+use fallible_testing::listed::listed;
+use fallible_testing::scripted::{Script, scripted};
 use std::alloc::{AllocError, Global};
 use std::test::Fail;
 

@@ -1,0 +1,11 @@
+//! Vectors: the adapters of one source on small inputs, with answers that come from outside.
+#![tactic(auto)]
+
+#[cfg(test)]
+mod cutting;
+#[cfg(test)]
+mod filtering;
+#[cfg(test)]
+mod fusing;
+#[cfg(test)]
+mod one_to_one;

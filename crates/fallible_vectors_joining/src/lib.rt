@@ -1,0 +1,13 @@
+//! Vectors: the adapters that join, repeat or look ahead, and clones of all, on small inputs, with answers that come from outside.
+#![tactic(auto)]
+
+#[cfg(test)]
+mod cloning;
+#[cfg(test)]
+mod cycling;
+#[cfg(test)]
+mod flattening;
+#[cfg(test)]
+mod joining;
+#[cfg(test)]
+mod peeking;
