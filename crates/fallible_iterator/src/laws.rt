@@ -1,8 +1,7 @@
 //! What a trace of each type is, as laws, and traces that a test or a caller can look at.
-pub mod answers;
 pub mod sources;
+pub mod traces;
 
-pub use answers::answers;
 pub use fallible_contract::answers::Answer;
 pub use fallible_core::laws::{
     law_borrowed, law_chain, law_cloned, law_cycle, law_enumerate, law_filter, law_filter_map,
@@ -13,3 +12,4 @@ pub use sources::{
     law_convert, law_empty, law_from_fn, law_into_fallible, law_once, law_once_err, law_repeat,
     law_repeat_err, law_sources,
 };
+pub use traces::answers;

@@ -3,7 +3,7 @@ use Rattle.std.proofs.Common.{◌≡◌, ℕ, vec_len, subst, arith}
 use Rattle.fallible_contract.proofs.Lemmas.Contract.{stays_step}
 use Rattle.fallible_contract.proofs.Lemmas.Answers.{one_more_answer, answers_told}
 use Rattle.fallible_contract.specs.Answers.{IsAnswers}
-use Rattle.fallible_iterator.proofs.laws.answers.answers.Goals as goal
+use Rattle.fallible_iterator.proofs.laws.traces.answers.Goals as goal
 
 pub loop-it-preserved : goal.loop-it-preserved
 loop-it-preserved g c = let i = c.loop-it.invariant in let d = c.draw-answer.ensures in let e = c.in-Ok.ensures in record {

@@ -2,7 +2,7 @@
 use Rattle.std.proofs.Common.{◌≤◌, ◌-◌, vec_len, vec_capacity}
 use Rattle.fallible_contract.specs.Contract.{Stays}
 use Rattle.fallible_contract.specs.Answers.{IsAnswers}
-use Rattle.fallible_iterator.proofs.laws.answers.answers.Given as goal
+use Rattle.fallible_iterator.proofs.laws.traces.answers.Given as goal
 
 abbrev pub invariant-loop-it : goal.invariant-loop-it
 invariant-loop-it g l = let m = g.I.FallibleIterator.contract in record {
