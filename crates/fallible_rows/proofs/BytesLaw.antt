@@ -13,7 +13,7 @@ use Rattle.fallible_rows.specs.declared.rows.Ahead.{Ahead}
 use Rattle.fallible_rows.specs.Rows.{rows, is_newline}
 use Rattle.fallible_rows.specs.RowTraces.{row_answer, row_answers, IsOneRow, IsClosed, GivesBytes, row_step, ReadsRows, AnswersRowsOf, NeverFailsToRead, BeginsWith, CanGiveAll}
 use Rattle.fallible_rows.proofs.RowLemmas.{not_newline, rows-closed}
-use Rattle.fallible_rows.proofs.TraceLemmas.{folds_split}
+use Rattle.fallible_rows.proofs.Generic.{turns_split}
 use Rattle.fallible_rows.proofs.RowsLaw.{to_trace, from_trace}
 use Rattle.fallible_rows.proofs.FrontLemmas.{gives_consumes, end_consumes}
 
@@ -122,5 +122,5 @@ module _ {B : Type 0} (left : B → Option (List ℕ)) (stays : B → B → Type
       let known = front ++ replicate h.1 end in
       let one_more : front ++ replicate (suc h.1) end ≡ take h.0 known ++ (drop h.0 known ++ end ∷ []) =
       ap (λ l. front ++ l) (replicate_push h.1 end) ∙ sym (append_assoc front (replicate h.1 end) (end ∷ [])) ∙ ap (λ l. l ++ end ∷ []) (sym (take-append-drop h.0 known)) ∙ append_assoc (take h.0 known) (drop h.0 known) (end ∷ []) in
-      let parts = folds_split (row_step left stays) (take h.0 known) (drop h.0 known ++ end ∷ []) p (c.after, None) (subst (λ l. Run (row_step left stays) p l (c.after, None)) one_more (all_answers bytes h.1 p b c)) in
+      let parts = turns_split (row_step left stays) (take h.0 known) (drop h.0 known ++ end ∷ []) p (c.after, None) (subst (λ l. Run (row_step left stays) p l (c.after, None)) one_more (all_answers bytes h.1 p b c)) in
       (parts.0, subst (λ l. Run (row_step left stays) p l parts.0) (sym h.2) parts.1)

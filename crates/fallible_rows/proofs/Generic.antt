@@ -48,6 +48,11 @@ module _ {A E : Type 0} where
   no_seam (y ∷ front) rest z [] none e = absurd cc
   no_seam (y ∷ front) rest z (x ∷ xs) none e = no_seam front rest z xs none cc
 
+-- turns over two lists are those over the one and then those over the other
+pub turns_split : {P A : Type 0} (R : P → A → P → Type 0) (xs ys : List A) (p r : P) → FoldsTo R p (xs ++ ys) r → (q : P) × FoldsTo R p xs q × FoldsTo R q ys r
+turns_split R [] ys p r h = (p, refl, h)
+turns_split R (x ∷ xs) ys p r h = let k = turns_split R xs ys h.0 r h.2 in (k.0, (h.0, h.1, k.1), k.2)
+
 -- a run of a type is one of what its values are seen as
 pub run_seen : {S P A E : Type 0} (view : S → P) (steps : P → Answered A E → P → Type 0) (trace : List (Answered A E)) (s t : S) → Run (λ u r v. steps (view u) r (view v)) s trace t → Run steps (view s) trace (view t)
 run_seen view steps [] s t e = ap view e
