@@ -22,6 +22,7 @@ pub(crate) fn count_above<R: Read>(reader: &mut R) -> Result<usize, RowFault>
     let mut above = Rows::new(Lent { reader })
         .take(MAX_ROWS)
         .filter(|number| Ok(*number > LIMIT));
+    // `count` would consume the chain, and tell nothing of what it leaves of the reader.
     let one_more = |count: usize, _: u64| -> Result<usize, RowFault>
         requires { count < 2 ^ 64 - 1 }
         ensures { result ≡ Ok (count + 1) }
