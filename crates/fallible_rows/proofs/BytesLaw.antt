@@ -1,5 +1,5 @@
 -- The rows of a reader that tells its bytes.
-use Rattle.std.proofs.Common.{◌≡◌, ℕ, zero, suc, ◌+◌, ◌<◌, inl, inr, Bool, true, false, List, [], ◌∷◌, ◌++◌, length, take, drop, Option, Some, None, refl, sym, ap, subst, ◌∙◌, arith, append_assoc, append-nil, lit≤}
+use Rattle.std.proofs.Common.{◌≡◌, ℕ, ◌+◌, ◌<◌, inl, inr, Bool, true, false, List, [], ◌∷◌, ◌++◌, length, take, drop, Option, Some, None, refl, sym, ap, subst, ◌∙◌, arith, append_assoc, append-nil, lit≤}
 use Rattle.std.specs.Prelude.{replicate}
 use Rattle.std.specs.Io.KnownBytes.{Consumes, IsAtEnd}
 use Rattle.std.proofs.Math.Seq.{get_or-append_seam}
@@ -7,13 +7,14 @@ use Rattle.std.proofs.lemmas.Bool.{eqb-true, eqb-false}
 use Rattle.std.proofs.lemmas.List.{take_at, take_all, take-append-drop, length-append}
 use Rattle.std.proofs.lemmas.List.Elements.{All-nil, All-cons}
 use Rattle.fallible_contract.specs.Traces.{Answered, Run, failure, end}
+use Rattle.std.proofs.lemmas.Grind.{replicate_next}
 use Rattle.fallible_rows.specs.declared.fault.RowFault.{RowFault}
 use Rattle.fallible_rows.specs.declared.fault.RowFault.TheVariants.{Read}
 use Rattle.fallible_rows.specs.declared.rows.Ahead.{Ahead}
 use Rattle.fallible_rows.specs.Rows.{rows, is_newline}
 use Rattle.fallible_rows.specs.RowTraces.{row_answer, row_answers, IsOneRow, IsClosed, GivesBytes, row_step, ReadsRows, AnswersRowsOf, NeverFailsToRead, BeginsWith, CanGiveAll}
 use Rattle.fallible_rows.proofs.RowLemmas.{not_newline, rows-closed}
-use Rattle.fallible_rows.proofs.TraceLemmas.{folds_split}
+use Rattle.fallible_rows.proofs.Generic.{turns_split}
 use Rattle.fallible_rows.proofs.RowsLaw.{to_trace, from_trace}
 use Rattle.fallible_rows.proofs.FrontLemmas.{gives_consumes, end_consumes}
 
@@ -47,10 +48,6 @@ byte_onto x bytes [] unclosed are closed one false is = record { closed = []; un
 in_two : (bytes : List ℕ) → InTwo bytes
 in_two [] = record { closed = []; unclosed = []; are = refl; are_closed = inl refl; one = All-nil not_newline }
 in_two (x ∷ xs) = let h = in_two xs in byte_onto x xs h.closed h.unclosed h.are h.are_closed h.one (is_newline x) refl
-
-replicate_push : {X : Type 0} (n : ℕ) (x : X) → replicate (suc n) x ≡ replicate n x ++ x ∷ []
-replicate_push zero x = refl
-replicate_push (suc n) x = ap (λ l. x ∷ l) (replicate_push n x)
 
 -- ---- a trace over known bytes
 
@@ -93,12 +90,12 @@ module _ {B : Type 0} (left : B → Option (List ℕ)) (stays : B → B → Type
       answers_known bytes trace p.0 ahead q refl b.tells never (to_trace left stays trace p.0 ahead q (lit≤ tt) (subst (λ (u : B × Option Ahead). Run (row_step left stays) u trace q) b.begins ran))
 
   -- all answers, and then ends
-  all_answers : (bytes : List ℕ) (n : ℕ) (p : B × Option Ahead) → BeginsWith left stays p bytes → (c : CanGiveAll left stays p bytes) → Run (row_step left stays) p (row_answers 1 (rows bytes) ++ replicate (suc n) end) (c.after, None)
+  all_answers : (bytes : List ℕ) (n : ℕ) (p : B × Option Ahead) → BeginsWith left stays p bytes → (c : CanGiveAll left stays p bytes) → Run (row_step left stays) p (row_answers 1 (rows bytes) ++ replicate (n + 1) end) (c.after, None)
   all_answers bytes n p b c =
       let ahead : Ahead = record { left = b.limit; place = 1 } in
       let h = in_two bytes in
       let within = b.within in
-      let reads : ReadsRows left stays p.0 ahead (row_answers 1 (rows bytes) ++ replicate (suc n) end) (c.after, None) = record {
+      let reads : ReadsRows left stays p.0 ahead (row_answers 1 (rows bytes) ++ replicate (n + 1) end) (c.after, None) = record {
         closed = h.closed;
         unclosed = h.unclosed;
         last = c.last;
@@ -106,21 +103,21 @@ module _ {B : Type 0} (left : B → Option (List ℕ)) (stays : B → B → Type
         are_closed = h.are_closed;
         one = h.one;
         stopped = inr (inl (record {
-          ends = suc n;
+          ends = n + 1;
           met_end = c.met_end;
           limit = subst (λ l. length l < b.limit) h.are within;
           is_left = refl;
-          answers = ap (λ l. row_answers 1 (rows l) ++ replicate (suc n) end) h.are;
+          answers = ap (λ l. row_answers 1 (rows l) ++ replicate (n + 1) end) h.are;
           ended = λ _. omega arith;
         }));
       } in
-      subst (λ (u : B × Option Ahead). Run (row_step left stays) u (row_answers 1 (rows bytes) ++ replicate (suc n) end) (c.after, None)) (sym b.begins) (from_trace left stays (row_answers 1 (rows bytes) ++ replicate (suc n) end) p.0 ahead (c.after, None) (lit≤ tt) reads)
+      subst (λ (u : B × Option Ahead). Run (row_step left stays) u (row_answers 1 (rows bytes) ++ replicate (n + 1) end) (c.after, None)) (sym b.begins) (from_trace left stays (row_answers 1 (rows bytes) ++ replicate (n + 1) end) p.0 ahead (c.after, None) (lit≤ tt) reads)
 
   pub bytes_each : (bytes : List ℕ) (trace : Answers) (p : B × Option Ahead) → BeginsWith left stays p bytes → CanGiveAll left stays p bytes → AnswersRowsOf bytes trace → (q : B × Option Ahead) × Run (row_step left stays) p trace q
   bytes_each bytes trace p b c h =
       let front = row_answers 1 (rows bytes) in
       let known = front ++ replicate h.1 end in
-      let one_more : front ++ replicate (suc h.1) end ≡ take h.0 known ++ (drop h.0 known ++ end ∷ []) =
-      ap (λ l. front ++ l) (replicate_push h.1 end) ∙ sym (append_assoc front (replicate h.1 end) (end ∷ [])) ∙ ap (λ l. l ++ end ∷ []) (sym (take-append-drop h.0 known)) ∙ append_assoc (take h.0 known) (drop h.0 known) (end ∷ []) in
-      let parts = folds_split (row_step left stays) (take h.0 known) (drop h.0 known ++ end ∷ []) p (c.after, None) (subst (λ l. Run (row_step left stays) p l (c.after, None)) one_more (all_answers bytes h.1 p b c)) in
+      let one_more : front ++ replicate (h.1 + 1) end ≡ take h.0 known ++ (drop h.0 known ++ end ∷ []) =
+      ap (λ l. front ++ l) (replicate_next h.1 end) ∙ sym (append_assoc front (replicate h.1 end) (end ∷ [])) ∙ ap (λ l. l ++ end ∷ []) (sym (take-append-drop h.0 known)) ∙ append_assoc (take h.0 known) (drop h.0 known) (end ∷ []) in
+      let parts = turns_split (row_step left stays) (take h.0 known) (drop h.0 known ++ end ∷ []) p (c.after, None) (subst (λ l. Run (row_step left stays) p l (c.after, None)) one_more (all_answers bytes h.1 p b c)) in
       (parts.0, subst (λ l. Run (row_step left stays) p l parts.0) (sym h.2) parts.1)

@@ -1,5 +1,5 @@
 -- What was read, by what the rows of a reader answered.
-use Rattle.std.proofs.Common.{◌≡◌, ℕ, zero, suc, ◌+◌, ◌-◌, ◌<◌, ◌≤◌, ◌⊎◌, inl, inr, List, [], ◌∷◌, ◌++◌, length, map, sym, ap, subst, ◌∙◌, arith, append-nil, Option, Some, None, Result, Ok, Err}
+use Rattle.std.proofs.Common.{◌≡◌, ℕ, zero, suc, ◌+◌, ◌-◌, ◌<◌, ◌≤◌, ◌⊎◌, inl, inr, List, [], ◌∷◌, ◌++◌, length, map, refl, sym, ap, subst, ◌∙◌, arith, append-nil, Option, Some, None, Result, Ok, Err, count_by}
 use Rattle.std.specs.Prelude.{replicate}
 use Rattle.std.specs.Io.KnownBytes.{Consumes, IsAtEnd}
 use Rattle.std.proofs.KnownBytes.{Consumes-nil, Consumes-trans, Consumes-kept}
@@ -15,7 +15,11 @@ use Rattle.fallible_rows.specs.Report.{row_limit, line_of_count}
 use Rattle.fallible_rows.specs.RowTraces.{told_place, row_answers, IsClosed, IsOneRow, GivesBytes, MissesByte, StopsBetween, StopsAtEnd, ReadsRows}
 use Rattle.fallible_rows.specs.Counting.{CountsFront}
 use Rattle.fallible_rows.proofs.ReportLemmas.{row_limit-is, above, is_taken, item_rows, refused_rows, no_end, tally-numbers, tally-refused, front_at_end, front_full, front_refused, front_refused_at_end}
-use Rattle.fallible_rows.proofs.ChainLemmas.{Answers, no_item-end, no_item-failure, seam, no_seam, IsTaken}
+use Rattle.fallible_rows.proofs.ChainLemmas.{ReadsAtMost}
+use Rattle.fallible_rows.proofs.Generic.{no_item-end, no_item-failure, seam, no_seam}
+
+abbrev Answers : Type 0
+Answers = List (Answered ℕ RowFault)
 
 module _ {B : Type 0} (left : B → Option (List ℕ)) (stays : B → B → Type 0) where
   pub gives_consumes : (bytes : List ℕ) (r q : B) → GivesBytes left stays r bytes q → Consumes (left r) (left q) bytes
@@ -35,7 +39,7 @@ module _ {B : Type 0} (left : B → Option (List ℕ)) (stays : B → B → Type
     gives_keeps [] r q h = ap name (sym h)
     gives_keeps (x ∷ xs) r q h = gives_keeps xs h.0 q h.2 ∙ kept r h.0 h.1.1
 
-    pub rows_keep : (r : B) (a : Ahead) (trace : Answers) (p : B × Option Ahead) → ReadsRows left stays r a trace p → name p.0 ≡ name r
+    rows_keep : (r : B) (a : Ahead) (trace : Answers) (p : B × Option Ahead) → ReadsRows left stays r a trace p → name p.0 ≡ name r
     rows_keep r a trace p h = let before = gives_keeps (h.closed ++ h.unclosed) r h.last h.given in elim h.stopped [
       | inl s ↦ ap (λ (q : B × Option Ahead). name q.0) s.is_left ∙ before
       | inr k ↦ elim k [
@@ -44,7 +48,11 @@ module _ {B : Type 0} (left : B → Option (List ℕ)) (stays : B → B → Type
       ]
     ]
 
-  module _ (r : B) (a : Ahead) (p : B × Option Ahead) (first : a.place ≡ 1) (xs : List ℕ) (count : ℕ) (counted : count ≡ above xs) where
+    pub reads_keep : (r : B) (a : Ahead) (n : ℕ) (xs : List ℕ) (last : Answered ℕ RowFault) (p : B × Option Ahead) → ReadsAtMost left stays r a n xs last p → name p.0 ≡ name r
+    reads_keep r a n xs last p (inl d) = rows_keep r a (map item xs ++ last ∷ []) p d.0
+    reads_keep r a n xs last p (inr d) = rows_keep r a (map item xs) p d.0
+
+  module _ (r : B) (a : Ahead) (p : B × Option Ahead) (first : a.place ≡ 1) (xs : List ℕ) (count : ℕ) (counted : count ≡ count_by above xs) where
     abbrev Counts : Result ℕ RowFault → Type 0
     Counts result = CountsFront (left r) (left p.0) result
 
@@ -142,9 +150,9 @@ module _ {B : Type 0} (left : B → Option (List ℕ)) (stays : B → B → Type
         by_ends s (suc n) d = absurd (no_seam (row_answers a.place (rows (h.closed ++ h.unclosed))) (replicate n end) end xs no_item-end (sym d ∙ are))
 
     -- the count of a chain over the first rows
-    pub counts_front : (trace : Answers) (last : Answered ℕ RowFault) (result : Result ℕ RowFault) → ReadsRows left stays r a trace p → IsTaken trace row_limit xs last → CountExit count last result → Counts result
-    counts_front trace (Ok None) result h (inl t) exit = subst Counts (sym exit) (by_end trace t.0 h t.1)
-    counts_front trace (Ok None) result h (inr t) exit = subst Counts (sym exit) (by_limit trace t.0 h t.2)
-    counts_front trace (Ok (Some x)) result h t exit = absurd exit
-    counts_front trace (Err e) result h (inl t) exit = subst Counts (sym exit) (by_failure trace e t.0 h t.1)
-    counts_front trace (Err e) result h (inr t) exit = absurd (let d = t.1 in cc)
+    pub counts_front : (n : ℕ) → row_limit ≡ n → (last : Answered ℕ RowFault) (result : Result ℕ RowFault) → ReadsAtMost left stays r a n xs last p → CountExit count last result → Counts result
+    counts_front n limit (Ok None) result (inl d) exit = let few = d.1 in subst Counts (sym exit) (by_end (map item xs ++ end ∷ []) refl d.0 (omega (arith, few, limit)))
+    counts_front n limit (Ok None) result (inr d) exit = subst Counts (sym exit) (by_limit (map item xs) refl d.0 (d.2 ∙ sym limit))
+    counts_front n limit (Ok (Some x)) result d exit = absurd exit
+    counts_front n limit (Err e) result (inl d) exit = let few = d.1 in subst Counts (sym exit) (by_failure (map item xs ++ failure e ∷ []) e refl d.0 (omega (arith, few, limit)))
+    counts_front n limit (Err e) result (inr d) exit = absurd (let is = d.1 in cc)

@@ -1,6 +1,7 @@
 pub mod BytesLaw
 pub mod ChainLemmas
 pub mod FrontLemmas
+pub mod Generic
 pub mod ReportLemmas
 pub mod RowLemmas
 pub mod RowsLaw

@@ -1,5 +1,5 @@
 -- Lemmas on what is reported of rows that were answered.
-use Rattle.std.proofs.Common.{◌≡◌, ℕ, zero, suc, ◌+◌, ◌-◌, ◌<◌, ◌≤◌, inl, inr, true, false, cond, nat_lt, List, [], ◌∷◌, ◌++◌, length, take, map, refl, sym, ap, subst, ◌∙◌, arith, append_assoc, Option, Some, None, is_none, unwrap_or, Ok, Err, count_by, position, IfSome}
+use Rattle.std.proofs.Common.{◌≡◌, ℕ, zero, suc, ◌+◌, ◌-◌, ◌<◌, ◌≤◌, inl, inr, Bool, true, false, cond, nat_lt, List, [], ◌∷◌, ◌++◌, length, take, map, refl, sym, ap, subst, ◌∙◌, arith, append_assoc, Option, Some, None, is_none, unwrap_or, Ok, Err, count_by, position, IfSome}
 use Rattle.std.specs.List.{position_from}
 use Rattle.std.specs.Io.KnownBytes.{Consumes, IsAtEnd}
 use Rattle.std.proofs.KnownBytes.{Consumes-whole}
@@ -24,10 +24,9 @@ row_limit-is = refl
 abbrev Answers : Type 0
 Answers = List (Answered ℕ RowFault)
 
--- how many of the items are above 100
-abbrev pub above : List ℕ → ℕ
-above [] = 0
-above (x ∷ xs) = cond (nat_lt 100 x) 1 0 + above xs
+-- whether a number is above 100
+abbrev pub above : ℕ → Bool
+above x = nat_lt 100 x
 
 -- a row that is not refused
 abbrev pub is_taken : List ℕ → Type 0
@@ -44,7 +43,7 @@ item_row place row None x is e = absurd cc
 pub record ItemRows (rs : List (List ℕ)) (xs : List ℕ) : Type 0 where
   pub numbers : AreNumbers rs
   pub long : length rs ≡ length xs
-  pub count : count_by is_above rs ≡ above xs
+  pub count : count_by is_above rs ≡ count_by above xs
 
 pub item_rows : (place : ℕ) (rs : List (List ℕ)) (xs : List ℕ) → row_answers place rs ≡ map item xs → ItemRows rs xs
 item_rows place [] [] e = record { numbers = All-nil is_taken; long = refl; count = refl }
@@ -57,7 +56,7 @@ item_rows place (row ∷ rest) (x ∷ xs) e =
     record {
       numbers = All-cons is_taken row rest h.0 others.numbers;
       long = let l = others.long in omega (arith, l);
-      count = sum_by-cons (λ r. cond (is_above r) 1 0) row rest ∙ ap (λ b. cond b 1 0 + count_by is_above rest) h.1 ∙ ap (λ n. cond (nat_lt 100 x) 1 0 + n) others.count;
+      count = sum_by-cons (λ r. cond (is_above r) 1 0) row rest ∙ ap (λ b. cond b 1 0 + count_by is_above rest) h.1 ∙ ap (λ n. cond (above x) 1 0 + n) others.count ∙ sym (sum_by-cons (λ y. cond (above y) 1 0) x xs);
     }
 
 -- rows whose last answer alone is a failure

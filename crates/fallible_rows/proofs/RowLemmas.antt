@@ -1,14 +1,14 @@
 -- Lemmas on rows and on the numbers that they write.
 use Rattle.std.proofs.Common.{◌≡◌, ◌≢◌, ℕ, ◌+◌, ◌-◌, ◌*◌, ◌<◌, ◌≤◌, Bool, true, false, List, [], ◌∷◌, ◌++◌, length, take, get_or, eqb, lit≤, refl, sym, ap, subst, ◌∙◌, arith, append_assoc, Some, None, inl, inr}
-use Rattle.std.specs.List.{slice_split, onto_first}
+use Rattle.std.specs.List.{All, slice_split}
 use Rattle.std.specs.Str.{all_ascii_digits}
 use Rattle.std.specs.Str.Parse.{AllDigits, digits_value}
 use Rattle.std.specs.Char.{digit_value}
 use Rattle.std.specs.Int.{IsInRange}
 use Rattle.std.proofs.Math.Seq.{get_or-append_seam}
 use Rattle.std.proofs.lemmas.Bool.{and_parts, and_from, lt-ltb, le-ltb, leb-true, le-leb, false_from_ne_true, cond-true, cond-false, ne_eqb, eqb-true, eqb-false}
-use Rattle.std.proofs.lemmas.List.Splits.{slice_split-cons_yes, slice_split-cons_no, length-slice_split}
-use Rattle.std.proofs.lemmas.List.Elements.{All-nil, All-cons, All-head, All-tail}
+use Rattle.std.proofs.lemmas.List.Splits.{slice_split_at, slice_split_none, length-slice_split}
+use Rattle.std.proofs.lemmas.List.Elements.{All-nil, All-cons}
 use Rattle.std.proofs.lemmas.List.{get_or_push, take_at, length_push, length-append}
 use Rattle.std.proofs.lemmas.Str.Parse.{tells_all_ascii_digits, numerals_by_value, IsNumeralModel, digit_at, digits_value-take-le}
 use Rattle.std.proofs.lemmas.Int.Digits.{digits_push, digits_value_push}
@@ -160,14 +160,8 @@ without_empty_last-cons piece (p ∷ ps) some =
     let e = ends_of p ps in
     ap (λ l. without_empty_last (piece ∷ l)) e.is ∙ without_empty_last-onto piece e.front e.last ∙ ap (λ l. piece ∷ without_empty_last l) (sym e.is)
 
-split-row : (row rest : List ℕ) → IsOneRow row → slice_split is_newline (row ++ 10 ∷ rest) ≡ row ∷ slice_split is_newline rest
-split-row [] rest one = slice_split-cons_yes is_newline 10 rest refl
-split-row (x ∷ xs) rest one =
-    slice_split-cons_no is_newline x (xs ++ 10 ∷ rest) (newline_no x (All-head not_newline x xs one)) ∙ ap (onto_first x) (split-row xs rest (All-tail not_newline x xs one))
-
-split-one : (row : List ℕ) → IsOneRow row → slice_split is_newline row ≡ row ∷ []
-split-one [] one = refl
-split-one (x ∷ xs) one = slice_split-cons_no is_newline x xs (newline_no x (All-head not_newline x xs one)) ∙ ap (onto_first x) (split-one xs (All-tail not_newline x xs one))
+no_newlines : (row : List ℕ) → IsOneRow row → All (λ byte. is_newline byte ≡ false) row
+no_newlines row one i d l = newline_no (get_or row i d) (one i d l)
 
 -- the rows of no bytes, of a row and more, and of one row
 pub rows-none : rows [] ≡ []
@@ -175,11 +169,11 @@ rows-none = without_empty_last-empty []
 
 pub rows-row : (row rest : List ℕ) → IsOneRow row → rows (row ++ 10 ∷ rest) ≡ row ∷ rows rest
 rows-row row rest one =
-    ap without_empty_last (split-row row rest one) ∙ without_empty_last-cons row (slice_split is_newline rest) (omega (arith, length-slice_split is_newline rest))
+    ap without_empty_last (slice_split_at is_newline row 10 rest (no_newlines row one) refl) ∙ without_empty_last-cons row (slice_split is_newline rest) (omega (arith, length-slice_split is_newline rest))
 
 pub rows-one : (row : List ℕ) → IsOneRow row → row ≢ [] → rows row ≡ row ∷ []
 rows-one [] one some = absurd (some refl)
-rows-one (x ∷ xs) one some = ap without_empty_last (split-one (x ∷ xs) one) ∙ without_empty_last-full [] (x ∷ xs) (omega arith)
+rows-one (x ∷ xs) one some = ap without_empty_last (slice_split_none is_newline (x ∷ xs) (no_newlines (x ∷ xs) one)) ∙ without_empty_last-full [] (x ∷ xs) (omega arith)
 
 -- ---- closed bytes
 

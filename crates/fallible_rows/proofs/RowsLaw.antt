@@ -4,6 +4,7 @@ use Rattle.std.specs.Prelude.{replicate, ◌↔◌}
 use Rattle.std.proofs.lemmas.List.{length-append}
 use Rattle.std.proofs.lemmas.List.Elements.{All-nil}
 use Rattle.fallible_contract.specs.Traces.{Answered, Run, failure, end}
+use Rattle.fallible_contract.specs.Laws.Closures.{turns_then}
 use Rattle.fallible_rows.specs.declared.fault.RowFault.{RowFault}
 use Rattle.fallible_rows.specs.declared.fault.RowFault.TheVariants.{Row, Read}
 use Rattle.fallible_rows.specs.declared.rows.Ahead.{Ahead}
@@ -11,7 +12,7 @@ use Rattle.fallible_rows.specs.Reading.{GivesByte}
 use Rattle.fallible_rows.specs.Rows.{rows, row_number}
 use Rattle.fallible_rows.specs.RowTraces.{told_place, answer_of_number, row_answer, row_answers, IsPlaced, IsOneRow, GivesBytes, EndsByEnd, EndsByFailure, DrawsRow, row_step, StopsBetween, StopsAtEnd, StopsAtFailure, ReadsRows, RowsTrace}
 use Rattle.fallible_rows.proofs.RowLemmas.{not_newline, rows-none, rows-row, rows-one, ClosedRows, no_rows, row_then, closed_rows, IsClosed-row}
-use Rattle.fallible_rows.proofs.TraceLemmas.{folds_append, folds_split}
+use Rattle.fallible_rows.proofs.Generic.{turns_split}
 
 abbrev Answers : Type 0
 Answers = List (Answered ℕ RowFault)
@@ -56,7 +57,7 @@ module _ {B : Type 0} (left : B → Option (List ℕ)) (stays : B → B → Type
 
   more_given : (r q last : B) (row closed unclosed : List ℕ) (mid : B) → GivesBytes left stays r row mid → GivesByte left stays mid 10 q → GivesBytes left stays q (closed ++ unclosed) last → GivesBytes left stays r ((row ++ 10 ∷ closed) ++ unclosed) last
   more_given r q last row closed unclosed mid given newline others =
-      subst (λ l. GivesBytes left stays r l last) (sym (append_assoc row (10 ∷ closed) unclosed)) (folds_append (GivesByte left stays) row (10 ∷ (closed ++ unclosed)) r mid last given (q, newline, others))
+      subst (λ l. GivesBytes left stays r l last) (sym (append_assoc row (10 ∷ closed) unclosed)) (turns_then (GivesByte left stays) row (10 ∷ (closed ++ unclosed)) r mid last given (q, newline, others))
 
   -- the answers of a row and of the others
   first_answer : (place place' : ℕ) (row bytes : List ℕ) → IsOneRow row → place' ≡ told_place (place + 1) → row_answer place row ∷ row_answers place' (rows bytes) ≡ row_answers place (rows (row ++ 10 ∷ bytes))
@@ -253,7 +254,7 @@ module _ {B : Type 0} (left : B → Option (List ℕ)) (stays : B → B → Type
       last_draw r last a unclosed trace p placed (subst (λ l. GivesBytes left stays r (l ++ unclosed) last) e given) one (subst (λ l. Stops last a l unclosed trace p) e s)
   from_closed closed (row_then row rest e is_one h) r last a unclosed trace p placed given one s =
       let joined : closed ++ unclosed ≡ row ++ 10 ∷ (rest ++ unclosed) = ap (λ l. l ++ unclosed) e ∙ append_assoc row (10 ∷ rest) unclosed in
-      let parts = folds_split (GivesByte left stays) row (10 ∷ (rest ++ unclosed)) r last (subst (λ l. GivesBytes left stays r l last) joined given) in
+      let parts = turns_split (GivesByte left stays) row (10 ∷ (rest ++ unclosed)) r last (subst (λ l. GivesBytes left stays r l last) joined given) in
       let stopped : Stops last a (row ++ 10 ∷ rest) unclosed trace p = subst (λ l. Stops last a l unclosed trace p) e s in
       let within = closed_within last a (row ++ 10 ∷ rest) unclosed trace p stopped in
       let long = length-append row (10 ∷ rest) in

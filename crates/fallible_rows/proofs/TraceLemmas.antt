@@ -1,8 +1,8 @@
 -- Lemmas on what draws from the rows of a reader answer.
-use Rattle.std.proofs.Common.{◌↔◌, ◌≡◌, ◌≢◌, ℕ, ◌+◌, List, [], ◌∷◌, ◌++◌, Option, Some, None, refl, sym, subst, ◌⊎◌, inl, inr}
-use Rattle.std.specs.List.{FoldsTo}
+use Rattle.std.proofs.Common.{◌↔◌, ◌≡◌, ◌≢◌, ℕ, ◌+◌, List, [], ◌∷◌, ◌++◌, Option, Some, None, refl, subst, ◌⊎◌, inl, inr}
 use Rattle.std.proofs.lemmas.List.Elements.{All-nil, All-cons, All-append}
 use Rattle.fallible_contract.specs.Traces.{Answered, Run, failure, end}
+use Rattle.fallible_contract.specs.Laws.Closures.{turns_then}
 use Rattle.fallible_contract.proofs.Lemmas.Definitions.{meets_held}
 use Rattle.fallible_rows.specs.declared.fault.RowFault.{RowFault}
 use Rattle.fallible_rows.specs.declared.fault.RowFault.TheVariants.{Read}
@@ -16,20 +16,11 @@ use Rattle.fallible_rows.specs.Reading.{GivesByte}
 use Rattle.fallible_rows.specs.RowTraces.{rows_parts, told_place, row_answer, IsOneRow, GivesBytes, DrawsRow}
 use Rattle.fallible_rows.proofs.RowLemmas.{not_newline}
 
--- items one after another
-pub folds_append : {P A : Type 0} (R : P → A → P → Type 0) (xs ys : List A) (p q r : P) → FoldsTo R p xs q → FoldsTo R q ys r → FoldsTo R p (xs ++ ys) r
-folds_append R [] ys p q r h k = subst (λ u. FoldsTo R u ys r) (sym h) k
-folds_append R (x ∷ xs) ys p q r h k = (h.0, h.1, folds_append R xs ys h.0 q r h.2 k)
-
-pub folds_split : {P A : Type 0} (R : P → A → P → Type 0) (xs ys : List A) (p r : P) → FoldsTo R p (xs ++ ys) r → (q : P) × FoldsTo R p xs q × FoldsTo R q ys r
-folds_split R [] ys p r h = (p, refl, h)
-folds_split R (x ∷ xs) ys p r h = let k = folds_split R xs ys h.0 r h.2 in (k.0, (h.0, h.1, k.1), k.2)
-
 pub IsOneRow-more : (row : List ℕ) (byte : ℕ) → IsOneRow row → byte ≢ 10 → IsOneRow (row ++ byte ∷ [])
 IsOneRow-more row byte one other = All-append not_newline row (byte ∷ []) one (All-cons not_newline byte [] other (All-nil not_newline))
 
 pub gives_more : {B : Type 0} (left : B → Option (List ℕ)) (stays : B → B → Type 0) (row : List ℕ) (byte : ℕ) (p q r : B) → GivesBytes left stays p row q → GivesByte left stays q byte r → GivesBytes left stays p (row ++ byte ∷ []) r
-gives_more left stays row byte p q r h k = folds_append (GivesByte left stays) row (byte ∷ []) p q r h (r, k, refl)
+gives_more left stays row byte p q r h k = turns_then (GivesByte left stays) row (byte ∷ []) p q r h (r, k, refl)
 
 -- the value of these parts
 abbrev pub rows_of : {B : Type 0} → B × Option Ahead → Rows B

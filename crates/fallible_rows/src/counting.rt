@@ -1,6 +1,6 @@
 //! How many rows are above 100.
 ghost use Rattle.std.specs.Prelude.{◌≡◌, ◌+◌, ◌-◌, ◌^◌, ◌<◌, Ok};
-ghost use Rattle.fallible_rows.specs.Counting.{CountsBorrowed, CountsFront};
+ghost use Rattle.fallible_rows.specs.Counting.{CountsFront};
 
 use crate::fault::RowFault;
 use crate::reading::Lent;
@@ -22,23 +22,10 @@ pub(crate) fn count_above<R: Read>(reader: &mut R) -> Result<usize, RowFault>
     let mut above = Rows::new(Lent { reader })
         .take(MAX_ROWS)
         .filter(|number| Ok(*number > LIMIT));
-    count_of(&mut above)
-}
-
-// `count` of a fallible iterator that is lent, and so also what that leaves.
-fn count_of<I: FallibleIterator>(it: &mut I) -> Result<usize, I::Error>
-where
-    I::Item: Drop,
-    requires can { I.contract.can it.old }
-    requires fits { I.contract.to_come it.old (2 ^ 64 - 1) }
-    ensures { CountsBorrowed I.contract.steps it.old result it.new }
-{
-    let one_more = |count: usize, item: I::Item| -> Result<usize, I::Error>
+    // `count` would consume the chain, and tell nothing of what it leaves of the reader.
+    let one_more = |count: usize, _: u64| -> Result<usize, RowFault>
         requires { count < 2 ^ 64 - 1 }
         ensures { result ≡ Ok (count + 1) }
-    {
-        let _ = item;
-        Ok(count + 1)
-    };
-    it.try_fold(0, one_more)
+    { Ok(count + 1) };
+    above.try_fold(0, one_more)
 }

@@ -1,0 +1,178 @@
+-- What holds of every trace, of every fold that counts, and of every run of `Filter` and of `Take`, whatever they draw from.
+use Rattle.std.proofs.Common.{◌≡◌, ℕ, zero, suc, ◌+◌, ◌<◌, ◌⊎◌, inl, inr, Bool, true, false, cond, List, [], ◌∷◌, ◌++◌, length, map, filter, refl, sym, ap, subst, ◌∙◌, arith, Option, Some, None, Result, Ok, Err}
+use Rattle.std.specs.List.{FoldsTo}
+use Rattle.std.specs.Fn.{Mut}
+use Rattle.std.specs.Borrow.{Bor}
+use Rattle.fallible_contract.specs.Traces.{Answered, Run, item, failure, end}
+use Rattle.fallible_contract.specs.Contract.{Contract, Lawful, AtMost, seen_as}
+use Rattle.fallible_contract.specs.Closures.{call_at, call_in}
+use Rattle.fallible_contract.specs.Lists.{Acts}
+use Rattle.fallible_contract.specs.Folds.{HoldsAtEachTurn, CountExit, FoldExit, Folded}
+use Rattle.fallible_contract.specs.Passing.{Outcome, PassTrace, kept, left_out, failed, an_end}
+use Rattle.fallible_contract.specs.Laws.Passing.{Passes, done, ends, fails, keeps, refuses, closes, leaves_out, to_passes}
+use Rattle.fallible_contract.proofs.Lemmas.Definitions.{runs_by_answers}
+use Rattle.fallible_contract.proofs.Lemmas.Folds.{count_fits}
+use Rattle.fallible_contract.proofs.Lemmas.Passing.{passing_by_answers}
+use Rattle.fallible_core.specs.declared.cutting.take.Take.{Take}
+use Rattle.fallible_core.specs.declared.filtering.filter.Filter.{Filter}
+use Rattle.fallible_core.specs.Cutting.Take.{take_step, take_contract, take_parts}
+use Rattle.fallible_core.specs.Filtering.Filter.{filter_outcome, filter_contract, filter_parts}
+
+-- ---- traces
+
+module _ {A E : Type 0} where
+  -- an answer that is no item
+  abbrev pub NoItem : Answered A E → Type 0
+  NoItem z = (x : A) → z ≡ item x → ⊥
+
+  pub no_item-end : NoItem end
+  no_item-end x e = cc
+
+  pub no_item-failure : (e : E) → NoItem (failure e)
+  no_item-failure e x h = cc
+
+  -- what stands before an answer that is no item, where the others are items
+  pub seam : (front rest : List (Answered A E)) (z last : Answered A E) (xs : List A) → NoItem z → front ++ z ∷ rest ≡ map item xs ++ last ∷ [] → (front ≡ map item xs) × (z ≡ last) × (rest ≡ [])
+  seam [] rest z last [] none e = (refl, cc, cc)
+  seam [] rest z last (x ∷ xs) none e = absurd (none x cc)
+  seam (y ∷ []) rest z last [] none e = absurd cc
+  seam (y ∷ w ∷ front) rest z last [] none e = absurd cc
+  seam (y ∷ front) rest z last (x ∷ xs) none e =
+      let h = seam front rest z last xs none cc in
+      let first : y ≡ item x = cc in
+      (ap {B = List (Answered A E)} (λ a. a ∷ front) first ∙ ap {B = List (Answered A E)} (λ l. item x ∷ l) h.0, h.1, h.2)
+
+  pub no_seam : (front rest : List (Answered A E)) (z : Answered A E) (xs : List A) → NoItem z → front ++ z ∷ rest ≡ map item xs → ⊥
+  no_seam [] rest z [] none e = absurd cc
+  no_seam [] rest z (x ∷ xs) none e = none x cc
+  no_seam (y ∷ front) rest z [] none e = absurd cc
+  no_seam (y ∷ front) rest z (x ∷ xs) none e = no_seam front rest z xs none cc
+
+-- turns over two lists are those over the one and then those over the other
+pub turns_split : {P A : Type 0} (R : P → A → P → Type 0) (xs ys : List A) (p r : P) → FoldsTo R p (xs ++ ys) r → (q : P) × FoldsTo R p xs q × FoldsTo R q ys r
+turns_split R [] ys p r h = (p, refl, h)
+turns_split R (x ∷ xs) ys p r h = let k = turns_split R xs ys h.0 r h.2 in (k.0, (h.0, h.1, k.1), k.2)
+
+-- a run of a type is one of what its values are seen as
+pub run_seen : {S P A E : Type 0} (view : S → P) (steps : P → Answered A E → P → Type 0) (trace : List (Answered A E)) (s t : S) → Run (λ u r v. steps (view u) r (view v)) s trace t → Run steps (view s) trace (view t)
+run_seen view steps [] s t e = ap view e
+run_seen view steps (r ∷ rest) s t h = (view h.0, h.1, run_seen view steps rest h.0 t h.2)
+
+-- ---- a fold whose closure counts
+
+-- the number beside the closure goes up by one
+went_up : {A F : Type 0} {Q : ℕ × F → A → ℕ × F → Type 0} → ((p : ℕ × F) (x : A) (q : ℕ × F) → Q p x q → q.0 ≡ p.0 + 1) → (items : List A) (p q : ℕ × F) → FoldsTo {P = ℕ × F} Q p items q → FoldsTo {P = ℕ} {A = A} (λ n x k. k ≡ n + 1) p.0 items q.0
+went_up counts [] p q h = ap (λ u. u.0) h
+went_up counts (x ∷ items) p q h = (h.0.0, counts p x h.0 h.1, went_up counts items h.0 q h.2)
+
+counted_up : {A : Type 0} (items : List A) (n k : ℕ) → FoldsTo {P = ℕ} {A = A} (λ n x k. k ≡ n + 1) n items k → k ≡ n + length items
+counted_up [] n k e = omega (arith, e)
+counted_up (x ∷ items) n k w = let e = counted_up items w.0 k w.2 in let one : w.0 ≡ n + 1 = w.1 in omega (arith, e, one)
+
+module _ {A E F : Type 0} {call : F → ℕ → A → Result ℕ E → F → Type 0} (counts : (f : F) (n : ℕ) (x : A) (r : Result ℕ E) (g : F) → call f n x r g → r ≡ Ok (n + 1)) where
+  exit_counted : (from : E → E → Type 0) → ((e d : E) → from e d → d ≡ e) → (n : ℕ) (g : F) (last : Answered A E) (r : Result ℕ E) → FoldExit call from n g last r → CountExit n last r
+  exit_counted from same n g (Ok None) r h = h
+  exit_counted from same n g (Err e) r h = let k = same e h.0 h.1 in let is = h.2 in cc
+  exit_counted from same n g (Ok (Some x)) r h = absurd (let e = counts g n x (Err h.1) h.0 h.2 in cc)
+
+  -- its result is the number of the items
+  pub fold_counted : {S : Type 0} {steps : S → Answered A E → S → Type 0} {from : E → E → Type 0} {s t : S} {f : F} {r : Result ℕ E} → ((e d : E) → from e d → d ≡ e) → (h : Folded steps call from s 0 f r t) → CountExit (length h.items) h.last r
+  fold_counted {from = from} {f = f} {r = r} same h = subst (λ n. CountExit n h.last r) (let e = counted_up h.items 0 h.value (went_up (λ p x q w. let e = counts p.1 p.0 x (Ok q.0) q.1 w in cc) h.items (0, f) (h.value, h.closure) h.went) in omega (arith, e)) (exit_counted from same h.value h.closure h.last r h.exit)
+
+-- where at most k items are to come, a fold that counts may take its turn where it may at each number below k
+pub callable_counting : {S A E F : Type 0} {m : Contract S A E} {Q : ℕ × F → A → ℕ × F → Type 0} {P : ℕ × F → A → Type 0} {s : S} {f : F} (k : ℕ) → ((p : ℕ × F) (x : A) (q : ℕ × F) → Q p x q → q.0 ≡ p.0 + 1) → ((p : ℕ × F) (x : A) → p.0 < k → P p x) → Lawful m → m.can s → AtMost m s k → HoldsAtEachTurn {C = ℕ × F} m.steps Q P s (0, f)
+callable_counting {f = f} k counts below l c b = record { at = λ items t u d x ran went step. below d x ((count_fits k l c b).at items t u d.0 x ran (went_up counts items (0, f) d went) step) }
+
+-- ---- `Filter`
+
+module _ {X E : Type 0} where
+  is_kept : (x y : X) (b : Bool) → filter_outcome {E = E} x (Ok b) ≡ kept y → (b ≡ true) × (x ≡ y)
+  is_kept x y true e = (refl, cc)
+  is_kept x y false e = absurd cc
+
+  is_left_out : (x : X) (b : Bool) → filter_outcome {E = E} x (Ok b) ≡ left_out → b ≡ false
+  is_left_out x true e = absurd cc
+  is_left_out x false e = refl
+
+  not_failed : (x : X) (b : Bool) (e : E) → filter_outcome x (Ok b) ≡ failed e → ⊥
+  not_failed x true e h = cc
+  not_failed x false e h = cc
+
+  not_end : (x : X) (b : Bool) → filter_outcome {E = E} x (Ok b) ≡ an_end → ⊥
+  not_end x true h = cc
+  not_end x false h = cc
+
+-- what the run of a filter was drawn from: a run of its source, with the same last answer, of whose items these are those to which h answers true
+pub record FilteredRun {S X E : Type 0} (steps : S → Answered X E → S → Type 0) (h : X → Bool) (s : S) (xs : List X) (last : Answered X E) (t : S) : Type 0 where
+  pub items : List X
+  pub ran : Run steps s (map item items ++ last ∷ []) t
+  pub are : xs ≡ filter h items
+
+module _ {S F X E : Type 0} (steps : S → Answered X E → S → Type 0) (call : F → X → Result Bool E → F → Type 0) (fixed : F) (h : X → Bool) (acts : (f : F) (x : X) (r : Result Bool E) (g : F) → f ≡ fixed → call f x r g → (g ≡ fixed) × (r ≡ Ok (h x))) where
+  abbrev Below : S → List X → Answered X E → S → Type 0
+  Below s xs last t = FilteredRun steps h s xs last t
+
+  over : {s t : S} {f g : F} → Passes steps call filter_outcome s f [] t g → s ≡ t
+  over done = refl
+
+  last_below : (s u t : S) (f g : F) (z last : Answered X E) (rest : List (Answered X E)) → z ∷ rest ≡ last ∷ [] → steps s z u → Passes steps call filter_outcome u f rest t g → Below s [] last t
+  last_below s u t f g z last [] e step p = record { items = []; ran = (t, (let at : u ≡ t = over p in let is : z ≡ last = cc in subst (λ (v : S). steps s last v) at (subst (λ (q : Answered X E). steps s q u) is step)), refl); are = refl }
+  last_below s u t f g z last (r ∷ rest) e step p = absurd cc
+
+  kept_below : (s u t : S) (x y : X) (xs : List X) (last : Answered X E) → h x ≡ true → x ≡ y → steps s (item x) u → Below u xs last t → Below s (y ∷ xs) last t
+  kept_below s u t x y xs last is same step b = record { items = x ∷ b.items; ran = (u, step, b.ran); are = ap {B = List X} (λ l. y ∷ l) b.are ∙ ap {B = List X} (λ z. z ∷ filter h b.items) (sym same) ∙ ap (λ c. cond c (x ∷ filter h b.items) (filter h b.items)) (sym is) }
+
+  left_below : (s u t : S) (x : X) (xs : List X) (last : Answered X E) → h x ≡ false → steps s (item x) u → Below u xs last t → Below s xs last t
+  left_below s u t x xs last is step b = record { items = x ∷ b.items; ran = (u, step, b.ran); are = b.are ∙ ap (λ c. cond c (x ∷ filter h b.items) (filter h b.items)) (sym is) }
+
+  answers_as : (o : Outcome X E) (f g : F) (x : X) (v : Result Bool E) → f ≡ fixed → call f x v g → filter_outcome x v ≡ o → filter_outcome x (Ok (h x)) ≡ o
+  answers_as o f g x v at called is = ap (filter_outcome x) (sym (acts f x v g at called).1) ∙ is
+
+  below : (xs : List X) (last : Answered X E) (s t : S) (f g : F) (trace : List (Answered X E)) → f ≡ fixed → trace ≡ map item xs ++ last ∷ [] → Passes steps call filter_outcome s f trace t g → Below s xs last t
+  below [] last s t f g _ at e done = absurd cc
+  below (x ∷ xs) last s t f g _ at e done = absurd cc
+  below [] last s t f g _ at e (ends {u = u} step p) = last_below s u t f g end last _ e step p
+  below (x ∷ xs) last s t f g _ at e (ends step p) = absurd cc
+  below [] last s t f g _ at e (fails {u = u} d step p) = last_below s u t f g (failure d) last _ e step p
+  below (x ∷ xs) last s t f g _ at e (fails d step p) = absurd cc
+  below [] last s t f g _ at e (keeps {u = u} {h = j} {trace = rest} x v y step called is p) = let k = is_kept x y (h x) (answers_as (kept y) f j x v at called is) in last_below s u t j g (item x) last rest (ap {B = List (Answered X E)} (λ (z : X). item z ∷ rest) k.1 ∙ e) step p
+  below (z ∷ xs) last s t f g _ at e (keeps {u = u} {h = j} x v y step called is p) = let k = is_kept x y (h x) (answers_as (kept y) f j x v at called is) in kept_below s u t x z xs last k.0 (k.1 ∙ cc) step (below xs last u t j g _ (acts f x v j at called).0 (cc) p)
+  below xs last s t f g _ at e (refuses {h = j} x v d step called is p) = absurd (not_failed x (h x) d (answers_as (failed d) f j x v at called is))
+  below xs last s t f g _ at e (closes {h = j} x v step called is p) = absurd (not_end x (h x) (answers_as an_end f j x v at called is))
+  below xs last s t f g trace at e (leaves_out {u = u} {h = j} x v step called is p) = left_below s u t x xs last (is_left_out x (h x) (answers_as left_out f j x v at called is)) step (below xs last u t j g trace (acts f x v j at called).0 e p)
+
+  pub below_run : (xs : List X) (last : Answered X E) (p q : S × F) → p.1 ≡ fixed → Run (λ p r q. PassTrace steps call filter_outcome p (r ∷ []) q) p (map item xs ++ last ∷ []) q → Below p.0 xs last q.0
+  below_run xs last p q at ran = below xs last p.0 q.0 p.1 q.1 _ at refl (to_passes ((runs_by_answers _ (passing_by_answers steps call filter_outcome) p _ q).0 ran))
+
+-- a closure in its slot acts as the closure does
+acts_in_slot : {F X R : Type 0} (call : F → X → R → F → Type 0) (f : F) (h : X → R) → Acts call f h → (s : Option F) (x : X) (v : R) (t : Option F) → s ≡ Some f → call_in call s x v t → (t ≡ Some f) × (v ≡ h x)
+acts_in_slot call f h acts None x v t e c = absurd cc
+acts_in_slot call f h acts (Some k) x v None e c = absurd c
+acts_in_slot call f h acts (Some k) x v (Some g) e c = let same : k ≡ f = cc in let a = acts x v g (subst (λ (z : _). call z x v g) same c) in (ap Some a.0, a.1)
+
+pub filtered_run : {I F X E : Type 0} (m : Contract I X E) (g : Mut F (Bor X × Unit {0}) (Result Bool E)) (h : X → Bool) (f : F) (it : I) (s t : Filter I F) (xs : List X) (last : Answered X E) → Acts (call_at g) f (λ x. Ok (h x)) → filter_parts s ≡ (it, Some f) → Run (seen_as filter_parts (filter_contract m g)).steps s (map item xs ++ last ∷ []) t → FilteredRun m.steps h it xs last t.it
+filtered_run {I = I} m g h f it s t xs last acts parts ran =
+    let at : s.it ≡ it = ap (λ p. p.0) parts in
+    subst (λ (i : I). FilteredRun m.steps h i xs last t.it) at (below_run m.steps (call_in (call_at g)) (Some f) h (acts_in_slot (call_at g) f (λ x. Ok (h x)) acts) xs last (filter_parts s) (filter_parts t) (ap (λ p. p.1) parts) (run_seen filter_parts _ (map item xs ++ last ∷ []) s t ran))
+
+-- ---- `Take`
+
+-- What a run of `Take` at n was drawn from, where its answers were items and then a last one: the same answers, with fewer than n items; or n items alone, and the last answer is an end that came without a draw.
+abbrev pub TakenRun : {S A E : Type 0} → (S → Answered A E → S → Type 0) → ℕ → S → List A → Answered A E → S → Type 0
+TakenRun steps n s xs last t = (Run steps s (map item xs ++ last ∷ []) t × (length xs < n)) ⊎ (Run steps s (map item xs) t × (last ≡ end) × (length xs ≡ n))
+
+module _ {S A E : Type 0} (steps : S → Answered A E → S → Type 0) where
+  one_more : (n : ℕ) (s u t : S) (x : A) (xs : List A) (last : Answered A E) → steps s (item x) u → TakenRun steps n u xs last t → TakenRun steps (suc n) s (x ∷ xs) last t
+  one_more n s u t x xs last step (inl d) = let few = d.1 in inl ((u, step, d.0), omega (arith, few))
+  one_more n s u t x xs last step (inr d) = let all = d.2 in inr ((u, step, d.0), d.1, omega (arith, all))
+
+  taken_at : (xs : List A) (last : Answered A E) (n k : ℕ) (s t : S) → Run (take_step steps) (s, n) (map item xs ++ last ∷ []) (t, k) → TakenRun steps n s xs last t
+  taken_at [] last zero k s t ran = inr (sym ran.1.1 ∙ ap (λ p. p.0) ran.2, ran.1.0, refl)
+  taken_at [] last (suc n) k s t ran = inl ((t, subst (λ (u : S). steps s last u) (ap (λ p. p.0) ran.2) ran.1.0, refl), omega arith)
+  taken_at (x ∷ xs) last zero k s t ran = absurd (let e = ran.1.0 in cc)
+  taken_at (x ∷ xs) last (suc n) k s t ran =
+      let left : ran.0.1 ≡ n = let e = ran.1.1 in omega (arith, e) in
+      one_more n s ran.0.0 t x xs last ran.1.0 (subst (λ (j : ℕ). TakenRun steps j ran.0.0 xs last t) left (taken_at xs last ran.0.1 k ran.0.0 t ran.2))
+
+pub taken_run : {I A E : Type 0} (m : Contract I A E) (n : ℕ) (it : I) (s t : Take I) (xs : List A) (last : Answered A E) → take_parts s ≡ (it, n) → Run (seen_as take_parts (take_contract m)).steps s (map item xs ++ last ∷ []) t → TakenRun m.steps n it xs last t.it
+taken_run {I = I} m n it s t xs last parts ran = taken_at m.steps xs last n t.left it t.it (subst (λ (p : I × ℕ). Run (take_step m.steps) p (map item xs ++ last ∷ []) (take_parts t)) parts (run_seen take_parts _ (map item xs ++ last ∷ []) s t ran))
