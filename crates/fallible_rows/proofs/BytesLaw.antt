@@ -14,7 +14,7 @@ use Rattle.fallible_rows.specs.declared.rows.Ahead.{Ahead}
 use Rattle.fallible_rows.specs.Rows.{rows, is_newline}
 use Rattle.fallible_rows.specs.RowTraces.{row_answer, row_answers, IsOneRow, IsClosed, GivesBytes, row_step, ReadsRows, AnswersRowsOf, NeverFailsToRead, BeginsWith, CanGiveAll}
 use Rattle.fallible_rows.proofs.RowLemmas.{not_newline, rows-closed}
-use Rattle.fallible_rows.proofs.Generic.{turns_split}
+use Rattle.fallible_core.proofs.Lemmas.Callers.{turns_split}
 use Rattle.fallible_rows.proofs.RowsLaw.{to_trace, from_trace}
 use Rattle.fallible_rows.proofs.FrontLemmas.{gives_consumes, end_consumes}
 

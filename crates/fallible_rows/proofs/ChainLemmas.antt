@@ -15,7 +15,7 @@ use Rattle.fallible_rows.specs.declared.fault.RowFault.{RowFault}
 use Rattle.fallible_rows.specs.declared.rows.Ahead.{Ahead}
 use Rattle.fallible_rows.specs.declared.rows.Rows.{Rows}
 use Rattle.fallible_rows.specs.RowTraces.{rows_parts, row_step, ReadsRows}
-use Rattle.fallible_rows.proofs.Generic.{filtered_run, taken_run, run_seen}
+use Rattle.fallible_core.proofs.Lemmas.Callers.{filtered_run, taken_run, run_seen}
 use Rattle.fallible_rows.proofs.ReportLemmas.{above}
 use Rattle.fallible_rows.proofs.RowsLaw.{to_trace}
 

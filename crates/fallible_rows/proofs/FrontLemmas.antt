@@ -16,7 +16,7 @@ use Rattle.fallible_rows.specs.RowTraces.{told_place, row_answers, IsClosed, IsO
 use Rattle.fallible_rows.specs.Counting.{CountsFront}
 use Rattle.fallible_rows.proofs.ReportLemmas.{row_limit-is, above, is_taken, item_rows, refused_rows, no_end, tally-numbers, tally-refused, front_at_end, front_full, front_refused, front_refused_at_end}
 use Rattle.fallible_rows.proofs.ChainLemmas.{ReadsAtMost}
-use Rattle.fallible_rows.proofs.Generic.{no_item-end, no_item-failure, seam, no_seam}
+use Rattle.fallible_core.proofs.Lemmas.Callers.{no_item-end, no_item-failure, seam, no_seam}
 
 abbrev Answers : Type 0
 Answers = List (Answered ℕ RowFault)

@@ -1,7 +1,6 @@
 pub mod BytesLaw
 pub mod ChainLemmas
 pub mod FrontLemmas
-pub mod Generic
 pub mod ReportLemmas
 pub mod RowLemmas
 pub mod RowsLaw

@@ -12,7 +12,7 @@ use Rattle.fallible_rows.specs.Reading.{GivesByte}
 use Rattle.fallible_rows.specs.Rows.{rows, row_number}
 use Rattle.fallible_rows.specs.RowTraces.{told_place, answer_of_number, row_answer, row_answers, IsPlaced, IsOneRow, GivesBytes, EndsByEnd, EndsByFailure, DrawsRow, row_step, StopsBetween, StopsAtEnd, StopsAtFailure, ReadsRows, RowsTrace}
 use Rattle.fallible_rows.proofs.RowLemmas.{not_newline, rows-none, rows-row, rows-one, ClosedRows, no_rows, row_then, closed_rows, IsClosed-row}
-use Rattle.fallible_rows.proofs.Generic.{turns_split}
+use Rattle.fallible_core.proofs.Lemmas.Callers.{turns_split}
 
 abbrev Answers : Type 0
 Answers = List (Answered ℕ RowFault)

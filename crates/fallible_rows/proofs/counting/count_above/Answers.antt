@@ -10,7 +10,7 @@ use Rattle.fallible_rows.specs.RowTraces.{rows_parts, row_step}
 use Rattle.fallible_rows.specs.declared.reading.Lent.{Lent}
 use Rattle.fallible_rows.specs.Counting.{CountsFront}
 use Rattle.fallible_rows.proofs.ChainLemmas.{chain_reads}
-use Rattle.fallible_rows.proofs.Generic.{fold_counted, callable_counting}
+use Rattle.fallible_core.proofs.Lemmas.Callers.{fold_counted, callable_counting}
 use Rattle.fallible_rows.proofs.ReportLemmas.{row_limit-is}
 use Rattle.fallible_rows.proofs.FrontLemmas.{counts_front, reads_keep}
 use Rattle.fallible_rows.proofs.counting.count_above.Goals as goal

@@ -1,4 +1,4 @@
--- What holds of every trace, of every fold that counts, and of every run of `Filter` and of `Take`, whatever they draw from.
+-- What callers' proofs cite: of every trace, of every fold that counts, and of every run of `Filter` and of `Take`, whatever they draw from.
 use Rattle.std.proofs.Common.{◌≡◌, ℕ, zero, suc, ◌+◌, ◌<◌, ◌⊎◌, inl, inr, Bool, true, false, cond, List, [], ◌∷◌, ◌++◌, length, map, filter, refl, sym, ap, subst, ◌∙◌, arith, Option, Some, None, Result, Ok, Err}
 use Rattle.std.specs.List.{FoldsTo}
 use Rattle.std.specs.Fn.{Mut}
