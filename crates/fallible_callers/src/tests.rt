@@ -4,8 +4,8 @@ use crate::computing::{
     doubled_above_1000, fold_of_one, fourth_above_100, places, products, running_sums, sum,
 };
 use crate::drawing::{draw_all, second_if_above, third_draw};
-use crate::generic::sum_of_nest;
-use fallible_iterator::{FallibleIterator, Fault, convert};
+use crate::generic::{mean, mean_of_nest, sum_of_nest};
+use fallible_iterator::{FallibleIterator, Fault, convert, empty};
 use std::alloc::{AllocError, Global};
 use std::fmt::Debug;
 use std::process::Abort;
@@ -42,6 +42,19 @@ fn folds(rt: HostRuntime) -> Result<(), Fail> {
     assert_eq!(rt; sum(readings(rt.alloc())?), Err(9));
     assert_eq!(rt; products(&[1, 2, 3], &[4, 5]), Ok(14));
     assert_eq!(rt; sum_of_nest(good_readings(rt.alloc())?), Ok(2202));
+    Ok(())
+}
+
+#[test]
+fn means(rt: HostRuntime) -> Result<(), Fail> {
+    assert_eq!(rt;
+        mean(convert(good_readings(rt.alloc())?.into_iter())),
+        Ok(Some(301))
+    );
+    assert_eq!(rt; mean(convert(readings(rt.alloc())?.into_iter())), Err(9));
+    assert_eq!(rt; mean(empty::<u32, u8>()), Ok(None));
+    assert_eq!(rt; mean_of_nest(readings(rt.alloc())?), Ok(Some(567)));
+    assert_eq!(rt; mean_of_nest(good_readings(rt.alloc())?), Ok(Some(1101)));
     Ok(())
 }
 
