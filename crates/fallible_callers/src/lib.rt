@@ -4,5 +4,6 @@
 pub mod computing;
 pub mod drawing;
 pub mod generic;
+pub mod making;
 #[cfg(test)]
 mod tests;

@@ -5,8 +5,10 @@ use crate::computing::{
 };
 use crate::drawing::{draw_all, second_if_above, third_draw};
 use crate::generic::{mean, mean_of_nest, sum_of_nest};
+use crate::making::{runs, sum_below};
 use fallible_iterator::{FallibleIterator, Fault, convert, empty};
 use std::alloc::{AllocError, Global};
+use std::convert::Infallible;
 use std::fmt::Debug;
 use std::process::Abort;
 use std::test::Fail;
@@ -68,9 +70,10 @@ fn places_of_items(rt: HostRuntime) -> Result<(), Fail> {
 }
 
 // Fails the test where anything else than a `Vec` of these items was made.
-fn expect_made<T>(rt: &impl Abort, made: Result<Vec<T>, Fault<u8>>, expected: &[T])
+fn expect_made<T, E>(rt: &impl Abort, made: Result<Vec<T>, Fault<E>>, expected: &[T])
 where
     T: Debug + Drop + PartialEq,
+    E: Debug + Drop,
 {
     match made {
         Ok(items) => assert_eq!(rt; items.as_slice(), expected),
@@ -94,5 +97,14 @@ fn a_drain_by_hand(rt: HostRuntime) -> Result<(), Fail> {
     let mut it = convert(readings(rt.alloc())?.into_iter());
     assert_eq!(rt; draw_all(&mut it), Err(9));
     assert_eq!(rt; it.next(), Ok(Some(700)));
+    Ok(())
+}
+
+#[test]
+fn ranges(rt: HostRuntime) -> Result<(), Fail> {
+    assert_eq!(rt; sum_below(5), Ok(10));
+    assert_eq!(rt; sum_below(0), Ok(0));
+    let bounds = Vec::from_array(rt.alloc(), [Ok::<u32, Infallible>(3), Ok(0), Ok(2)])?;
+    expect_made(&rt, runs(rt.alloc(), bounds), &[0, 1, 2, 0, 1]);
     Ok(())
 }
