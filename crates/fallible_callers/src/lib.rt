@@ -5,5 +5,6 @@ pub mod computing;
 pub mod drawing;
 pub mod generic;
 pub mod making;
+pub mod reading;
 #[cfg(test)]
 mod tests;

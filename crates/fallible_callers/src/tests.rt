@@ -6,10 +6,12 @@ use crate::computing::{
 use crate::drawing::{draw_all, second_if_above, third_draw};
 use crate::generic::{mean, mean_of_nest, sum_of_nest};
 use crate::making::{runs, sum_below};
+use crate::reading::{Bytes, ReadFailed, newlines_of_three};
 use fallible_iterator::{FallibleIterator, Fault, convert, empty};
 use std::alloc::{AllocError, Global};
 use std::convert::Infallible;
 use std::fmt::Debug;
+use std::io::{self, ErrorKind, Read};
 use std::process::Abort;
 use std::test::Fail;
 
@@ -106,5 +108,38 @@ fn ranges(rt: HostRuntime) -> Result<(), Fail> {
     assert_eq!(rt; sum_below(0), Ok(0));
     let bounds = Vec::from_array(rt.alloc(), [Ok::<u32, Infallible>(3), Ok(0), Ok(2)])?;
     expect_made(&rt, runs(rt.alloc(), bounds), &[0, 1, 2, 0, 1]);
+    Ok(())
+}
+
+// Fails at each read.
+#[derive(Drop)]
+struct Broken;
+
+impl Read for Broken {
+    fn read(&mut self, _buf: &mut [u8]) -> io::Result<usize> {
+        Err(io::Error::from(ErrorKind::BrokenPipe))
+    }
+}
+
+fn bytes(text: &[u8]) -> Bytes<&[u8]> {
+    Bytes { reader: text }
+}
+
+#[test]
+fn readers(rt: HostRuntime) -> Result<(), Fail> {
+    assert_eq!(rt; newlines_of_three(b"a\n\n\n".as_slice()), Ok(2));
+    assert_eq!(rt; newlines_of_three(Broken), Err(ReadFailed));
+    assert_eq!(rt; bytes(b"ab".as_slice()).take(3).count(), Ok(2));
+    let mut first = bytes(b"abcd".as_slice()).take(3);
+    let sum = first.try_fold(
+        0,
+        |sum: u32, byte: u8| Ok::<u32, ReadFailed>(sum.wrapping_add(u32::from(byte))),
+    );
+    assert_eq!(rt; sum, Ok(294));
+    expect_made(
+        &rt,
+        bytes(b"abcd".as_slice()).take(3).collect(rt.alloc()),
+        b"abc".as_slice(),
+    );
     Ok(())
 }
