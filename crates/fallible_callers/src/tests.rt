@@ -3,7 +3,7 @@ use crate::computing::{
     above_100, above_100_of_ten, all_up_to_100, both_columns, collected_above_100,
     doubled_above_1000, fold_of_one, fourth_above_100, places, products, running_sums, sum,
 };
-use crate::drawing::{draw_all, second_if_above, third_draw};
+use crate::drawing::{draw_all, second_if_above, third_draw, third_of};
 use crate::generic::{mean, mean_of_nest, sum_of_nest};
 use crate::making::{runs, sum_below};
 use crate::reading::{Bytes, ReadFailed, newlines_of_three};
@@ -66,6 +66,10 @@ fn means(rt: HostRuntime) -> Result<(), Fail> {
 fn places_of_items(rt: HostRuntime) -> Result<(), Fail> {
     assert_eq!(rt; fourth_above_100(readings(rt.alloc())?), Err(9));
     assert_eq!(rt; third_draw(readings(rt.alloc())?), Ok(Some(300)));
+    assert_eq!(rt;
+        third_of(convert(readings(rt.alloc())?.into_iter())),
+        Ok(Some(600))
+    );
     assert_eq!(rt; second_if_above(good_readings(rt.alloc())?), Ok(Some(600)));
     assert_eq!(rt; second_if_above(readings(rt.alloc())?), Ok(None));
     Ok(())
