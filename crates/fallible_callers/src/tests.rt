@@ -5,7 +5,7 @@ use crate::computing::{
 };
 use crate::drawing::{draw_all, second_if_above, third_draw, third_of};
 use crate::generic::{mean, mean_of_nest, sum_of_nest};
-use crate::making::{runs, sum_below};
+use crate::ranges::{runs, sum_below};
 use crate::reading::{Bytes, ReadFailed, newlines_of_three};
 use fallible_iterator::{FallibleIterator, Fault, convert, empty};
 use std::alloc::{AllocError, Global};

@@ -1,7 +1,7 @@
-//! Ranges, runs and readers, drained.
+//! Ranges, drained.
 ghost use Rattle.std.specs.Prelude.{◌≡◌, ◌+◌, ◌%◌, ◌^◌, Ok};
 ghost use Rattle.std.specs.List.{range_with_len};
-ghost use Rattle.fallible_contract.specs.Lists.{items, results, taken, mapped, folded, flattened, collected, CollectedAs};
+ghost use Rattle.fallible_contract.specs.Lists.{items, results, taken, mapped, folded, flattened, CollectedAs};
 ghost use Rattle.fallible_callers.specs.Runs.{below, numbers};
 
 use fallible_iterator::{FallibleIterator, Fault, IteratorExt, convert};
