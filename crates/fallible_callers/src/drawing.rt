@@ -1,4 +1,7 @@
 //! Draws by hand.
+ghost use Rattle.std.specs.Prelude.{◌≡◌, List, ◌∷◌, Result, Ok, Some};
+ghost use Rattle.fallible_contract.specs.Lists.{Lists};
+
 use fallible_iterator::{FallibleIterator, convert};
 
 /// The third of the doubled readings above 100 among the first ten.
@@ -77,4 +80,16 @@ where
     (&mut left).zip(&mut right).draw()?;
     left.draw()?;
     right.draw()
+}
+
+/// The third item, after the first two are let go.
+pub fn third_of<I: FallibleIterator>(mut it: I) -> Result<Option<I::Item>, I::Error>
+where
+    I::Item: Drop,
+    requires { I.contract.can it }
+    ensures { (l : List (Result I.Item I.Error)) (x y z : I.Item) (rest : List (Result I.Item I.Error)) → Lists I.contract.steps it l → l ≡ Ok x ∷ Ok y ∷ Ok z ∷ rest → result ≡ Ok (Some z) }
+{
+    it.draw()?;
+    it.draw()?;
+    it.draw()
 }

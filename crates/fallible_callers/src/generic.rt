@@ -1,6 +1,7 @@
 //! Callers over any fallible iterator.
 ghost use Rattle.std.specs.Prelude.{◌≡◌, ◌+◌, ◌*◌, ◌%◌, ◌^◌, ℕ, List, Result, Ok, nat_lt};
 ghost use Rattle.fallible_contract.specs.Lists.{Lists, results, mapped, filtered, taken, folded};
+ghost use Rattle.fallible_callers.specs.Means.{mean_of};
 
 use fallible_iterator::{FallibleIterator, convert};
 
@@ -22,6 +23,39 @@ pub fn sum_of_nest(readings: Vec<Result<u32, u8>>) -> Result<u64, u8>
     ensures { result ≡ folded (λ e. e) (λ s x. Ok ((s + x) % 2 ^ 64)) 0 (taken 3 (mapped (λ x. Ok (x * 2 % 2 ^ 32)) (filtered (λ x. Ok (nat_lt 100 x)) (results readings.items)))) }
 {
     sum_of(
+        convert(readings.into_iter())
+            .filter(|reading| Ok(*reading > 100))
+            .map(|reading: u32| Ok(reading.wrapping_mul(2)))
+            .take(3),
+    )
+}
+
+/// The mean of the items, none where there are none, or the first failure: the sum by the number, both modulo 2 ^ 64.
+pub fn mean<I: FallibleIterator<Item = u32>>(it: I) -> Result<Option<u64>, I::Error>
+where
+    requires can { I.contract.can it }
+    requires finite { I.contract.has_end it }
+    ensures { (l : List (Result ℕ I.Error)) → Lists I.contract.steps it l → result ≡ mean_of l }
+{
+    let (sum, number) = it.fold(
+        (0, 0),
+        |totals: (u64, u64), item: u32| Ok((
+            totals.0.wrapping_add(u64::from(item)),
+            totals.1.wrapping_add(1),
+        )),
+    )?;
+    if number == 0 {
+        Ok(None)
+    } else {
+        Ok(Some(sum / number))
+    }
+}
+
+/// The mean of the first three readings above 100, doubled.
+pub fn mean_of_nest(readings: Vec<Result<u32, u8>>) -> Result<Option<u64>, u8>
+    ensures { result ≡ mean_of (taken 3 (mapped (λ x. Ok (x * 2 % 2 ^ 32)) (filtered (λ x. Ok (nat_lt 100 x)) (results readings.items)))) }
+{
+    mean(
         convert(readings.into_iter())
             .filter(|reading| Ok(*reading > 100))
             .map(|reading: u32| Ok(reading.wrapping_mul(2)))

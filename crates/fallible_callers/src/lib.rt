@@ -4,5 +4,7 @@
 pub mod computing;
 pub mod drawing;
 pub mod generic;
+pub mod ranges;
+pub mod reading;
 #[cfg(test)]
 mod tests;

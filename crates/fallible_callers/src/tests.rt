@@ -3,11 +3,15 @@ use crate::computing::{
     above_100, above_100_of_ten, all_up_to_100, both_columns, collected_above_100,
     doubled_above_1000, fold_of_one, fourth_above_100, places, products, running_sums, sum,
 };
-use crate::drawing::{draw_all, second_if_above, third_draw};
-use crate::generic::sum_of_nest;
-use fallible_iterator::{FallibleIterator, Fault, convert};
+use crate::drawing::{draw_all, second_if_above, third_draw, third_of};
+use crate::generic::{mean, mean_of_nest, sum_of_nest};
+use crate::ranges::{runs, sum_below};
+use crate::reading::{Bytes, ReadFailed, newlines_of_three};
+use fallible_iterator::{FallibleIterator, Fault, convert, empty};
 use std::alloc::{AllocError, Global};
+use std::convert::Infallible;
 use std::fmt::Debug;
+use std::io::{self, ErrorKind, Read};
 use std::process::Abort;
 use std::test::Fail;
 
@@ -46,18 +50,36 @@ fn folds(rt: HostRuntime) -> Result<(), Fail> {
 }
 
 #[test]
+fn means(rt: HostRuntime) -> Result<(), Fail> {
+    assert_eq!(rt;
+        mean(convert(good_readings(rt.alloc())?.into_iter())),
+        Ok(Some(301))
+    );
+    assert_eq!(rt; mean(convert(readings(rt.alloc())?.into_iter())), Err(9));
+    assert_eq!(rt; mean(empty::<u32, u8>()), Ok(None));
+    assert_eq!(rt; mean_of_nest(readings(rt.alloc())?), Ok(Some(567)));
+    assert_eq!(rt; mean_of_nest(good_readings(rt.alloc())?), Ok(Some(1101)));
+    Ok(())
+}
+
+#[test]
 fn places_of_items(rt: HostRuntime) -> Result<(), Fail> {
     assert_eq!(rt; fourth_above_100(readings(rt.alloc())?), Err(9));
     assert_eq!(rt; third_draw(readings(rt.alloc())?), Ok(Some(300)));
+    assert_eq!(rt;
+        third_of(convert(readings(rt.alloc())?.into_iter())),
+        Ok(Some(600))
+    );
     assert_eq!(rt; second_if_above(good_readings(rt.alloc())?), Ok(Some(600)));
     assert_eq!(rt; second_if_above(readings(rt.alloc())?), Ok(None));
     Ok(())
 }
 
 // Fails the test where anything else than a `Vec` of these items was made.
-fn expect_made<T>(rt: &impl Abort, made: Result<Vec<T>, Fault<u8>>, expected: &[T])
+fn expect_made<T, E>(rt: &impl Abort, made: Result<Vec<T>, Fault<E>>, expected: &[T])
 where
     T: Debug + Drop + PartialEq,
+    E: Debug + Drop,
 {
     match made {
         Ok(items) => assert_eq!(rt; items.as_slice(), expected),
@@ -81,5 +103,47 @@ fn a_drain_by_hand(rt: HostRuntime) -> Result<(), Fail> {
     let mut it = convert(readings(rt.alloc())?.into_iter());
     assert_eq!(rt; draw_all(&mut it), Err(9));
     assert_eq!(rt; it.next(), Ok(Some(700)));
+    Ok(())
+}
+
+#[test]
+fn ranges(rt: HostRuntime) -> Result<(), Fail> {
+    assert_eq!(rt; sum_below(5), Ok(10));
+    assert_eq!(rt; sum_below(0), Ok(0));
+    let bounds = Vec::from_array(rt.alloc(), [Ok::<u32, Infallible>(3), Ok(0), Ok(2)])?;
+    expect_made(&rt, runs(rt.alloc(), bounds), &[0, 1, 2, 0, 1]);
+    Ok(())
+}
+
+// Fails at each read.
+#[derive(Drop)]
+struct Broken;
+
+impl Read for Broken {
+    fn read(&mut self, _buf: &mut [u8]) -> io::Result<usize> {
+        Err(io::Error::from(ErrorKind::BrokenPipe))
+    }
+}
+
+fn bytes(text: &[u8]) -> Bytes<&[u8]> {
+    Bytes { reader: text }
+}
+
+#[test]
+fn readers(rt: HostRuntime) -> Result<(), Fail> {
+    assert_eq!(rt; newlines_of_three(b"a\n\n\n".as_slice()), Ok(2));
+    assert_eq!(rt; newlines_of_three(Broken), Err(ReadFailed));
+    assert_eq!(rt; bytes(b"ab".as_slice()).take(3).count(), Ok(2));
+    let mut first = bytes(b"abcd".as_slice()).take(3);
+    let sum = first.try_fold(
+        0,
+        |sum: u32, byte: u8| Ok::<u32, ReadFailed>(sum.wrapping_add(u32::from(byte))),
+    );
+    assert_eq!(rt; sum, Ok(294));
+    expect_made(
+        &rt,
+        bytes(b"abcd".as_slice()).take(3).collect(rt.alloc()),
+        b"abc".as_slice(),
+    );
     Ok(())
 }

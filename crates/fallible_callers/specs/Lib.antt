@@ -1,0 +1,4 @@
+-- What the clauses of `src/` cite.
+pub mod Means
+pub mod Runs
+pub mod Reading

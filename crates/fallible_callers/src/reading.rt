@@ -1,0 +1,51 @@
+//! A source of one's own over any reader.
+ghost use Rattle.std.proofs.Common.{rules};
+ghost use Rattle.fallible_contract.specs.Contract.{unbounded};
+ghost use Rattle.fallible_contract.specs.Laws.ToCome.{lawful_unbounded};
+ghost use Rattle.fallible_callers.specs.Reading.{DrawsByte};
+
+use fallible_iterator::FallibleIterator;
+use std::io::Read;
+
+/// A read failed.
+#[derive(Debug, Drop, PartialEq)]
+pub struct ReadFailed;
+
+/// The bytes of a reader, one read for each draw. It says no number to come, so it is drained through `take`.
+#[derive(Drop)]
+pub struct Bytes<R> {
+    /// What is read.
+    pub reader: R,
+}
+
+impl<R: Read + Drop> FallibleIterator for Bytes<R> {
+    type Item = u8;
+
+    type Error = ReadFailed;
+
+    ghost contract = { unbounded (λ s r t. DrawsByte R.remaining s.reader r t.reader) };
+
+    /// Reads one byte. An interrupted read fails too.
+    fn next(&mut self) -> Result<Option<u8>, ReadFailed> {
+        let mut byte = [0u8; 1];
+        match self.reader.read(&mut byte) {
+            Ok(0) => Ok(None),
+            Ok(_) => Ok(Some(byte[0])),
+            Err(_) => Err(ReadFailed),
+        }
+    }
+
+    fn size_hint(&self) -> (usize, Option<usize>) {
+        (0, None)
+    }
+
+    ghost lawful = { Prim.search (rules, lawful_unbounded) };
+}
+
+/// How many of the first three bytes are newlines.
+pub fn newlines_of_three<R: Read + Drop>(reader: R) -> Result<usize, ReadFailed> {
+    Bytes { reader }
+        .take(3)
+        .filter(|byte| Ok(*byte == b'\n'))
+        .count()
+}
