@@ -5,12 +5,11 @@ use crate::answered::expect_answers;
 use fallible_iterator::FallibleIterator;
 use fallible_iterator::laws::Answer;
 use std::fmt::Debug;
-use std::process::Abort;
 use std::test::Fail;
 
 /// Fails the test where a clone, then the original, and then a second clone, made before either was drawn from, don't each give the answers expected, or hint otherwise than one another.
 pub fn expect_alike<I: FallibleIterator + Clone>(
-    rt: &(impl Abort + AllocGlobal),
+    rt: &impl AllocGlobal,
     it: &mut I,
     expected: &[Answer<I::Item, I::Error>],
 ) -> Result<(), Fail>
@@ -23,10 +22,21 @@ where
 {
     let mut first = it.clone()?;
     let mut last = it.clone()?;
-    assert_eq!(rt; first.size_hint(), it.size_hint());
+    expect_same_hint(first.size_hint(), it.size_hint())?;
     expect_answers(rt, &mut first, expected)?;
     expect_answers(rt, it, expected)?;
     expect_answers(rt, &mut last, expected)?;
-    assert_eq!(rt; last.size_hint(), it.size_hint());
-    Ok(())
+    expect_same_hint(last.size_hint(), it.size_hint())
+}
+
+// Fails the test where the hints differ.
+fn expect_same_hint(
+    clone: (usize, Option<usize>),
+    original: (usize, Option<usize>),
+) -> Result<(), Fail> {
+    if clone == original {
+        Ok(())
+    } else {
+        Err(Fail::new(format_args!("the clone hints {clone:?}, and the original {original:?}")))
+    }
 }

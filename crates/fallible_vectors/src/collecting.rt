@@ -20,53 +20,44 @@ fn even_thirds(x: &u32) -> Result<bool, u32> {
 fn collect_doubled(rt: HostRuntime) -> Result<(), Fail> {
     let it = listed::<u32, u32, 5>(rt.alloc(), [Ok(0), Ok(1), Ok(2), Ok(3), Ok(4)])?;
     let it = it.map(|x: u32| Ok(x.wrapping_mul(2)));
-    expect_collected(&rt, it.collect(rt.alloc()), &[0, 2, 4, 6, 8]);
-    Ok(())
+    expect_collected(it.collect(rt.alloc()), &[0, 2, 4, 6, 8])
 }
 
 #[test]
 fn collect_fails_at_the_first_failure(rt: HostRuntime) -> Result<(), Fail> {
     let it = listed::<u32, u32, 4>(rt.alloc(), [Ok(0), Err(1), Ok(2), Err(3)])?;
-    expect_source_fault(&rt, it.collect::<Vec<u32>>(rt.alloc()), 1);
-    Ok(())
+    expect_source_fault(it.collect::<Vec<u32>>(rt.alloc()), 1)
 }
 
 #[test]
 fn collect_fails_as_map_err_makes_it(rt: HostRuntime) -> Result<(), Fail> {
     let it = listed::<u32, u32, 2>(rt.alloc(), [Ok(1), Err(5)])?;
     let it = it.map_err(|e: u32| e.wrapping_add(100));
-    expect_source_fault(&rt, it.collect::<Vec<u32>>(rt.alloc()), 105);
-    Ok(())
+    expect_source_fault(it.collect::<Vec<u32>>(rt.alloc()), 105)
 }
 
 #[test]
 fn collect_filtered_fails_by_the_predicate(rt: HostRuntime) -> Result<(), Fail> {
     let it = listed::<u32, u32, 4>(rt.alloc(), [Ok(0), Ok(1), Ok(2), Ok(3)])?;
-    expect_source_fault(
-        &rt,
-        it.filter(even_thirds).collect::<Vec<u32>>(rt.alloc()),
-        1,
-    );
-    Ok(())
+    expect_source_fault(it.filter(even_thirds).collect::<Vec<u32>>(rt.alloc()), 1)
 }
 
 #[test]
 fn collect_filtered(rt: HostRuntime) -> Result<(), Fail> {
     let it = listed::<u32, u32, 4>(rt.alloc(), [Ok(0), Ok(2), Ok(4), Ok(6)])?;
-    expect_collected(&rt, it.filter(even_thirds).collect(rt.alloc()), &[0, 6]);
-    Ok(())
+    expect_collected(it.filter(even_thirds).collect(rt.alloc()), &[0, 6])
 }
 
 #[test]
-fn collect_from_a_std_iterator(rt: HostRuntime) {
+fn collect_from_a_std_iterator(rt: HostRuntime) -> Result<(), Fail> {
     let it = IntoFallible::from(0..4u32);
-    expect_collected(&rt, it.collect(rt.alloc()), &[0, 1, 2, 3]);
+    expect_collected(it.collect(rt.alloc()), &[0, 1, 2, 3])
 }
 
 #[test]
-fn collect_after_into_fallible(rt: HostRuntime) {
+fn collect_after_into_fallible(rt: HostRuntime) -> Result<(), Fail> {
     let it = (0..4u32).into_fallible();
-    expect_collected(&rt, it.collect(rt.alloc()), &[0, 1, 2, 3]);
+    expect_collected(it.collect(rt.alloc()), &[0, 1, 2, 3])
 }
 
 // A `Vec` grows with its items, by a factor: for five of them it has nowhere near 1,000 places.
@@ -156,12 +147,12 @@ fn collect_into_a_vec_whose_request_may_be_refused(rt: HostRuntime) -> Result<()
 #[test]
 fn collect_refused_memory_leaves_the_rest(rt: HostRuntime) -> Result<(), Fail> {
     let mut it = listed::<u32, u32, 3>(rt.alloc(), [Ok(1), Ok(2), Ok(3)])?;
-    expect_refused(&rt, it.by_ref().collect::<Hungry>(rt.alloc()));
+    expect_refused(it.by_ref().collect::<Hungry>(rt.alloc()))?;
     assert_eq!(rt; it.next(), Ok(Some(2)));
     Ok(())
 }
 
 #[test]
-fn a_failure_becomes_a_fault_of_the_source(rt: HostRuntime) {
-    expect_source_fault::<(), u32>(&rt, Err(Fault::from(7)), 7);
+fn a_failure_becomes_a_fault_of_the_source(rt: HostRuntime) -> Result<(), Fail> {
+    expect_source_fault::<(), u32>(Err(Fault::from(7)), 7)
 }

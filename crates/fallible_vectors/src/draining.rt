@@ -35,7 +35,7 @@ fn fold_draws_nothing_after_its_closure_fails(rt: HostRuntime) -> Result<(), Fai
 #[test]
 fn collect_draws_nothing_after_a_failure(rt: HostRuntime) -> Result<(), Fail> {
     let mut it = listed::<u32, u32, 3>(rt.alloc(), [Ok(0), Err(1), Ok(2)])?;
-    expect_source_fault(&rt, it.by_ref().collect::<Vec<u32>>(rt.alloc()), 1);
+    expect_source_fault(it.by_ref().collect::<Vec<u32>>(rt.alloc()), 1)?;
     assert_eq!(rt; it.next(), Ok(Some(2)));
     Ok(())
 }
@@ -69,7 +69,7 @@ impl Collect<u32> for Greedy {
 #[test]
 fn collect_draws_nothing_where_its_collection_is_refused(rt: HostRuntime) -> Result<(), Fail> {
     let mut it = listed::<u32, u32, 2>(rt.alloc(), [Ok(1), Ok(2)])?;
-    expect_refused(&rt, it.by_ref().collect::<Greedy>(rt.alloc()));
+    expect_refused(it.by_ref().collect::<Greedy>(rt.alloc()))?;
     assert_eq!(rt; it.next(), Ok(Some(1)));
     Ok(())
 }

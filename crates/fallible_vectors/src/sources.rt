@@ -54,9 +54,9 @@ fn repeat_goes_on_after_a_refused_clone(rt: HostRuntime) -> Result<(), Fail> {
 }
 
 #[test]
-fn repeat_is_cut_by_take(rt: HostRuntime) {
+fn repeat_is_cut_by_take(rt: HostRuntime) -> Result<(), Fail> {
     let it = repeat::<u32, TestError>(5).take(2);
-    expect_collected(&rt, it.collect(rt.alloc()), &[5, 5]);
+    expect_collected(it.collect(rt.alloc()), &[5, 5])
 }
 
 #[test]

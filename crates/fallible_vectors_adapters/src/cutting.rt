@@ -79,8 +79,7 @@ fn take_ends_with_its_source(rt: HostRuntime) -> Result<(), Fail> {
         Err(7),
     ];
     let it = scripted::<u32, u32, 7>(rt.alloc(), script)?;
-    expect_collected(&rt, it.take(6).collect(rt.alloc()), &[1, 2, 3, 4, 5]);
-    Ok(())
+    expect_collected(it.take(6).collect(rt.alloc()), &[1, 2, 3, 4, 5])
 }
 
 #[test]
@@ -126,8 +125,7 @@ fn step_by_the_greatest_step(rt: HostRuntime) -> Result<(), Fail> {
     assert_eq!(rt; it.size_hint(), (1, Some(1)));
     expect_answers(&rt, &mut it, &[Item(1), End])?;
     let it = listed::<u32, u32, 2>(rt.alloc(), [Ok(1), Ok(2)])?.step_by(usize::MAX);
-    expect_collected(&rt, it.collect(rt.alloc()), &[1]);
-    Ok(())
+    expect_collected(it.collect(rt.alloc()), &[1])
 }
 
 #[test]

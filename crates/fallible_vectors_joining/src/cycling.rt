@@ -25,8 +25,7 @@ fn cycle_of_nothing_ends(rt: HostRuntime) -> Result<(), Fail> {
 fn cycle_of_one_item(rt: HostRuntime) -> Result<(), Fail> {
     let it = once::<u32, TestError>(1).cycle()?;
     assert_eq!(rt; it.size_hint(), (usize::MAX, None));
-    expect_collected(&rt, it.take(3).collect(rt.alloc()), &[1, 1, 1]);
-    Ok(())
+    expect_collected(it.take(3).collect(rt.alloc()), &[1, 1, 1])
 }
 
 #[test]
@@ -41,8 +40,7 @@ fn cycle_passes_failures(rt: HostRuntime) -> Result<(), Fail> {
 fn cycle_of_four_items(rt: HostRuntime) -> Result<(), Fail> {
     let it = listed::<u32, TestError, 4>(rt.alloc(), [Ok(0), Ok(1), Ok(2), Ok(3)])?;
     let it = it.cycle()?.take(6);
-    expect_collected(&rt, it.collect(rt.alloc()), &[0, 1, 2, 3, 0, 1]);
-    Ok(())
+    expect_collected(it.collect(rt.alloc()), &[0, 1, 2, 3, 0, 1])
 }
 
 #[test]

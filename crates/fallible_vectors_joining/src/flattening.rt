@@ -34,8 +34,7 @@ fn flatten_of_three_ranges(rt: HostRuntime) -> Result<(), Fail> {
         ],
     )?;
     let it = it.flatten().take(9);
-    expect_collected(&rt, it.collect(rt.alloc()), &[0, 1, 2, 3, 4]);
-    Ok(())
+    expect_collected(it.collect(rt.alloc()), &[0, 1, 2, 3, 4])
 }
 
 #[test]
@@ -46,8 +45,7 @@ fn flat_map_of_three_ranges(rt: HostRuntime) -> Result<(), Fail> {
             Ok(IntoFallible::from(range))
         })
         .take(9);
-    expect_collected(&rt, it.collect(rt.alloc()), &[0, 1, 2, 3, 4]);
-    Ok(())
+    expect_collected(it.collect(rt.alloc()), &[0, 1, 2, 3, 4])
 }
 
 // The first answer of joined inner iterators, the outcome of a fold that was stopped at the next item, and the item that its closure saw.

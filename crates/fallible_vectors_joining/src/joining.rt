@@ -13,8 +13,7 @@ fn chain_of_two_lists(rt: HostRuntime) -> Result<(), Fail> {
     let front = listed::<u32, u32, 4>(rt.alloc(), [Ok(0), Ok(1), Ok(2), Ok(3)])?;
     let back = listed::<u32, u32, 4>(rt.alloc(), [Ok(4), Ok(5), Ok(6), Ok(7)])?;
     let it = front.chain(back);
-    expect_collected(&rt, it.collect(rt.alloc()), &[0, 1, 2, 3, 4, 5, 6, 7]);
-    Ok(())
+    expect_collected(it.collect(rt.alloc()), &[0, 1, 2, 3, 4, 5, 6, 7])
 }
 
 #[test]
@@ -135,6 +134,5 @@ fn a_nest_of_joins_is_drained(rt: HostRuntime) -> Result<(), Fail> {
     let sums = left
         .zip(right)
         .map(|pair: (u32, u32)| Ok(pair.0.wrapping_add(pair.1)));
-    expect_collected(&rt, sums.collect(rt.alloc()), &[11, 22, 33]);
-    Ok(())
+    expect_collected(sums.collect(rt.alloc()), &[11, 22, 33])
 }
