@@ -6,13 +6,16 @@
 //! printed.
 #![tactic(auto)]
 
+mod by_byte;
+
+use by_byte::ByByte;
 use fallible_rows::{RowFault, fault_line, run};
 use std::io::BufReader;
 use std::process::ExitCode;
 
 fn main(rt: HostRuntime) -> ExitCode {
     let outcome = match BufReader::new(rt.alloc(), rt.stdin()) {
-        Ok(mut reader) => run(rt.alloc(), &mut reader, &mut rt.stdout()),
+        Ok(reader) => run(rt.alloc(), &mut ByByte { reader }, &mut rt.stdout()),
         Err(_) => Err(RowFault::Memory),
     };
     let Err(fault) = outcome else {
