@@ -37,7 +37,7 @@ impl<C, A, R, F: Fn(C, A) -> Result<C, R>> Turn<C, A, R> for F {
     }
 }
 
-// What a fold that stops at an answer hands back at each exit: the value carried, and the answer.
+/// What a fold that stops at an answer hands back at each exit: the value carried, and the answer.
 pub fn unpack<C, T, E>(exit: Exit<C, E, (C, Result<T, E>)>) -> (C, Result<Option<T>, E>)
     ensures { result ≡ unpacked exit }
 {

@@ -1,8 +1,8 @@
-// What the adapters make of their sources' hints.
+//! What the adapters make of their sources' hints.
 ghost use Rattle.std.specs.Prelude.{◌≡◌, ◌+◌, ◌/◌};
 ghost use Rattle.fallible_contract.specs.Hints.{hint_up_to, hint_less, kept_of, hint_kept, HintWithItem, hint_sum, hint_smaller};
 
-// The smaller of each bound and n.
+/// The smaller of each bound and n.
 pub fn up_to(hint: (usize, Option<usize>), n: usize) -> (usize, Option<usize>)
     ensures { result ≡ hint_up_to n hint }
 {
@@ -13,7 +13,7 @@ pub fn up_to(hint: (usize, Option<usize>), n: usize) -> (usize, Option<usize>)
     (hint.0.min(n), high)
 }
 
-// Each bound less n, and not below 0.
+/// Each bound less n, and not below 0.
 pub fn less(hint: (usize, Option<usize>), n: usize) -> (usize, Option<usize>)
     ensures { result ≡ hint_less n hint }
 {
@@ -24,7 +24,7 @@ pub fn less(hint: (usize, Option<usize>), n: usize) -> (usize, Option<usize>)
     (hint.0.saturating_sub(n), high)
 }
 
-// Each bound, of which the items are kept that come after the first `left` ones, at each step.
+/// Each bound, of which the items are kept that come after the first `left` ones, at each step.
 pub fn kept(hint: (usize, Option<usize>), between: usize, left: usize) -> (usize, Option<usize>)
     ensures { result ≡ hint_kept between left hint }
 {
@@ -53,7 +53,7 @@ fn whole_steps(n: usize, between: usize) -> usize
     if n <= between { 0 } else { n / (between + 1) }
 }
 
-// One more on each bound: the lower at most `usize::MAX`, and no upper where it would be past that.
+/// One more on each bound: the lower at most `usize::MAX`, and no upper where it would be past that.
 pub fn one_more(hint: (usize, Option<usize>)) -> (usize, Option<usize>)
     ensures { HintWithItem hint result }
 {
@@ -64,7 +64,7 @@ pub fn one_more(hint: (usize, Option<usize>)) -> (usize, Option<usize>)
     (hint.0.saturating_add(1), high)
 }
 
-// The sums of two hints' bounds.
+/// The sums of two hints' bounds.
 pub fn sum(a: (usize, Option<usize>), b: (usize, Option<usize>)) -> (usize, Option<usize>)
     ensures { result ≡ hint_sum a b }
 {
@@ -76,7 +76,7 @@ pub fn sum(a: (usize, Option<usize>), b: (usize, Option<usize>)) -> (usize, Opti
     (a.0.saturating_add(b.0), high)
 }
 
-// The smaller of two hints' bounds.
+/// The smaller of two hints' bounds.
 pub fn smaller(a: (usize, Option<usize>), b: (usize, Option<usize>)) -> (usize, Option<usize>)
     ensures { result ≡ hint_smaller a b }
 {
