@@ -11,4 +11,6 @@ pub mod Lists
 pub mod Nth
 pub mod Overriding
 pub mod Passing
+pub mod Picking
+pub mod Searching
 pub mod ToCome

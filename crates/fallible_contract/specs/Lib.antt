@@ -12,6 +12,8 @@ pub mod Hints
 pub mod Laws
 pub mod Lists
 pub mod Passing
+pub mod Picking
 pub mod Refusals
+pub mod Searching
 pub mod Traces
 pub mod WithSteps

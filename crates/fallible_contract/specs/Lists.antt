@@ -4,6 +4,9 @@ use Rattle.std.specs.Iterator.Runs.{EachRunFrom}
 use Rattle.std.specs.Borrow.{Bor}
 use Rattle.std.specs.declared.option.Option.{Option}
 use Rattle.fallible_contract.specs.Traces.{Answered, Run, end}
+use Rattle.std.specs.declared.cmp.Ordering.{Ordering}
+use Rattle.fallible_contract.specs.Picking.{better, better_key, item_of}
+use Rattle.fallible_contract.specs.Searching.{all_pick, any_pick, find_map_pick, position_pick, each_pick}
 use Rattle.fallible_contract.specs.declared.collecting.Fault.{Fault}
 use Rattle.fallible_contract.specs.declared.collecting.Fault.TheVariants.{Source, Memory}
 
@@ -178,6 +181,42 @@ nth_of zero (Ok x ∷ l) = Ok (Some x)
 nth_of (suc n) (Ok x ∷ l) = nth_of n l
 nth_of n (Err e ∷ l) = Err e
 
+-- what is picked, or else what the rest of the search answers
+abbrev pub picked_or : {E R : Type 0} → Option R → Result R E → Result R E
+picked_or (Some z) rest = Ok z
+picked_or None rest = rest
+
+-- a search at an item: what is picked of the closure's answer, or else the rest of the search; or the closure's failure
+abbrev pub decided : {V E R : Type 0} → (V → Option R) → Result V E → Result R E → Result R E
+decided pick (Ok v) rest = picked_or (pick v) rest
+decided pick (Err e) rest = Err e
+
+-- what the first item x decides of whose h x something is picked, the item with n items before it on; `none` where there is no such item, and the failure of the list or of h that comes first
+unfoldable pub searched : {A E V R : Type 0} → (ℕ → A → V → Option R) → R → (A → Result V E) → ℕ → List (Result A E) → Result R E
+searched pick none h n [] = Ok none
+searched pick none h n (Ok x ∷ l) = decided (pick n x) (h x) (searched pick none h (n + 1) l)
+searched pick none h n (Err e ∷ l) = Err e
+
+-- whether h x is true of each item x
+unfoldable pub all_of : {A E : Type 0} → (A → Result Bool E) → List (Result A E) → Result Bool E
+all_of h l = searched all_pick true h 0 l
+
+-- whether h x is true of an item x
+unfoldable pub any_of : {A E : Type 0} → (A → Result Bool E) → List (Result A E) → Result Bool E
+any_of h l = searched any_pick false h 0 l
+
+-- the first value that h makes of an item, if it makes one
+unfoldable pub find_mapped : {A B E : Type 0} → (A → Result (Option B) E) → List (Result A E) → Result (Option B) E
+find_mapped h l = searched find_map_pick None h 0 l
+
+-- how many items stand before the first item x for which h x is true, if there is one
+unfoldable pub position_in : {A E : Type 0} → (A → Result Bool E) → List (Result A E) → Result (Option ℕ) E
+position_in h l = searched position_pick None h 0 l
+
+-- nothing, where h fails on no item
+unfoldable pub each_done : {A E : Type 0} → (A → Result (Unit {0}) E) → List (Result A E) → Result (Unit {0}) E
+each_done h l = searched each_pick tt h 0 l
+
 -- an item before a list of items, where there is one
 abbrev pub before : {A E : Type 0} → A → Result (List A) E → Result (List A) E
 before x (Ok xs) = Ok (x ∷ xs)
@@ -265,3 +304,20 @@ ActsWith {F} {B} {A} {R} call f h = (b : B) (x : A) (r : R) (g : F) → call f b
 -- Failures convert as the function does.
 abbrev pub Converts : {E E' : Type 0} → (E → E' → Type 0) → (E → E') → Type 0
 Converts {E} {E'} from convert = (e : E) (e' : E') → from e e' → e' ≡ convert e
+
+-- the better of the best so far and an item, as h says of the two; the item where there is none so far
+abbrev pub pick_of : {A E : Type 0} → Ordering → (A → A → Result Ordering E) → Option A → A → Result (Option A) E
+pick_of keeps h None x = Ok (Some x)
+pick_of keeps h (Some best) x = on_value (h best x) (λ o. Ok (Some (better keeps o best x)))
+
+-- the best of the items by h, of equal ones the last, and none of no items; or the failure of the list or of h that comes first
+unfoldable pub best_by : {A E : Type 0} → Ordering → (A → A → Result Ordering E) → List (Result A E) → Result (Option A) E
+best_by keeps h l = folded (λ e. e) (pick_of keeps h) None l
+
+-- the better of the best so far and an item, by the key that h makes of it
+abbrev pub key_of : {A E K : Type 0} → Ordering → (K → K → Ordering) → (A → Result K E) → Option (K × A) → A → Result (Option (K × A)) E
+key_of keeps cmp h best x = on_value (h x) (λ k. Ok (Some (better_key keeps cmp best (k, x))))
+
+-- the best of the items by the keys that h makes of them, of equal ones the last, and none of no items; or the failure of the list or of h that comes first
+unfoldable pub best_by_key : {A E K : Type 0} → Ordering → (K → K → Ordering) → (A → Result K E) → List (Result A E) → Result (Option A) E
+best_by_key keeps cmp h l = item_of (folded (λ e. e) (key_of keeps cmp h) None l)

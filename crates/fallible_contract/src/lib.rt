@@ -5,5 +5,6 @@ pub mod answers;
 pub mod collecting;
 pub mod folds;
 pub mod hints;
+pub mod searching;
 
 pub use collecting::{Collect, Fault};

@@ -8,6 +8,7 @@ pub mod laws;
 pub mod number;
 pub mod one_to_one;
 pub mod peeking;
+mod picking;
 pub mod traits;
 
 pub use cutting::{Fuse, Skip, StepBy, Take, TakeWhile};

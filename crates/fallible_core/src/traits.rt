@@ -25,7 +25,11 @@ ghost use Rattle.fallible_core.specs.Peeking.Peekable.{peekable_parts, peekable_
 ghost use Rattle.fallible_core.specs.Joining.Cycle.{cycle_parts};
 ghost use Rattle.fallible_core.specs.declared.joining.chain.StillDrawn.TheVariants.{Both};
 ghost use Rattle.fallible_contract.specs.Collecting.{Collects, PushTurn};
-ghost use Rattle.fallible_contract.specs.Lists.{items, Lists, Acts, Repeats, repeated, EachLists, flattened, mapped, filtered, taken, counted, filter_mapped, inspected, ActsWithState, scanned, skipped_while, taken_while, numbered, failures_mapped, pointed_to, CollectedAs, chained, skipped, stepped, zipped, NoFailureAtEnd, nth_of, folded, ActsWith, Converts};
+ghost use Rattle.fallible_contract.specs.Lists.{items, Lists, Acts, Repeats, repeated, EachLists, flattened, mapped, filtered, taken, counted, filter_mapped, inspected, ActsWithState, scanned, skipped_while, taken_while, numbered, failures_mapped, pointed_to, CollectedAs, chained, skipped, stepped, zipped, NoFailureAtEnd, nth_of, folded, ActsWith, Converts, all_of, any_of, find_mapped, position_in, each_done, best_by, best_by_key};
+ghost use Rattle.std.specs.declared.cmp.Ordering.{Ordering};
+ghost use Rattle.std.specs.declared.cmp.Ordering.TheVariants.{Less, Greater};
+ghost use Rattle.fallible_contract.specs.Picking.{call_at_two, takes_at_two, PickCall, takes_in_pick, Picked, KeyCall, Best, BestByKey};
+ghost use Rattle.fallible_contract.specs.Searching.{CallableInSearch, Searched, SearchTurn, PlacedTurn, all_pick, any_pick, find_map_pick, position_pick, each_pick};
 ghost use Rattle.fallible_contract.specs.Folds.{CallableCarrying, Carried, CallableInFold, call_with, takes_with, FoldTurn, Folded, Counted, Nth};
 
 mod borrowed;
@@ -38,10 +42,13 @@ use crate::joining::{Chain, Cycle, FlatMap, Flatten, StillDrawn, Zip};
 use crate::number::Number;
 use crate::one_to_one::{Cloned, Enumerate, Inspect, Map, MapErr, Scan};
 use crate::peeking::Peekable;
+use crate::picking::{best_by, best_by_key, without_key};
 use crate::traits::conversion::IntoFallibleIterator;
 use fallible_contract::collecting::{Collect, Fault};
 use fallible_contract::folds::{Exit, Is, Turn};
+use fallible_contract::searching::answer_at;
 use std::alloc::{AllocError, Global};
+use std::cmp::Ordering;
 use std::convert::Infallible;
 use std::marker::PhantomData;
 
@@ -494,6 +501,243 @@ pub trait FallibleIterator: Drop + Sized {
             Exit::Failed(_, e) => Err(Fault::Source(e)),
             Exit::Stopped(refused) => Err(Fault::Memory(refused)),
         }
+    }
+
+    /// Calls the closure on each item in order, up to the end. The first failure, of this iterator or of the closure, is the answer, and nothing is drawn after it.
+    ///
+    /// It asks a number to come, and that the closure may be called on each item that may come.
+    final fn for_each<F>(mut self, f: F) -> Result<(), Self::Error>
+    where
+        F: FnMut(Self::Item) -> Result<(), Self::Error>,
+        requires can { contract.can self }
+        requires finite { contract.has_end self }
+        requires callable { CallableInSearch (call_on F.FnMut) each_pick contract.steps (takes_on F.FnMut) self f }
+        ensures searched { (left : Self) × (g : F) × Searched (call_on F.FnMut) each_pick contract.steps tt self f result left g }
+        ensures is { (h : Self.Item → Result (Unit {0}) Self.Error) (l : List (Result Self.Item Self.Error)) → Acts (call_on F.FnMut) f h → Lists contract.steps self l → result ≡ each_done h l }
+    {
+        let turn = |f: F, x: Self::Item| -> Result<F, Result<(), Self::Error>>
+            requires { takes_on F.FnMut f x }
+            ensures { SearchTurn (call_on F.FnMut) each_pick f x result }
+        {
+            let mut f = f;
+            match f(x) {
+                Ok(()) => Ok(f),
+                Err(e) => Err(Err(e)),
+            }
+        };
+        answer_at(self.try_fold_carrying(f, &turn), ())
+    }
+
+    /// Whether the predicate answers true on each item up to the end. It stops at the first item on which it answers false, or fails; a failure that comes first is the answer. Nothing is drawn after the answer that decides, and what is left may be drawn from again.
+    ///
+    /// It asks a number to come, and that the predicate may be called on each item that may come until it decides.
+    final fn all<F>(&mut self, f: F) -> Result<bool, Self::Error>
+    where
+        F: FnMut(Self::Item) -> Result<bool, Self::Error>,
+        requires can { contract.can self.old }
+        requires finite { contract.has_end self.old }
+        requires callable { CallableInSearch (call_on F.FnMut) all_pick contract.steps (takes_on F.FnMut) self.old f }
+        ensures searched { (g : F) × Searched (call_on F.FnMut) all_pick contract.steps true self.old f result self.new g }
+        ensures is { (h : Self.Item → Result Bool Self.Error) (l : List (Result Self.Item Self.Error)) → Acts (call_on F.FnMut) f h → Lists contract.steps self.old l → result ≡ all_of h l }
+        ensures stays { Stays contract self.old self.new }
+    {
+        let turn = |f: F, x: Self::Item| -> Result<F, Result<bool, Self::Error>>
+            requires { takes_on F.FnMut f x }
+            ensures { SearchTurn (call_on F.FnMut) all_pick f x result }
+        {
+            let mut f = f;
+            match f(x) {
+                Ok(true) => Ok(f),
+                Ok(false) => Err(Ok(false)),
+                Err(e) => Err(Err(e)),
+            }
+        };
+        answer_at(self.try_fold_carrying(f, &turn), true)
+    }
+
+    /// Whether the predicate answers true on an item before the end. It stops at the first item on which it answers true, or fails; a failure that comes first is the answer. Nothing is drawn after the answer that decides, and what is left may be drawn from again.
+    ///
+    /// It asks a number to come, and that the predicate may be called on each item that may come until it decides.
+    final fn any<F>(&mut self, f: F) -> Result<bool, Self::Error>
+    where
+        F: FnMut(Self::Item) -> Result<bool, Self::Error>,
+        requires can { contract.can self.old }
+        requires finite { contract.has_end self.old }
+        requires callable { CallableInSearch (call_on F.FnMut) any_pick contract.steps (takes_on F.FnMut) self.old f }
+        ensures searched { (g : F) × Searched (call_on F.FnMut) any_pick contract.steps false self.old f result self.new g }
+        ensures is { (h : Self.Item → Result Bool Self.Error) (l : List (Result Self.Item Self.Error)) → Acts (call_on F.FnMut) f h → Lists contract.steps self.old l → result ≡ any_of h l }
+        ensures stays { Stays contract self.old self.new }
+    {
+        let turn = |f: F, x: Self::Item| -> Result<F, Result<bool, Self::Error>>
+            requires { takes_on F.FnMut f x }
+            ensures { SearchTurn (call_on F.FnMut) any_pick f x result }
+        {
+            let mut f = f;
+            match f(x) {
+                Ok(true) => Err(Ok(true)),
+                Ok(false) => Ok(f),
+                Err(e) => Err(Err(e)),
+            }
+        };
+        answer_at(self.try_fold_carrying(f, &turn), false)
+    }
+
+    /// The first value that the closure answers on the items in order, each of which it is called on once. A failure that comes first, of this iterator or of the closure, is the answer, and so is an end. Nothing is drawn after the answer that decides, and what is left may be drawn from again.
+    ///
+    /// It asks a number to come, and that the closure may be called on each item that may come until it decides.
+    final fn find_map<B, F>(&mut self, f: F) -> Result<Option<B>, Self::Error>
+    where
+        B: Drop,
+        F: FnMut(Self::Item) -> Result<Option<B>, Self::Error>,
+        requires can { contract.can self.old }
+        requires finite { contract.has_end self.old }
+        requires callable { CallableInSearch (call_on F.FnMut) find_map_pick contract.steps (takes_on F.FnMut) self.old f }
+        ensures searched { (g : F) × Searched (call_on F.FnMut) find_map_pick contract.steps None self.old f result self.new g }
+        ensures is { (h : Self.Item → Result (Option B) Self.Error) (l : List (Result Self.Item Self.Error)) → Acts (call_on F.FnMut) f h → Lists contract.steps self.old l → result ≡ find_mapped h l }
+        ensures stays { Stays contract self.old self.new }
+    {
+        let turn = |f: F, x: Self::Item| -> Result<F, Result<Option<B>, Self::Error>>
+            requires { takes_on F.FnMut f x }
+            ensures { SearchTurn (call_on F.FnMut) find_map_pick f x result }
+        {
+            let mut f = f;
+            match f(x) {
+                Ok(Some(y)) => Err(Ok(Some(y))),
+                Ok(None) => Ok(f),
+                Err(e) => Err(Err(e)),
+            }
+        };
+        answer_at(self.try_fold_carrying(f, &turn), None)
+    }
+
+    /// How many items come before the first one on which the predicate answers true; none where no such item comes before the end. A failure that comes first, of this iterator or of the predicate, is the answer. Nothing is drawn after the answer that decides, and what is left may be drawn from again.
+    ///
+    /// It asks a number to come of at most `usize::MAX`, and that the predicate may be called on each item that may come until it decides.
+    final fn position<F>(&mut self, f: F) -> Result<Option<usize>, Self::Error>
+    where
+        F: FnMut(Self::Item) -> Result<bool, Self::Error>,
+        requires can { contract.can self.old }
+        requires fits { AtMost contract self.old (2 ^ 64 - 1) }
+        requires callable { CallableInSearch (call_on F.FnMut) position_pick contract.steps (takes_on F.FnMut) self.old f }
+        ensures searched { (g : F) × Searched (call_on F.FnMut) position_pick contract.steps None self.old f result self.new g }
+        ensures is { (h : Self.Item → Result Bool Self.Error) (l : List (Result Self.Item Self.Error)) → Acts (call_on F.FnMut) f h → Lists contract.steps self.old l → result ≡ position_in h l }
+        ensures stays { Stays contract self.old self.new }
+    {
+        let turn = |carried: (usize, F), x: Self::Item| -> Result<
+            (usize, F),
+            Result<Option<usize>, Self::Error>,
+        >
+            requires { takes_on F.FnMut carried.1 x × (carried.0 < 2 ^ 64 - 1) }
+            ensures { PlacedTurn (call_on F.FnMut) position_pick carried x result }
+        {
+            let (before, mut f) = carried;
+            match f(x) {
+                Ok(true) => Err(Ok(Some(before))),
+                Ok(false) => Ok((before + 1, f)),
+                Err(e) => Err(Err(e)),
+            }
+        };
+        answer_at(self.try_fold_carrying((0, f), &turn), None)
+    }
+
+    /// The greatest item, of equal ones the last; none where no item comes before the end. The first failure is the answer, and nothing is drawn after it.
+    ///
+    /// It asks a number to come.
+    final fn max(self) -> Result<Option<Self::Item>, Self::Error>
+    where
+        Self::Item: Ord + Drop,
+        requires can { contract.can self }
+        requires finite { contract.has_end self }
+        ensures best { Best Greater Self.Item.cmp contract.steps self result }
+        ensures is { (l : List (Result Self.Item Self.Error)) → Lists contract.steps self l → result ≡ best_by Greater (λ x y. Ok (Self.Item.cmp x y)) l }
+    {
+        let compare = |best: &Self::Item, x: &Self::Item| -> Result<Ordering, Self::Error>
+            ensures { result ≡ Ok (Self.Item.cmp best.now x.now) }
+        { Ok(best.cmp(x)) };
+        best_by(self, Ordering::Greater, compare)
+    }
+
+    /// The least item, of equal ones the last; none where no item comes before the end. The first failure is the answer, and nothing is drawn after it.
+    ///
+    /// It asks a number to come.
+    final fn min(self) -> Result<Option<Self::Item>, Self::Error>
+    where
+        Self::Item: Ord + Drop,
+        requires can { contract.can self }
+        requires finite { contract.has_end self }
+        ensures best { Best Less Self.Item.cmp contract.steps self result }
+        ensures is { (l : List (Result Self.Item Self.Error)) → Lists contract.steps self l → result ≡ best_by Less (λ x y. Ok (Self.Item.cmp x y)) l }
+    {
+        let compare = |best: &Self::Item, x: &Self::Item| -> Result<Ordering, Self::Error>
+            ensures { result ≡ Ok (Self.Item.cmp best.now x.now) }
+        { Ok(best.cmp(x)) };
+        best_by(self, Ordering::Less, compare)
+    }
+
+    /// The item of the greatest key, of equal ones the last; none where no item comes before the end. The closure makes the key of each item once, in order. The first failure, of this iterator or of the closure, is the answer, and nothing is drawn after it.
+    ///
+    /// It asks a number to come, and that the closure may be called on each item that may come.
+    final fn max_by_key<B, F>(self, f: F) -> Result<Option<Self::Item>, Self::Error>
+    where
+        Self::Item: Drop,
+        B: Ord + Drop,
+        F: FnMut(&Self::Item) -> Result<B, Self::Error>,
+        requires can { contract.can self }
+        requires finite { contract.has_end self }
+        requires callable { CallableInFold contract.steps (KeyCall Greater B.cmp (call_at F.FnMut)) (λ g best x. takes_at F.FnMut g x) self f None }
+        ensures best { BestByKey Greater B.cmp (call_at F.FnMut) contract.steps self f result }
+        ensures is { (h : Self.Item → Result B Self.Error) (l : List (Result Self.Item Self.Error)) → Acts (call_at F.FnMut) f h → Lists contract.steps self l → result ≡ best_by_key Greater B.cmp h l }
+    {
+        without_key(best_by_key(self, Ordering::Greater, f))
+    }
+
+    /// The item of the least key, of equal ones the last; none where no item comes before the end. The closure makes the key of each item once, in order. The first failure, of this iterator or of the closure, is the answer, and nothing is drawn after it.
+    ///
+    /// It asks a number to come, and that the closure may be called on each item that may come.
+    final fn min_by_key<B, F>(self, f: F) -> Result<Option<Self::Item>, Self::Error>
+    where
+        Self::Item: Drop,
+        B: Ord + Drop,
+        F: FnMut(&Self::Item) -> Result<B, Self::Error>,
+        requires can { contract.can self }
+        requires finite { contract.has_end self }
+        requires callable { CallableInFold contract.steps (KeyCall Less B.cmp (call_at F.FnMut)) (λ g best x. takes_at F.FnMut g x) self f None }
+        ensures best { BestByKey Less B.cmp (call_at F.FnMut) contract.steps self f result }
+        ensures is { (h : Self.Item → Result B Self.Error) (l : List (Result Self.Item Self.Error)) → Acts (call_at F.FnMut) f h → Lists contract.steps self l → result ≡ best_by_key Less B.cmp h l }
+    {
+        without_key(best_by_key(self, Ordering::Less, f))
+    }
+
+    /// The greatest item by the closure, which is called on the best item so far and the next one; of equal ones the last, and none where no item comes before the end. The first failure, of this iterator or of the closure, is the answer, and nothing is drawn after it.
+    ///
+    /// It asks a number to come, and that the closure may be called on the best item so far and each item that may come.
+    final fn max_by<F>(self, f: F) -> Result<Option<Self::Item>, Self::Error>
+    where
+        Self::Item: Drop,
+        F: FnMut(&Self::Item, &Self::Item) -> Result<Ordering, Self::Error>,
+        requires can { contract.can self }
+        requires finite { contract.has_end self }
+        requires callable { CallableInFold contract.steps (PickCall Greater (call_at_two F.FnMut)) (takes_in_pick (takes_at_two F.FnMut)) self f None }
+        ensures picked { Picked Greater (call_at_two F.FnMut) contract.steps self f result }
+        ensures is { (h : Self.Item → Self.Item → Result Ordering Self.Error) (l : List (Result Self.Item Self.Error)) → ActsWith (call_at_two F.FnMut) f h → Lists contract.steps self l → result ≡ best_by Greater h l }
+    {
+        best_by(self, Ordering::Greater, f)
+    }
+
+    /// The least item by the closure, which is called on the best item so far and the next one; of equal ones the last, and none where no item comes before the end. The first failure, of this iterator or of the closure, is the answer, and nothing is drawn after it.
+    ///
+    /// It asks a number to come, and that the closure may be called on the best item so far and each item that may come.
+    final fn min_by<F>(self, f: F) -> Result<Option<Self::Item>, Self::Error>
+    where
+        Self::Item: Drop,
+        F: FnMut(&Self::Item, &Self::Item) -> Result<Ordering, Self::Error>,
+        requires can { contract.can self }
+        requires finite { contract.has_end self }
+        requires callable { CallableInFold contract.steps (PickCall Less (call_at_two F.FnMut)) (takes_in_pick (takes_at_two F.FnMut)) self f None }
+        ensures picked { Picked Less (call_at_two F.FnMut) contract.steps self f result }
+        ensures is { (h : Self.Item → Self.Item → Result Ordering Self.Error) (l : List (Result Self.Item Self.Error)) → ActsWith (call_at_two F.FnMut) f h → Lists contract.steps self l → result ≡ best_by Less h l }
+    {
+        best_by(self, Ordering::Less, f)
     }
 
     /// Lets the next answer be looked at ahead: an item or an end that `peek` saw is held, and comes first. Making the adapter draws nothing, and holds nothing.

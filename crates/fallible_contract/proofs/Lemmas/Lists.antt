@@ -1,3 +1,4 @@
 -- Lists of answers: what callers state.
 pub mod Drawn
 pub mod Passing
+pub mod Searched

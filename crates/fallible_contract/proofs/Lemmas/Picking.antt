@@ -1,0 +1,177 @@
+-- The best of the items by a fold that keeps the best so far.
+use Rattle.std.specs.Prelude.{◌≡◌, ℕ, List, [], ◌∷◌, ◌++◌, map, Bool, true, false, cond, Option, Some, None, Result, Ok, Err}
+use Rattle.std.specs.List.{FoldsTo}
+use Rattle.std.specs.Cmp.{IsTotalOrder, upto}
+use Rattle.std.specs.declared.cmp.Ordering.{Ordering}
+use Rattle.std.specs.declared.cmp.Ordering.TheVariants.{Less, Equal, Greater}
+use Rattle.std.specs.Ordering.{ordering_reverse, is_gt}
+use Rattle.std.proofs.Common.{refl, sym, ap, subst, ◌∙◌}
+use Rattle.fallible_contract.specs.Traces.{Answered, Run, item}
+use Rattle.fallible_contract.specs.Folds.{fold_turn, FoldExit, Folded}
+use Rattle.fallible_contract.specs.Lists.{Lists, Acts, ActsWith, on_value, pick_of, best_by, key_of, best_by_key}
+use Rattle.fallible_contract.specs.Picking.{same_order, better, better_key, PickCall, KeyCall, item_of, OfEach, IsLastBest, IsBestOf, BestExit, Best, KeyExit, BestByKey, Picked}
+use Rattle.fallible_contract.proofs.Lemmas.Lists.Drawn.{folded_is}
+
+-- `keeps` is `Greater` or `Less`
+abbrev pub Keeps : Ordering → Type 0
+Keeps Less = Unit {0}
+Keeps Equal = ⊥
+Keeps Greater = Unit {0}
+
+gt_is : (o : Ordering) → same_order Greater o ≡ is_gt o
+gt_is Less = refl
+gt_is Equal = refl
+gt_is Greater = refl
+
+lt_turned : (o : Ordering) → same_order Less (ordering_reverse o) ≡ is_gt o
+lt_turned Less = refl
+lt_turned Equal = refl
+lt_turned Greater = refl
+
+turned_back : (keeps r : Ordering) → Keeps keeps → same_order keeps r ≡ true → same_order keeps (ordering_reverse r) ≡ false
+turned_back Equal r k p = absurd k
+turned_back Less Less k p = refl
+turned_back Less Equal k p = absurd cc
+turned_back Less Greater k p = absurd cc
+turned_back Greater Less k p = absurd cc
+turned_back Greater Equal k p = absurd cc
+turned_back Greater Greater k p = refl
+
+all_append : {A : Type 0} (P : A → Type 0) (xs ys : List A) → OfEach P xs → OfEach P ys → OfEach P (xs ++ ys)
+all_append P [] ys p q = q
+all_append P (x ∷ xs) ys p q = (p.0, all_append P xs ys p.1 q)
+
+all_map : {A : Type 0} (P Q : A → Type 0) → ((x : A) → P x → Q x) → (xs : List A) → OfEach P xs → OfEach Q xs
+all_map P Q h [] p = p
+all_map P Q h (x ∷ xs) p = (h x p.0, all_map P Q h xs p.1)
+
+append_past : {A : Type 0} (xs ys zs : List A) (y : A) → (xs ++ y ∷ ys) ++ zs ≡ xs ++ y ∷ (ys ++ zs)
+append_past [] ys zs y = refl
+append_past (x ∷ xs) ys zs y = ap {B = List _} (λ l. x ∷ l) (append_past xs ys zs y)
+
+append_none : {A : Type 0} (xs : List A) → xs ++ [] ≡ xs
+append_none [] = refl
+append_none (x ∷ xs) = ap {B = List _} (λ l. x ∷ l) (append_none xs)
+
+append_one : {A : Type 0} (xs ys : List A) (y : A) → (xs ++ y ∷ []) ++ ys ≡ xs ++ y ∷ ys
+append_one [] ys y = refl
+append_one (x ∷ xs) ys y = ap {B = List _} (λ l. x ∷ l) (append_one xs ys y)
+
+module _ {A : Type 0} {cmp : A → A → Ordering} (o : IsTotalOrder cmp) (keeps : Ordering) (k : Keeps keeps) where
+  lt_is : (x y : A) → same_order Less (cmp x y) ≡ is_gt (cmp y x)
+  lt_is x y = ap (same_order Less) (o.antisymm x y) ∙ lt_turned (cmp y x)
+
+  not_better_by : (kept : Ordering) → Keeps kept → (x y z : A) → same_order kept (cmp x y) ≡ false → same_order kept (cmp y z) ≡ false → same_order kept (cmp x z) ≡ false
+  not_better_by Greater j x y z p q = gt_is (cmp x z) ∙ upto o x y z (sym (gt_is (cmp x y)) ∙ p) (sym (gt_is (cmp y z)) ∙ q)
+  not_better_by Less j x y z p q = lt_is x z ∙ upto o z y x (sym (lt_is y z) ∙ q) (sym (lt_is x y) ∙ p)
+  not_better_by Equal j x y z p q = absurd j
+
+  -- where x isn't better than y, nor y than z, x isn't better than z; and where x is better than y, y isn't better than x
+  not_better : (x y z : A) → same_order keeps (cmp x y) ≡ false → same_order keeps (cmp y z) ≡ false → same_order keeps (cmp x z) ≡ false
+  not_better = not_better_by keeps k
+
+  not_back : (x y : A) → same_order keeps (cmp x y) ≡ true → same_order keeps (cmp y x) ≡ false
+  not_back x y p = ap (same_order keeps) (o.antisymm y x) ∙ turned_back keeps (cmp x y) k p
+
+  -- one more item after those of which b is the best
+  best_next_by : (c : Bool) (items : List A) (b x : A) → same_order keeps (cmp b x) ≡ c → IsLastBest keeps cmp items b → IsLastBest keeps cmp (items ++ x ∷ []) (cond c b x)
+  best_next_by true items b x e h = record { before = h.before; after = h.after ++ x ∷ []; is = ap (λ (l : List A). l ++ x ∷ []) h.is ∙ append_past h.before h.after (x ∷ []) b; none_better = h.none_better; later_worse = all_append _ h.after (x ∷ []) h.later_worse (e, tt) }
+  best_next_by false items b x e h = record { before = items; after = []; is = refl; none_better = subst (λ (l : List A). OfEach (λ z. same_order keeps (cmp z x) ≡ false) l) (sym h.is) (all_append _ h.before (b ∷ h.after) (all_map _ _ (λ z p. not_better z b x p e) h.before h.none_better) (e, all_map _ _ (λ z p. not_better z b x (not_back b z p) e) h.after h.later_worse)); later_worse = tt }
+
+  best_next : (items : List A) (b x : A) → IsLastBest keeps cmp items b → IsLastBest keeps cmp (items ++ x ∷ []) (better keeps (cmp b x) b x)
+  best_next items b x h = best_next_by (same_order keeps (cmp b x)) items b x refl h
+
+  best_one : (x : A) → IsLastBest keeps cmp (x ∷ []) x
+  best_one x = record { before = []; after = []; is = refl; none_better = tt; later_worse = tt }
+
+  module _ {E F : Type 0} {call : F → A → A → Result Ordering E → F → Type 0} (acts : (f : F) (x y : A) (r : Result Ordering E) (g : F) → call f x y r g → r ≡ Ok (cmp x y)) where
+    best_front : (items done : List A) (b : A) (p : Option A × F) (v : Option A) (g : F) → p.0 ≡ Some b → IsLastBest keeps cmp done b → FoldsTo {P = Option A × F} (fold_turn (PickCall keeps call)) p items (v, g) → IsBestOf keeps cmp (done ++ items) v
+    best_front [] done b p v g at h w = subst (IsBestOf keeps cmp (done ++ [])) (sym at ∙ ap (λ q. q.0) w) (subst (λ (l : List A). IsLastBest keeps cmp l b) (sym (append_none done)) h)
+    best_front (x ∷ items) done b p v g at h w =
+        let turn : PickCall keeps call p.1 (Some b) x (Ok w.0.0) w.0.1 = subst (λ (u : Option A). PickCall keeps call p.1 u x (Ok w.0.0) w.0.1) at w.1 in
+        let same : turn.0 ≡ cmp b x = (let e = acts p.1 b x (Ok turn.0) w.0.1 turn.1 in cc) in
+        subst (λ (l : List A). IsBestOf keeps cmp l v) (append_one done items x) (best_front items (done ++ x ∷ []) (better keeps (cmp b x) b x) w.0 v g (turn.2 ∙ ap (λ (q : Ordering). Some (better keeps q b x)) same) (best_next done b x h) w.2)
+
+    best_items : (items : List A) (v : Option A) (f g : F) → FoldsTo {P = Option A × F} (fold_turn (PickCall keeps call)) (None, f) items (v, g) → IsBestOf keeps cmp items v
+    best_items [] v f g w = subst (IsBestOf keeps cmp []) (ap (λ q. q.0) w) refl
+    best_items (x ∷ items) v f g w = best_front items (x ∷ []) x w.0 v g (let e = w.1.0 in cc) (best_one x) w.2
+
+    best_exit : (from : E → E → Type 0) → ((e d : E) → from e d → d ≡ e) → (items : List A) (v : Option A) (g : F) (last : Answered A E) (r : Result (Option A) E) → IsBestOf keeps cmp items v → FoldExit (PickCall keeps call) from v g last r → BestExit keeps cmp items last r
+    best_exit from same items v g (Ok None) r b exit = (v, exit, b)
+    best_exit from same items v g (Err e) r b exit = exit.2 ∙ ap (λ d. Err d) (same e exit.0 exit.1)
+    best_exit from same items None g (Ok (Some x)) r b exit = absurd (let e = exit.2.0 in cc)
+    best_exit from same items (Some y) g (Ok (Some x)) r b exit = absurd (let e = acts g y x (Err exit.1) exit.0 exit.2 in cc)
+
+    -- a fold that keeps the better of two by the order finds the best
+    pub best_of : {S : Type 0} {steps : S → Answered A E → S → Type 0} {from : E → E → Type 0} {s t : S} {f : F} {r : Result (Option A) E} → ((e d : E) → from e d → d ≡ e) → Folded steps (PickCall keeps call) from s None f r t → Best keeps cmp steps s r
+    best_of {from = from} {t = t} {f = f} {r = r} same h = record { items = h.items; last = h.last; left = t; ran = h.ran; exit = best_exit from same h.items h.value h.closure h.last r (best_items h.items h.value f h.closure h.went) h.exit }
+
+-- ---- by a key
+
+module _ {A E F K : Type 0} {cmp : K → K → Ordering} (o : IsTotalOrder cmp) (keeps : Ordering) (k : Keeps keeps) (call : F → A → Result K E → F → Type 0) where
+  abbrev by_key : K × A → K × A → Ordering
+  by_key p q = cmp p.0 q.0
+
+  total_by_key : IsTotalOrder by_key
+  total_by_key = record { antisymm = λ p q. o.antisymm p.0 q.0; trans = λ p q r. o.trans p.0 q.0 r.0; congr = λ p q r. o.congr p.0 q.0 r.0 }
+
+  -- the keys that were made of the items, and the best of them
+  record Keyed (done : List (K × A)) (items : List A) (f : F) (v : Option (K × A)) (g : F) : Type 0 where
+    keyed : List (K × A)
+    are : map (λ p. p.1) keyed ≡ items
+    called : FoldsTo {P = F} (λ h p j. call h p.1 (Ok p.0) j) f keyed g
+    best : IsBestOf keeps by_key (done ++ keyed) v
+
+  key_front : (items : List A) (done : List (K × A)) (b : K × A) (p : Option (K × A) × F) (v : Option (K × A)) (g : F) → p.0 ≡ Some b → IsLastBest keeps by_key done b → FoldsTo {P = Option (K × A) × F} (fold_turn (KeyCall keeps cmp call)) p items (v, g) → Keyed done items p.1 v g
+  key_front [] done b p v g at h w = record { keyed = []; are = refl; called = ap (λ q. q.1) w; best = subst (IsBestOf keeps by_key (done ++ [])) (sym at ∙ ap (λ q. q.0) w) (subst (λ (l : List (K × A)). IsLastBest keeps by_key l b) (sym (append_none done)) h) }
+  key_front (x ∷ items) done b p v g at h w =
+      let turn : KeyCall keeps cmp call p.1 (Some b) x (Ok w.0.0) w.0.1 = subst (λ (u : Option (K × A)). KeyCall keeps cmp call p.1 u x (Ok w.0.0) w.0.1) at w.1 in
+      let rest = key_front items (done ++ (turn.0, x) ∷ []) (better keeps (cmp b.0 turn.0) b (turn.0, x)) w.0 v g turn.2 (best_next total_by_key keeps k done b (turn.0, x) h) w.2 in
+      record { keyed = (turn.0, x) ∷ rest.keyed; are = ap {B = List A} (λ l. x ∷ l) rest.are; called = (w.0.1, turn.1, rest.called); best = subst (λ (l : List (K × A)). IsBestOf keeps by_key l v) (append_one done rest.keyed (turn.0, x)) rest.best }
+
+  key_items : (items : List A) (f : F) (v : Option (K × A)) (g : F) → FoldsTo {P = Option (K × A) × F} (fold_turn (KeyCall keeps cmp call)) (None, f) items (v, g) → Keyed [] items f v g
+  key_items [] f v g w = record { keyed = []; are = refl; called = ap (λ q. q.1) w; best = subst (IsBestOf keeps by_key []) (ap (λ q. q.0) w) refl }
+  key_items (x ∷ items) f v g w =
+      let rest = key_front items (((w.1).0, x) ∷ []) ((w.1).0, x) w.0 v g (w.1).2 (best_one total_by_key keeps k ((w.1).0, x)) w.2 in
+      record { keyed = ((w.1).0, x) ∷ rest.keyed; are = ap {B = List A} (λ l. x ∷ l) rest.are; called = (w.0.1, (w.1).1, rest.called); best = rest.best }
+
+  key_exit : (from : E → E → Type 0) → ((e d : E) → from e d → d ≡ e) → (keyed : List (K × A)) (v : Option (K × A)) (g : F) (last : Answered A E) (kept : Result (Option (K × A)) E) (r : Result (Option A) E) → IsBestOf keeps by_key keyed v → FoldExit (KeyCall keeps cmp call) from v g last kept → r ≡ item_of kept → KeyExit keeps cmp call keyed g last r
+  key_exit from same keyed v g (Ok None) kept r b exit is = (v, is ∙ ap item_of exit, b)
+  key_exit from same keyed v g (Err e) kept r b exit is = is ∙ ap item_of (exit.2 ∙ ap (λ d. Err d) (same e exit.0 exit.1))
+  key_exit from same keyed v g (Ok (Some x)) kept r b exit is = (exit.1, exit.0, exit.2, is ∙ ap item_of exit.3)
+
+  -- a fold that keeps the better of two by their keys finds the item of the best key
+  pub best_of_keys : {S : Type 0} {steps : S → Answered A E → S → Type 0} {from : E → E → Type 0} {s t : S} {f : F} {kept : Result (Option (K × A)) E} (r : Result (Option A) E) → ((e d : E) → from e d → d ≡ e) → Folded steps (KeyCall keeps cmp call) from s None f kept t → r ≡ item_of kept → BestByKey keeps cmp call steps s f r
+  best_of_keys {steps = steps} {from = from} {s = s} {t = t} {f = f} {kept = kept} r same h is =
+      let a = key_items h.items f h.value h.closure h.went in
+      record { keyed = a.keyed; last = h.last; closure = h.closure; left = t; ran = subst (λ (xs : List A). Run steps s (map item xs ++ h.last ∷ []) t) (sym a.are) h.ran; called = a.called; exit = key_exit from same a.keyed h.value h.closure h.last kept r a.best h.exit is }
+
+-- ---- over a list
+
+module _ {A E F : Type 0} (keeps : Ordering) (call : F → A → A → Result Ordering E → F → Type 0) {f : F} (h : A → A → Result Ordering E) (acts : ActsWith call f h) where
+  pick_acts : ActsWith (PickCall keeps call) f (pick_of keeps h)
+  pick_acts None x r g c = (c.1, c.0)
+  pick_acts (Some best) x (Ok b) g c = let a = acts best x (Ok c.0) g c.1 in (a.0, ap (λ z. Ok z) c.2 ∙ ap (λ (w : Result Ordering E). on_value w (λ o. Ok (Some (better keeps o best x)))) a.1)
+  pick_acts (Some best) x (Err e) g c = let a = acts best x (Err e) g c in (a.0, ap (λ (w : Result Ordering E). on_value w (λ o. Ok (Some (better keeps o best x)))) a.1)
+
+  pub best_by_is : {S : Type 0} {steps : S → Answered A E → S → Type 0} {from : E → E → Type 0} {s t : S} {r : Result (Option A) E} → ((e d : E) → from e d → d ≡ e) → (l : List (Result A E)) → Folded steps (PickCall keeps call) from s None f r t → Lists steps s l → r ≡ best_by keeps h l
+  unfolding best_by
+  best_by_is {from = from} same l c i = folded_is (PickCall keeps call) from (λ e. e) (pick_of keeps h) f pick_acts same l c i
+
+module _ {A E F K : Type 0} (keeps : Ordering) (cmp : K → K → Ordering) (call : F → A → Result K E → F → Type 0) {f : F} (h : A → Result K E) (acts : Acts call f h) where
+  key_acts : ActsWith (KeyCall keeps cmp call) f (key_of keeps cmp h)
+  key_acts best x (Ok b) g c = let a = acts x (Ok c.0) g c.1 in (a.0, ap (λ z. Ok z) c.2 ∙ ap (λ (w : Result K E). on_value w (λ k. Ok (Some (better_key keeps cmp best (k, x))))) a.1)
+  key_acts best x (Err e) g c = let a = acts x (Err e) g c in (a.0, ap (λ (w : Result K E). on_value w (λ k. Ok (Some (better_key keeps cmp best (k, x))))) a.1)
+
+  pub best_by_key_is : {S : Type 0} {steps : S → Answered A E → S → Type 0} {from : E → E → Type 0} {s t : S} {kept : Result (Option (K × A)) E} {r : Result (Option A) E} → ((e d : E) → from e d → d ≡ e) → (l : List (Result A E)) → Folded steps (KeyCall keeps cmp call) from s None f kept t → r ≡ item_of kept → Lists steps s l → r ≡ best_by_key keeps cmp h l
+  unfolding best_by_key
+  best_by_key_is {from = from} same l c is i = is ∙ ap item_of (folded_is (KeyCall keeps cmp call) from (λ e. e) (key_of keeps cmp h) f key_acts same l c i)
+
+-- ---- by the order of the items
+
+module _ {S A E F : Type 0} {steps : S → Answered A E → S → Type 0} {call : F → A → A → Result Ordering E → F → Type 0} {s : S} {f : F} {keeps : Ordering} {r : Result (Option A) E} (cmp : A → A → Ordering) (h : Picked keeps call steps s f r) where
+  pub best_by_order : IsTotalOrder cmp → Keeps keeps → ((g : F) (x y : A) (q : Result Ordering E) (j : F) → call g x y q j → q ≡ Ok (cmp x y)) → Best keeps cmp steps s r
+  best_by_order o k acts = best_of o keeps k acts (λ e d j. j) h.folded
+
+  pub best_by_order_is : (l : List (Result A E)) → ActsWith call f (λ x y. Ok (cmp x y)) → Lists steps s l → r ≡ best_by keeps (λ x y. Ok (cmp x y)) l
+  best_by_order_is l acts i = best_by_is keeps call (λ x y. Ok (cmp x y)) acts (λ e d j. j) l h.folded i

@@ -1,0 +1,79 @@
+-- Searches: a closure is called on the items in order, until it decides.
+use Rattle.std.specs.Prelude.{◌≡◌, ℕ, ◌+◌, length, List, [], ◌∷◌, ◌++◌, map, Bool, true, false, Option, Some, None, Result, Ok, Err}
+use Rattle.std.specs.List.{FoldsTo}
+use Rattle.fallible_contract.specs.Traces.{Answered, Run, item}
+use Rattle.fallible_contract.specs.Folds.{HoldsAtEachTurn}
+use Rattle.fallible_contract.specs.declared.folds.Exit.{Exit}
+use Rattle.fallible_contract.specs.declared.folds.Exit.TheVariants.{Ended, Failed, Stopped}
+
+-- ---- what each search picks: `pick n x v` is its answer where the closure answers v on x, the item with n items before it, and none where it goes on
+
+-- `all` goes on where the predicate is true, and answers false where it isn't
+abbrev pub all_pick : {A : Type 0} → ℕ → A → Bool → Option Bool
+all_pick n x true = None
+all_pick n x false = Some false
+
+-- `any` goes on where the predicate is false, and answers true where it isn't
+abbrev pub any_pick : {A : Type 0} → ℕ → A → Bool → Option Bool
+any_pick n x true = Some true
+any_pick n x false = None
+
+-- `find_map` answers the first value that the closure answers
+abbrev pub find_map_pick : {A B : Type 0} → ℕ → A → Option B → Option (Option B)
+find_map_pick n x (Some y) = Some (Some y)
+find_map_pick n x None = None
+
+-- `position` answers how many items stand before the first for which the predicate is true
+abbrev pub position_pick : {A : Type 0} → ℕ → A → Bool → Option (Option ℕ)
+position_pick n x true = Some (Some n)
+position_pick n x false = None
+
+-- `for_each` goes on at each item
+abbrev pub each_pick : {A : Type 0} → ℕ → A → Unit {0} → Option (Unit {0})
+each_pick n x u = None
+
+module _ {A E F V R : Type 0} (call : F → A → Result V E → F → Type 0) (pick : ℕ → A → V → Option R) where
+  -- One call of the closure, after which the search goes on, whatever number of items came before.
+  abbrev pub Passed : F → A → F → Type 0
+  Passed f x g = (v : V) × call f x (Ok v) g × ((n : ℕ) → pick n x v ≡ None)
+
+  -- One call of the closure, which decides with n items before: the answer is what is picked, or the closure's failure.
+  abbrev pub Decided : ℕ → F → A → Result R E → F → Type 0
+  Decided n f x (Ok z) g = (v : V) × call f x (Ok v) g × (pick n x v ≡ Some z)
+  Decided n f x (Err e) g = call f x (Err e) g
+
+  -- one call, seen by the fold that carries the closure
+  abbrev pub SearchTurn : F → A → Result F (Result R E) → Type 0
+  SearchTurn f x (Ok g) = Passed f x g
+  SearchTurn f x (Err r) = (g : F) × ((n : ℕ) → Decided n f x r g)
+
+  -- one call, seen by the fold that carries the number of items before, and the closure
+  abbrev pub PlacedTurn : ℕ × F → A → Result (ℕ × F) (Result R E) → Type 0
+  PlacedTurn p x (Ok q) = (q.0 ≡ p.0 + 1) × Passed p.1 x q.1
+  PlacedTurn p x (Err r) = (g : F) × Decided p.0 p.1 x r g
+
+  -- The answer r by the last draw, with n items before it: `none` at an end; the failure; what the closure decided on the item. It leaves the closure as g.
+  abbrev pub SearchExit : R → ℕ → F → Answered A E → Result R E → F → Type 0
+  SearchExit none n f (Ok None) r g = (r ≡ Ok none) × (g ≡ f)
+  SearchExit none n f (Err e) r g = (r ≡ Err e) × (g ≡ f)
+  SearchExit none n f (Ok (Some x)) r g = Decided n f x r g
+
+  module _ {S : Type 0} (steps : S → Answered A E → S → Type 0) where
+    -- the closure may be called on each item that may come after items on which the search goes on
+    abbrev pub CallableInSearch : (F → A → Type 0) → S → F → Type 0
+    CallableInSearch takes s f = HoldsAtEachTurn steps Passed takes s f
+
+    -- The closure was called on the items in order, and the search went on. Then came the last answer: an end, a failure, or an item on which the closure decided or failed. The draws left t, and the calls g.
+    pub record Searched (none : R) (s : S) (f : F) (r : Result R E) (t : S) (g : F) : Type 0 where
+      pub items : List A
+      pub last : Answered A E
+      pub closure : F
+      pub ran : Run steps s (map item items ++ last ∷ []) t
+      pub went : FoldsTo Passed f items closure
+      pub exit : SearchExit none (length items) closure last r g
+
+-- what a search answers, by how its fold ended
+abbrev pub answer_by : {C E R : Type 0} → R → Exit C E (Result R E) → Result R E
+answer_by none (Ended c) = Ok none
+answer_by none (Failed c e) = Err e
+answer_by none (Stopped r) = r

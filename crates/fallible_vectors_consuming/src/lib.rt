@@ -1,0 +1,5 @@
+//! Vectors: the consumers on small inputs, with answers that come from outside.
+#![tactic(auto)]
+
+#[cfg(test)]
+mod searching;
