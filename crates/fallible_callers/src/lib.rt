@@ -2,6 +2,7 @@
 #![tactic(auto)]
 
 pub mod computing;
+pub mod consuming;
 pub mod drawing;
 pub mod generic;
 pub mod ranges;

@@ -2,4 +2,6 @@
 #![tactic(auto)]
 
 #[cfg(test)]
+mod picking;
+#[cfg(test)]
 mod searching;
