@@ -3,6 +3,7 @@ use crate::computing::{
     above_100, above_100_of_ten, all_up_to_100, both_columns, collected_above_100,
     doubled_above_1000, fold_of_one, fourth_above_100, places, products, running_sums, sum,
 };
+use crate::consuming::{all_above_100, any_above_100, greatest_above_100, place_above_100};
 use crate::drawing::{draw_all, second_if_above, third_draw, third_of};
 use crate::generic::{mean, mean_of_nest, sum_of_nest};
 use crate::ranges::{runs, sum_below};
@@ -144,6 +145,20 @@ fn readers(rt: HostRuntime) -> Result<(), Fail> {
         &rt,
         bytes(b"abcd".as_slice()).take(3).collect(rt.alloc()),
         b"abc".as_slice(),
+    );
+    Ok(())
+}
+
+#[test]
+fn searches_and_the_greatest(rt: HostRuntime) -> Result<(), Fail> {
+    assert_eq!(rt; all_above_100(readings(rt.alloc())?), Ok(false));
+    assert_eq!(rt; any_above_100(readings(rt.alloc())?), Ok(true));
+    assert_eq!(rt; place_above_100(readings(rt.alloc())?), Ok(Some(0)));
+    assert_eq!(rt; place_above_100(good_readings(rt.alloc())?), Ok(Some(1)));
+    assert_eq!(rt; greatest_above_100(readings(rt.alloc())?), Err(9));
+    assert_eq!(rt;
+        greatest_above_100(good_readings(rt.alloc())?),
+        Ok(Some(600))
     );
     Ok(())
 }
