@@ -2,4 +2,7 @@
 #![tactic(auto)]
 
 #[cfg(test)]
+mod collecting;
+
+#[cfg(test)]
 mod searching;
