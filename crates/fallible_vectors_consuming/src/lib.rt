@@ -3,6 +3,5 @@
 
 #[cfg(test)]
 mod collecting;
-
 #[cfg(test)]
 mod searching;
