@@ -10,6 +10,7 @@ pub mod Held
 pub mod Lists
 pub mod Nth
 pub mod Overriding
+pub mod Parting
 pub mod Passing
 pub mod Picking
 pub mod Searching

@@ -1,5 +1,6 @@
 -- Collections made of items.
-use Rattle.std.specs.Prelude.{List, [], ◌∷◌, ◌++◌, map, Result, Ok, Err, ◌⊎◌}
+use Rattle.std.specs.Prelude.{◌≡◌, Bool, true, false, cond, List, [], ◌∷◌, ◌++◌, map, Result, Ok, Err, ◌⊎◌}
+use Rattle.std.specs.List.{FoldsTo}
 use Rattle.std.specs.declared.alloc.AllocError.{AllocError}
 use Rattle.fallible_contract.specs.declared.collecting.Fault.{Fault}
 use Rattle.fallible_contract.specs.declared.collecting.Fault.TheVariants.{Source, Memory}
@@ -40,3 +41,48 @@ Collects steps made empty_refuses refuses s (Err (Memory a)) = empty_refuses ⊎
 abbrev pub PushTurn : {A C : Type 0} → (List A → C → Type 0) → (C → A → Type 0) → C → A → Result C AllocError → Type 0
 PushTurn {A} made refuses c x (Ok d) = (items : List A) → made items c → made (items ++ x ∷ []) d
 PushTurn made refuses c x (Err a) = refuses c x
+
+-- ---- partition
+
+-- the items beside which the answer is true, in order
+abbrev pub answered_true : {A : Type 0} → List (A × Bool) → List A
+answered_true [] = []
+answered_true (p ∷ ps) = cond p.1 (p.0 ∷ answered_true ps) (answered_true ps)
+
+-- the items beside which the answer is false, in order
+abbrev pub answered_false : {A : Type 0} → List (A × Bool) → List A
+answered_false [] = []
+answered_false (p ∷ ps) = cond p.1 (answered_false ps) (p.0 ∷ answered_false ps)
+
+-- The closure f, called in order on the items, once each, gave the answers beside them, and is what stands beside the collections: the first is made of the items answered true, and the second of those answered false.
+pub record Parts {A E F B : Type 0} (call : F → A → Result Bool E → F → Type 0) (made : List A → B → Type 0) (f : F) (items : List A) (c : F × (B × B)) : Type 0 where
+  pub answered : List (A × Bool)
+  pub beside : map (λ p. p.0) answered ≡ items
+  pub called : FoldsTo {P = F} (λ g p h. call g p.0 (Ok p.1) h) f answered c.0
+  pub first : made (answered_true answered) c.1.0
+  pub second : made (answered_false answered) c.1.1
+
+-- The closure is called on the item, and answers.
+abbrev pub Asks : {A E F : Type 0} → (F → A → Result Bool E → F → Type 0) → F → A → F → Type 0
+Asks call g x h = (v : Bool) × call g x (Ok v) h
+
+module _ {A E F B : Type 0} (call : F → A → Result Bool E → F → Type 0) where
+  -- The closure fails with e on the item.
+  abbrev pub ClosureFails : E → F × (B × B) → A → Type 0
+  ClosureFails e c x = (g : F) × call c.0 x (Err e) g
+
+  -- The collection refuses the item to whose side the closure's answer sends it.
+  abbrev pub SideRefuses : (B → A → Type 0) → F × (B × B) → A → Type 0
+  SideRefuses refuses c x = (v : Bool) × (g : F) × call c.0 x (Ok v) g × refuses (cond v c.1.0 c.1.1) x
+
+  -- One turn: the closure is called on the item, which is pushed to the side of the answer; or the closure fails, or the item is refused.
+  abbrev pub PartTurn : (List A → B → Type 0) → (B → A → Type 0) → F × (B × B) → A → Result (F × (B × B)) (Fault E) → Type 0
+  PartTurn made refuses c x (Ok d) = (v : Bool) × call c.0 x (Ok v) d.0 × ((xs ys : List A) → made xs c.1.0 → made ys c.1.1 → made (cond v (xs ++ x ∷ []) xs) d.1.0 × made (cond v ys (ys ++ x ∷ [])) d.1.1)
+  PartTurn made refuses c x (Err (Source e)) = ClosureFails e c x
+  PartTurn made refuses c x (Err (Memory a)) = SideRefuses refuses c x
+
+-- What `partition` answers: both collections, made of all items up to an end; the first failure of the source or the closure, before which both were made of the items; or want of memory, where an empty collection was refused and nothing was drawn, or an item was refused.
+abbrev pub Partitions : {S A E F B : Type 0} → (S → Answered A E → S → Type 0) → (F → A → Result Bool E → F → Type 0) → (List A → B → Type 0) → Type 0 → (B → A → Type 0) → S → F → Result (B × B) (Fault E) → Type 0
+Partitions {F = F} steps call made empty_refuses refuses s f (Ok p) = (g : F) × CollectsAll steps (Parts call made f) s (g, p)
+Partitions {B = B} steps call made empty_refuses refuses s f (Err (Source e)) = FailsWith steps (Parts call made f) s e ⊎ RefusesItem steps (Parts call made f) (ClosureFails {B = B} call e) s
+Partitions steps call made empty_refuses refuses s f (Err (Memory a)) = empty_refuses ⊎ RefusesItem steps (Parts call made f) (SideRefuses call refuses) s

@@ -1,6 +1,8 @@
 //! Collections that are made of items.
 ghost use Rattle.std.specs.Prelude.{◌≡◌, ℕ, ◌≤◌, List, [], ◌∷◌, ◌++◌, MatchResult, vec_len, vec_capacity};
 
+mod kinds;
+
 use std::alloc::{AllocError, Global};
 
 /// A collection that is made empty and filled item by item.

@@ -24,13 +24,13 @@ ghost use Rattle.fallible_core.specs.Borrowed.{borrowed};
 ghost use Rattle.fallible_core.specs.Peeking.Peekable.{peekable_parts, peekable_contract};
 ghost use Rattle.fallible_core.specs.Joining.Cycle.{cycle_parts};
 ghost use Rattle.fallible_core.specs.declared.joining.chain.StillDrawn.TheVariants.{Both};
-ghost use Rattle.fallible_contract.specs.Collecting.{Collects, PushTurn};
+ghost use Rattle.fallible_contract.specs.Collecting.{Collects, PushTurn, Asks, PartTurn, Partitions};
 ghost use Rattle.fallible_contract.specs.Lists.{items, Lists, Acts, Repeats, repeated, EachLists, flattened, mapped, filtered, taken, counted, filter_mapped, inspected, ActsWithState, scanned, skipped_while, taken_while, numbered, failures_mapped, pointed_to, CollectedAs, chained, skipped, stepped, zipped, NoFailureAtEnd, nth_of, folded, ActsWith, Converts, all_of, any_of, find_mapped, position_in, each_done, best_by, best_by_key};
 ghost use Rattle.std.specs.declared.cmp.Ordering.{Ordering};
 ghost use Rattle.std.specs.declared.cmp.Ordering.TheVariants.{Less, Greater};
 ghost use Rattle.fallible_contract.specs.Picking.{call_at_two, takes_at_two, PickCall, takes_in_pick, Picked, KeyCall, Best, BestByKey};
 ghost use Rattle.fallible_contract.specs.Searching.{CallableInSearch, Searched, SearchTurn, PlacedTurn, all_pick, any_pick, find_map_pick, position_pick, each_pick};
-ghost use Rattle.fallible_contract.specs.Folds.{CallableCarrying, Carried, CallableInFold, call_with, takes_with, FoldTurn, Folded, Counted, Nth};
+ghost use Rattle.fallible_contract.specs.Folds.{HoldsAtEachTurn, CallableCarrying, Carried, CallableInFold, call_with, takes_with, FoldTurn, Folded, Counted, Nth};
 
 mod borrowed;
 mod boxed;
@@ -41,6 +41,7 @@ use crate::filtering::{Filter, FilterMap, SkipWhile};
 use crate::joining::{Chain, Cycle, FlatMap, Flatten, StillDrawn, Zip};
 use crate::number::Number;
 use crate::one_to_one::{Cloned, Enumerate, Inspect, Map, MapErr, Scan};
+use crate::parting::part;
 use crate::peeking::Peekable;
 use crate::picking::{best_by, best_by_key, without_key};
 use crate::traits::conversion::IntoFallibleIterator;
@@ -500,6 +501,43 @@ pub trait FallibleIterator: Drop + Sized {
             Exit::Ended(made) => Ok(made),
             Exit::Failed(_, e) => Err(Fault::Source(e)),
             Exit::Stopped(refused) => Err(Fault::Memory(refused)),
+        }
+    }
+
+    /// Makes two collections of the items up to the end: of those on which the predicate answers true, and of the others. Both collections are made first; then the predicate is called once on each item as it is drawn, and the item is pushed to its side. No room is taken ahead.
+    ///
+    /// `Fault::Source` of the first failure of the source or of the predicate, after which nothing is drawn. `Fault::Memory` where a collection refused: nothing was drawn where one could not be made, and else the item that was refused was the last one drawn. Of a collection that never refuses it is never answered.
+    ///
+    /// It asks a number to come, and that the predicate may be called on each item that may come.
+    final fn partition<B: Collect<Self::Item>, F>(
+        mut self,
+        alloc: Global,
+        f: F,
+    ) -> Result<(B, B), Fault<Self::Error>>
+    where
+        Self::Item: Drop,
+        F: FnMut(&Self::Item) -> Result<bool, Self::Error>,
+        requires can { contract.can self }
+        requires finite { contract.has_end self }
+        requires callable { HoldsAtEachTurn contract.steps (Asks (call_at F.FnMut)) (takes_at F.FnMut) self f }
+        ensures { Partitions contract.steps (call_at F.FnMut) B.made B.empty_refuses B.push_refuses self f result }
+    {
+        let first = match B::empty(alloc) {
+            Ok(made) => made,
+            Err(refused) => return Err(Fault::Memory(refused)),
+        };
+        let second = match B::empty(alloc) {
+            Ok(made) => made,
+            Err(refused) => return Err(Fault::Memory(refused)),
+        };
+        let turn = |carried: (F, (B, B)), x: Self::Item| -> Result<(F, (B, B)), Fault<Self::Error>>
+            requires { takes_at F.FnMut carried.0 x }
+            ensures { PartTurn (call_at F.FnMut) B.made B.push_refuses carried x result }
+        { part(carried, x) };
+        match self.try_fold_carrying((f, (first, second)), &turn) {
+            Exit::Ended((_, sides)) => Ok(sides),
+            Exit::Failed(_, e) => Err(Fault::Source(e)),
+            Exit::Stopped(fault) => Err(fault),
         }
     }
 

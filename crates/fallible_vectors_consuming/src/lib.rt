@@ -2,6 +2,10 @@
 #![tactic(auto)]
 
 #[cfg(test)]
+mod collecting;
+#[cfg(test)]
+mod comparing;
+#[cfg(test)]
 mod picking;
 #[cfg(test)]
 mod searching;

@@ -1,0 +1,114 @@
+//! The collections of std, beside `Vec`, as collections that are made of items.
+ghost use Rattle.std.specs.Prelude.{◌≡◌, false, None, List, ◌≤◌};
+ghost use Rattle.std.specs.VecDeque.{deque_len, deque_capacity};
+ghost use Rattle.std.specs.BTreeSet as sorted;
+ghost use Rattle.std.specs.BTreeMap as tree;
+ghost use Rattle.std.specs.HashSet as bag;
+ghost use Rattle.std.specs.HashMap as hash;
+
+use crate::collecting::Collect;
+use std::alloc::{AllocError, Global};
+use std::collections::{BTreeMap, BTreeSet, HashMap, HashSet, VecDeque};
+use std::hash::Hash;
+
+// The items in order.
+impl<T: Drop> Collect<T> for VecDeque<T> {
+    ghost made = { λ items v. v.items ≡ items };
+
+    ghost empty_refuses = { ⊥ };
+
+    ghost push_refuses = { λ v _. deque_capacity v ≤ deque_len v };
+
+    fn empty(alloc: Global) -> Result<VecDeque<T>, AllocError> {
+        Ok(VecDeque::new(alloc))
+    }
+
+    fn push_one(&mut self, item: T) -> Result<(), AllocError> {
+        match self.push_back(item) {
+            Ok(()) => Ok(()),
+            Err(refused) => Err(AllocError::from(refused)),
+        }
+    }
+}
+
+// The items, in order; `insert` chooses which of equal ones stays. Only a new one may be refused.
+impl<K: Ord + Drop> Collect<K> for BTreeSet<K> {
+    ghost made = { λ items s. sorted.IsFromIterResult K.cmp items s };
+
+    ghost empty_refuses = { ⊥ };
+
+    ghost push_refuses = { λ s x. sorted.contains K.cmp s x ≡ false };
+
+    fn empty(alloc: Global) -> Result<BTreeSet<K>, AllocError> {
+        Ok(BTreeSet::new(alloc))
+    }
+
+    fn push_one(&mut self, item: K) -> Result<(), AllocError> {
+        match self.insert(item) {
+            Ok(_) => Ok(()),
+            Err(refused) => Err(AllocError::from(refused)),
+        }
+    }
+}
+
+// The items; `insert` chooses which of equal ones stays. Only a new one may be refused, where no room is spare.
+impl<K: Eq + Hash + Drop> Collect<K> for HashSet<K> {
+    ghost made = { λ items s. bag.IsFromIterResult K.eq items s };
+
+    ghost empty_refuses = { ⊥ };
+
+    ghost push_refuses = { λ s x. (bag.contains K.eq s x ≡ false) × (bag.spare s ≡ 0) };
+
+    fn empty(alloc: Global) -> Result<HashSet<K>, AllocError> {
+        Ok(HashSet::new(alloc))
+    }
+
+    fn push_one(&mut self, item: K) -> Result<(), AllocError> {
+        match self.insert(item) {
+            Ok(_) => Ok(()),
+            Err(refused) => Err(AllocError::from(refused)),
+        }
+    }
+}
+
+// Each key with its last value, in the order of the keys. Only a new key may be refused.
+impl<K: Ord + Drop, V: Drop> Collect<(K, V)> for BTreeMap<K, V> {
+    ghost made = { λ items m. tree.IsFromIterResult K.cmp items m };
+
+    ghost empty_refuses = { ⊥ };
+
+    ghost push_refuses = { λ m x. tree.get K.cmp m x.0 ≡ None };
+
+    fn empty(alloc: Global) -> Result<BTreeMap<K, V>, AllocError> {
+        Ok(BTreeMap::new(alloc))
+    }
+
+    fn push_one(&mut self, item: (K, V)) -> Result<(), AllocError> {
+        let (key, value) = item;
+        match self.insert(key, value) {
+            Ok(_) => Ok(()),
+            Err(refused) => Err(AllocError::from(refused)),
+        }
+    }
+}
+
+// Each key with its last value. Only a new key may be refused, where no room is spare.
+impl<K: Eq + Hash + Drop, V: Drop> Collect<(K, V)> for HashMap<K, V> {
+    ghost made = { λ items m. hash.IsFromIterResult K.eq items m };
+
+    ghost empty_refuses = { ⊥ };
+
+    ghost push_refuses = { λ m x. (hash.get K.eq m x.0 ≡ None) × (hash.spare m ≡ 0) };
+
+    fn empty(alloc: Global) -> Result<HashMap<K, V>, AllocError> {
+        Ok(HashMap::new(alloc))
+    }
+
+    fn push_one(&mut self, item: (K, V)) -> Result<(), AllocError> {
+        let (key, value) = item;
+        match self.insert(key, value) {
+            Ok(_) => Ok(()),
+            Err(refused) => Err(AllocError::from(refused)),
+        }
+    }
+}
