@@ -1,9 +1,10 @@
 -- Comparisons, one round at a time.
-use Rattle.std.specs.Prelude.{◌≡◌, List, [], ◌∷◌, Option, Some, None, Result, Ok, Err}
+use Rattle.std.specs.Prelude.{◌≡◌, ℕ, ◌+◌, ◌≤◌, ◌<◌, ◌⊎◌, List, [], ◌∷◌, Option, Some, None, Result, Ok, Err}
 use Rattle.std.specs.declared.cmp.Ordering.{Ordering}
 use Rattle.std.specs.declared.cmp.Ordering.TheVariants.{Less, Equal, Greater}
-use Rattle.std.proofs.Common.{refl}
+use Rattle.std.proofs.Common.{refl, sym, ap, ◌∙◌, arith, inl, inr}
 use Rattle.fallible_contract.specs.Traces.{Answered, item}
+use Rattle.fallible_contract.specs.Contract.{Contract, Fewer}
 use Rattle.fallible_contract.specs.Comparing.{LastRound, Compared, by_cmp}
 
 module _ {S T A E : Type 0} {rule : A → A → Option Ordering} {left-steps : S → Answered A E → S → Type 0} {right-steps : T → Answered A E → T → Type 0} {s : S} {t : T} where
@@ -25,6 +26,10 @@ module _ {A E : Type 0} (rule : A → A → Option Ordering) where
   right_failure None e = refl
   right_failure (Some x) e = refl
 
+  -- two items that aren't equal decide
+  pub items_decide : (x y : A) (o : Option Ordering) → rule x y ≡ o → ¬ (o ≡ Some Equal) → LastRound {E = E} rule (Ok (Some x)) (Some (Ok (Some y))) (Ok o)
+  items_decide x y o same unequal = (ap (λ z. Ok z) (sym same), λ e. unequal (sym same ∙ e))
+
   -- where each two items have an order, so have the two sides
   pub has_order : ((x y : A) → ¬ (rule x y ≡ None)) → (x : Answered A E) (y : Option (Answered A E)) → LastRound rule x y (Ok None) → ⊥
   has_order some (Err e) None h = absurd cc
@@ -39,3 +44,21 @@ module _ {A E : Type 0} (rule : A → A → Option Ordering) where
 
 pub always_ordered : {S T A E : Type 0} {cmp : A → A → Ordering} {left-steps : S → Answered A E → S → Type 0} {right-steps : T → Answered A E → T → Type 0} {s : S} {t : T} → Compared {E = E} (by_cmp cmp) left-steps right-steps s t (Ok None) → ⊥
 always_ordered c = has_order _ (λ x y e. absurd cc) c.last_left c.last_right c.exit
+
+module _ {S T A B E D : Type 0} (m : Contract S A E) (o : Contract T B D) where
+  -- at most k items are to come of one of the two sides
+  abbrev pub EitherAtMost : S → T → ℕ → Type 0
+  EitherAtMost s t k = ((n : ℕ) × m.to_come s n × (n ≤ k)) ⊎ ((n : ℕ) × o.to_come t n × (n ≤ k))
+
+  -- a round of two items is one of those, and there is one less after it
+  pub either_positive : (s u : S) (t v : T) (k : ℕ) → Fewer m s u → Fewer o t v → EitherAtMost s t k → 0 < k
+  either_positive s u t v k p q (inl b) = let f = p b.0 b.1 in omega (arith, f.2, b.2)
+  either_positive s u t v k p q (inr b) = let f = q b.0 b.1 in omega (arith, f.2, b.2)
+
+  pub either_fewer : (s u : S) (t v : T) (k j : ℕ) → Fewer m s u → Fewer o t v → j + 1 ≡ k → EitherAtMost s t k → EitherAtMost u v j
+  either_fewer s u t v k j p q e (inl b) = let f = p b.0 b.1 in inl (f.0, f.1, omega (arith, f.2, b.2, e))
+  either_fewer s u t v k j p q e (inr b) = let f = q b.0 b.1 in inr (f.0, f.1, omega (arith, f.2, b.2, e))
+
+  pub either_begins : (s : S) (t : T) (k : ℕ) → m.to_come s k ⊎ o.to_come t k → EitherAtMost s t k
+  either_begins s t k (inl b) = inl (k, b, omega arith)
+  either_begins s t k (inr b) = inr (k, b, omega arith)

@@ -1,0 +1,93 @@
+//! Comparisons: one loop of rounds over a rule of two items.
+ghost use Rattle.std.specs.Prelude.{◌≡◌, Bool, Option, Result, Some, ◌⊎◌};
+ghost use Rattle.std.specs.declared.cmp.Ordering.{Ordering};
+ghost use Rattle.fallible_contract.specs.Comparing.{by_cmp, by_eq, equal_where, Compared};
+
+use crate::joining::Zip;
+use crate::traits::FallibleIterator;
+use std::cmp::Ordering;
+
+/// How two items compare; none where they have no order.
+pub trait Rule<A> {
+    // What the rule says of two items.
+    ghost rule: { A → A → Option Ordering };
+
+    /// Compares the items.
+    fn compare(left: &A, right: &A) -> Option<Ordering>
+        ensures { result ≡ rule left.now right.now };
+}
+
+/// By the order of the items.
+pub struct ByCmp;
+
+impl<A: Ord> Rule<A> for ByCmp {
+    ghost rule = { by_cmp A.cmp };
+
+    fn compare(left: &A, right: &A) -> Option<Ordering> {
+        Some(left.cmp(right))
+    }
+}
+
+/// By an order of the items in which two may have none.
+pub struct ByPartialCmp;
+
+impl<A: PartialOrd> Rule<A> for ByPartialCmp {
+    ghost rule = { A.partial_cmp };
+
+    fn compare(left: &A, right: &A) -> Option<Ordering> {
+        left.partial_cmp(right)
+    }
+}
+
+/// By the equality of the items: unlike ones have no order.
+pub struct ByEq;
+
+impl<A: PartialEq> Rule<A> for ByEq {
+    ghost rule = { by_eq A.eq };
+
+    fn compare(left: &A, right: &A) -> Option<Ordering> {
+        if left.eq(right) {
+            Some(Ordering::Equal)
+        } else {
+            None
+        }
+    }
+}
+
+/// Draws the left and then the right in each round, until a failure, an end, or two items that aren't equal by the rule.
+pub fn compare<L, R, K>(left: L, right: R) -> Result<Option<Ordering>, L::Error>
+where
+    L: FallibleIterator,
+    L::Item: Drop,
+    R: FallibleIterator<Item = L::Item, Error = L::Error>,
+    K: Rule<L::Item>,
+    requires left { L.contract.can left }
+    requires right { R.contract.can right }
+    requires finite { L.contract.has_end left ⊎ R.contract.has_end right }
+    ensures { Compared K.rule L.contract.steps R.contract.steps left right result }
+{
+    let mut both = Zip { left, right };
+    let mut count = both.number();
+    loop {
+        let x = match both.left.next() {
+            Ok(x) => x,
+            Err(e) => return Err(e),
+        };
+        let y = match both.right.next() {
+            Ok(y) => y,
+            Err(e) => return Err(e),
+        };
+        match (x, y) {
+            (None, None) => return Ok(Some(Ordering::Equal)),
+            (None, Some(_)) => return Ok(Some(Ordering::Less)),
+            (Some(_), None) => return Ok(Some(Ordering::Greater)),
+            (Some(x), Some(y)) => match K::compare(&x, &y) {
+                Some(Ordering::Equal) => {}
+                Some(Ordering::Less) => return Ok(Some(Ordering::Less)),
+                Some(Ordering::Greater) => return Ok(Some(Ordering::Greater)),
+                None => return Ok(None),
+            },
+        }
+        count = count.one_less();
+    }
+}
