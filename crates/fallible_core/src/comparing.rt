@@ -1,7 +1,7 @@
 //! Comparisons: one loop of rounds over a rule of two items.
 ghost use Rattle.std.specs.Prelude.{◌≡◌, Bool, Option, Result, Some, ◌⊎◌};
 ghost use Rattle.std.specs.declared.cmp.Ordering.{Ordering};
-ghost use Rattle.fallible_contract.specs.Comparing.{by_cmp, by_eq, equal_where, Compared};
+ghost use Rattle.fallible_contract.specs.Comparing.{by_cmp, by_eq, equal_where, Compared, read_as, reads_eq, reads_ne, reads_lt, reads_le, reads_gt, reads_ge};
 
 use crate::joining::Zip;
 use crate::traits::FallibleIterator;
@@ -89,5 +89,83 @@ where
             },
         }
         count = count.one_less();
+    }
+}
+
+/// Reads `eq` off a comparison's answer.
+pub fn read_eq<E>(answer: Result<Option<Ordering>, E>) -> Result<bool, E>
+    ensures { result ≡ read_as reads_eq answer }
+{
+    match answer {
+        Ok(Some(Ordering::Less)) => Ok(false),
+        Ok(Some(Ordering::Equal)) => Ok(true),
+        Ok(Some(Ordering::Greater)) => Ok(false),
+        Ok(None) => Ok(false),
+        Err(e) => Err(e),
+    }
+}
+
+/// Reads `ne` off a comparison's answer.
+pub fn read_ne<E>(answer: Result<Option<Ordering>, E>) -> Result<bool, E>
+    ensures { result ≡ read_as reads_ne answer }
+{
+    match answer {
+        Ok(Some(Ordering::Less)) => Ok(true),
+        Ok(Some(Ordering::Equal)) => Ok(false),
+        Ok(Some(Ordering::Greater)) => Ok(true),
+        Ok(None) => Ok(true),
+        Err(e) => Err(e),
+    }
+}
+
+/// Reads `lt` off a comparison's answer.
+pub fn read_lt<E>(answer: Result<Option<Ordering>, E>) -> Result<bool, E>
+    ensures { result ≡ read_as reads_lt answer }
+{
+    match answer {
+        Ok(Some(Ordering::Less)) => Ok(true),
+        Ok(Some(Ordering::Equal)) => Ok(false),
+        Ok(Some(Ordering::Greater)) => Ok(false),
+        Ok(None) => Ok(false),
+        Err(e) => Err(e),
+    }
+}
+
+/// Reads `le` off a comparison's answer.
+pub fn read_le<E>(answer: Result<Option<Ordering>, E>) -> Result<bool, E>
+    ensures { result ≡ read_as reads_le answer }
+{
+    match answer {
+        Ok(Some(Ordering::Less)) => Ok(true),
+        Ok(Some(Ordering::Equal)) => Ok(true),
+        Ok(Some(Ordering::Greater)) => Ok(false),
+        Ok(None) => Ok(false),
+        Err(e) => Err(e),
+    }
+}
+
+/// Reads `gt` off a comparison's answer.
+pub fn read_gt<E>(answer: Result<Option<Ordering>, E>) -> Result<bool, E>
+    ensures { result ≡ read_as reads_gt answer }
+{
+    match answer {
+        Ok(Some(Ordering::Less)) => Ok(false),
+        Ok(Some(Ordering::Equal)) => Ok(false),
+        Ok(Some(Ordering::Greater)) => Ok(true),
+        Ok(None) => Ok(false),
+        Err(e) => Err(e),
+    }
+}
+
+/// Reads `ge` off a comparison's answer.
+pub fn read_ge<E>(answer: Result<Option<Ordering>, E>) -> Result<bool, E>
+    ensures { result ≡ read_as reads_ge answer }
+{
+    match answer {
+        Ok(Some(Ordering::Less)) => Ok(false),
+        Ok(Some(Ordering::Equal)) => Ok(true),
+        Ok(Some(Ordering::Greater)) => Ok(true),
+        Ok(None) => Ok(false),
+        Err(e) => Err(e),
     }
 }

@@ -62,3 +62,8 @@ module _ {S T A B E D : Type 0} (m : Contract S A E) (o : Contract T B D) where
   pub either_begins : (s : S) (t : T) (k : ℕ) → m.to_come s k ⊎ o.to_come t k → EitherAtMost s t k
   either_begins s t k (inl b) = inl (k, b, omega arith)
   either_begins s t k (inr b) = inr (k, b, omega arith)
+
+-- where the left has an end, or each right that is allowed has one, one of the two has
+pub end_of_either : {P T : Type 0} (allowed : T → Type 0) (ends : T → Type 0) (t : T) → allowed t → P ⊎ ((u : T) → allowed u → ends u) → P ⊎ ends t
+end_of_either allowed ends t h (inl e) = inl e
+end_of_either allowed ends t h (inr e) = inr (e t h)
