@@ -1,5 +1,5 @@
 //! Comparisons: one loop of rounds over a rule of two items.
-ghost use Rattle.std.specs.Prelude.{◌≡◌, Bool, Option, Result, Some, ◌⊎◌};
+ghost use Rattle.std.specs.Prelude.{◌≡◌, Bool, Option, Result, Some, None, Ok, ◌⊎◌};
 ghost use Rattle.std.specs.declared.cmp.Ordering.{Ordering};
 ghost use Rattle.fallible_contract.specs.Comparing.{by_cmp, by_eq, equal_where, Compared, read_as, reads_eq, reads_ne, reads_lt, reads_le, reads_gt, reads_ge};
 
@@ -166,6 +166,18 @@ pub fn read_ge<E>(answer: Result<Option<Ordering>, E>) -> Result<bool, E>
         Ok(Some(Ordering::Equal)) => Ok(true),
         Ok(Some(Ordering::Greater)) => Ok(true),
         Ok(None) => Ok(false),
+        Err(e) => Err(e),
+    }
+}
+
+/// The order, where a comparison found one.
+pub fn ordered<E>(answer: Result<Option<Ordering>, E>) -> Result<Ordering, E>
+    requires { ¬ (answer ≡ Ok None) }
+    ensures { read_as (λ o. Some o) result ≡ answer }
+{
+    match answer {
+        Ok(Some(order)) => Ok(order),
+        Ok(None) => Ok(Ordering::Equal),
         Err(e) => Err(e),
     }
 }

@@ -37,7 +37,7 @@ mod borrowed;
 mod boxed;
 pub mod conversion;
 
-use crate::comparing::{ByCmp, ByEq, ByPartialCmp, compare, read_eq, read_ge, read_gt, read_le, read_lt, read_ne};
+use crate::comparing::{ByCmp, ByEq, ByPartialCmp, compare, ordered, read_eq, read_ge, read_gt, read_le, read_lt, read_ne};
 use crate::cutting::{Fuse, Skip, StepBy, Take, TakeWhile};
 use crate::filtering::{Filter, FilterMap, SkipWhile};
 use crate::joining::{Chain, Cycle, FlatMap, Flatten, StillDrawn, Zip};
@@ -740,6 +740,23 @@ pub trait FallibleIterator: Drop + Sized {
         ensures is { (h : Self.Item → Self.Item → Result Ordering Self.Error) (l : List (Result Self.Item Self.Error)) → ActsWith (call_at_two F.FnMut) f h → Lists contract.steps self l → result ≡ best_by Less h l }
     {
         best_by(self, Ordering::Less, f)
+    }
+
+    /// How the two compare by the order of their items: as the first two items that aren't equal, and where there are none, the side that ends alone is less. It draws in rounds, this iterator and then the other, until a failure, an end or two items that decide, and nothing after that; where this one ended, the other is still drawn. The failure that comes first is the answer: in each round one of this iterator before one of the other, which is not drawn then.
+    ///
+    /// It asks that both sides may be drawn from, and a number to come of one of them.
+    final fn cmp<I>(self, other: I) -> Result<Ordering, Self::Error>
+    where
+        I: IntoFallibleIterator<Item = Self::Item, Error = Self::Error>,
+        Self::Item: Ord + Drop,
+        requires can { contract.can self }
+        requires right { (right : I.IntoFallibleIter) → I.into_gives other right → I.IntoFallibleIter.contract.can right }
+        requires finite { contract.has_end self ⊎ ((right : I.IntoFallibleIter) → I.into_gives other right → I.IntoFallibleIter.contract.has_end right) }
+        ensures compared { ComparedWith (by_cmp Self.Item.cmp) I.into_gives contract.steps I.IntoFallibleIter.contract.steps self other (read_as (λ o. Some o) result) }
+        ensures is { (a b : List (Result Self.Item Self.Error)) → Lists contract.steps self a → ((right : I.IntoFallibleIter) → I.into_gives other right → Lists I.IntoFallibleIter.contract.steps right b) → read_as (λ o. Some o) result ≡ compared (by_cmp Self.Item.cmp) a b }
+    {
+        let answer = compare::<Self, I::IntoFallibleIter, ByCmp>(self, other.into_fallible_iter());
+        ordered(answer)
     }
 
     /// How the two compare by the order of their items: as the first two items that aren't equal, none where those have no order, and where there are none, the side that ends alone is less. It draws in rounds, this iterator and then the other, until a failure, an end or two items that decide, and nothing after that; where this one ended, the other is still drawn. The failure that comes first is the answer: in each round one of this iterator before one of the other, which is not drawn then.

@@ -2,10 +2,10 @@
 use Rattle.std.specs.Prelude.{◌≡◌, ℕ, ◌+◌, ◌≤◌, ◌<◌, ◌⊎◌, List, [], ◌∷◌, Option, Some, None, Result, Ok, Err}
 use Rattle.std.specs.declared.cmp.Ordering.{Ordering}
 use Rattle.std.specs.declared.cmp.Ordering.TheVariants.{Less, Equal, Greater}
-use Rattle.std.proofs.Common.{refl, sym, ap, ◌∙◌, arith, inl, inr}
+use Rattle.std.proofs.Common.{refl, sym, ap, subst, ◌∙◌, arith, inl, inr}
 use Rattle.fallible_contract.specs.Traces.{Answered, item}
 use Rattle.fallible_contract.specs.Contract.{Contract, Fewer}
-use Rattle.fallible_contract.specs.Comparing.{LastRound, Compared, by_cmp}
+use Rattle.fallible_contract.specs.Comparing.{LastRound, Compared, ComparedWith, by_cmp}
 
 module _ {S T A E : Type 0} {rule : A → A → Option Ordering} {left-steps : S → Answered A E → S → Type 0} {right-steps : T → Answered A E → T → Type 0} {s : S} {t : T} where
   -- a round of two equal items, and then the rest
@@ -67,3 +67,10 @@ module _ {S T A B E D : Type 0} (m : Contract S A E) (o : Contract T B D) where
 pub end_of_either : {P T : Type 0} (allowed : T → Type 0) (ends : T → Type 0) (t : T) → allowed t → P ⊎ ((u : T) → allowed u → ends u) → P ⊎ ends t
 end_of_either allowed ends t h (inl e) = inl e
 end_of_either allowed ends t h (inr e) = inr (e t h)
+
+-- a comparison by an order finds one
+pub never_none : {S T A E : Type 0} (cmp : A → A → Ordering) {left-steps : S → Answered A E → S → Type 0} {right-steps : T → Answered A E → T → Type 0} {s : S} {t : T} {r : Result (Option Ordering) E} → Compared (by_cmp cmp) left-steps right-steps s t r → ¬ (r ≡ Ok None)
+never_none cmp {left-steps} {right-steps} {s} {t} {r} c e = let d : Compared (by_cmp cmp) left-steps right-steps s t (Ok None) = subst (λ z. Compared (by_cmp cmp) left-steps right-steps s t z) e c in always_ordered {cmp = cmp} d
+
+pub answered_as : {S O T A E : Type 0} (rule : A → A → Option Ordering) (into : O → T → Type 0) {left-steps : S → Answered A E → S → Type 0} {right-steps : T → Answered A E → T → Type 0} {s : S} {other : O} {t : T} {r q : Result (Option Ordering) E} → into other t → Compared rule left-steps right-steps s t r → q ≡ r → ComparedWith rule into left-steps right-steps s other q
+answered_as rule into {left-steps} {right-steps} {s} {other} {t} made c e = record { right = t; made = made; compared = subst (λ z. Compared rule left-steps right-steps s t z) (sym e) c }
