@@ -50,3 +50,19 @@ fn ne_of_unlike_items_is_true(rt: HostRuntime) -> Result<(), Fail> {
     assert_eq!(rt; left.ne(right), Ok(true));
     Ok(())
 }
+
+#[test]
+fn cmp_of_an_empty_one_is_less_and_draws_the_right(rt: HostRuntime) -> Result<(), Fail> {
+    let mut right = listed::<u32, (), 2>(rt.alloc(), [Ok(7), Ok(8)])?;
+    assert_eq!(rt; empty::<u32, ()>().cmp(&mut right), Ok(Ordering::Less));
+    assert_eq!(rt; right.next(), Ok(Some(8)));
+    Ok(())
+}
+
+#[test]
+fn cmp_of_a_longer_one_is_greater(rt: HostRuntime) -> Result<(), Fail> {
+    let left = listed::<u32, (), 2>(rt.alloc(), [Ok(1), Ok(2)])?;
+    let right = listed::<u32, (), 1>(rt.alloc(), [Ok(1)])?;
+    assert_eq!(rt; left.cmp(right), Ok(Ordering::Greater));
+    Ok(())
+}
