@@ -2,6 +2,7 @@
 pub mod Answers
 pub mod Closing
 pub mod Collecting
+pub mod Comparing
 pub mod Contract
 pub mod Counting
 pub mod Definitions

@@ -3,6 +3,7 @@ pub mod Answers
 pub mod Closing
 pub mod Closures
 pub mod Collecting
+pub mod Comparing
 pub mod Contract
 pub mod Counting
 pub mod Definitions

@@ -5,6 +5,7 @@ use Rattle.std.specs.Borrow.{Bor}
 use Rattle.std.specs.declared.option.Option.{Option}
 use Rattle.fallible_contract.specs.Traces.{Answered, Run, end}
 use Rattle.std.specs.declared.cmp.Ordering.{Ordering}
+use Rattle.std.specs.declared.cmp.Ordering.TheVariants.{Less, Equal, Greater}
 use Rattle.fallible_contract.specs.Picking.{better, better_key, item_of}
 use Rattle.fallible_contract.specs.Searching.{all_pick, any_pick, find_map_pick, position_pick, each_pick}
 use Rattle.fallible_contract.specs.declared.collecting.Fault.{Fault}
@@ -321,3 +322,22 @@ key_of keeps cmp h best x = on_value (h x) (λ k. Ok (Some (better_key keeps cmp
 -- the best of the items by the keys that h makes of them, of equal ones the last, and none of no items; or the failure of the list or of h that comes first
 unfoldable pub best_by_key : {A E K : Type 0} → Ordering → (K → K → Ordering) → (A → Result K E) → List (Result A E) → Result (Option A) E
 best_by_key keeps cmp h l = item_of (folded (λ e. e) (key_of keeps cmp h) None l)
+
+-- ---- comparisons
+
+-- an order that decides, or the rest of the comparison where it is equal
+abbrev pub unless_equal : {E : Type 0} → Option Ordering → Result (Option Ordering) E → Result (Option Ordering) E
+unless_equal None rest = Ok None
+unless_equal (Some Less) rest = Ok (Some Less)
+unless_equal (Some Equal) rest = rest
+unless_equal (Some Greater) rest = Ok (Some Greater)
+
+-- how two lists compare, pair by pair: the first two items that the rule doesn't find equal decide, and a list that ends before the other is less; or the failure that comes first, of the first list before that of the second
+unfoldable pub compared : {A E : Type 0} → (A → A → Option Ordering) → List (Result A E) → List (Result A E) → Result (Option Ordering) E
+compared rule (Err e ∷ a) b = Err e
+compared rule [] [] = Ok (Some Equal)
+compared rule [] (Ok y ∷ b) = Ok (Some Less)
+compared rule [] (Err e ∷ b) = Err e
+compared rule (Ok x ∷ a) [] = Ok (Some Greater)
+compared rule (Ok x ∷ a) (Ok y ∷ b) = unless_equal (rule x y) (compared rule a b)
+compared rule (Ok x ∷ a) (Err e ∷ b) = Err e

@@ -1,6 +1,7 @@
 //! The trait of fallible iterators and its adapters, where every call is proved to meet its contract.
 #![tactic(auto)]
 
+mod comparing;
 pub mod cutting;
 pub mod filtering;
 pub mod joining;

@@ -1,5 +1,5 @@
 //! The trait of fallible iterators: one call that each type writes, and all that comes with it.
-ghost use Rattle.std.specs.Prelude.{◌≡◌, ℕ, true, false, ◌+◌, ◌-◌, ◌≤◌, ◌<◌, ◌^◌, List, Option, Result, Some, None, Ok, Bool, MatchResult, ◌↔◌};
+ghost use Rattle.std.specs.Prelude.{◌≡◌, ℕ, true, false, ◌+◌, ◌-◌, ◌≤◌, ◌<◌, ◌^◌, List, Option, Result, Some, None, Ok, Bool, MatchResult, ◌↔◌, ◌⊎◌};
 ghost use Rattle.std.specs.Borrow.{Bor};
 ghost use Rattle.fallible_contract.specs.Contract.{Contract, AtMost, Lawful, Stays, seen_as};
 ghost use Rattle.fallible_contract.specs.Closures.{IsCallable, call_on, takes_on, call_at, takes_at};
@@ -25,7 +25,8 @@ ghost use Rattle.fallible_core.specs.Peeking.Peekable.{peekable_parts, peekable_
 ghost use Rattle.fallible_core.specs.Joining.Cycle.{cycle_parts};
 ghost use Rattle.fallible_core.specs.declared.joining.chain.StillDrawn.TheVariants.{Both};
 ghost use Rattle.fallible_contract.specs.Collecting.{Collects, PushTurn, Asks, PartTurn, Partitions};
-ghost use Rattle.fallible_contract.specs.Lists.{items, Lists, Acts, Repeats, repeated, EachLists, flattened, mapped, filtered, taken, counted, filter_mapped, inspected, ActsWithState, scanned, skipped_while, taken_while, numbered, failures_mapped, pointed_to, CollectedAs, chained, skipped, stepped, zipped, NoFailureAtEnd, nth_of, folded, ActsWith, Converts, all_of, any_of, find_mapped, position_in, each_done, best_by, best_by_key};
+ghost use Rattle.fallible_contract.specs.Lists.{items, Lists, Acts, Repeats, repeated, EachLists, flattened, mapped, filtered, taken, counted, filter_mapped, inspected, ActsWithState, scanned, skipped_while, taken_while, numbered, failures_mapped, pointed_to, CollectedAs, chained, skipped, stepped, zipped, NoFailureAtEnd, nth_of, folded, ActsWith, Converts, all_of, any_of, find_mapped, position_in, each_done, best_by, best_by_key, compared};
+ghost use Rattle.fallible_contract.specs.Comparing.{by_cmp, by_eq, read_as, reads_eq, reads_ne, reads_lt, reads_le, reads_gt, reads_ge, ComparedWith, ReadWith};
 ghost use Rattle.std.specs.declared.cmp.Ordering.{Ordering};
 ghost use Rattle.std.specs.declared.cmp.Ordering.TheVariants.{Less, Greater};
 ghost use Rattle.fallible_contract.specs.Picking.{call_at_two, takes_at_two, PickCall, takes_in_pick, Picked, KeyCall, Best, BestByKey};
@@ -36,6 +37,7 @@ mod borrowed;
 mod boxed;
 pub mod conversion;
 
+use crate::comparing::{ByCmp, ByEq, ByPartialCmp, compare, ordered, read_eq, read_ge, read_gt, read_le, read_lt, read_ne};
 use crate::cutting::{Fuse, Skip, StepBy, Take, TakeWhile};
 use crate::filtering::{Filter, FilterMap, SkipWhile};
 use crate::joining::{Chain, Cycle, FlatMap, Flatten, StillDrawn, Zip};
@@ -776,6 +778,147 @@ pub trait FallibleIterator: Drop + Sized {
         ensures is { (h : Self.Item → Self.Item → Result Ordering Self.Error) (l : List (Result Self.Item Self.Error)) → ActsWith (call_at_two F.FnMut) f h → Lists contract.steps self l → result ≡ best_by Less h l }
     {
         best_by(self, Ordering::Less, f)
+    }
+
+    /// How the two compare by the order of their items: as the first two items that aren't equal, and where there are none, the side that ends alone is less. It draws in rounds, this iterator and then the other, until a failure, an end or two items that decide, and nothing after that; where this one ended, the other is still drawn. The failure that comes first is the answer: in each round one of this iterator before one of the other, which is not drawn then.
+    ///
+    /// It asks that both sides may be drawn from, and a number to come of one of them.
+    final fn cmp<I>(self, other: I) -> Result<Ordering, Self::Error>
+    where
+        I: IntoFallibleIterator<Item = Self::Item, Error = Self::Error>,
+        Self::Item: Ord + Drop,
+        requires can { contract.can self }
+        requires right { (right : I.IntoFallibleIter) → I.into_gives other right → I.IntoFallibleIter.contract.can right }
+        requires finite { contract.has_end self ⊎ ((right : I.IntoFallibleIter) → I.into_gives other right → I.IntoFallibleIter.contract.has_end right) }
+        ensures compared { ComparedWith (by_cmp Self.Item.cmp) I.into_gives contract.steps I.IntoFallibleIter.contract.steps self other (read_as (λ o. Some o) result) }
+        ensures is { (a b : List (Result Self.Item Self.Error)) → Lists contract.steps self a → ((right : I.IntoFallibleIter) → I.into_gives other right → Lists I.IntoFallibleIter.contract.steps right b) → read_as (λ o. Some o) result ≡ compared (by_cmp Self.Item.cmp) a b }
+    {
+        let answer = compare::<Self, I::IntoFallibleIter, ByCmp>(self, other.into_fallible_iter());
+        ordered(answer)
+    }
+
+    /// How the two compare by the order of their items: as the first two items that aren't equal, none where those have no order, and where there are none, the side that ends alone is less. It draws in rounds, this iterator and then the other, until a failure, an end or two items that decide, and nothing after that; where this one ended, the other is still drawn. The failure that comes first is the answer: in each round one of this iterator before one of the other, which is not drawn then.
+    ///
+    /// It asks that both sides may be drawn from, and a number to come of one of them.
+    final fn partial_cmp<I>(self, other: I) -> Result<Option<Ordering>, Self::Error>
+    where
+        I: IntoFallibleIterator<Item = Self::Item, Error = Self::Error>,
+        Self::Item: PartialOrd + Drop,
+        requires can { contract.can self }
+        requires right { (right : I.IntoFallibleIter) → I.into_gives other right → I.IntoFallibleIter.contract.can right }
+        requires finite { contract.has_end self ⊎ ((right : I.IntoFallibleIter) → I.into_gives other right → I.IntoFallibleIter.contract.has_end right) }
+        ensures compared { ComparedWith Self.Item.partial_cmp I.into_gives contract.steps I.IntoFallibleIter.contract.steps self other result }
+        ensures is { (a b : List (Result Self.Item Self.Error)) → Lists contract.steps self a → ((right : I.IntoFallibleIter) → I.into_gives other right → Lists I.IntoFallibleIter.contract.steps right b) → result ≡ compared Self.Item.partial_cmp a b }
+    {
+        compare::<Self, I::IntoFallibleIter, ByPartialCmp>(self, other.into_fallible_iter())
+    }
+
+    /// Whether the two give equal items, one by one, and end together. It draws in rounds, this iterator and then the other, until a failure, an end or two items that decide, and nothing after that; where this one ended, the other is still drawn. The failure that comes first is the answer: in each round one of this iterator before one of the other, which is not drawn then.
+    ///
+    /// It asks that both sides may be drawn from, and a number to come of one of them.
+    final fn eq<I>(self, other: I) -> Result<bool, Self::Error>
+    where
+        I: IntoFallibleIterator<Item = Self::Item, Error = Self::Error>,
+        Self::Item: PartialEq + Drop,
+        requires can { contract.can self }
+        requires right { (right : I.IntoFallibleIter) → I.into_gives other right → I.IntoFallibleIter.contract.can right }
+        requires finite { contract.has_end self ⊎ ((right : I.IntoFallibleIter) → I.into_gives other right → I.IntoFallibleIter.contract.has_end right) }
+        ensures compared { ReadWith (by_eq Self.Item.eq) reads_eq I.into_gives contract.steps I.IntoFallibleIter.contract.steps self other result }
+        ensures is { (a b : List (Result Self.Item Self.Error)) → Lists contract.steps self a → ((right : I.IntoFallibleIter) → I.into_gives other right → Lists I.IntoFallibleIter.contract.steps right b) → result ≡ read_as reads_eq (compared (by_eq Self.Item.eq) a b) }
+    {
+        let answer =
+            compare::<Self, I::IntoFallibleIter, ByEq>(self, other.into_fallible_iter());
+        read_eq(answer)
+    }
+
+    /// Whether the two differ: the opposite of `eq`. It draws in rounds, this iterator and then the other, until a failure, an end or two items that decide, and nothing after that; where this one ended, the other is still drawn. The failure that comes first is the answer: in each round one of this iterator before one of the other, which is not drawn then.
+    ///
+    /// It asks that both sides may be drawn from, and a number to come of one of them.
+    final fn ne<I>(self, other: I) -> Result<bool, Self::Error>
+    where
+        I: IntoFallibleIterator<Item = Self::Item, Error = Self::Error>,
+        Self::Item: PartialEq + Drop,
+        requires can { contract.can self }
+        requires right { (right : I.IntoFallibleIter) → I.into_gives other right → I.IntoFallibleIter.contract.can right }
+        requires finite { contract.has_end self ⊎ ((right : I.IntoFallibleIter) → I.into_gives other right → I.IntoFallibleIter.contract.has_end right) }
+        ensures compared { ReadWith (by_eq Self.Item.eq) reads_ne I.into_gives contract.steps I.IntoFallibleIter.contract.steps self other result }
+        ensures is { (a b : List (Result Self.Item Self.Error)) → Lists contract.steps self a → ((right : I.IntoFallibleIter) → I.into_gives other right → Lists I.IntoFallibleIter.contract.steps right b) → result ≡ read_as reads_ne (compared (by_eq Self.Item.eq) a b) }
+    {
+        let answer =
+            compare::<Self, I::IntoFallibleIter, ByEq>(self, other.into_fallible_iter());
+        read_ne(answer)
+    }
+
+    /// Whether this one is less than the other, by `partial_cmp`; false where two items have no order. It draws in rounds, this iterator and then the other, until a failure, an end or two items that decide, and nothing after that; where this one ended, the other is still drawn. The failure that comes first is the answer: in each round one of this iterator before one of the other, which is not drawn then.
+    ///
+    /// It asks that both sides may be drawn from, and a number to come of one of them.
+    final fn lt<I>(self, other: I) -> Result<bool, Self::Error>
+    where
+        I: IntoFallibleIterator<Item = Self::Item, Error = Self::Error>,
+        Self::Item: PartialOrd + Drop,
+        requires can { contract.can self }
+        requires right { (right : I.IntoFallibleIter) → I.into_gives other right → I.IntoFallibleIter.contract.can right }
+        requires finite { contract.has_end self ⊎ ((right : I.IntoFallibleIter) → I.into_gives other right → I.IntoFallibleIter.contract.has_end right) }
+        ensures compared { ReadWith Self.Item.partial_cmp reads_lt I.into_gives contract.steps I.IntoFallibleIter.contract.steps self other result }
+        ensures is { (a b : List (Result Self.Item Self.Error)) → Lists contract.steps self a → ((right : I.IntoFallibleIter) → I.into_gives other right → Lists I.IntoFallibleIter.contract.steps right b) → result ≡ read_as reads_lt (compared Self.Item.partial_cmp a b) }
+    {
+        let answer =
+            compare::<Self, I::IntoFallibleIter, ByPartialCmp>(self, other.into_fallible_iter());
+        read_lt(answer)
+    }
+
+    /// Whether this one is less than the other or equal, by `partial_cmp`; false where two items have no order. It draws in rounds, this iterator and then the other, until a failure, an end or two items that decide, and nothing after that; where this one ended, the other is still drawn. The failure that comes first is the answer: in each round one of this iterator before one of the other, which is not drawn then.
+    ///
+    /// It asks that both sides may be drawn from, and a number to come of one of them.
+    final fn le<I>(self, other: I) -> Result<bool, Self::Error>
+    where
+        I: IntoFallibleIterator<Item = Self::Item, Error = Self::Error>,
+        Self::Item: PartialOrd + Drop,
+        requires can { contract.can self }
+        requires right { (right : I.IntoFallibleIter) → I.into_gives other right → I.IntoFallibleIter.contract.can right }
+        requires finite { contract.has_end self ⊎ ((right : I.IntoFallibleIter) → I.into_gives other right → I.IntoFallibleIter.contract.has_end right) }
+        ensures compared { ReadWith Self.Item.partial_cmp reads_le I.into_gives contract.steps I.IntoFallibleIter.contract.steps self other result }
+        ensures is { (a b : List (Result Self.Item Self.Error)) → Lists contract.steps self a → ((right : I.IntoFallibleIter) → I.into_gives other right → Lists I.IntoFallibleIter.contract.steps right b) → result ≡ read_as reads_le (compared Self.Item.partial_cmp a b) }
+    {
+        let answer =
+            compare::<Self, I::IntoFallibleIter, ByPartialCmp>(self, other.into_fallible_iter());
+        read_le(answer)
+    }
+
+    /// Whether this one is greater than the other, by `partial_cmp`; false where two items have no order. It draws in rounds, this iterator and then the other, until a failure, an end or two items that decide, and nothing after that; where this one ended, the other is still drawn. The failure that comes first is the answer: in each round one of this iterator before one of the other, which is not drawn then.
+    ///
+    /// It asks that both sides may be drawn from, and a number to come of one of them.
+    final fn gt<I>(self, other: I) -> Result<bool, Self::Error>
+    where
+        I: IntoFallibleIterator<Item = Self::Item, Error = Self::Error>,
+        Self::Item: PartialOrd + Drop,
+        requires can { contract.can self }
+        requires right { (right : I.IntoFallibleIter) → I.into_gives other right → I.IntoFallibleIter.contract.can right }
+        requires finite { contract.has_end self ⊎ ((right : I.IntoFallibleIter) → I.into_gives other right → I.IntoFallibleIter.contract.has_end right) }
+        ensures compared { ReadWith Self.Item.partial_cmp reads_gt I.into_gives contract.steps I.IntoFallibleIter.contract.steps self other result }
+        ensures is { (a b : List (Result Self.Item Self.Error)) → Lists contract.steps self a → ((right : I.IntoFallibleIter) → I.into_gives other right → Lists I.IntoFallibleIter.contract.steps right b) → result ≡ read_as reads_gt (compared Self.Item.partial_cmp a b) }
+    {
+        let answer =
+            compare::<Self, I::IntoFallibleIter, ByPartialCmp>(self, other.into_fallible_iter());
+        read_gt(answer)
+    }
+
+    /// Whether this one is greater than the other or equal, by `partial_cmp`; false where two items have no order. It draws in rounds, this iterator and then the other, until a failure, an end or two items that decide, and nothing after that; where this one ended, the other is still drawn. The failure that comes first is the answer: in each round one of this iterator before one of the other, which is not drawn then.
+    ///
+    /// It asks that both sides may be drawn from, and a number to come of one of them.
+    final fn ge<I>(self, other: I) -> Result<bool, Self::Error>
+    where
+        I: IntoFallibleIterator<Item = Self::Item, Error = Self::Error>,
+        Self::Item: PartialOrd + Drop,
+        requires can { contract.can self }
+        requires right { (right : I.IntoFallibleIter) → I.into_gives other right → I.IntoFallibleIter.contract.can right }
+        requires finite { contract.has_end self ⊎ ((right : I.IntoFallibleIter) → I.into_gives other right → I.IntoFallibleIter.contract.has_end right) }
+        ensures compared { ReadWith Self.Item.partial_cmp reads_ge I.into_gives contract.steps I.IntoFallibleIter.contract.steps self other result }
+        ensures is { (a b : List (Result Self.Item Self.Error)) → Lists contract.steps self a → ((right : I.IntoFallibleIter) → I.into_gives other right → Lists I.IntoFallibleIter.contract.steps right b) → result ≡ read_as reads_ge (compared Self.Item.partial_cmp a b) }
+    {
+        let answer =
+            compare::<Self, I::IntoFallibleIter, ByPartialCmp>(self, other.into_fallible_iter());
+        read_ge(answer)
     }
 
     /// Lets the next answer be looked at ahead: an item or an end that `peek` saw is held, and comes first. Making the adapter draws nothing, and holds nothing.

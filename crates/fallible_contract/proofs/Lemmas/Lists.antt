@@ -1,4 +1,5 @@
 -- Lists of answers: what callers state.
+pub mod Compared
 pub mod Drawn
 pub mod Passing
 pub mod Searched

@@ -18,7 +18,7 @@ module _ {A E : Type 0} where
   LeftAt (Err e) l = (rest : List (Result A E)) × (l ≡ Err e ∷ rest)
 
   module _ {S : Type 0} (steps : S → Answered A E → S → Type 0) where
-    left_at : (last : Answered A E) (l : List (Result A E)) (s t : S) → AlwaysGives steps s l → steps s last t → LeftAt last l
+    pub left_at : (last : Answered A E) (l : List (Result A E)) (s t : S) → AlwaysGives steps s l → steps s last t → LeftAt last l
     left_at (Ok None) [] s t a w = refl
     left_at (Ok (Some x)) [] s t a w = absurd (let h = a (Ok (Some x)) t w in cc)
     left_at (Err e) [] s t a w = absurd (let h = a (Err e) t w in cc)

@@ -1,0 +1,76 @@
+-- Comparisons, one round at a time.
+use Rattle.std.specs.Prelude.{◌≡◌, ℕ, ◌+◌, ◌≤◌, ◌<◌, ◌⊎◌, List, [], ◌∷◌, Option, Some, None, Result, Ok, Err}
+use Rattle.std.specs.declared.cmp.Ordering.{Ordering}
+use Rattle.std.specs.declared.cmp.Ordering.TheVariants.{Less, Equal, Greater}
+use Rattle.std.proofs.Common.{refl, sym, ap, subst, ◌∙◌, arith, inl, inr}
+use Rattle.fallible_contract.specs.Traces.{Answered, item}
+use Rattle.fallible_contract.specs.Contract.{Contract, Fewer}
+use Rattle.fallible_contract.specs.Comparing.{LastRound, Compared, ComparedWith, by_cmp}
+
+module _ {S T A E : Type 0} {rule : A → A → Option Ordering} {left-steps : S → Answered A E → S → Type 0} {right-steps : T → Answered A E → T → Type 0} {s : S} {t : T} where
+  -- a round of two equal items, and then the rest
+  pub compared_after : {u : S} {v : T} {r : Result (Option Ordering) E} (x y : A) → rule x y ≡ Some Equal → left-steps s (item x) u → right-steps t (item y) v → Compared rule left-steps right-steps u v r → Compared rule left-steps right-steps s t r
+  compared_after {u} {v} x y same step next rest = record { pairs = (x, y) ∷ rest.pairs; equal = (same, rest.equal); last_left = rest.last_left; last_right = rest.last_right; left = rest.left; right = rest.right; left_ran = (u, step, rest.left_ran); right_ran = (v, next, rest.right_ran); exit = rest.exit }
+
+  -- a left failure, after which the right isn't drawn
+  pub compared_left_failure : (u : S) (e : E) → left-steps s (Err e) u → Compared rule left-steps right-steps s t (Err e)
+  compared_left_failure u e step = record { pairs = []; equal = tt; last_left = Err e; last_right = None; left = u; right = t; left_ran = (u, step, refl); right_ran = refl; exit = refl }
+
+  -- a last round of two answers
+  pub compared_round : (u : S) (v : T) {r : Result (Option Ordering) E} (x y : Answered A E) → left-steps s x u → right-steps t y v → LastRound rule x (Some y) r → Compared rule left-steps right-steps s t r
+  compared_round u v x y step next exit = record { pairs = []; equal = tt; last_left = x; last_right = Some y; left = u; right = v; left_ran = (u, step, refl); right_ran = (v, next, refl); exit = exit }
+
+module _ {A E : Type 0} (rule : A → A → Option Ordering) where
+  -- a right failure is the answer, where the left didn't fail
+  pub right_failure : (x : Option A) (e : E) → LastRound rule (Ok x) (Some (Err e)) (Err e)
+  right_failure None e = refl
+  right_failure (Some x) e = refl
+
+  -- two items that aren't equal decide
+  pub items_decide : (x y : A) (o : Option Ordering) → rule x y ≡ o → ¬ (o ≡ Some Equal) → LastRound {E = E} rule (Ok (Some x)) (Some (Ok (Some y))) (Ok o)
+  items_decide x y o same unequal = (ap (λ z. Ok z) (sym same), λ e. unequal (sym same ∙ e))
+
+  -- where each two items have an order, so have the two sides
+  pub has_order : ((x y : A) → ¬ (rule x y ≡ None)) → (x : Answered A E) (y : Option (Answered A E)) → LastRound rule x y (Ok None) → ⊥
+  has_order some (Err e) None h = absurd cc
+  has_order some (Err e) (Some y) h = h
+  has_order some (Ok x) None h = h
+  has_order some (Ok None) (Some (Err e)) h = absurd cc
+  has_order some (Ok None) (Some (Ok None)) h = absurd cc
+  has_order some (Ok None) (Some (Ok (Some y))) h = absurd cc
+  has_order some (Ok (Some x)) (Some (Err e)) h = absurd cc
+  has_order some (Ok (Some x)) (Some (Ok None)) h = absurd cc
+  has_order some (Ok (Some x)) (Some (Ok (Some y))) h = some x y (let e = h.0 in cc)
+
+pub always_ordered : {S T A E : Type 0} {cmp : A → A → Ordering} {left-steps : S → Answered A E → S → Type 0} {right-steps : T → Answered A E → T → Type 0} {s : S} {t : T} → Compared {E = E} (by_cmp cmp) left-steps right-steps s t (Ok None) → ⊥
+always_ordered c = has_order _ (λ x y e. absurd cc) c.last_left c.last_right c.exit
+
+module _ {S T A B E D : Type 0} (m : Contract S A E) (o : Contract T B D) where
+  -- at most k items are to come of one of the two sides
+  abbrev pub EitherAtMost : S → T → ℕ → Type 0
+  EitherAtMost s t k = ((n : ℕ) × m.to_come s n × (n ≤ k)) ⊎ ((n : ℕ) × o.to_come t n × (n ≤ k))
+
+  -- a round of two items is one of those, and there is one less after it
+  pub either_positive : (s u : S) (t v : T) (k : ℕ) → Fewer m s u → Fewer o t v → EitherAtMost s t k → 0 < k
+  either_positive s u t v k p q (inl b) = let f = p b.0 b.1 in omega (arith, f.2, b.2)
+  either_positive s u t v k p q (inr b) = let f = q b.0 b.1 in omega (arith, f.2, b.2)
+
+  pub either_fewer : (s u : S) (t v : T) (k j : ℕ) → Fewer m s u → Fewer o t v → j + 1 ≡ k → EitherAtMost s t k → EitherAtMost u v j
+  either_fewer s u t v k j p q e (inl b) = let f = p b.0 b.1 in inl (f.0, f.1, omega (arith, f.2, b.2, e))
+  either_fewer s u t v k j p q e (inr b) = let f = q b.0 b.1 in inr (f.0, f.1, omega (arith, f.2, b.2, e))
+
+  pub either_begins : (s : S) (t : T) (k : ℕ) → m.to_come s k ⊎ o.to_come t k → EitherAtMost s t k
+  either_begins s t k (inl b) = inl (k, b, omega arith)
+  either_begins s t k (inr b) = inr (k, b, omega arith)
+
+-- where the left has an end, or each right that is allowed has one, one of the two has
+pub end_of_either : {P T : Type 0} (allowed : T → Type 0) (ends : T → Type 0) (t : T) → allowed t → P ⊎ ((u : T) → allowed u → ends u) → P ⊎ ends t
+end_of_either allowed ends t h (inl e) = inl e
+end_of_either allowed ends t h (inr e) = inr (e t h)
+
+-- a comparison by an order finds one
+pub never_none : {S T A E : Type 0} (cmp : A → A → Ordering) {left-steps : S → Answered A E → S → Type 0} {right-steps : T → Answered A E → T → Type 0} {s : S} {t : T} {r : Result (Option Ordering) E} → Compared (by_cmp cmp) left-steps right-steps s t r → ¬ (r ≡ Ok None)
+never_none cmp {left-steps} {right-steps} {s} {t} {r} c e = let d : Compared (by_cmp cmp) left-steps right-steps s t (Ok None) = subst (λ z. Compared (by_cmp cmp) left-steps right-steps s t z) e c in always_ordered {cmp = cmp} d
+
+pub answered_as : {S O T A E : Type 0} (rule : A → A → Option Ordering) (into : O → T → Type 0) {left-steps : S → Answered A E → S → Type 0} {right-steps : T → Answered A E → T → Type 0} {s : S} {other : O} {t : T} {r q : Result (Option Ordering) E} → into other t → Compared rule left-steps right-steps s t r → q ≡ r → ComparedWith rule into left-steps right-steps s other q
+answered_as rule into {left-steps} {right-steps} {s} {other} {t} made c e = record { right = t; made = made; compared = subst (λ z. Compared rule left-steps right-steps s t z) (sym e) c }

@@ -1,0 +1,15 @@
+-- Both sides may be drawn from, some number to come of one of them is at most the one counted down, and what a comparison from here answers, the whole answers.
+use Rattle.fallible_contract.proofs.Lemmas.Comparing.{EitherAtMost}
+use Rattle.fallible_contract.specs.Comparing.{Compared}
+use Rattle.fallible_core.proofs.comparing.compare.Given as goal
+
+abbrev pub invariant-loop-x : goal.invariant-loop-x
+invariant-loop-x g l = let m = g.L.FallibleIterator.contract in let o = g.R.FallibleIterator.contract in record {
+  can_left : m.can l.both.left;
+  can_right : o.can l.both.right;
+  bounded : EitherAtMost m o l.both.left l.both.right l.count.value;
+  whole : (r : _) → Compared g.K.Rule.rule m.steps o.steps l.both.left l.both.right r → Compared g.K.Rule.rule m.steps o.steps l.fn.left l.fn.right r;
+}
+
+abbrev pub decreases-loop-x : goal.decreases-loop-x
+decreases-loop-x g l = l.count.value

@@ -1,0 +1,19 @@
+-- The loop of rounds by the order is the comparison, which finds an order.
+use Rattle.fallible_contract.proofs.Lemmas.Comparing.{end_of_either, never_none, answered_as}
+use Rattle.fallible_contract.proofs.Lemmas.Lists.Compared.{compared_with_is}
+use Rattle.fallible_core.proofs.traits.FallibleIterator.cmp.Goals as goal
+
+pub compare-answer-requires-clause-right : goal.compare-answer-requires-clause-right
+compare-answer-requires-clause-right g c = c.requires.right _ c.into_fallible_iter.ensures
+
+pub compare-answer-requires-clause-finite : goal.compare-answer-requires-clause-finite
+compare-answer-requires-clause-finite g c = end_of_either _ _ _ c.into_fallible_iter.ensures c.requires.finite
+
+pub ordered-requires : goal.ordered-requires
+ordered-requires g c = never_none g.Self.Item.Ord.cmp c.compare-answer.ensures
+
+pub returns-clause-compared : goal.returns-clause-compared
+returns-clause-compared g c = answered_as _ _ c.into_fallible_iter.ensures c.compare-answer.ensures c.ordered.ensures
+
+pub returns-clause-is : goal.returns-clause-is
+returns-clause-is g c a b i j = compared_with_is a b (returns-clause-compared g c) i j

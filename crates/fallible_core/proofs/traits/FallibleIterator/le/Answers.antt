@@ -1,0 +1,16 @@
+-- The answer of the loop of rounds is read.
+use Rattle.fallible_contract.proofs.Lemmas.Comparing.{end_of_either}
+use Rattle.fallible_contract.proofs.Lemmas.Lists.Compared.{read_is}
+use Rattle.fallible_core.proofs.traits.FallibleIterator.le.Goals as goal
+
+pub compare-answer-requires-clause-right : goal.compare-answer-requires-clause-right
+compare-answer-requires-clause-right g c = c.requires.right _ c.into_fallible_iter.ensures
+
+pub compare-answer-requires-clause-finite : goal.compare-answer-requires-clause-finite
+compare-answer-requires-clause-finite g c = end_of_either _ _ _ c.into_fallible_iter.ensures c.requires.finite
+
+pub returns-clause-compared : goal.returns-clause-compared
+returns-clause-compared g c = record { answer = _; compared = record { right = _; made = c.into_fallible_iter.ensures; compared = c.compare-answer.ensures }; is = c.read_le.ensures }
+
+pub returns-clause-is : goal.returns-clause-is
+returns-clause-is g c a b i j = read_is a b (returns-clause-compared g c) i j

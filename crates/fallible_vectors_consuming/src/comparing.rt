@@ -1,0 +1,68 @@
+// Comparisons draw in rounds, and what the deciding round left is drawn next.
+use fallible_iterator::{FallibleIterator, empty, once_err};
+use fallible_testing::listed::listed;
+use std::cmp::Ordering;
+use std::test::Fail;
+
+#[test]
+fn eq_fails_with_a_left_failure_before_the_right_is_drawn(rt: HostRuntime) -> Result<(), Fail> {
+    let left = listed::<u32, u32, 2>(rt.alloc(), [Ok(1), Err(2)])?;
+    let mut right = listed::<u32, u32, 2>(rt.alloc(), [Ok(1), Ok(3)])?;
+    assert_eq!(rt; left.eq(&mut right), Err(2));
+    assert_eq!(rt; right.next(), Ok(Some(3)));
+    Ok(())
+}
+
+#[test]
+fn lt_fails_with_a_left_failure_before_the_right_is_drawn(rt: HostRuntime) -> Result<(), Fail> {
+    let mut right = listed::<u32, u32, 1>(rt.alloc(), [Ok(1)])?;
+    assert_eq!(rt; once_err::<u32, u32>(8).lt(&mut right), Err(8));
+    assert_eq!(rt; right.next(), Ok(Some(1)));
+    Ok(())
+}
+
+#[test]
+fn lt_of_a_front_is_true(rt: HostRuntime) -> Result<(), Fail> {
+    let left = listed::<u32, (), 1>(rt.alloc(), [Ok(1)])?;
+    let right = listed::<u32, (), 2>(rt.alloc(), [Ok(1), Ok(2)])?;
+    assert_eq!(rt; left.lt(right), Ok(true));
+    Ok(())
+}
+
+#[test]
+fn ge_of_two_without_items_is_true(rt: HostRuntime) -> Result<(), Fail> {
+    assert_eq!(rt; empty::<u32, ()>().ge(empty::<u32, ()>()), Ok(true));
+    Ok(())
+}
+
+#[test]
+fn partial_cmp_of_a_longer_one_is_greater(rt: HostRuntime) -> Result<(), Fail> {
+    let left = listed::<u32, (), 2>(rt.alloc(), [Ok(1), Ok(2)])?;
+    let right = listed::<u32, (), 1>(rt.alloc(), [Ok(1)])?;
+    assert_eq!(rt; left.partial_cmp(right), Ok(Some(Ordering::Greater)));
+    Ok(())
+}
+
+#[test]
+fn ne_of_unlike_items_is_true(rt: HostRuntime) -> Result<(), Fail> {
+    let left = listed::<u32, (), 1>(rt.alloc(), [Ok(1)])?;
+    let right = listed::<u32, (), 1>(rt.alloc(), [Ok(2)])?;
+    assert_eq!(rt; left.ne(right), Ok(true));
+    Ok(())
+}
+
+#[test]
+fn cmp_of_an_empty_one_is_less_and_draws_the_right(rt: HostRuntime) -> Result<(), Fail> {
+    let mut right = listed::<u32, (), 2>(rt.alloc(), [Ok(7), Ok(8)])?;
+    assert_eq!(rt; empty::<u32, ()>().cmp(&mut right), Ok(Ordering::Less));
+    assert_eq!(rt; right.next(), Ok(Some(8)));
+    Ok(())
+}
+
+#[test]
+fn cmp_of_a_longer_one_is_greater(rt: HostRuntime) -> Result<(), Fail> {
+    let left = listed::<u32, (), 2>(rt.alloc(), [Ok(1), Ok(2)])?;
+    let right = listed::<u32, (), 1>(rt.alloc(), [Ok(1)])?;
+    assert_eq!(rt; left.cmp(right), Ok(Ordering::Greater));
+    Ok(())
+}
