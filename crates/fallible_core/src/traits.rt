@@ -37,7 +37,10 @@ mod borrowed;
 mod boxed;
 pub mod conversion;
 
-use crate::comparing::{ByCmp, ByEq, ByPartialCmp, compare, ordered, read_eq, read_ge, read_gt, read_le, read_lt, read_ne};
+use crate::comparing::{
+    ByCmp, ByEq, ByPartialCmp, compare, ordered, read_eq, read_ge, read_gt, read_le, read_lt,
+    read_ne,
+};
 use crate::cutting::{Fuse, Skip, StepBy, Take, TakeWhile};
 use crate::filtering::{Filter, FilterMap, SkipWhile};
 use crate::joining::{Chain, Cycle, FlatMap, Flatten, StillDrawn, Zip};
@@ -826,8 +829,7 @@ pub trait FallibleIterator: Drop + Sized {
         ensures compared { ReadWith (by_eq Self.Item.eq) reads_eq I.into_gives contract.steps I.IntoFallibleIter.contract.steps self other result }
         ensures is { (a b : List (Result Self.Item Self.Error)) → Lists contract.steps self a → ((right : I.IntoFallibleIter) → I.into_gives other right → Lists I.IntoFallibleIter.contract.steps right b) → result ≡ read_as reads_eq (compared (by_eq Self.Item.eq) a b) }
     {
-        let answer =
-            compare::<Self, I::IntoFallibleIter, ByEq>(self, other.into_fallible_iter());
+        let answer = compare::<Self, I::IntoFallibleIter, ByEq>(self, other.into_fallible_iter());
         read_eq(answer)
     }
 
@@ -844,8 +846,7 @@ pub trait FallibleIterator: Drop + Sized {
         ensures compared { ReadWith (by_eq Self.Item.eq) reads_ne I.into_gives contract.steps I.IntoFallibleIter.contract.steps self other result }
         ensures is { (a b : List (Result Self.Item Self.Error)) → Lists contract.steps self a → ((right : I.IntoFallibleIter) → I.into_gives other right → Lists I.IntoFallibleIter.contract.steps right b) → result ≡ read_as reads_ne (compared (by_eq Self.Item.eq) a b) }
     {
-        let answer =
-            compare::<Self, I::IntoFallibleIter, ByEq>(self, other.into_fallible_iter());
+        let answer = compare::<Self, I::IntoFallibleIter, ByEq>(self, other.into_fallible_iter());
         read_ne(answer)
     }
 
@@ -862,8 +863,10 @@ pub trait FallibleIterator: Drop + Sized {
         ensures compared { ReadWith Self.Item.partial_cmp reads_lt I.into_gives contract.steps I.IntoFallibleIter.contract.steps self other result }
         ensures is { (a b : List (Result Self.Item Self.Error)) → Lists contract.steps self a → ((right : I.IntoFallibleIter) → I.into_gives other right → Lists I.IntoFallibleIter.contract.steps right b) → result ≡ read_as reads_lt (compared Self.Item.partial_cmp a b) }
     {
-        let answer =
-            compare::<Self, I::IntoFallibleIter, ByPartialCmp>(self, other.into_fallible_iter());
+        let answer = compare::<Self, I::IntoFallibleIter, ByPartialCmp>(
+            self,
+            other.into_fallible_iter(),
+        );
         read_lt(answer)
     }
 
@@ -880,8 +883,10 @@ pub trait FallibleIterator: Drop + Sized {
         ensures compared { ReadWith Self.Item.partial_cmp reads_le I.into_gives contract.steps I.IntoFallibleIter.contract.steps self other result }
         ensures is { (a b : List (Result Self.Item Self.Error)) → Lists contract.steps self a → ((right : I.IntoFallibleIter) → I.into_gives other right → Lists I.IntoFallibleIter.contract.steps right b) → result ≡ read_as reads_le (compared Self.Item.partial_cmp a b) }
     {
-        let answer =
-            compare::<Self, I::IntoFallibleIter, ByPartialCmp>(self, other.into_fallible_iter());
+        let answer = compare::<Self, I::IntoFallibleIter, ByPartialCmp>(
+            self,
+            other.into_fallible_iter(),
+        );
         read_le(answer)
     }
 
@@ -898,8 +903,10 @@ pub trait FallibleIterator: Drop + Sized {
         ensures compared { ReadWith Self.Item.partial_cmp reads_gt I.into_gives contract.steps I.IntoFallibleIter.contract.steps self other result }
         ensures is { (a b : List (Result Self.Item Self.Error)) → Lists contract.steps self a → ((right : I.IntoFallibleIter) → I.into_gives other right → Lists I.IntoFallibleIter.contract.steps right b) → result ≡ read_as reads_gt (compared Self.Item.partial_cmp a b) }
     {
-        let answer =
-            compare::<Self, I::IntoFallibleIter, ByPartialCmp>(self, other.into_fallible_iter());
+        let answer = compare::<Self, I::IntoFallibleIter, ByPartialCmp>(
+            self,
+            other.into_fallible_iter(),
+        );
         read_gt(answer)
     }
 
@@ -916,8 +923,10 @@ pub trait FallibleIterator: Drop + Sized {
         ensures compared { ReadWith Self.Item.partial_cmp reads_ge I.into_gives contract.steps I.IntoFallibleIter.contract.steps self other result }
         ensures is { (a b : List (Result Self.Item Self.Error)) → Lists contract.steps self a → ((right : I.IntoFallibleIter) → I.into_gives other right → Lists I.IntoFallibleIter.contract.steps right b) → result ≡ read_as reads_ge (compared Self.Item.partial_cmp a b) }
     {
-        let answer =
-            compare::<Self, I::IntoFallibleIter, ByPartialCmp>(self, other.into_fallible_iter());
+        let answer = compare::<Self, I::IntoFallibleIter, ByPartialCmp>(
+            self,
+            other.into_fallible_iter(),
+        );
         read_ge(answer)
     }
 

@@ -73,11 +73,12 @@ one_more_call step f g h (r ∷ qs) q went w = (went.0, went.1, one_more_call st
 module _ {A E F B : Type 0} (call : F → A → Result Bool E → F → Type 0) (made : List A → B → Type 0) (refuses : B → A → Type 0) (f : F) where
   pub part_more : (c : F × (B × B)) (x : A) (d : F × (B × B)) → PartTurn call made refuses c x (Ok d) → (items : List A) → Parts call made f items c → Parts call made f (items ++ x ∷ []) d
   part_more c x d w items h = let ps = h.answered in let v = w.0 in let both = w.2 (answered_true ps) (answered_false ps) h.first h.second in record {
-      answered = ps ++ (x, v) ∷ [];
-      beside = beside_more ps x v ∙ ap (λ l. l ++ x ∷ []) h.beside;
-      called = one_more_call (λ g p h. call g p.0 (Ok p.1) h) f c.0 d.0 ps (x, v) h.called w.1;
-      first = subst (λ l. made l d.1.0) (true_more ps x v) both.0;
-      second = subst (λ l. made l d.1.1) (false_more ps x v) both.1 }
+    answered = ps ++ (x, v) ∷ [];
+    beside = beside_more ps x v ∙ ap (λ l. l ++ x ∷ []) h.beside;
+    called = one_more_call (λ g p h. call g p.0 (Ok p.1) h) f c.0 d.0 ps (x, v) h.called w.1;
+    first = subst (λ l. made l d.1.0) (true_more ps x v) both.0;
+    second = subst (λ l. made l d.1.1) (false_more ps x v) both.1;
+  }
 
   pub no_parts : (a b : B) → made [] a → made [] b → Parts call made f [] (f, (a, b))
   no_parts a b h k = record { answered = []; beside = refl; called = refl; first = h; second = k }
