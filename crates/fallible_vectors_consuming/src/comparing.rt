@@ -1,8 +1,12 @@
 // Comparisons draw in rounds, and what the deciding round left is drawn next.
-use fallible_iterator::{FallibleIterator, empty, once_err};
+ghost use Rattle.std.specs.Prelude.{◌^◌, ◌-◌, IfOk};
+
+use fallible_iterator::{Convert, FallibleIterator, empty, once_err};
 use fallible_testing::listed::listed;
+use std::alloc::{AllocError, Global};
 use std::cmp::Ordering;
 use std::test::Fail;
+use std::vec::IntoIter;
 
 #[test]
 fn eq_fails_with_a_left_failure_before_the_right_is_drawn(rt: HostRuntime) -> Result<(), Fail> {
@@ -64,5 +68,34 @@ fn cmp_of_a_longer_one_is_greater(rt: HostRuntime) -> Result<(), Fail> {
     let left = listed::<u32, (), 2>(rt.alloc(), [Ok(1), Ok(2)])?;
     let right = listed::<u32, (), 1>(rt.alloc(), [Ok(1)])?;
     assert_eq!(rt; left.cmp(right), Ok(Ordering::Greater));
+    Ok(())
+}
+
+// one item that compares with nothing, not even with itself
+fn without_order(alloc: Global) -> Result<Convert<IntoIter<Result<f64, u32>>>, AllocError>
+    ensures can { IfOk result ⟦<Convert<IntoIter<Result<f64, u32>>> as FallibleIterator>⟧.contract.can }
+    ensures finite { IfOk result (λ s. ⟦<Convert<IntoIter<Result<f64, u32>>> as FallibleIterator>⟧.contract.to_come s (2 ^ 64 - 1)) }
+{
+    listed::<f64, u32, 1>(alloc, [Ok(f64::NAN)])
+}
+
+#[test]
+fn items_without_an_order_are_neither_less_nor_greater_nor_equal(
+    rt: HostRuntime,
+) -> Result<(), Fail> {
+    let left = without_order(rt.alloc())?;
+    assert_eq!(rt; left.partial_cmp(without_order(rt.alloc())?), Ok(None));
+    let left = without_order(rt.alloc())?;
+    assert_eq!(rt; left.lt(without_order(rt.alloc())?), Ok(false));
+    let left = without_order(rt.alloc())?;
+    assert_eq!(rt; left.le(without_order(rt.alloc())?), Ok(false));
+    let left = without_order(rt.alloc())?;
+    assert_eq!(rt; left.gt(without_order(rt.alloc())?), Ok(false));
+    let left = without_order(rt.alloc())?;
+    assert_eq!(rt; left.ge(without_order(rt.alloc())?), Ok(false));
+    let left = without_order(rt.alloc())?;
+    assert_eq!(rt; left.eq(without_order(rt.alloc())?), Ok(false));
+    let left = without_order(rt.alloc())?;
+    assert_eq!(rt; left.ne(without_order(rt.alloc())?), Ok(true));
     Ok(())
 }
