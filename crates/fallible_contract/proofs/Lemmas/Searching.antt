@@ -1,10 +1,10 @@
 -- Searches by the fold that carries the closure.
 use Rattle.std.specs.Prelude.{◌≡◌, ℕ, ◌+◌, ◌<◌, length, List, [], ◌∷◌, Option, Some, None, Result, Ok, Err, ⊤}
 use Rattle.std.specs.List.{FoldsTo}
-use Rattle.std.proofs.Common.{refl, sym, ap, subst, arith}
+use Rattle.std.proofs.Common.{refl, ap, subst, arith}
 use Rattle.fallible_contract.specs.declared.folds.Exit.{Exit}
 use Rattle.fallible_contract.specs.declared.folds.Exit.TheVariants.{Ended, Failed, Stopped}
-use Rattle.fallible_contract.specs.Traces.{Answered, item}
+use Rattle.fallible_contract.specs.Traces.{Answered}
 use Rattle.fallible_contract.specs.Contract.{Contract, AtMost, Lawful}
 use Rattle.fallible_contract.specs.Folds.{HoldsAtEachTurn, carrying_turn, CarryingExit, Carried}
 use Rattle.fallible_contract.proofs.Lemmas.Folds.{count_fits}

@@ -1,7 +1,7 @@
 -- What a search makes of a source whose answers are listed.
 use Rattle.std.specs.Prelude.{◌≡◌, ℕ, ◌+◌, length, Bool, true, false, Option, Some, None, Result, Ok, Err, List, [], ◌∷◌, ◌++◌, map}
 use Rattle.std.specs.List.{FoldsTo}
-use Rattle.std.proofs.Common.{refl, sym, ap, subst, ◌∙◌, arith}
+use Rattle.std.proofs.Common.{sym, ap, subst, ◌∙◌, arith}
 use Rattle.fallible_contract.specs.Traces.{Answered}
 use Rattle.fallible_contract.specs.Lists.{Lists, Acts, decided, picked_or, searched, all_of, any_of, find_mapped, position_in, each_done}
 use Rattle.fallible_contract.specs.Searching.{Passed, Decided, SearchExit, Searched, all_pick, any_pick, find_map_pick, position_pick, each_pick}
