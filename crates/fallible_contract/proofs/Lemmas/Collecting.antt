@@ -1,4 +1,4 @@
--- `collect` by the fold that carries the collection.
+-- What a fold makes that carries a collection, and `collect` by it.
 use Rattle.std.specs.Prelude.{◌≡◌, List, [], ◌∷◌, ◌++◌, map, Result, Some, None, Ok, Err}
 use Rattle.std.specs.List.{FoldsTo}
 use Rattle.std.specs.declared.alloc.AllocError.{AllocError}
@@ -7,39 +7,52 @@ use Rattle.fallible_contract.specs.declared.folds.Exit.{Exit}
 use Rattle.fallible_contract.specs.declared.folds.Exit.TheVariants.{Ended, Failed, Stopped}
 use Rattle.fallible_contract.specs.Traces.{Answered, Run, item}
 use Rattle.fallible_contract.specs.Folds.{CarryingExit, Carried}
-use Rattle.fallible_contract.proofs.Lemmas.Folds.{turns_map}
 use Rattle.fallible_contract.specs.Collecting.{CollectsAll, FailsWith, RefusesItem, PushTurn}
 
--- pushes make the collection of the items before and after
-made_of : {A C : Type 0} (made : List A → C → Type 0) (refuses : C → A → Type 0) (before items : List A) (c d : C) → made before c → FoldsTo (λ c x d. PushTurn made refuses c x (Ok d)) c items d → made (before ++ items) d
-made_of made refuses before [] c d h went = subst (λ e. made (before ++ []) e) went (subst (λ l. made l c) (sym (append-nil before)) h)
-made_of made refuses before (x ∷ items) c d h went = subst (λ l. made l d) (append_assoc before (x ∷ []) items) (made_of made refuses (before ++ x ∷ []) items went.0 d (went.1 before h) went.2)
+-- Turns that go on add the item to what is made; one that stops with q stops as `stops` says.
+module _ {A C R : Type 0} (made : List A → C → Type 0) (turns : C → A → Result C R → Type 0)
+    (goes_on : (c : C) (x : A) (d : C) → turns c x (Ok d) → (items : List A) → made items c → made (items ++ x ∷ []) d) where
+  gathered : (before items : List A) (c d : C) → made before c → FoldsTo (λ c x d. turns c x (Ok d)) c items d → made (before ++ items) d
+  gathered before [] c d h went = subst (λ e. made (before ++ []) e) went (subst (λ l. made l c) (sym (append-nil before)) h)
+  gathered before (x ∷ items) c d h went = subst (λ l. made l d) (append_assoc before (x ∷ []) items) (gathered (before ++ x ∷ []) items went.0 d (goes_on c x went.0 went.1 before h) went.2)
+
+  module _ {S E : Type 0} (steps : S → Answered A E → S → Type 0) {s t : S} {c : C} (is_empty : made [] c) where
+    made_by : {z : Exit C E R} → (w : Carried steps turns s c z t) → made w.items w.carried
+    made_by w = gathered [] w.items c w.carried is_empty w.went
+
+    ended : (d : C) (w : Carried steps turns s c (Ended d) t) (last : Answered A E) → Run steps s (map item w.items ++ last ∷ []) t → CarryingExit turns w.carried last (Ended d) → CollectsAll steps made s d
+    ended d w (Ok None) ran e = record { items = w.items; left = t; ran = ran; is_made = (let same : w.carried ≡ d = cc in subst (λ z. made w.items z) same (made_by w)) }
+    ended d w (Ok (Some x)) ran e = absurd (let f = e.2 in cc)
+    ended d w (Err f) ran e = absurd cc
+
+    pub gathered_all : (d : C) → Carried steps turns s c (Ended d) t → CollectsAll steps made s d
+    gathered_all d w = ended d w w.last w.ran w.exit
+
+    failed : (d : C) (e : E) (w : Carried steps turns s c (Failed d e) t) (last : Answered A E) → Run steps s (map item w.items ++ last ∷ []) t → CarryingExit turns w.carried last (Failed d e) → FailsWith steps made s e
+    failed d e w (Ok None) ran h = absurd cc
+    failed d e w (Ok (Some x)) ran h = absurd (let f = h.2 in cc)
+    failed d e w (Err f) ran h = let same : f ≡ e = cc in record { items = w.items; collection = w.carried; left = t; ran = subst (λ z. Run steps s (map item w.items ++ Err z ∷ []) t) same ran; is_made = made_by w }
+
+    pub gathered_failed : (d : C) (e : E) → Carried steps turns s c (Failed d e) t → FailsWith steps made s e
+    gathered_failed d e w = failed d e w w.last w.ran w.exit
+
+    stopped : (q : R) (stops : C → A → Type 0) → ((c : C) (x : A) → turns c x (Err q) → stops c x) → (w : Carried steps turns s c (Stopped q) t) (last : Answered A E) → Run steps s (map item w.items ++ last ∷ []) t → CarryingExit turns w.carried last (Stopped q) → RefusesItem steps made stops s
+    stopped q stops by w (Ok None) ran h = absurd cc
+    stopped q stops by w (Ok (Some x)) ran h = let same : h.0 ≡ q = (let f = h.2 in cc) in record { items = w.items; refused = x; collection = w.carried; left = t; ran = ran; is_made = made_by w; refuses_it = by w.carried x (subst (λ (z : R). turns w.carried x (Err z)) same h.1) }
+    stopped q stops by w (Err f) ran h = absurd cc
+
+    pub gathered_stopped : (q : R) (stops : C → A → Type 0) → ((c : C) (x : A) → turns c x (Err q) → stops c x) → Carried steps turns s c (Stopped q) t → RefusesItem steps made stops s
+    gathered_stopped q stops by w = stopped q stops by w w.last w.ran w.exit
+
+-- ---- collect
 
 module _ {S A E C : Type 0} {steps : S → Answered A E → S → Type 0} {made : List A → C → Type 0} {refuses : C → A → Type 0} {turns : C → A → Result C AllocError → Type 0}
     (turn : (c : C) (x : A) (r : Result C AllocError) → turns c x r → PushTurn made refuses c x r) {s t : S} {c : C} (is_empty : made [] c) where
-  is_made_by : {x : Exit C E AllocError} → (w : Carried steps turns s c x t) → made w.items w.carried
-  is_made_by w = made_of made refuses [] w.items c w.carried is_empty (turns_map (λ c x d p. turn c x (Ok d) p) w.items c w.carried w.went)
-
-  all_of : (d : C) (w : Carried steps turns s c (Ended d) t) (last : Answered A E) → Run steps s (map item w.items ++ last ∷ []) t → CarryingExit turns w.carried last (Ended d) → CollectsAll steps made s d
-  all_of d w (Ok None) ran e = record { items = w.items; left = t; ran = ran; is_made = (let same : w.carried ≡ d = cc in subst (λ z. made w.items z) same (is_made_by w)) }
-  all_of d w (Ok (Some x)) ran e = absurd (let f = e.2 in cc)
-  all_of d w (Err f) ran e = absurd cc
-
   pub collected_all : {d : C} → Carried steps turns s c (Ended d) t → CollectsAll steps made s d
-  collected_all {d} w = all_of d w w.last w.ran w.exit
-
-  failure_of : (d : C) (e : E) (w : Carried steps turns s c (Failed d e) t) (last : Answered A E) → Run steps s (map item w.items ++ last ∷ []) t → CarryingExit turns w.carried last (Failed d e) → FailsWith steps made s e
-  failure_of d e w (Ok None) ran h = absurd cc
-  failure_of d e w (Ok (Some x)) ran h = absurd (let f = h.2 in cc)
-  failure_of d e w (Err f) ran h = let same : f ≡ e = cc in record { items = w.items; collection = w.carried; left = t; ran = subst (λ z. Run steps s (map item w.items ++ Err z ∷ []) t) same ran; is_made = is_made_by w }
+  collected_all {d} w = gathered_all made turns (λ c x d p. turn c x (Ok d) p) steps is_empty d w
 
   pub collect_failed : {d : C} {e : E} → Carried steps turns s c (Failed d e) t → FailsWith steps made s e
-  collect_failed {d} {e} w = failure_of d e w w.last w.ran w.exit
-
-  refusal_of : (a : AllocError) (w : Carried steps turns s c (Stopped a) t) (last : Answered A E) → Run steps s (map item w.items ++ last ∷ []) t → CarryingExit turns w.carried last (Stopped a) → RefusesItem steps made refuses s
-  refusal_of a w (Ok None) ran h = absurd cc
-  refusal_of a w (Ok (Some x)) ran h = record { items = w.items; refused = x; collection = w.carried; left = t; ran = ran; is_made = is_made_by w; refuses_it = turn w.carried x (Err h.0) h.1 }
-  refusal_of a w (Err f) ran h = absurd cc
+  collect_failed {d} {e} w = gathered_failed made turns (λ c x d p. turn c x (Ok d) p) steps is_empty d e w
 
   pub collect_refused : {a : AllocError} → Carried steps turns s c (Stopped a) t → RefusesItem steps made refuses s
-  collect_refused {a} w = refusal_of a w w.last w.ran w.exit
+  collect_refused {a} w = gathered_stopped made turns (λ c x d p. turn c x (Ok d) p) steps is_empty a refuses (λ c x p. turn c x (Err a) p) w

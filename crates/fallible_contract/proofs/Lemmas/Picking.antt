@@ -5,7 +5,7 @@ use Rattle.std.specs.Cmp.{IsTotalOrder, upto}
 use Rattle.std.specs.declared.cmp.Ordering.{Ordering}
 use Rattle.std.specs.declared.cmp.Ordering.TheVariants.{Less, Equal, Greater}
 use Rattle.std.specs.Ordering.{ordering_reverse, is_gt}
-use Rattle.std.proofs.Common.{refl, sym, ap, subst, ◌∙◌}
+use Rattle.std.proofs.Common.{refl, sym, ap, subst, ◌∙◌, append_assoc, append-nil}
 use Rattle.fallible_contract.specs.Traces.{Answered, Run, item}
 use Rattle.fallible_contract.specs.Folds.{fold_turn, FoldExit, Folded}
 use Rattle.fallible_contract.specs.Lists.{Lists, Acts, ActsWith, on_value, pick_of, best_by, key_of, best_by_key}
@@ -45,18 +45,6 @@ all_map : {A : Type 0} (P Q : A → Type 0) → ((x : A) → P x → Q x) → (x
 all_map P Q h [] p = p
 all_map P Q h (x ∷ xs) p = (h x p.0, all_map P Q h xs p.1)
 
-append_past : {A : Type 0} (xs ys zs : List A) (y : A) → (xs ++ y ∷ ys) ++ zs ≡ xs ++ y ∷ (ys ++ zs)
-append_past [] ys zs y = refl
-append_past (x ∷ xs) ys zs y = ap {B = List _} (λ l. x ∷ l) (append_past xs ys zs y)
-
-append_none : {A : Type 0} (xs : List A) → xs ++ [] ≡ xs
-append_none [] = refl
-append_none (x ∷ xs) = ap {B = List _} (λ l. x ∷ l) (append_none xs)
-
-append_one : {A : Type 0} (xs ys : List A) (y : A) → (xs ++ y ∷ []) ++ ys ≡ xs ++ y ∷ ys
-append_one [] ys y = refl
-append_one (x ∷ xs) ys y = ap {B = List _} (λ l. x ∷ l) (append_one xs ys y)
-
 module _ {A : Type 0} {cmp : A → A → Ordering} (o : IsTotalOrder cmp) (keeps : Ordering) (k : Keeps keeps) where
   lt_is : (x y : A) → same_order Less (cmp x y) ≡ is_gt (cmp y x)
   lt_is x y = ap (same_order Less) (o.antisymm x y) ∙ lt_turned (cmp y x)
@@ -75,7 +63,7 @@ module _ {A : Type 0} {cmp : A → A → Ordering} (o : IsTotalOrder cmp) (keeps
 
   -- one more item after those of which b is the best
   best_next_by : (c : Bool) (items : List A) (b x : A) → same_order keeps (cmp b x) ≡ c → IsLastBest keeps cmp items b → IsLastBest keeps cmp (items ++ x ∷ []) (cond c b x)
-  best_next_by true items b x e h = record { before = h.before; after = h.after ++ x ∷ []; is = ap (λ (l : List A). l ++ x ∷ []) h.is ∙ append_past h.before h.after (x ∷ []) b; none_better = h.none_better; later_worse = all_append _ h.after (x ∷ []) h.later_worse (e, tt) }
+  best_next_by true items b x e h = record { before = h.before; after = h.after ++ x ∷ []; is = ap (λ (l : List A). l ++ x ∷ []) h.is ∙ append_assoc h.before (b ∷ h.after) (x ∷ []); none_better = h.none_better; later_worse = all_append _ h.after (x ∷ []) h.later_worse (e, tt) }
   best_next_by false items b x e h = record { before = items; after = []; is = refl; none_better = subst (λ (l : List A). OfEach (λ z. same_order keeps (cmp z x) ≡ false) l) (sym h.is) (all_append _ h.before (b ∷ h.after) (all_map _ _ (λ z p. not_better z b x p e) h.before h.none_better) (e, all_map _ _ (λ z p. not_better z b x (not_back b z p) e) h.after h.later_worse)); later_worse = tt }
 
   best_next : (items : List A) (b x : A) → IsLastBest keeps cmp items b → IsLastBest keeps cmp (items ++ x ∷ []) (better keeps (cmp b x) b x)
@@ -86,11 +74,11 @@ module _ {A : Type 0} {cmp : A → A → Ordering} (o : IsTotalOrder cmp) (keeps
 
   module _ {E F : Type 0} {call : F → A → A → Result Ordering E → F → Type 0} (acts : (f : F) (x y : A) (r : Result Ordering E) (g : F) → call f x y r g → r ≡ Ok (cmp x y)) where
     best_front : (items done : List A) (b : A) (p : Option A × F) (v : Option A) (g : F) → p.0 ≡ Some b → IsLastBest keeps cmp done b → FoldsTo {P = Option A × F} (fold_turn (PickCall keeps call)) p items (v, g) → IsBestOf keeps cmp (done ++ items) v
-    best_front [] done b p v g at h w = subst (IsBestOf keeps cmp (done ++ [])) (sym at ∙ ap (λ q. q.0) w) (subst (λ (l : List A). IsLastBest keeps cmp l b) (sym (append_none done)) h)
+    best_front [] done b p v g at h w = subst (IsBestOf keeps cmp (done ++ [])) (sym at ∙ ap (λ q. q.0) w) (subst (λ (l : List A). IsLastBest keeps cmp l b) (sym (append-nil done)) h)
     best_front (x ∷ items) done b p v g at h w =
         let turn : PickCall keeps call p.1 (Some b) x (Ok w.0.0) w.0.1 = subst (λ (u : Option A). PickCall keeps call p.1 u x (Ok w.0.0) w.0.1) at w.1 in
         let same : turn.0 ≡ cmp b x = (let e = acts p.1 b x (Ok turn.0) w.0.1 turn.1 in cc) in
-        subst (λ (l : List A). IsBestOf keeps cmp l v) (append_one done items x) (best_front items (done ++ x ∷ []) (better keeps (cmp b x) b x) w.0 v g (turn.2 ∙ ap (λ (q : Ordering). Some (better keeps q b x)) same) (best_next done b x h) w.2)
+        subst (λ (l : List A). IsBestOf keeps cmp l v) (append_assoc done (x ∷ []) items) (best_front items (done ++ x ∷ []) (better keeps (cmp b x) b x) w.0 v g (turn.2 ∙ ap (λ (q : Ordering). Some (better keeps q b x)) same) (best_next done b x h) w.2)
 
     best_items : (items : List A) (v : Option A) (f g : F) → FoldsTo {P = Option A × F} (fold_turn (PickCall keeps call)) (None, f) items (v, g) → IsBestOf keeps cmp items v
     best_items [] v f g w = subst (IsBestOf keeps cmp []) (ap (λ q. q.0) w) refl
@@ -123,11 +111,11 @@ module _ {A E F K : Type 0} {cmp : K → K → Ordering} (o : IsTotalOrder cmp) 
     best : IsBestOf keeps by_key (done ++ keyed) v
 
   key_front : (items : List A) (done : List (K × A)) (b : K × A) (p : Option (K × A) × F) (v : Option (K × A)) (g : F) → p.0 ≡ Some b → IsLastBest keeps by_key done b → FoldsTo {P = Option (K × A) × F} (fold_turn (KeyCall keeps cmp call)) p items (v, g) → Keyed done items p.1 v g
-  key_front [] done b p v g at h w = record { keyed = []; are = refl; called = ap (λ q. q.1) w; best = subst (IsBestOf keeps by_key (done ++ [])) (sym at ∙ ap (λ q. q.0) w) (subst (λ (l : List (K × A)). IsLastBest keeps by_key l b) (sym (append_none done)) h) }
+  key_front [] done b p v g at h w = record { keyed = []; are = refl; called = ap (λ q. q.1) w; best = subst (IsBestOf keeps by_key (done ++ [])) (sym at ∙ ap (λ q. q.0) w) (subst (λ (l : List (K × A)). IsLastBest keeps by_key l b) (sym (append-nil done)) h) }
   key_front (x ∷ items) done b p v g at h w =
       let turn : KeyCall keeps cmp call p.1 (Some b) x (Ok w.0.0) w.0.1 = subst (λ (u : Option (K × A)). KeyCall keeps cmp call p.1 u x (Ok w.0.0) w.0.1) at w.1 in
       let rest = key_front items (done ++ (turn.0, x) ∷ []) (better keeps (cmp b.0 turn.0) b (turn.0, x)) w.0 v g turn.2 (best_next total_by_key keeps k done b (turn.0, x) h) w.2 in
-      record { keyed = (turn.0, x) ∷ rest.keyed; are = ap {B = List A} (λ l. x ∷ l) rest.are; called = (w.0.1, turn.1, rest.called); best = subst (λ (l : List (K × A)). IsBestOf keeps by_key l v) (append_one done rest.keyed (turn.0, x)) rest.best }
+      record { keyed = (turn.0, x) ∷ rest.keyed; are = ap {B = List A} (λ l. x ∷ l) rest.are; called = (w.0.1, turn.1, rest.called); best = subst (λ (l : List (K × A)). IsBestOf keeps by_key l v) (append_assoc done ((turn.0, x) ∷ []) rest.keyed) rest.best }
 
   key_items : (items : List A) (f : F) (v : Option (K × A)) (g : F) → FoldsTo {P = Option (K × A) × F} (fold_turn (KeyCall keeps cmp call)) (None, f) items (v, g) → Keyed [] items f v g
   key_items [] f v g w = record { keyed = []; are = refl; called = ap (λ q. q.1) w; best = subst (IsBestOf keeps by_key []) (ap (λ q. q.0) w) refl }
