@@ -1,7 +1,9 @@
 //! Collections that are made of items.
 ghost use Rattle.std.specs.Prelude.{◌≡◌, ℕ, ◌≤◌, List, [], ◌∷◌, ◌++◌, MatchResult, vec_len, vec_capacity};
 
-mod kinds;
+mod deque;
+mod hashed;
+mod sorted;
 
 use std::alloc::{AllocError, Global};
 
