@@ -2,9 +2,11 @@
 ghost use Rattle.std.specs.Prelude.{◌≡◌, Result, Ok, Option, nat_lt};
 ghost use Rattle.std.specs.Ordering.{nat_cmp};
 ghost use Rattle.std.specs.declared.cmp.Ordering.TheVariants.{Greater, Less};
-ghost use Rattle.fallible_contract.specs.Lists.{results, filtered, skipped, all_of, any_of, position_in, find_mapped, best_by, best_by_key};
+ghost use Rattle.fallible_contract.specs.Collecting.{MadeOfParts};
+ghost use Rattle.fallible_contract.specs.Lists.{results, filtered, numbered, skipped, taken, all_of, any_of, found, last_of, position_in, best_by, CollectedAs, PartedAs};
 
-use fallible_iterator::{FallibleIterator, convert};
+use fallible_iterator::{FallibleIterator, Fault, convert};
+use std::alloc::Global;
 
 /// Whether all readings that aren't 0 are above 100, or the failure that comes first.
 pub fn all_above_100(readings: Vec<Result<u32, u8>>) -> Result<bool, u8>
@@ -38,4 +40,45 @@ pub fn greatest_above_100(readings: Vec<Result<u32, u8>>) -> Result<Option<u32>,
     convert(readings.into_iter())
         .filter(|reading| Ok(*reading > 100))
         .max()
+}
+
+/// The first reading above 100 after the first two, if there is one, or the failure that comes first.
+pub fn first_above_100(readings: Vec<Result<u32, u8>>) -> Result<Option<u32>, u8>
+    ensures { result ≡ found (λ x. Ok (nat_lt 100 x)) (skipped 2 (results readings.items)) }
+{
+    convert(readings.into_iter())
+        .skip(2)
+        .find(|reading| Ok(*reading > 100))
+}
+
+/// The last of the first ten readings that are above 100, if there is one, or the failure that comes first.
+pub fn last_above_100(readings: Vec<Result<u32, u8>>) -> Result<Option<u32>, u8>
+    ensures { result ≡ last_of (filtered (λ x. Ok (nat_lt 100 x)) (taken 10 (results readings.items))) }
+{
+    convert(readings.into_iter())
+        .take(10)
+        .filter(|reading| Ok(*reading > 100))
+        .last()
+}
+
+/// The first ten readings, those above 100 and the others, where memory suffices.
+pub fn parted_at_100(
+    alloc: Global,
+    readings: Vec<Result<u32, u8>>,
+) -> Result<(Vec<u32>, Vec<u32>), Fault<u8>>
+    ensures { PartedAs (λ xs v. v.items ≡ xs) (λ x. Ok (nat_lt 100 x)) (taken 10 (results readings.items)) result }
+{
+    convert(readings.into_iter())
+        .take(10)
+        .partition(alloc, |reading| Ok(*reading > 100))
+}
+
+/// The places of the readings and the readings themselves, as two columns, where memory suffices.
+pub fn two_columns(
+    alloc: Global,
+    readings: Vec<Result<u32, u8>>,
+) -> Result<(Vec<usize>, Vec<u32>), Fault<u8>>
+    ensures { CollectedAs (MadeOfParts (λ xs v. v.items ≡ xs) (λ xs v. v.items ≡ xs)) (numbered 0 (results readings.items)) result }
+{
+    convert(readings.into_iter()).enumerate().unzip(alloc)
 }

@@ -3,7 +3,10 @@ use crate::computing::{
     above_100, above_100_of_ten, all_up_to_100, both_columns, collected_above_100,
     doubled_above_1000, fold_of_one, fourth_above_100, places, products, running_sums, sum,
 };
-use crate::consuming::{all_above_100, any_above_100, greatest_above_100, place_above_100};
+use crate::consuming::{
+    all_above_100, any_above_100, first_above_100, greatest_above_100, last_above_100,
+    parted_at_100, place_above_100, two_columns,
+};
 use crate::drawing::{draw_all, second_if_above, third_draw, third_of};
 use crate::generic::{mean, mean_of_nest, sum_of_nest};
 use crate::ranges::{runs, sum_below};
@@ -160,5 +163,29 @@ fn searches_and_the_greatest(rt: HostRuntime) -> Result<(), Fail> {
         greatest_above_100(good_readings(rt.alloc())?),
         Ok(Some(600))
     );
+    Ok(())
+}
+
+#[test]
+fn the_first_and_the_last(rt: HostRuntime) -> Result<(), Fail> {
+    assert_eq!(rt; first_above_100(readings(rt.alloc())?), Ok(Some(600)));
+    assert_eq!(rt; first_above_100(good_readings(rt.alloc())?), Ok(Some(501)));
+    assert_eq!(rt; last_above_100(readings(rt.alloc())?), Err(9));
+    assert_eq!(rt; last_above_100(good_readings(rt.alloc())?), Ok(Some(501)));
+    Ok(())
+}
+
+#[test]
+fn two_collections(rt: HostRuntime) -> Result<(), Fail> {
+    let (above, others) = parted_at_100(rt.alloc(), good_readings(rt.alloc())?)?;
+    assert_eq!(rt; above.as_slice(), [600, 501].as_slice());
+    assert_eq!(rt; others.as_slice(), [5, 100].as_slice());
+    let refused = parted_at_100(rt.alloc(), readings(rt.alloc())?);
+    assert!(rt; matches!(refused, Err(Fault::Source(9))));
+    let (places, column) = two_columns(rt.alloc(), good_readings(rt.alloc())?)?;
+    assert_eq!(rt; places.as_slice(), [0, 1, 2, 3].as_slice());
+    assert_eq!(rt; column.as_slice(), [5, 600, 100, 501].as_slice());
+    let refused = two_columns(rt.alloc(), readings(rt.alloc())?);
+    assert!(rt; matches!(refused, Err(Fault::Source(9))));
     Ok(())
 }

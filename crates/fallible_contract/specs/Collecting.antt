@@ -86,3 +86,20 @@ abbrev pub Partitions : {S A E F B : Type 0} → (S → Answered A E → S → T
 Partitions {F = F} steps call made empty_refuses refuses s f (Ok p) = (g : F) × CollectsAll steps (Parts call made f) s (g, p)
 Partitions {B = B} steps call made empty_refuses refuses s f (Err (Source e)) = FailsWith steps (Parts call made f) s e ⊎ RefusesItem steps (Parts call made f) (ClosureFails {B = B} call e) s
 Partitions steps call made empty_refuses refuses s f (Err (Memory a)) = empty_refuses ⊎ RefusesItem steps (Parts call made f) (SideRefuses call refuses) s
+
+-- ---- unzip
+
+module _ {A B C D : Type 0} (made_first : List A → C → Type 0) (made_second : List B → D → Type 0) where
+  -- The first collection is made of the pairs' first parts, and the second of their second parts.
+  abbrev pub MadeOfParts : List (A × B) → C × D → Type 0
+  MadeOfParts pairs c = made_first (map (λ p. p.0) pairs) c.0 × made_second (map (λ p. p.1) pairs) c.1
+
+  module _ (first_refuses : C → A → Type 0) (second_refuses : D → B → Type 0) where
+    -- The first collection refuses the first part; or it takes it, and the second collection refuses the second part.
+    abbrev pub PairRefused : C × D → A × B → Type 0
+    PairRefused c x = first_refuses c.0 x.0 ⊎ ((d : C) × PushTurn made_first first_refuses c.0 x.0 (Ok d) × second_refuses c.1 x.1)
+
+    -- One turn: the first part is pushed to the first collection, and then the second part to the second; or the pair is refused.
+    abbrev pub PairTurn : C × D → A × B → Result (C × D) AllocError → Type 0
+    PairTurn c x (Ok d) = PushTurn made_first first_refuses c.0 x.0 (Ok d.0) × PushTurn made_second second_refuses c.1 x.1 (Ok d.1)
+    PairTurn c x (Err a) = PairRefused c x

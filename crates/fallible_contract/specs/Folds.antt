@@ -1,6 +1,6 @@
 -- Folds.
-use Rattle.std.specs.Prelude.{◌≡◌, ℕ, ◌≤◌, length, List, [], ◌∷◌, ◌++◌, map, Result, Some, None, Ok, Err}
-use Rattle.std.specs.List.{FoldsTo}
+use Rattle.std.specs.Prelude.{◌≡◌, ℕ, ◌≤◌, length, List, [], ◌∷◌, ◌++◌, map, Option, Result, Some, None, Ok, Err}
+use Rattle.std.specs.List.{FoldsTo, last_or}
 use Rattle.std.specs.Fn.{Called, Takes, Mut}
 use Rattle.fallible_contract.specs.declared.folds.Exit.{Exit}
 use Rattle.fallible_contract.specs.declared.folds.Exit.TheVariants.{Ended, Failed, Stopped}
@@ -107,6 +107,22 @@ pub record Counted {S A E : Type 0} (steps : S → Answered A E → S → Type 0
   pub left : S
   pub ran : Run steps s (map item items ++ last ∷ []) left
   pub exit : CountExit (length items) last r
+
+-- ---- last
+
+-- the last of the items at an end, and none of no items; or the failure
+abbrev pub LastExit : {A E : Type 0} → List A → Answered A E → Result (Option A) E → Type 0
+LastExit items (Ok None) r = r ≡ Ok (last_or None items)
+LastExit items (Err e) r = r ≡ Err e
+LastExit items (Ok (Some x)) r = ⊥
+
+-- The draws from s answered items and then an end or a failure; the result is the last of the items, none of no items, or the failure.
+pub record LastOf {S A E : Type 0} (steps : S → Answered A E → S → Type 0) (s : S) (r : Result (Option A) E) : Type 0 where
+  pub items : List A
+  pub last : Answered A E
+  pub left : S
+  pub ran : Run steps s (map item items ++ last ∷ []) left
+  pub exit : LastExit items last r
 
 -- ---- nth
 

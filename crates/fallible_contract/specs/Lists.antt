@@ -1,13 +1,14 @@
 -- Lists of answers, from the front: what a caller states that a chain of calls computed.
 use Rattle.std.specs.Prelude.{◌≡◌, ℕ, ◌+◌, zero, suc, ◌≤◌, ◌<◌, length, slice_index_or, Result, Some, None, Ok, Err, List, [], ◌∷◌, Bool, true, false, ⊤}
 use Rattle.std.specs.Iterator.Runs.{EachRunFrom}
+use Rattle.std.specs.List.{last_or}
 use Rattle.std.specs.Borrow.{Bor}
 use Rattle.std.specs.declared.option.Option.{Option}
 use Rattle.fallible_contract.specs.Traces.{Answered, Run, end}
 use Rattle.std.specs.declared.cmp.Ordering.{Ordering}
 use Rattle.std.specs.declared.cmp.Ordering.TheVariants.{Less, Equal, Greater}
 use Rattle.fallible_contract.specs.Picking.{better, better_key, item_of}
-use Rattle.fallible_contract.specs.Searching.{all_pick, any_pick, find_map_pick, position_pick, each_pick}
+use Rattle.fallible_contract.specs.Searching.{all_pick, any_pick, find_map_pick, find_pick, position_pick, each_pick}
 use Rattle.fallible_contract.specs.declared.collecting.Fault.{Fault}
 use Rattle.fallible_contract.specs.declared.collecting.Fault.TheVariants.{Source, Memory}
 
@@ -164,6 +165,11 @@ pointed_to (Err e ∷ l) = Err e ∷ pointed_to l
 
 -- ---- what consumers make of a list
 
+-- what f makes of the value, where there is one
+abbrev pub on_value : {A B E : Type 0} → Result A E → (A → Result B E) → Result B E
+on_value (Ok x) f = f x
+on_value (Err e) f = Err e
+
 -- one more, where there is a number
 abbrev pub one_more_than : {E : Type 0} → Result ℕ E → Result ℕ E
 one_more_than (Ok n) = Ok (n + 1)
@@ -210,6 +216,10 @@ any_of h l = searched any_pick false h 0 l
 unfoldable pub find_mapped : {A B E : Type 0} → (A → Result (Option B) E) → List (Result A E) → Result (Option B) E
 find_mapped h l = searched find_map_pick None h 0 l
 
+-- the first item x for which h x is true, if there is one
+unfoldable pub found : {A E : Type 0} → (A → Result Bool E) → List (Result A E) → Result (Option A) E
+found h l = searched find_pick None h 0 l
+
 -- how many items stand before the first item x for which h x is true, if there is one
 unfoldable pub position_in : {A E : Type 0} → (A → Result Bool E) → List (Result A E) → Result (Option ℕ) E
 position_in h l = searched position_pick None h 0 l
@@ -228,6 +238,22 @@ unfoldable pub collected : {A E : Type 0} → List (Result A E) → Result (List
 collected [] = Ok []
 collected (Ok x ∷ l) = before x (collected l)
 collected (Err e ∷ l) = Err e
+
+-- the last of the items, and none of no items; or the first failure
+unfoldable pub last_of : {A E : Type 0} → List (Result A E) → Result (Option A) E
+last_of l = on_value (collected l) (λ xs. Ok (last_or None xs))
+
+-- an item before the first or the second of two lists
+abbrev pub to_side : {A E : Type 0} → A → Bool → Result (List A × List A) E → Result (List A × List A) E
+to_side x true (Ok p) = Ok (x ∷ p.0, p.1)
+to_side x false (Ok p) = Ok (p.0, x ∷ p.1)
+to_side x v (Err e) = Err e
+
+-- the items x for which h x is true, and those for which it is false; or the failure of the list or of h that comes first
+unfoldable pub parted : {A E : Type 0} → (A → Result Bool E) → List (Result A E) → Result (List A × List A) E
+parted h [] = Ok ([], [])
+parted h (Ok x ∷ l) = on_value (h x) (λ v. to_side x v (parted h l))
+parted h (Err e ∷ l) = Err e
 
 -- ---- joining, leaving out by number, and what consumers make
 
@@ -287,10 +313,15 @@ CollectedBy made l (Err (Memory a)) = ⊤
 unfoldable pub CollectedAs : {A E C : Type 0} → (List A → C → Type 0) → List (Result A E) → Result C (Fault E) → Type 0
 CollectedAs made l r = CollectedBy made l r
 
--- what f makes of the value, where there is one
-abbrev pub on_value : {A B E : Type 0} → Result A E → (A → Result B E) → Result B E
-on_value (Ok x) f = f x
-on_value (Err e) f = Err e
+-- The collections are those of the two lists that `parted` makes, the failure is the one that it answers; want of memory says nothing of the list.
+abbrev pub PartedBy : {A E C : Type 0} → (List A → C → Type 0) → (A → Result Bool E) → List (Result A E) → Result (C × C) (Fault E) → Type 0
+PartedBy {A = A} made h l (Ok c) = (ps : List A × List A) × (parted h l ≡ Ok ps) × made ps.0 c.0 × made ps.1 c.1
+PartedBy made h l (Err (Source e)) = parted h l ≡ Err e
+PartedBy made h l (Err (Memory a)) = ⊤
+
+-- What `partition` answers over the list.
+unfoldable pub PartedAs : {A E C : Type 0} → (List A → C → Type 0) → (A → Result Bool E) → List (Result A E) → Result (C × C) (Fault E) → Type 0
+PartedAs made h l r = PartedBy made h l r
 
 -- the value that h makes of the value so far and each item, or its first failure, or the list's first, converted
 unfoldable pub folded : {A B E E' : Type 0} → (E → E') → (B → A → Result B E') → B → List (Result A E) → Result B E'

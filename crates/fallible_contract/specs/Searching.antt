@@ -2,7 +2,7 @@
 use Rattle.std.specs.Prelude.{◌≡◌, ℕ, ◌+◌, length, List, [], ◌∷◌, ◌++◌, map, Bool, true, false, Option, Some, None, Result, Ok, Err}
 use Rattle.std.specs.List.{FoldsTo}
 use Rattle.fallible_contract.specs.Traces.{Answered, Run, item}
-use Rattle.fallible_contract.specs.Folds.{HoldsAtEachTurn}
+use Rattle.fallible_contract.specs.Folds.{HoldsAtEachTurn, stopped_answer}
 use Rattle.fallible_contract.specs.declared.folds.Exit.{Exit}
 use Rattle.fallible_contract.specs.declared.folds.Exit.TheVariants.{Ended, Failed, Stopped}
 
@@ -22,6 +22,11 @@ any_pick n x false = None
 abbrev pub find_map_pick : {A B : Type 0} → ℕ → A → Option B → Option (Option B)
 find_map_pick n x (Some y) = Some (Some y)
 find_map_pick n x None = None
+
+-- `find` answers the first item for which the predicate is true
+abbrev pub find_pick : {A : Type 0} → ℕ → A → Bool → Option (Option A)
+find_pick n x true = Some (Some x)
+find_pick n x false = None
 
 -- `position` answers how many items stand before the first for which the predicate is true
 abbrev pub position_pick : {A : Type 0} → ℕ → A → Bool → Option (Option ℕ)
@@ -77,3 +82,8 @@ abbrev pub answer_by : {C E R : Type 0} → R → Exit C E (Result R E) → Resu
 answer_by none (Ended c) = Ok none
 answer_by none (Failed c e) = Err e
 answer_by none (Stopped r) = r
+
+-- One test, seen by the fold that `find` is: the test goes on, or it ends the search with the item or its failure, and hands back what is carried.
+abbrev pub FindTurn : {A E C : Type 0} → (C → A → Result Bool E → C → Type 0) → C → A → Result C (C × Result A E) → Type 0
+FindTurn tests c x (Ok d) = Passed tests find_pick c x d
+FindTurn tests c x (Err p) = (n : ℕ) → Decided tests find_pick n c x (stopped_answer p.1) p.0

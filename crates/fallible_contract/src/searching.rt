@@ -1,6 +1,7 @@
-//! What a search makes of the fold that it goes through.
-ghost use Rattle.std.specs.Prelude.{◌≡◌, Result};
-ghost use Rattle.fallible_contract.specs.Searching.{answer_by};
+//! Searches: the test of one that carries a value, and what a search makes of the fold that it goes through.
+ghost use Rattle.std.specs.Prelude.{◌≡◌, Bool, Result};
+ghost use Rattle.std.specs.Borrow.{Bor};
+ghost use Rattle.fallible_contract.specs.Searching.{FindTurn, answer_by};
 
 use crate::folds::Exit;
 
@@ -12,5 +13,46 @@ pub fn answer_at<C: Drop, R: Drop, E>(exit: Exit<C, E, Result<R, E>>, none: R) -
         Exit::Ended(_) => Ok(none),
         Exit::Failed(_, e) => Err(e),
         Exit::Stopped(answer) => answer,
+    }
+}
+
+/// One test of a search that carries a value: on the carried value and an item it hands the value back, and answers whether the search ends there. Every closure of this shape is one.
+pub trait Test<C, A, E> {
+    // Holds of a carried value and an item on which the test may be made.
+    ghost can_test: { Self → C → A → Type 0 };
+
+    // Holds of those, of what the test may answer, and of what is carried then.
+    ghost tests: { Self → C → A → Result Bool E → C → Type 0 };
+
+    /// Makes the test: `Ok(true)` ends the search with the item, `Ok(false)` goes on, and a failure ends it.
+    fn test(&self, carried: C, item: &A) -> (C, Result<bool, E>)
+        requires { can_test self.now carried item.now }
+        ensures { tests self.now carried item.now result.1 result.0 };
+}
+
+impl<C, A, E, F: Fn(C, &A) -> (C, Result<bool, E>)> Test<C, A, E> for F {
+    ghost can_test = { λ f c x. (shown : Bor A) → shown.now ≡ x → F.pre f c shown };
+
+    ghost tests = { λ f c x v d. (shown : Bor A) × (shown.now ≡ x) × F.post f c shown (d, v) };
+
+    fn test(&self, carried: C, item: &A) -> (C, Result<bool, E>) {
+        self(carried, item)
+    }
+}
+
+/// One turn of the fold that `find` is: it stops at an item that the test accepts or fails on, and goes on after one that it refuses.
+pub fn tested<C, A: Drop, E, K: Test<C, A, E>>(
+    k: &K,
+    carried: C,
+    item: A,
+) -> Result<C, (C, Result<A, E>)>
+    requires { K.can_test k.now carried item }
+    ensures { FindTurn (K.tests k.now) carried item result }
+{
+    let (carried, answer) = k.test(carried, &item);
+    match answer {
+        Ok(true) => Err((carried, Ok(item))),
+        Ok(false) => Ok(carried),
+        Err(e) => Err((carried, Err(e))),
     }
 }

@@ -24,14 +24,14 @@ ghost use Rattle.fallible_core.specs.Borrowed.{borrowed};
 ghost use Rattle.fallible_core.specs.Peeking.Peekable.{peekable_parts, peekable_contract};
 ghost use Rattle.fallible_core.specs.Joining.Cycle.{cycle_parts};
 ghost use Rattle.fallible_core.specs.declared.joining.chain.StillDrawn.TheVariants.{Both};
-ghost use Rattle.fallible_contract.specs.Collecting.{Collects, PushTurn, Asks, PartTurn, Partitions};
-ghost use Rattle.fallible_contract.specs.Lists.{items, Lists, Acts, Repeats, repeated, EachLists, flattened, mapped, filtered, taken, counted, filter_mapped, inspected, ActsWithState, scanned, skipped_while, taken_while, numbered, failures_mapped, pointed_to, CollectedAs, chained, skipped, stepped, zipped, NoFailureAtEnd, nth_of, folded, ActsWith, Converts, all_of, any_of, find_mapped, position_in, each_done, best_by, best_by_key, compared};
+ghost use Rattle.fallible_contract.specs.Collecting.{Collects, PushTurn, Asks, PartTurn, Partitions, MadeOfParts, PairRefused, PairTurn};
+ghost use Rattle.fallible_contract.specs.Lists.{items, Lists, Acts, Repeats, repeated, EachLists, flattened, mapped, filtered, taken, counted, filter_mapped, inspected, ActsWithState, scanned, skipped_while, taken_while, numbered, failures_mapped, pointed_to, CollectedAs, chained, skipped, stepped, zipped, NoFailureAtEnd, nth_of, folded, ActsWith, Converts, all_of, any_of, find_mapped, found, last_of, PartedAs, position_in, each_done, best_by, best_by_key, compared};
 ghost use Rattle.fallible_contract.specs.Comparing.{by_cmp, by_eq, read_as, reads_eq, reads_ne, reads_lt, reads_le, reads_gt, reads_ge, ComparedWith, ReadWith};
 ghost use Rattle.std.specs.declared.cmp.Ordering.{Ordering};
 ghost use Rattle.std.specs.declared.cmp.Ordering.TheVariants.{Less, Greater};
 ghost use Rattle.fallible_contract.specs.Picking.{call_at_two, takes_at_two, PickCall, takes_in_pick, Picked, KeyCall, Best, BestByKey};
-ghost use Rattle.fallible_contract.specs.Searching.{CallableInSearch, Searched, SearchTurn, PlacedTurn, all_pick, any_pick, find_map_pick, position_pick, each_pick};
-ghost use Rattle.fallible_contract.specs.Folds.{HoldsAtEachTurn, CallableCarrying, Carried, CallableInFold, call_with, takes_with, FoldTurn, Folded, Counted, Nth};
+ghost use Rattle.fallible_contract.specs.Searching.{CallableInSearch, Searched, SearchTurn, PlacedTurn, FindTurn, all_pick, any_pick, find_map_pick, find_pick, position_pick, each_pick};
+ghost use Rattle.fallible_contract.specs.Folds.{HoldsAtEachTurn, CallableCarrying, Carried, CallableInFold, call_with, takes_with, FoldTurn, Folded, Counted, LastOf, Nth};
 
 mod borrowed;
 mod boxed;
@@ -46,13 +46,13 @@ use crate::filtering::{Filter, FilterMap, SkipWhile};
 use crate::joining::{Chain, Cycle, FlatMap, Flatten, StillDrawn, Zip};
 use crate::number::Number;
 use crate::one_to_one::{Cloned, Enumerate, Inspect, Map, MapErr, Scan};
-use crate::parting::part;
+use crate::parting::{part, push_pair};
 use crate::peeking::Peekable;
 use crate::picking::{best_by, best_by_key, without_key};
 use crate::traits::conversion::IntoFallibleIterator;
 use fallible_contract::collecting::{Collect, Fault};
-use fallible_contract::folds::{Exit, Is, Turn};
-use fallible_contract::searching::answer_at;
+use fallible_contract::folds::{Exit, Is, Turn, unpack};
+use fallible_contract::searching::{Test, answer_at, tested};
 use std::alloc::{AllocError, Global};
 use std::cmp::Ordering;
 use std::convert::Infallible;
@@ -143,6 +143,33 @@ pub trait FallibleIterator: Drop + Sized {
         }
     }
 
+    /// The last item up to the end; none where no item comes before it. The first failure is the answer, and nothing is drawn after it.
+    ///
+    /// It asks a number to come.
+    fn last(mut self) -> Result<Option<Self::Item>, Self::Error>
+    where
+        Self::Item: Drop,
+        requires can { contract.can self }
+        requires finite { contract.has_end self }
+        ensures last { LastOf contract.steps self result }
+        ensures is { (l : List (Result Self.Item Self.Error)) → Lists contract.steps self l → result ≡ last_of l }
+    {
+        let keep = |last: Option<Self::Item>, x: Self::Item| -> Result<
+            Option<Self::Item>,
+            Infallible,
+        >
+            ensures { result ≡ Ok (Some x) }
+        {
+            let _ = last;
+            Ok(Some(x))
+        };
+        match self.try_fold_carrying(None, &keep) {
+            Exit::Ended(last) => Ok(last),
+            Exit::Failed(_, e) => Err(e),
+            Exit::Stopped(never) => match never {},
+        }
+    }
+
     /// The item with n items before it. It draws at most n + 1 answers; a failure or an end that comes first is the answer, and nothing is drawn after it.
     fn nth(&mut self, n: usize) -> Result<Option<Self::Item>, Self::Error>
     where
@@ -212,6 +239,27 @@ pub trait FallibleIterator: Drop + Sized {
         ensures is { (convert : Self.Error → E) (h : B → Self.Item → Result B E) (l : List (Result Self.Item Self.Error)) → Converts E.from_gives convert → ActsWith (call_with Self.Item.as_is F.FnMut) f h → Lists contract.steps self l → result ≡ folded convert h init l }
     {
         self.try_fold(init, f)
+    }
+
+    // Draws until the test accepts an item or fails on it, a failure or an end comes, and hands the carried value back at every exit. `find` goes through it, and a type may override it for both. It is no part of the surface.
+    fn find_carrying<C, K: Test<C, Self::Item, Self::Error>>(
+        &mut self,
+        init: C,
+        k: &K,
+    ) -> (C, Result<Option<Self::Item>, Self::Error>)
+    where
+        Self::Item: Drop,
+        requires can { contract.can self.old }
+        requires finite { contract.has_end self.old }
+        requires callable { CallableInSearch (K.tests k.now) find_pick contract.steps (K.can_test k.now) self.old init }
+        ensures searched { Searched (K.tests k.now) find_pick contract.steps None self.old init result.1 self.new result.0 }
+        ensures stays { Stays contract self.old self.new }
+    {
+        let turn = |carried: C, x: Self::Item| -> Result<C, (C, Result<Self::Item, Self::Error>)>
+            requires { K.can_test k.now carried x }
+            ensures { FindTurn (K.tests k.entry.now) carried x result }
+        { tested(k, carried, x) };
+        unpack(self.try_fold_carrying(init, &turn))
     }
 
     // What the other functions know of a draw: see `Goes`.
@@ -525,7 +573,8 @@ pub trait FallibleIterator: Drop + Sized {
         requires can { contract.can self }
         requires finite { contract.has_end self }
         requires callable { HoldsAtEachTurn contract.steps (Asks (call_at F.FnMut)) (takes_at F.FnMut) self f }
-        ensures { Partitions contract.steps (call_at F.FnMut) B.made B.empty_refuses B.push_refuses self f result }
+        ensures partitions { Partitions contract.steps (call_at F.FnMut) B.made B.empty_refuses B.push_refuses self f result }
+        ensures is { (h : Self.Item → Result Bool Self.Error) (l : List (Result Self.Item Self.Error)) → Acts (call_at F.FnMut) f h → Lists contract.steps self l → PartedAs B.made h l result }
     {
         let first = match B::empty(alloc) {
             Ok(made) => made,
@@ -543,6 +592,40 @@ pub trait FallibleIterator: Drop + Sized {
             Exit::Ended((_, sides)) => Ok(sides),
             Exit::Failed(_, e) => Err(Fault::Source(e)),
             Exit::Stopped(fault) => Err(fault),
+        }
+    }
+
+    /// The first parts of the pairs up to the end in one collection, and the second parts in another. Both collections are made first; then each pair is pushed as it is drawn, its first part before its second, and nothing is reserved ahead. Where an item fails, nothing is drawn after it: `Fault::Source` is the first failure, before which all pairs were accepted; `Fault::Memory` says that a making was refused, and nothing was drawn, or that a push was refused, whose pair is the last that was drawn and is dropped whole.
+    ///
+    /// It asks a number to come.
+    final fn unzip<A, B, FromA: Collect<A>, FromB: Collect<B>>(
+        mut self,
+        alloc: Global,
+    ) -> Result<(FromA, FromB), Fault<Self::Error>>
+    where
+        Self: FallibleIterator<Item = (A, B)>,
+        A: Drop,
+        B: Drop,
+        requires can { contract.can self }
+        requires finite { contract.has_end self }
+        ensures collects { Collects contract.steps (MadeOfParts FromA.made FromB.made) (FromA.empty_refuses ⊎ FromB.empty_refuses) (PairRefused FromA.made FromB.made FromA.push_refuses FromB.push_refuses) self result }
+        ensures is { (l : List (Result (A × B) Self.Error)) → Lists contract.steps self l → CollectedAs (MadeOfParts FromA.made FromB.made) l result }
+    {
+        let first = match FromA::empty(alloc) {
+            Ok(made) => made,
+            Err(refused) => return Err(Fault::Memory(refused)),
+        };
+        let second = match FromB::empty(alloc) {
+            Ok(made) => made,
+            Err(refused) => return Err(Fault::Memory(refused)),
+        };
+        let turn = |carried: (FromA, FromB), x: (A, B)| -> Result<(FromA, FromB), AllocError>
+            ensures { PairTurn FromA.made FromB.made FromA.push_refuses FromB.push_refuses carried x result }
+        { push_pair(carried, x) };
+        match self.try_fold_carrying((first, second), &turn) {
+            Exit::Ended(both) => Ok(both),
+            Exit::Failed(_, e) => Err(Fault::Source(e)),
+            Exit::Stopped(refusal) => Err(Fault::Memory(refusal)),
         }
     }
 
@@ -623,6 +706,32 @@ pub trait FallibleIterator: Drop + Sized {
             }
         };
         answer_at(self.try_fold_carrying(f, &turn), false)
+    }
+
+    /// The first item for which the predicate is true; none where no such item comes before the end. It draws up to and with that item, the first failure or the first end, and calls the predicate on each item drawn, in order; where it fails, its failure is the answer. Nothing is drawn after the answer that decides, and what is left may be drawn from again.
+    ///
+    /// It asks a number to come, and that the predicate may be called on a reference to each item that may come until it first answers true.
+    final fn find<F>(&mut self, f: F) -> Result<Option<Self::Item>, Self::Error>
+    where
+        Self::Item: Drop,
+        F: FnMut(&Self::Item) -> Result<bool, Self::Error>,
+        requires can { contract.can self.old }
+        requires finite { contract.has_end self.old }
+        requires callable { CallableInSearch (call_at F.FnMut) find_pick contract.steps (takes_at F.FnMut) self.old f }
+        ensures searched { (g : F) × Searched (call_at F.FnMut) find_pick contract.steps None self.old f result self.new g }
+        ensures is { (h : Self.Item → Result Bool Self.Error) (l : List (Result Self.Item Self.Error)) → Acts (call_at F.FnMut) f h → Lists contract.steps self.old l → result ≡ found h l }
+        ensures stays { Stays contract self.old self.new }
+    {
+        let test = |f: F, x: &Self::Item| -> (F, Result<bool, Self::Error>)
+            requires { takes_at F.FnMut f x.now }
+            ensures { call_at F.FnMut f x.now result.1 result.0 }
+        {
+            let mut f = f;
+            let answer = f(x);
+            (f, answer)
+        };
+        let (_, answer) = self.find_carrying(f, &test);
+        answer
     }
 
     /// The first value that the closure answers on the items in order, each of which it is called on once. A failure that comes first, of this iterator or of the closure, is the answer, and so is an end. Nothing is drawn after the answer that decides, and what is left may be drawn from again.

@@ -1,8 +1,36 @@
 // Of equal items the last is the best; a failure is the answer, and nothing is drawn after it.
-use fallible_iterator::FallibleIterator;
+use fallible_iterator::{FallibleIterator, empty, once};
 use fallible_testing::listed::listed;
 use std::cmp::Ordering;
 use std::test::Fail;
+
+#[test]
+fn last_of_four_items(rt: HostRuntime) -> Result<(), Fail> {
+    let it = listed::<u32, u32, 4>(rt.alloc(), [Ok(0), Ok(1), Ok(2), Ok(3)])?;
+    assert_eq!(rt; it.last(), Ok(Some(3)));
+    Ok(())
+}
+
+#[test]
+fn last_of_no_item_is_none(rt: HostRuntime) -> Result<(), Fail> {
+    assert_eq!(rt; empty::<u32, u32>().last(), Ok(None));
+    Ok(())
+}
+
+#[test]
+fn last_fails_at_a_failure_and_draws_nothing_after_it(rt: HostRuntime) -> Result<(), Fail> {
+    let mut it = listed::<u32, u32, 3>(rt.alloc(), [Ok(0), Err(9), Ok(2)])?;
+    assert_eq!(rt; it.by_ref().last(), Err(9));
+    assert_eq!(rt; it.next(), Ok(Some(2)));
+    Ok(())
+}
+
+#[test]
+fn last_of_a_chain_with_an_empty_back_is_the_front_s(rt: HostRuntime) -> Result<(), Fail> {
+    let it = once::<u32, u32>(1).chain(empty());
+    assert_eq!(rt; it.last(), Ok(Some(1)));
+    Ok(())
+}
 
 #[test]
 fn max_of_four_items(rt: HostRuntime) -> Result<(), Fail> {

@@ -1,6 +1,8 @@
 // Searches end with the item that decides, and the next draw goes on after it.
-use fallible_iterator::{FallibleIterator, from_fn};
+use fallible_iterator::{FallibleIterator, IntoFallible, from_fn};
 use fallible_testing::listed::listed;
+use std::convert::Infallible;
+use std::ops::Range;
 use std::test::Fail;
 
 #[test]
@@ -105,6 +107,67 @@ fn any_fails_where_its_predicate_fails(rt: HostRuntime) -> Result<(), Fail> {
     let mut it = listed::<u32, (), 4>(rt.alloc(), [Ok(0), Ok(1), Ok(2), Ok(4)])?;
     assert_eq!(rt; it.any(|_: u32| Err(())), Err(()));
     assert_eq!(rt; it.next(), Ok(Some(1)));
+    Ok(())
+}
+
+#[test]
+fn find_stops_at_the_first_odd_item(rt: HostRuntime) -> Result<(), Fail> {
+    let mut it = listed::<u32, u32, 4>(rt.alloc(), [Ok(0), Ok(1), Ok(2), Ok(3)])?;
+    assert_eq!(rt; it.find(|x: &u32| Ok(*x % 2 == 1)), Ok(Some(1)));
+    assert_eq!(rt; it.next(), Ok(Some(2)));
+    Ok(())
+}
+
+#[test]
+fn find_fails_where_its_predicate_fails(rt: HostRuntime) -> Result<(), Fail> {
+    let mut it = listed::<u32, u32, 4>(rt.alloc(), [Ok(0), Ok(1), Ok(2), Ok(3)])?;
+    let found = it.find(|x: &u32| if *x == 2 { Err(29) } else { Ok(false) });
+    assert_eq!(rt; found, Err(29));
+    assert_eq!(rt; it.next(), Ok(Some(3)));
+    Ok(())
+}
+
+#[test]
+fn find_of_an_item_before_a_failing_call(rt: HostRuntime) -> Result<(), Fail> {
+    let mut it = listed::<u32, u32, 4>(rt.alloc(), [Ok(0), Ok(1), Ok(2), Ok(3)])?;
+    let found = it.find(|x: &u32| if *x == 2 { Err(29) } else { Ok(true) });
+    assert_eq!(rt; found, Ok(Some(0)));
+    assert_eq!(rt; it.next(), Ok(Some(1)));
+    Ok(())
+}
+
+#[test]
+fn find_fails_at_a_failure_and_goes_on_after_it(rt: HostRuntime) -> Result<(), Fail> {
+    let mut it = listed::<u32, u32, 3>(rt.alloc(), [Ok(0), Err(9), Ok(2)])?;
+    assert_eq!(rt; it.find(|x: &u32| Ok(*x == 2)), Err(9));
+    assert_eq!(rt; it.find(|x: &u32| Ok(*x == 2)), Ok(Some(2)));
+    assert_eq!(rt; it.find(|x: &u32| Ok(*x == 2)), Ok(None));
+    Ok(())
+}
+
+#[test]
+fn find_calls_its_predicate_once_an_item(rt: HostRuntime) -> Result<(), Fail> {
+    let mut it = listed::<u32, u32, 4>(rt.alloc(), [Ok(0), Ok(1), Ok(2), Ok(3)])?;
+    let mut calls = 0u32;
+    let found = it.find(|x: &u32| {
+        calls = calls.wrapping_add(1);
+        Ok(*x == 2)
+    });
+    assert_eq!(rt; found, Ok(Some(2)));
+    assert_eq!(rt; calls, 3);
+    Ok(())
+}
+
+// A `take` above the last item gives the number to come that a search finds.
+#[test]
+fn find_within_a_flatten_keeps_the_inner_iterator(rt: HostRuntime) -> Result<(), Fail> {
+    let outer = [Ok(IntoFallible::from(1..3)), Ok(IntoFallible::from(3..6))];
+    let it = listed::<IntoFallible<Range<u32>>, Infallible, 2>(rt.alloc(), outer)?;
+    let mut it = it.flatten().take(9);
+    assert_eq!(rt; it.find(|x: &u32| Ok(*x == 1)), Ok(Some(1)));
+    assert_eq!(rt; it.next(), Ok(Some(2)));
+    assert_eq!(rt; it.find(|x: &u32| Ok(*x == 4)), Ok(Some(4)));
+    assert_eq!(rt; it.next(), Ok(Some(5)));
     Ok(())
 }
 

@@ -2,12 +2,12 @@
 use Rattle.std.specs.Prelude.{◌≡◌, List, [], ◌∷◌, ◌++◌, map, Result, Some, None, Ok, Err}
 use Rattle.std.specs.List.{FoldsTo}
 use Rattle.std.specs.declared.alloc.AllocError.{AllocError}
-use Rattle.std.proofs.Common.{sym, subst, append_assoc, append-nil}
+use Rattle.std.proofs.Common.{refl, sym, ap, subst, append_assoc, append-nil}
 use Rattle.fallible_contract.specs.declared.folds.Exit.{Exit}
 use Rattle.fallible_contract.specs.declared.folds.Exit.TheVariants.{Ended, Failed, Stopped}
 use Rattle.fallible_contract.specs.Traces.{Answered, Run, item}
 use Rattle.fallible_contract.specs.Folds.{CarryingExit, Carried}
-use Rattle.fallible_contract.specs.Collecting.{CollectsAll, FailsWith, RefusesItem, PushTurn}
+use Rattle.fallible_contract.specs.Collecting.{CollectsAll, FailsWith, RefusesItem, PushTurn, MadeOfParts, PairRefused, PairTurn}
 
 -- Turns that go on add the item to what is made; one that stops with q stops as `stops` says.
 module _ {A C R : Type 0} (made : List A → C → Type 0) (turns : C → A → Result C R → Type 0)
@@ -56,3 +56,15 @@ module _ {S A E C : Type 0} {steps : S → Answered A E → S → Type 0} {made 
 
   pub collect_refused : {a : AllocError} → Carried steps turns s c (Stopped a) t → RefusesItem steps made refuses s
   collect_refused {a} w = gathered_stopped made turns (λ c x d p. turn c x (Ok d) p) steps is_empty a refuses (λ c x p. turn c x (Err a) p) w
+
+-- ---- unzip
+
+module _ {A B C D : Type 0} (made_first : List A → C → Type 0) (made_second : List B → D → Type 0) (first_refuses : C → A → Type 0) (second_refuses : D → B → Type 0) where
+  parts_more : {X Y : Type 0} (h : X → Y) (items : List X) (x : X) → map h items ++ h x ∷ [] ≡ map h (items ++ x ∷ [])
+  parts_more h [] x = refl
+  parts_more h (y ∷ items) x = ap (λ l. h y ∷ l) (parts_more h items x)
+
+  -- a turn with a pair pushes it to the pair of the collections
+  pub pair_pushed : (c : C × D) (x : A × B) (r : Result (C × D) AllocError) → PairTurn made_first made_second first_refuses second_refuses c x r → PushTurn (MadeOfParts made_first made_second) (PairRefused made_first made_second first_refuses second_refuses) c x r
+  pair_pushed c x (Ok d) w = λ items h. (subst (λ l. made_first l d.0) (parts_more (λ p. p.0) items x) (w.0 (map (λ p. p.0) items) h.0), subst (λ l. made_second l d.1) (parts_more (λ p. p.1) items x) (w.1 (map (λ p. p.1) items) h.1))
+  pair_pushed c x (Err a) w = w

@@ -1,13 +1,13 @@
 -- Folds, one turn at a time.
-use Rattle.std.specs.Prelude.{◌≡◌, ℕ, ◌+◌, ◌<◌, length, List, [], ◌∷◌, Result, Some, None, Ok, Err}
-use Rattle.std.specs.List.{FoldsTo}
+use Rattle.std.specs.Prelude.{◌≡◌, ℕ, ◌+◌, ◌<◌, length, List, [], ◌∷◌, Option, Result, Some, None, Ok, Err}
+use Rattle.std.specs.List.{FoldsTo, last_or}
 use Rattle.std.proofs.Common.{refl, sym, ap, subst, arith}
 use Rattle.fallible_contract.specs.declared.folds.Exit.{Exit}
 use Rattle.fallible_contract.specs.declared.folds.Exit.TheVariants.{Ended, Failed, Stopped}
 use Rattle.fallible_contract.specs.Traces.{Answered, Yields, item}
 use Rattle.fallible_contract.specs.Contract.{Contract, AtMost, Lawful}
 use Rattle.fallible_contract.proofs.Lemmas.Contract.{number_of_at_most}
-use Rattle.fallible_contract.specs.Folds.{CountExit, Counted, HoldsAtEachTurn, FoldTurn, FoldExit, Folded, carrying_turn, CarryingExit, Carried}
+use Rattle.fallible_contract.specs.Folds.{CountExit, Counted, LastExit, LastOf, HoldsAtEachTurn, FoldTurn, FoldExit, Folded, carrying_turn, CarryingExit, Carried}
 
 module _ {S A E C : Type 0} {steps : S → Answered A E → S → Type 0} {goes_on : C → A → C → Type 0} {P : C → A → Type 0} where
   -- what holds at each turn holds at the first, and at each turn after it
@@ -117,3 +117,29 @@ module _ {S A E R : Type 0} {steps : S → Answered A E → S → Type 0} {turns
 
   pub counted_failed : {s t : S} {n : ℕ} {e : E} → Carried steps turns s 0 (Failed n e) t → Counted steps s (Err e)
   counted_failed c = counted_by c _ (count_failed turns c.last c.carried _ _ c.exit)
+
+-- ---- `last` by the fold that carries the item that came last
+
+module _ {A R : Type 0} (turns : Option A → A → Result (Option A) R → Type 0)
+    (turn : (o : Option A) (x : A) (r : Result (Option A) R) → turns o x r → r ≡ Ok (Some x)) where
+  last_kept : (items : List A) (o p : Option A) → FoldsTo (carrying_turn turns) o items p → p ≡ last_or o items
+  last_kept [] o p e = sym e
+  last_kept (x ∷ items) o p w = let same : w.0 ≡ Some x = (let e = turn o x (Ok w.0) w.1 in cc) in last_kept items (Some x) p (subst (λ (q : Option A). FoldsTo (carrying_turn turns) q items p) same w.2)
+
+  last_exit : {E : Type 0} (last : Answered A E) (o p : Option A) (items : List A) → o ≡ last_or None items → CarryingExit turns o last (Ended p) → LastExit items last (Ok p)
+  last_exit (Ok None) o p items is h = (let same : p ≡ o = cc in cc)
+  last_exit (Ok (Some x)) o p items is h = absurd (let e = h.2 in cc)
+  last_exit (Err e) o p items is h = absurd cc
+
+  last_failure : {E : Type 0} (last : Answered A E) (o p : Option A) (e : E) (items : List A) → CarryingExit turns o last (Failed p e) → LastExit items last (Err e)
+  last_failure (Ok None) o p e items h = absurd cc
+  last_failure (Ok (Some x)) o p e items h = absurd (let e = h.2 in cc)
+  last_failure (Err d) o p e items h = (let same : e ≡ d = cc in cc)
+
+module _ {S A E R : Type 0} {steps : S → Answered A E → S → Type 0} {turns : Option A → A → Result (Option A) R → Type 0}
+    (turn : (o : Option A) (x : A) (r : Result (Option A) R) → turns o x r → r ≡ Ok (Some x)) where
+  pub last_ended : {s t : S} {p : Option A} → Carried steps turns s None (Ended p) t → LastOf steps s (Ok p)
+  last_ended {t = t} {p = p} c = record { items = c.items; last = c.last; left = t; ran = c.ran; exit = last_exit turns turn c.last c.carried p c.items (last_kept turns turn c.items None c.carried c.went) c.exit }
+
+  pub last_failed : {s t : S} {p : Option A} {e : E} → Carried steps turns s None (Failed p e) t → LastOf steps s (Err e)
+  last_failed {t = t} {p = p} {e = e} c = record { items = c.items; last = c.last; left = t; ran = c.ran; exit = last_failure turns turn c.last c.carried p e c.items c.exit }

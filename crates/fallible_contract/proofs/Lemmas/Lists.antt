@@ -1,5 +1,6 @@
 -- Lists of answers: what callers state.
 pub mod Compared
 pub mod Drawn
+pub mod Parted
 pub mod Passing
 pub mod Searched

@@ -1,14 +1,14 @@
 -- What a consumer makes of a source whose answers are listed.
-use Rattle.std.specs.Prelude.{◌≡◌, ℕ, ◌+◌, ◌-◌, zero, suc, length, Some, None, Result, Ok, Err, List, [], ◌∷◌, ◌++◌, map}
-use Rattle.std.specs.List.{FoldsTo}
+use Rattle.std.specs.Prelude.{◌≡◌, ℕ, ◌+◌, ◌-◌, zero, suc, length, Option, Some, None, Result, Ok, Err, List, [], ◌∷◌, ◌++◌, map}
+use Rattle.std.specs.List.{FoldsTo, last_or}
 use Rattle.std.proofs.Common.{refl, sym, ap, subst, ◌∙◌, arith}
 use Rattle.std.specs.declared.alloc.AllocError.{AllocError}
 use Rattle.fallible_contract.specs.Traces.{Answered, Run, item}
-use Rattle.fallible_contract.specs.Folds.{Counted, CountExit, Nth, NthExit, fold_turn, FoldExit, Folded}
+use Rattle.fallible_contract.specs.Folds.{Counted, CountExit, LastOf, LastExit, Nth, NthExit, fold_turn, FoldExit, Folded}
 use Rattle.fallible_contract.specs.declared.collecting.Fault.{Fault}
 use Rattle.fallible_contract.specs.declared.collecting.Fault.TheVariants.{Source, Memory}
 use Rattle.fallible_contract.specs.Collecting.{Collects}
-use Rattle.fallible_contract.specs.Lists.{AlwaysGives, Lists, one_more_than, counted, nth_of, before, collected, CollectedBy, CollectedAs, on_value, folded, ActsWith, Converts}
+use Rattle.fallible_contract.specs.Lists.{AlwaysGives, Lists, one_more_than, counted, last_of, nth_of, before, collected, CollectedBy, CollectedAs, on_value, folded, ActsWith, Converts}
 
 module _ {A E : Type 0} where
   -- what is left of the list at the last answer that was drawn
@@ -92,6 +92,18 @@ module _ {S A E C : Type 0} {steps : S → Answered A E → S → Type 0} (made 
 pub refused_as : {A E C : Type 0} (made : List A → C → Type 0) (l : List (Result A E)) (a : AllocError) → CollectedAs made l (Err (Memory a))
 unfolding CollectedAs
 refused_as made l a = tt
+
+-- ---- last
+
+module _ {A E : Type 0} where
+  last_by : (items : List A) (last : Answered A E) (r : Result (Option A) E) (l rest : List (Result A E)) → l ≡ map (λ x. Ok x) items ++ rest → LeftAt last rest → LastExit items last r → r ≡ last_of l
+  unfolding last_of
+  last_by items (Ok None) r l rest is left exit = exit ∙ sym (ap (λ (w : Result (List A) E). on_value w (λ xs. Ok (last_or None xs))) (ap collected is ∙ ap (λ (k : List (Result A E)). collected (map (λ x. Ok x) items ++ k)) left ∙ collected_items items))
+  last_by items (Err e) r l rest is left exit = exit ∙ sym (ap (λ (w : Result (List A) E). on_value w (λ xs. Ok (last_or None xs))) (ap collected is ∙ ap (λ (k : List (Result A E)). collected (map (λ x. Ok x) items ++ k)) left.1 ∙ collected_failure items left.0 e))
+  last_by items (Ok (Some x)) r l rest is left exit = absurd exit
+
+pub last_is : {S A E : Type 0} {steps : S → Answered A E → S → Type 0} {s : S} {r : Result (Option A) E} (l : List (Result A E)) → LastOf steps s r → Lists steps s l → r ≡ last_of l
+last_is {steps = steps} {s = s} {r = r} l c i = let d = drawn steps c.items c.last l s c.left i.runs c.ran in last_by c.items c.last r l d.rest d.list_is d.left c.exit
 
 -- ---- nth
 

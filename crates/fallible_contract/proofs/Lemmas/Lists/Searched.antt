@@ -3,8 +3,8 @@ use Rattle.std.specs.Prelude.{◌≡◌, ℕ, ◌+◌, length, Bool, true, false
 use Rattle.std.specs.List.{FoldsTo}
 use Rattle.std.proofs.Common.{sym, ap, subst, ◌∙◌, arith}
 use Rattle.fallible_contract.specs.Traces.{Answered}
-use Rattle.fallible_contract.specs.Lists.{Lists, Acts, decided, picked_or, searched, all_of, any_of, find_mapped, position_in, each_done}
-use Rattle.fallible_contract.specs.Searching.{Passed, Decided, SearchExit, Searched, all_pick, any_pick, find_map_pick, position_pick, each_pick}
+use Rattle.fallible_contract.specs.Lists.{Lists, Acts, decided, picked_or, searched, all_of, any_of, find_mapped, found, position_in, each_done}
+use Rattle.fallible_contract.specs.Searching.{Passed, Decided, SearchExit, Searched, all_pick, any_pick, find_map_pick, find_pick, position_pick, each_pick}
 use Rattle.fallible_contract.proofs.Lemmas.Lists.Drawn.{LeftAt, drawn}
 
 module _ {A E F V R : Type 0} (call : F → A → Result V E → F → Type 0) (pick : ℕ → A → V → Option R) (none : R) (h : A → Result V E) (f : F) (acts : Acts call f h) where
@@ -47,6 +47,10 @@ module _ {S A E F : Type 0} {steps : S → Answered A E → S → Type 0} {s t :
   pub find_map_is : {B : Type 0} {call : F → A → Result (Option B) E → F → Type 0} (h : A → Result (Option B) E) {r : Result (Option B) E} → Acts call f h → Searched call find_map_pick steps None s f r t g → r ≡ find_mapped h l
   unfolding find_mapped
   find_map_is {call = call} h acts d = searched_is call find_map_pick None h f acts l d i
+
+  pub find_is : {call : F → A → Result Bool E → F → Type 0} (h : A → Result Bool E) {r : Result (Option A) E} → Acts call f h → Searched call find_pick steps None s f r t g → r ≡ found h l
+  unfolding found
+  find_is {call = call} h acts d = searched_is call find_pick None h f acts l d i
 
   pub position_is : {call : F → A → Result Bool E → F → Type 0} (h : A → Result Bool E) {r : Result (Option ℕ) E} → Acts call f h → Searched call position_pick steps None s f r t g → r ≡ position_in h l
   unfolding position_in
