@@ -7,5 +7,3 @@ pub mod drawing;
 pub mod generic;
 pub mod ranges;
 pub mod reading;
-#[cfg(test)]
-mod tests;

@@ -1,16 +1,16 @@
-//! The values of the callers on small inputs.
-use crate::computing::{
+// The values of the callers on small inputs.
+use fallible_callers::computing::{
     above_100, above_100_of_ten, all_up_to_100, both_columns, collected_above_100,
     doubled_above_1000, fold_of_one, fourth_above_100, places, products, running_sums, sum,
 };
-use crate::consuming::{
+use fallible_callers::consuming::{
     all_above_100, any_above_100, first_above_100, greatest_above_100, last_above_100,
     parted_at_100, place_above_100, two_columns,
 };
-use crate::drawing::{draw_all, second_if_above, third_draw, third_of};
-use crate::generic::{mean, mean_of_nest, sum_of_nest};
-use crate::ranges::{runs, sum_below};
-use crate::reading::{Bytes, ReadFailed, newlines_of_three};
+use fallible_callers::drawing::{draw_all, second_if_above, third_draw, third_of};
+use fallible_callers::generic::{mean, mean_of_nest, sum_of_nest};
+use fallible_callers::ranges::{runs, sum_below};
+use fallible_callers::reading::{Bytes, ReadFailed, newlines_of_three};
 use fallible_iterator::{FallibleIterator, Fault, convert, empty};
 use std::alloc::{AllocError, Global};
 use std::convert::Infallible;

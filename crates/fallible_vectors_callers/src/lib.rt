@@ -1,0 +1,5 @@
+//! Vectors: what the callers of `fallible_callers` compute on small inputs. They stand apart, so that the callers are proved once.
+#![tactic(auto)]
+
+#[cfg(test)]
+mod values;
