@@ -92,6 +92,18 @@ unpacked (Ended c) = (c, Ok None)
 unpacked (Failed c e) = (c, Err e)
 unpacked (Stopped p) = (p.0, stopped_answer p.1)
 
+-- What a fold hands back that no turn stops: the value carried at the end, or the failure.
+abbrev pub ValueAt : {C E R : Type 0} → Exit C E R → Result C E → Type 0
+ValueAt (Ended c) r = r ≡ Ok c
+ValueAt (Failed c e) r = r ≡ Err e
+ValueAt (Stopped s) r = ⊥
+
+-- What `try_fold` makes of the fold that carries the value and the closure: the last value, the failure, converted, or the closure's error.
+abbrev pub FoldedAt : {B F D E : Type 0} → (D → E → Type 0) → Exit (B × F) D E → Result B E → Type 0
+FoldedAt from (Ended p) r = r ≡ Ok p.0
+FoldedAt {E = E} from (Failed p d) r = (e : E) × from d e × (r ≡ Err e)
+FoldedAt from (Stopped e) r = r ≡ Err e
+
 -- ---- count
 
 -- the number of items n at an end, or the failure

@@ -1,6 +1,9 @@
 //! Folds that carry a value.
-ghost use Rattle.std.specs.Prelude.{◌≡◌, Result};
-ghost use Rattle.fallible_contract.specs.Folds.{unpacked};
+ghost use Rattle.std.specs.Prelude.{◌≡◌, ◌+◌, ◌-◌, ◌^◌, ◌<◌, ⊤, Result, Ok, Some};
+ghost use Rattle.fallible_contract.specs.Folds.{unpacked, ValueAt, FoldedAt, FoldTurn, call_with, takes_with};
+
+use std::convert::Infallible;
+use std::marker::PhantomData;
 
 /// How a fold ended that hands the value which it carried back at every exit: at the source's end, at a failure of the source, or where the closure stopped it.
 #[derive(Drop)]
@@ -69,5 +72,82 @@ impl<T> Is<T> for T {
 
     fn this(self) -> T {
         self
+    }
+}
+
+/// The turn of `count`: it carries the number of items.
+#[derive(Drop)]
+pub struct Counting;
+
+impl<A: Drop> Turn<usize, A, Infallible> for Counting {
+    ghost can_turn = { λ _ n _. n < 2 ^ 64 - 1 };
+
+    ghost turns = { λ _ n _ r. r ≡ Ok (n + 1) };
+
+    /// One more.
+    fn turn(&self, carried: usize, _item: A) -> Result<usize, Infallible> {
+        Ok(carried + 1)
+    }
+}
+
+/// The turn of `last`: it carries the item that came last.
+#[derive(Drop)]
+pub struct KeepingLast;
+
+impl<A: Drop> Turn<Option<A>, A, Infallible> for KeepingLast {
+    ghost can_turn = { λ _ _ _. ⊤ };
+
+    ghost turns = { λ _ _ x r. r ≡ Ok (Some x) };
+
+    /// The item in the place of the one before.
+    fn turn(&self, _carried: Option<A>, item: A) -> Result<Option<A>, Infallible> {
+        Ok(Some(item))
+    }
+}
+
+/// The turn of `try_fold`: it carries the value so far and the closure. `T` is the type of the items, as the closure names it.
+#[derive(Drop)]
+pub struct Folding<T> {
+    /// the name of the items' type
+    pub marker: PhantomData<T>,
+}
+
+impl<T, A: Is<T>, B, E, F: FnMut(B, T) -> Result<B, E>> Turn<(B, F), A, E> for Folding<T> {
+    ghost can_turn = { λ _ p x. takes_with A.as_is F.FnMut p.1 p.0 x };
+
+    ghost turns = { λ _ p x r. FoldTurn (call_with A.as_is F.FnMut) p x r };
+
+    /// The closure's answer on the value so far and the item.
+    fn turn(&self, carried: (B, F), item: A) -> Result<(B, F), E> {
+        let (value, mut f) = carried;
+        match f(value, item.this()) {
+            Ok(value) => Ok((value, f)),
+            Err(e) => Err(e),
+        }
+    }
+}
+
+/// What a fold that no turn stops hands back: the value carried at the end, or the failure.
+pub fn value_at<C: Drop, E>(exit: Exit<C, E, Infallible>) -> Result<C, E>
+    ensures { ValueAt exit result }
+{
+    match exit {
+        Exit::Ended(value) => Ok(value),
+        Exit::Failed(_, e) => Err(e),
+        Exit::Stopped(never) => match never {},
+    }
+}
+
+/// What `try_fold` makes of the fold that carries the closure: the last value, the failure, converted, or the closure's error.
+pub fn folded_at<B: Drop, F: Drop, D, E: From<D>>(exit: Exit<(B, F), D, E>) -> Result<B, E>
+    ensures { FoldedAt E.from_gives exit result }
+{
+    match exit {
+        Exit::Ended(carried) => {
+            let (value, _) = carried;
+            Ok(value)
+        }
+        Exit::Failed(_, e) => Err(E::from(e)),
+        Exit::Stopped(e) => Err(e),
     }
 }

@@ -3,7 +3,7 @@ ghost use Rattle.std.specs.Prelude.{◌≡◌, Bool, Result};
 ghost use Rattle.std.specs.Borrow.{Bor};
 ghost use Rattle.fallible_contract.specs.Searching.{FindTurn, answer_by};
 
-use crate::folds::Exit;
+use crate::folds::{Exit, Turn};
 
 /// What a search answers, by how its fold ended: `none` at the end, the source's failure, or what the fold stopped with.
 pub fn answer_at<C: Drop, R: Drop, E>(exit: Exit<C, E, Result<R, E>>, none: R) -> Result<R, E>
@@ -40,19 +40,25 @@ impl<C, A, E, F: Fn(C, &A) -> (C, Result<bool, E>)> Test<C, A, E> for F {
     }
 }
 
-/// One turn of the fold that `find` is: it stops at an item that the test accepts or fails on, and goes on after one that it refuses.
-pub fn tested<C, A: Drop, E, K: Test<C, A, E>>(
-    k: &K,
-    carried: C,
-    item: A,
-) -> Result<C, (C, Result<A, E>)>
-    requires { K.can_test k.now carried item }
-    ensures { FindTurn (K.tests k.now) carried item result }
-{
-    let (carried, answer) = k.test(carried, &item);
-    match answer {
-        Ok(true) => Err((carried, Ok(item))),
-        Ok(false) => Ok(carried),
-        Err(e) => Err((carried, Err(e))),
+/// The turn of the fold that `find` is: it stops at an item that the test accepts or fails on, and goes on after one that it refuses.
+#[derive(Drop)]
+pub struct Finding<'a, K> {
+    /// the test
+    pub test: &'a K,
+}
+
+impl<'a, C, A: Drop, E, K: Test<C, A, E>> Turn<C, A, (C, Result<A, E>)> for Finding<'a, K> {
+    ghost can_turn = { λ k c x. K.can_test k.test.now c x };
+
+    ghost turns = { λ k c x r. FindTurn (K.tests k.test.now) c x r };
+
+    /// The test, made once.
+    fn turn(&self, carried: C, item: A) -> Result<C, (C, Result<A, E>)> {
+        let (carried, answer) = self.test.test(carried, &item);
+        match answer {
+            Ok(true) => Err((carried, Ok(item))),
+            Ok(false) => Ok(carried),
+            Err(e) => Err((carried, Err(e))),
+        }
     }
 }

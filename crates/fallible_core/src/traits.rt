@@ -51,11 +51,12 @@ use crate::peeking::Peekable;
 use crate::picking::{best_by, best_by_key, without_key};
 use crate::traits::conversion::IntoFallibleIterator;
 use fallible_contract::collecting::{Collect, Fault};
-use fallible_contract::folds::{Exit, Is, Turn, unpack};
-use fallible_contract::searching::{Test, answer_at, tested};
+use fallible_contract::folds::{
+    Counting, Exit, Folding, Is, KeepingLast, Turn, folded_at, unpack, value_at,
+};
+use fallible_contract::searching::{Finding, Test, answer_at};
 use std::alloc::{AllocError, Global};
 use std::cmp::Ordering;
-use std::convert::Infallible;
 use std::marker::PhantomData;
 
 /// An iterator whose `next` may fail. It may go on after an end and after a failure.
@@ -129,18 +130,7 @@ pub trait FallibleIterator: Drop + Sized {
         ensures counted { Counted contract.steps self result }
         ensures is { (l : List (Result Self.Item Self.Error)) → Lists contract.steps self l → result ≡ counted l }
     {
-        let one_more = |n: usize, x: Self::Item| -> Result<usize, Infallible>
-            requires { n < 2 ^ 64 - 1 }
-            ensures { result ≡ Ok (n + 1) }
-        {
-            let _ = x;
-            Ok(n + 1)
-        };
-        match self.try_fold_carrying(0, &one_more) {
-            Exit::Ended(n) => Ok(n),
-            Exit::Failed(_, e) => Err(e),
-            Exit::Stopped(never) => match never {},
-        }
+        value_at(self.try_fold_carrying(0, &Counting))
     }
 
     /// The last item up to the end; none where no item comes before it. The first failure is the answer, and nothing is drawn after it.
@@ -154,20 +144,7 @@ pub trait FallibleIterator: Drop + Sized {
         ensures last { LastOf contract.steps self result }
         ensures is { (l : List (Result Self.Item Self.Error)) → Lists contract.steps self l → result ≡ last_of l }
     {
-        let keep = |last: Option<Self::Item>, x: Self::Item| -> Result<
-            Option<Self::Item>,
-            Infallible,
-        >
-            ensures { result ≡ Ok (Some x) }
-        {
-            let _ = last;
-            Ok(Some(x))
-        };
-        match self.try_fold_carrying(None, &keep) {
-            Exit::Ended(last) => Ok(last),
-            Exit::Failed(_, e) => Err(e),
-            Exit::Stopped(never) => match never {},
-        }
+        value_at(self.try_fold_carrying(None, &KeepingLast))
     }
 
     /// The item with n items before it. It draws at most n + 1 answers; a failure or an end that comes first is the answer, and nothing is drawn after it.
@@ -207,21 +184,10 @@ pub trait FallibleIterator: Drop + Sized {
         ensures is { (convert : Self.Error → E) (h : B → Self.Item → Result B E) (l : List (Result Self.Item Self.Error)) → Converts E.from_gives convert → ActsWith (call_with Self.Item.as_is F.FnMut) f h → Lists contract.steps self.old l → result ≡ folded convert h init l }
         ensures stays { Stays contract self.old self.new }
     {
-        let turn = |carried: (B, F), x: Self::Item| -> Result<(B, F), E>
-            requires { F.pre carried.1 carried.0 (Self.Item.as_is x) }
-            ensures { FoldTurn (call_with Self.Item.as_is F.FnMut) carried x result }
-        {
-            let (value, mut f) = carried;
-            match f(value, x.this()) {
-                Ok(value) => Ok((value, f)),
-                Err(e) => Err(e),
-            }
+        let turn = Folding {
+            marker: PhantomData,
         };
-        match self.try_fold_carrying((init, f), &turn) {
-            Exit::Ended((value, _)) => Ok(value),
-            Exit::Failed(_, e) => Err(E::from(e)),
-            Exit::Stopped(e) => Err(e),
-        }
+        folded_at(self.try_fold_carrying((init, f), &turn))
     }
 
     /// `try_fold` on the iterator itself, where the closure fails with the iterator's own error. `T` is the type of the items, and `E` that of the failures.
@@ -255,10 +221,7 @@ pub trait FallibleIterator: Drop + Sized {
         ensures searched { Searched (K.tests k.now) find_pick contract.steps None self.old init result.1 self.new result.0 }
         ensures stays { Stays contract self.old self.new }
     {
-        let turn = |carried: C, x: Self::Item| -> Result<C, (C, Result<Self::Item, Self::Error>)>
-            requires { K.can_test k.now carried x }
-            ensures { FindTurn (K.tests k.entry.now) carried x result }
-        { tested(k, carried, x) };
+        let turn = Finding { test: k };
         unpack(self.try_fold_carrying(init, &turn))
     }
 

@@ -7,7 +7,7 @@ use Rattle.fallible_contract.specs.declared.folds.Exit.TheVariants.{Ended, Faile
 use Rattle.fallible_contract.specs.Traces.{Answered, Yields, item}
 use Rattle.fallible_contract.specs.Contract.{Contract, AtMost, Lawful}
 use Rattle.fallible_contract.proofs.Lemmas.Contract.{number_of_at_most}
-use Rattle.fallible_contract.specs.Folds.{CountExit, Counted, LastExit, LastOf, HoldsAtEachTurn, FoldTurn, FoldExit, Folded, carrying_turn, CarryingExit, Carried}
+use Rattle.fallible_contract.specs.Folds.{CountExit, Counted, LastExit, LastOf, HoldsAtEachTurn, FoldTurn, FoldExit, Folded, carrying_turn, CarryingExit, Carried, ValueAt, FoldedAt}
 
 module _ {S A E C : Type 0} {steps : S → Answered A E → S → Type 0} {goes_on : C → A → C → Type 0} {P : C → A → Type 0} where
   -- what holds at each turn holds at the first, and at each turn after it
@@ -143,3 +143,20 @@ module _ {S A E R : Type 0} {steps : S → Answered A E → S → Type 0} {turns
 
   pub last_failed : {s t : S} {p : Option A} {e : E} → Carried steps turns s None (Failed p e) t → LastOf steps s (Err e)
   last_failed {t = t} {p = p} {e = e} c = record { items = c.items; last = c.last; left = t; ran = c.ran; exit = last_failure turns turn c.last c.carried p e c.items c.exit }
+
+-- ---- what each makes of its fold
+
+pub counted_at : {S A E R : Type 0} {steps : S → Answered A E → S → Type 0} {turns : ℕ → A → Result ℕ R → Type 0} {s t : S} {r : Result ℕ E} → ((n : ℕ) (x : A) (r : Result ℕ R) → turns n x r → r ≡ Ok (n + 1)) → (exit : Exit ℕ E R) → Carried steps turns s 0 exit t → ValueAt exit r → Counted steps s r
+counted_at {steps = steps} {s = s} turn (Ended n) c v = subst (λ r. Counted steps s r) (sym v) (counted_ended turn c)
+counted_at {steps = steps} {s = s} turn (Failed n e) c v = subst (λ r. Counted steps s r) (sym v) (counted_failed turn c)
+counted_at turn (Stopped q) c v = absurd v
+
+pub last_at : {S A E R : Type 0} {steps : S → Answered A E → S → Type 0} {turns : Option A → A → Result (Option A) R → Type 0} {s t : S} {r : Result (Option A) E} → ((o : Option A) (x : A) (r : Result (Option A) R) → turns o x r → r ≡ Ok (Some x)) → (exit : Exit (Option A) E R) → Carried steps turns s None exit t → ValueAt exit r → LastOf steps s r
+last_at {steps = steps} {s = s} turn (Ended o) c v = subst (λ r. LastOf steps s r) (sym v) (last_ended turn c)
+last_at {steps = steps} {s = s} turn (Failed o e) c v = subst (λ r. LastOf steps s r) (sym v) (last_failed turn c)
+last_at turn (Stopped q) c v = absurd v
+
+pub folded_by_turns : {S A E F B E' : Type 0} {steps : S → Answered A E → S → Type 0} {f : F → B → A → Result B E' → F → Type 0} {from : E → E' → Type 0} {turns : B × F → A → Result (B × F) E' → Type 0} {s t : S} {b : B} {h : F} {r : Result B E'} → ((p : B × F) (x : A) (r : Result (B × F) E') → turns p x r → FoldTurn f p x r) → (exit : Exit (B × F) E E') → Carried steps turns s (b, h) exit t → FoldedAt from exit r → Folded steps f from s b h r t
+folded_by_turns {steps = steps} {f = f} {from = from} {s = s} {t = t} {b = b} {h = h} turn (Ended q) c v = subst (λ r. Folded steps f from s b h r t) (sym v) (folded_ended turn q c)
+folded_by_turns {steps = steps} {f = f} {from = from} {s = s} {t = t} {b = b} {h = h} turn (Failed q e) c v = subst (λ r. Folded steps f from s b h r t) (sym v.2) (folded_failed turn q e v.0 c v.1)
+folded_by_turns {steps = steps} {f = f} {from = from} {s = s} {t = t} {b = b} {h = h} turn (Stopped e) c v = subst (λ r. Folded steps f from s b h r t) (sym v) (folded_stopped turn e c)
