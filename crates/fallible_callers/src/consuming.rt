@@ -2,8 +2,7 @@
 ghost use Rattle.std.specs.Prelude.{◌≡◌, Result, Ok, Option, nat_lt};
 ghost use Rattle.std.specs.Ordering.{nat_cmp};
 ghost use Rattle.std.specs.declared.cmp.Ordering.TheVariants.{Greater, Less};
-ghost use Rattle.fallible_contract.specs.Collecting.{MadeOfParts};
-ghost use Rattle.fallible_contract.specs.Lists.{results, filtered, numbered, skipped, taken, all_of, any_of, found, last_of, position_in, best_by, CollectedAs, PartedAs};
+ghost use Rattle.fallible_contract.specs.Lists.{results, filtered, numbered, skipped, taken, all_of, any_of, found, last_of, position_in, best_by, PartedAs, UnzippedAs};
 
 use fallible_iterator::{FallibleIterator, Fault, convert};
 use std::alloc::Global;
@@ -78,7 +77,7 @@ pub fn two_columns(
     alloc: Global,
     readings: Vec<Result<u32, u8>>,
 ) -> Result<(Vec<usize>, Vec<u32>), Fault<u8>>
-    ensures { CollectedAs (MadeOfParts (λ xs v. v.items ≡ xs) (λ xs v. v.items ≡ xs)) (numbered 0 (results readings.items)) result }
+    ensures { UnzippedAs (λ xs v. v.items ≡ xs) (λ xs v. v.items ≡ xs) (numbered 0 (results readings.items)) result }
 {
     convert(readings.into_iter()).enumerate().unzip(alloc)
 }

@@ -9,6 +9,7 @@ use Rattle.std.specs.declared.cmp.Ordering.{Ordering}
 use Rattle.std.specs.declared.cmp.Ordering.TheVariants.{Less, Equal, Greater}
 use Rattle.fallible_contract.specs.Picking.{better, better_key, item_of}
 use Rattle.fallible_contract.specs.Searching.{all_pick, any_pick, find_map_pick, find_pick, position_pick, each_pick}
+use Rattle.fallible_contract.specs.Collecting.{MadeOfParts}
 use Rattle.fallible_contract.specs.declared.collecting.Fault.{Fault}
 use Rattle.fallible_contract.specs.declared.collecting.Fault.TheVariants.{Source, Memory}
 
@@ -312,6 +313,10 @@ CollectedBy made l (Err (Memory a)) = ⊤
 -- What `collect` answers over the list.
 unfoldable pub CollectedAs : {A E C : Type 0} → (List A → C → Type 0) → List (Result A E) → Result C (Fault E) → Type 0
 CollectedAs made l r = CollectedBy made l r
+
+-- What `unzip` answers over the list: what `collect` into the pair of the two collections answers.
+unfoldable pub UnzippedAs : {A B E C D : Type 0} → (List A → C → Type 0) → (List B → D → Type 0) → List (Result (A × B) E) → Result (C × D) (Fault E) → Type 0
+UnzippedAs made_first made_second l r = CollectedBy (MadeOfParts made_first made_second) l r
 
 -- The collections are those of the two lists that `parted` makes, the failure is the one that it answers; want of memory says nothing of the list.
 abbrev pub PartedBy : {A E C : Type 0} → (List A → C → Type 0) → (A → Result Bool E) → List (Result A E) → Result (C × C) (Fault E) → Type 0

@@ -25,7 +25,7 @@ ghost use Rattle.fallible_core.specs.Peeking.Peekable.{peekable_parts, peekable_
 ghost use Rattle.fallible_core.specs.Joining.Cycle.{cycle_parts};
 ghost use Rattle.fallible_core.specs.declared.joining.chain.StillDrawn.TheVariants.{Both};
 ghost use Rattle.fallible_contract.specs.Collecting.{Collects, PushTurn, Asks, PartTurn, Partitions, MadeOfParts, PairRefused, PairTurn};
-ghost use Rattle.fallible_contract.specs.Lists.{items, Lists, Acts, Repeats, repeated, EachLists, flattened, mapped, filtered, taken, counted, filter_mapped, inspected, ActsWithState, scanned, skipped_while, taken_while, numbered, failures_mapped, pointed_to, CollectedAs, chained, skipped, stepped, zipped, NoFailureAtEnd, nth_of, folded, ActsWith, Converts, all_of, any_of, find_mapped, found, last_of, PartedAs, position_in, each_done, best_by, best_by_key, compared};
+ghost use Rattle.fallible_contract.specs.Lists.{items, Lists, Acts, Repeats, repeated, EachLists, flattened, mapped, filtered, taken, counted, filter_mapped, inspected, ActsWithState, scanned, skipped_while, taken_while, numbered, failures_mapped, pointed_to, CollectedAs, chained, skipped, stepped, zipped, NoFailureAtEnd, nth_of, folded, ActsWith, Converts, all_of, any_of, find_mapped, found, last_of, PartedAs, UnzippedAs, position_in, each_done, best_by, best_by_key, compared};
 ghost use Rattle.fallible_contract.specs.Comparing.{by_cmp, by_eq, read_as, reads_eq, reads_ne, reads_lt, reads_le, reads_gt, reads_ge, ComparedWith, ReadWith};
 ghost use Rattle.std.specs.declared.cmp.Ordering.{Ordering};
 ghost use Rattle.std.specs.declared.cmp.Ordering.TheVariants.{Less, Greater};
@@ -572,7 +572,7 @@ pub trait FallibleIterator: Drop + Sized {
         requires can { contract.can self }
         requires finite { contract.has_end self }
         ensures collects { Collects contract.steps (MadeOfParts FromA.made FromB.made) (FromA.empty_refuses ⊎ FromB.empty_refuses) (PairRefused FromA.made FromB.made FromA.push_refuses FromB.push_refuses) self result }
-        ensures is { (l : List (Result (A × B) Self.Error)) → Lists contract.steps self l → CollectedAs (MadeOfParts FromA.made FromB.made) l result }
+        ensures is { (l : List (Result (A × B) Self.Error)) → Lists contract.steps self l → UnzippedAs FromA.made FromB.made l result }
     {
         let first = match FromA::empty(alloc) {
             Ok(made) => made,

@@ -7,8 +7,8 @@ use Rattle.fallible_contract.specs.Traces.{Answered, Run, item}
 use Rattle.fallible_contract.specs.Folds.{Counted, CountExit, LastOf, LastExit, Nth, NthExit, fold_turn, FoldExit, Folded}
 use Rattle.fallible_contract.specs.declared.collecting.Fault.{Fault}
 use Rattle.fallible_contract.specs.declared.collecting.Fault.TheVariants.{Source, Memory}
-use Rattle.fallible_contract.specs.Collecting.{Collects}
-use Rattle.fallible_contract.specs.Lists.{AlwaysGives, Lists, one_more_than, counted, last_of, nth_of, before, collected, CollectedBy, CollectedAs, on_value, folded, ActsWith, Converts}
+use Rattle.fallible_contract.specs.Collecting.{Collects, MadeOfParts}
+use Rattle.fallible_contract.specs.Lists.{AlwaysGives, Lists, one_more_than, counted, last_of, nth_of, before, collected, CollectedBy, CollectedAs, UnzippedAs, on_value, folded, ActsWith, Converts}
 
 module _ {A E : Type 0} where
   -- what is left of the list at the last answer that was drawn
@@ -88,7 +88,16 @@ module _ {S A E C : Type 0} {steps : S → Answered A E → S → Type 0} (made 
   unfolding CollectedAs
   collected_as r l k i = collected_by r l k i
 
+module _ {S A B E C D : Type 0} {steps : S → Answered (A × B) E → S → Type 0} (made_first : List A → C → Type 0) (made_second : List B → D → Type 0) (empty_refuses : Type 0) (refuses : C × D → A × B → Type 0) {s : S} where
+  pub unzipped_as : (r : Result (C × D) (Fault E)) (l : List (Result (A × B) E)) → Collects steps (MadeOfParts made_first made_second) empty_refuses refuses s r → Lists steps s l → UnzippedAs made_first made_second l r
+  unfolding UnzippedAs
+  unzipped_as r l k i = collected_by (MadeOfParts made_first made_second) empty_refuses refuses r l k i
+
 -- want of memory says nothing of the list
+pub not_unzipped_as : {A B E C D : Type 0} (made_first : List A → C → Type 0) (made_second : List B → D → Type 0) (l : List (Result (A × B) E)) (a : AllocError) → UnzippedAs made_first made_second l (Err (Memory a))
+unfolding UnzippedAs
+not_unzipped_as made_first made_second l a = tt
+
 pub refused_as : {A E C : Type 0} (made : List A → C → Type 0) (l : List (Result A E)) (a : AllocError) → CollectedAs made l (Err (Memory a))
 unfolding CollectedAs
 refused_as made l a = tt
