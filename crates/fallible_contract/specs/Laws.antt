@@ -3,6 +3,7 @@ pub mod Closing
 pub mod Closures
 pub mod Contract
 pub mod Counting
+pub mod Ends
 pub mod Passing
 pub mod ToCome
 pub mod WithSteps

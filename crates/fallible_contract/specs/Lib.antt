@@ -7,6 +7,7 @@ pub mod Comparing
 pub mod Contract
 pub mod Counting
 pub mod Definitions
+pub mod Ends
 pub mod Folds
 pub mod Held
 pub mod Hints

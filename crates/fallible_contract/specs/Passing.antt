@@ -1,5 +1,5 @@
 -- Adapters that let the answers of one source pass: of each item a closure is asked, and by its answer the item is kept as another, left out, or replaced by a failure or an end.
-use Rattle.std.specs.Prelude.{◌≡◌, ℕ, Option, Result, Some, Ok, Err, List, [], ◌∷◌, map, None, is_some, Bool, ◌⊎◌}
+use Rattle.std.specs.Prelude.{◌≡◌, ℕ, Option, Result, Some, Ok, Err, List, [], ◌∷◌, map, None, is_some, IsSomeAnd, Bool, ⊤, ◌⊎◌}
 use Rattle.std.specs.List.{filter_map}
 use Rattle.fallible_contract.specs.Traces.{LastKept, Answered, Run, item, failure, end}
 use Rattle.fallible_contract.specs.Contract.{Contract}
@@ -85,3 +85,17 @@ stopped_outcome (Err e) = failed e
 abbrev pub PassTurn : {F X R B E : Type 0} → (F → X → R → F → Type 0) → (X → R → Outcome B E) → F → X → Result F (F × Result B E) → Type 0
 PassTurn {R = R} call outcome f x (Ok g) = (v : R) × call f x v g × (outcome x v ≡ left_out)
 PassTurn {R = R} call outcome f x (Err p) = (v : R) × call f x v p.0 × (outcome x v ≡ stopped_outcome p.1)
+
+-- ---- one draw of such an adapter that leaves nothing out, as what it makes of one answer of its source
+
+-- An item becomes what the closure's answer on it makes of it; a failure and an end pass, without a call.
+abbrev pub PassAnswer : {F X R B E : Type 0} → (F → X → R → F → Type 0) → (X → R → Outcome B E) → F → Answered X E → Answered B E → F → Type 0
+PassAnswer {R = R} call outcome f (Ok (Some x)) r g = (v : R) × call f x v g × (outcome_answer (outcome x v) ≡ Some r)
+PassAnswer call outcome f (Ok None) r g = (r ≡ Ok None) × (g ≡ f)
+PassAnswer call outcome f (Err e) r g = (r ≡ Err e) × (g ≡ f)
+
+-- where the answer is an item, the slot is full and the closure in it may be called on the item
+abbrev pub TakesDrawn : {F X E : Type 0} → (F → X → Type 0) → Option F → Answered X E → Type 0
+TakesDrawn pre slot (Ok (Some x)) = IsSomeAnd slot (λ f. pre f x)
+TakesDrawn pre slot (Ok None) = ⊤
+TakesDrawn pre slot (Err e) = ⊤

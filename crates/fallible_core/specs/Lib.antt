@@ -1,6 +1,7 @@
 -- What the clauses of `src/` cite, and in `Laws` what follows from it: lemmas that the ghost members cite.
 pub mod Borrowed
 pub mod Cutting
+pub mod Ends
 pub mod Filtering
 pub mod Joining
 pub mod Laws

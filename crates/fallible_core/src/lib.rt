@@ -3,6 +3,7 @@
 
 mod comparing;
 pub mod cutting;
+pub mod ends;
 pub mod filtering;
 pub mod joining;
 pub mod laws;
@@ -14,9 +15,11 @@ mod picking;
 pub mod traits;
 
 pub use cutting::{Fuse, Skip, StepBy, Take, TakeWhile};
+pub use ends::Rev;
 pub use filtering::{Filter, FilterMap, SkipWhile};
 pub use joining::{Chain, Cycle, FlatMap, Flatten, Zip};
 pub use one_to_one::{Cloned, Enumerate, Inspect, Map, MapErr, Scan};
 pub use peeking::Peekable;
 pub use traits::FallibleIterator;
 pub use traits::conversion::IntoFallibleIterator;
+pub use traits::double_ended::DoubleEndedFallibleIterator;

@@ -12,6 +12,7 @@ ghost use Rattle.fallible_core.specs.Filtering.Filter.{filter_parts, filter_cont
 ghost use Rattle.fallible_core.specs.Filtering.FilterMap.{filter_map_parts, filter_map_contract};
 ghost use Rattle.fallible_core.specs.OneToOne.MapErr.{map_err_parts, map_err_contract};
 ghost use Rattle.fallible_core.specs.OneToOne.Cloned.{cloned_parts, cloned_contract};
+ghost use Rattle.fallible_core.specs.Ends.Rev.{rev_parts, rev_contract};
 ghost use Rattle.fallible_core.specs.Cutting.Take.{take_parts, take_contract};
 ghost use Rattle.fallible_core.specs.Cutting.TakeWhile.{take_while_parts, take_while_contract};
 ghost use Rattle.fallible_core.specs.Cutting.Fuse.{fuse_parts, fuse_contract};
@@ -36,12 +37,14 @@ ghost use Rattle.fallible_contract.specs.Folds.{HoldsAtEachTurn, CallableCarryin
 mod borrowed;
 mod boxed;
 pub mod conversion;
+pub mod double_ended;
 
 use crate::comparing::{
     ByCmp, ByEq, ByPartialCmp, compare, ordered, read_eq, read_ge, read_gt, read_le, read_lt,
     read_ne,
 };
 use crate::cutting::{Fuse, Skip, StepBy, Take, TakeWhile};
+use crate::ends::Rev;
 use crate::filtering::{Filter, FilterMap, SkipWhile};
 use crate::joining::{Chain, Cycle, FlatMap, Flatten, StillDrawn, Zip};
 use crate::number::Number;
@@ -50,6 +53,7 @@ use crate::parting::{part, push_pair};
 use crate::peeking::Peekable;
 use crate::picking::{best_by, best_by_key, without_key};
 use crate::traits::conversion::IntoFallibleIterator;
+use crate::traits::double_ended::DoubleEndedFallibleIterator;
 use fallible_contract::collecting::{Collect, Fault};
 use fallible_contract::folds::{
     Counting, Exit, Folding, Is, KeepingLast, Turn, folded_at, unpack, value_at,
@@ -419,6 +423,16 @@ pub trait FallibleIterator: Drop + Sized {
         ensures lists { (l : List (Result (Bor T) Self.Error)) → ((x y : T) → T.is_clone x y → y ≡ x) → ((x : T) → T.is_infallible x) → Lists contract.steps self l → Lists (seen_as cloned_parts (cloned_contract T.is_clone T.is_infallible Self.Error.from_gives contract)).steps result (pointed_to l) }
     {
         Cloned { it: self }
+    }
+
+    /// Swaps the ends: a draw from the adapter is a draw from behind, and the other way round. Making the adapter draws nothing.
+    final fn rev(self) -> Rev<Self>
+    where
+        Self: DoubleEndedFallibleIterator,
+        ensures parts { rev_parts result ≡ self }
+        ensures lists { (l : List (Result Self.Item Self.Error)) → Lists Self.DoubleEndedFallibleIterator.ends.steps self l → Lists (seen_as rev_parts (rev_contract contract Self.DoubleEndedFallibleIterator.ends)).steps result l }
+    {
+        Rev { it: self }
     }
 
     /// Gives the answers up to the first end, and then those of `it`. The draw that meets that end draws `it` at once, and from then on only `it` is drawn. A failure passes, and changes no side. Making the adapter draws nothing: it calls `into_fallible_iter` once, and keeps what that gives.

@@ -5,13 +5,13 @@ use Rattle.std.proofs.Common.{refl, sym, ap, subst}
 use Rattle.fallible_contract.specs.declared.folds.Exit.{Exit}
 use Rattle.fallible_contract.specs.Traces.{Answered, Run, Yields, item}
 use Rattle.fallible_contract.specs.Contract.{Contract, Lawful}
-use Rattle.fallible_contract.specs.Closures.{Calls, Reaches, IsCallable, call_in}
+use Rattle.fallible_contract.specs.Closures.{Calls, Reaches, IsCallable, IsCallableIn, call_in}
 use Rattle.fallible_contract.proofs.Lemmas.Definitions.{FirstOf, IsByAnswers}
 use Rattle.fallible_contract.proofs.Lemmas.Contract.{given_after}
 use Rattle.fallible_contract.specs.Laws.Closures.{reaches_here, reaches_weaken, reaches_from}
 use Rattle.fallible_contract.specs.Folds.{HoldsAtEachTurn, CarryingExit, Carried, stopped_answer, unpacked}
 use Rattle.fallible_contract.proofs.Lemmas.Folds.{turns_map}
-use Rattle.fallible_contract.specs.Passing.{PassTurn, Outcome, PassTrace, call_of}
+use Rattle.fallible_contract.specs.Passing.{PassTurn, PassAnswer, TakesDrawn, Outcome, kept, left_out, failed, an_end, outcome_answer, PassTrace, call_of}
 use Rattle.fallible_contract.specs.Laws.Passing.{Passes, done, ends, fails, keeps, refuses, closes, leaves_out, to_passes, from_passes}
 
 -- ---- a whole trace is its answers, one draw after another
@@ -101,3 +101,28 @@ module _ {F H X R : Type 0} (call : F → X → R → F → Type 0) (held : H �
 -- a closure in its slot
 pub passes_in_slot : {S F X R B E : Type 0} {steps : S → Answered X E → S → Type 0} {call : F → X → R → F → Type 0} {outcome : X → R → Outcome B E} {s t : S} {f g : F} {trace : List (Answered B E)} → PassTrace steps call outcome (s, f) trace (t, g) → PassTrace steps (call_in call) outcome (s, Some f) trace (t, Some g)
 passes_in_slot {F = F} {call = call} p = passes_held {F = F} {H = Option F} call (call_in call) Some (λ f x v g called. called) p
+
+-- ---- one draw that leaves nothing out
+
+module _ {S F X R B E : Type 0} {steps : S → Answered X E → S → Type 0} {call : F → X → R → F → Type 0} {outcome : X → R → Outcome B E} {s t : S} {f g : F} where
+  item_passed : (x : X) (v : R) (o : Outcome B E) (r : Answered B E) → steps s (item x) t → call f x v g → outcome x v ≡ o → outcome_answer o ≡ Some r → Passes steps call outcome s f (r ∷ []) t g
+  item_passed x v (kept y) r step called is at = let same : item y ≡ r = cc in subst (λ (q : Answered B E). Passes steps call outcome s f (q ∷ []) t g) same (keeps x v y step called is done)
+  item_passed x v left_out r step called is at = absurd cc
+  item_passed x v (failed e) r step called is at = let same : Err e ≡ r = cc in subst (λ (q : Answered B E). Passes steps call outcome s f (q ∷ []) t g) same (refuses x v e step called is done)
+  item_passed x v an_end r step called is at = let same : Ok None ≡ r = cc in subst (λ (q : Answered B E). Passes steps call outcome s f (q ∷ []) t g) same (closes x v step called is done)
+
+  answer_passes : {r : Answered B E} (drawn : Answered X E) → steps s drawn t → PassAnswer call outcome f drawn r g → Passes steps call outcome s f (r ∷ []) t g
+  answer_passes {r = r} (Ok (Some x)) step h = item_passed x h.0 (outcome x h.0) r step h.1 refl h.2
+  answer_passes (Ok None) step h = subst (λ (q : Answered B E). Passes steps call outcome s f (q ∷ []) t g) (sym h.0) (subst (λ (k : F). Passes steps call outcome s f (Ok None ∷ []) t k) (sym h.1) (ends step done))
+  answer_passes (Err e) step h = subst (λ (q : Answered B E). Passes steps call outcome s f (q ∷ []) t g) (sym h.0) (subst (λ (k : F). Passes steps call outcome s f (Err e ∷ []) t k) (sym h.1) (fails e step done))
+
+  -- what the adapter makes of one answer of its source is its trace of one answer
+  pub answer_passed : {r : Answered B E} (drawn : Answered X E) → steps s drawn t → PassAnswer call outcome f drawn r g → PassTrace steps call outcome (s, f) (r ∷ []) (t, g)
+  answer_passed drawn step h = from_passes (answer_passes drawn step h)
+
+-- the closure in its slot may be called on an item that was drawn
+pub drawn_in_slot : {S F X R E : Type 0} {m : Contract S X E} {s t : S} (call : F → X → R → F → Type 0) (pre : F → X → Type 0) (slot : Option F) → Lawful m → m.can s → (drawn : Answered X E) → m.steps s drawn t → IsCallableIn call pre (m.gives s) slot → TakesDrawn pre slot drawn
+drawn_in_slot {s = s} {t = t} call pre (Some f) l c (Ok (Some x)) step callable = callable.at f x reaches_here ((l.goes s (item x) t c step).answer.0)
+drawn_in_slot call pre None l c (Ok (Some x)) step callable = absurd callable
+drawn_in_slot call pre slot l c (Ok None) step callable = tt
+drawn_in_slot call pre slot l c (Err e) step callable = tt

@@ -4,6 +4,7 @@ use Rattle.std.specs.Borrow.{MutBor}
 use Rattle.std.proofs.Common.{ap₂}
 use Rattle.fallible_contract.specs.Traces.{Answered}
 use Rattle.fallible_contract.specs.Contract.{Contract, OnAnswer, Lawful, name_and}
+use Rattle.fallible_contract.specs.Ends.{Ends, from_back, ends_of, LawfulEnds}
 use Rattle.fallible_core.specs.Borrowed.{borrowed}
 
 module _ {S A E : Type 0} (m : Contract S A E) where
@@ -16,4 +17,13 @@ pub lawful_borrowed : {S A E : Type 0} {m : Contract S A E} → Lawful m → Law
 lawful_borrowed {m = m} l = record {
   goes = λ s r t c step. let g = l.goes s.now r t.now c step.0 in record { can = g.can; has_end = g.has_end; answer = answer_borrowed m s t r g.answer; gives = g.gives; fails = g.fails; names = ap₂ name_and step.1 g.names };
   ends = λ s. l.ends s.now;
+}
+
+pub lawful_ends_borrowed : {S A E : Type 0} {m : Contract S A E} {e : Ends S A E} → LawfulEnds m e → LawfulEnds (borrowed m) (ends_of (borrowed (from_back m e)))
+lawful_ends_borrowed l = record {
+  front_can = λ s c. l.front_can s.now c;
+  gives = λ s x h. l.gives s.now x h;
+  fails = λ s x h. l.fails s.now x h;
+  front = lawful_borrowed l.front;
+  back = lawful_borrowed l.back;
 }

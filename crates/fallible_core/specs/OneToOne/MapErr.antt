@@ -1,5 +1,5 @@
 -- `MapErr`, whose closure is called on failures.
-use Rattle.std.specs.Prelude.{◌≡◌, List, [], ◌∷◌, map, Option, Some, None}
+use Rattle.std.specs.Prelude.{◌≡◌, List, [], ◌∷◌, map, Option, Some, None, Ok, Err, ⊤}
 use Rattle.std.specs.List.{filter_map}
 use Rattle.std.specs.Fn.{Mut}
 use Rattle.fallible_contract.specs.Traces.{Answered, Run, item, failure, end}
@@ -51,6 +51,18 @@ map_err_contract m g = record {
   hints = λ p h. m.hints p.0 h;
   names = λ p. m.names p.0;
 }
+
+-- What `MapErr` makes of one answer of its source: a failure becomes the closure's answer on it; an item and an end pass, without a call.
+abbrev pub MapErrAnswer : {F X D E : Type 0} → (F → D → E → F → Type 0) → F → Answered X D → Answered X E → F → Type 0
+MapErrAnswer call f (Ok (Some x)) r g = (r ≡ item x) × (g ≡ f)
+MapErrAnswer call f (Ok None) r g = (r ≡ end) × (g ≡ f)
+MapErrAnswer {E = E} call f (Err d) r g = (e : E) × call f d e g × (r ≡ failure e)
+
+-- where the answer is a failure, the closure may be called on it
+abbrev pub TakesFailure : {F X D : Type 0} → (F → D → Type 0) → F → Answered X D → Type 0
+TakesFailure pre f (Ok (Some x)) = ⊤
+TakesFailure pre f (Ok None) = ⊤
+TakesFailure pre f (Err d) = pre f d
 
 -- the source and the closure
 abbrev pub map_err_parts : {I F : Type 0} → MapErr I F → I × F

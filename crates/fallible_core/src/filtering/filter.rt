@@ -2,12 +2,15 @@
 ghost use Rattle.std.specs.Prelude.{Some, Result, Option};
 ghost use Rattle.fallible_contract.specs.Contract.{seen_as};
 ghost use Rattle.fallible_contract.specs.Closures.{call_at, takes_at};
+ghost use Rattle.fallible_contract.specs.Ends.{from_back, ends_of, ends_seen_as};
 ghost use Rattle.fallible_contract.specs.Passing.{PassTurn};
 ghost use Rattle.fallible_core.specs.Filtering.Filter.{filter_outcome, filter_contract, filter_parts};
 ghost use Rattle.fallible_contract.specs.Laws.Contract.{lawful_seen};
-ghost use Rattle.fallible_core.specs.Laws.Filtering.Filter.{lawful_filter};
+ghost use Rattle.fallible_contract.specs.Laws.Ends.{lawful_ends_seen};
+ghost use Rattle.fallible_core.specs.Laws.Filtering.Filter.{lawful_filter, lawful_ends_filter};
 
 use crate::traits::FallibleIterator;
+use crate::traits::double_ended::DoubleEndedFallibleIterator;
 use fallible_contract::folds::unpack;
 
 /// The items to which the predicate answers true. An item on which it fails is lost, and its failure is the answer.
@@ -49,6 +52,31 @@ where
     }
 
     ghost lawful = { lawful_seen filter_parts (lawful_filter F.FnMut I.lawful) };
+}
+
+impl<I: DoubleEndedFallibleIterator, F: FnMut(&I::Item) -> Result<bool, I::Error>>
+    DoubleEndedFallibleIterator for Filter<I, F>
+where
+    I::Item: Drop,
+{
+    ghost ends = { ends_seen_as filter_parts (ends_of (filter_contract (from_back I.contract I.ends) F.FnMut)) };
+
+    /// Draws from behind until an item is kept, a failure comes or an end comes, and calls the predicate on each item.
+    fn next_back(&mut self) -> Result<Option<I::Item>, I::Error> {
+        let f = match self.f.take() {
+            Some(f) => f,
+            None => unreachable!(),
+        };
+        let ask = |f: F, x: I::Item| -> Result<F, (F, Result<I::Item, I::Error>)>
+            requires { takes_at F.FnMut f x }
+            ensures { PassTurn (call_at F.FnMut) filter_outcome f x result }
+        { turn(f, x) };
+        let (f, answer) = unpack(self.it.try_rfold_carrying(f, &ask));
+        self.f = Some(f);
+        answer
+    }
+
+    ghost lawful_ends = { lawful_ends_seen filter_parts (lawful_ends_filter F.FnMut I.lawful_ends) };
 }
 
 // One turn of a fold: stops at an item that the predicate accepts or fails on, and goes on after one that it refuses.

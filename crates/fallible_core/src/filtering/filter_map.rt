@@ -2,12 +2,15 @@
 ghost use Rattle.std.specs.Prelude.{Some, Result, Option};
 ghost use Rattle.fallible_contract.specs.Contract.{seen_as};
 ghost use Rattle.fallible_contract.specs.Closures.{call_on, takes_on};
+ghost use Rattle.fallible_contract.specs.Ends.{from_back, ends_of, ends_seen_as};
 ghost use Rattle.fallible_contract.specs.Passing.{PassTurn};
 ghost use Rattle.fallible_core.specs.Filtering.FilterMap.{filter_map_outcome, filter_map_contract, filter_map_parts};
 ghost use Rattle.fallible_contract.specs.Laws.Contract.{lawful_seen};
-ghost use Rattle.fallible_core.specs.Laws.Filtering.FilterMap.{lawful_filter_map};
+ghost use Rattle.fallible_contract.specs.Laws.Ends.{lawful_ends_seen};
+ghost use Rattle.fallible_core.specs.Laws.Filtering.FilterMap.{lawful_filter_map, lawful_ends_filter_map};
 
 use crate::traits::FallibleIterator;
+use crate::traits::double_ended::DoubleEndedFallibleIterator;
 use fallible_contract::folds::unpack;
 
 /// The values that the closure answers. An item on which it answers none is left out; an item on which it fails is lost, and its failure is the answer.
@@ -46,6 +49,28 @@ impl<I: FallibleIterator, B, F: FnMut(I::Item) -> Result<Option<B>, I::Error>> F
     }
 
     ghost lawful = { lawful_seen filter_map_parts (lawful_filter_map F.FnMut I.lawful) };
+}
+
+impl<I: DoubleEndedFallibleIterator, B, F: FnMut(I::Item) -> Result<Option<B>, I::Error>>
+    DoubleEndedFallibleIterator for FilterMap<I, F> {
+    ghost ends = { ends_seen_as filter_map_parts (ends_of (filter_map_contract (from_back I.contract I.ends) F.FnMut)) };
+
+    /// Draws from behind until the closure answers a value, a failure comes or an end comes, and calls the closure on each item.
+    fn next_back(&mut self) -> Result<Option<B>, I::Error> {
+        let f = match self.f.take() {
+            Some(f) => f,
+            None => unreachable!(),
+        };
+        let ask = |f: F, x: I::Item| -> Result<F, (F, Result<B, I::Error>)>
+            requires { takes_on F.FnMut f x }
+            ensures { PassTurn (call_on F.FnMut) filter_map_outcome f x result }
+        { turn(f, x) };
+        let (f, answer) = unpack(self.it.try_rfold_carrying(f, &ask));
+        self.f = Some(f);
+        answer
+    }
+
+    ghost lawful_ends = { lawful_ends_seen filter_map_parts (lawful_ends_filter_map F.FnMut I.lawful_ends) };
 }
 
 // One turn of a fold: stops at an item on which the closure answers a value or fails, and goes on after one on which it answers none.

@@ -1,11 +1,16 @@
 // The adapter that clones what each item points to.
 ghost use Rattle.std.specs.Prelude.{Some, Result, Option};
 ghost use Rattle.fallible_contract.specs.Contract.{seen_as};
-ghost use Rattle.fallible_core.specs.OneToOne.Cloned.{cloned_contract, cloned_parts};
+ghost use Rattle.fallible_contract.specs.Ends.{from_back, ends_of, ends_seen_as};
+ghost use Rattle.fallible_contract.specs.Passing.{PassAnswer};
+ghost use Rattle.fallible_core.specs.OneToOne.Map.{map_outcome};
+ghost use Rattle.fallible_core.specs.OneToOne.Cloned.{cloned_call, cloned_contract, cloned_parts};
 ghost use Rattle.fallible_contract.specs.Laws.Contract.{lawful_seen};
-ghost use Rattle.fallible_core.specs.Laws.OneToOne.Cloned.{lawful_cloned};
+ghost use Rattle.fallible_contract.specs.Laws.Ends.{lawful_ends_seen};
+ghost use Rattle.fallible_core.specs.Laws.OneToOne.Cloned.{lawful_cloned, lawful_ends_cloned};
 
 use crate::traits::FallibleIterator;
+use crate::traits::double_ended::DoubleEndedFallibleIterator;
 use std::alloc::AllocError;
 
 /// A clone of what each item points to. Where the clone is refused, the failure made of the refusal is the answer and the item is lost.
@@ -26,14 +31,7 @@ where
 
     /// Draws one answer, and clones what it points to where it is an item.
     fn next(&mut self) -> Result<Option<T>, I::Error> {
-        match self.it.next() {
-            Ok(Some(x)) => match T::clone(x) {
-                Ok(y) => Ok(Some(y)),
-                Err(refused) => Err(I::Error::from(refused)),
-            },
-            Ok(None) => Ok(None),
-            Err(e) => Err(e),
-        }
+        answer(self.it.next())
     }
 
     fn size_hint(&self) -> (usize, Option<usize>) {
@@ -41,4 +39,34 @@ where
     }
 
     ghost lawful = { lawful_seen cloned_parts (lawful_cloned T.is_clone T.is_infallible I.Error.from_gives I.lawful) };
+}
+
+impl<'a, T: Clone + 'a, I: DoubleEndedFallibleIterator<Item = &'a T>> DoubleEndedFallibleIterator
+    for Cloned<I>
+where
+    I::Error: From<AllocError>,
+{
+    ghost ends = { ends_seen_as cloned_parts (ends_of (cloned_contract T.is_clone T.is_infallible I.Error.from_gives (from_back I.contract I.ends))) };
+
+    /// Draws one answer from behind, and clones what it points to where it is an item.
+    fn next_back(&mut self) -> Result<Option<T>, I::Error> {
+        answer(self.it.next_back())
+    }
+
+    ghost lawful_ends = { lawful_ends_seen cloned_parts (lawful_ends_cloned T.is_clone T.is_infallible I.Error.from_gives I.lawful_ends) };
+}
+
+// One answer of the source, with a clone of what it points to where it is an item.
+fn answer<'a, T: Clone + 'a, E: From<AllocError>>(
+    drawn: Result<Option<&'a T>, E>,
+) -> Result<Option<T>, E>
+    ensures { PassAnswer (cloned_call T.is_clone T.is_infallible E.from_gives) map_outcome tt drawn.entry result tt }
+{
+    match drawn? {
+        Some(x) => match T::clone(x) {
+            Ok(y) => Ok(Some(y)),
+            Err(refused) => Err(E::from(refused)),
+        },
+        None => Ok(None),
+    }
 }

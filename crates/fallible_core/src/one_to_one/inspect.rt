@@ -1,11 +1,16 @@
 // The adapter that shows each item to a closure.
 ghost use Rattle.std.specs.Prelude.{Some, Result, Option};
 ghost use Rattle.fallible_contract.specs.Contract.{seen_as};
-ghost use Rattle.fallible_core.specs.OneToOne.Inspect.{inspect_contract, inspect_parts};
+ghost use Rattle.fallible_contract.specs.Closures.{call_at, takes_at, call_in};
+ghost use Rattle.fallible_contract.specs.Ends.{from_back, ends_of, ends_seen_as};
+ghost use Rattle.fallible_contract.specs.Passing.{PassAnswer, TakesDrawn};
+ghost use Rattle.fallible_core.specs.OneToOne.Inspect.{inspect_contract, inspect_outcome, inspect_parts};
 ghost use Rattle.fallible_contract.specs.Laws.Contract.{lawful_seen};
-ghost use Rattle.fallible_core.specs.Laws.OneToOne.Inspect.{lawful_inspect};
+ghost use Rattle.fallible_contract.specs.Laws.Ends.{lawful_ends_seen};
+ghost use Rattle.fallible_core.specs.Laws.OneToOne.Inspect.{lawful_inspect, lawful_ends_inspect};
 
 use crate::traits::FallibleIterator;
+use crate::traits::double_ended::DoubleEndedFallibleIterator;
 
 /// The items of the source, each shown to the closure first. An item on which the closure fails is lost, and its failure is the answer.
 #[derive(Clone, Debug, Drop)]
@@ -28,17 +33,7 @@ where
 
     /// Draws one answer, and calls the closure where it is an item.
     fn next(&mut self) -> Result<Option<I::Item>, I::Error> {
-        match self.it.next() {
-            Ok(Some(x)) => match &mut self.f {
-                Some(f) => match f(&x) {
-                    Ok(()) => Ok(Some(x)),
-                    Err(e) => Err(e),
-                },
-                None => unreachable!(),
-            },
-            Ok(None) => Ok(None),
-            Err(e) => Err(e),
-        }
+        answer(self.it.next(), &mut self.f)
     }
 
     fn size_hint(&self) -> (usize, Option<usize>) {
@@ -46,4 +41,39 @@ where
     }
 
     ghost lawful = { lawful_seen inspect_parts (lawful_inspect F.FnMut I.lawful) };
+}
+
+impl<I: DoubleEndedFallibleIterator, F: FnMut(&I::Item) -> Result<(), I::Error>>
+    DoubleEndedFallibleIterator for Inspect<I, F>
+where
+    I::Item: Drop,
+{
+    ghost ends = { ends_seen_as inspect_parts (ends_of (inspect_contract (from_back I.contract I.ends) F.FnMut)) };
+
+    /// Draws one answer from behind, and calls the closure where it is an item.
+    fn next_back(&mut self) -> Result<Option<I::Item>, I::Error> {
+        answer(self.it.next_back(), &mut self.f)
+    }
+
+    ghost lawful_ends = { lawful_ends_seen inspect_parts (lawful_ends_inspect F.FnMut I.lawful_ends) };
+}
+
+// One answer of the source, shown to the closure where it is an item.
+fn answer<X: Drop, E, F: FnMut(&X) -> Result<(), E>>(
+    drawn: Result<Option<X>, E>,
+    slot: &mut Option<F>,
+) -> Result<Option<X>, E>
+    requires { TakesDrawn (takes_at F.FnMut) slot.old drawn }
+    ensures { PassAnswer (call_in (call_at F.FnMut)) inspect_outcome slot.old drawn result slot.new }
+{
+    match drawn? {
+        Some(x) => match slot {
+            Some(f) => {
+                f(&x)?;
+                Ok(Some(x))
+            }
+            None => unreachable!(),
+        },
+        None => Ok(None),
+    }
 }

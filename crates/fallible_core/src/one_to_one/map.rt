@@ -1,11 +1,16 @@
 // The adapter that calls a closure on each item.
 ghost use Rattle.std.specs.Prelude.{Some, Result, Option};
 ghost use Rattle.fallible_contract.specs.Contract.{seen_as};
-ghost use Rattle.fallible_core.specs.OneToOne.Map.{map_contract, map_parts};
+ghost use Rattle.fallible_contract.specs.Closures.{call_on, takes_on, call_in};
+ghost use Rattle.fallible_contract.specs.Ends.{from_back, ends_of, ends_seen_as};
+ghost use Rattle.fallible_contract.specs.Passing.{PassAnswer, TakesDrawn};
+ghost use Rattle.fallible_core.specs.OneToOne.Map.{map_contract, map_outcome, map_parts};
 ghost use Rattle.fallible_contract.specs.Laws.Contract.{lawful_seen};
-ghost use Rattle.fallible_core.specs.Laws.OneToOne.Map.{lawful_map};
+ghost use Rattle.fallible_contract.specs.Laws.Ends.{lawful_ends_seen};
+ghost use Rattle.fallible_core.specs.Laws.OneToOne.Map.{lawful_map, lawful_ends_map};
 
 use crate::traits::FallibleIterator;
+use crate::traits::double_ended::DoubleEndedFallibleIterator;
 use std::fmt;
 
 /// Each item replaced by the closure's answer on it; where the closure fails, its failure is the answer and the item is lost.
@@ -34,17 +39,7 @@ impl<I: FallibleIterator, B, F: FnMut(I::Item) -> Result<B, I::Error>> FallibleI
 
     /// Draws one answer, and calls the closure where it is an item.
     fn next(&mut self) -> Result<Option<B>, I::Error> {
-        match self.it.next() {
-            Ok(Some(x)) => match &mut self.f {
-                Some(f) => match f(x) {
-                    Ok(made) => Ok(Some(made)),
-                    Err(e) => Err(e),
-                },
-                None => unreachable!(),
-            },
-            Ok(None) => Ok(None),
-            Err(e) => Err(e),
-        }
+        answer(self.it.next(), &mut self.f)
     }
 
     fn size_hint(&self) -> (usize, Option<usize>) {
@@ -52,4 +47,33 @@ impl<I: FallibleIterator, B, F: FnMut(I::Item) -> Result<B, I::Error>> FallibleI
     }
 
     ghost lawful = { lawful_seen map_parts (lawful_map F.FnMut I.lawful) };
+}
+
+impl<I: DoubleEndedFallibleIterator, B, F: FnMut(I::Item) -> Result<B, I::Error>>
+    DoubleEndedFallibleIterator for Map<I, F> {
+    ghost ends = { ends_seen_as map_parts (ends_of (map_contract (from_back I.contract I.ends) F.FnMut)) };
+
+    /// Draws one answer from behind, and calls the closure where it is an item.
+    fn next_back(&mut self) -> Result<Option<B>, I::Error> {
+        answer(self.it.next_back(), &mut self.f)
+    }
+
+    ghost lawful_ends = { lawful_ends_seen map_parts (lawful_ends_map F.FnMut I.lawful_ends) };
+}
+
+// What the closure makes of one answer of the source: it is called where that is an item.
+fn answer<X, B, E, F: FnMut(X) -> Result<B, E>>(
+    drawn: Result<Option<X>, E>,
+    slot: &mut Option<F>,
+) -> Result<Option<B>, E>
+    requires { TakesDrawn (takes_on F.FnMut) slot.old drawn }
+    ensures { PassAnswer (call_in (call_on F.FnMut)) map_outcome slot.old drawn result slot.new }
+{
+    match drawn? {
+        Some(x) => match slot {
+            Some(f) => Ok(Some(f(x)?)),
+            None => unreachable!(),
+        },
+        None => Ok(None),
+    }
 }

@@ -1,11 +1,15 @@
 // The adapter that calls a closure on each failure.
 ghost use Rattle.std.specs.Prelude.{Some, Result, Option};
 ghost use Rattle.fallible_contract.specs.Contract.{seen_as};
-ghost use Rattle.fallible_core.specs.OneToOne.MapErr.{map_err_contract, map_err_parts};
+ghost use Rattle.fallible_contract.specs.Closures.{call_on, takes_on};
+ghost use Rattle.fallible_contract.specs.Ends.{from_back, ends_of, ends_seen_as};
+ghost use Rattle.fallible_core.specs.OneToOne.MapErr.{MapErrAnswer, TakesFailure, map_err_contract, map_err_parts};
 ghost use Rattle.fallible_contract.specs.Laws.Contract.{lawful_seen};
-ghost use Rattle.fallible_core.specs.Laws.OneToOne.MapErr.{lawful_map_err};
+ghost use Rattle.fallible_contract.specs.Laws.Ends.{lawful_ends_seen};
+ghost use Rattle.fallible_core.specs.Laws.OneToOne.MapErr.{lawful_map_err, lawful_ends_map_err};
 
 use crate::traits::FallibleIterator;
+use crate::traits::double_ended::DoubleEndedFallibleIterator;
 
 /// The source with each failure replaced by the closure's value on it. Its failures are those values; items and ends pass.
 #[derive(Clone, Debug, Drop)]
@@ -23,11 +27,7 @@ impl<I: FallibleIterator, B, F: FnMut(I::Error) -> B> FallibleIterator for MapEr
 
     /// Draws one answer, and calls the closure where it is a failure.
     fn next(&mut self) -> Result<Option<I::Item>, B> {
-        match self.it.next() {
-            Ok(Some(x)) => Ok(Some(x)),
-            Ok(None) => Ok(None),
-            Err(e) => Err((self.f)(e)),
-        }
+        answer(self.it.next(), &mut self.f)
     }
 
     fn size_hint(&self) -> (usize, Option<usize>) {
@@ -35,4 +35,31 @@ impl<I: FallibleIterator, B, F: FnMut(I::Error) -> B> FallibleIterator for MapEr
     }
 
     ghost lawful = { lawful_seen map_err_parts (lawful_map_err F.FnMut I.lawful) };
+}
+
+impl<I: DoubleEndedFallibleIterator, B, F: FnMut(I::Error) -> B> DoubleEndedFallibleIterator
+    for MapErr<I, F> {
+    ghost ends = { ends_seen_as map_err_parts (ends_of (map_err_contract (from_back I.contract I.ends) F.FnMut)) };
+
+    /// Draws one answer from behind, and calls the closure where it is a failure.
+    fn next_back(&mut self) -> Result<Option<I::Item>, B> {
+        answer(self.it.next_back(), &mut self.f)
+    }
+
+    ghost lawful_ends = { lawful_ends_seen map_err_parts (lawful_ends_map_err F.FnMut I.lawful_ends) };
+}
+
+// What the closure makes of one answer of the source: it is called where that is a failure.
+fn answer<X, D, E, F: FnMut(D) -> E>(
+    drawn: Result<Option<X>, D>,
+    f: &mut F,
+) -> Result<Option<X>, E>
+    requires { TakesFailure (takes_on F.FnMut) f.old drawn }
+    ensures { MapErrAnswer (call_on F.FnMut) f.old drawn result f.new }
+{
+    match drawn {
+        Ok(Some(x)) => Ok(Some(x)),
+        Ok(None) => Ok(None),
+        Err(e) => Err(f(e)),
+    }
 }

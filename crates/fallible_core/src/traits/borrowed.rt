@@ -1,9 +1,11 @@
 // A fallible iterator behind a `&mut` answers as it does itself.
 ghost use Rattle.std.specs.Prelude.{◌≡◌, Result, Option};
+ghost use Rattle.fallible_contract.specs.Ends.{from_back, ends_of};
 ghost use Rattle.fallible_core.specs.Borrowed.{borrowed};
-ghost use Rattle.fallible_core.specs.Laws.Borrowed.{lawful_borrowed};
+ghost use Rattle.fallible_core.specs.Laws.Borrowed.{lawful_borrowed, lawful_ends_borrowed};
 
 use crate::traits::FallibleIterator;
+use crate::traits::double_ended::DoubleEndedFallibleIterator;
 
 impl<I: FallibleIterator> FallibleIterator for &mut I {
     type Item = I::Item;
@@ -21,4 +23,14 @@ impl<I: FallibleIterator> FallibleIterator for &mut I {
     }
 
     ghost lawful = { lawful_borrowed I.lawful };
+}
+
+impl<I: DoubleEndedFallibleIterator> DoubleEndedFallibleIterator for &mut I {
+    ghost ends = { ends_of (borrowed (from_back I.contract I.ends)) };
+
+    fn next_back(&mut self) -> Result<Option<I::Item>, I::Error> {
+        (**self).next_back()
+    }
+
+    ghost lawful_ends = { lawful_ends_borrowed I.lawful_ends };
 }

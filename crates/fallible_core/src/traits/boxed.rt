@@ -1,9 +1,12 @@
 // A fallible iterator in a `Box` answers as it does itself.
 ghost use Rattle.std.specs.Prelude.{Result, Option};
 ghost use Rattle.fallible_contract.specs.Contract.{seen_as};
+ghost use Rattle.fallible_contract.specs.Ends.{ends_seen_as};
 ghost use Rattle.fallible_contract.specs.Laws.Contract.{lawful_seen};
+ghost use Rattle.fallible_contract.specs.Laws.Ends.{lawful_ends_seen};
 
 use crate::traits::FallibleIterator;
+use crate::traits::double_ended::DoubleEndedFallibleIterator;
 
 impl<I: FallibleIterator> FallibleIterator for Box<I> {
     type Item = I::Item;
@@ -21,4 +24,14 @@ impl<I: FallibleIterator> FallibleIterator for Box<I> {
     }
 
     ghost lawful = { lawful_seen (λ s. s.value) I.lawful };
+}
+
+impl<I: DoubleEndedFallibleIterator> DoubleEndedFallibleIterator for Box<I> {
+    ghost ends = { ends_seen_as (λ s. s.value) I.ends };
+
+    fn next_back(&mut self) -> Result<Option<I::Item>, I::Error> {
+        (**self).next_back()
+    }
+
+    ghost lawful_ends = { lawful_ends_seen (λ s. s.value) I.lawful_ends };
 }

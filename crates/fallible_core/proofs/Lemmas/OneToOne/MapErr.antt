@@ -3,12 +3,13 @@ use Rattle.std.specs.Prelude.{◌≡◌, List, [], ◌∷◌, Result, Some, None
 use Rattle.std.specs.Fn.{Mut}
 use Rattle.std.proofs.Common.{refl, sym, ap, subst, ◌∙◌}
 use Rattle.fallible_core.specs.declared.one_to_one.map_err.MapErr.{MapErr}
-use Rattle.fallible_contract.specs.Closures.{call_on}
-use Rattle.fallible_contract.specs.Contract.{Contract, seen_as}
+use Rattle.fallible_contract.specs.Closures.{IsCallable, call_on}
+use Rattle.fallible_contract.specs.Contract.{Contract, Lawful, seen_as}
+use Rattle.fallible_contract.specs.Laws.Closures.{reaches_here}
 use Rattle.fallible_contract.specs.Lists.{AlwaysGives, Lists, Acts, failures_mapped}
 use Rattle.fallible_contract.proofs.Lemmas.Lists.Passing.{lists_seen}
 use Rattle.fallible_contract.specs.Traces.{Answered, item}
-use Rattle.fallible_core.specs.OneToOne.MapErr.{item_here, asked_of, end_here, MapErrTrace, map_err_parts, map_err_contract}
+use Rattle.fallible_core.specs.OneToOne.MapErr.{item_here, asked_of, end_here, MapErrTrace, MapErrAnswer, TakesFailure, map_err_parts, map_err_contract}
 use Rattle.fallible_core.specs.Laws.OneToOne.MapErr.{Mapped, mapped_none, mapped_item, mapped_end, mapped_failure, to_mapped}
 use Rattle.fallible_contract.proofs.Lemmas.Definitions.{FirstOf, IsByAnswers}
 
@@ -52,6 +53,18 @@ module _ {S F X D E : Type 0} {steps : S → Answered X D → S → Type 0} {cal
 
   pub map_err_failure : {g : F} (d : D) (e : E) → steps s (Err d) t → call f d e g → MapErrTrace steps call (s, f) (Err e ∷ []) (t, g)
   map_err_failure {g = g} d e step called = from_mapped steps call s t f g _ (mapped_failure d e step called mapped_none)
+
+-- what it makes of one answer of its source is its trace of one answer
+pub map_err_answered : {S F X D E : Type 0} {steps : S → Answered X D → S → Type 0} {call : F → D → E → F → Type 0} {s t : S} {f g : F} {r : Answered X E} (drawn : Answered X D) → steps s drawn t → MapErrAnswer call f drawn r g → MapErrTrace steps call (s, f) (r ∷ []) (t, g)
+map_err_answered {steps = steps} {call = call} {s = s} {t = t} {f = f} {g = g} (Ok (Some x)) step h = subst (λ q. MapErrTrace steps call (s, f) (q ∷ []) (t, g)) (sym h.0) (subst (λ k. MapErrTrace steps call (s, f) (item x ∷ []) (t, k)) (sym h.1) (map_err_item x step))
+map_err_answered {steps = steps} {call = call} {s = s} {t = t} {f = f} {g = g} (Ok None) step h = subst (λ q. MapErrTrace steps call (s, f) (q ∷ []) (t, g)) (sym h.0) (subst (λ k. MapErrTrace steps call (s, f) (Ok None ∷ []) (t, k)) (sym h.1) (map_err_end step))
+map_err_answered {steps = steps} {call = call} {s = s} {t = t} {f = f} {g = g} (Err d) step h = subst (λ q. MapErrTrace steps call (s, f) (q ∷ []) (t, g)) (sym h.2) (map_err_failure d h.0 step h.1)
+
+-- its closure may be called on a failure that was drawn
+pub takes_drawn_failure : {S F X D E : Type 0} {m : Contract S X D} {s t : S} (call : F → D → E → F → Type 0) (pre : F → D → Type 0) (f : F) → Lawful m → m.can s → (drawn : Answered X D) → m.steps s drawn t → IsCallable call pre (m.fails s) f → TakesFailure pre f drawn
+takes_drawn_failure call pre f l c (Ok (Some x)) step callable = tt
+takes_drawn_failure call pre f l c (Ok None) step callable = tt
+takes_drawn_failure {s = s} {t = t} call pre f l c (Err d) step callable = callable.at f d reaches_here ((l.goes s (Err d) t c step).answer.0)
 
 -- ---- what it lists
 

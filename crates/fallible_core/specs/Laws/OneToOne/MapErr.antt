@@ -6,6 +6,7 @@ use Rattle.std.proofs.Common.{refl, sym, subst}
 use Rattle.fallible_contract.specs.Traces.{Answered, Run, item}
 use Rattle.fallible_contract.specs.Contract.{Contract, OnAnswer, Goes, Lawful}
 use Rattle.fallible_contract.specs.Closures.{Calls, Reaches, call_on}
+use Rattle.fallible_contract.specs.Ends.{Ends, from_back, ends_of, LawfulEnds}
 use Rattle.fallible_core.specs.OneToOne.MapErr.{FailurePlace, item_here, asked_of, end_here, source_answer, failure_call, mapped_answer, MapErrTrace, map_err_contract}
 use Rattle.fallible_contract.specs.Laws.Closures.{reaches_here, reaches_from, callable_after, may_answer_here, may_answer_after}
 
@@ -68,3 +69,12 @@ module _ {S F X D E : Type 0} (m : Contract S X D) (l : Lawful m) (g : Mut F (D 
 
 pub lawful_map_err : {S F X D E : Type 0} {m : Contract S X D} (g : Mut F (D × Unit {0}) E) → Lawful m → Lawful (map_err_contract m g)
 lawful_map_err {m = m} g l = record { goes = goes_map_err m l g; ends = λ p. l.ends p.0 }
+
+pub lawful_ends_map_err : {S F X D E : Type 0} {m : Contract S X D} {e : Ends S X D} (g : Mut F (D × Unit {0}) E) → LawfulEnds m e → LawfulEnds (map_err_contract m g) (ends_of (map_err_contract (from_back m e) g))
+lawful_ends_map_err g l = record {
+  front_can = λ p c. (l.front_can p.0 c.0, callable_after (l.fails p.0) reaches_here c.1);
+  gives = λ p x h. l.gives p.0 x h;
+  fails = λ p d h. may_answer_after (l.fails p.0) reaches_here h;
+  front = lawful_map_err g l.front;
+  back = lawful_map_err g l.back;
+}

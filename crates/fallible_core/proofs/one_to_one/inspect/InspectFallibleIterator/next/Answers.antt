@@ -1,16 +1,10 @@
--- One answer of the source and the call on a reference to it are the trace of one answer.
-use Rattle.std.proofs.Common.{refl}
-use Rattle.fallible_contract.specs.Laws.Passing.{passes_item, passes_refusal, passes_end, passes_failure}
+-- One answer of the source, and what the closure makes of it, are the trace of one answer.
+use Rattle.fallible_contract.specs.Closures.{call_at, takes_at}
+use Rattle.fallible_contract.proofs.Lemmas.Passing.{answer_passed, drawn_in_slot}
 use Rattle.fallible_core.proofs.one_to_one.inspect.InspectFallibleIterator.next.Goals as goal
 
-pub returns-in-Ok : goal.returns-in-Ok
-returns-in-Ok g c = rw c.in-Some.is (passes_item _ _ _ (rw c.in-Ok-Some.field-0-is at c.in-Ok-Some.ensures) record { shown = _; shows = refl; called = c.in-Ok.ensures } refl)
+pub answer-requires : goal.answer-requires
+answer-requires g c = drawn_in_slot (call_at g.F.FnMut) (takes_at g.F.FnMut) _ g.met.I.FallibleIterator.lawful c.requires.0 _ c.next.ensures c.requires.1
 
-pub returns-in-Err-f : goal.returns-in-Err-f
-returns-in-Err-f g c = rw c.in-Some.is (passes_refusal _ _ _ (rw c.in-Ok-Some.field-0-is at c.in-Ok-Some.ensures) record { shown = _; shows = refl; called = c.in-Err-f.ensures } refl)
-
-pub returns-in-Ok-None : goal.returns-in-Ok-None
-returns-in-Ok-None g c = passes_end (rw c.in-Ok-None.field-0-is at c.in-Ok-None.ensures)
-
-pub returns-in-Err : goal.returns-in-Err
-returns-in-Err g c = passes_failure c.in-Err.ensures
+pub returns : goal.returns
+returns g c = answer_passed _ c.next.ensures c.answer.ensures

@@ -1,12 +1,10 @@
 -- One answer of the source, and the call where it is a failure, are the trace of one answer.
-use Rattle.fallible_core.proofs.Lemmas.OneToOne.MapErr.{map_err_item, map_err_end, map_err_failure}
+use Rattle.fallible_contract.specs.Closures.{call_on, takes_on}
+use Rattle.fallible_core.proofs.Lemmas.OneToOne.MapErr.{map_err_answered, takes_drawn_failure}
 use Rattle.fallible_core.proofs.one_to_one.map_err.MapErrFallibleIterator.next.Goals as goal
 
-pub returns-in-Ok-Some : goal.returns-in-Ok-Some
-returns-in-Ok-Some g c = map_err_item _ (rw c.in-Ok-Some.field-0-is at c.in-Ok-Some.ensures)
+pub answer-requires : goal.answer-requires
+answer-requires g c = takes_drawn_failure (call_on g.F.FnMut) (takes_on g.F.FnMut) _ g.met.I.FallibleIterator.lawful c.requires.0 _ c.next.ensures c.requires.1
 
-pub returns-in-Ok-None : goal.returns-in-Ok-None
-returns-in-Ok-None g c = map_err_end (rw c.in-Ok-None.field-0-is at c.in-Ok-None.ensures)
-
-pub returns-in-Err : goal.returns-in-Err
-returns-in-Err g c = map_err_failure _ _ c.in-Err.ensures c.f.ensures
+pub returns : goal.returns
+returns g c = map_err_answered _ c.next.ensures c.answer.ensures

@@ -1,0 +1,11 @@
+-- The fold that carries the value and the closure is the fold.
+use Rattle.std.proofs.Common.{rules}
+use Rattle.fallible_contract.proofs.Lemmas.Folds.{folded_by_turns}
+use Rattle.fallible_contract.proofs.Lemmas.Lists.Drawn.{folded_is}
+use Rattle.fallible_core.proofs.traits.double_ended.DoubleEndedFallibleIterator.try_rfold.Goals as goal
+
+pub returns-clause-folded : goal.returns-clause-folded
+returns-clause-folded g c = folded_by_turns (λ p x r h. search rules) c.try_rfold_carrying.result c.try_rfold_carrying.ensures.carried c.folded_at.ensures
+
+pub returns-clause-is : goal.returns-clause-is
+returns-clause-is g c convert h l converts acts i = folded_is _ _ convert h _ acts converts l (returns-clause-folded g c) i

@@ -1,0 +1,2 @@
+-- Definition, contract and parts of what swaps two ends.
+pub mod Rev

@@ -1,0 +1,63 @@
+// The adapter that swaps the ends.
+ghost use Rattle.std.specs.Prelude.{Result, Option};
+ghost use Rattle.fallible_contract.specs.Contract.{seen_as};
+ghost use Rattle.fallible_contract.specs.Ends.{from_front, ends_of, ends_seen_as};
+ghost use Rattle.fallible_core.specs.Ends.Rev.{rev_contract, rev_parts};
+ghost use Rattle.fallible_contract.specs.Laws.Contract.{lawful_seen};
+ghost use Rattle.fallible_contract.specs.Laws.Ends.{lawful_ends_seen, lawful_ends_swapped};
+
+use crate::traits::FallibleIterator;
+use crate::traits::double_ended::DoubleEndedFallibleIterator;
+use fallible_contract::folds::{Exit, Turn};
+
+/// The source with its ends swapped: a draw from the front is a draw of the source from behind, and the other way round.
+#[derive(Clone, Debug, Drop)]
+pub struct Rev<I> {
+    pub(crate) it: I,
+}
+
+impl<I: DoubleEndedFallibleIterator> FallibleIterator for Rev<I> {
+    type Item = I::Item;
+
+    type Error = I::Error;
+
+    ghost contract = { seen_as rev_parts (rev_contract I.contract I.ends) };
+
+    /// Draws one answer of the source from behind.
+    fn next(&mut self) -> Result<Option<I::Item>, I::Error> {
+        self.it.next_back()
+    }
+
+    fn size_hint(&self) -> (usize, Option<usize>) {
+        self.it.size_hint()
+    }
+
+    fn try_fold_carrying<C, R, K: Turn<C, I::Item, R>>(
+        &mut self,
+        init: C,
+        k: &K,
+    ) -> Exit<C, I::Error, R> {
+        self.it.try_rfold_carrying(init, k)
+    }
+
+    ghost lawful = { lawful_seen rev_parts I.lawful_ends.back };
+}
+
+impl<I: DoubleEndedFallibleIterator> DoubleEndedFallibleIterator for Rev<I> {
+    ghost ends = { ends_seen_as rev_parts (ends_of (from_front I.contract I.ends)) };
+
+    /// Draws one answer of the source from the front.
+    fn next_back(&mut self) -> Result<Option<I::Item>, I::Error> {
+        self.it.next()
+    }
+
+    fn try_rfold_carrying<C, R, K: Turn<C, I::Item, R>>(
+        &mut self,
+        init: C,
+        k: &K,
+    ) -> Exit<C, I::Error, R> {
+        self.it.try_fold_carrying(init, k)
+    }
+
+    ghost lawful_ends = { lawful_ends_seen rev_parts (lawful_ends_swapped I.lawful_ends) };
+}

@@ -1,0 +1,93 @@
+//! The second end.
+ghost use Rattle.std.specs.Prelude.{◌≡◌, List, Option, Result};
+ghost use Rattle.fallible_contract.specs.Contract.{Stays};
+ghost use Rattle.fallible_contract.specs.Ends.{Ends, from_back, LawfulEnds};
+ghost use Rattle.fallible_contract.specs.Lists.{Lists, ActsWith, Converts, folded};
+ghost use Rattle.fallible_contract.specs.Folds.{CallableCarrying, Carried, CallableInFold, call_with, takes_with, Folded};
+
+use crate::traits::FallibleIterator;
+use fallible_contract::folds::{Exit, Folding, Is, Turn, folded_at};
+use std::marker::PhantomData;
+
+/// A fallible iterator that may be drawn from behind as well. Draws from both ends may be made one after another, in any order; number to come, hint and names hold after them all.
+///
+/// A type of one's own writes `next_back` and `ends`: its step from behind, and what may come from either end. `counting_down_ends` of `specs/Ends` makes that of a step. A search then finds `lawful_ends`.
+pub trait DoubleEndedFallibleIterator: FallibleIterator {
+    // What the contract says of draws from behind.
+    ghost ends: { Ends Self Self.Item Self.Error };
+
+    /// One answer from behind: an item, a failure or an end. The step from behind says which, and what is left.
+    fn next_back(&mut self) -> Result<Option<Self::Item>, Self::Error>
+        requires { ends.can self.old }
+        ensures { ends.steps self.old result self.new };
+
+    // Draws from behind until an end, a failure or a turn that stops, and hands the carried value back at each exit. Every fold from behind goes through it, and a type may override it for all of them. It is no part of the surface.
+    fn try_rfold_carrying<C, R, K: Turn<C, Self::Item, R>>(
+        &mut self,
+        init: C,
+        k: &K,
+    ) -> Exit<C, Self::Error, R>
+    where
+        requires can { ends.can self.old }
+        requires finite { Self.contract.has_end self.old }
+        requires callable { CallableCarrying ends.steps (K.turns k.now) (K.can_turn k.now) self.old init }
+        ensures carried { Carried ends.steps (K.turns k.now) self.old init result self.new }
+        ensures stays { Stays (from_back Self.contract ends) self.old self.new }
+    {
+        let mut carried = init;
+        let mut left = (*self).number();
+        loop {
+            match self.next_back() {
+                Ok(None) => return Exit::Ended(carried),
+                Err(e) => return Exit::Failed(carried, e),
+                Ok(Some(x)) => match k.turn(carried, x) {
+                    Ok(c) => carried = c,
+                    Err(stop) => return Exit::Stopped(stop),
+                },
+            }
+            left = left.one_less();
+        }
+    }
+
+    /// `try_fold` from behind: calls the closure on the value so far and each item, the last one first. At the end it answers the last value; at a failure that failure, converted; where the closure fails, its error. Nothing is drawn after the answer that decides, and what is left may be drawn from again, from either end.
+    ///
+    /// It asks a number to come, and that the closure may be called on each item that may come from behind with the value so far. `T` is the type of the items.
+    fn try_rfold<B, E, T, F>(&mut self, init: B, f: F) -> Result<B, E>
+    where
+        B: Drop,
+        E: From<Self::Error>,
+        Self::Item: Is<T>,
+        F: FnMut(B, T) -> Result<B, E>,
+        requires can { ends.can self.old }
+        requires finite { Self.contract.has_end self.old }
+        requires callable { CallableInFold ends.steps (call_with Self.Item.as_is F.FnMut) (takes_with Self.Item.as_is F.FnMut) self.old f init }
+        ensures folded { Folded ends.steps (call_with Self.Item.as_is F.FnMut) E.from_gives self.old init f result self.new }
+        ensures is { (convert : Self.Error → E) (h : B → Self.Item → Result B E) (l : List (Result Self.Item Self.Error)) → Converts E.from_gives convert → ActsWith (call_with Self.Item.as_is F.FnMut) f h → Lists ends.steps self.old l → result ≡ folded convert h init l }
+        ensures stays { Stays (from_back Self.contract ends) self.old self.new }
+    {
+        let turn = Folding {
+            marker: PhantomData,
+        };
+        folded_at(self.try_rfold_carrying((init, f), &turn))
+    }
+
+    /// `try_rfold` on the iterator itself, where the closure fails with the iterator's own error. `T` is the type of the items, and `E` that of the failures.
+    fn rfold<B, E, T, F>(mut self, init: B, f: F) -> Result<B, E>
+    where
+        B: Drop,
+        Self::Item: Is<T>,
+        Self::Error: Is<E>,
+        E: From<Self::Error>,
+        F: FnMut(B, T) -> Result<B, E>,
+        requires can { ends.can self }
+        requires finite { Self.contract.has_end self }
+        requires callable { CallableInFold ends.steps (call_with Self.Item.as_is F.FnMut) (takes_with Self.Item.as_is F.FnMut) self f init }
+        ensures folded { (left : Self) × Folded ends.steps (call_with Self.Item.as_is F.FnMut) E.from_gives self init f result left }
+        ensures is { (convert : Self.Error → E) (h : B → Self.Item → Result B E) (l : List (Result Self.Item Self.Error)) → Converts E.from_gives convert → ActsWith (call_with Self.Item.as_is F.FnMut) f h → Lists ends.steps self l → result ≡ folded convert h init l }
+    {
+        self.try_rfold(init, f)
+    }
+
+    // What the other functions know of draws from both ends: see `Goes`.
+    ghost lawful_ends: { LawfulEnds Self.contract ends };
+}
