@@ -12,6 +12,7 @@ pub mod Folds
 pub mod Held
 pub mod Hints
 pub mod Laws
+pub mod Listed
 pub mod Lists
 pub mod Passing
 pub mod Picking

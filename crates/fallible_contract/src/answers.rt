@@ -10,3 +10,12 @@ pub enum Answer<T, E> {
     /// an end
     End,
 }
+
+/// An end to draw from.
+#[derive(Clone, Copy, Debug, PartialEq, Eq, Drop)]
+pub enum Side {
+    /// the end that `next` draws from
+    Front,
+    /// the end that `next_back` draws from
+    Back,
+}
