@@ -6,6 +6,7 @@ pub mod Comparing
 pub mod Contract
 pub mod Counting
 pub mod Definitions
+pub mod Folding
 pub mod Folds
 pub mod Held
 pub mod Lists

@@ -8,6 +8,7 @@ pub mod Contract
 pub mod Counting
 pub mod Definitions
 pub mod Ends
+pub mod Folding
 pub mod Folds
 pub mod Held
 pub mod Hints

@@ -1,5 +1,7 @@
 //! Folds that carry a value.
-ghost use Rattle.std.specs.Prelude.{◌≡◌, ◌+◌, ◌-◌, ◌^◌, ◌<◌, ⊤, Result, Ok, Some};
+ghost use Rattle.std.specs.Prelude.{◌≡◌, ◌+◌, ◌-◌, ◌^◌, ◌<◌, ⊤, IfOk, Result, Ok, Some};
+ghost use Rattle.fallible_contract.specs.Passing.{stopped_outcome};
+ghost use Rattle.fallible_contract.specs.Folding.{TurnedBy, handed};
 ghost use Rattle.fallible_contract.specs.Folds.{unpacked, ValueAt, FoldedAt, FoldTurn, call_with, takes_with};
 
 use std::convert::Infallible;
@@ -149,5 +151,41 @@ pub fn folded_at<B: Drop, F: Drop, D, E: From<D>>(exit: Exit<(B, F), D, E>) -> R
         }
         Exit::Failed(_, e) => Err(E::from(e)),
         Exit::Stopped(e) => Err(e),
+    }
+}
+
+/// The answer of a turn that folds an adapter through its source's own fold, once the adapter made something of an item: the caller's turn is taken on it, and a failure stops the fold. The adapter's closure is handed on beside what is carried.
+pub fn turned<C, F, B, E, R, K: Turn<C, B, R>>(
+    k: &K,
+    carried: C,
+    f: F,
+    made: Result<B, E>,
+) -> Result<(C, F), (F, Exit<C, E, R>)>
+    requires { IfOk made (λ y. K.can_turn k.now carried y) }
+    ensures { TurnedBy (K.turns k.now) carried f (stopped_outcome made) result }
+{
+    match made {
+        Ok(y) => match k.turn(carried, y) {
+            Ok(carried) => Ok((carried, f)),
+            Err(stop) => Err((f, Exit::Stopped(stop))),
+        },
+        Err(e) => Err((f, Exit::Failed(carried, e))),
+    }
+}
+
+/// What such a fold of the source hands back: the adapter's closure, and the exit of the adapter's fold.
+pub fn handed_back<C, F, E, R>(exit: Exit<(C, F), E, (F, Exit<C, E, R>)>) -> (F, Exit<C, E, R>)
+    ensures { result ≡ handed exit }
+{
+    match exit {
+        Exit::Ended(both) => {
+            let (carried, f) = both;
+            (f, Exit::Ended(carried))
+        }
+        Exit::Failed(both, e) => {
+            let (carried, f) = both;
+            (f, Exit::Failed(carried, e))
+        }
+        Exit::Stopped(stop) => stop,
     }
 }

@@ -3,6 +3,7 @@ ghost use Rattle.std.specs.Prelude.{Some, Result, Option};
 ghost use Rattle.fallible_contract.specs.Contract.{seen_as};
 ghost use Rattle.fallible_contract.specs.Closures.{call_on, takes_on, call_in};
 ghost use Rattle.fallible_contract.specs.Ends.{from_back, ends_of, ends_seen_as};
+ghost use Rattle.fallible_contract.specs.Folding.{FoldingTakes, FoldingTurn};
 ghost use Rattle.fallible_contract.specs.Passing.{PassAnswer, TakesDrawn};
 ghost use Rattle.fallible_core.specs.OneToOne.Map.{map_contract, map_outcome, map_parts};
 ghost use Rattle.fallible_contract.specs.Laws.Contract.{lawful_seen};
@@ -11,6 +12,7 @@ ghost use Rattle.fallible_core.specs.Laws.OneToOne.Map.{lawful_map, lawful_ends_
 
 use crate::traits::FallibleIterator;
 use crate::traits::double_ended::DoubleEndedFallibleIterator;
+use fallible_contract::folds::{Exit, Turn, handed_back, turned};
 use std::fmt;
 
 /// Each item replaced by the closure's answer on it; where the closure fails, its failure is the answer and the item is lost.
@@ -46,6 +48,21 @@ impl<I: FallibleIterator, B, F: FnMut(I::Item) -> Result<B, I::Error>> FallibleI
         self.it.size_hint()
     }
 
+    fn try_fold_carrying<C, R, K: Turn<C, B, R>>(
+        &mut self,
+        init: C,
+        k: &K,
+    ) -> Exit<C, I::Error, R> {
+        let f = match self.f.take() {
+            Some(f) => f,
+            None => unreachable!(),
+        };
+        let turn = Mapping { turn: k };
+        let (f, exit) = handed_back(self.it.try_fold_carrying((init, f), &turn));
+        self.f = Some(f);
+        exit
+    }
+
     ghost lawful = { lawful_seen map_parts (lawful_map F.FnMut I.lawful) };
 }
 
@@ -56,6 +73,21 @@ impl<I: DoubleEndedFallibleIterator, B, F: FnMut(I::Item) -> Result<B, I::Error>
     /// Draws one answer from behind, and calls the closure where it is an item.
     fn next_back(&mut self) -> Result<Option<B>, I::Error> {
         answer(self.it.next_back(), &mut self.f)
+    }
+
+    fn try_rfold_carrying<C, R, K: Turn<C, B, R>>(
+        &mut self,
+        init: C,
+        k: &K,
+    ) -> Exit<C, I::Error, R> {
+        let f = match self.f.take() {
+            Some(f) => f,
+            None => unreachable!(),
+        };
+        let turn = Mapping { turn: k };
+        let (f, exit) = handed_back(self.it.try_rfold_carrying((init, f), &turn));
+        self.f = Some(f);
+        exit
     }
 
     ghost lawful_ends = { lawful_ends_seen map_parts (lawful_ends_map F.FnMut I.lawful_ends) };
@@ -75,5 +107,24 @@ fn answer<X, B, E, F: FnMut(X) -> Result<B, E>>(
             None => unreachable!(),
         },
         None => Ok(None),
+    }
+}
+
+// The turn of the source's fold: the closure's answer on the item, and on that the caller's turn.
+#[derive(Drop)]
+struct Mapping<'a, K> {
+    turn: &'a K,
+}
+
+impl<'a, X, B, E, C, R, F: FnMut(X) -> Result<B, E>, K: Turn<C, B, R>>
+    Turn<(C, F), X, (F, Exit<C, E, R>)> for Mapping<'a, K> {
+    ghost can_turn = { λ k p x. FoldingTakes (call_on F.FnMut) map_outcome (takes_on F.FnMut) (K.can_turn k.turn.now) p x };
+
+    ghost turns = { λ k p x r. FoldingTurn (call_on F.FnMut) map_outcome (K.turns k.turn.now) p x r };
+
+    fn turn(&self, carried: (C, F), item: X) -> Result<(C, F), (F, Exit<C, E, R>)> {
+        let (value, mut f) = carried;
+        let made = f(item);
+        turned(self.turn, value, f, made)
     }
 }

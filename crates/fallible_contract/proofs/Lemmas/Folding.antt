@@ -1,0 +1,181 @@
+-- A fold of the source by the adapter's outcome and the caller's turn is a fold of the adapter by the caller's turn.
+use Rattle.std.specs.Prelude.{◌≡◌, List, [], ◌∷◌, ◌++◌, map, Option, Result, Some, None, Ok, Err}
+use Rattle.std.specs.List.{FoldsTo}
+use Rattle.std.proofs.Common.{refl, sym, subst, ap}
+use Rattle.fallible_contract.specs.declared.folds.Exit.{Exit}
+use Rattle.fallible_contract.specs.declared.folds.Exit.TheVariants.{Ended, Failed, Stopped}
+use Rattle.fallible_contract.specs.Traces.{Answered, Run, Yields, item}
+use Rattle.fallible_contract.specs.Contract.{Contract, Lawful}
+use Rattle.fallible_contract.specs.Closures.{Reaches, IsCallable, IsCallableIn, call_in}
+use Rattle.fallible_contract.specs.Folds.{HoldsAtEachTurn, carrying_turn, CarryingExit, Carried}
+use Rattle.fallible_contract.specs.Passing.{Outcome, kept, left_out, failed, an_end, PassTrace}
+use Rattle.fallible_contract.specs.Folding.{beside, TurnedBy, FoldingTurn, FoldingTakes, handed}
+use Rattle.fallible_contract.specs.Laws.Closures.{reaches_here, reaches_weaken, reaches_from}
+use Rattle.fallible_contract.specs.Laws.Passing.{Passes, done, ends, fails, keeps, refuses, closes, leaves_out, to_passes, from_passes}
+use Rattle.fallible_contract.proofs.Lemmas.Contract.{given_after}
+use Rattle.fallible_contract.proofs.Lemmas.Folds.{holds_here, holds_after, carried_after, carried_end, carried_failure, carried_stop}
+use Rattle.fallible_contract.proofs.Lemmas.Lists.Passing.{passing_step}
+use Rattle.fallible_contract.proofs.Lemmas.Passing.{passes_in_slot}
+
+-- ---- folds from another value, of which every step is one from this one
+
+module _ {S A E C : Type 0} {steps : S → Answered A E → S → Type 0} (s u : S) (same : (r : Answered A E) (t : S) → steps u r t → steps s r t) where
+  from_items : {R : Type 0} {turns : C → A → Result C R → Type 0} {r : Exit C E R} (items : List A) (last : Answered A E) (c d : C) (t : S) → Run steps u (map item items ++ last ∷ []) t → FoldsTo (carrying_turn turns) c items d → CarryingExit turns d last r → Carried steps turns s c r t
+  from_items [] last c d t ran went exit = record { items = []; last = last; carried = d; ran = (ran.0, same last ran.0 ran.1, ran.2); went = went; exit = exit }
+  from_items (x ∷ items) last c d t ran went exit = record { items = x ∷ items; last = last; carried = d; ran = (ran.0, same (item x) ran.0 ran.1, ran.2); went = went; exit = exit }
+
+  module _ {goes_on : C → A → C → Type 0} {P : C → A → Type 0} {c : C} (h : HoldsAtEachTurn steps goes_on P s c) where
+    at_items : (items : List A) (t v : S) (d : C) (x : A) → Yields steps u items t → FoldsTo goes_on c items d → steps t (item x) v → P d x
+    at_items [] t v d x ran went step = h.at [] s v d x refl went (same (item x) v (subst (λ (z : S). steps z (item x) v) (sym ran) step))
+    at_items (y ∷ items) t v d x ran went step = h.at (y ∷ items) t v d x (ran.0, same (item y) ran.0 ran.1, ran.2) went step
+
+module _ {S A E C : Type 0} {steps : S → Answered A E → S → Type 0} {s u : S} (same : (r : Answered A E) (t : S) → steps u r t → steps s r t) where
+  pub carried_from : {R : Type 0} {turns : C → A → Result C R → Type 0} {c : C} {r : Exit C E R} {t : S} → Carried steps turns u c r t → Carried steps turns s c r t
+  carried_from {c = c} {t = t} w = from_items s u same w.items w.last c w.carried t w.ran w.went w.exit
+
+  pub holds_from : {goes_on : C → A → C → Type 0} {P : C → A → Type 0} {c : C} → HoldsAtEachTurn steps goes_on P s c → HoldsAtEachTurn steps goes_on P u c
+  holds_from h = record { at = at_items s u same h }
+
+-- ---- folds of what holds another value
+
+module _ {S P A E : Type 0} (steps : P → Answered A E → P → Type 0) (held : S → Answered A E → S → Type 0) (into : P → S) (holds : (p : P) (r : Answered A E) (q : P) → steps p r q → held (into p) r (into q)) where
+  run_into : (trace : List (Answered A E)) (p q : P) → Run steps p trace q → Run held (into p) trace (into q)
+  run_into [] p q e = ap into e
+  run_into (r ∷ trace) p q w = (into w.0, holds p r w.0 w.1, run_into trace w.0 q w.2)
+
+  yields_into : (items : List A) (p q : P) → Yields steps p items q → Yields held (into p) items (into q)
+  yields_into [] p q e = ap into e
+  yields_into (x ∷ items) p q w = (into w.0, holds p (item x) w.0 w.1, yields_into items w.0 q w.2)
+
+module _ {S P A E C : Type 0} {steps : P → Answered A E → P → Type 0} {held : S → Answered A E → S → Type 0} (into : P → S) (holds : (p : P) (r : Answered A E) (q : P) → steps p r q → held (into p) r (into q)) where
+  pub carried_into : {R : Type 0} {turns : C → A → Result C R → Type 0} {p q : P} {c : C} {r : Exit C E R} → Carried steps turns p c r q → Carried held turns (into p) c r (into q)
+  carried_into {p = p} {q = q} w = record { items = w.items; last = w.last; carried = w.carried; ran = run_into steps held into holds (map item w.items ++ w.last ∷ []) p q w.ran; went = w.went; exit = w.exit }
+
+  pub holds_into : {goes_on : C → A → C → Type 0} {Q : C → A → Type 0} {p : P} {c : C} → HoldsAtEachTurn held goes_on Q (into p) c → HoldsAtEachTurn steps goes_on Q p c
+  holds_into {p = p} h = record { at = λ items q u d x ran went step. h.at items (into q) (into u) d x (yields_into steps held into holds items p q ran) went (holds q (item x) u step) }
+
+-- ---- an adapter's fold through its source's
+
+both_on : {C F Z : Type 0} {d k : C} {h g : F} → ◌≡◌ {A = Result (C × F) Z} (Ok (d, h)) (Ok (k, g)) → (d ≡ k) × (h ≡ g)
+both_on {C = C} {F = F} {d = d} {k = k} {h = h} {g = g} e = let p : ◌≡◌ {A = C × F} (d, h) (k, g) = cc in (ap (λ q. q.0) p, ap (λ q. q.1) p)
+
+module _ {S C F X V B E R : Type 0} (steps : S → Answered X E → S → Type 0) (call : F → X → V → F → Type 0) (outcome : X → V → Outcome B E) (turns : C → B → Result C R → Type 0) where
+  abbrev Turned : C × F → X → Result (C × F) (F × Exit C E R) → Type 0
+  Turned = FoldingTurn call outcome turns
+
+  abbrev Steps : S × F → Answered B E → S × F → Type 0
+  Steps = passing_step steps call outcome
+
+  abbrev Folds : S → F → C → F × Exit C E R → S → Type 0
+  Folds s f c h t = Carried Steps turns (s, f) c h.1 (t, h.0)
+
+  -- after an item that is left out, what may be answered is answered from before it
+  left_same : {s u : S} {f g : F} (x : X) (v : V) → steps s (item x) u → call f x v g → outcome x v ≡ left_out → (r : Answered B E) (q : S × F) → Steps (u, g) r q → Steps (s, f) r q
+  left_same x v step called is r q p = from_passes (leaves_out x v step called is (to_passes p))
+
+  -- the item on which the source's turn stops
+  stops_at : (x : X) (v : V) (o : Outcome B E) (s t : S) (f g : F) (c : C) (stop : F × Exit C E R) → steps s (item x) t → call f x v g → outcome x v ≡ o → TurnedBy turns c g o (Err stop) → Folds s f c stop t
+  stops_at x v (kept y) s t f g c stop step called is (Ok d, w, e) = absurd cc
+  stops_at x v (kept y) s t f g c stop step called is (Err why, w, e) = let same : stop ≡ (g, Stopped why) = cc in subst (λ h. Folds s f c h t) (sym same) (carried_stop y (from_passes (keeps x v y step called is done)) w)
+  stops_at x v left_out s t f g c stop step called is w = absurd cc
+  stops_at x v (failed e) s t f g c stop step called is w = let same : stop ≡ (g, Failed c e) = cc in subst (λ h. Folds s f c h t) (sym same) (carried_failure (from_passes (refuses x v e step called is done)))
+  stops_at x v an_end s t f g c stop step called is w = let same : stop ≡ (g, Ended c) = cc in subst (λ h. Folds s f c h t) (sym same) (carried_end (from_passes (closes x v step called is done)))
+
+  -- the last answer of the source's fold
+  last_through : (last : Answered X E) (s t : S) (f : F) (c : C) (exit : Exit (C × F) E (F × Exit C E R)) → steps s last t → CarryingExit Turned (c, f) last exit → Folds s f c (handed exit) t
+  last_through (Ok None) s t f c exit step w = subst (λ h. Folds s f c (handed h) t) (sym w) (carried_end (from_passes (ends step done)))
+  last_through (Err e) s t f c exit step w = subst (λ h. Folds s f c (handed h) t) (sym w) (carried_failure (from_passes (fails e step done)))
+  last_through (Ok (Some x)) s t f c exit step w = subst (λ h. Folds s f c (handed h) t) (sym w.2) (let turned = w.1 in stops_at x turned.0 (outcome x turned.0) s t f turned.1 c w.0 step turned.2 refl turned.3)
+
+  -- an item on which the source's turn went on, before the rest of the fold
+  goes_on_at : (x : X) (v : V) (o : Outcome B E) (s u t : S) (f g h : F) (c d : C) (exit : F × Exit C E R) → steps s (item x) u → call f x v g → outcome x v ≡ o → TurnedBy {E = E} turns c g o (Ok (d, h)) → Folds u h d exit t → Folds s f c exit t
+  goes_on_at x v (kept y) s u t f g h c d exit step called is (Ok k, w, e) rest = let at : d ≡ k = (both_on e).0 in let left : h ≡ g = (both_on e).1 in
+      carried_after y (from_passes (keeps x v y step called is done)) (subst (λ (z : C). turns c y (Ok z)) (sym at) w) (subst (λ (j : F). Folds u j d exit t) left rest)
+  goes_on_at x v (kept y) s u t f g h c d exit step called is (Err why, w, e) rest = absurd cc
+  goes_on_at x v left_out s u t f g h c d exit step called is w rest = let at : d ≡ c = (both_on w).0 in let left : h ≡ g = (both_on w).1 in
+      carried_from (left_same x v step called is) (subst (λ (j : F). Folds u j c exit t) left (subst (λ (k : C). Folds u h k exit t) at rest))
+  goes_on_at x v (failed e) s u t f g h c d exit step called is w rest = absurd cc
+  goes_on_at x v an_end s u t f g h c d exit step called is w rest = absurd cc
+
+  items_through : (items : List X) (last : Answered X E) (s t : S) (f g : F) (c d : C) (exit : Exit (C × F) E (F × Exit C E R)) → Run steps s (map item items ++ last ∷ []) t → FoldsTo (carrying_turn Turned) (c, f) items (d, g) → CarryingExit Turned (d, g) last exit → Folds s f c (handed exit) t
+  items_through [] last s t f g c d exit ran went at = let same : (d, g) ≡ (c, f) = sym went in
+      last_through last s t f c exit (subst (λ (u : S). steps s last u) ran.2 ran.1) (subst (λ (p : C × F). CarryingExit Turned p last exit) same at)
+  items_through (x ∷ items) last s t f g c d exit ran went at = let turned = went.1 in
+      goes_on_at x turned.0 (outcome x turned.0) s ran.0 t f turned.1 went.0.1 c went.0.0 (handed exit) ran.1 turned.2 refl turned.3 (items_through items last ran.0 t went.0.1 g went.0.0 d exit ran.2 went.2 at)
+
+  -- ---- where the source's turn may be taken
+
+  module _ (P : C → B → Type 0) where
+    abbrev Holds : S → F → C → Type 0
+    Holds s f c = HoldsAtEachTurn Steps (carrying_turn turns) P (s, f) c
+
+    holds_on : (x : X) (v : V) (o : Outcome B E) (s u : S) (f g h : F) (c d : C) → steps s (item x) u → call f x v g → outcome x v ≡ o → TurnedBy {E = E} turns c g o (Ok (d, h)) → Holds s f c → Holds u h d
+    holds_on x v (kept y) s u f g h c d step called is (Ok k, w, e) holds = let at : d ≡ k = (both_on e).0 in let left : h ≡ g = (both_on e).1 in
+        subst (λ (j : F). Holds u j d) (sym left) (holds_after holds (from_passes (keeps x v y step called is done)) (subst (λ (z : C). turns c y (Ok z)) (sym at) w))
+    holds_on x v (kept y) s u f g h c d step called is (Err why, w, e) holds = absurd cc
+    holds_on x v left_out s u f g h c d step called is w holds = let at : d ≡ c = (both_on w).0 in let left : h ≡ g = (both_on w).1 in
+        subst (λ (j : F). Holds u j d) (sym left) (subst (λ (k : C). Holds u g k) (sym at) (holds_from (left_same x v step called is) holds))
+    holds_on x v (failed e) s u f g h c d step called is w holds = absurd cc
+    holds_on x v an_end s u f g h c d step called is w holds = absurd cc
+
+    holds_at : (items : List X) (s t : S) (f g : F) (c d : C) → Yields steps s items t → FoldsTo (carrying_turn Turned) (c, f) items (d, g) → Holds s f c → Holds t g d
+    holds_at [] s t f g c d ran went holds = let same : (c, f) ≡ (d, g) = went in subst (λ (u : S). Holds u g d) ran (subst (λ (p : C × F). Holds s p.1 p.0) same holds)
+    holds_at (x ∷ items) s t f g c d ran went holds = let turned = went.1 in
+        holds_at items ran.0 t went.0.1 g went.0.0 d ran.2 went.2 (holds_on x turned.0 (outcome x turned.0) s ran.0 f turned.1 went.0.1 c went.0.0 ran.1 turned.2 refl turned.3 holds)
+
+-- A fold of the source by that turn is a fold of the adapter, with the closure and the exit that were handed back.
+pub folds_through : {S C F X V B E R : Type 0} {steps : S → Answered X E → S → Type 0} {call : F → X → V → F → Type 0} {outcome : X → V → Outcome B E} {turns : C → B → Result C R → Type 0} {s t : S} {f : F} {c : C} {exit : Exit (C × F) E (F × Exit C E R)}
+    → Carried steps (FoldingTurn call outcome turns) s (c, f) exit t → Carried (passing_step steps call outcome) turns (s, f) c (handed exit).1 (t, (handed exit).0)
+folds_through {steps = steps} {call = call} {outcome = outcome} {turns = turns} {s = s} {t = t} {f = f} {c = c} {exit = exit} w = items_through steps call outcome turns w.items w.last s t f w.carried.1 c w.carried.0 exit w.ran w.went w.exit
+
+-- calls of the source's turns bring the closure where calls on what comes do
+module _ {S C F X V B E R : Type 0} {m : Contract S X E} (l : Lawful m) (call : F → X → V → F → Type 0) (outcome : X → V → Outcome B E) (turns : C → B → Result C R → Type 0) where
+  turned_on : (o : Outcome B E) (c d : C) (g h : F) → TurnedBy {E = E} turns c g o (Ok (d, h)) → h ≡ g
+  turned_on (kept y) c d g h (Ok k, w, e) = (both_on e).1
+  turned_on (kept y) c d g h (Err why, w, e) = absurd cc
+  turned_on left_out c d g h w = (both_on w).1
+  turned_on (failed e) c d g h w = absurd cc
+  turned_on an_end c d g h w = absurd cc
+
+  turned_reach : (items : List X) (s t : S) (p q : C × F) → m.can s → Yields m.steps s items t → FoldsTo (carrying_turn (FoldingTurn call outcome turns)) p items q → Reaches call (m.gives s) p.1 q.1
+  turned_reach [] s t p q c ran went = subst (λ (r : C × F). Reaches call (m.gives s) p.1 r.1) went reaches_here
+  turned_reach (x ∷ items) s t p q c ran went = let a = l.goes s (item x) ran.0 c ran.1 in let turned = went.1 in
+      let called = subst (λ (h : F). call p.1 x turned.0 h) (sym (turned_on (outcome x turned.0) p.0 went.0.0 turned.1 went.0.1 turned.3)) turned.2 in
+      reaches_from x turned.0 a.answer.0 called (reaches_weaken a.gives (turned_reach items ran.0 t went.0 q a.can ran.2 went.2))
+
+  -- The source's turn may be taken at each item where the closure may be called on what comes, and the caller's turn at each item of the adapter.
+  pub takes_through : {pre : F → X → Type 0} {P : C → B → Type 0} {s : S} {f : F} {c : C} → m.can s → IsCallable call pre (m.gives s) f → HoldsAtEachTurn (passing_step m.steps call outcome) (carrying_turn turns) P (s, f) c
+      → HoldsAtEachTurn m.steps (carrying_turn (FoldingTurn call outcome turns)) (FoldingTakes call outcome pre P) s (c, f)
+  takes_through {pre = pre} {P = P} {s = s} {f = f} {c = c} can callable holds = record {
+    at = λ items t u p x ran went step. (
+      callable.at p.1 x (turned_reach items s t (c, f) p can ran went) (given_after l s items t u x can ran step),
+      (λ v g y called is. holds_here (holds_at m.steps call outcome turns P items s t f p.1 c p.0 ran went holds) (from_passes (keeps x v y step called is done))),
+    );
+  }
+
+-- ---- an adapter with its closure in a slot, as a struct of these two parts
+
+module _ {V S F X W B E : Type 0} (view : V → S × Option F) (make : S × Option F → V) (made : (s : V) → make (view s) ≡ s) (viewed : (p : S × Option F) → view (make p) ≡ p) (call : F → X → W → F → Type 0) (outcome : X → W → Outcome B E) where
+  abbrev pub Held : (S → Answered X E → S → Type 0) → V → Answered B E → V → Type 0
+  Held steps u r v = passing_step steps (call_in call) outcome (view u) r (view v)
+
+  -- the struct with its slot full
+  abbrev full : S × F → V
+  full p = make (p.0, Some p.1)
+
+  in_struct : (steps : S → Answered X E → S → Type 0) (p : S × F) (r : Answered B E) (q : S × F) → passing_step steps call outcome p r q → Held steps (full p) r (full q)
+  in_struct steps p r q step = subst (λ z. passing_step steps (call_in call) outcome z r (view (full q))) (sym (viewed (p.0, Some p.1))) (subst (λ z. passing_step steps (call_in call) outcome (p.0, Some p.1) r z) (sym (viewed (q.0, Some q.1))) (passes_in_slot step))
+
+  full_is : (s : V) (f : F) → (view s).1 ≡ Some f → full ((view s).0, f) ≡ s
+  full_is s f at = subst (λ (o : Option F). make ((view s).0, o) ≡ s) at (made s)
+
+  module _ {C R : Type 0} (m : Contract S X E) (turns : C → B → Result C R → Type 0) {s : V} {f : F} {c : C} (at : (view s).1 ≡ Some f) where
+    -- where the adapter's turns may be taken, the source's may
+    pub takes_held : (pre : F → X → Type 0) {P : C → B → Type 0} → Lawful m → m.can (view s).0 → IsCallableIn call pre (m.gives (view s).0) (view s).1 → HoldsAtEachTurn (Held m.steps) (carrying_turn turns) P s c
+        → HoldsAtEachTurn m.steps (carrying_turn (FoldingTurn call outcome turns)) (FoldingTakes call outcome pre P) (view s).0 (c, f)
+    takes_held pre {P = P} l can callable holds = takes_through l call outcome turns can (subst (λ (o : Option F). IsCallableIn call pre (m.gives (view s).0) o) at callable)
+        (holds_into full (in_struct m.steps) (subst (λ (z : V). HoldsAtEachTurn (Held m.steps) (carrying_turn turns) P z c) (sym (full_is s f at)) holds))
+
+    -- and a fold of the source by its turn is a fold of the adapter
+    pub folds_held : {t : S} {exit : Exit (C × F) E (F × Exit C E R)} → Carried m.steps (FoldingTurn call outcome turns) (view s).0 (c, f) exit t → Carried (Held m.steps) turns s c (handed exit).1 (make (t, Some (handed exit).0))
+    folds_held {t = t} {exit = exit} w = subst (λ (z : V). Carried (Held m.steps) turns z c (handed exit).1 (make (t, Some (handed exit).0))) (full_is s f at) (carried_into full (in_struct m.steps) (folds_through w))
