@@ -43,16 +43,19 @@ module _ {S P A E : Type 0} (steps : P → Answered A E → P → Type 0) (held 
   run_into [] p q e = ap into e
   run_into (r ∷ trace) p q w = (into w.0, holds p r w.0 w.1, run_into trace w.0 q w.2)
 
-  yields_into : (items : List A) (p q : P) → Yields steps p items q → Yields held (into p) items (into q)
-  yields_into [] p q e = ap into e
-  yields_into (x ∷ items) p q w = (into w.0, holds p (item x) w.0 w.1, yields_into items w.0 q w.2)
-
 module _ {S P A E C : Type 0} {steps : P → Answered A E → P → Type 0} {held : S → Answered A E → S → Type 0} (into : P → S) (holds : (p : P) (r : Answered A E) (q : P) → steps p r q → held (into p) r (into q)) where
   pub carried_into : {R : Type 0} {turns : C → A → Result C R → Type 0} {p q : P} {c : C} {r : Exit C E R} → Carried steps turns p c r q → Carried held turns (into p) c r (into q)
   carried_into {p = p} {q = q} w = record { items = w.items; last = w.last; carried = w.carried; ran = run_into steps held into holds (map item w.items ++ w.last ∷ []) p q w.ran; went = w.went; exit = w.exit }
 
-  pub holds_into : {goes_on : C → A → C → Type 0} {Q : C → A → Type 0} {p : P} {c : C} → HoldsAtEachTurn held goes_on Q (into p) c → HoldsAtEachTurn steps goes_on Q p c
-  holds_into {p = p} h = record { at = λ items q u d x ran went step. h.at items (into q) (into u) d x (yields_into steps held into holds items p q ran) went (holds q (item x) u step) }
+-- what holds at each turn asks of items alone
+module _ {S P A E : Type 0} (steps : P → Answered A E → P → Type 0) {D : Type 0} (held : S → Answered A D → S → Type 0) (into : P → S) (holds : (p : P) (x : A) (q : P) → steps p (item x) q → held (into p) (item x) (into q)) where
+  yields_into : (items : List A) (p q : P) → Yields steps p items q → Yields held (into p) items (into q)
+  yields_into [] p q e = ap into e
+  yields_into (x ∷ items) p q w = (into w.0, holds p x w.0 w.1, yields_into items w.0 q w.2)
+
+pub holds_into : {S P A D E C : Type 0} {steps : P → Answered A E → P → Type 0} {held : S → Answered A D → S → Type 0} (into : P → S) → ((p : P) (x : A) (q : P) → steps p (item x) q → held (into p) (item x) (into q))
+    → {goes_on : C → A → C → Type 0} {Q : C → A → Type 0} {p : P} {c : C} → HoldsAtEachTurn held goes_on Q (into p) c → HoldsAtEachTurn steps goes_on Q p c
+holds_into {steps = steps} {held = held} into holds {p = p} h = record { at = λ items q u d x ran went step. h.at items (into q) (into u) d x (yields_into steps held into holds items p q ran) went (holds q x u step) }
 
 -- ---- an adapter's fold through its source's
 
@@ -153,6 +156,13 @@ module _ {S C F X V B E R : Type 0} {m : Contract S X E} (l : Lawful m) (call : 
     );
   }
 
+-- The same where no call asks anything.
+pub takes_freely : {S C F X V B E R : Type 0} {steps : S → Answered X E → S → Type 0} (call : F → X → V → F → Type 0) (outcome : X → V → Outcome B E) (turns : C → B → Result C R → Type 0) {pre : F → X → Type 0} {P : C → B → Type 0} {s : S} {f : F} {c : C} → ((g : F) (x : X) → pre g x)
+    → HoldsAtEachTurn (passing_step steps call outcome) (carrying_turn turns) P (s, f) c → HoldsAtEachTurn steps (carrying_turn (FoldingTurn call outcome turns)) (FoldingTakes call outcome pre P) s (c, f)
+takes_freely {steps = steps} call outcome turns {P = P} {s = s} {f = f} {c = c} free holds = record {
+  at = λ items t u p x ran went step. (free p.1 x, (λ v g y called is. holds_here (holds_at steps call outcome turns P items s t f p.1 c p.0 ran went holds) (from_passes (keeps x v y step called is done))));
+}
+
 -- ---- an adapter with its closure in a slot, as a struct of these two parts
 
 module _ {V S F X W B E : Type 0} (view : V → S × Option F) (make : S × Option F → V) (made : (s : V) → make (view s) ≡ s) (viewed : (p : S × Option F) → view (make p) ≡ p) (call : F → X → W → F → Type 0) (outcome : X → W → Outcome B E) where
@@ -174,7 +184,7 @@ module _ {V S F X W B E : Type 0} (view : V → S × Option F) (make : S × Opti
     pub takes_held : (pre : F → X → Type 0) {P : C → B → Type 0} → Lawful m → m.can (view s).0 → IsCallableIn call pre (m.gives (view s).0) (view s).1 → HoldsAtEachTurn (Held m.steps) (carrying_turn turns) P s c
         → HoldsAtEachTurn m.steps (carrying_turn (FoldingTurn call outcome turns)) (FoldingTakes call outcome pre P) (view s).0 (c, f)
     takes_held pre {P = P} l can callable holds = takes_through l call outcome turns can (subst (λ (o : Option F). IsCallableIn call pre (m.gives (view s).0) o) at callable)
-        (holds_into full (in_struct m.steps) (subst (λ (z : V). HoldsAtEachTurn (Held m.steps) (carrying_turn turns) P z c) (sym (full_is s f at)) holds))
+        (holds_into full (λ p x q step. in_struct m.steps p (item x) q step) (subst (λ (z : V). HoldsAtEachTurn (Held m.steps) (carrying_turn turns) P z c) (sym (full_is s f at)) holds))
 
     -- and a fold of the source by its turn is a fold of the adapter
     pub folds_held : {t : S} {exit : Exit (C × F) E (F × Exit C E R)} → Carried m.steps (FoldingTurn call outcome turns) (view s).0 (c, f) exit t → Carried (Held m.steps) turns s c (handed exit).1 (make (t, Some (handed exit).0))

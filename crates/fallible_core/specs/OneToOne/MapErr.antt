@@ -2,6 +2,8 @@
 use Rattle.std.specs.Prelude.{◌≡◌, List, [], ◌∷◌, map, Option, Some, None, Ok, Err, ⊤}
 use Rattle.std.specs.List.{filter_map}
 use Rattle.std.specs.Fn.{Mut}
+use Rattle.fallible_contract.specs.declared.folds.Exit.{Exit}
+use Rattle.fallible_contract.specs.declared.folds.Exit.TheVariants.{Ended, Failed, Stopped}
 use Rattle.fallible_contract.specs.Traces.{Answered, Run, item, failure, end}
 use Rattle.fallible_contract.specs.Contract.{Contract}
 use Rattle.fallible_contract.specs.Closures.{Calls, IsCallable, MayAnswer, call_on, takes_on}
@@ -63,6 +65,18 @@ abbrev pub TakesFailure : {F X D : Type 0} → (F → D → Type 0) → F → An
 TakesFailure pre f (Ok (Some x)) = ⊤
 TakesFailure pre f (Ok None) = ⊤
 TakesFailure pre f (Err d) = pre f d
+
+-- What `MapErr` makes of the exit of its source's fold: the closure is called on the failure that the fold met, and on nothing that a turn stopped with.
+abbrev pub MapErrExit : {F D E C R : Type 0} → (F → D → E → F → Type 0) → F → Exit C D R → Exit C E R → F → Type 0
+MapErrExit call f (Ended c) exit g = (exit ≡ Ended c) × (g ≡ f)
+MapErrExit {E = E} call f (Failed c d) exit g = (e : E) × call f d e g × (exit ≡ Failed c e)
+MapErrExit call f (Stopped r) exit g = (exit ≡ Stopped r) × (g ≡ f)
+
+-- where the fold met a failure, the closure may be called on it
+abbrev pub TakesExit : {F D C R : Type 0} → (F → D → Type 0) → F → Exit C D R → Type 0
+TakesExit pre f (Ended c) = ⊤
+TakesExit pre f (Failed c d) = pre f d
+TakesExit pre f (Stopped r) = ⊤
 
 -- the source and the closure
 abbrev pub map_err_parts : {I F : Type 0} → MapErr I F → I × F

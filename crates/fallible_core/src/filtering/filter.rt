@@ -3,6 +3,7 @@ ghost use Rattle.std.specs.Prelude.{Some, Result, Option};
 ghost use Rattle.fallible_contract.specs.Contract.{seen_as};
 ghost use Rattle.fallible_contract.specs.Closures.{call_at, takes_at};
 ghost use Rattle.fallible_contract.specs.Ends.{from_back, ends_of, ends_seen_as};
+ghost use Rattle.fallible_contract.specs.Folding.{FoldingTakes, FoldingTurn};
 ghost use Rattle.fallible_contract.specs.Passing.{PassTurn};
 ghost use Rattle.fallible_core.specs.Filtering.Filter.{filter_outcome, filter_contract, filter_parts};
 ghost use Rattle.fallible_contract.specs.Laws.Contract.{lawful_seen};
@@ -11,7 +12,7 @@ ghost use Rattle.fallible_core.specs.Laws.Filtering.Filter.{lawful_filter, lawfu
 
 use crate::traits::FallibleIterator;
 use crate::traits::double_ended::DoubleEndedFallibleIterator;
-use fallible_contract::folds::unpack;
+use fallible_contract::folds::{Exit, Turn, handed_back, turned, unpack};
 
 /// The items to which the predicate answers true. An item on which it fails is lost, and its failure is the answer.
 #[derive(Clone, Debug, Drop)]
@@ -51,6 +52,21 @@ where
         (0, self.it.size_hint().1)
     }
 
+    fn try_fold_carrying<C, R, K: Turn<C, I::Item, R>>(
+        &mut self,
+        init: C,
+        k: &K,
+    ) -> Exit<C, I::Error, R> {
+        let f = match self.f.take() {
+            Some(f) => f,
+            None => unreachable!(),
+        };
+        let turn = Filtering { turn: k };
+        let (f, exit) = handed_back(self.it.try_fold_carrying((init, f), &turn));
+        self.f = Some(f);
+        exit
+    }
+
     ghost lawful = { lawful_seen filter_parts (lawful_filter F.FnMut I.lawful) };
 }
 
@@ -76,6 +92,21 @@ where
         answer
     }
 
+    fn try_rfold_carrying<C, R, K: Turn<C, I::Item, R>>(
+        &mut self,
+        init: C,
+        k: &K,
+    ) -> Exit<C, I::Error, R> {
+        let f = match self.f.take() {
+            Some(f) => f,
+            None => unreachable!(),
+        };
+        let turn = Filtering { turn: k };
+        let (f, exit) = handed_back(self.it.try_rfold_carrying((init, f), &turn));
+        self.f = Some(f);
+        exit
+    }
+
     ghost lawful_ends = { lawful_ends_seen filter_parts (lawful_ends_filter F.FnMut I.lawful_ends) };
 }
 
@@ -88,5 +119,27 @@ fn turn<X: Drop, E, F: FnMut(&X) -> Result<bool, E>>(f: F, x: X) -> Result<F, (F
     match f(&x) {
         Ok(keep) => { if keep { Err((f, Ok(x))) } else { Ok(f) } }
         Err(e) => Err((f, Err(e))),
+    }
+}
+
+// The turn of the source's fold: the caller's turn on an item that the predicate accepts.
+#[derive(Drop)]
+struct Filtering<'a, K> {
+    turn: &'a K,
+}
+
+impl<'a, X: Drop, E, C, R, F: FnMut(&X) -> Result<bool, E>, K: Turn<C, X, R>>
+    Turn<(C, F), X, (F, Exit<C, E, R>)> for Filtering<'a, K> {
+    ghost can_turn = { λ k p x. FoldingTakes (call_at F.FnMut) filter_outcome (takes_at F.FnMut) (K.can_turn k.turn.now) p x };
+
+    ghost turns = { λ k p x r. FoldingTurn (call_at F.FnMut) filter_outcome (K.turns k.turn.now) p x r };
+
+    fn turn(&self, carried: (C, F), item: X) -> Result<(C, F), (F, Exit<C, E, R>)> {
+        let (value, mut f) = carried;
+        match f(&item) {
+            Ok(true) => turned(self.turn, value, f, Ok(item)),
+            Ok(false) => Ok((value, f)),
+            Err(e) => Err((f, Exit::Failed(value, e))),
+        }
     }
 }

@@ -3,6 +3,7 @@ ghost use Rattle.std.specs.Prelude.{Some, Result, Option};
 ghost use Rattle.fallible_contract.specs.Contract.{seen_as};
 ghost use Rattle.fallible_contract.specs.Closures.{call_on, takes_on};
 ghost use Rattle.fallible_contract.specs.Ends.{from_back, ends_of, ends_seen_as};
+ghost use Rattle.fallible_contract.specs.Folding.{FoldingTakes, FoldingTurn};
 ghost use Rattle.fallible_contract.specs.Passing.{PassTurn};
 ghost use Rattle.fallible_core.specs.Filtering.FilterMap.{filter_map_outcome, filter_map_contract, filter_map_parts};
 ghost use Rattle.fallible_contract.specs.Laws.Contract.{lawful_seen};
@@ -11,7 +12,7 @@ ghost use Rattle.fallible_core.specs.Laws.Filtering.FilterMap.{lawful_filter_map
 
 use crate::traits::FallibleIterator;
 use crate::traits::double_ended::DoubleEndedFallibleIterator;
-use fallible_contract::folds::unpack;
+use fallible_contract::folds::{Exit, Turn, handed_back, turned, unpack};
 
 /// The values that the closure answers. An item on which it answers none is left out; an item on which it fails is lost, and its failure is the answer.
 #[derive(Clone, Debug, Drop)]
@@ -48,6 +49,21 @@ impl<I: FallibleIterator, B, F: FnMut(I::Item) -> Result<Option<B>, I::Error>> F
         (0, self.it.size_hint().1)
     }
 
+    fn try_fold_carrying<C, R, K: Turn<C, B, R>>(
+        &mut self,
+        init: C,
+        k: &K,
+    ) -> Exit<C, I::Error, R> {
+        let f = match self.f.take() {
+            Some(f) => f,
+            None => unreachable!(),
+        };
+        let turn = FilterMapping { turn: k };
+        let (f, exit) = handed_back(self.it.try_fold_carrying((init, f), &turn));
+        self.f = Some(f);
+        exit
+    }
+
     ghost lawful = { lawful_seen filter_map_parts (lawful_filter_map F.FnMut I.lawful) };
 }
 
@@ -70,6 +86,21 @@ impl<I: DoubleEndedFallibleIterator, B, F: FnMut(I::Item) -> Result<Option<B>, I
         answer
     }
 
+    fn try_rfold_carrying<C, R, K: Turn<C, B, R>>(
+        &mut self,
+        init: C,
+        k: &K,
+    ) -> Exit<C, I::Error, R> {
+        let f = match self.f.take() {
+            Some(f) => f,
+            None => unreachable!(),
+        };
+        let turn = FilterMapping { turn: k };
+        let (f, exit) = handed_back(self.it.try_rfold_carrying((init, f), &turn));
+        self.f = Some(f);
+        exit
+    }
+
     ghost lawful_ends = { lawful_ends_seen filter_map_parts (lawful_ends_filter_map F.FnMut I.lawful_ends) };
 }
 
@@ -83,5 +114,27 @@ fn turn<X, B, E, F: FnMut(X) -> Result<Option<B>, E>>(f: F, x: X) -> Result<F, (
         Ok(Some(y)) => Err((f, Ok(y))),
         Ok(None) => Ok(f),
         Err(e) => Err((f, Err(e))),
+    }
+}
+
+// The turn of the source's fold: the caller's turn on the value that the closure answers.
+#[derive(Drop)]
+struct FilterMapping<'a, K> {
+    turn: &'a K,
+}
+
+impl<'a, X, B, E, C, R, F: FnMut(X) -> Result<Option<B>, E>, K: Turn<C, B, R>>
+    Turn<(C, F), X, (F, Exit<C, E, R>)> for FilterMapping<'a, K> {
+    ghost can_turn = { λ k p x. FoldingTakes (call_on F.FnMut) filter_map_outcome (takes_on F.FnMut) (K.can_turn k.turn.now) p x };
+
+    ghost turns = { λ k p x r. FoldingTurn (call_on F.FnMut) filter_map_outcome (K.turns k.turn.now) p x r };
+
+    fn turn(&self, carried: (C, F), item: X) -> Result<(C, F), (F, Exit<C, E, R>)> {
+        let (value, mut f) = carried;
+        match f(item) {
+            Ok(Some(y)) => turned(self.turn, value, f, Ok(y)),
+            Ok(None) => Ok((value, f)),
+            Err(e) => Err((f, Exit::Failed(value, e))),
+        }
     }
 }

@@ -1,7 +1,8 @@
 // The adapter that clones what each item points to.
-ghost use Rattle.std.specs.Prelude.{Some, Result, Option};
+ghost use Rattle.std.specs.Prelude.{⊤, Some, Result, Option};
 ghost use Rattle.fallible_contract.specs.Contract.{seen_as};
 ghost use Rattle.fallible_contract.specs.Ends.{from_back, ends_of, ends_seen_as};
+ghost use Rattle.fallible_contract.specs.Folding.{FoldingTakes, FoldingTurn};
 ghost use Rattle.fallible_contract.specs.Passing.{PassAnswer};
 ghost use Rattle.fallible_core.specs.OneToOne.Map.{map_outcome};
 ghost use Rattle.fallible_core.specs.OneToOne.Cloned.{cloned_call, cloned_contract, cloned_parts};
@@ -11,6 +12,7 @@ ghost use Rattle.fallible_core.specs.Laws.OneToOne.Cloned.{lawful_cloned, lawful
 
 use crate::traits::FallibleIterator;
 use crate::traits::double_ended::DoubleEndedFallibleIterator;
+use fallible_contract::folds::{Exit, Turn, handed_back, turned};
 use std::alloc::AllocError;
 
 /// A clone of what each item points to. Where the clone is refused, the failure made of the refusal is the answer and the item is lost.
@@ -38,6 +40,15 @@ where
         self.it.size_hint()
     }
 
+    fn try_fold_carrying<C, R, K: Turn<C, T, R>>(
+        &mut self,
+        init: C,
+        k: &K,
+    ) -> Exit<C, I::Error, R> {
+        let turn = Cloning { turn: k };
+        handed_back(self.it.try_fold_carrying((init, ()), &turn)).1
+    }
+
     ghost lawful = { lawful_seen cloned_parts (lawful_cloned T.is_clone T.is_infallible I.Error.from_gives I.lawful) };
 }
 
@@ -51,6 +62,15 @@ where
     /// Draws one answer from behind, and clones what it points to where it is an item.
     fn next_back(&mut self) -> Result<Option<T>, I::Error> {
         answer(self.it.next_back())
+    }
+
+    fn try_rfold_carrying<C, R, K: Turn<C, T, R>>(
+        &mut self,
+        init: C,
+        k: &K,
+    ) -> Exit<C, I::Error, R> {
+        let turn = Cloning { turn: k };
+        handed_back(self.it.try_rfold_carrying((init, ()), &turn)).1
     }
 
     ghost lawful_ends = { lawful_ends_seen cloned_parts (lawful_ends_cloned T.is_clone T.is_infallible I.Error.from_gives I.lawful_ends) };
@@ -68,5 +88,26 @@ fn answer<'a, T: Clone + 'a, E: From<AllocError>>(
             Err(refused) => Err(E::from(refused)),
         },
         None => Ok(None),
+    }
+}
+
+// The turn of the source's fold: the caller's turn on a clone. No closure is handed on.
+#[derive(Drop)]
+struct Cloning<'a, K> {
+    turn: &'a K,
+}
+
+impl<'a, 'b, T: Clone + 'b, E: From<AllocError>, C, R, K: Turn<C, T, R>>
+    Turn<(C, ()), &'b T, ((), Exit<C, E, R>)> for Cloning<'a, K> {
+    ghost can_turn = { λ k p x. FoldingTakes (cloned_call T.is_clone T.is_infallible E.from_gives) map_outcome (λ _ _. ⊤) (K.can_turn k.turn.now) p x };
+
+    ghost turns = { λ k p x r. FoldingTurn (cloned_call T.is_clone T.is_infallible E.from_gives) map_outcome (K.turns k.turn.now) p x r };
+
+    fn turn(&self, carried: (C, ()), item: &'b T) -> Result<(C, ()), ((), Exit<C, E, R>)> {
+        let (value, none) = carried;
+        match T::clone(item) {
+            Ok(y) => turned(self.turn, value, none, Ok(y)),
+            Err(refused) => Err((none, Exit::Failed(value, E::from(refused)))),
+        }
     }
 }

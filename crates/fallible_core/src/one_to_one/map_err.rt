@@ -3,13 +3,14 @@ ghost use Rattle.std.specs.Prelude.{Some, Result, Option};
 ghost use Rattle.fallible_contract.specs.Contract.{seen_as};
 ghost use Rattle.fallible_contract.specs.Closures.{call_on, takes_on};
 ghost use Rattle.fallible_contract.specs.Ends.{from_back, ends_of, ends_seen_as};
-ghost use Rattle.fallible_core.specs.OneToOne.MapErr.{MapErrAnswer, TakesFailure, map_err_contract, map_err_parts};
+ghost use Rattle.fallible_core.specs.OneToOne.MapErr.{MapErrAnswer, MapErrExit, TakesExit, TakesFailure, map_err_contract, map_err_parts};
 ghost use Rattle.fallible_contract.specs.Laws.Contract.{lawful_seen};
 ghost use Rattle.fallible_contract.specs.Laws.Ends.{lawful_ends_seen};
 ghost use Rattle.fallible_core.specs.Laws.OneToOne.MapErr.{lawful_map_err, lawful_ends_map_err};
 
 use crate::traits::FallibleIterator;
 use crate::traits::double_ended::DoubleEndedFallibleIterator;
+use fallible_contract::folds::{Exit, Turn};
 
 /// The source with each failure replaced by the closure's value on it. Its failures are those values; items and ends pass.
 #[derive(Clone, Debug, Drop)]
@@ -34,6 +35,14 @@ impl<I: FallibleIterator, B, F: FnMut(I::Error) -> B> FallibleIterator for MapEr
         self.it.size_hint()
     }
 
+    fn try_fold_carrying<C, R, K: Turn<C, I::Item, R>>(
+        &mut self,
+        init: C,
+        k: &K,
+    ) -> Exit<C, B, R> {
+        exited(self.it.try_fold_carrying(init, k), &mut self.f)
+    }
+
     ghost lawful = { lawful_seen map_err_parts (lawful_map_err F.FnMut I.lawful) };
 }
 
@@ -44,6 +53,14 @@ impl<I: DoubleEndedFallibleIterator, B, F: FnMut(I::Error) -> B> DoubleEndedFall
     /// Draws one answer from behind, and calls the closure where it is a failure.
     fn next_back(&mut self) -> Result<Option<I::Item>, B> {
         answer(self.it.next_back(), &mut self.f)
+    }
+
+    fn try_rfold_carrying<C, R, K: Turn<C, I::Item, R>>(
+        &mut self,
+        init: C,
+        k: &K,
+    ) -> Exit<C, B, R> {
+        exited(self.it.try_rfold_carrying(init, k), &mut self.f)
     }
 
     ghost lawful_ends = { lawful_ends_seen map_err_parts (lawful_ends_map_err F.FnMut I.lawful_ends) };
@@ -61,5 +78,17 @@ fn answer<X, D, E, F: FnMut(D) -> E>(
         Ok(Some(x)) => Ok(Some(x)),
         Ok(None) => Ok(None),
         Err(e) => Err(f(e)),
+    }
+}
+
+// What the closure makes of the exit of the source's fold: it is called where that is a failure.
+fn exited<C, D, E, R, F: FnMut(D) -> E>(exit: Exit<C, D, R>, f: &mut F) -> Exit<C, E, R>
+    requires { TakesExit (takes_on F.FnMut) f.old exit }
+    ensures { MapErrExit (call_on F.FnMut) f.old exit result f.new }
+{
+    match exit {
+        Exit::Ended(carried) => Exit::Ended(carried),
+        Exit::Failed(carried, e) => Exit::Failed(carried, f(e)),
+        Exit::Stopped(stop) => Exit::Stopped(stop),
     }
 }
