@@ -6,6 +6,7 @@ ghost use Rattle.fallible_core.specs.Laws.Borrowed.{lawful_borrowed, lawful_ends
 
 use crate::traits::FallibleIterator;
 use crate::traits::double_ended::DoubleEndedFallibleIterator;
+use fallible_contract::folds::{Exit, Turn};
 
 impl<I: FallibleIterator> FallibleIterator for &mut I {
     type Item = I::Item;
@@ -22,6 +23,14 @@ impl<I: FallibleIterator> FallibleIterator for &mut I {
         (**self).size_hint()
     }
 
+    fn try_fold_carrying<C, R, K: Turn<C, I::Item, R>>(
+        &mut self,
+        init: C,
+        k: &K,
+    ) -> Exit<C, I::Error, R> {
+        (**self).try_fold_carrying(init, k)
+    }
+
     ghost lawful = { lawful_borrowed I.lawful };
 }
 
@@ -30,6 +39,14 @@ impl<I: DoubleEndedFallibleIterator> DoubleEndedFallibleIterator for &mut I {
 
     fn next_back(&mut self) -> Result<Option<I::Item>, I::Error> {
         (**self).next_back()
+    }
+
+    fn try_rfold_carrying<C, R, K: Turn<C, I::Item, R>>(
+        &mut self,
+        init: C,
+        k: &K,
+    ) -> Exit<C, I::Error, R> {
+        (**self).try_rfold_carrying(init, k)
     }
 
     ghost lawful_ends = { lawful_ends_borrowed I.lawful_ends };

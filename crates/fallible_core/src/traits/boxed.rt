@@ -7,6 +7,7 @@ ghost use Rattle.fallible_contract.specs.Laws.Ends.{lawful_ends_seen};
 
 use crate::traits::FallibleIterator;
 use crate::traits::double_ended::DoubleEndedFallibleIterator;
+use fallible_contract::folds::{Exit, Turn};
 
 impl<I: FallibleIterator> FallibleIterator for Box<I> {
     type Item = I::Item;
@@ -23,6 +24,14 @@ impl<I: FallibleIterator> FallibleIterator for Box<I> {
         (**self).size_hint()
     }
 
+    fn try_fold_carrying<C, R, K: Turn<C, I::Item, R>>(
+        &mut self,
+        init: C,
+        k: &K,
+    ) -> Exit<C, I::Error, R> {
+        (**self).try_fold_carrying(init, k)
+    }
+
     ghost lawful = { lawful_seen (λ s. s.value) I.lawful };
 }
 
@@ -31,6 +40,14 @@ impl<I: DoubleEndedFallibleIterator> DoubleEndedFallibleIterator for Box<I> {
 
     fn next_back(&mut self) -> Result<Option<I::Item>, I::Error> {
         (**self).next_back()
+    }
+
+    fn try_rfold_carrying<C, R, K: Turn<C, I::Item, R>>(
+        &mut self,
+        init: C,
+        k: &K,
+    ) -> Exit<C, I::Error, R> {
+        (**self).try_rfold_carrying(init, k)
     }
 
     ghost lawful_ends = { lawful_ends_seen (λ s. s.value) I.lawful_ends };
