@@ -1,0 +1,71 @@
+// Draws from both ends, one after another.
+use fallible_iterator::FallibleIterator;
+use fallible_iterator::DoubleEndedFallibleIterator;
+use fallible_iterator::laws::Answer::{End, Failure, Item};
+use fallible_iterator::laws::Side::{Back, Front};
+use fallible_testing::answered::expect_answers_at;
+use fallible_testing::listed::listed;
+use std::test::Fail;
+
+#[test]
+fn map_from_both_ends(rt: HostRuntime) -> Result<(), Fail> {
+    let it = listed::<u32, u32, 4>(rt.alloc(), [Ok(1), Err(2), Ok(3), Ok(4)])?;
+    let mut it = it.map(|x: u32| Ok(x.wrapping_mul(10)));
+    expect_answers_at(
+        &rt,
+        &mut it,
+        &[Front, Back, Back, Front, Front, Back],
+        &[Item(10), Item(40), Item(30), Failure(2), End, End],
+    )
+}
+
+#[test]
+fn filter_from_both_ends(rt: HostRuntime) -> Result<(), Fail> {
+    let it = listed::<u32, (), 5>(rt.alloc(), [Ok(1), Ok(2), Ok(3), Ok(4), Ok(5)])?;
+    let mut it = it.filter(|x: &u32| Ok(*x % 2 == 1));
+    expect_answers_at(
+        &rt,
+        &mut it,
+        &[Front, Back, Front, Back, Front],
+        &[Item(1), Item(5), Item(3), End, End],
+    )
+}
+
+#[test]
+fn chain_fails_from_behind_and_goes_on_in_front_of_it(rt: HostRuntime) -> Result<(), Fail> {
+    let front = listed::<u32, u32, 1>(rt.alloc(), [Ok(1)])?;
+    let back = listed::<u32, u32, 1>(rt.alloc(), [Err(9)])?;
+    let mut it = front.chain(back);
+    expect_answers_at(&rt, &mut it, &[Back, Back, Front], &[Failure(9), Item(1), End])
+}
+
+#[test]
+fn chain_hints_what_both_ends_left(rt: HostRuntime) -> Result<(), Fail> {
+    let front = listed::<u32, (), 2>(rt.alloc(), [Ok(1), Ok(2)])?;
+    let back = listed::<u32, (), 1>(rt.alloc(), [Ok(3)])?;
+    let mut it = front.chain(back);
+    expect_answers_at(&rt, &mut it, &[Front, Back, Back], &[Item(1), Item(3), Item(2)])?;
+    assert_eq!(rt; it.size_hint(), (0, Some(0)));
+    assert_eq!(rt; it.next(), Ok(None));
+    Ok(())
+}
+
+#[test]
+fn a_reference_and_a_box_draw_from_both_ends(rt: HostRuntime) -> Result<(), Fail> {
+    let mut it = listed::<u32, (), 4>(rt.alloc(), [Ok(1), Ok(2), Ok(3), Ok(4)])?;
+    let mut behind = &mut it;
+    assert_eq!(rt; behind.next_back(), Ok(Some(4)));
+    assert_eq!(rt; behind.next(), Ok(Some(1)));
+    let mut boxed = Box::new(rt.alloc(), it)?;
+    assert_eq!(rt; boxed.next_back(), Ok(Some(3)));
+    assert_eq!(rt; boxed.next(), Ok(Some(2)));
+    assert_eq!(rt; boxed.next_back(), Ok(None));
+    Ok(())
+}
+
+#[test]
+fn inspect_sees_what_comes_from_each_end(rt: HostRuntime) -> Result<(), Fail> {
+    let it = listed::<u32, u32, 3>(rt.alloc(), [Ok(1), Ok(2), Ok(3)])?;
+    let mut it = it.inspect(|x: &u32| if *x == 3 { Err(30) } else { Ok(()) });
+    expect_answers_at(&rt, &mut it, &[Back, Front, Back, Back], &[Failure(30), Item(1), Item(2), End])
+}

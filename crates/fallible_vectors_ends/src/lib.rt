@@ -1,0 +1,11 @@
+//! Vectors: draws and folds from behind and from both ends, with answers that come from outside.
+#![tactic(auto)]
+
+#[cfg(test)]
+mod drawing;
+#[cfg(test)]
+mod folding;
+#[cfg(test)]
+mod own_type;
+#[cfg(test)]
+mod reversing;
