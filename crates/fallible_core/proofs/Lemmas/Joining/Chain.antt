@@ -41,19 +41,19 @@ module _ {S U A E : Type 0} (steps : S → Answered A E → S → Type 0) (other
     | inr step ↦ let p = to_back rest h.0.0 h.0.1 t v left (rw step.2 at h.2) in inr (end_first s h.0.0 t u h.0.1 v r rest step.0 step.1 p.0 p.1, p.2)
   ]
 
-  from_front : (trace : List (Answered A E)) (s : S) (u : U) (t : S) → Run steps s trace t → Run Step (s, u, FrontAlone) trace (t, u, FrontAlone)
+  pub from_front : (trace : List (Answered A E)) (s : S) (u : U) (t : S) → Run steps s trace t → Run Step (s, u, FrontAlone) trace (t, u, FrontAlone)
   from_front [] s u t ran = rw ran refl
   from_front (r ∷ rest) s u t ran = ((ran.0, u, FrontAlone), (ran.1, refl, refl), from_front rest ran.0 u t ran.2)
 
-  from_back : (trace : List (Answered A E)) (s : S) (u : U) (v : U) → Run others u trace v → Run Step (s, u, BackAlone) trace (s, v, BackAlone)
+  pub from_back : (trace : List (Answered A E)) (s : S) (u : U) (v : U) → Run others u trace v → Run Step (s, u, BackAlone) trace (s, v, BackAlone)
   from_back [] s u v ran = rw ran refl
   from_back (r ∷ rest) s u v ran = ((s, ran.0, BackAlone), (ran.1, refl, refl), from_back rest s ran.0 v ran.2)
 
-  from_both : (trace : List (Answered A E)) (s : S) (u : U) (t : S) → Run steps s trace t → NoEnd trace → Run Step (s, u, Both) trace (t, u, Both)
+  pub from_both : (trace : List (Answered A E)) (s : S) (u : U) (t : S) → Run steps s trace t → NoEnd trace → Run Step (s, u, Both) trace (t, u, Both)
   from_both [] s u t ran no_end = rw ran refl
   from_both (r ∷ rest) s u t ran no_end = ((ran.0, u, Both), inl (ran.1, no_end.0, refl, refl), from_both rest ran.0 u t ran.2 no_end.1)
 
-  from_joined : (before trace : List (Answered A E)) (s : S) (u : U) (t : S) (v : U) → Run steps s (before ++ end ∷ []) t → NoEnd before → Run others u trace v → trace ≢ [] → Run Step (s, u, Both) (before ++ trace) (t, v, BackAlone)
+  pub from_joined : (before trace : List (Answered A E)) (s : S) (u : U) (t : S) (v : U) → Run steps s (before ++ end ∷ []) t → NoEnd before → Run others u trace v → trace ≢ [] → Run Step (s, u, Both) (before ++ trace) (t, v, BackAlone)
   from_joined [] [] s u t v ran no_end back some = absurd (some refl)
   from_joined [] (r ∷ rest) s u t v ran no_end back some = rw⁻¹ ran.2 ((ran.0, back.0, BackAlone), inr (ran.1, back.1, refl), from_back rest ran.0 back.0 v back.2)
   from_joined (r ∷ before) trace s u t v ran no_end back some = ((ran.0, u, Both), inl (ran.1, no_end.0, refl, refl), from_joined before trace ran.0 u t v ran.2 no_end.1 back some)
