@@ -9,6 +9,7 @@ ghost use Rattle.fallible_core.specs.Laws.Joining.Chain.{lawful_chain, lawful_en
 
 use crate::traits::FallibleIterator;
 use crate::traits::double_ended::DoubleEndedFallibleIterator;
+use fallible_contract::folds::{Exit, Turn};
 use fallible_contract::hints::sum;
 
 // Which sides of a `Chain` are still drawn: `BackAlone` once a draw from the front met the front's end, and `FrontAlone` once a draw from behind met the back's.
@@ -59,6 +60,30 @@ impl<T: FallibleIterator, U: FallibleIterator<Item = T::Item, Error = T::Error>>
         }
     }
 
+    // The front's fold, and at its end, in the same call, the back's; where one side alone is drawn, that side's.
+    fn try_fold_carrying<C, R, K: Turn<C, T::Item, R>>(
+        &mut self,
+        init: C,
+        k: &K,
+    ) -> Exit<C, T::Error, R> {
+        let Chain {
+            front,
+            back,
+            still_drawn,
+        } = self;
+        match still_drawn {
+            StillDrawn::Both => match front.try_fold_carrying(init, k) {
+                Exit::Ended(carried) => {
+                    *still_drawn = StillDrawn::BackAlone;
+                    back.try_fold_carrying(carried, k)
+                }
+                exit => exit,
+            },
+            StillDrawn::FrontAlone => front.try_fold_carrying(init, k),
+            StillDrawn::BackAlone => back.try_fold_carrying(init, k),
+        }
+    }
+
     ghost lawful = { lawful_seen chain_parts (lawful_chain T.lawful U.lawful) };
 }
 
@@ -81,6 +106,30 @@ impl<
             },
             StillDrawn::FrontAlone => self.front.next_back(),
             StillDrawn::BackAlone => self.back.next_back(),
+        }
+    }
+
+    // The back's fold from behind, and at its end, in the same call, the front's; where one side alone is drawn, that side's.
+    fn try_rfold_carrying<C, R, K: Turn<C, T::Item, R>>(
+        &mut self,
+        init: C,
+        k: &K,
+    ) -> Exit<C, T::Error, R> {
+        let Chain {
+            front,
+            back,
+            still_drawn,
+        } = self;
+        match still_drawn {
+            StillDrawn::Both => match back.try_rfold_carrying(init, k) {
+                Exit::Ended(carried) => {
+                    *still_drawn = StillDrawn::FrontAlone;
+                    front.try_rfold_carrying(carried, k)
+                }
+                exit => exit,
+            },
+            StillDrawn::FrontAlone => front.try_rfold_carrying(init, k),
+            StillDrawn::BackAlone => back.try_rfold_carrying(init, k),
         }
     }
 
