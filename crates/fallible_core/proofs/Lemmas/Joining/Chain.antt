@@ -8,7 +8,7 @@ use Rattle.fallible_contract.proofs.Lemmas.Lists.Passing.{lists_seen}
 use Rattle.fallible_core.specs.declared.joining.chain.StillDrawn.{StillDrawn}
 use Rattle.fallible_core.specs.declared.joining.chain.StillDrawn.TheVariants.{Both, FrontAlone, BackAlone}
 use Rattle.fallible_contract.specs.Traces.{Answered, Run, end, NoEnd, is_end}
-use Rattle.fallible_core.specs.Joining.Chain.{JoinedTrace, ChainTrace, chain_step, chain_parts, chain_contract}
+use Rattle.fallible_core.specs.Joining.Chain.{JoinedTrace, ChainTrace, chain_step, chain_parts, chain_behind, chain_contract}
 
 module _ {S U A E : Type 0} (steps : S → Answered A E → S → Type 0) (others : U → Answered A E → U → Type 0) where
   abbrev Step : S × U × StillDrawn → Answered A E → S × U × StillDrawn → Type 0
@@ -66,6 +66,25 @@ module _ {S U A E : Type 0} (steps : S → Answered A E → S → Type 0) (other
   chain_law (s, u, Both) trace (t, v, left) = (to_both trace s u t v left, from_either trace s u t v left)
   chain_law (s, u, FrontAlone) trace (t, v, left) = (to_front trace s u t v left, (λ p. rw (p.1, p.2) (from_front trace s u t p.0)))
   chain_law (s, u, BackAlone) trace (t, v, left) = (to_back trace s u t v left, (λ p. rw (p.1, p.2) (from_back trace s u v p.0)))
+
+-- ---- values and their parts, from the front and from behind
+
+-- the value of its parts
+abbrev pub of_parts : {T U : Type 0} → T × U × StillDrawn → Chain T U
+of_parts p = record { front = p.0; back = p.1; still_drawn = p.2 }
+
+-- the parts seen from behind, and the value of them
+abbrev pub seen_behind : {T U : Type 0} → Chain T U → U × T × StillDrawn
+seen_behind s = chain_behind (chain_parts s)
+
+abbrev pub of_parts_behind : {T U : Type 0} → U × T × StillDrawn → Chain T U
+of_parts_behind p = of_parts (chain_behind p)
+
+-- seen from behind twice, the sides are as they were
+pub behind_twice : {S U : Type 0} (p : S × U × StillDrawn) → chain_behind (chain_behind p) ≡ p
+behind_twice (s, u, Both) = refl
+behind_twice (s, u, FrontAlone) = refl
+behind_twice (s, u, BackAlone) = refl
 
 -- ---- what it lists
 

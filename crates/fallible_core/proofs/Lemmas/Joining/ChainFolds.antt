@@ -3,7 +3,6 @@ use Rattle.std.specs.Prelude.{◌≡◌, ◌≢◌, false, List, [], ◌∷◌, 
 use Rattle.std.specs.List.{FoldsTo}
 use Rattle.std.proofs.Common.{refl, sym, ◌∙◌, ap, ap₂, subst, inl, inr, append_assoc}
 use Rattle.std.proofs.lemmas.List.{map-append}
-use Rattle.fallible_core.specs.declared.joining.chain.Chain.{Chain}
 use Rattle.fallible_core.specs.declared.joining.chain.StillDrawn.{StillDrawn}
 use Rattle.fallible_core.specs.declared.joining.chain.StillDrawn.TheVariants.{Both, FrontAlone, BackAlone}
 use Rattle.fallible_contract.specs.declared.folds.Exit.{Exit}
@@ -12,7 +11,7 @@ use Rattle.fallible_contract.specs.Traces.{Answered, Run, Yields, NoEnd, item, e
 use Rattle.fallible_contract.specs.Contract.{Contract, seen_as}
 use Rattle.fallible_contract.specs.Folds.{HoldsAtEachTurn, carrying_turn, CarryingExit, Carried}
 use Rattle.fallible_contract.specs.Laws.Closures.{turns_then}
-use Rattle.fallible_core.specs.Joining.Chain.{chain_step, chain_contract, chain_behind, chain_parts}
+use Rattle.fallible_core.specs.Joining.Chain.{chain_step, chain_contract}
 use Rattle.fallible_contract.proofs.Lemmas.Overriding.{holds_held, carried_held}
 use Rattle.fallible_core.proofs.Lemmas.Joining.Chain.{from_front, from_back, from_both, from_joined}
 
@@ -125,30 +124,13 @@ module _ {S U A E : Type 0} (steps : S → Answered A E → S → Type 0) (other
 
 -- ---- of what is seen as a chain, as `Chain` is from the front, and from behind
 
--- the parts, seen from behind
-abbrev pub seen_behind : {T U : Type 0} → Chain T U → U × T × StillDrawn
-seen_behind s = chain_behind (chain_parts s)
-
--- the value with other parts, and with those that it has seen from behind
-abbrev pub with_parts : {T U : Type 0} → Chain T U → T × U × StillDrawn → Chain T U
-with_parts s p = record { front = p.0; back = p.1; still_drawn = p.2 }
-
-abbrev pub with_parts_behind : {T U : Type 0} → Chain T U → U × T × StillDrawn → Chain T U
-with_parts_behind s p = with_parts s (chain_behind p)
-
--- seen from behind twice, the sides are as they were
-pub behind_twice : {S U : Type 0} (p : S × U × StillDrawn) → chain_behind (chain_behind p) ≡ p
-behind_twice (s, u, Both) = refl
-behind_twice (s, u, FrontAlone) = refl
-behind_twice (s, u, BackAlone) = refl
-
-module _ {V S U A E : Type 0} (view : V → S × U × StillDrawn) (put : V → S × U × StillDrawn → V) (viewed : (s : V) (p : S × U × StillDrawn) → view (put s p) ≡ p) (front : Contract S A E) (back : Contract U A E) where
+module _ {V S U A E : Type 0} (view : V → S × U × StillDrawn) (make : S × U × StillDrawn → V) (has : (p : S × U × StillDrawn) → view (make p) ≡ p) (front : Contract S A E) (back : Contract U A E) where
   abbrev Drawn : V → Answered A E → V → Type 0
   Drawn = (seen_as view (chain_contract front back)).steps
 
   module _ {C : Type 0} {goes_on : C → A → C → Type 0} {P : C → A → Type 0} {s : V} {c : C} where
     parts_hold : {drawn : StillDrawn} → (view s).2 ≡ drawn → HoldsAtEachTurn Drawn goes_on P s c → HoldsAtEachTurn (chain_step front.steps back.steps) goes_on P ((view s).0, (view s).1, drawn) c
-    parts_hold is h = subst (λ (d : StillDrawn). HoldsAtEachTurn (chain_step front.steps back.steps) goes_on P ((view s).0, (view s).1, d) c) is (holds_held view put viewed (chain_contract front back) h)
+    parts_hold is h = subst (λ (d : StillDrawn). HoldsAtEachTurn (chain_step front.steps back.steps) goes_on P ((view s).0, (view s).1, d) c) is (holds_held view (λ s p. make p) (λ s p. has p) (chain_contract front back) h)
 
     pub turns_front_alone : (view s).2 ≡ FrontAlone → HoldsAtEachTurn Drawn goes_on P s c → HoldsAtEachTurn front.steps goes_on P (view s).0 c
     turns_front_alone is h = holds_front_alone front.steps back.steps (parts_hold is h)
@@ -165,7 +147,7 @@ module _ {V S U A E : Type 0} (view : V → S × U × StillDrawn) (put : V → S
 
     module _ {r : Exit C E R} {w : V} where
       parts_carried : {p q : S × U × StillDrawn} → view s ≡ p → view w ≡ q → Carried (chain_step front.steps back.steps) turns p c r q → Carried Drawn turns s c r w
-      parts_carried {p} {q} e e' f = carried_held view put viewed (chain_contract front back)
+      parts_carried {p} {q} e e' f = carried_held view (λ s p. make p) (λ s p. has p) (chain_contract front back)
           (subst (λ z. Carried (chain_step front.steps back.steps) turns z c r (view w)) (sym e) (subst (λ z. Carried (chain_step front.steps back.steps) turns p c r z) (sym e') f))
 
       pub folds_front_alone : (view s).2 ≡ FrontAlone → (view w).1 ≡ (view s).1 → (view w).2 ≡ FrontAlone → Carried front.steps turns (view s).0 c r (view w).0 → Carried Drawn turns s c r w
