@@ -5,6 +5,7 @@ use Rattle.fallible_core.specs.declared.joining.chain.StillDrawn.{StillDrawn}
 use Rattle.fallible_core.specs.declared.joining.chain.StillDrawn.TheVariants.{Both, FrontAlone, BackAlone}
 use Rattle.fallible_contract.specs.Traces.{Answered, Run, end, is_end, NoEnd}
 use Rattle.fallible_contract.specs.Contract.{Contract, names_of_both}
+use Rattle.fallible_contract.specs.Ends.{Ends}
 use Rattle.fallible_core.specs.declared.joining.chain.Chain.{Chain}
 use Rattle.fallible_contract.specs.Hints.{hint_sum}
 
@@ -31,6 +32,12 @@ module _ {S U A E : Type 0} (steps : S → Answered A E → S → Type 0) (other
   chain_step (s, u, FrontAlone) r q = steps s r q.0 × (q.1 ≡ u) × (q.2 ≡ FrontAlone)
   chain_step (s, u, BackAlone) r q = others u r q.1 × (q.0 ≡ s) × (q.2 ≡ BackAlone)
 
+-- what may still come is what may come of a side that is still drawn
+abbrev pub chain_may_come : {S U X : Type 0} → (S → X → Type 0) → (U → X → Type 0) → S × U × StillDrawn → X → Type 0
+chain_may_come front back (s, u, Both) x = front s x ⊎ back u x
+chain_may_come front back (s, u, FrontAlone) x = front s x
+chain_may_come front back (s, u, BackAlone) x = back u x
+
 -- All else is said by the sides that are still drawn: the sums where both are, and else what the one side says.
 module _ {S U A E : Type 0} (front : Contract S A E) (back : Contract U A E) where
   abbrev pub chain_to_come : S × U × StillDrawn → ℕ → Type 0
@@ -48,16 +55,6 @@ module _ {S U A E : Type 0} (front : Contract S A E) (back : Contract U A E) whe
   chain_elements (s, u, FrontAlone) = front.elements s
   chain_elements (s, u, BackAlone) = back.elements u
 
-  abbrev pub chain_gives : S × U × StillDrawn → A → Type 0
-  chain_gives (s, u, Both) x = front.gives s x ⊎ back.gives u x
-  chain_gives (s, u, FrontAlone) x = front.gives s x
-  chain_gives (s, u, BackAlone) x = back.gives u x
-
-  abbrev pub chain_fails : S × U × StillDrawn → E → Type 0
-  chain_fails (s, u, Both) e = front.fails s e ⊎ back.fails u e
-  chain_fails (s, u, FrontAlone) e = front.fails s e
-  chain_fails (s, u, BackAlone) e = back.fails u e
-
   abbrev pub chain_hints : S × U × StillDrawn → ℕ × Option ℕ → Type 0
   chain_hints (s, u, Both) h = (f : ℕ × Option ℕ) × (b : ℕ × Option ℕ) × front.hints s f × back.hints u b × (h ≡ hint_sum f b)
   chain_hints (s, u, FrontAlone) h = front.hints s h
@@ -71,11 +68,29 @@ module _ {S U A E : Type 0} (front : Contract S A E) (back : Contract U A E) whe
     to_come = chain_to_come;
     has_end = chain_has_end;
     elements = chain_elements;
-    gives = chain_gives;
-    fails = chain_fails;
+    gives = chain_may_come front.gives back.gives;
+    fails = chain_may_come front.fails back.fails;
     hints = chain_hints;
     names = λ p. names_of_both (front.names p.0) (back.names p.1);
   }
+
+-- Seen from behind, the sides are swapped.
+abbrev pub sides_behind : StillDrawn → StillDrawn
+sides_behind Both = Both
+sides_behind FrontAlone = BackAlone
+sides_behind BackAlone = FrontAlone
+
+abbrev pub chain_behind : {S U : Type 0} → S × U × StillDrawn → U × S × StillDrawn
+chain_behind p = (p.1, p.0, sides_behind p.2)
+
+-- `Chain`'s second end: a draw from behind is one of the chain seen from behind, whose sides are drawn from behind.
+abbrev pub chain_ends : {S U A E : Type 0} → Ends S A E → Ends U A E → Ends (S × U × StillDrawn) A E
+chain_ends f e = record {
+  can = λ p. f.can p.0 × e.can p.1;
+  steps = λ p r q. chain_step e.steps f.steps (chain_behind p) r (chain_behind q);
+  gives = chain_may_come f.gives e.gives;
+  fails = chain_may_come f.fails e.fails;
+}
 
 -- the front, the back, and which of them are still drawn
 abbrev pub chain_parts : {T U : Type 0} → Chain T U → T × U × StillDrawn

@@ -1,14 +1,18 @@
 // The adapter that draws one source up to its first end, and then another.
 ghost use Rattle.std.specs.Prelude.{◌≡◌, Result, Option};
 ghost use Rattle.fallible_contract.specs.Contract.{seen_as};
-ghost use Rattle.fallible_core.specs.Joining.Chain.{chain_contract, chain_parts};
+ghost use Rattle.fallible_contract.specs.Ends.{ends_seen_as};
+ghost use Rattle.fallible_core.specs.Joining.Chain.{chain_contract, chain_ends, chain_parts};
 ghost use Rattle.fallible_contract.specs.Laws.Contract.{lawful_seen};
-ghost use Rattle.fallible_core.specs.Laws.Joining.Chain.{lawful_chain};
+ghost use Rattle.fallible_contract.specs.Laws.Ends.{lawful_ends_seen};
+ghost use Rattle.fallible_core.specs.Laws.Joining.Chain.{lawful_chain, lawful_ends_chain};
 
 use crate::traits::FallibleIterator;
+use crate::traits::double_ended::DoubleEndedFallibleIterator;
+use fallible_contract::folds::{Exit, Turn};
 use fallible_contract::hints::sum;
 
-// Which sides of a `Chain` are still drawn. A draw of `next` never makes it `FrontAlone`: that is for draws from the back.
+// Which sides of a `Chain` are still drawn: `BackAlone` once a draw from the front met the front's end, and `FrontAlone` once a draw from behind met the back's.
 #[derive(Clone, Debug, Drop)]
 pub(crate) enum StillDrawn {
     Both,
@@ -56,5 +60,78 @@ impl<T: FallibleIterator, U: FallibleIterator<Item = T::Item, Error = T::Error>>
         }
     }
 
+    // The front's fold, and at its end, in the same call, the back's; where one side alone is drawn, that side's.
+    fn try_fold_carrying<C, R, K: Turn<C, T::Item, R>>(
+        &mut self,
+        init: C,
+        k: &K,
+    ) -> Exit<C, T::Error, R> {
+        let Chain {
+            front,
+            back,
+            still_drawn,
+        } = self;
+        match still_drawn {
+            StillDrawn::Both => match front.try_fold_carrying(init, k) {
+                Exit::Ended(carried) => {
+                    *still_drawn = StillDrawn::BackAlone;
+                    back.try_fold_carrying(carried, k)
+                }
+                exit => exit,
+            },
+            StillDrawn::FrontAlone => front.try_fold_carrying(init, k),
+            StillDrawn::BackAlone => back.try_fold_carrying(init, k),
+        }
+    }
+
     ghost lawful = { lawful_seen chain_parts (lawful_chain T.lawful U.lawful) };
+}
+
+impl<
+    T: DoubleEndedFallibleIterator,
+    U: DoubleEndedFallibleIterator<Item = T::Item, Error = T::Error>,
+> DoubleEndedFallibleIterator for Chain<T, U> {
+    ghost ends = { ends_seen_as chain_parts (chain_ends T.ends U.ends) };
+
+    /// While both sides are drawn it draws one answer of the back from behind, and at its first end, in the same call, one of the front from behind, which alone is drawn from then on, from either end; a failure changes no side. Where one side alone is drawn, it draws one answer of that side from behind.
+    fn next_back(&mut self) -> Result<Option<T::Item>, T::Error> {
+        match self.still_drawn {
+            StillDrawn::Both => match self.back.next_back() {
+                Ok(Some(x)) => Ok(Some(x)),
+                Ok(None) => {
+                    self.still_drawn = StillDrawn::FrontAlone;
+                    self.front.next_back()
+                }
+                Err(e) => Err(e),
+            },
+            StillDrawn::FrontAlone => self.front.next_back(),
+            StillDrawn::BackAlone => self.back.next_back(),
+        }
+    }
+
+    // The back's fold from behind, and at its end, in the same call, the front's; where one side alone is drawn, that side's.
+    fn try_rfold_carrying<C, R, K: Turn<C, T::Item, R>>(
+        &mut self,
+        init: C,
+        k: &K,
+    ) -> Exit<C, T::Error, R> {
+        let Chain {
+            front,
+            back,
+            still_drawn,
+        } = self;
+        match still_drawn {
+            StillDrawn::Both => match back.try_rfold_carrying(init, k) {
+                Exit::Ended(carried) => {
+                    *still_drawn = StillDrawn::FrontAlone;
+                    front.try_rfold_carrying(carried, k)
+                }
+                exit => exit,
+            },
+            StillDrawn::FrontAlone => front.try_rfold_carrying(init, k),
+            StillDrawn::BackAlone => back.try_rfold_carrying(init, k),
+        }
+    }
+
+    ghost lawful_ends = { lawful_ends_seen chain_parts (lawful_ends_chain T.lawful_ends U.lawful_ends) };
 }

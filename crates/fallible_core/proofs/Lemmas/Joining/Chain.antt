@@ -8,7 +8,7 @@ use Rattle.fallible_contract.proofs.Lemmas.Lists.Passing.{lists_seen}
 use Rattle.fallible_core.specs.declared.joining.chain.StillDrawn.{StillDrawn}
 use Rattle.fallible_core.specs.declared.joining.chain.StillDrawn.TheVariants.{Both, FrontAlone, BackAlone}
 use Rattle.fallible_contract.specs.Traces.{Answered, Run, end, NoEnd, is_end}
-use Rattle.fallible_core.specs.Joining.Chain.{JoinedTrace, ChainTrace, chain_step, chain_parts, chain_contract}
+use Rattle.fallible_core.specs.Joining.Chain.{JoinedTrace, ChainTrace, chain_step, chain_parts, chain_behind, chain_contract}
 
 module _ {S U A E : Type 0} (steps : S → Answered A E → S → Type 0) (others : U → Answered A E → U → Type 0) where
   abbrev Step : S × U × StillDrawn → Answered A E → S × U × StillDrawn → Type 0
@@ -41,19 +41,19 @@ module _ {S U A E : Type 0} (steps : S → Answered A E → S → Type 0) (other
     | inr step ↦ let p = to_back rest h.0.0 h.0.1 t v left (rw step.2 at h.2) in inr (end_first s h.0.0 t u h.0.1 v r rest step.0 step.1 p.0 p.1, p.2)
   ]
 
-  from_front : (trace : List (Answered A E)) (s : S) (u : U) (t : S) → Run steps s trace t → Run Step (s, u, FrontAlone) trace (t, u, FrontAlone)
+  pub from_front : (trace : List (Answered A E)) (s : S) (u : U) (t : S) → Run steps s trace t → Run Step (s, u, FrontAlone) trace (t, u, FrontAlone)
   from_front [] s u t ran = rw ran refl
   from_front (r ∷ rest) s u t ran = ((ran.0, u, FrontAlone), (ran.1, refl, refl), from_front rest ran.0 u t ran.2)
 
-  from_back : (trace : List (Answered A E)) (s : S) (u : U) (v : U) → Run others u trace v → Run Step (s, u, BackAlone) trace (s, v, BackAlone)
+  pub from_back : (trace : List (Answered A E)) (s : S) (u : U) (v : U) → Run others u trace v → Run Step (s, u, BackAlone) trace (s, v, BackAlone)
   from_back [] s u v ran = rw ran refl
   from_back (r ∷ rest) s u v ran = ((s, ran.0, BackAlone), (ran.1, refl, refl), from_back rest s ran.0 v ran.2)
 
-  from_both : (trace : List (Answered A E)) (s : S) (u : U) (t : S) → Run steps s trace t → NoEnd trace → Run Step (s, u, Both) trace (t, u, Both)
+  pub from_both : (trace : List (Answered A E)) (s : S) (u : U) (t : S) → Run steps s trace t → NoEnd trace → Run Step (s, u, Both) trace (t, u, Both)
   from_both [] s u t ran no_end = rw ran refl
   from_both (r ∷ rest) s u t ran no_end = ((ran.0, u, Both), inl (ran.1, no_end.0, refl, refl), from_both rest ran.0 u t ran.2 no_end.1)
 
-  from_joined : (before trace : List (Answered A E)) (s : S) (u : U) (t : S) (v : U) → Run steps s (before ++ end ∷ []) t → NoEnd before → Run others u trace v → trace ≢ [] → Run Step (s, u, Both) (before ++ trace) (t, v, BackAlone)
+  pub from_joined : (before trace : List (Answered A E)) (s : S) (u : U) (t : S) (v : U) → Run steps s (before ++ end ∷ []) t → NoEnd before → Run others u trace v → trace ≢ [] → Run Step (s, u, Both) (before ++ trace) (t, v, BackAlone)
   from_joined [] [] s u t v ran no_end back some = absurd (some refl)
   from_joined [] (r ∷ rest) s u t v ran no_end back some = rw⁻¹ ran.2 ((ran.0, back.0, BackAlone), inr (ran.1, back.1, refl), from_back rest ran.0 back.0 v back.2)
   from_joined (r ∷ before) trace s u t v ran no_end back some = ((ran.0, u, Both), inl (ran.1, no_end.0, refl, refl), from_joined before trace ran.0 u t v ran.2 no_end.1 back some)
@@ -66,6 +66,25 @@ module _ {S U A E : Type 0} (steps : S → Answered A E → S → Type 0) (other
   chain_law (s, u, Both) trace (t, v, left) = (to_both trace s u t v left, from_either trace s u t v left)
   chain_law (s, u, FrontAlone) trace (t, v, left) = (to_front trace s u t v left, (λ p. rw (p.1, p.2) (from_front trace s u t p.0)))
   chain_law (s, u, BackAlone) trace (t, v, left) = (to_back trace s u t v left, (λ p. rw (p.1, p.2) (from_back trace s u v p.0)))
+
+-- ---- values and their parts, from the front and from behind
+
+-- the value of its parts
+abbrev pub of_parts : {T U : Type 0} → T × U × StillDrawn → Chain T U
+of_parts p = record { front = p.0; back = p.1; still_drawn = p.2 }
+
+-- the parts seen from behind, and the value of them
+abbrev pub seen_behind : {T U : Type 0} → Chain T U → U × T × StillDrawn
+seen_behind s = chain_behind (chain_parts s)
+
+abbrev pub of_parts_behind : {T U : Type 0} → U × T × StillDrawn → Chain T U
+of_parts_behind p = of_parts (chain_behind p)
+
+-- seen from behind twice, the sides are as they were
+pub behind_twice : {S U : Type 0} (p : S × U × StillDrawn) → chain_behind (chain_behind p) ≡ p
+behind_twice (s, u, Both) = refl
+behind_twice (s, u, FrontAlone) = refl
+behind_twice (s, u, BackAlone) = refl
 
 -- ---- what it lists
 

@@ -2,8 +2,8 @@
 use Rattle.std.proofs.Common.{refl}
 use Rattle.fallible_core.specs.Joining.Chain.{chain_parts}
 use Rattle.fallible_contract.proofs.Lemmas.Definitions.{meets_held}
-use Rattle.fallible_core.proofs.Lemmas.Joining.Chain.{chain_law}
+use Rattle.fallible_core.proofs.Lemmas.Joining.Chain.{chain_law, of_parts}
 use Rattle.fallible_core.proofs.laws.joining.law_chain.Goals as goal
 
 pub returns : goal.returns
-returns g c = meets_held chain_parts (λ p. record { front = p.0; back = p.1; still_drawn = p.2 }) (λ s. refl) (λ p. refl) _ _ (chain_law _ _)
+returns g c = meets_held chain_parts of_parts (λ s. refl) (λ p. refl) _ _ (chain_law _ _)
