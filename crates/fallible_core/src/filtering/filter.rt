@@ -70,8 +70,10 @@ where
     ghost lawful = { lawful_seen filter_parts (lawful_filter F.FnMut I.lawful) };
 }
 
-impl<I: DoubleEndedFallibleIterator, F: FnMut(&I::Item) -> Result<bool, I::Error>>
-    DoubleEndedFallibleIterator for Filter<I, F>
+impl<
+    I: DoubleEndedFallibleIterator,
+    F: FnMut(&I::Item) -> Result<bool, I::Error>,
+> DoubleEndedFallibleIterator for Filter<I, F>
 where
     I::Item: Drop,
 {
@@ -128,8 +130,11 @@ struct Filtering<'a, K> {
     turn: &'a K,
 }
 
-impl<'a, X: Drop, E, C, R, F: FnMut(&X) -> Result<bool, E>, K: Turn<C, X, R>>
-    Turn<(C, F), X, (F, Exit<C, E, R>)> for Filtering<'a, K> {
+impl<'a, X: Drop, E, C, R, F: FnMut(&X) -> Result<bool, E>, K: Turn<C, X, R>> Turn<
+    (C, F),
+    X,
+    (F, Exit<C, E, R>),
+> for Filtering<'a, K> {
     ghost can_turn = { λ k p x. FoldingTakes (call_at F.FnMut) filter_outcome (takes_at F.FnMut) (K.can_turn k.turn.now) p x };
 
     ghost turns = { λ k p x r. FoldingTurn (call_at F.FnMut) filter_outcome (K.turns k.turn.now) p x r };

@@ -67,8 +67,11 @@ impl<I: FallibleIterator, B, F: FnMut(I::Item) -> Result<Option<B>, I::Error>> F
     ghost lawful = { lawful_seen filter_map_parts (lawful_filter_map F.FnMut I.lawful) };
 }
 
-impl<I: DoubleEndedFallibleIterator, B, F: FnMut(I::Item) -> Result<Option<B>, I::Error>>
-    DoubleEndedFallibleIterator for FilterMap<I, F> {
+impl<
+    I: DoubleEndedFallibleIterator,
+    B,
+    F: FnMut(I::Item) -> Result<Option<B>, I::Error>,
+> DoubleEndedFallibleIterator for FilterMap<I, F> {
     ghost ends = { ends_seen_as filter_map_parts (ends_of (filter_map_contract (from_back I.contract I.ends) F.FnMut)) };
 
     /// Draws from behind until the closure answers a value, a failure comes or an end comes, and calls the closure on each item.
@@ -123,8 +126,11 @@ struct FilterMapping<'a, K> {
     turn: &'a K,
 }
 
-impl<'a, X, B, E, C, R, F: FnMut(X) -> Result<Option<B>, E>, K: Turn<C, B, R>>
-    Turn<(C, F), X, (F, Exit<C, E, R>)> for FilterMapping<'a, K> {
+impl<'a, X, B, E, C, R, F: FnMut(X) -> Result<Option<B>, E>, K: Turn<C, B, R>> Turn<
+    (C, F),
+    X,
+    (F, Exit<C, E, R>),
+> for FilterMapping<'a, K> {
     ghost can_turn = { λ k p x. FoldingTakes (call_on F.FnMut) filter_map_outcome (takes_on F.FnMut) (K.can_turn k.turn.now) p x };
 
     ghost turns = { λ k p x r. FoldingTurn (call_on F.FnMut) filter_map_outcome (K.turns k.turn.now) p x r };

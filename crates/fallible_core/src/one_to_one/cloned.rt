@@ -97,8 +97,11 @@ struct Cloning<'a, K> {
     turn: &'a K,
 }
 
-impl<'a, 'b, T: Clone + 'b, E: From<AllocError>, C, R, K: Turn<C, T, R>>
-    Turn<(C, ()), &'b T, ((), Exit<C, E, R>)> for Cloning<'a, K> {
+impl<'a, 'b, T: Clone + 'b, E: From<AllocError>, C, R, K: Turn<C, T, R>> Turn<
+    (C, ()),
+    &'b T,
+    ((), Exit<C, E, R>),
+> for Cloning<'a, K> {
     ghost can_turn = { λ k p x. FoldingTakes (cloned_call T.is_clone T.is_infallible E.from_gives) map_outcome (λ _ _. ⊤) (K.can_turn k.turn.now) p x };
 
     ghost turns = { λ k p x r. FoldingTurn (cloned_call T.is_clone T.is_infallible E.from_gives) map_outcome (K.turns k.turn.now) p x r };

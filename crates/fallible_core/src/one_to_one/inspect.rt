@@ -60,8 +60,10 @@ where
     ghost lawful = { lawful_seen inspect_parts (lawful_inspect F.FnMut I.lawful) };
 }
 
-impl<I: DoubleEndedFallibleIterator, F: FnMut(&I::Item) -> Result<(), I::Error>>
-    DoubleEndedFallibleIterator for Inspect<I, F>
+impl<
+    I: DoubleEndedFallibleIterator,
+    F: FnMut(&I::Item) -> Result<(), I::Error>,
+> DoubleEndedFallibleIterator for Inspect<I, F>
 where
     I::Item: Drop,
 {
@@ -116,8 +118,11 @@ struct Inspecting<'a, K> {
     turn: &'a K,
 }
 
-impl<'a, X: Drop, E, C, R, F: FnMut(&X) -> Result<(), E>, K: Turn<C, X, R>>
-    Turn<(C, F), X, (F, Exit<C, E, R>)> for Inspecting<'a, K> {
+impl<'a, X: Drop, E, C, R, F: FnMut(&X) -> Result<(), E>, K: Turn<C, X, R>> Turn<
+    (C, F),
+    X,
+    (F, Exit<C, E, R>),
+> for Inspecting<'a, K> {
     ghost can_turn = { λ k p x. FoldingTakes (call_at F.FnMut) inspect_outcome (takes_at F.FnMut) (K.can_turn k.turn.now) p x };
 
     ghost turns = { λ k p x r. FoldingTurn (call_at F.FnMut) inspect_outcome (K.turns k.turn.now) p x r };

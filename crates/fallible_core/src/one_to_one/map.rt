@@ -66,8 +66,11 @@ impl<I: FallibleIterator, B, F: FnMut(I::Item) -> Result<B, I::Error>> FallibleI
     ghost lawful = { lawful_seen map_parts (lawful_map F.FnMut I.lawful) };
 }
 
-impl<I: DoubleEndedFallibleIterator, B, F: FnMut(I::Item) -> Result<B, I::Error>>
-    DoubleEndedFallibleIterator for Map<I, F> {
+impl<
+    I: DoubleEndedFallibleIterator,
+    B,
+    F: FnMut(I::Item) -> Result<B, I::Error>,
+> DoubleEndedFallibleIterator for Map<I, F> {
     ghost ends = { ends_seen_as map_parts (ends_of (map_contract (from_back I.contract I.ends) F.FnMut)) };
 
     /// Draws one answer from behind, and calls the closure where it is an item.
@@ -116,8 +119,11 @@ struct Mapping<'a, K> {
     turn: &'a K,
 }
 
-impl<'a, X, B, E, C, R, F: FnMut(X) -> Result<B, E>, K: Turn<C, B, R>>
-    Turn<(C, F), X, (F, Exit<C, E, R>)> for Mapping<'a, K> {
+impl<'a, X, B, E, C, R, F: FnMut(X) -> Result<B, E>, K: Turn<C, B, R>> Turn<
+    (C, F),
+    X,
+    (F, Exit<C, E, R>),
+> for Mapping<'a, K> {
     ghost can_turn = { λ k p x. FoldingTakes (call_on F.FnMut) map_outcome (takes_on F.FnMut) (K.can_turn k.turn.now) p x };
 
     ghost turns = { λ k p x r. FoldingTurn (call_on F.FnMut) map_outcome (K.turns k.turn.now) p x r };

@@ -35,11 +35,7 @@ impl<I: FallibleIterator, B, F: FnMut(I::Error) -> B> FallibleIterator for MapEr
         self.it.size_hint()
     }
 
-    fn try_fold_carrying<C, R, K: Turn<C, I::Item, R>>(
-        &mut self,
-        init: C,
-        k: &K,
-    ) -> Exit<C, B, R> {
+    fn try_fold_carrying<C, R, K: Turn<C, I::Item, R>>(&mut self, init: C, k: &K) -> Exit<C, B, R> {
         exited(self.it.try_fold_carrying(init, k), &mut self.f)
     }
 
@@ -67,10 +63,7 @@ impl<I: DoubleEndedFallibleIterator, B, F: FnMut(I::Error) -> B> DoubleEndedFall
 }
 
 // What the closure makes of one answer of the source: it is called where that is a failure.
-fn answer<X, D, E, F: FnMut(D) -> E>(
-    drawn: Result<Option<X>, D>,
-    f: &mut F,
-) -> Result<Option<X>, E>
+fn answer<X, D, E, F: FnMut(D) -> E>(drawn: Result<Option<X>, D>, f: &mut F) -> Result<Option<X>, E>
     requires { TakesFailure (takes_on F.FnMut) f.old drawn }
     ensures { MapErrAnswer (call_on F.FnMut) f.old drawn result f.new }
 {
