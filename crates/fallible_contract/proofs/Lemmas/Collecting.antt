@@ -59,11 +59,12 @@ module _ {S A E C : Type 0} {steps : S → Answered A E → S → Type 0} {made 
 
 -- ---- unzip
 
-module _ {A B C D : Type 0} (made_first : List A → C → Type 0) (made_second : List B → D → Type 0) (first_refuses : C → A → Type 0) (second_refuses : D → B → Type 0) where
-  parts_more : {X Y : Type 0} (h : X → Y) (items : List X) (x : X) → map h items ++ h x ∷ [] ≡ map h (items ++ x ∷ [])
-  parts_more h [] x = refl
-  parts_more h (y ∷ items) x = ap (λ l. h y ∷ l) (parts_more h items x)
+-- one more of a mapped list
+pub parts_more : {X Y : Type 0} (h : X → Y) (items : List X) (x : X) → map h items ++ h x ∷ [] ≡ map h (items ++ x ∷ [])
+parts_more h [] x = refl
+parts_more h (y ∷ items) x = ap (λ l. h y ∷ l) (parts_more h items x)
 
+module _ {A B C D : Type 0} (made_first : List A → C → Type 0) (made_second : List B → D → Type 0) (first_refuses : C → A → Type 0) (second_refuses : D → B → Type 0) where
   -- a turn with a pair pushes it to the pair of the collections
   pub pair_pushed : (c : C × D) (x : A × B) (r : Result (C × D) AllocError) → PairTurn made_first made_second first_refuses second_refuses c x r → PushTurn (MadeOfParts made_first made_second) (PairRefused made_first made_second first_refuses second_refuses) c x r
   pair_pushed c x (Ok d) w = λ items h. (subst (λ l. made_first l d.0) (parts_more (λ p. p.0) items x) (w.0 (map (λ p. p.0) items) h.0), subst (λ l. made_second l d.1) (parts_more (λ p. p.1) items x) (w.1 (map (λ p. p.1) items) h.1))

@@ -7,7 +7,7 @@ use Rattle.fallible_contract.specs.declared.collecting.Fault.{Fault}
 use Rattle.fallible_contract.specs.declared.collecting.Fault.TheVariants.{Source, Memory}
 use Rattle.fallible_contract.specs.Traces.{Answered}
 use Rattle.fallible_contract.specs.Folds.{HoldsAtEachTurn, Carried}
-use Rattle.fallible_contract.proofs.Lemmas.Collecting.{gathered_all, gathered_failed, gathered_stopped}
+use Rattle.fallible_contract.proofs.Lemmas.Collecting.{gathered_all, gathered_failed, gathered_stopped, parts_more}
 use Rattle.fallible_contract.specs.Collecting.{answered_true, answered_false, Parts, ClosureFails, SideRefuses, PartTurn, Asks, Partitions}
 
 true_more : {A : Type 0} (ps : List (A × Bool)) (x : A) (v : Bool) → cond v (answered_true ps ++ x ∷ []) (answered_true ps) ≡ answered_true (ps ++ (x, v) ∷ [])
@@ -24,10 +24,6 @@ false_more ((y, false) ∷ ps) x true = ap (λ l. y ∷ l) (false_more ps x true
 false_more ((y, false) ∷ ps) x false = ap (λ l. y ∷ l) (false_more ps x false)
 false_more ((y, true) ∷ ps) x v = false_more ps x v
 
-beside_more : {A : Type 0} (ps : List (A × Bool)) (x : A) (v : Bool) → map (λ p. p.0) (ps ++ (x, v) ∷ []) ≡ map (λ p. p.0) ps ++ x ∷ []
-beside_more [] x v = refl
-beside_more (p ∷ ps) x v = ap (λ l. p.0 ∷ l) (beside_more ps x v)
-
 one_more_call : {P Q : Type 0} (step : P → Q → P → Type 0) (f g h : P) (qs : List Q) (q : Q) → FoldsTo step f qs g → step g q h → FoldsTo step f (qs ++ q ∷ []) h
 one_more_call step f g h [] q e w = (h, subst (λ p. step p q h) (sym e) w, refl)
 one_more_call step f g h (r ∷ qs) q went w = (went.0, went.1, one_more_call step went.0 g h qs q went.2 w)
@@ -36,7 +32,7 @@ module _ {A E F B : Type 0} (call : F → A → Result Bool E → F → Type 0) 
   pub part_more : (c : F × (B × B)) (x : A) (d : F × (B × B)) → PartTurn call made refuses c x (Ok d) → (items : List A) → Parts call made f items c → Parts call made f (items ++ x ∷ []) d
   part_more c x d w items h = let ps = h.answered in let v = w.0 in let both = w.2 (answered_true ps) (answered_false ps) h.first h.second in record {
     answered = ps ++ (x, v) ∷ [];
-    beside = beside_more ps x v ∙ ap (λ l. l ++ x ∷ []) h.beside;
+    beside = sym (parts_more (λ p. p.0) ps (x, v)) ∙ ap (λ l. l ++ x ∷ []) h.beside;
     called = one_more_call (λ g p h. call g p.0 (Ok p.1) h) f c.0 d.0 ps (x, v) h.called w.1;
     first = subst (λ l. made l d.1.0) (true_more ps x v) both.0;
     second = subst (λ l. made l d.1.1) (false_more ps x v) both.1;
