@@ -8,6 +8,7 @@ pub mod Counting
 pub mod Definitions
 pub mod Folds
 pub mod Held
+pub mod Listed
 pub mod Lists
 pub mod Nth
 pub mod Overriding
