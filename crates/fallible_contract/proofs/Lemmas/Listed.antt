@@ -1,6 +1,7 @@
 -- What draws from both ends make of a list.
 pub mod Interleaving
 pub mod Mixed
+pub mod Passing
 use Rattle.std.specs.Prelude.{◌≡◌, ℕ, zero, suc, Result, List, [], ◌∷◌, reverse}
 use Rattle.std.proofs.Common.{refl, sym, subst}
 use Rattle.std.proofs.lemmas.List.{reverse-reverse}
