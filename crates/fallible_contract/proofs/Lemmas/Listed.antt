@@ -82,3 +82,7 @@ module _ {V P A E : Type 0} {front back : P → Answered A E → P → Type 0} (
 
 pub listed_seen : {V P A E : Type 0} {front back : P → Answered A E → P → Type 0} (view : V → P) {s : V} {l : List (Result A E)} → Listed front back (view s) l → Listed (λ u r v. front (view u) r (view v)) (λ u r v. back (view u) r (view v)) s l
 listed_seen {front = front} {back = back} view i = listed_within view (λ u r v. front (view u) r (view v)) (λ u r v. back (view u) r (view v)) (λ u r v step. step) (λ u r v step. step) i
+
+-- the same, where parts and list are known by other names
+pub listed_seen_at : {V P A E : Type 0} {front back : P → Answered A E → P → Type 0} (view : V → P) (s : V) {p : P} {l k : List (Result A E)} → view s ≡ p → l ≡ k → Listed front back p l → Listed (λ u r v. front (view u) r (view v)) (λ u r v. back (view u) r (view v)) s k
+listed_seen_at {A = A} {E = E} {front = front} {back = back} view s {p = p} {l = l} {k = k} at same i = listed_seen view (subst (λ (q : _). Listed front back q k) (sym at) (subst (λ (j : List (Result A E)). Listed front back p j) same i))
