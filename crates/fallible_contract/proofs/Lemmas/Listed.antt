@@ -42,6 +42,16 @@ module _ {S A E : Type 0} (front back : S → Answered A E → S → Type 0) (Sa
   pub listed_by : (s : S) (l : List (Result A E)) → Says s l → Listed front back s l
   listed_by s l h = record { for = λ n. listed_for n s l h }
 
+-- It says so too where what it says of draws from behind is said of the list reversed.
+module _ {S A E : Type 0} (front back : S → Answered A E → S → Type 0) (Says Swapped : S → List (Result A E) → Type 0) (to : (s : S) (l : List (Result A E)) → Says s l → Swapped s (reverse l)) (from : (s : S) (l : List (Result A E)) → Swapped s l → Says s (reverse l))
+    (in_front : (s : S) (l : List (Result A E)) → Says s l → (r : Answered A E) (t : S) → front s r t → TakesFirst (λ k. Says t k) r l)
+    (behind : (s : S) (l : List (Result A E)) → Swapped s l → (r : Answered A E) (t : S) → back s r t → TakesFirst (λ k. Swapped t k) r l) where
+  behind_reversed : (s : S) (l : List (Result A E)) → Says s l → (r : Answered A E) (t : S) → back s r t → TakesFirst (λ k. Says t (reverse k)) r (reverse l)
+  behind_reversed s l h r t step = takes_weaker (λ k says. from t k says) r (reverse l) (behind s (reverse l) (to s l h) r t step)
+
+  pub listed_by_swapping : (s : S) (l : List (Result A E)) → Says s l → Listed front back s l
+  listed_by_swapping s l h = listed_by front back Says in_front behind_reversed s l h
+
 -- ---- the ends swapped
 
 module _ {S A E : Type 0} {front back : S → Answered A E → S → Type 0} where

@@ -11,7 +11,7 @@ use Rattle.fallible_contract.specs.Laws.Passing.{Passes, done, ends, fails, keep
 use Rattle.fallible_contract.specs.Listed.{TakesFirst, Listed, item_listed, items_listed, source_result, source_list, outcome_listed, passed_result, passed_list}
 use Rattle.fallible_contract.specs.Lists.{Acts}
 use Rattle.fallible_contract.proofs.Lemmas.Lists.Passing.{passing_step, by_outcome, passed}
-use Rattle.fallible_contract.proofs.Lemmas.Listed.{takes_weaker, takes_front, listed_by, listed_swapped}
+use Rattle.fallible_contract.proofs.Lemmas.Listed.{takes_front, listed_by_swapping, listed_swapped}
 
 -- ---- lists reversed
 
@@ -35,19 +35,20 @@ All-reverse P (x ∷ xs) a = subst (λ (l : List _). All P l) (sym (reverse-appe
 
 module _ {F X R : Type 0} (call : F → X → R → F → Type 0) where
   -- at p the closure gives to the argument of the pair the answer beside it
-  abbrev GivesAt : F → F → X × R → Type 0
+  abbrev pub GivesAt : F → F → X × R → Type 0
   GivesAt p q c = (r : R) → call p c.0 r q → r ≡ c.1
 
-  steady_after : (pairs : List (X × R)) (f g : F) (x : X) (v : R) → Steady call f pairs → call f x v g → Steady call g pairs
+  -- a steady closure is steady after a call, and over fewer pairs
+  pub steady_after : (pairs : List (X × R)) (f g : F) (x : X) (v : R) → Steady call f pairs → call f x v g → Steady call g pairs
   steady_after pairs f g x v steady called = λ made p q w. steady ((x, v) ∷ made) p q (g, called, w)
 
-  steady_rest : (c : X × R) (pairs : List (X × R)) (f : F) → Steady call f (c ∷ pairs) → Steady call f pairs
+  pub steady_rest : (c : X × R) (pairs : List (X × R)) (f : F) → Steady call f (c ∷ pairs) → Steady call f pairs
   steady_rest c pairs f steady = λ made p q w. All-tail (GivesAt p q) c pairs (steady made p q w)
 
-  steady_answer : (c : X × R) (pairs : List (X × R)) (f g : F) (v : R) → Steady call f (c ∷ pairs) → call f c.0 v g → v ≡ c.1
+  pub steady_answer : (c : X × R) (pairs : List (X × R)) (f g : F) (v : R) → Steady call f (c ∷ pairs) → call f c.0 v g → v ≡ c.1
   steady_answer c pairs f g v steady called = All-head (GivesAt f g) c pairs (steady [] f g refl) v called
 
-  steady_none : (f : F) → Steady call f []
+  pub steady_none : (f : F) → Steady call f []
   steady_none f = λ made p q w. All-nil (GivesAt p q)
 
   pub steady_reversed : (pairs : List (X × R)) (f : F) → Steady call f pairs → Steady call f (reverse pairs)
@@ -130,12 +131,9 @@ module _ {S F X R B E : Type 0} (front back : S → Answered X E → S → Type 
   passed_front p l a r q step = subst (λ (k : List (Result B E)). TakesFirst (λ j. SaysBoth q j) r k) (sym a.list_is) (front_taken front back call outcome never_ends a.asked p.0 q.0 p.1 q.1 r a.listed a.steady (to_passes step))
 
 module _ {S F X R B E : Type 0} (front back : S → Answered X E → S → Type 0) (call : F → X → R → F → Type 0) (outcome : X → R → Outcome B E) (never_ends : (x : X) (v : R) → outcome x v ≡ an_end → ⊥) where
-  passed_behind : (p : S × F) (l : List (Result B E)) → Says front back call outcome never_ends p l → (r : Answered B E) (q : S × F) → passing_step back call outcome p r q → TakesFirst (λ k. Says front back call outcome never_ends q (reverse k)) r (reverse l)
-  passed_behind p l a r q step = takes_weaker (says_swapped front back call outcome never_ends q) r (reverse l) (passed_front back front call outcome never_ends p (reverse l) (says_swapped back front call outcome never_ends p l a) r q step)
-
   -- The source lists what it was asked of, and the closure gives the answers beside the items, in whatever state: the adapter lists what becomes of them.
   pub listed_passed : (asked : List (Result (X × R) E)) (s : S) (f : F) → Steady call f (items_listed asked) → Listed front back s (source_list asked) → Listed (passing_step front call outcome) (passing_step back call outcome) (s, f) (passed_list outcome asked)
-  listed_passed asked s f steady i = listed_by (passing_step front call outcome) (passing_step back call outcome) (Says front back call outcome never_ends) (passed_front front back call outcome never_ends) passed_behind (s, f) (passed_list outcome asked) (record { asked = asked; list_is = refl; listed = i; steady = steady })
+  listed_passed asked s f steady i = listed_by_swapping (passing_step front call outcome) (passing_step back call outcome) (Says front back call outcome never_ends) (Says back front call outcome never_ends) (says_swapped back front call outcome never_ends) (says_swapped front back call outcome never_ends) (passed_front front back call outcome never_ends) (passed_front back front call outcome never_ends) (s, f) (passed_list outcome asked) (record { asked = asked; list_is = refl; listed = i; steady = steady })
 
 -- ---- a closure in its slot
 
@@ -181,7 +179,8 @@ source_beside h (Ok x ∷ l) = ap {B = List (Result _ _)} (λ k. Ok x ∷ k) (so
 source_beside h (Err e ∷ l) = ap {B = List (Result _ _)} (λ k. Err e ∷ k) (source_beside h l)
 
 module _ {F X R : Type 0} (call : F → X → R → F → Type 0) (f : F) (h : X → R) (acts : Acts call f h) where
-  stays_acting : (made : List (X × R)) (p : F) → Calls call f made p → p ≡ f
+  -- calls leave it as it is
+  pub stays_acting : (made : List (X × R)) (p : F) → Calls call f made p → p ≡ f
   stays_acting [] p w = sym w
   stays_acting (c ∷ made) p w = stays_acting made p (subst (λ (g : F). Calls call g made p) (acts c.0 c.1 w.0 w.1).0 w.2)
 
