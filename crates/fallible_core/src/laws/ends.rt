@@ -1,21 +1,75 @@
 // What two ends list, and what is drawn from both.
-ghost use Rattle.std.specs.Prelude.{◌≡◌, Some, List, Result};
-ghost use Rattle.fallible_contract.specs.Closures.{Steady, call_on};
-ghost use Rattle.fallible_contract.specs.Lists.{Acts, mapped};
-ghost use Rattle.fallible_contract.specs.Listed.{Listed, items_listed, source_list, passed_list};
+ghost use Rattle.std.specs.Prelude.{◌≡◌, ℕ, Some, Ok, Bool, List, Option, Result, All};
+ghost use Rattle.std.specs.Borrow.{Bor};
+ghost use Rattle.fallible_contract.specs.Closures.{Steady, call_on, call_at};
+ghost use Rattle.fallible_contract.specs.Lists.{Acts, mapped, inspected, filtered, filter_mapped, failures_mapped, pointed_to};
+ghost use Rattle.fallible_contract.specs.Listed.{Listed, items_listed, failures_listed, source_list, passed_list};
 ghost use Rattle.fallible_core.specs.OneToOne.Map.{map_outcome, map_parts};
+ghost use Rattle.fallible_core.specs.OneToOne.Inspect.{inspect_outcome, inspect_parts};
+ghost use Rattle.fallible_core.specs.OneToOne.Cloned.{cloned_parts};
+ghost use Rattle.fallible_core.specs.OneToOne.MapErr.{map_err_parts};
+ghost use Rattle.fallible_core.specs.Filtering.Filter.{filter_outcome, filter_parts};
+ghost use Rattle.fallible_core.specs.Filtering.FilterMap.{filter_map_outcome, filter_map_parts};
 
-use crate::one_to_one::Map;
-use crate::traits::double_ended::DoubleEndedFallibleIterator;
+use crate::filtering::{Filter, FilterMap};
+use crate::one_to_one::{Cloned, Inspect, Map, MapErr};
 use crate::traits::FallibleIterator;
+use crate::traits::double_ended::DoubleEndedFallibleIterator;
+use std::alloc::AllocError;
 
-/// `Map` lists from both ends what its closure answers on each item that its source lists, in the item's place: where the closure gives the answers beside the items, in whatever state its calls bring it to; so also where it acts as a function.
-pub fn law_listed_map<
-    I: DoubleEndedFallibleIterator,
-    B,
-    F: FnMut(I::Item) -> Result<B, I::Error>,
->()
+// ---- what each adapter lists, from what its source lists: where its closure gives the answers beside the items, in whatever state its calls bring it to; so also where it acts as a function
+
+/// `Map` lists what its closure answers on each item of its source's list, in the item's place.
+pub fn law_listed_map<I: DoubleEndedFallibleIterator, B, F: FnMut(I::Item) -> Result<B, I::Error>>()
 where
     ensures steady { (s : Map I F) (it : I) (f : F) (asked : List (Result (I.Item × Result B I.Error) I.Error)) → map_parts s ≡ (it, Some f) → Steady (call_on F.FnMut) f (items_listed asked) → Listed I.contract.steps I.ends.steps it (source_list asked) → Listed ⟦<Map<I, F> as FallibleIterator>⟧.contract.steps ⟦<Map<I, F> as DoubleEndedFallibleIterator>⟧.ends.steps s (passed_list map_outcome asked) }
     ensures acts { (s : Map I F) (it : I) (f : F) (h : I.Item → Result B I.Error) (l : List (Result I.Item I.Error)) → map_parts s ≡ (it, Some f) → Acts (call_on F.FnMut) f h → Listed I.contract.steps I.ends.steps it l → Listed ⟦<Map<I, F> as FallibleIterator>⟧.contract.steps ⟦<Map<I, F> as DoubleEndedFallibleIterator>⟧.ends.steps s (mapped h l) }
+{}
+
+/// `Inspect` lists the items of its source's list, with the closure's failure in the place of each one on which it failed.
+pub fn law_listed_inspect<
+    I: DoubleEndedFallibleIterator,
+    F: FnMut(&I::Item) -> Result<(), I::Error>,
+>()
+where
+    I::Item: Drop,
+    ensures steady { (s : Inspect I F) (it : I) (f : F) (asked : List (Result (I.Item × Result (Unit {0}) I.Error) I.Error)) → inspect_parts s ≡ (it, Some f) → Steady (call_at F.FnMut) f (items_listed asked) → Listed I.contract.steps I.ends.steps it (source_list asked) → Listed ⟦<Inspect<I, F> as FallibleIterator>⟧.contract.steps ⟦<Inspect<I, F> as DoubleEndedFallibleIterator>⟧.ends.steps s (passed_list inspect_outcome asked) }
+    ensures acts { (s : Inspect I F) (it : I) (f : F) (h : I.Item → Result (Unit {0}) I.Error) (l : List (Result I.Item I.Error)) → inspect_parts s ≡ (it, Some f) → Acts (call_at F.FnMut) f h → Listed I.contract.steps I.ends.steps it l → Listed ⟦<Inspect<I, F> as FallibleIterator>⟧.contract.steps ⟦<Inspect<I, F> as DoubleEndedFallibleIterator>⟧.ends.steps s (inspected h l) }
+{}
+
+/// `Filter` lists its source's list without the items refused, with the predicate's failure in the place of each item on which it failed.
+pub fn law_listed_filter<
+    I: DoubleEndedFallibleIterator,
+    F: FnMut(&I::Item) -> Result<bool, I::Error>,
+>()
+where
+    I::Item: Drop,
+    ensures steady { (s : Filter I F) (it : I) (f : F) (asked : List (Result (I.Item × Result Bool I.Error) I.Error)) → filter_parts s ≡ (it, Some f) → Steady (call_at F.FnMut) f (items_listed asked) → Listed I.contract.steps I.ends.steps it (source_list asked) → Listed ⟦<Filter<I, F> as FallibleIterator>⟧.contract.steps ⟦<Filter<I, F> as DoubleEndedFallibleIterator>⟧.ends.steps s (passed_list filter_outcome asked) }
+    ensures acts { (s : Filter I F) (it : I) (f : F) (h : I.Item → Result Bool I.Error) (l : List (Result I.Item I.Error)) → filter_parts s ≡ (it, Some f) → Acts (call_at F.FnMut) f h → Listed I.contract.steps I.ends.steps it l → Listed ⟦<Filter<I, F> as FallibleIterator>⟧.contract.steps ⟦<Filter<I, F> as DoubleEndedFallibleIterator>⟧.ends.steps s (filtered h l) }
+{}
+
+/// `FilterMap` lists its source's list without the items answered none, with the closure's value or failure in each other item's place.
+pub fn law_listed_filter_map<
+    I: DoubleEndedFallibleIterator,
+    B,
+    F: FnMut(I::Item) -> Result<Option<B>, I::Error>,
+>()
+where
+    ensures steady { (s : FilterMap I F) (it : I) (f : F) (asked : List (Result (I.Item × Result (Option B) I.Error) I.Error)) → filter_map_parts s ≡ (it, Some f) → Steady (call_on F.FnMut) f (items_listed asked) → Listed I.contract.steps I.ends.steps it (source_list asked) → Listed ⟦<FilterMap<I, F> as FallibleIterator>⟧.contract.steps ⟦<FilterMap<I, F> as DoubleEndedFallibleIterator>⟧.ends.steps s (passed_list filter_map_outcome asked) }
+    ensures acts { (s : FilterMap I F) (it : I) (f : F) (h : I.Item → Result (Option B) I.Error) (l : List (Result I.Item I.Error)) → filter_map_parts s ≡ (it, Some f) → Acts (call_on F.FnMut) f h → Listed I.contract.steps I.ends.steps it l → Listed ⟦<FilterMap<I, F> as FallibleIterator>⟧.contract.steps ⟦<FilterMap<I, F> as DoubleEndedFallibleIterator>⟧.ends.steps s (filter_mapped h l) }
+{}
+
+/// `Cloned` lists a clone in each item's place, where none is refused and each item has one clone alone; where a clone equals its original, it lists what the items point to.
+pub fn law_listed_cloned<'a, T: Clone + 'a, I: DoubleEndedFallibleIterator<Item = &'a T>>()
+where
+    I::Error: From<AllocError>,
+    ensures steady { (s : Cloned I) (it : I) (asked : List (Result (Bor T × T) I.Error)) → cloned_parts s ≡ (it, tt) → All (λ c. T.is_infallible c.0.now × ((y : T) → T.is_clone c.0.now y → y ≡ c.1)) (items_listed asked) → Listed I.contract.steps I.ends.steps it (source_list asked) → Listed ⟦<Cloned<I> as FallibleIterator>⟧.contract.steps ⟦<Cloned<I> as DoubleEndedFallibleIterator>⟧.ends.steps s (mapped (λ c. Ok c.1) asked) }
+    ensures acts { (s : Cloned I) (it : I) (l : List (Result (Bor T) I.Error)) → cloned_parts s ≡ (it, tt) → ((x y : T) → T.is_clone x y → y ≡ x) → ((x : T) → T.is_infallible x) → Listed I.contract.steps I.ends.steps it l → Listed ⟦<Cloned<I> as FallibleIterator>⟧.contract.steps ⟦<Cloned<I> as DoubleEndedFallibleIterator>⟧.ends.steps s (pointed_to l) }
+{}
+
+/// `MapErr` lists what its closure answers on each failure of its source's list, in the failure's place.
+pub fn law_listed_map_err<I: DoubleEndedFallibleIterator, B, F: FnMut(I::Error) -> B>()
+where
+    ensures steady { (s : MapErr I F) (it : I) (f : F) (asked : List (Result I.Item (I.Error × B))) → map_err_parts s ≡ (it, f) → Steady (call_on F.FnMut) f (failures_listed asked) → Listed I.contract.steps I.ends.steps it (failures_mapped (λ c. c.0) asked) → Listed ⟦<MapErr<I, F> as FallibleIterator>⟧.contract.steps ⟦<MapErr<I, F> as DoubleEndedFallibleIterator>⟧.ends.steps s (failures_mapped (λ c. c.1) asked) }
+    ensures acts { (s : MapErr I F) (it : I) (f : F) (h : I.Error → B) (l : List (Result I.Item I.Error)) → map_err_parts s ≡ (it, f) → Acts (call_on F.FnMut) f h → Listed I.contract.steps I.ends.steps it l → Listed ⟦<MapErr<I, F> as FallibleIterator>⟧.contract.steps ⟦<MapErr<I, F> as DoubleEndedFallibleIterator>⟧.ends.steps s (failures_mapped h l) }
 {}

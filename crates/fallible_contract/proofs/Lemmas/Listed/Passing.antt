@@ -169,11 +169,11 @@ module _ {S F X R B E : Type 0} (front back : S → Answered X E → S → Type 
 -- ---- a closure that acts as a function
 
 -- an item beside what h makes of it
-abbrev beside : {X R E : Type 0} → (X → R) → Result X E → Result (X × R) E
+abbrev pub beside : {X R E : Type 0} → (X → R) → Result X E → Result (X × R) E
 beside h (Ok x) = Ok (x, h x)
 beside h (Err e) = Err e
 
-source_beside : {X R E : Type 0} (h : X → R) (l : List (Result X E)) → source_list (map (beside h) l) ≡ l
+pub source_beside : {X R E : Type 0} (h : X → R) (l : List (Result X E)) → source_list (map (beside h) l) ≡ l
 source_beside h [] = refl
 source_beside h (Ok x ∷ l) = ap {B = List (Result _ _)} (λ k. Ok x ∷ k) (source_beside h l)
 source_beside h (Err e ∷ l) = ap {B = List (Result _ _)} (λ k. Err e ∷ k) (source_beside h l)
