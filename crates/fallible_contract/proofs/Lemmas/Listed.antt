@@ -90,6 +90,21 @@ module _ {V P A E : Type 0} {front back : P → Answered A E → P → Type 0} (
   pub listed_within : {s : V} {l : List (Result A E)} → Listed front back (view s) l → Listed steps others s l
   listed_within {s = s} {l = l} i = listed_by steps others (λ u k. Listed front back (view u) k) (λ u k j r v step. takes_front j (in_front u r v step)) (λ u k j r v step. takes_back j (behind u r v step)) s l i
 
+module _ {V P A E : Type 0} {steps others : V → Answered A E → V → Type 0} (view : V → P) (front back : P → Answered A E → P → Type 0)
+    (in_front : (u : V) (r : Answered A E) (q : P) → front (view u) r q → (v : V) × (view v ≡ q) × steps u r v) (behind : (u : V) (r : Answered A E) (q : P) → back (view u) r q → (v : V) × (view v ≡ q) × others u r v) where
+  abbrev SeenListed : P → List (Result A E) → Type 0
+  SeenListed p l = (u : V) × (view u ≡ p) × Listed steps others u l
+
+  seen_front : (p : P) (l : List (Result A E)) → SeenListed p l → (r : Answered A E) (q : P) → front p r q → TakesFirst (λ k. SeenListed q k) r l
+  seen_front p l h r q step = let d = in_front h.0 r q (subst (λ (z : P). front z r q) (sym h.1) step) in takes_weaker {P = λ k. Listed steps others d.0 k} {Q = λ k. SeenListed q k} (λ k j. (d.0, d.1, j)) r l (takes_front h.2 d.2)
+
+  seen_behind : (p : P) (l : List (Result A E)) → SeenListed p l → (r : Answered A E) (q : P) → back p r q → TakesFirst (λ k. SeenListed q (reverse k)) r (reverse l)
+  seen_behind p l h r q step = let d = behind h.0 r q (subst (λ (z : P). back z r q) (sym h.1) step) in takes_weaker {P = λ k. Listed steps others d.0 (reverse k)} {Q = λ k. SeenListed q (reverse k)} (λ k j. (d.0, d.1, j)) r (reverse l) (takes_back h.2 d.2)
+
+  -- what a value is seen as, each of whose draws is one of the value, lists what the value lists
+  pub listed_as_seen : {s : V} {l : List (Result A E)} → Listed steps others s l → Listed front back (view s) l
+  listed_as_seen {s = s} {l = l} i = listed_by front back SeenListed seen_front seen_behind (view s) l (s, refl, i)
+
 pub listed_seen : {V P A E : Type 0} {front back : P → Answered A E → P → Type 0} (view : V → P) {s : V} {l : List (Result A E)} → Listed front back (view s) l → Listed (λ u r v. front (view u) r (view v)) (λ u r v. back (view u) r (view v)) s l
 listed_seen {front = front} {back = back} view i = listed_within view (λ u r v. front (view u) r (view v)) (λ u r v. back (view u) r (view v)) (λ u r v step. step) (λ u r v step. step) i
 
