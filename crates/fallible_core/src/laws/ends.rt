@@ -1,20 +1,29 @@
 // What two ends list, and what is drawn from both.
-ghost use Rattle.std.specs.Prelude.{◌≡◌, ℕ, Some, Ok, Bool, List, Option, Result, All};
-ghost use Rattle.std.specs.Borrow.{Bor};
+ghost use Rattle.std.specs.Prelude.{◌≡◌, ◌↔◌, ◌++◌, ◌∷◌, [], map, reverse, Some, Ok, Bool, List, Option, Result, All};
+ghost use Rattle.std.specs.Borrow.{Bor, MutBor};
+ghost use Rattle.std.specs.declared.boxed.Box.{Box};
+ghost use Rattle.std.specs.declared.alloc.Global.{Global};
+ghost use Rattle.fallible_contract.specs.declared.answers.Side.{Side};
+ghost use Rattle.fallible_contract.specs.declared.answers.Side.TheVariants.{Front, Back};
+ghost use Rattle.fallible_contract.specs.Traces.{Answered, Run, item};
+ghost use Rattle.fallible_contract.specs.Folds.{Folded, call_with};
 ghost use Rattle.fallible_contract.specs.Closures.{Steady, call_on, call_at};
 ghost use Rattle.fallible_contract.specs.Lists.{Acts, mapped, inspected, filtered, filter_mapped, failures_mapped, pointed_to};
-ghost use Rattle.fallible_contract.specs.Listed.{Listed, items_listed, failures_listed, source_list, passed_list};
+ghost use Rattle.fallible_contract.specs.Listed.{Listed, Mix, step_at, from_side, Interleaves, items_listed, failures_listed, source_list, passed_list};
 ghost use Rattle.fallible_core.specs.OneToOne.Map.{map_outcome, map_parts};
 ghost use Rattle.fallible_core.specs.OneToOne.Inspect.{inspect_outcome, inspect_parts};
 ghost use Rattle.fallible_core.specs.OneToOne.Cloned.{cloned_parts};
 ghost use Rattle.fallible_core.specs.OneToOne.MapErr.{map_err_parts};
 ghost use Rattle.fallible_core.specs.Filtering.Filter.{filter_outcome, filter_parts};
 ghost use Rattle.fallible_core.specs.Filtering.FilterMap.{filter_map_outcome, filter_map_parts};
+ghost use Rattle.fallible_core.specs.Ends.Rev.{rev_parts};
 
+use crate::ends::Rev;
 use crate::filtering::{Filter, FilterMap};
 use crate::one_to_one::{Cloned, Inspect, Map, MapErr};
 use crate::traits::FallibleIterator;
 use crate::traits::double_ended::DoubleEndedFallibleIterator;
+use fallible_contract::folds::Is;
 use std::alloc::AllocError;
 
 // ---- what each adapter lists, from what its source lists: where its closure gives the answers beside the items, in whatever state its calls bring it to; so also where it acts as a function
@@ -72,4 +81,35 @@ pub fn law_listed_map_err<I: DoubleEndedFallibleIterator, B, F: FnMut(I::Error) 
 where
     ensures steady { (s : MapErr I F) (it : I) (f : F) (asked : List (Result I.Item (I.Error × B))) → map_err_parts s ≡ (it, f) → Steady (call_on F.FnMut) f (failures_listed asked) → Listed I.contract.steps I.ends.steps it (failures_mapped (λ c. c.0) asked) → Listed ⟦<MapErr<I, F> as FallibleIterator>⟧.contract.steps ⟦<MapErr<I, F> as DoubleEndedFallibleIterator>⟧.ends.steps s (failures_mapped (λ c. c.1) asked) }
     ensures acts { (s : MapErr I F) (it : I) (f : F) (h : I.Error → B) (l : List (Result I.Item I.Error)) → map_err_parts s ≡ (it, f) → Acts (call_on F.FnMut) f h → Listed I.contract.steps I.ends.steps it l → Listed ⟦<MapErr<I, F> as FallibleIterator>⟧.contract.steps ⟦<MapErr<I, F> as DoubleEndedFallibleIterator>⟧.ends.steps s (failures_mapped h l) }
+{}
+
+/// `Rev` lists the reverse of what its source lists, and the other way round.
+pub fn law_listed_rev<I: DoubleEndedFallibleIterator>()
+    ensures reversed { (s : Rev I) (l : List (Result I.Item I.Error)) → Listed I.contract.steps I.ends.steps (rev_parts s) l → Listed ⟦<Rev<I> as FallibleIterator>⟧.contract.steps ⟦<Rev<I> as DoubleEndedFallibleIterator>⟧.ends.steps s (reverse l) }
+    ensures source { (s : Rev I) (l : List (Result I.Item I.Error)) → Listed ⟦<Rev<I> as FallibleIterator>⟧.contract.steps ⟦<Rev<I> as DoubleEndedFallibleIterator>⟧.ends.steps s l → Listed I.contract.steps I.ends.steps (rev_parts s) (reverse l) }
+{}
+
+/// A `&mut I` and a `Box<I>` list just what the value behind them lists.
+pub fn law_listed_borrowed<'a, I: DoubleEndedFallibleIterator + 'a>()
+    ensures borrowed { (s : MutBor I) (l : List (Result I.Item I.Error)) → Listed ⟦<&'a mut I as FallibleIterator>⟧.contract.steps ⟦<&'a mut I as DoubleEndedFallibleIterator>⟧.ends.steps s l ↔ Listed I.contract.steps I.ends.steps s.now l }
+    ensures boxed { (s : Box I Global) (l : List (Result I.Item I.Error)) → Listed ⟦<Box<I> as FallibleIterator>⟧.contract.steps ⟦<Box<I> as DoubleEndedFallibleIterator>⟧.ends.steps s l ↔ Listed I.contract.steps I.ends.steps s.value l }
+{}
+
+// ---- draws from both ends
+
+/// The law of interleaving, of every type with two ends, and so of every nest of adapters: of draws from both ends of a value that lists l, what came in front, what is left, and what came behind, reversed, make l; and an end was answered only where nothing was left.
+pub fn law_interleave<I: DoubleEndedFallibleIterator>()
+    ensures { (s t : I) (l : List (Result I.Item I.Error)) (drawn : List (Side × Answered I.Item I.Error)) → Listed I.contract.steps I.ends.steps s l → Mix I.contract.steps I.ends.steps s drawn t → Interleaves I.contract.steps I.ends.steps l drawn t }
+{}
+
+/// Runs and folds from one end are draws like others, also a fold that stopped: it drew its items and the answer that decided. Draws may come before them and after them, so `law_interleave` speaks of them too.
+pub fn law_interleave_folds<I: DoubleEndedFallibleIterator, B, E, T, F>()
+where
+    E: From<I::Error>,
+    I::Item: Is<T>,
+    F: FnMut(B, T) -> Result<B, E>,
+    ensures run { (side : Side) (s t : I) (trace : List (Answered I.Item I.Error)) → Run (step_at I.contract.steps I.ends.steps side) s trace t → Mix I.contract.steps I.ends.steps s (from_side side trace) t }
+    ensures fold { (s t : I) (b : B) (f : F) (r : Result B E) (h : Folded I.contract.steps (call_with I.Item.as_is F.FnMut) E.from_gives s b f r t) → Mix I.contract.steps I.ends.steps s (from_side Front (map item h.items ++ h.last ∷ [])) t }
+    ensures fold_back { (s t : I) (b : B) (f : F) (r : Result B E) (h : Folded I.ends.steps (call_with I.Item.as_is F.FnMut) E.from_gives s b f r t) → Mix I.contract.steps I.ends.steps s (from_side Back (map item h.items ++ h.last ∷ [])) t }
+    ensures then_others { (s t u : I) (drawn others : List (Side × Answered I.Item I.Error)) → Mix I.contract.steps I.ends.steps s drawn t → Mix I.contract.steps I.ends.steps t others u → Mix I.contract.steps I.ends.steps s (drawn ++ others) u }
 {}
