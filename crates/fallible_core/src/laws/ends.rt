@@ -113,3 +113,19 @@ where
     ensures fold_back { (s t : I) (b : B) (f : F) (r : Result B E) (h : Folded I.ends.steps (call_with I.Item.as_is F.FnMut) E.from_gives s b f r t) → Mix I.contract.steps I.ends.steps s (from_side Back (map item h.items ++ h.last ∷ [])) t }
     ensures then_others { (s t u : I) (drawn others : List (Side × Answered I.Item I.Error)) → Mix I.contract.steps I.ends.steps s drawn t → Mix I.contract.steps I.ends.steps t others u → Mix I.contract.steps I.ends.steps s (drawn ++ others) u }
 {}
+
+/// The same of one nest of four types, written out: of draws from both ends of a `Rev` of a `Filter` of a `Map` over any source that lists l, what came in front, what is left, and what came behind, reversed, make the reverse of the filtered, mapped l.
+pub fn law_interleave_nest<
+    I: DoubleEndedFallibleIterator,
+    B: Drop,
+    F: FnMut(I::Item) -> Result<B, I::Error>,
+    G: FnMut(&B) -> Result<bool, I::Error>,
+>()
+where
+    ensures { (s t : Rev (Filter (Map I F) G)) (inner : Map I F) (it : I) (f : F) (g : G) (h : I.Item → Result B I.Error) (k : B → Result Bool I.Error) (l : List (Result I.Item I.Error)) (drawn : List (Side × Answered B I.Error)) → filter_parts (rev_parts s) ≡ (inner, Some g) → map_parts inner ≡ (it, Some f) → Acts (call_on F.FnMut) f h → Acts (call_at G.FnMut) g k → Listed I.contract.steps I.ends.steps it l → Mix ⟦<Rev<Filter<Map<I, F>, G>> as FallibleIterator>⟧.contract.steps ⟦<Rev<Filter<Map<I, F>, G>> as DoubleEndedFallibleIterator>⟧.ends.steps s drawn t → Interleaves ⟦<Rev<Filter<Map<I, F>, G>> as FallibleIterator>⟧.contract.steps ⟦<Rev<Filter<Map<I, F>, G>> as DoubleEndedFallibleIterator>⟧.ends.steps (reverse (filtered k (mapped h l))) drawn t }
+{
+    law_listed_map::<I, B, F>();
+    law_listed_filter::<Map<I, F>, G>();
+    law_listed_rev::<Filter<Map<I, F>, G>>();
+    law_interleave::<Rev<Filter<Map<I, F>, G>>>();
+}
