@@ -7,15 +7,16 @@ ghost use Rattle.fallible_contract.specs.declared.answers.Side.{Side};
 ghost use Rattle.fallible_contract.specs.declared.answers.Side.TheVariants.{Front, Back};
 ghost use Rattle.fallible_contract.specs.Traces.{Answered, Run, item};
 ghost use Rattle.fallible_contract.specs.Folds.{Folded, call_with};
+ghost use Rattle.fallible_contract.specs.Definitions.{MeetsHeld};
 ghost use Rattle.fallible_contract.specs.Closures.{Steady, call_on, call_at};
 ghost use Rattle.fallible_contract.specs.Lists.{Acts, mapped, inspected, filtered, filter_mapped, failures_mapped, pointed_to};
 ghost use Rattle.fallible_contract.specs.Listed.{Listed, Mix, step_at, from_side, Interleaves, items_listed, failures_listed, source_list, passed_list};
-ghost use Rattle.fallible_core.specs.OneToOne.Map.{map_outcome, map_parts};
-ghost use Rattle.fallible_core.specs.OneToOne.Inspect.{inspect_outcome, inspect_parts};
-ghost use Rattle.fallible_core.specs.OneToOne.Cloned.{cloned_parts};
-ghost use Rattle.fallible_core.specs.OneToOne.MapErr.{map_err_parts};
-ghost use Rattle.fallible_core.specs.Filtering.Filter.{filter_outcome, filter_parts};
-ghost use Rattle.fallible_core.specs.Filtering.FilterMap.{filter_map_outcome, filter_map_parts};
+ghost use Rattle.fallible_core.specs.OneToOne.Map.{MapTrace, map_outcome, map_parts};
+ghost use Rattle.fallible_core.specs.OneToOne.Inspect.{InspectTrace, inspect_outcome, inspect_parts};
+ghost use Rattle.fallible_core.specs.OneToOne.Cloned.{ClonedTrace, cloned_parts};
+ghost use Rattle.fallible_core.specs.OneToOne.MapErr.{MapErrTrace, map_err_parts};
+ghost use Rattle.fallible_core.specs.Filtering.Filter.{FilterTrace, filter_outcome, filter_parts};
+ghost use Rattle.fallible_core.specs.Filtering.FilterMap.{FilterMapTrace, filter_map_outcome, filter_map_parts};
 ghost use Rattle.fallible_core.specs.Ends.Rev.{rev_parts};
 
 use crate::ends::Rev;
@@ -129,3 +130,70 @@ where
     law_listed_rev::<Filter<Map<I, F>, G>>();
     law_interleave::<Rev<Filter<Map<I, F>, G>>>();
 }
+
+// ---- traces from behind
+
+/// A trace of `Rev` is one of its source from behind, and a trace of it from behind one of its source.
+pub fn law_rev<I: DoubleEndedFallibleIterator>()
+    ensures front { MeetsHeld rev_parts ⟦<Rev<I> as FallibleIterator>⟧.contract.steps (Run I.ends.steps) }
+    ensures back { MeetsHeld rev_parts ⟦<Rev<I> as DoubleEndedFallibleIterator>⟧.ends.steps (Run I.contract.steps) }
+{}
+
+/// From behind the answers of `Map` are the source's from behind, with the closure's answer in each item's place.
+pub fn law_back_map<I: DoubleEndedFallibleIterator, B, F: FnMut(I::Item) -> Result<B, I::Error>>()
+where
+    ensures { MeetsHeld map_parts ⟦<Map<I, F> as DoubleEndedFallibleIterator>⟧.ends.steps (MapTrace I.ends.steps F.FnMut) }
+{}
+
+/// From behind the answers of `Inspect` are the source's from behind, with the closure's failure in the place of each item on which it failed.
+pub fn law_back_inspect<
+    I: DoubleEndedFallibleIterator,
+    F: FnMut(&I::Item) -> Result<(), I::Error>,
+>()
+where
+    I::Item: Drop,
+    ensures { MeetsHeld inspect_parts ⟦<Inspect<I, F> as DoubleEndedFallibleIterator>⟧.ends.steps (InspectTrace I.ends.steps F.FnMut) }
+{}
+
+/// From behind the answers of `MapErr` are the source's from behind, with the closure's answer in each failure's place.
+pub fn law_back_map_err<I: DoubleEndedFallibleIterator, B, F: FnMut(I::Error) -> B>()
+where
+    ensures { MeetsHeld map_err_parts ⟦<MapErr<I, F> as DoubleEndedFallibleIterator>⟧.ends.steps (MapErrTrace I.ends.steps (call_on F.FnMut)) }
+{}
+
+/// From behind the answers of `Cloned` are the source's from behind, with a clone in each item's place, or the failure made of its refusal.
+pub fn law_back_cloned<'a, T: Clone + 'a, I: DoubleEndedFallibleIterator<Item = &'a T>>()
+where
+    I::Error: From<AllocError>,
+    ensures { MeetsHeld cloned_parts ⟦<Cloned<I> as DoubleEndedFallibleIterator>⟧.ends.steps (ClonedTrace T.is_clone T.is_infallible I.Error.from_gives I.ends.steps) }
+{}
+
+/// From behind the answers of `Filter` are the source's from behind without the items refused.
+pub fn law_back_filter<
+    I: DoubleEndedFallibleIterator,
+    F: FnMut(&I::Item) -> Result<bool, I::Error>,
+>()
+where
+    I::Item: Drop,
+    ensures { MeetsHeld filter_parts ⟦<Filter<I, F> as DoubleEndedFallibleIterator>⟧.ends.steps (FilterTrace I.ends.steps F.FnMut) }
+{}
+
+/// From behind the answers of `FilterMap` are the source's from behind without the items answered none, with the closure's value or failure in each other item's place.
+pub fn law_back_filter_map<
+    I: DoubleEndedFallibleIterator,
+    B,
+    F: FnMut(I::Item) -> Result<Option<B>, I::Error>,
+>()
+where
+    ensures { MeetsHeld filter_map_parts ⟦<FilterMap<I, F> as DoubleEndedFallibleIterator>⟧.ends.steps (FilterMapTrace I.ends.steps F.FnMut) }
+{}
+
+/// From behind a `&mut I` and a `Box<I>` step as `I` does from behind: a draw answers what a draw from behind of the value behind it answers, and leaves there what that leaves. The `&mut` stays the same reference.
+pub fn law_back_borrowed<'a, I: DoubleEndedFallibleIterator + 'a>()
+    ensures borrowed { (s : MutBor I) (r : Answered I.Item I.Error) (t : MutBor I) → ⟦<&'a mut I as DoubleEndedFallibleIterator>⟧.ends.steps s r t ↔ (I.ends.steps s.now r t.now × (t.ghost_name ≡ s.ghost_name)) }
+    ensures boxed { (s : Box I Global) (r : Answered I.Item I.Error) (t : Box I Global) → ⟦<Box<I> as DoubleEndedFallibleIterator>⟧.ends.steps s r t ↔ I.ends.steps s.value r t.value }
+    ensures borrowed_run { (s : MutBor I) (trace : List (Answered I.Item I.Error)) (t : MutBor I) → Run ⟦<&'a mut I as DoubleEndedFallibleIterator>⟧.ends.steps s trace t → Run I.ends.steps s.now trace t.now }
+    ensures run_borrowed { (s : MutBor I) (trace : List (Answered I.Item I.Error)) (x : I) → Run I.ends.steps s.now trace x → Run ⟦<&'a mut I as DoubleEndedFallibleIterator>⟧.ends.steps s trace (record s { now = x }) }
+    ensures boxed_run { (s : Box I Global) (trace : List (Answered I.Item I.Error)) (t : Box I Global) → Run ⟦<Box<I> as DoubleEndedFallibleIterator>⟧.ends.steps s trace t → Run I.ends.steps s.value trace t.value }
+    ensures run_boxed { (s : Box I Global) (trace : List (Answered I.Item I.Error)) (x : I) → Run I.ends.steps s.value trace x → Run ⟦<Box<I> as DoubleEndedFallibleIterator>⟧.ends.steps s trace (record s { value = x }) }
+{}
