@@ -9,6 +9,7 @@ pub mod Definitions
 pub mod Folding
 pub mod Folds
 pub mod Held
+pub mod Listed
 pub mod Lists
 pub mod Nth
 pub mod Overriding

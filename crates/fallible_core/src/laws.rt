@@ -2,6 +2,7 @@
 
 pub mod borrowed;
 mod cutting;
+pub mod ends;
 mod filtering;
 mod joining;
 mod one_to_one;

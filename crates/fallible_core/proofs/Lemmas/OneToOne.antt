@@ -5,4 +5,5 @@ pub mod Inspect
 pub mod Map
 pub mod MapErr
 pub mod MapErrFolds
+pub mod MapErrListed
 pub mod Scan

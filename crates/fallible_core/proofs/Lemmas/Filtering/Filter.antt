@@ -4,18 +4,25 @@ use Rattle.std.proofs.Common.{refl, ap, ◌∙◌}
 use Rattle.std.specs.Fn.{Mut}
 use Rattle.std.specs.Borrow.{Bor}
 use Rattle.fallible_core.specs.declared.filtering.filter.Filter.{Filter}
+use Rattle.fallible_contract.specs.Passing.{an_end}
 use Rattle.fallible_contract.specs.Contract.{Contract, seen_as}
 use Rattle.fallible_contract.specs.Closures.{call_at}
 use Rattle.fallible_core.specs.Filtering.Filter.{filter_outcome, filter_parts, filter_contract}
 use Rattle.fallible_contract.specs.Lists.{Lists, Acts, cons_if, filtered}
 use Rattle.fallible_contract.proofs.Lemmas.Lists.Passing.{passed, by_outcome, lists_seen, lists_passed}
 
+-- no answer of the closure makes an end
+pub never_ends : {X E : Type 0} (x : X) (v : Result Bool E) → filter_outcome x v ≡ an_end → ⊥
+never_ends x (Ok true) e = absurd cc
+never_ends x (Ok false) e = absurd cc
+never_ends x (Err d) e = absurd cc
+
 outcome_listed : {X E : Type 0} (x : X) (v : Result Bool E) (l : List (Result X E)) → by_outcome (filter_outcome x v) l ≡ cons_if x v l
 outcome_listed x (Ok true) l = refl
 outcome_listed x (Ok false) l = refl
 outcome_listed x (Err e) l = refl
 
-filtered_is : {X E : Type 0} (h : X → Result Bool E) (l : List (Result X E)) → passed filter_outcome (λ (p : Unit {0}) x. h x) (λ p x. p) tt l ≡ filtered h l
+pub filtered_is : {X E : Type 0} (h : X → Result Bool E) (l : List (Result X E)) → passed filter_outcome (λ (p : Unit {0}) x. h x) (λ p x. p) tt l ≡ filtered h l
 unfolding filtered
 filtered_is h [] = refl
 filtered_is h (Ok x ∷ l) = outcome_listed x (h x) _ ∙ ap (λ t. cons_if x (h x) t) (filtered_is h l)

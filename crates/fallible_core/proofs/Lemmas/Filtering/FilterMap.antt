@@ -3,18 +3,25 @@ use Rattle.std.specs.Prelude.{◌≡◌, Option, Result, Ok, Err, List, [], ◌�
 use Rattle.std.proofs.Common.{refl, ap, ◌∙◌}
 use Rattle.std.specs.Fn.{Mut}
 use Rattle.fallible_core.specs.declared.filtering.filter_map.FilterMap.{FilterMap}
+use Rattle.fallible_contract.specs.Passing.{an_end}
 use Rattle.fallible_contract.specs.Contract.{Contract, seen_as}
 use Rattle.fallible_contract.specs.Closures.{call_on}
 use Rattle.fallible_core.specs.Filtering.FilterMap.{filter_map_outcome, filter_map_parts, filter_map_contract}
 use Rattle.fallible_contract.specs.Lists.{Lists, Acts, cons_some, filter_mapped}
 use Rattle.fallible_contract.proofs.Lemmas.Lists.Passing.{passed, by_outcome, lists_seen, lists_passed}
 
+-- no answer of the closure makes an end
+pub never_ends : {X B E : Type 0} (x : X) (v : Result (Option B) E) → filter_map_outcome x v ≡ an_end → ⊥
+never_ends x (Ok (Some y)) e = absurd cc
+never_ends x (Ok None) e = absurd cc
+never_ends x (Err d) e = absurd cc
+
 outcome_listed : {X B E : Type 0} (x : X) (v : Result (Option B) E) (l : List (Result B E)) → by_outcome (filter_map_outcome x v) l ≡ cons_some v l
 outcome_listed x (Ok (Some y)) l = refl
 outcome_listed x (Ok None) l = refl
 outcome_listed x (Err e) l = refl
 
-filter_mapped_is : {X B E : Type 0} (h : X → Result (Option B) E) (l : List (Result X E)) → passed filter_map_outcome (λ (p : Unit {0}) x. h x) (λ p x. p) tt l ≡ filter_mapped h l
+pub filter_mapped_is : {X B E : Type 0} (h : X → Result (Option B) E) (l : List (Result X E)) → passed filter_map_outcome (λ (p : Unit {0}) x. h x) (λ p x. p) tt l ≡ filter_mapped h l
 unfolding filter_mapped
 filter_mapped_is h [] = refl
 filter_mapped_is h (Ok x ∷ l) = outcome_listed x (h x) _ ∙ ap (λ t. cons_some (h x) t) (filter_mapped_is h l)

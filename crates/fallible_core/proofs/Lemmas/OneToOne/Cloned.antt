@@ -1,14 +1,21 @@
--- What `Cloned` lists, where a clone equals its original and is never refused.
-use Rattle.std.specs.Prelude.{◌≡◌, Result, Ok, Err, List, [], ◌∷◌}
+-- What `Cloned` lists, where a clone equals its original and is never refused; and from both ends also where each item has one clone alone.
+use Rattle.std.specs.Prelude.{◌≡◌, Result, Ok, Err, List, [], ◌∷◌, map, All}
+use Rattle.std.proofs.lemmas.List.Elements.{All-nil, All-cons, All-head, All-tail}
 use Rattle.std.specs.Borrow.{Bor}
 use Rattle.std.specs.declared.alloc.AllocError.{AllocError}
-use Rattle.std.proofs.Common.{refl, ap, inl, inr}
+use Rattle.std.proofs.Common.{refl, sym, ap, subst, inl, inr}
 use Rattle.fallible_core.specs.declared.one_to_one.cloned.Cloned.{Cloned}
 use Rattle.fallible_contract.specs.Contract.{Contract, Stays, seen_as}
 use Rattle.fallible_contract.specs.Laws.Closures.{reaches_here, may_answer_after}
 use Rattle.fallible_core.specs.OneToOne.Map.{map_outcome}
 use Rattle.fallible_core.specs.OneToOne.Cloned.{cloned_call, cloned_parts, cloned_contract}
-use Rattle.fallible_contract.specs.Lists.{Lists, pointed_to}
+use Rattle.fallible_contract.specs.Traces.{Answered}
+use Rattle.fallible_contract.specs.Closures.{Steady}
+use Rattle.fallible_contract.specs.Lists.{Lists, mapped, pointed_to}
+use Rattle.fallible_contract.specs.Listed.{Listed, items_listed, source_list, passed_list}
+use Rattle.fallible_contract.proofs.Lemmas.Listed.Passing.{GivesAt, beside, source_beside, listed_passed}
+use Rattle.fallible_contract.proofs.Lemmas.Lists.Passing.{passing_step}
+use Rattle.fallible_core.proofs.Lemmas.OneToOne.Map.{never_ends}
 use Rattle.fallible_contract.proofs.Lemmas.Lists.Passing.{passed, all_given, lists_seen}
 
 pointed_to_is : {T E : Type 0} (l : List (Result (Bor T) E)) → passed map_outcome (λ (p : Unit {0}) (x : Bor T). Ok x.now) (λ p x. p) tt l ≡ pointed_to l
@@ -37,3 +44,66 @@ stays_cloned is_clone is_infallible from a = record {
   fails = λ e h. elim h [ inl b ↦ inl (a.fails e b) | inr b ↦ inr (may_answer_after a.gives reaches_here b) ];
   names = a.names;
 }
+
+-- ---- from both ends
+
+-- an item beside its clone, as one beside what the call of `Cloned` answers
+abbrev pub with_clone : {T E : Type 0} → Result (Bor T × T) E → Result (Bor T × Result T E) E
+with_clone (Ok c) = Ok (c.0, Ok c.1)
+with_clone (Err e) = Err e
+
+source_with_clones : {T E : Type 0} (asked : List (Result (Bor T × T) E)) → source_list (map with_clone asked) ≡ source_list asked
+source_with_clones [] = refl
+source_with_clones (Ok c ∷ asked) = ap {B = List (Result (Bor _) _)} (λ k. Ok c.0 ∷ k) (source_with_clones asked)
+source_with_clones (Err e ∷ asked) = ap {B = List (Result (Bor _) _)} (λ k. Err e ∷ k) (source_with_clones asked)
+
+pub clones_passed : {T E : Type 0} (asked : List (Result (Bor T × T) E)) → passed_list map_outcome (map with_clone asked) ≡ mapped (λ c. Ok c.1) asked
+unfolding mapped
+clones_passed [] = refl
+clones_passed (Ok c ∷ asked) = ap {B = List (Result _ _)} (λ k. Ok c.1 ∷ k) (clones_passed asked)
+clones_passed (Err e ∷ asked) = ap {B = List (Result _ _)} (λ k. Err e ∷ k) (clones_passed asked)
+
+module _ {T E : Type 0} (is_clone : T → T → Type 0) (is_infallible : T → Type 0) (from : AllocError → E → Type 0) where
+  -- the one clone of the item, which is never refused
+  abbrev OneClone : Bor T × T → Type 0
+  OneClone c = is_infallible c.0.now × ((y : T) → is_clone c.0.now y → y ≡ c.1)
+
+  given_clone : (c : Bor T × T) (p q : Unit {0}) → OneClone c → GivesAt (cloned_call is_clone is_infallible from) p q (c.0, Ok c.1)
+  given_clone c p q one = λ r called. one_answer r called
+    where
+      one_answer : (r : Result T E) → cloned_call is_clone is_infallible from p c.0 r q → r ≡ Ok c.1
+      one_answer (Ok y) called = ap (λ (z : T). Ok z) (one.1 y called)
+      one_answer (Err e) called = absurd (called.0 one.0)
+
+  given_clones : (asked : List (Result (Bor T × T) E)) (p q : Unit {0}) → All OneClone (items_listed asked) → All (GivesAt (cloned_call is_clone is_infallible from) p q) (items_listed (map with_clone asked))
+  given_clones [] p q all = All-nil (GivesAt (cloned_call is_clone is_infallible from) p q)
+  given_clones (Ok c ∷ asked) p q all = All-cons (GivesAt (cloned_call is_clone is_infallible from) p q) (c.0, Ok c.1) (items_listed (map with_clone asked)) (given_clone c p q (All-head OneClone c (items_listed asked) all)) (given_clones asked p q (All-tail OneClone c (items_listed asked) all))
+  given_clones (Err e ∷ asked) p q all = given_clones asked p q all
+
+  -- it lists the clones
+  pub listed_clones : {S : Type 0} (front back : S → Answered (Bor T) E → S → Type 0) (asked : List (Result (Bor T × T) E)) (s : S) → All OneClone (items_listed asked) → Listed front back s (source_list asked)
+      → Listed (passing_step front (cloned_call is_clone is_infallible from) map_outcome) (passing_step back (cloned_call is_clone is_infallible from) map_outcome) (s, tt) (passed_list map_outcome (map with_clone asked))
+  listed_clones front back asked s all i = listed_passed front back (cloned_call is_clone is_infallible from) map_outcome never_ends (map with_clone asked) s tt
+      (λ made p q w. given_clones asked p q all) (subst (λ (l : List (Result (Bor T) E)). Listed front back s l) (sym (source_with_clones asked)) i)
+
+-- ---- where a clone equals its original
+
+-- each item beside what it points to
+abbrev pub with_original : {T E : Type 0} → List (Result (Bor T) E) → List (Result (Bor T × T) E)
+with_original l = map (beside (λ x. x.now)) l
+
+pub originals_passed : {T E : Type 0} (l : List (Result (Bor T) E)) → passed_list map_outcome (map with_clone (with_original l)) ≡ pointed_to l
+unfolding pointed_to
+originals_passed [] = refl
+originals_passed (Ok x ∷ l) = ap {B = List (Result _ _)} (λ k. Ok x.now ∷ k) (originals_passed l)
+originals_passed (Err e ∷ l) = ap {B = List (Result _ _)} (λ k. Err e ∷ k) (originals_passed l)
+
+module _ {T E : Type 0} (is_clone : T → T → Type 0) (is_infallible : T → Type 0) (from : AllocError → E → Type 0) (equal : (x y : T) → is_clone x y → y ≡ x) (infallible : (x : T) → is_infallible x) where
+  one_original : (l : List (Result (Bor T) E)) → All (OneClone {E = E} is_clone is_infallible from) (items_listed (with_original l))
+  one_original [] = All-nil (OneClone {E = E} is_clone is_infallible from)
+  one_original (Ok x ∷ l) = All-cons (OneClone {E = E} is_clone is_infallible from) (x, x.now) (items_listed (with_original l)) (infallible x.now, λ y called. equal x.now y called) (one_original l)
+  one_original (Err e ∷ l) = one_original l
+
+  pub listed_originals : {S : Type 0} (front back : S → Answered (Bor T) E → S → Type 0) (l : List (Result (Bor T) E)) (s : S) → Listed front back s l
+      → Listed (passing_step front (cloned_call is_clone is_infallible from) map_outcome) (passing_step back (cloned_call is_clone is_infallible from) map_outcome) (s, tt) (passed_list map_outcome (map with_clone (with_original l)))
+  listed_originals front back l s i = listed_clones is_clone is_infallible from front back (with_original l) s (one_original l) (subst (λ (k : List (Result (Bor T) E)). Listed front back s k) (sym (source_beside (λ x. x.now) l)) i)

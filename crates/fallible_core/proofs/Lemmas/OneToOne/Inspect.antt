@@ -4,17 +4,23 @@ use Rattle.std.proofs.Common.{refl, ap, ◌∙◌}
 use Rattle.std.specs.Fn.{Mut}
 use Rattle.std.specs.Borrow.{Bor}
 use Rattle.fallible_core.specs.declared.one_to_one.inspect.Inspect.{Inspect}
+use Rattle.fallible_contract.specs.Passing.{an_end}
 use Rattle.fallible_contract.specs.Contract.{Contract, seen_as}
 use Rattle.fallible_contract.specs.Closures.{call_at}
 use Rattle.fallible_core.specs.OneToOne.Inspect.{inspect_outcome, inspect_parts, inspect_contract}
 use Rattle.fallible_contract.specs.Lists.{Lists, Acts, once_seen, inspected}
 use Rattle.fallible_contract.proofs.Lemmas.Lists.Passing.{passed, by_outcome, lists_seen, lists_passed}
 
+-- no answer of the closure makes an end
+pub never_ends : {X E : Type 0} (x : X) (v : Result (Unit {0}) E) → inspect_outcome x v ≡ an_end → ⊥
+never_ends x (Ok u) e = absurd cc
+never_ends x (Err d) e = absurd cc
+
 outcome_listed : {X E : Type 0} (x : X) (v : Result (Unit {0}) E) (l : List (Result X E)) → by_outcome (inspect_outcome x v) l ≡ once_seen x v ∷ l
 outcome_listed x (Ok u) l = refl
 outcome_listed x (Err e) l = refl
 
-inspected_is : {X E : Type 0} (h : X → Result (Unit {0}) E) (l : List (Result X E)) → passed inspect_outcome (λ (p : Unit {0}) x. h x) (λ p x. p) tt l ≡ inspected h l
+pub inspected_is : {X E : Type 0} (h : X → Result (Unit {0}) E) (l : List (Result X E)) → passed inspect_outcome (λ (p : Unit {0}) x. h x) (λ p x. p) tt l ≡ inspected h l
 unfolding inspected
 inspected_is h [] = refl
 inspected_is h (Ok x ∷ l) = outcome_listed x (h x) _ ∙ ap (λ t. once_seen x (h x) ∷ t) (inspected_is h l)

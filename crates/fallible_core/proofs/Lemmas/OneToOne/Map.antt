@@ -3,17 +3,23 @@ use Rattle.std.specs.Prelude.{◌≡◌, Result, Ok, Err, List, [], ◌∷◌, S
 use Rattle.std.proofs.Common.{refl, ap, ◌∙◌}
 use Rattle.std.specs.Fn.{Mut}
 use Rattle.fallible_core.specs.declared.one_to_one.map.Map.{Map}
+use Rattle.fallible_contract.specs.Passing.{an_end}
 use Rattle.fallible_contract.specs.Contract.{Contract, seen_as}
 use Rattle.fallible_contract.specs.Closures.{call_on}
 use Rattle.fallible_core.specs.OneToOne.Map.{map_outcome, map_parts, map_contract}
 use Rattle.fallible_contract.specs.Lists.{Lists, Acts, mapped}
 use Rattle.fallible_contract.proofs.Lemmas.Lists.Passing.{passed, by_outcome, lists_seen, lists_passed}
 
+-- no answer of the closure makes an end
+pub never_ends : {X B E : Type 0} (x : X) (v : Result B E) → map_outcome x v ≡ an_end → ⊥
+never_ends x (Ok y) e = absurd cc
+never_ends x (Err d) e = absurd cc
+
 outcome_listed : {X B E : Type 0} (x : X) (y : Result B E) (l : List (Result B E)) → by_outcome (map_outcome x y) l ≡ y ∷ l
 outcome_listed x (Ok y) l = refl
 outcome_listed x (Err e) l = refl
 
-mapped_is : {X B E : Type 0} (h : X → Result B E) (l : List (Result X E)) → passed map_outcome (λ (p : Unit {0}) x. h x) (λ p x. p) tt l ≡ mapped h l
+pub mapped_is : {X B E : Type 0} (h : X → Result B E) (l : List (Result X E)) → passed map_outcome (λ (p : Unit {0}) x. h x) (λ p x. p) tt l ≡ mapped h l
 unfolding mapped
 mapped_is h [] = refl
 mapped_is h (Ok x ∷ l) = outcome_listed x (h x) _ ∙ ap (λ t. h x ∷ t) (mapped_is h l)
