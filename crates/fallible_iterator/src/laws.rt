@@ -9,7 +9,8 @@ pub use fallible_core::laws::{
     law_skip, law_skip_while, law_step_by, law_take, law_take_while, law_to_come, law_zip,
 };
 pub use sources::{
-    law_convert, law_empty, law_from_fn, law_into_fallible, law_once, law_once_err, law_repeat,
-    law_repeat_err, law_sources,
+    law_back_convert, law_back_into_fallible, law_back_sources, law_convert, law_empty,
+    law_from_fn, law_into_fallible, law_once, law_once_err, law_repeat, law_repeat_err,
+    law_sources,
 };
 pub use traces::answers;

@@ -52,6 +52,7 @@ module _ {S A E Z : Type 0} (of_item : A → Z) (of_failure : E → Z) (can : S 
   }
 
 module _ {S A E Z : Type 0} (of_item : A → Z) (of_failure : E → Z) (can can_back : S → Type 0) (gives gives_back : S → Option Z → S → Type 0) (remaining : S → Count) where
+  -- one draw from the front
   abbrev front : S → Answered A E → S → Type 0
   front = std_step of_item of_failure can gives remaining
 
