@@ -2,7 +2,7 @@
 pub mod sources;
 pub mod traces;
 
-pub use fallible_contract::answers::Answer;
+pub use fallible_contract::answers::{Answer, Side};
 pub use fallible_core::laws::{
     law_borrowed, law_chain, law_cloned, law_cycle, law_enumerate, law_filter, law_filter_map,
     law_flat_map, law_flatten, law_fuse, law_inspect, law_map, law_map_err, law_peekable, law_scan,
@@ -13,4 +13,4 @@ pub use sources::{
     law_from_fn, law_into_fallible, law_once, law_once_err, law_repeat, law_repeat_err,
     law_sources,
 };
-pub use traces::answers;
+pub use traces::{answers, answers_at};
