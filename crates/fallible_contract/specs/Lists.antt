@@ -1,5 +1,5 @@
 -- Lists of answers, from the front: what a caller states that a chain of calls computed.
-use Rattle.std.specs.Prelude.{◌≡◌, ℕ, ◌+◌, zero, suc, ◌≤◌, ◌<◌, length, slice_index_or, Result, Some, None, Ok, Err, List, [], ◌∷◌, Bool, true, false, ⊤}
+use Rattle.std.specs.Prelude.{◌≡◌, ℕ, ◌+◌, ◌-◌, zero, suc, ◌≤◌, ◌<◌, length, reverse, slice_index_or, Result, Some, None, Ok, Err, List, [], ◌∷◌, Bool, true, false, ⊤}
 use Rattle.std.specs.Iterator.Runs.{EachRunFrom}
 use Rattle.std.specs.List.{last_or}
 use Rattle.std.specs.Borrow.{Bor}
@@ -44,6 +44,10 @@ ActsWithState {F} {T} {X} {R} call f next = (t : T) (x : X) (r : R) (q : T × F)
 abbrev pub RunsRead : {S X Z : Type 0} → (S → Option Z → S → Type 0) → (X → Z) → S → List X → Type 0
 RunsRead {X = X} gives h s l = EachRunFrom gives s (λ p. (p.len ≤ length l) × (p.whole ≡ true → p.len ≡ length l) × ((k : ℕ) (d : X) → k < p.len → p.at k ≡ Some (h (slice_index_or l k d))))
 
+-- Whatever calls of a std iterator's `next_back` give from s, it reads the list from behind: the last element first, and `None` only after the first one.
+abbrev pub RunsReadBehind : {S X Z : Type 0} → (S → Option Z → S → Type 0) → (X → Z) → S → List X → Type 0
+RunsReadBehind {X = X} gives h s l = EachRunFrom gives s (λ p. (p.len ≤ length l) × (p.whole ≡ true → p.len ≡ length l) × ((k : ℕ) (d : X) → k < length l → length l - 1 - k < p.len → p.at (length l - 1 - k) ≡ Some (h (slice_index_or l k d))))
+
 -- ---- lists of sources
 
 -- the results themselves, as answers
@@ -56,6 +60,10 @@ items [] = []
 items (x ∷ xs) = Ok x ∷ items xs
 
 -- ---- lists of adapters
+
+-- the last first
+unfoldable pub reversed : {A E : Type 0} → List (Result A E) → List (Result A E)
+reversed l = reverse l
 
 -- h x in the place of each item x
 unfoldable pub mapped : {X B E : Type 0} → (X → Result B E) → List (Result X E) → List (Result B E)

@@ -2,14 +2,15 @@
 pub mod sources;
 pub mod traces;
 
-pub use fallible_contract::answers::Answer;
+pub use fallible_contract::answers::{Answer, Side};
 pub use fallible_core::laws::{
     law_borrowed, law_chain, law_cloned, law_cycle, law_enumerate, law_filter, law_filter_map,
     law_flat_map, law_flatten, law_fuse, law_inspect, law_map, law_map_err, law_peekable, law_scan,
     law_skip, law_skip_while, law_step_by, law_take, law_take_while, law_to_come, law_zip,
 };
 pub use sources::{
-    law_convert, law_empty, law_from_fn, law_into_fallible, law_once, law_once_err, law_repeat,
-    law_repeat_err, law_sources,
+    law_back_convert, law_back_into_fallible, law_back_sources, law_convert, law_empty,
+    law_from_fn, law_into_fallible, law_once, law_once_err, law_repeat, law_repeat_err,
+    law_sources,
 };
-pub use traces::answers;
+pub use traces::{answers, answers_at};

@@ -3,9 +3,11 @@ use Rattle.std.specs.Prelude.{◌≡◌, ℕ, ◌+◌, ◌≤◌, List, [], ◌�
 use Rattle.std.proofs.Common.{refl, sym, ◌∙◌, ap, length-append, arith}
 use Rattle.std.proofs.lemmas.List.{map-append}
 use Rattle.fallible_contract.specs.declared.answers.Answer.{Answer}
+use Rattle.fallible_contract.specs.declared.answers.Side.{Side}
 use Rattle.fallible_contract.specs.Traces.{Answered, Run}
-use Rattle.fallible_contract.specs.Answers.{answer_of, IsAnswers, answers_of}
+use Rattle.fallible_contract.specs.Answers.{answer_of, IsAnswers, IsAnswersAt, answers_of}
 use Rattle.fallible_contract.specs.Lists.{AlwaysGives, Lists}
+use Rattle.fallible_contract.specs.Listed.{step_at}
 use Rattle.fallible_contract.specs.Laws.Closures.{turns_then}
 
 pub one_more_answer : {S A E : Type 0} {steps : S → Answered A E → S → Type 0} {s t u : S} {n : ℕ} {values : List (Answer A E)} {r : Answered A E} → IsAnswers steps s n values t → steps t r u → IsAnswers steps s (n + 1) (values ++ answer_of r ∷ []) u
@@ -18,6 +20,16 @@ one_more_answer {s = s} {t = t} {u = u} {n = n} {r = r} p step = record {
 
 pub no_answers : {S A E : Type 0} {steps : S → Answered A E → S → Type 0} {s : S} → IsAnswers steps s 0 [] s
 no_answers = record { trace = []; ran = refl; values_are = refl; count = refl }
+
+-- draws from both ends
+
+pub one_more_answer_at : {S A E : Type 0} {front back : S → Answered A E → S → Type 0} {s t u : S} {sides : List Side} {values : List (Answer A E)} (side : Side) (r : Answered A E) → IsAnswersAt front back s sides values t → step_at front back side t r u → IsAnswersAt front back s (sides ++ side ∷ []) (values ++ answer_of r ∷ []) u
+one_more_answer_at {s = s} {t = t} {u = u} side r p step = record {
+  pairs = p.pairs ++ (side, r) ∷ [];
+  ran = turns_then _ p.pairs ((side, r) ∷ []) s t u p.ran (u, step, refl);
+  sides_are = map-append (λ d. d.0) p.pairs ((side, r) ∷ []) ∙ ap (λ l. l ++ side ∷ []) p.sides_are;
+  values_are = ap (λ l. l ++ answer_of r ∷ []) p.values_are ∙ sym (map-append (λ d. answer_of d.1) p.pairs ((side, r) ∷ []));
+}
 
 module _ {S A E : Type 0} (steps : S → Answered A E → S → Type 0) where
   told : (trace : List (Answered A E)) (l : List (Result A E)) (s t : S) → AlwaysGives steps s l → Run steps s trace t → length trace ≤ length l + 1 → map answer_of trace ≡ take (length trace) (answers_of l)

@@ -1,8 +1,12 @@
 -- What stays after any number of draws.
-use Rattle.std.specs.Prelude.{ℕ, ◌≤◌, List, [], ◌∷◌}
+use Rattle.std.specs.Prelude.{ℕ, ◌≤◌, List, [], ◌∷◌, Some, None, Ok, Err}
 use Rattle.std.proofs.Common.{arith, subst, inl, inr, ◌∙◌}
 use Rattle.fallible_contract.specs.Traces.{Answered, Yields, item}
-use Rattle.fallible_contract.specs.Contract.{Contract, AtMost, Stays, Lawful}
+use Rattle.fallible_contract.specs.declared.answers.Side.{Side}
+use Rattle.fallible_contract.specs.declared.answers.Side.TheVariants.{Front, Back}
+use Rattle.fallible_contract.specs.Contract.{Contract, AtMost, OnAnswer, Goes, Stays, Lawful}
+use Rattle.fallible_contract.specs.Ends.{Ends, from_front, from_back, LawfulEnds}
+use Rattle.fallible_contract.specs.Listed.{step_at}
 use Rattle.fallible_contract.specs.Laws.Contract.{no_more_then, stays_after, stays_here}
 
 module _ {S A E : Type 0} (m : Contract S A E) where
@@ -36,3 +40,17 @@ module _ {S A E : Type 0} {m : Contract S A E} where
   -- one more draw
   pub stays_step : {s t u : S} {r : Answered A E} → Lawful m → Stays m s t → m.steps t r u → Stays m s u
   stays_step {s} {t} {u} {r} l p step = let g = l.goes t r u p.can step in stays_then p (stays_after g (stays_here g.can))
+
+-- ---- draws from both ends
+
+module _ {S A E : Type 0} (m : Contract S A E) (e : Ends S A E) where
+  answer_at : (s t : S) (r : Answered A E) → OnAnswer (from_back m e) s r t → OnAnswer (from_front m e) s r t
+  answer_at s t (Ok (Some x)) h = h
+  answer_at s t (Ok None) h = h
+  answer_at s t (Err d) h = h
+
+  -- one more draw, from the end that is named
+  pub stays_step_at : LawfulEnds m e → (side : Side) (r : Answered A E) (s t u : S) → Stays (from_front m e) s t → step_at m.steps e.steps side t r u → Stays (from_front m e) s u
+  stays_step_at l Front r s t u p step = stays_step l.front p step
+  stays_step_at l Back r s t u p step = let g = l.back.goes t r u p.can step in
+      let h : Goes (from_front m e) t r u = record { can = g.can; has_end = g.has_end; answer = answer_at t u r g.answer; gives = g.gives; fails = g.fails; names = g.names } in stays_then p (stays_after h (stays_here h.can))

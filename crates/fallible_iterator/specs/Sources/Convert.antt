@@ -4,7 +4,8 @@ use Rattle.std.specs.Iterator.{Count}
 use Rattle.fallible_iterator.specs.declared.sources.convert.Convert.{Convert}
 use Rattle.fallible_contract.specs.Traces.{Answered}
 use Rattle.fallible_contract.specs.Contract.{Contract}
-use Rattle.fallible_iterator.specs.Sources.Std.{StdTrace, std_contract}
+use Rattle.fallible_contract.specs.Ends.{Ends}
+use Rattle.fallible_iterator.specs.Sources.Std.{StdTrace, std_contract, std_ends}
 
 -- the std iterator
 abbrev pub convert_parts : {I : Type 0} → Convert I → I
@@ -18,3 +19,7 @@ module _ {S A E : Type 0} (can : S → Type 0) (gives : S → Option (Result A E
   -- `Convert`'s contract.
   abbrev pub convert_contract : Contract S A E
   convert_contract = std_contract Ok Err can gives remaining
+
+-- `Convert`'s second end.
+abbrev pub convert_ends : {S A E : Type 0} → (can can_back : S → Type 0) (gives gives_back : S → Option (Result A E) → S → Type 0) → (S → Count) → Ends S A E
+convert_ends can can_back gives gives_back remaining = std_ends Ok Err can can_back gives gives_back remaining

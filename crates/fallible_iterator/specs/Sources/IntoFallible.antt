@@ -5,7 +5,8 @@ use Rattle.std.specs.declared.convert.Infallible.{Infallible}
 use Rattle.fallible_iterator.specs.declared.sources.into_fallible.IntoFallible.{IntoFallible}
 use Rattle.fallible_contract.specs.Traces.{Answered}
 use Rattle.fallible_contract.specs.Contract.{Contract}
-use Rattle.fallible_iterator.specs.Sources.Std.{StdTrace, std_contract}
+use Rattle.fallible_contract.specs.Ends.{Ends}
+use Rattle.fallible_iterator.specs.Sources.Std.{StdTrace, std_contract, std_ends}
 
 abbrev pub into_fallible_parts : {I : Type 0} → IntoFallible I → I
 into_fallible_parts s = s.it
@@ -22,3 +23,7 @@ module _ {S A : Type 0} (can : S → Type 0) (gives : S → Option A → S → T
   -- `IntoFallible`'s contract.
   abbrev pub into_fallible_contract : Contract S A Infallible
   into_fallible_contract = std_contract (λ x. x) never can gives remaining
+
+-- `IntoFallible`'s second end.
+abbrev pub into_fallible_ends : {S A : Type 0} → (can can_back : S → Type 0) (gives gives_back : S → Option A → S → Type 0) → (S → Count) → Ends S A Infallible
+into_fallible_ends can can_back gives gives_back remaining = std_ends (λ x. x) never can can_back gives gives_back remaining

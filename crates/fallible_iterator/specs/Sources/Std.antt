@@ -5,6 +5,9 @@ use Rattle.std.specs.Iterator.SizeHint.{IsWithinCount}
 use Rattle.std.specs.List.{FoldsTo}
 use Rattle.fallible_contract.specs.Traces.{Answered, Run, item, failure}
 use Rattle.fallible_contract.specs.Contract.{Contract, no_names}
+use Rattle.fallible_contract.specs.Ends.{Ends}
+use Rattle.fallible_contract.specs.Listed.{step_at, Mix}
+use Rattle.fallible_contract.specs.declared.answers.Side.{Side}
 
 -- The std iterator's answer that an answer comes from: an element for an item or a failure, none for an end.
 abbrev pub element_by : {A E Z : Type 0} → (A → Z) → (E → Z) → Answered A E → Option Z
@@ -46,4 +49,38 @@ module _ {S A E Z : Type 0} (of_item : A → Z) (of_failure : E → Z) (can : S 
     fails = λ s e. Comes s (failure e);
     hints = λ s h. IsWithinCount h.0 (remaining s) × IfSome h.1 (UpTo (remaining s));
     names = λ _. no_names;
+  }
+
+module _ {S A E Z : Type 0} (of_item : A → Z) (of_failure : E → Z) (can can_back : S → Type 0) (gives gives_back : S → Option Z → S → Type 0) (remaining : S → Count) where
+  -- one draw from the front
+  abbrev front : S → Answered A E → S → Type 0
+  front = std_step of_item of_failure can gives remaining
+
+  -- one draw from behind is one call of the std iterator's `next_back`
+  abbrev back : S → Answered A E → S → Type 0
+  back = std_step of_item of_failure can_back gives_back remaining
+
+  -- The std iterator may be asked again at either end after every answer from either end, and at an end of either its bound doesn't rise.
+  pub record IsAskableAtEnds (s : S) : Type 0 where
+    pub asked : (drawn : List (Side × Answered A E)) (t : S) → Mix front back s drawn t → can t
+    pub asked_back : (drawn : List (Side × Answered A E)) (t : S) → Mix front back s drawn t → can_back t
+    pub never_rises : (drawn : List (Side × Answered A E)) (t u : S) → Mix front back s drawn t → front t (Ok None) u → IsFinite (remaining t) → size (remaining u) ≤ size (remaining t)
+    pub never_rises_back : (drawn : List (Side × Answered A E)) (t u : S) → Mix front back s drawn t → back t (Ok None) u → IsFinite (remaining t) → size (remaining u) ≤ size (remaining t)
+
+  -- draws from either end lead from s to a draw with this answer, from one end or the other
+  pub record ComesAtEnds (s : S) (r : Answered A E) : Type 0 where
+    pub before : List (Side × Answered A E)
+    pub from : S
+    pub side : Side
+    pub left : S
+    pub ran : Mix front back s before from
+    pub drawn : step_at front back side from r left
+
+  -- The second end over a std iterator: what may come is what draws from either end lead to.
+  abbrev pub std_ends : Ends S A E
+  std_ends = record {
+    can = IsAskableAtEnds;
+    steps = back;
+    gives = λ s x. ComesAtEnds s (item x);
+    fails = λ s e. ComesAtEnds s (failure e);
   }

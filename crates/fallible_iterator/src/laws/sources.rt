@@ -1,5 +1,7 @@
 //! What a trace of each source is.
+ghost use Rattle.std.specs.Prelude.{List, Result, Ok};
 ghost use Rattle.fallible_contract.specs.Definitions.{MeetsHeld};
+ghost use Rattle.fallible_contract.specs.Lists.{Lists, RunsReadBehind, results, items, reversed};
 ghost use Rattle.fallible_contract.specs.Traces.{item, failure};
 ghost use Rattle.fallible_iterator.specs.Sources.Convert.{ConvertTrace, convert_parts};
 ghost use Rattle.fallible_iterator.specs.Sources.IntoFallible.{IntoFallibleTrace, into_fallible_parts};
@@ -12,7 +14,7 @@ ghost use Rattle.fallible_iterator.specs.Sources.Once.{once_parts};
 ghost use Rattle.fallible_iterator.specs.Sources.OnceErr.{once_err_parts};
 
 use crate::sources::{Convert, Empty, FromFn, IntoFallible, Once, OnceErr, Repeat, RepeatErr};
-use fallible_core::FallibleIterator;
+use fallible_core::{DoubleEndedFallibleIterator, FallibleIterator};
 use std::alloc::AllocError;
 use std::convert::Infallible;
 
@@ -24,6 +26,19 @@ pub fn law_convert<T, E, I: std::iter::Iterator<Item = Result<T, E>>>()
 /// A trace of `IntoFallible` is, place by place, the std iterator's answers, each with the progress that std's contract states: each element is an item, none an end.
 pub fn law_into_fallible<T, I: std::iter::Iterator<Item = T>>()
     ensures { MeetsHeld into_fallible_parts ⟦<IntoFallible<I> as FallibleIterator>⟧.contract.steps (IntoFallibleTrace I.can_next I.next_gives I.remaining) }
+{}
+
+/// From behind: a trace of `Convert` is, place by place, what the std iterator answers from behind, and where the std iterator reads a list from behind, that is what is listed.
+pub fn law_back_convert<T, E, I: std::iter::DoubleEndedIterator<Item = Result<T, E>>>()
+    ensures trace { MeetsHeld convert_parts ⟦<Convert<I> as DoubleEndedFallibleIterator>⟧.ends.steps (ConvertTrace I.can_next_back I.next_back_gives I.remaining) }
+    ensures results_back { (s : Convert I) (l : List (Result T E)) → RunsReadBehind I.next_back_gives (λ y. y) (convert_parts s) l → Lists ⟦<Convert<I> as DoubleEndedFallibleIterator>⟧.ends.steps s (reversed (results l)) }
+    ensures items_back { (s : Convert I) (l : List T) → RunsReadBehind I.next_back_gives Ok (convert_parts s) l → Lists ⟦<Convert<I> as DoubleEndedFallibleIterator>⟧.ends.steps s (reversed (items l)) }
+{}
+
+/// From behind: a trace of `IntoFallible` is, place by place, what the std iterator answers from behind, and where the std iterator reads a list from behind, its elements are what is listed.
+pub fn law_back_into_fallible<T, I: std::iter::DoubleEndedIterator<Item = T>>()
+    ensures trace { MeetsHeld into_fallible_parts ⟦<IntoFallible<I> as DoubleEndedFallibleIterator>⟧.ends.steps (IntoFallibleTrace I.can_next_back I.next_back_gives I.remaining) }
+    ensures lists_back { (s : IntoFallible I) (l : List T) → RunsReadBehind I.next_back_gives (λ x. x) (into_fallible_parts s) l → Lists ⟦<IntoFallible<I> as DoubleEndedFallibleIterator>⟧.ends.steps s (reversed (items l)) }
 {}
 
 /// A trace of `FromFn` is the closure's answers, one call a draw.
@@ -81,4 +96,16 @@ where
     law_once_err::<T, E>();
     law_repeat::<T, E>();
     law_repeat_err::<T, E>();
+}
+
+/// What a trace from behind is of each source that has two ends, all together.
+pub fn law_back_sources<T, E, I, J>()
+where
+    I: std::iter::DoubleEndedIterator<Item = Result<T, E>>,
+    J: std::iter::DoubleEndedIterator<Item = T>,
+    ensures convert { MeetsHeld convert_parts ⟦<Convert<I> as DoubleEndedFallibleIterator>⟧.ends.steps (ConvertTrace I.can_next_back I.next_back_gives I.remaining) }
+    ensures into_fallible { MeetsHeld into_fallible_parts ⟦<IntoFallible<J> as DoubleEndedFallibleIterator>⟧.ends.steps (IntoFallibleTrace J.can_next_back J.next_back_gives J.remaining) }
+{
+    law_back_convert::<T, E, I>();
+    law_back_into_fallible::<T, J>();
 }

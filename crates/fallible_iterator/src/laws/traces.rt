@@ -1,11 +1,13 @@
 //! Traces that a test or a caller can look at.
 ghost use Rattle.std.specs.Prelude.{◌≡◌, ℕ, ◌+◌, ◌≤◌, List, length, take, IfOk, IfErr, Result, Option};
 ghost use Rattle.fallible_contract.specs.Contract.{Contract, Stays};
-ghost use Rattle.fallible_contract.specs.Answers.{answer_of, IsAnswers, answers_of};
+ghost use Rattle.fallible_contract.specs.Ends.{from_front};
+ghost use Rattle.fallible_contract.specs.Answers.{answer_of, IsAnswers, IsAnswersAt, answers_of};
 ghost use Rattle.fallible_contract.specs.Lists.{Lists};
+ghost use Rattle.fallible_contract.specs.Listed.{step_at};
 
-use fallible_contract::answers::Answer;
-use fallible_core::FallibleIterator;
+use fallible_contract::answers::{Answer, Side};
+use fallible_core::{DoubleEndedFallibleIterator, FallibleIterator};
 use std::alloc::{AllocError, Global};
 
 /// Makes `n` calls of `next` and gives their answers in order. It takes all its room first: where that is refused, nothing was drawn.
@@ -34,12 +36,55 @@ where
     Ok(made)
 }
 
+/// Makes one draw for each of the sides, from the end that it names, and gives their answers in order. It takes all its room first: where that is refused, nothing was drawn.
+pub fn answers_at<I: DoubleEndedFallibleIterator>(
+    alloc: Global,
+    it: &mut I,
+    sides: &[Side],
+) -> Result<Vec<Answer<I::Item, I::Error>>, AllocError>
+where
+    I::Item: Drop,
+    I::Error: Drop,
+    requires { I.ends.can it.old }
+    ensures drawn { IfOk result (λ v. IsAnswersAt I.contract.steps I.ends.steps it.old sides.now v.items it.new) }
+    ensures refused { IfErr result (λ _. it.new ≡ it.old) }
+    ensures stays { Stays (from_front I.contract I.ends) it.old it.new }
+{
+    let mut given = Vec::with_capacity(alloc, sides.len())?;
+    for side in sides {
+        let answer = draw_at(it, *side);
+        match given.push(answer) {
+            Ok(()) => {}
+            Err(_) => unreachable!(),
+        }
+    }
+    Ok(given)
+}
+
 fn draw<I: FallibleIterator>(it: &mut I) -> Answer<I::Item, I::Error>
 where
     requires { I.contract.can it.old }
     ensures { (r : Result (Option I.Item) I.Error) × I.contract.steps it.old r it.new × (result ≡ answer_of r) }
 {
-    match it.next() {
+    told(it.next())
+}
+
+fn draw_at<I: DoubleEndedFallibleIterator>(it: &mut I, side: Side) -> Answer<I::Item, I::Error>
+where
+    requires { I.ends.can it.old }
+    ensures { (r : Result (Option I.Item) I.Error) × step_at I.contract.steps I.ends.steps side it.old r it.new × (result ≡ answer_of r) }
+{
+    match side {
+        Side::Front => told(it.next()),
+        Side::Back => told(it.next_back()),
+    }
+}
+
+// An answer as a value.
+fn told<T, E>(answer: Result<Option<T>, E>) -> Answer<T, E>
+    ensures { result ≡ answer_of answer }
+{
+    match answer {
         Ok(Some(x)) => Answer::Item(x),
         Ok(None) => Answer::End,
         Err(e) => Answer::Failure(e),

@@ -1,11 +1,16 @@
 // The fallible iterator of a std iterator over results.
-ghost use Rattle.std.specs.Prelude.{Some, Ok, Err, Result, Option};
+ghost use Rattle.std.specs.Prelude.{◌≡◌, Some, Ok, Err, List, Result, Option};
 ghost use Rattle.fallible_contract.specs.Contract.{seen_as};
-ghost use Rattle.fallible_iterator.specs.Sources.Convert.{convert_contract, convert_parts};
+ghost use Rattle.fallible_contract.specs.Ends.{ends_seen_as};
+ghost use Rattle.fallible_contract.specs.Lists.{Lists, RunsReadBehind, results, items, reversed};
+ghost use Rattle.fallible_core.specs.Ends.Rev.{rev_parts};
+ghost use Rattle.fallible_iterator.specs.Sources.Convert.{convert_contract, convert_ends, convert_parts};
+ghost use Rattle.fallible_iterator.specs.Sources.Std.{element_by};
 ghost use Rattle.fallible_contract.specs.Laws.Contract.{lawful_seen};
-ghost use Rattle.fallible_iterator.specs.Laws.Sources.Std.{lawful_std};
+ghost use Rattle.fallible_contract.specs.Laws.Ends.{lawful_ends_seen};
+ghost use Rattle.fallible_iterator.specs.Laws.Sources.Std.{lawful_std, lawful_std_ends};
 
-use fallible_core::FallibleIterator;
+use fallible_core::{DoubleEndedFallibleIterator, FallibleIterator, Rev};
 
 /// The fallible iterator of a std iterator over results: each `Ok` is an item, each `Err` a failure, and none is an end.
 #[derive(Clone, Debug, Drop)]
@@ -22,11 +27,7 @@ impl<T, E, I: std::iter::Iterator<Item = Result<T, E>>> FallibleIterator for Con
 
     /// Draws one element of the std iterator.
     fn next(&mut self) -> Result<Option<T>, E> {
-        match self.it.next() {
-            Some(Ok(x)) => Ok(Some(x)),
-            Some(Err(e)) => Err(e),
-            None => Ok(None),
-        }
+        answer(self.it.next())
     }
 
     fn size_hint(&self) -> (usize, Option<usize>) {
@@ -34,4 +35,40 @@ impl<T, E, I: std::iter::Iterator<Item = Result<T, E>>> FallibleIterator for Con
     }
 
     ghost lawful = { lawful_seen convert_parts (lawful_std Ok Err I.can_next I.next_gives I.remaining) };
+}
+
+impl<T, E, I: std::iter::DoubleEndedIterator<Item = Result<T, E>>> DoubleEndedFallibleIterator
+    for Convert<I> {
+    ghost ends = { ends_seen_as convert_parts (convert_ends I.can_next I.can_next_back I.next_gives I.next_back_gives I.remaining) };
+
+    /// Draws one element of the std iterator from behind.
+    fn next_back(&mut self) -> Result<Option<T>, E> {
+        answer(self.it.next_back())
+    }
+
+    ghost lawful_ends = { lawful_ends_seen convert_parts (lawful_std_ends Ok Err I.can_next I.can_next_back I.next_gives I.next_back_gives I.remaining) };
+}
+
+// `rev` of the trait, which says besides what a std iterator that has two ends lists from behind.
+impl<T, E, I: std::iter::DoubleEndedIterator<Item = Result<T, E>>> Convert<I> {
+    /// Swaps the ends: a draw from the adapter is a draw from behind, and the other way round. Making the adapter draws nothing.
+    pub fn rev(self) -> Rev<Convert<I>>
+        ensures parts { rev_parts result ≡ self }
+        ensures lists { (l : List (Result T E)) → Lists ⟦<Convert<I> as DoubleEndedFallibleIterator>⟧.ends.steps self l → Lists ⟦<Rev<Convert<I>> as FallibleIterator>⟧.contract.steps result l }
+        ensures results_back { (l : List (Result T E)) → RunsReadBehind I.next_back_gives (λ y. y) (convert_parts self) l → Lists ⟦<Rev<Convert<I>> as FallibleIterator>⟧.contract.steps result (reversed (results l)) }
+        ensures items_back { (l : List T) → RunsReadBehind I.next_back_gives Ok (convert_parts self) l → Lists ⟦<Rev<Convert<I>> as FallibleIterator>⟧.contract.steps result (reversed (items l)) }
+    {
+        FallibleIterator::rev(self)
+    }
+}
+
+// The answer that an element of the std iterator is: `Ok` an item, `Err` a failure, none an end.
+fn answer<T, E>(element: Option<Result<T, E>>) -> Result<Option<T>, E>
+    ensures { element ≡ element_by Ok Err result }
+{
+    match element {
+        Some(Ok(x)) => Ok(Some(x)),
+        Some(Err(e)) => Err(e),
+        None => Ok(None),
+    }
 }

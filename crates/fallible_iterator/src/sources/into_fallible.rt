@@ -1,11 +1,15 @@
 // The fallible iterator of a std iterator over any values.
-ghost use Rattle.std.specs.Prelude.{◌≡◌, Ok, Result, Option};
+ghost use Rattle.std.specs.Prelude.{◌≡◌, Ok, List, Result, Option};
 ghost use Rattle.fallible_contract.specs.Contract.{seen_as};
-ghost use Rattle.fallible_iterator.specs.Sources.IntoFallible.{into_fallible_contract, never, into_fallible_parts};
+ghost use Rattle.fallible_contract.specs.Ends.{ends_seen_as};
+ghost use Rattle.fallible_contract.specs.Lists.{Lists, RunsReadBehind, items, reversed};
+ghost use Rattle.fallible_core.specs.Ends.Rev.{rev_parts};
+ghost use Rattle.fallible_iterator.specs.Sources.IntoFallible.{into_fallible_contract, into_fallible_ends, never, into_fallible_parts};
 ghost use Rattle.fallible_contract.specs.Laws.Contract.{lawful_seen};
-ghost use Rattle.fallible_iterator.specs.Laws.Sources.Std.{lawful_std};
+ghost use Rattle.fallible_contract.specs.Laws.Ends.{lawful_ends_seen};
+ghost use Rattle.fallible_iterator.specs.Laws.Sources.Std.{lawful_std, lawful_std_ends};
 
-use fallible_core::FallibleIterator;
+use fallible_core::{DoubleEndedFallibleIterator, FallibleIterator, Rev};
 use std::convert::Infallible;
 
 /// The fallible iterator of a std iterator over any values: each is an item, and none is an end. It never fails.
@@ -31,6 +35,30 @@ impl<T, I: std::iter::Iterator<Item = T>> FallibleIterator for IntoFallible<I> {
     }
 
     ghost lawful = { lawful_seen into_fallible_parts (lawful_std (λ x. x) never I.can_next I.next_gives I.remaining) };
+}
+
+impl<T, I: std::iter::DoubleEndedIterator<Item = T>> DoubleEndedFallibleIterator
+    for IntoFallible<I> {
+    ghost ends = { ends_seen_as into_fallible_parts (into_fallible_ends I.can_next I.can_next_back I.next_gives I.next_back_gives I.remaining) };
+
+    /// Draws one element of the std iterator from behind.
+    fn next_back(&mut self) -> Result<Option<T>, Infallible> {
+        Ok(self.it.next_back())
+    }
+
+    ghost lawful_ends = { lawful_ends_seen into_fallible_parts (lawful_std_ends (λ x. x) never I.can_next I.can_next_back I.next_gives I.next_back_gives I.remaining) };
+}
+
+// `rev` of the trait, which says besides what a std iterator that has two ends lists from behind.
+impl<T, I: std::iter::DoubleEndedIterator<Item = T>> IntoFallible<I> {
+    /// Swaps the ends: a draw from the adapter is a draw from behind, and the other way round. Making the adapter draws nothing.
+    pub fn rev(self) -> Rev<IntoFallible<I>>
+        ensures parts { rev_parts result ≡ self }
+        ensures lists { (l : List (Result T Infallible)) → Lists ⟦<IntoFallible<I> as DoubleEndedFallibleIterator>⟧.ends.steps self l → Lists ⟦<Rev<IntoFallible<I>> as FallibleIterator>⟧.contract.steps result l }
+        ensures lists_back { (l : List T) → RunsReadBehind I.next_back_gives (λ x. x) (into_fallible_parts self) l → Lists ⟦<Rev<IntoFallible<I>> as FallibleIterator>⟧.contract.steps result (reversed (items l)) }
+    {
+        FallibleIterator::rev(self)
+    }
 }
 
 impl<T, I: std::iter::Iterator<Item = T>> From<I> for IntoFallible<I> {

@@ -1,14 +1,15 @@
 -- What `Convert` lists.
-use Rattle.std.specs.Prelude.{◌≡◌, Option, Some, None, Result, Ok, Err, List, [], ◌∷◌, map}
-use Rattle.std.proofs.Common.{refl, ap}
+use Rattle.std.specs.Prelude.{◌≡◌, Option, Some, None, Result, Ok, Err, List, [], ◌∷◌, ◌++◌, map, reverse}
+use Rattle.std.proofs.Common.{refl, ap, sym, subst, ◌∙◌}
+use Rattle.std.proofs.lemmas.List.{map-append, reverse-append}
 use Rattle.std.specs.Iterator.{Count}
 use Rattle.fallible_contract.specs.Traces.{Answered}
 use Rattle.fallible_iterator.specs.declared.sources.convert.Convert.{Convert}
 use Rattle.fallible_contract.specs.Contract.{seen_as}
 use Rattle.fallible_iterator.specs.Sources.Std.{element_by}
 use Rattle.fallible_iterator.specs.Sources.Convert.{convert_parts, convert_contract}
-use Rattle.fallible_contract.specs.Lists.{Lists, RunsRead, result_answer, results, items}
-use Rattle.fallible_iterator.proofs.Lemmas.Sources.Std.{gives_read}
+use Rattle.fallible_contract.specs.Lists.{Lists, RunsRead, RunsReadBehind, result_answer, results, items, reversed}
+use Rattle.fallible_iterator.proofs.Lemmas.Sources.Std.{gives_read, read_behind}
 use Rattle.fallible_contract.proofs.Lemmas.Lists.Passing.{lists_seen}
 
 results_are : {A E : Type 0} (l : List (Result A E)) → map (λ y. y) l ≡ results l
@@ -20,6 +21,18 @@ pub items_are : {A E : Type 0} (l : List A) → map (λ x. Ok x) l ≡ items {E 
 unfolding items
 items_are [] = refl
 items_are {E = E} (x ∷ l) = ap (λ (t : List (Result _ E)). Ok x ∷ t) (items_are l)
+
+map-reverse : {X Y : Type 0} (f : X → Y) (l : List X) → map f (reverse l) ≡ reverse (map f l)
+map-reverse f [] = refl
+map-reverse f (x ∷ l) = ap (map f) (reverse-append (x ∷ []) l) ∙ map-append f (reverse l) (x ∷ []) ∙ ap (λ k. k ++ f x ∷ []) (map-reverse f l) ∙ sym (reverse-append (f x ∷ []) (map f l))
+
+results_reversed : {A E : Type 0} (l : List (Result A E)) → results (reverse l) ≡ reversed (results l)
+unfolding results reversed
+results_reversed l = refl
+
+pub items_reversed : {A E : Type 0} (l : List A) → items {E = E} (reverse l) ≡ reversed (items l)
+unfolding reversed
+items_reversed l = sym (items_are (reverse l)) ∙ map-reverse (λ x. Ok x) l ∙ ap reverse (items_are l)
 
 module _ {A E : Type 0} where
   answered : (r : Answered A E) (y : Result A E) → element_by {A = A} {E = E} Ok Err r ≡ Some y → r ≡ result_answer y
@@ -36,3 +49,10 @@ module _ {S A E : Type 0} (can : S → Type 0) (gives : S → Option (Result A E
 
   pub lists_items : (l : List A) → RunsRead gives Ok s.it l → Lists (seen_as convert_parts (convert_contract can gives remaining)).steps s (items l)
   lists_items l reads = lists_seen convert_parts (convert_contract can gives remaining).steps s refl (items_are l) (gives_read Ok Err can gives remaining (λ x. Ok x) (λ x. Ok x) (λ r x. answered r (Ok x)) l s.it reads)
+
+  -- from behind
+  pub lists_results_behind : (l : List (Result A E)) → RunsReadBehind gives (λ y. y) s.it l → Lists (seen_as convert_parts (convert_contract can gives remaining)).steps s (reversed (results l))
+  lists_results_behind l reads = subst (Lists (seen_as convert_parts (convert_contract can gives remaining)).steps s) (results_reversed l) (lists_results (reverse l) (read_behind gives (λ y. y) s.it l reads))
+
+  pub lists_items_behind : (l : List A) → RunsReadBehind gives Ok s.it l → Lists (seen_as convert_parts (convert_contract can gives remaining)).steps s (reversed (items l))
+  lists_items_behind l reads = subst (Lists (seen_as convert_parts (convert_contract can gives remaining)).steps s) (items_reversed l) (lists_items (reverse l) (read_behind gives (λ x. Ok x) s.it l reads))

@@ -1,16 +1,16 @@
 -- What `IntoFallible` lists.
-use Rattle.std.specs.Prelude.{◌≡◌, Option, Some, None, Ok, Err, List}
+use Rattle.std.specs.Prelude.{◌≡◌, Option, Some, None, Ok, Err, List, reverse}
 use Rattle.std.specs.Iterator.{Count}
 use Rattle.std.specs.declared.convert.Infallible.{Infallible}
-use Rattle.std.proofs.Common.{refl}
+use Rattle.std.proofs.Common.{refl, subst}
 use Rattle.fallible_contract.specs.Traces.{Answered}
 use Rattle.fallible_iterator.specs.declared.sources.into_fallible.IntoFallible.{IntoFallible}
 use Rattle.fallible_contract.specs.Contract.{seen_as}
 use Rattle.fallible_iterator.specs.Sources.Std.{element_by}
 use Rattle.fallible_iterator.specs.Sources.IntoFallible.{into_fallible_parts, into_fallible_contract, never}
-use Rattle.fallible_contract.specs.Lists.{Lists, RunsRead, result_answer, items}
-use Rattle.fallible_iterator.proofs.Lemmas.Sources.Std.{gives_read}
-use Rattle.fallible_iterator.proofs.Lemmas.Sources.Convert.{items_are}
+use Rattle.fallible_contract.specs.Lists.{Lists, RunsRead, RunsReadBehind, result_answer, items, reversed}
+use Rattle.fallible_iterator.proofs.Lemmas.Sources.Std.{gives_read, read_behind}
+use Rattle.fallible_iterator.proofs.Lemmas.Sources.Convert.{items_are, items_reversed}
 use Rattle.fallible_contract.proofs.Lemmas.Lists.Passing.{lists_seen}
 
 item_answered : {A : Type 0} (r : Answered A Infallible) (x : A) → element_by (λ y. y) never r ≡ Some x → r ≡ result_answer (Ok x)
@@ -18,6 +18,10 @@ item_answered (Ok (Some y)) x e = cc
 item_answered (Ok None) x e = absurd cc
 item_answered (Err d) x e = elim d [ ]
 
-pub lists_elements : {S A : Type 0} (can : S → Type 0) (gives : S → Option A → S → Type 0) (remaining : S → Count) (s : IntoFallible S) (l : List A) → RunsRead gives (λ x. x) s.it l
-    → Lists (seen_as into_fallible_parts (into_fallible_contract can gives remaining)).steps s (items l)
-lists_elements can gives remaining s l reads = lists_seen into_fallible_parts (into_fallible_contract can gives remaining).steps s refl (items_are l) (gives_read (λ x. x) never can gives remaining (λ x. x) (λ x. Ok x) item_answered l s.it reads)
+module _ {S A : Type 0} (can : S → Type 0) (gives : S → Option A → S → Type 0) (remaining : S → Count) (s : IntoFallible S) where
+  pub lists_elements : (l : List A) → RunsRead gives (λ x. x) s.it l → Lists (seen_as into_fallible_parts (into_fallible_contract can gives remaining)).steps s (items l)
+  lists_elements l reads = lists_seen into_fallible_parts (into_fallible_contract can gives remaining).steps s refl (items_are l) (gives_read (λ x. x) never can gives remaining (λ x. x) (λ x. Ok x) item_answered l s.it reads)
+
+  -- from behind
+  pub lists_elements_behind : (l : List A) → RunsReadBehind gives (λ x. x) s.it l → Lists (seen_as into_fallible_parts (into_fallible_contract can gives remaining)).steps s (reversed (items l))
+  lists_elements_behind l reads = subst (Lists (seen_as into_fallible_parts (into_fallible_contract can gives remaining)).steps s) (items_reversed l) (lists_elements (reverse l) (read_behind gives (λ x. x) s.it l reads))

@@ -1,12 +1,13 @@
 -- The runs over a std iterator.
-use Rattle.std.specs.Prelude.{◌≡◌, ◌≤◌, suc, List, [], ◌∷◌, map, length, Option, Some, None, Result, Ok, Err, true, false, ◌↔◌}
+use Rattle.std.specs.Prelude.{◌≡◌, ◌≤◌, ◌-◌, suc, List, [], ◌∷◌, map, length, reverse, slice_index_or, Option, Some, None, Result, Ok, Err, true, false, ◌↔◌}
 use Rattle.std.specs.Iterator.{Count}
 use Rattle.std.specs.Iterator.Runs as runs
 use Rattle.std.proofs.Common.{refl, sym, ap, subst, ◌∙◌, arith, true≢false}
+use Rattle.std.proofs.lemmas.List.{length-reverse, get_or-reverse}
 use Rattle.std.proofs.iter.runs.Made.{run, took, seen, at-is}
 use Rattle.fallible_contract.specs.Traces.{Answered, Run}
 use Rattle.fallible_iterator.specs.Sources.Std.{std_step, StdTrace, element_by}
-use Rattle.fallible_contract.specs.Lists.{AlwaysGives, RunsRead, result_answer}
+use Rattle.fallible_contract.specs.Lists.{AlwaysGives, RunsRead, RunsReadBehind, result_answer}
 
 module _ {S A E Z : Type 0} (of_item : A → Z) (of_failure : E → Z) (can : S → Type 0) (gives : S → Option Z → S → Type 0) (remaining : S → Count) where
   to_std : (trace : List (Answered A E)) (s t : S) → Run (std_step of_item of_failure can gives remaining) s trace t → StdTrace of_item of_failure can gives remaining s trace t
@@ -65,3 +66,13 @@ module _ {S A E Z X : Type 0} (of_item : A → Z) (of_failure : E → Z) (can : 
   pub gives_read : (l : List X) (s : S) → RunsRead gives h s l → Gives s (map to l)
   gives_read [] s reads = λ r t w. ended r s t reads w.0
   gives_read (x ∷ l) s reads = λ r t w. let d = called r s t x l reads w.0 in (d.0, gives_read l t d.1)
+
+-- what is read from behind is the list reversed
+pub read_behind : {S X Z : Type 0} (back : S → Option Z → S → Type 0) (h : X → Z) (s : S) (l : List X) → RunsReadBehind back h s l → RunsRead back h s (reverse l)
+read_behind back h s l reads p seen at = let q = reads p seen at in let long = length-reverse l in (
+  omega (arith, q.0, long),
+  (λ whole. let all : p.len ≡ length l = q.1 whole in omega (arith, all, long)),
+  (λ k d lt. let le : p.len ≤ length l = q.0 in let j = length l - 1 - k in let same : length l - 1 - j ≡ k = omega (arith, lt, le) in
+      let there : p.at (length l - 1 - j) ≡ Some (h (slice_index_or l j d)) = q.2 j d (omega (arith, lt, le)) (omega (arith, lt, le)) in
+      ap p.at (sym same) ∙ there ∙ ap (λ x. Some (h x)) (sym (get_or-reverse l k d (omega (arith, lt, le))))),
+)
