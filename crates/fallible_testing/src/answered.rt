@@ -1,8 +1,9 @@
 //! What the next draws answer.
 ghost use Rattle.fallible_contract.specs.Contract.{Stays};
+ghost use Rattle.fallible_contract.specs.Ends.{from_front};
 
-use fallible_iterator::FallibleIterator;
-use fallible_iterator::laws::{Answer, answers};
+use fallible_iterator::laws::{Answer, Side, answers, answers_at};
+use fallible_iterator::{DoubleEndedFallibleIterator, FallibleIterator};
 use std::fmt::Debug;
 use std::test::Fail;
 
@@ -19,6 +20,27 @@ where
     ensures { Stays I.contract it.old it.new }
 {
     let drawn = answers(rt.alloc(), it, expected.len())?;
+    if drawn.as_slice() == expected {
+        Ok(())
+    } else {
+        Err(Fail::new(format_args!("answered {drawn:?}, and not {expected:?}")))
+    }
+}
+
+/// Draws from the ends named, one after another, and fails the test where other answers come than those expected.
+pub fn expect_answers_at<I: DoubleEndedFallibleIterator>(
+    rt: &impl AllocGlobal,
+    it: &mut I,
+    sides: &[Side],
+    expected: &[Answer<I::Item, I::Error>],
+) -> Result<(), Fail>
+where
+    I::Item: Debug + Drop + PartialEq,
+    I::Error: Debug + Drop + PartialEq,
+    requires { I.ends.can it.old }
+    ensures { Stays (from_front I.contract I.ends) it.old it.new }
+{
+    let drawn = answers_at(rt.alloc(), it, sides)?;
     if drawn.as_slice() == expected {
         Ok(())
     } else {
