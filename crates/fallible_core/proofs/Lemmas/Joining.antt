@@ -1,5 +1,6 @@
 -- Lemmas on the runs of such types: one file a type.
 pub mod Chain
+pub mod ChainListed
 pub mod Cycle
 pub mod Flatten
 pub mod Zip
