@@ -9,7 +9,7 @@ ghost use Rattle.fallible_contract.specs.Traces.{Answered, Run, item};
 ghost use Rattle.fallible_contract.specs.Folds.{Folded, call_with};
 ghost use Rattle.fallible_contract.specs.Definitions.{MeetsHeld};
 ghost use Rattle.fallible_contract.specs.Closures.{Steady, call_on, call_at};
-ghost use Rattle.fallible_contract.specs.Lists.{Acts, mapped, inspected, filtered, filter_mapped, failures_mapped, pointed_to};
+ghost use Rattle.fallible_contract.specs.Lists.{Lists, Acts, mapped, inspected, filtered, filter_mapped, failures_mapped, pointed_to};
 ghost use Rattle.fallible_contract.specs.Listed.{Listed, Mix, step_at, from_side, Interleaves, items_listed, failures_listed, source_list, passed_list};
 ghost use Rattle.fallible_core.specs.OneToOne.Map.{MapTrace, map_outcome, map_parts};
 ghost use Rattle.fallible_core.specs.OneToOne.Inspect.{InspectTrace, inspect_outcome, inspect_parts};
@@ -73,8 +73,8 @@ where
 pub fn law_listed_cloned<'a, T: Clone + 'a, I: DoubleEndedFallibleIterator<Item = &'a T>>()
 where
     I::Error: From<AllocError>,
-    ensures steady { (s : Cloned I) (it : I) (asked : List (Result (Bor T × T) I.Error)) → cloned_parts s ≡ (it, tt) → All (λ c. T.is_infallible c.0.now × ((y : T) → T.is_clone c.0.now y → y ≡ c.1)) (items_listed asked) → Listed I.contract.steps I.ends.steps it (source_list asked) → Listed ⟦<Cloned<I> as FallibleIterator>⟧.contract.steps ⟦<Cloned<I> as DoubleEndedFallibleIterator>⟧.ends.steps s (mapped (λ c. Ok c.1) asked) }
-    ensures acts { (s : Cloned I) (it : I) (l : List (Result (Bor T) I.Error)) → cloned_parts s ≡ (it, tt) → ((x y : T) → T.is_clone x y → y ≡ x) → ((x : T) → T.is_infallible x) → Listed I.contract.steps I.ends.steps it l → Listed ⟦<Cloned<I> as FallibleIterator>⟧.contract.steps ⟦<Cloned<I> as DoubleEndedFallibleIterator>⟧.ends.steps s (pointed_to l) }
+    ensures clones { (s : Cloned I) (it : I) (asked : List (Result (Bor T × T) I.Error)) → cloned_parts s ≡ (it, tt) → All (λ c. T.is_infallible c.0.now × ((y : T) → T.is_clone c.0.now y → y ≡ c.1)) (items_listed asked) → Listed I.contract.steps I.ends.steps it (source_list asked) → Listed ⟦<Cloned<I> as FallibleIterator>⟧.contract.steps ⟦<Cloned<I> as DoubleEndedFallibleIterator>⟧.ends.steps s (mapped (λ c. Ok c.1) asked) }
+    ensures originals { (s : Cloned I) (it : I) (l : List (Result (Bor T) I.Error)) → cloned_parts s ≡ (it, tt) → ((x y : T) → T.is_clone x y → y ≡ x) → ((x : T) → T.is_infallible x) → Listed I.contract.steps I.ends.steps it l → Listed ⟦<Cloned<I> as FallibleIterator>⟧.contract.steps ⟦<Cloned<I> as DoubleEndedFallibleIterator>⟧.ends.steps s (pointed_to l) }
 {}
 
 /// `MapErr` lists what its closure answers on each failure of its source's list, in the failure's place.
@@ -94,6 +94,12 @@ pub fn law_listed_rev<I: DoubleEndedFallibleIterator>()
 pub fn law_listed_borrowed<'a, I: DoubleEndedFallibleIterator + 'a>()
     ensures borrowed { (s : MutBor I) (l : List (Result I.Item I.Error)) → Listed ⟦<&'a mut I as FallibleIterator>⟧.contract.steps ⟦<&'a mut I as DoubleEndedFallibleIterator>⟧.ends.steps s l ↔ Listed I.contract.steps I.ends.steps s.now l }
     ensures boxed { (s : Box I Global) (l : List (Result I.Item I.Error)) → Listed ⟦<Box<I> as FallibleIterator>⟧.contract.steps ⟦<Box<I> as DoubleEndedFallibleIterator>⟧.ends.steps s l ↔ Listed I.contract.steps I.ends.steps s.value l }
+{}
+
+/// What lists l from both ends lists l from the front, and the reverse of l from behind, so what each call says of lists holds of it.
+pub fn law_listed_each<I: DoubleEndedFallibleIterator>()
+    ensures front { (s : I) (l : List (Result I.Item I.Error)) → Listed I.contract.steps I.ends.steps s l → Lists I.contract.steps s l }
+    ensures back { (s : I) (l : List (Result I.Item I.Error)) → Listed I.contract.steps I.ends.steps s l → Lists I.ends.steps s (reverse l) }
 {}
 
 // ---- draws from both ends
