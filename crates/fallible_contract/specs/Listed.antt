@@ -31,21 +31,21 @@ module _ {S A E : Type 0} (front back : S → Answered A E → S → Type 0) whe
   pub record Listed (s : S) (l : List (Result A E)) : Type 0 where
     pub for : (n : ℕ) → ListedFor n s l
 
--- the answers of draws from one end, in their order, with that end beside each
+-- draws from one side with these answers
 abbrev pub from_side : {A E : Type 0} → Side → List (Answered A E) → List (Side × Answered A E)
 from_side side trace = map (λ r. (side, r)) trace
 
--- the answers of draws from both ends, without the ends that they came from
+-- the answers of draws from both sides, without the sides
 abbrev pub answers_drawn : {A E : Type 0} → List (Side × Answered A E) → List (Answered A E)
 answers_drawn drawn = map (λ d. d.1) drawn
 
--- the answers that came from one end, in the order in which they came, without the ends among them
+-- an answer before those that came later from the same side; one that is an end is left out
 abbrev pub answer_came : {A E : Type 0} → Answered A E → List (Result A E) → List (Result A E)
 answer_came (Ok (Some x)) l = Ok x ∷ l
 answer_came (Ok None) l = l
 answer_came (Err e) l = Err e ∷ l
 
--- what came from the front, and what came from behind
+-- what came from the front, in its order, and what came from behind, in its order
 abbrev pub came_in_front : {A E : Type 0} → List (Side × Answered A E) → List (Result A E)
 came_in_front [] = []
 came_in_front ((Front, r) ∷ drawn) = answer_came r (came_in_front drawn)
@@ -80,7 +80,7 @@ failure_listed (Err e) = Some e
 abbrev pub failures_listed : {A E : Type 0} → List (Result A E) → List E
 failures_listed l = filter_map failure_listed l
 
--- Of a source's list, with what the closure answers on it beside each item: the list itself, without the closure's answers.
+-- A list whose items stand each beside what a closure answers on it says both what a source lists and what an adapter makes of that. What the source lists: the items themselves, and the failures.
 abbrev pub source_result : {X R E : Type 0} → Result (X × R) E → Result X E
 source_result (Ok c) = Ok c.0
 source_result (Err e) = Err e
@@ -88,14 +88,14 @@ source_result (Err e) = Err e
 abbrev pub source_list : {X R E : Type 0} → List (Result (X × R) E) → List (Result X E)
 source_list asked = map source_result asked
 
--- what an outcome lists: what is kept or failed, and nothing of an item that is left out; an end has no place in a list
+-- what an outcome lists: the value that is kept, or the failure; nothing of an item that is left out, nor of an end
 abbrev pub outcome_listed : {B E : Type 0} → Outcome B E → Option (Result B E)
 outcome_listed (kept y) = Some (Ok y)
 outcome_listed left_out = None
 outcome_listed (failed e) = Some (Err e)
 outcome_listed an_end = None
 
--- Of such a list: what becomes of each item by the closure's answer; failures pass.
+-- What the adapter lists: what becomes of each item by the closure's answer; failures pass.
 abbrev pub passed_result : {X R B E : Type 0} → (X → R → Outcome B E) → Result (X × R) E → Option (Result B E)
 passed_result outcome (Ok c) = outcome_listed (outcome c.0 c.1)
 passed_result outcome (Err e) = Some (Err e)

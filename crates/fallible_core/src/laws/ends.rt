@@ -9,7 +9,7 @@ ghost use Rattle.fallible_contract.specs.Traces.{Answered, Run, item};
 ghost use Rattle.fallible_contract.specs.Folds.{Folded, call_with};
 ghost use Rattle.fallible_contract.specs.Definitions.{MeetsHeld};
 ghost use Rattle.fallible_contract.specs.Closures.{Steady, call_on, call_at};
-ghost use Rattle.fallible_contract.specs.Lists.{Acts, mapped, inspected, filtered, filter_mapped, failures_mapped, pointed_to};
+ghost use Rattle.fallible_contract.specs.Lists.{Lists, Acts, mapped, inspected, filtered, filter_mapped, failures_mapped, pointed_to, chained};
 ghost use Rattle.fallible_contract.specs.Listed.{Listed, Mix, step_at, from_side, Interleaves, items_listed, failures_listed, source_list, passed_list};
 ghost use Rattle.fallible_core.specs.OneToOne.Map.{MapTrace, map_outcome, map_parts};
 ghost use Rattle.fallible_core.specs.OneToOne.Inspect.{InspectTrace, inspect_outcome, inspect_parts};
@@ -17,10 +17,13 @@ ghost use Rattle.fallible_core.specs.OneToOne.Cloned.{ClonedTrace, cloned_parts}
 ghost use Rattle.fallible_core.specs.OneToOne.MapErr.{MapErrTrace, map_err_parts};
 ghost use Rattle.fallible_core.specs.Filtering.Filter.{FilterTrace, filter_outcome, filter_parts};
 ghost use Rattle.fallible_core.specs.Filtering.FilterMap.{FilterMapTrace, filter_map_outcome, filter_map_parts};
+ghost use Rattle.fallible_core.specs.Joining.Chain.{chain_parts};
+ghost use Rattle.fallible_core.specs.declared.joining.chain.StillDrawn.TheVariants.{Both, FrontAlone, BackAlone};
 ghost use Rattle.fallible_core.specs.Ends.Rev.{rev_parts};
 
 use crate::ends::Rev;
 use crate::filtering::{Filter, FilterMap};
+use crate::joining::Chain;
 use crate::one_to_one::{Cloned, Inspect, Map, MapErr};
 use crate::traits::FallibleIterator;
 use crate::traits::double_ended::DoubleEndedFallibleIterator;
@@ -73,8 +76,8 @@ where
 pub fn law_listed_cloned<'a, T: Clone + 'a, I: DoubleEndedFallibleIterator<Item = &'a T>>()
 where
     I::Error: From<AllocError>,
-    ensures steady { (s : Cloned I) (it : I) (asked : List (Result (Bor T × T) I.Error)) → cloned_parts s ≡ (it, tt) → All (λ c. T.is_infallible c.0.now × ((y : T) → T.is_clone c.0.now y → y ≡ c.1)) (items_listed asked) → Listed I.contract.steps I.ends.steps it (source_list asked) → Listed ⟦<Cloned<I> as FallibleIterator>⟧.contract.steps ⟦<Cloned<I> as DoubleEndedFallibleIterator>⟧.ends.steps s (mapped (λ c. Ok c.1) asked) }
-    ensures acts { (s : Cloned I) (it : I) (l : List (Result (Bor T) I.Error)) → cloned_parts s ≡ (it, tt) → ((x y : T) → T.is_clone x y → y ≡ x) → ((x : T) → T.is_infallible x) → Listed I.contract.steps I.ends.steps it l → Listed ⟦<Cloned<I> as FallibleIterator>⟧.contract.steps ⟦<Cloned<I> as DoubleEndedFallibleIterator>⟧.ends.steps s (pointed_to l) }
+    ensures clones { (s : Cloned I) (it : I) (asked : List (Result (Bor T × T) I.Error)) → cloned_parts s ≡ (it, tt) → All (λ c. T.is_infallible c.0.now × ((y : T) → T.is_clone c.0.now y → y ≡ c.1)) (items_listed asked) → Listed I.contract.steps I.ends.steps it (source_list asked) → Listed ⟦<Cloned<I> as FallibleIterator>⟧.contract.steps ⟦<Cloned<I> as DoubleEndedFallibleIterator>⟧.ends.steps s (mapped (λ c. Ok c.1) asked) }
+    ensures originals { (s : Cloned I) (it : I) (l : List (Result (Bor T) I.Error)) → cloned_parts s ≡ (it, tt) → ((x y : T) → T.is_clone x y → y ≡ x) → ((x : T) → T.is_infallible x) → Listed I.contract.steps I.ends.steps it l → Listed ⟦<Cloned<I> as FallibleIterator>⟧.contract.steps ⟦<Cloned<I> as DoubleEndedFallibleIterator>⟧.ends.steps s (pointed_to l) }
 {}
 
 /// `MapErr` lists what its closure answers on each failure of its source's list, in the failure's place.
@@ -82,6 +85,16 @@ pub fn law_listed_map_err<I: DoubleEndedFallibleIterator, B, F: FnMut(I::Error) 
 where
     ensures steady { (s : MapErr I F) (it : I) (f : F) (asked : List (Result I.Item (I.Error × B))) → map_err_parts s ≡ (it, f) → Steady (call_on F.FnMut) f (failures_listed asked) → Listed I.contract.steps I.ends.steps it (failures_mapped (λ c. c.0) asked) → Listed ⟦<MapErr<I, F> as FallibleIterator>⟧.contract.steps ⟦<MapErr<I, F> as DoubleEndedFallibleIterator>⟧.ends.steps s (failures_mapped (λ c. c.1) asked) }
     ensures acts { (s : MapErr I F) (it : I) (f : F) (h : I.Error → B) (l : List (Result I.Item I.Error)) → map_err_parts s ≡ (it, f) → Acts (call_on F.FnMut) f h → Listed I.contract.steps I.ends.steps it l → Listed ⟦<MapErr<I, F> as FallibleIterator>⟧.contract.steps ⟦<MapErr<I, F> as DoubleEndedFallibleIterator>⟧.ends.steps s (failures_mapped h l) }
+{}
+
+/// `Chain` lists what its front lists and then what its back lists; where one side alone is still drawn, what that side lists, the other being drawn no more.
+pub fn law_listed_chain<
+    T: DoubleEndedFallibleIterator,
+    U: DoubleEndedFallibleIterator<Item = T::Item, Error = T::Error>,
+>()
+    ensures both { (s : Chain T U) (t : T) (u : U) (a b : List (Result T.Item T.Error)) → chain_parts s ≡ (t, u, Both) → Listed T.contract.steps T.ends.steps t a → Listed U.contract.steps U.ends.steps u b → Listed ⟦<Chain<T, U> as FallibleIterator>⟧.contract.steps ⟦<Chain<T, U> as DoubleEndedFallibleIterator>⟧.ends.steps s (chained a b) }
+    ensures front_alone { (s : Chain T U) (t : T) (u : U) (l : List (Result T.Item T.Error)) → chain_parts s ≡ (t, u, FrontAlone) → Listed T.contract.steps T.ends.steps t l → Listed ⟦<Chain<T, U> as FallibleIterator>⟧.contract.steps ⟦<Chain<T, U> as DoubleEndedFallibleIterator>⟧.ends.steps s l }
+    ensures back_alone { (s : Chain T U) (t : T) (u : U) (l : List (Result T.Item T.Error)) → chain_parts s ≡ (t, u, BackAlone) → Listed U.contract.steps U.ends.steps u l → Listed ⟦<Chain<T, U> as FallibleIterator>⟧.contract.steps ⟦<Chain<T, U> as DoubleEndedFallibleIterator>⟧.ends.steps s l }
 {}
 
 /// `Rev` lists the reverse of what its source lists, and the other way round.
@@ -94,6 +107,12 @@ pub fn law_listed_rev<I: DoubleEndedFallibleIterator>()
 pub fn law_listed_borrowed<'a, I: DoubleEndedFallibleIterator + 'a>()
     ensures borrowed { (s : MutBor I) (l : List (Result I.Item I.Error)) → Listed ⟦<&'a mut I as FallibleIterator>⟧.contract.steps ⟦<&'a mut I as DoubleEndedFallibleIterator>⟧.ends.steps s l ↔ Listed I.contract.steps I.ends.steps s.now l }
     ensures boxed { (s : Box I Global) (l : List (Result I.Item I.Error)) → Listed ⟦<Box<I> as FallibleIterator>⟧.contract.steps ⟦<Box<I> as DoubleEndedFallibleIterator>⟧.ends.steps s l ↔ Listed I.contract.steps I.ends.steps s.value l }
+{}
+
+/// What lists l from both ends lists l from the front, and the reverse of l from behind, so what each call says of lists holds of it.
+pub fn law_listed_each<I: DoubleEndedFallibleIterator>()
+    ensures front { (s : I) (l : List (Result I.Item I.Error)) → Listed I.contract.steps I.ends.steps s l → Lists I.contract.steps s l }
+    ensures back { (s : I) (l : List (Result I.Item I.Error)) → Listed I.contract.steps I.ends.steps s l → Lists I.ends.steps s (reverse l) }
 {}
 
 // ---- draws from both ends

@@ -5,3 +5,4 @@ pub mod IntoFallible
 pub mod Once
 pub mod Repeat
 pub mod Std
+pub mod StdListed

@@ -12,7 +12,7 @@ use Rattle.fallible_contract.specs.Lists.{Lists, RunsRead, RunsReadBehind, resul
 use Rattle.fallible_iterator.proofs.Lemmas.Sources.Std.{gives_read, read_behind}
 use Rattle.fallible_contract.proofs.Lemmas.Lists.Passing.{lists_seen}
 
-results_are : {A E : Type 0} (l : List (Result A E)) → map (λ y. y) l ≡ results l
+pub results_are : {A E : Type 0} (l : List (Result A E)) → map (λ y. y) l ≡ results l
 unfolding results
 results_are [] = refl
 results_are (y ∷ l) = ap (λ t. y ∷ t) (results_are l)
@@ -35,13 +35,18 @@ unfolding reversed
 items_reversed l = sym (items_are (reverse l)) ∙ map-reverse (λ x. Ok x) l ∙ ap reverse (items_are l)
 
 module _ {A E : Type 0} where
-  answered : (r : Answered A E) (y : Result A E) → element_by {A = A} {E = E} Ok Err r ≡ Some y → r ≡ result_answer y
+  pub answered : (r : Answered A E) (y : Result A E) → element_by {A = A} {E = E} Ok Err r ≡ Some y → r ≡ result_answer y
   answered (Ok (Some x)) (Ok y) e = cc
   answered (Ok (Some x)) (Err y) e = absurd cc
   answered (Err d) (Ok y) e = absurd cc
   answered (Err d) (Err y) e = cc
   answered (Ok None) (Ok y) e = absurd cc
   answered (Ok None) (Err y) e = absurd cc
+
+  pub none_converted : (r : Answered A E) → element_by {A = A} {E = E} Ok Err r ≡ None → r ≡ Ok None
+  none_converted (Ok (Some x)) e = absurd cc
+  none_converted (Ok None) e = refl
+  none_converted (Err d) e = absurd cc
 
 module _ {S A E : Type 0} (can : S → Type 0) (gives : S → Option (Result A E) → S → Type 0) (remaining : S → Count) (s : Convert S) where
   pub lists_results : (l : List (Result A E)) → RunsRead gives (λ y. y) s.it l → Lists (seen_as convert_parts (convert_contract can gives remaining)).steps s (results l)

@@ -13,10 +13,15 @@ use Rattle.fallible_iterator.proofs.Lemmas.Sources.Std.{gives_read, read_behind}
 use Rattle.fallible_iterator.proofs.Lemmas.Sources.Convert.{items_are, items_reversed}
 use Rattle.fallible_contract.proofs.Lemmas.Lists.Passing.{lists_seen}
 
-item_answered : {A : Type 0} (r : Answered A Infallible) (x : A) → element_by (λ y. y) never r ≡ Some x → r ≡ result_answer (Ok x)
+pub item_answered : {A : Type 0} (r : Answered A Infallible) (x : A) → element_by (λ y. y) never r ≡ Some x → r ≡ result_answer (Ok x)
 item_answered (Ok (Some y)) x e = cc
 item_answered (Ok None) x e = absurd cc
 item_answered (Err d) x e = elim d [ ]
+
+pub none_given : {A : Type 0} (r : Answered A Infallible) → element_by (λ y. y) never r ≡ None → r ≡ Ok None
+none_given (Ok (Some y)) e = absurd cc
+none_given (Ok None) e = refl
+none_given (Err d) e = elim d [ ]
 
 module _ {S A : Type 0} (can : S → Type 0) (gives : S → Option A → S → Type 0) (remaining : S → Count) (s : IntoFallible S) where
   pub lists_elements : (l : List A) → RunsRead gives (λ x. x) s.it l → Lists (seen_as into_fallible_parts (into_fallible_contract can gives remaining)).steps s (items l)
