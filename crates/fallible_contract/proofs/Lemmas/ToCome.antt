@@ -5,7 +5,7 @@ use Rattle.fallible_contract.specs.Traces.{Answered, Run, item, end, items_in}
 use Rattle.fallible_contract.specs.declared.answers.Side.{Side}
 use Rattle.fallible_contract.specs.declared.answers.Side.TheVariants.{Front, Back}
 use Rattle.fallible_contract.specs.Contract.{Contract, Lawful}
-use Rattle.fallible_contract.specs.Ends.{Ends, from_front, from_back, LawfulEnds}
+use Rattle.fallible_contract.specs.Ends.{Ends, LawfulEnds}
 use Rattle.fallible_contract.specs.Listed.{step_at, Mix, answers_drawn}
 
 module _ {S A E : Type 0} {m : Contract S A E} (l : Lawful m) where

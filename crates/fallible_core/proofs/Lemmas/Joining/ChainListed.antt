@@ -1,5 +1,5 @@
 -- What `Chain` lists from both ends: the front's list followed by the back's, of the sides that are still drawn.
-use Rattle.std.specs.Prelude.{◌≡◌, true, false, Result, Some, None, Ok, Err, List, [], ◌∷◌, ◌++◌, reverse}
+use Rattle.std.specs.Prelude.{◌≡◌, false, Result, Ok, Err, List, [], ◌∷◌, ◌++◌, reverse}
 use Rattle.std.proofs.Common.{refl, sym, ap, subst, ◌∙◌, inl, inr}
 use Rattle.std.proofs.lemmas.List.{reverse-append}
 use Rattle.fallible_core.specs.declared.joining.chain.StillDrawn.{StillDrawn}

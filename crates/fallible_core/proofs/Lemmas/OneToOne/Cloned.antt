@@ -10,7 +10,6 @@ use Rattle.fallible_contract.specs.Laws.Closures.{reaches_here, may_answer_after
 use Rattle.fallible_core.specs.OneToOne.Map.{map_outcome}
 use Rattle.fallible_core.specs.OneToOne.Cloned.{cloned_call, cloned_parts, cloned_contract}
 use Rattle.fallible_contract.specs.Traces.{Answered}
-use Rattle.fallible_contract.specs.Closures.{Steady}
 use Rattle.fallible_contract.specs.Lists.{Lists, mapped, pointed_to}
 use Rattle.fallible_contract.specs.Listed.{Listed, items_listed, source_list, passed_list}
 use Rattle.fallible_contract.proofs.Lemmas.Listed.Passing.{GivesAt, beside, source_beside, listed_passed}

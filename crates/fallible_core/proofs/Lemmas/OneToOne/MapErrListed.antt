@@ -3,7 +3,7 @@ use Rattle.std.specs.Prelude.{◌≡◌, Result, Some, None, Ok, Err, List, [], 
 use Rattle.std.proofs.Common.{refl, sym, ap, subst, ◌∙◌}
 use Rattle.std.proofs.lemmas.List.Elements.{All-nil, All-cons}
 use Rattle.fallible_contract.specs.Traces.{Answered}
-use Rattle.fallible_contract.specs.Closures.{Calls, Steady}
+use Rattle.fallible_contract.specs.Closures.{Steady}
 use Rattle.fallible_contract.specs.Lists.{Acts, failures_mapped}
 use Rattle.fallible_contract.specs.Listed.{TakesFirst, Listed, failure_listed, failures_listed}
 use Rattle.fallible_contract.proofs.Lemmas.Listed.{takes_front, listed_by_swapping, listed_swapped}

@@ -1,5 +1,4 @@
 -- What its parts list.
-use Rattle.std.proofs.Common.{refl}
 use Rattle.fallible_contract.proofs.Lemmas.Listed.{listed_seen_at}
 use Rattle.fallible_core.specs.OneToOne.Cloned.{cloned_parts}
 use Rattle.fallible_core.proofs.Lemmas.OneToOne.Cloned.{clones_passed, originals_passed, listed_clones, listed_originals}
