@@ -1,6 +1,7 @@
 //! Callers of `fallible_iterator`, as its users write them: each states what it computes by plain list functions, and the contracts of the calls prove it.
 #![tactic(auto)]
 
+pub mod behind;
 pub mod computing;
 pub mod consuming;
 pub mod drawing;

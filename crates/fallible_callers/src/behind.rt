@@ -1,0 +1,63 @@
+//! Draws from behind.
+ghost use Rattle.std.specs.Prelude.{◌≡◌, ℕ, ◌+◌, ◌++◌, ◌%◌, ◌^◌, [], ◌∷◌, List, Result, Ok, Option, Some};
+ghost use Rattle.fallible_contract.specs.Lists.{results, reversed, folded, CollectedAs};
+
+use fallible_iterator::laws::{Answer, Side, answers_at, law_back_convert};
+use fallible_iterator::{DoubleEndedFallibleIterator, FallibleIterator, Fault, convert};
+use std::alloc::{AllocError, Global};
+
+/// The last reading.
+pub fn last_drawn(readings: Vec<Result<u32, u8>>) -> Result<Option<u32>, u8>
+    ensures { (front : List (Result ℕ ℕ)) (last : ℕ) → readings.items ≡ front ++ Ok last ∷ [] → result ≡ Ok (Some last) }
+{
+    convert(readings.into_iter()).next_back()
+}
+
+/// The first reading and the last one, which are drawn in turn.
+pub fn first_and_last(readings: Vec<Result<u32, u8>>) -> Result<Option<(u32, u32)>, u8>
+    ensures { (first last : ℕ) (between : List (Result ℕ ℕ)) → readings.items ≡ Ok first ∷ (between ++ Ok last ∷ []) → result ≡ Ok (Some (first, last)) }
+{
+    let mut it = convert(readings.into_iter());
+    match it.next()? {
+        Some(first) => match it.next_back()? {
+            Some(last) => Ok(Some((first, last))),
+            None => Ok(None),
+        },
+        None => Ok(None),
+    }
+}
+
+/// How many readings there are besides the first and the last.
+pub fn count_between(readings: Vec<Result<u32, u8>>) -> Result<usize, u8> {
+    let mut it = convert(readings.into_iter());
+    it.next()?;
+    it.next_back()?;
+    it.count()
+}
+
+/// The readings, the last one first, or the first failure from behind.
+pub fn last_first(alloc: Global, readings: Vec<Result<u32, u8>>) -> Result<Vec<u32>, Fault<u8>>
+    ensures { CollectedAs (λ xs v. v.items ≡ xs) (reversed (results readings.items)) result }
+{
+    convert(readings.into_iter()).rev().collect(alloc)
+}
+
+/// The sum of the readings from behind, modulo 2 ^ 64, or the first failure from behind. The law says what `convert` lists from behind, where no `rev` does.
+pub fn sum_from_behind(readings: Vec<Result<u32, u8>>) -> Result<u64, u8>
+    ensures { result ≡ folded (λ e. e) (λ s x. Ok ((s + x) % 2 ^ 64)) 0 (reversed (results readings.items)) }
+{
+    law_back_convert::<u32, u8, std::vec::IntoIter<Result<u32, u8>, Global>>();
+    convert(readings.into_iter()).rfold(
+        0,
+        |sum: u64, reading: u32| Ok(sum.wrapping_add(u64::from(reading))),
+    )
+}
+
+/// What three draws answer, the first of which is from the front.
+pub fn three_answers(
+    alloc: Global,
+    readings: Vec<Result<u32, u8>>,
+) -> Result<Vec<Answer<u32, u8>>, AllocError> {
+    let mut it = convert(readings.into_iter());
+    answers_at(alloc, &mut it, &[Side::Front, Side::Back, Side::Back])
+}
