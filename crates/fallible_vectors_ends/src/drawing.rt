@@ -1,8 +1,7 @@
 // Draws from both ends, one after another.
-use fallible_iterator::FallibleIterator;
-use fallible_iterator::DoubleEndedFallibleIterator;
 use fallible_iterator::laws::Answer::{End, Failure, Item};
 use fallible_iterator::laws::Side::{Back, Front};
+use fallible_iterator::{DoubleEndedFallibleIterator, FallibleIterator};
 use fallible_testing::answered::expect_answers_at;
 use fallible_testing::listed::listed;
 use std::test::Fail;

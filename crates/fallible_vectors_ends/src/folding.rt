@@ -1,6 +1,5 @@
 // Folds from behind.
-use fallible_iterator::DoubleEndedFallibleIterator;
-use fallible_iterator::FallibleIterator;
+use fallible_iterator::{DoubleEndedFallibleIterator, FallibleIterator};
 use fallible_testing::listed::listed;
 use std::test::Fail;
 
@@ -16,7 +15,7 @@ fn rfold_meets_the_last_item_first(rt: HostRuntime) -> Result<(), Fail> {
 fn try_rfold_stops_and_leaves_both_ends(rt: HostRuntime) -> Result<(), Fail> {
     let it = listed::<u32, u32, 4>(rt.alloc(), [Ok(1), Ok(2), Ok(3), Ok(4)])?;
     let mut it = it.map(|x: u32| Ok(x.wrapping_mul(10)));
-    let stopped = it.try_rfold(0, |sum: u32, x: u32| if x == 30 { Err(7) } else { Ok(sum.wrapping_add(x)) });
+    let stopped: Result<u32, u32> = it.try_rfold(0, |sum: u32, x: u32| if x == 30 { Err(7) } else { Ok(sum.wrapping_add(x)) });
     assert_eq!(rt; stopped, Err(7));
     assert_eq!(rt; it.next_back(), Ok(Some(20)));
     assert_eq!(rt; it.next(), Ok(Some(10)));
@@ -28,7 +27,7 @@ fn try_rfold_stopped_in_the_back_of_a_chain_goes_on_there(rt: HostRuntime) -> Re
     let front = listed::<u32, u32, 2>(rt.alloc(), [Ok(1), Ok(2)])?;
     let back = listed::<u32, u32, 2>(rt.alloc(), [Ok(3), Ok(4)])?;
     let mut it = front.chain(back);
-    let stopped = it.try_rfold(0, |_: u32, _: u32| Err(7));
+    let stopped: Result<u32, u32> = it.try_rfold(0, |_: u32, _: u32| Err(7));
     assert_eq!(rt; stopped, Err(7));
     assert_eq!(rt; it.next_back(), Ok(Some(3)));
     assert_eq!(rt; it.next(), Ok(Some(1)));
@@ -38,7 +37,7 @@ fn try_rfold_stopped_in_the_back_of_a_chain_goes_on_there(rt: HostRuntime) -> Re
 #[test]
 fn try_rfold_fails_with_the_last_failure(rt: HostRuntime) -> Result<(), Fail> {
     let mut it = listed::<u32, u32, 4>(rt.alloc(), [Ok(1), Err(2), Ok(3), Ok(4)])?;
-    let failed = it.try_rfold(0, |sum: u32, x: u32| Ok(sum.wrapping_add(x)));
+    let failed: Result<u32, u32> = it.try_rfold(0, |sum: u32, x: u32| Ok(sum.wrapping_add(x)));
     assert_eq!(rt; failed, Err(2));
     assert_eq!(rt; it.next_back(), Ok(Some(1)));
     assert_eq!(rt; it.next_back(), Ok(None));

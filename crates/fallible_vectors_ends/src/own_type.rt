@@ -4,8 +4,7 @@ ghost use Rattle.std.proofs.Common.{rules};
 ghost use Rattle.fallible_contract.specs.Contract.{counting_down};
 ghost use Rattle.fallible_contract.specs.Ends.{counting_down_ends};
 
-use fallible_iterator::DoubleEndedFallibleIterator;
-use fallible_iterator::FallibleIterator;
+use fallible_iterator::{DoubleEndedFallibleIterator, FallibleIterator};
 use std::test::Fail;
 
 // The numbers from `low` to below `high`.

@@ -1,6 +1,6 @@
 // What `rev` makes of sources and adapters.
-use fallible_iterator::FallibleIterator;
 use fallible_iterator::laws::Answer::{End, Failure, Item};
+use fallible_iterator::{DoubleEndedFallibleIterator, FallibleIterator};
 use fallible_testing::answered::expect_answers;
 use fallible_testing::collected::{expect_collected, expect_source_fault};
 use fallible_testing::listed::listed;
