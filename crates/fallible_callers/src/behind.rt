@@ -61,3 +61,13 @@ pub fn three_answers(
     let mut it = convert(readings.into_iter());
     answers_at(alloc, &mut it, &[Side::Front, Side::Back, Side::Back])
 }
+
+/// The last but one of the doubled readings above 1000, once the first and the last were drawn.
+pub fn last_but_one(readings: Vec<Result<u32, u8>>) -> Result<Option<u64>, u8> {
+    let mut it = convert(readings.into_iter())
+        .map(|reading| Ok(u64::from(reading) * 2))
+        .filter(|double| Ok(*double > 1000));
+    it.draw_back()?;
+    it.draw_front()?;
+    it.draw_back()
+}

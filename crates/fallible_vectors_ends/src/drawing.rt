@@ -35,7 +35,12 @@ fn chain_fails_from_behind_and_goes_on_in_front_of_it(rt: HostRuntime) -> Result
     let front = listed::<u32, u32, 1>(rt.alloc(), [Ok(1)])?;
     let back = listed::<u32, u32, 1>(rt.alloc(), [Err(9)])?;
     let mut it = front.chain(back);
-    expect_answers_at(&rt, &mut it, &[Back, Back, Front], &[Failure(9), Item(1), End])
+    expect_answers_at(
+        &rt,
+        &mut it,
+        &[Back, Back, Front],
+        &[Failure(9), Item(1), End],
+    )
 }
 
 #[test]
@@ -43,7 +48,12 @@ fn chain_hints_what_both_ends_left(rt: HostRuntime) -> Result<(), Fail> {
     let front = listed::<u32, (), 2>(rt.alloc(), [Ok(1), Ok(2)])?;
     let back = listed::<u32, (), 1>(rt.alloc(), [Ok(3)])?;
     let mut it = front.chain(back);
-    expect_answers_at(&rt, &mut it, &[Front, Back, Back], &[Item(1), Item(3), Item(2)])?;
+    expect_answers_at(
+        &rt,
+        &mut it,
+        &[Front, Back, Back],
+        &[Item(1), Item(3), Item(2)],
+    )?;
     assert_eq!(rt; it.size_hint(), (0, Some(0)));
     assert_eq!(rt; it.next(), Ok(None));
     Ok(())
@@ -66,5 +76,10 @@ fn a_reference_and_a_box_draw_from_both_ends(rt: HostRuntime) -> Result<(), Fail
 fn inspect_sees_what_comes_from_each_end(rt: HostRuntime) -> Result<(), Fail> {
     let it = listed::<u32, u32, 3>(rt.alloc(), [Ok(1), Ok(2), Ok(3)])?;
     let mut it = it.inspect(|x: &u32| if *x == 3 { Err(30) } else { Ok(()) });
-    expect_answers_at(&rt, &mut it, &[Back, Front, Back, Back], &[Failure(30), Item(1), Item(2), End])
+    expect_answers_at(
+        &rt,
+        &mut it,
+        &[Back, Front, Back, Back],
+        &[Failure(30), Item(1), Item(2), End],
+    )
 }

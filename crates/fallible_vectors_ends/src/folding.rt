@@ -1,12 +1,18 @@
 // Folds from behind.
+use fallible_iterator::laws::Answer::{End, Item};
+use fallible_iterator::laws::Side::{Back, Front};
 use fallible_iterator::{DoubleEndedFallibleIterator, FallibleIterator};
+use fallible_testing::answered::expect_answers_at;
 use fallible_testing::listed::listed;
 use std::test::Fail;
 
 #[test]
 fn rfold_meets_the_last_item_first(rt: HostRuntime) -> Result<(), Fail> {
     let it = listed::<u32, u32, 3>(rt.alloc(), [Ok(1), Ok(2), Ok(3)])?;
-    let folded = it.rfold(0, |made: u32, x: u32| Ok(made.wrapping_mul(10).wrapping_add(x)));
+    let folded = it.rfold(
+        0,
+        |made: u32, x: u32| Ok(made.wrapping_mul(10).wrapping_add(x)),
+    );
     assert_eq!(rt; folded, Ok(321));
     Ok(())
 }
@@ -15,11 +21,16 @@ fn rfold_meets_the_last_item_first(rt: HostRuntime) -> Result<(), Fail> {
 fn try_rfold_stops_and_leaves_both_ends(rt: HostRuntime) -> Result<(), Fail> {
     let it = listed::<u32, u32, 4>(rt.alloc(), [Ok(1), Ok(2), Ok(3), Ok(4)])?;
     let mut it = it.map(|x: u32| Ok(x.wrapping_mul(10)));
-    let stopped: Result<u32, u32> = it.try_rfold(0, |sum: u32, x: u32| if x == 30 { Err(7) } else { Ok(sum.wrapping_add(x)) });
+    let stopped: Result<u32, u32> = it.try_rfold(
+        0,
+        |sum: u32, x: u32| if x == 30 {
+            Err(7)
+        } else {
+            Ok(sum.wrapping_add(x))
+        },
+    );
     assert_eq!(rt; stopped, Err(7));
-    assert_eq!(rt; it.next_back(), Ok(Some(20)));
-    assert_eq!(rt; it.next(), Ok(Some(10)));
-    Ok(())
+    expect_answers_at(&rt, &mut it, &[Back, Front, Front], &[Item(20), Item(10), End])
 }
 
 #[test]
@@ -47,9 +58,10 @@ fn try_rfold_fails_with_the_last_failure(rt: HostRuntime) -> Result<(), Fail> {
 #[test]
 fn filter_folds_what_it_keeps_from_behind(rt: HostRuntime) -> Result<(), Fail> {
     let it = listed::<u32, u32, 5>(rt.alloc(), [Ok(1), Ok(2), Ok(3), Ok(4), Ok(5)])?;
-    let folded = it
-        .filter(|x: &u32| Ok(*x % 2 == 1))
-        .rfold(0, |made: u32, x: u32| Ok(made.wrapping_mul(10).wrapping_add(x)));
+    let folded = it.filter(|x: &u32| Ok(*x % 2 == 1)).rfold(
+        0,
+        |made: u32, x: u32| Ok(made.wrapping_mul(10).wrapping_add(x)),
+    );
     assert_eq!(rt; folded, Ok(531));
     Ok(())
 }

@@ -64,10 +64,10 @@ fn is_drawn_from_both_ends(rt: HostRuntime) {
 #[test]
 fn is_mapped_and_reversed(rt: HostRuntime) -> Result<(), Fail> {
     let it = Between { low: 1, left: 3 };
-    let folded = it
-        .map(|x: u32| Ok(x.wrapping_mul(2)))
-        .rev()
-        .fold(0, |made: u32, x: u32| Ok(made.wrapping_mul(10).wrapping_add(x)));
+    let folded = it.map(|x: u32| Ok(x.wrapping_mul(2))).rev().fold(
+        0,
+        |made: u32, x: u32| Ok(made.wrapping_mul(10).wrapping_add(x)),
+    );
     assert_eq!(rt; folded, Ok(642));
     Ok(())
 }

@@ -34,7 +34,11 @@ fn rev_of_rev_draws_the_front(rt: HostRuntime) -> Result<(), Fail> {
 fn filter_fails_from_behind_at_the_last_odd_item(rt: HostRuntime) -> Result<(), Fail> {
     let it = listed::<u32, u32, 4>(rt.alloc(), [Ok(0), Ok(1), Ok(2), Ok(3)])?;
     let made = it
-        .filter(|x: &u32| if *x % 2 == 0 { Ok(*x % 3 == 0) } else { Err(*x) })
+        .filter(|x: &u32| if *x % 2 == 0 {
+            Ok(*x % 3 == 0)
+        } else {
+            Err(*x)
+        })
         .rev()
         .collect::<Vec<u32>>(rt.alloc());
     expect_source_fault(made, 3)
@@ -44,7 +48,11 @@ fn filter_fails_from_behind_at_the_last_odd_item(rt: HostRuntime) -> Result<(), 
 fn filter_from_behind_keeps_what_it_keeps_in_front(rt: HostRuntime) -> Result<(), Fail> {
     let it = listed::<u32, u32, 4>(rt.alloc(), [Ok(0), Ok(2), Ok(4), Ok(6)])?;
     let made = it
-        .filter(|x: &u32| if *x % 2 == 0 { Ok(*x % 3 == 0) } else { Err(*x) })
+        .filter(|x: &u32| if *x % 2 == 0 {
+            Ok(*x % 3 == 0)
+        } else {
+            Err(*x)
+        })
         .rev()
         .collect::<Vec<u32>>(rt.alloc());
     expect_collected(made, [6, 0].as_slice())
@@ -52,7 +60,10 @@ fn filter_from_behind_keeps_what_it_keeps_in_front(rt: HostRuntime) -> Result<()
 
 #[test]
 fn filter_map_fails_from_behind_at_5(rt: HostRuntime) -> Result<(), Fail> {
-    let it = listed::<u32, u32, 7>(rt.alloc(), [Ok(0), Ok(1), Ok(2), Ok(3), Ok(4), Ok(5), Ok(6)])?;
+    let it = listed::<u32, u32, 7>(
+        rt.alloc(),
+        [Ok(0), Ok(1), Ok(2), Ok(3), Ok(4), Ok(5), Ok(6)],
+    )?;
     let made = it
         .filter_map(ten_more_of_even)
         .rev()
@@ -114,7 +125,11 @@ fn map_from_behind(rt: HostRuntime) -> Result<(), Fail> {
 #[test]
 fn map_fails_from_both_ends_at_2(rt: HostRuntime) -> Result<(), Fail> {
     let it = listed::<u32, (), 5>(rt.alloc(), [Ok(0), Ok(1), Ok(2), Ok(3), Ok(4)])?;
-    let mut it = it.map(|x: u32| if x == 2 { Err(()) } else { Ok(x.wrapping_mul(2)) });
+    let mut it = it.map(|x: u32| if x == 2 {
+        Err(())
+    } else {
+        Ok(x.wrapping_mul(2))
+    });
     let mut clone = it.clone()?.rev();
     expect_answers(&rt, &mut it, &[Item(0), Item(2), Failure(())])?;
     expect_answers(&rt, &mut clone, &[Item(8), Item(6), Failure(())])
@@ -123,10 +138,7 @@ fn map_fails_from_both_ends_at_2(rt: HostRuntime) -> Result<(), Fail> {
 #[test]
 fn map_err_from_behind_fails_with_3(rt: HostRuntime) -> Result<(), Fail> {
     let it = listed::<u32, u32, 4>(rt.alloc(), [Ok(0), Err(1), Ok(2), Err(3)])?;
-    let made = it
-        .map_err(|e: u32| e)
-        .rev()
-        .collect::<Vec<u32>>(rt.alloc());
+    let made = it.map_err(|e: u32| e).rev().collect::<Vec<u32>>(rt.alloc());
     expect_source_fault(made, 3)
 }
 
@@ -134,9 +146,6 @@ fn map_err_from_behind_fails_with_3(rt: HostRuntime) -> Result<(), Fail> {
 fn cloned_from_behind(rt: HostRuntime) -> Result<(), Fail> {
     let items = [1, 2, 3];
     let made = fallible_iterator::IntoFallible::from(items.iter());
-    let mut it = made
-        .map_err(|_| std::alloc::AllocError)
-        .cloned()
-        .rev();
+    let mut it = made.map_err(|_| std::alloc::AllocError).cloned().rev();
     expect_answers(&rt, &mut it, &[Item(3), Item(2), Item(1), End])
 }

@@ -8,10 +8,10 @@ use Rattle.fallible_contract.specs.Traces.{Answered, Run, Yields, item}
 use Rattle.fallible_contract.specs.Contract.{Contract, Lawful}
 use Rattle.fallible_contract.specs.Closures.{Reaches, IsCallable, IsCallableIn, call_in}
 use Rattle.fallible_contract.specs.Folds.{HoldsAtEachTurn, carrying_turn, CarryingExit, Carried}
-use Rattle.fallible_contract.specs.Passing.{Outcome, kept, left_out, failed, an_end, PassTrace}
-use Rattle.fallible_contract.specs.Folding.{beside, TurnedBy, FoldingTurn, FoldingTakes, handed}
+use Rattle.fallible_contract.specs.Passing.{Outcome, kept, left_out, failed, an_end}
+use Rattle.fallible_contract.specs.Folding.{TurnedBy, FoldingTurn, FoldingTakes, handed}
 use Rattle.fallible_contract.specs.Laws.Closures.{reaches_here, reaches_weaken, reaches_from}
-use Rattle.fallible_contract.specs.Laws.Passing.{Passes, done, ends, fails, keeps, refuses, closes, leaves_out, to_passes, from_passes}
+use Rattle.fallible_contract.specs.Laws.Passing.{done, ends, fails, keeps, refuses, closes, leaves_out, to_passes, from_passes}
 use Rattle.fallible_contract.proofs.Lemmas.Contract.{given_after}
 use Rattle.fallible_contract.proofs.Lemmas.Folds.{holds_here, holds_after, carried_after, carried_end, carried_failure, carried_stop}
 use Rattle.fallible_contract.proofs.Lemmas.Lists.Passing.{passing_step}

@@ -1,7 +1,7 @@
 -- The laws of the second end.
-use Rattle.std.specs.Prelude.{◌≡◌, ℕ, Option, ◌⊎◌}
+use Rattle.std.specs.Prelude.{ℕ, Option}
 use Rattle.std.proofs.Common.{inl, inr}
-use Rattle.fallible_contract.specs.Contract.{Contract, Lawful, seen_as}
+use Rattle.fallible_contract.specs.Contract.{Contract, seen_as}
 use Rattle.fallible_contract.specs.Ends.{Ends, from_front, from_back, ends_of, ends_seen_as, LawfulEnds}
 use Rattle.fallible_contract.specs.Passing.{Outcome, passing, leaving_out}
 use Rattle.fallible_contract.specs.Laws.Contract.{lawful_seen}

@@ -1,7 +1,7 @@
 //! The second end.
 ghost use Rattle.std.specs.Prelude.{◌≡◌, List, Option, Result};
 ghost use Rattle.fallible_contract.specs.Contract.{Stays};
-ghost use Rattle.fallible_contract.specs.Ends.{Ends, from_back, LawfulEnds};
+ghost use Rattle.fallible_contract.specs.Ends.{Ends, from_front, from_back, LawfulEnds};
 ghost use Rattle.fallible_contract.specs.Lists.{Lists, ActsWith, Converts, folded};
 ghost use Rattle.fallible_contract.specs.Folds.{CallableCarrying, Carried, CallableInFold, call_with, takes_with, Folded};
 
@@ -90,4 +90,24 @@ pub trait DoubleEndedFallibleIterator: FallibleIterator {
 
     // What the other functions know of draws from both ends: see `Goes`.
     ghost lawful_ends: { LawfulEnds Self.contract ends };
+
+    /// `next`, which also says that what is left may be drawn from again, from either end. `draw` says it of the front alone.
+    final fn draw_front(&mut self) -> Result<Option<Self::Item>, Self::Error>
+    where
+        requires { ends.can self.old }
+        ensures drawn { Self.contract.steps self.old result self.new }
+        ensures stays { Stays (from_front Self.contract ends) self.old self.new }
+    {
+        self.next()
+    }
+
+    /// `next_back`, which also says that what is left may be drawn from again, from either end.
+    final fn draw_back(&mut self) -> Result<Option<Self::Item>, Self::Error>
+    where
+        requires { ends.can self.old }
+        ensures drawn { ends.steps self.old result self.new }
+        ensures stays { Stays (from_back Self.contract ends) self.old self.new }
+    {
+        self.next_back()
+    }
 }

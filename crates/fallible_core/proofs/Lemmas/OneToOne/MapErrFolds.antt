@@ -1,13 +1,12 @@
 -- A fold of the source, and the call where it met a failure, are a fold of `MapErr`.
 use Rattle.std.specs.Prelude.{◌≡◌, List, [], ◌∷◌, ◌++◌, map, Result, Some, None, Ok, Err}
-use Rattle.std.specs.List.{FoldsTo}
 use Rattle.std.proofs.Common.{refl, sym, subst}
 use Rattle.fallible_contract.specs.declared.folds.Exit.{Exit}
 use Rattle.fallible_contract.specs.declared.folds.Exit.TheVariants.{Ended, Failed, Stopped}
 use Rattle.fallible_contract.specs.Traces.{Answered, Run, item}
 use Rattle.fallible_contract.specs.Contract.{Contract, Lawful}
 use Rattle.fallible_contract.specs.Closures.{IsCallable}
-use Rattle.fallible_contract.specs.Folds.{carrying_turn, CarryingExit, Carried}
+use Rattle.fallible_contract.specs.Folds.{CarryingExit, Carried}
 use Rattle.fallible_contract.specs.Laws.Closures.{reaches_here}
 use Rattle.fallible_core.specs.OneToOne.MapErr.{MapErrTrace, MapErrExit, TakesExit}
 use Rattle.fallible_core.proofs.Lemmas.OneToOne.MapErr.{map_err_item, map_err_end, map_err_failure}

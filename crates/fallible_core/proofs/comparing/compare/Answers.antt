@@ -1,7 +1,7 @@
 -- Each round goes before the comparison from there on.
-use Rattle.std.proofs.Common.{Some, None, Ok, Err, refl, sym, ap, ◌∙◌}
-use Rattle.std.specs.declared.cmp.Ordering.TheVariants.{Less, Equal, Greater}
-use Rattle.fallible_contract.proofs.Lemmas.Comparing.{compared_after, compared_left_failure, compared_round, right_failure, items_decide, either_positive, either_fewer, either_begins}
+use Rattle.std.proofs.Common.{Some, None, Ok, refl, sym, ap, ◌∙◌}
+use Rattle.std.specs.declared.cmp.Ordering.TheVariants.{Less, Greater}
+use Rattle.fallible_contract.proofs.Lemmas.Comparing.{compared_after, compared_left_failure, compared_round, right_failure, items_decide, either_fewer, either_begins}
 use Rattle.fallible_core.proofs.comparing.compare.Goals as goal
 
 pub loop-x-init : goal.loop-x-init

@@ -1,5 +1,5 @@
 -- The call on a reference to the item, and the side that takes it.
-use Rattle.std.proofs.Common.{rules, refl}
+use Rattle.std.proofs.Common.{refl}
 use Rattle.fallible_core.proofs.parting.part.Goals as goal
 
 pub returns-in-Err : goal.returns-in-Err

@@ -1,5 +1,5 @@
 -- What each push says is what the turn says of it.
-use Rattle.std.proofs.Common.{inl, inr}
+use Rattle.std.proofs.Common.{inr}
 use Rattle.fallible_core.proofs.parting.push_pair.Goals as goal
 
 -- src/parting.rt:39:1

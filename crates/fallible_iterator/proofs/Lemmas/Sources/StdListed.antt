@@ -1,5 +1,5 @@
 -- What a std iterator lists from both ends whose state shows the list of what is left.
-use Rattle.std.specs.Prelude.{◌≡◌, Option, Some, None, Result, Ok, Err, List, [], ◌∷◌, ◌++◌, map, reverse}
+use Rattle.std.specs.Prelude.{◌≡◌, Option, Some, None, Result, Ok, List, [], ◌∷◌, map, reverse}
 use Rattle.std.proofs.Common.{refl, sym, ap, subst, ◌∙◌}
 use Rattle.std.proofs.lemmas.List.{reverse-append, reverse-reverse}
 use Rattle.std.specs.Iterator.{YieldsFirst, YieldsLast}

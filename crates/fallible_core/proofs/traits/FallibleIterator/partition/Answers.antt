@@ -1,9 +1,8 @@
 -- The fold that carries the closure and both collections parts the items.
-use Rattle.std.specs.Prelude.{Result, Ok, Err}
+use Rattle.std.specs.Prelude.{Ok, Err}
 use Rattle.std.proofs.Common.{rules}
 use Rattle.fallible_contract.specs.Closures.{call_at, takes_at}
 use Rattle.fallible_contract.specs.declared.collecting.Fault.TheVariants.{Source}
-use Rattle.fallible_contract.specs.Folds.{carrying_turn}
 use Rattle.fallible_contract.proofs.Lemmas.Folds.{holds_map}
 use Rattle.fallible_contract.proofs.Lemmas.Parting.{part_callable, parted_ended, parted_failed, parted_stopped}
 use Rattle.fallible_contract.proofs.Lemmas.Lists.Parted.{parted_as, unparted_as}

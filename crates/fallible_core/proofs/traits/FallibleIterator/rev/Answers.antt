@@ -1,6 +1,5 @@
 -- What the source lists from behind.
 use Rattle.std.proofs.Common.{refl}
-use Rattle.fallible_contract.specs.Ends.{from_back}
 use Rattle.fallible_contract.proofs.Lemmas.Lists.Passing.{lists_seen}
 use Rattle.fallible_core.specs.Ends.Rev.{rev_parts}
 use Rattle.fallible_core.proofs.traits.FallibleIterator.rev.Goals as goal

@@ -1,8 +1,7 @@
 -- Each draw is a call of the std iterator, with its progress; and what is left is what is listed.
-use Rattle.std.proofs.Common.{Ok, Err, sym, subst}
+use Rattle.std.proofs.Common.{Ok, Err, subst}
 use Rattle.fallible_contract.specs.Listed.{Listed}
 use Rattle.fallible_contract.proofs.Lemmas.Listed.{listed_within}
-use Rattle.fallible_iterator.specs.Sources.Std.{element_by}
 use Rattle.fallible_iterator.specs.Sources.Convert.{convert_parts}
 use Rattle.fallible_iterator.proofs.Lemmas.Sources.Convert.{answered, none_converted, results_are}
 use Rattle.fallible_iterator.proofs.Lemmas.Sources.StdListed.{listed_rest}

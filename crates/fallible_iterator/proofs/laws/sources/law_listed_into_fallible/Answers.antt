@@ -1,8 +1,7 @@
 -- Each draw is a call of the std iterator, with its progress; and what is left is what is listed.
-use Rattle.std.proofs.Common.{Ok, Err, sym, subst}
+use Rattle.std.proofs.Common.{Ok, subst}
 use Rattle.fallible_contract.specs.Listed.{Listed}
 use Rattle.fallible_contract.proofs.Lemmas.Listed.{listed_within}
-use Rattle.fallible_iterator.specs.Sources.Std.{element_by}
 use Rattle.fallible_iterator.specs.Sources.IntoFallible.{into_fallible_parts, never}
 use Rattle.fallible_iterator.proofs.Lemmas.Sources.IntoFallible.{item_answered, none_given}
 use Rattle.fallible_iterator.proofs.Lemmas.Sources.Convert.{items_are}
