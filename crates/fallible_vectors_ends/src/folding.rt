@@ -30,7 +30,12 @@ fn try_rfold_stops_and_leaves_both_ends(rt: HostRuntime) -> Result<(), Fail> {
         },
     );
     assert_eq!(rt; stopped, Err(7));
-    expect_answers_at(&rt, &mut it, &[Back, Front, Front], &[Item(20), Item(10), End])
+    expect_answers_at(
+        &rt,
+        &mut it,
+        &[Back, Front, Front],
+        &[Item(20), Item(10), End],
+    )
 }
 
 #[test]
