@@ -1,11 +1,12 @@
 -- The folds of a type that hands them on to a value it holds: `view` is that value, and `put` has another one in its place.
-use Rattle.std.specs.Prelude.{◌≡◌, List, [], ◌∷◌, ◌++◌, map, Result}
+use Rattle.std.specs.Prelude.{◌≡◌, ℕ, Option, List, [], ◌∷◌, ◌++◌, map, Result}
 use Rattle.std.specs.List.{FoldsTo}
 use Rattle.std.proofs.Common.{refl, sym, subst}
 use Rattle.fallible_contract.specs.declared.folds.Exit.{Exit}
 use Rattle.fallible_contract.specs.Traces.{Answered, Yields, item}
 use Rattle.fallible_contract.specs.Contract.{Contract, Stays, seen_as}
-use Rattle.fallible_contract.specs.Folds.{HoldsAtEachTurn, Carried, Folded}
+use Rattle.fallible_contract.specs.Folds.{HoldsAtEachTurn, Carried, Counted, Folded, LastOf, Nth}
+use Rattle.fallible_contract.specs.Searching.{Searched}
 
 module _ {S P : Type 0} (view : S → P) (put : S → P → S) (viewed : (s : S) (p : P) → view (put s p) ≡ p) where
   -- answers of the held value and a last one are answers of the whole
@@ -33,6 +34,18 @@ module _ {S P : Type 0} (view : S → P) (put : S → P → S) (viewed : (s : S)
 
     pub carried_held : {C R : Type 0} {turns : C → A → Result C R → Type 0} {t : S} {c : C} {r : Exit C E R} → Carried m.steps turns (view s) c r (view t) → Carried (seen_as view m).steps turns s c r t
     carried_held {t = t} h = record { items = h.items; last = h.last; carried = h.carried; ran = run_up m.steps (map item h.items) h.last s t h.ran; went = h.went; exit = h.exit }
+
+    pub counted_held : {r : Result ℕ E} → Counted m.steps (view s) r → Counted (seen_as view m).steps s r
+    counted_held h = record { items = h.items; last = h.last; left = put s h.left; ran = run_up m.steps (map item h.items) h.last s (put s h.left) (subst (λ (p : P). FoldsTo m.steps (view s) (map item h.items ++ h.last ∷ []) p) (sym (viewed s h.left)) h.ran); exit = h.exit }
+
+    pub last_held : {r : Result (Option A) E} → LastOf m.steps (view s) r → LastOf (seen_as view m).steps s r
+    last_held h = record { items = h.items; last = h.last; left = put s h.left; ran = run_up m.steps (map item h.items) h.last s (put s h.left) (subst (λ (p : P). FoldsTo m.steps (view s) (map item h.items ++ h.last ∷ []) p) (sym (viewed s h.left)) h.ran); exit = h.exit }
+
+    pub nth_held : {n : ℕ} {r : Answered A E} {t : S} → Nth m.steps (view s) n r (view t) → Nth (seen_as view m).steps s n r t
+    nth_held {r = r} {t = t} h = record { skipped = h.skipped; ran = run_up m.steps (map item h.skipped) r s t h.ran; exit = h.exit }
+
+    pub searched_held : {F V R : Type 0} {call : F → A → Result V E → F → Type 0} {pick : ℕ → A → V → Option R} {none : R} {f g : F} {r : Result R E} {t : S} → Searched call pick m.steps none (view s) f r (view t) g → Searched call pick (seen_as view m).steps none s f r t g
+    searched_held {t = t} h = record { items = h.items; last = h.last; closure = h.closure; ran = run_up m.steps (map item h.items) h.last s t h.ran; went = h.went; exit = h.exit }
 
     pub stays_held : {t : S} → Stays m (view s) (view t) → Stays (seen_as view m) s t
     stays_held h = record { can = h.can; has_end = h.has_end; to_come = h.to_come; gives = h.gives; fails = h.fails; names = h.names }

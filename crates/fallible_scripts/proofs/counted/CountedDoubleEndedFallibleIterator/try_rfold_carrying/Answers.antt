@@ -1,0 +1,13 @@
+-- The call of the one that is held is that of the whole, since its steps are.
+use Rattle.std.proofs.Common.{refl}
+use Rattle.fallible_contract.specs.Ends.{from_back}
+use Rattle.fallible_contract.proofs.Lemmas.Overriding.{holds_held, carried_held}
+use Rattle.fallible_scripts.specs.Counted.{counted_parts}
+use Rattle.fallible_scripts.proofs.Lemmas.{put}
+use Rattle.fallible_scripts.proofs.counted.CountedDoubleEndedFallibleIterator.try_rfold_carrying.Goals as goal
+
+pub try_rfold_carrying-requires-clause-callable : goal.try_rfold_carrying-requires-clause-callable
+try_rfold_carrying-requires-clause-callable g c = holds_held counted_parts put (λ s it. refl) (from_back g.I.FallibleIterator.contract g.I.DoubleEndedFallibleIterator.ends) c.requires.callable
+
+pub returns-clause-carried : goal.returns-clause-carried
+returns-clause-carried g c = carried_held counted_parts put (λ s it. refl) (from_back g.I.FallibleIterator.contract g.I.DoubleEndedFallibleIterator.ends) c.try_rfold_carrying.ensures.carried

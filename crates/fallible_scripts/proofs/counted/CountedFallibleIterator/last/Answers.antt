@@ -1,0 +1,13 @@
+-- The call of the one that is held is that of the whole, since its steps are.
+use Rattle.std.proofs.Common.{refl}
+use Rattle.fallible_contract.proofs.Lemmas.Overriding.{last_held}
+use Rattle.fallible_contract.proofs.Lemmas.Lists.Drawn.{last_is}
+use Rattle.fallible_scripts.specs.Counted.{counted_parts}
+use Rattle.fallible_scripts.proofs.Lemmas.{put}
+use Rattle.fallible_scripts.proofs.counted.CountedFallibleIterator.last.Goals as goal
+
+pub returns-clause-last : goal.returns-clause-last
+returns-clause-last g c = last_held counted_parts put (λ s it. refl) g.I.FallibleIterator.contract c.last.ensures.last
+
+pub returns-clause-is : goal.returns-clause-is
+returns-clause-is g c l i = last_is l (returns-clause-last g c) i

@@ -1,0 +1,13 @@
+-- The call of the one that is held is that of the whole, since its steps are.
+use Rattle.std.proofs.Common.{refl}
+use Rattle.fallible_contract.proofs.Lemmas.Overriding.{nth_held}
+use Rattle.fallible_contract.proofs.Lemmas.Lists.Drawn.{nth_is}
+use Rattle.fallible_scripts.specs.Counted.{counted_parts}
+use Rattle.fallible_scripts.proofs.Lemmas.{put}
+use Rattle.fallible_scripts.proofs.counted.CountedFallibleIterator.nth.Goals as goal
+
+pub returns-clause-nth : goal.returns-clause-nth
+returns-clause-nth g c = nth_held counted_parts put (λ s it. refl) g.I.FallibleIterator.contract c.nth.ensures.nth
+
+pub returns-clause-is : goal.returns-clause-is
+returns-clause-is g c l i = nth_is l (returns-clause-nth g c) i

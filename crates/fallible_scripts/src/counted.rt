@@ -1,0 +1,168 @@
+//! An iterator that counts the calls which it gets.
+ghost use Rattle.std.specs.Prelude.{◌≡◌, Result, Option};
+ghost use Rattle.fallible_contract.specs.Contract.{seen_as};
+ghost use Rattle.fallible_contract.specs.Ends.{ends_seen_as};
+ghost use Rattle.fallible_contract.specs.Laws.Contract.{lawful_seen};
+ghost use Rattle.fallible_contract.specs.Laws.Ends.{lawful_ends_seen};
+ghost use Rattle.fallible_scripts.specs.Counted.{counted_parts};
+
+use fallible_contract::searching::Test;
+use fallible_iterator::folds::{Exit, Turn};
+use fallible_iterator::{DoubleEndedFallibleIterator, FallibleIterator};
+use std::cell::Cell;
+
+/// How often each call came from outside. A hidden form counts as the call whose contract it has.
+#[derive(Drop)]
+pub struct Log {
+    /// of `next`
+    pub nexts: Cell<u32>,
+    /// of `next_back`
+    pub next_backs: Cell<u32>,
+    /// of `try_fold`
+    pub folds: Cell<u32>,
+    /// of `try_rfold`
+    pub rfolds: Cell<u32>,
+    /// of `count`
+    pub counts: Cell<u32>,
+    /// of `last`
+    pub lasts: Cell<u32>,
+    /// of `nth`
+    pub nths: Cell<u32>,
+    /// of `find`
+    pub finds: Cell<u32>,
+}
+
+impl Log {
+    /// No call yet.
+    pub fn new() -> Log {
+        Log {
+            nexts: Cell::new(0),
+            next_backs: Cell::new(0),
+            folds: Cell::new(0),
+            rfolds: Cell::new(0),
+            counts: Cell::new(0),
+            lasts: Cell::new(0),
+            nths: Cell::new(0),
+            finds: Cell::new(0),
+        }
+    }
+
+    /// The numbers, in the order of the fields.
+    pub fn read(&self) -> [u32; 8] {
+        [
+            self.nexts.get(),
+            self.next_backs.get(),
+            self.folds.get(),
+            self.rfolds.get(),
+            self.counts.get(),
+            self.lasts.get(),
+            self.nths.get(),
+            self.finds.get(),
+        ]
+    }
+}
+
+/// A fallible iterator that adds one to its log for each call from outside, and answers as the one that it holds. Each of its calls is that one's call of the same name, which is not counted.
+#[derive(Drop)]
+pub struct Counted<'a, I> {
+    it: I,
+    log: &'a Log,
+}
+
+impl<'a, I> Counted<'a, I> {
+    /// Counts the calls of `it` in `log`.
+    pub fn new(it: I, log: &'a Log) -> Counted<'a, I>
+        ensures { counted_parts result ≡ it }
+    {
+        Counted { it, log }
+    }
+}
+
+// One more.
+fn add(number: &Cell<u32>) {
+    number.set(number.get().wrapping_add(1));
+}
+
+impl<'a, I: FallibleIterator> FallibleIterator for Counted<'a, I> {
+    type Item = I::Item;
+
+    type Error = I::Error;
+
+    ghost contract = { seen_as counted_parts I.contract };
+
+    fn next(&mut self) -> Result<Option<I::Item>, I::Error> {
+        add(&self.log.nexts);
+        self.it.next()
+    }
+
+    fn size_hint(&self) -> (usize, Option<usize>) {
+        self.it.size_hint()
+    }
+
+    fn try_fold_carrying<C, R, K: Turn<C, I::Item, R>>(
+        &mut self,
+        init: C,
+        k: &K,
+    ) -> Exit<C, I::Error, R> {
+        add(&self.log.folds);
+        self.it.try_fold_carrying(init, k)
+    }
+
+    fn count(self) -> Result<usize, I::Error>
+    where
+        I::Item: Drop,
+    {
+        add(&self.log.counts);
+        self.it.count()
+    }
+
+    fn last(self) -> Result<Option<I::Item>, I::Error>
+    where
+        I::Item: Drop,
+    {
+        add(&self.log.lasts);
+        self.it.last()
+    }
+
+    fn nth(&mut self, n: usize) -> Result<Option<I::Item>, I::Error>
+    where
+        I::Item: Drop,
+    {
+        add(&self.log.nths);
+        self.it.nth(n)
+    }
+
+    fn find_carrying<C, K: Test<C, I::Item, I::Error>>(
+        &mut self,
+        init: C,
+        k: &K,
+    ) -> (C, Result<Option<I::Item>, I::Error>)
+    where
+        I::Item: Drop,
+    {
+        add(&self.log.finds);
+        self.it.find_carrying(init, k)
+    }
+
+    ghost lawful = { lawful_seen counted_parts I.lawful };
+}
+
+impl<'a, I: DoubleEndedFallibleIterator> DoubleEndedFallibleIterator for Counted<'a, I> {
+    ghost ends = { ends_seen_as counted_parts I.ends };
+
+    fn next_back(&mut self) -> Result<Option<I::Item>, I::Error> {
+        add(&self.log.next_backs);
+        self.it.next_back()
+    }
+
+    fn try_rfold_carrying<C, R, K: Turn<C, I::Item, R>>(
+        &mut self,
+        init: C,
+        k: &K,
+    ) -> Exit<C, I::Error, R> {
+        add(&self.log.rfolds);
+        self.it.try_rfold_carrying(init, k)
+    }
+
+    ghost lawful_ends = { lawful_ends_seen counted_parts I.lawful_ends };
+}

@@ -1,0 +1,8 @@
+//! Scripts: an iterator that counts the calls which it gets, and what adapters call of it.
+#![tactic(auto)]
+
+#[cfg(test)]
+mod behind;
+pub mod counted;
+#[cfg(test)]
+mod front;
