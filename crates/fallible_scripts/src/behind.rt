@@ -28,8 +28,8 @@ fn map_stopped_from_behind_goes_on_at_both_ends(rt: HostRuntime) -> Result<(), F
         if seen == 2 { Err(x) } else { Ok(x) }
     });
     assert_eq!(rt; stopped, Err(32));
-    assert_eq!(rt; it.next_back(), Ok(Some(23)));
-    assert_eq!(rt; it.next(), Ok(Some(14)));
+    assert_eq!(rt; it.draw_back(), Ok(Some(23)));
+    assert_eq!(rt; it.draw_front(), Ok(Some(14)));
     assert_eq!(rt; log.read(), [1, 1, 0, 1, 0, 0, 0, 0]);
     Ok(())
 }
@@ -39,8 +39,8 @@ fn filter_draws_from_behind_by_folds(rt: HostRuntime) -> Result<(), Fail> {
     let log = Log::new();
     let it = listed::<u32, u32, 4>(rt.alloc(), [Ok(1), Ok(2), Ok(3), Ok(4)])?;
     let mut it = Counted::new(it, &log).filter(|x: &u32| Ok(*x % 2 == 0));
-    assert_eq!(rt; it.next_back(), Ok(Some(4)));
-    assert_eq!(rt; it.next_back(), Ok(Some(2)));
+    assert_eq!(rt; it.draw_back(), Ok(Some(4)));
+    assert_eq!(rt; it.draw_back(), Ok(Some(2)));
     assert_eq!(rt; log.read(), [0, 0, 0, 2, 0, 0, 0, 0]);
     Ok(())
 }

@@ -1,5 +1,6 @@
 -- Lemmas on the runs of such types: one file a type.
 pub mod Fuse
+pub mod FuseFolds
 pub mod Skip
 pub mod StepBy
 pub mod Take

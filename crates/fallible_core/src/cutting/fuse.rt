@@ -6,6 +6,7 @@ ghost use Rattle.fallible_contract.specs.Laws.Contract.{lawful_seen};
 ghost use Rattle.fallible_core.specs.Laws.Cutting.Fuse.{lawful_fuse};
 
 use crate::traits::FallibleIterator;
+use fallible_contract::folds::{Exit, Turn};
 
 /// The answers of the source up to its first end, and then ends. A failure ends nothing.
 #[derive(Clone, Debug, Drop)]
@@ -42,6 +43,25 @@ impl<I: FallibleIterator> FallibleIterator for Fuse<I> {
             (0, Some(0))
         } else {
             self.it.size_hint()
+        }
+    }
+
+    fn try_fold_carrying<C, R, K: Turn<C, I::Item, R>>(
+        &mut self,
+        init: C,
+        k: &K,
+    ) -> Exit<C, I::Error, R> {
+        let Fuse { it, ended } = self;
+        if *ended {
+            return Exit::Ended(init);
+        }
+        match it.try_fold_carrying(init, k) {
+            Exit::Ended(carried) => {
+                *ended = true;
+                Exit::Ended(carried)
+            }
+            Exit::Failed(carried, e) => Exit::Failed(carried, e),
+            Exit::Stopped(stop) => Exit::Stopped(stop),
         }
     }
 

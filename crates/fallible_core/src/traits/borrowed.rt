@@ -31,6 +31,13 @@ impl<I: FallibleIterator> FallibleIterator for &mut I {
         (**self).try_fold_carrying(init, k)
     }
 
+    fn nth(&mut self, n: usize) -> Result<Option<I::Item>, I::Error>
+    where
+        I::Item: Drop,
+    {
+        (**self).nth(n)
+    }
+
     ghost lawful = { lawful_borrowed I.lawful };
 }
 

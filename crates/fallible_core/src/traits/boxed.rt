@@ -32,6 +32,13 @@ impl<I: FallibleIterator> FallibleIterator for Box<I> {
         (**self).try_fold_carrying(init, k)
     }
 
+    fn nth(&mut self, n: usize) -> Result<Option<I::Item>, I::Error>
+    where
+        I::Item: Drop,
+    {
+        (**self).nth(n)
+    }
+
     ghost lawful = { lawful_seen (λ s. s.value) I.lawful };
 }
 

@@ -1,0 +1,10 @@
+-- The draws of the one behind it are its own.
+use Rattle.fallible_contract.proofs.Lemmas.Lists.Drawn.{nth_is}
+use Rattle.fallible_core.proofs.Lemmas.Borrowed.{nth_behind}
+use Rattle.fallible_core.proofs.traits.borrowed.RefMutFallibleIterator.nth.Goals as goal
+
+pub returns-clause-nth : goal.returns-clause-nth
+returns-clause-nth g c = nth_behind g.I.FallibleIterator.contract.steps c.nth.ensures.nth
+
+pub returns-clause-is : goal.returns-clause-is
+returns-clause-is g c l i = nth_is l (returns-clause-nth g c) i
