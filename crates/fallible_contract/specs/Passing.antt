@@ -1,5 +1,5 @@
 -- Adapters that let the answers of one source pass: of each item a closure is asked, and by its answer the item is kept as another, left out, or replaced by a failure or an end.
-use Rattle.std.specs.Prelude.{◌≡◌, ℕ, Option, Result, Some, Ok, Err, List, [], ◌∷◌, map, None, is_some, IsSomeAnd, Bool, ⊤, ◌⊎◌}
+use Rattle.std.specs.Prelude.{◌≡◌, ℕ, Option, Result, Some, Ok, Err, List, [], ◌∷◌, map, None, is_some, IsSomeAnd, Bool, true, false, ⊤, ◌⊎◌}
 use Rattle.std.specs.List.{filter_map}
 use Rattle.fallible_contract.specs.Traces.{LastKept, Answered, Run, item, failure, end}
 use Rattle.fallible_contract.specs.Contract.{Contract}
@@ -85,6 +85,16 @@ stopped_outcome (Err e) = failed e
 abbrev pub PassTurn : {F X R B E : Type 0} → (F → X → R → F → Type 0) → (X → R → Outcome B E) → F → X → Result F (F × Result B E) → Type 0
 PassTurn {R = R} call outcome f x (Ok g) = (v : R) × call f x v g × (outcome x v ≡ left_out)
 PassTurn {R = R} call outcome f x (Err p) = (v : R) × call f x v p.0 × (outcome x v ≡ stopped_outcome p.1)
+
+-- what becomes of the item by a test on a reference to it: it is accepted and kept as it is, left out, or replaced by a failure
+abbrev pub tested_outcome : {X E : Type 0} → X → Result Bool E → Outcome X E
+tested_outcome x (Ok true) = kept x
+tested_outcome x (Ok false) = left_out
+tested_outcome x (Err e) = failed e
+
+-- One call of the closure on an item, as the test of a search that carries the closure.
+abbrev pub PassTest : {F X R E : Type 0} → (F → X → R → F → Type 0) → (X → R → Outcome X E) → F → X → Result Bool E → F → Type 0
+PassTest {R = R} call outcome f x v g = (w : R) × call f x w g × (outcome x w ≡ tested_outcome x v)
 
 -- ---- one draw of such an adapter that leaves nothing out, as what it makes of one answer of its source
 

@@ -59,7 +59,7 @@ holds_into {steps = steps} {held = held} into holds {p = p} h = record { at = λ
 
 -- ---- an adapter's fold through its source's
 
-both_on : {C F Z : Type 0} {d k : C} {h g : F} → ◌≡◌ {A = Result (C × F) Z} (Ok (d, h)) (Ok (k, g)) → (d ≡ k) × (h ≡ g)
+pub both_on : {C F Z : Type 0} {d k : C} {h g : F} → ◌≡◌ {A = Result (C × F) Z} (Ok (d, h)) (Ok (k, g)) → (d ≡ k) × (h ≡ g)
 both_on {C = C} {F = F} {d = d} {k = k} {h = h} {g = g} e = let p : ◌≡◌ {A = C × F} (d, h) (k, g) = cc in (ap (λ q. q.0) p, ap (λ q. q.1) p)
 
 module _ {S C F X V B E R : Type 0} (steps : S → Answered X E → S → Type 0) (call : F → X → V → F → Type 0) (outcome : X → V → Outcome B E) (turns : C → B → Result C R → Type 0) where

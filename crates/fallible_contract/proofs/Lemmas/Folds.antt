@@ -32,6 +32,17 @@ module _ {S A E C R : Type 0} {steps : S → Answered A E → S → Type 0} {tur
   pub carried_stop : {s t : S} {c : C} {stop : R} (x : A) → steps s (item x) t → turns c x (Err stop) → Carried steps turns s c (Stopped stop) t
   carried_stop {s} {t} {c} {stop} x step turn = record { items = []; last = item x; carried = c; ran = (t, step, refl); went = refl; exit = (stop, turn, refl) }
 
+-- the same after any number of items
+module _ {S A E C : Type 0} {steps : S → Answered A E → S → Type 0} {goes_on : C → A → C → Type 0} {P : C → A → Type 0} where
+  pub holds_after_items : (items : List A) (s t : S) (c d : C) → Yields steps s items t → FoldsTo goes_on c items d → HoldsAtEachTurn steps goes_on P s c → HoldsAtEachTurn steps goes_on P t d
+  holds_after_items [] s t c d ran went h = subst (λ (u : S). HoldsAtEachTurn steps goes_on P u d) ran (subst (λ (z : C). HoldsAtEachTurn steps goes_on P s z) went h)
+  holds_after_items (x ∷ items) s t c d ran went h = holds_after_items items ran.0 t went.0 d ran.2 went.2 (holds_after h ran.1 went.1)
+
+module _ {S A E C R : Type 0} {steps : S → Answered A E → S → Type 0} {turns : C → A → Result C R → Type 0} {r : Exit C E R} {u : S} where
+  pub carried_after_items : (items : List A) (s t : S) (c d : C) → Yields steps s items t → FoldsTo (carrying_turn turns) c items d → Carried steps turns t d r u → Carried steps turns s c r u
+  carried_after_items [] s t c d ran went h = subst (λ (v : S). Carried steps turns v c r u) (sym ran) (subst (λ (z : C). Carried steps turns t z r u) (sym went) h)
+  carried_after_items (x ∷ items) s t c d ran went h = carried_after x ran.1 went.1 (carried_after_items items ran.0 t went.0 d ran.2 went.2 h)
+
 -- turns that go on are those of another kind of turn
 pub turns_map : {C A : Type 0} {R Q : C → A → C → Type 0} → ((c : C) (x : A) (d : C) → R c x d → Q c x d) → (items : List A) (c d : C) → FoldsTo R c items d → FoldsTo Q c items d
 turns_map h [] c d e = e

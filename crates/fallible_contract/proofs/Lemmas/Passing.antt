@@ -1,5 +1,5 @@
 -- A trace that lets answers pass, answer by answer.
-use Rattle.std.specs.Prelude.{◌≡◌, List, [], ◌∷◌, ◌++◌, map, Option, Result, Some, None, Ok, Err}
+use Rattle.std.specs.Prelude.{◌≡◌, ℕ, length, true, false, List, [], ◌∷◌, ◌++◌, map, Option, Result, Some, None, Ok, Err}
 use Rattle.std.specs.List.{FoldsTo, filter_map}
 use Rattle.std.proofs.Common.{refl, sym, ap, subst}
 use Rattle.fallible_contract.specs.declared.folds.Exit.{Exit}
@@ -10,8 +10,9 @@ use Rattle.fallible_contract.proofs.Lemmas.Definitions.{FirstOf, IsByAnswers}
 use Rattle.fallible_contract.proofs.Lemmas.Contract.{given_after}
 use Rattle.fallible_contract.specs.Laws.Closures.{reaches_here, reaches_weaken, reaches_from}
 use Rattle.fallible_contract.specs.Folds.{HoldsAtEachTurn, CarryingExit, Carried, stopped_answer, unpacked}
-use Rattle.fallible_contract.proofs.Lemmas.Folds.{turns_map}
-use Rattle.fallible_contract.specs.Passing.{PassTurn, PassAnswer, TakesDrawn, Outcome, kept, left_out, failed, an_end, outcome_answer, PassTrace, call_of}
+use Rattle.fallible_contract.proofs.Lemmas.Folds.{turns_map, holds_map}
+use Rattle.fallible_contract.specs.Passing.{PassTurn, PassTest, PassAnswer, TakesDrawn, Outcome, kept, left_out, failed, an_end, outcome_answer, PassTrace, call_of}
+use Rattle.fallible_contract.specs.Searching.{Passed, Decided, SearchExit, CallableInSearch, Searched, find_pick}
 use Rattle.fallible_contract.specs.Laws.Passing.{Passes, done, ends, fails, keeps, refuses, closes, leaves_out, to_passes, from_passes}
 
 -- ---- a whole trace is its answers, one draw after another
@@ -86,6 +87,33 @@ module _ {S F X R B E : Type 0} (m : Contract S X E) (l : Lawful m) (call : F �
 -- a stored closure may be called at each turn of such a fold
 pub callable_turns : {S F X R B E : Type 0} {m : Contract S X E} {call : F → X → R → F → Type 0} {pre : F → X → Type 0} (outcome : X → R → Outcome B E) {s : S} {f : F} → Lawful m → m.can s → IsCallable call pre (m.gives s) f → HoldsAtEachTurn m.steps (λ g x h. PassTurn {B = B} {E = E} call outcome g x (Ok h)) pre s f
 callable_turns {m = m} {call = call} outcome {s = s} {f = f} l c callable = record { at = λ items t u g x ran went step. callable.at g x (turns_reach m l call outcome items s t f g c ran went) (given_after l s items t u x c ran step) }
+
+-- ---- one draw as a search
+
+module _ {S F X R E : Type 0} (steps : S → Answered X E → S → Type 0) (call : F → X → R → F → Type 0) (outcome : X → R → Outcome X E) where
+  -- after a test on which the search goes on, the item is left out
+  left_by_test : (f : F) (x : X) (g : F) → Passed (PassTest call outcome) find_pick f x g → PassTurn {B = X} {E = E} call outcome f x (Ok g)
+  left_by_test f x g (true, w, goes_on) = absurd (let none = goes_on 0 in cc)
+  left_by_test f x g (false, w, goes_on) = w
+
+  -- the test that decides
+  decided_by_test : (n : ℕ) (x : X) (r : Result (Option X) E) (u t : S) (h g : F) → steps u (item x) t → Decided (PassTest call outcome) find_pick n h x r g → Passes steps call outcome u h (r ∷ []) t g
+  decided_by_test n x (Ok z) u t h g step (true, w, picked) = let same : Some x ≡ z = cc in subst (λ (o : Option X). Passes steps call outcome u h (Ok o ∷ []) t g) same (keeps x w.0 x step w.1 w.2 done)
+  decided_by_test n x (Ok z) u t h g step (false, w, picked) = absurd cc
+  decided_by_test n x (Err e) u t h g step w = refuses x w.0 e step w.1 w.2 done
+
+  final_test : (last : Answered X E) (n : ℕ) (r : Answered X E) (u t : S) (h g : F) → SearchExit (PassTest call outcome) find_pick None n h last r g → steps u last t → Passes steps call outcome u h (r ∷ []) t g
+  final_test (Ok None) n r u t h g e step = subst (λ (q : Answered X E). Passes steps call outcome u h (q ∷ []) t g) (sym e.0) (subst (λ (k : F). Passes steps call outcome u h (Ok None ∷ []) t k) (sym e.1) (ends step done))
+  final_test (Err d) n r u t h g e step = subst (λ (q : Answered X E). Passes steps call outcome u h (q ∷ []) t g) (sym e.0) (subst (λ (k : F). Passes steps call outcome u h (Err d ∷ []) t k) (sym e.1) (fails d step done))
+  final_test (Ok (Some x)) n r u t h g e step = decided_by_test n x r u t h g step e
+
+-- a search by such a test is the trace of one answer
+pub passes_search : {S F X R E : Type 0} {steps : S → Answered X E → S → Type 0} {call : F → X → R → F → Type 0} {outcome : X → R → Outcome X E} {s t : S} {f g : F} {r : Answered X E} → Searched (PassTest call outcome) find_pick steps None s f r t g → PassTrace steps call outcome (s, f) (r ∷ []) (t, g)
+passes_search {steps = steps} {call = call} {outcome = outcome} {s = s} {t = t} {f = f} {g = g} {r = r} w = from_passes (after_left_out steps call outcome w.last r t w.closure g (λ u step. final_test steps call outcome w.last (length w.items) r u t w.closure g w.exit step) w.items s f w.ran (turns_map (left_by_test steps call outcome) w.items f w.closure w.went))
+
+-- a stored closure may be called at each test of such a search
+pub callable_search : {S F X R E : Type 0} {m : Contract S X E} {call : F → X → R → F → Type 0} {pre : F → X → Type 0} (outcome : X → R → Outcome X E) {s : S} {f : F} → Lawful m → m.can s → IsCallable call pre (m.gives s) f → CallableInSearch (PassTest call outcome) find_pick m.steps pre s f
+callable_search {m = m} {call = call} outcome l c callable = holds_map (left_by_test m.steps call outcome) (λ g x p. p) (callable_turns outcome l c callable)
 
 -- ---- what holds the closure
 

@@ -2,6 +2,8 @@
 pub mod Fuse
 pub mod FuseFolds
 pub mod Skip
+pub mod SkipFolds
 pub mod StepBy
 pub mod Take
 pub mod TakeWhile
+pub mod TakeWhileFolds

@@ -2,3 +2,4 @@
 pub mod Filter
 pub mod FilterMap
 pub mod SkipWhile
+pub mod SkipWhileFolds

@@ -1,2 +1,3 @@
 -- Lemmas on the runs of such types: one file a type.
 pub mod Peekable
+pub mod PeekableFolds

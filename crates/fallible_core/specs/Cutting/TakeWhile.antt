@@ -3,6 +3,8 @@ use Rattle.std.specs.Prelude.{List, [], ◌∷◌, map, Option, Result, Ok, Err,
 use Rattle.std.specs.List.{filter_map}
 use Rattle.std.specs.Fn.{Mut}
 use Rattle.std.specs.Borrow.{Bor}
+use Rattle.fallible_contract.specs.declared.folds.Exit.{Exit}
+use Rattle.fallible_contract.specs.declared.folds.Exit.TheVariants.{Ended, Failed, Stopped}
 use Rattle.fallible_contract.specs.Traces.{Answered, Run, item, failure, end}
 use Rattle.fallible_contract.specs.Contract.{Contract}
 use Rattle.fallible_contract.specs.Closures.{Calls, call_in, IsCallableIn, call_at, takes_at}
@@ -51,3 +53,11 @@ take_while_contract m g = closing (passing m (call_in (call_at g)) (IsCallableIn
 -- the source and the slot of the predicate, and whether an item was refused
 abbrev pub take_while_parts : {I P : Type 0} → TakeWhile I P → (I × Option P) × Bool
 take_while_parts s = ((s.it, s.predicate), s.refused)
+
+-- whether an item was refused, by the exit of the source's fold that the adapter's goes through
+abbrev pub met_refusal : {C F E R : Type 0} → Exit (C × F) E (F × Exit C E R) → Bool
+met_refusal (Ended p) = false
+met_refusal (Failed p e) = false
+met_refusal (Stopped (f, Ended c)) = true
+met_refusal (Stopped (f, Failed c e)) = false
+met_refusal (Stopped (f, Stopped r)) = false

@@ -2,8 +2,11 @@
 use Rattle.std.specs.Prelude.{◌≡◌, ◌≢◌, ℕ, ◌+◌, ◌*◌, IsSomeAnd, ◌≤◌, List, [], ◌∷◌, ◌++◌, map, Option, Result, Some, None, Ok, Err, IfSome, ⊤, ◌⊎◌}
 use Rattle.std.specs.List.{flat_map}
 use Rattle.std.specs.Iterator.{endless}
+use Rattle.fallible_contract.specs.declared.folds.Exit.{Exit}
+use Rattle.fallible_contract.specs.declared.folds.Exit.TheVariants.{Ended}
 use Rattle.fallible_contract.specs.Traces.{Answered, Run, item, failure, end, NoEnd}
 use Rattle.fallible_contract.specs.Contract.{Contract}
+use Rattle.fallible_contract.specs.Folds.{CallableCarrying, Carried}
 use Rattle.fallible_core.specs.declared.joining.flatten.Flatten.{Flatten}
 
 -- What one answer of the outer source puts into the trace: an item became an inner iterator, with the answers that came from it; or a failure or an end, which is the answer itself.
@@ -135,6 +138,18 @@ abbrev pub BeginTurn : {X C B E : Type 0} → (X → C → Type 0) → (C → An
 BeginTurn {C = C} into inner hand x (Ok hand') = (c : C) × (d : C) × into x c × inner c end d × (hand' ≡ hand)
 BeginTurn {C = C} into inner hand x (Err (hand', Ok y)) = (c : C) × (d : C) × into x c × inner c (item y) d × (hand' ≡ Some d)
 BeginTurn {C = C} into inner hand x (Err (hand', Err e)) = (c : C) × (d : C) × into x c × inner c (failure e) d × (hand' ≡ Some d)
+
+-- ---- a fold, as one of the outer source
+
+module _ {X C B E V R : Type 0} (into : X → C → Type 0) (inner : Contract C B E) (turns : V → B → Result V R → Type 0) where
+  -- One turn: the item became an inner iterator, and this was folded by the caller's turns. The fold goes on where that one ended, and else stops with the inner iterator and the exit.
+  abbrev pub JoiningTurn : V → X → Result V (C × Exit V E R) → Type 0
+  JoiningTurn v x (Ok w) = (c : C) × (d : C) × into x c × Carried inner.steps turns c v (Ended w) d
+  JoiningTurn v x (Err (d, exit)) = (c : C) × into x c × Carried inner.steps turns c v exit d × ((w : V) → exit ≢ Ended w)
+
+  -- It may be taken where what the item may become may be folded so.
+  abbrev pub JoiningTakes : (V → B → Type 0) → V → X → Type 0
+  JoiningTakes can v x = (c : C) → into x c → inner.can c × inner.has_end c × CallableCarrying inner.steps turns can c v
 
 -- the outer source, and the inner iterator in hand
 abbrev pub flatten_parts : {I J : Type 0} → Flatten I J → I × Option J

@@ -2,6 +2,7 @@
 use Rattle.std.specs.Prelude.{◌≡◌, ℕ, ◌+◌, ◌-◌, ◌^◌, ◌≤◌, ◌<◌, List, [], ◌∷◌, Some, None, Ok, Err}
 use Rattle.fallible_contract.specs.Traces.{Answered, Run, item, failure, end, items_in}
 use Rattle.fallible_contract.specs.Contract.{Contract}
+use Rattle.fallible_contract.specs.Passing.{Outcome, kept}
 use Rattle.fallible_core.specs.declared.one_to_one.enumerate.Enumerate.{Enumerate}
 
 -- the trace with each item beside its number, which is n and the number of items before it; failures and ends have none
@@ -42,3 +43,17 @@ enumerate_contract m = record {
 -- the source, and the number of the next item
 abbrev pub enumerate_parts : {I : Type 0} → Enumerate I → I × ℕ
 enumerate_parts s = (s.it, s.count)
+
+-- ---- its fold, through the source's own
+
+-- an item that comes at n has the number n, and the next one has one more
+abbrev pub number_call : {A : Type 0} → ℕ → A → ℕ → ℕ → Type 0
+number_call n x v k = (v ≡ n) × (k ≡ n + 1)
+
+-- each item is kept, beside its number
+abbrev pub number_outcome : {A E : Type 0} → A → ℕ → Outcome (ℕ × A) E
+number_outcome x v = kept (v, x)
+
+-- an item may be counted where the next number fits a `usize`
+abbrev pub number_takes : {A : Type 0} → ℕ → A → Type 0
+number_takes n x = n < 2 ^ 64 - 1

@@ -1,5 +1,5 @@
 -- `MapErr`, whose closure is called on failures.
-use Rattle.std.specs.Prelude.{◌≡◌, List, [], ◌∷◌, map, Option, Some, None, Ok, Err, ⊤}
+use Rattle.std.specs.Prelude.{◌≡◌, List, [], ◌∷◌, map, Option, Result, Some, None, Ok, Err, ⊤}
 use Rattle.std.specs.List.{filter_map}
 use Rattle.std.specs.Fn.{Mut}
 use Rattle.fallible_contract.specs.declared.folds.Exit.{Exit}
@@ -54,16 +54,14 @@ map_err_contract m g = record {
   names = λ p. m.names p.0;
 }
 
--- What `MapErr` makes of one answer of its source: a failure becomes the closure's answer on it; an item and an end pass, without a call.
-abbrev pub MapErrAnswer : {F X D E : Type 0} → (F → D → E → F → Type 0) → F → Answered X D → Answered X E → F → Type 0
-MapErrAnswer call f (Ok (Some x)) r g = (r ≡ item x) × (g ≡ f)
-MapErrAnswer call f (Ok None) r g = (r ≡ end) × (g ≡ f)
-MapErrAnswer {E = E} call f (Err d) r g = (e : E) × call f d e g × (r ≡ failure e)
+-- What `MapErr` makes of one answer of its source, or of what a call of its source answers: a failure becomes the closure's answer on it; all else passes, without a call.
+abbrev pub MapErrAnswer : {F C D E : Type 0} → (F → D → E → F → Type 0) → F → Result C D → Result C E → F → Type 0
+MapErrAnswer call f (Ok v) r g = (r ≡ Ok v) × (g ≡ f)
+MapErrAnswer {E = E} call f (Err d) r g = (e : E) × call f d e g × (r ≡ Err e)
 
--- where the answer is a failure, the closure may be called on it
-abbrev pub TakesFailure : {F X D : Type 0} → (F → D → Type 0) → F → Answered X D → Type 0
-TakesFailure pre f (Ok (Some x)) = ⊤
-TakesFailure pre f (Ok None) = ⊤
+-- where that is a failure, the closure may be called on it
+abbrev pub TakesFailure : {F C D : Type 0} → (F → D → Type 0) → F → Result C D → Type 0
+TakesFailure pre f (Ok v) = ⊤
 TakesFailure pre f (Err d) = pre f d
 
 -- What `MapErr` makes of the exit of its source's fold: the closure is called on the failure that the fold met, and on nothing that a turn stopped with.

@@ -65,5 +65,45 @@ impl<I: FallibleIterator> FallibleIterator for Fuse<I> {
         }
     }
 
+    /// The source's count, and 0 once its end was met.
+    fn count(self) -> Result<usize, I::Error>
+    where
+        I::Item: Drop,
+    {
+        if self.ended {
+            return Ok(0);
+        }
+        self.it.count()
+    }
+
+    fn last(self) -> Result<Option<I::Item>, I::Error>
+    where
+        I::Item: Drop,
+    {
+        if self.ended {
+            return Ok(None);
+        }
+        self.it.last()
+    }
+
+    /// The source's `nth`, whose none is its end and closes it; a failure doesn't.
+    fn nth(&mut self, n: usize) -> Result<Option<I::Item>, I::Error>
+    where
+        I::Item: Drop,
+    {
+        let Fuse { it, ended } = self;
+        if *ended {
+            return Ok(None);
+        }
+        match it.nth(n) {
+            Ok(Some(x)) => Ok(Some(x)),
+            Ok(None) => {
+                *ended = true;
+                Ok(None)
+            }
+            Err(e) => Err(e),
+        }
+    }
+
     ghost lawful = { lawful_seen fuse_parts (lawful_fuse I.lawful) };
 }

@@ -7,6 +7,7 @@ ghost use Rattle.fallible_core.specs.Laws.Cutting.Skip.{lawful_skip};
 
 use crate::cutting::counting::next_past;
 use crate::traits::FallibleIterator;
+use fallible_contract::folds::{Exit, Turn};
 use fallible_contract::hints::less;
 
 /// The source's answers without its first n items. Failures and ends stay, and don't count.
@@ -34,6 +35,22 @@ where
 
     fn size_hint(&self) -> (usize, Option<usize>) {
         less(self.it.size_hint(), self.to_skip)
+    }
+
+    // The items that are still to be left out and one answer more, as `next` draws them, and after an item the source's fold.
+    fn try_fold_carrying<C, R, K: Turn<C, I::Item, R>>(
+        &mut self,
+        init: C,
+        k: &K,
+    ) -> Exit<C, I::Error, R> {
+        match self.next() {
+            Ok(Some(x)) => match k.turn(init, x) {
+                Ok(carried) => self.it.try_fold_carrying(carried, k),
+                Err(stop) => Exit::Stopped(stop),
+            },
+            Ok(None) => Exit::Ended(init),
+            Err(e) => Exit::Failed(init, e),
+        }
     }
 
     ghost lawful = { lawful_seen skip_parts (lawful_skip I.lawful) };

@@ -2,13 +2,13 @@
 ghost use Rattle.std.specs.Prelude.{Some, Result, Option};
 ghost use Rattle.fallible_contract.specs.Closures.{call_at, takes_at};
 ghost use Rattle.fallible_contract.specs.Contract.{seen_as};
-ghost use Rattle.fallible_contract.specs.Passing.{PassTurn};
+ghost use Rattle.fallible_contract.specs.Passing.{PassTest};
 ghost use Rattle.fallible_core.specs.Filtering.SkipWhile.{skip_call, skip_takes, skip_while_outcome, skip_while_contract, skip_while_parts};
 ghost use Rattle.fallible_contract.specs.Laws.Contract.{lawful_seen};
 ghost use Rattle.fallible_core.specs.Laws.Filtering.SkipWhile.{lawful_skip_while};
 
 use crate::traits::FallibleIterator;
-use fallible_contract::folds::unpack;
+use fallible_contract::folds::{Exit, Turn};
 
 /// The items from the first one on to which the predicate answers false. It is asked up to and with that item and never again; an item on which it fails is lost, and its failure is the answer.
 #[derive(Clone, Debug, Drop)]
@@ -37,14 +37,11 @@ where
             Some(predicate) => predicate,
             None => unreachable!(),
         };
-        let ask = |state: (bool, P), x: I::Item| -> Result<
-            (bool, P),
-            ((bool, P), Result<I::Item, I::Error>),
-        >
-            requires { skip_takes (takes_at P.FnMut) state x }
-            ensures { PassTurn (skip_call (call_at P.FnMut)) skip_while_outcome state x result }
-        { turn(state, x) };
-        let (state, answer) = unpack(self.it.try_fold_carrying((self.found, predicate), &ask));
+        let ask = |state: (bool, P), x: &I::Item| -> ((bool, P), Result<bool, I::Error>)
+            requires { skip_takes (takes_at P.FnMut) state x.now }
+            ensures { PassTest (skip_call (call_at P.FnMut)) skip_while_outcome state x.now result.1 result.0 }
+        { test(state, x) };
+        let (state, answer) = self.it.find_carrying((self.found, predicate), &ask);
         let (found, predicate) = state;
         self.found = found;
         self.predicate = Some(predicate);
@@ -59,29 +56,40 @@ where
         }
     }
 
+    // The items up to the first one that is kept, as `next` draws them, and after it the source's fold.
+    fn try_fold_carrying<C, R, K: Turn<C, I::Item, R>>(
+        &mut self,
+        init: C,
+        k: &K,
+    ) -> Exit<C, I::Error, R> {
+        match self.next() {
+            Ok(Some(x)) => match k.turn(init, x) {
+                Ok(carried) => self.it.try_fold_carrying(carried, k),
+                Err(stop) => Exit::Stopped(stop),
+            },
+            Ok(None) => Exit::Ended(init),
+            Err(e) => Exit::Failed(init, e),
+        }
+    }
+
     ghost lawful = { lawful_seen skip_while_parts (lawful_skip_while P.FnMut I.lawful) };
 }
 
-// One turn of a fold, with the flag beside the predicate: stops at an item that is kept, or on which the predicate fails, and goes on after one to which it answers true.
-fn turn<X: Drop, E, P: FnMut(&X) -> Result<bool, E>>(
+// One test, with the flag beside the predicate: accepts an item once the predicate answered false, or where it does so now.
+fn test<X, E, P: FnMut(&X) -> Result<bool, E>>(
     state: (bool, P),
-    x: X,
-) -> Result<(bool, P), ((bool, P), Result<X, E>)>
-    requires { skip_takes (takes_at P.FnMut) state x }
-    ensures { PassTurn (skip_call (call_at P.FnMut)) skip_while_outcome state x result }
+    x: &X,
+) -> ((bool, P), Result<bool, E>)
+    requires { skip_takes (takes_at P.FnMut) state x.now }
+    ensures { PassTest (skip_call (call_at P.FnMut)) skip_while_outcome state x.now result.1 result.0 }
 {
     let (found, mut predicate) = state;
     if found {
-        return Err(((true, predicate), Ok(x)));
+        return ((true, predicate), Ok(true));
     }
-    match predicate(&x) {
-        Ok(skip) => {
-            if skip {
-                Ok((false, predicate))
-            } else {
-                Err(((true, predicate), Ok(x)))
-            }
-        }
-        Err(e) => Err(((false, predicate), Err(e))),
+    match predicate(x) {
+        Ok(true) => ((false, predicate), Ok(false)),
+        Ok(false) => ((true, predicate), Ok(true)),
+        Err(e) => ((false, predicate), Err(e)),
     }
 }

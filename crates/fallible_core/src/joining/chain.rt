@@ -11,6 +11,7 @@ use crate::traits::FallibleIterator;
 use crate::traits::double_ended::DoubleEndedFallibleIterator;
 use fallible_contract::folds::{Exit, Turn};
 use fallible_contract::hints::sum;
+use fallible_contract::searching::Test;
 
 // Which sides of a `Chain` are still drawn: `BackAlone` once a draw from the front met the front's end, and `FrontAlone` once a draw from behind met the back's.
 #[derive(Clone, Debug, Drop)]
@@ -81,6 +82,84 @@ impl<T: FallibleIterator, U: FallibleIterator<Item = T::Item, Error = T::Error>>
             },
             StillDrawn::FrontAlone => front.try_fold_carrying(init, k),
             StillDrawn::BackAlone => back.try_fold_carrying(init, k),
+        }
+    }
+
+    // The front's count, and then the back's, added up.
+    fn count(self) -> Result<usize, T::Error>
+    where
+        T::Item: Drop,
+    {
+        let Chain {
+            front,
+            back,
+            still_drawn,
+        } = self;
+        match still_drawn {
+            StillDrawn::Both => match front.count() {
+                Ok(before) => match back.count() {
+                    Ok(after) => Ok(before + after),
+                    Err(e) => Err(e),
+                },
+                Err(e) => Err(e),
+            },
+            StillDrawn::FrontAlone => front.count(),
+            StillDrawn::BackAlone => back.count(),
+        }
+    }
+
+    // The back's last, or where it has none the front's. Where the front fails, the back isn't drawn.
+    fn last(self) -> Result<Option<T::Item>, T::Error>
+    where
+        T::Item: Drop,
+    {
+        let Chain {
+            front,
+            back,
+            still_drawn,
+        } = self;
+        match still_drawn {
+            StillDrawn::Both => match front.last() {
+                Ok(before) => match back.last() {
+                    Ok(Some(x)) => Ok(Some(x)),
+                    Ok(None) => Ok(before),
+                    Err(e) => Err(e),
+                },
+                Err(e) => Err(e),
+            },
+            StillDrawn::FrontAlone => front.last(),
+            StillDrawn::BackAlone => back.last(),
+        }
+    }
+
+    // The front's search, and where it found none, in the same call, the back's; where one side alone is drawn, that side's.
+    fn find_carrying<C, K: Test<C, T::Item, T::Error>>(
+        &mut self,
+        init: C,
+        k: &K,
+    ) -> (C, Result<Option<T::Item>, T::Error>)
+    where
+        T::Item: Drop,
+    {
+        let Chain {
+            front,
+            back,
+            still_drawn,
+        } = self;
+        match still_drawn {
+            StillDrawn::Both => {
+                let (carried, answer) = front.find_carrying(init, k);
+                match answer {
+                    Ok(Some(x)) => (carried, Ok(Some(x))),
+                    Ok(None) => {
+                        *still_drawn = StillDrawn::BackAlone;
+                        back.find_carrying(carried, k)
+                    }
+                    Err(e) => (carried, Err(e)),
+                }
+            }
+            StillDrawn::FrontAlone => front.find_carrying(init, k),
+            StillDrawn::BackAlone => back.find_carrying(init, k),
         }
     }
 

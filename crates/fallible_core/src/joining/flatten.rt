@@ -1,14 +1,15 @@
 // The adapters that join the answers of inner iterators.
 ghost use Rattle.std.specs.Prelude.{◌≡◌, ℕ, [], ◌∷◌, None, Ok, IfSome, List, Option, Result};
 ghost use Rattle.fallible_contract.specs.Contract.{seen_as};
-ghost use Rattle.fallible_core.specs.Joining.Flatten.{EachInner, FlattenTrace, flatten_contract, BeginTurn, flatten_parts};
+ghost use Rattle.fallible_contract.specs.Folds.{CallableCarrying, Carried};
+ghost use Rattle.fallible_core.specs.Joining.Flatten.{EachInner, FlattenTrace, flatten_contract, BeginTurn, JoiningTakes, JoiningTurn, flatten_parts};
 ghost use Rattle.fallible_contract.specs.Laws.Contract.{lawful_seen};
 ghost use Rattle.fallible_core.specs.Laws.Joining.Flatten.{lawful_flatten};
 
 use crate::one_to_one::Map;
 use crate::traits::FallibleIterator;
 use crate::traits::conversion::IntoFallibleIterator;
-use fallible_contract::folds::unpack;
+use fallible_contract::folds::{Exit, Turn, unpack};
 
 /// The answers of the inner iterators `J` that the items become, one inner iterator after the other. The one in hand answers until its end, at which it is dropped; then the next item is drawn. A failure of the inner iterator keeps it. A failure or an end of the outer source is the answer, and the next call draws from it again.
 #[derive(Clone, Debug, Drop)]
@@ -32,6 +33,15 @@ impl<U: IntoFallibleIterator, I: FallibleIterator<Item = U, Error = U::Error>> F
 
     fn size_hint(&self) -> (usize, Option<usize>) {
         (0, None)
+    }
+
+    // The fold of the inner iterator in hand, and at its end, in the same call, the outer source's.
+    fn try_fold_carrying<C, R, K: Turn<C, U::Item, R>>(
+        &mut self,
+        init: C,
+        k: &K,
+    ) -> Exit<C, U::Error, R> {
+        fold_joined(&mut self.it, &mut self.in_hand, init, k)
     }
 
     ghost lawful = { lawful_seen flatten_parts (lawful_flatten _ I.lawful U.into_gives _ U.IntoFallibleIter.lawful) };
@@ -101,5 +111,81 @@ where
         Ok(Some(y)) => Err((Some(inner), Ok(y))),
         Ok(None) => Ok(in_hand),
         Err(e) => Err((Some(inner), Err(e))),
+    }
+}
+
+// One fold of the joined inner iterators: of the one in hand, which is dropped at its end, and then of the outer source. The one in which the fold stopped stays in hand.
+fn fold_joined<
+    U: IntoFallibleIterator,
+    O: FallibleIterator<Item = U, Error = U::Error>,
+    C,
+    R,
+    K: Turn<C, U::Item, R>,
+>(outer: &mut O, held: &mut Option<U::IntoFallibleIter>, init: C, k: &K) -> Exit<C, U::Error, R>
+where
+    requires can { (flatten_contract O.contract U.into_gives U.IntoFallibleIter.contract).can (outer.old, held.old) }
+    requires finite { (flatten_contract O.contract U.into_gives U.IntoFallibleIter.contract).has_end (outer.old, held.old) }
+    requires callable { CallableCarrying (flatten_contract O.contract U.into_gives U.IntoFallibleIter.contract).steps (K.turns k.now) (K.can_turn k.now) (outer.old, held.old) init }
+    ensures { Carried (flatten_contract O.contract U.into_gives U.IntoFallibleIter.contract).steps (K.turns k.now) (outer.old, held.old) init result (outer.new, held.new) }
+{
+    let carried = match held {
+        Some(inner) => match inner.try_fold_carrying(init, k) {
+            Exit::Ended(carried) => carried,
+            exit => return exit,
+        },
+        None => init,
+    };
+    *held = None;
+    let (inner, exit) = fold_outer(outer, carried, k);
+    *held = inner;
+    exit
+}
+
+// The fold where no inner iterator is in hand, and the one that is in hand then: one of the outer source.
+fn fold_outer<
+    U: IntoFallibleIterator,
+    O: FallibleIterator<Item = U, Error = U::Error>,
+    C,
+    R,
+    K: Turn<C, U::Item, R>,
+>(outer: &mut O, init: C, k: &K) -> (Option<U::IntoFallibleIter>, Exit<C, U::Error, R>)
+where
+    requires can { (flatten_contract O.contract U.into_gives U.IntoFallibleIter.contract).can (outer.old, None) }
+    requires finite { (flatten_contract O.contract U.into_gives U.IntoFallibleIter.contract).has_end (outer.old, None) }
+    requires callable { CallableCarrying (flatten_contract O.contract U.into_gives U.IntoFallibleIter.contract).steps (K.turns k.now) (K.can_turn k.now) (outer.old, None) init }
+    ensures { Carried (flatten_contract O.contract U.into_gives U.IntoFallibleIter.contract).steps (K.turns k.now) (outer.old, None) init result.1 (outer.new, result.0) }
+{
+    let turn = Joining { turn: k };
+    match outer.try_fold_carrying(init, &turn) {
+        Exit::Ended(carried) => (None, Exit::Ended(carried)),
+        Exit::Failed(carried, e) => (None, Exit::Failed(carried, e)),
+        Exit::Stopped(stop) => {
+            let (inner, exit) = stop;
+            (Some(inner), exit)
+        }
+    }
+}
+
+// The turn of the outer source's fold: the inner iterator that the item becomes is folded by the caller's turn. The outer fold goes on where that fold ended, and else stops with the inner iterator and the exit.
+#[derive(Drop)]
+struct Joining<'a, K> {
+    turn: &'a K,
+}
+
+impl<'a, U: IntoFallibleIterator, C, R, K: Turn<C, U::Item, R>> Turn<
+    C,
+    U,
+    (U::IntoFallibleIter, Exit<C, U::Error, R>),
+> for Joining<'a, K> {
+    ghost can_turn = { λ k c x. JoiningTakes U.into_gives U.IntoFallibleIter.contract (K.turns k.turn.now) (K.can_turn k.turn.now) c x };
+
+    ghost turns = { λ k c x r. JoiningTurn U.into_gives U.IntoFallibleIter.contract (K.turns k.turn.now) c x r };
+
+    fn turn(&self, carried: C, item: U) -> Result<C, (U::IntoFallibleIter, Exit<C, U::Error, R>)> {
+        let mut inner = item.into_fallible_iter();
+        match inner.try_fold_carrying(carried, self.turn) {
+            Exit::Ended(carried) => Ok(carried),
+            exit => Err((inner, exit)),
+        }
     }
 }

@@ -39,6 +39,30 @@ impl<I: FallibleIterator, B, F: FnMut(I::Error) -> B> FallibleIterator for MapEr
         exited(self.it.try_fold_carrying(init, k), &mut self.f)
     }
 
+    /// The source's count, or the closure's value on the failure that it met.
+    fn count(self) -> Result<usize, B>
+    where
+        I::Item: Drop,
+    {
+        let MapErr { it, mut f } = self;
+        answer(it.count(), &mut f)
+    }
+
+    fn last(self) -> Result<Option<I::Item>, B>
+    where
+        I::Item: Drop,
+    {
+        let MapErr { it, mut f } = self;
+        answer(it.last(), &mut f)
+    }
+
+    fn nth(&mut self, n: usize) -> Result<Option<I::Item>, B>
+    where
+        I::Item: Drop,
+    {
+        answer(self.it.nth(n), &mut self.f)
+    }
+
     ghost lawful = { lawful_seen map_err_parts (lawful_map_err F.FnMut I.lawful) };
 }
 
@@ -62,14 +86,13 @@ impl<I: DoubleEndedFallibleIterator, B, F: FnMut(I::Error) -> B> DoubleEndedFall
     ghost lawful_ends = { lawful_ends_seen map_err_parts (lawful_ends_map_err F.FnMut I.lawful_ends) };
 }
 
-// What the closure makes of one answer of the source: it is called where that is a failure.
-fn answer<X, D, E, F: FnMut(D) -> E>(drawn: Result<Option<X>, D>, f: &mut F) -> Result<Option<X>, E>
-    requires { TakesFailure (takes_on F.FnMut) f.old drawn }
-    ensures { MapErrAnswer (call_on F.FnMut) f.old drawn result f.new }
+// What the closure makes of one answer of the source, or of what a call of the source answers: it is called where that is a failure.
+fn answer<C, D, E, F: FnMut(D) -> E>(made: Result<C, D>, f: &mut F) -> Result<C, E>
+    requires { TakesFailure (takes_on F.FnMut) f.old made }
+    ensures { MapErrAnswer (call_on F.FnMut) f.old made result f.new }
 {
-    match drawn {
-        Ok(Some(x)) => Ok(Some(x)),
-        Ok(None) => Ok(None),
+    match made {
+        Ok(c) => Ok(c),
         Err(e) => Err(f(e)),
     }
 }

@@ -6,6 +6,7 @@ ghost use Rattle.fallible_contract.specs.Laws.Contract.{lawful_seen};
 ghost use Rattle.fallible_core.specs.Laws.Peeking.Peekable.{lawful_peekable};
 
 use crate::traits::FallibleIterator;
+use fallible_contract::folds::{Exit, Turn};
 use fallible_contract::hints::one_more;
 
 /// The answers of the source, the next of which can be looked at ahead. An item or an end that was looked at is held, and comes first; a failure is not held.
@@ -39,6 +40,22 @@ where
             Some(Some(_)) => one_more(self.it.size_hint()),
             Some(None) => (0, Some(0)),
             None => self.it.size_hint(),
+        }
+    }
+
+    // The turn on a held item, and then the source's fold; a held end ends the fold without a draw.
+    fn try_fold_carrying<C, R, K: Turn<C, I::Item, R>>(
+        &mut self,
+        init: C,
+        k: &K,
+    ) -> Exit<C, I::Error, R> {
+        match self.held.take() {
+            Some(Some(x)) => match k.turn(init, x) {
+                Ok(carried) => self.it.try_fold_carrying(carried, k),
+                Err(stop) => Exit::Stopped(stop),
+            },
+            Some(None) => Exit::Ended(init),
+            None => self.it.try_fold_carrying(init, k),
         }
     }
 

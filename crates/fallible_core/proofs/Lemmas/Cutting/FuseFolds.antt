@@ -1,12 +1,13 @@
--- A fold of the source is a fold of `Fuse`, which the source's end closes.
-use Rattle.std.specs.Prelude.{◌≡◌, Bool, true, false, List, [], ◌∷◌, ◌++◌, map, Result, Some, None, Ok, Err}
-use Rattle.std.proofs.Common.{refl, sym, ap, subst, ◌∙◌}
+-- A fold of the source is a fold of `Fuse`, which the source's end closes; so are its count, its last item and its `nth`.
+use Rattle.std.specs.Prelude.{◌≡◌, ℕ, Bool, true, false, Option, List, [], ◌∷◌, ◌++◌, map, Result, Some, None, Ok, Err}
+use Rattle.std.proofs.Common.{refl, sym, ap, subst, arith}
 use Rattle.fallible_contract.specs.declared.folds.Exit.{Exit}
 use Rattle.fallible_contract.specs.declared.folds.Exit.TheVariants.{Ended, Failed, Stopped}
 use Rattle.fallible_contract.specs.Traces.{Answered, Run, item, is_end}
 use Rattle.fallible_contract.specs.Closing.{closing_step}
 use Rattle.fallible_contract.specs.Contract.{Contract, seen_as}
-use Rattle.fallible_contract.specs.Folds.{HoldsAtEachTurn, CarryingExit, Carried}
+use Rattle.fallible_contract.specs.Folds.{HoldsAtEachTurn, CarryingExit, Carried, Counted, LastOf, Nth}
+use Rattle.fallible_contract.proofs.Lemmas.Overriding.{counted_held, last_held, nth_held}
 use Rattle.fallible_contract.proofs.Lemmas.Folding.{holds_into, carried_into}
 use Rattle.fallible_contract.proofs.Lemmas.Folds.{carried_end}
 use Rattle.fallible_core.specs.declared.cutting.fuse.Fuse.{Fuse}
@@ -50,3 +51,35 @@ module _ {S A E : Type 0} (m : Contract S A E) (s : Fuse S) where
   -- what holds at each turn of it, where it is open, holds at each of the source
   pub open_holds : {C : Type 0} {goes_on : C → A → C → Type 0} {P : C → A → Type 0} {c : C} → s.ended ≡ false → HoldsAtEachTurn steps goes_on P s c → HoldsAtEachTurn m.steps goes_on P s.it c
   open_holds {goes_on = goes_on} {P = P} {c = c} is h = holds_into {held = steps} (λ p. record { it = p; ended = false }) (λ p x q step. (item x, step, refl, refl)) (subst (λ (b : Bool). HoldsAtEachTurn steps goes_on P (record { it = s.it; ended = b }) c) is h)
+
+  -- ---- `count`, `last` and `nth`
+
+  abbrev put : Fuse S → S × Bool → Fuse S
+  put u p = record { it = p.0; ended = p.1 }
+
+  abbrev Parts : S × Bool → Answered A E → S × Bool → Type 0
+  Parts = (fuse_contract m).steps
+
+  pub open_counted : {r : Result ℕ E} → s.ended ≡ false → Counted m.steps s.it r → Counted steps s r
+  open_counted {r = r} is w = counted_held fuse_parts put (λ u p. refl) (fuse_contract m) (subst (λ (b : Bool). Counted Parts (s.it, b) r) (sym is)
+      (record { items = w.items; last = w.last; left = (w.left, is_end w.last); ran = run_open m.steps w.items w.last s.it w.left (is_end w.last) w.ran refl; exit = w.exit }))
+
+  pub open_last : {r : Result (Option A) E} → s.ended ≡ false → LastOf m.steps s.it r → LastOf steps s r
+  open_last {r = r} is w = last_held fuse_parts put (λ u p. refl) (fuse_contract m) (subst (λ (b : Bool). LastOf Parts (s.it, b) r) (sym is)
+      (record { items = w.items; last = w.last; left = (w.left, is_end w.last); ran = run_open m.steps w.items w.last s.it w.left (is_end w.last) w.ran refl; exit = w.exit }))
+
+  pub open_nth : {n : ℕ} {r : Answered A E} {t : S} (closed : Bool) → s.ended ≡ false → closed ≡ is_end r → Nth m.steps s.it n r t → Nth steps s n r (record { it = t; ended = closed })
+  open_nth {n = n} {r = r} {t = t} closed is met w = nth_held fuse_parts put (λ u p. refl) (fuse_contract m) (subst (λ (b : Bool). Nth Parts (s.it, b) n r (t, closed)) (sym is)
+      (record { skipped = w.skipped; ran = run_open m.steps w.skipped r s.it t closed w.ran met; exit = w.exit }))
+
+  closed_step : s.ended ≡ true → steps s (Ok None) s
+  closed_step is = subst (λ (b : Bool). steps (record { it = s.it; ended = b }) (Ok None) (record { it = s.it; ended = b })) (sym is) (refl, refl, refl)
+
+  pub closed_counted : s.ended ≡ true → Counted steps s (Ok 0)
+  closed_counted is = record { items = []; last = Ok None; left = s; ran = (s, closed_step is, refl); exit = refl }
+
+  pub closed_last : s.ended ≡ true → LastOf steps s (Ok None)
+  closed_last is = record { items = []; last = Ok None; left = s; ran = (s, closed_step is, refl); exit = refl }
+
+  pub closed_nth : (n : ℕ) → s.ended ≡ true → Nth steps s n (Ok None) s
+  closed_nth n is = record { skipped = []; ran = (s, closed_step is, refl); exit = omega arith }

@@ -60,11 +60,11 @@ module _ {S F X E : Type 0} (steps : S → Answered X E → S → Type 0) (call 
 
   -- ---- after the first false all answers pass, and nothing is asked
 
-  record Passed (s : S) (p : Bool × F) (trace : List (Answered X E)) (t : S) (q : Bool × F) : Type 0 where
-    ran : Run steps s trace t
-    same : q ≡ p
+  pub record Passed (s : S) (p : Bool × F) (trace : List (Answered X E)) (t : S) (q : Bool × F) : Type 0 where
+    pub ran : Run steps s trace t
+    pub same : q ≡ p
 
-  after_false : (s t : S) (p q : Bool × F) (trace : List (Answered X E)) → p.0 ≡ true → P s p trace t q → Passed s p trace t q
+  pub after_false : (s t : S) (p q : Bool × F) (trace : List (Answered X E)) → p.0 ≡ true → P s p trace t q → Passed s p trace t q
   after_false s _ p _ _ e done = record { ran = refl; same = refl }
   after_false s t p q _ e (ends {u = u} {trace = rest} step h) = let k = after_false u t p q rest e h in record { ran = (u, step, k.ran); same = k.same }
   after_false s t p q _ e (fails {u = u} {trace = rest} d step h) = let k = after_false u t p q rest e h in record { ran = (u, step, k.ran); same = k.same }
@@ -78,7 +78,7 @@ module _ {S F X E : Type 0} (steps : S → Answered X E → S → Type 0) (call 
   after_false s t p q _ e (leaves_out x None step called is h) = absurd cc
   after_false s t p q _ e (leaves_out x (Some v) step called is h) = absurd (let d = called.0 in cc)
 
-  run_passes : (trace : List (Answered X E)) (s t : S) (f : F) → Run steps s trace t → P s (true, f) trace t (true, f)
+  pub run_passes : (trace : List (Answered X E)) (s t : S) (f : F) → Run steps s trace t → P s (true, f) trace t (true, f)
   run_passes [] s t f ran = subst (λ (u : S). P s (true, f) [] u (true, f)) ran done
   run_passes (Ok None ∷ rest) s t f ran = ends ran.1 (run_passes rest ran.0 t f ran.2)
   run_passes (Err e ∷ rest) s t f ran = fails e ran.1 (run_passes rest ran.0 t f ran.2)

@@ -16,7 +16,7 @@ use Rattle.fallible_contract.proofs.Lemmas.Overriding.{holds_held, carried_held}
 use Rattle.fallible_core.proofs.Lemmas.Joining.Chain.{from_front, from_back, from_both, from_joined}
 
 -- items and a last answer that isn't an end
-no_end : {A E : Type 0} (items : List A) (last : Answered A E) → is_end last ≡ false → NoEnd (map item items ++ last ∷ [])
+pub no_end : {A E : Type 0} (items : List A) (last : Answered A E) → is_end last ≡ false → NoEnd (map item items ++ last ∷ [])
 no_end [] last e = (e, tt)
 no_end (x ∷ items) last e = (refl, no_end items last e)
 
@@ -29,18 +29,18 @@ some_last [] last e = absurd cc
 some_last (x ∷ items) last e = absurd cc
 
 -- draws that gave items and a last answer gave the items first
-yields_first : {S A E : Type 0} (steps : S → Answered A E → S → Type 0) (items : List A) (last : Answered A E) (s t : S) → Run steps s (map item items ++ last ∷ []) t → (u : S) × Yields steps s items u × steps u last t
+pub yields_first : {S A E : Type 0} (steps : S → Answered A E → S → Type 0) (items : List A) (last : Answered A E) (s t : S) → Run steps s (map item items ++ last ∷ []) t → (u : S) × Yields steps s items u × steps u last t
 yields_first steps [] last s t ran = (s, refl, subst (λ z. steps s last z) ran.2 ran.1)
 yields_first steps (x ∷ items) last s t ran = let h = yields_first steps items last ran.0 t ran.2 in (h.0, (ran.0, ran.1, h.1), h.2)
 
 module _ {A E C R : Type 0} (turns : C → A → Result C R → Type 0) where
   -- a fold that ended met an end, and else it met none
-  exit_at_end : (c : C) (last : Answered A E) (d : C) → CarryingExit turns c last (Ended d) → (last ≡ end) × (c ≡ d)
+  pub exit_at_end : (c : C) (last : Answered A E) (d : C) → CarryingExit turns c last (Ended d) → (last ≡ end) × (c ≡ d)
   exit_at_end c (Ok None) d h = (refl, (let e : Ended d ≡ Ended c = h in cc))
   exit_at_end c (Err e) d h = absurd cc
   exit_at_end c (Ok (Some x)) d h = absurd (let e = h.2 in cc)
 
-  exit_elsewhere : (c : C) (last : Answered A E) (r : Exit C E R) → CarryingExit turns c last r → ((d : C) → r ≡ Ended d → ⊥) → is_end last ≡ false
+  pub exit_elsewhere : (c : C) (last : Answered A E) (r : Exit C E R) → CarryingExit turns c last r → ((d : C) → r ≡ Ended d → ⊥) → is_end last ≡ false
   exit_elsewhere c (Ok None) r h other = absurd (other c h)
   exit_elsewhere c (Err e) r h other = refl
   exit_elsewhere c (Ok (Some x)) r h other = refl
@@ -78,18 +78,25 @@ module _ {S U A E : Type 0} (steps : S → Answered A E → S → Type 0) (other
   yields_over [] s t u v w x met e step = ((s, u, Both), refl, inr (met, subst (λ (z : U). others z (item x) w) (sym e) step, refl))
   yields_over (y ∷ items) s t u v w x met h step = ((t, v, BackAlone), ((t, h.0, BackAlone), inr (met, h.1, refl), yields_back_alone items t h.0 v h.2), (step, refl, refl))
 
+  -- items of the front and its end, and then items of the back and a last answer
+  pub run_over : (xs ys : List A) (last : Answered A E) (s t : S) (u v : U) → Run steps s (map item xs ++ end ∷ []) t → Run others u (map item ys ++ last ∷ []) v → Run Step (s, u, Both) (map item (xs ++ ys) ++ last ∷ []) (t, v, BackAlone)
+  run_over xs ys last s t u v front back = subst (λ (trace : List (Answered A E)). Run Step (s, u, Both) trace (t, v, BackAlone))
+      (sym (ap (λ (l : List (Answered A E)). l ++ last ∷ []) (map-append item xs ys) ∙ append_assoc (map item xs) (map item ys) (last ∷ [])))
+      (from_joined steps others (map item xs) (map item ys ++ last ∷ []) s u t v front (items_no_end E xs) back (some_last ys last))
+
+  -- so what holds at each turn over the chain holds, after items of the front and its end, at each turn over the back
+  pub holds_after_end : {C : Type 0} {goes_on : C → A → C → Type 0} {P : C → A → Type 0} {s : S} {u : U} {c d : C} (xs : List A) (t : S) → HoldsAtEachTurn Step goes_on P (s, u, Both) c → Run steps s (map item xs ++ end ∷ []) t → FoldsTo goes_on c xs d → HoldsAtEachTurn others goes_on P u d
+  holds_after_end {s = s} {u = u} xs t h drawn before = let first = yields_first steps xs end s t drawn in record {
+    at = λ items v w e x ran went step.
+        let rest = yields_over items first.0 t u v w x first.2 ran step in
+        h.at (xs ++ items) rest.0 (t, w, BackAlone) e x (turns_then _ xs items _ _ _ (yields_both xs s first.0 u first.1) rest.1) (turns_then _ xs items _ _ _ before went) rest.2;
+  }
+
   module _ {C R : Type 0} {turns : C → A → Result C R → Type 0} where
-    -- so what holds at each turn over the chain holds, once the front's fold ended, at each turn over the back
+    -- once the front's fold ended, too
     holds_over : {P : C → A → Type 0} {s t : S} {u : U} {c d : C} → HoldsAtEachTurn Step (carrying_turn turns) P (s, u, Both) c → Carried {E = E} steps turns s c (Ended d) t → HoldsAtEachTurn others (carrying_turn turns) P u d
-    holds_over {s = s} {t = t} {u = u} {c = c} {d = d} h f = let over = exit_at_end turns f.carried f.last d f.exit in let first = yields_first steps f.items f.last s t f.ran in record {
-      at = λ items v w e x ran went step.
-          let met : steps first.0 end t = subst (λ (r : Answered A E). steps first.0 r t) over.0 first.2 in
-          let rest = yields_over items first.0 t u v w x met ran step in
-          h.at (f.items ++ items) rest.0 (t, w, BackAlone) e x
-          (turns_then _ f.items items _ _ _ (yields_both f.items s first.0 u first.1) rest.1)
-          (turns_then _ f.items items _ _ _ f.went (subst (λ (z : C). FoldsTo (carrying_turn turns) z items e) (sym over.1) went))
-          rest.2;
-    }
+    holds_over {s = s} {t = t} {c = c} {d = d} h f = let over = exit_at_end turns f.carried f.last d f.exit in
+        holds_after_end f.items t h (subst (λ (r : Answered A E). Run steps s (map item f.items ++ r ∷ []) t) over.0 f.ran) (subst (λ (z : C). FoldsTo (carrying_turn turns) c f.items z) over.1 f.went)
 
     -- a fold of a side that is drawn is one of the chain
     carried_front_alone : {s t : S} {u : U} {c : C} {r : Exit C E R} → Carried steps turns s c r t → Carried Step turns (s, u, FrontAlone) c r (t, u, FrontAlone)
@@ -115,9 +122,7 @@ module _ {S U A E : Type 0} (steps : S → Answered A E → S → Type 0) (other
       items = f.items ++ b.items;
       last = b.last;
       carried = b.carried;
-      ran = subst (λ (trace : List (Answered A E)). Run Step (s, u, Both) trace (t, v, BackAlone))
-          (sym (ap (λ (l : List (Answered A E)). l ++ b.last ∷ []) (map-append item f.items b.items) ∙ append_assoc (map item f.items) (map item b.items) (b.last ∷ [])))
-          (from_joined steps others (map item f.items) (map item b.items ++ b.last ∷ []) s u t v (subst (λ (r : Answered A E). Run steps s (map item f.items ++ r ∷ []) t) over.0 f.ran) (items_no_end E f.items) b.ran (some_last b.items b.last));
+      ran = run_over f.items b.items b.last s t u v (subst (λ (r : Answered A E). Run steps s (map item f.items ++ r ∷ []) t) over.0 f.ran) b.ran;
       went = turns_then _ f.items b.items _ _ _ f.went (subst (λ (z : C). FoldsTo (carrying_turn turns) z b.items b.carried) (sym over.1) b.went);
       exit = b.exit;
     }
@@ -129,7 +134,7 @@ module _ {V S U A E : Type 0} (view : V → S × U × StillDrawn) (make : S × U
   Drawn = (seen_as view (chain_contract front back)).steps
 
   module _ {C : Type 0} {goes_on : C → A → C → Type 0} {P : C → A → Type 0} {s : V} {c : C} where
-    parts_hold : {drawn : StillDrawn} → (view s).2 ≡ drawn → HoldsAtEachTurn Drawn goes_on P s c → HoldsAtEachTurn (chain_step front.steps back.steps) goes_on P ((view s).0, (view s).1, drawn) c
+    pub parts_hold : {drawn : StillDrawn} → (view s).2 ≡ drawn → HoldsAtEachTurn Drawn goes_on P s c → HoldsAtEachTurn (chain_step front.steps back.steps) goes_on P ((view s).0, (view s).1, drawn) c
     parts_hold is h = subst (λ (d : StillDrawn). HoldsAtEachTurn (chain_step front.steps back.steps) goes_on P ((view s).0, (view s).1, d) c) is (holds_held view (λ s p. make p) (λ s p. has p) (chain_contract front back) h)
 
     pub turns_front_alone : (view s).2 ≡ FrontAlone → HoldsAtEachTurn Drawn goes_on P s c → HoldsAtEachTurn front.steps goes_on P (view s).0 c

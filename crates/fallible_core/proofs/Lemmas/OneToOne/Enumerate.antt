@@ -54,7 +54,7 @@ module _ {S A E : Type 0} {steps : S → Answered A E → S → Type 0} {s t : S
 -- ---- what it lists
 
 module _ {S A E : Type 0} (steps : S → Answered A E → S → Type 0) where
-  abbrev numbered_step : S × ℕ → Answered (ℕ × A) E → S × ℕ → Type 0
+  abbrev pub numbered_step : S × ℕ → Answered (ℕ × A) E → S × ℕ → Type 0
   numbered_step p r q = EnumerateTrace steps p (r ∷ []) q
 
   end_numbered : (s t : S) (n k : ℕ) (r : Answered (ℕ × A) E) → AlwaysGives {A = A} steps s [] → Numbered steps s n (r ∷ []) t k → r ≡ Ok None

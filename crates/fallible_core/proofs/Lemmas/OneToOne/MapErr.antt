@@ -62,8 +62,7 @@ map_err_answered {steps = steps} {call = call} {s = s} {t = t} {f = f} {g = g} (
 
 -- its closure may be called on a failure that was drawn
 pub takes_drawn_failure : {S F X D E : Type 0} {m : Contract S X D} {s t : S} (call : F → D → E → F → Type 0) (pre : F → D → Type 0) (f : F) → Lawful m → m.can s → (drawn : Answered X D) → m.steps s drawn t → IsCallable call pre (m.fails s) f → TakesFailure pre f drawn
-takes_drawn_failure call pre f l c (Ok (Some x)) step callable = tt
-takes_drawn_failure call pre f l c (Ok None) step callable = tt
+takes_drawn_failure call pre f l c (Ok o) step callable = tt
 takes_drawn_failure {s = s} {t = t} call pre f l c (Err d) step callable = callable.at f d reaches_here ((l.goes s (Err d) t c step).answer.0)
 
 -- ---- what it lists

@@ -1,0 +1,56 @@
+-- After an item `SkipWhile` asks its predicate no more: from there on a fold of the source is one of it.
+use Rattle.std.specs.Prelude.{◌≡◌, Bool, true, false, Option, Some, None, List, [], ◌∷◌, Result, Ok, Err}
+use Rattle.std.specs.Fn.{Mut}
+use Rattle.std.specs.Borrow.{Bor}
+use Rattle.std.proofs.Common.{refl, ap, subst, sym, ◌∙◌}
+use Rattle.fallible_contract.specs.declared.folds.Exit.{Exit}
+use Rattle.fallible_contract.specs.Traces.{Answered, item}
+use Rattle.fallible_contract.specs.Closures.{call_in, call_at}
+use Rattle.fallible_contract.specs.Contract.{Contract, seen_as}
+use Rattle.fallible_contract.specs.Folds.{HoldsAtEachTurn, Carried}
+use Rattle.fallible_contract.specs.Laws.Passing.{Passes, done, ends, fails, keeps, refuses, closes, leaves_out, to_passes, from_passes}
+use Rattle.fallible_contract.proofs.Lemmas.Folding.{holds_into, carried_into}
+use Rattle.fallible_core.specs.declared.filtering.skip_while.SkipWhile.{SkipWhile}
+use Rattle.fallible_core.specs.Filtering.SkipWhile.{skip_call, skip_while_outcome, skip_while_contract, skip_while_parts}
+use Rattle.fallible_core.proofs.Lemmas.Filtering.SkipWhile.{after_false, run_passes}
+
+module _ {S F X E : Type 0} (steps : S → Answered X E → S → Type 0) (call : F → X → Result Bool E → F → Type 0) where
+  -- where an item is the answer, the predicate has answered false
+  found_by_item : (s t : S) (p q : Bool × F) (trace : List (Answered X E)) (x : X) → trace ≡ item x ∷ [] → Passes steps (skip_call call) skip_while_outcome s p trace t q → q.0 ≡ true
+  found_by_item s _ p _ _ x e done = absurd cc
+  found_by_item s t p q _ x e (ends step h) = absurd cc
+  found_by_item s t p q _ x e (fails d step h) = absurd cc
+  found_by_item s t p q _ x e (keeps {u = u} {h = j} {trace = rest} y None z step called is h) = let on : j.0 ≡ true = ap (λ (k : Bool × F). k.0) called.1 ∙ called.0 in ap (λ (k : Bool × F). k.0) (after_false steps call u t j q rest on h).same ∙ on
+  found_by_item s t p q _ x e (keeps {u = u} {h = j} {trace = rest} y (Some (Ok false)) z step called is h) = ap (λ (k : Bool × F). k.0) (after_false steps call u t j q rest called.2 h).same ∙ called.2
+  found_by_item s t p q _ x e (keeps y (Some (Ok true)) z step called is h) = absurd cc
+  found_by_item s t p q _ x e (keeps y (Some (Err d)) z step called is h) = absurd cc
+  found_by_item s t p q _ x e (refuses y v d step called is h) = absurd cc
+  found_by_item s t p q _ x e (closes y v step called is h) = absurd cc
+  found_by_item s t p q _ x e (leaves_out y None step called is h) = absurd cc
+  found_by_item s t p q _ x e (leaves_out y (Some (Ok false)) step called is h) = absurd cc
+  found_by_item s t p q _ x e (leaves_out {u = u} {h = j} {r = r} {trace = rest} y (Some (Ok true)) step called is h) = found_by_item u t j q (r ∷ rest) x e h
+  found_by_item s t p q _ x e (leaves_out y (Some (Err d)) step called is h) = absurd cc
+
+module _ {S F X E : Type 0} (m : Contract S X E) (g : Mut F (Bor X × Unit {0}) (Result Bool E)) where
+  abbrev steps : SkipWhile S F → Answered X E → SkipWhile S F → Type 0
+  steps = (seen_as skip_while_parts (skip_while_contract m g)).steps
+
+  -- the predicate has answered false
+  abbrev past : Option F → S → SkipWhile S F
+  past slot s = record { it = s; found = true; predicate = slot }
+
+  -- a draw of the source is one of it then
+  past_step : (slot : Option F) (s t : S) (r : Answered X E) → m.steps s r t → steps (past slot s) r (past slot t)
+  past_step slot s t r step = from_passes (run_passes m.steps (call_in (call_at g)) (r ∷ []) s t slot (t, step, refl))
+
+  pub item_is_past : (s t : SkipWhile S F) (x : X) → steps s (item x) t → t.found ≡ true
+  item_is_past s t x step = found_by_item m.steps (call_in (call_at g)) s.it t.it (s.found, s.predicate) (t.found, t.predicate) (item x ∷ []) x refl (to_passes step)
+
+  module _ {s : SkipWhile S F} (at : s.found ≡ true) where
+    -- what holds at each turn of it holds at each of the source
+    pub holds_past : {C : Type 0} {goes_on : C → X → C → Type 0} {P : C → X → Type 0} {c : C} → HoldsAtEachTurn steps goes_on P s c → HoldsAtEachTurn m.steps goes_on P s.it c
+    holds_past {goes_on = goes_on} {P = P} {c = c} h = holds_into {held = steps} (past s.predicate) (λ p x q step. past_step s.predicate p q (item x) step) (subst (λ (b : Bool). HoldsAtEachTurn steps goes_on P (record { it = s.it; found = b; predicate = s.predicate }) c) at h)
+
+    -- and a fold of the source is one of it
+    pub folds_past : {C R : Type 0} {turns : C → X → Result C R → Type 0} {c : C} {exit : Exit C E R} {t : S} → Carried m.steps turns s.it c exit t → Carried steps turns s c exit (record { it = t; found = s.found; predicate = s.predicate })
+    folds_past {turns = turns} {c = c} {exit = exit} {t = t} w = subst (λ (b : Bool). Carried steps turns (record { it = s.it; found = b; predicate = s.predicate }) c exit (record { it = t; found = b; predicate = s.predicate })) (sym at) (carried_into {held = steps} (past s.predicate) (λ p r q step. past_step s.predicate p q r step) w)

@@ -1,0 +1,57 @@
+-- A fold of the source that numbers its items is a fold of `Enumerate`.
+use Rattle.std.specs.Prelude.{◌≡◌, ℕ, ◌+◌, List, [], ◌∷◌, Result, Ok, Err, ⊤}
+use Rattle.std.specs.List.{FoldsTo}
+use Rattle.std.proofs.Common.{refl, sym, ap, subst, ◌∙◌, arith, inl}
+use Rattle.fallible_contract.specs.declared.folds.Exit.{Exit}
+use Rattle.fallible_contract.specs.Traces.{Answered, item}
+use Rattle.fallible_contract.specs.Contract.{Contract, Lawful}
+use Rattle.fallible_contract.specs.Folds.{HoldsAtEachTurn, carrying_turn}
+use Rattle.fallible_contract.specs.Folding.{FoldingTurn, FoldingTakes, beside}
+use Rattle.fallible_contract.specs.Laws.Passing.{Passes, done, ends, fails, keeps, refuses, closes, leaves_out, to_passes}
+use Rattle.fallible_contract.proofs.Lemmas.Folds.{count_fits}
+use Rattle.fallible_contract.proofs.Lemmas.Folding.{takes_freely}
+use Rattle.fallible_contract.proofs.Lemmas.Lists.Passing.{passing_step}
+use Rattle.fallible_core.specs.OneToOne.Enumerate.{IsNumberable, number_call, number_outcome, number_takes}
+use Rattle.fallible_core.proofs.Lemmas.OneToOne.Enumerate.{enumerate_item, enumerate_end, enumerate_failure, numbered_step}
+
+-- ---- steps
+
+module _ {S A E : Type 0} (steps : S → Answered A E → S → Type 0) where
+  passed : (s t : S) (n k : ℕ) (r : Answered (ℕ × A) E) → Passes steps number_call number_outcome s n (r ∷ []) t k → numbered_step steps (s, n) r (t, k)
+  passed s t n k _ (ends step done) = enumerate_end step
+  passed s t n k _ (fails e step done) = enumerate_failure step
+  passed s t n k _ (keeps x v y step called is done) = let numbered : ◌≡◌ {A = ℕ × A} (v, x) y = cc in
+      subst (λ (z : ℕ × A). numbered_step steps (s, n) (item z) (t, k)) (ap (λ (i : ℕ). (i, x)) (sym called.0) ∙ numbered) (subst (λ (j : ℕ). numbered_step steps (s, n) (item (n, x)) (t, j)) (sym called.1) (enumerate_item x step))
+  passed s t n k _ (refuses x v e step called is rest) = absurd cc
+  passed s t n k _ (closes x v step called is rest) = absurd cc
+  passed s t n k r (leaves_out x v step called is rest) = absurd cc
+
+-- an item kept beside its number is one of `Enumerate`
+pub to_numbers : {S A E : Type 0} {steps : S → Answered A E → S → Type 0} (p : S × ℕ) (r : Answered (ℕ × A) E) (q : S × ℕ) → passing_step steps number_call number_outcome p r q → numbered_step steps p r q
+to_numbers {steps = steps} p r q step = passed steps p.0 q.0 p.1 q.1 r (to_passes step)
+
+-- ---- where the source's turn may be taken
+
+module _ {S A E C R : Type 0} {m : Contract S A E} (l : Lawful m) (turns : C → ℕ × A → Result C R → Type 0) where
+  abbrev Numbers : C × ℕ → A → Result (C × ℕ) (ℕ × Exit C E R) → Type 0
+  Numbers = FoldingTurn {E = E} number_call number_outcome turns
+
+  count_on : (made : Result C R) (q : C × ℕ) (g : ℕ) → Ok q ≡ beside {E = E} g made → q.1 ≡ g
+  count_on (Ok c) q g e = let same : q ≡ (c, g) = cc in ap (λ z. z.1) same
+  count_on (Err stop) q g e = absurd cc
+
+  -- each turn that goes on counts one item
+  counts_along : (items : List A) (p q : C × ℕ) (j : ℕ) → FoldsTo (carrying_turn Numbers) p items q → (k : ℕ) × FoldsTo (λ (i : ℕ) (x : A) (n : ℕ). n ≡ i + 1) j items k × (q.1 + j ≡ p.1 + k)
+  counts_along [] p q j w = let same : p.1 ≡ q.1 = ap (λ z. z.1) w in (j, refl, omega (arith, same))
+  counts_along (x ∷ items) p q j w = let turned = w.1 in let one : w.0.1 ≡ turned.1 = count_on turned.3.0 w.0 turned.1 turned.3.2 in let up : turned.1 ≡ p.1 + 1 = turned.2.1 in
+      let rest = counts_along items w.0 q (j + 1) w.2 in (rest.0, (j + 1, refl, rest.1), omega (arith, one, up, rest.2))
+
+  -- The numbers of all items to come fit, so each item may be counted, and the caller's turn be taken on it and its number.
+  pub takes_numbered : {P : C → ℕ × A → Type 0} {s : S} {n : ℕ} {c : C} → IsNumberable m s n → HoldsAtEachTurn (passing_step m.steps number_call number_outcome) (carrying_turn turns) P (s, n) c
+      → HoldsAtEachTurn m.steps (carrying_turn Numbers) (FoldingTakes {E = E} number_call number_outcome number_takes P) s (c, n)
+  takes_numbered {P = P} {s = s} {n = n} {c = c} can holds = record {
+    at = λ items t u p x ran went step. (
+      (let k = counts_along items (c, n) p 0 went in let below = (count_fits {m = m} can.bound l can.can (inl can.bounds)).at items t u k.0 x ran k.1 step in let fits = can.fits in omega (arith, below, k.2, fits)),
+      ((takes_freely number_call number_outcome turns {pre = λ _ _. ⊤} (λ g x. tt) holds).at items t u p x ran went step).1,
+    );
+  }

@@ -1,0 +1,29 @@
+-- While it is open its draws are the source's, and a none of the source's `nth` closes it; once closed it ends without a draw.
+use Rattle.std.proofs.Common.{refl, true}
+use Rattle.fallible_contract.proofs.Lemmas.Lists.Drawn.{nth_is}
+use Rattle.fallible_core.proofs.Lemmas.Cutting.FuseFolds.{open_nth, closed_nth}
+use Rattle.fallible_core.proofs.cutting.fuse.FuseFallibleIterator.nth.Goals as goal
+
+pub returns-then-ended-clause-nth : goal.returns-then-ended-clause-nth
+returns-then-ended-clause-nth g c = closed_nth g.I.FallibleIterator.contract c.args.self.now c.args.n c.if-ended.true
+
+pub returns-then-ended-clause-is : goal.returns-then-ended-clause-is
+returns-then-ended-clause-is g c l i = nth_is l (returns-then-ended-clause-nth g c) i
+
+pub returns-in-Ok-Some-clause-nth : goal.returns-in-Ok-Some-clause-nth
+returns-in-Ok-Some-clause-nth g c = open_nth g.I.FallibleIterator.contract c.args.self.now c.args.self.now.ended c.if-ended.false c.if-ended.false (rw c.in-Ok-Some.field-0-is at c.in-Ok-Some.ensures.nth)
+
+pub returns-in-Ok-Some-clause-is : goal.returns-in-Ok-Some-clause-is
+returns-in-Ok-Some-clause-is g c l i = nth_is l (returns-in-Ok-Some-clause-nth g c) i
+
+pub returns-in-Ok-None-clause-nth : goal.returns-in-Ok-None-clause-nth
+returns-in-Ok-None-clause-nth g c = open_nth g.I.FallibleIterator.contract c.args.self.now true c.if-ended.false refl (rw c.in-Ok-None.field-0-is at c.in-Ok-None.ensures.nth)
+
+pub returns-in-Ok-None-clause-is : goal.returns-in-Ok-None-clause-is
+returns-in-Ok-None-clause-is g c l i = nth_is l (returns-in-Ok-None-clause-nth g c) i
+
+pub returns-in-Err-clause-nth : goal.returns-in-Err-clause-nth
+returns-in-Err-clause-nth g c = open_nth g.I.FallibleIterator.contract c.args.self.now c.args.self.now.ended c.if-ended.false c.if-ended.false c.in-Err.ensures.nth
+
+pub returns-in-Err-clause-is : goal.returns-in-Err-clause-is
+returns-in-Err-clause-is g c l i = nth_is l (returns-in-Err-clause-nth g c) i

@@ -1,0 +1,39 @@
+-- What the front counts, and then the back, are added up; where one side alone is still drawn, it is what that side counts.
+use Rattle.std.specs.Prelude.{◌^◌, ◌-◌, Ok, Err}
+use Rattle.std.proofs.Common.{arith}
+use Rattle.fallible_contract.proofs.Lemmas.Lists.Drawn.{counted_is}
+use Rattle.fallible_core.proofs.Lemmas.Joining.ChainConsuming.{counts_over, counts_failure, counts_front_alone, counts_back_alone, sum_fits}
+use Rattle.fallible_core.proofs.joining.chain.ChainFallibleIterator.count.Goals as goal
+
+pub overflow_add-result : goal.overflow_add-result
+overflow_add-result g c = let fits = sum_fits g.T.FallibleIterator.contract g.U.FallibleIterator.contract (2 ^ 64 - 1) c.in-Ok.before c.in-Ok-count.after g.met.T.FallibleIterator.lawful g.met.U.FallibleIterator.lawful c.requires.can.0 c.requires.can.1 c.in-Both.is c.requires.fits c.in-Ok.ensures.counted c.in-Ok-count.ensures.counted in omega (arith, fits)
+
+pub returns-in-Ok-count-clause-counted : goal.returns-in-Ok-count-clause-counted
+returns-in-Ok-count-clause-counted g c = counts_over g.T.FallibleIterator.contract g.U.FallibleIterator.contract (Ok c.in-Ok-count.after) c.in-Both.is c.in-Ok.ensures.counted c.in-Ok-count.ensures.counted
+
+pub returns-in-Ok-count-clause-is : goal.returns-in-Ok-count-clause-is
+returns-in-Ok-count-clause-is g c l i = counted_is l (returns-in-Ok-count-clause-counted g c) i
+
+pub returns-in-Err-count-clause-counted : goal.returns-in-Err-count-clause-counted
+returns-in-Err-count-clause-counted g c = counts_over g.T.FallibleIterator.contract g.U.FallibleIterator.contract (Err c.in-Err-count.e) c.in-Both.is c.in-Ok.ensures.counted c.in-Err-count.ensures.counted
+
+pub returns-in-Err-count-clause-is : goal.returns-in-Err-count-clause-is
+returns-in-Err-count-clause-is g c l i = counted_is l (returns-in-Err-count-clause-counted g c) i
+
+pub returns-in-Err-clause-counted : goal.returns-in-Err-clause-counted
+returns-in-Err-clause-counted g c = counts_failure g.T.FallibleIterator.contract g.U.FallibleIterator.contract c.in-Both.is c.in-Err.ensures.counted
+
+pub returns-in-Err-clause-is : goal.returns-in-Err-clause-is
+returns-in-Err-clause-is g c l i = counted_is l (returns-in-Err-clause-counted g c) i
+
+pub returns-in-FrontAlone-clause-counted : goal.returns-in-FrontAlone-clause-counted
+returns-in-FrontAlone-clause-counted g c = counts_front_alone g.T.FallibleIterator.contract g.U.FallibleIterator.contract c.in-FrontAlone.is c.count-in-FrontAlone.ensures.counted
+
+pub returns-in-FrontAlone-clause-is : goal.returns-in-FrontAlone-clause-is
+returns-in-FrontAlone-clause-is g c l i = counted_is l (returns-in-FrontAlone-clause-counted g c) i
+
+pub returns-in-BackAlone-clause-counted : goal.returns-in-BackAlone-clause-counted
+returns-in-BackAlone-clause-counted g c = counts_back_alone g.T.FallibleIterator.contract g.U.FallibleIterator.contract c.in-BackAlone.is c.count-in-BackAlone.ensures.counted
+
+pub returns-in-BackAlone-clause-is : goal.returns-in-BackAlone-clause-is
+returns-in-BackAlone-clause-is g c l i = counted_is l (returns-in-BackAlone-clause-counted g c) i
