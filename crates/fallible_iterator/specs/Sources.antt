@@ -8,3 +8,4 @@ pub mod OnceErr
 pub mod Repeat
 pub mod RepeatErr
 pub mod Std
+pub mod StdFold

@@ -8,6 +8,7 @@ mod once;
 mod once_err;
 mod repeat;
 mod repeat_err;
+mod std_fold;
 
 pub use convert::Convert;
 pub use empty::Empty;

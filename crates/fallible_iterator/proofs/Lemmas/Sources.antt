@@ -5,4 +5,5 @@ pub mod IntoFallible
 pub mod Once
 pub mod Repeat
 pub mod Std
+pub mod StdFold
 pub mod StdListed

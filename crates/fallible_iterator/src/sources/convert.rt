@@ -10,6 +10,8 @@ ghost use Rattle.fallible_contract.specs.Laws.Contract.{lawful_seen};
 ghost use Rattle.fallible_contract.specs.Laws.Ends.{lawful_ends_seen};
 ghost use Rattle.fallible_iterator.specs.Laws.Sources.Std.{lawful_std, lawful_std_ends};
 
+use crate::sources::std_fold::{Progressing, exited, turn};
+use fallible_contract::folds::{Exit, Turn};
 use fallible_core::{DoubleEndedFallibleIterator, FallibleIterator, Rev};
 
 /// The fallible iterator of a std iterator over results: each `Ok` is an item, each `Err` a failure, and none is an end.
@@ -34,6 +36,11 @@ impl<T, E, I: std::iter::Iterator<Item = Result<T, E>>> FallibleIterator for Con
         self.it.size_hint()
     }
 
+    fn try_fold_carrying<C, R, K: Turn<C, T, R>>(&mut self, init: C, k: &K) -> Exit<C, E, R> {
+        let mut drawn = Progressing { it: &mut self.it };
+        exited(drawn.try_fold(init, |carried, element| turn(k, carried, element)))
+    }
+
     ghost lawful = { lawful_seen convert_parts (lawful_std Ok Err I.can_next I.next_gives I.remaining) };
 }
 
@@ -44,6 +51,11 @@ impl<T, E, I: std::iter::DoubleEndedIterator<Item = Result<T, E>>> DoubleEndedFa
     /// Draws one element of the std iterator from behind.
     fn next_back(&mut self) -> Result<Option<T>, E> {
         answer(self.it.next_back())
+    }
+
+    fn try_rfold_carrying<C, R, K: Turn<C, T, R>>(&mut self, init: C, k: &K) -> Exit<C, E, R> {
+        let mut drawn = Progressing { it: &mut self.it };
+        exited(drawn.try_rfold(init, |carried, element| turn(k, carried, element)))
     }
 
     ghost lawful_ends = { lawful_ends_seen convert_parts (lawful_std_ends Ok Err I.can_next I.can_next_back I.next_gives I.next_back_gives I.remaining) };

@@ -9,6 +9,8 @@ ghost use Rattle.fallible_contract.specs.Laws.Contract.{lawful_seen};
 ghost use Rattle.fallible_contract.specs.Laws.Ends.{lawful_ends_seen};
 ghost use Rattle.fallible_iterator.specs.Laws.Sources.Std.{lawful_std, lawful_std_ends};
 
+use crate::sources::std_fold::{Progressing, exited, turn};
+use fallible_contract::folds::{Exit, Turn};
 use fallible_core::{DoubleEndedFallibleIterator, FallibleIterator, Rev};
 use std::convert::Infallible;
 
@@ -34,6 +36,15 @@ impl<T, I: std::iter::Iterator<Item = T>> FallibleIterator for IntoFallible<I> {
         self.it.size_hint()
     }
 
+    fn try_fold_carrying<C, R, K: Turn<C, T, R>>(
+        &mut self,
+        init: C,
+        k: &K,
+    ) -> Exit<C, Infallible, R> {
+        let mut drawn = Progressing { it: &mut self.it };
+        exited(drawn.try_fold(init, |carried, x| turn(k, carried, Ok(x))))
+    }
+
     ghost lawful = { lawful_seen into_fallible_parts (lawful_std (λ x. x) never I.can_next I.next_gives I.remaining) };
 }
 
@@ -44,6 +55,15 @@ impl<T, I: std::iter::DoubleEndedIterator<Item = T>> DoubleEndedFallibleIterator
     /// Draws one element of the std iterator from behind.
     fn next_back(&mut self) -> Result<Option<T>, Infallible> {
         Ok(self.it.next_back())
+    }
+
+    fn try_rfold_carrying<C, R, K: Turn<C, T, R>>(
+        &mut self,
+        init: C,
+        k: &K,
+    ) -> Exit<C, Infallible, R> {
+        let mut drawn = Progressing { it: &mut self.it };
+        exited(drawn.try_rfold(init, |carried, x| turn(k, carried, Ok(x))))
     }
 
     ghost lawful_ends = { lawful_ends_seen into_fallible_parts (lawful_std_ends (λ x. x) never I.can_next I.can_next_back I.next_gives I.next_back_gives I.remaining) };

@@ -35,6 +35,11 @@ unfolding reversed
 items_reversed l = sym (items_are (reverse l)) ∙ map-reverse (λ x. Ok x) l ∙ ap reverse (items_are l)
 
 module _ {A E : Type 0} where
+  -- the answer that an element is comes from that element
+  pub reads_result : (z : Result A E) → element_by {A = A} {E = E} Ok Err (result_answer z) ≡ Some z
+  reads_result (Ok x) = refl
+  reads_result (Err e) = refl
+
   pub answered : (r : Answered A E) (y : Result A E) → element_by {A = A} {E = E} Ok Err r ≡ Some y → r ≡ result_answer y
   answered (Ok (Some x)) (Ok y) e = cc
   answered (Ok (Some x)) (Err y) e = absurd cc

@@ -1,0 +1,63 @@
+// Folds over a std iterator through its own `try_fold` and `try_rfold`.
+ghost use Rattle.std.specs.Prelude.{◌≡◌, IfOk, Option, Result};
+ghost use Rattle.fallible_iterator.specs.Sources.StdFold.{progressing, ElementTurn, exit_of};
+
+use fallible_contract::folds::{Exit, Turn};
+
+// A std iterator behind a reference, of each of whose calls it is known besides that it made progress.
+#[derive(Drop)]
+pub(crate) struct Progressing<'a, I> {
+    pub(crate) it: &'a mut I,
+}
+
+impl<'a, I: std::iter::Iterator> std::iter::Iterator for Progressing<'a, I> {
+    type Item = I::Item;
+
+    ghost can_next = { λ s. I.can_next s.it.now };
+
+    ghost next_gives = { λ s r t. progressing I.can_next I.next_gives I.remaining s.it r t.it };
+
+    ghost remaining = { λ s. I.remaining s.it.now };
+
+    fn next(&mut self) -> Option<I::Item> {
+        self.it.next()
+    }
+}
+
+impl<'a, I: std::iter::DoubleEndedIterator> std::iter::DoubleEndedIterator for Progressing<'a, I> {
+    ghost can_next_back = { λ s. I.can_next_back s.it.now };
+
+    ghost next_back_gives = { λ s r t. progressing I.can_next_back I.next_back_gives I.remaining s.it r t.it };
+
+    fn next_back(&mut self) -> Option<I::Item> {
+        self.it.next_back()
+    }
+}
+
+// One turn of std's fold: the caller's turn on an item. A failure stops the fold.
+pub(crate) fn turn<C, A, E, R, K: Turn<C, A, R>>(
+    k: &K,
+    carried: C,
+    element: Result<A, E>,
+) -> Result<C, Exit<C, E, R>>
+    requires { IfOk element (λ x. K.can_turn k.now carried x) }
+    ensures { ElementTurn (K.turns k.now) carried element result }
+{
+    match element {
+        Ok(x) => match k.turn(carried, x) {
+            Ok(carried) => Ok(carried),
+            Err(stop) => Err(Exit::Stopped(stop)),
+        },
+        Err(e) => Err(Exit::Failed(carried, e)),
+    }
+}
+
+// How the fold ended, by what std's fold answered.
+pub(crate) fn exited<C, E, R>(folded: Result<C, Exit<C, E, R>>) -> Exit<C, E, R>
+    ensures { result ≡ exit_of folded }
+{
+    match folded {
+        Ok(carried) => Exit::Ended(carried),
+        Err(exit) => exit,
+    }
+}
