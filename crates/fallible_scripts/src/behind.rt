@@ -2,6 +2,7 @@
 use crate::counted::{Counted, Log};
 use fallible_iterator::{DoubleEndedFallibleIterator, FallibleIterator};
 use fallible_testing::listed::listed;
+use fallible_testing::test_error::TestError;
 use std::test::Fail;
 
 #[test]
@@ -57,5 +58,51 @@ fn chain_stopped_in_its_back_goes_on_there(rt: HostRuntime) -> Result<(), Fail> 
     assert_eq!(rt; it.next(), Ok(Some(1)));
     assert_eq!(rt; fronts.read(), [1, 0, 0, 0, 0, 0, 0, 0]);
     assert_eq!(rt; backs.read(), [0, 1, 0, 1, 0, 0, 0, 0]);
+    Ok(())
+}
+
+#[test]
+fn cloned_folds_from_behind_by_one_fold(rt: HostRuntime) -> Result<(), Fail> {
+    let log = Log::new();
+    let (one, two) = (1, 2);
+    let it = listed::<&u32, TestError, 2>(rt.alloc(), [Ok(&one), Ok(&two)])?;
+    let mut it = Counted::new(it, &log).cloned();
+    let stopped: Result<u32, TestError> = it.try_rfold(
+        0,
+        |_: u32, x: u32| Err(TestError::Number(x)),
+    );
+    assert_eq!(rt; stopped, Err(TestError::Number(2)));
+    assert_eq!(rt; log.read(), [0, 0, 0, 1, 0, 0, 0, 0]);
+    Ok(())
+}
+
+#[test]
+fn filter_map_draws_and_folds_from_behind_by_folds(rt: HostRuntime) -> Result<(), Fail> {
+    let log = Log::new();
+    let it = listed::<u32, u32, 4>(rt.alloc(), [Ok(1), Ok(2), Ok(3), Ok(4)])?;
+    let mut it = Counted::new(it, &log).filter_map(|x: u32| {
+        if x % 2 == 0 {
+            Ok(Some(x.wrapping_mul(10)))
+        } else {
+            Ok(None)
+        }
+    });
+    assert_eq!(rt; it.draw_back(), Ok(Some(40)));
+    let sum: Result<u32, u32> = it.try_rfold(0, |sum: u32, x: u32| Ok(sum.wrapping_add(x)));
+    assert_eq!(rt; sum, Ok(20));
+    assert_eq!(rt; log.read(), [0, 0, 0, 2, 0, 0, 0, 0]);
+    Ok(())
+}
+
+#[test]
+fn inspect_and_map_err_fold_from_behind_by_one_fold(rt: HostRuntime) -> Result<(), Fail> {
+    let log = Log::new();
+    let it = listed::<u32, u32, 3>(rt.alloc(), [Ok(1), Ok(2), Ok(3)])?;
+    let mut it = Counted::new(it, &log)
+        .inspect(|x: &u32| if *x == 1 { Err(9) } else { Ok(()) })
+        .map_err(|e: u32| e.wrapping_add(100));
+    let sum: Result<u32, u32> = it.try_rfold(0, |sum: u32, x: u32| Ok(sum.wrapping_add(x)));
+    assert_eq!(rt; sum, Err(109));
+    assert_eq!(rt; log.read(), [0, 0, 0, 1, 0, 0, 0, 0]);
     Ok(())
 }

@@ -2,6 +2,7 @@
 use crate::counted::{Counted, Log};
 use fallible_iterator::FallibleIterator;
 use fallible_testing::listed::listed;
+use fallible_testing::test_error::TestError;
 use std::test::Fail;
 
 #[test]
@@ -50,5 +51,174 @@ fn fuse_keeps_the_end_that_its_fold_met(rt: HostRuntime) -> Result<(), Fail> {
     let again: Result<u32, u32> = it.try_fold(0, |sum: u32, x: u32| Ok(sum.wrapping_add(x)));
     assert_eq!(rt; again, Ok(0));
     assert_eq!(rt; log.read(), [0, 0, 1, 0, 0, 0, 0, 0]);
+    Ok(())
+}
+
+#[test]
+fn skip_while_draws_by_a_find(rt: HostRuntime) -> Result<(), Fail> {
+    let log = Log::new();
+    let it = listed::<u32, u32, 4>(rt.alloc(), [Ok(1), Ok(2), Ok(3), Ok(4)])?;
+    let mut it = Counted::new(it, &log).skip_while(|x: &u32| Ok(*x < 3));
+    assert_eq!(rt; it.draw(), Ok(Some(3)));
+    assert_eq!(rt; log.read(), [0, 0, 0, 0, 0, 0, 0, 1]);
+    Ok(())
+}
+
+#[test]
+fn peekable_folds_what_it_holds_and_then_its_source(rt: HostRuntime) -> Result<(), Fail> {
+    let log = Log::new();
+    let it = listed::<u32, u32, 4>(rt.alloc(), [Ok(1), Ok(2), Ok(3), Ok(4)])?;
+    let mut it = Counted::new(it, &log).peekable();
+    assert_eq!(rt; it.peek_copied(), Ok(Some(1)));
+    let sum: Result<u32, u32> = it.try_fold(0, |sum: u32, x: u32| Ok(sum.wrapping_add(x)));
+    assert_eq!(rt; sum, Ok(10));
+    assert_eq!(rt; log.read(), [1, 0, 1, 0, 0, 0, 0, 0]);
+    Ok(())
+}
+
+#[test]
+fn filter_keeps_its_closure_where_a_fold_stops(rt: HostRuntime) -> Result<(), Fail> {
+    let log = Log::new();
+    let it = listed::<u32, u32, 5>(rt.alloc(), [Ok(1), Ok(2), Ok(3), Ok(4), Ok(5)])?;
+    let mut calls: u32 = 0;
+    let mut it = Counted::new(it, &log).filter(|_: &u32| {
+        calls = calls.wrapping_add(1);
+        Ok(calls % 2 == 1)
+    });
+    assert_eq!(rt; it.draw(), Ok(Some(1)));
+    let mut on = 0;
+    let stopped: Result<u32, u32> = it.try_fold(0, |_: u32, x: u32| {
+        on = x;
+        Err(7)
+    });
+    assert_eq!(rt; stopped, Err(7));
+    assert_eq!(rt; on, 3);
+    assert_eq!(rt; it.draw(), Ok(Some(5)));
+    assert_eq!(rt; log.read(), [0, 0, 3, 0, 0, 0, 0, 0]);
+    Ok(())
+}
+
+#[test]
+fn filter_map_draws_and_folds_by_folds(rt: HostRuntime) -> Result<(), Fail> {
+    let log = Log::new();
+    let it = listed::<u32, u32, 4>(rt.alloc(), [Ok(1), Ok(2), Ok(3), Ok(4)])?;
+    let mut it = Counted::new(it, &log).filter_map(|x: u32| {
+        if x % 2 == 0 {
+            Ok(Some(x.wrapping_mul(10)))
+        } else {
+            Ok(None)
+        }
+    });
+    assert_eq!(rt; it.draw(), Ok(Some(20)));
+    let sum: Result<u32, u32> = it.try_fold(0, |sum: u32, x: u32| Ok(sum.wrapping_add(x)));
+    assert_eq!(rt; sum, Ok(40));
+    assert_eq!(rt; log.read(), [0, 0, 2, 0, 0, 0, 0, 0]);
+    Ok(())
+}
+
+#[test]
+fn inspect_folds_by_one_fold(rt: HostRuntime) -> Result<(), Fail> {
+    let log = Log::new();
+    let it = listed::<u32, u32, 3>(rt.alloc(), [Ok(1), Ok(2), Ok(3)])?;
+    let mut it = Counted::new(it, &log).inspect(|x: &u32| if *x == 3 { Err(9) } else { Ok(()) });
+    let sum: Result<u32, u32> = it.try_fold(0, |sum: u32, x: u32| Ok(sum.wrapping_add(x)));
+    assert_eq!(rt; sum, Err(9));
+    assert_eq!(rt; log.read(), [0, 0, 1, 0, 0, 0, 0, 0]);
+    Ok(())
+}
+
+#[test]
+fn cloned_folds_by_one_fold(rt: HostRuntime) -> Result<(), Fail> {
+    let log = Log::new();
+    let (one, two) = (1, 2);
+    let it = listed::<&u32, TestError, 2>(rt.alloc(), [Ok(&one), Ok(&two)])?;
+    let mut it = Counted::new(it, &log).cloned();
+    let sum: Result<u32, TestError> = it.try_fold(0, |sum: u32, x: u32| Ok(sum.wrapping_add(x)));
+    assert_eq!(rt; sum, Ok(3));
+    assert_eq!(rt; log.read(), [0, 0, 1, 0, 0, 0, 0, 0]);
+    Ok(())
+}
+
+#[test]
+fn enumerate_folds_by_one_fold_and_counts_on(rt: HostRuntime) -> Result<(), Fail> {
+    let log = Log::new();
+    let it = listed::<u32, u32, 3>(rt.alloc(), [Ok(5), Ok(6), Ok(7)])?;
+    let mut it = Counted::new(it, &log).enumerate();
+    let stopped: Result<usize, u32> = it.try_fold(0, |_: usize, both: (usize, u32)| {
+        if both.0 == 1 { Err(both.1) } else { Ok(both.0) }
+    });
+    assert_eq!(rt; stopped, Err(6));
+    assert_eq!(rt; it.next(), Ok(Some((2, 7))));
+    assert_eq!(rt; log.read(), [1, 0, 1, 0, 0, 0, 0, 0]);
+    Ok(())
+}
+
+#[test]
+fn fuse_passes_nth_on(rt: HostRuntime) -> Result<(), Fail> {
+    let log = Log::new();
+    let it = listed::<u32, u32, 2>(rt.alloc(), [Ok(5), Ok(6)])?;
+    let mut it = Counted::new(it, &log).fuse();
+    assert_eq!(rt; it.nth(1), Ok(Some(6)));
+    assert_eq!(rt; log.read(), [0, 0, 0, 0, 0, 0, 1, 0]);
+    Ok(())
+}
+
+#[test]
+fn map_err_passes_nth_on(rt: HostRuntime) -> Result<(), Fail> {
+    let log = Log::new();
+    let it = listed::<u32, u32, 2>(rt.alloc(), [Ok(5), Ok(6)])?;
+    let mut it = Counted::new(it, &log).map_err(|e: u32| e.wrapping_add(100));
+    assert_eq!(rt; it.nth(2), Ok(None));
+    assert_eq!(rt; log.read(), [0, 0, 0, 0, 0, 0, 1, 0]);
+    Ok(())
+}
+
+#[test]
+fn references_and_boxes_pass_nth_on(rt: HostRuntime) -> Result<(), Fail> {
+    let log = Log::new();
+    let it = listed::<u32, u32, 3>(rt.alloc(), [Ok(5), Ok(6), Ok(7)])?;
+    let mut it = Counted::new(it, &log);
+    let mut borrowed = &mut it;
+    assert_eq!(rt; borrowed.nth(1), Ok(Some(6)));
+    let mut boxed = Box::new(rt.alloc(), it)?;
+    assert_eq!(rt; boxed.nth(0), Ok(Some(7)));
+    assert_eq!(rt; log.read(), [0, 0, 0, 0, 0, 0, 2, 0]);
+    Ok(())
+}
+
+#[test]
+fn enumerate_counts_by_one_fold(rt: HostRuntime) -> Result<(), Fail> {
+    let log = Log::new();
+    let it = listed::<u32, u32, 2>(rt.alloc(), [Ok(5), Ok(6)])?;
+    assert_eq!(rt; Counted::new(it, &log).enumerate().count(), Ok(2));
+    assert_eq!(rt; log.read(), [0, 0, 1, 0, 0, 0, 0, 0]);
+    Ok(())
+}
+
+#[test]
+fn fuse_and_map_err_pass_count_on(rt: HostRuntime) -> Result<(), Fail> {
+    let log = Log::new();
+    let it = listed::<u32, u32, 2>(rt.alloc(), [Ok(5), Ok(6)])?;
+    assert_eq!(rt; Counted::new(it, &log).fuse().count(), Ok(2));
+    let it = listed::<u32, u32, 2>(rt.alloc(), [Ok(5), Err(6)])?;
+    let failed = Counted::new(it, &log)
+        .map_err(|e: u32| e.wrapping_add(100))
+        .count();
+    assert_eq!(rt; failed, Err(106));
+    assert_eq!(rt; log.read(), [0, 0, 0, 0, 2, 0, 0, 0]);
+    Ok(())
+}
+
+#[test]
+fn fuse_and_map_err_pass_last_on(rt: HostRuntime) -> Result<(), Fail> {
+    let log = Log::new();
+    let it = listed::<u32, u32, 2>(rt.alloc(), [Ok(5), Ok(6)])?;
+    assert_eq!(rt; Counted::new(it, &log).fuse().last(), Ok(Some(6)));
+    let it = listed::<u32, u32, 2>(rt.alloc(), [Ok(5), Err(6)])?;
+    let failed = Counted::new(it, &log)
+        .map_err(|e: u32| e.wrapping_add(100))
+        .last();
+    assert_eq!(rt; failed, Err(106));
+    assert_eq!(rt; log.read(), [0, 0, 0, 0, 0, 2, 0, 0]);
     Ok(())
 }

@@ -6,3 +6,7 @@ mod behind;
 pub mod counted;
 #[cfg(test)]
 mod front;
+#[cfg(test)]
+mod joining;
+#[cfg(test)]
+mod nests;

@@ -1,6 +1,7 @@
 // Comparisons draw in rounds, and what the deciding round left is drawn next.
 ghost use Rattle.std.specs.Prelude.{◌^◌, ◌-◌, IfOk};
 
+use crate::parts::Parts;
 use fallible_iterator::{Convert, FallibleIterator, empty, once_err};
 use fallible_testing::listed::listed;
 use std::alloc::{AllocError, Global};
@@ -71,8 +72,41 @@ fn cmp_of_a_longer_one_is_greater(rt: HostRuntime) -> Result<(), Fail> {
     Ok(())
 }
 
-// one item that compares with nothing, not even with itself
-fn without_order(alloc: Global) -> Result<Convert<IntoIter<Result<f64, u32>>>, AllocError>
+// one item, a pair
+fn pair(
+    alloc: Global,
+    first: u32,
+    second: u32,
+) -> Result<Convert<IntoIter<Result<Parts, u32>>>, AllocError>
+    ensures can { IfOk result ⟦<Convert<IntoIter<Result<Parts, u32>>> as FallibleIterator>⟧.contract.can }
+    ensures finite { IfOk result (λ s. ⟦<Convert<IntoIter<Result<Parts, u32>>> as FallibleIterator>⟧.contract.to_come s (2 ^ 64 - 1)) }
+{
+    listed::<Parts, u32, 1>(alloc, [Ok(Parts { first, second })])
+}
+
+#[test]
+fn items_without_an_order_are_neither_less_nor_greater_nor_equal(
+    rt: HostRuntime,
+) -> Result<(), Fail> {
+    let (left, right) = (pair(rt.alloc(), 1, 2)?, pair(rt.alloc(), 2, 1)?);
+    assert_eq!(rt; left.partial_cmp(right), Ok(None));
+    let (left, right) = (pair(rt.alloc(), 1, 2)?, pair(rt.alloc(), 2, 1)?);
+    assert_eq!(rt; left.lt(right), Ok(false));
+    let (left, right) = (pair(rt.alloc(), 1, 2)?, pair(rt.alloc(), 2, 1)?);
+    assert_eq!(rt; left.le(right), Ok(false));
+    let (left, right) = (pair(rt.alloc(), 1, 2)?, pair(rt.alloc(), 2, 1)?);
+    assert_eq!(rt; left.gt(right), Ok(false));
+    let (left, right) = (pair(rt.alloc(), 1, 2)?, pair(rt.alloc(), 2, 1)?);
+    assert_eq!(rt; left.ge(right), Ok(false));
+    let (left, right) = (pair(rt.alloc(), 1, 2)?, pair(rt.alloc(), 2, 1)?);
+    assert_eq!(rt; left.eq(right), Ok(false));
+    let (left, right) = (pair(rt.alloc(), 1, 2)?, pair(rt.alloc(), 2, 1)?);
+    assert_eq!(rt; left.ne(right), Ok(true));
+    Ok(())
+}
+
+// one item that is unlike itself
+fn unlike_itself(alloc: Global) -> Result<Convert<IntoIter<Result<f64, u32>>>, AllocError>
     ensures can { IfOk result ⟦<Convert<IntoIter<Result<f64, u32>>> as FallibleIterator>⟧.contract.can }
     ensures finite { IfOk result (λ s. ⟦<Convert<IntoIter<Result<f64, u32>>> as FallibleIterator>⟧.contract.to_come s (2 ^ 64 - 1)) }
 {
@@ -80,22 +114,12 @@ fn without_order(alloc: Global) -> Result<Convert<IntoIter<Result<f64, u32>>>, A
 }
 
 #[test]
-fn items_without_an_order_are_neither_less_nor_greater_nor_equal(
-    rt: HostRuntime,
-) -> Result<(), Fail> {
-    let left = without_order(rt.alloc())?;
-    assert_eq!(rt; left.partial_cmp(without_order(rt.alloc())?), Ok(None));
-    let left = without_order(rt.alloc())?;
-    assert_eq!(rt; left.lt(without_order(rt.alloc())?), Ok(false));
-    let left = without_order(rt.alloc())?;
-    assert_eq!(rt; left.le(without_order(rt.alloc())?), Ok(false));
-    let left = without_order(rt.alloc())?;
-    assert_eq!(rt; left.gt(without_order(rt.alloc())?), Ok(false));
-    let left = without_order(rt.alloc())?;
-    assert_eq!(rt; left.ge(without_order(rt.alloc())?), Ok(false));
-    let left = without_order(rt.alloc())?;
-    assert_eq!(rt; left.eq(without_order(rt.alloc())?), Ok(false));
-    let left = without_order(rt.alloc())?;
-    assert_eq!(rt; left.ne(without_order(rt.alloc())?), Ok(true));
+fn an_item_unlike_itself_is_neither_equal_nor_in_an_order(rt: HostRuntime) -> Result<(), Fail> {
+    let left = unlike_itself(rt.alloc())?;
+    assert_eq!(rt; left.eq(unlike_itself(rt.alloc())?), Ok(false));
+    let left = unlike_itself(rt.alloc())?;
+    assert_eq!(rt; left.ne(unlike_itself(rt.alloc())?), Ok(true));
+    let left = unlike_itself(rt.alloc())?;
+    assert_eq!(rt; left.partial_cmp(unlike_itself(rt.alloc())?), Ok(None));
     Ok(())
 }

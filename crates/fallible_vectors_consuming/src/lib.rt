@@ -1,6 +1,9 @@
 //! Vectors: the consumers on small inputs, with answers that come from outside.
 #![tactic(auto)]
 
+/// Items of which some have no order.
+pub mod parts;
+
 #[cfg(test)]
 mod collecting;
 #[cfg(test)]

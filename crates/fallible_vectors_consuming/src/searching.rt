@@ -1,8 +1,8 @@
 // Searches end with the item that decides, and the next draw goes on after it.
-use fallible_iterator::{FallibleIterator, IntoFallible, from_fn};
+ghost use Rattle.std.specs.Prelude.{◌^◌, ◌-◌};
+
+use fallible_iterator::{FallibleIterator, from_fn, once};
 use fallible_testing::listed::listed;
-use std::convert::Infallible;
-use std::ops::Range;
 use std::test::Fail;
 
 #[test]
@@ -158,16 +158,49 @@ fn find_calls_its_predicate_once_an_item(rt: HostRuntime) -> Result<(), Fail> {
     Ok(())
 }
 
-// A `take` above the last item gives the number to come that a search finds.
+// What a search for `first` and one for `second` find, and what is drawn after each.
+fn found_twice<I: FallibleIterator<Item = u32>>(
+    mut it: I,
+    first: u32,
+    second: u32,
+) -> Result<[Option<u32>; 4], I::Error>
+where
+    I: Drop,
+    requires can { I.contract.can it }
+    requires finite { I.contract.has_end it }
+{
+    Ok([
+        it.find(|x: &u32| Ok(*x == first))?,
+        it.next()?,
+        it.find(|x: &u32| Ok(*x == second))?,
+        it.next()?,
+    ])
+}
+
+// The same in the items of two inner iterators.
+fn found_in_two<U: FallibleIterator<Item = u32>>(
+    left: U,
+    right: U,
+    first: u32,
+    second: u32,
+) -> Result<[Option<u32>; 4], U::Error>
+where
+    U: Drop,
+    requires left { U.contract.can left }
+    requires right { U.contract.can right }
+    requires left_ends { U.contract.to_come left (2 ^ 64 - 1) }
+    requires right_ends { U.contract.to_come right (2 ^ 64 - 1) }
+{
+    let outer = once::<U, U::Error>(left).chain(once::<U, U::Error>(right));
+    found_twice(outer.flatten(), first, second)
+}
+
 #[test]
 fn find_within_a_flatten_keeps_the_inner_iterator(rt: HostRuntime) -> Result<(), Fail> {
-    let outer = [Ok(IntoFallible::from(1..3)), Ok(IntoFallible::from(3..6))];
-    let it = listed::<IntoFallible<Range<u32>>, Infallible, 2>(rt.alloc(), outer)?;
-    let mut it = it.flatten().take(9);
-    assert_eq!(rt; it.find(|x: &u32| Ok(*x == 1)), Ok(Some(1)));
-    assert_eq!(rt; it.next(), Ok(Some(2)));
-    assert_eq!(rt; it.find(|x: &u32| Ok(*x == 4)), Ok(Some(4)));
-    assert_eq!(rt; it.next(), Ok(Some(5)));
+    let left = listed::<u32, u32, 2>(rt.alloc(), [Ok(1), Ok(2)])?;
+    let right = listed::<u32, u32, 3>(rt.alloc(), [Ok(3), Ok(4), Ok(5)])?;
+    let seen = found_in_two(left, right, 1, 4);
+    assert_eq!(rt; seen, Ok([Some(1), Some(2), Some(4), Some(5)]));
     Ok(())
 }
 

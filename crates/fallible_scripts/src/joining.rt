@@ -1,0 +1,95 @@
+// Folds across several sources go through each one's own.
+ghost use Rattle.std.specs.Prelude.{◌-◌, ◌^◌};
+
+use crate::counted::{Counted, Log};
+use fallible_iterator::{FallibleIterator, IteratorExt, once};
+use fallible_testing::listed::listed;
+use std::test::Fail;
+
+#[test]
+fn chain_folds_each_side_once(rt: HostRuntime) -> Result<(), Fail> {
+    let (fronts, backs) = (Log::new(), Log::new());
+    let front = listed::<u32, u32, 2>(rt.alloc(), [Ok(1), Ok(2)])?;
+    let back = listed::<u32, u32, 2>(rt.alloc(), [Ok(3), Ok(4)])?;
+    let mut it = Counted::new(front, &fronts).chain(Counted::new(back, &backs));
+    let stopped: Result<u32, u32> = it.try_fold(0, |sum: u32, x: u32| {
+        if x == 3 {
+            Err(sum)
+        } else {
+            Ok(sum.wrapping_add(x))
+        }
+    });
+    assert_eq!(rt; stopped, Err(3));
+    assert_eq!(rt; it.next(), Ok(Some(4)));
+    assert_eq!(rt; fronts.read(), [0, 0, 1, 0, 0, 0, 0, 0]);
+    assert_eq!(rt; backs.read(), [1, 0, 1, 0, 0, 0, 0, 0]);
+    Ok(())
+}
+
+// Two ranges, whose numbers to come add up to one that fits.
+#[test]
+fn chain_counts_each_side_once(rt: HostRuntime) -> Result<(), Fail> {
+    let (fronts, backs) = (Log::new(), Log::new());
+    let front = Counted::new((1u32..3).into_fallible(), &fronts);
+    let back = Counted::new((3u32..4).into_fallible(), &backs);
+    assert_eq!(rt; front.chain(back).count(), Ok(3));
+    assert_eq!(rt; fronts.read(), [0, 0, 0, 0, 1, 0, 0, 0]);
+    assert_eq!(rt; backs.read(), [0, 0, 0, 0, 1, 0, 0, 0]);
+    Ok(())
+}
+
+#[test]
+fn chain_takes_the_last_of_each_side(rt: HostRuntime) -> Result<(), Fail> {
+    let (fronts, backs) = (Log::new(), Log::new());
+    let front = listed::<u32, u32, 2>(rt.alloc(), [Ok(1), Ok(2)])?;
+    let back = listed::<u32, u32, 1>(rt.alloc(), [Ok(3)])?;
+    let it = Counted::new(front, &fronts).chain(Counted::new(back, &backs));
+    assert_eq!(rt; it.last(), Ok(Some(3)));
+    assert_eq!(rt; fronts.read(), [0, 0, 0, 0, 0, 1, 0, 0]);
+    assert_eq!(rt; backs.read(), [0, 0, 0, 0, 0, 1, 0, 0]);
+    Ok(())
+}
+
+#[test]
+fn chain_searches_each_side_once(rt: HostRuntime) -> Result<(), Fail> {
+    let (fronts, backs) = (Log::new(), Log::new());
+    let front = listed::<u32, u32, 2>(rt.alloc(), [Ok(1), Ok(2)])?;
+    let back = listed::<u32, u32, 1>(rt.alloc(), [Ok(3)])?;
+    let mut it = Counted::new(front, &fronts).chain(Counted::new(back, &backs));
+    assert_eq!(rt; it.find(|x: &u32| Ok(*x == 3)), Ok(Some(3)));
+    assert_eq!(rt; fronts.read(), [0, 0, 0, 0, 0, 0, 0, 1]);
+    assert_eq!(rt; backs.read(), [0, 0, 0, 0, 0, 0, 0, 1]);
+    Ok(())
+}
+
+// The sum of the items of two inner iterators, which `log` sees the outer source of drawn.
+fn summed_flat<U: FallibleIterator<Item = u32, Error = u32>>(
+    first: U,
+    second: U,
+    log: &Log,
+) -> Result<u32, u32>
+where
+    requires first { U.contract.can first }
+    requires second { U.contract.can second }
+    requires first_ends { U.contract.to_come first (2 ^ 64 - 1) }
+    requires second_ends { U.contract.to_come second (2 ^ 64 - 1) }
+{
+    let outer = once::<U, u32>(first).chain(once::<U, u32>(second));
+    Counted::new(outer, log)
+        .flatten()
+        .try_fold(0, |sum: u32, x: u32| Ok(sum.wrapping_add(x)))
+}
+
+#[test]
+fn flatten_folds_each_source_once(rt: HostRuntime) -> Result<(), Fail> {
+    let (outer, firsts, seconds) = (Log::new(), Log::new(), Log::new());
+    let first = listed::<u32, u32, 2>(rt.alloc(), [Ok(1), Ok(2)])?;
+    let second = listed::<u32, u32, 1>(rt.alloc(), [Ok(3)])?;
+    let first = Counted::new(first, &firsts);
+    let second = Counted::new(second, &seconds);
+    assert_eq!(rt; summed_flat(first, second, &outer), Ok(6));
+    assert_eq!(rt; outer.read(), [0, 0, 1, 0, 0, 0, 0, 0]);
+    assert_eq!(rt; firsts.read(), [0, 0, 1, 0, 0, 0, 0, 0]);
+    assert_eq!(rt; seconds.read(), [0, 0, 1, 0, 0, 0, 0, 0]);
+    Ok(())
+}

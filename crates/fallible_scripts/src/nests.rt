@@ -1,0 +1,88 @@
+// Nests in which one adapter works through another's fold, each beside the same nest drawn by `next` alone.
+use fallible_iterator::laws::Answer::{End, Failure, Item};
+use fallible_iterator::{FallibleIterator, IteratorExt};
+use fallible_testing::answered::expect_answers;
+use fallible_testing::listed::listed;
+use fallible_testing::scripted::{Script, scripted};
+use std::alloc::{AllocError, Global};
+use std::test::Fail;
+
+// 1, an end, and 2.
+fn over_an_end(alloc: Global) -> Result<Script<u32, u32>, AllocError> {
+    scripted(alloc, [Ok(Some(1)), Ok(None), Ok(Some(2))])
+}
+
+// The sum of the items, or the failure.
+fn summed<I: FallibleIterator<Item = u32, Error = u32>>(it: &mut I) -> Result<u32, u32>
+where
+    requires can { I.contract.can it.old }
+    requires finite { I.contract.has_end it.old }
+    ensures can { I.contract.can it.new }
+    ensures finite { I.contract.has_end it.old → I.contract.has_end it.new }
+{
+    it.try_fold(0, |sum: u32, x: u32| Ok(sum.wrapping_add(x)))
+}
+
+#[test]
+fn chain_under_peekable_gives_a_held_item_first(rt: HostRuntime) -> Result<(), Fail> {
+    let back = listed::<u32, u32, 2>(rt.alloc(), [Ok(3), Err(9)])?;
+    let mut it = over_an_end(rt.alloc())?.chain(back).peekable();
+    assert_eq!(rt; it.peek_copied(), Ok(Some(1)));
+    assert_eq!(rt; summed(&mut it), Err(9));
+    expect_answers(&rt, &mut it, &[End])?;
+    let back = listed::<u32, u32, 2>(rt.alloc(), [Ok(3), Err(9)])?;
+    let mut drawn = over_an_end(rt.alloc())?.chain(back).peekable();
+    expect_answers(&rt, &mut drawn, &[Item(1), Item(3), Failure(9), End])
+}
+
+#[test]
+fn chain_under_peekable_ends_at_a_held_end(rt: HostRuntime) -> Result<(), Fail> {
+    let front = listed::<u32, u32, 1>(rt.alloc(), [Ok(1)])?;
+    let back = scripted::<u32, u32, 2>(rt.alloc(), [Ok(None), Ok(Some(3))])?;
+    let mut it = front.chain(back).peekable();
+    assert_eq!(rt; it.draw(), Ok(Some(1)));
+    assert_eq!(rt; it.peek_copied(), Ok(None));
+    assert_eq!(rt; summed(&mut it), Ok(0));
+    assert_eq!(rt; summed(&mut it), Ok(3));
+    let front = listed::<u32, u32, 1>(rt.alloc(), [Ok(1)])?;
+    let back = scripted::<u32, u32, 2>(rt.alloc(), [Ok(None), Ok(Some(3))])?;
+    let mut drawn = front.chain(back).peekable();
+    expect_answers(&rt, &mut drawn, &[Item(1), End, Item(3), End])
+}
+
+#[test]
+fn enumerate_over_chain_numbers_both_sides(rt: HostRuntime) -> Result<(), Fail> {
+    let sides = (5u32..7).into_fallible().chain((7u32..9).into_fallible());
+    let numbers = sides
+        .enumerate()
+        .fold(0, |digits: usize, both: (usize, u32)| {
+            Ok(digits.wrapping_mul(10).wrapping_add(both.0))
+        });
+    assert_eq!(rt; numbers, Ok(123));
+    let mut drawn = (5u32..7)
+        .into_fallible()
+        .chain((7u32..9).into_fallible())
+        .enumerate();
+    let both_sides = [Item((0, 5)), Item((1, 6)), Item((2, 7)), Item((3, 8)), End];
+    expect_answers(&rt, &mut drawn, &both_sides)
+}
+
+#[test]
+fn adapters_over_fuse_fold_up_to_its_end(rt: HostRuntime) -> Result<(), Fail> {
+    let mut filtered = over_an_end(rt.alloc())?
+        .fuse()
+        .filter(|_: &u32| -> Result<bool, u32> { Ok(true) });
+    assert_eq!(rt; summed(&mut filtered), Ok(1));
+    assert_eq!(rt; summed(&mut filtered), Ok(0));
+    let mut mapped = over_an_end(rt.alloc())?
+        .fuse()
+        .filter_map(|x: u32| -> Result<Option<u32>, u32> { Ok(Some(x)) });
+    assert_eq!(rt; summed(&mut mapped), Ok(1));
+    assert_eq!(rt; summed(&mut mapped), Ok(0));
+    let mut skipped = over_an_end(rt.alloc())?
+        .fuse()
+        .skip_while(|_: &u32| -> Result<bool, u32> { Ok(false) });
+    assert_eq!(rt; summed(&mut skipped), Ok(1));
+    assert_eq!(rt; summed(&mut skipped), Ok(0));
+    Ok(())
+}
