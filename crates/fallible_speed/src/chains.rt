@@ -1,0 +1,124 @@
+// The chains of adapters.
+use crate::draining::{collected, counted, drained, sum_of};
+use crate::loops::mixed;
+use crate::name::{Name, Way};
+use fallible_iterator::{FallibleIterator, Fault, IteratorExt};
+use std::alloc::{AllocError, Global};
+use std::convert::Infallible;
+
+// The chain of that name over n numbers, drained that way.
+pub fn run(alloc: Global, way: Way, name: Name, n: u64) -> Result<u64, AllocError> {
+    match name {
+        Name::Count => Ok(sure(count(way, n))),
+        Name::Fold => Ok(sure(fold(way, n))),
+        Name::Chain => Ok(sure(chain(way, n))),
+        Name::Flatten => Ok(sure(flatten(way, n))),
+        Name::SkipWhile => Ok(sure(skip_while(way, n))),
+        Name::StepBy => Ok(sure(step_by(way, n))),
+        Name::Peekable => Ok(sure(peekable(way, n))),
+        Name::Collect => collect(alloc, way, n),
+        Name::Zip => Ok(sure(zip(way, n))),
+        Name::Scan => Ok(sure(scan(way, n))),
+    }
+}
+
+// The answer of what can't fail.
+fn sure(answer: Result<u64, Infallible>) -> u64 {
+    match answer {
+        Ok(value) => value,
+        Err(never) => match never {},
+    }
+}
+
+fn count(way: Way, n: u64) -> Result<u64, Infallible> {
+    counted(
+        way,
+        (0..n)
+            .into_fallible()
+            .map(|x: u64| Ok(mixed(x, x)))
+            .filter(|y: &u64| Ok(*y % 3 == 0)),
+    )
+}
+
+fn fold(way: Way, n: u64) -> Result<u64, Infallible> {
+    drained(
+        way,
+        (0..n)
+            .into_fallible()
+            .map(|x: u64| Ok(mixed(x, x)))
+            .filter(|y: &u64| Ok(*y % 3 == 0)),
+    )
+}
+
+fn chain(way: Way, n: u64) -> Result<u64, Infallible> {
+    drained(
+        way,
+        (0..n / 2).into_fallible().chain((0..n / 2).into_fallible()),
+    )
+}
+
+fn flatten(way: Way, n: u64) -> Result<u64, Infallible> {
+    drained(
+        way,
+        (0..n / 100)
+            .into_fallible()
+            .flat_map(|_: u64| Ok((0..100).into_fallible())),
+    )
+}
+
+fn skip_while(way: Way, n: u64) -> Result<u64, Infallible> {
+    drained(
+        way,
+        (0..n).into_fallible().skip_while(|x: &u64| Ok(*x < n / 4)),
+    )
+}
+
+fn step_by(way: Way, n: u64) -> Result<u64, Infallible> {
+    drained(
+        way,
+        (0..n)
+            .into_fallible()
+            .take_while(|x: &u64| Ok(*x < n - n / 4))
+            .skip(10)
+            .step_by(3),
+    )
+}
+
+fn peekable(way: Way, n: u64) -> Result<u64, Infallible> {
+    let mut ahead = (0..n).into_fallible().peekable();
+    ahead.fill()?;
+    drained(way, ahead)
+}
+
+fn collect(alloc: Global, way: Way, n: u64) -> Result<u64, AllocError> {
+    let numbers = collected(
+        alloc,
+        way,
+        (0..n / 10).into_fallible().map(|x: u64| Ok(mixed(x, x))),
+    );
+    match numbers {
+        Ok(numbers) => Ok(sum_of(numbers)),
+        Err(Fault::Memory(e)) => Err(e),
+        Err(Fault::Source(never)) => match never {},
+    }
+}
+
+fn zip(way: Way, n: u64) -> Result<u64, Infallible> {
+    drained(
+        way,
+        (0..n)
+            .into_fallible()
+            .zip((7..u64::MAX).into_fallible())
+            .map(|both: (u64, u64)| Ok(both.0 ^ both.1)),
+    )
+}
+
+fn scan(way: Way, n: u64) -> Result<u64, Infallible> {
+    drained(
+        way,
+        (0..n).into_fallible().scan(0, |state: &mut u64, x: u64| {
+            *state = mixed(*state, x);
+            Ok(Some(*state))
+        }),
+    )
+}
