@@ -1,10 +1,13 @@
-//! Collections that are made of items.
-ghost use Rattle.std.specs.Prelude.{◌≡◌, ℕ, ◌≤◌, List, [], ◌∷◌, ◌++◌, MatchResult, vec_len, vec_capacity};
+//! Collections that are made of items, and the turns of the folds that fill them.
+ghost use Rattle.std.specs.Prelude.{◌≡◌, ℕ, ◌≤◌, List, [], ◌∷◌, ◌++◌, MatchResult, ⊤, vec_len, vec_capacity};
+ghost use Rattle.fallible_contract.specs.Closures.{call_at, takes_at};
+ghost use Rattle.fallible_contract.specs.Collecting.{PushTurn, PairTurn, PartTurn};
 
 mod deque;
 mod hashed;
 mod sorted;
 
+use crate::folds::Turn;
 use std::alloc::{AllocError, Global};
 
 /// A collection that is made empty and filled item by item.
@@ -62,6 +65,82 @@ impl<T: Drop> Collect<T> for Vec<T> {
         match self.push(item) {
             Ok(()) => Ok(()),
             Err(refused) => Err(AllocError::from(refused)),
+        }
+    }
+}
+
+/// The turn of `collect`: it carries the collection, and stops where that refuses an item.
+#[derive(Drop)]
+pub struct Pushing;
+
+impl<A, C: Collect<A>> Turn<C, A, AllocError> for Pushing {
+    ghost can_turn = { λ _ _ _. ⊤ };
+
+    ghost turns = { λ _ made x r. PushTurn C.made C.push_refuses made x r };
+
+    /// The item after the others.
+    fn turn(&self, carried: C, item: A) -> Result<C, AllocError> {
+        let mut made = carried;
+        match made.push_one(item) {
+            Ok(()) => Ok(made),
+            Err(refused) => Err(refused),
+        }
+    }
+}
+
+/// The turn of `partition`: it carries the predicate and both collections.
+#[derive(Drop)]
+pub struct Parting;
+
+impl<A: Drop, E, B: Collect<A>, F: FnMut(&A) -> Result<bool, E>> Turn<(F, (B, B)), A, Fault<E>>
+    for Parting
+{
+    ghost can_turn = { λ _ c x. takes_at F.FnMut c.0 x };
+
+    ghost turns = { λ _ c x r. PartTurn (call_at F.FnMut) B.made B.push_refuses c x r };
+
+    /// The predicate is asked once, and the item is pushed to the side of its answer.
+    fn turn(&self, carried: (F, (B, B)), item: A) -> Result<(F, (B, B)), Fault<E>> {
+        let (mut f, sides) = carried;
+        let (mut first, mut second) = sides;
+        let answer = match f(&item) {
+            Ok(answer) => answer,
+            Err(e) => return Err(Fault::Source(e)),
+        };
+        if answer {
+            match first.push_one(item) {
+                Ok(()) => Ok((f, (first, second))),
+                Err(refused) => Err(Fault::Memory(refused)),
+            }
+        } else {
+            match second.push_one(item) {
+                Ok(()) => Ok((f, (first, second))),
+                Err(refused) => Err(Fault::Memory(refused)),
+            }
+        }
+    }
+}
+
+/// The turn of `unzip`: it carries both collections.
+#[derive(Drop)]
+pub struct PushingParts;
+
+impl<A, B: Drop, C: Collect<A>, D: Collect<B>> Turn<(C, D), (A, B), AllocError> for PushingParts {
+    ghost can_turn = { λ _ _ _. ⊤ };
+
+    ghost turns = { λ _ c x r. PairTurn C.made D.made C.push_refuses D.push_refuses c x r };
+
+    /// The first part is pushed to the first collection, and then the second part to the second.
+    fn turn(&self, carried: (C, D), item: (A, B)) -> Result<(C, D), AllocError> {
+        let (mut first, mut second) = carried;
+        let (a, b) = item;
+        match first.push_one(a) {
+            Ok(()) => {}
+            Err(refused) => return Err(refused),
+        }
+        match second.push_one(b) {
+            Ok(()) => Ok((first, second)),
+            Err(refused) => Err(refused),
         }
     }
 }

@@ -1,7 +1,8 @@
-//! Searches: the test of one that carries a value, and what a search makes of the fold that it goes through.
-ghost use Rattle.std.specs.Prelude.{◌≡◌, Bool, Result};
+//! Searches: the turns of the folds that they are, the test of one that carries a value, and what a search makes of its fold.
+ghost use Rattle.std.specs.Prelude.{◌≡◌, ◌-◌, ◌^◌, ◌<◌, Bool, Result};
 ghost use Rattle.std.specs.Borrow.{Bor};
-ghost use Rattle.fallible_contract.specs.Searching.{FindTurn, answer_by};
+ghost use Rattle.fallible_contract.specs.Closures.{call_on, takes_on, call_at, takes_at};
+ghost use Rattle.fallible_contract.specs.Searching.{FindTurn, SearchTurn, PlacedTurn, answer_by, all_pick, any_pick, find_map_pick, position_pick, each_pick};
 
 use crate::folds::{Exit, Turn};
 
@@ -59,6 +60,126 @@ impl<'a, C, A: Drop, E, K: Test<C, A, E>> Turn<C, A, (C, Result<A, E>)> for Find
             Ok(true) => Err((carried, Ok(item))),
             Ok(false) => Ok(carried),
             Err(e) => Err((carried, Err(e))),
+        }
+    }
+}
+
+/// The test of `find`: it carries the predicate, and asks it.
+#[derive(Drop)]
+pub struct Asking;
+
+impl<A, E, F: FnMut(&A) -> Result<bool, E>> Test<F, A, E> for Asking {
+    ghost can_test = { λ _ f x. takes_at F.FnMut f x };
+
+    ghost tests = { λ _ f x v g. call_at F.FnMut f x v g };
+
+    /// The predicate's answer, asked once.
+    fn test(&self, carried: F, item: &A) -> (F, Result<bool, E>) {
+        let mut f = carried;
+        let answer = f(item);
+        (f, answer)
+    }
+}
+
+/// The turn of `for_each`: it carries the closure, calls it on each item, and stops where it fails.
+#[derive(Drop)]
+pub struct CallingEach;
+
+impl<A, E, F: FnMut(A) -> Result<(), E>> Turn<F, A, Result<(), E>> for CallingEach {
+    ghost can_turn = { λ _ f x. takes_on F.FnMut f x };
+
+    ghost turns = { λ _ f x r. SearchTurn (call_on F.FnMut) each_pick f x r };
+
+    /// The call, made once.
+    fn turn(&self, carried: F, item: A) -> Result<F, Result<(), E>> {
+        let mut f = carried;
+        match f(item) {
+            Ok(()) => Ok(f),
+            Err(e) => Err(Err(e)),
+        }
+    }
+}
+
+/// The turn of `all`: it carries the predicate, and stops at the first item on which it answers false, or fails.
+#[derive(Drop)]
+pub struct RequiringAll;
+
+impl<A, E, F: FnMut(A) -> Result<bool, E>> Turn<F, A, Result<bool, E>> for RequiringAll {
+    ghost can_turn = { λ _ f x. takes_on F.FnMut f x };
+
+    ghost turns = { λ _ f x r. SearchTurn (call_on F.FnMut) all_pick f x r };
+
+    /// The predicate's answer, asked once.
+    fn turn(&self, carried: F, item: A) -> Result<F, Result<bool, E>> {
+        let mut f = carried;
+        match f(item) {
+            Ok(true) => Ok(f),
+            Ok(false) => Err(Ok(false)),
+            Err(e) => Err(Err(e)),
+        }
+    }
+}
+
+/// The turn of `any`: it carries the predicate, and stops at the first item on which it answers true, or fails.
+#[derive(Drop)]
+pub struct SeekingAny;
+
+impl<A, E, F: FnMut(A) -> Result<bool, E>> Turn<F, A, Result<bool, E>> for SeekingAny {
+    ghost can_turn = { λ _ f x. takes_on F.FnMut f x };
+
+    ghost turns = { λ _ f x r. SearchTurn (call_on F.FnMut) any_pick f x r };
+
+    /// The predicate's answer, asked once.
+    fn turn(&self, carried: F, item: A) -> Result<F, Result<bool, E>> {
+        let mut f = carried;
+        match f(item) {
+            Ok(true) => Err(Ok(true)),
+            Ok(false) => Ok(f),
+            Err(e) => Err(Err(e)),
+        }
+    }
+}
+
+/// The turn of `find_map`: it carries the closure, and stops at the first value that it answers, or where it fails.
+#[derive(Drop)]
+pub struct FindingMapped;
+
+impl<A, B: Drop, E, F: FnMut(A) -> Result<Option<B>, E>> Turn<F, A, Result<Option<B>, E>>
+    for FindingMapped
+{
+    ghost can_turn = { λ _ f x. takes_on F.FnMut f x };
+
+    ghost turns = { λ _ f x r. SearchTurn (call_on F.FnMut) find_map_pick f x r };
+
+    /// The closure's answer, asked once.
+    fn turn(&self, carried: F, item: A) -> Result<F, Result<Option<B>, E>> {
+        let mut f = carried;
+        match f(item) {
+            Ok(Some(y)) => Err(Ok(Some(y))),
+            Ok(None) => Ok(f),
+            Err(e) => Err(Err(e)),
+        }
+    }
+}
+
+/// The turn of `position`: it carries the number of items before and the predicate, and stops at the first item on which that answers true, or fails.
+#[derive(Drop)]
+pub struct Placing;
+
+impl<A, E, F: FnMut(A) -> Result<bool, E>> Turn<(usize, F), A, Result<Option<usize>, E>>
+    for Placing
+{
+    ghost can_turn = { λ _ p x. takes_on F.FnMut p.1 x × (p.0 < 2 ^ 64 - 1) };
+
+    ghost turns = { λ _ p x r. PlacedTurn (call_on F.FnMut) position_pick p x r };
+
+    /// The predicate's answer, asked once, and one more item before the next.
+    fn turn(&self, carried: (usize, F), item: A) -> Result<(usize, F), Result<Option<usize>, E>> {
+        let (before, mut f) = carried;
+        match f(item) {
+            Ok(true) => Err(Ok(Some(before))),
+            Ok(false) => Ok((before + 1, f)),
+            Err(e) => Err(Err(e)),
         }
     }
 }

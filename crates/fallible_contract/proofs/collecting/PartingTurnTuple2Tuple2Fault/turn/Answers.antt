@@ -1,6 +1,6 @@
 -- The call on a reference to the item, and the side that takes it.
 use Rattle.std.proofs.Common.{refl}
-use Rattle.fallible_core.proofs.parting.part.Goals as goal
+use Rattle.fallible_contract.proofs.collecting.PartingTurnTuple2Tuple2Fault.turn.Goals as goal
 
 pub returns-in-Err : goal.returns-in-Err
 returns-in-Err g c = (c.f.new.self, record { shown = _; shows = refl; called = c.in-Err.ensures })

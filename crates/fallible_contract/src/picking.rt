@@ -1,0 +1,98 @@
+//! The best of the items: the turns of the folds that keep the better of two.
+ghost use Rattle.std.specs.Prelude.{◌≡◌};
+ghost use Rattle.std.specs.declared.cmp.Ordering.{Ordering};
+ghost use Rattle.fallible_contract.specs.Closures.{call_at, takes_at};
+ghost use Rattle.fallible_contract.specs.Folds.{FoldTurn};
+ghost use Rattle.fallible_contract.specs.Picking.{same_order, call_at_two, takes_at_two, PickCall, takes_in_pick, KeyCall, item_of};
+
+use crate::folds::Turn;
+use std::cmp::Ordering;
+
+// Whether the best so far stays the best, where it compares so with the next item.
+fn stays_best(keeps: Ordering, order: Ordering) -> bool
+    ensures { result ≡ same_order keeps order }
+{
+    match keeps {
+        Ordering::Less => matches!(order, Ordering::Less),
+        Ordering::Equal => matches!(order, Ordering::Equal),
+        Ordering::Greater => matches!(order, Ordering::Greater),
+    }
+}
+
+/// The turn of a fold that keeps the best item by a closure that compares two: it carries the best so far, if there is one, and the closure.
+#[derive(Drop)]
+pub struct KeepingBest {
+    /// how the best so far compares with an item that it stays before
+    pub keeps: Ordering,
+}
+
+impl<A: Drop, E, F: FnMut(&A, &A) -> Result<Ordering, E>> Turn<(Option<A>, F), A, E>
+    for KeepingBest
+{
+    ghost can_turn = { λ _ p x. takes_in_pick (takes_at_two F.FnMut) p.1 p.0 x };
+
+    ghost turns = { λ k p x r. FoldTurn (PickCall k.keeps (call_at_two F.FnMut)) p x r };
+
+    /// The first item without a call; then the closure is asked once.
+    fn turn(&self, carried: (Option<A>, F), item: A) -> Result<(Option<A>, F), E> {
+        let (best, mut f) = carried;
+        let best = match best {
+            Some(best) => best,
+            None => return Ok((Some(item), f)),
+        };
+        match f(&best, &item) {
+            Ok(order) => {
+                if stays_best(self.keeps, order) {
+                    Ok((Some(best), f))
+                } else {
+                    Ok((Some(item), f))
+                }
+            }
+            Err(e) => Err(e),
+        }
+    }
+}
+
+/// The turn of a fold that keeps the item of the best key: it carries that item beside its key, if there is one, and the closure.
+#[derive(Drop)]
+pub struct KeepingBestKey {
+    /// how the best key so far compares with a key that it stays before
+    pub keeps: Ordering,
+}
+
+impl<A: Drop, E, K: Ord + Drop, F: FnMut(&A) -> Result<K, E>> Turn<(Option<(K, A)>, F), A, E>
+    for KeepingBestKey
+{
+    ghost can_turn = { λ _ p x. takes_at F.FnMut p.1 x };
+
+    ghost turns = { λ k p x r. FoldTurn (KeyCall k.keeps K.cmp (call_at F.FnMut)) p x r };
+
+    /// The key is made once, and compared with the best so far.
+    fn turn(&self, carried: (Option<(K, A)>, F), item: A) -> Result<(Option<(K, A)>, F), E> {
+        let (best, mut f) = carried;
+        let key = match f(&item) {
+            Ok(key) => key,
+            Err(e) => return Err(e),
+        };
+        let best = match best {
+            Some(best) => best,
+            None => return Ok((Some((key, item)), f)),
+        };
+        if stays_best(self.keeps, best.0.cmp(&key)) {
+            Ok((Some(best), f))
+        } else {
+            Ok((Some((key, item)), f))
+        }
+    }
+}
+
+/// The item beside its key, where there is one.
+pub fn without_key<A, E, K: Drop>(best: Result<Option<(K, A)>, E>) -> Result<Option<A>, E>
+    ensures { result ≡ item_of best }
+{
+    match best {
+        Ok(Some((_, x))) => Ok(Some(x)),
+        Ok(None) => Ok(None),
+        Err(e) => Err(e),
+    }
+}
