@@ -9,7 +9,6 @@ pub mod joining;
 pub mod laws;
 pub mod number;
 pub mod one_to_one;
-mod parting;
 pub mod peeking;
 mod picking;
 pub mod traits;

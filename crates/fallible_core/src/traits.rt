@@ -39,26 +39,29 @@ mod boxed;
 pub mod conversion;
 pub mod double_ended;
 
-use crate::comparing::{
-    ByCmp, ByEq, ByPartialCmp, compare, ordered, read_eq, read_ge, read_gt, read_le, read_lt,
-    read_ne,
-};
+use crate::comparing::compare;
 use crate::cutting::{Fuse, Skip, StepBy, Take, TakeWhile};
 use crate::ends::Rev;
 use crate::filtering::{Filter, FilterMap, SkipWhile};
 use crate::joining::{Chain, Cycle, FlatMap, Flatten, StillDrawn, Zip};
 use crate::number::Number;
 use crate::one_to_one::{Cloned, Enumerate, Inspect, Map, MapErr, Scan};
-use crate::parting::{part, push_pair};
 use crate::peeking::Peekable;
-use crate::picking::{best_by, best_by_key, without_key};
+use crate::picking::{best_by, best_by_key};
 use crate::traits::conversion::IntoFallibleIterator;
 use crate::traits::double_ended::DoubleEndedFallibleIterator;
-use fallible_contract::collecting::{Collect, Fault};
+use fallible_contract::collecting::{Collect, Fault, Parting, Pushing, PushingParts};
+use fallible_contract::comparing::{
+    ByCmp, ByEq, ByPartialCmp, ordered, read_eq, read_ge, read_gt, read_le, read_lt, read_ne,
+};
 use fallible_contract::folds::{
     Counting, Exit, Folding, Is, KeepingLast, Turn, folded_at, unpack, value_at,
 };
-use fallible_contract::searching::{Finding, Test, answer_at};
+use fallible_contract::picking::without_key;
+use fallible_contract::searching::{
+    Asking, CallingEach, Finding, FindingMapped, Placing, RequiringAll, SeekingAny, Test,
+    answer_at,
+};
 use std::alloc::{AllocError, Global};
 use std::cmp::Ordering;
 use std::marker::PhantomData;
@@ -518,16 +521,7 @@ pub trait FallibleIterator: Drop + Sized {
             Ok(made) => made,
             Err(refused) => return Err(Fault::Memory(refused)),
         };
-        let push = |made: C, x: Self::Item| -> Result<C, AllocError>
-            ensures { PushTurn C.made C.push_refuses made x result }
-        {
-            let mut made = made;
-            match made.push_one(x) {
-                Ok(()) => Ok(made),
-                Err(refused) => Err(refused),
-            }
-        };
-        match self.try_fold_carrying(made, &push) {
+        match self.try_fold_carrying(made, &Pushing) {
             Exit::Ended(made) => Ok(made),
             Exit::Failed(_, e) => Err(Fault::Source(e)),
             Exit::Stopped(refused) => Err(Fault::Memory(refused)),
@@ -561,11 +555,7 @@ pub trait FallibleIterator: Drop + Sized {
             Ok(made) => made,
             Err(refused) => return Err(Fault::Memory(refused)),
         };
-        let turn = |carried: (F, (B, B)), x: Self::Item| -> Result<(F, (B, B)), Fault<Self::Error>>
-            requires { takes_at F.FnMut carried.0 x }
-            ensures { PartTurn (call_at F.FnMut) B.made B.push_refuses carried x result }
-        { part(carried, x) };
-        match self.try_fold_carrying((f, (first, second)), &turn) {
+        match self.try_fold_carrying((f, (first, second)), &Parting) {
             Exit::Ended((_, sides)) => Ok(sides),
             Exit::Failed(_, e) => Err(Fault::Source(e)),
             Exit::Stopped(fault) => Err(fault),
@@ -596,10 +586,7 @@ pub trait FallibleIterator: Drop + Sized {
             Ok(made) => made,
             Err(refused) => return Err(Fault::Memory(refused)),
         };
-        let turn = |carried: (FromA, FromB), x: (A, B)| -> Result<(FromA, FromB), AllocError>
-            ensures { PairTurn FromA.made FromB.made FromA.push_refuses FromB.push_refuses carried x result }
-        { push_pair(carried, x) };
-        match self.try_fold_carrying((first, second), &turn) {
+        match self.try_fold_carrying((first, second), &PushingParts) {
             Exit::Ended(both) => Ok(both),
             Exit::Failed(_, e) => Err(Fault::Source(e)),
             Exit::Stopped(refusal) => Err(Fault::Memory(refusal)),
@@ -618,17 +605,7 @@ pub trait FallibleIterator: Drop + Sized {
         ensures searched { (left : Self) × (g : F) × Searched (call_on F.FnMut) each_pick contract.steps tt self f result left g }
         ensures is { (h : Self.Item → Result (Unit {0}) Self.Error) (l : List (Result Self.Item Self.Error)) → Acts (call_on F.FnMut) f h → Lists contract.steps self l → result ≡ each_done h l }
     {
-        let turn = |f: F, x: Self::Item| -> Result<F, Result<(), Self::Error>>
-            requires { takes_on F.FnMut f x }
-            ensures { SearchTurn (call_on F.FnMut) each_pick f x result }
-        {
-            let mut f = f;
-            match f(x) {
-                Ok(()) => Ok(f),
-                Err(e) => Err(Err(e)),
-            }
-        };
-        answer_at(self.try_fold_carrying(f, &turn), ())
+        answer_at(self.try_fold_carrying(f, &CallingEach), ())
     }
 
     /// Whether the predicate answers true on each item up to the end. It stops at the first item on which it answers false, or fails; a failure that comes first is the answer. Nothing is drawn after the answer that decides, and what is left may be drawn from again.
@@ -644,18 +621,7 @@ pub trait FallibleIterator: Drop + Sized {
         ensures is { (h : Self.Item → Result Bool Self.Error) (l : List (Result Self.Item Self.Error)) → Acts (call_on F.FnMut) f h → Lists contract.steps self.old l → result ≡ all_of h l }
         ensures stays { Stays contract self.old self.new }
     {
-        let turn = |f: F, x: Self::Item| -> Result<F, Result<bool, Self::Error>>
-            requires { takes_on F.FnMut f x }
-            ensures { SearchTurn (call_on F.FnMut) all_pick f x result }
-        {
-            let mut f = f;
-            match f(x) {
-                Ok(true) => Ok(f),
-                Ok(false) => Err(Ok(false)),
-                Err(e) => Err(Err(e)),
-            }
-        };
-        answer_at(self.try_fold_carrying(f, &turn), true)
+        answer_at(self.try_fold_carrying(f, &RequiringAll), true)
     }
 
     /// Whether the predicate answers true on an item before the end. It stops at the first item on which it answers true, or fails; a failure that comes first is the answer. Nothing is drawn after the answer that decides, and what is left may be drawn from again.
@@ -671,18 +637,7 @@ pub trait FallibleIterator: Drop + Sized {
         ensures is { (h : Self.Item → Result Bool Self.Error) (l : List (Result Self.Item Self.Error)) → Acts (call_on F.FnMut) f h → Lists contract.steps self.old l → result ≡ any_of h l }
         ensures stays { Stays contract self.old self.new }
     {
-        let turn = |f: F, x: Self::Item| -> Result<F, Result<bool, Self::Error>>
-            requires { takes_on F.FnMut f x }
-            ensures { SearchTurn (call_on F.FnMut) any_pick f x result }
-        {
-            let mut f = f;
-            match f(x) {
-                Ok(true) => Err(Ok(true)),
-                Ok(false) => Ok(f),
-                Err(e) => Err(Err(e)),
-            }
-        };
-        answer_at(self.try_fold_carrying(f, &turn), false)
+        answer_at(self.try_fold_carrying(f, &SeekingAny), false)
     }
 
     /// The first item for which the predicate is true; none where no such item comes before the end. It draws up to and with that item, the first failure or the first end, and calls the predicate on each item drawn, in order; where it fails, its failure is the answer. Nothing is drawn after the answer that decides, and what is left may be drawn from again.
@@ -699,15 +654,7 @@ pub trait FallibleIterator: Drop + Sized {
         ensures is { (h : Self.Item → Result Bool Self.Error) (l : List (Result Self.Item Self.Error)) → Acts (call_at F.FnMut) f h → Lists contract.steps self.old l → result ≡ found h l }
         ensures stays { Stays contract self.old self.new }
     {
-        let test = |f: F, x: &Self::Item| -> (F, Result<bool, Self::Error>)
-            requires { takes_at F.FnMut f x.now }
-            ensures { call_at F.FnMut f x.now result.1 result.0 }
-        {
-            let mut f = f;
-            let answer = f(x);
-            (f, answer)
-        };
-        let (_, answer) = self.find_carrying(f, &test);
+        let (_, answer) = self.find_carrying(f, &Asking);
         answer
     }
 
@@ -725,18 +672,7 @@ pub trait FallibleIterator: Drop + Sized {
         ensures is { (h : Self.Item → Result (Option B) Self.Error) (l : List (Result Self.Item Self.Error)) → Acts (call_on F.FnMut) f h → Lists contract.steps self.old l → result ≡ find_mapped h l }
         ensures stays { Stays contract self.old self.new }
     {
-        let turn = |f: F, x: Self::Item| -> Result<F, Result<Option<B>, Self::Error>>
-            requires { takes_on F.FnMut f x }
-            ensures { SearchTurn (call_on F.FnMut) find_map_pick f x result }
-        {
-            let mut f = f;
-            match f(x) {
-                Ok(Some(y)) => Err(Ok(Some(y))),
-                Ok(None) => Ok(f),
-                Err(e) => Err(Err(e)),
-            }
-        };
-        answer_at(self.try_fold_carrying(f, &turn), None)
+        answer_at(self.try_fold_carrying(f, &FindingMapped), None)
     }
 
     /// How many items come before the first one on which the predicate answers true; none where no such item comes before the end. A failure that comes first, of this iterator or of the predicate, is the answer. Nothing is drawn after the answer that decides, and what is left may be drawn from again.
@@ -752,21 +688,7 @@ pub trait FallibleIterator: Drop + Sized {
         ensures is { (h : Self.Item → Result Bool Self.Error) (l : List (Result Self.Item Self.Error)) → Acts (call_on F.FnMut) f h → Lists contract.steps self.old l → result ≡ position_in h l }
         ensures stays { Stays contract self.old self.new }
     {
-        let turn = |carried: (usize, F), x: Self::Item| -> Result<
-            (usize, F),
-            Result<Option<usize>, Self::Error>,
-        >
-            requires { takes_on F.FnMut carried.1 x × (carried.0 < 2 ^ 64 - 1) }
-            ensures { PlacedTurn (call_on F.FnMut) position_pick carried x result }
-        {
-            let (before, mut f) = carried;
-            match f(x) {
-                Ok(true) => Err(Ok(Some(before))),
-                Ok(false) => Ok((before + 1, f)),
-                Err(e) => Err(Err(e)),
-            }
-        };
-        answer_at(self.try_fold_carrying((0, f), &turn), None)
+        answer_at(self.try_fold_carrying((0, f), &Placing), None)
     }
 
     /// The greatest item, of equal ones the last; none where no item comes before the end. The first failure is the answer, and nothing is drawn after it.

@@ -39,11 +39,7 @@ where
             Some(f) => f,
             None => unreachable!(),
         };
-        let ask = |f: F, x: I::Item| -> Result<F, (F, Result<I::Item, I::Error>)>
-            requires { takes_at F.FnMut f x }
-            ensures { PassTurn (call_at F.FnMut) filter_outcome f x result }
-        { turn(f, x) };
-        let (f, answer) = unpack(self.it.try_fold_carrying(f, &ask));
+        let (f, answer) = unpack(self.it.try_fold_carrying(f, &Asking));
         self.f = Some(f);
         answer
     }
@@ -85,11 +81,7 @@ where
             Some(f) => f,
             None => unreachable!(),
         };
-        let ask = |f: F, x: I::Item| -> Result<F, (F, Result<I::Item, I::Error>)>
-            requires { takes_at F.FnMut f x }
-            ensures { PassTurn (call_at F.FnMut) filter_outcome f x result }
-        { turn(f, x) };
-        let (f, answer) = unpack(self.it.try_rfold_carrying(f, &ask));
+        let (f, answer) = unpack(self.it.try_rfold_carrying(f, &Asking));
         self.f = Some(f);
         answer
     }
@@ -112,15 +104,21 @@ where
     ghost lawful_ends = { lawful_ends_seen filter_parts (lawful_ends_filter F.FnMut I.lawful_ends) };
 }
 
-// One turn of a fold: stops at an item that the predicate accepts or fails on, and goes on after one that it refuses.
-fn turn<X: Drop, E, F: FnMut(&X) -> Result<bool, E>>(f: F, x: X) -> Result<F, (F, Result<X, E>)>
-    requires { takes_at F.FnMut f x }
-    ensures { PassTurn (call_at F.FnMut) filter_outcome f x result }
-{
-    let mut f = f;
-    match f(&x) {
-        Ok(keep) => { if keep { Err((f, Ok(x))) } else { Ok(f) } }
-        Err(e) => Err((f, Err(e))),
+// The turn of `next`: stops at an item that the predicate accepts or fails on, and goes on after one that it refuses.
+#[derive(Drop)]
+struct Asking;
+
+impl<X: Drop, E, F: FnMut(&X) -> Result<bool, E>> Turn<F, X, (F, Result<X, E>)> for Asking {
+    ghost can_turn = { λ _ f x. takes_at F.FnMut f x };
+
+    ghost turns = { λ _ f x r. PassTurn (call_at F.FnMut) filter_outcome f x r };
+
+    fn turn(&self, carried: F, item: X) -> Result<F, (F, Result<X, E>)> {
+        let mut f = carried;
+        match f(&item) {
+            Ok(keep) => { if keep { Err((f, Ok(item))) } else { Ok(f) } }
+            Err(e) => Err((f, Err(e))),
+        }
     }
 }
 

@@ -36,11 +36,7 @@ impl<I: FallibleIterator, B, F: FnMut(I::Item) -> Result<Option<B>, I::Error>> F
             Some(f) => f,
             None => unreachable!(),
         };
-        let ask = |f: F, x: I::Item| -> Result<F, (F, Result<B, I::Error>)>
-            requires { takes_on F.FnMut f x }
-            ensures { PassTurn (call_on F.FnMut) filter_map_outcome f x result }
-        { turn(f, x) };
-        let (f, value) = unpack(self.it.try_fold_carrying(f, &ask));
+        let (f, value) = unpack(self.it.try_fold_carrying(f, &Asking));
         self.f = Some(f);
         value
     }
@@ -80,11 +76,7 @@ impl<
             Some(f) => f,
             None => unreachable!(),
         };
-        let ask = |f: F, x: I::Item| -> Result<F, (F, Result<B, I::Error>)>
-            requires { takes_on F.FnMut f x }
-            ensures { PassTurn (call_on F.FnMut) filter_map_outcome f x result }
-        { turn(f, x) };
-        let (f, answer) = unpack(self.it.try_rfold_carrying(f, &ask));
+        let (f, answer) = unpack(self.it.try_rfold_carrying(f, &Asking));
         self.f = Some(f);
         answer
     }
@@ -107,16 +99,22 @@ impl<
     ghost lawful_ends = { lawful_ends_seen filter_map_parts (lawful_ends_filter_map F.FnMut I.lawful_ends) };
 }
 
-// One turn of a fold: stops at an item on which the closure answers a value or fails, and goes on after one on which it answers none.
-fn turn<X, B, E, F: FnMut(X) -> Result<Option<B>, E>>(f: F, x: X) -> Result<F, (F, Result<B, E>)>
-    requires { takes_on F.FnMut f x }
-    ensures { PassTurn (call_on F.FnMut) filter_map_outcome f x result }
-{
-    let mut f = f;
-    match f(x) {
-        Ok(Some(y)) => Err((f, Ok(y))),
-        Ok(None) => Ok(f),
-        Err(e) => Err((f, Err(e))),
+// The turn of `next`: stops at an item on which the closure answers a value or fails, and goes on after one on which it answers none.
+#[derive(Drop)]
+struct Asking;
+
+impl<X, B, E, F: FnMut(X) -> Result<Option<B>, E>> Turn<F, X, (F, Result<B, E>)> for Asking {
+    ghost can_turn = { λ _ f x. takes_on F.FnMut f x };
+
+    ghost turns = { λ _ f x r. PassTurn (call_on F.FnMut) filter_map_outcome f x r };
+
+    fn turn(&self, carried: F, item: X) -> Result<F, (F, Result<B, E>)> {
+        let mut f = carried;
+        match f(item) {
+            Ok(Some(y)) => Err((f, Ok(y))),
+            Ok(None) => Ok(f),
+            Err(e) => Err((f, Err(e))),
+        }
     }
 }
 

@@ -9,6 +9,7 @@ ghost use Rattle.fallible_core.specs.Laws.Filtering.SkipWhile.{lawful_skip_while
 
 use crate::traits::FallibleIterator;
 use fallible_contract::folds::{Exit, Turn};
+use fallible_contract::searching::Test;
 
 /// The items from the first one on to which the predicate answers false. It is asked up to and with that item and never again; an item on which it fails is lost, and its failure is the answer.
 #[derive(Clone, Debug, Drop)]
@@ -37,11 +38,7 @@ where
             Some(predicate) => predicate,
             None => unreachable!(),
         };
-        let ask = |state: (bool, P), x: &I::Item| -> ((bool, P), Result<bool, I::Error>)
-            requires { skip_takes (takes_at P.FnMut) state x.now }
-            ensures { PassTest (skip_call (call_at P.FnMut)) skip_while_outcome state x.now result.1 result.0 }
-        { test(state, x) };
-        let (state, answer) = self.it.find_carrying((self.found, predicate), &ask);
+        let (state, answer) = self.it.find_carrying((self.found, predicate), &Asking);
         let (found, predicate) = state;
         self.found = found;
         self.predicate = Some(predicate);
@@ -75,21 +72,24 @@ where
     ghost lawful = { lawful_seen skip_while_parts (lawful_skip_while P.FnMut I.lawful) };
 }
 
-// One test, with the flag beside the predicate: accepts an item once the predicate answered false, or where it does so now.
-fn test<X, E, P: FnMut(&X) -> Result<bool, E>>(
-    state: (bool, P),
-    x: &X,
-) -> ((bool, P), Result<bool, E>)
-    requires { skip_takes (takes_at P.FnMut) state x.now }
-    ensures { PassTest (skip_call (call_at P.FnMut)) skip_while_outcome state x.now result.1 result.0 }
-{
-    let (found, mut predicate) = state;
-    if found {
-        return ((true, predicate), Ok(true));
-    }
-    match predicate(x) {
-        Ok(true) => ((false, predicate), Ok(false)),
-        Ok(false) => ((true, predicate), Ok(true)),
-        Err(e) => ((false, predicate), Err(e)),
+// The test of `next`, with the flag beside the predicate: accepts an item once the predicate answered false, or where it does so now.
+#[derive(Drop)]
+struct Asking;
+
+impl<X, E, P: FnMut(&X) -> Result<bool, E>> Test<(bool, P), X, E> for Asking {
+    ghost can_test = { λ _ state x. skip_takes (takes_at P.FnMut) state x };
+
+    ghost tests = { λ _ state x v d. PassTest (skip_call (call_at P.FnMut)) skip_while_outcome state x v d };
+
+    fn test(&self, carried: (bool, P), item: &X) -> ((bool, P), Result<bool, E>) {
+        let (found, mut predicate) = carried;
+        if found {
+            return ((true, predicate), Ok(true));
+        }
+        match predicate(item) {
+            Ok(true) => ((false, predicate), Ok(false)),
+            Ok(false) => ((true, predicate), Ok(true)),
+            Err(e) => ((false, predicate), Err(e)),
+        }
     }
 }

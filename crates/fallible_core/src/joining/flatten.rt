@@ -87,30 +87,33 @@ where
     requires can_inner { EachInner O.contract U.into_gives U.IntoFallibleIter.contract U.IntoFallibleIter.contract.can outer.old }
     ensures { FlattenTrace O.contract.steps U.into_gives U.IntoFallibleIter.contract.steps (outer.old, None) (result.1 ∷ []) (outer.new, result.0) }
 {
-    let begin_with = |in_hand: Option<U::IntoFallibleIter>, x: U| -> Result<
-        Option<U::IntoFallibleIter>,
-        (Option<U::IntoFallibleIter>, Result<U::Item, U::Error>),
-    >
-        requires { (c : U.IntoFallibleIter) → U.into_gives x c → U.IntoFallibleIter.contract.can c }
-        ensures { BeginTurn U.into_gives U.IntoFallibleIter.contract.steps in_hand x result }
-    { turn(in_hand, x) };
-    unpack(outer.try_fold_carrying(None, &begin_with))
+    unpack(outer.try_fold_carrying(None, &Beginning))
 }
 
-// One turn of a fold: stops with the inner iterator that the item becomes in hand, and its first answer, and goes on where it ends at once.
-fn turn<U: IntoFallibleIterator>(
-    in_hand: Option<U::IntoFallibleIter>,
-    x: U,
-) -> Result<Option<U::IntoFallibleIter>, (Option<U::IntoFallibleIter>, Result<U::Item, U::Error>)>
-where
-    requires { (c : U.IntoFallibleIter) → U.into_gives x c → U.IntoFallibleIter.contract.can c }
-    ensures { BeginTurn U.into_gives U.IntoFallibleIter.contract.steps in_hand x result }
-{
-    let mut inner = x.into_fallible_iter();
-    match inner.next() {
-        Ok(Some(y)) => Err((Some(inner), Ok(y))),
-        Ok(None) => Ok(in_hand),
-        Err(e) => Err((Some(inner), Err(e))),
+// The turn of `begin`: stops with the inner iterator that the item becomes in hand, and its first answer, and goes on where it ends at once.
+#[derive(Drop)]
+struct Beginning;
+
+impl<U: IntoFallibleIterator> Turn<
+    Option<U::IntoFallibleIter>,
+    U,
+    (Option<U::IntoFallibleIter>, Result<U::Item, U::Error>),
+> for Beginning {
+    ghost can_turn = { λ _ _ x. (c : U.IntoFallibleIter) → U.into_gives x c → U.IntoFallibleIter.contract.can c };
+
+    ghost turns = { λ _ in_hand x r. BeginTurn U.into_gives U.IntoFallibleIter.contract.steps in_hand x r };
+
+    fn turn(
+        &self,
+        carried: Option<U::IntoFallibleIter>,
+        item: U,
+    ) -> Result<Option<U::IntoFallibleIter>, (Option<U::IntoFallibleIter>, Result<U::Item, U::Error>)> {
+        let mut inner = item.into_fallible_iter();
+        match inner.next() {
+            Ok(Some(y)) => Err((Some(inner), Ok(y))),
+            Ok(None) => Ok(carried),
+            Err(e) => Err((Some(inner), Err(e))),
+        }
     }
 }
 

@@ -1,11 +1,9 @@
 -- The fold that stops at the first inner iterator that does not end at once is the trace of one answer.
-use Rattle.std.proofs.Common.{rules}
-use Rattle.fallible_contract.proofs.Lemmas.Folds.{holds_map}
 use Rattle.fallible_core.proofs.Lemmas.Joining.Flatten.{callable_begins, flatten_fold}
 use Rattle.fallible_core.proofs.joining.flatten.begin.Goals as goal
 
 pub try_fold_carrying-requires-clause-callable : goal.try_fold_carrying-requires-clause-callable
-try_fold_carrying-requires-clause-callable g c = holds_map (λ u x v p. p) (λ u x p. search rules) (callable_begins _ _ _ g.met.O.FallibleIterator.lawful c.requires.can.0 c.requires.can_inner)
+try_fold_carrying-requires-clause-callable g c = callable_begins _ _ _ g.met.O.FallibleIterator.lawful c.requires.can.0 c.requires.can_inner
 
 pub returns : goal.returns
-returns g c = rw c.unpack.ensures (flatten_fold _ _ _ _ (λ u x r p. search rules) c.try_fold_carrying.ensures.carried)
+returns g c = rw c.unpack.ensures (flatten_fold _ _ _ _ (λ u x r p. p) c.try_fold_carrying.ensures.carried)

@@ -1,5 +1,5 @@
 -- The fold that carries the closure is the search.
-use Rattle.std.proofs.Common.{rules, false}
+use Rattle.std.proofs.Common.{false}
 use Rattle.fallible_contract.specs.Closures.{call_on}
 use Rattle.fallible_contract.specs.Searching.{any_pick}
 use Rattle.fallible_contract.proofs.Lemmas.Searching.{searched}
@@ -7,7 +7,7 @@ use Rattle.fallible_contract.proofs.Lemmas.Lists.Searched.{any_is}
 use Rattle.fallible_core.proofs.traits.FallibleIterator.any.Goals as goal
 
 pub returns-clause-searched : goal.returns-clause-searched
-returns-clause-searched g c = searched {call = call_on g.F.FnMut} {pick = any_pick} false (λ f x r w. search rules) c.try_fold_carrying.ensures.carried c.answer_at.ensures
+returns-clause-searched g c = searched {call = call_on g.F.FnMut} {pick = any_pick} false (λ f x r w. w) c.try_fold_carrying.ensures.carried c.answer_at.ensures
 
 pub returns-clause-is : goal.returns-clause-is
-returns-clause-is g c h l acts i = any_is l i {call = call_on g.F.FnMut} h acts (searched {call = call_on g.F.FnMut} {pick = any_pick} false (λ f x r w. search rules) c.try_fold_carrying.ensures.carried c.answer_at.ensures).1
+returns-clause-is g c h l acts i = any_is l i {call = call_on g.F.FnMut} h acts (searched {call = call_on g.F.FnMut} {pick = any_pick} false (λ f x r w. w) c.try_fold_carrying.ensures.carried c.answer_at.ensures).1

@@ -1,17 +1,16 @@
 -- The fold that carries the number of items before and the closure is the search.
-use Rattle.std.proofs.Common.{rules, None}
+use Rattle.std.proofs.Common.{None}
 use Rattle.fallible_contract.specs.Closures.{call_on}
 use Rattle.fallible_contract.specs.Searching.{position_pick}
-use Rattle.fallible_contract.proofs.Lemmas.Folds.{holds_map}
 use Rattle.fallible_contract.proofs.Lemmas.Searching.{searched_placed, placed_callable}
 use Rattle.fallible_contract.proofs.Lemmas.Lists.Searched.{position_is}
 use Rattle.fallible_core.proofs.traits.FallibleIterator.position.Goals as goal
 
 pub try_fold_carrying-requires-clause-callable : goal.try_fold_carrying-requires-clause-callable
-try_fold_carrying-requires-clause-callable g c = holds_map (λ p x q h. search rules) (λ p x h. search rules) (placed_callable (call_on g.F.FnMut) position_pick _ g.met.Self.FallibleIterator.lawful c.requires.can c.requires.fits c.requires.callable)
+try_fold_carrying-requires-clause-callable g c = placed_callable (call_on g.F.FnMut) position_pick _ g.met.Self.FallibleIterator.lawful c.requires.can c.requires.fits c.requires.callable
 
 pub returns-clause-searched : goal.returns-clause-searched
-returns-clause-searched g c = searched_placed {call = call_on g.F.FnMut} {pick = position_pick} None (λ p x r w. search rules) c.try_fold_carrying.ensures.carried c.answer_at.ensures
+returns-clause-searched g c = searched_placed {call = call_on g.F.FnMut} {pick = position_pick} None (λ p x r w. w) c.try_fold_carrying.ensures.carried c.answer_at.ensures
 
 pub returns-clause-is : goal.returns-clause-is
-returns-clause-is g c h l acts i = position_is l i {call = call_on g.F.FnMut} h acts (searched_placed {call = call_on g.F.FnMut} {pick = position_pick} None (λ p x r w. search rules) c.try_fold_carrying.ensures.carried c.answer_at.ensures).1
+returns-clause-is g c h l acts i = position_is l i {call = call_on g.F.FnMut} h acts (searched_placed {call = call_on g.F.FnMut} {pick = position_pick} None (λ p x r w. w) c.try_fold_carrying.ensures.carried c.answer_at.ensures).1

@@ -1,6 +1,6 @@
 -- The call on a reference to the item, and what its answer makes of the item.
 use Rattle.std.proofs.Common.{true, false, Ok, Err, refl}
-use Rattle.fallible_core.proofs.filtering.filter.turn.Goals as goal
+use Rattle.fallible_core.proofs.filtering.filter.AskingTurnTuple2Result.turn.Goals as goal
 
 pub returns-then-keep : goal.returns-then-keep
 returns-then-keep g c = (Ok true, record { shown = _; shows = refl; called = rw c.if-keep.true at c.in-Ok.ensures }, refl)
