@@ -2,12 +2,11 @@
 #![tactic(auto)]
 
 /// Items of which some have no order.
-pub mod parts;
-
 #[cfg(test)]
 mod collecting;
 #[cfg(test)]
 mod comparing;
+pub mod parts;
 #[cfg(test)]
 mod picking;
 #[cfg(test)]
