@@ -93,8 +93,7 @@ impl<A, C: Collect<A>> Turn<C, A, AllocError> for Pushing {
 pub struct Parting;
 
 impl<A: Drop, E, B: Collect<A>, F: FnMut(&A) -> Result<bool, E>> Turn<(F, (B, B)), A, Fault<E>>
-    for Parting
-{
+    for Parting {
     ghost can_turn = { λ _ c x. takes_at F.FnMut c.0 x };
 
     ghost turns = { λ _ c x r. PartTurn (call_at F.FnMut) B.made B.push_refuses c x r };

@@ -27,8 +27,7 @@ pub struct KeepingBest {
 }
 
 impl<A: Drop, E, F: FnMut(&A, &A) -> Result<Ordering, E>> Turn<(Option<A>, F), A, E>
-    for KeepingBest
-{
+    for KeepingBest {
     ghost can_turn = { λ _ p x. takes_in_pick (takes_at_two F.FnMut) p.1 p.0 x };
 
     ghost turns = { λ k p x r. FoldTurn (PickCall k.keeps (call_at_two F.FnMut)) p x r };
@@ -61,8 +60,7 @@ pub struct KeepingBestKey {
 }
 
 impl<A: Drop, E, K: Ord + Drop, F: FnMut(&A) -> Result<K, E>> Turn<(Option<(K, A)>, F), A, E>
-    for KeepingBestKey
-{
+    for KeepingBestKey {
     ghost can_turn = { λ _ p x. takes_at F.FnMut p.1 x };
 
     ghost turns = { λ k p x r. FoldTurn (KeyCall k.keeps K.cmp (call_at F.FnMut)) p x r };

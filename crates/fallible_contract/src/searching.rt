@@ -145,8 +145,7 @@ impl<A, E, F: FnMut(A) -> Result<bool, E>> Turn<F, A, Result<bool, E>> for Seeki
 pub struct FindingMapped;
 
 impl<A, B: Drop, E, F: FnMut(A) -> Result<Option<B>, E>> Turn<F, A, Result<Option<B>, E>>
-    for FindingMapped
-{
+    for FindingMapped {
     ghost can_turn = { λ _ f x. takes_on F.FnMut f x };
 
     ghost turns = { λ _ f x r. SearchTurn (call_on F.FnMut) find_map_pick f x r };
@@ -167,8 +166,7 @@ impl<A, B: Drop, E, F: FnMut(A) -> Result<Option<B>, E>> Turn<F, A, Result<Optio
 pub struct Placing;
 
 impl<A, E, F: FnMut(A) -> Result<bool, E>> Turn<(usize, F), A, Result<Option<usize>, E>>
-    for Placing
-{
+    for Placing {
     ghost can_turn = { λ _ p x. takes_on F.FnMut p.1 x × (p.0 < 2 ^ 64 - 1) };
 
     ghost turns = { λ _ p x r. PlacedTurn (call_on F.FnMut) position_pick p x r };

@@ -59,8 +59,7 @@ use fallible_contract::folds::{
 };
 use fallible_contract::picking::without_key;
 use fallible_contract::searching::{
-    Asking, CallingEach, Finding, FindingMapped, Placing, RequiringAll, SeekingAny, Test,
-    answer_at,
+    Asking, CallingEach, Finding, FindingMapped, Placing, RequiringAll, SeekingAny, Test, answer_at,
 };
 use std::alloc::{AllocError, Global};
 use std::cmp::Ordering;

@@ -1,11 +1,11 @@
 //! Vectors: the consumers on small inputs, with answers that come from outside.
 #![tactic(auto)]
 
-/// Items of which some have no order.
 #[cfg(test)]
 mod collecting;
 #[cfg(test)]
 mod comparing;
+/// Items of which some have no order.
 pub mod parts;
 #[cfg(test)]
 mod picking;

@@ -107,7 +107,10 @@ impl<U: IntoFallibleIterator> Turn<
         &self,
         carried: Option<U::IntoFallibleIter>,
         item: U,
-    ) -> Result<Option<U::IntoFallibleIter>, (Option<U::IntoFallibleIter>, Result<U::Item, U::Error>)> {
+    ) -> Result<
+        Option<U::IntoFallibleIter>,
+        (Option<U::IntoFallibleIter>, Result<U::Item, U::Error>),
+    > {
         let mut inner = item.into_fallible_iter();
         match inner.next() {
             Ok(Some(y)) => Err((Some(inner), Ok(y))),
