@@ -56,6 +56,20 @@ reads_eq (Some Greater) = false
 abbrev pub reads_ne : Option Ordering → Bool
 reads_ne o = not (reads_eq o)
 
+-- An order decides a comparison, and so does the lack of one, unless two items are equal.
+abbrev pub unless_equal : Option Ordering → Option (Option Ordering)
+unless_equal None = Some None
+unless_equal (Some Less) = Some (Some Less)
+unless_equal (Some Equal) = None
+unless_equal (Some Greater) = Some (Some Greater)
+
+-- What a round decides in which neither side fails: two ends are equal, the side that ends alone is less, and two items decide unless they are equal.
+abbrev pub decided : {A : Type 0} → (A → A → Option Ordering) → Option A → Option A → Option (Option Ordering)
+decided rule None None = Some (Some Equal)
+decided rule None (Some y) = Some (Some Less)
+decided rule (Some x) None = Some (Some Greater)
+decided rule (Some x) (Some y) = unless_equal (rule x y)
+
 -- an answer, where the right was drawn
 abbrev pub where_drawn : {A E : Type 0} → Option (Answered A E) → List (Answered A E)
 where_drawn None = []

@@ -1,7 +1,7 @@
 //! Comparisons: the rules of two items, and what is read off a comparison.
 ghost use Rattle.std.specs.Prelude.{◌≡◌, Option, Some, None, Ok};
 ghost use Rattle.std.specs.declared.cmp.Ordering.{Ordering};
-ghost use Rattle.fallible_contract.specs.Comparing.{by_cmp, by_eq, read_as, reads_eq, reads_ne, reads_lt, reads_le, reads_gt, reads_ge};
+ghost use Rattle.fallible_contract.specs.Comparing.{by_cmp, by_eq, decided, read_as, reads_eq, reads_ne, reads_lt, reads_le, reads_gt, reads_ge};
 
 use std::cmp::Ordering;
 
@@ -52,15 +52,27 @@ impl<A: PartialEq> Rule<A> for ByEq {
     }
 }
 
+/// What the answers of one round decide, where neither side failed: none where both are items that are equal by the rule, so that the comparison goes on.
+pub fn decide<A: Drop, K: Rule<A>>(left: Option<A>, right: Option<A>) -> Option<Option<Ordering>>
+    ensures { result ≡ decided K.rule left right }
+{
+    match (left, right) {
+        (None, None) => Some(Some(Ordering::Equal)),
+        (None, Some(_)) => Some(Some(Ordering::Less)),
+        (Some(_), None) => Some(Some(Ordering::Greater)),
+        (Some(x), Some(y)) => match K::compare(&x, &y) {
+            Some(Ordering::Equal) => None,
+            order => Some(order),
+        },
+    }
+}
+
 /// Reads `eq` off a comparison's answer.
 pub fn read_eq<E>(answer: Result<Option<Ordering>, E>) -> Result<bool, E>
     ensures { result ≡ read_as reads_eq answer }
 {
     match answer {
-        Ok(Some(Ordering::Less)) => Ok(false),
-        Ok(Some(Ordering::Equal)) => Ok(true),
-        Ok(Some(Ordering::Greater)) => Ok(false),
-        Ok(None) => Ok(false),
+        Ok(order) => Ok(matches!(order, Some(Ordering::Equal))),
         Err(e) => Err(e),
     }
 }
@@ -70,10 +82,7 @@ pub fn read_ne<E>(answer: Result<Option<Ordering>, E>) -> Result<bool, E>
     ensures { result ≡ read_as reads_ne answer }
 {
     match answer {
-        Ok(Some(Ordering::Less)) => Ok(true),
-        Ok(Some(Ordering::Equal)) => Ok(false),
-        Ok(Some(Ordering::Greater)) => Ok(true),
-        Ok(None) => Ok(true),
+        Ok(order) => Ok(!matches!(order, Some(Ordering::Equal))),
         Err(e) => Err(e),
     }
 }
@@ -83,10 +92,7 @@ pub fn read_lt<E>(answer: Result<Option<Ordering>, E>) -> Result<bool, E>
     ensures { result ≡ read_as reads_lt answer }
 {
     match answer {
-        Ok(Some(Ordering::Less)) => Ok(true),
-        Ok(Some(Ordering::Equal)) => Ok(false),
-        Ok(Some(Ordering::Greater)) => Ok(false),
-        Ok(None) => Ok(false),
+        Ok(order) => Ok(matches!(order, Some(Ordering::Less))),
         Err(e) => Err(e),
     }
 }
@@ -96,10 +102,7 @@ pub fn read_le<E>(answer: Result<Option<Ordering>, E>) -> Result<bool, E>
     ensures { result ≡ read_as reads_le answer }
 {
     match answer {
-        Ok(Some(Ordering::Less)) => Ok(true),
-        Ok(Some(Ordering::Equal)) => Ok(true),
-        Ok(Some(Ordering::Greater)) => Ok(false),
-        Ok(None) => Ok(false),
+        Ok(order) => Ok(matches!(order, Some(Ordering::Less | Ordering::Equal))),
         Err(e) => Err(e),
     }
 }
@@ -109,10 +112,7 @@ pub fn read_gt<E>(answer: Result<Option<Ordering>, E>) -> Result<bool, E>
     ensures { result ≡ read_as reads_gt answer }
 {
     match answer {
-        Ok(Some(Ordering::Less)) => Ok(false),
-        Ok(Some(Ordering::Equal)) => Ok(false),
-        Ok(Some(Ordering::Greater)) => Ok(true),
-        Ok(None) => Ok(false),
+        Ok(order) => Ok(matches!(order, Some(Ordering::Greater))),
         Err(e) => Err(e),
     }
 }
@@ -122,10 +122,7 @@ pub fn read_ge<E>(answer: Result<Option<Ordering>, E>) -> Result<bool, E>
     ensures { result ≡ read_as reads_ge answer }
 {
     match answer {
-        Ok(Some(Ordering::Less)) => Ok(false),
-        Ok(Some(Ordering::Equal)) => Ok(true),
-        Ok(Some(Ordering::Greater)) => Ok(true),
-        Ok(None) => Ok(false),
+        Ok(order) => Ok(matches!(order, Some(Ordering::Greater | Ordering::Equal))),
         Err(e) => Err(e),
     }
 }

@@ -4,7 +4,7 @@ ghost use Rattle.fallible_contract.specs.Comparing.{Compared};
 
 use crate::joining::Zip;
 use crate::traits::FallibleIterator;
-use fallible_contract::comparing::Rule;
+use fallible_contract::comparing::{Rule, decide};
 use std::cmp::Ordering;
 
 /// Draws the left and then the right in each round, until a failure, an end, or two items that aren't equal by the rule.
@@ -30,17 +30,9 @@ where
             Ok(y) => y,
             Err(e) => return Err(e),
         };
-        match (x, y) {
-            (None, None) => return Ok(Some(Ordering::Equal)),
-            (None, Some(_)) => return Ok(Some(Ordering::Less)),
-            (Some(_), None) => return Ok(Some(Ordering::Greater)),
-            (Some(x), Some(y)) => match K::compare(&x, &y) {
-                Some(Ordering::Equal) => {}
-                Some(Ordering::Less) => return Ok(Some(Ordering::Less)),
-                Some(Ordering::Greater) => return Ok(Some(Ordering::Greater)),
-                None => return Ok(None),
-            },
+        match decide::<L::Item, K>(x, y) {
+            Some(order) => return Ok(order),
+            None => count = count.one_less(),
         }
-        count = count.one_less();
     }
 }
