@@ -6,7 +6,6 @@ pub mod cutting;
 pub mod ends;
 pub mod filtering;
 pub mod joining;
-pub mod laws;
 pub mod number;
 pub mod one_to_one;
 pub mod peeking;

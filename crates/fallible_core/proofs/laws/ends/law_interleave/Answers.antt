@@ -1,6 +1,0 @@
--- Each draw takes the first or the last of what is left of the list.
-use Rattle.fallible_contract.proofs.Lemmas.Listed.Interleaving.{interleaves}
-use Rattle.fallible_core.proofs.laws.ends.law_interleave.Goals as goal
-
-pub returns : goal.returns
-returns g c = λ s t l drawn i mixed. interleaves drawn i mixed

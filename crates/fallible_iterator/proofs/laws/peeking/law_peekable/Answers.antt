@@ -1,0 +1,9 @@
+-- A run of the values is one of their parts, which the law of the parts speaks of.
+use Rattle.std.proofs.Common.{refl}
+use Rattle.fallible_core.specs.Peeking.Peekable.{peekable_parts}
+use Rattle.fallible_contract.proofs.Lemmas.Definitions.{meets_held}
+use Rattle.fallible_core.proofs.Lemmas.Peeking.Peekable.{peekable_law}
+use Rattle.fallible_iterator.proofs.laws.peeking.law_peekable.Goals as goal
+
+pub returns : goal.returns
+returns g c = meets_held peekable_parts (λ p. record { it = p.0; held = p.1 }) (λ s. refl) (λ p. refl) _ _ (peekable_law _)

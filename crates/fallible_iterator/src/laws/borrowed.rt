@@ -1,0 +1,18 @@
+//! A borrowed fallible iterator has the runs of its own.
+ghost use Rattle.std.specs.Prelude.{◌≡◌, ◌↔◌, List, Option, Result};
+ghost use Rattle.std.specs.Borrow.{MutBor};
+ghost use Rattle.std.specs.declared.boxed.Box.{Box};
+ghost use Rattle.std.specs.declared.alloc.Global.{Global};
+ghost use Rattle.fallible_contract.specs.Traces.{Answered, Run};
+
+use fallible_core::traits::FallibleIterator;
+
+/// A `&mut I` and a `Box<I>` have the steps of `I`: a draw answers what a draw from the value behind it answers, and leaves there what that leaves. The `&mut` stays the same reference.
+pub fn law_borrowed<'a, I: FallibleIterator + 'a>()
+    ensures borrowed { (s : MutBor I) (r : Answered I.Item I.Error) (t : MutBor I) → ⟦<&'a mut I as FallibleIterator>⟧.contract.steps s r t ↔ (I.contract.steps s.now r t.now × (t.ghost_name ≡ s.ghost_name)) }
+    ensures boxed { (s : Box I Global) (r : Answered I.Item I.Error) (t : Box I Global) → ⟦<Box<I> as FallibleIterator>⟧.contract.steps s r t ↔ I.contract.steps s.value r t.value }
+    ensures borrowed_run { (s : MutBor I) (trace : List (Answered I.Item I.Error)) (t : MutBor I) → Run ⟦<&'a mut I as FallibleIterator>⟧.contract.steps s trace t → Run I.contract.steps s.now trace t.now }
+    ensures run_borrowed { (s : MutBor I) (trace : List (Answered I.Item I.Error)) (x : I) → Run I.contract.steps s.now trace x → Run ⟦<&'a mut I as FallibleIterator>⟧.contract.steps s trace (record s { now = x }) }
+    ensures boxed_run { (s : Box I Global) (trace : List (Answered I.Item I.Error)) (t : Box I Global) → Run ⟦<Box<I> as FallibleIterator>⟧.contract.steps s trace t → Run I.contract.steps s.value trace t.value }
+    ensures run_boxed { (s : Box I Global) (trace : List (Answered I.Item I.Error)) (x : I) → Run I.contract.steps s.value trace x → Run ⟦<Box<I> as FallibleIterator>⟧.contract.steps s trace (record s { value = x }) }
+{}

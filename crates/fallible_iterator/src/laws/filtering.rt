@@ -1,0 +1,29 @@
+// What a trace of each adapter that leaves items out is.
+ghost use Rattle.fallible_contract.specs.Definitions.{MeetsHeld};
+ghost use Rattle.fallible_contract.specs.Closures.{call_at, call_in};
+ghost use Rattle.fallible_core.specs.Filtering.Filter.{FilterTrace, filter_parts};
+ghost use Rattle.fallible_core.specs.Filtering.FilterMap.{FilterMapTrace, filter_map_parts};
+ghost use Rattle.fallible_core.specs.Filtering.SkipWhile.{SkipWhileTrace, skip_while_parts};
+
+use fallible_core::filtering::{Filter, FilterMap, SkipWhile};
+use fallible_core::traits::FallibleIterator;
+
+/// The answers of `Filter` are the source's without the items refused.
+pub fn law_filter<I: FallibleIterator, F: FnMut(&I::Item) -> Result<bool, I::Error>>()
+where
+    I::Item: Drop,
+    ensures { MeetsHeld filter_parts ⟦<Filter<I, F> as FallibleIterator>⟧.contract.steps (FilterTrace I.contract.steps F.FnMut) }
+{}
+
+/// The answers of `FilterMap` are the source's without the items answered none, with the closure's value or failure in each other item's place.
+pub fn law_filter_map<I: FallibleIterator, B, F: FnMut(I::Item) -> Result<Option<B>, I::Error>>()
+where
+    ensures { MeetsHeld filter_map_parts ⟦<FilterMap<I, F> as FallibleIterator>⟧.contract.steps (FilterMapTrace I.contract.steps F.FnMut) }
+{}
+
+/// The answers of `SkipWhile` are the source's without the items that the predicate answers true on before its first false; from then on it isn't asked.
+pub fn law_skip_while<I: FallibleIterator, P: FnMut(&I::Item) -> Result<bool, I::Error>>()
+where
+    I::Item: Drop,
+    ensures { MeetsHeld skip_while_parts ⟦<SkipWhile<I, P> as FallibleIterator>⟧.contract.steps (SkipWhileTrace I.contract.steps (call_in (call_at P.FnMut))) }
+{}

@@ -1,0 +1,57 @@
+// The whole-trace laws of the adapters that join sources.
+ghost use Rattle.std.specs.Prelude.{Result};
+ghost use Rattle.fallible_contract.specs.Definitions.{MeetsHeld};
+ghost use Rattle.fallible_core.specs.Joining.Chain.{chain_behind, chain_parts, ChainTrace};
+ghost use Rattle.fallible_core.specs.Joining.Cycle.{cycle_parts, CycleTrace};
+ghost use Rattle.fallible_core.specs.Joining.Flatten.{flatten_parts, FlattenTrace};
+ghost use Rattle.fallible_core.specs.Joining.Zip.{zip_parts, ZipTrace};
+
+use fallible_core::joining::{Chain, Cycle, Flatten, Zip};
+use fallible_core::one_to_one::Map;
+use fallible_core::traits::FallibleIterator;
+use fallible_core::traits::conversion::IntoFallibleIterator;
+use fallible_core::traits::double_ended::DoubleEndedFallibleIterator;
+use std::alloc::AllocError;
+
+/// A trace of `Chain` is the front's up to its first end, and from the draw that meets this end on the back's; where one side alone is still drawn, it is that side's.
+pub fn law_chain<T: FallibleIterator, U: FallibleIterator<Item = T::Item, Error = T::Error>>()
+    ensures { MeetsHeld chain_parts ⟦<Chain<T, U> as FallibleIterator>⟧.contract.steps (ChainTrace T.contract.steps U.contract.steps) }
+{}
+
+/// A trace of `Chain` from behind is the same with the sides swapped, both drawn from behind: the back's up to its first end, and from the draw that meets this end on the front's.
+pub fn law_back_chain<
+    T: DoubleEndedFallibleIterator,
+    U: DoubleEndedFallibleIterator<Item = T::Item, Error = T::Error>,
+>()
+    ensures { MeetsHeld (λ s. chain_behind (chain_parts s)) ⟦<Chain<T, U> as DoubleEndedFallibleIterator>⟧.ends.steps (ChainTrace U.ends.steps T.ends.steps) }
+{}
+
+/// A trace of `Zip` has an answer for each answer of the left's trace: the left's failure, without a draw of the right; else, beside an answer of the right, the right's failure, the pair of two items, or an end.
+pub fn law_zip<T: FallibleIterator, U: FallibleIterator<Error = T::Error>>()
+where
+    T::Item: Drop,
+    U::Item: Drop,
+    ensures { MeetsHeld zip_parts ⟦<Zip<T, U> as FallibleIterator>⟧.contract.steps (ZipTrace T.contract.steps U.contract.steps) }
+{}
+
+/// A trace of `Flatten` joins the answers of the inner iterators, each up to its end, and the outer source's failures and ends; the last inner iterator, where its end was not drawn, stays in hand.
+pub fn law_flatten<U: IntoFallibleIterator, I: FallibleIterator<Item = U, Error = U::Error>>()
+    ensures { MeetsHeld flatten_parts ⟦<Flatten<I, U::IntoFallibleIter> as FallibleIterator>⟧.contract.steps (FlattenTrace I.contract.steps U.into_gives U.IntoFallibleIter.contract.steps) }
+{}
+
+/// A trace of `FlatMap` is one of a `Flatten` over the `Map` of its closure.
+pub fn law_flat_map<
+    I: FallibleIterator,
+    U: IntoFallibleIterator<Error = I::Error>,
+    F: FnMut(I::Item) -> Result<U, I::Error>,
+>()
+where
+    ensures { MeetsHeld flatten_parts ⟦<Flatten<Map<I, F>, U::IntoFallibleIter> as FallibleIterator>⟧.contract.steps (FlattenTrace ⟦<Map<I, F> as FallibleIterator>⟧.contract.steps U.into_gives U.IntoFallibleIter.contract.steps) }
+{}
+
+/// A trace of `Cycle` is laps: answers of one run up to its end, which is not answered, and then those of a fresh clone, or the failure made of a refused clone, after which the next lap goes on over the same run. The kept source stays.
+pub fn law_cycle<I: FallibleIterator + Clone>()
+where
+    I::Error: From<AllocError>,
+    ensures { MeetsHeld cycle_parts ⟦<Cycle<I> as FallibleIterator>⟧.contract.steps (CycleTrace I.is_clone I.is_infallible I.Error.from_gives I.contract.steps) }
+{}
