@@ -1,6 +1,7 @@
 -- Collections made of items.
 use Rattle.std.specs.Prelude.{◌≡◌, Bool, cond, List, [], ◌∷◌, ◌++◌, map, Result, Ok, Err, ◌⊎◌}
 use Rattle.std.specs.List.{FoldsTo}
+use Rattle.std.specs.Borrow.{MutBor}
 use Rattle.std.specs.declared.alloc.AllocError.{AllocError}
 use Rattle.fallible_contract.specs.declared.collecting.Fault.{Fault}
 use Rattle.fallible_contract.specs.declared.collecting.Fault.TheVariants.{Source, Memory}
@@ -41,6 +42,11 @@ Collects steps made empty_refuses refuses s (Err (Memory a)) = empty_refuses ⊎
 abbrev pub PushTurn : {A C : Type 0} → (List A → C → Type 0) → (C → A → Type 0) → C → A → Result C AllocError → Type 0
 PushTurn {A} made refuses c x (Ok d) = (items : List A) → made items c → made (items ++ x ∷ []) d
 PushTurn made refuses c x (Err a) = refuses c x
+
+-- One push through a reference, which is handed back the same: the collection behind it took the item, or refuses it.
+abbrev pub PushTurnBehind : {A C : Type 0} → (List A → C → Type 0) → (C → A → Type 0) → MutBor C → A → Result (MutBor C) AllocError → Type 0
+PushTurnBehind made refuses c x (Ok d) = PushTurn made refuses c.now x (Ok d.now) × (d.ghost_name ≡ c.ghost_name)
+PushTurnBehind made refuses c x (Err a) = refuses c.now x
 
 -- ---- partition
 

@@ -1,7 +1,7 @@
 //! Collections that are made of items, and the turns of the folds that fill them.
 ghost use Rattle.std.specs.Prelude.{◌≡◌, ℕ, ◌≤◌, List, [], ◌∷◌, ◌++◌, MatchResult, ⊤, vec_len, vec_capacity};
 ghost use Rattle.fallible_contract.specs.Closures.{call_at, takes_at};
-ghost use Rattle.fallible_contract.specs.Collecting.{PushTurn, PairTurn, PartTurn};
+ghost use Rattle.fallible_contract.specs.Collecting.{PushTurnBehind, PairTurn, PartTurn};
 
 mod deque;
 mod hashed;
@@ -69,20 +69,19 @@ impl<T: Drop> Collect<T> for Vec<T> {
     }
 }
 
-/// The turn of `collect`: it carries the collection, and stops where that refuses an item.
+/// The turn of `collect`: it carries a reference to the collection, and stops where that refuses an item.
 #[derive(Drop)]
 pub struct Pushing;
 
-impl<A, C: Collect<A>> Turn<C, A, AllocError> for Pushing {
+impl<'a, A, C: Collect<A>> Turn<&'a mut C, A, AllocError> for Pushing {
     ghost can_turn = { λ _ _ _. ⊤ };
 
-    ghost turns = { λ _ made x r. PushTurn C.made C.push_refuses made x r };
+    ghost turns = { λ _ made x r. PushTurnBehind C.made C.push_refuses made x r };
 
     /// The item after the others.
-    fn turn(&self, carried: C, item: A) -> Result<C, AllocError> {
-        let mut made = carried;
-        match made.push_one(item) {
-            Ok(()) => Ok(made),
+    fn turn(&self, carried: &'a mut C, item: A) -> Result<&'a mut C, AllocError> {
+        match carried.push_one(item) {
+            Ok(()) => Ok(carried),
             Err(refused) => Err(refused),
         }
     }

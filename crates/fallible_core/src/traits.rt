@@ -516,12 +516,15 @@ pub trait FallibleIterator: Drop + Sized {
         ensures collects { Collects contract.steps C.made C.empty_refuses C.push_refuses self result }
         ensures is { (l : List (Result Self.Item Self.Error)) → Lists contract.steps self l → CollectedAs C.made l result }
     {
-        let made = match C::empty(alloc) {
+        let mut made = match C::empty(alloc) {
             Ok(made) => made,
             Err(refused) => return Err(Fault::Memory(refused)),
         };
-        match self.try_fold_carrying(made, &Pushing) {
-            Exit::Ended(made) => Ok(made),
+        match self.try_fold_carrying(&mut made, &Pushing) {
+            Exit::Ended(last) => {
+                let _ = &*last;
+                Ok(made)
+            }
             Exit::Failed(_, e) => Err(Fault::Source(e)),
             Exit::Stopped(refused) => Err(Fault::Memory(refused)),
         }
