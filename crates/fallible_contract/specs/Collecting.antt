@@ -6,6 +6,7 @@ use Rattle.std.specs.declared.alloc.AllocError.{AllocError}
 use Rattle.fallible_contract.specs.declared.collecting.Fault.{Fault}
 use Rattle.fallible_contract.specs.declared.collecting.Fault.TheVariants.{Source, Memory}
 use Rattle.fallible_contract.specs.Traces.{Answered, Run, item, end, failure}
+use Rattle.fallible_contract.specs.Folds.{TurnBehind}
 
 -- The collection has the items that came, up to an end.
 pub record CollectsAll {S A E C : Type 0} (steps : S → Answered A E → S → Type 0) (made : List A → C → Type 0) (s : S) (c : C) : Type 0 where
@@ -43,10 +44,9 @@ abbrev pub PushTurn : {A C : Type 0} → (List A → C → Type 0) → (C → A 
 PushTurn {A} made refuses c x (Ok d) = (items : List A) → made items c → made (items ++ x ∷ []) d
 PushTurn made refuses c x (Err a) = refuses c x
 
--- One push through a reference, which is handed back the same: the collection behind it took the item, or refuses it.
+-- One push through a reference: the collection behind it takes the item, and the same reference is handed back; or it refuses the item.
 abbrev pub PushTurnBehind : {A C : Type 0} → (List A → C → Type 0) → (C → A → Type 0) → MutBor C → A → Result (MutBor C) AllocError → Type 0
-PushTurnBehind made refuses c x (Ok d) = PushTurn made refuses c.now x (Ok d.now) × (d.ghost_name ≡ c.ghost_name)
-PushTurnBehind made refuses c x (Err a) = refuses c.now x
+PushTurnBehind made refuses = TurnBehind (λ c. c.now) (λ c. c.ghost_name) (PushTurn made refuses)
 
 -- ---- partition
 
@@ -87,6 +87,10 @@ module _ {A E F B : Type 0} (call : F → A → Result Bool E → F → Type 0) 
   PartTurn made refuses c x (Err (Source e)) = ClosureFails e c x
   PartTurn made refuses c x (Err (Memory a)) = SideRefuses refuses c x
 
+  -- The same turn through a reference to both collections.
+  abbrev pub PartTurnBehind : (List A → B → Type 0) → (B → A → Type 0) → F × MutBor (B × B) → A → Result (F × MutBor (B × B)) (Fault E) → Type 0
+  PartTurnBehind made refuses = TurnBehind (λ c. (c.0, c.1.now)) (λ c. c.1.ghost_name) (PartTurn made refuses)
+
 -- What `partition` answers: both collections, made of all items up to an end; the first failure of the source or the closure, before which both were made of the items; or want of memory, where an empty collection was refused and nothing was drawn, or an item was refused.
 abbrev pub Partitions : {S A E F B : Type 0} → (S → Answered A E → S → Type 0) → (F → A → Result Bool E → F → Type 0) → (List A → B → Type 0) → Type 0 → (B → A → Type 0) → S → F → Result (B × B) (Fault E) → Type 0
 Partitions {F = F} steps call made empty_refuses refuses s f (Ok p) = (g : F) × CollectsAll steps (Parts call made f) s (g, p)
@@ -109,3 +113,7 @@ module _ {A B C D : Type 0} (made_first : List A → C → Type 0) (made_second 
     abbrev pub PairTurn : C × D → A × B → Result (C × D) AllocError → Type 0
     PairTurn c x (Ok d) = PushTurn made_first first_refuses c.0 x.0 (Ok d.0) × PushTurn made_second second_refuses c.1 x.1 (Ok d.1)
     PairTurn c x (Err a) = PairRefused c x
+
+    -- The same turn through a reference to both collections.
+    abbrev pub PairTurnBehind : MutBor (C × D) → A × B → Result (MutBor (C × D)) AllocError → Type 0
+    PairTurnBehind = TurnBehind (λ c. c.now) (λ c. c.ghost_name) PairTurn

@@ -81,6 +81,11 @@ module _ {S A E C R : Type 0} (steps : S → Answered A E → S → Type 0) (tur
     pub went : FoldsTo (carrying_turn turns) c items carried
     pub exit : CarryingExit turns carried last r
 
+-- One turn on a value that holds references: what `behind` reads of it goes as in `turns`, and a turn that goes on hands the same references back, which `names` tells.
+abbrev pub TurnBehind : {X N A C R : Type 0} → (X → C) → (X → N) → (C → A → Result C R → Type 0) → X → A → Result X R → Type 0
+TurnBehind behind names turns c x (Ok d) = turns (behind c) x (Ok (behind d)) × (names d ≡ names c)
+TurnBehind behind names turns c x (Err stop) = turns (behind c) x (Err stop)
+
 -- the answer at which a fold stopped
 abbrev pub stopped_answer : {B E : Type 0} → Result B E → Answered B E
 stopped_answer (Ok y) = Ok (Some y)

@@ -1,7 +1,7 @@
 //! Collections that are made of items, and the turns of the folds that fill them.
 ghost use Rattle.std.specs.Prelude.{◌≡◌, ℕ, ◌≤◌, List, [], ◌∷◌, ◌++◌, MatchResult, ⊤, vec_len, vec_capacity};
 ghost use Rattle.fallible_contract.specs.Closures.{call_at, takes_at};
-ghost use Rattle.fallible_contract.specs.Collecting.{PushTurnBehind, PairTurn, PartTurn};
+ghost use Rattle.fallible_contract.specs.Collecting.{PushTurnBehind, PairTurnBehind, PartTurnBehind};
 
 mod deque;
 mod hashed;
@@ -87,57 +87,59 @@ impl<'a, A, C: Collect<A>> Turn<&'a mut C, A, AllocError> for Pushing {
     }
 }
 
-/// The turn of `partition`: it carries the predicate and both collections.
+/// The turn of `partition`: it carries the predicate and a reference to both collections.
 #[derive(Drop)]
 pub struct Parting;
 
-impl<A: Drop, E, B: Collect<A>, F: FnMut(&A) -> Result<bool, E>> Turn<(F, (B, B)), A, Fault<E>>
-    for Parting {
+impl<'a, A: Drop, E, B: Collect<A>, F: FnMut(&A) -> Result<bool, E>> Turn<
+    (F, &'a mut (B, B)),
+    A,
+    Fault<E>,
+> for Parting {
     ghost can_turn = { λ _ c x. takes_at F.FnMut c.0 x };
 
-    ghost turns = { λ _ c x r. PartTurn (call_at F.FnMut) B.made B.push_refuses c x r };
+    ghost turns = { λ _ c x r. PartTurnBehind (call_at F.FnMut) B.made B.push_refuses c x r };
 
     /// The predicate is asked once, and the item is pushed to the side of its answer.
-    fn turn(&self, carried: (F, (B, B)), item: A) -> Result<(F, (B, B)), Fault<E>> {
+    fn turn(&self, carried: (F, &'a mut (B, B)), item: A) -> Result<(F, &'a mut (B, B)), Fault<E>> {
         let (mut f, sides) = carried;
-        let (mut first, mut second) = sides;
         let answer = match f(&item) {
             Ok(answer) => answer,
             Err(e) => return Err(Fault::Source(e)),
         };
         if answer {
-            match first.push_one(item) {
-                Ok(()) => Ok((f, (first, second))),
+            match sides.0.push_one(item) {
+                Ok(()) => Ok((f, sides)),
                 Err(refused) => Err(Fault::Memory(refused)),
             }
         } else {
-            match second.push_one(item) {
-                Ok(()) => Ok((f, (first, second))),
+            match sides.1.push_one(item) {
+                Ok(()) => Ok((f, sides)),
                 Err(refused) => Err(Fault::Memory(refused)),
             }
         }
     }
 }
 
-/// The turn of `unzip`: it carries both collections.
+/// The turn of `unzip`: it carries a reference to both collections.
 #[derive(Drop)]
 pub struct PushingParts;
 
-impl<A, B: Drop, C: Collect<A>, D: Collect<B>> Turn<(C, D), (A, B), AllocError> for PushingParts {
+impl<'a, A, B: Drop, C: Collect<A>, D: Collect<B>> Turn<&'a mut (C, D), (A, B), AllocError>
+    for PushingParts {
     ghost can_turn = { λ _ _ _. ⊤ };
 
-    ghost turns = { λ _ c x r. PairTurn C.made D.made C.push_refuses D.push_refuses c x r };
+    ghost turns = { λ _ c x r. PairTurnBehind C.made D.made C.push_refuses D.push_refuses c x r };
 
     /// The first part is pushed to the first collection, and then the second part to the second.
-    fn turn(&self, carried: (C, D), item: (A, B)) -> Result<(C, D), AllocError> {
-        let (mut first, mut second) = carried;
+    fn turn(&self, carried: &'a mut (C, D), item: (A, B)) -> Result<&'a mut (C, D), AllocError> {
         let (a, b) = item;
-        match first.push_one(a) {
+        match carried.0.push_one(a) {
             Ok(()) => {}
             Err(refused) => return Err(refused),
         }
-        match second.push_one(b) {
-            Ok(()) => Ok((first, second)),
+        match carried.1.push_one(b) {
+            Ok(()) => Ok(carried),
             Err(refused) => Err(refused),
         }
     }

@@ -557,9 +557,14 @@ pub trait FallibleIterator: Drop + Sized {
             Ok(made) => made,
             Err(refused) => return Err(Fault::Memory(refused)),
         };
-        match self.try_fold_carrying((f, (first, second)), &Parting) {
-            Exit::Ended((_, sides)) => Ok(sides),
-            Exit::Failed(_, e) => Err(Fault::Source(e)),
+        let mut sides = (first, second);
+        match self.try_fold_carrying((f, &mut sides), &Parting) {
+            Exit::Ended(carried) => {
+                let (_f, last) = carried;
+                let _ = &*last;
+                Ok(sides)
+            }
+            Exit::Failed(_carried, e) => Err(Fault::Source(e)),
             Exit::Stopped(fault) => Err(fault),
         }
     }
@@ -588,8 +593,12 @@ pub trait FallibleIterator: Drop + Sized {
             Ok(made) => made,
             Err(refused) => return Err(Fault::Memory(refused)),
         };
-        match self.try_fold_carrying((first, second), &PushingParts) {
-            Exit::Ended(both) => Ok(both),
+        let mut both = (first, second);
+        match self.try_fold_carrying(&mut both, &PushingParts) {
+            Exit::Ended(last) => {
+                let _ = &*last;
+                Ok(both)
+            }
             Exit::Failed(_, e) => Err(Fault::Source(e)),
             Exit::Stopped(refusal) => Err(Fault::Memory(refusal)),
         }

@@ -1,14 +1,13 @@
 -- What a fold makes that carries a collection, and `collect` by it.
 use Rattle.std.specs.Prelude.{◌≡◌, List, [], ◌∷◌, ◌++◌, map, Result, Some, None, Ok, Err}
 use Rattle.std.specs.List.{FoldsTo}
-use Rattle.std.specs.Borrow.{MutBor}
 use Rattle.std.specs.declared.alloc.AllocError.{AllocError}
 use Rattle.std.proofs.Common.{refl, sym, ap, subst, append_assoc, append-nil}
 use Rattle.fallible_contract.specs.declared.folds.Exit.{Exit}
 use Rattle.fallible_contract.specs.declared.folds.Exit.TheVariants.{Ended, Failed, Stopped}
 use Rattle.fallible_contract.specs.Traces.{Answered, Run, item}
 use Rattle.fallible_contract.specs.Folds.{CarryingExit, Carried}
-use Rattle.fallible_contract.specs.Collecting.{CollectsAll, FailsWith, RefusesItem, PushTurn, PushTurnBehind, MadeOfParts, PairRefused, PairTurn}
+use Rattle.fallible_contract.specs.Collecting.{CollectsAll, FailsWith, RefusesItem, PushTurn, MadeOfParts, PairRefused, PairTurn}
 
 -- Turns that go on add the item to what is made; one that stops with q stops as `stops` says.
 module _ {A C R : Type 0} (made : List A → C → Type 0) (turns : C → A → Result C R → Type 0)
@@ -57,26 +56,6 @@ module _ {S A E C : Type 0} {steps : S → Answered A E → S → Type 0} {made 
 
   pub collect_refused : {a : AllocError} → Carried steps turns s c (Stopped a) t → RefusesItem steps made refuses s
   collect_refused {a} w = gathered_stopped made turns (λ c x d p. turn c x (Ok d) p) steps is_empty a refuses (λ c x p. turn c x (Err a) p) w
-
--- What is made behind d, which is the reference c that was lent.
-abbrev MadeBehind : {A C : Type 0} → (List A → C → Type 0) → MutBor C → List A → MutBor C → Type 0
-MadeBehind made c items d = made items d.now × (d.ghost_name ≡ c.ghost_name)
-
--- A fold that carries a reference to the collection collects.
-module _ {A C : Type 0} (made : List A → C → Type 0) (refuses : C → A → Type 0) where
-  pushed_behind : (c d : MutBor C) (x : A) (e : MutBor C) → PushTurnBehind made refuses d x (Ok e) → (items : List A) → MadeBehind made c items d → MadeBehind made c (items ++ x ∷ []) e
-  pushed_behind c d x e p items h = (p.0 items h.0, (let same = p.1 in let first = h.1 in cc))
-
-  module _ {S E : Type 0} {steps : S → Answered A E → S → Type 0} {s t : S} {c : MutBor C} (is_empty : made [] c.now) where
-    -- e is the collection once the reference that was handed back is given up
-    pub collected_behind : {d : MutBor C} {e : C} → Carried steps (PushTurnBehind made refuses) s c (Ended d) t → (d.ghost_name ≡ c.ghost_name → e ≡ d.now) → CollectsAll steps made s e
-    collected_behind {d} {e} w back = let all = gathered_all (MadeBehind made c) (PushTurnBehind made refuses) (pushed_behind c) steps (is_empty, refl) d w in record { items = all.items; left = all.left; ran = all.ran; is_made = subst (λ z. made all.items z) (sym (back all.is_made.1)) all.is_made.0 }
-
-    pub failed_behind : {d : MutBor C} {e : E} → Carried steps (PushTurnBehind made refuses) s c (Failed d e) t → FailsWith steps made s e
-    failed_behind {d} {e} w = let f = gathered_failed (MadeBehind made c) (PushTurnBehind made refuses) (pushed_behind c) steps (is_empty, refl) d e w in record { items = f.items; collection = f.collection.now; left = f.left; ran = f.ran; is_made = f.is_made.0 }
-
-    pub refused_behind : {a : AllocError} → Carried steps (PushTurnBehind made refuses) s c (Stopped a) t → RefusesItem steps made refuses s
-    refused_behind {a} w = let f = gathered_stopped (MadeBehind made c) (PushTurnBehind made refuses) (pushed_behind c) steps (is_empty, refl) a (λ d x. refuses d.now x) (λ d x p. p) w in record { items = f.items; refused = f.refused; collection = f.collection.now; left = f.left; ran = f.ran; is_made = f.is_made.0; refuses_it = f.refuses_it }
 
 -- ---- unzip
 

@@ -1,13 +1,13 @@
 -- Folds, one turn at a time.
 use Rattle.std.specs.Prelude.{◌≡◌, ℕ, ◌+◌, ◌<◌, length, List, [], ◌∷◌, Option, Result, Some, None, Ok, Err}
 use Rattle.std.specs.List.{FoldsTo, last_or}
-use Rattle.std.proofs.Common.{refl, sym, ap, subst, arith}
+use Rattle.std.proofs.Common.{refl, sym, ap, ◌∙◌, subst, arith}
 use Rattle.fallible_contract.specs.declared.folds.Exit.{Exit}
 use Rattle.fallible_contract.specs.declared.folds.Exit.TheVariants.{Ended, Failed, Stopped}
 use Rattle.fallible_contract.specs.Traces.{Answered, Yields, item}
 use Rattle.fallible_contract.specs.Contract.{Contract, AtMost, Lawful}
 use Rattle.fallible_contract.proofs.Lemmas.Contract.{number_of_at_most}
-use Rattle.fallible_contract.specs.Folds.{CountExit, Counted, LastExit, LastOf, HoldsAtEachTurn, FoldTurn, FoldExit, Folded, carrying_turn, CarryingExit, Carried, ValueAt, FoldedAt}
+use Rattle.fallible_contract.specs.Folds.{CountExit, Counted, LastExit, LastOf, HoldsAtEachTurn, FoldTurn, FoldExit, Folded, carrying_turn, CarryingExit, CallableCarrying, Carried, TurnBehind, ValueAt, FoldedAt}
 
 module _ {S A E C : Type 0} {steps : S → Answered A E → S → Type 0} {goes_on : C → A → C → Type 0} {P : C → A → Type 0} where
   -- what holds at each turn holds at the first, and at each turn after it
@@ -51,6 +51,45 @@ turns_map h (x ∷ items) c d w = (w.0, h c x w.0 w.1, turns_map h items w.0 d w
 -- what holds at each turn of one kind holds at each turn of a narrower kind
 pub holds_map : {S A E C : Type 0} {steps : S → Answered A E → S → Type 0} {R Q : C → A → C → Type 0} {P P' : C → A → Type 0} {s : S} {c : C} → ((c : C) (x : A) (d : C) → Q c x d → R c x d) → ((c : C) (x : A) → P c x → P' c x) → HoldsAtEachTurn steps R P s c → HoldsAtEachTurn steps Q P' s c
 holds_map {s} {c} narrow weak h = record { at = λ items t u d x ran went step. weak d x (h.at items t u d x ran (turns_map narrow items c d went) step) }
+
+-- ---- a fold that carries references
+
+module _ {X N A C R : Type 0} (behind : X → C) (names : X → N) (turns : C → A → Result C R → Type 0) where
+  went_behind : (items : List A) (c d : X) → FoldsTo (λ c x d. TurnBehind behind names turns c x (Ok d)) c items d → FoldsTo (λ c x d. turns c x (Ok d)) (behind c) items (behind d) × (names d ≡ names c)
+  went_behind [] c d e = (ap behind e, sym (ap names e))
+  went_behind (x ∷ items) c d w = let rest = went_behind items w.0 d w.2 in ((behind w.0, w.1.0, rest.0), rest.1 ∙ w.1.1)
+
+  module _ {E : Type 0} where
+    end_behind : (last : Answered A E) (z d : X) → CarryingExit (TurnBehind behind names turns) z last (Ended d) → CarryingExit turns (behind z) last (Ended (behind d)) × (d ≡ z)
+    end_behind (Ok None) z d e = let same : d ≡ z = cc in (ap (λ (y : X). Ended (behind y)) same, same)
+    end_behind (Ok (Some x)) z d e = absurd (let f = e.2 in cc)
+    end_behind (Err f) z d e = absurd cc
+
+    failure_behind : (last : Answered A E) (z d : X) (f : E) → CarryingExit (TurnBehind behind names turns) z last (Failed d f) → CarryingExit turns (behind z) last (Failed (behind d) f)
+    failure_behind (Ok None) z d f e = absurd cc
+    failure_behind (Ok (Some x)) z d f e = absurd (let h = e.2 in cc)
+    failure_behind (Err h) z d f e = let same : d ≡ z = cc in let failure : f ≡ h = cc in cc
+
+    stop_behind : (last : Answered A E) (z : X) (q : R) → CarryingExit {E = E} (TurnBehind behind names turns) z last (Stopped q) → CarryingExit {E = E} turns (behind z) last (Stopped q)
+    stop_behind (Ok None) z q e = absurd cc
+    stop_behind (Ok (Some x)) z q e = (e.0, e.1, (let f = e.2 in cc))
+    stop_behind (Err h) z q e = absurd cc
+
+  module _ {S E : Type 0} {steps : S → Answered A E → S → Type 0} {s : S} {c : X} where
+    -- where the turn may be taken on what is behind the references, it may be taken on them
+    pub callable_behind : {can : C → A → Type 0} → CallableCarrying steps turns can s (behind c) → CallableCarrying steps (TurnBehind behind names turns) (λ d x. can (behind d) x) s c
+    callable_behind h = record { at = λ items t u d x ran went step. h.at items t u (behind d) x ran (went_behind items c d went).0 step }
+
+    -- What it carried is a fold that carries what is behind the references. At the end e is what is behind those that were lent, once they are known to be the ones that came back.
+    pub ended_behind : {t : S} {d : X} {e : C} → Carried steps (TurnBehind behind names turns) s c (Ended d) t → (names d ≡ names c → e ≡ behind d) → Carried steps turns s (behind c) (Ended e) t
+    ended_behind {t} {d} {e} w back = let at_end = end_behind w.last w.carried d w.exit in let went = went_behind w.items c w.carried w.went in
+        subst (λ z. Carried steps turns s (behind c) (Ended z) t) (sym (back (ap names at_end.1 ∙ went.1))) (record { items = w.items; last = w.last; carried = behind w.carried; ran = w.ran; went = went.0; exit = at_end.0 })
+
+    pub failed_behind : {t : S} {d : X} {f : E} → Carried steps (TurnBehind behind names turns) s c (Failed d f) t → Carried steps turns s (behind c) (Failed (behind d) f) t
+    failed_behind {t} {d} {f} w = record { items = w.items; last = w.last; carried = behind w.carried; ran = w.ran; went = (went_behind w.items c w.carried w.went).0; exit = failure_behind w.last w.carried d f w.exit }
+
+    pub stopped_behind : {t : S} {q : R} → Carried steps (TurnBehind behind names turns) s c (Stopped q) t → Carried steps turns s (behind c) (Stopped q) t
+    stopped_behind {t} {q} w = record { items = w.items; last = w.last; carried = behind w.carried; ran = w.ran; went = (went_behind w.items c w.carried w.went).0; exit = stop_behind w.last w.carried q w.exit }
 
 -- ---- `try_fold` by the fold that carries the value and the closure
 

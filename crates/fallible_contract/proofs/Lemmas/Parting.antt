@@ -1,14 +1,16 @@
--- `partition` by the fold that carries the closure and both collections.
+-- `partition` by the fold that carries the closure and a reference to both collections.
 use Rattle.std.specs.Prelude.{◌≡◌, Bool, true, false, cond, List, [], ◌∷◌, ◌++◌, Result, Ok, Err}
 use Rattle.std.specs.List.{FoldsTo}
+use Rattle.std.specs.Borrow.{MutBor}
 use Rattle.std.proofs.Common.{refl, sym, ap, ◌∙◌, subst, inl, inr}
 use Rattle.fallible_contract.specs.declared.folds.Exit.TheVariants.{Ended, Failed, Stopped}
 use Rattle.fallible_contract.specs.declared.collecting.Fault.{Fault}
 use Rattle.fallible_contract.specs.declared.collecting.Fault.TheVariants.{Source, Memory}
 use Rattle.fallible_contract.specs.Traces.{Answered}
-use Rattle.fallible_contract.specs.Folds.{HoldsAtEachTurn, Carried}
+use Rattle.fallible_contract.specs.Folds.{HoldsAtEachTurn, CallableCarrying, Carried}
+use Rattle.fallible_contract.proofs.Lemmas.Folds.{callable_behind, ended_behind, failed_behind, stopped_behind}
 use Rattle.fallible_contract.proofs.Lemmas.Collecting.{gathered_all, gathered_failed, gathered_stopped, parts_more}
-use Rattle.fallible_contract.specs.Collecting.{answered_true, answered_false, Parts, ClosureFails, SideRefuses, PartTurn, Asks, Partitions}
+use Rattle.fallible_contract.specs.Collecting.{answered_true, answered_false, Parts, ClosureFails, SideRefuses, PartTurn, PartTurnBehind, Asks, Partitions}
 
 true_more : {A : Type 0} (ps : List (A × Bool)) (x : A) (v : Bool) → cond v (answered_true ps ++ x ∷ []) (answered_true ps) ≡ answered_true (ps ++ (x, v) ∷ [])
 true_more [] x true = refl
@@ -46,17 +48,17 @@ module _ {A E F B : Type 0} (call : F → A → Result Bool E → F → Type 0) 
   asked (x ∷ items) c d w = ((w.0).0, (w.1.0, w.1.1), asked items w.0 d w.2)
 
   -- where the closure may be asked, the turn may be taken
-  pub part_callable : {S : Type 0} {steps : S → Answered A E → S → Type 0} {s : S} (takes : F → A → Type 0) (a b : B) → HoldsAtEachTurn steps (Asks call) takes s f → HoldsAtEachTurn {C = F × (B × B)} steps (λ c x d. PartTurn call made refuses c x (Ok d)) (λ c x. takes c.0 x) s (f, (a, b))
-  part_callable takes a b h = record { at = λ items t u d x ran went step. h.at items t u d.0 x ran (asked items (f, (a, b)) d went) step }
+  pub part_callable : {S : Type 0} {steps : S → Answered A E → S → Type 0} {s : S} (takes : F → A → Type 0) (sides : MutBor (B × B)) → HoldsAtEachTurn steps (Asks call) takes s f → CallableCarrying steps (PartTurnBehind call made refuses) (λ c x. takes c.0 x) s (f, sides)
+  part_callable takes sides h = callable_behind (λ c. (c.0, c.1.now)) (λ c. c.1.ghost_name) (PartTurn call made refuses) (record { at = λ items t u d x ran went step. h.at items t u d.0 x ran (asked items (f, sides.now) d went) step })
 
-module _ {S A E F B : Type 0} (steps : S → Answered A E → S → Type 0) (call : F → A → Result Bool E → F → Type 0) (made : List A → B → Type 0) (empty_refuses : Type 0) (refuses : B → A → Type 0) (turns : F × (B × B) → A → Result (F × (B × B)) (Fault E) → Type 0)
-    (turn : (c : F × (B × B)) (x : A) (r : Result (F × (B × B)) (Fault E)) → turns c x r → PartTurn call made refuses c x r) {s t : S} {f : F} {a b : B} (first : made [] a) (second : made [] b) where
-  pub parted_ended : (d : F × (B × B)) → Carried steps turns s (f, (a, b)) (Ended d) t → Partitions steps call made empty_refuses refuses s f (Ok d.1)
-  parted_ended d w = (d.0, gathered_all (Parts call made f) turns (λ c x d p. part_more call made refuses f c x d (turn c x (Ok d) p)) steps (no_parts call made refuses f a b first second) d w)
+module _ {S A E F B : Type 0} (steps : S → Answered A E → S → Type 0) (call : F → A → Result Bool E → F → Type 0) (made : List A → B → Type 0) (empty_refuses : Type 0) (refuses : B → A → Type 0) {s t : S} {f : F} {sides : MutBor (B × B)} (first : made [] sides.now.0) (second : made [] sides.now.1) where
+  -- e is what both collections are once the reference that came back is given up
+  pub parted_ended : (d : F × MutBor (B × B)) {e : B × B} → Carried steps (PartTurnBehind call made refuses) s (f, sides) (Ended d) t → (d.1.ghost_name ≡ sides.ghost_name → e ≡ d.1.now) → Partitions steps call made empty_refuses refuses s f (Ok e)
+  parted_ended d {e} w back = (d.0, gathered_all (Parts call made f) (PartTurn call made refuses) (part_more call made refuses f) steps (no_parts call made refuses f sides.now.0 sides.now.1 first second) (d.0, e) (ended_behind (λ c. (c.0, c.1.now)) (λ c. c.1.ghost_name) (PartTurn call made refuses) w (λ same. ap (λ (z : B × B). (d.0, z)) (back same))))
 
-  pub parted_failed : (d : F × (B × B)) (e : E) → Carried steps turns s (f, (a, b)) (Failed d e) t → Partitions steps call made empty_refuses refuses s f (Err (Source e))
-  parted_failed d e w = inl (gathered_failed (Parts call made f) turns (λ c x d p. part_more call made refuses f c x d (turn c x (Ok d) p)) steps (no_parts call made refuses f a b first second) d e w)
+  pub parted_failed : (d : F × MutBor (B × B)) (e : E) → Carried steps (PartTurnBehind call made refuses) s (f, sides) (Failed d e) t → Partitions steps call made empty_refuses refuses s f (Err (Source e))
+  parted_failed d e w = inl (gathered_failed (Parts call made f) (PartTurn call made refuses) (part_more call made refuses f) steps (no_parts call made refuses f sides.now.0 sides.now.1 first second) (d.0, d.1.now) e (failed_behind (λ c. (c.0, c.1.now)) (λ c. c.1.ghost_name) (PartTurn call made refuses) w))
 
-  pub parted_stopped : (q : Fault E) → Carried steps turns s (f, (a, b)) (Stopped q) t → Partitions steps call made empty_refuses refuses s f (Err q)
-  parted_stopped (Source e) w = inr (gathered_stopped (Parts call made f) turns (λ c x d p. part_more call made refuses f c x d (turn c x (Ok d) p)) steps (no_parts call made refuses f a b first second) (Source e) (ClosureFails call e) (λ c x p. turn c x (Err (Source e)) p) w)
-  parted_stopped (Memory m) w = inr (gathered_stopped (Parts call made f) turns (λ c x d p. part_more call made refuses f c x d (turn c x (Ok d) p)) steps (no_parts call made refuses f a b first second) (Memory m) (SideRefuses call refuses) (λ c x p. turn c x (Err (Memory m)) p) w)
+  pub parted_stopped : (q : Fault E) → Carried steps (PartTurnBehind call made refuses) s (f, sides) (Stopped q) t → Partitions steps call made empty_refuses refuses s f (Err q)
+  parted_stopped (Source e) w = inr (gathered_stopped (Parts call made f) (PartTurn call made refuses) (part_more call made refuses f) steps (no_parts call made refuses f sides.now.0 sides.now.1 first second) (Source e) (ClosureFails call e) (λ c x p. p) (stopped_behind (λ c. (c.0, c.1.now)) (λ c. c.1.ghost_name) (PartTurn call made refuses) w))
+  parted_stopped (Memory m) w = inr (gathered_stopped (Parts call made f) (PartTurn call made refuses) (part_more call made refuses f) steps (no_parts call made refuses f sides.now.0 sides.now.1 first second) (Memory m) (SideRefuses call refuses) (λ c x p. p) (stopped_behind (λ c. (c.0, c.1.now)) (λ c. c.1.ghost_name) (PartTurn call made refuses) w))

@@ -1,5 +1,6 @@
--- The fold that carries the closure and both collections parts the items.
+-- The fold that carries the closure and a reference to both collections parts the items.
 use Rattle.std.specs.Prelude.{Ok, Err}
+use Rattle.std.proofs.Common.{rules}
 use Rattle.fallible_contract.specs.Closures.{call_at, takes_at}
 use Rattle.fallible_contract.specs.declared.collecting.Fault.TheVariants.{Source}
 use Rattle.fallible_contract.proofs.Lemmas.Parting.{part_callable, parted_ended, parted_failed, parted_stopped}
@@ -7,16 +8,16 @@ use Rattle.fallible_contract.proofs.Lemmas.Lists.Parted.{parted_as, unparted_as}
 use Rattle.fallible_core.proofs.traits.FallibleIterator.partition.Goals as goal
 
 pub try_fold_carrying-requires-clause-callable : goal.try_fold_carrying-requires-clause-callable
-try_fold_carrying-requires-clause-callable g c = part_callable (call_at g.F.FnMut) g.B.Collect.made g.B.Collect.push_refuses c.args.f (takes_at g.F.FnMut) _ _ c.requires.callable
+try_fold_carrying-requires-clause-callable g c = part_callable (call_at g.F.FnMut) g.B.Collect.made g.B.Collect.push_refuses c.args.f (takes_at g.F.FnMut) _ c.requires.callable
 
 pub returns-in-Ended-clause-partitions : goal.returns-in-Ended-clause-partitions
-returns-in-Ended-clause-partitions g c = parted_ended _ (call_at g.F.FnMut) g.B.Collect.made g.B.Collect.empty_refuses g.B.Collect.push_refuses _ (λ d x r p. p) c.in-Ok.ensures c.in-Ok-empty.ensures _ c.in-Ended.ensures.carried
+returns-in-Ended-clause-partitions g c = parted_ended _ (call_at g.F.FnMut) g.B.Collect.made g.B.Collect.empty_refuses g.B.Collect.push_refuses c.in-Ok.ensures c.in-Ok-empty.ensures _ c.in-Ended.ensures.carried (λ same. search rules)
 
 pub returns-in-Failed-clause-partitions : goal.returns-in-Failed-clause-partitions
-returns-in-Failed-clause-partitions g c = parted_failed _ (call_at g.F.FnMut) g.B.Collect.made g.B.Collect.empty_refuses g.B.Collect.push_refuses _ (λ d x r p. p) c.in-Ok.ensures c.in-Ok-empty.ensures _ _ c.in-Failed.ensures.carried
+returns-in-Failed-clause-partitions g c = parted_failed _ (call_at g.F.FnMut) g.B.Collect.made g.B.Collect.empty_refuses g.B.Collect.push_refuses c.in-Ok.ensures c.in-Ok-empty.ensures _ _ c.in-Failed.ensures.carried
 
 pub returns-clause-partitions : goal.returns-clause-partitions
-returns-clause-partitions g c = parted_stopped _ (call_at g.F.FnMut) g.B.Collect.made g.B.Collect.empty_refuses g.B.Collect.push_refuses _ (λ d x r p. p) c.in-Ok.ensures c.in-Ok-empty.ensures _ c.in-Stopped.ensures.carried
+returns-clause-partitions g c = parted_stopped _ (call_at g.F.FnMut) g.B.Collect.made g.B.Collect.empty_refuses g.B.Collect.push_refuses c.in-Ok.ensures c.in-Ok-empty.ensures _ c.in-Stopped.ensures.carried
 
 pub returns-in-Ended-clause-is : goal.returns-in-Ended-clause-is
 returns-in-Ended-clause-is g c h l acts i = parted_as (call_at g.F.FnMut) h c.args.f acts g.B.Collect.made l i g.B.Collect.empty_refuses g.B.Collect.push_refuses (Ok _) (returns-in-Ended-clause-partitions g c)

@@ -1,26 +1,27 @@
--- The fold that carries both collections collects the pairs.
+-- The fold that carries a reference to both collections collects the pairs.
 use Rattle.std.specs.Prelude.{Ok, Err}
-use Rattle.std.proofs.Common.{inr}
+use Rattle.std.proofs.Common.{inr, rules}
 use Rattle.fallible_contract.specs.declared.collecting.Fault.TheVariants.{Source}
 use Rattle.fallible_contract.specs.Collecting.{MadeOfParts, PairRefused}
 use Rattle.fallible_contract.proofs.Lemmas.Collecting.{collected_all, collect_failed, collect_refused, pair_pushed}
+use Rattle.fallible_contract.proofs.Lemmas.Folds.{ended_behind, failed_behind, stopped_behind}
 use Rattle.fallible_contract.proofs.Lemmas.Lists.Drawn.{unzipped_as, not_unzipped_as}
 use Rattle.fallible_core.proofs.traits.FallibleIterator.unzip.Goals as goal
 
 pub returns-in-Ended-clause-collects : goal.returns-in-Ended-clause-collects
-returns-in-Ended-clause-collects g c = collected_all {refuses = PairRefused g.FromA.Collect.made g.FromB.Collect.made g.FromA.Collect.push_refuses g.FromB.Collect.push_refuses} (λ d x r p. pair_pushed g.FromA.Collect.made g.FromB.Collect.made g.FromA.Collect.push_refuses g.FromB.Collect.push_refuses d x r p) (c.in-Ok.ensures, c.in-Ok-empty.ensures) c.in-Ended.ensures.carried
+returns-in-Ended-clause-collects g c = collected_all {refuses = PairRefused g.FromA.Collect.made g.FromB.Collect.made g.FromA.Collect.push_refuses g.FromB.Collect.push_refuses} (λ d x r p. pair_pushed g.FromA.Collect.made g.FromB.Collect.made g.FromA.Collect.push_refuses g.FromB.Collect.push_refuses d x r p) (c.in-Ok.ensures, c.in-Ok-empty.ensures) (ended_behind _ _ _ c.in-Ended.ensures.carried (λ same. search rules))
 
 pub returns-in-Ended-clause-is : goal.returns-in-Ended-clause-is
 returns-in-Ended-clause-is g c l i = unzipped_as g.FromA.Collect.made g.FromB.Collect.made ⊥ (PairRefused g.FromA.Collect.made g.FromB.Collect.made g.FromA.Collect.push_refuses g.FromB.Collect.push_refuses) (Ok _) l (returns-in-Ended-clause-collects g c) i
 
 pub returns-in-Failed-clause-collects : goal.returns-in-Failed-clause-collects
-returns-in-Failed-clause-collects g c = collect_failed {made = MadeOfParts g.FromA.Collect.made g.FromB.Collect.made} {refuses = PairRefused g.FromA.Collect.made g.FromB.Collect.made g.FromA.Collect.push_refuses g.FromB.Collect.push_refuses} (λ d x r p. pair_pushed g.FromA.Collect.made g.FromB.Collect.made g.FromA.Collect.push_refuses g.FromB.Collect.push_refuses d x r p) (c.in-Ok.ensures, c.in-Ok-empty.ensures) c.in-Failed.ensures.carried
+returns-in-Failed-clause-collects g c = collect_failed {made = MadeOfParts g.FromA.Collect.made g.FromB.Collect.made} {refuses = PairRefused g.FromA.Collect.made g.FromB.Collect.made g.FromA.Collect.push_refuses g.FromB.Collect.push_refuses} (λ d x r p. pair_pushed g.FromA.Collect.made g.FromB.Collect.made g.FromA.Collect.push_refuses g.FromB.Collect.push_refuses d x r p) (c.in-Ok.ensures, c.in-Ok-empty.ensures) (failed_behind _ _ _ c.in-Failed.ensures.carried)
 
 pub returns-in-Failed-clause-is : goal.returns-in-Failed-clause-is
 returns-in-Failed-clause-is g c l i = unzipped_as g.FromA.Collect.made g.FromB.Collect.made ⊥ (PairRefused g.FromA.Collect.made g.FromB.Collect.made g.FromA.Collect.push_refuses g.FromB.Collect.push_refuses) (Err (Source _)) l (returns-in-Failed-clause-collects g c) i
 
 pub returns-clause-collects : goal.returns-clause-collects
-returns-clause-collects g c = inr (collect_refused {made = MadeOfParts g.FromA.Collect.made g.FromB.Collect.made} {refuses = PairRefused g.FromA.Collect.made g.FromB.Collect.made g.FromA.Collect.push_refuses g.FromB.Collect.push_refuses} (λ d x r p. pair_pushed g.FromA.Collect.made g.FromB.Collect.made g.FromA.Collect.push_refuses g.FromB.Collect.push_refuses d x r p) (c.in-Ok.ensures, c.in-Ok-empty.ensures) c.in-Stopped.ensures.carried)
+returns-clause-collects g c = inr (collect_refused {made = MadeOfParts g.FromA.Collect.made g.FromB.Collect.made} {refuses = PairRefused g.FromA.Collect.made g.FromB.Collect.made g.FromA.Collect.push_refuses g.FromB.Collect.push_refuses} (λ d x r p. pair_pushed g.FromA.Collect.made g.FromB.Collect.made g.FromA.Collect.push_refuses g.FromB.Collect.push_refuses d x r p) (c.in-Ok.ensures, c.in-Ok-empty.ensures) (stopped_behind _ _ _ c.in-Stopped.ensures.carried))
 
 pub returns-in-Err-clause-is : goal.returns-in-Err-clause-is
 returns-in-Err-clause-is g c l i = not_unzipped_as g.FromA.Collect.made g.FromB.Collect.made l _
