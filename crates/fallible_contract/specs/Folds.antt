@@ -1,5 +1,5 @@
 -- Folds.
-use Rattle.std.specs.Prelude.{◌≡◌, ℕ, ◌≤◌, length, List, [], ◌∷◌, ◌++◌, map, Option, Result, Some, None, Ok, Err}
+use Rattle.std.specs.Prelude.{◌≡◌, ℕ, ◌+◌, ◌≤◌, length, List, [], ◌∷◌, ◌++◌, map, Option, Result, Some, None, Ok, Err}
 use Rattle.std.specs.List.{FoldsTo, last_or}
 use Rattle.std.specs.Fn.{Called, Takes, Mut}
 use Rattle.fallible_contract.specs.declared.folds.Exit.{Exit}
@@ -154,3 +154,14 @@ pub record Nth {S A E : Type 0} (steps : S → Answered A E → S → Type 0) (s
   pub skipped : List A
   pub ran : Run steps s (map item skipped ++ r ∷ []) t
   pub exit : NthExit n (length skipped) r
+
+-- One turn of an `nth` that is one fold, where n items are still to be passed over: it passes over one of them, or stops with the item where there are none.
+abbrev pub ReachTurn : {A : Type 0} → ℕ → A → Result ℕ A → Type 0
+ReachTurn n x (Ok k) = n ≡ k + 1
+ReachTurn n x (Err y) = (n ≡ 0) × (y ≡ x)
+
+-- What `nth` answers by the exit of that fold: the item that it stopped with, none at the end, or the failure.
+abbrev pub reached_at : {A E : Type 0} → Exit ℕ E A → Answered A E
+reached_at (Ended n) = Ok None
+reached_at (Failed n e) = Err e
+reached_at (Stopped x) = Ok (Some x)

@@ -2,7 +2,7 @@
 ghost use Rattle.std.specs.Prelude.{◌≡◌, ◌+◌, ◌-◌, ◌^◌, ◌<◌, ⊤, IfOk, Result, Ok, Some};
 ghost use Rattle.fallible_contract.specs.Passing.{stopped_outcome};
 ghost use Rattle.fallible_contract.specs.Folding.{TurnedBy, handed};
-ghost use Rattle.fallible_contract.specs.Folds.{unpacked, ValueAt, FoldedAt, FoldTurn, call_with, takes_with};
+ghost use Rattle.fallible_contract.specs.Folds.{unpacked, ValueAt, FoldedAt, FoldTurn, ReachTurn, reached_at, call_with, takes_with};
 
 use std::convert::Infallible;
 use std::marker::PhantomData;
@@ -126,6 +126,36 @@ impl<T, A: Is<T>, B, E, F: FnMut(B, T) -> Result<B, E>> Turn<(B, F), A, E> for F
             Ok(value) => Ok((value, f)),
             Err(e) => Err(e),
         }
+    }
+}
+
+/// The turn of an `nth` that is one fold: it carries how many items are still to be passed over, and stops with the item that comes when none are.
+#[derive(Drop)]
+pub struct Reaching;
+
+impl<A: Drop> Turn<usize, A, A> for Reaching {
+    ghost can_turn = { λ _ _ _. ⊤ };
+
+    ghost turns = { λ _ n x r. ReachTurn n x r };
+
+    /// One fewer, or the item.
+    fn turn(&self, carried: usize, item: A) -> Result<usize, A> {
+        if carried == 0 {
+            Err(item)
+        } else {
+            Ok(carried - 1)
+        }
+    }
+}
+
+/// What `nth` answers by the exit of that fold: the item that it stopped with, none at the end, or the failure.
+pub fn reached<A, E>(exit: Exit<usize, E, A>) -> Result<Option<A>, E>
+    ensures { result ≡ reached_at exit }
+{
+    match exit {
+        Exit::Ended(_) => Ok(None),
+        Exit::Failed(_, e) => Err(e),
+        Exit::Stopped(item) => Ok(Some(item)),
     }
 }
 

@@ -187,11 +187,50 @@ fn references_and_boxes_pass_nth_on(rt: HostRuntime) -> Result<(), Fail> {
 }
 
 #[test]
-fn enumerate_counts_by_one_fold(rt: HostRuntime) -> Result<(), Fail> {
+fn enumerate_reaches_by_one_fold(rt: HostRuntime) -> Result<(), Fail> {
+    let log = Log::new();
+    let it = listed::<u32, u32, 4>(rt.alloc(), [Ok(5), Ok(6), Ok(7), Ok(8)])?;
+    let mut it = Counted::new(it, &log).enumerate();
+    assert_eq!(rt; it.nth(2), Ok(Some((2, 7))));
+    assert_eq!(rt; log.read(), [0, 0, 1, 0, 0, 0, 0, 0]);
+    assert_eq!(rt; it.nth(0), Ok(Some((3, 8))));
+    assert_eq!(rt; it.nth(0), Ok(None));
+    assert_eq!(rt; log.read(), [0, 0, 3, 0, 0, 0, 0, 0]);
+    Ok(())
+}
+
+#[test]
+fn enumerate_nth_counts_what_came_before_a_failure(rt: HostRuntime) -> Result<(), Fail> {
+    let log = Log::new();
+    let it = listed::<u32, u32, 3>(rt.alloc(), [Ok(5), Err(9), Ok(6)])?;
+    let mut it = Counted::new(it, &log).enumerate();
+    assert_eq!(rt; it.nth(1), Err(9));
+    assert_eq!(rt; log.read(), [0, 0, 1, 0, 0, 0, 0, 0]);
+    assert_eq!(rt; it.next(), Ok(Some((1, 6))));
+    assert_eq!(rt; log.read(), [1, 0, 1, 0, 0, 0, 0, 0]);
+    Ok(())
+}
+
+#[test]
+fn enumerate_nth_counts_what_came_before_an_end(rt: HostRuntime) -> Result<(), Fail> {
+    let log = Log::new();
+    let it = listed::<u32, u32, 4>(rt.alloc(), [Ok(1), Ok(2), Ok(9), Ok(3)])?;
+    let it = it.scan((), |_, x: u32| if x > 5 { Ok(None) } else { Ok(Some(x)) });
+    let mut it = Counted::new(it, &log).enumerate();
+    assert_eq!(rt; it.nth(3), Ok(None));
+    assert_eq!(rt; it.next(), Ok(Some((2, 3))));
+    assert_eq!(rt; log.read(), [1, 0, 1, 0, 0, 0, 0, 0]);
+    Ok(())
+}
+
+#[test]
+fn enumerate_passes_count_on(rt: HostRuntime) -> Result<(), Fail> {
     let log = Log::new();
     let it = listed::<u32, u32, 2>(rt.alloc(), [Ok(5), Ok(6)])?;
     assert_eq!(rt; Counted::new(it, &log).enumerate().count(), Ok(2));
-    assert_eq!(rt; log.read(), [0, 0, 1, 0, 0, 0, 0, 0]);
+    let it = listed::<u32, u32, 2>(rt.alloc(), [Ok(5), Err(6)])?;
+    assert_eq!(rt; Counted::new(it, &log).enumerate().count(), Err(6));
+    assert_eq!(rt; log.read(), [0, 0, 0, 0, 2, 0, 0, 0]);
     Ok(())
 }
 

@@ -7,7 +7,7 @@ ghost use Rattle.fallible_contract.specs.Laws.Contract.{lawful_seen};
 ghost use Rattle.fallible_core.specs.Laws.OneToOne.Enumerate.{lawful_enumerate};
 
 use crate::traits::FallibleIterator;
-use fallible_contract::folds::{Exit, Turn, handed_back, turned};
+use fallible_contract::folds::{Exit, Reaching, Turn, handed_back, reached, turned};
 
 /// Each item beside the number of items drawn before it. Failures and ends pass, and don't count.
 #[derive(Clone, Debug, Drop)]
@@ -16,7 +16,10 @@ pub struct Enumerate<I> {
     pub(crate) count: usize,
 }
 
-impl<I: FallibleIterator> FallibleIterator for Enumerate<I> {
+impl<I: FallibleIterator> FallibleIterator for Enumerate<I>
+where
+    I::Item: Drop,
+{
     type Item = (usize, I::Item);
 
     type Error = I::Error;
@@ -50,6 +53,16 @@ impl<I: FallibleIterator> FallibleIterator for Enumerate<I> {
         let (count, exit) = handed_back(self.it.try_fold_carrying((init, self.count), &turn));
         self.count = count;
         exit
+    }
+
+    /// The source's count.
+    fn count(self) -> Result<usize, I::Error> {
+        self.it.count()
+    }
+
+    /// One fold of the source, which counts each item that it gives.
+    fn nth(&mut self, n: usize) -> Result<Option<(usize, I::Item)>, I::Error> {
+        reached(self.try_fold_carrying(n, &Reaching))
     }
 
     ghost lawful = { lawful_seen enumerate_parts (lawful_enumerate I.lawful) };

@@ -34,6 +34,7 @@ where
 /// The answers of `Enumerate` are the source's, with each item beside the number of items before it.
 pub fn law_enumerate<I: FallibleIterator>()
 where
+    I::Item: Drop,
     ensures { MeetsHeld enumerate_parts ⟦<Enumerate<I> as FallibleIterator>⟧.contract.steps (EnumerateTrace I.contract.steps) }
 {}
 

@@ -1,11 +1,11 @@
--- A fold of the source that numbers its items is a fold of `Enumerate`.
-use Rattle.std.specs.Prelude.{◌≡◌, ℕ, ◌+◌, List, [], ◌∷◌, Result, Ok, Err, ⊤}
+-- A fold of the source that numbers its items is a fold of `Enumerate`, and a count of the source is a count of it.
+use Rattle.std.specs.Prelude.{◌≡◌, ℕ, suc, ◌+◌, length, List, [], ◌∷◌, ◌++◌, map, Result, Some, None, Ok, Err, ⊤}
 use Rattle.std.specs.List.{FoldsTo}
 use Rattle.std.proofs.Common.{refl, sym, ap, subst, ◌∙◌, arith, inl}
 use Rattle.fallible_contract.specs.declared.folds.Exit.{Exit}
-use Rattle.fallible_contract.specs.Traces.{Answered, item}
+use Rattle.fallible_contract.specs.Traces.{Answered, Run, item}
 use Rattle.fallible_contract.specs.Contract.{Contract, Lawful}
-use Rattle.fallible_contract.specs.Folds.{HoldsAtEachTurn, carrying_turn}
+use Rattle.fallible_contract.specs.Folds.{HoldsAtEachTurn, carrying_turn, CountExit, Counted}
 use Rattle.fallible_contract.specs.Folding.{FoldingTurn, FoldingTakes, beside}
 use Rattle.fallible_contract.specs.Laws.Passing.{Passes, done, ends, fails, keeps, refuses, closes, leaves_out, to_passes}
 use Rattle.fallible_contract.proofs.Lemmas.Folds.{count_fits}
@@ -55,3 +55,43 @@ module _ {S A E C R : Type 0} {m : Contract S A E} (l : Lawful m) (turns : C →
       ((takes_freely number_call number_outcome turns {pre = λ _ _. ⊤} (λ g x. tt) holds).at items t u p x ran went step).1,
     );
   }
+
+-- ---- `count`
+
+-- items beside their numbers, the first of which is n
+abbrev pub beside_numbers : {A : Type 0} → ℕ → List A → List (ℕ × A)
+beside_numbers n [] = []
+beside_numbers n (x ∷ items) = (n, x) ∷ beside_numbers (n + 1) items
+
+as_many : {A : Type 0} (items : List A) (n : ℕ) → length (beside_numbers n items) ≡ length items
+as_many [] n = refl
+as_many (x ∷ items) n = let rest = as_many items (n + 1) in omega (arith, rest)
+
+module _ {S A E : Type 0} (steps : S → Answered A E → S → Type 0) where
+  -- items and a last answer of the source are the items beside their numbers, and what the last answer is of `Enumerate`
+  run_numbered : (items : List A) (last : Answered A E) (answer : Answered (ℕ × A) E) (s t : S) (n : ℕ) → ((u v : S) (k : ℕ) → steps u last v → numbered_step steps (u, k) answer (v, k)) → Run steps s (map item items ++ last ∷ []) t → Run (numbered_step steps) (s, n) (map item (beside_numbers n items) ++ answer ∷ []) (t, n + length items)
+  run_numbered [] last answer s t n then ran = let same : n ≡ n + 0 = omega arith in
+      ((ran.0, n), then s ran.0 n ran.1, subst (λ (k : ℕ). ◌≡◌ {A = S × ℕ} (ran.0, n) (t, k)) same (ap (λ (u : S). (u, n)) ran.2))
+  run_numbered (x ∷ items) last answer s t n then ran = let same : n + 1 + length items ≡ n + suc (length items) = omega arith in
+      ((ran.0, n + 1), enumerate_item x ran.1, subst (λ (k : ℕ). Run (numbered_step steps) (ran.0, n + 1) (map item (beside_numbers (n + 1) items) ++ answer ∷ []) (t, k)) same (run_numbered items last answer ran.0 t (n + 1) then ran.2))
+
+  counted_last : (items : List A) (last : Answered A E) (s t : S) (n : ℕ) (r : Result ℕ E) → Run steps s (map item items ++ last ∷ []) t → CountExit (length items) last r → Counted (numbered_step steps) (s, n) r
+  counted_last items (Ok None) s t n r ran exit = record {
+    items = beside_numbers n items;
+    last = Ok None;
+    left = (t, n + length items);
+    ran = run_numbered items (Ok None) (Ok None) s t n (λ u v k step. enumerate_end step) ran;
+    exit = subst (λ (k : ℕ). r ≡ Ok k) (sym (as_many items n)) exit;
+  }
+  counted_last items (Err e) s t n r ran exit = record {
+    items = beside_numbers n items;
+    last = Err e;
+    left = (t, n + length items);
+    ran = run_numbered items (Err e) (Err e) s t n (λ u v k step. enumerate_failure step) ran;
+    exit = exit;
+  }
+  counted_last items (Ok (Some x)) s t n r ran exit = absurd exit
+
+-- the source's count is that of `Enumerate`
+pub counted_numbered : {S A E : Type 0} {steps : S → Answered A E → S → Type 0} {s : S} {n : ℕ} {r : Result ℕ E} → Counted steps s r → Counted (numbered_step steps) (s, n) r
+counted_numbered {steps = steps} {s = s} {n = n} {r = r} w = counted_last steps w.items w.last s w.left n r w.ran w.exit

@@ -1,0 +1,10 @@
+-- Its fold that passes over n items, and stops with the next one.
+use Rattle.fallible_contract.proofs.Lemmas.Nth.{nth_reached}
+use Rattle.fallible_contract.proofs.Lemmas.Lists.Drawn.{nth_is}
+use Rattle.fallible_core.proofs.one_to_one.enumerate.EnumerateFallibleIterator.nth.Goals as goal
+
+pub returns-clause-nth : goal.returns-clause-nth
+returns-clause-nth g c = rw c.reached.ensures (nth_reached c.try_fold_carrying.ensures.carried)
+
+pub returns-clause-is : goal.returns-clause-is
+returns-clause-is g c l i = nth_is l (returns-clause-nth g c) i
