@@ -1,6 +1,5 @@
 -- Each round goes before the comparison from there on.
-use Rattle.std.proofs.Common.{Some, None, Ok, refl, sym, ap, ◌∙◌}
-use Rattle.std.specs.declared.cmp.Ordering.TheVariants.{Less, Greater}
+use Rattle.std.proofs.Common.{Ok, sym, ◌∙◌}
 use Rattle.fallible_contract.proofs.Lemmas.Comparing.{compared_after, compared_left_failure, compared_round, right_failure, round_decides, round_goes_on, either_fewer, either_begins}
 use Rattle.fallible_core.proofs.comparing.compare.Goals as goal
 
