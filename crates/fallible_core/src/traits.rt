@@ -370,10 +370,8 @@ pub trait FallibleIterator: Drop + Sized {
 
     /// Puts each item beside the number of items drawn before it, from 0 on; failures and ends don't count. Making the adapter draws nothing.
     ///
-    /// It asks that at most `usize::MAX` items are still to come, so that each number fits. The items may be let go, as `count` and `nth` do.
+    /// It asks that at most `usize::MAX` items are still to come, so that each number fits. Draws ask that items can be let go, as its `count` and `nth` do.
     final fn enumerate(self) -> Enumerate<Self>
-    where
-        Self::Item: Drop,
         requires { AtMost contract self (2 ^ 64 - 1) }
         ensures parts { enumerate_parts result ≡ (self, 0) }
         ensures numberable { contract.can self → IsNumberable contract self 0 }
