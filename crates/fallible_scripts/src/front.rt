@@ -154,6 +154,19 @@ fn enumerate_folds_by_one_fold_and_counts_on(rt: HostRuntime) -> Result<(), Fail
 }
 
 #[test]
+fn step_by_folds_by_one_fold_and_leaves_out_on(rt: HostRuntime) -> Result<(), Fail> {
+    let log = Log::new();
+    let answers = [Ok(1), Ok(2), Err(9), Ok(3), Ok(4)];
+    let it = listed::<u32, u32, 5>(rt.alloc(), answers)?;
+    let mut it = Counted::new(it, &log).step_by(3);
+    let stopped: Result<u32, u32> = it.try_fold(0, |_: u32, x: u32| Ok(x));
+    assert_eq!(rt; stopped, Err(9));
+    assert_eq!(rt; it.next(), Ok(Some(4)));
+    assert_eq!(rt; log.read(), [2, 0, 1, 0, 0, 0, 0, 0]);
+    Ok(())
+}
+
+#[test]
 fn fuse_passes_nth_on(rt: HostRuntime) -> Result<(), Fail> {
     let log = Log::new();
     let it = listed::<u32, u32, 2>(rt.alloc(), [Ok(5), Ok(6)])?;

@@ -4,6 +4,7 @@ pub mod FuseFolds
 pub mod Skip
 pub mod SkipFolds
 pub mod StepBy
+pub mod StepByFolds
 pub mod Take
 pub mod TakeWhile
 pub mod TakeWhileFolds

@@ -1,9 +1,10 @@
 -- `StepBy`, which keeps one item at each step.
-use Rattle.std.specs.Prelude.{ℕ, Bool, Option, ◌≡◌, ◌+◌, ◌-◌, ◌%◌, ltb, leb, eqb, cond, ◌&&◌, List, [], ◌∷◌}
+use Rattle.std.specs.Prelude.{ℕ, zero, suc, Bool, Option, ◌≡◌, ◌+◌, ◌-◌, ◌%◌, ltb, leb, eqb, cond, ◌&&◌, List, [], ◌∷◌, ⊤}
 use Rattle.fallible_core.specs.declared.cutting.step_by.StepBy.{StepBy}
 use Rattle.fallible_contract.specs.Traces.{Answered}
 use Rattle.fallible_contract.specs.Contract.{Contract}
 use Rattle.fallible_contract.specs.Counting.{KeptByNumber}
+use Rattle.fallible_contract.specs.Passing.{Outcome, kept, left_out}
 use Rattle.fallible_contract.specs.WithSteps.{with_steps}
 use Rattle.fallible_contract.specs.Hints.{hint_kept}
 
@@ -30,3 +31,23 @@ step_by_step steps p r q = StepByTrace steps p (r ∷ []) q
 -- `StepBy`'s contract: that of its source but for the step and the hint.
 abbrev pub step_by_contract : {S A E : Type 0} → Contract S A E → Contract (S × (ℕ × ℕ)) A E
 step_by_contract m = with_steps m (step_by_step m.steps) (λ p h. (k : ℕ × Option ℕ) × m.hints p.0 k × (h ≡ hint_kept (p.1).0 (p.1).1 k))
+
+-- ---- its fold, through the source's own
+
+-- how many items are left out next, once an item came where n were to be left out
+abbrev pub left_next : ℕ → ℕ → ℕ
+left_next between zero = between
+left_next between (suc n) = n
+
+-- an item is counted down
+abbrev pub count_call : {A : Type 0} → ℕ → ℕ → A → ℕ → ℕ → Type 0
+count_call between n x v k = (v ≡ n) × (k ≡ left_next between n)
+
+-- it is kept where none was to be left out
+abbrev pub count_outcome : {A E : Type 0} → A → ℕ → Outcome A E
+count_outcome x zero = kept x
+count_outcome x (suc n) = left_out
+
+-- any item may be counted down
+abbrev pub count_takes : {A : Type 0} → ℕ → A → Type 0
+count_takes n x = ⊤
