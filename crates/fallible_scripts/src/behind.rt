@@ -15,6 +15,19 @@ fn rev_counts_by_one_fold_from_behind(rt: HostRuntime) -> Result<(), Fail> {
 }
 
 #[test]
+fn rev_folds_by_one_fold_of_the_other_end(rt: HostRuntime) -> Result<(), Fail> {
+    let log = Log::new();
+    let it = listed::<u32, u32, 3>(rt.alloc(), [Ok(1), Ok(2), Ok(3)])?;
+    let mut it = Counted::new(it, &log).rev();
+    let stopped: Result<u32, u32> = it.try_rfold(0, |_: u32, x: u32| Err(x));
+    assert_eq!(rt; stopped, Err(1));
+    let stopped: Result<u32, u32> = it.try_fold(0, |_: u32, x: u32| Err(x));
+    assert_eq!(rt; stopped, Err(3));
+    assert_eq!(rt; log.read(), [0, 0, 1, 1, 0, 0, 0, 0]);
+    Ok(())
+}
+
+#[test]
 fn map_stopped_from_behind_goes_on_at_both_ends(rt: HostRuntime) -> Result<(), Fail> {
     let log = Log::new();
     let it = listed::<u32, u32, 4>(rt.alloc(), [Ok(1), Ok(2), Ok(3), Ok(4)])?;
