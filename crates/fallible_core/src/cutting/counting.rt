@@ -1,8 +1,9 @@
-// The draw that leaves items out, and counts down how many.
+// The draws that leave items out, and count down how many.
 ghost use Rattle.std.specs.Prelude.{[], ◌∷◌};
 ghost use Rattle.fallible_core.specs.Cutting.Skip.{SkipTrace};
 
 use crate::traits::FallibleIterator;
+use fallible_contract::folds::{Exit, Reaching};
 
 // Leaves out as many items as `left` says, and answers the item after them, or a failure or an end that comes before it. Each left-out item lowers `left` by one.
 pub(crate) fn next_past<I: FallibleIterator>(
@@ -23,4 +24,31 @@ where
         *left -= 1;
     }
     it.next()
+}
+
+// The same by one fold of the source, which asks a number to come.
+pub(crate) fn reach_past<I: FallibleIterator>(
+    it: &mut I,
+    left: &mut usize,
+) -> Result<Option<I::Item>, I::Error>
+where
+    I::Item: Drop,
+    requires can { I.contract.can it.old }
+    requires finite { I.contract.has_end it.old }
+    ensures { SkipTrace I.contract.steps (it.old, left.old) (result ∷ []) (it.new, left.new) }
+{
+    match it.try_fold_carrying(*left, &Reaching) {
+        Exit::Ended(still) => {
+            *left = still;
+            Ok(None)
+        }
+        Exit::Failed(still, e) => {
+            *left = still;
+            Err(e)
+        }
+        Exit::Stopped(item) => {
+            *left = 0;
+            Ok(Some(item))
+        }
+    }
 }

@@ -5,7 +5,7 @@ ghost use Rattle.fallible_core.specs.Cutting.Skip.{skip_contract, skip_parts};
 ghost use Rattle.fallible_contract.specs.Laws.Contract.{lawful_seen};
 ghost use Rattle.fallible_core.specs.Laws.Cutting.Skip.{lawful_skip};
 
-use crate::cutting::counting::next_past;
+use crate::cutting::counting::{next_past, reach_past};
 use crate::traits::FallibleIterator;
 use fallible_contract::folds::{Exit, Turn};
 use fallible_contract::hints::less;
@@ -37,13 +37,13 @@ where
         less(self.it.size_hint(), self.to_skip)
     }
 
-    // The items that are still to be left out and one answer more, as `next` draws them, and after an item the source's fold.
+    // One fold of the source up to the first item that stays, and after that item another one of the rest.
     fn try_fold_carrying<C, R, K: Turn<C, I::Item, R>>(
         &mut self,
         init: C,
         k: &K,
     ) -> Exit<C, I::Error, R> {
-        match self.next() {
+        match reach_past(&mut self.it, &mut self.to_skip) {
             Ok(Some(x)) => match k.turn(init, x) {
                 Ok(carried) => self.it.try_fold_carrying(carried, k),
                 Err(stop) => Exit::Stopped(stop),

@@ -1,4 +1,4 @@
--- A fold of `Skip` begins with a draw of it, and after an item it is a fold of the source.
+-- A fold of `Skip` begins with a fold of the source up to the first item that stays, which is one draw, and after that item it is a fold of the source.
 use Rattle.std.specs.Prelude.{Some, Ok}
 use Rattle.fallible_contract.specs.Laws.Contract.{lawful_seen, stays_run}
 use Rattle.fallible_contract.proofs.Lemmas.Folds.{holds_here, holds_after, carried_after, carried_end, carried_failure, carried_stop}
@@ -8,28 +8,28 @@ use Rattle.fallible_core.proofs.Lemmas.Cutting.SkipFolds.{item_is_past, holds_pa
 use Rattle.fallible_core.proofs.cutting.skip.SkipFallibleIterator.try_fold_carrying.Goals as goal
 
 pub turn-requires : goal.turn-requires
-turn-requires g c = holds_here {s = c.args.self.now} {t = c.next.new.self} c.requires.callable (rw c.in-Ok-Some.field-0-is at c.in-Ok-Some.ensures)
+turn-requires g c = holds_here {s = c.args.self.now} {t = record { it = c.reach_past.new.it; to_skip = c.reach_past.new.left }} c.requires.callable (rw c.in-Ok-Some.field-0-is at c.in-Ok-Some.ensures)
 
 pub try_fold_carrying-requires-clause-can : goal.try_fold_carrying-requires-clause-can
-try_fold_carrying-requires-clause-can g c = ((lawful_seen skip_parts (lawful_skip g.met.I.FallibleIterator.lawful)).goes c.args.self.now (Ok (Some c.in-Ok-Some.x)) c.next.new.self c.requires.can (rw c.in-Ok-Some.field-0-is at c.in-Ok-Some.ensures)).can
+try_fold_carrying-requires-clause-can g c = ((lawful_seen skip_parts (lawful_skip g.met.I.FallibleIterator.lawful)).goes c.args.self.now (Ok (Some c.in-Ok-Some.x)) (record { it = c.reach_past.new.it; to_skip = c.reach_past.new.left }) c.requires.can (rw c.in-Ok-Some.field-0-is at c.in-Ok-Some.ensures)).can
 
 pub try_fold_carrying-requires-clause-finite : goal.try_fold_carrying-requires-clause-finite
-try_fold_carrying-requires-clause-finite g c = ((lawful_seen skip_parts (lawful_skip g.met.I.FallibleIterator.lawful)).goes c.args.self.now (Ok (Some c.in-Ok-Some.x)) c.next.new.self c.requires.can (rw c.in-Ok-Some.field-0-is at c.in-Ok-Some.ensures)).has_end c.requires.finite
+try_fold_carrying-requires-clause-finite g c = ((lawful_seen skip_parts (lawful_skip g.met.I.FallibleIterator.lawful)).goes c.args.self.now (Ok (Some c.in-Ok-Some.x)) (record { it = c.reach_past.new.it; to_skip = c.reach_past.new.left }) c.requires.can (rw c.in-Ok-Some.field-0-is at c.in-Ok-Some.ensures)).has_end c.requires.finite
 
 pub try_fold_carrying-requires-clause-callable : goal.try_fold_carrying-requires-clause-callable
-try_fold_carrying-requires-clause-callable g c = holds_past g.I.FallibleIterator.contract {s = c.next.new.self} (item_is_past g.I.FallibleIterator.contract c.args.self.now c.next.new.self c.in-Ok-Some.x (rw c.in-Ok-Some.field-0-is at c.in-Ok-Some.ensures)) (holds_after {s = c.args.self.now} {t = c.next.new.self} c.requires.callable (rw c.in-Ok-Some.field-0-is at c.in-Ok-Some.ensures) c.in-Ok.ensures)
+try_fold_carrying-requires-clause-callable g c = holds_past g.I.FallibleIterator.contract {s = record { it = c.reach_past.new.it; to_skip = c.reach_past.new.left }} (item_is_past g.I.FallibleIterator.contract c.args.self.now (record { it = c.reach_past.new.it; to_skip = c.reach_past.new.left }) c.in-Ok-Some.x (rw c.in-Ok-Some.field-0-is at c.in-Ok-Some.ensures)) (holds_after {s = c.args.self.now} {t = record { it = c.reach_past.new.it; to_skip = c.reach_past.new.left }} c.requires.callable (rw c.in-Ok-Some.field-0-is at c.in-Ok-Some.ensures) c.in-Ok.ensures)
 
 pub returns-in-Ok-clause-carried : goal.returns-in-Ok-clause-carried
-returns-in-Ok-clause-carried g c = carried_after {s = c.args.self.now} {t = c.next.new.self} c.in-Ok-Some.x (rw c.in-Ok-Some.field-0-is at c.in-Ok-Some.ensures) c.in-Ok.ensures (folds_past g.I.FallibleIterator.contract {s = c.next.new.self} (item_is_past g.I.FallibleIterator.contract c.args.self.now c.next.new.self c.in-Ok-Some.x (rw c.in-Ok-Some.field-0-is at c.in-Ok-Some.ensures)) c.try_fold_carrying.ensures.carried)
+returns-in-Ok-clause-carried g c = carried_after {s = c.args.self.now} {t = record { it = c.reach_past.new.it; to_skip = c.reach_past.new.left }} c.in-Ok-Some.x (rw c.in-Ok-Some.field-0-is at c.in-Ok-Some.ensures) c.in-Ok.ensures (folds_past g.I.FallibleIterator.contract {s = record { it = c.reach_past.new.it; to_skip = c.reach_past.new.left }} (item_is_past g.I.FallibleIterator.contract c.args.self.now (record { it = c.reach_past.new.it; to_skip = c.reach_past.new.left }) c.in-Ok-Some.x (rw c.in-Ok-Some.field-0-is at c.in-Ok-Some.ensures)) c.try_fold_carrying.ensures.carried)
 
 pub returns-in-Err-turn-clause-carried : goal.returns-in-Err-turn-clause-carried
-returns-in-Err-turn-clause-carried g c = carried_stop {s = c.args.self.now} {t = c.next.new.self} c.in-Ok-Some.x (rw c.in-Ok-Some.field-0-is at c.in-Ok-Some.ensures) c.in-Err-turn.ensures
+returns-in-Err-turn-clause-carried g c = carried_stop {s = c.args.self.now} {t = record { it = c.reach_past.new.it; to_skip = c.reach_past.new.left }} c.in-Ok-Some.x (rw c.in-Ok-Some.field-0-is at c.in-Ok-Some.ensures) c.in-Err-turn.ensures
 
 pub returns-in-Ok-None-clause-carried : goal.returns-in-Ok-None-clause-carried
-returns-in-Ok-None-clause-carried g c = carried_end {s = c.args.self.now} {t = c.next.new.self} (rw c.in-Ok-None.field-0-is at c.in-Ok-None.ensures)
+returns-in-Ok-None-clause-carried g c = carried_end {s = c.args.self.now} {t = record { it = c.reach_past.new.it; to_skip = c.reach_past.new.left }} (rw c.in-Ok-None.field-0-is at c.in-Ok-None.ensures)
 
 pub returns-in-Err-clause-carried : goal.returns-in-Err-clause-carried
-returns-in-Err-clause-carried g c = carried_failure {s = c.args.self.now} {t = c.next.new.self} c.in-Err.ensures
+returns-in-Err-clause-carried g c = carried_failure {s = c.args.self.now} {t = record { it = c.reach_past.new.it; to_skip = c.reach_past.new.left }} c.in-Err.ensures
 
 pub returns-in-Ok-clause-stays : goal.returns-in-Ok-clause-stays
 returns-in-Ok-clause-stays g c = stays_run (lawful_seen skip_parts (lawful_skip g.met.I.FallibleIterator.lawful)) _ _ _ c.requires.can (returns-in-Ok-clause-carried g c).ran
