@@ -1,9 +1,33 @@
 // Folds from the front go through the source's own.
+ghost use Rattle.fallible_contract.specs.Contract.{Stays};
+
 use crate::counted::{Counted, Log};
 use fallible_iterator::FallibleIterator;
 use fallible_testing::listed::listed;
 use fallible_testing::test_error::TestError;
 use std::test::Fail;
+
+// What the iterator's own `nth` answers, whatever type it has.
+fn reached<I: FallibleIterator<Item = u32, Error = u32>>(
+    it: &mut I,
+    n: usize,
+) -> Result<Option<u32>, u32>
+where
+    requires { I.contract.can it.old }
+    ensures { Stays I.contract it.old it.new }
+{
+    it.nth(n)
+}
+
+// The sum of the items by the iterator's own `try_fold`, whatever type it has, or the failure.
+fn summed<I: FallibleIterator<Item = u32, Error = u32>>(it: &mut I) -> Result<u32, u32>
+where
+    requires can { I.contract.can it.old }
+    requires finite { I.contract.has_end it.old }
+    ensures { Stays I.contract it.old it.new }
+{
+    it.try_fold(0, |sum: u32, x: u32| Ok(sum.wrapping_add(x)))
+}
 
 #[test]
 fn map_folds_by_one_fold(rt: HostRuntime) -> Result<(), Fail> {
@@ -177,6 +201,18 @@ fn fuse_passes_nth_on(rt: HostRuntime) -> Result<(), Fail> {
 }
 
 #[test]
+fn fuse_keeps_the_end_that_its_nth_met(rt: HostRuntime) -> Result<(), Fail> {
+    let log = Log::new();
+    let it = listed::<u32, u32, 2>(rt.alloc(), [Ok(5), Ok(6)])?;
+    let mut it = Counted::new(it, &log).fuse();
+    assert_eq!(rt; it.nth(2), Ok(None));
+    assert_eq!(rt; it.nth(0), Ok(None));
+    assert_eq!(rt; it.next(), Ok(None));
+    assert_eq!(rt; log.read(), [0, 0, 0, 0, 0, 0, 1, 0]);
+    Ok(())
+}
+
+#[test]
 fn map_err_passes_nth_on(rt: HostRuntime) -> Result<(), Fail> {
     let log = Log::new();
     let it = listed::<u32, u32, 2>(rt.alloc(), [Ok(5), Ok(6)])?;
@@ -189,26 +225,82 @@ fn map_err_passes_nth_on(rt: HostRuntime) -> Result<(), Fail> {
 #[test]
 fn references_and_boxes_pass_nth_on(rt: HostRuntime) -> Result<(), Fail> {
     let log = Log::new();
-    let it = listed::<u32, u32, 3>(rt.alloc(), [Ok(5), Ok(6), Ok(7)])?;
+    let it = listed::<u32, u32, 2>(rt.alloc(), [Ok(5), Ok(6)])?;
     let mut it = Counted::new(it, &log);
     let mut borrowed = &mut it;
-    assert_eq!(rt; borrowed.nth(1), Ok(Some(6)));
-    let mut boxed = Box::new(rt.alloc(), it)?;
-    assert_eq!(rt; boxed.nth(0), Ok(Some(7)));
+    assert_eq!(rt; reached(&mut borrowed, 1), Ok(Some(6)));
+    assert_eq!(rt; log.read(), [0, 0, 0, 0, 0, 0, 1, 0]);
+    let it = listed::<u32, u32, 2>(rt.alloc(), [Ok(5), Ok(6)])?;
+    let mut boxed = Box::new(rt.alloc(), Counted::new(it, &log))?;
+    assert_eq!(rt; reached(&mut boxed, 1), Ok(Some(6)));
     assert_eq!(rt; log.read(), [0, 0, 0, 0, 0, 0, 2, 0]);
+    Ok(())
+}
+
+#[test]
+fn references_and_boxes_pass_folds_on(rt: HostRuntime) -> Result<(), Fail> {
+    let log = Log::new();
+    let it = listed::<u32, u32, 2>(rt.alloc(), [Ok(5), Ok(6)])?;
+    let mut it = Counted::new(it, &log);
+    let mut borrowed = &mut it;
+    assert_eq!(rt; summed(&mut borrowed), Ok(11));
+    assert_eq!(rt; log.read(), [0, 0, 1, 0, 0, 0, 0, 0]);
+    let it = listed::<u32, u32, 2>(rt.alloc(), [Ok(5), Err(6)])?;
+    let mut boxed = Box::new(rt.alloc(), Counted::new(it, &log))?;
+    assert_eq!(rt; summed(&mut boxed), Err(6));
+    assert_eq!(rt; log.read(), [0, 0, 2, 0, 0, 0, 0, 0]);
+    Ok(())
+}
+
+#[test]
+fn skip_folds_up_to_the_first_item_that_stays_and_then_the_rest(
+    rt: HostRuntime,
+) -> Result<(), Fail> {
+    let log = Log::new();
+    let answers = [Ok(1), Ok(2), Err(9), Ok(3), Ok(4), Ok(5)];
+    let it = listed::<u32, u32, 6>(rt.alloc(), answers)?;
+    let mut it = Counted::new(it, &log).skip(3);
+    let sum: Result<u32, u32> = it.try_fold(0, |sum: u32, x: u32| Ok(sum.wrapping_add(x)));
+    assert_eq!(rt; sum, Err(9));
+    assert_eq!(rt; log.read(), [0, 0, 1, 0, 0, 0, 0, 0]);
+    let sum: Result<u32, u32> = it.try_fold(0, |sum: u32, x: u32| Ok(sum.wrapping_add(x)));
+    assert_eq!(rt; sum, Ok(9));
+    assert_eq!(rt; log.read(), [0, 0, 3, 0, 0, 0, 0, 0]);
+    Ok(())
+}
+
+#[test]
+fn skip_while_folds_the_rest_by_one_fold(rt: HostRuntime) -> Result<(), Fail> {
+    let log = Log::new();
+    let it = listed::<u32, u32, 4>(rt.alloc(), [Ok(1), Ok(2), Ok(3), Ok(1)])?;
+    let mut it = Counted::new(it, &log).skip_while(|x: &u32| Ok(*x < 3));
+    let sum: Result<u32, u32> = it.try_fold(0, |sum: u32, x: u32| Ok(sum.wrapping_add(x)));
+    assert_eq!(rt; sum, Ok(4));
+    assert_eq!(rt; log.read(), [0, 0, 1, 0, 0, 0, 0, 1]);
+    Ok(())
+}
+
+#[test]
+fn take_while_folds_by_one_fold_and_keeps_its_end(rt: HostRuntime) -> Result<(), Fail> {
+    let log = Log::new();
+    let it = listed::<u32, u32, 4>(rt.alloc(), [Ok(1), Ok(2), Ok(3), Ok(1)])?;
+    let mut it = Counted::new(it, &log).take_while(|x: &u32| Ok(*x < 3));
+    let sum: Result<u32, u32> = it.try_fold(0, |sum: u32, x: u32| Ok(sum.wrapping_add(x)));
+    assert_eq!(rt; sum, Ok(3));
+    assert_eq!(rt; it.next(), Ok(None));
+    assert_eq!(rt; log.read(), [0, 0, 1, 0, 0, 0, 0, 0]);
     Ok(())
 }
 
 #[test]
 fn enumerate_reaches_by_one_fold(rt: HostRuntime) -> Result<(), Fail> {
     let log = Log::new();
-    let it = listed::<u32, u32, 4>(rt.alloc(), [Ok(5), Ok(6), Ok(7), Ok(8)])?;
+    let it = listed::<u32, u32, 2>(rt.alloc(), [Ok(5), Ok(6)])?;
     let mut it = Counted::new(it, &log).enumerate();
-    assert_eq!(rt; it.nth(2), Ok(Some((2, 7))));
+    assert_eq!(rt; it.nth(1), Ok(Some((1, 6))));
     assert_eq!(rt; log.read(), [0, 0, 1, 0, 0, 0, 0, 0]);
-    assert_eq!(rt; it.nth(0), Ok(Some((3, 8))));
     assert_eq!(rt; it.nth(0), Ok(None));
-    assert_eq!(rt; log.read(), [0, 0, 3, 0, 0, 0, 0, 0]);
+    assert_eq!(rt; log.read(), [0, 0, 2, 0, 0, 0, 0, 0]);
     Ok(())
 }
 

@@ -4,6 +4,7 @@ ghost use Rattle.std.specs.Prelude.{◌-◌, ◌^◌};
 use crate::counted::{Counted, Log};
 use fallible_iterator::{FallibleIterator, IteratorExt, once};
 use fallible_testing::listed::listed;
+use std::convert::Infallible;
 use std::test::Fail;
 
 #[test]
@@ -23,6 +24,23 @@ fn chain_folds_each_side_once(rt: HostRuntime) -> Result<(), Fail> {
     assert_eq!(rt; it.next(), Ok(Some(4)));
     assert_eq!(rt; fronts.read(), [0, 0, 1, 0, 0, 0, 0, 0]);
     assert_eq!(rt; backs.read(), [1, 0, 1, 0, 0, 0, 0, 0]);
+    Ok(())
+}
+
+#[test]
+fn chain_folds_its_front_on_after_a_failure(rt: HostRuntime) -> Result<(), Fail> {
+    let (fronts, backs) = (Log::new(), Log::new());
+    let front = listed::<u32, u32, 3>(rt.alloc(), [Ok(1), Err(9), Ok(2)])?;
+    let back = listed::<u32, u32, 1>(rt.alloc(), [Ok(4)])?;
+    let mut it = Counted::new(front, &fronts).chain(Counted::new(back, &backs));
+    let failed: Result<u32, u32> = it.try_fold(0, |sum: u32, x: u32| Ok(sum.wrapping_add(x)));
+    assert_eq!(rt; failed, Err(9));
+    assert_eq!(rt; fronts.read(), [0, 0, 1, 0, 0, 0, 0, 0]);
+    assert_eq!(rt; backs.read(), [0, 0, 0, 0, 0, 0, 0, 0]);
+    let sum: Result<u32, u32> = it.try_fold(0, |sum: u32, x: u32| Ok(sum.wrapping_add(x)));
+    assert_eq!(rt; sum, Ok(6));
+    assert_eq!(rt; fronts.read(), [0, 0, 2, 0, 0, 0, 0, 0]);
+    assert_eq!(rt; backs.read(), [0, 0, 1, 0, 0, 0, 0, 0]);
     Ok(())
 }
 
@@ -78,6 +96,58 @@ where
     Counted::new(outer, log)
         .flatten()
         .try_fold(0, |sum: u32, x: u32| Ok(sum.wrapping_add(x)))
+}
+
+// The first item, and the sum of the others, of which the inner iterator in hand has some.
+fn first_and_sum_of_others<U: FallibleIterator<Item = u32, Error = u32>>(
+    first: U,
+    second: U,
+    log: &Log,
+) -> (Result<Option<u32>, u32>, Result<u32, u32>)
+where
+    requires first { U.contract.can first }
+    requires second { U.contract.can second }
+    requires first_ends { U.contract.to_come first (2 ^ 64 - 1) }
+    requires second_ends { U.contract.to_come second (2 ^ 64 - 1) }
+{
+    let outer = once::<U, u32>(first).chain(once::<U, u32>(second));
+    let mut it = Counted::new(outer, log).flatten();
+    let head = it.draw();
+    let others = it.try_fold(0, |sum: u32, x: u32| Ok(sum.wrapping_add(x)));
+    (head, others)
+}
+
+// The items as digits of a `flat_map` whose closure makes two inner iterators.
+fn digits_mapped_flat(outer: &Log, inners: &Log) -> Result<u32, Infallible> {
+    Counted::new((1u32..3).into_fallible(), outer)
+        .flat_map(|_: u32| Ok(Counted::new((3u32..5).into_fallible(), inners)))
+        .try_fold(
+            0,
+            |digits: u32, x: u32| Ok(digits.wrapping_mul(10).wrapping_add(x)),
+        )
+}
+
+#[test]
+fn flat_map_folds_each_source_once(rt: HostRuntime) {
+    let (outer, inners) = (Log::new(), Log::new());
+    assert_eq!(rt; digits_mapped_flat(&outer, &inners).ok(), Some(3434));
+    assert_eq!(rt; outer.read(), [0, 0, 1, 0, 0, 0, 0, 0]);
+    assert_eq!(rt; inners.read(), [0, 0, 2, 0, 0, 0, 0, 0]);
+}
+
+#[test]
+fn flatten_folds_the_inner_iterator_in_hand_first(rt: HostRuntime) -> Result<(), Fail> {
+    let (outer, firsts, seconds) = (Log::new(), Log::new(), Log::new());
+    let first = listed::<u32, u32, 2>(rt.alloc(), [Ok(1), Ok(2)])?;
+    let second = listed::<u32, u32, 1>(rt.alloc(), [Ok(3)])?;
+    let first = Counted::new(first, &firsts);
+    let second = Counted::new(second, &seconds);
+    let both = first_and_sum_of_others(first, second, &outer);
+    assert_eq!(rt; both, (Ok(Some(1)), Ok(5)));
+    assert_eq!(rt; outer.read(), [0, 0, 2, 0, 0, 0, 0, 0]);
+    assert_eq!(rt; firsts.read(), [1, 0, 1, 0, 0, 0, 0, 0]);
+    assert_eq!(rt; seconds.read(), [0, 0, 1, 0, 0, 0, 0, 0]);
+    Ok(())
 }
 
 #[test]

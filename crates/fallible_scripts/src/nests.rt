@@ -1,6 +1,8 @@
 // Nests in which one adapter works through another's fold, each beside the same nest drawn by `next` alone.
+ghost use Rattle.fallible_contract.specs.Contract.{Stays};
+
 use fallible_iterator::laws::Answer::{End, Failure, Item};
-use fallible_iterator::{FallibleIterator, IteratorExt};
+use fallible_iterator::{FallibleIterator, IteratorExt, Once, once};
 use fallible_testing::answered::expect_answers;
 use fallible_testing::listed::listed;
 use fallible_testing::scripted::{Script, scripted};
@@ -12,15 +14,19 @@ fn over_an_end(alloc: Global) -> Result<Script<u32, u32>, AllocError> {
     scripted(alloc, [Ok(Some(1)), Ok(None), Ok(Some(2))])
 }
 
-// The sum of the items, or the failure.
-fn summed<I: FallibleIterator<Item = u32, Error = u32>>(it: &mut I) -> Result<u32, u32>
+// The items as digits, in the order in which a fold gives them, and how the fold ends.
+fn digits<I: FallibleIterator<Item = u32, Error = u32>>(it: &mut I) -> (u32, Result<(), u32>)
 where
     requires can { I.contract.can it.old }
     requires finite { I.contract.has_end it.old }
-    ensures can { I.contract.can it.new }
-    ensures finite { I.contract.has_end it.old → I.contract.has_end it.new }
+    ensures { Stays I.contract it.old it.new }
 {
-    it.try_fold(0, |sum: u32, x: u32| Ok(sum.wrapping_add(x)))
+    let mut digits: u32 = 0;
+    let ended = it.try_fold((), |_: (), x: u32| {
+        digits = digits.wrapping_mul(10).wrapping_add(x);
+        Ok(())
+    });
+    (digits, ended)
 }
 
 #[test]
@@ -28,7 +34,7 @@ fn chain_under_peekable_gives_a_held_item_first(rt: HostRuntime) -> Result<(), F
     let back = listed::<u32, u32, 2>(rt.alloc(), [Ok(3), Err(9)])?;
     let mut it = over_an_end(rt.alloc())?.chain(back).peekable();
     assert_eq!(rt; it.peek_copied(), Ok(Some(1)));
-    assert_eq!(rt; summed(&mut it), Err(9));
+    assert_eq!(rt; digits(&mut it), (13, Err(9)));
     expect_answers(&rt, &mut it, &[End])?;
     let back = listed::<u32, u32, 2>(rt.alloc(), [Ok(3), Err(9)])?;
     let mut drawn = over_an_end(rt.alloc())?.chain(back).peekable();
@@ -42,8 +48,8 @@ fn chain_under_peekable_ends_at_a_held_end(rt: HostRuntime) -> Result<(), Fail> 
     let mut it = front.chain(back).peekable();
     assert_eq!(rt; it.draw(), Ok(Some(1)));
     assert_eq!(rt; it.peek_copied(), Ok(None));
-    assert_eq!(rt; summed(&mut it), Ok(0));
-    assert_eq!(rt; summed(&mut it), Ok(3));
+    assert_eq!(rt; digits(&mut it), (0, Ok(())));
+    assert_eq!(rt; digits(&mut it), (3, Ok(())));
     let front = listed::<u32, u32, 1>(rt.alloc(), [Ok(1)])?;
     let back = scripted::<u32, u32, 2>(rt.alloc(), [Ok(None), Ok(Some(3))])?;
     let mut drawn = front.chain(back).peekable();
@@ -68,21 +74,63 @@ fn enumerate_over_chain_numbers_both_sides(rt: HostRuntime) -> Result<(), Fail> 
 }
 
 #[test]
-fn adapters_over_fuse_fold_up_to_its_end(rt: HostRuntime) -> Result<(), Fail> {
-    let mut filtered = over_an_end(rt.alloc())?
+fn filter_over_fuse_folds_up_to_its_end(rt: HostRuntime) -> Result<(), Fail> {
+    let mut it = over_an_end(rt.alloc())?
         .fuse()
         .filter(|_: &u32| -> Result<bool, u32> { Ok(true) });
-    assert_eq!(rt; summed(&mut filtered), Ok(1));
-    assert_eq!(rt; summed(&mut filtered), Ok(0));
-    let mut mapped = over_an_end(rt.alloc())?
+    assert_eq!(rt; digits(&mut it), (1, Ok(())));
+    assert_eq!(rt; digits(&mut it), (0, Ok(())));
+    let mut drawn = over_an_end(rt.alloc())?
+        .fuse()
+        .filter(|_: &u32| -> Result<bool, u32> { Ok(true) });
+    expect_answers(&rt, &mut drawn, &[Item(1), End, End])
+}
+
+#[test]
+fn filter_map_over_fuse_folds_up_to_its_end(rt: HostRuntime) -> Result<(), Fail> {
+    let mut it = over_an_end(rt.alloc())?
         .fuse()
         .filter_map(|x: u32| -> Result<Option<u32>, u32> { Ok(Some(x)) });
-    assert_eq!(rt; summed(&mut mapped), Ok(1));
-    assert_eq!(rt; summed(&mut mapped), Ok(0));
-    let mut skipped = over_an_end(rt.alloc())?
+    assert_eq!(rt; digits(&mut it), (1, Ok(())));
+    assert_eq!(rt; digits(&mut it), (0, Ok(())));
+    let mut drawn = over_an_end(rt.alloc())?
+        .fuse()
+        .filter_map(|x: u32| -> Result<Option<u32>, u32> { Ok(Some(x)) });
+    expect_answers(&rt, &mut drawn, &[Item(1), End, End])
+}
+
+#[test]
+fn skip_while_over_fuse_folds_up_to_its_end(rt: HostRuntime) -> Result<(), Fail> {
+    let mut it = over_an_end(rt.alloc())?
         .fuse()
         .skip_while(|_: &u32| -> Result<bool, u32> { Ok(false) });
-    assert_eq!(rt; summed(&mut skipped), Ok(1));
-    assert_eq!(rt; summed(&mut skipped), Ok(0));
-    Ok(())
+    assert_eq!(rt; digits(&mut it), (1, Ok(())));
+    assert_eq!(rt; digits(&mut it), (0, Ok(())));
+    let mut drawn = over_an_end(rt.alloc())?
+        .fuse()
+        .skip_while(|_: &u32| -> Result<bool, u32> { Ok(false) });
+    expect_answers(&rt, &mut drawn, &[Item(1), End, End])
+}
+
+// An iterator of 1, an end, and an iterator of 2.
+fn inners_over_an_end(alloc: Global) -> Result<Script<Once<u32, u32>, u32>, AllocError> {
+    scripted(alloc, [Ok(Some(once(1))), Ok(None), Ok(Some(once(2)))])
+}
+
+// What two folds of it give, one after another, where each inner iterator has one item.
+fn flat_digits_twice(
+    it: Script<Once<u32, u32>, u32>,
+) -> ((u32, Result<(), u32>), (u32, Result<(), u32>)) {
+    let mut it = it.fuse().flatten();
+    let before = digits(&mut it);
+    let after = digits(&mut it);
+    (before, after)
+}
+
+#[test]
+fn flatten_over_fuse_folds_up_to_its_end(rt: HostRuntime) -> Result<(), Fail> {
+    let it = inners_over_an_end(rt.alloc())?;
+    assert_eq!(rt; flat_digits_twice(it), ((1, Ok(())), (0, Ok(()))));
+    let mut drawn = inners_over_an_end(rt.alloc())?.fuse().flatten();
+    expect_answers(&rt, &mut drawn, &[Item(1), End, End])
 }
