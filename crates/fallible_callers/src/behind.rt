@@ -71,3 +71,23 @@ pub fn last_but_one(readings: Vec<Result<u32, u8>>) -> Result<Option<u64>, u8> {
     it.draw_front()?;
     it.draw_back()
 }
+
+/// The second item, once the first and the last were drawn, of any fallible iterator with two ends.
+pub fn second_between<I: DoubleEndedFallibleIterator>(
+    it: &mut I,
+) -> Result<Option<I::Item>, I::Error>
+where
+    I::Item: Drop,
+    requires { I.ends.can it.old }
+{
+    it.next()?;
+    it.next_back()?;
+    it.next()
+}
+
+/// The last of the doubled readings, once the first three were passed over.
+pub fn last_after_three(readings: Vec<Result<u32, u8>>) -> Result<Option<u64>, u8> {
+    let mut it = convert(readings.into_iter()).map(|reading| Ok(u64::from(reading) * 2));
+    it.nth(2)?;
+    it.next_back()
+}

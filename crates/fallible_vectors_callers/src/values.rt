@@ -1,4 +1,8 @@
 // The values of the callers on small inputs.
+use fallible_callers::behind::{
+    count_between, first_and_last, last_after_three, last_but_one, last_drawn, last_first,
+    second_between, sum_from_behind, three_answers,
+};
 use fallible_callers::computing::{
     above_100, above_100_of_ten, all_up_to_100, both_columns, collected_above_100,
     doubled_above_1000, fold_of_one, fourth_above_100, places, products, running_sums, sum,
@@ -11,6 +15,7 @@ use fallible_callers::drawing::{draw_all, second_if_above, third_draw, third_of}
 use fallible_callers::generic::{mean, mean_of_nest, sum_of_nest};
 use fallible_callers::ranges::{runs, sum_below};
 use fallible_callers::reading::{Bytes, ReadFailed, newlines_of_three};
+use fallible_iterator::laws::Answer::Item;
 use fallible_iterator::{FallibleIterator, Fault, convert, empty};
 use std::alloc::{AllocError, Global};
 use std::convert::Infallible;
@@ -187,5 +192,36 @@ fn two_collections(rt: HostRuntime) -> Result<(), Fail> {
     assert_eq!(rt; column.as_slice(), [5, 600, 100, 501].as_slice());
     let refused = two_columns(rt.alloc(), readings(rt.alloc())?);
     assert!(rt; matches!(refused, Err(Fault::Source(9))));
+    Ok(())
+}
+
+// What draws from both ends give.
+#[test]
+fn ends(rt: HostRuntime) -> Result<(), Fail> {
+    assert_eq!(rt; last_drawn(good_readings(rt.alloc())?), Ok(Some(501)));
+    assert_eq!(rt;
+        first_and_last(good_readings(rt.alloc())?),
+        Ok(Some((5, 501)))
+    );
+    assert_eq!(rt; count_between(good_readings(rt.alloc())?), Ok(2));
+    assert_eq!(rt; count_between(readings(rt.alloc())?), Err(9));
+    let backwards = last_first(rt.alloc(), good_readings(rt.alloc())?);
+    expect_made(&rt, backwards, &[501, 100, 600, 5]);
+    let failed = last_first(rt.alloc(), readings(rt.alloc())?);
+    assert!(rt; matches!(failed, Err(Fault::Source(9))));
+    assert_eq!(rt; sum_from_behind(good_readings(rt.alloc())?), Ok(1206));
+    let three = three_answers(rt.alloc(), good_readings(rt.alloc())?)?;
+    assert_eq!(rt;
+        three.as_slice(),
+        [Item(5), Item(501), Item(100)].as_slice()
+    );
+    let above = Vec::from_array(rt.alloc(), [Ok(600), Ok(700), Ok(1), Ok(800)])?;
+    assert_eq!(rt; last_but_one(above), Ok(Some(1400)));
+    assert_eq!(rt;
+        last_after_three(good_readings(rt.alloc())?),
+        Ok(Some(1002))
+    );
+    let mut it = convert(good_readings(rt.alloc())?.into_iter());
+    assert_eq!(rt; second_between(&mut it), Ok(Some(600)));
     Ok(())
 }
