@@ -41,15 +41,18 @@ call_in call p x r q = IsSomeAnd p (λ f. IsSomeAnd q (λ g. call f x r g))
 abbrev pub IsCallableIn : {F X R : Type 0} → (F → X → R → F → Type 0) → (F → X → Type 0) → (X → Type 0) → Option F → Type 0
 IsCallableIn call pre P slot = IsSomeAnd slot (λ f. IsCallable call pre P f)
 
--- a call on an item itself, and one on a reference to it
+-- one call on an item itself, which may answer so and leave the closure so
 abbrev pub call_on : {F A R : Type 0} → Mut F (A × Unit {0}) R → F → A → R → F → Type 0
 call_on g f x r f' = Called g f (x, tt) r f'
 
+-- it may be called on the item
 abbrev pub takes_on : {F A R : Type 0} → Mut F (A × Unit {0}) R → F → A → Type 0
 takes_on g f x = Takes g f (x, tt)
 
+-- one call on a reference to an item
 abbrev pub call_at : {F A R : Type 0} → Mut F (Bor A × Unit {0}) R → F → A → R → F → Type 0
 call_at g f x r f' = CalledAt g f x r f'
 
+-- it may be called on a reference to the item
 abbrev pub takes_at : {F A R : Type 0} → Mut F (Bor A × Unit {0}) R → F → A → Type 0
 takes_at g f x = TakesAt g f x

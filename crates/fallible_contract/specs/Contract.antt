@@ -32,7 +32,7 @@ pub record Contract (S A E : Type 0) : Type 1 where
   pub fails : S → E → Type 0
   -- `size_hint` may answer this
   pub hints : S → ℕ × Option ℕ → Type 0
-  -- the names of the references that it draws through, which every draw keeps
+  -- the names of the references that it draws through, which every draw keeps; those of inner iterators, which come and go, are not among them
   pub names : S → Names
 
 module _ {S A E : Type 0} (m : Contract S A E) where

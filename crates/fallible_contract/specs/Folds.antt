@@ -61,7 +61,7 @@ module _ {A C R : Type 0} (turns : C → A → Result C R → Type 0) where
   carrying_turn c x d = turns c x (Ok d)
 
 module _ {A E C R : Type 0} (turns : C → A → Result C R → Type 0) where
-  -- every exit hands the carried value back
+  -- an end and a failure hand the carried value back; where a turn stops, what it stopped with
   abbrev pub CarryingExit : C → Answered A E → Exit C E R → Type 0
   CarryingExit c (Ok None) r = r ≡ Ended c
   CarryingExit c (Err e) r = r ≡ Failed c e

@@ -33,7 +33,7 @@ hint_less n h = (h.0 - n, option_map (λ u. u - n) h.1)
 abbrev pub kept_of : ℕ → ℕ → ℕ → ℕ
 kept_of between r b = cond (leb b r) 0 (1 + (b - 1 - r) / (between + 1))
 
--- each bound, of which so many are kept
+-- of each bound b, how many of b items are kept
 abbrev pub hint_kept : ℕ → ℕ → ℕ × Option ℕ → ℕ × Option ℕ
 hint_kept between r h = (kept_of between r h.0, option_map (kept_of between r) h.1)
 

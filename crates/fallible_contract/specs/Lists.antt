@@ -107,7 +107,7 @@ abbrev pub once_seen : {X E : Type 0} → X → Result (Unit {0}) E → Result X
 once_seen x (Ok u) = Ok x
 once_seen x (Err e) = Err e
 
--- the same, but where h x is a failure, that failure in the place of x
+-- the list itself, but where h x is a failure, that failure in the place of the item x
 unfoldable pub inspected : {X E : Type 0} → (X → Result (Unit {0}) E) → List (Result X E) → List (Result X E)
 inspected h [] = []
 inspected h (Ok x ∷ l) = once_seen x (h x) ∷ inspected h l
@@ -207,7 +207,7 @@ abbrev pub decided : {V E R : Type 0} → (V → Option R) → Result V E → Re
 decided pick (Ok v) rest = picked_or (pick v) rest
 decided pick (Err e) rest = Err e
 
--- what the first item x decides of whose h x something is picked, the item with n items before it on; `none` where there is no such item, and the failure of the list or of h that comes first
+-- What a search answers that asks h of the items in order, the first of which has n items before it: what `pick` makes of the first answer of which it makes something, or a failure of the list or of h that comes before; `none` where there is neither.
 unfoldable pub searched : {A E V R : Type 0} → (ℕ → A → V → Option R) → R → (A → Result V E) → ℕ → List (Result A E) → Result R E
 searched pick none h n [] = Ok none
 searched pick none h n (Ok x ∷ l) = decided (pick n x) (h x) (searched pick none h (n + 1) l)
@@ -233,7 +233,7 @@ found h l = searched find_pick None h 0 l
 unfoldable pub position_in : {A E : Type 0} → (A → Result Bool E) → List (Result A E) → Result (Option ℕ) E
 position_in h l = searched position_pick None h 0 l
 
--- nothing, where h fails on no item
+-- nothing, where no item is a failure and h fails on none; else the failure that comes first
 unfoldable pub each_done : {A E : Type 0} → (A → Result (Unit {0}) E) → List (Result A E) → Result (Unit {0}) E
 each_done h l = searched each_pick tt h 0 l
 

@@ -26,9 +26,11 @@ better keeps o best x = cond (same_order keeps o) best x
 
 -- ---- by a closure that compares two
 
+-- one call on references to two items, which may answer so and leave the closure so
 abbrev pub call_at_two : {F A R : Type 0} → Mut F (Bor A × (Bor A × Unit {0})) R → F → A → A → R → F → Type 0
 call_at_two g f x y r f' = CalledAtTwo g f x y r f'
 
+-- it may be called on references to these two
 abbrev pub takes_at_two : {F A R : Type 0} → Mut F (Bor A × (Bor A × Unit {0})) R → F → A → A → Type 0
 takes_at_two g f x y = TakesAtTwo g f x y
 

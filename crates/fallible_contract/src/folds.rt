@@ -7,7 +7,7 @@ ghost use Rattle.fallible_contract.specs.Folds.{unpacked, ValueAt, FoldedAt, Fol
 use std::convert::Infallible;
 use std::marker::PhantomData;
 
-/// How a fold ended that hands the value which it carried back at every exit: at the source's end, at a failure of the source, or where the closure stopped it.
+/// How a fold ended that carries a value: at the source's end or at a failure of the source, with the value carried, or where a turn stopped it, with what that turn handed back.
 #[derive(Drop)]
 pub enum Exit<C, E, R> {
     /// the source's end

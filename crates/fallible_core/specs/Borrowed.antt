@@ -1,4 +1,4 @@
--- A fallible iterator behind a `&mut`, and one in a `Box`.
+-- A fallible iterator behind a `&mut`. (One in a `Box` is seen as the value in it.)
 use Rattle.std.specs.Prelude.{◌≡◌}
 use Rattle.std.specs.Borrow.{MutBor}
 use Rattle.fallible_contract.specs.Contract.{Contract, name_and, seen_as}

@@ -78,7 +78,9 @@ pub trait FallibleIterator: Drop + Sized {
     // All that the contract says of the values of this type.
     ghost contract: { Contract Self Self.Item Self.Error };
 
-    /// One answer: an item, a failure or an end. The step of the type says which, and what is left.
+    /// One answer: an item, a failure or an end. The step of the type says which, and what is left, which may be drawn from again.
+    ///
+    /// It asks the type's own condition, `can`, which the making of each source and adapter gives and each draw keeps.
     fn next(&mut self) -> Result<Option<Self::Item>, Self::Error>
         requires { contract.can self.old }
         ensures { contract.steps self.old result self.new };
@@ -153,7 +155,7 @@ pub trait FallibleIterator: Drop + Sized {
         value_at(self.try_fold_carrying(None, &KeepingLast))
     }
 
-    /// The item with n items before it. It draws at most n + 1 answers; a failure or an end that comes first is the answer, and nothing is drawn after it.
+    /// The item with n items before it. It draws at most n + 1 answers; a failure or an end that comes first is the answer, and nothing is drawn after it. What is left may be drawn from again.
     fn nth(&mut self, n: usize) -> Result<Option<Self::Item>, Self::Error>
     where
         Self::Item: Drop,
@@ -196,7 +198,7 @@ pub trait FallibleIterator: Drop + Sized {
         folded_at(self.try_fold_carrying((init, f), &turn))
     }
 
-    /// `try_fold` on the iterator itself, where the closure fails with the iterator's own error. `T` is the type of the items, and `E` that of the failures.
+    /// `try_fold` on the iterator itself, where the closure fails with the iterator's own error. It asks what `try_fold` asks. `T` is the type of the items, and `E` that of the failures.
     fn fold<B, E, T, F>(mut self, init: B, f: F) -> Result<B, E>
     where
         B: Drop,
@@ -234,7 +236,9 @@ pub trait FallibleIterator: Drop + Sized {
     // What the other functions know of a draw: see `Goes`.
     ghost lawful: { Lawful contract };
 
-    /// Replaces each item by the closure's answer on it. Making the adapter draws nothing and calls nothing.
+    /// Replaces each item by the closure's answer on it; where the closure fails, its failure is the answer and the item is lost. Making the adapter draws nothing and calls nothing.
+    ///
+    /// It asks that the closure may be called on each item that may come, in each state that such calls bring it to.
     final fn map<F, B>(self, f: F) -> Map<Self, F>
     where
         F: FnMut(Self::Item) -> Result<B, Self::Error>,
@@ -248,7 +252,9 @@ pub trait FallibleIterator: Drop + Sized {
         }
     }
 
-    /// Keeps the items to which the predicate answers true. Making the adapter draws nothing and calls nothing.
+    /// Keeps the items to which the predicate answers true, and loses those to which it answers false; where it fails, its failure is the answer, the item is lost, and the next call goes on after it. One call draws until an item is kept, a failure comes or an end. Making the adapter draws nothing and calls nothing.
+    ///
+    /// It asks a number to come, and that the predicate may be called on each item that may come, in each state that such calls bring it to.
     final fn filter<F>(self, f: F) -> Filter<Self, F>
     where
         F: FnMut(&Self::Item) -> Result<bool, Self::Error>,
@@ -272,7 +278,9 @@ pub trait FallibleIterator: Drop + Sized {
         Take { it: self, left: n }
     }
 
-    /// Ends at the first item that the predicate refuses, which is lost, and then without a draw. A failure of the predicate is the answer, and ends nothing. Making the adapter draws nothing and calls nothing.
+    /// Ends at the first item that the predicate refuses, which is lost, and then without a draw. A failure of the predicate is the answer, loses the item, and ends nothing. Making the adapter draws nothing and calls nothing.
+    ///
+    /// It asks that the predicate may be called on each item that may come, in each state that such calls bring it to.
     final fn take_while<P>(self, predicate: P) -> TakeWhile<Self, P>
     where
         P: FnMut(&Self::Item) -> Result<bool, Self::Error>,
@@ -506,6 +514,8 @@ pub trait FallibleIterator: Drop + Sized {
     /// Makes a collection of the items up to the end. The collection is made first, and then each item is pushed as it is drawn; no room is taken ahead.
     ///
     /// `Fault::Source` of the first failure, after which nothing is drawn. `Fault::Memory` where the collection refused: nothing was drawn where it could not be made, and else the item that it refused was the last one drawn. Of a collection that never refuses it is never answered.
+    ///
+    /// It asks a number to come.
     final fn collect<C: Collect<Self::Item>>(
         mut self,
         alloc: Global,

@@ -28,6 +28,7 @@ IsPlaced (r, None) = ⊤
 abbrev pub told_place : ℕ → ℕ
 told_place place = min place 4294967295
 
+-- the number as an item, or where there is none the failure that tells the place
 abbrev pub answer_of_number : ℕ → Option ℕ → Answered ℕ RowFault
 answer_of_number place (Some number) = item number
 answer_of_number place None = failure (Row (told_place place))

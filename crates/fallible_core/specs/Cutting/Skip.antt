@@ -7,6 +7,7 @@ use Rattle.fallible_contract.specs.Counting.{KeptByNumber}
 use Rattle.fallible_contract.specs.WithSteps.{with_steps}
 use Rattle.fallible_contract.specs.Hints.{hint_less}
 
+-- the source, and how many items are still to be left out
 abbrev pub skip_parts : {I : Type 0} → Skip I → I × ℕ
 skip_parts s = (s.it, s.to_skip)
 

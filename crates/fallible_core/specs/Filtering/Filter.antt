@@ -23,5 +23,6 @@ FilterTrace steps g p trace q = PassTrace steps (call_in (call_at g)) filter_out
 abbrev pub filter_contract : {S F X E : Type 0} → Contract S X E → Mut F (Bor X × Unit {0}) (Result Bool E) → Contract (S × Option F) X E
 filter_contract m g = leaving_out m (call_in (call_at g)) (IsCallableIn (call_at g) (takes_at g)) filter_outcome (λ p h. upper_alone m p.0 h)
 
+-- the source, and the slot of the closure
 abbrev pub filter_parts : {I F : Type 0} → Filter I F → I × Option F
 filter_parts s = (s.it, s.f)

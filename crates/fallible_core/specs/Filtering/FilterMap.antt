@@ -22,5 +22,6 @@ FilterMapTrace steps g p trace q = PassTrace steps (call_in (call_on g)) filter_
 abbrev pub filter_map_contract : {S F X B E : Type 0} → Contract S X E → Mut F (X × Unit {0}) (Result (Option B) E) → Contract (S × Option F) B E
 filter_map_contract m g = leaving_out m (call_in (call_on g)) (IsCallableIn (call_on g) (takes_on g)) filter_map_outcome (λ p h. upper_alone m p.0 h)
 
+-- the source, and the slot of the closure
 abbrev pub filter_map_parts : {I F : Type 0} → FilterMap I F → I × Option F
 filter_map_parts s = (s.it, s.f)

@@ -21,5 +21,6 @@ InspectTrace steps g p trace q = PassTrace steps (call_in (call_at g)) inspect_o
 abbrev pub inspect_contract : {S F X E : Type 0} → Contract S X E → Mut F (Bor X × Unit {0}) (Result (Unit {0}) E) → Contract (S × Option F) X E
 inspect_contract m g = passing m (call_in (call_at g)) (IsCallableIn (call_at g) (takes_at g)) inspect_outcome (λ p h. m.hints p.0 h)
 
+-- the source, and the slot of the closure
 abbrev pub inspect_parts : {I F : Type 0} → Inspect I F → I × Option F
 inspect_parts s = (s.it, s.f)

@@ -44,7 +44,7 @@ where
         }
     }
 
-    /// A copy of the next item, or none at an end. It looks as `peek` does, and a caller's proof knows what is held.
+    /// A copy of the next item, or none at an end. It looks as `peek` does: a failure is answered, and is not held. A caller's proof knows what is held.
     pub fn peek_copied(&mut self) -> Result<Option<I::Item>, I::Error>
     where
         I::Item: Copy,

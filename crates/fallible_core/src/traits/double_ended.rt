@@ -9,7 +9,7 @@ use crate::traits::FallibleIterator;
 use fallible_contract::folds::{Exit, Folding, Is, Turn, folded_at};
 use std::marker::PhantomData;
 
-/// A fallible iterator that may be drawn from behind as well. Draws from both ends may be made one after another, in any order; number to come, hint and names hold after them all.
+/// A fallible iterator that may be drawn from behind as well. Draws from both ends may be made one after another, in any order; a number to come stays one after them all, and the hint is what the type's rule says of what is left.
 ///
 /// A type of one's own writes `next_back` and `ends`: its step from behind, and what may come from either end. `counting_down_ends` of `specs/Ends` makes that of a step. A search then finds `lawful_ends`.
 pub trait DoubleEndedFallibleIterator: FallibleIterator {
@@ -71,7 +71,7 @@ pub trait DoubleEndedFallibleIterator: FallibleIterator {
         folded_at(self.try_rfold_carrying((init, f), &turn))
     }
 
-    /// `try_rfold` on the iterator itself, where the closure fails with the iterator's own error. `T` is the type of the items, and `E` that of the failures.
+    /// `try_rfold` on the iterator itself, where the closure fails with the iterator's own error. It asks what `try_rfold` asks. `T` is the type of the items, and `E` that of the failures.
     fn rfold<B, E, T, F>(mut self, init: B, f: F) -> Result<B, E>
     where
         B: Drop,

@@ -8,6 +8,7 @@ use Rattle.fallible_contract.specs.Contract.{Contract}
 use Rattle.fallible_contract.specs.Ends.{Ends}
 use Rattle.fallible_iterator.specs.Sources.Std.{StdTrace, std_contract, std_ends}
 
+-- the std iterator
 abbrev pub into_fallible_parts : {I : Type 0} → IntoFallible I → I
 into_fallible_parts s = s.it
 

@@ -6,7 +6,7 @@ use Rattle.fallible_contract.specs.Traces.{item}
 use Rattle.fallible_contract.specs.Contract.{Contract, no_names}
 use Rattle.fallible_contract.specs.Held.{once_step, held_count}
 
--- the item, or the failure, that is still to come
+-- the item that is still to come
 abbrev pub once_parts : {T E : Type 0} → Once T E → Option T
 once_parts s = s.value
 

@@ -6,6 +6,7 @@ use Rattle.fallible_contract.specs.Traces.{failure}
 use Rattle.fallible_contract.specs.Contract.{Contract, no_names}
 use Rattle.fallible_contract.specs.Held.{once_step, held_count}
 
+-- the failure that is still to come
 abbrev pub once_err_parts : {T E : Type 0} → OnceErr T E → Option E
 once_err_parts s = s.error
 

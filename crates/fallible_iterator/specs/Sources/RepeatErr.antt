@@ -7,6 +7,7 @@ use Rattle.fallible_contract.specs.Traces.{Answered, failure}
 use Rattle.fallible_contract.specs.Contract.{Contract, no_names}
 use Rattle.fallible_contract.specs.Refusals.{RefusedAs}
 
+-- the failure that is cloned
 abbrev pub repeat_err_parts : {T E : Type 0} → RepeatErr T E → E
 repeat_err_parts s = s.error
 

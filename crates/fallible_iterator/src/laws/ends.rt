@@ -187,7 +187,7 @@ where
     ensures { MeetsHeld cloned_parts ⟦<Cloned<I> as DoubleEndedFallibleIterator>⟧.ends.steps (ClonedTrace T.is_clone T.is_infallible I.Error.from_gives I.ends.steps) }
 {}
 
-/// From behind the answers of `Filter` are the source's from behind without the items refused.
+/// From behind the answers of `Filter` are the source's from behind without the items refused, with the predicate's failure in the place of each item on which it failed.
 pub fn law_back_filter<
     I: DoubleEndedFallibleIterator,
     F: FnMut(&I::Item) -> Result<bool, I::Error>,

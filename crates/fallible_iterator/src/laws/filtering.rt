@@ -8,7 +8,7 @@ ghost use Rattle.fallible_core.specs.Filtering.SkipWhile.{SkipWhileTrace, skip_w
 use fallible_core::filtering::{Filter, FilterMap, SkipWhile};
 use fallible_core::traits::FallibleIterator;
 
-/// The answers of `Filter` are the source's without the items refused.
+/// The answers of `Filter` are the source's without the items refused, with the predicate's failure in the place of each item on which it failed.
 pub fn law_filter<I: FallibleIterator, F: FnMut(&I::Item) -> Result<bool, I::Error>>()
 where
     I::Item: Drop,
@@ -21,7 +21,7 @@ where
     ensures { MeetsHeld filter_map_parts ⟦<FilterMap<I, F> as FallibleIterator>⟧.contract.steps (FilterMapTrace I.contract.steps F.FnMut) }
 {}
 
-/// The answers of `SkipWhile` are the source's without the items that the predicate answers true on before its first false; from then on it isn't asked.
+/// The answers of `SkipWhile` are the source's without the items that the predicate answers true on before its first false, with the predicate's failure in the place of each item on which it failed; from its first false on it isn't asked.
 pub fn law_skip_while<I: FallibleIterator, P: FnMut(&I::Item) -> Result<bool, I::Error>>()
 where
     I::Item: Drop,

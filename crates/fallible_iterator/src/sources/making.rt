@@ -26,7 +26,7 @@ pub fn convert<T, E, I: Iterator<Item = Result<T, E>>>(it: I) -> Convert<I>
     Convert { it }
 }
 
-/// Makes a fallible iterator of one item.
+/// Makes a fallible iterator of one item, which then ends.
 pub fn once<T, E>(value: T) -> Once<T, E>
     ensures parts { once_parts result ≡ Some value }
     ensures lists { Lists (seen_as once_parts (once_contract {A = T} {E = E})).steps result (Ok value ∷ []) }
@@ -37,7 +37,7 @@ pub fn once<T, E>(value: T) -> Once<T, E>
     }
 }
 
-/// Makes a fallible iterator of one failure.
+/// Makes a fallible iterator of one failure, which then ends.
 pub fn once_err<T, E>(error: E) -> OnceErr<T, E>
     ensures parts { once_err_parts result ≡ Some error }
     ensures lists { Lists (seen_as once_err_parts (once_err_contract {A = T} {E = E})).steps result (Err error ∷ []) }
@@ -48,7 +48,9 @@ pub fn once_err<T, E>(error: E) -> OnceErr<T, E>
     }
 }
 
-/// Makes a fallible iterator of a closure, which is called once for each draw. It calls nothing now.
+/// Makes a fallible iterator of a closure, which is called once for each draw, also after an end or a failure, and whose answer is that of the draw. It calls nothing now.
+///
+/// It asks that the closure may be called in each state that such calls bring it to. It has no number to come, so it is drained through `take`.
 pub fn from_fn<I, E, F: FnMut() -> Result<Option<I>, E>>(fun: F) -> FromFn<F>
     requires { IsCallable (call_of_none F.FnMut) (λ f _. F.pre f) (λ _. ⊤) fun }
     ensures { from_fn_parts result ≡ fun }
@@ -66,7 +68,7 @@ pub fn empty<T, E>() -> Empty<T, E>
     }
 }
 
-/// Makes a fallible iterator that always gives a clone of `value`.
+/// Makes a fallible iterator that always gives a clone of `value`; where a clone is refused, the answer is the failure made of the refusal, and the value stays. It has no number to come, so it is drained through `take`.
 pub fn repeat<T: Clone, E: From<AllocError>>(value: T) -> Repeat<T, E>
     ensures parts { repeat_parts result ≡ value }
     ensures repeats { T.is_infallible value → ((x : T) → T.is_clone value x → x ≡ value) → Repeats (seen_as repeat_parts (repeat_contract T.is_clone T.is_infallible E.from_gives)).steps result (Ok value) }
@@ -77,7 +79,7 @@ pub fn repeat<T: Clone, E: From<AllocError>>(value: T) -> Repeat<T, E>
     }
 }
 
-/// Makes a fallible iterator that always fails with a clone of `error`.
+/// Makes a fallible iterator that always fails with a clone of `error`; where a clone is refused, with the failure made of the refusal, and the error stays.
 pub fn repeat_err<T, E: Clone + From<AllocError>>(error: E) -> RepeatErr<T, E>
     ensures parts { repeat_err_parts result ≡ error }
     ensures repeats { E.is_infallible error → ((e : E) → E.is_clone error e → e ≡ error) → Repeats (seen_as repeat_err_parts (repeat_err_contract {A = T} E.is_clone E.is_infallible E.from_gives)).steps result (Err error) }
