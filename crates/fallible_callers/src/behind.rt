@@ -1,9 +1,19 @@
 //! Draws from behind.
 ghost use Rattle.std.specs.Prelude.{◌≡◌, ℕ, ◌+◌, ◌++◌, ◌%◌, ◌^◌, [], ◌∷◌, List, Result, Ok, Option, Some};
+ghost use Rattle.std.specs.Vec.Iter.{into_iter_items};
+ghost use Rattle.std.specs.declared.vec.IntoIter.{IntoIter};
+ghost use Rattle.std.specs.declared.alloc.Global.{Global};
+ghost use Rattle.fallible_contract.specs.declared.answers.Side.{Side};
+ghost use Rattle.fallible_contract.specs.Traces.{Answered};
+ghost use Rattle.fallible_contract.specs.Listed.{Listed, Mix, Interleaves};
 ghost use Rattle.fallible_contract.specs.Lists.{results, reversed, folded, CollectedAs};
+ghost use Rattle.fallible_iterator.specs.declared.sources.convert.Convert.{Convert};
+ghost use Rattle.fallible_iterator.specs.Sources.Convert.{convert_parts};
 
-use fallible_iterator::laws::{Answer, Side, answers_at, law_back_convert};
-use fallible_iterator::{DoubleEndedFallibleIterator, FallibleIterator, Fault, convert};
+use fallible_iterator::laws::{
+    Answer, Side, answers_at, law_back_convert, law_interleave, law_listed_convert,
+};
+use fallible_iterator::{Convert, DoubleEndedFallibleIterator, FallibleIterator, Fault, convert};
 use std::alloc::{AllocError, Global};
 
 /// The last reading.
@@ -90,4 +100,13 @@ pub fn last_after_three(readings: Vec<Result<u32, u8>>) -> Result<Option<u64>, u
     let mut it = convert(readings.into_iter()).map(|reading| Ok(u64::from(reading) * 2));
     it.nth(2)?;
     it.next_back()
+}
+
+/// What a vector's readings list from both ends, said by the laws: the readings that are left. So of draws from both ends what came in front, what is left and what came from behind, reversed, are those readings.
+pub fn law_readings()
+    ensures listed { (s : Convert (IntoIter (Result ℕ ℕ) Global)) → Listed ⟦<Convert<std::vec::IntoIter<Result<u32, u8>, Global>> as FallibleIterator>⟧.contract.steps ⟦<Convert<std::vec::IntoIter<Result<u32, u8>, Global>> as DoubleEndedFallibleIterator>⟧.ends.steps s (results (into_iter_items (convert_parts s))) }
+    ensures interleaves { (s t : Convert (IntoIter (Result ℕ ℕ) Global)) (drawn : List (Side × Answered ℕ ℕ)) → Mix ⟦<Convert<std::vec::IntoIter<Result<u32, u8>, Global>> as FallibleIterator>⟧.contract.steps ⟦<Convert<std::vec::IntoIter<Result<u32, u8>, Global>> as DoubleEndedFallibleIterator>⟧.ends.steps s drawn t → Interleaves ⟦<Convert<std::vec::IntoIter<Result<u32, u8>, Global>> as FallibleIterator>⟧.contract.steps ⟦<Convert<std::vec::IntoIter<Result<u32, u8>, Global>> as DoubleEndedFallibleIterator>⟧.ends.steps (results (into_iter_items (convert_parts s))) drawn t }
+{
+    law_listed_convert::<u32, u8, std::vec::IntoIter<Result<u32, u8>, Global>>();
+    law_interleave::<Convert<std::vec::IntoIter<Result<u32, u8>, Global>>>();
 }
