@@ -1,70 +1,47 @@
 // Adapters that cut a trace off, and `nth`.
-use fallible_iterator::FallibleIterator;
-use fallible_iterator::laws::Answer::{End, Failure, Item};
+ghost use Rattle.std.specs.Prelude.{◌≤◌};
+
+use fallible_iterator::laws::Answer;
+use fallible_iterator::laws::Answer::{End, Item};
+use fallible_iterator::{FallibleIterator, convert};
 use fallible_testing::answered::expect_answers;
 use fallible_testing::collected::expect_collected;
-use fallible_testing::listed::listed;
-use fallible_testing::scripted::scripted;
+use fallible_testing::scripted::{Script, scripted};
 use std::test::Fail;
 
-#[test]
-fn nth_of_four_items(rt: HostRuntime) -> Result<(), Fail> {
-    let mut it = listed::<u32, u32, 4>(rt.alloc(), [Ok(0), Ok(1), Ok(2), Ok(3)])?;
-    assert_eq!(rt; it.nth(1), Ok(Some(1)));
-    assert_eq!(rt; it.nth(0), Ok(Some(2)));
-    assert_eq!(rt; it.nth(2), Ok(None));
-    Ok(())
-}
+type Drawn = Result<Option<u32>, u32>;
+
+type Hint = (usize, Option<usize>);
+
+const END: Drawn = Ok(None);
 
 #[test]
-fn take_of_four_items(rt: HostRuntime) -> Result<(), Fail> {
-    let mut it = listed::<u32, u32, 4>(rt.alloc(), [Ok(0), Ok(1), Ok(2), Ok(3)])?.take(2);
-    expect_answers(&rt, &mut it, &[Item(0), Item(1), End, End])
-}
-
-#[test]
-fn take_counts_items_alone(rt: HostRuntime) -> Result<(), Fail> {
-    let mut it = listed::<u32, u32, 4>(rt.alloc(), [Err(1), Ok(2), Err(3), Ok(4)])?;
-    let mut one = (&mut it).take(1);
-    expect_answers(&rt, &mut one, &[Failure(1), Item(2), End])?;
-    assert_eq!(rt; it.next(), Err(3));
-    Ok(())
-}
-
-#[test]
-fn take_while_loses_the_refused_item(rt: HostRuntime) -> Result<(), Fail> {
-    let mut it = listed::<u32, u32, 3>(rt.alloc(), [Ok(1), Ok(5), Ok(2)])?;
-    let mut low = (&mut it).take_while(|x: &u32| -> Result<bool, u32> { Ok(*x < 3) });
-    expect_answers(&rt, &mut low, &[Item(1), End, End])?;
-    assert_eq!(rt; it.next(), Ok(Some(2)));
-    Ok(())
-}
-
-#[test]
-fn take_while_below_each_bound(rt: HostRuntime) -> Result<(), Fail> {
-    let mut it = listed::<u32, u32, 5>(rt.alloc(), [Ok(0), Ok(1), Ok(2), Ok(3), Ok(0)])?.take_while(
-        |x: &u32| -> Result<bool, u32> { Ok(*x < 0) },
+fn nth_of_four_items(rt: HostRuntime) {
+    let answers: [Result<u32, u32>; 4] = [Ok(0), Ok(1), Ok(2), Ok(3)];
+    let mut it = convert(answers.iter().copied());
+    assert_eq!(rt;
+        [it.nth(1), it.nth(0), it.nth(2)],
+        [Ok(Some(1)), Ok(Some(2)), END]
     );
-    expect_answers(&rt, &mut it, &[End])?;
-    let mut it = listed::<u32, u32, 5>(rt.alloc(), [Ok(0), Ok(1), Ok(2), Ok(3), Ok(0)])?.take_while(
-        |x: &u32| -> Result<bool, u32> { Ok(*x < 2) },
-    );
-    expect_answers(&rt, &mut it, &[Item(0), Item(1), End])?;
-    let mut it = listed::<u32, u32, 5>(rt.alloc(), [Ok(0), Ok(1), Ok(2), Ok(3), Ok(0)])?.take_while(
-        |x: &u32| -> Result<bool, u32> { Ok(*x < 4) },
-    );
-    let all = [Item(0), Item(1), Item(2), Item(3), Item(0), End];
-    expect_answers(&rt, &mut it, &all)
+}
+
+// What four draws of `take` answer, and then what the source gives next.
+fn taken(count: usize, answers: &[Result<u32, u32>]) -> ([Drawn; 4], Drawn) {
+    let mut source = convert(answers.iter().copied());
+    let mut it = (&mut source).take(count);
+    ([it.next(), it.next(), it.next(), it.next()], source.next())
 }
 
 #[test]
-fn take_while_goes_on_after_an_end(rt: HostRuntime) -> Result<(), Fail> {
-    let script = [Ok(Some(1)), Ok(None), Ok(Some(1)), Ok(Some(2)), Ok(Some(1))];
-    let mut it = scripted::<u32, u32, 5>(rt.alloc(), script)?;
-    let mut low = (&mut it).take_while(|x: &u32| -> Result<bool, u32> { Ok(*x < 2) });
-    expect_answers(&rt, &mut low, &[Item(1), End, Item(1), End, End])?;
-    assert_eq!(rt; it.next(), Ok(Some(1)));
-    Ok(())
+fn take_counts_items_alone(rt: HostRuntime) {
+    assert_eq!(rt;
+        taken(2, &[Ok(0), Ok(1), Ok(2), Ok(3)]),
+        ([Ok(Some(0)), Ok(Some(1)), END, END], Ok(Some(2)))
+    );
+    assert_eq!(rt;
+        taken(1, &[Err(1), Ok(2), Err(3), Ok(4)]),
+        ([Err(1), Ok(Some(2)), END, END], Err(3))
+    );
 }
 
 #[test]
@@ -75,118 +52,186 @@ fn take_ends_with_its_source(rt: HostRuntime) -> Result<(), Fail> {
         Ok(Some(3)),
         Ok(Some(4)),
         Ok(Some(5)),
-        Ok(None),
+        END,
         Err(7),
     ];
     let it = scripted::<u32, u32, 7>(rt.alloc(), script)?;
     expect_collected(it.take(6).collect(rt.alloc()), &[1, 2, 3, 4, 5])
 }
 
-#[test]
-fn skip_of_four_items(rt: HostRuntime) -> Result<(), Fail> {
-    let mut it = listed::<u32, u32, 4>(rt.alloc(), [Ok(1), Ok(2), Ok(3), Ok(4)])?.skip(0);
-    expect_answers(&rt, &mut it, &[Item(1), Item(2), Item(3), Item(4), End])?;
-    let mut it = listed::<u32, u32, 4>(rt.alloc(), [Ok(1), Ok(2), Ok(3), Ok(4)])?.skip(2);
-    expect_answers(&rt, &mut it, &[Item(3), Item(4), End])?;
-    let mut it = listed::<u32, u32, 4>(rt.alloc(), [Ok(1), Ok(2), Ok(3), Ok(4)])?.skip(4);
-    expect_answers(&rt, &mut it, &[End])
+// What the source gives next after these answers of `take_while` below a bound.
+fn next_after_below(
+    rt: &HostRuntime,
+    bound: u32,
+    script: &[Drawn],
+    expected: &[Answer<u32, u32>],
+) -> Result<Drawn, Fail> {
+    let mut source = Script {
+        answers: script.to_vec(rt.alloc())?.into_iter(),
+    };
+    let mut it = (&mut source).take_while(|x: &u32| -> Result<bool, u32> { Ok(*x < bound) });
+    expect_answers(rt, &mut it, expected)?;
+    Ok(source.next())
 }
 
 #[test]
-fn skip_of_all(rt: HostRuntime) -> Result<(), Fail> {
-    let mut it = listed::<u32, u32, 1>(rt.alloc(), [Ok(1)])?.skip(usize::MAX);
-    assert_eq!(rt; it.size_hint(), (0, Some(0)));
-    expect_answers(&rt, &mut it, &[End])
+fn take_while_loses_the_refused_item(rt: HostRuntime) -> Result<(), Fail> {
+    let script = [Ok(Some(1)), Ok(Some(5)), Ok(Some(2))];
+    let answers = [Item(1), End, End];
+    assert_eq!(rt; next_after_below(&rt, 3, &script, &answers)?, Ok(Some(2)));
+    let script = [
+        Ok(Some(0)),
+        Ok(Some(1)),
+        Ok(Some(2)),
+        Ok(Some(3)),
+        Ok(Some(0)),
+    ];
+    assert_eq!(rt; next_after_below(&rt, 0, &script, &[End])?, Ok(Some(1)));
+    let answers = [Item(0), Item(1), End];
+    assert_eq!(rt; next_after_below(&rt, 2, &script, &answers)?, Ok(Some(3)));
+    let answers = [Item(0), Item(1), Item(2), Item(3), Item(0), End];
+    assert_eq!(rt; next_after_below(&rt, 4, &script, &answers)?, END);
+    Ok(())
 }
 
 #[test]
-fn step_by_three(rt: HostRuntime) -> Result<(), Fail> {
-    let mut it = listed::<u32, u32, 9>(
-        rt.alloc(),
-        [
-            Ok(0),
-            Ok(1),
-            Ok(2),
-            Ok(3),
-            Ok(4),
-            Ok(5),
-            Ok(6),
-            Ok(7),
-            Ok(8),
-        ],
-    )?
-    .step_by(3);
-    expect_answers(&rt, &mut it, &[Item(0), Item(3), Item(6), End])
+fn take_while_goes_on_after_an_end(rt: HostRuntime) -> Result<(), Fail> {
+    let script = [Ok(Some(1)), END, Ok(Some(1)), Ok(Some(2)), Ok(Some(1))];
+    let answers = [Item(1), End, Item(1), End, End];
+    assert_eq!(rt; next_after_below(&rt, 2, &script, &answers)?, Ok(Some(1)));
+    Ok(())
+}
+
+// What `skip` hints before and after its first draw, and what five draws answer.
+fn skipped(count: usize, answers: &[Result<u32, u32>]) -> ([Hint; 2], [Drawn; 5]) {
+    let mut it = convert(answers.iter().copied()).skip(count);
+    let before = it.size_hint();
+    let first = it.next();
+    let after = it.size_hint();
+    (
+        [before, after],
+        [first, it.next(), it.next(), it.next(), it.next()],
+    )
 }
 
 #[test]
-fn step_by_the_greatest_step(rt: HostRuntime) -> Result<(), Fail> {
-    let mut it = listed::<u32, u32, 2>(rt.alloc(), [Ok(1), Ok(2)])?.step_by(usize::MAX);
-    assert_eq!(rt; it.size_hint(), (1, Some(1)));
-    expect_answers(&rt, &mut it, &[Item(1), End])?;
-    let it = listed::<u32, u32, 2>(rt.alloc(), [Ok(1), Ok(2)])?.step_by(usize::MAX);
+fn skip_leaves_out_as_many_items(rt: HostRuntime) {
+    let answers = [Ok(1), Ok(2), Ok(3), Ok(4)];
+    let none = ([(0, Some(0)); 2], [END; 5]);
+    assert_eq!(rt;
+        skipped(0, &answers),
+        (
+            [(4, Some(4)), (3, Some(3))],
+            [Ok(Some(1)), Ok(Some(2)), Ok(Some(3)), Ok(Some(4)), END]
+        )
+    );
+    assert_eq!(rt;
+        skipped(2, &answers),
+        (
+            [(2, Some(2)), (1, Some(1))],
+            [Ok(Some(3)), Ok(Some(4)), END, END, END]
+        )
+    );
+    assert_eq!(rt; skipped(4, &answers), none);
+    assert_eq!(rt; skipped(usize::MAX, &[Ok(1)]), none);
+}
+
+#[test]
+fn skip_counts_on_after_a_failure(rt: HostRuntime) {
+    assert_eq!(rt;
+        skipped(3, &[Ok(1), Err(9), Ok(2), Ok(3)]),
+        ([(1, Some(1)), (0, Some(0))], [Err(9), END, END, END, END])
+    );
+    assert_eq!(rt;
+        skipped(2, &[Ok(1), Err(9), Ok(2), Ok(3), Ok(4)]),
+        (
+            [(3, Some(3)), (2, Some(2))],
+            [Err(9), Ok(Some(3)), Ok(Some(4)), END, END]
+        )
+    );
+}
+
+// What `step_by` hints before and after its first two draws, and what four draws answer.
+fn stepped(step: usize, answers: &[Result<u32, u32>]) -> ([Hint; 2], [Drawn; 4])
+    requires { 1 ≤ step }
+{
+    let mut it = convert(answers.iter().copied()).step_by(step);
+    let before = it.size_hint();
+    let (first, second) = (it.next(), it.next());
+    let after = it.size_hint();
+    ([before, after], [first, second, it.next(), it.next()])
+}
+
+#[test]
+fn step_by_gives_each_item_of_a_step(rt: HostRuntime) {
+    let nine = [
+        Ok(0),
+        Ok(1),
+        Ok(2),
+        Ok(3),
+        Ok(4),
+        Ok(5),
+        Ok(6),
+        Ok(7),
+        Ok(8),
+    ];
+    assert_eq!(rt;
+        stepped(3, &nine),
+        (
+            [(3, Some(3)), (1, Some(1))],
+            [Ok(Some(0)), Ok(Some(3)), Ok(Some(6)), END]
+        )
+    );
+    assert_eq!(rt;
+        stepped(usize::MAX, &[Ok(1), Ok(2)]),
+        ([(1, Some(1)), (0, Some(0))], [Ok(Some(1)), END, END, END])
+    );
+}
+
+#[test]
+fn step_by_the_greatest_step_is_collected(rt: HostRuntime) -> Result<(), Fail> {
+    let answers: [Result<u32, u32>; 2] = [Ok(1), Ok(2)];
+    let it = convert(answers.iter().copied()).step_by(usize::MAX);
     expect_collected(it.collect(rt.alloc()), &[1])
 }
 
 #[test]
-fn a_nest_is_counted(rt: HostRuntime) -> Result<(), Fail> {
-    let it = listed::<u32, u32, 5>(rt.alloc(), [Ok(0), Ok(1), Ok(2), Ok(3), Ok(4)])?;
-    assert_eq!(rt; it.skip(1).step_by(2).fuse().take(2).count(), Ok(2));
-    Ok(())
-}
-
-#[test]
-fn skip_counts_on_after_a_failure(rt: HostRuntime) -> Result<(), Fail> {
-    let mut it = listed::<u32, u32, 4>(rt.alloc(), [Ok(1), Err(9), Ok(2), Ok(3)])?.skip(3);
-    expect_answers(&rt, &mut it, &[Failure(9), End])
-}
-
-#[test]
-fn skip_gives_what_follows_a_failure_among_the_skipped(rt: HostRuntime) -> Result<(), Fail> {
-    let mut it = listed::<u32, u32, 5>(rt.alloc(), [Ok(1), Err(9), Ok(2), Ok(3), Ok(4)])?.skip(2);
-    assert_eq!(rt; it.next(), Err(9));
-    assert_eq!(rt; it.size_hint(), (2, Some(2)));
-    assert_eq!(rt; it.next(), Ok(Some(3)));
-    assert_eq!(rt; it.next(), Ok(Some(4)));
-    assert_eq!(rt; it.next(), Ok(None));
-    Ok(())
-}
-
-#[test]
-fn step_by_counts_on_after_a_failure(rt: HostRuntime) -> Result<(), Fail> {
-    let mut it = listed::<u32, u32, 5>(rt.alloc(), [Ok(1), Ok(2), Err(9), Ok(3), Ok(4)])?.step_by(
-        2,
+fn step_by_counts_on_after_a_failure(rt: HostRuntime) {
+    assert_eq!(rt;
+        stepped(2, &[Ok(1), Ok(2), Err(9), Ok(3), Ok(4)]),
+        (
+            [(3, Some(3)), (1, Some(1))],
+            [Ok(Some(1)), Err(9), Ok(Some(3)), END]
+        )
     );
-    expect_answers(&rt, &mut it, &[Item(1), Failure(9), Item(3), End])
-}
-
-#[test]
-fn step_by_three_hints_at_one_after_a_failure(rt: HostRuntime) -> Result<(), Fail> {
-    let mut it = listed::<u32, u32, 6>(
-        rt.alloc(),
-        [Ok(1), Ok(2), Err(9), Ok(3), Ok(4), Ok(5)],
-    )?.step_by(3);
-    assert_eq!(rt; it.next(), Ok(Some(1)));
-    assert_eq!(rt; it.next(), Err(9));
-    assert_eq!(rt; it.size_hint(), (1, Some(1)));
-    assert_eq!(rt; it.next(), Ok(Some(4)));
-    assert_eq!(rt; it.next(), Ok(None));
-    Ok(())
+    assert_eq!(rt;
+        stepped(3, &[Ok(1), Ok(2), Err(9), Ok(3), Ok(4), Ok(5)]),
+        (
+            [(2, Some(2)), (1, Some(1))],
+            [Ok(Some(1)), Err(9), Ok(Some(4)), END]
+        )
+    );
 }
 
 #[test]
 fn step_by_counts_on_after_an_end(rt: HostRuntime) -> Result<(), Fail> {
-    let mut it = scripted::<u32, u32, 6>(
-        rt.alloc(),
-        [
-            Ok(Some(1)),
-            Err(9),
-            Ok(Some(2)),
-            Ok(None),
-            Ok(Some(1)),
-            Ok(Some(2)),
-        ],
-    )?
-    .step_by(2);
-    expect_answers(&rt, &mut it, &[Item(1), Failure(9), End, Item(1), End])
+    let script = [
+        Ok(Some(1)),
+        Err(9),
+        Ok(Some(2)),
+        END,
+        Ok(Some(1)),
+        Ok(Some(2)),
+    ];
+    let mut it = scripted::<u32, u32, 6>(rt.alloc(), script)?.step_by(2);
+    let drawn = [it.next(), it.next(), it.next(), it.next(), it.next()];
+    assert_eq!(rt; drawn, [Ok(Some(1)), Err(9), END, Ok(Some(1)), END]);
+    Ok(())
+}
+
+#[test]
+fn a_nest_is_counted(rt: HostRuntime) {
+    let answers: [Result<u32, u32>; 5] = [Ok(0), Ok(1), Ok(2), Ok(3), Ok(4)];
+    let it = convert(answers.iter().copied());
+    assert_eq!(rt; it.skip(1).step_by(2).fuse().take(2).count(), Ok(2));
 }

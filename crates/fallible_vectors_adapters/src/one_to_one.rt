@@ -1,8 +1,8 @@
 // Adapters with one answer for each draw.
+use fallible_iterator::laws::Answer;
 use fallible_iterator::laws::Answer::{End, Failure, Item};
 use fallible_iterator::{FallibleIterator, IntoFallible, convert};
 use fallible_testing::answered::expect_answers;
-use fallible_testing::listed::listed;
 use fallible_testing::test_error::TestError;
 use fallible_testing::text::Text;
 use std::cell::Cell;
@@ -11,8 +11,8 @@ use std::test::Fail;
 
 #[test]
 fn map_fails_on_an_item(rt: HostRuntime) -> Result<(), Fail> {
-    let it = listed::<u32, (), 5>(rt.alloc(), [Ok(0), Ok(1), Ok(2), Ok(3), Ok(4)])?;
-    let mut it = it.map(|x: u32| if x == 2 {
+    let answers: [Result<u32, ()>; 5] = [Ok(0), Ok(1), Ok(2), Ok(3), Ok(4)];
+    let mut it = convert(answers.iter().copied()).map(|x: u32| if x == 2 {
         Err(())
     } else {
         Ok(x.wrapping_mul(2))
@@ -21,10 +21,10 @@ fn map_fails_on_an_item(rt: HostRuntime) -> Result<(), Fail> {
 }
 
 #[test]
-fn map_keeps_its_closure_where_a_fold_stops(rt: HostRuntime) -> Result<(), Fail> {
-    let it = listed::<u32, u32, 4>(rt.alloc(), [Ok(1), Ok(2), Ok(3), Ok(4)])?;
+fn map_keeps_its_closure_where_a_fold_stops(rt: HostRuntime) {
+    let answers: [Result<u32, u32>; 4] = [Ok(1), Ok(2), Ok(3), Ok(4)];
     let mut calls = 0u32;
-    let mut it = it.map(move |x: u32| {
+    let mut it = convert(answers.iter().copied()).map(move |x: u32| {
         calls = calls.wrapping_add(1);
         Ok(x.wrapping_mul(10).wrapping_add(calls))
     });
@@ -35,9 +35,7 @@ fn map_keeps_its_closure_where_a_fold_stops(rt: HostRuntime) -> Result<(), Fail>
             Ok(sum.wrapping_add(y))
         }
     });
-    assert_eq!(rt; stopped, Err(7));
-    assert_eq!(rt; it.next(), Ok(Some(33)));
-    Ok(())
+    assert_eq!(rt; (stopped, it.next()), (Err(7), Ok(Some(33))));
 }
 
 #[test]
@@ -49,10 +47,10 @@ fn map_is_shown_without_its_closure(rt: HostRuntime) -> Result<(), Fail> {
 }
 
 #[test]
-fn inspect_shows_each_item(rt: HostRuntime) -> Result<(), Fail> {
-    let it = listed::<u32, (), 4>(rt.alloc(), [Ok(0), Ok(1), Ok(2), Ok(3)])?;
+fn inspect_shows_each_item(rt: HostRuntime) {
+    let answers: [Result<u32, ()>; 4] = [Ok(0), Ok(1), Ok(2), Ok(3)];
     let mut seen = Vec::new(rt.alloc());
-    let counted = it
+    let counted = convert(answers.iter().copied())
         .inspect(|x: &u32| match seen.push(*x) {
             Ok(()) => Ok(()),
             Err(_) => Err(()),
@@ -60,78 +58,86 @@ fn inspect_shows_each_item(rt: HostRuntime) -> Result<(), Fail> {
         .count();
     assert_eq!(rt; counted, Ok(4));
     assert_eq!(rt; seen.as_slice(), [0, 1, 2, 3].as_slice());
-    Ok(())
 }
 
 #[test]
 fn inspect_fails_on_an_item(rt: HostRuntime) -> Result<(), Fail> {
-    let it = listed::<u32, u32, 3>(rt.alloc(), [Ok(1), Ok(2), Ok(3)])?;
-    let mut it = it.inspect(|x: &u32| if *x == 2 { Err(20) } else { Ok(()) });
+    let answers: [Result<u32, u32>; 3] = [Ok(1), Ok(2), Ok(3)];
+    let mut it = convert(answers.iter().copied()).inspect(|x: &u32| if *x == 2 {
+        Err(20)
+    } else {
+        Ok(())
+    });
     expect_answers(&rt, &mut it, &[Item(1), Failure(20), Item(3), End])
+}
+
+// Expects these answers of `enumerate`.
+fn expect_enumerated(
+    rt: &HostRuntime,
+    answers: &[Result<u32, u32>],
+    expected: &[Answer<(usize, u32), u32>],
+) -> Result<(), Fail> {
+    let mut it = convert(answers.iter().copied()).enumerate();
+    expect_answers(rt, &mut it, expected)
 }
 
 #[test]
 fn enumerate_counts_items_alone(rt: HostRuntime) -> Result<(), Fail> {
-    let it = listed::<u32, (), 3>(rt.alloc(), [Ok(5), Err(()), Ok(6)])?;
-    let mut it = it.enumerate();
-    expect_answers(&rt, &mut it, &[Item((0, 5)), Failure(()), Item((1, 6))])
+    let items = [Item((0, 5)), Failure(9), Item((1, 6))];
+    expect_enumerated(&rt, &[Ok(5), Err(9), Ok(6)], &items)?;
+    let items = [Item((0, 5)), Item((1, 6)), Item((2, 7)), Item((3, 8)), End];
+    expect_enumerated(&rt, &[Ok(5), Ok(6), Ok(7), Ok(8)], &items)
 }
 
 #[test]
-fn enumerate_numbers_four_items(rt: HostRuntime) -> Result<(), Fail> {
-    let it = listed::<u32, (), 4>(rt.alloc(), [Ok(5), Ok(6), Ok(7), Ok(8)])?;
-    let mut it = it.enumerate();
-    expect_answers(
-        &rt,
-        &mut it,
-        &[Item((0, 5)), Item((1, 6)), Item((2, 7)), Item((3, 8)), End],
-    )
+fn nth_of_enumerate_counts_the_items_that_it_drew(rt: HostRuntime) {
+    let answers: [Result<u32, u32>; 3] = [Ok(5), Err(9), Ok(6)];
+    let mut it = convert(answers.iter().copied()).enumerate();
+    assert_eq!(rt; [it.nth(1), it.next()], [Err(9), Ok(Some((1, 6)))]);
 }
 
 #[test]
-fn nth_of_enumerate_counts_the_items_that_it_drew(rt: HostRuntime) -> Result<(), Fail> {
-    let it = listed::<u32, (), 3>(rt.alloc(), [Ok(5), Err(()), Ok(6)])?;
-    let mut it = it.enumerate();
-    assert_eq!(rt; it.nth(1), Err(()));
-    assert_eq!(rt; it.next(), Ok(Some((1, 6))));
-    Ok(())
+fn scan_goes_on_after_a_none(rt: HostRuntime) {
+    let answers: [Result<u32, ()>; 4] = [Ok(1), Ok(2), Ok(9), Ok(3)];
+    let mut it = convert(answers.iter().copied()).scan(
+        (),
+        |_, x: u32| if x > 5 { Ok(None) } else { Ok(Some(x)) },
+    );
+    let drawn = [it.next(), it.next(), it.next(), it.next()];
+    assert_eq!(rt; drawn, [Ok(Some(1)), Ok(Some(2)), Ok(None), Ok(Some(3))]);
 }
 
 #[test]
-fn scan_goes_on_after_a_none(rt: HostRuntime) -> Result<(), Fail> {
-    let it = listed::<u32, (), 4>(rt.alloc(), [Ok(1), Ok(2), Ok(9), Ok(3)])?;
-    let mut it = it.scan((), |_, x: u32| if x > 5 { Ok(None) } else { Ok(Some(x)) });
-    expect_answers(&rt, &mut it, &[Item(1), Item(2), End, Item(3)])
-}
-
-#[test]
-fn scan_keeps_its_state(rt: HostRuntime) -> Result<(), Fail> {
-    let it = listed::<i32, (), 4>(rt.alloc(), [Ok(1), Ok(2), Ok(3), Ok(4)])?;
-    let mut it = it.scan(0, |sum: &mut i32, x: i32| {
+fn scan_keeps_its_state(rt: HostRuntime) {
+    let answers: [Result<i32, ()>; 4] = [Ok(1), Ok(2), Ok(3), Ok(4)];
+    let mut it = convert(answers.iter().copied()).scan(0, |sum: &mut i32, x: i32| {
         if x > 3 {
             return Ok(None);
         }
         *sum = sum.wrapping_add(x);
         Ok(Some(sum.wrapping_neg()))
     });
-    expect_answers(&rt, &mut it, &[Item(-1), Item(-3), Item(-6), End])
+    let drawn = [it.next(), it.next(), it.next(), it.next()];
+    assert_eq!(rt; drawn, [Ok(Some(-1)), Ok(Some(-3)), Ok(Some(-6)), Ok(None)]);
 }
 
 #[test]
-fn scan_keeps_its_state_after_a_failure(rt: HostRuntime) -> Result<(), Fail> {
-    let it = listed::<u32, u32, 3>(rt.alloc(), [Ok(1), Ok(2), Ok(3)])?;
-    let mut it = it.scan(0, |sum: &mut u32, x: u32| {
+fn scan_keeps_its_state_after_a_failure(rt: HostRuntime) {
+    let answers: [Result<u32, u32>; 3] = [Ok(1), Ok(2), Ok(3)];
+    let mut it = convert(answers.iter().copied()).scan(0, |sum: &mut u32, x: u32| {
         *sum = sum.wrapping_add(x);
         if *sum == 3 { Err(3) } else { Ok(Some(*sum)) }
     });
-    expect_answers(&rt, &mut it, &[Item(1), Failure(3), Item(6), End])
+    let drawn = [it.next(), it.next(), it.next(), it.next()];
+    assert_eq!(rt; drawn, [Ok(Some(1)), Err(3), Ok(Some(6)), Ok(None)]);
 }
 
 #[test]
-fn map_err_replaces_failures(rt: HostRuntime) -> Result<(), Fail> {
-    let it = listed::<u32, u32, 2>(rt.alloc(), [Ok(1), Err(5)])?;
-    let mut it = it.map_err(|e: u32| e.wrapping_add(100));
-    expect_answers(&rt, &mut it, &[Item(1), Failure(105), End])
+fn map_err_replaces_failures(rt: HostRuntime) {
+    let answers: [Result<u32, u32>; 2] = [Ok(1), Err(5)];
+    let mut it = convert(answers.iter().copied()).map_err(|e: u32| e.wrapping_add(100));
+    let drawn = [it.next(), it.next(), it.next()];
+    assert_eq!(rt; drawn, [Ok(Some(1)), Err(105), Ok(None)]);
 }
 
 #[test]

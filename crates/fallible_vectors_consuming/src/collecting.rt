@@ -1,137 +1,87 @@
 // Collections of several kinds, and two collections at once.
 ghost use Rattle.std.specs.Prelude.{⊤};
 
-use fallible_iterator::{Collect, FallibleIterator, Fault};
+use fallible_iterator::{Collect, FallibleIterator, Fault, convert};
 use fallible_testing::collected::{expect_refused, expect_source_fault};
-use fallible_testing::listed::listed;
 use std::alloc::{AllocError, Global};
 use std::collections::{BTreeMap, BTreeSet, HashMap, HashSet, VecDeque};
 use std::test::Fail;
 
-#[test]
-fn collect_into_a_btree_set_has_each_once(rt: HostRuntime) -> Result<(), Fail> {
-    let it = listed::<u32, u32, 3>(rt.alloc(), [Ok(2), Ok(1), Ok(2)])?;
-    let set = it.collect::<BTreeSet<u32>>(rt.alloc()).expect(&rt, "a set");
-    assert_eq!(rt; set.len(), 2);
-    assert!(rt; set.contains(&1));
-    assert!(rt; set.contains(&2));
-    Ok(())
+// The items in a set that has an order.
+fn btree_set(alloc: Global, answers: &[Result<u32, u32>]) -> Result<BTreeSet<u32>, Fault<u32>> {
+    convert(answers.iter().copied()).collect::<BTreeSet<u32>>(alloc)
+}
+
+// The items in a set by hash.
+fn hash_set(alloc: Global, answers: &[Result<u32, u32>]) -> Result<HashSet<u32>, Fault<u32>> {
+    convert(answers.iter().copied()).collect::<HashSet<u32>>(alloc)
+}
+
+// The items in a deque.
+fn deque(alloc: Global, answers: &[Result<u32, u32>]) -> Result<VecDeque<u32>, Fault<u32>> {
+    convert(answers.iter().copied()).collect::<VecDeque<u32>>(alloc)
+}
+
+// The pairs in a map that has an order.
+fn btree_map(
+    alloc: Global,
+    answers: &[Result<(u32, char), u32>],
+) -> Result<BTreeMap<u32, char>, Fault<u32>> {
+    convert(answers.iter().copied()).collect::<BTreeMap<u32, char>>(alloc)
+}
+
+// The pairs in a map by hash.
+fn hash_map(
+    alloc: Global,
+    answers: &[Result<(u32, char), u32>],
+) -> Result<HashMap<u32, char>, Fault<u32>> {
+    convert(answers.iter().copied()).collect::<HashMap<u32, char>>(alloc)
 }
 
 #[test]
-fn collect_into_a_hash_set_has_each_once(rt: HostRuntime) -> Result<(), Fail> {
-    let it = listed::<u32, u32, 3>(rt.alloc(), [Ok(2), Ok(1), Ok(2)])?;
-    let set = it.collect::<HashSet<u32>>(rt.alloc()).expect(&rt, "a set");
+fn collect_into_a_set_has_each_once(rt: HostRuntime) {
+    let answers = [Ok(2), Ok(1), Ok(2)];
+    let set = btree_set(rt.alloc(), &answers).expect(&rt, "a set");
     assert_eq!(rt; set.len(), 2);
     assert!(rt; set.contains(&1));
     assert!(rt; set.contains(&2));
-    Ok(())
+    let set = hash_set(rt.alloc(), &answers).expect(&rt, "a set");
+    assert_eq!(rt; set.len(), 2);
+    assert!(rt; set.contains(&1));
+    assert!(rt; set.contains(&2));
 }
 
 #[test]
-fn collect_into_a_deque_keeps_the_order(rt: HostRuntime) -> Result<(), Fail> {
-    let it = listed::<u32, u32, 3>(rt.alloc(), [Ok(2), Ok(1), Ok(2)])?;
-    let mut made = it
-        .collect::<VecDeque<u32>>(rt.alloc())
-        .expect(&rt, "a deque");
+fn collect_into_a_deque_keeps_the_order(rt: HostRuntime) {
+    let mut made = deque(rt.alloc(), &[Ok(2), Ok(1), Ok(2)]).expect(&rt, "a deque");
     assert_eq!(rt; made.pop_front(), Some(2));
     assert_eq!(rt; made.pop_front(), Some(1));
     assert_eq!(rt; made.pop_front(), Some(2));
     assert_eq!(rt; made.pop_front(), None);
-    Ok(())
 }
 
 #[test]
-fn collect_into_a_btree_map_keeps_the_last_value(rt: HostRuntime) -> Result<(), Fail> {
-    let it = listed::<(u32, char), u32, 3>(rt.alloc(), [Ok((1, 'a')), Ok((2, 'b')), Ok((1, 'c'))])?;
-    let map = it
-        .collect::<BTreeMap<u32, char>>(rt.alloc())
-        .expect(&rt, "a map");
+fn collect_into_a_map_keeps_the_last_value(rt: HostRuntime) {
+    let answers = [Ok((1, 'a')), Ok((2, 'b')), Ok((1, 'c'))];
+    let map = btree_map(rt.alloc(), &answers).expect(&rt, "a map");
     assert_eq!(rt; map.len(), 2);
     assert_eq!(rt; map.get(&1), Some(&'c'));
     assert_eq!(rt; map.get(&2), Some(&'b'));
-    Ok(())
-}
-
-#[test]
-fn collect_into_a_hash_map_keeps_the_last_value(rt: HostRuntime) -> Result<(), Fail> {
-    let it = listed::<(u32, char), u32, 3>(rt.alloc(), [Ok((1, 'a')), Ok((2, 'b')), Ok((1, 'c'))])?;
-    let map = it
-        .collect::<HashMap<u32, char>>(rt.alloc())
-        .expect(&rt, "a map");
+    let map = hash_map(rt.alloc(), &answers).expect(&rt, "a map");
     assert_eq!(rt; map.len(), 2);
     assert_eq!(rt; map.get(&1), Some(&'c'));
     assert_eq!(rt; map.get(&2), Some(&'b'));
-    Ok(())
-}
-
-#[test]
-fn partition_by_even(rt: HostRuntime) -> Result<(), Fail> {
-    let it = listed::<u32, u32, 4>(rt.alloc(), [Ok(0), Ok(1), Ok(2), Ok(3)])?;
-    let sides: Result<(Vec<u32>, Vec<u32>), Fault<u32>> = it.partition(
-        rt.alloc(),
-        |x: &u32| Ok(*x % 2 == 0),
-    );
-    let (even, odd) = sides.expect(&rt, "two collections");
-    assert_eq!(rt; even.as_slice(), [0, 2].as_slice());
-    assert_eq!(rt; odd.as_slice(), [1, 3].as_slice());
-    Ok(())
-}
-
-#[test]
-fn partition_draws_nothing_after_a_failure(rt: HostRuntime) -> Result<(), Fail> {
-    let mut it = listed::<u32, u32, 3>(rt.alloc(), [Ok(0), Err(9), Ok(2)])?;
-    let sides: Result<(Vec<u32>, Vec<u32>), Fault<u32>> = it
-        .by_ref()
-        .partition(rt.alloc(), |x: &u32| Ok(*x % 2 == 0));
-    assert!(rt; matches!(sides, Err(Fault::Source(9))));
-    assert_eq!(rt; it.next(), Ok(Some(2)));
-    Ok(())
-}
-
-#[test]
-fn unzip_of_four_pairs(rt: HostRuntime) -> Result<(), Fail> {
-    let pairs = [Ok((0, 0)), Ok((1, -1)), Ok((2, -2)), Ok((3, -3))];
-    let it = listed::<(i32, i32), u32, 4>(rt.alloc(), pairs)?;
-    let both: Result<(Vec<i32>, Vec<i32>), Fault<u32>> = it.unzip(rt.alloc());
-    let (first, second) = both.expect(&rt, "two collections");
-    assert_eq!(rt; first.as_slice(), [0, 1, 2, 3].as_slice());
-    assert_eq!(rt; second.as_slice(), [0, -1, -2, -3].as_slice());
-    Ok(())
-}
-
-#[test]
-fn unzip_into_a_deque_and_a_set(rt: HostRuntime) -> Result<(), Fail> {
-    let it = listed::<(u32, u32), u32, 3>(rt.alloc(), [Ok((2, 7)), Ok((1, 8)), Ok((2, 7))])?;
-    let both: Result<(VecDeque<u32>, BTreeSet<u32>), Fault<u32>> = it.unzip(rt.alloc());
-    let (mut first, second) = both.expect(&rt, "two collections");
-    assert_eq!(rt; first.pop_front(), Some(2));
-    assert_eq!(rt; first.pop_front(), Some(1));
-    assert_eq!(rt; first.pop_front(), Some(2));
-    assert_eq!(rt; second.len(), 2);
-    assert!(rt; second.contains(&8));
-    Ok(())
-}
-
-#[test]
-fn unzip_draws_nothing_after_a_failure(rt: HostRuntime) -> Result<(), Fail> {
-    let mut it = listed::<(u32, u32), u32, 3>(rt.alloc(), [Ok((0, 1)), Err(9), Ok((2, 3))])?;
-    let both: Result<(Vec<u32>, Vec<u32>), Fault<u32>> = it.by_ref().unzip(rt.alloc());
-    expect_source_fault(both, 9)?;
-    assert_eq!(rt; it.next(), Ok(Some((2, 3))));
-    Ok(())
 }
 
 #[test]
 fn collect_into_each_collection_fails_with_the_source(rt: HostRuntime) -> Result<(), Fail> {
-    let alloc = rt.alloc();
-    let items = || listed::<u32, u32, 3>(alloc, [Ok(0), Err(9), Ok(2)]);
-    expect_source_fault(items()?.collect::<VecDeque<u32>>(alloc), 9)?;
-    expect_source_fault(items()?.collect::<BTreeSet<u32>>(alloc), 9)?;
-    expect_source_fault(items()?.collect::<HashSet<u32>>(alloc), 9)?;
-    let pairs = || listed::<(u32, u32), u32, 3>(alloc, [Ok((0, 1)), Err(9), Ok((2, 3))]);
-    expect_source_fault(pairs()?.collect::<BTreeMap<u32, u32>>(alloc), 9)?;
-    expect_source_fault(pairs()?.collect::<HashMap<u32, u32>>(alloc), 9)
+    let items = [Ok(0), Err(9), Ok(2)];
+    expect_source_fault(deque(rt.alloc(), &items), 9)?;
+    expect_source_fault(btree_set(rt.alloc(), &items), 9)?;
+    expect_source_fault(hash_set(rt.alloc(), &items), 9)?;
+    let pairs = [Ok((0, 'a')), Err(9), Ok((2, 'b'))];
+    expect_source_fault(btree_map(rt.alloc(), &pairs), 9)?;
+    expect_source_fault(hash_map(rt.alloc(), &pairs), 9)
 }
 
 // A collection that has room for two items.
@@ -140,7 +90,7 @@ struct Two {
     count: u64,
 }
 
-impl Collect<u32> for Two {
+impl Collect<i32> for Two {
     ghost made = { λ _ _. ⊤ };
 
     ghost empty_refuses = { ⊥ };
@@ -151,7 +101,7 @@ impl Collect<u32> for Two {
         Ok(Two { count: 0 })
     }
 
-    fn push_one(&mut self, _item: u32) -> Result<(), AllocError> {
+    fn push_one(&mut self, _item: i32) -> Result<(), AllocError> {
         if self.count < 2 {
             self.count += 1;
             Ok(())
@@ -165,7 +115,7 @@ impl Collect<u32> for Two {
 #[derive(Drop)]
 struct Never;
 
-impl Collect<u32> for Never {
+impl Collect<i32> for Never {
     ghost made = { λ _ _. ⊤ };
 
     ghost empty_refuses = { ⊤ };
@@ -176,48 +126,104 @@ impl Collect<u32> for Never {
         Err(AllocError)
     }
 
-    fn push_one(&mut self, _item: u32) -> Result<(), AllocError> {
+    fn push_one(&mut self, _item: i32) -> Result<(), AllocError> {
         Ok(())
     }
 }
 
+// The even items in one collection and the others in another, and what the next draw answers.
+fn partition_by_even<C: Collect<i32>>(
+    alloc: Global,
+    answers: &[Result<i32, u32>],
+) -> (Result<(C, C), Fault<u32>>, Result<Option<i32>, u32>) {
+    let mut it = convert(answers.iter().copied());
+    let sides: Result<(C, C), Fault<u32>> = it.by_ref().partition(alloc, |x: &i32| Ok(*x % 2 == 0));
+    (sides, it.next())
+}
+
+#[test]
+fn partition_into_vectors_draws_nothing_after_a_failure(rt: HostRuntime) -> Result<(), Fail> {
+    let four = [Ok(0), Ok(1), Ok(2), Ok(3)];
+    let (sides, next) = partition_by_even::<Vec<i32>>(rt.alloc(), &four);
+    let (even, odd) = sides.expect(&rt, "two collections");
+    assert_eq!(rt; even.as_slice(), [0, 2].as_slice());
+    assert_eq!(rt; odd.as_slice(), [1, 3].as_slice());
+    assert_eq!(rt; next, Ok(None));
+    let failing = [Ok(0), Err(9), Ok(2)];
+    let (sides, next) = partition_by_even::<Vec<i32>>(rt.alloc(), &failing);
+    expect_source_fault(sides, 9)?;
+    assert_eq!(rt; next, Ok(Some(2)));
+    Ok(())
+}
+
 #[test]
 fn partition_that_is_refused_leaves_the_rest(rt: HostRuntime) -> Result<(), Fail> {
-    let mut it = listed::<u32, u32, 5>(rt.alloc(), [Ok(0), Ok(1), Ok(2), Ok(4), Ok(6)])?;
-    let sides: Result<(Two, Two), Fault<u32>> = it
-        .by_ref()
-        .partition(rt.alloc(), |x: &u32| Ok(*x % 2 == 0));
+    let answers = [Ok(0), Ok(1), Ok(2), Ok(4), Ok(6)];
+    let (sides, next) = partition_by_even::<Two>(rt.alloc(), &answers);
     expect_refused(sides)?;
-    assert_eq!(rt; it.next(), Ok(Some(6)));
+    assert_eq!(rt; next, Ok(Some(6)));
     Ok(())
 }
 
 #[test]
 fn partition_whose_making_is_refused_draws_nothing(rt: HostRuntime) -> Result<(), Fail> {
-    let mut it = listed::<u32, u32, 2>(rt.alloc(), [Ok(0), Ok(1)])?;
-    let sides: Result<(Never, Never), Fault<u32>> = it
-        .by_ref()
-        .partition(rt.alloc(), |x: &u32| Ok(*x % 2 == 0));
+    let (sides, next) = partition_by_even::<Never>(rt.alloc(), &[Ok(0), Ok(1)]);
     expect_refused(sides)?;
-    assert_eq!(rt; it.next(), Ok(Some(0)));
+    assert_eq!(rt; next, Ok(Some(0)));
     Ok(())
+}
+
+// The first parts in one collection and the second ones in another, and what the next draw answers.
+fn unzip_of<A: Collect<i32>, B: Collect<i32>>(
+    alloc: Global,
+    answers: &[Result<(i32, i32), u32>],
+) -> (Result<(A, B), Fault<u32>>, Result<Option<(i32, i32)>, u32>) {
+    let mut it = convert(answers.iter().copied());
+    let both: Result<(A, B), Fault<u32>> = it.by_ref().unzip(alloc);
+    (both, it.next())
+}
+
+#[test]
+fn unzip_into_vectors_draws_nothing_after_a_failure(rt: HostRuntime) -> Result<(), Fail> {
+    let pairs = [Ok((0, 0)), Ok((1, -1)), Ok((2, -2)), Ok((3, -3))];
+    let (both, next) = unzip_of::<Vec<i32>, Vec<i32>>(rt.alloc(), &pairs);
+    let (first, second) = both.expect(&rt, "two collections");
+    assert_eq!(rt; first.as_slice(), [0, 1, 2, 3].as_slice());
+    assert_eq!(rt; second.as_slice(), [0, -1, -2, -3].as_slice());
+    assert_eq!(rt; next, Ok(None));
+    let failing = [Ok((0, 1)), Err(9), Ok((2, 3))];
+    let (both, next) = unzip_of::<Vec<i32>, Vec<i32>>(rt.alloc(), &failing);
+    expect_source_fault(both, 9)?;
+    assert_eq!(rt; next, Ok(Some((2, 3))));
+    Ok(())
+}
+
+#[test]
+fn unzip_into_a_deque_and_a_set(rt: HostRuntime) {
+    let pairs = [Ok((2, 7)), Ok((1, 8)), Ok((2, 7))];
+    let (both, next) = unzip_of::<VecDeque<i32>, BTreeSet<i32>>(rt.alloc(), &pairs);
+    let (mut first, second) = both.expect(&rt, "two collections");
+    assert_eq!(rt; first.pop_front(), Some(2));
+    assert_eq!(rt; first.pop_front(), Some(1));
+    assert_eq!(rt; first.pop_front(), Some(2));
+    assert_eq!(rt; second.len(), 2);
+    assert!(rt; second.contains(&8));
+    assert_eq!(rt; next, Ok(None));
 }
 
 #[test]
 fn unzip_that_is_refused_leaves_the_rest(rt: HostRuntime) -> Result<(), Fail> {
     let pairs = [Ok((0, 1)), Ok((2, 3)), Ok((4, 5)), Ok((6, 7))];
-    let mut it = listed::<(u32, u32), u32, 4>(rt.alloc(), pairs)?;
-    let both: Result<(Vec<u32>, Two), Fault<u32>> = it.by_ref().unzip(rt.alloc());
+    let (both, next) = unzip_of::<Vec<i32>, Two>(rt.alloc(), &pairs);
     expect_refused(both)?;
-    assert_eq!(rt; it.next(), Ok(Some((6, 7))));
+    assert_eq!(rt; next, Ok(Some((6, 7))));
     Ok(())
 }
 
 #[test]
 fn unzip_whose_second_making_is_refused_draws_nothing(rt: HostRuntime) -> Result<(), Fail> {
-    let mut it = listed::<(u32, u32), u32, 2>(rt.alloc(), [Ok((0, 1)), Ok((2, 3))])?;
-    let both: Result<(Vec<u32>, Never), Fault<u32>> = it.by_ref().unzip(rt.alloc());
+    let (both, next) = unzip_of::<Vec<i32>, Never>(rt.alloc(), &[Ok((0, 1)), Ok((2, 3))]);
     expect_refused(both)?;
-    assert_eq!(rt; it.next(), Ok(Some((0, 1))));
+    assert_eq!(rt; next, Ok(Some((0, 1))));
     Ok(())
 }

@@ -1,71 +1,76 @@
 // Searches end with the item that decides, and the next draw goes on after it.
 ghost use Rattle.std.specs.Prelude.{◌^◌, ◌-◌};
 
-use fallible_iterator::{FallibleIterator, from_fn, once};
+use fallible_iterator::{FallibleIterator, convert, from_fn, once};
 use fallible_testing::listed::listed;
 use std::test::Fail;
 
-#[test]
-fn for_each_is_called_on_each_item_in_order(rt: HostRuntime) -> Result<(), Fail> {
-    let it = listed::<u32, (), 4>(rt.alloc(), [Ok(0), Ok(1), Ok(2), Ok(3)])?;
-    let mut seen = Vec::new(rt.alloc());
-    let done = it.for_each(|x: u32| match seen.push(x) {
-        Ok(()) => Ok(()),
-        Err(_) => Err(()),
+// what a draw answers
+type Drawn = Result<Option<u32>, u32>;
+
+// no item is this
+const NOWHERE: u32 = 100;
+
+// What `for_each` answers, whose closure pushes the items and fails with 20 at `failing`, and what the next draw does.
+fn push_each(
+    seen: &mut Vec<u32>,
+    answers: &[Result<u32, u32>],
+    failing: u32,
+) -> (Result<(), u32>, Drawn) {
+    let mut it = convert(answers.iter().copied());
+    let done = it.by_ref().for_each(|x: u32| {
+        if x == failing {
+            return Err(20);
+        }
+        match seen.push(x) {
+            Ok(()) => Ok(()),
+            Err(_) => Err(0),
+        }
     });
-    assert_eq!(rt; done, Ok(()));
+    (done, it.next())
+}
+
+#[test]
+fn for_each_is_called_on_each_item_in_order(rt: HostRuntime) {
+    let mut seen = Vec::new(rt.alloc());
+    let four = [Ok(0), Ok(1), Ok(2), Ok(3)];
+    assert_eq!(rt; push_each(&mut seen, &four, NOWHERE), (Ok(()), Ok(None)));
     assert_eq!(rt; seen.as_slice(), [0, 1, 2, 3].as_slice());
-    Ok(())
 }
 
 #[test]
-fn for_each_draws_nothing_after_its_closure_fails(rt: HostRuntime) -> Result<(), Fail> {
-    let mut it = listed::<u32, u32, 3>(rt.alloc(), [Ok(1), Ok(2), Ok(3)])?;
-    let done = it
-        .by_ref()
-        .for_each(|x: u32| if x == 2 { Err(20) } else { Ok(()) });
-    assert_eq!(rt; done, Err(20));
-    assert_eq!(rt; it.next(), Ok(Some(3)));
-    Ok(())
+fn for_each_draws_nothing_after_a_failure_of_its_closure_or_the_source(rt: HostRuntime) {
+    let mut seen = Vec::new(rt.alloc());
+    let three = [Ok(1), Ok(2), Ok(3)];
+    assert_eq!(rt; push_each(&mut seen, &three, 2), (Err(20), Ok(Some(3))));
+    let failing = [Ok(1), Err(2), Ok(3)];
+    assert_eq!(rt;
+        push_each(&mut seen, &failing, NOWHERE),
+        (Err(2), Ok(Some(3)))
+    );
+}
+
+// Whether all items are below 4, of a predicate that fails with 20 at `failing`, and what the next draw answers.
+fn all_below_4(answers: &[Result<u32, u32>], failing: u32) -> (Result<bool, u32>, Drawn) {
+    let mut it = convert(answers.iter().copied());
+    let all = it.all(|x: u32| if x == failing { Err(20) } else { Ok(x < 4) });
+    (all, it.next())
 }
 
 #[test]
-fn for_each_draws_nothing_after_a_failure(rt: HostRuntime) -> Result<(), Fail> {
-    let mut it = listed::<u32, u32, 3>(rt.alloc(), [Ok(1), Err(2), Ok(3)])?;
-    assert_eq!(rt; it.by_ref().for_each(|_: u32| Ok(())), Err(2));
-    assert_eq!(rt; it.next(), Ok(Some(3)));
-    Ok(())
+fn all_stops_at_the_first_item_that_is_not(rt: HostRuntime) {
+    let below = [Ok(0), Ok(1), Ok(2), Ok(3)];
+    assert_eq!(rt; all_below_4(&below, NOWHERE), (Ok(true), Ok(None)));
+    let one_not = [Ok(0), Ok(4), Ok(1), Ok(2)];
+    assert_eq!(rt; all_below_4(&one_not, NOWHERE), (Ok(false), Ok(Some(1))));
 }
 
 #[test]
-fn all_of_four_items_are_below_4(rt: HostRuntime) -> Result<(), Fail> {
-    let mut it = listed::<u32, (), 4>(rt.alloc(), [Ok(0), Ok(1), Ok(2), Ok(3)])?;
-    assert_eq!(rt; it.all(|x: u32| Ok(x < 4)), Ok(true));
-    Ok(())
-}
-
-#[test]
-fn all_stops_at_the_first_item_that_is_not(rt: HostRuntime) -> Result<(), Fail> {
-    let mut it = listed::<u32, (), 4>(rt.alloc(), [Ok(0), Ok(4), Ok(1), Ok(2)])?;
-    assert_eq!(rt; it.all(|x: u32| Ok(x < 4)), Ok(false));
-    assert_eq!(rt; it.next(), Ok(Some(1)));
-    Ok(())
-}
-
-#[test]
-fn all_fails_where_its_predicate_fails(rt: HostRuntime) -> Result<(), Fail> {
-    let mut it = listed::<u32, (), 4>(rt.alloc(), [Ok(0), Ok(1), Ok(2), Ok(4)])?;
-    assert_eq!(rt; it.all(|_: u32| Err(())), Err(()));
-    assert_eq!(rt; it.next(), Ok(Some(1)));
-    Ok(())
-}
-
-#[test]
-fn all_fails_at_a_failure(rt: HostRuntime) -> Result<(), Fail> {
-    let mut it = listed::<u32, u32, 3>(rt.alloc(), [Ok(0), Err(9), Ok(2)])?;
-    assert_eq!(rt; it.all(|x: u32| Ok(x < 4)), Err(9));
-    assert_eq!(rt; it.next(), Ok(Some(2)));
-    Ok(())
+fn all_fails_where_its_predicate_or_the_source_fails(rt: HostRuntime) {
+    let last_not = [Ok(0), Ok(1), Ok(2), Ok(4)];
+    assert_eq!(rt; all_below_4(&last_not, 0), (Err(20), Ok(Some(1))));
+    let failing = [Ok(0), Err(9), Ok(2)];
+    assert_eq!(rt; all_below_4(&failing, NOWHERE), (Err(9), Ok(Some(2))));
 }
 
 #[test]
@@ -87,75 +92,53 @@ fn all_over_a_fuse_meets_the_end_once(rt: HostRuntime) -> Result<(), Fail> {
     Ok(())
 }
 
-#[test]
-fn any_of_four_items_is_3(rt: HostRuntime) -> Result<(), Fail> {
-    let mut it = listed::<u32, (), 4>(rt.alloc(), [Ok(0), Ok(3), Ok(1), Ok(2)])?;
-    assert_eq!(rt; it.any(|x: u32| Ok(x == 3)), Ok(true));
-    assert_eq!(rt; it.next(), Ok(Some(1)));
-    Ok(())
+// Whether any item is 3, of a predicate that fails with 20 at `failing`, and what the next draw answers.
+fn any_is_3(answers: &[Result<u32, u32>], failing: u32) -> (Result<bool, u32>, Drawn) {
+    let mut it = convert(answers.iter().copied());
+    let any = it.any(|x: u32| if x == failing { Err(20) } else { Ok(x == 3) });
+    (any, it.next())
 }
 
 #[test]
-fn any_of_no_item_that_is_3(rt: HostRuntime) -> Result<(), Fail> {
-    let mut it = listed::<u32, (), 4>(rt.alloc(), [Ok(0), Ok(1), Ok(2), Ok(4)])?;
-    assert_eq!(rt; it.any(|x: u32| Ok(x == 3)), Ok(false));
-    Ok(())
+fn any_stops_at_the_first_item_that_is_or_fails(rt: HostRuntime) {
+    let one_is = [Ok(0), Ok(3), Ok(1), Ok(2)];
+    assert_eq!(rt; any_is_3(&one_is, NOWHERE), (Ok(true), Ok(Some(1))));
+    let none_is = [Ok(0), Ok(1), Ok(2), Ok(4)];
+    assert_eq!(rt; any_is_3(&none_is, NOWHERE), (Ok(false), Ok(None)));
+    assert_eq!(rt; any_is_3(&none_is, 0), (Err(20), Ok(Some(1))));
 }
 
-#[test]
-fn any_fails_where_its_predicate_fails(rt: HostRuntime) -> Result<(), Fail> {
-    let mut it = listed::<u32, (), 4>(rt.alloc(), [Ok(0), Ok(1), Ok(2), Ok(4)])?;
-    assert_eq!(rt; it.any(|_: u32| Err(())), Err(()));
-    assert_eq!(rt; it.next(), Ok(Some(1)));
-    Ok(())
-}
-
-#[test]
-fn find_stops_at_the_first_odd_item(rt: HostRuntime) -> Result<(), Fail> {
-    let mut it = listed::<u32, u32, 4>(rt.alloc(), [Ok(0), Ok(1), Ok(2), Ok(3)])?;
-    assert_eq!(rt; it.find(|x: &u32| Ok(*x % 2 == 1)), Ok(Some(1)));
-    assert_eq!(rt; it.next(), Ok(Some(2)));
-    Ok(())
-}
-
-#[test]
-fn find_fails_where_its_predicate_fails(rt: HostRuntime) -> Result<(), Fail> {
-    let mut it = listed::<u32, u32, 4>(rt.alloc(), [Ok(0), Ok(1), Ok(2), Ok(3)])?;
-    let found = it.find(|x: &u32| if *x == 2 { Err(29) } else { Ok(false) });
-    assert_eq!(rt; found, Err(29));
-    assert_eq!(rt; it.next(), Ok(Some(3)));
-    Ok(())
-}
-
-#[test]
-fn find_of_an_item_before_a_failing_call(rt: HostRuntime) -> Result<(), Fail> {
-    let mut it = listed::<u32, u32, 4>(rt.alloc(), [Ok(0), Ok(1), Ok(2), Ok(3)])?;
-    let found = it.find(|x: &u32| if *x == 2 { Err(29) } else { Ok(true) });
-    assert_eq!(rt; found, Ok(Some(0)));
-    assert_eq!(rt; it.next(), Ok(Some(1)));
-    Ok(())
-}
-
-#[test]
-fn find_fails_at_a_failure_and_goes_on_after_it(rt: HostRuntime) -> Result<(), Fail> {
-    let mut it = listed::<u32, u32, 3>(rt.alloc(), [Ok(0), Err(9), Ok(2)])?;
-    assert_eq!(rt; it.find(|x: &u32| Ok(*x == 2)), Err(9));
-    assert_eq!(rt; it.find(|x: &u32| Ok(*x == 2)), Ok(Some(2)));
-    assert_eq!(rt; it.find(|x: &u32| Ok(*x == 2)), Ok(None));
-    Ok(())
-}
-
-#[test]
-fn find_calls_its_predicate_once_an_item(rt: HostRuntime) -> Result<(), Fail> {
-    let mut it = listed::<u32, u32, 4>(rt.alloc(), [Ok(0), Ok(1), Ok(2), Ok(3)])?;
+// What a search for `wanted` finds, with a predicate that fails with 29 at `failing`, how often the predicate was called, and what the next draw answers.
+fn find_one(answers: &[Result<u32, u32>], wanted: u32, failing: u32) -> (Drawn, u32, Drawn) {
+    let mut it = convert(answers.iter().copied());
     let mut calls = 0u32;
     let found = it.find(|x: &u32| {
         calls = calls.wrapping_add(1);
-        Ok(*x == 2)
+        if *x == failing {
+            Err(29)
+        } else {
+            Ok(*x == wanted)
+        }
     });
-    assert_eq!(rt; found, Ok(Some(2)));
-    assert_eq!(rt; calls, 3);
-    Ok(())
+    (found, calls, it.next())
+}
+
+#[test]
+fn find_stops_at_the_first_item_that_decides(rt: HostRuntime) {
+    let four = [Ok(0), Ok(1), Ok(2), Ok(3)];
+    assert_eq!(rt; find_one(&four, 1, NOWHERE), (Ok(Some(1)), 2, Ok(Some(2))));
+    assert_eq!(rt; find_one(&four, 2, NOWHERE), (Ok(Some(2)), 3, Ok(Some(3))));
+    assert_eq!(rt; find_one(&four, NOWHERE, 2), (Err(29), 3, Ok(Some(3))));
+    assert_eq!(rt; find_one(&four, 0, 2), (Ok(Some(0)), 1, Ok(Some(1))));
+}
+
+#[test]
+fn find_fails_at_a_failure_and_goes_on_after_it(rt: HostRuntime) {
+    let answers = [Ok(0), Err(9), Ok(2)];
+    let mut it = convert(answers.iter().copied());
+    assert_eq!(rt; it.find(|x: &u32| Ok(*x == 2)), Err(9));
+    assert_eq!(rt; it.find(|x: &u32| Ok(*x == 2)), Ok(Some(2)));
+    assert_eq!(rt; it.find(|x: &u32| Ok(*x == 2)), Ok(None));
 }
 
 // What a search for `first` and one for `second` find, and what is drawn after each.
@@ -205,49 +188,58 @@ fn find_within_a_flatten_keeps_the_inner_iterator(rt: HostRuntime) -> Result<(),
 }
 
 #[test]
-fn find_map_answers_the_first_value(rt: HostRuntime) -> Result<(), Fail> {
-    let mut it = listed::<u32, (), 4>(rt.alloc(), [Ok(0), Ok(1), Ok(2), Ok(3)])?;
-    let found = it.find_map(|x: u32| Ok(if x == 2 { Some("hi") } else { None }));
-    assert_eq!(rt; found, Ok(Some("hi")));
-    assert_eq!(rt; it.next(), Ok(Some(3)));
-    Ok(())
-}
-
-#[test]
-fn find_map_calls_its_closure_once_an_item(rt: HostRuntime) -> Result<(), Fail> {
-    let mut it = listed::<u32, (), 4>(rt.alloc(), [Ok(0), Ok(1), Ok(2), Ok(3)])?;
+fn find_map_answers_the_first_value_and_calls_its_closure_once_an_item(rt: HostRuntime) {
+    let four: [Result<u32, u32>; 4] = [Ok(0), Ok(1), Ok(2), Ok(3)];
+    let mut it = convert(four.iter().copied());
     let mut calls = 0u32;
     let found = it.find_map(|x: u32| {
         calls = calls.wrapping_add(1);
-        Ok(if x == 2 { Some(calls) } else { None })
+        Ok(if x == 2 { Some(("hi", calls)) } else { None })
     });
-    assert_eq!(rt; found, Ok(Some(3)));
-    assert_eq!(rt; calls, 3);
-    Ok(())
+    assert_eq!(rt; (found, calls), (Ok(Some(("hi", 3))), 3));
+    assert_eq!(rt; it.next(), Ok(Some(3)));
+}
+
+// What three searches for the items `wanted` count, one after another, with a predicate that fails with 42 at `failing`.
+fn positions(
+    answers: &[Result<u32, u32>],
+    wanted: [u32; 3],
+    failing: u32,
+) -> [Result<Option<usize>, u32>; 3] {
+    let mut it = convert(answers.iter().copied());
+    let [first, second, third] = wanted;
+    [
+        it.position(|x: u32| if x == failing {
+            Err(42)
+        } else {
+            Ok(x == first)
+        }),
+        it.position(|x: u32| if x == failing {
+            Err(42)
+        } else {
+            Ok(x == second)
+        }),
+        it.position(|x: u32| if x == failing {
+            Err(42)
+        } else {
+            Ok(x == third)
+        }),
+    ]
 }
 
 #[test]
-fn position_counts_the_items_before(rt: HostRuntime) -> Result<(), Fail> {
-    let mut it = listed::<u32, (), 4>(rt.alloc(), [Ok(1), Ok(2), Ok(3), Ok(4)])?;
-    assert_eq!(rt; it.position(|x: u32| Ok(x == 2)), Ok(Some(1)));
-    assert_eq!(rt; it.position(|x: u32| Ok(x == 3)), Ok(Some(0)));
-    assert_eq!(rt; it.position(|x: u32| Ok(x == 5)), Ok(None));
-    Ok(())
-}
-
-#[test]
-fn position_of_an_item_before_a_failing_call(rt: HostRuntime) -> Result<(), Fail> {
-    let mut it = listed::<u32, u32, 4>(rt.alloc(), [Ok(1), Ok(2), Ok(3), Ok(4)])?;
-    let found = it.position(|x: u32| if x == 3 { Err(42) } else { Ok(x == 2) });
-    assert_eq!(rt; found, Ok(Some(1)));
-    Ok(())
-}
-
-#[test]
-fn position_fails_where_its_predicate_fails(rt: HostRuntime) -> Result<(), Fail> {
-    let mut it = listed::<u32, u32, 4>(rt.alloc(), [Ok(1), Ok(2), Ok(3), Ok(4)])?;
-    let found = it.position(|x: u32| if x == 3 { Err(42) } else { Ok(x == 4) });
-    assert_eq!(rt; found, Err(42));
-    assert_eq!(rt; it.next(), Ok(Some(4)));
-    Ok(())
+fn position_counts_the_items_before_and_fails_where_its_predicate_fails(rt: HostRuntime) {
+    let four = [Ok(1), Ok(2), Ok(3), Ok(4)];
+    assert_eq!(rt;
+        positions(&four, [2, 3, 5], NOWHERE),
+        [Ok(Some(1)), Ok(Some(0)), Ok(None)]
+    );
+    assert_eq!(rt;
+        positions(&four, [2, 4, 4], 3),
+        [Ok(Some(1)), Err(42), Ok(Some(0))]
+    );
+    assert_eq!(rt;
+        positions(&four, [4, 4, 4], 3),
+        [Err(42), Ok(Some(0)), Ok(None)]
+    );
 }

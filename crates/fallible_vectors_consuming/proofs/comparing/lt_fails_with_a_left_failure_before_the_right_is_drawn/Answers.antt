@@ -1,6 +1,0 @@
--- Both sides have an end.
-use Rattle.std.proofs.Common.{inl}
-use Rattle.fallible_vectors_consuming.proofs.comparing.lt_fails_with_a_left_failure_before_the_right_is_drawn.Goals as goal
-
-pub lt-requires-clause-finite : goal.lt-requires-clause-finite
-lt-requires-clause-finite g c = inl tt
