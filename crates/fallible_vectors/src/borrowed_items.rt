@@ -1,5 +1,6 @@
 // Items and inner iterators that borrow from what a caller lends.
 use fallible_iterator::{FallibleIterator, Fault, IntoFallible, convert};
+use fallible_testing::collected::{expect_collected, expect_source_fault};
 use std::alloc::Global;
 use std::convert::Infallible;
 use std::test::Fail;
@@ -24,23 +25,13 @@ fn listed_numbers(alloc: Global, pages: &[&[u32]]) -> Result<Vec<u32>, Fault<usi
 }
 
 #[test]
-fn lent_pages_are_collected(rt: HostRuntime) {
+fn lent_pages_are_collected_up_to_a_failure(rt: HostRuntime) -> Result<(), Fail> {
     let (first, second, third) = ([1, 2], [], [3]);
     let pages = [first.as_slice(), second.as_slice(), third.as_slice()];
-    match listed_numbers(rt.alloc(), pages.as_slice()) {
-        Ok(items) => assert_eq!(rt; items.as_slice(), [1, 2, 3].as_slice()),
-        Err(_) => panic!(rt; "it failed"),
-    }
-}
-
-#[test]
-fn a_failure_on_a_lent_page_stops_the_drain(rt: HostRuntime) {
-    let (first, second) = ([1, 2], [3, 0, 4]);
-    let pages = [first.as_slice(), second.as_slice()];
-    match listed_numbers(rt.alloc(), pages.as_slice()) {
-        Err(Fault::Source(size)) => assert_eq!(rt; size, 3),
-        _ => panic!(rt; "it did not fail"),
-    }
+    expect_collected(listed_numbers(rt.alloc(), pages.as_slice()), &[1, 2, 3])?;
+    let failing = [3, 0, 4];
+    let pages = [first.as_slice(), failing.as_slice()];
+    expect_source_fault(listed_numbers(rt.alloc(), pages.as_slice()), 3)
 }
 
 // How many items the pages have, up to 9.
@@ -117,7 +108,7 @@ fn short_words_after_a_short_one(text: &str) -> Result<usize, ()> {
 }
 
 #[test]
-fn borrowed_words_are_peeked_at(rt: HostRuntime) -> Result<(), Fail> {
+fn borrowed_words_are_peeked_at(rt: HostRuntime) {
     assert_eq!(rt;
         short_words_after_a_short_one("one two six three ten"),
         Ok(2)
@@ -136,5 +127,4 @@ fn borrowed_words_are_peeked_at(rt: HostRuntime) -> Result<(), Fail> {
         Ok(items) => assert_eq!(rt; items.as_slice(), [3].as_slice()),
         Err(_) => panic!(rt; "it failed"),
     }
-    Ok(())
 }

@@ -1,10 +1,12 @@
 // Collections.
 ghost use Rattle.std.specs.Prelude.{⊤};
 
-use fallible_iterator::{Collect, FallibleIterator, Fault, IntoFallible, IteratorExt};
+use fallible_iterator::{Collect, FallibleIterator, Fault, IntoFallible, IteratorExt, convert};
 use fallible_testing::collected::{expect_collected, expect_refused, expect_source_fault};
 use fallible_testing::listed::listed;
 use std::alloc::{AllocError, Global};
+use std::convert::Infallible;
+use std::ops::Range;
 use std::test::Fail;
 
 // Even items pass where 3 divides them, and odd ones fail.
@@ -18,57 +20,83 @@ fn even_thirds(x: &u32) -> Result<bool, u32> {
 
 #[test]
 fn collect_doubled(rt: HostRuntime) -> Result<(), Fail> {
-    let it = listed::<u32, u32, 5>(rt.alloc(), [Ok(0), Ok(1), Ok(2), Ok(3), Ok(4)])?;
-    let it = it.map(|x: u32| Ok(x.wrapping_mul(2)));
+    let answers: [Result<u32, u32>; 5] = [Ok(0), Ok(1), Ok(2), Ok(3), Ok(4)];
+    let it = convert(answers.iter().copied()).map(|x: u32| Ok(x.wrapping_mul(2)));
     expect_collected(it.collect(rt.alloc()), &[0, 2, 4, 6, 8])
 }
 
-#[test]
-fn collect_fails_at_the_first_failure(rt: HostRuntime) -> Result<(), Fail> {
-    let it = listed::<u32, u32, 4>(rt.alloc(), [Ok(0), Err(1), Ok(2), Err(3)])?;
-    expect_source_fault(it.collect::<Vec<u32>>(rt.alloc()), 1)
+// What `collect` through a reference makes of the answers, and what the next draw answers.
+fn collected(
+    alloc: Global,
+    answers: &[Result<u32, u32>],
+) -> (Result<Vec<u32>, Fault<u32>>, Result<Option<u32>, u32>) {
+    let mut it = convert(answers.iter().copied());
+    (it.by_ref().collect(alloc), it.next())
 }
 
 #[test]
-fn collect_fails_as_map_err_makes_it(rt: HostRuntime) -> Result<(), Fail> {
-    let it = listed::<u32, u32, 2>(rt.alloc(), [Ok(1), Err(5)])?;
-    let it = it.map_err(|e: u32| e.wrapping_add(100));
-    expect_source_fault(it.collect::<Vec<u32>>(rt.alloc()), 105)
-}
-
-#[test]
-fn collect_filtered_fails_by_the_predicate(rt: HostRuntime) -> Result<(), Fail> {
-    let it = listed::<u32, u32, 4>(rt.alloc(), [Ok(0), Ok(1), Ok(2), Ok(3)])?;
-    expect_source_fault(it.filter(even_thirds).collect::<Vec<u32>>(rt.alloc()), 1)
-}
-
-#[test]
-fn collect_filtered(rt: HostRuntime) -> Result<(), Fail> {
-    let it = listed::<u32, u32, 4>(rt.alloc(), [Ok(0), Ok(2), Ok(4), Ok(6)])?;
-    expect_collected(it.filter(even_thirds).collect(rt.alloc()), &[0, 6])
-}
-
-#[test]
-fn collect_from_a_std_iterator(rt: HostRuntime) -> Result<(), Fail> {
-    let it = IntoFallible::from(0..4u32);
-    expect_collected(it.collect(rt.alloc()), &[0, 1, 2, 3])
-}
-
-#[test]
-fn collect_after_into_fallible(rt: HostRuntime) -> Result<(), Fail> {
-    let it = (0..4u32).into_fallible();
-    expect_collected(it.collect(rt.alloc()), &[0, 1, 2, 3])
+fn collect_fails_at_the_first_failure_and_draws_nothing_after_it(
+    rt: HostRuntime,
+) -> Result<(), Fail> {
+    let (made, next) = collected(rt.alloc(), &[Ok(0), Err(1), Ok(2), Err(3)]);
+    expect_source_fault(made, 1)?;
+    assert_eq!(rt; next, Ok(Some(2)));
+    let (made, next) = collected(rt.alloc(), &[Ok(0), Err(1), Ok(2)]);
+    expect_source_fault(made, 1)?;
+    assert_eq!(rt; next, Ok(Some(2)));
+    Ok(())
 }
 
 // A `Vec` grows with its items, by a factor: for five of them it has nowhere near 1,000 places.
 #[test]
-fn collect_takes_no_room_ahead(rt: HostRuntime) -> Result<(), Fail> {
-    let it = listed::<u32, u32, 5>(rt.alloc(), [Ok(0), Ok(1), Ok(2), Ok(3), Ok(4)])?;
-    let items = it
-        .collect::<Vec<u32>>(rt.alloc())
-        .expect(&rt, "a collection");
-    assert!(rt; items.capacity() < 1_000);
-    Ok(())
+fn collect_takes_no_room_ahead(rt: HostRuntime) {
+    let (made, _) = collected(rt.alloc(), &[Ok(0), Ok(1), Ok(2), Ok(3), Ok(4)]);
+    assert!(rt; made.expect(&rt, "a collection").capacity() < 1_000);
+}
+
+#[test]
+fn collect_fails_as_map_err_makes_it(rt: HostRuntime) -> Result<(), Fail> {
+    let answers: [Result<u32, u32>; 2] = [Ok(1), Err(5)];
+    let it = convert(answers.iter().copied()).map_err(|e: u32| e.wrapping_add(100));
+    expect_source_fault(it.collect::<Vec<u32>>(rt.alloc()), 105)
+}
+
+// What `collect` makes of the answers that `even_thirds` lets pass.
+fn collected_even_thirds(
+    alloc: Global,
+    answers: &[Result<u32, u32>],
+) -> Result<Vec<u32>, Fault<u32>> {
+    convert(answers.iter().copied())
+        .filter(even_thirds)
+        .collect(alloc)
+}
+
+#[test]
+fn collect_filtered_and_fails_by_the_predicate(rt: HostRuntime) -> Result<(), Fail> {
+    let made = collected_even_thirds(rt.alloc(), &[Ok(0), Ok(2), Ok(4), Ok(6)]);
+    expect_collected(made, &[0, 6])?;
+    let made = collected_even_thirds(rt.alloc(), &[Ok(0), Ok(1), Ok(2), Ok(3)]);
+    expect_source_fault(made, 1)
+}
+
+// What `collect` makes of the numbers of a range.
+fn collected_range(
+    alloc: Global,
+    it: IntoFallible<Range<u32>>,
+) -> Result<Vec<u32>, Fault<Infallible>> {
+    it.collect(alloc)
+}
+
+#[test]
+fn collect_from_a_std_iterator(rt: HostRuntime) -> Result<(), Fail> {
+    expect_collected(
+        collected_range(rt.alloc(), IntoFallible::from(0..4)),
+        &[0, 1, 2, 3],
+    )?;
+    expect_collected(
+        collected_range(rt.alloc(), (0..4).into_fallible()),
+        &[0, 1, 2, 3],
+    )
 }
 
 // A collection of a user's own, which counts and never refuses.
@@ -95,11 +123,10 @@ impl Collect<u32> for Total {
 }
 
 #[test]
-fn collect_into_a_collection_that_counts(rt: HostRuntime) -> Result<(), Fail> {
-    let it = listed::<u32, u32, 3>(rt.alloc(), [Ok(1), Ok(2), Ok(3)])?;
-    let total = it.collect::<Total>(rt.alloc()).expect(&rt, "a collection");
-    assert_eq!(rt; total.count, 3);
-    Ok(())
+fn collect_into_a_collection_that_counts(rt: HostRuntime) {
+    let answers: [Result<u32, u32>; 3] = [Ok(1), Ok(2), Ok(3)];
+    let made = convert(answers.iter().copied()).collect::<Total>(rt.alloc());
+    assert_eq!(rt; made.expect(&rt, "a collection").count, 3);
 }
 
 // A collection that asks for more room at each push than there is.
@@ -146,7 +173,8 @@ fn collect_into_a_vec_whose_request_may_be_refused(rt: HostRuntime) -> Result<()
 
 #[test]
 fn collect_refused_memory_leaves_the_rest(rt: HostRuntime) -> Result<(), Fail> {
-    let mut it = listed::<u32, u32, 3>(rt.alloc(), [Ok(1), Ok(2), Ok(3)])?;
+    let answers: [Result<u32, u32>; 3] = [Ok(1), Ok(2), Ok(3)];
+    let mut it = convert(answers.iter().copied());
     expect_refused(it.by_ref().collect::<Hungry>(rt.alloc()))?;
     assert_eq!(rt; it.next(), Ok(Some(2)));
     Ok(())

@@ -2,11 +2,9 @@
 ghost use Rattle.fallible_contract.specs.Contract.{seen_as};
 ghost use Rattle.fallible_contract.specs.Laws.Contract.{lawful_seen};
 
-use fallible_iterator::FallibleIterator;
 use fallible_iterator::folds::Is;
-use fallible_testing::listed::listed;
+use fallible_iterator::{FallibleIterator, convert};
 use std::cell::Cell;
-use std::test::Fail;
 
 // Numbers from a source, and how often each of its own folds was called.
 #[derive(Drop)]
@@ -58,11 +56,11 @@ impl<'a, I: FallibleIterator<Item = u32, Error = u32>> FallibleIterator for Watc
 }
 
 #[test]
-fn its_own_try_fold_is_used(rt: HostRuntime) -> Result<(), Fail> {
-    let it = listed::<u32, u32, 4>(rt.alloc(), [Ok(1), Ok(2), Ok(4), Ok(8)])?;
+fn its_own_try_fold_is_used(rt: HostRuntime) {
+    let answers: [Result<u32, u32>; 4] = [Ok(1), Ok(2), Ok(4), Ok(8)];
     let (try_folds, folds) = (Cell::new(0), Cell::new(0));
     let mut watched = Watched {
-        it,
+        it: convert(answers.iter().copied()),
         try_folds: &try_folds,
         folds: &folds,
     };
@@ -76,20 +74,18 @@ fn its_own_try_fold_is_used(rt: HostRuntime) -> Result<(), Fail> {
     assert_eq!(rt; stopped, Err(2));
     assert_eq!(rt; (try_folds.get(), folds.get()), (1, 0));
     assert_eq!(rt; watched.next(), Ok(Some(4)));
-    Ok(())
 }
 
 // The trait's own `fold` goes through `try_fold`.
 #[test]
-fn its_own_fold_is_used_and_fails_as_its_source(rt: HostRuntime) -> Result<(), Fail> {
-    let it = listed::<u32, u32, 3>(rt.alloc(), [Ok(1), Err(7), Ok(2)])?;
+fn its_own_fold_is_used_and_fails_as_its_source(rt: HostRuntime) {
+    let answers: [Result<u32, u32>; 3] = [Ok(1), Err(7), Ok(2)];
     let (try_folds, folds) = (Cell::new(0), Cell::new(0));
     let watched = Watched {
-        it,
+        it: convert(answers.iter().copied()),
         try_folds: &try_folds,
         folds: &folds,
     };
     assert_eq!(rt; watched.fold(0, |sum, x| Ok(x.wrapping_add(sum))), Err(7));
     assert_eq!(rt; (try_folds.get(), folds.get()), (0, 1));
-    Ok(())
 }

@@ -1,11 +1,10 @@
 // The trait's own methods.
 ghost use Rattle.std.specs.Prelude.{◌≡◌, Ok};
 
+use fallible_iterator::laws::Answer;
 use fallible_iterator::laws::Answer::{End, Failure, Item};
-use fallible_iterator::laws::answers;
 use fallible_iterator::{FallibleIterator, convert, once, once_err};
 use fallible_testing::answered::expect_answers;
-use fallible_testing::listed::listed;
 use std::test::Fail;
 
 // The sum, which fails with an item above 2.
@@ -17,32 +16,26 @@ fn checked_sum(sum: u32, x: u32) -> Result<u32, u32> {
     }
 }
 
-#[test]
-fn count_of_four_items(rt: HostRuntime) -> Result<(), Fail> {
-    let it = listed::<u32, u32, 4>(rt.alloc(), [Ok(0), Ok(1), Ok(2), Ok(3)])?;
-    assert_eq!(rt; it.count(), Ok(4));
-    Ok(())
+// How many items the answers have.
+fn counted(answers: &[Result<u32, u32>]) -> Result<usize, u32> {
+    convert(answers.iter().copied()).count()
 }
 
 #[test]
-fn count_fails_at_the_first_failure(rt: HostRuntime) -> Result<(), Fail> {
-    let it = listed::<u32, u32, 3>(rt.alloc(), [Ok(0), Err(7), Err(8)])?;
-    assert_eq!(rt; it.count(), Err(7));
-    Ok(())
+fn count_gives_the_number_of_items_or_the_first_failure(rt: HostRuntime) {
+    assert_eq!(rt; counted(&[Ok(0), Ok(1), Ok(2), Ok(3)]), Ok(4));
+    assert_eq!(rt; counted(&[Ok(0), Err(7), Err(8)]), Err(7));
+}
+
+// What `checked_sum` makes of the answers.
+fn summed(answers: &[Result<u32, u32>]) -> Result<u32, u32> {
+    convert(answers.iter().copied()).fold(0, checked_sum)
 }
 
 #[test]
-fn fold_fails_by_its_closure(rt: HostRuntime) -> Result<(), Fail> {
-    let it = listed::<u32, u32, 4>(rt.alloc(), [Ok(0), Ok(1), Ok(3), Ok(2)])?;
-    assert_eq!(rt; it.fold(0, checked_sum), Err(3));
-    Ok(())
-}
-
-#[test]
-fn fold_sums(rt: HostRuntime) -> Result<(), Fail> {
-    let it = listed::<u32, u32, 4>(rt.alloc(), [Ok(0), Ok(1), Ok(2), Ok(1)])?;
-    assert_eq!(rt; it.fold(0, checked_sum), Ok(4));
-    Ok(())
+fn fold_sums_or_fails_by_its_closure(rt: HostRuntime) {
+    assert_eq!(rt; summed(&[Ok(0), Ok(1), Ok(2), Ok(1)]), Ok(4));
+    assert_eq!(rt; summed(&[Ok(0), Ok(1), Ok(3), Ok(2)]), Err(3));
 }
 
 // The contract alone says what a fold answers: here the closure's answer on the one item.
@@ -63,8 +56,9 @@ fn fold_of_one_item(rt: HostRuntime) {
 }
 
 #[test]
-fn try_fold_stops_and_leaves_the_rest(rt: HostRuntime) -> Result<(), Fail> {
-    let mut it = listed::<u32, u32, 4>(rt.alloc(), [Ok(1), Ok(2), Ok(3), Err(9)])?;
+fn try_fold_stops_and_leaves_the_rest(rt: HostRuntime) {
+    let answers: [Result<u32, u32>; 4] = [Ok(1), Ok(2), Ok(3), Err(9)];
+    let mut it = convert(answers.iter().copied());
     let stopped: Result<u32, u32> = it.try_fold(0, |sum: u32, x: u32| {
         if x == 2 {
             Err(7)
@@ -73,32 +67,51 @@ fn try_fold_stops_and_leaves_the_rest(rt: HostRuntime) -> Result<(), Fail> {
         }
     });
     assert_eq!(rt; stopped, Err(7));
-    expect_answers(&rt, &mut it, &[Item(3), Failure(9)])
+    assert_eq!(rt; [it.next(), it.next()], [Ok(Some(3)), Err(9)]);
 }
 
 #[test]
-fn answers_of_a_failure(rt: HostRuntime) -> Result<(), Fail> {
+fn once_err_fails_and_ends(rt: HostRuntime) {
     let mut it = once_err::<u32, u32>(4);
-    expect_answers(&rt, &mut it, &[Failure(4), End, End])
+    assert_eq!(rt;
+        [it.next(), it.next(), it.next()],
+        [Err(4), Ok(None), Ok(None)]
+    );
 }
 
-#[test]
-fn no_answers_draw_nothing(rt: HostRuntime) -> Result<(), Fail> {
-    let mut it = once::<u32, u32>(5);
-    let drawn = answers(rt.alloc(), &mut it, 0)?;
-    assert_eq!(rt; drawn.len(), 0);
-    assert_eq!(rt; it.next(), Ok(Some(5)));
-    Ok(())
+// Fails the test where the first draws are not as expected, and gives the one after them.
+fn next_after(
+    rt: &HostRuntime,
+    answers: &[Result<u32, u32>],
+    expected: &[Answer<u32, u32>],
+) -> Result<Result<Option<u32>, u32>, Fail> {
+    let mut it = convert(answers.iter().copied());
+    expect_answers(rt, &mut it, expected)?;
+    Ok(it.next())
 }
 
 #[test]
 fn answers_go_on_after_a_failure(rt: HostRuntime) -> Result<(), Fail> {
-    let mut it = listed::<u32, u32, 3>(rt.alloc(), [Ok(1), Err(2), Ok(3)])?;
-    expect_answers(&rt, &mut it, &[Item(1), Failure(2), Item(3), End])
+    let expected = [Item(1), Failure(2), Item(3), End];
+    assert_eq!(rt;
+        next_after(&rt, &[Ok(1), Err(2), Ok(3)], &expected)?,
+        Ok(None)
+    );
+    assert_eq!(rt;
+        next_after(&rt, &[Err(4)], &[Failure(4), End, End])?,
+        Ok(None)
+    );
+    Ok(())
 }
 
 #[test]
-fn count_of_rows_above_100_fails_at_a_bad_row(rt: HostRuntime) -> Result<(), Fail> {
+fn no_answers_draw_nothing(rt: HostRuntime) -> Result<(), Fail> {
+    assert_eq!(rt; next_after(&rt, &[Ok(5)], &[])?, Ok(Some(5)));
+    Ok(())
+}
+
+#[test]
+fn count_of_rows_above_100_fails_at_a_bad_row(rt: HostRuntime) {
     let rows = "100\n200\nfern\n400"
         .lines()
         .map(|line| Ok::<&str, ()>(line));
@@ -109,7 +122,6 @@ fn count_of_rows_above_100_fails_at_a_bad_row(rt: HostRuntime) -> Result<(), Fai
         })
         .count();
     assert_eq!(rt; above, Err(()));
-    Ok(())
 }
 
 // The types of the closure are found, over borrowed items too.
@@ -136,14 +148,16 @@ where
     it.fold(0, |n, _x| Ok(n.wrapping_add(1)))
 }
 
+// How many steps the answers take.
+fn steps_over(answers: &[Result<u32, u32>]) -> Result<u32, u32> {
+    steps_taken(convert(answers.iter().copied()))
+}
+
 #[test]
-fn fold_in_a_generic_function(rt: HostRuntime) -> Result<(), Fail> {
+fn fold_in_a_generic_function(rt: HostRuntime) {
     assert_eq!(rt; steps_taken(once::<u32, u32>(5)), Ok(1));
-    let it = listed::<u32, u32, 3>(rt.alloc(), [Ok(5), Ok(6), Ok(7)])?;
-    assert_eq!(rt; steps_taken(it), Ok(3));
-    let it = listed::<u32, u32, 3>(rt.alloc(), [Ok(5), Err(6), Ok(7)])?;
-    assert_eq!(rt; steps_taken(it), Err(6));
-    Ok(())
+    assert_eq!(rt; steps_over(&[Ok(5), Ok(6), Ok(7)]), Ok(3));
+    assert_eq!(rt; steps_over(&[Ok(5), Err(6), Ok(7)]), Err(6));
 }
 
 // The greatest length of the items, 0 where there are none.
@@ -185,8 +199,7 @@ where
 }
 
 #[test]
-fn fold_that_calls_a_method_of_its_items_bound(rt: HostRuntime) -> Result<(), Fail> {
-    let it = listed::<u32, u32, 3>(rt.alloc(), [Ok(5), Ok(6), Ok(5)])?;
-    assert_eq!(rt; equal_to(it, &5), Ok(2));
-    Ok(())
+fn fold_that_calls_a_method_of_its_items_bound(rt: HostRuntime) {
+    let answers: [Result<u32, u32>; 3] = [Ok(5), Ok(6), Ok(5)];
+    assert_eq!(rt; equal_to(convert(answers.iter().copied()), &5), Ok(2));
 }

@@ -5,7 +5,6 @@ ghost use Rattle.fallible_contract.specs.Contract.{counting_down};
 ghost use Rattle.fallible_contract.specs.Ends.{counting_down_ends};
 
 use fallible_iterator::{DoubleEndedFallibleIterator, FallibleIterator};
-use std::test::Fail;
 
 // The numbers from `low` to below `high`.
 #[derive(Drop)]
@@ -62,12 +61,11 @@ fn is_drawn_from_both_ends(rt: HostRuntime) {
 }
 
 #[test]
-fn is_mapped_and_reversed(rt: HostRuntime) -> Result<(), Fail> {
+fn is_mapped_and_reversed(rt: HostRuntime) {
     let it = Between { low: 1, left: 3 };
     let folded = it.map(|x: u32| Ok(x.wrapping_mul(2))).rev().fold(
         0,
         |made: u32, x: u32| Ok(made.wrapping_mul(10).wrapping_add(x)),
     );
     assert_eq!(rt; folded, Ok(642));
-    Ok(())
 }
