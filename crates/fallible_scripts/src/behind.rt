@@ -3,8 +3,8 @@ ghost use Rattle.fallible_contract.specs.Contract.{Stays};
 ghost use Rattle.fallible_contract.specs.Ends.{from_back};
 
 use crate::counted::{Counted, Log};
-use fallible_iterator::{DoubleEndedFallibleIterator, FallibleIterator};
-use fallible_testing::listed::listed;
+use crate::shared::{add_up, counted, hundred_more, is_even, put_behind, tens_of_even};
+use fallible_iterator::{DoubleEndedFallibleIterator, FallibleIterator, convert};
 use fallible_testing::test_error::TestError;
 use std::test::Fail;
 
@@ -17,40 +17,38 @@ where
     requires finite { I.contract.has_end it.old }
     ensures { Stays (from_back I.contract I.ends) it.old it.new }
 {
-    it.try_rfold(
-        0,
-        |digits: u32, x: u32| Ok(digits.wrapping_mul(10).wrapping_add(x)),
-    )
+    it.try_rfold(0, put_behind)
 }
 
 #[test]
-fn rev_counts_by_one_fold_from_behind(rt: HostRuntime) -> Result<(), Fail> {
+fn rev_counts_by_one_fold_from_behind(rt: HostRuntime) {
     let log = Log::new();
-    let it = listed::<u32, u32, 4>(rt.alloc(), [Ok(0), Err(1), Ok(2), Err(3)])?;
-    assert_eq!(rt; Counted::new(it, &log).rev().count(), Err(3));
+    let answers = [Ok(0), Err(1), Ok(2), Err(3)];
+    assert_eq!(rt; counted(&answers, &log).rev().count(), Err(3));
     assert_eq!(rt; log.read(), [0, 0, 0, 1, 0, 0, 0, 0]);
-    Ok(())
+}
+
+// Fails with its first item.
+fn stop(_: u32, x: u32) -> Result<u32, u32> {
+    Err(x)
 }
 
 #[test]
-fn rev_folds_by_one_fold_of_the_other_end(rt: HostRuntime) -> Result<(), Fail> {
+fn rev_folds_by_one_fold_of_the_other_end(rt: HostRuntime) {
     let log = Log::new();
-    let it = listed::<u32, u32, 3>(rt.alloc(), [Ok(1), Ok(2), Ok(3)])?;
-    let mut it = Counted::new(it, &log).rev();
-    let stopped: Result<u32, u32> = it.try_rfold(0, |_: u32, x: u32| Err(x));
-    assert_eq!(rt; stopped, Err(1));
-    let stopped: Result<u32, u32> = it.try_fold(0, |_: u32, x: u32| Err(x));
-    assert_eq!(rt; stopped, Err(3));
+    let answers = [Ok(1), Ok(2), Ok(3)];
+    let mut it = counted(&answers, &log).rev();
+    assert_eq!(rt; it.try_rfold(0, stop), Err(1));
+    assert_eq!(rt; it.try_fold(0, stop), Err(3));
     assert_eq!(rt; log.read(), [0, 0, 1, 1, 0, 0, 0, 0]);
-    Ok(())
 }
 
 #[test]
-fn map_stopped_from_behind_goes_on_at_both_ends(rt: HostRuntime) -> Result<(), Fail> {
+fn map_stopped_from_behind_goes_on_at_both_ends(rt: HostRuntime) {
     let log = Log::new();
-    let it = listed::<u32, u32, 4>(rt.alloc(), [Ok(1), Ok(2), Ok(3), Ok(4)])?;
+    let answers = [Ok(1), Ok(2), Ok(3), Ok(4)];
     let mut calls: u32 = 0;
-    let mut it = Counted::new(it, &log).map(|x: u32| {
+    let mut it = counted(&answers, &log).map(|x: u32| {
         calls = calls.wrapping_add(1);
         Ok(x.wrapping_mul(10).wrapping_add(calls))
     });
@@ -65,55 +63,41 @@ fn map_stopped_from_behind_goes_on_at_both_ends(rt: HostRuntime) -> Result<(), F
     assert_eq!(rt; it.draw_back(), Ok(Some(23)));
     assert_eq!(rt; it.draw_front(), Ok(Some(14)));
     assert_eq!(rt; log.read(), [1, 1, 0, 1, 0, 0, 0, 0]);
-    Ok(())
 }
 
 #[test]
-fn filter_draws_from_behind_by_folds(rt: HostRuntime) -> Result<(), Fail> {
+fn filter_draws_and_folds_from_behind_by_folds(rt: HostRuntime) {
     let log = Log::new();
-    let it = listed::<u32, u32, 4>(rt.alloc(), [Ok(1), Ok(2), Ok(3), Ok(4)])?;
-    let mut it = Counted::new(it, &log).filter(|x: &u32| Ok(*x % 2 == 0));
+    let answers = [Ok(1), Ok(2), Ok(3), Ok(4)];
+    let mut it = counted(&answers, &log).filter(is_even);
     assert_eq!(rt; it.draw_back(), Ok(Some(4)));
     assert_eq!(rt; it.draw_back(), Ok(Some(2)));
     assert_eq!(rt; log.read(), [0, 0, 0, 2, 0, 0, 0, 0]);
-    Ok(())
-}
-
-#[test]
-fn filter_folds_from_behind_by_one_fold(rt: HostRuntime) -> Result<(), Fail> {
-    let log = Log::new();
-    let it = listed::<u32, u32, 4>(rt.alloc(), [Ok(1), Ok(2), Ok(3), Ok(4)])?;
-    let mut it = Counted::new(it, &log).filter(|x: &u32| Ok(*x % 2 == 0));
-    let digits: Result<u32, u32> = it.try_rfold(
-        0,
-        |digits: u32, x: u32| Ok(digits.wrapping_mul(10).wrapping_add(x)),
-    );
-    assert_eq!(rt; digits, Ok(42));
-    assert_eq!(rt; log.read(), [0, 0, 0, 1, 0, 0, 0, 0]);
-    Ok(())
+    let mut it = counted(&answers, &log).filter(is_even);
+    assert_eq!(rt; it.try_rfold(0, put_behind), Ok(42));
+    assert_eq!(rt; log.read(), [0, 0, 0, 3, 0, 0, 0, 0]);
 }
 
 #[test]
 fn references_and_boxes_pass_folds_from_behind_on(rt: HostRuntime) -> Result<(), Fail> {
     let log = Log::new();
-    let it = listed::<u32, u32, 2>(rt.alloc(), [Ok(5), Ok(6)])?;
-    let mut it = Counted::new(it, &log);
+    let answers = [Ok(5), Ok(6)];
+    let mut it = counted(&answers, &log);
     let mut borrowed = &mut it;
     assert_eq!(rt; digits_from_behind(&mut borrowed), Ok(65));
     assert_eq!(rt; log.read(), [0, 0, 0, 1, 0, 0, 0, 0]);
-    let it = listed::<u32, u32, 2>(rt.alloc(), [Err(5), Ok(6)])?;
-    let mut boxed = Box::new(rt.alloc(), Counted::new(it, &log))?;
+    let answers = [Err(5), Ok(6)];
+    let mut boxed = Box::new(rt.alloc(), counted(&answers, &log))?;
     assert_eq!(rt; digits_from_behind(&mut boxed), Err(5));
     assert_eq!(rt; log.read(), [0, 0, 0, 2, 0, 0, 0, 0]);
     Ok(())
 }
 
 #[test]
-fn chain_stopped_in_its_back_goes_on_there(rt: HostRuntime) -> Result<(), Fail> {
+fn chain_stopped_in_its_back_goes_on_there(rt: HostRuntime) {
     let (fronts, backs) = (Log::new(), Log::new());
-    let front = listed::<u32, u32, 2>(rt.alloc(), [Ok(1), Ok(2)])?;
-    let back = listed::<u32, u32, 2>(rt.alloc(), [Ok(3), Ok(4)])?;
-    let mut it = Counted::new(front, &fronts).chain(Counted::new(back, &backs));
+    let (front, back) = ([Ok(1), Ok(2)], [Ok(3), Ok(4)]);
+    let mut it = counted(&front, &fronts).chain(counted(&back, &backs));
     let mut on = 0;
     let stopped: Result<u32, u32> = it.try_rfold(0, |_: u32, x: u32| {
         on = x;
@@ -125,14 +109,13 @@ fn chain_stopped_in_its_back_goes_on_there(rt: HostRuntime) -> Result<(), Fail> 
     assert_eq!(rt; it.next(), Ok(Some(1)));
     assert_eq!(rt; fronts.read(), [1, 0, 0, 0, 0, 0, 0, 0]);
     assert_eq!(rt; backs.read(), [0, 1, 0, 1, 0, 0, 0, 0]);
-    Ok(())
 }
 
 #[test]
-fn cloned_folds_from_behind_by_one_fold(rt: HostRuntime) -> Result<(), Fail> {
+fn cloned_folds_from_behind_by_one_fold(rt: HostRuntime) {
     let log = Log::new();
-    let (one, two) = (1, 2);
-    let it = listed::<&u32, TestError, 2>(rt.alloc(), [Ok(&one), Ok(&two)])?;
+    let numbers = [1, 2];
+    let it = convert(numbers.iter().map(|x| Ok::<&u32, TestError>(x)));
     let mut it = Counted::new(it, &log).cloned();
     let stopped: Result<u32, TestError> = it.try_rfold(
         0,
@@ -140,36 +123,28 @@ fn cloned_folds_from_behind_by_one_fold(rt: HostRuntime) -> Result<(), Fail> {
     );
     assert_eq!(rt; stopped, Err(TestError::Number(2)));
     assert_eq!(rt; log.read(), [0, 0, 0, 1, 0, 0, 0, 0]);
-    Ok(())
 }
 
 #[test]
-fn filter_map_draws_and_folds_from_behind_by_folds(rt: HostRuntime) -> Result<(), Fail> {
+fn filter_map_draws_and_folds_from_behind_by_folds(rt: HostRuntime) {
     let log = Log::new();
-    let it = listed::<u32, u32, 4>(rt.alloc(), [Ok(1), Ok(2), Ok(3), Ok(4)])?;
-    let mut it = Counted::new(it, &log).filter_map(|x: u32| {
-        if x % 2 == 0 {
-            Ok(Some(x.wrapping_mul(10)))
-        } else {
-            Ok(None)
-        }
-    });
+    let answers = [Ok(1), Ok(2), Ok(3), Ok(4)];
+    let mut it = counted(&answers, &log).filter_map(tens_of_even);
     assert_eq!(rt; it.draw_back(), Ok(Some(40)));
-    let sum: Result<u32, u32> = it.try_rfold(0, |sum: u32, x: u32| Ok(sum.wrapping_add(x)));
-    assert_eq!(rt; sum, Ok(20));
+    assert_eq!(rt; it.try_rfold(0, add_up), Ok(20));
     assert_eq!(rt; log.read(), [0, 0, 0, 2, 0, 0, 0, 0]);
-    Ok(())
+}
+
+// Fails with 9 on 1.
+fn look(x: &u32) -> Result<(), u32> {
+    if *x == 1 { Err(9) } else { Ok(()) }
 }
 
 #[test]
-fn inspect_and_map_err_fold_from_behind_by_one_fold(rt: HostRuntime) -> Result<(), Fail> {
+fn inspect_and_map_err_fold_from_behind_by_one_fold(rt: HostRuntime) {
     let log = Log::new();
-    let it = listed::<u32, u32, 3>(rt.alloc(), [Ok(1), Ok(2), Ok(3)])?;
-    let mut it = Counted::new(it, &log)
-        .inspect(|x: &u32| if *x == 1 { Err(9) } else { Ok(()) })
-        .map_err(|e: u32| e.wrapping_add(100));
-    let sum: Result<u32, u32> = it.try_rfold(0, |sum: u32, x: u32| Ok(sum.wrapping_add(x)));
-    assert_eq!(rt; sum, Err(109));
+    let answers = [Ok(1), Ok(2), Ok(3)];
+    let mut it = counted(&answers, &log).inspect(look).map_err(hundred_more);
+    assert_eq!(rt; it.try_rfold(0, add_up), Err(109));
     assert_eq!(rt; log.read(), [0, 0, 0, 1, 0, 0, 0, 0]);
-    Ok(())
 }

@@ -2,8 +2,10 @@
 ghost use Rattle.fallible_contract.specs.Contract.{Stays};
 
 use crate::counted::{Counted, Log};
-use fallible_iterator::FallibleIterator;
-use fallible_testing::listed::listed;
+use crate::shared::{
+    add_up, below_three, counted, hundred_more, is_even, numbers, ten_times, tens_of_even,
+};
+use fallible_iterator::{FallibleIterator, convert};
 use fallible_testing::test_error::TestError;
 use std::test::Fail;
 
@@ -26,86 +28,80 @@ where
     requires finite { I.contract.has_end it.old }
     ensures { Stays I.contract it.old it.new }
 {
-    it.try_fold(0, |sum: u32, x: u32| Ok(sum.wrapping_add(x)))
+    it.try_fold(0, add_up)
 }
 
 #[test]
-fn map_folds_by_one_fold(rt: HostRuntime) -> Result<(), Fail> {
+fn map_folds_by_one_fold(rt: HostRuntime) {
     let log = Log::new();
-    let it = listed::<u32, u32, 4>(rt.alloc(), [Ok(1), Ok(2), Ok(3), Ok(4)])?;
-    let mut it = Counted::new(it, &log).map(|x: u32| Ok(x.wrapping_mul(10)));
-    let sum: Result<u32, u32> = it.try_fold(0, |sum: u32, x: u32| Ok(sum.wrapping_add(x)));
-    assert_eq!(rt; sum, Ok(100));
+    let answers = [Ok(1), Ok(2), Ok(3), Ok(4)];
+    let mut it = counted(&answers, &log).map(ten_times);
+    assert_eq!(rt; it.try_fold(0, add_up), Ok(100));
     assert_eq!(rt; log.read(), [0, 0, 1, 0, 0, 0, 0, 0]);
-    Ok(())
 }
 
 #[test]
-fn filter_draws_by_folds(rt: HostRuntime) -> Result<(), Fail> {
+fn filter_draws_by_folds(rt: HostRuntime) {
     let log = Log::new();
-    let it = listed::<u32, u32, 4>(rt.alloc(), [Ok(1), Ok(2), Ok(3), Ok(4)])?;
-    let mut it = Counted::new(it, &log).filter(|x: &u32| Ok(*x % 2 == 0));
-    assert_eq!(rt; it.draw(), Ok(Some(2)));
-    assert_eq!(rt; it.draw(), Ok(Some(4)));
-    assert_eq!(rt; it.draw(), Ok(None));
+    let answers = [Ok(1), Ok(2), Ok(3), Ok(4)];
+    let mut it = counted(&answers, &log).filter(is_even);
+    assert_eq!(rt;
+        [it.draw(), it.draw(), it.draw()],
+        [Ok(Some(2)), Ok(Some(4)), Ok(None)]
+    );
     assert_eq!(rt; log.read(), [0, 0, 3, 0, 0, 0, 0, 0]);
-    Ok(())
+}
+
+// Fails with 3 on its first item.
+fn stop(_: u32, _: u32) -> Result<u32, u32> {
+    Err(3)
 }
 
 #[test]
-fn map_err_leaves_the_caller_s_error(rt: HostRuntime) -> Result<(), Fail> {
+fn map_err_leaves_the_caller_s_error(rt: HostRuntime) {
     let log = Log::new();
-    let it = listed::<u32, u32, 3>(rt.alloc(), [Ok(1), Err(5), Ok(2)])?;
-    let mut it = Counted::new(it, &log).map_err(|e: u32| e.wrapping_add(100));
-    let stopped: Result<u32, u32> = it.try_fold(0, |_: u32, _: u32| Err(3));
-    assert_eq!(rt; stopped, Err(3));
-    assert_eq!(rt; it.next(), Err(105));
-    assert_eq!(rt; it.next(), Ok(Some(2)));
+    let answers = [Ok(1), Err(5), Ok(2)];
+    let mut it = counted(&answers, &log).map_err(hundred_more);
+    assert_eq!(rt; it.try_fold(0, stop), Err(3));
+    assert_eq!(rt; [it.next(), it.next()], [Err(105), Ok(Some(2))]);
     assert_eq!(rt; log.read(), [2, 0, 1, 0, 0, 0, 0, 0]);
-    Ok(())
 }
 
 #[test]
-fn fuse_keeps_the_end_that_its_fold_met(rt: HostRuntime) -> Result<(), Fail> {
+fn fuse_keeps_the_end_that_its_fold_met(rt: HostRuntime) {
     let log = Log::new();
-    let it = listed::<u32, u32, 4>(rt.alloc(), [Ok(1), Ok(2), Ok(3), Ok(4)])?;
-    let mut it = Counted::new(it, &log).fuse();
-    let sum: Result<u32, u32> = it.try_fold(0, |sum: u32, x: u32| Ok(sum.wrapping_add(x)));
-    assert_eq!(rt; sum, Ok(10));
-    let again: Result<u32, u32> = it.try_fold(0, |sum: u32, x: u32| Ok(sum.wrapping_add(x)));
-    assert_eq!(rt; again, Ok(0));
+    let answers = [Ok(1), Ok(2), Ok(3), Ok(4)];
+    let mut it = counted(&answers, &log).fuse();
+    assert_eq!(rt; it.try_fold(0, add_up), Ok(10));
+    assert_eq!(rt; it.try_fold(0, add_up), Ok(0));
     assert_eq!(rt; log.read(), [0, 0, 1, 0, 0, 0, 0, 0]);
-    Ok(())
 }
 
 #[test]
-fn skip_while_draws_by_a_find(rt: HostRuntime) -> Result<(), Fail> {
+fn skip_while_draws_by_a_find(rt: HostRuntime) {
     let log = Log::new();
-    let it = listed::<u32, u32, 4>(rt.alloc(), [Ok(1), Ok(2), Ok(3), Ok(4)])?;
-    let mut it = Counted::new(it, &log).skip_while(|x: &u32| Ok(*x < 3));
-    assert_eq!(rt; it.draw(), Ok(Some(3)));
+    let answers = [Ok(1), Ok(2), Ok(3), Ok(4)];
+    let mut it = counted(&answers, &log).skip_while(below_three);
+    assert_eq!(rt; it.next(), Ok(Some(3)));
     assert_eq!(rt; log.read(), [0, 0, 0, 0, 0, 0, 0, 1]);
-    Ok(())
 }
 
 #[test]
-fn peekable_folds_what_it_holds_and_then_its_source(rt: HostRuntime) -> Result<(), Fail> {
+fn peekable_folds_what_it_holds_and_then_its_source(rt: HostRuntime) {
     let log = Log::new();
-    let it = listed::<u32, u32, 4>(rt.alloc(), [Ok(1), Ok(2), Ok(3), Ok(4)])?;
-    let mut it = Counted::new(it, &log).peekable();
+    let answers = [Ok(1), Ok(2), Ok(3), Ok(4)];
+    let mut it = counted(&answers, &log).peekable();
     assert_eq!(rt; it.peek_copied(), Ok(Some(1)));
-    let sum: Result<u32, u32> = it.try_fold(0, |sum: u32, x: u32| Ok(sum.wrapping_add(x)));
-    assert_eq!(rt; sum, Ok(10));
+    assert_eq!(rt; it.try_fold(0, add_up), Ok(10));
     assert_eq!(rt; log.read(), [1, 0, 1, 0, 0, 0, 0, 0]);
-    Ok(())
 }
 
 #[test]
-fn filter_keeps_its_closure_where_a_fold_stops(rt: HostRuntime) -> Result<(), Fail> {
+fn filter_keeps_its_closure_where_a_fold_stops(rt: HostRuntime) {
     let log = Log::new();
-    let it = listed::<u32, u32, 5>(rt.alloc(), [Ok(1), Ok(2), Ok(3), Ok(4), Ok(5)])?;
+    let answers = [Ok(1), Ok(2), Ok(3), Ok(4), Ok(5)];
     let mut calls: u32 = 0;
-    let mut it = Counted::new(it, &log).filter(|_: &u32| {
+    let mut it = counted(&answers, &log).filter(|_: &u32| {
         calls = calls.wrapping_add(1);
         Ok(calls % 2 == 1)
     });
@@ -119,119 +115,101 @@ fn filter_keeps_its_closure_where_a_fold_stops(rt: HostRuntime) -> Result<(), Fa
     assert_eq!(rt; on, 3);
     assert_eq!(rt; it.draw(), Ok(Some(5)));
     assert_eq!(rt; log.read(), [0, 0, 3, 0, 0, 0, 0, 0]);
-    Ok(())
 }
 
 #[test]
-fn filter_map_draws_and_folds_by_folds(rt: HostRuntime) -> Result<(), Fail> {
+fn filter_map_draws_and_folds_by_folds(rt: HostRuntime) {
     let log = Log::new();
-    let it = listed::<u32, u32, 4>(rt.alloc(), [Ok(1), Ok(2), Ok(3), Ok(4)])?;
-    let mut it = Counted::new(it, &log).filter_map(|x: u32| {
-        if x % 2 == 0 {
-            Ok(Some(x.wrapping_mul(10)))
-        } else {
-            Ok(None)
-        }
-    });
+    let answers = [Ok(1), Ok(2), Ok(3), Ok(4)];
+    let mut it = counted(&answers, &log).filter_map(tens_of_even);
     assert_eq!(rt; it.draw(), Ok(Some(20)));
-    let sum: Result<u32, u32> = it.try_fold(0, |sum: u32, x: u32| Ok(sum.wrapping_add(x)));
-    assert_eq!(rt; sum, Ok(40));
+    assert_eq!(rt; it.try_fold(0, add_up), Ok(40));
     assert_eq!(rt; log.read(), [0, 0, 2, 0, 0, 0, 0, 0]);
-    Ok(())
+}
+
+// Fails with 9 on 3.
+fn look(x: &u32) -> Result<(), u32> {
+    if *x == 3 { Err(9) } else { Ok(()) }
 }
 
 #[test]
-fn inspect_folds_by_one_fold(rt: HostRuntime) -> Result<(), Fail> {
+fn inspect_folds_by_one_fold(rt: HostRuntime) {
     let log = Log::new();
-    let it = listed::<u32, u32, 3>(rt.alloc(), [Ok(1), Ok(2), Ok(3)])?;
-    let mut it = Counted::new(it, &log).inspect(|x: &u32| if *x == 3 { Err(9) } else { Ok(()) });
-    let sum: Result<u32, u32> = it.try_fold(0, |sum: u32, x: u32| Ok(sum.wrapping_add(x)));
-    assert_eq!(rt; sum, Err(9));
+    let answers = [Ok(1), Ok(2), Ok(3)];
+    let mut it = counted(&answers, &log).inspect(look);
+    assert_eq!(rt; it.try_fold(0, add_up), Err(9));
     assert_eq!(rt; log.read(), [0, 0, 1, 0, 0, 0, 0, 0]);
-    Ok(())
 }
 
 #[test]
-fn cloned_folds_by_one_fold(rt: HostRuntime) -> Result<(), Fail> {
+fn cloned_folds_by_one_fold(rt: HostRuntime) {
     let log = Log::new();
-    let (one, two) = (1, 2);
-    let it = listed::<&u32, TestError, 2>(rt.alloc(), [Ok(&one), Ok(&two)])?;
+    let numbers = [1, 2];
+    let it = convert(numbers.iter().map(|x| Ok::<&u32, TestError>(x)));
     let mut it = Counted::new(it, &log).cloned();
     let sum: Result<u32, TestError> = it.try_fold(0, |sum: u32, x: u32| Ok(sum.wrapping_add(x)));
     assert_eq!(rt; sum, Ok(3));
     assert_eq!(rt; log.read(), [0, 0, 1, 0, 0, 0, 0, 0]);
-    Ok(())
+}
+
+// Stops at the item with the number 1.
+fn stop_at_one(_: usize, both: (usize, u32)) -> Result<usize, u32> {
+    if both.0 == 1 { Err(both.1) } else { Ok(both.0) }
 }
 
 #[test]
-fn enumerate_folds_by_one_fold_and_counts_on(rt: HostRuntime) -> Result<(), Fail> {
+fn enumerate_folds_by_one_fold_and_counts_on(rt: HostRuntime) {
     let log = Log::new();
-    let it = listed::<u32, u32, 3>(rt.alloc(), [Ok(5), Ok(6), Ok(7)])?;
-    let mut it = Counted::new(it, &log).enumerate();
-    let stopped: Result<usize, u32> = it.try_fold(0, |_: usize, both: (usize, u32)| {
-        if both.0 == 1 { Err(both.1) } else { Ok(both.0) }
-    });
-    assert_eq!(rt; stopped, Err(6));
+    let answers = [Ok(5), Ok(6), Ok(7)];
+    let mut it = counted(&answers, &log).enumerate();
+    assert_eq!(rt; it.try_fold(0, stop_at_one), Err(6));
     assert_eq!(rt; it.next(), Ok(Some((2, 7))));
     assert_eq!(rt; log.read(), [1, 0, 1, 0, 0, 0, 0, 0]);
-    Ok(())
 }
 
 #[test]
-fn step_by_folds_by_one_fold_and_leaves_out_on(rt: HostRuntime) -> Result<(), Fail> {
+fn step_by_folds_by_one_fold_and_leaves_out_on(rt: HostRuntime) {
     let log = Log::new();
     let answers = [Ok(1), Ok(2), Err(9), Ok(3), Ok(4)];
-    let it = listed::<u32, u32, 5>(rt.alloc(), answers)?;
-    let mut it = Counted::new(it, &log).step_by(3);
-    let stopped: Result<u32, u32> = it.try_fold(0, |_: u32, x: u32| Ok(x));
-    assert_eq!(rt; stopped, Err(9));
+    let mut it = counted(&answers, &log).step_by(3);
+    assert_eq!(rt; it.try_fold(0, add_up), Err(9));
     assert_eq!(rt; it.next(), Ok(Some(4)));
     assert_eq!(rt; log.read(), [2, 0, 1, 0, 0, 0, 0, 0]);
-    Ok(())
 }
 
 #[test]
-fn fuse_passes_nth_on(rt: HostRuntime) -> Result<(), Fail> {
+fn fuse_passes_nth_on_and_keeps_the_end_that_it_met(rt: HostRuntime) {
     let log = Log::new();
-    let it = listed::<u32, u32, 2>(rt.alloc(), [Ok(5), Ok(6)])?;
-    let mut it = Counted::new(it, &log).fuse();
+    let answers = [Ok(5), Ok(6)];
+    let mut it = counted(&answers, &log).fuse();
     assert_eq!(rt; it.nth(1), Ok(Some(6)));
     assert_eq!(rt; log.read(), [0, 0, 0, 0, 0, 0, 1, 0]);
-    Ok(())
-}
-
-#[test]
-fn fuse_keeps_the_end_that_its_nth_met(rt: HostRuntime) -> Result<(), Fail> {
-    let log = Log::new();
-    let it = listed::<u32, u32, 2>(rt.alloc(), [Ok(5), Ok(6)])?;
-    let mut it = Counted::new(it, &log).fuse();
+    let mut it = counted(&answers, &log).fuse();
     assert_eq!(rt; it.nth(2), Ok(None));
+    assert_eq!(rt; log.read(), [0, 0, 0, 0, 0, 0, 2, 0]);
     assert_eq!(rt; it.nth(0), Ok(None));
     assert_eq!(rt; it.next(), Ok(None));
-    assert_eq!(rt; log.read(), [0, 0, 0, 0, 0, 0, 1, 0]);
-    Ok(())
+    assert_eq!(rt; log.read(), [0, 0, 0, 0, 0, 0, 2, 0]);
 }
 
 #[test]
-fn map_err_passes_nth_on(rt: HostRuntime) -> Result<(), Fail> {
+fn map_err_passes_nth_on(rt: HostRuntime) {
     let log = Log::new();
-    let it = listed::<u32, u32, 2>(rt.alloc(), [Ok(5), Ok(6)])?;
-    let mut it = Counted::new(it, &log).map_err(|e: u32| e.wrapping_add(100));
+    let answers = [Ok(5), Ok(6)];
+    let mut it = counted(&answers, &log).map_err(hundred_more);
     assert_eq!(rt; it.nth(2), Ok(None));
     assert_eq!(rt; log.read(), [0, 0, 0, 0, 0, 0, 1, 0]);
-    Ok(())
 }
 
 #[test]
 fn references_and_boxes_pass_nth_on(rt: HostRuntime) -> Result<(), Fail> {
     let log = Log::new();
-    let it = listed::<u32, u32, 2>(rt.alloc(), [Ok(5), Ok(6)])?;
-    let mut it = Counted::new(it, &log);
+    let answers = [Ok(5), Ok(6)];
+    let mut it = counted(&answers, &log);
     let mut borrowed = &mut it;
     assert_eq!(rt; reached(&mut borrowed, 1), Ok(Some(6)));
     assert_eq!(rt; log.read(), [0, 0, 0, 0, 0, 0, 1, 0]);
-    let it = listed::<u32, u32, 2>(rt.alloc(), [Ok(5), Ok(6)])?;
-    let mut boxed = Box::new(rt.alloc(), Counted::new(it, &log))?;
+    let mut boxed = Box::new(rt.alloc(), counted(&answers, &log))?;
     assert_eq!(rt; reached(&mut boxed, 1), Ok(Some(6)));
     assert_eq!(rt; log.read(), [0, 0, 0, 0, 0, 0, 2, 0]);
     Ok(())
@@ -240,129 +218,118 @@ fn references_and_boxes_pass_nth_on(rt: HostRuntime) -> Result<(), Fail> {
 #[test]
 fn references_and_boxes_pass_folds_on(rt: HostRuntime) -> Result<(), Fail> {
     let log = Log::new();
-    let it = listed::<u32, u32, 2>(rt.alloc(), [Ok(5), Ok(6)])?;
-    let mut it = Counted::new(it, &log);
+    let answers = [Ok(5), Ok(6)];
+    let mut it = counted(&answers, &log);
     let mut borrowed = &mut it;
     assert_eq!(rt; summed(&mut borrowed), Ok(11));
     assert_eq!(rt; log.read(), [0, 0, 1, 0, 0, 0, 0, 0]);
-    let it = listed::<u32, u32, 2>(rt.alloc(), [Ok(5), Err(6)])?;
-    let mut boxed = Box::new(rt.alloc(), Counted::new(it, &log))?;
+    let answers = [Ok(5), Err(6)];
+    let mut boxed = Box::new(rt.alloc(), counted(&answers, &log))?;
     assert_eq!(rt; summed(&mut boxed), Err(6));
     assert_eq!(rt; log.read(), [0, 0, 2, 0, 0, 0, 0, 0]);
     Ok(())
 }
 
 #[test]
-fn skip_folds_up_to_the_first_item_that_stays_and_then_the_rest(
-    rt: HostRuntime,
-) -> Result<(), Fail> {
+fn skip_folds_up_to_the_first_item_that_stays_and_then_the_rest(rt: HostRuntime) {
     let log = Log::new();
     let answers = [Ok(1), Ok(2), Err(9), Ok(3), Ok(4), Ok(5)];
-    let it = listed::<u32, u32, 6>(rt.alloc(), answers)?;
-    let mut it = Counted::new(it, &log).skip(3);
-    let sum: Result<u32, u32> = it.try_fold(0, |sum: u32, x: u32| Ok(sum.wrapping_add(x)));
-    assert_eq!(rt; sum, Err(9));
+    let mut it = counted(&answers, &log).skip(3);
+    assert_eq!(rt; it.try_fold(0, add_up), Err(9));
     assert_eq!(rt; log.read(), [0, 0, 1, 0, 0, 0, 0, 0]);
-    let sum: Result<u32, u32> = it.try_fold(0, |sum: u32, x: u32| Ok(sum.wrapping_add(x)));
-    assert_eq!(rt; sum, Ok(9));
+    assert_eq!(rt; it.try_fold(0, add_up), Ok(9));
     assert_eq!(rt; log.read(), [0, 0, 3, 0, 0, 0, 0, 0]);
-    Ok(())
 }
 
 #[test]
-fn skip_while_folds_the_rest_by_one_fold(rt: HostRuntime) -> Result<(), Fail> {
+fn skip_while_folds_the_rest_by_one_fold(rt: HostRuntime) {
     let log = Log::new();
-    let it = listed::<u32, u32, 4>(rt.alloc(), [Ok(1), Ok(2), Ok(3), Ok(1)])?;
-    let mut it = Counted::new(it, &log).skip_while(|x: &u32| Ok(*x < 3));
-    let sum: Result<u32, u32> = it.try_fold(0, |sum: u32, x: u32| Ok(sum.wrapping_add(x)));
-    assert_eq!(rt; sum, Ok(4));
+    let answers = [Ok(1), Ok(2), Ok(3), Ok(1)];
+    let mut it = counted(&answers, &log).skip_while(below_three);
+    assert_eq!(rt; it.try_fold(0, add_up), Ok(4));
     assert_eq!(rt; log.read(), [0, 0, 1, 0, 0, 0, 0, 1]);
-    Ok(())
 }
 
 #[test]
-fn take_while_folds_by_one_fold_and_keeps_its_end(rt: HostRuntime) -> Result<(), Fail> {
+fn take_while_folds_by_one_fold_and_keeps_its_end(rt: HostRuntime) {
     let log = Log::new();
-    let it = listed::<u32, u32, 4>(rt.alloc(), [Ok(1), Ok(2), Ok(3), Ok(1)])?;
-    let mut it = Counted::new(it, &log).take_while(|x: &u32| Ok(*x < 3));
-    let sum: Result<u32, u32> = it.try_fold(0, |sum: u32, x: u32| Ok(sum.wrapping_add(x)));
-    assert_eq!(rt; sum, Ok(3));
+    let answers = [Ok(1), Ok(2), Ok(3), Ok(1)];
+    let mut it = counted(&answers, &log).take_while(below_three);
+    assert_eq!(rt; it.try_fold(0, add_up), Ok(3));
     assert_eq!(rt; it.next(), Ok(None));
     assert_eq!(rt; log.read(), [0, 0, 1, 0, 0, 0, 0, 0]);
-    Ok(())
 }
 
 #[test]
-fn enumerate_reaches_by_one_fold(rt: HostRuntime) -> Result<(), Fail> {
+fn enumerate_reaches_by_one_fold(rt: HostRuntime) {
     let log = Log::new();
-    let it = listed::<u32, u32, 2>(rt.alloc(), [Ok(5), Ok(6)])?;
-    let mut it = Counted::new(it, &log).enumerate();
+    let answers = [Ok(5), Ok(6)];
+    let mut it = counted(&answers, &log).enumerate();
     assert_eq!(rt; it.nth(1), Ok(Some((1, 6))));
     assert_eq!(rt; log.read(), [0, 0, 1, 0, 0, 0, 0, 0]);
     assert_eq!(rt; it.nth(0), Ok(None));
     assert_eq!(rt; log.read(), [0, 0, 2, 0, 0, 0, 0, 0]);
-    Ok(())
 }
 
 #[test]
-fn enumerate_nth_counts_what_came_before_a_failure(rt: HostRuntime) -> Result<(), Fail> {
+fn enumerate_nth_counts_what_came_before_a_failure(rt: HostRuntime) {
     let log = Log::new();
-    let it = listed::<u32, u32, 3>(rt.alloc(), [Ok(5), Err(9), Ok(6)])?;
-    let mut it = Counted::new(it, &log).enumerate();
+    let answers = [Ok(5), Err(9), Ok(6)];
+    let mut it = counted(&answers, &log).enumerate();
     assert_eq!(rt; it.nth(1), Err(9));
     assert_eq!(rt; log.read(), [0, 0, 1, 0, 0, 0, 0, 0]);
     assert_eq!(rt; it.next(), Ok(Some((1, 6))));
     assert_eq!(rt; log.read(), [1, 0, 1, 0, 0, 0, 0, 0]);
-    Ok(())
+}
+
+// The item, and an end in place of one above 5.
+fn end_above_five(_: &mut (), x: u32) -> Result<Option<u32>, u32> {
+    if x > 5 { Ok(None) } else { Ok(Some(x)) }
 }
 
 #[test]
-fn enumerate_nth_counts_what_came_before_an_end(rt: HostRuntime) -> Result<(), Fail> {
+fn enumerate_nth_counts_what_came_before_an_end(rt: HostRuntime) {
     let log = Log::new();
-    let it = listed::<u32, u32, 4>(rt.alloc(), [Ok(1), Ok(2), Ok(9), Ok(3)])?;
-    let it = it.scan((), |_, x: u32| if x > 5 { Ok(None) } else { Ok(Some(x)) });
+    let answers = [Ok(1), Ok(2), Ok(9), Ok(3)];
+    let it = numbers(&answers).scan((), end_above_five);
     let mut it = Counted::new(it, &log).enumerate();
     assert_eq!(rt; it.nth(3), Ok(None));
     assert_eq!(rt; it.next(), Ok(Some((2, 3))));
     assert_eq!(rt; log.read(), [1, 0, 1, 0, 0, 0, 0, 0]);
-    Ok(())
 }
 
 #[test]
-fn enumerate_passes_count_on(rt: HostRuntime) -> Result<(), Fail> {
+fn enumerate_passes_count_on(rt: HostRuntime) {
     let log = Log::new();
-    let it = listed::<u32, u32, 2>(rt.alloc(), [Ok(5), Ok(6)])?;
-    assert_eq!(rt; Counted::new(it, &log).enumerate().count(), Ok(2));
-    let it = listed::<u32, u32, 2>(rt.alloc(), [Ok(5), Err(6)])?;
-    assert_eq!(rt; Counted::new(it, &log).enumerate().count(), Err(6));
+    let answers = [Ok(5), Ok(6)];
+    assert_eq!(rt; counted(&answers, &log).enumerate().count(), Ok(2));
+    let answers = [Ok(5), Err(6)];
+    assert_eq!(rt; counted(&answers, &log).enumerate().count(), Err(6));
     assert_eq!(rt; log.read(), [0, 0, 0, 0, 2, 0, 0, 0]);
-    Ok(())
 }
 
 #[test]
-fn fuse_and_map_err_pass_count_on(rt: HostRuntime) -> Result<(), Fail> {
+fn fuse_and_map_err_pass_count_on(rt: HostRuntime) {
     let log = Log::new();
-    let it = listed::<u32, u32, 2>(rt.alloc(), [Ok(5), Ok(6)])?;
-    assert_eq!(rt; Counted::new(it, &log).fuse().count(), Ok(2));
-    let it = listed::<u32, u32, 2>(rt.alloc(), [Ok(5), Err(6)])?;
-    let failed = Counted::new(it, &log)
-        .map_err(|e: u32| e.wrapping_add(100))
-        .count();
-    assert_eq!(rt; failed, Err(106));
+    let answers = [Ok(5), Ok(6)];
+    assert_eq!(rt; counted(&answers, &log).fuse().count(), Ok(2));
+    let answers = [Ok(5), Err(6)];
+    assert_eq!(rt;
+        counted(&answers, &log).map_err(hundred_more).count(),
+        Err(106)
+    );
     assert_eq!(rt; log.read(), [0, 0, 0, 0, 2, 0, 0, 0]);
-    Ok(())
 }
 
 #[test]
-fn fuse_and_map_err_pass_last_on(rt: HostRuntime) -> Result<(), Fail> {
+fn fuse_and_map_err_pass_last_on(rt: HostRuntime) {
     let log = Log::new();
-    let it = listed::<u32, u32, 2>(rt.alloc(), [Ok(5), Ok(6)])?;
-    assert_eq!(rt; Counted::new(it, &log).fuse().last(), Ok(Some(6)));
-    let it = listed::<u32, u32, 2>(rt.alloc(), [Ok(5), Err(6)])?;
-    let failed = Counted::new(it, &log)
-        .map_err(|e: u32| e.wrapping_add(100))
-        .last();
-    assert_eq!(rt; failed, Err(106));
+    let answers = [Ok(5), Ok(6)];
+    assert_eq!(rt; counted(&answers, &log).fuse().last(), Ok(Some(6)));
+    let answers = [Ok(5), Err(6)];
+    assert_eq!(rt;
+        counted(&answers, &log).map_err(hundred_more).last(),
+        Err(106)
+    );
     assert_eq!(rt; log.read(), [0, 0, 0, 0, 0, 2, 0, 0]);
-    Ok(())
 }

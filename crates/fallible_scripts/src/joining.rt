@@ -2,82 +2,77 @@
 ghost use Rattle.std.specs.Prelude.{◌-◌, ◌^◌};
 
 use crate::counted::{Counted, Log};
+use crate::shared::{add_up, counted};
 use fallible_iterator::{FallibleIterator, IteratorExt, once};
-use fallible_testing::listed::listed;
 use std::convert::Infallible;
-use std::test::Fail;
 
-#[test]
-fn chain_folds_each_side_once(rt: HostRuntime) -> Result<(), Fail> {
-    let (fronts, backs) = (Log::new(), Log::new());
-    let front = listed::<u32, u32, 2>(rt.alloc(), [Ok(1), Ok(2)])?;
-    let back = listed::<u32, u32, 2>(rt.alloc(), [Ok(3), Ok(4)])?;
-    let mut it = Counted::new(front, &fronts).chain(Counted::new(back, &backs));
-    let stopped: Result<u32, u32> = it.try_fold(0, |sum: u32, x: u32| {
-        if x == 3 {
-            Err(sum)
-        } else {
-            Ok(sum.wrapping_add(x))
-        }
-    });
-    assert_eq!(rt; stopped, Err(3));
-    assert_eq!(rt; it.next(), Ok(Some(4)));
-    assert_eq!(rt; fronts.read(), [0, 0, 1, 0, 0, 0, 0, 0]);
-    assert_eq!(rt; backs.read(), [1, 0, 1, 0, 0, 0, 0, 0]);
-    Ok(())
+// The sum so far, with which it fails at 3.
+fn add_up_to_three(sum: u32, x: u32) -> Result<u32, u32> {
+    if x == 3 {
+        Err(sum)
+    } else {
+        Ok(sum.wrapping_add(x))
+    }
 }
 
 #[test]
-fn chain_folds_its_front_on_after_a_failure(rt: HostRuntime) -> Result<(), Fail> {
+fn chain_folds_each_side_once(rt: HostRuntime) {
     let (fronts, backs) = (Log::new(), Log::new());
-    let front = listed::<u32, u32, 3>(rt.alloc(), [Ok(1), Err(9), Ok(2)])?;
-    let back = listed::<u32, u32, 1>(rt.alloc(), [Ok(4)])?;
-    let mut it = Counted::new(front, &fronts).chain(Counted::new(back, &backs));
-    let failed: Result<u32, u32> = it.try_fold(0, |sum: u32, x: u32| Ok(sum.wrapping_add(x)));
-    assert_eq!(rt; failed, Err(9));
+    let (front, back) = ([Ok(1), Ok(2)], [Ok(3), Ok(4)]);
+    let mut it = counted(&front, &fronts).chain(counted(&back, &backs));
+    assert_eq!(rt; it.try_fold(0, add_up_to_three), Err(3));
+    assert_eq!(rt; it.next(), Ok(Some(4)));
+    assert_eq!(rt; fronts.read(), [0, 0, 1, 0, 0, 0, 0, 0]);
+    assert_eq!(rt; backs.read(), [1, 0, 1, 0, 0, 0, 0, 0]);
+}
+
+#[test]
+fn chain_folds_its_front_on_after_a_failure(rt: HostRuntime) {
+    let (fronts, backs) = (Log::new(), Log::new());
+    let (front, back) = ([Ok(1), Err(9), Ok(2)], [Ok(4)]);
+    let mut it = counted(&front, &fronts).chain(counted(&back, &backs));
+    assert_eq!(rt; it.try_fold(0, add_up), Err(9));
     assert_eq!(rt; fronts.read(), [0, 0, 1, 0, 0, 0, 0, 0]);
     assert_eq!(rt; backs.read(), [0, 0, 0, 0, 0, 0, 0, 0]);
-    let sum: Result<u32, u32> = it.try_fold(0, |sum: u32, x: u32| Ok(sum.wrapping_add(x)));
-    assert_eq!(rt; sum, Ok(6));
+    assert_eq!(rt; it.try_fold(0, add_up), Ok(6));
     assert_eq!(rt; fronts.read(), [0, 0, 2, 0, 0, 0, 0, 0]);
     assert_eq!(rt; backs.read(), [0, 0, 1, 0, 0, 0, 0, 0]);
-    Ok(())
 }
 
 // Two ranges, whose numbers to come add up to one that fits.
 #[test]
-fn chain_counts_each_side_once(rt: HostRuntime) -> Result<(), Fail> {
+fn chain_counts_each_side_once(rt: HostRuntime) {
     let (fronts, backs) = (Log::new(), Log::new());
     let front = Counted::new((1u32..3).into_fallible(), &fronts);
     let back = Counted::new((3u32..4).into_fallible(), &backs);
     assert_eq!(rt; front.chain(back).count(), Ok(3));
     assert_eq!(rt; fronts.read(), [0, 0, 0, 0, 1, 0, 0, 0]);
     assert_eq!(rt; backs.read(), [0, 0, 0, 0, 1, 0, 0, 0]);
-    Ok(())
 }
 
 #[test]
-fn chain_takes_the_last_of_each_side(rt: HostRuntime) -> Result<(), Fail> {
+fn chain_takes_the_last_of_each_side(rt: HostRuntime) {
     let (fronts, backs) = (Log::new(), Log::new());
-    let front = listed::<u32, u32, 2>(rt.alloc(), [Ok(1), Ok(2)])?;
-    let back = listed::<u32, u32, 1>(rt.alloc(), [Ok(3)])?;
-    let it = Counted::new(front, &fronts).chain(Counted::new(back, &backs));
+    let (front, back) = ([Ok(1), Ok(2)], [Ok(3)]);
+    let it = counted(&front, &fronts).chain(counted(&back, &backs));
     assert_eq!(rt; it.last(), Ok(Some(3)));
     assert_eq!(rt; fronts.read(), [0, 0, 0, 0, 0, 1, 0, 0]);
     assert_eq!(rt; backs.read(), [0, 0, 0, 0, 0, 1, 0, 0]);
-    Ok(())
+}
+
+// Whether the item is 3.
+fn is_three(x: &u32) -> Result<bool, u32> {
+    Ok(*x == 3)
 }
 
 #[test]
-fn chain_searches_each_side_once(rt: HostRuntime) -> Result<(), Fail> {
+fn chain_searches_each_side_once(rt: HostRuntime) {
     let (fronts, backs) = (Log::new(), Log::new());
-    let front = listed::<u32, u32, 2>(rt.alloc(), [Ok(1), Ok(2)])?;
-    let back = listed::<u32, u32, 1>(rt.alloc(), [Ok(3)])?;
-    let mut it = Counted::new(front, &fronts).chain(Counted::new(back, &backs));
-    assert_eq!(rt; it.find(|x: &u32| Ok(*x == 3)), Ok(Some(3)));
+    let (front, back) = ([Ok(1), Ok(2)], [Ok(3)]);
+    let mut it = counted(&front, &fronts).chain(counted(&back, &backs));
+    assert_eq!(rt; it.find(is_three), Ok(Some(3)));
     assert_eq!(rt; fronts.read(), [0, 0, 0, 0, 0, 0, 0, 1]);
     assert_eq!(rt; backs.read(), [0, 0, 0, 0, 0, 0, 0, 1]);
-    Ok(())
 }
 
 // The sum of the items of two inner iterators, which `log` sees the outer source of drawn.
@@ -93,9 +88,7 @@ where
     requires second_ends { U.contract.to_come second (2 ^ 64 - 1) }
 {
     let outer = once::<U, u32>(first).chain(once::<U, u32>(second));
-    Counted::new(outer, log)
-        .flatten()
-        .try_fold(0, |sum: u32, x: u32| Ok(sum.wrapping_add(x)))
+    Counted::new(outer, log).flatten().try_fold(0, add_up)
 }
 
 // The first item, and the sum of the others, of which the inner iterator in hand has some.
@@ -113,7 +106,7 @@ where
     let outer = once::<U, u32>(first).chain(once::<U, u32>(second));
     let mut it = Counted::new(outer, log).flatten();
     let head = it.draw();
-    let others = it.try_fold(0, |sum: u32, x: u32| Ok(sum.wrapping_add(x)));
+    let others = it.try_fold(0, add_up);
     (head, others)
 }
 
@@ -136,30 +129,27 @@ fn flat_map_folds_each_source_once(rt: HostRuntime) {
 }
 
 #[test]
-fn flatten_folds_the_inner_iterator_in_hand_first(rt: HostRuntime) -> Result<(), Fail> {
+fn flatten_folds_the_inner_iterator_in_hand_first(rt: HostRuntime) {
     let (outer, firsts, seconds) = (Log::new(), Log::new(), Log::new());
-    let first = listed::<u32, u32, 2>(rt.alloc(), [Ok(1), Ok(2)])?;
-    let second = listed::<u32, u32, 1>(rt.alloc(), [Ok(3)])?;
-    let first = Counted::new(first, &firsts);
-    let second = Counted::new(second, &seconds);
-    let both = first_and_sum_of_others(first, second, &outer);
+    let (first, second) = ([Ok(1), Ok(2)], [Ok(3)]);
+    let both = first_and_sum_of_others(
+        counted(&first, &firsts),
+        counted(&second, &seconds),
+        &outer,
+    );
     assert_eq!(rt; both, (Ok(Some(1)), Ok(5)));
     assert_eq!(rt; outer.read(), [0, 0, 2, 0, 0, 0, 0, 0]);
     assert_eq!(rt; firsts.read(), [1, 0, 1, 0, 0, 0, 0, 0]);
     assert_eq!(rt; seconds.read(), [0, 0, 1, 0, 0, 0, 0, 0]);
-    Ok(())
 }
 
 #[test]
-fn flatten_folds_each_source_once(rt: HostRuntime) -> Result<(), Fail> {
+fn flatten_folds_each_source_once(rt: HostRuntime) {
     let (outer, firsts, seconds) = (Log::new(), Log::new(), Log::new());
-    let first = listed::<u32, u32, 2>(rt.alloc(), [Ok(1), Ok(2)])?;
-    let second = listed::<u32, u32, 1>(rt.alloc(), [Ok(3)])?;
-    let first = Counted::new(first, &firsts);
-    let second = Counted::new(second, &seconds);
-    assert_eq!(rt; summed_flat(first, second, &outer), Ok(6));
+    let (first, second) = ([Ok(1), Ok(2)], [Ok(3)]);
+    let sum = summed_flat(counted(&first, &firsts), counted(&second, &seconds), &outer);
+    assert_eq!(rt; sum, Ok(6));
     assert_eq!(rt; outer.read(), [0, 0, 1, 0, 0, 0, 0, 0]);
     assert_eq!(rt; firsts.read(), [0, 0, 1, 0, 0, 0, 0, 0]);
     assert_eq!(rt; seconds.read(), [0, 0, 1, 0, 0, 0, 0, 0]);
-    Ok(())
 }

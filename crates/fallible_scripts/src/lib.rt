@@ -10,3 +10,5 @@ mod front;
 mod joining;
 #[cfg(test)]
 mod nests;
+#[cfg(test)]
+mod shared;

@@ -1,12 +1,13 @@
 // Nests in which one adapter works through another's fold, each beside the same nest drawn by `next` alone.
 ghost use Rattle.fallible_contract.specs.Contract.{Stays};
 
+use crate::shared::numbers;
 use fallible_iterator::laws::Answer::{End, Failure, Item};
 use fallible_iterator::{FallibleIterator, IteratorExt, Once, once};
 use fallible_testing::answered::expect_answers;
-use fallible_testing::listed::listed;
 use fallible_testing::scripted::{Script, scripted};
 use std::alloc::{AllocError, Global};
+use std::convert::Infallible;
 use std::test::Fail;
 
 // 1, an end, and 2.
@@ -31,84 +32,82 @@ where
 
 #[test]
 fn chain_under_peekable_gives_a_held_item_first(rt: HostRuntime) -> Result<(), Fail> {
-    let back = listed::<u32, u32, 2>(rt.alloc(), [Ok(3), Err(9)])?;
-    let mut it = over_an_end(rt.alloc())?.chain(back).peekable();
+    let back = [Ok(3), Err(9)];
+    let mut it = over_an_end(rt.alloc())?.chain(numbers(&back)).peekable();
     assert_eq!(rt; it.peek_copied(), Ok(Some(1)));
     assert_eq!(rt; digits(&mut it), (13, Err(9)));
-    expect_answers(&rt, &mut it, &[End])?;
-    let back = listed::<u32, u32, 2>(rt.alloc(), [Ok(3), Err(9)])?;
-    let mut drawn = over_an_end(rt.alloc())?.chain(back).peekable();
+    assert_eq!(rt; it.draw(), Ok(None));
+    let mut drawn = over_an_end(rt.alloc())?.chain(numbers(&back)).peekable();
     expect_answers(&rt, &mut drawn, &[Item(1), Item(3), Failure(9), End])
 }
 
 #[test]
 fn chain_under_peekable_ends_at_a_held_end(rt: HostRuntime) -> Result<(), Fail> {
-    let front = listed::<u32, u32, 1>(rt.alloc(), [Ok(1)])?;
+    let front = [Ok(1)];
     let back = scripted::<u32, u32, 2>(rt.alloc(), [Ok(None), Ok(Some(3))])?;
-    let mut it = front.chain(back).peekable();
+    let mut it = numbers(&front).chain(back).peekable();
     assert_eq!(rt; it.draw(), Ok(Some(1)));
     assert_eq!(rt; it.peek_copied(), Ok(None));
     assert_eq!(rt; digits(&mut it), (0, Ok(())));
     assert_eq!(rt; digits(&mut it), (3, Ok(())));
-    let front = listed::<u32, u32, 1>(rt.alloc(), [Ok(1)])?;
     let back = scripted::<u32, u32, 2>(rt.alloc(), [Ok(None), Ok(Some(3))])?;
-    let mut drawn = front.chain(back).peekable();
+    let mut drawn = numbers(&front).chain(back).peekable();
     expect_answers(&rt, &mut drawn, &[Item(1), End, Item(3), End])
+}
+
+// The digits, and the number of an item behind them.
+fn put_number_behind(digits: usize, both: (usize, u32)) -> Result<usize, Infallible> {
+    Ok(digits.wrapping_mul(10).wrapping_add(both.0))
 }
 
 #[test]
 fn enumerate_over_chain_numbers_both_sides(rt: HostRuntime) -> Result<(), Fail> {
     let sides = (5u32..7).into_fallible().chain((7u32..9).into_fallible());
-    let numbers = sides
-        .enumerate()
-        .fold(0, |digits: usize, both: (usize, u32)| {
-            Ok(digits.wrapping_mul(10).wrapping_add(both.0))
-        });
-    assert_eq!(rt; numbers, Ok(123));
-    let mut drawn = (5u32..7)
-        .into_fallible()
-        .chain((7u32..9).into_fallible())
-        .enumerate();
+    assert_eq!(rt; sides.enumerate().fold(0, put_number_behind), Ok(123));
+    let sides = (5u32..7).into_fallible().chain((7u32..9).into_fallible());
     let both_sides = [Item((0, 5)), Item((1, 6)), Item((2, 7)), Item((3, 8)), End];
-    expect_answers(&rt, &mut drawn, &both_sides)
+    expect_answers(&rt, &mut sides.enumerate(), &both_sides)
+}
+
+// Keeps each item.
+fn keep(_: &u32) -> Result<bool, u32> {
+    Ok(true)
 }
 
 #[test]
 fn filter_over_fuse_folds_up_to_its_end(rt: HostRuntime) -> Result<(), Fail> {
-    let mut it = over_an_end(rt.alloc())?
-        .fuse()
-        .filter(|_: &u32| -> Result<bool, u32> { Ok(true) });
+    let mut it = over_an_end(rt.alloc())?.fuse().filter(keep);
     assert_eq!(rt; digits(&mut it), (1, Ok(())));
     assert_eq!(rt; digits(&mut it), (0, Ok(())));
-    let mut drawn = over_an_end(rt.alloc())?
-        .fuse()
-        .filter(|_: &u32| -> Result<bool, u32> { Ok(true) });
+    let mut drawn = over_an_end(rt.alloc())?.fuse().filter(keep);
     expect_answers(&rt, &mut drawn, &[Item(1), End, End])
+}
+
+// Gives each item.
+fn give(x: u32) -> Result<Option<u32>, u32> {
+    Ok(Some(x))
 }
 
 #[test]
 fn filter_map_over_fuse_folds_up_to_its_end(rt: HostRuntime) -> Result<(), Fail> {
-    let mut it = over_an_end(rt.alloc())?
-        .fuse()
-        .filter_map(|x: u32| -> Result<Option<u32>, u32> { Ok(Some(x)) });
+    let mut it = over_an_end(rt.alloc())?.fuse().filter_map(give);
     assert_eq!(rt; digits(&mut it), (1, Ok(())));
     assert_eq!(rt; digits(&mut it), (0, Ok(())));
-    let mut drawn = over_an_end(rt.alloc())?
-        .fuse()
-        .filter_map(|x: u32| -> Result<Option<u32>, u32> { Ok(Some(x)) });
+    let mut drawn = over_an_end(rt.alloc())?.fuse().filter_map(give);
     expect_answers(&rt, &mut drawn, &[Item(1), End, End])
+}
+
+// Skips no item.
+fn refuse(_: &u32) -> Result<bool, u32> {
+    Ok(false)
 }
 
 #[test]
 fn skip_while_over_fuse_folds_up_to_its_end(rt: HostRuntime) -> Result<(), Fail> {
-    let mut it = over_an_end(rt.alloc())?
-        .fuse()
-        .skip_while(|_: &u32| -> Result<bool, u32> { Ok(false) });
+    let mut it = over_an_end(rt.alloc())?.fuse().skip_while(refuse);
     assert_eq!(rt; digits(&mut it), (1, Ok(())));
     assert_eq!(rt; digits(&mut it), (0, Ok(())));
-    let mut drawn = over_an_end(rt.alloc())?
-        .fuse()
-        .skip_while(|_: &u32| -> Result<bool, u32> { Ok(false) });
+    let mut drawn = over_an_end(rt.alloc())?.fuse().skip_while(refuse);
     expect_answers(&rt, &mut drawn, &[Item(1), End, End])
 }
 
