@@ -14,10 +14,10 @@ use std::test::Fail;
 #[test]
 fn clones_of_convert_and_into_fallible(rt: HostRuntime) -> Result<(), Fail> {
     let mut it = convert((0..3u32).map(|x| Ok::<u32, u32>(x)));
-    expect_answers(&rt, &mut it, &[Item(0)])?;
+    assert_eq!(rt; it.next(), Ok(Some(0)));
     expect_alike(&rt, &mut it, &[Item(1)])?;
     let mut it = IntoFallible::from(0..3u32);
-    expect_answers(&rt, &mut it, &[Item(0)])?;
+    assert_eq!(rt; it.next(), Ok(Some(0)));
     expect_alike(&rt, &mut it, &[Item(1)])
 }
 
@@ -28,7 +28,7 @@ fn clones_of_from_fn_keep_its_closures_state(rt: HostRuntime) -> Result<(), Fail
         calls = calls.wrapping_add(1);
         Ok::<Option<u32>, u32>(Some(calls))
     });
-    expect_answers(&rt, &mut it, &[Item(1)])?;
+    assert_eq!(rt; it.next(), Ok(Some(1)));
     expect_alike(&rt, &mut it, &[Item(2)])
 }
 
@@ -70,12 +70,13 @@ fn one_more(e: u32) -> u32 {
 
 #[test]
 fn clones_of_map_err_and_cloned(rt: HostRuntime) -> Result<(), Fail> {
-    let mut it = listed::<u32, u32, 2>(rt.alloc(), [Err(1), Err(2)])?.map_err(one_more);
-    expect_answers(&rt, &mut it, &[Failure(2)])?;
+    let failures: [Result<u32, u32>; 2] = [Err(1), Err(2)];
+    let mut it = convert(failures.iter().copied()).map_err(one_more);
+    assert_eq!(rt; it.next(), Err(2));
     expect_alike(&rt, &mut it, &[Failure(3)])?;
     let numbers = [1u32, 2];
     let mut it = convert(numbers.iter().map(|x| Ok::<&u32, TestError>(x))).cloned();
-    expect_answers(&rt, &mut it, &[Item(1)])?;
+    assert_eq!(rt; it.next(), Ok(Some(1)));
     expect_alike(&rt, &mut it, &[Item(2)])
 }
 
@@ -130,19 +131,15 @@ fn clones_of_skip_while_and_take_while(rt: HostRuntime) -> Result<(), Fail> {
 }
 
 #[test]
-fn clones_of_take_and_skip(rt: HostRuntime) -> Result<(), Fail> {
-    let mut it = listed::<u32, u32, 3>(rt.alloc(), [Ok(1), Ok(2), Ok(3)])?.take(1);
-    expect_answers(&rt, &mut it, &[Item(1)])?;
+fn clones_of_take_skip_and_step_by(rt: HostRuntime) -> Result<(), Fail> {
+    let mut it = IntoFallible::from(1..4u32).take(1);
+    assert_eq!(rt; it.next(), Ok(Some(1)));
     expect_alike(&rt, &mut it, &[End])?;
-    let mut it = listed::<u32, u32, 3>(rt.alloc(), [Ok(1), Ok(2), Ok(3)])?.skip(1);
-    expect_answers(&rt, &mut it, &[Item(2)])?;
-    expect_alike(&rt, &mut it, &[Item(3)])
-}
-
-#[test]
-fn clones_of_step_by(rt: HostRuntime) -> Result<(), Fail> {
-    let mut it = listed::<u32, u32, 3>(rt.alloc(), [Ok(1), Ok(2), Ok(3)])?.step_by(2);
-    expect_answers(&rt, &mut it, &[Item(1)])?;
+    let mut it = IntoFallible::from(1..4u32).skip(1);
+    assert_eq!(rt; it.next(), Ok(Some(2)));
+    expect_alike(&rt, &mut it, &[Item(3)])?;
+    let mut it = IntoFallible::from(1..4u32).step_by(2);
+    assert_eq!(rt; it.next(), Ok(Some(1)));
     expect_alike(&rt, &mut it, &[Item(3)])
 }
 
@@ -158,14 +155,15 @@ fn clones_of_fuse_keep_its_end(rt: HostRuntime) -> Result<(), Fail> {
         }
     })
     .fuse();
-    expect_answers(&rt, &mut it, &[End])?;
+    assert_eq!(rt; it.next(), Ok(None));
     expect_alike(&rt, &mut it, &[End])
 }
 
 #[test]
 fn clones_of_chain_and_zip(rt: HostRuntime) -> Result<(), Fail> {
     let mut it = once::<u32, u32>(1).chain(once(2));
-    expect_answers(&rt, &mut it, &[Item(1), Item(2)])?;
+    assert_eq!(rt; it.next(), Ok(Some(1)));
+    assert_eq!(rt; it.next(), Ok(Some(2)));
     expect_alike(&rt, &mut it, &[End])?;
     assert_eq!(rt; it.size_hint(), (0, Some(0)));
     let mut it = once::<u32, u32>(1).zip(once::<u32, u32>(2));
@@ -174,12 +172,10 @@ fn clones_of_chain_and_zip(rt: HostRuntime) -> Result<(), Fail> {
 
 #[test]
 fn clones_of_flatten_hold_its_inner_iterator_in_hand(rt: HostRuntime) -> Result<(), Fail> {
-    let mut it = listed::<IntoFallible<Range<u32>>, Infallible, 1>(
-        rt.alloc(),
-        [Ok(IntoFallible::from(1..3))],
-    )?.flatten();
+    let inner = IntoFallible::from(1..3u32);
+    let mut it = once::<IntoFallible<Range<u32>>, Infallible>(inner).flatten();
     assert_eq!(rt; it.size_hint(), (0, None));
-    expect_answers(&rt, &mut it, &[Item(1)])?;
+    assert_eq!(rt; it.next(), Ok(Some(1)));
     expect_alike(&rt, &mut it, &[Item(2), End])
 }
 

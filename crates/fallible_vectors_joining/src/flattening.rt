@@ -1,6 +1,8 @@
 // Adapters that join inner iterators.
 use fallible_iterator::laws::Answer::{End, Failure, Item};
-use fallible_iterator::{FallibleIterator, IntoFallible, IntoFallibleIterator, from_fn, once};
+use fallible_iterator::{
+    FallibleIterator, IntoFallible, IntoFallibleIterator, convert, from_fn, once,
+};
 use fallible_testing::answered::expect_answers;
 use fallible_testing::collected::expect_collected;
 use fallible_testing::listed::listed;
@@ -20,7 +22,11 @@ fn flatten_drops_an_inner_iterator_at_its_end(rt: HostRuntime) -> Result<(), Fai
         }
     });
     let mut it = listed(rt.alloc(), [Ok(inner), Err(7)])?.flatten();
-    expect_answers(&rt, &mut it, &[Item(1), Failure(7), End])
+    assert_eq!(rt;
+        [it.next(), it.next(), it.next()],
+        [Ok(Some(1)), Err(7), Ok(None)]
+    );
+    Ok(())
 }
 
 #[test]
@@ -78,7 +84,7 @@ where
 }
 
 #[test]
-fn flatten_draws_no_inner_end_ahead(rt: HostRuntime) -> Result<(), Fail> {
+fn flatten_draws_no_inner_end_ahead(rt: HostRuntime) {
     let mut calls = 0u32;
     let mut s = from_fn(move || {
         calls = calls.wrapping_add(1);
@@ -94,21 +100,20 @@ fn flatten_draws_no_inner_end_ahead(rt: HostRuntime) -> Result<(), Fail> {
     assert_eq!(rt; stopped.first, Ok(Some(1)));
     assert_eq!(rt; stopped.outcome, Err(7));
     assert_eq!(rt; stopped.item, Some(2));
-    expect_answers(&rt, &mut s, &[End, Item(3)])
+    assert_eq!(rt; [s.next(), s.next()], [Ok(None), Ok(Some(3))]);
 }
 
 #[test]
 fn flat_map_keeps_its_closures_state(rt: HostRuntime) -> Result<(), Fail> {
+    let answers: [Result<u32, u32>; 3] = [Ok(10), Ok(20), Ok(30)];
     let mut calls = 0u32;
-    let mut it = listed::<u32, u32, 3>(rt.alloc(), [Ok(10), Ok(20), Ok(30)])?.flat_map(
-        move |x: u32| -> Result<_, u32> {
-            calls = calls.wrapping_add(1);
-            if calls == 2 {
-                Err(x)
-            } else {
-                Ok(once::<u32, u32>(x.wrapping_add(calls)))
-            }
-        },
-    );
+    let mut it = convert(answers.iter().copied()).flat_map(move |x: u32| -> Result<_, u32> {
+        calls = calls.wrapping_add(1);
+        if calls == 2 {
+            Err(x)
+        } else {
+            Ok(once::<u32, u32>(x.wrapping_add(calls)))
+        }
+    });
     expect_answers(&rt, &mut it, &[Item(11), Failure(20), Item(33), End])
 }

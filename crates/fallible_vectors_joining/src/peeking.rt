@@ -2,79 +2,113 @@
 ghost use Rattle.std.specs.Prelude.{◌≡◌, ⊤, Some, None, Ok, MatchResult};
 ghost use Rattle.fallible_core.specs.Peeking.Peekable.{Fills, peekable_parts};
 
-use fallible_iterator::laws::Answer::{End, Failure, Item};
 use fallible_iterator::{FallibleIterator, Peekable, convert, from_fn, once, repeat};
-use fallible_testing::answered::expect_answers;
 use fallible_testing::listed::listed;
 use fallible_testing::test_error::TestError;
 use std::cell::Cell;
 use std::test::Fail;
 
-#[test]
-fn peek_holds_no_failure(rt: HostRuntime) -> Result<(), Fail> {
-    let mut it = listed::<u32, u32, 2>(rt.alloc(), [Err(4), Ok(5)])?.peekable();
-    assert_eq!(rt; it.peek(), Err(4));
-    assert_eq!(rt; it.peek(), Ok(Some(&5)));
-    expect_answers(&rt, &mut it, &[Item(5), End])
+// A copy of what `peek` looked at.
+fn copied(looked_at: Result<Option<&u32>, u32>) -> Result<Option<u32>, u32> {
+    Ok(looked_at?.copied())
+}
+
+// What two peeks answer, the two draws that follow, one more peek, and two more draws.
+fn peeks_and_draws(answers: &[Result<u32, u32>]) -> [Result<Option<u32>, u32>; 7] {
+    let mut it = convert(answers.iter().copied()).peekable();
+    [
+        copied(it.peek()),
+        copied(it.peek()),
+        it.next(),
+        it.next(),
+        copied(it.peek()),
+        it.next(),
+        it.next(),
+    ]
 }
 
 #[test]
-fn peek_and_next_of_two_items(rt: HostRuntime) -> Result<(), Fail> {
-    let mut it = listed::<u32, u32, 2>(rt.alloc(), [Ok(0), Ok(1)])?.peekable();
-    assert_eq!(rt; it.peek(), Ok(Some(&0)));
-    assert_eq!(rt; it.peek(), Ok(Some(&0)));
-    expect_answers(&rt, &mut it, &[Item(0), Item(1)])?;
-    assert_eq!(rt; it.peek(), Ok(None));
-    assert_eq!(rt; it.next(), Ok(None));
-    Ok(())
+fn peek_holds_an_item_and_no_failure(rt: HostRuntime) {
+    assert_eq!(rt;
+        peeks_and_draws(&[Err(4), Ok(5)]),
+        [
+            Err(4),
+            Ok(Some(5)),
+            Ok(Some(5)),
+            Ok(None),
+            Ok(None),
+            Ok(None),
+            Ok(None)
+        ]
+    );
+    assert_eq!(rt;
+        peeks_and_draws(&[Ok(0), Ok(1)]),
+        [
+            Ok(Some(0)),
+            Ok(Some(0)),
+            Ok(Some(0)),
+            Ok(Some(1)),
+            Ok(None),
+            Ok(None),
+            Ok(None),
+        ]
+    );
+    assert_eq!(rt;
+        peeks_and_draws(&[Ok(1), Err(2), Ok(3)]),
+        [
+            Ok(Some(1)),
+            Ok(Some(1)),
+            Ok(Some(1)),
+            Err(2),
+            Ok(Some(3)),
+            Ok(Some(3)),
+            Ok(None),
+        ]
+    );
 }
 
 #[test]
-fn peek_at_borrowed_items(rt: HostRuntime) -> Result<(), Fail> {
+fn peek_at_borrowed_items(rt: HostRuntime) {
     let numbers = [1u32, 2];
     let mut it = convert(numbers.iter().map(|x| Ok::<&u32, u32>(x))).peekable();
     assert_eq!(rt; it.peek(), Ok(Some(&&1)));
     assert_eq!(rt; it.next(), Ok(Some(&1)));
     assert_eq!(rt; it.next(), Ok(Some(&2)));
     assert_eq!(rt; it.next(), Ok(None));
-    Ok(())
 }
 
 #[test]
-fn peek_draws_once(rt: HostRuntime) -> Result<(), Fail> {
-    let mut it = listed::<u32, u32, 3>(rt.alloc(), [Ok(1), Ok(2), Ok(3)])?;
+fn peek_draws_once(rt: HostRuntime) {
+    let answers: [Result<u32, u32>; 3] = [Ok(1), Ok(2), Ok(3)];
+    let mut it = convert(answers.iter().copied());
     let mut ahead = (&mut it).peekable();
     assert_eq!(rt; ahead.peek(), Ok(Some(&1)));
     assert_eq!(rt; ahead.peek(), Ok(Some(&1)));
     assert_eq!(rt; it.next(), Ok(Some(2)));
-    Ok(())
+}
+
+// What `next_if` answers for the first two numbers, and `next_if_eq` for the others.
+fn next_ifs(answers: &[Result<u32, u32>], numbers: [u32; 5]) -> [Result<Option<u32>, u32>; 5] {
+    let mut it = convert(answers.iter().copied()).peekable();
+    [
+        it.next_if(|x: &u32| *x == numbers[0]),
+        it.next_if(|x: &u32| *x == numbers[1]),
+        it.next_if_eq(&numbers[2]),
+        it.next_if_eq(&numbers[3]),
+        it.next_if_eq(&numbers[4]),
+    ]
 }
 
 #[test]
-fn next_if_takes_an_item_that_is_accepted(rt: HostRuntime) -> Result<(), Fail> {
-    let mut it = listed::<u32, u32, 2>(rt.alloc(), [Ok(1), Ok(2)])?.peekable();
-    assert_eq!(rt; it.next_if(|x: &u32| *x > 1), Ok(None));
-    assert_eq!(rt; it.next_if(|x: &u32| *x == 1), Ok(Some(1)));
-    assert_eq!(rt; it.next_if_eq(&2), Ok(Some(2)));
-    assert_eq!(rt; it.next_if_eq(&2), Ok(None));
-    Ok(())
-}
-
-#[test]
-fn next_if_answers_a_failure(rt: HostRuntime) -> Result<(), Fail> {
-    let mut it = listed::<u32, u32, 3>(rt.alloc(), [Err(4), Ok(1), Err(5)])?.peekable();
-    assert_eq!(rt; it.next_if(|x: &u32| *x == 1), Err(4));
-    assert_eq!(rt; it.next_if_eq(&3), Ok(None));
-    assert_eq!(rt; it.next_if_eq(&1), Ok(Some(1)));
-    assert_eq!(rt; it.next_if_eq(&1), Err(5));
-    Ok(())
-}
-
-#[test]
-fn peekable_gives_the_held_item_first(rt: HostRuntime) -> Result<(), Fail> {
-    let mut it = listed::<u32, u32, 3>(rt.alloc(), [Ok(1), Err(2), Ok(3)])?.peekable();
-    assert_eq!(rt; it.peek(), Ok(Some(&1)));
-    expect_answers(&rt, &mut it, &[Item(1), Failure(2), Item(3), End])
+fn next_if_takes_an_item_that_is_accepted_and_answers_a_failure(rt: HostRuntime) {
+    assert_eq!(rt;
+        next_ifs(&[Ok(1), Ok(2)], [2, 1, 2, 2, 2]),
+        [Ok(None), Ok(Some(1)), Ok(Some(2)), Ok(None), Ok(None)]
+    );
+    assert_eq!(rt;
+        next_ifs(&[Err(4), Ok(1), Err(5)], [1, 3, 3, 1, 1]),
+        [Err(4), Ok(None), Ok(None), Ok(Some(1)), Err(5)]
+    );
 }
 
 #[test]
@@ -88,15 +122,11 @@ fn peekable_counts_the_held_item(rt: HostRuntime) -> Result<(), Fail> {
 }
 
 #[test]
-fn peekable_hint_counts_the_held_item(rt: HostRuntime) {
+fn peekable_hint_counts_the_held_item_up_to_the_greatest_number(rt: HostRuntime) {
     let mut it = once::<u32, u32>(1).peekable();
     assert_eq!(rt; it.size_hint(), (1, Some(1)));
     assert_eq!(rt; it.peek(), Ok(Some(&1)));
     assert_eq!(rt; it.size_hint(), (1, Some(1)));
-}
-
-#[test]
-fn peekable_hint_stays_below_the_greatest_number(rt: HostRuntime) {
     let mut it = repeat::<u32, TestError>(1).peekable();
     assert_eq!(rt; it.peek(), Ok(Some(&1)));
     assert_eq!(rt; it.size_hint(), (usize::MAX, None));
@@ -128,18 +158,19 @@ where
 }
 
 #[test]
-fn what_is_looked_at_is_the_next_item(rt: HostRuntime) -> Result<(), Fail> {
-    let mut it = listed::<u32, u32, 2>(rt.alloc(), [Ok(1), Err(2)])?.peekable();
+fn what_is_looked_at_is_the_next_item(rt: HostRuntime) {
+    let answers: [Result<u32, u32>; 2] = [Ok(1), Err(2)];
+    let mut it = convert(answers.iter().copied()).peekable();
     assert_eq!(rt; take_looked_at(&mut it), Ok(Some(1)));
     assert_eq!(rt; take_looked_at(&mut it), Err(2));
     assert_eq!(rt; take_looked_at(&mut it), Ok(None));
-    Ok(())
 }
 
 #[test]
-fn next_if_calls_its_closure_once(rt: HostRuntime) -> Result<(), Fail> {
+fn next_if_calls_its_closure_once(rt: HostRuntime) {
     let calls = Cell::new(0u32);
-    let mut it = listed::<u32, u32, 2>(rt.alloc(), [Ok(1), Err(2)])?.peekable();
+    let answers: [Result<u32, u32>; 2] = [Ok(1), Err(2)];
+    let mut it = convert(answers.iter().copied()).peekable();
     let refuse = |_x: &u32| {
         calls.set(calls.get().wrapping_add(1));
         false
@@ -153,16 +184,15 @@ fn next_if_calls_its_closure_once(rt: HostRuntime) -> Result<(), Fail> {
     };
     assert_eq!(rt; it.next_if(accept), Err(2));
     assert_eq!(rt; calls.get(), 1);
-    Ok(())
 }
 
 #[test]
-fn peek_holds_an_end(rt: HostRuntime) {
+fn peek_and_next_if_hold_the_end_that_they_draw(rt: HostRuntime) {
     let mut calls = 0u32;
     let mut it = from_fn(move || {
         calls = calls.wrapping_add(1);
         match calls {
-            2 => Ok::<Option<u32>, u32>(Some(7)),
+            2 | 4 => Ok::<Option<u32>, u32>(Some(7)),
             _ => Ok(None),
         }
     })
@@ -171,6 +201,10 @@ fn peek_holds_an_end(rt: HostRuntime) {
     assert_eq!(rt; it.peek(), Ok(None));
     assert_eq!(rt; it.next(), Ok(None));
     assert_eq!(rt; it.next(), Ok(Some(7)));
+    assert_eq!(rt; it.next_if_eq(&7), Ok(None));
+    assert_eq!(rt; it.peek(), Ok(None));
+    assert_eq!(rt; it.next(), Ok(None));
+    assert_eq!(rt; it.next_if_eq(&7), Ok(Some(7)));
 }
 
 fn sum(total: u32, x: u32) -> Result<u32, u32> {
@@ -196,23 +230,6 @@ fn a_held_end_ends_one_fold(rt: HostRuntime) {
     assert_eq!(rt; it.next(), Ok(Some(7)));
 }
 
-#[test]
-fn next_if_holds_the_end_that_it_draws(rt: HostRuntime) {
-    let mut calls = 0u32;
-    let mut it = from_fn(move || {
-        calls = calls.wrapping_add(1);
-        match calls {
-            2 => Ok::<Option<u32>, u32>(Some(7)),
-            _ => Ok(None),
-        }
-    })
-    .peekable();
-    assert_eq!(rt; it.next_if_eq(&7), Ok(None));
-    assert_eq!(rt; it.peek(), Ok(None));
-    assert_eq!(rt; it.next(), Ok(None));
-    assert_eq!(rt; it.next_if_eq(&7), Ok(Some(7)));
-}
-
 // Stops at 2.
 fn sum_up_to_two(total: u32, x: u32) -> Result<u32, u32> {
     if x == 2 {
@@ -222,21 +239,28 @@ fn sum_up_to_two(total: u32, x: u32) -> Result<u32, u32> {
     }
 }
 
-#[test]
-fn a_fold_that_stops_takes_the_held_item(rt: HostRuntime) -> Result<(), Fail> {
-    let mut it = listed::<u32, u32, 3>(rt.alloc(), [Ok(2), Ok(3), Ok(4)])?.peekable();
-    assert_eq!(rt; it.peek(), Ok(Some(&2)));
-    assert_eq!(rt; it.try_fold(0, sum_up_to_two), Err(7));
-    assert_eq!(rt; it.next(), Ok(Some(3)));
-    Ok(())
+// What a fold that stops at 2 answers after a peek, with what is looked at before and after it, and the next draw.
+fn peek_and_fold_up_to_two(
+    answers: &[Result<u32, u32>],
+) -> (
+    Result<Option<u32>, u32>,
+    Result<u32, u32>,
+    [Result<Option<u32>, u32>; 2],
+) {
+    let mut it = convert(answers.iter().copied()).peekable();
+    let held = copied(it.peek());
+    let outcome = it.try_fold(0, sum_up_to_two);
+    (held, outcome, [copied(it.peek()), it.next()])
 }
 
 #[test]
-fn a_fold_stops_after_the_held_item(rt: HostRuntime) -> Result<(), Fail> {
-    let mut it = listed::<u32, u32, 3>(rt.alloc(), [Ok(1), Ok(2), Ok(3)])?.peekable();
-    assert_eq!(rt; it.peek(), Ok(Some(&1)));
-    assert_eq!(rt; it.try_fold(0, sum_up_to_two), Err(7));
-    assert_eq!(rt; it.peek(), Ok(Some(&3)));
-    assert_eq!(rt; it.next(), Ok(Some(3)));
-    Ok(())
+fn a_fold_that_stops_takes_the_held_item(rt: HostRuntime) {
+    assert_eq!(rt;
+        peek_and_fold_up_to_two(&[Ok(2), Ok(3), Ok(4)]),
+        (Ok(Some(2)), Err(7), [Ok(Some(3)), Ok(Some(3))])
+    );
+    assert_eq!(rt;
+        peek_and_fold_up_to_two(&[Ok(1), Ok(2), Ok(3)]),
+        (Ok(Some(1)), Err(7), [Ok(Some(3)), Ok(Some(3))])
+    );
 }
