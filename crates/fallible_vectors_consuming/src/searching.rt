@@ -243,3 +243,20 @@ fn position_counts_the_items_before_and_fails_where_its_predicate_fails(rt: Host
         [Err(42), Ok(Some(0)), Ok(None)]
     );
 }
+
+#[test]
+fn position_draws_nothing_after_its_predicate_fails(rt: HostRuntime) {
+    let four: [Result<u32, u32>; 4] = [Ok(1), Ok(2), Ok(3), Ok(4)];
+    let mut it = convert(four.iter().copied());
+    let found = it.position(|x: u32| if x == 3 { Err(42) } else { Ok(x == 4) });
+    assert_eq!(rt; found, Err(42));
+    assert_eq!(rt; it.next(), Ok(Some(4)));
+}
+
+#[test]
+fn find_stops_at_the_first_odd_item(rt: HostRuntime) {
+    let four: [Result<u32, u32>; 4] = [Ok(0), Ok(1), Ok(2), Ok(3)];
+    let mut it = convert(four.iter().copied());
+    assert_eq!(rt; it.find(|x: &u32| Ok(*x % 2 == 1)), Ok(Some(1)));
+    assert_eq!(rt; it.next(), Ok(Some(2)));
+}

@@ -3,6 +3,7 @@ use fallible_iterator::{
     FallibleIterator, IntoFallible, IteratorExt, convert, empty, from_fn, once, repeat, repeat_err,
 };
 use fallible_testing::collected::expect_collected;
+use fallible_testing::listed::listed;
 use fallible_testing::scripted::scripted;
 use fallible_testing::test_error::TestError;
 use std::test::Fail;
@@ -164,11 +165,12 @@ fn zip_with_an_endless_side_is_counted(rt: HostRuntime) {
 
 #[test]
 fn a_nest_of_joins_is_drained(rt: HostRuntime) -> Result<(), Fail> {
-    let answers: [Result<u32, u32>; 3] = [Ok(1), Ok(2), Ok(3)];
-    let left = convert(answers.iter().copied()).chain(once(4));
-    let answers: [Result<u32, u32>; 3] = [Ok(10), Ok(20), Ok(30)];
+    let left = listed::<u32, u32, 2>(rt.alloc(), [Ok(1), Ok(2)])?
+        .chain(once(3))
+        .chain(once(4));
+    let right = listed::<u32, u32, 3>(rt.alloc(), [Ok(10), Ok(20), Ok(30)])?;
     let sums = left
-        .zip(convert(answers.iter().copied()))
+        .zip(right)
         .map(|pair: (u32, u32)| Ok(pair.0.wrapping_add(pair.1)));
     expect_collected(sums.collect(rt.alloc()), &[11, 22, 33])
 }
