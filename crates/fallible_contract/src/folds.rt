@@ -1,5 +1,5 @@
 //! Folds that carry a value.
-ghost use Rattle.std.specs.Prelude.{◌≡◌, ◌+◌, ◌-◌, ◌^◌, ◌<◌, ⊤, IfOk, Result, Ok, Some};
+ghost use Rattle.std.specs.Prelude.{◌≡◌, ◌+◌, ◌-◌, ◌^◌, ◌<◌, ⊤, IfOk, Result, Ok, Some, None, IsSomeAnd};
 ghost use Rattle.fallible_contract.specs.Passing.{stopped_outcome};
 ghost use Rattle.fallible_contract.specs.Folding.{TurnedBy, handed};
 ghost use Rattle.fallible_contract.specs.Folds.{unpacked, ValueAt, FoldedAt, FoldTurn, ReachTurn, reached_at, call_with, takes_with};
@@ -39,6 +39,18 @@ impl<C, A, R, F: Fn(C, A) -> Result<C, R>> Turn<C, A, R> for F {
 
     fn turn(&self, carried: C, item: A) -> Result<C, R> {
         self(carried, item)
+    }
+}
+
+/// What a slot holds, which is empty then. It asks that the slot is full.
+pub fn take_out<F>(slot: &mut Option<F>) -> F
+    requires { IsSomeAnd slot.old (λ _. ⊤) }
+    ensures value { slot.old ≡ Some result }
+    ensures emptied { slot.new ≡ None }
+{
+    match slot.take() {
+        Some(value) => value,
+        None => unreachable!(),
     }
 }
 

@@ -8,7 +8,7 @@ ghost use Rattle.fallible_contract.specs.Laws.Contract.{lawful_seen};
 ghost use Rattle.fallible_core.specs.Laws.Cutting.TakeWhile.{lawful_take_while};
 
 use crate::traits::FallibleIterator;
-use fallible_contract::folds::{Exit, Turn, turned};
+use fallible_contract::folds::{Exit, Turn, take_out, turned};
 
 /// The answers of the source up to the first item that the predicate refuses, which is lost, and from there on ends. An item on which the predicate fails is lost, and its failure is the answer; neither it nor an end of the source ends anything.
 #[derive(Clone, Debug, Drop)]
@@ -77,10 +77,7 @@ where
         if *refused {
             return Exit::Ended(init);
         }
-        let predicate = match slot.take() {
-            Some(predicate) => predicate,
-            None => unreachable!(),
-        };
+        let predicate = take_out(slot);
         let turn = Taking { turn: k };
         let (predicate, exit, closed) = taken(it.try_fold_carrying((init, predicate), &turn));
         *slot = Some(predicate);

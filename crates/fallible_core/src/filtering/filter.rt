@@ -12,7 +12,7 @@ ghost use Rattle.fallible_core.specs.Laws.Filtering.Filter.{lawful_filter, lawfu
 
 use crate::traits::FallibleIterator;
 use crate::traits::double_ended::DoubleEndedFallibleIterator;
-use fallible_contract::folds::{Exit, Turn, handed_back, turned, unpack};
+use fallible_contract::folds::{Exit, Turn, handed_back, take_out, turned, unpack};
 
 /// The items to which the predicate answers true. An item on which it fails is lost, and its failure is the answer.
 #[derive(Clone, Debug, Drop)]
@@ -35,10 +35,7 @@ where
 
     /// Draws until an item is kept, a failure comes or an end comes, and calls the predicate on each item.
     fn next(&mut self) -> Result<Option<I::Item>, I::Error> {
-        let f = match self.f.take() {
-            Some(f) => f,
-            None => unreachable!(),
-        };
+        let f = take_out(&mut self.f);
         let (f, answer) = unpack(self.it.try_fold_carrying(f, &Asking));
         self.f = Some(f);
         answer
@@ -53,10 +50,7 @@ where
         init: C,
         k: &K,
     ) -> Exit<C, I::Error, R> {
-        let f = match self.f.take() {
-            Some(f) => f,
-            None => unreachable!(),
-        };
+        let f = take_out(&mut self.f);
         let turn = Filtering { turn: k };
         let (f, exit) = handed_back(self.it.try_fold_carrying((init, f), &turn));
         self.f = Some(f);
@@ -77,10 +71,7 @@ where
 
     /// Draws from behind until an item is kept, a failure comes or an end comes, and calls the predicate on each item.
     fn next_back(&mut self) -> Result<Option<I::Item>, I::Error> {
-        let f = match self.f.take() {
-            Some(f) => f,
-            None => unreachable!(),
-        };
+        let f = take_out(&mut self.f);
         let (f, answer) = unpack(self.it.try_rfold_carrying(f, &Asking));
         self.f = Some(f);
         answer
@@ -91,10 +82,7 @@ where
         init: C,
         k: &K,
     ) -> Exit<C, I::Error, R> {
-        let f = match self.f.take() {
-            Some(f) => f,
-            None => unreachable!(),
-        };
+        let f = take_out(&mut self.f);
         let turn = Filtering { turn: k };
         let (f, exit) = handed_back(self.it.try_rfold_carrying((init, f), &turn));
         self.f = Some(f);

@@ -12,7 +12,7 @@ ghost use Rattle.fallible_core.specs.Laws.Filtering.FilterMap.{lawful_filter_map
 
 use crate::traits::FallibleIterator;
 use crate::traits::double_ended::DoubleEndedFallibleIterator;
-use fallible_contract::folds::{Exit, Turn, handed_back, turned, unpack};
+use fallible_contract::folds::{Exit, Turn, handed_back, take_out, turned, unpack};
 
 /// The values that the closure answers. An item on which it answers none is left out; an item on which it fails is lost, and its failure is the answer.
 #[derive(Clone, Debug, Drop)]
@@ -32,10 +32,7 @@ impl<I: FallibleIterator, B, F: FnMut(I::Item) -> Result<Option<B>, I::Error>> F
 
     /// Draws until the closure answers a value, a failure comes or an end comes, and calls the closure on each item.
     fn next(&mut self) -> Result<Option<B>, I::Error> {
-        let f = match self.f.take() {
-            Some(f) => f,
-            None => unreachable!(),
-        };
+        let f = take_out(&mut self.f);
         let (f, value) = unpack(self.it.try_fold_carrying(f, &Asking));
         self.f = Some(f);
         value
@@ -50,10 +47,7 @@ impl<I: FallibleIterator, B, F: FnMut(I::Item) -> Result<Option<B>, I::Error>> F
         init: C,
         k: &K,
     ) -> Exit<C, I::Error, R> {
-        let f = match self.f.take() {
-            Some(f) => f,
-            None => unreachable!(),
-        };
+        let f = take_out(&mut self.f);
         let turn = FilterMapping { turn: k };
         let (f, exit) = handed_back(self.it.try_fold_carrying((init, f), &turn));
         self.f = Some(f);
@@ -72,10 +66,7 @@ impl<
 
     /// Draws from behind until the closure answers a value, a failure comes or an end comes, and calls the closure on each item.
     fn next_back(&mut self) -> Result<Option<B>, I::Error> {
-        let f = match self.f.take() {
-            Some(f) => f,
-            None => unreachable!(),
-        };
+        let f = take_out(&mut self.f);
         let (f, answer) = unpack(self.it.try_rfold_carrying(f, &Asking));
         self.f = Some(f);
         answer
@@ -86,10 +77,7 @@ impl<
         init: C,
         k: &K,
     ) -> Exit<C, I::Error, R> {
-        let f = match self.f.take() {
-            Some(f) => f,
-            None => unreachable!(),
-        };
+        let f = take_out(&mut self.f);
         let turn = FilterMapping { turn: k };
         let (f, exit) = handed_back(self.it.try_rfold_carrying((init, f), &turn));
         self.f = Some(f);

@@ -8,7 +8,7 @@ ghost use Rattle.fallible_contract.specs.Laws.Contract.{lawful_seen};
 ghost use Rattle.fallible_core.specs.Laws.Filtering.SkipWhile.{lawful_skip_while};
 
 use crate::traits::FallibleIterator;
-use fallible_contract::folds::{Exit, Turn};
+use fallible_contract::folds::{Exit, Turn, take_out};
 use fallible_contract::searching::Test;
 
 /// The items from the first one on to which the predicate answers false. It is asked up to and with that item and never again; an item on which it fails is lost, and its failure is the answer.
@@ -34,10 +34,7 @@ where
 
     /// Draws until an item is kept, a failure comes or an end comes, and asks the predicate of each item until it first answered false.
     fn next(&mut self) -> Result<Option<I::Item>, I::Error> {
-        let predicate = match self.predicate.take() {
-            Some(predicate) => predicate,
-            None => unreachable!(),
-        };
+        let predicate = take_out(&mut self.predicate);
         let (state, answer) = self.it.find_carrying((self.found, predicate), &Asking);
         let (found, predicate) = state;
         self.found = found;

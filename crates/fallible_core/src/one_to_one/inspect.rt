@@ -12,7 +12,7 @@ ghost use Rattle.fallible_core.specs.Laws.OneToOne.Inspect.{lawful_inspect, lawf
 
 use crate::traits::FallibleIterator;
 use crate::traits::double_ended::DoubleEndedFallibleIterator;
-use fallible_contract::folds::{Exit, Turn, handed_back, turned};
+use fallible_contract::folds::{Exit, Turn, handed_back, take_out, turned};
 
 /// The items of the source, each shown to the closure first. An item on which the closure fails is lost, and its failure is the answer.
 #[derive(Clone, Debug, Drop)]
@@ -47,10 +47,7 @@ where
         init: C,
         k: &K,
     ) -> Exit<C, I::Error, R> {
-        let f = match self.f.take() {
-            Some(f) => f,
-            None => unreachable!(),
-        };
+        let f = take_out(&mut self.f);
         let turn = Inspecting { turn: k };
         let (f, exit) = handed_back(self.it.try_fold_carrying((init, f), &turn));
         self.f = Some(f);
@@ -79,10 +76,7 @@ where
         init: C,
         k: &K,
     ) -> Exit<C, I::Error, R> {
-        let f = match self.f.take() {
-            Some(f) => f,
-            None => unreachable!(),
-        };
+        let f = take_out(&mut self.f);
         let turn = Inspecting { turn: k };
         let (f, exit) = handed_back(self.it.try_rfold_carrying((init, f), &turn));
         self.f = Some(f);

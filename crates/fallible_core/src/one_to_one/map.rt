@@ -12,7 +12,7 @@ ghost use Rattle.fallible_core.specs.Laws.OneToOne.Map.{lawful_map, lawful_ends_
 
 use crate::traits::FallibleIterator;
 use crate::traits::double_ended::DoubleEndedFallibleIterator;
-use fallible_contract::folds::{Exit, Turn, handed_back, turned};
+use fallible_contract::folds::{Exit, Turn, handed_back, take_out, turned};
 use std::fmt;
 
 /// Each item replaced by the closure's answer on it; where the closure fails, its failure is the answer and the item is lost.
@@ -53,10 +53,7 @@ impl<I: FallibleIterator, B, F: FnMut(I::Item) -> Result<B, I::Error>> FallibleI
         init: C,
         k: &K,
     ) -> Exit<C, I::Error, R> {
-        let f = match self.f.take() {
-            Some(f) => f,
-            None => unreachable!(),
-        };
+        let f = take_out(&mut self.f);
         let turn = Mapping { turn: k };
         let (f, exit) = handed_back(self.it.try_fold_carrying((init, f), &turn));
         self.f = Some(f);
@@ -83,10 +80,7 @@ impl<
         init: C,
         k: &K,
     ) -> Exit<C, I::Error, R> {
-        let f = match self.f.take() {
-            Some(f) => f,
-            None => unreachable!(),
-        };
+        let f = take_out(&mut self.f);
         let turn = Mapping { turn: k };
         let (f, exit) = handed_back(self.it.try_rfold_carrying((init, f), &turn));
         self.f = Some(f);

@@ -1,5 +1,5 @@
 -- A fold of the source, by the predicate's answer and the caller's turn on what it keeps; once an item was refused, an end without a draw.
-use Rattle.std.proofs.Common.{sym, refl}
+use Rattle.std.proofs.Common.{refl}
 use Rattle.fallible_contract.specs.Laws.Contract.{lawful_seen, stays_run}
 use Rattle.fallible_core.specs.Cutting.TakeWhile.{take_while_parts}
 use Rattle.fallible_core.specs.Laws.Cutting.TakeWhile.{lawful_take_while}
@@ -10,10 +10,10 @@ pub returns-then-refused-clause-carried : goal.returns-then-refused-clause-carri
 returns-then-refused-clause-carried g c = refused_folds g.I.FallibleIterator.contract g.P.FnMut c.args.self.now (g.K.Turn.turns c.args.k.now) c.if-refused.true
 
 pub try_fold_carrying-requires-clause-callable : goal.try_fold_carrying-requires-clause-callable
-try_fold_carrying-requires-clause-callable g c = taking_takes g.I.FallibleIterator.contract g.P.FnMut c.args.self.now (g.K.Turn.turns c.args.k.now) (sym c.in-Some.ensures.value) c.if-refused.false g.met.I.FallibleIterator.lawful c.requires.can.0 c.requires.can.1 c.requires.callable
+try_fold_carrying-requires-clause-callable g c = taking_takes g.I.FallibleIterator.contract g.P.FnMut c.args.self.now (g.K.Turn.turns c.args.k.now) c.take_out-predicate.ensures.value c.if-refused.false g.met.I.FallibleIterator.lawful c.requires.can.0 c.requires.can.1 c.requires.callable
 
 pub returns-clause-carried : goal.returns-clause-carried
-returns-clause-carried g c = rw c.taken-predicate.ensures (taking_folds g.I.FallibleIterator.contract g.P.FnMut c.args.self.now (g.K.Turn.turns c.args.k.now) (sym c.in-Some.ensures.value) c.if-refused.false _ refl c.try_fold_carrying.ensures.carried)
+returns-clause-carried g c = rw c.taken-predicate.ensures (taking_folds g.I.FallibleIterator.contract g.P.FnMut c.args.self.now (g.K.Turn.turns c.args.k.now) c.take_out-predicate.ensures.value c.if-refused.false _ refl c.try_fold_carrying.ensures.carried)
 
 pub returns-clause-stays : goal.returns-clause-stays
 returns-clause-stays g c = stays_run (lawful_seen take_while_parts (lawful_take_while g.P.FnMut g.met.I.FallibleIterator.lawful)) _ _ _ c.requires.can (returns-clause-carried g c).ran
