@@ -25,9 +25,9 @@ pub use joining::{law_back_chain, law_chain, law_cycle, law_flat_map, law_flatte
 pub use one_to_one::{law_cloned, law_enumerate, law_inspect, law_map, law_map_err, law_scan};
 pub use peeking::law_peekable;
 pub use sources::{
-    law_back_convert, law_back_into_fallible, law_back_sources, law_convert, law_empty,
-    law_from_fn, law_into_fallible, law_listed_convert, law_listed_into_fallible, law_once,
-    law_once_err, law_repeat, law_repeat_err, law_sources,
+    law_back_convert, law_back_into_fallible, law_convert, law_empty, law_from_fn,
+    law_into_fallible, law_listed_convert, law_listed_into_fallible, law_once, law_once_err,
+    law_repeat, law_repeat_err, law_sources,
 };
 pub use to_come::{law_to_come, law_to_come_ends};
 pub use traces::{answers, answers_at};

@@ -3,7 +3,7 @@ ghost use Rattle.fallible_contract.specs.Contract.{Stays};
 
 use crate::counted::{Counted, Log};
 use crate::shared::{
-    add_up, below_three, counted, hundred_more, is_even, numbers, ten_times, tens_of_even,
+    add_up, below_three, counted, hundred_more, is_even, numbers, stop, ten_times, tens_of_even,
 };
 use fallible_iterator::{FallibleIterator, convert};
 use fallible_testing::test_error::TestError;
@@ -52,9 +52,13 @@ fn filter_draws_by_folds(rt: HostRuntime) {
     assert_eq!(rt; log.read(), [0, 0, 3, 0, 0, 0, 0, 0]);
 }
 
-// Fails with 3 on its first item.
-fn stop(_: u32, _: u32) -> Result<u32, u32> {
-    Err(3)
+#[test]
+fn filter_folds_by_one_fold(rt: HostRuntime) {
+    let log = Log::new();
+    let answers = [Ok(1), Ok(2), Ok(3), Ok(4)];
+    let mut it = counted(&answers, &log).filter(is_even);
+    assert_eq!(rt; it.try_fold(0, add_up), Ok(6));
+    assert_eq!(rt; log.read(), [0, 0, 1, 0, 0, 0, 0, 0]);
 }
 
 #[test]

@@ -1,7 +1,7 @@
 // Nests in which one adapter works through another's fold, each beside the same nest drawn by `next` alone.
 ghost use Rattle.fallible_contract.specs.Contract.{Stays};
 
-use crate::shared::numbers;
+use crate::shared::{below_three, is_even, numbers, stop, tens_of_even};
 use fallible_iterator::laws::Answer::{End, Failure, Item};
 use fallible_iterator::{FallibleIterator, IteratorExt, Once, once};
 use fallible_testing::answered::expect_answers;
@@ -55,60 +55,91 @@ fn chain_under_peekable_ends_at_a_held_end(rt: HostRuntime) -> Result<(), Fail> 
     expect_answers(&rt, &mut drawn, &[Item(1), End, Item(3), End])
 }
 
-// The digits, and the number of an item behind them.
-fn put_number_behind(digits: usize, both: (usize, u32)) -> Result<usize, Infallible> {
-    Ok(digits.wrapping_mul(10).wrapping_add(both.0))
+// The digits, and behind them the number of an item and the item.
+fn put_both_behind(digits: usize, both: (usize, usize)) -> Result<usize, Infallible> {
+    let (number, item) = both;
+    Ok(
+        digits
+            .wrapping_mul(100)
+            .wrapping_add(number.wrapping_mul(10))
+            .wrapping_add(item),
+    )
 }
 
 #[test]
 fn enumerate_over_chain_numbers_both_sides(rt: HostRuntime) -> Result<(), Fail> {
-    let sides = (5u32..7).into_fallible().chain((7u32..9).into_fallible());
-    assert_eq!(rt; sides.enumerate().fold(0, put_number_behind), Ok(123));
-    let sides = (5u32..7).into_fallible().chain((7u32..9).into_fallible());
+    let sides = (5usize..7)
+        .into_fallible()
+        .chain((7usize..9).into_fallible());
+    assert_eq!(rt; sides.enumerate().fold(0, put_both_behind), Ok(5162738));
+    let sides = (5usize..7)
+        .into_fallible()
+        .chain((7usize..9).into_fallible());
     let both_sides = [Item((0, 5)), Item((1, 6)), Item((2, 7)), Item((3, 8)), End];
     expect_answers(&rt, &mut sides.enumerate(), &both_sides)
 }
 
-// Keeps each item.
-fn keep(_: &u32) -> Result<bool, u32> {
-    Ok(true)
+// 1, 2, 3, 4, an end, and 6.
+fn four_and_an_end(alloc: Global) -> Result<Script<u32, u32>, AllocError> {
+    scripted(
+        alloc,
+        [
+            Ok(Some(1)),
+            Ok(Some(2)),
+            Ok(Some(3)),
+            Ok(Some(4)),
+            Ok(None),
+            Ok(Some(6)),
+        ],
+    )
 }
 
 #[test]
 fn filter_over_fuse_folds_up_to_its_end(rt: HostRuntime) -> Result<(), Fail> {
-    let mut it = over_an_end(rt.alloc())?.fuse().filter(keep);
-    assert_eq!(rt; digits(&mut it), (1, Ok(())));
+    let mut it = four_and_an_end(rt.alloc())?.fuse().filter(is_even);
+    assert_eq!(rt; digits(&mut it), (24, Ok(())));
     assert_eq!(rt; digits(&mut it), (0, Ok(())));
-    let mut drawn = over_an_end(rt.alloc())?.fuse().filter(keep);
-    expect_answers(&rt, &mut drawn, &[Item(1), End, End])
+    let mut drawn = four_and_an_end(rt.alloc())?.fuse().filter(is_even);
+    expect_answers(&rt, &mut drawn, &[Item(2), Item(4), End, End])
 }
 
-// Gives each item.
-fn give(x: u32) -> Result<Option<u32>, u32> {
-    Ok(Some(x))
+#[test]
+fn filter_over_fuse_goes_on_where_a_fold_stopped(rt: HostRuntime) -> Result<(), Fail> {
+    let mut it = four_and_an_end(rt.alloc())?.fuse().filter(is_even);
+    assert_eq!(rt; it.try_fold(0, stop), Err(3));
+    expect_answers(&rt, &mut it, &[Item(4), End, End])
 }
 
 #[test]
 fn filter_map_over_fuse_folds_up_to_its_end(rt: HostRuntime) -> Result<(), Fail> {
-    let mut it = over_an_end(rt.alloc())?.fuse().filter_map(give);
-    assert_eq!(rt; digits(&mut it), (1, Ok(())));
+    let mut it = four_and_an_end(rt.alloc())?.fuse().filter_map(tens_of_even);
+    assert_eq!(rt; digits(&mut it), (240, Ok(())));
     assert_eq!(rt; digits(&mut it), (0, Ok(())));
-    let mut drawn = over_an_end(rt.alloc())?.fuse().filter_map(give);
-    expect_answers(&rt, &mut drawn, &[Item(1), End, End])
+    let mut drawn = four_and_an_end(rt.alloc())?.fuse().filter_map(tens_of_even);
+    expect_answers(&rt, &mut drawn, &[Item(20), Item(40), End, End])
 }
 
-// Skips no item.
-fn refuse(_: &u32) -> Result<bool, u32> {
-    Ok(false)
+#[test]
+fn filter_map_over_fuse_goes_on_where_a_fold_stopped(rt: HostRuntime) -> Result<(), Fail> {
+    let mut it = four_and_an_end(rt.alloc())?.fuse().filter_map(tens_of_even);
+    assert_eq!(rt; it.try_fold(0, stop), Err(3));
+    expect_answers(&rt, &mut it, &[Item(40), End, End])
 }
 
 #[test]
 fn skip_while_over_fuse_folds_up_to_its_end(rt: HostRuntime) -> Result<(), Fail> {
-    let mut it = over_an_end(rt.alloc())?.fuse().skip_while(refuse);
-    assert_eq!(rt; digits(&mut it), (1, Ok(())));
+    let mut it = four_and_an_end(rt.alloc())?.fuse().skip_while(below_three);
+    assert_eq!(rt; digits(&mut it), (34, Ok(())));
     assert_eq!(rt; digits(&mut it), (0, Ok(())));
-    let mut drawn = over_an_end(rt.alloc())?.fuse().skip_while(refuse);
-    expect_answers(&rt, &mut drawn, &[Item(1), End, End])
+    let mut drawn = four_and_an_end(rt.alloc())?.fuse().skip_while(below_three);
+    expect_answers(&rt, &mut drawn, &[Item(3), Item(4), End, End])
+}
+
+#[test]
+fn skip_while_over_fuse_goes_on_where_a_fold_stopped(rt: HostRuntime) -> Result<(), Fail> {
+    let mut it = four_and_an_end(rt.alloc())?.fuse().skip_while(below_three);
+    assert_eq!(rt; it.try_fold(0, stop), Err(3));
+    expect_answers(&rt, &mut it, &[Item(4), End, End])
 }
 
 // An iterator of 1, an end, and an iterator of 2.

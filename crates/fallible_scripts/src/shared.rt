@@ -36,6 +36,11 @@ pub fn put_behind(digits: u32, x: u32) -> Result<u32, u32> {
     Ok(digits.wrapping_mul(10).wrapping_add(x))
 }
 
+/// Fails with 3 on any item.
+pub fn stop(_: u32, _: u32) -> Result<u32, u32> {
+    Err(3)
+}
+
 /// Ten times the item.
 pub fn ten_times(x: u32) -> Result<u32, u32> {
     Ok(x.wrapping_mul(10))

@@ -86,16 +86,20 @@ pub fn law_repeat_err<T, E: Clone + From<AllocError>>()
     ensures { MeetsHeld repeat_err_parts ⟦<RepeatErr<T, E> as FallibleIterator>⟧.contract.steps (RepeatErrTrace E.is_clone E.is_infallible E.from_gives) }
 {}
 
-/// What a trace of each source is, all together. The law of each says the same, and with the bounds that its source needs alone.
-pub fn law_sources<T, E, I, J, F>()
+/// What a trace of each source is, all together, and from behind that of each source that has two ends. The law of each says the same, and with the bounds that its source needs alone.
+pub fn law_sources<T, E, I, J, BackI, BackJ, F>()
 where
     T: Clone,
     E: Clone + From<AllocError>,
     I: std::iter::Iterator<Item = Result<T, E>>,
     J: std::iter::Iterator<Item = T>,
+    BackI: std::iter::DoubleEndedIterator<Item = Result<T, E>>,
+    BackJ: std::iter::DoubleEndedIterator<Item = T>,
     F: FnMut() -> Result<Option<T>, E>,
     ensures convert { MeetsHeld convert_parts ⟦<Convert<I> as FallibleIterator>⟧.contract.steps (ConvertTrace I.can_next I.next_gives I.remaining) }
     ensures into_fallible { MeetsHeld into_fallible_parts ⟦<IntoFallible<J> as FallibleIterator>⟧.contract.steps (IntoFallibleTrace J.can_next J.next_gives J.remaining) }
+    ensures back_convert { MeetsHeld convert_parts ⟦<Convert<BackI> as DoubleEndedFallibleIterator>⟧.ends.steps (ConvertTrace BackI.can_next_back BackI.next_back_gives BackI.remaining) }
+    ensures back_into_fallible { MeetsHeld into_fallible_parts ⟦<IntoFallible<BackJ> as DoubleEndedFallibleIterator>⟧.ends.steps (IntoFallibleTrace BackJ.can_next_back BackJ.next_back_gives BackJ.remaining) }
     ensures from_fn { MeetsHeld from_fn_parts ⟦<FromFn<F> as FallibleIterator>⟧.contract.steps (FromFnTrace F.FnMut) }
     ensures empty { MeetsHeld (λ s. s) ⟦<Empty<T, E> as FallibleIterator>⟧.contract.steps (λ _ trace _. EmptyTrace trace) }
     ensures once { MeetsHeld once_parts ⟦<Once<T, E> as FallibleIterator>⟧.contract.steps (OnceTrace item) }
@@ -105,22 +109,12 @@ where
 {
     law_convert::<T, E, I>();
     law_into_fallible::<T, J>();
+    law_back_convert::<T, E, BackI>();
+    law_back_into_fallible::<T, BackJ>();
     law_from_fn::<T, E, F>();
     law_empty::<T, E>();
     law_once::<T, E>();
     law_once_err::<T, E>();
     law_repeat::<T, E>();
     law_repeat_err::<T, E>();
-}
-
-/// What a trace from behind is of each source that has two ends, all together.
-pub fn law_back_sources<T, E, I, J>()
-where
-    I: std::iter::DoubleEndedIterator<Item = Result<T, E>>,
-    J: std::iter::DoubleEndedIterator<Item = T>,
-    ensures convert { MeetsHeld convert_parts ⟦<Convert<I> as DoubleEndedFallibleIterator>⟧.ends.steps (ConvertTrace I.can_next_back I.next_back_gives I.remaining) }
-    ensures into_fallible { MeetsHeld into_fallible_parts ⟦<IntoFallible<J> as DoubleEndedFallibleIterator>⟧.ends.steps (IntoFallibleTrace J.can_next_back J.next_back_gives J.remaining) }
-{
-    law_back_convert::<T, E, I>();
-    law_back_into_fallible::<T, J>();
 }
