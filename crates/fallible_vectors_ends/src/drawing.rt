@@ -2,7 +2,7 @@
 use fallible_iterator::laws::Answer::{End, Failure, Item};
 use fallible_iterator::laws::Side::{Back, Front};
 use fallible_iterator::laws::{Answer, Side};
-use fallible_iterator::{DoubleEndedFallibleIterator, FallibleIterator, convert};
+use fallible_iterator::{DoubleEndedFallibleIterator, FallibleIterator, IteratorExt, convert};
 use fallible_testing::answered::expect_answers_at;
 use fallible_testing::listed::listed;
 use std::test::Fail;
@@ -17,6 +17,19 @@ fn map_from_both_ends(rt: HostRuntime) -> Result<(), Fail> {
         &[Front, Back, Back, Front, Front, Back],
         &[Item(10), Item(40), Item(30), Failure(2), End, End],
     )
+}
+
+#[test]
+fn into_fallible_from_both_ends(rt: HostRuntime) -> Result<(), Fail> {
+    let mut it = (1u32..5).into_fallible();
+    expect_answers_at(
+        &rt,
+        &mut it,
+        &[Back, Front, Back],
+        &[Item(4), Item(1), Item(3)],
+    )?;
+    assert_eq!(rt; it.size_hint(), (1, Some(1)));
+    expect_answers_at(&rt, &mut it, &[Back, Front, Back], &[Item(2), End, End])
 }
 
 #[test]

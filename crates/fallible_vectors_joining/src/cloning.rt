@@ -143,6 +143,15 @@ fn clones_of_take_skip_and_step_by(rt: HostRuntime) -> Result<(), Fail> {
     expect_alike(&rt, &mut it, &[Item(3)])
 }
 
+#[test]
+fn clones_of_rev(rt: HostRuntime) -> Result<(), Fail> {
+    let mut it = IntoFallible::from(1..4u32).rev();
+    assert_eq!(rt; it.size_hint(), (3, Some(3)));
+    assert_eq!(rt; it.next(), Ok(Some(3)));
+    assert_eq!(rt; it.size_hint(), (2, Some(2)));
+    expect_alike(&rt, &mut it, &[Item(2)])
+}
+
 // The source would go on.
 #[test]
 fn clones_of_fuse_keep_its_end(rt: HostRuntime) -> Result<(), Fail> {
