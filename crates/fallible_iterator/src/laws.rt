@@ -13,8 +13,8 @@ pub mod traces;
 pub use borrowed::law_borrowed;
 pub use cutting::{law_fuse, law_skip, law_step_by, law_take, law_take_while};
 pub use ends::{
-    law_back_borrowed, law_back_cloned, law_back_filter, law_back_filter_map, law_back_inspect,
-    law_back_map, law_back_map_err, law_interleave, law_interleave_folds, law_interleave_nest,
+    law_back_cloned, law_back_filter, law_back_filter_map, law_back_inspect, law_back_map,
+    law_back_map_err, law_interleave, law_interleave_folds, law_interleave_nest,
     law_listed_borrowed, law_listed_chain, law_listed_cloned, law_listed_each, law_listed_filter,
     law_listed_filter_map, law_listed_inspect, law_listed_map, law_listed_map_err, law_listed_rev,
     law_rev,

@@ -5,7 +5,6 @@ ghost use Rattle.std.specs.declared.boxed.Box.{Box};
 ghost use Rattle.std.specs.declared.alloc.Global.{Global};
 ghost use Rattle.fallible_contract.specs.Traces.{Answered, Run};
 
-use crate::laws::ends::law_back_borrowed;
 use fallible_core::traits::FallibleIterator;
 use fallible_core::traits::double_ended::DoubleEndedFallibleIterator;
 
@@ -23,6 +22,4 @@ pub fn law_borrowed<'a, I: FallibleIterator + 'a, D: DoubleEndedFallibleIterator
     ensures run_back_borrowed { (s : MutBor D) (trace : List (Answered D.Item D.Error)) (x : D) → Run D.ends.steps s.now trace x → Run ⟦<&'a mut D as DoubleEndedFallibleIterator>⟧.ends.steps s trace (record s { now = x }) }
     ensures back_boxed_run { (s : Box D Global) (trace : List (Answered D.Item D.Error)) (t : Box D Global) → Run ⟦<Box<D> as DoubleEndedFallibleIterator>⟧.ends.steps s trace t → Run D.ends.steps s.value trace t.value }
     ensures run_back_boxed { (s : Box D Global) (trace : List (Answered D.Item D.Error)) (x : D) → Run D.ends.steps s.value trace x → Run ⟦<Box<D> as DoubleEndedFallibleIterator>⟧.ends.steps s trace (record s { value = x }) }
-{
-    law_back_borrowed::<'a, D>();
-}
+{}

@@ -206,13 +206,3 @@ pub fn law_back_filter_map<
 where
     ensures { MeetsHeld filter_map_parts ⟦<FilterMap<I, F> as DoubleEndedFallibleIterator>⟧.ends.steps (FilterMapTrace I.ends.steps F.FnMut) }
 {}
-
-/// From behind a `&mut I` and a `Box<I>` step as `I` does from behind: a draw answers what a draw from behind of the value behind it answers, and leaves there what that leaves. The `&mut` stays the same reference.
-pub fn law_back_borrowed<'a, I: DoubleEndedFallibleIterator + 'a>()
-    ensures borrowed { (s : MutBor I) (r : Answered I.Item I.Error) (t : MutBor I) → ⟦<&'a mut I as DoubleEndedFallibleIterator>⟧.ends.steps s r t ↔ (I.ends.steps s.now r t.now × (t.ghost_name ≡ s.ghost_name)) }
-    ensures boxed { (s : Box I Global) (r : Answered I.Item I.Error) (t : Box I Global) → ⟦<Box<I> as DoubleEndedFallibleIterator>⟧.ends.steps s r t ↔ I.ends.steps s.value r t.value }
-    ensures borrowed_run { (s : MutBor I) (trace : List (Answered I.Item I.Error)) (t : MutBor I) → Run ⟦<&'a mut I as DoubleEndedFallibleIterator>⟧.ends.steps s trace t → Run I.ends.steps s.now trace t.now }
-    ensures run_borrowed { (s : MutBor I) (trace : List (Answered I.Item I.Error)) (x : I) → Run I.ends.steps s.now trace x → Run ⟦<&'a mut I as DoubleEndedFallibleIterator>⟧.ends.steps s trace (record s { now = x }) }
-    ensures boxed_run { (s : Box I Global) (trace : List (Answered I.Item I.Error)) (t : Box I Global) → Run ⟦<Box<I> as DoubleEndedFallibleIterator>⟧.ends.steps s trace t → Run I.ends.steps s.value trace t.value }
-    ensures run_boxed { (s : Box I Global) (trace : List (Answered I.Item I.Error)) (x : I) → Run I.ends.steps s.value trace x → Run ⟦<Box<I> as DoubleEndedFallibleIterator>⟧.ends.steps s trace (record s { value = x }) }
-{}
