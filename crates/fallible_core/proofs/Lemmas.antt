@@ -1,5 +1,6 @@
 -- Lemmas that no contract and no ghost member cites.
 pub mod Borrowed
+pub mod Bridges
 pub mod Callers
 pub mod Cutting
 pub mod Filtering

@@ -1,6 +1,7 @@
 //! The trait of fallible iterators and its adapters, where every call is proved to meet its contract.
 #![tactic(auto)]
 
+pub mod bridges;
 mod comparing;
 pub mod cutting;
 pub mod ends;
@@ -12,6 +13,7 @@ pub mod peeking;
 mod picking;
 pub mod traits;
 
+pub use bridges::{Iterator, Unwrap};
 pub use cutting::{Fuse, Skip, StepBy, Take, TakeWhile};
 pub use ends::Rev;
 pub use filtering::{Filter, FilterMap, SkipWhile};

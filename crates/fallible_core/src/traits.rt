@@ -1,7 +1,8 @@
 //! The trait of fallible iterators: one call that each type writes, and all that comes with it.
 ghost use Rattle.std.specs.Prelude.{◌≡◌, ℕ, true, false, ◌+◌, ◌-◌, ◌≤◌, ◌<◌, ◌^◌, List, Option, Result, Some, None, Ok, Bool, MatchResult, ◌↔◌, ◌⊎◌};
 ghost use Rattle.std.specs.Borrow.{Bor};
-ghost use Rattle.fallible_contract.specs.Contract.{Contract, AtMost, Lawful, Stays, seen_as};
+ghost use Rattle.std.specs.Iterator.Runs.{EachRunFrom, ItemsAre};
+ghost use Rattle.fallible_contract.specs.Contract.{Contract, AtMost, Lawful, Stays, Sure, seen_as};
 ghost use Rattle.fallible_contract.specs.Closures.{IsCallable, call_on, takes_on, call_at, takes_at};
 ghost use Rattle.fallible_core.specs.OneToOne.Enumerate.{IsNumberable, enumerate_parts, enumerate_contract};
 ghost use Rattle.fallible_core.specs.Filtering.SkipWhile.{skip_call, skip_takes, skip_while_parts, skip_while_contract};
@@ -22,6 +23,8 @@ ghost use Rattle.fallible_core.specs.Joining.Chain.{chain_parts, chain_contract}
 ghost use Rattle.fallible_core.specs.Joining.Zip.{zip_parts, zip_contract};
 ghost use Rattle.fallible_core.specs.Joining.Flatten.{flatten_parts, flatten_contract};
 ghost use Rattle.fallible_core.specs.Borrowed.{borrowed};
+ghost use Rattle.fallible_core.specs.Bridges.Iterator.{iterator_parts, iterator_steps};
+ghost use Rattle.fallible_core.specs.Bridges.Unwrap.{unwrap_parts, unwrap_steps};
 ghost use Rattle.fallible_core.specs.Peeking.Peekable.{peekable_parts, peekable_contract};
 ghost use Rattle.fallible_core.specs.Joining.Cycle.{cycle_parts};
 ghost use Rattle.fallible_core.specs.declared.joining.chain.StillDrawn.TheVariants.{Both};
@@ -39,6 +42,7 @@ mod boxed;
 pub mod conversion;
 pub mod double_ended;
 
+use crate::bridges::{Iterator, Unwrap};
 use crate::comparing::compare;
 use crate::cutting::{Fuse, Skip, StepBy, Take, TakeWhile};
 use crate::ends::Rev;
@@ -63,6 +67,7 @@ use fallible_contract::searching::{
 };
 use std::alloc::{AllocError, Global};
 use std::cmp::Ordering;
+use std::fmt::Debug;
 use std::marker::PhantomData;
 
 /// An iterator whose `next` may fail. It may go on after an end and after a failure.
@@ -1003,5 +1008,27 @@ pub trait FallibleIterator: Drop + Sized {
         ensures lists { (l : List (Result Self.Item Self.Error)) → Lists contract.steps self.old l → Lists (borrowed contract).steps result l }
     {
         self
+    }
+
+    /// A std iterator over the answers: each item is an `Ok`, each failure an `Err`, an end is none, and it draws again whenever it is asked again. Making it draws nothing.
+    ///
+    /// A std loop over it asks a bound on the items and failures together, as `convert` and `into_fallible` have one where their std iterator does, and what draws from them has; where there is none, std's `take` gives one.
+    final fn iterator(self) -> Iterator<Self>
+        ensures parts { iterator_parts result ≡ self }
+        ensures reads { (l : List (Result Self.Item Self.Error)) → Lists contract.steps self l → EachRunFrom (iterator_steps contract.steps) result (λ p. ItemsAre p l) }
+    {
+        Iterator { it: self }
+    }
+
+    /// A std iterator over the items. It asks that no failure can ever come, and so it never panics. Making it draws nothing.
+    final fn unwrap<T>(self) -> Unwrap<Self>
+    where
+        Self: FallibleIterator<Item = T>,
+        Self::Error: Debug,
+        requires sure { Sure contract self }
+        ensures parts { unwrap_parts result ≡ self }
+        ensures reads { (l : List T) → Lists contract.steps self (items l) → EachRunFrom (unwrap_steps contract.steps) result (λ p. ItemsAre p l) }
+    {
+        Unwrap { it: self }
     }
 }

@@ -11,8 +11,8 @@ pub use conversion::IteratorExt;
 pub use fallible_contract::{Collect, Fault, folds};
 pub use fallible_core::{
     Chain, Cloned, Cycle, DoubleEndedFallibleIterator, Enumerate, FallibleIterator, Filter,
-    FilterMap, FlatMap, Flatten, Fuse, Inspect, IntoFallibleIterator, Map, MapErr, Peekable, Rev,
-    Scan, Skip, SkipWhile, StepBy, Take, TakeWhile, Zip,
+    FilterMap, FlatMap, Flatten, Fuse, Inspect, IntoFallibleIterator, Iterator, Map, MapErr,
+    Peekable, Rev, Scan, Skip, SkipWhile, StepBy, Take, TakeWhile, Unwrap, Zip,
 };
 pub use sources::making::{convert, empty, from_fn, once, once_err, repeat, repeat_err};
 pub use sources::{Convert, Empty, FromFn, IntoFallible, Once, OnceErr, Repeat, RepeatErr};

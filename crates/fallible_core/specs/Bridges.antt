@@ -1,0 +1,3 @@
+-- Definition and parts of what std iterates over.
+pub mod Iterator
+pub mod Unwrap
