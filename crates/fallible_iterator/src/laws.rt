@@ -1,5 +1,6 @@
 //! What a trace of each type is, as laws, and traces that a test or a caller can look at.
 pub mod borrowed;
+pub mod bridges;
 mod cutting;
 pub mod ends;
 mod filtering;
@@ -11,6 +12,7 @@ mod to_come;
 pub mod traces;
 
 pub use borrowed::law_borrowed;
+pub use bridges::{law_back_iterator, law_iterator, law_unwrap};
 pub use cutting::{law_fuse, law_skip, law_step_by, law_take, law_take_while};
 pub use ends::{
     law_back_cloned, law_back_filter, law_back_filter_map, law_back_inspect, law_back_map,

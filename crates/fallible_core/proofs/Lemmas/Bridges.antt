@@ -1,8 +1,8 @@
 -- What the std iterators over a fallible iterator read is what it lists.
-use Rattle.std.specs.Prelude.{◌≡◌, ℕ, List, [], ◌∷◌, ◌++◌, map, length, Option, Some, None, Result, Ok, Err, true}
+use Rattle.std.specs.Prelude.{◌≡◌, List, [], ◌∷◌, ◌++◌, map, length, Option, Some, None, Result, Ok, Err}
 use Rattle.std.specs.Option.{option_transpose}
 use Rattle.std.specs.Iterator.{Yields, MakesProgress}
-use Rattle.std.specs.Iterator.Runs.{Run, EachRunFrom, ItemsAre}
+use Rattle.std.specs.Iterator.Runs.{EachRunFrom, ItemsAre}
 use Rattle.std.proofs.Common.{refl, sym, ap, subst, ◌∙◌}
 use Rattle.std.proofs.iter.runs.Made.{took}
 use Rattle.std.proofs.iter.runs.Sources.{lists, as_is}

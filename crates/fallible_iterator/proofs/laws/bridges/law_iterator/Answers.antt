@@ -1,0 +1,23 @@
+-- An element is the answer that it becomes.
+use Rattle.std.proofs.Common.{refl}
+use Rattle.fallible_core.specs.Bridges.Iterator.{iterator_parts}
+use Rattle.fallible_iterator.specs.Sources.Convert.{convert_parts}
+use Rattle.fallible_contract.proofs.Lemmas.Definitions.{meets_held}
+use Rattle.fallible_contract.proofs.Lemmas.Lists.Passing.{lists_seen}
+use Rattle.fallible_iterator.proofs.Lemmas.Bridges.{runs_transposed, askable, runs_converted, lists_converted}
+use Rattle.fallible_iterator.proofs.laws.bridges.law_iterator.Goals as goal
+
+pub returns-clause-trace : goal.returns-clause-trace
+returns-clause-trace g c = meets_held iterator_parts (λ p. record { it = p }) (λ s. refl) (λ p. refl) _ _ (runs_transposed g.I.FallibleIterator.contract.steps)
+
+pub returns-clause-askable : goal.returns-clause-askable
+returns-clause-askable g c = λ s can. askable g.I.FallibleIterator.contract iterator_parts g.met.I.FallibleIterator.lawful s can
+
+pub returns-clause-converted : goal.returns-clause-converted
+returns-clause-converted g c = λ s trace t can.
+    let below = meets_held convert_parts (λ p. record { it = p }) (λ u. refl) (λ p. refl) _ _ (λ p l q. ((λ h. h), (λ h. h))) s trace t in
+    let source = runs_converted g.I.FallibleIterator.contract iterator_parts (λ p. record { it = p }) (λ u. refl) (λ p. refl) g.met.I.FallibleIterator.lawful (convert_parts s) trace (convert_parts t) can in
+    ((λ h. source.0 (below.0 h)), (λ h. below.1 (source.1 h)))
+
+pub returns-clause-lists : goal.returns-clause-lists
+returns-clause-lists g c = λ s l i. lists_seen convert_parts _ s refl refl (lists_converted g.I.FallibleIterator.contract iterator_parts l (convert_parts s) i).runs
