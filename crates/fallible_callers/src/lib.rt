@@ -2,6 +2,7 @@
 #![tactic(auto)]
 
 pub mod behind;
+pub mod bridging;
 pub mod computing;
 pub mod consuming;
 pub mod drawing;

@@ -9,58 +9,66 @@ use Rattle.std.proofs.iter.runs.Sources.{lists, as_is}
 use Rattle.std.specs.Result.{IsOk}
 use Rattle.fallible_contract.specs.Contract.{Contract, Lawful, Sure}
 use Rattle.fallible_contract.specs.Traces.{Answered}
-use Rattle.fallible_contract.specs.Lists.{AlwaysGives, Lists, result_answer, items}
+use Rattle.fallible_contract.specs.Lists.{AlwaysGives, Lists, result_answer, results, items}
+use Rattle.fallible_core.specs.Bridges.Unwrap.{unwrapped}
 
 same : {A : Type 0} (l : List A) → map (λ y. y) l ≡ l
 same [] = refl
 same (x ∷ l) = ap {B = List _} (λ k. x ∷ k) (same l)
 
--- Values V are seen as those of a fallible iterator. What std's `next` gave is `answer` of it, and an element stands for a result.
-module _ {V S A E Z : Type 0} (view : V → S) (steps : S → Answered A E → S → Type 0) (answer : Option Z → Answered A E) (to : Z → Result A E)
-    (element : (o : Option Z) (z : Z) → answer o ≡ result_answer (to z) → o ≡ Some z) (none : (o : Option Z) → answer o ≡ Ok None → o ≡ None) where
+-- Values V are seen as those of a fallible iterator. What std's `next` gave is `answer` of it, and `shown` is what it gives of a list.
+module _ {V S A E Z : Type 0} (view : V → S) (steps : S → Answered A E → S → Type 0) (answer : Option Z → Answered A E) (shown : List (Result A E) → List Z) (nothing : shown [] ≡ [])
+    (element : (o : Option Z) (y : Result A E) (l : List (Result A E)) → answer o ≡ result_answer y → (z : Z) × (o ≡ Some z) × (shown (y ∷ l) ≡ z ∷ shown l)) (none : (o : Option Z) → answer o ≡ Ok None → o ≡ None) where
   abbrev gives : V → Option Z → V → Type 0
   gives s o t = steps (view s) (answer o) (view t)
 
-  -- what calls gave is the front of the list, and what is left lists the rest
-  rest_after : (l xs : List Z) (s t : V) → AlwaysGives steps (view s) (map to l) → Yields gives s xs t → (more : List Z) × (l ≡ xs ++ more) × AlwaysGives steps (view t) (map to more)
-  rest_after l [] s t g y = (l, refl, subst (λ (u : V). AlwaysGives steps (view u) (map to l)) y g)
+  -- what calls gave is the front of what is shown, and what is left lists the rest
+  rest_after : (l : List (Result A E)) (xs : List Z) (s t : V) → AlwaysGives steps (view s) l → Yields gives s xs t → (more : List (Result A E)) × (shown l ≡ xs ++ shown more) × AlwaysGives steps (view t) more
+  rest_after l [] s t g y = (l, refl, subst (λ (u : V). AlwaysGives steps (view u) l) y g)
   rest_after [] (x ∷ xs) s t g y = absurd (let e = none (Some x) (g (answer (Some x)) (view y.0) y.1) in cc)
-  rest_after (z ∷ l) (x ∷ xs) s t g y =
+  rest_after (r ∷ l) (x ∷ xs) s t g y =
       let d = g (answer (Some x)) (view y.0) y.1 in
-      let first = element (Some x) z d.0 in
-      let r = rest_after l xs y.0 t d.1 y.2 in
-      let cut = r.1 in
-      (r.0, cc, r.2)
+      let first = element (Some x) r l d.0 in
+      let is : Some x ≡ Some first.0 = first.1 in
+      let shows : shown (r ∷ l) ≡ first.0 ∷ shown l = first.2 in
+      let k = rest_after l xs y.0 t d.1 y.2 in
+      let cut : shown l ≡ xs ++ shown k.0 = k.1 in
+      (k.0, cc, k.2)
 
   -- std's none comes only where nothing is left
-  ended : (more : List Z) (t u : V) → AlwaysGives steps (view t) (map to more) → gives t None u → length more ≡ 0
-  ended [] t u g y = refl
-  ended (z ∷ more) t u g y = absurd (let e = element None z (g (answer None) (view u) y).0 in cc)
+  ended : (more : List (Result A E)) (t u : V) → AlwaysGives steps (view t) more → gives t None u → length (shown more) ≡ 0
+  ended [] t u g y = ap length nothing
+  ended (r ∷ more) t u g y = absurd (let d = g (answer None) (view u) y in let first = element None r more d.0 in let is : None ≡ Some first.0 = first.1 in cc)
 
-  pub reads : (l : List Z) (s : V) → AlwaysGives steps (view s) (map to l) → EachRunFrom gives s (λ p. ItemsAre p l)
-  reads l s g p _ e =
+  pub reads : (l : List (Result A E)) (s : V) → Lists steps (view s) l → EachRunFrom gives s (λ p. ItemsAre p (shown l))
+  reads l s i p _ e =
       let t = took p in
-      let r = rest_after l p.items p.from t.0 (subst (λ (u : V). AlwaysGives steps (view u) (map to l)) (sym e) g) t.1 in
-      as_is p l (lists p (λ y. y) l r.0 (λ w. ended r.0 t.0 (t.2 w).0 r.2 (t.2 w).1) (r.1 ∙ ap (λ k. k ++ r.0) (sym (same p.items))))
+      let k = rest_after l p.items p.from t.0 (subst (λ (u : V). AlwaysGives steps (view u) l) (sym e) i.runs) t.1 in
+      as_is p (shown l) (lists p (λ y. y) (shown l) (shown k.0) (λ w. ended k.0 t.0 (t.2 w).0 k.2 (t.2 w).1) (k.1 ∙ ap (λ j. j ++ shown k.0) (sym (same p.items))))
 
 -- ---- `Iterator`
 
 module _ {A E : Type 0} where
-  an_element : (o : Option (Result A E)) (y : Result A E) → option_transpose o ≡ result_answer y → o ≡ Some y
-  an_element None (Ok x) e = absurd cc
-  an_element None (Err d) e = absurd cc
-  an_element (Some (Ok z)) (Ok x) e = cc
-  an_element (Some (Ok z)) (Err d) e = absurd cc
-  an_element (Some (Err z)) (Ok x) e = absurd cc
-  an_element (Some (Err z)) (Err d) e = cc
+  an_element : (o : Option (Result A E)) (y : Result A E) (l : List (Result A E)) → option_transpose o ≡ result_answer y → (z : Result A E) × (o ≡ Some z) × (y ∷ l ≡ z ∷ l)
+  an_element None (Ok x) l e = absurd cc
+  an_element None (Err d) l e = absurd cc
+  an_element (Some (Ok z)) (Ok x) l e = (Ok x, cc, refl)
+  an_element (Some (Ok z)) (Err d) l e = absurd cc
+  an_element (Some (Err z)) (Ok x) l e = absurd cc
+  an_element (Some (Err z)) (Err d) l e = (Err d, cc, refl)
 
   no_element : (o : Option (Result A E)) → option_transpose o ≡ Ok None → o ≡ None
   no_element None e = refl
   no_element (Some (Ok z)) e = absurd cc
   no_element (Some (Err z)) e = absurd cc
 
-pub reads_results : {V S A E : Type 0} (view : V → S) (steps : S → Answered A E → S → Type 0) (l : List (Result A E)) (s : V) → Lists steps (view s) l → EachRunFrom (λ s o t. steps (view s) (option_transpose o) (view t)) s (λ p. ItemsAre p l)
-reads_results view steps l s i = reads view steps option_transpose (λ y. y) an_element no_element l s (subst (AlwaysGives steps (view s)) (sym (same l)) i.runs)
+module _ {V S A E : Type 0} (view : V → S) (steps : S → Answered A E → S → Type 0) where
+  pub reads_list : (l : List (Result A E)) (s : V) → Lists steps (view s) l → EachRunFrom (λ s o t. steps (view s) (option_transpose o) (view t)) s (λ p. ItemsAre p l)
+  reads_list l s i = reads view steps option_transpose (λ k. k) refl an_element no_element l s i
+
+  pub reads_results : (l : List (Result A E)) (s : V) → Lists steps (view s) (results l) → EachRunFrom (λ s o t. steps (view s) (option_transpose o) (view t)) s (λ p. ItemsAre p l)
+  unfolding results
+  reads_results l s i = reads_list l s i
 
 -- ---- `Unwrap`
 
@@ -87,19 +95,26 @@ module _ {A E : Type 0} where
   abbrev answer : Option A → Answered A E
   answer o = Ok o
 
-  abbrev result : A → Result A E
-  result x = Ok x
-
-  an_item : (o : Option A) (x : A) → answer o ≡ result_answer (result x) → o ≡ Some x
-  an_item o x e = cc
+  an_item : (o : Option A) (y : Result A E) (l : List (Result A E)) → answer o ≡ result_answer y → (z : A) × (o ≡ Some z) × (unwrapped (y ∷ l) ≡ z ∷ unwrapped l)
+  unfolding unwrapped
+  an_item o (Ok x) l e = (x, cc, refl)
+  an_item o (Err d) l e = absurd cc
 
   no_item : (o : Option A) → answer o ≡ Ok None → o ≡ None
   no_item o e = cc
 
-  items_are : (l : List A) → map result l ≡ items l
-  unfolding items
-  items_are [] = refl
-  items_are (x ∷ l) = ap (λ (t : List (Result A E)). Ok x ∷ t) (items_are l)
+none_unwrapped : (A E : Type 0) → unwrapped {A = A} {E = E} [] ≡ []
+unfolding unwrapped
+none_unwrapped A E = refl
 
-pub reads_items : {V S A E : Type 0} (view : V → S) (steps : S → Answered A E → S → Type 0) (l : List A) (s : V) → Lists steps (view s) (items l) → EachRunFrom (λ s o t. steps (view s) (Ok o) (view t)) s (λ p. ItemsAre p l)
-reads_items view steps l s i = reads view steps answer result an_item no_item l s (subst (AlwaysGives steps (view s)) (sym (items_are l)) i.runs)
+items_unwrapped : {A : Type 0} (E : Type 0) (l : List A) → unwrapped (items {E = E} l) ≡ l
+unfolding items unwrapped
+items_unwrapped E [] = refl
+items_unwrapped E (x ∷ l) = ap {B = List _} (λ t. x ∷ t) (items_unwrapped E l)
+
+module _ {V S A E : Type 0} (view : V → S) (steps : S → Answered A E → S → Type 0) where
+  pub reads_unwrapped : (l : List (Result A E)) (s : V) → Lists steps (view s) l → EachRunFrom (λ s o t. steps (view s) (Ok o) (view t)) s (λ p. ItemsAre p (unwrapped l))
+  reads_unwrapped l s i = reads view steps answer unwrapped (none_unwrapped A E) an_item no_item l s i
+
+  pub reads_items : (l : List A) (s : V) → Lists steps (view s) (items l) → EachRunFrom (λ s o t. steps (view s) (Ok o) (view t)) s (λ p. ItemsAre p l)
+  reads_items l s i = subst (λ (k : List A). EachRunFrom (λ u o t. steps (view u) (Ok o) (view t)) s (λ p. ItemsAre p k)) (items_unwrapped E l) (reads_unwrapped (items l) s i)
