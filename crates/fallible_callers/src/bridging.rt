@@ -1,38 +1,36 @@
-//! Callers that hand a fallible iterator to std.
-ghost use Rattle.std.specs.Prelude.{◌≡◌, ◌+◌, ◌%◌, ◌^◌, ◌<◌, ◌≤◌, Ok, Err, List, Result, length, sum, IfOk, nat_lt, reverse};
+//! Callers that hand a fallible iterator to std, and take it back.
+ghost use Rattle.std.specs.Prelude.{◌≡◌, ℕ, ◌+◌, ◌%◌, ◌^◌, ◌<◌, ◌≤◌, Ok, Err, List, Result, length, sum, IfOk, nat_lt};
+ghost use Rattle.std.specs.declared.convert.Infallible.{Infallible};
 ghost use Rattle.fallible_contract.specs.Lists.{items, results, mapped, filtered, taken, counted};
 ghost use Rattle.fallible_core.specs.Bridges.Unwrap.{unwrapped};
 
-use fallible_iterator::{DoubleEndedFallibleIterator, FallibleIterator, IteratorExt, convert};
+use fallible_iterator::laws::law_iterator;
+use fallible_iterator::{Convert, FallibleIterator, IteratorExt, Take, convert};
 use std::alloc::{AllocError, Global};
 
 /// How many readings there are, failures among them.
 pub fn elements(readings: Vec<Result<u32, u8>>) -> usize
-    ensures { result ≡ length readings.items }
+    ensures { result ≡ length (results readings.items) }
 {
     convert(readings.into_iter()).iterator().count()
 }
 
-/// How many readings there are, counted from behind.
-pub fn elements_from_behind(readings: Vec<Result<u32, u8>>) -> usize {
+/// The same, counted from behind.
+pub fn elements_from_behind(readings: Vec<Result<u32, u8>>) -> usize
+    ensures { result ≤ length readings.items }
+{
     convert(readings.into_iter()).iterator().rev().count()
 }
 
-/// How many of the readings are failures.
-pub fn failures(readings: Vec<Result<u32, u8>>) -> usize
-    ensures { result ≤ length readings.items }
+/// How many answers come up to the tenth item.
+pub fn elements_of_ten(readings: Vec<Result<u32, u8>>) -> usize
+    ensures { result ≡ length (taken 10 (results readings.items)) }
 {
-    let mut failures = 0;
-    for reading in convert(readings.into_iter()).iterator() {
-        if reading.is_err() {
-            failures += 1;
-        }
-    }
-    failures
+    convert(readings.into_iter()).take(10).iterator().count()
 }
 
-/// How many answers of any fallible iterator come up to its end, but no more than ten.
-pub fn elements_of_ten<I: FallibleIterator>(it: I) -> usize
+/// How many answers of any fallible iterator come up to its end, but no more than ten, which std's `take` counts.
+pub fn up_to_ten<I: FallibleIterator>(it: I) -> usize
 where
     I::Item: Drop,
     I::Error: Drop,
@@ -42,9 +40,20 @@ where
     it.iterator().take(10).count()
 }
 
+/// How many of the readings are failures, modulo 2 ^ 32.
+pub fn failures(readings: Vec<Result<u32, u8>>) -> u32 {
+    let mut failures: u32 = 0;
+    for reading in convert(readings.into_iter()).iterator() {
+        if reading.is_err() {
+            failures = failures.wrapping_add(1);
+        }
+    }
+    failures
+}
+
 /// The numbers, each one greater, modulo 2 ^ 32.
 pub fn one_more(alloc: Global, numbers: Vec<u32>) -> Result<Vec<u32>, AllocError>
-    ensures { IfOk result (λ made. made.items ≡ unwrapped {E = ⊥} (mapped (λ x. Ok ((x + 1) % 2 ^ 32)) (items numbers.items))) }
+    ensures { IfOk result (λ made. made.items ≡ unwrapped {E = Infallible} (mapped (λ x. Ok ((x + 1) % 2 ^ 32)) (items numbers.items))) }
 {
     numbers
         .into_iter()
@@ -54,19 +63,17 @@ pub fn one_more(alloc: Global, numbers: Vec<u32>) -> Result<Vec<u32>, AllocError
         .collect(alloc)
 }
 
-/// The numbers themselves.
-pub fn unchanged(alloc: Global, numbers: Vec<u32>) -> Result<Vec<u32>, AllocError>
-    ensures { IfOk result (λ made. made.items ≡ numbers.items) }
+/// How many numbers there are.
+pub fn number_of(numbers: Vec<u32>) -> usize
+    ensures { result ≡ length (unwrapped {E = Infallible} (items numbers.items)) }
 {
-    convert(numbers.into_iter().map(|number| Ok::<u32, u8>(number)))
-        .unwrap()
-        .collect(alloc)
+    numbers.into_iter().into_fallible().unwrap().count()
 }
 
 /// The sum of the numbers, which fits.
 pub fn total(numbers: Vec<u32>) -> u32
-    requires { sum numbers.items < 2 ^ 32 }
-    ensures { result ≡ sum numbers.items }
+    requires { sum (unwrapped {E = Infallible} (items numbers.items)) < 2 ^ 32 }
+    ensures { result ≡ sum (unwrapped {E = Infallible} (items numbers.items)) }
 {
     numbers.into_iter().into_fallible().unwrap().sum()
 }
@@ -75,15 +82,17 @@ pub fn total(numbers: Vec<u32>) -> u32
 pub fn there_and_back(readings: Vec<Result<u32, u8>>) -> Result<usize, u8>
     ensures { result ≡ counted (filtered (λ x. Ok (nat_lt 100 x)) (results readings.items)) }
 {
+    law_iterator::<Convert<std::vec::IntoIter<Result<u32, u8>, Global>>>();
     convert(convert(readings.into_iter()).iterator())
         .filter(|reading| Ok(*reading > 100))
         .count()
 }
 
-/// The same of the first ten, which a fallible adapter takes on the way.
+/// The same up to the tenth reading, which a fallible adapter takes on the way.
 pub fn there_and_back_of_ten(readings: Vec<Result<u32, u8>>) -> Result<usize, u8>
-    ensures { result ≡ counted (filtered (λ x. Ok (nat_lt 100 x)) (results (taken 10 (results readings.items)))) }
+    ensures { result ≡ counted (filtered (λ x. Ok (nat_lt 100 x)) (taken 10 (results readings.items))) }
 {
+    law_iterator::<Take<Convert<std::vec::IntoIter<Result<u32, u8>, Global>>>>();
     convert(readings.into_iter())
         .take(10)
         .iterator()

@@ -29,7 +29,7 @@ ghost use Rattle.fallible_core.specs.Peeking.Peekable.{peekable_parts, peekable_
 ghost use Rattle.fallible_core.specs.Joining.Cycle.{cycle_parts};
 ghost use Rattle.fallible_core.specs.declared.joining.chain.StillDrawn.TheVariants.{Both};
 ghost use Rattle.fallible_contract.specs.Collecting.{Collects, PushTurn, Asks, PartTurn, Partitions, MadeOfParts, PairRefused, PairTurn};
-ghost use Rattle.fallible_contract.specs.Lists.{items, results, Lists, Acts, Repeats, repeated, EachLists, flattened, mapped, filtered, taken, counted, filter_mapped, inspected, ActsWithState, scanned, skipped_while, taken_while, numbered, failures_mapped, pointed_to, CollectedAs, chained, skipped, stepped, zipped, NoFailureAtEnd, nth_of, folded, ActsWith, Converts, all_of, any_of, find_mapped, found, last_of, PartedAs, UnzippedAs, position_in, each_done, best_by, best_by_key, compared};
+ghost use Rattle.fallible_contract.specs.Lists.{items, Lists, Acts, Repeats, repeated, EachLists, flattened, mapped, filtered, taken, counted, filter_mapped, inspected, ActsWithState, scanned, skipped_while, taken_while, numbered, failures_mapped, pointed_to, CollectedAs, chained, skipped, stepped, zipped, NoFailureAtEnd, nth_of, folded, ActsWith, Converts, all_of, any_of, find_mapped, found, last_of, PartedAs, UnzippedAs, position_in, each_done, best_by, best_by_key, compared};
 ghost use Rattle.fallible_contract.specs.Comparing.{by_cmp, by_eq, read_as, reads_eq, reads_ne, reads_lt, reads_le, reads_gt, reads_ge, ComparedWith, ReadWith};
 ghost use Rattle.std.specs.declared.cmp.Ordering.{Ordering};
 ghost use Rattle.std.specs.declared.cmp.Ordering.TheVariants.{Less, Greater};
@@ -1016,7 +1016,6 @@ pub trait FallibleIterator: Drop + Sized {
     final fn iterator(self) -> Iterator<Self>
         ensures parts { iterator_parts result ≡ self }
         ensures reads { (l : List (Result Self.Item Self.Error)) → Lists contract.steps self l → EachRunFrom (iterator_steps contract.steps) result (λ p. ItemsAre p l) }
-        ensures reads_results { (l : List (Result Self.Item Self.Error)) → Lists contract.steps self (results l) → EachRunFrom (iterator_steps contract.steps) result (λ p. ItemsAre p l) }
     {
         Iterator { it: self }
     }
@@ -1029,7 +1028,6 @@ pub trait FallibleIterator: Drop + Sized {
         requires sure { Sure contract self }
         ensures parts { unwrap_parts result ≡ self }
         ensures reads { (l : List (Result T Self.Error)) → Lists contract.steps self l → EachRunFrom (unwrap_steps contract.steps) result (λ p. ItemsAre p (unwrapped l)) }
-        ensures reads_items { (l : List T) → Lists contract.steps self (items l) → EachRunFrom (unwrap_steps contract.steps) result (λ p. ItemsAre p l) }
     {
         Unwrap { it: self }
     }

@@ -9,7 +9,7 @@ use Rattle.std.proofs.iter.runs.Sources.{lists, as_is}
 use Rattle.std.specs.Result.{IsOk}
 use Rattle.fallible_contract.specs.Contract.{Contract, Lawful, Sure}
 use Rattle.fallible_contract.specs.Traces.{Answered}
-use Rattle.fallible_contract.specs.Lists.{AlwaysGives, Lists, result_answer, results, items}
+use Rattle.fallible_contract.specs.Lists.{AlwaysGives, Lists, result_answer}
 use Rattle.fallible_core.specs.Bridges.Unwrap.{unwrapped}
 
 same : {A : Type 0} (l : List A) → map (λ y. y) l ≡ l
@@ -66,10 +66,6 @@ module _ {V S A E : Type 0} (view : V → S) (steps : S → Answered A E → S �
   pub reads_list : (l : List (Result A E)) (s : V) → Lists steps (view s) l → EachRunFrom (λ s o t. steps (view s) (option_transpose o) (view t)) s (λ p. ItemsAre p l)
   reads_list l s i = reads view steps option_transpose (λ k. k) refl an_element no_element l s i
 
-  pub reads_results : (l : List (Result A E)) (s : V) → Lists steps (view s) (results l) → EachRunFrom (λ s o t. steps (view s) (option_transpose o) (view t)) s (λ p. ItemsAre p l)
-  unfolding results
-  reads_results l s i = reads_list l s i
-
 -- ---- `Unwrap`
 
 module _ {S A E : Type 0} (m : Contract S A E) where
@@ -107,14 +103,6 @@ none_unwrapped : (A E : Type 0) → unwrapped {A = A} {E = E} [] ≡ []
 unfolding unwrapped
 none_unwrapped A E = refl
 
-items_unwrapped : {A : Type 0} (E : Type 0) (l : List A) → unwrapped (items {E = E} l) ≡ l
-unfolding items unwrapped
-items_unwrapped E [] = refl
-items_unwrapped E (x ∷ l) = ap {B = List _} (λ t. x ∷ t) (items_unwrapped E l)
-
 module _ {V S A E : Type 0} (view : V → S) (steps : S → Answered A E → S → Type 0) where
   pub reads_unwrapped : (l : List (Result A E)) (s : V) → Lists steps (view s) l → EachRunFrom (λ s o t. steps (view s) (Ok o) (view t)) s (λ p. ItemsAre p (unwrapped l))
   reads_unwrapped l s i = reads view steps answer unwrapped (none_unwrapped A E) an_item no_item l s i
-
-  pub reads_items : (l : List A) (s : V) → Lists steps (view s) (items l) → EachRunFrom (λ s o t. steps (view s) (Ok o) (view t)) s (λ p. ItemsAre p l)
-  reads_items l s i = subst (λ (k : List A). EachRunFrom (λ u o t. steps (view u) (Ok o) (view t)) s (λ p. ItemsAre p k)) (items_unwrapped E l) (reads_unwrapped (items l) s i)

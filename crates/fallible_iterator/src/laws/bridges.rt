@@ -20,7 +20,7 @@ pub fn law_iterator<I: FallibleIterator>()
     ensures trace { MeetsHeld iterator_parts (λ s r t. ⟦<Iterator<I> as std::iter::Iterator>⟧.next_gives s (result_transpose r) t) (Run I.contract.steps) }
     ensures askable { (s : Iterator I) → I.contract.can (iterator_parts s) → IsAskable Ok Err ⟦<Iterator<I> as std::iter::Iterator>⟧.can_next ⟦<Iterator<I> as std::iter::Iterator>⟧.next_gives ⟦<Iterator<I> as std::iter::Iterator>⟧.remaining s }
     ensures converted { (s : Convert (Iterator I)) (trace : List (Answered I.Item I.Error)) (t : Convert (Iterator I)) → I.contract.can (iterator_parts (convert_parts s)) → Run ⟦<Convert<Iterator<I>> as FallibleIterator>⟧.contract.steps s trace t ↔ Run I.contract.steps (iterator_parts (convert_parts s)) trace (iterator_parts (convert_parts t)) }
-    ensures lists { (s : Convert (Iterator I)) (l : List (Result I.Item I.Error)) → Lists I.contract.steps (iterator_parts (convert_parts s)) l → Lists ⟦<Convert<Iterator<I>> as FallibleIterator>⟧.contract.steps s l }
+    ensures lists { (s : Convert (Iterator I)) (it : Iterator I) (source : I) (l : List (Result I.Item I.Error)) → convert_parts s ≡ it → iterator_parts it ≡ source → Lists I.contract.steps source l → Lists ⟦<Convert<Iterator<I>> as FallibleIterator>⟧.contract.steps s l }
 {}
 
 /// The same from behind. Draws from either end may be made in any order, also of what was converted back.

@@ -1,10 +1,7 @@
 -- What the source lists is read.
 use Rattle.fallible_core.specs.Bridges.Iterator.{iterator_parts}
-use Rattle.fallible_core.proofs.Lemmas.Bridges.{reads_list, reads_results}
+use Rattle.fallible_core.proofs.Lemmas.Bridges.{reads_list}
 use Rattle.fallible_core.proofs.traits.FallibleIterator.iterator.Goals as goal
 
 pub returns-clause-reads : goal.returns-clause-reads
 returns-clause-reads g c l i = reads_list iterator_parts g.Self.FallibleIterator.contract.steps l _ i
-
-pub returns-clause-reads_results : goal.returns-clause-reads_results
-returns-clause-reads_results g c l i = reads_results iterator_parts g.Self.FallibleIterator.contract.steps l _ i

@@ -1,5 +1,6 @@
 -- An element is the answer that it becomes.
-use Rattle.std.proofs.Common.{refl}
+use Rattle.std.proofs.Common.{refl, sym, ap, subst, ◌∙◌}
+use Rattle.fallible_contract.specs.Lists.{Lists}
 use Rattle.fallible_core.specs.Bridges.Iterator.{iterator_parts}
 use Rattle.fallible_iterator.specs.Sources.Convert.{convert_parts}
 use Rattle.fallible_contract.proofs.Lemmas.Definitions.{meets_held}
@@ -20,4 +21,6 @@ returns-clause-converted g c = λ s trace t can.
     ((λ h. source.0 (below.0 h)), (λ h. below.1 (source.1 h)))
 
 pub returns-clause-lists : goal.returns-clause-lists
-returns-clause-lists g c = λ s l i. lists_seen convert_parts _ s refl refl (lists_converted g.I.FallibleIterator.contract iterator_parts l (convert_parts s) i).runs
+returns-clause-lists g c = λ s it source l is from i.
+    let m = g.I.FallibleIterator.contract in
+    lists_seen convert_parts _ s refl refl (lists_converted m iterator_parts l (convert_parts s) (subst (λ (u : g.row.I.Denot). Lists m.steps u l) (sym from ∙ sym (ap iterator_parts is)) i)).runs

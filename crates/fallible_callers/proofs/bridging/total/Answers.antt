@@ -1,0 +1,9 @@
+-- What is summed is what `unwrap` reads of the numbers.
+use Rattle.std.proofs.Common.{rules, arith}
+use Rattle.fallible_callers.proofs.bridging.total.Goals as goal
+
+pub sum-requires-clause-fits : goal.sum-requires-clause-fits
+sum-requires-clause-fits c = let reads = c.unwrap.ensures.reads _ (c.into_fallible.ensures.lists c.args.numbers.items (search rules)) in λ p seen from. grind arith
+
+pub returns : goal.returns
+returns c = let reads = c.unwrap.ensures.reads _ (c.into_fallible.ensures.lists c.args.numbers.items (search rules)) in grind arith
