@@ -4,6 +4,7 @@ mod cutting;
 pub mod ends;
 mod filtering;
 mod joining;
+pub mod nests;
 mod one_to_one;
 mod peeking;
 pub mod sources;
@@ -22,6 +23,7 @@ pub use ends::{
 pub use fallible_contract::answers::{Answer, Side};
 pub use filtering::{law_filter, law_filter_map, law_skip_while};
 pub use joining::{law_back_chain, law_chain, law_cycle, law_flat_map, law_flatten, law_zip};
+pub use nests::{law_nest, law_nest_borrowed};
 pub use one_to_one::{law_cloned, law_enumerate, law_inspect, law_map, law_map_err, law_scan};
 pub use peeking::law_peekable;
 pub use sources::{
