@@ -1,5 +1,5 @@
 // What a trace of a nest of adapters is: the laws of its types, one after another.
-ghost use Rattle.std.specs.Prelude.{List, Option, Result};
+ghost use Rattle.std.specs.Prelude.{List};
 ghost use Rattle.std.specs.Borrow.{MutBor};
 ghost use Rattle.fallible_contract.specs.Definitions.{MeetsHeld};
 ghost use Rattle.fallible_contract.specs.Traces.{Answered, Run};
