@@ -1,3 +1,4 @@
 -- Lemmas that no contract and no ghost member cites.
 pub mod Bridges
+pub mod Nests
 pub mod Sources

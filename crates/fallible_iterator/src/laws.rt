@@ -5,6 +5,8 @@ mod cutting;
 pub mod ends;
 mod filtering;
 mod joining;
+pub mod listed;
+pub mod nests;
 mod one_to_one;
 mod peeking;
 pub mod sources;
@@ -16,14 +18,17 @@ pub use bridges::{law_back_iterator, law_iterator, law_unwrap};
 pub use cutting::{law_fuse, law_skip, law_step_by, law_take, law_take_while};
 pub use ends::{
     law_back_cloned, law_back_filter, law_back_filter_map, law_back_inspect, law_back_map,
-    law_back_map_err, law_interleave, law_interleave_folds, law_interleave_nest,
-    law_listed_borrowed, law_listed_chain, law_listed_cloned, law_listed_each, law_listed_filter,
-    law_listed_filter_map, law_listed_inspect, law_listed_map, law_listed_map_err, law_listed_rev,
-    law_rev,
+    law_back_map_err, law_interleave, law_interleave_folds, law_interleave_nest, law_rev,
 };
 pub use fallible_contract::answers::{Answer, Side};
 pub use filtering::{law_filter, law_filter_map, law_skip_while};
 pub use joining::{law_back_chain, law_chain, law_cycle, law_flat_map, law_flatten, law_zip};
+pub use listed::{
+    law_listed, law_listed_borrowed, law_listed_chain, law_listed_cloned, law_listed_each,
+    law_listed_filter, law_listed_filter_map, law_listed_inspect, law_listed_map,
+    law_listed_map_err, law_listed_rev,
+};
+pub use nests::{law_nest, law_nest_borrowed};
 pub use one_to_one::{law_cloned, law_enumerate, law_inspect, law_map, law_map_err, law_scan};
 pub use peeking::law_peekable;
 pub use sources::{

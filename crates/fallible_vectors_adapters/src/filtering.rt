@@ -76,3 +76,13 @@ fn filter_goes_on_after_a_failed_item(rt: HostRuntime) -> Result<(), Fail> {
     });
     expect_answers(&rt, &mut it, &[Item(0), Failure(2), Item(6), End])
 }
+
+#[test]
+fn even_items_ten_times_over_are_cut_by_take(rt: HostRuntime) -> Result<(), Fail> {
+    let answers: [Result<u32, u32>; 4] = [Ok(1), Ok(2), Ok(3), Ok(4)];
+    let mut it = convert(answers.iter().copied())
+        .filter(|x: &u32| Ok(*x % 2 == 0))
+        .map(|x: u32| Ok(x.wrapping_mul(10)))
+        .take(1);
+    expect_answers(&rt, &mut it, &[Item(20), End, End])
+}

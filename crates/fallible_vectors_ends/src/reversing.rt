@@ -24,6 +24,19 @@ fn rev_counts_from_behind(rt: HostRuntime) {
     assert_eq!(rt; it.rev().count(), Err(3));
 }
 
+// The letters of a text, in which a space is a failure.
+fn letter(c: char) -> Result<char, ()> {
+    if c.is_whitespace() { Err(()) } else { Ok(c) }
+}
+
+#[test]
+fn letters_are_counted_up_to_a_space_from_each_end(rt: HostRuntime) {
+    let it = convert("ab cd".chars().map(letter));
+    assert_eq!(rt; it.count(), Err(()));
+    let it = convert("ab cd".chars().map(letter));
+    assert_eq!(rt; it.rev().count(), Err(()));
+}
+
 #[test]
 fn rev_of_rev_draws_the_front(rt: HostRuntime) {
     let answers: [Result<u32, u32>; 2] = [Ok(1), Ok(2)];

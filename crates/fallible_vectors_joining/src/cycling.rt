@@ -3,7 +3,7 @@ ghost use Rattle.std.specs.Prelude.{◌≡◌, ◌+◌, ◌≤◌, MatchResult, 
 ghost use Rattle.std.proofs.Common.{rules};
 ghost use Rattle.fallible_contract.specs.Contract.{counting_down};
 
-use fallible_iterator::{FallibleIterator, convert, empty};
+use fallible_iterator::{FallibleIterator, convert, empty, once};
 use fallible_testing::collected::expect_collected;
 use fallible_testing::listed::listed;
 use fallible_testing::scripted::scripted;
@@ -35,6 +35,7 @@ fn expect_cycle(
 #[test]
 fn cycle_of_one_and_of_four_items(rt: HostRuntime) -> Result<(), Fail> {
     let endless = (usize::MAX, None);
+    assert_eq!(rt; once::<u32, TestError>(1).cycle()?.size_hint(), endless);
     assert_eq!(rt; expect_cycle(&rt, &[1], &[1, 1, 1])?, endless);
     assert_eq!(rt;
         expect_cycle(&rt, &[0, 1, 2, 3], &[0, 1, 2, 3, 0, 1])?,

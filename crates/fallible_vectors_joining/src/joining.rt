@@ -132,6 +132,11 @@ fn zip_hints_at_the_shorter_side(rt: HostRuntime) {
             Ok(Some(30))
         )
     );
+    let left = convert([1, 2].iter().map(|x| Ok::<u32, TestError>(*x)));
+    assert_eq!(rt;
+        left.zip(repeat::<u32, TestError>(3)).size_hint(),
+        (2, Some(2))
+    );
     let left = repeat::<u32, TestError>(5);
     assert_eq!(rt;
         left.zip(once::<u32, TestError>(1)).size_hint(),

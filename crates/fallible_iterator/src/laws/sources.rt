@@ -1,11 +1,10 @@
 //! What a trace of each source is.
 ghost use Rattle.std.specs.Prelude.{List, Option, Result, Ok, Err};
-ghost use Rattle.std.specs.Iterator.{YieldsFirst, YieldsLast};
 ghost use Rattle.fallible_contract.specs.Definitions.{MeetsHeld};
 ghost use Rattle.fallible_contract.specs.Lists.{Lists, RunsReadBehind, results, items, reversed};
 ghost use Rattle.fallible_contract.specs.Listed.{Listed};
 ghost use Rattle.fallible_contract.specs.Traces.{item, failure};
-ghost use Rattle.fallible_iterator.specs.Sources.Std.{element_by};
+ghost use Rattle.fallible_iterator.specs.Listing.{ListsElements};
 ghost use Rattle.fallible_iterator.specs.Sources.Convert.{ConvertTrace, convert_parts};
 ghost use Rattle.fallible_iterator.specs.Sources.IntoFallible.{IntoFallibleTrace, into_fallible_parts, never};
 ghost use Rattle.fallible_iterator.specs.Sources.FromFn.{FromFnTrace, from_fn_parts};
@@ -19,7 +18,6 @@ ghost use Rattle.fallible_iterator.specs.Sources.OnceErr.{once_err_parts};
 use crate::sources::{Convert, Empty, FromFn, IntoFallible, Once, OnceErr, Repeat, RepeatErr};
 use fallible_core::{DoubleEndedFallibleIterator, FallibleIterator};
 use std::alloc::AllocError;
-use std::convert::Infallible;
 
 /// A trace of `Convert` is, place by place, the std iterator's answers, each with the progress that std's contract states: `Ok` is an item, `Err` a failure, none an end.
 pub fn law_convert<T, E, I: std::iter::Iterator<Item = Result<T, E>>>()
@@ -46,14 +44,12 @@ pub fn law_back_into_fallible<T, I: std::iter::DoubleEndedIterator<Item = T>>()
 
 /// `Convert` lists what the std iterator lists, call by call from both ends; so also what is left of one whose state shows that, where each `next` gives the first of it and each `next_back` the last.
 pub fn law_listed_convert<T, E, I: std::iter::DoubleEndedIterator<Item = Result<T, E>>>()
-    ensures listed { (s : Convert I) (l : List (Result T E)) → Listed (λ a r b. I.next_gives a (element_by Ok Err r) b) (λ a r b. I.next_back_gives a (element_by Ok Err r) b) (convert_parts s) l → Listed ⟦<Convert<I> as FallibleIterator>⟧.contract.steps ⟦<Convert<I> as DoubleEndedFallibleIterator>⟧.ends.steps s l }
-    ensures rest { (rest : I → List (Result T E)) → ((a : I) (o : Option (Result T E)) (b : I) → I.next_gives a o b → YieldsFirst rest a o b) → ((a : I) (o : Option (Result T E)) (b : I) → I.next_back_gives a o b → YieldsLast rest a o b) → (s : Convert I) → Listed ⟦<Convert<I> as FallibleIterator>⟧.contract.steps ⟦<Convert<I> as DoubleEndedFallibleIterator>⟧.ends.steps s (results (rest (convert_parts s))) }
+    ensures { ListsElements convert_parts Ok Err results I.next_gives I.next_back_gives (Listed ⟦<Convert<I> as FallibleIterator>⟧.contract.steps ⟦<Convert<I> as DoubleEndedFallibleIterator>⟧.ends.steps) }
 {}
 
 /// `IntoFallible` lists what the std iterator lists, each element an item; so also what is left of one whose state shows that.
 pub fn law_listed_into_fallible<T, I: std::iter::DoubleEndedIterator<Item = T>>()
-    ensures listed { (s : IntoFallible I) (l : List (Result T Infallible)) → Listed (λ a r b. I.next_gives a (element_by (λ x. x) never r) b) (λ a r b. I.next_back_gives a (element_by (λ x. x) never r) b) (into_fallible_parts s) l → Listed ⟦<IntoFallible<I> as FallibleIterator>⟧.contract.steps ⟦<IntoFallible<I> as DoubleEndedFallibleIterator>⟧.ends.steps s l }
-    ensures rest { (rest : I → List T) → ((a : I) (o : Option T) (b : I) → I.next_gives a o b → YieldsFirst rest a o b) → ((a : I) (o : Option T) (b : I) → I.next_back_gives a o b → YieldsLast rest a o b) → (s : IntoFallible I) → Listed ⟦<IntoFallible<I> as FallibleIterator>⟧.contract.steps ⟦<IntoFallible<I> as DoubleEndedFallibleIterator>⟧.ends.steps s (items (rest (into_fallible_parts s))) }
+    ensures { ListsElements into_fallible_parts (λ x. x) never items I.next_gives I.next_back_gives (Listed ⟦<IntoFallible<I> as FallibleIterator>⟧.contract.steps ⟦<IntoFallible<I> as DoubleEndedFallibleIterator>⟧.ends.steps) }
 {}
 
 /// A trace of `FromFn` is the closure's answers, one call a draw.

@@ -7,8 +7,8 @@ use Rattle.fallible_iterator.proofs.Lemmas.Sources.Convert.{answered, none_conve
 use Rattle.fallible_iterator.proofs.Lemmas.Sources.StdListed.{listed_rest}
 use Rattle.fallible_iterator.proofs.laws.sources.law_listed_convert.Goals as goal
 
-pub returns-clause-listed : goal.returns-clause-listed
-returns-clause-listed g c = λ s l i. listed_within convert_parts _ _ (λ u r v step. step.0) (λ u r v step. step.0) i
-
-pub returns-clause-rest : goal.returns-clause-rest
-returns-clause-rest g c = λ rest first last s. returns-clause-listed g c s _ (subst (Listed _ _ (convert_parts s)) (results_are (rest (convert_parts s))) (listed_rest Ok Err g.I.Iterator.next_gives g.I.DoubleEndedIterator.next_back_gives rest (λ y. y) (λ r z e. answered r z e) none_converted first last (convert_parts s)))
+pub returns : goal.returns
+returns g c = record {
+  listed = λ s l i. listed_within convert_parts _ _ (λ u r v step. step.0) (λ u r v step. step.0) i;
+  rest = λ rest first last s. listed_within convert_parts _ _ (λ u r v step. step.0) (λ u r v step. step.0) (subst (Listed _ _ (convert_parts s)) (results_are (rest (convert_parts s))) (listed_rest Ok Err g.I.Iterator.next_gives g.I.DoubleEndedIterator.next_back_gives rest (λ y. y) (λ r z e. answered r z e) none_converted first last (convert_parts s)));
+}

@@ -8,8 +8,8 @@ use Rattle.fallible_iterator.proofs.Lemmas.Sources.Convert.{items_are}
 use Rattle.fallible_iterator.proofs.Lemmas.Sources.StdListed.{listed_rest}
 use Rattle.fallible_iterator.proofs.laws.sources.law_listed_into_fallible.Goals as goal
 
-pub returns-clause-listed : goal.returns-clause-listed
-returns-clause-listed g c = λ s l i. listed_within into_fallible_parts _ _ (λ u r v step. step.0) (λ u r v step. step.0) i
-
-pub returns-clause-rest : goal.returns-clause-rest
-returns-clause-rest g c = λ rest first last s. returns-clause-listed g c s _ (subst (Listed _ _ (into_fallible_parts s)) (items_are (rest (into_fallible_parts s))) (listed_rest (λ x. x) never g.I.Iterator.next_gives g.I.DoubleEndedIterator.next_back_gives rest (λ x. Ok x) (λ r x e. item_answered r x e) none_given first last (into_fallible_parts s)))
+pub returns : goal.returns
+returns g c = record {
+  listed = λ s l i. listed_within into_fallible_parts _ _ (λ u r v step. step.0) (λ u r v step. step.0) i;
+  rest = λ rest first last s. listed_within into_fallible_parts _ _ (λ u r v step. step.0) (λ u r v step. step.0) (subst (Listed _ _ (into_fallible_parts s)) (items_are (rest (into_fallible_parts s))) (listed_rest (λ x. x) never g.I.Iterator.next_gives g.I.DoubleEndedIterator.next_back_gives rest (λ x. Ok x) (λ r x e. item_answered r x e) none_given first last (into_fallible_parts s)));
+}

@@ -1,0 +1,38 @@
+-- An adapter's definition over a source is its definition over a list of answers, and draws of the source that answer that list.
+use Rattle.std.specs.Prelude.{◌≡◌, ℕ, List, [], ◌∷◌, map}
+use Rattle.std.specs.Borrow.{MutBor}
+use Rattle.std.proofs.Common.{refl, sym, ap, subst, ◌∙◌}
+use Rattle.fallible_contract.specs.Traces.{Answered, Run}
+use Rattle.fallible_contract.specs.Passing.{Outcome, source_answer, PassTrace}
+use Rattle.fallible_core.specs.Cutting.Take.{TakeTrace}
+use Rattle.fallible_iterator.specs.Nests.{first_of}
+
+module _ {A E : Type 0} where
+  -- the draws of a whole list
+  all_drawn : (l : List (Answered A E)) → Run first_of l l []
+  all_drawn [] = refl
+  all_drawn (r ∷ rest) = (rest, refl, all_drawn rest)
+
+  -- and they answer nothing else
+  drawn_all : (trace l : List (Answered A E)) → Run first_of l trace [] → l ≡ trace
+  drawn_all [] l e = e
+  drawn_all (r ∷ rest) l h = h.1 ∙ ap (λ (k : List (Answered A E)). r ∷ k) (drawn_all rest h.0 h.2)
+
+module _ {S F X R B E : Type 0} (steps : S → Answered X E → S → Type 0) {call : F → X → R → F → Type 0} {outcome : X → R → Outcome B E} where
+  pub pass_of_list : {p q : S × F} {trace : List (Answered B E)} → (h : PassTrace steps call outcome p trace q) → PassTrace first_of call outcome (map source_answer h.places, p.1) trace ([], q.1)
+  pass_of_list h = record { places = h.places; drawn = all_drawn (map source_answer h.places); called = h.called; answers = h.answers; last_kept = h.last_kept }
+
+  pub pass_of_source : {p q : S × F} {l : List (Answered X E)} {trace : List (Answered B E)} → Run steps p.0 l q.0 → PassTrace first_of call outcome (l, p.1) trace ([], q.1) → PassTrace steps call outcome p trace q
+  pass_of_source {p = p} {q = q} {l = l} ran h = record { places = h.places; drawn = subst (λ (k : List (Answered X E)). Run steps p.0 k q.0) (drawn_all (map source_answer h.places) l h.drawn) ran; called = h.called; answers = h.answers; last_kept = h.last_kept }
+
+module _ {S A E : Type 0} (steps : S → Answered A E → S → Type 0) where
+  pub take_of_list : {p q : S × ℕ} {trace : List (Answered A E)} → (h : TakeTrace steps p trace q) → TakeTrace first_of (h.source_trace, p.1) trace ([], q.1)
+  take_of_list h = record { source_trace = h.source_trace; ends = h.ends; drawn = all_drawn h.source_trace; answers = h.answers; fronts = h.fronts; at_most = h.at_most; over = h.over; remaining = h.remaining }
+
+  pub take_of_source : {p q : S × ℕ} {l : List (Answered A E)} {trace : List (Answered A E)} → Run steps p.0 l q.0 → TakeTrace first_of (l, p.1) trace ([], q.1) → TakeTrace steps p trace q
+  take_of_source {p = p} {q = q} {l = l} ran h = record { source_trace = h.source_trace; ends = h.ends; drawn = subst (λ (k : List (Answered A E)). Run steps p.0 k q.0) (drawn_all h.source_trace l h.drawn) ran; answers = h.answers; fronts = h.fronts; at_most = h.at_most; over = h.over; remaining = h.remaining }
+
+-- Draws through a reference keep its name.
+pub same_name : {S A E : Type 0} (steps : MutBor S → Answered A E → MutBor S → Type 0) → ((s : MutBor S) (r : Answered A E) (t : MutBor S) → steps s r t → t.ghost_name ≡ s.ghost_name) → (trace : List (Answered A E)) (s t : MutBor S) → Run steps s trace t → t.ghost_name ≡ s.ghost_name
+same_name {S = S} steps same [] s t e = ap (λ (u : MutBor S). u.ghost_name) (sym e)
+same_name steps same (r ∷ rest) s t h = same_name steps same rest h.0 t h.2 ∙ same s r h.0 h.1

@@ -1,0 +1,52 @@
+-- What each type with two ends lists. `lists_source` says that from both ends a value of the source lists a list, and `lists` that one of the type does.
+use Rattle.std.specs.Prelude.{◌≡◌, ◌↔◌, List, reverse, Option, Some, Result, Ok, All}
+use Rattle.std.specs.Borrow.{Bor}
+use Rattle.std.specs.Iterator.{YieldsFirst, YieldsLast}
+use Rattle.fallible_contract.specs.Traces.{Answered}
+use Rattle.fallible_contract.specs.Closures.{Steady}
+use Rattle.fallible_contract.specs.Passing.{Outcome}
+use Rattle.fallible_contract.specs.Lists.{Lists, Acts, mapped, failures_mapped, pointed_to, chained}
+use Rattle.fallible_contract.specs.Listed.{Listed, items_listed, failures_listed, source_list, passed_list}
+use Rattle.fallible_core.specs.declared.joining.chain.StillDrawn.{StillDrawn}
+use Rattle.fallible_core.specs.declared.joining.chain.StillDrawn.TheVariants.{Both, FrontAlone, BackAlone}
+use Rattle.fallible_iterator.specs.Sources.Std.{element_by}
+
+-- An adapter that calls a closure on each item: what becomes of each item by the closure's answer, where that answer stands beside the item, whatever state the calls bring the closure to; and the list function of what the closure acts as.
+pub record ListsByClosure {V S F X R B E : Type 0} (parts : V → S × Option F) (call : F → X → R → F → Type 0) (outcome : X → R → Outcome B E) (list : (X → R) → List (Result X E) → List (Result B E)) (lists_source : S → List (Result X E) → Type 0) (lists : V → List (Result B E) → Type 0) : Type 0 where
+  pub steady : (s : V) (it : S) (f : F) (asked : List (Result (X × R) E)) → parts s ≡ (it, Some f) → Steady call f (items_listed asked) → lists_source it (source_list asked) → lists s (passed_list outcome asked)
+  pub acts : (s : V) (it : S) (f : F) (h : X → R) (l : List (Result X E)) → parts s ≡ (it, Some f) → Acts call f h → lists_source it l → lists s (list h l)
+
+-- One that calls a closure on each failure: the closure's answer in each failure's place, in both cases.
+pub record ListsFailures {V S F X D E : Type 0} (parts : V → S × F) (call : F → D → E → F → Type 0) (lists_source : S → List (Result X D) → Type 0) (lists : V → List (Result X E) → Type 0) : Type 0 where
+  pub steady : (s : V) (it : S) (f : F) (asked : List (Result X (D × E))) → parts s ≡ (it, f) → Steady call f (failures_listed asked) → lists_source it (failures_mapped (λ c. c.0) asked) → lists s (failures_mapped (λ c. c.1) asked)
+  pub acts : (s : V) (it : S) (f : F) (h : D → E) (l : List (Result X D)) → parts s ≡ (it, f) → Acts call f h → lists_source it l → lists s (failures_mapped h l)
+
+-- One that clones what each item points to: the clones, where none is refused and each item has one clone alone; and what the items point to, where each clone equals its original.
+pub record ListsClones {V S T E : Type 0} (parts : V → S × Unit {0}) (is_clone : T → T → Type 0) (is_infallible : T → Type 0) (lists_source : S → List (Result (Bor T) E) → Type 0) (lists : V → List (Result T E) → Type 0) : Type 0 where
+  pub clones : (s : V) (it : S) (asked : List (Result (Bor T × T) E)) → parts s ≡ (it, tt) → All (λ c. is_infallible c.0.now × ((y : T) → is_clone c.0.now y → y ≡ c.1)) (items_listed asked) → lists_source it (source_list asked) → lists s (mapped (λ c. Ok c.1) asked)
+  pub originals : (s : V) (it : S) (l : List (Result (Bor T) E)) → parts s ≡ (it, tt) → ((x y : T) → is_clone x y → y ≡ x) → ((x : T) → is_infallible x) → lists_source it l → lists s (pointed_to l)
+
+-- One that joins two sources: the front's list and then the back's; where one side alone is still drawn, the list of that side.
+pub record ListsBothSides {V T U A E : Type 0} (parts : V → T × U × StillDrawn) (lists_front : T → List (Result A E) → Type 0) (lists_back : U → List (Result A E) → Type 0) (lists : V → List (Result A E) → Type 0) : Type 0 where
+  pub both : (s : V) (t : T) (u : U) (a b : List (Result A E)) → parts s ≡ (t, u, Both) → lists_front t a → lists_back u b → lists s (chained a b)
+  pub front_alone : (s : V) (t : T) (u : U) (l : List (Result A E)) → parts s ≡ (t, u, FrontAlone) → lists_front t l → lists s l
+  pub back_alone : (s : V) (t : T) (u : U) (l : List (Result A E)) → parts s ≡ (t, u, BackAlone) → lists_back u l → lists s l
+
+-- One that swaps the ends: the reverse of its source's list, and the other way round.
+pub record ListsReversed {V S A E : Type 0} (source_of : V → S) (lists_source : S → List (Result A E) → Type 0) (lists : V → List (Result A E) → Type 0) : Type 0 where
+  pub reversed : (s : V) (l : List (Result A E)) → lists_source (source_of s) l → lists s (reverse l)
+  pub source : (s : V) (l : List (Result A E)) → lists s l → lists_source (source_of s) (reverse l)
+
+-- What stands before another value: just what that value lists.
+abbrev pub ListsTheSame : {V S A E : Type 0} → (V → S) → (S → List (Result A E) → Type 0) → (V → List (Result A E) → Type 0) → Type 0
+ListsTheSame {V = V} {A = A} {E = E} behind lists_source lists = (s : V) (l : List (Result A E)) → lists s l ↔ lists_source (behind s) l
+
+-- A source over a std iterator: what that iterator lists, call by call from both ends; and what is left of one whose state shows it, where each call of `next` gives the first of it, and each of `next_back` the last.
+pub record ListsElements {V S A E Z : Type 0} (parts : V → S) (of_item : A → Z) (of_failure : E → Z) (list : List Z → List (Result A E)) (gives gives_back : S → Option Z → S → Type 0) (lists : V → List (Result A E) → Type 0) : Type 0 where
+  pub listed : (s : V) (l : List (Result A E)) → Listed (λ a r b. gives a (element_by of_item of_failure r) b) (λ a r b. gives_back a (element_by of_item of_failure r) b) (parts s) l → lists s l
+  pub rest : (rest : S → List Z) → ((a : S) (o : Option Z) (b : S) → gives a o b → YieldsFirst rest a o b) → ((a : S) (o : Option Z) (b : S) → gives_back a o b → YieldsLast rest a o b) → (s : V) → lists s (list (rest (parts s)))
+
+-- What both ends list, each of them lists: the front the list, and the back its reverse.
+pub record ListsAtEachEnd {S A E : Type 0} (steps steps_back : S → Answered A E → S → Type 0) : Type 0 where
+  pub front : (s : S) (l : List (Result A E)) → Listed steps steps_back s l → Lists steps s l
+  pub back : (s : S) (l : List (Result A E)) → Listed steps steps_back s l → Lists steps_back s (reverse l)

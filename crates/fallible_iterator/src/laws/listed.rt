@@ -1,0 +1,150 @@
+// What each type with two ends lists, from what its source lists.
+ghost use Rattle.std.specs.Prelude.{Ok, Err, Option, Result};
+ghost use Rattle.std.specs.Borrow.{MutBor};
+ghost use Rattle.std.specs.declared.boxed.Box.{Box};
+ghost use Rattle.std.specs.declared.alloc.Global.{Global};
+ghost use Rattle.fallible_contract.specs.Closures.{call_on, call_at};
+ghost use Rattle.fallible_contract.specs.Lists.{mapped, inspected, filtered, filter_mapped, results, items};
+ghost use Rattle.fallible_contract.specs.Listed.{Listed};
+ghost use Rattle.fallible_core.specs.OneToOne.Map.{map_outcome, map_parts};
+ghost use Rattle.fallible_core.specs.OneToOne.Inspect.{inspect_outcome, inspect_parts};
+ghost use Rattle.fallible_core.specs.OneToOne.Cloned.{cloned_parts};
+ghost use Rattle.fallible_core.specs.OneToOne.MapErr.{map_err_parts};
+ghost use Rattle.fallible_core.specs.Filtering.Filter.{filter_outcome, filter_parts};
+ghost use Rattle.fallible_core.specs.Filtering.FilterMap.{filter_map_outcome, filter_map_parts};
+ghost use Rattle.fallible_core.specs.Joining.Chain.{chain_parts};
+ghost use Rattle.fallible_core.specs.Ends.Rev.{rev_parts};
+ghost use Rattle.fallible_iterator.specs.Sources.Convert.{convert_parts};
+ghost use Rattle.fallible_iterator.specs.Sources.IntoFallible.{into_fallible_parts, never};
+ghost use Rattle.fallible_iterator.specs.Listing.{ListsByClosure, ListsFailures, ListsClones, ListsBothSides, ListsReversed, ListsTheSame, ListsElements, ListsAtEachEnd};
+
+use super::sources::{law_listed_convert, law_listed_into_fallible};
+use crate::sources::{Convert, IntoFallible};
+use fallible_core::ends::Rev;
+use fallible_core::filtering::{Filter, FilterMap};
+use fallible_core::joining::Chain;
+use fallible_core::one_to_one::{Cloned, Inspect, Map, MapErr};
+use fallible_core::traits::FallibleIterator;
+use fallible_core::traits::double_ended::DoubleEndedFallibleIterator;
+use std::alloc::AllocError;
+
+// ---- one law an adapter: where its closure gives the answers beside the items, in whatever state its calls bring it to; so also where it acts as a function
+
+/// `Map` lists what its closure answers on each item of its source's list, in the item's place.
+pub fn law_listed_map<I: DoubleEndedFallibleIterator, B, F: FnMut(I::Item) -> Result<B, I::Error>>()
+where
+    ensures { ListsByClosure map_parts (call_on F.FnMut) map_outcome mapped (Listed I.contract.steps I.ends.steps) (Listed ⟦<Map<I, F> as FallibleIterator>⟧.contract.steps ⟦<Map<I, F> as DoubleEndedFallibleIterator>⟧.ends.steps) }
+{}
+
+/// `Inspect` lists the items of its source's list, with the closure's failure in the place of each one on which it failed.
+pub fn law_listed_inspect<
+    I: DoubleEndedFallibleIterator,
+    F: FnMut(&I::Item) -> Result<(), I::Error>,
+>()
+where
+    I::Item: Drop,
+    ensures { ListsByClosure inspect_parts (call_at F.FnMut) inspect_outcome inspected (Listed I.contract.steps I.ends.steps) (Listed ⟦<Inspect<I, F> as FallibleIterator>⟧.contract.steps ⟦<Inspect<I, F> as DoubleEndedFallibleIterator>⟧.ends.steps) }
+{}
+
+/// `Filter` lists its source's list without the items refused, with the predicate's failure in the place of each item on which it failed.
+pub fn law_listed_filter<
+    I: DoubleEndedFallibleIterator,
+    F: FnMut(&I::Item) -> Result<bool, I::Error>,
+>()
+where
+    I::Item: Drop,
+    ensures { ListsByClosure filter_parts (call_at F.FnMut) filter_outcome filtered (Listed I.contract.steps I.ends.steps) (Listed ⟦<Filter<I, F> as FallibleIterator>⟧.contract.steps ⟦<Filter<I, F> as DoubleEndedFallibleIterator>⟧.ends.steps) }
+{}
+
+/// `FilterMap` lists its source's list without the items answered none, with the closure's value or failure in each other item's place.
+pub fn law_listed_filter_map<
+    I: DoubleEndedFallibleIterator,
+    B,
+    F: FnMut(I::Item) -> Result<Option<B>, I::Error>,
+>()
+where
+    ensures { ListsByClosure filter_map_parts (call_on F.FnMut) filter_map_outcome filter_mapped (Listed I.contract.steps I.ends.steps) (Listed ⟦<FilterMap<I, F> as FallibleIterator>⟧.contract.steps ⟦<FilterMap<I, F> as DoubleEndedFallibleIterator>⟧.ends.steps) }
+{}
+
+/// `Cloned` lists a clone in each item's place, where none is refused and each item has one clone alone; where a clone equals its original, it lists what the items point to.
+pub fn law_listed_cloned<'a, T: Clone + 'a, I: DoubleEndedFallibleIterator<Item = &'a T>>()
+where
+    I::Error: From<AllocError>,
+    ensures { ListsClones cloned_parts T.is_clone T.is_infallible (Listed I.contract.steps I.ends.steps) (Listed ⟦<Cloned<I> as FallibleIterator>⟧.contract.steps ⟦<Cloned<I> as DoubleEndedFallibleIterator>⟧.ends.steps) }
+{}
+
+/// `MapErr` lists what its closure answers on each failure of its source's list, in the failure's place.
+pub fn law_listed_map_err<I: DoubleEndedFallibleIterator, B, F: FnMut(I::Error) -> B>()
+where
+    ensures { ListsFailures map_err_parts (call_on F.FnMut) (Listed I.contract.steps I.ends.steps) (Listed ⟦<MapErr<I, F> as FallibleIterator>⟧.contract.steps ⟦<MapErr<I, F> as DoubleEndedFallibleIterator>⟧.ends.steps) }
+{}
+
+/// `Chain` lists what its front lists and then what its back lists; where one side alone is still drawn, what that side lists, the other being drawn no more.
+pub fn law_listed_chain<
+    T: DoubleEndedFallibleIterator,
+    U: DoubleEndedFallibleIterator<Item = T::Item, Error = T::Error>,
+>()
+    ensures { ListsBothSides chain_parts (Listed T.contract.steps T.ends.steps) (Listed U.contract.steps U.ends.steps) (Listed ⟦<Chain<T, U> as FallibleIterator>⟧.contract.steps ⟦<Chain<T, U> as DoubleEndedFallibleIterator>⟧.ends.steps) }
+{}
+
+/// `Rev` lists the reverse of what its source lists, and the other way round.
+pub fn law_listed_rev<I: DoubleEndedFallibleIterator>()
+    ensures { ListsReversed rev_parts (Listed I.contract.steps I.ends.steps) (Listed ⟦<Rev<I> as FallibleIterator>⟧.contract.steps ⟦<Rev<I> as DoubleEndedFallibleIterator>⟧.ends.steps) }
+{}
+
+/// A `&mut I` and a `Box<I>` list just what the value behind them lists.
+pub fn law_listed_borrowed<'a, I: DoubleEndedFallibleIterator + 'a>()
+    ensures borrowed { ListsTheSame (λ (s : MutBor I). s.now) (Listed I.contract.steps I.ends.steps) (Listed ⟦<&'a mut I as FallibleIterator>⟧.contract.steps ⟦<&'a mut I as DoubleEndedFallibleIterator>⟧.ends.steps) }
+    ensures boxed { ListsTheSame (λ (s : Box I Global). s.value) (Listed I.contract.steps I.ends.steps) (Listed ⟦<Box<I> as FallibleIterator>⟧.contract.steps ⟦<Box<I> as DoubleEndedFallibleIterator>⟧.ends.steps) }
+{}
+
+/// What lists l from both ends lists l from the front, and the reverse of l from behind, so what each call says of lists holds of it.
+pub fn law_listed_each<I: DoubleEndedFallibleIterator>()
+    ensures { ListsAtEachEnd I.contract.steps I.ends.steps }
+{}
+
+// ---- all together
+
+/// Each type with two ends lists what its definition names, all together. The law of each says the same, and with the bounds that its type needs alone.
+pub fn law_listed<'a, X, Y, J, K, I, B, F, G, P, Q, C, H, T, R, U>()
+where
+    J: std::iter::DoubleEndedIterator<Item = Result<X, Y>>,
+    K: std::iter::DoubleEndedIterator<Item = X>,
+    I: DoubleEndedFallibleIterator + 'a,
+    I::Item: Drop,
+    F: FnMut(I::Item) -> Result<B, I::Error>,
+    G: FnMut(&I::Item) -> Result<(), I::Error>,
+    P: FnMut(&I::Item) -> Result<bool, I::Error>,
+    Q: FnMut(I::Item) -> Result<Option<B>, I::Error>,
+    H: FnMut(I::Error) -> C,
+    T: Clone + 'a,
+    R: DoubleEndedFallibleIterator<Item = &'a T>,
+    R::Error: From<AllocError>,
+    U: DoubleEndedFallibleIterator<Item = I::Item, Error = I::Error>,
+    ensures convert { ListsElements convert_parts Ok Err results J.next_gives J.next_back_gives (Listed ⟦<Convert<J> as FallibleIterator>⟧.contract.steps ⟦<Convert<J> as DoubleEndedFallibleIterator>⟧.ends.steps) }
+    ensures into_fallible { ListsElements into_fallible_parts (λ x. x) never items K.next_gives K.next_back_gives (Listed ⟦<IntoFallible<K> as FallibleIterator>⟧.contract.steps ⟦<IntoFallible<K> as DoubleEndedFallibleIterator>⟧.ends.steps) }
+    ensures map { ListsByClosure map_parts (call_on F.FnMut) map_outcome mapped (Listed I.contract.steps I.ends.steps) (Listed ⟦<Map<I, F> as FallibleIterator>⟧.contract.steps ⟦<Map<I, F> as DoubleEndedFallibleIterator>⟧.ends.steps) }
+    ensures inspect { ListsByClosure inspect_parts (call_at G.FnMut) inspect_outcome inspected (Listed I.contract.steps I.ends.steps) (Listed ⟦<Inspect<I, G> as FallibleIterator>⟧.contract.steps ⟦<Inspect<I, G> as DoubleEndedFallibleIterator>⟧.ends.steps) }
+    ensures filter { ListsByClosure filter_parts (call_at P.FnMut) filter_outcome filtered (Listed I.contract.steps I.ends.steps) (Listed ⟦<Filter<I, P> as FallibleIterator>⟧.contract.steps ⟦<Filter<I, P> as DoubleEndedFallibleIterator>⟧.ends.steps) }
+    ensures filter_map { ListsByClosure filter_map_parts (call_on Q.FnMut) filter_map_outcome filter_mapped (Listed I.contract.steps I.ends.steps) (Listed ⟦<FilterMap<I, Q> as FallibleIterator>⟧.contract.steps ⟦<FilterMap<I, Q> as DoubleEndedFallibleIterator>⟧.ends.steps) }
+    ensures map_err { ListsFailures map_err_parts (call_on H.FnMut) (Listed I.contract.steps I.ends.steps) (Listed ⟦<MapErr<I, H> as FallibleIterator>⟧.contract.steps ⟦<MapErr<I, H> as DoubleEndedFallibleIterator>⟧.ends.steps) }
+    ensures cloned { ListsClones cloned_parts T.is_clone T.is_infallible (Listed R.contract.steps R.ends.steps) (Listed ⟦<Cloned<R> as FallibleIterator>⟧.contract.steps ⟦<Cloned<R> as DoubleEndedFallibleIterator>⟧.ends.steps) }
+    ensures chain { ListsBothSides chain_parts (Listed I.contract.steps I.ends.steps) (Listed U.contract.steps U.ends.steps) (Listed ⟦<Chain<I, U> as FallibleIterator>⟧.contract.steps ⟦<Chain<I, U> as DoubleEndedFallibleIterator>⟧.ends.steps) }
+    ensures rev { ListsReversed rev_parts (Listed I.contract.steps I.ends.steps) (Listed ⟦<Rev<I> as FallibleIterator>⟧.contract.steps ⟦<Rev<I> as DoubleEndedFallibleIterator>⟧.ends.steps) }
+    ensures borrowed { ListsTheSame (λ (s : MutBor I). s.now) (Listed I.contract.steps I.ends.steps) (Listed ⟦<&'a mut I as FallibleIterator>⟧.contract.steps ⟦<&'a mut I as DoubleEndedFallibleIterator>⟧.ends.steps) }
+    ensures boxed { ListsTheSame (λ (s : Box I Global). s.value) (Listed I.contract.steps I.ends.steps) (Listed ⟦<Box<I> as FallibleIterator>⟧.contract.steps ⟦<Box<I> as DoubleEndedFallibleIterator>⟧.ends.steps) }
+    ensures each_end { ListsAtEachEnd I.contract.steps I.ends.steps }
+{
+    law_listed_convert::<X, Y, J>();
+    law_listed_into_fallible::<X, K>();
+    law_listed_map::<I, B, F>();
+    law_listed_inspect::<I, G>();
+    law_listed_filter::<I, P>();
+    law_listed_filter_map::<I, B, Q>();
+    law_listed_map_err::<I, C, H>();
+    law_listed_cloned::<T, R>();
+    law_listed_chain::<I, U>();
+    law_listed_rev::<I>();
+    law_listed_borrowed::<I>();
+    law_listed_each::<I>();
+}
