@@ -1,0 +1,31 @@
+-- What makes a hint sound.
+use Rattle.std.specs.Prelude.{ℕ, ◌≤◌, List, length, Option, IfSome}
+use Rattle.fallible_contract.specs.Traces.{Answered, Yields, end}
+use Rattle.fallible_contract.specs.Contract.{Contract}
+
+module _ {S A E : Type 0} (steps : S → Answered A E → S → Type 0) (s : S) where
+  -- Each run of items alone from s has at most the upper bound of them, where there is one.
+  abbrev pub BoundsAbove : Option ℕ → Type 0
+  BoundsAbove high = (xs : List A) (t : S) → Yields steps s xs t → IfSome high (λ n. length xs ≤ n)
+
+  -- Each run of items and then an end from s has at least the lower bound of them.
+  abbrev pub BoundsBelow : ℕ → Type 0
+  BoundsBelow low = (xs : List A) (t u : S) → Yields steps s xs t → steps t end u → low ≤ length xs
+
+  -- The hint brackets what comes from s: each run of items alone has at most its upper bound of them, and each run of items and then an end has at least its lower bound.
+  pub record Brackets (hint : ℕ × Option ℕ) : Type 0 where
+    pub above : BoundsAbove hint.1
+    pub below : BoundsBelow hint.0
+
+module _ {S A E : Type 0} (m : Contract S A E) (s : S) where
+  -- Each hint that s may answer brackets what comes from s.
+  abbrev pub SoundHints : Type 0
+  SoundHints = (h : ℕ × Option ℕ) → m.hints s h → Brackets m.steps s h
+
+  -- Each hint that s may answer is made of one that its source may answer, and brackets what comes from s wherever that one brackets what comes from the source.
+  abbrev pub KeepsBrackets : {T B D : Type 0} → Contract T B D → T → Type 0
+  KeepsBrackets source it = (h : ℕ × Option ℕ) → m.hints s h → (k : ℕ × Option ℕ) × source.hints it k × (Brackets source.steps it k → Brackets m.steps s h)
+
+  -- The same of two sources: wherever the hints of both bracket what comes from each.
+  abbrev pub KeepsBracketsOfBoth : {T U B C D : Type 0} → Contract T B D → T → Contract U C D → U → Type 0
+  KeepsBracketsOfBoth left it right other = (h : ℕ × Option ℕ) → m.hints s h → (j : ℕ × Option ℕ) × (k : ℕ × Option ℕ) × left.hints it j × right.hints other k × (Brackets left.steps it j → Brackets right.steps other k → Brackets m.steps s h)

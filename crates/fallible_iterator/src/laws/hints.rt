@@ -1,0 +1,17 @@
+//! Hints are sound: each brackets what comes, wherever the source's does.
+mod cutting;
+mod filtering;
+mod joining;
+mod one_to_one;
+mod peeking;
+
+pub use cutting::{
+    law_hints_fuse, law_hints_skip, law_hints_step_by, law_hints_take, law_hints_take_while,
+};
+pub use filtering::{law_hints_filter, law_hints_filter_map, law_hints_skip_while};
+pub use joining::{law_hints_chain, law_hints_cycle, law_hints_flatten, law_hints_zip};
+pub use one_to_one::{
+    law_hints_cloned, law_hints_enumerate, law_hints_inspect, law_hints_map, law_hints_map_err,
+    law_hints_scan,
+};
+pub use peeking::law_hints_peekable;
