@@ -1,5 +1,6 @@
 -- What makes a hint sound.
-use Rattle.std.specs.Prelude.{ℕ, ◌≤◌, List, length, Option, IfSome}
+use Rattle.std.specs.Prelude.{ℕ, ◌≤◌, List, length, map, Option, None, IfSome}
+use Rattle.std.specs.Iterator as calls
 use Rattle.fallible_contract.specs.Traces.{Answered, Yields, end}
 use Rattle.fallible_contract.specs.Contract.{Contract}
 
@@ -29,3 +30,8 @@ module _ {S A E : Type 0} (m : Contract S A E) (s : S) where
   -- The same of two sources: wherever the hints of both bracket what comes from each.
   abbrev pub KeepsBracketsOfBoth : {T U B C D : Type 0} → Contract T B D → T → Contract U C D → U → Type 0
   KeepsBracketsOfBoth left it right other = (h : ℕ × Option ℕ) → m.hints s h → (j : ℕ × Option ℕ) × (k : ℕ × Option ℕ) × left.hints it j × right.hints other k × (Brackets left.steps it j → Brackets right.steps other k → Brackets m.steps s h)
+
+-- The hint brackets what calls of a std iterator's `next` give, counting runs of elements that `of_item` makes of items: each run of such elements alone has at most its upper bound of them, and each such run and then `None` has at least its lower bound.
+pub record BracketsCalls {S A Z : Type 0} (gives : S → Option Z → S → Type 0) (of_item : A → Z) (s : S) (hint : ℕ × Option ℕ) : Type 0 where
+  pub above : (xs : List A) (t : S) → calls.Yields gives s (map of_item xs) t → IfSome hint.1 (λ n. length xs ≤ n)
+  pub below : (xs : List A) (u : S) → calls.YieldsThen gives s (map of_item xs) None u → hint.0 ≤ length xs

@@ -23,10 +23,12 @@ pub use ends::{
 pub use fallible_contract::answers::{Answer, Side};
 pub use filtering::{law_filter, law_filter_map, law_skip_while};
 pub use hints::{
-    law_hints_chain, law_hints_cloned, law_hints_cycle, law_hints_enumerate, law_hints_filter,
-    law_hints_filter_map, law_hints_flatten, law_hints_fuse, law_hints_inspect, law_hints_map,
-    law_hints_map_err, law_hints_peekable, law_hints_scan, law_hints_skip, law_hints_skip_while,
-    law_hints_step_by, law_hints_take, law_hints_take_while, law_hints_zip,
+    law_hints_back_convert, law_hints_back_into_fallible, law_hints_chain, law_hints_cloned,
+    law_hints_convert, law_hints_cycle, law_hints_empty, law_hints_enumerate, law_hints_filter,
+    law_hints_filter_map, law_hints_flatten, law_hints_from_fn, law_hints_fuse, law_hints_inspect,
+    law_hints_into_fallible, law_hints_map, law_hints_map_err, law_hints_once, law_hints_once_err,
+    law_hints_peekable, law_hints_repeat, law_hints_repeat_err, law_hints_scan, law_hints_skip,
+    law_hints_skip_while, law_hints_step_by, law_hints_take, law_hints_take_while, law_hints_zip,
 };
 pub use joining::{law_back_chain, law_chain, law_cycle, law_flat_map, law_flatten, law_zip};
 pub use one_to_one::{law_cloned, law_enumerate, law_inspect, law_map, law_map_err, law_scan};

@@ -7,3 +7,4 @@ pub mod Joining
 pub mod OneToOne
 pub mod Passing
 pub mod Peeking
+pub mod Sources

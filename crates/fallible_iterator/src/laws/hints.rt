@@ -4,6 +4,7 @@ mod filtering;
 mod joining;
 mod one_to_one;
 mod peeking;
+mod sources;
 
 pub use cutting::{
     law_hints_fuse, law_hints_skip, law_hints_step_by, law_hints_take, law_hints_take_while,
@@ -15,3 +16,8 @@ pub use one_to_one::{
     law_hints_scan,
 };
 pub use peeking::law_hints_peekable;
+pub use sources::{
+    law_hints_back_convert, law_hints_back_into_fallible, law_hints_convert, law_hints_empty,
+    law_hints_from_fn, law_hints_into_fallible, law_hints_once, law_hints_once_err,
+    law_hints_repeat, law_hints_repeat_err,
+};

@@ -58,6 +58,9 @@ module _ {V P A E : Type 0} (view : V → P) (steps : P → Answered A E → P �
   pub brackets_seen : (s : V) (h : ℕ × Option ℕ) → Brackets steps (view s) h → Brackets seen s h
   brackets_seen s h b = brackets_within view seen steps (λ u r v step. step) s h b
 
+  pub above_seen : (s : V) (o : Option ℕ) → BoundsAbove steps (view s) o → BoundsAbove seen s o
+  above_seen s o b xs t ran = b xs (view t) (yields_within view seen steps (λ u r v step. step) xs s t ran)
+
 -- ---- a value that draws from a source
 
 module _ {S T A B E D : Type 0} (steps : S → Answered A E → S → Type 0) (source : T → Answered B D → T → Type 0) (view : S → T) (P : S → Type 0) where

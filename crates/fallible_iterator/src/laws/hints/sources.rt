@@ -1,0 +1,63 @@
+// The hints of the sources.
+ghost use Rattle.std.specs.Prelude.{◌≡◌, ℕ, Option, Result, Ok};
+ghost use Rattle.fallible_iterator.specs.SoundHints.{BoundsAbove, Brackets, BracketsCalls, SoundHints};
+ghost use Rattle.fallible_iterator.specs.Sources.Convert.{convert_parts};
+ghost use Rattle.fallible_iterator.specs.Sources.IntoFallible.{into_fallible_parts};
+
+use crate::sources::{Convert, Empty, FromFn, IntoFallible, Once, OnceErr, Repeat, RepeatErr};
+use fallible_core::{DoubleEndedFallibleIterator, FallibleIterator};
+use std::alloc::AllocError;
+
+/// A hint brackets what comes from `Convert` wherever it brackets, of the std iterator's calls of `next`, those that give `Ok` alone. And whatever std's hint says, its upper bound is never too low.
+pub fn law_hints_convert<T, E, I: std::iter::Iterator<Item = Result<T, E>>>()
+    ensures brackets { (s : Convert I) (h : ℕ × Option ℕ) → BracketsCalls I.next_gives Ok (convert_parts s) h → Brackets ⟦<Convert<I> as FallibleIterator>⟧.contract.steps s h }
+    ensures above { (s : Convert I) (h : ℕ × Option ℕ) → ⟦<Convert<I> as FallibleIterator>⟧.contract.hints s h → BoundsAbove ⟦<Convert<I> as FallibleIterator>⟧.contract.steps s h.1 }
+{}
+
+/// The same of `Convert` from behind, by calls of `next_back`.
+pub fn law_hints_back_convert<T, E, I: std::iter::DoubleEndedIterator<Item = Result<T, E>>>()
+    ensures brackets { (s : Convert I) (h : ℕ × Option ℕ) → BracketsCalls I.next_back_gives Ok (convert_parts s) h → Brackets ⟦<Convert<I> as DoubleEndedFallibleIterator>⟧.ends.steps s h }
+    ensures above { (s : Convert I) (h : ℕ × Option ℕ) → ⟦<Convert<I> as FallibleIterator>⟧.contract.hints s h → BoundsAbove ⟦<Convert<I> as DoubleEndedFallibleIterator>⟧.ends.steps s h.1 }
+{}
+
+/// A hint brackets what comes from `IntoFallible` wherever it brackets what calls of the std iterator's `next` give. And whatever std's hint says, its upper bound is never too low.
+pub fn law_hints_into_fallible<T, I: std::iter::Iterator<Item = T>>()
+    ensures brackets { (s : IntoFallible I) (h : ℕ × Option ℕ) → BracketsCalls I.next_gives (λ (x : T). x) (into_fallible_parts s) h → Brackets ⟦<IntoFallible<I> as FallibleIterator>⟧.contract.steps s h }
+    ensures above { (s : IntoFallible I) (h : ℕ × Option ℕ) → ⟦<IntoFallible<I> as FallibleIterator>⟧.contract.hints s h → BoundsAbove ⟦<IntoFallible<I> as FallibleIterator>⟧.contract.steps s h.1 }
+{}
+
+/// The same of `IntoFallible` from behind, by calls of `next_back`.
+pub fn law_hints_back_into_fallible<T, I: std::iter::DoubleEndedIterator<Item = T>>()
+    ensures brackets { (s : IntoFallible I) (h : ℕ × Option ℕ) → BracketsCalls I.next_back_gives (λ (x : T). x) (into_fallible_parts s) h → Brackets ⟦<IntoFallible<I> as DoubleEndedFallibleIterator>⟧.ends.steps s h }
+    ensures above { (s : IntoFallible I) (h : ℕ × Option ℕ) → ⟦<IntoFallible<I> as FallibleIterator>⟧.contract.hints s h → BoundsAbove ⟦<IntoFallible<I> as DoubleEndedFallibleIterator>⟧.ends.steps s h.1 }
+{}
+
+/// Each hint of `FromFn` brackets what comes from it.
+pub fn law_hints_from_fn<T, E, F: FnMut() -> Result<Option<T>, E>>()
+    ensures { (s : FromFn F) → SoundHints ⟦<FromFn<F> as FallibleIterator>⟧.contract s }
+{}
+
+/// Each hint of `Empty` brackets what comes from it.
+pub fn law_hints_empty<T, E>()
+    ensures { (s : Empty T E) → SoundHints ⟦<Empty<T, E> as FallibleIterator>⟧.contract s }
+{}
+
+/// Each hint of `Once` brackets what comes from it.
+pub fn law_hints_once<T: Drop, E>()
+    ensures { (s : Once T E) → SoundHints ⟦<Once<T, E> as FallibleIterator>⟧.contract s }
+{}
+
+/// Each hint of `OnceErr` brackets what comes from it.
+pub fn law_hints_once_err<T, E: Drop>()
+    ensures { (s : OnceErr T E) → SoundHints ⟦<OnceErr<T, E> as FallibleIterator>⟧.contract s }
+{}
+
+/// Each hint of `Repeat` brackets what comes from it: no end ever comes.
+pub fn law_hints_repeat<T: Clone, E: From<AllocError>>()
+    ensures { (s : Repeat T E) → SoundHints ⟦<Repeat<T, E> as FallibleIterator>⟧.contract s }
+{}
+
+/// Each hint of `RepeatErr` brackets what comes from it: no item ever comes.
+pub fn law_hints_repeat_err<T, E: Clone + From<AllocError>>()
+    ensures { (s : RepeatErr T E) → SoundHints ⟦<RepeatErr<T, E> as FallibleIterator>⟧.contract s }
+{}
