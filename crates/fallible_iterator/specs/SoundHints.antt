@@ -1,8 +1,9 @@
 -- What makes a hint sound.
-use Rattle.std.specs.Prelude.{ℕ, ◌≤◌, List, length, map, Option, None, IfSome}
+use Rattle.std.specs.Prelude.{◌≡◌, ℕ, ◌+◌, ◌≤◌, List, [], length, map, Option, Result, None, IfSome, MatchOption}
 use Rattle.std.specs.Iterator as calls
 use Rattle.fallible_contract.specs.Traces.{Answered, Yields, end}
 use Rattle.fallible_contract.specs.Contract.{Contract}
+use Rattle.fallible_contract.specs.Listed.{items_listed, failures_listed}
 
 module _ {S A E : Type 0} (steps : S → Answered A E → S → Type 0) (s : S) where
   -- Each run of items alone from s has at most the upper bound of them, where there is one.
@@ -35,3 +36,21 @@ module _ {S A E : Type 0} (m : Contract S A E) (s : S) where
 pub record BracketsCalls {S A Z : Type 0} (gives : S → Option Z → S → Type 0) (of_item : A → Z) (s : S) (hint : ℕ × Option ℕ) : Type 0 where
   pub above : (xs : List A) (t : S) → calls.Yields gives s (map of_item xs) t → IfSome hint.1 (λ n. length xs ≤ n)
   pub below : (xs : List A) (u : S) → calls.YieldsThen gives s (map of_item xs) None u → hint.0 ≤ length xs
+
+-- Each call of a std iterator that gives an element takes one of what is left, and `None` is given only where nothing is left.
+abbrev pub CountsDown : {S Z : Type 0} → (S → ℕ) → (S → Option Z → S → Type 0) → Type 0
+CountsDown {S = S} {Z = Z} left gives = (s : S) (o : Option Z) (t : S) → gives s o t → MatchOption o (left s ≡ 0) (λ _. left s ≡ left t + 1)
+
+-- The hint bounds the list: its upper bound is at least the number of items in the list, and where the list has no failure its lower bound is at most that number.
+pub record Bounds {A E : Type 0} (hint : ℕ × Option ℕ) (l : List (Result A E)) : Type 0 where
+  pub above : IfSome hint.1 (λ n. length (items_listed l) ≤ n)
+  pub below : failures_listed l ≡ [] → hint.0 ≤ length l
+
+module _ {S A E : Type 0} (m : Contract S A E) (s : S) (l : List (Result A E)) where
+  -- Each hint that s may answer is made of one that its source may answer, and bounds the list of s wherever that one bounds the source's list.
+  abbrev pub KeepsBounds : {T B D : Type 0} → Contract T B D → T → List (Result B D) → Type 0
+  KeepsBounds source it k = (h : ℕ × Option ℕ) → m.hints s h → (j : ℕ × Option ℕ) × source.hints it j × (Bounds j k → Bounds h l)
+
+  -- The same of two sources: wherever the hints of both bound the lists of both.
+  abbrev pub KeepsBoundsOfBoth : {T U B C D : Type 0} → Contract T B D → T → List (Result B D) → Contract U C D → U → List (Result C D) → Type 0
+  KeepsBoundsOfBoth left it a right other b = (h : ℕ × Option ℕ) → m.hints s h → (i : ℕ × Option ℕ) × (j : ℕ × Option ℕ) × left.hints it i × right.hints other j × (Bounds i a → Bounds j b → Bounds h l)

@@ -12,31 +12,113 @@ mod to_come;
 pub mod traces;
 
 pub use borrowed::law_borrowed;
-pub use cutting::{law_fuse, law_skip, law_step_by, law_take, law_take_while};
-pub use ends::{
-    law_back_cloned, law_back_filter, law_back_filter_map, law_back_inspect, law_back_map,
-    law_back_map_err, law_interleave, law_interleave_folds, law_interleave_nest,
-    law_listed_borrowed, law_listed_chain, law_listed_cloned, law_listed_each, law_listed_filter,
-    law_listed_filter_map, law_listed_inspect, law_listed_map, law_listed_map_err, law_listed_rev,
-    law_rev,
-};
-pub use fallible_contract::answers::{Answer, Side};
-pub use filtering::{law_filter, law_filter_map, law_skip_while};
-pub use hints::{
-    law_hints_back_convert, law_hints_back_into_fallible, law_hints_chain, law_hints_cloned,
-    law_hints_convert, law_hints_cycle, law_hints_empty, law_hints_enumerate, law_hints_filter,
-    law_hints_filter_map, law_hints_flatten, law_hints_from_fn, law_hints_fuse, law_hints_inspect,
-    law_hints_into_fallible, law_hints_map, law_hints_map_err, law_hints_once, law_hints_once_err,
-    law_hints_peekable, law_hints_repeat, law_hints_repeat_err, law_hints_scan, law_hints_skip,
-    law_hints_skip_while, law_hints_step_by, law_hints_take, law_hints_take_while, law_hints_zip,
-};
-pub use joining::{law_back_chain, law_chain, law_cycle, law_flat_map, law_flatten, law_zip};
-pub use one_to_one::{law_cloned, law_enumerate, law_inspect, law_map, law_map_err, law_scan};
+pub use cutting::law_fuse;
+pub use cutting::law_skip;
+pub use cutting::law_step_by;
+pub use cutting::law_take;
+pub use cutting::law_take_while;
+pub use ends::law_back_cloned;
+pub use ends::law_back_filter;
+pub use ends::law_back_filter_map;
+pub use ends::law_back_inspect;
+pub use ends::law_back_map;
+pub use ends::law_back_map_err;
+pub use ends::law_interleave;
+pub use ends::law_interleave_folds;
+pub use ends::law_interleave_nest;
+pub use ends::law_listed_borrowed;
+pub use ends::law_listed_chain;
+pub use ends::law_listed_cloned;
+pub use ends::law_listed_each;
+pub use ends::law_listed_filter;
+pub use ends::law_listed_filter_map;
+pub use ends::law_listed_inspect;
+pub use ends::law_listed_map;
+pub use ends::law_listed_map_err;
+pub use ends::law_listed_rev;
+pub use ends::law_rev;
+pub use fallible_contract::answers::Answer;
+pub use fallible_contract::answers::Side;
+pub use filtering::law_filter;
+pub use filtering::law_filter_map;
+pub use filtering::law_skip_while;
+pub use hints::law_hints_back_chain;
+pub use hints::law_hints_back_cloned;
+pub use hints::law_hints_back_convert;
+pub use hints::law_hints_back_filter;
+pub use hints::law_hints_back_filter_map;
+pub use hints::law_hints_back_inspect;
+pub use hints::law_hints_back_into_fallible;
+pub use hints::law_hints_back_map;
+pub use hints::law_hints_back_map_err;
+pub use hints::law_hints_borrowed;
+pub use hints::law_hints_chain;
+pub use hints::law_hints_cloned;
+pub use hints::law_hints_convert;
+pub use hints::law_hints_cycle;
+pub use hints::law_hints_empty;
+pub use hints::law_hints_enumerate;
+pub use hints::law_hints_filter;
+pub use hints::law_hints_filter_map;
+pub use hints::law_hints_flatten;
+pub use hints::law_hints_from_fn;
+pub use hints::law_hints_fuse;
+pub use hints::law_hints_inspect;
+pub use hints::law_hints_into_fallible;
+pub use hints::law_hints_listed;
+pub use hints::law_hints_listed_borrowed;
+pub use hints::law_hints_listed_chain;
+pub use hints::law_hints_listed_cloned;
+pub use hints::law_hints_listed_convert;
+pub use hints::law_hints_listed_filter;
+pub use hints::law_hints_listed_filter_map;
+pub use hints::law_hints_listed_inspect;
+pub use hints::law_hints_listed_into_fallible;
+pub use hints::law_hints_listed_map;
+pub use hints::law_hints_listed_map_err;
+pub use hints::law_hints_listed_rev;
+pub use hints::law_hints_map;
+pub use hints::law_hints_map_err;
+pub use hints::law_hints_once;
+pub use hints::law_hints_once_err;
+pub use hints::law_hints_peekable;
+pub use hints::law_hints_repeat;
+pub use hints::law_hints_repeat_err;
+pub use hints::law_hints_rev;
+pub use hints::law_hints_scan;
+pub use hints::law_hints_skip;
+pub use hints::law_hints_skip_while;
+pub use hints::law_hints_step_by;
+pub use hints::law_hints_take;
+pub use hints::law_hints_take_while;
+pub use hints::law_hints_zip;
+pub use joining::law_back_chain;
+pub use joining::law_chain;
+pub use joining::law_cycle;
+pub use joining::law_flat_map;
+pub use joining::law_flatten;
+pub use joining::law_zip;
+pub use one_to_one::law_cloned;
+pub use one_to_one::law_enumerate;
+pub use one_to_one::law_inspect;
+pub use one_to_one::law_map;
+pub use one_to_one::law_map_err;
+pub use one_to_one::law_scan;
 pub use peeking::law_peekable;
-pub use sources::{
-    law_back_convert, law_back_into_fallible, law_convert, law_empty, law_from_fn,
-    law_into_fallible, law_listed_convert, law_listed_into_fallible, law_once, law_once_err,
-    law_repeat, law_repeat_err, law_sources,
-};
-pub use to_come::{law_to_come, law_to_come_ends};
-pub use traces::{answers, answers_at};
+pub use sources::law_back_convert;
+pub use sources::law_back_into_fallible;
+pub use sources::law_convert;
+pub use sources::law_empty;
+pub use sources::law_from_fn;
+pub use sources::law_into_fallible;
+pub use sources::law_listed_convert;
+pub use sources::law_listed_into_fallible;
+pub use sources::law_once;
+pub use sources::law_once_err;
+pub use sources::law_repeat;
+pub use sources::law_repeat_err;
+pub use sources::law_sources;
+pub use to_come::law_to_come;
+pub use to_come::law_to_come_ends;
+pub use traces::answers;
+pub use traces::answers_at;

@@ -11,10 +11,7 @@ use Rattle.fallible_core.specs.Cutting.StepBy.{step_by_step}
 use Rattle.fallible_core.proofs.Lemmas.Cutting.Skip.{skip_leaves}
 use Rattle.fallible_core.proofs.Lemmas.Cutting.StepBy.{step_by_leaves}
 use Rattle.fallible_iterator.specs.SoundHints.{Brackets}
-use Rattle.fallible_iterator.proofs.Lemmas.Hints.Drawn.{OneOfOne, yields_after, brackets_within, same_brackets}
-
-pair_is : {i j : ℕ} {o u : Option ℕ} → i ≡ j → o ≡ u → ◌≡◌ {A = ℕ × Option ℕ} (i, o) (j, u)
-pair_is e f = rw (e, f) refl
+use Rattle.fallible_iterator.proofs.Lemmas.Hints.Drawn.{OneOfOne, yields_after, pair_is, brackets_within, same_brackets}
 
 -- ---- numbers
 

@@ -9,6 +9,10 @@ pub no_greater : (o : Option ℕ) (i j : ℕ) → i ≤ j → IfSome o (λ n. j 
 no_greater None i j le h = tt
 no_greater (Some n) i j le h = omega (arith, le, h)
 
+-- a hint is its two bounds
+pub pair_is : {i j : ℕ} {o u : Option ℕ} → i ≡ j → o ≡ u → ◌≡◌ {A = ℕ × Option ℕ} (i, o) (j, u)
+pair_is e f = rw (e, f) refl
+
 -- runs one after another
 pub yields_after : {S A E : Type 0} (steps : S → Answered A E → S → Type 0) (xs ys : List A) (s t u : S) → Yields steps s xs t → Yields steps t ys u → Yields steps s (xs ++ ys) u
 yields_after steps [] ys s t u e h = subst (λ v. Yields steps v ys u) (sym e) h

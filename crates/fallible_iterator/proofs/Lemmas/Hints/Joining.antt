@@ -1,5 +1,5 @@
 -- Hints of the adapters that join sources.
-use Rattle.std.specs.Prelude.{◌≡◌, ℕ, zero, suc, ◌+◌, ◌-◌, ◌^◌, ◌≤◌, List, [], ◌∷◌, length, Option, Some, None, Ok, Err, IfSome, ⊤, false, ◌⊎◌}
+use Rattle.std.specs.Prelude.{◌≡◌, ℕ, zero, suc, ◌+◌, ◌-◌, ◌^◌, ◌≤◌, cond, ltb, List, [], ◌∷◌, length, Option, Some, None, Ok, Err, IfSome, ⊤, false, ◌⊎◌}
 use Rattle.std.specs.declared.alloc.AllocError.{AllocError}
 use Rattle.std.proofs.Common.{refl, sym, ap, subst, ◌∙◌, arith, inl, inr}
 use Rattle.std.proofs.lemmas.Bool.{cases_lt, lt-ltb, le-ltb}
@@ -12,7 +12,29 @@ use Rattle.fallible_core.specs.Joining.Chain.{chain_step, chain_hints}
 use Rattle.fallible_core.specs.Joining.Cycle.{cycle_step}
 use Rattle.fallible_core.specs.Joining.Zip.{ZipPlace, left_failed, both_drawn, left_answer, zip_answer, right_step, zip_step}
 use Rattle.fallible_iterator.specs.SoundHints.{Brackets}
-use Rattle.fallible_iterator.proofs.Lemmas.Hints.Drawn.{OneOfOne, ItemOfItem, as_many, no_end, nothing_said}
+use Rattle.fallible_iterator.proofs.Lemmas.Hints.Drawn.{OneOfOne, ItemOfItem, pair_is, as_many, no_end, nothing_said}
+
+-- the sums are the same whichever side is named first
+sum_of_swapped : (f b : Option ℕ) → fitting_sum f b ≡ fitting_sum b f
+sum_of_swapped (Some x) (Some y) = let same : x + y ≡ y + x = omega arith in ap (λ (n : ℕ). cond (ltb n (2 ^ 64)) (Some n) None) same
+sum_of_swapped (Some x) None = refl
+sum_of_swapped None (Some y) = refl
+sum_of_swapped None None = refl
+
+pub sum_swapped : (f b : ℕ × Option ℕ) → hint_sum f b ≡ hint_sum b f
+sum_swapped f b = pair_is (omega arith) (sum_of_swapped f.1 b.1)
+
+sum_fits : (x y i : ℕ) → i ≤ x + y → IfSome (fitting_sum (Some x) (Some y)) (λ n. i ≤ n)
+sum_fits x y i le = elim (cases_lt (x + y) (2 ^ 64)) [
+  | inl fits ↦ rw (lt-ltb (x + y) (2 ^ 64) fits) le
+  | inr past ↦ rw (le-ltb (x + y) (2 ^ 64) past) tt
+]
+
+-- the sum of bounds bounds the sum
+pub sum_above : (f b : Option ℕ) (i j n : ℕ) → n ≡ i + j → IfSome f (λ m. i ≤ m) → IfSome b (λ m. j ≤ m) → IfSome (fitting_sum f b) (λ m. n ≤ m)
+sum_above (Some x) (Some y) i j n same le ge = sum_fits x y n (omega (arith, same, le, ge))
+sum_above (Some x) None i j n same le ge = tt
+sum_above None b i j n same le ge = tt
 
 -- ---- `Chain`
 
@@ -79,17 +101,6 @@ module _ {S U A E : Type 0} (steps : S → Answered A E → S → Type 0) (other
   ]
 
   -- ---- bounds
-
-  sum_fits : (x y i : ℕ) → i ≤ x + y → IfSome (fitting_sum (Some x) (Some y)) (λ n. i ≤ n)
-  sum_fits x y i le = elim (cases_lt (x + y) (2 ^ 64)) [
-    | inl fits ↦ rw (lt-ltb (x + y) (2 ^ 64) fits) le
-    | inr past ↦ rw (le-ltb (x + y) (2 ^ 64) past) tt
-  ]
-
-  sum_above : (f b : Option ℕ) (i j n : ℕ) → n ≡ i + j → IfSome f (λ m. i ≤ m) → IfSome b (λ m. j ≤ m) → IfSome (fitting_sum f b) (λ m. n ≤ m)
-  sum_above (Some x) (Some y) i j n same le ge = sum_fits x y n (omega (arith, same, le, ge))
-  sum_above (Some x) None i j n same le ge = tt
-  sum_above None b i j n same le ge = tt
 
   ended_both : (p q : S × U × StillDrawn) → p.2 ≡ Both → chained p end q → steps p.0 end q.0 × others p.1 end q.1
   ended_both (s, u, Both) q e w = elim w [ inl d ↦ absurd (let no : is_end {A = A} {E = E} end ≡ false = d.1 in cc) | inr d ↦ (d.0, d.1) ]

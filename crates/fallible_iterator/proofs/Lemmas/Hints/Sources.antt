@@ -1,13 +1,16 @@
 -- Hints of the sources.
-use Rattle.std.specs.Prelude.{◌≡◌, ℕ, ◌+◌, ◌≤◌, ◌<◌, List, [], ◌∷◌, length, map, Option, Some, None, Ok, Err, IfSome}
+use Rattle.std.specs.Prelude.{◌≡◌, ℕ, ◌+◌, ◌≤◌, List, [], ◌∷◌, length, map, Option, Result, Some, None, Ok, Err, IfSome, suc}
 use Rattle.std.specs.Iterator as calls
-use Rattle.std.specs.Iterator.{Count, IsFinite, size, UpTo}
-use Rattle.std.proofs.Common.{sym, subst, arith}
+use Rattle.std.specs.Iterator.{Count, IsFinite, size, UpTo, at_most, item_count}
+use Rattle.std.specs.Iterator.SizeHint.{IsWithinCount}
+use Rattle.std.proofs.Common.{refl, sym, ap, subst, arith}
 use Rattle.fallible_contract.specs.Traces.{Answered, Yields, item, failure, end}
+use Rattle.fallible_contract.specs.Lists.{results, items}
+use Rattle.fallible_contract.specs.Listed.{items_listed}
 use Rattle.fallible_contract.specs.Held.{once_step, held_count}
 use Rattle.fallible_iterator.specs.Sources.Std.{std_step}
-use Rattle.fallible_iterator.specs.SoundHints.{BoundsAbove, Brackets, BracketsCalls}
-use Rattle.fallible_iterator.proofs.Lemmas.Hints.Drawn.{no_item, no_greater}
+use Rattle.fallible_iterator.specs.SoundHints.{BoundsAbove, Brackets, BracketsCalls, CountsDown, Bounds}
+use Rattle.fallible_iterator.proofs.Lemmas.Hints.Drawn.{no_item}
 
 -- ---- over a std iterator
 
@@ -38,6 +41,50 @@ module _ {S A E Z : Type 0} (of_item : A → Z) (of_failure : E → Z) (can : S 
   -- so an upper bound of what remains is one of the draws
   pub remaining_bounds : (s : S) (o : Option ℕ) → IfSome o (UpTo (remaining s)) → BoundsAbove called s o
   remaining_bounds s o up xs t ran = up_to o s (length xs) (λ f. lowered xs s t ran f) up
+
+  -- ---- where each call takes one of what is left
+
+  module _ (left : S → ℕ) (counts : CountsDown left gives) where
+    left_after : (xs : List A) (s t : S) → Yields called s xs t → left s ≡ left t + length xs
+    left_after [] s t ran = let same : left s ≡ left t = ap left ran in omega (arith, same)
+    left_after (x ∷ xs) s t ran = let one : left s ≡ left ran.0 + 1 = counts s (Some (of_item x)) ran.0 ran.1.0 in let rest = left_after xs ran.0 t ran.2 in omega (arith, one, rest)
+
+    pub counted_brackets : (s : S) (h : ℕ × Option ℕ) → remaining s ≡ at_most (left s) → IsWithinCount h.0 (remaining s) → IfSome h.1 (UpTo (remaining s)) → Brackets called s h
+    counted_brackets s h is low up = record {
+      above = remaining_bounds s h.1 up;
+      below = λ xs t u ran step.
+          let within : IsWithinCount h.0 (at_most (left s)) = subst (λ (c : Count). IsWithinCount h.0 c) is low in
+          let le : h.0 ≤ left s = within tt in
+          let after = left_after xs s t ran in
+          let none : left t ≡ 0 = counts t None u step.0 in
+          omega (arith, le, after, none);
+    }
+
+items_fewer : {A E : Type 0} (l : List (Result A E)) → length (items_listed l) ≤ length l
+items_fewer [] = omega arith
+items_fewer (Ok x ∷ l) = let le = items_fewer l in omega (arith, le)
+items_fewer (Err e ∷ l) = let le = items_fewer l in omega (arith, le)
+
+over_items : (o : Option ℕ) (i n : ℕ) → i ≤ n → IfSome o (UpTo (at_most n)) → IfSome o (λ u. i ≤ u)
+over_items None i n le up = tt
+over_items (Some u) i n le up = omega (arith, le, up.1)
+
+pub long_results : {A E : Type 0} (l : List (Result A E)) → length (results l) ≡ length l
+unfolding results
+long_results l = refl
+
+pub long_items : {A : Type 0} (E : Type 0) (l : List A) → length (items {E = E} l) ≡ length l
+unfolding items
+long_items E [] = refl
+long_items E (x ∷ l) = ap suc (long_items E l)
+
+-- a hint within what remains bounds what is left
+pub bounds_rest : {A E S Z : Type 0} (rest : S → List Z) (s : S) (l : List (Result A E)) (c : Count) (h : ℕ × Option ℕ) → c ≡ item_count rest s → length l ≡ length (rest s) → IsWithinCount h.0 c → IfSome h.1 (UpTo c) → Bounds h l
+bounds_rest rest s l c h is same low up =
+    let within : IsWithinCount h.0 (item_count rest s) = subst (λ (d : Count). IsWithinCount h.0 d) is low in
+    let over : IfSome h.1 (UpTo (item_count rest s)) = subst (λ (d : Count). IfSome h.1 (UpTo d)) is up in
+    let le : h.0 ≤ length (rest s) = within tt in
+    record { above = over_items h.1 (length (items_listed l)) (length (rest s)) (omega (arith, items_fewer l, same)) over; below = λ none. omega (arith, le, same) }
 
 -- ---- one item, or one failure
 
