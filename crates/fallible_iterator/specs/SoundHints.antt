@@ -19,18 +19,32 @@ module _ {S A E : Type 0} (steps : S → Answered A E → S → Type 0) (s : S) 
     pub above : BoundsAbove hint.1
     pub below : BoundsBelow hint.0
 
+-- The hint h of s is as sound as the hint k of its source: the upper bound of h bounds what comes from s wherever that of k bounds what comes from the source, and the lower bound of h wherever that of k does.
+pub record AsSound {S A E T B D : Type 0} (steps : S → Answered A E → S → Type 0) (s : S) (h : ℕ × Option ℕ) (source : T → Answered B D → T → Type 0) (it : T) (k : ℕ × Option ℕ) : Type 0 where
+  pub above : BoundsAbove source it k.1 → BoundsAbove steps s h.1
+  pub below : BoundsBelow source it k.0 → BoundsBelow steps s h.0
+
+-- The same of the hints j and k of two sources.
+pub record AsSoundAsBoth {S A E T B D U C F : Type 0} (steps : S → Answered A E → S → Type 0) (s : S) (h : ℕ × Option ℕ) (left : T → Answered B D → T → Type 0) (it : T) (j : ℕ × Option ℕ) (right : U → Answered C F → U → Type 0) (other : U) (k : ℕ × Option ℕ) : Type 0 where
+  pub above : BoundsAbove left it j.1 → BoundsAbove right other k.1 → BoundsAbove steps s h.1
+  pub below : BoundsBelow left it j.0 → BoundsBelow right other k.0 → BoundsBelow steps s h.0
+
 module _ {S A E : Type 0} (m : Contract S A E) (s : S) where
   -- Each hint that s may answer brackets what comes from s.
   abbrev pub SoundHints : Type 0
   SoundHints = (h : ℕ × Option ℕ) → m.hints s h → Brackets m.steps s h
 
-  -- Each hint that s may answer is made of one that its source may answer, and brackets what comes from s wherever that one brackets what comes from the source.
-  abbrev pub KeepsBrackets : {T B D : Type 0} → Contract T B D → T → Type 0
-  KeepsBrackets source it = (h : ℕ × Option ℕ) → m.hints s h → (k : ℕ × Option ℕ) × source.hints it k × (Brackets source.steps it k → Brackets m.steps s h)
+  -- The upper bound of each hint that s may answer bounds what comes from s.
+  abbrev pub SoundAbove : Type 0
+  SoundAbove = (h : ℕ × Option ℕ) → m.hints s h → BoundsAbove m.steps s h.1
 
-  -- The same of two sources: wherever the hints of both bracket what comes from each.
-  abbrev pub KeepsBracketsOfBoth : {T U B C D : Type 0} → Contract T B D → T → Contract U C D → U → Type 0
-  KeepsBracketsOfBoth left it right other = (h : ℕ × Option ℕ) → m.hints s h → (j : ℕ × Option ℕ) × (k : ℕ × Option ℕ) × left.hints it j × right.hints other k × (Brackets left.steps it j → Brackets right.steps other k → Brackets m.steps s h)
+  -- Each hint that s may answer is made of one that its source may answer, and is as sound as that one.
+  abbrev pub KeepsBrackets : {T B D : Type 0} → Contract T B D → T → Type 0
+  KeepsBrackets source it = (h : ℕ × Option ℕ) → m.hints s h → (k : ℕ × Option ℕ) × source.hints it k × AsSound m.steps s h source.steps it k
+
+  -- Each hint that s may answer is made of one of each of two sources, and is as sound as these both.
+  abbrev pub KeepsBracketsOfBoth : {T U B C D F : Type 0} → Contract T B D → T → Contract U C F → U → Type 0
+  KeepsBracketsOfBoth left it right other = (h : ℕ × Option ℕ) → m.hints s h → (j : ℕ × Option ℕ) × (k : ℕ × Option ℕ) × left.hints it j × right.hints other k × AsSoundAsBoth m.steps s h left.steps it j right.steps other k
 
 -- The hint brackets what calls of a std iterator's `next` give, counting runs of elements that `of_item` makes of items: each run of such elements alone has at most its upper bound of them, and each such run and then `None` has at least its lower bound.
 pub record BracketsCalls {S A Z : Type 0} (gives : S → Option Z → S → Type 0) (of_item : A → Z) (s : S) (hint : ℕ × Option ℕ) : Type 0 where

@@ -1,4 +1,5 @@
 //! Hints are sound: each brackets what comes, wherever the source's does.
+mod any;
 mod cutting;
 mod ends;
 mod filtering;
@@ -8,6 +9,7 @@ mod one_to_one;
 mod peeking;
 mod sources;
 
+pub use any::{law_hints_after, law_hints_nest};
 pub use cutting::{
     law_hints_fuse, law_hints_skip, law_hints_step_by, law_hints_take, law_hints_take_while,
 };
@@ -17,7 +19,9 @@ pub use ends::{
     law_hints_rev,
 };
 pub use filtering::{law_hints_filter, law_hints_filter_map, law_hints_skip_while};
-pub use joining::{law_hints_chain, law_hints_cycle, law_hints_flatten, law_hints_zip};
+pub use joining::{
+    law_hints_chain, law_hints_cycle, law_hints_flat_map, law_hints_flatten, law_hints_zip,
+};
 pub use listed::{
     law_hints_listed, law_hints_listed_borrowed, law_hints_listed_chain, law_hints_listed_cloned,
     law_hints_listed_convert, law_hints_listed_filter, law_hints_listed_filter_map,

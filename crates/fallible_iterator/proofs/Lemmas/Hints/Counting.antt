@@ -10,8 +10,8 @@ use Rattle.fallible_core.specs.Cutting.Skip.{skip_step}
 use Rattle.fallible_core.specs.Cutting.StepBy.{step_by_step}
 use Rattle.fallible_core.proofs.Lemmas.Cutting.Skip.{skip_leaves}
 use Rattle.fallible_core.proofs.Lemmas.Cutting.StepBy.{step_by_leaves}
-use Rattle.fallible_iterator.specs.SoundHints.{Brackets}
-use Rattle.fallible_iterator.proofs.Lemmas.Hints.Drawn.{OneOfOne, yields_after, pair_is, brackets_within, same_brackets}
+use Rattle.fallible_iterator.specs.SoundHints.{Brackets, AsSound}
+use Rattle.fallible_iterator.proofs.Lemmas.Hints.Drawn.{as_sound, OneOfOne, yields_after, pair_is, brackets_within, same_brackets}
 
 -- ---- numbers
 
@@ -110,6 +110,9 @@ module _ {S A E : Type 0} (steps : S → Answered A E → S → Type 0) where
   pub skip_brackets : (p : S × ℕ) (k : ℕ × Option ℕ) → Brackets steps p.0 k → Brackets (skip_step steps) p (hint_less p.1 k)
   skip_brackets p k b = subst (λ (h : ℕ × Option ℕ). Brackets (skip_step steps) p h) (pair_is (less_is p.1 k.0) (less_upper p.1 k.1)) (brackets_within (λ q. q) (skip_step steps) (leaves_one steps 0) (λ u r v w. skip_leaves steps {p = u} {q = v} w) p (hint_kept 0 p.1 k) (kept_brackets steps 0 p.0 p.1 k b))
 
+  pub skip_sound : (p : S × ℕ) (h k : ℕ × Option ℕ) → h ≡ hint_less p.1 k → AsSound (skip_step steps) p h steps p.0 k
+  skip_sound p h k is = as_sound (skip_step steps) steps p p.0 (λ i. i - p.1) (λ o. option_map (λ u. u - p.1) o) (λ j b. skip_brackets p j b) h k is
+
   -- ---- `StepBy`
 
   by_steps : (between : ℕ) → OneOfOne (step_by_step steps) (leaves_one steps between) (λ p. (p.0, (p.1).1)) (λ p. (p.1).0 ≡ between)
@@ -120,3 +123,6 @@ module _ {S A E : Type 0} (steps : S → Answered A E → S → Type 0) where
 
   pub step_by_brackets : (p : S × (ℕ × ℕ)) (k : ℕ × Option ℕ) → Brackets steps p.0 k → Brackets (step_by_step steps) p (hint_kept (p.1).0 (p.1).1 k)
   step_by_brackets p k b = same_brackets (step_by_step steps) (leaves_one steps (p.1).0) (λ q. (q.0, (q.1).1)) (λ q. (q.1).0 ≡ (p.1).0) (by_steps (p.1).0) p refl (hint_kept (p.1).0 (p.1).1 k) (kept_brackets steps (p.1).0 p.0 (p.1).1 k b)
+
+  pub step_by_sound : (p : S × (ℕ × ℕ)) (h k : ℕ × Option ℕ) → h ≡ hint_kept (p.1).0 (p.1).1 k → AsSound (step_by_step steps) p h steps p.0 k
+  step_by_sound p h k is = as_sound (step_by_step steps) steps p p.0 (kept_of (p.1).0 (p.1).1) (λ o. option_map (kept_of (p.1).0 (p.1).1) o) (λ j b. step_by_brackets p j b) h k is

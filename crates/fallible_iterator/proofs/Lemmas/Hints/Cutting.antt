@@ -7,8 +7,8 @@ use Rattle.fallible_contract.specs.Hints.{hint_up_to}
 use Rattle.fallible_contract.specs.Passing.{Place, asked, failure_at, end_at, source_answer}
 use Rattle.fallible_core.specs.Cutting.Take.{take_step}
 use Rattle.fallible_core.specs.Cutting.TakeWhile.{taken_answer, is_refused, place_drawn}
-use Rattle.fallible_iterator.specs.SoundHints.{Brackets}
-use Rattle.fallible_iterator.proofs.Lemmas.Hints.Drawn.{ItemsOfItems, OneOfOne, no_item}
+use Rattle.fallible_iterator.specs.SoundHints.{Brackets, AsSound}
+use Rattle.fallible_iterator.proofs.Lemmas.Hints.Drawn.{as_sound, ItemsOfItems, OneOfOne, no_item}
 
 -- ---- what is closed for good
 
@@ -94,3 +94,6 @@ module _ {S A E : Type 0} (steps : S → Answered A E → S → Type 0) where
       | inr step ↦ let le = b.below xs q.0 z.0 d.0 step in omega (arith, le)
     ];
   }
+
+  pub take_sound : (p : S × ℕ) (h k : ℕ × Option ℕ) → h ≡ hint_up_to p.1 k → AsSound (take_step steps) p h steps p.0 k
+  take_sound p h k is = as_sound (take_step steps) steps p p.0 (λ i. min i p.1) (λ o. option_map (λ u. min u p.1) o) (λ j b. take_brackets p j b) h k is

@@ -1,5 +1,5 @@
 -- Hints of the adapters that join sources.
-use Rattle.std.specs.Prelude.{◌≡◌, ℕ, zero, suc, ◌+◌, ◌-◌, ◌^◌, ◌≤◌, cond, ltb, List, [], ◌∷◌, length, Option, Some, None, Ok, Err, IfSome, ⊤, false, ◌⊎◌}
+use Rattle.std.specs.Prelude.{min, ◌≡◌, ℕ, zero, suc, ◌+◌, ◌-◌, ◌^◌, ◌≤◌, cond, ltb, List, [], ◌∷◌, length, Option, Some, None, Ok, Err, IfSome, ⊤, false, ◌⊎◌}
 use Rattle.std.specs.declared.alloc.AllocError.{AllocError}
 use Rattle.std.proofs.Common.{refl, sym, ap, subst, ◌∙◌, arith, inl, inr}
 use Rattle.std.proofs.lemmas.Bool.{cases_lt, lt-ltb, le-ltb}
@@ -11,8 +11,8 @@ use Rattle.fallible_core.specs.declared.joining.chain.StillDrawn.TheVariants.{Bo
 use Rattle.fallible_core.specs.Joining.Chain.{chain_step, chain_hints}
 use Rattle.fallible_core.specs.Joining.Cycle.{cycle_step}
 use Rattle.fallible_core.specs.Joining.Zip.{ZipPlace, left_failed, both_drawn, left_answer, zip_answer, right_step, zip_step}
-use Rattle.fallible_iterator.specs.SoundHints.{Brackets}
-use Rattle.fallible_iterator.proofs.Lemmas.Hints.Drawn.{OneOfOne, ItemOfItem, pair_is, as_many, no_end, nothing_said}
+use Rattle.fallible_iterator.specs.SoundHints.{BoundsAbove, BoundsBelow, Brackets, AsSound, AsSoundAsBoth}
+use Rattle.fallible_iterator.proofs.Lemmas.Hints.Drawn.{as_sound_as_both, OneOfOne, ItemOfItem, pair_is, as_many, no_end, nothing_said}
 
 -- the sums are the same whichever side is named first
 sum_of_swapped : (f b : Option ℕ) → fitting_sum f b ≡ fitting_sum b f
@@ -128,6 +128,9 @@ module _ {S U A E : Type 0} (steps : S → Answered A E → S → Type 0) (other
     below = λ xs q z ran w. let le = both_below p q z f b (length xs) i j (runs xs p q e ran) w in omega (arith, le);
   }
 
+  pub both_sound : (p : S × U × StillDrawn) (h f b : ℕ × Option ℕ) → p.2 ≡ Both → h ≡ hint_sum f b → AsSoundAsBoth chained p h steps p.0 f others p.1 b
+  both_sound p h f b e is = as_sound_as_both chained steps others p p.0 p.1 (λ i j. min (i + j) (2 ^ 64 - 1)) fitting_sum (λ j k i l. both_brackets p j k e i l) h f b is
+
 module _ {S U A E : Type 0} (front : Contract S A E) (back : Contract U A E) where
   -- what its hints are made of, by the sides that are still drawn
   pub both_hints : (p : S × U × StillDrawn) (h : ℕ × Option ℕ) → p.2 ≡ Both → chain_hints front back p h → (f : ℕ × Option ℕ) × (b : ℕ × Option ℕ) × front.hints p.0 f × back.hints p.1 b × (h ≡ hint_sum f b)
@@ -191,6 +194,9 @@ module _ {S U A B E : Type 0} (steps : S → Answered A E → S → Type 0) (oth
         ];
   }
 
+  pub zip_sound : (p : S × U) (h g k : ℕ × Option ℕ) → h ≡ hint_smaller g k → AsSoundAsBoth zipped p h steps p.0 g others p.1 k
+  zip_sound p h g k is = as_sound_as_both zipped steps others p p.0 p.1 min smaller_bound (λ f b i j. zip_brackets p f b i j) h g k is
+
 -- ---- `Cycle`
 
 module _ {S A E : Type 0} (is_clone : S → S → Type 0) (is_infallible : S → Type 0) (from : AllocError → E → Type 0) (steps : S → Answered A E → S → Type 0) where
@@ -211,11 +217,23 @@ module _ {S A E : Type 0} (is_clone : S → S → Type 0) (is_infallible : S →
     ]
   ]
 
-  -- where the hint brackets what comes from each clone of the kept source
-  pub cycle_brackets : (p : S × S) (k : ℕ × Option ℕ) → ((c : S) → is_clone p.1 c → Brackets steps c k) → Brackets cycled p (cycle_hint k)
+  -- where the lower bound bounds what comes from each clone of the kept source
+  pub cycle_brackets : (p : S × S) (k : ℕ × Option ℕ) → ((c : S) → is_clone p.1 c → BoundsBelow steps c k.0) → Brackets cycled p (cycle_hint k)
   cycle_brackets p (zero, high) b = nothing_said cycled p
   cycle_brackets p (suc low, high) b = no_end cycled p (2 ^ 64 - 1) (λ xs q z ran w.
       let d = end_at_once q z w in
       let is : is_clone p.1 d.0 = subst (λ (k : S). is_clone k d.0) (kept_stays xs p q ran) d.1 in
-      let few : suc low ≤ 0 = (b d.0 is).below [] d.0 z.0 refl d.2 in
+      let few : suc low ≤ 0 = b d.0 is [] d.0 z.0 refl d.2 in
       omega (arith, few))
+
+  -- it has no upper bound
+  cycle_above : (p : S × S) (k : ℕ × Option ℕ) → BoundsAbove cycled p (cycle_hint k).1
+  cycle_above p (zero, high) xs t ran = tt
+  cycle_above p (suc low, high) xs t ran = tt
+
+  -- where each clone equals the kept source
+  pub cycle_sound : (p : S × S) (h k : ℕ × Option ℕ) → ((c : S) → is_clone p.1 c → c ≡ p.1) → h ≡ cycle_hint k → AsSound cycled p h steps p.1 k
+  cycle_sound p h k same is = record {
+    above = λ a. subst (λ (j : ℕ × Option ℕ). BoundsAbove cycled p j.1) (sym is) (cycle_above p k);
+    below = λ b. subst (λ (j : ℕ × Option ℕ). BoundsBelow cycled p j.0) (sym is) (cycle_brackets p k (λ c clone. subst (λ (s : S). BoundsBelow steps s k.0) (sym (same c clone)) b)).below;
+  }

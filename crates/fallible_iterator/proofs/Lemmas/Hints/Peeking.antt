@@ -1,11 +1,11 @@
 -- Hints of `Peekable`.
-use Rattle.std.specs.Prelude.{◌≡◌, ℕ, ◌+◌, ◌^◌, ◌<◌, ◌≤◌, List, [], ◌∷◌, length, Option, Some, None, IfSome, MatchOption, SomeIff, ◌⊎◌}
+use Rattle.std.specs.Prelude.{min, ◌-◌, ◌≡◌, ℕ, ◌+◌, ◌^◌, ◌<◌, ◌≤◌, List, [], ◌∷◌, length, Option, Some, None, IfSome, MatchOption, SomeIff, ◌⊎◌}
 use Rattle.std.proofs.Common.{refl, sym, subst, arith, inl, inr}
 use Rattle.fallible_contract.specs.Traces.{Answered, Yields, item, end}
 use Rattle.fallible_contract.specs.Contract.{Contract}
 use Rattle.fallible_contract.specs.Hints.{HintWithItem}
 use Rattle.fallible_core.specs.Peeking.Peekable.{peekable_step, peekable_hints}
-use Rattle.fallible_iterator.specs.SoundHints.{Brackets}
+use Rattle.fallible_iterator.specs.SoundHints.{Brackets, AsSound}
 use Rattle.fallible_iterator.proofs.Lemmas.Hints.Drawn.{OneOfOne, as_many, no_item}
 
 module _ {S A E : Type 0} (steps : S → Answered A E → S → Type 0) where
@@ -61,8 +61,14 @@ module _ {S A E : Type 0} (steps : S → Answered A E → S → Type 0) where
     ];
   }
 
-  pub item_held_brackets : (p : S × Option (Option A)) (y : A) (k h : ℕ × Option ℕ) → p.1 ≡ Some (Some y) → HintWithItem k h → Brackets steps p.0 k → Brackets peeked p h
+  item_held_brackets : (p : S × Option (Option A)) (y : A) (k h : ℕ × Option ℕ) → p.1 ≡ Some (Some y) → HintWithItem k h → Brackets steps p.0 k → Brackets peeked p h
   item_held_brackets p y k h e is b = subst (λ (o : Option (Option A)). Brackets peeked (p.0, o) h) (sym e) (item_held p.0 y k h is b)
+
+  pub item_held_sound : (p : S × Option (Option A)) (y : A) (k h : ℕ × Option ℕ) → p.1 ≡ Some (Some y) → HintWithItem k h → AsSound peeked p h steps p.0 k
+  item_held_sound p y k h e is = record {
+    above = λ a. (item_held_brackets p y (0, k.1) (min (0 + 1) (2 ^ 64 - 1), h.1) e (refl, is.1) (record { above = a; below = λ xs t u ran step. omega arith })).above;
+    below = λ b. (item_held_brackets p y (k.0, None) (h.0, None) e (is.0, refl) (record { above = λ xs t ran. tt; below = b })).below;
+  }
 
 module _ {S A E : Type 0} (m : Contract S A E) where
   -- what its hints are made of, by what is held

@@ -10,18 +10,18 @@ ghost use Rattle.fallible_core.specs.Cutting.TakeWhile.{take_while_parts};
 use fallible_core::cutting::{Fuse, Skip, StepBy, Take, TakeWhile};
 use fallible_core::traits::FallibleIterator;
 
-/// Each hint of `Take` brackets what comes from it wherever a hint of its source brackets what comes from the source.
+/// Each hint of `Take` is as sound as the hint of its source that it is made of.
 pub fn law_hints_take<I: FallibleIterator>()
     ensures { (s : Take I) → KeepsBrackets ⟦<Take<I> as FallibleIterator>⟧.contract s I.contract (take_parts s).0 }
 {}
 
-/// Until the source's end was met each hint of `Fuse` brackets what comes from it wherever a hint of its source brackets what comes from the source; from then on each does.
+/// Until the source's end was met each hint of `Fuse` is as sound as the source's; from then on each brackets what comes.
 pub fn law_hints_fuse<I: FallibleIterator>()
     ensures open { (s : Fuse I) → (fuse_parts s).1 ≡ false → KeepsBrackets ⟦<Fuse<I> as FallibleIterator>⟧.contract s I.contract (fuse_parts s).0 }
     ensures closed { (s : Fuse I) → (fuse_parts s).1 ≡ true → SoundHints ⟦<Fuse<I> as FallibleIterator>⟧.contract s }
 {}
 
-/// Until an item was refused each hint of `TakeWhile` brackets what comes from it wherever a hint of its source brackets what comes from the source; from then on each does.
+/// Until an item was refused each hint of `TakeWhile` is as sound as the hint of its source that it is made of; from then on each brackets what comes.
 pub fn law_hints_take_while<I: FallibleIterator, P: FnMut(&I::Item) -> Result<bool, I::Error>>()
 where
     I::Item: Drop,
@@ -29,14 +29,14 @@ where
     ensures closed { (s : TakeWhile I P) → (take_while_parts s).1 ≡ true → SoundHints ⟦<TakeWhile<I, P> as FallibleIterator>⟧.contract s }
 {}
 
-/// Each hint of `Skip` brackets what comes from it wherever a hint of its source brackets what comes from the source.
+/// Each hint of `Skip` is as sound as the hint of its source that it is made of.
 pub fn law_hints_skip<I: FallibleIterator>()
 where
     I::Item: Drop,
     ensures { (s : Skip I) → KeepsBrackets ⟦<Skip<I> as FallibleIterator>⟧.contract s I.contract (skip_parts s).0 }
 {}
 
-/// Each hint of `StepBy` brackets what comes from it wherever a hint of its source brackets what comes from the source.
+/// Each hint of `StepBy` is as sound as the hint of its source that it is made of.
 pub fn law_hints_step_by<I: FallibleIterator>()
 where
     I::Item: Drop,

@@ -23,7 +23,7 @@ use fallible_core::traits::FallibleIterator;
 use fallible_core::traits::double_ended::DoubleEndedFallibleIterator;
 use std::alloc::AllocError;
 
-/// Each hint of a `&mut I` or a `Box<I>` brackets what comes from it wherever it brackets what comes from the value behind it; so also from behind.
+/// Each hint of a `&mut I` or a `Box<I>` is as sound as it is of the value behind it; so also from behind.
 pub fn law_hints_borrowed<'a, I: FallibleIterator + 'a, D: DoubleEndedFallibleIterator + 'a>()
     ensures borrowed { (s : MutBor I) → KeepsBrackets ⟦<&'a mut I as FallibleIterator>⟧.contract s I.contract s.now }
     ensures boxed { (s : Box I Global) → KeepsBrackets ⟦<Box<I> as FallibleIterator>⟧.contract s I.contract s.value }
@@ -31,13 +31,13 @@ pub fn law_hints_borrowed<'a, I: FallibleIterator + 'a, D: DoubleEndedFallibleIt
     ensures back_boxed { (s : Box D Global) → KeepsBrackets (from_back ⟦<Box<D> as FallibleIterator>⟧.contract ⟦<Box<D> as DoubleEndedFallibleIterator>⟧.ends) s (from_back D.contract D.ends) s.value }
 {}
 
-/// Each hint of `Rev` brackets what comes from it wherever it brackets what comes from its source from behind, and the other way round.
+/// Each hint of `Rev` is as sound as it is of its source from behind, and from behind as it is of its source.
 pub fn law_hints_rev<I: DoubleEndedFallibleIterator>()
     ensures front { (s : Rev I) → KeepsBrackets ⟦<Rev<I> as FallibleIterator>⟧.contract s (from_back I.contract I.ends) (rev_parts s) }
     ensures back { (s : Rev I) → KeepsBrackets (from_back ⟦<Rev<I> as FallibleIterator>⟧.contract ⟦<Rev<I> as DoubleEndedFallibleIterator>⟧.ends) s I.contract (rev_parts s) }
 {}
 
-/// From behind each hint of `Map` brackets what comes from it wherever a hint of its source brackets what comes from the source from behind.
+/// From behind each hint of `Map` is as sound as the hint of its source that it is made of.
 pub fn law_hints_back_map<
     I: DoubleEndedFallibleIterator,
     B,
@@ -47,7 +47,7 @@ where
     ensures { (s : Map I F) → KeepsBrackets (from_back ⟦<Map<I, F> as FallibleIterator>⟧.contract ⟦<Map<I, F> as DoubleEndedFallibleIterator>⟧.ends) s (from_back I.contract I.ends) (map_parts s).0 }
 {}
 
-/// From behind each hint of `Inspect` brackets what comes from it wherever a hint of its source brackets what comes from the source from behind.
+/// From behind each hint of `Inspect` is as sound as the hint of its source that it is made of.
 pub fn law_hints_back_inspect<
     I: DoubleEndedFallibleIterator,
     F: FnMut(&I::Item) -> Result<(), I::Error>,
@@ -57,20 +57,20 @@ where
     ensures { (s : Inspect I F) → KeepsBrackets (from_back ⟦<Inspect<I, F> as FallibleIterator>⟧.contract ⟦<Inspect<I, F> as DoubleEndedFallibleIterator>⟧.ends) s (from_back I.contract I.ends) (inspect_parts s).0 }
 {}
 
-/// From behind each hint of `MapErr` brackets what comes from it wherever a hint of its source brackets what comes from the source from behind.
+/// From behind each hint of `MapErr` is as sound as the hint of its source that it is made of.
 pub fn law_hints_back_map_err<I: DoubleEndedFallibleIterator, B, F: FnMut(I::Error) -> B>()
 where
     ensures { (s : MapErr I F) → KeepsBrackets (from_back ⟦<MapErr<I, F> as FallibleIterator>⟧.contract ⟦<MapErr<I, F> as DoubleEndedFallibleIterator>⟧.ends) s (from_back I.contract I.ends) (map_err_parts s).0 }
 {}
 
-/// From behind each hint of `Cloned` brackets what comes from it wherever a hint of its source brackets what comes from the source from behind.
+/// From behind each hint of `Cloned` is as sound as the hint of its source that it is made of.
 pub fn law_hints_back_cloned<'a, T: Clone + 'a, I: DoubleEndedFallibleIterator<Item = &'a T>>()
 where
     I::Error: From<AllocError>,
     ensures { (s : Cloned I) → KeepsBrackets (from_back ⟦<Cloned<I> as FallibleIterator>⟧.contract ⟦<Cloned<I> as DoubleEndedFallibleIterator>⟧.ends) s (from_back I.contract I.ends) (cloned_parts s).0 }
 {}
 
-/// From behind each hint of `Filter` brackets what comes from it wherever a hint of its source brackets what comes from the source from behind.
+/// From behind each hint of `Filter` is as sound as the hint of its source that it is made of.
 pub fn law_hints_back_filter<
     I: DoubleEndedFallibleIterator,
     F: FnMut(&I::Item) -> Result<bool, I::Error>,
@@ -80,7 +80,7 @@ where
     ensures { (s : Filter I F) → KeepsBrackets (from_back ⟦<Filter<I, F> as FallibleIterator>⟧.contract ⟦<Filter<I, F> as DoubleEndedFallibleIterator>⟧.ends) s (from_back I.contract I.ends) (filter_parts s).0 }
 {}
 
-/// From behind each hint of `FilterMap` brackets what comes from it wherever a hint of its source brackets what comes from the source from behind.
+/// From behind each hint of `FilterMap` is as sound as the hint of its source that it is made of.
 pub fn law_hints_back_filter_map<
     I: DoubleEndedFallibleIterator,
     B,
@@ -90,7 +90,7 @@ where
     ensures { (s : FilterMap I F) → KeepsBrackets (from_back ⟦<FilterMap<I, F> as FallibleIterator>⟧.contract ⟦<FilterMap<I, F> as DoubleEndedFallibleIterator>⟧.ends) s (from_back I.contract I.ends) (filter_map_parts s).0 }
 {}
 
-/// From behind each hint of `Chain` brackets what comes from it wherever a hint of each side that is still drawn brackets what comes from that side from behind.
+/// From behind each hint of `Chain` is as sound as the hints of the sides that are still drawn.
 pub fn law_hints_back_chain<
     T: DoubleEndedFallibleIterator,
     U: DoubleEndedFallibleIterator<Item = T::Item, Error = T::Error>,

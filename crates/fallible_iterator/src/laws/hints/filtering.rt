@@ -8,14 +8,14 @@ ghost use Rattle.fallible_core.specs.Filtering.SkipWhile.{skip_while_parts};
 use fallible_core::filtering::{Filter, FilterMap, SkipWhile};
 use fallible_core::traits::FallibleIterator;
 
-/// Each hint of `Filter` brackets what comes from it wherever a hint of its source brackets what comes from the source.
+/// Each hint of `Filter` is as sound as the hint of its source that it is made of.
 pub fn law_hints_filter<I: FallibleIterator, F: FnMut(&I::Item) -> Result<bool, I::Error>>()
 where
     I::Item: Drop,
     ensures { (s : Filter I F) → KeepsBrackets ⟦<Filter<I, F> as FallibleIterator>⟧.contract s I.contract (filter_parts s).0 }
 {}
 
-/// Each hint of `FilterMap` brackets what comes from it wherever a hint of its source brackets what comes from the source.
+/// Each hint of `FilterMap` is as sound as the hint of its source that it is made of.
 pub fn law_hints_filter_map<
     I: FallibleIterator,
     B,
@@ -25,7 +25,7 @@ where
     ensures { (s : FilterMap I F) → KeepsBrackets ⟦<FilterMap<I, F> as FallibleIterator>⟧.contract s I.contract (filter_map_parts s).0 }
 {}
 
-/// Each hint of `SkipWhile`, before its predicate's first false and after it, brackets what comes from it wherever a hint of its source brackets what comes from the source.
+/// Each hint of `SkipWhile`, before its predicate's first false and after it, is as sound as the hint of its source that it is made of.
 pub fn law_hints_skip_while<I: FallibleIterator, P: FnMut(&I::Item) -> Result<bool, I::Error>>()
 where
     I::Item: Drop,

@@ -6,7 +6,7 @@ ghost use Rattle.fallible_core.specs.Peeking.Peekable.{peekable_parts};
 use fallible_core::peeking::Peekable;
 use fallible_core::traits::FallibleIterator;
 
-/// Each hint of `Peekable` brackets what comes from it wherever a hint of its source brackets what comes from the source, where nothing is held and where an item is; where an end is held each does.
+/// Where nothing is held, and where an item is, each hint of `Peekable` is as sound as the hint of its source that it is made of; where an end is held each brackets what comes.
 pub fn law_hints_peekable<I: FallibleIterator>()
 where
     I::Item: Drop,
