@@ -26,7 +26,7 @@ pub use listed::{
     law_hints_listed, law_hints_listed_borrowed, law_hints_listed_chain, law_hints_listed_cloned,
     law_hints_listed_convert, law_hints_listed_filter, law_hints_listed_filter_map,
     law_hints_listed_inspect, law_hints_listed_into_fallible, law_hints_listed_map,
-    law_hints_listed_map_err, law_hints_listed_rev,
+    law_hints_listed_map_err, law_hints_listed_rev, law_hints_lists,
 };
 pub use one_to_one::{
     law_hints_cloned, law_hints_enumerate, law_hints_inspect, law_hints_map, law_hints_map_err,
