@@ -39,14 +39,16 @@ kept_at_least between r zero u le = omega arith
 kept_at_least between r (suc m) u le =
     let past : r < u = omega (arith, le) in
     let rest : m * (between + 1) ≤ u - 1 - r = omega (arith, le) in
-    let steps : m ≤ (u - 1 - r) / (between + 1) = (le-div_iff_mul-le (omega arith)).1 rest in
+    let some : 0 < between + 1 = omega arith in
+    let steps : m ≤ (u - 1 - r) / (between + 1) = (le-div_iff_mul-le some).1 rest in
     rw (lt-leb u r past) (omega (arith, steps))
 
 kept_of_some : (between r m b : ℕ) → b ≤ r + 1 + m * (between + 1) + between → kept_of between r b ≤ suc m
 kept_of_some between r m b le = elim (cases_lt r b) [
   | inl past ↦
       let rest : b - 1 - r < suc m * (between + 1) = omega (arith, le, past) in
-      let steps : (b - 1 - r) / (between + 1) < suc m = (div-lt_iff_lt-mul (omega arith)).1 rest in
+      let some : 0 < between + 1 = omega arith in
+      let steps : (b - 1 - r) / (between + 1) < suc m = (div-lt_iff_lt-mul some).1 rest in
       rw (lt-leb b r past) (omega (arith, steps))
   | inr few ↦ rw (le-leb b r few) (omega arith)
 ]
