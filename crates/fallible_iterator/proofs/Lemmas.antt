@@ -1,4 +1,5 @@
 -- Lemmas that no contract and no ghost member cites.
 pub mod Bridges
+pub mod Hints
 pub mod Nests
 pub mod Sources

@@ -2,4 +2,5 @@
 pub mod Laws
 pub mod Listing
 pub mod Nests
+pub mod SoundHints
 pub mod Sources

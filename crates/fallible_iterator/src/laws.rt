@@ -4,6 +4,7 @@ pub mod bridges;
 mod cutting;
 pub mod ends;
 mod filtering;
+pub mod hints;
 mod joining;
 pub mod listed;
 pub mod nests;

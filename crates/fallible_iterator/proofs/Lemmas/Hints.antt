@@ -1,0 +1,11 @@
+-- Why hints are sound.
+pub mod Counting
+pub mod Cutting
+pub mod Drawn
+pub mod Filtering
+pub mod Joining
+pub mod Listed
+pub mod OneToOne
+pub mod Passing
+pub mod Peeking
+pub mod Sources

@@ -1,0 +1,239 @@
+-- Hints of the adapters that join sources.
+use Rattle.std.specs.Prelude.{min, ◌≡◌, ℕ, zero, suc, ◌+◌, ◌-◌, ◌^◌, ◌≤◌, cond, ltb, List, [], ◌∷◌, length, Option, Some, None, Ok, Err, IfSome, ⊤, false, ◌⊎◌}
+use Rattle.std.specs.declared.alloc.AllocError.{AllocError}
+use Rattle.std.proofs.Common.{refl, sym, ap, subst, ◌∙◌, arith, inl, inr}
+use Rattle.std.proofs.lemmas.Bool.{cases_lt, lt-ltb, le-ltb}
+use Rattle.fallible_contract.specs.Traces.{Answered, Yields, item, end, is_end}
+use Rattle.fallible_contract.specs.Contract.{Contract}
+use Rattle.fallible_contract.specs.Hints.{hint_sum, hint_smaller, fitting_sum, smaller_bound, cycle_hint}
+use Rattle.fallible_core.specs.declared.joining.chain.StillDrawn.{StillDrawn}
+use Rattle.fallible_core.specs.declared.joining.chain.StillDrawn.TheVariants.{Both, FrontAlone, BackAlone}
+use Rattle.fallible_core.specs.Joining.Chain.{chain_step, chain_hints}
+use Rattle.fallible_core.specs.Joining.Cycle.{cycle_step}
+use Rattle.fallible_core.specs.Joining.Zip.{ZipPlace, left_failed, both_drawn, left_answer, zip_answer, right_step, zip_step}
+use Rattle.fallible_iterator.specs.SoundHints.{BoundsAbove, BoundsBelow, Brackets, AsSound, AsSoundAsBoth}
+use Rattle.fallible_iterator.proofs.Lemmas.Hints.Drawn.{as_sound_as_both, OneOfOne, ItemOfItem, pair_is, as_many, no_end, nothing_said}
+
+-- the sums are the same whichever side is named first
+sum_of_swapped : (f b : Option ℕ) → fitting_sum f b ≡ fitting_sum b f
+sum_of_swapped (Some x) (Some y) = let same : x + y ≡ y + x = omega arith in ap (λ (n : ℕ). cond (ltb n (2 ^ 64)) (Some n) None) same
+sum_of_swapped (Some x) None = refl
+sum_of_swapped None (Some y) = refl
+sum_of_swapped None None = refl
+
+pub sum_swapped : (f b : ℕ × Option ℕ) → hint_sum f b ≡ hint_sum b f
+sum_swapped f b = pair_is (omega arith) (sum_of_swapped f.1 b.1)
+
+sum_fits : (x y i : ℕ) → i ≤ x + y → IfSome (fitting_sum (Some x) (Some y)) (λ n. i ≤ n)
+sum_fits x y i le = elim (cases_lt (x + y) (2 ^ 64)) [
+  | inl fits ↦ rw (lt-ltb (x + y) (2 ^ 64) fits) le
+  | inr past ↦ rw (le-ltb (x + y) (2 ^ 64) past) tt
+]
+
+-- the sum of bounds bounds the sum
+pub sum_above : (f b : Option ℕ) (i j n : ℕ) → n ≡ i + j → IfSome f (λ m. i ≤ m) → IfSome b (λ m. j ≤ m) → IfSome (fitting_sum f b) (λ m. n ≤ m)
+sum_above (Some x) (Some y) i j n same le ge = sum_fits x y n (omega (arith, same, le, ge))
+sum_above (Some x) None i j n same le ge = tt
+sum_above None b i j n same le ge = tt
+
+-- ---- `Chain`
+
+module _ {S U A E : Type 0} (steps : S → Answered A E → S → Type 0) (others : U → Answered A E → U → Type 0) where
+  abbrev chained : S × U × StillDrawn → Answered A E → S × U × StillDrawn → Type 0
+  chained = chain_step steps others
+
+  -- where one side alone is still drawn
+  front_item : (p q : S × U × StillDrawn) (r : Answered A E) → p.2 ≡ FrontAlone → chained p r q → steps p.0 r q.0 × (q.2 ≡ FrontAlone)
+  front_item (s, u, Both) q r e w = absurd cc
+  front_item (s, u, FrontAlone) q r e w = (w.0, w.2)
+  front_item (s, u, BackAlone) q r e w = absurd cc
+
+  pub front_one : OneOfOne chained steps (λ p. p.0) (λ p. p.2 ≡ FrontAlone)
+  front_one = record { item_drawn = λ p q x e w. let d = front_item p q (item x) e w in (x, d.0, d.1); end_drawn = λ p q e w. (front_item p q end e w).0 }
+
+  back_item : (p q : S × U × StillDrawn) (r : Answered A E) → p.2 ≡ BackAlone → chained p r q → others p.1 r q.1 × (q.2 ≡ BackAlone)
+  back_item (s, u, Both) q r e w = absurd cc
+  back_item (s, u, FrontAlone) q r e w = absurd cc
+  back_item (s, u, BackAlone) q r e w = (w.0, w.2)
+
+  pub back_one : OneOfOne chained others (λ p. p.1) (λ p. p.2 ≡ BackAlone)
+  back_one = record { item_drawn = λ p q x e w. let d = back_item p q (item x) e w in (x, d.0, d.1); end_drawn = λ p q e w. (back_item p q end e w).0 }
+
+  -- the front stays as it is once its end was met
+  front_stays : (xs : List A) (p q : S × U × StillDrawn) → p.2 ≡ BackAlone → Yields chained p xs q → q.0 ≡ p.0
+  front_stays [] p q e ran = sym (ap (λ (z : S × U × StillDrawn). z.0) ran)
+  front_stays (x ∷ xs) (s, u, Both) q e ran = absurd cc
+  front_stays (x ∷ xs) (s, u, FrontAlone) q e ran = absurd cc
+  front_stays (x ∷ xs) (s, u, BackAlone) q e ran = front_stays xs ran.0 q ran.1.2 ran.2 ∙ ran.1.1
+
+  -- A run of items of a chain of which both sides were still drawn: the front alone was drawn, or it met its end, and the back was drawn.
+  record InFront (s : S) (u : U) (n : ℕ) (q : S × U × StillDrawn) : Type 0 where
+    of_front : List A
+    ran : Yields steps s of_front q.0
+    many : n ≡ length of_front
+    undrawn : q.1 ≡ u
+    both : q.2 ≡ Both
+
+  record InBack (s : S) (u : U) (n : ℕ) (q : S × U × StillDrawn) : Type 0 where
+    of_front : List A
+    of_back : List A
+    left : S
+    ran : Yields steps s of_front left
+    ended : steps left end q.0
+    ran_back : Yields others u of_back q.1
+    many : n ≡ length of_front + length of_back
+    back : q.2 ≡ BackAlone
+
+  in_front : (x : A) (s t : S) (u : U) (n : ℕ) (q : S × U × StillDrawn) → steps s (item x) t → InFront t u n q ⊎ InBack t u n q → InFront s u (suc n) q ⊎ InBack s u (suc n) q
+  in_front x s t u n q step (inl d) = inl (record { of_front = x ∷ d.of_front; ran = (t, step, d.ran); many = omega (arith, d.many); undrawn = d.undrawn; both = d.both })
+  in_front x s t u n q step (inr d) = inr (record { of_front = x ∷ d.of_front; of_back = d.of_back; left = d.left; ran = (t, step, d.ran); ended = d.ended; ran_back = d.ran_back; many = omega (arith, d.many); back = d.back })
+
+  runs : (xs : List A) (p : S × U × StillDrawn) (q : S × U × StillDrawn) → p.2 ≡ Both → Yields chained p xs q → InFront p.0 p.1 (length xs) q ⊎ InBack p.0 p.1 (length xs) q
+  runs [] p q e ran = inl (record { of_front = []; ran = ap (λ (z : S × U × StillDrawn). z.0) ran; many = refl; undrawn = sym (ap (λ (z : S × U × StillDrawn). z.1) ran); both = subst (λ (z : S × U × StillDrawn). z.2 ≡ Both) ran e })
+  runs (x ∷ xs) (s, u, FrontAlone) q e ran = absurd cc
+  runs (x ∷ xs) (s, u, BackAlone) q e ran = absurd cc
+  runs (x ∷ xs) (s, u, Both) q e ran = elim ran.1 [
+    | inl d ↦ in_front x s ran.0.0 u (length xs) q d.0 (subst (λ (v : U). InFront ran.0.0 v (length xs) q ⊎ InBack ran.0.0 v (length xs) q) d.2 (runs xs ran.0 q d.3 ran.2))
+    | inr d ↦
+        let rest = as_many chained others (λ p. p.1) (λ p. p.2 ≡ BackAlone) back_one.item_drawn xs ran.0 q d.2 ran.2 in
+        let stays : q.0 ≡ ran.0.0 = front_stays xs ran.0 q d.2 ran.2 in
+        inr (record { of_front = []; of_back = x ∷ rest.0; left = s; ran = refl; ended = subst (λ (t : S). steps s end t) (sym stays) d.0; ran_back = (ran.0.1, d.1, rest.1); many = omega (arith, rest.2); back = rest.3 })
+  ]
+
+  -- ---- bounds
+
+  ended_both : (p q : S × U × StillDrawn) → p.2 ≡ Both → chained p end q → steps p.0 end q.0 × others p.1 end q.1
+  ended_both (s, u, Both) q e w = elim w [ inl d ↦ absurd (let no : is_end {A = A} {E = E} end ≡ false = d.1 in cc) | inr d ↦ (d.0, d.1) ]
+  ended_both (s, u, FrontAlone) q e w = absurd cc
+  ended_both (s, u, BackAlone) q e w = absurd cc
+
+  both_above : (p q : S × U × StillDrawn) (f b : ℕ × Option ℕ) (n : ℕ) → Brackets steps p.0 f → Brackets others p.1 b → InFront p.0 p.1 n q ⊎ InBack p.0 p.1 n q → IfSome (hint_sum f b).1 (λ m. n ≤ m)
+  both_above p q f b n i j (inl d) = sum_above f.1 b.1 n 0 n (omega arith) (subst (λ (k : ℕ). IfSome f.1 (λ m. k ≤ m)) (sym d.many) (i.above d.of_front q.0 d.ran)) (j.above [] p.1 refl)
+  both_above p q f b n i j (inr d) = sum_above f.1 b.1 (length d.of_front) (length d.of_back) n d.many (i.above d.of_front d.left d.ran) (j.above d.of_back q.1 d.ran_back)
+
+  both_below : (p q z : S × U × StillDrawn) (f b : ℕ × Option ℕ) (n : ℕ) → Brackets steps p.0 f → Brackets others p.1 b → InFront p.0 p.1 n q ⊎ InBack p.0 p.1 n q → chained q end z → f.0 + b.0 ≤ n
+  both_below p q z f b n i j (inl d) w =
+      let e = ended_both q z d.both w in
+      let le = i.below d.of_front q.0 z.0 d.ran e.0 in
+      let ge : b.0 ≤ 0 = j.below [] p.1 z.1 refl (subst (λ (v : U). others v end z.1) d.undrawn e.1) in
+      omega (arith, le, ge, d.many)
+  both_below p q z f b n i j (inr d) w =
+      let le = i.below d.of_front d.left q.0 d.ran d.ended in
+      let ge = j.below d.of_back q.1 z.1 d.ran_back (back_item q z end d.back w).0 in
+      omega (arith, le, ge, d.many)
+
+  pub both_brackets : (p : S × U × StillDrawn) (f b : ℕ × Option ℕ) → p.2 ≡ Both → Brackets steps p.0 f → Brackets others p.1 b → Brackets chained p (hint_sum f b)
+  both_brackets p f b e i j = record {
+    above = λ xs q ran. both_above p q f b (length xs) i j (runs xs p q e ran);
+    below = λ xs q z ran w. let le = both_below p q z f b (length xs) i j (runs xs p q e ran) w in omega (arith, le);
+  }
+
+  pub both_sound : (p : S × U × StillDrawn) (h f b : ℕ × Option ℕ) → p.2 ≡ Both → h ≡ hint_sum f b → AsSoundAsBoth chained p h steps p.0 f others p.1 b
+  both_sound p h f b e is = as_sound_as_both chained steps others p p.0 p.1 (λ i j. min (i + j) (2 ^ 64 - 1)) fitting_sum (λ j k i l. both_brackets p j k e i l) h f b is
+
+module _ {S U A E : Type 0} (front : Contract S A E) (back : Contract U A E) where
+  -- what its hints are made of, by the sides that are still drawn
+  pub both_hints : (p : S × U × StillDrawn) (h : ℕ × Option ℕ) → p.2 ≡ Both → chain_hints front back p h → (f : ℕ × Option ℕ) × (b : ℕ × Option ℕ) × front.hints p.0 f × back.hints p.1 b × (h ≡ hint_sum f b)
+  both_hints (s, u, Both) h e is = is
+  both_hints (s, u, FrontAlone) h e is = absurd cc
+  both_hints (s, u, BackAlone) h e is = absurd cc
+
+  pub front_hints : (p : S × U × StillDrawn) (h : ℕ × Option ℕ) → p.2 ≡ FrontAlone → chain_hints front back p h → front.hints p.0 h
+  front_hints (s, u, Both) h e is = absurd cc
+  front_hints (s, u, FrontAlone) h e is = is
+  front_hints (s, u, BackAlone) h e is = absurd cc
+
+  pub back_hints : (p : S × U × StillDrawn) (h : ℕ × Option ℕ) → p.2 ≡ BackAlone → chain_hints front back p h → back.hints p.1 h
+  back_hints (s, u, Both) h e is = absurd cc
+  back_hints (s, u, FrontAlone) h e is = absurd cc
+  back_hints (s, u, BackAlone) h e is = is
+
+-- ---- `Zip`
+
+module _ {S U A B E : Type 0} (steps : S → Answered A E → S → Type 0) (others : U → Answered B E → U → Type 0) where
+  abbrev zipped : S × U → Answered (A × B) E → S × U → Type 0
+  zipped = zip_step steps others
+
+  item_pair : (p q : S × U) (z : A × B) (x : ZipPlace A B E) → steps p.0 (left_answer x) q.0 → right_step others p.1 x q.1 → item z ≡ zip_answer x → ((a : A) × steps p.0 (item a) q.0) × ((b : B) × others p.1 (item b) q.1)
+  item_pair p q z (left_failed e) l r is = absurd cc
+  item_pair p q z (both_drawn x (Err e)) l r is = absurd cc
+  item_pair p q z (both_drawn (Some a) (Ok (Some b))) l r is = ((a, l), (b, r))
+  item_pair p q z (both_drawn (Some a) (Ok None)) l r is = absurd cc
+  item_pair p q z (both_drawn None (Ok y)) l r is = absurd cc
+
+  end_pair : (p q : S × U) (x : ZipPlace A B E) → steps p.0 (left_answer x) q.0 → right_step others p.1 x q.1 → end ≡ zip_answer x → steps p.0 end q.0 ⊎ others p.1 end q.1
+  end_pair p q (left_failed e) l r is = absurd cc
+  end_pair p q (both_drawn x (Err e)) l r is = absurd cc
+  end_pair p q (both_drawn (Some a) (Ok (Some b))) l r is = absurd cc
+  end_pair p q (both_drawn (Some a) (Ok None)) l r is = inr r
+  end_pair p q (both_drawn None (Ok y)) l r is = inl l
+
+  left_item : ItemOfItem zipped steps (λ p. p.0) (λ p. ⊤)
+  left_item p q z _ w = let d = (item_pair p q z w.0 w.1 w.2 w.3).0 in (d.0, d.1, tt)
+
+  right_item : ItemOfItem zipped others (λ p. p.1) (λ p. ⊤)
+  right_item p q z _ w = let d = (item_pair p q z w.0 w.1 w.2 w.3).1 in (d.0, d.1, tt)
+
+  smaller_above : (g k : Option ℕ) (i j n : ℕ) → i ≡ n → j ≡ n → IfSome g (λ m. i ≤ m) → IfSome k (λ m. j ≤ m) → IfSome (smaller_bound g k) (λ m. n ≤ m)
+  smaller_above (Some x) (Some y) i j n e d le ge = omega (arith, e, d, le, ge)
+  smaller_above (Some x) None i j n e d le ge = omega (arith, e, le)
+  smaller_above None k i j n e d le ge = subst (λ (m : ℕ). IfSome k (λ y. m ≤ y)) d ge
+
+  pub zip_brackets : (p : S × U) (g k : ℕ × Option ℕ) → Brackets steps p.0 g → Brackets others p.1 k → Brackets zipped p (hint_smaller g k)
+  zip_brackets p g k i j = record {
+    above = λ zs q ran.
+        let a = as_many zipped steps (λ p. p.0) (λ p. ⊤) left_item zs p q tt ran in
+        let b = as_many zipped others (λ p. p.1) (λ p. ⊤) right_item zs p q tt ran in
+        smaller_above g.1 k.1 (length a.0) (length b.0) (length zs) a.2 b.2 (i.above a.0 q.0 a.1) (j.above b.0 q.1 b.1);
+    below = λ zs q y ran w.
+        let a = as_many zipped steps (λ p. p.0) (λ p. ⊤) left_item zs p q tt ran in
+        let b = as_many zipped others (λ p. p.1) (λ p. ⊤) right_item zs p q tt ran in
+        elim (end_pair q y w.0 w.1 w.2 w.3) [
+          | inl l ↦ let le = i.below a.0 q.0 y.0 a.1 l in omega (arith, le, a.2)
+          | inr r ↦ let le = j.below b.0 q.1 y.1 b.1 r in omega (arith, le, b.2)
+        ];
+  }
+
+  pub zip_sound : (p : S × U) (h g k : ℕ × Option ℕ) → h ≡ hint_smaller g k → AsSoundAsBoth zipped p h steps p.0 g others p.1 k
+  zip_sound p h g k is = as_sound_as_both zipped steps others p p.0 p.1 min smaller_bound (λ f b i j. zip_brackets p f b i j) h g k is
+
+-- ---- `Cycle`
+
+module _ {S A E : Type 0} (is_clone : S → S → Type 0) (is_infallible : S → Type 0) (from : AllocError → E → Type 0) (steps : S → Answered A E → S → Type 0) where
+  abbrev cycled : S × S → Answered A E → S × S → Type 0
+  cycled = cycle_step is_clone is_infallible from steps
+
+  kept_stays : (xs : List A) (p q : S × S) → Yields cycled p xs q → q.1 ≡ p.1
+  kept_stays [] p q ran = sym (ap (λ (z : S × S). z.1) ran)
+  kept_stays (x ∷ xs) p q ran = kept_stays xs ran.0 q ran.2 ∙ ran.1.0
+
+  -- an end comes only where a clone answers one at once
+  end_at_once : (p q : S × S) → cycled p end q → (c : S) × is_clone p.1 c × steps c end q.0
+  end_at_once p q w = elim w.1 [
+    | inl d ↦ absurd (let no : is_end {A = A} {E = E} end ≡ false = d.1 in cc)
+    | inr d ↦ elim d [
+      | inl e ↦ (e.1, e.3, e.4)
+      | inr e ↦ absurd (let no = e.2 in cc)
+    ]
+  ]
+
+  -- where the lower bound bounds what comes from each clone of the kept source
+  pub cycle_brackets : (p : S × S) (k : ℕ × Option ℕ) → ((c : S) → is_clone p.1 c → BoundsBelow steps c k.0) → Brackets cycled p (cycle_hint k)
+  cycle_brackets p (zero, high) b = nothing_said cycled p
+  cycle_brackets p (suc low, high) b = no_end cycled p (2 ^ 64 - 1) (λ xs q z ran w.
+      let d = end_at_once q z w in
+      let is : is_clone p.1 d.0 = subst (λ (k : S). is_clone k d.0) (kept_stays xs p q ran) d.1 in
+      let few : suc low ≤ 0 = b d.0 is [] d.0 z.0 refl d.2 in
+      omega (arith, few))
+
+  -- it has no upper bound
+  cycle_above : (p : S × S) (k : ℕ × Option ℕ) → BoundsAbove cycled p (cycle_hint k).1
+  cycle_above p (zero, high) xs t ran = tt
+  cycle_above p (suc low, high) xs t ran = tt
+
+  -- where each clone equals the kept source
+  pub cycle_sound : (p : S × S) (h k : ℕ × Option ℕ) → ((c : S) → is_clone p.1 c → c ≡ p.1) → h ≡ cycle_hint k → AsSound cycled p h steps p.1 k
+  cycle_sound p h k same is = record {
+    above = λ a. subst (λ (j : ℕ × Option ℕ). BoundsAbove cycled p j.1) (sym is) (cycle_above p k);
+    below = λ b. subst (λ (j : ℕ × Option ℕ). BoundsBelow cycled p j.0) (sym is) (cycle_brackets p k (λ c clone. subst (λ (s : S). BoundsBelow steps s k.0) (sym (same c clone)) b)).below;
+  }

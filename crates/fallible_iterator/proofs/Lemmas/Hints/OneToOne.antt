@@ -1,0 +1,55 @@
+-- Hints of the adapters with one answer for each draw.
+use Rattle.std.specs.Prelude.{◌≡◌, ℕ, [], ◌∷◌, Result, Ok, Err, ⊤}
+use Rattle.fallible_contract.specs.Traces.{Answered, item, end}
+use Rattle.fallible_contract.specs.Passing.{left_out}
+use Rattle.fallible_core.specs.OneToOne.Map.{map_outcome}
+use Rattle.fallible_core.specs.OneToOne.Inspect.{inspect_outcome}
+use Rattle.fallible_core.specs.OneToOne.MapErr.{MapErrTrace}
+use Rattle.fallible_core.specs.OneToOne.Enumerate.{EnumerateTrace}
+use Rattle.fallible_core.specs.Laws.OneToOne.MapErr.{Mapped, mapped_item, mapped_end, mapped_none, to_mapped}
+use Rattle.fallible_core.specs.Laws.OneToOne.Enumerate.{Numbered, numbered_item, numbered_end, numbered_none, to_numbered}
+use Rattle.fallible_iterator.proofs.Lemmas.Hints.Drawn.{OneOfOne}
+
+pub map_leaves_none_out : {X B E : Type 0} (x : X) (v : Result B E) → map_outcome x v ≡ left_out → ⊥
+map_leaves_none_out x (Ok y) e = cc
+map_leaves_none_out x (Err d) e = cc
+
+pub inspect_leaves_none_out : {X E : Type 0} (x : X) (v : Result (Unit {0}) E) → inspect_outcome x v ≡ left_out → ⊥
+inspect_leaves_none_out x (Ok u) e = cc
+inspect_leaves_none_out x (Err d) e = cc
+
+-- ---- `MapErr`
+
+module _ {S F X D E : Type 0} (steps : S → Answered X D → S → Type 0) (call : F → D → E → F → Type 0) where
+  abbrev pub map_err_step : S × F → Answered X E → S × F → Type 0
+  map_err_step p r q = MapErrTrace steps call p (r ∷ []) q
+
+  item_of_item : (s t : S) (f g : F) (x : X) → Mapped steps call s f (item x ∷ []) t g → steps s (item x) t
+  item_of_item s t f g _ (mapped_item x step mapped_none) = step
+
+  end_of_end : (s t : S) (f g : F) → Mapped {X = X} steps call s f (end ∷ []) t g → steps s end t
+  end_of_end s t f g (mapped_end step mapped_none) = step
+
+  pub map_err_one : OneOfOne map_err_step steps (λ p. p.0) (λ p. ⊤)
+  map_err_one = record {
+    item_drawn = λ p q x _ step. (x, item_of_item p.0 q.0 p.1 q.1 x (to_mapped steps call p.0 q.0 p.1 q.1 (item x ∷ []) step), tt);
+    end_drawn = λ p q _ step. end_of_end p.0 q.0 p.1 q.1 (to_mapped steps call p.0 q.0 p.1 q.1 (end ∷ []) step);
+  }
+
+-- ---- `Enumerate`
+
+module _ {S A E : Type 0} (steps : S → Answered A E → S → Type 0) where
+  abbrev pub enumerate_step : S × ℕ → Answered (ℕ × A) E → S × ℕ → Type 0
+  enumerate_step p r q = EnumerateTrace steps p (r ∷ []) q
+
+  numbered_of_item : (s t : S) (n k : ℕ) (y : ℕ × A) → Numbered steps s n (item y ∷ []) t k → (x : A) × steps s (item x) t
+  numbered_of_item s t n _ _ (numbered_item x step numbered_none) = (x, step)
+
+  numbered_of_end : (s t : S) (n k : ℕ) → Numbered steps s n (end ∷ []) t k → steps s end t
+  numbered_of_end s t n _ (numbered_end step numbered_none) = step
+
+  pub enumerate_one : OneOfOne enumerate_step steps (λ p. p.0) (λ p. ⊤)
+  enumerate_one = record {
+    item_drawn = λ p q y _ step. let d = numbered_of_item p.0 q.0 p.1 q.1 y (to_numbered steps p.0 q.0 p.1 q.1 (item y ∷ []) step) in (d.0, d.1, tt);
+    end_drawn = λ p q _ step. numbered_of_end p.0 q.0 p.1 q.1 (to_numbered steps p.0 q.0 p.1 q.1 (end ∷ []) step);
+  }

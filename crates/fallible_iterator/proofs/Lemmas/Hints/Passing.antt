@@ -1,0 +1,37 @@
+-- Hints of the adapters that let the answers of one source pass.
+use Rattle.std.specs.Prelude.{◌≡◌, ◌≤◌, List, [], ◌∷◌, length, ⊤}
+use Rattle.std.proofs.Common.{refl, arith}
+use Rattle.fallible_contract.specs.Traces.{Answered, Yields, item, end}
+use Rattle.fallible_contract.specs.Passing.{Outcome, left_out, an_end, PassTrace}
+use Rattle.fallible_contract.specs.Laws.Passing.{Passes, done, ends, keeps, closes, leaves_out, to_passes}
+use Rattle.fallible_iterator.proofs.Lemmas.Hints.Drawn.{ItemsOfItems, OneOfOne}
+
+module _ {S F X R B E : Type 0} (steps : S → Answered X E → S → Type 0) (call : F → X → R → F → Type 0) (outcome : X → R → Outcome B E) where
+  -- one answer
+  abbrev pub passing_step : S × F → Answered B E → S × F → Type 0
+  passing_step p r q = PassTrace steps call outcome p (r ∷ []) q
+
+  -- an item comes of one that was kept, behind those that were left out
+  item_of_items : (s t : S) (f g : F) (y : B) → Passes steps call outcome s f (item y ∷ []) t g → (xs : List X) × Yields steps s xs t × (1 ≤ length xs)
+  item_of_items s t f g _ (keeps x v y step called is done) = (x ∷ [], (t, step, refl), omega arith)
+  item_of_items s t f g y (leaves_out {u = u} {h = h} x v step called is rest) = let d = item_of_items u t h g y rest in (x ∷ d.0, (u, step, d.1), omega (arith, d.2))
+
+  pub passing_items : ItemsOfItems passing_step steps (λ p. p.0) (λ p. ⊤)
+  passing_items = record { drawn = λ p q y _ step. let d = item_of_items p.0 q.0 p.1 q.1 y (to_passes step) in (d.0, d.1, d.2, tt) }
+
+  module _ (never_left_out : (x : X) (v : R) → outcome x v ≡ left_out → ⊥) (never_ends : (x : X) (v : R) → outcome x v ≡ an_end → ⊥) where
+    item_of_item : (s t : S) (f g : F) (y : B) → Passes steps call outcome s f (item y ∷ []) t g → (x : X) × steps s (item x) t
+    item_of_item s t f g _ (keeps x v y step called is done) = (x, step)
+    item_of_item s t f g y (leaves_out x v step called is rest) = absurd (never_left_out x v is)
+
+    end_of_end : (s t : S) (f g : F) → Passes steps call outcome s f (end ∷ []) t g → steps s end t
+    end_of_end s t f g (ends step done) = step
+    end_of_end s t f g (closes x v step called is rest) = absurd (never_ends x v is)
+    end_of_end s t f g (leaves_out x v step called is rest) = absurd (never_left_out x v is)
+
+    -- where no answer leaves an item out or makes an end
+    pub passing_one : OneOfOne passing_step steps (λ p. p.0) (λ p. ⊤)
+    passing_one = record {
+      item_drawn = λ p q y _ step. let d = item_of_item p.0 q.0 p.1 q.1 y (to_passes step) in (d.0, d.1, tt);
+      end_drawn = λ p q _ step. end_of_end p.0 q.0 p.1 q.1 (to_passes step);
+    }

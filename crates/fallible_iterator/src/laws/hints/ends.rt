@@ -1,0 +1,101 @@
+// The hints of what stands behind a `&mut` or in a `Box`, and of what is drawn from behind.
+ghost use Rattle.std.specs.Prelude.{◌≡◌, Result, Option};
+ghost use Rattle.std.specs.Borrow.{MutBor};
+ghost use Rattle.std.specs.declared.boxed.Box.{Box};
+ghost use Rattle.std.specs.declared.alloc.Global.{Global};
+ghost use Rattle.fallible_contract.specs.Ends.{from_back};
+ghost use Rattle.fallible_iterator.specs.SoundHints.{KeepsBrackets, KeepsBracketsOfBoth};
+ghost use Rattle.fallible_core.specs.declared.joining.chain.StillDrawn.TheVariants.{Both, FrontAlone, BackAlone};
+ghost use Rattle.fallible_core.specs.OneToOne.Map.{map_parts};
+ghost use Rattle.fallible_core.specs.OneToOne.Inspect.{inspect_parts};
+ghost use Rattle.fallible_core.specs.OneToOne.Cloned.{cloned_parts};
+ghost use Rattle.fallible_core.specs.OneToOne.MapErr.{map_err_parts};
+ghost use Rattle.fallible_core.specs.Filtering.Filter.{filter_parts};
+ghost use Rattle.fallible_core.specs.Filtering.FilterMap.{filter_map_parts};
+ghost use Rattle.fallible_core.specs.Joining.Chain.{chain_parts};
+ghost use Rattle.fallible_core.specs.Ends.Rev.{rev_parts};
+
+use fallible_core::ends::Rev;
+use fallible_core::filtering::{Filter, FilterMap};
+use fallible_core::joining::Chain;
+use fallible_core::one_to_one::{Cloned, Inspect, Map, MapErr};
+use fallible_core::traits::FallibleIterator;
+use fallible_core::traits::double_ended::DoubleEndedFallibleIterator;
+use std::alloc::AllocError;
+
+/// Each hint of a `&mut I` or a `Box<I>` is as sound as it is of the value behind it; so also from behind.
+pub fn law_hints_borrowed<'a, I: FallibleIterator + 'a, D: DoubleEndedFallibleIterator + 'a>()
+    ensures borrowed { (s : MutBor I) → KeepsBrackets ⟦<&'a mut I as FallibleIterator>⟧.contract s I.contract s.now }
+    ensures boxed { (s : Box I Global) → KeepsBrackets ⟦<Box<I> as FallibleIterator>⟧.contract s I.contract s.value }
+    ensures back_borrowed { (s : MutBor D) → KeepsBrackets (from_back ⟦<&'a mut D as FallibleIterator>⟧.contract ⟦<&'a mut D as DoubleEndedFallibleIterator>⟧.ends) s (from_back D.contract D.ends) s.now }
+    ensures back_boxed { (s : Box D Global) → KeepsBrackets (from_back ⟦<Box<D> as FallibleIterator>⟧.contract ⟦<Box<D> as DoubleEndedFallibleIterator>⟧.ends) s (from_back D.contract D.ends) s.value }
+{}
+
+/// Each hint of `Rev` is as sound as it is of its source from behind, and from behind as it is of its source.
+pub fn law_hints_rev<I: DoubleEndedFallibleIterator>()
+    ensures front { (s : Rev I) → KeepsBrackets ⟦<Rev<I> as FallibleIterator>⟧.contract s (from_back I.contract I.ends) (rev_parts s) }
+    ensures back { (s : Rev I) → KeepsBrackets (from_back ⟦<Rev<I> as FallibleIterator>⟧.contract ⟦<Rev<I> as DoubleEndedFallibleIterator>⟧.ends) s I.contract (rev_parts s) }
+{}
+
+/// From behind each hint of `Map` is as sound as the hint of its source that it is made of.
+pub fn law_hints_back_map<
+    I: DoubleEndedFallibleIterator,
+    B,
+    F: FnMut(I::Item) -> Result<B, I::Error>,
+>()
+where
+    ensures { (s : Map I F) → KeepsBrackets (from_back ⟦<Map<I, F> as FallibleIterator>⟧.contract ⟦<Map<I, F> as DoubleEndedFallibleIterator>⟧.ends) s (from_back I.contract I.ends) (map_parts s).0 }
+{}
+
+/// From behind each hint of `Inspect` is as sound as the hint of its source that it is made of.
+pub fn law_hints_back_inspect<
+    I: DoubleEndedFallibleIterator,
+    F: FnMut(&I::Item) -> Result<(), I::Error>,
+>()
+where
+    I::Item: Drop,
+    ensures { (s : Inspect I F) → KeepsBrackets (from_back ⟦<Inspect<I, F> as FallibleIterator>⟧.contract ⟦<Inspect<I, F> as DoubleEndedFallibleIterator>⟧.ends) s (from_back I.contract I.ends) (inspect_parts s).0 }
+{}
+
+/// From behind each hint of `MapErr` is as sound as the hint of its source that it is made of.
+pub fn law_hints_back_map_err<I: DoubleEndedFallibleIterator, B, F: FnMut(I::Error) -> B>()
+where
+    ensures { (s : MapErr I F) → KeepsBrackets (from_back ⟦<MapErr<I, F> as FallibleIterator>⟧.contract ⟦<MapErr<I, F> as DoubleEndedFallibleIterator>⟧.ends) s (from_back I.contract I.ends) (map_err_parts s).0 }
+{}
+
+/// From behind each hint of `Cloned` is as sound as the hint of its source that it is made of.
+pub fn law_hints_back_cloned<'a, T: Clone + 'a, I: DoubleEndedFallibleIterator<Item = &'a T>>()
+where
+    I::Error: From<AllocError>,
+    ensures { (s : Cloned I) → KeepsBrackets (from_back ⟦<Cloned<I> as FallibleIterator>⟧.contract ⟦<Cloned<I> as DoubleEndedFallibleIterator>⟧.ends) s (from_back I.contract I.ends) (cloned_parts s).0 }
+{}
+
+/// From behind each hint of `Filter` is as sound as the hint of its source that it is made of.
+pub fn law_hints_back_filter<
+    I: DoubleEndedFallibleIterator,
+    F: FnMut(&I::Item) -> Result<bool, I::Error>,
+>()
+where
+    I::Item: Drop,
+    ensures { (s : Filter I F) → KeepsBrackets (from_back ⟦<Filter<I, F> as FallibleIterator>⟧.contract ⟦<Filter<I, F> as DoubleEndedFallibleIterator>⟧.ends) s (from_back I.contract I.ends) (filter_parts s).0 }
+{}
+
+/// From behind each hint of `FilterMap` is as sound as the hint of its source that it is made of.
+pub fn law_hints_back_filter_map<
+    I: DoubleEndedFallibleIterator,
+    B,
+    F: FnMut(I::Item) -> Result<Option<B>, I::Error>,
+>()
+where
+    ensures { (s : FilterMap I F) → KeepsBrackets (from_back ⟦<FilterMap<I, F> as FallibleIterator>⟧.contract ⟦<FilterMap<I, F> as DoubleEndedFallibleIterator>⟧.ends) s (from_back I.contract I.ends) (filter_map_parts s).0 }
+{}
+
+/// From behind each hint of `Chain` is as sound as the hints of the sides that are still drawn.
+pub fn law_hints_back_chain<
+    T: DoubleEndedFallibleIterator,
+    U: DoubleEndedFallibleIterator<Item = T::Item, Error = T::Error>,
+>()
+    ensures both { (s : Chain T U) → (chain_parts s).2 ≡ Both → KeepsBracketsOfBoth (from_back ⟦<Chain<T, U> as FallibleIterator>⟧.contract ⟦<Chain<T, U> as DoubleEndedFallibleIterator>⟧.ends) s (from_back T.contract T.ends) (chain_parts s).0 (from_back U.contract U.ends) (chain_parts s).1 }
+    ensures front_alone { (s : Chain T U) → (chain_parts s).2 ≡ FrontAlone → KeepsBrackets (from_back ⟦<Chain<T, U> as FallibleIterator>⟧.contract ⟦<Chain<T, U> as DoubleEndedFallibleIterator>⟧.ends) s (from_back T.contract T.ends) (chain_parts s).0 }
+    ensures back_alone { (s : Chain T U) → (chain_parts s).2 ≡ BackAlone → KeepsBrackets (from_back ⟦<Chain<T, U> as FallibleIterator>⟧.contract ⟦<Chain<T, U> as DoubleEndedFallibleIterator>⟧.ends) s (from_back U.contract U.ends) (chain_parts s).1 }
+{}

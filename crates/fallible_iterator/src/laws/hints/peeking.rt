@@ -1,0 +1,16 @@
+// The hints of the adapter that looks ahead.
+ghost use Rattle.std.specs.Prelude.{◌≡◌, Some, None};
+ghost use Rattle.fallible_iterator.specs.SoundHints.{KeepsBrackets, SoundHints};
+ghost use Rattle.fallible_core.specs.Peeking.Peekable.{peekable_parts};
+
+use fallible_core::peeking::Peekable;
+use fallible_core::traits::FallibleIterator;
+
+/// Where nothing is held, and where an item is, each hint of `Peekable` is as sound as the hint of its source that it is made of; where an end is held each brackets what comes.
+pub fn law_hints_peekable<I: FallibleIterator>()
+where
+    I::Item: Drop,
+    ensures none_held { (s : Peekable I I.Item I.Error) → (peekable_parts s).1 ≡ None → KeepsBrackets ⟦<Peekable<I> as FallibleIterator>⟧.contract s I.contract (peekable_parts s).0 }
+    ensures item_held { (s : Peekable I I.Item I.Error) (x : I.Item) → (peekable_parts s).1 ≡ Some (Some x) → KeepsBrackets ⟦<Peekable<I> as FallibleIterator>⟧.contract s I.contract (peekable_parts s).0 }
+    ensures end_held { (s : Peekable I I.Item I.Error) → (peekable_parts s).1 ≡ Some None → SoundHints ⟦<Peekable<I> as FallibleIterator>⟧.contract s }
+{}
