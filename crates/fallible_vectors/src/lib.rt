@@ -6,6 +6,8 @@ mod borrowed;
 #[cfg(test)]
 mod borrowed_items;
 #[cfg(test)]
+mod bridging;
+#[cfg(test)]
 mod collecting;
 #[cfg(test)]
 mod draining;

@@ -3,6 +3,10 @@ use fallible_callers::behind::{
     count_between, first_and_last, last_after_three, last_but_one, last_drawn, last_first,
     second_between, sum_from_behind, three_answers,
 };
+use fallible_callers::bridging::{
+    elements, elements_from_behind, elements_of_ten, failures, number_of, one_more, there_and_back,
+    there_and_back_of_ten, total, up_to_ten,
+};
 use fallible_callers::computing::{
     above_100, above_100_of_ten, all_up_to_100, both_columns, collected_above_100,
     doubled_above_1000, fold_of_one, fourth_above_100, places, products, running_sums, sum,
@@ -55,6 +59,24 @@ fn folds(rt: HostRuntime) -> Result<(), Fail> {
     assert_eq!(rt; sum(readings(rt.alloc())?), Err(9));
     assert_eq!(rt; products(&[1, 2, 3], &[4, 5]), Ok(14));
     assert_eq!(rt; sum_of_nest(good_readings(rt.alloc())?), Ok(2202));
+    Ok(())
+}
+
+#[test]
+fn bridges(rt: HostRuntime) -> Result<(), Fail> {
+    assert_eq!(rt; elements(readings(rt.alloc())?), 7);
+    assert_eq!(rt; elements_from_behind(readings(rt.alloc())?), 7);
+    assert_eq!(rt; elements_of_ten(readings(rt.alloc())?), 7);
+    assert_eq!(rt; up_to_ten(convert(readings(rt.alloc())?.into_iter())), 7);
+    assert_eq!(rt; failures(readings(rt.alloc())?), 1);
+    let numbers = Vec::from_array(rt.alloc(), [5, 600, 7])?;
+    assert_eq!(rt; number_of(numbers.clone()?), 3);
+    assert_eq!(rt; total(numbers.clone()?), 612);
+    let greater = one_more(rt.alloc(), numbers)?;
+    assert_eq!(rt; greater.as_slice(), [6, 601, 8].as_slice());
+    assert_eq!(rt; there_and_back(readings(rt.alloc())?), Err(9));
+    assert_eq!(rt; there_and_back(good_readings(rt.alloc())?), Ok(2));
+    assert_eq!(rt; there_and_back_of_ten(good_readings(rt.alloc())?), Ok(2));
     Ok(())
 }
 

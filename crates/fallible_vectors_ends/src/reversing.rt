@@ -38,6 +38,14 @@ fn letters_are_counted_up_to_a_space_from_each_end(rt: HostRuntime) {
 }
 
 #[test]
+fn letters_and_spaces_are_counted_as_elements_from_each_end(rt: HostRuntime) {
+    let it = convert("ab cd".chars().map(letter)).iterator();
+    assert_eq!(rt; it.count(), 5);
+    let it = convert("ab cd".chars().map(letter)).iterator();
+    assert_eq!(rt; it.rev().count(), 5);
+}
+
+#[test]
 fn rev_of_rev_draws_the_front(rt: HostRuntime) {
     let answers: [Result<u32, u32>; 2] = [Ok(1), Ok(2)];
     let mut it = convert(answers.iter().copied()).rev().rev();
