@@ -39,6 +39,27 @@ impl Read for SlowReader<'_> {
     }
 }
 
+// Gives one byte at a time, but for one read, which fails. The reads after it go on with the bytes.
+#[derive(Drop)]
+struct FalteringReader<'a> {
+    bytes: &'a [u8],
+    // which read fails, from 1
+    failing: u32,
+    kind: ErrorKind,
+    reads: u32,
+}
+
+impl Read for FalteringReader<'_> {
+    fn read(&mut self, buf: &mut [u8]) -> io::Result<usize> {
+        self.reads = self.reads.saturating_add(1);
+        if self.reads == self.failing {
+            return Err(io::Error::from(self.kind));
+        }
+        let count = buf.len().min(1);
+        Read::read(&mut self.bytes, &mut buf[..count])
+    }
+}
+
 // Takes so many bytes, one at a time, and then fails.
 #[derive(Drop)]
 struct BrokenWriter {
@@ -178,6 +199,30 @@ fn run_answers_each_read_that_fails(rt: HostRuntime) {
             assert_eq!(rt; outcome, Err(RowFault::Row(2)));
         }
         assert!(rt; written.is_empty());
+    }
+}
+
+// The second row is refused with its last byte, so no read that fails comes after it.
+#[test]
+fn run_answers_a_read_that_fails_once_and_reads_no_more(rt: HostRuntime) {
+    let input = b"100\nfern\n".as_slice();
+    for kind in [
+        ErrorKind::Other,
+        ErrorKind::Interrupted,
+        ErrorKind::UnexpectedEof,
+    ] {
+        for failing in 1..=9 {
+            let mut reader = FalteringReader {
+                bytes: input,
+                failing,
+                kind,
+                reads: 0,
+            };
+            let (outcome, written) = run_on(rt.alloc(), &mut reader);
+            assert_eq!(rt; outcome, Err(RowFault::Read), "{kind:?} at {failing}");
+            assert!(rt; written.is_empty());
+            assert_eq!(rt; reader.reads, failing);
+        }
     }
 }
 
@@ -366,6 +411,60 @@ fn rows_reads_nothing_where_it_is_made_and_after_a_failed_read(rt: HostRuntime) 
     assert_eq!(rt; rows.next(), Err(RowFault::Read));
     assert_eq!(rt; rows.next(), Ok(None));
     assert_eq!(rt; reader.reads, 4);
+}
+
+// What the first five draws answer of the rows `12`, `x` and `3`, where a read fails after so many of them closed.
+fn answers_up_to_a_failed_read(closed: u32) -> [Answer<u64, RowFault>; 5] {
+    match closed {
+        0 => [
+            Answer::Failure(RowFault::Read),
+            Answer::End,
+            Answer::End,
+            Answer::End,
+            Answer::End,
+        ],
+        1 => [
+            Answer::Item(12),
+            Answer::Failure(RowFault::Read),
+            Answer::End,
+            Answer::End,
+            Answer::End,
+        ],
+        _ => [
+            Answer::Item(12),
+            Answer::Failure(RowFault::Row(2)),
+            Answer::Failure(RowFault::Read),
+            Answer::End,
+            Answer::End,
+        ],
+    }
+}
+
+// The last read that fails is the one that would have met the end.
+#[test]
+fn rows_answers_a_read_that_fails_once_and_reads_no_more(rt: HostRuntime) -> Result<(), Fail> {
+    for kind in [
+        ErrorKind::Other,
+        ErrorKind::Interrupted,
+        ErrorKind::UnexpectedEof,
+    ] {
+        for (failing, closed) in [(1, 0), (2, 0), (3, 0), (4, 1), (5, 1), (6, 2), (7, 2)] {
+            let mut reader = FalteringReader {
+                bytes: b"12\nx\n3",
+                failing,
+                kind,
+                reads: 0,
+            };
+            let drawn = answers(rt.alloc(), &mut Rows::new(&mut reader), 5)?;
+            assert_eq!(rt;
+                drawn.as_slice(),
+                answers_up_to_a_failed_read(closed).as_slice(),
+                "{kind:?} at {failing}"
+            );
+            assert_eq!(rt; reader.reads, failing);
+        }
+    }
+    Ok(())
 }
 
 #[test]

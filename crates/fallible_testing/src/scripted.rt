@@ -3,8 +3,9 @@ ghost use Rattle.std.specs.Prelude.{◌≡◌, ◌+◌, ◌≤◌, MatchResult, 
 ghost use Rattle.std.proofs.Common.{rules};
 ghost use Rattle.std.specs.Vec.Iter.{into_iter_len};
 ghost use Rattle.fallible_contract.specs.Contract.{counting_down};
+ghost use Rattle.fallible_contract.specs.Ends.{counting_down_ends};
 
-use fallible_iterator::FallibleIterator;
+use fallible_iterator::{DoubleEndedFallibleIterator, FallibleIterator};
 use std::alloc::{AllocError, Global};
 use std::vec::IntoIter;
 
@@ -34,6 +35,20 @@ impl<T: Drop, E: Drop> FallibleIterator for Script<T, E> {
     }
 
     ghost lawful = { Prim.search rules };
+}
+
+// From behind it gives the last answer first.
+impl<T: Drop, E: Drop> DoubleEndedFallibleIterator for Script<T, E> {
+    ghost ends = { counting_down_ends (λ s r t. MatchResult r (λ o. MatchOption o (into_iter_len t.answers ≤ into_iter_len s.answers) (λ _. into_iter_len t.answers + 1 ≡ into_iter_len s.answers)) (λ _. into_iter_len t.answers ≤ into_iter_len s.answers)) };
+
+    fn next_back(&mut self) -> Result<Option<T>, E> {
+        match self.answers.next_back() {
+            Some(answer) => answer,
+            None => Ok(None),
+        }
+    }
+
+    ghost lawful_ends = { Prim.search rules };
 }
 
 /// A source that gives these answers, and then ends.

@@ -5,6 +5,8 @@
 mod collecting;
 #[cfg(test)]
 mod comparing;
+#[cfg(test)]
+mod leaving;
 /// Items of which some have no order.
 pub mod parts;
 #[cfg(test)]

@@ -1,11 +1,15 @@
 // Adapters that join inner iterators.
+ghost use Rattle.std.specs.Prelude.{IfOk};
+
 use fallible_iterator::laws::Answer::{End, Failure, Item};
 use fallible_iterator::{
-    FallibleIterator, IntoFallible, IntoFallibleIterator, convert, from_fn, once,
+    FallibleIterator, IntoFallible, IntoFallibleIterator, Take, convert, from_fn, once,
 };
 use fallible_testing::answered::expect_answers;
 use fallible_testing::collected::expect_collected;
 use fallible_testing::listed::listed;
+use fallible_testing::scripted::{Script, scripted};
+use std::alloc::{AllocError, Global};
 use std::convert::Infallible;
 use std::ops::Range;
 use std::test::Fail;
@@ -62,6 +66,10 @@ struct Stopped {
     item: Option<u32>,
 }
 
+fn sum(total: u32, x: u32) -> Result<u32, u32> {
+    Ok(total.wrapping_add(x))
+}
+
 // Draws once, and folds with a closure that fails with 7 on its first item.
 fn draw_and_stop<U: IntoFallibleIterator<Item = u32, Error = u32>>(inner: U) -> Stopped
 where
@@ -101,6 +109,115 @@ fn flatten_draws_no_inner_end_ahead(rt: HostRuntime) {
     assert_eq!(rt; stopped.outcome, Err(7));
     assert_eq!(rt; stopped.item, Some(2));
     assert_eq!(rt; [s.next(), s.next()], [Ok(None), Ok(Some(3))]);
+}
+
+// What two draws of a flatten of one inner iterator answer.
+fn draws_flat<U: FallibleIterator<Item = u32, Error = u32>>(
+    inner: U,
+) -> [Result<Option<u32>, u32>; 2]
+where
+    U: Drop,
+    requires { U.contract.can inner }
+{
+    let mut it = once::<U, u32>(inner).flatten();
+    [it.draw(), it.next()]
+}
+
+// The sum of a flatten of one inner iterator.
+fn sums_flat<U: FallibleIterator<Item = u32, Error = u32>>(inner: U) -> Result<u32, u32>
+where
+    U: Drop,
+    requires can { U.contract.can inner }
+    requires finite { U.contract.to_come inner 9 }
+{
+    once::<U, u32>(inner).flatten().fold(0, sum)
+}
+
+// The same of a flat_map whose closure answers the inner iterator as it is.
+fn draws_flat_mapped<U: FallibleIterator<Item = u32, Error = u32>>(
+    inner: U,
+) -> [Result<Option<u32>, u32>; 2]
+where
+    U: Drop,
+    requires { U.contract.can inner }
+{
+    let mut it = once::<U, u32>(inner).flat_map(|inner: U| -> Result<U, u32> { Ok(inner) });
+    [it.draw(), it.next()]
+}
+
+fn sums_flat_mapped<U: FallibleIterator<Item = u32, Error = u32>>(inner: U) -> Result<u32, u32>
+where
+    U: Drop,
+    requires can { U.contract.can inner }
+    requires finite { U.contract.to_come inner 9 }
+{
+    once::<U, u32>(inner)
+        .flat_map(|inner: U| -> Result<U, u32> { Ok(inner) })
+        .fold(0, sum)
+}
+
+// Gives 1, ends, and then gives 2.
+fn one_end_two(alloc: Global) -> Result<Take<Script<u32, u32>>, AllocError>
+    ensures { IfOk result (λ s. ⟦<Take<Script<u32, u32>> as FallibleIterator>⟧.contract.to_come s 9) }
+{
+    Ok(scripted(alloc, [Ok(Some(1)), Ok(None), Ok(Some(2))])?.take(9))
+}
+
+// Ends, and then gives 2.
+fn end_two(alloc: Global) -> Result<Take<Script<u32, u32>>, AllocError>
+    ensures { IfOk result (λ s. ⟦<Take<Script<u32, u32>> as FallibleIterator>⟧.contract.to_come s 9) }
+{
+    Ok(scripted(alloc, [Ok(None), Ok(Some(2))])?.take(9))
+}
+
+#[test]
+fn flatten_draws_nothing_after_an_inner_end(rt: HostRuntime) -> Result<(), Fail> {
+    let mut s = one_end_two(rt.alloc())?;
+    assert_eq!(rt; draws_flat(&mut s), [Ok(Some(1)), Ok(None)]);
+    assert_eq!(rt; s.next(), Ok(Some(2)));
+    let mut s = end_two(rt.alloc())?;
+    assert_eq!(rt; draws_flat(&mut s), [Ok(None), Ok(None)]);
+    assert_eq!(rt; s.next(), Ok(Some(2)));
+    Ok(())
+}
+
+#[test]
+fn a_fold_of_flatten_draws_nothing_after_an_inner_end(rt: HostRuntime) -> Result<(), Fail> {
+    let mut s = one_end_two(rt.alloc())?;
+    assert_eq!(rt; sums_flat(&mut s), Ok(1));
+    assert_eq!(rt; s.next(), Ok(Some(2)));
+    Ok(())
+}
+
+#[test]
+fn a_fold_of_flatten_draws_nothing_after_the_end_of_the_one_in_hand(
+    rt: HostRuntime,
+) -> Result<(), Fail> {
+    let mut s = one_end_two(rt.alloc())?;
+    let ended = draw_and_stop(&mut s);
+    assert_eq!(rt; ended.first, Ok(Some(1)));
+    assert_eq!(rt; ended.outcome, Ok(0));
+    assert_eq!(rt; s.next(), Ok(Some(2)));
+    Ok(())
+}
+
+#[test]
+fn flat_map_draws_nothing_after_an_inner_end(rt: HostRuntime) -> Result<(), Fail> {
+    let mut s = one_end_two(rt.alloc())?;
+    assert_eq!(rt; draws_flat_mapped(&mut s), [Ok(Some(1)), Ok(None)]);
+    assert_eq!(rt; s.next(), Ok(Some(2)));
+    let mut s = end_two(rt.alloc())?;
+    assert_eq!(rt; draws_flat_mapped(&mut s), [Ok(None), Ok(None)]);
+    assert_eq!(rt; s.next(), Ok(Some(2)));
+    Ok(())
+}
+
+#[test]
+fn a_fold_of_flat_map_draws_nothing_after_an_inner_end(rt: HostRuntime) -> Result<(), Fail> {
+    let mut s = one_end_two(rt.alloc())?;
+    assert_eq!(rt; sums_flat_mapped(&mut s), Ok(1));
+    assert_eq!(rt; s.next(), Ok(Some(2)));
+    Ok(())
 }
 
 #[test]

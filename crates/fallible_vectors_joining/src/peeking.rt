@@ -1,5 +1,7 @@
 // The adapter that looks one item ahead.
-ghost use Rattle.std.specs.Prelude.{◌≡◌, ⊤, Some, None, Ok, MatchResult};
+ghost use Rattle.std.specs.Prelude.{◌≡◌, ◌==◌, ⊤, Some, None, Ok, MatchResult};
+ghost use Rattle.std.proofs.Common.{rules};
+ghost use Rattle.std.specs.Cmp.Rules.{comparing};
 ghost use Rattle.fallible_core.specs.Peeking.Peekable.{Fills, peekable_parts};
 
 use fallible_iterator::{FallibleIterator, Peekable, convert, from_fn, once, repeat};
@@ -177,13 +179,54 @@ fn next_if_calls_its_closure_once(rt: HostRuntime) {
     };
     assert_eq!(rt; it.next_if(refuse), Ok(None));
     assert_eq!(rt; calls.get(), 1);
-    assert_eq!(rt; it.next(), Ok(Some(1)));
     let accept = |_x: &u32| {
         calls.set(calls.get().wrapping_add(1));
         true
     };
+    assert_eq!(rt; it.next_if(accept), Ok(Some(1)));
+    assert_eq!(rt; calls.get(), 2);
     assert_eq!(rt; it.next_if(accept), Err(2));
-    assert_eq!(rt; calls.get(), 1);
+    assert_eq!(rt; calls.get(), 2);
+}
+
+// A number that counts its comparisons.
+#[derive(Debug, Drop)]
+struct Compared<'a> {
+    number: u32,
+    comparisons: &'a Cell<u32>,
+}
+
+impl PartialEq for Compared<'_> {
+    ghost eq = { λ a b. a.number == b.number };
+
+    ghost laws = { Prim.search (comparing, rules) };
+
+    fn eq(&self, other: &Compared<'_>) -> bool {
+        self.comparisons.set(self.comparisons.get().wrapping_add(1));
+        self.number == other.number
+    }
+}
+
+#[test]
+fn next_if_eq_compares_once(rt: HostRuntime) {
+    let comparisons = Cell::new(0u32);
+    let compared = |number: u32| Compared {
+        number,
+        comparisons: &comparisons,
+    };
+    let mut it = once::<Compared<'_>, u32>(compared(1)).peekable();
+    assert!(rt;
+        it.next_if_eq(&compared(2))
+            .expect(&rt, "no failure")
+            .is_none()
+    );
+    assert_eq!(rt; comparisons.get(), 1);
+    assert!(rt;
+        it.next_if_eq(&compared(1))
+            .expect(&rt, "no failure")
+            .is_some()
+    );
+    assert_eq!(rt; comparisons.get(), 2);
 }
 
 #[test]

@@ -1,0 +1,255 @@
+// What a consumer that takes the iterator leaves: nothing is drawn after the answer that decides, so a borrowed source gives what follows it.
+use fallible_iterator::{DoubleEndedFallibleIterator, FallibleIterator, Fault};
+use fallible_testing::collected::{expect_collected, expect_source_fault};
+use fallible_testing::scripted::{Script, scripted};
+use std::alloc::{AllocError, Global};
+use std::cmp::Ordering;
+use std::test::Fail;
+
+// what a draw answers
+type Drawn = Result<Option<u32>, u32>;
+
+// what a draw of pairs answers
+type DrawnPair = Result<Option<(u32, u32)>, u32>;
+
+const END: Drawn = Ok(None);
+
+const FAILURE: Drawn = Err(9);
+
+// Gives 1, then what decides, and then the item that follows.
+fn around(alloc: Global, decides: Drawn, follows: u32) -> Result<Script<u32, u32>, AllocError> {
+    scripted(alloc, [Ok(Some(1)), decides, Ok(Some(follows))])
+}
+
+fn count_of(mut s: Script<u32, u32>) -> (Result<usize, u32>, Drawn) {
+    (s.by_ref().count(), s.next())
+}
+
+#[test]
+fn count_leaves_what_follows(rt: HostRuntime) -> Result<(), Fail> {
+    let ended = count_of(around(rt.alloc(), END, 2)?);
+    assert_eq!(rt; ended, (Ok(1), Ok(Some(2))));
+    let failed = count_of(around(rt.alloc(), FAILURE, 2)?);
+    assert_eq!(rt; failed, (Err(9), Ok(Some(2))));
+    Ok(())
+}
+
+fn last_of(mut s: Script<u32, u32>) -> (Drawn, Drawn) {
+    (s.by_ref().last(), s.next())
+}
+
+#[test]
+fn last_leaves_what_follows(rt: HostRuntime) -> Result<(), Fail> {
+    let ended = last_of(around(rt.alloc(), END, 2)?);
+    assert_eq!(rt; ended, (Ok(Some(1)), Ok(Some(2))));
+    let failed = last_of(around(rt.alloc(), FAILURE, 2)?);
+    assert_eq!(rt; failed, (Err(9), Ok(Some(2))));
+    Ok(())
+}
+
+fn accept(_x: u32) -> Result<(), u32> {
+    Ok(())
+}
+
+fn each_of(mut s: Script<u32, u32>) -> (Result<(), u32>, Drawn) {
+    (s.by_ref().for_each(accept), s.next())
+}
+
+#[test]
+fn for_each_leaves_what_follows(rt: HostRuntime) -> Result<(), Fail> {
+    let ended = each_of(around(rt.alloc(), END, 2)?);
+    assert_eq!(rt; ended, (Ok(()), Ok(Some(2))));
+    let failed = each_of(around(rt.alloc(), FAILURE, 2)?);
+    assert_eq!(rt; failed, (Err(9), Ok(Some(2))));
+    Ok(())
+}
+
+fn sum(total: u32, x: u32) -> Result<u32, u32> {
+    Ok(total.wrapping_add(x))
+}
+
+fn sum_of(mut s: Script<u32, u32>) -> (Result<u32, u32>, Drawn) {
+    (s.by_ref().fold(0, sum), s.next())
+}
+
+#[test]
+fn fold_leaves_what_follows(rt: HostRuntime) -> Result<(), Fail> {
+    let ended = sum_of(around(rt.alloc(), END, 2)?);
+    assert_eq!(rt; ended, (Ok(1), Ok(Some(2))));
+    let failed = sum_of(around(rt.alloc(), FAILURE, 2)?);
+    assert_eq!(rt; failed, (Err(9), Ok(Some(2))));
+    Ok(())
+}
+
+fn collection_of(alloc: Global, mut s: Script<u32, u32>) -> (Result<Vec<u32>, Fault<u32>>, Drawn) {
+    (s.by_ref().collect(alloc), s.next())
+}
+
+#[test]
+fn collect_leaves_what_follows(rt: HostRuntime) -> Result<(), Fail> {
+    let (made, next) = collection_of(rt.alloc(), around(rt.alloc(), END, 2)?);
+    expect_collected(made, &[1])?;
+    assert_eq!(rt; next, Ok(Some(2)));
+    let (made, next) = collection_of(rt.alloc(), around(rt.alloc(), FAILURE, 2)?);
+    expect_source_fault(made, 9)?;
+    assert_eq!(rt; next, Ok(Some(2)));
+    Ok(())
+}
+
+fn sides_of(
+    alloc: Global,
+    mut s: Script<u32, u32>,
+) -> (Result<(Vec<u32>, Vec<u32>), Fault<u32>>, Drawn) {
+    (
+        s.by_ref().partition(alloc, |x: &u32| Ok(*x % 2 == 0)),
+        s.next(),
+    )
+}
+
+#[test]
+fn partition_leaves_what_follows(rt: HostRuntime) -> Result<(), Fail> {
+    let (sides, next) = sides_of(rt.alloc(), around(rt.alloc(), END, 2)?);
+    let (even, odd) = sides.expect(&rt, "two collections");
+    assert!(rt; even.is_empty());
+    assert_eq!(rt; odd.as_slice(), [1].as_slice());
+    assert_eq!(rt; next, Ok(Some(2)));
+    let (sides, next) = sides_of(rt.alloc(), around(rt.alloc(), FAILURE, 2)?);
+    expect_source_fault(sides, 9)?;
+    assert_eq!(rt; next, Ok(Some(2)));
+    Ok(())
+}
+
+fn parts_of(
+    alloc: Global,
+    mut s: Script<(u32, u32), u32>,
+) -> (Result<(Vec<u32>, Vec<u32>), Fault<u32>>, DrawnPair) {
+    (s.by_ref().unzip(alloc), s.next())
+}
+
+#[test]
+fn unzip_leaves_what_follows(rt: HostRuntime) -> Result<(), Fail> {
+    let s = scripted(rt.alloc(), [Ok(Some((1, 3))), Ok(None), Ok(Some((2, 4)))])?;
+    let (parts, next) = parts_of(rt.alloc(), s);
+    let (first, second) = parts.expect(&rt, "two collections");
+    assert_eq!(rt; first.as_slice(), [1].as_slice());
+    assert_eq!(rt; second.as_slice(), [3].as_slice());
+    assert_eq!(rt; next, Ok(Some((2, 4))));
+    let s = scripted(rt.alloc(), [Ok(Some((1, 3))), Err(9), Ok(Some((2, 4)))])?;
+    let (parts, next) = parts_of(rt.alloc(), s);
+    expect_source_fault(parts, 9)?;
+    assert_eq!(rt; next, Ok(Some((2, 4))));
+    Ok(())
+}
+
+fn greatest_of(mut s: Script<u32, u32>) -> (Drawn, Drawn) {
+    (s.by_ref().max(), s.next())
+}
+
+#[test]
+fn max_leaves_what_follows(rt: HostRuntime) -> Result<(), Fail> {
+    let ended = greatest_of(around(rt.alloc(), END, 2)?);
+    assert_eq!(rt; ended, (Ok(Some(1)), Ok(Some(2))));
+    let failed = greatest_of(around(rt.alloc(), FAILURE, 2)?);
+    assert_eq!(rt; failed, (Err(9), Ok(Some(2))));
+    Ok(())
+}
+
+fn greatest_by(mut s: Script<u32, u32>) -> (Drawn, Drawn) {
+    (s.by_ref().max_by(|x: &u32, y: &u32| Ok(x.cmp(y))), s.next())
+}
+
+#[test]
+fn max_by_leaves_what_follows(rt: HostRuntime) -> Result<(), Fail> {
+    let ended = greatest_by(around(rt.alloc(), END, 2)?);
+    assert_eq!(rt; ended, (Ok(Some(1)), Ok(Some(2))));
+    let failed = greatest_by(around(rt.alloc(), FAILURE, 2)?);
+    assert_eq!(rt; failed, (Err(9), Ok(Some(2))));
+    Ok(())
+}
+
+fn greatest_by_key(mut s: Script<u32, u32>) -> (Drawn, Drawn) {
+    (s.by_ref().max_by_key(|x: &u32| Ok(*x)), s.next())
+}
+
+#[test]
+fn max_by_key_leaves_what_follows(rt: HostRuntime) -> Result<(), Fail> {
+    let ended = greatest_by_key(around(rt.alloc(), END, 2)?);
+    assert_eq!(rt; ended, (Ok(Some(1)), Ok(Some(2))));
+    let failed = greatest_by_key(around(rt.alloc(), FAILURE, 2)?);
+    assert_eq!(rt; failed, (Err(9), Ok(Some(2))));
+    Ok(())
+}
+
+// Sums from behind, and what the next draw from behind answers.
+fn sum_from_behind(mut s: Script<u32, u32>) -> (Result<u32, u32>, Drawn) {
+    (s.by_ref().rfold(0, sum), s.next_back())
+}
+
+#[test]
+fn rfold_leaves_what_follows(rt: HostRuntime) -> Result<(), Fail> {
+    let s = scripted(rt.alloc(), [Ok(Some(2)), END, Ok(Some(1))])?;
+    assert_eq!(rt; sum_from_behind(s), (Ok(1), Ok(Some(2))));
+    let s = scripted(rt.alloc(), [Ok(Some(2)), FAILURE, Ok(Some(1))])?;
+    assert_eq!(rt; sum_from_behind(s), (Err(9), Ok(Some(2))));
+    Ok(())
+}
+
+// What a second draw on the left and on the right answers, after an item that is the same, how the two compare then, and what the next draw on the right answers.
+type Round = (Drawn, Drawn, Result<Ordering, u32>, Drawn);
+
+// A left failure decides before the right is drawn.
+fn rounds() -> [Round; 6] {
+    [
+        (END, END, Ok(Ordering::Equal), Ok(Some(3))),
+        (END, Ok(Some(5)), Ok(Ordering::Less), Ok(Some(3))),
+        (Ok(Some(5)), END, Ok(Ordering::Greater), Ok(Some(3))),
+        (Ok(Some(5)), Ok(Some(6)), Ok(Ordering::Less), Ok(Some(3))),
+        (Ok(Some(5)), FAILURE, Err(9), Ok(Some(3))),
+        (FAILURE, Ok(Some(6)), Err(9), Ok(Some(6))),
+    ]
+}
+
+// How the two compare, and what the next draws on the left and on the right answer.
+fn cmp_of(
+    mut left: Script<u32, u32>,
+    mut right: Script<u32, u32>,
+) -> (Result<Ordering, u32>, [Drawn; 2]) {
+    let answer = left.by_ref().cmp(right.by_ref());
+    (answer, [left.next(), right.next()])
+}
+
+#[test]
+fn cmp_leaves_what_follows_on_both_sides(rt: HostRuntime) -> Result<(), Fail> {
+    for (left, right, order, next) in rounds() {
+        let compared = cmp_of(around(rt.alloc(), left, 2)?, around(rt.alloc(), right, 3)?);
+        assert_eq!(rt;
+            compared,
+            (order, [Ok(Some(2)), next]),
+            "{left:?} and {right:?}"
+        );
+    }
+    Ok(())
+}
+
+// Whether the two are equal, and what the next draws on the left and on the right answer.
+fn eq_of(
+    mut left: Script<u32, u32>,
+    mut right: Script<u32, u32>,
+) -> (Result<bool, u32>, [Drawn; 2]) {
+    let answer = left.by_ref().eq(right.by_ref());
+    (answer, [left.next(), right.next()])
+}
+
+#[test]
+fn eq_leaves_what_follows_on_both_sides(rt: HostRuntime) -> Result<(), Fail> {
+    for (left, right, order, next) in rounds() {
+        let compared = eq_of(around(rt.alloc(), left, 2)?, around(rt.alloc(), right, 3)?);
+        let equal = order.map(|order| order == Ordering::Equal);
+        assert_eq!(rt;
+            compared,
+            (equal, [Ok(Some(2)), next]),
+            "{left:?} and {right:?}"
+        );
+    }
+    Ok(())
+}
