@@ -8,7 +8,10 @@ use std::test::Fail;
 fn iterator_gives_each_failure_as_an_element(rt: HostRuntime) {
     let answers: [Result<u32, u32>; 2] = [Ok(1), Err(2)];
     let mut it = convert(answers.iter().copied()).iterator();
-    assert_eq!(rt; [it.next(), it.next(), it.next()], [Some(Ok(1)), Some(Err(2)), None]);
+    assert_eq!(rt;
+        [it.next(), it.next(), it.next()],
+        [Some(Ok(1)), Some(Err(2)), None]
+    );
 }
 
 #[test]
@@ -22,7 +25,10 @@ fn iterator_of_one_failure_hints_at_nothing(rt: HostRuntime) {
 fn iterator_draws_again_after_an_end(rt: HostRuntime) -> Result<(), Fail> {
     let answers: [Result<Option<u32>, u32>; 3] = [Ok(Some(1)), Ok(None), Ok(Some(2))];
     let mut it = scripted(rt.alloc(), answers)?.iterator();
-    assert_eq!(rt; [it.next(), it.next(), it.next()], [Some(Ok(1)), None, Some(Ok(2))]);
+    assert_eq!(rt;
+        [it.next(), it.next(), it.next()],
+        [Some(Ok(1)), None, Some(Ok(2))]
+    );
     Ok(())
 }
 
@@ -42,7 +48,9 @@ fn unwrap_gives_the_items(rt: HostRuntime) -> Result<(), Fail> {
     let items: [u32; 4] = [0, 1, 2, 3];
     let it = convert(items.iter().copied().map(|x| Ok::<u32, u32>(x))).unwrap();
     assert_eq!(rt; it.size_hint(), (0, None));
-    let made: Vec<u32> = it.map(|x| Ok::<u32, AllocError>(x)).try_collect(rt.alloc())?;
+    let made: Vec<u32> = it
+        .map(|x| Ok::<u32, AllocError>(x))
+        .try_collect(rt.alloc())?;
     assert_eq!(rt; made.as_slice(), [0, 1, 2, 3].as_slice());
     Ok(())
 }
