@@ -72,8 +72,8 @@ pub fn number_of(numbers: Vec<u32>) -> usize
 
 /// The sum of the numbers, which fits.
 pub fn total(numbers: Vec<u32>) -> u32
-    requires { sum (unwrapped {E = Infallible} (items numbers.items)) < 2 ^ 32 }
-    ensures { result ≡ sum (unwrapped {E = Infallible} (items numbers.items)) }
+    requires { sum numbers.items < 2 ^ 32 }
+    ensures { result ≡ sum numbers.items }
 {
     numbers.into_iter().into_fallible().unwrap().sum()
 }

@@ -9,7 +9,7 @@ use Rattle.std.proofs.iter.runs.Sources.{lists, as_is}
 use Rattle.std.specs.Result.{IsOk}
 use Rattle.fallible_contract.specs.Contract.{Contract, Lawful, Sure}
 use Rattle.fallible_contract.specs.Traces.{Answered}
-use Rattle.fallible_contract.specs.Lists.{AlwaysGives, Lists, result_answer}
+use Rattle.fallible_contract.specs.Lists.{AlwaysGives, Lists, result_answer, items}
 use Rattle.fallible_core.specs.Bridges.Unwrap.{unwrapped}
 
 same : {A : Type 0} (l : List A) → map (λ y. y) l ≡ l
@@ -98,6 +98,12 @@ module _ {A E : Type 0} where
 
   no_item : (o : Option A) → answer o ≡ Ok None → o ≡ None
   no_item o e = cc
+
+-- of items alone nothing is left out
+pub items_unwrapped : {A : Type 0} (E : Type 0) (l : List A) → unwrapped (items {E = E} l) ≡ l
+unfolding items unwrapped
+items_unwrapped E [] = refl
+items_unwrapped E (x ∷ l) = ap {B = List _} (λ t. x ∷ t) (items_unwrapped E l)
 
 none_unwrapped : (A E : Type 0) → unwrapped {A = A} {E = E} [] ≡ []
 unfolding unwrapped
