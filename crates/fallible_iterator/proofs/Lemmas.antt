@@ -1,5 +1,6 @@
 -- Lemmas that no contract and no ghost member cites.
 pub mod Bridges
+pub mod Comparing
 pub mod Hints
 pub mod Nests
 pub mod Sources
