@@ -22,6 +22,7 @@ pub use cutting::{law_fuse, law_skip, law_step_by, law_take, law_take_while};
 pub use ends::{
     law_back_cloned, law_back_filter, law_back_filter_map, law_back_inspect, law_back_map,
     law_back_map_err, law_interleave, law_interleave_folds, law_interleave_nest, law_rev,
+    law_rev_rev,
 };
 pub use fallible_contract::answers::{Answer, Side};
 pub use filtering::{law_filter, law_filter_map, law_skip_while};
