@@ -60,7 +60,7 @@ pub enum LineFault {
     Number,
 }
 
-/// The sum of the numbers that the lines of a reader are, modulo 2 ^ 64, or the first fault. std doesn't say that `lines` may be asked again after its end, so `fuse` comes first.
+/// The sum of the numbers that the lines of a reader are, modulo 2 ^ 64, or the first fault. After its end std's `lines` may have more to come, so `fuse` comes first.
 pub fn sum_of_lines<R: BufRead + Drop>(alloc: Global, reader: R) -> Result<u64, LineFault> {
     convert(reader.lines(alloc).fuse())
         .map_err(|_| LineFault::Read)
