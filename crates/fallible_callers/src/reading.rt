@@ -1,11 +1,12 @@
-//! A source of one's own over any reader.
+//! A source of one's own over any reader, and the lines of a reader.
 ghost use Rattle.std.proofs.Common.{rules};
 ghost use Rattle.fallible_contract.specs.Contract.{unbounded};
 ghost use Rattle.fallible_contract.specs.Laws.ToCome.{lawful_unbounded};
 ghost use Rattle.fallible_callers.specs.Reading.{DrawsByte};
 
-use fallible_iterator::FallibleIterator;
-use std::io::Read;
+use fallible_iterator::{FallibleIterator, convert};
+use std::alloc::Global;
+use std::io::{BufRead, Read};
 
 /// A read failed.
 #[derive(Debug, Drop, PartialEq)]
@@ -48,4 +49,21 @@ pub fn newlines_of_three<R: Read + Drop>(reader: R) -> Result<usize, ReadFailed>
         .take(3)
         .filter(|byte| Ok(*byte == b'\n'))
         .count()
+}
+
+/// Why lines have no sum.
+#[derive(Debug, Drop, PartialEq)]
+pub enum LineFault {
+    /// A line couldn't be read.
+    Read,
+    /// A line is no number.
+    Number,
+}
+
+/// The sum of the numbers that the lines of a reader are, modulo 2 ^ 64, or the first fault. After its end std's `lines` may have more to come, so `fuse` comes first.
+pub fn sum_of_lines<R: BufRead + Drop>(alloc: Global, reader: R) -> Result<u64, LineFault> {
+    convert(reader.lines(alloc).fuse())
+        .map_err(|_| LineFault::Read)
+        .map(|line| line.parse::<u64>().map_err(|_| LineFault::Number))
+        .fold(0, |sum: u64, number: u64| Ok(sum.wrapping_add(number)))
 }

@@ -1,5 +1,7 @@
 -- Lemmas that no contract and no ghost member cites.
 pub mod Bridges
+pub mod Comparing
+pub mod Ends
 pub mod Hints
 pub mod Nests
 pub mod Sources

@@ -1,6 +1,7 @@
 //! What a trace of each type is, as laws, and traces that a test or a caller can look at.
 pub mod borrowed;
 pub mod bridges;
+pub mod comparing;
 mod cutting;
 pub mod ends;
 mod filtering;
@@ -16,10 +17,12 @@ pub mod traces;
 
 pub use borrowed::law_borrowed;
 pub use bridges::{law_back_iterator, law_iterator, law_unwrap};
+pub use comparing::law_eq_is_cmp_equal;
 pub use cutting::{law_fuse, law_skip, law_step_by, law_take, law_take_while};
 pub use ends::{
     law_back_cloned, law_back_filter, law_back_filter_map, law_back_inspect, law_back_map,
     law_back_map_err, law_interleave, law_interleave_folds, law_interleave_nest, law_rev,
+    law_rev_rev,
 };
 pub use fallible_contract::answers::{Answer, Side};
 pub use filtering::{law_filter, law_filter_map, law_skip_while};

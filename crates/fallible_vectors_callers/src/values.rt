@@ -18,13 +18,13 @@ use fallible_callers::consuming::{
 use fallible_callers::drawing::{draw_all, second_if_above, third_draw, third_of};
 use fallible_callers::generic::{mean, mean_of_nest, sum_of_nest};
 use fallible_callers::ranges::{runs, sum_below};
-use fallible_callers::reading::{Bytes, ReadFailed, newlines_of_three};
+use fallible_callers::reading::{Bytes, LineFault, ReadFailed, newlines_of_three, sum_of_lines};
 use fallible_iterator::laws::Answer::Item;
 use fallible_iterator::{FallibleIterator, Fault, convert, empty};
 use std::alloc::{AllocError, Global};
 use std::convert::Infallible;
 use std::fmt::Debug;
-use std::io::{self, ErrorKind, Read};
+use std::io::{self, BufReader, ErrorKind, Read};
 use std::process::Abort;
 use std::test::Fail;
 
@@ -176,6 +176,27 @@ fn readers(rt: HostRuntime) -> Result<(), Fail> {
         bytes(b"abcd".as_slice()).take(3).collect(rt.alloc()),
         b"abc".as_slice(),
     );
+    Ok(())
+}
+
+fn sum_of_text(alloc: Global, text: &[u8]) -> Result<u64, LineFault> {
+    sum_of_lines(alloc, text)
+}
+
+#[test]
+fn lines(rt: HostRuntime) -> Result<(), Fail> {
+    assert_eq!(rt; sum_of_text(rt.alloc(), b"100\n20\n3".as_slice()), Ok(123));
+    assert_eq!(rt; sum_of_text(rt.alloc(), b"".as_slice()), Ok(0));
+    assert_eq!(rt;
+        sum_of_text(rt.alloc(), b"1\nfern\n2\n".as_slice()),
+        Err(LineFault::Number)
+    );
+    assert_eq!(rt;
+        sum_of_text(rt.alloc(), b"1\n\xff\n".as_slice()),
+        Err(LineFault::Read)
+    );
+    let broken = BufReader::new(rt.alloc(), Broken)?;
+    assert_eq!(rt; sum_of_lines(rt.alloc(), broken), Err(LineFault::Read));
     Ok(())
 }
 

@@ -33,6 +33,18 @@ fn lt_of(left: &[Result<f64, u32>], right: &[Result<f64, u32>]) -> (Result<bool,
     (answer, right.next())
 }
 
+// Whether the left one is greater, less or equal, and greater or equal.
+fn gt_le_ge_of(
+    left: &[Result<f64, u32>],
+    right: &[Result<f64, u32>],
+) -> (Result<bool, u32>, Result<bool, u32>, Result<bool, u32>) {
+    (
+        convert(left.iter().copied()).gt(convert(right.iter().copied())),
+        convert(left.iter().copied()).le(convert(right.iter().copied())),
+        convert(left.iter().copied()).ge(convert(right.iter().copied())),
+    )
+}
+
 // How the two compare, and what the next draw on the right answers.
 fn cmp_of(
     left: &[Result<u32, u32>],
@@ -68,6 +80,23 @@ fn cmp_of_an_empty_one_is_less_and_draws_the_right(rt: HostRuntime) {
 #[test]
 fn ge_of_two_without_items_is_true(rt: HostRuntime) {
     assert_eq!(rt; empty::<u32, ()>().ge(empty::<u32, ()>()), Ok(true));
+}
+
+#[test]
+fn the_first_unequal_items_say_what_is_greater_and_what_is_less(rt: HostRuntime) {
+    let (two, three) = ([Ok(1.0), Ok(2.0)], [Ok(1.0), Ok(3.0), Ok(0.0)]);
+    let greater = (Ok(true), Ok(false), Ok(true));
+    let less = (Ok(false), Ok(true), Ok(false));
+    let equal = (Ok(false), Ok(true), Ok(true));
+    assert_eq!(rt; gt_le_ge_of(&three, &two), greater);
+    assert_eq!(rt; gt_le_ge_of(&two, &three), less);
+    assert_eq!(rt; gt_le_ge_of(&two, &two), equal);
+    assert_eq!(rt; gt_le_ge_of(&[Ok(2.0)], &three), greater);
+    assert_eq!(rt; gt_le_ge_of(&[Ok(1.0)], &two), less);
+    assert_eq!(rt;
+        gt_le_ge_of(&[Ok(1.0), Err(4)], &two),
+        (Err(4), Err(4), Err(4))
+    );
 }
 
 #[test]

@@ -1,5 +1,5 @@
 // What is drawn from both ends, and what from behind.
-ghost use Rattle.std.specs.Prelude.{◌≡◌, ◌++◌, ◌∷◌, [], map, reverse, Some, Bool, List, Option, Result};
+ghost use Rattle.std.specs.Prelude.{◌≡◌, ◌↔◌, ◌++◌, ◌∷◌, [], map, reverse, Some, Bool, List, Option, Result};
 ghost use Rattle.fallible_contract.specs.declared.answers.Side.{Side};
 ghost use Rattle.fallible_contract.specs.declared.answers.Side.TheVariants.{Front, Back};
 ghost use Rattle.fallible_contract.specs.Traces.{Answered, Run, item};
@@ -15,6 +15,7 @@ ghost use Rattle.fallible_core.specs.OneToOne.MapErr.{MapErrTrace, map_err_parts
 ghost use Rattle.fallible_core.specs.Filtering.Filter.{FilterTrace, filter_parts};
 ghost use Rattle.fallible_core.specs.Filtering.FilterMap.{FilterMapTrace, filter_map_parts};
 ghost use Rattle.fallible_core.specs.Ends.Rev.{rev_parts};
+ghost use Rattle.fallible_iterator.specs.Listing.{ListsTheSame};
 
 use super::listed::{law_listed_filter, law_listed_map, law_listed_rev};
 use fallible_contract::folds::Is;
@@ -66,6 +67,14 @@ where
 pub fn law_rev<I: DoubleEndedFallibleIterator>()
     ensures front { MeetsHeld rev_parts ⟦<Rev<I> as FallibleIterator>⟧.contract.steps (Run I.ends.steps) }
     ensures back { MeetsHeld rev_parts ⟦<Rev<I> as DoubleEndedFallibleIterator>⟧.ends.steps (Run I.contract.steps) }
+{}
+
+/// A `Rev` of a `Rev` is its source: a trace of it from either end is one of its source from that end, draws of it from both ends, in any order, are draws of its source, and it lists just what its source lists.
+pub fn law_rev_rev<I: DoubleEndedFallibleIterator>()
+    ensures front { MeetsHeld (λ s. rev_parts (rev_parts s)) ⟦<Rev<Rev<I>> as FallibleIterator>⟧.contract.steps (Run I.contract.steps) }
+    ensures back { MeetsHeld (λ s. rev_parts (rev_parts s)) ⟦<Rev<Rev<I>> as DoubleEndedFallibleIterator>⟧.ends.steps (Run I.ends.steps) }
+    ensures both { (s : Rev (Rev I)) (drawn : List (Side × Answered I.Item I.Error)) (t : Rev (Rev I)) → Mix ⟦<Rev<Rev<I>> as FallibleIterator>⟧.contract.steps ⟦<Rev<Rev<I>> as DoubleEndedFallibleIterator>⟧.ends.steps s drawn t ↔ Mix I.contract.steps I.ends.steps (rev_parts (rev_parts s)) drawn (rev_parts (rev_parts t)) }
+    ensures lists { ListsTheSame (λ s. rev_parts (rev_parts s)) (Listed I.contract.steps I.ends.steps) (Listed ⟦<Rev<Rev<I>> as FallibleIterator>⟧.contract.steps ⟦<Rev<Rev<I>> as DoubleEndedFallibleIterator>⟧.ends.steps) }
 {}
 
 /// From behind the answers of `Map` are the source's from behind, with the closure's answer in each item's place.

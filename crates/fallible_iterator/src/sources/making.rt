@@ -17,7 +17,7 @@ use std::marker::PhantomData;
 
 /// Makes a fallible iterator of a std iterator over results. It draws nothing.
 ///
-/// It may be drawn from where the std iterator may be asked again after every answer, also after `None`, and a bound that it states doesn't rise there; from both ends, where that holds after every answer from either end. What it lists from behind is said by `rev` and by `law_back_convert`, which ask that the std iterator has two ends.
+/// It may be drawn from where the std iterator may be asked again after every answer, also after `None`, and a bound that it states doesn't rise there; from both ends, where that holds after every answer from either end. Of a std iterator that doesn't say so, as `lines` of a reader, std's `fuse` goes first: `convert(reader.lines(alloc).fuse())`. What it lists from behind is said by `rev` and by `law_back_convert`, which ask that the std iterator has two ends.
 pub fn convert<T, E, I: Iterator<Item = Result<T, E>>>(it: I) -> Convert<I>
     ensures parts { convert_parts result ≡ it }
     ensures results { (l : List (Result T E)) → RunsRead I.next_gives (λ y. y) it l → Lists (seen_as convert_parts (convert_contract I.can_next I.next_gives I.remaining)).steps result (results l) }

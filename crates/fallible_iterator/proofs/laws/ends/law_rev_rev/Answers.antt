@@ -1,0 +1,21 @@
+-- A draw of it is one of the innermost source from the same end.
+use Rattle.std.proofs.Common.{refl}
+use Rattle.fallible_contract.proofs.Lemmas.Definitions.{meets_held}
+use Rattle.fallible_contract.proofs.Lemmas.Listed.{listed_seen, listed_as_seen}
+use Rattle.fallible_iterator.proofs.Lemmas.Ends.{mixed_held}
+use Rattle.fallible_iterator.proofs.laws.ends.law_rev_rev.Goals as goal
+
+pub returns-clause-front : goal.returns-clause-front
+returns-clause-front g c = meets_held (λ u. u.it.it) (λ p. record { it = record { it = p } }) (λ s. refl) (λ p. refl) _ _ (λ p trace q. ((λ ran. ran), (λ ran. ran)))
+
+pub returns-clause-back : goal.returns-clause-back
+returns-clause-back g c = meets_held (λ u. u.it.it) (λ p. record { it = record { it = p } }) (λ s. refl) (λ p. refl) _ _ (λ p trace q. ((λ ran. ran), (λ ran. ran)))
+
+pub returns-clause-lists : goal.returns-clause-lists
+returns-clause-lists g c = λ s l. (
+  (λ i. listed_as_seen (λ u. u.it.it) _ _ (λ u r q step. (record { it = record { it = q } }, refl, step)) (λ u r q step. (record { it = record { it = q } }, refl, step)) i),
+  (λ i. listed_seen (λ u. u.it.it) i),
+)
+
+pub returns-clause-both : goal.returns-clause-both
+returns-clause-both g c = mixed_held (λ u. u.it.it) (λ p. record { it = record { it = p } }) (λ s. refl) (λ p. refl) _ _
