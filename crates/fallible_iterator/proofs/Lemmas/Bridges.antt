@@ -7,11 +7,11 @@ use Rattle.std.specs.List.{FoldsTo}
 use Rattle.std.proofs.Common.{refl, sym, ap, subst, ◌∙◌}
 use Rattle.fallible_contract.specs.declared.answers.Side.{Side}
 use Rattle.fallible_contract.specs.declared.answers.Side.TheVariants.{Front, Back}
-use Rattle.fallible_contract.specs.Traces.{Answered, Run, end}
-use Rattle.fallible_contract.specs.Contract.{Contract, Goes, Lawful, Stays}
-use Rattle.fallible_contract.specs.Ends.{Ends, LawfulEnds, from_front, from_back}
+use Rattle.fallible_contract.specs.Traces.{Answered, Run}
+use Rattle.fallible_contract.specs.Contract.{Contract, Lawful}
+use Rattle.fallible_contract.specs.Ends.{Ends, LawfulEnds, from_back}
 use Rattle.fallible_contract.specs.Listed.{Mix}
-use Rattle.fallible_contract.specs.Lists.{AlwaysGives, Lists, result_answer}
+use Rattle.fallible_contract.specs.Lists.{AlwaysGives, Lists}
 use Rattle.fallible_contract.specs.Laws.Contract.{stays_run}
 use Rattle.fallible_iterator.specs.Sources.Std.{std_step, element_by, IsAskable, IsAskableAtEnds}
 
