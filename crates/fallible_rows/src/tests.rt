@@ -323,7 +323,10 @@ fn rows_goes_on_after_a_row_that_is_no_number(rt: HostRuntime) -> Result<(), Fai
 fn rows_by_iterator_give_a_row_that_is_no_number_as_an_element(rt: HostRuntime) {
     let mut rows = Rows::new(b"1\nx\n3\n".as_slice()).iterator();
     let given = [rows.next(), rows.next(), rows.next(), rows.next()];
-    assert_eq!(rt; given, [Some(Ok(1)), Some(Err(RowFault::Row(2))), Some(Ok(3)), None]);
+    assert_eq!(rt;
+        given,
+        [Some(Ok(1)), Some(Err(RowFault::Row(2))), Some(Ok(3)), None]
+    );
 }
 
 #[test]
