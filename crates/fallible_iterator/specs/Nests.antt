@@ -7,29 +7,40 @@ use Rattle.fallible_contract.specs.Traces.{Answered, Run}
 use Rattle.fallible_core.specs.declared.cutting.take.Take.{Take}
 use Rattle.fallible_core.specs.declared.one_to_one.map.Map.{Map}
 use Rattle.fallible_core.specs.declared.filtering.filter.Filter.{Filter}
-use Rattle.fallible_core.specs.Cutting.Take.{TakeTrace}
-use Rattle.fallible_core.specs.OneToOne.Map.{MapTrace}
-use Rattle.fallible_core.specs.Filtering.Filter.{FilterTrace}
+use Rattle.fallible_core.specs.Cutting.Take.{TakeTrace, take_parts}
+use Rattle.fallible_core.specs.OneToOne.Map.{MapTrace, map_parts}
+use Rattle.fallible_core.specs.Filtering.Filter.{FilterTrace, filter_parts}
 use Rattle.fallible_iterator.specs.declared.sources.convert.Convert.{Convert}
-use Rattle.fallible_iterator.specs.Sources.Convert.{ConvertTrace}
+use Rattle.fallible_iterator.specs.Sources.Convert.{ConvertTrace, convert_parts}
 
 -- A list of answers as a source: a draw takes its first. An adapter's definition over these steps, from a list to the empty one, is what it makes of that list.
 abbrev pub first_of : {A E : Type 0} → List (Answered A E) → Answered A E → List (Answered A E) → Type 0
 first_of l r rest = l ≡ r ∷ rest
+
+-- the parts of the types within such a nest
+module _ {S P F : Type 0} where
+  abbrev pub map_of : Take (Map (Filter S P) F) → Filter S P × Option F
+  map_of s = map_parts (take_parts s).0
+
+  abbrev pub filter_of : Take (Map (Filter S P) F) → S × Option P
+  filter_of s = filter_parts (map_of s).0
+
+  abbrev pub source_of : Take (Map (Filter S P) F) → S
+  source_of s = (filter_of s).0
 
 -- A `Take` of a `Map` of a `Filter`: the draws of the source answered a list, the definition of `Filter` makes of that list what is kept, that of `Map` makes of this what is mapped, and that of `Take` makes of this the trace.
 pub record TakeMapFilterTrace {S P F X B E : Type 0} (steps : S → Answered X E → S → Type 0) (predicate : Mut P (Bor X × Unit {0}) (Result Bool E)) (closure : Mut F (X × Unit {0}) (Result B E)) (s : Take (Map (Filter S P) F)) (trace : List (Answered B E)) (t : Take (Map (Filter S P) F)) : Type 0 where
   pub source_trace : List (Answered X E)
   pub kept : List (Answered X E)
   pub mapped : List (Answered B E)
-  pub drawn : Run steps s.it.it.it source_trace t.it.it.it
-  pub filters : FilterTrace first_of predicate (source_trace, s.it.it.f) kept ([], t.it.it.f)
-  pub maps : MapTrace first_of closure (kept, s.it.f) mapped ([], t.it.f)
-  pub takes : TakeTrace first_of (mapped, s.left) trace ([], t.left)
+  pub drawn : Run steps (source_of s) source_trace (source_of t)
+  pub filters : FilterTrace first_of predicate (source_trace, (filter_of s).1) kept ([], (filter_of t).1)
+  pub maps : MapTrace first_of closure (kept, (map_of s).1) mapped ([], (map_of t).1)
+  pub takes : TakeTrace first_of (mapped, (take_parts s).1) trace ([], (take_parts t).1)
 
 -- A `Take` of a borrowed `Convert`: the calls of the std iterator gave a list, place by place, the definition of `Take` makes of that list the trace, and what is borrowed holds the std iterator after just those calls, behind the same reference.
 pub record TakeBorrowedTrace {S A E : Type 0} (can : S → Type 0) (gives : S → Option (Result A E) → S → Type 0) (remaining : S → Count) (s : Take (MutBor (Convert S))) (trace : List (Answered A E)) (t : Take (MutBor (Convert S))) : Type 0 where
   pub source_trace : List (Answered A E)
-  pub drawn : ConvertTrace can gives remaining s.it.now.it source_trace t.it.now.it
-  pub takes : TakeTrace first_of (source_trace, s.left) trace ([], t.left)
-  pub same_reference : t.it.ghost_name ≡ s.it.ghost_name
+  pub drawn : ConvertTrace can gives remaining (convert_parts (take_parts s).0.now) source_trace (convert_parts (take_parts t).0.now)
+  pub takes : TakeTrace first_of (source_trace, (take_parts s).1) trace ([], (take_parts t).1)
+  pub same_reference : (take_parts t).0.ghost_name ≡ (take_parts s).0.ghost_name
