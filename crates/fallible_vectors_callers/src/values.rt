@@ -179,6 +179,7 @@ fn readers(rt: HostRuntime) -> Result<(), Fail> {
     Ok(())
 }
 
+// The sum of the lines of a text.
 fn sum_of_text(alloc: Global, text: &[u8]) -> Result<u64, LineFault> {
     sum_of_lines(alloc, text)
 }
