@@ -1,9 +1,18 @@
 -- Comparisons of two iterators.
-use Rattle.std.specs.Prelude.{◌≡◌, List, [], ◌∷◌, ◌++◌, map, Bool, true, false, not, Option, Some, None, Result, Ok, Err}
+use Rattle.std.specs.Prelude.{◌≡◌, ◌⊎◌, List, [], ◌∷◌, ◌++◌, map, Bool, true, false, not, Option, Some, None, Result, Ok, Err}
 use Rattle.std.specs.declared.cmp.Ordering.{Ordering}
 use Rattle.std.specs.declared.cmp.Ordering.TheVariants.{Less, Equal, Greater}
 use Rattle.fallible_contract.specs.Traces.{Answered, Run, item}
+use Rattle.fallible_contract.specs.Contract.{Contract}
 use Rattle.fallible_contract.specs.Picking.{OfEach}
+
+-- One of two holds, and it is known which. It is `A ⊎ B`, with the way from each of the two at hand, so that a search goes either.
+abbrev pub OneOf : Type 0 → Type 0 → Type 0
+OneOf A B = (B → A ⊎ B) → (A → A ⊎ B) → A ⊎ B
+
+-- There is a number to come of one of the two sides: of the left, or of whatever the value given may become.
+abbrev pub OneHasEnd : {S O T A B E D : Type 0} → Contract S A E → (O → T → Type 0) → Contract T B D → S → O → Type 0
+OneHasEnd {T = T} left into right s other = OneOf (left.has_end s) ((t : T) → into other t → right.has_end t)
 
 -- A rule says how two items compare, or that they have no order. The rule of an order is its answer, and that of an equality knows equal items only.
 abbrev pub by_cmp : {A : Type 0} → (A → A → Ordering) → A → A → Option Ordering

@@ -10,15 +10,15 @@ use Rattle.fallible_contract.specs.Traces.{Answered, Run, Yields, item}
 pub record HoldsAtEachTurn {S A E C : Type 0} (steps : S → Answered A E → S → Type 0) (goes_on : C → A → C → Type 0) (P : C → A → Type 0) (s : S) (c : C) : Type 0 where
   pub at : (items : List A) (t u : S) (d : C) (x : A) → Yields steps s items t → FoldsTo goes_on c items d → steps t (item x) u → P d x
 
--- A closure is called on the value so far and an item, which it may know by another name of the item's type: `as_is` is that name.
-module _ {A T F B R : Type 0} (as_is : A → T) (g : Mut F (B × (T × Unit {0})) R) where
+-- A closure is called on the value so far and an item.
+module _ {A F B R : Type 0} (g : Mut F (B × (A × Unit {0})) R) where
   -- one call, which may answer r and leave the closure as f'
   abbrev pub call_with : F → B → A → R → F → Type 0
-  call_with f b x r f' = Called g f (b, (as_is x, tt)) r f'
+  call_with f b x r f' = Called g f (b, (x, tt)) r f'
 
   -- it may be called so
   abbrev pub takes_with : F → B → A → Type 0
-  takes_with f b x = Takes g f (b, (as_is x, tt))
+  takes_with f b x = Takes g f (b, (x, tt))
 
 module _ {A F B E' : Type 0} (call : F → B → A → Result B E' → F → Type 0) where
   -- one call of the closure on the value so far and an item, which went on

@@ -359,6 +359,14 @@ pick_of keeps h (Some best) x = on_value (h best x) (λ o. Ok (Some (better keep
 unfoldable pub best_by : {A E : Type 0} → Ordering → (A → A → Result Ordering E) → List (Result A E) → Result (Option A) E
 best_by keeps h l = folded (λ e. e) (pick_of keeps h) None l
 
+-- the greatest of the items by their order, of equal ones the last, and none of no items; or the first failure
+unfoldable pub greatest : {A E : Type 0} → (A → A → Ordering) → List (Result A E) → Result (Option A) E
+greatest cmp l = best_by Greater (λ x y. Ok (cmp x y)) l
+
+-- the least of the items by their order, of equal ones the last, and none of no items; or the first failure
+unfoldable pub least : {A E : Type 0} → (A → A → Ordering) → List (Result A E) → Result (Option A) E
+least cmp l = best_by Less (λ x y. Ok (cmp x y)) l
+
 -- the better of the best so far and an item, by the key that h makes of it
 abbrev pub key_of : {A E K : Type 0} → Ordering → (K → K → Ordering) → (A → Result K E) → Option (K × A) → A → Result (Option (K × A)) E
 key_of keeps cmp h best x = on_value (h x) (λ k. Ok (Some (better_key keeps cmp best (k, x))))

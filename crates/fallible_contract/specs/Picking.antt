@@ -1,11 +1,12 @@
 -- The best of the items, by an order of the items, by a closure that compares two, or by a key.
-use Rattle.std.specs.Prelude.{◌≡◌, List, [], ◌∷◌, ◌++◌, map, Bool, true, false, cond, Option, Some, None, Result, Ok, Err, ⊤}
+use Rattle.std.specs.Prelude.{◌≡◌, List, [], ◌∷◌, ◌++◌, map, drop, Bool, true, false, cond, Option, Some, None, IsSomeAnd, Result, Ok, Err, ⊤}
 use Rattle.std.specs.declared.cmp.Ordering.{Ordering}
 use Rattle.std.specs.declared.cmp.Ordering.TheVariants.{Less, Equal, Greater}
-use Rattle.std.specs.List.{FoldsTo}
+use Rattle.std.specs.List.{FoldsTo, last_or, zip}
 use Rattle.std.specs.Fn.{CalledAtTwo, TakesAtTwo, Mut}
 use Rattle.std.specs.Borrow.{Bor}
 use Rattle.fallible_contract.specs.Traces.{Answered, Run, item}
+use Rattle.fallible_contract.specs.Closures.{Calls}
 use Rattle.fallible_contract.specs.Folds.{Folded}
 
 -- whether two orderings are the same
@@ -41,10 +42,43 @@ module _ {A E F : Type 0} (keeps : Ordering) (call : F → A → A → Result Or
   PickCall f (Some best) x (Ok b) g = (o : Ordering) × call f best x (Ok o) g × (b ≡ Some (better keeps o best x))
   PickCall f (Some best) x (Err e) g = call f best x (Err e) g
 
--- The draws answered items, over which the best so far was carried, from none on, and then an end or a failure; or the closure failed on the last item. The result is the best, none of no items, or that failure.
-pub record Picked {S A E F : Type 0} (keeps : Ordering) (call : F → A → A → Result Ordering E → F → Type 0) (steps : S → Answered A E → S → Type 0) (s : S) (f : F) (r : Result (Option A) E) : Type 0 where
+-- The result is that of a fold that carries the best so far, from none on.
+pub record PickedByFold {S A E F : Type 0} (keeps : Ordering) (call : F → A → A → Result Ordering E → F → Type 0) (steps : S → Answered A E → S → Type 0) (s : S) (f : F) (r : Result (Option A) E) : Type 0 where
   pub left : S
   pub folded : Folded steps (PickCall keeps call) (λ e d. d ≡ e) s None f r left
+
+module _ {A : Type 0} (keeps : Ordering) where
+  -- From a best on, there is an order for each of these items, and each next best is the one before it, where the order beside the next item is `keeps`, else that item.
+  abbrev pub NextBests : A → List A → List Ordering → List A → Type 0
+  NextBests best [] [] bests = bests ≡ []
+  NextBests best (x ∷ items) (o ∷ orders) (next ∷ bests) = (next ≡ better keeps o best x) × NextBests next items orders bests
+  NextBests best items orders bests = ⊥
+
+  -- The first best is the first item, and there is a best for each item.
+  abbrev pub Bests : List A → List Ordering → List A → Type 0
+  Bests [] orders bests = (orders ≡ []) × (bests ≡ [])
+  Bests (x ∷ items) orders [] = ⊥
+  Bests (x ∷ items) orders (best ∷ bests) = (best ≡ x) × NextBests best items orders bests
+
+module _ {A E F : Type 0} (call : F → A → A → Result Ordering E → F → Type 0) where
+  -- At an end the result is the last best, and none of no items; at a failure it is that failure, and at an item that of the closure on the last best and the item.
+  abbrev pub PickExit : List A → F → Answered A E → Result (Option A) E → Type 0
+  PickExit bests f (Ok None) r = r ≡ Ok (last_or None bests)
+  PickExit bests f (Err e) r = r ≡ Err e
+  PickExit bests f (Ok (Some x)) r = IsSomeAnd (last_or None bests) (λ best. (e : E) × (g : F) × call f best x (Err e) g × (r ≡ Err e))
+
+-- The draws answered items and a last answer. The closure was called in order on the best up to each item and the item after that one, and answered the orders, by which the bests go on. The last answer decides the result.
+pub record Picked {S A E F : Type 0} (keeps : Ordering) (call : F → A → A → Result Ordering E → F → Type 0) (steps : S → Answered A E → S → Type 0) (s : S) (f : F) (r : Result (Option A) E) : Type 0 where
+  pub items : List A
+  pub orders : List Ordering
+  pub bests : List A
+  pub last : Answered A E
+  pub closure : F
+  pub left : S
+  pub ran : Run steps s (map item items ++ last ∷ []) left
+  pub are : Bests keeps items orders bests
+  pub called : Calls (λ g p o h. call g p.0 p.1 (Ok o) h) f (zip (zip bests (drop 1 items)) orders) closure
+  pub exit : PickExit call bests closure last r
 
 -- the closure may be called on the best so far, where there is one, and the next item
 abbrev pub takes_in_pick : {A F : Type 0} → (F → A → A → Type 0) → F → Option A → A → Type 0

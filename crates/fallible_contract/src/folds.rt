@@ -5,7 +5,6 @@ ghost use Rattle.fallible_contract.specs.Folding.{TurnedBy, handed};
 ghost use Rattle.fallible_contract.specs.Folds.{unpacked, ValueAt, FoldedAt, FoldTurn, ReachTurn, reached_at, call_with, takes_with};
 
 use std::convert::Infallible;
-use std::marker::PhantomData;
 
 /// How a fold ended that carries a value: at the source's end or at a failure of the source, with the value carried, or where a turn stopped it, with what that turn handed back.
 #[derive(Drop)]
@@ -71,24 +70,6 @@ pub fn unpack<C, T, E>(exit: Exit<C, E, (C, Result<T, E>)>) -> (C, Result<Option
     }
 }
 
-/// Held by every type of itself, and by nothing here of another type: `T` is `Self` by another name. `try_fold` and `fold` take their closure's item by such a name, so that a type whose item is a concrete type may override them.
-pub trait Is<T> {
-    // The value under the other name.
-    ghost as_is: { Self → T };
-
-    /// The value itself.
-    fn this(self) -> T
-        ensures { result ≡ as_is self };
-}
-
-impl<T> Is<T> for T {
-    ghost as_is = { λ x. x };
-
-    fn this(self) -> T {
-        self
-    }
-}
-
 /// The turn of `count`: it carries the number of items.
 #[derive(Drop)]
 pub struct Counting;
@@ -119,22 +100,19 @@ impl<A: Drop> Turn<Option<A>, A, Infallible> for KeepingLast {
     }
 }
 
-/// The turn of `try_fold`: it carries the value so far and the closure. `T` is the type of the items, as the closure names it.
+/// The turn of `try_fold`: it carries the value so far and the closure.
 #[derive(Drop)]
-pub struct Folding<T> {
-    /// the name of the items' type
-    pub marker: PhantomData<T>,
-}
+pub struct Folding;
 
-impl<T, A: Is<T>, B, E, F: FnMut(B, T) -> Result<B, E>> Turn<(B, F), A, E> for Folding<T> {
-    ghost can_turn = { λ _ p x. takes_with A.as_is F.FnMut p.1 p.0 x };
+impl<A, B, E, F: FnMut(B, A) -> Result<B, E>> Turn<(B, F), A, E> for Folding {
+    ghost can_turn = { λ _ p x. takes_with F.FnMut p.1 p.0 x };
 
-    ghost turns = { λ _ p x r. FoldTurn (call_with A.as_is F.FnMut) p x r };
+    ghost turns = { λ _ p x r. FoldTurn (call_with F.FnMut) p x r };
 
     /// The closure's answer on the value so far and the item.
     fn turn(&self, carried: (B, F), item: A) -> Result<(B, F), E> {
         let (value, mut f) = carried;
-        match f(value, item.this()) {
+        match f(value, item) {
             Ok(value) => Ok((value, f)),
             Err(e) => Err(e),
         }

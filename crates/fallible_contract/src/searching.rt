@@ -1,5 +1,5 @@
 //! Searches: the turns of the folds that they are, the test of one that carries a value, and what a search makes of its fold.
-ghost use Rattle.std.specs.Prelude.{◌≡◌, ◌-◌, ◌^◌, ◌<◌, Bool, Result};
+ghost use Rattle.std.specs.Prelude.{◌≡◌, ◌-◌, ◌^◌, ◌<◌, Bool, Result, None};
 ghost use Rattle.std.specs.Borrow.{Bor};
 ghost use Rattle.fallible_contract.specs.Closures.{call_on, takes_on, call_at, takes_at};
 ghost use Rattle.fallible_contract.specs.Searching.{FindTurn, SearchTurn, PlacedTurn, answer_by, all_pick, any_pick, find_map_pick, position_pick, each_pick};
@@ -12,6 +12,17 @@ pub fn answer_at<C: Drop, R: Drop, E>(exit: Exit<C, E, Result<R, E>>, none: R) -
 {
     match exit {
         Exit::Ended(_) => Ok(none),
+        Exit::Failed(_, e) => Err(e),
+        Exit::Stopped(answer) => answer,
+    }
+}
+
+/// What a search for a value answers, by how its fold ended: none at the end, the source's failure, or what the fold stopped with.
+pub fn found_at<C: Drop, R, E>(exit: Exit<C, E, Result<Option<R>, E>>) -> Result<Option<R>, E>
+    ensures { result ≡ answer_by None exit }
+{
+    match exit {
+        Exit::Ended(_) => Ok(None),
         Exit::Failed(_, e) => Err(e),
         Exit::Stopped(answer) => answer,
     }
@@ -144,7 +155,7 @@ impl<A, E, F: FnMut(A) -> Result<bool, E>> Turn<F, A, Result<bool, E>> for Seeki
 #[derive(Drop)]
 pub struct FindingMapped;
 
-impl<A, B: Drop, E, F: FnMut(A) -> Result<Option<B>, E>> Turn<F, A, Result<Option<B>, E>>
+impl<A, B, E, F: FnMut(A) -> Result<Option<B>, E>> Turn<F, A, Result<Option<B>, E>>
     for FindingMapped {
     ghost can_turn = { λ _ f x. takes_on F.FnMut f x };
 

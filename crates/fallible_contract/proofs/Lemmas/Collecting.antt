@@ -1,4 +1,5 @@
 -- What a fold makes that carries a collection, and `collect` by it.
+pub mod Keyed
 use Rattle.std.specs.Prelude.{◌≡◌, List, [], ◌∷◌, ◌++◌, map, Result, Some, None, Ok, Err}
 use Rattle.std.specs.List.{FoldsTo}
 use Rattle.std.specs.declared.alloc.AllocError.{AllocError}

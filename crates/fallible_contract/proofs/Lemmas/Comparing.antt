@@ -1,11 +1,11 @@
 -- Comparisons, one round at a time.
-use Rattle.std.specs.Prelude.{◌≡◌, ℕ, ◌+◌, ◌≤◌, ◌<◌, ◌⊎◌, [], ◌∷◌, Option, Some, None, Result, Ok, Err}
+use Rattle.std.specs.Prelude.{◌≡◌, ◌↔◌, ℕ, ◌+◌, ◌≤◌, ◌<◌, ◌⊎◌, [], ◌∷◌, Option, Some, None, Result, Ok, Err}
 use Rattle.std.specs.declared.cmp.Ordering.{Ordering}
 use Rattle.std.specs.declared.cmp.Ordering.TheVariants.{Less, Equal, Greater}
 use Rattle.std.proofs.Common.{refl, sym, ap, subst, ◌∙◌, arith, inl, inr}
 use Rattle.fallible_contract.specs.Traces.{Answered, item}
 use Rattle.fallible_contract.specs.Contract.{Contract, Fewer}
-use Rattle.fallible_contract.specs.Comparing.{LastRound, Compared, ComparedWith, by_cmp, unless_equal, decided}
+use Rattle.fallible_contract.specs.Comparing.{OneOf, LastRound, Compared, ComparedWith, by_cmp, unless_equal, decided}
 
 module _ {S T A E : Type 0} {rule : A → A → Option Ordering} {left-steps : S → Answered A E → S → Type 0} {right-steps : T → Answered A E → T → Type 0} {s : S} {t : T} where
   -- a round of two equal items, and then the rest
@@ -90,10 +90,13 @@ module _ {S T A B E D : Type 0} (m : Contract S A E) (o : Contract T B D) where
   either_begins s t k (inl b) = inl (k, b, omega arith)
   either_begins s t k (inr b) = inr (k, b, omega arith)
 
+-- what says that one of two holds is a sum of the two, and the other way round
+pub either_of : {P Q : Type 0} → OneOf P Q ↔ (P ⊎ Q)
+either_of = (λ one. one inr inl, λ either right left. either)
+
 -- where the left has an end, or each right that is allowed has one, one of the two has
-pub end_of_either : {P T : Type 0} (allowed : T → Type 0) (ends : T → Type 0) (t : T) → allowed t → P ⊎ ((u : T) → allowed u → ends u) → P ⊎ ends t
-end_of_either allowed ends t h (inl e) = inl e
-end_of_either allowed ends t h (inr e) = inr (e t h)
+pub end_of_either : {P T : Type 0} (allowed : T → Type 0) (ends : T → Type 0) (t : T) → allowed t → OneOf P ((u : T) → allowed u → ends u) → P ⊎ ends t
+end_of_either {P} {T} allowed ends t h one = elim (either_of.0 one) as (λ _. P ⊎ ends t) [ inl e ↦ inl e | inr e ↦ inr (e t h) ]
 
 -- a comparison by an order finds one
 pub never_none : {S T A E : Type 0} (cmp : A → A → Ordering) {left-steps : S → Answered A E → S → Type 0} {right-steps : T → Answered A E → T → Type 0} {s : S} {t : T} {r : Result (Option Ordering) E} → Compared (by_cmp cmp) left-steps right-steps s t r → ¬ (r ≡ Ok None)

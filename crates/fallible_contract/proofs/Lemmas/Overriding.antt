@@ -5,7 +5,7 @@ use Rattle.std.proofs.Common.{refl, sym, subst}
 use Rattle.fallible_contract.specs.declared.folds.Exit.{Exit}
 use Rattle.fallible_contract.specs.Traces.{Answered, Yields, item}
 use Rattle.fallible_contract.specs.Contract.{Contract, Stays, seen_as}
-use Rattle.fallible_contract.specs.Folds.{HoldsAtEachTurn, Carried, Counted, Folded, LastOf, Nth}
+use Rattle.fallible_contract.specs.Folds.{HoldsAtEachTurn, Carried, Counted, LastOf, Nth}
 use Rattle.fallible_contract.specs.Searching.{Searched}
 
 module _ {S P : Type 0} (view : S → P) (put : S → P → S) (viewed : (s : S) (p : P) → view (put s p) ≡ p) where
@@ -29,9 +29,6 @@ module _ {S P : Type 0} (view : S → P) (put : S → P → S) (viewed : (s : S)
     }
 
     -- a fold over the held value is one over the whole
-    pub folded_held : {B E' F : Type 0} {call : F → B → A → Result B E' → F → Type 0} {from : E → E' → Type 0} {t : S} {b : B} {f : F} {r : Result B E'} → Folded m.steps call from (view s) b f r (view t) → Folded (seen_as view m).steps call from s b f r t
-    folded_held {t} h = record { items = h.items; last = h.last; value = h.value; closure = h.closure; ran = run_up m.steps (map item h.items) h.last s t h.ran; went = h.went; exit = h.exit }
-
     pub carried_held : {C R : Type 0} {turns : C → A → Result C R → Type 0} {t : S} {c : C} {r : Exit C E R} → Carried m.steps turns (view s) c r (view t) → Carried (seen_as view m).steps turns s c r t
     carried_held {t = t} h = record { items = h.items; last = h.last; carried = h.carried; ran = run_up m.steps (map item h.items) h.last s t h.ran; went = h.went; exit = h.exit }
 

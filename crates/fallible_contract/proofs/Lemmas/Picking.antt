@@ -1,15 +1,16 @@
 -- The best of the items by a fold that keeps the best so far.
-use Rattle.std.specs.Prelude.{◌≡◌, List, [], ◌∷◌, ◌++◌, map, Bool, true, false, cond, Option, Some, None, Result, Ok, Err}
-use Rattle.std.specs.List.{FoldsTo}
+use Rattle.std.specs.Prelude.{◌≡◌, List, [], ◌∷◌, ◌++◌, map, drop, Bool, true, false, cond, Option, Some, None, IsSomeAnd, Result, Ok, Err}
+use Rattle.std.specs.List.{FoldsTo, last_or, zip}
 use Rattle.std.specs.Cmp.{IsTotalOrder, upto}
 use Rattle.std.specs.declared.cmp.Ordering.{Ordering}
 use Rattle.std.specs.declared.cmp.Ordering.TheVariants.{Less, Equal, Greater}
 use Rattle.std.specs.Ordering.{ordering_reverse, is_gt}
 use Rattle.std.proofs.Common.{refl, sym, ap, subst, ◌∙◌, append_assoc, append-nil}
 use Rattle.fallible_contract.specs.Traces.{Answered, Run, item}
+use Rattle.fallible_contract.specs.Closures.{Calls}
 use Rattle.fallible_contract.specs.Folds.{fold_turn, FoldExit, Folded}
-use Rattle.fallible_contract.specs.Lists.{Lists, Acts, ActsWith, on_value, pick_of, best_by, key_of, best_by_key}
-use Rattle.fallible_contract.specs.Picking.{same_order, better, better_key, PickCall, KeyCall, item_of, OfEach, IsLastBest, IsBestOf, BestExit, Best, KeyExit, BestByKey, Picked}
+use Rattle.fallible_contract.specs.Lists.{Lists, Acts, ActsWith, on_value, pick_of, best_by, greatest, least, key_of, best_by_key}
+use Rattle.fallible_contract.specs.Picking.{same_order, better, better_key, PickCall, KeyCall, item_of, OfEach, IsLastBest, IsBestOf, BestExit, Best, KeyExit, BestByKey, NextBests, Bests, PickExit, PickedByFold, Picked}
 use Rattle.fallible_contract.proofs.Lemmas.Lists.Drawn.{folded_is}
 
 -- `keeps` is `Greater` or `Less`
@@ -155,11 +156,65 @@ module _ {A E F K : Type 0} (keeps : Ordering) (cmp : K → K → Ordering) (cal
   unfolding best_by_key
   best_by_key_is {from = from} same l c is i = is ∙ ap item_of (folded_is (KeyCall keeps cmp call) from (λ e. e) (key_of keeps cmp h) f key_acts same l c i)
 
+-- ---- by a closure that compares two, as a list of bests
+
+module _ {A E F : Type 0} (keeps : Ordering) (call : F → A → A → Result Ordering E → F → Type 0) where
+  -- what the closure answered on the items after a best, and the bests that follow
+  record PickedFrom (f : F) (best : A) (items : List A) (v : Option A) (g : F) : Type 0 where
+    orders : List Ordering
+    bests : List A
+    are : NextBests keeps best items orders bests
+    called : Calls (λ h p o j. call h p.0 p.1 (Ok o) j) f (zip (zip (best ∷ bests) items) orders) g
+    at_last : v ≡ last_or (Some best) bests
+
+  picked_from : (items : List A) (best : A) (p : Option A × F) (v : Option A) (g : F) → p.0 ≡ Some best → FoldsTo {P = Option A × F} (fold_turn (PickCall keeps call)) p items (v, g) → PickedFrom p.1 best items v g
+  picked_from [] best p v g at w = record { orders = []; bests = []; are = refl; called = ap (λ q. q.1) w; at_last = sym (ap (λ q. q.0) w) ∙ at }
+  picked_from (x ∷ items) best p v g at w =
+      let turn : PickCall keeps call p.1 (Some best) x (Ok w.0.0) w.0.1 = subst (λ (u : Option A). PickCall keeps call p.1 u x (Ok w.0.0) w.0.1) at w.1 in
+      let rest = picked_from items (better keeps turn.0 best x) w.0 v g turn.2 w.2 in
+      record { orders = turn.0 ∷ rest.orders; bests = better keeps turn.0 best x ∷ rest.bests; are = (refl, rest.are); called = (w.0.1, turn.1, rest.called); at_last = rest.at_last }
+
+  -- the bests of all items
+  record PickedOf (f : F) (items : List A) (v : Option A) (g : F) : Type 0 where
+    orders : List Ordering
+    bests : List A
+    are : Bests keeps items orders bests
+    called : Calls (λ h p o j. call h p.0 p.1 (Ok o) j) f (zip (zip bests (drop 1 items)) orders) g
+    at_last : v ≡ last_or None bests
+
+  picked_items : (items : List A) (f : F) (v : Option A) (g : F) → FoldsTo {P = Option A × F} (fold_turn (PickCall keeps call)) (None, f) items (v, g) → PickedOf f items v g
+  picked_items [] f v g w = record { orders = []; bests = []; are = (refl, refl); called = ap (λ q. q.1) w; at_last = sym (ap (λ q. q.0) w) }
+  picked_items (x ∷ items) f v g w =
+      let rest = picked_from items x w.0 v g (let e = w.1.0 in cc) w.2 in
+      record { orders = rest.orders; bests = x ∷ rest.bests; are = (refl, rest.are); called = subst (λ (h : F). Calls (λ i p o j. call i p.0 p.1 (Ok o) j) h (zip (zip (x ∷ rest.bests) items) rest.orders) g) w.1.1 rest.called; at_last = rest.at_last }
+
+  pick_exit : (bests : List A) (v : Option A) (g : F) (last : Answered A E) (r : Result (Option A) E) → v ≡ last_or None bests → FoldExit (PickCall keeps call) (λ e d. d ≡ e) v g last r → PickExit call bests g last r
+  pick_exit bests v g (Ok None) r at exit = exit ∙ ap (λ (u : Option A). Ok u) at
+  pick_exit bests v g (Err e) r at exit = exit.2 ∙ ap (λ d. Err d) exit.1
+  pick_exit bests None g (Ok (Some x)) r at exit = absurd (let e = exit.2.0 in cc)
+  pick_exit bests (Some best) g (Ok (Some x)) r at exit = subst (λ (u : Option A). IsSomeAnd u (λ b. (e : E) × (j : F) × call g b x (Err e) j × (r ≡ Err e))) at (exit.1, exit.0, exit.2, exit.3)
+
+  -- a fold that keeps the better of two by the closure goes through the bests
+  pub picked_of : {S : Type 0} {steps : S → Answered A E → S → Type 0} {s : S} {f : F} {r : Result (Option A) E} → PickedByFold keeps call steps s f r → Picked keeps call steps s f r
+  picked_of {f = f} {r = r} h =
+      let by = h.folded in
+      let a = picked_items by.items f by.value by.closure by.went in
+      record { items = by.items; orders = a.orders; bests = a.bests; last = by.last; closure = by.closure; left = h.left; ran = by.ran; are = a.are; called = a.called; exit = pick_exit a.bests by.value by.closure by.last r a.at_last by.exit }
+
 -- ---- by the order of the items
 
-module _ {S A E F : Type 0} {steps : S → Answered A E → S → Type 0} {call : F → A → A → Result Ordering E → F → Type 0} {s : S} {f : F} {keeps : Ordering} {r : Result (Option A) E} (cmp : A → A → Ordering) (h : Picked keeps call steps s f r) where
+module _ {S A E F : Type 0} {keeps : Ordering} {call : F → A → A → Result Ordering E → F → Type 0} {steps : S → Answered A E → S → Type 0} {s : S} {f : F} {r : Result (Option A) E} (cmp : A → A → Ordering) (h : PickedByFold keeps call steps s f r) where
   pub best_by_order : IsTotalOrder cmp → Keeps keeps → ((g : F) (x y : A) (q : Result Ordering E) (j : F) → call g x y q j → q ≡ Ok (cmp x y)) → Best keeps cmp steps s r
   best_by_order o k acts = best_of o keeps k acts (λ e d j. j) h.folded
 
   pub best_by_order_is : (l : List (Result A E)) → ActsWith call f (λ x y. Ok (cmp x y)) → Lists steps s l → r ≡ best_by keeps (λ x y. Ok (cmp x y)) l
   best_by_order_is l acts i = best_by_is keeps call (λ x y. Ok (cmp x y)) acts (λ e d j. j) l h.folded i
+
+-- the words for the best by an order
+pub greatest_is : {A E : Type 0} (cmp : A → A → Ordering) (l : List (Result A E)) (r : Result (Option A) E) → r ≡ best_by Greater (λ x y. Ok (cmp x y)) l → r ≡ greatest cmp l
+unfolding greatest
+greatest_is cmp l r e = e
+
+pub least_is : {A E : Type 0} (cmp : A → A → Ordering) (l : List (Result A E)) (r : Result (Option A) E) → r ≡ best_by Less (λ x y. Ok (cmp x y)) l → r ≡ least cmp l
+unfolding least
+least_is cmp l r e = e

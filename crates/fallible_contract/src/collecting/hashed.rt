@@ -2,15 +2,16 @@
 ghost use Rattle.std.specs.Prelude.{◌≡◌, false, None, List};
 ghost use Rattle.std.specs.HashSet as bag;
 ghost use Rattle.std.specs.HashMap as hash;
+ghost use Rattle.fallible_contract.specs.Collecting.Keyed.{IsHashedSetOf, IsHashedMapOf};
 
 use crate::collecting::Collect;
 use std::alloc::{AllocError, Global};
 use std::collections::{HashMap, HashSet};
 use std::hash::Hash;
 
-// The items; `insert` chooses which of equal ones stays. Only a new one may be refused, where no room is spare.
+// The items, of equal ones the first. Only a new one may be refused, where no room is spare.
 impl<K: Eq + Hash + Drop> Collect<K> for HashSet<K> {
-    ghost made = { λ items s. bag.IsFromIterResult K.eq items s };
+    ghost made = { λ items s. IsHashedSetOf K.eq items s };
 
     ghost empty_refuses = { ⊥ };
 
@@ -28,9 +29,9 @@ impl<K: Eq + Hash + Drop> Collect<K> for HashSet<K> {
     }
 }
 
-// Each key with its last value. Only a new key may be refused, where no room is spare.
+// The keys, of equal ones the first, and each with its last value. Only a new key may be refused, where no room is spare.
 impl<K: Eq + Hash + Drop, V: Drop> Collect<(K, V)> for HashMap<K, V> {
-    ghost made = { λ items m. hash.IsFromIterResult K.eq items m };
+    ghost made = { λ items m. IsHashedMapOf K.eq items m };
 
     ghost empty_refuses = { ⊥ };
 

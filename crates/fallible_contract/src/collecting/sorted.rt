@@ -2,14 +2,15 @@
 ghost use Rattle.std.specs.Prelude.{◌≡◌, false, None, List};
 ghost use Rattle.std.specs.BTreeSet as sorted;
 ghost use Rattle.std.specs.BTreeMap as tree;
+ghost use Rattle.fallible_contract.specs.Collecting.Keyed.{IsSortedSetOf, IsSortedMapOf};
 
 use crate::collecting::Collect;
 use std::alloc::{AllocError, Global};
 use std::collections::{BTreeMap, BTreeSet};
 
-// The items, in order; `insert` chooses which of equal ones stays. Only a new one may be refused.
+// The items, in order, of equal ones the first. Only a new one may be refused.
 impl<K: Ord + Drop> Collect<K> for BTreeSet<K> {
-    ghost made = { λ items s. sorted.IsFromIterResult K.cmp items s };
+    ghost made = { λ items s. IsSortedSetOf K.cmp items s };
 
     ghost empty_refuses = { ⊥ };
 
@@ -27,9 +28,9 @@ impl<K: Ord + Drop> Collect<K> for BTreeSet<K> {
     }
 }
 
-// Each key with its last value, in the order of the keys. Only a new key may be refused.
+// The keys, in order, of equal ones the first, and each with its last value. Only a new key may be refused.
 impl<K: Ord + Drop, V: Drop> Collect<(K, V)> for BTreeMap<K, V> {
-    ghost made = { λ items m. tree.IsFromIterResult K.cmp items m };
+    ghost made = { λ items m. IsSortedMapOf K.cmp items m };
 
     ghost empty_refuses = { ⊥ };
 
