@@ -3,7 +3,7 @@ ghost use Rattle.std.specs.Prelude.{◌≡◌, Option, Result, None};
 ghost use Rattle.std.specs.declared.cmp.Ordering.{Ordering};
 ghost use Rattle.fallible_contract.specs.Closures.{call_at, takes_at};
 ghost use Rattle.fallible_contract.specs.Folds.{CallableInFold, Folded};
-ghost use Rattle.fallible_contract.specs.Picking.{call_at_two, takes_at_two, PickCall, takes_in_pick, Picked, KeyCall};
+ghost use Rattle.fallible_contract.specs.Picking.{call_at_two, takes_at_two, PickCall, PickedByFold, takes_in_pick, KeyCall};
 
 use crate::traits::FallibleIterator;
 use fallible_contract::folds::Exit;
@@ -19,7 +19,7 @@ where
     requires can { I.contract.can it }
     requires finite { I.contract.has_end it }
     requires callable { CallableInFold I.contract.steps (PickCall keeps (call_at_two F.FnMut)) (takes_in_pick (takes_at_two F.FnMut)) it f None }
-    ensures { Picked keeps (call_at_two F.FnMut) I.contract.steps it f result }
+    ensures { PickedByFold keeps (call_at_two F.FnMut) I.contract.steps it f result }
 {
     let mut it = it;
     match it.try_fold_carrying((None, f), &KeepingBest { keeps }) {

@@ -29,8 +29,8 @@ ghost use Rattle.fallible_core.specs.Peeking.Peekable.{peekable_parts, peekable_
 ghost use Rattle.fallible_core.specs.Joining.Cycle.{cycle_parts};
 ghost use Rattle.fallible_core.specs.declared.joining.chain.StillDrawn.TheVariants.{Both};
 ghost use Rattle.fallible_contract.specs.Collecting.{Collects, PushTurn, Asks, PartTurn, Partitions, MadeOfParts, PairRefused, PairTurn};
-ghost use Rattle.fallible_contract.specs.Lists.{items, Lists, Acts, Repeats, repeated, EachLists, flattened, mapped, filtered, taken, counted, filter_mapped, inspected, ActsWithState, scanned, skipped_while, taken_while, numbered, failures_mapped, pointed_to, CollectedAs, chained, skipped, stepped, zipped, NoFailureAtEnd, nth_of, folded, ActsWith, Converts, all_of, any_of, find_mapped, found, last_of, PartedAs, UnzippedAs, position_in, each_done, best_by, best_by_key, compared};
-ghost use Rattle.fallible_contract.specs.Comparing.{by_cmp, by_eq, read_as, reads_eq, reads_ne, reads_lt, reads_le, reads_gt, reads_ge, ComparedWith, ReadWith};
+ghost use Rattle.fallible_contract.specs.Lists.{items, Lists, Acts, Repeats, repeated, EachLists, flattened, mapped, filtered, taken, counted, filter_mapped, inspected, ActsWithState, scanned, skipped_while, taken_while, numbered, failures_mapped, pointed_to, CollectedAs, chained, skipped, stepped, zipped, NoFailureAtEnd, nth_of, folded, ActsWith, Converts, all_of, any_of, find_mapped, found, last_of, PartedAs, UnzippedAs, position_in, each_done, best_by, greatest, least, best_by_key, compared};
+ghost use Rattle.fallible_contract.specs.Comparing.{OneHasEnd, by_cmp, by_eq, read_as, reads_eq, reads_ne, reads_lt, reads_le, reads_gt, reads_ge, ComparedWith, ReadWith};
 ghost use Rattle.std.specs.declared.cmp.Ordering.{Ordering};
 ghost use Rattle.std.specs.declared.cmp.Ordering.TheVariants.{Less, Greater};
 ghost use Rattle.fallible_contract.specs.Picking.{call_at_two, takes_at_two, PickCall, takes_in_pick, Picked, KeyCall, Best, BestByKey};
@@ -59,11 +59,12 @@ use fallible_contract::comparing::{
     ByCmp, ByEq, ByPartialCmp, ordered, read_eq, read_ge, read_gt, read_le, read_lt, read_ne,
 };
 use fallible_contract::folds::{
-    Counting, Exit, Folding, Is, KeepingLast, Turn, folded_at, unpack, value_at,
+    Counting, Exit, Folding, KeepingLast, Turn, folded_at, unpack, value_at,
 };
 use fallible_contract::picking::without_key;
 use fallible_contract::searching::{
-    Asking, CallingEach, Finding, FindingMapped, Placing, RequiringAll, SeekingAny, Test, answer_at,
+    Asking, CallingEach, Finding, FindingMapped, Placing, RequiringAll, SeekingAny, Test,
+    answer_at, found_at,
 };
 use std::alloc::{AllocError, Global};
 use std::cmp::Ordering;
@@ -98,7 +99,7 @@ pub trait FallibleIterator: Drop + Sized {
     ///
     /// `let mut left = it.number();` before the loop, `left = left.one_less();` after each item, and `left.value` as the measure: the invariant is that the iterator may be drawn from, and that some number to come of it is at most `left.value`.
     fn number(&self) -> Number
-        requires { (n : ℕ) × contract.to_come self.now n }
+        requires { contract.has_end self.now }
         ensures { contract.to_come self.now result.value }
     {
         Number {
@@ -183,39 +184,32 @@ pub trait FallibleIterator: Drop + Sized {
 
     /// Calls the closure on the value so far and each item in order. At the end it answers the last value; at a failure that failure, converted; where the closure fails, its error. Nothing is drawn after the answer that decides, and what is left may be drawn from again.
     ///
-    /// It asks a number to come, and that the closure may be called on each item that may come with the value so far. `T` is the type of the items.
-    fn try_fold<B, E, T, F>(&mut self, init: B, f: F) -> Result<B, E>
+    /// It asks a number to come, and that the closure may be called on each item that may come with the value so far.
+    final fn try_fold<B, E, F>(&mut self, init: B, f: F) -> Result<B, E>
     where
         B: Drop,
         E: From<Self::Error>,
-        Self::Item: Is<T>,
-        F: FnMut(B, T) -> Result<B, E>,
+        F: FnMut(B, Self::Item) -> Result<B, E>,
         requires can { contract.can self.old }
         requires finite { contract.has_end self.old }
-        requires callable { CallableInFold contract.steps (call_with Self.Item.as_is F.FnMut) (takes_with Self.Item.as_is F.FnMut) self.old f init }
-        ensures folded { Folded contract.steps (call_with Self.Item.as_is F.FnMut) E.from_gives self.old init f result self.new }
-        ensures is { (convert : Self.Error → E) (h : B → Self.Item → Result B E) (l : List (Result Self.Item Self.Error)) → Converts E.from_gives convert → ActsWith (call_with Self.Item.as_is F.FnMut) f h → Lists contract.steps self.old l → result ≡ folded convert h init l }
+        requires callable { CallableInFold contract.steps (call_with F.FnMut) (takes_with F.FnMut) self.old f init }
+        ensures folded { Folded contract.steps (call_with F.FnMut) E.from_gives self.old init f result self.new }
+        ensures is { (convert : Self.Error → E) (h : B → Self.Item → Result B E) (l : List (Result Self.Item Self.Error)) → Converts E.from_gives convert → ActsWith (call_with F.FnMut) f h → Lists contract.steps self.old l → result ≡ folded convert h init l }
         ensures stays { Stays contract self.old self.new }
     {
-        let turn = Folding {
-            marker: PhantomData,
-        };
-        folded_at(self.try_fold_carrying((init, f), &turn))
+        folded_at(self.try_fold_carrying((init, f), &Folding))
     }
 
-    /// `try_fold` on the iterator itself, where the closure fails with the iterator's own error. It asks what `try_fold` asks. `T` is the type of the items, and `E` that of the failures.
-    fn fold<B, E, T, F>(mut self, init: B, f: F) -> Result<B, E>
+    /// `try_fold` on the iterator itself, where the closure fails with the iterator's own error. It asks what `try_fold` asks.
+    final fn fold<B, F>(mut self, init: B, f: F) -> Result<B, Self::Error>
     where
         B: Drop,
-        Self::Item: Is<T>,
-        Self::Error: Is<E>,
-        E: From<Self::Error>,
-        F: FnMut(B, T) -> Result<B, E>,
+        F: FnMut(B, Self::Item) -> Result<B, Self::Error>,
         requires can { contract.can self }
         requires finite { contract.has_end self }
-        requires callable { CallableInFold contract.steps (call_with Self.Item.as_is F.FnMut) (takes_with Self.Item.as_is F.FnMut) self f init }
-        ensures folded { (left : Self) × Folded contract.steps (call_with Self.Item.as_is F.FnMut) E.from_gives self init f result left }
-        ensures is { (convert : Self.Error → E) (h : B → Self.Item → Result B E) (l : List (Result Self.Item Self.Error)) → Converts E.from_gives convert → ActsWith (call_with Self.Item.as_is F.FnMut) f h → Lists contract.steps self l → result ≡ folded convert h init l }
+        requires callable { CallableInFold contract.steps (call_with F.FnMut) (takes_with F.FnMut) self f init }
+        ensures folded { (left : Self) × Folded contract.steps (call_with F.FnMut) (λ e d. d ≡ e) self init f result left }
+        ensures is { (h : B → Self.Item → Result B Self.Error) (l : List (Result Self.Item Self.Error)) → ActsWith (call_with F.FnMut) f h → Lists contract.steps self l → result ≡ folded (λ e. e) h init l }
     {
         self.try_fold(init, f)
     }
@@ -516,7 +510,7 @@ pub trait FallibleIterator: Drop + Sized {
         }
     }
 
-    /// Makes a collection of the items up to the end. The collection is made first, and then each item is pushed as it is drawn; no room is taken ahead.
+    /// Makes a collection of the items up to the end. The collection is made first, and then each item is pushed as it is drawn; no room is taken ahead. Of equal items a set keeps the first; a map keeps the first of equal keys, with its last value.
     ///
     /// `Fault::Source` of the first failure, after which nothing is drawn. `Fault::Memory` where the collection refused: nothing was drawn where it could not be made, and else the item that it refused was the last one drawn. Of a collection that never refuses it is never answered.
     ///
@@ -545,7 +539,7 @@ pub trait FallibleIterator: Drop + Sized {
         }
     }
 
-    /// Makes two collections of the items up to the end: of those on which the predicate answers true, and of the others. Both collections are made first; then the predicate is called once on each item as it is drawn, and the item is pushed to its side. No room is taken ahead.
+    /// Makes two collections of the items up to the end: of those on which the predicate answers true, and of the others. Both collections are made first; then the predicate is called once on each item as it is drawn, and the item is pushed to its side. No room is taken ahead. Of equal items a set keeps the first; a map keeps the first of equal keys, with its last value.
     ///
     /// `Fault::Source` of the first failure of the source or of the predicate, after which nothing is drawn. `Fault::Memory` where a collection refused: nothing was drawn where one could not be made, and else the item that was refused was the last one drawn. Of a collection that never refuses it is never answered.
     ///
@@ -584,7 +578,7 @@ pub trait FallibleIterator: Drop + Sized {
         }
     }
 
-    /// The first parts of the pairs up to the end in one collection, and the second parts in another. Both collections are made first; then each pair is pushed as it is drawn, its first part before its second, and nothing is reserved ahead. Where an item fails, nothing is drawn after it: `Fault::Source` is the first failure, before which all pairs were accepted; `Fault::Memory` says that a making was refused, and nothing was drawn, or that a push was refused, whose pair is the last that was drawn and is dropped whole.
+    /// The first parts of the pairs up to the end in one collection, and the second parts in another. Both collections are made first; then each pair is pushed as it is drawn, its first part before its second, and nothing is reserved ahead. Of equal items a set keeps the first; a map keeps the first of equal keys, with its last value. Where an item fails, nothing is drawn after it: `Fault::Source` is the first failure, before which all pairs were accepted; `Fault::Memory` says that a making was refused, and nothing was drawn, or that a push was refused, whose pair is the last that was drawn and is dropped whole.
     ///
     /// It asks a number to come.
     final fn unzip<A, B, FromA: Collect<A>, FromB: Collect<B>>(
@@ -593,7 +587,6 @@ pub trait FallibleIterator: Drop + Sized {
     ) -> Result<(FromA, FromB), Fault<Self::Error>>
     where
         Self: FallibleIterator<Item = (A, B)>,
-        A: Drop,
         B: Drop,
         requires can { contract.can self }
         requires finite { contract.has_end self }
@@ -689,7 +682,6 @@ pub trait FallibleIterator: Drop + Sized {
     /// It asks a number to come, and that the closure may be called on each item that may come until it decides.
     final fn find_map<B, F>(&mut self, f: F) -> Result<Option<B>, Self::Error>
     where
-        B: Drop,
         F: FnMut(Self::Item) -> Result<Option<B>, Self::Error>,
         requires can { contract.can self.old }
         requires finite { contract.has_end self.old }
@@ -698,7 +690,7 @@ pub trait FallibleIterator: Drop + Sized {
         ensures is { (h : Self.Item → Result (Option B) Self.Error) (l : List (Result Self.Item Self.Error)) → Acts (call_on F.FnMut) f h → Lists contract.steps self.old l → result ≡ find_mapped h l }
         ensures stays { Stays contract self.old self.new }
     {
-        answer_at(self.try_fold_carrying(f, &FindingMapped), None)
+        found_at(self.try_fold_carrying(f, &FindingMapped))
     }
 
     /// How many items come before the first one on which the predicate answers true; none where no such item comes before the end. A failure that comes first, of this iterator or of the predicate, is the answer. Nothing is drawn after the answer that decides, and what is left may be drawn from again.
@@ -714,7 +706,7 @@ pub trait FallibleIterator: Drop + Sized {
         ensures is { (h : Self.Item → Result Bool Self.Error) (l : List (Result Self.Item Self.Error)) → Acts (call_on F.FnMut) f h → Lists contract.steps self.old l → result ≡ position_in h l }
         ensures stays { Stays contract self.old self.new }
     {
-        answer_at(self.try_fold_carrying((0, f), &Placing), None)
+        found_at(self.try_fold_carrying((0, f), &Placing))
     }
 
     /// The greatest item, of equal ones the last; none where no item comes before the end. The first failure is the answer, and nothing is drawn after it.
@@ -726,7 +718,7 @@ pub trait FallibleIterator: Drop + Sized {
         requires can { contract.can self }
         requires finite { contract.has_end self }
         ensures best { Best Greater Self.Item.cmp contract.steps self result }
-        ensures is { (l : List (Result Self.Item Self.Error)) → Lists contract.steps self l → result ≡ best_by Greater (λ x y. Ok (Self.Item.cmp x y)) l }
+        ensures is { (l : List (Result Self.Item Self.Error)) → Lists contract.steps self l → result ≡ greatest Self.Item.cmp l }
     {
         let compare = |best: &Self::Item, x: &Self::Item| -> Result<Ordering, Self::Error>
             ensures { result ≡ Ok (Self.Item.cmp best.now x.now) }
@@ -743,7 +735,7 @@ pub trait FallibleIterator: Drop + Sized {
         requires can { contract.can self }
         requires finite { contract.has_end self }
         ensures best { Best Less Self.Item.cmp contract.steps self result }
-        ensures is { (l : List (Result Self.Item Self.Error)) → Lists contract.steps self l → result ≡ best_by Less (λ x y. Ok (Self.Item.cmp x y)) l }
+        ensures is { (l : List (Result Self.Item Self.Error)) → Lists contract.steps self l → result ≡ least Self.Item.cmp l }
     {
         let compare = |best: &Self::Item, x: &Self::Item| -> Result<Ordering, Self::Error>
             ensures { result ≡ Ok (Self.Item.cmp best.now x.now) }
@@ -826,7 +818,7 @@ pub trait FallibleIterator: Drop + Sized {
         Self::Item: Ord + Drop,
         requires can { contract.can self }
         requires right { (right : I.IntoFallibleIter) → I.into_gives other right → I.IntoFallibleIter.contract.can right }
-        requires finite { contract.has_end self ⊎ ((right : I.IntoFallibleIter) → I.into_gives other right → I.IntoFallibleIter.contract.has_end right) }
+        requires finite { OneHasEnd contract I.into_gives I.IntoFallibleIter.contract self other }
         ensures compared { ComparedWith (by_cmp Self.Item.cmp) I.into_gives contract.steps I.IntoFallibleIter.contract.steps self other (read_as (λ o. Some o) result) }
         ensures is { (a b : List (Result Self.Item Self.Error)) → Lists contract.steps self a → ((right : I.IntoFallibleIter) → I.into_gives other right → Lists I.IntoFallibleIter.contract.steps right b) → read_as (λ o. Some o) result ≡ compared (by_cmp Self.Item.cmp) a b }
     {
@@ -843,7 +835,7 @@ pub trait FallibleIterator: Drop + Sized {
         Self::Item: PartialOrd + Drop,
         requires can { contract.can self }
         requires right { (right : I.IntoFallibleIter) → I.into_gives other right → I.IntoFallibleIter.contract.can right }
-        requires finite { contract.has_end self ⊎ ((right : I.IntoFallibleIter) → I.into_gives other right → I.IntoFallibleIter.contract.has_end right) }
+        requires finite { OneHasEnd contract I.into_gives I.IntoFallibleIter.contract self other }
         ensures compared { ComparedWith Self.Item.partial_cmp I.into_gives contract.steps I.IntoFallibleIter.contract.steps self other result }
         ensures is { (a b : List (Result Self.Item Self.Error)) → Lists contract.steps self a → ((right : I.IntoFallibleIter) → I.into_gives other right → Lists I.IntoFallibleIter.contract.steps right b) → result ≡ compared Self.Item.partial_cmp a b }
     {
@@ -859,7 +851,7 @@ pub trait FallibleIterator: Drop + Sized {
         Self::Item: PartialEq + Drop,
         requires can { contract.can self }
         requires right { (right : I.IntoFallibleIter) → I.into_gives other right → I.IntoFallibleIter.contract.can right }
-        requires finite { contract.has_end self ⊎ ((right : I.IntoFallibleIter) → I.into_gives other right → I.IntoFallibleIter.contract.has_end right) }
+        requires finite { OneHasEnd contract I.into_gives I.IntoFallibleIter.contract self other }
         ensures compared { ReadWith (by_eq Self.Item.eq) reads_eq I.into_gives contract.steps I.IntoFallibleIter.contract.steps self other result }
         ensures is { (a b : List (Result Self.Item Self.Error)) → Lists contract.steps self a → ((right : I.IntoFallibleIter) → I.into_gives other right → Lists I.IntoFallibleIter.contract.steps right b) → result ≡ read_as reads_eq (compared (by_eq Self.Item.eq) a b) }
     {
@@ -876,7 +868,7 @@ pub trait FallibleIterator: Drop + Sized {
         Self::Item: PartialEq + Drop,
         requires can { contract.can self }
         requires right { (right : I.IntoFallibleIter) → I.into_gives other right → I.IntoFallibleIter.contract.can right }
-        requires finite { contract.has_end self ⊎ ((right : I.IntoFallibleIter) → I.into_gives other right → I.IntoFallibleIter.contract.has_end right) }
+        requires finite { OneHasEnd contract I.into_gives I.IntoFallibleIter.contract self other }
         ensures compared { ReadWith (by_eq Self.Item.eq) reads_ne I.into_gives contract.steps I.IntoFallibleIter.contract.steps self other result }
         ensures is { (a b : List (Result Self.Item Self.Error)) → Lists contract.steps self a → ((right : I.IntoFallibleIter) → I.into_gives other right → Lists I.IntoFallibleIter.contract.steps right b) → result ≡ read_as reads_ne (compared (by_eq Self.Item.eq) a b) }
     {
@@ -893,7 +885,7 @@ pub trait FallibleIterator: Drop + Sized {
         Self::Item: PartialOrd + Drop,
         requires can { contract.can self }
         requires right { (right : I.IntoFallibleIter) → I.into_gives other right → I.IntoFallibleIter.contract.can right }
-        requires finite { contract.has_end self ⊎ ((right : I.IntoFallibleIter) → I.into_gives other right → I.IntoFallibleIter.contract.has_end right) }
+        requires finite { OneHasEnd contract I.into_gives I.IntoFallibleIter.contract self other }
         ensures compared { ReadWith Self.Item.partial_cmp reads_lt I.into_gives contract.steps I.IntoFallibleIter.contract.steps self other result }
         ensures is { (a b : List (Result Self.Item Self.Error)) → Lists contract.steps self a → ((right : I.IntoFallibleIter) → I.into_gives other right → Lists I.IntoFallibleIter.contract.steps right b) → result ≡ read_as reads_lt (compared Self.Item.partial_cmp a b) }
     {
@@ -913,7 +905,7 @@ pub trait FallibleIterator: Drop + Sized {
         Self::Item: PartialOrd + Drop,
         requires can { contract.can self }
         requires right { (right : I.IntoFallibleIter) → I.into_gives other right → I.IntoFallibleIter.contract.can right }
-        requires finite { contract.has_end self ⊎ ((right : I.IntoFallibleIter) → I.into_gives other right → I.IntoFallibleIter.contract.has_end right) }
+        requires finite { OneHasEnd contract I.into_gives I.IntoFallibleIter.contract self other }
         ensures compared { ReadWith Self.Item.partial_cmp reads_le I.into_gives contract.steps I.IntoFallibleIter.contract.steps self other result }
         ensures is { (a b : List (Result Self.Item Self.Error)) → Lists contract.steps self a → ((right : I.IntoFallibleIter) → I.into_gives other right → Lists I.IntoFallibleIter.contract.steps right b) → result ≡ read_as reads_le (compared Self.Item.partial_cmp a b) }
     {
@@ -933,7 +925,7 @@ pub trait FallibleIterator: Drop + Sized {
         Self::Item: PartialOrd + Drop,
         requires can { contract.can self }
         requires right { (right : I.IntoFallibleIter) → I.into_gives other right → I.IntoFallibleIter.contract.can right }
-        requires finite { contract.has_end self ⊎ ((right : I.IntoFallibleIter) → I.into_gives other right → I.IntoFallibleIter.contract.has_end right) }
+        requires finite { OneHasEnd contract I.into_gives I.IntoFallibleIter.contract self other }
         ensures compared { ReadWith Self.Item.partial_cmp reads_gt I.into_gives contract.steps I.IntoFallibleIter.contract.steps self other result }
         ensures is { (a b : List (Result Self.Item Self.Error)) → Lists contract.steps self a → ((right : I.IntoFallibleIter) → I.into_gives other right → Lists I.IntoFallibleIter.contract.steps right b) → result ≡ read_as reads_gt (compared Self.Item.partial_cmp a b) }
     {
@@ -953,7 +945,7 @@ pub trait FallibleIterator: Drop + Sized {
         Self::Item: PartialOrd + Drop,
         requires can { contract.can self }
         requires right { (right : I.IntoFallibleIter) → I.into_gives other right → I.IntoFallibleIter.contract.can right }
-        requires finite { contract.has_end self ⊎ ((right : I.IntoFallibleIter) → I.into_gives other right → I.IntoFallibleIter.contract.has_end right) }
+        requires finite { OneHasEnd contract I.into_gives I.IntoFallibleIter.contract self other }
         ensures compared { ReadWith Self.Item.partial_cmp reads_ge I.into_gives contract.steps I.IntoFallibleIter.contract.steps self other result }
         ensures is { (a b : List (Result Self.Item Self.Error)) → Lists contract.steps self a → ((right : I.IntoFallibleIter) → I.into_gives other right → Lists I.IntoFallibleIter.contract.steps right b) → result ≡ read_as reads_ge (compared Self.Item.partial_cmp a b) }
     {
@@ -998,7 +990,7 @@ pub trait FallibleIterator: Drop + Sized {
         ensures drawn { contract.steps self.old result self.new }
         ensures stays { Stays contract self.old self.new }
     {
-        self.next()
+        Self::next(self)
     }
 
     /// Itself, borrowed: what is drawn from the borrow is drawn from it.

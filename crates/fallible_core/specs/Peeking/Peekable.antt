@@ -17,6 +17,12 @@ abbrev pub held_answers : {A E : Type 0} → Option (Option A) → List (Answere
 held_answers (Some o) = Ok o ∷ []
 held_answers None = []
 
+-- what is listed behind what is held, where the source lists l: a held item and then l, nothing behind a held end, and l where nothing is held
+abbrev pub behind_held : {A E : Type 0} → Option (Option A) → List (Result A E) → List (Result A E)
+behind_held (Some (Some x)) l = Ok x ∷ l
+behind_held (Some None) l = []
+behind_held None l = l
+
 -- the held answer, if there is one, and then the source's trace; nothing is held afterwards
 pub record HeldAndDrawn {S A E : Type 0} (steps : S → Answered A E → S → Type 0) (p : S × Option (Option A)) (trace : List (Answered A E)) (q : S × Option (Option A)) : Type 0 where
   pub source_trace : List (Answered A E)

@@ -15,15 +15,18 @@ where
     requires { I.contract.can it.old }
     ensures { SkipTrace I.contract.steps (it.old, left.old) (result ∷ []) (it.new, left.new) }
 {
-    while 0 < *left {
+    loop {
         match it.next() {
-            Ok(Some(_)) => {}
+            Ok(Some(x)) => {
+                if *left == 0 {
+                    return Ok(Some(x));
+                }
+            }
             Ok(None) => return Ok(None),
             Err(e) => return Err(e),
         }
         *left -= 1;
     }
-    it.next()
 }
 
 // The same by one fold of the source, which asks a number to come.

@@ -39,18 +39,18 @@ impl<T: FallibleIterator, U: FallibleIterator<Item = T::Item, Error = T::Error>>
 
     /// While both sides are drawn it draws one answer of the front, and at its first end, in the same call, one of the back, which alone is drawn from then on; a failure changes no side. Where one side alone is drawn, it draws one answer of that side.
     fn next(&mut self) -> Result<Option<T::Item>, T::Error> {
-        match self.still_drawn {
-            StillDrawn::Both => match self.front.next() {
-                Ok(Some(x)) => Ok(Some(x)),
-                Ok(None) => {
-                    self.still_drawn = StillDrawn::BackAlone;
-                    self.back.next()
-                }
-                Err(e) => Err(e),
-            },
-            StillDrawn::FrontAlone => self.front.next(),
-            StillDrawn::BackAlone => self.back.next(),
+        if !matches!(self.still_drawn, StillDrawn::BackAlone) {
+            match self.front.next() {
+                Ok(Some(x)) => return Ok(Some(x)),
+                Ok(None) => {}
+                Err(e) => return Err(e),
+            }
+            match self.still_drawn {
+                StillDrawn::FrontAlone => return Ok(None),
+                _ => self.still_drawn = StillDrawn::BackAlone,
+            }
         }
+        self.back.next()
     }
 
     fn size_hint(&self) -> (usize, Option<usize>) {
@@ -73,15 +73,17 @@ impl<T: FallibleIterator, U: FallibleIterator<Item = T::Item, Error = T::Error>>
             still_drawn,
         } = self;
         match still_drawn {
-            StillDrawn::Both => match front.try_fold_carrying(init, k) {
-                Exit::Ended(carried) => {
-                    *still_drawn = StillDrawn::BackAlone;
-                    back.try_fold_carrying(carried, k)
-                }
+            StillDrawn::BackAlone => back.try_fold_carrying(init, k),
+            _ => match front.try_fold_carrying(init, k) {
+                Exit::Ended(carried) => match still_drawn {
+                    StillDrawn::FrontAlone => Exit::Ended(carried),
+                    _ => {
+                        *still_drawn = StillDrawn::BackAlone;
+                        back.try_fold_carrying(carried, k)
+                    }
+                },
                 exit => exit,
             },
-            StillDrawn::FrontAlone => front.try_fold_carrying(init, k),
-            StillDrawn::BackAlone => back.try_fold_carrying(init, k),
         }
     }
 
@@ -146,20 +148,20 @@ impl<T: FallibleIterator, U: FallibleIterator<Item = T::Item, Error = T::Error>>
             back,
             still_drawn,
         } = self;
-        match still_drawn {
-            StillDrawn::Both => {
-                let (carried, answer) = front.find_carrying(init, k);
-                match answer {
-                    Ok(Some(x)) => (carried, Ok(Some(x))),
-                    Ok(None) => {
-                        *still_drawn = StillDrawn::BackAlone;
-                        back.find_carrying(carried, k)
-                    }
-                    Err(e) => (carried, Err(e)),
+        if let StillDrawn::BackAlone = still_drawn {
+            return back.find_carrying(init, k);
+        }
+        let (carried, answer) = front.find_carrying(init, k);
+        match answer {
+            Ok(Some(x)) => (carried, Ok(Some(x))),
+            Ok(None) => match still_drawn {
+                StillDrawn::FrontAlone => (carried, Ok(None)),
+                _ => {
+                    *still_drawn = StillDrawn::BackAlone;
+                    back.find_carrying(carried, k)
                 }
-            }
-            StillDrawn::FrontAlone => front.find_carrying(init, k),
-            StillDrawn::BackAlone => back.find_carrying(init, k),
+            },
+            Err(e) => (carried, Err(e)),
         }
     }
 
@@ -174,18 +176,18 @@ impl<
 
     /// While both sides are drawn it draws one answer of the back from behind, and at its first end, in the same call, one of the front from behind, which alone is drawn from then on, from either end; a failure changes no side. Where one side alone is drawn, it draws one answer of that side from behind.
     fn next_back(&mut self) -> Result<Option<T::Item>, T::Error> {
-        match self.still_drawn {
-            StillDrawn::Both => match self.back.next_back() {
-                Ok(Some(x)) => Ok(Some(x)),
-                Ok(None) => {
-                    self.still_drawn = StillDrawn::FrontAlone;
-                    self.front.next_back()
-                }
-                Err(e) => Err(e),
-            },
-            StillDrawn::FrontAlone => self.front.next_back(),
-            StillDrawn::BackAlone => self.back.next_back(),
+        if !matches!(self.still_drawn, StillDrawn::FrontAlone) {
+            match self.back.next_back() {
+                Ok(Some(x)) => return Ok(Some(x)),
+                Ok(None) => {}
+                Err(e) => return Err(e),
+            }
+            match self.still_drawn {
+                StillDrawn::BackAlone => return Ok(None),
+                _ => self.still_drawn = StillDrawn::FrontAlone,
+            }
         }
+        self.front.next_back()
     }
 
     // The back's fold from behind, and at its end, in the same call, the front's; where one side alone is drawn, that side's.
@@ -200,15 +202,17 @@ impl<
             still_drawn,
         } = self;
         match still_drawn {
-            StillDrawn::Both => match back.try_rfold_carrying(init, k) {
-                Exit::Ended(carried) => {
-                    *still_drawn = StillDrawn::FrontAlone;
-                    front.try_rfold_carrying(carried, k)
-                }
+            StillDrawn::FrontAlone => front.try_rfold_carrying(init, k),
+            _ => match back.try_rfold_carrying(init, k) {
+                Exit::Ended(carried) => match still_drawn {
+                    StillDrawn::BackAlone => Exit::Ended(carried),
+                    _ => {
+                        *still_drawn = StillDrawn::FrontAlone;
+                        front.try_rfold_carrying(carried, k)
+                    }
+                },
                 exit => exit,
             },
-            StillDrawn::FrontAlone => front.try_rfold_carrying(init, k),
-            StillDrawn::BackAlone => back.try_rfold_carrying(init, k),
         }
     }
 

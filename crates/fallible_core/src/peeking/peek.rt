@@ -65,12 +65,12 @@ where
     {
         match self.held {
             Some(_) => Ok(()),
-            None => self.draw(),
+            None => self.hold(),
         }
     }
 
     // Draws once, where nothing is held, and holds an item or an end.
-    fn draw(&mut self) -> Result<(), I::Error>
+    fn hold(&mut self) -> Result<(), I::Error>
     where
         requires can { (peekable_contract I.contract).can (peekable_parts self.old) }
         requires empty { self.old.held ≡ None }

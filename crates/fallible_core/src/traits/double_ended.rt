@@ -6,8 +6,7 @@ ghost use Rattle.fallible_contract.specs.Lists.{Lists, ActsWith, Converts, folde
 ghost use Rattle.fallible_contract.specs.Folds.{CallableCarrying, Carried, CallableInFold, call_with, takes_with, Folded};
 
 use crate::traits::FallibleIterator;
-use fallible_contract::folds::{Exit, Folding, Is, Turn, folded_at};
-use std::marker::PhantomData;
+use fallible_contract::folds::{Exit, Folding, Turn, folded_at};
 
 /// A fallible iterator that may be drawn from behind as well. Draws from both ends may be made one after another, in any order; a number to come stays one after them all, and the hint is what the type's rule says of what is left.
 ///
@@ -51,39 +50,32 @@ pub trait DoubleEndedFallibleIterator: FallibleIterator {
 
     /// `try_fold` from behind: calls the closure on the value so far and each item, the last one first. At the end it answers the last value; at a failure that failure, converted; where the closure fails, its error. Nothing is drawn after the answer that decides, and what is left may be drawn from again, from either end.
     ///
-    /// It asks a number to come, and that the closure may be called on each item that may come from behind with the value so far. `T` is the type of the items.
-    fn try_rfold<B, E, T, F>(&mut self, init: B, f: F) -> Result<B, E>
+    /// It asks a number to come, and that the closure may be called on each item that may come from behind with the value so far.
+    final fn try_rfold<B, E, F>(&mut self, init: B, f: F) -> Result<B, E>
     where
         B: Drop,
         E: From<Self::Error>,
-        Self::Item: Is<T>,
-        F: FnMut(B, T) -> Result<B, E>,
+        F: FnMut(B, Self::Item) -> Result<B, E>,
         requires can { ends.can self.old }
         requires finite { Self.contract.has_end self.old }
-        requires callable { CallableInFold ends.steps (call_with Self.Item.as_is F.FnMut) (takes_with Self.Item.as_is F.FnMut) self.old f init }
-        ensures folded { Folded ends.steps (call_with Self.Item.as_is F.FnMut) E.from_gives self.old init f result self.new }
-        ensures is { (convert : Self.Error → E) (h : B → Self.Item → Result B E) (l : List (Result Self.Item Self.Error)) → Converts E.from_gives convert → ActsWith (call_with Self.Item.as_is F.FnMut) f h → Lists ends.steps self.old l → result ≡ folded convert h init l }
+        requires callable { CallableInFold ends.steps (call_with F.FnMut) (takes_with F.FnMut) self.old f init }
+        ensures folded { Folded ends.steps (call_with F.FnMut) E.from_gives self.old init f result self.new }
+        ensures is { (convert : Self.Error → E) (h : B → Self.Item → Result B E) (l : List (Result Self.Item Self.Error)) → Converts E.from_gives convert → ActsWith (call_with F.FnMut) f h → Lists ends.steps self.old l → result ≡ folded convert h init l }
         ensures stays { Stays (from_back Self.contract ends) self.old self.new }
     {
-        let turn = Folding {
-            marker: PhantomData,
-        };
-        folded_at(self.try_rfold_carrying((init, f), &turn))
+        folded_at(self.try_rfold_carrying((init, f), &Folding))
     }
 
-    /// `try_rfold` on the iterator itself, where the closure fails with the iterator's own error. It asks what `try_rfold` asks. `T` is the type of the items, and `E` that of the failures.
-    fn rfold<B, E, T, F>(mut self, init: B, f: F) -> Result<B, E>
+    /// `try_rfold` on the iterator itself, where the closure fails with the iterator's own error. It asks what `try_rfold` asks.
+    final fn rfold<B, F>(mut self, init: B, f: F) -> Result<B, Self::Error>
     where
         B: Drop,
-        Self::Item: Is<T>,
-        Self::Error: Is<E>,
-        E: From<Self::Error>,
-        F: FnMut(B, T) -> Result<B, E>,
+        F: FnMut(B, Self::Item) -> Result<B, Self::Error>,
         requires can { ends.can self }
         requires finite { Self.contract.has_end self }
-        requires callable { CallableInFold ends.steps (call_with Self.Item.as_is F.FnMut) (takes_with Self.Item.as_is F.FnMut) self f init }
-        ensures folded { (left : Self) × Folded ends.steps (call_with Self.Item.as_is F.FnMut) E.from_gives self init f result left }
-        ensures is { (convert : Self.Error → E) (h : B → Self.Item → Result B E) (l : List (Result Self.Item Self.Error)) → Converts E.from_gives convert → ActsWith (call_with Self.Item.as_is F.FnMut) f h → Lists ends.steps self l → result ≡ folded convert h init l }
+        requires callable { CallableInFold ends.steps (call_with F.FnMut) (takes_with F.FnMut) self f init }
+        ensures folded { (left : Self) × Folded ends.steps (call_with F.FnMut) (λ e d. d ≡ e) self init f result left }
+        ensures is { (h : B → Self.Item → Result B Self.Error) (l : List (Result Self.Item Self.Error)) → ActsWith (call_with F.FnMut) f h → Lists ends.steps self l → result ≡ folded (λ e. e) h init l }
     {
         self.try_rfold(init, f)
     }

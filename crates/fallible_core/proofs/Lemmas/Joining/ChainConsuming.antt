@@ -248,6 +248,15 @@ module _ {S U A E F : Type 0} (front : Contract S A E) (back : Contract U A E) {
   pub searches_both : {q : Answered A E} → s.still_drawn ≡ Both → w.back ≡ s.back → w.still_drawn ≡ Both → q ≡ r → is_end r ≡ false → Searched tests find_pick front.steps None s.front f q w.front h → Searched tests find_pick (chain front back).steps None s f r w h
   searches_both is kept stays same goes x = searched_of is stays (subst (λ (u : U). Searched tests find_pick (chain_step front.steps back.steps) None (s.front, s.back, Both) f r (w.front, u, Both) h) (sym kept) (searched_both front.steps back.steps goes (subst (λ (z : Answered A E). Searched tests find_pick front.steps None s.front f z w.front h) same x)))
 
+  -- the same where the back isn't drawn alone
+  pub searches_front : {q : Answered A E} → (s.still_drawn ≡ BackAlone → ⊥) → w.back ≡ s.back → w.still_drawn ≡ s.still_drawn → q ≡ r → is_end r ≡ false → Searched tests find_pick front.steps None s.front f q w.front h → Searched tests find_pick (chain front back).steps None s f r w h
+  searches_front drawn kept now same goes x = by s.still_drawn refl
+    where
+      by : (d : StillDrawn) → s.still_drawn ≡ d → Searched tests find_pick (chain front back).steps None s f r w h
+      by Both is = searches_both is kept (now ∙ is) same goes x
+      by FrontAlone is = searches_front_alone is kept (now ∙ is) (subst (λ (z : Answered A E). Searched tests find_pick front.steps None s.front f z w.front h) same x)
+      by BackAlone is = absurd (drawn is)
+
   -- it found none
   pub searches_over : {g : F} {q : Answered A E} → s.still_drawn ≡ Both → w.still_drawn ≡ BackAlone → q ≡ end → Searched tests find_pick front.steps None s.front f q w.front g → Searched tests find_pick back.steps None s.back g r w.back h → Searched tests find_pick (chain front back).steps None s f r w h
   searches_over {g = g} is stays none a b = searched_of is stays (searched_over front.steps back.steps (subst (λ (z : Answered A E). Searched tests find_pick front.steps None s.front f z w.front g) none a) b)

@@ -11,9 +11,21 @@ use Rattle.fallible_contract.specs.Traces.{Answered, Run, Yields, NoEnd, item, e
 use Rattle.fallible_contract.specs.Contract.{Contract, seen_as}
 use Rattle.fallible_contract.specs.Folds.{HoldsAtEachTurn, carrying_turn, CarryingExit, Carried}
 use Rattle.fallible_contract.specs.Laws.Closures.{turns_then}
-use Rattle.fallible_core.specs.Joining.Chain.{chain_step, chain_contract}
+use Rattle.fallible_core.specs.Joining.Chain.{chain_step, chain_contract, chain_has_end, sides_behind}
 use Rattle.fallible_contract.proofs.Lemmas.Overriding.{holds_held, carried_held}
 use Rattle.fallible_core.proofs.Lemmas.Joining.Chain.{from_front, from_back, from_both, from_joined}
+
+-- of the three two are left out
+pub both_drawn : (d : StillDrawn) → (d ≡ BackAlone → ⊥) → (d ≡ FrontAlone → ⊥) → d ≡ Both
+both_drawn Both back front = refl
+both_drawn FrontAlone back front = absurd (front refl)
+both_drawn BackAlone back front = absurd (back refl)
+
+-- from behind the back comes first
+pub back_drawn_behind : (d : StillDrawn) → (d ≡ FrontAlone → ⊥) → sides_behind d ≡ BackAlone → ⊥
+back_drawn_behind Both front e = absurd cc
+back_drawn_behind FrontAlone front e = front refl
+back_drawn_behind BackAlone front e = absurd cc
 
 -- items and a last answer that isn't an end
 pub no_end : {A E : Type 0} (items : List A) (last : Answered A E) → is_end last ≡ false → NoEnd (map item items ++ last ∷ [])
@@ -127,6 +139,18 @@ module _ {S U A E : Type 0} (steps : S → Answered A E → S → Type 0) (other
       exit = b.exit;
     }
 
+-- a side that is still drawn has an end where the chain has one
+module _ {S U A E : Type 0} (front : Contract S A E) (back : Contract U A E) where
+  pub front_has_end : (p : S × U × StillDrawn) → (p.2 ≡ BackAlone → ⊥) → chain_has_end front back p → front.has_end p.0
+  front_has_end (s, u, Both) drawn h = h.0
+  front_has_end (s, u, FrontAlone) drawn h = h
+  front_has_end (s, u, BackAlone) drawn h = absurd (drawn refl)
+
+  pub back_has_end : (p : S × U × StillDrawn) → (p.2 ≡ FrontAlone → ⊥) → chain_has_end front back p → back.has_end p.1
+  back_has_end (s, u, Both) drawn h = h.1
+  back_has_end (s, u, FrontAlone) drawn h = absurd (drawn refl)
+  back_has_end (s, u, BackAlone) drawn h = h
+
 -- ---- of what is seen as a chain, as `Chain` is from the front, and from behind
 
 module _ {V S U A E : Type 0} (view : V → S × U × StillDrawn) (make : S × U × StillDrawn → V) (has : (p : S × U × StillDrawn) → view (make p) ≡ p) (front : Contract S A E) (back : Contract U A E) where
@@ -146,6 +170,15 @@ module _ {V S U A E : Type 0} (view : V → S × U × StillDrawn) (make : S × U
     pub turns_both : (view s).2 ≡ Both → HoldsAtEachTurn Drawn goes_on P s c → HoldsAtEachTurn front.steps goes_on P (view s).0 c
     turns_both is h = holds_both front.steps back.steps (parts_hold is h)
 
+    -- the same where the back isn't drawn alone
+    pub turns_front : ((view s).2 ≡ BackAlone → ⊥) → HoldsAtEachTurn Drawn goes_on P s c → HoldsAtEachTurn front.steps goes_on P (view s).0 c
+    turns_front drawn h = by (view s).2 refl
+      where
+        by : (d : StillDrawn) → (view s).2 ≡ d → HoldsAtEachTurn front.steps goes_on P (view s).0 c
+        by Both is = turns_both is h
+        by FrontAlone is = turns_front_alone is h
+        by BackAlone is = absurd (drawn is)
+
   module _ {C R : Type 0} {turns : C → A → Result C R → Type 0} {s : V} {c : C} where
     pub turns_over : {P : C → A → Type 0} {t : S} {d : C} → (view s).2 ≡ Both → HoldsAtEachTurn Drawn (carrying_turn turns) P s c → Carried {E = E} front.steps turns (view s).0 c (Ended d) t → HoldsAtEachTurn back.steps (carrying_turn turns) P (view s).1 d
     turns_over is h f = holds_over front.steps back.steps (parts_hold is h) f
@@ -163,6 +196,15 @@ module _ {V S U A E : Type 0} (view : V → S × U × StillDrawn) (make : S × U
 
       pub folds_both : (view s).2 ≡ Both → (view w).1 ≡ (view s).1 → (view w).2 ≡ Both → ((d : C) → r ≡ Ended d → ⊥) → Carried front.steps turns (view s).0 c r (view w).0 → Carried Drawn turns s c r w
       folds_both is kept now other f = parts_carried (ap (λ (d : StillDrawn). ((view s).0, (view s).1, d)) is) (ap₂ (λ (u : U) (d : StillDrawn). ((view w).0, u, d)) kept now) (carried_both front.steps back.steps other f)
+
+      -- a fold of the front that did not end, where the back isn't drawn alone
+      pub folds_front : ((view s).2 ≡ BackAlone → ⊥) → (view w).1 ≡ (view s).1 → (view w).2 ≡ (view s).2 → ((d : C) → r ≡ Ended d → ⊥) → Carried front.steps turns (view s).0 c r (view w).0 → Carried Drawn turns s c r w
+      folds_front drawn kept now other f = by (view s).2 refl
+        where
+          by : (d : StillDrawn) → (view s).2 ≡ d → Carried Drawn turns s c r w
+          by Both is = folds_both is kept (now ∙ is) other f
+          by FrontAlone is = folds_front_alone is kept (now ∙ is) f
+          by BackAlone is = absurd (drawn is)
 
       pub folds_over : {d : C} → (view s).2 ≡ Both → (view w).2 ≡ BackAlone → Carried {E = E} front.steps turns (view s).0 c (Ended d) (view w).0 → Carried back.steps turns (view s).1 d r (view w).1 → Carried Drawn turns s c r w
       folds_over is now f b = parts_carried (ap (λ (d : StillDrawn). ((view s).0, (view s).1, d)) is) (ap (λ (d : StillDrawn). ((view w).0, (view w).1, d)) now) (carried_over front.steps back.steps f b)

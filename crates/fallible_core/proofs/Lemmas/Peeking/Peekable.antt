@@ -8,7 +8,7 @@ use Rattle.fallible_core.specs.declared.peeking.peekable.Peekable.{Peekable}
 use Rattle.fallible_contract.specs.Contract.{Contract, Goes, Stays, Lawful, seen_as}
 use Rattle.fallible_contract.specs.Lists.{AlwaysGives, Lists}
 use Rattle.fallible_contract.proofs.Lemmas.Lists.Passing.{lists_seen}
-use Rattle.fallible_core.specs.Peeking.Peekable.{peekable_parts, held_answers, PeekableTrace, peekable_step, peekable_contract, seen, told, held_of, held_item, Fills, Peeks, Looks, TakenIf, NextIf}
+use Rattle.fallible_core.specs.Peeking.Peekable.{peekable_parts, held_answers, behind_held, PeekableTrace, peekable_step, peekable_contract, seen, told, held_of, held_item, Fills, Peeks, Looks, TakenIf, NextIf}
 use Rattle.fallible_contract.specs.Laws.Contract.{stays_after, stays_here}
 use Rattle.fallible_core.specs.Laws.Peeking.Peekable.{drawn_goes}
 
@@ -149,7 +149,7 @@ filled_with steps (s, None) q (Err e) x w t h = absurd cc
 pub looks_at_held : {S F A R E : Type 0} (steps : S → Answered A E → S → Type 0) {g : Shared F (Bor A × Unit {0}) R} {f : F} (p q : S × Option (Option A)) (x : A) {v : R} → Fills steps p (Ok tt) q → held_item q.1 ≡ Some x → FnReturnsAt g f x v → Looks steps g f p (Ok (Some v)) q
 looks_at_held {A = A} {E = E} steps p q x {v = v} w h called = (Ok (Some x), subst (λ (a : Answered A E). Peeks steps p a q) (filled_with steps p q w.0 x w.1 w.2 h) w.1, (v, called, refl))
 
--- ---- what it lists, where nothing is held
+-- ---- what it lists
 
 peekable_gives : {S A E : Type 0} (steps : S → Answered A E → S → Type 0) (l : List (Result A E)) (s : S) → AlwaysGives steps s l → AlwaysGives (peekable_step steps) (s, None) l
 peekable_gives steps [] s g = λ r q w. g r q.0 w.0
@@ -157,3 +157,11 @@ peekable_gives {A = A} steps (y ∷ l) s g = λ r q w. let d = g r q.0 w.0 in (d
 
 pub lists_peekable : {S A E : Type 0} (m : Contract S A E) (s : Peekable S A E) (l : List (Result A E)) → peekable_parts s ≡ (s.it, None) → Lists m.steps s.it l → Lists (seen_as peekable_parts (peekable_contract m)).steps s l
 lists_peekable m s l parts i = lists_seen peekable_parts (peekable_step m.steps) s parts refl (peekable_gives m.steps l s.it i.runs)
+
+held_gives : {S A E : Type 0} (steps : S → Answered A E → S → Type 0) (held : Option (Option A)) (l : List (Result A E)) (s : S) → AlwaysGives steps s l → AlwaysGives (peekable_step steps) (s, held) (behind_held held l)
+held_gives {S} {A} {E} steps (Some (Some x)) l s g = λ r q w. (w.0, subst (λ (t : S). AlwaysGives (peekable_step steps) (t, q.1) l) (sym w.1) (subst (λ (k : Option (Option A)). AlwaysGives (peekable_step steps) (s, k) l) (sym w.2) (peekable_gives steps l s g)))
+held_gives steps (Some None) l s g = λ r q w. w.0
+held_gives steps None l s g = peekable_gives steps l s g
+
+pub lists_held : {S A E : Type 0} (m : Contract S A E) (s : Peekable S A E) (l : List (Result A E)) → Lists m.steps s.it l → Lists (seen_as peekable_parts (peekable_contract m)).steps s (behind_held s.held l)
+lists_held m s l i = lists_seen peekable_parts (peekable_step m.steps) s refl refl (held_gives m.steps s.held l s.it i.runs)

@@ -3,11 +3,11 @@ use Rattle.std.proofs.Common.{[], ◌∷◌}
 use Rattle.fallible_contract.proofs.Lemmas.Counting.{Leaves}
 use Rattle.fallible_core.proofs.cutting.counting.next_past.Given as goal
 
-abbrev pub invariant-loop-left : goal.invariant-loop-left
-invariant-loop-left g l = let m = g.I.FallibleIterator.contract in record {
+abbrev pub invariant-loop-x : goal.invariant-loop-x
+invariant-loop-x g l = let m = g.I.FallibleIterator.contract in record {
   whole : (r : _) (t : _) (k : _) → Leaves m.steps 0 l.left l.it (r ∷ []) t k → Leaves m.steps 0 l.fn.left l.fn.it (r ∷ []) t k;
   can : m.can l.it;
 }
 
-abbrev pub decreases-loop-left : goal.decreases-loop-left
-decreases-loop-left g l = l.left
+abbrev pub decreases-loop-x : goal.decreases-loop-x
+decreases-loop-x g l = l.left

@@ -1,4 +1,4 @@
--- `number` makes a number of no bytes, whose ghost field is the bound that the `requires` gives.
+-- `number` makes a number of no bytes, whose ghost field is the number to come that the law gives, since there is one.
 use Rattle.std.proofs.Common.{[], ◌∷◌, refl}
 use Rattle.std.proofs.raw_atomic.Walks.{proved}
 use mir.MapTy.{inst_fn}
@@ -25,7 +25,7 @@ use Rattle.fallible_core.proofs.traits.FallibleIterator.number.Code as code
 use Rattle.fallible_core.proofs.Walks.{word, number, number_made}
 
 pub number_spec : {M : Type 1} → statement M
-number_spec 𝓤 𝓛 𝓜 𝓡 wired S I E _ _ _ g d d' _ _ =
+number_spec 𝓤 𝓛 𝓜 𝓡 wired S I E _ _ _ g d d' m _ =
     let Ys : Args = bounded (a_type ∷ a_type ∷ a_type ∷ []) (S, (I, (E, tt))) (dcons d (dcons d' dnil)) in
     let T : Ended = f.ended S I E g d d' in let c = f.clauses S I E g d d' 𝓛 𝓜.mem 𝓡.returns in let R : RattleType = f.Self-row S I E in
     let stayed : Stays T.signature.params T.kept = (stay_dropped (RefOf (0 ∷ []) tt (plain (λ _. R)) (λ _. tt)) yes, tt) in
@@ -34,7 +34,7 @@ number_spec 𝓤 𝓛 𝓜 𝓡 wired S I E _ _ _ g d d' _ _ =
     (λ κs. (shr_vals, tt)) (λ κs. (shr_Tells (named 0) κs.0 R, tt)) (λ κs qs bounds a _ are.
     let y : (walk_of 𝓛 T stayed c).Ghost = ((κs, qs, bounds, a, (shr_vals a.0, tt)), tt) in
     qed 𝓛 ((raw (alive 𝓛 T.signature κs qs) ⊛ ‵ (owns (types_at T.signature.params κs) a y.0.4)) ∷ (raw (fact 𝓤 _) ⊛ raw (fact 𝓤 _) ⊛ raw (fact 𝓤 _) ⊛ raw (fact 𝓤 _)) ∷ []) ∵
-    move ! (1 ∷ []) $ split ! $ drop ! $ split ! $ drop ! $ split ! $ drop ! $ heard ! _ (λ bound.
+    move ! (1 ∷ []) $ split ! $ drop ! $ split ! $ drop ! $ split ! $ drop ! $ heard ! _ (λ ends. let bound = (m.lawful.ends _).0 ends in
     split ! $ move ! (1 ∷ []) $ drop ! $ enter ! _ _ _ _ _ $ alloc_all ! (λ l. pass_all ! refl ((tt, tt), tt) $
     sets ! (agg ! (no_more !)) refl (tt, tt) $ sets ! (agg ! (and_then ! (get ! refl) (no_more !))) refl (tt, (tt, tt)) $
     returns ! (look_at ! 0 refl) $ free_all ! refl $ use0 𝓛 (‵ (N.own_val (number bound.0) (word ∷ []))) (number_made 𝓛 bound.0) $
