@@ -14,5 +14,7 @@ pub use fallible_core::{
     FilterMap, FlatMap, Flatten, Fuse, Inspect, IntoFallibleIterator, Iterator, Map, MapErr,
     Peekable, Rev, Scan, Skip, SkipWhile, StepBy, Take, TakeWhile, Unwrap, Zip,
 };
-pub use sources::making::{convert, empty, from_fn, once, once_err, repeat, repeat_err};
+pub use sources::making::{
+    convert, convert_fused, empty, from_fn, once, once_err, repeat, repeat_err,
+};
 pub use sources::{Convert, Empty, FromFn, IntoFallible, Once, OnceErr, Repeat, RepeatErr};

@@ -18,7 +18,6 @@ ghost use Rattle.fallible_core.specs.Ends.Rev.{rev_parts};
 ghost use Rattle.fallible_iterator.specs.Listing.{ListsTheSame};
 
 use super::listed::{law_listed_filter, law_listed_map, law_listed_rev};
-use fallible_contract::folds::Is;
 use fallible_core::ends::Rev;
 use fallible_core::filtering::{Filter, FilterMap};
 use fallible_core::one_to_one::{Cloned, Inspect, Map, MapErr};
@@ -34,14 +33,13 @@ pub fn law_interleave<I: DoubleEndedFallibleIterator>()
 {}
 
 /// Runs and folds from one end are draws like others, also a fold that stopped: it drew its items and the answer that decided. Draws may come before them and after them, so `law_interleave` speaks of them too.
-pub fn law_interleave_folds<I: DoubleEndedFallibleIterator, B, E, T, F>()
+pub fn law_interleave_folds<I: DoubleEndedFallibleIterator, B, E, F>()
 where
     E: From<I::Error>,
-    I::Item: Is<T>,
-    F: FnMut(B, T) -> Result<B, E>,
+    F: FnMut(B, I::Item) -> Result<B, E>,
     ensures run { (side : Side) (s t : I) (trace : List (Answered I.Item I.Error)) → Run (step_at I.contract.steps I.ends.steps side) s trace t → Mix I.contract.steps I.ends.steps s (from_side side trace) t }
-    ensures fold { (s t : I) (b : B) (f : F) (r : Result B E) (h : Folded I.contract.steps (call_with I.Item.as_is F.FnMut) E.from_gives s b f r t) → Mix I.contract.steps I.ends.steps s (from_side Front (map item h.items ++ h.last ∷ [])) t }
-    ensures fold_back { (s t : I) (b : B) (f : F) (r : Result B E) (h : Folded I.ends.steps (call_with I.Item.as_is F.FnMut) E.from_gives s b f r t) → Mix I.contract.steps I.ends.steps s (from_side Back (map item h.items ++ h.last ∷ [])) t }
+    ensures fold { (s t : I) (b : B) (f : F) (r : Result B E) (h : Folded I.contract.steps (call_with F.FnMut) E.from_gives s b f r t) → Mix I.contract.steps I.ends.steps s (from_side Front (map item h.items ++ h.last ∷ [])) t }
+    ensures fold_back { (s t : I) (b : B) (f : F) (r : Result B E) (h : Folded I.ends.steps (call_with F.FnMut) E.from_gives s b f r t) → Mix I.contract.steps I.ends.steps s (from_side Back (map item h.items ++ h.last ∷ [])) t }
     ensures then_others { (s t u : I) (drawn others : List (Side × Answered I.Item I.Error)) → Mix I.contract.steps I.ends.steps s drawn t → Mix I.contract.steps I.ends.steps t others u → Mix I.contract.steps I.ends.steps s (drawn ++ others) u }
 {}
 

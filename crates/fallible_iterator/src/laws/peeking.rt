@@ -1,13 +1,16 @@
 // The whole-trace law of the adapter that looks ahead.
 ghost use Rattle.fallible_contract.specs.Definitions.{MeetsHeld};
-ghost use Rattle.fallible_core.specs.Peeking.Peekable.{peekable_parts, PeekableTrace};
+ghost use Rattle.std.specs.Prelude.{List, Result};
+ghost use Rattle.fallible_contract.specs.Lists.{Lists};
+ghost use Rattle.fallible_core.specs.Peeking.Peekable.{peekable_parts, PeekableTrace, behind_held};
 
 use fallible_core::peeking::Peekable;
 use fallible_core::traits::FallibleIterator;
 
-/// A trace of `Peekable` is the held answer, an item or an end, if there is one, and then the source's trace; nothing is held then. Where there are no answers, nothing changes.
+/// A trace of `Peekable` is the held answer, an item or an end, if there is one, and then the source's trace; nothing is held then. Where there are no answers, nothing changes. Over a source that lists l it lists l behind what is held.
 pub fn law_peekable<I: FallibleIterator>()
 where
     I::Item: Drop,
-    ensures { MeetsHeld peekable_parts ⟦<Peekable<I> as FallibleIterator>⟧.contract.steps (PeekableTrace I.contract.steps) }
+    ensures traces { MeetsHeld peekable_parts ⟦<Peekable<I> as FallibleIterator>⟧.contract.steps (PeekableTrace I.contract.steps) }
+    ensures lists { (s : Peekable I I.Item I.Error) (l : List (Result I.Item I.Error)) → Lists I.contract.steps (peekable_parts s).0 l → Lists ⟦<Peekable<I> as FallibleIterator>⟧.contract.steps s (behind_held (peekable_parts s).1 l) }
 {}

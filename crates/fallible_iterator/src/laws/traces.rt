@@ -17,8 +17,6 @@ pub fn answers<I: FallibleIterator>(
     n: usize,
 ) -> Result<Vec<Answer<I::Item, I::Error>>, AllocError>
 where
-    I::Item: Drop,
-    I::Error: Drop,
     requires { I.contract.can it.old }
     ensures drawn { IfOk result (λ v. IsAnswers I.contract.steps it.old n v.items it.new) }
     ensures is { (l : List (Result I.Item I.Error)) → n ≤ length l + 1 → Lists I.contract.steps it.old l → IfOk result (λ v. v.items ≡ take n (answers_of l)) }
@@ -28,10 +26,7 @@ where
     let mut made = Vec::with_capacity(alloc, n)?;
     while made.len() < n {
         let answer = draw(it);
-        match made.push(answer) {
-            Ok(()) => {}
-            Err(_) => unreachable!(),
-        }
+        made.push_reserved(answer);
     }
     Ok(made)
 }
@@ -43,8 +38,6 @@ pub fn answers_at<I: DoubleEndedFallibleIterator>(
     sides: &[Side],
 ) -> Result<Vec<Answer<I::Item, I::Error>>, AllocError>
 where
-    I::Item: Drop,
-    I::Error: Drop,
     requires { I.ends.can it.old }
     ensures drawn { IfOk result (λ v. IsAnswersAt I.contract.steps I.ends.steps it.old sides.now v.items it.new) }
     ensures refused { IfErr result (λ _. it.new ≡ it.old) }
@@ -53,10 +46,7 @@ where
     let mut given = Vec::with_capacity(alloc, sides.len())?;
     for side in sides {
         let answer = draw_at(it, *side);
-        match given.push(answer) {
-            Ok(()) => {}
-            Err(_) => unreachable!(),
-        }
+        given.push_reserved(answer);
     }
     Ok(given)
 }

@@ -1,5 +1,5 @@
 //! The functions that make sources.
-ghost use Rattle.std.specs.Prelude.{◌≡◌, Some, None, Ok, Err, List, [], ◌∷◌, Result, ⊤};
+ghost use Rattle.std.specs.Prelude.{◌≡◌, false, Some, None, Ok, Err, List, [], ◌∷◌, Result, ⊤};
 ghost use Rattle.fallible_iterator.specs.Sources.Convert.{convert_parts, convert_contract};
 ghost use Rattle.fallible_contract.specs.Contract.{seen_as};
 ghost use Rattle.fallible_contract.specs.Lists.{Lists, RunsRead, Repeats, results, items};
@@ -8,22 +8,37 @@ ghost use Rattle.fallible_iterator.specs.Sources.Once.{once_parts, once_contract
 ghost use Rattle.fallible_iterator.specs.Sources.Empty.{empty_contract};
 ghost use Rattle.fallible_iterator.specs.Sources.OnceErr.{once_err_parts, once_err_contract};
 ghost use Rattle.fallible_iterator.specs.Sources.Repeat.{repeat_parts, repeat_contract};
-ghost use Rattle.fallible_iterator.specs.Sources.RepeatErr.{repeat_err_parts, repeat_err_contract};
+ghost use Rattle.fallible_iterator.specs.Sources.RepeatErr.{repeat_err_parts};
 ghost use Rattle.fallible_contract.specs.Closures.{IsCallable};
+ghost use Rattle.std.specs.Iterator.Adapters.{fuse_source, fuse_done};
 
 use crate::sources::{Convert, Empty, FromFn, Once, OnceErr, Repeat, RepeatErr};
+use fallible_core::FallibleIterator;
 use std::alloc::AllocError;
+use std::iter::Fuse;
 use std::marker::PhantomData;
 
 /// Makes a fallible iterator of a std iterator over results. It draws nothing.
 ///
-/// It may be drawn from where the std iterator may be asked again after every answer, also after `None`, and a bound that it states doesn't rise there; from both ends, where that holds after every answer from either end. Of a std iterator that doesn't say so, as `lines` of a reader, std's `fuse` goes first: `convert(reader.lines(alloc).fuse())`. What it lists from behind is said by `rev` and by `law_back_convert`, which ask that the std iterator has two ends.
+/// It may be drawn from where the std iterator may be asked again after every answer, also after `None`, and a bound that it states doesn't rise there; from both ends, where that holds after every answer from either end. Of a std iterator that doesn't say so, as `lines` of a reader, `convert_fused` makes one. What it lists from behind is said by `rev` and by `law_back_convert`, which ask that the std iterator has two ends.
 pub fn convert<T, E, I: Iterator<Item = Result<T, E>>>(it: I) -> Convert<I>
     ensures parts { convert_parts result ≡ it }
     ensures results { (l : List (Result T E)) → RunsRead I.next_gives (λ y. y) it l → Lists (seen_as convert_parts (convert_contract I.can_next I.next_gives I.remaining)).steps result (results l) }
     ensures items { (l : List T) → RunsRead I.next_gives Ok it l → Lists (seen_as convert_parts (convert_contract {A = T} {E = E} I.can_next I.next_gives I.remaining)).steps result (items l) }
 {
     Convert { it }
+}
+
+/// Makes a fallible iterator of a std iterator over results which may have more to come after it answered `None`, as `lines` of a reader: `convert_fused(reader.lines(alloc))`. It draws nothing. After its first end the std iterator isn't asked again.
+///
+/// It is `convert` of the iterator's `fuse`, and may be drawn from where the std iterator may be asked again after every `Some`.
+pub fn convert_fused<T, E, I: Iterator<Item = Result<T, E>>>(it: I) -> Convert<Fuse<I>>
+    ensures source { fuse_source (convert_parts result) ≡ it }
+    ensures fresh { fuse_done (convert_parts result) ≡ false }
+    ensures results { (l : List (Result T E)) → RunsRead I.next_gives (λ y. y) it l → Lists ⟦<Convert<Fuse<I>> as FallibleIterator>⟧.contract.steps result (results l) }
+    ensures items { (l : List T) → RunsRead I.next_gives Ok it l → Lists ⟦<Convert<Fuse<I>> as FallibleIterator>⟧.contract.steps result (items l) }
+{
+    convert(it.fuse())
 }
 
 /// Makes a fallible iterator of one item, which then ends.
@@ -82,7 +97,6 @@ pub fn repeat<T: Clone, E: From<AllocError>>(value: T) -> Repeat<T, E>
 /// Makes a fallible iterator that always fails with a clone of `error`; where a clone is refused, with the failure made of the refusal, and the error stays.
 pub fn repeat_err<T, E: Clone + From<AllocError>>(error: E) -> RepeatErr<T, E>
     ensures parts { repeat_err_parts result ≡ error }
-    ensures repeats { E.is_infallible error → ((e : E) → E.is_clone error e → e ≡ error) → Repeats (seen_as repeat_err_parts (repeat_err_contract {A = T} E.is_clone E.is_infallible E.from_gives)).steps result (Err error) }
 {
     RepeatErr {
         item: PhantomData,

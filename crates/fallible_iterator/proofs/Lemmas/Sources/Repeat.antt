@@ -1,14 +1,12 @@
 -- The runs of one answer again and again, and that it is the same each time.
 use Rattle.std.specs.Prelude.{◌≡◌, Some, None, Result, Ok, Err, List, [], ◌∷◌, All, ◌↔◌}
 use Rattle.std.specs.declared.alloc.AllocError.{AllocError}
-use Rattle.std.proofs.Common.{refl, sym, subst, ap, ◌∙◌, inl, inr}
+use Rattle.std.proofs.Common.{refl, sym, subst, ap, ◌∙◌}
 use Rattle.std.proofs.lemmas.List.Elements.{All-nil, All-cons, All-head, All-tail}
 use Rattle.fallible_contract.specs.Traces.{Answered, Run}
 use Rattle.fallible_iterator.specs.declared.sources.repeat.Repeat.{Repeat}
-use Rattle.fallible_iterator.specs.declared.sources.repeat_err.RepeatErr.{RepeatErr}
 use Rattle.fallible_contract.specs.Contract.{seen_as}
 use Rattle.fallible_iterator.specs.Sources.Repeat.{RepeatAnswer, repeat_parts, repeat_contract}
-use Rattle.fallible_iterator.specs.Sources.RepeatErr.{RepeatErrAnswer, repeat_err_parts, repeat_err_contract}
 use Rattle.fallible_contract.specs.Lists.{Repeats, result_answer}
 
 -- ---- one answer again and again
@@ -50,11 +48,3 @@ module _ {A E : Type 0} (is_clone : A → A → Type 0) (is_infallible : A → T
 
   pub repeats_clones : (s : Repeat A E) → repeat_parts s ≡ v → Repeats (seen_as repeat_parts (repeat_contract is_clone is_infallible from)).steps s (Ok v)
   repeats_clones s parts = same_answer repeat_parts (RepeatAnswer is_clone is_infallible from) s (Ok v) (λ r p. clone_answer r (subst (λ (w : A). RepeatAnswer is_clone is_infallible from w r) parts p))
-
-module _ {A E : Type 0} (is_clone : E → E → Type 0) (is_infallible : E → Type 0) (from : AllocError → E → Type 0) (v : E) (granted : is_infallible v) (exact : (e : E) → is_clone v e → e ≡ v) where
-  failure_answer : (r : Answered A E) → RepeatErrAnswer is_clone is_infallible from v r → r ≡ Err v
-  failure_answer (Ok x) p = absurd p
-  failure_answer (Err e) p = ap (λ (d : E). Err d) (elim p [ inl q ↦ exact e q | inr q ↦ absurd (q.0 granted) ])
-
-  pub repeats_failures : (s : RepeatErr A E) → repeat_err_parts s ≡ v → Repeats (seen_as repeat_err_parts (repeat_err_contract {A = A} is_clone is_infallible from)).steps s (Err v)
-  repeats_failures s parts = same_answer repeat_err_parts (RepeatErrAnswer is_clone is_infallible from) s (Err v) (λ r p. failure_answer r (subst (λ (w : E). RepeatErrAnswer is_clone is_infallible from w r) parts p))

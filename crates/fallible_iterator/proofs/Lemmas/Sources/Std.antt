@@ -67,6 +67,15 @@ module _ {S A E Z X : Type 0} (of_item : A → Z) (of_failure : E → Z) (can : 
   gives_read [] s reads = λ r t w. ended r s t reads w.0
   gives_read (x ∷ l) s reads = λ r t w. let d = called r s t x l reads w.0 in (d.0, gives_read l t d.1)
 
+-- runs with the same items read the same list
+pub reads_alike : {S T X Z : Type 0} (gives : S → Option Z → S → Type 0) (others : T → Option Z → T → Type 0) (h : X → Z) (s : S) (t : T) (l : List X) → runs.EachRunFrom others t (λ p. runs.SomeRun gives s (λ q. runs.IsIdenticalRun p q)) → RunsRead gives h s l → RunsRead others h t l
+reads_alike gives others h s t l same reads p trigger from =
+    let behind = same p trigger from in
+    let q = reads behind.0 (seen _) behind.1 in
+    let long : behind.0.len ≡ p.len = behind.2.0.0 in
+    let few : behind.0.len ≤ length l = q.0 in
+    (omega (arith, few, long), (λ whole. sym long ∙ q.1 (behind.2.1 ∙ whole)), (λ k d lt. sym (behind.2.0.2 k) ∙ q.2 k d (omega (arith, lt, long))))
+
 -- what is read from behind is the list reversed
 pub read_behind : {S X Z : Type 0} (back : S → Option Z → S → Type 0) (h : X → Z) (s : S) (l : List X) → RunsReadBehind back h s l → RunsRead back h s (reverse l)
 read_behind back h s l reads p seen at = let q = reads p seen at in let long = length-reverse l in (
