@@ -7,7 +7,7 @@ ghost use Rattle.fallible_contract.specs.Laws.Ends.{lawful_ends_seen};
 ghost use Rattle.fallible_scripts.specs.Counted.{counted_parts};
 
 use fallible_contract::searching::Test;
-use fallible_iterator::folds::{Exit, Is, Turn};
+use fallible_iterator::folds::{Exit, Turn};
 use fallible_iterator::{DoubleEndedFallibleIterator, FallibleIterator};
 use std::cell::Cell;
 
@@ -18,9 +18,9 @@ pub struct Log {
     pub nexts: Cell<u32>,
     /// of `next_back`
     pub next_backs: Cell<u32>,
-    /// of `try_fold`
+    /// of `try_fold_carrying`, through which `try_fold` and `fold` go
     pub folds: Cell<u32>,
-    /// of `try_rfold`
+    /// of `try_rfold_carrying`, through which `try_rfold` and `rfold` go
     pub rfolds: Cell<u32>,
     /// of `count`
     pub counts: Cell<u32>,
@@ -108,17 +108,6 @@ impl<'a, I: FallibleIterator> FallibleIterator for Counted<'a, I> {
         self.it.try_fold_carrying(init, k)
     }
 
-    fn try_fold<B, E, T, F>(&mut self, init: B, f: F) -> Result<B, E>
-    where
-        B: Drop,
-        E: From<I::Error>,
-        I::Item: Is<T>,
-        F: FnMut(B, T) -> Result<B, E>,
-    {
-        add(&self.log.folds);
-        self.it.try_fold(init, f)
-    }
-
     fn count(self) -> Result<usize, I::Error>
     where
         I::Item: Drop,
@@ -173,17 +162,6 @@ impl<'a, I: DoubleEndedFallibleIterator> DoubleEndedFallibleIterator for Counted
     ) -> Exit<C, I::Error, R> {
         add(&self.log.rfolds);
         self.it.try_rfold_carrying(init, k)
-    }
-
-    fn try_rfold<B, E, T, F>(&mut self, init: B, f: F) -> Result<B, E>
-    where
-        B: Drop,
-        E: From<I::Error>,
-        I::Item: Is<T>,
-        F: FnMut(B, T) -> Result<B, E>,
-    {
-        add(&self.log.rfolds);
-        self.it.try_rfold(init, f)
     }
 
     ghost lawful_ends = { lawful_ends_seen counted_parts I.lawful_ends };

@@ -1,6 +1,8 @@
 // Sources.
 use fallible_iterator::laws::Answer::{Failure, Item};
-use fallible_iterator::{FallibleIterator, IteratorExt, empty, from_fn, once, repeat, repeat_err};
+use fallible_iterator::{
+    FallibleIterator, IteratorExt, convert_fused, empty, from_fn, once, repeat, repeat_err,
+};
 use fallible_testing::answered::expect_answers;
 use fallible_testing::collected::expect_collected;
 use fallible_testing::test_error::TestError;
@@ -21,6 +23,22 @@ fn from_fn_goes_on_after_an_end(rt: HostRuntime) {
     });
     let drawn = [it.next(), it.next(), it.next(), it.next()];
     assert_eq!(rt; drawn, [Ok(Some(1)), Ok(None), Ok(Some(2)), Ok(None)]);
+}
+
+#[test]
+fn convert_fused_only_ends_after_its_first_end(rt: HostRuntime) {
+    let mut calls = 0u32;
+    let source = from_fn(move || {
+        calls = calls.wrapping_add(1);
+        match calls {
+            2 => Err(9),
+            4 => Ok(None),
+            number => Ok::<Option<u32>, u32>(Some(number)),
+        }
+    });
+    let mut it = convert_fused(source.iterator());
+    let drawn = [it.next(), it.next(), it.next(), it.next(), it.next()];
+    assert_eq!(rt; drawn, [Ok(Some(1)), Err(9), Ok(Some(3)), Ok(None), Ok(None)]);
 }
 
 #[test]
