@@ -1,6 +1,7 @@
 // Collections of several kinds, and two collections at once.
 ghost use Rattle.std.specs.Prelude.{⊤};
 
+use crate::tagged::Tagged;
 use fallible_iterator::{Collect, FallibleIterator, Fault, convert};
 use fallible_testing::collected::{expect_refused, expect_source_fault};
 use std::alloc::{AllocError, Global};
@@ -71,6 +72,58 @@ fn collect_into_a_map_keeps_the_last_value(rt: HostRuntime) {
     assert_eq!(rt; map.len(), 2);
     assert_eq!(rt; map.get(&1), Some(&'c'));
     assert_eq!(rt; map.get(&2), Some(&'b'));
+}
+
+// An item of that key and tag.
+fn tagged(key: u32, tag: char) -> Tagged {
+    Tagged { key, tag }
+}
+
+#[test]
+fn collect_into_a_set_keeps_the_first_of_equal_items(rt: HostRuntime) {
+    let answers: [Result<Tagged, u32>; 3] = [
+        Ok(tagged(1, 'a')),
+        Ok(tagged(2, 'b')),
+        Ok(tagged(1, 'c')),
+    ];
+    let set: BTreeSet<Tagged> = convert(answers.iter().copied())
+        .collect(rt.alloc())
+        .expect(&rt, "a set");
+    assert_eq!(rt; set.len(), 2);
+    assert_eq!(rt; set.get(&tagged(1, 'd')).map(|item| item.tag), Some('a'));
+    assert_eq!(rt; set.get(&tagged(2, 'd')).map(|item| item.tag), Some('b'));
+    let set: HashSet<Tagged> = convert(answers.iter().copied())
+        .collect(rt.alloc())
+        .expect(&rt, "a set");
+    assert_eq!(rt; set.len(), 2);
+    assert_eq!(rt; set.get(&tagged(1, 'd')).map(|item| item.tag), Some('a'));
+    assert_eq!(rt; set.get(&tagged(2, 'd')).map(|item| item.tag), Some('b'));
+}
+
+// The tag of a key that a map holds, and its value.
+fn entry(found: Option<(&Tagged, &u32)>) -> Option<(char, u32)> {
+    found.map(|(key, value)| (key.tag, *value))
+}
+
+#[test]
+fn collect_into_a_map_keeps_the_first_of_equal_keys_with_the_last_value(rt: HostRuntime) {
+    let answers: [Result<(Tagged, u32), u32>; 3] = [
+        Ok((tagged(1, 'a'), 10)),
+        Ok((tagged(2, 'b'), 20)),
+        Ok((tagged(1, 'c'), 30)),
+    ];
+    let map: BTreeMap<Tagged, u32> = convert(answers.iter().copied())
+        .collect(rt.alloc())
+        .expect(&rt, "a map");
+    assert_eq!(rt; map.len(), 2);
+    assert_eq!(rt; entry(map.get_key_value(&tagged(1, 'd'))), Some(('a', 30)));
+    assert_eq!(rt; entry(map.get_key_value(&tagged(2, 'd'))), Some(('b', 20)));
+    let map: HashMap<Tagged, u32> = convert(answers.iter().copied())
+        .collect(rt.alloc())
+        .expect(&rt, "a map");
+    assert_eq!(rt; map.len(), 2);
+    assert_eq!(rt; entry(map.get_key_value(&tagged(1, 'd'))), Some(('a', 30)));
+    assert_eq!(rt; entry(map.get_key_value(&tagged(2, 'd'))), Some(('b', 20)));
 }
 
 #[test]

@@ -69,6 +69,9 @@ fn a_front_is_less_and_the_longer_one_greater(rt: HostRuntime) {
     assert_eq!(rt; partial_cmp_of(&two, &one), Ok(Some(Ordering::Greater)));
     let longer = cmp_of(&[Ok(1), Ok(2)], &[Ok(1)]);
     assert_eq!(rt; longer, (Ok(Ordering::Greater), Ok(None)));
+    assert_eq!(rt; gt_le_ge_of(&two, &one), (Ok(true), Ok(false), Ok(true)));
+    assert_eq!(rt; gt_le_ge_of(&one, &two), (Ok(false), Ok(true), Ok(false)));
+    assert_eq!(rt; ne_of(&one, &two), Ok(true));
 }
 
 #[test]
@@ -97,6 +100,11 @@ fn the_first_unequal_items_say_what_is_greater_and_what_is_less(rt: HostRuntime)
         gt_le_ge_of(&[Ok(1.0), Err(4)], &two),
         (Err(4), Err(4), Err(4))
     );
+    assert_eq!(rt; lt_of(&two, &three), (Ok(true), Ok(Some(0.0))));
+    assert_eq!(rt; lt_of(&three, &two), (Ok(false), Ok(None)));
+    assert_eq!(rt; lt_of(&two, &two), (Ok(false), Ok(None)));
+    assert_eq!(rt; ne_of(&two, &three), Ok(true));
+    assert_eq!(rt; ne_of(&two, &two), Ok(false));
 }
 
 #[test]

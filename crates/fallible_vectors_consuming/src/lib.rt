@@ -13,3 +13,5 @@ pub mod parts;
 mod picking;
 #[cfg(test)]
 mod searching;
+/// Items that are equal where their keys are, and can still be told apart.
+pub mod tagged;

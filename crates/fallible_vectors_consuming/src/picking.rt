@@ -1,4 +1,5 @@
 // Of equal items the last is the best; a failure is the answer, and nothing is drawn after it.
+use crate::tagged::Tagged;
 use fallible_iterator::{FallibleIterator, convert, empty, once};
 use std::cmp::Ordering;
 
@@ -44,6 +45,23 @@ fn max_is_none_without_an_item_and_draws_nothing_after_a_failure(rt: HostRuntime
 fn min_of_four_items(rt: HostRuntime) {
     let answers: [Result<i32, u32>; 4] = [Ok(0), Ok(3), Ok(-10), Ok(1)];
     assert_eq!(rt; convert(answers.iter().copied()).min(), Ok(Some(-10)));
+}
+
+#[test]
+fn max_and_min_are_the_last_of_equal_items(rt: HostRuntime) {
+    let answers: [Result<Tagged, u32>; 4] = [
+        Ok(Tagged { key: 1, tag: 'a' }),
+        Ok(Tagged { key: 2, tag: 'b' }),
+        Ok(Tagged { key: 2, tag: 'c' }),
+        Ok(Tagged { key: 1, tag: 'd' }),
+    ];
+    let greatest = convert(answers.iter().copied()).max();
+    assert_eq!(rt;
+        greatest.map(|best| best.map(|item| item.tag)),
+        Ok(Some('c'))
+    );
+    let least = convert(answers.iter().copied()).min();
+    assert_eq!(rt; least.map(|best| best.map(|item| item.tag)), Ok(Some('d')));
 }
 
 // no item is this
