@@ -1,8 +1,7 @@
 //! What searches find, and which item is the best.
-ghost use Rattle.std.specs.Prelude.{◌≡◌, Result, Ok, Option, nat_lt};
+ghost use Rattle.std.specs.Prelude.{◌≡◌, ◌*◌, Result, Ok, Option, nat_lt};
 ghost use Rattle.std.specs.Ordering.{nat_cmp};
-ghost use Rattle.std.specs.declared.cmp.Ordering.TheVariants.{Greater, Less};
-ghost use Rattle.fallible_contract.specs.Lists.{results, filtered, numbered, skipped, taken, all_of, any_of, found, last_of, position_in, best_by, PartedAs, UnzippedAs};
+ghost use Rattle.fallible_contract.specs.Lists.{results, mapped, filtered, numbered, skipped, taken, all_of, any_of, found, last_of, position_in, greatest, least, PartedAs, UnzippedAs};
 
 use fallible_iterator::{FallibleIterator, Fault, convert};
 use std::alloc::Global;
@@ -34,11 +33,33 @@ pub fn place_above_100(readings: Vec<Result<u32, u8>>) -> Result<Option<usize>, 
 
 /// The greatest reading above 100, or the first failure.
 pub fn greatest_above_100(readings: Vec<Result<u32, u8>>) -> Result<Option<u32>, u8>
-    ensures { result ≡ best_by Greater (λ x y. Ok (nat_cmp x y)) (filtered (λ x. Ok (nat_lt 100 x)) (results readings.items)) }
+    ensures { result ≡ greatest nat_cmp (filtered (λ x. Ok (nat_lt 100 x)) (results readings.items)) }
 {
     convert(readings.into_iter())
         .filter(|reading| Ok(*reading > 100))
         .max()
+}
+
+/// The greatest double of the readings above 100 among the first ten, or the first failure.
+pub fn greatest_double_of_ten(readings: Vec<Result<u32, u8>>) -> Result<Option<u64>, u8>
+    ensures { result ≡ greatest nat_cmp (mapped (λ x. Ok (x * 2)) (filtered (λ x. Ok (nat_lt 100 x)) (taken 10 (results readings.items)))) }
+{
+    convert(readings.into_iter())
+        .take(10)
+        .filter(|reading| Ok(*reading > 100))
+        .map(|reading| Ok(u64::from(reading) * 2))
+        .max()
+}
+
+/// The least double above 1000 of the readings after the first, or the first failure.
+pub fn least_double_above_1000(readings: Vec<Result<u32, u8>>) -> Result<Option<u64>, u8>
+    ensures { result ≡ least nat_cmp (filtered (λ x. Ok (nat_lt 1000 x)) (mapped (λ x. Ok (x * 2)) (skipped 1 (results readings.items)))) }
+{
+    convert(readings.into_iter())
+        .skip(1)
+        .map(|reading| Ok(u64::from(reading) * 2))
+        .filter(|double| Ok(*double > 1000))
+        .min()
 }
 
 /// The first reading above 100 after the first two, if there is one, or the failure that comes first.

@@ -4,7 +4,7 @@ ghost use Rattle.fallible_contract.specs.Contract.{unbounded};
 ghost use Rattle.fallible_contract.specs.Laws.ToCome.{lawful_unbounded};
 ghost use Rattle.fallible_callers.specs.Reading.{DrawsByte};
 
-use fallible_iterator::{FallibleIterator, convert};
+use fallible_iterator::{FallibleIterator, convert, convert_fused};
 use std::alloc::Global;
 use std::io::{BufRead, Read};
 
@@ -60,9 +60,9 @@ pub enum LineFault {
     Number,
 }
 
-/// The sum of the numbers that the lines of a reader are, modulo 2 ^ 64, or the first fault. After its end std's `lines` may have more to come, so `fuse` comes first.
+/// The sum of the numbers that the lines of a reader are, modulo 2 ^ 64, or the first fault. After its end std's `lines` may have more to come, so `convert_fused` makes the source.
 pub fn sum_of_lines<R: BufRead + Drop>(alloc: Global, reader: R) -> Result<u64, LineFault> {
-    convert(reader.lines(alloc).fuse())
+    convert_fused(reader.lines(alloc))
         .map_err(|_| LineFault::Read)
         .map(|line| line.parse::<u64>().map_err(|_| LineFault::Number))
         .fold(0, |sum: u64, number: u64| Ok(sum.wrapping_add(number)))

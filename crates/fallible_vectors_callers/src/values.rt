@@ -12,8 +12,8 @@ use fallible_callers::computing::{
     doubled_above_1000, fold_of_one, fourth_above_100, places, products, running_sums, sum,
 };
 use fallible_callers::consuming::{
-    all_above_100, any_above_100, first_above_100, greatest_above_100, last_above_100,
-    parted_at_100, place_above_100, two_columns,
+    all_above_100, any_above_100, first_above_100, greatest_above_100, greatest_double_of_ten,
+    last_above_100, least_double_above_1000, parted_at_100, place_above_100, two_columns,
 };
 use fallible_callers::drawing::{draw_all, second_if_above, third_draw, third_of};
 use fallible_callers::generic::{mean, mean_of_nest, sum_of_nest};
@@ -202,15 +202,30 @@ fn lines(rt: HostRuntime) -> Result<(), Fail> {
 }
 
 #[test]
-fn searches_and_the_greatest(rt: HostRuntime) -> Result<(), Fail> {
+fn searches(rt: HostRuntime) -> Result<(), Fail> {
     assert_eq!(rt; all_above_100(readings(rt.alloc())?), Ok(false));
     assert_eq!(rt; any_above_100(readings(rt.alloc())?), Ok(true));
     assert_eq!(rt; place_above_100(readings(rt.alloc())?), Ok(Some(0)));
     assert_eq!(rt; place_above_100(good_readings(rt.alloc())?), Ok(Some(1)));
+    Ok(())
+}
+
+#[test]
+fn the_greatest_and_the_least(rt: HostRuntime) -> Result<(), Fail> {
     assert_eq!(rt; greatest_above_100(readings(rt.alloc())?), Err(9));
     assert_eq!(rt;
         greatest_above_100(good_readings(rt.alloc())?),
         Ok(Some(600))
+    );
+    assert_eq!(rt; greatest_double_of_ten(readings(rt.alloc())?), Err(9));
+    assert_eq!(rt;
+        greatest_double_of_ten(good_readings(rt.alloc())?),
+        Ok(Some(1200))
+    );
+    assert_eq!(rt; least_double_above_1000(readings(rt.alloc())?), Err(9));
+    assert_eq!(rt;
+        least_double_above_1000(good_readings(rt.alloc())?),
+        Ok(Some(1002))
     );
     Ok(())
 }

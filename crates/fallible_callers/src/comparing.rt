@@ -1,0 +1,142 @@
+//! How two chains compare, where one of them is known to end.
+ghost use Rattle.std.specs.Prelude.{◌≡◌, ◌*◌, ◌%◌, ◌^◌, List, Result, Ok, Some, nat_lt, nat_eq};
+ghost use Rattle.std.specs.Ordering.{nat_cmp};
+ghost use Rattle.fallible_contract.specs.Comparing.{by_cmp, by_eq, read_as, reads_eq};
+ghost use Rattle.fallible_contract.specs.Lists.{Lists, results, mapped, filtered, compared};
+
+use fallible_iterator::{FallibleIterator, convert, repeat};
+use std::alloc::AllocError;
+use std::cmp::Ordering;
+
+/// How the doubled readings of the left compare with the readings above 100 of the right, or the failure that comes first.
+pub fn order_of_doubled(
+    left: Vec<Result<u32, u8>>,
+    right: Vec<Result<u32, u8>>,
+) -> Result<Ordering, u8>
+    ensures { read_as (λ o. Some o) result ≡ compared (by_cmp nat_cmp) (mapped (λ x. Ok (x * 2 % 2 ^ 32)) (results left.items)) (filtered (λ x. Ok (nat_lt 100 x)) (results right.items)) }
+{
+    convert(left.into_iter())
+        .map(|reading: u32| Ok(reading.wrapping_mul(2)))
+        .cmp(convert(right.into_iter()).filter(|reading| Ok(*reading > 100)))
+}
+
+/// How the first ten readings of the left compare with those of the right after its first one, or the failure that comes first.
+pub fn order_of_ten(
+    left: Vec<Result<u32, u8>>,
+    right: Vec<Result<u32, u8>>,
+) -> Result<Option<Ordering>, u8> {
+    convert(left.into_iter())
+        .take(10)
+        .partial_cmp(convert(right.into_iter()).skip(1))
+}
+
+/// Whether both sides have the same readings, or the failure that comes first.
+pub fn same_readings(left: Vec<Result<u32, u8>>, right: Vec<Result<u32, u8>>) -> Result<bool, u8> {
+    convert(left.into_iter()).eq(convert(right.into_iter()))
+}
+
+/// Whether both sides have the same readings above 100, or the failure that comes first.
+pub fn same_above_100(left: Vec<Result<u32, u8>>, right: Vec<Result<u32, u8>>) -> Result<bool, u8>
+    ensures { result ≡ read_as reads_eq (compared (by_eq nat_eq) (filtered (λ x. Ok (nat_lt 100 x)) (results left.items)) (filtered (λ x. Ok (nat_lt 100 x)) (results right.items))) }
+{
+    convert(left.into_iter())
+        .filter(|reading| Ok(*reading > 100))
+        .eq(convert(right.into_iter()).filter(|reading| Ok(*reading > 100)))
+}
+
+/// Whether the doubled readings of the left differ from the readings of the right, or the failure that comes first.
+pub fn doubled_differ(left: Vec<Result<u32, u8>>, right: Vec<Result<u32, u8>>) -> Result<bool, u8> {
+    convert(left.into_iter())
+        .map(|reading: u32| Ok(reading.wrapping_mul(2)))
+        .ne(convert(right.into_iter()))
+}
+
+/// Whether the first three readings above 100 of the left are less than those of the right, or the failure that comes first.
+pub fn three_are_less(left: Vec<Result<u32, u8>>, right: Vec<Result<u32, u8>>) -> Result<bool, u8> {
+    convert(left.into_iter())
+        .filter(|reading| Ok(*reading > 100))
+        .take(3)
+        .lt(
+            convert(right.into_iter())
+                .filter(|reading| Ok(*reading > 100))
+                .take(3),
+        )
+}
+
+/// Whether the readings of the left are less than the doubled readings of the right or equal, or the failure that comes first.
+pub fn up_to_doubled(left: Vec<Result<u32, u8>>, right: Vec<Result<u32, u8>>) -> Result<bool, u8> {
+    convert(left.into_iter()).le(convert(right.into_iter()).map(|reading: u32| Ok(
+        reading.wrapping_mul(2),
+    )))
+}
+
+/// Whether the readings of the left are greater than the readings above 100 of the right, or the failure that comes first.
+pub fn greater_than_above_100(
+    left: Vec<Result<u32, u8>>,
+    right: Vec<Result<u32, u8>>,
+) -> Result<bool, u8> {
+    convert(left.into_iter()).gt(convert(right.into_iter()).filter(|reading| Ok(*reading > 100)))
+}
+
+/// Whether the readings of the left after the first are greater than the first ten of the right or equal, or the failure that comes first.
+pub fn at_least_ten(left: Vec<Result<u32, u8>>, right: Vec<Result<u32, u8>>) -> Result<bool, u8> {
+    convert(left.into_iter())
+        .skip(1)
+        .ge(convert(right.into_iter()).take(10))
+}
+
+/// How the limit, repeated without end, compares with the readings: as with the first one that is not the limit, and greater where there is none. The readings end, so the comparison does.
+pub fn limit_against(
+    limit: u32,
+    readings: Vec<Result<u32, AllocError>>,
+) -> Result<Ordering, AllocError> {
+    repeat(limit).cmp(convert(readings.into_iter()))
+}
+
+/// Whether two iterators give equal items, of which the left is known to end.
+pub fn same_as<I, J>(left: I, right: J) -> Result<bool, I::Error>
+where
+    I: FallibleIterator,
+    I::Item: PartialEq + Drop,
+    J: FallibleIterator<Item = I::Item, Error = I::Error>,
+    requires left { I.contract.can left }
+    requires right { J.contract.can right }
+    requires finite { I.contract.has_end left }
+    ensures { (a b : List (Result I.Item I.Error)) → Lists I.contract.steps left a → Lists J.contract.steps right b → result ≡ read_as reads_eq (compared (by_eq I.Item.eq) a b) }
+{
+    left.eq(right)
+}
+
+/// How two iterators compare, of which the right is known to end.
+pub fn order_to<I, J>(left: I, right: J) -> Result<Ordering, I::Error>
+where
+    I: FallibleIterator,
+    I::Item: Ord + Drop,
+    J: FallibleIterator<Item = I::Item, Error = I::Error>,
+    requires left { I.contract.can left }
+    requires right { J.contract.can right }
+    requires finite { J.contract.has_end right }
+    ensures { (a b : List (Result I.Item I.Error)) → Lists I.contract.steps left a → Lists J.contract.steps right b → read_as (λ o. Some o) result ≡ compared (by_cmp I.Item.cmp) a b }
+{
+    left.cmp(right)
+}
+
+/// How often an item is greater than the one before it, modulo 2 ^ 64.
+pub fn rises<J: FallibleIterator<Item = u32>>(it: J) -> Result<u64, J::Error>
+where
+    requires can { J.contract.can it }
+    requires finite { J.contract.has_end it }
+{
+    let mut ahead = it.peekable();
+    let mut left = ahead.number();
+    let mut rises: u64 = 0;
+    while let Some(item) = ahead.draw()? {
+        left = left.one_less();
+        if let Some(next) = ahead.peek_copied()? {
+            if item < next {
+                rises = rises.wrapping_add(1);
+            }
+        }
+    }
+    Ok(rises)
+}
