@@ -19,6 +19,8 @@ pub fn run(alloc: Global, way: Way, name: Name, n: u64) -> Result<u64, AllocErro
         Name::Collect => collect(alloc, way, n),
         Name::Zip => Ok(sure(zip(way, n))),
         Name::Scan => Ok(sure(scan(way, n))),
+        Name::Nest => Ok(sure(nest(way, n))),
+        Name::Chains => Ok(sure(chains(way, n))),
     }
 }
 
@@ -120,5 +122,39 @@ fn scan(way: Way, n: u64) -> Result<u64, Infallible> {
             *state = mixed(*state, x);
             Ok(Some(*state))
         }),
+    )
+}
+
+// Ten adapters, a chain among them.
+fn nest(way: Way, n: u64) -> Result<u64, Infallible> {
+    drained(
+        way,
+        (0..n / 2)
+            .into_fallible()
+            .map(|x: u64| Ok(mixed(x, x)))
+            .filter(|y: &u64| Ok(*y % 3 != 0))
+            .chain((0..n / 2).into_fallible())
+            .skip_while(|x: &u64| Ok(*x < n / 8))
+            .inspect(|_: &u64| Ok(()))
+            .filter_map(|x: u64| Ok(if x % 7 == 0 { None } else { Some(x ^ 5) }))
+            .fuse()
+            .take_while(|z: &u64| Ok(*z != n))
+            .skip(10)
+            .map(|z: u64| Ok(mixed(z, 1))),
+    )
+}
+
+// A chain in the front of another, and adapters below and above them.
+fn chains(way: Way, n: u64) -> Result<u64, Infallible> {
+    drained(
+        way,
+        (0..n / 4)
+            .into_fallible()
+            .chain((0..n / 4).into_fallible())
+            .map(|x: u64| Ok(mixed(x, x)))
+            .filter(|y: &u64| Ok(*y % 3 == 0))
+            .chain((0..n / 2).into_fallible())
+            .map(|z: u64| Ok(z ^ 5))
+            .inspect(|_: &u64| Ok(())),
     )
 }

@@ -20,6 +20,8 @@ pub fn run(alloc: Global, name: Name, n: u64) -> Result<u64, AllocError> {
         Name::Collect => collect(alloc, n),
         Name::Zip => Ok(zip(n)),
         Name::Scan => Ok(scan(n)),
+        Name::Nest => Ok(nest(n)),
+        Name::Chains => Ok(chains(n)),
     }
 }
 
@@ -131,6 +133,73 @@ fn scan(n: u64) -> u64 {
     for x in 0..n {
         state = mixed(state, x);
         value = mixed(value, state);
+    }
+    value
+}
+
+fn nest(n: u64) -> u64 {
+    let mut value = 0;
+    let mut skips = true;
+    let mut left_out: u64 = 10;
+    for x in 0..n / 2 {
+        let y = mixed(x, x);
+        if y % 3 == 0 {
+            continue;
+        }
+        if skips && y < n / 8 {
+            continue;
+        }
+        skips = false;
+        if y % 7 == 0 {
+            continue;
+        }
+        let z = y ^ 5;
+        if z == n {
+            return value;
+        }
+        if left_out == 0 {
+            value = mixed(value, mixed(z, 1));
+        } else {
+            left_out -= 1;
+        }
+    }
+    for x in 0..n / 2 {
+        if skips && x < n / 8 {
+            continue;
+        }
+        skips = false;
+        if x % 7 == 0 {
+            continue;
+        }
+        let z = x ^ 5;
+        if z == n {
+            return value;
+        }
+        if left_out == 0 {
+            value = mixed(value, mixed(z, 1));
+        } else {
+            left_out -= 1;
+        }
+    }
+    value
+}
+
+fn chains(n: u64) -> u64 {
+    let mut value = 0;
+    for x in 0..n / 4 {
+        let y = mixed(x, x);
+        if y % 3 == 0 {
+            value = mixed(value, y ^ 5);
+        }
+    }
+    for x in 0..n / 4 {
+        let y = mixed(x, x);
+        if y % 3 == 0 {
+            value = mixed(value, y ^ 5);
+        }
+    }
+    for x in 0..n / 2 {
+        value = mixed(value, x ^ 5);
     }
     value
 }

@@ -13,11 +13,13 @@ pub enum Name {
     Collect,
     Zip,
     Scan,
+    Nest,
+    Chains,
 }
 
 impl Name {
     // Every name, in the order of the table.
-    pub fn all() -> [Name; 10] {
+    pub fn all() -> [Name; 12] {
         [
             Name::Count,
             Name::Fold,
@@ -29,6 +31,8 @@ impl Name {
             Name::Collect,
             Name::Zip,
             Name::Scan,
+            Name::Nest,
+            Name::Chains,
         ]
     }
 
@@ -45,6 +49,8 @@ impl Name {
             Name::Collect => "collect",
             Name::Zip => "zip",
             Name::Scan => "scan",
+            Name::Nest => "nest",
+            Name::Chains => "chains",
         }
     }
 
