@@ -19,12 +19,19 @@ pub fn sum_below(end: u32) -> Result<u64, Infallible>
 }
 
 /// How many of the numbers below `end` are above 100, counted over a clone, and then their sum, modulo 2 ^ 64, of the original; or want of memory for the clone.
-pub fn count_and_sum(end: u32) -> Result<(Result<usize, Infallible>, Result<u64, Infallible>), AllocError>
+pub fn count_and_sum(
+    end: u32,
+) -> Result<(Result<usize, Infallible>, Result<u64, Infallible>), AllocError>
     ensures { IfOk result (λ both. (both.0 ≡ counted (filtered (λ x. Ok (nat_lt 100 x)) (items (range_with_len 0 end)))) × (both.1 ≡ folded (λ e. e) (λ s x. Ok ((s + x) % 2 ^ 64)) 0 (filtered (λ x. Ok (nat_lt 100 x)) (items (range_with_len 0 end))))) }
 {
-    let numbers = (0..end).into_fallible().filter(|number: &u32| Ok(*number > 100));
+    let numbers = (0..end)
+        .into_fallible()
+        .filter(|number: &u32| Ok(*number > 100));
     let count = numbers.clone()?.count();
-    let sum = numbers.fold(0, |sum: u64, number: u32| Ok(sum.wrapping_add(u64::from(number))));
+    let sum = numbers.fold(
+        0,
+        |sum: u64, number: u32| Ok(sum.wrapping_add(u64::from(number))),
+    );
     Ok((count, sum))
 }
 

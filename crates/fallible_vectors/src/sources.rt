@@ -38,7 +38,10 @@ fn convert_fused_only_ends_after_its_first_end(rt: HostRuntime) {
     });
     let mut it = convert_fused(source.iterator());
     let drawn = [it.next(), it.next(), it.next(), it.next(), it.next()];
-    assert_eq!(rt; drawn, [Ok(Some(1)), Err(9), Ok(Some(3)), Ok(None), Ok(None)]);
+    assert_eq!(rt;
+        drawn,
+        [Ok(Some(1)), Err(9), Ok(Some(3)), Ok(None), Ok(None)]
+    );
 }
 
 #[test]

@@ -17,7 +17,7 @@ use fallible_callers::consuming::{
 };
 use fallible_callers::drawing::{draw_all, second_if_above, third_draw, third_of};
 use fallible_callers::generic::{mean, mean_of_nest, sum_of_nest};
-use fallible_callers::ranges::{runs, sum_below};
+use fallible_callers::ranges::{count_and_sum, runs, sum_below};
 use fallible_callers::reading::{Bytes, LineFault, ReadFailed, newlines_of_three, sum_of_lines};
 use fallible_iterator::laws::Answer::Item;
 use fallible_iterator::{FallibleIterator, Fault, convert, empty};
@@ -141,6 +141,8 @@ fn a_drain_by_hand(rt: HostRuntime) -> Result<(), Fail> {
 fn ranges(rt: HostRuntime) -> Result<(), Fail> {
     assert_eq!(rt; sum_below(5), Ok(10));
     assert_eq!(rt; sum_below(0), Ok(0));
+    assert_eq!(rt; count_and_sum(105), Ok((Ok(4), Ok(410))));
+    assert_eq!(rt; count_and_sum(100), Ok((Ok(0), Ok(0))));
     let bounds = Vec::from_array(rt.alloc(), [Ok::<u32, Infallible>(3), Ok(0), Ok(2)])?;
     expect_made(&rt, runs(rt.alloc(), bounds), &[0, 1, 2, 0, 1]);
     Ok(())
