@@ -1,0 +1,95 @@
+//! What draws answer, as plain values.
+use std::alloc::AllocError;
+
+/// A failure of a source, of a closure or of a clone, as a number.
+#[derive(Clone, Copy, PartialEq, Eq, Debug)]
+pub struct Failed(pub u32);
+
+impl From<AllocError> for Failed {
+    fn from(_refused: AllocError) -> Failed {
+        Failed(100)
+    }
+}
+
+/// What one draw answered.
+#[derive(Clone, Copy, PartialEq, Eq, Debug)]
+pub enum Answer {
+    /// an item, as a number
+    Item(u32),
+    /// a failure
+    Failure(u32),
+    /// an end
+    End,
+}
+
+impl Answer {
+    /// The answer, as a draw gives it.
+    pub fn drawn(self) -> Result<Option<u32>, Failed> {
+        match self {
+            Answer::Item(x) => Ok(Some(x)),
+            Answer::Failure(e) => Err(Failed(e)),
+            Answer::End => Ok(None),
+        }
+    }
+
+    /// What a draw answered, its item as a number.
+    pub fn of<T: Coded>(drawn: Result<Option<T>, Failed>) -> Answer {
+        match drawn {
+            Ok(Some(x)) => Answer::Item(x.code()),
+            Ok(None) => Answer::End,
+            Err(e) => Answer::Failure(e.0),
+        }
+    }
+
+    /// A number, or a failure.
+    pub fn of_number(number: Result<usize, Failed>) -> Answer {
+        match number {
+            Ok(n) => Answer::Item(usize_code(n)),
+            Err(e) => Answer::Failure(e.0),
+        }
+    }
+}
+
+/// An answer, and how many answers the scripts had given by then.
+#[derive(Clone, Copy, PartialEq, Eq, Debug)]
+pub struct Seen {
+    /// what was answered
+    pub answer: Answer,
+    /// how many answers the scripts had given by then
+    pub draws: u32,
+}
+
+/// An item of a nest, which is compared as a number.
+pub trait Coded: Drop {
+    /// The item as a number.
+    fn code(&self) -> u32;
+}
+
+impl Coded for u32 {
+    fn code(&self) -> u32 {
+        *self
+    }
+}
+
+// A small number and an item.
+impl Coded for (usize, u32) {
+    fn code(&self) -> u32 {
+        pair_code(usize_code(self.0), self.1)
+    }
+}
+
+impl Coded for (u32, u32) {
+    fn code(&self) -> u32 {
+        pair_code(self.0, self.1)
+    }
+}
+
+/// The number of a pair.
+pub fn pair_code(x: u32, y: u32) -> u32 {
+    x.wrapping_mul(1000).wrapping_add(y)
+}
+
+// The number, where it fits.
+fn usize_code(n: usize) -> u32 {
+    u32::try_from(n).unwrap_or(u32::MAX)
+}

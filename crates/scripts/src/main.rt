@@ -1,0 +1,115 @@
+//! Drives each adapter by every script of at most four answers, and prints for each how many cases were compared and how many of them failed.
+#![tactic(auto)]
+
+mod answer;
+mod behind;
+mod case;
+mod comparing;
+mod consuming;
+mod cutting;
+mod driving;
+mod filtering;
+mod joining;
+mod layered;
+mod layers;
+mod lists;
+mod nests;
+mod one_to_one;
+mod operating;
+mod operation;
+mod pairs;
+mod peeking;
+mod rows;
+mod rules;
+mod script;
+
+use comparing::drive_comparisons;
+use consuming::drive_consumers;
+use driving::{Tally, drive};
+use pairs::drive_pairs;
+use rows::drive_rows;
+use std::io;
+
+fn main(rt: HostRuntime) -> io::Result<()> {
+    let mut total = Tally::none();
+    drive_one_to_one(&rt, &mut total)?;
+    drive_filtering(&rt, &mut total)?;
+    drive_cutting(&rt, &mut total)?;
+    drive_joining(&rt, &mut total)?;
+    drive_nests(&rt, &mut total)?;
+    drive_behind(&rt, &mut total)?;
+    drive_rows(&rt, &mut total)?;
+    drive_consumers(&rt, &mut total)?;
+    drive_comparisons(&rt, &mut total)?;
+    drive_pairs(&rt, &mut total)?;
+    let cases = total.cases;
+    let mismatches = total.mismatches;
+    println!(rt; "in all: {cases} cases, {mismatches} mismatches")
+}
+
+fn drive_one_to_one(rt: &HostRuntime, total: &mut Tally) -> io::Result<()> {
+    drive::<one_to_one::Borrowed>(rt, total)?;
+    drive::<one_to_one::Mapped>(rt, total)?;
+    drive::<one_to_one::MappedByCalls>(rt, total)?;
+    drive::<one_to_one::Inspected>(rt, total)?;
+    drive::<one_to_one::InspectedByCalls>(rt, total)?;
+    drive::<one_to_one::FailuresMapped>(rt, total)?;
+    drive::<one_to_one::Clones>(rt, total)?;
+    drive::<one_to_one::Scanned>(rt, total)?;
+    drive::<one_to_one::Enumerated>(rt, total)
+}
+
+fn drive_filtering(rt: &HostRuntime, total: &mut Tally) -> io::Result<()> {
+    drive::<filtering::Filtered>(rt, total)?;
+    drive::<filtering::FilteredByCalls>(rt, total)?;
+    drive::<filtering::FilterMapped>(rt, total)?;
+    drive::<filtering::FilterMappedByCalls>(rt, total)?;
+    drive::<filtering::SkippedWhile>(rt, total)?;
+    drive::<filtering::SkippedWhileByCalls>(rt, total)
+}
+
+fn drive_cutting(rt: &HostRuntime, total: &mut Tally) -> io::Result<()> {
+    drive::<cutting::TakenNone>(rt, total)?;
+    drive::<cutting::TakenTwo>(rt, total)?;
+    drive::<cutting::TakenWhile>(rt, total)?;
+    drive::<cutting::TakenWhileByCalls>(rt, total)?;
+    drive::<cutting::Fused>(rt, total)?;
+    drive::<cutting::SkippedOne>(rt, total)?;
+    drive::<cutting::SkippedTwo>(rt, total)?;
+    drive::<cutting::SteppedByTwo>(rt, total)?;
+    drive::<cutting::SteppedByThree>(rt, total)
+}
+
+fn drive_joining(rt: &HostRuntime, total: &mut Tally) -> io::Result<()> {
+    drive::<joining::ChainedInFront>(rt, total)?;
+    drive::<joining::ChainedBehind>(rt, total)?;
+    drive::<joining::ZippedLeft>(rt, total)?;
+    drive::<joining::ZippedRight>(rt, total)?;
+    drive::<joining::FlattenedOuter>(rt, total)?;
+    drive::<joining::FlattenedInner>(rt, total)?;
+    drive::<joining::FlatMappedOuter>(rt, total)?;
+    drive::<joining::FlatMappedInner>(rt, total)?;
+    drive::<joining::Cycled>(rt, total)
+}
+
+fn drive_nests(rt: &HostRuntime, total: &mut Tally) -> io::Result<()> {
+    drive::<peeking::Unpeeked>(rt, total)?;
+    drive::<peeking::Peeked>(rt, total)?;
+    drive::<peeking::TakenIf>(rt, total)?;
+    drive::<nests::FilteredMappedTaken>(rt, total)?;
+    drive::<nests::ChainedFused>(rt, total)?;
+    drive::<nests::FlattenedPeekable>(rt, total)?;
+    drive::<nests::FlattenedPeeked>(rt, total)
+}
+
+fn drive_behind(rt: &HostRuntime, total: &mut Tally) -> io::Result<()> {
+    drive::<behind::Reversed>(rt, total)?;
+    drive::<behind::ReversedTwice>(rt, total)?;
+    drive::<behind::MappedBehind>(rt, total)?;
+    drive::<behind::InspectedBehind>(rt, total)?;
+    drive::<behind::FailuresMappedBehind>(rt, total)?;
+    drive::<behind::FilteredBehind>(rt, total)?;
+    drive::<behind::FilterMappedBehind>(rt, total)?;
+    drive::<behind::ChainedFirst>(rt, total)?;
+    drive::<behind::ChainedSecond>(rt, total)
+}

@@ -1,0 +1,256 @@
+//! Adapters that answer each draw by one.
+ghost use Rattle.std.specs.Prelude.{◌-◌, ◌^◌};
+
+use crate::answer::{Answer, Failed, Seen};
+use crate::case::{Case, Given, Run};
+use crate::operating::operate;
+use crate::operation::Outcome;
+use crate::rules::{
+    each, failures_mapped_by_calls, inspected_by_calls, mapped_by_calls, unchanged,
+};
+use crate::script::Pointing;
+use fallible_iterator::FallibleIterator;
+use std::alloc::AllocError;
+
+/// A borrowed script itself.
+pub struct Borrowed;
+
+impl Case for Borrowed {
+    fn name() -> &'static str {
+        "borrowed"
+    }
+
+    fn perform(run: &Run<'_>) -> Result<Option<Outcome>, AllocError> {
+        let mut script = run.script();
+        operate(run, &mut script)
+    }
+
+    fn expected(given: &Given) -> Result<Vec<Seen>, AllocError> {
+        unchanged(given.alloc, given.all.as_slice())
+    }
+}
+
+/// `map` to ten times the item, which fails with 8 on 2.
+pub struct Mapped;
+
+impl Case for Mapped {
+    fn name() -> &'static str {
+        "map"
+    }
+
+    fn perform(run: &Run<'_>) -> Result<Option<Outcome>, AllocError> {
+        let mut script = run.script();
+        let nest = (&mut script).map(|x: u32| {
+            if x == 2 {
+                Err(Failed(8))
+            } else {
+                Ok(x.wrapping_mul(10))
+            }
+        });
+        operate(run, nest)
+    }
+
+    fn expected(given: &Given) -> Result<Vec<Seen>, AllocError> {
+        each(given.alloc, given.all.as_slice(), |answer: Answer| {
+            match answer {
+                Answer::Item(2) => Some(Answer::Failure(8)),
+                Answer::Item(x) => Some(Answer::Item(x.wrapping_mul(10))),
+                other => Some(other),
+            }
+        })
+    }
+}
+
+/// `map` to ten times the item and how often the closure was called, which fails with 8 on each third call.
+pub struct MappedByCalls;
+
+impl Case for MappedByCalls {
+    fn name() -> &'static str {
+        "map, by calls"
+    }
+
+    fn perform(run: &Run<'_>) -> Result<Option<Outcome>, AllocError> {
+        let mut script = run.script();
+        let mut calls: u32 = 0;
+        let nest = (&mut script).map(|x: u32| {
+            calls = calls.wrapping_add(1);
+            if calls % 3 == 0 {
+                Err(Failed(8))
+            } else {
+                Ok(x.wrapping_mul(10).wrapping_add(calls))
+            }
+        });
+        operate(run, nest)
+    }
+
+    fn expected(given: &Given) -> Result<Vec<Seen>, AllocError> {
+        mapped_by_calls(given.alloc, given.all.as_slice())
+    }
+}
+
+/// `inspect`, which fails with 8 on 2.
+pub struct Inspected;
+
+impl Case for Inspected {
+    fn name() -> &'static str {
+        "inspect"
+    }
+
+    fn perform(run: &Run<'_>) -> Result<Option<Outcome>, AllocError> {
+        let mut script = run.script();
+        let nest = (&mut script).inspect(|x: &u32| {
+            if *x == 2 { Err(Failed(8)) } else { Ok(()) }
+        });
+        operate(run, nest)
+    }
+
+    fn expected(given: &Given) -> Result<Vec<Seen>, AllocError> {
+        each(given.alloc, given.all.as_slice(), |answer: Answer| {
+            match answer {
+                Answer::Item(2) => Some(Answer::Failure(8)),
+                other => Some(other),
+            }
+        })
+    }
+}
+
+/// `inspect`, which fails with 8 on each third call.
+pub struct InspectedByCalls;
+
+impl Case for InspectedByCalls {
+    fn name() -> &'static str {
+        "inspect, by calls"
+    }
+
+    fn perform(run: &Run<'_>) -> Result<Option<Outcome>, AllocError> {
+        let mut script = run.script();
+        let mut calls: u32 = 0;
+        let nest = (&mut script).inspect(|_: &u32| {
+            calls = calls.wrapping_add(1);
+            if calls % 3 == 0 {
+                Err(Failed(8))
+            } else {
+                Ok(())
+            }
+        });
+        operate(run, nest)
+    }
+
+    fn expected(given: &Given) -> Result<Vec<Seen>, AllocError> {
+        inspected_by_calls(given.alloc, given.all.as_slice())
+    }
+}
+
+/// `map_err` to 100 more and how often the closure was called.
+pub struct FailuresMapped;
+
+impl Case for FailuresMapped {
+    fn name() -> &'static str {
+        "map_err, by calls"
+    }
+
+    fn perform(run: &Run<'_>) -> Result<Option<Outcome>, AllocError> {
+        let mut script = run.script();
+        let mut calls: u32 = 0;
+        let nest = (&mut script).map_err(|e: Failed| {
+            calls = calls.wrapping_add(1);
+            Failed(e.0.wrapping_add(100).wrapping_add(calls))
+        });
+        operate(run, nest)
+    }
+
+    fn expected(given: &Given) -> Result<Vec<Seen>, AllocError> {
+        failures_mapped_by_calls(given.alloc, given.all.as_slice())
+    }
+}
+
+const TENS: [u32; 2] = [10, 20];
+
+/// `cloned` of references to 10 and 20.
+pub struct Clones;
+
+impl Case for Clones {
+    fn name() -> &'static str {
+        "cloned"
+    }
+
+    fn perform(run: &Run<'_>) -> Result<Option<Outcome>, AllocError> {
+        let mut pointing = Pointing::new(run.script(), &TENS);
+        operate(run, (&mut pointing).cloned())
+    }
+
+    fn expected(given: &Given) -> Result<Vec<Seen>, AllocError> {
+        each(given.alloc, given.all.as_slice(), |answer: Answer| {
+            match answer {
+                Answer::Item(1) => Some(Answer::Item(10)),
+                Answer::Item(_) => Some(Answer::Item(20)),
+                other => Some(other),
+            }
+        })
+    }
+}
+
+/// `scan` to the sums, which ends at the sum 3 and fails with 8 at the sum 4.
+pub struct Scanned;
+
+impl Case for Scanned {
+    fn name() -> &'static str {
+        "scan"
+    }
+
+    fn perform(run: &Run<'_>) -> Result<Option<Outcome>, AllocError> {
+        let mut script = run.script();
+        let nest = (&mut script).scan(0, |sum: &mut u32, x: u32| {
+            *sum = (*sum).wrapping_add(x);
+            match *sum {
+                3 => Ok(None),
+                4 => Err(Failed(8)),
+                other => Ok(Some(other)),
+            }
+        });
+        operate(run, nest)
+    }
+
+    fn expected(given: &Given) -> Result<Vec<Seen>, AllocError> {
+        let mut sum: u32 = 0;
+        each(given.alloc, given.all.as_slice(), |answer: Answer| {
+            if let Answer::Item(x) = answer {
+                sum = sum.wrapping_add(x);
+                match sum {
+                    3 => Some(Answer::End),
+                    4 => Some(Answer::Failure(8)),
+                    other => Some(Answer::Item(other)),
+                }
+            } else {
+                Some(answer)
+            }
+        })
+    }
+}
+
+/// `enumerate`.
+pub struct Enumerated;
+
+impl Case for Enumerated {
+    fn name() -> &'static str {
+        "enumerate"
+    }
+
+    fn perform(run: &Run<'_>) -> Result<Option<Outcome>, AllocError> {
+        let mut script = run.script();
+        operate(run, (&mut script).enumerate())
+    }
+
+    fn expected(given: &Given) -> Result<Vec<Seen>, AllocError> {
+        let mut items: u32 = 0;
+        each(given.alloc, given.all.as_slice(), |answer: Answer| {
+            if let Answer::Item(x) = answer {
+                let number = items;
+                items = items.wrapping_add(1);
+                Some(Answer::Item(number.wrapping_mul(1000).wrapping_add(x)))
+            } else {
+                Some(answer)
+            }
+        })
+    }
+}
