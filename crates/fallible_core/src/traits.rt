@@ -142,7 +142,7 @@ pub trait FallibleIterator: Drop + Sized {
         requires can { contract.can self }
         requires fits { AtMost contract self (2 ^ 64 - 1) }
         ensures counted { Counted contract.steps self result }
-        ensures is { (l : List (Result Self.Item Self.Error)) → Lists contract.steps self l → result ≡ counted l }
+        ensures value { (l : List (Result Self.Item Self.Error)) → Lists contract.steps self l → result ≡ counted l }
     {
         value_at(self.try_fold_carrying(0, &Counting))
     }
@@ -156,7 +156,7 @@ pub trait FallibleIterator: Drop + Sized {
         requires can { contract.can self }
         requires finite { contract.has_end self }
         ensures last { LastOf contract.steps self result }
-        ensures is { (l : List (Result Self.Item Self.Error)) → Lists contract.steps self l → result ≡ last_of l }
+        ensures value { (l : List (Result Self.Item Self.Error)) → Lists contract.steps self l → result ≡ last_of l }
     {
         value_at(self.try_fold_carrying(None, &KeepingLast))
     }
@@ -167,7 +167,7 @@ pub trait FallibleIterator: Drop + Sized {
         Self::Item: Drop,
         requires { contract.can self.old }
         ensures nth { Nth contract.steps self.old n result self.new }
-        ensures is { (l : List (Result Self.Item Self.Error)) → Lists contract.steps self.old l → result ≡ nth_of n l }
+        ensures value { (l : List (Result Self.Item Self.Error)) → Lists contract.steps self.old l → result ≡ nth_of n l }
         ensures stays { Stays contract self.old self.new }
     {
         let mut left = n;
@@ -194,7 +194,7 @@ pub trait FallibleIterator: Drop + Sized {
         requires finite { contract.has_end self.old }
         requires callable { CallableInFold contract.steps (call_with F.FnMut) (takes_with F.FnMut) self.old f init }
         ensures folded { Folded contract.steps (call_with F.FnMut) E.from_gives self.old init f result self.new }
-        ensures is { (convert : Self.Error → E) (h : B → Self.Item → Result B E) (l : List (Result Self.Item Self.Error)) → Converts E.from_gives convert → ActsWith (call_with F.FnMut) f h → Lists contract.steps self.old l → result ≡ folded convert h init l }
+        ensures value { (convert : Self.Error → E) (h : B → Self.Item → Result B E) (l : List (Result Self.Item Self.Error)) → Converts E.from_gives convert → ActsWith (call_with F.FnMut) f h → Lists contract.steps self.old l → result ≡ folded convert h init l }
         ensures stays { Stays contract self.old self.new }
     {
         folded_at(self.try_fold_carrying((init, f), &Folding))
@@ -209,7 +209,7 @@ pub trait FallibleIterator: Drop + Sized {
         requires finite { contract.has_end self }
         requires callable { CallableInFold contract.steps (call_with F.FnMut) (takes_with F.FnMut) self f init }
         ensures folded { (left : Self) × Folded contract.steps (call_with F.FnMut) (λ e d. d ≡ e) self init f result left }
-        ensures is { (h : B → Self.Item → Result B Self.Error) (l : List (Result Self.Item Self.Error)) → ActsWith (call_with F.FnMut) f h → Lists contract.steps self l → result ≡ folded (λ e. e) h init l }
+        ensures value { (h : B → Self.Item → Result B Self.Error) (l : List (Result Self.Item Self.Error)) → ActsWith (call_with F.FnMut) f h → Lists contract.steps self l → result ≡ folded (λ e. e) h init l }
     {
         self.try_fold(init, f)
     }
@@ -523,7 +523,7 @@ pub trait FallibleIterator: Drop + Sized {
         requires can { contract.can self }
         requires finite { contract.has_end self }
         ensures collects { Collects contract.steps C.made C.empty_refuses C.push_refuses self result }
-        ensures is { (l : List (Result Self.Item Self.Error)) → Lists contract.steps self l → CollectedAs C.made l result }
+        ensures value { (l : List (Result Self.Item Self.Error)) → Lists contract.steps self l → CollectedAs C.made l result }
     {
         let mut made = match C::empty(alloc) {
             Ok(made) => made,
@@ -556,7 +556,7 @@ pub trait FallibleIterator: Drop + Sized {
         requires finite { contract.has_end self }
         requires callable { HoldsAtEachTurn contract.steps (Asks (call_at F.FnMut)) (takes_at F.FnMut) self f }
         ensures partitions { Partitions contract.steps (call_at F.FnMut) B.made B.empty_refuses B.push_refuses self f result }
-        ensures is { (h : Self.Item → Result Bool Self.Error) (l : List (Result Self.Item Self.Error)) → Acts (call_at F.FnMut) f h → Lists contract.steps self l → PartedAs B.made h l result }
+        ensures value { (h : Self.Item → Result Bool Self.Error) (l : List (Result Self.Item Self.Error)) → Acts (call_at F.FnMut) f h → Lists contract.steps self l → PartedAs B.made h l result }
     {
         let first = match B::empty(alloc) {
             Ok(made) => made,
@@ -591,7 +591,7 @@ pub trait FallibleIterator: Drop + Sized {
         requires can { contract.can self }
         requires finite { contract.has_end self }
         ensures collects { Collects contract.steps (MadeOfParts FromA.made FromB.made) (FromA.empty_refuses ⊎ FromB.empty_refuses) (PairRefused FromA.made FromB.made FromA.push_refuses FromB.push_refuses) self result }
-        ensures is { (l : List (Result (A × B) Self.Error)) → Lists contract.steps self l → UnzippedAs FromA.made FromB.made l result }
+        ensures value { (l : List (Result (A × B) Self.Error)) → Lists contract.steps self l → UnzippedAs FromA.made FromB.made l result }
     {
         let first = match FromA::empty(alloc) {
             Ok(made) => made,
@@ -622,7 +622,7 @@ pub trait FallibleIterator: Drop + Sized {
         requires finite { contract.has_end self }
         requires callable { CallableInSearch (call_on F.FnMut) each_pick contract.steps (takes_on F.FnMut) self f }
         ensures searched { (left : Self) × (g : F) × Searched (call_on F.FnMut) each_pick contract.steps tt self f result left g }
-        ensures is { (h : Self.Item → Result (Unit {0}) Self.Error) (l : List (Result Self.Item Self.Error)) → Acts (call_on F.FnMut) f h → Lists contract.steps self l → result ≡ each_done h l }
+        ensures value { (h : Self.Item → Result (Unit {0}) Self.Error) (l : List (Result Self.Item Self.Error)) → Acts (call_on F.FnMut) f h → Lists contract.steps self l → result ≡ each_done h l }
     {
         answer_at(self.try_fold_carrying(f, &CallingEach), ())
     }
@@ -637,7 +637,7 @@ pub trait FallibleIterator: Drop + Sized {
         requires finite { contract.has_end self.old }
         requires callable { CallableInSearch (call_on F.FnMut) all_pick contract.steps (takes_on F.FnMut) self.old f }
         ensures searched { (g : F) × Searched (call_on F.FnMut) all_pick contract.steps true self.old f result self.new g }
-        ensures is { (h : Self.Item → Result Bool Self.Error) (l : List (Result Self.Item Self.Error)) → Acts (call_on F.FnMut) f h → Lists contract.steps self.old l → result ≡ all_of h l }
+        ensures value { (h : Self.Item → Result Bool Self.Error) (l : List (Result Self.Item Self.Error)) → Acts (call_on F.FnMut) f h → Lists contract.steps self.old l → result ≡ all_of h l }
         ensures stays { Stays contract self.old self.new }
     {
         answer_at(self.try_fold_carrying(f, &RequiringAll), true)
@@ -653,7 +653,7 @@ pub trait FallibleIterator: Drop + Sized {
         requires finite { contract.has_end self.old }
         requires callable { CallableInSearch (call_on F.FnMut) any_pick contract.steps (takes_on F.FnMut) self.old f }
         ensures searched { (g : F) × Searched (call_on F.FnMut) any_pick contract.steps false self.old f result self.new g }
-        ensures is { (h : Self.Item → Result Bool Self.Error) (l : List (Result Self.Item Self.Error)) → Acts (call_on F.FnMut) f h → Lists contract.steps self.old l → result ≡ any_of h l }
+        ensures value { (h : Self.Item → Result Bool Self.Error) (l : List (Result Self.Item Self.Error)) → Acts (call_on F.FnMut) f h → Lists contract.steps self.old l → result ≡ any_of h l }
         ensures stays { Stays contract self.old self.new }
     {
         answer_at(self.try_fold_carrying(f, &SeekingAny), false)
@@ -670,7 +670,7 @@ pub trait FallibleIterator: Drop + Sized {
         requires finite { contract.has_end self.old }
         requires callable { CallableInSearch (call_at F.FnMut) find_pick contract.steps (takes_at F.FnMut) self.old f }
         ensures searched { (g : F) × Searched (call_at F.FnMut) find_pick contract.steps None self.old f result self.new g }
-        ensures is { (h : Self.Item → Result Bool Self.Error) (l : List (Result Self.Item Self.Error)) → Acts (call_at F.FnMut) f h → Lists contract.steps self.old l → result ≡ found h l }
+        ensures value { (h : Self.Item → Result Bool Self.Error) (l : List (Result Self.Item Self.Error)) → Acts (call_at F.FnMut) f h → Lists contract.steps self.old l → result ≡ found h l }
         ensures stays { Stays contract self.old self.new }
     {
         let (_, answer) = self.find_carrying(f, &Asking);
@@ -687,7 +687,7 @@ pub trait FallibleIterator: Drop + Sized {
         requires finite { contract.has_end self.old }
         requires callable { CallableInSearch (call_on F.FnMut) find_map_pick contract.steps (takes_on F.FnMut) self.old f }
         ensures searched { (g : F) × Searched (call_on F.FnMut) find_map_pick contract.steps None self.old f result self.new g }
-        ensures is { (h : Self.Item → Result (Option B) Self.Error) (l : List (Result Self.Item Self.Error)) → Acts (call_on F.FnMut) f h → Lists contract.steps self.old l → result ≡ find_mapped h l }
+        ensures value { (h : Self.Item → Result (Option B) Self.Error) (l : List (Result Self.Item Self.Error)) → Acts (call_on F.FnMut) f h → Lists contract.steps self.old l → result ≡ find_mapped h l }
         ensures stays { Stays contract self.old self.new }
     {
         found_at(self.try_fold_carrying(f, &FindingMapped))
@@ -703,7 +703,7 @@ pub trait FallibleIterator: Drop + Sized {
         requires fits { AtMost contract self.old (2 ^ 64 - 1) }
         requires callable { CallableInSearch (call_on F.FnMut) position_pick contract.steps (takes_on F.FnMut) self.old f }
         ensures searched { (g : F) × Searched (call_on F.FnMut) position_pick contract.steps None self.old f result self.new g }
-        ensures is { (h : Self.Item → Result Bool Self.Error) (l : List (Result Self.Item Self.Error)) → Acts (call_on F.FnMut) f h → Lists contract.steps self.old l → result ≡ position_in h l }
+        ensures value { (h : Self.Item → Result Bool Self.Error) (l : List (Result Self.Item Self.Error)) → Acts (call_on F.FnMut) f h → Lists contract.steps self.old l → result ≡ position_in h l }
         ensures stays { Stays contract self.old self.new }
     {
         found_at(self.try_fold_carrying((0, f), &Placing))
@@ -718,7 +718,7 @@ pub trait FallibleIterator: Drop + Sized {
         requires can { contract.can self }
         requires finite { contract.has_end self }
         ensures best { Best Greater Self.Item.cmp contract.steps self result }
-        ensures is { (l : List (Result Self.Item Self.Error)) → Lists contract.steps self l → result ≡ greatest Self.Item.cmp l }
+        ensures value { (l : List (Result Self.Item Self.Error)) → Lists contract.steps self l → result ≡ greatest Self.Item.cmp l }
     {
         let compare = |best: &Self::Item, x: &Self::Item| -> Result<Ordering, Self::Error>
             ensures { result ≡ Ok (Self.Item.cmp best.now x.now) }
@@ -735,7 +735,7 @@ pub trait FallibleIterator: Drop + Sized {
         requires can { contract.can self }
         requires finite { contract.has_end self }
         ensures best { Best Less Self.Item.cmp contract.steps self result }
-        ensures is { (l : List (Result Self.Item Self.Error)) → Lists contract.steps self l → result ≡ least Self.Item.cmp l }
+        ensures value { (l : List (Result Self.Item Self.Error)) → Lists contract.steps self l → result ≡ least Self.Item.cmp l }
     {
         let compare = |best: &Self::Item, x: &Self::Item| -> Result<Ordering, Self::Error>
             ensures { result ≡ Ok (Self.Item.cmp best.now x.now) }
@@ -755,7 +755,7 @@ pub trait FallibleIterator: Drop + Sized {
         requires finite { contract.has_end self }
         requires callable { CallableInFold contract.steps (KeyCall Greater B.cmp (call_at F.FnMut)) (λ g best x. takes_at F.FnMut g x) self f None }
         ensures best { BestByKey Greater B.cmp (call_at F.FnMut) contract.steps self f result }
-        ensures is { (h : Self.Item → Result B Self.Error) (l : List (Result Self.Item Self.Error)) → Acts (call_at F.FnMut) f h → Lists contract.steps self l → result ≡ best_by_key Greater B.cmp h l }
+        ensures value { (h : Self.Item → Result B Self.Error) (l : List (Result Self.Item Self.Error)) → Acts (call_at F.FnMut) f h → Lists contract.steps self l → result ≡ best_by_key Greater B.cmp h l }
     {
         without_key(best_by_key(self, Ordering::Greater, f))
     }
@@ -772,7 +772,7 @@ pub trait FallibleIterator: Drop + Sized {
         requires finite { contract.has_end self }
         requires callable { CallableInFold contract.steps (KeyCall Less B.cmp (call_at F.FnMut)) (λ g best x. takes_at F.FnMut g x) self f None }
         ensures best { BestByKey Less B.cmp (call_at F.FnMut) contract.steps self f result }
-        ensures is { (h : Self.Item → Result B Self.Error) (l : List (Result Self.Item Self.Error)) → Acts (call_at F.FnMut) f h → Lists contract.steps self l → result ≡ best_by_key Less B.cmp h l }
+        ensures value { (h : Self.Item → Result B Self.Error) (l : List (Result Self.Item Self.Error)) → Acts (call_at F.FnMut) f h → Lists contract.steps self l → result ≡ best_by_key Less B.cmp h l }
     {
         without_key(best_by_key(self, Ordering::Less, f))
     }
@@ -788,7 +788,7 @@ pub trait FallibleIterator: Drop + Sized {
         requires finite { contract.has_end self }
         requires callable { CallableInFold contract.steps (PickCall Greater (call_at_two F.FnMut)) (takes_in_pick (takes_at_two F.FnMut)) self f None }
         ensures picked { Picked Greater (call_at_two F.FnMut) contract.steps self f result }
-        ensures is { (h : Self.Item → Self.Item → Result Ordering Self.Error) (l : List (Result Self.Item Self.Error)) → ActsWith (call_at_two F.FnMut) f h → Lists contract.steps self l → result ≡ best_by Greater h l }
+        ensures value { (h : Self.Item → Self.Item → Result Ordering Self.Error) (l : List (Result Self.Item Self.Error)) → ActsWith (call_at_two F.FnMut) f h → Lists contract.steps self l → result ≡ best_by Greater h l }
     {
         best_by(self, Ordering::Greater, f)
     }
@@ -804,7 +804,7 @@ pub trait FallibleIterator: Drop + Sized {
         requires finite { contract.has_end self }
         requires callable { CallableInFold contract.steps (PickCall Less (call_at_two F.FnMut)) (takes_in_pick (takes_at_two F.FnMut)) self f None }
         ensures picked { Picked Less (call_at_two F.FnMut) contract.steps self f result }
-        ensures is { (h : Self.Item → Self.Item → Result Ordering Self.Error) (l : List (Result Self.Item Self.Error)) → ActsWith (call_at_two F.FnMut) f h → Lists contract.steps self l → result ≡ best_by Less h l }
+        ensures value { (h : Self.Item → Self.Item → Result Ordering Self.Error) (l : List (Result Self.Item Self.Error)) → ActsWith (call_at_two F.FnMut) f h → Lists contract.steps self l → result ≡ best_by Less h l }
     {
         best_by(self, Ordering::Less, f)
     }
@@ -820,7 +820,7 @@ pub trait FallibleIterator: Drop + Sized {
         requires right { (right : I.IntoFallibleIter) → I.into_gives other right → I.IntoFallibleIter.contract.can right }
         requires finite { OneHasEnd contract I.into_gives I.IntoFallibleIter.contract self other }
         ensures compared { ComparedWith (by_cmp Self.Item.cmp) I.into_gives contract.steps I.IntoFallibleIter.contract.steps self other (read_as (λ o. Some o) result) }
-        ensures is { (a b : List (Result Self.Item Self.Error)) → Lists contract.steps self a → ((right : I.IntoFallibleIter) → I.into_gives other right → Lists I.IntoFallibleIter.contract.steps right b) → read_as (λ o. Some o) result ≡ compared (by_cmp Self.Item.cmp) a b }
+        ensures value { (a b : List (Result Self.Item Self.Error)) → Lists contract.steps self a → ((right : I.IntoFallibleIter) → I.into_gives other right → Lists I.IntoFallibleIter.contract.steps right b) → read_as (λ o. Some o) result ≡ compared (by_cmp Self.Item.cmp) a b }
     {
         let answer = compare::<Self, I::IntoFallibleIter, ByCmp>(self, other.into_fallible_iter());
         ordered(answer)
@@ -837,7 +837,7 @@ pub trait FallibleIterator: Drop + Sized {
         requires right { (right : I.IntoFallibleIter) → I.into_gives other right → I.IntoFallibleIter.contract.can right }
         requires finite { OneHasEnd contract I.into_gives I.IntoFallibleIter.contract self other }
         ensures compared { ComparedWith Self.Item.partial_cmp I.into_gives contract.steps I.IntoFallibleIter.contract.steps self other result }
-        ensures is { (a b : List (Result Self.Item Self.Error)) → Lists contract.steps self a → ((right : I.IntoFallibleIter) → I.into_gives other right → Lists I.IntoFallibleIter.contract.steps right b) → result ≡ compared Self.Item.partial_cmp a b }
+        ensures value { (a b : List (Result Self.Item Self.Error)) → Lists contract.steps self a → ((right : I.IntoFallibleIter) → I.into_gives other right → Lists I.IntoFallibleIter.contract.steps right b) → result ≡ compared Self.Item.partial_cmp a b }
     {
         compare::<Self, I::IntoFallibleIter, ByPartialCmp>(self, other.into_fallible_iter())
     }
@@ -853,7 +853,7 @@ pub trait FallibleIterator: Drop + Sized {
         requires right { (right : I.IntoFallibleIter) → I.into_gives other right → I.IntoFallibleIter.contract.can right }
         requires finite { OneHasEnd contract I.into_gives I.IntoFallibleIter.contract self other }
         ensures compared { ReadWith (by_eq Self.Item.eq) reads_eq I.into_gives contract.steps I.IntoFallibleIter.contract.steps self other result }
-        ensures is { (a b : List (Result Self.Item Self.Error)) → Lists contract.steps self a → ((right : I.IntoFallibleIter) → I.into_gives other right → Lists I.IntoFallibleIter.contract.steps right b) → result ≡ read_as reads_eq (compared (by_eq Self.Item.eq) a b) }
+        ensures value { (a b : List (Result Self.Item Self.Error)) → Lists contract.steps self a → ((right : I.IntoFallibleIter) → I.into_gives other right → Lists I.IntoFallibleIter.contract.steps right b) → result ≡ read_as reads_eq (compared (by_eq Self.Item.eq) a b) }
     {
         let answer = compare::<Self, I::IntoFallibleIter, ByEq>(self, other.into_fallible_iter());
         read_eq(answer)
@@ -870,7 +870,7 @@ pub trait FallibleIterator: Drop + Sized {
         requires right { (right : I.IntoFallibleIter) → I.into_gives other right → I.IntoFallibleIter.contract.can right }
         requires finite { OneHasEnd contract I.into_gives I.IntoFallibleIter.contract self other }
         ensures compared { ReadWith (by_eq Self.Item.eq) reads_ne I.into_gives contract.steps I.IntoFallibleIter.contract.steps self other result }
-        ensures is { (a b : List (Result Self.Item Self.Error)) → Lists contract.steps self a → ((right : I.IntoFallibleIter) → I.into_gives other right → Lists I.IntoFallibleIter.contract.steps right b) → result ≡ read_as reads_ne (compared (by_eq Self.Item.eq) a b) }
+        ensures value { (a b : List (Result Self.Item Self.Error)) → Lists contract.steps self a → ((right : I.IntoFallibleIter) → I.into_gives other right → Lists I.IntoFallibleIter.contract.steps right b) → result ≡ read_as reads_ne (compared (by_eq Self.Item.eq) a b) }
     {
         let answer = compare::<Self, I::IntoFallibleIter, ByEq>(self, other.into_fallible_iter());
         read_ne(answer)
@@ -887,7 +887,7 @@ pub trait FallibleIterator: Drop + Sized {
         requires right { (right : I.IntoFallibleIter) → I.into_gives other right → I.IntoFallibleIter.contract.can right }
         requires finite { OneHasEnd contract I.into_gives I.IntoFallibleIter.contract self other }
         ensures compared { ReadWith Self.Item.partial_cmp reads_lt I.into_gives contract.steps I.IntoFallibleIter.contract.steps self other result }
-        ensures is { (a b : List (Result Self.Item Self.Error)) → Lists contract.steps self a → ((right : I.IntoFallibleIter) → I.into_gives other right → Lists I.IntoFallibleIter.contract.steps right b) → result ≡ read_as reads_lt (compared Self.Item.partial_cmp a b) }
+        ensures value { (a b : List (Result Self.Item Self.Error)) → Lists contract.steps self a → ((right : I.IntoFallibleIter) → I.into_gives other right → Lists I.IntoFallibleIter.contract.steps right b) → result ≡ read_as reads_lt (compared Self.Item.partial_cmp a b) }
     {
         let answer = compare::<Self, I::IntoFallibleIter, ByPartialCmp>(
             self,
@@ -907,7 +907,7 @@ pub trait FallibleIterator: Drop + Sized {
         requires right { (right : I.IntoFallibleIter) → I.into_gives other right → I.IntoFallibleIter.contract.can right }
         requires finite { OneHasEnd contract I.into_gives I.IntoFallibleIter.contract self other }
         ensures compared { ReadWith Self.Item.partial_cmp reads_le I.into_gives contract.steps I.IntoFallibleIter.contract.steps self other result }
-        ensures is { (a b : List (Result Self.Item Self.Error)) → Lists contract.steps self a → ((right : I.IntoFallibleIter) → I.into_gives other right → Lists I.IntoFallibleIter.contract.steps right b) → result ≡ read_as reads_le (compared Self.Item.partial_cmp a b) }
+        ensures value { (a b : List (Result Self.Item Self.Error)) → Lists contract.steps self a → ((right : I.IntoFallibleIter) → I.into_gives other right → Lists I.IntoFallibleIter.contract.steps right b) → result ≡ read_as reads_le (compared Self.Item.partial_cmp a b) }
     {
         let answer = compare::<Self, I::IntoFallibleIter, ByPartialCmp>(
             self,
@@ -927,7 +927,7 @@ pub trait FallibleIterator: Drop + Sized {
         requires right { (right : I.IntoFallibleIter) → I.into_gives other right → I.IntoFallibleIter.contract.can right }
         requires finite { OneHasEnd contract I.into_gives I.IntoFallibleIter.contract self other }
         ensures compared { ReadWith Self.Item.partial_cmp reads_gt I.into_gives contract.steps I.IntoFallibleIter.contract.steps self other result }
-        ensures is { (a b : List (Result Self.Item Self.Error)) → Lists contract.steps self a → ((right : I.IntoFallibleIter) → I.into_gives other right → Lists I.IntoFallibleIter.contract.steps right b) → result ≡ read_as reads_gt (compared Self.Item.partial_cmp a b) }
+        ensures value { (a b : List (Result Self.Item Self.Error)) → Lists contract.steps self a → ((right : I.IntoFallibleIter) → I.into_gives other right → Lists I.IntoFallibleIter.contract.steps right b) → result ≡ read_as reads_gt (compared Self.Item.partial_cmp a b) }
     {
         let answer = compare::<Self, I::IntoFallibleIter, ByPartialCmp>(
             self,
@@ -947,7 +947,7 @@ pub trait FallibleIterator: Drop + Sized {
         requires right { (right : I.IntoFallibleIter) → I.into_gives other right → I.IntoFallibleIter.contract.can right }
         requires finite { OneHasEnd contract I.into_gives I.IntoFallibleIter.contract self other }
         ensures compared { ReadWith Self.Item.partial_cmp reads_ge I.into_gives contract.steps I.IntoFallibleIter.contract.steps self other result }
-        ensures is { (a b : List (Result Self.Item Self.Error)) → Lists contract.steps self a → ((right : I.IntoFallibleIter) → I.into_gives other right → Lists I.IntoFallibleIter.contract.steps right b) → result ≡ read_as reads_ge (compared Self.Item.partial_cmp a b) }
+        ensures value { (a b : List (Result Self.Item Self.Error)) → Lists contract.steps self a → ((right : I.IntoFallibleIter) → I.into_gives other right → Lists I.IntoFallibleIter.contract.steps right b) → result ≡ read_as reads_ge (compared Self.Item.partial_cmp a b) }
     {
         let answer = compare::<Self, I::IntoFallibleIter, ByPartialCmp>(
             self,

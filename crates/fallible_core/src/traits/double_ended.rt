@@ -60,7 +60,7 @@ pub trait DoubleEndedFallibleIterator: FallibleIterator {
         requires finite { Self.contract.has_end self.old }
         requires callable { CallableInFold ends.steps (call_with F.FnMut) (takes_with F.FnMut) self.old f init }
         ensures folded { Folded ends.steps (call_with F.FnMut) E.from_gives self.old init f result self.new }
-        ensures is { (convert : Self.Error → E) (h : B → Self.Item → Result B E) (l : List (Result Self.Item Self.Error)) → Converts E.from_gives convert → ActsWith (call_with F.FnMut) f h → Lists ends.steps self.old l → result ≡ folded convert h init l }
+        ensures value { (convert : Self.Error → E) (h : B → Self.Item → Result B E) (l : List (Result Self.Item Self.Error)) → Converts E.from_gives convert → ActsWith (call_with F.FnMut) f h → Lists ends.steps self.old l → result ≡ folded convert h init l }
         ensures stays { Stays (from_back Self.contract ends) self.old self.new }
     {
         folded_at(self.try_rfold_carrying((init, f), &Folding))
@@ -75,7 +75,7 @@ pub trait DoubleEndedFallibleIterator: FallibleIterator {
         requires finite { Self.contract.has_end self }
         requires callable { CallableInFold ends.steps (call_with F.FnMut) (takes_with F.FnMut) self f init }
         ensures folded { (left : Self) × Folded ends.steps (call_with F.FnMut) (λ e d. d ≡ e) self init f result left }
-        ensures is { (h : B → Self.Item → Result B Self.Error) (l : List (Result Self.Item Self.Error)) → ActsWith (call_with F.FnMut) f h → Lists ends.steps self l → result ≡ folded (λ e. e) h init l }
+        ensures value { (h : B → Self.Item → Result B Self.Error) (l : List (Result Self.Item Self.Error)) → ActsWith (call_with F.FnMut) f h → Lists ends.steps self l → result ≡ folded (λ e. e) h init l }
     {
         self.try_rfold(init, f)
     }

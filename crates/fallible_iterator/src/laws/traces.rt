@@ -19,7 +19,7 @@ pub fn answers<I: FallibleIterator>(
 where
     requires { I.contract.can it.old }
     ensures drawn { IfOk result (λ v. IsAnswers I.contract.steps it.old n v.items it.new) }
-    ensures is { (l : List (Result I.Item I.Error)) → n ≤ length l + 1 → Lists I.contract.steps it.old l → IfOk result (λ v. v.items ≡ take n (answers_of l)) }
+    ensures value { (l : List (Result I.Item I.Error)) → n ≤ length l + 1 → Lists I.contract.steps it.old l → IfOk result (λ v. v.items ≡ take n (answers_of l)) }
     ensures refused { IfErr result (λ _. it.new ≡ it.old) }
     ensures stays { Stays I.contract it.old it.new }
 {

@@ -8,4 +8,4 @@ pub returns : goal.returns
 returns c =
     let listed = c.filter-numbers.ensures.lists (λ x. Ok (nat_lt 100 x)) _ (search rules) (c.into_fallible.ensures.lists _ (λ p seen from. let up = range_runs p seen in grind (arith, up, length-range_with_len, get_or-range_with_len))) in
     let same : c.in_ok-clone.field-0 ≡ c.filter-numbers.result = search rules in
-    (c.count-count.ensures.is _ (rw same listed), c.fold-sum.ensures.is _ _ (search rules) listed)
+    (c.count-count.ensures.value _ (rw same listed), c.fold-sum.ensures.value _ _ (search rules) listed)

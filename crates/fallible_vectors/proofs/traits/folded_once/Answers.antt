@@ -5,4 +5,4 @@ use Rattle.fallible_vectors.proofs.traits.folded_once.Goals as goal
 
 pub returns : goal.returns
 unfolding folded
-returns c = c.fold.ensures.is (λ b y. Ok y) (Ok c.args.x ∷ []) (search rules) c.once.ensures.lists
+returns c = c.fold.ensures.value (λ b y. Ok y) (Ok c.args.x ∷ []) (search rules) c.once.ensures.lists

@@ -15,5 +15,5 @@ ordered-requires g c = never_none g.Self.Item.Ord.cmp c.compare-answer.ensures
 pub returns-clause-compared : goal.returns-clause-compared
 returns-clause-compared g c = answered_as _ _ c.into_fallible_iter.ensures c.compare-answer.ensures c.ordered.ensures
 
-pub returns-clause-is : goal.returns-clause-is
-returns-clause-is g c a b i j = compared_with_is a b (returns-clause-compared g c) i j
+pub returns-clause-value : goal.returns-clause-value
+returns-clause-value g c a b i j = compared_with_is a b (returns-clause-compared g c) i j

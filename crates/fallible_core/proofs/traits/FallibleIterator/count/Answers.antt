@@ -10,5 +10,5 @@ try_fold_carrying-requires-clause-callable g c = holds_map (λ n x k h. search r
 pub returns-clause-counted : goal.returns-clause-counted
 returns-clause-counted g c = counted_at (λ n x r h. search rules) c.try_fold_carrying.result c.try_fold_carrying.ensures.carried c.value_at.ensures
 
-pub returns-clause-is : goal.returns-clause-is
-returns-clause-is g c l i = counted_is l (returns-clause-counted g c) i
+pub returns-clause-value : goal.returns-clause-value
+returns-clause-value g c l i = counted_is l (returns-clause-counted g c) i

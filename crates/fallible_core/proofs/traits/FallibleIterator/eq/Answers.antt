@@ -12,5 +12,5 @@ compare-answer-requires-clause-finite g c = end_of_either _ _ _ c.into_fallible_
 pub returns-clause-compared : goal.returns-clause-compared
 returns-clause-compared g c = record { answer = _; compared = record { right = _; made = c.into_fallible_iter.ensures; compared = c.compare-answer.ensures }; is = c.read_eq.ensures }
 
-pub returns-clause-is : goal.returns-clause-is
-returns-clause-is g c a b i j = read_is a b (returns-clause-compared g c) i j
+pub returns-clause-value : goal.returns-clause-value
+returns-clause-value g c a b i j = read_is a b (returns-clause-compared g c) i j

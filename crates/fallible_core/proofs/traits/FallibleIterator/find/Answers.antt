@@ -6,5 +6,5 @@ use Rattle.fallible_core.proofs.traits.FallibleIterator.find.Goals as goal
 pub returns-clause-searched : goal.returns-clause-searched
 returns-clause-searched g c = (c.find_carrying-answer.result.0, c.find_carrying-answer.ensures.searched)
 
-pub returns-clause-is : goal.returns-clause-is
-returns-clause-is g c h l acts i = find_is l i {call = call_at g.F.FnMut} h acts (returns-clause-searched g c).1
+pub returns-clause-value : goal.returns-clause-value
+returns-clause-value g c h l acts i = find_is l i {call = call_at g.F.FnMut} h acts (returns-clause-searched g c).1

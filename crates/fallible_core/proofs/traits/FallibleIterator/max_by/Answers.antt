@@ -7,5 +7,5 @@ use Rattle.fallible_core.proofs.traits.FallibleIterator.max_by.Goals as goal
 pub returns-clause-picked : goal.returns-clause-picked
 returns-clause-picked g c = picked_of Greater (call_at_two g.F.FnMut) c.best_by.ensures
 
-pub returns-clause-is : goal.returns-clause-is
-returns-clause-is g c h l acts i = best_by_is Greater (call_at_two g.F.FnMut) h acts (λ e d k. k) l c.best_by.ensures.folded i
+pub returns-clause-value : goal.returns-clause-value
+returns-clause-value g c h l acts i = best_by_is Greater (call_at_two g.F.FnMut) h acts (λ e d k. k) l c.best_by.ensures.folded i

@@ -7,5 +7,5 @@ use Rattle.fallible_core.proofs.traits.FallibleIterator.max_by_key.Goals as goal
 pub returns-clause-best : goal.returns-clause-best
 returns-clause-best g c = best_of_keys g.met.B.Ord.total Greater tt (call_at g.F.FnMut) _ (λ e d h. h) c.best_by_key.ensures.1 c.without_key.ensures
 
-pub returns-clause-is : goal.returns-clause-is
-returns-clause-is g c h l acts i = best_by_key_is Greater g.B.Ord.cmp (call_at g.F.FnMut) h acts (λ e d k. k) l c.best_by_key.ensures.1 c.without_key.ensures i
+pub returns-clause-value : goal.returns-clause-value
+returns-clause-value g c h l acts i = best_by_key_is Greater g.B.Ord.cmp (call_at g.F.FnMut) h acts (λ e d k. k) l c.best_by_key.ensures.1 c.without_key.ensures i

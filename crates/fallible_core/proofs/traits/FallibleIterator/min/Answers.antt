@@ -6,5 +6,5 @@ use Rattle.fallible_core.proofs.traits.FallibleIterator.min.Goals as goal
 pub returns-clause-best : goal.returns-clause-best
 returns-clause-best g c = best_by_order g.Self.Item.Ord.cmp c.best_by.ensures g.met.Self.Item.Ord.total tt (λ f x y r j k. search rules)
 
-pub returns-clause-is : goal.returns-clause-is
-returns-clause-is g c l i = least_is g.Self.Item.Ord.cmp l _ (best_by_order_is g.Self.Item.Ord.cmp c.best_by.ensures l (λ x y r j k. search rules) i)
+pub returns-clause-value : goal.returns-clause-value
+returns-clause-value g c l i = least_is g.Self.Item.Ord.cmp l _ (best_by_order_is g.Self.Item.Ord.cmp c.best_by.ensures l (λ x y r j k. search rules) i)

@@ -18,17 +18,17 @@ loop-left-preserved g c = let i = c.loop-left.invariant in let step = rw c.in-Ok
 pub returns-in-Ok-None-clause-nth : goal.returns-in-Ok-None-clause-nth
 returns-in-Ok-None-clause-nth g c = c.loop-left.invariant.whole _ _ (nth_now _ (omega arith) (rw c.in-Ok-None.field-0-is at c.in-Ok-None.ensures))
 
-pub returns-in-Ok-None-clause-is : goal.returns-in-Ok-None-clause-is
-returns-in-Ok-None-clause-is g c l i = nth_is l (returns-in-Ok-None-clause-nth g c) i
+pub returns-in-Ok-None-clause-value : goal.returns-in-Ok-None-clause-value
+returns-in-Ok-None-clause-value g c l i = nth_is l (returns-in-Ok-None-clause-nth g c) i
 
 pub returns-in-Err-clause-nth : goal.returns-in-Err-clause-nth
 returns-in-Err-clause-nth g c = c.loop-left.invariant.whole _ _ (nth_now _ (omega arith) c.in-Err.ensures)
 
-pub returns-in-Err-clause-is : goal.returns-in-Err-clause-is
-returns-in-Err-clause-is g c l i = nth_is l (returns-in-Err-clause-nth g c) i
+pub returns-in-Err-clause-value : goal.returns-in-Err-clause-value
+returns-in-Err-clause-value g c l i = nth_is l (returns-in-Err-clause-nth g c) i
 
 pub returns-clause-nth : goal.returns-clause-nth
 returns-clause-nth g c = c.loop-left.invariant.whole _ _ (nth_next c.loop-left.left c.next-2.result c.loop-left-test.false c.next-2.ensures)
 
-pub returns-clause-is : goal.returns-clause-is
-returns-clause-is g c l i = nth_is l (returns-clause-nth g c) i
+pub returns-clause-value : goal.returns-clause-value
+returns-clause-value g c l i = nth_is l (returns-clause-nth g c) i

@@ -19,17 +19,17 @@ returns-in-Failed-clause-partitions g c = parted_failed _ (call_at g.F.FnMut) g.
 pub returns-clause-partitions : goal.returns-clause-partitions
 returns-clause-partitions g c = parted_stopped _ (call_at g.F.FnMut) g.B.Collect.made g.B.Collect.empty_refuses g.B.Collect.push_refuses c.in-Ok.ensures c.in-Ok-empty.ensures _ c.in-Stopped.ensures.carried
 
-pub returns-in-Ended-clause-is : goal.returns-in-Ended-clause-is
-returns-in-Ended-clause-is g c h l acts i = parted_as (call_at g.F.FnMut) h c.args.f acts g.B.Collect.made l i g.B.Collect.empty_refuses g.B.Collect.push_refuses (Ok _) (returns-in-Ended-clause-partitions g c)
+pub returns-in-Ended-clause-value : goal.returns-in-Ended-clause-value
+returns-in-Ended-clause-value g c h l acts i = parted_as (call_at g.F.FnMut) h c.args.f acts g.B.Collect.made l i g.B.Collect.empty_refuses g.B.Collect.push_refuses (Ok _) (returns-in-Ended-clause-partitions g c)
 
-pub returns-in-Failed-clause-is : goal.returns-in-Failed-clause-is
-returns-in-Failed-clause-is g c h l acts i = parted_as (call_at g.F.FnMut) h c.args.f acts g.B.Collect.made l i g.B.Collect.empty_refuses g.B.Collect.push_refuses (Err (Source _)) (returns-in-Failed-clause-partitions g c)
+pub returns-in-Failed-clause-value : goal.returns-in-Failed-clause-value
+returns-in-Failed-clause-value g c h l acts i = parted_as (call_at g.F.FnMut) h c.args.f acts g.B.Collect.made l i g.B.Collect.empty_refuses g.B.Collect.push_refuses (Err (Source _)) (returns-in-Failed-clause-partitions g c)
 
-pub returns-clause-is : goal.returns-clause-is
-returns-clause-is g c h l acts i = parted_as (call_at g.F.FnMut) h c.args.f acts g.B.Collect.made l i g.B.Collect.empty_refuses g.B.Collect.push_refuses (Err _) (returns-clause-partitions g c)
+pub returns-clause-value : goal.returns-clause-value
+returns-clause-value g c h l acts i = parted_as (call_at g.F.FnMut) h c.args.f acts g.B.Collect.made l i g.B.Collect.empty_refuses g.B.Collect.push_refuses (Err _) (returns-clause-partitions g c)
 
-pub returns-in-Err-clause-is : goal.returns-in-Err-clause-is
-returns-in-Err-clause-is g c h l acts i = unparted_as g.B.Collect.made h l _
+pub returns-in-Err-clause-value : goal.returns-in-Err-clause-value
+returns-in-Err-clause-value g c h l acts i = unparted_as g.B.Collect.made h l _
 
-pub returns-in-Err-empty-clause-is : goal.returns-in-Err-empty-clause-is
-returns-in-Err-empty-clause-is g c h l acts i = unparted_as g.B.Collect.made h l _
+pub returns-in-Err-empty-clause-value : goal.returns-in-Err-empty-clause-value
+returns-in-Err-empty-clause-value g c h l acts i = unparted_as g.B.Collect.made h l _

@@ -12,5 +12,5 @@ try_fold_carrying-requires-clause-callable g c = placed_callable (call_on g.F.Fn
 pub returns-clause-searched : goal.returns-clause-searched
 returns-clause-searched g c = searched_placed {call = call_on g.F.FnMut} {pick = position_pick} None (λ p x r w. w) c.try_fold_carrying.ensures.carried c.found_at.ensures
 
-pub returns-clause-is : goal.returns-clause-is
-returns-clause-is g c h l acts i = position_is l i {call = call_on g.F.FnMut} h acts (searched_placed {call = call_on g.F.FnMut} {pick = position_pick} None (λ p x r w. w) c.try_fold_carrying.ensures.carried c.found_at.ensures).1
+pub returns-clause-value : goal.returns-clause-value
+returns-clause-value g c h l acts i = position_is l i {call = call_on g.F.FnMut} h acts (searched_placed {call = call_on g.F.FnMut} {pick = position_pick} None (λ p x r w. w) c.try_fold_carrying.ensures.carried c.found_at.ensures).1

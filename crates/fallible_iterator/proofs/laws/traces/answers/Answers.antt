@@ -13,7 +13,7 @@ loop-it-preserved g c = let i = c.loop-it.invariant in let d = c.draw-answer.ens
   stays = stays_step g.met.I.FallibleIterator.lawful i.stays d.1;
 }
 
-pub returns-clause-is : goal.returns-clause-is
-returns-clause-is g c l within listed = let i = c.loop-it.invariant in let steps = g.I.FallibleIterator.contract.steps in
+pub returns-clause-value : goal.returns-clause-value
+returns-clause-value g c l within listed = let i = c.loop-it.invariant in let steps = g.I.FallibleIterator.contract.steps in
     let all : vec_len c.loop-it.made ≡ c.args.n = omega (arith, i.within, c.loop-it-test.false, c.len.ensures) in
     answers_told steps l (subst (λ (n : ℕ). IsAnswers steps c.args.it.now n c.loop-it.made.items c.loop-it.it) all i.drawn) within listed

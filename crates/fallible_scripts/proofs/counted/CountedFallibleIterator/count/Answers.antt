@@ -9,5 +9,5 @@ use Rattle.fallible_scripts.proofs.counted.CountedFallibleIterator.count.Goals a
 pub returns-clause-counted : goal.returns-clause-counted
 returns-clause-counted g c = counted_held counted_parts put (λ s it. refl) g.I.FallibleIterator.contract c.count.ensures.counted
 
-pub returns-clause-is : goal.returns-clause-is
-returns-clause-is g c l i = counted_is l (returns-clause-counted g c) i
+pub returns-clause-value : goal.returns-clause-value
+returns-clause-value g c l i = counted_is l (returns-clause-counted g c) i

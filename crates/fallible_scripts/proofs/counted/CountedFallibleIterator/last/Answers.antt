@@ -9,5 +9,5 @@ use Rattle.fallible_scripts.proofs.counted.CountedFallibleIterator.last.Goals as
 pub returns-clause-last : goal.returns-clause-last
 returns-clause-last g c = last_held counted_parts put (λ s it. refl) g.I.FallibleIterator.contract c.last.ensures.last
 
-pub returns-clause-is : goal.returns-clause-is
-returns-clause-is g c l i = last_is l (returns-clause-last g c) i
+pub returns-clause-value : goal.returns-clause-value
+returns-clause-value g c l i = last_is l (returns-clause-last g c) i

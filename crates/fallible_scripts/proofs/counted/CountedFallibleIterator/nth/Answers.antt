@@ -9,5 +9,5 @@ use Rattle.fallible_scripts.proofs.counted.CountedFallibleIterator.nth.Goals as 
 pub returns-clause-nth : goal.returns-clause-nth
 returns-clause-nth g c = nth_held counted_parts put (λ s it. refl) g.I.FallibleIterator.contract c.nth.ensures.nth
 
-pub returns-clause-is : goal.returns-clause-is
-returns-clause-is g c l i = nth_is l (returns-clause-nth g c) i
+pub returns-clause-value : goal.returns-clause-value
+returns-clause-value g c l i = nth_is l (returns-clause-nth g c) i

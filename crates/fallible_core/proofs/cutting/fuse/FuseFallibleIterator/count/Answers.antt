@@ -6,11 +6,11 @@ use Rattle.fallible_core.proofs.cutting.fuse.FuseFallibleIterator.count.Goals as
 pub returns-then-self-clause-counted : goal.returns-then-self-clause-counted
 returns-then-self-clause-counted g c = closed_counted g.I.FallibleIterator.contract c.args.self c.if-self.true
 
-pub returns-then-self-clause-is : goal.returns-then-self-clause-is
-returns-then-self-clause-is g c l i = counted_is l (returns-then-self-clause-counted g c) i
+pub returns-then-self-clause-value : goal.returns-then-self-clause-value
+returns-then-self-clause-value g c l i = counted_is l (returns-then-self-clause-counted g c) i
 
 pub returns-clause-counted : goal.returns-clause-counted
 returns-clause-counted g c = open_counted g.I.FallibleIterator.contract c.args.self c.if-self.false c.count.ensures.counted
 
-pub returns-clause-is : goal.returns-clause-is
-returns-clause-is g c l i = counted_is l (returns-clause-counted g c) i
+pub returns-clause-value : goal.returns-clause-value
+returns-clause-value g c l i = counted_is l (returns-clause-counted g c) i

@@ -6,11 +6,11 @@ use Rattle.fallible_core.proofs.cutting.fuse.FuseFallibleIterator.last.Goals as 
 pub returns-then-self-clause-last : goal.returns-then-self-clause-last
 returns-then-self-clause-last g c = closed_last g.I.FallibleIterator.contract c.args.self c.if-self.true
 
-pub returns-then-self-clause-is : goal.returns-then-self-clause-is
-returns-then-self-clause-is g c l i = last_is l (returns-then-self-clause-last g c) i
+pub returns-then-self-clause-value : goal.returns-then-self-clause-value
+returns-then-self-clause-value g c l i = last_is l (returns-then-self-clause-last g c) i
 
 pub returns-clause-last : goal.returns-clause-last
 returns-clause-last g c = open_last g.I.FallibleIterator.contract c.args.self c.if-self.false c.last.ensures.last
 
-pub returns-clause-is : goal.returns-clause-is
-returns-clause-is g c l i = last_is l (returns-clause-last g c) i
+pub returns-clause-value : goal.returns-clause-value
+returns-clause-value g c l i = last_is l (returns-clause-last g c) i

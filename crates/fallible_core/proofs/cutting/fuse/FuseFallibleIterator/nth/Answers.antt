@@ -7,23 +7,23 @@ use Rattle.fallible_core.proofs.cutting.fuse.FuseFallibleIterator.nth.Goals as g
 pub returns-then-ended-clause-nth : goal.returns-then-ended-clause-nth
 returns-then-ended-clause-nth g c = closed_nth g.I.FallibleIterator.contract c.args.self.now c.args.n c.if-ended.true
 
-pub returns-then-ended-clause-is : goal.returns-then-ended-clause-is
-returns-then-ended-clause-is g c l i = nth_is l (returns-then-ended-clause-nth g c) i
+pub returns-then-ended-clause-value : goal.returns-then-ended-clause-value
+returns-then-ended-clause-value g c l i = nth_is l (returns-then-ended-clause-nth g c) i
 
 pub returns-in-Ok-Some-clause-nth : goal.returns-in-Ok-Some-clause-nth
 returns-in-Ok-Some-clause-nth g c = open_nth g.I.FallibleIterator.contract c.args.self.now c.args.self.now.ended c.if-ended.false c.if-ended.false (rw c.in-Ok-Some.field-0-is at c.in-Ok-Some.ensures.nth)
 
-pub returns-in-Ok-Some-clause-is : goal.returns-in-Ok-Some-clause-is
-returns-in-Ok-Some-clause-is g c l i = nth_is l (returns-in-Ok-Some-clause-nth g c) i
+pub returns-in-Ok-Some-clause-value : goal.returns-in-Ok-Some-clause-value
+returns-in-Ok-Some-clause-value g c l i = nth_is l (returns-in-Ok-Some-clause-nth g c) i
 
 pub returns-in-Ok-None-clause-nth : goal.returns-in-Ok-None-clause-nth
 returns-in-Ok-None-clause-nth g c = open_nth g.I.FallibleIterator.contract c.args.self.now true c.if-ended.false refl (rw c.in-Ok-None.field-0-is at c.in-Ok-None.ensures.nth)
 
-pub returns-in-Ok-None-clause-is : goal.returns-in-Ok-None-clause-is
-returns-in-Ok-None-clause-is g c l i = nth_is l (returns-in-Ok-None-clause-nth g c) i
+pub returns-in-Ok-None-clause-value : goal.returns-in-Ok-None-clause-value
+returns-in-Ok-None-clause-value g c l i = nth_is l (returns-in-Ok-None-clause-nth g c) i
 
 pub returns-in-Err-clause-nth : goal.returns-in-Err-clause-nth
 returns-in-Err-clause-nth g c = open_nth g.I.FallibleIterator.contract c.args.self.now c.args.self.now.ended c.if-ended.false c.if-ended.false c.in-Err.ensures.nth
 
-pub returns-in-Err-clause-is : goal.returns-in-Err-clause-is
-returns-in-Err-clause-is g c l i = nth_is l (returns-in-Err-clause-nth g c) i
+pub returns-in-Err-clause-value : goal.returns-in-Err-clause-value
+returns-in-Err-clause-value g c l i = nth_is l (returns-in-Err-clause-nth g c) i

@@ -11,29 +11,29 @@ overflow_add-result g c = let fits = sum_fits g.T.FallibleIterator.contract g.U.
 pub returns-in-Ok-count-clause-counted : goal.returns-in-Ok-count-clause-counted
 returns-in-Ok-count-clause-counted g c = counts_over g.T.FallibleIterator.contract g.U.FallibleIterator.contract (Ok c.in-Ok-count.after) c.in-Both.is c.in-Ok.ensures.counted c.in-Ok-count.ensures.counted
 
-pub returns-in-Ok-count-clause-is : goal.returns-in-Ok-count-clause-is
-returns-in-Ok-count-clause-is g c l i = counted_is l (returns-in-Ok-count-clause-counted g c) i
+pub returns-in-Ok-count-clause-value : goal.returns-in-Ok-count-clause-value
+returns-in-Ok-count-clause-value g c l i = counted_is l (returns-in-Ok-count-clause-counted g c) i
 
 pub returns-in-Err-count-clause-counted : goal.returns-in-Err-count-clause-counted
 returns-in-Err-count-clause-counted g c = counts_over g.T.FallibleIterator.contract g.U.FallibleIterator.contract (Err c.in-Err-count.e) c.in-Both.is c.in-Ok.ensures.counted c.in-Err-count.ensures.counted
 
-pub returns-in-Err-count-clause-is : goal.returns-in-Err-count-clause-is
-returns-in-Err-count-clause-is g c l i = counted_is l (returns-in-Err-count-clause-counted g c) i
+pub returns-in-Err-count-clause-value : goal.returns-in-Err-count-clause-value
+returns-in-Err-count-clause-value g c l i = counted_is l (returns-in-Err-count-clause-counted g c) i
 
 pub returns-in-Err-clause-counted : goal.returns-in-Err-clause-counted
 returns-in-Err-clause-counted g c = counts_failure g.T.FallibleIterator.contract g.U.FallibleIterator.contract c.in-Both.is c.in-Err.ensures.counted
 
-pub returns-in-Err-clause-is : goal.returns-in-Err-clause-is
-returns-in-Err-clause-is g c l i = counted_is l (returns-in-Err-clause-counted g c) i
+pub returns-in-Err-clause-value : goal.returns-in-Err-clause-value
+returns-in-Err-clause-value g c l i = counted_is l (returns-in-Err-clause-counted g c) i
 
 pub returns-in-FrontAlone-clause-counted : goal.returns-in-FrontAlone-clause-counted
 returns-in-FrontAlone-clause-counted g c = counts_front_alone g.T.FallibleIterator.contract g.U.FallibleIterator.contract c.in-FrontAlone.is c.count-in-FrontAlone.ensures.counted
 
-pub returns-in-FrontAlone-clause-is : goal.returns-in-FrontAlone-clause-is
-returns-in-FrontAlone-clause-is g c l i = counted_is l (returns-in-FrontAlone-clause-counted g c) i
+pub returns-in-FrontAlone-clause-value : goal.returns-in-FrontAlone-clause-value
+returns-in-FrontAlone-clause-value g c l i = counted_is l (returns-in-FrontAlone-clause-counted g c) i
 
 pub returns-in-BackAlone-clause-counted : goal.returns-in-BackAlone-clause-counted
 returns-in-BackAlone-clause-counted g c = counts_back_alone g.T.FallibleIterator.contract g.U.FallibleIterator.contract c.in-BackAlone.is c.count-in-BackAlone.ensures.counted
 
-pub returns-in-BackAlone-clause-is : goal.returns-in-BackAlone-clause-is
-returns-in-BackAlone-clause-is g c l i = counted_is l (returns-in-BackAlone-clause-counted g c) i
+pub returns-in-BackAlone-clause-value : goal.returns-in-BackAlone-clause-value
+returns-in-BackAlone-clause-value g c l i = counted_is l (returns-in-BackAlone-clause-counted g c) i

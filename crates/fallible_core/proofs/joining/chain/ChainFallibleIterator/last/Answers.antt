@@ -7,35 +7,35 @@ use Rattle.fallible_core.proofs.joining.chain.ChainFallibleIterator.last.Goals a
 pub returns-in-Ok-Some-clause-last : goal.returns-in-Ok-Some-clause-last
 returns-in-Ok-Some-clause-last g c = lasts_over g.T.FallibleIterator.contract g.U.FallibleIterator.contract (Ok (Some c.in-Ok-Some.x)) c.in-Both.is c.in-Ok.ensures.last (rw c.in-Ok-Some.field-0-is at c.in-Ok-Some.ensures.last)
 
-pub returns-in-Ok-Some-clause-is : goal.returns-in-Ok-Some-clause-is
-returns-in-Ok-Some-clause-is g c l i = last_is l (returns-in-Ok-Some-clause-last g c) i
+pub returns-in-Ok-Some-clause-value : goal.returns-in-Ok-Some-clause-value
+returns-in-Ok-Some-clause-value g c l i = last_is l (returns-in-Ok-Some-clause-last g c) i
 
 pub returns-in-Ok-None-clause-last : goal.returns-in-Ok-None-clause-last
 returns-in-Ok-None-clause-last g c = lasts_over g.T.FallibleIterator.contract g.U.FallibleIterator.contract (Ok None) c.in-Both.is c.in-Ok.ensures.last (rw c.in-Ok-None.field-0-is at c.in-Ok-None.ensures.last)
 
-pub returns-in-Ok-None-clause-is : goal.returns-in-Ok-None-clause-is
-returns-in-Ok-None-clause-is g c l i = last_is l (returns-in-Ok-None-clause-last g c) i
+pub returns-in-Ok-None-clause-value : goal.returns-in-Ok-None-clause-value
+returns-in-Ok-None-clause-value g c l i = last_is l (returns-in-Ok-None-clause-last g c) i
 
 pub returns-in-Err-last-clause-last : goal.returns-in-Err-last-clause-last
 returns-in-Err-last-clause-last g c = lasts_over g.T.FallibleIterator.contract g.U.FallibleIterator.contract (Err c.in-Err-last.e) c.in-Both.is c.in-Ok.ensures.last c.in-Err-last.ensures.last
 
-pub returns-in-Err-last-clause-is : goal.returns-in-Err-last-clause-is
-returns-in-Err-last-clause-is g c l i = last_is l (returns-in-Err-last-clause-last g c) i
+pub returns-in-Err-last-clause-value : goal.returns-in-Err-last-clause-value
+returns-in-Err-last-clause-value g c l i = last_is l (returns-in-Err-last-clause-last g c) i
 
 pub returns-in-Err-clause-last : goal.returns-in-Err-clause-last
 returns-in-Err-clause-last g c = lasts_failure g.T.FallibleIterator.contract g.U.FallibleIterator.contract c.in-Both.is c.in-Err.ensures.last
 
-pub returns-in-Err-clause-is : goal.returns-in-Err-clause-is
-returns-in-Err-clause-is g c l i = last_is l (returns-in-Err-clause-last g c) i
+pub returns-in-Err-clause-value : goal.returns-in-Err-clause-value
+returns-in-Err-clause-value g c l i = last_is l (returns-in-Err-clause-last g c) i
 
 pub returns-in-FrontAlone-clause-last : goal.returns-in-FrontAlone-clause-last
 returns-in-FrontAlone-clause-last g c = lasts_front_alone g.T.FallibleIterator.contract g.U.FallibleIterator.contract c.in-FrontAlone.is c.last-in-FrontAlone.ensures.last
 
-pub returns-in-FrontAlone-clause-is : goal.returns-in-FrontAlone-clause-is
-returns-in-FrontAlone-clause-is g c l i = last_is l (returns-in-FrontAlone-clause-last g c) i
+pub returns-in-FrontAlone-clause-value : goal.returns-in-FrontAlone-clause-value
+returns-in-FrontAlone-clause-value g c l i = last_is l (returns-in-FrontAlone-clause-last g c) i
 
 pub returns-in-BackAlone-clause-last : goal.returns-in-BackAlone-clause-last
 returns-in-BackAlone-clause-last g c = lasts_back_alone g.T.FallibleIterator.contract g.U.FallibleIterator.contract c.in-BackAlone.is c.last-in-BackAlone.ensures.last
 
-pub returns-in-BackAlone-clause-is : goal.returns-in-BackAlone-clause-is
-returns-in-BackAlone-clause-is g c l i = last_is l (returns-in-BackAlone-clause-last g c) i
+pub returns-in-BackAlone-clause-value : goal.returns-in-BackAlone-clause-value
+returns-in-BackAlone-clause-value g c l i = last_is l (returns-in-BackAlone-clause-last g c) i

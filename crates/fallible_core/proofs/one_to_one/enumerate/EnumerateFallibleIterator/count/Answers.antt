@@ -9,5 +9,5 @@ use Rattle.fallible_core.proofs.one_to_one.enumerate.EnumerateFallibleIterator.c
 pub returns-clause-counted : goal.returns-clause-counted
 returns-clause-counted g c = counted_held enumerate_parts (λ s p. record { it = p.0; count = p.1 }) (λ s p. refl) (enumerate_contract g.I.FallibleIterator.contract) (counted_numbered c.count.ensures.counted)
 
-pub returns-clause-is : goal.returns-clause-is
-returns-clause-is g c l i = counted_is l (returns-clause-counted g c) i
+pub returns-clause-value : goal.returns-clause-value
+returns-clause-value g c l i = counted_is l (returns-clause-counted g c) i

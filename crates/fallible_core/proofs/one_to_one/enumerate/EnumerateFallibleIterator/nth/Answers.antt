@@ -6,5 +6,5 @@ use Rattle.fallible_core.proofs.one_to_one.enumerate.EnumerateFallibleIterator.n
 pub returns-clause-nth : goal.returns-clause-nth
 returns-clause-nth g c = rw c.reached.ensures (nth_reached c.try_fold_carrying.ensures.carried)
 
-pub returns-clause-is : goal.returns-clause-is
-returns-clause-is g c l i = nth_is l (returns-clause-nth g c) i
+pub returns-clause-value : goal.returns-clause-value
+returns-clause-value g c l i = nth_is l (returns-clause-nth g c) i

@@ -13,5 +13,5 @@ answer-requires g c = takes_counted g.met.I.FallibleIterator.lawful (call_on g.F
 pub returns-clause-counted : goal.returns-clause-counted
 returns-clause-counted g c = counted_held map_err_parts (λ s p. record { it = p.0; f = p.1 }) (λ s p. refl) (map_err_contract g.I.FallibleIterator.contract g.F.FnMut) (counted_map_err _ c.count.ensures.counted c.answer.ensures)
 
-pub returns-clause-is : goal.returns-clause-is
-returns-clause-is g c l i = counted_is l (returns-clause-counted g c) i
+pub returns-clause-value : goal.returns-clause-value
+returns-clause-value g c l i = counted_is l (returns-clause-counted g c) i

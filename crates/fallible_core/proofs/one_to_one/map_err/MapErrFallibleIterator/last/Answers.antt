@@ -13,5 +13,5 @@ answer-requires g c = takes_last g.met.I.FallibleIterator.lawful (call_on g.F.Fn
 pub returns-clause-last : goal.returns-clause-last
 returns-clause-last g c = last_held map_err_parts (λ s p. record { it = p.0; f = p.1 }) (λ s p. refl) (map_err_contract g.I.FallibleIterator.contract g.F.FnMut) (last_map_err _ c.last.ensures.last c.answer.ensures)
 
-pub returns-clause-is : goal.returns-clause-is
-returns-clause-is g c l i = last_is l (returns-clause-last g c) i
+pub returns-clause-value : goal.returns-clause-value
+returns-clause-value g c l i = last_is l (returns-clause-last g c) i

@@ -15,8 +15,8 @@ answer-requires g c = takes_nth g.met.I.FallibleIterator.lawful (call_on g.F.FnM
 pub returns-clause-nth : goal.returns-clause-nth
 returns-clause-nth g c = nth_held map_err_parts (λ s p. record { it = p.0; f = p.1 }) (λ s p. refl) (map_err_contract g.I.FallibleIterator.contract g.F.FnMut) (nth_map_err _ c.nth.ensures.nth c.answer.ensures)
 
-pub returns-clause-is : goal.returns-clause-is
-returns-clause-is g c l i = nth_is l (returns-clause-nth g c) i
+pub returns-clause-value : goal.returns-clause-value
+returns-clause-value g c l i = nth_is l (returns-clause-nth g c) i
 
 pub returns-clause-stays : goal.returns-clause-stays
 returns-clause-stays g c = stays_run (lawful_seen map_err_parts (lawful_map_err g.F.FnMut g.met.I.FallibleIterator.lawful)) _ _ _ c.requires (returns-clause-nth g c).ran

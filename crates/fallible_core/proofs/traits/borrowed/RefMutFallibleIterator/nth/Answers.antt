@@ -6,5 +6,5 @@ use Rattle.fallible_core.proofs.traits.borrowed.RefMutFallibleIterator.nth.Goals
 pub returns-clause-nth : goal.returns-clause-nth
 returns-clause-nth g c = nth_behind g.I.FallibleIterator.contract.steps c.nth.ensures.nth
 
-pub returns-clause-is : goal.returns-clause-is
-returns-clause-is g c l i = nth_is l (returns-clause-nth g c) i
+pub returns-clause-value : goal.returns-clause-value
+returns-clause-value g c l i = nth_is l (returns-clause-nth g c) i

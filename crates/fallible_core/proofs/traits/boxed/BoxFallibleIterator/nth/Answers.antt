@@ -6,5 +6,5 @@ use Rattle.fallible_core.proofs.traits.boxed.BoxFallibleIterator.nth.Goals as go
 pub returns-clause-nth : goal.returns-clause-nth
 returns-clause-nth g c = nth_in_box g.I.FallibleIterator.contract.steps (rw c.deref_mut.ensures.value at c.nth.ensures.nth)
 
-pub returns-clause-is : goal.returns-clause-is
-returns-clause-is g c l i = nth_is l (returns-clause-nth g c) i
+pub returns-clause-value : goal.returns-clause-value
+returns-clause-value g c l i = nth_is l (returns-clause-nth g c) i

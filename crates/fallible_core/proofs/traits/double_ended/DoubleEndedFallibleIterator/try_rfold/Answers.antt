@@ -7,5 +7,5 @@ use Rattle.fallible_core.proofs.traits.double_ended.DoubleEndedFallibleIterator.
 pub returns-clause-folded : goal.returns-clause-folded
 returns-clause-folded g c = folded_by_turns (λ p x r h. search rules) c.try_rfold_carrying.result c.try_rfold_carrying.ensures.carried c.folded_at.ensures
 
-pub returns-clause-is : goal.returns-clause-is
-returns-clause-is g c convert h l converts acts i = folded_is _ _ convert h _ acts converts l (returns-clause-folded g c) i
+pub returns-clause-value : goal.returns-clause-value
+returns-clause-value g c convert h l converts acts i = folded_is _ _ convert h _ acts converts l (returns-clause-folded g c) i
