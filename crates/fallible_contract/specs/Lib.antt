@@ -1,5 +1,6 @@
 -- What the clauses of `src/` cite, and in `Laws` what follows from it: lemmas that the ghost members cite.
 pub mod Answers
+pub mod Clauses
 pub mod Closing
 pub mod Closures
 pub mod Collecting

@@ -2,6 +2,7 @@
 ghost use Rattle.std.specs.Prelude.{◌≡◌, ℕ, true, false, ◌+◌, ◌-◌, ◌≤◌, ◌<◌, ◌^◌, List, Option, Result, Some, None, Ok, Bool, MatchResult, ◌↔◌, ◌⊎◌};
 ghost use Rattle.std.specs.Borrow.{Bor};
 ghost use Rattle.std.specs.Iterator.Runs.{EachRunFrom, ItemsAre};
+ghost use Rattle.fallible_contract.specs.Clauses.{OverList, OverListWith, OverBoth};
 ghost use Rattle.fallible_contract.specs.Contract.{Contract, AtMost, Lawful, Stays, Sure, seen_as};
 ghost use Rattle.fallible_contract.specs.Closures.{IsCallable, call_on, takes_on, call_at, takes_at};
 ghost use Rattle.fallible_core.specs.OneToOne.Enumerate.{IsNumberable, enumerate_parts, enumerate_contract};
@@ -116,7 +117,8 @@ pub trait FallibleIterator: Drop + Sized {
     where
         requires can { contract.can self.old }
         requires finite { contract.has_end self.old }
-        requires callable { CallableCarrying contract.steps (K.turns k.now) (K.can_turn k.now) self.old init }
+        requires callable { CallableCarrying contract.steps (K.turns k.now) (K.can_turn k.now)
+            self.old init }
         ensures carried { Carried contract.steps (K.turns k.now) self.old init result self.new }
         ensures stays { Stays contract self.old self.new }
     {
@@ -142,7 +144,7 @@ pub trait FallibleIterator: Drop + Sized {
         requires can { contract.can self }
         requires fits { AtMost contract self (2 ^ 64 - 1) }
         ensures counted { Counted contract.steps self result }
-        ensures value { (l : List (Result Self.Item Self.Error)) → Lists contract.steps self l → result ≡ counted l }
+        ensures value { OverList contract.steps self (λ l. result ≡ counted l) }
     {
         value_at(self.try_fold_carrying(0, &Counting))
     }
@@ -156,7 +158,7 @@ pub trait FallibleIterator: Drop + Sized {
         requires can { contract.can self }
         requires finite { contract.has_end self }
         ensures last { LastOf contract.steps self result }
-        ensures value { (l : List (Result Self.Item Self.Error)) → Lists contract.steps self l → result ≡ last_of l }
+        ensures value { OverList contract.steps self (λ l. result ≡ last_of l) }
     {
         value_at(self.try_fold_carrying(None, &KeepingLast))
     }
@@ -167,7 +169,7 @@ pub trait FallibleIterator: Drop + Sized {
         Self::Item: Drop,
         requires { contract.can self.old }
         ensures nth { Nth contract.steps self.old n result self.new }
-        ensures value { (l : List (Result Self.Item Self.Error)) → Lists contract.steps self.old l → result ≡ nth_of n l }
+        ensures value { OverList contract.steps self.old (λ l. result ≡ nth_of n l) }
         ensures stays { Stays contract self.old self.new }
     {
         let mut left = n;
@@ -192,9 +194,13 @@ pub trait FallibleIterator: Drop + Sized {
         F: FnMut(B, Self::Item) -> Result<B, E>,
         requires can { contract.can self.old }
         requires finite { contract.has_end self.old }
-        requires callable { CallableInFold contract.steps (call_with F.FnMut) (takes_with F.FnMut) self.old f init }
-        ensures folded { Folded contract.steps (call_with F.FnMut) E.from_gives self.old init f result self.new }
-        ensures value { (convert : Self.Error → E) (h : B → Self.Item → Result B E) (l : List (Result Self.Item Self.Error)) → Converts E.from_gives convert → ActsWith (call_with F.FnMut) f h → Lists contract.steps self.old l → result ≡ folded convert h init l }
+        requires callable { CallableInFold contract.steps (call_with F.FnMut) (takes_with F.FnMut)
+            self.old f init }
+        ensures folded { Folded contract.steps (call_with F.FnMut) E.from_gives
+            self.old init f result self.new }
+        ensures value { (convert : Self.Error → E) → Converts E.from_gives convert
+            → OverListWith (ActsWith (call_with F.FnMut) f) contract.steps self.old
+            (λ h l. result ≡ folded convert h init l) }
         ensures stays { Stays contract self.old self.new }
     {
         folded_at(self.try_fold_carrying((init, f), &Folding))
@@ -207,9 +213,12 @@ pub trait FallibleIterator: Drop + Sized {
         F: FnMut(B, Self::Item) -> Result<B, Self::Error>,
         requires can { contract.can self }
         requires finite { contract.has_end self }
-        requires callable { CallableInFold contract.steps (call_with F.FnMut) (takes_with F.FnMut) self f init }
-        ensures folded { (left : Self) × Folded contract.steps (call_with F.FnMut) (λ e d. d ≡ e) self init f result left }
-        ensures value { (h : B → Self.Item → Result B Self.Error) (l : List (Result Self.Item Self.Error)) → ActsWith (call_with F.FnMut) f h → Lists contract.steps self l → result ≡ folded (λ e. e) h init l }
+        requires callable { CallableInFold contract.steps (call_with F.FnMut) (takes_with F.FnMut)
+            self f init }
+        ensures folded { (left : Self) × Folded contract.steps (call_with F.FnMut)
+            (λ e d. d ≡ e) self init f result left }
+        ensures value { OverListWith (ActsWith (call_with F.FnMut) f) contract.steps self
+            (λ h l. result ≡ folded (λ e. e) h init l) }
     {
         self.try_fold(init, f)
     }
@@ -224,8 +233,10 @@ pub trait FallibleIterator: Drop + Sized {
         Self::Item: Drop,
         requires can { contract.can self.old }
         requires finite { contract.has_end self.old }
-        requires callable { CallableInSearch (K.tests k.now) find_pick contract.steps (K.can_test k.now) self.old init }
-        ensures searched { Searched (K.tests k.now) find_pick contract.steps None self.old init result.1 self.new result.0 }
+        requires callable { CallableInSearch (K.tests k.now) find_pick contract.steps
+            (K.can_test k.now) self.old init }
+        ensures searched { Searched (K.tests k.now) find_pick contract.steps None self.old init
+            result.1 self.new result.0 }
         ensures stays { Stays contract self.old self.new }
     {
         let turn = Finding { test: k };
@@ -243,7 +254,9 @@ pub trait FallibleIterator: Drop + Sized {
         F: FnMut(Self::Item) -> Result<B, Self::Error>,
         requires { IsCallable (call_on F.FnMut) (takes_on F.FnMut) (contract.gives self) f }
         ensures parts { map_parts result ≡ (self, Some f) }
-        ensures lists { (h : Self.Item → Result B Self.Error) (l : List (Result Self.Item Self.Error)) → Acts (call_on F.FnMut) f h → Lists contract.steps self l → Lists (seen_as map_parts (map_contract contract F.FnMut)).steps result (mapped h l) }
+        ensures lists { OverListWith (Acts (call_on F.FnMut) f) contract.steps self
+            (λ h l. Lists (seen_as map_parts (map_contract contract F.FnMut)).steps
+            result (mapped h l)) }
     {
         Map {
             it: self,
@@ -258,9 +271,12 @@ pub trait FallibleIterator: Drop + Sized {
     where
         F: FnMut(&Self::Item) -> Result<bool, Self::Error>,
         requires finite { contract.has_end self }
-        requires callable { IsCallable (call_at F.FnMut) (takes_at F.FnMut) (contract.gives self) f }
+        requires callable { IsCallable (call_at F.FnMut) (takes_at F.FnMut)
+            (contract.gives self) f }
         ensures parts { filter_parts result ≡ (self, Some f) }
-        ensures lists { (h : Self.Item → Result Bool Self.Error) (l : List (Result Self.Item Self.Error)) → Acts (call_at F.FnMut) f h → Lists contract.steps self l → Lists (seen_as filter_parts (filter_contract contract F.FnMut)).steps result (filtered h l) }
+        ensures lists { OverListWith (Acts (call_at F.FnMut) f) contract.steps self
+            (λ h l. Lists (seen_as filter_parts (filter_contract contract F.FnMut)).steps
+            result (filtered h l)) }
     {
         Filter {
             it: self,
@@ -271,8 +287,10 @@ pub trait FallibleIterator: Drop + Sized {
     /// Ends after n items; failures and ends of the source pass, and don't count. Making the adapter draws nothing, nor does a call after the n-th item.
     final fn take(self, n: usize) -> Take<Self>
         ensures parts { take_parts result ≡ (self, n) }
-        ensures lists { (l : List (Result Self.Item Self.Error)) → Lists contract.steps self l → Lists (seen_as take_parts (take_contract contract)).steps result (taken n l) }
-        ensures repeats { (x : Self.Item) → Repeats contract.steps self (Ok x) → Lists (seen_as take_parts (take_contract contract)).steps result (repeated n x) }
+        ensures lists { OverList contract.steps self
+            (λ l. Lists (seen_as take_parts (take_contract contract)).steps result (taken n l)) }
+        ensures repeats { (x : Self.Item) → Repeats contract.steps self (Ok x)
+            → Lists (seen_as take_parts (take_contract contract)).steps result (repeated n x) }
     {
         Take { it: self, left: n }
     }
@@ -285,7 +303,9 @@ pub trait FallibleIterator: Drop + Sized {
         P: FnMut(&Self::Item) -> Result<bool, Self::Error>,
         requires { IsCallable (call_at P.FnMut) (takes_at P.FnMut) (contract.gives self) predicate }
         ensures parts { take_while_parts result ≡ ((self, Some predicate), false) }
-        ensures lists { (h : Self.Item → Result Bool Self.Error) (l : List (Result Self.Item Self.Error)) → Acts (call_at P.FnMut) predicate h → Lists contract.steps self l → Lists (seen_as take_while_parts (take_while_contract contract P.FnMut)).steps result (taken_while h l) }
+        ensures lists { OverListWith (Acts (call_at P.FnMut) predicate) contract.steps self
+            (λ h l. Lists (seen_as take_while_parts (take_while_contract contract P.FnMut)).steps
+            result (taken_while h l)) }
     {
         TakeWhile {
             it: self,
@@ -297,7 +317,8 @@ pub trait FallibleIterator: Drop + Sized {
     /// Ends for good at the source's first end, without a draw from then on. A failure ends nothing. Making the adapter draws nothing.
     final fn fuse(self) -> Fuse<Self>
         ensures parts { fuse_parts result ≡ (self, false) }
-        ensures lists { (l : List (Result Self.Item Self.Error)) → Lists contract.steps self l → Lists (seen_as fuse_parts (fuse_contract contract)).steps result l }
+        ensures lists { OverList contract.steps self
+            (λ l. Lists (seen_as fuse_parts (fuse_contract contract)).steps result l) }
     {
         Fuse {
             it: self,
@@ -308,7 +329,8 @@ pub trait FallibleIterator: Drop + Sized {
     /// Leaves out the first n items. A failure or an end that comes among them is the answer, and the rest of them is left out after it. Making the adapter draws nothing; one call draws at most n + 1 answers.
     final fn skip(self, n: usize) -> Skip<Self>
         ensures parts { skip_parts result ≡ (self, n) }
-        ensures lists { (l : List (Result Self.Item Self.Error)) → Lists contract.steps self l → Lists (seen_as skip_parts (skip_contract contract)).steps result (skipped n l) }
+        ensures lists { OverList contract.steps self
+            (λ l. Lists (seen_as skip_parts (skip_contract contract)).steps result (skipped n l)) }
     {
         Skip {
             it: self,
@@ -320,7 +342,9 @@ pub trait FallibleIterator: Drop + Sized {
     final fn step_by(self, step: usize) -> StepBy<Self>
         requires { 1 ≤ step }
         ensures parts { step_by_parts result ≡ (self, (step - 1, 0)) }
-        ensures lists { (l : List (Result Self.Item Self.Error)) → Lists contract.steps self l → Lists (seen_as step_by_parts (step_by_contract contract)).steps result (stepped (step - 1) 0 l) }
+        ensures lists { OverList contract.steps self
+            (λ l. Lists (seen_as step_by_parts (step_by_contract contract)).steps
+            result (stepped (step - 1) 0 l)) }
     {
         StepBy {
             it: self,
@@ -336,9 +360,12 @@ pub trait FallibleIterator: Drop + Sized {
     where
         F: FnMut(Self::Item) -> Result<Option<B>, Self::Error>,
         requires finite { contract.has_end self }
-        requires callable { IsCallable (call_on F.FnMut) (takes_on F.FnMut) (contract.gives self) f }
+        requires callable { IsCallable (call_on F.FnMut) (takes_on F.FnMut)
+            (contract.gives self) f }
         ensures parts { filter_map_parts result ≡ (self, Some f) }
-        ensures lists { (h : Self.Item → Result (Option B) Self.Error) (l : List (Result Self.Item Self.Error)) → Acts (call_on F.FnMut) f h → Lists contract.steps self l → Lists (seen_as filter_map_parts (filter_map_contract contract F.FnMut)).steps result (filter_mapped h l) }
+        ensures lists { OverListWith (Acts (call_on F.FnMut) f) contract.steps self
+            (λ h l. Lists (seen_as filter_map_parts (filter_map_contract contract F.FnMut)).steps
+            result (filter_mapped h l)) }
     {
         FilterMap {
             it: self,
@@ -354,7 +381,9 @@ pub trait FallibleIterator: Drop + Sized {
         F: FnMut(&Self::Item) -> Result<(), Self::Error>,
         requires { IsCallable (call_at F.FnMut) (takes_at F.FnMut) (contract.gives self) f }
         ensures parts { inspect_parts result ≡ (self, Some f) }
-        ensures lists { (h : Self.Item → Result (Unit {0}) Self.Error) (l : List (Result Self.Item Self.Error)) → Acts (call_at F.FnMut) f h → Lists contract.steps self l → Lists (seen_as inspect_parts (inspect_contract contract F.FnMut)).steps result (inspected h l) }
+        ensures lists { OverListWith (Acts (call_at F.FnMut) f) contract.steps self
+            (λ h l. Lists (seen_as inspect_parts (inspect_contract contract F.FnMut)).steps
+            result (inspected h l)) }
     {
         Inspect {
             it: self,
@@ -370,7 +399,9 @@ pub trait FallibleIterator: Drop + Sized {
         F: FnMut(Self::Error) -> B,
         requires { IsCallable (call_on F.FnMut) (takes_on F.FnMut) (contract.fails self) f }
         ensures parts { map_err_parts result ≡ (self, f) }
-        ensures lists { (h : Self.Error → B) (l : List (Result Self.Item Self.Error)) → Acts (call_on F.FnMut) f h → Lists contract.steps self l → Lists (seen_as map_err_parts (map_err_contract contract F.FnMut)).steps result (failures_mapped h l) }
+        ensures lists { OverListWith (Acts (call_on F.FnMut) f) contract.steps self
+            (λ h l. Lists (seen_as map_err_parts (map_err_contract contract F.FnMut)).steps
+            result (failures_mapped h l)) }
     {
         MapErr { it: self, f }
     }
@@ -382,7 +413,9 @@ pub trait FallibleIterator: Drop + Sized {
         requires { AtMost contract self (2 ^ 64 - 1) }
         ensures parts { enumerate_parts result ≡ (self, 0) }
         ensures numberable { contract.can self → IsNumberable contract self 0 }
-        ensures lists { (l : List (Result Self.Item Self.Error)) → Lists contract.steps self l → Lists (seen_as enumerate_parts (enumerate_contract contract)).steps result (numbered 0 l) }
+        ensures lists { OverList contract.steps self
+            (λ l. Lists (seen_as enumerate_parts (enumerate_contract contract)).steps
+            result (numbered 0 l)) }
     {
         Enumerate { it: self, count: 0 }
     }
@@ -394,9 +427,12 @@ pub trait FallibleIterator: Drop + Sized {
     where
         P: FnMut(&Self::Item) -> Result<bool, Self::Error>,
         requires finite { contract.has_end self }
-        requires callable { IsCallable (skip_call (call_at P.FnMut)) (skip_takes (takes_at P.FnMut)) (contract.gives self) (false, predicate) }
+        requires callable { IsCallable (skip_call (call_at P.FnMut)) (skip_takes (takes_at P.FnMut))
+            (contract.gives self) (false, predicate) }
         ensures parts { skip_while_parts result ≡ (self, (false, Some predicate)) }
-        ensures lists { (h : Self.Item → Result Bool Self.Error) (l : List (Result Self.Item Self.Error)) → Acts (call_at P.FnMut) predicate h → Lists contract.steps self l → Lists (seen_as skip_while_parts (skip_while_contract contract P.FnMut)).steps result (skipped_while h l) }
+        ensures lists { OverListWith (Acts (call_at P.FnMut) predicate) contract.steps self
+            (λ h l. Lists (seen_as skip_while_parts (skip_while_contract contract P.FnMut)).steps
+            result (skipped_while h l)) }
     {
         SkipWhile {
             it: self,
@@ -411,9 +447,12 @@ pub trait FallibleIterator: Drop + Sized {
     final fn scan<St, B, F>(self, initial_state: St, f: F) -> Scan<Self, St, F>
     where
         F: FnMut(&mut St, Self::Item) -> Result<Option<B>, Self::Error>,
-        requires { IsCallable (scan_call F.FnMut) (scan_takes F.FnMut) (contract.gives self) (initial_state, f) }
+        requires { IsCallable (scan_call F.FnMut) (scan_takes F.FnMut) (contract.gives self)
+            (initial_state, f) }
         ensures parts { scan_parts result ≡ (self, (initial_state, f)) }
-        ensures lists { (next : St → Self.Item → Result (Option B) Self.Error × St) (l : List (Result Self.Item Self.Error)) → ActsWithState (scan_call F.FnMut) f next → Lists contract.steps self l → Lists (seen_as scan_parts (scan_contract contract F.FnMut)).steps result (scanned next initial_state l) }
+        ensures lists { OverListWith (ActsWithState (scan_call F.FnMut) f) contract.steps self
+            (λ next l. Lists (seen_as scan_parts (scan_contract contract F.FnMut)).steps
+            result (scanned next initial_state l)) }
     {
         Scan {
             it: self,
@@ -429,7 +468,10 @@ pub trait FallibleIterator: Drop + Sized {
         T: Clone,
         Self::Error: From<AllocError>,
         ensures parts { cloned_parts result ≡ (self, tt) }
-        ensures lists { (l : List (Result (Bor T) Self.Error)) → ((x y : T) → T.is_clone x y → y ≡ x) → ((x : T) → T.is_infallible x) → Lists contract.steps self l → Lists (seen_as cloned_parts (cloned_contract T.is_clone T.is_infallible Self.Error.from_gives contract)).steps result (pointed_to l) }
+        ensures lists { OverList contract.steps self
+            (λ l. ((x y : T) → T.is_clone x y → y ≡ x) → ((x : T) → T.is_infallible x)
+            → Lists (seen_as cloned_parts (cloned_contract T.is_clone T.is_infallible
+            Self.Error.from_gives contract)).steps result (pointed_to l)) }
     {
         Cloned { it: self }
     }
@@ -439,7 +481,9 @@ pub trait FallibleIterator: Drop + Sized {
     where
         Self: DoubleEndedFallibleIterator,
         ensures parts { rev_parts result ≡ self }
-        ensures lists { (l : List (Result Self.Item Self.Error)) → Lists Self.DoubleEndedFallibleIterator.ends.steps self l → Lists (seen_as rev_parts (rev_contract contract Self.DoubleEndedFallibleIterator.ends)).steps result l }
+        ensures lists { OverList Self.DoubleEndedFallibleIterator.ends.steps self
+            (λ l. Lists (seen_as rev_parts
+            (rev_contract contract Self.DoubleEndedFallibleIterator.ends)).steps result l) }
     {
         Rev { it: self }
     }
@@ -451,7 +495,10 @@ pub trait FallibleIterator: Drop + Sized {
         ensures front { (chain_parts result).0 ≡ self }
         ensures back { I.into_gives it (chain_parts result).1 }
         ensures sides { (chain_parts result).2 ≡ Both }
-        ensures lists { (a b : List (Result Self.Item Self.Error)) → Lists contract.steps self a → ((back : I.IntoFallibleIter) → I.into_gives it back → Lists I.IntoFallibleIter.contract.steps back b) → Lists (seen_as chain_parts (chain_contract contract I.IntoFallibleIter.contract)).steps result (chained a b) }
+        ensures lists { OverBoth contract.steps self I.into_gives it
+            I.IntoFallibleIter.contract.steps
+            (λ a b. Lists (seen_as chain_parts (chain_contract contract
+            I.IntoFallibleIter.contract)).steps result (chained a b)) }
     {
         Chain {
             front: self,
@@ -466,8 +513,17 @@ pub trait FallibleIterator: Drop + Sized {
         I: IntoFallibleIterator<Error = Self::Error>,
         ensures left { (zip_parts result).0 ≡ self }
         ensures right { I.into_gives o (zip_parts result).1 }
-        ensures lists { (a : List (Result Self.Item Self.Error)) (b : List (Result I.Item Self.Error)) → NoFailureAtEnd a b → Lists contract.steps self a → ((right : I.IntoFallibleIter) → I.into_gives o right → Lists I.IntoFallibleIter.contract.steps right b) → Lists (seen_as zip_parts (zip_contract contract I.IntoFallibleIter.contract)).steps result (zipped a b) }
-        ensures items { (a : List (Result Self.Item Self.Error)) (b : List I.Item) → Lists contract.steps self a → ((right : I.IntoFallibleIter) → I.into_gives o right → Lists I.IntoFallibleIter.contract.steps right (items b)) → Lists (seen_as zip_parts (zip_contract contract I.IntoFallibleIter.contract)).steps result (zipped a (items b)) }
+        ensures lists { OverBoth contract.steps self I.into_gives o
+            I.IntoFallibleIter.contract.steps
+            (λ a b. NoFailureAtEnd a b
+            → Lists (seen_as zip_parts (zip_contract contract
+            I.IntoFallibleIter.contract)).steps result (zipped a b)) }
+        ensures items { OverList contract.steps self
+            (λ a. (b : List I.Item)
+            → ((right : I.IntoFallibleIter) → I.into_gives o right
+            → Lists I.IntoFallibleIter.contract.steps right (items b))
+            → Lists (seen_as zip_parts (zip_contract contract
+            I.IntoFallibleIter.contract)).steps result (zipped a (items b))) }
     {
         Zip {
             left: self,
@@ -483,7 +539,12 @@ pub trait FallibleIterator: Drop + Sized {
         Self::Item: IntoFallibleIterator<Error = Self::Error>,
         requires { contract.has_end self }
         ensures parts { flatten_parts result ≡ (self, None) }
-        ensures lists { (inner : Self.Item → List (Result Self.Item.Item Self.Error)) (l : List (Result Self.Item Self.Error)) → EachLists Self.Item.into_gives Self.Item.IntoFallibleIter.contract.steps inner → Lists contract.steps self l → Lists (seen_as flatten_parts (flatten_contract contract Self.Item.into_gives Self.Item.IntoFallibleIter.contract)).steps result (flattened inner l) }
+        ensures lists { OverListWith
+            (EachLists Self.Item.into_gives Self.Item.IntoFallibleIter.contract.steps)
+            contract.steps self
+            (λ inner l. Lists (seen_as flatten_parts (flatten_contract contract
+            Self.Item.into_gives Self.Item.IntoFallibleIter.contract)).steps
+            result (flattened inner l)) }
     {
         Flatten {
             it: self,
@@ -499,10 +560,17 @@ pub trait FallibleIterator: Drop + Sized {
         U: IntoFallibleIterator<Error = Self::Error>,
         F: FnMut(Self::Item) -> Result<U, Self::Error>,
         requires finite { contract.has_end self }
-        requires callable { IsCallable (call_on F.FnMut) (takes_on F.FnMut) (contract.gives self) f }
+        requires callable { IsCallable (call_on F.FnMut) (takes_on F.FnMut)
+            (contract.gives self) f }
         ensures outer { map_parts (flatten_parts result).0 ≡ (self, Some f) }
         ensures in_hand { (flatten_parts result).1 ≡ None }
-        ensures lists { (inner : U → List (Result U.Item Self.Error)) (h : Self.Item → Result U Self.Error) (l : List (Result Self.Item Self.Error)) → EachLists U.into_gives U.IntoFallibleIter.contract.steps inner → Acts (call_on F.FnMut) f h → Lists contract.steps self l → Lists (seen_as flatten_parts (flatten_contract (seen_as map_parts (map_contract contract F.FnMut)) U.into_gives U.IntoFallibleIter.contract)).steps result (flattened inner (mapped h l)) }
+        ensures lists { (inner : U → List (Result U.Item Self.Error))
+            → EachLists U.into_gives U.IntoFallibleIter.contract.steps inner
+            → OverListWith (Acts (call_on F.FnMut) f) contract.steps self
+            (λ h l. Lists (seen_as flatten_parts (flatten_contract
+            (seen_as map_parts (map_contract contract F.FnMut))
+            U.into_gives U.IntoFallibleIter.contract)).steps
+            result (flattened inner (mapped h l))) }
     {
         Flatten {
             it: self.map(f),
@@ -522,8 +590,9 @@ pub trait FallibleIterator: Drop + Sized {
     where
         requires can { contract.can self }
         requires finite { contract.has_end self }
-        ensures collects { Collects contract.steps C.made C.empty_refuses C.push_refuses self result }
-        ensures value { (l : List (Result Self.Item Self.Error)) → Lists contract.steps self l → CollectedAs C.made l result }
+        ensures collects { Collects contract.steps C.made C.empty_refuses C.push_refuses
+            self result }
+        ensures value { OverList contract.steps self (λ l. CollectedAs C.made l result) }
     {
         let mut made = match C::empty(alloc) {
             Ok(made) => made,
@@ -554,9 +623,12 @@ pub trait FallibleIterator: Drop + Sized {
         F: FnMut(&Self::Item) -> Result<bool, Self::Error>,
         requires can { contract.can self }
         requires finite { contract.has_end self }
-        requires callable { HoldsAtEachTurn contract.steps (Asks (call_at F.FnMut)) (takes_at F.FnMut) self f }
-        ensures partitions { Partitions contract.steps (call_at F.FnMut) B.made B.empty_refuses B.push_refuses self f result }
-        ensures value { (h : Self.Item → Result Bool Self.Error) (l : List (Result Self.Item Self.Error)) → Acts (call_at F.FnMut) f h → Lists contract.steps self l → PartedAs B.made h l result }
+        requires callable { HoldsAtEachTurn contract.steps (Asks (call_at F.FnMut))
+            (takes_at F.FnMut) self f }
+        ensures partitions { Partitions contract.steps (call_at F.FnMut) B.made B.empty_refuses
+            B.push_refuses self f result }
+        ensures value { OverListWith (Acts (call_at F.FnMut) f) contract.steps self
+            (λ h l. PartedAs B.made h l result) }
     {
         let first = match B::empty(alloc) {
             Ok(made) => made,
@@ -590,8 +662,11 @@ pub trait FallibleIterator: Drop + Sized {
         B: Drop,
         requires can { contract.can self }
         requires finite { contract.has_end self }
-        ensures collects { Collects contract.steps (MadeOfParts FromA.made FromB.made) (FromA.empty_refuses ⊎ FromB.empty_refuses) (PairRefused FromA.made FromB.made FromA.push_refuses FromB.push_refuses) self result }
-        ensures value { (l : List (Result (A × B) Self.Error)) → Lists contract.steps self l → UnzippedAs FromA.made FromB.made l result }
+        ensures collects { Collects contract.steps (MadeOfParts FromA.made FromB.made)
+            (FromA.empty_refuses ⊎ FromB.empty_refuses)
+            (PairRefused FromA.made FromB.made FromA.push_refuses FromB.push_refuses) self result }
+        ensures value { OverList contract.steps self
+            (λ l. UnzippedAs FromA.made FromB.made l result) }
     {
         let first = match FromA::empty(alloc) {
             Ok(made) => made,
@@ -620,9 +695,12 @@ pub trait FallibleIterator: Drop + Sized {
         F: FnMut(Self::Item) -> Result<(), Self::Error>,
         requires can { contract.can self }
         requires finite { contract.has_end self }
-        requires callable { CallableInSearch (call_on F.FnMut) each_pick contract.steps (takes_on F.FnMut) self f }
-        ensures searched { (left : Self) × (g : F) × Searched (call_on F.FnMut) each_pick contract.steps tt self f result left g }
-        ensures value { (h : Self.Item → Result (Unit {0}) Self.Error) (l : List (Result Self.Item Self.Error)) → Acts (call_on F.FnMut) f h → Lists contract.steps self l → result ≡ each_done h l }
+        requires callable { CallableInSearch (call_on F.FnMut) each_pick contract.steps
+            (takes_on F.FnMut) self f }
+        ensures searched { (left : Self) × (g : F)
+            × Searched (call_on F.FnMut) each_pick contract.steps tt self f result left g }
+        ensures value { OverListWith (Acts (call_on F.FnMut) f) contract.steps self
+            (λ h l. result ≡ each_done h l) }
     {
         answer_at(self.try_fold_carrying(f, &CallingEach), ())
     }
@@ -635,9 +713,12 @@ pub trait FallibleIterator: Drop + Sized {
         F: FnMut(Self::Item) -> Result<bool, Self::Error>,
         requires can { contract.can self.old }
         requires finite { contract.has_end self.old }
-        requires callable { CallableInSearch (call_on F.FnMut) all_pick contract.steps (takes_on F.FnMut) self.old f }
-        ensures searched { (g : F) × Searched (call_on F.FnMut) all_pick contract.steps true self.old f result self.new g }
-        ensures value { (h : Self.Item → Result Bool Self.Error) (l : List (Result Self.Item Self.Error)) → Acts (call_on F.FnMut) f h → Lists contract.steps self.old l → result ≡ all_of h l }
+        requires callable { CallableInSearch (call_on F.FnMut) all_pick contract.steps
+            (takes_on F.FnMut) self.old f }
+        ensures searched { (g : F) × Searched (call_on F.FnMut) all_pick contract.steps true
+            self.old f result self.new g }
+        ensures value { OverListWith (Acts (call_on F.FnMut) f) contract.steps self.old
+            (λ h l. result ≡ all_of h l) }
         ensures stays { Stays contract self.old self.new }
     {
         answer_at(self.try_fold_carrying(f, &RequiringAll), true)
@@ -651,9 +732,12 @@ pub trait FallibleIterator: Drop + Sized {
         F: FnMut(Self::Item) -> Result<bool, Self::Error>,
         requires can { contract.can self.old }
         requires finite { contract.has_end self.old }
-        requires callable { CallableInSearch (call_on F.FnMut) any_pick contract.steps (takes_on F.FnMut) self.old f }
-        ensures searched { (g : F) × Searched (call_on F.FnMut) any_pick contract.steps false self.old f result self.new g }
-        ensures value { (h : Self.Item → Result Bool Self.Error) (l : List (Result Self.Item Self.Error)) → Acts (call_on F.FnMut) f h → Lists contract.steps self.old l → result ≡ any_of h l }
+        requires callable { CallableInSearch (call_on F.FnMut) any_pick contract.steps
+            (takes_on F.FnMut) self.old f }
+        ensures searched { (g : F) × Searched (call_on F.FnMut) any_pick contract.steps false
+            self.old f result self.new g }
+        ensures value { OverListWith (Acts (call_on F.FnMut) f) contract.steps self.old
+            (λ h l. result ≡ any_of h l) }
         ensures stays { Stays contract self.old self.new }
     {
         answer_at(self.try_fold_carrying(f, &SeekingAny), false)
@@ -668,9 +752,12 @@ pub trait FallibleIterator: Drop + Sized {
         F: FnMut(&Self::Item) -> Result<bool, Self::Error>,
         requires can { contract.can self.old }
         requires finite { contract.has_end self.old }
-        requires callable { CallableInSearch (call_at F.FnMut) find_pick contract.steps (takes_at F.FnMut) self.old f }
-        ensures searched { (g : F) × Searched (call_at F.FnMut) find_pick contract.steps None self.old f result self.new g }
-        ensures value { (h : Self.Item → Result Bool Self.Error) (l : List (Result Self.Item Self.Error)) → Acts (call_at F.FnMut) f h → Lists contract.steps self.old l → result ≡ found h l }
+        requires callable { CallableInSearch (call_at F.FnMut) find_pick contract.steps
+            (takes_at F.FnMut) self.old f }
+        ensures searched { (g : F) × Searched (call_at F.FnMut) find_pick contract.steps None
+            self.old f result self.new g }
+        ensures value { OverListWith (Acts (call_at F.FnMut) f) contract.steps self.old
+            (λ h l. result ≡ found h l) }
         ensures stays { Stays contract self.old self.new }
     {
         let (_, answer) = self.find_carrying(f, &Asking);
@@ -685,9 +772,12 @@ pub trait FallibleIterator: Drop + Sized {
         F: FnMut(Self::Item) -> Result<Option<B>, Self::Error>,
         requires can { contract.can self.old }
         requires finite { contract.has_end self.old }
-        requires callable { CallableInSearch (call_on F.FnMut) find_map_pick contract.steps (takes_on F.FnMut) self.old f }
-        ensures searched { (g : F) × Searched (call_on F.FnMut) find_map_pick contract.steps None self.old f result self.new g }
-        ensures value { (h : Self.Item → Result (Option B) Self.Error) (l : List (Result Self.Item Self.Error)) → Acts (call_on F.FnMut) f h → Lists contract.steps self.old l → result ≡ find_mapped h l }
+        requires callable { CallableInSearch (call_on F.FnMut) find_map_pick contract.steps
+            (takes_on F.FnMut) self.old f }
+        ensures searched { (g : F) × Searched (call_on F.FnMut) find_map_pick contract.steps None
+            self.old f result self.new g }
+        ensures value { OverListWith (Acts (call_on F.FnMut) f) contract.steps self.old
+            (λ h l. result ≡ find_mapped h l) }
         ensures stays { Stays contract self.old self.new }
     {
         found_at(self.try_fold_carrying(f, &FindingMapped))
@@ -701,9 +791,12 @@ pub trait FallibleIterator: Drop + Sized {
         F: FnMut(Self::Item) -> Result<bool, Self::Error>,
         requires can { contract.can self.old }
         requires fits { AtMost contract self.old (2 ^ 64 - 1) }
-        requires callable { CallableInSearch (call_on F.FnMut) position_pick contract.steps (takes_on F.FnMut) self.old f }
-        ensures searched { (g : F) × Searched (call_on F.FnMut) position_pick contract.steps None self.old f result self.new g }
-        ensures value { (h : Self.Item → Result Bool Self.Error) (l : List (Result Self.Item Self.Error)) → Acts (call_on F.FnMut) f h → Lists contract.steps self.old l → result ≡ position_in h l }
+        requires callable { CallableInSearch (call_on F.FnMut) position_pick contract.steps
+            (takes_on F.FnMut) self.old f }
+        ensures searched { (g : F) × Searched (call_on F.FnMut) position_pick contract.steps None
+            self.old f result self.new g }
+        ensures value { OverListWith (Acts (call_on F.FnMut) f) contract.steps self.old
+            (λ h l. result ≡ position_in h l) }
         ensures stays { Stays contract self.old self.new }
     {
         found_at(self.try_fold_carrying((0, f), &Placing))
@@ -718,7 +811,7 @@ pub trait FallibleIterator: Drop + Sized {
         requires can { contract.can self }
         requires finite { contract.has_end self }
         ensures best { Best Greater Self.Item.cmp contract.steps self result }
-        ensures value { (l : List (Result Self.Item Self.Error)) → Lists contract.steps self l → result ≡ greatest Self.Item.cmp l }
+        ensures value { OverList contract.steps self (λ l. result ≡ greatest Self.Item.cmp l) }
     {
         let compare = |best: &Self::Item, x: &Self::Item| -> Result<Ordering, Self::Error>
             ensures { result ≡ Ok (Self.Item.cmp best.now x.now) }
@@ -735,7 +828,7 @@ pub trait FallibleIterator: Drop + Sized {
         requires can { contract.can self }
         requires finite { contract.has_end self }
         ensures best { Best Less Self.Item.cmp contract.steps self result }
-        ensures value { (l : List (Result Self.Item Self.Error)) → Lists contract.steps self l → result ≡ least Self.Item.cmp l }
+        ensures value { OverList contract.steps self (λ l. result ≡ least Self.Item.cmp l) }
     {
         let compare = |best: &Self::Item, x: &Self::Item| -> Result<Ordering, Self::Error>
             ensures { result ≡ Ok (Self.Item.cmp best.now x.now) }
@@ -753,9 +846,11 @@ pub trait FallibleIterator: Drop + Sized {
         F: FnMut(&Self::Item) -> Result<B, Self::Error>,
         requires can { contract.can self }
         requires finite { contract.has_end self }
-        requires callable { CallableInFold contract.steps (KeyCall Greater B.cmp (call_at F.FnMut)) (λ g best x. takes_at F.FnMut g x) self f None }
+        requires callable { CallableInFold contract.steps (KeyCall Greater B.cmp (call_at F.FnMut))
+            (λ g best x. takes_at F.FnMut g x) self f None }
         ensures best { BestByKey Greater B.cmp (call_at F.FnMut) contract.steps self f result }
-        ensures value { (h : Self.Item → Result B Self.Error) (l : List (Result Self.Item Self.Error)) → Acts (call_at F.FnMut) f h → Lists contract.steps self l → result ≡ best_by_key Greater B.cmp h l }
+        ensures value { OverListWith (Acts (call_at F.FnMut) f) contract.steps self
+            (λ h l. result ≡ best_by_key Greater B.cmp h l) }
     {
         without_key(best_by_key(self, Ordering::Greater, f))
     }
@@ -770,9 +865,11 @@ pub trait FallibleIterator: Drop + Sized {
         F: FnMut(&Self::Item) -> Result<B, Self::Error>,
         requires can { contract.can self }
         requires finite { contract.has_end self }
-        requires callable { CallableInFold contract.steps (KeyCall Less B.cmp (call_at F.FnMut)) (λ g best x. takes_at F.FnMut g x) self f None }
+        requires callable { CallableInFold contract.steps (KeyCall Less B.cmp (call_at F.FnMut))
+            (λ g best x. takes_at F.FnMut g x) self f None }
         ensures best { BestByKey Less B.cmp (call_at F.FnMut) contract.steps self f result }
-        ensures value { (h : Self.Item → Result B Self.Error) (l : List (Result Self.Item Self.Error)) → Acts (call_at F.FnMut) f h → Lists contract.steps self l → result ≡ best_by_key Less B.cmp h l }
+        ensures value { OverListWith (Acts (call_at F.FnMut) f) contract.steps self
+            (λ h l. result ≡ best_by_key Less B.cmp h l) }
     {
         without_key(best_by_key(self, Ordering::Less, f))
     }
@@ -786,9 +883,11 @@ pub trait FallibleIterator: Drop + Sized {
         F: FnMut(&Self::Item, &Self::Item) -> Result<Ordering, Self::Error>,
         requires can { contract.can self }
         requires finite { contract.has_end self }
-        requires callable { CallableInFold contract.steps (PickCall Greater (call_at_two F.FnMut)) (takes_in_pick (takes_at_two F.FnMut)) self f None }
+        requires callable { CallableInFold contract.steps (PickCall Greater (call_at_two F.FnMut))
+            (takes_in_pick (takes_at_two F.FnMut)) self f None }
         ensures picked { Picked Greater (call_at_two F.FnMut) contract.steps self f result }
-        ensures value { (h : Self.Item → Self.Item → Result Ordering Self.Error) (l : List (Result Self.Item Self.Error)) → ActsWith (call_at_two F.FnMut) f h → Lists contract.steps self l → result ≡ best_by Greater h l }
+        ensures value { OverListWith (ActsWith (call_at_two F.FnMut) f) contract.steps self
+            (λ h l. result ≡ best_by Greater h l) }
     {
         best_by(self, Ordering::Greater, f)
     }
@@ -802,9 +901,11 @@ pub trait FallibleIterator: Drop + Sized {
         F: FnMut(&Self::Item, &Self::Item) -> Result<Ordering, Self::Error>,
         requires can { contract.can self }
         requires finite { contract.has_end self }
-        requires callable { CallableInFold contract.steps (PickCall Less (call_at_two F.FnMut)) (takes_in_pick (takes_at_two F.FnMut)) self f None }
+        requires callable { CallableInFold contract.steps (PickCall Less (call_at_two F.FnMut))
+            (takes_in_pick (takes_at_two F.FnMut)) self f None }
         ensures picked { Picked Less (call_at_two F.FnMut) contract.steps self f result }
-        ensures value { (h : Self.Item → Self.Item → Result Ordering Self.Error) (l : List (Result Self.Item Self.Error)) → ActsWith (call_at_two F.FnMut) f h → Lists contract.steps self l → result ≡ best_by Less h l }
+        ensures value { OverListWith (ActsWith (call_at_two F.FnMut) f) contract.steps self
+            (λ h l. result ≡ best_by Less h l) }
     {
         best_by(self, Ordering::Less, f)
     }
@@ -819,8 +920,11 @@ pub trait FallibleIterator: Drop + Sized {
         requires can { contract.can self }
         requires right { (right : I.IntoFallibleIter) → I.into_gives other right → I.IntoFallibleIter.contract.can right }
         requires finite { OneHasEnd contract I.into_gives I.IntoFallibleIter.contract self other }
-        ensures compared { ComparedWith (by_cmp Self.Item.cmp) I.into_gives contract.steps I.IntoFallibleIter.contract.steps self other (read_as (λ o. Some o) result) }
-        ensures value { (a b : List (Result Self.Item Self.Error)) → Lists contract.steps self a → ((right : I.IntoFallibleIter) → I.into_gives other right → Lists I.IntoFallibleIter.contract.steps right b) → read_as (λ o. Some o) result ≡ compared (by_cmp Self.Item.cmp) a b }
+        ensures compared { ComparedWith (by_cmp Self.Item.cmp) I.into_gives contract.steps
+            I.IntoFallibleIter.contract.steps self other (read_as (λ o. Some o) result) }
+        ensures value { OverBoth contract.steps self I.into_gives other
+            I.IntoFallibleIter.contract.steps
+            (λ a b. read_as (λ o. Some o) result ≡ compared (by_cmp Self.Item.cmp) a b) }
     {
         let answer = compare::<Self, I::IntoFallibleIter, ByCmp>(self, other.into_fallible_iter());
         ordered(answer)
@@ -836,8 +940,11 @@ pub trait FallibleIterator: Drop + Sized {
         requires can { contract.can self }
         requires right { (right : I.IntoFallibleIter) → I.into_gives other right → I.IntoFallibleIter.contract.can right }
         requires finite { OneHasEnd contract I.into_gives I.IntoFallibleIter.contract self other }
-        ensures compared { ComparedWith Self.Item.partial_cmp I.into_gives contract.steps I.IntoFallibleIter.contract.steps self other result }
-        ensures value { (a b : List (Result Self.Item Self.Error)) → Lists contract.steps self a → ((right : I.IntoFallibleIter) → I.into_gives other right → Lists I.IntoFallibleIter.contract.steps right b) → result ≡ compared Self.Item.partial_cmp a b }
+        ensures compared { ComparedWith Self.Item.partial_cmp I.into_gives contract.steps
+            I.IntoFallibleIter.contract.steps self other result }
+        ensures value { OverBoth contract.steps self I.into_gives other
+            I.IntoFallibleIter.contract.steps
+            (λ a b. result ≡ compared Self.Item.partial_cmp a b) }
     {
         compare::<Self, I::IntoFallibleIter, ByPartialCmp>(self, other.into_fallible_iter())
     }
@@ -852,8 +959,11 @@ pub trait FallibleIterator: Drop + Sized {
         requires can { contract.can self }
         requires right { (right : I.IntoFallibleIter) → I.into_gives other right → I.IntoFallibleIter.contract.can right }
         requires finite { OneHasEnd contract I.into_gives I.IntoFallibleIter.contract self other }
-        ensures compared { ReadWith (by_eq Self.Item.eq) reads_eq I.into_gives contract.steps I.IntoFallibleIter.contract.steps self other result }
-        ensures value { (a b : List (Result Self.Item Self.Error)) → Lists contract.steps self a → ((right : I.IntoFallibleIter) → I.into_gives other right → Lists I.IntoFallibleIter.contract.steps right b) → result ≡ read_as reads_eq (compared (by_eq Self.Item.eq) a b) }
+        ensures compared { ReadWith (by_eq Self.Item.eq) reads_eq I.into_gives contract.steps
+            I.IntoFallibleIter.contract.steps self other result }
+        ensures value { OverBoth contract.steps self I.into_gives other
+            I.IntoFallibleIter.contract.steps
+            (λ a b. result ≡ read_as reads_eq (compared (by_eq Self.Item.eq) a b)) }
     {
         let answer = compare::<Self, I::IntoFallibleIter, ByEq>(self, other.into_fallible_iter());
         read_eq(answer)
@@ -869,8 +979,11 @@ pub trait FallibleIterator: Drop + Sized {
         requires can { contract.can self }
         requires right { (right : I.IntoFallibleIter) → I.into_gives other right → I.IntoFallibleIter.contract.can right }
         requires finite { OneHasEnd contract I.into_gives I.IntoFallibleIter.contract self other }
-        ensures compared { ReadWith (by_eq Self.Item.eq) reads_ne I.into_gives contract.steps I.IntoFallibleIter.contract.steps self other result }
-        ensures value { (a b : List (Result Self.Item Self.Error)) → Lists contract.steps self a → ((right : I.IntoFallibleIter) → I.into_gives other right → Lists I.IntoFallibleIter.contract.steps right b) → result ≡ read_as reads_ne (compared (by_eq Self.Item.eq) a b) }
+        ensures compared { ReadWith (by_eq Self.Item.eq) reads_ne I.into_gives contract.steps
+            I.IntoFallibleIter.contract.steps self other result }
+        ensures value { OverBoth contract.steps self I.into_gives other
+            I.IntoFallibleIter.contract.steps
+            (λ a b. result ≡ read_as reads_ne (compared (by_eq Self.Item.eq) a b)) }
     {
         let answer = compare::<Self, I::IntoFallibleIter, ByEq>(self, other.into_fallible_iter());
         read_ne(answer)
@@ -886,8 +999,11 @@ pub trait FallibleIterator: Drop + Sized {
         requires can { contract.can self }
         requires right { (right : I.IntoFallibleIter) → I.into_gives other right → I.IntoFallibleIter.contract.can right }
         requires finite { OneHasEnd contract I.into_gives I.IntoFallibleIter.contract self other }
-        ensures compared { ReadWith Self.Item.partial_cmp reads_lt I.into_gives contract.steps I.IntoFallibleIter.contract.steps self other result }
-        ensures value { (a b : List (Result Self.Item Self.Error)) → Lists contract.steps self a → ((right : I.IntoFallibleIter) → I.into_gives other right → Lists I.IntoFallibleIter.contract.steps right b) → result ≡ read_as reads_lt (compared Self.Item.partial_cmp a b) }
+        ensures compared { ReadWith Self.Item.partial_cmp reads_lt I.into_gives contract.steps
+            I.IntoFallibleIter.contract.steps self other result }
+        ensures value { OverBoth contract.steps self I.into_gives other
+            I.IntoFallibleIter.contract.steps
+            (λ a b. result ≡ read_as reads_lt (compared Self.Item.partial_cmp a b)) }
     {
         let answer = compare::<Self, I::IntoFallibleIter, ByPartialCmp>(
             self,
@@ -906,8 +1022,11 @@ pub trait FallibleIterator: Drop + Sized {
         requires can { contract.can self }
         requires right { (right : I.IntoFallibleIter) → I.into_gives other right → I.IntoFallibleIter.contract.can right }
         requires finite { OneHasEnd contract I.into_gives I.IntoFallibleIter.contract self other }
-        ensures compared { ReadWith Self.Item.partial_cmp reads_le I.into_gives contract.steps I.IntoFallibleIter.contract.steps self other result }
-        ensures value { (a b : List (Result Self.Item Self.Error)) → Lists contract.steps self a → ((right : I.IntoFallibleIter) → I.into_gives other right → Lists I.IntoFallibleIter.contract.steps right b) → result ≡ read_as reads_le (compared Self.Item.partial_cmp a b) }
+        ensures compared { ReadWith Self.Item.partial_cmp reads_le I.into_gives contract.steps
+            I.IntoFallibleIter.contract.steps self other result }
+        ensures value { OverBoth contract.steps self I.into_gives other
+            I.IntoFallibleIter.contract.steps
+            (λ a b. result ≡ read_as reads_le (compared Self.Item.partial_cmp a b)) }
     {
         let answer = compare::<Self, I::IntoFallibleIter, ByPartialCmp>(
             self,
@@ -926,8 +1045,11 @@ pub trait FallibleIterator: Drop + Sized {
         requires can { contract.can self }
         requires right { (right : I.IntoFallibleIter) → I.into_gives other right → I.IntoFallibleIter.contract.can right }
         requires finite { OneHasEnd contract I.into_gives I.IntoFallibleIter.contract self other }
-        ensures compared { ReadWith Self.Item.partial_cmp reads_gt I.into_gives contract.steps I.IntoFallibleIter.contract.steps self other result }
-        ensures value { (a b : List (Result Self.Item Self.Error)) → Lists contract.steps self a → ((right : I.IntoFallibleIter) → I.into_gives other right → Lists I.IntoFallibleIter.contract.steps right b) → result ≡ read_as reads_gt (compared Self.Item.partial_cmp a b) }
+        ensures compared { ReadWith Self.Item.partial_cmp reads_gt I.into_gives contract.steps
+            I.IntoFallibleIter.contract.steps self other result }
+        ensures value { OverBoth contract.steps self I.into_gives other
+            I.IntoFallibleIter.contract.steps
+            (λ a b. result ≡ read_as reads_gt (compared Self.Item.partial_cmp a b)) }
     {
         let answer = compare::<Self, I::IntoFallibleIter, ByPartialCmp>(
             self,
@@ -946,8 +1068,11 @@ pub trait FallibleIterator: Drop + Sized {
         requires can { contract.can self }
         requires right { (right : I.IntoFallibleIter) → I.into_gives other right → I.IntoFallibleIter.contract.can right }
         requires finite { OneHasEnd contract I.into_gives I.IntoFallibleIter.contract self other }
-        ensures compared { ReadWith Self.Item.partial_cmp reads_ge I.into_gives contract.steps I.IntoFallibleIter.contract.steps self other result }
-        ensures value { (a b : List (Result Self.Item Self.Error)) → Lists contract.steps self a → ((right : I.IntoFallibleIter) → I.into_gives other right → Lists I.IntoFallibleIter.contract.steps right b) → result ≡ read_as reads_ge (compared Self.Item.partial_cmp a b) }
+        ensures compared { ReadWith Self.Item.partial_cmp reads_ge I.into_gives contract.steps
+            I.IntoFallibleIter.contract.steps self other result }
+        ensures value { OverBoth contract.steps self I.into_gives other
+            I.IntoFallibleIter.contract.steps
+            (λ a b. result ≡ read_as reads_ge (compared Self.Item.partial_cmp a b)) }
     {
         let answer = compare::<Self, I::IntoFallibleIter, ByPartialCmp>(
             self,
@@ -959,7 +1084,8 @@ pub trait FallibleIterator: Drop + Sized {
     /// Lets the next answer be looked at ahead: an item or an end that `peek` saw is held, and comes first. Making the adapter draws nothing, and holds nothing.
     final fn peekable(self) -> Peekable<Self>
         ensures parts { peekable_parts result ≡ (self, None) }
-        ensures lists { (l : List (Result Self.Item Self.Error)) → Lists contract.steps self l → Lists (seen_as peekable_parts (peekable_contract contract)).steps result l }
+        ensures lists { OverList contract.steps self
+            (λ l. Lists (seen_as peekable_parts (peekable_contract contract)).steps result l) }
     {
         Peekable {
             it: self,
@@ -975,7 +1101,9 @@ pub trait FallibleIterator: Drop + Sized {
         Self: Clone,
         Self::Error: From<AllocError>,
         requires { (c : Self) → Self.is_clone self c → contract.can c }
-        ensures { MatchResult result (λ made. Self.is_clone self (cycle_parts made).0 × ((cycle_parts made).1 ≡ self)) (λ _. ¬ (Self.is_infallible self)) }
+        ensures { MatchResult result
+            (λ made. Self.is_clone self (cycle_parts made).0 × ((cycle_parts made).1 ≡ self))
+            (λ _. ¬ (Self.is_infallible self)) }
     {
         let run = self.clone()?;
         Ok(Cycle {
@@ -997,7 +1125,8 @@ pub trait FallibleIterator: Drop + Sized {
     final fn by_ref(&mut self) -> &mut Self
         ensures value { result.now ≡ self.old }
         ensures same_reference { result.ghost_name ≡ self.entry.ghost_name }
-        ensures lists { (l : List (Result Self.Item Self.Error)) → Lists contract.steps self.old l → Lists (borrowed contract).steps result l }
+        ensures lists { OverList contract.steps self.old
+            (λ l. Lists (borrowed contract).steps result l) }
     {
         self
     }
@@ -1007,7 +1136,8 @@ pub trait FallibleIterator: Drop + Sized {
     /// A std loop over it asks a bound on the items and failures together, as `convert` and `into_fallible` have one where their std iterator does, and what draws from them has; where there is none, std's `take` gives one.
     final fn iterator(self) -> Iterator<Self>
         ensures parts { iterator_parts result ≡ self }
-        ensures reads { (l : List (Result Self.Item Self.Error)) → Lists contract.steps self l → EachRunFrom (iterator_steps contract.steps) result (λ p. ItemsAre p l) }
+        ensures reads { OverList contract.steps self
+            (λ l. EachRunFrom (iterator_steps contract.steps) result (λ p. ItemsAre p l)) }
     {
         Iterator { it: self }
     }
@@ -1019,7 +1149,9 @@ pub trait FallibleIterator: Drop + Sized {
         Self::Error: Debug,
         requires sure { Sure contract self }
         ensures parts { unwrap_parts result ≡ self }
-        ensures reads { (l : List (Result T Self.Error)) → Lists contract.steps self l → EachRunFrom (unwrap_steps contract.steps) result (λ p. ItemsAre p (unwrapped l)) }
+        ensures reads { OverList contract.steps self
+            (λ l. EachRunFrom (unwrap_steps contract.steps) result
+            (λ p. ItemsAre p (unwrapped l))) }
     {
         Unwrap { it: self }
     }

@@ -1,8 +1,9 @@
 //! The second end.
 ghost use Rattle.std.specs.Prelude.{◌≡◌, List, Option, Result};
+ghost use Rattle.fallible_contract.specs.Clauses.{OverListWith};
 ghost use Rattle.fallible_contract.specs.Contract.{Stays};
 ghost use Rattle.fallible_contract.specs.Ends.{Ends, from_front, from_back, LawfulEnds};
-ghost use Rattle.fallible_contract.specs.Lists.{Lists, ActsWith, Converts, folded};
+ghost use Rattle.fallible_contract.specs.Lists.{ActsWith, Converts, folded};
 ghost use Rattle.fallible_contract.specs.Folds.{CallableCarrying, Carried, CallableInFold, call_with, takes_with, Folded};
 
 use crate::traits::FallibleIterator;
@@ -29,7 +30,8 @@ pub trait DoubleEndedFallibleIterator: FallibleIterator {
     where
         requires can { ends.can self.old }
         requires finite { Self.contract.has_end self.old }
-        requires callable { CallableCarrying ends.steps (K.turns k.now) (K.can_turn k.now) self.old init }
+        requires callable { CallableCarrying ends.steps (K.turns k.now) (K.can_turn k.now)
+            self.old init }
         ensures carried { Carried ends.steps (K.turns k.now) self.old init result self.new }
         ensures stays { Stays (from_back Self.contract ends) self.old self.new }
     {
@@ -58,9 +60,13 @@ pub trait DoubleEndedFallibleIterator: FallibleIterator {
         F: FnMut(B, Self::Item) -> Result<B, E>,
         requires can { ends.can self.old }
         requires finite { Self.contract.has_end self.old }
-        requires callable { CallableInFold ends.steps (call_with F.FnMut) (takes_with F.FnMut) self.old f init }
-        ensures folded { Folded ends.steps (call_with F.FnMut) E.from_gives self.old init f result self.new }
-        ensures value { (convert : Self.Error → E) (h : B → Self.Item → Result B E) (l : List (Result Self.Item Self.Error)) → Converts E.from_gives convert → ActsWith (call_with F.FnMut) f h → Lists ends.steps self.old l → result ≡ folded convert h init l }
+        requires callable { CallableInFold ends.steps (call_with F.FnMut) (takes_with F.FnMut)
+            self.old f init }
+        ensures folded { Folded ends.steps (call_with F.FnMut) E.from_gives
+            self.old init f result self.new }
+        ensures value { (convert : Self.Error → E) → Converts E.from_gives convert
+            → OverListWith (ActsWith (call_with F.FnMut) f) ends.steps self.old
+            (λ h l. result ≡ folded convert h init l) }
         ensures stays { Stays (from_back Self.contract ends) self.old self.new }
     {
         folded_at(self.try_rfold_carrying((init, f), &Folding))
@@ -73,9 +79,12 @@ pub trait DoubleEndedFallibleIterator: FallibleIterator {
         F: FnMut(B, Self::Item) -> Result<B, Self::Error>,
         requires can { ends.can self }
         requires finite { Self.contract.has_end self }
-        requires callable { CallableInFold ends.steps (call_with F.FnMut) (takes_with F.FnMut) self f init }
-        ensures folded { (left : Self) × Folded ends.steps (call_with F.FnMut) (λ e d. d ≡ e) self init f result left }
-        ensures value { (h : B → Self.Item → Result B Self.Error) (l : List (Result Self.Item Self.Error)) → ActsWith (call_with F.FnMut) f h → Lists ends.steps self l → result ≡ folded (λ e. e) h init l }
+        requires callable { CallableInFold ends.steps (call_with F.FnMut) (takes_with F.FnMut)
+            self f init }
+        ensures folded { (left : Self) × Folded ends.steps (call_with F.FnMut)
+            (λ e d. d ≡ e) self init f result left }
+        ensures value { OverListWith (ActsWith (call_with F.FnMut) f) ends.steps self
+            (λ h l. result ≡ folded (λ e. e) h init l) }
     {
         self.try_rfold(init, f)
     }

@@ -7,4 +7,4 @@ use Rattle.fallible_callers.specs.Runs.{numbers}
 use Rattle.fallible_callers.proofs.ranges.runs.Goals as goal
 
 pub returns : goal.returns
-returns c = c.collect.ensures.value _ (c.take.ensures.lists _ (c.flat_map.ensures.lists numbers _ _ (λ x s same. lists_elements _ _ _ s _ (λ p seen from. let up = range_runs p seen in grind (arith, up, same, length-range_with_len, get_or-range_with_len))) (search rules) (c.convert.ensures.results _ (search rules))))
+returns c = c.collect.ensures.value _ (c.take.ensures.lists _ (c.flat_map.ensures.lists numbers (λ x s same. lists_elements _ _ _ s _ (λ p seen from. let up = range_runs p seen in grind (arith, up, same, length-range_with_len, get_or-range_with_len))) _ _ (search rules) (c.convert.ensures.results _ (search rules))))

@@ -7,5 +7,5 @@ use Rattle.fallible_core.proofs.Lemmas.Joining.Flatten.{lists_flattened}
 use Rattle.fallible_core.proofs.traits.FallibleIterator.flat_map.Goals as goal
 
 pub returns-clause-lists : goal.returns-clause-lists
-returns-clause-lists g c inner h l each acts i =
+returns-clause-lists g c inner each h l acts i =
     lists_flattened _ g.U.IntoFallibleIter.FallibleIterator.contract inner (mapped h l) each (seen_as map_parts (map_contract g.Self.FallibleIterator.contract g.F.FnMut)) _ refl (c.map.ensures.lists h l acts i)

@@ -8,4 +8,4 @@ pub returns-clause-folded : goal.returns-clause-folded
 returns-clause-folded g c = folded_by_turns (λ p x r h. search rules) c.try_fold_carrying.result c.try_fold_carrying.ensures.carried c.folded_at.ensures
 
 pub returns-clause-value : goal.returns-clause-value
-returns-clause-value g c convert h l converts acts i = folded_is _ _ convert h _ acts converts l (returns-clause-folded g c) i
+returns-clause-value g c convert converts h l acts i = folded_is _ _ convert h _ acts converts l (returns-clause-folded g c) i
