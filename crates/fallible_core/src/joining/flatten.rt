@@ -1,8 +1,8 @@
 // The adapters that join the answers of inner iterators.
-ghost use Rattle.std.specs.Prelude.{◌≡◌, ℕ, [], ◌∷◌, None, Ok, IfSome, List, Option, Result};
+ghost use Rattle.std.specs.Prelude.{◌≡◌, ℕ, [], ◌∷◌, None, Ok, List, Option, Result};
 ghost use Rattle.fallible_contract.specs.Contract.{seen_as};
 ghost use Rattle.fallible_contract.specs.Folds.{CallableCarrying, Carried};
-ghost use Rattle.fallible_core.specs.Joining.Flatten.{EachInner, FlattenTrace, flatten_contract, BeginTurn, JoiningTakes, JoiningTurn, flatten_parts};
+ghost use Rattle.fallible_core.specs.Joining.Flatten.{FlattenTrace, flatten_contract, BeginTurn, JoiningTakes, JoiningTurn, flatten_parts};
 ghost use Rattle.fallible_contract.specs.Laws.Contract.{lawful_seen};
 ghost use Rattle.fallible_core.specs.Laws.Joining.Flatten.{lawful_flatten};
 
@@ -24,7 +24,8 @@ impl<U: IntoFallibleIterator, I: FallibleIterator<Item = U, Error = U::Error>> F
 
     type Error = U::Error;
 
-    ghost contract = { seen_as flatten_parts (flatten_contract I.contract U.into_gives U.IntoFallibleIter.contract) };
+    ghost contract = { seen_as flatten_parts
+        (flatten_contract I.contract U.into_gives U.IntoFallibleIter.contract) };
 
     /// Draws from the inner iterator in hand; where there is none or it ended, draws from the outer source until an item becomes an inner iterator that does not end at once, a failure comes or an end comes. It asks that the inner iterator in hand and each that may come may be drawn from.
     fn next(&mut self) -> Result<Option<U::Item>, U::Error> {
@@ -44,7 +45,8 @@ impl<U: IntoFallibleIterator, I: FallibleIterator<Item = U, Error = U::Error>> F
         fold_joined(&mut self.it, &mut self.in_hand, init, k)
     }
 
-    ghost lawful = { lawful_seen flatten_parts (lawful_flatten _ I.lawful U.into_gives _ U.IntoFallibleIter.lawful) };
+    ghost lawful = { lawful_seen flatten_parts
+        (lawful_flatten _ I.lawful U.into_gives _ U.IntoFallibleIter.lawful) };
 }
 
 /// The answers of the inner iterators `J` that the closure makes of the items, as `Flatten` joins them: a `Flatten` over the `Map` of the closure. Where the closure fails, its failure is the answer, and that item is lost.
@@ -56,10 +58,10 @@ fn next_joined<U: IntoFallibleIterator, O: FallibleIterator<Item = U, Error = U:
     in_hand: &mut Option<U::IntoFallibleIter>,
 ) -> Result<Option<U::Item>, U::Error>
 where
-    requires can { O.contract.can outer.old × O.contract.has_end outer.old }
-    requires can_in_hand { IfSome in_hand.old U.IntoFallibleIter.contract.can }
-    requires can_inner { EachInner O.contract U.into_gives U.IntoFallibleIter.contract U.IntoFallibleIter.contract.can outer.old }
-    ensures { FlattenTrace O.contract.steps U.into_gives U.IntoFallibleIter.contract.steps (outer.old, in_hand.old) (result ∷ []) (outer.new, in_hand.new) }
+    requires { (flatten_contract O.contract U.into_gives U.IntoFallibleIter.contract).can
+        (outer.old, in_hand.old) }
+    ensures { FlattenTrace O.contract.steps U.into_gives U.IntoFallibleIter.contract.steps
+        (outer.old, in_hand.old) (result ∷ []) (outer.new, in_hand.new) }
 {
     match in_hand {
         Some(inner) => match inner.next() {
@@ -83,9 +85,10 @@ fn begin<U: IntoFallibleIterator, O: FallibleIterator<Item = U, Error = U::Error
     Result<Option<U::Item>, U::Error>,
 )
 where
-    requires can { O.contract.can outer.old × O.contract.has_end outer.old }
-    requires can_inner { EachInner O.contract U.into_gives U.IntoFallibleIter.contract U.IntoFallibleIter.contract.can outer.old }
-    ensures { FlattenTrace O.contract.steps U.into_gives U.IntoFallibleIter.contract.steps (outer.old, None) (result.1 ∷ []) (outer.new, result.0) }
+    requires { (flatten_contract O.contract U.into_gives U.IntoFallibleIter.contract).can
+        (outer.old, None) }
+    ensures { FlattenTrace O.contract.steps U.into_gives U.IntoFallibleIter.contract.steps
+        (outer.old, None) (result.1 ∷ []) (outer.new, result.0) }
 {
     unpack(outer.try_fold_carrying(None, &Beginning))
 }
@@ -99,9 +102,11 @@ impl<U: IntoFallibleIterator> Turn<
     U,
     (Option<U::IntoFallibleIter>, Result<U::Item, U::Error>),
 > for Beginning {
-    ghost can_turn = { λ _ _ x. (c : U.IntoFallibleIter) → U.into_gives x c → U.IntoFallibleIter.contract.can c };
+    ghost can_turn = { λ _ _ x. (c : U.IntoFallibleIter) → U.into_gives x c
+        → U.IntoFallibleIter.contract.can c };
 
-    ghost turns = { λ _ in_hand x r. BeginTurn U.into_gives U.IntoFallibleIter.contract.steps in_hand x r };
+    ghost turns = { λ _ in_hand x r. BeginTurn U.into_gives
+        U.IntoFallibleIter.contract.steps in_hand x r };
 
     fn turn(
         &self,
@@ -129,10 +134,15 @@ fn fold_joined<
     K: Turn<C, U::Item, R>,
 >(outer: &mut O, held: &mut Option<U::IntoFallibleIter>, init: C, k: &K) -> Exit<C, U::Error, R>
 where
-    requires can { (flatten_contract O.contract U.into_gives U.IntoFallibleIter.contract).can (outer.old, held.old) }
-    requires finite { (flatten_contract O.contract U.into_gives U.IntoFallibleIter.contract).has_end (outer.old, held.old) }
-    requires callable { CallableCarrying (flatten_contract O.contract U.into_gives U.IntoFallibleIter.contract).steps (K.turns k.now) (K.can_turn k.now) (outer.old, held.old) init }
-    ensures { Carried (flatten_contract O.contract U.into_gives U.IntoFallibleIter.contract).steps (K.turns k.now) (outer.old, held.old) init result (outer.new, held.new) }
+    requires can { (flatten_contract O.contract U.into_gives U.IntoFallibleIter.contract).can
+        (outer.old, held.old) }
+    requires finite { (flatten_contract O.contract U.into_gives U.IntoFallibleIter.contract).has_end
+        (outer.old, held.old) }
+    requires callable { CallableCarrying
+        (flatten_contract O.contract U.into_gives U.IntoFallibleIter.contract).steps
+        (K.turns k.now) (K.can_turn k.now) (outer.old, held.old) init }
+    ensures { Carried (flatten_contract O.contract U.into_gives U.IntoFallibleIter.contract).steps
+        (K.turns k.now) (outer.old, held.old) init result (outer.new, held.new) }
 {
     let carried = match held {
         Some(inner) => match inner.try_fold_carrying(init, k) {
@@ -156,10 +166,15 @@ fn fold_outer<
     K: Turn<C, U::Item, R>,
 >(outer: &mut O, init: C, k: &K) -> (Option<U::IntoFallibleIter>, Exit<C, U::Error, R>)
 where
-    requires can { (flatten_contract O.contract U.into_gives U.IntoFallibleIter.contract).can (outer.old, None) }
-    requires finite { (flatten_contract O.contract U.into_gives U.IntoFallibleIter.contract).has_end (outer.old, None) }
-    requires callable { CallableCarrying (flatten_contract O.contract U.into_gives U.IntoFallibleIter.contract).steps (K.turns k.now) (K.can_turn k.now) (outer.old, None) init }
-    ensures { Carried (flatten_contract O.contract U.into_gives U.IntoFallibleIter.contract).steps (K.turns k.now) (outer.old, None) init result.1 (outer.new, result.0) }
+    requires can { (flatten_contract O.contract U.into_gives U.IntoFallibleIter.contract).can
+        (outer.old, None) }
+    requires finite { (flatten_contract O.contract U.into_gives U.IntoFallibleIter.contract).has_end
+        (outer.old, None) }
+    requires callable { CallableCarrying
+        (flatten_contract O.contract U.into_gives U.IntoFallibleIter.contract).steps
+        (K.turns k.now) (K.can_turn k.now) (outer.old, None) init }
+    ensures { Carried (flatten_contract O.contract U.into_gives U.IntoFallibleIter.contract).steps
+        (K.turns k.now) (outer.old, None) init result.1 (outer.new, result.0) }
 {
     let turn = Joining { turn: k };
     match outer.try_fold_carrying(init, &turn) {
@@ -183,9 +198,11 @@ impl<'a, U: IntoFallibleIterator, C, R, K: Turn<C, U::Item, R>> Turn<
     U,
     (U::IntoFallibleIter, Exit<C, U::Error, R>),
 > for Joining<'a, K> {
-    ghost can_turn = { λ k c x. JoiningTakes U.into_gives U.IntoFallibleIter.contract (K.turns k.turn.now) (K.can_turn k.turn.now) c x };
+    ghost can_turn = { λ k c x. JoiningTakes U.into_gives U.IntoFallibleIter.contract
+        (K.turns k.turn.now) (K.can_turn k.turn.now) c x };
 
-    ghost turns = { λ k c x r. JoiningTurn U.into_gives U.IntoFallibleIter.contract (K.turns k.turn.now) c x r };
+    ghost turns = { λ k c x r. JoiningTurn U.into_gives U.IntoFallibleIter.contract
+        (K.turns k.turn.now) c x r };
 
     fn turn(&self, carried: C, item: U) -> Result<C, (U::IntoFallibleIter, Exit<C, U::Error, R>)> {
         let mut inner = item.into_fallible_iter();

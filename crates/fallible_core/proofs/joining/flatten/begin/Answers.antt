@@ -3,7 +3,7 @@ use Rattle.fallible_core.proofs.Lemmas.Joining.Flatten.{callable_begins, flatten
 use Rattle.fallible_core.proofs.joining.flatten.begin.Goals as goal
 
 pub try_fold_carrying-requires-clause-callable : goal.try_fold_carrying-requires-clause-callable
-try_fold_carrying-requires-clause-callable g c = callable_begins _ _ _ g.met.O.FallibleIterator.lawful c.requires.can.0 c.requires.can_inner
+try_fold_carrying-requires-clause-callable g c = callable_begins _ _ _ g.met.O.FallibleIterator.lawful c.requires.0 c.requires.3
 
 pub returns : goal.returns
 returns g c = rw c.unpack.ensures (flatten_fold _ _ _ _ (λ u x r p. p) c.try_fold_carrying.ensures.carried)
