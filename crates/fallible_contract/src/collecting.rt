@@ -27,7 +27,9 @@ pub trait Collect<T>: Drop + Sized {
 
     /// Adds one item after the others. Where it fails, memory was refused, and the item is dropped.
     fn push_one(&mut self, item: T) -> Result<(), AllocError>
-        ensures { MatchResult result (λ _. (items : List T) → made items self.old → made (items ++ item ∷ []) self.new) (λ _. push_refuses self.old item) };
+        ensures { MatchResult result
+            (λ _. (items : List T) → made items self.old → made (items ++ item ∷ []) self.new)
+            (λ _. push_refuses self.old item) };
 }
 
 /// Why a collection was not made: the source failed, or memory was refused.

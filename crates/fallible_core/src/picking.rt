@@ -18,7 +18,8 @@ where
     F: FnMut(&I::Item, &I::Item) -> Result<Ordering, I::Error>,
     requires can { I.contract.can it }
     requires finite { I.contract.has_end it }
-    requires callable { CallableInFold I.contract.steps (PickCall keeps (call_at_two F.FnMut)) (takes_in_pick (takes_at_two F.FnMut)) it f None }
+    requires callable { CallableInFold I.contract.steps (PickCall keeps (call_at_two F.FnMut))
+        (takes_in_pick (takes_at_two F.FnMut)) it f None }
     ensures { PickedByFold keeps (call_at_two F.FnMut) I.contract.steps it f result }
 {
     let mut it = it;
@@ -38,8 +39,11 @@ where
     F: FnMut(&I::Item) -> Result<K, I::Error>,
     requires can { I.contract.can it }
     requires finite { I.contract.has_end it }
-    requires callable { CallableInFold I.contract.steps (KeyCall keeps K.cmp (call_at F.FnMut)) (λ g b x. takes_at F.FnMut g x) it f None }
-    ensures { (left : I) × Folded I.contract.steps (KeyCall keeps K.cmp (call_at F.FnMut)) (λ e d. d ≡ e) it None f result left }
+    requires callable { CallableInFold I.contract.steps (KeyCall keeps K.cmp (call_at F.FnMut))
+        (λ g b x. takes_at F.FnMut g x) it f None }
+    ensures { (left : I)
+        × Folded I.contract.steps (KeyCall keeps K.cmp (call_at F.FnMut)) (λ e d. d ≡ e)
+        it None f result left }
 {
     let mut it = it;
     match it.try_fold_carrying((None, f), &KeepingBestKey { keeps }) {

@@ -216,5 +216,6 @@ impl<
         }
     }
 
-    ghost lawful_ends = { lawful_ends_seen chain_parts (lawful_ends_chain T.lawful_ends U.lawful_ends) };
+    ghost lawful_ends = { lawful_ends_seen chain_parts
+        (lawful_ends_chain T.lawful_ends U.lawful_ends) };
 }

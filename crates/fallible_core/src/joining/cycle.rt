@@ -25,7 +25,8 @@ where
 
     type Error = I::Error;
 
-    ghost contract = { seen_as cycle_parts (cycle_contract I.is_clone I.is_infallible I.Error.from_gives I.contract) };
+    ghost contract = { seen_as cycle_parts
+        (cycle_contract I.is_clone I.is_infallible I.Error.from_gives I.contract) };
 
     /// Draws one answer of the current run. It asks that each clone of the kept source may be drawn from. Where that is an end, it clones the kept source, which is the current run then, and draws one answer of it, whatever it is. Where the clone is refused, the answer is the failure made of the refusal, and the run stays as drawn past its end. The kept source stays in each case.
     fn next(&mut self) -> Result<Option<I::Item>, I::Error> {
@@ -51,5 +52,6 @@ where
         }
     }
 
-    ghost lawful = { lawful_seen cycle_parts (lawful_cycle I.is_clone I.is_infallible I.Error.from_gives I.lawful) };
+    ghost lawful = { lawful_seen cycle_parts
+        (lawful_cycle I.is_clone I.is_infallible I.Error.from_gives I.lawful) };
 }

@@ -19,8 +19,13 @@ where
     pub fn peek(&mut self) -> Result<Option<&I::Item>, I::Error>
     where
         requires { (peekable_contract I.contract).can (peekable_parts self.old) }
-        ensures answer { (left : I × Option (Option I.Item)) × Peeks I.contract.steps (peekable_parts self.old) (seen result) left }
-        ensures* held { sem 𝓛 (follows_so (the_row I.row I.Item.row I.Error.row) (the_row I.row I.Item.row I.Error.row) self.entry.ghost_name none (λ _ _. ⊤) (λ v. Peeks I.contract.steps (peekable_parts self.old) (seen result) (peekable_parts v) × Stays (peekable_contract I.contract) (peekable_parts self.old) (peekable_parts v))) }
+        ensures answer { (left : I × Option (Option I.Item))
+            × Peeks I.contract.steps (peekable_parts self.old) (seen result) left }
+        ensures* held { sem 𝓛 (follows_so (the_row I.row I.Item.row I.Error.row)
+            (the_row I.row I.Item.row I.Error.row) self.entry.ghost_name none (λ _ _. ⊤)
+            (λ v. Peeks I.contract.steps (peekable_parts self.old) (seen result) (peekable_parts v)
+            × Stays (peekable_contract I.contract) (peekable_parts self.old)
+            (peekable_parts v))) }
     {
         let filled = self.fill();
         let held = self.lend();
@@ -33,9 +38,12 @@ where
     pub fn look<R, F: Fn(&I::Item) -> R>(&mut self, f: F) -> Result<Option<R>, I::Error>
     where
         requires can { (peekable_contract I.contract).can (peekable_parts self.old) }
-        requires callable { IsTestable F.Fn f ((peekable_contract I.contract).gives (peekable_parts self.old)) }
-        ensures looked { Looks I.contract.steps F.Fn f (peekable_parts self.old) result (peekable_parts self.new) }
-        ensures stays { Stays (peekable_contract I.contract) (peekable_parts self.old) (peekable_parts self.new) }
+        requires callable { IsTestable F.Fn f
+            ((peekable_contract I.contract).gives (peekable_parts self.old)) }
+        ensures looked { Looks I.contract.steps F.Fn f
+            (peekable_parts self.old) result (peekable_parts self.new) }
+        ensures stays { Stays (peekable_contract I.contract)
+            (peekable_parts self.old) (peekable_parts self.new) }
     {
         self.fill()?;
         match self.held() {
@@ -49,8 +57,10 @@ where
     where
         I::Item: Copy,
         requires { (peekable_contract I.contract).can (peekable_parts self.old) }
-        ensures peeked { Peeks I.contract.steps (peekable_parts self.old) result (peekable_parts self.new) }
-        ensures stays { Stays (peekable_contract I.contract) (peekable_parts self.old) (peekable_parts self.new) }
+        ensures peeked { Peeks I.contract.steps
+            (peekable_parts self.old) result (peekable_parts self.new) }
+        ensures stays { Stays (peekable_contract I.contract)
+            (peekable_parts self.old) (peekable_parts self.new) }
     {
         self.fill()?;
         Ok(self.held().copied())
@@ -60,8 +70,10 @@ where
     pub fn fill(&mut self) -> Result<(), I::Error>
     where
         requires { (peekable_contract I.contract).can (peekable_parts self.old) }
-        ensures filled { Fills I.contract.steps (peekable_parts self.old) result (peekable_parts self.new) }
-        ensures stays { Stays (peekable_contract I.contract) (peekable_parts self.old) (peekable_parts self.new) }
+        ensures filled { Fills I.contract.steps
+            (peekable_parts self.old) result (peekable_parts self.new) }
+        ensures stays { Stays (peekable_contract I.contract)
+            (peekable_parts self.old) (peekable_parts self.new) }
     {
         match self.held {
             Some(_) => Ok(()),
@@ -74,8 +86,10 @@ where
     where
         requires can { (peekable_contract I.contract).can (peekable_parts self.old) }
         requires empty { self.old.held ≡ None }
-        ensures filled { Fills I.contract.steps (peekable_parts self.old) result (peekable_parts self.new) }
-        ensures stays { Stays (peekable_contract I.contract) (peekable_parts self.old) (peekable_parts self.new) }
+        ensures filled { Fills I.contract.steps
+            (peekable_parts self.old) result (peekable_parts self.new) }
+        ensures stays { Stays (peekable_contract I.contract)
+            (peekable_parts self.old) (peekable_parts self.new) }
     {
         match self.it.next() {
             Ok(answer) => {
@@ -102,7 +116,9 @@ where
     fn lend(&mut self) -> Option<&I::Item>
     where
         ensures shown { option_copied result ≡ held_item self.old.held }
-        ensures* kept { sem 𝓛 (follows_so (the_row I.row I.Item.row I.Error.row) (the_row I.row I.Item.row I.Error.row) self.entry.ghost_name none (λ _ _. ⊤) (λ v. v ≡ self.old)) }
+        ensures* kept { sem 𝓛 (follows_so (the_row I.row I.Item.row I.Error.row)
+            (the_row I.row I.Item.row I.Error.row) self.entry.ghost_name none (λ _ _. ⊤)
+            (λ v. v ≡ self.old)) }
     {
         (*self).held()
     }

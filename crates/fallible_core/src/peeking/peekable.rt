@@ -72,9 +72,12 @@ where
     pub fn next_if<F: Fn(&I::Item) -> bool>(&mut self, f: F) -> Result<Option<I::Item>, I::Error>
     where
         requires can { (peekable_contract I.contract).can (peekable_parts self.old) }
-        requires callable { IsTestable F.Fn f ((peekable_contract I.contract).gives (peekable_parts self.old)) }
-        ensures taken { NextIf I.contract.steps (TestedBy F.Fn f) (peekable_parts self.old) result (peekable_parts self.new) }
-        ensures stays { Stays (peekable_contract I.contract) (peekable_parts self.old) (peekable_parts self.new) }
+        requires callable { IsTestable F.Fn f
+            ((peekable_contract I.contract).gives (peekable_parts self.old)) }
+        ensures taken { NextIf I.contract.steps (TestedBy F.Fn f)
+            (peekable_parts self.old) result (peekable_parts self.new) }
+        ensures stays { Stays (peekable_contract I.contract)
+            (peekable_parts self.old) (peekable_parts self.new) }
     {
         match self.next() {
             Ok(Some(x)) => {
@@ -98,8 +101,10 @@ where
     where
         I::Item: PartialEq,
         requires { (peekable_contract I.contract).can (peekable_parts self.old) }
-        ensures taken { NextIf I.contract.steps (λ x b. b ≡ I.Item.eq x expected.now) (peekable_parts self.old) result (peekable_parts self.new) }
-        ensures stays { Stays (peekable_contract I.contract) (peekable_parts self.old) (peekable_parts self.new) }
+        ensures taken { NextIf I.contract.steps (λ x b. b ≡ I.Item.eq x expected.now)
+            (peekable_parts self.old) result (peekable_parts self.new) }
+        ensures stays { Stays (peekable_contract I.contract)
+            (peekable_parts self.old) (peekable_parts self.new) }
     {
         self.next_if(|item: &I::Item| item.eq(expected))
     }
