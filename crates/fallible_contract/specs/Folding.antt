@@ -2,7 +2,8 @@
 use Rattle.std.specs.Prelude.{◌≡◌, Result, Ok, Err}
 use Rattle.fallible_contract.specs.declared.folds.Exit.{Exit}
 use Rattle.fallible_contract.specs.declared.folds.Exit.TheVariants.{Ended, Failed, Stopped}
-use Rattle.fallible_contract.specs.Passing.{Outcome, kept, left_out, failed, an_end}
+use Rattle.fallible_contract.specs.declared.passing.Outcome.{Outcome}
+use Rattle.fallible_contract.specs.declared.passing.Outcome.TheVariants.{Kept, LeftOut, Failure, End}
 
 -- A turn of the caller's, beside the closure: where it stops the fold, the closure is handed back with what it stopped with.
 abbrev pub beside : {C F E R : Type 0} → F → Result C R → Result (C × F) (F × Exit C E R)
@@ -12,10 +13,10 @@ beside f (Err stop) = Err (f, Stopped stop)
 module _ {C F B E R : Type 0} (turns : C → B → Result C R → Type 0) where
   -- What the source's turn answers by the outcome: the caller's turn is taken on a kept item; an item left out carries on; a failure and an end stop the source's fold, as the adapter's ends there.
   abbrev pub TurnedBy : C → F → Outcome B E → Result (C × F) (F × Exit C E R) → Type 0
-  TurnedBy c f (kept y) r = (made : Result C R) × turns c y made × (r ≡ beside f made)
-  TurnedBy c f left_out r = r ≡ Ok (c, f)
-  TurnedBy c f (failed e) r = r ≡ Err (f, Failed c e)
-  TurnedBy c f an_end r = r ≡ Err (f, Ended c)
+  TurnedBy c f (Kept y) r = (made : Result C R) × turns c y made × (r ≡ beside f made)
+  TurnedBy c f LeftOut r = r ≡ Ok (c, f)
+  TurnedBy c f (Failure e) r = r ≡ Err (f, Failed c e)
+  TurnedBy c f End r = r ≡ Err (f, Ended c)
 
 module _ {C F X V B E : Type 0} (call : F → X → V → F → Type 0) (outcome : X → V → Outcome B E) where
   -- The source's turn: one call of the closure on the item, and what its outcome makes of it.
@@ -24,7 +25,7 @@ module _ {C F X V B E : Type 0} (call : F → X → V → F → Type 0) (outcome
 
   -- It may be taken where the closure may be called, and the caller's turn be taken on what it keeps.
   abbrev pub FoldingTakes : (F → X → Type 0) → (C → B → Type 0) → C × F → X → Type 0
-  FoldingTakes pre can_turn p x = pre p.1 x × ((v : V) (g : F) (y : B) → call p.1 x v g → outcome x v ≡ kept y → can_turn p.0 y)
+  FoldingTakes pre can_turn p x = pre p.1 x × ((v : V) (g : F) (y : B) → call p.1 x v g → outcome x v ≡ Kept y → can_turn p.0 y)
 
 -- what the source's fold hands back, as the closure and the exit of the adapter's fold
 abbrev pub handed : {C F E R : Type 0} → Exit (C × F) E (F × Exit C E R) → F × Exit C E R

@@ -160,8 +160,8 @@ abbrev pub ReachTurn : {A : Type 0} → ℕ → A → Result ℕ A → Type 0
 ReachTurn n x (Ok k) = n ≡ k + 1
 ReachTurn n x (Err y) = (n ≡ 0) × (y ≡ x)
 
--- What `nth` answers by the exit of that fold: the item that it stopped with, none at the end, or the failure.
-abbrev pub reached_at : {A E : Type 0} → Exit ℕ E A → Answered A E
-reached_at (Ended n) = Ok None
-reached_at (Failed n e) = Err e
+-- What a draw answers that is a fold which stops with an item: that item, none at the end, or the failure.
+abbrev pub reached_at : {C A E : Type 0} → Exit C E A → Answered A E
+reached_at (Ended c) = Ok None
+reached_at (Failed c e) = Err e
 reached_at (Stopped x) = Ok (Some x)

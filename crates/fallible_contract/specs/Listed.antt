@@ -4,7 +4,8 @@ use Rattle.std.specs.List.{FoldsTo, filter_map}
 use Rattle.fallible_contract.specs.declared.answers.Side.{Side}
 use Rattle.fallible_contract.specs.declared.answers.Side.TheVariants.{Front, Back}
 use Rattle.fallible_contract.specs.Traces.{Answered, end}
-use Rattle.fallible_contract.specs.Passing.{Outcome, kept, left_out, failed, an_end}
+use Rattle.fallible_contract.specs.declared.passing.Outcome.{Outcome}
+use Rattle.fallible_contract.specs.declared.passing.Outcome.TheVariants.{Kept, LeftOut, Failure, End}
 use Rattle.fallible_contract.specs.Lists.{result_answer}
 
 -- The answer r takes the first of the list, and P holds of the rest; where the list is empty it is an end, and P holds of the empty list.
@@ -90,10 +91,10 @@ source_list asked = map source_result asked
 
 -- what an outcome lists: the value that is kept, or the failure; nothing of an item that is left out, nor of an end
 abbrev pub outcome_listed : {B E : Type 0} → Outcome B E → Option (Result B E)
-outcome_listed (kept y) = Some (Ok y)
-outcome_listed left_out = None
-outcome_listed (failed e) = Some (Err e)
-outcome_listed an_end = None
+outcome_listed (Kept y) = Some (Ok y)
+outcome_listed LeftOut = None
+outcome_listed (Failure e) = Some (Err e)
+outcome_listed End = None
 
 -- What the adapter lists: what becomes of each item by the closure's answer; failures pass.
 abbrev pub passed_result : {X R B E : Type 0} → (X → R → Outcome B E) → Result (X × R) E → Option (Result B E)

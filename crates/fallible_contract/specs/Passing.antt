@@ -1,16 +1,11 @@
 -- Adapters that let the answers of one source pass: of each item a closure is asked, and by its answer the item is kept as another, left out, or replaced by a failure or an end.
-use Rattle.std.specs.Prelude.{◌≡◌, ℕ, Option, Result, Some, Ok, Err, List, [], ◌∷◌, map, None, is_some, IsSomeAnd, Bool, true, false, ⊤, ◌⊎◌}
+use Rattle.std.specs.Prelude.{◌≡◌, ℕ, Option, Result, Some, Ok, Err, List, [], ◌∷◌, map, None, is_some, IsSome, Bool, true, false, ⊤, ◌⊎◌}
 use Rattle.std.specs.List.{filter_map}
+use Rattle.fallible_contract.specs.declared.passing.Outcome.{Outcome}
+use Rattle.fallible_contract.specs.declared.passing.Outcome.TheVariants.{Kept, LeftOut, Failure, End}
 use Rattle.fallible_contract.specs.Traces.{LastKept, Answered, Run, item, failure, end}
 use Rattle.fallible_contract.specs.Contract.{Contract}
 use Rattle.fallible_contract.specs.Closures.{Calls, MayAnswer}
-
--- what becomes of an item by the closure's answer
-pub data Outcome (B E : Type 0) : Type 0 where
-  kept : B → Outcome B E
-  left_out : Outcome B E
-  failed : E → Outcome B E
-  an_end : Outcome B E
 
 -- one answer of the source: an item on which the closure was called, with what it answered, a failure, or an end
 pub data Place (X R E : Type 0) : Type 0 where
@@ -32,10 +27,10 @@ call_of end_at = None
 
 -- the answer that an outcome is; none where the item is left out
 abbrev pub outcome_answer : {B E : Type 0} → Outcome B E → Option (Answered B E)
-outcome_answer (kept y) = Some (item y)
-outcome_answer left_out = None
-outcome_answer (failed e) = Some (failure e)
-outcome_answer an_end = Some end
+outcome_answer (Kept y) = Some (item y)
+outcome_answer LeftOut = None
+outcome_answer (Failure e) = Some (failure e)
+outcome_answer End = Some end
 
 module _ {X R B E : Type 0} (outcome : X → R → Outcome B E) where
   -- the adapter's answer at a place; none where the item is left out
@@ -64,8 +59,8 @@ passing m call callable outcome hints = record {
   to_come = λ p n. m.to_come p.0 n;
   has_end = λ p. m.has_end p.0;
   elements = λ p. m.elements p.0;
-  gives = λ p y. MayAnswer call (m.gives p.0) p.1 (λ x v. outcome x v ≡ kept y);
-  fails = λ p e. m.fails p.0 e ⊎ MayAnswer call (m.gives p.0) p.1 (λ x v. outcome x v ≡ failed e);
+  gives = λ p y. MayAnswer call (m.gives p.0) p.1 (λ x v. outcome x v ≡ Kept y);
+  fails = λ p e. m.fails p.0 e ⊎ MayAnswer call (m.gives p.0) p.1 (λ x v. outcome x v ≡ Failure e);
   hints = hints;
   names = λ p. m.names p.0;
 }
@@ -74,23 +69,21 @@ passing m call callable outcome hints = record {
 abbrev pub leaving_out : {S F X R B E : Type 0} → Contract S X E → (F → X → R → F → Type 0) → ((X → Type 0) → F → Type 0) → (X → R → Outcome B E) → (S × F → ℕ × Option ℕ → Type 0) → Contract (S × F) B E
 leaving_out m call callable outcome hints = let p = passing m call callable outcome hints in record p { can = λ s. m.has_end s.0 × p.can s }
 
--- ---- one draw of such an adapter, as a fold of the source that stops
+-- one draw of such an adapter: its trace of one answer
+abbrev pub passing_step : {S F X R B E : Type 0} → (S → Answered X E → S → Type 0) → (F → X → R → F → Type 0) → (X → R → Outcome B E) → S × F → Answered B E → S × F → Type 0
+passing_step steps call outcome p r q = PassTrace steps call outcome p (r ∷ []) q
 
--- what becomes of the item at which the fold stops
-abbrev pub stopped_outcome : {B E : Type 0} → Result B E → Outcome B E
-stopped_outcome (Ok y) = kept y
-stopped_outcome (Err e) = failed e
+-- one item passed: one call on it, and what becomes of it by the closure's answer
+abbrev pub ItemPassed : {F X R B E : Type 0} → (F → X → R → F → Type 0) → (X → R → Outcome B E) → F → X → Outcome B E → F → Type 0
+ItemPassed {R = R} call outcome f x o g = (v : R) × call f x v g × (outcome x v ≡ o)
 
--- One call of the closure on an item: the fold goes on where the item is left out, and else stops with the closure and the answer.
-abbrev pub PassTurn : {F X R B E : Type 0} → (F → X → R → F → Type 0) → (X → R → Outcome B E) → F → X → Result F (F × Result B E) → Type 0
-PassTurn {R = R} call outcome f x (Ok g) = (v : R) × call f x v g × (outcome x v ≡ left_out)
-PassTurn {R = R} call outcome f x (Err p) = (v : R) × call f x v p.0 × (outcome x v ≡ stopped_outcome p.1)
+-- ---- one draw of such an adapter that keeps items as they are, as a search
 
 -- what becomes of the item by a test on a reference to it: it is accepted and kept as it is, left out, or replaced by a failure
 abbrev pub tested_outcome : {X E : Type 0} → X → Result Bool E → Outcome X E
-tested_outcome x (Ok true) = kept x
-tested_outcome x (Ok false) = left_out
-tested_outcome x (Err e) = failed e
+tested_outcome x (Ok true) = Kept x
+tested_outcome x (Ok false) = LeftOut
+tested_outcome x (Err e) = Failure e
 
 -- One call of the closure on an item, as the test of a search that carries the closure.
 abbrev pub PassTest : {F X R E : Type 0} → (F → X → R → F → Type 0) → (X → R → Outcome X E) → F → X → Result Bool E → F → Type 0
@@ -104,8 +97,12 @@ PassAnswer {R = R} call outcome f (Ok (Some x)) r g = (v : R) × call f x v g ×
 PassAnswer call outcome f (Ok None) r g = (r ≡ Ok None) × (g ≡ f)
 PassAnswer call outcome f (Err e) r g = (r ≡ Err e) × (g ≡ f)
 
--- where the answer is an item, the slot is full and the closure in it may be called on the item
-abbrev pub TakesDrawn : {F X E : Type 0} → (F → X → Type 0) → Option F → Answered X E → Type 0
-TakesDrawn pre slot (Ok (Some x)) = IsSomeAnd slot (λ f. pre f x)
-TakesDrawn pre slot (Ok None) = ⊤
-TakesDrawn pre slot (Err e) = ⊤
+-- where the answer is an item, P holds of it
+abbrev pub IfItem : {X E : Type 0} → (X → Type 0) → Answered X E → Type 0
+IfItem P (Ok (Some x)) = P x
+IfItem P (Ok None) = ⊤
+IfItem P (Err e) = ⊤
+
+-- each item on which the closure was called has an answer
+abbrev pub LeavesNoneOut : {X R B E : Type 0} → (X → R → Outcome B E) → Type 0
+LeavesNoneOut {X = X} {R = R} outcome = (x : X) (v : R) → IsSome (outcome_answer (outcome x v))

@@ -1,7 +1,6 @@
 //! Folds that carry a value.
-ghost use Rattle.std.specs.Prelude.{◌≡◌, ◌+◌, ◌-◌, ◌^◌, ◌<◌, ⊤, IfOk, Result, Ok, Some, None, IsSomeAnd};
-ghost use Rattle.fallible_contract.specs.Passing.{stopped_outcome};
-ghost use Rattle.fallible_contract.specs.Folding.{TurnedBy, handed};
+ghost use Rattle.std.specs.Prelude.{◌≡◌, ◌+◌, ◌-◌, ◌^◌, ◌<◌, ⊤, Result, Ok, Err, Some, None, IsSomeAnd};
+ghost use Rattle.fallible_contract.specs.Folding.{handed};
 ghost use Rattle.fallible_contract.specs.Folds.{unpacked, ValueAt, FoldedAt, FoldTurn, ReachTurn, reached_at, call_with, takes_with};
 
 use std::convert::Infallible;
@@ -138,8 +137,23 @@ impl<A: Drop> Turn<usize, A, A> for Reaching {
     }
 }
 
-/// What `nth` answers by the exit of that fold: the item that it stopped with, none at the end, or the failure.
-pub fn reached<A, E>(exit: Exit<usize, E, A>) -> Result<Option<A>, E>
+/// The turn of a draw that is a fold: it stops with the first item.
+#[derive(Drop)]
+pub struct FirstTurn;
+
+impl<A> Turn<(), A, A> for FirstTurn {
+    ghost can_turn = { λ _ _ _. ⊤ };
+
+    ghost turns = { λ _ _ x r. r ≡ Err x };
+
+    /// The item.
+    fn turn(&self, _carried: (), item: A) -> Result<(), A> {
+        Err(item)
+    }
+}
+
+/// What a draw answers by the exit of a fold that stops with an item: that item, none at the end, or the failure.
+pub fn reached<C: Drop, A, E>(exit: Exit<C, E, A>) -> Result<Option<A>, E>
     ensures { result ≡ reached_at exit }
 {
     match exit {
@@ -174,26 +188,7 @@ pub fn folded_at<B: Drop, F: Drop, D, E: From<D>>(exit: Exit<(B, F), D, E>) -> R
     }
 }
 
-/// The answer of a turn that folds an adapter through its source's own fold, once the adapter made something of an item: the caller's turn is taken on it, and a failure stops the fold. The adapter's closure is handed on beside what is carried.
-pub fn turned<C, F, B, E, R, K: Turn<C, B, R>>(
-    k: &K,
-    carried: C,
-    f: F,
-    made: Result<B, E>,
-) -> Result<(C, F), (F, Exit<C, E, R>)>
-    requires { IfOk made (λ y. K.can_turn k.now carried y) }
-    ensures { TurnedBy (K.turns k.now) carried f (stopped_outcome made) result }
-{
-    match made {
-        Ok(y) => match k.turn(carried, y) {
-            Ok(carried) => Ok((carried, f)),
-            Err(stop) => Err((f, Exit::Stopped(stop))),
-        },
-        Err(e) => Err((f, Exit::Failed(carried, e))),
-    }
-}
-
-/// What such a fold of the source hands back: the adapter's closure, and the exit of the adapter's fold.
+/// What the fold of an adapter through its source's own hands back: the adapter's closure, and the exit of the adapter's fold.
 pub fn handed_back<C, F, E, R>(exit: Exit<(C, F), E, (F, Exit<C, E, R>)>) -> (F, Exit<C, E, R>)
     ensures { result ≡ handed exit }
 {

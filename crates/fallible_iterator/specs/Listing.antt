@@ -4,7 +4,7 @@ use Rattle.std.specs.Borrow.{Bor}
 use Rattle.std.specs.Iterator.{YieldsFirst, YieldsLast}
 use Rattle.fallible_contract.specs.Traces.{Answered}
 use Rattle.fallible_contract.specs.Closures.{Steady}
-use Rattle.fallible_contract.specs.Passing.{Outcome}
+use Rattle.fallible_contract.specs.declared.passing.Outcome.{Outcome}
 use Rattle.fallible_contract.specs.Lists.{Lists, Acts, mapped, failures_mapped, pointed_to, chained}
 use Rattle.fallible_contract.specs.Listed.{Listed, items_listed, failures_listed, source_list, passed_list}
 use Rattle.fallible_core.specs.declared.joining.chain.StillDrawn.{StillDrawn}

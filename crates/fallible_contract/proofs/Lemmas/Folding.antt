@@ -5,16 +5,17 @@ use Rattle.std.proofs.Common.{refl, sym, subst, ap}
 use Rattle.fallible_contract.specs.declared.folds.Exit.{Exit}
 use Rattle.fallible_contract.specs.declared.folds.Exit.TheVariants.{Ended, Failed, Stopped}
 use Rattle.fallible_contract.specs.Traces.{Answered, Run, Yields, item}
+use Rattle.fallible_contract.specs.Passing.{passing_step}
 use Rattle.fallible_contract.specs.Contract.{Contract, Lawful}
 use Rattle.fallible_contract.specs.Closures.{Reaches, IsCallable, IsCallableIn, call_in}
 use Rattle.fallible_contract.specs.Folds.{HoldsAtEachTurn, carrying_turn, CarryingExit, Carried}
-use Rattle.fallible_contract.specs.Passing.{Outcome, kept, left_out, failed, an_end}
+use Rattle.fallible_contract.specs.declared.passing.Outcome.{Outcome}
+use Rattle.fallible_contract.specs.declared.passing.Outcome.TheVariants.{Kept, LeftOut, Failure, End}
 use Rattle.fallible_contract.specs.Folding.{TurnedBy, FoldingTurn, FoldingTakes, handed}
 use Rattle.fallible_contract.specs.Laws.Closures.{reaches_here, reaches_weaken, reaches_from}
 use Rattle.fallible_contract.specs.Laws.Passing.{done, ends, fails, keeps, refuses, closes, leaves_out, to_passes, from_passes}
 use Rattle.fallible_contract.proofs.Lemmas.Contract.{given_after}
 use Rattle.fallible_contract.proofs.Lemmas.Folds.{holds_here, holds_after, carried_after, carried_end, carried_failure, carried_stop}
-use Rattle.fallible_contract.proofs.Lemmas.Lists.Passing.{passing_step}
 use Rattle.fallible_contract.proofs.Lemmas.Passing.{passes_in_slot}
 
 -- ---- folds from another value, of which every step is one from this one
@@ -57,6 +58,23 @@ pub holds_into : {S P A D E C : Type 0} {steps : P → Answered A E → P → Ty
     → {goes_on : C → A → C → Type 0} {Q : C → A → Type 0} {p : P} {c : C} → HoldsAtEachTurn held goes_on Q (into p) c → HoldsAtEachTurn steps goes_on Q p c
 holds_into {steps = steps} {held = held} into holds {p = p} h = record { at = λ items q u d x ran went step. h.at items (into q) (into u) d x (yields_into steps held into holds items p q ran) went (holds q x u step) }
 
+-- ---- the same, where a value is held in this way only while Q holds of it, which items keep
+
+module _ {S P A E : Type 0} (Q : P → Type 0) (steps : P → Answered A E → P → Type 0) (held : S → Answered A E → S → Type 0) (into : P → S) (holds : (p : P) (r : Answered A E) (q : P) → Q p → steps p r q → held (into p) r (into q)) (keeps_on : (p : P) (x : A) (q : P) → Q p → steps p (item x) q → Q q) where
+  run_while : (items : List A) (last : Answered A E) (p q : P) → Q p → Run steps p (map item items ++ last ∷ []) q → Run held (into p) (map item items ++ last ∷ []) (into q)
+  run_while [] last p q at w = (into w.0, holds p last w.0 at w.1, ap into w.2)
+  run_while (x ∷ items) last p q at w = (into w.0, holds p (item x) w.0 at w.1, run_while items last w.0 q (keeps_on p x w.0 at w.1) w.2)
+
+  pub carried_while : {C R : Type 0} {turns : C → A → Result C R → Type 0} {p q : P} {c : C} {r : Exit C E R} → Q p → Carried steps turns p c r q → Carried held turns (into p) c r (into q)
+  carried_while {p = p} {q = q} at w = record { items = w.items; last = w.last; carried = w.carried; ran = run_while w.items w.last p q at w.ran; went = w.went; exit = w.exit }
+
+  yields_while : (items : List A) (p q : P) → Q p → Yields steps p items q → Yields held (into p) items (into q) × Q q
+  yields_while [] p q at e = (ap into e, subst Q e at)
+  yields_while (x ∷ items) p q at w = let rest = yields_while items w.0 q (keeps_on p x w.0 at w.1) w.2 in ((into w.0, holds p (item x) w.0 at w.1, rest.0), rest.1)
+
+  pub holds_while : {C : Type 0} {goes_on : C → A → C → Type 0} {T : C → A → Type 0} {p : P} {c : C} → Q p → HoldsAtEachTurn held goes_on T (into p) c → HoldsAtEachTurn steps goes_on T p c
+  holds_while {p = p} at h = record { at = λ items q u d x ran went step. let y = yields_while items p q at ran in h.at items (into q) (into u) d x y.0 went (holds q (item x) u y.1 step) }
+
 -- ---- an adapter's fold through its source's
 
 pub both_on : {C F Z : Type 0} {d k : C} {h g : F} → ◌≡◌ {A = Result (C × F) Z} (Ok (d, h)) (Ok (k, g)) → (d ≡ k) × (h ≡ g)
@@ -73,16 +91,16 @@ module _ {S C F X V B E R : Type 0} (steps : S → Answered X E → S → Type 0
   Folds s f c h t = Carried Steps turns (s, f) c h.1 (t, h.0)
 
   -- after an item that is left out, what may be answered is answered from before it
-  left_same : {s u : S} {f g : F} (x : X) (v : V) → steps s (item x) u → call f x v g → outcome x v ≡ left_out → (r : Answered B E) (q : S × F) → Steps (u, g) r q → Steps (s, f) r q
+  left_same : {s u : S} {f g : F} (x : X) (v : V) → steps s (item x) u → call f x v g → outcome x v ≡ LeftOut → (r : Answered B E) (q : S × F) → Steps (u, g) r q → Steps (s, f) r q
   left_same x v step called is r q p = from_passes (leaves_out x v step called is (to_passes p))
 
   -- the item on which the source's turn stops
   stops_at : (x : X) (v : V) (o : Outcome B E) (s t : S) (f g : F) (c : C) (stop : F × Exit C E R) → steps s (item x) t → call f x v g → outcome x v ≡ o → TurnedBy turns c g o (Err stop) → Folds s f c stop t
-  stops_at x v (kept y) s t f g c stop step called is (Ok d, w, e) = absurd cc
-  stops_at x v (kept y) s t f g c stop step called is (Err why, w, e) = let same : stop ≡ (g, Stopped why) = cc in subst (λ h. Folds s f c h t) (sym same) (carried_stop y (from_passes (keeps x v y step called is done)) w)
-  stops_at x v left_out s t f g c stop step called is w = absurd cc
-  stops_at x v (failed e) s t f g c stop step called is w = let same : stop ≡ (g, Failed c e) = cc in subst (λ h. Folds s f c h t) (sym same) (carried_failure (from_passes (refuses x v e step called is done)))
-  stops_at x v an_end s t f g c stop step called is w = let same : stop ≡ (g, Ended c) = cc in subst (λ h. Folds s f c h t) (sym same) (carried_end (from_passes (closes x v step called is done)))
+  stops_at x v (Kept y) s t f g c stop step called is (Ok d, w, e) = absurd cc
+  stops_at x v (Kept y) s t f g c stop step called is (Err why, w, e) = let same : stop ≡ (g, Stopped why) = cc in subst (λ h. Folds s f c h t) (sym same) (carried_stop y (from_passes (keeps x v y step called is done)) w)
+  stops_at x v LeftOut s t f g c stop step called is w = absurd cc
+  stops_at x v (Failure e) s t f g c stop step called is w = let same : stop ≡ (g, Failed c e) = cc in subst (λ h. Folds s f c h t) (sym same) (carried_failure (from_passes (refuses x v e step called is done)))
+  stops_at x v End s t f g c stop step called is w = let same : stop ≡ (g, Ended c) = cc in subst (λ h. Folds s f c h t) (sym same) (carried_end (from_passes (closes x v step called is done)))
 
   -- the last answer of the source's fold
   last_through : (last : Answered X E) (s t : S) (f : F) (c : C) (exit : Exit (C × F) E (F × Exit C E R)) → steps s last t → CarryingExit Turned (c, f) last exit → Folds s f c (handed exit) t
@@ -92,13 +110,13 @@ module _ {S C F X V B E R : Type 0} (steps : S → Answered X E → S → Type 0
 
   -- an item on which the source's turn went on, before the rest of the fold
   goes_on_at : (x : X) (v : V) (o : Outcome B E) (s u t : S) (f g h : F) (c d : C) (exit : F × Exit C E R) → steps s (item x) u → call f x v g → outcome x v ≡ o → TurnedBy {E = E} turns c g o (Ok (d, h)) → Folds u h d exit t → Folds s f c exit t
-  goes_on_at x v (kept y) s u t f g h c d exit step called is (Ok k, w, e) rest = let at : d ≡ k = (both_on e).0 in let left : h ≡ g = (both_on e).1 in
+  goes_on_at x v (Kept y) s u t f g h c d exit step called is (Ok k, w, e) rest = let at : d ≡ k = (both_on e).0 in let left : h ≡ g = (both_on e).1 in
       carried_after y (from_passes (keeps x v y step called is done)) (subst (λ (z : C). turns c y (Ok z)) (sym at) w) (subst (λ (j : F). Folds u j d exit t) left rest)
-  goes_on_at x v (kept y) s u t f g h c d exit step called is (Err why, w, e) rest = absurd cc
-  goes_on_at x v left_out s u t f g h c d exit step called is w rest = let at : d ≡ c = (both_on w).0 in let left : h ≡ g = (both_on w).1 in
+  goes_on_at x v (Kept y) s u t f g h c d exit step called is (Err why, w, e) rest = absurd cc
+  goes_on_at x v LeftOut s u t f g h c d exit step called is w rest = let at : d ≡ c = (both_on w).0 in let left : h ≡ g = (both_on w).1 in
       carried_from (left_same x v step called is) (subst (λ (j : F). Folds u j c exit t) left (subst (λ (k : C). Folds u h k exit t) at rest))
-  goes_on_at x v (failed e) s u t f g h c d exit step called is w rest = absurd cc
-  goes_on_at x v an_end s u t f g h c d exit step called is w rest = absurd cc
+  goes_on_at x v (Failure e) s u t f g h c d exit step called is w rest = absurd cc
+  goes_on_at x v End s u t f g h c d exit step called is w rest = absurd cc
 
   items_through : (items : List X) (last : Answered X E) (s t : S) (f g : F) (c d : C) (exit : Exit (C × F) E (F × Exit C E R)) → Run steps s (map item items ++ last ∷ []) t → FoldsTo (carrying_turn Turned) (c, f) items (d, g) → CarryingExit Turned (d, g) last exit → Folds s f c (handed exit) t
   items_through [] last s t f g c d exit ran went at = let same : (d, g) ≡ (c, f) = sym went in
@@ -113,13 +131,13 @@ module _ {S C F X V B E R : Type 0} (steps : S → Answered X E → S → Type 0
     Holds s f c = HoldsAtEachTurn Steps (carrying_turn turns) P (s, f) c
 
     holds_on : (x : X) (v : V) (o : Outcome B E) (s u : S) (f g h : F) (c d : C) → steps s (item x) u → call f x v g → outcome x v ≡ o → TurnedBy {E = E} turns c g o (Ok (d, h)) → Holds s f c → Holds u h d
-    holds_on x v (kept y) s u f g h c d step called is (Ok k, w, e) holds = let at : d ≡ k = (both_on e).0 in let left : h ≡ g = (both_on e).1 in
+    holds_on x v (Kept y) s u f g h c d step called is (Ok k, w, e) holds = let at : d ≡ k = (both_on e).0 in let left : h ≡ g = (both_on e).1 in
         subst (λ (j : F). Holds u j d) (sym left) (holds_after holds (from_passes (keeps x v y step called is done)) (subst (λ (z : C). turns c y (Ok z)) (sym at) w))
-    holds_on x v (kept y) s u f g h c d step called is (Err why, w, e) holds = absurd cc
-    holds_on x v left_out s u f g h c d step called is w holds = let at : d ≡ c = (both_on w).0 in let left : h ≡ g = (both_on w).1 in
+    holds_on x v (Kept y) s u f g h c d step called is (Err why, w, e) holds = absurd cc
+    holds_on x v LeftOut s u f g h c d step called is w holds = let at : d ≡ c = (both_on w).0 in let left : h ≡ g = (both_on w).1 in
         subst (λ (j : F). Holds u j d) (sym left) (subst (λ (k : C). Holds u g k) (sym at) (holds_from (left_same x v step called is) holds))
-    holds_on x v (failed e) s u f g h c d step called is w holds = absurd cc
-    holds_on x v an_end s u f g h c d step called is w holds = absurd cc
+    holds_on x v (Failure e) s u f g h c d step called is w holds = absurd cc
+    holds_on x v End s u f g h c d step called is w holds = absurd cc
 
     holds_at : (items : List X) (s t : S) (f g : F) (c d : C) → Yields steps s items t → FoldsTo (carrying_turn Turned) (c, f) items (d, g) → Holds s f c → Holds t g d
     holds_at [] s t f g c d ran went holds = let same : (c, f) ≡ (d, g) = went in subst (λ (u : S). Holds u g d) ran (subst (λ (p : C × F). Holds s p.1 p.0) same holds)
@@ -134,11 +152,11 @@ folds_through {steps = steps} {call = call} {outcome = outcome} {turns = turns} 
 -- calls of the source's turns bring the closure where calls on what comes do
 module _ {S C F X V B E R : Type 0} {m : Contract S X E} (l : Lawful m) (call : F → X → V → F → Type 0) (outcome : X → V → Outcome B E) (turns : C → B → Result C R → Type 0) where
   turned_on : (o : Outcome B E) (c d : C) (g h : F) → TurnedBy {E = E} turns c g o (Ok (d, h)) → h ≡ g
-  turned_on (kept y) c d g h (Ok k, w, e) = (both_on e).1
-  turned_on (kept y) c d g h (Err why, w, e) = absurd cc
-  turned_on left_out c d g h w = (both_on w).1
-  turned_on (failed e) c d g h w = absurd cc
-  turned_on an_end c d g h w = absurd cc
+  turned_on (Kept y) c d g h (Ok k, w, e) = (both_on e).1
+  turned_on (Kept y) c d g h (Err why, w, e) = absurd cc
+  turned_on LeftOut c d g h w = (both_on w).1
+  turned_on (Failure e) c d g h w = absurd cc
+  turned_on End c d g h w = absurd cc
 
   turned_reach : (items : List X) (s t : S) (p q : C × F) → m.can s → Yields m.steps s items t → FoldsTo (carrying_turn (FoldingTurn call outcome turns)) p items q → Reaches call (m.gives s) p.1 q.1
   turned_reach [] s t p q c ran went = subst (λ (r : C × F). Reaches call (m.gives s) p.1 r.1) went reaches_here
@@ -163,29 +181,23 @@ takes_freely {steps = steps} call outcome turns {P = P} {s = s} {f = f} {c = c} 
   at = λ items t u p x ran went step. (free p.1 x, (λ v g y called is. holds_here (holds_at steps call outcome turns P items s t f p.1 c p.0 ran went holds) (from_passes (keeps x v y step called is done))));
 }
 
--- ---- an adapter with its closure in a slot, as a struct of these two parts
+-- ---- with the closure in a slot
 
-module _ {V S F X W B E : Type 0} (view : V → S × Option F) (make : S × Option F → V) (made : (s : V) → make (view s) ≡ s) (viewed : (p : S × Option F) → view (make p) ≡ p) (call : F → X → W → F → Type 0) (outcome : X → W → Outcome B E) where
-  abbrev pub Held : (S → Answered X E → S → Type 0) → V → Answered B E → V → Type 0
-  Held steps u r v = passing_step steps (call_in call) outcome (view u) r (view v)
+-- what holds the source, and the slot that holds the closure
+abbrev full : {S F : Type 0} → S × F → S × Option F
+full p = (p.0, Some p.1)
 
-  -- the struct with its slot full
-  abbrev full : S × F → V
-  full p = make (p.0, Some p.1)
+module _ {S F X V B E C R : Type 0} (m : Contract S X E) (call : F → X → V → F → Type 0) (outcome : X → V → Outcome B E) (turns : C → B → Result C R → Type 0) where
+  abbrev InSlot : S × Option F → Answered B E → S × Option F → Type 0
+  InSlot = passing_step m.steps (call_in call) outcome
 
-  in_struct : (steps : S → Answered X E → S → Type 0) (p : S × F) (r : Answered B E) (q : S × F) → passing_step steps call outcome p r q → Held steps (full p) r (full q)
-  in_struct steps p r q step = subst (λ z. passing_step steps (call_in call) outcome z r (view (full q))) (sym (viewed (p.0, Some p.1))) (subst (λ z. passing_step steps (call_in call) outcome (p.0, Some p.1) r z) (sym (viewed (q.0, Some q.1))) (passes_in_slot step))
-
-  full_is : (s : V) (f : F) → (view s).1 ≡ Some f → full ((view s).0, f) ≡ s
-  full_is s f at = subst (λ (o : Option F). make ((view s).0, o) ≡ s) at (made s)
-
-  module _ {C R : Type 0} (m : Contract S X E) (turns : C → B → Result C R → Type 0) {s : V} {f : F} {c : C} (at : (view s).1 ≡ Some f) where
+  module _ {s : S} {slot : Option F} {f : F} {c : C} (at : slot ≡ Some f) where
     -- where the adapter's turns may be taken, the source's may
-    pub takes_held : (pre : F → X → Type 0) {P : C → B → Type 0} → Lawful m → m.can (view s).0 → IsCallableIn call pre (m.gives (view s).0) (view s).1 → HoldsAtEachTurn (Held m.steps) (carrying_turn turns) P s c
-        → HoldsAtEachTurn m.steps (carrying_turn (FoldingTurn call outcome turns)) (FoldingTakes call outcome pre P) (view s).0 (c, f)
-    takes_held pre {P = P} l can callable holds = takes_through l call outcome turns can (subst (λ (o : Option F). IsCallableIn call pre (m.gives (view s).0) o) at callable)
-        (holds_into full (λ p x q step. in_struct m.steps p (item x) q step) (subst (λ (z : V). HoldsAtEachTurn (Held m.steps) (carrying_turn turns) P z c) (sym (full_is s f at)) holds))
+    pub takes_in_slot : (pre : F → X → Type 0) {P : C → B → Type 0} → Lawful m → m.can s → IsCallableIn call pre (m.gives s) slot → HoldsAtEachTurn InSlot (carrying_turn turns) P (s, slot) c
+        → HoldsAtEachTurn m.steps (carrying_turn (FoldingTurn call outcome turns)) (FoldingTakes call outcome pre P) s (c, f)
+    takes_in_slot pre {P = P} l can callable holds = takes_through l call outcome turns can (subst (λ (o : Option F). IsCallableIn call pre (m.gives s) o) at callable)
+        (holds_into full (λ p x q step. passes_in_slot step) (subst (λ (o : Option F). HoldsAtEachTurn InSlot (carrying_turn turns) P (s, o) c) at holds))
 
-    -- and a fold of the source by its turn is a fold of the adapter
-    pub folds_held : {t : S} {exit : Exit (C × F) E (F × Exit C E R)} → Carried m.steps (FoldingTurn call outcome turns) (view s).0 (c, f) exit t → Carried (Held m.steps) turns s c (handed exit).1 (make (t, Some (handed exit).0))
-    folds_held {t = t} {exit = exit} w = subst (λ (z : V). Carried (Held m.steps) turns z c (handed exit).1 (make (t, Some (handed exit).0))) (full_is s f at) (carried_into full (in_struct m.steps) (folds_through w))
+    -- and a fold with the closure is one with the slot
+    pub folds_in_slot : {t : S} {g : F} {exit : Exit C E R} → Carried (passing_step m.steps call outcome) turns (s, f) c exit (t, g) → Carried InSlot turns (s, slot) c exit (t, Some g)
+    folds_in_slot {t = t} {g = g} {exit = exit} w = subst (λ (o : Option F). Carried InSlot turns (s, o) c exit (t, Some g)) (sym at) (carried_into full (λ p r q step. passes_in_slot step) w)

@@ -1,5 +1,5 @@
 -- A trace that lets answers pass, answer by answer.
-use Rattle.std.specs.Prelude.{◌≡◌, ℕ, length, true, false, List, [], ◌∷◌, ◌++◌, map, Option, Result, Some, None, Ok, Err}
+use Rattle.std.specs.Prelude.{◌≡◌, ℕ, length, true, false, List, [], ◌∷◌, ◌++◌, map, Option, Result, Some, None, Ok, Err, IsSomeAnd}
 use Rattle.std.specs.List.{FoldsTo, filter_map}
 use Rattle.std.proofs.Common.{refl, sym, ap, subst}
 use Rattle.fallible_contract.specs.declared.folds.Exit.{Exit}
@@ -11,7 +11,9 @@ use Rattle.fallible_contract.proofs.Lemmas.Contract.{given_after}
 use Rattle.fallible_contract.specs.Laws.Closures.{reaches_here, reaches_weaken, reaches_from}
 use Rattle.fallible_contract.specs.Folds.{HoldsAtEachTurn, CarryingExit, Carried, stopped_answer, unpacked}
 use Rattle.fallible_contract.proofs.Lemmas.Folds.{turns_map, holds_map}
-use Rattle.fallible_contract.specs.Passing.{PassTurn, PassTest, PassAnswer, TakesDrawn, Outcome, kept, left_out, failed, an_end, outcome_answer, PassTrace, call_of}
+use Rattle.fallible_contract.specs.declared.passing.Outcome.{Outcome}
+use Rattle.fallible_contract.specs.declared.passing.Outcome.TheVariants.{Kept, LeftOut, Failure, End}
+use Rattle.fallible_contract.specs.Passing.{ItemPassed, PassTest, PassAnswer, IfItem, outcome_answer, PassTrace, call_of}
 use Rattle.fallible_contract.specs.Searching.{Passed, Decided, SearchExit, CallableInSearch, Searched, find_pick}
 use Rattle.fallible_contract.specs.Laws.Passing.{Passes, done, ends, fails, keeps, refuses, closes, leaves_out, to_passes, from_passes}
 
@@ -55,29 +57,16 @@ passing_by_answers steps call outcome = record {
   splits = λ p q r rest d. passes_some steps call outcome p.0 q.0 p.1 q.1 r rest (passes_split steps call outcome p.0 q.0 p.1 q.1 r rest (to_passes d));
 }
 
--- ---- one draw as a fold that stops
+-- ---- one draw as a search
 
 module _ {S F X R B E : Type 0} (steps : S → Answered X E → S → Type 0) (call : F → X → R → F → Type 0) (outcome : X → R → Outcome B E) where
+  -- one item that is left out
   abbrev leaving : F → X → F → Type 0
-  leaving f x g = PassTurn {B = B} {E = E} call outcome f x (Ok g)
+  leaving f x g = ItemPassed {B = B} {E = E} call outcome f x LeftOut g
 
   after_left_out : (last : Answered X E) (r : Answered B E) (t : S) (h g : F) → ((u : S) → steps u last t → Passes steps call outcome u h (r ∷ []) t g) → (items : List X) (s : S) (f : F) → Run steps s (map item items ++ last ∷ []) t → FoldsTo leaving f items h → Passes steps call outcome s f (r ∷ []) t g
   after_left_out last r t h g final [] s f ran went = subst (λ (k : F). Passes steps call outcome s k (r ∷ []) t g) (sym went) (final s (subst (λ (u : S). steps s last u) ran.2 ran.1))
   after_left_out last r t h g final (x ∷ items) s f ran went = leaves_out x went.1.0 ran.1 went.1.1 went.1.2 (after_left_out last r t h g final items ran.0 went.0 ran.2 went.2)
-
-  module _ (turns : F → X → Result F (F × Result B E) → Type 0) (turn : (f : F) (x : X) (r : Result F (F × Result B E)) → turns f x r → PassTurn call outcome f x r) where
-    stop_turn : (x : X) (p : F × Result B E) (u t : S) (h : F) → steps u (item x) t → PassTurn call outcome h x (Err p) → Passes steps call outcome u h (stopped_answer p.1 ∷ []) t p.0
-    stop_turn x (g, Ok y) u t h step w = keeps x w.0 y step w.1 w.2 done
-    stop_turn x (g, Err e) u t h step w = refuses x w.0 e step w.1 w.2 done
-
-    final_turn : (last : Answered X E) (exit : Exit F E (F × Result B E)) (u t : S) (h : F) → CarryingExit turns h last exit → steps u last t → Passes steps call outcome u h ((unpacked exit).1 ∷ []) t (unpacked exit).0
-    final_turn (Ok None) exit u t h e step = subst (λ (x : Exit F E (F × Result B E)). Passes steps call outcome u h ((unpacked x).1 ∷ []) t (unpacked x).0) (sym e) (ends step done)
-    final_turn (Err d) exit u t h e step = subst (λ (x : Exit F E (F × Result B E)). Passes steps call outcome u h ((unpacked x).1 ∷ []) t (unpacked x).0) (sym e) (fails d step done)
-    final_turn (Ok (Some x)) exit u t h e step = subst (λ (z : Exit F E (F × Result B E)). Passes steps call outcome u h ((unpacked z).1 ∷ []) t (unpacked z).0) (sym e.2) (stop_turn x e.0 u t h step (turn h x (Err e.0) e.1))
-
-pub passes_fold : {S F X R B E : Type 0} {steps : S → Answered X E → S → Type 0} {call : F → X → R → F → Type 0} {outcome : X → R → Outcome B E} {turns : F → X → Result F (F × Result B E) → Type 0} {s t : S} {f : F} {exit : Exit F E (F × Result B E)}
-    → ((f : F) (x : X) (r : Result F (F × Result B E)) → turns f x r → PassTurn call outcome f x r) → Carried steps turns s f exit t → PassTrace steps call outcome (s, f) ((unpacked exit).1 ∷ []) (t, (unpacked exit).0)
-passes_fold {steps = steps} {call = call} {outcome = outcome} {turns = turns} {s = s} {t = t} {f = f} {exit = exit} turn w = from_passes (after_left_out steps call outcome w.last (unpacked exit).1 t w.carried (unpacked exit).0 (λ u step. final_turn steps call outcome turns turn w.last exit u t w.carried w.exit step) w.items s f w.ran (turns_map (λ g x h p. turn g x (Ok h) p) w.items f w.carried w.went))
 
 module _ {S F X R B E : Type 0} (m : Contract S X E) (l : Lawful m) (call : F → X → R → F → Type 0) (outcome : X → R → Outcome B E) where
   turns_reach : (items : List X) (s t : S) (f g : F) → m.can s → Yields m.steps s items t → FoldsTo (leaving m.steps call outcome) f items g → Reaches call (m.gives s) f g
@@ -85,14 +74,12 @@ module _ {S F X R B E : Type 0} (m : Contract S X E) (l : Lawful m) (call : F �
   turns_reach (x ∷ items) s t f g c ran went = let a = l.goes s (item x) ran.0 c ran.1 in reaches_from x went.1.0 a.answer.0 went.1.1 (reaches_weaken a.gives (turns_reach items ran.0 t went.0 g a.can ran.2 went.2))
 
 -- a stored closure may be called at each turn of such a fold
-pub callable_turns : {S F X R B E : Type 0} {m : Contract S X E} {call : F → X → R → F → Type 0} {pre : F → X → Type 0} (outcome : X → R → Outcome B E) {s : S} {f : F} → Lawful m → m.can s → IsCallable call pre (m.gives s) f → HoldsAtEachTurn m.steps (λ g x h. PassTurn {B = B} {E = E} call outcome g x (Ok h)) pre s f
+pub callable_turns : {S F X R B E : Type 0} {m : Contract S X E} {call : F → X → R → F → Type 0} {pre : F → X → Type 0} (outcome : X → R → Outcome B E) {s : S} {f : F} → Lawful m → m.can s → IsCallable call pre (m.gives s) f → HoldsAtEachTurn m.steps (leaving m.steps call outcome) pre s f
 callable_turns {m = m} {call = call} outcome {s = s} {f = f} l c callable = record { at = λ items t u g x ran went step. callable.at g x (turns_reach m l call outcome items s t f g c ran went) (given_after l s items t u x c ran step) }
-
--- ---- one draw as a search
 
 module _ {S F X R E : Type 0} (steps : S → Answered X E → S → Type 0) (call : F → X → R → F → Type 0) (outcome : X → R → Outcome X E) where
   -- after a test on which the search goes on, the item is left out
-  left_by_test : (f : F) (x : X) (g : F) → Passed (PassTest call outcome) find_pick f x g → PassTurn {B = X} {E = E} call outcome f x (Ok g)
+  left_by_test : (f : F) (x : X) (g : F) → Passed (PassTest call outcome) find_pick f x g → leaving steps call outcome f x g
   left_by_test f x g (true, w, goes_on) = absurd (let none = goes_on 0 in cc)
   left_by_test f x g (false, w, goes_on) = w
 
@@ -134,10 +121,10 @@ passes_in_slot {F = F} {call = call} p = passes_held {F = F} {H = Option F} call
 
 module _ {S F X R B E : Type 0} {steps : S → Answered X E → S → Type 0} {call : F → X → R → F → Type 0} {outcome : X → R → Outcome B E} {s t : S} {f g : F} where
   item_passed : (x : X) (v : R) (o : Outcome B E) (r : Answered B E) → steps s (item x) t → call f x v g → outcome x v ≡ o → outcome_answer o ≡ Some r → Passes steps call outcome s f (r ∷ []) t g
-  item_passed x v (kept y) r step called is at = let same : item y ≡ r = cc in subst (λ (q : Answered B E). Passes steps call outcome s f (q ∷ []) t g) same (keeps x v y step called is done)
-  item_passed x v left_out r step called is at = absurd cc
-  item_passed x v (failed e) r step called is at = let same : Err e ≡ r = cc in subst (λ (q : Answered B E). Passes steps call outcome s f (q ∷ []) t g) same (refuses x v e step called is done)
-  item_passed x v an_end r step called is at = let same : Ok None ≡ r = cc in subst (λ (q : Answered B E). Passes steps call outcome s f (q ∷ []) t g) same (closes x v step called is done)
+  item_passed x v (Kept y) r step called is at = let same : item y ≡ r = cc in subst (λ (q : Answered B E). Passes steps call outcome s f (q ∷ []) t g) same (keeps x v y step called is done)
+  item_passed x v LeftOut r step called is at = absurd cc
+  item_passed x v (Failure e) r step called is at = let same : Err e ≡ r = cc in subst (λ (q : Answered B E). Passes steps call outcome s f (q ∷ []) t g) same (refuses x v e step called is done)
+  item_passed x v End r step called is at = let same : Ok None ≡ r = cc in subst (λ (q : Answered B E). Passes steps call outcome s f (q ∷ []) t g) same (closes x v step called is done)
 
   answer_passes : {r : Answered B E} (drawn : Answered X E) → steps s drawn t → PassAnswer call outcome f drawn r g → Passes steps call outcome s f (r ∷ []) t g
   answer_passes {r = r} (Ok (Some x)) step h = item_passed x h.0 (outcome x h.0) r step h.1 refl h.2
@@ -148,9 +135,29 @@ module _ {S F X R B E : Type 0} {steps : S → Answered X E → S → Type 0} {c
   pub answer_passed : {r : Answered B E} (drawn : Answered X E) → steps s drawn t → PassAnswer call outcome f drawn r g → PassTrace steps call outcome (s, f) (r ∷ []) (t, g)
   answer_passed drawn step h = from_passes (answer_passes drawn step h)
 
--- the closure in its slot may be called on an item that was drawn
-pub drawn_in_slot : {S F X R E : Type 0} {m : Contract S X E} {s t : S} (call : F → X → R → F → Type 0) (pre : F → X → Type 0) (slot : Option F) → Lawful m → m.can s → (drawn : Answered X E) → m.steps s drawn t → IsCallableIn call pre (m.gives s) slot → TakesDrawn pre slot drawn
-drawn_in_slot {s = s} {t = t} call pre (Some f) l c (Ok (Some x)) step callable = callable.at f x reaches_here ((l.goes s (item x) t c step).answer.0)
-drawn_in_slot call pre None l c (Ok (Some x)) step callable = absurd callable
-drawn_in_slot call pre slot l c (Ok None) step callable = tt
-drawn_in_slot call pre slot l c (Err e) step callable = tt
+-- the same, where the closure stands in a slot
+module _ {F X R B E : Type 0} (call : F → X → R → F → Type 0) (outcome : X → R → Outcome B E) (f g : F) (r : Answered B E) where
+  full_passed : (drawn : Answered X E) → PassAnswer call outcome f drawn r g → PassAnswer (call_in call) outcome (Some f) drawn r (Some g)
+  full_passed (Ok (Some x)) h = h
+  full_passed (Ok None) h = (h.0, ap Some h.1)
+  full_passed (Err e) h = (h.0, ap Some h.1)
+
+  pub answer_in_slot : {slot : Option F} → slot ≡ Some f → (drawn : Answered X E) → PassAnswer call outcome f drawn r g → PassAnswer (call_in call) outcome slot drawn r (Some g)
+  answer_in_slot at drawn h = subst (λ (o : Option F). PassAnswer (call_in call) outcome o drawn r (Some g)) (sym at) (full_passed drawn h)
+
+-- the closure may be called on an item that was drawn
+pub drawn_takes : {S F X R E : Type 0} {m : Contract S X E} {s t : S} {call : F → X → R → F → Type 0} {pre : F → X → Type 0} {f : F} → Lawful m → m.can s → (drawn : Answered X E) → m.steps s drawn t → IsCallable call pre (m.gives s) f → IfItem (pre f) drawn
+drawn_takes {s = s} {t = t} {f = f} l c (Ok (Some x)) step callable = callable.at f x reaches_here ((l.goes s (item x) t c step).answer.0)
+drawn_takes l c (Ok None) step callable = tt
+drawn_takes l c (Err e) step callable = tt
+
+-- the same, where the closure stands in a slot
+pub drawn_in_slot : {S F X R E : Type 0} {m : Contract S X E} {s t : S} (call : F → X → R → F → Type 0) (pre : F → X → Type 0) (slot : Option F) → Lawful m → m.can s → (drawn : Answered X E) → m.steps s drawn t → IsCallableIn call pre (m.gives s) slot → IsSomeAnd slot (λ f. IfItem (pre f) drawn)
+drawn_in_slot call pre (Some f) l c drawn step callable = drawn_takes l c drawn step callable
+drawn_in_slot call pre None l c drawn step callable = absurd callable
+
+-- what holds of each item holds of one that was drawn
+pub freely : {X E : Type 0} {P : X → Type 0} → ((x : X) → P x) → (drawn : Answered X E) → IfItem P drawn
+freely all (Ok (Some x)) = all x
+freely all (Ok None) = tt
+freely all (Err e) = tt

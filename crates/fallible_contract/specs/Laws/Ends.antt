@@ -3,7 +3,8 @@ use Rattle.std.specs.Prelude.{ℕ, Option}
 use Rattle.std.proofs.Common.{inl, inr}
 use Rattle.fallible_contract.specs.Contract.{Contract, seen_as}
 use Rattle.fallible_contract.specs.Ends.{Ends, from_front, from_back, ends_of, ends_seen_as, LawfulEnds}
-use Rattle.fallible_contract.specs.Passing.{Outcome, passing, leaving_out}
+use Rattle.fallible_contract.specs.declared.passing.Outcome.{Outcome}
+use Rattle.fallible_contract.specs.Passing.{passing, leaving_out}
 use Rattle.fallible_contract.specs.Laws.Contract.{lawful_seen}
 use Rattle.fallible_contract.specs.Laws.Closures.{reaches_here, may_answer_after}
 use Rattle.fallible_contract.specs.Laws.Passing.{StaysCallable, lawful_passing, lawful_leaving_out}

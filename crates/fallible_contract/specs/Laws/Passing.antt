@@ -4,7 +4,9 @@ use Rattle.std.specs.List.{filter_map, cons_option}
 use Rattle.std.proofs.Common.{refl, sym, ap, subst, arith, inl, inr}
 use Rattle.fallible_contract.specs.Traces.{LastKept, Answered, Run, item}
 use Rattle.fallible_contract.specs.Contract.{Contract, OnAnswer, Goes, Lawful, Stays}
-use Rattle.fallible_contract.specs.Passing.{Outcome, PassTrace, passing, leaving_out, kept, left_out, failed, an_end, Place, asked, failure_at, end_at, source_answer, call_of, outcome_answer, answer_at, has_answer}
+use Rattle.fallible_contract.specs.declared.passing.Outcome.{Outcome}
+use Rattle.fallible_contract.specs.declared.passing.Outcome.TheVariants.{Kept, LeftOut, Failure, End}
+use Rattle.fallible_contract.specs.Passing.{PassTrace, passing, leaving_out, Place, asked, failure_at, end_at, source_answer, call_of, outcome_answer, answer_at, has_answer}
 use Rattle.fallible_contract.specs.Closures.{Calls, Reaches}
 use Rattle.fallible_contract.specs.Laws.Contract.{stays_run}
 use Rattle.fallible_contract.specs.Laws.Closures.{reaches_here, reaches_weaken, reaches_from, may_answer_here, may_answer_after}
@@ -15,10 +17,10 @@ module _ {S F X R B E : Type 0} (steps : S → Answered X E → S → Type 0) (c
     done : {s : S} {f : F} → Passes s f [] s f
     ends : {s u t : S} {f g : F} {trace : List (Answered B E)} → steps s (Ok None) u → Passes u f trace t g → Passes s f (Ok None ∷ trace) t g
     fails : {s u t : S} {f g : F} {trace : List (Answered B E)} (e : E) → steps s (Err e) u → Passes u f trace t g → Passes s f (Err e ∷ trace) t g
-    keeps : {s u t : S} {f h g : F} {trace : List (Answered B E)} (x : X) (v : R) (y : B) → steps s (item x) u → call f x v h → outcome x v ≡ kept y → Passes u h trace t g → Passes s f (item y ∷ trace) t g
-    refuses : {s u t : S} {f h g : F} {trace : List (Answered B E)} (x : X) (v : R) (e : E) → steps s (item x) u → call f x v h → outcome x v ≡ failed e → Passes u h trace t g → Passes s f (Err e ∷ trace) t g
-    closes : {s u t : S} {f h g : F} {trace : List (Answered B E)} (x : X) (v : R) → steps s (item x) u → call f x v h → outcome x v ≡ an_end → Passes u h trace t g → Passes s f (Ok None ∷ trace) t g
-    leaves_out : {s u t : S} {f h g : F} {r : Answered B E} {trace : List (Answered B E)} (x : X) (v : R) → steps s (item x) u → call f x v h → outcome x v ≡ left_out → Passes u h (r ∷ trace) t g → Passes s f (r ∷ trace) t g
+    keeps : {s u t : S} {f h g : F} {trace : List (Answered B E)} (x : X) (v : R) (y : B) → steps s (item x) u → call f x v h → outcome x v ≡ Kept y → Passes u h trace t g → Passes s f (item y ∷ trace) t g
+    refuses : {s u t : S} {f h g : F} {trace : List (Answered B E)} (x : X) (v : R) (e : E) → steps s (item x) u → call f x v h → outcome x v ≡ Failure e → Passes u h trace t g → Passes s f (Err e ∷ trace) t g
+    closes : {s u t : S} {f h g : F} {trace : List (Answered B E)} (x : X) (v : R) → steps s (item x) u → call f x v h → outcome x v ≡ End → Passes u h trace t g → Passes s f (Ok None ∷ trace) t g
+    leaves_out : {s u t : S} {f h g : F} {r : Answered B E} {trace : List (Answered B E)} (x : X) (v : R) → steps s (item x) u → call f x v h → outcome x v ≡ LeftOut → Passes u h (r ∷ trace) t g → Passes s f (r ∷ trace) t g
 
 module _ {X R B E : Type 0} (outcome : X → R → Outcome B E) where
   pub kept_tail : (p : Place X R E) (rest : List (Place X R E)) → LastKept (has_answer outcome) (p ∷ rest) → LastKept (has_answer outcome) rest
@@ -47,18 +49,18 @@ module _ {X R B E : Type 0} (outcome : X → R → Outcome B E) where
   answered p (q ∷ rest) h e = cons_nonempty (answer_at outcome p) (filter_map (answer_at outcome) (q ∷ rest)) (answered q rest h) e
 
 module _ {S F X R B E : Type 0} {steps : S → Answered X E → S → Type 0} {call : F → X → R → F → Type 0} {outcome : X → R → Outcome B E} where
-  skip_first : {s u t : S} {f h g : F} (x : X) (v : R) (trace : List (Answered B E)) (p : Place X R E) (rest : List (Place X R E)) → steps s (item x) u → call f x v h → outcome x v ≡ left_out → trace ≡ filter_map (answer_at outcome) (p ∷ rest) → LastKept (has_answer outcome) (p ∷ rest) → Passes steps call outcome u h trace t g → Passes steps call outcome s f trace t g
+  skip_first : {s u t : S} {f h g : F} (x : X) (v : R) (trace : List (Answered B E)) (p : Place X R E) (rest : List (Place X R E)) → steps s (item x) u → call f x v h → outcome x v ≡ LeftOut → trace ≡ filter_map (answer_at outcome) (p ∷ rest) → LastKept (has_answer outcome) (p ∷ rest) → Passes steps call outcome u h trace t g → Passes steps call outcome s f trace t g
   skip_first x v [] p rest step called is e close h = absurd (answered outcome p rest close (sym e))
   skip_first x v (r ∷ trace) p rest step called is e close h = leaves_out x v step called is h
 
   mutual_asked : {s u t : S} {f h g : F} (x : X) (v : R) (o : Outcome B E) → outcome x v ≡ o → (rest : List (Place X R E)) (trace : List (Answered B E)) → steps s (item x) u → call f x v h
       → trace ≡ cons_option (outcome_answer o) (filter_map (answer_at outcome) rest) → LastKept (has_answer outcome) (asked x v ∷ rest)
       → Passes steps call outcome u h (filter_map (answer_at outcome) rest) t g → Passes steps call outcome s f trace t g
-  mutual_asked {s} {u} {t} {f} {h} {g} x v (kept y) is rest trace step called e close rests = subst (λ (l : List (Answered B E)). Passes steps call outcome s f l t g) (sym e) (keeps x v y step called is rests)
-  mutual_asked {s} {u} {t} {f} {h} {g} x v (failed d) is rest trace step called e close rests = subst (λ (l : List (Answered B E)). Passes steps call outcome s f l t g) (sym e) (refuses x v d step called is rests)
-  mutual_asked {s} {u} {t} {f} {h} {g} x v an_end is rest trace step called e close rests = subst (λ (l : List (Answered B E)). Passes steps call outcome s f l t g) (sym e) (closes x v step called is rests)
-  mutual_asked {s} {u} {t} {f} {h} {g} x v left_out is [] trace step called e close rests = absurd (let some : is_some (outcome_answer (outcome x v)) ≡ true = close in let none : is_some (outcome_answer {B = B} {E = E} left_out) ≡ true = subst (λ (o : Outcome B E). is_some (outcome_answer o) ≡ true) is some in cc)
-  mutual_asked {s} {u} {t} {f} {h} {g} x v left_out is (p ∷ rest) trace step called e close rests = subst (λ (l : List (Answered B E)). Passes steps call outcome s f l t g) (sym e) (skip_first x v (filter_map (answer_at outcome) (p ∷ rest)) p rest step called is refl close rests)
+  mutual_asked {s} {u} {t} {f} {h} {g} x v (Kept y) is rest trace step called e close rests = subst (λ (l : List (Answered B E)). Passes steps call outcome s f l t g) (sym e) (keeps x v y step called is rests)
+  mutual_asked {s} {u} {t} {f} {h} {g} x v (Failure d) is rest trace step called e close rests = subst (λ (l : List (Answered B E)). Passes steps call outcome s f l t g) (sym e) (refuses x v d step called is rests)
+  mutual_asked {s} {u} {t} {f} {h} {g} x v End is rest trace step called e close rests = subst (λ (l : List (Answered B E)). Passes steps call outcome s f l t g) (sym e) (closes x v step called is rests)
+  mutual_asked {s} {u} {t} {f} {h} {g} x v LeftOut is [] trace step called e close rests = absurd (let some : is_some (outcome_answer (outcome x v)) ≡ true = close in let none : is_some (outcome_answer {B = B} {E = E} LeftOut) ≡ true = subst (λ (o : Outcome B E). is_some (outcome_answer o) ≡ true) is some in cc)
+  mutual_asked {s} {u} {t} {f} {h} {g} x v LeftOut is (p ∷ rest) trace step called e close rests = subst (λ (l : List (Answered B E)). Passes steps call outcome s f l t g) (sym e) (skip_first x v (filter_map (answer_at outcome) (p ∷ rest)) p rest step called is refl close rests)
 
   from_places : (places : List (Place X R E)) (s : S) (f : F) (trace : List (Answered B E)) (t : S) (g : F) → Run steps s (map source_answer places) t → Calls call f (filter_map call_of places) g → trace ≡ filter_map (answer_at outcome) places → LastKept (has_answer outcome) places → Passes steps call outcome s f trace t g
   from_places [] s f trace t g ran called e close = subst (λ (l : List (Answered B E)). Passes steps call outcome s f l t g) (sym e) (subst (λ (u : S). Passes steps call outcome s f [] u g) ran (subst (λ (h : F). Passes steps call outcome s f [] s h) called done))
@@ -153,10 +155,10 @@ lawful_leaving_out {m = m} call callable outcome hints after l = let p = passing
 -- ---- one answer
 
 module _ {S F X R B E : Type 0} {steps : S → Answered X E → S → Type 0} {call : F → X → R → F → Type 0} {outcome : X → R → Outcome B E} {s t : S} {f g : F} where
-  pub passes_item : (x : X) (v : R) (y : B) → steps s (item x) t → call f x v g → outcome x v ≡ kept y → PassTrace steps call outcome (s, f) (item y ∷ []) (t, g)
+  pub passes_item : (x : X) (v : R) (y : B) → steps s (item x) t → call f x v g → outcome x v ≡ Kept y → PassTrace steps call outcome (s, f) (item y ∷ []) (t, g)
   passes_item x v y step called is = from_passes (keeps x v y step called is done)
 
-  pub passes_refusal : (x : X) (v : R) (e : E) → steps s (item x) t → call f x v g → outcome x v ≡ failed e → PassTrace steps call outcome (s, f) (Err e ∷ []) (t, g)
+  pub passes_refusal : (x : X) (v : R) (e : E) → steps s (item x) t → call f x v g → outcome x v ≡ Failure e → PassTrace steps call outcome (s, f) (Err e ∷ []) (t, g)
   passes_refusal x v e step called is = from_passes (refuses x v e step called is done)
 
 module _ {S F X R B E : Type 0} {steps : S → Answered X E → S → Type 0} {call : F → X → R → F → Type 0} {outcome : X → R → Outcome B E} {s t : S} {f : F} where
@@ -168,5 +170,5 @@ module _ {S F X R B E : Type 0} {steps : S → Answered X E → S → Type 0} {c
 
 module _ {S F X R B E : Type 0} {steps : S → Answered X E → S → Type 0} {call : F → X → R → F → Type 0} {outcome : X → R → Outcome B E} {s t : S} {f g : F} where
   -- an item that makes an end
-  pub passes_closing : (x : X) (v : R) → steps s (item x) t → call f x v g → outcome x v ≡ an_end → PassTrace steps call outcome (s, f) (Ok None ∷ []) (t, g)
+  pub passes_closing : (x : X) (v : R) → steps s (item x) t → call f x v g → outcome x v ≡ End → PassTrace steps call outcome (s, f) (Ok None ∷ []) (t, g)
   passes_closing x v step called is = from_passes (closes x v step called is done)

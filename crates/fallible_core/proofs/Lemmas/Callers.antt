@@ -8,7 +8,9 @@ use Rattle.fallible_contract.specs.Contract.{Contract, Lawful, AtMost, seen_as}
 use Rattle.fallible_contract.specs.Closures.{call_at, call_in}
 use Rattle.fallible_contract.specs.Lists.{Acts}
 use Rattle.fallible_contract.specs.Folds.{HoldsAtEachTurn, CountExit, FoldExit, Folded}
-use Rattle.fallible_contract.specs.Passing.{Outcome, PassTrace, kept, left_out, failed, an_end}
+use Rattle.fallible_contract.specs.declared.passing.Outcome.{Outcome}
+use Rattle.fallible_contract.specs.declared.passing.Outcome.TheVariants.{Kept, LeftOut, Failure, End}
+use Rattle.fallible_contract.specs.Passing.{PassTrace}
 use Rattle.fallible_contract.specs.Laws.Passing.{Passes, done, ends, fails, keeps, refuses, closes, leaves_out, to_passes}
 use Rattle.fallible_contract.proofs.Lemmas.Definitions.{runs_by_answers}
 use Rattle.fallible_contract.proofs.Lemmas.Folds.{count_fits}
@@ -86,19 +88,19 @@ callable_counting {f = f} k counts below l c b = record { at = λ items t u d x 
 -- ---- `Filter`
 
 module _ {X E : Type 0} where
-  is_kept : (x y : X) (b : Bool) → filter_outcome {E = E} x (Ok b) ≡ kept y → (b ≡ true) × (x ≡ y)
+  is_kept : (x y : X) (b : Bool) → filter_outcome {E = E} x (Ok b) ≡ Kept y → (b ≡ true) × (x ≡ y)
   is_kept x y true e = (refl, cc)
   is_kept x y false e = absurd cc
 
-  is_left_out : (x : X) (b : Bool) → filter_outcome {E = E} x (Ok b) ≡ left_out → b ≡ false
+  is_left_out : (x : X) (b : Bool) → filter_outcome {E = E} x (Ok b) ≡ LeftOut → b ≡ false
   is_left_out x true e = absurd cc
   is_left_out x false e = refl
 
-  not_failed : (x : X) (b : Bool) (e : E) → filter_outcome x (Ok b) ≡ failed e → ⊥
+  not_failed : (x : X) (b : Bool) (e : E) → filter_outcome x (Ok b) ≡ Failure e → ⊥
   not_failed x true e h = cc
   not_failed x false e h = cc
 
-  not_end : (x : X) (b : Bool) → filter_outcome {E = E} x (Ok b) ≡ an_end → ⊥
+  not_end : (x : X) (b : Bool) → filter_outcome {E = E} x (Ok b) ≡ End → ⊥
   not_end x true h = cc
   not_end x false h = cc
 
@@ -135,11 +137,11 @@ module _ {S F X E : Type 0} (steps : S → Answered X E → S → Type 0) (call 
   below (x ∷ xs) last s t f g _ at e (ends step p) = absurd cc
   below [] last s t f g _ at e (fails {u = u} d step p) = last_below s u t f g (failure d) last _ e step p
   below (x ∷ xs) last s t f g _ at e (fails d step p) = absurd cc
-  below [] last s t f g _ at e (keeps {u = u} {h = j} {trace = rest} x v y step called is p) = let k = is_kept x y (h x) (answers_as (kept y) f j x v at called is) in last_below s u t j g (item x) last rest (ap {B = List (Answered X E)} (λ (z : X). item z ∷ rest) k.1 ∙ e) step p
-  below (z ∷ xs) last s t f g _ at e (keeps {u = u} {h = j} x v y step called is p) = let k = is_kept x y (h x) (answers_as (kept y) f j x v at called is) in kept_below s u t x z xs last k.0 (k.1 ∙ cc) step (below xs last u t j g _ (acts f x v j at called).0 (cc) p)
-  below xs last s t f g _ at e (refuses {h = j} x v d step called is p) = absurd (not_failed x (h x) d (answers_as (failed d) f j x v at called is))
-  below xs last s t f g _ at e (closes {h = j} x v step called is p) = absurd (not_end x (h x) (answers_as an_end f j x v at called is))
-  below xs last s t f g trace at e (leaves_out {u = u} {h = j} x v step called is p) = left_below s u t x xs last (is_left_out x (h x) (answers_as left_out f j x v at called is)) step (below xs last u t j g trace (acts f x v j at called).0 e p)
+  below [] last s t f g _ at e (keeps {u = u} {h = j} {trace = rest} x v y step called is p) = let k = is_kept x y (h x) (answers_as (Kept y) f j x v at called is) in last_below s u t j g (item x) last rest (ap {B = List (Answered X E)} (λ (z : X). item z ∷ rest) k.1 ∙ e) step p
+  below (z ∷ xs) last s t f g _ at e (keeps {u = u} {h = j} x v y step called is p) = let k = is_kept x y (h x) (answers_as (Kept y) f j x v at called is) in kept_below s u t x z xs last k.0 (k.1 ∙ cc) step (below xs last u t j g _ (acts f x v j at called).0 (cc) p)
+  below xs last s t f g _ at e (refuses {h = j} x v d step called is p) = absurd (not_failed x (h x) d (answers_as (Failure d) f j x v at called is))
+  below xs last s t f g _ at e (closes {h = j} x v step called is p) = absurd (not_end x (h x) (answers_as End f j x v at called is))
+  below xs last s t f g trace at e (leaves_out {u = u} {h = j} x v step called is p) = left_below s u t x xs last (is_left_out x (h x) (answers_as LeftOut f j x v at called is)) step (below xs last u t j g trace (acts f x v j at called).0 e p)
 
   pub below_run : (xs : List X) (last : Answered X E) (p q : S × F) → p.1 ≡ fixed → Run (λ p r q. PassTrace steps call filter_outcome p (r ∷ []) q) p (map item xs ++ last ∷ []) q → Below p.0 xs last q.0
   below_run xs last p q at ran = below xs last p.0 q.0 p.1 q.1 _ at refl (to_passes ((runs_by_answers _ (passing_by_answers steps call filter_outcome) p _ q).0 ran))

@@ -4,7 +4,8 @@ use Rattle.fallible_core.specs.declared.cutting.step_by.StepBy.{StepBy}
 use Rattle.fallible_contract.specs.Traces.{Answered}
 use Rattle.fallible_contract.specs.Contract.{Contract}
 use Rattle.fallible_contract.specs.Counting.{KeptByNumber}
-use Rattle.fallible_contract.specs.Passing.{Outcome, kept, left_out}
+use Rattle.fallible_contract.specs.declared.passing.Outcome.{Outcome}
+use Rattle.fallible_contract.specs.declared.passing.Outcome.TheVariants.{Kept, LeftOut}
 use Rattle.fallible_contract.specs.WithSteps.{with_steps}
 use Rattle.fallible_contract.specs.Hints.{hint_kept}
 
@@ -45,8 +46,8 @@ count_call between n x v k = (v ≡ n) × (k ≡ left_next between n)
 
 -- it is kept where none was to be left out
 abbrev pub count_outcome : {A E : Type 0} → A → ℕ → Outcome A E
-count_outcome x zero = kept x
-count_outcome x (suc n) = left_out
+count_outcome x zero = Kept x
+count_outcome x (suc n) = LeftOut
 
 -- any item may be counted down
 abbrev pub count_takes : {A : Type 0} → ℕ → A → Type 0

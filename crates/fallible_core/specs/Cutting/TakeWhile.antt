@@ -1,23 +1,23 @@
 -- `TakeWhile`, which ends for good at the first item that a predicate refuses.
-use Rattle.std.specs.Prelude.{List, [], ◌∷◌, map, Option, Result, Ok, Err, Bool, true, false}
+use Rattle.std.specs.Prelude.{◌≡◌, List, [], ◌∷◌, map, Option, Result, Ok, Err, Bool, true, false}
 use Rattle.std.specs.List.{filter_map}
 use Rattle.std.specs.Fn.{Mut}
 use Rattle.std.specs.Borrow.{Bor}
-use Rattle.fallible_contract.specs.declared.folds.Exit.{Exit}
-use Rattle.fallible_contract.specs.declared.folds.Exit.TheVariants.{Ended, Failed, Stopped}
 use Rattle.fallible_contract.specs.Traces.{Answered, Run, item, failure, end}
 use Rattle.fallible_contract.specs.Contract.{Contract}
 use Rattle.fallible_contract.specs.Closures.{Calls, call_in, IsCallableIn, call_at, takes_at}
-use Rattle.fallible_contract.specs.Passing.{Outcome, kept, failed, an_end, Place, asked, failure_at, end_at, source_answer, call_of, passing}
+use Rattle.fallible_contract.specs.declared.passing.Outcome.{Outcome}
+use Rattle.fallible_contract.specs.declared.passing.Outcome.TheVariants.{Kept, Failure, End}
+use Rattle.fallible_contract.specs.Passing.{Place, asked, failure_at, end_at, source_answer, call_of, passing}
 use Rattle.fallible_contract.specs.Hints.{upper_alone}
 use Rattle.fallible_core.specs.declared.cutting.take_while.TakeWhile.{TakeWhile}
 use Rattle.fallible_contract.specs.Closing.{ClosingTrace, closing}
 
 -- An item that the predicate accepts is kept; one that it refuses makes an end; a failure of it is the answer.
 abbrev pub take_while_outcome : {X E : Type 0} → X → Result Bool E → Outcome X E
-take_while_outcome x (Ok true) = kept x
-take_while_outcome x (Ok false) = an_end
-take_while_outcome x (Err e) = failed e
+take_while_outcome x (Ok true) = Kept x
+take_while_outcome x (Ok false) = End
+take_while_outcome x (Err e) = Failure e
 
 -- the answer of `TakeWhile` at a place: an item that the predicate accepts, an end in place of one that it refuses, its failure; and the source's failures and ends
 abbrev pub taken_answer : {X E : Type 0} → Place X (Result Bool E) E → Answered X E
@@ -54,10 +54,14 @@ take_while_contract m g = closing (passing m (call_in (call_at g)) (IsCallableIn
 abbrev pub take_while_parts : {I P : Type 0} → TakeWhile I P → (I × Option P) × Bool
 take_while_parts s = ((s.it, s.predicate), s.refused)
 
--- whether an item was refused, by the exit of the source's fold that the adapter's goes through
-abbrev pub met_refusal : {C F E R : Type 0} → Exit (C × F) E (F × Exit C E R) → Bool
-met_refusal (Ended p) = false
-met_refusal (Failed p e) = false
-met_refusal (Stopped (f, Ended c)) = true
-met_refusal (Stopped (f, Failed c e)) = false
-met_refusal (Stopped (f, Stopped r)) = false
+-- ---- its fold, through the source's own
+
+-- whether the predicate's answer refuses the item
+abbrev pub refuses : {E : Type 0} → Result Bool E → Bool
+refuses (Ok true) = false
+refuses (Ok false) = true
+refuses (Err e) = false
+
+-- one call of the predicate, which leaves beside it whether it refused the item
+abbrev pub refusing_call : {F X E : Type 0} → (F → X → Result Bool E → F → Type 0) → F × Bool → X → Result Bool E → F × Bool → Type 0
+refusing_call call p x v q = call p.0 x v q.0 × (q.1 ≡ refuses v)

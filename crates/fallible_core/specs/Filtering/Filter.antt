@@ -5,15 +5,17 @@ use Rattle.std.specs.Borrow.{Bor}
 use Rattle.fallible_contract.specs.Traces.{Answered}
 use Rattle.fallible_contract.specs.Contract.{Contract}
 use Rattle.fallible_contract.specs.Closures.{call_at, takes_at, call_in, IsCallableIn}
-use Rattle.fallible_contract.specs.Passing.{Outcome, kept, left_out, failed, PassTrace, leaving_out}
+use Rattle.fallible_contract.specs.declared.passing.Outcome.{Outcome}
+use Rattle.fallible_contract.specs.declared.passing.Outcome.TheVariants.{Kept, LeftOut, Failure}
+use Rattle.fallible_contract.specs.Passing.{PassTrace, leaving_out}
 use Rattle.fallible_core.specs.declared.filtering.filter.Filter.{Filter}
 use Rattle.fallible_contract.specs.Hints.{upper_alone}
 
 -- An item is kept where the predicate answers true, left out where it answers false, and replaced by a failure of it.
 abbrev pub filter_outcome : {X E : Type 0} → X → Result Bool E → Outcome X E
-filter_outcome x (Ok true) = kept x
-filter_outcome x (Ok false) = left_out
-filter_outcome x (Err e) = failed e
+filter_outcome x (Ok true) = Kept x
+filter_outcome x (Ok false) = LeftOut
+filter_outcome x (Err e) = Failure e
 
 -- `Filter`: the source's trace without the items refused, where an item whose predicate failed is replaced by that failure; it doesn't end in a refused item.
 abbrev pub FilterTrace : {S F X E : Type 0} → (S → Answered X E → S → Type 0) → Mut F (Bor X × Unit {0}) (Result Bool E) → S × Option F → List (Answered X E) → S × Option F → Type 0

@@ -4,15 +4,17 @@ use Rattle.std.specs.Fn.{Mut}
 use Rattle.fallible_contract.specs.Traces.{Answered}
 use Rattle.fallible_contract.specs.Contract.{Contract}
 use Rattle.fallible_contract.specs.Closures.{call_on, takes_on, call_in, IsCallableIn}
-use Rattle.fallible_contract.specs.Passing.{Outcome, kept, left_out, failed, PassTrace, leaving_out}
+use Rattle.fallible_contract.specs.declared.passing.Outcome.{Outcome}
+use Rattle.fallible_contract.specs.declared.passing.Outcome.TheVariants.{Kept, LeftOut, Failure}
+use Rattle.fallible_contract.specs.Passing.{PassTrace, leaving_out}
 use Rattle.fallible_core.specs.declared.filtering.filter_map.FilterMap.{FilterMap}
 use Rattle.fallible_contract.specs.Hints.{upper_alone}
 
 -- An item is replaced by the value that the closure answers, left out where it answers none, and replaced by a failure of it.
 abbrev pub filter_map_outcome : {X B E : Type 0} → X → Result (Option B) E → Outcome B E
-filter_map_outcome x (Ok (Some y)) = kept y
-filter_map_outcome x (Ok None) = left_out
-filter_map_outcome x (Err e) = failed e
+filter_map_outcome x (Ok (Some y)) = Kept y
+filter_map_outcome x (Ok None) = LeftOut
+filter_map_outcome x (Err e) = Failure e
 
 -- `FilterMap`: the source's trace without the items answered none, where each other item is replaced by the value or the failure that the closure answers on it; it doesn't end in an item answered none.
 abbrev pub FilterMapTrace : {S F X B E : Type 0} → (S → Answered X E → S → Type 0) → Mut F (X × Unit {0}) (Result (Option B) E) → S × Option F → List (Answered B E) → S × Option F → Type 0

@@ -6,7 +6,9 @@ use Rattle.std.specs.List.{filter_map}
 use Rattle.fallible_contract.specs.Traces.{Answered, Run, LastKept}
 use Rattle.fallible_contract.specs.Contract.{Contract}
 use Rattle.fallible_contract.specs.Closures.{Calls, IsCallable, call_in, call_at, takes_at}
-use Rattle.fallible_contract.specs.Passing.{Outcome, kept, left_out, failed, Place, asked, failure_at, end_at, source_answer, call_of, answer_at, leaving_out, has_answer}
+use Rattle.fallible_contract.specs.declared.passing.Outcome.{Outcome}
+use Rattle.fallible_contract.specs.declared.passing.Outcome.TheVariants.{Kept, LeftOut, Failure}
+use Rattle.fallible_contract.specs.Passing.{Place, asked, failure_at, end_at, source_answer, call_of, answer_at, leaving_out, has_answer}
 use Rattle.fallible_core.specs.declared.filtering.skip_while.SkipWhile.{SkipWhile}
 use Rattle.fallible_contract.specs.Hints.{upper_alone}
 
@@ -31,10 +33,10 @@ IsAskableIn call takes P p = IsSomeAnd p.1 (λ f. IsCallable (skip_call call) (s
 
 -- An item is kept where the predicate isn't asked or answers false, left out where it answers true, and replaced by a failure of it.
 abbrev pub skip_while_outcome : {X E : Type 0} → X → Option (Result Bool E) → Outcome X E
-skip_while_outcome x None = kept x
-skip_while_outcome x (Some (Ok false)) = kept x
-skip_while_outcome x (Some (Ok true)) = left_out
-skip_while_outcome x (Some (Err e)) = failed e
+skip_while_outcome x None = Kept x
+skip_while_outcome x (Some (Ok false)) = Kept x
+skip_while_outcome x (Some (Ok true)) = LeftOut
+skip_while_outcome x (Some (Err e)) = Failure e
 
 -- the predicate was asked at the place and answered false
 abbrev pub false_at : {X E : Type 0} → Place X (Result Bool E) E → Bool

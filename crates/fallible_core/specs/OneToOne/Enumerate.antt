@@ -2,7 +2,8 @@
 use Rattle.std.specs.Prelude.{◌≡◌, ℕ, ◌+◌, ◌-◌, ◌^◌, ◌≤◌, ◌<◌, List, [], ◌∷◌, Some, None, Ok, Err}
 use Rattle.fallible_contract.specs.Traces.{Answered, Run, item, failure, end, items_in}
 use Rattle.fallible_contract.specs.Contract.{Contract}
-use Rattle.fallible_contract.specs.Passing.{Outcome, kept}
+use Rattle.fallible_contract.specs.declared.passing.Outcome.{Outcome}
+use Rattle.fallible_contract.specs.declared.passing.Outcome.TheVariants.{Kept}
 use Rattle.fallible_core.specs.declared.one_to_one.enumerate.Enumerate.{Enumerate}
 
 -- the trace with each item beside its number, which is n and the number of items before it; failures and ends have none
@@ -52,7 +53,7 @@ number_call n x v k = (v ≡ n) × (k ≡ n + 1)
 
 -- each item is kept, beside its number
 abbrev pub number_outcome : {A E : Type 0} → A → ℕ → Outcome (ℕ × A) E
-number_outcome x v = kept (v, x)
+number_outcome x v = Kept (v, x)
 
 -- an item may be counted where the next number fits a `usize`
 abbrev pub number_takes : {A : Type 0} → ℕ → A → Type 0

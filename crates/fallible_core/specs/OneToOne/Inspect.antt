@@ -5,13 +5,15 @@ use Rattle.std.specs.Borrow.{Bor}
 use Rattle.fallible_contract.specs.Traces.{Answered}
 use Rattle.fallible_contract.specs.Contract.{Contract}
 use Rattle.fallible_contract.specs.Closures.{call_at, takes_at, call_in, IsCallableIn}
-use Rattle.fallible_contract.specs.Passing.{Outcome, kept, failed, PassTrace, passing}
+use Rattle.fallible_contract.specs.declared.passing.Outcome.{Outcome}
+use Rattle.fallible_contract.specs.declared.passing.Outcome.TheVariants.{Kept, Failure}
+use Rattle.fallible_contract.specs.Passing.{PassTrace, passing}
 use Rattle.fallible_core.specs.declared.one_to_one.inspect.Inspect.{Inspect}
 
 -- An item that the closure saw stays, or becomes the closure's failure.
 abbrev pub inspect_outcome : {X E : Type 0} → X → Result (Unit {0}) E → Outcome X E
-inspect_outcome x (Ok u) = kept x
-inspect_outcome x (Err e) = failed e
+inspect_outcome x (Ok u) = Kept x
+inspect_outcome x (Err e) = Failure e
 
 -- `Inspect`: the source's trace, where each item on which the closure failed is replaced by that failure.
 abbrev pub InspectTrace : {S F X E : Type 0} → (S → Answered X E → S → Type 0) → Mut F (Bor X × Unit {0}) (Result (Unit {0}) E) → S × Option F → List (Answered X E) → S × Option F → Type 0

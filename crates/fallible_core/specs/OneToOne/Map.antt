@@ -4,13 +4,15 @@ use Rattle.std.specs.Fn.{Mut}
 use Rattle.fallible_contract.specs.Traces.{Answered}
 use Rattle.fallible_contract.specs.Contract.{Contract}
 use Rattle.fallible_contract.specs.Closures.{call_on, takes_on, call_in, IsCallableIn}
-use Rattle.fallible_contract.specs.Passing.{Outcome, kept, failed, PassTrace, passing}
+use Rattle.fallible_contract.specs.declared.passing.Outcome.{Outcome}
+use Rattle.fallible_contract.specs.declared.passing.Outcome.TheVariants.{Kept, Failure}
+use Rattle.fallible_contract.specs.Passing.{PassTrace, passing}
 use Rattle.fallible_core.specs.declared.one_to_one.map.Map.{Map}
 
 -- An item becomes the closure's answer, a failure of it included.
 abbrev pub map_outcome : {X B E : Type 0} → X → Result B E → Outcome B E
-map_outcome x (Ok y) = kept y
-map_outcome x (Err e) = failed e
+map_outcome x (Ok y) = Kept y
+map_outcome x (Err e) = Failure e
 
 -- `Map`: the source's trace, where each item is replaced by the closure's answer on it.
 abbrev pub MapTrace : {S F X B E : Type 0} → (S → Answered X E → S → Type 0) → Mut F (X × Unit {0}) (Result B E) → S × Option F → List (Answered B E) → S × Option F → Type 0

@@ -6,7 +6,9 @@ use Rattle.fallible_contract.specs.Traces.{Answered}
 use Rattle.fallible_contract.specs.Contract.{Contract}
 use Rattle.fallible_contract.specs.Hints.{upper_alone}
 use Rattle.fallible_contract.specs.Closures.{IsCallable}
-use Rattle.fallible_contract.specs.Passing.{Outcome, kept, failed, an_end, PassTrace, passing}
+use Rattle.fallible_contract.specs.declared.passing.Outcome.{Outcome}
+use Rattle.fallible_contract.specs.declared.passing.Outcome.TheVariants.{Kept, Failure, End}
+use Rattle.fallible_contract.specs.Passing.{PassTrace, passing}
 use Rattle.fallible_core.specs.declared.one_to_one.scan.Scan.{Scan}
 
 -- a call on the state and an item, which may change both the closure and the state
@@ -19,9 +21,9 @@ scan_takes g p x = TakesWithState g p.1 p.0 x
 
 -- An item is replaced by the value that the closure answers, by an end where it answers none, and by a failure of it.
 abbrev pub scan_outcome : {X B E : Type 0} → X → Result (Option B) E → Outcome B E
-scan_outcome x (Ok (Some y)) = kept y
-scan_outcome x (Ok None) = an_end
-scan_outcome x (Err e) = failed e
+scan_outcome x (Ok (Some y)) = Kept y
+scan_outcome x (Ok None) = End
+scan_outcome x (Err e) = Failure e
 
 -- `Scan`, with the state beside the closure: the source's trace, where each item is replaced by the closure's answer on the state and the item, none being an end.
 abbrev pub ScanTrace : {S F T X B E : Type 0} → (S → Answered X E → S → Type 0) → Mut F (MutBor T × (X × Unit {0})) (Result (Option B) E × (MutBor T × Unit {0})) → S × (T × F) → List (Answered B E) → S × (T × F) → Type 0

@@ -1,15 +1,16 @@
 // The adapter that keeps one item at each step.
 ghost use Rattle.std.specs.Prelude.{Result, Option};
 ghost use Rattle.fallible_contract.specs.Contract.{seen_as};
-ghost use Rattle.fallible_contract.specs.Folding.{FoldingTakes, FoldingTurn};
 ghost use Rattle.fallible_core.specs.Cutting.StepBy.{step_by_contract, step_by_parts, count_call, count_outcome, count_takes};
 ghost use Rattle.fallible_contract.specs.Laws.Contract.{lawful_seen};
 ghost use Rattle.fallible_core.specs.Laws.Cutting.StepBy.{lawful_step_by};
 
 use crate::cutting::counting::next_past;
+use crate::passing::fold_passing;
 use crate::traits::FallibleIterator;
-use fallible_contract::folds::{Exit, Turn, handed_back, turned};
+use fallible_contract::folds::{Exit, Turn};
 use fallible_contract::hints::kept;
+use fallible_contract::passing::{Outcome, Pass};
 
 /// The source's first item, and from then on one item at each step. Failures and ends stay, and don't count.
 #[derive(Clone, Debug, Drop)]
@@ -53,11 +54,10 @@ where
         init: C,
         k: &K,
     ) -> Exit<C, I::Error, R> {
-        let turn = Stepping {
-            turn: k,
+        let adapter = StepByPass {
             between: self.between,
         };
-        let (left, exit) = handed_back(self.it.try_fold_carrying((init, self.left), &turn));
+        let (left, exit) = fold_passing(&mut self.it, self.left, &adapter, init, k);
         self.left = left;
         exit
     }
@@ -65,24 +65,28 @@ where
     ghost lawful = { lawful_seen step_by_parts (lawful_step_by I.lawful) };
 }
 
-// The turn of the source's fold: an item that is left out lowers what is left, and the caller's turn is taken on the one after them. How many are left out next is handed on.
+// An item that is left out lowers what is left, and the one after them is kept. How many are left out next is carried.
 #[derive(Drop)]
-struct Stepping<'a, K> {
-    turn: &'a K,
+struct StepByPass {
     between: usize,
 }
 
-impl<'a, A: Drop, E, C, R, K: Turn<C, A, R>> Turn<(C, usize), A, (usize, Exit<C, E, R>)>
-    for Stepping<'a, K> {
-    ghost can_turn = { λ k p x. FoldingTakes {E = E} (count_call k.between) count_outcome count_takes (K.can_turn k.turn.now) p x };
+impl<X: Drop, E> Pass<usize, X, E> for StepByPass {
+    type Kept = X;
 
-    ghost turns = { λ k p x r. FoldingTurn (count_call k.between) count_outcome (K.turns k.turn.now) p x r };
+    type Answer = usize;
 
-    fn turn(&self, carried: (C, usize), item: A) -> Result<(C, usize), (usize, Exit<C, E, R>)> {
-        let (value, left) = carried;
-        if 0 < left {
-            return Ok((value, left - 1));
+    ghost can_pass = { λ _ n x. count_takes n x };
+
+    ghost call = { λ k n x v m. count_call k.between n x v m };
+
+    ghost outcome = { λ _ x v. count_outcome x v };
+
+    fn pass(&self, state: usize, item: X) -> (usize, Outcome<X, E>) {
+        if 0 < state {
+            (state - 1, Outcome::LeftOut)
+        } else {
+            (self.between, Outcome::Kept(item))
         }
-        turned(self.turn, value, self.between, Ok(item))
     }
 }

@@ -3,16 +3,16 @@ ghost use Rattle.std.specs.Prelude.{Some, Result, Option};
 ghost use Rattle.fallible_contract.specs.Contract.{seen_as};
 ghost use Rattle.fallible_contract.specs.Closures.{call_at, takes_at};
 ghost use Rattle.fallible_contract.specs.Ends.{from_back, ends_of, ends_seen_as};
-ghost use Rattle.fallible_contract.specs.Folding.{FoldingTakes, FoldingTurn};
-ghost use Rattle.fallible_contract.specs.Passing.{PassTurn};
 ghost use Rattle.fallible_core.specs.Filtering.Filter.{filter_outcome, filter_contract, filter_parts};
 ghost use Rattle.fallible_contract.specs.Laws.Contract.{lawful_seen};
 ghost use Rattle.fallible_contract.specs.Laws.Ends.{lawful_ends_seen};
 ghost use Rattle.fallible_core.specs.Laws.Filtering.Filter.{lawful_filter, lawful_ends_filter};
 
+use crate::passing::{fold_in_slot, rfold_in_slot};
 use crate::traits::FallibleIterator;
 use crate::traits::double_ended::DoubleEndedFallibleIterator;
-use fallible_contract::folds::{Exit, Turn, handed_back, take_out, turned, unpack};
+use fallible_contract::folds::{Exit, FirstTurn, Turn, reached};
+use fallible_contract::passing::{Outcome, Pass};
 
 /// The items to which the predicate answers true. An item on which it fails is lost, and its failure is the answer.
 #[derive(Clone, Debug, Drop)]
@@ -35,10 +35,7 @@ where
 
     /// Draws until an item is kept, a failure comes or an end comes, and calls the predicate on each item.
     fn next(&mut self) -> Result<Option<I::Item>, I::Error> {
-        let f = take_out(&mut self.f);
-        let (f, answer) = unpack(self.it.try_fold_carrying(f, &Asking));
-        self.f = Some(f);
-        answer
+        reached(self.try_fold_carrying((), &FirstTurn))
     }
 
     fn size_hint(&self) -> (usize, Option<usize>) {
@@ -50,11 +47,7 @@ where
         init: C,
         k: &K,
     ) -> Exit<C, I::Error, R> {
-        let f = take_out(&mut self.f);
-        let turn = Filtering { turn: k };
-        let (f, exit) = handed_back(self.it.try_fold_carrying((init, f), &turn));
-        self.f = Some(f);
-        exit
+        fold_in_slot(&mut self.it, &mut self.f, &FilterPass, init, k)
     }
 
     ghost lawful = { lawful_seen filter_parts (lawful_filter F.FnMut I.lawful) };
@@ -71,10 +64,7 @@ where
 
     /// Draws from behind until an item is kept, a failure comes or an end comes, and calls the predicate on each item.
     fn next_back(&mut self) -> Result<Option<I::Item>, I::Error> {
-        let f = take_out(&mut self.f);
-        let (f, answer) = unpack(self.it.try_rfold_carrying(f, &Asking));
-        self.f = Some(f);
-        answer
+        reached(self.try_rfold_carrying((), &FirstTurn))
     }
 
     fn try_rfold_carrying<C, R, K: Turn<C, I::Item, R>>(
@@ -82,55 +72,33 @@ where
         init: C,
         k: &K,
     ) -> Exit<C, I::Error, R> {
-        let f = take_out(&mut self.f);
-        let turn = Filtering { turn: k };
-        let (f, exit) = handed_back(self.it.try_rfold_carrying((init, f), &turn));
-        self.f = Some(f);
-        exit
+        rfold_in_slot(&mut self.it, &mut self.f, &FilterPass, init, k)
     }
 
     ghost lawful_ends = { lawful_ends_seen filter_parts (lawful_ends_filter F.FnMut I.lawful_ends) };
 }
 
-// The turn of `next`: stops at an item that the predicate accepts or fails on, and goes on after one that it refuses.
+// What becomes of an item by the predicate's answer.
 #[derive(Drop)]
-struct Asking;
+struct FilterPass;
 
-impl<X: Drop, E, F: FnMut(&X) -> Result<bool, E>> Turn<F, X, (F, Result<X, E>)> for Asking {
-    ghost can_turn = { λ _ f x. takes_at F.FnMut f x };
+impl<X: Drop, E, F: FnMut(&X) -> Result<bool, E>> Pass<F, X, E> for FilterPass {
+    type Kept = X;
 
-    ghost turns = { λ _ f x r. PassTurn (call_at F.FnMut) filter_outcome f x r };
+    type Answer = Result<bool, E>;
 
-    fn turn(&self, carried: F, item: X) -> Result<F, (F, Result<X, E>)> {
-        let mut f = carried;
+    ghost can_pass = { λ _ f x. takes_at F.FnMut f x };
+
+    ghost call = { λ _ f x v g. call_at F.FnMut f x v g };
+
+    ghost outcome = { λ _ x v. filter_outcome x v };
+
+    fn pass(&self, state: F, item: X) -> (F, Outcome<X, E>) {
+        let mut f = state;
         match f(&item) {
-            Ok(keep) => { if keep { Err((f, Ok(item))) } else { Ok(f) } }
-            Err(e) => Err((f, Err(e))),
-        }
-    }
-}
-
-// The turn of the source's fold: the caller's turn on an item that the predicate accepts.
-#[derive(Drop)]
-struct Filtering<'a, K> {
-    turn: &'a K,
-}
-
-impl<'a, X: Drop, E, C, R, F: FnMut(&X) -> Result<bool, E>, K: Turn<C, X, R>> Turn<
-    (C, F),
-    X,
-    (F, Exit<C, E, R>),
-> for Filtering<'a, K> {
-    ghost can_turn = { λ k p x. FoldingTakes (call_at F.FnMut) filter_outcome (takes_at F.FnMut) (K.can_turn k.turn.now) p x };
-
-    ghost turns = { λ k p x r. FoldingTurn (call_at F.FnMut) filter_outcome (K.turns k.turn.now) p x r };
-
-    fn turn(&self, carried: (C, F), item: X) -> Result<(C, F), (F, Exit<C, E, R>)> {
-        let (value, mut f) = carried;
-        match f(&item) {
-            Ok(true) => turned(self.turn, value, f, Ok(item)),
-            Ok(false) => Ok((value, f)),
-            Err(e) => Err((f, Exit::Failed(value, e))),
+            Ok(true) => (f, Outcome::Kept(item)),
+            Ok(false) => (f, Outcome::LeftOut),
+            Err(e) => (f, Outcome::Failure(e)),
         }
     }
 }

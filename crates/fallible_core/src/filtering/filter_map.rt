@@ -3,16 +3,16 @@ ghost use Rattle.std.specs.Prelude.{Some, Result, Option};
 ghost use Rattle.fallible_contract.specs.Contract.{seen_as};
 ghost use Rattle.fallible_contract.specs.Closures.{call_on, takes_on};
 ghost use Rattle.fallible_contract.specs.Ends.{from_back, ends_of, ends_seen_as};
-ghost use Rattle.fallible_contract.specs.Folding.{FoldingTakes, FoldingTurn};
-ghost use Rattle.fallible_contract.specs.Passing.{PassTurn};
 ghost use Rattle.fallible_core.specs.Filtering.FilterMap.{filter_map_outcome, filter_map_contract, filter_map_parts};
 ghost use Rattle.fallible_contract.specs.Laws.Contract.{lawful_seen};
 ghost use Rattle.fallible_contract.specs.Laws.Ends.{lawful_ends_seen};
 ghost use Rattle.fallible_core.specs.Laws.Filtering.FilterMap.{lawful_filter_map, lawful_ends_filter_map};
 
+use crate::passing::{fold_in_slot, rfold_in_slot};
 use crate::traits::FallibleIterator;
 use crate::traits::double_ended::DoubleEndedFallibleIterator;
-use fallible_contract::folds::{Exit, Turn, handed_back, take_out, turned, unpack};
+use fallible_contract::folds::{Exit, FirstTurn, Turn, reached};
+use fallible_contract::passing::{Outcome, Pass};
 
 /// The values that the closure answers. An item on which it answers none is left out; an item on which it fails is lost, and its failure is the answer.
 #[derive(Clone, Debug, Drop)]
@@ -32,10 +32,7 @@ impl<I: FallibleIterator, B, F: FnMut(I::Item) -> Result<Option<B>, I::Error>> F
 
     /// Draws until the closure answers a value, a failure comes or an end comes, and calls the closure on each item.
     fn next(&mut self) -> Result<Option<B>, I::Error> {
-        let f = take_out(&mut self.f);
-        let (f, value) = unpack(self.it.try_fold_carrying(f, &Asking));
-        self.f = Some(f);
-        value
+        reached(self.try_fold_carrying((), &FirstTurn))
     }
 
     fn size_hint(&self) -> (usize, Option<usize>) {
@@ -47,11 +44,7 @@ impl<I: FallibleIterator, B, F: FnMut(I::Item) -> Result<Option<B>, I::Error>> F
         init: C,
         k: &K,
     ) -> Exit<C, I::Error, R> {
-        let f = take_out(&mut self.f);
-        let turn = FilterMapping { turn: k };
-        let (f, exit) = handed_back(self.it.try_fold_carrying((init, f), &turn));
-        self.f = Some(f);
-        exit
+        fold_in_slot(&mut self.it, &mut self.f, &FilterMapPass, init, k)
     }
 
     ghost lawful = { lawful_seen filter_map_parts (lawful_filter_map F.FnMut I.lawful) };
@@ -66,10 +59,7 @@ impl<
 
     /// Draws from behind until the closure answers a value, a failure comes or an end comes, and calls the closure on each item.
     fn next_back(&mut self) -> Result<Option<B>, I::Error> {
-        let f = take_out(&mut self.f);
-        let (f, answer) = unpack(self.it.try_rfold_carrying(f, &Asking));
-        self.f = Some(f);
-        answer
+        reached(self.try_rfold_carrying((), &FirstTurn))
     }
 
     fn try_rfold_carrying<C, R, K: Turn<C, B, R>>(
@@ -77,56 +67,33 @@ impl<
         init: C,
         k: &K,
     ) -> Exit<C, I::Error, R> {
-        let f = take_out(&mut self.f);
-        let turn = FilterMapping { turn: k };
-        let (f, exit) = handed_back(self.it.try_rfold_carrying((init, f), &turn));
-        self.f = Some(f);
-        exit
+        rfold_in_slot(&mut self.it, &mut self.f, &FilterMapPass, init, k)
     }
 
     ghost lawful_ends = { lawful_ends_seen filter_map_parts (lawful_ends_filter_map F.FnMut I.lawful_ends) };
 }
 
-// The turn of `next`: stops at an item on which the closure answers a value or fails, and goes on after one on which it answers none.
+// What becomes of an item by the closure's answer.
 #[derive(Drop)]
-struct Asking;
+struct FilterMapPass;
 
-impl<X, B, E, F: FnMut(X) -> Result<Option<B>, E>> Turn<F, X, (F, Result<B, E>)> for Asking {
-    ghost can_turn = { λ _ f x. takes_on F.FnMut f x };
+impl<X, B, E, F: FnMut(X) -> Result<Option<B>, E>> Pass<F, X, E> for FilterMapPass {
+    type Kept = B;
 
-    ghost turns = { λ _ f x r. PassTurn (call_on F.FnMut) filter_map_outcome f x r };
+    type Answer = Result<Option<B>, E>;
 
-    fn turn(&self, carried: F, item: X) -> Result<F, (F, Result<B, E>)> {
-        let mut f = carried;
+    ghost can_pass = { λ _ f x. takes_on F.FnMut f x };
+
+    ghost call = { λ _ f x v g. call_on F.FnMut f x v g };
+
+    ghost outcome = { λ _ x v. filter_map_outcome x v };
+
+    fn pass(&self, state: F, item: X) -> (F, Outcome<B, E>) {
+        let mut f = state;
         match f(item) {
-            Ok(Some(y)) => Err((f, Ok(y))),
-            Ok(None) => Ok(f),
-            Err(e) => Err((f, Err(e))),
-        }
-    }
-}
-
-// The turn of the source's fold: the caller's turn on the value that the closure answers.
-#[derive(Drop)]
-struct FilterMapping<'a, K> {
-    turn: &'a K,
-}
-
-impl<'a, X, B, E, C, R, F: FnMut(X) -> Result<Option<B>, E>, K: Turn<C, B, R>> Turn<
-    (C, F),
-    X,
-    (F, Exit<C, E, R>),
-> for FilterMapping<'a, K> {
-    ghost can_turn = { λ k p x. FoldingTakes (call_on F.FnMut) filter_map_outcome (takes_on F.FnMut) (K.can_turn k.turn.now) p x };
-
-    ghost turns = { λ k p x r. FoldingTurn (call_on F.FnMut) filter_map_outcome (K.turns k.turn.now) p x r };
-
-    fn turn(&self, carried: (C, F), item: X) -> Result<(C, F), (F, Exit<C, E, R>)> {
-        let (value, mut f) = carried;
-        match f(item) {
-            Ok(Some(y)) => turned(self.turn, value, f, Ok(y)),
-            Ok(None) => Ok((value, f)),
-            Err(e) => Err((f, Exit::Failed(value, e))),
+            Ok(Some(y)) => (f, Outcome::Kept(y)),
+            Ok(None) => (f, Outcome::LeftOut),
+            Err(e) => (f, Outcome::Failure(e)),
         }
     }
 }

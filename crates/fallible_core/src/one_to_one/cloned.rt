@@ -2,17 +2,17 @@
 ghost use Rattle.std.specs.Prelude.{⊤, Some, Result, Option};
 ghost use Rattle.fallible_contract.specs.Contract.{seen_as};
 ghost use Rattle.fallible_contract.specs.Ends.{from_back, ends_of, ends_seen_as};
-ghost use Rattle.fallible_contract.specs.Folding.{FoldingTakes, FoldingTurn};
-ghost use Rattle.fallible_contract.specs.Passing.{PassAnswer};
 ghost use Rattle.fallible_core.specs.OneToOne.Map.{map_outcome};
 ghost use Rattle.fallible_core.specs.OneToOne.Cloned.{cloned_call, cloned_contract, cloned_parts};
 ghost use Rattle.fallible_contract.specs.Laws.Contract.{lawful_seen};
 ghost use Rattle.fallible_contract.specs.Laws.Ends.{lawful_ends_seen};
 ghost use Rattle.fallible_core.specs.Laws.OneToOne.Cloned.{lawful_cloned, lawful_ends_cloned};
 
+use crate::passing::{fold_passing, rfold_passing};
 use crate::traits::FallibleIterator;
 use crate::traits::double_ended::DoubleEndedFallibleIterator;
-use fallible_contract::folds::{Exit, Turn, handed_back, turned};
+use fallible_contract::folds::{Exit, Turn};
+use fallible_contract::passing::{Outcome, Pass, passed};
 use std::alloc::AllocError;
 
 /// A clone of what each item points to. Where the clone is refused, the failure made of the refusal is the answer and the item is lost.
@@ -33,7 +33,7 @@ where
 
     /// Draws one answer, and clones what it points to where it is an item.
     fn next(&mut self) -> Result<Option<T>, I::Error> {
-        answer(self.it.next())
+        passed(self.it.next(), (), &ClonePass).1
     }
 
     fn size_hint(&self) -> (usize, Option<usize>) {
@@ -45,8 +45,7 @@ where
         init: C,
         k: &K,
     ) -> Exit<C, I::Error, R> {
-        let turn = Cloning { turn: k };
-        handed_back(self.it.try_fold_carrying((init, ()), &turn)).1
+        fold_passing(&mut self.it, (), &ClonePass, init, k).1
     }
 
     ghost lawful = { lawful_seen cloned_parts (lawful_cloned T.is_clone T.is_infallible I.Error.from_gives I.lawful) };
@@ -61,7 +60,7 @@ where
 
     /// Draws one answer from behind, and clones what it points to where it is an item.
     fn next_back(&mut self) -> Result<Option<T>, I::Error> {
-        answer(self.it.next_back())
+        passed(self.it.next_back(), (), &ClonePass).1
     }
 
     fn try_rfold_carrying<C, R, K: Turn<C, T, R>>(
@@ -69,48 +68,31 @@ where
         init: C,
         k: &K,
     ) -> Exit<C, I::Error, R> {
-        let turn = Cloning { turn: k };
-        handed_back(self.it.try_rfold_carrying((init, ()), &turn)).1
+        rfold_passing(&mut self.it, (), &ClonePass, init, k).1
     }
 
     ghost lawful_ends = { lawful_ends_seen cloned_parts (lawful_ends_cloned T.is_clone T.is_infallible I.Error.from_gives I.lawful_ends) };
 }
 
-// One answer of the source, with a clone of what it points to where it is an item.
-fn answer<'a, T: Clone + 'a, E: From<AllocError>>(
-    drawn: Result<Option<&'a T>, E>,
-) -> Result<Option<T>, E>
-    ensures { PassAnswer (cloned_call T.is_clone T.is_infallible E.from_gives) map_outcome tt drawn.entry result tt }
-{
-    match drawn? {
-        Some(x) => match T::clone(x) {
-            Ok(y) => Ok(Some(y)),
-            Err(refused) => Err(E::from(refused)),
-        },
-        None => Ok(None),
-    }
-}
-
-// The turn of the source's fold: the caller's turn on a clone. No closure is handed on.
+// A clone of what an item points to. No closure is carried.
 #[derive(Drop)]
-struct Cloning<'a, K> {
-    turn: &'a K,
-}
+struct ClonePass;
 
-impl<'a, 'b, T: Clone + 'b, E: From<AllocError>, C, R, K: Turn<C, T, R>> Turn<
-    (C, ()),
-    &'b T,
-    ((), Exit<C, E, R>),
-> for Cloning<'a, K> {
-    ghost can_turn = { λ k p x. FoldingTakes (cloned_call T.is_clone T.is_infallible E.from_gives) map_outcome (λ _ _. ⊤) (K.can_turn k.turn.now) p x };
+impl<'b, T: Clone + 'b, E: From<AllocError>> Pass<(), &'b T, E> for ClonePass {
+    type Kept = T;
 
-    ghost turns = { λ k p x r. FoldingTurn (cloned_call T.is_clone T.is_infallible E.from_gives) map_outcome (K.turns k.turn.now) p x r };
+    type Answer = Result<T, E>;
 
-    fn turn(&self, carried: (C, ()), item: &'b T) -> Result<(C, ()), ((), Exit<C, E, R>)> {
-        let (value, none) = carried;
+    ghost can_pass = { λ _ _ _. ⊤ };
+
+    ghost call = { λ _ u x v w. cloned_call T.is_clone T.is_infallible E.from_gives u x v w };
+
+    ghost outcome = { λ _ x v. map_outcome x v };
+
+    fn pass(&self, state: (), item: &'b T) -> ((), Outcome<T, E>) {
         match T::clone(item) {
-            Ok(y) => turned(self.turn, value, none, Ok(y)),
-            Err(refused) => Err((none, Exit::Failed(value, E::from(refused)))),
+            Ok(y) => (state, Outcome::Kept(y)),
+            Err(refused) => (state, Outcome::Failure(E::from(refused))),
         }
     }
 }

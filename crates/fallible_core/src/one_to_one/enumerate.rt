@@ -1,13 +1,14 @@
 // The adapter that numbers the items.
 ghost use Rattle.std.specs.Prelude.{Some, Result, Option};
 ghost use Rattle.fallible_contract.specs.Contract.{seen_as};
-ghost use Rattle.fallible_contract.specs.Folding.{FoldingTakes, FoldingTurn};
 ghost use Rattle.fallible_core.specs.OneToOne.Enumerate.{enumerate_contract, enumerate_parts, number_call, number_outcome, number_takes};
 ghost use Rattle.fallible_contract.specs.Laws.Contract.{lawful_seen};
 ghost use Rattle.fallible_core.specs.Laws.OneToOne.Enumerate.{lawful_enumerate};
 
+use crate::passing::fold_passing;
 use crate::traits::FallibleIterator;
-use fallible_contract::folds::{Exit, Reaching, Turn, handed_back, reached, turned};
+use fallible_contract::folds::{Exit, Reaching, Turn, reached};
+use fallible_contract::passing::{Outcome, Pass, passed};
 
 /// Each item beside the number of items drawn before it. Failures and ends pass, and don't count.
 #[derive(Clone, Debug, Drop)]
@@ -28,15 +29,9 @@ where
 
     /// Draws one answer, and counts it where it is an item.
     fn next(&mut self) -> Result<Option<(usize, I::Item)>, I::Error> {
-        match self.it.next() {
-            Ok(Some(x)) => {
-                let n = self.count;
-                self.count = n + 1;
-                Ok(Some((n, x)))
-            }
-            Ok(None) => Ok(None),
-            Err(e) => Err(e),
-        }
+        let (count, answer) = passed(self.it.next(), self.count, &EnumeratePass);
+        self.count = count;
+        answer
     }
 
     fn size_hint(&self) -> (usize, Option<usize>) {
@@ -49,8 +44,7 @@ where
         init: C,
         k: &K,
     ) -> Exit<C, I::Error, R> {
-        let turn = Numbering { turn: k };
-        let (count, exit) = handed_back(self.it.try_fold_carrying((init, self.count), &turn));
+        let (count, exit) = fold_passing(&mut self.it, self.count, &EnumeratePass, init, k);
         self.count = count;
         exit
     }
@@ -68,20 +62,22 @@ where
     ghost lawful = { lawful_seen enumerate_parts (lawful_enumerate I.lawful) };
 }
 
-// The turn of the source's fold: the item's number, and the caller's turn on both. The number of the next item is handed on.
+// An item beside its number. The number of the next item is carried.
 #[derive(Drop)]
-struct Numbering<'a, K> {
-    turn: &'a K,
-}
+struct EnumeratePass;
 
-impl<'a, A, E, C, R, K: Turn<C, (usize, A), R>> Turn<(C, usize), A, (usize, Exit<C, E, R>)>
-    for Numbering<'a, K> {
-    ghost can_turn = { λ k p x. FoldingTakes {E = E} number_call number_outcome number_takes (K.can_turn k.turn.now) p x };
+impl<X, E> Pass<usize, X, E> for EnumeratePass {
+    type Kept = (usize, X);
 
-    ghost turns = { λ k p x r. FoldingTurn number_call number_outcome (K.turns k.turn.now) p x r };
+    type Answer = usize;
 
-    fn turn(&self, carried: (C, usize), item: A) -> Result<(C, usize), (usize, Exit<C, E, R>)> {
-        let (value, n) = carried;
-        turned(self.turn, value, n + 1, Ok((n, item)))
+    ghost can_pass = { λ _ n x. number_takes n x };
+
+    ghost call = { λ _ n x v k. number_call n x v k };
+
+    ghost outcome = { λ _ x v. number_outcome x v };
+
+    fn pass(&self, state: usize, item: X) -> (usize, Outcome<(usize, X), E>) {
+        (state + 1, Outcome::Kept((state, item)))
     }
 }

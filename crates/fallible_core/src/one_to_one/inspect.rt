@@ -1,18 +1,18 @@
 // The adapter that shows each item to a closure.
 ghost use Rattle.std.specs.Prelude.{Some, Result, Option};
 ghost use Rattle.fallible_contract.specs.Contract.{seen_as};
-ghost use Rattle.fallible_contract.specs.Closures.{call_at, takes_at, call_in};
+ghost use Rattle.fallible_contract.specs.Closures.{call_at, takes_at};
 ghost use Rattle.fallible_contract.specs.Ends.{from_back, ends_of, ends_seen_as};
-ghost use Rattle.fallible_contract.specs.Folding.{FoldingTakes, FoldingTurn};
-ghost use Rattle.fallible_contract.specs.Passing.{PassAnswer, TakesDrawn};
 ghost use Rattle.fallible_core.specs.OneToOne.Inspect.{inspect_contract, inspect_outcome, inspect_parts};
 ghost use Rattle.fallible_contract.specs.Laws.Contract.{lawful_seen};
 ghost use Rattle.fallible_contract.specs.Laws.Ends.{lawful_ends_seen};
 ghost use Rattle.fallible_core.specs.Laws.OneToOne.Inspect.{lawful_inspect, lawful_ends_inspect};
 
+use crate::passing::{fold_in_slot, rfold_in_slot};
 use crate::traits::FallibleIterator;
 use crate::traits::double_ended::DoubleEndedFallibleIterator;
-use fallible_contract::folds::{Exit, Turn, handed_back, take_out, turned};
+use fallible_contract::folds::{Exit, Turn};
+use fallible_contract::passing::{Outcome, Pass, passed_in_slot};
 
 /// The items of the source, each shown to the closure first. An item on which the closure fails is lost, and its failure is the answer.
 #[derive(Clone, Debug, Drop)]
@@ -35,7 +35,7 @@ where
 
     /// Draws one answer, and calls the closure where it is an item.
     fn next(&mut self) -> Result<Option<I::Item>, I::Error> {
-        answer(self.it.next(), &mut self.f)
+        passed_in_slot(self.it.next(), &mut self.f, &InspectPass)
     }
 
     fn size_hint(&self) -> (usize, Option<usize>) {
@@ -47,11 +47,7 @@ where
         init: C,
         k: &K,
     ) -> Exit<C, I::Error, R> {
-        let f = take_out(&mut self.f);
-        let turn = Inspecting { turn: k };
-        let (f, exit) = handed_back(self.it.try_fold_carrying((init, f), &turn));
-        self.f = Some(f);
-        exit
+        fold_in_slot(&mut self.it, &mut self.f, &InspectPass, init, k)
     }
 
     ghost lawful = { lawful_seen inspect_parts (lawful_inspect F.FnMut I.lawful) };
@@ -68,7 +64,7 @@ where
 
     /// Draws one answer from behind, and calls the closure where it is an item.
     fn next_back(&mut self) -> Result<Option<I::Item>, I::Error> {
-        answer(self.it.next_back(), &mut self.f)
+        passed_in_slot(self.it.next_back(), &mut self.f, &InspectPass)
     }
 
     fn try_rfold_carrying<C, R, K: Turn<C, I::Item, R>>(
@@ -76,56 +72,32 @@ where
         init: C,
         k: &K,
     ) -> Exit<C, I::Error, R> {
-        let f = take_out(&mut self.f);
-        let turn = Inspecting { turn: k };
-        let (f, exit) = handed_back(self.it.try_rfold_carrying((init, f), &turn));
-        self.f = Some(f);
-        exit
+        rfold_in_slot(&mut self.it, &mut self.f, &InspectPass, init, k)
     }
 
     ghost lawful_ends = { lawful_ends_seen inspect_parts (lawful_ends_inspect F.FnMut I.lawful_ends) };
 }
 
-// One answer of the source, shown to the closure where it is an item.
-fn answer<X: Drop, E, F: FnMut(&X) -> Result<(), E>>(
-    drawn: Result<Option<X>, E>,
-    slot: &mut Option<F>,
-) -> Result<Option<X>, E>
-    requires { TakesDrawn (takes_at F.FnMut) slot.old drawn }
-    ensures { PassAnswer (call_in (call_at F.FnMut)) inspect_outcome slot.old drawn result slot.new }
-{
-    match drawn? {
-        Some(x) => match slot {
-            Some(f) => {
-                f(&x)?;
-                Ok(Some(x))
-            }
-            None => unreachable!(),
-        },
-        None => Ok(None),
-    }
-}
-
-// The turn of the source's fold: the closure sees the item, and then the caller's turn is taken on it.
+// What becomes of an item once the closure saw it.
 #[derive(Drop)]
-struct Inspecting<'a, K> {
-    turn: &'a K,
-}
+struct InspectPass;
 
-impl<'a, X: Drop, E, C, R, F: FnMut(&X) -> Result<(), E>, K: Turn<C, X, R>> Turn<
-    (C, F),
-    X,
-    (F, Exit<C, E, R>),
-> for Inspecting<'a, K> {
-    ghost can_turn = { λ k p x. FoldingTakes (call_at F.FnMut) inspect_outcome (takes_at F.FnMut) (K.can_turn k.turn.now) p x };
+impl<X: Drop, E, F: FnMut(&X) -> Result<(), E>> Pass<F, X, E> for InspectPass {
+    type Kept = X;
 
-    ghost turns = { λ k p x r. FoldingTurn (call_at F.FnMut) inspect_outcome (K.turns k.turn.now) p x r };
+    type Answer = Result<(), E>;
 
-    fn turn(&self, carried: (C, F), item: X) -> Result<(C, F), (F, Exit<C, E, R>)> {
-        let (value, mut f) = carried;
+    ghost can_pass = { λ _ f x. takes_at F.FnMut f x };
+
+    ghost call = { λ _ f x v g. call_at F.FnMut f x v g };
+
+    ghost outcome = { λ _ x v. inspect_outcome x v };
+
+    fn pass(&self, state: F, item: X) -> (F, Outcome<X, E>) {
+        let mut f = state;
         match f(&item) {
-            Ok(()) => turned(self.turn, value, f, Ok(item)),
-            Err(e) => Err((f, Exit::Failed(value, e))),
+            Ok(()) => (f, Outcome::Kept(item)),
+            Err(e) => (f, Outcome::Failure(e)),
         }
     }
 }

@@ -1,18 +1,18 @@
 // The adapter that calls a closure on each item.
 ghost use Rattle.std.specs.Prelude.{Some, Result, Option};
 ghost use Rattle.fallible_contract.specs.Contract.{seen_as};
-ghost use Rattle.fallible_contract.specs.Closures.{call_on, takes_on, call_in};
+ghost use Rattle.fallible_contract.specs.Closures.{call_on, takes_on};
 ghost use Rattle.fallible_contract.specs.Ends.{from_back, ends_of, ends_seen_as};
-ghost use Rattle.fallible_contract.specs.Folding.{FoldingTakes, FoldingTurn};
-ghost use Rattle.fallible_contract.specs.Passing.{PassAnswer, TakesDrawn};
 ghost use Rattle.fallible_core.specs.OneToOne.Map.{map_contract, map_outcome, map_parts};
 ghost use Rattle.fallible_contract.specs.Laws.Contract.{lawful_seen};
 ghost use Rattle.fallible_contract.specs.Laws.Ends.{lawful_ends_seen};
 ghost use Rattle.fallible_core.specs.Laws.OneToOne.Map.{lawful_map, lawful_ends_map};
 
+use crate::passing::{fold_in_slot, rfold_in_slot};
 use crate::traits::FallibleIterator;
 use crate::traits::double_ended::DoubleEndedFallibleIterator;
-use fallible_contract::folds::{Exit, Turn, handed_back, take_out, turned};
+use fallible_contract::folds::{Exit, Turn};
+use fallible_contract::passing::{Outcome, Pass, passed_in_slot};
 use std::fmt;
 
 /// Each item replaced by the closure's answer on it; where the closure fails, its failure is the answer and the item is lost.
@@ -41,7 +41,7 @@ impl<I: FallibleIterator, B, F: FnMut(I::Item) -> Result<B, I::Error>> FallibleI
 
     /// Draws one answer, and calls the closure where it is an item.
     fn next(&mut self) -> Result<Option<B>, I::Error> {
-        answer(self.it.next(), &mut self.f)
+        passed_in_slot(self.it.next(), &mut self.f, &MapPass)
     }
 
     fn size_hint(&self) -> (usize, Option<usize>) {
@@ -53,11 +53,7 @@ impl<I: FallibleIterator, B, F: FnMut(I::Item) -> Result<B, I::Error>> FallibleI
         init: C,
         k: &K,
     ) -> Exit<C, I::Error, R> {
-        let f = take_out(&mut self.f);
-        let turn = Mapping { turn: k };
-        let (f, exit) = handed_back(self.it.try_fold_carrying((init, f), &turn));
-        self.f = Some(f);
-        exit
+        fold_in_slot(&mut self.it, &mut self.f, &MapPass, init, k)
     }
 
     ghost lawful = { lawful_seen map_parts (lawful_map F.FnMut I.lawful) };
@@ -72,7 +68,7 @@ impl<
 
     /// Draws one answer from behind, and calls the closure where it is an item.
     fn next_back(&mut self) -> Result<Option<B>, I::Error> {
-        answer(self.it.next_back(), &mut self.f)
+        passed_in_slot(self.it.next_back(), &mut self.f, &MapPass)
     }
 
     fn try_rfold_carrying<C, R, K: Turn<C, B, R>>(
@@ -80,51 +76,32 @@ impl<
         init: C,
         k: &K,
     ) -> Exit<C, I::Error, R> {
-        let f = take_out(&mut self.f);
-        let turn = Mapping { turn: k };
-        let (f, exit) = handed_back(self.it.try_rfold_carrying((init, f), &turn));
-        self.f = Some(f);
-        exit
+        rfold_in_slot(&mut self.it, &mut self.f, &MapPass, init, k)
     }
 
     ghost lawful_ends = { lawful_ends_seen map_parts (lawful_ends_map F.FnMut I.lawful_ends) };
 }
 
-// What the closure makes of one answer of the source: it is called where that is an item.
-fn answer<X, B, E, F: FnMut(X) -> Result<B, E>>(
-    drawn: Result<Option<X>, E>,
-    slot: &mut Option<F>,
-) -> Result<Option<B>, E>
-    requires { TakesDrawn (takes_on F.FnMut) slot.old drawn }
-    ensures { PassAnswer (call_in (call_on F.FnMut)) map_outcome slot.old drawn result slot.new }
-{
-    match drawn? {
-        Some(x) => match slot {
-            Some(f) => Ok(Some(f(x)?)),
-            None => unreachable!(),
-        },
-        None => Ok(None),
-    }
-}
-
-// The turn of the source's fold: the closure's answer on the item, and on that the caller's turn.
+// What the closure makes of an item.
 #[derive(Drop)]
-struct Mapping<'a, K> {
-    turn: &'a K,
-}
+struct MapPass;
 
-impl<'a, X, B, E, C, R, F: FnMut(X) -> Result<B, E>, K: Turn<C, B, R>> Turn<
-    (C, F),
-    X,
-    (F, Exit<C, E, R>),
-> for Mapping<'a, K> {
-    ghost can_turn = { λ k p x. FoldingTakes (call_on F.FnMut) map_outcome (takes_on F.FnMut) (K.can_turn k.turn.now) p x };
+impl<X, B, E, F: FnMut(X) -> Result<B, E>> Pass<F, X, E> for MapPass {
+    type Kept = B;
 
-    ghost turns = { λ k p x r. FoldingTurn (call_on F.FnMut) map_outcome (K.turns k.turn.now) p x r };
+    type Answer = Result<B, E>;
 
-    fn turn(&self, carried: (C, F), item: X) -> Result<(C, F), (F, Exit<C, E, R>)> {
-        let (value, mut f) = carried;
-        let made = f(item);
-        turned(self.turn, value, f, made)
+    ghost can_pass = { λ _ f x. takes_on F.FnMut f x };
+
+    ghost call = { λ _ f x v g. call_on F.FnMut f x v g };
+
+    ghost outcome = { λ _ x v. map_outcome x v };
+
+    fn pass(&self, state: F, item: X) -> (F, Outcome<B, E>) {
+        let mut f = state;
+        match f(item) {
+            Ok(y) => (f, Outcome::Kept(y)),
+            Err(e) => (f, Outcome::Failure(e)),
+        }
     }
 }

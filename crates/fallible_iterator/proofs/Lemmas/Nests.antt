@@ -3,7 +3,8 @@ use Rattle.std.specs.Prelude.{◌≡◌, ℕ, List, [], ◌∷◌, map}
 use Rattle.std.specs.Borrow.{MutBor}
 use Rattle.std.proofs.Common.{refl, sym, ap, subst, ◌∙◌}
 use Rattle.fallible_contract.specs.Traces.{Answered, Run}
-use Rattle.fallible_contract.specs.Passing.{Outcome, source_answer, PassTrace}
+use Rattle.fallible_contract.specs.declared.passing.Outcome.{Outcome}
+use Rattle.fallible_contract.specs.Passing.{source_answer, PassTrace}
 use Rattle.fallible_core.specs.Cutting.Take.{TakeTrace}
 use Rattle.fallible_iterator.specs.Nests.{first_of}
 

@@ -5,12 +5,14 @@ use Rattle.std.proofs.Common.{refl, sym, ap, subst, ◌∙◌}
 use Rattle.std.proofs.lemmas.List.{append-nil, reverse-append, map-append}
 use Rattle.std.proofs.lemmas.List.Elements.{filter_map-append, All-nil, All-cons, All-head, All-tail, All-append}
 use Rattle.fallible_contract.specs.Traces.{Answered, item, end}
+use Rattle.fallible_contract.specs.Passing.{passing_step}
 use Rattle.fallible_contract.specs.Closures.{Calls, Steady, call_in}
-use Rattle.fallible_contract.specs.Passing.{Outcome, kept, left_out, failed, an_end}
+use Rattle.fallible_contract.specs.declared.passing.Outcome.{Outcome}
+use Rattle.fallible_contract.specs.declared.passing.Outcome.TheVariants.{Kept, LeftOut, Failure, End}
 use Rattle.fallible_contract.specs.Laws.Passing.{Passes, done, ends, fails, keeps, refuses, closes, leaves_out, to_passes}
 use Rattle.fallible_contract.specs.Listed.{TakesFirst, Listed, item_listed, items_listed, source_result, source_list, outcome_listed, passed_result, passed_list}
 use Rattle.fallible_contract.specs.Lists.{Acts}
-use Rattle.fallible_contract.proofs.Lemmas.Lists.Passing.{passing_step, by_outcome, passed}
+use Rattle.fallible_contract.proofs.Lemmas.Lists.Passing.{by_outcome, passed}
 use Rattle.fallible_contract.proofs.Lemmas.Listed.{takes_front, listed_by_swapping, listed_swapped}
 
 -- ---- lists reversed
@@ -56,7 +58,7 @@ module _ {F X R : Type 0} (call : F → X → R → F → Type 0) where
 
 -- ---- draws from the front
 
-module _ {S F X R B E : Type 0} (front back : S → Answered X E → S → Type 0) (call : F → X → R → F → Type 0) (outcome : X → R → Outcome B E) (never_ends : (x : X) (v : R) → outcome x v ≡ an_end → ⊥) where
+module _ {S F X R B E : Type 0} (front back : S → Answered X E → S → Type 0) (call : F → X → R → F → Type 0) (outcome : X → R → Outcome B E) (never_ends : (x : X) (v : R) → outcome x v ≡ End → ⊥) where
   -- what is listed of the source and its closure
   pub record Says (p : S × F) (l : List (Result B E)) : Type 0 where
     pub asked : List (Result (X × R) E)
@@ -115,7 +117,7 @@ module _ {S F X R B E : Type 0} (front back : S → Answered X E → S → Type 
 
 -- ---- draws from behind are draws from the front of the ends swapped
 
-module _ {S F X R B E : Type 0} (front back : S → Answered X E → S → Type 0) (call : F → X → R → F → Type 0) (outcome : X → R → Outcome B E) (never_ends : (x : X) (v : R) → outcome x v ≡ an_end → ⊥) where
+module _ {S F X R B E : Type 0} (front back : S → Answered X E → S → Type 0) (call : F → X → R → F → Type 0) (outcome : X → R → Outcome B E) (never_ends : (x : X) (v : R) → outcome x v ≡ End → ⊥) where
   abbrev SaysBoth : S × F → List (Result B E) → Type 0
   SaysBoth = Says front back call outcome never_ends
 
@@ -130,7 +132,7 @@ module _ {S F X R B E : Type 0} (front back : S → Answered X E → S → Type 
   passed_front : (p : S × F) (l : List (Result B E)) → SaysBoth p l → (r : Answered B E) (q : S × F) → passing_step front call outcome p r q → TakesFirst (λ k. SaysBoth q k) r l
   passed_front p l a r q step = subst (λ (k : List (Result B E)). TakesFirst (λ j. SaysBoth q j) r k) (sym a.list_is) (front_taken front back call outcome never_ends a.asked p.0 q.0 p.1 q.1 r a.listed a.steady (to_passes step))
 
-module _ {S F X R B E : Type 0} (front back : S → Answered X E → S → Type 0) (call : F → X → R → F → Type 0) (outcome : X → R → Outcome B E) (never_ends : (x : X) (v : R) → outcome x v ≡ an_end → ⊥) where
+module _ {S F X R B E : Type 0} (front back : S → Answered X E → S → Type 0) (call : F → X → R → F → Type 0) (outcome : X → R → Outcome B E) (never_ends : (x : X) (v : R) → outcome x v ≡ End → ⊥) where
   -- The source lists what it was asked of, and the closure gives the answers beside the items, in whatever state: the adapter lists what becomes of them.
   pub listed_passed : (asked : List (Result (X × R) E)) (s : S) (f : F) → Steady call f (items_listed asked) → Listed front back s (source_list asked) → Listed (passing_step front call outcome) (passing_step back call outcome) (s, f) (passed_list outcome asked)
   listed_passed asked s f steady i = listed_by_swapping (passing_step front call outcome) (passing_step back call outcome) (Says front back call outcome never_ends) (Says back front call outcome never_ends) (says_swapped back front call outcome never_ends) (says_swapped front back call outcome never_ends) (passed_front front back call outcome never_ends) (passed_front back front call outcome never_ends) (s, f) (passed_list outcome asked) (record { asked = asked; list_is = refl; listed = i; steady = steady })
@@ -160,7 +162,7 @@ module _ {F X R : Type 0} (call : F → X → R → F → Type 0) where
       subst (λ (slot : Option F). All (GivesAt (call_in call) slot q) pairs) (sym one.1)
       (given_in_slot q one.0 pairs (λ h. steady made one.0 h one.2))
 
-module _ {S F X R B E : Type 0} (front back : S → Answered X E → S → Type 0) (call : F → X → R → F → Type 0) (outcome : X → R → Outcome B E) (never_ends : (x : X) (v : R) → outcome x v ≡ an_end → ⊥) where
+module _ {S F X R B E : Type 0} (front back : S → Answered X E → S → Type 0) (call : F → X → R → F → Type 0) (outcome : X → R → Outcome B E) (never_ends : (x : X) (v : R) → outcome x v ≡ End → ⊥) where
   -- what an adapter lists whose closure stands in its slot
   pub listed_in_slot : (asked : List (Result (X × R) E)) (s : S) (f : F) → Steady call f (items_listed asked) → Listed front back s (source_list asked)
       → Listed (passing_step front (call_in call) outcome) (passing_step back (call_in call) outcome) (s, Some f) (passed_list outcome asked)
@@ -192,12 +194,12 @@ module _ {F X R : Type 0} (call : F → X → R → F → Type 0) (f : F) (h : X
   steady_acting : {E : Type 0} (l : List (Result X E)) → Steady call f (items_listed (map (beside h) l))
   steady_acting l = λ made p q w. subst (λ (g : F). All (GivesAt call g q) (items_listed (map (beside h) l))) (sym (stays_acting made p w)) (given_acting q l)
 
-module _ {F X R B E : Type 0} (call : F → X → R → F → Type 0) (outcome : X → R → Outcome B E) (never_ends : (x : X) (v : R) → outcome x v ≡ an_end → ⊥) (f : F) (h : X → R) (acts : Acts call f h) where
-  outcome_acting : (o : Outcome B E) → (o ≡ an_end → ⊥) → (l : List (Result B E)) → cons_option (outcome_listed o) l ≡ by_outcome o l
-  outcome_acting (kept y) not_end l = refl
-  outcome_acting left_out not_end l = refl
-  outcome_acting (failed e) not_end l = refl
-  outcome_acting an_end not_end l = absurd (not_end refl)
+module _ {F X R B E : Type 0} (call : F → X → R → F → Type 0) (outcome : X → R → Outcome B E) (never_ends : (x : X) (v : R) → outcome x v ≡ End → ⊥) (f : F) (h : X → R) (acts : Acts call f h) where
+  outcome_acting : (o : Outcome B E) → (o ≡ End → ⊥) → (l : List (Result B E)) → cons_option (outcome_listed o) l ≡ by_outcome o l
+  outcome_acting (Kept y) not_end l = refl
+  outcome_acting LeftOut not_end l = refl
+  outcome_acting (Failure e) not_end l = refl
+  outcome_acting End not_end l = absurd (not_end refl)
 
   passed_acting : (l : List (Result X E)) → passed_list outcome (map (beside h) l) ≡ passed outcome (λ (p : Unit {0}) x. h x) (λ p x. p) tt l
   passed_acting [] = refl

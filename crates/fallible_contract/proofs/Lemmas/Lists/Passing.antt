@@ -3,7 +3,9 @@ use Rattle.std.specs.Prelude.{◌≡◌, Option, Result, Some, None, Ok, Err, Li
 use Rattle.std.proofs.Common.{refl, sym, ap, subst, ◌∙◌}
 use Rattle.fallible_contract.specs.Traces.{Answered}
 use Rattle.fallible_contract.specs.Closures.{call_in}
-use Rattle.fallible_contract.specs.Passing.{Outcome, PassTrace, kept, left_out, failed, an_end}
+use Rattle.fallible_contract.specs.declared.passing.Outcome.{Outcome}
+use Rattle.fallible_contract.specs.declared.passing.Outcome.TheVariants.{Kept, LeftOut, Failure, End}
+use Rattle.fallible_contract.specs.Passing.{PassTrace, passing_step}
 use Rattle.fallible_contract.specs.Laws.Passing.{Passes, done, ends, fails, keeps, refuses, closes, leaves_out, to_passes, from_passes}
 use Rattle.fallible_contract.specs.Lists.{AlwaysGives, Lists, Acts}
 
@@ -12,10 +14,6 @@ module _ {S A E : Type 0} (steps : S → Answered A E → S → Type 0) where
   pub gives_if : (l : List (Result A E)) (s : S) → ((r : Answered A E) (t : S) → steps s r t → (u : S) × steps u r t × AlwaysGives steps u l) → AlwaysGives steps s l
   gives_if [] s f = λ r t w. let d = f r t w in d.2 r t d.1
   gives_if (y ∷ l) s f = λ r t w. let d = f r t w in d.2 r t d.1
-
--- one draw of such an adapter
-abbrev pub passing_step : {S F X R B E : Type 0} → (S → Answered X E → S → Type 0) → (F → X → R → F → Type 0) → (X → R → Outcome B E) → S × F → Answered B E → S × F → Type 0
-passing_step steps call outcome p r q = PassTrace steps call outcome p (r ∷ []) q
 
 -- a value whose answers are those of its parts lists what they list
 pub gives_seen : {V P A E : Type 0} (view : V → P) (steps : P → Answered A E → P → Type 0) (l : List (Result A E)) (s : V) → AlwaysGives steps (view s) l → AlwaysGives (λ u r v. steps (view u) r (view v)) s l
@@ -28,10 +26,10 @@ lists_seen {A = A} {E = E} view steps s {p = p} {l = l} {k = k} at same a = reco
 
 -- what an outcome puts before the rest of the list
 abbrev pub by_outcome : {B E : Type 0} → Outcome B E → List (Result B E) → List (Result B E)
-by_outcome (kept y) rest = Ok y ∷ rest
-by_outcome left_out rest = rest
-by_outcome (failed e) rest = Err e ∷ rest
-by_outcome an_end rest = []
+by_outcome (Kept y) rest = Ok y ∷ rest
+by_outcome LeftOut rest = rest
+by_outcome (Failure e) rest = Err e ∷ rest
+by_outcome End rest = []
 
 module _ {P X R B E : Type 0} (outcome : X → R → Outcome B E) (answers : P → X → R) (next : P → X → P) where
   -- the list of an adapter whose closure is at p: called on x it answers `answers p x`, and is then at `next p x`
@@ -79,50 +77,50 @@ module _ {S F P X R B E : Type 0} (steps : S → Answered X E → S → Type 0) 
         others = h.1;
       }
 
-  kept_given : (l : List (Result X E)) (rest : List (Result B E)) (x : X) (y : B) (s : S) (f : F) (p : P) → outcome x (answers p x) ≡ kept y → At f p → AlwaysGives steps s (Ok x ∷ l)
+  kept_given : (l : List (Result X E)) (rest : List (Result B E)) (x : X) (y : B) (s : S) (f : F) (p : P) → outcome x (answers p x) ≡ Kept y → At f p → AlwaysGives steps s (Ok x ∷ l)
       → ((u : S) (g : F) → At g (next p x) → AlwaysGives steps u l → Gives u g rest) → (r : Answered B E) (t : S) (g : F) → Passes steps call outcome s f (r ∷ []) t g → (r ≡ Ok (Some y)) × Gives t g rest
   kept_given l rest x y s f p is at a then _ t g (ends step c) = absurd (let h = (a (Ok None) _ step).0 in cc)
   kept_given l rest x y s f p is at a then _ t g (fails e step c) = absurd (let h = (a (Err e) _ step).0 in cc)
-  kept_given l rest x y s f p is at a then _ t g (keeps z v w step called out done) = let k = called_as l x (kept y) s f p is at a z v t g step called in ((let q = sym out ∙ k.outcome_is in cc), then t g k.at k.others)
-  kept_given l rest x y s f p is at a then _ t g (refuses z v e step called out c) = absurd (let q = sym out ∙ (called_as l x (kept y) s f p is at a z v _ _ step called).outcome_is in cc)
-  kept_given l rest x y s f p is at a then _ t g (closes z v step called out c) = absurd (let q = sym out ∙ (called_as l x (kept y) s f p is at a z v _ _ step called).outcome_is in cc)
-  kept_given l rest x y s f p is at a then r t g (leaves_out z v step called out c) = absurd (let q = sym out ∙ (called_as l x (kept y) s f p is at a z v _ _ step called).outcome_is in cc)
+  kept_given l rest x y s f p is at a then _ t g (keeps z v w step called out done) = let k = called_as l x (Kept y) s f p is at a z v t g step called in ((let q = sym out ∙ k.outcome_is in cc), then t g k.at k.others)
+  kept_given l rest x y s f p is at a then _ t g (refuses z v e step called out c) = absurd (let q = sym out ∙ (called_as l x (Kept y) s f p is at a z v _ _ step called).outcome_is in cc)
+  kept_given l rest x y s f p is at a then _ t g (closes z v step called out c) = absurd (let q = sym out ∙ (called_as l x (Kept y) s f p is at a z v _ _ step called).outcome_is in cc)
+  kept_given l rest x y s f p is at a then r t g (leaves_out z v step called out c) = absurd (let q = sym out ∙ (called_as l x (Kept y) s f p is at a z v _ _ step called).outcome_is in cc)
 
-  failed_given : (l : List (Result X E)) (rest : List (Result B E)) (x : X) (d : E) (s : S) (f : F) (p : P) → outcome x (answers p x) ≡ failed d → At f p → AlwaysGives steps s (Ok x ∷ l)
+  failed_given : (l : List (Result X E)) (rest : List (Result B E)) (x : X) (d : E) (s : S) (f : F) (p : P) → outcome x (answers p x) ≡ Failure d → At f p → AlwaysGives steps s (Ok x ∷ l)
       → ((u : S) (g : F) → At g (next p x) → AlwaysGives steps u l → Gives u g rest) → (r : Answered B E) (t : S) (g : F) → Passes steps call outcome s f (r ∷ []) t g → (r ≡ Err d) × Gives t g rest
   failed_given l rest x d s f p is at a then _ t g (ends step c) = absurd (let h = (a (Ok None) _ step).0 in cc)
   failed_given l rest x d s f p is at a then _ t g (fails e step c) = absurd (let h = (a (Err e) _ step).0 in cc)
-  failed_given l rest x d s f p is at a then _ t g (keeps z v w step called out c) = absurd (let q = sym out ∙ (called_as l x (failed d) s f p is at a z v _ _ step called).outcome_is in cc)
-  failed_given l rest x d s f p is at a then _ t g (refuses z v e step called out done) = let k = called_as l x (failed d) s f p is at a z v t g step called in ((let q = sym out ∙ k.outcome_is in cc), then t g k.at k.others)
-  failed_given l rest x d s f p is at a then _ t g (closes z v step called out c) = absurd (let q = sym out ∙ (called_as l x (failed d) s f p is at a z v _ _ step called).outcome_is in cc)
-  failed_given l rest x d s f p is at a then r t g (leaves_out z v step called out c) = absurd (let q = sym out ∙ (called_as l x (failed d) s f p is at a z v _ _ step called).outcome_is in cc)
+  failed_given l rest x d s f p is at a then _ t g (keeps z v w step called out c) = absurd (let q = sym out ∙ (called_as l x (Failure d) s f p is at a z v _ _ step called).outcome_is in cc)
+  failed_given l rest x d s f p is at a then _ t g (refuses z v e step called out done) = let k = called_as l x (Failure d) s f p is at a z v t g step called in ((let q = sym out ∙ k.outcome_is in cc), then t g k.at k.others)
+  failed_given l rest x d s f p is at a then _ t g (closes z v step called out c) = absurd (let q = sym out ∙ (called_as l x (Failure d) s f p is at a z v _ _ step called).outcome_is in cc)
+  failed_given l rest x d s f p is at a then r t g (leaves_out z v step called out c) = absurd (let q = sym out ∙ (called_as l x (Failure d) s f p is at a z v _ _ step called).outcome_is in cc)
 
-  end_given : (l : List (Result X E)) (x : X) (s : S) (f : F) (p : P) → outcome x (answers p x) ≡ an_end → At f p → AlwaysGives steps s (Ok x ∷ l)
+  end_given : (l : List (Result X E)) (x : X) (s : S) (f : F) (p : P) → outcome x (answers p x) ≡ End → At f p → AlwaysGives steps s (Ok x ∷ l)
       → (r : Answered B E) (t : S) (g : F) → Passes steps call outcome s f (r ∷ []) t g → r ≡ Ok None
   end_given l x s f p is at a _ t g (ends step c) = refl
   end_given l x s f p is at a _ t g (fails e step c) = absurd (let h = (a (Err e) _ step).0 in cc)
-  end_given l x s f p is at a _ t g (keeps z v w step called out c) = absurd (let q = sym out ∙ (called_as l x an_end s f p is at a z v _ _ step called).outcome_is in cc)
-  end_given l x s f p is at a _ t g (refuses z v e step called out c) = absurd (let q = sym out ∙ (called_as l x an_end s f p is at a z v _ _ step called).outcome_is in cc)
+  end_given l x s f p is at a _ t g (keeps z v w step called out c) = absurd (let q = sym out ∙ (called_as l x End s f p is at a z v _ _ step called).outcome_is in cc)
+  end_given l x s f p is at a _ t g (refuses z v e step called out c) = absurd (let q = sym out ∙ (called_as l x End s f p is at a z v _ _ step called).outcome_is in cc)
   end_given l x s f p is at a _ t g (closes z v step called out c) = refl
-  end_given l x s f p is at a r t g (leaves_out z v step called out c) = absurd (let q = sym out ∙ (called_as l x an_end s f p is at a z v _ _ step called).outcome_is in cc)
+  end_given l x s f p is at a r t g (leaves_out z v step called out c) = absurd (let q = sym out ∙ (called_as l x End s f p is at a z v _ _ step called).outcome_is in cc)
 
   -- a state from which the draw is made once the item is left out
-  left_given : (l : List (Result X E)) (rest : List (Result B E)) (x : X) (s : S) (f : F) (p : P) → outcome x (answers p x) ≡ left_out → At f p → AlwaysGives steps s (Ok x ∷ l)
+  left_given : (l : List (Result X E)) (rest : List (Result B E)) (x : X) (s : S) (f : F) (p : P) → outcome x (answers p x) ≡ LeftOut → At f p → AlwaysGives steps s (Ok x ∷ l)
       → ((u : S) (g : F) → At g (next p x) → AlwaysGives steps u l → Gives u g rest) → (r : Answered B E) (t : S) (g : F) → Passes steps call outcome s f (r ∷ []) t g
       → (q : S × F) × passing_step steps call outcome q r (t, g) × AlwaysGives (passing_step steps call outcome) q rest
   left_given l rest x s f p is at a then _ t g (ends step c) = absurd (let h = (a (Ok None) _ step).0 in cc)
   left_given l rest x s f p is at a then _ t g (fails e step c) = absurd (let h = (a (Err e) _ step).0 in cc)
-  left_given l rest x s f p is at a then _ t g (keeps z v w step called out c) = absurd (let q = sym out ∙ (called_as l x left_out s f p is at a z v _ _ step called).outcome_is in cc)
-  left_given l rest x s f p is at a then _ t g (refuses z v e step called out c) = absurd (let q = sym out ∙ (called_as l x left_out s f p is at a z v _ _ step called).outcome_is in cc)
-  left_given l rest x s f p is at a then _ t g (closes z v step called out c) = absurd (let q = sym out ∙ (called_as l x left_out s f p is at a z v _ _ step called).outcome_is in cc)
-  left_given l rest x s f p is at a then r t g (leaves_out {u = u} {h = h} z v step called out c) = let k = called_as l x left_out s f p is at a z v u h step called in ((u, h), from_passes c, then u h k.at k.others)
+  left_given l rest x s f p is at a then _ t g (keeps z v w step called out c) = absurd (let q = sym out ∙ (called_as l x LeftOut s f p is at a z v _ _ step called).outcome_is in cc)
+  left_given l rest x s f p is at a then _ t g (refuses z v e step called out c) = absurd (let q = sym out ∙ (called_as l x LeftOut s f p is at a z v _ _ step called).outcome_is in cc)
+  left_given l rest x s f p is at a then _ t g (closes z v step called out c) = absurd (let q = sym out ∙ (called_as l x LeftOut s f p is at a z v _ _ step called).outcome_is in cc)
+  left_given l rest x s f p is at a then r t g (leaves_out {u = u} {h = h} z v step called out c) = let k = called_as l x LeftOut s f p is at a z v u h step called in ((u, h), from_passes c, then u h k.at k.others)
 
   item_given : (l : List (Result X E)) (rest : List (Result B E)) (x : X) (o : Outcome B E) (s : S) (f : F) (p : P) → outcome x (answers p x) ≡ o → At f p → AlwaysGives steps s (Ok x ∷ l)
       → ((u : S) (g : F) → At g (next p x) → AlwaysGives steps u l → Gives u g rest) → Gives s f (by_outcome o rest)
-  item_given l rest x (kept y) s f p is at a then = λ r t w. kept_given l rest x y s f p is at a then r t.0 t.1 (to_passes w)
-  item_given l rest x (failed d) s f p is at a then = λ r t w. failed_given l rest x d s f p is at a then r t.0 t.1 (to_passes w)
-  item_given l rest x an_end s f p is at a then = λ r t w. end_given l x s f p is at a r t.0 t.1 (to_passes w)
-  item_given l rest x left_out s f p is at a then = gives_if (passing_step steps call outcome) rest (s, f) (λ r t w. left_given l rest x s f p is at a then r t.0 t.1 (to_passes w))
+  item_given l rest x (Kept y) s f p is at a then = λ r t w. kept_given l rest x y s f p is at a then r t.0 t.1 (to_passes w)
+  item_given l rest x (Failure d) s f p is at a then = λ r t w. failed_given l rest x d s f p is at a then r t.0 t.1 (to_passes w)
+  item_given l rest x End s f p is at a then = λ r t w. end_given l x s f p is at a r t.0 t.1 (to_passes w)
+  item_given l rest x LeftOut s f p is at a then = gives_if (passing_step steps call outcome) rest (s, f) (λ r t w. left_given l rest x s f p is at a then r t.0 t.1 (to_passes w))
 
   pub all_given : (l : List (Result X E)) (s : S) (f : F) (p : P) → At f p → AlwaysGives steps s l → Gives s f (passed outcome answers next p l)
   all_given [] s f p at a = λ r t w. none_given s f r t.0 t.1 a (to_passes w)

@@ -7,10 +7,10 @@ use Rattle.std.proofs.Common.{refl, sym, ap, subst, ◌∙◌}
 use Rattle.fallible_core.specs.declared.cutting.take_while.TakeWhile.{TakeWhile}
 use Rattle.fallible_contract.specs.Contract.{Contract, seen_as}
 use Rattle.fallible_contract.specs.Lists.{AlwaysGives, Lists, Acts, result_answer, cons_while, taken_while}
-use Rattle.fallible_contract.proofs.Lemmas.Lists.Passing.{passed, by_outcome, passing_step, lists_seen, lists_passed}
+use Rattle.fallible_contract.proofs.Lemmas.Lists.Passing.{passed, by_outcome, lists_seen, lists_passed}
 use Rattle.fallible_contract.specs.Traces.{Answered, Run}
 use Rattle.fallible_contract.specs.Closures.{Calls, call_in, call_at}
-use Rattle.fallible_contract.specs.Passing.{Place, asked, failure_at, end_at, source_answer, call_of}
+use Rattle.fallible_contract.specs.Passing.{LeavesNoneOut, Place, asked, failure_at, end_at, source_answer, call_of, passing_step}
 use Rattle.fallible_contract.specs.Closing.{closing_step}
 use Rattle.fallible_core.specs.Cutting.TakeWhile.{take_while_outcome, taken_answer, is_refused, TakeWhileTrace, place_drawn, take_while_parts, take_while_contract}
 use Rattle.fallible_contract.proofs.Lemmas.Closing.{closing_law}
@@ -89,3 +89,9 @@ pub lists_taken_while : {S F X E : Type 0} (m : Contract S X E) (g : Mut F (Bor 
     → Lists (seen_as take_while_parts (take_while_contract m g)).steps s (taken_while h l)
 lists_taken_while m g s f h l parts a i = lists_seen take_while_parts (take_while_contract m g).steps s parts (taken_while_is h l)
     (until_refused_gives m.steps (call_in (call_at g)) _ (s.it, Some f) (lists_passed (call_at g) f h a m.steps take_while_outcome s.it l i.runs))
+
+-- it leaves nothing out
+pub leaves_none_out : {X E : Type 0} → LeavesNoneOut {X = X} {B = X} {E = E} take_while_outcome
+leaves_none_out x (Ok true) = refl
+leaves_none_out x (Ok false) = refl
+leaves_none_out x (Err e) = refl

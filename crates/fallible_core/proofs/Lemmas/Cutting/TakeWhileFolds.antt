@@ -1,114 +1,109 @@
 -- A fold of the source by the predicate's answers is a fold of `TakeWhile`, which a refused item closes.
-use Rattle.std.specs.Prelude.{◌≡◌, Bool, true, false, List, [], ◌∷◌, ◌++◌, map, Option, Result, Some, None, Ok, Err}
-use Rattle.std.specs.List.{FoldsTo, filter_map}
+use Rattle.std.specs.Prelude.{◌≡◌, Bool, true, false, List, [], ◌∷◌, Option, Result, Some, Ok, Err}
+use Rattle.std.specs.List.{FoldsTo}
 use Rattle.std.specs.Fn.{Mut}
 use Rattle.std.specs.Borrow.{Bor}
 use Rattle.std.proofs.Common.{refl, sym, ap, subst}
 use Rattle.fallible_contract.specs.declared.folds.Exit.{Exit}
-use Rattle.fallible_contract.specs.declared.folds.Exit.TheVariants.{Ended, Failed, Stopped}
-use Rattle.fallible_contract.specs.Traces.{Answered, Run, item}
+use Rattle.fallible_contract.specs.declared.folds.Exit.TheVariants.{Ended}
+use Rattle.fallible_contract.specs.Traces.{Answered, item}
 use Rattle.fallible_contract.specs.Closing.{closing_step}
-use Rattle.fallible_contract.specs.Closures.{Calls, IsCallableIn, call_in, call_at, takes_at}
+use Rattle.fallible_contract.specs.Closures.{IsCallable, IsCallableIn, Reaches, call_in, call_at, takes_at}
 use Rattle.fallible_contract.specs.Contract.{Contract, Lawful, seen_as}
-use Rattle.fallible_contract.specs.Folds.{HoldsAtEachTurn, carrying_turn, CarryingExit, Carried}
-use Rattle.fallible_contract.specs.Folding.{TurnedBy, FoldingTurn, FoldingTakes, handed}
-use Rattle.fallible_contract.specs.Passing.{Place, asked, failure_at, end_at, source_answer, call_of}
-use Rattle.fallible_contract.specs.Laws.Passing.{Passes, done, keeps, leaves_out, to_passes}
-use Rattle.fallible_contract.proofs.Lemmas.Folding.{both_on, holds_into, carried_into, takes_through}
-use Rattle.fallible_contract.proofs.Lemmas.Folds.{carried_after, carried_end, carried_failure, carried_stop}
-use Rattle.fallible_contract.proofs.Lemmas.Lists.Passing.{passing_step}
+use Rattle.fallible_contract.specs.Folds.{HoldsAtEachTurn, carrying_turn, Carried}
+use Rattle.fallible_contract.specs.Folding.{FoldingTurn, FoldingTakes}
+use Rattle.fallible_contract.specs.Passing.{asked, failure_at, end_at, PassAnswer, passing_step}
+use Rattle.fallible_contract.specs.Laws.Passing.{Passes, done, ends, fails, keeps, refuses, closes, leaves_out, to_passes}
+use Rattle.fallible_contract.proofs.Lemmas.Folding.{holds_while, carried_while, takes_through}
+use Rattle.fallible_contract.proofs.Lemmas.Folds.{carried_end}
+use Rattle.fallible_contract.proofs.Lemmas.Passing.{answer_passed}
 use Rattle.fallible_core.specs.declared.cutting.take_while.TakeWhile.{TakeWhile}
-use Rattle.fallible_core.specs.Cutting.TakeWhile.{take_while_outcome, taken_answer, is_refused, place_drawn, take_while_contract, take_while_parts, met_refusal}
+use Rattle.fallible_core.specs.Cutting.TakeWhile.{take_while_outcome, taken_answer, is_refused, place_drawn, refusing_call, take_while_contract, take_while_parts}
 
-module _ {S C F X E R : Type 0} (steps : S → Answered X E → S → Type 0) (call : F → X → Result Bool E → F → Type 0) (turns : C → X → Result C R → Type 0) where
-  abbrev Turned : C × F → X → Result (C × F) (F × Exit C E R) → Type 0
-  Turned = FoldingTurn call take_while_outcome turns
+-- ---- calls of the predicate, beside whether one refused
 
-  abbrev Steps : (S × F) × Bool → Answered X E → (S × F) × Bool → Type 0
-  Steps = closing_step (place_drawn steps call) taken_answer is_refused
+module _ {F X E : Type 0} (call : F → X → Result Bool E → F → Type 0) where
+  calls_beside : (P : X → Type 0) (made : List (X × Result Bool E)) (p q : F × Bool) → FoldsTo (λ p c q. P c.0 × refusing_call call p c.0 c.1 q) p made q → FoldsTo (λ f c g. P c.0 × call f c.0 c.1 g) p.0 made q.0
+  calls_beside P [] p q e = ap (λ z. z.0) e
+  calls_beside P (c ∷ made) p q w = (w.0.0, (w.1.0, w.1.1.0), calls_beside P made w.0 q w.2)
 
-  abbrev Folds : S → F → C → F × Exit C E R → Bool → S → Type 0
-  Folds s f c h closed t = Carried Steps turns ((s, f), false) c h.1 ((t, h.0), closed)
-
-  -- one place, where no item was refused
-  placed : {s t : S} {f g : F} (x : Place X (Result Bool E) E) → steps s (source_answer x) t → Calls call f (filter_map call_of (x ∷ [])) g → Steps ((s, f), false) (taken_answer x) ((t, g), is_refused x)
-  placed x step called = (x, (step, called), refl, refl)
-
-  -- the item on which the source's turn stops
-  stops_at : (x : X) (v : Result Bool E) (s t : S) (f g : F) (c : C) (stop : F × Exit C E R) → steps s (item x) t → call f x v g → TurnedBy turns c g (take_while_outcome x v) (Err stop) → Folds s f c stop (met_refusal (Stopped stop)) t
-  stops_at x (Ok true) s t f g c stop step called (Ok d, w, e) = absurd cc
-  stops_at x (Ok true) s t f g c stop step called (Err why, w, e) = let same : stop ≡ (g, Stopped why) = cc in subst (λ h. Folds s f c h (met_refusal (Stopped h)) t) (sym same) (carried_stop x (placed (asked x (Ok true)) step (g, called, refl)) w)
-  stops_at x (Ok false) s t f g c stop step called w = let same : stop ≡ (g, Ended c) = cc in subst (λ h. Folds s f c h (met_refusal (Stopped h)) t) (sym same) (carried_end (placed (asked x (Ok false)) step (g, called, refl)))
-  stops_at x (Err e) s t f g c stop step called w = let same : stop ≡ (g, Failed c e) = cc in subst (λ h. Folds s f c h (met_refusal (Stopped h)) t) (sym same) (carried_failure (placed (asked x (Err e)) step (g, called, refl)))
-
-  -- the last answer of the source's fold
-  last_at : (last : Answered X E) (s t : S) (f : F) (c : C) (exit : Exit (C × F) E (F × Exit C E R)) → steps s last t → CarryingExit Turned (c, f) last exit → Folds s f c (handed exit) (met_refusal exit) t
-  last_at (Ok None) s t f c exit step w = subst (λ h. Folds s f c (handed h) (met_refusal h) t) (sym w) (carried_end (placed end_at step refl))
-  last_at (Err e) s t f c exit step w = subst (λ h. Folds s f c (handed h) (met_refusal h) t) (sym w) (carried_failure (placed (failure_at e) step refl))
-  last_at (Ok (Some x)) s t f c exit step w = subst (λ h. Folds s f c (handed h) (met_refusal h) t) (sym w.2) (let turned = w.1 in stops_at x turned.0 s t f turned.1 c w.0 step turned.2 turned.3)
-
-  -- an item on which the source's turn went on, before the rest of the fold
-  goes_on_at : (x : X) (v : Result Bool E) (s u t : S) (f g h : F) (c d : C) (exit : F × Exit C E R) (closed : Bool) → steps s (item x) u → call f x v g → TurnedBy {E = E} turns c g (take_while_outcome x v) (Ok (d, h)) → Folds u h d exit closed t → Folds s f c exit closed t
-  goes_on_at x (Ok true) s u t f g h c d exit closed step called (Ok k, w, e) rest = let at : d ≡ k = (both_on e).0 in let left : h ≡ g = (both_on e).1 in
-      carried_after x (placed (asked x (Ok true)) step (g, called, refl)) (subst (λ (z : C). turns c x (Ok z)) (sym at) w) (subst (λ (j : F). Folds u j d exit closed t) left rest)
-  goes_on_at x (Ok true) s u t f g h c d exit closed step called (Err why, w, e) rest = absurd cc
-  goes_on_at x (Ok false) s u t f g h c d exit closed step called w rest = absurd cc
-  goes_on_at x (Err e) s u t f g h c d exit closed step called w rest = absurd cc
-
-  items_at : (items : List X) (last : Answered X E) (s t : S) (f g : F) (c d : C) (exit : Exit (C × F) E (F × Exit C E R)) → Run steps s (map item items ++ last ∷ []) t → FoldsTo (carrying_turn Turned) (c, f) items (d, g) → CarryingExit Turned (d, g) last exit → Folds s f c (handed exit) (met_refusal exit) t
-  items_at [] last s t f g c d exit ran went at = let same : (d, g) ≡ (c, f) = sym went in
-      last_at last s t f c exit (subst (λ (u : S). steps s last u) ran.2 ran.1) (subst (λ (p : C × F). CarryingExit Turned p last exit) same at)
-  items_at (x ∷ items) last s t f g c d exit ran went at = let turned = went.1 in
-      goes_on_at x turned.0 s ran.0 t f turned.1 went.0.1 c went.0.0 (handed exit) (met_refusal exit) ran.1 turned.2 turned.3 (items_at items last ran.0 t went.0.1 g went.0.0 d exit ran.2 went.2 at)
-
-  -- an item that passes is one of a place that closes nothing
-  one_kept : (s t : S) (f g : F) (y : X) → Passes steps call take_while_outcome s f (item y ∷ []) t g → Steps ((s, f), false) (item y) ((t, g), false)
-  one_kept s t f g _ (keeps x (Ok true) y step called is done) = let same : x ≡ y = cc in subst (λ (z : X). Steps ((s, f), false) (item z) ((t, g), false)) same (placed (asked x (Ok true)) step (g, called, refl))
-  one_kept s t f g _ (keeps x (Ok false) y step called is done) = absurd cc
-  one_kept s t f g _ (keeps x (Err e) y step called is done) = absurd cc
-  one_kept s t f g y (leaves_out x (Ok true) step called is p) = absurd cc
-  one_kept s t f g y (leaves_out x (Ok false) step called is p) = absurd cc
-  one_kept s t f g y (leaves_out x (Err e) step called is p) = absurd cc
-
-  kept_placed : (p : S × F) (y : X) (q : S × F) → passing_step steps call take_while_outcome p (item y) q → Steps (p, false) (item y) (q, false)
-  kept_placed p y q step = one_kept p.0 q.0 p.1 q.1 y (to_passes step)
+  pub callable_beside : {pre : F → X → Type 0} {P : X → Type 0} {f : F} (b : Bool) → IsCallable call pre P f → IsCallable (refusing_call call) (λ p x. pre p.0 x) P (f, b)
+  callable_beside {P = P} {f = f} b callable = record { at = λ q x reached given. callable.at q.0 x (record { made = reached.made; by = calls_beside P reached.made (f, b) q reached.by }) given }
 
 -- ---- of the struct
 
-module _ {S F X E : Type 0} (m : Contract S X E) (a : Mut F (Bor X × Unit {0}) (Result Bool E)) (s : TakeWhile S F) where
+module _ {S F X E : Type 0} (m : Contract S X E) (a : Mut F (Bor X × Unit {0}) (Result Bool E)) where
   abbrev steps : TakeWhile S F → Answered X E → TakeWhile S F → Type 0
   steps = (seen_as take_while_parts (take_while_contract m a)).steps
 
+  abbrev Calls : F × Bool → X → Result Bool E → F × Bool → Type 0
+  Calls = refusing_call (call_at a)
+
+  abbrev Once : S × (F × Bool) → Answered X E → S × (F × Bool) → Type 0
+  Once = passing_step m.steps Calls take_while_outcome
+
   -- the struct with its slot full
-  abbrev full : (S × F) × Bool → TakeWhile S F
-  full p = record { it = p.0.0; predicate = Some p.0.1; refused = p.1 }
+  abbrev full : S × (F × Bool) → TakeWhile S F
+  full p = record { it = p.0; predicate = Some p.1.0; refused = p.1.1 }
 
-  -- a call at a place is one of the slot
-  calls_in_slot : (x : Place X (Result Bool E) E) (f g : F) → Calls (call_at a) f (filter_map call_of (x ∷ [])) g → Calls (call_in (call_at a)) (Some f) (filter_map call_of (x ∷ [])) (Some g)
-  calls_in_slot (asked x v) f g c = (Some c.0, c.1, ap Some c.2)
-  calls_in_slot (failure_at e) f g c = ap Some c
-  calls_in_slot end_at f g c = ap Some c
+  -- no item was refused
+  abbrev IsOpen : S × (F × Bool) → Type 0
+  IsOpen p = p.1.1 ≡ false
 
-  in_struct : (p : (S × F) × Bool) (r : Answered X E) (q : (S × F) × Bool) → closing_step (place_drawn m.steps (call_at a)) taken_answer is_refused p r q → steps (full p) r (full q)
-  in_struct (p, true) r (q, closed) step = (step.0, ap (λ (z : S × F). (z.0, Some z.1)) step.1, step.2)
-  in_struct (p, false) r (q, closed) step = (step.0, (step.1.0, calls_in_slot step.0 p.1 q.1 step.1.1), step.2, step.3)
+  -- while no item was refused, one draw by the predicate's answer is one of `TakeWhile`
+  one_drawn : (s t : S) (f : F) (q : F × Bool) (r : Answered X E) → Passes m.steps Calls take_while_outcome s (f, false) (r ∷ []) t q → steps (full (s, (f, false))) r (full (t, q))
+  one_drawn s t f _ _ (ends step done) = (end_at, (step, refl), refl, refl)
+  one_drawn s t f _ _ (fails e step done) = (failure_at e, (step, refl), refl, refl)
+  one_drawn s t f q _ (keeps x (Ok true) y step called is done) = let same : x ≡ y = cc in subst (λ (z : X). steps (full (s, (f, false))) (item z) (full (t, q))) same (asked x (Ok true), (step, (Some q.0, called.0, refl)), refl, called.1)
+  one_drawn s t f q _ (keeps x (Ok false) y step called is done) = absurd cc
+  one_drawn s t f q _ (keeps x (Err e) y step called is done) = absurd cc
+  one_drawn s t f q _ (refuses x (Ok true) d step called is done) = absurd cc
+  one_drawn s t f q _ (refuses x (Ok false) d step called is done) = absurd cc
+  one_drawn s t f q _ (refuses x (Err e) d step called is done) = let same : e ≡ d = cc in subst (λ (z : E). steps (full (s, (f, false))) (Err z) (full (t, q))) same (asked x (Err e), (step, (Some q.0, called.0, refl)), refl, called.1)
+  one_drawn s t f q _ (closes x (Ok true) step called is done) = absurd cc
+  one_drawn s t f q _ (closes x (Ok false) step called is done) = (asked x (Ok false), (step, (Some q.0, called.0, refl)), refl, called.1)
+  one_drawn s t f q _ (closes x (Err e) step called is done) = absurd cc
+  one_drawn s t f q r (leaves_out x (Ok true) step called is rest) = absurd cc
+  one_drawn s t f q r (leaves_out x (Ok false) step called is rest) = absurd cc
+  one_drawn s t f q r (leaves_out x (Err e) step called is rest) = absurd cc
 
-  module _ {C R : Type 0} (turns : C → X → Result C R → Type 0) {c : C} where
+  drawn_open : (p : S × (F × Bool)) (r : Answered X E) (q : S × (F × Bool)) → IsOpen p → passing_step m.steps Calls take_while_outcome p r q → steps (full p) r (full q)
+  drawn_open (s, (f, true)) r q unrefused step = absurd cc
+  drawn_open (s, (f, false)) r q unrefused step = one_drawn s q.0 f q.1 r (to_passes step)
+
+  -- and an item leaves it so
+  one_open : (s t : S) (p q : F × Bool) (y : X) → Passes m.steps Calls take_while_outcome s p (item y ∷ []) t q → q.1 ≡ false
+  one_open s t p q _ (keeps x (Ok true) y step called is done) = called.1
+  one_open s t p q _ (keeps x (Ok false) y step called is done) = absurd cc
+  one_open s t p q _ (keeps x (Err e) y step called is done) = absurd cc
+  one_open s t p q y (leaves_out x (Ok true) step called is rest) = absurd cc
+  one_open s t p q y (leaves_out x (Ok false) step called is rest) = absurd cc
+  one_open s t p q y (leaves_out x (Err e) step called is rest) = absurd cc
+
+  stays_open : (p : S × (F × Bool)) (x : X) (q : S × (F × Bool)) → IsOpen p → passing_step m.steps Calls take_while_outcome p (item x) q → IsOpen q
+  stays_open p x q unrefused step = one_open p.0 q.0 p.1 q.1 x (to_passes step)
+
+  module _ (s : TakeWhile S F) {C R : Type 0} (turns : C → X → Result C R → Type 0) {c : C} where
     -- where an item was refused, an end without a draw
     pub refused_folds : s.refused ≡ true → Carried steps turns s c (Ended c) s
     refused_folds is = subst (λ (b : Bool). Carried steps turns (record { it = s.it; predicate = s.predicate; refused = b }) c (Ended c) (record { it = s.it; predicate = s.predicate; refused = b })) (sym is) (carried_end (refl, refl, refl))
 
-    module _ {f : F} (at : s.predicate ≡ Some f) (unrefused : s.refused ≡ false) where
-      -- else, where its turns may be taken, the source's may
+  module _ (s : TakeWhile S F) {f : F} (at : s.predicate ≡ Some f) (unrefused : s.refused ≡ false) where
+    -- a struct with its slot full, in which no item was refused
+    full_is : full (s.it, (f, false)) ≡ s
+    full_is = rw (sym at, sym unrefused) refl
+
+    -- what becomes of one answer of the source is one draw
+    pub taking_step : {t : S} (q : F × Bool) (r : Answered X E) (drawn : Answered X E) → m.steps s.it drawn t → PassAnswer Calls take_while_outcome (f, false) drawn r q → steps s r (full (t, q))
+    taking_step {t = t} q r drawn step h = subst (λ (z : TakeWhile S F). steps z r (full (t, q))) full_is (drawn_open (s.it, (f, false)) r (t, q) refl (answer_passed drawn step h))
+
+    module _ {C R : Type 0} (turns : C → X → Result C R → Type 0) {c : C} where
+      -- where its turns may be taken, the source's may
       pub taking_takes : {P : C → X → Type 0} → Lawful m → m.can s.it → IsCallableIn (call_at a) (takes_at a) (m.gives s.it) s.predicate → HoldsAtEachTurn steps (carrying_turn turns) P s c
-          → HoldsAtEachTurn m.steps (carrying_turn (FoldingTurn (call_at a) take_while_outcome turns)) (FoldingTakes (call_at a) take_while_outcome (takes_at a) P) s.it (c, f)
-      taking_takes {P = P} l can callable holds = takes_through l (call_at a) take_while_outcome turns can (subst (λ (o : Option F). IsCallableIn (call_at a) (takes_at a) (m.gives s.it) o) at callable)
-          (holds_into {held = steps} (λ p. full (p, false)) (λ p x q step. in_struct (p, false) (item x) (q, false) (kept_placed m.steps (call_at a) turns p x q step))
-          (subst (λ (o : Option F). HoldsAtEachTurn steps (carrying_turn turns) P (record { it = s.it; predicate = o; refused = false }) c) at (subst (λ (b : Bool). HoldsAtEachTurn steps (carrying_turn turns) P (record { it = s.it; predicate = s.predicate; refused = b }) c) unrefused holds)))
+          → HoldsAtEachTurn m.steps (carrying_turn (FoldingTurn Calls take_while_outcome turns)) (FoldingTakes Calls take_while_outcome (λ p x. takes_at a p.0 x) P) s.it (c, (f, false))
+      taking_takes {P = P} l can callable holds = takes_through l Calls take_while_outcome turns can (callable_beside (call_at a) false (subst (λ (o : Option F). IsCallableIn (call_at a) (takes_at a) (m.gives s.it) o) at callable))
+          (holds_while IsOpen Once steps full drawn_open stays_open refl (subst (λ (z : TakeWhile S F). HoldsAtEachTurn steps (carrying_turn turns) P z c) (sym full_is) holds))
 
       -- and a fold of the source by its turn is a fold of it
-      pub taking_folds : {t : S} {exit : Exit (C × F) E (F × Exit C E R)} (closed : Bool) → closed ≡ met_refusal exit → Carried m.steps (FoldingTurn (call_at a) take_while_outcome turns) s.it (c, f) exit t → Carried steps turns s c (handed exit).1 (full ((t, (handed exit).0), closed))
-      taking_folds {t = t} {exit = exit} closed met w = subst (λ (b : Bool). Carried steps turns s c (handed exit).1 (full ((t, (handed exit).0), b))) (sym met)
-          (subst (λ (b : Bool). Carried steps turns (record { it = s.it; predicate = s.predicate; refused = b }) c (handed exit).1 (full ((t, (handed exit).0), met_refusal exit))) (sym unrefused)
-          (subst (λ (o : Option F). Carried steps turns (record { it = s.it; predicate = o; refused = false }) c (handed exit).1 (full ((t, (handed exit).0), met_refusal exit))) (sym at)
-          (carried_into {held = steps} full in_struct (items_at m.steps (call_at a) turns w.items w.last s.it t f w.carried.1 c w.carried.0 exit w.ran w.went w.exit))))
+      pub taking_folds : {t : S} {q : F × Bool} {exit : Exit C E R} → Carried (passing_step m.steps Calls take_while_outcome) turns (s.it, (f, false)) c exit (t, q) → Carried steps turns s c exit (full (t, q))
+      taking_folds {t = t} {q = q} {exit = exit} w = subst (λ (z : TakeWhile S F). Carried steps turns z c exit (full (t, q))) full_is (carried_while IsOpen Once steps full drawn_open stays_open refl w)

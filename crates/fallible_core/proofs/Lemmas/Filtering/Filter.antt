@@ -4,7 +4,7 @@ use Rattle.std.proofs.Common.{refl, ap, ◌∙◌}
 use Rattle.std.specs.Fn.{Mut}
 use Rattle.std.specs.Borrow.{Bor}
 use Rattle.fallible_core.specs.declared.filtering.filter.Filter.{Filter}
-use Rattle.fallible_contract.specs.Passing.{an_end}
+use Rattle.fallible_contract.specs.declared.passing.Outcome.TheVariants.{End}
 use Rattle.fallible_contract.specs.Contract.{Contract, seen_as}
 use Rattle.fallible_contract.specs.Closures.{call_at}
 use Rattle.fallible_core.specs.Filtering.Filter.{filter_outcome, filter_parts, filter_contract}
@@ -12,7 +12,7 @@ use Rattle.fallible_contract.specs.Lists.{Lists, Acts, cons_if, filtered}
 use Rattle.fallible_contract.proofs.Lemmas.Lists.Passing.{passed, by_outcome, lists_seen, lists_passed}
 
 -- no answer of the closure makes an end
-pub never_ends : {X E : Type 0} (x : X) (v : Result Bool E) → filter_outcome x v ≡ an_end → ⊥
+pub never_ends : {X E : Type 0} (x : X) (v : Result Bool E) → filter_outcome x v ≡ End → ⊥
 never_ends x (Ok true) e = absurd cc
 never_ends x (Ok false) e = absurd cc
 never_ends x (Err d) e = absurd cc

@@ -10,10 +10,10 @@ use Rattle.fallible_contract.specs.Laws.Closures.{reaches_here, may_answer_after
 use Rattle.fallible_core.specs.OneToOne.Map.{map_outcome}
 use Rattle.fallible_core.specs.OneToOne.Cloned.{cloned_call, cloned_parts, cloned_contract}
 use Rattle.fallible_contract.specs.Traces.{Answered}
+use Rattle.fallible_contract.specs.Passing.{passing_step}
 use Rattle.fallible_contract.specs.Lists.{Lists, mapped, pointed_to}
 use Rattle.fallible_contract.specs.Listed.{Listed, items_listed, source_list, passed_list}
 use Rattle.fallible_contract.proofs.Lemmas.Listed.Passing.{GivesAt, beside, source_beside, listed_passed}
-use Rattle.fallible_contract.proofs.Lemmas.Lists.Passing.{passing_step}
 use Rattle.fallible_core.proofs.Lemmas.OneToOne.Map.{never_ends}
 use Rattle.fallible_contract.proofs.Lemmas.Lists.Passing.{passed, all_given, lists_seen}
 

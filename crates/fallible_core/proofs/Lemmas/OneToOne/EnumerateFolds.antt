@@ -4,13 +4,13 @@ use Rattle.std.specs.List.{FoldsTo}
 use Rattle.std.proofs.Common.{refl, sym, ap, subst, ◌∙◌, arith, inl}
 use Rattle.fallible_contract.specs.declared.folds.Exit.{Exit}
 use Rattle.fallible_contract.specs.Traces.{Answered, Run, item}
+use Rattle.fallible_contract.specs.Passing.{IfItem, passing_step}
 use Rattle.fallible_contract.specs.Contract.{Contract, Lawful}
 use Rattle.fallible_contract.specs.Folds.{HoldsAtEachTurn, carrying_turn, CountExit, Counted}
 use Rattle.fallible_contract.specs.Folding.{FoldingTurn, FoldingTakes, beside}
 use Rattle.fallible_contract.specs.Laws.Passing.{Passes, done, ends, fails, keeps, refuses, closes, leaves_out, to_passes}
 use Rattle.fallible_contract.proofs.Lemmas.Folds.{count_fits}
 use Rattle.fallible_contract.proofs.Lemmas.Folding.{takes_freely}
-use Rattle.fallible_contract.proofs.Lemmas.Lists.Passing.{passing_step}
 use Rattle.fallible_core.specs.OneToOne.Enumerate.{IsNumberable, number_call, number_outcome, number_takes}
 use Rattle.fallible_core.proofs.Lemmas.OneToOne.Enumerate.{enumerate_item, enumerate_end, enumerate_failure, numbered_step}
 
@@ -29,6 +29,12 @@ module _ {S A E : Type 0} (steps : S → Answered A E → S → Type 0) where
 -- an item kept beside its number is one of `Enumerate`
 pub to_numbers : {S A E : Type 0} {steps : S → Answered A E → S → Type 0} (p : S × ℕ) (r : Answered (ℕ × A) E) (q : S × ℕ) → passing_step steps number_call number_outcome p r q → numbered_step steps p r q
 to_numbers {steps = steps} p r q step = passed steps p.0 q.0 p.1 q.1 r (to_passes step)
+
+-- an item that comes may be counted
+pub drawn_numbered : {S A E : Type 0} {m : Contract S A E} {s t : S} {n : ℕ} → Lawful m → IsNumberable m s n → (drawn : Answered A E) → m.steps s drawn t → IfItem (λ x. number_takes n x) drawn
+drawn_numbered {s = s} {t = t} l can (Ok (Some x)) step = let fewer = (l.goes s (item x) t can.can step).answer.1 can.bound can.bounds in let fits = can.fits in omega (arith, fewer.2, fits)
+drawn_numbered l can (Ok None) step = tt
+drawn_numbered l can (Err e) step = tt
 
 -- ---- where the source's turn may be taken
 

@@ -4,15 +4,16 @@ use Rattle.std.proofs.Common.{refl, ap, ◌∙◌}
 use Rattle.std.specs.Fn.{Mut}
 use Rattle.std.specs.Borrow.{Bor}
 use Rattle.fallible_core.specs.declared.one_to_one.inspect.Inspect.{Inspect}
-use Rattle.fallible_contract.specs.Passing.{an_end}
+use Rattle.fallible_contract.specs.declared.passing.Outcome.TheVariants.{End}
 use Rattle.fallible_contract.specs.Contract.{Contract, seen_as}
 use Rattle.fallible_contract.specs.Closures.{call_at}
+use Rattle.fallible_contract.specs.Passing.{LeavesNoneOut}
 use Rattle.fallible_core.specs.OneToOne.Inspect.{inspect_outcome, inspect_parts, inspect_contract}
 use Rattle.fallible_contract.specs.Lists.{Lists, Acts, once_seen, inspected}
 use Rattle.fallible_contract.proofs.Lemmas.Lists.Passing.{passed, by_outcome, lists_seen, lists_passed}
 
 -- no answer of the closure makes an end
-pub never_ends : {X E : Type 0} (x : X) (v : Result (Unit {0}) E) → inspect_outcome x v ≡ an_end → ⊥
+pub never_ends : {X E : Type 0} (x : X) (v : Result (Unit {0}) E) → inspect_outcome x v ≡ End → ⊥
 never_ends x (Ok u) e = absurd cc
 never_ends x (Err d) e = absurd cc
 
@@ -29,3 +30,8 @@ inspected_is h (Err e ∷ l) = ap (λ t. Err e ∷ t) (inspected_is h l)
 pub lists_inspected : {S F X E : Type 0} (m : Contract S X E) (g : Mut F (Bor X × Unit {0}) (Result (Unit {0}) E)) (s : Inspect S F) (f : F) (h : X → Result (Unit {0}) E) (l : List (Result X E)) → inspect_parts s ≡ (s.it, Some f) → Acts (call_at g) f h → Lists m.steps s.it l
     → Lists (seen_as inspect_parts (inspect_contract m g)).steps s (inspected h l)
 lists_inspected m g s f h l parts a i = lists_seen inspect_parts (inspect_contract m g).steps s parts (inspected_is h l) (lists_passed (call_at g) f h a m.steps inspect_outcome s.it l i.runs)
+
+-- it leaves nothing out
+pub leaves_none_out : {X E : Type 0} → LeavesNoneOut {X = X} {B = X} {E = E} inspect_outcome
+leaves_none_out x (Ok u) = refl
+leaves_none_out x (Err e) = refl

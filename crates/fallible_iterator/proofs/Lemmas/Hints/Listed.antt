@@ -5,7 +5,8 @@ use Rattle.std.specs.Borrow.{Bor}
 use Rattle.std.proofs.Common.{refl, sym, ap, subst, ◌∙◌, arith}
 use Rattle.std.proofs.lemmas.List.{length-reverse}
 use Rattle.fallible_contract.specs.Traces.{Answered, Yields, item, end}
-use Rattle.fallible_contract.specs.Passing.{Outcome, kept, left_out, failed, an_end}
+use Rattle.fallible_contract.specs.declared.passing.Outcome.{Outcome}
+use Rattle.fallible_contract.specs.declared.passing.Outcome.TheVariants.{Kept, LeftOut, Failure, End}
 use Rattle.fallible_contract.specs.Lists.{AlwaysGives, Lists, mapped, failures_mapped, pointed_to, chained}
 use Rattle.fallible_contract.specs.Listed.{Listed, item_listed, items_listed, failure_listed, failures_listed, source_list, outcome_listed, passed_list}
 use Rattle.fallible_contract.specs.Hints.{hint_sum}
@@ -87,10 +88,10 @@ bounds_as_long h l k le same none b = record {
 
 module _ {X R B E : Type 0} (outcome : X → R → Outcome B E) where
   items_of_outcome : (o : Outcome B E) (l : List (Result B E)) → length (items_listed (cons_option (outcome_listed o) l)) ≤ length (items_listed l) + 1
-  items_of_outcome (kept y) l = omega arith
-  items_of_outcome left_out l = omega arith
-  items_of_outcome (failed e) l = omega arith
-  items_of_outcome an_end l = omega arith
+  items_of_outcome (Kept y) l = omega arith
+  items_of_outcome LeftOut l = omega arith
+  items_of_outcome (Failure e) l = omega arith
+  items_of_outcome End l = omega arith
 
   items_passed : (asked : List (Result (X × R) E)) → length (items_listed (passed_list outcome asked)) ≤ length (items_listed (source_list asked))
   items_passed [] = omega arith
@@ -101,12 +102,12 @@ module _ {X R B E : Type 0} (outcome : X → R → Outcome B E) where
   pub upper_passed : (asked : List (Result (X × R) E)) (h : ℕ × Option ℕ) → Bounds h (source_list asked) → Bounds (0, h.1) (passed_list outcome asked)
   upper_passed asked h b = above_fewer h (source_list asked) (passed_list outcome asked) (items_passed asked) b
 
-  module _ (never_left_out : (x : X) (v : R) → outcome x v ≡ left_out → ⊥) (never_ends : (x : X) (v : R) → outcome x v ≡ an_end → ⊥) where
-    one_of_outcome : (o : Outcome B E) → (o ≡ left_out → ⊥) → (o ≡ an_end → ⊥) → (l : List (Result B E)) → length (cons_option (outcome_listed o) l) ≡ suc (length l)
-    one_of_outcome (kept y) a b l = refl
-    one_of_outcome left_out a b l = absurd (a refl)
-    one_of_outcome (failed e) a b l = refl
-    one_of_outcome an_end a b l = absurd (b refl)
+  module _ (never_left_out : (x : X) (v : R) → outcome x v ≡ LeftOut → ⊥) (never_ends : (x : X) (v : R) → outcome x v ≡ End → ⊥) where
+    one_of_outcome : (o : Outcome B E) → (o ≡ LeftOut → ⊥) → (o ≡ End → ⊥) → (l : List (Result B E)) → length (cons_option (outcome_listed o) l) ≡ suc (length l)
+    one_of_outcome (Kept y) a b l = refl
+    one_of_outcome LeftOut a b l = absurd (a refl)
+    one_of_outcome (Failure e) a b l = refl
+    one_of_outcome End a b l = absurd (b refl)
 
     long_passed : (asked : List (Result (X × R) E)) → length (passed_list outcome asked) ≡ length (source_list asked)
     long_passed [] = refl
@@ -114,10 +115,10 @@ module _ {X R B E : Type 0} (outcome : X → R → Outcome B E) where
     long_passed (Err e ∷ asked) = ap suc (long_passed asked)
 
     sure_of_outcome : (o : Outcome B E) (l : List (Result B E)) → failures_listed (cons_option (outcome_listed o) l) ≡ [] → failures_listed l ≡ []
-    sure_of_outcome (kept y) l e = e
-    sure_of_outcome left_out l e = e
-    sure_of_outcome (failed d) l e = absurd cc
-    sure_of_outcome an_end l e = e
+    sure_of_outcome (Kept y) l e = e
+    sure_of_outcome LeftOut l e = e
+    sure_of_outcome (Failure d) l e = absurd cc
+    sure_of_outcome End l e = e
 
     sure_passed : (asked : List (Result (X × R) E)) → failures_listed (passed_list outcome asked) ≡ [] → failures_listed (source_list asked) ≡ []
     sure_passed [] e = refl
@@ -130,12 +131,12 @@ module _ {X R B E : Type 0} (outcome : X → R → Outcome B E) where
 
 -- ---- a closure that acts as a function
 
-module _ {X R B E : Type 0} (outcome : X → R → Outcome B E) (never_ends : (x : X) (v : R) → outcome x v ≡ an_end → ⊥) (f : X → R) where
-  outcome_acting : (o : Outcome B E) → (o ≡ an_end → ⊥) → (l : List (Result B E)) → cons_option (outcome_listed o) l ≡ by_outcome o l
-  outcome_acting (kept y) not_end l = refl
-  outcome_acting left_out not_end l = refl
-  outcome_acting (failed e) not_end l = refl
-  outcome_acting an_end not_end l = absurd (not_end refl)
+module _ {X R B E : Type 0} (outcome : X → R → Outcome B E) (never_ends : (x : X) (v : R) → outcome x v ≡ End → ⊥) (f : X → R) where
+  outcome_acting : (o : Outcome B E) → (o ≡ End → ⊥) → (l : List (Result B E)) → cons_option (outcome_listed o) l ≡ by_outcome o l
+  outcome_acting (Kept y) not_end l = refl
+  outcome_acting LeftOut not_end l = refl
+  outcome_acting (Failure e) not_end l = refl
+  outcome_acting End not_end l = absurd (not_end refl)
 
   passed_acting : (l : List (Result X E)) → passed_list outcome (map (beside f) l) ≡ passed outcome (λ (p : Unit {0}) x. f x) (λ p x. p) tt l
   passed_acting [] = refl
@@ -149,7 +150,7 @@ module _ {X R B E : Type 0} (outcome : X → R → Outcome B E) (never_ends : (x
   pub upper_acting : (l : List (Result X E)) (k : List (Result B E)) (h : ℕ × Option ℕ) → passed outcome (λ (p : Unit {0}) x. f x) (λ p x. p) tt l ≡ k → Bounds h l → Bounds (0, h.1) k
   upper_acting l k h is b = subst (λ (j : List (Result B E)). Bounds (0, h.1) j) (passed_acting l ∙ is) (upper_passed outcome (map (beside f) l) h (asked_bounds h l b))
 
-  pub bounds_acting : ((x : X) (v : R) → outcome x v ≡ left_out → ⊥) → (l : List (Result X E)) (k : List (Result B E)) (h : ℕ × Option ℕ) → passed outcome (λ (p : Unit {0}) x. f x) (λ p x. p) tt l ≡ k → Bounds h l → Bounds h k
+  pub bounds_acting : ((x : X) (v : R) → outcome x v ≡ LeftOut → ⊥) → (l : List (Result X E)) (k : List (Result B E)) (h : ℕ × Option ℕ) → passed outcome (λ (p : Unit {0}) x. f x) (λ p x. p) tt l ≡ k → Bounds h l → Bounds h k
   bounds_acting never_left_out l k h is b = subst (λ (j : List (Result B E)). Bounds h j) (passed_acting l ∙ is) (bounds_passed outcome never_left_out never_ends (map (beside f) l) h (asked_bounds h l b))
 
 -- ---- `Cloned`

@@ -2,7 +2,9 @@
 use Rattle.std.specs.Prelude.{◌≡◌, ◌≤◌, List, [], ◌∷◌, length, ⊤}
 use Rattle.std.proofs.Common.{refl, arith}
 use Rattle.fallible_contract.specs.Traces.{Answered, Yields, item, end}
-use Rattle.fallible_contract.specs.Passing.{Outcome, left_out, an_end, PassTrace}
+use Rattle.fallible_contract.specs.declared.passing.Outcome.{Outcome}
+use Rattle.fallible_contract.specs.declared.passing.Outcome.TheVariants.{LeftOut, End}
+use Rattle.fallible_contract.specs.Passing.{PassTrace}
 use Rattle.fallible_contract.specs.Laws.Passing.{Passes, done, ends, keeps, closes, leaves_out, to_passes}
 use Rattle.fallible_iterator.proofs.Lemmas.Hints.Drawn.{ItemsOfItems, OneOfOne}
 
@@ -19,7 +21,7 @@ module _ {S F X R B E : Type 0} (steps : S → Answered X E → S → Type 0) (c
   pub passing_items : ItemsOfItems passing_step steps (λ p. p.0) (λ p. ⊤)
   passing_items = record { drawn = λ p q y _ step. let d = item_of_items p.0 q.0 p.1 q.1 y (to_passes step) in (d.0, d.1, d.2, tt) }
 
-  module _ (never_left_out : (x : X) (v : R) → outcome x v ≡ left_out → ⊥) (never_ends : (x : X) (v : R) → outcome x v ≡ an_end → ⊥) where
+  module _ (never_left_out : (x : X) (v : R) → outcome x v ≡ LeftOut → ⊥) (never_ends : (x : X) (v : R) → outcome x v ≡ End → ⊥) where
     item_of_item : (s t : S) (f g : F) (y : B) → Passes steps call outcome s f (item y ∷ []) t g → (x : X) × steps s (item x) t
     item_of_item s t f g _ (keeps x v y step called is done) = (x, step)
     item_of_item s t f g y (leaves_out x v step called is rest) = absurd (never_left_out x v is)

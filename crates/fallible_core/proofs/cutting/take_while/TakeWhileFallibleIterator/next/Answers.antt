@@ -1,16 +1,15 @@
--- One answer of the source, and the call on it where it is an item, are one place.
-use Rattle.std.proofs.Common.{true, false, Some, Ok, Err, refl}
-use Rattle.fallible_contract.specs.Passing.{asked, failure_at}
+-- What becomes of one answer of the source is one draw.
+use Rattle.std.proofs.Common.{true, false, Ok, Err, refl}
+use Rattle.fallible_contract.proofs.Lemmas.Passing.{drawn_takes}
+use Rattle.fallible_core.proofs.Lemmas.Cutting.TakeWhileFolds.{taking_step}
+use Rattle.fallible_core.proofs.Lemmas.Cutting.TakeWhile.{leaves_none_out}
 use Rattle.fallible_core.proofs.cutting.take_while.TakeWhileFallibleIterator.next.Goals as goal
 
-pub returns-then-accepted : goal.returns-then-accepted
-returns-then-accepted g c = rw (c.if-self.false, c.in-Some.is) (asked c.in-Ok-Some.x (Ok true), (rw c.in-Ok-Some.field-0-is at c.in-Ok-Some.ensures, (Some _, record { shown = _; shows = refl; called = rw c.if-accepted.true at c.in-Ok.ensures }, refl)), refl, refl)
+pub passed-state-requires-clause-takes : goal.passed-state-requires-clause-takes
+passed-state-requires-clause-takes g c = let callable = rw c.take_out.ensures.value at c.requires.1 in drawn_takes g.met.I.FallibleIterator.lawful c.requires.0 _ c.next-drawn.ensures callable
 
-pub returns-else-accepted : goal.returns-else-accepted
-returns-else-accepted g c = rw (c.if-self.false, c.in-Some.is) (asked c.in-Ok-Some.x (Ok false), (rw c.in-Ok-Some.field-0-is at c.in-Ok-Some.ensures, (Some _, record { shown = _; shows = refl; called = rw c.if-accepted.false at c.in-Ok.ensures }, refl)), refl, refl)
+pub passed-state-requires-clause-answers : goal.passed-state-requires-clause-answers
+passed-state-requires-clause-answers g c = leaves_none_out
 
-pub returns-in-Err-predicate : goal.returns-in-Err-predicate
-returns-in-Err-predicate g c = rw (c.if-self.false, c.in-Some.is) (asked c.in-Ok-Some.x (Err c.in-Err-predicate.e), (rw c.in-Ok-Some.field-0-is at c.in-Ok-Some.ensures, (Some _, record { shown = _; shows = refl; called = c.in-Err-predicate.ensures }, refl)), refl, refl)
-
-pub returns-in-Err : goal.returns-in-Err
-returns-in-Err g c = rw c.if-self.false (failure_at c.in-Err.e, (c.in-Err.ensures, refl), refl, refl)
+pub returns : goal.returns
+returns g c = taking_step g.I.FallibleIterator.contract g.P.FnMut c.args.self.now c.take_out.ensures.value c.if-self.false _ _ _ c.next-drawn.ensures c.passed-state.ensures

@@ -1,18 +1,15 @@
--- A fold of the source from behind, by the closure's answer and the caller's turn on its value.
-use Rattle.std.proofs.Common.{refl}
-use Rattle.fallible_contract.specs.Closures.{call_on, takes_on}
-use Rattle.fallible_contract.specs.Ends.{from_back}
+-- The fold of its source from behind, with the closure in its slot.
 use Rattle.fallible_contract.specs.Laws.Contract.{lawful_seen, stays_run}
-use Rattle.fallible_contract.proofs.Lemmas.Folding.{takes_held, folds_held}
-use Rattle.fallible_core.specs.Filtering.FilterMap.{filter_map_outcome, filter_map_parts}
+use Rattle.fallible_contract.proofs.Lemmas.Folding.{holds_into, carried_into}
+use Rattle.fallible_core.specs.Filtering.FilterMap.{filter_map_parts}
 use Rattle.fallible_core.specs.Laws.Filtering.FilterMap.{lawful_filter_map}
 use Rattle.fallible_core.proofs.filtering.filter_map.FilterMapDoubleEndedFallibleIterator.try_rfold_carrying.Goals as goal
 
-pub try_rfold_carrying-requires-clause-callable : goal.try_rfold_carrying-requires-clause-callable
-try_rfold_carrying-requires-clause-callable g c = takes_held filter_map_parts (λ p. record { it = p.0; f = p.1 }) (λ s. refl) (λ p. refl) (call_on g.F.FnMut) filter_map_outcome (from_back g.I.FallibleIterator.contract g.I.DoubleEndedFallibleIterator.ends) (g.K.Turn.turns c.args.k.now) c.take_out-f.ensures.value (takes_on g.F.FnMut) g.met.I.DoubleEndedFallibleIterator.lawful_ends.back c.requires.can.1.0 c.requires.can.1.1 c.requires.callable
+pub rfold_in_slot-requires-clause-callable : goal.rfold_in_slot-requires-clause-callable
+rfold_in_slot-requires-clause-callable g c = holds_into (λ p. record { it = p.0; f = p.1 }) (λ p x q step. step) c.requires.callable
 
 pub returns-clause-carried : goal.returns-clause-carried
-returns-clause-carried g c = rw c.handed_back-f.ensures (folds_held filter_map_parts (λ p. record { it = p.0; f = p.1 }) (λ s. refl) (λ p. refl) (call_on g.F.FnMut) filter_map_outcome (from_back g.I.FallibleIterator.contract g.I.DoubleEndedFallibleIterator.ends) (g.K.Turn.turns c.args.k.now) c.take_out-f.ensures.value c.try_rfold_carrying.ensures.carried)
+returns-clause-carried g c = carried_into (λ p. record { it = p.0; f = p.1 }) (λ p r q step. step) c.rfold_in_slot.ensures
 
 pub returns-clause-stays : goal.returns-clause-stays
 returns-clause-stays g c = stays_run (lawful_seen filter_map_parts (lawful_filter_map g.F.FnMut g.met.I.DoubleEndedFallibleIterator.lawful_ends.back)) _ _ _ c.requires.can (returns-clause-carried g c).ran

@@ -1,6 +1,13 @@
 -- One answer of the source from behind, and the clone of what it points to, are the trace of one answer.
-use Rattle.fallible_contract.proofs.Lemmas.Passing.{answer_passed}
+use Rattle.fallible_contract.proofs.Lemmas.Passing.{answer_passed, freely}
+use Rattle.fallible_core.proofs.Lemmas.OneToOne.Map.{leaves_none_out}
 use Rattle.fallible_core.proofs.one_to_one.cloned.ClonedDoubleEndedFallibleIterator.next_back.Goals as goal
 
+pub passed-requires-clause-takes : goal.passed-requires-clause-takes
+passed-requires-clause-takes g c = freely (λ x. tt) c.next_back.result
+
+pub passed-requires-clause-answers : goal.passed-requires-clause-answers
+passed-requires-clause-answers g c = leaves_none_out
+
 pub returns : goal.returns
-returns g c = answer_passed _ c.next_back.ensures c.answer.ensures
+returns g c = answer_passed _ c.next_back.ensures c.passed.ensures

@@ -1,16 +1,16 @@
--- A fold of the source from behind, by the clones and the caller's turn on them.
+-- The fold of its source from behind, by the clones.
 use Rattle.std.specs.Prelude.{⊤}
-use Rattle.fallible_contract.proofs.Lemmas.Folding.{takes_freely, folds_through, holds_into, carried_into}
+use Rattle.fallible_contract.proofs.Lemmas.Folding.{takes_freely, holds_into, carried_into}
 use Rattle.fallible_core.specs.OneToOne.Map.{map_outcome}
 use Rattle.fallible_core.specs.OneToOne.Cloned.{cloned_call}
 use Rattle.fallible_core.proofs.Lemmas.OneToOne.Cloned.{stays_cloned}
 use Rattle.fallible_core.proofs.one_to_one.cloned.ClonedDoubleEndedFallibleIterator.try_rfold_carrying.Goals as goal
 
-pub try_rfold_carrying-requires-clause-callable : goal.try_rfold_carrying-requires-clause-callable
-try_rfold_carrying-requires-clause-callable g c = takes_freely (cloned_call g.T.Clone.is_clone g.T.Clone.is_infallible g.I.Error.From.from_gives) map_outcome (g.K.Turn.turns c.args.k.now) {pre = λ _ _. ⊤} (λ u x. tt) (holds_into (λ p. record { it = p.0 }) (λ p x q step. step) c.requires.callable)
+pub rfold_passing-requires-clause-callable : goal.rfold_passing-requires-clause-callable
+rfold_passing-requires-clause-callable g c = takes_freely (cloned_call g.T.Clone.is_clone g.T.Clone.is_infallible g.I.Error.From.from_gives) map_outcome (g.K.Turn.turns c.args.k.now) {pre = λ _ _. ⊤} (λ u x. tt) (holds_into (λ p. record { it = p.0 }) (λ p x q step. step) c.requires.callable)
 
 pub returns-clause-carried : goal.returns-clause-carried
-returns-clause-carried g c = rw c.handed_back.ensures (carried_into (λ p. record { it = p.0 }) (λ p r q step. step) (folds_through c.try_rfold_carrying.ensures.carried))
+returns-clause-carried g c = carried_into (λ p. record { it = p.0 }) (λ p r q step. step) c.rfold_passing.ensures.carried
 
 pub returns-clause-stays : goal.returns-clause-stays
-returns-clause-stays g c = stays_cloned g.T.Clone.is_clone g.T.Clone.is_infallible g.I.Error.From.from_gives c.try_rfold_carrying.ensures.stays
+returns-clause-stays g c = stays_cloned g.T.Clone.is_clone g.T.Clone.is_infallible g.I.Error.From.from_gives c.rfold_passing.ensures.stays

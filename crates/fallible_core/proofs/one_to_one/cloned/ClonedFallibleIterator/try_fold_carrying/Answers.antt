@@ -1,16 +1,16 @@
--- A fold of the source, by the clones and the caller's turn on them.
+-- The fold of its source, by the clones.
 use Rattle.std.specs.Prelude.{⊤}
-use Rattle.fallible_contract.proofs.Lemmas.Folding.{takes_freely, folds_through, holds_into, carried_into}
+use Rattle.fallible_contract.proofs.Lemmas.Folding.{takes_freely, holds_into, carried_into}
 use Rattle.fallible_core.specs.OneToOne.Map.{map_outcome}
 use Rattle.fallible_core.specs.OneToOne.Cloned.{cloned_call}
 use Rattle.fallible_core.proofs.Lemmas.OneToOne.Cloned.{stays_cloned}
 use Rattle.fallible_core.proofs.one_to_one.cloned.ClonedFallibleIterator.try_fold_carrying.Goals as goal
 
-pub try_fold_carrying-requires-clause-callable : goal.try_fold_carrying-requires-clause-callable
-try_fold_carrying-requires-clause-callable g c = takes_freely (cloned_call g.T.Clone.is_clone g.T.Clone.is_infallible g.I.Error.From.from_gives) map_outcome (g.K.Turn.turns c.args.k.now) {pre = λ _ _. ⊤} (λ u x. tt) (holds_into (λ p. record { it = p.0 }) (λ p x q step. step) c.requires.callable)
+pub fold_passing-requires-clause-callable : goal.fold_passing-requires-clause-callable
+fold_passing-requires-clause-callable g c = takes_freely (cloned_call g.T.Clone.is_clone g.T.Clone.is_infallible g.I.Error.From.from_gives) map_outcome (g.K.Turn.turns c.args.k.now) {pre = λ _ _. ⊤} (λ u x. tt) (holds_into (λ p. record { it = p.0 }) (λ p x q step. step) c.requires.callable)
 
 pub returns-clause-carried : goal.returns-clause-carried
-returns-clause-carried g c = rw c.handed_back.ensures (carried_into (λ p. record { it = p.0 }) (λ p r q step. step) (folds_through c.try_fold_carrying.ensures.carried))
+returns-clause-carried g c = carried_into (λ p. record { it = p.0 }) (λ p r q step. step) c.fold_passing.ensures.carried
 
 pub returns-clause-stays : goal.returns-clause-stays
-returns-clause-stays g c = stays_cloned g.T.Clone.is_clone g.T.Clone.is_infallible g.I.Error.From.from_gives c.try_fold_carrying.ensures.stays
+returns-clause-stays g c = stays_cloned g.T.Clone.is_clone g.T.Clone.is_infallible g.I.Error.From.from_gives c.fold_passing.ensures.stays

@@ -1,12 +1,14 @@
--- One answer of the source, counted where it is an item, is the trace of one answer.
-use Rattle.fallible_core.proofs.Lemmas.OneToOne.Enumerate.{enumerate_item, enumerate_end, enumerate_failure}
+-- One answer of the source, numbered where it is an item, is the trace of one answer.
+use Rattle.std.proofs.Common.{refl}
+use Rattle.fallible_contract.proofs.Lemmas.Passing.{answer_passed}
+use Rattle.fallible_core.proofs.Lemmas.OneToOne.EnumerateFolds.{to_numbers, drawn_numbered}
 use Rattle.fallible_core.proofs.one_to_one.enumerate.EnumerateFallibleIterator.next.Goals as goal
 
-pub returns-in-Ok-Some : goal.returns-in-Ok-Some
-returns-in-Ok-Some g c = enumerate_item _ (rw c.in-Ok-Some.field-0-is at c.in-Ok-Some.ensures)
+pub passed-count-requires-clause-takes : goal.passed-count-requires-clause-takes
+passed-count-requires-clause-takes g c = drawn_numbered g.met.I.FallibleIterator.lawful c.requires _ c.next.ensures
 
-pub returns-in-Ok-None : goal.returns-in-Ok-None
-returns-in-Ok-None g c = enumerate_end (rw c.in-Ok-None.field-0-is at c.in-Ok-None.ensures)
+pub passed-count-requires-clause-answers : goal.passed-count-requires-clause-answers
+passed-count-requires-clause-answers g c = λ x n. refl
 
-pub returns-in-Err : goal.returns-in-Err
-returns-in-Err g c = enumerate_failure c.in-Err.ensures
+pub returns : goal.returns
+returns g c = to_numbers _ _ _ (answer_passed _ c.next.ensures c.passed-count.ensures)

@@ -1,16 +1,16 @@
--- A fold of the source, by each item's number and the caller's turn on both.
+-- The fold of its source, by each item's number.
 use Rattle.fallible_contract.specs.Laws.Contract.{lawful_seen, stays_run}
-use Rattle.fallible_contract.proofs.Lemmas.Folding.{holds_into, carried_into, folds_through}
+use Rattle.fallible_contract.proofs.Lemmas.Folding.{holds_into, carried_into}
 use Rattle.fallible_core.specs.OneToOne.Enumerate.{enumerate_parts}
 use Rattle.fallible_core.specs.Laws.OneToOne.Enumerate.{lawful_enumerate}
 use Rattle.fallible_core.proofs.Lemmas.OneToOne.EnumerateFolds.{to_numbers, takes_numbered}
 use Rattle.fallible_core.proofs.one_to_one.enumerate.EnumerateFallibleIterator.try_fold_carrying.Goals as goal
 
-pub try_fold_carrying-requires-clause-callable : goal.try_fold_carrying-requires-clause-callable
-try_fold_carrying-requires-clause-callable g c = takes_numbered g.met.I.FallibleIterator.lawful (g.K.Turn.turns c.args.k.now) c.requires.can (holds_into (λ p. record { it = p.0; count = p.1 }) (λ p x q step. to_numbers p _ q step) c.requires.callable)
+pub fold_passing-count-requires-clause-callable : goal.fold_passing-count-requires-clause-callable
+fold_passing-count-requires-clause-callable g c = takes_numbered g.met.I.FallibleIterator.lawful (g.K.Turn.turns c.args.k.now) c.requires.can (holds_into (λ p. record { it = p.0; count = p.1 }) (λ p x q step. to_numbers p _ q step) c.requires.callable)
 
 pub returns-clause-carried : goal.returns-clause-carried
-returns-clause-carried g c = rw c.handed_back-count.ensures (carried_into (λ p. record { it = p.0; count = p.1 }) to_numbers (folds_through c.try_fold_carrying.ensures.carried))
+returns-clause-carried g c = carried_into (λ p. record { it = p.0; count = p.1 }) to_numbers c.fold_passing-count.ensures.carried
 
 pub returns-clause-stays : goal.returns-clause-stays
 returns-clause-stays g c = stays_run (lawful_seen enumerate_parts (lawful_enumerate g.met.I.FallibleIterator.lawful)) _ _ _ c.requires.can (returns-clause-carried g c).ran

@@ -1,17 +1,15 @@
--- A fold of the source, by the closure's answer and the caller's turn on it.
-use Rattle.std.proofs.Common.{refl}
-use Rattle.fallible_contract.specs.Closures.{call_at, takes_at}
+-- The fold of its source, with the closure in its slot.
 use Rattle.fallible_contract.specs.Laws.Contract.{lawful_seen, stays_run}
-use Rattle.fallible_contract.proofs.Lemmas.Folding.{takes_held, folds_held}
-use Rattle.fallible_core.specs.OneToOne.Inspect.{inspect_outcome, inspect_parts}
+use Rattle.fallible_contract.proofs.Lemmas.Folding.{holds_into, carried_into}
+use Rattle.fallible_core.specs.OneToOne.Inspect.{inspect_parts}
 use Rattle.fallible_core.specs.Laws.OneToOne.Inspect.{lawful_inspect}
 use Rattle.fallible_core.proofs.one_to_one.inspect.InspectFallibleIterator.try_fold_carrying.Goals as goal
 
-pub try_fold_carrying-requires-clause-callable : goal.try_fold_carrying-requires-clause-callable
-try_fold_carrying-requires-clause-callable g c = takes_held inspect_parts (λ p. record { it = p.0; f = p.1 }) (λ s. refl) (λ p. refl) (call_at g.F.FnMut) inspect_outcome g.I.FallibleIterator.contract (g.K.Turn.turns c.args.k.now) c.take_out-f.ensures.value (takes_at g.F.FnMut) g.met.I.FallibleIterator.lawful c.requires.can.0 c.requires.can.1 c.requires.callable
+pub fold_in_slot-requires-clause-callable : goal.fold_in_slot-requires-clause-callable
+fold_in_slot-requires-clause-callable g c = holds_into (λ p. record { it = p.0; f = p.1 }) (λ p x q step. step) c.requires.callable
 
 pub returns-clause-carried : goal.returns-clause-carried
-returns-clause-carried g c = rw c.handed_back-f.ensures (folds_held inspect_parts (λ p. record { it = p.0; f = p.1 }) (λ s. refl) (λ p. refl) (call_at g.F.FnMut) inspect_outcome g.I.FallibleIterator.contract (g.K.Turn.turns c.args.k.now) c.take_out-f.ensures.value c.try_fold_carrying.ensures.carried)
+returns-clause-carried g c = carried_into (λ p. record { it = p.0; f = p.1 }) (λ p r q step. step) c.fold_in_slot.ensures
 
 pub returns-clause-stays : goal.returns-clause-stays
 returns-clause-stays g c = stays_run (lawful_seen inspect_parts (lawful_inspect g.F.FnMut g.met.I.FallibleIterator.lawful)) _ _ _ c.requires.can (returns-clause-carried g c).ran
