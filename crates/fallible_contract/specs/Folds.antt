@@ -1,5 +1,7 @@
 -- Folds.
 use Rattle.std.specs.Prelude.{◌≡◌, ℕ, ◌+◌, ◌≤◌, length, List, [], ◌∷◌, ◌++◌, map, Option, Result, Some, None, Ok, Err}
+use Rattle.std.specs.declared.ops.ControlFlow.{ControlFlow}
+use Rattle.std.specs.declared.ops.ControlFlow.TheVariants.{Continue, Break}
 use Rattle.std.specs.List.{FoldsTo, last_or}
 use Rattle.std.specs.Fn.{Called, Takes, Mut}
 use Rattle.fallible_contract.specs.declared.folds.Exit.{Exit}
@@ -26,9 +28,9 @@ module _ {A F B E' : Type 0} (call : F → B → A → Result B E' → F → Typ
   fold_turn p x q = call p.1 p.0 x (Ok q.0) q.1
 
   -- one call, seen by the fold that carries the value and the closure
-  abbrev pub FoldTurn : B × F → A → Result (B × F) E' → Type 0
-  FoldTurn p x (Ok q) = fold_turn p x q
-  FoldTurn p x (Err e') = (f' : F) × call p.1 p.0 x (Err e') f'
+  abbrev pub FoldTurn : B × F → A → ControlFlow E' (B × F) → Type 0
+  FoldTurn p x (Continue q) = fold_turn p x q
+  FoldTurn p x (Break e') = (f' : F) × call p.1 p.0 x (Err e') f'
 
 module _ {A E F B E' : Type 0} (call : F → B → A → Result B E' → F → Type 0) (from : E → E' → Type 0) where
   -- the fold's result r by the last answer: the last value at an end; the failure, converted, at a failure; the closure's error where it stopped at an item
@@ -54,20 +56,20 @@ module _ {S A E F B E' : Type 0} (steps : S → Answered A E → S → Type 0) (
 
 -- ---- the fold that carries a value, which every other one goes through
 
--- `turns c x r` says that one turn on the carried value c and the item x may answer r: `Ok` of what is carried on, or `Err` where the fold stops.
-module _ {A C R : Type 0} (turns : C → A → Result C R → Type 0) where
+-- `turns c x r` says that one turn on the carried value c and the item x may answer r: `Continue` with what is carried on, or `Break` where the fold stops.
+module _ {A C R : Type 0} (turns : C → A → ControlFlow R C → Type 0) where
   -- one turn that went on
   abbrev pub carrying_turn : C → A → C → Type 0
-  carrying_turn c x d = turns c x (Ok d)
+  carrying_turn c x d = turns c x (Continue d)
 
-module _ {A E C R : Type 0} (turns : C → A → Result C R → Type 0) where
+module _ {A E C R : Type 0} (turns : C → A → ControlFlow R C → Type 0) where
   -- an end and a failure hand the carried value back; where a turn stops, what it stopped with
   abbrev pub CarryingExit : C → Answered A E → Exit C E R → Type 0
   CarryingExit c (Ok None) r = r ≡ Ended c
   CarryingExit c (Err e) r = r ≡ Failed c e
-  CarryingExit c (Ok (Some x)) r = (stop : R) × turns c x (Err stop) × (r ≡ Stopped stop)
+  CarryingExit c (Ok (Some x)) r = (stop : R) × turns c x (Break stop) × (r ≡ Stopped stop)
 
-module _ {S A E C R : Type 0} (steps : S → Answered A E → S → Type 0) (turns : C → A → Result C R → Type 0) where
+module _ {S A E C R : Type 0} (steps : S → Answered A E → S → Type 0) (turns : C → A → ControlFlow R C → Type 0) where
   -- a turn may be taken on the carried value and each item that may come
   abbrev pub CallableCarrying : (C → A → Type 0) → S → C → Type 0
   CallableCarrying can s c = HoldsAtEachTurn steps (carrying_turn turns) can s c
@@ -82,9 +84,9 @@ module _ {S A E C R : Type 0} (steps : S → Answered A E → S → Type 0) (tur
     pub exit : CarryingExit turns carried last r
 
 -- One turn on a value that holds references: what `behind` reads of it goes as in `turns`, and a turn that goes on hands the same references back, which `names` tells.
-abbrev pub TurnBehind : {X N A C R : Type 0} → (X → C) → (X → N) → (C → A → Result C R → Type 0) → X → A → Result X R → Type 0
-TurnBehind behind names turns c x (Ok d) = turns (behind c) x (Ok (behind d)) × (names d ≡ names c)
-TurnBehind behind names turns c x (Err stop) = turns (behind c) x (Err stop)
+abbrev pub TurnBehind : {X N A C R : Type 0} → (X → C) → (X → N) → (C → A → ControlFlow R C → Type 0) → X → A → ControlFlow R X → Type 0
+TurnBehind behind names turns c x (Continue d) = turns (behind c) x (Continue (behind d)) × (names d ≡ names c)
+TurnBehind behind names turns c x (Break stop) = turns (behind c) x (Break stop)
 
 -- the answer at which a fold stopped
 abbrev pub stopped_answer : {B E : Type 0} → Result B E → Answered B E
@@ -156,9 +158,9 @@ pub record Nth {S A E : Type 0} (steps : S → Answered A E → S → Type 0) (s
   pub exit : NthExit n (length skipped) r
 
 -- One turn of an `nth` that is one fold, where n items are still to be passed over: it passes over one of them, or stops with the item where there are none.
-abbrev pub ReachTurn : {A : Type 0} → ℕ → A → Result ℕ A → Type 0
-ReachTurn n x (Ok k) = n ≡ k + 1
-ReachTurn n x (Err y) = (n ≡ 0) × (y ≡ x)
+abbrev pub ReachTurn : {A : Type 0} → ℕ → A → ControlFlow A ℕ → Type 0
+ReachTurn n x (Continue k) = n ≡ k + 1
+ReachTurn n x (Break y) = (n ≡ 0) × (y ≡ x)
 
 -- What a draw answers that is a fold which stops with an item: that item, none at the end, or the failure.
 abbrev pub reached_at : {C A E : Type 0} → Exit C E A → Answered A E

@@ -1,5 +1,7 @@
 -- Searches: a closure is called on the items in order, until it decides.
 use Rattle.std.specs.Prelude.{◌≡◌, ℕ, ◌+◌, length, List, [], ◌∷◌, ◌++◌, map, Bool, true, false, Option, Some, None, Result, Ok, Err}
+use Rattle.std.specs.declared.ops.ControlFlow.{ControlFlow}
+use Rattle.std.specs.declared.ops.ControlFlow.TheVariants.{Continue, Break}
 use Rattle.std.specs.List.{FoldsTo}
 use Rattle.fallible_contract.specs.Traces.{Answered, Run, item}
 use Rattle.fallible_contract.specs.Folds.{HoldsAtEachTurn, stopped_answer}
@@ -48,14 +50,14 @@ module _ {A E F V R : Type 0} (call : F → A → Result V E → F → Type 0) (
   Decided n f x (Err e) g = call f x (Err e) g
 
   -- one call, seen by the fold that carries the closure
-  abbrev pub SearchTurn : F → A → Result F (Result R E) → Type 0
-  SearchTurn f x (Ok g) = Passed f x g
-  SearchTurn f x (Err r) = (g : F) × ((n : ℕ) → Decided n f x r g)
+  abbrev pub SearchTurn : F → A → ControlFlow (Result R E) F → Type 0
+  SearchTurn f x (Continue g) = Passed f x g
+  SearchTurn f x (Break r) = (g : F) × ((n : ℕ) → Decided n f x r g)
 
   -- one call, seen by the fold that carries the number of items before, and the closure
-  abbrev pub PlacedTurn : ℕ × F → A → Result (ℕ × F) (Result R E) → Type 0
-  PlacedTurn p x (Ok q) = (q.0 ≡ p.0 + 1) × Passed p.1 x q.1
-  PlacedTurn p x (Err r) = (g : F) × Decided p.0 p.1 x r g
+  abbrev pub PlacedTurn : ℕ × F → A → ControlFlow (Result R E) (ℕ × F) → Type 0
+  PlacedTurn p x (Continue q) = (q.0 ≡ p.0 + 1) × Passed p.1 x q.1
+  PlacedTurn p x (Break r) = (g : F) × Decided p.0 p.1 x r g
 
   -- The answer r by the last draw, with n items before it: `none` at an end; the failure; what the closure decided on the item. It leaves the closure as g.
   abbrev pub SearchExit : R → ℕ → F → Answered A E → Result R E → F → Type 0
@@ -84,6 +86,6 @@ answer_by none (Failed c e) = Err e
 answer_by none (Stopped r) = r
 
 -- One test, seen by the fold that `find` is: the test goes on, or it ends the search with the item or its failure, and hands back what is carried.
-abbrev pub FindTurn : {A E C : Type 0} → (C → A → Result Bool E → C → Type 0) → C → A → Result C (C × Result A E) → Type 0
-FindTurn tests c x (Ok d) = Passed tests find_pick c x d
-FindTurn tests c x (Err p) = (n : ℕ) → Decided tests find_pick n c x (stopped_answer p.1) p.0
+abbrev pub FindTurn : {A E C : Type 0} → (C → A → Result Bool E → C → Type 0) → C → A → ControlFlow (C × Result A E) C → Type 0
+FindTurn tests c x (Continue d) = Passed tests find_pick c x d
+FindTurn tests c x (Break p) = (n : ℕ) → Decided tests find_pick n c x (stopped_answer p.1) p.0

@@ -9,6 +9,7 @@ mod sorted;
 
 use crate::folds::Turn;
 use std::alloc::{AllocError, Global};
+use std::ops::ControlFlow;
 
 /// A collection that is made empty and filled item by item.
 pub trait Collect<T>: Drop + Sized {
@@ -81,10 +82,10 @@ impl<'a, A, C: Collect<A>> Turn<&'a mut C, A, AllocError> for Pushing {
     ghost turns = { λ _ made x r. PushTurnBehind C.made C.push_refuses made x r };
 
     /// The item after the others.
-    fn turn(&self, carried: &'a mut C, item: A) -> Result<&'a mut C, AllocError> {
+    fn turn(&self, carried: &'a mut C, item: A) -> ControlFlow<AllocError, &'a mut C> {
         match carried.push_one(item) {
-            Ok(()) => Ok(carried),
-            Err(refused) => Err(refused),
+            Ok(()) => ControlFlow::Continue(carried),
+            Err(refused) => ControlFlow::Break(refused),
         }
     }
 }
@@ -103,21 +104,25 @@ impl<'a, A: Drop, E, B: Collect<A>, F: FnMut(&A) -> Result<bool, E>> Turn<
     ghost turns = { λ _ c x r. PartTurnBehind (call_at F.FnMut) B.made B.push_refuses c x r };
 
     /// The predicate is asked once, and the item is pushed to the side of its answer.
-    fn turn(&self, carried: (F, &'a mut (B, B)), item: A) -> Result<(F, &'a mut (B, B)), Fault<E>> {
+    fn turn(
+        &self,
+        carried: (F, &'a mut (B, B)),
+        item: A,
+    ) -> ControlFlow<Fault<E>, (F, &'a mut (B, B))> {
         let (mut f, sides) = carried;
         let answer = match f(&item) {
             Ok(answer) => answer,
-            Err(e) => return Err(Fault::Source(e)),
+            Err(e) => return ControlFlow::Break(Fault::Source(e)),
         };
         if answer {
             match sides.0.push_one(item) {
-                Ok(()) => Ok((f, sides)),
-                Err(refused) => Err(Fault::Memory(refused)),
+                Ok(()) => ControlFlow::Continue((f, sides)),
+                Err(refused) => ControlFlow::Break(Fault::Memory(refused)),
             }
         } else {
             match sides.1.push_one(item) {
-                Ok(()) => Ok((f, sides)),
-                Err(refused) => Err(Fault::Memory(refused)),
+                Ok(()) => ControlFlow::Continue((f, sides)),
+                Err(refused) => ControlFlow::Break(Fault::Memory(refused)),
             }
         }
     }
@@ -134,15 +139,19 @@ impl<'a, A, B: Drop, C: Collect<A>, D: Collect<B>> Turn<&'a mut (C, D), (A, B), 
     ghost turns = { λ _ c x r. PairTurnBehind C.made D.made C.push_refuses D.push_refuses c x r };
 
     /// The first part is pushed to the first collection, and then the second part to the second.
-    fn turn(&self, carried: &'a mut (C, D), item: (A, B)) -> Result<&'a mut (C, D), AllocError> {
+    fn turn(
+        &self,
+        carried: &'a mut (C, D),
+        item: (A, B),
+    ) -> ControlFlow<AllocError, &'a mut (C, D)> {
         let (a, b) = item;
         match carried.0.push_one(a) {
             Ok(()) => {}
-            Err(refused) => return Err(refused),
+            Err(refused) => return ControlFlow::Break(refused),
         }
         match carried.1.push_one(b) {
-            Ok(()) => Ok(carried),
-            Err(refused) => Err(refused),
+            Ok(()) => ControlFlow::Continue(carried),
+            Err(refused) => ControlFlow::Break(refused),
         }
     }
 }

@@ -1,9 +1,12 @@
 //! Folds that carry a value.
 ghost use Rattle.std.specs.Prelude.{◌≡◌, ◌+◌, ◌-◌, ◌^◌, ◌<◌, ⊤, Result, Ok, Err, Some, None, IsSomeAnd};
+ghost use Rattle.std.specs.declared.ops.ControlFlow.{ControlFlow};
+ghost use Rattle.std.specs.declared.ops.ControlFlow.TheVariants.{Continue, Break};
 ghost use Rattle.fallible_contract.specs.Folding.{handed};
 ghost use Rattle.fallible_contract.specs.Folds.{unpacked, ValueAt, FoldedAt, FoldTurn, ReachTurn, reached_at, call_with, takes_with};
 
 use std::convert::Infallible;
+use std::ops::ControlFlow;
 
 /// How a fold ended that carries a value: at the source's end or at a failure of the source, with the value carried, or where a turn stopped it, with what that turn handed back.
 #[derive(Drop)]
@@ -22,20 +25,20 @@ pub trait Turn<C, A, R> {
     ghost can_turn: { Self → C → A → Type 0 };
 
     // Holds of those and what the turn may answer.
-    ghost turns: { Self → C → A → Result C R → Type 0 };
+    ghost turns: { Self → C → A → ControlFlow R C → Type 0 };
 
-    /// Takes the turn: `Ok` of what is carried on, or `Err` of what the fold stops with.
-    fn turn(&self, carried: C, item: A) -> Result<C, R>
+    /// Takes the turn: `Continue` with what is carried on, or `Break` with what the fold stops with.
+    fn turn(&self, carried: C, item: A) -> ControlFlow<R, C>
         requires { can_turn self.now carried item }
         ensures { turns self.now carried item result };
 }
 
-impl<C, A, R, F: Fn(C, A) -> Result<C, R>> Turn<C, A, R> for F {
+impl<C, A, R, F: Fn(C, A) -> ControlFlow<R, C>> Turn<C, A, R> for F {
     ghost can_turn = { λ f c x. F.pre f c x };
 
     ghost turns = { λ f c x r. F.post f c x r };
 
-    fn turn(&self, carried: C, item: A) -> Result<C, R> {
+    fn turn(&self, carried: C, item: A) -> ControlFlow<R, C> {
         self(carried, item)
     }
 }
@@ -76,11 +79,11 @@ pub struct Counting;
 impl<A: Drop> Turn<usize, A, Infallible> for Counting {
     ghost can_turn = { λ _ n _. n < 2 ^ 64 - 1 };
 
-    ghost turns = { λ _ n _ r. r ≡ Ok (n + 1) };
+    ghost turns = { λ _ n _ r. r ≡ Continue (n + 1) };
 
     /// One more.
-    fn turn(&self, carried: usize, _item: A) -> Result<usize, Infallible> {
-        Ok(carried + 1)
+    fn turn(&self, carried: usize, _item: A) -> ControlFlow<Infallible, usize> {
+        ControlFlow::Continue(carried + 1)
     }
 }
 
@@ -91,11 +94,11 @@ pub struct KeepingLast;
 impl<A: Drop> Turn<Option<A>, A, Infallible> for KeepingLast {
     ghost can_turn = { λ _ _ _. ⊤ };
 
-    ghost turns = { λ _ _ x r. r ≡ Ok (Some x) };
+    ghost turns = { λ _ _ x r. r ≡ Continue (Some x) };
 
     /// The item in the place of the one before.
-    fn turn(&self, _carried: Option<A>, item: A) -> Result<Option<A>, Infallible> {
-        Ok(Some(item))
+    fn turn(&self, _carried: Option<A>, item: A) -> ControlFlow<Infallible, Option<A>> {
+        ControlFlow::Continue(Some(item))
     }
 }
 
@@ -109,11 +112,11 @@ impl<A, B, E, F: FnMut(B, A) -> Result<B, E>> Turn<(B, F), A, E> for Folding {
     ghost turns = { λ _ p x r. FoldTurn (call_with F.FnMut) p x r };
 
     /// The closure's answer on the value so far and the item.
-    fn turn(&self, carried: (B, F), item: A) -> Result<(B, F), E> {
+    fn turn(&self, carried: (B, F), item: A) -> ControlFlow<E, (B, F)> {
         let (value, mut f) = carried;
         match f(value, item) {
-            Ok(value) => Ok((value, f)),
-            Err(e) => Err(e),
+            Ok(value) => ControlFlow::Continue((value, f)),
+            Err(e) => ControlFlow::Break(e),
         }
     }
 }
@@ -128,11 +131,11 @@ impl<A: Drop> Turn<usize, A, A> for Reaching {
     ghost turns = { λ _ n x r. ReachTurn n x r };
 
     /// One fewer, or the item.
-    fn turn(&self, carried: usize, item: A) -> Result<usize, A> {
+    fn turn(&self, carried: usize, item: A) -> ControlFlow<A, usize> {
         if carried == 0 {
-            Err(item)
+            ControlFlow::Break(item)
         } else {
-            Ok(carried - 1)
+            ControlFlow::Continue(carried - 1)
         }
     }
 }
@@ -144,11 +147,11 @@ pub struct FirstTurn;
 impl<A> Turn<(), A, A> for FirstTurn {
     ghost can_turn = { λ _ _ _. ⊤ };
 
-    ghost turns = { λ _ _ x r. r ≡ Err x };
+    ghost turns = { λ _ _ x r. r ≡ Break x };
 
     /// The item.
-    fn turn(&self, _carried: (), item: A) -> Result<(), A> {
-        Err(item)
+    fn turn(&self, _carried: (), item: A) -> ControlFlow<A, ()> {
+        ControlFlow::Break(item)
     }
 }
 

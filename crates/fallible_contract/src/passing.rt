@@ -6,6 +6,7 @@ ghost use Rattle.fallible_contract.specs.declared.passing.Outcome.{Outcome};
 ghost use Rattle.fallible_contract.specs.Passing.{ItemPassed, PassAnswer, IfItem, LeavesNoneOut};
 
 use crate::folds::{Exit, Turn, take_out};
+use std::ops::ControlFlow;
 
 /// What becomes of one item.
 #[derive(Drop)]
@@ -65,17 +66,17 @@ impl<'a, P, X, E, C, R, A: Pass<P, X, E>, K: Turn<C, A::Kept, R>> Turn<
         FoldingTurn (A.call k.adapter.now) (A.outcome k.adapter.now) (K.turns k.turn.now) p x r };
 
     /// The call, made once, and the caller's turn where the item is kept.
-    fn turn(&self, carried: (C, P), item: X) -> Result<(C, P), (P, Exit<C, E, R>)> {
+    fn turn(&self, carried: (C, P), item: X) -> ControlFlow<(P, Exit<C, E, R>), (C, P)> {
         let (value, state) = carried;
         let (state, outcome) = self.adapter.pass(state, item);
         match outcome {
             Outcome::Kept(y) => match self.turn.turn(value, y) {
-                Ok(value) => Ok((value, state)),
-                Err(stop) => Err((state, Exit::Stopped(stop))),
+                ControlFlow::Continue(value) => ControlFlow::Continue((value, state)),
+                ControlFlow::Break(stop) => ControlFlow::Break((state, Exit::Stopped(stop))),
             },
-            Outcome::LeftOut => Ok((value, state)),
-            Outcome::Failure(e) => Err((state, Exit::Failed(value, e))),
-            Outcome::End => Err((state, Exit::Ended(value))),
+            Outcome::LeftOut => ControlFlow::Continue((value, state)),
+            Outcome::Failure(e) => ControlFlow::Break((state, Exit::Failed(value, e))),
+            Outcome::End => ControlFlow::Break((state, Exit::Ended(value))),
         }
     }
 }

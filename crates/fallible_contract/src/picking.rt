@@ -7,6 +7,7 @@ ghost use Rattle.fallible_contract.specs.Picking.{same_order, call_at_two, takes
 
 use crate::folds::Turn;
 use std::cmp::Ordering;
+use std::ops::ControlFlow;
 
 // Whether the best so far stays the best, where it compares so with the next item.
 fn stays_best(keeps: Ordering, order: Ordering) -> bool
@@ -33,21 +34,21 @@ impl<A: Drop, E, F: FnMut(&A, &A) -> Result<Ordering, E>> Turn<(Option<A>, F), A
     ghost turns = { λ k p x r. FoldTurn (PickCall k.keeps (call_at_two F.FnMut)) p x r };
 
     /// The first item without a call; then the closure is asked once.
-    fn turn(&self, carried: (Option<A>, F), item: A) -> Result<(Option<A>, F), E> {
+    fn turn(&self, carried: (Option<A>, F), item: A) -> ControlFlow<E, (Option<A>, F)> {
         let (best, mut f) = carried;
         let best = match best {
             Some(best) => best,
-            None => return Ok((Some(item), f)),
+            None => return ControlFlow::Continue((Some(item), f)),
         };
         match f(&best, &item) {
             Ok(order) => {
                 if stays_best(self.keeps, order) {
-                    Ok((Some(best), f))
+                    ControlFlow::Continue((Some(best), f))
                 } else {
-                    Ok((Some(item), f))
+                    ControlFlow::Continue((Some(item), f))
                 }
             }
-            Err(e) => Err(e),
+            Err(e) => ControlFlow::Break(e),
         }
     }
 }
@@ -66,20 +67,20 @@ impl<A: Drop, E, K: Ord + Drop, F: FnMut(&A) -> Result<K, E>> Turn<(Option<(K, A
     ghost turns = { λ k p x r. FoldTurn (KeyCall k.keeps K.cmp (call_at F.FnMut)) p x r };
 
     /// The key is made once, and compared with the best so far.
-    fn turn(&self, carried: (Option<(K, A)>, F), item: A) -> Result<(Option<(K, A)>, F), E> {
+    fn turn(&self, carried: (Option<(K, A)>, F), item: A) -> ControlFlow<E, (Option<(K, A)>, F)> {
         let (best, mut f) = carried;
         let key = match f(&item) {
             Ok(key) => key,
-            Err(e) => return Err(e),
+            Err(e) => return ControlFlow::Break(e),
         };
         let best = match best {
             Some(best) => best,
-            None => return Ok((Some((key, item)), f)),
+            None => return ControlFlow::Continue((Some((key, item)), f)),
         };
         if stays_best(self.keeps, best.0.cmp(&key)) {
-            Ok((Some(best), f))
+            ControlFlow::Continue((Some(best), f))
         } else {
-            Ok((Some((key, item)), f))
+            ControlFlow::Continue((Some((key, item)), f))
         }
     }
 }

@@ -5,6 +5,7 @@ ghost use Rattle.fallible_contract.specs.Closures.{call_on, takes_on, call_at, t
 ghost use Rattle.fallible_contract.specs.Searching.{FindTurn, SearchTurn, PlacedTurn, answer_by, all_pick, any_pick, find_map_pick, position_pick, each_pick};
 
 use crate::folds::{Exit, Turn};
+use std::ops::ControlFlow;
 
 /// What a search answers, by how its fold ended: `none` at the end, the source's failure, or what the fold stopped with.
 pub fn answer_at<C: Drop, R: Drop, E>(exit: Exit<C, E, Result<R, E>>, none: R) -> Result<R, E>
@@ -65,12 +66,12 @@ impl<'a, C, A: Drop, E, K: Test<C, A, E>> Turn<C, A, (C, Result<A, E>)> for Find
     ghost turns = { λ k c x r. FindTurn (K.tests k.test.now) c x r };
 
     /// The test, made once.
-    fn turn(&self, carried: C, item: A) -> Result<C, (C, Result<A, E>)> {
+    fn turn(&self, carried: C, item: A) -> ControlFlow<(C, Result<A, E>), C> {
         let (carried, answer) = self.test.test(carried, &item);
         match answer {
-            Ok(true) => Err((carried, Ok(item))),
-            Ok(false) => Ok(carried),
-            Err(e) => Err((carried, Err(e))),
+            Ok(true) => ControlFlow::Break((carried, Ok(item))),
+            Ok(false) => ControlFlow::Continue(carried),
+            Err(e) => ControlFlow::Break((carried, Err(e))),
         }
     }
 }
@@ -102,11 +103,11 @@ impl<A, E, F: FnMut(A) -> Result<(), E>> Turn<F, A, Result<(), E>> for CallingEa
     ghost turns = { λ _ f x r. SearchTurn (call_on F.FnMut) each_pick f x r };
 
     /// The call, made once.
-    fn turn(&self, carried: F, item: A) -> Result<F, Result<(), E>> {
+    fn turn(&self, carried: F, item: A) -> ControlFlow<Result<(), E>, F> {
         let mut f = carried;
         match f(item) {
-            Ok(()) => Ok(f),
-            Err(e) => Err(Err(e)),
+            Ok(()) => ControlFlow::Continue(f),
+            Err(e) => ControlFlow::Break(Err(e)),
         }
     }
 }
@@ -121,12 +122,12 @@ impl<A, E, F: FnMut(A) -> Result<bool, E>> Turn<F, A, Result<bool, E>> for Requi
     ghost turns = { λ _ f x r. SearchTurn (call_on F.FnMut) all_pick f x r };
 
     /// The predicate's answer, asked once.
-    fn turn(&self, carried: F, item: A) -> Result<F, Result<bool, E>> {
+    fn turn(&self, carried: F, item: A) -> ControlFlow<Result<bool, E>, F> {
         let mut f = carried;
         match f(item) {
-            Ok(true) => Ok(f),
-            Ok(false) => Err(Ok(false)),
-            Err(e) => Err(Err(e)),
+            Ok(true) => ControlFlow::Continue(f),
+            Ok(false) => ControlFlow::Break(Ok(false)),
+            Err(e) => ControlFlow::Break(Err(e)),
         }
     }
 }
@@ -141,12 +142,12 @@ impl<A, E, F: FnMut(A) -> Result<bool, E>> Turn<F, A, Result<bool, E>> for Seeki
     ghost turns = { λ _ f x r. SearchTurn (call_on F.FnMut) any_pick f x r };
 
     /// The predicate's answer, asked once.
-    fn turn(&self, carried: F, item: A) -> Result<F, Result<bool, E>> {
+    fn turn(&self, carried: F, item: A) -> ControlFlow<Result<bool, E>, F> {
         let mut f = carried;
         match f(item) {
-            Ok(true) => Err(Ok(true)),
-            Ok(false) => Ok(f),
-            Err(e) => Err(Err(e)),
+            Ok(true) => ControlFlow::Break(Ok(true)),
+            Ok(false) => ControlFlow::Continue(f),
+            Err(e) => ControlFlow::Break(Err(e)),
         }
     }
 }
@@ -162,12 +163,12 @@ impl<A, B, E, F: FnMut(A) -> Result<Option<B>, E>> Turn<F, A, Result<Option<B>, 
     ghost turns = { λ _ f x r. SearchTurn (call_on F.FnMut) find_map_pick f x r };
 
     /// The closure's answer, asked once.
-    fn turn(&self, carried: F, item: A) -> Result<F, Result<Option<B>, E>> {
+    fn turn(&self, carried: F, item: A) -> ControlFlow<Result<Option<B>, E>, F> {
         let mut f = carried;
         match f(item) {
-            Ok(Some(y)) => Err(Ok(Some(y))),
-            Ok(None) => Ok(f),
-            Err(e) => Err(Err(e)),
+            Ok(Some(y)) => ControlFlow::Break(Ok(Some(y))),
+            Ok(None) => ControlFlow::Continue(f),
+            Err(e) => ControlFlow::Break(Err(e)),
         }
     }
 }
@@ -183,12 +184,12 @@ impl<A, E, F: FnMut(A) -> Result<bool, E>> Turn<(usize, F), A, Result<Option<usi
     ghost turns = { λ _ p x r. PlacedTurn (call_on F.FnMut) position_pick p x r };
 
     /// The predicate's answer, asked once, and one more item before the next.
-    fn turn(&self, carried: (usize, F), item: A) -> Result<(usize, F), Result<Option<usize>, E>> {
+    fn turn(&self, carried: (usize, F), item: A) -> ControlFlow<Result<Option<usize>, E>, (usize, F)> {
         let (before, mut f) = carried;
         match f(item) {
-            Ok(true) => Err(Ok(Some(before))),
-            Ok(false) => Ok((before + 1, f)),
-            Err(e) => Err(Err(e)),
+            Ok(true) => ControlFlow::Break(Ok(Some(before))),
+            Ok(false) => ControlFlow::Continue((before + 1, f)),
+            Err(e) => ControlFlow::Break(Err(e)),
         }
     }
 }

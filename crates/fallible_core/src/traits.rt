@@ -71,6 +71,7 @@ use std::alloc::{AllocError, Global};
 use std::cmp::Ordering;
 use std::fmt::Debug;
 use std::marker::PhantomData;
+use std::ops::ControlFlow;
 
 /// An iterator whose `next` may fail. It may go on after an end and after a failure.
 ///
@@ -129,8 +130,8 @@ pub trait FallibleIterator: Drop + Sized {
                 Ok(None) => return Exit::Ended(carried),
                 Err(e) => return Exit::Failed(carried, e),
                 Ok(Some(x)) => match k.turn(carried, x) {
-                    Ok(c) => carried = c,
-                    Err(stop) => return Exit::Stopped(stop),
+                    ControlFlow::Continue(c) => carried = c,
+                    ControlFlow::Break(stop) => return Exit::Stopped(stop),
                 },
             }
             left = left.one_less();

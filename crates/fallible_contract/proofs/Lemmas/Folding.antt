@@ -1,5 +1,7 @@
 -- A fold of the source by the adapter's outcome and the caller's turn is a fold of the adapter by the caller's turn.
 use Rattle.std.specs.Prelude.{◌≡◌, List, [], ◌∷◌, ◌++◌, map, Option, Result, Some, None, Ok, Err}
+use Rattle.std.specs.declared.ops.ControlFlow.{ControlFlow}
+use Rattle.std.specs.declared.ops.ControlFlow.TheVariants.{Continue, Break}
 use Rattle.std.specs.List.{FoldsTo}
 use Rattle.std.proofs.Common.{refl, sym, subst, ap}
 use Rattle.fallible_contract.specs.declared.folds.Exit.{Exit}
@@ -21,7 +23,7 @@ use Rattle.fallible_contract.proofs.Lemmas.Passing.{passes_in_slot}
 -- ---- folds from another value, of which every step is one from this one
 
 module _ {S A E C : Type 0} {steps : S → Answered A E → S → Type 0} (s u : S) (same : (r : Answered A E) (t : S) → steps u r t → steps s r t) where
-  from_items : {R : Type 0} {turns : C → A → Result C R → Type 0} {r : Exit C E R} (items : List A) (last : Answered A E) (c d : C) (t : S) → Run steps u (map item items ++ last ∷ []) t → FoldsTo (carrying_turn turns) c items d → CarryingExit turns d last r → Carried steps turns s c r t
+  from_items : {R : Type 0} {turns : C → A → ControlFlow R C → Type 0} {r : Exit C E R} (items : List A) (last : Answered A E) (c d : C) (t : S) → Run steps u (map item items ++ last ∷ []) t → FoldsTo (carrying_turn turns) c items d → CarryingExit turns d last r → Carried steps turns s c r t
   from_items [] last c d t ran went exit = record { items = []; last = last; carried = d; ran = (ran.0, same last ran.0 ran.1, ran.2); went = went; exit = exit }
   from_items (x ∷ items) last c d t ran went exit = record { items = x ∷ items; last = last; carried = d; ran = (ran.0, same (item x) ran.0 ran.1, ran.2); went = went; exit = exit }
 
@@ -31,7 +33,7 @@ module _ {S A E C : Type 0} {steps : S → Answered A E → S → Type 0} (s u :
     at_items (y ∷ items) t v d x ran went step = h.at (y ∷ items) t v d x (ran.0, same (item y) ran.0 ran.1, ran.2) went step
 
 module _ {S A E C : Type 0} {steps : S → Answered A E → S → Type 0} {s u : S} (same : (r : Answered A E) (t : S) → steps u r t → steps s r t) where
-  pub carried_from : {R : Type 0} {turns : C → A → Result C R → Type 0} {c : C} {r : Exit C E R} {t : S} → Carried steps turns u c r t → Carried steps turns s c r t
+  pub carried_from : {R : Type 0} {turns : C → A → ControlFlow R C → Type 0} {c : C} {r : Exit C E R} {t : S} → Carried steps turns u c r t → Carried steps turns s c r t
   carried_from {c = c} {t = t} w = from_items s u same w.items w.last c w.carried t w.ran w.went w.exit
 
   pub holds_from : {goes_on : C → A → C → Type 0} {P : C → A → Type 0} {c : C} → HoldsAtEachTurn steps goes_on P s c → HoldsAtEachTurn steps goes_on P u c
@@ -45,7 +47,7 @@ module _ {S P A E : Type 0} (steps : P → Answered A E → P → Type 0) (held 
   run_into (r ∷ trace) p q w = (into w.0, holds p r w.0 w.1, run_into trace w.0 q w.2)
 
 module _ {S P A E C : Type 0} {steps : P → Answered A E → P → Type 0} {held : S → Answered A E → S → Type 0} (into : P → S) (holds : (p : P) (r : Answered A E) (q : P) → steps p r q → held (into p) r (into q)) where
-  pub carried_into : {R : Type 0} {turns : C → A → Result C R → Type 0} {p q : P} {c : C} {r : Exit C E R} → Carried steps turns p c r q → Carried held turns (into p) c r (into q)
+  pub carried_into : {R : Type 0} {turns : C → A → ControlFlow R C → Type 0} {p q : P} {c : C} {r : Exit C E R} → Carried steps turns p c r q → Carried held turns (into p) c r (into q)
   carried_into {p = p} {q = q} w = record { items = w.items; last = w.last; carried = w.carried; ran = run_into steps held into holds (map item w.items ++ w.last ∷ []) p q w.ran; went = w.went; exit = w.exit }
 
 -- what holds at each turn asks of items alone
@@ -65,7 +67,7 @@ module _ {S P A E : Type 0} (Q : P → Type 0) (steps : P → Answered A E → P
   run_while [] last p q at w = (into w.0, holds p last w.0 at w.1, ap into w.2)
   run_while (x ∷ items) last p q at w = (into w.0, holds p (item x) w.0 at w.1, run_while items last w.0 q (keeps_on p x w.0 at w.1) w.2)
 
-  pub carried_while : {C R : Type 0} {turns : C → A → Result C R → Type 0} {p q : P} {c : C} {r : Exit C E R} → Q p → Carried steps turns p c r q → Carried held turns (into p) c r (into q)
+  pub carried_while : {C R : Type 0} {turns : C → A → ControlFlow R C → Type 0} {p q : P} {c : C} {r : Exit C E R} → Q p → Carried steps turns p c r q → Carried held turns (into p) c r (into q)
   carried_while {p = p} {q = q} at w = record { items = w.items; last = w.last; carried = w.carried; ran = run_while w.items w.last p q at w.ran; went = w.went; exit = w.exit }
 
   yields_while : (items : List A) (p q : P) → Q p → Yields steps p items q → Yields held (into p) items (into q) × Q q
@@ -77,11 +79,11 @@ module _ {S P A E : Type 0} (Q : P → Type 0) (steps : P → Answered A E → P
 
 -- ---- an adapter's fold through its source's
 
-pub both_on : {C F Z : Type 0} {d k : C} {h g : F} → ◌≡◌ {A = Result (C × F) Z} (Ok (d, h)) (Ok (k, g)) → (d ≡ k) × (h ≡ g)
+pub both_on : {C F Z : Type 0} {d k : C} {h g : F} → ◌≡◌ {A = ControlFlow Z (C × F)} (Continue (d, h)) (Continue (k, g)) → (d ≡ k) × (h ≡ g)
 both_on {C = C} {F = F} {d = d} {k = k} {h = h} {g = g} e = let p : ◌≡◌ {A = C × F} (d, h) (k, g) = cc in (ap (λ q. q.0) p, ap (λ q. q.1) p)
 
-module _ {S C F X V B E R : Type 0} (steps : S → Answered X E → S → Type 0) (call : F → X → V → F → Type 0) (outcome : X → V → Outcome B E) (turns : C → B → Result C R → Type 0) where
-  abbrev Turned : C × F → X → Result (C × F) (F × Exit C E R) → Type 0
+module _ {S C F X V B E R : Type 0} (steps : S → Answered X E → S → Type 0) (call : F → X → V → F → Type 0) (outcome : X → V → Outcome B E) (turns : C → B → ControlFlow R C → Type 0) where
+  abbrev Turned : C × F → X → ControlFlow (F × Exit C E R) (C × F) → Type 0
   Turned = FoldingTurn call outcome turns
 
   abbrev Steps : S × F → Answered B E → S × F → Type 0
@@ -95,9 +97,9 @@ module _ {S C F X V B E R : Type 0} (steps : S → Answered X E → S → Type 0
   left_same x v step called is r q p = from_passes (leaves_out x v step called is (to_passes p))
 
   -- the item on which the source's turn stops
-  stops_at : (x : X) (v : V) (o : Outcome B E) (s t : S) (f g : F) (c : C) (stop : F × Exit C E R) → steps s (item x) t → call f x v g → outcome x v ≡ o → TurnedBy turns c g o (Err stop) → Folds s f c stop t
-  stops_at x v (Kept y) s t f g c stop step called is (Ok d, w, e) = absurd cc
-  stops_at x v (Kept y) s t f g c stop step called is (Err why, w, e) = let same : stop ≡ (g, Stopped why) = cc in subst (λ h. Folds s f c h t) (sym same) (carried_stop y (from_passes (keeps x v y step called is done)) w)
+  stops_at : (x : X) (v : V) (o : Outcome B E) (s t : S) (f g : F) (c : C) (stop : F × Exit C E R) → steps s (item x) t → call f x v g → outcome x v ≡ o → TurnedBy turns c g o (Break stop) → Folds s f c stop t
+  stops_at x v (Kept y) s t f g c stop step called is (Continue d, w, e) = absurd cc
+  stops_at x v (Kept y) s t f g c stop step called is (Break why, w, e) = let same : stop ≡ (g, Stopped why) = cc in subst (λ h. Folds s f c h t) (sym same) (carried_stop y (from_passes (keeps x v y step called is done)) w)
   stops_at x v LeftOut s t f g c stop step called is w = absurd cc
   stops_at x v (Failure e) s t f g c stop step called is w = let same : stop ≡ (g, Failed c e) = cc in subst (λ h. Folds s f c h t) (sym same) (carried_failure (from_passes (refuses x v e step called is done)))
   stops_at x v End s t f g c stop step called is w = let same : stop ≡ (g, Ended c) = cc in subst (λ h. Folds s f c h t) (sym same) (carried_end (from_passes (closes x v step called is done)))
@@ -109,10 +111,10 @@ module _ {S C F X V B E R : Type 0} (steps : S → Answered X E → S → Type 0
   last_through (Ok (Some x)) s t f c exit step w = subst (λ h. Folds s f c (handed h) t) (sym w.2) (let turned = w.1 in stops_at x turned.0 (outcome x turned.0) s t f turned.1 c w.0 step turned.2 refl turned.3)
 
   -- an item on which the source's turn went on, before the rest of the fold
-  goes_on_at : (x : X) (v : V) (o : Outcome B E) (s u t : S) (f g h : F) (c d : C) (exit : F × Exit C E R) → steps s (item x) u → call f x v g → outcome x v ≡ o → TurnedBy {E = E} turns c g o (Ok (d, h)) → Folds u h d exit t → Folds s f c exit t
-  goes_on_at x v (Kept y) s u t f g h c d exit step called is (Ok k, w, e) rest = let at : d ≡ k = (both_on e).0 in let left : h ≡ g = (both_on e).1 in
-      carried_after y (from_passes (keeps x v y step called is done)) (subst (λ (z : C). turns c y (Ok z)) (sym at) w) (subst (λ (j : F). Folds u j d exit t) left rest)
-  goes_on_at x v (Kept y) s u t f g h c d exit step called is (Err why, w, e) rest = absurd cc
+  goes_on_at : (x : X) (v : V) (o : Outcome B E) (s u t : S) (f g h : F) (c d : C) (exit : F × Exit C E R) → steps s (item x) u → call f x v g → outcome x v ≡ o → TurnedBy {E = E} turns c g o (Continue (d, h)) → Folds u h d exit t → Folds s f c exit t
+  goes_on_at x v (Kept y) s u t f g h c d exit step called is (Continue k, w, e) rest = let at : d ≡ k = (both_on e).0 in let left : h ≡ g = (both_on e).1 in
+      carried_after y (from_passes (keeps x v y step called is done)) (subst (λ (z : C). turns c y (Continue z)) (sym at) w) (subst (λ (j : F). Folds u j d exit t) left rest)
+  goes_on_at x v (Kept y) s u t f g h c d exit step called is (Break why, w, e) rest = absurd cc
   goes_on_at x v LeftOut s u t f g h c d exit step called is w rest = let at : d ≡ c = (both_on w).0 in let left : h ≡ g = (both_on w).1 in
       carried_from (left_same x v step called is) (subst (λ (j : F). Folds u j c exit t) left (subst (λ (k : C). Folds u h k exit t) at rest))
   goes_on_at x v (Failure e) s u t f g h c d exit step called is w rest = absurd cc
@@ -130,10 +132,10 @@ module _ {S C F X V B E R : Type 0} (steps : S → Answered X E → S → Type 0
     abbrev Holds : S → F → C → Type 0
     Holds s f c = HoldsAtEachTurn Steps (carrying_turn turns) P (s, f) c
 
-    holds_on : (x : X) (v : V) (o : Outcome B E) (s u : S) (f g h : F) (c d : C) → steps s (item x) u → call f x v g → outcome x v ≡ o → TurnedBy {E = E} turns c g o (Ok (d, h)) → Holds s f c → Holds u h d
-    holds_on x v (Kept y) s u f g h c d step called is (Ok k, w, e) holds = let at : d ≡ k = (both_on e).0 in let left : h ≡ g = (both_on e).1 in
-        subst (λ (j : F). Holds u j d) (sym left) (holds_after holds (from_passes (keeps x v y step called is done)) (subst (λ (z : C). turns c y (Ok z)) (sym at) w))
-    holds_on x v (Kept y) s u f g h c d step called is (Err why, w, e) holds = absurd cc
+    holds_on : (x : X) (v : V) (o : Outcome B E) (s u : S) (f g h : F) (c d : C) → steps s (item x) u → call f x v g → outcome x v ≡ o → TurnedBy {E = E} turns c g o (Continue (d, h)) → Holds s f c → Holds u h d
+    holds_on x v (Kept y) s u f g h c d step called is (Continue k, w, e) holds = let at : d ≡ k = (both_on e).0 in let left : h ≡ g = (both_on e).1 in
+        subst (λ (j : F). Holds u j d) (sym left) (holds_after holds (from_passes (keeps x v y step called is done)) (subst (λ (z : C). turns c y (Continue z)) (sym at) w))
+    holds_on x v (Kept y) s u f g h c d step called is (Break why, w, e) holds = absurd cc
     holds_on x v LeftOut s u f g h c d step called is w holds = let at : d ≡ c = (both_on w).0 in let left : h ≡ g = (both_on w).1 in
         subst (λ (j : F). Holds u j d) (sym left) (subst (λ (k : C). Holds u g k) (sym at) (holds_from (left_same x v step called is) holds))
     holds_on x v (Failure e) s u f g h c d step called is w holds = absurd cc
@@ -145,15 +147,15 @@ module _ {S C F X V B E R : Type 0} (steps : S → Answered X E → S → Type 0
         holds_at items ran.0 t went.0.1 g went.0.0 d ran.2 went.2 (holds_on x turned.0 (outcome x turned.0) s ran.0 f turned.1 went.0.1 c went.0.0 ran.1 turned.2 refl turned.3 holds)
 
 -- A fold of the source by that turn is a fold of the adapter, with the closure and the exit that were handed back.
-pub folds_through : {S C F X V B E R : Type 0} {steps : S → Answered X E → S → Type 0} {call : F → X → V → F → Type 0} {outcome : X → V → Outcome B E} {turns : C → B → Result C R → Type 0} {s t : S} {f : F} {c : C} {exit : Exit (C × F) E (F × Exit C E R)}
+pub folds_through : {S C F X V B E R : Type 0} {steps : S → Answered X E → S → Type 0} {call : F → X → V → F → Type 0} {outcome : X → V → Outcome B E} {turns : C → B → ControlFlow R C → Type 0} {s t : S} {f : F} {c : C} {exit : Exit (C × F) E (F × Exit C E R)}
     → Carried steps (FoldingTurn call outcome turns) s (c, f) exit t → Carried (passing_step steps call outcome) turns (s, f) c (handed exit).1 (t, (handed exit).0)
 folds_through {steps = steps} {call = call} {outcome = outcome} {turns = turns} {s = s} {t = t} {f = f} {c = c} {exit = exit} w = items_through steps call outcome turns w.items w.last s t f w.carried.1 c w.carried.0 exit w.ran w.went w.exit
 
 -- calls of the source's turns bring the closure where calls on what comes do
-module _ {S C F X V B E R : Type 0} {m : Contract S X E} (l : Lawful m) (call : F → X → V → F → Type 0) (outcome : X → V → Outcome B E) (turns : C → B → Result C R → Type 0) where
-  turned_on : (o : Outcome B E) (c d : C) (g h : F) → TurnedBy {E = E} turns c g o (Ok (d, h)) → h ≡ g
-  turned_on (Kept y) c d g h (Ok k, w, e) = (both_on e).1
-  turned_on (Kept y) c d g h (Err why, w, e) = absurd cc
+module _ {S C F X V B E R : Type 0} {m : Contract S X E} (l : Lawful m) (call : F → X → V → F → Type 0) (outcome : X → V → Outcome B E) (turns : C → B → ControlFlow R C → Type 0) where
+  turned_on : (o : Outcome B E) (c d : C) (g h : F) → TurnedBy {E = E} turns c g o (Continue (d, h)) → h ≡ g
+  turned_on (Kept y) c d g h (Continue k, w, e) = (both_on e).1
+  turned_on (Kept y) c d g h (Break why, w, e) = absurd cc
   turned_on LeftOut c d g h w = (both_on w).1
   turned_on (Failure e) c d g h w = absurd cc
   turned_on End c d g h w = absurd cc
@@ -175,7 +177,7 @@ module _ {S C F X V B E R : Type 0} {m : Contract S X E} (l : Lawful m) (call : 
   }
 
 -- The same where no call asks anything.
-pub takes_freely : {S C F X V B E R : Type 0} {steps : S → Answered X E → S → Type 0} (call : F → X → V → F → Type 0) (outcome : X → V → Outcome B E) (turns : C → B → Result C R → Type 0) {pre : F → X → Type 0} {P : C → B → Type 0} {s : S} {f : F} {c : C} → ((g : F) (x : X) → pre g x)
+pub takes_freely : {S C F X V B E R : Type 0} {steps : S → Answered X E → S → Type 0} (call : F → X → V → F → Type 0) (outcome : X → V → Outcome B E) (turns : C → B → ControlFlow R C → Type 0) {pre : F → X → Type 0} {P : C → B → Type 0} {s : S} {f : F} {c : C} → ((g : F) (x : X) → pre g x)
     → HoldsAtEachTurn (passing_step steps call outcome) (carrying_turn turns) P (s, f) c → HoldsAtEachTurn steps (carrying_turn (FoldingTurn call outcome turns)) (FoldingTakes call outcome pre P) s (c, f)
 takes_freely {steps = steps} call outcome turns {P = P} {s = s} {f = f} {c = c} free holds = record {
   at = λ items t u p x ran went step. (free p.1 x, (λ v g y called is. holds_here (holds_at steps call outcome turns P items s t f p.1 c p.0 ran went holds) (from_passes (keeps x v y step called is done))));
@@ -187,7 +189,7 @@ takes_freely {steps = steps} call outcome turns {P = P} {s = s} {f = f} {c = c} 
 abbrev full : {S F : Type 0} → S × F → S × Option F
 full p = (p.0, Some p.1)
 
-module _ {S F X V B E C R : Type 0} (m : Contract S X E) (call : F → X → V → F → Type 0) (outcome : X → V → Outcome B E) (turns : C → B → Result C R → Type 0) where
+module _ {S F X V B E C R : Type 0} (m : Contract S X E) (call : F → X → V → F → Type 0) (outcome : X → V → Outcome B E) (turns : C → B → ControlFlow R C → Type 0) where
   abbrev InSlot : S × Option F → Answered B E → S × Option F → Type 0
   InSlot = passing_step m.steps (call_in call) outcome
 

@@ -1,5 +1,7 @@
 -- Folds, one turn at a time.
 use Rattle.std.specs.Prelude.{◌≡◌, ℕ, ◌+◌, ◌<◌, length, List, [], ◌∷◌, Option, Result, Some, None, Ok, Err}
+use Rattle.std.specs.declared.ops.ControlFlow.{ControlFlow}
+use Rattle.std.specs.declared.ops.ControlFlow.TheVariants.{Continue, Break}
 use Rattle.std.specs.List.{FoldsTo, last_or}
 use Rattle.std.proofs.Common.{refl, sym, ap, ◌∙◌, subst, arith}
 use Rattle.fallible_contract.specs.declared.folds.Exit.{Exit}
@@ -17,7 +19,7 @@ module _ {S A E C : Type 0} {steps : S → Answered A E → S → Type 0} {goes_
   pub holds_after : {s t : S} {c d : C} {x : A} → HoldsAtEachTurn steps goes_on P s c → steps s (item x) t → goes_on c x d → HoldsAtEachTurn steps goes_on P t d
   holds_after {s} {t} {c} {d} {x} h step turn = record { at = λ items v u e y ran went stepped. h.at (x ∷ items) v u e y (t, step, ran) (d, turn, went) stepped }
 
-module _ {S A E C R : Type 0} {steps : S → Answered A E → S → Type 0} {turns : C → A → Result C R → Type 0} where
+module _ {S A E C R : Type 0} {steps : S → Answered A E → S → Type 0} {turns : C → A → ControlFlow R C → Type 0} where
   -- a turn that went on, and then a fold
   pub carried_after : {s t u : S} {c d : C} {r : Exit C E R} (x : A) → steps s (item x) t → carrying_turn turns c x d → Carried steps turns t d r u → Carried steps turns s c r u
   carried_after {s} {t} {u} {c} {d} {r} x step turn rest = record { items = x ∷ rest.items; last = rest.last; carried = rest.carried; ran = (t, step, rest.ran); went = (d, turn, rest.went); exit = rest.exit }
@@ -29,7 +31,7 @@ module _ {S A E C R : Type 0} {steps : S → Answered A E → S → Type 0} {tur
   pub carried_failure : {s t : S} {c : C} {e : E} → steps s (Err e) t → Carried steps turns s c (Failed c e) t
   carried_failure {s} {t} {c} {e} step = record { items = []; last = Err e; carried = c; ran = (t, step, refl); went = refl; exit = refl }
 
-  pub carried_stop : {s t : S} {c : C} {stop : R} (x : A) → steps s (item x) t → turns c x (Err stop) → Carried steps turns s c (Stopped stop) t
+  pub carried_stop : {s t : S} {c : C} {stop : R} (x : A) → steps s (item x) t → turns c x (Break stop) → Carried steps turns s c (Stopped stop) t
   carried_stop {s} {t} {c} {stop} x step turn = record { items = []; last = item x; carried = c; ran = (t, step, refl); went = refl; exit = (stop, turn, refl) }
 
 -- the same after any number of items
@@ -38,7 +40,7 @@ module _ {S A E C : Type 0} {steps : S → Answered A E → S → Type 0} {goes_
   holds_after_items [] s t c d ran went h = subst (λ (u : S). HoldsAtEachTurn steps goes_on P u d) ran (subst (λ (z : C). HoldsAtEachTurn steps goes_on P s z) went h)
   holds_after_items (x ∷ items) s t c d ran went h = holds_after_items items ran.0 t went.0 d ran.2 went.2 (holds_after h ran.1 went.1)
 
-module _ {S A E C R : Type 0} {steps : S → Answered A E → S → Type 0} {turns : C → A → Result C R → Type 0} {r : Exit C E R} {u : S} where
+module _ {S A E C R : Type 0} {steps : S → Answered A E → S → Type 0} {turns : C → A → ControlFlow R C → Type 0} {r : Exit C E R} {u : S} where
   pub carried_after_items : (items : List A) (s t : S) (c d : C) → Yields steps s items t → FoldsTo (carrying_turn turns) c items d → Carried steps turns t d r u → Carried steps turns s c r u
   carried_after_items [] s t c d ran went h = subst (λ (v : S). Carried steps turns v c r u) (sym ran) (subst (λ (z : C). Carried steps turns t z r u) (sym went) h)
   carried_after_items (x ∷ items) s t c d ran went h = carried_after x ran.1 went.1 (carried_after_items items ran.0 t went.0 d ran.2 went.2 h)
@@ -54,8 +56,8 @@ holds_map {s} {c} narrow weak h = record { at = λ items t u d x ran went step. 
 
 -- ---- a fold that carries references
 
-module _ {X N A C R : Type 0} (behind : X → C) (names : X → N) (turns : C → A → Result C R → Type 0) where
-  went_behind : (items : List A) (c d : X) → FoldsTo (λ c x d. TurnBehind behind names turns c x (Ok d)) c items d → FoldsTo (λ c x d. turns c x (Ok d)) (behind c) items (behind d) × (names d ≡ names c)
+module _ {X N A C R : Type 0} (behind : X → C) (names : X → N) (turns : C → A → ControlFlow R C → Type 0) where
+  went_behind : (items : List A) (c d : X) → FoldsTo (λ c x d. TurnBehind behind names turns c x (Continue d)) c items d → FoldsTo (λ c x d. turns c x (Continue d)) (behind c) items (behind d) × (names d ≡ names c)
   went_behind [] c d e = (ap behind e, sym (ap names e))
   went_behind (x ∷ items) c d w = let rest = went_behind items w.0 d w.2 in ((behind w.0, w.1.0, rest.0), rest.1 ∙ w.1.1)
 
@@ -93,8 +95,8 @@ module _ {X N A C R : Type 0} (behind : X → C) (names : X → N) (turns : C �
 
 -- ---- `try_fold` by the fold that carries the value and the closure
 
-module _ {A E F B E' : Type 0} (f : F → B → A → Result B E' → F → Type 0) (from : E → E' → Type 0) (turns : B × F → A → Result (B × F) E' → Type 0)
-    (turn : (p : B × F) (x : A) (r : Result (B × F) E') → turns p x r → FoldTurn f p x r) where
+module _ {A E F B E' : Type 0} (f : F → B → A → Result B E' → F → Type 0) (from : E → E' → Type 0) (turns : B × F → A → ControlFlow E' (B × F) → Type 0)
+    (turn : (p : B × F) (x : A) (r : ControlFlow E' (B × F)) → turns p x r → FoldTurn f p x r) where
   exit_ended : (last : Answered A E) (p q : B × F) → CarryingExit turns p last (Ended q) → FoldExit f from p.0 p.1 last (Ok q.0)
   exit_ended (Ok None) p q h = let e : q ≡ p = cc in ap (λ (z : B × F). Ok z.0) e
   exit_ended (Ok (Some x)) p q h = absurd (let e = h.2 in cc)
@@ -107,13 +109,13 @@ module _ {A E F B E' : Type 0} (f : F → B → A → Result B E' → F → Type
 
   exit_stopped : (last : Answered A E) (p : B × F) (e' : E') → CarryingExit turns p last (Stopped e') → FoldExit f from p.0 p.1 last (Err e')
   exit_stopped (Ok None) p e' h = absurd cc
-  exit_stopped (Ok (Some x)) p e' h = let called = turn p x (Err h.0) h.1 in (called.0, h.0, called.1, (let e = h.2 in cc))
+  exit_stopped (Ok (Some x)) p e' h = let called = turn p x (Break h.0) h.1 in (called.0, h.0, called.1, (let e = h.2 in cc))
   exit_stopped (Err d) p e' h = absurd cc
 
-module _ {S A E F B E' : Type 0} {steps : S → Answered A E → S → Type 0} {f : F → B → A → Result B E' → F → Type 0} {from : E → E' → Type 0} {turns : B × F → A → Result (B × F) E' → Type 0}
-    (turn : (p : B × F) (x : A) (r : Result (B × F) E') → turns p x r → FoldTurn f p x r) {s t : S} {b : B} {h : F} where
+module _ {S A E F B E' : Type 0} {steps : S → Answered A E → S → Type 0} {f : F → B → A → Result B E' → F → Type 0} {from : E → E' → Type 0} {turns : B × F → A → ControlFlow E' (B × F) → Type 0}
+    (turn : (p : B × F) (x : A) (r : ControlFlow E' (B × F)) → turns p x r → FoldTurn f p x r) {s t : S} {b : B} {h : F} where
   folded_by : {x : Exit (B × F) E E'} (c : Carried steps turns s (b, h) x t) (r : Result B E') → FoldExit f from c.carried.0 c.carried.1 c.last r → Folded steps f from s b h r t
-  folded_by c r exit = record { items = c.items; last = c.last; value = c.carried.0; closure = c.carried.1; ran = c.ran; went = turns_map (λ p y q w. turn p y (Ok q) w) c.items (b, h) c.carried c.went; exit = exit }
+  folded_by c r exit = record { items = c.items; last = c.last; value = c.carried.0; closure = c.carried.1; ran = c.ran; went = turns_map (λ p y q w. turn p y (Continue q) w) c.items (b, h) c.carried c.went; exit = exit }
 
   pub folded_ended : (q : B × F) → Carried steps turns s (b, h) (Ended q) t → Folded steps f from s b h (Ok q.0) t
   folded_ended q c = folded_by c _ (exit_ended f from turns turn c.last c.carried q c.exit)
@@ -143,9 +145,9 @@ module _ {S A E : Type 0} {m : Contract S A E} where
   pub count_fits : {s : S} (n : ℕ) → Lawful m → m.can s → AtMost m s n → HoldsAtEachTurn m.steps counts (λ k x. k < n) s 0
   count_fits {s} n l c h = let b = number_of_at_most m s n h in record { at = λ items t u k x ran went step. let below = came_below l s items t u x b.0 c b.1 ran step in let e = counted_up items 0 k went in omega (arith, below, e, b.2) }
 
-module _ {A R : Type 0} (turns : ℕ → A → Result ℕ R → Type 0) where
-  went_up : ((n : ℕ) (x : A) (r : Result ℕ R) → turns n x r → r ≡ Ok (n + 1)) → (items : List A) (n d : ℕ) → FoldsTo (carrying_turn turns) n items d → d ≡ n + length items
-  went_up turn items n d w = counted_up items n d (turns_map (λ c x e h. let same = turn c x (Ok e) h in cc) items n d w)
+module _ {A R : Type 0} (turns : ℕ → A → ControlFlow R ℕ → Type 0) where
+  went_up : ((n : ℕ) (x : A) (r : ControlFlow R ℕ) → turns n x r → r ≡ Continue (n + 1)) → (items : List A) (n d : ℕ) → FoldsTo (carrying_turn turns) n items d → d ≡ n + length items
+  went_up turn items n d w = counted_up items n d (turns_map (λ c x e h. let same = turn c x (Continue e) h in cc) items n d w)
 
   count_ended : {E : Type 0} (last : Answered A E) (n k' : ℕ) → CarryingExit turns n last (Ended k') → CountExit n last (Ok k')
   count_ended (Ok None) n k' h = cc
@@ -157,8 +159,8 @@ module _ {A R : Type 0} (turns : ℕ → A → Result ℕ R → Type 0) where
   count_failed (Ok (Some x)) n k' e h = let e = h.2 in cc
   count_failed (Err d) n k' e h = cc
 
-module _ {S A E R : Type 0} {steps : S → Answered A E → S → Type 0} {turns : ℕ → A → Result ℕ R → Type 0}
-    (turn : (n : ℕ) (x : A) (r : Result ℕ R) → turns n x r → r ≡ Ok (n + 1)) where
+module _ {S A E R : Type 0} {steps : S → Answered A E → S → Type 0} {turns : ℕ → A → ControlFlow R ℕ → Type 0}
+    (turn : (n : ℕ) (x : A) (r : ControlFlow R ℕ) → turns n x r → r ≡ Continue (n + 1)) where
   counted_by : {s t : S} {x : Exit ℕ E R} (c : Carried steps turns s 0 x t) (r : Result ℕ E) → CountExit c.carried c.last r → Counted steps s r
   counted_by {t} c r exit = record { items = c.items; last = c.last; left = t; ran = c.ran; exit = subst (λ (n : ℕ). CountExit n c.last r) (let e = went_up turns turn c.items 0 c.carried c.went in omega (arith, e)) exit }
 
@@ -170,11 +172,11 @@ module _ {S A E R : Type 0} {steps : S → Answered A E → S → Type 0} {turns
 
 -- ---- `last` by the fold that carries the item that came last
 
-module _ {A R : Type 0} (turns : Option A → A → Result (Option A) R → Type 0)
-    (turn : (o : Option A) (x : A) (r : Result (Option A) R) → turns o x r → r ≡ Ok (Some x)) where
+module _ {A R : Type 0} (turns : Option A → A → ControlFlow R (Option A) → Type 0)
+    (turn : (o : Option A) (x : A) (r : ControlFlow R (Option A)) → turns o x r → r ≡ Continue (Some x)) where
   last_kept : (items : List A) (o p : Option A) → FoldsTo (carrying_turn turns) o items p → p ≡ last_or o items
   last_kept [] o p e = sym e
-  last_kept (x ∷ items) o p w = let same : w.0 ≡ Some x = (let e = turn o x (Ok w.0) w.1 in cc) in last_kept items (Some x) p (subst (λ (q : Option A). FoldsTo (carrying_turn turns) q items p) same w.2)
+  last_kept (x ∷ items) o p w = let same : w.0 ≡ Some x = (let e = turn o x (Continue w.0) w.1 in cc) in last_kept items (Some x) p (subst (λ (q : Option A). FoldsTo (carrying_turn turns) q items p) same w.2)
 
   last_exit : {E : Type 0} (last : Answered A E) (o p : Option A) (items : List A) → o ≡ last_or None items → CarryingExit turns o last (Ended p) → LastExit items last (Ok p)
   last_exit (Ok None) o p items is h = (let same : p ≡ o = cc in cc)
@@ -186,8 +188,8 @@ module _ {A R : Type 0} (turns : Option A → A → Result (Option A) R → Type
   last_failure (Ok (Some x)) o p e items h = absurd (let e = h.2 in cc)
   last_failure (Err d) o p e items h = (let same : e ≡ d = cc in cc)
 
-module _ {S A E R : Type 0} {steps : S → Answered A E → S → Type 0} {turns : Option A → A → Result (Option A) R → Type 0}
-    (turn : (o : Option A) (x : A) (r : Result (Option A) R) → turns o x r → r ≡ Ok (Some x)) where
+module _ {S A E R : Type 0} {steps : S → Answered A E → S → Type 0} {turns : Option A → A → ControlFlow R (Option A) → Type 0}
+    (turn : (o : Option A) (x : A) (r : ControlFlow R (Option A)) → turns o x r → r ≡ Continue (Some x)) where
   pub last_ended : {s t : S} {p : Option A} → Carried steps turns s None (Ended p) t → LastOf steps s (Ok p)
   last_ended {t = t} {p = p} c = record { items = c.items; last = c.last; left = t; ran = c.ran; exit = last_exit turns turn c.last c.carried p c.items (last_kept turns turn c.items None c.carried c.went) c.exit }
 
@@ -196,17 +198,17 @@ module _ {S A E R : Type 0} {steps : S → Answered A E → S → Type 0} {turns
 
 -- ---- what each makes of its fold
 
-pub counted_at : {S A E R : Type 0} {steps : S → Answered A E → S → Type 0} {turns : ℕ → A → Result ℕ R → Type 0} {s t : S} {r : Result ℕ E} → ((n : ℕ) (x : A) (r : Result ℕ R) → turns n x r → r ≡ Ok (n + 1)) → (exit : Exit ℕ E R) → Carried steps turns s 0 exit t → ValueAt exit r → Counted steps s r
+pub counted_at : {S A E R : Type 0} {steps : S → Answered A E → S → Type 0} {turns : ℕ → A → ControlFlow R ℕ → Type 0} {s t : S} {r : Result ℕ E} → ((n : ℕ) (x : A) (r : ControlFlow R ℕ) → turns n x r → r ≡ Continue (n + 1)) → (exit : Exit ℕ E R) → Carried steps turns s 0 exit t → ValueAt exit r → Counted steps s r
 counted_at {steps = steps} {s = s} turn (Ended n) c v = subst (λ r. Counted steps s r) (sym v) (counted_ended turn c)
 counted_at {steps = steps} {s = s} turn (Failed n e) c v = subst (λ r. Counted steps s r) (sym v) (counted_failed turn c)
 counted_at turn (Stopped q) c v = absurd v
 
-pub last_at : {S A E R : Type 0} {steps : S → Answered A E → S → Type 0} {turns : Option A → A → Result (Option A) R → Type 0} {s t : S} {r : Result (Option A) E} → ((o : Option A) (x : A) (r : Result (Option A) R) → turns o x r → r ≡ Ok (Some x)) → (exit : Exit (Option A) E R) → Carried steps turns s None exit t → ValueAt exit r → LastOf steps s r
+pub last_at : {S A E R : Type 0} {steps : S → Answered A E → S → Type 0} {turns : Option A → A → ControlFlow R (Option A) → Type 0} {s t : S} {r : Result (Option A) E} → ((o : Option A) (x : A) (r : ControlFlow R (Option A)) → turns o x r → r ≡ Continue (Some x)) → (exit : Exit (Option A) E R) → Carried steps turns s None exit t → ValueAt exit r → LastOf steps s r
 last_at {steps = steps} {s = s} turn (Ended o) c v = subst (λ r. LastOf steps s r) (sym v) (last_ended turn c)
 last_at {steps = steps} {s = s} turn (Failed o e) c v = subst (λ r. LastOf steps s r) (sym v) (last_failed turn c)
 last_at turn (Stopped q) c v = absurd v
 
-pub folded_by_turns : {S A E F B E' : Type 0} {steps : S → Answered A E → S → Type 0} {f : F → B → A → Result B E' → F → Type 0} {from : E → E' → Type 0} {turns : B × F → A → Result (B × F) E' → Type 0} {s t : S} {b : B} {h : F} {r : Result B E'} → ((p : B × F) (x : A) (r : Result (B × F) E') → turns p x r → FoldTurn f p x r) → (exit : Exit (B × F) E E') → Carried steps turns s (b, h) exit t → FoldedAt from exit r → Folded steps f from s b h r t
+pub folded_by_turns : {S A E F B E' : Type 0} {steps : S → Answered A E → S → Type 0} {f : F → B → A → Result B E' → F → Type 0} {from : E → E' → Type 0} {turns : B × F → A → ControlFlow E' (B × F) → Type 0} {s t : S} {b : B} {h : F} {r : Result B E'} → ((p : B × F) (x : A) (r : ControlFlow E' (B × F)) → turns p x r → FoldTurn f p x r) → (exit : Exit (B × F) E E') → Carried steps turns s (b, h) exit t → FoldedAt from exit r → Folded steps f from s b h r t
 folded_by_turns {steps = steps} {f = f} {from = from} {s = s} {t = t} {b = b} {h = h} turn (Ended q) c v = subst (λ r. Folded steps f from s b h r t) (sym v) (folded_ended turn q c)
 folded_by_turns {steps = steps} {f = f} {from = from} {s = s} {t = t} {b = b} {h = h} turn (Failed q e) c v = subst (λ r. Folded steps f from s b h r t) (sym v.2) (folded_failed turn q e v.0 c v.1)
 folded_by_turns {steps = steps} {f = f} {from = from} {s = s} {t = t} {b = b} {h = h} turn (Stopped e) c v = subst (λ r. Folded steps f from s b h r t) (sym v) (folded_stopped turn e c)

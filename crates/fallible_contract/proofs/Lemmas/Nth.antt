@@ -1,5 +1,7 @@
 -- `nth`, one draw at a time, and as one fold.
 use Rattle.std.specs.Prelude.{◌≡◌, ℕ, suc, ◌+◌, ◌≤◌, length, List, [], ◌∷◌, ◌++◌, map, Result, Some, None, Ok, Err}
+use Rattle.std.specs.declared.ops.ControlFlow.{ControlFlow}
+use Rattle.std.specs.declared.ops.ControlFlow.TheVariants.{Break}
 use Rattle.std.specs.List.{FoldsTo}
 use Rattle.std.proofs.Common.{refl, sym, subst, arith}
 use Rattle.fallible_contract.specs.declared.folds.Exit.{Exit}
@@ -50,8 +52,8 @@ nth_reached {steps = steps} {s = s} {t = t} {n = n} {exit = exit} w = reached_la
 -- ---- a draw as a fold that stops with the first item
 
 module _ {S C A E : Type 0} (steps : S → Answered A E → S → Type 0) where
-  abbrev Stops : C → A → Result C A → Type 0
-  Stops c x r = r ≡ Err x
+  abbrev Stops : C → A → ControlFlow A C → Type 0
+  Stops c x r = r ≡ Break x
 
   first_last : (items : List A) (last : Answered A E) (c d : C) (exit : Exit C E A) (s t : S) → FoldsTo (carrying_turn Stops) c items d → Run steps s (map item items ++ last ∷ []) t → CarryingExit Stops d last exit → steps s (reached_at exit) t
   first_last (x ∷ items) last c d exit s t went ran at = absurd (let e = went.1 in cc)
@@ -60,5 +62,5 @@ module _ {S C A E : Type 0} (steps : S → Answered A E → S → Type 0) where
   first_last [] (Ok (Some x)) c d exit s t went ran at = let same : at.0 ≡ x = (let e = at.1 in cc) in rw (at.2, same, sym ran.2) ran.1
 
 -- such a fold is one draw
-pub first_reached : {S C A E : Type 0} {steps : S → Answered A E → S → Type 0} {s t : S} {c : C} {exit : Exit C E A} → Carried steps (λ _ x r. r ≡ Err x) s c exit t → steps s (reached_at exit) t
+pub first_reached : {S C A E : Type 0} {steps : S → Answered A E → S → Type 0} {s t : S} {c : C} {exit : Exit C E A} → Carried steps (λ _ x r. r ≡ Break x) s c exit t → steps s (reached_at exit) t
 first_reached {steps = steps} {s = s} {t = t} {c = c} {exit = exit} w = first_last steps w.items w.last c w.carried exit s t w.went w.ran w.exit

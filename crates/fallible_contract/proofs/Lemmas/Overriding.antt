@@ -1,5 +1,6 @@
 -- The folds of a type that hands them on to a value it holds: `view` is that value, and `put` has another one in its place.
 use Rattle.std.specs.Prelude.{◌≡◌, ℕ, Option, List, [], ◌∷◌, ◌++◌, map, Result}
+use Rattle.std.specs.declared.ops.ControlFlow.{ControlFlow}
 use Rattle.std.specs.List.{FoldsTo}
 use Rattle.std.proofs.Common.{refl, sym, subst}
 use Rattle.fallible_contract.specs.declared.folds.Exit.{Exit}
@@ -29,7 +30,7 @@ module _ {S P : Type 0} (view : S → P) (put : S → P → S) (viewed : (s : S)
     }
 
     -- a fold over the held value is one over the whole
-    pub carried_held : {C R : Type 0} {turns : C → A → Result C R → Type 0} {t : S} {c : C} {r : Exit C E R} → Carried m.steps turns (view s) c r (view t) → Carried (seen_as view m).steps turns s c r t
+    pub carried_held : {C R : Type 0} {turns : C → A → ControlFlow R C → Type 0} {t : S} {c : C} {r : Exit C E R} → Carried m.steps turns (view s) c r (view t) → Carried (seen_as view m).steps turns s c r t
     carried_held {t = t} h = record { items = h.items; last = h.last; carried = h.carried; ran = run_up m.steps (map item h.items) h.last s t h.ran; went = h.went; exit = h.exit }
 
     pub counted_held : {r : Result ℕ E} → Counted m.steps (view s) r → Counted (seen_as view m).steps s r

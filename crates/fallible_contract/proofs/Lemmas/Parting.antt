@@ -1,5 +1,6 @@
 -- `partition` by the fold that carries the closure and a reference to both collections.
 use Rattle.std.specs.Prelude.{◌≡◌, Bool, true, false, cond, List, [], ◌∷◌, ◌++◌, Result, Ok, Err}
+use Rattle.std.specs.declared.ops.ControlFlow.TheVariants.{Continue}
 use Rattle.std.specs.List.{FoldsTo}
 use Rattle.std.specs.Borrow.{MutBor}
 use Rattle.std.proofs.Common.{refl, sym, ap, ◌∙◌, subst, inl, inr}
@@ -31,7 +32,7 @@ one_more_call step f g h [] q e w = (h, subst (λ p. step p q h) (sym e) w, refl
 one_more_call step f g h (r ∷ qs) q went w = (went.0, went.1, one_more_call step went.0 g h qs q went.2 w)
 
 module _ {A E F B : Type 0} (call : F → A → Result Bool E → F → Type 0) (made : List A → B → Type 0) (refuses : B → A → Type 0) (f : F) where
-  pub part_more : (c : F × (B × B)) (x : A) (d : F × (B × B)) → PartTurn call made refuses c x (Ok d) → (items : List A) → Parts call made f items c → Parts call made f (items ++ x ∷ []) d
+  pub part_more : (c : F × (B × B)) (x : A) (d : F × (B × B)) → PartTurn call made refuses c x (Continue d) → (items : List A) → Parts call made f items c → Parts call made f (items ++ x ∷ []) d
   part_more c x d w items h = let ps = h.answered in let v = w.0 in let both = w.2 (answered_true ps) (answered_false ps) h.first h.second in record {
     answered = ps ++ (x, v) ∷ [];
     beside = sym (parts_more (λ p. p.0) ps (x, v)) ∙ ap (λ l. l ++ x ∷ []) h.beside;
@@ -43,7 +44,7 @@ module _ {A E F B : Type 0} (call : F → A → Result Bool E → F → Type 0) 
   pub no_parts : (a b : B) → made [] a → made [] b → Parts call made f [] (f, (a, b))
   no_parts a b h k = record { answered = []; beside = refl; called = refl; first = h; second = k }
 
-  asked : (items : List A) (c d : F × (B × B)) → FoldsTo (λ c x d. PartTurn call made refuses c x (Ok d)) c items d → FoldsTo (Asks call) c.0 items d.0
+  asked : (items : List A) (c d : F × (B × B)) → FoldsTo (λ c x d. PartTurn call made refuses c x (Continue d)) c items d → FoldsTo (Asks call) c.0 items d.0
   asked [] c d e = ap (λ z. z.0) e
   asked (x ∷ items) c d w = ((w.0).0, (w.1.0, w.1.1), asked items w.0 d w.2)
 

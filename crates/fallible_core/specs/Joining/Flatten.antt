@@ -1,5 +1,7 @@
 -- `Flatten` and `FlatMap`: each item of an outer source becomes an inner iterator, and the answers of these are joined.
 use Rattle.std.specs.Prelude.{◌≡◌, ◌≢◌, ℕ, ◌+◌, ◌*◌, IsSomeAnd, ◌≤◌, List, [], ◌∷◌, ◌++◌, map, Option, Result, Some, None, Ok, Err, IfSome, ⊤, ◌⊎◌}
+use Rattle.std.specs.declared.ops.ControlFlow.{ControlFlow}
+use Rattle.std.specs.declared.ops.ControlFlow.TheVariants.{Continue, Break}
 use Rattle.std.specs.List.{flat_map}
 use Rattle.std.specs.Iterator.{endless}
 use Rattle.fallible_contract.specs.declared.folds.Exit.{Exit}
@@ -134,18 +136,18 @@ module _ {S X C B E : Type 0} (m : Contract S X E) (into : X → C → Type 0) (
 -- ---- one draw, as a fold of the outer source that stops
 
 -- One turn: the item became an inner iterator, and this was drawn from once. The fold goes on where it ended at once, and else stops with it in hand and its answer.
-abbrev pub BeginTurn : {X C B E : Type 0} → (X → C → Type 0) → (C → Answered B E → C → Type 0) → Option C → X → Result (Option C) (Option C × Result B E) → Type 0
-BeginTurn {C = C} into inner hand x (Ok hand') = (c : C) × (d : C) × into x c × inner c end d × (hand' ≡ hand)
-BeginTurn {C = C} into inner hand x (Err (hand', Ok y)) = (c : C) × (d : C) × into x c × inner c (item y) d × (hand' ≡ Some d)
-BeginTurn {C = C} into inner hand x (Err (hand', Err e)) = (c : C) × (d : C) × into x c × inner c (failure e) d × (hand' ≡ Some d)
+abbrev pub BeginTurn : {X C B E : Type 0} → (X → C → Type 0) → (C → Answered B E → C → Type 0) → Option C → X → ControlFlow (Option C × Result B E) (Option C) → Type 0
+BeginTurn {C = C} into inner hand x (Continue hand') = (c : C) × (d : C) × into x c × inner c end d × (hand' ≡ hand)
+BeginTurn {C = C} into inner hand x (Break (hand', Ok y)) = (c : C) × (d : C) × into x c × inner c (item y) d × (hand' ≡ Some d)
+BeginTurn {C = C} into inner hand x (Break (hand', Err e)) = (c : C) × (d : C) × into x c × inner c (failure e) d × (hand' ≡ Some d)
 
 -- ---- a fold, as one of the outer source
 
-module _ {X C B E V R : Type 0} (into : X → C → Type 0) (inner : Contract C B E) (turns : V → B → Result V R → Type 0) where
+module _ {X C B E V R : Type 0} (into : X → C → Type 0) (inner : Contract C B E) (turns : V → B → ControlFlow R V → Type 0) where
   -- One turn: the item became an inner iterator, and this was folded by the caller's turns. The fold goes on where that one ended, and else stops with the inner iterator and the exit.
-  abbrev pub JoiningTurn : V → X → Result V (C × Exit V E R) → Type 0
-  JoiningTurn v x (Ok w) = (c : C) × (d : C) × into x c × Carried inner.steps turns c v (Ended w) d
-  JoiningTurn v x (Err (d, exit)) = (c : C) × into x c × Carried inner.steps turns c v exit d × ((w : V) → exit ≢ Ended w)
+  abbrev pub JoiningTurn : V → X → ControlFlow (C × Exit V E R) V → Type 0
+  JoiningTurn v x (Continue w) = (c : C) × (d : C) × into x c × Carried inner.steps turns c v (Ended w) d
+  JoiningTurn v x (Break (d, exit)) = (c : C) × into x c × Carried inner.steps turns c v exit d × ((w : V) → exit ≢ Ended w)
 
   -- It may be taken where what the item may become may be folded so.
   abbrev pub JoiningTakes : (V → B → Type 0) → V → X → Type 0

@@ -9,6 +9,7 @@ use crate::cutting::counting::{next_past, reach_past};
 use crate::traits::FallibleIterator;
 use fallible_contract::folds::{Exit, Turn};
 use fallible_contract::hints::less;
+use std::ops::ControlFlow;
 
 /// The source's answers without its first n items. Failures and ends stay, and don't count.
 #[derive(Clone, Debug, Drop)]
@@ -45,8 +46,8 @@ where
     ) -> Exit<C, I::Error, R> {
         match reach_past(&mut self.it, &mut self.to_skip) {
             Ok(Some(x)) => match k.turn(init, x) {
-                Ok(carried) => self.it.try_fold_carrying(carried, k),
-                Err(stop) => Exit::Stopped(stop),
+                ControlFlow::Continue(carried) => self.it.try_fold_carrying(carried, k),
+                ControlFlow::Break(stop) => Exit::Stopped(stop),
             },
             Ok(None) => Exit::Ended(init),
             Err(e) => Exit::Failed(init, e),

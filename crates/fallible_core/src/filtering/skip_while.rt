@@ -10,6 +10,7 @@ ghost use Rattle.fallible_core.specs.Laws.Filtering.SkipWhile.{lawful_skip_while
 use crate::traits::FallibleIterator;
 use fallible_contract::folds::{Exit, Turn, take_out};
 use fallible_contract::searching::Test;
+use std::ops::ControlFlow;
 
 /// The items from the first one on to which the predicate answers false. It is asked up to and with that item and never again; an item on which it fails is lost, and its failure is the answer.
 #[derive(Clone, Debug, Drop)]
@@ -58,8 +59,8 @@ where
     ) -> Exit<C, I::Error, R> {
         match self.next() {
             Ok(Some(x)) => match k.turn(init, x) {
-                Ok(carried) => self.it.try_fold_carrying(carried, k),
-                Err(stop) => Exit::Stopped(stop),
+                ControlFlow::Continue(carried) => self.it.try_fold_carrying(carried, k),
+                ControlFlow::Break(stop) => Exit::Stopped(stop),
             },
             Ok(None) => Exit::Ended(init),
             Err(e) => Exit::Failed(init, e),

@@ -10,6 +10,7 @@ use crate::one_to_one::Map;
 use crate::traits::FallibleIterator;
 use crate::traits::conversion::IntoFallibleIterator;
 use fallible_contract::folds::{Exit, Turn, unpack};
+use std::ops::ControlFlow;
 
 /// The answers of the inner iterators `J` that the items become, one inner iterator after the other. The one in hand answers until its end, at which it is dropped; then the next item is drawn. A failure of the inner iterator keeps it. A failure or an end of the outer source is the answer, and the next call draws from it again.
 #[derive(Clone, Debug, Drop)]
@@ -112,15 +113,15 @@ impl<U: IntoFallibleIterator> Turn<
         &self,
         carried: Option<U::IntoFallibleIter>,
         item: U,
-    ) -> Result<
-        Option<U::IntoFallibleIter>,
+    ) -> ControlFlow<
         (Option<U::IntoFallibleIter>, Result<U::Item, U::Error>),
+        Option<U::IntoFallibleIter>,
     > {
         let mut inner = item.into_fallible_iter();
         match inner.next() {
-            Ok(Some(y)) => Err((Some(inner), Ok(y))),
-            Ok(None) => Ok(carried),
-            Err(e) => Err((Some(inner), Err(e))),
+            Ok(Some(y)) => ControlFlow::Break((Some(inner), Ok(y))),
+            Ok(None) => ControlFlow::Continue(carried),
+            Err(e) => ControlFlow::Break((Some(inner), Err(e))),
         }
     }
 }
@@ -204,11 +205,15 @@ impl<'a, U: IntoFallibleIterator, C, R, K: Turn<C, U::Item, R>> Turn<
     ghost turns = { λ k c x r. JoiningTurn U.into_gives U.IntoFallibleIter.contract
         (K.turns k.turn.now) c x r };
 
-    fn turn(&self, carried: C, item: U) -> Result<C, (U::IntoFallibleIter, Exit<C, U::Error, R>)> {
+    fn turn(
+        &self,
+        carried: C,
+        item: U,
+    ) -> ControlFlow<(U::IntoFallibleIter, Exit<C, U::Error, R>), C> {
         let mut inner = item.into_fallible_iter();
         match inner.try_fold_carrying(carried, self.turn) {
-            Exit::Ended(carried) => Ok(carried),
-            exit => Err((inner, exit)),
+            Exit::Ended(carried) => ControlFlow::Continue(carried),
+            exit => ControlFlow::Break((inner, exit)),
         }
     }
 }

@@ -8,6 +8,7 @@ ghost use Rattle.fallible_core.specs.Laws.Peeking.Peekable.{lawful_peekable};
 use crate::traits::FallibleIterator;
 use fallible_contract::folds::{Exit, Turn};
 use fallible_contract::hints::one_more;
+use std::ops::ControlFlow;
 
 /// The answers of the source, the next of which can be looked at ahead. An item or an end that was looked at is held, and comes first; a failure is not held.
 #[derive(Clone, Debug, Drop)]
@@ -51,8 +52,8 @@ where
     ) -> Exit<C, I::Error, R> {
         match self.held.take() {
             Some(Some(x)) => match k.turn(init, x) {
-                Ok(carried) => self.it.try_fold_carrying(carried, k),
-                Err(stop) => Exit::Stopped(stop),
+                ControlFlow::Continue(carried) => self.it.try_fold_carrying(carried, k),
+                ControlFlow::Break(stop) => Exit::Stopped(stop),
             },
             Some(None) => Exit::Ended(init),
             None => self.it.try_fold_carrying(init, k),

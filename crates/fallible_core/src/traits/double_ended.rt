@@ -8,6 +8,7 @@ ghost use Rattle.fallible_contract.specs.Folds.{CallableCarrying, Carried, Calla
 
 use crate::traits::FallibleIterator;
 use fallible_contract::folds::{Exit, Folding, Turn, folded_at};
+use std::ops::ControlFlow;
 
 /// A fallible iterator that may be drawn from behind as well. Draws from both ends may be made one after another, in any order; a number to come stays one after them all, and the hint is what the type's rule says of what is left.
 ///
@@ -42,8 +43,8 @@ pub trait DoubleEndedFallibleIterator: FallibleIterator {
                 Ok(None) => return Exit::Ended(carried),
                 Err(e) => return Exit::Failed(carried, e),
                 Ok(Some(x)) => match k.turn(carried, x) {
-                    Ok(c) => carried = c,
-                    Err(stop) => return Exit::Stopped(stop),
+                    ControlFlow::Continue(c) => carried = c,
+                    ControlFlow::Break(stop) => return Exit::Stopped(stop),
                 },
             }
             left = left.one_less();

@@ -3,6 +3,7 @@ ghost use Rattle.std.specs.Prelude.{◌≡◌, IfOk, Option, Result};
 ghost use Rattle.fallible_iterator.specs.Sources.StdFold.{progressing, ElementTurn, exit_of};
 
 use fallible_contract::folds::{Exit, Turn};
+use std::ops::ControlFlow;
 
 // A std iterator behind a reference, of each of whose calls it is known besides that it made progress.
 #[derive(Drop)]
@@ -45,8 +46,8 @@ pub(crate) fn turn<C, A, E, R, K: Turn<C, A, R>>(
 {
     match element {
         Ok(x) => match k.turn(carried, x) {
-            Ok(carried) => Ok(carried),
-            Err(stop) => Err(Exit::Stopped(stop)),
+            ControlFlow::Continue(carried) => Ok(carried),
+            ControlFlow::Break(stop) => Err(Exit::Stopped(stop)),
         },
         Err(e) => Err(Exit::Failed(carried, e)),
     }

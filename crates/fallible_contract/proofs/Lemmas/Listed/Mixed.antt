@@ -1,5 +1,6 @@
 -- Runs and folds from one end stand among draws from both.
 use Rattle.std.specs.Prelude.{Result, List, [], ◌∷◌, ◌++◌, map}
+use Rattle.std.specs.declared.ops.ControlFlow.{ControlFlow}
 use Rattle.fallible_contract.specs.declared.answers.Side.{Side}
 use Rattle.fallible_contract.specs.declared.folds.Exit.{Exit}
 use Rattle.fallible_contract.specs.Traces.{Answered, Run, item}
@@ -22,7 +23,7 @@ module _ {S A E : Type 0} (front back : S → Answered A E → S → Type 0) whe
   run_between before after side trace s t u v first ran rest = mix_then (before ++ from_side side trace) after s u v (mix_then before (from_side side trace) s t u first (run_mixed side trace t u ran)) rest
 
   -- a fold from one end, also one that stopped: its items, and the answer that decided
-  pub carried_mixed : {C R : Type 0} {turns : C → A → Result C R → Type 0} {s t : S} {c : C} {exit : Exit C E R} (side : Side) (fold : Carried (step_at front back side) turns s c exit t) → Mix front back s (from_side side (map item fold.items ++ fold.last ∷ [])) t
+  pub carried_mixed : {C R : Type 0} {turns : C → A → ControlFlow R C → Type 0} {s t : S} {c : C} {exit : Exit C E R} (side : Side) (fold : Carried (step_at front back side) turns s c exit t) → Mix front back s (from_side side (map item fold.items ++ fold.last ∷ [])) t
   carried_mixed {s = s} {t = t} side fold = run_mixed side (map item fold.items ++ fold.last ∷ []) s t fold.ran
 
   pub folded_mixed : {F B E' : Type 0} {call : F → B → A → Result B E' → F → Type 0} {from : E → E' → Type 0} {s t : S} {b : B} {f : F} {r : Result B E'} (side : Side) (fold : Folded (step_at front back side) call from s b f r t) → Mix front back s (from_side side (map item fold.items ++ fold.last ∷ [])) t

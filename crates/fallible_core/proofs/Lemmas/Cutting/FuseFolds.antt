@@ -1,5 +1,6 @@
 -- A fold of the source is a fold of `Fuse`, which the source's end closes; so are its count, its last item and its `nth`.
 use Rattle.std.specs.Prelude.{◌≡◌, ℕ, Bool, true, false, Option, List, [], ◌∷◌, ◌++◌, map, Result, Some, None, Ok, Err}
+use Rattle.std.specs.declared.ops.ControlFlow.{ControlFlow}
 use Rattle.std.proofs.Common.{refl, sym, ap, subst, arith}
 use Rattle.fallible_contract.specs.declared.folds.Exit.{Exit}
 use Rattle.fallible_contract.specs.declared.folds.Exit.TheVariants.{Ended, Failed, Stopped}
@@ -19,7 +20,7 @@ met_end (Ended c) = true
 met_end (Failed c e) = false
 met_end (Stopped r) = false
 
-met_end_last : {C A E R : Type 0} (turns : C → A → Result C R → Type 0) (last : Answered A E) (d : C) (exit : Exit C E R) → CarryingExit turns d last exit → met_end exit ≡ is_end last
+met_end_last : {C A E R : Type 0} (turns : C → A → ControlFlow R C → Type 0) (last : Answered A E) (d : C) (exit : Exit C E R) → CarryingExit turns d last exit → met_end exit ≡ is_end last
 met_end_last turns (Ok None) d exit at = ap met_end at
 met_end_last turns (Err e) d exit at = ap met_end at
 met_end_last turns (Ok (Some x)) d exit at = ap met_end at.2
@@ -30,7 +31,7 @@ module _ {S A E : Type 0} (steps : S → Answered A E → S → Type 0) where
   run_open [] last s t closed ran is = ((t, closed), (last, subst (λ (u : S). steps s last u) ran.2 ran.1, refl, is), refl)
   run_open (x ∷ items) last s t closed ran is = ((ran.0, false), (item x, ran.1, refl, refl), run_open items last ran.0 t closed ran.2 is)
 
-pub folds_fused : {S A E C R : Type 0} {steps : S → Answered A E → S → Type 0} {turns : C → A → Result C R → Type 0} {s t : S} {c : C} {exit : Exit C E R} → Carried steps turns s c exit t → Carried (closing_step steps (λ r. r) is_end) turns (s, false) c exit (t, met_end exit)
+pub folds_fused : {S A E C R : Type 0} {steps : S → Answered A E → S → Type 0} {turns : C → A → ControlFlow R C → Type 0} {s t : S} {c : C} {exit : Exit C E R} → Carried steps turns s c exit t → Carried (closing_step steps (λ r. r) is_end) turns (s, false) c exit (t, met_end exit)
 folds_fused {steps = steps} {turns = turns} {s = s} {t = t} {exit = exit} w = record { items = w.items; last = w.last; carried = w.carried; ran = run_open steps w.items w.last s t (met_end exit) w.ran (met_end_last turns w.last w.carried exit w.exit); went = w.went; exit = w.exit }
 
 -- ---- of the struct
@@ -40,12 +41,12 @@ module _ {S A E : Type 0} (m : Contract S A E) (s : Fuse S) where
   steps = (seen_as fuse_parts (fuse_contract m)).steps
 
   -- where it is open, a fold of the source
-  pub open_folds : {C R : Type 0} {turns : C → A → Result C R → Type 0} {t : S} {c : C} {exit : Exit C E R} (closed : Bool) → s.ended ≡ false → closed ≡ met_end exit → Carried m.steps turns s.it c exit t → Carried steps turns s c exit (record { it = t; ended = closed })
+  pub open_folds : {C R : Type 0} {turns : C → A → ControlFlow R C → Type 0} {t : S} {c : C} {exit : Exit C E R} (closed : Bool) → s.ended ≡ false → closed ≡ met_end exit → Carried m.steps turns s.it c exit t → Carried steps turns s c exit (record { it = t; ended = closed })
   open_folds {turns = turns} {t = t} {c = c} {exit = exit} closed is met w = subst (λ (b : Bool). Carried steps turns (record { it = s.it; ended = b }) c exit (record { it = t; ended = closed })) (sym is)
       (subst (λ (b : Bool). Carried steps turns (record { it = s.it; ended = false }) c exit (record { it = t; ended = b })) (sym met) (carried_into (λ p. record { it = p.0; ended = p.1 }) (λ p r q step. step) (folds_fused w)))
 
   -- where it is closed, an end without a draw
-  pub closed_folds : {C R : Type 0} {turns : C → A → Result C R → Type 0} {c : C} → s.ended ≡ true → Carried steps turns s c (Ended c) s
+  pub closed_folds : {C R : Type 0} {turns : C → A → ControlFlow R C → Type 0} {c : C} → s.ended ≡ true → Carried steps turns s c (Ended c) s
   closed_folds {turns = turns} {c = c} is = subst (λ (b : Bool). Carried steps turns (record { it = s.it; ended = b }) c (Ended c) (record { it = s.it; ended = b })) (sym is) (carried_end (refl, refl, refl))
 
   -- what holds at each turn of it, where it is open, holds at each of the source

@@ -1,5 +1,6 @@
 -- A fold of `Skip` begins by a fold of its source up to the first item that stays. After that item nothing is left to leave out: from there on a fold of the source is one of it.
 use Rattle.std.specs.Prelude.{◌≡◌, ℕ, ◌+◌, List, [], ◌∷◌, ◌++◌, map, Result, Some, None, Ok, Err}
+use Rattle.std.specs.declared.ops.ControlFlow.{ControlFlow}
 use Rattle.std.specs.List.{FoldsTo}
 use Rattle.std.proofs.Common.{refl, sym, subst, arith}
 use Rattle.fallible_contract.specs.declared.folds.Exit.{Exit}
@@ -63,5 +64,5 @@ module _ {S A E : Type 0} (m : Contract S A E) where
     holds_past {goes_on = goes_on} {P = P} {c = c} h = holds_into past (λ p x q step. past_step m.steps p (item x) q step) (subst (λ (n : ℕ). HoldsAtEachTurn (skip m).steps goes_on P (record { it = s.it; to_skip = n }) c) at h)
 
     -- and a fold of the source is one of it
-    pub folds_past : {C R : Type 0} {turns : C → A → Result C R → Type 0} {c : C} {exit : Exit C E R} {t : S} → Carried m.steps turns s.it c exit t → Carried (skip m).steps turns s c exit (record { it = t; to_skip = s.to_skip })
+    pub folds_past : {C R : Type 0} {turns : C → A → ControlFlow R C → Type 0} {c : C} {exit : Exit C E R} {t : S} → Carried m.steps turns s.it c exit t → Carried (skip m).steps turns s c exit (record { it = t; to_skip = s.to_skip })
     folds_past {turns = turns} {c = c} {exit = exit} {t = t} w = subst (λ (n : ℕ). Carried (skip m).steps turns (record { it = s.it; to_skip = n }) c exit (record { it = t; to_skip = n })) (sym at) (carried_into past (λ p r q step. past_step m.steps p r q step) w)

@@ -1,5 +1,6 @@
 -- A fold of the source by the predicate's answers is a fold of `TakeWhile`, which a refused item closes.
 use Rattle.std.specs.Prelude.{◌≡◌, Bool, true, false, List, [], ◌∷◌, Option, Result, Some, Ok, Err}
+use Rattle.std.specs.declared.ops.ControlFlow.{ControlFlow}
 use Rattle.std.specs.List.{FoldsTo}
 use Rattle.std.specs.Fn.{Mut}
 use Rattle.std.specs.Borrow.{Bor}
@@ -83,7 +84,7 @@ module _ {S F X E : Type 0} (m : Contract S X E) (a : Mut F (Bor X × Unit {0}) 
   stays_open : (p : S × (F × Bool)) (x : X) (q : S × (F × Bool)) → IsOpen p → passing_step m.steps Calls take_while_outcome p (item x) q → IsOpen q
   stays_open p x q unrefused step = one_open p.0 q.0 p.1 q.1 x (to_passes step)
 
-  module _ (s : TakeWhile S F) {C R : Type 0} (turns : C → X → Result C R → Type 0) {c : C} where
+  module _ (s : TakeWhile S F) {C R : Type 0} (turns : C → X → ControlFlow R C → Type 0) {c : C} where
     -- where an item was refused, an end without a draw
     pub refused_folds : s.refused ≡ true → Carried steps turns s c (Ended c) s
     refused_folds is = subst (λ (b : Bool). Carried steps turns (record { it = s.it; predicate = s.predicate; refused = b }) c (Ended c) (record { it = s.it; predicate = s.predicate; refused = b })) (sym is) (carried_end (refl, refl, refl))
@@ -97,7 +98,7 @@ module _ {S F X E : Type 0} (m : Contract S X E) (a : Mut F (Bor X × Unit {0}) 
     pub taking_step : {t : S} (q : F × Bool) (r : Answered X E) (drawn : Answered X E) → m.steps s.it drawn t → PassAnswer Calls take_while_outcome (f, false) drawn r q → steps s r (full (t, q))
     taking_step {t = t} q r drawn step h = subst (λ (z : TakeWhile S F). steps z r (full (t, q))) full_is (drawn_open (s.it, (f, false)) r (t, q) refl (answer_passed drawn step h))
 
-    module _ {C R : Type 0} (turns : C → X → Result C R → Type 0) {c : C} where
+    module _ {C R : Type 0} (turns : C → X → ControlFlow R C → Type 0) {c : C} where
       -- where its turns may be taken, the source's may
       pub taking_takes : {P : C → X → Type 0} → Lawful m → m.can s.it → IsCallableIn (call_at a) (takes_at a) (m.gives s.it) s.predicate → HoldsAtEachTurn steps (carrying_turn turns) P s c
           → HoldsAtEachTurn m.steps (carrying_turn (FoldingTurn Calls take_while_outcome turns)) (FoldingTakes Calls take_while_outcome (λ p x. takes_at a p.0 x) P) s.it (c, (f, false))

@@ -1,5 +1,6 @@
 -- After an item `SkipWhile` asks its predicate no more: from there on a fold of the source is one of it.
 use Rattle.std.specs.Prelude.{◌≡◌, Bool, true, false, Option, Some, None, List, [], ◌∷◌, Result, Ok, Err}
+use Rattle.std.specs.declared.ops.ControlFlow.{ControlFlow}
 use Rattle.std.specs.Fn.{Mut}
 use Rattle.std.specs.Borrow.{Bor}
 use Rattle.std.proofs.Common.{refl, ap, subst, sym, ◌∙◌}
@@ -52,5 +53,5 @@ module _ {S F X E : Type 0} (m : Contract S X E) (g : Mut F (Bor X × Unit {0}) 
     holds_past {goes_on = goes_on} {P = P} {c = c} h = holds_into {held = steps} (past s.predicate) (λ p x q step. past_step s.predicate p q (item x) step) (subst (λ (b : Bool). HoldsAtEachTurn steps goes_on P (record { it = s.it; found = b; predicate = s.predicate }) c) at h)
 
     -- and a fold of the source is one of it
-    pub folds_past : {C R : Type 0} {turns : C → X → Result C R → Type 0} {c : C} {exit : Exit C E R} {t : S} → Carried m.steps turns s.it c exit t → Carried steps turns s c exit (record { it = t; found = s.found; predicate = s.predicate })
+    pub folds_past : {C R : Type 0} {turns : C → X → ControlFlow R C → Type 0} {c : C} {exit : Exit C E R} {t : S} → Carried m.steps turns s.it c exit t → Carried steps turns s c exit (record { it = t; found = s.found; predicate = s.predicate })
     folds_past {turns = turns} {c = c} {exit = exit} {t = t} w = subst (λ (b : Bool). Carried steps turns (record { it = s.it; found = b; predicate = s.predicate }) c exit (record { it = t; found = b; predicate = s.predicate })) (sym at) (carried_into {held = steps} (past s.predicate) (λ p r q step. past_step s.predicate p q r step) w)

@@ -1,5 +1,6 @@
 -- Folds of `Chain`: one of the front, and after its end one of the back. From behind the sides are swapped.
 use Rattle.std.specs.Prelude.{◌≡◌, ◌≢◌, false, List, [], ◌∷◌, ◌++◌, map, Result, Some, None, Ok, Err}
+use Rattle.std.specs.declared.ops.ControlFlow.{ControlFlow}
 use Rattle.std.specs.List.{FoldsTo}
 use Rattle.std.proofs.Common.{refl, sym, ◌∙◌, ap, ap₂, subst, inl, inr, append_assoc}
 use Rattle.std.proofs.lemmas.List.{map-append}
@@ -45,7 +46,7 @@ pub yields_first : {S A E : Type 0} (steps : S → Answered A E → S → Type 0
 yields_first steps [] last s t ran = (s, refl, subst (λ z. steps s last z) ran.2 ran.1)
 yields_first steps (x ∷ items) last s t ran = let h = yields_first steps items last ran.0 t ran.2 in (h.0, (ran.0, ran.1, h.1), h.2)
 
-module _ {A E C R : Type 0} (turns : C → A → Result C R → Type 0) where
+module _ {A E C R : Type 0} (turns : C → A → ControlFlow R C → Type 0) where
   -- a fold that ended met an end, and else it met none
   pub exit_at_end : (c : C) (last : Answered A E) (d : C) → CarryingExit turns c last (Ended d) → (last ≡ end) × (c ≡ d)
   exit_at_end c (Ok None) d h = (refl, (let e : Ended d ≡ Ended c = h in cc))
@@ -104,7 +105,7 @@ module _ {S U A E : Type 0} (steps : S → Answered A E → S → Type 0) (other
         h.at (xs ++ items) rest.0 (t, w, BackAlone) e x (turns_then _ xs items _ _ _ (yields_both xs s first.0 u first.1) rest.1) (turns_then _ xs items _ _ _ before went) rest.2;
   }
 
-  module _ {C R : Type 0} {turns : C → A → Result C R → Type 0} where
+  module _ {C R : Type 0} {turns : C → A → ControlFlow R C → Type 0} where
     -- once the front's fold ended, too
     holds_over : {P : C → A → Type 0} {s t : S} {u : U} {c d : C} → HoldsAtEachTurn Step (carrying_turn turns) P (s, u, Both) c → Carried {E = E} steps turns s c (Ended d) t → HoldsAtEachTurn others (carrying_turn turns) P u d
     holds_over {s = s} {t = t} {c = c} {d = d} h f = let over = exit_at_end turns f.carried f.last d f.exit in
@@ -179,7 +180,7 @@ module _ {V S U A E : Type 0} (view : V → S × U × StillDrawn) (make : S × U
         by FrontAlone is = turns_front_alone is h
         by BackAlone is = absurd (drawn is)
 
-  module _ {C R : Type 0} {turns : C → A → Result C R → Type 0} {s : V} {c : C} where
+  module _ {C R : Type 0} {turns : C → A → ControlFlow R C → Type 0} {s : V} {c : C} where
     pub turns_over : {P : C → A → Type 0} {t : S} {d : C} → (view s).2 ≡ Both → HoldsAtEachTurn Drawn (carrying_turn turns) P s c → Carried {E = E} front.steps turns (view s).0 c (Ended d) t → HoldsAtEachTurn back.steps (carrying_turn turns) P (view s).1 d
     turns_over is h f = holds_over front.steps back.steps (parts_hold is h) f
 

@@ -1,5 +1,7 @@
 -- The runs of `Flatten` are the traces that its definition names, one draw of it is a fold that stops, and what it lists.
 use Rattle.std.specs.Prelude.{◌≡◌, false, List, [], ◌∷◌, ◌++◌, map, Option, Result, Some, None, Ok, Err}
+use Rattle.std.specs.declared.ops.ControlFlow.{ControlFlow}
+use Rattle.std.specs.declared.ops.ControlFlow.TheVariants.{Continue, Break}
 use Rattle.std.specs.List.{FoldsTo, flat_map}
 use Rattle.std.proofs.Common.{refl, sym, ◌∙◌, ap, subst}
 use Rattle.std.proofs.lemmas.List.{append-nil}
@@ -139,23 +141,23 @@ module _ {S X C B E : Type 0} {outer : S → Answered X E → S → Type 0} {int
 
 -- ---- one draw where nothing is in hand, as a fold of the outer source that stops
 
-module _ {S X C B E : Type 0} (outer : S → Answered X E → S → Type 0) (into : X → C → Type 0) (inner : C → Answered B E → C → Type 0) (turns : Option C → X → Result (Option C) (Option C × Result B E) → Type 0)
-    (turn : (hand : Option C) (x : X) (r : Result (Option C) (Option C × Result B E)) → turns hand x r → BeginTurn into inner hand x r) where
+module _ {S X C B E : Type 0} (outer : S → Answered X E → S → Type 0) (into : X → C → Type 0) (inner : C → Answered B E → C → Type 0) (turns : Option C → X → ControlFlow (Option C × Result B E) (Option C) → Type 0)
+    (turn : (hand : Option C) (x : X) (r : ControlFlow (Option C × Result B E) (Option C)) → turns hand x r → BeginTurn into inner hand x r) where
   abbrev G : S → Option C → List (Answered B E) → S → Option C → Type 0
   G = Flattens outer into inner
 
-  begun_turn : (x : X) (p : Option C × Result B E) (hand : Option C) (u t : S) → outer u (item x) t → BeginTurn into inner hand x (Err p) → G u None (stopped_answer p.1 ∷ []) t p.0
+  begun_turn : (x : X) (p : Option C × Result B E) (hand : Option C) (u t : S) → outer u (item x) t → BeginTurn into inner hand x (Break p) → G u None (stopped_answer p.1 ∷ []) t p.0
   begun_turn x (hand', Ok y) hand u t step w = rw w.4 (begins x step w.2 (gives y w.3 done))
   begun_turn x (hand', Err e) hand u t step w = rw w.4 (begins x step w.2 (fails e w.3 done))
 
   begun_exit : (last : Answered X E) (hand : Option C) (exit : Exit (Option C) E (Option C × Result B E)) (u t : S) → hand ≡ None → CarryingExit turns hand last exit → outer u last t → G u None ((unpacked exit).1 ∷ []) t (unpacked exit).0
   begun_exit (Ok None) hand exit u t none e step = rw (e, none) (outer_ends step done)
   begun_exit (Err d) hand exit u t none e step = rw (e, none) (outer_fails d step done)
-  begun_exit (Ok (Some x)) hand exit u t none e step = rw e.2 (begun_turn x e.0 hand u t step (turn hand x (Err e.0) e.1))
+  begun_exit (Ok (Some x)) hand exit u t none e step = rw e.2 (begun_turn x e.0 hand u t step (turn hand x (Break e.0) e.1))
 
   after_ended : (last : Answered X E) (r : Answered B E) (t : S) (hand' v : Option C) → ((u : S) → v ≡ None → outer u last t → G u None (r ∷ []) t hand') → (items : List X) (s : S) (hand : Option C) → hand ≡ None → Run outer s (map item items ++ last ∷ []) t → FoldsTo (carrying_turn turns) hand items v → G s None (r ∷ []) t hand'
   after_ended last r t hand' v final [] s hand none ran went = final s (subst (λ (h : Option C). h ≡ None) went none) (subst (λ (u : S). outer s last u) ran.2 ran.1)
-  after_ended last r t hand' v final (x ∷ items) s hand none ran went = let b = turn hand x (Ok went.0) went.1 in begins x ran.1 b.2 (finishes b.3 (after_ended last r t hand' v final items ran.0 went.0 (b.4 ∙ none) ran.2 went.2))
+  after_ended last r t hand' v final (x ∷ items) s hand none ran went = let b = turn hand x (Continue went.0) went.1 in begins x ran.1 b.2 (finishes b.3 (after_ended last r t hand' v final items ran.0 went.0 (b.4 ∙ none) ran.2 went.2))
 
   pub flatten_fold : {s t : S} {exit : Exit (Option C) E (Option C × Result B E)} → Carried outer turns s None exit t → FlattenTrace outer into inner (s, None) ((unpacked exit).1 ∷ []) (t, (unpacked exit).0)
   flatten_fold {s} {t} {exit} w = from_flattens outer into inner s t None (unpacked exit).0 ((unpacked exit).1 ∷ []) (after_ended w.last (unpacked exit).1 t (unpacked exit).0 w.carried (λ u none step. begun_exit w.last w.carried exit u t none w.exit step) w.items s None refl w.ran w.went)

@@ -1,5 +1,7 @@
 -- Folds of `Flatten`: one of the inner iterator in hand, and after its end one of the outer source, whose turn folds the inner iterator that the item becomes.
 use Rattle.std.specs.Prelude.{◌≡◌, ◌≢◌, false, List, [], ◌∷◌, ◌++◌, map, Option, Result, Some, None, Ok, Err}
+use Rattle.std.specs.declared.ops.ControlFlow.{ControlFlow}
+use Rattle.std.specs.declared.ops.ControlFlow.TheVariants.{Break}
 use Rattle.std.specs.List.{FoldsTo}
 use Rattle.std.proofs.Common.{refl, sym, ap, subst}
 use Rattle.fallible_contract.specs.declared.folds.Exit.{Exit}
@@ -53,7 +55,7 @@ module _ {S X C B E : Type 0} (m : Contract S X E) (into : X → C → Type 0) (
     pub holds_in_hand : HoldsAtEachTurn Draw goes_on P (s, Some c) v → HoldsAtEachTurn inner.steps goes_on P c v
     holds_in_hand h = holds_into (λ (k : C). (s, Some k)) (λ k y l step. flatten_in_hand (item y) refl step refl) h
 
-  module _ {V R : Type 0} (turns : V → B → Result V R → Type 0) where
+  module _ {V R : Type 0} (turns : V → B → ControlFlow R V → Type 0) where
     -- where the inner iterator's fold stopped, it is one of the whole
     pub carried_in_hand : {s : S} {c d : C} {v : V} {r : Exit V E R} → ((w : V) → r ≢ Ended w) → Carried inner.steps turns c v r d → Carried Draw turns (s, Some c) v r (s, Some d)
     carried_in_hand {s = s} {c = c} {d = d} {r = r} other f = record {
@@ -96,14 +98,14 @@ module _ {S X C B E : Type 0} (m : Contract S X E) (into : X → C → Type 0) (
 
     -- ---- the outer source's fold
 
-    abbrev Joins : V → X → Result V (C × Exit V E R) → Type 0
+    abbrev Joins : V → X → ControlFlow (C × Exit V E R) V → Type 0
     Joins = JoiningTurn into inner turns
 
     abbrev Folds : S → V → Exit V E R → S → Option C → Type 0
     Folds s v r t hand = Carried Draw turns (s, None) v r (t, hand)
 
     -- the last turn
-    stop_joined : (x : X) (s t : S) (v : V) (stop : C × Exit V E R) → m.steps s (item x) t → Joins v x (Err stop) → Folds s v stop.1 t (Some stop.0)
+    stop_joined : (x : X) (s t : S) (v : V) (stop : C × Exit V E R) → m.steps s (item x) t → Joins v x (Break stop) → Folds s v stop.1 t (Some stop.0)
     stop_joined x s t v (d, exit) step w = carried_from (same_at_item s t w.0 x step w.1) (carried_in_hand w.3 w.2)
 
     last_joined : (last : Answered X E) (s t : S) (v : V) (exit : Exit V E (C × Exit V E R)) → m.steps s last t → CarryingExit Joins v last exit → Folds s v (joined_exit exit) t (joined_hand exit)

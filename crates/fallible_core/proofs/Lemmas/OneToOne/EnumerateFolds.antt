@@ -1,5 +1,7 @@
 -- A fold of the source that numbers its items is a fold of `Enumerate`, and a count of the source is a count of it.
 use Rattle.std.specs.Prelude.{◌≡◌, ℕ, suc, ◌+◌, length, List, [], ◌∷◌, ◌++◌, map, Result, Some, None, Ok, Err, ⊤}
+use Rattle.std.specs.declared.ops.ControlFlow.{ControlFlow}
+use Rattle.std.specs.declared.ops.ControlFlow.TheVariants.{Continue, Break}
 use Rattle.std.specs.List.{FoldsTo}
 use Rattle.std.proofs.Common.{refl, sym, ap, subst, ◌∙◌, arith, inl}
 use Rattle.fallible_contract.specs.declared.folds.Exit.{Exit}
@@ -38,13 +40,13 @@ drawn_numbered l can (Err e) step = tt
 
 -- ---- where the source's turn may be taken
 
-module _ {S A E C R : Type 0} {m : Contract S A E} (l : Lawful m) (turns : C → ℕ × A → Result C R → Type 0) where
-  abbrev Numbers : C × ℕ → A → Result (C × ℕ) (ℕ × Exit C E R) → Type 0
+module _ {S A E C R : Type 0} {m : Contract S A E} (l : Lawful m) (turns : C → ℕ × A → ControlFlow R C → Type 0) where
+  abbrev Numbers : C × ℕ → A → ControlFlow (ℕ × Exit C E R) (C × ℕ) → Type 0
   Numbers = FoldingTurn {E = E} number_call number_outcome turns
 
-  count_on : (made : Result C R) (q : C × ℕ) (g : ℕ) → Ok q ≡ beside {E = E} g made → q.1 ≡ g
-  count_on (Ok c) q g e = let same : q ≡ (c, g) = cc in ap (λ z. z.1) same
-  count_on (Err stop) q g e = absurd cc
+  count_on : (made : ControlFlow R C) (q : C × ℕ) (g : ℕ) → Continue q ≡ beside {E = E} g made → q.1 ≡ g
+  count_on (Continue c) q g e = let same : q ≡ (c, g) = cc in ap (λ z. z.1) same
+  count_on (Break stop) q g e = absurd cc
 
   -- each turn that goes on counts one item
   counts_along : (items : List A) (p q : C × ℕ) (j : ℕ) → FoldsTo (carrying_turn Numbers) p items q → (k : ℕ) × FoldsTo (λ (i : ℕ) (x : A) (n : ℕ). n ≡ i + 1) j items k × (q.1 + j ≡ p.1 + k)

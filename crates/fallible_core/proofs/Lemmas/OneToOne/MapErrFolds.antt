@@ -1,5 +1,6 @@
 -- A fold of the source, and the call where it met a failure, are a fold of `MapErr`; so of its count, its last item and its `nth`.
 use Rattle.std.specs.Prelude.{◌≡◌, ℕ, length, List, [], ◌∷◌, ◌++◌, map, Option, Result, Some, None, Ok, Err}
+use Rattle.std.specs.declared.ops.ControlFlow.{ControlFlow}
 use Rattle.std.proofs.Common.{refl, sym, ap, subst, ◌∙◌}
 use Rattle.fallible_contract.specs.declared.folds.Exit.{Exit}
 use Rattle.fallible_contract.specs.declared.folds.Exit.TheVariants.{Ended, Failed, Stopped}
@@ -25,7 +26,7 @@ module _ {S F X D E : Type 0} (steps : S → Answered X D → S → Type 0) (cal
   run_to [] last answer s t f g then ran = ((t, g), then s (subst (λ (u : S). steps s last u) ran.2 ran.1), refl)
   run_to (x ∷ items) last answer s t f g then ran = ((ran.0, f), map_err_item x ran.1, run_to items last answer ran.0 t f g then ran.2)
 
-  module _ {C R : Type 0} (turns : C → X → Result C R → Type 0) where
+  module _ {C R : Type 0} (turns : C → X → ControlFlow R C → Type 0) where
     -- the adapter's last answer, by the source's
     record LastMapped (f g : F) (last : Answered X D) (d : C) (exit : Exit C E R) : Type 0 where
       answer : Answered X E
@@ -55,7 +56,7 @@ module _ {S F X D E : Type 0} (steps : S → Answered X D → S → Type 0) (cal
     failure_met (Err b) c d e at = (let same : e ≡ b = cc in cc)
     failure_met (Ok (Some x)) c d e at = absurd (let no = at.2 in cc)
 
-pub folds_map_err : {S F X D E C R : Type 0} {steps : S → Answered X D → S → Type 0} {turns : C → X → Result C R → Type 0} {s t : S} {f g : F} {c : C} {exit : Exit C D R} {becomes : Exit C E R} (call : F → D → E → F → Type 0)
+pub folds_map_err : {S F X D E C R : Type 0} {steps : S → Answered X D → S → Type 0} {turns : C → X → ControlFlow R C → Type 0} {s t : S} {f g : F} {c : C} {exit : Exit C D R} {becomes : Exit C E R} (call : F → D → E → F → Type 0)
     → Carried steps turns s c exit t → MapErrExit call f exit becomes g → Carried (λ (p : S × F) r q. MapErrTrace steps call p (r ∷ []) q) turns (s, f) c becomes (t, g)
 folds_map_err {steps = steps} {turns = turns} {s = s} {t = t} {f = f} {g = g} {exit = exit} {becomes = becomes} call w h = let last = last_mapped steps call turns w.last f g w.carried exit becomes w.exit h in record {
   items = w.items;
@@ -72,7 +73,7 @@ module _ {S X D : Type 0} {m : Contract S X D} (l : Lawful m) where
   failure_given (x ∷ items) s t e can ran = let a = l.goes s (item x) ran.0 can ran.1 in a.fails e (failure_given items ran.0 t e a.can ran.2)
 
   -- the closure may be called on the failure that the fold met
-  pub takes_exit : {F E C R : Type 0} {turns : C → X → Result C R → Type 0} {s t : S} {f : F} {c : C} {exit : Exit C D R} (call : F → D → E → F → Type 0) (pre : F → D → Type 0) → m.can s → IsCallable call pre (m.fails s) f → Carried m.steps turns s c exit t → TakesExit pre f exit
+  pub takes_exit : {F E C R : Type 0} {turns : C → X → ControlFlow R C → Type 0} {s t : S} {f : F} {c : C} {exit : Exit C D R} (call : F → D → E → F → Type 0) (pre : F → D → Type 0) → m.can s → IsCallable call pre (m.fails s) f → Carried m.steps turns s c exit t → TakesExit pre f exit
   takes_exit {exit = Ended c} call pre can callable w = tt
   takes_exit {turns = turns} {s = s} {t = t} {f = f} {exit = Failed c e} call pre can callable w = callable.at f e reaches_here (failure_given w.items s t e can (subst (λ (r : Answered X D). Run m.steps s (map item w.items ++ r ∷ []) t) (failure_met m.steps call turns w.last c w.carried e w.exit) w.ran))
   takes_exit {exit = Stopped r} call pre can callable w = tt

@@ -1,5 +1,7 @@
 -- A fold of the source is one of `Peekable` where nothing is held, and one more item in front where an item is; a held end is a fold without a draw.
 use Rattle.std.specs.Prelude.{◌≡◌, Option, Result, Some, None, Ok, Err}
+use Rattle.std.specs.declared.ops.ControlFlow.{ControlFlow}
+use Rattle.std.specs.declared.ops.ControlFlow.TheVariants.{Continue, Break}
 use Rattle.std.proofs.Common.{refl, sym, subst}
 use Rattle.fallible_contract.specs.declared.folds.Exit.{Exit}
 use Rattle.fallible_contract.specs.declared.folds.Exit.TheVariants.{Ended, Stopped}
@@ -23,17 +25,17 @@ module _ {S A E : Type 0} (m : Contract S A E) (s : Peekable S A E) where
   abbrev bare : S → Peekable S A E
   bare p = record { it = p; held = None }
 
-  module _ {C R : Type 0} {turns : C → A → Result C R → Type 0} {c : C} where
+  module _ {C R : Type 0} {turns : C → A → ControlFlow R C → Type 0} {c : C} where
     -- where nothing is held, a fold of the source
     pub bare_folds : {t : S} {exit : Exit C E R} → s.held ≡ None → Carried m.steps turns s.it c exit t → Carried steps turns s c exit (bare t)
     bare_folds {t = t} {exit = exit} is w = subst (λ (o : Option (Option A)). Carried steps turns (with_held o) c exit (bare t)) (sym is) (carried_into bare (λ p r q step. (step, refl)) w)
 
     -- a held item on which the turn goes on, and then a fold of the source
-    pub item_folds : {t : S} {d : C} {exit : Exit C E R} (x : A) → s.held ≡ Some (Some x) → turns c x (Ok d) → Carried m.steps turns s.it d exit t → Carried steps turns s c exit (bare t)
+    pub item_folds : {t : S} {d : C} {exit : Exit C E R} (x : A) → s.held ≡ Some (Some x) → turns c x (Continue d) → Carried m.steps turns s.it d exit t → Carried steps turns s c exit (bare t)
     item_folds {t = t} {exit = exit} x is turn w = subst (λ (o : Option (Option A)). Carried steps turns (with_held o) c exit (bare t)) (sym is) (carried_after {t = bare s.it} x (refl, refl, refl) turn (carried_into bare (λ p r q step. (step, refl)) w))
 
     -- a held item on which the turn stops
-    pub item_stops : {stop : R} (x : A) → s.held ≡ Some (Some x) → turns c x (Err stop) → Carried steps turns s c (Stopped stop) (bare s.it)
+    pub item_stops : {stop : R} (x : A) → s.held ≡ Some (Some x) → turns c x (Break stop) → Carried steps turns s c (Stopped stop) (bare s.it)
     item_stops {stop = stop} x is turn = subst (λ (o : Option (Option A)). Carried steps turns (with_held o) c (Stopped stop) (bare s.it)) (sym is) (carried_stop x (refl, refl, refl) turn)
 
     -- a held end

@@ -1,5 +1,6 @@
 -- A fold through std's own `try_fold`, or `try_rfold`, is a fold of the type over the std iterator: `read` is the result that an element is.
 use Rattle.std.specs.Prelude.{◌≡◌, List, [], ◌∷◌, Option, Result, Some, None, Ok, Err, MatchOption, IfOk, IsErr, IsErrAnd}
+use Rattle.std.specs.declared.ops.ControlFlow.{ControlFlow}
 use Rattle.std.specs.Iterator.{Count, MakesProgress, Yields, TryFoldTurn, TryFoldsItems, CallableInTryFold}
 use Rattle.std.specs.List.{FoldsTo}
 use Rattle.std.specs.Fn.{Called, Takes, Mut}
@@ -35,11 +36,11 @@ module _ {S Z : Type 0} (can : S → Type 0) (gives : S → Option Z → S → T
 -- ---- the turns
 
 -- The closure that std's fold calls takes a turn on what is read of the element, and stays as it was.
-abbrev pub TurnsBy : {F C A E R Z : Type 0} → Mut F (C × (Z × Unit {0})) (Result C (Exit C E R)) → F → (Z → Result A E) → (C → A → Result C R → Type 0) → Type 0
+abbrev pub TurnsBy : {F C A E R Z : Type 0} → Mut F (C × (Z × Unit {0})) (Result C (Exit C E R)) → F → (Z → Result A E) → (C → A → ControlFlow R C → Type 0) → Type 0
 TurnsBy {F} {C} {E = E} {R = R} {Z = Z} g f read turns = (c : C) (z : Z) (r : Result C (Exit C E R)) (h : F) → Called g f (c, (z, tt)) r h → (h ≡ f) × ElementTurn turns c (read z) r
 
 module _ {S A E Z F C R : Type 0} (of_item : A → Z) (of_failure : E → Z) (read : Z → Result A E) (reads : (z : Z) → element_by of_item of_failure (result_answer (read z)) ≡ Some z) (can : S → Type 0) (gives : S → Option Z → S → Type 0) (remaining : S → Count)
-    (g : Mut F (C × (Z × Unit {0})) (Result C (Exit C E R))) (f : F) (turns : C → A → Result C R → Type 0) (turned : TurnsBy g f read turns) where
+    (g : Mut F (C × (Z × Unit {0})) (Result C (Exit C E R))) (f : F) (turns : C → A → ControlFlow R C → Type 0) (turned : TurnsBy g f read turns) where
   abbrev Step : S → Answered A E → S → Type 0
   Step = std_step of_item of_failure can gives remaining
 
@@ -59,17 +60,17 @@ module _ {S A E Z F C R : Type 0} (of_item : A → Z) (of_failure : E → Z) (re
   went_on c d z h w = let called = turned c z w.0 h w.1 in (called.0, subst (λ (r : Result C (Exit C E R)). ElementTurn turns c (read z) r) w.2 called.1)
 
   -- and it is taken on an item
-  on_item : (c d : C) (q : Result A E) → ElementTurn turns c q (Ok d) → (x : A) × (q ≡ Ok x) × turns c x (Ok d)
+  on_item : (c d : C) (q : Result A E) → ElementTurn turns c q (Ok d) → (x : A) × (q ≡ Ok x) × turns c x (Continue d)
   unfolding ElementTurn
-  on_item c d (Ok x) (Ok e, w, is) = (x, refl, (let same : e ≡ d = cc in subst (λ (k : C). turns c x (Ok k)) same w))
-  on_item c d (Ok x) (Err e, w, is) = absurd cc
+  on_item c d (Ok x) (Continue e, w, is) = (x, refl, (let same : e ≡ d = cc in subst (λ (k : C). turns c x (Continue k)) same w))
+  on_item c d (Ok x) (Break e, w, is) = absurd cc
   on_item c d (Err e) w = absurd cc
 
   -- the turn at which std's fold breaks off is where the fold stops, or meets a failure
   stops_on : (c : C) (s t : Progressing S) (z : Z) (q : Result A E) (stop : Exit C E R) → read z ≡ q → Made s (Some z) t → ElementTurn turns c q (Err stop) → Carried Step turns s.it.now c stop t.it.now
   unfolding ElementTurn
-  stops_on c s t z (Ok x) stop e w (Ok d, turn, is) = absurd cc
-  stops_on c s t z (Ok x) stop e w (Err why, turn, is) = let same : stop ≡ Stopped why = cc in subst (λ (r : Exit C E R). Carried Step turns s.it.now c r t.it.now) (sym same) (carried_stop x (drawn s t z (Ok x) e w) turn)
+  stops_on c s t z (Ok x) stop e w (Continue d, turn, is) = absurd cc
+  stops_on c s t z (Ok x) stop e w (Break why, turn, is) = let same : stop ≡ Stopped why = cc in subst (λ (r : Exit C E R). Carried Step turns s.it.now c r t.it.now) (sym same) (carried_stop x (drawn s t z (Ok x) e w) turn)
   stops_on c s t z (Err why) stop e w is = let same : stop ≡ Failed c why = cc in subst (λ (r : Exit C E R). Carried Step turns s.it.now c r t.it.now) (sym same) (carried_failure (drawn s t z (Err why) e w))
 
   -- what std says of the last call of its fold

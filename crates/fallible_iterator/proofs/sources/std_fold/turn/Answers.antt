@@ -3,13 +3,13 @@ use Rattle.std.proofs.Common.{Ok, Err, refl}
 use Rattle.fallible_iterator.specs.Sources.StdFold.{ElementTurn}
 use Rattle.fallible_iterator.proofs.sources.std_fold.turn.Goals as goal
 
-pub returns-in-Ok-turn : goal.returns-in-Ok-turn
+pub returns-in-Continue : goal.returns-in-Continue
 unfolding ElementTurn
-returns-in-Ok-turn g c = rw c.in-Ok.is (Ok c.in-Ok-turn.carried, c.in-Ok-turn.ensures, refl)
+returns-in-Continue g c = rw c.in-Ok.is (Ok c.in-Continue.carried, c.in-Continue.ensures, refl)
 
-pub returns-in-Err-turn : goal.returns-in-Err-turn
+pub returns-in-Break : goal.returns-in-Break
 unfolding ElementTurn
-returns-in-Err-turn g c = rw c.in-Ok.is (Err c.in-Err-turn.stop, c.in-Err-turn.ensures, refl)
+returns-in-Break g c = rw c.in-Ok.is (Err c.in-Break.stop, c.in-Break.ensures, refl)
 
 pub returns-in-Err : goal.returns-in-Err
 unfolding ElementTurn

@@ -17,13 +17,13 @@ pub try_fold_carrying-requires-clause-finite : goal.try_fold_carrying-requires-c
 try_fold_carrying-requires-clause-finite g c = ((lawful_seen skip_parts (lawful_skip g.met.I.FallibleIterator.lawful)).goes c.args.self.now (Ok (Some c.in-Ok-Some.x)) (record { it = c.reach_past.new.it; to_skip = c.reach_past.new.left }) c.requires.can (rw c.in-Ok-Some.field-0-is at c.in-Ok-Some.ensures)).has_end c.requires.finite
 
 pub try_fold_carrying-requires-clause-callable : goal.try_fold_carrying-requires-clause-callable
-try_fold_carrying-requires-clause-callable g c = holds_past g.I.FallibleIterator.contract {s = record { it = c.reach_past.new.it; to_skip = c.reach_past.new.left }} (item_is_past g.I.FallibleIterator.contract c.args.self.now (record { it = c.reach_past.new.it; to_skip = c.reach_past.new.left }) c.in-Ok-Some.x (rw c.in-Ok-Some.field-0-is at c.in-Ok-Some.ensures)) (holds_after {s = c.args.self.now} {t = record { it = c.reach_past.new.it; to_skip = c.reach_past.new.left }} c.requires.callable (rw c.in-Ok-Some.field-0-is at c.in-Ok-Some.ensures) c.in-Ok.ensures)
+try_fold_carrying-requires-clause-callable g c = holds_past g.I.FallibleIterator.contract {s = record { it = c.reach_past.new.it; to_skip = c.reach_past.new.left }} (item_is_past g.I.FallibleIterator.contract c.args.self.now (record { it = c.reach_past.new.it; to_skip = c.reach_past.new.left }) c.in-Ok-Some.x (rw c.in-Ok-Some.field-0-is at c.in-Ok-Some.ensures)) (holds_after {s = c.args.self.now} {t = record { it = c.reach_past.new.it; to_skip = c.reach_past.new.left }} c.requires.callable (rw c.in-Ok-Some.field-0-is at c.in-Ok-Some.ensures) c.in-Continue.ensures)
 
-pub returns-in-Ok-clause-carried : goal.returns-in-Ok-clause-carried
-returns-in-Ok-clause-carried g c = carried_after {s = c.args.self.now} {t = record { it = c.reach_past.new.it; to_skip = c.reach_past.new.left }} c.in-Ok-Some.x (rw c.in-Ok-Some.field-0-is at c.in-Ok-Some.ensures) c.in-Ok.ensures (folds_past g.I.FallibleIterator.contract {s = record { it = c.reach_past.new.it; to_skip = c.reach_past.new.left }} (item_is_past g.I.FallibleIterator.contract c.args.self.now (record { it = c.reach_past.new.it; to_skip = c.reach_past.new.left }) c.in-Ok-Some.x (rw c.in-Ok-Some.field-0-is at c.in-Ok-Some.ensures)) c.try_fold_carrying.ensures.carried)
+pub returns-in-Continue-clause-carried : goal.returns-in-Continue-clause-carried
+returns-in-Continue-clause-carried g c = carried_after {s = c.args.self.now} {t = record { it = c.reach_past.new.it; to_skip = c.reach_past.new.left }} c.in-Ok-Some.x (rw c.in-Ok-Some.field-0-is at c.in-Ok-Some.ensures) c.in-Continue.ensures (folds_past g.I.FallibleIterator.contract {s = record { it = c.reach_past.new.it; to_skip = c.reach_past.new.left }} (item_is_past g.I.FallibleIterator.contract c.args.self.now (record { it = c.reach_past.new.it; to_skip = c.reach_past.new.left }) c.in-Ok-Some.x (rw c.in-Ok-Some.field-0-is at c.in-Ok-Some.ensures)) c.try_fold_carrying.ensures.carried)
 
-pub returns-in-Err-turn-clause-carried : goal.returns-in-Err-turn-clause-carried
-returns-in-Err-turn-clause-carried g c = carried_stop {s = c.args.self.now} {t = record { it = c.reach_past.new.it; to_skip = c.reach_past.new.left }} c.in-Ok-Some.x (rw c.in-Ok-Some.field-0-is at c.in-Ok-Some.ensures) c.in-Err-turn.ensures
+pub returns-in-Break-clause-carried : goal.returns-in-Break-clause-carried
+returns-in-Break-clause-carried g c = carried_stop {s = c.args.self.now} {t = record { it = c.reach_past.new.it; to_skip = c.reach_past.new.left }} c.in-Ok-Some.x (rw c.in-Ok-Some.field-0-is at c.in-Ok-Some.ensures) c.in-Break.ensures
 
 pub returns-in-Ok-None-clause-carried : goal.returns-in-Ok-None-clause-carried
 returns-in-Ok-None-clause-carried g c = carried_end {s = c.args.self.now} {t = record { it = c.reach_past.new.it; to_skip = c.reach_past.new.left }} (rw c.in-Ok-None.field-0-is at c.in-Ok-None.ensures)
@@ -31,11 +31,11 @@ returns-in-Ok-None-clause-carried g c = carried_end {s = c.args.self.now} {t = r
 pub returns-in-Err-clause-carried : goal.returns-in-Err-clause-carried
 returns-in-Err-clause-carried g c = carried_failure {s = c.args.self.now} {t = record { it = c.reach_past.new.it; to_skip = c.reach_past.new.left }} c.in-Err.ensures
 
-pub returns-in-Ok-clause-stays : goal.returns-in-Ok-clause-stays
-returns-in-Ok-clause-stays g c = stays_run (lawful_seen skip_parts (lawful_skip g.met.I.FallibleIterator.lawful)) _ _ _ c.requires.can (returns-in-Ok-clause-carried g c).ran
+pub returns-in-Continue-clause-stays : goal.returns-in-Continue-clause-stays
+returns-in-Continue-clause-stays g c = stays_run (lawful_seen skip_parts (lawful_skip g.met.I.FallibleIterator.lawful)) _ _ _ c.requires.can (returns-in-Continue-clause-carried g c).ran
 
-pub returns-in-Err-turn-clause-stays : goal.returns-in-Err-turn-clause-stays
-returns-in-Err-turn-clause-stays g c = stays_run (lawful_seen skip_parts (lawful_skip g.met.I.FallibleIterator.lawful)) _ _ _ c.requires.can (returns-in-Err-turn-clause-carried g c).ran
+pub returns-in-Break-clause-stays : goal.returns-in-Break-clause-stays
+returns-in-Break-clause-stays g c = stays_run (lawful_seen skip_parts (lawful_skip g.met.I.FallibleIterator.lawful)) _ _ _ c.requires.can (returns-in-Break-clause-carried g c).ran
 
 pub returns-in-Ok-None-clause-stays : goal.returns-in-Ok-None-clause-stays
 returns-in-Ok-None-clause-stays g c = stays_run (lawful_seen skip_parts (lawful_skip g.met.I.FallibleIterator.lawful)) _ _ _ c.requires.can (returns-in-Ok-None-clause-carried g c).ran

@@ -7,16 +7,16 @@ pub turn-requires : goal.turn-requires
 turn-requires g c = item_takes g.I.FallibleIterator.contract c.args.self.now _ (sym (rw c.in-Some-Some.field-0-is at c.in-Some-Some.ensures.value)) c.requires.callable
 
 pub try_fold_carrying-requires-clause-callable : goal.try_fold_carrying-requires-clause-callable
-try_fold_carrying-requires-clause-callable g c = item_holds g.I.FallibleIterator.contract c.args.self.now _ (sym (rw c.in-Some-Some.field-0-is at c.in-Some-Some.ensures.value)) c.in-Ok.ensures c.requires.callable
+try_fold_carrying-requires-clause-callable g c = item_holds g.I.FallibleIterator.contract c.args.self.now _ (sym (rw c.in-Some-Some.field-0-is at c.in-Some-Some.ensures.value)) c.in-Continue.ensures c.requires.callable
 
 pub try_fold_carrying-requires-in-None-clause-callable : goal.try_fold_carrying-requires-in-None-clause-callable
 try_fold_carrying-requires-in-None-clause-callable g c = bare_holds g.I.FallibleIterator.contract c.args.self.now (sym c.in-None.ensures.value) c.requires.callable
 
-pub returns-in-Ok-clause-carried : goal.returns-in-Ok-clause-carried
-returns-in-Ok-clause-carried g c = rw c.in-Some-Some.ensures.after (item_folds g.I.FallibleIterator.contract c.args.self.now _ (sym (rw c.in-Some-Some.field-0-is at c.in-Some-Some.ensures.value)) c.in-Ok.ensures c.try_fold_carrying.ensures.carried)
+pub returns-in-Continue-clause-carried : goal.returns-in-Continue-clause-carried
+returns-in-Continue-clause-carried g c = rw c.in-Some-Some.ensures.after (item_folds g.I.FallibleIterator.contract c.args.self.now _ (sym (rw c.in-Some-Some.field-0-is at c.in-Some-Some.ensures.value)) c.in-Continue.ensures c.try_fold_carrying.ensures.carried)
 
-pub returns-in-Err-clause-carried : goal.returns-in-Err-clause-carried
-returns-in-Err-clause-carried g c = rw c.in-Some-Some.ensures.after (item_stops g.I.FallibleIterator.contract c.args.self.now _ (sym (rw c.in-Some-Some.field-0-is at c.in-Some-Some.ensures.value)) c.in-Err.ensures)
+pub returns-in-Break-clause-carried : goal.returns-in-Break-clause-carried
+returns-in-Break-clause-carried g c = rw c.in-Some-Some.ensures.after (item_stops g.I.FallibleIterator.contract c.args.self.now _ (sym (rw c.in-Some-Some.field-0-is at c.in-Some-Some.ensures.value)) c.in-Break.ensures)
 
 pub returns-in-Some-None-clause-carried : goal.returns-in-Some-None-clause-carried
 returns-in-Some-None-clause-carried g c = rw c.in-Some-None.ensures.after (end_folds g.I.FallibleIterator.contract c.args.self.now (sym (rw c.in-Some-None.field-0-is at c.in-Some-None.ensures.value)))

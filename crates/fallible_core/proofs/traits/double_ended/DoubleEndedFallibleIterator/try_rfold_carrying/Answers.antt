@@ -10,8 +10,8 @@ returns-in-Ok-None-clause-carried g c = c.loop-carried.invariant.whole _ _ (carr
 pub turn-requires : goal.turn-requires
 turn-requires g c = let step = rw c.in-Ok-Some.field-0-is at c.in-Ok-Some.ensures in let h = holds_here c.loop-carried.invariant.callable step in search rules
 
-pub returns-in-Err-turn-clause-carried : goal.returns-in-Err-turn-clause-carried
-returns-in-Err-turn-clause-carried g c = c.loop-carried.invariant.whole _ _ (carried_stop _ (rw c.in-Ok-Some.field-0-is at c.in-Ok-Some.ensures) c.in-Err-turn.ensures)
+pub returns-in-Break-clause-carried : goal.returns-in-Break-clause-carried
+returns-in-Break-clause-carried g c = c.loop-carried.invariant.whole _ _ (carried_stop _ (rw c.in-Ok-Some.field-0-is at c.in-Ok-Some.ensures) c.in-Break.ensures)
 
 pub returns-in-Err-clause-carried : goal.returns-in-Err-clause-carried
 returns-in-Err-clause-carried g c = c.loop-carried.invariant.whole _ _ (carried_failure c.in-Err.ensures)
@@ -23,15 +23,15 @@ loop-carried-preserved g c = let step = rw c.in-Ok-Some.field-0-is at c.in-Ok-So
     let fewer = goes.answer.1 b.0 b.1 in record {
       can = goes.can;
       bounded = (fewer.0, fewer.1, omega (arith, fewer.2, b.2));
-      callable = holds_after c.loop-carried.invariant.callable step c.in-Ok.ensures;
-      whole = λ r t rest. c.loop-carried.invariant.whole r t (carried_after _ step c.in-Ok.ensures rest);
+      callable = holds_after c.loop-carried.invariant.callable step c.in-Continue.ensures;
+      whole = λ r t rest. c.loop-carried.invariant.whole r t (carried_after _ step c.in-Continue.ensures rest);
     }
 
 pub returns-in-Ok-None-clause-stays : goal.returns-in-Ok-None-clause-stays
 returns-in-Ok-None-clause-stays g c = let r = c.loop-carried.invariant.whole _ _ (carried_end (rw c.in-Ok-None.field-0-is at c.in-Ok-None.ensures)) in stays_run g.met.Self.DoubleEndedFallibleIterator.lawful_ends.back _ _ _ c.requires.can r.ran
 
-pub returns-in-Err-turn-clause-stays : goal.returns-in-Err-turn-clause-stays
-returns-in-Err-turn-clause-stays g c = let r = c.loop-carried.invariant.whole _ _ (carried_stop _ (rw c.in-Ok-Some.field-0-is at c.in-Ok-Some.ensures) c.in-Err-turn.ensures) in stays_run g.met.Self.DoubleEndedFallibleIterator.lawful_ends.back _ _ _ c.requires.can r.ran
+pub returns-in-Break-clause-stays : goal.returns-in-Break-clause-stays
+returns-in-Break-clause-stays g c = let r = c.loop-carried.invariant.whole _ _ (carried_stop _ (rw c.in-Ok-Some.field-0-is at c.in-Ok-Some.ensures) c.in-Break.ensures) in stays_run g.met.Self.DoubleEndedFallibleIterator.lawful_ends.back _ _ _ c.requires.can r.ran
 
 pub returns-in-Err-clause-stays : goal.returns-in-Err-clause-stays
 returns-in-Err-clause-stays g c = let r = c.loop-carried.invariant.whole _ _ (carried_failure c.in-Err.ensures) in stays_run g.met.Self.DoubleEndedFallibleIterator.lawful_ends.back _ _ _ c.requires.can r.ran
