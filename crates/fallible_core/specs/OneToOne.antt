@@ -4,4 +4,5 @@ pub mod Enumerate
 pub mod Inspect
 pub mod Map
 pub mod MapErr
+pub mod MapWhile
 pub mod Scan

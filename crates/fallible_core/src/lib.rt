@@ -19,7 +19,7 @@ pub use cutting::{Fuse, Skip, StepBy, Take, TakeWhile};
 pub use ends::Rev;
 pub use filtering::{Filter, FilterMap, SkipWhile};
 pub use joining::{Chain, Cycle, FlatMap, Flatten, Zip};
-pub use one_to_one::{Cloned, Enumerate, Inspect, Map, MapErr, Scan};
+pub use one_to_one::{Cloned, Enumerate, Inspect, Map, MapErr, MapWhile, Scan};
 pub use peeking::Peekable;
 pub use traits::FallibleIterator;
 pub use traits::conversion::IntoFallibleIterator;

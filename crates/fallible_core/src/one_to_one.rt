@@ -4,6 +4,7 @@ mod enumerate;
 mod inspect;
 mod map;
 mod map_err;
+mod map_while;
 mod scan;
 
 pub use cloned::Cloned;
@@ -11,4 +12,5 @@ pub use enumerate::Enumerate;
 pub use inspect::Inspect;
 pub use map::Map;
 pub use map_err::MapErr;
+pub use map_while::MapWhile;
 pub use scan::Scan;

@@ -12,6 +12,7 @@ ghost use Rattle.fallible_core.specs.OneToOne.Map.{map_parts, map_contract};
 ghost use Rattle.fallible_core.specs.OneToOne.Inspect.{inspect_parts, inspect_contract};
 ghost use Rattle.fallible_core.specs.Filtering.Filter.{filter_parts, filter_contract};
 ghost use Rattle.fallible_core.specs.Filtering.FilterMap.{filter_map_parts, filter_map_contract};
+ghost use Rattle.fallible_core.specs.OneToOne.MapWhile.{map_while_parts, map_while_contract, mapped_while};
 ghost use Rattle.fallible_core.specs.OneToOne.MapErr.{map_err_parts, map_err_contract};
 ghost use Rattle.fallible_core.specs.OneToOne.Cloned.{cloned_parts, cloned_contract};
 ghost use Rattle.fallible_core.specs.Ends.Rev.{rev_parts, rev_contract};
@@ -50,7 +51,7 @@ use crate::ends::Rev;
 use crate::filtering::{Filter, FilterMap, SkipWhile};
 use crate::joining::{Chain, Cycle, FlatMap, Flatten, StillDrawn, Zip};
 use crate::number::Number;
-use crate::one_to_one::{Cloned, Enumerate, Inspect, Map, MapErr, Scan};
+use crate::one_to_one::{Cloned, Enumerate, Inspect, Map, MapErr, MapWhile, Scan};
 use crate::peeking::Peekable;
 use crate::picking::{best_by, best_by_key};
 use crate::traits::conversion::IntoFallibleIterator;
@@ -439,6 +440,22 @@ pub trait FallibleIterator: Drop + Sized {
             it: self,
             found: false,
             predicate: Some(predicate),
+        }
+    }
+
+    /// Replaces each item by the value that the closure answers on it, up to the first none, which is an end; the next call goes on after it. Where the closure fails, its failure is the answer and the item is lost. Making the adapter draws nothing and calls nothing.
+    ///
+    /// It asks that the closure may be called on each item that may come, in each state that such calls bring it to.
+    final fn map_while<F, B>(self, f: F) -> MapWhile<Self, F>
+    where
+        F: FnMut(Self::Item) -> Result<Option<B>, Self::Error>,
+        requires { IsCallable (call_on F.FnMut) (takes_on F.FnMut) (contract.gives self) f }
+        ensures parts { map_while_parts result ≡ (self, Some f) }
+        ensures lists { (h : Self.Item → Result (Option B) Self.Error) (l : List (Result Self.Item Self.Error)) → Acts (call_on F.FnMut) f h → Lists contract.steps self l → Lists (seen_as map_while_parts (map_while_contract contract F.FnMut)).steps result (mapped_while h l) }
+    {
+        MapWhile {
+            it: self,
+            f: Some(f),
         }
     }
 

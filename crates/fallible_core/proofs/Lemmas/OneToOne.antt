@@ -5,6 +5,7 @@ pub mod EnumerateFolds
 pub mod Inspect
 pub mod Map
 pub mod MapErr
+pub mod MapWhile
 pub mod MapErrFolds
 pub mod MapErrListed
 pub mod Scan

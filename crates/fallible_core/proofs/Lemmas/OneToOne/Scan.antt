@@ -19,7 +19,8 @@ scans_item x (Err e) step called = passes_refusal x (Err e) e step called refl
 
 -- ---- what it lists
 
-outcome_listed : {X B E : Type 0} (x : X) (v : Result (Option B) E) (l : List (Result B E)) → by_outcome (scan_outcome x v) l ≡ cons_or_end v l
+-- what an outcome puts before the rest of the list
+pub outcome_listed : {X B E : Type 0} (x : X) (v : Result (Option B) E) (l : List (Result B E)) → by_outcome (scan_outcome x v) l ≡ cons_or_end v l
 outcome_listed x (Ok (Some y)) l = refl
 outcome_listed x (Ok None) l = refl
 outcome_listed x (Err e) l = refl
