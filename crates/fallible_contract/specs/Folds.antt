@@ -1,5 +1,5 @@
 -- Folds.
-use Rattle.std.specs.Prelude.{◌≡◌, ℕ, ◌+◌, ◌≤◌, length, List, [], ◌∷◌, ◌++◌, map, Option, Result, Some, None, Ok, Err}
+use Rattle.std.specs.Prelude.{◌≡◌, ℕ, ◌+◌, ◌≤◌, length, List, [], ◌∷◌, ◌++◌, map, Option, Result, Some, None, Ok, Err, ⊤}
 use Rattle.std.specs.declared.ops.ControlFlow.{ControlFlow}
 use Rattle.std.specs.declared.ops.ControlFlow.TheVariants.{Continue, Break}
 use Rattle.std.specs.List.{FoldsTo, last_or}
@@ -31,6 +31,18 @@ module _ {A F B E' : Type 0} (call : F → B → A → Result B E' → F → Typ
   abbrev pub FoldTurn : B × F → A → ControlFlow E' (B × F) → Type 0
   FoldTurn p x (Continue q) = fold_turn p x q
   FoldTurn p x (Break e') = (f' : F) × call p.1 p.0 x (Err e') f'
+
+-- One call of a fold from the first item on: that item is the value so far, without a call, and from then on the closure is called on the value so far and the next item.
+abbrev pub ReduceCall : {A F E : Type 0} → (F → A → A → Result A E → F → Type 0) → F → Option A → A → Result (Option A) E → F → Type 0
+ReduceCall call f None x r g = (r ≡ Ok (Some x)) × (g ≡ f)
+ReduceCall call f (Some v) x (Ok None) g = ⊥
+ReduceCall call f (Some v) x (Ok (Some y)) g = call f v x (Ok y) g
+ReduceCall call f (Some v) x (Err e) g = call f v x (Err e) g
+
+-- it may be made so
+abbrev pub reduce_takes : {A F : Type 0} → (F → A → A → Type 0) → F → Option A → A → Type 0
+reduce_takes takes f None x = ⊤
+reduce_takes takes f (Some v) x = takes f v x
 
 module _ {A E F B E' : Type 0} (call : F → B → A → Result B E' → F → Type 0) (from : E → E' → Type 0) where
   -- the fold's result r by the last answer: the last value at an end; the failure, converted, at a failure; the closure's error where it stopped at an item

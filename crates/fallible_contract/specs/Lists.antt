@@ -346,6 +346,15 @@ folded convert h b (Err e ∷ l) = Err (convert e)
 abbrev pub ActsWith : {F B A R : Type 0} → (F → B → A → R → F → Type 0) → F → (B → A → R) → Type 0
 ActsWith {F} {B} {A} {R} call f h = (b : B) (x : A) (r : R) (g : F) → call f b x r g → (g ≡ f) × (r ≡ h b x)
 
+-- the value of a fold from the first item on, by h of the value so far and an item
+abbrev pub reduce_of : {A E : Type 0} → (A → A → Result A E) → Option A → A → Result (Option A) E
+reduce_of h None x = Ok (Some x)
+reduce_of h (Some v) x = on_value (h v x) (λ y. Ok (Some y))
+
+-- the first item, and from then on h of the value so far and each item; none where there is no item, and the first failure
+unfoldable pub reduced : {A E : Type 0} → (A → A → Result A E) → List (Result A E) → Result (Option A) E
+reduced h l = folded (λ e. e) (reduce_of h) None l
+
 -- Failures convert as the function does.
 abbrev pub Converts : {E E' : Type 0} → (E → E' → Type 0) → (E → E') → Type 0
 Converts {E} {E'} from convert = (e : E) (e' : E') → from e e' → e' ≡ convert e

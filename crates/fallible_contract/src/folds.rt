@@ -3,7 +3,7 @@ ghost use Rattle.std.specs.Prelude.{◌≡◌, ◌+◌, ◌-◌, ◌^◌, ◌<�
 ghost use Rattle.std.specs.declared.ops.ControlFlow.{ControlFlow};
 ghost use Rattle.std.specs.declared.ops.ControlFlow.TheVariants.{Continue, Break};
 ghost use Rattle.fallible_contract.specs.Folding.{handed};
-ghost use Rattle.fallible_contract.specs.Folds.{unpacked, ValueAt, FoldedAt, FoldTurn, ReachTurn, reached_at, call_with, takes_with};
+ghost use Rattle.fallible_contract.specs.Folds.{unpacked, ValueAt, FoldedAt, FoldTurn, ReachTurn, reached_at, call_with, takes_with, ReduceCall, reduce_takes};
 
 use std::convert::Infallible;
 use std::ops::ControlFlow;
@@ -116,6 +116,29 @@ impl<A, B, E, F: FnMut(B, A) -> Result<B, E>> Turn<(B, F), A, E> for Folding {
         let (value, mut f) = carried;
         match f(value, item) {
             Ok(value) => ControlFlow::Continue((value, f)),
+            Err(e) => ControlFlow::Break(e),
+        }
+    }
+}
+
+/// The turn of `reduce`: it carries the value so far, if an item came, and the closure.
+#[derive(Drop)]
+pub struct ReduceTurn;
+
+impl<A: Drop, E, F: FnMut(A, A) -> Result<A, E>> Turn<(Option<A>, F), A, E> for ReduceTurn {
+    ghost can_turn = { λ _ p x. reduce_takes (takes_with F.FnMut) p.1 p.0 x };
+
+    ghost turns = { λ _ p x r. FoldTurn (ReduceCall (call_with F.FnMut)) p x r };
+
+    /// The first item without a call; then the closure's answer on the value so far and the item.
+    fn turn(&self, carried: (Option<A>, F), item: A) -> ControlFlow<E, (Option<A>, F)> {
+        let (so_far, mut f) = carried;
+        let value = match so_far {
+            Some(value) => value,
+            None => return ControlFlow::Continue((Some(item), f)),
+        };
+        match f(value, item) {
+            Ok(value) => ControlFlow::Continue((Some(value), f)),
             Err(e) => ControlFlow::Break(e),
         }
     }

@@ -20,25 +20,17 @@ pub(crate) fn fold_passing<
     C,
     R,
     K: Turn<C, A::Kept, R>,
->(
-    it: &mut I,
-    state: P,
-    adapter: &A,
-    init: C,
-    turn: &K,
-) -> (P, Exit<C, I::Error, R>)
+>(it: &mut I, state: P, adapter: &A, init: C, turn: &K) -> (P, Exit<C, I::Error, R>)
 where
     requires can { I.contract.can it.old }
     requires finite { I.contract.has_end it.old }
-    requires callable {
-        CallableCarrying I.contract.steps
-            (FoldingTurn (A.call adapter.now) (A.outcome adapter.now) (K.turns turn.now))
-            (FoldingTakes (A.call adapter.now) (A.outcome adapter.now)
-                (A.can_pass adapter.now) (K.can_turn turn.now))
-            it.old (init, state) }
-    ensures carried {
-        Carried (passing_step I.contract.steps (A.call adapter.now) (A.outcome adapter.now))
-            (K.turns turn.now) (it.old, state) init result.1 (it.new, result.0) }
+    requires callable { CallableCarrying I.contract.steps
+        (FoldingTurn (A.call adapter.now) (A.outcome adapter.now) (K.turns turn.now))
+        (FoldingTakes (A.call adapter.now) (A.outcome adapter.now)
+        (A.can_pass adapter.now) (K.can_turn turn.now))
+        it.old (init, state) }
+    ensures carried { Carried (passing_step I.contract.steps (A.call adapter.now) (A.outcome adapter.now))
+        (K.turns turn.now) (it.old, state) init result.1 (it.new, result.0) }
     ensures stays { Stays I.contract it.old it.new }
 {
     let turn = PassTurn { adapter, turn };
@@ -53,25 +45,17 @@ pub(crate) fn rfold_passing<
     C,
     R,
     K: Turn<C, A::Kept, R>,
->(
-    it: &mut I,
-    state: P,
-    adapter: &A,
-    init: C,
-    turn: &K,
-) -> (P, Exit<C, I::Error, R>)
+>(it: &mut I, state: P, adapter: &A, init: C, turn: &K) -> (P, Exit<C, I::Error, R>)
 where
     requires can { I.ends.can it.old }
     requires finite { I.contract.has_end it.old }
-    requires callable {
-        CallableCarrying I.ends.steps
-            (FoldingTurn (A.call adapter.now) (A.outcome adapter.now) (K.turns turn.now))
-            (FoldingTakes (A.call adapter.now) (A.outcome adapter.now)
-                (A.can_pass adapter.now) (K.can_turn turn.now))
-            it.old (init, state) }
-    ensures carried {
-        Carried (passing_step I.ends.steps (A.call adapter.now) (A.outcome adapter.now))
-            (K.turns turn.now) (it.old, state) init result.1 (it.new, result.0) }
+    requires callable { CallableCarrying I.ends.steps
+        (FoldingTurn (A.call adapter.now) (A.outcome adapter.now) (K.turns turn.now))
+        (FoldingTakes (A.call adapter.now) (A.outcome adapter.now)
+        (A.can_pass adapter.now) (K.can_turn turn.now))
+        it.old (init, state) }
+    ensures carried { Carried (passing_step I.ends.steps (A.call adapter.now) (A.outcome adapter.now))
+        (K.turns turn.now) (it.old, state) init result.1 (it.new, result.0) }
     ensures stays { Stays (from_back I.contract I.ends) it.old it.new }
 {
     let turn = PassTurn { adapter, turn };
@@ -86,26 +70,17 @@ pub(crate) fn fold_in_slot<
     C,
     R,
     K: Turn<C, A::Kept, R>,
->(
-    it: &mut I,
-    slot: &mut Option<P>,
-    adapter: &A,
-    init: C,
-    turn: &K,
-) -> Exit<C, I::Error, R>
+>(it: &mut I, slot: &mut Option<P>, adapter: &A, init: C, turn: &K) -> Exit<C, I::Error, R>
 where
     requires can { I.contract.can it.old }
     requires finite { I.contract.has_end it.old }
-    requires stored {
-        IsCallableIn (A.call adapter.now) (A.can_pass adapter.now) (I.contract.gives it.old) slot.old }
-    requires callable {
-        CallableCarrying
-            (passing_step I.contract.steps (call_in (A.call adapter.now)) (A.outcome adapter.now))
-            (K.turns turn.now) (K.can_turn turn.now) (it.old, slot.old) init }
-    ensures {
-        Carried
-            (passing_step I.contract.steps (call_in (A.call adapter.now)) (A.outcome adapter.now))
-            (K.turns turn.now) (it.old, slot.old) init result (it.new, slot.new) }
+    requires stored { IsCallableIn (A.call adapter.now) (A.can_pass adapter.now) (I.contract.gives it.old) slot.old }
+    requires callable { CallableCarrying
+        (passing_step I.contract.steps (call_in (A.call adapter.now)) (A.outcome adapter.now))
+        (K.turns turn.now) (K.can_turn turn.now) (it.old, slot.old) init }
+    ensures { Carried
+        (passing_step I.contract.steps (call_in (A.call adapter.now)) (A.outcome adapter.now))
+        (K.turns turn.now) (it.old, slot.old) init result (it.new, slot.new) }
 {
     let (state, exit) = fold_passing(it, take_out(slot), adapter, init, turn);
     *slot = Some(state);
@@ -120,26 +95,17 @@ pub(crate) fn rfold_in_slot<
     C,
     R,
     K: Turn<C, A::Kept, R>,
->(
-    it: &mut I,
-    slot: &mut Option<P>,
-    adapter: &A,
-    init: C,
-    turn: &K,
-) -> Exit<C, I::Error, R>
+>(it: &mut I, slot: &mut Option<P>, adapter: &A, init: C, turn: &K) -> Exit<C, I::Error, R>
 where
     requires can { I.ends.can it.old }
     requires finite { I.contract.has_end it.old }
-    requires stored {
-        IsCallableIn (A.call adapter.now) (A.can_pass adapter.now) (I.ends.gives it.old) slot.old }
-    requires callable {
-        CallableCarrying
-            (passing_step I.ends.steps (call_in (A.call adapter.now)) (A.outcome adapter.now))
-            (K.turns turn.now) (K.can_turn turn.now) (it.old, slot.old) init }
-    ensures {
-        Carried
-            (passing_step I.ends.steps (call_in (A.call adapter.now)) (A.outcome adapter.now))
-            (K.turns turn.now) (it.old, slot.old) init result (it.new, slot.new) }
+    requires stored { IsCallableIn (A.call adapter.now) (A.can_pass adapter.now) (I.ends.gives it.old) slot.old }
+    requires callable { CallableCarrying
+        (passing_step I.ends.steps (call_in (A.call adapter.now)) (A.outcome adapter.now))
+        (K.turns turn.now) (K.can_turn turn.now) (it.old, slot.old) init }
+    ensures { Carried
+        (passing_step I.ends.steps (call_in (A.call adapter.now)) (A.outcome adapter.now))
+        (K.turns turn.now) (it.old, slot.old) init result (it.new, slot.new) }
 {
     let (state, exit) = rfold_passing(it, take_out(slot), adapter, init, turn);
     *slot = Some(state);

@@ -31,13 +31,13 @@ ghost use Rattle.fallible_core.specs.Peeking.Peekable.{peekable_parts, peekable_
 ghost use Rattle.fallible_core.specs.Joining.Cycle.{cycle_parts};
 ghost use Rattle.fallible_core.specs.declared.joining.chain.StillDrawn.TheVariants.{Both};
 ghost use Rattle.fallible_contract.specs.Collecting.{Collects, PushTurn, Asks, PartTurn, Partitions, MadeOfParts, PairRefused, PairTurn};
-ghost use Rattle.fallible_contract.specs.Lists.{items, Lists, Acts, Repeats, repeated, EachLists, flattened, mapped, filtered, taken, counted, filter_mapped, inspected, ActsWithState, scanned, skipped_while, taken_while, numbered, failures_mapped, pointed_to, CollectedAs, chained, skipped, stepped, zipped, NoFailureAtEnd, nth_of, folded, ActsWith, Converts, all_of, any_of, find_mapped, found, last_of, PartedAs, UnzippedAs, position_in, each_done, best_by, greatest, least, best_by_key, compared};
+ghost use Rattle.fallible_contract.specs.Lists.{items, Lists, Acts, Repeats, repeated, EachLists, flattened, mapped, filtered, taken, counted, filter_mapped, inspected, ActsWithState, scanned, skipped_while, taken_while, numbered, failures_mapped, pointed_to, CollectedAs, chained, skipped, stepped, zipped, NoFailureAtEnd, nth_of, folded, reduced, ActsWith, Converts, all_of, any_of, find_mapped, found, last_of, PartedAs, UnzippedAs, position_in, each_done, best_by, greatest, least, best_by_key, compared};
 ghost use Rattle.fallible_contract.specs.Comparing.{CanCompare, by_cmp, by_eq, read_as, reads_eq, reads_ne, reads_lt, reads_le, reads_gt, reads_ge, ComparedWith, ReadWith};
 ghost use Rattle.std.specs.declared.cmp.Ordering.{Ordering};
 ghost use Rattle.std.specs.declared.cmp.Ordering.TheVariants.{Less, Greater};
 ghost use Rattle.fallible_contract.specs.Picking.{call_at_two, takes_at_two, PickCall, takes_in_pick, Picked, KeyCall, Best, BestByKey};
 ghost use Rattle.fallible_contract.specs.Searching.{CallableInSearch, Searched, SearchTurn, PlacedTurn, FindTurn, all_pick, any_pick, find_map_pick, find_pick, position_pick, each_pick};
-ghost use Rattle.fallible_contract.specs.Folds.{HoldsAtEachTurn, CallableCarrying, Carried, CallableInFold, call_with, takes_with, FoldTurn, Folded, Counted, LastOf, Nth};
+ghost use Rattle.fallible_contract.specs.Folds.{HoldsAtEachTurn, CallableCarrying, Carried, CallableInFold, call_with, takes_with, FoldTurn, Folded, Counted, LastOf, Nth, ReduceCall, reduce_takes};
 
 mod borrowed;
 mod boxed;
@@ -61,7 +61,7 @@ use fallible_contract::comparing::{
     ByCmp, ByEq, ByPartialCmp, ordered, read_eq, read_ge, read_gt, read_le, read_lt, read_ne,
 };
 use fallible_contract::folds::{
-    Counting, Exit, Folding, KeepingLast, Turn, folded_at, unpack, value_at,
+    Counting, Exit, Folding, KeepingLast, ReduceTurn, Turn, folded_at, unpack, value_at,
 };
 use fallible_contract::picking::without_key;
 use fallible_contract::searching::{
@@ -223,6 +223,25 @@ pub trait FallibleIterator: Drop + Sized {
             (λ h l. result ≡ folded (λ e. e) h init l) }
     {
         self.try_fold(init, f)
+    }
+
+    /// `fold` from the first item on: that item is the value so far, and the closure is called on it and each further item. None where no item comes; the first failure, or the closure's, is the answer.
+    ///
+    /// It asks a number to come, and that the closure may be called on the value so far and each item that may come.
+    final fn reduce<F>(mut self, f: F) -> Result<Option<Self::Item>, Self::Error>
+    where
+        Self::Item: Drop,
+        F: FnMut(Self::Item, Self::Item) -> Result<Self::Item, Self::Error>,
+        requires can { contract.can self }
+        requires finite { contract.has_end self }
+        requires callable { CallableInFold contract.steps (ReduceCall (call_with F.FnMut))
+            (reduce_takes (takes_with F.FnMut)) self f None }
+        ensures reduced { (left : Self) × Folded contract.steps (ReduceCall (call_with F.FnMut)) (λ e d. d ≡ e)
+            self None f result left }
+        ensures is { (h : Self.Item → Self.Item → Result Self.Item Self.Error) (l : List (Result Self.Item Self.Error)) →
+            ActsWith (call_with F.FnMut) f h → Lists contract.steps self l → result ≡ reduced h l }
+    {
+        folded_at(self.try_fold_carrying((None, f), &ReduceTurn))
     }
 
     // Draws until the test accepts an item or fails on it, a failure or an end comes, and hands the carried value back at every exit. `find` goes through it, and a type may override it for both. It is no part of the surface.

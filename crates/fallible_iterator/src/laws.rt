@@ -33,7 +33,9 @@ pub use listed::{
     law_listed_map_err, law_listed_rev,
 };
 pub use nests::{law_nest, law_nest_borrowed};
-pub use one_to_one::{law_cloned, law_enumerate, law_inspect, law_map, law_map_err, law_scan};
+pub use one_to_one::{
+    law_cloned, law_enumerate, law_inspect, law_map, law_map_err, law_map_while, law_scan,
+};
 pub use peeking::law_peekable;
 pub use sources::{
     law_back_convert, law_back_into_fallible, law_convert, law_empty, law_from_fn,

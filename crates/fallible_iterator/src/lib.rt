@@ -12,7 +12,7 @@ pub use fallible_contract::{Collect, Fault, folds};
 pub use fallible_core::{
     Chain, Cloned, Cycle, DoubleEndedFallibleIterator, Enumerate, FallibleIterator, Filter,
     FilterMap, FlatMap, Flatten, Fuse, Inspect, IntoFallibleIterator, Iterator, Map, MapErr,
-    Peekable, Rev, Scan, Skip, SkipWhile, StepBy, Take, TakeWhile, Unwrap, Zip,
+    MapWhile, Peekable, Rev, Scan, Skip, SkipWhile, StepBy, Take, TakeWhile, Unwrap, Zip,
 };
 pub use sources::making::{
     convert, convert_fused, empty, from_fn, once, once_err, repeat, repeat_err,

@@ -5,10 +5,11 @@ ghost use Rattle.fallible_core.specs.OneToOne.Map.{MapTrace, map_parts};
 ghost use Rattle.fallible_core.specs.OneToOne.Inspect.{InspectTrace, inspect_parts};
 ghost use Rattle.fallible_core.specs.OneToOne.Scan.{ScanTrace, scan_parts};
 ghost use Rattle.fallible_core.specs.OneToOne.Cloned.{ClonedTrace, cloned_parts};
+ghost use Rattle.fallible_core.specs.OneToOne.MapWhile.{MapWhileTrace, map_while_parts};
 ghost use Rattle.fallible_core.specs.OneToOne.MapErr.{MapErrTrace, map_err_parts};
 ghost use Rattle.fallible_core.specs.OneToOne.Enumerate.{EnumerateTrace, enumerate_parts};
 
-use fallible_core::one_to_one::{Cloned, Enumerate, Inspect, Map, MapErr, Scan};
+use fallible_core::one_to_one::{Cloned, Enumerate, Inspect, Map, MapErr, MapWhile, Scan};
 use fallible_core::traits::FallibleIterator;
 use std::alloc::AllocError;
 
@@ -47,6 +48,13 @@ pub fn law_scan<
 >()
 where
     ensures { MeetsHeld scan_parts ⟦<Scan<I, St, F> as FallibleIterator>⟧.contract.steps (ScanTrace I.contract.steps F.FnMut) }
+{}
+
+/// The answers of `MapWhile` are the source's, with the value that the closure answers in each item's place, none being an end.
+pub fn law_map_while<I: FallibleIterator, B, F: FnMut(I::Item) -> Result<Option<B>, I::Error>>()
+where
+    ensures { MeetsHeld map_while_parts ⟦<MapWhile<I, F> as FallibleIterator>⟧.contract.steps
+        (MapWhileTrace I.contract.steps F.FnMut) }
 {}
 
 /// The answers of `Cloned` are the source's, with a clone in each item's place, or the failure made of its refusal.

@@ -4,11 +4,11 @@ use Rattle.std.specs.List.{FoldsTo, last_or}
 use Rattle.std.proofs.Common.{refl, sym, ap, subst, ◌∙◌, arith}
 use Rattle.std.specs.declared.alloc.AllocError.{AllocError}
 use Rattle.fallible_contract.specs.Traces.{Answered, Run, item}
-use Rattle.fallible_contract.specs.Folds.{Counted, CountExit, LastOf, LastExit, Nth, NthExit, fold_turn, FoldExit, Folded}
+use Rattle.fallible_contract.specs.Folds.{Counted, CountExit, LastOf, LastExit, Nth, NthExit, fold_turn, FoldExit, Folded, ReduceCall}
 use Rattle.fallible_contract.specs.declared.collecting.Fault.{Fault}
 use Rattle.fallible_contract.specs.declared.collecting.Fault.TheVariants.{Source, Memory}
 use Rattle.fallible_contract.specs.Collecting.{Collects, MadeOfParts}
-use Rattle.fallible_contract.specs.Lists.{AlwaysGives, Lists, one_more_than, counted, last_of, nth_of, before, collected, CollectedBy, CollectedAs, UnzippedAs, on_value, folded, ActsWith, Converts}
+use Rattle.fallible_contract.specs.Lists.{AlwaysGives, Lists, one_more_than, counted, last_of, nth_of, before, collected, CollectedBy, CollectedAs, UnzippedAs, on_value, folded, ActsWith, Converts, reduce_of, reduced}
 
 module _ {A E : Type 0} where
   -- what is left of the list at the last answer that was drawn
@@ -166,3 +166,16 @@ module _ {A E F B E' : Type 0} (call : F → B → A → Result B E' → F → T
       let d = drawn steps c.items c.last l s t i.runs c.ran in
       let p = folded_front c.items d.rest b c.value c.closure c.went in
       folded_left c.last c.value r d.rest (subst (λ (g : F). FoldExit call from c.value g c.last r) p.0 c.exit) d.left ∙ sym (ap (folded convert h b) d.list_is ∙ p.1)
+
+-- ---- a fold from the first item on
+
+module _ {A E F : Type 0} (call : F → A → A → Result A E → F → Type 0) (f : F) (h : A → A → Result A E) (acts : ActsWith call f h) where
+  acts_reduced : ActsWith (ReduceCall call) f (reduce_of h)
+  acts_reduced None x r g c = (c.1, c.0)
+  acts_reduced (Some v) x (Ok (Some y)) g c = let a = acts v x (Ok y) g c in (a.0, ap (λ (w : Result A E). on_value w (λ z. Ok (Some z))) a.1)
+  acts_reduced (Some v) x (Ok None) g c = absurd c
+  acts_reduced (Some v) x (Err e) g c = let a = acts v x (Err e) g c in (a.0, ap (λ (w : Result A E). on_value w (λ z. Ok (Some z))) a.1)
+
+  pub reduced_is : {S : Type 0} {steps : S → Answered A E → S → Type 0} {s t : S} {r : Result (Option A) E} (l : List (Result A E)) → Folded steps (ReduceCall call) (λ e d. d ≡ e) s None f r t → Lists steps s l → r ≡ reduced h l
+  unfolding reduced
+  reduced_is l w i = folded_is (ReduceCall call) (λ e d. d ≡ e) (λ e. e) (reduce_of h) f acts_reduced (λ e d is. is) l w i
