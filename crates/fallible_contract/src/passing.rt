@@ -60,7 +60,7 @@ impl<'a, P, X, E, C, R, A: Pass<P, X, E>, K: Turn<C, A::Kept, R>> Turn<
 > for PassTurn<'a, A, K> {
     ghost can_turn = { λ k p x.
         FoldingTakes (A.call k.adapter.now) (A.outcome k.adapter.now)
-            (A.can_pass k.adapter.now) (K.can_turn k.turn.now) p x };
+        (A.can_pass k.adapter.now) (K.can_turn k.turn.now) p x };
 
     ghost turns = { λ k p x r.
         FoldingTurn (A.call k.adapter.now) (A.outcome k.adapter.now) (K.turns k.turn.now) p x r };
@@ -90,7 +90,8 @@ pub fn passed<P, X, E, A: Pass<P, X, E>>(
 where
     requires takes { IfItem (A.can_pass adapter.now state) drawn }
     requires answers { LeavesNoneOut (A.outcome adapter.now) }
-    ensures { PassAnswer (A.call adapter.now) (A.outcome adapter.now) state drawn result.1 result.0 }
+    ensures { PassAnswer (A.call adapter.now) (A.outcome adapter.now) state drawn result.1
+        result.0 }
 {
     match drawn {
         Ok(Some(x)) => {
@@ -116,9 +117,8 @@ pub fn passed_in_slot<P: Drop, X, E, A: Pass<P, X, E>>(
 where
     requires takes { IsSomeAnd slot.old (λ f. IfItem (A.can_pass adapter.now f) drawn) }
     requires answers { LeavesNoneOut (A.outcome adapter.now) }
-    ensures {
-        PassAnswer (call_in (A.call adapter.now)) (A.outcome adapter.now)
-            slot.old drawn result slot.new }
+    ensures { PassAnswer (call_in (A.call adapter.now)) (A.outcome adapter.now)
+        slot.old drawn result slot.new }
 {
     let (state, answer) = passed(drawn, take_out(slot), adapter);
     *slot = Some(state);

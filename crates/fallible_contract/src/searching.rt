@@ -184,7 +184,11 @@ impl<A, E, F: FnMut(A) -> Result<bool, E>> Turn<(usize, F), A, Result<Option<usi
     ghost turns = { λ _ p x r. PlacedTurn (call_on F.FnMut) position_pick p x r };
 
     /// The predicate's answer, asked once, and one more item before the next.
-    fn turn(&self, carried: (usize, F), item: A) -> ControlFlow<Result<Option<usize>, E>, (usize, F)> {
+    fn turn(
+        &self,
+        carried: (usize, F),
+        item: A,
+    ) -> ControlFlow<Result<Option<usize>, E>, (usize, F)> {
         let (before, mut f) = carried;
         match f(item) {
             Ok(true) => ControlFlow::Break(Ok(Some(before))),

@@ -29,7 +29,8 @@ where
         (FoldingTakes (A.call adapter.now) (A.outcome adapter.now)
         (A.can_pass adapter.now) (K.can_turn turn.now))
         it.old (init, state) }
-    ensures carried { Carried (passing_step I.contract.steps (A.call adapter.now) (A.outcome adapter.now))
+    ensures carried { Carried (passing_step I.contract.steps (A.call adapter.now)
+        (A.outcome adapter.now))
         (K.turns turn.now) (it.old, state) init result.1 (it.new, result.0) }
     ensures stays { Stays I.contract it.old it.new }
 {
@@ -54,7 +55,8 @@ where
         (FoldingTakes (A.call adapter.now) (A.outcome adapter.now)
         (A.can_pass adapter.now) (K.can_turn turn.now))
         it.old (init, state) }
-    ensures carried { Carried (passing_step I.ends.steps (A.call adapter.now) (A.outcome adapter.now))
+    ensures carried { Carried (passing_step I.ends.steps (A.call adapter.now)
+        (A.outcome adapter.now))
         (K.turns turn.now) (it.old, state) init result.1 (it.new, result.0) }
     ensures stays { Stays (from_back I.contract I.ends) it.old it.new }
 {
@@ -74,7 +76,8 @@ pub(crate) fn fold_in_slot<
 where
     requires can { I.contract.can it.old }
     requires finite { I.contract.has_end it.old }
-    requires stored { IsCallableIn (A.call adapter.now) (A.can_pass adapter.now) (I.contract.gives it.old) slot.old }
+    requires stored { IsCallableIn (A.call adapter.now) (A.can_pass adapter.now)
+        (I.contract.gives it.old) slot.old }
     requires callable { CallableCarrying
         (passing_step I.contract.steps (call_in (A.call adapter.now)) (A.outcome adapter.now))
         (K.turns turn.now) (K.can_turn turn.now) (it.old, slot.old) init }
@@ -99,7 +102,8 @@ pub(crate) fn rfold_in_slot<
 where
     requires can { I.ends.can it.old }
     requires finite { I.contract.has_end it.old }
-    requires stored { IsCallableIn (A.call adapter.now) (A.can_pass adapter.now) (I.ends.gives it.old) slot.old }
+    requires stored { IsCallableIn (A.call adapter.now) (A.can_pass adapter.now)
+        (I.ends.gives it.old) slot.old }
     requires callable { CallableCarrying
         (passing_step I.ends.steps (call_in (A.call adapter.now)) (A.outcome adapter.now))
         (K.turns turn.now) (K.can_turn turn.now) (it.old, slot.old) init }

@@ -236,10 +236,10 @@ pub trait FallibleIterator: Drop + Sized {
         requires finite { contract.has_end self }
         requires callable { CallableInFold contract.steps (ReduceCall (call_with F.FnMut))
             (reduce_takes (takes_with F.FnMut)) self f None }
-        ensures reduced { (left : Self) × Folded contract.steps (ReduceCall (call_with F.FnMut)) (λ e d. d ≡ e)
-            self None f result left }
-        ensures is { (h : Self.Item → Self.Item → Result Self.Item Self.Error) (l : List (Result Self.Item Self.Error)) →
-            ActsWith (call_with F.FnMut) f h → Lists contract.steps self l → result ≡ reduced h l }
+        ensures reduced { (left : Self) × Folded contract.steps (ReduceCall (call_with F.FnMut))
+            (λ e d. d ≡ e) self None f result left }
+        ensures value { OverListWith (ActsWith (call_with F.FnMut) f) contract.steps self
+            (λ h l. result ≡ reduced h l) }
     {
         folded_at(self.try_fold_carrying((None, f), &ReduceTurn))
     }
@@ -470,7 +470,9 @@ pub trait FallibleIterator: Drop + Sized {
         F: FnMut(Self::Item) -> Result<Option<B>, Self::Error>,
         requires { IsCallable (call_on F.FnMut) (takes_on F.FnMut) (contract.gives self) f }
         ensures parts { map_while_parts result ≡ (self, Some f) }
-        ensures lists { (h : Self.Item → Result (Option B) Self.Error) (l : List (Result Self.Item Self.Error)) → Acts (call_on F.FnMut) f h → Lists contract.steps self l → Lists (seen_as map_while_parts (map_while_contract contract F.FnMut)).steps result (mapped_while h l) }
+        ensures lists { OverListWith (Acts (call_on F.FnMut) f) contract.steps self
+            (λ h l. Lists (seen_as map_while_parts (map_while_contract contract F.FnMut)).steps
+            result (mapped_while h l)) }
     {
         MapWhile {
             it: self,

@@ -55,7 +55,8 @@ impl<
     B,
     F: FnMut(I::Item) -> Result<Option<B>, I::Error>,
 > DoubleEndedFallibleIterator for FilterMap<I, F> {
-    ghost ends = { ends_seen_as filter_map_parts (ends_of (filter_map_contract (from_back I.contract I.ends) F.FnMut)) };
+    ghost ends = { ends_seen_as filter_map_parts
+        (ends_of (filter_map_contract (from_back I.contract I.ends) F.FnMut)) };
 
     /// Draws from behind until the closure answers a value, a failure comes or an end comes, and calls the closure on each item.
     fn next_back(&mut self) -> Result<Option<B>, I::Error> {
@@ -70,7 +71,8 @@ impl<
         rfold_in_slot(&mut self.it, &mut self.f, &FilterMapPass, init, k)
     }
 
-    ghost lawful_ends = { lawful_ends_seen filter_map_parts (lawful_ends_filter_map F.FnMut I.lawful_ends) };
+    ghost lawful_ends = { lawful_ends_seen filter_map_parts
+        (lawful_ends_filter_map F.FnMut I.lawful_ends) };
 }
 
 // What becomes of an item by the closure's answer.

@@ -77,7 +77,8 @@ struct Asking;
 impl<X, E, P: FnMut(&X) -> Result<bool, E>> Test<(bool, P), X, E> for Asking {
     ghost can_test = { λ _ state x. skip_takes (takes_at P.FnMut) state x };
 
-    ghost tests = { λ _ state x v d. PassTest (skip_call (call_at P.FnMut)) skip_while_outcome state x v d };
+    ghost tests = { λ _ state x v d. PassTest (skip_call (call_at P.FnMut)) skip_while_outcome
+        state x v d };
 
     fn test(&self, carried: (bool, P), item: &X) -> ((bool, P), Result<bool, E>) {
         let (found, mut predicate) = carried;

@@ -29,7 +29,8 @@ where
 
     type Error = I::Error;
 
-    ghost contract = { seen_as cloned_parts (cloned_contract T.is_clone T.is_infallible I.Error.from_gives I.contract) };
+    ghost contract = { seen_as cloned_parts (cloned_contract T.is_clone T.is_infallible
+        I.Error.from_gives I.contract) };
 
     /// Draws one answer, and clones what it points to where it is an item.
     fn next(&mut self) -> Result<Option<T>, I::Error> {
@@ -48,7 +49,8 @@ where
         fold_passing(&mut self.it, (), &ClonePass, init, k).1
     }
 
-    ghost lawful = { lawful_seen cloned_parts (lawful_cloned T.is_clone T.is_infallible I.Error.from_gives I.lawful) };
+    ghost lawful = { lawful_seen cloned_parts
+        (lawful_cloned T.is_clone T.is_infallible I.Error.from_gives I.lawful) };
 }
 
 impl<'a, T: Clone + 'a, I: DoubleEndedFallibleIterator<Item = &'a T>> DoubleEndedFallibleIterator
@@ -56,7 +58,8 @@ impl<'a, T: Clone + 'a, I: DoubleEndedFallibleIterator<Item = &'a T>> DoubleEnde
 where
     I::Error: From<AllocError>,
 {
-    ghost ends = { ends_seen_as cloned_parts (ends_of (cloned_contract T.is_clone T.is_infallible I.Error.from_gives (from_back I.contract I.ends))) };
+    ghost ends = { ends_seen_as cloned_parts (ends_of (cloned_contract T.is_clone T.is_infallible
+        I.Error.from_gives (from_back I.contract I.ends))) };
 
     /// Draws one answer from behind, and clones what it points to where it is an item.
     fn next_back(&mut self) -> Result<Option<T>, I::Error> {
@@ -71,7 +74,8 @@ where
         rfold_passing(&mut self.it, (), &ClonePass, init, k).1
     }
 
-    ghost lawful_ends = { lawful_ends_seen cloned_parts (lawful_ends_cloned T.is_clone T.is_infallible I.Error.from_gives I.lawful_ends) };
+    ghost lawful_ends = { lawful_ends_seen cloned_parts
+        (lawful_ends_cloned T.is_clone T.is_infallible I.Error.from_gives I.lawful_ends) };
 }
 
 // A clone of what an item points to. No closure is carried.

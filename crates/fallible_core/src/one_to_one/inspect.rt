@@ -60,7 +60,8 @@ impl<
 where
     I::Item: Drop,
 {
-    ghost ends = { ends_seen_as inspect_parts (ends_of (inspect_contract (from_back I.contract I.ends) F.FnMut)) };
+    ghost ends = { ends_seen_as inspect_parts
+        (ends_of (inspect_contract (from_back I.contract I.ends) F.FnMut)) };
 
     /// Draws one answer from behind, and calls the closure where it is an item.
     fn next_back(&mut self) -> Result<Option<I::Item>, I::Error> {
@@ -75,7 +76,8 @@ where
         rfold_in_slot(&mut self.it, &mut self.f, &InspectPass, init, k)
     }
 
-    ghost lawful_ends = { lawful_ends_seen inspect_parts (lawful_ends_inspect F.FnMut I.lawful_ends) };
+    ghost lawful_ends = { lawful_ends_seen inspect_parts
+        (lawful_ends_inspect F.FnMut I.lawful_ends) };
 }
 
 // What becomes of an item once the closure saw it.

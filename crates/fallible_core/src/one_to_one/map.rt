@@ -64,7 +64,8 @@ impl<
     B,
     F: FnMut(I::Item) -> Result<B, I::Error>,
 > DoubleEndedFallibleIterator for Map<I, F> {
-    ghost ends = { ends_seen_as map_parts (ends_of (map_contract (from_back I.contract I.ends) F.FnMut)) };
+    ghost ends = { ends_seen_as map_parts
+        (ends_of (map_contract (from_back I.contract I.ends) F.FnMut)) };
 
     /// Draws one answer from behind, and calls the closure where it is an item.
     fn next_back(&mut self) -> Result<Option<B>, I::Error> {

@@ -68,7 +68,8 @@ impl<I: FallibleIterator, B, F: FnMut(I::Error) -> B> FallibleIterator for MapEr
 
 impl<I: DoubleEndedFallibleIterator, B, F: FnMut(I::Error) -> B> DoubleEndedFallibleIterator
     for MapErr<I, F> {
-    ghost ends = { ends_seen_as map_err_parts (ends_of (map_err_contract (from_back I.contract I.ends) F.FnMut)) };
+    ghost ends = { ends_seen_as map_err_parts
+        (ends_of (map_err_contract (from_back I.contract I.ends) F.FnMut)) };
 
     /// Draws one answer from behind, and calls the closure where it is a failure.
     fn next_back(&mut self) -> Result<Option<I::Item>, B> {
@@ -83,7 +84,8 @@ impl<I: DoubleEndedFallibleIterator, B, F: FnMut(I::Error) -> B> DoubleEndedFall
         exited(self.it.try_rfold_carrying(init, k), &mut self.f)
     }
 
-    ghost lawful_ends = { lawful_ends_seen map_err_parts (lawful_ends_map_err F.FnMut I.lawful_ends) };
+    ghost lawful_ends = { lawful_ends_seen map_err_parts
+        (lawful_ends_map_err F.FnMut I.lawful_ends) };
 }
 
 // What the closure makes of one answer of the source, or of what a call of the source answers: it is called where that is a failure.
