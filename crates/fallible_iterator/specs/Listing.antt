@@ -2,11 +2,12 @@
 use Rattle.std.specs.Prelude.{◌≡◌, ◌↔◌, List, reverse, Option, Some, Result, Ok, All}
 use Rattle.std.specs.Borrow.{Bor}
 use Rattle.std.specs.Iterator.{YieldsFirst, YieldsLast}
+use Rattle.fallible_contract.specs.declared.answers.Side.{Side}
 use Rattle.fallible_contract.specs.Traces.{Answered}
 use Rattle.fallible_contract.specs.Closures.{Steady}
 use Rattle.fallible_contract.specs.declared.passing.Outcome.{Outcome}
 use Rattle.fallible_contract.specs.Lists.{Lists, Acts, mapped, failures_mapped, pointed_to, chained}
-use Rattle.fallible_contract.specs.Listed.{Listed, items_listed, failures_listed, source_list, passed_list}
+use Rattle.fallible_contract.specs.Listed.{Listed, Mix, Interleaves, items_listed, failures_listed, source_list, passed_list}
 use Rattle.fallible_core.specs.declared.joining.chain.StillDrawn.{StillDrawn}
 use Rattle.fallible_core.specs.declared.joining.chain.StillDrawn.TheVariants.{Both, FrontAlone, BackAlone}
 use Rattle.fallible_iterator.specs.Sources.Std.{element_by}
@@ -40,6 +41,14 @@ pub record ListsReversed {V S A E : Type 0} (source_of : V → S) (lists_source 
 -- What stands before another value: just what that value lists.
 abbrev pub ListsTheSame : {V S A E : Type 0} → (V → S) → (S → List (Result A E) → Type 0) → (V → List (Result A E) → Type 0) → Type 0
 ListsTheSame {V = V} {A = A} {E = E} behind lists_source lists = (s : V) (l : List (Result A E)) → lists s l ↔ lists_source (behind s) l
+
+-- What stands before another value: draws from its ends are just draws from the same ends of that value.
+abbrev pub DrawsTheSame : {V S A E : Type 0} → (V → S) → (S → List (Side × Answered A E) → S → Type 0) → (V → List (Side × Answered A E) → V → Type 0) → Type 0
+DrawsTheSame {V = V} {A = A} {E = E} behind mixes_source mixes = (s : V) (drawn : List (Side × Answered A E)) (t : V) → mixes s drawn t ↔ mixes_source (behind s) drawn (behind t)
+
+-- Where these answers can be drawn from the ends of s and leave t, what came in front, what is left, and what came behind, reversed, make l.
+abbrev pub DrawsInterleave : {S A E : Type 0} → (S → Answered A E → S → Type 0) → (S → Answered A E → S → Type 0) → List (Result A E) → S → List (Side × Answered A E) → S → Type 0
+DrawsInterleave steps steps_back l s drawn t = Mix steps steps_back s drawn t → Interleaves steps steps_back l drawn t
 
 -- A source over a std iterator: what that iterator lists, call by call from both ends; and what is left of one whose state shows it, where each call of `next` gives the first of it, and each of `next_back` the last.
 pub record ListsElements {V S A E Z : Type 0} (parts : V → S) (of_item : A → Z) (of_failure : E → Z) (list : List Z → List (Result A E)) (gives gives_back : S → Option Z → S → Type 0) (lists : V → List (Result A E) → Type 0) : Type 0 where

@@ -1,5 +1,5 @@
 -- Nests of adapters: the definition of each, applied to all that the one within it answers.
-use Rattle.std.specs.Prelude.{◌≡◌, List, [], ◌∷◌, Option, Result, Bool}
+use Rattle.std.specs.Prelude.{◌≡◌, ◌↔◌, List, [], ◌∷◌, Option, Result, Bool}
 use Rattle.std.specs.Fn.{Mut}
 use Rattle.std.specs.Borrow.{Bor, MutBor}
 use Rattle.std.specs.Iterator.{Count}
@@ -16,6 +16,10 @@ use Rattle.fallible_iterator.specs.Sources.Convert.{ConvertTrace, convert_parts}
 -- A list of answers as a source: a draw takes its first. An adapter's definition over these steps, from a list to the empty one, is what it makes of that list.
 abbrev pub first_of : {A E : Type 0} → List (Answered A E) → Answered A E → List (Answered A E) → Type 0
 first_of l r rest = l ≡ r ∷ rest
+
+-- Where the innermost source of s may be drawn from, the runs of s are just the runs of that source.
+abbrev pub RunsAsSource : {V S A E : Type 0} → (V → S) → (S → Type 0) → (S → Answered A E → S → Type 0) → (V → Answered A E → V → Type 0) → Type 0
+RunsAsSource {V = V} {A = A} {E = E} source_of can source steps = (s : V) (trace : List (Answered A E)) (t : V) → can (source_of s) → Run steps s trace t ↔ Run source (source_of s) trace (source_of t)
 
 -- the parts of the types within such a nest
 module _ {S P F : Type 0} where

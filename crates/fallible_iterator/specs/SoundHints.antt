@@ -1,6 +1,7 @@
 -- What makes a hint sound.
 use Rattle.std.specs.Prelude.{◌≡◌, ℕ, ◌+◌, ◌≤◌, List, [], length, map, Option, Result, None, IfSome, MatchOption}
 use Rattle.std.specs.Iterator as calls
+use Rattle.std.specs.Iterator.{Count, at_most}
 use Rattle.fallible_contract.specs.Traces.{Answered, Yields, end}
 use Rattle.fallible_contract.specs.Contract.{Contract}
 use Rattle.fallible_contract.specs.Listed.{items_listed, failures_listed}
@@ -54,6 +55,10 @@ pub record BracketsCalls {S A Z : Type 0} (gives : S → Option Z → S → Type
 -- Each call of a std iterator that gives an element takes one of what is left, and `None` is given only where nothing is left.
 abbrev pub CountsDown : {S Z : Type 0} → (S → ℕ) → (S → Option Z → S → Type 0) → Type 0
 CountsDown {S = S} {Z = Z} left gives = (s : S) (o : Option Z) (t : S) → gives s o t → MatchOption o (left s ≡ 0) (λ _. left s ≡ left t + 1)
+
+-- Where what the std iterator within s says remains is just what its calls count down, each hint that s may answer brackets what comes from s.
+abbrev pub SoundWhereCounted : {V S Z A E : Type 0} → (V → S) → (S → Option Z → S → Type 0) → (S → Count) → Contract V A E → Type 0
+SoundWhereCounted {V = V} {S = S} parts gives remaining m = (left : S → ℕ) → CountsDown left gives → (s : V) → remaining (parts s) ≡ at_most (left (parts s)) → SoundHints m s
 
 -- The hint bounds the list: its upper bound is at least the number of items in the list, and where the list has no failure its lower bound is at most that number.
 pub record Bounds {A E : Type 0} (hint : ℕ × Option ℕ) (l : List (Result A E)) : Type 0 where

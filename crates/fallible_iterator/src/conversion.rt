@@ -14,7 +14,10 @@ pub trait IteratorExt: std::iter::Iterator {
     where
         Self: Sized + std::iter::Iterator<Item = Result<T, E>>,
         ensures parts { convert_parts result ≡ self }
-        ensures lists { (l : List (Result T E)) → RunsRead Self.next_gives (λ y. y) self l → Lists (seen_as convert_parts (convert_contract Self.can_next Self.next_gives Self.remaining)).steps result (results l) }
+        ensures lists { (l : List (Result T E)) → RunsRead Self.next_gives (λ y. y) self l
+            → Lists (seen_as convert_parts
+            (convert_contract Self.can_next Self.next_gives Self.remaining)).steps result
+            (results l) }
     {
         Convert { it: self }
     }
@@ -24,7 +27,10 @@ pub trait IteratorExt: std::iter::Iterator {
     where
         Self: Sized + std::iter::Iterator<Item = T>,
         ensures parts { into_fallible_parts result ≡ self }
-        ensures lists { (l : List T) → RunsRead Self.next_gives (λ x. x) self l → Lists (seen_as into_fallible_parts (into_fallible_contract Self.can_next Self.next_gives Self.remaining)).steps result (items l) }
+        ensures lists { (l : List T) → RunsRead Self.next_gives (λ x. x) self l
+            → Lists (seen_as into_fallible_parts
+            (into_fallible_contract Self.can_next Self.next_gives Self.remaining)).steps result
+            (items l) }
     {
         IntoFallible { it: self }
     }

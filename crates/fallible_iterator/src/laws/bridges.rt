@@ -8,6 +8,7 @@ ghost use Rattle.fallible_contract.specs.Definitions.{MeetsHeld};
 ghost use Rattle.fallible_contract.specs.Lists.{Lists};
 ghost use Rattle.fallible_core.specs.Bridges.Iterator.{iterator_parts};
 ghost use Rattle.fallible_core.specs.Bridges.Unwrap.{unwrap_parts};
+ghost use Rattle.fallible_iterator.specs.Nests.{RunsAsSource};
 ghost use Rattle.fallible_iterator.specs.Sources.Std.{IsAskable, IsAskableAtEnds};
 ghost use Rattle.fallible_iterator.specs.Sources.Convert.{convert_parts};
 
@@ -17,20 +18,42 @@ use fallible_core::{DoubleEndedFallibleIterator, FallibleIterator};
 
 /// Place by place, the elements that std's `next` gives of an `Iterator` are its source's answers: an item or a failure is an element, an end is none. It may be converted back, and drawn from then, wherever its source may be drawn from.
 pub fn law_iterator<I: FallibleIterator>()
-    ensures trace { MeetsHeld iterator_parts (λ s r t. ⟦<Iterator<I> as std::iter::Iterator>⟧.next_gives s (result_transpose r) t) (Run I.contract.steps) }
-    ensures askable { (s : Iterator I) → I.contract.can (iterator_parts s) → IsAskable Ok Err ⟦<Iterator<I> as std::iter::Iterator>⟧.can_next ⟦<Iterator<I> as std::iter::Iterator>⟧.next_gives ⟦<Iterator<I> as std::iter::Iterator>⟧.remaining s }
-    ensures converted { (s : Convert (Iterator I)) (trace : List (Answered I.Item I.Error)) (t : Convert (Iterator I)) → I.contract.can (iterator_parts (convert_parts s)) → Run ⟦<Convert<Iterator<I>> as FallibleIterator>⟧.contract.steps s trace t ↔ Run I.contract.steps (iterator_parts (convert_parts s)) trace (iterator_parts (convert_parts t)) }
-    ensures lists { (s : Convert (Iterator I)) (it : Iterator I) (source : I) (l : List (Result I.Item I.Error)) → convert_parts s ≡ it → iterator_parts it ≡ source → Lists I.contract.steps source l → Lists ⟦<Convert<Iterator<I>> as FallibleIterator>⟧.contract.steps s l }
+    ensures trace { MeetsHeld iterator_parts
+        (λ s r t. ⟦<Iterator<I> as std::iter::Iterator>⟧.next_gives s (result_transpose r) t)
+        (Run I.contract.steps) }
+    ensures askable { (s : Iterator I) → I.contract.can (iterator_parts s)
+        → IsAskable Ok Err ⟦<Iterator<I> as std::iter::Iterator>⟧.can_next
+        ⟦<Iterator<I> as std::iter::Iterator>⟧.next_gives
+        ⟦<Iterator<I> as std::iter::Iterator>⟧.remaining s }
+    ensures converted { RunsAsSource (λ s. iterator_parts (convert_parts s)) I.contract.can
+        I.contract.steps ⟦<Convert<Iterator<I>> as FallibleIterator>⟧.contract.steps }
+    ensures lists { (s : Convert (Iterator I)) (it : Iterator I) (source : I)
+        (l : List (Result I.Item I.Error))
+        → convert_parts s ≡ it → iterator_parts it ≡ source → Lists I.contract.steps source l
+        → Lists ⟦<Convert<Iterator<I>> as FallibleIterator>⟧.contract.steps s l }
 {}
 
 /// The same from behind. Draws from either end may be made in any order, also of what was converted back.
 pub fn law_back_iterator<I: DoubleEndedFallibleIterator>()
-    ensures trace { MeetsHeld iterator_parts (λ s r t. ⟦<Iterator<I> as std::iter::DoubleEndedIterator>⟧.next_back_gives s (result_transpose r) t) (Run I.ends.steps) }
-    ensures askable { (s : Iterator I) → I.ends.can (iterator_parts s) → IsAskableAtEnds Ok Err ⟦<Iterator<I> as std::iter::Iterator>⟧.can_next ⟦<Iterator<I> as std::iter::DoubleEndedIterator>⟧.can_next_back ⟦<Iterator<I> as std::iter::Iterator>⟧.next_gives ⟦<Iterator<I> as std::iter::DoubleEndedIterator>⟧.next_back_gives ⟦<Iterator<I> as std::iter::Iterator>⟧.remaining s }
-    ensures reads { (s : Iterator I) (l : List (Result I.Item I.Error)) → Lists I.ends.steps (iterator_parts s) l → EachRunFrom ⟦<Iterator<I> as std::iter::DoubleEndedIterator>⟧.next_back_gives s (λ p. ItemsAre p l) }
+    ensures trace { MeetsHeld iterator_parts
+        (λ s r t. ⟦<Iterator<I> as std::iter::DoubleEndedIterator>⟧.next_back_gives s
+        (result_transpose r) t)
+        (Run I.ends.steps) }
+    ensures askable { (s : Iterator I) → I.ends.can (iterator_parts s)
+        → IsAskableAtEnds Ok Err ⟦<Iterator<I> as std::iter::Iterator>⟧.can_next
+        ⟦<Iterator<I> as std::iter::DoubleEndedIterator>⟧.can_next_back
+        ⟦<Iterator<I> as std::iter::Iterator>⟧.next_gives
+        ⟦<Iterator<I> as std::iter::DoubleEndedIterator>⟧.next_back_gives
+        ⟦<Iterator<I> as std::iter::Iterator>⟧.remaining s }
+    ensures reads { (s : Iterator I) (l : List (Result I.Item I.Error))
+        → Lists I.ends.steps (iterator_parts s) l
+        → EachRunFrom ⟦<Iterator<I> as std::iter::DoubleEndedIterator>⟧.next_back_gives s
+        (λ p. ItemsAre p l) }
 {}
 
 /// Place by place, what std's `next` gives of an `Unwrap` are its source's items and ends: none is a failure.
 pub fn law_unwrap<I: FallibleIterator>()
-    ensures { (s : Unwrap I) (given : List (Option I.Item)) (t : Unwrap I) → FoldsTo ⟦<Unwrap<I> as std::iter::Iterator>⟧.next_gives s given t ↔ Run I.contract.steps (unwrap_parts s) (map Ok given) (unwrap_parts t) }
+    ensures { (s : Unwrap I) (given : List (Option I.Item)) (t : Unwrap I)
+        → FoldsTo ⟦<Unwrap<I> as std::iter::Iterator>⟧.next_gives s given t
+        ↔ Run I.contract.steps (unwrap_parts s) (map Ok given) (unwrap_parts t) }
 {}

@@ -13,31 +13,36 @@ use fallible_core::traits::FallibleIterator;
 
 /// A trace of `Take` is the source's until it has n items, and then ends without draws.
 pub fn law_take<I: FallibleIterator>()
-    ensures { MeetsHeld take_parts ⟦<Take<I> as FallibleIterator>⟧.contract.steps (TakeTrace I.contract.steps) }
+    ensures { MeetsHeld take_parts ⟦<Take<I> as FallibleIterator>⟧.contract.steps
+        (TakeTrace I.contract.steps) }
 {}
 
 /// A trace of `Fuse` is the source's up to its first end, and then ends without draws.
 pub fn law_fuse<I: FallibleIterator>()
-    ensures { MeetsHeld fuse_parts ⟦<Fuse<I> as FallibleIterator>⟧.contract.steps (FuseTrace I.contract.steps) }
+    ensures { MeetsHeld fuse_parts ⟦<Fuse<I> as FallibleIterator>⟧.contract.steps
+        (FuseTrace I.contract.steps) }
 {}
 
 /// A trace of `TakeWhile` is the source's, with the predicate's failure in the place of each item on which it failed, up to the first item that it refuses; in that place is an end, and then ends without draws.
 pub fn law_take_while<I: FallibleIterator, P: FnMut(&I::Item) -> Result<bool, I::Error>>()
 where
     I::Item: Drop,
-    ensures { MeetsHeld take_while_parts ⟦<TakeWhile<I, P> as FallibleIterator>⟧.contract.steps (TakeWhileTrace I.contract.steps (call_in (call_at P.FnMut))) }
+    ensures { MeetsHeld take_while_parts ⟦<TakeWhile<I, P> as FallibleIterator>⟧.contract.steps
+        (TakeWhileTrace I.contract.steps (call_in (call_at P.FnMut))) }
 {}
 
 /// A trace of `Skip` is the source's without its first n items; failures and ends stay, and don't count. It doesn't end in a left-out item.
 pub fn law_skip<I: FallibleIterator>()
 where
     I::Item: Drop,
-    ensures { MeetsHeld skip_parts ⟦<Skip<I> as FallibleIterator>⟧.contract.steps (SkipTrace I.contract.steps) }
+    ensures { MeetsHeld skip_parts ⟦<Skip<I> as FallibleIterator>⟧.contract.steps
+        (SkipTrace I.contract.steps) }
 {}
 
 /// A trace of `StepBy` is the source's with only those items whose number, from 1, is r + 1 plus a multiple of the step, where r items are left out first, none at the beginning; failures and ends stay, and don't count. It doesn't end in a left-out item.
 pub fn law_step_by<I: FallibleIterator>()
 where
     I::Item: Drop,
-    ensures { MeetsHeld step_by_parts ⟦<StepBy<I> as FallibleIterator>⟧.contract.steps (StepByTrace I.contract.steps) }
+    ensures { MeetsHeld step_by_parts ⟦<StepBy<I> as FallibleIterator>⟧.contract.steps
+        (StepByTrace I.contract.steps) }
 {}

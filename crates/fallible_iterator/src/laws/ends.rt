@@ -1,5 +1,5 @@
 // What is drawn from both ends, and what from behind.
-ghost use Rattle.std.specs.Prelude.{◌≡◌, ◌↔◌, ◌++◌, ◌∷◌, [], map, reverse, Some, Bool, List, Option, Result};
+ghost use Rattle.std.specs.Prelude.{◌≡◌, ◌++◌, ◌∷◌, [], map, reverse, Some, Bool, List, Option, Result};
 ghost use Rattle.fallible_contract.specs.declared.answers.Side.{Side};
 ghost use Rattle.fallible_contract.specs.declared.answers.Side.TheVariants.{Front, Back};
 ghost use Rattle.fallible_contract.specs.Traces.{Answered, Run, item};
@@ -15,7 +15,7 @@ ghost use Rattle.fallible_core.specs.OneToOne.MapErr.{MapErrTrace, map_err_parts
 ghost use Rattle.fallible_core.specs.Filtering.Filter.{FilterTrace, filter_parts};
 ghost use Rattle.fallible_core.specs.Filtering.FilterMap.{FilterMapTrace, filter_map_parts};
 ghost use Rattle.fallible_core.specs.Ends.Rev.{rev_parts};
-ghost use Rattle.fallible_iterator.specs.Listing.{ListsTheSame};
+ghost use Rattle.fallible_iterator.specs.Listing.{DrawsInterleave, DrawsTheSame, ListsTheSame};
 
 use super::listed::{law_listed_filter, law_listed_map, law_listed_rev};
 use fallible_core::ends::Rev;
@@ -29,7 +29,10 @@ use std::alloc::AllocError;
 
 /// The law of interleaving, of every type with two ends, and so of every nest of adapters: of draws from both ends of a value that lists l, what came in front, what is left, and what came behind, reversed, make l; and an end was answered only where nothing was left.
 pub fn law_interleave<I: DoubleEndedFallibleIterator>()
-    ensures { (s t : I) (l : List (Result I.Item I.Error)) (drawn : List (Side × Answered I.Item I.Error)) → Listed I.contract.steps I.ends.steps s l → Mix I.contract.steps I.ends.steps s drawn t → Interleaves I.contract.steps I.ends.steps l drawn t }
+    ensures { (s t : I) (l : List (Result I.Item I.Error))
+        (drawn : List (Side × Answered I.Item I.Error))
+        → Listed I.contract.steps I.ends.steps s l → Mix I.contract.steps I.ends.steps s drawn t
+        → Interleaves I.contract.steps I.ends.steps l drawn t }
 {}
 
 /// Runs and folds from one end are draws like others, also a fold that stopped: it drew its items and the answer that decided. Draws may come before them and after them, so `law_interleave` speaks of them too.
@@ -37,10 +40,19 @@ pub fn law_interleave_folds<I: DoubleEndedFallibleIterator, B, E, F>()
 where
     E: From<I::Error>,
     F: FnMut(B, I::Item) -> Result<B, E>,
-    ensures run { (side : Side) (s t : I) (trace : List (Answered I.Item I.Error)) → Run (step_at I.contract.steps I.ends.steps side) s trace t → Mix I.contract.steps I.ends.steps s (from_side side trace) t }
-    ensures fold { (s t : I) (b : B) (f : F) (r : Result B E) (h : Folded I.contract.steps (call_with F.FnMut) E.from_gives s b f r t) → Mix I.contract.steps I.ends.steps s (from_side Front (map item h.items ++ h.last ∷ [])) t }
-    ensures fold_back { (s t : I) (b : B) (f : F) (r : Result B E) (h : Folded I.ends.steps (call_with F.FnMut) E.from_gives s b f r t) → Mix I.contract.steps I.ends.steps s (from_side Back (map item h.items ++ h.last ∷ [])) t }
-    ensures then_others { (s t u : I) (drawn others : List (Side × Answered I.Item I.Error)) → Mix I.contract.steps I.ends.steps s drawn t → Mix I.contract.steps I.ends.steps t others u → Mix I.contract.steps I.ends.steps s (drawn ++ others) u }
+    ensures run { (side : Side) (s t : I) (trace : List (Answered I.Item I.Error))
+        → Run (step_at I.contract.steps I.ends.steps side) s trace t
+        → Mix I.contract.steps I.ends.steps s (from_side side trace) t }
+    ensures fold { (s t : I) (b : B) (f : F) (r : Result B E)
+        (h : Folded I.contract.steps (call_with F.FnMut) E.from_gives s b f r t)
+        → Mix I.contract.steps I.ends.steps s
+        (from_side Front (map item h.items ++ h.last ∷ [])) t }
+    ensures fold_back { (s t : I) (b : B) (f : F) (r : Result B E)
+        (h : Folded I.ends.steps (call_with F.FnMut) E.from_gives s b f r t)
+        → Mix I.contract.steps I.ends.steps s (from_side Back (map item h.items ++ h.last ∷ [])) t }
+    ensures then_others { (s t u : I) (drawn others : List (Side × Answered I.Item I.Error))
+        → Mix I.contract.steps I.ends.steps s drawn t → Mix I.contract.steps I.ends.steps t others u
+        → Mix I.contract.steps I.ends.steps s (drawn ++ others) u }
 {}
 
 /// The same of one nest of four types, written out: of draws from both ends of a `Rev` of a `Filter` of a `Map` over any source that lists l, what came in front, what is left, and what came behind, reversed, make the reverse of the filtered, mapped l.
@@ -51,7 +63,15 @@ pub fn law_interleave_nest<
     G: FnMut(&B) -> Result<bool, I::Error>,
 >()
 where
-    ensures { (s t : Rev (Filter (Map I F) G)) (inner : Map I F) (it : I) (f : F) (g : G) (h : I.Item → Result B I.Error) (k : B → Result Bool I.Error) (l : List (Result I.Item I.Error)) (drawn : List (Side × Answered B I.Error)) → filter_parts (rev_parts s) ≡ (inner, Some g) → map_parts inner ≡ (it, Some f) → Acts (call_on F.FnMut) f h → Acts (call_at G.FnMut) g k → Listed I.contract.steps I.ends.steps it l → Mix ⟦<Rev<Filter<Map<I, F>, G>> as FallibleIterator>⟧.contract.steps ⟦<Rev<Filter<Map<I, F>, G>> as DoubleEndedFallibleIterator>⟧.ends.steps s drawn t → Interleaves ⟦<Rev<Filter<Map<I, F>, G>> as FallibleIterator>⟧.contract.steps ⟦<Rev<Filter<Map<I, F>, G>> as DoubleEndedFallibleIterator>⟧.ends.steps (reverse (filtered k (mapped h l))) drawn t }
+    ensures { (s t : Rev (Filter (Map I F) G)) (inner : Map I F) (it : I) (f : F) (g : G)
+        (h : I.Item → Result B I.Error) (k : B → Result Bool I.Error)
+        (l : List (Result I.Item I.Error)) (drawn : List (Side × Answered B I.Error))
+        → filter_parts (rev_parts s) ≡ (inner, Some g) → map_parts inner ≡ (it, Some f)
+        → Acts (call_on F.FnMut) f h → Acts (call_at G.FnMut) g k
+        → Listed I.contract.steps I.ends.steps it l
+        → DrawsInterleave ⟦<Rev<Filter<Map<I, F>, G>> as FallibleIterator>⟧.contract.steps
+        ⟦<Rev<Filter<Map<I, F>, G>> as DoubleEndedFallibleIterator>⟧.ends.steps
+        (reverse (filtered k (mapped h l))) s drawn t }
 {
     law_listed_map::<I, B, F>();
     law_listed_filter::<Map<I, F>, G>();
@@ -63,22 +83,32 @@ where
 
 /// A trace of `Rev` is one of its source from behind, and a trace of it from behind one of its source.
 pub fn law_rev<I: DoubleEndedFallibleIterator>()
-    ensures front { MeetsHeld rev_parts ⟦<Rev<I> as FallibleIterator>⟧.contract.steps (Run I.ends.steps) }
-    ensures back { MeetsHeld rev_parts ⟦<Rev<I> as DoubleEndedFallibleIterator>⟧.ends.steps (Run I.contract.steps) }
+    ensures front { MeetsHeld rev_parts ⟦<Rev<I> as FallibleIterator>⟧.contract.steps
+        (Run I.ends.steps) }
+    ensures back { MeetsHeld rev_parts ⟦<Rev<I> as DoubleEndedFallibleIterator>⟧.ends.steps
+        (Run I.contract.steps) }
 {}
 
 /// A `Rev` of a `Rev` is its source: a trace of it from either end is one of its source from that end, draws of it from both ends, in any order, are draws of its source, and it lists just what its source lists.
 pub fn law_rev_rev<I: DoubleEndedFallibleIterator>()
-    ensures front { MeetsHeld (λ s. rev_parts (rev_parts s)) ⟦<Rev<Rev<I>> as FallibleIterator>⟧.contract.steps (Run I.contract.steps) }
-    ensures back { MeetsHeld (λ s. rev_parts (rev_parts s)) ⟦<Rev<Rev<I>> as DoubleEndedFallibleIterator>⟧.ends.steps (Run I.ends.steps) }
-    ensures both { (s : Rev (Rev I)) (drawn : List (Side × Answered I.Item I.Error)) (t : Rev (Rev I)) → Mix ⟦<Rev<Rev<I>> as FallibleIterator>⟧.contract.steps ⟦<Rev<Rev<I>> as DoubleEndedFallibleIterator>⟧.ends.steps s drawn t ↔ Mix I.contract.steps I.ends.steps (rev_parts (rev_parts s)) drawn (rev_parts (rev_parts t)) }
-    ensures lists { ListsTheSame (λ s. rev_parts (rev_parts s)) (Listed I.contract.steps I.ends.steps) (Listed ⟦<Rev<Rev<I>> as FallibleIterator>⟧.contract.steps ⟦<Rev<Rev<I>> as DoubleEndedFallibleIterator>⟧.ends.steps) }
+    ensures front { MeetsHeld (λ s. rev_parts (rev_parts s))
+        ⟦<Rev<Rev<I>> as FallibleIterator>⟧.contract.steps (Run I.contract.steps) }
+    ensures back { MeetsHeld (λ s. rev_parts (rev_parts s))
+        ⟦<Rev<Rev<I>> as DoubleEndedFallibleIterator>⟧.ends.steps (Run I.ends.steps) }
+    ensures both { DrawsTheSame (λ s. rev_parts (rev_parts s)) (Mix I.contract.steps I.ends.steps)
+        (Mix ⟦<Rev<Rev<I>> as FallibleIterator>⟧.contract.steps
+        ⟦<Rev<Rev<I>> as DoubleEndedFallibleIterator>⟧.ends.steps) }
+    ensures lists { ListsTheSame (λ s. rev_parts (rev_parts s))
+        (Listed I.contract.steps I.ends.steps)
+        (Listed ⟦<Rev<Rev<I>> as FallibleIterator>⟧.contract.steps
+        ⟦<Rev<Rev<I>> as DoubleEndedFallibleIterator>⟧.ends.steps) }
 {}
 
 /// From behind the answers of `Map` are the source's from behind, with the closure's answer in each item's place.
 pub fn law_back_map<I: DoubleEndedFallibleIterator, B, F: FnMut(I::Item) -> Result<B, I::Error>>()
 where
-    ensures { MeetsHeld map_parts ⟦<Map<I, F> as DoubleEndedFallibleIterator>⟧.ends.steps (MapTrace I.ends.steps F.FnMut) }
+    ensures { MeetsHeld map_parts ⟦<Map<I, F> as DoubleEndedFallibleIterator>⟧.ends.steps
+        (MapTrace I.ends.steps F.FnMut) }
 {}
 
 /// From behind the answers of `Inspect` are the source's from behind, with the closure's failure in the place of each item on which it failed.
@@ -88,20 +118,23 @@ pub fn law_back_inspect<
 >()
 where
     I::Item: Drop,
-    ensures { MeetsHeld inspect_parts ⟦<Inspect<I, F> as DoubleEndedFallibleIterator>⟧.ends.steps (InspectTrace I.ends.steps F.FnMut) }
+    ensures { MeetsHeld inspect_parts ⟦<Inspect<I, F> as DoubleEndedFallibleIterator>⟧.ends.steps
+        (InspectTrace I.ends.steps F.FnMut) }
 {}
 
 /// From behind the answers of `MapErr` are the source's from behind, with the closure's answer in each failure's place.
 pub fn law_back_map_err<I: DoubleEndedFallibleIterator, B, F: FnMut(I::Error) -> B>()
 where
-    ensures { MeetsHeld map_err_parts ⟦<MapErr<I, F> as DoubleEndedFallibleIterator>⟧.ends.steps (MapErrTrace I.ends.steps (call_on F.FnMut)) }
+    ensures { MeetsHeld map_err_parts ⟦<MapErr<I, F> as DoubleEndedFallibleIterator>⟧.ends.steps
+        (MapErrTrace I.ends.steps (call_on F.FnMut)) }
 {}
 
 /// From behind the answers of `Cloned` are the source's from behind, with a clone in each item's place, or the failure made of its refusal.
 pub fn law_back_cloned<'a, T: Clone + 'a, I: DoubleEndedFallibleIterator<Item = &'a T>>()
 where
     I::Error: From<AllocError>,
-    ensures { MeetsHeld cloned_parts ⟦<Cloned<I> as DoubleEndedFallibleIterator>⟧.ends.steps (ClonedTrace T.is_clone T.is_infallible I.Error.from_gives I.ends.steps) }
+    ensures { MeetsHeld cloned_parts ⟦<Cloned<I> as DoubleEndedFallibleIterator>⟧.ends.steps
+        (ClonedTrace T.is_clone T.is_infallible I.Error.from_gives I.ends.steps) }
 {}
 
 /// From behind the answers of `Filter` are the source's from behind without the items refused, with the predicate's failure in the place of each item on which it failed.
@@ -111,7 +144,8 @@ pub fn law_back_filter<
 >()
 where
     I::Item: Drop,
-    ensures { MeetsHeld filter_parts ⟦<Filter<I, F> as DoubleEndedFallibleIterator>⟧.ends.steps (FilterTrace I.ends.steps F.FnMut) }
+    ensures { MeetsHeld filter_parts ⟦<Filter<I, F> as DoubleEndedFallibleIterator>⟧.ends.steps
+        (FilterTrace I.ends.steps F.FnMut) }
 {}
 
 /// From behind the answers of `FilterMap` are the source's from behind without the items answered none, with the closure's value or failure in each other item's place.
@@ -121,5 +155,7 @@ pub fn law_back_filter_map<
     F: FnMut(I::Item) -> Result<Option<B>, I::Error>,
 >()
 where
-    ensures { MeetsHeld filter_map_parts ⟦<FilterMap<I, F> as DoubleEndedFallibleIterator>⟧.ends.steps (FilterMapTrace I.ends.steps F.FnMut) }
+    ensures { MeetsHeld filter_map_parts
+        ⟦<FilterMap<I, F> as DoubleEndedFallibleIterator>⟧.ends.steps
+        (FilterMapTrace I.ends.steps F.FnMut) }
 {}

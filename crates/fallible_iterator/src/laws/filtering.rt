@@ -12,18 +12,21 @@ use fallible_core::traits::FallibleIterator;
 pub fn law_filter<I: FallibleIterator, F: FnMut(&I::Item) -> Result<bool, I::Error>>()
 where
     I::Item: Drop,
-    ensures { MeetsHeld filter_parts ⟦<Filter<I, F> as FallibleIterator>⟧.contract.steps (FilterTrace I.contract.steps F.FnMut) }
+    ensures { MeetsHeld filter_parts ⟦<Filter<I, F> as FallibleIterator>⟧.contract.steps
+        (FilterTrace I.contract.steps F.FnMut) }
 {}
 
 /// The answers of `FilterMap` are the source's without the items answered none, with the closure's value or failure in each other item's place.
 pub fn law_filter_map<I: FallibleIterator, B, F: FnMut(I::Item) -> Result<Option<B>, I::Error>>()
 where
-    ensures { MeetsHeld filter_map_parts ⟦<FilterMap<I, F> as FallibleIterator>⟧.contract.steps (FilterMapTrace I.contract.steps F.FnMut) }
+    ensures { MeetsHeld filter_map_parts ⟦<FilterMap<I, F> as FallibleIterator>⟧.contract.steps
+        (FilterMapTrace I.contract.steps F.FnMut) }
 {}
 
 /// The answers of `SkipWhile` are the source's without the items that the predicate answers true on before its first false, with the predicate's failure in the place of each item on which it failed; from its first false on it isn't asked.
 pub fn law_skip_while<I: FallibleIterator, P: FnMut(&I::Item) -> Result<bool, I::Error>>()
 where
     I::Item: Drop,
-    ensures { MeetsHeld skip_while_parts ⟦<SkipWhile<I, P> as FallibleIterator>⟧.contract.steps (SkipWhileTrace I.contract.steps (call_in (call_at P.FnMut))) }
+    ensures { MeetsHeld skip_while_parts ⟦<SkipWhile<I, P> as FallibleIterator>⟧.contract.steps
+        (SkipWhileTrace I.contract.steps (call_in (call_at P.FnMut))) }
 {}

@@ -15,7 +15,8 @@ use std::alloc::AllocError;
 
 /// A trace of `Chain` is the front's up to its first end, and from the draw that meets this end on the back's; where one side alone is still drawn, it is that side's.
 pub fn law_chain<T: FallibleIterator, U: FallibleIterator<Item = T::Item, Error = T::Error>>()
-    ensures { MeetsHeld chain_parts ⟦<Chain<T, U> as FallibleIterator>⟧.contract.steps (ChainTrace T.contract.steps U.contract.steps) }
+    ensures { MeetsHeld chain_parts ⟦<Chain<T, U> as FallibleIterator>⟧.contract.steps
+        (ChainTrace T.contract.steps U.contract.steps) }
 {}
 
 /// A trace of `Chain` from behind is the same with the sides swapped, both drawn from behind: the back's up to its first end, and from the draw that meets this end on the front's.
@@ -23,7 +24,9 @@ pub fn law_back_chain<
     T: DoubleEndedFallibleIterator,
     U: DoubleEndedFallibleIterator<Item = T::Item, Error = T::Error>,
 >()
-    ensures { MeetsHeld (λ s. chain_behind (chain_parts s)) ⟦<Chain<T, U> as DoubleEndedFallibleIterator>⟧.ends.steps (ChainTrace U.ends.steps T.ends.steps) }
+    ensures { MeetsHeld (λ s. chain_behind (chain_parts s))
+        ⟦<Chain<T, U> as DoubleEndedFallibleIterator>⟧.ends.steps
+        (ChainTrace U.ends.steps T.ends.steps) }
 {}
 
 /// A trace of `Zip` has an answer for each answer of the left's trace: the left's failure, without a draw of the right; else, beside an answer of the right, the right's failure, the pair of two items, or an end.
@@ -31,12 +34,15 @@ pub fn law_zip<T: FallibleIterator, U: FallibleIterator<Error = T::Error>>()
 where
     T::Item: Drop,
     U::Item: Drop,
-    ensures { MeetsHeld zip_parts ⟦<Zip<T, U> as FallibleIterator>⟧.contract.steps (ZipTrace T.contract.steps U.contract.steps) }
+    ensures { MeetsHeld zip_parts ⟦<Zip<T, U> as FallibleIterator>⟧.contract.steps
+        (ZipTrace T.contract.steps U.contract.steps) }
 {}
 
 /// A trace of `Flatten` joins the answers of the inner iterators, each up to its end, and the outer source's failures and ends; the last inner iterator, where its end was not drawn, stays in hand.
 pub fn law_flatten<U: IntoFallibleIterator, I: FallibleIterator<Item = U, Error = U::Error>>()
-    ensures { MeetsHeld flatten_parts ⟦<Flatten<I, U::IntoFallibleIter> as FallibleIterator>⟧.contract.steps (FlattenTrace I.contract.steps U.into_gives U.IntoFallibleIter.contract.steps) }
+    ensures { MeetsHeld flatten_parts
+        ⟦<Flatten<I, U::IntoFallibleIter> as FallibleIterator>⟧.contract.steps
+        (FlattenTrace I.contract.steps U.into_gives U.IntoFallibleIter.contract.steps) }
 {}
 
 /// A trace of `FlatMap` is one of a `Flatten` over the `Map` of its closure.
@@ -46,12 +52,16 @@ pub fn law_flat_map<
     F: FnMut(I::Item) -> Result<U, I::Error>,
 >()
 where
-    ensures { MeetsHeld flatten_parts ⟦<Flatten<Map<I, F>, U::IntoFallibleIter> as FallibleIterator>⟧.contract.steps (FlattenTrace ⟦<Map<I, F> as FallibleIterator>⟧.contract.steps U.into_gives U.IntoFallibleIter.contract.steps) }
+    ensures { MeetsHeld flatten_parts
+        ⟦<Flatten<Map<I, F>, U::IntoFallibleIter> as FallibleIterator>⟧.contract.steps
+        (FlattenTrace ⟦<Map<I, F> as FallibleIterator>⟧.contract.steps U.into_gives
+        U.IntoFallibleIter.contract.steps) }
 {}
 
 /// A trace of `Cycle` is laps: answers of one run up to its end, which is not answered, and then those of a fresh clone, or the failure made of a refused clone, after which the next lap goes on over the same run. The kept source stays.
 pub fn law_cycle<I: FallibleIterator + Clone>()
 where
     I::Error: From<AllocError>,
-    ensures { MeetsHeld cycle_parts ⟦<Cycle<I> as FallibleIterator>⟧.contract.steps (CycleTrace I.is_clone I.is_infallible I.Error.from_gives I.contract.steps) }
+    ensures { MeetsHeld cycle_parts ⟦<Cycle<I> as FallibleIterator>⟧.contract.steps
+        (CycleTrace I.is_clone I.is_infallible I.Error.from_gives I.contract.steps) }
 {}

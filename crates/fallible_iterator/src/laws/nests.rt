@@ -26,7 +26,8 @@ pub fn law_nest<
 >()
 where
     I::Item: Drop,
-    ensures { MeetsHeld (λ s. s) ⟦<Take<Map<Filter<I, P>, F>> as FallibleIterator>⟧.contract.steps (TakeMapFilterTrace I.contract.steps P.FnMut F.FnMut) }
+    ensures { MeetsHeld (λ s. s) ⟦<Take<Map<Filter<I, P>, F>> as FallibleIterator>⟧.contract.steps
+        (TakeMapFilterTrace I.contract.steps P.FnMut F.FnMut) }
 {
     law_filter::<I, P>();
     law_map::<Filter<I, P>, B, F>();
@@ -35,8 +36,15 @@ where
 
 /// A trace of a `Take` of a borrowed `Convert` is the front, up to the n-th item, of what the std iterator gives, place by place; the lender is left with the std iterator after just those calls. The other way round any such front is a trace, which leaves the borrow the reference that it was.
 pub fn law_nest_borrowed<'a, T: 'a, E: 'a, J: std::iter::Iterator<Item = Result<T, E>> + 'a>()
-    ensures trace { (s : Take (MutBor (Convert J))) (trace : List (Answered T E)) (t : Take (MutBor (Convert J))) → Run ⟦<Take<&'a mut Convert<J>> as FallibleIterator>⟧.contract.steps s trace t → TakeBorrowedTrace J.can_next J.next_gives J.remaining s trace t }
-    ensures run { (s : Take (MutBor (Convert J))) (trace : List (Answered T E)) (t : Take (MutBor (Convert J))) → TakeBorrowedTrace J.can_next J.next_gives J.remaining s trace t → Run ⟦<Take<&'a mut Convert<J>> as FallibleIterator>⟧.contract.steps s trace (record t { it = record s.it { now = t.it.now } }) }
+    ensures trace { (s : Take (MutBor (Convert J))) (trace : List (Answered T E))
+        (t : Take (MutBor (Convert J)))
+        → Run ⟦<Take<&'a mut Convert<J>> as FallibleIterator>⟧.contract.steps s trace t
+        → TakeBorrowedTrace J.can_next J.next_gives J.remaining s trace t }
+    ensures run { (s : Take (MutBor (Convert J))) (trace : List (Answered T E))
+        (t : Take (MutBor (Convert J)))
+        → TakeBorrowedTrace J.can_next J.next_gives J.remaining s trace t
+        → Run ⟦<Take<&'a mut Convert<J>> as FallibleIterator>⟧.contract.steps s trace
+        (record t { it = record s.it { now = t.it.now } }) }
 {
     law_convert::<T, E, J>();
     // It also speaks of a type with two ends, for which any does here.

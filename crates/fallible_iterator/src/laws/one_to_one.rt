@@ -16,27 +16,31 @@ use std::alloc::AllocError;
 /// The answers of `Map` are the source's, with the closure's answer in each item's place.
 pub fn law_map<I: FallibleIterator, B, F: FnMut(I::Item) -> Result<B, I::Error>>()
 where
-    ensures { MeetsHeld map_parts ⟦<Map<I, F> as FallibleIterator>⟧.contract.steps (MapTrace I.contract.steps F.FnMut) }
+    ensures { MeetsHeld map_parts ⟦<Map<I, F> as FallibleIterator>⟧.contract.steps
+        (MapTrace I.contract.steps F.FnMut) }
 {}
 
 /// The answers of `Inspect` are the source's, with the closure's failure in the place of each item on which it failed.
 pub fn law_inspect<I: FallibleIterator, F: FnMut(&I::Item) -> Result<(), I::Error>>()
 where
     I::Item: Drop,
-    ensures { MeetsHeld inspect_parts ⟦<Inspect<I, F> as FallibleIterator>⟧.contract.steps (InspectTrace I.contract.steps F.FnMut) }
+    ensures { MeetsHeld inspect_parts ⟦<Inspect<I, F> as FallibleIterator>⟧.contract.steps
+        (InspectTrace I.contract.steps F.FnMut) }
 {}
 
 /// The answers of `MapErr` are the source's, with the closure's answer in each failure's place.
 pub fn law_map_err<I: FallibleIterator, B, F: FnMut(I::Error) -> B>()
 where
-    ensures { MeetsHeld map_err_parts ⟦<MapErr<I, F> as FallibleIterator>⟧.contract.steps (MapErrTrace I.contract.steps (call_on F.FnMut)) }
+    ensures { MeetsHeld map_err_parts ⟦<MapErr<I, F> as FallibleIterator>⟧.contract.steps
+        (MapErrTrace I.contract.steps (call_on F.FnMut)) }
 {}
 
 /// The answers of `Enumerate` are the source's, with each item beside the number of items before it.
 pub fn law_enumerate<I: FallibleIterator>()
 where
     I::Item: Drop,
-    ensures { MeetsHeld enumerate_parts ⟦<Enumerate<I> as FallibleIterator>⟧.contract.steps (EnumerateTrace I.contract.steps) }
+    ensures { MeetsHeld enumerate_parts ⟦<Enumerate<I> as FallibleIterator>⟧.contract.steps
+        (EnumerateTrace I.contract.steps) }
 {}
 
 /// The answers of `Scan` are the source's, with the closure's answer on the state and the item in each item's place, none being an end.
@@ -47,7 +51,8 @@ pub fn law_scan<
     F: FnMut(&mut St, I::Item) -> Result<Option<B>, I::Error>,
 >()
 where
-    ensures { MeetsHeld scan_parts ⟦<Scan<I, St, F> as FallibleIterator>⟧.contract.steps (ScanTrace I.contract.steps F.FnMut) }
+    ensures { MeetsHeld scan_parts ⟦<Scan<I, St, F> as FallibleIterator>⟧.contract.steps
+        (ScanTrace I.contract.steps F.FnMut) }
 {}
 
 /// The answers of `MapWhile` are the source's, with the value that the closure answers in each item's place, none being an end.
@@ -61,5 +66,6 @@ where
 pub fn law_cloned<'a, T: Clone + 'a, I: FallibleIterator<Item = &'a T>>()
 where
     I::Error: From<AllocError>,
-    ensures { MeetsHeld cloned_parts ⟦<Cloned<I> as FallibleIterator>⟧.contract.steps (ClonedTrace T.is_clone T.is_infallible I.Error.from_gives I.contract.steps) }
+    ensures { MeetsHeld cloned_parts ⟦<Cloned<I> as FallibleIterator>⟧.contract.steps
+        (ClonedTrace T.is_clone T.is_infallible I.Error.from_gives I.contract.steps) }
 {}

@@ -11,6 +11,10 @@ use fallible_core::traits::FallibleIterator;
 pub fn law_peekable<I: FallibleIterator>()
 where
     I::Item: Drop,
-    ensures traces { MeetsHeld peekable_parts ⟦<Peekable<I> as FallibleIterator>⟧.contract.steps (PeekableTrace I.contract.steps) }
-    ensures lists { (s : Peekable I I.Item I.Error) (l : List (Result I.Item I.Error)) → Lists I.contract.steps (peekable_parts s).0 l → Lists ⟦<Peekable<I> as FallibleIterator>⟧.contract.steps s (behind_held (peekable_parts s).1 l) }
+    ensures traces { MeetsHeld peekable_parts ⟦<Peekable<I> as FallibleIterator>⟧.contract.steps
+        (PeekableTrace I.contract.steps) }
+    ensures lists { (s : Peekable I I.Item I.Error) (l : List (Result I.Item I.Error))
+        → Lists I.contract.steps (peekable_parts s).0 l
+        → Lists ⟦<Peekable<I> as FallibleIterator>⟧.contract.steps s
+        (behind_held (peekable_parts s).1 l) }
 {}

@@ -19,7 +19,8 @@ pub fn answers<I: FallibleIterator>(
 where
     requires { I.contract.can it.old }
     ensures drawn { IfOk result (λ v. IsAnswers I.contract.steps it.old n v.items it.new) }
-    ensures value { (l : List (Result I.Item I.Error)) → n ≤ length l + 1 → Lists I.contract.steps it.old l → IfOk result (λ v. v.items ≡ take n (answers_of l)) }
+    ensures value { (l : List (Result I.Item I.Error)) → n ≤ length l + 1
+        → Lists I.contract.steps it.old l → IfOk result (λ v. v.items ≡ take n (answers_of l)) }
     ensures refused { IfErr result (λ _. it.new ≡ it.old) }
     ensures stays { Stays I.contract it.old it.new }
 {
@@ -39,7 +40,8 @@ pub fn answers_at<I: DoubleEndedFallibleIterator>(
 ) -> Result<Vec<Answer<I::Item, I::Error>>, AllocError>
 where
     requires { I.ends.can it.old }
-    ensures drawn { IfOk result (λ v. IsAnswersAt I.contract.steps I.ends.steps it.old sides.now v.items it.new) }
+    ensures drawn { IfOk result
+        (λ v. IsAnswersAt I.contract.steps I.ends.steps it.old sides.now v.items it.new) }
     ensures refused { IfErr result (λ _. it.new ≡ it.old) }
     ensures stays { Stays (from_front I.contract I.ends) it.old it.new }
 {
@@ -54,7 +56,8 @@ where
 fn draw<I: FallibleIterator>(it: &mut I) -> Answer<I::Item, I::Error>
 where
     requires { I.contract.can it.old }
-    ensures { (r : Result (Option I.Item) I.Error) × I.contract.steps it.old r it.new × (result ≡ answer_of r) }
+    ensures { (r : Result (Option I.Item) I.Error) × I.contract.steps it.old r it.new
+        × (result ≡ answer_of r) }
 {
     told(it.next())
 }
@@ -62,7 +65,8 @@ where
 fn draw_at<I: DoubleEndedFallibleIterator>(it: &mut I, side: Side) -> Answer<I::Item, I::Error>
 where
     requires { I.ends.can it.old }
-    ensures { (r : Result (Option I.Item) I.Error) × step_at I.contract.steps I.ends.steps side it.old r it.new × (result ≡ answer_of r) }
+    ensures { (r : Result (Option I.Item) I.Error)
+        × step_at I.contract.steps I.ends.steps side it.old r it.new × (result ≡ answer_of r) }
 {
     match side {
         Side::Front => told(it.next()),

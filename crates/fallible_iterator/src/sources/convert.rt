@@ -25,7 +25,8 @@ impl<T, E, I: std::iter::Iterator<Item = Result<T, E>>> FallibleIterator for Con
 
     type Error = E;
 
-    ghost contract = { seen_as convert_parts (convert_contract I.can_next I.next_gives I.remaining) };
+    ghost contract = { seen_as convert_parts
+        (convert_contract I.can_next I.next_gives I.remaining) };
 
     /// Draws one element of the std iterator.
     fn next(&mut self) -> Result<Option<T>, E> {
@@ -41,12 +42,14 @@ impl<T, E, I: std::iter::Iterator<Item = Result<T, E>>> FallibleIterator for Con
         exited(drawn.try_fold(init, |carried, element| turn(k, carried, element)))
     }
 
-    ghost lawful = { lawful_seen convert_parts (lawful_std Ok Err I.can_next I.next_gives I.remaining) };
+    ghost lawful = { lawful_seen convert_parts
+        (lawful_std Ok Err I.can_next I.next_gives I.remaining) };
 }
 
 impl<T, E, I: std::iter::DoubleEndedIterator<Item = Result<T, E>>> DoubleEndedFallibleIterator
     for Convert<I> {
-    ghost ends = { ends_seen_as convert_parts (convert_ends I.can_next I.can_next_back I.next_gives I.next_back_gives I.remaining) };
+    ghost ends = { ends_seen_as convert_parts
+        (convert_ends I.can_next I.can_next_back I.next_gives I.next_back_gives I.remaining) };
 
     /// Draws one element of the std iterator from behind.
     fn next_back(&mut self) -> Result<Option<T>, E> {
@@ -58,7 +61,9 @@ impl<T, E, I: std::iter::DoubleEndedIterator<Item = Result<T, E>>> DoubleEndedFa
         exited(drawn.try_rfold(init, |carried, element| turn(k, carried, element)))
     }
 
-    ghost lawful_ends = { lawful_ends_seen convert_parts (lawful_std_ends Ok Err I.can_next I.can_next_back I.next_gives I.next_back_gives I.remaining) };
+    ghost lawful_ends = { lawful_ends_seen convert_parts
+        (lawful_std_ends Ok Err I.can_next I.can_next_back I.next_gives I.next_back_gives
+        I.remaining) };
 }
 
 // `rev` of the trait, which says besides what a std iterator that has two ends lists from behind.
@@ -66,9 +71,17 @@ impl<T, E, I: std::iter::DoubleEndedIterator<Item = Result<T, E>>> Convert<I> {
     /// Swaps the ends: a draw from the adapter is a draw from behind, and the other way round. Making the adapter draws nothing.
     pub fn rev(self) -> Rev<Convert<I>>
         ensures parts { rev_parts result ≡ self }
-        ensures lists { (l : List (Result T E)) → Lists ⟦<Convert<I> as DoubleEndedFallibleIterator>⟧.ends.steps self l → Lists ⟦<Rev<Convert<I>> as FallibleIterator>⟧.contract.steps result l }
-        ensures results_back { (l : List (Result T E)) → RunsReadBehind I.next_back_gives (λ y. y) (convert_parts self) l → Lists ⟦<Rev<Convert<I>> as FallibleIterator>⟧.contract.steps result (reversed (results l)) }
-        ensures items_back { (l : List T) → RunsReadBehind I.next_back_gives Ok (convert_parts self) l → Lists ⟦<Rev<Convert<I>> as FallibleIterator>⟧.contract.steps result (reversed (items l)) }
+        ensures lists { (l : List (Result T E))
+            → Lists ⟦<Convert<I> as DoubleEndedFallibleIterator>⟧.ends.steps self l
+            → Lists ⟦<Rev<Convert<I>> as FallibleIterator>⟧.contract.steps result l }
+        ensures results_back { (l : List (Result T E))
+            → RunsReadBehind I.next_back_gives (λ y. y) (convert_parts self) l
+            → Lists ⟦<Rev<Convert<I>> as FallibleIterator>⟧.contract.steps result
+            (reversed (results l)) }
+        ensures items_back { (l : List T)
+            → RunsReadBehind I.next_back_gives Ok (convert_parts self) l
+            → Lists ⟦<Rev<Convert<I>> as FallibleIterator>⟧.contract.steps result
+            (reversed (items l)) }
     {
         FallibleIterator::rev(self)
     }

@@ -25,7 +25,8 @@ impl<T, I: std::iter::Iterator<Item = T>> FallibleIterator for IntoFallible<I> {
 
     type Error = Infallible;
 
-    ghost contract = { seen_as into_fallible_parts (into_fallible_contract I.can_next I.next_gives I.remaining) };
+    ghost contract = { seen_as into_fallible_parts
+        (into_fallible_contract I.can_next I.next_gives I.remaining) };
 
     /// Draws one element of the std iterator.
     fn next(&mut self) -> Result<Option<T>, Infallible> {
@@ -45,12 +46,15 @@ impl<T, I: std::iter::Iterator<Item = T>> FallibleIterator for IntoFallible<I> {
         exited(drawn.try_fold(init, |carried, x| turn(k, carried, Ok(x))))
     }
 
-    ghost lawful = { lawful_seen into_fallible_parts (lawful_std (λ x. x) never I.can_next I.next_gives I.remaining) };
+    ghost lawful = { lawful_seen into_fallible_parts
+        (lawful_std (λ x. x) never I.can_next I.next_gives I.remaining) };
 }
 
 impl<T, I: std::iter::DoubleEndedIterator<Item = T>> DoubleEndedFallibleIterator
     for IntoFallible<I> {
-    ghost ends = { ends_seen_as into_fallible_parts (into_fallible_ends I.can_next I.can_next_back I.next_gives I.next_back_gives I.remaining) };
+    ghost ends = { ends_seen_as into_fallible_parts
+        (into_fallible_ends I.can_next I.can_next_back I.next_gives I.next_back_gives
+        I.remaining) };
 
     /// Draws one element of the std iterator from behind.
     fn next_back(&mut self) -> Result<Option<T>, Infallible> {
@@ -66,7 +70,9 @@ impl<T, I: std::iter::DoubleEndedIterator<Item = T>> DoubleEndedFallibleIterator
         exited(drawn.try_rfold(init, |carried, x| turn(k, carried, Ok(x))))
     }
 
-    ghost lawful_ends = { lawful_ends_seen into_fallible_parts (lawful_std_ends (λ x. x) never I.can_next I.can_next_back I.next_gives I.next_back_gives I.remaining) };
+    ghost lawful_ends = { lawful_ends_seen into_fallible_parts
+        (lawful_std_ends (λ x. x) never I.can_next I.can_next_back I.next_gives I.next_back_gives
+        I.remaining) };
 }
 
 // `rev` of the trait, which says besides what a std iterator that has two ends lists from behind.
@@ -74,8 +80,13 @@ impl<T, I: std::iter::DoubleEndedIterator<Item = T>> IntoFallible<I> {
     /// Swaps the ends: a draw from the adapter is a draw from behind, and the other way round. Making the adapter draws nothing.
     pub fn rev(self) -> Rev<IntoFallible<I>>
         ensures parts { rev_parts result ≡ self }
-        ensures lists { (l : List (Result T Infallible)) → Lists ⟦<IntoFallible<I> as DoubleEndedFallibleIterator>⟧.ends.steps self l → Lists ⟦<Rev<IntoFallible<I>> as FallibleIterator>⟧.contract.steps result l }
-        ensures lists_back { (l : List T) → RunsReadBehind I.next_back_gives (λ x. x) (into_fallible_parts self) l → Lists ⟦<Rev<IntoFallible<I>> as FallibleIterator>⟧.contract.steps result (reversed (items l)) }
+        ensures lists { (l : List (Result T Infallible))
+            → Lists ⟦<IntoFallible<I> as DoubleEndedFallibleIterator>⟧.ends.steps self l
+            → Lists ⟦<Rev<IntoFallible<I>> as FallibleIterator>⟧.contract.steps result l }
+        ensures lists_back { (l : List T)
+            → RunsReadBehind I.next_back_gives (λ x. x) (into_fallible_parts self) l
+            → Lists ⟦<Rev<IntoFallible<I>> as FallibleIterator>⟧.contract.steps result
+            (reversed (items l)) }
     {
         FallibleIterator::rev(self)
     }

@@ -23,8 +23,13 @@ use std::marker::PhantomData;
 /// It may be drawn from where the std iterator may be asked again after every answer, also after `None`, and a bound that it states doesn't rise there; from both ends, where that holds after every answer from either end. Of a std iterator that doesn't say so, as `lines` of a reader, `convert_fused` makes one. What it lists from behind is said by `rev` and by `law_back_convert`, which ask that the std iterator has two ends.
 pub fn convert<T, E, I: Iterator<Item = Result<T, E>>>(it: I) -> Convert<I>
     ensures parts { convert_parts result ≡ it }
-    ensures results { (l : List (Result T E)) → RunsRead I.next_gives (λ y. y) it l → Lists (seen_as convert_parts (convert_contract I.can_next I.next_gives I.remaining)).steps result (results l) }
-    ensures items { (l : List T) → RunsRead I.next_gives Ok it l → Lists (seen_as convert_parts (convert_contract {A = T} {E = E} I.can_next I.next_gives I.remaining)).steps result (items l) }
+    ensures results { (l : List (Result T E)) → RunsRead I.next_gives (λ y. y) it l
+        → Lists (seen_as convert_parts (convert_contract I.can_next I.next_gives I.remaining)).steps
+        result (results l) }
+    ensures items { (l : List T) → RunsRead I.next_gives Ok it l
+        → Lists (seen_as convert_parts
+        (convert_contract {A = T} {E = E} I.can_next I.next_gives I.remaining)).steps result
+        (items l) }
 {
     Convert { it }
 }
@@ -35,8 +40,10 @@ pub fn convert<T, E, I: Iterator<Item = Result<T, E>>>(it: I) -> Convert<I>
 pub fn convert_fused<T, E, I: Iterator<Item = Result<T, E>>>(it: I) -> Convert<Fuse<I>>
     ensures source { fuse_source (convert_parts result) ≡ it }
     ensures fresh { fuse_done (convert_parts result) ≡ false }
-    ensures results { (l : List (Result T E)) → RunsRead I.next_gives (λ y. y) it l → Lists ⟦<Convert<Fuse<I>> as FallibleIterator>⟧.contract.steps result (results l) }
-    ensures items { (l : List T) → RunsRead I.next_gives Ok it l → Lists ⟦<Convert<Fuse<I>> as FallibleIterator>⟧.contract.steps result (items l) }
+    ensures results { (l : List (Result T E)) → RunsRead I.next_gives (λ y. y) it l
+        → Lists ⟦<Convert<Fuse<I>> as FallibleIterator>⟧.contract.steps result (results l) }
+    ensures items { (l : List T) → RunsRead I.next_gives Ok it l
+        → Lists ⟦<Convert<Fuse<I>> as FallibleIterator>⟧.contract.steps result (items l) }
 {
     convert(it.fuse())
 }
@@ -44,7 +51,8 @@ pub fn convert_fused<T, E, I: Iterator<Item = Result<T, E>>>(it: I) -> Convert<F
 /// Makes a fallible iterator of one item, which then ends.
 pub fn once<T, E>(value: T) -> Once<T, E>
     ensures parts { once_parts result ≡ Some value }
-    ensures lists { Lists (seen_as once_parts (once_contract {A = T} {E = E})).steps result (Ok value ∷ []) }
+    ensures lists { Lists (seen_as once_parts (once_contract {A = T} {E = E})).steps result
+        (Ok value ∷ []) }
 {
     Once {
         value: Some(value),
@@ -55,7 +63,8 @@ pub fn once<T, E>(value: T) -> Once<T, E>
 /// Makes a fallible iterator of one failure, which then ends.
 pub fn once_err<T, E>(error: E) -> OnceErr<T, E>
     ensures parts { once_err_parts result ≡ Some error }
-    ensures lists { Lists (seen_as once_err_parts (once_err_contract {A = T} {E = E})).steps result (Err error ∷ []) }
+    ensures lists { Lists (seen_as once_err_parts (once_err_contract {A = T} {E = E})).steps result
+        (Err error ∷ []) }
 {
     OnceErr {
         item: PhantomData,
@@ -86,7 +95,10 @@ pub fn empty<T, E>() -> Empty<T, E>
 /// Makes a fallible iterator that always gives a clone of `value`; where a clone is refused, the answer is the failure made of the refusal, and the value stays. It has no number to come, so it is drained through `take`.
 pub fn repeat<T: Clone, E: From<AllocError>>(value: T) -> Repeat<T, E>
     ensures parts { repeat_parts result ≡ value }
-    ensures repeats { T.is_infallible value → ((x : T) → T.is_clone value x → x ≡ value) → Repeats (seen_as repeat_parts (repeat_contract T.is_clone T.is_infallible E.from_gives)).steps result (Ok value) }
+    ensures repeats { T.is_infallible value → ((x : T) → T.is_clone value x → x ≡ value)
+        → Repeats
+        (seen_as repeat_parts (repeat_contract T.is_clone T.is_infallible E.from_gives)).steps
+        result (Ok value) }
 {
     Repeat {
         value,

@@ -21,7 +21,8 @@ impl<T: Clone, E: From<AllocError>> FallibleIterator for Repeat<T, E> {
 
     type Error = E;
 
-    ghost contract = { seen_as repeat_parts (repeat_contract T.is_clone T.is_infallible E.from_gives) };
+    ghost contract = { seen_as repeat_parts
+        (repeat_contract T.is_clone T.is_infallible E.from_gives) };
 
     /// Clones the value once.
     fn next(&mut self) -> Result<Option<T>, E> {
@@ -35,5 +36,6 @@ impl<T: Clone, E: From<AllocError>> FallibleIterator for Repeat<T, E> {
         (usize::MAX, None)
     }
 
-    ghost lawful = { lawful_seen repeat_parts (lawful_repeat T.is_clone T.is_infallible E.from_gives) };
+    ghost lawful = { lawful_seen repeat_parts
+        (lawful_repeat T.is_clone T.is_infallible E.from_gives) };
 }

@@ -21,7 +21,8 @@ impl<T, E: Clone + From<AllocError>> FallibleIterator for RepeatErr<T, E> {
 
     type Error = E;
 
-    ghost contract = { seen_as repeat_err_parts (repeat_err_contract E.is_clone E.is_infallible E.from_gives) };
+    ghost contract = { seen_as repeat_err_parts
+        (repeat_err_contract E.is_clone E.is_infallible E.from_gives) };
 
     /// Clones the error once.
     fn next(&mut self) -> Result<Option<T>, E> {
@@ -35,5 +36,6 @@ impl<T, E: Clone + From<AllocError>> FallibleIterator for RepeatErr<T, E> {
         (0, Some(0))
     }
 
-    ghost lawful = { lawful_seen repeat_err_parts (lawful_repeat_err E.is_clone E.is_infallible E.from_gives) };
+    ghost lawful = { lawful_seen repeat_err_parts
+        (lawful_repeat_err E.is_clone E.is_infallible E.from_gives) };
 }

@@ -28,7 +28,8 @@ impl<'a, I: std::iter::Iterator> std::iter::Iterator for Progressing<'a, I> {
 impl<'a, I: std::iter::DoubleEndedIterator> std::iter::DoubleEndedIterator for Progressing<'a, I> {
     ghost can_next_back = { λ s. I.can_next_back s.it.now };
 
-    ghost next_back_gives = { λ s r t. progressing I.can_next_back I.next_back_gives I.remaining s.it r t.it };
+    ghost next_back_gives = { λ s r t. progressing I.can_next_back I.next_back_gives I.remaining
+        s.it r t.it };
 
     fn next_back(&mut self) -> Option<I::Item> {
         self.it.next_back()

@@ -14,7 +14,8 @@ use fallible_core::traits::FallibleIterator;
 
 /// A hint that brackets what comes, less the items of a run, brackets what comes after that run.
 pub fn law_hints_after<I: FallibleIterator>()
-    ensures { (s t : I) (xs : List I.Item) (h : ℕ × Option ℕ) → Brackets I.contract.steps s h → Yields I.contract.steps s xs t → Brackets I.contract.steps t (hint_less (length xs) h) }
+    ensures { (s t : I) (xs : List I.Item) (h : ℕ × Option ℕ) → Brackets I.contract.steps s h
+        → Yields I.contract.steps s xs t → Brackets I.contract.steps t (hint_less (length xs) h) }
 {}
 
 /// The laws of the types are those of their nests. Of one nest, written out: each hint of a `Take` of a `Filter` of a `Map` brackets what comes from it where each hint of the source brackets what comes from the source, and its upper bound is never too low where that of the source isn't.
@@ -25,8 +26,12 @@ pub fn law_hints_nest<
     G: FnMut(&B) -> Result<bool, I::Error>,
 >()
 where
-    ensures sound { (s : Take (Filter (Map I F) G)) → SoundHints I.contract (map_parts (filter_parts (take_parts s).0).0).0 → SoundHints ⟦<Take<Filter<Map<I, F>, G>> as FallibleIterator>⟧.contract s }
-    ensures above { (s : Take (Filter (Map I F) G)) → SoundAbove I.contract (map_parts (filter_parts (take_parts s).0).0).0 → SoundAbove ⟦<Take<Filter<Map<I, F>, G>> as FallibleIterator>⟧.contract s }
+    ensures sound { (s : Take (Filter (Map I F) G))
+        → SoundHints I.contract (map_parts (filter_parts (take_parts s).0).0).0
+        → SoundHints ⟦<Take<Filter<Map<I, F>, G>> as FallibleIterator>⟧.contract s }
+    ensures above { (s : Take (Filter (Map I F) G))
+        → SoundAbove I.contract (map_parts (filter_parts (take_parts s).0).0).0
+        → SoundAbove ⟦<Take<Filter<Map<I, F>, G>> as FallibleIterator>⟧.contract s }
 {
     super::law_hints_map::<I, B, F>();
     super::law_hints_filter::<Map<I, F>, G>();

@@ -25,16 +25,29 @@ use std::alloc::AllocError;
 
 /// Each hint of a `&mut I` or a `Box<I>` is as sound as it is of the value behind it; so also from behind.
 pub fn law_hints_borrowed<'a, I: FallibleIterator + 'a, D: DoubleEndedFallibleIterator + 'a>()
-    ensures borrowed { (s : MutBor I) → KeepsBrackets ⟦<&'a mut I as FallibleIterator>⟧.contract s I.contract s.now }
-    ensures boxed { (s : Box I Global) → KeepsBrackets ⟦<Box<I> as FallibleIterator>⟧.contract s I.contract s.value }
-    ensures back_borrowed { (s : MutBor D) → KeepsBrackets (from_back ⟦<&'a mut D as FallibleIterator>⟧.contract ⟦<&'a mut D as DoubleEndedFallibleIterator>⟧.ends) s (from_back D.contract D.ends) s.now }
-    ensures back_boxed { (s : Box D Global) → KeepsBrackets (from_back ⟦<Box<D> as FallibleIterator>⟧.contract ⟦<Box<D> as DoubleEndedFallibleIterator>⟧.ends) s (from_back D.contract D.ends) s.value }
+    ensures borrowed { (s : MutBor I)
+        → KeepsBrackets ⟦<&'a mut I as FallibleIterator>⟧.contract s I.contract s.now }
+    ensures boxed { (s : Box I Global)
+        → KeepsBrackets ⟦<Box<I> as FallibleIterator>⟧.contract s I.contract s.value }
+    ensures back_borrowed { (s : MutBor D)
+        → KeepsBrackets (from_back ⟦<&'a mut D as FallibleIterator>⟧.contract
+        ⟦<&'a mut D as DoubleEndedFallibleIterator>⟧.ends) s
+        (from_back D.contract D.ends) s.now }
+    ensures back_boxed { (s : Box D Global)
+        → KeepsBrackets (from_back ⟦<Box<D> as FallibleIterator>⟧.contract
+        ⟦<Box<D> as DoubleEndedFallibleIterator>⟧.ends) s
+        (from_back D.contract D.ends) s.value }
 {}
 
 /// Each hint of `Rev` is as sound as it is of its source from behind, and from behind as it is of its source.
 pub fn law_hints_rev<I: DoubleEndedFallibleIterator>()
-    ensures front { (s : Rev I) → KeepsBrackets ⟦<Rev<I> as FallibleIterator>⟧.contract s (from_back I.contract I.ends) (rev_parts s) }
-    ensures back { (s : Rev I) → KeepsBrackets (from_back ⟦<Rev<I> as FallibleIterator>⟧.contract ⟦<Rev<I> as DoubleEndedFallibleIterator>⟧.ends) s I.contract (rev_parts s) }
+    ensures front { (s : Rev I)
+        → KeepsBrackets ⟦<Rev<I> as FallibleIterator>⟧.contract s (from_back I.contract I.ends)
+        (rev_parts s) }
+    ensures back { (s : Rev I)
+        → KeepsBrackets (from_back ⟦<Rev<I> as FallibleIterator>⟧.contract
+        ⟦<Rev<I> as DoubleEndedFallibleIterator>⟧.ends) s
+        I.contract (rev_parts s) }
 {}
 
 /// From behind each hint of `Map` is as sound as the hint of its source that it is made of.
@@ -44,7 +57,10 @@ pub fn law_hints_back_map<
     F: FnMut(I::Item) -> Result<B, I::Error>,
 >()
 where
-    ensures { (s : Map I F) → KeepsBrackets (from_back ⟦<Map<I, F> as FallibleIterator>⟧.contract ⟦<Map<I, F> as DoubleEndedFallibleIterator>⟧.ends) s (from_back I.contract I.ends) (map_parts s).0 }
+    ensures { (s : Map I F)
+        → KeepsBrackets (from_back ⟦<Map<I, F> as FallibleIterator>⟧.contract
+        ⟦<Map<I, F> as DoubleEndedFallibleIterator>⟧.ends) s
+        (from_back I.contract I.ends) (map_parts s).0 }
 {}
 
 /// From behind each hint of `Inspect` is as sound as the hint of its source that it is made of.
@@ -54,20 +70,29 @@ pub fn law_hints_back_inspect<
 >()
 where
     I::Item: Drop,
-    ensures { (s : Inspect I F) → KeepsBrackets (from_back ⟦<Inspect<I, F> as FallibleIterator>⟧.contract ⟦<Inspect<I, F> as DoubleEndedFallibleIterator>⟧.ends) s (from_back I.contract I.ends) (inspect_parts s).0 }
+    ensures { (s : Inspect I F)
+        → KeepsBrackets (from_back ⟦<Inspect<I, F> as FallibleIterator>⟧.contract
+        ⟦<Inspect<I, F> as DoubleEndedFallibleIterator>⟧.ends) s
+        (from_back I.contract I.ends) (inspect_parts s).0 }
 {}
 
 /// From behind each hint of `MapErr` is as sound as the hint of its source that it is made of.
 pub fn law_hints_back_map_err<I: DoubleEndedFallibleIterator, B, F: FnMut(I::Error) -> B>()
 where
-    ensures { (s : MapErr I F) → KeepsBrackets (from_back ⟦<MapErr<I, F> as FallibleIterator>⟧.contract ⟦<MapErr<I, F> as DoubleEndedFallibleIterator>⟧.ends) s (from_back I.contract I.ends) (map_err_parts s).0 }
+    ensures { (s : MapErr I F)
+        → KeepsBrackets (from_back ⟦<MapErr<I, F> as FallibleIterator>⟧.contract
+        ⟦<MapErr<I, F> as DoubleEndedFallibleIterator>⟧.ends) s
+        (from_back I.contract I.ends) (map_err_parts s).0 }
 {}
 
 /// From behind each hint of `Cloned` is as sound as the hint of its source that it is made of.
 pub fn law_hints_back_cloned<'a, T: Clone + 'a, I: DoubleEndedFallibleIterator<Item = &'a T>>()
 where
     I::Error: From<AllocError>,
-    ensures { (s : Cloned I) → KeepsBrackets (from_back ⟦<Cloned<I> as FallibleIterator>⟧.contract ⟦<Cloned<I> as DoubleEndedFallibleIterator>⟧.ends) s (from_back I.contract I.ends) (cloned_parts s).0 }
+    ensures { (s : Cloned I)
+        → KeepsBrackets (from_back ⟦<Cloned<I> as FallibleIterator>⟧.contract
+        ⟦<Cloned<I> as DoubleEndedFallibleIterator>⟧.ends) s
+        (from_back I.contract I.ends) (cloned_parts s).0 }
 {}
 
 /// From behind each hint of `Filter` is as sound as the hint of its source that it is made of.
@@ -77,7 +102,10 @@ pub fn law_hints_back_filter<
 >()
 where
     I::Item: Drop,
-    ensures { (s : Filter I F) → KeepsBrackets (from_back ⟦<Filter<I, F> as FallibleIterator>⟧.contract ⟦<Filter<I, F> as DoubleEndedFallibleIterator>⟧.ends) s (from_back I.contract I.ends) (filter_parts s).0 }
+    ensures { (s : Filter I F)
+        → KeepsBrackets (from_back ⟦<Filter<I, F> as FallibleIterator>⟧.contract
+        ⟦<Filter<I, F> as DoubleEndedFallibleIterator>⟧.ends) s
+        (from_back I.contract I.ends) (filter_parts s).0 }
 {}
 
 /// From behind each hint of `FilterMap` is as sound as the hint of its source that it is made of.
@@ -87,7 +115,10 @@ pub fn law_hints_back_filter_map<
     F: FnMut(I::Item) -> Result<Option<B>, I::Error>,
 >()
 where
-    ensures { (s : FilterMap I F) → KeepsBrackets (from_back ⟦<FilterMap<I, F> as FallibleIterator>⟧.contract ⟦<FilterMap<I, F> as DoubleEndedFallibleIterator>⟧.ends) s (from_back I.contract I.ends) (filter_map_parts s).0 }
+    ensures { (s : FilterMap I F)
+        → KeepsBrackets (from_back ⟦<FilterMap<I, F> as FallibleIterator>⟧.contract
+        ⟦<FilterMap<I, F> as DoubleEndedFallibleIterator>⟧.ends) s
+        (from_back I.contract I.ends) (filter_map_parts s).0 }
 {}
 
 /// From behind each hint of `Chain` is as sound as the hints of the sides that are still drawn.
@@ -95,7 +126,17 @@ pub fn law_hints_back_chain<
     T: DoubleEndedFallibleIterator,
     U: DoubleEndedFallibleIterator<Item = T::Item, Error = T::Error>,
 >()
-    ensures both { (s : Chain T U) → (chain_parts s).2 ≡ Both → KeepsBracketsOfBoth (from_back ⟦<Chain<T, U> as FallibleIterator>⟧.contract ⟦<Chain<T, U> as DoubleEndedFallibleIterator>⟧.ends) s (from_back T.contract T.ends) (chain_parts s).0 (from_back U.contract U.ends) (chain_parts s).1 }
-    ensures front_alone { (s : Chain T U) → (chain_parts s).2 ≡ FrontAlone → KeepsBrackets (from_back ⟦<Chain<T, U> as FallibleIterator>⟧.contract ⟦<Chain<T, U> as DoubleEndedFallibleIterator>⟧.ends) s (from_back T.contract T.ends) (chain_parts s).0 }
-    ensures back_alone { (s : Chain T U) → (chain_parts s).2 ≡ BackAlone → KeepsBrackets (from_back ⟦<Chain<T, U> as FallibleIterator>⟧.contract ⟦<Chain<T, U> as DoubleEndedFallibleIterator>⟧.ends) s (from_back U.contract U.ends) (chain_parts s).1 }
+    ensures both { (s : Chain T U) → (chain_parts s).2 ≡ Both
+        → KeepsBracketsOfBoth (from_back ⟦<Chain<T, U> as FallibleIterator>⟧.contract
+        ⟦<Chain<T, U> as DoubleEndedFallibleIterator>⟧.ends) s
+        (from_back T.contract T.ends) (chain_parts s).0 (from_back U.contract U.ends)
+        (chain_parts s).1 }
+    ensures front_alone { (s : Chain T U) → (chain_parts s).2 ≡ FrontAlone
+        → KeepsBrackets (from_back ⟦<Chain<T, U> as FallibleIterator>⟧.contract
+        ⟦<Chain<T, U> as DoubleEndedFallibleIterator>⟧.ends) s
+        (from_back T.contract T.ends) (chain_parts s).0 }
+    ensures back_alone { (s : Chain T U) → (chain_parts s).2 ≡ BackAlone
+        → KeepsBrackets (from_back ⟦<Chain<T, U> as FallibleIterator>⟧.contract
+        ⟦<Chain<T, U> as DoubleEndedFallibleIterator>⟧.ends) s
+        (from_back U.contract U.ends) (chain_parts s).1 }
 {}

@@ -12,7 +12,9 @@ use fallible_core::traits::FallibleIterator;
 pub fn law_hints_filter<I: FallibleIterator, F: FnMut(&I::Item) -> Result<bool, I::Error>>()
 where
     I::Item: Drop,
-    ensures { (s : Filter I F) → KeepsBrackets ⟦<Filter<I, F> as FallibleIterator>⟧.contract s I.contract (filter_parts s).0 }
+    ensures { (s : Filter I F)
+        → KeepsBrackets ⟦<Filter<I, F> as FallibleIterator>⟧.contract s I.contract
+        (filter_parts s).0 }
 {}
 
 /// Each hint of `FilterMap` is as sound as the hint of its source that it is made of.
@@ -22,12 +24,16 @@ pub fn law_hints_filter_map<
     F: FnMut(I::Item) -> Result<Option<B>, I::Error>,
 >()
 where
-    ensures { (s : FilterMap I F) → KeepsBrackets ⟦<FilterMap<I, F> as FallibleIterator>⟧.contract s I.contract (filter_map_parts s).0 }
+    ensures { (s : FilterMap I F)
+        → KeepsBrackets ⟦<FilterMap<I, F> as FallibleIterator>⟧.contract s I.contract
+        (filter_map_parts s).0 }
 {}
 
 /// Each hint of `SkipWhile`, before its predicate's first false and after it, is as sound as the hint of its source that it is made of.
 pub fn law_hints_skip_while<I: FallibleIterator, P: FnMut(&I::Item) -> Result<bool, I::Error>>()
 where
     I::Item: Drop,
-    ensures { (s : SkipWhile I P) → KeepsBrackets ⟦<SkipWhile<I, P> as FallibleIterator>⟧.contract s I.contract (skip_while_parts s).0 }
+    ensures { (s : SkipWhile I P)
+        → KeepsBrackets ⟦<SkipWhile<I, P> as FallibleIterator>⟧.contract s I.contract
+        (skip_while_parts s).0 }
 {}

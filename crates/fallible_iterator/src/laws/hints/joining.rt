@@ -14,9 +14,15 @@ use std::alloc::AllocError;
 
 /// Each hint of `Chain` is as sound as the hints of the sides that are still drawn.
 pub fn law_hints_chain<T: FallibleIterator, U: FallibleIterator<Item = T::Item, Error = T::Error>>()
-    ensures both { (s : Chain T U) → (chain_parts s).2 ≡ Both → KeepsBracketsOfBoth ⟦<Chain<T, U> as FallibleIterator>⟧.contract s T.contract (chain_parts s).0 U.contract (chain_parts s).1 }
-    ensures front_alone { (s : Chain T U) → (chain_parts s).2 ≡ FrontAlone → KeepsBrackets ⟦<Chain<T, U> as FallibleIterator>⟧.contract s T.contract (chain_parts s).0 }
-    ensures back_alone { (s : Chain T U) → (chain_parts s).2 ≡ BackAlone → KeepsBrackets ⟦<Chain<T, U> as FallibleIterator>⟧.contract s U.contract (chain_parts s).1 }
+    ensures both { (s : Chain T U) → (chain_parts s).2 ≡ Both
+        → KeepsBracketsOfBoth ⟦<Chain<T, U> as FallibleIterator>⟧.contract s T.contract
+        (chain_parts s).0 U.contract (chain_parts s).1 }
+    ensures front_alone { (s : Chain T U) → (chain_parts s).2 ≡ FrontAlone
+        → KeepsBrackets ⟦<Chain<T, U> as FallibleIterator>⟧.contract s T.contract
+        (chain_parts s).0 }
+    ensures back_alone { (s : Chain T U) → (chain_parts s).2 ≡ BackAlone
+        → KeepsBrackets ⟦<Chain<T, U> as FallibleIterator>⟧.contract s U.contract
+        (chain_parts s).1 }
 {}
 
 /// Each hint of `Zip` is as sound as the hints of both sides.
@@ -24,12 +30,15 @@ pub fn law_hints_zip<T: FallibleIterator, U: FallibleIterator<Error = T::Error>>
 where
     T::Item: Drop,
     U::Item: Drop,
-    ensures { (s : Zip T U) → KeepsBracketsOfBoth ⟦<Zip<T, U> as FallibleIterator>⟧.contract s T.contract (zip_parts s).0 U.contract (zip_parts s).1 }
+    ensures { (s : Zip T U)
+        → KeepsBracketsOfBoth ⟦<Zip<T, U> as FallibleIterator>⟧.contract s T.contract
+        (zip_parts s).0 U.contract (zip_parts s).1 }
 {}
 
 /// Each hint of `Flatten` brackets what comes from it.
 pub fn law_hints_flatten<U: IntoFallibleIterator, I: FallibleIterator<Item = U, Error = U::Error>>()
-    ensures { (s : Flatten I U.IntoFallibleIter) → SoundHints ⟦<Flatten<I, U::IntoFallibleIter> as FallibleIterator>⟧.contract s }
+    ensures { (s : Flatten I U.IntoFallibleIter)
+        → SoundHints ⟦<Flatten<I, U::IntoFallibleIter> as FallibleIterator>⟧.contract s }
 {}
 
 /// Each hint of `FlatMap` brackets what comes from it.
@@ -39,13 +48,20 @@ pub fn law_hints_flat_map<
     F: FnMut(I::Item) -> Result<U, I::Error>,
 >()
 where
-    ensures { (s : Flatten (Map I F) U.IntoFallibleIter) → SoundHints ⟦<Flatten<Map<I, F>, U::IntoFallibleIter> as FallibleIterator>⟧.contract s }
+    ensures { (s : Flatten (Map I F) U.IntoFallibleIter)
+        → SoundHints ⟦<Flatten<Map<I, F>, U::IntoFallibleIter> as FallibleIterator>⟧.contract s }
 {}
 
 /// Each hint of `Cycle` brackets what comes from it wherever the lower bound of the kept source's hint bounds what comes from each clone of it; so, where each clone equals the kept source, it is as sound as the kept source's hint.
 pub fn law_hints_cycle<I: FallibleIterator + Clone>()
 where
     I::Error: From<AllocError>,
-    ensures clones { (s : Cycle I) (h : ℕ × Option ℕ) → ⟦<Cycle<I> as FallibleIterator>⟧.contract.hints s h → (k : ℕ × Option ℕ) × I.contract.hints (cycle_parts s).1 k × (((c : I) → I.is_clone (cycle_parts s).1 c → BoundsBelow I.contract.steps c k.0) → Brackets ⟦<Cycle<I> as FallibleIterator>⟧.contract.steps s h) }
-    ensures equal { (s : Cycle I) → ((c : I) → I.is_clone (cycle_parts s).1 c → c ≡ (cycle_parts s).1) → KeepsBrackets ⟦<Cycle<I> as FallibleIterator>⟧.contract s I.contract (cycle_parts s).1 }
+    ensures clones { (s : Cycle I) (h : ℕ × Option ℕ)
+        → ⟦<Cycle<I> as FallibleIterator>⟧.contract.hints s h
+        → (k : ℕ × Option ℕ) × I.contract.hints (cycle_parts s).1 k
+        × (((c : I) → I.is_clone (cycle_parts s).1 c → BoundsBelow I.contract.steps c k.0)
+        → Brackets ⟦<Cycle<I> as FallibleIterator>⟧.contract.steps s h) }
+    ensures equal { (s : Cycle I)
+        → ((c : I) → I.is_clone (cycle_parts s).1 c → c ≡ (cycle_parts s).1)
+        → KeepsBrackets ⟦<Cycle<I> as FallibleIterator>⟧.contract s I.contract (cycle_parts s).1 }
 {}

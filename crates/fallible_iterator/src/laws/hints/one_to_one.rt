@@ -15,27 +15,34 @@ use std::alloc::AllocError;
 /// Each hint of `Map` is as sound as the hint of its source that it is made of.
 pub fn law_hints_map<I: FallibleIterator, B, F: FnMut(I::Item) -> Result<B, I::Error>>()
 where
-    ensures { (s : Map I F) → KeepsBrackets ⟦<Map<I, F> as FallibleIterator>⟧.contract s I.contract (map_parts s).0 }
+    ensures { (s : Map I F)
+        → KeepsBrackets ⟦<Map<I, F> as FallibleIterator>⟧.contract s I.contract (map_parts s).0 }
 {}
 
 /// Each hint of `Inspect` is as sound as the hint of its source that it is made of.
 pub fn law_hints_inspect<I: FallibleIterator, F: FnMut(&I::Item) -> Result<(), I::Error>>()
 where
     I::Item: Drop,
-    ensures { (s : Inspect I F) → KeepsBrackets ⟦<Inspect<I, F> as FallibleIterator>⟧.contract s I.contract (inspect_parts s).0 }
+    ensures { (s : Inspect I F)
+        → KeepsBrackets ⟦<Inspect<I, F> as FallibleIterator>⟧.contract s I.contract
+        (inspect_parts s).0 }
 {}
 
 /// Each hint of `MapErr` is as sound as the hint of its source that it is made of.
 pub fn law_hints_map_err<I: FallibleIterator, B, F: FnMut(I::Error) -> B>()
 where
-    ensures { (s : MapErr I F) → KeepsBrackets ⟦<MapErr<I, F> as FallibleIterator>⟧.contract s I.contract (map_err_parts s).0 }
+    ensures { (s : MapErr I F)
+        → KeepsBrackets ⟦<MapErr<I, F> as FallibleIterator>⟧.contract s I.contract
+        (map_err_parts s).0 }
 {}
 
 /// Each hint of `Enumerate` is as sound as the hint of its source that it is made of.
 pub fn law_hints_enumerate<I: FallibleIterator>()
 where
     I::Item: Drop,
-    ensures { (s : Enumerate I) → KeepsBrackets ⟦<Enumerate<I> as FallibleIterator>⟧.contract s I.contract (enumerate_parts s).0 }
+    ensures { (s : Enumerate I)
+        → KeepsBrackets ⟦<Enumerate<I> as FallibleIterator>⟧.contract s I.contract
+        (enumerate_parts s).0 }
 {}
 
 /// Each hint of `Scan` is as sound as the hint of its source that it is made of.
@@ -46,12 +53,15 @@ pub fn law_hints_scan<
     F: FnMut(&mut St, I::Item) -> Result<Option<B>, I::Error>,
 >()
 where
-    ensures { (s : Scan I St F) → KeepsBrackets ⟦<Scan<I, St, F> as FallibleIterator>⟧.contract s I.contract (scan_parts s).0 }
+    ensures { (s : Scan I St F)
+        → KeepsBrackets ⟦<Scan<I, St, F> as FallibleIterator>⟧.contract s I.contract
+        (scan_parts s).0 }
 {}
 
 /// Each hint of `Cloned` is as sound as the hint of its source that it is made of.
 pub fn law_hints_cloned<'a, T: Clone + 'a, I: FallibleIterator<Item = &'a T>>()
 where
     I::Error: From<AllocError>,
-    ensures { (s : Cloned I) → KeepsBrackets ⟦<Cloned<I> as FallibleIterator>⟧.contract s I.contract (cloned_parts s).0 }
+    ensures { (s : Cloned I)
+        → KeepsBrackets ⟦<Cloned<I> as FallibleIterator>⟧.contract s I.contract (cloned_parts s).0 }
 {}

@@ -10,7 +10,13 @@ use fallible_core::traits::FallibleIterator;
 pub fn law_hints_peekable<I: FallibleIterator>()
 where
     I::Item: Drop,
-    ensures none_held { (s : Peekable I I.Item I.Error) → (peekable_parts s).1 ≡ None → KeepsBrackets ⟦<Peekable<I> as FallibleIterator>⟧.contract s I.contract (peekable_parts s).0 }
-    ensures item_held { (s : Peekable I I.Item I.Error) (x : I.Item) → (peekable_parts s).1 ≡ Some (Some x) → KeepsBrackets ⟦<Peekable<I> as FallibleIterator>⟧.contract s I.contract (peekable_parts s).0 }
-    ensures end_held { (s : Peekable I I.Item I.Error) → (peekable_parts s).1 ≡ Some None → SoundHints ⟦<Peekable<I> as FallibleIterator>⟧.contract s }
+    ensures none_held { (s : Peekable I I.Item I.Error) → (peekable_parts s).1 ≡ None
+        → KeepsBrackets ⟦<Peekable<I> as FallibleIterator>⟧.contract s I.contract
+        (peekable_parts s).0 }
+    ensures item_held { (s : Peekable I I.Item I.Error) (x : I.Item)
+        → (peekable_parts s).1 ≡ Some (Some x)
+        → KeepsBrackets ⟦<Peekable<I> as FallibleIterator>⟧.contract s I.contract
+        (peekable_parts s).0 }
+    ensures end_held { (s : Peekable I I.Item I.Error) → (peekable_parts s).1 ≡ Some None
+        → SoundHints ⟦<Peekable<I> as FallibleIterator>⟧.contract s }
 {}

@@ -1,8 +1,7 @@
 // The hints of the sources.
-ghost use Rattle.std.specs.Prelude.{◌≡◌, ℕ, Option, Result, Ok};
-ghost use Rattle.std.specs.Iterator.{at_most};
+ghost use Rattle.std.specs.Prelude.{ℕ, Option, Result, Ok};
 ghost use Rattle.fallible_contract.specs.Ends.{from_back};
-ghost use Rattle.fallible_iterator.specs.SoundHints.{Brackets, BracketsCalls, CountsDown, SoundAbove, SoundHints};
+ghost use Rattle.fallible_iterator.specs.SoundHints.{Brackets, BracketsCalls, SoundAbove, SoundHints, SoundWhereCounted};
 ghost use Rattle.fallible_iterator.specs.Sources.Convert.{convert_parts};
 ghost use Rattle.fallible_iterator.specs.Sources.IntoFallible.{into_fallible_parts};
 
@@ -12,30 +11,49 @@ use std::alloc::AllocError;
 
 /// A hint brackets what comes from `Convert` wherever it brackets, of the std iterator's calls of `next`, those that give `Ok` alone. The upper bound of each hint is never too low; and where what the std iterator says remains is just what calls count down, each hint brackets.
 pub fn law_hints_convert<T, E, I: std::iter::Iterator<Item = Result<T, E>>>()
-    ensures brackets { (s : Convert I) (h : ℕ × Option ℕ) → BracketsCalls I.next_gives Ok (convert_parts s) h → Brackets ⟦<Convert<I> as FallibleIterator>⟧.contract.steps s h }
+    ensures brackets { (s : Convert I) (h : ℕ × Option ℕ)
+        → BracketsCalls I.next_gives Ok (convert_parts s) h
+        → Brackets ⟦<Convert<I> as FallibleIterator>⟧.contract.steps s h }
     ensures above { (s : Convert I) → SoundAbove ⟦<Convert<I> as FallibleIterator>⟧.contract s }
-    ensures counted { (left : I → ℕ) → CountsDown left I.next_gives → (s : Convert I) → I.remaining (convert_parts s) ≡ at_most (left (convert_parts s)) → SoundHints ⟦<Convert<I> as FallibleIterator>⟧.contract s }
+    ensures counted { SoundWhereCounted convert_parts I.next_gives I.remaining
+        ⟦<Convert<I> as FallibleIterator>⟧.contract }
 {}
 
 /// The same of `Convert` from behind, by calls of `next_back`.
 pub fn law_hints_back_convert<T, E, I: std::iter::DoubleEndedIterator<Item = Result<T, E>>>()
-    ensures brackets { (s : Convert I) (h : ℕ × Option ℕ) → BracketsCalls I.next_back_gives Ok (convert_parts s) h → Brackets ⟦<Convert<I> as DoubleEndedFallibleIterator>⟧.ends.steps s h }
-    ensures above { (s : Convert I) → SoundAbove (from_back ⟦<Convert<I> as FallibleIterator>⟧.contract ⟦<Convert<I> as DoubleEndedFallibleIterator>⟧.ends) s }
-    ensures counted { (left : I → ℕ) → CountsDown left I.next_back_gives → (s : Convert I) → I.remaining (convert_parts s) ≡ at_most (left (convert_parts s)) → SoundHints (from_back ⟦<Convert<I> as FallibleIterator>⟧.contract ⟦<Convert<I> as DoubleEndedFallibleIterator>⟧.ends) s }
+    ensures brackets { (s : Convert I) (h : ℕ × Option ℕ)
+        → BracketsCalls I.next_back_gives Ok (convert_parts s) h
+        → Brackets ⟦<Convert<I> as DoubleEndedFallibleIterator>⟧.ends.steps s h }
+    ensures above { (s : Convert I)
+        → SoundAbove (from_back ⟦<Convert<I> as FallibleIterator>⟧.contract
+        ⟦<Convert<I> as DoubleEndedFallibleIterator>⟧.ends) s }
+    ensures counted { SoundWhereCounted convert_parts I.next_back_gives I.remaining
+        (from_back ⟦<Convert<I> as FallibleIterator>⟧.contract
+        ⟦<Convert<I> as DoubleEndedFallibleIterator>⟧.ends) }
 {}
 
 /// A hint brackets what comes from `IntoFallible` wherever it brackets what calls of the std iterator's `next` give. The upper bound of each hint is never too low; and where what the std iterator says remains is just what calls count down, each hint brackets.
 pub fn law_hints_into_fallible<T, I: std::iter::Iterator<Item = T>>()
-    ensures brackets { (s : IntoFallible I) (h : ℕ × Option ℕ) → BracketsCalls I.next_gives (λ (x : T). x) (into_fallible_parts s) h → Brackets ⟦<IntoFallible<I> as FallibleIterator>⟧.contract.steps s h }
-    ensures above { (s : IntoFallible I) → SoundAbove ⟦<IntoFallible<I> as FallibleIterator>⟧.contract s }
-    ensures counted { (left : I → ℕ) → CountsDown left I.next_gives → (s : IntoFallible I) → I.remaining (into_fallible_parts s) ≡ at_most (left (into_fallible_parts s)) → SoundHints ⟦<IntoFallible<I> as FallibleIterator>⟧.contract s }
+    ensures brackets { (s : IntoFallible I) (h : ℕ × Option ℕ)
+        → BracketsCalls I.next_gives (λ (x : T). x) (into_fallible_parts s) h
+        → Brackets ⟦<IntoFallible<I> as FallibleIterator>⟧.contract.steps s h }
+    ensures above { (s : IntoFallible I)
+        → SoundAbove ⟦<IntoFallible<I> as FallibleIterator>⟧.contract s }
+    ensures counted { SoundWhereCounted into_fallible_parts I.next_gives I.remaining
+        ⟦<IntoFallible<I> as FallibleIterator>⟧.contract }
 {}
 
 /// The same of `IntoFallible` from behind, by calls of `next_back`.
 pub fn law_hints_back_into_fallible<T, I: std::iter::DoubleEndedIterator<Item = T>>()
-    ensures brackets { (s : IntoFallible I) (h : ℕ × Option ℕ) → BracketsCalls I.next_back_gives (λ (x : T). x) (into_fallible_parts s) h → Brackets ⟦<IntoFallible<I> as DoubleEndedFallibleIterator>⟧.ends.steps s h }
-    ensures above { (s : IntoFallible I) → SoundAbove (from_back ⟦<IntoFallible<I> as FallibleIterator>⟧.contract ⟦<IntoFallible<I> as DoubleEndedFallibleIterator>⟧.ends) s }
-    ensures counted { (left : I → ℕ) → CountsDown left I.next_back_gives → (s : IntoFallible I) → I.remaining (into_fallible_parts s) ≡ at_most (left (into_fallible_parts s)) → SoundHints (from_back ⟦<IntoFallible<I> as FallibleIterator>⟧.contract ⟦<IntoFallible<I> as DoubleEndedFallibleIterator>⟧.ends) s }
+    ensures brackets { (s : IntoFallible I) (h : ℕ × Option ℕ)
+        → BracketsCalls I.next_back_gives (λ (x : T). x) (into_fallible_parts s) h
+        → Brackets ⟦<IntoFallible<I> as DoubleEndedFallibleIterator>⟧.ends.steps s h }
+    ensures above { (s : IntoFallible I)
+        → SoundAbove (from_back ⟦<IntoFallible<I> as FallibleIterator>⟧.contract
+        ⟦<IntoFallible<I> as DoubleEndedFallibleIterator>⟧.ends) s }
+    ensures counted { SoundWhereCounted into_fallible_parts I.next_back_gives I.remaining
+        (from_back ⟦<IntoFallible<I> as FallibleIterator>⟧.contract
+        ⟦<IntoFallible<I> as DoubleEndedFallibleIterator>⟧.ends) }
 {}
 
 /// Each hint of `FromFn` brackets what comes from it.
