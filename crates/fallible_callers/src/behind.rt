@@ -5,9 +5,10 @@ ghost use Rattle.std.specs.declared.vec.IntoIter.{IntoIter};
 ghost use Rattle.std.specs.declared.alloc.Global.{Global};
 ghost use Rattle.fallible_contract.specs.declared.answers.Side.{Side};
 ghost use Rattle.fallible_contract.specs.Traces.{Answered};
-ghost use Rattle.fallible_contract.specs.Listed.{Listed, Mix, Interleaves};
+ghost use Rattle.fallible_contract.specs.Listed.{Listed};
 ghost use Rattle.fallible_contract.specs.Lists.{results, reversed, folded, CollectedAs};
 ghost use Rattle.fallible_iterator.specs.declared.sources.convert.Convert.{Convert};
+ghost use Rattle.fallible_iterator.specs.Listing.{DrawsInterleave};
 ghost use Rattle.fallible_iterator.specs.Sources.Convert.{convert_parts};
 
 use fallible_iterator::laws::{
@@ -18,14 +19,16 @@ use std::alloc::{AllocError, Global};
 
 /// The last reading.
 pub fn last_drawn(readings: Vec<Result<u32, u8>>) -> Result<Option<u32>, u8>
-    ensures { (front : List (Result ℕ ℕ)) (last : ℕ) → readings.items ≡ front ++ Ok last ∷ [] → result ≡ Ok (Some last) }
+    ensures { (front : List (Result ℕ ℕ)) (last : ℕ) → readings.items ≡ front ++ Ok last ∷ []
+        → result ≡ Ok (Some last) }
 {
     convert(readings.into_iter()).next_back()
 }
 
 /// The first reading and the last one, which are drawn in turn.
 pub fn first_and_last(readings: Vec<Result<u32, u8>>) -> Result<Option<(u32, u32)>, u8>
-    ensures { (first last : ℕ) (between : List (Result ℕ ℕ)) → readings.items ≡ Ok first ∷ (between ++ Ok last ∷ []) → result ≡ Ok (Some (first, last)) }
+    ensures { (first last : ℕ) (between : List (Result ℕ ℕ))
+        → readings.items ≡ Ok first ∷ (between ++ Ok last ∷ []) → result ≡ Ok (Some (first, last)) }
 {
     let mut it = convert(readings.into_iter());
     match it.next()? {
@@ -54,7 +57,8 @@ pub fn last_first(alloc: Global, readings: Vec<Result<u32, u8>>) -> Result<Vec<u
 
 /// The sum of the readings from behind, modulo 2 ^ 64, or the first failure from behind. The law says what `convert` lists from behind, where no `rev` does.
 pub fn sum_from_behind(readings: Vec<Result<u32, u8>>) -> Result<u64, u8>
-    ensures { result ≡ folded (λ e. e) (λ s x. Ok ((s + x) % 2 ^ 64)) 0 (reversed (results readings.items)) }
+    ensures { result ≡ folded (λ e. e) (λ s x. Ok ((s + x) % 2 ^ 64)) 0
+        (reversed (results readings.items)) }
 {
     law_back_convert::<u32, u8, std::vec::IntoIter<Result<u32, u8>, Global>>();
     convert(readings.into_iter()).rfold(
@@ -104,8 +108,17 @@ pub fn last_after_three(readings: Vec<Result<u32, u8>>) -> Result<Option<u64>, u
 
 /// What a vector's readings list from both ends, said by the laws: the readings that are left. So of draws from both ends what came in front, what is left and what came from behind, reversed, are those readings.
 pub fn law_readings()
-    ensures listed { (s : Convert (IntoIter (Result ℕ ℕ) Global)) → Listed ⟦<Convert<std::vec::IntoIter<Result<u32, u8>, Global>> as FallibleIterator>⟧.contract.steps ⟦<Convert<std::vec::IntoIter<Result<u32, u8>, Global>> as DoubleEndedFallibleIterator>⟧.ends.steps s (results (into_iter_items (convert_parts s))) }
-    ensures interleaves { (s t : Convert (IntoIter (Result ℕ ℕ) Global)) (drawn : List (Side × Answered ℕ ℕ)) → Mix ⟦<Convert<std::vec::IntoIter<Result<u32, u8>, Global>> as FallibleIterator>⟧.contract.steps ⟦<Convert<std::vec::IntoIter<Result<u32, u8>, Global>> as DoubleEndedFallibleIterator>⟧.ends.steps s drawn t → Interleaves ⟦<Convert<std::vec::IntoIter<Result<u32, u8>, Global>> as FallibleIterator>⟧.contract.steps ⟦<Convert<std::vec::IntoIter<Result<u32, u8>, Global>> as DoubleEndedFallibleIterator>⟧.ends.steps (results (into_iter_items (convert_parts s))) drawn t }
+    ensures listed { (s : Convert (IntoIter (Result ℕ ℕ) Global))
+        → Listed
+        ⟦<Convert<std::vec::IntoIter<Result<u32, u8>, Global>> as FallibleIterator>⟧.contract.steps
+        ⟦<Convert<std::vec::IntoIter<Result<u32, u8>, Global>> as DoubleEndedFallibleIterator>⟧.ends.steps
+        s (results (into_iter_items (convert_parts s))) }
+    ensures interleaves { (s t : Convert (IntoIter (Result ℕ ℕ) Global))
+        (drawn : List (Side × Answered ℕ ℕ))
+        → DrawsInterleave
+        ⟦<Convert<std::vec::IntoIter<Result<u32, u8>, Global>> as FallibleIterator>⟧.contract.steps
+        ⟦<Convert<std::vec::IntoIter<Result<u32, u8>, Global>> as DoubleEndedFallibleIterator>⟧.ends.steps
+        (results (into_iter_items (convert_parts s))) s drawn t }
 {
     law_listed_convert::<u32, u8, std::vec::IntoIter<Result<u32, u8>, Global>>();
     law_interleave::<Convert<std::vec::IntoIter<Result<u32, u8>, Global>>>();

@@ -53,7 +53,9 @@ pub fn failures(readings: Vec<Result<u32, u8>>) -> u32 {
 
 /// The numbers, each one greater, modulo 2 ^ 32.
 pub fn one_more(alloc: Global, numbers: Vec<u32>) -> Result<Vec<u32>, AllocError>
-    ensures { IfOk result (λ made. made.items ≡ unwrapped {E = Infallible} (mapped (λ x. Ok ((x + 1) % 2 ^ 32)) (items numbers.items))) }
+    ensures { IfOk result
+        (λ made. made.items ≡ unwrapped {E = Infallible}
+        (mapped (λ x. Ok ((x + 1) % 2 ^ 32)) (items numbers.items))) }
 {
     numbers
         .into_iter()
@@ -90,7 +92,8 @@ pub fn there_and_back(readings: Vec<Result<u32, u8>>) -> Result<usize, u8>
 
 /// The same up to the tenth reading, which a fallible adapter takes on the way.
 pub fn there_and_back_of_ten(readings: Vec<Result<u32, u8>>) -> Result<usize, u8>
-    ensures { result ≡ counted (filtered (λ x. Ok (nat_lt 100 x)) (taken 10 (results readings.items))) }
+    ensures { result ≡ counted
+        (filtered (λ x. Ok (nat_lt 100 x)) (taken 10 (results readings.items))) }
 {
     law_iterator::<Take<Convert<std::vec::IntoIter<Result<u32, u8>, Global>>>>();
     convert(readings.into_iter())

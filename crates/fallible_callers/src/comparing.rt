@@ -13,7 +13,9 @@ pub fn order_of_doubled(
     left: Vec<Result<u32, u8>>,
     right: Vec<Result<u32, u8>>,
 ) -> Result<Ordering, u8>
-    ensures { read_as (λ o. Some o) result ≡ compared (by_cmp nat_cmp) (mapped (λ x. Ok (x * 2 % 2 ^ 32)) (results left.items)) (filtered (λ x. Ok (nat_lt 100 x)) (results right.items)) }
+    ensures { read_as (λ o. Some o) result ≡ compared (by_cmp nat_cmp)
+        (mapped (λ x. Ok (x * 2 % 2 ^ 32)) (results left.items))
+        (filtered (λ x. Ok (nat_lt 100 x)) (results right.items)) }
 {
     convert(left.into_iter())
         .map(|reading: u32| Ok(reading.wrapping_mul(2)))
@@ -37,7 +39,9 @@ pub fn same_readings(left: Vec<Result<u32, u8>>, right: Vec<Result<u32, u8>>) ->
 
 /// Whether both sides have the same readings above 100, or the failure that comes first.
 pub fn same_above_100(left: Vec<Result<u32, u8>>, right: Vec<Result<u32, u8>>) -> Result<bool, u8>
-    ensures { result ≡ read_as reads_eq (compared (by_eq nat_eq) (filtered (λ x. Ok (nat_lt 100 x)) (results left.items)) (filtered (λ x. Ok (nat_lt 100 x)) (results right.items))) }
+    ensures { result ≡ read_as reads_eq
+        (compared (by_eq nat_eq) (filtered (λ x. Ok (nat_lt 100 x)) (results left.items))
+        (filtered (λ x. Ok (nat_lt 100 x)) (results right.items))) }
 {
     convert(left.into_iter())
         .filter(|reading| Ok(*reading > 100))
@@ -102,7 +106,9 @@ where
     requires left { I.contract.can left }
     requires right { J.contract.can right }
     requires finite { I.contract.has_end left }
-    ensures { (a b : List (Result I.Item I.Error)) → Lists I.contract.steps left a → Lists J.contract.steps right b → result ≡ read_as reads_eq (compared (by_eq I.Item.eq) a b) }
+    ensures { (a b : List (Result I.Item I.Error)) → Lists I.contract.steps left a
+        → Lists J.contract.steps right b
+        → result ≡ read_as reads_eq (compared (by_eq I.Item.eq) a b) }
 {
     left.eq(right)
 }
@@ -116,7 +122,9 @@ where
     requires left { I.contract.can left }
     requires right { J.contract.can right }
     requires finite { J.contract.has_end right }
-    ensures { (a b : List (Result I.Item I.Error)) → Lists I.contract.steps left a → Lists J.contract.steps right b → read_as (λ o. Some o) result ≡ compared (by_cmp I.Item.cmp) a b }
+    ensures { (a b : List (Result I.Item I.Error)) → Lists I.contract.steps left a
+        → Lists J.contract.steps right b
+        → read_as (λ o. Some o) result ≡ compared (by_cmp I.Item.cmp) a b }
 {
     left.cmp(right)
 }

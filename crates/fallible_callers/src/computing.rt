@@ -16,7 +16,8 @@ pub fn above_100(numbers: &[u32]) -> Result<usize, u8>
 
 /// How many of the first ten readings are above 100, or the first failure before.
 pub fn above_100_of_ten(readings: Vec<Result<u32, u8>>) -> Result<usize, u8>
-    ensures { result ≡ counted (filtered (λ x. Ok (nat_lt 100 x)) (taken 10 (results readings.items))) }
+    ensures { result ≡ counted
+        (filtered (λ x. Ok (nat_lt 100 x)) (taken 10 (results readings.items))) }
 {
     convert(readings.into_iter())
         .take(10)
@@ -26,7 +27,8 @@ pub fn above_100_of_ten(readings: Vec<Result<u32, u8>>) -> Result<usize, u8>
 
 /// How many of the readings above 100 are still above 1000 once they are doubled.
 pub fn doubled_above_1000(readings: Vec<Result<u32, u8>>) -> Result<usize, u8>
-    ensures { result ≡ counted (filtered (λ x. Ok (nat_lt 1000 x)) (mapped (λ x. Ok (x * 2)) (filtered (λ x. Ok (nat_lt 100 x)) (results readings.items)))) }
+    ensures { result ≡ counted (filtered (λ x. Ok (nat_lt 1000 x))
+        (mapped (λ x. Ok (x * 2)) (filtered (λ x. Ok (nat_lt 100 x)) (results readings.items)))) }
 {
     convert(readings.into_iter())
         .filter(|reading| Ok(*reading > 100))
@@ -37,7 +39,8 @@ pub fn doubled_above_1000(readings: Vec<Result<u32, u8>>) -> Result<usize, u8>
 
 /// How many readings there are, where none is above 100, and else the first failure: the code 7 for a reading above 100.
 pub fn all_up_to_100(readings: Vec<Result<u32, u8>>) -> Result<usize, u8>
-    ensures { result ≡ counted (mapped (λ x. if nat_lt 100 x then Err 7 else Ok x) (results readings.items)) }
+    ensures { result ≡ counted
+        (mapped (λ x. if nat_lt 100 x then Err 7 else Ok x) (results readings.items)) }
 {
     convert(readings.into_iter())
         .map(|reading| if reading > 100 { Err(7) } else { Ok(reading) })
@@ -78,7 +81,8 @@ pub fn collected_above_100(
     alloc: Global,
     readings: Vec<Result<u32, u8>>,
 ) -> Result<Vec<u32>, Fault<u8>>
-    ensures { CollectedAs (λ xs v. v.items ≡ xs) (filtered (λ x. Ok (nat_lt 100 x)) (results readings.items)) result }
+    ensures { CollectedAs (λ xs v. v.items ≡ xs)
+        (filtered (λ x. Ok (nat_lt 100 x)) (results readings.items)) result }
 {
     convert(readings.into_iter())
         .filter(|reading| Ok(*reading > 100))
@@ -87,7 +91,9 @@ pub fn collected_above_100(
 
 /// The running sums of the readings, modulo 2 ^ 64, where memory suffices.
 pub fn running_sums(alloc: Global, readings: Vec<Result<u32, u8>>) -> Result<Vec<u64>, Fault<u8>>
-    ensures { CollectedAs (λ xs v. v.items ≡ xs) (scanned (λ s x. (Ok (Some ((s + x) % 2 ^ 64)), (s + x) % 2 ^ 64)) 0 (results readings.items)) result }
+    ensures { CollectedAs (λ xs v. v.items ≡ xs)
+        (scanned (λ s x. (Ok (Some ((s + x) % 2 ^ 64)), (s + x) % 2 ^ 64)) 0
+        (results readings.items)) result }
 {
     convert(readings.into_iter())
         .scan(0, |sum: &mut u64, reading: u32| {
@@ -99,7 +105,8 @@ pub fn running_sums(alloc: Global, readings: Vec<Result<u32, u8>>) -> Result<Vec
 
 /// The sum of the products of two columns, place by place, modulo 2 ^ 64.
 pub fn products(left: &[u32], right: &[u32]) -> Result<u64, u8>
-    ensures { result ≡ folded (λ e. e) (λ s p. Ok ((s + p.0 * p.1) % 2 ^ 64)) 0 (zipped (items left.now) (items right.now)) }
+    ensures { result ≡ folded (λ e. e) (λ s p. Ok ((s + p.0 * p.1) % 2 ^ 64)) 0
+        (zipped (items left.now) (items right.now)) }
 {
     convert(left.iter().copied().map(Ok::<u32, u8>))
         .zip(convert(right.iter().copied().map(Ok)))
@@ -113,7 +120,9 @@ pub fn products(left: &[u32], right: &[u32]) -> Result<u64, u8>
 
 /// The readings above 100 with their places, from the first one that is above 10 on and up to the first one that is 0.
 pub fn places(alloc: Global, readings: Vec<Result<u32, u8>>) -> Result<Vec<(usize, u32)>, Fault<u8>>
-    ensures { CollectedAs (λ xs v. v.items ≡ xs) (taken_while (λ p. Ok (nat_lt 0 p.1)) (skipped_while (λ p. Ok (nat_lt p.1 11)) (numbered 0 (results readings.items)))) result }
+    ensures { CollectedAs (λ xs v. v.items ≡ xs)
+        (taken_while (λ p. Ok (nat_lt 0 p.1))
+        (skipped_while (λ p. Ok (nat_lt p.1 11)) (numbered 0 (results readings.items)))) result }
 {
     convert(readings.into_iter())
         .enumerate()

@@ -8,7 +8,8 @@ use std::alloc::Global;
 
 /// Whether all readings that aren't 0 are above 100, or the failure that comes first.
 pub fn all_above_100(readings: Vec<Result<u32, u8>>) -> Result<bool, u8>
-    ensures { result ≡ all_of (λ x. Ok (nat_lt 100 x)) (filtered (λ x. Ok (nat_lt 0 x)) (results readings.items)) }
+    ensures { result ≡ all_of (λ x. Ok (nat_lt 100 x))
+        (filtered (λ x. Ok (nat_lt 0 x)) (results readings.items)) }
 {
     convert(readings.into_iter())
         .filter(|reading| Ok(*reading > 0))
@@ -33,7 +34,8 @@ pub fn place_above_100(readings: Vec<Result<u32, u8>>) -> Result<Option<usize>, 
 
 /// The greatest reading above 100, or the first failure.
 pub fn greatest_above_100(readings: Vec<Result<u32, u8>>) -> Result<Option<u32>, u8>
-    ensures { result ≡ greatest nat_cmp (filtered (λ x. Ok (nat_lt 100 x)) (results readings.items)) }
+    ensures { result ≡ greatest nat_cmp
+        (filtered (λ x. Ok (nat_lt 100 x)) (results readings.items)) }
 {
     convert(readings.into_iter())
         .filter(|reading| Ok(*reading > 100))
@@ -42,7 +44,9 @@ pub fn greatest_above_100(readings: Vec<Result<u32, u8>>) -> Result<Option<u32>,
 
 /// The greatest double of the readings above 100 among the first ten, or the first failure.
 pub fn greatest_double_of_ten(readings: Vec<Result<u32, u8>>) -> Result<Option<u64>, u8>
-    ensures { result ≡ greatest nat_cmp (mapped (λ x. Ok (x * 2)) (filtered (λ x. Ok (nat_lt 100 x)) (taken 10 (results readings.items)))) }
+    ensures { result ≡ greatest nat_cmp
+        (mapped (λ x. Ok (x * 2))
+        (filtered (λ x. Ok (nat_lt 100 x)) (taken 10 (results readings.items)))) }
 {
     convert(readings.into_iter())
         .take(10)
@@ -53,7 +57,9 @@ pub fn greatest_double_of_ten(readings: Vec<Result<u32, u8>>) -> Result<Option<u
 
 /// The least double above 1000 of the readings after the first, or the first failure.
 pub fn least_double_above_1000(readings: Vec<Result<u32, u8>>) -> Result<Option<u64>, u8>
-    ensures { result ≡ least nat_cmp (filtered (λ x. Ok (nat_lt 1000 x)) (mapped (λ x. Ok (x * 2)) (skipped 1 (results readings.items)))) }
+    ensures { result ≡ least nat_cmp
+        (filtered (λ x. Ok (nat_lt 1000 x))
+        (mapped (λ x. Ok (x * 2)) (skipped 1 (results readings.items)))) }
 {
     convert(readings.into_iter())
         .skip(1)
@@ -73,7 +79,8 @@ pub fn first_above_100(readings: Vec<Result<u32, u8>>) -> Result<Option<u32>, u8
 
 /// The last of the first ten readings that are above 100, if there is one, or the failure that comes first.
 pub fn last_above_100(readings: Vec<Result<u32, u8>>) -> Result<Option<u32>, u8>
-    ensures { result ≡ last_of (filtered (λ x. Ok (nat_lt 100 x)) (taken 10 (results readings.items))) }
+    ensures { result ≡ last_of
+        (filtered (λ x. Ok (nat_lt 100 x)) (taken 10 (results readings.items))) }
 {
     convert(readings.into_iter())
         .take(10)
@@ -86,7 +93,8 @@ pub fn parted_at_100(
     alloc: Global,
     readings: Vec<Result<u32, u8>>,
 ) -> Result<(Vec<u32>, Vec<u32>), Fault<u8>>
-    ensures { PartedAs (λ xs v. v.items ≡ xs) (λ x. Ok (nat_lt 100 x)) (taken 10 (results readings.items)) result }
+    ensures { PartedAs (λ xs v. v.items ≡ xs) (λ x. Ok (nat_lt 100 x))
+        (taken 10 (results readings.items)) result }
 {
     convert(readings.into_iter())
         .take(10)
@@ -98,7 +106,8 @@ pub fn two_columns(
     alloc: Global,
     readings: Vec<Result<u32, u8>>,
 ) -> Result<(Vec<usize>, Vec<u32>), Fault<u8>>
-    ensures { UnzippedAs (λ xs v. v.items ≡ xs) (λ xs v. v.items ≡ xs) (numbered 0 (results readings.items)) result }
+    ensures { UnzippedAs (λ xs v. v.items ≡ xs) (λ xs v. v.items ≡ xs)
+        (numbered 0 (results readings.items)) result }
 {
     convert(readings.into_iter()).enumerate().unzip(alloc)
 }

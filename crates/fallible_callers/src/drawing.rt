@@ -87,7 +87,9 @@ pub fn third_of<I: FallibleIterator>(mut it: I) -> Result<Option<I::Item>, I::Er
 where
     I::Item: Drop,
     requires { I.contract.can it }
-    ensures { (l : List (Result I.Item I.Error)) (x y z : I.Item) (rest : List (Result I.Item I.Error)) → Lists I.contract.steps it l → l ≡ Ok x ∷ Ok y ∷ Ok z ∷ rest → result ≡ Ok (Some z) }
+    ensures { (l : List (Result I.Item I.Error)) (x y z : I.Item)
+        (rest : List (Result I.Item I.Error))
+        → Lists I.contract.steps it l → l ≡ Ok x ∷ Ok y ∷ Ok z ∷ rest → result ≡ Ok (Some z) }
 {
     it.draw()?;
     it.draw()?;

@@ -10,7 +10,8 @@ pub fn sum_of<I: FallibleIterator<Item = u32>>(it: I) -> Result<u64, I::Error>
 where
     requires can { I.contract.can it }
     requires finite { I.contract.has_end it }
-    ensures { (l : List (Result ℕ I.Error)) → Lists I.contract.steps it l → result ≡ folded (λ e. e) (λ s x. Ok ((s + x) % 2 ^ 64)) 0 l }
+    ensures { (l : List (Result ℕ I.Error)) → Lists I.contract.steps it l
+        → result ≡ folded (λ e. e) (λ s x. Ok ((s + x) % 2 ^ 64)) 0 l }
 {
     it.fold(
         0,
@@ -20,7 +21,10 @@ where
 
 /// The sum of the first three readings above 100, doubled.
 pub fn sum_of_nest(readings: Vec<Result<u32, u8>>) -> Result<u64, u8>
-    ensures { result ≡ folded (λ e. e) (λ s x. Ok ((s + x) % 2 ^ 64)) 0 (taken 3 (mapped (λ x. Ok (x * 2 % 2 ^ 32)) (filtered (λ x. Ok (nat_lt 100 x)) (results readings.items)))) }
+    ensures { result ≡ folded (λ e. e) (λ s x. Ok ((s + x) % 2 ^ 64)) 0
+        (taken 3
+        (mapped (λ x. Ok (x * 2 % 2 ^ 32))
+        (filtered (λ x. Ok (nat_lt 100 x)) (results readings.items)))) }
 {
     sum_of(
         convert(readings.into_iter())
@@ -53,7 +57,9 @@ where
 
 /// The mean of the first three readings above 100, doubled.
 pub fn mean_of_nest(readings: Vec<Result<u32, u8>>) -> Result<Option<u64>, u8>
-    ensures { result ≡ mean_of (taken 3 (mapped (λ x. Ok (x * 2 % 2 ^ 32)) (filtered (λ x. Ok (nat_lt 100 x)) (results readings.items)))) }
+    ensures { result ≡ mean_of (taken 3
+        (mapped (λ x. Ok (x * 2 % 2 ^ 32))
+        (filtered (λ x. Ok (nat_lt 100 x)) (results readings.items)))) }
 {
     mean(
         convert(readings.into_iter())

@@ -10,7 +10,8 @@ use std::convert::Infallible;
 
 /// The sum of the numbers below `end`, modulo 2 ^ 64.
 pub fn sum_below(end: u32) -> Result<u64, Infallible>
-    ensures { result ≡ folded (λ e. e) (λ s x. Ok ((s + x) % 2 ^ 64)) 0 (items (range_with_len 0 end)) }
+    ensures { result ≡ folded (λ e. e) (λ s x. Ok ((s + x) % 2 ^ 64)) 0
+        (items (range_with_len 0 end)) }
 {
     (0..end).into_fallible().fold(
         0,
@@ -22,7 +23,11 @@ pub fn sum_below(end: u32) -> Result<u64, Infallible>
 pub fn count_and_sum(
     end: u32,
 ) -> Result<(Result<usize, Infallible>, Result<u64, Infallible>), AllocError>
-    ensures { IfOk result (λ both. (both.0 ≡ counted (filtered (λ x. Ok (nat_lt 100 x)) (items (range_with_len 0 end)))) × (both.1 ≡ folded (λ e. e) (λ s x. Ok ((s + x) % 2 ^ 64)) 0 (filtered (λ x. Ok (nat_lt 100 x)) (items (range_with_len 0 end))))) }
+    ensures { IfOk result
+        (λ both. (both.0 ≡ counted
+        (filtered (λ x. Ok (nat_lt 100 x)) (items (range_with_len 0 end))))
+        × (both.1 ≡ folded (λ e. e) (λ s x. Ok ((s + x) % 2 ^ 64)) 0
+        (filtered (λ x. Ok (nat_lt 100 x)) (items (range_with_len 0 end))))) }
 {
     let numbers = (0..end)
         .into_fallible()
@@ -40,7 +45,9 @@ pub fn runs(
     alloc: Global,
     bounds: Vec<Result<u32, Infallible>>,
 ) -> Result<Vec<u32>, Fault<Infallible>>
-    ensures { CollectedAs (λ xs v. v.items ≡ xs) (taken 1000 (flattened numbers (mapped (λ n. Ok (below n)) (results bounds.items)))) result }
+    ensures { CollectedAs (λ xs v. v.items ≡ xs)
+        (taken 1000 (flattened numbers (mapped (λ n. Ok (below n)) (results bounds.items))))
+        result }
 {
     convert(bounds.into_iter())
         .flat_map(|bound: u32| Ok((0..bound).into_fallible()))
