@@ -70,7 +70,8 @@ impl Digits {
 
 // A value and one more digit, within `u64`.
 fn longer(value: u64, digit: u64) -> Option<u64>
-    ensures { MatchOption result (2 ^ 64 ≤ value * 10 + digit) (λ v. (v ≡ value * 10 + digit) × (v < 2 ^ 64)) }
+    ensures { MatchOption result (2 ^ 64 ≤ value * 10 + digit)
+        (λ v. (v ≡ value * 10 + digit) × (v < 2 ^ 64)) }
 {
     value.checked_mul(10)?.checked_add(digit)
 }

@@ -10,11 +10,19 @@ use fallible_iterator::FallibleIterator;
 
 /// A trace of `Rows` is the answers of the rows of the bytes that were read, in order, and then, where the reader's end was met, ends. Where a byte was wanted and none came, it is the answers of the closed rows alone, the failure `Read`, and then ends. It asks that the place of the next row fits a `u32`, as that of each value does.
 pub fn law_rows<B: ReadByte>()
-    ensures { (s : Rows B) (trace : List (Answered ℕ RowFault)) (t : Rows B) → IsPlaced (rows_parts s) → Run ⟦<Rows<B> as FallibleIterator>⟧.contract.steps s trace t ↔ RowsTrace B.left B.stays (rows_parts s) trace (rows_parts t) }
+    ensures { (s : Rows B) (trace : List (Answered ℕ RowFault)) (t : Rows B)
+        → IsPlaced (rows_parts s)
+        → Run ⟦<Rows<B> as FallibleIterator>⟧.contract.steps s trace t
+        ↔ RowsTrace B.left B.stays (rows_parts s) trace (rows_parts t) }
 {}
 
 /// Over a reader that tells its bytes, fewer than the limit, a trace in which no read fails has for each of their rows, place by place, its number or the failure `Row` of the smaller of its place and `u32::MAX`, and then ends. Each such trace is one that draws can answer, where the reader can give the bytes.
 pub fn law_rows_of_bytes<B: ReadByte>()
-    ensures only { (s : Rows B) (bytes : List ℕ) (trace : List (Answered ℕ RowFault)) (t : Rows B) → BeginsWith B.left B.stays (rows_parts s) bytes → NeverFailsToRead trace → Run ⟦<Rows<B> as FallibleIterator>⟧.contract.steps s trace t → AnswersRowsOf bytes trace }
-    ensures each { (s : Rows B) (bytes : List ℕ) (trace : List (Answered ℕ RowFault)) → BeginsWith B.left B.stays (rows_parts s) bytes → CanGiveAll B.left B.stays (rows_parts s) bytes → AnswersRowsOf bytes trace → (t : Rows B) × Run ⟦<Rows<B> as FallibleIterator>⟧.contract.steps s trace t }
+    ensures only { (s : Rows B) (bytes : List ℕ) (trace : List (Answered ℕ RowFault)) (t : Rows B)
+        → BeginsWith B.left B.stays (rows_parts s) bytes → NeverFailsToRead trace
+        → Run ⟦<Rows<B> as FallibleIterator>⟧.contract.steps s trace t → AnswersRowsOf bytes trace }
+    ensures each { (s : Rows B) (bytes : List ℕ) (trace : List (Answered ℕ RowFault))
+        → BeginsWith B.left B.stays (rows_parts s) bytes
+        → CanGiveAll B.left B.stays (rows_parts s) bytes → AnswersRowsOf bytes trace
+        → (t : Rows B) × Run ⟦<Rows<B> as FallibleIterator>⟧.contract.steps s trace t }
 {}
