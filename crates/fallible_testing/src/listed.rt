@@ -11,8 +11,11 @@ pub fn listed<T: Drop, E: Drop, const N: usize>(
     answers: [Result<T, E>; N],
 ) -> Result<Convert<IntoIter<Result<T, E>>>, AllocError>
     ensures can { IfOk result ⟦<Convert<IntoIter<Result<T, E>>> as FallibleIterator>⟧.contract.can }
-    ensures ends { IfOk result ⟦<Convert<IntoIter<Result<T, E>>> as DoubleEndedFallibleIterator>⟧.ends.can }
-    ensures finite { IfOk result (λ s. ⟦<Convert<IntoIter<Result<T, E>>> as FallibleIterator>⟧.contract.to_come s (2 ^ 64 - 1)) }
+    ensures ends { IfOk result
+        ⟦<Convert<IntoIter<Result<T, E>>> as DoubleEndedFallibleIterator>⟧.ends.can }
+    ensures finite { IfOk result
+        (λ s. ⟦<Convert<IntoIter<Result<T, E>>> as FallibleIterator>⟧.contract.to_come s
+        (2 ^ 64 - 1)) }
 {
     Ok(convert(Vec::from_array(alloc, answers)?.into_iter()))
 }

@@ -21,7 +21,11 @@ impl<T: Drop, E: Drop> FallibleIterator for Script<T, E> {
 
     type Error = E;
 
-    ghost contract = { counting_down (λ s r t. MatchResult r (λ o. MatchOption o (into_iter_len t.answers ≤ into_iter_len s.answers) (λ _. into_iter_len t.answers + 1 ≡ into_iter_len s.answers)) (λ _. into_iter_len t.answers ≤ into_iter_len s.answers)) (λ s. into_iter_len s.answers) };
+    ghost contract = { counting_down (λ s r t. MatchResult r
+        (λ o. MatchOption o (into_iter_len t.answers ≤ into_iter_len s.answers)
+        (λ _. into_iter_len t.answers + 1 ≡ into_iter_len s.answers))
+        (λ _. into_iter_len t.answers ≤ into_iter_len s.answers))
+        (λ s. into_iter_len s.answers) };
 
     fn next(&mut self) -> Result<Option<T>, E> {
         match self.answers.next() {
@@ -39,7 +43,10 @@ impl<T: Drop, E: Drop> FallibleIterator for Script<T, E> {
 
 // From behind it gives the last answer first.
 impl<T: Drop, E: Drop> DoubleEndedFallibleIterator for Script<T, E> {
-    ghost ends = { counting_down_ends (λ s r t. MatchResult r (λ o. MatchOption o (into_iter_len t.answers ≤ into_iter_len s.answers) (λ _. into_iter_len t.answers + 1 ≡ into_iter_len s.answers)) (λ _. into_iter_len t.answers ≤ into_iter_len s.answers)) };
+    ghost ends = { counting_down_ends (λ s r t. MatchResult r
+        (λ o. MatchOption o (into_iter_len t.answers ≤ into_iter_len s.answers)
+        (λ _. into_iter_len t.answers + 1 ≡ into_iter_len s.answers))
+        (λ _. into_iter_len t.answers ≤ into_iter_len s.answers)) };
 
     fn next_back(&mut self) -> Result<Option<T>, E> {
         match self.answers.next_back() {
