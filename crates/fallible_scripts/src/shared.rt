@@ -11,17 +11,22 @@ pub type Numbers<'a> = Counted<'a, Convert<Copied<Iter<'a, Result<u32, u32>>>>>;
 
 /// Gives the answers.
 pub fn numbers<'a>(answers: &'a [Result<u32, u32>]) -> Convert<Copied<Iter<'a, Result<u32, u32>>>>
-    ensures can { ⟦<Convert<Copied<Iter<'a, Result<u32, u32>>>> as FallibleIterator>⟧.contract.can result }
-    ensures finite { ⟦<Convert<Copied<Iter<'a, Result<u32, u32>>>> as FallibleIterator>⟧.contract.to_come result (2 ^ 64 - 1) }
+    ensures can { ⟦<Convert<Copied<Iter<'a, Result<u32, u32>>>> as FallibleIterator>⟧.contract.can
+        result }
+    ensures finite { ⟦<Convert<Copied<Iter<'a, Result<u32, u32>>>> as FallibleIterator>⟧.contract.to_come
+        result (2 ^ 64 - 1) }
 {
     convert(answers.iter().copied())
 }
 
 /// Gives the answers, and adds its calls to `log`.
 pub fn counted<'a>(answers: &'a [Result<u32, u32>], log: &'a Log) -> Numbers<'a>
-    ensures can { ⟦<Counted<'a, Convert<Copied<Iter<'a, Result<u32, u32>>>>> as FallibleIterator>⟧.contract.can result }
-    ensures ends { ⟦<Counted<'a, Convert<Copied<Iter<'a, Result<u32, u32>>>>> as DoubleEndedFallibleIterator>⟧.ends.can result }
-    ensures finite { ⟦<Counted<'a, Convert<Copied<Iter<'a, Result<u32, u32>>>>> as FallibleIterator>⟧.contract.to_come result (2 ^ 64 - 1) }
+    ensures can { ⟦<Counted<'a, Convert<Copied<Iter<'a, Result<u32, u32>>>>> as FallibleIterator>⟧.contract.can
+        result }
+    ensures ends { ⟦<Counted<'a, Convert<Copied<Iter<'a, Result<u32, u32>>>>> as DoubleEndedFallibleIterator>⟧.ends.can
+        result }
+    ensures finite { ⟦<Counted<'a, Convert<Copied<Iter<'a, Result<u32, u32>>>>> as FallibleIterator>⟧.contract.to_come
+        result (2 ^ 64 - 1) }
 {
     Counted::new(convert(answers.iter().copied()), log)
 }
