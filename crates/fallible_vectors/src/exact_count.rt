@@ -19,7 +19,11 @@ impl FallibleIterator for Threes {
 
     type Error = ();
 
-    ghost contract = { let m = counting_down (λ s r t. MatchResult r (λ o. MatchOption o ((s.left ≡ 0) × (t.left ≡ 0)) (λ x. (x ≡ 3) × (t.left + 1 ≡ s.left))) (λ _. ⊥)) (λ s. s.left) in record m { to_come = λ s n. s.left ≡ n } };
+    ghost contract = { let m = counting_down (λ s r t. MatchResult r
+        (λ o. MatchOption o ((s.left ≡ 0) × (t.left ≡ 0)) (λ x. (x ≡ 3) × (t.left + 1 ≡ s.left)))
+        (λ _. ⊥))
+        (λ s. s.left)
+        in record m { to_come = λ s n. s.left ≡ n } };
 
     fn next(&mut self) -> Result<Option<u32>, ()> {
         if self.left == 0 {

@@ -20,7 +20,11 @@ impl FallibleIterator for Countdown {
     type Error = ();
 
     // What a draw may answer and leave, and how many items are left at most.
-    ghost contract = { counting_down (λ s r t. MatchResult r (λ o. MatchOption o ((s.left ≡ 0) × (t.left ≡ 0)) (λ x. (x ≡ s.left) × (t.left + 1 ≡ s.left))) (λ _. ⊥)) (λ s. s.left) };
+    ghost contract = { counting_down (λ s r t. MatchResult r
+        (λ o. MatchOption o ((s.left ≡ 0) × (t.left ≡ 0))
+        (λ x. (x ≡ s.left) × (t.left + 1 ≡ s.left)))
+        (λ _. ⊥))
+        (λ s. s.left) };
 
     fn next(&mut self) -> Result<Option<u32>, ()> {
         if self.left == 0 {
