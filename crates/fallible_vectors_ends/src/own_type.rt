@@ -18,7 +18,11 @@ impl FallibleIterator for Between {
 
     type Error = ();
 
-    ghost contract = { counting_down (λ s r t. MatchResult r (λ o. MatchOption o ((s.left ≡ 0) × (t.left ≡ 0)) (λ x. (x ≡ s.low) × (t.low ≡ (s.low + 1) % 2 ^ 32) × (t.left + 1 ≡ s.left))) (λ _. ⊥)) (λ s. s.left) };
+    ghost contract = { counting_down (λ s r t. MatchResult r
+        (λ o. MatchOption o ((s.left ≡ 0) × (t.left ≡ 0))
+        (λ x. (x ≡ s.low) × (t.low ≡ (s.low + 1) % 2 ^ 32) × (t.left + 1 ≡ s.left)))
+        (λ _. ⊥))
+        (λ s. s.left) };
 
     fn next(&mut self) -> Result<Option<u32>, ()> {
         if self.left == 0 {
@@ -39,7 +43,10 @@ impl FallibleIterator for Between {
 
 impl DoubleEndedFallibleIterator for Between {
     // What a draw from behind may answer and leave.
-    ghost ends = { counting_down_ends (λ s r t. MatchResult r (λ o. MatchOption o ((s.left ≡ 0) × (t.left ≡ 0)) (λ x. (x ≡ (s.low + t.left) % 2 ^ 32) × (t.low ≡ s.low) × (t.left + 1 ≡ s.left))) (λ _. ⊥)) };
+    ghost ends = { counting_down_ends (λ s r t. MatchResult r
+        (λ o. MatchOption o ((s.left ≡ 0) × (t.left ≡ 0))
+        (λ x. (x ≡ (s.low + t.left) % 2 ^ 32) × (t.low ≡ s.low) × (t.left + 1 ≡ s.left)))
+        (λ _. ⊥)) };
 
     fn next_back(&mut self) -> Result<Option<u32>, ()> {
         if self.left == 0 {
