@@ -92,7 +92,10 @@ impl<'a> FallibleIterator for Pair<'a> {
 
     type Error = TestError;
 
-    ghost contract = { counting_down (λ s r t. MatchResult r (λ o. MatchOption o (t.left ≤ s.left) (λ _. t.left + 1 ≡ s.left)) (λ _. ⊥)) (λ s. s.left) };
+    ghost contract = { counting_down (λ s r t. MatchResult r
+        (λ o. MatchOption o (t.left ≤ s.left) (λ _. t.left + 1 ≡ s.left))
+        (λ _. ⊥))
+        (λ s. s.left) };
 
     fn next(&mut self) -> Result<Option<u32>, TestError> {
         match self.left {

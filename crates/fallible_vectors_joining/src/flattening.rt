@@ -74,8 +74,10 @@ fn sum(total: u32, x: u32) -> Result<u32, u32> {
 fn draw_and_stop<U: IntoFallibleIterator<Item = u32, Error = u32>>(inner: U) -> Stopped
 where
     U: Drop,
-    requires can { (c : U.IntoFallibleIter) → U.into_gives inner c → U.IntoFallibleIter.contract.can c }
-    requires finite { (c : U.IntoFallibleIter) → U.into_gives inner c → U.IntoFallibleIter.contract.to_come c 9 }
+    requires can { (c : U.IntoFallibleIter) → U.into_gives inner c
+        → U.IntoFallibleIter.contract.can c }
+    requires finite { (c : U.IntoFallibleIter) → U.into_gives inner c
+        → U.IntoFallibleIter.contract.to_come c 9 }
 {
     let mut it = once::<U, u32>(inner).flatten();
     let first = it.next();
@@ -158,14 +160,16 @@ where
 
 // Gives 1, ends, and then gives 2.
 fn one_end_two(alloc: Global) -> Result<Take<Script<u32, u32>>, AllocError>
-    ensures { IfOk result (λ s. ⟦<Take<Script<u32, u32>> as FallibleIterator>⟧.contract.to_come s 9) }
+    ensures { IfOk result
+        (λ s. ⟦<Take<Script<u32, u32>> as FallibleIterator>⟧.contract.to_come s 9) }
 {
     Ok(scripted(alloc, [Ok(Some(1)), Ok(None), Ok(Some(2))])?.take(9))
 }
 
 // Ends, and then gives 2.
 fn end_two(alloc: Global) -> Result<Take<Script<u32, u32>>, AllocError>
-    ensures { IfOk result (λ s. ⟦<Take<Script<u32, u32>> as FallibleIterator>⟧.contract.to_come s 9) }
+    ensures { IfOk result
+        (λ s. ⟦<Take<Script<u32, u32>> as FallibleIterator>⟧.contract.to_come s 9) }
 {
     Ok(scripted(alloc, [Ok(None), Ok(Some(2))])?.take(9))
 }

@@ -139,7 +139,10 @@ fn take_looked_at<I: FallibleIterator>(it: &mut Peekable<I>) -> Result<Option<I:
 where
     I::Item: Drop,
     requires { ⟦<Peekable<I> as FallibleIterator>⟧.contract.can it.old }
-    ensures { MatchResult result (λ o. (s : I) × Fills I.contract.steps (peekable_parts it.old) (Ok tt) (s, Some o) × (peekable_parts it.new ≡ (s, None))) (λ _. ⊤) }
+    ensures { MatchResult result
+        (λ o. (s : I) × Fills I.contract.steps (peekable_parts it.old) (Ok tt) (s, Some o)
+        × (peekable_parts it.new ≡ (s, None)))
+        (λ _. ⊤) }
 {
     match it.fill() {
         Ok(()) => {}
