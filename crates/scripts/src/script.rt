@@ -34,7 +34,10 @@ impl<'a> FallibleIterator for Script<'a> {
     type Error = Failed;
 
     // At most as many items are left as there are answers behind the place.
-    ghost contract = { counting_down (λ s r t. MatchResult r (λ o. MatchOption o (4 - t.place ≤ 4 - s.place) (λ _. 4 - t.place + 1 ≤ 4 - s.place)) (λ _. 4 - t.place ≤ 4 - s.place)) (λ s. 4 - s.place) };
+    ghost contract = { counting_down (λ s r t. MatchResult r
+        (λ o. MatchOption o (4 - t.place ≤ 4 - s.place) (λ _. 4 - t.place + 1 ≤ 4 - s.place))
+        (λ _. 4 - t.place ≤ 4 - s.place))
+        (λ s. 4 - s.place) };
 
     fn next(&mut self) -> Result<Option<u32>, Failed> {
         self.draws.set(self.draws.get().wrapping_add(1));
@@ -73,7 +76,11 @@ impl<'a> FallibleIterator for Twin<'a> {
 
     type Error = Failed;
 
-    ghost contract = { counting_down (λ s r t. MatchResult r (λ o. MatchOption o (left_of_twin t ≤ left_of_twin s) (λ _. left_of_twin t + 1 ≤ left_of_twin s)) (λ _. left_of_twin t ≤ left_of_twin s)) left_of_twin };
+    ghost contract = { counting_down (λ s r t. MatchResult r
+        (λ o. MatchOption o (left_of_twin t ≤ left_of_twin s)
+        (λ _. left_of_twin t + 1 ≤ left_of_twin s))
+        (λ _. left_of_twin t ≤ left_of_twin s))
+        left_of_twin };
 
     fn next(&mut self) -> Result<Option<u32>, Failed> {
         self.front.next()
@@ -87,7 +94,10 @@ impl<'a> FallibleIterator for Twin<'a> {
 }
 
 impl<'a> DoubleEndedFallibleIterator for Twin<'a> {
-    ghost ends = { counting_down_ends (λ s r t. MatchResult r (λ o. MatchOption o (left_of_twin t ≤ left_of_twin s) (λ _. left_of_twin t + 1 ≤ left_of_twin s)) (λ _. left_of_twin t ≤ left_of_twin s)) };
+    ghost ends = { counting_down_ends (λ s r t. MatchResult r
+        (λ o. MatchOption o (left_of_twin t ≤ left_of_twin s)
+        (λ _. left_of_twin t + 1 ≤ left_of_twin s))
+        (λ _. left_of_twin t ≤ left_of_twin s)) };
 
     fn next_back(&mut self) -> Result<Option<u32>, Failed> {
         self.back.next()
@@ -115,7 +125,11 @@ impl<'a> FallibleIterator for Pointing<'a> {
 
     type Error = Failed;
 
-    ghost contract = { counting_down (λ s r t. MatchResult r (λ o. MatchOption o (left_of t.script ≤ left_of s.script) (λ _. left_of t.script + 1 ≤ left_of s.script)) (λ _. left_of t.script ≤ left_of s.script)) (λ s. left_of s.script) };
+    ghost contract = { counting_down (λ s r t. MatchResult r
+        (λ o. MatchOption o (left_of t.script ≤ left_of s.script)
+        (λ _. left_of t.script + 1 ≤ left_of s.script))
+        (λ _. left_of t.script ≤ left_of s.script))
+        (λ s. left_of s.script) };
 
     fn next(&mut self) -> Result<Option<&'a u32>, Failed> {
         match self.script.next() {
