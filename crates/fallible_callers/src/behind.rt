@@ -5,7 +5,7 @@ ghost use Rattle.std.specs.declared.vec.IntoIter.{IntoIter};
 ghost use Rattle.std.specs.declared.alloc.Global.{Global};
 ghost use Rattle.fallible_contract.specs.declared.answers.Side.{Side};
 ghost use Rattle.fallible_contract.specs.Traces.{Answered};
-ghost use Rattle.fallible_contract.specs.Listed.{Listed};
+ghost use Rattle.fallible_contract.specs.BothEnds.{ListsBothEnds};
 ghost use Rattle.fallible_contract.specs.Lists.{results, reversed, folded, CollectedAs};
 ghost use Rattle.fallible_iterator.specs.declared.sources.convert.Convert.{Convert};
 ghost use Rattle.fallible_iterator.specs.Listing.{DrawsInterleave};
@@ -92,7 +92,7 @@ pub fn second_between<I: DoubleEndedFallibleIterator>(
 ) -> Result<Option<I::Item>, I::Error>
 where
     I::Item: Drop,
-    requires { I.ends.can it.old }
+    requires { I.ends.can_next it.old }
 {
     it.next()?;
     it.next_back()?;
@@ -109,7 +109,7 @@ pub fn last_after_three(readings: Vec<Result<u32, u8>>) -> Result<Option<u64>, u
 /// What a vector's readings list from both ends, said by the laws: the readings that are left. So of draws from both ends what came in front, what is left and what came from behind, reversed, are those readings.
 pub fn law_readings()
     ensures listed { (s : Convert (IntoIter (Result ℕ ℕ) Global))
-        → Listed
+        → ListsBothEnds
         ⟦<Convert<std::vec::IntoIter<Result<u32, u8>, Global>> as FallibleIterator>⟧.contract.steps
         ⟦<Convert<std::vec::IntoIter<Result<u32, u8>, Global>> as DoubleEndedFallibleIterator>⟧.ends.steps
         s (results (into_iter_items (convert_parts s))) }

@@ -34,7 +34,7 @@ pub fn up_to_ten<I: FallibleIterator>(it: I) -> usize
 where
     I::Item: Drop,
     I::Error: Drop,
-    requires { I.contract.can it }
+    requires { I.contract.can_next it }
     ensures { result ≤ 10 }
 {
     it.iterator().take(10).count()

@@ -103,9 +103,9 @@ where
     I: FallibleIterator,
     I::Item: PartialEq + Drop,
     J: FallibleIterator<Item = I::Item, Error = I::Error>,
-    requires left { I.contract.can left }
-    requires right { J.contract.can right }
-    requires finite { I.contract.has_end left }
+    requires left { I.contract.can_next left }
+    requires right { J.contract.can_next right }
+    requires finite { I.contract.is_finite left }
     ensures { (a b : List (Result I.Item I.Error)) → Lists I.contract.steps left a
         → Lists J.contract.steps right b
         → result ≡ read_as reads_eq (compared (by_eq I.Item.eq) a b) }
@@ -119,9 +119,9 @@ where
     I: FallibleIterator,
     I::Item: Ord + Drop,
     J: FallibleIterator<Item = I::Item, Error = I::Error>,
-    requires left { I.contract.can left }
-    requires right { J.contract.can right }
-    requires finite { J.contract.has_end right }
+    requires left { I.contract.can_next left }
+    requires right { J.contract.can_next right }
+    requires finite { J.contract.is_finite right }
     ensures { (a b : List (Result I.Item I.Error)) → Lists I.contract.steps left a
         → Lists J.contract.steps right b
         → read_as (λ o. Some o) result ≡ compared (by_cmp I.Item.cmp) a b }
@@ -132,8 +132,8 @@ where
 /// How often an item is greater than the one before it, modulo 2 ^ 64.
 pub fn rises<J: FallibleIterator<Item = u32>>(it: J) -> Result<u64, J::Error>
 where
-    requires can { J.contract.can it }
-    requires finite { J.contract.has_end it }
+    requires can_next { J.contract.can_next it }
+    requires finite { J.contract.is_finite it }
 {
     let mut ahead = it.peekable();
     let mut left = ahead.number();

@@ -37,8 +37,8 @@ pub fn second_if_above(readings: Vec<Result<u32, u8>>) -> Result<Option<u32>, u8
 pub fn draw_all<I: FallibleIterator>(it: &mut I) -> Result<(), I::Error>
 where
     I::Item: Drop,
-    requires can { I.contract.can it.old }
-    requires finite { I.contract.has_end it.old }
+    requires can_next { I.contract.can_next it.old }
+    requires finite { I.contract.is_finite it.old }
 {
     let mut left = (*it).number();
     while let Some(_) = it.draw()? {
@@ -61,7 +61,7 @@ pub fn two_and_the_next(readings: Vec<Result<u32, u8>>) -> Result<(u32, Option<u
 pub fn after_three<I: FallibleIterator>(it: &mut I) -> Result<Option<I::Item>, I::Error>
 where
     I::Item: Drop,
-    requires { I.contract.can it.old }
+    requires { I.contract.can_next it.old }
 {
     (&mut *it).take(3).nth(2)?;
     it.draw()
@@ -74,8 +74,8 @@ where
     J: FallibleIterator<Error = I::Error>,
     I::Item: Drop,
     J::Item: Drop,
-    requires left { I.contract.can left }
-    requires right { J.contract.can right }
+    requires left { I.contract.can_next left }
+    requires right { J.contract.can_next right }
 {
     (&mut left).zip(&mut right).draw()?;
     left.draw()?;
@@ -86,7 +86,7 @@ where
 pub fn third_of<I: FallibleIterator>(mut it: I) -> Result<Option<I::Item>, I::Error>
 where
     I::Item: Drop,
-    requires { I.contract.can it }
+    requires { I.contract.can_next it }
     ensures { (l : List (Result I.Item I.Error)) (x y z : I.Item)
         (rest : List (Result I.Item I.Error))
         → Lists I.contract.steps it l → l ≡ Ok x ∷ Ok y ∷ Ok z ∷ rest → result ≡ Ok (Some z) }

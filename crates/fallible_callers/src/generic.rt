@@ -8,8 +8,8 @@ use fallible_iterator::{FallibleIterator, convert};
 /// The sum of the items, modulo 2 ^ 64, or the first failure.
 pub fn sum_of<I: FallibleIterator<Item = u32>>(it: I) -> Result<u64, I::Error>
 where
-    requires can { I.contract.can it }
-    requires finite { I.contract.has_end it }
+    requires can_next { I.contract.can_next it }
+    requires finite { I.contract.is_finite it }
     ensures { (l : List (Result ℕ I.Error)) → Lists I.contract.steps it l
         → result ≡ folded (λ e. e) (λ s x. Ok ((s + x) % 2 ^ 64)) 0 l }
 {
@@ -37,8 +37,8 @@ pub fn sum_of_nest(readings: Vec<Result<u32, u8>>) -> Result<u64, u8>
 /// The mean of the items, none where there are none, or the first failure: the sum by the number, both modulo 2 ^ 64.
 pub fn mean<I: FallibleIterator<Item = u32>>(it: I) -> Result<Option<u64>, I::Error>
 where
-    requires can { I.contract.can it }
-    requires finite { I.contract.has_end it }
+    requires can_next { I.contract.can_next it }
+    requires finite { I.contract.is_finite it }
     ensures { (l : List (Result ℕ I.Error)) → Lists I.contract.steps it l → result ≡ mean_of l }
 {
     let (sum, number) = it.fold(

@@ -1,7 +1,7 @@
 //! A source of one's own over any reader, and the lines of a reader.
 ghost use Rattle.std.proofs.Common.{rules};
-ghost use Rattle.fallible_contract.specs.Contract.{unbounded};
-ghost use Rattle.fallible_contract.specs.Laws.ToCome.{lawful_unbounded};
+ghost use Rattle.fallible_contract.specs.Contract.{unbounded_contract};
+ghost use Rattle.fallible_contract.specs.Laws.BoundsRuns.{lawful_unbounded};
 ghost use Rattle.fallible_callers.specs.Reading.{DrawsByte};
 
 use fallible_iterator::{FallibleIterator, convert, convert_fused};
@@ -12,7 +12,7 @@ use std::io::{BufRead, Read};
 #[derive(Debug, Drop, PartialEq)]
 pub struct ReadFailed;
 
-/// The bytes of a reader, one read for each draw. It says no number to come, so it is drained through `take`.
+/// The bytes of a reader, one read for each draw. It states no bound, so it is drained through `take`.
 #[derive(Drop)]
 pub struct Bytes<R> {
     /// What is read.
@@ -24,7 +24,7 @@ impl<R: Read + Drop> FallibleIterator for Bytes<R> {
 
     type Error = ReadFailed;
 
-    ghost contract = { unbounded (λ s r t. DrawsByte R.remaining s.reader r t.reader) };
+    ghost contract = { unbounded_contract (λ s r t. DrawsByte R.remaining s.reader r t.reader) };
 
     /// Reads one byte. An interrupted read fails too.
     fn next(&mut self) -> Result<Option<u8>, ReadFailed> {

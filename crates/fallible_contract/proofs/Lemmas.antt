@@ -1,15 +1,15 @@
 -- Lemmas that no contract and no ghost member cites.
-pub mod Answers
+pub mod BothEnds
+pub mod BoundsRuns
 pub mod Closing
 pub mod Collecting
 pub mod Comparing
 pub mod Contract
 pub mod Counting
-pub mod Definitions
 pub mod Folding
 pub mod Folds
 pub mod Held
-pub mod Listed
+pub mod LawForm
 pub mod Lists
 pub mod Nth
 pub mod Overriding
@@ -17,4 +17,4 @@ pub mod Parting
 pub mod Passing
 pub mod Picking
 pub mod Searching
-pub mod ToCome
+pub mod ShownTraces

@@ -2,7 +2,7 @@
 use Rattle.std.specs.Prelude.{◌≡◌, ℕ, ◌<◌, List, [], ◌∷◌, ◌++◌, map, replicate, Option, Some, Bool, true, false, ◌⊎◌, ◌↔◌}
 use Rattle.fallible_contract.specs.Traces.{Answered, end}
 use Rattle.fallible_contract.specs.Contract.{Contract}
-use Rattle.fallible_contract.specs.WithSteps.{with_steps}
+use Rattle.fallible_contract.specs.WithSteps.{with_steps_contract}
 
 -- the last place is there and closes
 abbrev pub ClosesLast : {Q : Type 0} → (Q → Bool) → List Q → Type 0
@@ -28,5 +28,5 @@ closing_hints hints (p, true) h = h ≡ (0, Some 0)
 closing_hints hints (p, false) h = hints p h
 
 -- The contract of such an adapter: that of its source but for the step and the hint, which the flag closes.
-abbrev pub closing : {P Q B E : Type 0} → Contract P B E → (P → Q → P → Type 0) → (Q → Answered B E) → (Q → Bool) → Contract (P × Bool) B E
-closing m draws answer closes = with_steps m (closing_step draws answer closes) (closing_hints m.hints)
+abbrev pub closing_contract : {P Q B E : Type 0} → Contract P B E → (P → Q → P → Type 0) → (Q → Answered B E) → (Q → Bool) → Contract (P × Bool) B E
+closing_contract m draws answer closes = with_steps_contract m (closing_step draws answer closes) (closing_hints m.hints)

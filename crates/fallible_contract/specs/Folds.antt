@@ -24,13 +24,13 @@ module _ {A F B R : Type 0} (g : Mut F (B × (A × Unit {0})) R) where
 
 module _ {A F B E' : Type 0} (call : F → B → A → Result B E' → F → Type 0) where
   -- one call of the closure on the value so far and an item, which went on
-  abbrev pub fold_turn : B × F → A → B × F → Type 0
-  fold_turn p x q = call p.1 p.0 x (Ok q.0) q.1
+  abbrev pub went_on_with : B × F → A → B × F → Type 0
+  went_on_with p x q = call p.1 p.0 x (Ok q.0) q.1
 
   -- one call, seen by the fold that carries the value and the closure
-  abbrev pub FoldTurn : B × F → A → ControlFlow E' (B × F) → Type 0
-  FoldTurn p x (Continue q) = fold_turn p x q
-  FoldTurn p x (Break e') = (f' : F) × call p.1 p.0 x (Err e') f'
+  abbrev pub IsFoldTurn : B × F → A → ControlFlow E' (B × F) → Type 0
+  IsFoldTurn p x (Continue q) = went_on_with p x q
+  IsFoldTurn p x (Break e') = (f' : F) × call p.1 p.0 x (Err e') f'
 
 -- One call of a fold from the first item on: that item is the value so far, without a call, and from then on the closure is called on the value so far and the next item.
 abbrev pub ReduceCall : {A F E : Type 0} → (F → A → A → Result A E → F → Type 0) → F → Option A → A → Result (Option A) E → F → Type 0
@@ -54,7 +54,7 @@ module _ {A E F B E' : Type 0} (call : F → B → A → Result B E' → F → T
 module _ {S A E F B E' : Type 0} (steps : S → Answered A E → S → Type 0) (call : F → B → A → Result B E' → F → Type 0) where
   -- the closure may be called on the value so far and each item that may come
   abbrev pub CallableInFold : (F → B → A → Type 0) → S → F → B → Type 0
-  CallableInFold takes s f b = HoldsAtEachTurn {C = B × F} steps (fold_turn call) (λ p x. takes p.1 p.0 x) s (b, f)
+  CallableInFold takes s f b = HoldsAtEachTurn {C = B × F} steps (went_on_with call) (λ p x. takes p.1 p.0 x) s (b, f)
 
   -- The closure was called on the items in order, each call with the value so far, b at first, and went on. Then came the last answer: an end, a failure, or an item on which the closure failed. The draws answered the items and the last answer, and left t.
   pub record Folded (from : E → E' → Type 0) (s : S) (b : B) (f : F) (r : Result B E') (t : S) : Type 0 where
@@ -63,7 +63,7 @@ module _ {S A E F B E' : Type 0} (steps : S → Answered A E → S → Type 0) (
     pub value : B
     pub closure : F
     pub ran : Run steps s (map item items ++ last ∷ []) t
-    pub went : FoldsTo {P = B × F} (fold_turn call) (b, f) items (value, closure)
+    pub went : FoldsTo {P = B × F} (went_on_with call) (b, f) items (value, closure)
     pub exit : FoldExit call from value closure last r
 
 -- ---- the fold that carries a value, which every other one goes through
@@ -170,9 +170,9 @@ pub record Nth {S A E : Type 0} (steps : S → Answered A E → S → Type 0) (s
   pub exit : NthExit n (length skipped) r
 
 -- One turn of an `nth` that is one fold, where n items are still to be passed over: it passes over one of them, or stops with the item where there are none.
-abbrev pub ReachTurn : {A : Type 0} → ℕ → A → ControlFlow A ℕ → Type 0
-ReachTurn n x (Continue k) = n ≡ k + 1
-ReachTurn n x (Break y) = (n ≡ 0) × (y ≡ x)
+abbrev pub IsNthTurn : {A : Type 0} → ℕ → A → ControlFlow A ℕ → Type 0
+IsNthTurn n x (Continue k) = n ≡ k + 1
+IsNthTurn n x (Break y) = (n ≡ 0) × (y ≡ x)
 
 -- What a draw answers that is a fold which stops with an item: that item, none at the end, or the failure.
 abbrev pub reached_at : {C A E : Type 0} → Exit C E A → Answered A E

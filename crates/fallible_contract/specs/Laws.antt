@@ -1,9 +1,9 @@
 -- What follows from the definitions: the lemmas that ghost members cite.
+pub mod BoundsRuns
 pub mod Closing
 pub mod Closures
 pub mod Contract
 pub mod Counting
 pub mod Ends
 pub mod Passing
-pub mod ToCome
 pub mod WithSteps

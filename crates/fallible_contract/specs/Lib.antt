@@ -1,5 +1,5 @@
 -- What the clauses of `src/` cite, and in `Laws` what follows from it: lemmas that the ghost members cite.
-pub mod Answers
+pub mod BothEnds
 pub mod Clauses
 pub mod Closing
 pub mod Closures
@@ -7,18 +7,18 @@ pub mod Collecting
 pub mod Comparing
 pub mod Contract
 pub mod Counting
-pub mod Definitions
 pub mod Ends
 pub mod Folding
 pub mod Folds
 pub mod Held
 pub mod Hints
+pub mod LawForm
 pub mod Laws
-pub mod Listed
 pub mod Lists
 pub mod Passing
 pub mod Picking
 pub mod Refusals
 pub mod Searching
+pub mod ShownTraces
 pub mod Traces
 pub mod WithSteps

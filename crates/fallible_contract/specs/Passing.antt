@@ -52,22 +52,22 @@ pub record PassTrace {S F X R B E : Type 0} (steps : S → Answered X E → S �
   pub last_kept : LastKept (has_answer outcome) places
 
 -- The contract of such an adapter. It steps as its trace of one answer says. An item of it is what the closure may make of one that the source may give, and a failure of it one of the source's or the closure's.
-abbrev pub passing : {S F X R B E : Type 0} → Contract S X E → (F → X → R → F → Type 0) → ((X → Type 0) → F → Type 0) → (X → R → Outcome B E) → (S × F → ℕ × Option ℕ → Type 0) → Contract (S × F) B E
-passing m call callable outcome hints = record {
-  can = λ p. m.can p.0 × callable (m.gives p.0) p.1;
+abbrev pub passing_contract : {S F X R B E : Type 0} → Contract S X E → (F → X → R → F → Type 0) → ((X → Type 0) → F → Type 0) → (X → R → Outcome B E) → (S × F → ℕ × Option ℕ → Type 0) → Contract (S × F) B E
+passing_contract m call callable outcome hints = record {
+  can_next = λ p. m.can_next p.0 × callable (m.may_give p.0) p.1;
   steps = λ p r q. PassTrace m.steps call outcome p (r ∷ []) q;
-  to_come = λ p n. m.to_come p.0 n;
-  has_end = λ p. m.has_end p.0;
-  elements = λ p. m.elements p.0;
-  gives = λ p y. MayAnswer call (m.gives p.0) p.1 (λ x v. outcome x v ≡ Kept y);
-  fails = λ p e. m.fails p.0 e ⊎ MayAnswer call (m.gives p.0) p.1 (λ x v. outcome x v ≡ Failure e);
+  bound = λ p n. m.bound p.0 n;
+  is_finite = λ p. m.is_finite p.0;
+  remaining = λ p. m.remaining p.0;
+  may_give = λ p y. MayAnswer call (m.may_give p.0) p.1 (λ x v. outcome x v ≡ Kept y);
+  may_fail = λ p e. m.may_fail p.0 e ⊎ MayAnswer call (m.may_give p.0) p.1 (λ x v. outcome x v ≡ Failure e);
   hints = hints;
-  names = λ p. m.names p.0;
+  lenders = λ p. m.lenders p.0;
 }
 
--- The contract of one that leaves items out. Its condition: one of the source, and a number to come of it, since one draw may leave many items out.
-abbrev pub leaving_out : {S F X R B E : Type 0} → Contract S X E → (F → X → R → F → Type 0) → ((X → Type 0) → F → Type 0) → (X → R → Outcome B E) → (S × F → ℕ × Option ℕ → Type 0) → Contract (S × F) B E
-leaving_out m call callable outcome hints = let p = passing m call callable outcome hints in record p { can = λ s. m.has_end s.0 × p.can s }
+-- The contract of one that leaves items out. Its condition: one of the source, and a bound of it, since one draw may leave many items out.
+abbrev pub leaving_out_contract : {S F X R B E : Type 0} → Contract S X E → (F → X → R → F → Type 0) → ((X → Type 0) → F → Type 0) → (X → R → Outcome B E) → (S × F → ℕ × Option ℕ → Type 0) → Contract (S × F) B E
+leaving_out_contract m call callable outcome hints = let p = passing_contract m call callable outcome hints in record p { can_next = λ s. m.is_finite s.0 × p.can_next s }
 
 -- one draw of such an adapter: its trace of one answer
 abbrev pub passing_step : {S F X R B E : Type 0} → (S → Answered X E → S → Type 0) → (F → X → R → F → Type 0) → (X → R → Outcome B E) → S × F → Answered B E → S × F → Type 0

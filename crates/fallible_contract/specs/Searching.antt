@@ -50,14 +50,14 @@ module _ {A E F V R : Type 0} (call : F → A → Result V E → F → Type 0) (
   Decided n f x (Err e) g = call f x (Err e) g
 
   -- one call, seen by the fold that carries the closure
-  abbrev pub SearchTurn : F → A → ControlFlow (Result R E) F → Type 0
-  SearchTurn f x (Continue g) = Passed f x g
-  SearchTurn f x (Break r) = (g : F) × ((n : ℕ) → Decided n f x r g)
+  abbrev pub IsSearchTurn : F → A → ControlFlow (Result R E) F → Type 0
+  IsSearchTurn f x (Continue g) = Passed f x g
+  IsSearchTurn f x (Break r) = (g : F) × ((n : ℕ) → Decided n f x r g)
 
   -- one call, seen by the fold that carries the number of items before, and the closure
-  abbrev pub PlacedTurn : ℕ × F → A → ControlFlow (Result R E) (ℕ × F) → Type 0
-  PlacedTurn p x (Continue q) = (q.0 ≡ p.0 + 1) × Passed p.1 x q.1
-  PlacedTurn p x (Break r) = (g : F) × Decided p.0 p.1 x r g
+  abbrev pub IsPositionTurn : ℕ × F → A → ControlFlow (Result R E) (ℕ × F) → Type 0
+  IsPositionTurn p x (Continue q) = (q.0 ≡ p.0 + 1) × Passed p.1 x q.1
+  IsPositionTurn p x (Break r) = (g : F) × Decided p.0 p.1 x r g
 
   -- The answer r by the last draw, with n items before it: `none` at an end; the failure; what the closure decided on the item. It leaves the closure as g.
   abbrev pub SearchExit : R → ℕ → F → Answered A E → Result R E → F → Type 0
@@ -86,6 +86,6 @@ answer_by none (Failed c e) = Err e
 answer_by none (Stopped r) = r
 
 -- One test, seen by the fold that `find` is: the test goes on, or it ends the search with the item or its failure, and hands back what is carried.
-abbrev pub FindTurn : {A E C : Type 0} → (C → A → Result Bool E → C → Type 0) → C → A → ControlFlow (C × Result A E) C → Type 0
-FindTurn tests c x (Continue d) = Passed tests find_pick c x d
-FindTurn tests c x (Break p) = (n : ℕ) → Decided tests find_pick n c x (stopped_answer p.1) p.0
+abbrev pub IsFindTurn : {A E C : Type 0} → (C → A → Result Bool E → C → Type 0) → C → A → ControlFlow (C × Result A E) C → Type 0
+IsFindTurn tests c x (Continue d) = Passed tests find_pick c x d
+IsFindTurn tests c x (Break p) = (n : ℕ) → Decided tests find_pick n c x (stopped_answer p.1) p.0

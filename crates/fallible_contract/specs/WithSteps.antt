@@ -4,15 +4,15 @@ use Rattle.fallible_contract.specs.Traces.{Answered}
 use Rattle.fallible_contract.specs.Contract.{Contract}
 
 -- the contract of an adapter that steps and hints in its own way, and of which all else is said as of its source
-abbrev pub with_steps : {S C A E : Type 0} → Contract S A E → (S × C → Answered A E → S × C → Type 0) → (S × C → ℕ × Option ℕ → Type 0) → Contract (S × C) A E
-with_steps m steps hints = record {
-  can = λ p. m.can p.0;
+abbrev pub with_steps_contract : {S C A E : Type 0} → Contract S A E → (S × C → Answered A E → S × C → Type 0) → (S × C → ℕ × Option ℕ → Type 0) → Contract (S × C) A E
+with_steps_contract m steps hints = record {
+  can_next = λ p. m.can_next p.0;
   steps = steps;
-  to_come = λ p n. m.to_come p.0 n;
-  has_end = λ p. m.has_end p.0;
-  elements = λ p. m.elements p.0;
-  gives = λ p x. m.gives p.0 x;
-  fails = λ p e. m.fails p.0 e;
+  bound = λ p n. m.bound p.0 n;
+  is_finite = λ p. m.is_finite p.0;
+  remaining = λ p. m.remaining p.0;
+  may_give = λ p x. m.may_give p.0 x;
+  may_fail = λ p e. m.may_fail p.0 e;
   hints = hints;
-  names = λ p. m.names p.0;
+  lenders = λ p. m.lenders p.0;
 }

@@ -1,7 +1,7 @@
 //! Collections that are made of items, and the turns of the folds that fill them.
 ghost use Rattle.std.specs.Prelude.{◌≡◌, ℕ, ◌≤◌, List, [], ◌∷◌, ◌++◌, MatchResult, ⊤, vec_len, vec_capacity};
 ghost use Rattle.fallible_contract.specs.Closures.{call_at, takes_at};
-ghost use Rattle.fallible_contract.specs.Collecting.{PushTurnBehind, PairTurnBehind, PartTurnBehind};
+ghost use Rattle.fallible_contract.specs.Collecting.{IsCollectTurnBehind, IsUnzipTurnBehind, IsPartitionTurnBehind};
 
 mod deque;
 mod hashed;
@@ -74,12 +74,12 @@ impl<T: Drop> Collect<T> for Vec<T> {
 
 /// The turn of `collect`: it carries a reference to the collection, and stops where that refuses an item.
 #[derive(Drop)]
-pub struct Pushing;
+pub struct CollectTurn;
 
-impl<'a, A, C: Collect<A>> Turn<&'a mut C, A, AllocError> for Pushing {
+impl<'a, A, C: Collect<A>> Turn<&'a mut C, A, AllocError> for CollectTurn {
     ghost can_turn = { λ _ _ _. ⊤ };
 
-    ghost turns = { λ _ made x r. PushTurnBehind C.made C.push_refuses made x r };
+    ghost turns = { λ _ made x r. IsCollectTurnBehind C.made C.push_refuses made x r };
 
     /// The item after the others.
     fn turn(&self, carried: &'a mut C, item: A) -> ControlFlow<AllocError, &'a mut C> {
@@ -92,16 +92,16 @@ impl<'a, A, C: Collect<A>> Turn<&'a mut C, A, AllocError> for Pushing {
 
 /// The turn of `partition`: it carries the predicate and a reference to both collections.
 #[derive(Drop)]
-pub struct Parting;
+pub struct PartitionTurn;
 
 impl<'a, A: Drop, E, B: Collect<A>, F: FnMut(&A) -> Result<bool, E>> Turn<
     (F, &'a mut (B, B)),
     A,
     Fault<E>,
-> for Parting {
+> for PartitionTurn {
     ghost can_turn = { λ _ c x. takes_at F.FnMut c.0 x };
 
-    ghost turns = { λ _ c x r. PartTurnBehind (call_at F.FnMut) B.made B.push_refuses c x r };
+    ghost turns = { λ _ c x r. IsPartitionTurnBehind (call_at F.FnMut) B.made B.push_refuses c x r };
 
     /// The predicate is asked once, and the item is pushed to the side of its answer.
     fn turn(
@@ -130,13 +130,13 @@ impl<'a, A: Drop, E, B: Collect<A>, F: FnMut(&A) -> Result<bool, E>> Turn<
 
 /// The turn of `unzip`: it carries a reference to both collections.
 #[derive(Drop)]
-pub struct PushingParts;
+pub struct UnzipTurn;
 
 impl<'a, A, B: Drop, C: Collect<A>, D: Collect<B>> Turn<&'a mut (C, D), (A, B), AllocError>
-    for PushingParts {
+    for UnzipTurn {
     ghost can_turn = { λ _ _ _. ⊤ };
 
-    ghost turns = { λ _ c x r. PairTurnBehind C.made D.made C.push_refuses D.push_refuses c x r };
+    ghost turns = { λ _ c x r. IsUnzipTurnBehind C.made D.made C.push_refuses D.push_refuses c x r };
 
     /// The first part is pushed to the first collection, and then the second part to the second.
     fn turn(

@@ -3,7 +3,7 @@ ghost use Rattle.std.specs.Prelude.{◌≡◌, ◌+◌, ◌-◌, ◌^◌, ◌<�
 ghost use Rattle.std.specs.declared.ops.ControlFlow.{ControlFlow};
 ghost use Rattle.std.specs.declared.ops.ControlFlow.TheVariants.{Continue, Break};
 ghost use Rattle.fallible_contract.specs.Folding.{handed};
-ghost use Rattle.fallible_contract.specs.Folds.{unpacked, ValueAt, FoldedAt, FoldTurn, ReachTurn, reached_at, call_with, takes_with, ReduceCall, reduce_takes};
+ghost use Rattle.fallible_contract.specs.Folds.{unpacked, ValueAt, FoldedAt, IsFoldTurn, IsNthTurn, reached_at, call_with, takes_with, ReduceCall, reduce_takes};
 
 use std::convert::Infallible;
 use std::ops::ControlFlow;
@@ -56,7 +56,7 @@ pub fn take_out<F>(slot: &mut Option<F>) -> F
 }
 
 /// What a fold that stops at an answer hands back at each exit: the value carried, and the answer.
-pub fn unpack<C, T, E>(exit: Exit<C, E, (C, Result<T, E>)>) -> (C, Result<Option<T>, E>)
+pub fn draw_of_exit<C, T, E>(exit: Exit<C, E, (C, Result<T, E>)>) -> (C, Result<Option<T>, E>)
     ensures { result ≡ unpacked exit }
 {
     match exit {
@@ -74,9 +74,9 @@ pub fn unpack<C, T, E>(exit: Exit<C, E, (C, Result<T, E>)>) -> (C, Result<Option
 
 /// The turn of `count`: it carries the number of items.
 #[derive(Drop)]
-pub struct Counting;
+pub struct CountTurn;
 
-impl<A: Drop> Turn<usize, A, Infallible> for Counting {
+impl<A: Drop> Turn<usize, A, Infallible> for CountTurn {
     ghost can_turn = { λ _ n _. n < 2 ^ 64 - 1 };
 
     ghost turns = { λ _ n _ r. r ≡ Continue (n + 1) };
@@ -89,9 +89,9 @@ impl<A: Drop> Turn<usize, A, Infallible> for Counting {
 
 /// The turn of `last`: it carries the item that came last.
 #[derive(Drop)]
-pub struct KeepingLast;
+pub struct LastTurn;
 
-impl<A: Drop> Turn<Option<A>, A, Infallible> for KeepingLast {
+impl<A: Drop> Turn<Option<A>, A, Infallible> for LastTurn {
     ghost can_turn = { λ _ _ _. ⊤ };
 
     ghost turns = { λ _ _ x r. r ≡ Continue (Some x) };
@@ -104,12 +104,12 @@ impl<A: Drop> Turn<Option<A>, A, Infallible> for KeepingLast {
 
 /// The turn of `try_fold`: it carries the value so far and the closure.
 #[derive(Drop)]
-pub struct Folding;
+pub struct TryFoldTurn;
 
-impl<A, B, E, F: FnMut(B, A) -> Result<B, E>> Turn<(B, F), A, E> for Folding {
+impl<A, B, E, F: FnMut(B, A) -> Result<B, E>> Turn<(B, F), A, E> for TryFoldTurn {
     ghost can_turn = { λ _ p x. takes_with F.FnMut p.1 p.0 x };
 
-    ghost turns = { λ _ p x r. FoldTurn (call_with F.FnMut) p x r };
+    ghost turns = { λ _ p x r. IsFoldTurn (call_with F.FnMut) p x r };
 
     /// The closure's answer on the value so far and the item.
     fn turn(&self, carried: (B, F), item: A) -> ControlFlow<E, (B, F)> {
@@ -128,7 +128,7 @@ pub struct ReduceTurn;
 impl<A: Drop, E, F: FnMut(A, A) -> Result<A, E>> Turn<(Option<A>, F), A, E> for ReduceTurn {
     ghost can_turn = { λ _ p x. reduce_takes (takes_with F.FnMut) p.1 p.0 x };
 
-    ghost turns = { λ _ p x r. FoldTurn (ReduceCall (call_with F.FnMut)) p x r };
+    ghost turns = { λ _ p x r. IsFoldTurn (ReduceCall (call_with F.FnMut)) p x r };
 
     /// The first item without a call; then the closure's answer on the value so far and the item.
     fn turn(&self, carried: (Option<A>, F), item: A) -> ControlFlow<E, (Option<A>, F)> {
@@ -146,12 +146,12 @@ impl<A: Drop, E, F: FnMut(A, A) -> Result<A, E>> Turn<(Option<A>, F), A, E> for 
 
 /// The turn of an `nth` that is one fold: it carries how many items are still to be passed over, and stops with the item that comes when none are.
 #[derive(Drop)]
-pub struct Reaching;
+pub struct NthTurn;
 
-impl<A: Drop> Turn<usize, A, A> for Reaching {
+impl<A: Drop> Turn<usize, A, A> for NthTurn {
     ghost can_turn = { λ _ _ _. ⊤ };
 
-    ghost turns = { λ _ n x r. ReachTurn n x r };
+    ghost turns = { λ _ n x r. IsNthTurn n x r };
 
     /// One fewer, or the item.
     fn turn(&self, carried: usize, item: A) -> ControlFlow<A, usize> {
@@ -179,7 +179,7 @@ impl<A> Turn<(), A, A> for FirstTurn {
 }
 
 /// What a draw answers by the exit of a fold that stops with an item: that item, none at the end, or the failure.
-pub fn reached<C: Drop, A, E>(exit: Exit<C, E, A>) -> Result<Option<A>, E>
+pub fn item_of_exit<C: Drop, A, E>(exit: Exit<C, E, A>) -> Result<Option<A>, E>
     ensures { result ≡ reached_at exit }
 {
     match exit {
@@ -190,7 +190,7 @@ pub fn reached<C: Drop, A, E>(exit: Exit<C, E, A>) -> Result<Option<A>, E>
 }
 
 /// What a fold that no turn stops hands back: the value carried at the end, or the failure.
-pub fn value_at<C: Drop, E>(exit: Exit<C, E, Infallible>) -> Result<C, E>
+pub fn drain_of_exit<C: Drop, E>(exit: Exit<C, E, Infallible>) -> Result<C, E>
     ensures { ValueAt exit result }
 {
     match exit {
@@ -201,7 +201,7 @@ pub fn value_at<C: Drop, E>(exit: Exit<C, E, Infallible>) -> Result<C, E>
 }
 
 /// What `try_fold` makes of the fold that carries the closure: the last value, the failure, converted, or the closure's error.
-pub fn folded_at<B: Drop, F: Drop, D, E: From<D>>(exit: Exit<(B, F), D, E>) -> Result<B, E>
+pub fn fold_of_exit<B: Drop, F: Drop, D, E: From<D>>(exit: Exit<(B, F), D, E>) -> Result<B, E>
     ensures { FoldedAt E.from_gives exit result }
 {
     match exit {
@@ -215,7 +215,7 @@ pub fn folded_at<B: Drop, F: Drop, D, E: From<D>>(exit: Exit<(B, F), D, E>) -> R
 }
 
 /// What the fold of an adapter through its source's own hands back: the adapter's closure, and the exit of the adapter's fold.
-pub fn handed_back<C, F, E, R>(exit: Exit<(C, F), E, (F, Exit<C, E, R>)>) -> (F, Exit<C, E, R>)
+pub fn exit_beside<C, F, E, R>(exit: Exit<(C, F), E, (F, Exit<C, E, R>)>) -> (F, Exit<C, E, R>)
     ensures { result ≡ handed exit }
 {
     match exit {

@@ -2,7 +2,7 @@
 ghost use Rattle.std.specs.Prelude.{◌≡◌};
 ghost use Rattle.std.specs.declared.cmp.Ordering.{Ordering};
 ghost use Rattle.fallible_contract.specs.Closures.{call_at, takes_at};
-ghost use Rattle.fallible_contract.specs.Folds.{FoldTurn};
+ghost use Rattle.fallible_contract.specs.Folds.{IsFoldTurn};
 ghost use Rattle.fallible_contract.specs.Picking.{same_order, call_at_two, takes_at_two, PickCall, takes_in_pick, KeyCall, item_of};
 
 use crate::folds::Turn;
@@ -22,16 +22,15 @@ fn stays_best(keeps: Ordering, order: Ordering) -> bool
 
 /// The turn of a fold that keeps the best item by a closure that compares two: it carries the best so far, if there is one, and the closure.
 #[derive(Drop)]
-pub struct KeepingBest {
+pub struct BestTurn {
     /// how the best so far compares with an item that it stays before
     pub keeps: Ordering,
 }
 
-impl<A: Drop, E, F: FnMut(&A, &A) -> Result<Ordering, E>> Turn<(Option<A>, F), A, E>
-    for KeepingBest {
+impl<A: Drop, E, F: FnMut(&A, &A) -> Result<Ordering, E>> Turn<(Option<A>, F), A, E> for BestTurn {
     ghost can_turn = { λ _ p x. takes_in_pick (takes_at_two F.FnMut) p.1 p.0 x };
 
-    ghost turns = { λ k p x r. FoldTurn (PickCall k.keeps (call_at_two F.FnMut)) p x r };
+    ghost turns = { λ k p x r. IsFoldTurn (PickCall k.keeps (call_at_two F.FnMut)) p x r };
 
     /// The first item without a call; then the closure is asked once.
     fn turn(&self, carried: (Option<A>, F), item: A) -> ControlFlow<E, (Option<A>, F)> {
@@ -55,16 +54,16 @@ impl<A: Drop, E, F: FnMut(&A, &A) -> Result<Ordering, E>> Turn<(Option<A>, F), A
 
 /// The turn of a fold that keeps the item of the best key: it carries that item beside its key, if there is one, and the closure.
 #[derive(Drop)]
-pub struct KeepingBestKey {
+pub struct BestKeyTurn {
     /// how the best key so far compares with a key that it stays before
     pub keeps: Ordering,
 }
 
 impl<A: Drop, E, K: Ord + Drop, F: FnMut(&A) -> Result<K, E>> Turn<(Option<(K, A)>, F), A, E>
-    for KeepingBestKey {
+    for BestKeyTurn {
     ghost can_turn = { λ _ p x. takes_at F.FnMut p.1 x };
 
-    ghost turns = { λ k p x r. FoldTurn (KeyCall k.keeps K.cmp (call_at F.FnMut)) p x r };
+    ghost turns = { λ k p x r. IsFoldTurn (KeyCall k.keeps K.cmp (call_at F.FnMut)) p x r };
 
     /// The key is made once, and compared with the best so far.
     fn turn(&self, carried: (Option<(K, A)>, F), item: A) -> ControlFlow<E, (Option<(K, A)>, F)> {

@@ -2,13 +2,13 @@
 ghost use Rattle.std.specs.Prelude.{◌≡◌, ◌-◌, ◌^◌, ◌<◌, Bool, Result, None};
 ghost use Rattle.std.specs.Borrow.{Bor};
 ghost use Rattle.fallible_contract.specs.Closures.{call_on, takes_on, call_at, takes_at};
-ghost use Rattle.fallible_contract.specs.Searching.{FindTurn, SearchTurn, PlacedTurn, answer_by, all_pick, any_pick, find_map_pick, position_pick, each_pick};
+ghost use Rattle.fallible_contract.specs.Searching.{IsFindTurn, IsSearchTurn, IsPositionTurn, answer_by, all_pick, any_pick, find_map_pick, position_pick, each_pick};
 
 use crate::folds::{Exit, Turn};
 use std::ops::ControlFlow;
 
 /// What a search answers, by how its fold ended: `none` at the end, the source's failure, or what the fold stopped with.
-pub fn answer_at<C: Drop, R: Drop, E>(exit: Exit<C, E, Result<R, E>>, none: R) -> Result<R, E>
+pub fn search_of_exit<C: Drop, R: Drop, E>(exit: Exit<C, E, Result<R, E>>, none: R) -> Result<R, E>
     ensures { result ≡ answer_by none exit }
 {
     match exit {
@@ -19,7 +19,7 @@ pub fn answer_at<C: Drop, R: Drop, E>(exit: Exit<C, E, Result<R, E>>, none: R) -
 }
 
 /// What a search for a value answers, by how its fold ended: none at the end, the source's failure, or what the fold stopped with.
-pub fn found_at<C: Drop, R, E>(exit: Exit<C, E, Result<Option<R>, E>>) -> Result<Option<R>, E>
+pub fn find_of_exit<C: Drop, R, E>(exit: Exit<C, E, Result<Option<R>, E>>) -> Result<Option<R>, E>
     ensures { result ≡ answer_by None exit }
 {
     match exit {
@@ -55,15 +55,15 @@ impl<C, A, E, F: Fn(C, &A) -> (C, Result<bool, E>)> Test<C, A, E> for F {
 
 /// The turn of the fold that `find` is: it stops at an item that the test accepts or fails on, and goes on after one that it refuses.
 #[derive(Drop)]
-pub struct Finding<'a, K> {
+pub struct FindTurn<'a, K> {
     /// the test
     pub test: &'a K,
 }
 
-impl<'a, C, A: Drop, E, K: Test<C, A, E>> Turn<C, A, (C, Result<A, E>)> for Finding<'a, K> {
+impl<'a, C, A: Drop, E, K: Test<C, A, E>> Turn<C, A, (C, Result<A, E>)> for FindTurn<'a, K> {
     ghost can_turn = { λ k c x. K.can_test k.test.now c x };
 
-    ghost turns = { λ k c x r. FindTurn (K.tests k.test.now) c x r };
+    ghost turns = { λ k c x r. IsFindTurn (K.tests k.test.now) c x r };
 
     /// The test, made once.
     fn turn(&self, carried: C, item: A) -> ControlFlow<(C, Result<A, E>), C> {
@@ -78,9 +78,9 @@ impl<'a, C, A: Drop, E, K: Test<C, A, E>> Turn<C, A, (C, Result<A, E>)> for Find
 
 /// The test of `find`: it carries the predicate, and asks it.
 #[derive(Drop)]
-pub struct Asking;
+pub struct FindTest;
 
-impl<A, E, F: FnMut(&A) -> Result<bool, E>> Test<F, A, E> for Asking {
+impl<A, E, F: FnMut(&A) -> Result<bool, E>> Test<F, A, E> for FindTest {
     ghost can_test = { λ _ f x. takes_at F.FnMut f x };
 
     ghost tests = { λ _ f x v g. call_at F.FnMut f x v g };
@@ -95,12 +95,12 @@ impl<A, E, F: FnMut(&A) -> Result<bool, E>> Test<F, A, E> for Asking {
 
 /// The turn of `for_each`: it carries the closure, calls it on each item, and stops where it fails.
 #[derive(Drop)]
-pub struct CallingEach;
+pub struct ForEachTurn;
 
-impl<A, E, F: FnMut(A) -> Result<(), E>> Turn<F, A, Result<(), E>> for CallingEach {
+impl<A, E, F: FnMut(A) -> Result<(), E>> Turn<F, A, Result<(), E>> for ForEachTurn {
     ghost can_turn = { λ _ f x. takes_on F.FnMut f x };
 
-    ghost turns = { λ _ f x r. SearchTurn (call_on F.FnMut) each_pick f x r };
+    ghost turns = { λ _ f x r. IsSearchTurn (call_on F.FnMut) each_pick f x r };
 
     /// The call, made once.
     fn turn(&self, carried: F, item: A) -> ControlFlow<Result<(), E>, F> {
@@ -114,12 +114,12 @@ impl<A, E, F: FnMut(A) -> Result<(), E>> Turn<F, A, Result<(), E>> for CallingEa
 
 /// The turn of `all`: it carries the predicate, and stops at the first item on which it answers false, or fails.
 #[derive(Drop)]
-pub struct RequiringAll;
+pub struct AllTurn;
 
-impl<A, E, F: FnMut(A) -> Result<bool, E>> Turn<F, A, Result<bool, E>> for RequiringAll {
+impl<A, E, F: FnMut(A) -> Result<bool, E>> Turn<F, A, Result<bool, E>> for AllTurn {
     ghost can_turn = { λ _ f x. takes_on F.FnMut f x };
 
-    ghost turns = { λ _ f x r. SearchTurn (call_on F.FnMut) all_pick f x r };
+    ghost turns = { λ _ f x r. IsSearchTurn (call_on F.FnMut) all_pick f x r };
 
     /// The predicate's answer, asked once.
     fn turn(&self, carried: F, item: A) -> ControlFlow<Result<bool, E>, F> {
@@ -134,12 +134,12 @@ impl<A, E, F: FnMut(A) -> Result<bool, E>> Turn<F, A, Result<bool, E>> for Requi
 
 /// The turn of `any`: it carries the predicate, and stops at the first item on which it answers true, or fails.
 #[derive(Drop)]
-pub struct SeekingAny;
+pub struct AnyTurn;
 
-impl<A, E, F: FnMut(A) -> Result<bool, E>> Turn<F, A, Result<bool, E>> for SeekingAny {
+impl<A, E, F: FnMut(A) -> Result<bool, E>> Turn<F, A, Result<bool, E>> for AnyTurn {
     ghost can_turn = { λ _ f x. takes_on F.FnMut f x };
 
-    ghost turns = { λ _ f x r. SearchTurn (call_on F.FnMut) any_pick f x r };
+    ghost turns = { λ _ f x r. IsSearchTurn (call_on F.FnMut) any_pick f x r };
 
     /// The predicate's answer, asked once.
     fn turn(&self, carried: F, item: A) -> ControlFlow<Result<bool, E>, F> {
@@ -154,13 +154,13 @@ impl<A, E, F: FnMut(A) -> Result<bool, E>> Turn<F, A, Result<bool, E>> for Seeki
 
 /// The turn of `find_map`: it carries the closure, and stops at the first value that it answers, or where it fails.
 #[derive(Drop)]
-pub struct FindingMapped;
+pub struct FindMapTurn;
 
 impl<A, B, E, F: FnMut(A) -> Result<Option<B>, E>> Turn<F, A, Result<Option<B>, E>>
-    for FindingMapped {
+    for FindMapTurn {
     ghost can_turn = { λ _ f x. takes_on F.FnMut f x };
 
-    ghost turns = { λ _ f x r. SearchTurn (call_on F.FnMut) find_map_pick f x r };
+    ghost turns = { λ _ f x r. IsSearchTurn (call_on F.FnMut) find_map_pick f x r };
 
     /// The closure's answer, asked once.
     fn turn(&self, carried: F, item: A) -> ControlFlow<Result<Option<B>, E>, F> {
@@ -175,13 +175,13 @@ impl<A, B, E, F: FnMut(A) -> Result<Option<B>, E>> Turn<F, A, Result<Option<B>, 
 
 /// The turn of `position`: it carries the number of items before and the predicate, and stops at the first item on which that answers true, or fails.
 #[derive(Drop)]
-pub struct Placing;
+pub struct PositionTurn;
 
 impl<A, E, F: FnMut(A) -> Result<bool, E>> Turn<(usize, F), A, Result<Option<usize>, E>>
-    for Placing {
+    for PositionTurn {
     ghost can_turn = { λ _ p x. takes_on F.FnMut p.1 x × (p.0 < 2 ^ 64 - 1) };
 
-    ghost turns = { λ _ p x r. PlacedTurn (call_on F.FnMut) position_pick p x r };
+    ghost turns = { λ _ p x r. IsPositionTurn (call_on F.FnMut) position_pick p x r };
 
     /// The predicate's answer, asked once, and one more item before the next.
     fn turn(

@@ -14,9 +14,9 @@ where
     L::Item: Drop,
     R: FallibleIterator<Item = L::Item, Error = L::Error>,
     K: Rule<L::Item>,
-    requires left { L.contract.can left }
-    requires right { R.contract.can right }
-    requires finite { L.contract.has_end left ⊎ R.contract.has_end right }
+    requires left { L.contract.can_next left }
+    requires right { R.contract.can_next right }
+    requires finite { L.contract.is_finite left ⊎ R.contract.is_finite right }
     ensures { Compared K.rule L.contract.steps R.contract.steps left right result }
 {
     let mut both = Zip { left, right };

@@ -9,7 +9,7 @@ ghost use Rattle.fallible_contract.specs.Passing.{passing_step};
 
 use crate::traits::FallibleIterator;
 use crate::traits::double_ended::DoubleEndedFallibleIterator;
-use fallible_contract::folds::{Exit, Turn, handed_back, take_out};
+use fallible_contract::folds::{Exit, Turn, exit_beside, take_out};
 use fallible_contract::passing::{Pass, PassTurn};
 
 // From the front, with the state by value.
@@ -22,8 +22,8 @@ pub(crate) fn fold_passing<
     K: Turn<C, A::Kept, R>,
 >(it: &mut I, state: P, adapter: &A, init: C, turn: &K) -> (P, Exit<C, I::Error, R>)
 where
-    requires can { I.contract.can it.old }
-    requires finite { I.contract.has_end it.old }
+    requires can_next { I.contract.can_next it.old }
+    requires finite { I.contract.is_finite it.old }
     requires callable { CallableCarrying I.contract.steps
         (FoldingTurn (A.call adapter.now) (A.outcome adapter.now) (K.turns turn.now))
         (FoldingTakes (A.call adapter.now) (A.outcome adapter.now)
@@ -35,7 +35,7 @@ where
     ensures stays { Stays I.contract it.old it.new }
 {
     let turn = PassTurn { adapter, turn };
-    handed_back(it.try_fold_carrying((init, state), &turn))
+    exit_beside(it.try_fold_carrying((init, state), &turn))
 }
 
 // From behind, with the state by value.
@@ -48,8 +48,8 @@ pub(crate) fn rfold_passing<
     K: Turn<C, A::Kept, R>,
 >(it: &mut I, state: P, adapter: &A, init: C, turn: &K) -> (P, Exit<C, I::Error, R>)
 where
-    requires can { I.ends.can it.old }
-    requires finite { I.contract.has_end it.old }
+    requires can_next { I.ends.can_next it.old }
+    requires finite { I.contract.is_finite it.old }
     requires callable { CallableCarrying I.ends.steps
         (FoldingTurn (A.call adapter.now) (A.outcome adapter.now) (K.turns turn.now))
         (FoldingTakes (A.call adapter.now) (A.outcome adapter.now)
@@ -61,7 +61,7 @@ where
     ensures stays { Stays (from_back I.contract I.ends) it.old it.new }
 {
     let turn = PassTurn { adapter, turn };
-    handed_back(it.try_rfold_carrying((init, state), &turn))
+    exit_beside(it.try_rfold_carrying((init, state), &turn))
 }
 
 // From the front, with the closure in its slot.
@@ -74,10 +74,10 @@ pub(crate) fn fold_in_slot<
     K: Turn<C, A::Kept, R>,
 >(it: &mut I, slot: &mut Option<P>, adapter: &A, init: C, turn: &K) -> Exit<C, I::Error, R>
 where
-    requires can { I.contract.can it.old }
-    requires finite { I.contract.has_end it.old }
+    requires can_next { I.contract.can_next it.old }
+    requires finite { I.contract.is_finite it.old }
     requires stored { IsCallableIn (A.call adapter.now) (A.can_pass adapter.now)
-        (I.contract.gives it.old) slot.old }
+        (I.contract.may_give it.old) slot.old }
     requires callable { CallableCarrying
         (passing_step I.contract.steps (call_in (A.call adapter.now)) (A.outcome adapter.now))
         (K.turns turn.now) (K.can_turn turn.now) (it.old, slot.old) init }
@@ -100,10 +100,10 @@ pub(crate) fn rfold_in_slot<
     K: Turn<C, A::Kept, R>,
 >(it: &mut I, slot: &mut Option<P>, adapter: &A, init: C, turn: &K) -> Exit<C, I::Error, R>
 where
-    requires can { I.ends.can it.old }
-    requires finite { I.contract.has_end it.old }
+    requires can_next { I.ends.can_next it.old }
+    requires finite { I.contract.is_finite it.old }
     requires stored { IsCallableIn (A.call adapter.now) (A.can_pass adapter.now)
-        (I.ends.gives it.old) slot.old }
+        (I.ends.may_give it.old) slot.old }
     requires callable { CallableCarrying
         (passing_step I.ends.steps (call_in (A.call adapter.now)) (A.outcome adapter.now))
         (K.turns turn.now) (K.can_turn turn.now) (it.old, slot.old) init }

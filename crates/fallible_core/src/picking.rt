@@ -7,7 +7,7 @@ ghost use Rattle.fallible_contract.specs.Picking.{call_at_two, takes_at_two, Pic
 
 use crate::traits::FallibleIterator;
 use fallible_contract::folds::Exit;
-use fallible_contract::picking::{KeepingBest, KeepingBestKey};
+use fallible_contract::picking::{BestKeyTurn, BestTurn};
 use std::cmp::Ordering;
 
 /// The best item by a closure that compares the best so far and the next item.
@@ -16,14 +16,14 @@ where
     I: FallibleIterator,
     I::Item: Drop,
     F: FnMut(&I::Item, &I::Item) -> Result<Ordering, I::Error>,
-    requires can { I.contract.can it }
-    requires finite { I.contract.has_end it }
+    requires can_next { I.contract.can_next it }
+    requires finite { I.contract.is_finite it }
     requires callable { CallableInFold I.contract.steps (PickCall keeps (call_at_two F.FnMut))
         (takes_in_pick (takes_at_two F.FnMut)) it f None }
     ensures { PickedByFold keeps (call_at_two F.FnMut) I.contract.steps it f result }
 {
     let mut it = it;
-    match it.try_fold_carrying((None, f), &KeepingBest { keeps }) {
+    match it.try_fold_carrying((None, f), &BestTurn { keeps }) {
         Exit::Ended((best, _)) => Ok(best),
         Exit::Failed(_, e) => Err(e),
         Exit::Stopped(e) => Err(e),
@@ -37,8 +37,8 @@ where
     I::Item: Drop,
     K: Ord + Drop,
     F: FnMut(&I::Item) -> Result<K, I::Error>,
-    requires can { I.contract.can it }
-    requires finite { I.contract.has_end it }
+    requires can_next { I.contract.can_next it }
+    requires finite { I.contract.is_finite it }
     requires callable { CallableInFold I.contract.steps (KeyCall keeps K.cmp (call_at F.FnMut))
         (λ g b x. takes_at F.FnMut g x) it f None }
     ensures { (left : I)
@@ -46,7 +46,7 @@ where
         it None f result left }
 {
     let mut it = it;
-    match it.try_fold_carrying((None, f), &KeepingBestKey { keeps }) {
+    match it.try_fold_carrying((None, f), &BestKeyTurn { keeps }) {
         Exit::Ended((best, _)) => Ok(best),
         Exit::Failed(_, e) => Err(e),
         Exit::Stopped(e) => Err(e),

@@ -3,7 +3,7 @@ ghost use Rattle.std.specs.Prelude.{◌≡◌, ℕ, true, false, ◌+◌, ◌-�
 ghost use Rattle.std.specs.Borrow.{Bor};
 ghost use Rattle.std.specs.Iterator.Runs.{EachRunFrom, ItemsAre};
 ghost use Rattle.fallible_contract.specs.Clauses.{OverList, OverListWith, OverBoth};
-ghost use Rattle.fallible_contract.specs.Contract.{Contract, AtMost, Lawful, Stays, Sure, seen_as};
+ghost use Rattle.fallible_contract.specs.Contract.{Contract, AtMost, Lawful, Stays, NeverFails, seen_as};
 ghost use Rattle.fallible_contract.specs.Closures.{IsCallable, call_on, takes_on, call_at, takes_at};
 ghost use Rattle.fallible_core.specs.OneToOne.Enumerate.{IsNumberable, enumerate_parts, enumerate_contract};
 ghost use Rattle.fallible_core.specs.Filtering.SkipWhile.{skip_call, skip_takes, skip_while_parts, skip_while_contract};
@@ -30,14 +30,14 @@ ghost use Rattle.fallible_core.specs.Bridges.Unwrap.{unwrap_parts, unwrap_steps,
 ghost use Rattle.fallible_core.specs.Peeking.Peekable.{peekable_parts, peekable_contract};
 ghost use Rattle.fallible_core.specs.Joining.Cycle.{cycle_parts};
 ghost use Rattle.fallible_core.specs.declared.joining.chain.StillDrawn.TheVariants.{Both};
-ghost use Rattle.fallible_contract.specs.Collecting.{Collects, PushTurn, Asks, PartTurn, Partitions, MadeOfParts, PairRefused, PairTurn};
+ghost use Rattle.fallible_contract.specs.Collecting.{Collects, IsCollectTurn, Asks, IsPartitionTurn, Partitions, MadeOfParts, PairRefused, IsUnzipTurn};
 ghost use Rattle.fallible_contract.specs.Lists.{items, Lists, Acts, Repeats, repeated, EachLists, flattened, mapped, filtered, taken, counted, filter_mapped, inspected, ActsWithState, scanned, skipped_while, taken_while, numbered, failures_mapped, pointed_to, CollectedAs, chained, skipped, stepped, zipped, NoFailureAtEnd, nth_of, folded, reduced, ActsWith, Converts, all_of, any_of, find_mapped, found, last_of, PartedAs, UnzippedAs, position_in, each_done, best_by, greatest, least, best_by_key, compared};
 ghost use Rattle.fallible_contract.specs.Comparing.{CanCompare, by_cmp, by_eq, read_as, reads_eq, reads_ne, reads_lt, reads_le, reads_gt, reads_ge, ComparedWith, ReadWith};
 ghost use Rattle.std.specs.declared.cmp.Ordering.{Ordering};
 ghost use Rattle.std.specs.declared.cmp.Ordering.TheVariants.{Less, Greater};
 ghost use Rattle.fallible_contract.specs.Picking.{call_at_two, takes_at_two, PickCall, takes_in_pick, Picked, KeyCall, Best, BestByKey};
-ghost use Rattle.fallible_contract.specs.Searching.{CallableInSearch, Searched, SearchTurn, PlacedTurn, FindTurn, all_pick, any_pick, find_map_pick, find_pick, position_pick, each_pick};
-ghost use Rattle.fallible_contract.specs.Folds.{HoldsAtEachTurn, CallableCarrying, Carried, CallableInFold, call_with, takes_with, FoldTurn, Folded, Counted, LastOf, Nth, ReduceCall, reduce_takes};
+ghost use Rattle.fallible_contract.specs.Searching.{CallableInSearch, Searched, IsSearchTurn, IsPositionTurn, IsFindTurn, all_pick, any_pick, find_map_pick, find_pick, position_pick, each_pick};
+ghost use Rattle.fallible_contract.specs.Folds.{HoldsAtEachTurn, CallableCarrying, Carried, CallableInFold, call_with, takes_with, IsFoldTurn, Folded, Counted, LastOf, Nth, ReduceCall, reduce_takes};
 
 mod borrowed;
 mod boxed;
@@ -56,17 +56,18 @@ use crate::peeking::Peekable;
 use crate::picking::{best_by, best_by_key};
 use crate::traits::conversion::IntoFallibleIterator;
 use crate::traits::double_ended::DoubleEndedFallibleIterator;
-use fallible_contract::collecting::{Collect, Fault, Parting, Pushing, PushingParts};
+use fallible_contract::collecting::{Collect, CollectTurn, Fault, PartitionTurn, UnzipTurn};
 use fallible_contract::comparing::{
     ByCmp, ByEq, ByPartialCmp, ordered, read_eq, read_ge, read_gt, read_le, read_lt, read_ne,
 };
 use fallible_contract::folds::{
-    Counting, Exit, Folding, KeepingLast, ReduceTurn, Turn, folded_at, unpack, value_at,
+    CountTurn, Exit, LastTurn, ReduceTurn, TryFoldTurn, Turn, drain_of_exit, draw_of_exit,
+    fold_of_exit,
 };
 use fallible_contract::picking::without_key;
 use fallible_contract::searching::{
-    Asking, CallingEach, Finding, FindingMapped, Placing, RequiringAll, SeekingAny, Test,
-    answer_at, found_at,
+    AllTurn, AnyTurn, FindMapTurn, FindTest, FindTurn, ForEachTurn, PositionTurn, Test,
+    find_of_exit, search_of_exit,
 };
 use std::alloc::{AllocError, Global};
 use std::cmp::Ordering;
@@ -76,7 +77,7 @@ use std::ops::ControlFlow;
 
 /// An iterator whose `next` may fail. It may go on after an end and after a failure.
 ///
-/// A type of one's own writes `next`, `size_hint` and `contract`: its step, and what it says of what is still to come. `counting_down` of `specs/Contract` makes that of a step and a bound. A search then finds `lawful`.
+/// A type of one's own writes `next`, `size_hint` and `contract`: its step, and what it says of what is still to come. `counted_contract` of `specs/Contract` makes that of a step and a bound. A search then finds `lawful`.
 pub trait FallibleIterator: Drop + Sized {
     /// What it gives.
     type Item;
@@ -89,21 +90,21 @@ pub trait FallibleIterator: Drop + Sized {
 
     /// One answer: an item, a failure or an end. The step of the type says which, and what is left, which may be drawn from again.
     ///
-    /// It asks the type's own condition, `can`, which the making of each source and adapter gives and each draw keeps.
+    /// Asks the type's own condition, `can_next`, which the making of each source and adapter gives and each draw keeps.
     fn next(&mut self) -> Result<Option<Self::Item>, Self::Error>
-        requires { contract.can self.old }
+        requires { contract.can_next self.old }
         ensures { contract.steps self.old result self.new };
 
     /// Bounds on the items of a run up to its first end, where it has no failure. A type with nothing to say answers `(0, None)`.
     fn size_hint(&self) -> (usize, Option<usize>)
         ensures { contract.hints self.now result };
 
-    /// A number to come, for a loop of one's own to count down by; it has no bytes, and only clauses read it.
+    /// A bound, for a loop of one's own to count down by; it has no bytes, and only clauses read it.
     ///
-    /// `let mut left = it.number();` before the loop, `left = left.one_less();` after each item, and `left.value` as the measure: the invariant is that the iterator may be drawn from, and that some number to come of it is at most `left.value`.
+    /// `let mut left = it.number();` before the loop, `left = left.one_less();` after each item, and `left.value` as the measure: the invariant is that the iterator may be drawn from, and that some bound of it is at most `left.value`.
     fn number(&self) -> Number
-        requires { contract.has_end self.now }
-        ensures { contract.to_come self.now result.value }
+        requires { contract.is_finite self.now }
+        ensures { contract.bound self.now result.value }
     {
         Number {
             marker: PhantomData,
@@ -114,14 +115,14 @@ pub trait FallibleIterator: Drop + Sized {
     fn try_fold_carrying<C, R, K: Turn<C, Self::Item, R>>(
         &mut self,
         init: C,
-        k: &K,
+        turn: &K,
     ) -> Exit<C, Self::Error, R>
     where
-        requires can { contract.can self.old }
-        requires finite { contract.has_end self.old }
-        requires callable { CallableCarrying contract.steps (K.turns k.now) (K.can_turn k.now)
+        requires can_next { contract.can_next self.old }
+        requires finite { contract.is_finite self.old }
+        requires callable { CallableCarrying contract.steps (K.turns turn.now) (K.can_turn turn.now)
             self.old init }
-        ensures carried { Carried contract.steps (K.turns k.now) self.old init result self.new }
+        ensures carried { Carried contract.steps (K.turns turn.now) self.old init result self.new }
         ensures stays { Stays contract self.old self.new }
     {
         let mut carried = init;
@@ -130,7 +131,7 @@ pub trait FallibleIterator: Drop + Sized {
             match self.next() {
                 Ok(None) => return Exit::Ended(carried),
                 Err(e) => return Exit::Failed(carried, e),
-                Ok(Some(x)) => match k.turn(carried, x) {
+                Ok(Some(x)) => match turn.turn(carried, x) {
                     ControlFlow::Continue(c) => carried = c,
                     ControlFlow::Break(stop) => return Exit::Stopped(stop),
                 },
@@ -139,37 +140,37 @@ pub trait FallibleIterator: Drop + Sized {
         }
     }
 
-    /// The number of items up to the end, or the first failure, after which nothing is drawn. It asks a number to come of at most `usize::MAX`.
+    /// The number of items up to the end, or the first failure, after which nothing is drawn. It asks that at most `usize::MAX` items are left.
     fn count(mut self) -> Result<usize, Self::Error>
     where
         Self::Item: Drop,
-        requires can { contract.can self }
+        requires can_next { contract.can_next self }
         requires fits { AtMost contract self (2 ^ 64 - 1) }
         ensures counted { Counted contract.steps self result }
         ensures value { OverList contract.steps self (λ l. result ≡ counted l) }
     {
-        value_at(self.try_fold_carrying(0, &Counting))
+        drain_of_exit(self.try_fold_carrying(0, &CountTurn))
     }
 
     /// The last item up to the end; none where no item comes before it. The first failure is the answer, and nothing is drawn after it.
     ///
-    /// It asks a number to come.
+    /// Asks that it is finite.
     fn last(mut self) -> Result<Option<Self::Item>, Self::Error>
     where
         Self::Item: Drop,
-        requires can { contract.can self }
-        requires finite { contract.has_end self }
+        requires can_next { contract.can_next self }
+        requires finite { contract.is_finite self }
         ensures last { LastOf contract.steps self result }
         ensures value { OverList contract.steps self (λ l. result ≡ last_of l) }
     {
-        value_at(self.try_fold_carrying(None, &KeepingLast))
+        drain_of_exit(self.try_fold_carrying(None, &LastTurn))
     }
 
     /// The item with n items before it. It draws at most n + 1 answers; a failure or an end that comes first is the answer, and nothing is drawn after it. What is left may be drawn from again.
     fn nth(&mut self, n: usize) -> Result<Option<Self::Item>, Self::Error>
     where
         Self::Item: Drop,
-        requires { contract.can self.old }
+        requires { contract.can_next self.old }
         ensures nth { Nth contract.steps self.old n result self.new }
         ensures value { OverList contract.steps self.old (λ l. result ≡ nth_of n l) }
         ensures stays { Stays contract self.old self.new }
@@ -188,14 +189,14 @@ pub trait FallibleIterator: Drop + Sized {
 
     /// Calls the closure on the value so far and each item in order. At the end it answers the last value; at a failure that failure, converted; where the closure fails, its error. Nothing is drawn after the answer that decides, and what is left may be drawn from again.
     ///
-    /// It asks a number to come, and that the closure may be called on each item that may come with the value so far.
+    /// Asks that it is finite, and that the closure may be called on each item that may come with the value so far.
     final fn try_fold<B, E, F>(&mut self, init: B, f: F) -> Result<B, E>
     where
         B: Drop,
         E: From<Self::Error>,
         F: FnMut(B, Self::Item) -> Result<B, E>,
-        requires can { contract.can self.old }
-        requires finite { contract.has_end self.old }
+        requires can_next { contract.can_next self.old }
+        requires finite { contract.is_finite self.old }
         requires callable { CallableInFold contract.steps (call_with F.FnMut) (takes_with F.FnMut)
             self.old f init }
         ensures folded { Folded contract.steps (call_with F.FnMut) E.from_gives
@@ -205,7 +206,7 @@ pub trait FallibleIterator: Drop + Sized {
             (λ h l. result ≡ folded convert h init l) }
         ensures stays { Stays contract self.old self.new }
     {
-        folded_at(self.try_fold_carrying((init, f), &Folding))
+        fold_of_exit(self.try_fold_carrying((init, f), &TryFoldTurn))
     }
 
     /// `try_fold` on the iterator itself, where the closure fails with the iterator's own error. It asks what `try_fold` asks.
@@ -213,8 +214,8 @@ pub trait FallibleIterator: Drop + Sized {
     where
         B: Drop,
         F: FnMut(B, Self::Item) -> Result<B, Self::Error>,
-        requires can { contract.can self }
-        requires finite { contract.has_end self }
+        requires can_next { contract.can_next self }
+        requires finite { contract.is_finite self }
         requires callable { CallableInFold contract.steps (call_with F.FnMut) (takes_with F.FnMut)
             self f init }
         ensures folded { (left : Self) × Folded contract.steps (call_with F.FnMut)
@@ -227,13 +228,13 @@ pub trait FallibleIterator: Drop + Sized {
 
     /// `fold` from the first item on: that item is the value so far, and the closure is called on it and each further item. None where no item comes; the first failure, or the closure's, is the answer.
     ///
-    /// It asks a number to come, and that the closure may be called on the value so far and each item that may come.
+    /// Asks that it is finite, and that the closure may be called on the value so far and each item that may come.
     final fn reduce<F>(mut self, f: F) -> Result<Option<Self::Item>, Self::Error>
     where
         Self::Item: Drop,
         F: FnMut(Self::Item, Self::Item) -> Result<Self::Item, Self::Error>,
-        requires can { contract.can self }
-        requires finite { contract.has_end self }
+        requires can_next { contract.can_next self }
+        requires finite { contract.is_finite self }
         requires callable { CallableInFold contract.steps (ReduceCall (call_with F.FnMut))
             (reduce_takes (takes_with F.FnMut)) self f None }
         ensures reduced { (left : Self) × Folded contract.steps (ReduceCall (call_with F.FnMut))
@@ -241,39 +242,39 @@ pub trait FallibleIterator: Drop + Sized {
         ensures value { OverListWith (ActsWith (call_with F.FnMut) f) contract.steps self
             (λ h l. result ≡ reduced h l) }
     {
-        folded_at(self.try_fold_carrying((None, f), &ReduceTurn))
+        fold_of_exit(self.try_fold_carrying((None, f), &ReduceTurn))
     }
 
     // Draws until the test accepts an item or fails on it, a failure or an end comes, and hands the carried value back at every exit. `find` goes through it, and a type may override it for both. It is no part of the surface.
     fn find_carrying<C, K: Test<C, Self::Item, Self::Error>>(
         &mut self,
         init: C,
-        k: &K,
+        test: &K,
     ) -> (C, Result<Option<Self::Item>, Self::Error>)
     where
         Self::Item: Drop,
-        requires can { contract.can self.old }
-        requires finite { contract.has_end self.old }
-        requires callable { CallableInSearch (K.tests k.now) find_pick contract.steps
-            (K.can_test k.now) self.old init }
-        ensures searched { Searched (K.tests k.now) find_pick contract.steps None self.old init
+        requires can_next { contract.can_next self.old }
+        requires finite { contract.is_finite self.old }
+        requires callable { CallableInSearch (K.tests test.now) find_pick contract.steps
+            (K.can_test test.now) self.old init }
+        ensures searched { Searched (K.tests test.now) find_pick contract.steps None self.old init
             result.1 self.new result.0 }
         ensures stays { Stays contract self.old self.new }
     {
-        let turn = Finding { test: k };
-        unpack(self.try_fold_carrying(init, &turn))
+        let turn = FindTurn { test };
+        draw_of_exit(self.try_fold_carrying(init, &turn))
     }
 
-    // What the other functions know of a draw: see `Goes`.
+    // What the other functions know of a draw: see `KeptByDraw`.
     ghost lawful: { Lawful contract };
 
     /// Replaces each item by the closure's answer on it; where the closure fails, its failure is the answer and the item is lost. Making the adapter draws nothing and calls nothing.
     ///
-    /// It asks that the closure may be called on each item that may come, in each state that such calls bring it to.
+    /// Asks that the closure may be called on each item that may come, in each state that such calls bring it to.
     final fn map<F, B>(self, f: F) -> Map<Self, F>
     where
         F: FnMut(Self::Item) -> Result<B, Self::Error>,
-        requires { IsCallable (call_on F.FnMut) (takes_on F.FnMut) (contract.gives self) f }
+        requires { IsCallable (call_on F.FnMut) (takes_on F.FnMut) (contract.may_give self) f }
         ensures parts { map_parts result ≡ (self, Some f) }
         ensures lists { OverListWith (Acts (call_on F.FnMut) f) contract.steps self
             (λ h l. Lists (seen_as map_parts (map_contract contract F.FnMut)).steps
@@ -287,13 +288,13 @@ pub trait FallibleIterator: Drop + Sized {
 
     /// Keeps the items to which the predicate answers true, and loses those to which it answers false; where it fails, its failure is the answer, the item is lost, and the next call goes on after it. One call draws until an item is kept, a failure comes or an end. Making the adapter draws nothing and calls nothing.
     ///
-    /// It asks a number to come, and that the predicate may be called on each item that may come, in each state that such calls bring it to.
+    /// Asks that it is finite, and that the predicate may be called on each item that may come, in each state that such calls bring it to.
     final fn filter<F>(self, f: F) -> Filter<Self, F>
     where
         F: FnMut(&Self::Item) -> Result<bool, Self::Error>,
-        requires finite { contract.has_end self }
+        requires finite { contract.is_finite self }
         requires callable { IsCallable (call_at F.FnMut) (takes_at F.FnMut)
-            (contract.gives self) f }
+            (contract.may_give self) f }
         ensures parts { filter_parts result ≡ (self, Some f) }
         ensures lists { OverListWith (Acts (call_at F.FnMut) f) contract.steps self
             (λ h l. Lists (seen_as filter_parts (filter_contract contract F.FnMut)).steps
@@ -318,11 +319,11 @@ pub trait FallibleIterator: Drop + Sized {
 
     /// Ends at the first item that the predicate refuses, which is lost, and then without a draw. A failure of the predicate is the answer, loses the item, and ends nothing. Making the adapter draws nothing and calls nothing.
     ///
-    /// It asks that the predicate may be called on each item that may come, in each state that such calls bring it to.
+    /// Asks that the predicate may be called on each item that may come, in each state that such calls bring it to.
     final fn take_while<P>(self, predicate: P) -> TakeWhile<Self, P>
     where
         P: FnMut(&Self::Item) -> Result<bool, Self::Error>,
-        requires { IsCallable (call_at P.FnMut) (takes_at P.FnMut) (contract.gives self) predicate }
+        requires { IsCallable (call_at P.FnMut) (takes_at P.FnMut) (contract.may_give self) predicate }
         ensures parts { take_while_parts result ≡ ((self, Some predicate), false) }
         ensures lists { OverListWith (Acts (call_at P.FnMut) predicate) contract.steps self
             (λ h l. Lists (seen_as take_while_parts (take_while_contract contract P.FnMut)).steps
@@ -376,13 +377,13 @@ pub trait FallibleIterator: Drop + Sized {
 
     /// Replaces each item by the value that the closure answers on it, and leaves it out where the answer is none. Where the closure fails, its failure is the answer, that item is lost, and the next call goes on after it. Making the adapter draws nothing and calls nothing.
     ///
-    /// It asks a number to come of the source, since one call may leave many items out, and that the closure may be called on each item that may come.
+    /// Asks that the source is finite, since one call may leave many items out, and that the closure may be called on each item that may come.
     final fn filter_map<B, F>(self, f: F) -> FilterMap<Self, F>
     where
         F: FnMut(Self::Item) -> Result<Option<B>, Self::Error>,
-        requires finite { contract.has_end self }
+        requires finite { contract.is_finite self }
         requires callable { IsCallable (call_on F.FnMut) (takes_on F.FnMut)
-            (contract.gives self) f }
+            (contract.may_give self) f }
         ensures parts { filter_map_parts result ≡ (self, Some f) }
         ensures lists { OverListWith (Acts (call_on F.FnMut) f) contract.steps self
             (λ h l. Lists (seen_as filter_map_parts (filter_map_contract contract F.FnMut)).steps
@@ -396,11 +397,11 @@ pub trait FallibleIterator: Drop + Sized {
 
     /// Shows each item to the closure, and answers it then. Where the closure fails, its failure is the answer, and that item is lost. Making the adapter draws nothing and calls nothing.
     ///
-    /// It asks that the closure may be called on a reference to each item that may come.
+    /// Asks that the closure may be called on a reference to each item that may come.
     final fn inspect<F>(self, f: F) -> Inspect<Self, F>
     where
         F: FnMut(&Self::Item) -> Result<(), Self::Error>,
-        requires { IsCallable (call_at F.FnMut) (takes_at F.FnMut) (contract.gives self) f }
+        requires { IsCallable (call_at F.FnMut) (takes_at F.FnMut) (contract.may_give self) f }
         ensures parts { inspect_parts result ≡ (self, Some f) }
         ensures lists { OverListWith (Acts (call_at F.FnMut) f) contract.steps self
             (λ h l. Lists (seen_as inspect_parts (inspect_contract contract F.FnMut)).steps
@@ -414,11 +415,11 @@ pub trait FallibleIterator: Drop + Sized {
 
     /// Replaces each failure by the closure's value on it, which is called once for each failure and for nothing else. Making the adapter draws nothing and calls nothing.
     ///
-    /// It asks that the closure may be called on each failure that may come.
+    /// Asks that the closure may be called on each failure that may come.
     final fn map_err<B, F>(self, f: F) -> MapErr<Self, F>
     where
         F: FnMut(Self::Error) -> B,
-        requires { IsCallable (call_on F.FnMut) (takes_on F.FnMut) (contract.fails self) f }
+        requires { IsCallable (call_on F.FnMut) (takes_on F.FnMut) (contract.may_fail self) f }
         ensures parts { map_err_parts result ≡ (self, f) }
         ensures lists { OverListWith (Acts (call_on F.FnMut) f) contract.steps self
             (λ h l. Lists (seen_as map_err_parts (map_err_contract contract F.FnMut)).steps
@@ -429,11 +430,11 @@ pub trait FallibleIterator: Drop + Sized {
 
     /// Puts each item beside the number of items drawn before it, from 0 on; failures and ends don't count. Making the adapter draws nothing.
     ///
-    /// It asks that at most `usize::MAX` items are still to come, so that each number fits. Draws ask that items can be let go, as its `count` and `nth` do.
+    /// Asks that at most `usize::MAX` items are still to come, so that each number fits. Draws ask that items can be let go, as its `count` and `nth` do.
     final fn enumerate(self) -> Enumerate<Self>
         requires { AtMost contract self (2 ^ 64 - 1) }
         ensures parts { enumerate_parts result ≡ (self, 0) }
-        ensures numberable { contract.can self → IsNumberable contract self 0 }
+        ensures numberable { contract.can_next self → IsNumberable contract self 0 }
         ensures lists { OverList contract.steps self
             (λ l. Lists (seen_as enumerate_parts (enumerate_contract contract)).steps
             result (numbered 0 l)) }
@@ -443,13 +444,13 @@ pub trait FallibleIterator: Drop + Sized {
 
     /// Leaves out the items before the first one to which the predicate answers false, and asks it no more from there on. Where it fails, its failure is the answer, that item is lost, and the skipping goes on. Making the adapter draws nothing and calls nothing.
     ///
-    /// It asks a number to come of the source, since one call may leave many items out, and that the predicate may be called on a reference to each item that may come until it first answers false.
+    /// Asks that the source is finite, since one call may leave many items out, and that the predicate may be called on a reference to each item that may come until it first answers false.
     final fn skip_while<P>(self, predicate: P) -> SkipWhile<Self, P>
     where
         P: FnMut(&Self::Item) -> Result<bool, Self::Error>,
-        requires finite { contract.has_end self }
+        requires finite { contract.is_finite self }
         requires callable { IsCallable (skip_call (call_at P.FnMut)) (skip_takes (takes_at P.FnMut))
-            (contract.gives self) (false, predicate) }
+            (contract.may_give self) (false, predicate) }
         ensures parts { skip_while_parts result ≡ (self, (false, Some predicate)) }
         ensures lists { OverListWith (Acts (call_at P.FnMut) predicate) contract.steps self
             (λ h l. Lists (seen_as skip_while_parts (skip_while_contract contract P.FnMut)).steps
@@ -464,11 +465,11 @@ pub trait FallibleIterator: Drop + Sized {
 
     /// Replaces each item by the value that the closure answers on it, up to the first none, which is an end; the next call goes on after it. Where the closure fails, its failure is the answer and the item is lost. Making the adapter draws nothing and calls nothing.
     ///
-    /// It asks that the closure may be called on each item that may come, in each state that such calls bring it to.
+    /// Asks that the closure may be called on each item that may come, in each state that such calls bring it to.
     final fn map_while<F, B>(self, f: F) -> MapWhile<Self, F>
     where
         F: FnMut(Self::Item) -> Result<Option<B>, Self::Error>,
-        requires { IsCallable (call_on F.FnMut) (takes_on F.FnMut) (contract.gives self) f }
+        requires { IsCallable (call_on F.FnMut) (takes_on F.FnMut) (contract.may_give self) f }
         ensures parts { map_while_parts result ≡ (self, Some f) }
         ensures lists { OverListWith (Acts (call_on F.FnMut) f) contract.steps self
             (λ h l. Lists (seen_as map_while_parts (map_while_contract contract F.FnMut)).steps
@@ -482,11 +483,11 @@ pub trait FallibleIterator: Drop + Sized {
 
     /// Replaces each item by the closure's answer on the state and the item. None is an end, and the next call goes on; where the closure fails, its failure is the answer, and that item is lost. The state stays as the closure left it. Making the adapter draws nothing and calls nothing.
     ///
-    /// It asks that the closure may be called on each item that may come, with each state that such calls lead to.
+    /// Asks that the closure may be called on each item that may come, with each state that such calls lead to.
     final fn scan<St, B, F>(self, initial_state: St, f: F) -> Scan<Self, St, F>
     where
         F: FnMut(&mut St, Self::Item) -> Result<Option<B>, Self::Error>,
-        requires { IsCallable (scan_call F.FnMut) (scan_takes F.FnMut) (contract.gives self)
+        requires { IsCallable (scan_call F.FnMut) (scan_takes F.FnMut) (contract.may_give self)
             (initial_state, f) }
         ensures parts { scan_parts result ≡ (self, (initial_state, f)) }
         ensures lists { OverListWith (ActsWithState (scan_call F.FnMut) f) contract.steps self
@@ -540,8 +541,8 @@ pub trait FallibleIterator: Drop + Sized {
             I.IntoFallibleIter.contract)).steps result (chained a b)) }
     {
         Chain {
-            front: self,
-            back: it.into_fallible_iter(),
+            first: self,
+            second: it.into_fallible_iter(),
             still_drawn: StillDrawn::Both,
         }
     }
@@ -572,11 +573,11 @@ pub trait FallibleIterator: Drop + Sized {
 
     /// Joins the answers of the inner iterators that the items become: the one in hand answers until its end, at which it is dropped, and then the next item is drawn. A failure of the inner iterator is the answer, and keeps it in hand. A failure or an end of this iterator is the answer, and the next call draws from it again. Making the adapter draws nothing.
     ///
-    /// It asks a number to come, since many inner iterators may end at once. Each draw asks that the inner iterator in hand and each that may come may be drawn from; a drain also asks a number to come of the one in hand, and one that serves for each that may come.
+    /// Asks that it is finite, since many inner iterators may end at once. Each draw asks that the inner iterator in hand and each that may come may be drawn from; a drain also asks that the one in hand is finite, and one bound that serves for each that may come.
     final fn flatten(self) -> Flatten<Self, <Self::Item as IntoFallibleIterator>::IntoFallibleIter>
     where
         Self::Item: IntoFallibleIterator<Error = Self::Error>,
-        requires { contract.has_end self }
+        requires { contract.is_finite self }
         ensures parts { flatten_parts result ≡ (self, None) }
         ensures lists { OverListWith
             (EachLists Self.Item.into_gives Self.Item.IntoFallibleIter.contract.steps)
@@ -593,14 +594,14 @@ pub trait FallibleIterator: Drop + Sized {
 
     /// Joins the answers of the inner iterators that the closure makes of the items, as `flatten` does. Where the closure fails, its failure is the answer, that item is lost, and the next call goes on after it. Making the adapter draws nothing and calls nothing.
     ///
-    /// It asks a number to come, since many inner iterators may end at once, and that the closure may be called on each item that may come. Each draw asks that the inner iterator in hand and each that may come may be drawn from; a drain also asks a number to come of the one in hand, and one that serves for each that may come.
+    /// Asks that it is finite, since many inner iterators may end at once, and that the closure may be called on each item that may come. Each draw asks that the inner iterator in hand and each that may come may be drawn from; a drain also asks that the one in hand is finite, and one bound that serves for each that may come.
     final fn flat_map<U, F>(self, f: F) -> FlatMap<Self, U::IntoFallibleIter, F>
     where
         U: IntoFallibleIterator<Error = Self::Error>,
         F: FnMut(Self::Item) -> Result<U, Self::Error>,
-        requires finite { contract.has_end self }
+        requires finite { contract.is_finite self }
         requires callable { IsCallable (call_on F.FnMut) (takes_on F.FnMut)
-            (contract.gives self) f }
+            (contract.may_give self) f }
         ensures outer { map_parts (flatten_parts result).0 ≡ (self, Some f) }
         ensures in_hand { (flatten_parts result).1 ≡ None }
         ensures lists { (inner : U → List (Result U.Item Self.Error))
@@ -621,14 +622,14 @@ pub trait FallibleIterator: Drop + Sized {
     ///
     /// `Fault::Source` of the first failure, after which nothing is drawn. `Fault::Memory` where the collection refused: nothing was drawn where it could not be made, and else the item that it refused was the last one drawn. Of a collection that never refuses it is never answered.
     ///
-    /// It asks a number to come.
+    /// Asks that it is finite.
     final fn collect<C: Collect<Self::Item>>(
         mut self,
         alloc: Global,
     ) -> Result<C, Fault<Self::Error>>
     where
-        requires can { contract.can self }
-        requires finite { contract.has_end self }
+        requires can_next { contract.can_next self }
+        requires finite { contract.is_finite self }
         ensures collects { Collects contract.steps C.made C.empty_refuses C.push_refuses
             self result }
         ensures value { OverList contract.steps self (λ l. CollectedAs C.made l result) }
@@ -637,7 +638,7 @@ pub trait FallibleIterator: Drop + Sized {
             Ok(made) => made,
             Err(refused) => return Err(Fault::Memory(refused)),
         };
-        match self.try_fold_carrying(&mut made, &Pushing) {
+        match self.try_fold_carrying(&mut made, &CollectTurn) {
             Exit::Ended(last) => {
                 let _ = &*last;
                 Ok(made)
@@ -651,7 +652,7 @@ pub trait FallibleIterator: Drop + Sized {
     ///
     /// `Fault::Source` of the first failure of the source or of the predicate, after which nothing is drawn. `Fault::Memory` where a collection refused: nothing was drawn where one could not be made, and else the item that was refused was the last one drawn. Of a collection that never refuses it is never answered.
     ///
-    /// It asks a number to come, and that the predicate may be called on each item that may come.
+    /// Asks that it is finite, and that the predicate may be called on each item that may come.
     final fn partition<B: Collect<Self::Item>, F>(
         mut self,
         alloc: Global,
@@ -660,8 +661,8 @@ pub trait FallibleIterator: Drop + Sized {
     where
         Self::Item: Drop,
         F: FnMut(&Self::Item) -> Result<bool, Self::Error>,
-        requires can { contract.can self }
-        requires finite { contract.has_end self }
+        requires can_next { contract.can_next self }
+        requires finite { contract.is_finite self }
         requires callable { HoldsAtEachTurn contract.steps (Asks (call_at F.FnMut))
             (takes_at F.FnMut) self f }
         ensures partitions { Partitions contract.steps (call_at F.FnMut) B.made B.empty_refuses
@@ -678,7 +679,7 @@ pub trait FallibleIterator: Drop + Sized {
             Err(refused) => return Err(Fault::Memory(refused)),
         };
         let mut sides = (first, second);
-        match self.try_fold_carrying((f, &mut sides), &Parting) {
+        match self.try_fold_carrying((f, &mut sides), &PartitionTurn) {
             Exit::Ended(carried) => {
                 let (_f, last) = carried;
                 let _ = &*last;
@@ -691,7 +692,7 @@ pub trait FallibleIterator: Drop + Sized {
 
     /// The first parts of the pairs up to the end in one collection, and the second parts in another. Both collections are made first; then each pair is pushed as it is drawn, its first part before its second, and nothing is reserved ahead. Of equal items a set keeps the first; a map keeps the first of equal keys, with its last value. Where an item fails, nothing is drawn after it: `Fault::Source` is the first failure, before which all pairs were accepted; `Fault::Memory` says that a making was refused, and nothing was drawn, or that a push was refused, whose pair is the last that was drawn and is dropped whole.
     ///
-    /// It asks a number to come.
+    /// Asks that it is finite.
     final fn unzip<A, B, FromA: Collect<A>, FromB: Collect<B>>(
         mut self,
         alloc: Global,
@@ -699,8 +700,8 @@ pub trait FallibleIterator: Drop + Sized {
     where
         Self: FallibleIterator<Item = (A, B)>,
         B: Drop,
-        requires can { contract.can self }
-        requires finite { contract.has_end self }
+        requires can_next { contract.can_next self }
+        requires finite { contract.is_finite self }
         ensures collects { Collects contract.steps (MadeOfParts FromA.made FromB.made)
             (FromA.empty_refuses ⊎ FromB.empty_refuses)
             (PairRefused FromA.made FromB.made FromA.push_refuses FromB.push_refuses) self result }
@@ -716,7 +717,7 @@ pub trait FallibleIterator: Drop + Sized {
             Err(refused) => return Err(Fault::Memory(refused)),
         };
         let mut both = (first, second);
-        match self.try_fold_carrying(&mut both, &PushingParts) {
+        match self.try_fold_carrying(&mut both, &UnzipTurn) {
             Exit::Ended(last) => {
                 let _ = &*last;
                 Ok(both)
@@ -728,12 +729,12 @@ pub trait FallibleIterator: Drop + Sized {
 
     /// Calls the closure on each item in order, up to the end. The first failure, of this iterator or of the closure, is the answer, and nothing is drawn after it.
     ///
-    /// It asks a number to come, and that the closure may be called on each item that may come.
+    /// Asks that it is finite, and that the closure may be called on each item that may come.
     final fn for_each<F>(mut self, f: F) -> Result<(), Self::Error>
     where
         F: FnMut(Self::Item) -> Result<(), Self::Error>,
-        requires can { contract.can self }
-        requires finite { contract.has_end self }
+        requires can_next { contract.can_next self }
+        requires finite { contract.is_finite self }
         requires callable { CallableInSearch (call_on F.FnMut) each_pick contract.steps
             (takes_on F.FnMut) self f }
         ensures searched { (left : Self) × (g : F)
@@ -741,17 +742,17 @@ pub trait FallibleIterator: Drop + Sized {
         ensures value { OverListWith (Acts (call_on F.FnMut) f) contract.steps self
             (λ h l. result ≡ each_done h l) }
     {
-        answer_at(self.try_fold_carrying(f, &CallingEach), ())
+        search_of_exit(self.try_fold_carrying(f, &ForEachTurn), ())
     }
 
     /// Whether the predicate answers true on each item up to the end. It stops at the first item on which it answers false, or fails; a failure that comes first is the answer. Nothing is drawn after the answer that decides, and what is left may be drawn from again.
     ///
-    /// It asks a number to come, and that the predicate may be called on each item that may come until it decides.
+    /// Asks that it is finite, and that the predicate may be called on each item that may come until it decides.
     final fn all<F>(&mut self, f: F) -> Result<bool, Self::Error>
     where
         F: FnMut(Self::Item) -> Result<bool, Self::Error>,
-        requires can { contract.can self.old }
-        requires finite { contract.has_end self.old }
+        requires can_next { contract.can_next self.old }
+        requires finite { contract.is_finite self.old }
         requires callable { CallableInSearch (call_on F.FnMut) all_pick contract.steps
             (takes_on F.FnMut) self.old f }
         ensures searched { (g : F) × Searched (call_on F.FnMut) all_pick contract.steps true
@@ -760,17 +761,17 @@ pub trait FallibleIterator: Drop + Sized {
             (λ h l. result ≡ all_of h l) }
         ensures stays { Stays contract self.old self.new }
     {
-        answer_at(self.try_fold_carrying(f, &RequiringAll), true)
+        search_of_exit(self.try_fold_carrying(f, &AllTurn), true)
     }
 
     /// Whether the predicate answers true on an item before the end. It stops at the first item on which it answers true, or fails; a failure that comes first is the answer. Nothing is drawn after the answer that decides, and what is left may be drawn from again.
     ///
-    /// It asks a number to come, and that the predicate may be called on each item that may come until it decides.
+    /// Asks that it is finite, and that the predicate may be called on each item that may come until it decides.
     final fn any<F>(&mut self, f: F) -> Result<bool, Self::Error>
     where
         F: FnMut(Self::Item) -> Result<bool, Self::Error>,
-        requires can { contract.can self.old }
-        requires finite { contract.has_end self.old }
+        requires can_next { contract.can_next self.old }
+        requires finite { contract.is_finite self.old }
         requires callable { CallableInSearch (call_on F.FnMut) any_pick contract.steps
             (takes_on F.FnMut) self.old f }
         ensures searched { (g : F) × Searched (call_on F.FnMut) any_pick contract.steps false
@@ -779,18 +780,18 @@ pub trait FallibleIterator: Drop + Sized {
             (λ h l. result ≡ any_of h l) }
         ensures stays { Stays contract self.old self.new }
     {
-        answer_at(self.try_fold_carrying(f, &SeekingAny), false)
+        search_of_exit(self.try_fold_carrying(f, &AnyTurn), false)
     }
 
     /// The first item for which the predicate is true; none where no such item comes before the end. It draws up to and with that item, the first failure or the first end, and calls the predicate on each item drawn, in order; where it fails, its failure is the answer. Nothing is drawn after the answer that decides, and what is left may be drawn from again.
     ///
-    /// It asks a number to come, and that the predicate may be called on a reference to each item that may come until it first answers true.
+    /// Asks that it is finite, and that the predicate may be called on a reference to each item that may come until it first answers true.
     final fn find<F>(&mut self, f: F) -> Result<Option<Self::Item>, Self::Error>
     where
         Self::Item: Drop,
         F: FnMut(&Self::Item) -> Result<bool, Self::Error>,
-        requires can { contract.can self.old }
-        requires finite { contract.has_end self.old }
+        requires can_next { contract.can_next self.old }
+        requires finite { contract.is_finite self.old }
         requires callable { CallableInSearch (call_at F.FnMut) find_pick contract.steps
             (takes_at F.FnMut) self.old f }
         ensures searched { (g : F) × Searched (call_at F.FnMut) find_pick contract.steps None
@@ -799,18 +800,18 @@ pub trait FallibleIterator: Drop + Sized {
             (λ h l. result ≡ found h l) }
         ensures stays { Stays contract self.old self.new }
     {
-        let (_, answer) = self.find_carrying(f, &Asking);
+        let (_, answer) = self.find_carrying(f, &FindTest);
         answer
     }
 
     /// The first value that the closure answers on the items in order, each of which it is called on once. A failure that comes first, of this iterator or of the closure, is the answer, and so is an end. Nothing is drawn after the answer that decides, and what is left may be drawn from again.
     ///
-    /// It asks a number to come, and that the closure may be called on each item that may come until it decides.
+    /// Asks that it is finite, and that the closure may be called on each item that may come until it decides.
     final fn find_map<B, F>(&mut self, f: F) -> Result<Option<B>, Self::Error>
     where
         F: FnMut(Self::Item) -> Result<Option<B>, Self::Error>,
-        requires can { contract.can self.old }
-        requires finite { contract.has_end self.old }
+        requires can_next { contract.can_next self.old }
+        requires finite { contract.is_finite self.old }
         requires callable { CallableInSearch (call_on F.FnMut) find_map_pick contract.steps
             (takes_on F.FnMut) self.old f }
         ensures searched { (g : F) × Searched (call_on F.FnMut) find_map_pick contract.steps None
@@ -819,16 +820,16 @@ pub trait FallibleIterator: Drop + Sized {
             (λ h l. result ≡ find_mapped h l) }
         ensures stays { Stays contract self.old self.new }
     {
-        found_at(self.try_fold_carrying(f, &FindingMapped))
+        find_of_exit(self.try_fold_carrying(f, &FindMapTurn))
     }
 
     /// How many items come before the first one on which the predicate answers true; none where no such item comes before the end. A failure that comes first, of this iterator or of the predicate, is the answer. Nothing is drawn after the answer that decides, and what is left may be drawn from again.
     ///
-    /// It asks a number to come of at most `usize::MAX`, and that the predicate may be called on each item that may come until it decides.
+    /// Asks that at most `usize::MAX` items are left, and that the predicate may be called on each item that may come until it decides.
     final fn position<F>(&mut self, f: F) -> Result<Option<usize>, Self::Error>
     where
         F: FnMut(Self::Item) -> Result<bool, Self::Error>,
-        requires can { contract.can self.old }
+        requires can_next { contract.can_next self.old }
         requires fits { AtMost contract self.old (2 ^ 64 - 1) }
         requires callable { CallableInSearch (call_on F.FnMut) position_pick contract.steps
             (takes_on F.FnMut) self.old f }
@@ -838,17 +839,17 @@ pub trait FallibleIterator: Drop + Sized {
             (λ h l. result ≡ position_in h l) }
         ensures stays { Stays contract self.old self.new }
     {
-        found_at(self.try_fold_carrying((0, f), &Placing))
+        find_of_exit(self.try_fold_carrying((0, f), &PositionTurn))
     }
 
     /// The greatest item, of equal ones the last; none where no item comes before the end. The first failure is the answer, and nothing is drawn after it.
     ///
-    /// It asks a number to come.
+    /// Asks that it is finite.
     final fn max(self) -> Result<Option<Self::Item>, Self::Error>
     where
         Self::Item: Ord + Drop,
-        requires can { contract.can self }
-        requires finite { contract.has_end self }
+        requires can_next { contract.can_next self }
+        requires finite { contract.is_finite self }
         ensures best { Best Greater Self.Item.cmp contract.steps self result }
         ensures value { OverList contract.steps self (λ l. result ≡ greatest Self.Item.cmp l) }
     {
@@ -860,12 +861,12 @@ pub trait FallibleIterator: Drop + Sized {
 
     /// The least item, of equal ones the last; none where no item comes before the end. The first failure is the answer, and nothing is drawn after it.
     ///
-    /// It asks a number to come.
+    /// Asks that it is finite.
     final fn min(self) -> Result<Option<Self::Item>, Self::Error>
     where
         Self::Item: Ord + Drop,
-        requires can { contract.can self }
-        requires finite { contract.has_end self }
+        requires can_next { contract.can_next self }
+        requires finite { contract.is_finite self }
         ensures best { Best Less Self.Item.cmp contract.steps self result }
         ensures value { OverList contract.steps self (λ l. result ≡ least Self.Item.cmp l) }
     {
@@ -877,14 +878,14 @@ pub trait FallibleIterator: Drop + Sized {
 
     /// The item of the greatest key, of equal ones the last; none where no item comes before the end. The closure makes the key of each item once, in order. The first failure, of this iterator or of the closure, is the answer, and nothing is drawn after it.
     ///
-    /// It asks a number to come, and that the closure may be called on each item that may come.
+    /// Asks that it is finite, and that the closure may be called on each item that may come.
     final fn max_by_key<B, F>(self, f: F) -> Result<Option<Self::Item>, Self::Error>
     where
         Self::Item: Drop,
         B: Ord + Drop,
         F: FnMut(&Self::Item) -> Result<B, Self::Error>,
-        requires can { contract.can self }
-        requires finite { contract.has_end self }
+        requires can_next { contract.can_next self }
+        requires finite { contract.is_finite self }
         requires callable { CallableInFold contract.steps (KeyCall Greater B.cmp (call_at F.FnMut))
             (λ g best x. takes_at F.FnMut g x) self f None }
         ensures best { BestByKey Greater B.cmp (call_at F.FnMut) contract.steps self f result }
@@ -896,14 +897,14 @@ pub trait FallibleIterator: Drop + Sized {
 
     /// The item of the least key, of equal ones the last; none where no item comes before the end. The closure makes the key of each item once, in order. The first failure, of this iterator or of the closure, is the answer, and nothing is drawn after it.
     ///
-    /// It asks a number to come, and that the closure may be called on each item that may come.
+    /// Asks that it is finite, and that the closure may be called on each item that may come.
     final fn min_by_key<B, F>(self, f: F) -> Result<Option<Self::Item>, Self::Error>
     where
         Self::Item: Drop,
         B: Ord + Drop,
         F: FnMut(&Self::Item) -> Result<B, Self::Error>,
-        requires can { contract.can self }
-        requires finite { contract.has_end self }
+        requires can_next { contract.can_next self }
+        requires finite { contract.is_finite self }
         requires callable { CallableInFold contract.steps (KeyCall Less B.cmp (call_at F.FnMut))
             (λ g best x. takes_at F.FnMut g x) self f None }
         ensures best { BestByKey Less B.cmp (call_at F.FnMut) contract.steps self f result }
@@ -915,13 +916,13 @@ pub trait FallibleIterator: Drop + Sized {
 
     /// The greatest item by the closure, which is called on the best item so far and the next one; of equal ones the last, and none where no item comes before the end. The first failure, of this iterator or of the closure, is the answer, and nothing is drawn after it.
     ///
-    /// It asks a number to come, and that the closure may be called on the best item so far and each item that may come.
+    /// Asks that it is finite, and that the closure may be called on the best item so far and each item that may come.
     final fn max_by<F>(self, f: F) -> Result<Option<Self::Item>, Self::Error>
     where
         Self::Item: Drop,
         F: FnMut(&Self::Item, &Self::Item) -> Result<Ordering, Self::Error>,
-        requires can { contract.can self }
-        requires finite { contract.has_end self }
+        requires can_next { contract.can_next self }
+        requires finite { contract.is_finite self }
         requires callable { CallableInFold contract.steps (PickCall Greater (call_at_two F.FnMut))
             (takes_in_pick (takes_at_two F.FnMut)) self f None }
         ensures picked { Picked Greater (call_at_two F.FnMut) contract.steps self f result }
@@ -933,13 +934,13 @@ pub trait FallibleIterator: Drop + Sized {
 
     /// The least item by the closure, which is called on the best item so far and the next one; of equal ones the last, and none where no item comes before the end. The first failure, of this iterator or of the closure, is the answer, and nothing is drawn after it.
     ///
-    /// It asks a number to come, and that the closure may be called on the best item so far and each item that may come.
+    /// Asks that it is finite, and that the closure may be called on the best item so far and each item that may come.
     final fn min_by<F>(self, f: F) -> Result<Option<Self::Item>, Self::Error>
     where
         Self::Item: Drop,
         F: FnMut(&Self::Item, &Self::Item) -> Result<Ordering, Self::Error>,
-        requires can { contract.can self }
-        requires finite { contract.has_end self }
+        requires can_next { contract.can_next self }
+        requires finite { contract.is_finite self }
         requires callable { CallableInFold contract.steps (PickCall Less (call_at_two F.FnMut))
             (takes_in_pick (takes_at_two F.FnMut)) self f None }
         ensures picked { Picked Less (call_at_two F.FnMut) contract.steps self f result }
@@ -951,7 +952,7 @@ pub trait FallibleIterator: Drop + Sized {
 
     /// How the two compare by the order of their items: as the first two items that aren't equal, and where there are none, the side that ends alone is less. It draws in rounds, this iterator and then the other, until a failure, an end or two items that decide, and nothing after that; where this one ended, the other is still drawn. The failure that comes first is the answer: in each round one of this iterator before one of the other, which is not drawn then.
     ///
-    /// It asks that both sides may be drawn from, and a number to come of one of them.
+    /// Asks that both sides may be drawn from, and that one of them is finite.
     final fn cmp<I>(self, other: I) -> Result<Ordering, Self::Error>
     where
         I: IntoFallibleIterator<Item = Self::Item, Error = Self::Error>,
@@ -969,7 +970,7 @@ pub trait FallibleIterator: Drop + Sized {
 
     /// How the two compare by the order of their items: as the first two items that aren't equal, none where those have no order, and where there are none, the side that ends alone is less. It draws in rounds, this iterator and then the other, until a failure, an end or two items that decide, and nothing after that; where this one ended, the other is still drawn. The failure that comes first is the answer: in each round one of this iterator before one of the other, which is not drawn then.
     ///
-    /// It asks that both sides may be drawn from, and a number to come of one of them.
+    /// Asks that both sides may be drawn from, and that one of them is finite.
     final fn partial_cmp<I>(self, other: I) -> Result<Option<Ordering>, Self::Error>
     where
         I: IntoFallibleIterator<Item = Self::Item, Error = Self::Error>,
@@ -986,7 +987,7 @@ pub trait FallibleIterator: Drop + Sized {
 
     /// Whether the two give equal items, one by one, and end together. It draws in rounds, this iterator and then the other, until a failure, an end or two items that decide, and nothing after that; where this one ended, the other is still drawn. The failure that comes first is the answer: in each round one of this iterator before one of the other, which is not drawn then.
     ///
-    /// It asks that both sides may be drawn from, and a number to come of one of them.
+    /// Asks that both sides may be drawn from, and that one of them is finite.
     final fn eq<I>(self, other: I) -> Result<bool, Self::Error>
     where
         I: IntoFallibleIterator<Item = Self::Item, Error = Self::Error>,
@@ -1004,7 +1005,7 @@ pub trait FallibleIterator: Drop + Sized {
 
     /// Whether the two differ: the opposite of `eq`. It draws in rounds, this iterator and then the other, until a failure, an end or two items that decide, and nothing after that; where this one ended, the other is still drawn. The failure that comes first is the answer: in each round one of this iterator before one of the other, which is not drawn then.
     ///
-    /// It asks that both sides may be drawn from, and a number to come of one of them.
+    /// Asks that both sides may be drawn from, and that one of them is finite.
     final fn ne<I>(self, other: I) -> Result<bool, Self::Error>
     where
         I: IntoFallibleIterator<Item = Self::Item, Error = Self::Error>,
@@ -1022,7 +1023,7 @@ pub trait FallibleIterator: Drop + Sized {
 
     /// Whether this one is less than the other, by `partial_cmp`; false where two items have no order. It draws in rounds, this iterator and then the other, until a failure, an end or two items that decide, and nothing after that; where this one ended, the other is still drawn. The failure that comes first is the answer: in each round one of this iterator before one of the other, which is not drawn then.
     ///
-    /// It asks that both sides may be drawn from, and a number to come of one of them.
+    /// Asks that both sides may be drawn from, and that one of them is finite.
     final fn lt<I>(self, other: I) -> Result<bool, Self::Error>
     where
         I: IntoFallibleIterator<Item = Self::Item, Error = Self::Error>,
@@ -1043,7 +1044,7 @@ pub trait FallibleIterator: Drop + Sized {
 
     /// Whether this one is less than the other or equal, by `partial_cmp`; false where two items have no order. It draws in rounds, this iterator and then the other, until a failure, an end or two items that decide, and nothing after that; where this one ended, the other is still drawn. The failure that comes first is the answer: in each round one of this iterator before one of the other, which is not drawn then.
     ///
-    /// It asks that both sides may be drawn from, and a number to come of one of them.
+    /// Asks that both sides may be drawn from, and that one of them is finite.
     final fn le<I>(self, other: I) -> Result<bool, Self::Error>
     where
         I: IntoFallibleIterator<Item = Self::Item, Error = Self::Error>,
@@ -1064,7 +1065,7 @@ pub trait FallibleIterator: Drop + Sized {
 
     /// Whether this one is greater than the other, by `partial_cmp`; false where two items have no order. It draws in rounds, this iterator and then the other, until a failure, an end or two items that decide, and nothing after that; where this one ended, the other is still drawn. The failure that comes first is the answer: in each round one of this iterator before one of the other, which is not drawn then.
     ///
-    /// It asks that both sides may be drawn from, and a number to come of one of them.
+    /// Asks that both sides may be drawn from, and that one of them is finite.
     final fn gt<I>(self, other: I) -> Result<bool, Self::Error>
     where
         I: IntoFallibleIterator<Item = Self::Item, Error = Self::Error>,
@@ -1085,7 +1086,7 @@ pub trait FallibleIterator: Drop + Sized {
 
     /// Whether this one is greater than the other or equal, by `partial_cmp`; false where two items have no order. It draws in rounds, this iterator and then the other, until a failure, an end or two items that decide, and nothing after that; where this one ended, the other is still drawn. The failure that comes first is the answer: in each round one of this iterator before one of the other, which is not drawn then.
     ///
-    /// It asks that both sides may be drawn from, and a number to come of one of them.
+    /// Asks that both sides may be drawn from, and that one of them is finite.
     final fn ge<I>(self, other: I) -> Result<bool, Self::Error>
     where
         I: IntoFallibleIterator<Item = Self::Item, Error = Self::Error>,
@@ -1118,12 +1119,12 @@ pub trait FallibleIterator: Drop + Sized {
 
     /// Begins anew at each end, with a clone of this iterator, which is kept. It clones once now, for the first run, and draws nothing; where that clone is refused, this iterator is dropped and the answer is `Err(AllocError)`. A clone that is refused later is a failure, after which the run goes on.
     ///
-    /// It asks that each of its clones may be drawn from, as is so where clones equal their originals. It has no number to come, so it is drained through `take`.
+    /// Asks that each of its clones may be drawn from, as is so where clones equal their originals. It states no bound, so it is drained through `take`.
     final fn cycle(self) -> Result<Cycle<Self>, AllocError>
     where
         Self: Clone,
         Self::Error: From<AllocError>,
-        requires { (c : Self) → Self.is_clone self c → contract.can c }
+        requires { (c : Self) → Self.is_clone self c → contract.can_next c }
         ensures { MatchResult result
             (λ made. Self.is_clone self (cycle_parts made).0 × ((cycle_parts made).1 ≡ self))
             (λ _. ¬ (Self.is_infallible self)) }
@@ -1137,7 +1138,7 @@ pub trait FallibleIterator: Drop + Sized {
 
     /// `next`, which also says that what is left may be drawn from again: so a proof that draws several times by hand goes on by itself.
     final fn draw(&mut self) -> Result<Option<Self::Item>, Self::Error>
-        requires { contract.can self.old }
+        requires { contract.can_next self.old }
         ensures drawn { contract.steps self.old result self.new }
         ensures stays { Stays contract self.old self.new }
     {
@@ -1170,7 +1171,7 @@ pub trait FallibleIterator: Drop + Sized {
     where
         Self: FallibleIterator<Item = T>,
         Self::Error: Debug,
-        requires sure { Sure contract self }
+        requires sure { NeverFails contract self }
         ensures parts { unwrap_parts result ≡ self }
         ensures reads { OverList contract.steps self
             (λ l. EachRunFrom (unwrap_steps contract.steps) result

@@ -7,9 +7,9 @@ use Rattle.fallible_contract.specs.Traces.{Answered}
 use Rattle.fallible_contract.specs.Closures.{Steady}
 use Rattle.fallible_contract.specs.declared.passing.Outcome.{Outcome}
 use Rattle.fallible_contract.specs.Lists.{Lists, Acts, mapped, failures_mapped, pointed_to, chained}
-use Rattle.fallible_contract.specs.Listed.{Listed, Mix, Interleaves, items_listed, failures_listed, source_list, passed_list}
+use Rattle.fallible_contract.specs.BothEnds.{ListsBothEnds, RunAtEnds, Interleaves, items_listed, failures_listed, source_list, passed_list}
 use Rattle.fallible_core.specs.declared.joining.chain.StillDrawn.{StillDrawn}
-use Rattle.fallible_core.specs.declared.joining.chain.StillDrawn.TheVariants.{Both, FrontAlone, BackAlone}
+use Rattle.fallible_core.specs.declared.joining.chain.StillDrawn.TheVariants.{Both, FirstAlone, SecondAlone}
 use Rattle.fallible_iterator.specs.Sources.Std.{element_by}
 
 -- An adapter that calls a closure on each item: what becomes of each item by the closure's answer, where that answer stands beside the item, whatever state the calls bring the closure to; and the list function of what the closure acts as.
@@ -27,11 +27,11 @@ pub record ListsClones {V S T E : Type 0} (parts : V → S × Unit {0}) (is_clon
   pub clones : (s : V) (it : S) (asked : List (Result (Bor T × T) E)) → parts s ≡ (it, tt) → All (λ c. is_infallible c.0.now × ((y : T) → is_clone c.0.now y → y ≡ c.1)) (items_listed asked) → lists_source it (source_list asked) → lists s (mapped (λ c. Ok c.1) asked)
   pub originals : (s : V) (it : S) (l : List (Result (Bor T) E)) → parts s ≡ (it, tt) → ((x y : T) → is_clone x y → y ≡ x) → ((x : T) → is_infallible x) → lists_source it l → lists s (pointed_to l)
 
--- One that joins two sources: the front's list and then the back's; where one side alone is still drawn, the list of that side.
-pub record ListsBothSides {V T U A E : Type 0} (parts : V → T × U × StillDrawn) (lists_front : T → List (Result A E) → Type 0) (lists_back : U → List (Result A E) → Type 0) (lists : V → List (Result A E) → Type 0) : Type 0 where
-  pub both : (s : V) (t : T) (u : U) (a b : List (Result A E)) → parts s ≡ (t, u, Both) → lists_front t a → lists_back u b → lists s (chained a b)
-  pub front_alone : (s : V) (t : T) (u : U) (l : List (Result A E)) → parts s ≡ (t, u, FrontAlone) → lists_front t l → lists s l
-  pub back_alone : (s : V) (t : T) (u : U) (l : List (Result A E)) → parts s ≡ (t, u, BackAlone) → lists_back u l → lists s l
+-- One that joins two sources: the first's list and then the second's; where one side alone is still drawn, the list of that side.
+pub record ListsBothSides {V T U A E : Type 0} (parts : V → T × U × StillDrawn) (lists_first : T → List (Result A E) → Type 0) (lists_second : U → List (Result A E) → Type 0) (lists : V → List (Result A E) → Type 0) : Type 0 where
+  pub both : (s : V) (t : T) (u : U) (a b : List (Result A E)) → parts s ≡ (t, u, Both) → lists_first t a → lists_second u b → lists s (chained a b)
+  pub first_alone : (s : V) (t : T) (u : U) (l : List (Result A E)) → parts s ≡ (t, u, FirstAlone) → lists_first t l → lists s l
+  pub second_alone : (s : V) (t : T) (u : U) (l : List (Result A E)) → parts s ≡ (t, u, SecondAlone) → lists_second u l → lists s l
 
 -- One that swaps the ends: the reverse of its source's list, and the other way round.
 pub record ListsReversed {V S A E : Type 0} (source_of : V → S) (lists_source : S → List (Result A E) → Type 0) (lists : V → List (Result A E) → Type 0) : Type 0 where
@@ -48,14 +48,14 @@ DrawsTheSame {V = V} {A = A} {E = E} behind mixes_source mixes = (s : V) (drawn 
 
 -- Where these answers can be drawn from the ends of s and leave t, what came in front, what is left, and what came behind, reversed, make l.
 abbrev pub DrawsInterleave : {S A E : Type 0} → (S → Answered A E → S → Type 0) → (S → Answered A E → S → Type 0) → List (Result A E) → S → List (Side × Answered A E) → S → Type 0
-DrawsInterleave steps steps_back l s drawn t = Mix steps steps_back s drawn t → Interleaves steps steps_back l drawn t
+DrawsInterleave steps steps_back l s drawn t = RunAtEnds steps steps_back s drawn t → Interleaves steps steps_back l drawn t
 
 -- A source over a std iterator: what that iterator lists, call by call from both ends; and what is left of one whose state shows it, where each call of `next` gives the first of it, and each of `next_back` the last.
 pub record ListsElements {V S A E Z : Type 0} (parts : V → S) (of_item : A → Z) (of_failure : E → Z) (list : List Z → List (Result A E)) (gives gives_back : S → Option Z → S → Type 0) (lists : V → List (Result A E) → Type 0) : Type 0 where
-  pub listed : (s : V) (l : List (Result A E)) → Listed (λ a r b. gives a (element_by of_item of_failure r) b) (λ a r b. gives_back a (element_by of_item of_failure r) b) (parts s) l → lists s l
+  pub listed : (s : V) (l : List (Result A E)) → ListsBothEnds (λ a r b. gives a (element_by of_item of_failure r) b) (λ a r b. gives_back a (element_by of_item of_failure r) b) (parts s) l → lists s l
   pub rest : (rest : S → List Z) → ((a : S) (o : Option Z) (b : S) → gives a o b → YieldsFirst rest a o b) → ((a : S) (o : Option Z) (b : S) → gives_back a o b → YieldsLast rest a o b) → (s : V) → lists s (list (rest (parts s)))
 
 -- What both ends list, each of them lists: the front the list, and the back its reverse.
 pub record ListsAtEachEnd {S A E : Type 0} (steps steps_back : S → Answered A E → S → Type 0) : Type 0 where
-  pub front : (s : S) (l : List (Result A E)) → Listed steps steps_back s l → Lists steps s l
-  pub back : (s : S) (l : List (Result A E)) → Listed steps steps_back s l → Lists steps_back s (reverse l)
+  pub front : (s : S) (l : List (Result A E)) → ListsBothEnds steps steps_back s l → Lists steps s l
+  pub back : (s : S) (l : List (Result A E)) → ListsBothEnds steps steps_back s l → Lists steps_back s (reverse l)

@@ -4,7 +4,7 @@ use Rattle.std.specs.Iterator as calls
 use Rattle.std.specs.Iterator.{Count, at_most}
 use Rattle.fallible_contract.specs.Traces.{Answered, Yields, end}
 use Rattle.fallible_contract.specs.Contract.{Contract}
-use Rattle.fallible_contract.specs.Listed.{items_listed, failures_listed}
+use Rattle.fallible_contract.specs.BothEnds.{items_listed, failures_listed}
 
 module _ {S A E : Type 0} (steps : S → Answered A E → S → Type 0) (s : S) where
   -- Each run of items alone from s has at most the upper bound of them, where there is one.

@@ -1,5 +1,6 @@
 //! What a trace of each type is, as laws, and traces that a test or a caller can look at.
 pub mod borrowed;
+mod bound;
 pub mod bridges;
 pub mod comparing;
 mod cutting;
@@ -12,10 +13,10 @@ pub mod nests;
 mod one_to_one;
 mod peeking;
 pub mod sources;
-mod to_come;
 pub mod traces;
 
 pub use borrowed::law_borrowed;
+pub use bound::{law_bound, law_bound_ends};
 pub use bridges::{law_back_iterator, law_iterator, law_unwrap};
 pub use comparing::law_eq_is_cmp_equal;
 pub use cutting::{law_fuse, law_skip, law_step_by, law_take, law_take_while};
@@ -42,5 +43,4 @@ pub use sources::{
     law_into_fallible, law_listed_convert, law_listed_into_fallible, law_once, law_once_err,
     law_repeat, law_repeat_err, law_sources,
 };
-pub use to_come::{law_to_come, law_to_come_ends};
 pub use traces::{answers, answers_at};

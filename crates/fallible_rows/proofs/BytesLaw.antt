@@ -16,7 +16,7 @@ use Rattle.fallible_rows.specs.RowTraces.{row_answer, row_answers, IsOneRow, IsC
 use Rattle.fallible_rows.proofs.RowLemmas.{not_newline, rows-closed}
 use Rattle.fallible_core.proofs.Lemmas.Callers.{turns_split}
 use Rattle.fallible_rows.proofs.RowsLaw.{to_trace, from_trace}
-use Rattle.fallible_rows.proofs.FrontLemmas.{gives_consumes, end_consumes}
+use Rattle.fallible_rows.proofs.PrefixLemmas.{gives_consumes, end_consumes}
 
 abbrev Answers : Type 0
 Answers = List (Answered ℕ RowFault)
@@ -57,10 +57,10 @@ rest_of None new bytes known is taken = absurd cc
 rest_of (Some x) None bytes known is taken = absurd taken
 rest_of (Some x) (Some y) bytes known is taken = let same : x ≡ known = cc in (y, sym same ∙ taken, λ e. e)
 
-fails_there : (front rest : Answers) → NeverFailsToRead (front ++ failure Read ∷ rest) → ⊥
-fails_there front rest h =
-    let long = length-append front (failure Read ∷ rest) in
-    h (length front) end (omega (arith, long)) (get_or-append_seam front (failure Read) rest end)
+fails_there : (prefix rest : Answers) → NeverFailsToRead (prefix ++ failure Read ∷ rest) → ⊥
+fails_there prefix rest h =
+    let long = length-append prefix (failure Read ∷ rest) in
+    h (length prefix) end (omega (arith, long)) (get_or-append_seam prefix (failure Read) rest end)
 
 module _ {B : Type 0} (left : B → Option (List ℕ)) (stays : B → B → Type 0) where
   answers_known : (bytes : List ℕ) (trace : Answers) (r : B) (a : Ahead) (p : B × Option Ahead) → a.place ≡ 1 → left r ≡ Some bytes → NeverFailsToRead trace → ReadsRows left stays r a trace p → AnswersRowsOf bytes trace
@@ -68,11 +68,11 @@ module _ {B : Type 0} (left : B → Option (List ℕ)) (stays : B → B → Type
     | inl s ↦
         let whole : h.closed ++ h.unclosed ≡ h.closed = ap (λ l. h.closed ++ l) s.none_unclosed ∙ append-nil h.closed in
         let k = rest_of (left r) (left h.last) h.closed bytes tells (subst (Consumes (left r) (left h.last)) whole (gives_consumes left stays (h.closed ++ h.unclosed) r h.last h.given)) in
-        let front = row_answers 1 (rows h.closed) in
+        let prefix = row_answers 1 (rows h.closed) in
         let more = row_answers (1 + length (rows h.closed)) (rows k.0) in
-        let is : trace ≡ front = s.answers ∙ ap (λ n. row_answers n (rows h.closed)) first in
-        let all : row_answers 1 (rows bytes) ++ [] ≡ front ++ more = append-nil (row_answers 1 (rows bytes)) ∙ ap (λ l. row_answers 1 (rows l)) k.1 ∙ ap (row_answers 1) (rows-closed h.closed k.0 h.are_closed) ∙ answers_append 1 (rows h.closed) (rows k.0) in
-        (length front, 0, is ∙ sym (ap (take (length front)) all ∙ take_at front more (length front) refl))
+        let is : trace ≡ prefix = s.answers ∙ ap (λ n. row_answers n (rows h.closed)) first in
+        let all : row_answers 1 (rows bytes) ++ [] ≡ prefix ++ more = append-nil (row_answers 1 (rows bytes)) ∙ ap (λ l. row_answers 1 (rows l)) k.1 ∙ ap (row_answers 1) (rows-closed h.closed k.0 h.are_closed) ∙ answers_append 1 (rows h.closed) (rows k.0) in
+        (length prefix, 0, is ∙ sym (ap (take (length prefix)) all ∙ take_at prefix more (length prefix) refl))
     | inr k ↦ elim k [
       | inl s ↦
           let k = rest_of (left r) (left p.0) (h.closed ++ h.unclosed) bytes tells (end_consumes left stays (h.closed ++ h.unclosed) r h.last p.0 h.given s.met_end) in
@@ -115,9 +115,9 @@ module _ {B : Type 0} (left : B → Option (List ℕ)) (stays : B → B → Type
 
   pub bytes_each : (bytes : List ℕ) (trace : Answers) (p : B × Option Ahead) → BeginsWith left stays p bytes → CanGiveAll left stays p bytes → AnswersRowsOf bytes trace → (q : B × Option Ahead) × Run (row_step left stays) p trace q
   bytes_each bytes trace p b c h =
-      let front = row_answers 1 (rows bytes) in
-      let known = front ++ replicate h.1 end in
-      let one_more : front ++ replicate (h.1 + 1) end ≡ take h.0 known ++ (drop h.0 known ++ end ∷ []) =
-      ap (λ l. front ++ l) (replicate_next h.1 end) ∙ sym (append_assoc front (replicate h.1 end) (end ∷ [])) ∙ ap (λ l. l ++ end ∷ []) (sym (take-append-drop h.0 known)) ∙ append_assoc (take h.0 known) (drop h.0 known) (end ∷ []) in
+      let prefix = row_answers 1 (rows bytes) in
+      let known = prefix ++ replicate h.1 end in
+      let one_more : prefix ++ replicate (h.1 + 1) end ≡ take h.0 known ++ (drop h.0 known ++ end ∷ []) =
+      ap (λ l. prefix ++ l) (replicate_next h.1 end) ∙ sym (append_assoc prefix (replicate h.1 end) (end ∷ [])) ∙ ap (λ l. l ++ end ∷ []) (sym (take-append-drop h.0 known)) ∙ append_assoc (take h.0 known) (drop h.0 known) (end ∷ []) in
       let parts = turns_split (row_step left stays) (take h.0 known) (drop h.0 known ++ end ∷ []) p (c.after, None) (subst (λ l. Run (row_step left stays) p l (c.after, None)) one_more (all_answers bytes h.1 p b c)) in
       (parts.0, subst (λ l. Run (row_step left stays) p l parts.0) (sym h.2) parts.1)

@@ -4,7 +4,7 @@ use Rattle.std.specs.Fn.{Mut}
 use Rattle.std.specs.Borrow.{Bor}
 use Rattle.std.proofs.lemmas.List.Sums.{length-filter}
 use Rattle.fallible_contract.specs.Traces.{Answered, Run, item, end}
-use Rattle.fallible_contract.specs.Contract.{Contract, seen_as, unbounded}
+use Rattle.fallible_contract.specs.Contract.{Contract, seen_as, unbounded_contract}
 use Rattle.fallible_contract.specs.Closures.{call_at}
 use Rattle.fallible_contract.specs.Lists.{Acts}
 use Rattle.fallible_core.specs.declared.cutting.take.Take.{Take}
@@ -25,7 +25,7 @@ module _ {B : Type 0} (left : B → Option (List ℕ)) (stays : B → B → Type
   ReadsAtMost n xs last p = (ReadsRows left stays r a (map item xs ++ last ∷ []) p × (length xs < n)) ⊎ (ReadsRows left stays r a (map item xs) p × (last ≡ end) × (length xs ≡ n))
 
   abbrev row_contract : Contract (Rows B) ℕ RowFault
-  row_contract = seen_as rows_parts (unbounded (row_step left stays))
+  row_contract = seen_as rows_parts (unbounded_contract (row_step left stays))
 
   -- what the rows of the reader answered, of which so many are above 100, and what was read
   pub record ChainReads (n count : ℕ) (last : Answered ℕ RowFault) (p : B × Option Ahead) : Type 0 where

@@ -1,6 +1,6 @@
 pub mod BytesLaw
 pub mod ChainLemmas
-pub mod FrontLemmas
+pub mod PrefixLemmas
 pub mod ReportLemmas
 pub mod RowLemmas
 pub mod RowsLaw

@@ -14,7 +14,7 @@ use Rattle.fallible_rows.specs.declared.fault.RowFault.TheVariants.{Row}
 use Rattle.fallible_rows.specs.Rows.{rows, row_number}
 use Rattle.fallible_rows.specs.Report.{row_limit, first_rows, is_refused, is_above, unless_refused, tally, report, line_of_count}
 use Rattle.fallible_rows.specs.RowTraces.{told_place, answer_of_number, row_answer, row_answers, IsClosed}
-use Rattle.fallible_rows.specs.Run.{AreNumbers, but_last, ReadsFront}
+use Rattle.fallible_rows.specs.Run.{AreNumbers, but_last, ReadsPrefix}
 use Rattle.fallible_rows.proofs.RowLemmas.{rows-closed, rows-none}
 
 pub row_limit-is : row_limit ≡ 1000000
@@ -140,7 +140,7 @@ tally-refused bytes good bad more are numbers refused few =
     let none : 0 + length good ≡ length good = omega arith in
     ap (λ o. unless_refused o (count_by is_above (first_rows bytes))) at ∙ ap (λ n. Err (n + 1)) none
 
--- ---- the front that is read
+-- ---- the prefix that is read
 
 -- what follows the bytes doesn't change their report
 abbrev SameWithMore : List ℕ → Type 0
@@ -152,8 +152,8 @@ same_report-deciding (Some x) None bytes taken same = absurd taken
 same_report-deciding (Some x) (Some y) bytes taken same = same y ∙ ap report (sym taken)
 
 -- closed bytes with as many rows as are looked at
-full_same : (bytes : List ℕ) → IsClosed bytes → length (rows bytes) ≡ row_limit → SameWithMore bytes
-full_same bytes closed long more =
+same_with_more-full : (bytes : List ℕ) → IsClosed bytes → length (rows bytes) ≡ row_limit → SameWithMore bytes
+same_with_more-full bytes closed long more =
     let rest : first_rows (bytes ++ more) ≡ rows bytes = ap (take row_limit) (rows-closed bytes more closed) ∙ take_at (rows bytes) (rows more) row_limit long in
     let all : first_rows bytes ≡ rows bytes = take_all row_limit (rows bytes) (omega (arith, long)) in
     ap (λ rs. line_of_count (unless_refused (position is_refused rs) (count_by is_above rs))) (all ∙ sym rest)
@@ -165,7 +165,7 @@ refused_same bytes good bad closed are numbers refused few more =
     ap line_of_count (tally-refused bytes good bad [] are numbers refused few ∙ sym (tally-refused (bytes ++ more) good bad (rows more) joined numbers refused few))
 
 -- closed bytes with rows end with a newline
-ends_with_newline : (bytes : List ℕ) → IsClosed bytes → 0 < length (rows bytes) → (front : List ℕ) × (bytes ≡ front ++ 10 ∷ [])
+ends_with_newline : (bytes : List ℕ) → IsClosed bytes → 0 < length (rows bytes) → (prefix : List ℕ) × (bytes ≡ prefix ++ 10 ∷ [])
 ends_with_newline bytes (inl none) some = absurd (let e = ap (λ l. length (rows l)) none ∙ ap length rows-none in omega (arith, some, e))
 ends_with_newline bytes (inr h) some = h
 
@@ -178,19 +178,19 @@ but_last-good rs good bad are h =
     subst (λ l. AreNumbers (but_last l)) (sym are) (subst AreNumbers (sym (ap (λ n. take n (good ++ bad ∷ [])) long ∙ take_at good (bad ∷ []) (length good) refl)) h)
 
 module _ (old new : Option (List ℕ)) (bytes : List ℕ) (taken : Consumes old new bytes) where
-  pub front_at_end : IsAtEnd new → AreNumbers (but_last (rows bytes)) → length (rows bytes) ≤ row_limit → ReadsFront old new bytes
-  front_at_end at_end numbers few = record { taken = taken; none_sooner = (numbers, few); closed = inr at_end; same_report = Consumes-whole old new bytes (λ known. report bytes ≡ report known) taken at_end refl }
+  pub prefix_at_end : IsAtEnd new → AreNumbers (but_last (rows bytes)) → length (rows bytes) ≤ row_limit → ReadsPrefix old new bytes
+  prefix_at_end at_end numbers few = record { taken = taken; none_sooner = (numbers, few); closed = inr at_end; same_report = Consumes-whole old new bytes (λ known. report bytes ≡ report known) taken at_end refl }
 
-  pub front_full : IsClosed bytes → AreNumbers (rows bytes) → length (rows bytes) ≡ row_limit → ReadsFront old new bytes
-  front_full closed numbers long = record {
+  pub prefix_full : IsClosed bytes → AreNumbers (rows bytes) → length (rows bytes) ≡ row_limit → ReadsPrefix old new bytes
+  prefix_full closed numbers long = record {
     taken = taken;
     none_sooner = (but_last-numbers (rows bytes) numbers, omega (arith, long));
     closed = inl (ends_with_newline bytes closed (omega (arith, long, row_limit-is)), inl long);
-    same_report = same_report-deciding old new bytes taken (full_same bytes closed long);
+    same_report = same_report-deciding old new bytes taken (same_with_more-full bytes closed long);
   }
 
-  pub front_refused : (good : List (List ℕ)) (bad : List ℕ) → IsClosed bytes → rows bytes ≡ good ++ bad ∷ [] → AreNumbers good → is_refused bad ≡ true → length good < row_limit → ReadsFront old new bytes
-  front_refused good bad closed are numbers refused few =
+  pub prefix_refused : (good : List (List ℕ)) (bad : List ℕ) → IsClosed bytes → rows bytes ≡ good ++ bad ∷ [] → AreNumbers good → is_refused bad ≡ true → length good < row_limit → ReadsPrefix old new bytes
+  prefix_refused good bad closed are numbers refused few =
       let long : length (rows bytes) ≡ length good + 1 = ap length are ∙ length_push good bad in
       record {
         taken = taken;
@@ -199,7 +199,7 @@ module _ (old new : Option (List ℕ)) (bytes : List ℕ) (taken : Consumes old 
         same_report = same_report-deciding old new bytes taken (refused_same bytes good bad closed are numbers refused few);
       }
 
-  pub front_refused_at_end : (good : List (List ℕ)) (bad : List ℕ) → IsAtEnd new → rows bytes ≡ good ++ bad ∷ [] → AreNumbers good → length good < row_limit → ReadsFront old new bytes
-  front_refused_at_end good bad at_end are numbers few =
+  pub prefix_refused_at_end : (good : List (List ℕ)) (bad : List ℕ) → IsAtEnd new → rows bytes ≡ good ++ bad ∷ [] → AreNumbers good → length good < row_limit → ReadsPrefix old new bytes
+  prefix_refused_at_end good bad at_end are numbers few =
       let long : length (rows bytes) ≡ length good + 1 = ap length are ∙ length_push good bad in
-      front_at_end at_end (but_last-good (rows bytes) good bad are numbers) (omega (arith, long, few))
+      prefix_at_end at_end (but_last-good (rows bytes) good bad are numbers) (omega (arith, long, few))

@@ -112,8 +112,8 @@ pub row_number-too_great : (bytes : List ℕ) (byte n : ℕ) (more : List ℕ) �
 row_number-too_great bytes byte n more is h great =
     let before = number_of_row bytes n is in
     let value = digits_value-more bytes byte h in
-    let front : take (length (bytes ++ byte ∷ [])) ((bytes ++ byte ∷ []) ++ more) ≡ bytes ++ byte ∷ [] = take_at (bytes ++ byte ∷ []) more (length (bytes ++ byte ∷ [])) refl in
-    row_number-by_value ((bytes ++ byte ∷ []) ++ more) (length (bytes ++ byte ∷ [])) (rw front (omega (arith, value, before.1)))
+    let prefix : take (length (bytes ++ byte ∷ [])) ((bytes ++ byte ∷ []) ++ more) ≡ bytes ++ byte ∷ [] = take_at (bytes ++ byte ∷ []) more (length (bytes ++ byte ∷ [])) refl in
+    row_number-by_value ((bytes ++ byte ∷ []) ++ more) (length (bytes ++ byte ∷ [])) (rw prefix (omega (arith, value, before.1)))
 
 -- ---- rows, one after another
 
@@ -126,15 +126,15 @@ newline_no byte other = ne_eqb byte 10 other
 
 -- a list of one element or more ends in one
 record Ends {X : Type 0} (xs : List X) : Type 0 where
-  front : List X
+  prefix : List X
   last : X
-  is : xs ≡ front ++ last ∷ []
+  is : xs ≡ prefix ++ last ∷ []
 
 ends_cons : {X : Type 0} (x : X) (xs : List X) → Ends xs → Ends (x ∷ xs)
-ends_cons x xs e = record { front = x ∷ e.front; last = e.last; is = ap (λ l. x ∷ l) e.is }
+ends_cons x xs e = record { prefix = x ∷ e.prefix; last = e.last; is = ap (λ l. x ∷ l) e.is }
 
 ends_of : {X : Type 0} (x : X) (xs : List X) → Ends (x ∷ xs)
-ends_of x [] = record { front = []; last = x; is = refl }
+ends_of x [] = record { prefix = []; last = x; is = refl }
 ends_of x (y ∷ ys) = ends_cons x (y ∷ ys) (ends_of y ys)
 
 -- a list of pieces whose last one is an empty one, or is not
@@ -150,15 +150,15 @@ without_empty_last-full pieces last full =
     rw (n, get_or_push pieces last [] (length pieces) refl) (cond-false _ _ _ ne)
 
 -- a piece before others
-without_empty_last-onto : (piece : List ℕ) (front : List (List ℕ)) (last : List ℕ) → without_empty_last (piece ∷ (front ++ last ∷ [])) ≡ piece ∷ without_empty_last (front ++ last ∷ [])
-without_empty_last-onto piece front [] = without_empty_last-empty (piece ∷ front) ∙ ap (λ l. piece ∷ l) (sym (without_empty_last-empty front))
-without_empty_last-onto piece front (x ∷ xs) = without_empty_last-full (piece ∷ front) (x ∷ xs) (omega arith) ∙ ap (λ l. piece ∷ l) (sym (without_empty_last-full front (x ∷ xs) (omega arith)))
+without_empty_last-onto : (piece : List ℕ) (prefix : List (List ℕ)) (last : List ℕ) → without_empty_last (piece ∷ (prefix ++ last ∷ [])) ≡ piece ∷ without_empty_last (prefix ++ last ∷ [])
+without_empty_last-onto piece prefix [] = without_empty_last-empty (piece ∷ prefix) ∙ ap (λ l. piece ∷ l) (sym (without_empty_last-empty prefix))
+without_empty_last-onto piece prefix (x ∷ xs) = without_empty_last-full (piece ∷ prefix) (x ∷ xs) (omega arith) ∙ ap (λ l. piece ∷ l) (sym (without_empty_last-full prefix (x ∷ xs) (omega arith)))
 
 without_empty_last-cons : (piece : List ℕ) (pieces : List (List ℕ)) → 0 < length pieces → without_empty_last (piece ∷ pieces) ≡ piece ∷ without_empty_last pieces
 without_empty_last-cons piece [] some = absurd (omega arith)
 without_empty_last-cons piece (p ∷ ps) some =
     let e = ends_of p ps in
-    ap (λ l. without_empty_last (piece ∷ l)) e.is ∙ without_empty_last-onto piece e.front e.last ∙ ap (λ l. piece ∷ without_empty_last l) (sym e.is)
+    ap (λ l. without_empty_last (piece ∷ l)) e.is ∙ without_empty_last-onto piece e.prefix e.last ∙ ap (λ l. piece ∷ without_empty_last l) (sym e.is)
 
 no_newlines : (row : List ℕ) → IsOneRow row → All (λ byte. is_newline byte ≡ false) row
 no_newlines row one i d l = newline_no (get_or row i d) (one i d l)
@@ -206,7 +206,7 @@ closed_rows (x ∷ y ∷ ys) h = onto_closed x y ys (closed_rows (y ∷ ys) (IsC
 -- a row before closed bytes
 pub IsClosed-row : (row rest : List ℕ) → IsClosed rest → IsClosed (row ++ 10 ∷ rest)
 IsClosed-row row rest (inl e) = inr (row, ap (λ l. row ++ 10 ∷ l) e)
-IsClosed-row row rest (inr (front, e)) = inr (row ++ 10 ∷ front, ap (λ l. row ++ 10 ∷ l) e ∙ sym (append_assoc row (10 ∷ front) (10 ∷ [])))
+IsClosed-row row rest (inr (prefix, e)) = inr (row ++ 10 ∷ prefix, ap (λ l. row ++ 10 ∷ l) e ∙ sym (append_assoc row (10 ∷ prefix) (10 ∷ [])))
 
 -- the rows of closed bytes and more
 rows-closed_rows : (bytes more : List ℕ) → ClosedRows bytes → rows (bytes ++ more) ≡ rows bytes ++ rows more

@@ -114,8 +114,8 @@ module _ {B : Type 0} (left : B → Option (List ℕ)) (stays : B → B → Type
 
   -- ---- from runs to traces
 
-  none_read : (r : B) (a : Ahead) (p : B × Option Ahead) → a.place ≤ 4294967295 → (r, Some a) ≡ p → ReadsRows left stays r a [] p
-  none_read r a p placed is =
+  reads_rows-none : (r : B) (a : Ahead) (p : B × Option Ahead) → a.place ≤ 4294967295 → (r, Some a) ≡ p → ReadsRows left stays r a [] p
+  reads_rows-none r a p placed is =
       let none : length (rows []) ≡ 0 = ap length rows-none in
       record {
         closed = [];
@@ -155,7 +155,7 @@ module _ {B : Type 0} (left : B → Option (List ℕ)) (stays : B → B → Type
   at_failure r a row last n x mid one given e = in_one_row r a row last (x ∷ replicate n end) mid one given (inr (record { ends = n; missed = e.missed; is_left = e.is_left; answers = ap {B = Answers} (λ y. y ∷ replicate n end) e.answered ∙ ap (λ l. row_answers a.place l ++ failure Read ∷ replicate n end) (sym rows-none) }))
 
   pub to_trace : (trace : Answers) (r : B) (a : Ahead) (p : B × Option Ahead) → a.place ≤ 4294967295 → Run step (r, Some a) trace p → ReadsRows left stays r a trace p
-  to_trace [] r a p placed ran = none_read r a p placed ran
+  to_trace [] r a p placed ran = reads_rows-none r a p placed ran
   to_trace (x ∷ rest) r a p placed ran = let d : DrawsRow left stays r a x ran.0 = ran.1 in elim d.ended [
     | inl e ↦ let next = e.place in
         let others = to_trace rest ran.0.0 e.after p (omega (arith, next)) (subst (λ (o : Option Ahead). Run step (ran.0.0, o) rest p) e.is_left ran.2) in

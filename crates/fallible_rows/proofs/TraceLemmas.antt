@@ -3,7 +3,7 @@ use Rattle.std.proofs.Common.{◌↔◌, ◌≡◌, ◌≢◌, ℕ, ◌+◌, Lis
 use Rattle.std.proofs.lemmas.List.Elements.{All-nil, All-cons, All-append}
 use Rattle.fallible_contract.specs.Traces.{Answered, Run, failure, end}
 use Rattle.fallible_contract.specs.Laws.Closures.{turns_then}
-use Rattle.fallible_contract.proofs.Lemmas.Definitions.{meets_held}
+use Rattle.fallible_contract.proofs.Lemmas.LawForm.{traces_of_parts}
 use Rattle.fallible_rows.specs.declared.fault.RowFault.{RowFault}
 use Rattle.fallible_rows.specs.declared.fault.RowFault.TheVariants.{Read}
 use Rattle.fallible_rows.specs.declared.digits.Digits.{Digits}
@@ -28,7 +28,7 @@ rows_of p = record { reader = p.0; ahead = p.1 }
 
 -- a run of the struct is one of its parts, and the other way round
 pub rows_seen : {B : Type 0} (step : B × Option Ahead → Answered ℕ RowFault → B × Option Ahead → Type 0) (trace : List (Answered ℕ RowFault)) (s t : Rows B) → Run (λ u r v. step (rows_parts u) r (rows_parts v)) s trace t ↔ Run step (rows_parts s) trace (rows_parts t)
-rows_seen step trace s t = meets_held rows_parts rows_of (λ x. refl) (λ p. refl) step (λ p l q. Run step p l q) (λ p l q. ((λ h. h), (λ h. h))) s trace t
+rows_seen step trace s t = traces_of_parts rows_parts rows_of (λ x. refl) (λ p. refl) step (λ p l q. Run step p l q) (λ p l q. ((λ h. h), (λ h. h))) s trace t
 
 -- ---- one draw
 

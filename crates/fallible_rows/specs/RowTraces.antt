@@ -50,7 +50,7 @@ IsOneRow bytes = All (λ byte. byte ≢ 10) bytes
 
 -- bytes whose rows are all closed by newlines: there are none, or the last is a newline
 abbrev pub IsClosed : List ℕ → Type 0
-IsClosed bytes = (bytes ≡ []) ⊎ ((front : List ℕ) × (bytes ≡ front ++ 10 ∷ []))
+IsClosed bytes = (bytes ≡ []) ⊎ ((prefix : List ℕ) × (bytes ≡ prefix ++ 10 ∷ []))
 
 module _ {B : Type 0} (left : B → Option (List ℕ)) (stays : B → B → Type 0) where
   -- the reader gave these bytes, one at a time

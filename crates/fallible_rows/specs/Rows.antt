@@ -11,8 +11,8 @@ is_newline byte = byte == 10
 -- a list of pieces, less an empty last piece
 abbrev pub without_empty_last : List (List ℕ) → List (List ℕ)
 without_empty_last pieces =
-    let front = length pieces - 1 in
-    if length (slice_index_or pieces front []) == 0 then take front pieces else pieces
+    let prefix = length pieces - 1 in
+    if length (slice_index_or pieces prefix []) == 0 then take prefix pieces else pieces
 
 -- the rows of bytes: the pieces that the newlines cut them into, less an empty last piece
 abbrev pub rows : List ℕ → List (List ℕ)

@@ -16,33 +16,33 @@ but_last rs = take (length rs - 1) rs
 -- the bytes close with row 1,000,000, or with the first row that is refused
 abbrev pub CloseDeciding : List ℕ → Type 0
 CloseDeciding bytes =
-    ((front : List ℕ) × (bytes ≡ front ++ 10 ∷ []))
+    ((prefix : List ℕ) × (bytes ≡ prefix ++ 10 ∷ []))
     × ((length (rows bytes) ≡ row_limit) ⊎ ((place : ℕ) × (report bytes ≡ Err place)))
 
 -- A reader lost these first bytes of those that it had, and no others. They are those up to and with the newline that closes the first row that is refused, or row 1,000,000, whichever is first, and else all that it had; and their report is that of all.
-pub record ReadsFront (old new : Option (List ℕ)) (bytes : List ℕ) : Type 0 where
+pub record ReadsPrefix (old new : Option (List ℕ)) (bytes : List ℕ) : Type 0 where
   pub taken : Consumes old new bytes
   pub none_sooner : AreNumbers (but_last (rows bytes)) × (length (rows bytes) ≤ row_limit)
   pub closed : CloseDeciding bytes ⊎ IsAtEnd new
   pub same_report : IfSome old (λ known. report bytes ≡ report known)
 
 -- a reader lost some first bytes of those that it had, where these are known, and no others
-abbrev pub TakesFromFront : Option (List ℕ) → Option (List ℕ) → Type 0
-TakesFromFront old new = (bytes : List ℕ) × Consumes old new bytes
+abbrev pub TakesFromPrefix : Option (List ℕ) → Option (List ℕ) → Type 0
+TakesFromPrefix old new = (bytes : List ℕ) × Consumes old new bytes
 
--- the front was read, and its report was written, and nothing else
+-- the prefix was read, and its report was written, and nothing else
 abbrev pub WritesReport : Option (List ℕ) → Option (List ℕ) → Option (List ℕ) → Option (List ℕ) → Type 0
 WritesReport unread unread' written written' =
-    (bytes : List ℕ) × (text : List ℕ) × ReadsFront unread unread' bytes × (report bytes ≡ Ok text) × Appends written written' text
+    (bytes : List ℕ) × (text : List ℕ) × ReadsPrefix unread unread' bytes × (report bytes ≡ Ok text) × Appends written written' text
 
--- the front was read, and the first of its rows that is refused has this place, from 1
+-- the prefix was read, and the first of its rows that is refused has this place, from 1
 abbrev pub IsRefusedAt : ℕ → Option (List ℕ) → Option (List ℕ) → Type 0
-IsRefusedAt place unread unread' = (bytes : List ℕ) × ReadsFront unread unread' bytes × (report bytes ≡ Err place)
+IsRefusedAt place unread unread' = (bytes : List ℕ) × ReadsPrefix unread unread' bytes × (report bytes ≡ Err place)
 
--- the front was read, and none of its rows is refused
+-- the prefix was read, and none of its rows is refused
 abbrev pub HasReport : Option (List ℕ) → Option (List ℕ) → Type 0
 HasReport unread unread' =
-    (bytes : List ℕ) × (text : List ℕ) × ReadsFront unread unread' bytes × (report bytes ≡ Ok text)
+    (bytes : List ℕ) × (text : List ℕ) × ReadsPrefix unread unread' bytes × (report bytes ≡ Ok text)
 
 -- bytes were read, of which no row that was closed is refused, and fewer than 1,000,000 were
 pub record NoneRefusedYet (old new : Option (List ℕ)) : Type 0 where

@@ -1,6 +1,6 @@
 //! How many rows are above 100.
 ghost use Rattle.std.specs.Prelude.{◌≡◌, ◌+◌, ◌-◌, ◌^◌, ◌<◌, Ok};
-ghost use Rattle.fallible_rows.specs.Counting.{CountsFront};
+ghost use Rattle.fallible_rows.specs.Counting.{CountsPrefix};
 
 use crate::fault::RowFault;
 use crate::reading::Lent;
@@ -17,7 +17,7 @@ const LIMIT: u64 = 100;
 // How many of the first `MAX_ROWS` rows are above `LIMIT`. `Row` of the place, from 1, of the first of
 // them that is not a number; `Read` where a read fails before.
 pub(crate) fn count_above<R: Read>(reader: &mut R) -> Result<usize, RowFault>
-    ensures { CountsFront (R.remaining reader.old) (R.remaining reader.new) result }
+    ensures { CountsPrefix (R.remaining reader.old) (R.remaining reader.new) result }
 {
     let mut above = Rows::new(Lent { reader })
         .take(MAX_ROWS)

@@ -13,7 +13,7 @@ mod tests;
 
 ghost use Rattle.std.specs.Prelude.{◌≡◌, ◌≢◌, ℕ, List, Ok, Err, OnOk, OnErr};
 ghost use Rattle.std.specs.Io.KnownBytes.{Keeps};
-ghost use Rattle.fallible_rows.specs.Run.{WritesReport, IsRefusedAt, HasReport, NoneRefusedYet, TakesFromFront};
+ghost use Rattle.fallible_rows.specs.Run.{WritesReport, IsRefusedAt, HasReport, NoneRefusedYet, TakesFromPrefix};
 
 pub use fault::{RowFault, fault_line};
 pub use reading::{ReadByte, ReadFailed};
@@ -42,7 +42,7 @@ pub fn run<R: Read, W: Write>(alloc: Global, reader: &mut R, writer: &mut W) -> 
     ensures no_memory { result ≢ Err RowFault.Memory }
     ensures unwritten { result ≢ Err RowFault.Write
         → OnErr result (Keeps (W.contents writer.old) (W.contents writer.new)) }
-    ensures taken { TakesFromFront (R.remaining reader.old) (R.remaining reader.new) }
+    ensures taken { TakesFromPrefix (R.remaining reader.old) (R.remaining reader.new) }
 {
     let _ = alloc;
     let count = counting::count_above(reader)?;

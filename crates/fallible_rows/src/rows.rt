@@ -1,8 +1,8 @@
 //! Rows of a reader, as a fallible iterator.
 ghost use Rattle.std.specs.Prelude.{◌≡◌, ◌-◌, ◌^◌};
-ghost use Rattle.fallible_contract.specs.Contract.{unbounded, seen_as};
+ghost use Rattle.fallible_contract.specs.Contract.{unbounded_contract, seen_as};
 ghost use Rattle.fallible_contract.specs.Laws.Contract.{lawful_seen};
-ghost use Rattle.fallible_contract.specs.Laws.ToCome.{lawful_unbounded};
+ghost use Rattle.fallible_contract.specs.Laws.BoundsRuns.{lawful_unbounded};
 ghost use Rattle.fallible_rows.specs.RowTraces.{rows_parts, begun, row_step};
 ghost use Rattle.fallible_rows.specs.Digits.{ReadsRow};
 
@@ -17,7 +17,7 @@ use fallible_iterator::FallibleIterator;
 ///
 /// A draw asks the reader for one byte at a time, up to and with the newline that ends a row, or to the input's end; a row is judged then, also where it was known before to be no number. Where a read fails, for whatever reason, or a byte is wanted when as many as the limit were read, it answers the failure `Read`; the input's end wanted after the limit counts as a byte. An interrupted read isn't tried again. After `Read` and after the input's end it ends for good and reads no more.
 ///
-/// It states no number to come, so it is drained through `take`. Neither its making nor a draw takes memory.
+/// It states no bound, so it is drained through `take`. Neither its making nor a draw takes memory.
 #[derive(Drop)]
 pub struct Rows<B> {
     reader: B,
@@ -94,7 +94,7 @@ impl<B: ReadByte> FallibleIterator for Rows<B> {
 
     type Error = RowFault;
 
-    ghost contract = { seen_as rows_parts (unbounded (row_step B.left B.stays)) };
+    ghost contract = { seen_as rows_parts (unbounded_contract (row_step B.left B.stays)) };
 
     /// Reads one row and what ends it, and nothing once it has ended for good.
     fn next(&mut self) -> Result<Option<u64>, RowFault> {

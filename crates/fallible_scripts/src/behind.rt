@@ -13,8 +13,8 @@ fn digits_from_behind<I: DoubleEndedFallibleIterator<Item = u32, Error = u32>>(
     it: &mut I,
 ) -> Result<u32, u32>
 where
-    requires can { I.ends.can it.old }
-    requires finite { I.contract.has_end it.old }
+    requires can_next { I.ends.can_next it.old }
+    requires finite { I.contract.is_finite it.old }
     ensures { Stays (from_back I.contract I.ends) it.old it.new }
 {
     it.try_rfold(0, put_behind)
@@ -94,10 +94,10 @@ fn references_and_boxes_pass_folds_from_behind_on(rt: HostRuntime) -> Result<(),
 }
 
 #[test]
-fn chain_stopped_in_its_back_goes_on_there(rt: HostRuntime) {
-    let (fronts, backs) = (Log::new(), Log::new());
-    let (front, back) = ([Ok(1), Ok(2)], [Ok(3), Ok(4)]);
-    let mut it = counted(&front, &fronts).chain(counted(&back, &backs));
+fn chain_stopped_in_its_second_goes_on_there(rt: HostRuntime) {
+    let (firsts, seconds) = (Log::new(), Log::new());
+    let (first, second) = ([Ok(1), Ok(2)], [Ok(3), Ok(4)]);
+    let mut it = counted(&first, &firsts).chain(counted(&second, &seconds));
     let mut on = 0;
     let stopped: Result<u32, u32> = it.try_rfold(0, |_: u32, x: u32| {
         on = x;
@@ -107,8 +107,8 @@ fn chain_stopped_in_its_back_goes_on_there(rt: HostRuntime) {
     assert_eq!(rt; on, 4);
     assert_eq!(rt; it.next_back(), Ok(Some(3)));
     assert_eq!(rt; it.next(), Ok(Some(1)));
-    assert_eq!(rt; fronts.read(), [1, 0, 0, 0, 0, 0, 0, 0]);
-    assert_eq!(rt; backs.read(), [0, 1, 0, 1, 0, 0, 0, 0]);
+    assert_eq!(rt; firsts.read(), [1, 0, 0, 0, 0, 0, 0, 0]);
+    assert_eq!(rt; seconds.read(), [0, 1, 0, 1, 0, 0, 0, 0]);
 }
 
 #[test]

@@ -102,10 +102,10 @@ impl<'a, I: FallibleIterator> FallibleIterator for Counted<'a, I> {
     fn try_fold_carrying<C, R, K: Turn<C, I::Item, R>>(
         &mut self,
         init: C,
-        k: &K,
+        turn: &K,
     ) -> Exit<C, I::Error, R> {
         add(&self.log.folds);
-        self.it.try_fold_carrying(init, k)
+        self.it.try_fold_carrying(init, turn)
     }
 
     fn count(self) -> Result<usize, I::Error>
@@ -135,13 +135,13 @@ impl<'a, I: FallibleIterator> FallibleIterator for Counted<'a, I> {
     fn find_carrying<C, K: Test<C, I::Item, I::Error>>(
         &mut self,
         init: C,
-        k: &K,
+        test: &K,
     ) -> (C, Result<Option<I::Item>, I::Error>)
     where
         I::Item: Drop,
     {
         add(&self.log.finds);
-        self.it.find_carrying(init, k)
+        self.it.find_carrying(init, test)
     }
 
     ghost lawful = { lawful_seen counted_parts I.lawful };
@@ -158,10 +158,10 @@ impl<'a, I: DoubleEndedFallibleIterator> DoubleEndedFallibleIterator for Counted
     fn try_rfold_carrying<C, R, K: Turn<C, I::Item, R>>(
         &mut self,
         init: C,
-        k: &K,
+        turn: &K,
     ) -> Exit<C, I::Error, R> {
         add(&self.log.rfolds);
-        self.it.try_rfold_carrying(init, k)
+        self.it.try_rfold_carrying(init, turn)
     }
 
     ghost lawful_ends = { lawful_ends_seen counted_parts I.lawful_ends };

@@ -15,7 +15,7 @@ fn reached<I: FallibleIterator<Item = u32, Error = u32>>(
     n: usize,
 ) -> Result<Option<u32>, u32>
 where
-    requires { I.contract.can it.old }
+    requires { I.contract.can_next it.old }
     ensures { Stays I.contract it.old it.new }
 {
     it.nth(n)
@@ -24,8 +24,8 @@ where
 // The sum of the items by the iterator's own `try_fold`, whatever type it has, or the failure.
 fn summed<I: FallibleIterator<Item = u32, Error = u32>>(it: &mut I) -> Result<u32, u32>
 where
-    requires can { I.contract.can it.old }
-    requires finite { I.contract.has_end it.old }
+    requires can_next { I.contract.can_next it.old }
+    requires finite { I.contract.is_finite it.old }
     ensures { Stays I.contract it.old it.new }
 {
     it.try_fold(0, add_up)

@@ -17,47 +17,47 @@ fn add_up_to_three(sum: u32, x: u32) -> Result<u32, u32> {
 
 #[test]
 fn chain_folds_each_side_once(rt: HostRuntime) {
-    let (fronts, backs) = (Log::new(), Log::new());
-    let (front, back) = ([Ok(1), Ok(2)], [Ok(3), Ok(4)]);
-    let mut it = counted(&front, &fronts).chain(counted(&back, &backs));
+    let (firsts, seconds) = (Log::new(), Log::new());
+    let (first, second) = ([Ok(1), Ok(2)], [Ok(3), Ok(4)]);
+    let mut it = counted(&first, &firsts).chain(counted(&second, &seconds));
     assert_eq!(rt; it.try_fold(0, add_up_to_three), Err(3));
     assert_eq!(rt; it.next(), Ok(Some(4)));
-    assert_eq!(rt; fronts.read(), [0, 0, 1, 0, 0, 0, 0, 0]);
-    assert_eq!(rt; backs.read(), [1, 0, 1, 0, 0, 0, 0, 0]);
+    assert_eq!(rt; firsts.read(), [0, 0, 1, 0, 0, 0, 0, 0]);
+    assert_eq!(rt; seconds.read(), [1, 0, 1, 0, 0, 0, 0, 0]);
 }
 
 #[test]
-fn chain_folds_its_front_on_after_a_failure(rt: HostRuntime) {
-    let (fronts, backs) = (Log::new(), Log::new());
-    let (front, back) = ([Ok(1), Err(9), Ok(2)], [Ok(4)]);
-    let mut it = counted(&front, &fronts).chain(counted(&back, &backs));
+fn chain_folds_its_first_on_after_a_failure(rt: HostRuntime) {
+    let (firsts, seconds) = (Log::new(), Log::new());
+    let (first, second) = ([Ok(1), Err(9), Ok(2)], [Ok(4)]);
+    let mut it = counted(&first, &firsts).chain(counted(&second, &seconds));
     assert_eq!(rt; it.try_fold(0, add_up), Err(9));
-    assert_eq!(rt; fronts.read(), [0, 0, 1, 0, 0, 0, 0, 0]);
-    assert_eq!(rt; backs.read(), [0, 0, 0, 0, 0, 0, 0, 0]);
+    assert_eq!(rt; firsts.read(), [0, 0, 1, 0, 0, 0, 0, 0]);
+    assert_eq!(rt; seconds.read(), [0, 0, 0, 0, 0, 0, 0, 0]);
     assert_eq!(rt; it.try_fold(0, add_up), Ok(6));
-    assert_eq!(rt; fronts.read(), [0, 0, 2, 0, 0, 0, 0, 0]);
-    assert_eq!(rt; backs.read(), [0, 0, 1, 0, 0, 0, 0, 0]);
+    assert_eq!(rt; firsts.read(), [0, 0, 2, 0, 0, 0, 0, 0]);
+    assert_eq!(rt; seconds.read(), [0, 0, 1, 0, 0, 0, 0, 0]);
 }
 
-// Two ranges, whose numbers to come add up to one that fits.
+// Two ranges, whose bounds add up to one that fits.
 #[test]
 fn chain_counts_each_side_once(rt: HostRuntime) {
-    let (fronts, backs) = (Log::new(), Log::new());
-    let front = Counted::new((1u32..3).into_fallible(), &fronts);
-    let back = Counted::new((3u32..4).into_fallible(), &backs);
-    assert_eq!(rt; front.chain(back).count(), Ok(3));
-    assert_eq!(rt; fronts.read(), [0, 0, 0, 0, 1, 0, 0, 0]);
-    assert_eq!(rt; backs.read(), [0, 0, 0, 0, 1, 0, 0, 0]);
+    let (firsts, seconds) = (Log::new(), Log::new());
+    let first = Counted::new((1u32..3).into_fallible(), &firsts);
+    let second = Counted::new((3u32..4).into_fallible(), &seconds);
+    assert_eq!(rt; first.chain(second).count(), Ok(3));
+    assert_eq!(rt; firsts.read(), [0, 0, 0, 0, 1, 0, 0, 0]);
+    assert_eq!(rt; seconds.read(), [0, 0, 0, 0, 1, 0, 0, 0]);
 }
 
 #[test]
 fn chain_takes_the_last_of_each_side(rt: HostRuntime) {
-    let (fronts, backs) = (Log::new(), Log::new());
-    let (front, back) = ([Ok(1), Ok(2)], [Ok(3)]);
-    let it = counted(&front, &fronts).chain(counted(&back, &backs));
+    let (firsts, seconds) = (Log::new(), Log::new());
+    let (first, second) = ([Ok(1), Ok(2)], [Ok(3)]);
+    let it = counted(&first, &firsts).chain(counted(&second, &seconds));
     assert_eq!(rt; it.last(), Ok(Some(3)));
-    assert_eq!(rt; fronts.read(), [0, 0, 0, 0, 0, 1, 0, 0]);
-    assert_eq!(rt; backs.read(), [0, 0, 0, 0, 0, 1, 0, 0]);
+    assert_eq!(rt; firsts.read(), [0, 0, 0, 0, 0, 1, 0, 0]);
+    assert_eq!(rt; seconds.read(), [0, 0, 0, 0, 0, 1, 0, 0]);
 }
 
 // Whether the item is 3.
@@ -67,12 +67,12 @@ fn is_three(x: &u32) -> Result<bool, u32> {
 
 #[test]
 fn chain_searches_each_side_once(rt: HostRuntime) {
-    let (fronts, backs) = (Log::new(), Log::new());
-    let (front, back) = ([Ok(1), Ok(2)], [Ok(3)]);
-    let mut it = counted(&front, &fronts).chain(counted(&back, &backs));
+    let (firsts, seconds) = (Log::new(), Log::new());
+    let (first, second) = ([Ok(1), Ok(2)], [Ok(3)]);
+    let mut it = counted(&first, &firsts).chain(counted(&second, &seconds));
     assert_eq!(rt; it.find(is_three), Ok(Some(3)));
-    assert_eq!(rt; fronts.read(), [0, 0, 0, 0, 0, 0, 0, 1]);
-    assert_eq!(rt; backs.read(), [0, 0, 0, 0, 0, 0, 0, 1]);
+    assert_eq!(rt; firsts.read(), [0, 0, 0, 0, 0, 0, 0, 1]);
+    assert_eq!(rt; seconds.read(), [0, 0, 0, 0, 0, 0, 0, 1]);
 }
 
 // The sum of the items of two inner iterators, which `log` sees the outer source of drawn.
@@ -82,10 +82,10 @@ fn summed_flat<U: FallibleIterator<Item = u32, Error = u32>>(
     log: &Log,
 ) -> Result<u32, u32>
 where
-    requires first { U.contract.can first }
-    requires second { U.contract.can second }
-    requires first_ends { U.contract.to_come first (2 ^ 64 - 1) }
-    requires second_ends { U.contract.to_come second (2 ^ 64 - 1) }
+    requires first { U.contract.can_next first }
+    requires second { U.contract.can_next second }
+    requires first_ends { U.contract.bound first (2 ^ 64 - 1) }
+    requires second_ends { U.contract.bound second (2 ^ 64 - 1) }
 {
     let outer = once::<U, u32>(first).chain(once::<U, u32>(second));
     Counted::new(outer, log).flatten().try_fold(0, add_up)
@@ -98,10 +98,10 @@ fn first_and_sum_of_others<U: FallibleIterator<Item = u32, Error = u32>>(
     log: &Log,
 ) -> (Result<Option<u32>, u32>, Result<u32, u32>)
 where
-    requires first { U.contract.can first }
-    requires second { U.contract.can second }
-    requires first_ends { U.contract.to_come first (2 ^ 64 - 1) }
-    requires second_ends { U.contract.to_come second (2 ^ 64 - 1) }
+    requires first { U.contract.can_next first }
+    requires second { U.contract.can_next second }
+    requires first_ends { U.contract.bound first (2 ^ 64 - 1) }
+    requires second_ends { U.contract.bound second (2 ^ 64 - 1) }
 {
     let outer = once::<U, u32>(first).chain(once::<U, u32>(second));
     let mut it = Counted::new(outer, log).flatten();

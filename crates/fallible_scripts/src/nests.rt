@@ -18,8 +18,8 @@ fn over_an_end(alloc: Global) -> Result<Script<u32, u32>, AllocError> {
 // The items as digits, in the order in which a fold gives them, and how the fold ends.
 fn digits<I: FallibleIterator<Item = u32, Error = u32>>(it: &mut I) -> (u32, Result<(), u32>)
 where
-    requires can { I.contract.can it.old }
-    requires finite { I.contract.has_end it.old }
+    requires can_next { I.contract.can_next it.old }
+    requires finite { I.contract.is_finite it.old }
     ensures { Stays I.contract it.old it.new }
 {
     let mut digits: u32 = 0;
@@ -32,26 +32,26 @@ where
 
 #[test]
 fn chain_under_peekable_gives_a_held_item_first(rt: HostRuntime) -> Result<(), Fail> {
-    let back = [Ok(3), Err(9)];
-    let mut it = over_an_end(rt.alloc())?.chain(numbers(&back)).peekable();
+    let second = [Ok(3), Err(9)];
+    let mut it = over_an_end(rt.alloc())?.chain(numbers(&second)).peekable();
     assert_eq!(rt; it.peek_copied(), Ok(Some(1)));
     assert_eq!(rt; digits(&mut it), (13, Err(9)));
     assert_eq!(rt; it.draw(), Ok(None));
-    let mut drawn = over_an_end(rt.alloc())?.chain(numbers(&back)).peekable();
+    let mut drawn = over_an_end(rt.alloc())?.chain(numbers(&second)).peekable();
     expect_answers(&rt, &mut drawn, &[Item(1), Item(3), Failure(9), End])
 }
 
 #[test]
 fn chain_under_peekable_ends_at_a_held_end(rt: HostRuntime) -> Result<(), Fail> {
-    let front = [Ok(1)];
-    let back = scripted::<u32, u32, 2>(rt.alloc(), [Ok(None), Ok(Some(3))])?;
-    let mut it = numbers(&front).chain(back).peekable();
+    let first = [Ok(1)];
+    let second = scripted::<u32, u32, 2>(rt.alloc(), [Ok(None), Ok(Some(3))])?;
+    let mut it = numbers(&first).chain(second).peekable();
     assert_eq!(rt; it.draw(), Ok(Some(1)));
     assert_eq!(rt; it.peek_copied(), Ok(None));
     assert_eq!(rt; digits(&mut it), (0, Ok(())));
     assert_eq!(rt; digits(&mut it), (3, Ok(())));
-    let back = scripted::<u32, u32, 2>(rt.alloc(), [Ok(None), Ok(Some(3))])?;
-    let mut drawn = numbers(&front).chain(back).peekable();
+    let second = scripted::<u32, u32, 2>(rt.alloc(), [Ok(None), Ok(Some(3))])?;
+    let mut drawn = numbers(&first).chain(second).peekable();
     expect_answers(&rt, &mut drawn, &[Item(1), End, Item(3), End])
 }
 

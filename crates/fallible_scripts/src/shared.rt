@@ -11,9 +11,9 @@ pub type Numbers<'a> = Counted<'a, Convert<Copied<Iter<'a, Result<u32, u32>>>>>;
 
 /// Gives the answers.
 pub fn numbers<'a>(answers: &'a [Result<u32, u32>]) -> Convert<Copied<Iter<'a, Result<u32, u32>>>>
-    ensures can { ⟦<Convert<Copied<Iter<'a, Result<u32, u32>>>> as FallibleIterator>⟧.contract.can
+    ensures can_next { ⟦<Convert<Copied<Iter<'a, Result<u32, u32>>>> as FallibleIterator>⟧.contract.can_next
         result }
-    ensures finite { ⟦<Convert<Copied<Iter<'a, Result<u32, u32>>>> as FallibleIterator>⟧.contract.to_come
+    ensures finite { ⟦<Convert<Copied<Iter<'a, Result<u32, u32>>>> as FallibleIterator>⟧.contract.bound
         result (2 ^ 64 - 1) }
 {
     convert(answers.iter().copied())
@@ -21,11 +21,11 @@ pub fn numbers<'a>(answers: &'a [Result<u32, u32>]) -> Convert<Copied<Iter<'a, R
 
 /// Gives the answers, and adds its calls to `log`.
 pub fn counted<'a>(answers: &'a [Result<u32, u32>], log: &'a Log) -> Numbers<'a>
-    ensures can { ⟦<Counted<'a, Convert<Copied<Iter<'a, Result<u32, u32>>>>> as FallibleIterator>⟧.contract.can
+    ensures can_next { ⟦<Counted<'a, Convert<Copied<Iter<'a, Result<u32, u32>>>>> as FallibleIterator>⟧.contract.can_next
         result }
-    ensures ends { ⟦<Counted<'a, Convert<Copied<Iter<'a, Result<u32, u32>>>>> as DoubleEndedFallibleIterator>⟧.ends.can
+    ensures ends { ⟦<Counted<'a, Convert<Copied<Iter<'a, Result<u32, u32>>>>> as DoubleEndedFallibleIterator>⟧.ends.can_next
         result }
-    ensures finite { ⟦<Counted<'a, Convert<Copied<Iter<'a, Result<u32, u32>>>>> as FallibleIterator>⟧.contract.to_come
+    ensures finite { ⟦<Counted<'a, Convert<Copied<Iter<'a, Result<u32, u32>>>>> as FallibleIterator>⟧.contract.bound
         result (2 ^ 64 - 1) }
 {
     Counted::new(convert(answers.iter().copied()), log)

@@ -144,7 +144,7 @@ fn nest(way: Way, n: u64) -> Result<u64, Infallible> {
     )
 }
 
-// A chain in the front of another, and adapters below and above them.
+// A chain as the first of another, and adapters below and above them.
 fn chains(way: Way, n: u64) -> Result<u64, Infallible> {
     drained(
         way,

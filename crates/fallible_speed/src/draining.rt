@@ -10,8 +10,8 @@ use std::alloc::{AllocError, Global};
 // The numbers, mixed into one.
 pub fn drained<I: FallibleIterator<Item = u64>>(way: Way, it: I) -> Result<u64, I::Error>
 where
-    requires can { I.contract.can it }
-    requires finite { I.contract.has_end it }
+    requires can_next { I.contract.can_next it }
+    requires finite { I.contract.is_finite it }
 {
     match way {
         Way::Fold => it.fold(0, |value: u64, x: u64| Ok(mixed(value, x))),
@@ -22,8 +22,8 @@ where
 // The numbers, mixed into one, drawn one after another.
 fn drawn<I: FallibleIterator<Item = u64>>(mut it: I) -> Result<u64, I::Error>
 where
-    requires can { I.contract.can it }
-    requires finite { I.contract.has_end it }
+    requires can_next { I.contract.can_next it }
+    requires finite { I.contract.is_finite it }
 {
     let mut value = 0;
     let mut left = it.number();
@@ -37,8 +37,8 @@ where
 // How many numbers there are.
 pub fn counted<I: FallibleIterator<Item = u64>>(way: Way, it: I) -> Result<u64, I::Error>
 where
-    requires can { I.contract.can it }
-    requires finite { I.contract.has_end it }
+    requires can_next { I.contract.can_next it }
+    requires finite { I.contract.is_finite it }
     requires fits { AtMost I.contract it (2 ^ 64 - 1) }
 {
     match way {
@@ -50,8 +50,8 @@ where
 // How many numbers there are, drawn one after another.
 fn counted_by_draws<I: FallibleIterator<Item = u64>>(mut it: I) -> Result<u64, I::Error>
 where
-    requires can { I.contract.can it }
-    requires finite { I.contract.has_end it }
+    requires can_next { I.contract.can_next it }
+    requires finite { I.contract.is_finite it }
 {
     let mut count: u64 = 0;
     let mut left = it.number();
@@ -69,8 +69,8 @@ pub fn collected<I: FallibleIterator<Item = u64>>(
     it: I,
 ) -> Result<Vec<u64>, Fault<I::Error>>
 where
-    requires can { I.contract.can it }
-    requires finite { I.contract.has_end it }
+    requires can_next { I.contract.can_next it }
+    requires finite { I.contract.is_finite it }
 {
     match way {
         Way::Fold => it.collect(alloc),
@@ -84,8 +84,8 @@ fn pushed<I: FallibleIterator<Item = u64>>(
     mut it: I,
 ) -> Result<Vec<u64>, Fault<I::Error>>
 where
-    requires can { I.contract.can it }
-    requires finite { I.contract.has_end it }
+    requires can_next { I.contract.can_next it }
+    requires finite { I.contract.is_finite it }
 {
     let mut numbers = Vec::new(alloc);
     let mut left = it.number();

@@ -16,8 +16,8 @@ pub fn expect_alike<I: FallibleIterator + Clone>(
 where
     I::Item: Debug + Drop + PartialEq,
     I::Error: Debug + Drop + PartialEq,
-    requires can { I.contract.can it.old }
-    requires clones { (c : I) → I.is_clone it.old c → I.contract.can c }
+    requires can_next { I.contract.can_next it.old }
+    requires clones { (c : I) → I.is_clone it.old c → I.contract.can_next c }
     ensures { Stays I.contract it.old it.new }
 {
     let mut first = it.clone()?;

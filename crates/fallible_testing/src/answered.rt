@@ -16,7 +16,7 @@ pub fn expect_answers<I: FallibleIterator>(
 where
     I::Item: Debug + Drop + PartialEq,
     I::Error: Debug + Drop + PartialEq,
-    requires { I.contract.can it.old }
+    requires { I.contract.can_next it.old }
     ensures { Stays I.contract it.old it.new }
 {
     let drawn = answers(rt.alloc(), it, expected.len())?;
@@ -37,7 +37,7 @@ pub fn expect_answers_at<I: DoubleEndedFallibleIterator>(
 where
     I::Item: Debug + Drop + PartialEq,
     I::Error: Debug + Drop + PartialEq,
-    requires { I.ends.can it.old }
+    requires { I.ends.can_next it.old }
     ensures { Stays (from_front I.contract I.ends) it.old it.new }
 {
     let drawn = answers_at(rt.alloc(), it, sides)?;

@@ -10,11 +10,11 @@ pub fn listed<T: Drop, E: Drop, const N: usize>(
     alloc: Global,
     answers: [Result<T, E>; N],
 ) -> Result<Convert<IntoIter<Result<T, E>>>, AllocError>
-    ensures can { IfOk result ⟦<Convert<IntoIter<Result<T, E>>> as FallibleIterator>⟧.contract.can }
+    ensures can_next { IfOk result ⟦<Convert<IntoIter<Result<T, E>>> as FallibleIterator>⟧.contract.can_next }
     ensures ends { IfOk result
-        ⟦<Convert<IntoIter<Result<T, E>>> as DoubleEndedFallibleIterator>⟧.ends.can }
+        ⟦<Convert<IntoIter<Result<T, E>>> as DoubleEndedFallibleIterator>⟧.ends.can_next }
     ensures finite { IfOk result
-        (λ s. ⟦<Convert<IntoIter<Result<T, E>>> as FallibleIterator>⟧.contract.to_come s
+        (λ s. ⟦<Convert<IntoIter<Result<T, E>>> as FallibleIterator>⟧.contract.bound s
         (2 ^ 64 - 1)) }
 {
     Ok(convert(Vec::from_array(alloc, answers)?.into_iter()))

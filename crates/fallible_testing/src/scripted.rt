@@ -2,8 +2,8 @@
 ghost use Rattle.std.specs.Prelude.{◌≡◌, ◌+◌, ◌≤◌, MatchResult, MatchOption};
 ghost use Rattle.std.proofs.Common.{rules};
 ghost use Rattle.std.specs.Vec.Iter.{into_iter_len};
-ghost use Rattle.fallible_contract.specs.Contract.{counting_down};
-ghost use Rattle.fallible_contract.specs.Ends.{counting_down_ends};
+ghost use Rattle.fallible_contract.specs.Contract.{counted_contract};
+ghost use Rattle.fallible_contract.specs.Ends.{counted_ends};
 
 use fallible_iterator::{DoubleEndedFallibleIterator, FallibleIterator};
 use std::alloc::{AllocError, Global};
@@ -21,7 +21,7 @@ impl<T: Drop, E: Drop> FallibleIterator for Script<T, E> {
 
     type Error = E;
 
-    ghost contract = { counting_down (λ s r t. MatchResult r
+    ghost contract = { counted_contract (λ s r t. MatchResult r
         (λ o. MatchOption o (into_iter_len t.answers ≤ into_iter_len s.answers)
         (λ _. into_iter_len t.answers + 1 ≡ into_iter_len s.answers))
         (λ _. into_iter_len t.answers ≤ into_iter_len s.answers))
@@ -43,7 +43,7 @@ impl<T: Drop, E: Drop> FallibleIterator for Script<T, E> {
 
 // From behind it gives the last answer first.
 impl<T: Drop, E: Drop> DoubleEndedFallibleIterator for Script<T, E> {
-    ghost ends = { counting_down_ends (λ s r t. MatchResult r
+    ghost ends = { counted_ends (λ s r t. MatchResult r
         (λ o. MatchOption o (into_iter_len t.answers ≤ into_iter_len s.answers)
         (λ _. into_iter_len t.answers + 1 ≡ into_iter_len s.answers))
         (λ _. into_iter_len t.answers ≤ into_iter_len s.answers)) };

@@ -1,7 +1,7 @@
-// A fallible iterator whose one number to come is the number of its items, and no greater one.
+// A fallible iterator whose one bound is the number of its items, and no greater one.
 ghost use Rattle.std.specs.Prelude.{◌≡◌, ◌+◌, MatchResult, MatchOption};
 ghost use Rattle.std.proofs.Common.{rules};
-ghost use Rattle.fallible_contract.specs.Contract.{counting_down};
+ghost use Rattle.fallible_contract.specs.Contract.{counted_contract};
 
 use fallible_iterator::FallibleIterator;
 use fallible_iterator::laws::Answer::{End, Item};
@@ -19,11 +19,11 @@ impl FallibleIterator for Threes {
 
     type Error = ();
 
-    ghost contract = { let m = counting_down (λ s r t. MatchResult r
+    ghost contract = { let m = counted_contract (λ s r t. MatchResult r
         (λ o. MatchOption o ((s.left ≡ 0) × (t.left ≡ 0)) (λ x. (x ≡ 3) × (t.left + 1 ≡ s.left)))
         (λ _. ⊥))
         (λ s. s.left)
-        in record m { to_come = λ s n. s.left ≡ n } };
+        in record m { bound = λ s n. s.left ≡ n } };
 
     fn next(&mut self) -> Result<Option<u32>, ()> {
         if self.left == 0 {

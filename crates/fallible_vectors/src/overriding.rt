@@ -28,9 +28,13 @@ impl<'a, I: FallibleIterator<Item = u32, Error = u32>> FallibleIterator for Watc
         self.it.size_hint()
     }
 
-    fn try_fold_carrying<C, R, K: Turn<C, u32, R>>(&mut self, init: C, k: &K) -> Exit<C, u32, R> {
+    fn try_fold_carrying<C, R, K: Turn<C, u32, R>>(
+        &mut self,
+        init: C,
+        turn: &K,
+    ) -> Exit<C, u32, R> {
         self.folds.set(self.folds.get().wrapping_add(1));
-        self.it.try_fold_carrying(init, k)
+        self.it.try_fold_carrying(init, turn)
     }
 
     ghost lawful = { lawful_seen (λ w. w.it) I.lawful };

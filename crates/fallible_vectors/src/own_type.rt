@@ -1,7 +1,7 @@
 // A fallible iterator of a user's own.
 ghost use Rattle.std.specs.Prelude.{◌≡◌, ◌+◌, MatchResult, MatchOption};
 ghost use Rattle.std.proofs.Common.{rules};
-ghost use Rattle.fallible_contract.specs.Contract.{counting_down};
+ghost use Rattle.fallible_contract.specs.Contract.{counted_contract};
 
 use fallible_iterator::FallibleIterator;
 use fallible_iterator::laws::Answer::{End, Item};
@@ -20,7 +20,7 @@ impl FallibleIterator for Countdown {
     type Error = ();
 
     // What a draw may answer and leave, and how many items are left at most.
-    ghost contract = { counting_down (λ s r t. MatchResult r
+    ghost contract = { counted_contract (λ s r t. MatchResult r
         (λ o. MatchOption o ((s.left ≡ 0) × (t.left ≡ 0))
         (λ x. (x ≡ s.left) × (t.left + 1 ≡ s.left)))
         (λ _. ⊥))

@@ -142,8 +142,8 @@ fn fold_over_borrowed_items(rt: HostRuntime) {
 fn steps_taken<I: FallibleIterator>(it: I) -> Result<u32, I::Error>
 where
     I::Item: Drop,
-    requires can { I.contract.can it }
-    requires finite { I.contract.has_end it }
+    requires can_next { I.contract.can_next it }
+    requires finite { I.contract.is_finite it }
 {
     it.fold(0, |n, _x| Ok(n.wrapping_add(1)))
 }
@@ -163,8 +163,8 @@ fn fold_in_a_generic_function(rt: HostRuntime) {
 // The greatest length of the items, 0 where there are none.
 fn greatest_length<'a, I: FallibleIterator<Item = &'a str>>(it: I) -> Result<usize, I::Error>
 where
-    requires can { I.contract.can it }
-    requires finite { I.contract.has_end it }
+    requires can_next { I.contract.can_next it }
+    requires finite { I.contract.is_finite it }
 {
     it.fold(0, |so_far, line| {
         if line.len() < so_far {
@@ -186,8 +186,8 @@ fn fold_over_borrowed_items_in_a_generic_function(rt: HostRuntime) {
 fn equal_to<I: FallibleIterator>(it: I, wanted: &I::Item) -> Result<u32, I::Error>
 where
     I::Item: Drop + PartialEq,
-    requires can { I.contract.can it }
-    requires finite { I.contract.has_end it }
+    requires can_next { I.contract.can_next it }
+    requires finite { I.contract.is_finite it }
 {
     it.fold(0, |n, x| {
         if x == *wanted {

@@ -149,8 +149,8 @@ fn found_twice<I: FallibleIterator<Item = u32>>(
 ) -> Result<[Option<u32>; 4], I::Error>
 where
     I: Drop,
-    requires can { I.contract.can it }
-    requires finite { I.contract.has_end it }
+    requires can_next { I.contract.can_next it }
+    requires finite { I.contract.is_finite it }
 {
     Ok([
         it.find(|x: &u32| Ok(*x == first))?,
@@ -169,10 +169,10 @@ fn found_in_two<U: FallibleIterator<Item = u32>>(
 ) -> Result<[Option<u32>; 4], U::Error>
 where
     U: Drop,
-    requires left { U.contract.can left }
-    requires right { U.contract.can right }
-    requires left_ends { U.contract.to_come left (2 ^ 64 - 1) }
-    requires right_ends { U.contract.to_come right (2 ^ 64 - 1) }
+    requires left { U.contract.can_next left }
+    requires right { U.contract.can_next right }
+    requires left_ends { U.contract.bound left (2 ^ 64 - 1) }
+    requires right_ends { U.contract.bound right (2 ^ 64 - 1) }
 {
     let outer = once::<U, U::Error>(left).chain(once::<U, U::Error>(right));
     found_twice(outer.flatten(), first, second)

@@ -47,12 +47,12 @@ fn filter_from_both_ends(rt: HostRuntime) -> Result<(), Fail> {
 // Fails the test where the chain draws otherwise than expected, and gives what it then hints, and its next item.
 fn left_of_a_chain(
     rt: &HostRuntime,
-    front: &[Result<u32, u32>],
-    back: &[Result<u32, u32>],
+    first: &[Result<u32, u32>],
+    second: &[Result<u32, u32>],
     sides: &[Side],
     expected: &[Answer<u32, u32>],
 ) -> Result<((usize, Option<usize>), Result<Option<u32>, u32>), Fail> {
-    let mut it = convert(front.iter().copied()).chain(convert(back.iter().copied()));
+    let mut it = convert(first.iter().copied()).chain(convert(second.iter().copied()));
     expect_answers_at(rt, &mut it, sides, expected)?;
     Ok((it.size_hint(), it.next()))
 }

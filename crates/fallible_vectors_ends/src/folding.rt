@@ -39,10 +39,10 @@ fn try_rfold_stops_and_leaves_both_ends(rt: HostRuntime) -> Result<(), Fail> {
 }
 
 #[test]
-fn try_rfold_stopped_in_the_back_of_a_chain_goes_on_there(rt: HostRuntime) {
-    let front: [Result<u32, u32>; 2] = [Ok(1), Ok(2)];
-    let back: [Result<u32, u32>; 2] = [Ok(3), Ok(4)];
-    let mut it = convert(front.iter().copied()).chain(convert(back.iter().copied()));
+fn try_rfold_stopped_in_the_second_of_a_chain_goes_on_there(rt: HostRuntime) {
+    let first: [Result<u32, u32>; 2] = [Ok(1), Ok(2)];
+    let second: [Result<u32, u32>; 2] = [Ok(3), Ok(4)];
+    let mut it = convert(first.iter().copied()).chain(convert(second.iter().copied()));
     let stopped: Result<u32, u32> = it.try_rfold(0, |_: u32, _: u32| Err(7));
     assert_eq!(rt; stopped, Err(7));
     assert_eq!(rt; it.next_back(), Ok(Some(3)));

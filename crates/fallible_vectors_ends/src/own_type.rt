@@ -1,8 +1,8 @@
 // A fallible iterator of a user's own, with two ends.
 ghost use Rattle.std.specs.Prelude.{◌≡◌, ◌+◌, ◌≤◌, ◌%◌, ◌^◌, MatchResult, MatchOption};
 ghost use Rattle.std.proofs.Common.{rules};
-ghost use Rattle.fallible_contract.specs.Contract.{counting_down};
-ghost use Rattle.fallible_contract.specs.Ends.{counting_down_ends};
+ghost use Rattle.fallible_contract.specs.Contract.{counted_contract};
+ghost use Rattle.fallible_contract.specs.Ends.{counted_ends};
 
 use fallible_iterator::{DoubleEndedFallibleIterator, FallibleIterator};
 
@@ -18,7 +18,7 @@ impl FallibleIterator for Between {
 
     type Error = ();
 
-    ghost contract = { counting_down (λ s r t. MatchResult r
+    ghost contract = { counted_contract (λ s r t. MatchResult r
         (λ o. MatchOption o ((s.left ≡ 0) × (t.left ≡ 0))
         (λ x. (x ≡ s.low) × (t.low ≡ (s.low + 1) % 2 ^ 32) × (t.left + 1 ≡ s.left)))
         (λ _. ⊥))
@@ -43,7 +43,7 @@ impl FallibleIterator for Between {
 
 impl DoubleEndedFallibleIterator for Between {
     // What a draw from behind may answer and leave.
-    ghost ends = { counting_down_ends (λ s r t. MatchResult r
+    ghost ends = { counted_ends (λ s r t. MatchResult r
         (λ o. MatchOption o ((s.left ≡ 0) × (t.left ≡ 0))
         (λ x. (x ≡ (s.low + t.left) % 2 ^ 32) × (t.low ≡ s.low) × (t.left + 1 ≡ s.left)))
         (λ _. ⊥)) };

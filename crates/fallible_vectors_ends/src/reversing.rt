@@ -10,9 +10,9 @@ use std::test::Fail;
 
 #[test]
 fn rev_of_a_chain_is_the_back_s_and_then_the_front_s(rt: HostRuntime) -> Result<(), Fail> {
-    let front: [Result<u32, u32>; 4] = [Ok(0), Ok(1), Ok(2), Ok(3)];
-    let back: [Result<u32, u32>; 4] = [Ok(4), Ok(5), Ok(6), Ok(7)];
-    let it = convert(front.iter().copied()).chain(convert(back.iter().copied()));
+    let first: [Result<u32, u32>; 4] = [Ok(0), Ok(1), Ok(2), Ok(3)];
+    let second: [Result<u32, u32>; 4] = [Ok(4), Ok(5), Ok(6), Ok(7)];
+    let it = convert(first.iter().copied()).chain(convert(second.iter().copied()));
     let made = it.rev().collect::<Vec<u32>>(rt.alloc());
     expect_collected(made, &[7, 6, 5, 4, 3, 2, 1, 0])
 }

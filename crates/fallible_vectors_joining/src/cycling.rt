@@ -1,7 +1,7 @@
 // The adapter that begins anew at each end.
 ghost use Rattle.std.specs.Prelude.{◌≡◌, ◌+◌, ◌≤◌, MatchResult, MatchOption};
 ghost use Rattle.std.proofs.Common.{rules};
-ghost use Rattle.fallible_contract.specs.Contract.{counting_down};
+ghost use Rattle.fallible_contract.specs.Contract.{counted_contract};
 
 use fallible_iterator::{FallibleIterator, convert, empty, once};
 use fallible_testing::collected::expect_collected;
@@ -92,7 +92,7 @@ impl<'a> FallibleIterator for Pair<'a> {
 
     type Error = TestError;
 
-    ghost contract = { counting_down (λ s r t. MatchResult r
+    ghost contract = { counted_contract (λ s r t. MatchResult r
         (λ o. MatchOption o (t.left ≤ s.left) (λ _. t.left + 1 ≡ s.left))
         (λ _. ⊥))
         (λ s. s.left) };

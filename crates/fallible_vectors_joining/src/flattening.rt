@@ -74,10 +74,10 @@ fn sum(total: u32, x: u32) -> Result<u32, u32> {
 fn draw_and_stop<U: IntoFallibleIterator<Item = u32, Error = u32>>(inner: U) -> Stopped
 where
     U: Drop,
-    requires can { (c : U.IntoFallibleIter) → U.into_gives inner c
-        → U.IntoFallibleIter.contract.can c }
+    requires can_next { (c : U.IntoFallibleIter) → U.into_gives inner c
+        → U.IntoFallibleIter.contract.can_next c }
     requires finite { (c : U.IntoFallibleIter) → U.into_gives inner c
-        → U.IntoFallibleIter.contract.to_come c 9 }
+        → U.IntoFallibleIter.contract.bound c 9 }
 {
     let mut it = once::<U, u32>(inner).flatten();
     let first = it.next();
@@ -119,7 +119,7 @@ fn draws_flat<U: FallibleIterator<Item = u32, Error = u32>>(
 ) -> [Result<Option<u32>, u32>; 2]
 where
     U: Drop,
-    requires { U.contract.can inner }
+    requires { U.contract.can_next inner }
 {
     let mut it = once::<U, u32>(inner).flatten();
     [it.draw(), it.next()]
@@ -129,8 +129,8 @@ where
 fn sums_flat<U: FallibleIterator<Item = u32, Error = u32>>(inner: U) -> Result<u32, u32>
 where
     U: Drop,
-    requires can { U.contract.can inner }
-    requires finite { U.contract.to_come inner 9 }
+    requires can_next { U.contract.can_next inner }
+    requires finite { U.contract.bound inner 9 }
 {
     once::<U, u32>(inner).flatten().fold(0, sum)
 }
@@ -141,7 +141,7 @@ fn draws_flat_mapped<U: FallibleIterator<Item = u32, Error = u32>>(
 ) -> [Result<Option<u32>, u32>; 2]
 where
     U: Drop,
-    requires { U.contract.can inner }
+    requires { U.contract.can_next inner }
 {
     let mut it = once::<U, u32>(inner).flat_map(|inner: U| -> Result<U, u32> { Ok(inner) });
     [it.draw(), it.next()]
@@ -150,8 +150,8 @@ where
 fn sums_flat_mapped<U: FallibleIterator<Item = u32, Error = u32>>(inner: U) -> Result<u32, u32>
 where
     U: Drop,
-    requires can { U.contract.can inner }
-    requires finite { U.contract.to_come inner 9 }
+    requires can_next { U.contract.can_next inner }
+    requires finite { U.contract.bound inner 9 }
 {
     once::<U, u32>(inner)
         .flat_map(|inner: U| -> Result<U, u32> { Ok(inner) })
@@ -161,7 +161,7 @@ where
 // Gives 1, ends, and then gives 2.
 fn one_end_two(alloc: Global) -> Result<Take<Script<u32, u32>>, AllocError>
     ensures { IfOk result
-        (λ s. ⟦<Take<Script<u32, u32>> as FallibleIterator>⟧.contract.to_come s 9) }
+        (λ s. ⟦<Take<Script<u32, u32>> as FallibleIterator>⟧.contract.bound s 9) }
 {
     Ok(scripted(alloc, [Ok(Some(1)), Ok(None), Ok(Some(2))])?.take(9))
 }
@@ -169,7 +169,7 @@ fn one_end_two(alloc: Global) -> Result<Take<Script<u32, u32>>, AllocError>
 // Ends, and then gives 2.
 fn end_two(alloc: Global) -> Result<Take<Script<u32, u32>>, AllocError>
     ensures { IfOk result
-        (λ s. ⟦<Take<Script<u32, u32>> as FallibleIterator>⟧.contract.to_come s 9) }
+        (λ s. ⟦<Take<Script<u32, u32>> as FallibleIterator>⟧.contract.bound s 9) }
 {
     Ok(scripted(alloc, [Ok(None), Ok(Some(2))])?.take(9))
 }

@@ -33,7 +33,7 @@ fn chained(front: &[Result<u32, u32>], item: u32) -> ([Drawn<u32>; 4], [Hint; 3]
 }
 
 #[test]
-fn chain_goes_on_after_a_failure_of_the_front(rt: HostRuntime) {
+fn chain_goes_on_after_a_failure_of_the_first(rt: HostRuntime) {
     assert_eq!(rt;
         chained(&[Ok(1), Err(9)], 2),
         (
@@ -55,34 +55,34 @@ fn chain_hints_at_the_sides_that_are_still_drawn(rt: HostRuntime) {
 }
 
 #[test]
-fn chain_draws_the_back_at_the_fronts_end(rt: HostRuntime) {
-    let front = from_fn(move || Ok::<Option<u32>, u32>(None));
-    let mut it = front.chain(once(2));
+fn chain_draws_the_second_at_the_end_of_the_first(rt: HostRuntime) {
+    let first = from_fn(move || Ok::<Option<u32>, u32>(None));
+    let mut it = first.chain(once(2));
     assert_eq!(rt; it.next(), Ok(Some(2)));
     assert_eq!(rt; it.size_hint(), (0, Some(0)));
 }
 
 #[test]
-fn chain_draws_the_front_up_to_its_first_end(rt: HostRuntime) -> Result<(), Fail> {
+fn chain_draws_the_first_up_to_its_end(rt: HostRuntime) -> Result<(), Fail> {
     let script = [Ok(Some(1)), Ok(None), Ok(Some(7))];
-    let mut front = scripted::<u32, u32, 3>(rt.alloc(), script)?;
-    let mut it = (&mut front).chain(empty());
+    let mut first = scripted::<u32, u32, 3>(rt.alloc(), script)?;
+    let mut it = (&mut first).chain(empty());
     assert_eq!(rt;
         [it.next(), it.next(), it.next()],
         [Ok(Some(1)), Ok(None), Ok(None)]
     );
-    assert_eq!(rt; front.next(), Ok(Some(7)));
+    assert_eq!(rt; first.next(), Ok(Some(7)));
     Ok(())
 }
 
 #[test]
-fn chain_is_counted_up_to_a_failure_of_the_back(rt: HostRuntime) {
+fn chain_is_counted_up_to_a_failure_of_the_second(rt: HostRuntime) {
     let it = once::<u32, TestError>(1).chain(repeat_err(TestError::Number(2)));
     assert_eq!(rt; it.count(), Err(TestError::Number(2)));
 }
 
 // What a chain of two ranges of these lengths hints at.
-fn chain_hint(front: usize, back: usize) -> Hint {
+fn chain_hint(first: usize, second: usize) -> Hint {
     (0..front)
         .into_fallible()
         .chain((0..back).into_fallible())
@@ -91,8 +91,8 @@ fn chain_hint(front: usize, back: usize) -> Hint {
 
 #[test]
 fn chain_hints_at_no_more_than_fits(rt: HostRuntime) {
-    let front = repeat::<u32, TestError>(5);
-    assert_eq!(rt; front.chain(once(1)).size_hint(), (usize::MAX, None));
+    let first = repeat::<u32, TestError>(5);
+    assert_eq!(rt; first.chain(once(1)).size_hint(), (usize::MAX, None));
     assert_eq!(rt; chain_hint(usize::MAX, 0), (usize::MAX, Some(usize::MAX)));
     assert_eq!(rt; chain_hint(usize::MAX, 1), (usize::MAX, None));
 }

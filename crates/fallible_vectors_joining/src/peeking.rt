@@ -138,7 +138,7 @@ fn peekable_hint_counts_the_held_item_up_to_the_greatest_number(rt: HostRuntime)
 fn take_looked_at<I: FallibleIterator>(it: &mut Peekable<I>) -> Result<Option<I::Item>, I::Error>
 where
     I::Item: Drop,
-    requires { ⟦<Peekable<I> as FallibleIterator>⟧.contract.can it.old }
+    requires { ⟦<Peekable<I> as FallibleIterator>⟧.contract.can_next it.old }
     ensures { MatchResult result
         (λ o. (s : I) × Fills I.contract.steps (peekable_parts it.old) (Ok tt) (s, Some o)
         × (peekable_parts it.new ≡ (s, None)))

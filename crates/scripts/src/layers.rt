@@ -13,8 +13,8 @@ pub trait Visit {
     fn visit<I>(run: &Run<'_>, it: I) -> Result<Option<Outcome>, AllocError>
     where
         I: FallibleIterator<Item = u32, Error = Failed>,
-        requires can { I.contract.can it }
-        requires finite { I.contract.has_end it };
+        requires can_next { I.contract.can_next it }
+        requires finite { I.contract.is_finite it };
 }
 
 /// An adapter over any source of numbers, and its rule.
@@ -26,8 +26,8 @@ pub trait Layer {
     fn over<I, V: Visit>(run: &Run<'_>, it: I) -> Result<Option<Outcome>, AllocError>
     where
         I: FallibleIterator<Item = u32, Error = Failed>,
-        requires can { I.contract.can it }
-        requires finite { I.contract.has_end it };
+        requires can_next { I.contract.can_next it }
+        requires finite { I.contract.is_finite it };
 
     /// How many answers it draws of its source at its making.
     fn made() -> u32 {

@@ -14,8 +14,8 @@ pub fn operate<I>(run: &Run<'_>, mut it: I) -> Result<Option<Outcome>, AllocErro
 where
     I: FallibleIterator<Error = Failed>,
     I::Item: Coded,
-    requires can { I.contract.can it }
-    requires finite { I.contract.has_end it }
+    requires can_next { I.contract.can_next it }
+    requires finite { I.contract.is_finite it }
     requires fits { AtMost I.contract it (2 ^ 64 - 1) }
 {
     match run.operation {
@@ -36,8 +36,8 @@ pub fn operate_without_numbers<I>(run: &Run<'_>, mut it: I) -> Result<Option<Out
 where
     I: FallibleIterator<Error = Failed>,
     I::Item: Coded,
-    requires can { I.contract.can it }
-    requires finite { I.contract.has_end it }
+    requires can_next { I.contract.can_next it }
+    requires finite { I.contract.is_finite it }
 {
     match run.operation {
         Operation::Draws(j) => {
@@ -61,8 +61,8 @@ pub fn operate_inside<I>(run: &Run<'_>, mut it: I) -> Option<Outcome>
 where
     I: FallibleIterator<Error = Failed>,
     I::Item: Coded,
-    requires can { I.contract.can it }
-    requires finite { I.contract.has_end it }
+    requires can_next { I.contract.can_next it }
+    requires finite { I.contract.is_finite it }
 {
     let decided = match run.operation {
         Operation::Draws(j) => drawn(&mut it, j),
@@ -80,7 +80,7 @@ fn and_after<I>(run: &Run<'_>, it: &mut I, decided: (Passed, Answer)) -> Outcome
 where
     I: FallibleIterator<Error = Failed>,
     I::Item: Coded,
-    requires { I.contract.can it.old }
+    requires { I.contract.can_next it.old }
 {
     let (passed, answer) = decided;
     let draws = run.draws.get();
@@ -109,7 +109,7 @@ fn next_answer<I>(it: &mut I, draws: &Cell<u32>) -> Seen
 where
     I: FallibleIterator<Error = Failed>,
     I::Item: Coded,
-    requires { I.contract.can it.old }
+    requires { I.contract.can_next it.old }
     ensures { Stays I.contract it.old it.new }
 {
     let answer = Answer::of(it.draw());
@@ -125,7 +125,7 @@ fn next_answers<I>(it: &mut I, draws: &Cell<u32>) -> [Seen; 8]
 where
     I: FallibleIterator<Error = Failed>,
     I::Item: Coded,
-    requires { I.contract.can it.old }
+    requires { I.contract.can_next it.old }
     ensures { Stays I.contract it.old it.new }
 {
     [
@@ -146,8 +146,8 @@ fn drawn<I>(it: &mut I, j: u32) -> (Passed, Answer)
 where
     I: FallibleIterator<Error = Failed>,
     I::Item: Coded,
-    requires can { I.contract.can it.old }
-    requires finite { I.contract.has_end it.old }
+    requires can_next { I.contract.can_next it.old }
+    requires finite { I.contract.is_finite it.old }
     ensures { Stays I.contract it.old it.new }
 {
     let mut passed = Passed::none();
@@ -165,8 +165,8 @@ fn borrowed<I>(it: &mut I, call: Borrowing, j: u32) -> (Passed, Answer)
 where
     I: FallibleIterator<Error = Failed>,
     I::Item: Coded,
-    requires can { I.contract.can it.old }
-    requires finite { I.contract.has_end it.old }
+    requires can_next { I.contract.can_next it.old }
+    requires finite { I.contract.is_finite it.old }
     ensures { Stays I.contract it.old it.new }
 {
     match call {
@@ -185,8 +185,8 @@ fn try_folded<I>(it: &mut I, j: u32) -> (Passed, Answer)
 where
     I: FallibleIterator<Error = Failed>,
     I::Item: Coded,
-    requires can { I.contract.can it.old }
-    requires finite { I.contract.has_end it.old }
+    requires can_next { I.contract.can_next it.old }
+    requires finite { I.contract.is_finite it.old }
     ensures { Stays I.contract it.old it.new }
 {
     let mut passed = Passed::none();
@@ -217,8 +217,8 @@ fn found<I>(it: &mut I, j: u32) -> (Passed, Answer)
 where
     I: FallibleIterator<Error = Failed>,
     I::Item: Coded,
-    requires can { I.contract.can it.old }
-    requires finite { I.contract.has_end it.old }
+    requires can_next { I.contract.can_next it.old }
+    requires finite { I.contract.is_finite it.old }
     ensures { Stays I.contract it.old it.new }
 {
     let mut passed = Passed::none();
@@ -238,8 +238,8 @@ fn found_mapped<I>(it: &mut I, j: u32) -> (Passed, Answer)
 where
     I: FallibleIterator<Error = Failed>,
     I::Item: Coded,
-    requires can { I.contract.can it.old }
-    requires finite { I.contract.has_end it.old }
+    requires can_next { I.contract.can_next it.old }
+    requires finite { I.contract.is_finite it.old }
     ensures { Stays I.contract it.old it.new }
 {
     let mut passed = Passed::none();
@@ -259,8 +259,8 @@ fn placed<I>(it: &mut I, j: u32) -> (Passed, Answer)
 where
     I: FallibleIterator<Error = Failed>,
     I::Item: Coded,
-    requires can { I.contract.can it.old }
-    requires finite { I.contract.has_end it.old }
+    requires can_next { I.contract.can_next it.old }
+    requires finite { I.contract.is_finite it.old }
     requires fits { AtMost I.contract it.old (2 ^ 64 - 1) }
     ensures { Stays I.contract it.old it.new }
 {
@@ -286,8 +286,8 @@ fn all_before<I>(it: &mut I, j: u32) -> (Passed, Answer)
 where
     I: FallibleIterator<Error = Failed>,
     I::Item: Coded,
-    requires can { I.contract.can it.old }
-    requires finite { I.contract.has_end it.old }
+    requires can_next { I.contract.can_next it.old }
+    requires finite { I.contract.is_finite it.old }
     ensures { Stays I.contract it.old it.new }
 {
     let mut passed = Passed::none();
@@ -307,8 +307,8 @@ fn any_at<I>(it: &mut I, j: u32) -> (Passed, Answer)
 where
     I: FallibleIterator<Error = Failed>,
     I::Item: Coded,
-    requires can { I.contract.can it.old }
-    requires finite { I.contract.has_end it.old }
+    requires can_next { I.contract.can_next it.old }
+    requires finite { I.contract.is_finite it.old }
     ensures { Stays I.contract it.old it.new }
 {
     let mut passed = Passed::none();
@@ -336,8 +336,8 @@ fn taken<I>(alloc: Global, it: I, call: Taking, j: u32) -> Result<(Passed, Answe
 where
     I: FallibleIterator<Error = Failed>,
     I::Item: Coded,
-    requires can { I.contract.can it }
-    requires finite { I.contract.has_end it }
+    requires can_next { I.contract.can_next it }
+    requires finite { I.contract.is_finite it }
 {
     match call {
         Taking::Fold => Ok(folded(it, j)),
@@ -353,8 +353,8 @@ fn folded<I>(it: I, j: u32) -> (Passed, Answer)
 where
     I: FallibleIterator<Error = Failed>,
     I::Item: Coded,
-    requires can { I.contract.can it }
-    requires finite { I.contract.has_end it }
+    requires can_next { I.contract.can_next it }
+    requires finite { I.contract.is_finite it }
 {
     let mut passed = Passed::none();
     let mut reached = 0;
@@ -375,8 +375,8 @@ fn each_called<I>(it: I, j: u32) -> (Passed, Answer)
 where
     I: FallibleIterator<Error = Failed>,
     I::Item: Coded,
-    requires can { I.contract.can it }
-    requires finite { I.contract.has_end it }
+    requires can_next { I.contract.can_next it }
+    requires finite { I.contract.is_finite it }
 {
     let mut passed = Passed::none();
     let mut reached = 0;
@@ -401,8 +401,8 @@ fn collected<I>(alloc: Global, it: I) -> Result<(Passed, Answer), AllocError>
 where
     I: FallibleIterator<Error = Failed>,
     I::Item: Coded,
-    requires can { I.contract.can it }
-    requires finite { I.contract.has_end it }
+    requires can_next { I.contract.can_next it }
+    requires finite { I.contract.is_finite it }
 {
     let made: Result<Vec<I::Item>, Fault<Failed>> = it.collect(alloc);
     match made {

@@ -82,20 +82,20 @@ pub fn fused(alloc: Global, source: &[Seen]) -> Result<Vec<Seen>, AllocError> {
 }
 
 /// The front up to its first end, which is left out, and then the back, drawn from there on.
-pub fn chained(alloc: Global, front: &[Seen], back: &[Seen]) -> Result<Vec<Seen>, AllocError> {
-    chained_after(alloc, front, back, 0)
+pub fn chained(alloc: Global, first: &[Seen], second: &[Seen]) -> Result<Vec<Seen>, AllocError> {
+    chained_after(alloc, first, second, 0)
 }
 
 /// The same where the back drew so many answers at its making.
 pub fn chained_after(
     alloc: Global,
-    front: &[Seen],
-    back: &[Seen],
+    first: &[Seen],
+    second: &[Seen],
     made: u32,
 ) -> Result<Vec<Seen>, AllocError> {
     let mut chained = Vec::new(alloc);
     let mut front_draws = 0;
-    for seen in front {
+    for seen in first {
         front_draws = seen.draws;
         if seen.answer == Answer::End {
             break;
@@ -105,7 +105,7 @@ pub fn chained_after(
             draws: made.wrapping_add(seen.draws),
         })?;
     }
-    for seen in back {
+    for seen in second {
         chained.push(Seen {
             answer: seen.answer,
             draws: front_draws.wrapping_add(seen.draws),

@@ -1,8 +1,8 @@
 //! A source of four scripted answers.
 ghost use Rattle.std.specs.Prelude.{◌≡◌, ◌+◌, ◌-◌, ◌≤◌, MatchResult, MatchOption};
 ghost use Rattle.std.proofs.Common.{rules};
-ghost use Rattle.fallible_contract.specs.Contract.{counting_down};
-ghost use Rattle.fallible_contract.specs.Ends.{counting_down_ends};
+ghost use Rattle.fallible_contract.specs.Contract.{counted_contract};
+ghost use Rattle.fallible_contract.specs.Ends.{counted_ends};
 ghost use Rattle.scripts.specs.Left.{left_of, left_of_twin};
 
 use crate::answer::{Answer, Failed};
@@ -34,7 +34,7 @@ impl<'a> FallibleIterator for Script<'a> {
     type Error = Failed;
 
     // At most as many items are left as there are answers behind the place.
-    ghost contract = { counting_down (λ s r t. MatchResult r
+    ghost contract = { counted_contract (λ s r t. MatchResult r
         (λ o. MatchOption o (4 - t.place ≤ 4 - s.place) (λ _. 4 - t.place + 1 ≤ 4 - s.place))
         (λ _. 4 - t.place ≤ 4 - s.place))
         (λ s. 4 - s.place) };
@@ -76,7 +76,7 @@ impl<'a> FallibleIterator for Twin<'a> {
 
     type Error = Failed;
 
-    ghost contract = { counting_down (λ s r t. MatchResult r
+    ghost contract = { counted_contract (λ s r t. MatchResult r
         (λ o. MatchOption o (left_of_twin t ≤ left_of_twin s)
         (λ _. left_of_twin t + 1 ≤ left_of_twin s))
         (λ _. left_of_twin t ≤ left_of_twin s))
@@ -94,7 +94,7 @@ impl<'a> FallibleIterator for Twin<'a> {
 }
 
 impl<'a> DoubleEndedFallibleIterator for Twin<'a> {
-    ghost ends = { counting_down_ends (λ s r t. MatchResult r
+    ghost ends = { counted_ends (λ s r t. MatchResult r
         (λ o. MatchOption o (left_of_twin t ≤ left_of_twin s)
         (λ _. left_of_twin t + 1 ≤ left_of_twin s))
         (λ _. left_of_twin t ≤ left_of_twin s)) };
@@ -125,7 +125,7 @@ impl<'a> FallibleIterator for Pointing<'a> {
 
     type Error = Failed;
 
-    ghost contract = { counting_down (λ s r t. MatchResult r
+    ghost contract = { counted_contract (λ s r t. MatchResult r
         (λ o. MatchOption o (left_of t.script ≤ left_of s.script)
         (λ _. left_of t.script + 1 ≤ left_of s.script))
         (λ _. left_of t.script ≤ left_of s.script))

@@ -10,7 +10,7 @@ use Rattle.fallible_contract.specs.declared.folds.Exit.{Exit}
 use Rattle.fallible_contract.specs.declared.folds.Exit.TheVariants.{Ended, Failed, Stopped}
 use Rattle.fallible_contract.specs.Traces.{Answered, Run, item}
 use Rattle.fallible_contract.specs.Folds.{CarryingExit, Carried}
-use Rattle.fallible_contract.specs.Collecting.{CollectsAll, FailsWith, RefusesItem, PushTurn, MadeOfParts, PairRefused, PairTurn}
+use Rattle.fallible_contract.specs.Collecting.{CollectsAll, FailsWith, RefusesItem, IsCollectTurn, MadeOfParts, PairRefused, IsUnzipTurn}
 
 -- Turns that go on add the item to what is made; one that stops with q stops as `stops` says.
 module _ {A C R : Type 0} (made : List A → C → Type 0) (turns : C → A → ControlFlow R C → Type 0)
@@ -50,7 +50,7 @@ module _ {A C R : Type 0} (made : List A → C → Type 0) (turns : C → A → 
 -- ---- collect
 
 module _ {S A E C : Type 0} {steps : S → Answered A E → S → Type 0} {made : List A → C → Type 0} {refuses : C → A → Type 0} {turns : C → A → ControlFlow AllocError C → Type 0}
-    (turn : (c : C) (x : A) (r : ControlFlow AllocError C) → turns c x r → PushTurn made refuses c x r) {s t : S} {c : C} (is_empty : made [] c) where
+    (turn : (c : C) (x : A) (r : ControlFlow AllocError C) → turns c x r → IsCollectTurn made refuses c x r) {s t : S} {c : C} (is_empty : made [] c) where
   pub collected_all : {d : C} → Carried steps turns s c (Ended d) t → CollectsAll steps made s d
   collected_all {d} w = gathered_all made turns (λ c x d p. turn c x (Continue d) p) steps is_empty d w
 
@@ -69,6 +69,6 @@ parts_more h (y ∷ items) x = ap (λ l. h y ∷ l) (parts_more h items x)
 
 module _ {A B C D : Type 0} (made_first : List A → C → Type 0) (made_second : List B → D → Type 0) (first_refuses : C → A → Type 0) (second_refuses : D → B → Type 0) where
   -- a turn with a pair pushes it to the pair of the collections
-  pub pair_pushed : (c : C × D) (x : A × B) (r : ControlFlow AllocError (C × D)) → PairTurn made_first made_second first_refuses second_refuses c x r → PushTurn (MadeOfParts made_first made_second) (PairRefused made_first made_second first_refuses second_refuses) c x r
+  pub pair_pushed : (c : C × D) (x : A × B) (r : ControlFlow AllocError (C × D)) → IsUnzipTurn made_first made_second first_refuses second_refuses c x r → IsCollectTurn (MadeOfParts made_first made_second) (PairRefused made_first made_second first_refuses second_refuses) c x r
   pair_pushed c x (Continue d) w = λ items h. (subst (λ l. made_first l d.0) (parts_more (λ p. p.0) items x) (w.0 (map (λ p. p.0) items) h.0), subst (λ l. made_second l d.1) (parts_more (λ p. p.1) items x) (w.1 (map (λ p. p.1) items) h.1))
   pair_pushed c x (Break a) w = w

@@ -75,7 +75,7 @@ always_ordered c = has_order _ (λ x y e. absurd cc) c.last_left c.last_right c.
 module _ {S T A B E D : Type 0} (m : Contract S A E) (o : Contract T B D) where
   -- at most k items are to come of one of the two sides
   abbrev pub EitherAtMost : S → T → ℕ → Type 0
-  EitherAtMost s t k = ((n : ℕ) × m.to_come s n × (n ≤ k)) ⊎ ((n : ℕ) × o.to_come t n × (n ≤ k))
+  EitherAtMost s t k = ((n : ℕ) × m.bound s n × (n ≤ k)) ⊎ ((n : ℕ) × o.bound t n × (n ≤ k))
 
   -- a round of two items is one of those, and there is one less after it
   pub either_positive : (s u : S) (t v : T) (k : ℕ) → Fewer m s u → Fewer o t v → EitherAtMost s t k → 0 < k
@@ -86,7 +86,7 @@ module _ {S T A B E D : Type 0} (m : Contract S A E) (o : Contract T B D) where
   either_fewer s u t v k j p q e (inl b) = let f = p b.0 b.1 in inl (f.0, f.1, omega (arith, f.2, b.2, e))
   either_fewer s u t v k j p q e (inr b) = let f = q b.0 b.1 in inr (f.0, f.1, omega (arith, f.2, b.2, e))
 
-  pub either_begins : (s : S) (t : T) (k : ℕ) → m.to_come s k ⊎ o.to_come t k → EitherAtMost s t k
+  pub either_begins : (s : S) (t : T) (k : ℕ) → m.bound s k ⊎ o.bound t k → EitherAtMost s t k
   either_begins s t k (inl b) = inl (k, b, omega arith)
   either_begins s t k (inr b) = inr (k, b, omega arith)
 

@@ -4,42 +4,42 @@ use Rattle.std.proofs.Common.{arith, subst, inl, inr, ◌∙◌}
 use Rattle.fallible_contract.specs.Traces.{Answered, Yields, item}
 use Rattle.fallible_contract.specs.declared.answers.Side.{Side}
 use Rattle.fallible_contract.specs.declared.answers.Side.TheVariants.{Front, Back}
-use Rattle.fallible_contract.specs.Contract.{Contract, AtMost, OnAnswer, Goes, Stays, Lawful}
+use Rattle.fallible_contract.specs.Contract.{Contract, AtMost, OnAnswer, KeptByDraw, Stays, Lawful}
 use Rattle.fallible_contract.specs.Ends.{Ends, from_front, from_back, LawfulEnds}
-use Rattle.fallible_contract.specs.Listed.{step_at}
+use Rattle.fallible_contract.specs.BothEnds.{step_at}
 use Rattle.fallible_contract.specs.Laws.Contract.{no_more_then, stays_after, stays_here}
 
 module _ {S A E : Type 0} (m : Contract S A E) where
-  -- where at most k items are still to come, a number to come says so
-  pub number_of_at_most : (s : S) (k : ℕ) → AtMost m s k → (n : ℕ) × m.to_come s n × (n ≤ k)
+  -- where at most k items are still to come, a bound says so
+  pub number_of_at_most : (s : S) (k : ℕ) → AtMost m s k → (n : ℕ) × m.bound s n × (n ≤ k)
   number_of_at_most s k (inl b) = (k, b, omega arith)
   number_of_at_most s k (inr b) = b
 
 module _ {S A E : Type 0} {m : Contract S A E} where
-  pub stays_yields : Lawful m → (s : S) (xs : List A) (t : S) → m.can s → Yields m.steps s xs t → Stays m s t
+  pub stays_yields : Lawful m → (s : S) (xs : List A) (t : S) → m.can_next s → Yields m.steps s xs t → Stays m s t
   stays_yields l s [] t c ran = subst (λ (u : S). Stays m s u) ran (stays_here c)
-  stays_yields l s (x ∷ xs) t c ran = let g = l.goes s (item x) ran.0 c ran.1 in stays_after g (stays_yields l ran.0 xs t g.can ran.2)
+  stays_yields l s (x ∷ xs) t c ran = let g = l.kept_by_draw s (item x) ran.0 c ran.1 in stays_after g (stays_yields l ran.0 xs t g.can_next ran.2)
 
   -- an item that came after others was one to come
-  pub given_after : Lawful m → (s : S) (xs : List A) (t u : S) (x : A) → m.can s → Yields m.steps s xs t → m.steps t (item x) u → m.gives s x
-  given_after l s xs t u x c ran step = let h = stays_yields l s xs t c ran in h.gives x ((l.goes t (item x) u h.can step).answer.0)
+  pub given_after : Lawful m → (s : S) (xs : List A) (t u : S) (x : A) → m.can_next s → Yields m.steps s xs t → m.steps t (item x) u → m.may_give s x
+  given_after l s xs t u x c ran step = let h = stays_yields l s xs t c ran in h.may_give x ((l.kept_by_draw t (item x) u h.can_next step).answer.0)
 
 -- ---- a type whose values are seen as those of another
 
 module _ {S A E : Type 0} {m : Contract S A E} where
   stays_then : {s t u : S} → Stays m s t → Stays m t u → Stays m s u
   stays_then {s} {t} {u} p q = record {
-    can = q.can;
-    has_end = λ e. q.has_end (p.has_end e);
-    to_come = no_more_then m s t u p.to_come q.to_come;
-    gives = λ x h. p.gives x (q.gives x h);
-    fails = λ e h. p.fails e (q.fails e h);
-    names = q.names ∙ p.names;
+    can_next = q.can_next;
+    is_finite = λ e. q.is_finite (p.is_finite e);
+    bound = no_more_then m s t u p.bound q.bound;
+    may_give = λ x h. p.may_give x (q.may_give x h);
+    may_fail = λ e h. p.may_fail e (q.may_fail e h);
+    lenders = q.lenders ∙ p.lenders;
   }
 
   -- one more draw
   pub stays_step : {s t u : S} {r : Answered A E} → Lawful m → Stays m s t → m.steps t r u → Stays m s u
-  stays_step {s} {t} {u} {r} l p step = let g = l.goes t r u p.can step in stays_then p (stays_after g (stays_here g.can))
+  stays_step {s} {t} {u} {r} l p step = let g = l.kept_by_draw t r u p.can_next step in stays_then p (stays_after g (stays_here g.can_next))
 
 -- ---- draws from both ends
 
@@ -52,5 +52,5 @@ module _ {S A E : Type 0} (m : Contract S A E) (e : Ends S A E) where
   -- one more draw, from the end that is named
   pub stays_step_at : LawfulEnds m e → (side : Side) (r : Answered A E) (s t u : S) → Stays (from_front m e) s t → step_at m.steps e.steps side t r u → Stays (from_front m e) s u
   stays_step_at l Front r s t u p step = stays_step l.front p step
-  stays_step_at l Back r s t u p step = let g = l.back.goes t r u p.can step in
-      let h : Goes (from_front m e) t r u = record { can = g.can; has_end = g.has_end; answer = answer_at t u r g.answer; gives = g.gives; fails = g.fails; names = g.names } in stays_then p (stays_after h (stays_here h.can))
+  stays_step_at l Back r s t u p step = let g = l.back.kept_by_draw t r u p.can_next step in
+      let h : KeptByDraw (from_front m e) t r u = record { can_next = g.can_next; is_finite = g.is_finite; answer = answer_at t u r g.answer; may_give = g.may_give; may_fail = g.may_fail; lenders = g.lenders } in stays_then p (stays_after h (stays_here h.can_next))

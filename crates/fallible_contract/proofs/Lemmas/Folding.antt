@@ -160,14 +160,14 @@ module _ {S C F X V B E R : Type 0} {m : Contract S X E} (l : Lawful m) (call : 
   turned_on (Failure e) c d g h w = absurd cc
   turned_on End c d g h w = absurd cc
 
-  turned_reach : (items : List X) (s t : S) (p q : C × F) → m.can s → Yields m.steps s items t → FoldsTo (carrying_turn (FoldingTurn call outcome turns)) p items q → Reaches call (m.gives s) p.1 q.1
-  turned_reach [] s t p q c ran went = subst (λ (r : C × F). Reaches call (m.gives s) p.1 r.1) went reaches_here
-  turned_reach (x ∷ items) s t p q c ran went = let a = l.goes s (item x) ran.0 c ran.1 in let turned = went.1 in
+  turned_reach : (items : List X) (s t : S) (p q : C × F) → m.can_next s → Yields m.steps s items t → FoldsTo (carrying_turn (FoldingTurn call outcome turns)) p items q → Reaches call (m.may_give s) p.1 q.1
+  turned_reach [] s t p q c ran went = subst (λ (r : C × F). Reaches call (m.may_give s) p.1 r.1) went reaches_here
+  turned_reach (x ∷ items) s t p q c ran went = let a = l.kept_by_draw s (item x) ran.0 c ran.1 in let turned = went.1 in
       let called = subst (λ (h : F). call p.1 x turned.0 h) (sym (turned_on (outcome x turned.0) p.0 went.0.0 turned.1 went.0.1 turned.3)) turned.2 in
-      reaches_from x turned.0 a.answer.0 called (reaches_weaken a.gives (turned_reach items ran.0 t went.0 q a.can ran.2 went.2))
+      reaches_from x turned.0 a.answer.0 called (reaches_weaken a.may_give (turned_reach items ran.0 t went.0 q a.can_next ran.2 went.2))
 
   -- The source's turn may be taken at each item where the closure may be called on what comes, and the caller's turn at each item of the adapter.
-  pub takes_through : {pre : F → X → Type 0} {P : C → B → Type 0} {s : S} {f : F} {c : C} → m.can s → IsCallable call pre (m.gives s) f → HoldsAtEachTurn (passing_step m.steps call outcome) (carrying_turn turns) P (s, f) c
+  pub takes_through : {pre : F → X → Type 0} {P : C → B → Type 0} {s : S} {f : F} {c : C} → m.can_next s → IsCallable call pre (m.may_give s) f → HoldsAtEachTurn (passing_step m.steps call outcome) (carrying_turn turns) P (s, f) c
       → HoldsAtEachTurn m.steps (carrying_turn (FoldingTurn call outcome turns)) (FoldingTakes call outcome pre P) s (c, f)
   takes_through {pre = pre} {P = P} {s = s} {f = f} {c = c} can callable holds = record {
     at = λ items t u p x ran went step. (
@@ -195,9 +195,9 @@ module _ {S F X V B E C R : Type 0} (m : Contract S X E) (call : F → X → V �
 
   module _ {s : S} {slot : Option F} {f : F} {c : C} (at : slot ≡ Some f) where
     -- where the adapter's turns may be taken, the source's may
-    pub takes_in_slot : (pre : F → X → Type 0) {P : C → B → Type 0} → Lawful m → m.can s → IsCallableIn call pre (m.gives s) slot → HoldsAtEachTurn InSlot (carrying_turn turns) P (s, slot) c
+    pub takes_in_slot : (pre : F → X → Type 0) {P : C → B → Type 0} → Lawful m → m.can_next s → IsCallableIn call pre (m.may_give s) slot → HoldsAtEachTurn InSlot (carrying_turn turns) P (s, slot) c
         → HoldsAtEachTurn m.steps (carrying_turn (FoldingTurn call outcome turns)) (FoldingTakes call outcome pre P) s (c, f)
-    takes_in_slot pre {P = P} l can callable holds = takes_through l call outcome turns can (subst (λ (o : Option F). IsCallableIn call pre (m.gives s) o) at callable)
+    takes_in_slot pre {P = P} l can callable holds = takes_through l call outcome turns can (subst (λ (o : Option F). IsCallableIn call pre (m.may_give s) o) at callable)
         (holds_into full (λ p x q step. passes_in_slot step) (subst (λ (o : Option F). HoldsAtEachTurn InSlot (carrying_turn turns) P (s, o) c) at holds))
 
     -- and a fold with the closure is one with the slot

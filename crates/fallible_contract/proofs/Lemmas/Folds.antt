@@ -9,7 +9,7 @@ use Rattle.fallible_contract.specs.declared.folds.Exit.TheVariants.{Ended, Faile
 use Rattle.fallible_contract.specs.Traces.{Answered, Yields, item}
 use Rattle.fallible_contract.specs.Contract.{Contract, AtMost, Lawful}
 use Rattle.fallible_contract.proofs.Lemmas.Contract.{number_of_at_most}
-use Rattle.fallible_contract.specs.Folds.{CountExit, Counted, LastExit, LastOf, HoldsAtEachTurn, FoldTurn, FoldExit, Folded, carrying_turn, CarryingExit, CallableCarrying, Carried, TurnBehind, ValueAt, FoldedAt}
+use Rattle.fallible_contract.specs.Folds.{CountExit, Counted, LastExit, LastOf, HoldsAtEachTurn, IsFoldTurn, FoldExit, Folded, carrying_turn, CarryingExit, CallableCarrying, Carried, TurnBehind, ValueAt, FoldedAt}
 
 module _ {S A E C : Type 0} {steps : S → Answered A E → S → Type 0} {goes_on : C → A → C → Type 0} {P : C → A → Type 0} where
   -- what holds at each turn holds at the first, and at each turn after it
@@ -96,7 +96,7 @@ module _ {X N A C R : Type 0} (behind : X → C) (names : X → N) (turns : C �
 -- ---- `try_fold` by the fold that carries the value and the closure
 
 module _ {A E F B E' : Type 0} (f : F → B → A → Result B E' → F → Type 0) (from : E → E' → Type 0) (turns : B × F → A → ControlFlow E' (B × F) → Type 0)
-    (turn : (p : B × F) (x : A) (r : ControlFlow E' (B × F)) → turns p x r → FoldTurn f p x r) where
+    (turn : (p : B × F) (x : A) (r : ControlFlow E' (B × F)) → turns p x r → IsFoldTurn f p x r) where
   exit_ended : (last : Answered A E) (p q : B × F) → CarryingExit turns p last (Ended q) → FoldExit f from p.0 p.1 last (Ok q.0)
   exit_ended (Ok None) p q h = let e : q ≡ p = cc in ap (λ (z : B × F). Ok z.0) e
   exit_ended (Ok (Some x)) p q h = absurd (let e = h.2 in cc)
@@ -113,7 +113,7 @@ module _ {A E F B E' : Type 0} (f : F → B → A → Result B E' → F → Type
   exit_stopped (Err d) p e' h = absurd cc
 
 module _ {S A E F B E' : Type 0} {steps : S → Answered A E → S → Type 0} {f : F → B → A → Result B E' → F → Type 0} {from : E → E' → Type 0} {turns : B × F → A → ControlFlow E' (B × F) → Type 0}
-    (turn : (p : B × F) (x : A) (r : ControlFlow E' (B × F)) → turns p x r → FoldTurn f p x r) {s t : S} {b : B} {h : F} where
+    (turn : (p : B × F) (x : A) (r : ControlFlow E' (B × F)) → turns p x r → IsFoldTurn f p x r) {s t : S} {b : B} {h : F} where
   folded_by : {x : Exit (B × F) E E'} (c : Carried steps turns s (b, h) x t) (r : Result B E') → FoldExit f from c.carried.0 c.carried.1 c.last r → Folded steps f from s b h r t
   folded_by c r exit = record { items = c.items; last = c.last; value = c.carried.0; closure = c.carried.1; ran = c.ran; went = turns_map (λ p y q w. turn p y (Continue q) w) c.items (b, h) c.carried c.went; exit = exit }
 
@@ -136,18 +136,18 @@ counted_up [] n k e = omega (arith, e)
 counted_up (x ∷ items) n k w = let e = counted_up items w.0 k w.2 in let one : w.0 ≡ n + 1 = w.1 in omega (arith, e, one)
 
 module _ {S A E : Type 0} {m : Contract S A E} where
-  -- fewer items came than a number to come
-  came_below : Lawful m → (s : S) (items : List A) (t u : S) (x : A) (n : ℕ) → m.can s → m.to_come s n → Yields m.steps s items t → m.steps t (item x) u → length items < n
-  came_below l s [] t u x n c b ran step = let step' : m.steps s (item x) u = subst (λ (v : S). m.steps v (item x) u) (sym ran) step in let fewer = (l.goes s (item x) u c step').answer.1 n b in omega (arith, fewer.2)
-  came_below l s (y ∷ items) t u x n c b ran step = let g = l.goes s (item y) ran.0 c ran.1 in let fewer = g.answer.1 n b in let k = came_below l ran.0 items t u x fewer.0 g.can fewer.1 ran.2 step in omega (arith, fewer.2, k)
+  -- fewer items came than a bound
+  came_below : Lawful m → (s : S) (items : List A) (t u : S) (x : A) (n : ℕ) → m.can_next s → m.bound s n → Yields m.steps s items t → m.steps t (item x) u → length items < n
+  came_below l s [] t u x n c b ran step = let step' : m.steps s (item x) u = subst (λ (v : S). m.steps v (item x) u) (sym ran) step in let fewer = (l.kept_by_draw s (item x) u c step').answer.1 n b in omega (arith, fewer.2)
+  came_below l s (y ∷ items) t u x n c b ran step = let g = l.kept_by_draw s (item y) ran.0 c ran.1 in let fewer = g.answer.1 n b in let k = came_below l ran.0 items t u x fewer.0 g.can_next fewer.1 ran.2 step in omega (arith, fewer.2, k)
 
   -- so where at most n items are to come, their count fits below n at each turn
-  pub count_fits : {s : S} (n : ℕ) → Lawful m → m.can s → AtMost m s n → HoldsAtEachTurn m.steps counts (λ k x. k < n) s 0
+  pub count_fits : {s : S} (n : ℕ) → Lawful m → m.can_next s → AtMost m s n → HoldsAtEachTurn m.steps counts (λ k x. k < n) s 0
   count_fits {s} n l c h = let b = number_of_at_most m s n h in record { at = λ items t u k x ran went step. let below = came_below l s items t u x b.0 c b.1 ran step in let e = counted_up items 0 k went in omega (arith, below, e, b.2) }
 
 module _ {A R : Type 0} (turns : ℕ → A → ControlFlow R ℕ → Type 0) where
-  went_up : ((n : ℕ) (x : A) (r : ControlFlow R ℕ) → turns n x r → r ≡ Continue (n + 1)) → (items : List A) (n d : ℕ) → FoldsTo (carrying_turn turns) n items d → d ≡ n + length items
-  went_up turn items n d w = counted_up items n d (turns_map (λ c x e h. let same = turn c x (Continue e) h in cc) items n d w)
+  counted_by_turns : ((n : ℕ) (x : A) (r : ControlFlow R ℕ) → turns n x r → r ≡ Continue (n + 1)) → (items : List A) (n d : ℕ) → FoldsTo (carrying_turn turns) n items d → d ≡ n + length items
+  counted_by_turns turn items n d w = counted_up items n d (turns_map (λ c x e h. let same = turn c x (Continue e) h in cc) items n d w)
 
   count_ended : {E : Type 0} (last : Answered A E) (n k' : ℕ) → CarryingExit turns n last (Ended k') → CountExit n last (Ok k')
   count_ended (Ok None) n k' h = cc
@@ -162,7 +162,7 @@ module _ {A R : Type 0} (turns : ℕ → A → ControlFlow R ℕ → Type 0) whe
 module _ {S A E R : Type 0} {steps : S → Answered A E → S → Type 0} {turns : ℕ → A → ControlFlow R ℕ → Type 0}
     (turn : (n : ℕ) (x : A) (r : ControlFlow R ℕ) → turns n x r → r ≡ Continue (n + 1)) where
   counted_by : {s t : S} {x : Exit ℕ E R} (c : Carried steps turns s 0 x t) (r : Result ℕ E) → CountExit c.carried c.last r → Counted steps s r
-  counted_by {t} c r exit = record { items = c.items; last = c.last; left = t; ran = c.ran; exit = subst (λ (n : ℕ). CountExit n c.last r) (let e = went_up turns turn c.items 0 c.carried c.went in omega (arith, e)) exit }
+  counted_by {t} c r exit = record { items = c.items; last = c.last; left = t; ran = c.ran; exit = subst (λ (n : ℕ). CountExit n c.last r) (let e = counted_by_turns turns turn c.items 0 c.carried c.went in omega (arith, e)) exit }
 
   pub counted_ended : {s t : S} {n : ℕ} → Carried steps turns s 0 (Ended n) t → Counted steps s (Ok n)
   counted_ended c = counted_by c _ (count_ended turns c.last c.carried _ c.exit)
@@ -208,7 +208,7 @@ last_at {steps = steps} {s = s} turn (Ended o) c v = subst (λ r. LastOf steps s
 last_at {steps = steps} {s = s} turn (Failed o e) c v = subst (λ r. LastOf steps s r) (sym v) (last_failed turn c)
 last_at turn (Stopped q) c v = absurd v
 
-pub folded_by_turns : {S A E F B E' : Type 0} {steps : S → Answered A E → S → Type 0} {f : F → B → A → Result B E' → F → Type 0} {from : E → E' → Type 0} {turns : B × F → A → ControlFlow E' (B × F) → Type 0} {s t : S} {b : B} {h : F} {r : Result B E'} → ((p : B × F) (x : A) (r : ControlFlow E' (B × F)) → turns p x r → FoldTurn f p x r) → (exit : Exit (B × F) E E') → Carried steps turns s (b, h) exit t → FoldedAt from exit r → Folded steps f from s b h r t
+pub folded_by_turns : {S A E F B E' : Type 0} {steps : S → Answered A E → S → Type 0} {f : F → B → A → Result B E' → F → Type 0} {from : E → E' → Type 0} {turns : B × F → A → ControlFlow E' (B × F) → Type 0} {s t : S} {b : B} {h : F} {r : Result B E'} → ((p : B × F) (x : A) (r : ControlFlow E' (B × F)) → turns p x r → IsFoldTurn f p x r) → (exit : Exit (B × F) E E') → Carried steps turns s (b, h) exit t → FoldedAt from exit r → Folded steps f from s b h r t
 folded_by_turns {steps = steps} {f = f} {from = from} {s = s} {t = t} {b = b} {h = h} turn (Ended q) c v = subst (λ r. Folded steps f from s b h r t) (sym v) (folded_ended turn q c)
 folded_by_turns {steps = steps} {f = f} {from = from} {s = s} {t = t} {b = b} {h = h} turn (Failed q e) c v = subst (λ r. Folded steps f from s b h r t) (sym v.2) (folded_failed turn q e v.0 c v.1)
 folded_by_turns {steps = steps} {f = f} {from = from} {s = s} {t = t} {b = b} {h = h} turn (Stopped e) c v = subst (λ r. Folded steps f from s b h r t) (sym v) (folded_stopped turn e c)

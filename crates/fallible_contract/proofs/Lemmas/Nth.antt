@@ -6,7 +6,7 @@ use Rattle.std.specs.List.{FoldsTo}
 use Rattle.std.proofs.Common.{refl, sym, subst, arith}
 use Rattle.fallible_contract.specs.declared.folds.Exit.{Exit}
 use Rattle.fallible_contract.specs.Traces.{Answered, Run, item}
-use Rattle.fallible_contract.specs.Folds.{carrying_turn, CarryingExit, Carried, NthExit, Nth, ReachTurn, reached_at}
+use Rattle.fallible_contract.specs.Folds.{carrying_turn, CarryingExit, Carried, NthExit, Nth, IsNthTurn, reached_at}
 
 exit_more : {A E : Type 0} (n k skipped : ℕ) (r : Answered A E) → k ≡ n + 1 → NthExit n skipped r → NthExit k (suc skipped) r
 exit_more n k skipped (Ok (Some x)) e h = omega (arith, e, h)
@@ -34,19 +34,19 @@ module _ {S A E : Type 0} {steps : S → Answered A E → S → Type 0} where
 -- ---- as one fold
 
 -- each turn that goes on passes over one item
-passed_over : {A : Type 0} (items : List A) (n d : ℕ) → FoldsTo (carrying_turn ReachTurn) n items d → n ≡ d + length items
+passed_over : {A : Type 0} (items : List A) (n d : ℕ) → FoldsTo (carrying_turn IsNthTurn) n items d → n ≡ d + length items
 passed_over [] n d w = omega (arith, w)
 passed_over (x ∷ items) n d w = let rest = passed_over items w.0 d w.2 in let one : n ≡ w.0 + 1 = w.1 in omega (arith, one, rest)
 
 module _ {S A E : Type 0} (steps : S → Answered A E → S → Type 0) where
-  reached_last : (items : List A) (last : Answered A E) (n d : ℕ) (exit : Exit ℕ E A) (s t : S) → n ≡ d + length items → Run steps s (map item items ++ last ∷ []) t → CarryingExit ReachTurn d last exit → Nth steps s n (reached_at exit) t
+  reached_last : (items : List A) (last : Answered A E) (n d : ℕ) (exit : Exit ℕ E A) (s t : S) → n ≡ d + length items → Run steps s (map item items ++ last ∷ []) t → CarryingExit IsNthTurn d last exit → Nth steps s n (reached_at exit) t
   reached_last items (Ok None) n d exit s t over ran at = subst (λ (z : Exit ℕ E A). Nth steps s n (reached_at z) t) (sym at) (record { skipped = items; ran = ran; exit = omega (arith, over) })
   reached_last items (Err e) n d exit s t over ran at = subst (λ (z : Exit ℕ E A). Nth steps s n (reached_at z) t) (sym at) (record { skipped = items; ran = ran; exit = omega (arith, over) })
   reached_last items (Ok (Some x)) n d exit s t over ran at = subst (λ (z : Exit ℕ E A). Nth steps s n (reached_at z) t) (sym at.2)
       (subst (λ (y : A). Nth steps s n (item y) t) (sym at.1.1) (let none = at.1.0 in record { skipped = items; ran = ran; exit = omega (arith, over, none) }))
 
 -- the fold that passes over n items and stops with the next one is `nth`
-pub nth_reached : {S A E : Type 0} {steps : S → Answered A E → S → Type 0} {s t : S} {n : ℕ} {exit : Exit ℕ E A} → Carried steps ReachTurn s n exit t → Nth steps s n (reached_at exit) t
+pub nth_reached : {S A E : Type 0} {steps : S → Answered A E → S → Type 0} {s t : S} {n : ℕ} {exit : Exit ℕ E A} → Carried steps IsNthTurn s n exit t → Nth steps s n (reached_at exit) t
 nth_reached {steps = steps} {s = s} {t = t} {n = n} {exit = exit} w = reached_last steps w.items w.last n w.carried exit s t (passed_over w.items n w.carried w.went) w.ran w.exit
 
 -- ---- a draw as a fold that stops with the first item

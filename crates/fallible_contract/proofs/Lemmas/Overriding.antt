@@ -46,4 +46,4 @@ module _ {S P : Type 0} (view : S → P) (put : S → P → S) (viewed : (s : S)
     searched_held {t = t} h = record { items = h.items; last = h.last; closure = h.closure; ran = run_up m.steps (map item h.items) h.last s t h.ran; went = h.went; exit = h.exit }
 
     pub stays_held : {t : S} → Stays m (view s) (view t) → Stays (seen_as view m) s t
-    stays_held h = record { can = h.can; has_end = h.has_end; to_come = h.to_come; gives = h.gives; fails = h.fails; names = h.names }
+    stays_held h = record { can_next = h.can_next; is_finite = h.is_finite; bound = h.bound; may_give = h.may_give; may_fail = h.may_fail; lenders = h.lenders }

@@ -6,7 +6,7 @@ use Rattle.fallible_contract.specs.declared.folds.Exit.{Exit}
 use Rattle.fallible_contract.specs.Traces.{Answered, Run, Yields, item}
 use Rattle.fallible_contract.specs.Contract.{Contract, Lawful}
 use Rattle.fallible_contract.specs.Closures.{Calls, Reaches, IsCallable, IsCallableIn, call_in}
-use Rattle.fallible_contract.proofs.Lemmas.Definitions.{FirstOf, IsByAnswers}
+use Rattle.fallible_contract.proofs.Lemmas.LawForm.{FirstOf, IsByAnswers}
 use Rattle.fallible_contract.proofs.Lemmas.Contract.{given_after}
 use Rattle.fallible_contract.specs.Laws.Closures.{reaches_here, reaches_weaken, reaches_from}
 use Rattle.fallible_contract.specs.Folds.{HoldsAtEachTurn, CarryingExit, Carried, stopped_answer, unpacked}
@@ -69,12 +69,12 @@ module _ {S F X R B E : Type 0} (steps : S → Answered X E → S → Type 0) (c
   after_left_out last r t h g final (x ∷ items) s f ran went = leaves_out x went.1.0 ran.1 went.1.1 went.1.2 (after_left_out last r t h g final items ran.0 went.0 ran.2 went.2)
 
 module _ {S F X R B E : Type 0} (m : Contract S X E) (l : Lawful m) (call : F → X → R → F → Type 0) (outcome : X → R → Outcome B E) where
-  turns_reach : (items : List X) (s t : S) (f g : F) → m.can s → Yields m.steps s items t → FoldsTo (leaving m.steps call outcome) f items g → Reaches call (m.gives s) f g
-  turns_reach [] s t f g c ran went = subst (λ (h : F). Reaches call (m.gives s) f h) went reaches_here
-  turns_reach (x ∷ items) s t f g c ran went = let a = l.goes s (item x) ran.0 c ran.1 in reaches_from x went.1.0 a.answer.0 went.1.1 (reaches_weaken a.gives (turns_reach items ran.0 t went.0 g a.can ran.2 went.2))
+  turns_reach : (items : List X) (s t : S) (f g : F) → m.can_next s → Yields m.steps s items t → FoldsTo (leaving m.steps call outcome) f items g → Reaches call (m.may_give s) f g
+  turns_reach [] s t f g c ran went = subst (λ (h : F). Reaches call (m.may_give s) f h) went reaches_here
+  turns_reach (x ∷ items) s t f g c ran went = let a = l.kept_by_draw s (item x) ran.0 c ran.1 in reaches_from x went.1.0 a.answer.0 went.1.1 (reaches_weaken a.may_give (turns_reach items ran.0 t went.0 g a.can_next ran.2 went.2))
 
 -- a stored closure may be called at each turn of such a fold
-pub callable_turns : {S F X R B E : Type 0} {m : Contract S X E} {call : F → X → R → F → Type 0} {pre : F → X → Type 0} (outcome : X → R → Outcome B E) {s : S} {f : F} → Lawful m → m.can s → IsCallable call pre (m.gives s) f → HoldsAtEachTurn m.steps (leaving m.steps call outcome) pre s f
+pub callable_turns : {S F X R B E : Type 0} {m : Contract S X E} {call : F → X → R → F → Type 0} {pre : F → X → Type 0} (outcome : X → R → Outcome B E) {s : S} {f : F} → Lawful m → m.can_next s → IsCallable call pre (m.may_give s) f → HoldsAtEachTurn m.steps (leaving m.steps call outcome) pre s f
 callable_turns {m = m} {call = call} outcome {s = s} {f = f} l c callable = record { at = λ items t u g x ran went step. callable.at g x (turns_reach m l call outcome items s t f g c ran went) (given_after l s items t u x c ran step) }
 
 module _ {S F X R E : Type 0} (steps : S → Answered X E → S → Type 0) (call : F → X → R → F → Type 0) (outcome : X → R → Outcome X E) where
@@ -99,7 +99,7 @@ pub passes_search : {S F X R E : Type 0} {steps : S → Answered X E → S → T
 passes_search {steps = steps} {call = call} {outcome = outcome} {s = s} {t = t} {f = f} {g = g} {r = r} w = from_passes (after_left_out steps call outcome w.last r t w.closure g (λ u step. final_test steps call outcome w.last (length w.items) r u t w.closure g w.exit step) w.items s f w.ran (turns_map (left_by_test steps call outcome) w.items f w.closure w.went))
 
 -- a stored closure may be called at each test of such a search
-pub callable_search : {S F X R E : Type 0} {m : Contract S X E} {call : F → X → R → F → Type 0} {pre : F → X → Type 0} (outcome : X → R → Outcome X E) {s : S} {f : F} → Lawful m → m.can s → IsCallable call pre (m.gives s) f → CallableInSearch (PassTest call outcome) find_pick m.steps pre s f
+pub callable_search : {S F X R E : Type 0} {m : Contract S X E} {call : F → X → R → F → Type 0} {pre : F → X → Type 0} (outcome : X → R → Outcome X E) {s : S} {f : F} → Lawful m → m.can_next s → IsCallable call pre (m.may_give s) f → CallableInSearch (PassTest call outcome) find_pick m.steps pre s f
 callable_search {m = m} {call = call} outcome l c callable = holds_map (left_by_test m.steps call outcome) (λ g x p. p) (callable_turns outcome l c callable)
 
 -- ---- what holds the closure
@@ -146,13 +146,13 @@ module _ {F X R B E : Type 0} (call : F → X → R → F → Type 0) (outcome :
   answer_in_slot at drawn h = subst (λ (o : Option F). PassAnswer (call_in call) outcome o drawn r (Some g)) (sym at) (full_passed drawn h)
 
 -- the closure may be called on an item that was drawn
-pub drawn_takes : {S F X R E : Type 0} {m : Contract S X E} {s t : S} {call : F → X → R → F → Type 0} {pre : F → X → Type 0} {f : F} → Lawful m → m.can s → (drawn : Answered X E) → m.steps s drawn t → IsCallable call pre (m.gives s) f → IfItem (pre f) drawn
-drawn_takes {s = s} {t = t} {f = f} l c (Ok (Some x)) step callable = callable.at f x reaches_here ((l.goes s (item x) t c step).answer.0)
+pub drawn_takes : {S F X R E : Type 0} {m : Contract S X E} {s t : S} {call : F → X → R → F → Type 0} {pre : F → X → Type 0} {f : F} → Lawful m → m.can_next s → (drawn : Answered X E) → m.steps s drawn t → IsCallable call pre (m.may_give s) f → IfItem (pre f) drawn
+drawn_takes {s = s} {t = t} {f = f} l c (Ok (Some x)) step callable = callable.at f x reaches_here ((l.kept_by_draw s (item x) t c step).answer.0)
 drawn_takes l c (Ok None) step callable = tt
 drawn_takes l c (Err e) step callable = tt
 
 -- the same, where the closure stands in a slot
-pub drawn_in_slot : {S F X R E : Type 0} {m : Contract S X E} {s t : S} (call : F → X → R → F → Type 0) (pre : F → X → Type 0) (slot : Option F) → Lawful m → m.can s → (drawn : Answered X E) → m.steps s drawn t → IsCallableIn call pre (m.gives s) slot → IsSomeAnd slot (λ f. IfItem (pre f) drawn)
+pub drawn_in_slot : {S F X R E : Type 0} {m : Contract S X E} {s t : S} (call : F → X → R → F → Type 0) (pre : F → X → Type 0) (slot : Option F) → Lawful m → m.can_next s → (drawn : Answered X E) → m.steps s drawn t → IsCallableIn call pre (m.may_give s) slot → IsSomeAnd slot (λ f. IfItem (pre f) drawn)
 drawn_in_slot call pre (Some f) l c drawn step callable = drawn_takes l c drawn step callable
 drawn_in_slot call pre None l c drawn step callable = absurd callable
 

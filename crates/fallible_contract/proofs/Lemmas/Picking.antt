@@ -9,7 +9,7 @@ use Rattle.std.specs.Ordering.{ordering_reverse, is_gt}
 use Rattle.std.proofs.Common.{refl, sym, ap, subst, ◌∙◌, append_assoc, append-nil}
 use Rattle.fallible_contract.specs.Traces.{Answered, Run, item}
 use Rattle.fallible_contract.specs.Closures.{Calls}
-use Rattle.fallible_contract.specs.Folds.{fold_turn, FoldExit, Folded}
+use Rattle.fallible_contract.specs.Folds.{went_on_with, FoldExit, Folded}
 use Rattle.fallible_contract.specs.Lists.{Lists, Acts, ActsWith, on_value, pick_of, best_by, greatest, least, key_of, best_by_key}
 use Rattle.fallible_contract.specs.Picking.{same_order, better, better_key, PickCall, KeyCall, item_of, OfEach, IsLastBest, IsBestOf, BestExit, Best, KeyExit, BestByKey, NextBests, Bests, PickExit, PickedByFold, Picked}
 use Rattle.fallible_contract.proofs.Lemmas.Lists.Drawn.{folded_is}
@@ -75,14 +75,14 @@ module _ {A : Type 0} {cmp : A → A → Ordering} (o : IsTotalOrder cmp) (keeps
   best_one x = record { before = []; after = []; is = refl; none_better = tt; later_worse = tt }
 
   module _ {E F : Type 0} {call : F → A → A → Result Ordering E → F → Type 0} (acts : (f : F) (x y : A) (r : Result Ordering E) (g : F) → call f x y r g → r ≡ Ok (cmp x y)) where
-    best_front : (items done : List A) (b : A) (p : Option A × F) (v : Option A) (g : F) → p.0 ≡ Some b → IsLastBest keeps cmp done b → FoldsTo {P = Option A × F} (fold_turn (PickCall keeps call)) p items (v, g) → IsBestOf keeps cmp (done ++ items) v
+    best_front : (items done : List A) (b : A) (p : Option A × F) (v : Option A) (g : F) → p.0 ≡ Some b → IsLastBest keeps cmp done b → FoldsTo {P = Option A × F} (went_on_with (PickCall keeps call)) p items (v, g) → IsBestOf keeps cmp (done ++ items) v
     best_front [] done b p v g at h w = subst (IsBestOf keeps cmp (done ++ [])) (sym at ∙ ap (λ q. q.0) w) (subst (λ (l : List A). IsLastBest keeps cmp l b) (sym (append-nil done)) h)
     best_front (x ∷ items) done b p v g at h w =
         let turn : PickCall keeps call p.1 (Some b) x (Ok w.0.0) w.0.1 = subst (λ (u : Option A). PickCall keeps call p.1 u x (Ok w.0.0) w.0.1) at w.1 in
         let same : turn.0 ≡ cmp b x = (let e = acts p.1 b x (Ok turn.0) w.0.1 turn.1 in cc) in
         subst (λ (l : List A). IsBestOf keeps cmp l v) (append_assoc done (x ∷ []) items) (best_front items (done ++ x ∷ []) (better keeps (cmp b x) b x) w.0 v g (turn.2 ∙ ap (λ (q : Ordering). Some (better keeps q b x)) same) (best_next done b x h) w.2)
 
-    best_items : (items : List A) (v : Option A) (f g : F) → FoldsTo {P = Option A × F} (fold_turn (PickCall keeps call)) (None, f) items (v, g) → IsBestOf keeps cmp items v
+    best_items : (items : List A) (v : Option A) (f g : F) → FoldsTo {P = Option A × F} (went_on_with (PickCall keeps call)) (None, f) items (v, g) → IsBestOf keeps cmp items v
     best_items [] v f g w = subst (IsBestOf keeps cmp []) (ap (λ q. q.0) w) refl
     best_items (x ∷ items) v f g w = best_front items (x ∷ []) x w.0 v g (let e = w.1.0 in cc) (best_one x) w.2
 
@@ -112,14 +112,14 @@ module _ {A E F K : Type 0} {cmp : K → K → Ordering} (o : IsTotalOrder cmp) 
     called : FoldsTo {P = F} (λ h p j. call h p.1 (Ok p.0) j) f keyed g
     best : IsBestOf keeps by_key (done ++ keyed) v
 
-  key_front : (items : List A) (done : List (K × A)) (b : K × A) (p : Option (K × A) × F) (v : Option (K × A)) (g : F) → p.0 ≡ Some b → IsLastBest keeps by_key done b → FoldsTo {P = Option (K × A) × F} (fold_turn (KeyCall keeps cmp call)) p items (v, g) → Keyed done items p.1 v g
+  key_front : (items : List A) (done : List (K × A)) (b : K × A) (p : Option (K × A) × F) (v : Option (K × A)) (g : F) → p.0 ≡ Some b → IsLastBest keeps by_key done b → FoldsTo {P = Option (K × A) × F} (went_on_with (KeyCall keeps cmp call)) p items (v, g) → Keyed done items p.1 v g
   key_front [] done b p v g at h w = record { keyed = []; are = refl; called = ap (λ q. q.1) w; best = subst (IsBestOf keeps by_key (done ++ [])) (sym at ∙ ap (λ q. q.0) w) (subst (λ (l : List (K × A)). IsLastBest keeps by_key l b) (sym (append-nil done)) h) }
   key_front (x ∷ items) done b p v g at h w =
       let turn : KeyCall keeps cmp call p.1 (Some b) x (Ok w.0.0) w.0.1 = subst (λ (u : Option (K × A)). KeyCall keeps cmp call p.1 u x (Ok w.0.0) w.0.1) at w.1 in
       let rest = key_front items (done ++ (turn.0, x) ∷ []) (better keeps (cmp b.0 turn.0) b (turn.0, x)) w.0 v g turn.2 (best_next total_by_key keeps k done b (turn.0, x) h) w.2 in
       record { keyed = (turn.0, x) ∷ rest.keyed; are = ap {B = List A} (λ l. x ∷ l) rest.are; called = (w.0.1, turn.1, rest.called); best = subst (λ (l : List (K × A)). IsBestOf keeps by_key l v) (append_assoc done ((turn.0, x) ∷ []) rest.keyed) rest.best }
 
-  key_items : (items : List A) (f : F) (v : Option (K × A)) (g : F) → FoldsTo {P = Option (K × A) × F} (fold_turn (KeyCall keeps cmp call)) (None, f) items (v, g) → Keyed [] items f v g
+  key_items : (items : List A) (f : F) (v : Option (K × A)) (g : F) → FoldsTo {P = Option (K × A) × F} (went_on_with (KeyCall keeps cmp call)) (None, f) items (v, g) → Keyed [] items f v g
   key_items [] f v g w = record { keyed = []; are = refl; called = ap (λ q. q.1) w; best = subst (IsBestOf keeps by_key []) (ap (λ q. q.0) w) refl }
   key_items (x ∷ items) f v g w =
       let rest = key_front items (((w.1).0, x) ∷ []) ((w.1).0, x) w.0 v g (w.1).2 (best_one total_by_key keeps k ((w.1).0, x)) w.2 in
@@ -168,7 +168,7 @@ module _ {A E F : Type 0} (keeps : Ordering) (call : F → A → A → Result Or
     called : Calls (λ h p o j. call h p.0 p.1 (Ok o) j) f (zip (zip (best ∷ bests) items) orders) g
     at_last : v ≡ last_or (Some best) bests
 
-  picked_from : (items : List A) (best : A) (p : Option A × F) (v : Option A) (g : F) → p.0 ≡ Some best → FoldsTo {P = Option A × F} (fold_turn (PickCall keeps call)) p items (v, g) → PickedFrom p.1 best items v g
+  picked_from : (items : List A) (best : A) (p : Option A × F) (v : Option A) (g : F) → p.0 ≡ Some best → FoldsTo {P = Option A × F} (went_on_with (PickCall keeps call)) p items (v, g) → PickedFrom p.1 best items v g
   picked_from [] best p v g at w = record { orders = []; bests = []; are = refl; called = ap (λ q. q.1) w; at_last = sym (ap (λ q. q.0) w) ∙ at }
   picked_from (x ∷ items) best p v g at w =
       let turn : PickCall keeps call p.1 (Some best) x (Ok w.0.0) w.0.1 = subst (λ (u : Option A). PickCall keeps call p.1 u x (Ok w.0.0) w.0.1) at w.1 in
@@ -183,7 +183,7 @@ module _ {A E F : Type 0} (keeps : Ordering) (call : F → A → A → Result Or
     called : Calls (λ h p o j. call h p.0 p.1 (Ok o) j) f (zip (zip bests (drop 1 items)) orders) g
     at_last : v ≡ last_or None bests
 
-  picked_items : (items : List A) (f : F) (v : Option A) (g : F) → FoldsTo {P = Option A × F} (fold_turn (PickCall keeps call)) (None, f) items (v, g) → PickedOf f items v g
+  picked_items : (items : List A) (f : F) (v : Option A) (g : F) → FoldsTo {P = Option A × F} (went_on_with (PickCall keeps call)) (None, f) items (v, g) → PickedOf f items v g
   picked_items [] f v g w = record { orders = []; bests = []; are = (refl, refl); called = ap (λ q. q.1) w; at_last = sym (ap (λ q. q.0) w) }
   picked_items (x ∷ items) f v g w =
       let rest = picked_from items x w.0 v g (let e = w.1.0 in cc) w.2 in

@@ -10,7 +10,7 @@ use Rattle.fallible_contract.specs.Traces.{Answered}
 use Rattle.fallible_contract.specs.Contract.{Contract, AtMost, Lawful}
 use Rattle.fallible_contract.specs.Folds.{HoldsAtEachTurn, carrying_turn, CarryingExit, Carried, stopped_answer, unpacked}
 use Rattle.fallible_contract.proofs.Lemmas.Folds.{count_fits, turns_map}
-use Rattle.fallible_contract.specs.Searching.{Passed, Decided, SearchTurn, PlacedTurn, SearchExit, CallableInSearch, Searched, find_pick, FindTurn, answer_by}
+use Rattle.fallible_contract.specs.Searching.{Passed, Decided, IsSearchTurn, IsPositionTurn, SearchExit, CallableInSearch, Searched, find_pick, IsFindTurn, answer_by}
 
 -- `At n c`: c is carried after n items. `closure c` is the closure in it.
 module _ {A E F V R C : Type 0} (call : F → A → Result V E → F → Type 0) (pick : ℕ → A → V → Option R) (turns : C → A → ControlFlow (Result R E) C → Type 0) (closure : C → F) (At : ℕ → C → Type 0)
@@ -40,20 +40,20 @@ module _ {A E F V R C : Type 0} (call : F → A → Result V E → F → Type 0)
 
 module _ {S A E F V R : Type 0} {steps : S → Answered A E → S → Type 0} {call : F → A → Result V E → F → Type 0} {pick : ℕ → A → V → Option R} {s t : S} {f : F} where
   -- the fold carried the closure alone
-  pub searched : {turns : F → A → ControlFlow (Result R E) F → Type 0} {exit : Exit F E (Result R E)} (none : R) {r : Result R E} → ((g : F) (x : A) (y : ControlFlow (Result R E) F) → turns g x y → SearchTurn call pick g x y) → Carried steps turns s f exit t → r ≡ answer_by none exit → (g : F) × Searched call pick steps none s f r t g
+  pub searched : {turns : F → A → ControlFlow (Result R E) F → Type 0} {exit : Exit F E (Result R E)} (none : R) {r : Result R E} → ((g : F) (x : A) (y : ControlFlow (Result R E) F) → turns g x y → IsSearchTurn call pick g x y) → Carried steps turns s f exit t → r ≡ answer_by none exit → (g : F) × Searched call pick steps none s f r t g
   searched {turns = turns} none {r = r} turn h by = searched_by call pick turns (λ g. g) (λ n g. ⊤) (λ n g x k at w. (turn g x (Continue k) w, tt)) (λ n g x y at w. let d = turn g x (Break y) w in (d.0, d.1 n)) none r tt h by
 
   -- the fold carried the number of items before, and the closure
-  pub searched_placed : {turns : ℕ × F → A → ControlFlow (Result R E) (ℕ × F) → Type 0} {exit : Exit (ℕ × F) E (Result R E)} (none : R) {r : Result R E} → ((p : ℕ × F) (x : A) (y : ControlFlow (Result R E) (ℕ × F)) → turns p x y → PlacedTurn call pick p x y) → Carried steps turns s (0, f) exit t → r ≡ answer_by none exit → (g : F) × Searched call pick steps none s f r t g
+  pub searched_placed : {turns : ℕ × F → A → ControlFlow (Result R E) (ℕ × F) → Type 0} {exit : Exit (ℕ × F) E (Result R E)} (none : R) {r : Result R E} → ((p : ℕ × F) (x : A) (y : ControlFlow (Result R E) (ℕ × F)) → turns p x y → IsPositionTurn call pick p x y) → Carried steps turns s (0, f) exit t → r ≡ answer_by none exit → (g : F) × Searched call pick steps none s f r t g
   searched_placed {turns = turns} none {r = r} turn h by = searched_by call pick turns (λ p. p.1) (λ n p. p.0 ≡ n) (λ n p x q at w. let d = turn p x (Continue q) w in (d.1, let up : q.0 ≡ p.0 + 1 = d.0 in omega (arith, up, at))) (λ n p x y at w. let d = turn p x (Break y) w in (d.0, subst (λ k. Decided call pick k p.1 x y d.0) at d.1)) none r refl h by
 
 -- where at most k items are to come, a search whose closure may be called may count the items before below k
 module _ {A E F V R : Type 0} (call : F → A → Result V E → F → Type 0) (pick : ℕ → A → V → Option R) where
-  placed_apart : (items : List A) (p q : ℕ × F) → FoldsTo {P = ℕ × F} (λ c x d. PlacedTurn call pick c x (Continue d)) p items q → FoldsTo {P = ℕ} {A = A} (λ n x k. k ≡ n + 1) p.0 items q.0 × FoldsTo (Passed call pick) p.1 items q.1
+  placed_apart : (items : List A) (p q : ℕ × F) → FoldsTo {P = ℕ × F} (λ c x d. IsPositionTurn call pick c x (Continue d)) p items q → FoldsTo {P = ℕ} {A = A} (λ n x k. k ≡ n + 1) p.0 items q.0 × FoldsTo (Passed call pick) p.1 items q.1
   placed_apart [] p q e = (ap (λ c. c.0) e, ap (λ c. c.1) e)
   placed_apart (x ∷ items) p q w = let h = placed_apart items w.0 q w.2 in ((w.0.0, w.1.0, h.0), (w.0.1, w.1.1, h.1))
 
-  pub placed_callable : {S : Type 0} {m : Contract S A E} {takes : F → A → Type 0} {s : S} {f : F} (k : ℕ) → Lawful m → m.can s → AtMost m s k → CallableInSearch call pick m.steps takes s f → HoldsAtEachTurn {C = ℕ × F} m.steps (λ c x d. PlacedTurn call pick c x (Continue d)) (λ c x. takes c.1 x × (c.0 < k)) s (0, f)
+  pub placed_callable : {S : Type 0} {m : Contract S A E} {takes : F → A → Type 0} {s : S} {f : F} (k : ℕ) → Lawful m → m.can_next s → AtMost m s k → CallableInSearch call pick m.steps takes s f → HoldsAtEachTurn {C = ℕ × F} m.steps (λ c x d. IsPositionTurn call pick c x (Continue d)) (λ c x. takes c.1 x × (c.0 < k)) s (0, f)
   placed_callable {f = f} k l c b h = record { at = λ items t u p x ran went step. let w = placed_apart items (0, f) p went in (h.at items t u p.1 x ran w.1 step, (count_fits k l c b).at items t u p.0 x ran w.0 step) }
 
 -- what holds of a search by one kind of calls holds of it by a wider kind
@@ -75,7 +75,7 @@ searched_map {call = call} {wider = wider} {pick = pick} {none = none} {f = f} {
 
 -- `find`, whose fold stops at the item, and hands back what it carried
 module _ {A E C : Type 0} (tests : C → A → Result Bool E → C → Type 0) (turns : C → A → ControlFlow (C × Result A E) C → Type 0)
-    (turn : (c : C) (x : A) (r : ControlFlow (C × Result A E) C) → turns c x r → FindTurn tests c x r) where
+    (turn : (c : C) (x : A) (r : ControlFlow (C × Result A E) C) → turns c x r → IsFindTurn tests c x r) where
   find_exit : (last : Answered A E) (n : ℕ) (c : C) (exit : Exit C E (C × Result A E)) → CarryingExit turns c last exit → SearchExit tests find_pick None n c last (unpacked exit).1 (unpacked exit).0
   find_exit (Ok None) n c (Ended d) h = (refl, cc)
   find_exit (Ok None) n c (Failed d e) h = absurd cc

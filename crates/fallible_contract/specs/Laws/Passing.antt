@@ -3,10 +3,10 @@ use Rattle.std.specs.Prelude.{ℕ, Option, Some, None, Ok, Err, ◌≡◌, List,
 use Rattle.std.specs.List.{filter_map, cons_option}
 use Rattle.std.proofs.Common.{refl, sym, ap, subst, arith, inl, inr}
 use Rattle.fallible_contract.specs.Traces.{LastKept, Answered, Run, item}
-use Rattle.fallible_contract.specs.Contract.{Contract, OnAnswer, Goes, Lawful, Stays}
+use Rattle.fallible_contract.specs.Contract.{Contract, OnAnswer, KeptByDraw, Lawful, Stays}
 use Rattle.fallible_contract.specs.declared.passing.Outcome.{Outcome}
 use Rattle.fallible_contract.specs.declared.passing.Outcome.TheVariants.{Kept, LeftOut, Failure, End}
-use Rattle.fallible_contract.specs.Passing.{PassTrace, passing, leaving_out, Place, asked, failure_at, end_at, source_answer, call_of, outcome_answer, answer_at, has_answer}
+use Rattle.fallible_contract.specs.Passing.{PassTrace, passing_contract, leaving_out_contract, Place, asked, failure_at, end_at, source_answer, call_of, outcome_answer, answer_at, has_answer}
 use Rattle.fallible_contract.specs.Closures.{Calls, Reaches}
 use Rattle.fallible_contract.specs.Laws.Contract.{stays_run}
 use Rattle.fallible_contract.specs.Laws.Closures.{reaches_here, reaches_weaken, reaches_from, may_answer_here, may_answer_after}
@@ -53,20 +53,20 @@ module _ {S F X R B E : Type 0} {steps : S → Answered X E → S → Type 0} {c
   skip_first x v [] p rest step called is e close h = absurd (answered outcome p rest close (sym e))
   skip_first x v (r ∷ trace) p rest step called is e close h = leaves_out x v step called is h
 
-  mutual_asked : {s u t : S} {f h g : F} (x : X) (v : R) (o : Outcome B E) → outcome x v ≡ o → (rest : List (Place X R E)) (trace : List (Answered B E)) → steps s (item x) u → call f x v h
+  from_asked : {s u t : S} {f h g : F} (x : X) (v : R) (o : Outcome B E) → outcome x v ≡ o → (rest : List (Place X R E)) (trace : List (Answered B E)) → steps s (item x) u → call f x v h
       → trace ≡ cons_option (outcome_answer o) (filter_map (answer_at outcome) rest) → LastKept (has_answer outcome) (asked x v ∷ rest)
       → Passes steps call outcome u h (filter_map (answer_at outcome) rest) t g → Passes steps call outcome s f trace t g
-  mutual_asked {s} {u} {t} {f} {h} {g} x v (Kept y) is rest trace step called e close rests = subst (λ (l : List (Answered B E)). Passes steps call outcome s f l t g) (sym e) (keeps x v y step called is rests)
-  mutual_asked {s} {u} {t} {f} {h} {g} x v (Failure d) is rest trace step called e close rests = subst (λ (l : List (Answered B E)). Passes steps call outcome s f l t g) (sym e) (refuses x v d step called is rests)
-  mutual_asked {s} {u} {t} {f} {h} {g} x v End is rest trace step called e close rests = subst (λ (l : List (Answered B E)). Passes steps call outcome s f l t g) (sym e) (closes x v step called is rests)
-  mutual_asked {s} {u} {t} {f} {h} {g} x v LeftOut is [] trace step called e close rests = absurd (let some : is_some (outcome_answer (outcome x v)) ≡ true = close in let none : is_some (outcome_answer {B = B} {E = E} LeftOut) ≡ true = subst (λ (o : Outcome B E). is_some (outcome_answer o) ≡ true) is some in cc)
-  mutual_asked {s} {u} {t} {f} {h} {g} x v LeftOut is (p ∷ rest) trace step called e close rests = subst (λ (l : List (Answered B E)). Passes steps call outcome s f l t g) (sym e) (skip_first x v (filter_map (answer_at outcome) (p ∷ rest)) p rest step called is refl close rests)
+  from_asked {s} {u} {t} {f} {h} {g} x v (Kept y) is rest trace step called e close rests = subst (λ (l : List (Answered B E)). Passes steps call outcome s f l t g) (sym e) (keeps x v y step called is rests)
+  from_asked {s} {u} {t} {f} {h} {g} x v (Failure d) is rest trace step called e close rests = subst (λ (l : List (Answered B E)). Passes steps call outcome s f l t g) (sym e) (refuses x v d step called is rests)
+  from_asked {s} {u} {t} {f} {h} {g} x v End is rest trace step called e close rests = subst (λ (l : List (Answered B E)). Passes steps call outcome s f l t g) (sym e) (closes x v step called is rests)
+  from_asked {s} {u} {t} {f} {h} {g} x v LeftOut is [] trace step called e close rests = absurd (let some : is_some (outcome_answer (outcome x v)) ≡ true = close in let none : is_some (outcome_answer {B = B} {E = E} LeftOut) ≡ true = subst (λ (o : Outcome B E). is_some (outcome_answer o) ≡ true) is some in cc)
+  from_asked {s} {u} {t} {f} {h} {g} x v LeftOut is (p ∷ rest) trace step called e close rests = subst (λ (l : List (Answered B E)). Passes steps call outcome s f l t g) (sym e) (skip_first x v (filter_map (answer_at outcome) (p ∷ rest)) p rest step called is refl close rests)
 
   from_places : (places : List (Place X R E)) (s : S) (f : F) (trace : List (Answered B E)) (t : S) (g : F) → Run steps s (map source_answer places) t → Calls call f (filter_map call_of places) g → trace ≡ filter_map (answer_at outcome) places → LastKept (has_answer outcome) places → Passes steps call outcome s f trace t g
   from_places [] s f trace t g ran called e close = subst (λ (l : List (Answered B E)). Passes steps call outcome s f l t g) (sym e) (subst (λ (u : S). Passes steps call outcome s f [] u g) ran (subst (λ (h : F). Passes steps call outcome s f [] s h) called done))
   from_places (failure_at d ∷ places) s f trace t g ran called e close = subst (λ (l : List (Answered B E)). Passes steps call outcome s f l t g) (sym e) (fails d ran.1 (from_places places ran.0 f _ t g ran.2 called refl (kept_tail outcome (failure_at d) places close)))
   from_places (end_at ∷ places) s f trace t g ran called e close = subst (λ (l : List (Answered B E)). Passes steps call outcome s f l t g) (sym e) (ends ran.1 (from_places places ran.0 f _ t g ran.2 called refl (kept_tail outcome end_at places close)))
-  from_places (asked x v ∷ places) s f trace t g ran called e close = mutual_asked x v (outcome x v) refl places trace ran.1 called.1 e close (from_places places ran.0 called.0 _ t g ran.2 called.2 refl (kept_tail outcome (asked x v) places close))
+  from_places (asked x v ∷ places) s f trace t g ran called e close = from_asked x v (outcome x v) refl places trace ran.1 called.1 e close (from_places places ran.0 called.0 _ t g ran.2 called.2 refl (kept_tail outcome (asked x v) places close))
 
   pub to_passes : {s t : S} {f g : F} {trace : List (Answered B E)} → PassTrace steps call outcome (s, f) trace (t, g) → Passes steps call outcome s f trace t g
   to_passes {s} {t} {f} {g} {trace} p = from_places p.places s f trace t g p.drawn p.called p.answers p.last_kept
@@ -90,67 +90,67 @@ module _ {S F X R B E : Type 0} (m : Contract S X E) (l : Lawful m) (call : F �
   abbrev P : S → F → List (Answered B E) → S → F → Type 0
   P = Passes m.steps call outcome
 
-  passes_stays : (s t : S) (f g : F) (trace : List (Answered B E)) → m.can s → P s f trace t g → Stays m s t
+  passes_stays : (s t : S) (f g : F) (trace : List (Answered B E)) → m.can_next s → P s f trace t g → Stays m s t
   passes_stays s t f g trace c p = let q = from_passes p in stays_run l s (map source_answer q.places) t c q.drawn
 
-  passes_reaches : (s t : S) (f g : F) (trace : List (Answered B E)) → m.can s → P s f trace t g → Reaches call (m.gives s) f g
+  passes_reaches : (s t : S) (f g : F) (trace : List (Answered B E)) → m.can_next s → P s f trace t g → Reaches call (m.may_give s) f g
   passes_reaches s _ f _ _ c done = reaches_here
-  passes_reaches s t f g _ c (ends {u = u} step p) = let a = l.goes s (Ok None) u c step in reaches_weaken a.gives (passes_reaches u t f g _ a.can p)
-  passes_reaches s t f g _ c (fails {u = u} e step p) = let a = l.goes s (Err e) u c step in reaches_weaken a.gives (passes_reaches u t f g _ a.can p)
-  passes_reaches s t f g _ c (keeps {u = u} {h = h} x v y step called is p) = let a = l.goes s (item x) u c step in reaches_from x v a.answer.0 called (reaches_weaken a.gives (passes_reaches u t h g _ a.can p))
-  passes_reaches s t f g _ c (refuses {u = u} {h = h} x v e step called is p) = let a = l.goes s (item x) u c step in reaches_from x v a.answer.0 called (reaches_weaken a.gives (passes_reaches u t h g _ a.can p))
-  passes_reaches s t f g _ c (closes {u = u} {h = h} x v step called is p) = let a = l.goes s (item x) u c step in reaches_from x v a.answer.0 called (reaches_weaken a.gives (passes_reaches u t h g _ a.can p))
-  passes_reaches s t f g _ c (leaves_out {u = u} {h = h} x v step called is p) = let a = l.goes s (item x) u c step in reaches_from x v a.answer.0 called (reaches_weaken a.gives (passes_reaches u t h g _ a.can p))
+  passes_reaches s t f g _ c (ends {u = u} step p) = let a = l.kept_by_draw s (Ok None) u c step in reaches_weaken a.may_give (passes_reaches u t f g _ a.can_next p)
+  passes_reaches s t f g _ c (fails {u = u} e step p) = let a = l.kept_by_draw s (Err e) u c step in reaches_weaken a.may_give (passes_reaches u t f g _ a.can_next p)
+  passes_reaches s t f g _ c (keeps {u = u} {h = h} x v y step called is p) = let a = l.kept_by_draw s (item x) u c step in reaches_from x v a.answer.0 called (reaches_weaken a.may_give (passes_reaches u t h g _ a.can_next p))
+  passes_reaches s t f g _ c (refuses {u = u} {h = h} x v e step called is p) = let a = l.kept_by_draw s (item x) u c step in reaches_from x v a.answer.0 called (reaches_weaken a.may_give (passes_reaches u t h g _ a.can_next p))
+  passes_reaches s t f g _ c (closes {u = u} {h = h} x v step called is p) = let a = l.kept_by_draw s (item x) u c step in reaches_from x v a.answer.0 called (reaches_weaken a.may_give (passes_reaches u t h g _ a.can_next p))
+  passes_reaches s t f g _ c (leaves_out {u = u} {h = h} x v step called is p) = let a = l.kept_by_draw s (item x) u c step in reaches_from x v a.answer.0 called (reaches_weaken a.may_give (passes_reaches u t h g _ a.can_next p))
 
   module _ (callable : (X → Type 0) → F → Type 0) (hints : S × F → ℕ × Option ℕ → Type 0) where
     abbrev M : Contract (S × F) B E
-    M = passing m call callable outcome hints
+    M = passing_contract m call callable outcome hints
 
     -- a draw after a left-out item was a draw
-    answer_after : (s u t : S) (f h g : F) (r : Answered B E) (x : X) (v : R) → Goes m s (item x) u → call f x v h → OnAnswer M (u, h) r (t, g) → OnAnswer M (s, f) r (t, g)
-    answer_after s u t f h g (Ok (Some y)) x v a called b = (may_answer_after a.gives (reaches_from x v a.answer.0 called reaches_here) b.0, (λ n c. let j = a.answer.1 n c in let k = b.1 j.0 j.1 in (k.0, k.1, omega (arith, j.2, k.2))), (λ e. let j = a.answer.2 e in let k = b.2 j.0 in (k.0, omega (arith, j.1, k.1))))
+    answer_after : (s u t : S) (f h g : F) (r : Answered B E) (x : X) (v : R) → KeptByDraw m s (item x) u → call f x v h → OnAnswer M (u, h) r (t, g) → OnAnswer M (s, f) r (t, g)
+    answer_after s u t f h g (Ok (Some y)) x v a called b = (may_answer_after a.may_give (reaches_from x v a.answer.0 called reaches_here) b.0, (λ n c. let j = a.answer.1 n c in let k = b.1 j.0 j.1 in (k.0, k.1, omega (arith, j.2, k.2))), (λ e. let j = a.answer.2 e in let k = b.2 j.0 in (k.0, omega (arith, j.1, k.1))))
     answer_after s u t f h g (Ok None) x v a called b = ((λ n c. let j = a.answer.1 n c in let k = b.0 j.0 j.1 in (k.0, k.1, omega (arith, j.2, k.2))), (λ e. let j = a.answer.2 e in let k = b.1 j.0 in (k.0, omega (arith, j.1, k.1))))
-    answer_after s u t f h g (Err e) x v a called b = (elim b.0 [ inl c ↦ inl (a.fails e c) | inr c ↦ inr (may_answer_after a.gives (reaches_from x v a.answer.0 called reaches_here) c) ], (λ n c. let j = a.answer.1 n c in let k = b.1 j.0 j.1 in (k.0, k.1, omega (arith, j.2, k.2))), (λ d. let j = a.answer.2 d in let k = b.2 j.0 in (k.0, omega (arith, j.1, k.1))))
+    answer_after s u t f h g (Err e) x v a called b = (elim b.0 [ inl c ↦ inl (a.may_fail e c) | inr c ↦ inr (may_answer_after a.may_give (reaches_from x v a.answer.0 called reaches_here) c) ], (λ n c. let j = a.answer.1 n c in let k = b.1 j.0 j.1 in (k.0, k.1, omega (arith, j.2, k.2))), (λ d. let j = a.answer.2 d in let k = b.2 j.0 in (k.0, omega (arith, j.1, k.1))))
 
-    passes_answer : (s t : S) (f g : F) (r : Answered B E) → m.can s → P s f (r ∷ []) t g → OnAnswer M (s, f) r (t, g)
-    passes_answer s t f g _ c (ends step done) = (l.goes s (Ok None) t c step).answer
-    passes_answer s t f g _ c (fails e step done) = let a = (l.goes s (Err e) t c step).answer in (inl a.0, a.1, a.2)
-    passes_answer s t f g _ c (keeps x v y step called is done) = let a = (l.goes s (item x) t c step).answer in (may_answer_here g x v a.0 called is, a.1, a.2)
-    passes_answer s t f g _ c (refuses x v e step called is done) = let a = (l.goes s (item x) t c step).answer in (inr (may_answer_here g x v a.0 called is), (λ n b. let k = a.1 n b in (k.0, k.1, omega (arith, k.2))), a.2)
-    passes_answer s t f g _ c (closes x v step called is done) = let a = (l.goes s (item x) t c step).answer in ((λ n b. let k = a.1 n b in (k.0, k.1, omega (arith, k.2))), (λ d. let k = a.2 d in (k.0, omega (arith, k.1))))
-    passes_answer s t f g r c (leaves_out {u = u} {h = h} x v step called is rest) = let a = l.goes s (item x) u c step in answer_after s u t f h g r x v a called (passes_answer u t h g r a.can rest)
+    passes_answer : (s t : S) (f g : F) (r : Answered B E) → m.can_next s → P s f (r ∷ []) t g → OnAnswer M (s, f) r (t, g)
+    passes_answer s t f g _ c (ends step done) = (l.kept_by_draw s (Ok None) t c step).answer
+    passes_answer s t f g _ c (fails e step done) = let a = (l.kept_by_draw s (Err e) t c step).answer in (inl a.0, a.1, a.2)
+    passes_answer s t f g _ c (keeps x v y step called is done) = let a = (l.kept_by_draw s (item x) t c step).answer in (may_answer_here g x v a.0 called is, a.1, a.2)
+    passes_answer s t f g _ c (refuses x v e step called is done) = let a = (l.kept_by_draw s (item x) t c step).answer in (inr (may_answer_here g x v a.0 called is), (λ n b. let k = a.1 n b in (k.0, k.1, omega (arith, k.2))), a.2)
+    passes_answer s t f g _ c (closes x v step called is done) = let a = (l.kept_by_draw s (item x) t c step).answer in ((λ n b. let k = a.1 n b in (k.0, k.1, omega (arith, k.2))), (λ d. let k = a.2 d in (k.0, omega (arith, k.1))))
+    passes_answer s t f g r c (leaves_out {u = u} {h = h} x v step called is rest) = let a = l.kept_by_draw s (item x) u c step in answer_after s u t f h g r x v a called (passes_answer u t h g r a.can_next rest)
 
-    goes_passing : StaysCallable call callable → (p : S × F) (r : Answered B E) (q : S × F) → M.can p → M.steps p r q → Goes M p r q
+    goes_passing : StaysCallable call callable → (p : S × F) (r : Answered B E) (q : S × F) → M.can_next p → M.steps p r q → KeptByDraw M p r q
     goes_passing after (s, f) r (t, g) c step = let p = to_passes step in let a = passes_stays s t f g _ c.0 p in let reached = passes_reaches s t f g _ c.0 p in record {
-      can = (a.can, after (m.gives s) (m.gives t) f g a.gives reached c.1);
-      has_end = a.has_end;
+      can_next = (a.can_next, after (m.may_give s) (m.may_give t) f g a.may_give reached c.1);
+      is_finite = a.is_finite;
       answer = passes_answer s t f g r c.0 p;
-      gives = λ y h. may_answer_after a.gives reached h;
-      fails = λ e h. elim h [ inl b ↦ inl (a.fails e b) | inr b ↦ inr (may_answer_after a.gives reached b) ];
-      names = a.names;
+      may_give = λ y h. may_answer_after a.may_give reached h;
+      may_fail = λ e h. elim h [ inl b ↦ inl (a.may_fail e b) | inr b ↦ inr (may_answer_after a.may_give reached b) ];
+      lenders = a.lenders;
     }
 
 -- It is so where the closure stays callable after calls on what comes.
-pub lawful_passing : {S F X R B E : Type 0} {m : Contract S X E} (call : F → X → R → F → Type 0) (callable : (X → Type 0) → F → Type 0) (outcome : X → R → Outcome B E) (hints : S × F → ℕ × Option ℕ → Type 0) → StaysCallable call callable → Lawful m → Lawful (passing m call callable outcome hints)
-lawful_passing {m} call callable outcome hints after l = record { goes = goes_passing m l call outcome callable hints after; ends = λ p. l.ends p.0 }
+pub lawful_passing : {S F X R B E : Type 0} {m : Contract S X E} (call : F → X → R → F → Type 0) (callable : (X → Type 0) → F → Type 0) (outcome : X → R → Outcome B E) (hints : S × F → ℕ × Option ℕ → Type 0) → StaysCallable call callable → Lawful m → Lawful (passing_contract m call callable outcome hints)
+lawful_passing {m} call callable outcome hints after l = record { kept_by_draw = goes_passing m l call outcome callable hints after; bounded = λ p. l.bounded p.0 }
 
--- a number to come of the source, asked as a condition besides, stays
+-- a bound of the source, asked as a condition besides, stays
 module _ {S F A E : Type 0} (p : Contract (S × F) A E) (needs : S → Type 0) where
   abbrev needing : Contract (S × F) A E
-  needing = record p { can = λ s. needs s.0 × p.can s }
+  needing = record p { can_next = λ s. needs s.0 × p.can_next s }
 
   answer_needing : (s t : S × F) (r : Answered A E) → OnAnswer p s r t → OnAnswer needing s r t
   answer_needing s t (Ok (Some x)) h = h
   answer_needing s t (Ok None) h = h
   answer_needing s t (Err e) h = h
 
-  goes_needing : (s t : S × F) (r : Answered A E) → needs t.0 → Goes p s r t → Goes needing s r t
-  goes_needing s t r n g = record { can = (n, g.can); has_end = g.has_end; answer = answer_needing s t r g.answer; gives = g.gives; fails = g.fails; names = g.names }
+  goes_needing : (s t : S × F) (r : Answered A E) → needs t.0 → KeptByDraw p s r t → KeptByDraw needing s r t
+  goes_needing s t r n g = record { can_next = (n, g.can_next); is_finite = g.is_finite; answer = answer_needing s t r g.answer; may_give = g.may_give; may_fail = g.may_fail; lenders = g.lenders }
 
-pub lawful_leaving_out : {S F X R B E : Type 0} {m : Contract S X E} (call : F → X → R → F → Type 0) (callable : (X → Type 0) → F → Type 0) (outcome : X → R → Outcome B E) (hints : S × F → ℕ × Option ℕ → Type 0) → StaysCallable call callable → Lawful m → Lawful (leaving_out m call callable outcome hints)
-lawful_leaving_out {m = m} call callable outcome hints after l = let p = passing m call callable outcome hints in
+pub lawful_leaving_out : {S F X R B E : Type 0} {m : Contract S X E} (call : F → X → R → F → Type 0) (callable : (X → Type 0) → F → Type 0) (outcome : X → R → Outcome B E) (hints : S × F → ℕ × Option ℕ → Type 0) → StaysCallable call callable → Lawful m → Lawful (leaving_out_contract m call callable outcome hints)
+lawful_leaving_out {m = m} call callable outcome hints after l = let p = passing_contract m call callable outcome hints in
     let k : Lawful p = lawful_passing call callable outcome hints after l in
-    record { goes = λ s r t c step. let a = k.goes s r t c.1 step in goes_needing p m.has_end s t r (a.has_end c.0) a; ends = λ s. l.ends s.0 }
+    record { kept_by_draw = λ s r t c step. let a = k.kept_by_draw s r t c.1 step in goes_needing p m.is_finite s t r (a.is_finite c.0) a; bounded = λ s. l.bounded s.0 }
 
 -- ---- one answer
 

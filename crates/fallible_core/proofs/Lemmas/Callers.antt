@@ -12,7 +12,7 @@ use Rattle.fallible_contract.specs.declared.passing.Outcome.{Outcome}
 use Rattle.fallible_contract.specs.declared.passing.Outcome.TheVariants.{Kept, LeftOut, Failure, End}
 use Rattle.fallible_contract.specs.Passing.{PassTrace}
 use Rattle.fallible_contract.specs.Laws.Passing.{Passes, done, ends, fails, keeps, refuses, closes, leaves_out, to_passes}
-use Rattle.fallible_contract.proofs.Lemmas.Definitions.{runs_by_answers}
+use Rattle.fallible_contract.proofs.Lemmas.LawForm.{runs_by_answers}
 use Rattle.fallible_contract.proofs.Lemmas.Folds.{count_fits}
 use Rattle.fallible_contract.proofs.Lemmas.Passing.{passing_by_answers}
 use Rattle.fallible_core.specs.declared.cutting.take.Take.{Take}
@@ -34,21 +34,21 @@ module _ {A E : Type 0} where
   no_item-failure e x h = cc
 
   -- what stands before an answer that is no item, where the others are items
-  pub seam : (front rest : List (Answered A E)) (z last : Answered A E) (xs : List A) → NoItem z → front ++ z ∷ rest ≡ map item xs ++ last ∷ [] → (front ≡ map item xs) × (z ≡ last) × (rest ≡ [])
-  seam [] rest z last [] none e = (refl, cc, cc)
-  seam [] rest z last (x ∷ xs) none e = absurd (none x cc)
-  seam (y ∷ []) rest z last [] none e = absurd cc
-  seam (y ∷ w ∷ front) rest z last [] none e = absurd cc
-  seam (y ∷ front) rest z last (x ∷ xs) none e =
-      let h = seam front rest z last xs none cc in
+  pub items_then_last : (prefix rest : List (Answered A E)) (z last : Answered A E) (xs : List A) → NoItem z → prefix ++ z ∷ rest ≡ map item xs ++ last ∷ [] → (prefix ≡ map item xs) × (z ≡ last) × (rest ≡ [])
+  items_then_last [] rest z last [] none e = (refl, cc, cc)
+  items_then_last [] rest z last (x ∷ xs) none e = absurd (none x cc)
+  items_then_last (y ∷ []) rest z last [] none e = absurd cc
+  items_then_last (y ∷ w ∷ prefix) rest z last [] none e = absurd cc
+  items_then_last (y ∷ prefix) rest z last (x ∷ xs) none e =
+      let h = items_then_last prefix rest z last xs none cc in
       let first : y ≡ item x = cc in
-      (ap {B = List (Answered A E)} (λ a. a ∷ front) first ∙ ap {B = List (Answered A E)} (λ l. item x ∷ l) h.0, h.1, h.2)
+      (ap {B = List (Answered A E)} (λ a. a ∷ prefix) first ∙ ap {B = List (Answered A E)} (λ l. item x ∷ l) h.0, h.1, h.2)
 
-  pub no_seam : (front rest : List (Answered A E)) (z : Answered A E) (xs : List A) → NoItem z → front ++ z ∷ rest ≡ map item xs → ⊥
-  no_seam [] rest z [] none e = absurd cc
-  no_seam [] rest z (x ∷ xs) none e = none x cc
-  no_seam (y ∷ front) rest z [] none e = absurd cc
-  no_seam (y ∷ front) rest z (x ∷ xs) none e = no_seam front rest z xs none cc
+  pub not_items_with : (prefix rest : List (Answered A E)) (z : Answered A E) (xs : List A) → NoItem z → prefix ++ z ∷ rest ≡ map item xs → ⊥
+  not_items_with [] rest z [] none e = absurd cc
+  not_items_with [] rest z (x ∷ xs) none e = none x cc
+  not_items_with (y ∷ prefix) rest z [] none e = absurd cc
+  not_items_with (y ∷ prefix) rest z (x ∷ xs) none e = not_items_with prefix rest z xs none cc
 
 -- turns over two lists are those over the one and then those over the other
 pub turns_split : {P A : Type 0} (R : P → A → P → Type 0) (xs ys : List A) (p r : P) → FoldsTo R p (xs ++ ys) r → (q : P) × FoldsTo R p xs q × FoldsTo R q ys r
@@ -63,9 +63,9 @@ run_seen view steps (r ∷ rest) s t h = (view h.0, h.1, run_seen view steps res
 -- ---- a fold whose closure counts
 
 -- the number beside the closure goes up by one
-went_up : {A F : Type 0} {Q : ℕ × F → A → ℕ × F → Type 0} → ((p : ℕ × F) (x : A) (q : ℕ × F) → Q p x q → q.0 ≡ p.0 + 1) → (items : List A) (p q : ℕ × F) → FoldsTo {P = ℕ × F} Q p items q → FoldsTo {P = ℕ} {A = A} (λ n x k. k ≡ n + 1) p.0 items q.0
-went_up counts [] p q h = ap (λ u. u.0) h
-went_up counts (x ∷ items) p q h = (h.0.0, counts p x h.0 h.1, went_up counts items h.0 q h.2)
+counts_beside : {A F : Type 0} {Q : ℕ × F → A → ℕ × F → Type 0} → ((p : ℕ × F) (x : A) (q : ℕ × F) → Q p x q → q.0 ≡ p.0 + 1) → (items : List A) (p q : ℕ × F) → FoldsTo {P = ℕ × F} Q p items q → FoldsTo {P = ℕ} {A = A} (λ n x k. k ≡ n + 1) p.0 items q.0
+counts_beside counts [] p q h = ap (λ u. u.0) h
+counts_beside counts (x ∷ items) p q h = (h.0.0, counts p x h.0 h.1, counts_beside counts items h.0 q h.2)
 
 counted_up : {A : Type 0} (items : List A) (n k : ℕ) → FoldsTo {P = ℕ} {A = A} (λ n x k. k ≡ n + 1) n items k → k ≡ n + length items
 counted_up [] n k e = omega (arith, e)
@@ -79,11 +79,11 @@ module _ {A E F : Type 0} {call : F → ℕ → A → Result ℕ E → F → Typ
 
   -- its result is the number of the items
   pub fold_counted : {S : Type 0} {steps : S → Answered A E → S → Type 0} {from : E → E → Type 0} {s t : S} {f : F} {r : Result ℕ E} → ((e d : E) → from e d → d ≡ e) → (h : Folded steps call from s 0 f r t) → CountExit (length h.items) h.last r
-  fold_counted {from = from} {f = f} {r = r} same h = subst (λ n. CountExit n h.last r) (let e = counted_up h.items 0 h.value (went_up (λ p x q w. let e = counts p.1 p.0 x (Ok q.0) q.1 w in cc) h.items (0, f) (h.value, h.closure) h.went) in omega (arith, e)) (exit_counted from same h.value h.closure h.last r h.exit)
+  fold_counted {from = from} {f = f} {r = r} same h = subst (λ n. CountExit n h.last r) (let e = counted_up h.items 0 h.value (counts_beside (λ p x q w. let e = counts p.1 p.0 x (Ok q.0) q.1 w in cc) h.items (0, f) (h.value, h.closure) h.went) in omega (arith, e)) (exit_counted from same h.value h.closure h.last r h.exit)
 
 -- where at most k items are to come, a fold that counts may take its turn where it may at each number below k
-pub callable_counting : {S A E F : Type 0} {m : Contract S A E} {Q : ℕ × F → A → ℕ × F → Type 0} {P : ℕ × F → A → Type 0} {s : S} {f : F} (k : ℕ) → ((p : ℕ × F) (x : A) (q : ℕ × F) → Q p x q → q.0 ≡ p.0 + 1) → ((p : ℕ × F) (x : A) → p.0 < k → P p x) → Lawful m → m.can s → AtMost m s k → HoldsAtEachTurn {C = ℕ × F} m.steps Q P s (0, f)
-callable_counting {f = f} k counts below l c b = record { at = λ items t u d x ran went step. below d x ((count_fits k l c b).at items t u d.0 x ran (went_up counts items (0, f) d went) step) }
+pub callable_counting : {S A E F : Type 0} {m : Contract S A E} {Q : ℕ × F → A → ℕ × F → Type 0} {P : ℕ × F → A → Type 0} {s : S} {f : F} (k : ℕ) → ((p : ℕ × F) (x : A) (q : ℕ × F) → Q p x q → q.0 ≡ p.0 + 1) → ((p : ℕ × F) (x : A) → p.0 < k → P p x) → Lawful m → m.can_next s → AtMost m s k → HoldsAtEachTurn {C = ℕ × F} m.steps Q P s (0, f)
+callable_counting {f = f} k counts below l c b = record { at = λ items t u d x ran went step. below d x ((count_fits k l c b).at items t u d.0 x ran (counts_beside counts items (0, f) d went) step) }
 
 -- ---- `Filter`
 
@@ -114,11 +114,11 @@ module _ {S F X E : Type 0} (steps : S → Answered X E → S → Type 0) (call 
   abbrev Below : S → List X → Answered X E → S → Type 0
   Below s xs last t = FilteredRun steps h s xs last t
 
-  over : {s t : S} {f g : F} → Passes steps call filter_outcome s f [] t g → s ≡ t
-  over done = refl
+  passes_none : {s t : S} {f g : F} → Passes steps call filter_outcome s f [] t g → s ≡ t
+  passes_none done = refl
 
   last_below : (s u t : S) (f g : F) (z last : Answered X E) (rest : List (Answered X E)) → z ∷ rest ≡ last ∷ [] → steps s z u → Passes steps call filter_outcome u f rest t g → Below s [] last t
-  last_below s u t f g z last [] e step p = record { items = []; ran = (t, (let at : u ≡ t = over p in let is : z ≡ last = cc in subst (λ (v : S). steps s last v) at (subst (λ (q : Answered X E). steps s q u) is step)), refl); are = refl }
+  last_below s u t f g z last [] e step p = record { items = []; ran = (t, (let at : u ≡ t = passes_none p in let is : z ≡ last = cc in subst (λ (v : S). steps s last v) at (subst (λ (q : Answered X E). steps s q u) is step)), refl); are = refl }
   last_below s u t f g z last (r ∷ rest) e step p = absurd cc
 
   kept_below : (s u t : S) (x y : X) (xs : List X) (last : Answered X E) → h x ≡ true → x ≡ y → steps s (item x) u → Below u xs last t → Below s (y ∷ xs) last t
@@ -130,21 +130,21 @@ module _ {S F X E : Type 0} (steps : S → Answered X E → S → Type 0) (call 
   answers_as : (o : Outcome X E) (f g : F) (x : X) (v : Result Bool E) → f ≡ fixed → call f x v g → filter_outcome x v ≡ o → filter_outcome x (Ok (h x)) ≡ o
   answers_as o f g x v at called is = ap (filter_outcome x) (sym (acts f x v g at called).1) ∙ is
 
-  below : (xs : List X) (last : Answered X E) (s t : S) (f g : F) (trace : List (Answered X E)) → f ≡ fixed → trace ≡ map item xs ++ last ∷ [] → Passes steps call filter_outcome s f trace t g → Below s xs last t
-  below [] last s t f g _ at e done = absurd cc
-  below (x ∷ xs) last s t f g _ at e done = absurd cc
-  below [] last s t f g _ at e (ends {u = u} step p) = last_below s u t f g end last _ e step p
-  below (x ∷ xs) last s t f g _ at e (ends step p) = absurd cc
-  below [] last s t f g _ at e (fails {u = u} d step p) = last_below s u t f g (failure d) last _ e step p
-  below (x ∷ xs) last s t f g _ at e (fails d step p) = absurd cc
-  below [] last s t f g _ at e (keeps {u = u} {h = j} {trace = rest} x v y step called is p) = let k = is_kept x y (h x) (answers_as (Kept y) f j x v at called is) in last_below s u t j g (item x) last rest (ap {B = List (Answered X E)} (λ (z : X). item z ∷ rest) k.1 ∙ e) step p
-  below (z ∷ xs) last s t f g _ at e (keeps {u = u} {h = j} x v y step called is p) = let k = is_kept x y (h x) (answers_as (Kept y) f j x v at called is) in kept_below s u t x z xs last k.0 (k.1 ∙ cc) step (below xs last u t j g _ (acts f x v j at called).0 (cc) p)
-  below xs last s t f g _ at e (refuses {h = j} x v d step called is p) = absurd (not_failed x (h x) d (answers_as (Failure d) f j x v at called is))
-  below xs last s t f g _ at e (closes {h = j} x v step called is p) = absurd (not_end x (h x) (answers_as End f j x v at called is))
-  below xs last s t f g trace at e (leaves_out {u = u} {h = j} x v step called is p) = left_below s u t x xs last (is_left_out x (h x) (answers_as LeftOut f j x v at called is)) step (below xs last u t j g trace (acts f x v j at called).0 e p)
+  below_passes : (xs : List X) (last : Answered X E) (s t : S) (f g : F) (trace : List (Answered X E)) → f ≡ fixed → trace ≡ map item xs ++ last ∷ [] → Passes steps call filter_outcome s f trace t g → Below s xs last t
+  below_passes [] last s t f g _ at e done = absurd cc
+  below_passes (x ∷ xs) last s t f g _ at e done = absurd cc
+  below_passes [] last s t f g _ at e (ends {u = u} step p) = last_below s u t f g end last _ e step p
+  below_passes (x ∷ xs) last s t f g _ at e (ends step p) = absurd cc
+  below_passes [] last s t f g _ at e (fails {u = u} d step p) = last_below s u t f g (failure d) last _ e step p
+  below_passes (x ∷ xs) last s t f g _ at e (fails d step p) = absurd cc
+  below_passes [] last s t f g _ at e (keeps {u = u} {h = j} {trace = rest} x v y step called is p) = let k = is_kept x y (h x) (answers_as (Kept y) f j x v at called is) in last_below s u t j g (item x) last rest (ap {B = List (Answered X E)} (λ (z : X). item z ∷ rest) k.1 ∙ e) step p
+  below_passes (z ∷ xs) last s t f g _ at e (keeps {u = u} {h = j} x v y step called is p) = let k = is_kept x y (h x) (answers_as (Kept y) f j x v at called is) in kept_below s u t x z xs last k.0 (k.1 ∙ cc) step (below_passes xs last u t j g _ (acts f x v j at called).0 (cc) p)
+  below_passes xs last s t f g _ at e (refuses {h = j} x v d step called is p) = absurd (not_failed x (h x) d (answers_as (Failure d) f j x v at called is))
+  below_passes xs last s t f g _ at e (closes {h = j} x v step called is p) = absurd (not_end x (h x) (answers_as End f j x v at called is))
+  below_passes xs last s t f g trace at e (leaves_out {u = u} {h = j} x v step called is p) = left_below s u t x xs last (is_left_out x (h x) (answers_as LeftOut f j x v at called is)) step (below_passes xs last u t j g trace (acts f x v j at called).0 e p)
 
   pub below_run : (xs : List X) (last : Answered X E) (p q : S × F) → p.1 ≡ fixed → Run (λ p r q. PassTrace steps call filter_outcome p (r ∷ []) q) p (map item xs ++ last ∷ []) q → Below p.0 xs last q.0
-  below_run xs last p q at ran = below xs last p.0 q.0 p.1 q.1 _ at refl (to_passes ((runs_by_answers _ (passing_by_answers steps call filter_outcome) p _ q).0 ran))
+  below_run xs last p q at ran = below_passes xs last p.0 q.0 p.1 q.1 _ at refl (to_passes ((runs_by_answers _ (passing_by_answers steps call filter_outcome) p _ q).0 ran))
 
 -- a closure in its slot acts as the closure does
 acts_in_slot : {F X R : Type 0} (call : F → X → R → F → Type 0) (f : F) (h : X → R) → Acts call f h → (s : Option F) (x : X) (v : R) (t : Option F) → s ≡ Some f → call_in call s x v t → (t ≡ Some f) × (v ≡ h x)

@@ -3,7 +3,7 @@ use Rattle.std.specs.Prelude.{List, Bool}
 use Rattle.fallible_contract.specs.Traces.{Answered, Run, is_end}
 use Rattle.fallible_contract.specs.Contract.{Contract}
 use Rattle.fallible_core.specs.declared.cutting.fuse.Fuse.{Fuse}
-use Rattle.fallible_contract.specs.Closing.{ClosingTrace, closing}
+use Rattle.fallible_contract.specs.Closing.{ClosingTrace, closing_contract}
 
 -- `Fuse`: the source's trace, which the source's end closes.
 pub record FuseTrace {S A E : Type 0} (steps : S → Answered A E → S → Type 0) (p : S × Bool) (trace : List (Answered A E)) (q : S × Bool) : Type 0 where
@@ -13,7 +13,7 @@ pub record FuseTrace {S A E : Type 0} (steps : S → Answered A E → S → Type
 
 -- `Fuse`'s contract, with the flag whether the source's end was met.
 abbrev pub fuse_contract : {S A E : Type 0} → Contract S A E → Contract (S × Bool) A E
-fuse_contract m = closing m m.steps (λ r. r) is_end
+fuse_contract m = closing_contract m m.steps (λ r. r) is_end
 
 -- the source, and whether its end was met
 abbrev pub fuse_parts : {I : Type 0} → Fuse I → I × Bool

@@ -4,7 +4,7 @@ use Rattle.fallible_core.specs.declared.cutting.skip.Skip.{Skip}
 use Rattle.fallible_contract.specs.Traces.{Answered}
 use Rattle.fallible_contract.specs.Contract.{Contract}
 use Rattle.fallible_contract.specs.Counting.{KeptByNumber}
-use Rattle.fallible_contract.specs.WithSteps.{with_steps}
+use Rattle.fallible_contract.specs.WithSteps.{with_steps_contract}
 use Rattle.fallible_contract.specs.Hints.{hint_less}
 
 -- the source, and how many items are still to be left out
@@ -21,4 +21,4 @@ skip_step steps p r q = SkipTrace steps p (r ∷ []) q
 
 -- `Skip`'s contract: that of its source but for the step and the hint.
 abbrev pub skip_contract : {S A E : Type 0} → Contract S A E → Contract (S × ℕ) A E
-skip_contract m = with_steps m (skip_step m.steps) (λ p h. (k : ℕ × Option ℕ) × m.hints p.0 k × (h ≡ hint_less p.1 k))
+skip_contract m = with_steps_contract m (skip_step m.steps) (λ p h. (k : ℕ × Option ℕ) × m.hints p.0 k × (h ≡ hint_less p.1 k))

@@ -6,7 +6,7 @@ use Rattle.fallible_contract.specs.Contract.{Contract}
 use Rattle.fallible_contract.specs.Counting.{KeptByNumber}
 use Rattle.fallible_contract.specs.declared.passing.Outcome.{Outcome}
 use Rattle.fallible_contract.specs.declared.passing.Outcome.TheVariants.{Kept, LeftOut}
-use Rattle.fallible_contract.specs.WithSteps.{with_steps}
+use Rattle.fallible_contract.specs.WithSteps.{with_steps_contract}
 use Rattle.fallible_contract.specs.Hints.{hint_kept}
 
 -- the source, and how many items are left out between two and how many next
@@ -31,7 +31,7 @@ step_by_step steps p r q = StepByTrace steps p (r ∷ []) q
 
 -- `StepBy`'s contract: that of its source but for the step and the hint.
 abbrev pub step_by_contract : {S A E : Type 0} → Contract S A E → Contract (S × (ℕ × ℕ)) A E
-step_by_contract m = with_steps m (step_by_step m.steps) (λ p h. (k : ℕ × Option ℕ) × m.hints p.0 k × (h ≡ hint_kept (p.1).0 (p.1).1 k))
+step_by_contract m = with_steps_contract m (step_by_step m.steps) (λ p h. (k : ℕ × Option ℕ) × m.hints p.0 k × (h ≡ hint_kept (p.1).0 (p.1).1 k))
 
 -- ---- its fold, through the source's own
 

@@ -2,7 +2,7 @@
 use Rattle.std.specs.Prelude.{◌≡◌, ℕ, zero, suc, ◌+◌, ◌≤◌, ◌<◌, List, [], ◌∷◌, ◌++◌, replicate, Option, ⊤, ◌⊎◌}
 use Rattle.fallible_contract.specs.Traces.{Answered, Run, end, items_in}
 use Rattle.fallible_contract.specs.Contract.{Contract}
-use Rattle.fallible_contract.specs.WithSteps.{with_steps}
+use Rattle.fallible_contract.specs.WithSteps.{with_steps_contract}
 use Rattle.fallible_core.specs.declared.cutting.take.Take.{Take}
 use Rattle.fallible_contract.specs.Hints.{hint_up_to}
 
@@ -12,7 +12,7 @@ pub record TakeTrace {S A E : Type 0} (steps : S → Answered A E → S → Type
   pub ends : ℕ
   pub drawn : Run steps p.0 source_trace q.0
   pub answers : trace ≡ source_trace ++ replicate ends end
-  pub fronts : (front : List (Answered A E)) (r : Answered A E) (rest : List (Answered A E)) → source_trace ≡ front ++ r ∷ rest → items_in front < p.1
+  pub prefixes : (prefix : List (Answered A E)) (r : Answered A E) (rest : List (Answered A E)) → source_trace ≡ prefix ++ r ∷ rest → items_in prefix < p.1
   pub at_most : items_in source_trace ≤ p.1
   pub over : 0 < ends → items_in source_trace ≡ p.1
   pub remaining : q.1 + items_in source_trace ≡ p.1
@@ -22,11 +22,11 @@ abbrev pub take_step : {S A E : Type 0} → (S → Answered A E → S → Type 0
 take_step steps (s, zero) r (t, left) = (r ≡ end) × (t ≡ s) × (left ≡ 0)
 take_step steps (s, suc n) r (t, left) = steps s r t × (left + items_in (r ∷ []) ≡ suc n)
 
--- It always has an end: what is left to take is a number to come, and so is each of the source's.
+-- It always has an end: what is left to take is a bound, and so is each of the source's.
 abbrev pub take_contract : {S A E : Type 0} → Contract S A E → Contract (S × ℕ) A E
-take_contract m = record (with_steps m (take_step m.steps) (λ p h. (k : ℕ × Option ℕ) × m.hints p.0 k × (h ≡ hint_up_to p.1 k))) {
-  to_come = λ p n. p.1 ≤ n ⊎ m.to_come p.0 n;
-  has_end = λ p. ⊤;
+take_contract m = record (with_steps_contract m (take_step m.steps) (λ p h. (k : ℕ × Option ℕ) × m.hints p.0 k × (h ≡ hint_up_to p.1 k))) {
+  bound = λ p n. p.1 ≤ n ⊎ m.bound p.0 n;
+  is_finite = λ p. ⊤;
 }
 
 -- the source, and how many items are still to be taken

@@ -8,10 +8,10 @@ use Rattle.fallible_contract.specs.Contract.{Contract}
 use Rattle.fallible_contract.specs.Closures.{Calls, call_in, IsCallableIn, call_at, takes_at}
 use Rattle.fallible_contract.specs.declared.passing.Outcome.{Outcome}
 use Rattle.fallible_contract.specs.declared.passing.Outcome.TheVariants.{Kept, Failure, End}
-use Rattle.fallible_contract.specs.Passing.{Place, asked, failure_at, end_at, source_answer, call_of, passing}
+use Rattle.fallible_contract.specs.Passing.{Place, asked, failure_at, end_at, source_answer, call_of, passing_contract}
 use Rattle.fallible_contract.specs.Hints.{upper_alone}
 use Rattle.fallible_core.specs.declared.cutting.take_while.TakeWhile.{TakeWhile}
-use Rattle.fallible_contract.specs.Closing.{ClosingTrace, closing}
+use Rattle.fallible_contract.specs.Closing.{ClosingTrace, closing_contract}
 
 -- An item that the predicate accepts is kept; one that it refuses makes an end; a failure of it is the answer.
 abbrev pub take_while_outcome : {X E : Type 0} → X → Result Bool E → Outcome X E
@@ -48,7 +48,7 @@ place_drawn steps call p x q = steps p.0 (source_answer x) q.0 × Calls call p.1
 
 -- `TakeWhile`'s contract, with the flag whether an item was refused: the predicate may be called on each item that may come, and until then the hint has the source's upper bound alone.
 abbrev pub take_while_contract : {S F X E : Type 0} → Contract S X E → Mut F (Bor X × Unit {0}) (Result Bool E) → Contract ((S × Option F) × Bool) X E
-take_while_contract m g = closing (passing m (call_in (call_at g)) (IsCallableIn (call_at g) (takes_at g)) take_while_outcome (λ p h. upper_alone m p.0 h)) (place_drawn m.steps (call_in (call_at g))) taken_answer is_refused
+take_while_contract m g = closing_contract (passing_contract m (call_in (call_at g)) (IsCallableIn (call_at g) (takes_at g)) take_while_outcome (λ p h. upper_alone m p.0 h)) (place_drawn m.steps (call_in (call_at g))) taken_answer is_refused
 
 -- the source and the slot of the predicate, and whether an item was refused
 abbrev pub take_while_parts : {I P : Type 0} → TakeWhile I P → (I × Option P) × Bool

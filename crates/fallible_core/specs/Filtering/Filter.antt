@@ -7,7 +7,7 @@ use Rattle.fallible_contract.specs.Contract.{Contract}
 use Rattle.fallible_contract.specs.Closures.{call_at, takes_at, call_in, IsCallableIn}
 use Rattle.fallible_contract.specs.declared.passing.Outcome.{Outcome}
 use Rattle.fallible_contract.specs.declared.passing.Outcome.TheVariants.{Kept, LeftOut, Failure}
-use Rattle.fallible_contract.specs.Passing.{PassTrace, leaving_out}
+use Rattle.fallible_contract.specs.Passing.{PassTrace, leaving_out_contract}
 use Rattle.fallible_core.specs.declared.filtering.filter.Filter.{Filter}
 use Rattle.fallible_contract.specs.Hints.{upper_alone}
 
@@ -23,7 +23,7 @@ FilterTrace steps g p trace q = PassTrace steps (call_in (call_at g)) filter_out
 
 -- `Filter`'s contract: its hint has the source's upper bound alone.
 abbrev pub filter_contract : {S F X E : Type 0} → Contract S X E → Mut F (Bor X × Unit {0}) (Result Bool E) → Contract (S × Option F) X E
-filter_contract m g = leaving_out m (call_in (call_at g)) (IsCallableIn (call_at g) (takes_at g)) filter_outcome (λ p h. upper_alone m p.0 h)
+filter_contract m g = leaving_out_contract m (call_in (call_at g)) (IsCallableIn (call_at g) (takes_at g)) filter_outcome (λ p h. upper_alone m p.0 h)
 
 -- the source, and the slot of the closure
 abbrev pub filter_parts : {I F : Type 0} → Filter I F → I × Option F

@@ -6,7 +6,7 @@ use Rattle.fallible_contract.specs.Contract.{Contract}
 use Rattle.fallible_contract.specs.Closures.{call_on, takes_on, call_in, IsCallableIn}
 use Rattle.fallible_contract.specs.declared.passing.Outcome.{Outcome}
 use Rattle.fallible_contract.specs.declared.passing.Outcome.TheVariants.{Kept, LeftOut, Failure}
-use Rattle.fallible_contract.specs.Passing.{PassTrace, leaving_out}
+use Rattle.fallible_contract.specs.Passing.{PassTrace, leaving_out_contract}
 use Rattle.fallible_core.specs.declared.filtering.filter_map.FilterMap.{FilterMap}
 use Rattle.fallible_contract.specs.Hints.{upper_alone}
 
@@ -22,7 +22,7 @@ FilterMapTrace steps g p trace q = PassTrace steps (call_in (call_on g)) filter_
 
 -- `FilterMap`'s contract: its hint has the source's upper bound alone.
 abbrev pub filter_map_contract : {S F X B E : Type 0} → Contract S X E → Mut F (X × Unit {0}) (Result (Option B) E) → Contract (S × Option F) B E
-filter_map_contract m g = leaving_out m (call_in (call_on g)) (IsCallableIn (call_on g) (takes_on g)) filter_map_outcome (λ p h. upper_alone m p.0 h)
+filter_map_contract m g = leaving_out_contract m (call_in (call_on g)) (IsCallableIn (call_on g) (takes_on g)) filter_map_outcome (λ p h. upper_alone m p.0 h)
 
 -- the source, and the slot of the closure
 abbrev pub filter_map_parts : {I F : Type 0} → FilterMap I F → I × Option F

@@ -8,7 +8,7 @@ use Rattle.fallible_contract.specs.Contract.{Contract}
 use Rattle.fallible_contract.specs.Closures.{Calls, IsCallable, call_in, call_at, takes_at}
 use Rattle.fallible_contract.specs.declared.passing.Outcome.{Outcome}
 use Rattle.fallible_contract.specs.declared.passing.Outcome.TheVariants.{Kept, LeftOut, Failure}
-use Rattle.fallible_contract.specs.Passing.{Place, asked, failure_at, end_at, source_answer, call_of, answer_at, leaving_out, has_answer}
+use Rattle.fallible_contract.specs.Passing.{Place, asked, failure_at, end_at, source_answer, call_of, answer_at, leaving_out_contract, has_answer}
 use Rattle.fallible_core.specs.declared.filtering.skip_while.SkipWhile.{SkipWhile}
 use Rattle.fallible_contract.specs.Hints.{upper_alone}
 
@@ -80,7 +80,7 @@ skip_while_hints m p h = MatchBool (p.1).0 (m.hints p.0 h) (upper_alone m p.0 h)
 
 -- `SkipWhile`'s contract.
 abbrev pub skip_while_contract : {S F X E : Type 0} → Contract S X E → Mut F (Bor X × Unit {0}) (Result Bool E) → Contract (S × (Bool × Option F)) X E
-skip_while_contract m g = leaving_out m (skip_call (call_in (call_at g))) (IsAskableIn (call_at g) (takes_at g)) skip_while_outcome (skip_while_hints m)
+skip_while_contract m g = leaving_out_contract m (skip_call (call_in (call_at g))) (IsAskableIn (call_at g) (takes_at g)) skip_while_outcome (skip_while_hints m)
 
 -- the source, whether the predicate answered false, and the predicate's slot
 abbrev pub skip_while_parts : {I P : Type 0} → SkipWhile I P → I × (Bool × Option P)

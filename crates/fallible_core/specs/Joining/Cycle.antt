@@ -2,7 +2,7 @@
 use Rattle.std.specs.Prelude.{◌≡◌, ℕ, List, [], ◌∷◌, ◌++◌, Option, false, ◌⊎◌}
 use Rattle.std.specs.declared.alloc.AllocError.{AllocError}
 use Rattle.fallible_contract.specs.Traces.{Answered, Run, failure, end, is_end, NoEnd}
-use Rattle.fallible_contract.specs.Contract.{Contract, unbounded}
+use Rattle.fallible_contract.specs.Contract.{Contract, unbounded_contract}
 use Rattle.fallible_contract.specs.Refusals.{RefusedAs}
 use Rattle.fallible_core.specs.declared.joining.cycle.Cycle.{Cycle}
 use Rattle.fallible_contract.specs.Hints.{cycle_hint}
@@ -29,12 +29,12 @@ module _ {S A E : Type 0} (is_clone : S → S → Type 0) (is_infallible : S →
     abbrev pub cycle_step : S × S → Answered A E → S × S → Type 0
     cycle_step (s, k) r (t, k') = (k' ≡ k) × CycleAnswer k s r t
 
-  -- Each run that a clone of the kept source begins may be drawn from. It has no number to come but what its runs have.
+  -- Each run that a clone of the kept source begins may be drawn from. It states no bound but what its runs have.
   abbrev pub cycle_contract : Contract S A E → Contract (S × S) A E
-  cycle_contract m = record (unbounded (cycle_step m.steps)) {
-    can = λ p. m.can p.0 × ((c : S) → is_clone p.1 c → m.can c);
-    gives = λ p x. m.gives p.0 x ⊎ ((c : S) × is_clone p.1 c × m.gives c x);
-    fails = λ p e. m.fails p.0 e ⊎ ((c : S) × is_clone p.1 c × m.fails c e) ⊎ RefusedAs is_infallible from p.1 e;
+  cycle_contract m = record (unbounded_contract (cycle_step m.steps)) {
+    can_next = λ p. m.can_next p.0 × ((c : S) → is_clone p.1 c → m.can_next c);
+    may_give = λ p x. m.may_give p.0 x ⊎ ((c : S) × is_clone p.1 c × m.may_give c x);
+    may_fail = λ p e. m.may_fail p.0 e ⊎ ((c : S) × is_clone p.1 c × m.may_fail c e) ⊎ RefusedAs is_infallible from p.1 e;
     hints = λ p h. (k : ℕ × Option ℕ) × m.hints p.1 k × (h ≡ cycle_hint k);
   }
 

@@ -87,7 +87,7 @@ FlattenTrace outer into inner p trace q = FlattenAnswers outer into inner p.0 p.
 
 -- ---- the contract
 
--- k is a number to come of the inner iterator in hand; 0 where there is none
+-- k is a bound of the inner iterator in hand; 0 where there is none
 abbrev pub NumberInHand : {C : Type 0} → Option C → (C → ℕ → Type 0) → ℕ → Type 0
 NumberInHand (Some c) to_come k = to_come c k
 NumberInHand None to_come k = k ≡ 0
@@ -97,61 +97,61 @@ module _ {S X C B E : Type 0} (m : Contract S X E) (into : X → C → Type 0) (
   pub record SomeInner (P : C → Type 0) (s : S) : Type 0 where
     pub argument : X
     pub iterator : C
-    pub given : m.gives s argument
+    pub given : m.may_give s argument
     pub becomes : into argument iterator
     pub holds : P iterator
 
   -- each item that the outer source may still give becomes an inner iterator of which P holds
   pub record EachInner (P : C → Type 0) (s : S) : Type 0 where
-    pub at : (x : X) (c : C) → m.gives s x → into x c → P c
+    pub at : (x : X) (c : C) → m.may_give s x → into x c → P c
 
   -- no inner iterator that may come has more than b items
   abbrev pub EachAtMost : ℕ → S → Type 0
-  EachAtMost b s = EachInner (λ c. (k : ℕ) × inner.to_come c k × (k ≤ b)) s
+  EachAtMost b s = EachInner (λ c. (k : ℕ) × inner.bound c k × (k ≤ b)) s
 
   -- The outer source has at most so many items, each of which becomes at most so many, and the inner iterator in hand has at most so many.
   pub record FlattenNumber (s : S) (hand : Option C) (n : ℕ) : Type 0 where
     pub outer : ℕ
     pub each : ℕ
     pub in_hand : ℕ
-    pub outer_is : m.to_come s outer
+    pub outer_is : m.bound s outer
     pub each_is : EachAtMost each s
-    pub in_hand_is : NumberInHand hand inner.to_come in_hand
+    pub in_hand_is : NumberInHand hand inner.bound in_hand
     pub sum : each * outer + in_hand ≤ n
 
-  -- Its condition: one of the outer source, and a number to come of it, since many inner iterators may end at once; one of the inner iterator in hand and of each that may come. There is a number to come where the outer source and the inner iterator in hand have one, and one serves for all that may come.
+  -- Its condition: one of the outer source, and a bound of it, since many inner iterators may end at once; one of the inner iterator in hand and of each that may come. There is a bound where the outer source and the inner iterator in hand have one, and one serves for all that may come.
   abbrev pub flatten_contract : Contract (S × Option C) B E
   flatten_contract = record {
-    can = λ p. m.can p.0 × m.has_end p.0 × IfSome p.1 inner.can × EachInner inner.can p.0;
+    can_next = λ p. m.can_next p.0 × m.is_finite p.0 × IfSome p.1 inner.can_next × EachInner inner.can_next p.0;
     steps = λ p r q. FlattenTrace m.steps into inner.steps p (r ∷ []) q;
-    to_come = λ p n. FlattenNumber p.0 p.1 n;
-    has_end = λ p. m.has_end p.0 × IfSome p.1 inner.has_end × ((b : ℕ) × EachAtMost b p.0);
-    elements = λ p. endless;
-    gives = λ p y. IsSomeAnd p.1 (λ c. inner.gives c y) ⊎ SomeInner (λ c. inner.gives c y) p.0;
-    fails = λ p e. m.fails p.0 e ⊎ (IsSomeAnd p.1 (λ c. inner.fails c e) ⊎ SomeInner (λ c. inner.fails c e) p.0);
+    bound = λ p n. FlattenNumber p.0 p.1 n;
+    is_finite = λ p. m.is_finite p.0 × IfSome p.1 inner.is_finite × ((b : ℕ) × EachAtMost b p.0);
+    remaining = λ p. endless;
+    may_give = λ p y. IsSomeAnd p.1 (λ c. inner.may_give c y) ⊎ SomeInner (λ c. inner.may_give c y) p.0;
+    may_fail = λ p e. m.may_fail p.0 e ⊎ (IsSomeAnd p.1 (λ c. inner.may_fail c e) ⊎ SomeInner (λ c. inner.may_fail c e) p.0);
     hints = λ p h. h ≡ (0, None);
-    names = λ p. m.names p.0;
+    lenders = λ p. m.lenders p.0;
   }
 
 -- ---- one draw, as a fold of the outer source that stops
 
 -- One turn: the item became an inner iterator, and this was drawn from once. The fold goes on where it ended at once, and else stops with it in hand and its answer.
-abbrev pub BeginTurn : {X C B E : Type 0} → (X → C → Type 0) → (C → Answered B E → C → Type 0) → Option C → X → ControlFlow (Option C × Result B E) (Option C) → Type 0
-BeginTurn {C = C} into inner hand x (Continue hand') = (c : C) × (d : C) × into x c × inner c end d × (hand' ≡ hand)
-BeginTurn {C = C} into inner hand x (Break (hand', Ok y)) = (c : C) × (d : C) × into x c × inner c (item y) d × (hand' ≡ Some d)
-BeginTurn {C = C} into inner hand x (Break (hand', Err e)) = (c : C) × (d : C) × into x c × inner c (failure e) d × (hand' ≡ Some d)
+abbrev pub IsFlattenNextTurn : {X C B E : Type 0} → (X → C → Type 0) → (C → Answered B E → C → Type 0) → Option C → X → ControlFlow (Option C × Result B E) (Option C) → Type 0
+IsFlattenNextTurn {C = C} into inner hand x (Continue hand') = (c : C) × (d : C) × into x c × inner c end d × (hand' ≡ hand)
+IsFlattenNextTurn {C = C} into inner hand x (Break (hand', Ok y)) = (c : C) × (d : C) × into x c × inner c (item y) d × (hand' ≡ Some d)
+IsFlattenNextTurn {C = C} into inner hand x (Break (hand', Err e)) = (c : C) × (d : C) × into x c × inner c (failure e) d × (hand' ≡ Some d)
 
 -- ---- a fold, as one of the outer source
 
 module _ {X C B E V R : Type 0} (into : X → C → Type 0) (inner : Contract C B E) (turns : V → B → ControlFlow R V → Type 0) where
   -- One turn: the item became an inner iterator, and this was folded by the caller's turns. The fold goes on where that one ended, and else stops with the inner iterator and the exit.
-  abbrev pub JoiningTurn : V → X → ControlFlow (C × Exit V E R) V → Type 0
-  JoiningTurn v x (Continue w) = (c : C) × (d : C) × into x c × Carried inner.steps turns c v (Ended w) d
-  JoiningTurn v x (Break (d, exit)) = (c : C) × into x c × Carried inner.steps turns c v exit d × ((w : V) → exit ≢ Ended w)
+  abbrev pub IsFlattenFoldTurn : V → X → ControlFlow (C × Exit V E R) V → Type 0
+  IsFlattenFoldTurn v x (Continue w) = (c : C) × (d : C) × into x c × Carried inner.steps turns c v (Ended w) d
+  IsFlattenFoldTurn v x (Break (d, exit)) = (c : C) × into x c × Carried inner.steps turns c v exit d × ((w : V) → exit ≢ Ended w)
 
   -- It may be taken where what the item may become may be folded so.
   abbrev pub JoiningTakes : (V → B → Type 0) → V → X → Type 0
-  JoiningTakes can v x = (c : C) → into x c → inner.can c × inner.has_end c × CallableCarrying inner.steps turns can c v
+  JoiningTakes can v x = (c : C) → into x c → inner.can_next c × inner.is_finite c × CallableCarrying inner.steps turns can c v
 
 -- the outer source, and the inner iterator in hand
 abbrev pub flatten_parts : {I J : Type 0} → Flatten I J → I × Option J

@@ -5,7 +5,7 @@ use Rattle.std.specs.declared.alloc.AllocError.{AllocError}
 use Rattle.fallible_contract.specs.Traces.{Answered}
 use Rattle.fallible_contract.specs.Contract.{Contract}
 use Rattle.fallible_contract.specs.Refusals.{RefusedAs}
-use Rattle.fallible_contract.specs.Passing.{PassTrace, passing}
+use Rattle.fallible_contract.specs.Passing.{PassTrace, passing_contract}
 use Rattle.fallible_core.specs.declared.one_to_one.cloned.Cloned.{Cloned}
 use Rattle.fallible_core.specs.OneToOne.Map.{map_outcome}
 
@@ -21,7 +21,7 @@ module _ {T E : Type 0} (is_clone : T → T → Type 0) (is_infallible : T → T
 
   -- it asks nothing of a call
   abbrev pub cloned_contract : {S : Type 0} → Contract S (Bor T) E → Contract (S × Unit {0}) T E
-  cloned_contract m = passing m cloned_call (λ P u. ⊤) map_outcome (λ p h. m.hints p.0 h)
+  cloned_contract m = passing_contract m cloned_call (λ P u. ⊤) map_outcome (λ p h. m.hints p.0 h)
 
 -- the source, and nothing else
 abbrev pub cloned_parts : {I : Type 0} → Cloned I → I × Unit {0}

@@ -22,23 +22,23 @@ pub record EnumerateTrace {S A E : Type 0} (steps : S → Answered A E → S →
 
 -- The source may be drawn from, and the numbers from n on of all items to come fit a `usize`.
 pub record IsNumberable {S A E : Type 0} (m : Contract S A E) (s : S) (n : ℕ) : Type 0 where
-  pub can : m.can s
+  pub can_next : m.can_next s
   pub bound : ℕ
-  pub bounds : m.to_come s bound
+  pub bounds : m.bound s bound
   pub fits : n + bound ≤ 2 ^ 64 - 1
 
 -- Its condition: one of the source, and the numbers of all items to come fit a `usize`. What may still come is an item that the source may give, with a number from the next one on, below each bound of those to come.
 abbrev pub enumerate_contract : {S A E : Type 0} → Contract S A E → Contract (S × ℕ) (ℕ × A) E
 enumerate_contract m = record {
-  can = λ p. IsNumberable m p.0 p.1;
+  can_next = λ p. IsNumberable m p.0 p.1;
   steps = λ p r q. EnumerateTrace m.steps p (r ∷ []) q;
-  to_come = λ p n. m.to_come p.0 n;
-  has_end = λ p. m.has_end p.0;
-  elements = λ p. m.elements p.0;
-  gives = λ p y. m.gives p.0 y.1 × (p.1 ≤ y.0) × ((k : ℕ) → m.to_come p.0 k → y.0 < p.1 + k);
-  fails = λ p e. m.fails p.0 e;
+  bound = λ p n. m.bound p.0 n;
+  is_finite = λ p. m.is_finite p.0;
+  remaining = λ p. m.remaining p.0;
+  may_give = λ p y. m.may_give p.0 y.1 × (p.1 ≤ y.0) × ((k : ℕ) → m.bound p.0 k → y.0 < p.1 + k);
+  may_fail = λ p e. m.may_fail p.0 e;
   hints = λ p h. m.hints p.0 h;
-  names = λ p. m.names p.0;
+  lenders = λ p. m.lenders p.0;
 }
 
 -- the source, and the number of the next item

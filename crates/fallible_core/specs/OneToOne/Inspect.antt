@@ -7,7 +7,7 @@ use Rattle.fallible_contract.specs.Contract.{Contract}
 use Rattle.fallible_contract.specs.Closures.{call_at, takes_at, call_in, IsCallableIn}
 use Rattle.fallible_contract.specs.declared.passing.Outcome.{Outcome}
 use Rattle.fallible_contract.specs.declared.passing.Outcome.TheVariants.{Kept, Failure}
-use Rattle.fallible_contract.specs.Passing.{PassTrace, passing}
+use Rattle.fallible_contract.specs.Passing.{PassTrace, passing_contract}
 use Rattle.fallible_core.specs.declared.one_to_one.inspect.Inspect.{Inspect}
 
 -- An item that the closure saw stays, or becomes the closure's failure.
@@ -21,7 +21,7 @@ InspectTrace steps g p trace q = PassTrace steps (call_in (call_at g)) inspect_o
 
 -- `Inspect`'s contract, with the source's hint.
 abbrev pub inspect_contract : {S F X E : Type 0} → Contract S X E → Mut F (Bor X × Unit {0}) (Result (Unit {0}) E) → Contract (S × Option F) X E
-inspect_contract m g = passing m (call_in (call_at g)) (IsCallableIn (call_at g) (takes_at g)) inspect_outcome (λ p h. m.hints p.0 h)
+inspect_contract m g = passing_contract m (call_in (call_at g)) (IsCallableIn (call_at g) (takes_at g)) inspect_outcome (λ p h. m.hints p.0 h)
 
 -- the source, and the slot of the closure
 abbrev pub inspect_parts : {I F : Type 0} → Inspect I F → I × Option F

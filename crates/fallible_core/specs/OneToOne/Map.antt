@@ -6,7 +6,7 @@ use Rattle.fallible_contract.specs.Contract.{Contract}
 use Rattle.fallible_contract.specs.Closures.{call_on, takes_on, call_in, IsCallableIn}
 use Rattle.fallible_contract.specs.declared.passing.Outcome.{Outcome}
 use Rattle.fallible_contract.specs.declared.passing.Outcome.TheVariants.{Kept, Failure}
-use Rattle.fallible_contract.specs.Passing.{PassTrace, passing}
+use Rattle.fallible_contract.specs.Passing.{PassTrace, passing_contract}
 use Rattle.fallible_core.specs.declared.one_to_one.map.Map.{Map}
 
 -- An item becomes the closure's answer, a failure of it included.
@@ -20,7 +20,7 @@ MapTrace steps g p trace q = PassTrace steps (call_in (call_on g)) map_outcome p
 
 -- `Map`'s contract, with the source's hint.
 abbrev pub map_contract : {S F X B E : Type 0} → Contract S X E → Mut F (X × Unit {0}) (Result B E) → Contract (S × Option F) B E
-map_contract m g = passing m (call_in (call_on g)) (IsCallableIn (call_on g) (takes_on g)) map_outcome (λ p h. m.hints p.0 h)
+map_contract m g = passing_contract m (call_in (call_on g)) (IsCallableIn (call_on g) (takes_on g)) map_outcome (λ p h. m.hints p.0 h)
 
 -- the source, and the slot of the closure
 abbrev pub map_parts : {I F : Type 0} → Map I F → I × Option F

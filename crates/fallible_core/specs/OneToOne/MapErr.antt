@@ -43,15 +43,15 @@ pub record MapErrTrace {S F X D E : Type 0} (steps : S → Answered X D → S �
 -- `MapErr`'s contract: the closure may be called on each failure that may come, in each state that such calls bring it to; all else is the source's.
 abbrev pub map_err_contract : {S F X D E : Type 0} → Contract S X D → Mut F (D × Unit {0}) E → Contract (S × F) X E
 map_err_contract m g = record {
-  can = λ p. m.can p.0 × IsCallable (call_on g) (takes_on g) (m.fails p.0) p.1;
+  can_next = λ p. m.can_next p.0 × IsCallable (call_on g) (takes_on g) (m.may_fail p.0) p.1;
   steps = λ p r q. MapErrTrace m.steps (call_on g) p (r ∷ []) q;
-  to_come = λ p n. m.to_come p.0 n;
-  has_end = λ p. m.has_end p.0;
-  elements = λ p. m.elements p.0;
-  gives = λ p x. m.gives p.0 x;
-  fails = λ p e. MayAnswer (call_on g) (m.fails p.0) p.1 (λ d v. v ≡ e);
+  bound = λ p n. m.bound p.0 n;
+  is_finite = λ p. m.is_finite p.0;
+  remaining = λ p. m.remaining p.0;
+  may_give = λ p x. m.may_give p.0 x;
+  may_fail = λ p e. MayAnswer (call_on g) (m.may_fail p.0) p.1 (λ d v. v ≡ e);
   hints = λ p h. m.hints p.0 h;
-  names = λ p. m.names p.0;
+  lenders = λ p. m.lenders p.0;
 }
 
 -- What `MapErr` makes of one answer of its source, or of what a call of its source answers: a failure becomes the closure's answer on it; all else passes, without a call.

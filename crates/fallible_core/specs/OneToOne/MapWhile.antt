@@ -5,7 +5,7 @@ use Rattle.fallible_contract.specs.Closures.{call_on, takes_on, call_in, IsCalla
 use Rattle.fallible_contract.specs.Contract.{Contract}
 use Rattle.fallible_contract.specs.Hints.{upper_alone}
 use Rattle.fallible_contract.specs.Lists.{cons_or_end}
-use Rattle.fallible_contract.specs.Passing.{PassTrace, passing}
+use Rattle.fallible_contract.specs.Passing.{PassTrace, passing_contract}
 use Rattle.fallible_contract.specs.Traces.{Answered}
 use Rattle.fallible_core.specs.OneToOne.Scan.{scan_outcome}
 use Rattle.fallible_core.specs.declared.one_to_one.map_while.MapWhile.{MapWhile}
@@ -16,7 +16,7 @@ MapWhileTrace steps g p trace q = PassTrace steps (call_in (call_on g)) scan_out
 
 -- `MapWhile`'s contract: its hint has the source's upper bound alone, since none is an end.
 abbrev pub map_while_contract : {S F X B E : Type 0} → Contract S X E → Mut F (X × Unit {0}) (Result (Option B) E) → Contract (S × Option F) B E
-map_while_contract m g = passing m (call_in (call_on g)) (IsCallableIn (call_on g) (takes_on g)) scan_outcome (λ p h. upper_alone m p.0 h)
+map_while_contract m g = passing_contract m (call_in (call_on g)) (IsCallableIn (call_on g) (takes_on g)) scan_outcome (λ p h. upper_alone m p.0 h)
 
 -- the source, and the slot of the closure
 abbrev pub map_while_parts : {I F : Type 0} → MapWhile I F → I × Option F

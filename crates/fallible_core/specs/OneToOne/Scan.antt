@@ -8,7 +8,7 @@ use Rattle.fallible_contract.specs.Hints.{upper_alone}
 use Rattle.fallible_contract.specs.Closures.{IsCallable}
 use Rattle.fallible_contract.specs.declared.passing.Outcome.{Outcome}
 use Rattle.fallible_contract.specs.declared.passing.Outcome.TheVariants.{Kept, Failure, End}
-use Rattle.fallible_contract.specs.Passing.{PassTrace, passing}
+use Rattle.fallible_contract.specs.Passing.{PassTrace, passing_contract}
 use Rattle.fallible_core.specs.declared.one_to_one.scan.Scan.{Scan}
 
 -- a call on the state and an item, which may change both the closure and the state
@@ -31,7 +31,7 @@ ScanTrace steps g p trace q = PassTrace steps (scan_call g) scan_outcome p trace
 
 -- `Scan`'s contract: its hint has the source's upper bound alone, since none is an end.
 abbrev pub scan_contract : {S F T X B E : Type 0} → Contract S X E → Mut F (MutBor T × (X × Unit {0})) (Result (Option B) E × (MutBor T × Unit {0})) → Contract (S × (T × F)) B E
-scan_contract m g = passing m (scan_call g) (λ P h. IsCallable (scan_call g) (scan_takes g) P h) scan_outcome (λ p h. upper_alone m p.0 h)
+scan_contract m g = passing_contract m (scan_call g) (λ P h. IsCallable (scan_call g) (scan_takes g) P h) scan_outcome (λ p h. upper_alone m p.0 h)
 
 -- the source, and the state beside the closure
 abbrev pub scan_parts : {I T F : Type 0} → Scan I T F → I × (T × F)

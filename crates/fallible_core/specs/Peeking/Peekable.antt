@@ -54,15 +54,15 @@ held_items None = 0
 -- A held item is one more to come than the source's.
 abbrev pub peekable_contract : {S A E : Type 0} → Contract S A E → Contract (S × Option (Option A)) A E
 peekable_contract m = record {
-  can = λ p. m.can p.0;
+  can_next = λ p. m.can_next p.0;
   steps = peekable_step m.steps;
-  to_come = λ p n. (k : ℕ) × m.to_come p.0 k × (k + held_items p.1 ≤ n);
-  has_end = λ p. m.has_end p.0;
-  elements = λ _. endless;
-  gives = λ p x. (p.1 ≡ Some (Some x)) ⊎ m.gives p.0 x;
-  fails = λ p e. m.fails p.0 e;
+  bound = λ p n. (k : ℕ) × m.bound p.0 k × (k + held_items p.1 ≤ n);
+  is_finite = λ p. m.is_finite p.0;
+  remaining = λ _. endless;
+  may_give = λ p x. (p.1 ≡ Some (Some x)) ⊎ m.may_give p.0 x;
+  may_fail = λ p e. m.may_fail p.0 e;
   hints = peekable_hints m;
-  names = λ p. m.names p.0;
+  lenders = λ p. m.lenders p.0;
 }
 
 -- ---- looking ahead

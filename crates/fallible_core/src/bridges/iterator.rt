@@ -18,11 +18,11 @@ pub struct Iterator<I> {
 impl<I: FallibleIterator> std::iter::Iterator for Iterator<I> {
     type Item = Result<I::Item, I::Error>;
 
-    ghost can_next = { λ s. I.contract.can (iterator_parts s) };
+    ghost can_next = { λ s. I.contract.can_next (iterator_parts s) };
 
     ghost next_gives = { iterator_steps I.contract.steps };
 
-    ghost remaining = { λ s. I.contract.elements (iterator_parts s) };
+    ghost remaining = { λ s. I.contract.remaining (iterator_parts s) };
 
     /// Draws one answer of the source.
     fn next(&mut self) -> Option<Result<I::Item, I::Error>> {
@@ -31,8 +31,8 @@ impl<I: FallibleIterator> std::iter::Iterator for Iterator<I> {
 
     /// Nothing: a source's hint counts items alone, and here failures are elements too.
     fn size_hint(&self) -> (usize, Option<usize>)
-        ensures lower { IsWithinCount result.0 (I.contract.elements (iterator_parts self.now)) }
-        ensures upper { IfSome result.1 (UpTo (I.contract.elements (iterator_parts self.now))) }
+        ensures lower { IsWithinCount result.0 (I.contract.remaining (iterator_parts self.now)) }
+        ensures upper { IfSome result.1 (UpTo (I.contract.remaining (iterator_parts self.now))) }
         ensures value { result ≡ (0, None) }
     {
         (0, None)
@@ -40,7 +40,7 @@ impl<I: FallibleIterator> std::iter::Iterator for Iterator<I> {
 }
 
 impl<I: DoubleEndedFallibleIterator> std::iter::DoubleEndedIterator for Iterator<I> {
-    ghost can_next_back = { λ s. I.ends.can (iterator_parts s) };
+    ghost can_next_back = { λ s. I.ends.can_next (iterator_parts s) };
 
     ghost next_back_gives = { iterator_steps I.ends.steps };
 

@@ -2,7 +2,7 @@
 ghost use Rattle.std.specs.Prelude.{◌≡◌, None, IfSome};
 ghost use Rattle.std.specs.Iterator.{UpTo};
 ghost use Rattle.std.specs.Iterator.SizeHint.{IsWithinCount};
-ghost use Rattle.fallible_contract.specs.Contract.{Sure};
+ghost use Rattle.fallible_contract.specs.Contract.{NeverFails};
 ghost use Rattle.fallible_core.specs.Bridges.Unwrap.{unwrap_parts, unwrap_steps};
 
 use crate::traits::FallibleIterator;
@@ -16,11 +16,11 @@ pub struct Unwrap<I> {
 impl<I: FallibleIterator> std::iter::Iterator for Unwrap<I> {
     type Item = I::Item;
 
-    ghost can_next = { λ s. I.contract.can (unwrap_parts s) × Sure I.contract (unwrap_parts s) };
+    ghost can_next = { λ s. I.contract.can_next (unwrap_parts s) × NeverFails I.contract (unwrap_parts s) };
 
     ghost next_gives = { unwrap_steps I.contract.steps };
 
-    ghost remaining = { λ s. I.contract.elements (unwrap_parts s) };
+    ghost remaining = { λ s. I.contract.remaining (unwrap_parts s) };
 
     /// Draws one answer of the source, which is no failure.
     fn next(&mut self) -> Option<I::Item> {
@@ -29,8 +29,8 @@ impl<I: FallibleIterator> std::iter::Iterator for Unwrap<I> {
 
     /// Nothing, as `Iterator`'s.
     fn size_hint(&self) -> (usize, Option<usize>)
-        ensures lower { IsWithinCount result.0 (I.contract.elements (unwrap_parts self.now)) }
-        ensures upper { IfSome result.1 (UpTo (I.contract.elements (unwrap_parts self.now))) }
+        ensures lower { IsWithinCount result.0 (I.contract.remaining (unwrap_parts self.now)) }
+        ensures upper { IfSome result.1 (UpTo (I.contract.remaining (unwrap_parts self.now))) }
         ensures value { result ≡ (0, None) }
     {
         (0, None)

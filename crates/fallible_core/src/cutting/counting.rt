@@ -3,7 +3,7 @@ ghost use Rattle.std.specs.Prelude.{[], ◌∷◌};
 ghost use Rattle.fallible_core.specs.Cutting.Skip.{SkipTrace};
 
 use crate::traits::FallibleIterator;
-use fallible_contract::folds::{Exit, Reaching};
+use fallible_contract::folds::{Exit, NthTurn};
 
 // Leaves out as many items as `left` says, and answers the item after them, or a failure or an end that comes before it. Each left-out item lowers `left` by one.
 pub(crate) fn next_past<I: FallibleIterator>(
@@ -12,7 +12,7 @@ pub(crate) fn next_past<I: FallibleIterator>(
 ) -> Result<Option<I::Item>, I::Error>
 where
     I::Item: Drop,
-    requires { I.contract.can it.old }
+    requires { I.contract.can_next it.old }
     ensures { SkipTrace I.contract.steps (it.old, left.old) (result ∷ []) (it.new, left.new) }
 {
     loop {
@@ -29,18 +29,18 @@ where
     }
 }
 
-// The same by one fold of the source, which asks a number to come.
+// The same by one fold of the source, which asks that it is finite.
 pub(crate) fn reach_past<I: FallibleIterator>(
     it: &mut I,
     left: &mut usize,
 ) -> Result<Option<I::Item>, I::Error>
 where
     I::Item: Drop,
-    requires can { I.contract.can it.old }
-    requires finite { I.contract.has_end it.old }
+    requires can_next { I.contract.can_next it.old }
+    requires finite { I.contract.is_finite it.old }
     ensures { SkipTrace I.contract.steps (it.old, left.old) (result ∷ []) (it.new, left.new) }
 {
-    match it.try_fold_carrying(*left, &Reaching) {
+    match it.try_fold_carrying(*left, &NthTurn) {
         Exit::Ended(still) => {
             *left = still;
             Ok(None)

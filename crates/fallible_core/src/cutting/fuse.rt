@@ -49,13 +49,13 @@ impl<I: FallibleIterator> FallibleIterator for Fuse<I> {
     fn try_fold_carrying<C, R, K: Turn<C, I::Item, R>>(
         &mut self,
         init: C,
-        k: &K,
+        turn: &K,
     ) -> Exit<C, I::Error, R> {
         let Fuse { it, ended } = self;
         if *ended {
             return Exit::Ended(init);
         }
-        match it.try_fold_carrying(init, k) {
+        match it.try_fold_carrying(init, turn) {
             Exit::Ended(carried) => {
                 *ended = true;
                 Exit::Ended(carried)

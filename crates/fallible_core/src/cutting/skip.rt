@@ -42,11 +42,11 @@ where
     fn try_fold_carrying<C, R, K: Turn<C, I::Item, R>>(
         &mut self,
         init: C,
-        k: &K,
+        turn: &K,
     ) -> Exit<C, I::Error, R> {
         match reach_past(&mut self.it, &mut self.to_skip) {
-            Ok(Some(x)) => match k.turn(init, x) {
-                ControlFlow::Continue(carried) => self.it.try_fold_carrying(carried, k),
+            Ok(Some(x)) => match turn.turn(init, x) {
+                ControlFlow::Continue(carried) => self.it.try_fold_carrying(carried, turn),
                 ControlFlow::Break(stop) => Exit::Stopped(stop),
             },
             Ok(None) => Exit::Ended(init),

@@ -52,12 +52,12 @@ where
     fn try_fold_carrying<C, R, K: Turn<C, I::Item, R>>(
         &mut self,
         init: C,
-        k: &K,
+        turn: &K,
     ) -> Exit<C, I::Error, R> {
         let adapter = StepByPass {
             between: self.between,
         };
-        let (left, exit) = fold_passing(&mut self.it, self.left, &adapter, init, k);
+        let (left, exit) = fold_passing(&mut self.it, self.left, &adapter, init, turn);
         self.left = left;
         exit
     }

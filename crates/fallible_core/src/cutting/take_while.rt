@@ -57,13 +57,13 @@ where
     fn try_fold_carrying<C, R, K: Turn<C, I::Item, R>>(
         &mut self,
         init: C,
-        k: &K,
+        turn: &K,
     ) -> Exit<C, I::Error, R> {
         if self.refused {
             return Exit::Ended(init);
         }
         let state = (take_out(&mut self.predicate), false);
-        let (state, exit) = fold_passing(&mut self.it, state, &TakeWhilePass, init, k);
+        let (state, exit) = fold_passing(&mut self.it, state, &TakeWhilePass, init, turn);
         let (predicate, refused) = state;
         self.predicate = Some(predicate);
         self.refused = refused;

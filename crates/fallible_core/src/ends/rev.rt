@@ -35,9 +35,9 @@ impl<I: DoubleEndedFallibleIterator> FallibleIterator for Rev<I> {
     fn try_fold_carrying<C, R, K: Turn<C, I::Item, R>>(
         &mut self,
         init: C,
-        k: &K,
+        turn: &K,
     ) -> Exit<C, I::Error, R> {
-        self.it.try_rfold_carrying(init, k)
+        self.it.try_rfold_carrying(init, turn)
     }
 
     ghost lawful = { lawful_seen rev_parts I.lawful_ends.back };
@@ -54,9 +54,9 @@ impl<I: DoubleEndedFallibleIterator> DoubleEndedFallibleIterator for Rev<I> {
     fn try_rfold_carrying<C, R, K: Turn<C, I::Item, R>>(
         &mut self,
         init: C,
-        k: &K,
+        turn: &K,
     ) -> Exit<C, I::Error, R> {
-        self.it.try_fold_carrying(init, k)
+        self.it.try_fold_carrying(init, turn)
     }
 
     ghost lawful_ends = { lawful_ends_seen rev_parts (lawful_ends_swapped I.lawful_ends) };

@@ -11,7 +11,7 @@ ghost use Rattle.fallible_core.specs.Laws.Filtering.Filter.{lawful_filter, lawfu
 use crate::passing::{fold_in_slot, rfold_in_slot};
 use crate::traits::FallibleIterator;
 use crate::traits::double_ended::DoubleEndedFallibleIterator;
-use fallible_contract::folds::{Exit, FirstTurn, Turn, reached};
+use fallible_contract::folds::{Exit, FirstTurn, Turn, item_of_exit};
 use fallible_contract::passing::{Outcome, Pass};
 
 /// The items to which the predicate answers true. An item on which it fails is lost, and its failure is the answer.
@@ -35,7 +35,7 @@ where
 
     /// Draws until an item is kept, a failure comes or an end comes, and calls the predicate on each item.
     fn next(&mut self) -> Result<Option<I::Item>, I::Error> {
-        reached(self.try_fold_carrying((), &FirstTurn))
+        item_of_exit(self.try_fold_carrying((), &FirstTurn))
     }
 
     fn size_hint(&self) -> (usize, Option<usize>) {
@@ -45,9 +45,9 @@ where
     fn try_fold_carrying<C, R, K: Turn<C, I::Item, R>>(
         &mut self,
         init: C,
-        k: &K,
+        turn: &K,
     ) -> Exit<C, I::Error, R> {
-        fold_in_slot(&mut self.it, &mut self.f, &FilterPass, init, k)
+        fold_in_slot(&mut self.it, &mut self.f, &FilterPass, init, turn)
     }
 
     ghost lawful = { lawful_seen filter_parts (lawful_filter F.FnMut I.lawful) };
@@ -65,15 +65,15 @@ where
 
     /// Draws from behind until an item is kept, a failure comes or an end comes, and calls the predicate on each item.
     fn next_back(&mut self) -> Result<Option<I::Item>, I::Error> {
-        reached(self.try_rfold_carrying((), &FirstTurn))
+        item_of_exit(self.try_rfold_carrying((), &FirstTurn))
     }
 
     fn try_rfold_carrying<C, R, K: Turn<C, I::Item, R>>(
         &mut self,
         init: C,
-        k: &K,
+        turn: &K,
     ) -> Exit<C, I::Error, R> {
-        rfold_in_slot(&mut self.it, &mut self.f, &FilterPass, init, k)
+        rfold_in_slot(&mut self.it, &mut self.f, &FilterPass, init, turn)
     }
 
     ghost lawful_ends = { lawful_ends_seen filter_parts (lawful_ends_filter F.FnMut I.lawful_ends) };

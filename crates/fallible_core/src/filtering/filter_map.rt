@@ -11,7 +11,7 @@ ghost use Rattle.fallible_core.specs.Laws.Filtering.FilterMap.{lawful_filter_map
 use crate::passing::{fold_in_slot, rfold_in_slot};
 use crate::traits::FallibleIterator;
 use crate::traits::double_ended::DoubleEndedFallibleIterator;
-use fallible_contract::folds::{Exit, FirstTurn, Turn, reached};
+use fallible_contract::folds::{Exit, FirstTurn, Turn, item_of_exit};
 use fallible_contract::passing::{Outcome, Pass};
 
 /// The values that the closure answers. An item on which it answers none is left out; an item on which it fails is lost, and its failure is the answer.
@@ -32,7 +32,7 @@ impl<I: FallibleIterator, B, F: FnMut(I::Item) -> Result<Option<B>, I::Error>> F
 
     /// Draws until the closure answers a value, a failure comes or an end comes, and calls the closure on each item.
     fn next(&mut self) -> Result<Option<B>, I::Error> {
-        reached(self.try_fold_carrying((), &FirstTurn))
+        item_of_exit(self.try_fold_carrying((), &FirstTurn))
     }
 
     fn size_hint(&self) -> (usize, Option<usize>) {
@@ -42,9 +42,9 @@ impl<I: FallibleIterator, B, F: FnMut(I::Item) -> Result<Option<B>, I::Error>> F
     fn try_fold_carrying<C, R, K: Turn<C, B, R>>(
         &mut self,
         init: C,
-        k: &K,
+        turn: &K,
     ) -> Exit<C, I::Error, R> {
-        fold_in_slot(&mut self.it, &mut self.f, &FilterMapPass, init, k)
+        fold_in_slot(&mut self.it, &mut self.f, &FilterMapPass, init, turn)
     }
 
     ghost lawful = { lawful_seen filter_map_parts (lawful_filter_map F.FnMut I.lawful) };
@@ -60,15 +60,15 @@ impl<
 
     /// Draws from behind until the closure answers a value, a failure comes or an end comes, and calls the closure on each item.
     fn next_back(&mut self) -> Result<Option<B>, I::Error> {
-        reached(self.try_rfold_carrying((), &FirstTurn))
+        item_of_exit(self.try_rfold_carrying((), &FirstTurn))
     }
 
     fn try_rfold_carrying<C, R, K: Turn<C, B, R>>(
         &mut self,
         init: C,
-        k: &K,
+        turn: &K,
     ) -> Exit<C, I::Error, R> {
-        rfold_in_slot(&mut self.it, &mut self.f, &FilterMapPass, init, k)
+        rfold_in_slot(&mut self.it, &mut self.f, &FilterMapPass, init, turn)
     }
 
     ghost lawful_ends = { lawful_ends_seen filter_map_parts

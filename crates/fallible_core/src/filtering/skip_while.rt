@@ -36,7 +36,9 @@ where
     /// Draws until an item is kept, a failure comes or an end comes, and asks the predicate of each item until it first answered false.
     fn next(&mut self) -> Result<Option<I::Item>, I::Error> {
         let predicate = take_out(&mut self.predicate);
-        let (state, answer) = self.it.find_carrying((self.found, predicate), &Asking);
+        let (state, answer) = self
+            .it
+            .find_carrying((self.found, predicate), &SkipWhileTest);
         let (found, predicate) = state;
         self.found = found;
         self.predicate = Some(predicate);
@@ -55,11 +57,11 @@ where
     fn try_fold_carrying<C, R, K: Turn<C, I::Item, R>>(
         &mut self,
         init: C,
-        k: &K,
+        turn: &K,
     ) -> Exit<C, I::Error, R> {
         match self.next() {
-            Ok(Some(x)) => match k.turn(init, x) {
-                ControlFlow::Continue(carried) => self.it.try_fold_carrying(carried, k),
+            Ok(Some(x)) => match turn.turn(init, x) {
+                ControlFlow::Continue(carried) => self.it.try_fold_carrying(carried, turn),
                 ControlFlow::Break(stop) => Exit::Stopped(stop),
             },
             Ok(None) => Exit::Ended(init),
@@ -72,9 +74,9 @@ where
 
 // The test of `next`, with the flag beside the predicate: accepts an item once the predicate answered false, or where it does so now.
 #[derive(Drop)]
-struct Asking;
+struct SkipWhileTest;
 
-impl<X, E, P: FnMut(&X) -> Result<bool, E>> Test<(bool, P), X, E> for Asking {
+impl<X, E, P: FnMut(&X) -> Result<bool, E>> Test<(bool, P), X, E> for SkipWhileTest {
     ghost can_test = { λ _ state x. skip_takes (takes_at P.FnMut) state x };
 
     ghost tests = { λ _ state x v d. PassTest (skip_call (call_at P.FnMut)) skip_while_outcome

@@ -13,19 +13,19 @@ use fallible_contract::folds::{Exit, Turn};
 use fallible_contract::hints::sum;
 use fallible_contract::searching::Test;
 
-// Which sides of a `Chain` are still drawn: `BackAlone` once a draw from the front met the front's end, and `FrontAlone` once a draw from behind met the back's.
+// Which sides of a `Chain` are still drawn: `SecondAlone` once a draw from the front met the first source's end, and `FirstAlone` once a draw from behind met the second's.
 #[derive(Clone, Debug, Drop)]
 pub(crate) enum StillDrawn {
     Both,
-    FrontAlone,
-    BackAlone,
+    FirstAlone,
+    SecondAlone,
 }
 
-/// The answers of the front up to its first end, and from then on those of the back. A failure changes no side.
+/// The answers of the first source up to its first end, and from then on those of the second. A failure changes no side.
 #[derive(Clone, Debug, Drop)]
 pub struct Chain<T, U> {
-    pub(crate) front: T,
-    pub(crate) back: U,
+    pub(crate) first: T,
+    pub(crate) second: U,
     pub(crate) still_drawn: StillDrawn,
 }
 
@@ -37,49 +37,49 @@ impl<T: FallibleIterator, U: FallibleIterator<Item = T::Item, Error = T::Error>>
 
     ghost contract = { seen_as chain_parts (chain_contract T.contract U.contract) };
 
-    /// While both sides are drawn it draws one answer of the front, and at its first end, in the same call, one of the back, which alone is drawn from then on; a failure changes no side. Where one side alone is drawn, it draws one answer of that side.
+    /// While both sides are drawn it draws one answer of the first, and at its first end, in the same call, one of the second, which alone is drawn from then on; a failure changes no side. Where one side alone is drawn, it draws one answer of that side.
     fn next(&mut self) -> Result<Option<T::Item>, T::Error> {
-        if !matches!(self.still_drawn, StillDrawn::BackAlone) {
-            match self.front.next() {
+        if !matches!(self.still_drawn, StillDrawn::SecondAlone) {
+            match self.first.next() {
                 Ok(Some(x)) => return Ok(Some(x)),
                 Ok(None) => {}
                 Err(e) => return Err(e),
             }
             match self.still_drawn {
-                StillDrawn::FrontAlone => return Ok(None),
-                _ => self.still_drawn = StillDrawn::BackAlone,
+                StillDrawn::FirstAlone => return Ok(None),
+                _ => self.still_drawn = StillDrawn::SecondAlone,
             }
         }
-        self.back.next()
+        self.second.next()
     }
 
     fn size_hint(&self) -> (usize, Option<usize>) {
         match self.still_drawn {
-            StillDrawn::Both => sum(self.front.size_hint(), self.back.size_hint()),
-            StillDrawn::FrontAlone => self.front.size_hint(),
-            StillDrawn::BackAlone => self.back.size_hint(),
+            StillDrawn::Both => sum(self.first.size_hint(), self.second.size_hint()),
+            StillDrawn::FirstAlone => self.first.size_hint(),
+            StillDrawn::SecondAlone => self.second.size_hint(),
         }
     }
 
-    // The front's fold, and at its end, in the same call, the back's; where one side alone is drawn, that side's.
+    // The first's fold, and at its end, in the same call, the second's; where one side alone is drawn, that side's.
     fn try_fold_carrying<C, R, K: Turn<C, T::Item, R>>(
         &mut self,
         init: C,
-        k: &K,
+        turn: &K,
     ) -> Exit<C, T::Error, R> {
         let Chain {
-            front,
-            back,
+            first,
+            second,
             still_drawn,
         } = self;
         match still_drawn {
-            StillDrawn::BackAlone => back.try_fold_carrying(init, k),
-            _ => match front.try_fold_carrying(init, k) {
+            StillDrawn::SecondAlone => second.try_fold_carrying(init, turn),
+            _ => match first.try_fold_carrying(init, turn) {
                 Exit::Ended(carried) => match still_drawn {
-                    StillDrawn::FrontAlone => Exit::Ended(carried),
+                    StillDrawn::FirstAlone => Exit::Ended(carried),
                     _ => {
-                        *still_drawn = StillDrawn::BackAlone;
-                        back.try_fold_carrying(carried, k)
+                        *still_drawn = StillDrawn::SecondAlone;
+                        second.try_fold_carrying(carried, turn)
                     }
                 },
                 exit => exit,
@@ -87,78 +87,78 @@ impl<T: FallibleIterator, U: FallibleIterator<Item = T::Item, Error = T::Error>>
         }
     }
 
-    // The front's count, and then the back's, added up.
+    // The first's count, and then the second's, added up.
     fn count(self) -> Result<usize, T::Error>
     where
         T::Item: Drop,
     {
         let Chain {
-            front,
-            back,
+            first,
+            second,
             still_drawn,
         } = self;
         match still_drawn {
-            StillDrawn::Both => match front.count() {
-                Ok(before) => match back.count() {
+            StillDrawn::Both => match first.count() {
+                Ok(before) => match second.count() {
                     Ok(after) => Ok(before + after),
                     Err(e) => Err(e),
                 },
                 Err(e) => Err(e),
             },
-            StillDrawn::FrontAlone => front.count(),
-            StillDrawn::BackAlone => back.count(),
+            StillDrawn::FirstAlone => first.count(),
+            StillDrawn::SecondAlone => second.count(),
         }
     }
 
-    // The back's last, or where it has none the front's. Where the front fails, the back isn't drawn.
+    // The second's last, or where it has none the first's. Where the first fails, the second isn't drawn.
     fn last(self) -> Result<Option<T::Item>, T::Error>
     where
         T::Item: Drop,
     {
         let Chain {
-            front,
-            back,
+            first,
+            second,
             still_drawn,
         } = self;
         match still_drawn {
-            StillDrawn::Both => match front.last() {
-                Ok(before) => match back.last() {
+            StillDrawn::Both => match first.last() {
+                Ok(before) => match second.last() {
                     Ok(Some(x)) => Ok(Some(x)),
                     Ok(None) => Ok(before),
                     Err(e) => Err(e),
                 },
                 Err(e) => Err(e),
             },
-            StillDrawn::FrontAlone => front.last(),
-            StillDrawn::BackAlone => back.last(),
+            StillDrawn::FirstAlone => first.last(),
+            StillDrawn::SecondAlone => second.last(),
         }
     }
 
-    // The front's search, and where it found none, in the same call, the back's; where one side alone is drawn, that side's.
+    // The first's search, and where it found none, in the same call, the second's; where one side alone is drawn, that side's.
     fn find_carrying<C, K: Test<C, T::Item, T::Error>>(
         &mut self,
         init: C,
-        k: &K,
+        test: &K,
     ) -> (C, Result<Option<T::Item>, T::Error>)
     where
         T::Item: Drop,
     {
         let Chain {
-            front,
-            back,
+            first,
+            second,
             still_drawn,
         } = self;
-        if let StillDrawn::BackAlone = still_drawn {
-            return back.find_carrying(init, k);
+        if let StillDrawn::SecondAlone = still_drawn {
+            return second.find_carrying(init, test);
         }
-        let (carried, answer) = front.find_carrying(init, k);
+        let (carried, answer) = first.find_carrying(init, test);
         match answer {
             Ok(Some(x)) => (carried, Ok(Some(x))),
             Ok(None) => match still_drawn {
-                StillDrawn::FrontAlone => (carried, Ok(None)),
+                StillDrawn::FirstAlone => (carried, Ok(None)),
                 _ => {
-                    *still_drawn = StillDrawn::BackAlone;
-                    back.find_carrying(carried, k)
+                    *still_drawn = StillDrawn::SecondAlone;
+                    second.find_carrying(carried, test)
                 }
             },
             Err(e) => (carried, Err(e)),
@@ -174,41 +174,41 @@ impl<
 > DoubleEndedFallibleIterator for Chain<T, U> {
     ghost ends = { ends_seen_as chain_parts (chain_ends T.ends U.ends) };
 
-    /// While both sides are drawn it draws one answer of the back from behind, and at its first end, in the same call, one of the front from behind, which alone is drawn from then on, from either end; a failure changes no side. Where one side alone is drawn, it draws one answer of that side from behind.
+    /// While both sides are drawn it draws one answer of the second from behind, and at its first end, in the same call, one of the first from behind, which alone is drawn from then on, from either end; a failure changes no side. Where one side alone is drawn, it draws one answer of that side from behind.
     fn next_back(&mut self) -> Result<Option<T::Item>, T::Error> {
-        if !matches!(self.still_drawn, StillDrawn::FrontAlone) {
-            match self.back.next_back() {
+        if !matches!(self.still_drawn, StillDrawn::FirstAlone) {
+            match self.second.next_back() {
                 Ok(Some(x)) => return Ok(Some(x)),
                 Ok(None) => {}
                 Err(e) => return Err(e),
             }
             match self.still_drawn {
-                StillDrawn::BackAlone => return Ok(None),
-                _ => self.still_drawn = StillDrawn::FrontAlone,
+                StillDrawn::SecondAlone => return Ok(None),
+                _ => self.still_drawn = StillDrawn::FirstAlone,
             }
         }
-        self.front.next_back()
+        self.first.next_back()
     }
 
-    // The back's fold from behind, and at its end, in the same call, the front's; where one side alone is drawn, that side's.
+    // The second's fold from behind, and at its end, in the same call, the first's; where one side alone is drawn, that side's.
     fn try_rfold_carrying<C, R, K: Turn<C, T::Item, R>>(
         &mut self,
         init: C,
-        k: &K,
+        turn: &K,
     ) -> Exit<C, T::Error, R> {
         let Chain {
-            front,
-            back,
+            first,
+            second,
             still_drawn,
         } = self;
         match still_drawn {
-            StillDrawn::FrontAlone => front.try_rfold_carrying(init, k),
-            _ => match back.try_rfold_carrying(init, k) {
+            StillDrawn::FirstAlone => first.try_rfold_carrying(init, turn),
+            _ => match second.try_rfold_carrying(init, turn) {
                 Exit::Ended(carried) => match still_drawn {
-                    StillDrawn::BackAlone => Exit::Ended(carried),
+                    StillDrawn::SecondAlone => Exit::Ended(carried),
                     _ => {
-                        *still_drawn = StillDrawn::FrontAlone;
-                        front.try_rfold_carrying(carried, k)
+                        *still_drawn = StillDrawn::FirstAlone;
+                        first.try_rfold_carrying(carried, turn)
                     }
                 },
                 exit => exit,

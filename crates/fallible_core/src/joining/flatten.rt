@@ -2,14 +2,14 @@
 ghost use Rattle.std.specs.Prelude.{◌≡◌, ℕ, [], ◌∷◌, None, Ok, List, Option, Result};
 ghost use Rattle.fallible_contract.specs.Contract.{seen_as};
 ghost use Rattle.fallible_contract.specs.Folds.{CallableCarrying, Carried};
-ghost use Rattle.fallible_core.specs.Joining.Flatten.{FlattenTrace, flatten_contract, BeginTurn, JoiningTakes, JoiningTurn, flatten_parts};
+ghost use Rattle.fallible_core.specs.Joining.Flatten.{FlattenTrace, flatten_contract, IsFlattenNextTurn, JoiningTakes, IsFlattenFoldTurn, flatten_parts};
 ghost use Rattle.fallible_contract.specs.Laws.Contract.{lawful_seen};
 ghost use Rattle.fallible_core.specs.Laws.Joining.Flatten.{lawful_flatten};
 
 use crate::one_to_one::Map;
 use crate::traits::FallibleIterator;
 use crate::traits::conversion::IntoFallibleIterator;
-use fallible_contract::folds::{Exit, Turn, unpack};
+use fallible_contract::folds::{Exit, Turn, draw_of_exit};
 use std::ops::ControlFlow;
 
 /// The answers of the inner iterators `J` that the items become, one inner iterator after the other. The one in hand answers until its end, at which it is dropped; then the next item is drawn. A failure of the inner iterator keeps it. A failure or an end of the outer source is the answer, and the next call draws from it again.
@@ -41,9 +41,9 @@ impl<U: IntoFallibleIterator, I: FallibleIterator<Item = U, Error = U::Error>> F
     fn try_fold_carrying<C, R, K: Turn<C, U::Item, R>>(
         &mut self,
         init: C,
-        k: &K,
+        turn: &K,
     ) -> Exit<C, U::Error, R> {
-        fold_joined(&mut self.it, &mut self.in_hand, init, k)
+        fold_joined(&mut self.it, &mut self.in_hand, init, turn)
     }
 
     ghost lawful = { lawful_seen flatten_parts
@@ -59,7 +59,7 @@ fn next_joined<U: IntoFallibleIterator, O: FallibleIterator<Item = U, Error = U:
     in_hand: &mut Option<U::IntoFallibleIter>,
 ) -> Result<Option<U::Item>, U::Error>
 where
-    requires { (flatten_contract O.contract U.into_gives U.IntoFallibleIter.contract).can
+    requires { (flatten_contract O.contract U.into_gives U.IntoFallibleIter.contract).can_next
         (outer.old, in_hand.old) }
     ensures { FlattenTrace O.contract.steps U.into_gives U.IntoFallibleIter.contract.steps
         (outer.old, in_hand.old) (result ∷ []) (outer.new, in_hand.new) }
@@ -86,27 +86,27 @@ fn begin<U: IntoFallibleIterator, O: FallibleIterator<Item = U, Error = U::Error
     Result<Option<U::Item>, U::Error>,
 )
 where
-    requires { (flatten_contract O.contract U.into_gives U.IntoFallibleIter.contract).can
+    requires { (flatten_contract O.contract U.into_gives U.IntoFallibleIter.contract).can_next
         (outer.old, None) }
     ensures { FlattenTrace O.contract.steps U.into_gives U.IntoFallibleIter.contract.steps
         (outer.old, None) (result.1 ∷ []) (outer.new, result.0) }
 {
-    unpack(outer.try_fold_carrying(None, &Beginning))
+    draw_of_exit(outer.try_fold_carrying(None, &FlattenNextTurn))
 }
 
 // The turn of `begin`: stops with the inner iterator that the item becomes in hand, and its first answer, and goes on where it ends at once.
 #[derive(Drop)]
-struct Beginning;
+struct FlattenNextTurn;
 
 impl<U: IntoFallibleIterator> Turn<
     Option<U::IntoFallibleIter>,
     U,
     (Option<U::IntoFallibleIter>, Result<U::Item, U::Error>),
-> for Beginning {
+> for FlattenNextTurn {
     ghost can_turn = { λ _ _ x. (c : U.IntoFallibleIter) → U.into_gives x c
-        → U.IntoFallibleIter.contract.can c };
+        → U.IntoFallibleIter.contract.can_next c };
 
-    ghost turns = { λ _ in_hand x r. BeginTurn U.into_gives
+    ghost turns = { λ _ in_hand x r. IsFlattenNextTurn U.into_gives
         U.IntoFallibleIter.contract.steps in_hand x r };
 
     fn turn(
@@ -133,28 +133,33 @@ fn fold_joined<
     C,
     R,
     K: Turn<C, U::Item, R>,
->(outer: &mut O, held: &mut Option<U::IntoFallibleIter>, init: C, k: &K) -> Exit<C, U::Error, R>
+>(
+    outer: &mut O,
+    in_hand: &mut Option<U::IntoFallibleIter>,
+    init: C,
+    turn: &K,
+) -> Exit<C, U::Error, R>
 where
-    requires can { (flatten_contract O.contract U.into_gives U.IntoFallibleIter.contract).can
-        (outer.old, held.old) }
-    requires finite { (flatten_contract O.contract U.into_gives U.IntoFallibleIter.contract).has_end
-        (outer.old, held.old) }
+    requires can_next { (flatten_contract O.contract U.into_gives U.IntoFallibleIter.contract).can_next
+        (outer.old, in_hand.old) }
+    requires finite { (flatten_contract O.contract U.into_gives U.IntoFallibleIter.contract).is_finite
+        (outer.old, in_hand.old) }
     requires callable { CallableCarrying
         (flatten_contract O.contract U.into_gives U.IntoFallibleIter.contract).steps
-        (K.turns k.now) (K.can_turn k.now) (outer.old, held.old) init }
+        (K.turns turn.now) (K.can_turn turn.now) (outer.old, in_hand.old) init }
     ensures { Carried (flatten_contract O.contract U.into_gives U.IntoFallibleIter.contract).steps
-        (K.turns k.now) (outer.old, held.old) init result (outer.new, held.new) }
+        (K.turns turn.now) (outer.old, in_hand.old) init result (outer.new, in_hand.new) }
 {
-    let carried = match held {
-        Some(inner) => match inner.try_fold_carrying(init, k) {
+    let carried = match in_hand {
+        Some(inner) => match inner.try_fold_carrying(init, turn) {
             Exit::Ended(carried) => carried,
             exit => return exit,
         },
         None => init,
     };
-    *held = None;
-    let (inner, exit) = fold_outer(outer, carried, k);
-    *held = inner;
+    *in_hand = None;
+    let (inner, exit) = fold_outer(outer, carried, turn);
+    *in_hand = inner;
     exit
 }
 
@@ -165,19 +170,19 @@ fn fold_outer<
     C,
     R,
     K: Turn<C, U::Item, R>,
->(outer: &mut O, init: C, k: &K) -> (Option<U::IntoFallibleIter>, Exit<C, U::Error, R>)
+>(outer: &mut O, init: C, turn: &K) -> (Option<U::IntoFallibleIter>, Exit<C, U::Error, R>)
 where
-    requires can { (flatten_contract O.contract U.into_gives U.IntoFallibleIter.contract).can
+    requires can_next { (flatten_contract O.contract U.into_gives U.IntoFallibleIter.contract).can_next
         (outer.old, None) }
-    requires finite { (flatten_contract O.contract U.into_gives U.IntoFallibleIter.contract).has_end
+    requires finite { (flatten_contract O.contract U.into_gives U.IntoFallibleIter.contract).is_finite
         (outer.old, None) }
     requires callable { CallableCarrying
         (flatten_contract O.contract U.into_gives U.IntoFallibleIter.contract).steps
-        (K.turns k.now) (K.can_turn k.now) (outer.old, None) init }
+        (K.turns turn.now) (K.can_turn turn.now) (outer.old, None) init }
     ensures { Carried (flatten_contract O.contract U.into_gives U.IntoFallibleIter.contract).steps
-        (K.turns k.now) (outer.old, None) init result.1 (outer.new, result.0) }
+        (K.turns turn.now) (outer.old, None) init result.1 (outer.new, result.0) }
 {
-    let turn = Joining { turn: k };
+    let turn = FlattenFoldTurn { turn };
     match outer.try_fold_carrying(init, &turn) {
         Exit::Ended(carried) => (None, Exit::Ended(carried)),
         Exit::Failed(carried, e) => (None, Exit::Failed(carried, e)),
@@ -190,7 +195,7 @@ where
 
 // The turn of the outer source's fold: the inner iterator that the item becomes is folded by the caller's turn. The outer fold goes on where that fold ended, and else stops with the inner iterator and the exit.
 #[derive(Drop)]
-struct Joining<'a, K> {
+struct FlattenFoldTurn<'a, K> {
     turn: &'a K,
 }
 
@@ -198,11 +203,11 @@ impl<'a, U: IntoFallibleIterator, C, R, K: Turn<C, U::Item, R>> Turn<
     C,
     U,
     (U::IntoFallibleIter, Exit<C, U::Error, R>),
-> for Joining<'a, K> {
+> for FlattenFoldTurn<'a, K> {
     ghost can_turn = { λ k c x. JoiningTakes U.into_gives U.IntoFallibleIter.contract
         (K.turns k.turn.now) (K.can_turn k.turn.now) c x };
 
-    ghost turns = { λ k c x r. JoiningTurn U.into_gives U.IntoFallibleIter.contract
+    ghost turns = { λ k c x r. IsFlattenFoldTurn U.into_gives U.IntoFallibleIter.contract
         (K.turns k.turn.now) c x r };
 
     fn turn(

@@ -44,9 +44,9 @@ where
     fn try_fold_carrying<C, R, K: Turn<C, T, R>>(
         &mut self,
         init: C,
-        k: &K,
+        turn: &K,
     ) -> Exit<C, I::Error, R> {
-        fold_passing(&mut self.it, (), &ClonePass, init, k).1
+        fold_passing(&mut self.it, (), &ClonePass, init, turn).1
     }
 
     ghost lawful = { lawful_seen cloned_parts
@@ -69,9 +69,9 @@ where
     fn try_rfold_carrying<C, R, K: Turn<C, T, R>>(
         &mut self,
         init: C,
-        k: &K,
+        turn: &K,
     ) -> Exit<C, I::Error, R> {
-        rfold_passing(&mut self.it, (), &ClonePass, init, k).1
+        rfold_passing(&mut self.it, (), &ClonePass, init, turn).1
     }
 
     ghost lawful_ends = { lawful_ends_seen cloned_parts

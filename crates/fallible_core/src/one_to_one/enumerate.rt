@@ -7,7 +7,7 @@ ghost use Rattle.fallible_core.specs.Laws.OneToOne.Enumerate.{lawful_enumerate};
 
 use crate::passing::fold_passing;
 use crate::traits::FallibleIterator;
-use fallible_contract::folds::{Exit, Reaching, Turn, reached};
+use fallible_contract::folds::{Exit, NthTurn, Turn, item_of_exit};
 use fallible_contract::passing::{Outcome, Pass, passed};
 
 /// Each item beside the number of items drawn before it. Failures and ends pass, and don't count.
@@ -42,9 +42,9 @@ where
     fn try_fold_carrying<C, R, K: Turn<C, (usize, I::Item), R>>(
         &mut self,
         init: C,
-        k: &K,
+        turn: &K,
     ) -> Exit<C, I::Error, R> {
-        let (count, exit) = fold_passing(&mut self.it, self.count, &EnumeratePass, init, k);
+        let (count, exit) = fold_passing(&mut self.it, self.count, &EnumeratePass, init, turn);
         self.count = count;
         exit
     }
@@ -56,7 +56,7 @@ where
 
     /// One fold of the source, which counts each item that it gives.
     fn nth(&mut self, n: usize) -> Result<Option<(usize, I::Item)>, I::Error> {
-        reached(self.try_fold_carrying(n, &Reaching))
+        item_of_exit(self.try_fold_carrying(n, &NthTurn))
     }
 
     ghost lawful = { lawful_seen enumerate_parts (lawful_enumerate I.lawful) };

@@ -45,9 +45,9 @@ where
     fn try_fold_carrying<C, R, K: Turn<C, I::Item, R>>(
         &mut self,
         init: C,
-        k: &K,
+        turn: &K,
     ) -> Exit<C, I::Error, R> {
-        fold_in_slot(&mut self.it, &mut self.f, &InspectPass, init, k)
+        fold_in_slot(&mut self.it, &mut self.f, &InspectPass, init, turn)
     }
 
     ghost lawful = { lawful_seen inspect_parts (lawful_inspect F.FnMut I.lawful) };
@@ -71,9 +71,9 @@ where
     fn try_rfold_carrying<C, R, K: Turn<C, I::Item, R>>(
         &mut self,
         init: C,
-        k: &K,
+        turn: &K,
     ) -> Exit<C, I::Error, R> {
-        rfold_in_slot(&mut self.it, &mut self.f, &InspectPass, init, k)
+        rfold_in_slot(&mut self.it, &mut self.f, &InspectPass, init, turn)
     }
 
     ghost lawful_ends = { lawful_ends_seen inspect_parts

@@ -51,9 +51,9 @@ impl<I: FallibleIterator, B, F: FnMut(I::Item) -> Result<B, I::Error>> FallibleI
     fn try_fold_carrying<C, R, K: Turn<C, B, R>>(
         &mut self,
         init: C,
-        k: &K,
+        turn: &K,
     ) -> Exit<C, I::Error, R> {
-        fold_in_slot(&mut self.it, &mut self.f, &MapPass, init, k)
+        fold_in_slot(&mut self.it, &mut self.f, &MapPass, init, turn)
     }
 
     ghost lawful = { lawful_seen map_parts (lawful_map F.FnMut I.lawful) };
@@ -75,9 +75,9 @@ impl<
     fn try_rfold_carrying<C, R, K: Turn<C, B, R>>(
         &mut self,
         init: C,
-        k: &K,
+        turn: &K,
     ) -> Exit<C, I::Error, R> {
-        rfold_in_slot(&mut self.it, &mut self.f, &MapPass, init, k)
+        rfold_in_slot(&mut self.it, &mut self.f, &MapPass, init, turn)
     }
 
     ghost lawful_ends = { lawful_ends_seen map_parts (lawful_ends_map F.FnMut I.lawful_ends) };

@@ -35,8 +35,12 @@ impl<I: FallibleIterator, B, F: FnMut(I::Error) -> B> FallibleIterator for MapEr
         self.it.size_hint()
     }
 
-    fn try_fold_carrying<C, R, K: Turn<C, I::Item, R>>(&mut self, init: C, k: &K) -> Exit<C, B, R> {
-        exited(self.it.try_fold_carrying(init, k), &mut self.f)
+    fn try_fold_carrying<C, R, K: Turn<C, I::Item, R>>(
+        &mut self,
+        init: C,
+        turn: &K,
+    ) -> Exit<C, B, R> {
+        exited(self.it.try_fold_carrying(init, turn), &mut self.f)
     }
 
     /// The source's count, or the closure's value on the failure that it met.
@@ -79,9 +83,9 @@ impl<I: DoubleEndedFallibleIterator, B, F: FnMut(I::Error) -> B> DoubleEndedFall
     fn try_rfold_carrying<C, R, K: Turn<C, I::Item, R>>(
         &mut self,
         init: C,
-        k: &K,
+        turn: &K,
     ) -> Exit<C, B, R> {
-        exited(self.it.try_rfold_carrying(init, k), &mut self.f)
+        exited(self.it.try_rfold_carrying(init, turn), &mut self.f)
     }
 
     ghost lawful_ends = { lawful_ends_seen map_err_parts

@@ -39,9 +39,9 @@ impl<I: FallibleIterator, B, F: FnMut(I::Item) -> Result<Option<B>, I::Error>> F
     fn try_fold_carrying<C, R, K: Turn<C, B, R>>(
         &mut self,
         init: C,
-        k: &K,
+        turn: &K,
     ) -> Exit<C, I::Error, R> {
-        fold_in_slot(&mut self.it, &mut self.f, &MapWhilePass, init, k)
+        fold_in_slot(&mut self.it, &mut self.f, &MapWhilePass, init, turn)
     }
 
     ghost lawful = { lawful_seen map_while_parts (lawful_map_while F.FnMut I.lawful) };

@@ -18,7 +18,7 @@ where
     /// The reference keeps the whole borrowed while it is used. A caller whose proof goes on after it takes `look`, which hands the item to a closure, or `peek_copied`.
     pub fn peek(&mut self) -> Result<Option<&I::Item>, I::Error>
     where
-        requires { (peekable_contract I.contract).can (peekable_parts self.old) }
+        requires { (peekable_contract I.contract).can_next (peekable_parts self.old) }
         ensures answer { (left : I × Option (Option I.Item))
             × Peeks I.contract.steps (peekable_parts self.old) (seen result) left }
         ensures* held { sem 𝓛 (follows_so (the_row I.row I.Item.row I.Error.row)
@@ -34,12 +34,12 @@ where
 
     /// What the closure answers on a reference to the next item, or none at an end. It looks as `peek` does: where an answer is held it is that one, and nothing is drawn; else it draws once, and holds an item or an end. A failure is answered, and is not held. What is left may be drawn from again, and a caller's proof knows what is held.
     ///
-    /// It asks that the closure may be called on a reference to each item that may come.
+    /// Asks that the closure may be called on a reference to each item that may come.
     pub fn look<R, F: Fn(&I::Item) -> R>(&mut self, f: F) -> Result<Option<R>, I::Error>
     where
-        requires can { (peekable_contract I.contract).can (peekable_parts self.old) }
+        requires can_next { (peekable_contract I.contract).can_next (peekable_parts self.old) }
         requires callable { IsTestable F.Fn f
-            ((peekable_contract I.contract).gives (peekable_parts self.old)) }
+            ((peekable_contract I.contract).may_give (peekable_parts self.old)) }
         ensures looked { Looks I.contract.steps F.Fn f
             (peekable_parts self.old) result (peekable_parts self.new) }
         ensures stays { Stays (peekable_contract I.contract)
@@ -56,7 +56,7 @@ where
     pub fn peek_copied(&mut self) -> Result<Option<I::Item>, I::Error>
     where
         I::Item: Copy,
-        requires { (peekable_contract I.contract).can (peekable_parts self.old) }
+        requires { (peekable_contract I.contract).can_next (peekable_parts self.old) }
         ensures peeked { Peeks I.contract.steps
             (peekable_parts self.old) result (peekable_parts self.new) }
         ensures stays { Stays (peekable_contract I.contract)
@@ -69,7 +69,7 @@ where
     /// Draws once where nothing is held, and holds an item or an end; a failure is answered, and is not held. With `held` it does what `peek` does, in two steps after which a caller's proof knows what is held.
     pub fn fill(&mut self) -> Result<(), I::Error>
     where
-        requires { (peekable_contract I.contract).can (peekable_parts self.old) }
+        requires { (peekable_contract I.contract).can_next (peekable_parts self.old) }
         ensures filled { Fills I.contract.steps
             (peekable_parts self.old) result (peekable_parts self.new) }
         ensures stays { Stays (peekable_contract I.contract)
@@ -84,7 +84,7 @@ where
     // Draws once, where nothing is held, and holds an item or an end.
     fn hold(&mut self) -> Result<(), I::Error>
     where
-        requires can { (peekable_contract I.contract).can (peekable_parts self.old) }
+        requires can_next { (peekable_contract I.contract).can_next (peekable_parts self.old) }
         requires empty { self.old.held ≡ None }
         ensures filled { Fills I.contract.steps
             (peekable_parts self.old) result (peekable_parts self.new) }

@@ -48,15 +48,15 @@ where
     fn try_fold_carrying<C, R, K: Turn<C, I::Item, R>>(
         &mut self,
         init: C,
-        k: &K,
+        turn: &K,
     ) -> Exit<C, I::Error, R> {
         match self.held.take() {
-            Some(Some(x)) => match k.turn(init, x) {
-                ControlFlow::Continue(carried) => self.it.try_fold_carrying(carried, k),
+            Some(Some(x)) => match turn.turn(init, x) {
+                ControlFlow::Continue(carried) => self.it.try_fold_carrying(carried, turn),
                 ControlFlow::Break(stop) => Exit::Stopped(stop),
             },
             Some(None) => Exit::Ended(init),
-            None => self.it.try_fold_carrying(init, k),
+            None => self.it.try_fold_carrying(init, turn),
         }
     }
 
@@ -69,12 +69,12 @@ where
 {
     /// The next item, where the closure answers true on it; else it stays held, and the answer is none. An end is answered as none and stays held, and the closure isn't called. It draws once where nothing is held; a failure that comes then is the answer, and is not held. What is left may be drawn from again.
     ///
-    /// It asks that the closure may be called on a reference to each item that may come.
+    /// Asks that the closure may be called on a reference to each item that may come.
     pub fn next_if<F: Fn(&I::Item) -> bool>(&mut self, f: F) -> Result<Option<I::Item>, I::Error>
     where
-        requires can { (peekable_contract I.contract).can (peekable_parts self.old) }
+        requires can_next { (peekable_contract I.contract).can_next (peekable_parts self.old) }
         requires callable { IsTestable F.Fn f
-            ((peekable_contract I.contract).gives (peekable_parts self.old)) }
+            ((peekable_contract I.contract).may_give (peekable_parts self.old)) }
         ensures taken { NextIf I.contract.steps (TestedBy F.Fn f)
             (peekable_parts self.old) result (peekable_parts self.new) }
         ensures stays { Stays (peekable_contract I.contract)
@@ -101,7 +101,7 @@ where
     pub fn next_if_eq(&mut self, expected: &I::Item) -> Result<Option<I::Item>, I::Error>
     where
         I::Item: PartialEq,
-        requires { (peekable_contract I.contract).can (peekable_parts self.old) }
+        requires { (peekable_contract I.contract).can_next (peekable_parts self.old) }
         ensures taken { NextIf I.contract.steps (λ x b. b ≡ I.Item.eq x expected.now)
             (peekable_parts self.old) result (peekable_parts self.new) }
         ensures stays { Stays (peekable_contract I.contract)

@@ -26,9 +26,9 @@ impl<I: FallibleIterator> FallibleIterator for &mut I {
     fn try_fold_carrying<C, R, K: Turn<C, I::Item, R>>(
         &mut self,
         init: C,
-        k: &K,
+        turn: &K,
     ) -> Exit<C, I::Error, R> {
-        (**self).try_fold_carrying(init, k)
+        (**self).try_fold_carrying(init, turn)
     }
 
     fn nth(&mut self, n: usize) -> Result<Option<I::Item>, I::Error>
@@ -51,9 +51,9 @@ impl<I: DoubleEndedFallibleIterator> DoubleEndedFallibleIterator for &mut I {
     fn try_rfold_carrying<C, R, K: Turn<C, I::Item, R>>(
         &mut self,
         init: C,
-        k: &K,
+        turn: &K,
     ) -> Exit<C, I::Error, R> {
-        (**self).try_rfold_carrying(init, k)
+        (**self).try_rfold_carrying(init, turn)
     }
 
     ghost lawful_ends = { lawful_ends_borrowed I.lawful_ends };

@@ -7,33 +7,33 @@ ghost use Rattle.fallible_contract.specs.Lists.{ActsWith, Converts, folded};
 ghost use Rattle.fallible_contract.specs.Folds.{CallableCarrying, Carried, CallableInFold, call_with, takes_with, Folded};
 
 use crate::traits::FallibleIterator;
-use fallible_contract::folds::{Exit, Folding, Turn, folded_at};
+use fallible_contract::folds::{Exit, TryFoldTurn, Turn, fold_of_exit};
 use std::ops::ControlFlow;
 
-/// A fallible iterator that may be drawn from behind as well. Draws from both ends may be made one after another, in any order; a number to come stays one after them all, and the hint is what the type's rule says of what is left.
+/// A fallible iterator that may be drawn from behind as well. Draws from both ends may be made one after another, in any order; a bound stays one after them all, and the hint is what the type's rule says of what is left.
 ///
-/// A type of one's own writes `next_back` and `ends`: its step from behind, and what may come from either end. `counting_down_ends` of `specs/Ends` makes that of a step. A search then finds `lawful_ends`.
+/// A type of one's own writes `next_back` and `ends`: its step from behind, and what may come from either end. `counted_ends` of `specs/Ends` makes that of a step. A search then finds `lawful_ends`.
 pub trait DoubleEndedFallibleIterator: FallibleIterator {
     // What the contract says of draws from behind.
     ghost ends: { Ends Self Self.Item Self.Error };
 
     /// One answer from behind: an item, a failure or an end. The step from behind says which, and what is left.
     fn next_back(&mut self) -> Result<Option<Self::Item>, Self::Error>
-        requires { ends.can self.old }
+        requires { ends.can_next self.old }
         ensures { ends.steps self.old result self.new };
 
     // Draws from behind until an end, a failure or a turn that stops, and hands the carried value back at each exit. Every fold from behind goes through it, and a type may override it for all of them. It is no part of the surface.
     fn try_rfold_carrying<C, R, K: Turn<C, Self::Item, R>>(
         &mut self,
         init: C,
-        k: &K,
+        turn: &K,
     ) -> Exit<C, Self::Error, R>
     where
-        requires can { ends.can self.old }
-        requires finite { Self.contract.has_end self.old }
-        requires callable { CallableCarrying ends.steps (K.turns k.now) (K.can_turn k.now)
+        requires can_next { ends.can_next self.old }
+        requires finite { Self.contract.is_finite self.old }
+        requires callable { CallableCarrying ends.steps (K.turns turn.now) (K.can_turn turn.now)
             self.old init }
-        ensures carried { Carried ends.steps (K.turns k.now) self.old init result self.new }
+        ensures carried { Carried ends.steps (K.turns turn.now) self.old init result self.new }
         ensures stays { Stays (from_back Self.contract ends) self.old self.new }
     {
         let mut carried = init;
@@ -42,7 +42,7 @@ pub trait DoubleEndedFallibleIterator: FallibleIterator {
             match self.next_back() {
                 Ok(None) => return Exit::Ended(carried),
                 Err(e) => return Exit::Failed(carried, e),
-                Ok(Some(x)) => match k.turn(carried, x) {
+                Ok(Some(x)) => match turn.turn(carried, x) {
                     ControlFlow::Continue(c) => carried = c,
                     ControlFlow::Break(stop) => return Exit::Stopped(stop),
                 },
@@ -53,14 +53,14 @@ pub trait DoubleEndedFallibleIterator: FallibleIterator {
 
     /// `try_fold` from behind: calls the closure on the value so far and each item, the last one first. At the end it answers the last value; at a failure that failure, converted; where the closure fails, its error. Nothing is drawn after the answer that decides, and what is left may be drawn from again, from either end.
     ///
-    /// It asks a number to come, and that the closure may be called on each item that may come from behind with the value so far.
+    /// Asks that it is finite, and that the closure may be called on each item that may come from behind with the value so far.
     final fn try_rfold<B, E, F>(&mut self, init: B, f: F) -> Result<B, E>
     where
         B: Drop,
         E: From<Self::Error>,
         F: FnMut(B, Self::Item) -> Result<B, E>,
-        requires can { ends.can self.old }
-        requires finite { Self.contract.has_end self.old }
+        requires can_next { ends.can_next self.old }
+        requires finite { Self.contract.is_finite self.old }
         requires callable { CallableInFold ends.steps (call_with F.FnMut) (takes_with F.FnMut)
             self.old f init }
         ensures folded { Folded ends.steps (call_with F.FnMut) E.from_gives
@@ -70,7 +70,7 @@ pub trait DoubleEndedFallibleIterator: FallibleIterator {
             (λ h l. result ≡ folded convert h init l) }
         ensures stays { Stays (from_back Self.contract ends) self.old self.new }
     {
-        folded_at(self.try_rfold_carrying((init, f), &Folding))
+        fold_of_exit(self.try_rfold_carrying((init, f), &TryFoldTurn))
     }
 
     /// `try_rfold` on the iterator itself, where the closure fails with the iterator's own error. It asks what `try_rfold` asks.
@@ -78,8 +78,8 @@ pub trait DoubleEndedFallibleIterator: FallibleIterator {
     where
         B: Drop,
         F: FnMut(B, Self::Item) -> Result<B, Self::Error>,
-        requires can { ends.can self }
-        requires finite { Self.contract.has_end self }
+        requires can_next { ends.can_next self }
+        requires finite { Self.contract.is_finite self }
         requires callable { CallableInFold ends.steps (call_with F.FnMut) (takes_with F.FnMut)
             self f init }
         ensures folded { (left : Self) × Folded ends.steps (call_with F.FnMut)
@@ -90,13 +90,13 @@ pub trait DoubleEndedFallibleIterator: FallibleIterator {
         self.try_rfold(init, f)
     }
 
-    // What the other functions know of draws from both ends: see `Goes`.
+    // What the other functions know of draws from both ends: see `KeptByDraw`.
     ghost lawful_ends: { LawfulEnds Self.contract ends };
 
     /// `next`, which also says that what is left may be drawn from again, from either end. `draw` says it of the front alone.
     final fn draw_front(&mut self) -> Result<Option<Self::Item>, Self::Error>
     where
-        requires { ends.can self.old }
+        requires { ends.can_next self.old }
         ensures drawn { Self.contract.steps self.old result self.new }
         ensures stays { Stays (from_front Self.contract ends) self.old self.new }
     {
@@ -106,7 +106,7 @@ pub trait DoubleEndedFallibleIterator: FallibleIterator {
     /// `next_back`, which also says that what is left may be drawn from again, from either end.
     final fn draw_back(&mut self) -> Result<Option<Self::Item>, Self::Error>
     where
-        requires { ends.can self.old }
+        requires { ends.can_next self.old }
         ensures drawn { ends.steps self.old result self.new }
         ensures stays { Stays (from_back Self.contract ends) self.old self.new }
     {

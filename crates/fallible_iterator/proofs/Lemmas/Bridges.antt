@@ -10,7 +10,7 @@ use Rattle.fallible_contract.specs.declared.answers.Side.TheVariants.{Front, Bac
 use Rattle.fallible_contract.specs.Traces.{Answered, Run}
 use Rattle.fallible_contract.specs.Contract.{Contract, Lawful}
 use Rattle.fallible_contract.specs.Ends.{Ends, LawfulEnds, from_back}
-use Rattle.fallible_contract.specs.Listed.{Mix}
+use Rattle.fallible_contract.specs.BothEnds.{RunAtEnds}
 use Rattle.fallible_contract.specs.Lists.{AlwaysGives, Lists}
 use Rattle.fallible_contract.specs.Laws.Contract.{stays_run}
 use Rattle.fallible_iterator.specs.Sources.Std.{std_step, element_by, IsAskable, IsAskableAtEnds}
@@ -70,10 +70,10 @@ module _ {V S A E : Type 0} (m : Contract S A E) (view : V → S) where
   gives s o t = m.steps (view s) (option_transpose o) (view t)
 
   abbrev can : V → Type 0
-  can s = m.can (view s)
+  can s = m.can_next (view s)
 
   abbrev remaining : V → Count
-  remaining s = m.elements (view s)
+  remaining s = m.remaining (view s)
 
   abbrev step : V → Answered A E → V → Type 0
   step = std_step {A = A} {E = E} Ok Err can gives remaining
@@ -85,35 +85,35 @@ module _ {V S A E : Type 0} (m : Contract S A E) (view : V → S) where
   run_below [] s t e = ap view e
   run_below (r ∷ rest) s t h = (view h.0, below s r h.0 h.1, run_below rest h.0 t h.2)
 
-  never_rises_at : (s t : V) → Lawful m → m.can (view s) → step s (Ok None) t → IsFinite (remaining s) → size (remaining t) ≤ size (remaining s)
-  never_rises_at s t l c h f = ((l.goes (view s) (Ok None) (view t) c h.0).answer.1 f).1
+  never_rises_at : (s t : V) → Lawful m → m.can_next (view s) → step s (Ok None) t → IsFinite (remaining s) → size (remaining t) ≤ size (remaining s)
+  never_rises_at s t l c h f = ((l.kept_by_draw (view s) (Ok None) (view t) c h.0).answer.1 f).1
 
-  pub askable : Lawful m → (s : V) → m.can (view s) → IsAskable {A = A} {E = E} Ok Err can gives remaining s
+  pub askable : Lawful m → (s : V) → m.can_next (view s) → IsAskable {A = A} {E = E} Ok Err can gives remaining s
   askable l s c = record {
-    asked = λ trace t ran. (stays_run l (view s) trace (view t) c (run_below trace s t ran)).can;
-    never_rises = λ trace t u ran h. never_rises_at t u l (stays_run l (view s) trace (view t) c (run_below trace s t ran)).can h;
+    asked = λ trace t ran. (stays_run l (view s) trace (view t) c (run_below trace s t ran)).can_next;
+    never_rises = λ trace t u ran h. never_rises_at t u l (stays_run l (view s) trace (view t) c (run_below trace s t ran)).can_next h;
   }
 
   -- each draw makes the progress that std asks
-  progresses : Lawful m → (s : V) (r : Answered A E) (t : V) → m.can (view s) → m.steps (view s) r (view t) → MakesProgress can remaining s (element_by {A = A} {E = E} Ok Err r) t
-  progresses l s (Ok (Some x)) t c h = let g = l.goes (view s) (Ok (Some x)) (view t) c h in record { on = λ f. let less = g.answer.2 f in (g.can, less.0, less.1); keeps = g.can; rests = λ f. tt }
-  progresses l s (Ok None) t c h = let g = l.goes (view s) (Ok None) (view t) c h in record { on = λ f. tt; keeps = tt; rests = λ f. (g.answer.1 f).0 }
-  progresses l s (Err e) t c h = let g = l.goes (view s) (Err e) (view t) c h in record { on = λ f. let less = g.answer.2 f in (g.can, less.0, less.1); keeps = g.can; rests = λ f. tt }
+  progresses : Lawful m → (s : V) (r : Answered A E) (t : V) → m.can_next (view s) → m.steps (view s) r (view t) → MakesProgress can remaining s (element_by {A = A} {E = E} Ok Err r) t
+  progresses l s (Ok (Some x)) t c h = let g = l.kept_by_draw (view s) (Ok (Some x)) (view t) c h in record { on = λ f. let less = g.answer.2 f in (g.can_next, less.0, less.1); keeps = g.can_next; rests = λ f. tt }
+  progresses l s (Ok None) t c h = let g = l.kept_by_draw (view s) (Ok None) (view t) c h in record { on = λ f. tt; keeps = tt; rests = λ f. (g.answer.1 f).0 }
+  progresses l s (Err e) t c h = let g = l.kept_by_draw (view s) (Err e) (view t) c h in record { on = λ f. let less = g.answer.2 f in (g.can_next, less.0, less.1); keeps = g.can_next; rests = λ f. tt }
 
-  above : Lawful m → (s : V) (r : Answered A E) (t : V) → m.can (view s) → m.steps (view s) r (view t) → step s r t
+  above : Lawful m → (s : V) (r : Answered A E) (t : V) → m.can_next (view s) → m.steps (view s) r (view t) → step s r t
   above l s r t c h = (subst (λ (z : Answered A E). m.steps (view s) z (view t)) (sym (converted_back r)) h, progresses l s r t c h)
 
   module _ (make : S → V) (made : (s : V) → make (view s) ≡ s) (has : (p : S) → view (make p) ≡ p) where
-    run_above : Lawful m → (trace : List (Answered A E)) (s t : V) → m.can (view s) → Run m.steps (view s) trace (view t) → Run step s trace t
+    run_above : Lawful m → (trace : List (Answered A E)) (s t : V) → m.can_next (view s) → Run m.steps (view s) trace (view t) → Run step s trace t
     run_above l [] s t c e = sym (made s) ∙ ap make e ∙ made t
     run_above l (r ∷ rest) s t c h =
         let u : V = make h.0 in
         let at : h.0 ≡ view u = sym (has h.0) in
         let first : m.steps (view s) r (view u) = subst (λ (z : S). m.steps (view s) r z) at h.1 in
-        let g = l.goes (view s) r (view u) c first in
-        (u, above l s r u c first, run_above l rest u t g.can (subst (λ (z : S). Run m.steps z rest (view t)) at h.2))
+        let g = l.kept_by_draw (view s) r (view u) c first in
+        (u, above l s r u c first, run_above l rest u t g.can_next (subst (λ (z : S). Run m.steps z rest (view t)) at h.2))
 
-    pub runs_converted : Lawful m → (s : V) (trace : List (Answered A E)) (t : V) → m.can (view s) → Run step s trace t ↔ Run m.steps (view s) trace (view t)
+    pub runs_converted : Lawful m → (s : V) (trace : List (Answered A E)) (t : V) → m.can_next (view s) → Run step s trace t ↔ Run m.steps (view s) trace (view t)
     runs_converted l s trace t c = (run_below trace s t, run_above l trace s t c)
 
   lists_above : (l : List (Result A E)) (s : V) → AlwaysGives m.steps (view s) l → AlwaysGives step s l
@@ -132,15 +132,15 @@ module _ {V S A E : Type 0} {m : Contract S A E} {e : Ends S A E} (view : V → 
   abbrev back : V → Answered A E → V → Type 0
   back = step (from_back m e) view
 
-  can_after : (drawn : List (Side × Answered A E)) (s t : V) → e.can (view s) → Mix front back s drawn t → e.can (view t)
-  can_after [] s t c same = subst (λ (u : V). e.can (view u)) same c
-  can_after ((Front, r) ∷ drawn) s t c h = can_after drawn h.0 t (l.front.goes (view s) r (view h.0) c (below m view s r h.0 h.1)).can h.2
-  can_after ((Back, r) ∷ drawn) s t c h = can_after drawn h.0 t (l.back.goes (view s) r (view h.0) c (below (from_back m e) view s r h.0 h.1)).can h.2
+  can_after : (drawn : List (Side × Answered A E)) (s t : V) → e.can_next (view s) → RunAtEnds front back s drawn t → e.can_next (view t)
+  can_after [] s t c same = subst (λ (u : V). e.can_next (view u)) same c
+  can_after ((Front, r) ∷ drawn) s t c h = can_after drawn h.0 t (l.front.kept_by_draw (view s) r (view h.0) c (below m view s r h.0 h.1)).can_next h.2
+  can_after ((Back, r) ∷ drawn) s t c h = can_after drawn h.0 t (l.back.kept_by_draw (view s) r (view h.0) c (below (from_back m e) view s r h.0 h.1)).can_next h.2
 
-  pub askable_at_ends : (s : V) → e.can (view s) → IsAskableAtEnds {A = A} {E = E} Ok Err (can m view) (can (from_back m e) view) (gives m view) (gives (from_back m e) view) (remaining m view) s
+  pub askable_at_ends : (s : V) → e.can_next (view s) → IsAskableAtEnds {A = A} {E = E} Ok Err (can m view) (can (from_back m e) view) (gives m view) (gives (from_back m e) view) (remaining m view) s
   askable_at_ends s c = record {
     asked = λ drawn t mixed. l.front_can (view t) (can_after drawn s t c mixed);
     asked_back = λ drawn t mixed. can_after drawn s t c mixed;
-    never_rises = λ drawn t u mixed h f. ((l.front.goes (view t) (Ok None) (view u) (can_after drawn s t c mixed) h.0).answer.1 f).1;
-    never_rises_back = λ drawn t u mixed h f. ((l.back.goes (view t) (Ok None) (view u) (can_after drawn s t c mixed) h.0).answer.1 f).1;
+    never_rises = λ drawn t u mixed h f. ((l.front.kept_by_draw (view t) (Ok None) (view u) (can_after drawn s t c mixed) h.0).answer.1 f).1;
+    never_rises_back = λ drawn t u mixed h f. ((l.back.kept_by_draw (view t) (Ok None) (view u) (can_after drawn s t c mixed) h.0).answer.1 f).1;
   }

@@ -4,7 +4,7 @@ pub mod Cutting
 pub mod Drawn
 pub mod Filtering
 pub mod Joining
-pub mod Listed
+pub mod ListsBothEnds
 pub mod OneToOne
 pub mod Passing
 pub mod Peeking

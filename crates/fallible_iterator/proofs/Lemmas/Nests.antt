@@ -28,10 +28,10 @@ module _ {S F X R B E : Type 0} (steps : S → Answered X E → S → Type 0) {c
 
 module _ {S A E : Type 0} (steps : S → Answered A E → S → Type 0) where
   pub take_of_list : {p q : S × ℕ} {trace : List (Answered A E)} → (h : TakeTrace steps p trace q) → TakeTrace first_of (h.source_trace, p.1) trace ([], q.1)
-  take_of_list h = record { source_trace = h.source_trace; ends = h.ends; drawn = all_drawn h.source_trace; answers = h.answers; fronts = h.fronts; at_most = h.at_most; over = h.over; remaining = h.remaining }
+  take_of_list h = record { source_trace = h.source_trace; ends = h.ends; drawn = all_drawn h.source_trace; answers = h.answers; prefixes = h.prefixes; at_most = h.at_most; over = h.over; remaining = h.remaining }
 
   pub take_of_source : {p q : S × ℕ} {l : List (Answered A E)} {trace : List (Answered A E)} → Run steps p.0 l q.0 → TakeTrace first_of (l, p.1) trace ([], q.1) → TakeTrace steps p trace q
-  take_of_source {p = p} {q = q} {l = l} ran h = record { source_trace = h.source_trace; ends = h.ends; drawn = subst (λ (k : List (Answered A E)). Run steps p.0 k q.0) (drawn_all h.source_trace l h.drawn) ran; answers = h.answers; fronts = h.fronts; at_most = h.at_most; over = h.over; remaining = h.remaining }
+  take_of_source {p = p} {q = q} {l = l} ran h = record { source_trace = h.source_trace; ends = h.ends; drawn = subst (λ (k : List (Answered A E)). Run steps p.0 k q.0) (drawn_all h.source_trace l h.drawn) ran; answers = h.answers; prefixes = h.prefixes; at_most = h.at_most; over = h.over; remaining = h.remaining }
 
 -- Draws through a reference keep its name.
 pub same_name : {S A E : Type 0} (steps : MutBor S → Answered A E → MutBor S → Type 0) → ((s : MutBor S) (r : Answered A E) (t : MutBor S) → steps s r t → t.ghost_name ≡ s.ghost_name) → (trace : List (Answered A E)) (s t : MutBor S) → Run steps s trace t → t.ghost_name ≡ s.ghost_name

@@ -5,7 +5,7 @@ use Rattle.std.specs.Fn.{Called, Mut}
 use Rattle.fallible_iterator.specs.declared.sources.from_fn.FromFn.{FromFn}
 use Rattle.fallible_contract.specs.Closures.{IsCallable, MayAnswer}
 use Rattle.fallible_contract.specs.Traces.{Answered, item, failure}
-use Rattle.fallible_contract.specs.Contract.{Contract, unbounded}
+use Rattle.fallible_contract.specs.Contract.{Contract, unbounded_contract}
 
 -- the closure
 abbrev pub from_fn_parts : {F : Type 0} → FromFn F → F
@@ -20,10 +20,10 @@ module _ {F A E : Type 0} (g : Mut F (Unit {0}) (Answered A E)) where
   abbrev pub FromFnTrace : F → List (Answered A E) → F → Type 0
   FromFnTrace f trace h = FoldsTo (λ p r q. Called g p tt r q) f trace h
 
-  -- `FromFn`'s contract: the closure may be called in each state that calls bring it to. It has a number to come only where its runs do.
+  -- `FromFn`'s contract: the closure may be called in each state that calls bring it to. It has a bound only where its runs do.
   abbrev pub from_fn_contract : Contract F A E
-  from_fn_contract = record (unbounded (λ f r h. Called g f tt r h)) {
-    can = λ f. IsCallable (call_of_none g) (λ p _. g.pre p tt) (λ _. ⊤) f;
-    gives = λ f x. MayAnswer (call_of_none g) (λ _. ⊤) f (λ _ r. r ≡ item x);
-    fails = λ f e. MayAnswer (call_of_none g) (λ _. ⊤) f (λ _ r. r ≡ failure e);
+  from_fn_contract = record (unbounded_contract (λ f r h. Called g f tt r h)) {
+    can_next = λ f. IsCallable (call_of_none g) (λ p _. g.pre p tt) (λ _. ⊤) f;
+    may_give = λ f x. MayAnswer (call_of_none g) (λ _. ⊤) f (λ _ r. r ≡ item x);
+    may_fail = λ f e. MayAnswer (call_of_none g) (λ _. ⊤) f (λ _ r. r ≡ failure e);
   }

@@ -3,7 +3,7 @@ use Rattle.std.specs.Prelude.{Option, Some, ◌≡◌, ◌≤◌, ⊤}
 use Rattle.std.specs.Iterator.{at_most}
 use Rattle.fallible_iterator.specs.declared.sources.once.Once.{Once}
 use Rattle.fallible_contract.specs.Traces.{item}
-use Rattle.fallible_contract.specs.Contract.{Contract, no_names}
+use Rattle.fallible_contract.specs.Contract.{Contract, no_lenders}
 use Rattle.fallible_contract.specs.Held.{once_step, held_count}
 
 -- the item that is still to come
@@ -13,13 +13,13 @@ once_parts s = s.value
 -- `Once`'s contract: what is held is all that may come.
 abbrev pub once_contract : {A E : Type 0} → Contract (Option A) A E
 once_contract = record {
-  can = λ _. ⊤;
+  can_next = λ _. ⊤;
   steps = once_step item;
-  to_come = λ v n. held_count v ≤ n;
-  has_end = λ _. ⊤;
-  elements = λ v. at_most (held_count v);
-  gives = λ v x. v ≡ Some x;
-  fails = λ _ _. ⊥;
+  bound = λ v n. held_count v ≤ n;
+  is_finite = λ _. ⊤;
+  remaining = λ v. at_most (held_count v);
+  may_give = λ v x. v ≡ Some x;
+  may_fail = λ _ _. ⊥;
   hints = λ v h. h ≡ (held_count v, Some (held_count v));
-  names = λ _. no_names;
+  lenders = λ _. no_lenders;
 }

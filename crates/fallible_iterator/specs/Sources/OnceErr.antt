@@ -3,7 +3,7 @@ use Rattle.std.specs.Prelude.{Option, Some, ◌≡◌, ⊤}
 use Rattle.std.specs.Iterator.{at_most}
 use Rattle.fallible_iterator.specs.declared.sources.once_err.OnceErr.{OnceErr}
 use Rattle.fallible_contract.specs.Traces.{failure}
-use Rattle.fallible_contract.specs.Contract.{Contract, no_names}
+use Rattle.fallible_contract.specs.Contract.{Contract, no_lenders}
 use Rattle.fallible_contract.specs.Held.{once_step, held_count}
 
 -- the failure that is still to come
@@ -13,13 +13,13 @@ once_err_parts s = s.error
 -- `OnceErr`'s contract: no item comes, and what is held is the one failure that may.
 abbrev pub once_err_contract : {A E : Type 0} → Contract (Option E) A E
 once_err_contract = record {
-  can = λ _. ⊤;
+  can_next = λ _. ⊤;
   steps = once_step failure;
-  to_come = λ _ n. ⊤;
-  has_end = λ _. ⊤;
-  elements = λ v. at_most (held_count v);
-  gives = λ _ _. ⊥;
-  fails = λ v e. v ≡ Some e;
+  bound = λ _ n. ⊤;
+  is_finite = λ _. ⊤;
+  remaining = λ v. at_most (held_count v);
+  may_give = λ _ _. ⊥;
+  may_fail = λ v e. v ≡ Some e;
   hints = λ _ h. h ≡ (0, Some 0);
-  names = λ _. no_names;
+  lenders = λ _. no_lenders;
 }

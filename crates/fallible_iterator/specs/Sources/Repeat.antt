@@ -3,7 +3,7 @@ use Rattle.std.specs.Prelude.{Some, ◌≡◌, List, None, Ok, Err, ◌^◌, ◌
 use Rattle.std.specs.declared.alloc.AllocError.{AllocError}
 use Rattle.fallible_iterator.specs.declared.sources.repeat.Repeat.{Repeat}
 use Rattle.fallible_contract.specs.Traces.{Answered, item, failure}
-use Rattle.fallible_contract.specs.Contract.{Contract, unbounded}
+use Rattle.fallible_contract.specs.Contract.{Contract, unbounded_contract}
 use Rattle.fallible_contract.specs.Refusals.{RefusedAs}
 
 -- the value that is cloned
@@ -21,10 +21,10 @@ module _ {A E : Type 0} (is_clone : A → A → Type 0) (is_infallible : A → T
   abbrev pub RepeatTrace : A → List (Answered A E) → A → Type 0
   RepeatTrace v trace w = All (RepeatAnswer v) trace × (w ≡ v)
 
-  -- `Repeat`'s contract. It has a number to come only where its runs do.
+  -- `Repeat`'s contract. It has a bound only where its runs do.
   abbrev pub repeat_contract : Contract A A E
-  repeat_contract = record (unbounded (λ v r w. RepeatAnswer v r × (w ≡ v))) {
-    gives = λ v x. RepeatAnswer v (item x);
-    fails = λ v e. RepeatAnswer v (failure e);
+  repeat_contract = record (unbounded_contract (λ v r w. RepeatAnswer v r × (w ≡ v))) {
+    may_give = λ v x. RepeatAnswer v (item x);
+    may_fail = λ v e. RepeatAnswer v (failure e);
     hints = λ _ h. h ≡ (2 ^ 64 - 1, None);
   }

@@ -4,7 +4,7 @@ use Rattle.std.specs.Iterator.{endless}
 use Rattle.std.specs.declared.alloc.AllocError.{AllocError}
 use Rattle.fallible_iterator.specs.declared.sources.repeat_err.RepeatErr.{RepeatErr}
 use Rattle.fallible_contract.specs.Traces.{Answered, failure}
-use Rattle.fallible_contract.specs.Contract.{Contract, no_names}
+use Rattle.fallible_contract.specs.Contract.{Contract, no_lenders}
 use Rattle.fallible_contract.specs.Refusals.{RefusedAs}
 
 -- the failure that is cloned
@@ -24,13 +24,13 @@ module _ {A E : Type 0} (is_clone : E → E → Type 0) (is_infallible : E → T
   -- `RepeatErr`'s contract: no item comes.
   abbrev pub repeat_err_contract : Contract E A E
   repeat_err_contract = record {
-    can = λ _. ⊤;
+    can_next = λ _. ⊤;
     steps = λ v r w. RepeatErrAnswer v r × (w ≡ v);
-    to_come = λ _ _. ⊤;
-    has_end = λ _. ⊤;
-    elements = λ _. endless;
-    gives = λ _ _. ⊥;
-    fails = λ v e. RepeatErrAnswer v (failure e);
+    bound = λ _ _. ⊤;
+    is_finite = λ _. ⊤;
+    remaining = λ _. endless;
+    may_give = λ _ _. ⊥;
+    may_fail = λ v e. RepeatErrAnswer v (failure e);
     hints = λ _ h. h ≡ (0, Some 0);
-    names = λ _. no_names;
+    lenders = λ _. no_lenders;
   }

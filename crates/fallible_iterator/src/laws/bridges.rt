@@ -4,7 +4,7 @@ ghost use Rattle.std.specs.Result.{result_transpose};
 ghost use Rattle.std.specs.List.{FoldsTo};
 ghost use Rattle.std.specs.Iterator.Runs.{EachRunFrom, ItemsAre};
 ghost use Rattle.fallible_contract.specs.Traces.{Answered, Run};
-ghost use Rattle.fallible_contract.specs.Definitions.{MeetsHeld};
+ghost use Rattle.fallible_contract.specs.LawForm.{TracesAre};
 ghost use Rattle.fallible_contract.specs.Lists.{Lists};
 ghost use Rattle.fallible_core.specs.Bridges.Iterator.{iterator_parts};
 ghost use Rattle.fallible_core.specs.Bridges.Unwrap.{unwrap_parts};
@@ -18,14 +18,14 @@ use fallible_core::{DoubleEndedFallibleIterator, FallibleIterator};
 
 /// Place by place, the elements that std's `next` gives of an `Iterator` are its source's answers: an item or a failure is an element, an end is none. It may be converted back, and drawn from then, wherever its source may be drawn from.
 pub fn law_iterator<I: FallibleIterator>()
-    ensures trace { MeetsHeld iterator_parts
+    ensures trace { TracesAre iterator_parts
         (λ s r t. ⟦<Iterator<I> as std::iter::Iterator>⟧.next_gives s (result_transpose r) t)
         (Run I.contract.steps) }
-    ensures askable { (s : Iterator I) → I.contract.can (iterator_parts s)
+    ensures askable { (s : Iterator I) → I.contract.can_next (iterator_parts s)
         → IsAskable Ok Err ⟦<Iterator<I> as std::iter::Iterator>⟧.can_next
         ⟦<Iterator<I> as std::iter::Iterator>⟧.next_gives
         ⟦<Iterator<I> as std::iter::Iterator>⟧.remaining s }
-    ensures converted { RunsAsSource (λ s. iterator_parts (convert_parts s)) I.contract.can
+    ensures converted { RunsAsSource (λ s. iterator_parts (convert_parts s)) I.contract.can_next
         I.contract.steps ⟦<Convert<Iterator<I>> as FallibleIterator>⟧.contract.steps }
     ensures lists { (s : Convert (Iterator I)) (it : Iterator I) (source : I)
         (l : List (Result I.Item I.Error))
@@ -35,11 +35,11 @@ pub fn law_iterator<I: FallibleIterator>()
 
 /// The same from behind. Draws from either end may be made in any order, also of what was converted back.
 pub fn law_back_iterator<I: DoubleEndedFallibleIterator>()
-    ensures trace { MeetsHeld iterator_parts
+    ensures trace { TracesAre iterator_parts
         (λ s r t. ⟦<Iterator<I> as std::iter::DoubleEndedIterator>⟧.next_back_gives s
         (result_transpose r) t)
         (Run I.ends.steps) }
-    ensures askable { (s : Iterator I) → I.ends.can (iterator_parts s)
+    ensures askable { (s : Iterator I) → I.ends.can_next (iterator_parts s)
         → IsAskableAtEnds Ok Err ⟦<Iterator<I> as std::iter::Iterator>⟧.can_next
         ⟦<Iterator<I> as std::iter::DoubleEndedIterator>⟧.can_next_back
         ⟦<Iterator<I> as std::iter::Iterator>⟧.next_gives

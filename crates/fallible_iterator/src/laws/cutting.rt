@@ -1,6 +1,6 @@
 // The whole-trace laws of the adapters that cut a trace off.
 ghost use Rattle.std.specs.Prelude.{Result};
-ghost use Rattle.fallible_contract.specs.Definitions.{MeetsHeld};
+ghost use Rattle.fallible_contract.specs.LawForm.{TracesAre};
 ghost use Rattle.fallible_contract.specs.Closures.{call_at, call_in};
 ghost use Rattle.fallible_core.specs.Cutting.Fuse.{fuse_parts, FuseTrace};
 ghost use Rattle.fallible_core.specs.Cutting.Skip.{skip_parts, SkipTrace};
@@ -13,13 +13,13 @@ use fallible_core::traits::FallibleIterator;
 
 /// A trace of `Take` is the source's until it has n items, and then ends without draws.
 pub fn law_take<I: FallibleIterator>()
-    ensures { MeetsHeld take_parts ⟦<Take<I> as FallibleIterator>⟧.contract.steps
+    ensures { TracesAre take_parts ⟦<Take<I> as FallibleIterator>⟧.contract.steps
         (TakeTrace I.contract.steps) }
 {}
 
 /// A trace of `Fuse` is the source's up to its first end, and then ends without draws.
 pub fn law_fuse<I: FallibleIterator>()
-    ensures { MeetsHeld fuse_parts ⟦<Fuse<I> as FallibleIterator>⟧.contract.steps
+    ensures { TracesAre fuse_parts ⟦<Fuse<I> as FallibleIterator>⟧.contract.steps
         (FuseTrace I.contract.steps) }
 {}
 
@@ -27,7 +27,7 @@ pub fn law_fuse<I: FallibleIterator>()
 pub fn law_take_while<I: FallibleIterator, P: FnMut(&I::Item) -> Result<bool, I::Error>>()
 where
     I::Item: Drop,
-    ensures { MeetsHeld take_while_parts ⟦<TakeWhile<I, P> as FallibleIterator>⟧.contract.steps
+    ensures { TracesAre take_while_parts ⟦<TakeWhile<I, P> as FallibleIterator>⟧.contract.steps
         (TakeWhileTrace I.contract.steps (call_in (call_at P.FnMut))) }
 {}
 
@@ -35,7 +35,7 @@ where
 pub fn law_skip<I: FallibleIterator>()
 where
     I::Item: Drop,
-    ensures { MeetsHeld skip_parts ⟦<Skip<I> as FallibleIterator>⟧.contract.steps
+    ensures { TracesAre skip_parts ⟦<Skip<I> as FallibleIterator>⟧.contract.steps
         (SkipTrace I.contract.steps) }
 {}
 
@@ -43,6 +43,6 @@ where
 pub fn law_step_by<I: FallibleIterator>()
 where
     I::Item: Drop,
-    ensures { MeetsHeld step_by_parts ⟦<StepBy<I> as FallibleIterator>⟧.contract.steps
+    ensures { TracesAre step_by_parts ⟦<StepBy<I> as FallibleIterator>⟧.contract.steps
         (StepByTrace I.contract.steps) }
 {}

@@ -4,10 +4,10 @@ ghost use Rattle.fallible_contract.specs.declared.answers.Side.{Side};
 ghost use Rattle.fallible_contract.specs.declared.answers.Side.TheVariants.{Front, Back};
 ghost use Rattle.fallible_contract.specs.Traces.{Answered, Run, item};
 ghost use Rattle.fallible_contract.specs.Folds.{Folded, call_with};
-ghost use Rattle.fallible_contract.specs.Definitions.{MeetsHeld};
+ghost use Rattle.fallible_contract.specs.LawForm.{TracesAre};
 ghost use Rattle.fallible_contract.specs.Closures.{call_on, call_at};
 ghost use Rattle.fallible_contract.specs.Lists.{Acts, mapped, filtered};
-ghost use Rattle.fallible_contract.specs.Listed.{Listed, Mix, step_at, from_side, Interleaves};
+ghost use Rattle.fallible_contract.specs.BothEnds.{ListsBothEnds, RunAtEnds, step_at, from_side, Interleaves};
 ghost use Rattle.fallible_core.specs.OneToOne.Map.{MapTrace, map_parts};
 ghost use Rattle.fallible_core.specs.OneToOne.Inspect.{InspectTrace, inspect_parts};
 ghost use Rattle.fallible_core.specs.OneToOne.Cloned.{ClonedTrace, cloned_parts};
@@ -31,7 +31,7 @@ use std::alloc::AllocError;
 pub fn law_interleave<I: DoubleEndedFallibleIterator>()
     ensures { (s t : I) (l : List (Result I.Item I.Error))
         (drawn : List (Side × Answered I.Item I.Error))
-        → Listed I.contract.steps I.ends.steps s l → Mix I.contract.steps I.ends.steps s drawn t
+        → ListsBothEnds I.contract.steps I.ends.steps s l → RunAtEnds I.contract.steps I.ends.steps s drawn t
         → Interleaves I.contract.steps I.ends.steps l drawn t }
 {}
 
@@ -42,17 +42,17 @@ where
     F: FnMut(B, I::Item) -> Result<B, E>,
     ensures run { (side : Side) (s t : I) (trace : List (Answered I.Item I.Error))
         → Run (step_at I.contract.steps I.ends.steps side) s trace t
-        → Mix I.contract.steps I.ends.steps s (from_side side trace) t }
+        → RunAtEnds I.contract.steps I.ends.steps s (from_side side trace) t }
     ensures fold { (s t : I) (b : B) (f : F) (r : Result B E)
         (h : Folded I.contract.steps (call_with F.FnMut) E.from_gives s b f r t)
-        → Mix I.contract.steps I.ends.steps s
+        → RunAtEnds I.contract.steps I.ends.steps s
         (from_side Front (map item h.items ++ h.last ∷ [])) t }
     ensures fold_back { (s t : I) (b : B) (f : F) (r : Result B E)
         (h : Folded I.ends.steps (call_with F.FnMut) E.from_gives s b f r t)
-        → Mix I.contract.steps I.ends.steps s (from_side Back (map item h.items ++ h.last ∷ [])) t }
+        → RunAtEnds I.contract.steps I.ends.steps s (from_side Back (map item h.items ++ h.last ∷ [])) t }
     ensures then_others { (s t u : I) (drawn others : List (Side × Answered I.Item I.Error))
-        → Mix I.contract.steps I.ends.steps s drawn t → Mix I.contract.steps I.ends.steps t others u
-        → Mix I.contract.steps I.ends.steps s (drawn ++ others) u }
+        → RunAtEnds I.contract.steps I.ends.steps s drawn t → RunAtEnds I.contract.steps I.ends.steps t others u
+        → RunAtEnds I.contract.steps I.ends.steps s (drawn ++ others) u }
 {}
 
 /// The same of one nest of four types, written out: of draws from both ends of a `Rev` of a `Filter` of a `Map` over any source that lists l, what came in front, what is left, and what came behind, reversed, make the reverse of the filtered, mapped l.
@@ -68,7 +68,7 @@ where
         (l : List (Result I.Item I.Error)) (drawn : List (Side × Answered B I.Error))
         → filter_parts (rev_parts s) ≡ (inner, Some g) → map_parts inner ≡ (it, Some f)
         → Acts (call_on F.FnMut) f h → Acts (call_at G.FnMut) g k
-        → Listed I.contract.steps I.ends.steps it l
+        → ListsBothEnds I.contract.steps I.ends.steps it l
         → DrawsInterleave ⟦<Rev<Filter<Map<I, F>, G>> as FallibleIterator>⟧.contract.steps
         ⟦<Rev<Filter<Map<I, F>, G>> as DoubleEndedFallibleIterator>⟧.ends.steps
         (reverse (filtered k (mapped h l))) s drawn t }
@@ -83,31 +83,31 @@ where
 
 /// A trace of `Rev` is one of its source from behind, and a trace of it from behind one of its source.
 pub fn law_rev<I: DoubleEndedFallibleIterator>()
-    ensures front { MeetsHeld rev_parts ⟦<Rev<I> as FallibleIterator>⟧.contract.steps
+    ensures front { TracesAre rev_parts ⟦<Rev<I> as FallibleIterator>⟧.contract.steps
         (Run I.ends.steps) }
-    ensures back { MeetsHeld rev_parts ⟦<Rev<I> as DoubleEndedFallibleIterator>⟧.ends.steps
+    ensures back { TracesAre rev_parts ⟦<Rev<I> as DoubleEndedFallibleIterator>⟧.ends.steps
         (Run I.contract.steps) }
 {}
 
 /// A `Rev` of a `Rev` is its source: a trace of it from either end is one of its source from that end, draws of it from both ends, in any order, are draws of its source, and it lists just what its source lists.
 pub fn law_rev_rev<I: DoubleEndedFallibleIterator>()
-    ensures front { MeetsHeld (λ s. rev_parts (rev_parts s))
+    ensures front { TracesAre (λ s. rev_parts (rev_parts s))
         ⟦<Rev<Rev<I>> as FallibleIterator>⟧.contract.steps (Run I.contract.steps) }
-    ensures back { MeetsHeld (λ s. rev_parts (rev_parts s))
+    ensures back { TracesAre (λ s. rev_parts (rev_parts s))
         ⟦<Rev<Rev<I>> as DoubleEndedFallibleIterator>⟧.ends.steps (Run I.ends.steps) }
-    ensures both { DrawsTheSame (λ s. rev_parts (rev_parts s)) (Mix I.contract.steps I.ends.steps)
-        (Mix ⟦<Rev<Rev<I>> as FallibleIterator>⟧.contract.steps
+    ensures both { DrawsTheSame (λ s. rev_parts (rev_parts s)) (RunAtEnds I.contract.steps I.ends.steps)
+        (RunAtEnds ⟦<Rev<Rev<I>> as FallibleIterator>⟧.contract.steps
         ⟦<Rev<Rev<I>> as DoubleEndedFallibleIterator>⟧.ends.steps) }
     ensures lists { ListsTheSame (λ s. rev_parts (rev_parts s))
-        (Listed I.contract.steps I.ends.steps)
-        (Listed ⟦<Rev<Rev<I>> as FallibleIterator>⟧.contract.steps
+        (ListsBothEnds I.contract.steps I.ends.steps)
+        (ListsBothEnds ⟦<Rev<Rev<I>> as FallibleIterator>⟧.contract.steps
         ⟦<Rev<Rev<I>> as DoubleEndedFallibleIterator>⟧.ends.steps) }
 {}
 
 /// From behind the answers of `Map` are the source's from behind, with the closure's answer in each item's place.
 pub fn law_back_map<I: DoubleEndedFallibleIterator, B, F: FnMut(I::Item) -> Result<B, I::Error>>()
 where
-    ensures { MeetsHeld map_parts ⟦<Map<I, F> as DoubleEndedFallibleIterator>⟧.ends.steps
+    ensures { TracesAre map_parts ⟦<Map<I, F> as DoubleEndedFallibleIterator>⟧.ends.steps
         (MapTrace I.ends.steps F.FnMut) }
 {}
 
@@ -118,14 +118,14 @@ pub fn law_back_inspect<
 >()
 where
     I::Item: Drop,
-    ensures { MeetsHeld inspect_parts ⟦<Inspect<I, F> as DoubleEndedFallibleIterator>⟧.ends.steps
+    ensures { TracesAre inspect_parts ⟦<Inspect<I, F> as DoubleEndedFallibleIterator>⟧.ends.steps
         (InspectTrace I.ends.steps F.FnMut) }
 {}
 
 /// From behind the answers of `MapErr` are the source's from behind, with the closure's answer in each failure's place.
 pub fn law_back_map_err<I: DoubleEndedFallibleIterator, B, F: FnMut(I::Error) -> B>()
 where
-    ensures { MeetsHeld map_err_parts ⟦<MapErr<I, F> as DoubleEndedFallibleIterator>⟧.ends.steps
+    ensures { TracesAre map_err_parts ⟦<MapErr<I, F> as DoubleEndedFallibleIterator>⟧.ends.steps
         (MapErrTrace I.ends.steps (call_on F.FnMut)) }
 {}
 
@@ -133,7 +133,7 @@ where
 pub fn law_back_cloned<'a, T: Clone + 'a, I: DoubleEndedFallibleIterator<Item = &'a T>>()
 where
     I::Error: From<AllocError>,
-    ensures { MeetsHeld cloned_parts ⟦<Cloned<I> as DoubleEndedFallibleIterator>⟧.ends.steps
+    ensures { TracesAre cloned_parts ⟦<Cloned<I> as DoubleEndedFallibleIterator>⟧.ends.steps
         (ClonedTrace T.is_clone T.is_infallible I.Error.from_gives I.ends.steps) }
 {}
 
@@ -144,7 +144,7 @@ pub fn law_back_filter<
 >()
 where
     I::Item: Drop,
-    ensures { MeetsHeld filter_parts ⟦<Filter<I, F> as DoubleEndedFallibleIterator>⟧.ends.steps
+    ensures { TracesAre filter_parts ⟦<Filter<I, F> as DoubleEndedFallibleIterator>⟧.ends.steps
         (FilterTrace I.ends.steps F.FnMut) }
 {}
 
@@ -155,7 +155,7 @@ pub fn law_back_filter_map<
     F: FnMut(I::Item) -> Result<Option<B>, I::Error>,
 >()
 where
-    ensures { MeetsHeld filter_map_parts
+    ensures { TracesAre filter_map_parts
         ⟦<FilterMap<I, F> as DoubleEndedFallibleIterator>⟧.ends.steps
         (FilterMapTrace I.ends.steps F.FnMut) }
 {}

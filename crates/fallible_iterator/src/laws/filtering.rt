@@ -1,5 +1,5 @@
 // What a trace of each adapter that leaves items out is.
-ghost use Rattle.fallible_contract.specs.Definitions.{MeetsHeld};
+ghost use Rattle.fallible_contract.specs.LawForm.{TracesAre};
 ghost use Rattle.fallible_contract.specs.Closures.{call_at, call_in};
 ghost use Rattle.fallible_core.specs.Filtering.Filter.{FilterTrace, filter_parts};
 ghost use Rattle.fallible_core.specs.Filtering.FilterMap.{FilterMapTrace, filter_map_parts};
@@ -12,14 +12,14 @@ use fallible_core::traits::FallibleIterator;
 pub fn law_filter<I: FallibleIterator, F: FnMut(&I::Item) -> Result<bool, I::Error>>()
 where
     I::Item: Drop,
-    ensures { MeetsHeld filter_parts ⟦<Filter<I, F> as FallibleIterator>⟧.contract.steps
+    ensures { TracesAre filter_parts ⟦<Filter<I, F> as FallibleIterator>⟧.contract.steps
         (FilterTrace I.contract.steps F.FnMut) }
 {}
 
 /// The answers of `FilterMap` are the source's without the items answered none, with the closure's value or failure in each other item's place.
 pub fn law_filter_map<I: FallibleIterator, B, F: FnMut(I::Item) -> Result<Option<B>, I::Error>>()
 where
-    ensures { MeetsHeld filter_map_parts ⟦<FilterMap<I, F> as FallibleIterator>⟧.contract.steps
+    ensures { TracesAre filter_map_parts ⟦<FilterMap<I, F> as FallibleIterator>⟧.contract.steps
         (FilterMapTrace I.contract.steps F.FnMut) }
 {}
 
@@ -27,6 +27,6 @@ where
 pub fn law_skip_while<I: FallibleIterator, P: FnMut(&I::Item) -> Result<bool, I::Error>>()
 where
     I::Item: Drop,
-    ensures { MeetsHeld skip_while_parts ⟦<SkipWhile<I, P> as FallibleIterator>⟧.contract.steps
+    ensures { TracesAre skip_while_parts ⟦<SkipWhile<I, P> as FallibleIterator>⟧.contract.steps
         (SkipWhileTrace I.contract.steps (call_in (call_at P.FnMut))) }
 {}

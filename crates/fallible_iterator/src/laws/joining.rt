@@ -1,6 +1,6 @@
 // The whole-trace laws of the adapters that join sources.
 ghost use Rattle.std.specs.Prelude.{Result};
-ghost use Rattle.fallible_contract.specs.Definitions.{MeetsHeld};
+ghost use Rattle.fallible_contract.specs.LawForm.{TracesAre};
 ghost use Rattle.fallible_core.specs.Joining.Chain.{chain_behind, chain_parts, ChainTrace};
 ghost use Rattle.fallible_core.specs.Joining.Cycle.{cycle_parts, CycleTrace};
 ghost use Rattle.fallible_core.specs.Joining.Flatten.{flatten_parts, FlattenTrace};
@@ -13,18 +13,18 @@ use fallible_core::traits::conversion::IntoFallibleIterator;
 use fallible_core::traits::double_ended::DoubleEndedFallibleIterator;
 use std::alloc::AllocError;
 
-/// A trace of `Chain` is the front's up to its first end, and from the draw that meets this end on the back's; where one side alone is still drawn, it is that side's.
+/// A trace of `Chain` is the first's up to its first end, and from the draw that meets this end on the second's; where one side alone is still drawn, it is that side's.
 pub fn law_chain<T: FallibleIterator, U: FallibleIterator<Item = T::Item, Error = T::Error>>()
-    ensures { MeetsHeld chain_parts ⟦<Chain<T, U> as FallibleIterator>⟧.contract.steps
+    ensures { TracesAre chain_parts ⟦<Chain<T, U> as FallibleIterator>⟧.contract.steps
         (ChainTrace T.contract.steps U.contract.steps) }
 {}
 
-/// A trace of `Chain` from behind is the same with the sides swapped, both drawn from behind: the back's up to its first end, and from the draw that meets this end on the front's.
+/// A trace of `Chain` from behind is the same with the sides swapped, both drawn from behind: the second's up to its first end, and from the draw that meets this end on the first's.
 pub fn law_back_chain<
     T: DoubleEndedFallibleIterator,
     U: DoubleEndedFallibleIterator<Item = T::Item, Error = T::Error>,
 >()
-    ensures { MeetsHeld (λ s. chain_behind (chain_parts s))
+    ensures { TracesAre (λ s. chain_behind (chain_parts s))
         ⟦<Chain<T, U> as DoubleEndedFallibleIterator>⟧.ends.steps
         (ChainTrace U.ends.steps T.ends.steps) }
 {}
@@ -34,13 +34,13 @@ pub fn law_zip<T: FallibleIterator, U: FallibleIterator<Error = T::Error>>()
 where
     T::Item: Drop,
     U::Item: Drop,
-    ensures { MeetsHeld zip_parts ⟦<Zip<T, U> as FallibleIterator>⟧.contract.steps
+    ensures { TracesAre zip_parts ⟦<Zip<T, U> as FallibleIterator>⟧.contract.steps
         (ZipTrace T.contract.steps U.contract.steps) }
 {}
 
 /// A trace of `Flatten` joins the answers of the inner iterators, each up to its end, and the outer source's failures and ends; the last inner iterator, where its end was not drawn, stays in hand.
 pub fn law_flatten<U: IntoFallibleIterator, I: FallibleIterator<Item = U, Error = U::Error>>()
-    ensures { MeetsHeld flatten_parts
+    ensures { TracesAre flatten_parts
         ⟦<Flatten<I, U::IntoFallibleIter> as FallibleIterator>⟧.contract.steps
         (FlattenTrace I.contract.steps U.into_gives U.IntoFallibleIter.contract.steps) }
 {}
@@ -52,7 +52,7 @@ pub fn law_flat_map<
     F: FnMut(I::Item) -> Result<U, I::Error>,
 >()
 where
-    ensures { MeetsHeld flatten_parts
+    ensures { TracesAre flatten_parts
         ⟦<Flatten<Map<I, F>, U::IntoFallibleIter> as FallibleIterator>⟧.contract.steps
         (FlattenTrace ⟦<Map<I, F> as FallibleIterator>⟧.contract.steps U.into_gives
         U.IntoFallibleIter.contract.steps) }
@@ -62,6 +62,6 @@ where
 pub fn law_cycle<I: FallibleIterator + Clone>()
 where
     I::Error: From<AllocError>,
-    ensures { MeetsHeld cycle_parts ⟦<Cycle<I> as FallibleIterator>⟧.contract.steps
+    ensures { TracesAre cycle_parts ⟦<Cycle<I> as FallibleIterator>⟧.contract.steps
         (CycleTrace I.is_clone I.is_infallible I.Error.from_gives I.contract.steps) }
 {}

@@ -5,7 +5,7 @@ ghost use Rattle.std.specs.declared.boxed.Box.{Box};
 ghost use Rattle.std.specs.declared.alloc.Global.{Global};
 ghost use Rattle.fallible_contract.specs.Closures.{call_on, call_at};
 ghost use Rattle.fallible_contract.specs.Lists.{mapped, inspected, filtered, filter_mapped, results, items};
-ghost use Rattle.fallible_contract.specs.Listed.{Listed};
+ghost use Rattle.fallible_contract.specs.BothEnds.{ListsBothEnds};
 ghost use Rattle.fallible_core.specs.OneToOne.Map.{map_outcome, map_parts};
 ghost use Rattle.fallible_core.specs.OneToOne.Inspect.{inspect_outcome, inspect_parts};
 ghost use Rattle.fallible_core.specs.OneToOne.Cloned.{cloned_parts};
@@ -34,8 +34,8 @@ use std::alloc::AllocError;
 pub fn law_listed_map<I: DoubleEndedFallibleIterator, B, F: FnMut(I::Item) -> Result<B, I::Error>>()
 where
     ensures { ListsByClosure map_parts (call_on F.FnMut) map_outcome mapped
-        (Listed I.contract.steps I.ends.steps)
-        (Listed ⟦<Map<I, F> as FallibleIterator>⟧.contract.steps
+        (ListsBothEnds I.contract.steps I.ends.steps)
+        (ListsBothEnds ⟦<Map<I, F> as FallibleIterator>⟧.contract.steps
         ⟦<Map<I, F> as DoubleEndedFallibleIterator>⟧.ends.steps) }
 {}
 
@@ -47,8 +47,8 @@ pub fn law_listed_inspect<
 where
     I::Item: Drop,
     ensures { ListsByClosure inspect_parts (call_at F.FnMut) inspect_outcome inspected
-        (Listed I.contract.steps I.ends.steps)
-        (Listed ⟦<Inspect<I, F> as FallibleIterator>⟧.contract.steps
+        (ListsBothEnds I.contract.steps I.ends.steps)
+        (ListsBothEnds ⟦<Inspect<I, F> as FallibleIterator>⟧.contract.steps
         ⟦<Inspect<I, F> as DoubleEndedFallibleIterator>⟧.ends.steps) }
 {}
 
@@ -60,8 +60,8 @@ pub fn law_listed_filter<
 where
     I::Item: Drop,
     ensures { ListsByClosure filter_parts (call_at F.FnMut) filter_outcome filtered
-        (Listed I.contract.steps I.ends.steps)
-        (Listed ⟦<Filter<I, F> as FallibleIterator>⟧.contract.steps
+        (ListsBothEnds I.contract.steps I.ends.steps)
+        (ListsBothEnds ⟦<Filter<I, F> as FallibleIterator>⟧.contract.steps
         ⟦<Filter<I, F> as DoubleEndedFallibleIterator>⟧.ends.steps) }
 {}
 
@@ -73,8 +73,8 @@ pub fn law_listed_filter_map<
 >()
 where
     ensures { ListsByClosure filter_map_parts (call_on F.FnMut) filter_map_outcome filter_mapped
-        (Listed I.contract.steps I.ends.steps)
-        (Listed ⟦<FilterMap<I, F> as FallibleIterator>⟧.contract.steps
+        (ListsBothEnds I.contract.steps I.ends.steps)
+        (ListsBothEnds ⟦<FilterMap<I, F> as FallibleIterator>⟧.contract.steps
         ⟦<FilterMap<I, F> as DoubleEndedFallibleIterator>⟧.ends.steps) }
 {}
 
@@ -83,45 +83,45 @@ pub fn law_listed_cloned<'a, T: Clone + 'a, I: DoubleEndedFallibleIterator<Item 
 where
     I::Error: From<AllocError>,
     ensures { ListsClones cloned_parts T.is_clone T.is_infallible
-        (Listed I.contract.steps I.ends.steps)
-        (Listed ⟦<Cloned<I> as FallibleIterator>⟧.contract.steps
+        (ListsBothEnds I.contract.steps I.ends.steps)
+        (ListsBothEnds ⟦<Cloned<I> as FallibleIterator>⟧.contract.steps
         ⟦<Cloned<I> as DoubleEndedFallibleIterator>⟧.ends.steps) }
 {}
 
 /// `MapErr` lists what its closure answers on each failure of its source's list, in the failure's place.
 pub fn law_listed_map_err<I: DoubleEndedFallibleIterator, B, F: FnMut(I::Error) -> B>()
 where
-    ensures { ListsFailures map_err_parts (call_on F.FnMut) (Listed I.contract.steps I.ends.steps)
-        (Listed ⟦<MapErr<I, F> as FallibleIterator>⟧.contract.steps
+    ensures { ListsFailures map_err_parts (call_on F.FnMut) (ListsBothEnds I.contract.steps I.ends.steps)
+        (ListsBothEnds ⟦<MapErr<I, F> as FallibleIterator>⟧.contract.steps
         ⟦<MapErr<I, F> as DoubleEndedFallibleIterator>⟧.ends.steps) }
 {}
 
-/// `Chain` lists what its front lists and then what its back lists; where one side alone is still drawn, what that side lists, the other being drawn no more.
+/// `Chain` lists what its first lists and then what its second lists; where one side alone is still drawn, what that side lists, the other being drawn no more.
 pub fn law_listed_chain<
     T: DoubleEndedFallibleIterator,
     U: DoubleEndedFallibleIterator<Item = T::Item, Error = T::Error>,
 >()
-    ensures { ListsBothSides chain_parts (Listed T.contract.steps T.ends.steps)
-        (Listed U.contract.steps U.ends.steps)
-        (Listed ⟦<Chain<T, U> as FallibleIterator>⟧.contract.steps
+    ensures { ListsBothSides chain_parts (ListsBothEnds T.contract.steps T.ends.steps)
+        (ListsBothEnds U.contract.steps U.ends.steps)
+        (ListsBothEnds ⟦<Chain<T, U> as FallibleIterator>⟧.contract.steps
         ⟦<Chain<T, U> as DoubleEndedFallibleIterator>⟧.ends.steps) }
 {}
 
 /// `Rev` lists the reverse of what its source lists, and the other way round.
 pub fn law_listed_rev<I: DoubleEndedFallibleIterator>()
-    ensures { ListsReversed rev_parts (Listed I.contract.steps I.ends.steps)
-        (Listed ⟦<Rev<I> as FallibleIterator>⟧.contract.steps
+    ensures { ListsReversed rev_parts (ListsBothEnds I.contract.steps I.ends.steps)
+        (ListsBothEnds ⟦<Rev<I> as FallibleIterator>⟧.contract.steps
         ⟦<Rev<I> as DoubleEndedFallibleIterator>⟧.ends.steps) }
 {}
 
 /// A `&mut I` and a `Box<I>` list just what the value behind them lists.
 pub fn law_listed_borrowed<'a, I: DoubleEndedFallibleIterator + 'a>()
-    ensures borrowed { ListsTheSame (λ (s : MutBor I). s.now) (Listed I.contract.steps I.ends.steps)
-        (Listed ⟦<&'a mut I as FallibleIterator>⟧.contract.steps
+    ensures borrowed { ListsTheSame (λ (s : MutBor I). s.now) (ListsBothEnds I.contract.steps I.ends.steps)
+        (ListsBothEnds ⟦<&'a mut I as FallibleIterator>⟧.contract.steps
         ⟦<&'a mut I as DoubleEndedFallibleIterator>⟧.ends.steps) }
     ensures boxed { ListsTheSame (λ (s : Box I Global). s.value)
-        (Listed I.contract.steps I.ends.steps)
-        (Listed ⟦<Box<I> as FallibleIterator>⟧.contract.steps
+        (ListsBothEnds I.contract.steps I.ends.steps)
+        (ListsBothEnds ⟦<Box<I> as FallibleIterator>⟧.contract.steps
         ⟦<Box<I> as DoubleEndedFallibleIterator>⟧.ends.steps) }
 {}
 
@@ -149,49 +149,49 @@ where
     R::Error: From<AllocError>,
     U: DoubleEndedFallibleIterator<Item = I::Item, Error = I::Error>,
     ensures convert { ListsElements convert_parts Ok Err results J.next_gives J.next_back_gives
-        (Listed ⟦<Convert<J> as FallibleIterator>⟧.contract.steps
+        (ListsBothEnds ⟦<Convert<J> as FallibleIterator>⟧.contract.steps
         ⟦<Convert<J> as DoubleEndedFallibleIterator>⟧.ends.steps) }
     ensures into_fallible { ListsElements into_fallible_parts (λ x. x) never items K.next_gives
         K.next_back_gives
-        (Listed ⟦<IntoFallible<K> as FallibleIterator>⟧.contract.steps
+        (ListsBothEnds ⟦<IntoFallible<K> as FallibleIterator>⟧.contract.steps
         ⟦<IntoFallible<K> as DoubleEndedFallibleIterator>⟧.ends.steps) }
     ensures map { ListsByClosure map_parts (call_on F.FnMut) map_outcome mapped
-        (Listed I.contract.steps I.ends.steps)
-        (Listed ⟦<Map<I, F> as FallibleIterator>⟧.contract.steps
+        (ListsBothEnds I.contract.steps I.ends.steps)
+        (ListsBothEnds ⟦<Map<I, F> as FallibleIterator>⟧.contract.steps
         ⟦<Map<I, F> as DoubleEndedFallibleIterator>⟧.ends.steps) }
     ensures inspect { ListsByClosure inspect_parts (call_at G.FnMut) inspect_outcome inspected
-        (Listed I.contract.steps I.ends.steps)
-        (Listed ⟦<Inspect<I, G> as FallibleIterator>⟧.contract.steps
+        (ListsBothEnds I.contract.steps I.ends.steps)
+        (ListsBothEnds ⟦<Inspect<I, G> as FallibleIterator>⟧.contract.steps
         ⟦<Inspect<I, G> as DoubleEndedFallibleIterator>⟧.ends.steps) }
     ensures filter { ListsByClosure filter_parts (call_at P.FnMut) filter_outcome filtered
-        (Listed I.contract.steps I.ends.steps)
-        (Listed ⟦<Filter<I, P> as FallibleIterator>⟧.contract.steps
+        (ListsBothEnds I.contract.steps I.ends.steps)
+        (ListsBothEnds ⟦<Filter<I, P> as FallibleIterator>⟧.contract.steps
         ⟦<Filter<I, P> as DoubleEndedFallibleIterator>⟧.ends.steps) }
     ensures filter_map { ListsByClosure filter_map_parts (call_on Q.FnMut) filter_map_outcome
-        filter_mapped (Listed I.contract.steps I.ends.steps)
-        (Listed ⟦<FilterMap<I, Q> as FallibleIterator>⟧.contract.steps
+        filter_mapped (ListsBothEnds I.contract.steps I.ends.steps)
+        (ListsBothEnds ⟦<FilterMap<I, Q> as FallibleIterator>⟧.contract.steps
         ⟦<FilterMap<I, Q> as DoubleEndedFallibleIterator>⟧.ends.steps) }
     ensures map_err { ListsFailures map_err_parts (call_on H.FnMut)
-        (Listed I.contract.steps I.ends.steps)
-        (Listed ⟦<MapErr<I, H> as FallibleIterator>⟧.contract.steps
+        (ListsBothEnds I.contract.steps I.ends.steps)
+        (ListsBothEnds ⟦<MapErr<I, H> as FallibleIterator>⟧.contract.steps
         ⟦<MapErr<I, H> as DoubleEndedFallibleIterator>⟧.ends.steps) }
     ensures cloned { ListsClones cloned_parts T.is_clone T.is_infallible
-        (Listed R.contract.steps R.ends.steps)
-        (Listed ⟦<Cloned<R> as FallibleIterator>⟧.contract.steps
+        (ListsBothEnds R.contract.steps R.ends.steps)
+        (ListsBothEnds ⟦<Cloned<R> as FallibleIterator>⟧.contract.steps
         ⟦<Cloned<R> as DoubleEndedFallibleIterator>⟧.ends.steps) }
-    ensures chain { ListsBothSides chain_parts (Listed I.contract.steps I.ends.steps)
-        (Listed U.contract.steps U.ends.steps)
-        (Listed ⟦<Chain<I, U> as FallibleIterator>⟧.contract.steps
+    ensures chain { ListsBothSides chain_parts (ListsBothEnds I.contract.steps I.ends.steps)
+        (ListsBothEnds U.contract.steps U.ends.steps)
+        (ListsBothEnds ⟦<Chain<I, U> as FallibleIterator>⟧.contract.steps
         ⟦<Chain<I, U> as DoubleEndedFallibleIterator>⟧.ends.steps) }
-    ensures rev { ListsReversed rev_parts (Listed I.contract.steps I.ends.steps)
-        (Listed ⟦<Rev<I> as FallibleIterator>⟧.contract.steps
+    ensures rev { ListsReversed rev_parts (ListsBothEnds I.contract.steps I.ends.steps)
+        (ListsBothEnds ⟦<Rev<I> as FallibleIterator>⟧.contract.steps
         ⟦<Rev<I> as DoubleEndedFallibleIterator>⟧.ends.steps) }
-    ensures borrowed { ListsTheSame (λ (s : MutBor I). s.now) (Listed I.contract.steps I.ends.steps)
-        (Listed ⟦<&'a mut I as FallibleIterator>⟧.contract.steps
+    ensures borrowed { ListsTheSame (λ (s : MutBor I). s.now) (ListsBothEnds I.contract.steps I.ends.steps)
+        (ListsBothEnds ⟦<&'a mut I as FallibleIterator>⟧.contract.steps
         ⟦<&'a mut I as DoubleEndedFallibleIterator>⟧.ends.steps) }
     ensures boxed { ListsTheSame (λ (s : Box I Global). s.value)
-        (Listed I.contract.steps I.ends.steps)
-        (Listed ⟦<Box<I> as FallibleIterator>⟧.contract.steps
+        (ListsBothEnds I.contract.steps I.ends.steps)
+        (ListsBothEnds ⟦<Box<I> as FallibleIterator>⟧.contract.steps
         ⟦<Box<I> as DoubleEndedFallibleIterator>⟧.ends.steps) }
     ensures each_end { ListsAtEachEnd I.contract.steps I.ends.steps }
 {

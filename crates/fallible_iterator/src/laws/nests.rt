@@ -1,7 +1,7 @@
 // What a trace of a nest of adapters is: the laws of its types, one after another.
 ghost use Rattle.std.specs.Prelude.{List};
 ghost use Rattle.std.specs.Borrow.{MutBor};
-ghost use Rattle.fallible_contract.specs.Definitions.{MeetsHeld};
+ghost use Rattle.fallible_contract.specs.LawForm.{TracesAre};
 ghost use Rattle.fallible_contract.specs.Traces.{Answered, Run};
 ghost use Rattle.fallible_iterator.specs.Nests.{TakeMapFilterTrace, TakeBorrowedTrace};
 
@@ -26,7 +26,7 @@ pub fn law_nest<
 >()
 where
     I::Item: Drop,
-    ensures { MeetsHeld (λ s. s) ⟦<Take<Map<Filter<I, P>, F>> as FallibleIterator>⟧.contract.steps
+    ensures { TracesAre (λ s. s) ⟦<Take<Map<Filter<I, P>, F>> as FallibleIterator>⟧.contract.steps
         (TakeMapFilterTrace I.contract.steps P.FnMut F.FnMut) }
 {
     law_filter::<I, P>();

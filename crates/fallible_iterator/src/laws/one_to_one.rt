@@ -1,5 +1,5 @@
 // What a trace of each adapter with one answer for each draw is.
-ghost use Rattle.fallible_contract.specs.Definitions.{MeetsHeld};
+ghost use Rattle.fallible_contract.specs.LawForm.{TracesAre};
 ghost use Rattle.fallible_contract.specs.Closures.{call_on};
 ghost use Rattle.fallible_core.specs.OneToOne.Map.{MapTrace, map_parts};
 ghost use Rattle.fallible_core.specs.OneToOne.Inspect.{InspectTrace, inspect_parts};
@@ -16,7 +16,7 @@ use std::alloc::AllocError;
 /// The answers of `Map` are the source's, with the closure's answer in each item's place.
 pub fn law_map<I: FallibleIterator, B, F: FnMut(I::Item) -> Result<B, I::Error>>()
 where
-    ensures { MeetsHeld map_parts ⟦<Map<I, F> as FallibleIterator>⟧.contract.steps
+    ensures { TracesAre map_parts ⟦<Map<I, F> as FallibleIterator>⟧.contract.steps
         (MapTrace I.contract.steps F.FnMut) }
 {}
 
@@ -24,14 +24,14 @@ where
 pub fn law_inspect<I: FallibleIterator, F: FnMut(&I::Item) -> Result<(), I::Error>>()
 where
     I::Item: Drop,
-    ensures { MeetsHeld inspect_parts ⟦<Inspect<I, F> as FallibleIterator>⟧.contract.steps
+    ensures { TracesAre inspect_parts ⟦<Inspect<I, F> as FallibleIterator>⟧.contract.steps
         (InspectTrace I.contract.steps F.FnMut) }
 {}
 
 /// The answers of `MapErr` are the source's, with the closure's answer in each failure's place.
 pub fn law_map_err<I: FallibleIterator, B, F: FnMut(I::Error) -> B>()
 where
-    ensures { MeetsHeld map_err_parts ⟦<MapErr<I, F> as FallibleIterator>⟧.contract.steps
+    ensures { TracesAre map_err_parts ⟦<MapErr<I, F> as FallibleIterator>⟧.contract.steps
         (MapErrTrace I.contract.steps (call_on F.FnMut)) }
 {}
 
@@ -39,7 +39,7 @@ where
 pub fn law_enumerate<I: FallibleIterator>()
 where
     I::Item: Drop,
-    ensures { MeetsHeld enumerate_parts ⟦<Enumerate<I> as FallibleIterator>⟧.contract.steps
+    ensures { TracesAre enumerate_parts ⟦<Enumerate<I> as FallibleIterator>⟧.contract.steps
         (EnumerateTrace I.contract.steps) }
 {}
 
@@ -51,14 +51,14 @@ pub fn law_scan<
     F: FnMut(&mut St, I::Item) -> Result<Option<B>, I::Error>,
 >()
 where
-    ensures { MeetsHeld scan_parts ⟦<Scan<I, St, F> as FallibleIterator>⟧.contract.steps
+    ensures { TracesAre scan_parts ⟦<Scan<I, St, F> as FallibleIterator>⟧.contract.steps
         (ScanTrace I.contract.steps F.FnMut) }
 {}
 
 /// The answers of `MapWhile` are the source's, with the value that the closure answers in each item's place, none being an end.
 pub fn law_map_while<I: FallibleIterator, B, F: FnMut(I::Item) -> Result<Option<B>, I::Error>>()
 where
-    ensures { MeetsHeld map_while_parts ⟦<MapWhile<I, F> as FallibleIterator>⟧.contract.steps
+    ensures { TracesAre map_while_parts ⟦<MapWhile<I, F> as FallibleIterator>⟧.contract.steps
         (MapWhileTrace I.contract.steps F.FnMut) }
 {}
 
@@ -66,6 +66,6 @@ where
 pub fn law_cloned<'a, T: Clone + 'a, I: FallibleIterator<Item = &'a T>>()
 where
     I::Error: From<AllocError>,
-    ensures { MeetsHeld cloned_parts ⟦<Cloned<I> as FallibleIterator>⟧.contract.steps
+    ensures { TracesAre cloned_parts ⟦<Cloned<I> as FallibleIterator>⟧.contract.steps
         (ClonedTrace T.is_clone T.is_infallible I.Error.from_gives I.contract.steps) }
 {}

@@ -1,5 +1,5 @@
 // The whole-trace law of the adapter that looks ahead.
-ghost use Rattle.fallible_contract.specs.Definitions.{MeetsHeld};
+ghost use Rattle.fallible_contract.specs.LawForm.{TracesAre};
 ghost use Rattle.std.specs.Prelude.{List, Result};
 ghost use Rattle.fallible_contract.specs.Lists.{Lists};
 ghost use Rattle.fallible_core.specs.Peeking.Peekable.{peekable_parts, PeekableTrace, behind_held};
@@ -11,7 +11,7 @@ use fallible_core::traits::FallibleIterator;
 pub fn law_peekable<I: FallibleIterator>()
 where
     I::Item: Drop,
-    ensures traces { MeetsHeld peekable_parts ⟦<Peekable<I> as FallibleIterator>⟧.contract.steps
+    ensures traces { TracesAre peekable_parts ⟦<Peekable<I> as FallibleIterator>⟧.contract.steps
         (PeekableTrace I.contract.steps) }
     ensures lists { (s : Peekable I I.Item I.Error) (l : List (Result I.Item I.Error))
         → Lists I.contract.steps (peekable_parts s).0 l

@@ -1,8 +1,8 @@
 //! What a trace of each source is.
 ghost use Rattle.std.specs.Prelude.{List, Option, Result, Ok, Err};
-ghost use Rattle.fallible_contract.specs.Definitions.{MeetsHeld};
+ghost use Rattle.fallible_contract.specs.LawForm.{TracesAre};
 ghost use Rattle.fallible_contract.specs.Lists.{Lists, RunsReadBehind, results, items, reversed};
-ghost use Rattle.fallible_contract.specs.Listed.{Listed};
+ghost use Rattle.fallible_contract.specs.BothEnds.{ListsBothEnds};
 ghost use Rattle.fallible_contract.specs.Traces.{item, failure};
 ghost use Rattle.fallible_iterator.specs.Listing.{ListsElements};
 ghost use Rattle.fallible_iterator.specs.Sources.Convert.{ConvertTrace, convert_parts};
@@ -21,19 +21,19 @@ use std::alloc::AllocError;
 
 /// A trace of `Convert` is, place by place, the std iterator's answers, each with the progress that std's contract states: `Ok` is an item, `Err` a failure, none an end.
 pub fn law_convert<T, E, I: std::iter::Iterator<Item = Result<T, E>>>()
-    ensures { MeetsHeld convert_parts ⟦<Convert<I> as FallibleIterator>⟧.contract.steps
+    ensures { TracesAre convert_parts ⟦<Convert<I> as FallibleIterator>⟧.contract.steps
         (ConvertTrace I.can_next I.next_gives I.remaining) }
 {}
 
 /// A trace of `IntoFallible` is, place by place, the std iterator's answers, each with the progress that std's contract states: each element is an item, none an end.
 pub fn law_into_fallible<T, I: std::iter::Iterator<Item = T>>()
-    ensures { MeetsHeld into_fallible_parts ⟦<IntoFallible<I> as FallibleIterator>⟧.contract.steps
+    ensures { TracesAre into_fallible_parts ⟦<IntoFallible<I> as FallibleIterator>⟧.contract.steps
         (IntoFallibleTrace I.can_next I.next_gives I.remaining) }
 {}
 
 /// From behind: a trace of `Convert` is, place by place, what the std iterator answers from behind, and where the std iterator reads a list from behind, that is what is listed.
 pub fn law_back_convert<T, E, I: std::iter::DoubleEndedIterator<Item = Result<T, E>>>()
-    ensures trace { MeetsHeld convert_parts ⟦<Convert<I> as DoubleEndedFallibleIterator>⟧.ends.steps
+    ensures trace { TracesAre convert_parts ⟦<Convert<I> as DoubleEndedFallibleIterator>⟧.ends.steps
         (ConvertTrace I.can_next_back I.next_back_gives I.remaining) }
     ensures results_back { (s : Convert I) (l : List (Result T E))
         → RunsReadBehind I.next_back_gives (λ y. y) (convert_parts s) l
@@ -45,10 +45,10 @@ pub fn law_back_convert<T, E, I: std::iter::DoubleEndedIterator<Item = Result<T,
 
 /// From behind: a trace of `IntoFallible` is, place by place, what the std iterator answers from behind, and where the std iterator reads a list from behind, its elements are what is listed.
 pub fn law_back_into_fallible<T, I: std::iter::DoubleEndedIterator<Item = T>>()
-    ensures trace { MeetsHeld into_fallible_parts
+    ensures trace { TracesAre into_fallible_parts
         ⟦<IntoFallible<I> as DoubleEndedFallibleIterator>⟧.ends.steps
         (IntoFallibleTrace I.can_next_back I.next_back_gives I.remaining) }
-    ensures lists_back { (s : IntoFallible I) (l : List T)
+    ensures lists_second { (s : IntoFallible I) (l : List T)
         → RunsReadBehind I.next_back_gives (λ x. x) (into_fallible_parts s) l
         → Lists ⟦<IntoFallible<I> as DoubleEndedFallibleIterator>⟧.ends.steps s
         (reversed (items l)) }
@@ -57,50 +57,50 @@ pub fn law_back_into_fallible<T, I: std::iter::DoubleEndedIterator<Item = T>>()
 /// `Convert` lists what the std iterator lists, call by call from both ends; so also what is left of one whose state shows that, where each `next` gives the first of it and each `next_back` the last.
 pub fn law_listed_convert<T, E, I: std::iter::DoubleEndedIterator<Item = Result<T, E>>>()
     ensures { ListsElements convert_parts Ok Err results I.next_gives I.next_back_gives
-        (Listed ⟦<Convert<I> as FallibleIterator>⟧.contract.steps
+        (ListsBothEnds ⟦<Convert<I> as FallibleIterator>⟧.contract.steps
         ⟦<Convert<I> as DoubleEndedFallibleIterator>⟧.ends.steps) }
 {}
 
 /// `IntoFallible` lists what the std iterator lists, each element an item; so also what is left of one whose state shows that.
 pub fn law_listed_into_fallible<T, I: std::iter::DoubleEndedIterator<Item = T>>()
     ensures { ListsElements into_fallible_parts (λ x. x) never items I.next_gives I.next_back_gives
-        (Listed ⟦<IntoFallible<I> as FallibleIterator>⟧.contract.steps
+        (ListsBothEnds ⟦<IntoFallible<I> as FallibleIterator>⟧.contract.steps
         ⟦<IntoFallible<I> as DoubleEndedFallibleIterator>⟧.ends.steps) }
 {}
 
 /// A trace of `FromFn` is the closure's answers, one call a draw.
 pub fn law_from_fn<T, E, F: FnMut() -> Result<Option<T>, E>>()
-    ensures { MeetsHeld from_fn_parts ⟦<FromFn<F> as FallibleIterator>⟧.contract.steps
+    ensures { TracesAre from_fn_parts ⟦<FromFn<F> as FallibleIterator>⟧.contract.steps
         (FromFnTrace F.FnMut) }
 {}
 
 /// A trace of `Empty` has only ends.
 pub fn law_empty<T, E>()
-    ensures { MeetsHeld (λ s. s) ⟦<Empty<T, E> as FallibleIterator>⟧.contract.steps
+    ensures { TracesAre (λ s. s) ⟦<Empty<T, E> as FallibleIterator>⟧.contract.steps
         (λ _ trace _. EmptyTrace trace) }
 {}
 
 /// A trace of `Once` is its item, and then ends.
 pub fn law_once<T: Drop, E>()
-    ensures { MeetsHeld once_parts ⟦<Once<T, E> as FallibleIterator>⟧.contract.steps
+    ensures { TracesAre once_parts ⟦<Once<T, E> as FallibleIterator>⟧.contract.steps
         (OnceTrace item) }
 {}
 
 /// A trace of `OnceErr` is its failure, and then ends.
 pub fn law_once_err<T, E: Drop>()
-    ensures { MeetsHeld once_err_parts ⟦<OnceErr<T, E> as FallibleIterator>⟧.contract.steps
+    ensures { TracesAre once_err_parts ⟦<OnceErr<T, E> as FallibleIterator>⟧.contract.steps
         (OnceTrace failure) }
 {}
 
 /// A trace of `Repeat` has clones of its value as items, and, where a clone was refused, the failure made of the refusal.
 pub fn law_repeat<T: Clone, E: From<AllocError>>()
-    ensures { MeetsHeld repeat_parts ⟦<Repeat<T, E> as FallibleIterator>⟧.contract.steps
+    ensures { TracesAre repeat_parts ⟦<Repeat<T, E> as FallibleIterator>⟧.contract.steps
         (RepeatTrace T.is_clone T.is_infallible E.from_gives) }
 {}
 
 /// A trace of `RepeatErr` has clones of its error as failures, and, where a clone was refused, the failure made of the refusal.
 pub fn law_repeat_err<T, E: Clone + From<AllocError>>()
-    ensures { MeetsHeld repeat_err_parts ⟦<RepeatErr<T, E> as FallibleIterator>⟧.contract.steps
+    ensures { TracesAre repeat_err_parts ⟦<RepeatErr<T, E> as FallibleIterator>⟧.contract.steps
         (RepeatErrTrace E.is_clone E.is_infallible E.from_gives) }
 {}
 
@@ -114,28 +114,28 @@ where
     BackI: std::iter::DoubleEndedIterator<Item = Result<T, E>>,
     BackJ: std::iter::DoubleEndedIterator<Item = T>,
     F: FnMut() -> Result<Option<T>, E>,
-    ensures convert { MeetsHeld convert_parts ⟦<Convert<I> as FallibleIterator>⟧.contract.steps
+    ensures convert { TracesAre convert_parts ⟦<Convert<I> as FallibleIterator>⟧.contract.steps
         (ConvertTrace I.can_next I.next_gives I.remaining) }
-    ensures into_fallible { MeetsHeld into_fallible_parts
+    ensures into_fallible { TracesAre into_fallible_parts
         ⟦<IntoFallible<J> as FallibleIterator>⟧.contract.steps
         (IntoFallibleTrace J.can_next J.next_gives J.remaining) }
-    ensures back_convert { MeetsHeld convert_parts
+    ensures back_convert { TracesAre convert_parts
         ⟦<Convert<BackI> as DoubleEndedFallibleIterator>⟧.ends.steps
         (ConvertTrace BackI.can_next_back BackI.next_back_gives BackI.remaining) }
-    ensures back_into_fallible { MeetsHeld into_fallible_parts
+    ensures back_into_fallible { TracesAre into_fallible_parts
         ⟦<IntoFallible<BackJ> as DoubleEndedFallibleIterator>⟧.ends.steps
         (IntoFallibleTrace BackJ.can_next_back BackJ.next_back_gives BackJ.remaining) }
-    ensures from_fn { MeetsHeld from_fn_parts ⟦<FromFn<F> as FallibleIterator>⟧.contract.steps
+    ensures from_fn { TracesAre from_fn_parts ⟦<FromFn<F> as FallibleIterator>⟧.contract.steps
         (FromFnTrace F.FnMut) }
-    ensures empty { MeetsHeld (λ s. s) ⟦<Empty<T, E> as FallibleIterator>⟧.contract.steps
+    ensures empty { TracesAre (λ s. s) ⟦<Empty<T, E> as FallibleIterator>⟧.contract.steps
         (λ _ trace _. EmptyTrace trace) }
-    ensures once { MeetsHeld once_parts ⟦<Once<T, E> as FallibleIterator>⟧.contract.steps
+    ensures once { TracesAre once_parts ⟦<Once<T, E> as FallibleIterator>⟧.contract.steps
         (OnceTrace item) }
-    ensures once_err { MeetsHeld once_err_parts ⟦<OnceErr<T, E> as FallibleIterator>⟧.contract.steps
+    ensures once_err { TracesAre once_err_parts ⟦<OnceErr<T, E> as FallibleIterator>⟧.contract.steps
         (OnceTrace failure) }
-    ensures repeat { MeetsHeld repeat_parts ⟦<Repeat<T, E> as FallibleIterator>⟧.contract.steps
+    ensures repeat { TracesAre repeat_parts ⟦<Repeat<T, E> as FallibleIterator>⟧.contract.steps
         (RepeatTrace T.is_clone T.is_infallible E.from_gives) }
-    ensures repeat_err { MeetsHeld repeat_err_parts
+    ensures repeat_err { TracesAre repeat_err_parts
         ⟦<RepeatErr<T, E> as FallibleIterator>⟧.contract.steps
         (RepeatErrTrace E.is_clone E.is_infallible E.from_gives) }
 {

@@ -2,9 +2,9 @@
 ghost use Rattle.std.specs.Prelude.{◌≡◌, ℕ, ◌+◌, ◌≤◌, List, length, take, IfOk, IfErr, Result, Option};
 ghost use Rattle.fallible_contract.specs.Contract.{Contract, Stays};
 ghost use Rattle.fallible_contract.specs.Ends.{from_front};
-ghost use Rattle.fallible_contract.specs.Answers.{answer_of, IsAnswers, IsAnswersAt, answers_of};
+ghost use Rattle.fallible_contract.specs.ShownTraces.{answer_of, IsAnswers, IsAnswersAt, answers_of};
 ghost use Rattle.fallible_contract.specs.Lists.{Lists};
-ghost use Rattle.fallible_contract.specs.Listed.{step_at};
+ghost use Rattle.fallible_contract.specs.BothEnds.{step_at};
 
 use fallible_contract::answers::{Answer, Side};
 use fallible_core::{DoubleEndedFallibleIterator, FallibleIterator};
@@ -17,7 +17,7 @@ pub fn answers<I: FallibleIterator>(
     n: usize,
 ) -> Result<Vec<Answer<I::Item, I::Error>>, AllocError>
 where
-    requires { I.contract.can it.old }
+    requires { I.contract.can_next it.old }
     ensures drawn { IfOk result (λ v. IsAnswers I.contract.steps it.old n v.items it.new) }
     ensures value { (l : List (Result I.Item I.Error)) → n ≤ length l + 1
         → Lists I.contract.steps it.old l → IfOk result (λ v. v.items ≡ take n (answers_of l)) }
@@ -39,7 +39,7 @@ pub fn answers_at<I: DoubleEndedFallibleIterator>(
     sides: &[Side],
 ) -> Result<Vec<Answer<I::Item, I::Error>>, AllocError>
 where
-    requires { I.ends.can it.old }
+    requires { I.ends.can_next it.old }
     ensures drawn { IfOk result
         (λ v. IsAnswersAt I.contract.steps I.ends.steps it.old sides.now v.items it.new) }
     ensures refused { IfErr result (λ _. it.new ≡ it.old) }
@@ -55,7 +55,7 @@ where
 
 fn draw<I: FallibleIterator>(it: &mut I) -> Answer<I::Item, I::Error>
 where
-    requires { I.contract.can it.old }
+    requires { I.contract.can_next it.old }
     ensures { (r : Result (Option I.Item) I.Error) × I.contract.steps it.old r it.new
         × (result ≡ answer_of r) }
 {
@@ -64,7 +64,7 @@ where
 
 fn draw_at<I: DoubleEndedFallibleIterator>(it: &mut I, side: Side) -> Answer<I::Item, I::Error>
 where
-    requires { I.ends.can it.old }
+    requires { I.ends.can_next it.old }
     ensures { (r : Result (Option I.Item) I.Error)
         × step_at I.contract.steps I.ends.steps side it.old r it.new × (result ≡ answer_of r) }
 {

@@ -10,7 +10,7 @@ ghost use Rattle.fallible_contract.specs.Laws.Contract.{lawful_seen};
 ghost use Rattle.fallible_contract.specs.Laws.Ends.{lawful_ends_seen};
 ghost use Rattle.fallible_iterator.specs.Laws.Sources.Std.{lawful_std, lawful_std_ends};
 
-use crate::sources::std_fold::{Progressing, exited, turn};
+use crate::sources::std_fold::{Progressing, exited, turn_of_element};
 use fallible_contract::folds::{Exit, Turn};
 use fallible_core::{DoubleEndedFallibleIterator, FallibleIterator, Rev};
 
@@ -30,16 +30,19 @@ impl<T, E, I: std::iter::Iterator<Item = Result<T, E>>> FallibleIterator for Con
 
     /// Draws one element of the std iterator.
     fn next(&mut self) -> Result<Option<T>, E> {
-        answer(self.it.next())
+        transpose(self.it.next())
     }
 
     fn size_hint(&self) -> (usize, Option<usize>) {
         self.it.size_hint()
     }
 
-    fn try_fold_carrying<C, R, K: Turn<C, T, R>>(&mut self, init: C, k: &K) -> Exit<C, E, R> {
+    fn try_fold_carrying<C, R, K: Turn<C, T, R>>(&mut self, init: C, turn: &K) -> Exit<C, E, R> {
         let mut drawn = Progressing { it: &mut self.it };
-        exited(drawn.try_fold(init, |carried, element| turn(k, carried, element)))
+        exited(drawn.try_fold(
+            init,
+            |carried, element| turn_of_element(turn, carried, element),
+        ))
     }
 
     ghost lawful = { lawful_seen convert_parts
@@ -53,12 +56,15 @@ impl<T, E, I: std::iter::DoubleEndedIterator<Item = Result<T, E>>> DoubleEndedFa
 
     /// Draws one element of the std iterator from behind.
     fn next_back(&mut self) -> Result<Option<T>, E> {
-        answer(self.it.next_back())
+        transpose(self.it.next_back())
     }
 
-    fn try_rfold_carrying<C, R, K: Turn<C, T, R>>(&mut self, init: C, k: &K) -> Exit<C, E, R> {
+    fn try_rfold_carrying<C, R, K: Turn<C, T, R>>(&mut self, init: C, turn: &K) -> Exit<C, E, R> {
         let mut drawn = Progressing { it: &mut self.it };
-        exited(drawn.try_rfold(init, |carried, element| turn(k, carried, element)))
+        exited(drawn.try_rfold(
+            init,
+            |carried, element| turn_of_element(turn, carried, element),
+        ))
     }
 
     ghost lawful_ends = { lawful_ends_seen convert_parts
@@ -88,7 +94,7 @@ impl<T, E, I: std::iter::DoubleEndedIterator<Item = Result<T, E>>> Convert<I> {
 }
 
 // The answer that an element of the std iterator is: `Ok` an item, `Err` a failure, none an end.
-fn answer<T, E>(element: Option<Result<T, E>>) -> Result<Option<T>, E>
+fn transpose<T, E>(element: Option<Result<T, E>>) -> Result<Option<T>, E>
     ensures { element ≡ element_by Ok Err result }
 {
     match element {

@@ -9,7 +9,7 @@ ghost use Rattle.fallible_contract.specs.Laws.Contract.{lawful_seen};
 ghost use Rattle.fallible_contract.specs.Laws.Ends.{lawful_ends_seen};
 ghost use Rattle.fallible_iterator.specs.Laws.Sources.Std.{lawful_std, lawful_std_ends};
 
-use crate::sources::std_fold::{Progressing, exited, turn};
+use crate::sources::std_fold::{Progressing, exited, turn_of_element};
 use fallible_contract::folds::{Exit, Turn};
 use fallible_core::{DoubleEndedFallibleIterator, FallibleIterator, Rev};
 use std::convert::Infallible;
@@ -40,10 +40,10 @@ impl<T, I: std::iter::Iterator<Item = T>> FallibleIterator for IntoFallible<I> {
     fn try_fold_carrying<C, R, K: Turn<C, T, R>>(
         &mut self,
         init: C,
-        k: &K,
+        turn: &K,
     ) -> Exit<C, Infallible, R> {
         let mut drawn = Progressing { it: &mut self.it };
-        exited(drawn.try_fold(init, |carried, x| turn(k, carried, Ok(x))))
+        exited(drawn.try_fold(init, |carried, x| turn_of_element(turn, carried, Ok(x))))
     }
 
     ghost lawful = { lawful_seen into_fallible_parts
@@ -64,10 +64,10 @@ impl<T, I: std::iter::DoubleEndedIterator<Item = T>> DoubleEndedFallibleIterator
     fn try_rfold_carrying<C, R, K: Turn<C, T, R>>(
         &mut self,
         init: C,
-        k: &K,
+        turn: &K,
     ) -> Exit<C, Infallible, R> {
         let mut drawn = Progressing { it: &mut self.it };
-        exited(drawn.try_rfold(init, |carried, x| turn(k, carried, Ok(x))))
+        exited(drawn.try_rfold(init, |carried, x| turn_of_element(turn, carried, Ok(x))))
     }
 
     ghost lawful_ends = { lawful_ends_seen into_fallible_parts
@@ -83,7 +83,7 @@ impl<T, I: std::iter::DoubleEndedIterator<Item = T>> IntoFallible<I> {
         ensures lists { (l : List (Result T Infallible))
             → Lists ⟦<IntoFallible<I> as DoubleEndedFallibleIterator>⟧.ends.steps self l
             → Lists ⟦<Rev<IntoFallible<I>> as FallibleIterator>⟧.contract.steps result l }
-        ensures lists_back { (l : List T)
+        ensures lists_second { (l : List T)
             → RunsReadBehind I.next_back_gives (λ x. x) (into_fallible_parts self) l
             → Lists ⟦<Rev<IntoFallible<I>> as FallibleIterator>⟧.contract.steps result
             (reversed (items l)) }

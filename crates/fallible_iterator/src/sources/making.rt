@@ -74,7 +74,7 @@ pub fn once_err<T, E>(error: E) -> OnceErr<T, E>
 
 /// Makes a fallible iterator of a closure, which is called once for each draw, also after an end or a failure, and whose answer is that of the draw. It calls nothing now.
 ///
-/// It asks that the closure may be called in each state that such calls bring it to. It has no number to come, so it is drained through `take`.
+/// Asks that the closure may be called in each state that such calls bring it to. It states no bound, so it is drained through `take`.
 pub fn from_fn<I, E, F: FnMut() -> Result<Option<I>, E>>(fun: F) -> FromFn<F>
     requires { IsCallable (call_of_none F.FnMut) (λ f _. F.pre f) (λ _. ⊤) fun }
     ensures { from_fn_parts result ≡ fun }
@@ -92,7 +92,7 @@ pub fn empty<T, E>() -> Empty<T, E>
     }
 }
 
-/// Makes a fallible iterator that always gives a clone of `value`; where a clone is refused, the answer is the failure made of the refusal, and the value stays. It has no number to come, so it is drained through `take`.
+/// Makes a fallible iterator that always gives a clone of `value`; where a clone is refused, the answer is the failure made of the refusal, and the value stays. It states no bound, so it is drained through `take`.
 pub fn repeat<T: Clone, E: From<AllocError>>(value: T) -> Repeat<T, E>
     ensures parts { repeat_parts result ≡ value }
     ensures repeats { T.is_infallible value → ((x : T) → T.is_clone value x → x ≡ value)

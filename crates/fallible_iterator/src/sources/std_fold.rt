@@ -37,16 +37,16 @@ impl<'a, I: std::iter::DoubleEndedIterator> std::iter::DoubleEndedIterator for P
 }
 
 // One turn of std's fold: the caller's turn on an item. A failure stops the fold.
-pub(crate) fn turn<C, A, E, R, K: Turn<C, A, R>>(
-    k: &K,
+pub(crate) fn turn_of_element<C, A, E, R, K: Turn<C, A, R>>(
+    turn: &K,
     carried: C,
     element: Result<A, E>,
 ) -> Result<C, Exit<C, E, R>>
-    requires { IfOk element (λ x. K.can_turn k.now carried x) }
-    ensures { ElementTurn (K.turns k.now) carried element result }
+    requires { IfOk element (λ x. K.can_turn turn.now carried x) }
+    ensures { ElementTurn (K.turns turn.now) carried element result }
 {
     match element {
-        Ok(x) => match k.turn(carried, x) {
+        Ok(x) => match turn.turn(carried, x) {
             ControlFlow::Continue(carried) => Ok(carried),
             ControlFlow::Break(stop) => Err(Exit::Stopped(stop)),
         },

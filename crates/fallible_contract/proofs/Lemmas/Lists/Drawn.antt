@@ -4,7 +4,7 @@ use Rattle.std.specs.List.{FoldsTo, last_or}
 use Rattle.std.proofs.Common.{refl, sym, ap, subst, ◌∙◌, arith}
 use Rattle.std.specs.declared.alloc.AllocError.{AllocError}
 use Rattle.fallible_contract.specs.Traces.{Answered, Run, item}
-use Rattle.fallible_contract.specs.Folds.{Counted, CountExit, LastOf, LastExit, Nth, NthExit, fold_turn, FoldExit, Folded, ReduceCall}
+use Rattle.fallible_contract.specs.Folds.{Counted, CountExit, LastOf, LastExit, Nth, NthExit, went_on_with, FoldExit, Folded, ReduceCall}
 use Rattle.fallible_contract.specs.declared.collecting.Fault.{Fault}
 use Rattle.fallible_contract.specs.declared.collecting.Fault.TheVariants.{Source, Memory}
 use Rattle.fallible_contract.specs.Collecting.{Collects, MadeOfParts}
@@ -144,12 +144,12 @@ nth_is {steps = steps} {s = s} {t = t} {n = n} {r = r} l c i =
 
 module _ {A E F B E' : Type 0} (call : F → B → A → Result B E' → F → Type 0) (from : E → E' → Type 0) (convert : E → E') (h : B → A → Result B E') (f : F) (acts : ActsWith call f h) (converts : Converts from convert) where
   -- the closure went on over the items, and stayed as it is
-  folded_front : (items : List A) (rest : List (Result A E)) (b v : B) (g : F) → FoldsTo {P = B × F} (fold_turn call) (b, f) items (v, g) → (g ≡ f) × (folded convert h b (map (λ x. Ok x) items ++ rest) ≡ folded convert h v rest)
+  folded_front : (items : List A) (rest : List (Result A E)) (b v : B) (g : F) → FoldsTo {P = B × F} (went_on_with call) (b, f) items (v, g) → (g ≡ f) × (folded convert h b (map (λ x. Ok x) items ++ rest) ≡ folded convert h v rest)
   unfolding folded
   folded_front [] rest b v g went = (sym (ap (λ p. p.1) went), ap (λ p. folded convert h p.0 rest) went)
   folded_front (x ∷ items) rest b v g went =
       let a = acts b x (Ok (went.0).0) (went.0).1 went.1 in
-      let others : FoldsTo {P = B × F} (fold_turn call) ((went.0).0, f) items (v, g) = subst (λ (k : F). FoldsTo {P = B × F} (fold_turn call) ((went.0).0, k) items (v, g)) a.0 went.2 in
+      let others : FoldsTo {P = B × F} (went_on_with call) ((went.0).0, f) items (v, g) = subst (λ (k : F). FoldsTo {P = B × F} (went_on_with call) ((went.0).0, k) items (v, g)) a.0 went.2 in
       let d = folded_front items rest (went.0).0 v g others in
       (d.0, ap (λ (w : Result B E'). on_value w (λ c. folded convert h c (map (λ x. Ok x) items ++ rest))) (sym a.1) ∙ d.1)
 

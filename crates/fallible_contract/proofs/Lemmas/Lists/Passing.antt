@@ -105,22 +105,22 @@ module _ {S F P X R B E : Type 0} (steps : S → Answered X E → S → Type 0) 
   end_given l x s f p is at a r t g (leaves_out z v step called out c) = absurd (let q = sym out ∙ (called_as l x End s f p is at a z v _ _ step called).outcome_is in cc)
 
   -- a state from which the draw is made once the item is left out
-  left_given : (l : List (Result X E)) (rest : List (Result B E)) (x : X) (s : S) (f : F) (p : P) → outcome x (answers p x) ≡ LeftOut → At f p → AlwaysGives steps s (Ok x ∷ l)
+  draw_after_left_out : (l : List (Result X E)) (rest : List (Result B E)) (x : X) (s : S) (f : F) (p : P) → outcome x (answers p x) ≡ LeftOut → At f p → AlwaysGives steps s (Ok x ∷ l)
       → ((u : S) (g : F) → At g (next p x) → AlwaysGives steps u l → Gives u g rest) → (r : Answered B E) (t : S) (g : F) → Passes steps call outcome s f (r ∷ []) t g
       → (q : S × F) × passing_step steps call outcome q r (t, g) × AlwaysGives (passing_step steps call outcome) q rest
-  left_given l rest x s f p is at a then _ t g (ends step c) = absurd (let h = (a (Ok None) _ step).0 in cc)
-  left_given l rest x s f p is at a then _ t g (fails e step c) = absurd (let h = (a (Err e) _ step).0 in cc)
-  left_given l rest x s f p is at a then _ t g (keeps z v w step called out c) = absurd (let q = sym out ∙ (called_as l x LeftOut s f p is at a z v _ _ step called).outcome_is in cc)
-  left_given l rest x s f p is at a then _ t g (refuses z v e step called out c) = absurd (let q = sym out ∙ (called_as l x LeftOut s f p is at a z v _ _ step called).outcome_is in cc)
-  left_given l rest x s f p is at a then _ t g (closes z v step called out c) = absurd (let q = sym out ∙ (called_as l x LeftOut s f p is at a z v _ _ step called).outcome_is in cc)
-  left_given l rest x s f p is at a then r t g (leaves_out {u = u} {h = h} z v step called out c) = let k = called_as l x LeftOut s f p is at a z v u h step called in ((u, h), from_passes c, then u h k.at k.others)
+  draw_after_left_out l rest x s f p is at a then _ t g (ends step c) = absurd (let h = (a (Ok None) _ step).0 in cc)
+  draw_after_left_out l rest x s f p is at a then _ t g (fails e step c) = absurd (let h = (a (Err e) _ step).0 in cc)
+  draw_after_left_out l rest x s f p is at a then _ t g (keeps z v w step called out c) = absurd (let q = sym out ∙ (called_as l x LeftOut s f p is at a z v _ _ step called).outcome_is in cc)
+  draw_after_left_out l rest x s f p is at a then _ t g (refuses z v e step called out c) = absurd (let q = sym out ∙ (called_as l x LeftOut s f p is at a z v _ _ step called).outcome_is in cc)
+  draw_after_left_out l rest x s f p is at a then _ t g (closes z v step called out c) = absurd (let q = sym out ∙ (called_as l x LeftOut s f p is at a z v _ _ step called).outcome_is in cc)
+  draw_after_left_out l rest x s f p is at a then r t g (leaves_out {u = u} {h = h} z v step called out c) = let k = called_as l x LeftOut s f p is at a z v u h step called in ((u, h), from_passes c, then u h k.at k.others)
 
   item_given : (l : List (Result X E)) (rest : List (Result B E)) (x : X) (o : Outcome B E) (s : S) (f : F) (p : P) → outcome x (answers p x) ≡ o → At f p → AlwaysGives steps s (Ok x ∷ l)
       → ((u : S) (g : F) → At g (next p x) → AlwaysGives steps u l → Gives u g rest) → Gives s f (by_outcome o rest)
   item_given l rest x (Kept y) s f p is at a then = λ r t w. kept_given l rest x y s f p is at a then r t.0 t.1 (to_passes w)
   item_given l rest x (Failure d) s f p is at a then = λ r t w. failed_given l rest x d s f p is at a then r t.0 t.1 (to_passes w)
   item_given l rest x End s f p is at a then = λ r t w. end_given l x s f p is at a r t.0 t.1 (to_passes w)
-  item_given l rest x LeftOut s f p is at a then = gives_if (passing_step steps call outcome) rest (s, f) (λ r t w. left_given l rest x s f p is at a then r t.0 t.1 (to_passes w))
+  item_given l rest x LeftOut s f p is at a then = gives_if (passing_step steps call outcome) rest (s, f) (λ r t w. draw_after_left_out l rest x s f p is at a then r t.0 t.1 (to_passes w))
 
   pub all_given : (l : List (Result X E)) (s : S) (f : F) (p : P) → At f p → AlwaysGives steps s l → Gives s f (passed outcome answers next p l)
   all_given [] s f p at a = λ r t w. none_given s f r t.0 t.1 a (to_passes w)

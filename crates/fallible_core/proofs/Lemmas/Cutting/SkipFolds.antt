@@ -7,7 +7,7 @@ use Rattle.fallible_contract.specs.declared.folds.Exit.{Exit}
 use Rattle.fallible_contract.specs.declared.folds.Exit.TheVariants.{Ended, Failed, Stopped}
 use Rattle.fallible_contract.specs.Traces.{Answered, Run, item}
 use Rattle.fallible_contract.specs.Contract.{Contract, seen_as}
-use Rattle.fallible_contract.specs.Folds.{HoldsAtEachTurn, Carried, CarryingExit, carrying_turn, ReachTurn, reached_at}
+use Rattle.fallible_contract.specs.Folds.{HoldsAtEachTurn, Carried, CarryingExit, carrying_turn, IsNthTurn, reached_at}
 use Rattle.fallible_contract.proofs.Lemmas.Counting.{Leaves, none, keeps_item, keeps_end, keeps_failure, leaves_out, left_out_first, moved, nothing_left}
 use Rattle.fallible_contract.proofs.Lemmas.Folding.{holds_into, carried_into}
 use Rattle.fallible_core.specs.declared.cutting.skip.Skip.{Skip}
@@ -26,7 +26,7 @@ module _ {S A E : Type 0} (steps : S → Answered A E → S → Type 0) where
   -- ---- the fold that passes over the items to leave out
 
   -- each turn that goes on leaves one item out, and then comes the last answer
-  passed : (items : List A) (last : Answered A E) (n d k : ℕ) (s t : S) → FoldsTo (carrying_turn ReachTurn) n items d → Run steps s (map item items ++ last ∷ []) t → ((u : S) → steps u last t → Leaves steps 0 d u (last ∷ []) t k) → Leaves steps 0 n s (last ∷ []) t k
+  passed : (items : List A) (last : Answered A E) (n d k : ℕ) (s t : S) → FoldsTo (carrying_turn IsNthTurn) n items d → Run steps s (map item items ++ last ∷ []) t → ((u : S) → steps u last t → Leaves steps 0 d u (last ∷ []) t k) → Leaves steps 0 n s (last ∷ []) t k
   passed [] last n d k s t went ran then = moved steps 0 refl went (then s (subst (λ (v : S). steps s last v) ran.2 ran.1))
   passed (x ∷ items) last n d k s t went ran then = let one : n ≡ went.0 + 1 = went.1 in
       left_out_first steps 0 x n (omega (arith, one)) ran.1 (moved steps 0 refl (omega (arith, one)) (passed items last went.0 d k ran.0 t went.2 ran.2 then))
@@ -37,14 +37,14 @@ module _ {S A E : Type 0} (steps : S → Answered A E → S → Type 0) where
   left_at (Failed n e) = n
   left_at (Stopped x) = 0
 
-  reached_last : (items : List A) (last : Answered A E) (n d : ℕ) (exit : Exit ℕ E A) (s t : S) → FoldsTo (carrying_turn ReachTurn) n items d → Run steps s (map item items ++ last ∷ []) t → CarryingExit ReachTurn d last exit → Leaves steps 0 n s (reached_at exit ∷ []) t (left_at exit)
+  reached_last : (items : List A) (last : Answered A E) (n d : ℕ) (exit : Exit ℕ E A) (s t : S) → FoldsTo (carrying_turn IsNthTurn) n items d → Run steps s (map item items ++ last ∷ []) t → CarryingExit IsNthTurn d last exit → Leaves steps 0 n s (reached_at exit ∷ []) t (left_at exit)
   reached_last items (Ok None) n d exit s t went ran at = subst (λ (z : Exit ℕ E A). Leaves steps 0 n s (reached_at z ∷ []) t (left_at z)) (sym at) (passed items (Ok None) n d d s t went ran (λ u step. keeps_end step none))
   reached_last items (Err e) n d exit s t went ran at = subst (λ (z : Exit ℕ E A). Leaves steps 0 n s (reached_at z ∷ []) t (left_at z)) (sym at) (passed items (Err e) n d d s t went ran (λ u step. keeps_failure e step none))
   reached_last items (Ok (Some x)) n d exit s t went ran at = subst (λ (z : Exit ℕ E A). Leaves steps 0 n s (reached_at z ∷ []) t (left_at z)) (sym at.2)
       (subst (λ (y : A). Leaves steps 0 n s (item y ∷ []) t 0) (sym at.1.1) (passed items (item x) n d 0 s t went ran (λ u step. moved steps 0 refl at.1.0 (keeps_item x step none))))
 
   -- such a fold is one draw of `Skip`
-  pub skips_reached : {s t : S} {n : ℕ} {exit : Exit ℕ E A} → Carried steps ReachTurn s n exit t → skip_step steps (s, n) (reached_at exit) (t, left_at exit)
+  pub skips_reached : {s t : S} {n : ℕ} {exit : Exit ℕ E A} → Carried steps IsNthTurn s n exit t → skip_step steps (s, n) (reached_at exit) (t, left_at exit)
   skips_reached {s} {t} {n} {exit} w = leaves_skip steps {p = (s, n)} {q = (t, left_at exit)} (reached_last w.items w.last n w.carried exit s t w.went w.ran w.exit)
 
 abbrev skip : {S A E : Type 0} → Contract S A E → Contract (Skip S) A E

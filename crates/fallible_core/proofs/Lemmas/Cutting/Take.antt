@@ -16,35 +16,35 @@ module _ {A E : Type 0} where
   count_first (Err e) rest = omega arith
 
   -- every shorter front of a trace has fewer than n items
-  abbrev Fronts : List (Answered A E) → ℕ → Type 0
-  Fronts trace n = (front : List (Answered A E)) (r : Answered A E) (rest : List (Answered A E)) → trace ≡ front ++ r ∷ rest → items_in front < n
+  abbrev Prefixes : List (Answered A E) → ℕ → Type 0
+  Prefixes trace n = (prefix : List (Answered A E)) (r : Answered A E) (rest : List (Answered A E)) → trace ≡ prefix ++ r ∷ rest → items_in prefix < n
 
-  no_fronts : (n : ℕ) → Fronts [] n
-  no_fronts n [] r rest e = absurd cc
-  no_fronts n (x ∷ front) r rest e = absurd cc
+  no_prefixes : (n : ℕ) → Prefixes [] n
+  no_prefixes n [] r rest e = absurd cc
+  no_prefixes n (x ∷ prefix) r rest e = absurd cc
 
-  fronts_first : (r : Answered A E) (trace : List (Answered A E)) (n j : ℕ) → j + items_in (r ∷ []) ≡ suc n → Fronts trace j → Fronts (r ∷ trace) (suc n)
-  fronts_first r trace n j c h [] q rest e = omega arith
-  fronts_first r trace n j c h (x ∷ front) q rest e = let below = h front q rest cc in let same : x ≡ r = cc in rw same (omega (arith, count_first r front, below, c))
+  prefixes_first : (r : Answered A E) (trace : List (Answered A E)) (n j : ℕ) → j + items_in (r ∷ []) ≡ suc n → Prefixes trace j → Prefixes (r ∷ trace) (suc n)
+  prefixes_first r trace n j c h [] q rest e = omega arith
+  prefixes_first r trace n j c h (x ∷ prefix) q rest e = let below = h prefix q rest cc in let same : x ≡ r = cc in rw same (omega (arith, count_first r prefix, below, c))
 
-  fronts_rest : (r : Answered A E) (trace : List (Answered A E)) (n j : ℕ) → j + items_in (r ∷ []) ≡ n → Fronts (r ∷ trace) n → Fronts trace j
-  fronts_rest r trace n j c h front q rest e = let below = h (r ∷ front) q rest (ap {B = List (Answered A E)} (λ l. r ∷ l) e) in omega (arith, count_first r front, below, c)
+  prefixes_rest : (r : Answered A E) (trace : List (Answered A E)) (n j : ℕ) → j + items_in (r ∷ []) ≡ n → Prefixes (r ∷ trace) n → Prefixes trace j
+  prefixes_rest r trace n j c h prefix q rest e = let below = h (r ∷ prefix) q rest (ap {B = List (Answered A E)} (λ l. r ∷ l) e) in omega (arith, count_first r prefix, below, c)
 
 module _ {S A E : Type 0} (steps : S → Answered A E → S → Type 0) where
   -- an end without a draw more, where nothing is left to take
-  take_over_more : (source : List (Answered A E)) (ends : ℕ) (s : S) (rest : List (Answered A E)) (t : S) (k : ℕ) → Run steps s source t → rest ≡ source ++ replicate ends end → Fronts source 0 → k + items_in source ≡ 0 → TakeTrace steps (s, 0) (end ∷ rest) (t, k)
-  take_over_more [] ends s rest t k ran e fronts c = record { source_trace = []; ends = suc ends; drawn = ran; answers = ap {B = List (Answered A E)} (λ l. end ∷ l) e; fronts = no_fronts 0; at_most = omega arith; over = λ h. refl; remaining = c }
-  take_over_more (r ∷ source) ends s rest t k ran e fronts c = absurd (let h = fronts [] r source refl in omega (arith, h))
+  take_over_more : (source : List (Answered A E)) (ends : ℕ) (s : S) (rest : List (Answered A E)) (t : S) (k : ℕ) → Run steps s source t → rest ≡ source ++ replicate ends end → Prefixes source 0 → k + items_in source ≡ 0 → TakeTrace steps (s, 0) (end ∷ rest) (t, k)
+  take_over_more [] ends s rest t k ran e prefixes c = record { source_trace = []; ends = suc ends; drawn = ran; answers = ap {B = List (Answered A E)} (λ l. end ∷ l) e; prefixes = no_prefixes 0; at_most = omega arith; over = λ h. refl; remaining = c }
+  take_over_more (r ∷ source) ends s rest t k ran e prefixes c = absurd (let h = prefixes [] r source refl in omega (arith, h))
 
   to_take_trace : (trace : List (Answered A E)) (s : S) (n : ℕ) (t : S) (k : ℕ) → Run (take_step steps) (s, n) trace (t, k) → TakeTrace steps (s, n) trace (t, k)
-  to_take_trace [] s n t k e = let same : n ≡ k = ap (λ p. p.1) e in record { source_trace = []; ends = 0; drawn = ap (λ p. p.0) e; answers = refl; fronts = no_fronts n; at_most = omega arith; over = λ h. absurd (omega arith); remaining = omega (arith, same) }
-  to_take_trace (r ∷ rest) s zero t k h = let p : TakeTrace steps (s, 0) rest (t, k) = to_take_trace rest s 0 t k (rw (h.1.1, h.1.2) at h.2) in rw h.1.0 (take_over_more p.source_trace p.ends s rest t k p.drawn p.answers p.fronts p.remaining)
+  to_take_trace [] s n t k e = let same : n ≡ k = ap (λ p. p.1) e in record { source_trace = []; ends = 0; drawn = ap (λ p. p.0) e; answers = refl; prefixes = no_prefixes n; at_most = omega arith; over = λ h. absurd (omega arith); remaining = omega (arith, same) }
+  to_take_trace (r ∷ rest) s zero t k h = let p : TakeTrace steps (s, 0) rest (t, k) = to_take_trace rest s 0 t k (rw (h.1.1, h.1.2) at h.2) in rw h.1.0 (take_over_more p.source_trace p.ends s rest t k p.drawn p.answers p.prefixes p.remaining)
   to_take_trace (r ∷ rest) s (suc n) t k h = let p : TakeTrace steps (h.0.0, h.0.1) rest (t, k) = to_take_trace rest h.0.0 h.0.1 t k h.2 in record {
     source_trace = r ∷ p.source_trace;
     ends = p.ends;
     drawn = (h.0.0, h.1.0, p.drawn);
     answers = ap {B = List (Answered A E)} (λ l. r ∷ l) p.answers;
-    fronts = fronts_first r p.source_trace n h.0.1 h.1.1 p.fronts;
+    prefixes = prefixes_first r p.source_trace n h.0.1 h.1.1 p.prefixes;
     at_most = omega (arith, count_first r p.source_trace, p.at_most, h.1.1);
     over = λ some. let all = p.over some in omega (arith, count_first r p.source_trace, all, h.1.1);
     remaining = omega (arith, count_first r p.source_trace, p.remaining, h.1.1);
@@ -58,16 +58,16 @@ module _ {S A E : Type 0} (steps : S → Answered A E → S → Type 0) where
   only_ends zero s n t k e c over = rw (e, c) refl
   only_ends (suc ends) s n t k e c over = let none : n ≡ 0 = over (omega arith) in rw (c, none, ← e) (run_over (suc ends) s)
 
-  from_trace : (source : List (Answered A E)) (ends : ℕ) (s : S) (n : ℕ) (t : S) (k : ℕ) → Run steps s source t → Fronts source n → (0 < ends → items_in source ≡ n) → k + items_in source ≡ n → Run (take_step steps) (s, n) (source ++ replicate ends end) (t, k)
-  from_trace [] ends s n t k ran fronts over c = only_ends ends s n t k ran (omega (arith, c)) (λ some. let none = over some in omega (arith, none))
-  from_trace (r ∷ source) ends s zero t k ran fronts over c = absurd (let h = fronts [] r source refl in omega (arith, h))
-  from_trace (r ∷ source) ends s (suc n) t k ran fronts over c =
+  from_trace : (source : List (Answered A E)) (ends : ℕ) (s : S) (n : ℕ) (t : S) (k : ℕ) → Run steps s source t → Prefixes source n → (0 < ends → items_in source ≡ n) → k + items_in source ≡ n → Run (take_step steps) (s, n) (source ++ replicate ends end) (t, k)
+  from_trace [] ends s n t k ran prefixes over c = only_ends ends s n t k ran (omega (arith, c)) (λ some. let none = over some in omega (arith, none))
+  from_trace (r ∷ source) ends s zero t k ran prefixes over c = absurd (let h = prefixes [] r source refl in omega (arith, h))
+  from_trace (r ∷ source) ends s (suc n) t k ran prefixes over c =
       let j : ℕ = k + items_in source in
       let here : j + items_in (r ∷ []) ≡ suc n = omega (arith, count_first r source, c) in
-      ((ran.0, j), (ran.1, here), from_trace source ends ran.0 j t k ran.2 (fronts_rest r source (suc n) j here fronts) (λ some. let all = over some in omega (arith, count_first r source, all, here)) refl)
+      ((ran.0, j), (ran.1, here), from_trace source ends ran.0 j t k ran.2 (prefixes_rest r source (suc n) j here prefixes) (λ some. let all = over some in omega (arith, count_first r source, all, here)) refl)
 
   pub take_law : (p : S × ℕ) (trace : List (Answered A E)) (q : S × ℕ) → Run (take_step steps) p trace q ↔ TakeTrace steps p trace q
-  take_law p trace q = (to_take_trace trace p.0 p.1 q.0 q.1, (λ d. rw d.answers (from_trace d.source_trace d.ends p.0 p.1 q.0 q.1 d.drawn d.fronts d.over d.remaining)))
+  take_law p trace q = (to_take_trace trace p.0 p.1 q.0 q.1, (λ d. rw d.answers (from_trace d.source_trace d.ends p.0 p.1 q.0 q.1 d.drawn d.prefixes d.over d.remaining)))
 
 -- ---- what it lists
 

@@ -74,15 +74,15 @@ module _ {S F X E : Type 0} (steps : S → Answered X E → S → Type 0) (call 
   until_refused_gives (y ∷ l) p a = λ r t w. let d = a r t.0 (one_passed w.0 p t.0 r w.1 w.2) in
       (d.0, subst (λ (b : Bool). AlwaysGives until_refused (t.0, b) l) (sym (w.3 ∙ not_refused w.0 y (sym w.2 ∙ d.0))) (until_refused_gives l t.0 d.1))
 
-outcome_listed : {X E : Type 0} (x : X) (v : Result Bool E) (l : List (Result X E)) → by_outcome (take_while_outcome x v) l ≡ cons_while x v l
-outcome_listed x (Ok true) l = refl
-outcome_listed x (Ok false) l = refl
-outcome_listed x (Err e) l = refl
+by_outcome_is : {X E : Type 0} (x : X) (v : Result Bool E) (l : List (Result X E)) → by_outcome (take_while_outcome x v) l ≡ cons_while x v l
+by_outcome_is x (Ok true) l = refl
+by_outcome_is x (Ok false) l = refl
+by_outcome_is x (Err e) l = refl
 
 taken_while_is : {X E : Type 0} (h : X → Result Bool E) (l : List (Result X E)) → passed take_while_outcome (λ (p : Unit {0}) x. h x) (λ p x. p) tt l ≡ taken_while h l
 unfolding taken_while
 taken_while_is h [] = refl
-taken_while_is h (Ok x ∷ l) = outcome_listed x (h x) _ ∙ ap (λ t. cons_while x (h x) t) (taken_while_is h l)
+taken_while_is h (Ok x ∷ l) = by_outcome_is x (h x) _ ∙ ap (λ t. cons_while x (h x) t) (taken_while_is h l)
 taken_while_is h (Err e ∷ l) = ap (λ t. Err e ∷ t) (taken_while_is h l)
 
 pub lists_taken_while : {S F X E : Type 0} (m : Contract S X E) (g : Mut F (Bor X × Unit {0}) (Result Bool E)) (s : TakeWhile S F) (f : F) (h : X → Result Bool E) (l : List (Result X E)) → take_while_parts s ≡ ((s.it, Some f), false) → Acts (call_at g) f h → Lists m.steps s.it l

@@ -100,9 +100,9 @@ module _ {S F X E : Type 0} (m : Contract S X E) (a : Mut F (Bor X × Unit {0}) 
 
     module _ {C R : Type 0} (turns : C → X → ControlFlow R C → Type 0) {c : C} where
       -- where its turns may be taken, the source's may
-      pub taking_takes : {P : C → X → Type 0} → Lawful m → m.can s.it → IsCallableIn (call_at a) (takes_at a) (m.gives s.it) s.predicate → HoldsAtEachTurn steps (carrying_turn turns) P s c
+      pub taking_takes : {P : C → X → Type 0} → Lawful m → m.can_next s.it → IsCallableIn (call_at a) (takes_at a) (m.may_give s.it) s.predicate → HoldsAtEachTurn steps (carrying_turn turns) P s c
           → HoldsAtEachTurn m.steps (carrying_turn (FoldingTurn Calls take_while_outcome turns)) (FoldingTakes Calls take_while_outcome (λ p x. takes_at a p.0 x) P) s.it (c, (f, false))
-      taking_takes {P = P} l can callable holds = takes_through l Calls take_while_outcome turns can (callable_beside (call_at a) false (subst (λ (o : Option F). IsCallableIn (call_at a) (takes_at a) (m.gives s.it) o) at callable))
+      taking_takes {P = P} l can callable holds = takes_through l Calls take_while_outcome turns can (callable_beside (call_at a) false (subst (λ (o : Option F). IsCallableIn (call_at a) (takes_at a) (m.may_give s.it) o) at callable))
           (holds_while IsOpen Once steps full drawn_open stays_open refl (subst (λ (z : TakeWhile S F). HoldsAtEachTurn steps (carrying_turn turns) P z c) (sym full_is) holds))
 
       -- and a fold of the source by its turn is a fold of it

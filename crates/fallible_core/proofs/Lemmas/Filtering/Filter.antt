@@ -17,15 +17,15 @@ never_ends x (Ok true) e = absurd cc
 never_ends x (Ok false) e = absurd cc
 never_ends x (Err d) e = absurd cc
 
-outcome_listed : {X E : Type 0} (x : X) (v : Result Bool E) (l : List (Result X E)) → by_outcome (filter_outcome x v) l ≡ cons_if x v l
-outcome_listed x (Ok true) l = refl
-outcome_listed x (Ok false) l = refl
-outcome_listed x (Err e) l = refl
+by_outcome_is : {X E : Type 0} (x : X) (v : Result Bool E) (l : List (Result X E)) → by_outcome (filter_outcome x v) l ≡ cons_if x v l
+by_outcome_is x (Ok true) l = refl
+by_outcome_is x (Ok false) l = refl
+by_outcome_is x (Err e) l = refl
 
 pub filtered_is : {X E : Type 0} (h : X → Result Bool E) (l : List (Result X E)) → passed filter_outcome (λ (p : Unit {0}) x. h x) (λ p x. p) tt l ≡ filtered h l
 unfolding filtered
 filtered_is h [] = refl
-filtered_is h (Ok x ∷ l) = outcome_listed x (h x) _ ∙ ap (λ t. cons_if x (h x) t) (filtered_is h l)
+filtered_is h (Ok x ∷ l) = by_outcome_is x (h x) _ ∙ ap (λ t. cons_if x (h x) t) (filtered_is h l)
 filtered_is h (Err e ∷ l) = ap (λ t. Err e ∷ t) (filtered_is h l)
 
 pub lists_filtered : {S F X E : Type 0} (m : Contract S X E) (g : Mut F (Bor X × Unit {0}) (Result Bool E)) (s : Filter S F) (f : F) (h : X → Result Bool E) (l : List (Result X E)) → filter_parts s ≡ (s.it, Some f) → Acts (call_at g) f h → Lists m.steps s.it l

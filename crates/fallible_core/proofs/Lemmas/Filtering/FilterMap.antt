@@ -16,15 +16,15 @@ never_ends x (Ok (Some y)) e = absurd cc
 never_ends x (Ok None) e = absurd cc
 never_ends x (Err d) e = absurd cc
 
-outcome_listed : {X B E : Type 0} (x : X) (v : Result (Option B) E) (l : List (Result B E)) → by_outcome (filter_map_outcome x v) l ≡ cons_some v l
-outcome_listed x (Ok (Some y)) l = refl
-outcome_listed x (Ok None) l = refl
-outcome_listed x (Err e) l = refl
+by_outcome_is : {X B E : Type 0} (x : X) (v : Result (Option B) E) (l : List (Result B E)) → by_outcome (filter_map_outcome x v) l ≡ cons_some v l
+by_outcome_is x (Ok (Some y)) l = refl
+by_outcome_is x (Ok None) l = refl
+by_outcome_is x (Err e) l = refl
 
 pub filter_mapped_is : {X B E : Type 0} (h : X → Result (Option B) E) (l : List (Result X E)) → passed filter_map_outcome (λ (p : Unit {0}) x. h x) (λ p x. p) tt l ≡ filter_mapped h l
 unfolding filter_mapped
 filter_mapped_is h [] = refl
-filter_mapped_is h (Ok x ∷ l) = outcome_listed x (h x) _ ∙ ap (λ t. cons_some (h x) t) (filter_mapped_is h l)
+filter_mapped_is h (Ok x ∷ l) = by_outcome_is x (h x) _ ∙ ap (λ t. cons_some (h x) t) (filter_mapped_is h l)
 filter_mapped_is h (Err e ∷ l) = ap (λ t. Err e ∷ t) (filter_mapped_is h l)
 
 pub lists_filter_mapped : {S F X B E : Type 0} (m : Contract S X E) (g : Mut F (X × Unit {0}) (Result (Option B) E)) (s : FilterMap S F) (f : F) (h : X → Result (Option B) E) (l : List (Result X E)) → filter_map_parts s ≡ (s.it, Some f) → Acts (call_on g) f h → Lists m.steps s.it l

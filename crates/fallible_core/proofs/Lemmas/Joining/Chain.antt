@@ -6,7 +6,7 @@ use Rattle.fallible_contract.specs.Contract.{Contract, seen_as}
 use Rattle.fallible_contract.specs.Lists.{AlwaysGives, Lists, result_answer, chained}
 use Rattle.fallible_contract.proofs.Lemmas.Lists.Passing.{lists_seen}
 use Rattle.fallible_core.specs.declared.joining.chain.StillDrawn.{StillDrawn}
-use Rattle.fallible_core.specs.declared.joining.chain.StillDrawn.TheVariants.{Both, FrontAlone, BackAlone}
+use Rattle.fallible_core.specs.declared.joining.chain.StillDrawn.TheVariants.{Both, FirstAlone, SecondAlone}
 use Rattle.fallible_contract.specs.Traces.{Answered, Run, end, NoEnd, is_end}
 use Rattle.fallible_core.specs.Joining.Chain.{JoinedTrace, ChainTrace, chain_step, chain_parts, chain_behind, chain_contract}
 
@@ -14,64 +14,64 @@ module _ {S U A E : Type 0} (steps : S → Answered A E → S → Type 0) (other
   abbrev Step : S × U × StillDrawn → Answered A E → S × U × StillDrawn → Type 0
   Step = chain_step steps others
 
-  to_front : (trace : List (Answered A E)) (s : S) (u : U) (t : S) (v : U) (left : StillDrawn) → Run Step (s, u, FrontAlone) trace (t, v, left) → ChainTrace steps others (s, u, FrontAlone) (trace) (t, v, left)
-  to_front [] s u t v left e = (ap (λ p. p.0) e, sym (ap (λ p. p.1) e), sym (ap (λ p. p.2) e))
-  to_front (r ∷ rest) s u t v left h = let p = to_front rest h.0.0 u t v left (rw (h.1.1, h.1.2) at h.2) in ((h.0.0, h.1.0, p.0), p.1, p.2)
+  to_first : (trace : List (Answered A E)) (s : S) (u : U) (t : S) (v : U) (left : StillDrawn) → Run Step (s, u, FirstAlone) trace (t, v, left) → ChainTrace steps others (s, u, FirstAlone) (trace) (t, v, left)
+  to_first [] s u t v left e = (ap (λ p. p.0) e, sym (ap (λ p. p.1) e), sym (ap (λ p. p.2) e))
+  to_first (r ∷ rest) s u t v left h = let p = to_first rest h.0.0 u t v left (rw (h.1.1, h.1.2) at h.2) in ((h.0.0, h.1.0, p.0), p.1, p.2)
 
-  to_back : (trace : List (Answered A E)) (s : S) (u : U) (t : S) (v : U) (left : StillDrawn) → Run Step (s, u, BackAlone) trace (t, v, left) → ChainTrace steps others (s, u, BackAlone) (trace) (t, v, left)
-  to_back [] s u t v left e = (ap (λ p. p.1) e, sym (ap (λ p. p.0) e), sym (ap (λ p. p.2) e))
-  to_back (r ∷ rest) s u t v left h = let p = to_back rest s h.0.1 t v left (rw (h.1.1, h.1.2) at h.2) in ((h.0.1, h.1.0, p.0), p.1, p.2)
+  to_second : (trace : List (Answered A E)) (s : S) (u : U) (t : S) (v : U) (left : StillDrawn) → Run Step (s, u, SecondAlone) trace (t, v, left) → ChainTrace steps others (s, u, SecondAlone) (trace) (t, v, left)
+  to_second [] s u t v left e = (ap (λ p. p.1) e, sym (ap (λ p. p.0) e), sym (ap (λ p. p.2) e))
+  to_second (r ∷ rest) s u t v left h = let p = to_second rest s h.0.1 t v left (rw (h.1.1, h.1.2) at h.2) in ((h.0.1, h.1.0, p.0), p.1, p.2)
 
-  -- an answer of the front before those of a trace
-  front_first : (s x t : S) (u v : U) (left : StillDrawn) (r : Answered A E) (rest : List (Answered A E)) → steps s r x → is_end r ≡ false → ChainTrace steps others (x, u, Both) (rest) (t, v, left) → ChainTrace steps others (s, u, Both) (r ∷ rest) (t, v, left)
-  front_first s x t u v left r rest step e (inl p) = inl ((x, step, p.0), (e, p.1), p.2, p.3)
-  front_first s x t u v left r rest step e (inr p) = let j = p.0 in inr (
-    record { before_end = r ∷ j.before_end; back_trace = j.back_trace; front_drawn = (x, step, j.front_drawn); no_end = (e, j.no_end); back_drawn = j.back_drawn; not_empty = j.not_empty; answers = ap {B = List (Answered A E)} (λ l. r ∷ l) j.answers },
+  -- an answer of the first before those of a trace
+  first_first : (s x t : S) (u v : U) (left : StillDrawn) (r : Answered A E) (rest : List (Answered A E)) → steps s r x → is_end r ≡ false → ChainTrace steps others (x, u, Both) (rest) (t, v, left) → ChainTrace steps others (s, u, Both) (r ∷ rest) (t, v, left)
+  first_first s x t u v left r rest step e (inl p) = inl ((x, step, p.0), (e, p.1), p.2, p.3)
+  first_first s x t u v left r rest step e (inr p) = let j = p.0 in inr (
+    record { before_end = r ∷ j.before_end; second_trace = j.second_trace; first_drawn = (x, step, j.first_drawn); no_end = (e, j.no_end); second_drawn = j.second_drawn; not_empty = j.not_empty; answers = ap {B = List (Answered A E)} (λ l. r ∷ l) j.answers },
     p.1,
   )
 
-  -- the front's end, and then answers of the back
+  -- the first's end, and then answers of the second
   end_first : (s x t : S) (u y v : U) (r : Answered A E) (rest : List (Answered A E)) → steps s end x → others u r y → Run others y rest v → t ≡ x → JoinedTrace steps others s u (r ∷ rest) t v
-  end_first s x t u y v r rest met step ran e = record { before_end = []; back_trace = r ∷ rest; front_drawn = (x, met, sym e); no_end = tt; back_drawn = (y, step, ran); not_empty = λ d. absurd cc; answers = refl }
+  end_first s x t u y v r rest met step ran e = record { before_end = []; second_trace = r ∷ rest; first_drawn = (x, met, sym e); no_end = tt; second_drawn = (y, step, ran); not_empty = λ d. absurd cc; answers = refl }
 
   to_both : (trace : List (Answered A E)) (s : S) (u : U) (t : S) (v : U) (left : StillDrawn) → Run Step (s, u, Both) trace (t, v, left) → ChainTrace steps others (s, u, Both) (trace) (t, v, left)
   to_both [] s u t v left e = inl (ap (λ p. p.0) e, tt, sym (ap (λ p. p.1) e), sym (ap (λ p. p.2) e))
   to_both (r ∷ rest) s u t v left h = elim h.1 [
-    | inl step ↦ front_first s h.0.0 t u v left r rest step.0 step.1 (to_both rest h.0.0 u t v left (rw (step.2, step.3) at h.2))
-    | inr step ↦ let p = to_back rest h.0.0 h.0.1 t v left (rw step.2 at h.2) in inr (end_first s h.0.0 t u h.0.1 v r rest step.0 step.1 p.0 p.1, p.2)
+    | inl step ↦ first_first s h.0.0 t u v left r rest step.0 step.1 (to_both rest h.0.0 u t v left (rw (step.2, step.3) at h.2))
+    | inr step ↦ let p = to_second rest h.0.0 h.0.1 t v left (rw step.2 at h.2) in inr (end_first s h.0.0 t u h.0.1 v r rest step.0 step.1 p.0 p.1, p.2)
   ]
 
-  pub from_front : (trace : List (Answered A E)) (s : S) (u : U) (t : S) → Run steps s trace t → Run Step (s, u, FrontAlone) trace (t, u, FrontAlone)
-  from_front [] s u t ran = rw ran refl
-  from_front (r ∷ rest) s u t ran = ((ran.0, u, FrontAlone), (ran.1, refl, refl), from_front rest ran.0 u t ran.2)
+  pub from_first : (trace : List (Answered A E)) (s : S) (u : U) (t : S) → Run steps s trace t → Run Step (s, u, FirstAlone) trace (t, u, FirstAlone)
+  from_first [] s u t ran = rw ran refl
+  from_first (r ∷ rest) s u t ran = ((ran.0, u, FirstAlone), (ran.1, refl, refl), from_first rest ran.0 u t ran.2)
 
-  pub from_back : (trace : List (Answered A E)) (s : S) (u : U) (v : U) → Run others u trace v → Run Step (s, u, BackAlone) trace (s, v, BackAlone)
-  from_back [] s u v ran = rw ran refl
-  from_back (r ∷ rest) s u v ran = ((s, ran.0, BackAlone), (ran.1, refl, refl), from_back rest s ran.0 v ran.2)
+  pub from_second : (trace : List (Answered A E)) (s : S) (u : U) (v : U) → Run others u trace v → Run Step (s, u, SecondAlone) trace (s, v, SecondAlone)
+  from_second [] s u v ran = rw ran refl
+  from_second (r ∷ rest) s u v ran = ((s, ran.0, SecondAlone), (ran.1, refl, refl), from_second rest s ran.0 v ran.2)
 
   pub from_both : (trace : List (Answered A E)) (s : S) (u : U) (t : S) → Run steps s trace t → NoEnd trace → Run Step (s, u, Both) trace (t, u, Both)
   from_both [] s u t ran no_end = rw ran refl
   from_both (r ∷ rest) s u t ran no_end = ((ran.0, u, Both), inl (ran.1, no_end.0, refl, refl), from_both rest ran.0 u t ran.2 no_end.1)
 
-  pub from_joined : (before trace : List (Answered A E)) (s : S) (u : U) (t : S) (v : U) → Run steps s (before ++ end ∷ []) t → NoEnd before → Run others u trace v → trace ≢ [] → Run Step (s, u, Both) (before ++ trace) (t, v, BackAlone)
-  from_joined [] [] s u t v ran no_end back some = absurd (some refl)
-  from_joined [] (r ∷ rest) s u t v ran no_end back some = rw⁻¹ ran.2 ((ran.0, back.0, BackAlone), inr (ran.1, back.1, refl), from_back rest ran.0 back.0 v back.2)
-  from_joined (r ∷ before) trace s u t v ran no_end back some = ((ran.0, u, Both), inl (ran.1, no_end.0, refl, refl), from_joined before trace ran.0 u t v ran.2 no_end.1 back some)
+  pub from_joined : (before trace : List (Answered A E)) (s : S) (u : U) (t : S) (v : U) → Run steps s (before ++ end ∷ []) t → NoEnd before → Run others u trace v → trace ≢ [] → Run Step (s, u, Both) (before ++ trace) (t, v, SecondAlone)
+  from_joined [] [] s u t v ran no_end second some = absurd (some refl)
+  from_joined [] (r ∷ rest) s u t v ran no_end second some = rw⁻¹ ran.2 ((ran.0, second.0, SecondAlone), inr (ran.1, second.1, refl), from_second rest ran.0 second.0 v second.2)
+  from_joined (r ∷ before) trace s u t v ran no_end second some = ((ran.0, u, Both), inl (ran.1, no_end.0, refl, refl), from_joined before trace ran.0 u t v ran.2 no_end.1 second some)
 
   from_either : (trace : List (Answered A E)) (s : S) (u : U) (t : S) (v : U) (left : StillDrawn) → ChainTrace steps others (s, u, Both) (trace) (t, v, left) → Run Step (s, u, Both) trace (t, v, left)
   from_either trace s u t v left (inl p) = rw (p.2, p.3) (from_both trace s u t p.0 p.1)
-  from_either trace s u t v left (inr p) = let j = p.0 in rw (j.answers, p.1) (from_joined j.before_end j.back_trace s u t v j.front_drawn j.no_end j.back_drawn j.not_empty)
+  from_either trace s u t v left (inr p) = let j = p.0 in rw (j.answers, p.1) (from_joined j.before_end j.second_trace s u t v j.first_drawn j.no_end j.second_drawn j.not_empty)
 
   pub chain_law : (p : S × U × StillDrawn) (trace : List (Answered A E)) (q : S × U × StillDrawn) → Run Step p trace q ↔ ChainTrace steps others p trace q
   chain_law (s, u, Both) trace (t, v, left) = (to_both trace s u t v left, from_either trace s u t v left)
-  chain_law (s, u, FrontAlone) trace (t, v, left) = (to_front trace s u t v left, (λ p. rw (p.1, p.2) (from_front trace s u t p.0)))
-  chain_law (s, u, BackAlone) trace (t, v, left) = (to_back trace s u t v left, (λ p. rw (p.1, p.2) (from_back trace s u v p.0)))
+  chain_law (s, u, FirstAlone) trace (t, v, left) = (to_first trace s u t v left, (λ p. rw (p.1, p.2) (from_first trace s u t p.0)))
+  chain_law (s, u, SecondAlone) trace (t, v, left) = (to_second trace s u t v left, (λ p. rw (p.1, p.2) (from_second trace s u v p.0)))
 
 -- ---- values and their parts, from the front and from behind
 
 -- the value of its parts
 abbrev pub of_parts : {T U : Type 0} → T × U × StillDrawn → Chain T U
-of_parts p = record { front = p.0; back = p.1; still_drawn = p.2 }
+of_parts p = record { first = p.0; second = p.1; still_drawn = p.2 }
 
 -- the parts seen from behind, and the value of them
 abbrev pub seen_behind : {T U : Type 0} → Chain T U → U × T × StillDrawn
@@ -83,8 +83,8 @@ of_parts_behind p = of_parts (chain_behind p)
 -- seen from behind twice, the sides are as they were
 pub behind_twice : {S U : Type 0} (p : S × U × StillDrawn) → chain_behind (chain_behind p) ≡ p
 behind_twice (s, u, Both) = refl
-behind_twice (s, u, FrontAlone) = refl
-behind_twice (s, u, BackAlone) = refl
+behind_twice (s, u, FirstAlone) = refl
+behind_twice (s, u, SecondAlone) = refl
 
 -- ---- what it lists
 
@@ -96,16 +96,16 @@ module _ {S U A E : Type 0} (steps : S → Answered A E → S → Type 0) (other
   abbrev Gives : S → U → StillDrawn → List (Result A E) → Type 0
   Gives s u drawn l = AlwaysGives (chain_step steps others) (s, u, drawn) l
 
-  back_gives : (b : List (Result A E)) (s : S) (u : U) → AlwaysGives others u b → Gives s u BackAlone b
-  back_gives [] s u g = λ r q w. g r q.1 w.0
-  back_gives (y ∷ b) s u g = λ r q w. let d = g r q.1 w.0 in (d.0, subst (λ (k : StillDrawn). Gives q.0 q.1 k b) (sym w.2) (back_gives b q.0 q.1 d.1))
+  second_gives : (b : List (Result A E)) (s : S) (u : U) → AlwaysGives others u b → Gives s u SecondAlone b
+  second_gives [] s u g = λ r q w. g r q.1 w.0
+  second_gives (y ∷ b) s u g = λ r q w. let d = g r q.1 w.0 in (d.0, subst (λ (k : StillDrawn). Gives q.0 q.1 k b) (sym w.2) (second_gives b q.0 q.1 d.1))
 
-  -- one draw at the front's end
+  -- one draw at the first's end
   ended_gives : (b : List (Result A E)) (s : S) (u : U) → AlwaysGives {A = A} {E = E} steps s [] → AlwaysGives others u b → Gives s u Both b
   ended_gives [] s u f g = λ r q w. elim w [ inl p ↦ f r q.0 p.0 | inr p ↦ g r q.1 p.1 ]
   ended_gives (y ∷ b) s u f g = λ r q w. elim w [
     | inl p ↦ absurd (let e = f r q.0 p.0 in let no : is_end r ≡ false = p.1 in let yes : is_end r ≡ true = ap is_end e in cc)
-    | inr p ↦ let d = g r q.1 p.1 in (d.0, subst (λ (k : StillDrawn). Gives q.0 q.1 k b) (sym p.2) (back_gives b q.0 q.1 d.1))
+    | inr p ↦ let d = g r q.1 p.1 in (d.0, subst (λ (k : StillDrawn). Gives q.0 q.1 k b) (sym p.2) (second_gives b q.0 q.1 d.1))
   ]
 
   chained_gives : (a b : List (Result A E)) (s : S) (u : U) → AlwaysGives steps s a → AlwaysGives others u b → Gives s u Both (chained a b)
@@ -116,5 +116,5 @@ module _ {S U A E : Type 0} (steps : S → Answered A E → S → Type 0) (other
     | inr p ↦ absurd (not_end y (f end q.0 p.0).0)
   ]
 
-pub lists_chained : {S U A E : Type 0} (m : Contract S A E) (k : Contract U A E) (c : Chain S U) (s : S) (a b : List (Result A E)) → chain_parts c ≡ (s, c.back, Both) → Lists m.steps s a → Lists k.steps c.back b → Lists (seen_as chain_parts (chain_contract m k)).steps c (chained a b)
-lists_chained m k c s a b parts f g = lists_seen chain_parts (chain_step m.steps k.steps) c parts refl (chained_gives m.steps k.steps a b s c.back f.runs g.runs)
+pub lists_chained : {S U A E : Type 0} (m : Contract S A E) (k : Contract U A E) (c : Chain S U) (s : S) (a b : List (Result A E)) → chain_parts c ≡ (s, c.second, Both) → Lists m.steps s a → Lists k.steps c.second b → Lists (seen_as chain_parts (chain_contract m k)).steps c (chained a b)
+lists_chained m k c s a b parts f g = lists_seen chain_parts (chain_step m.steps k.steps) c parts refl (chained_gives m.steps k.steps a b s c.second f.runs g.runs)

@@ -1,25 +1,25 @@
--- `count`, `last` and the searches of `Chain`: those of the front, and after its end those of the back.
+-- `count`, `last` and the searches of `Chain`: those of the first, and after its end those of the second.
 use Rattle.std.specs.Prelude.{◌≡◌, ℕ, ◌+◌, ◌≤◌, length, Bool, true, false, List, [], ◌∷◌, ◌++◌, map, Option, Result, Some, None, Ok, Err}
 use Rattle.std.specs.List.{FoldsTo, last_or}
 use Rattle.std.proofs.Common.{refl, sym, ◌∙◌, ap, subst, arith, length-append}
 use Rattle.fallible_core.specs.declared.joining.chain.Chain.{Chain}
 use Rattle.fallible_core.specs.declared.joining.chain.StillDrawn.{StillDrawn}
-use Rattle.fallible_core.specs.declared.joining.chain.StillDrawn.TheVariants.{Both, FrontAlone, BackAlone}
+use Rattle.fallible_core.specs.declared.joining.chain.StillDrawn.TheVariants.{Both, FirstAlone, SecondAlone}
 use Rattle.fallible_contract.specs.Traces.{Answered, Run, item, end, is_end, items_in}
 use Rattle.fallible_contract.specs.Contract.{Contract, AtMost, Lawful, seen_as}
 use Rattle.fallible_contract.specs.Folds.{CountExit, Counted, LastExit, LastOf}
 use Rattle.fallible_contract.specs.Searching.{Passed, Decided, SearchExit, CallableInSearch, Searched, find_pick}
 use Rattle.fallible_contract.specs.Laws.Closures.{turns_then}
 use Rattle.fallible_contract.proofs.Lemmas.Contract.{number_of_at_most}
-use Rattle.fallible_contract.proofs.Lemmas.ToCome.{items_at_most}
+use Rattle.fallible_contract.proofs.Lemmas.BoundsRuns.{items_at_most}
 use Rattle.fallible_contract.proofs.Lemmas.Overriding.{counted_held, last_held, searched_held}
 use Rattle.fallible_core.specs.Joining.Chain.{chain_step, chain_contract, chain_parts}
-use Rattle.fallible_core.proofs.Lemmas.Joining.Chain.{of_parts, from_front, from_back, from_both}
+use Rattle.fallible_core.proofs.Lemmas.Joining.Chain.{of_parts, from_first, from_second, from_both}
 use Rattle.fallible_core.proofs.Lemmas.Joining.ChainFolds.{no_end, run_over, holds_after_end, parts_hold}
 
 -- ---- count
 
--- the front's number of items, and what the back counted
+-- the first's number of items, and what the second counted
 abbrev pub added : {E : Type 0} → ℕ → Result ℕ E → Result ℕ E
 added n (Ok k) = Ok (n + k)
 added n (Err e) = Err e
@@ -43,14 +43,14 @@ items_then : {A E : Type 0} (items : List A) (last : Answered A E) → length it
 items_then [] last = omega arith
 items_then (x ∷ items) last = let h = items_then items last in omega (arith, h)
 
--- what was counted is within a number to come
-counted_within : {S A E : Type 0} {m : Contract S A E} → Lawful m → {s : S} (n k : ℕ) → m.can s → m.to_come s n → Counted m.steps s (Ok k) → k ≤ n
+-- what was counted is within a bound
+counted_within : {S A E : Type 0} {m : Contract S A E} → Lawful m → {s : S} (n k : ℕ) → m.can_next s → m.bound s n → Counted m.steps s (Ok k) → k ≤ n
 counted_within l {s} n k c b h = let most = items_at_most l (map item h.items ++ h.last ∷ []) s h.left n c b h.ran in
     let over = count_at_end (length h.items) k h.last h.exit in let items = items_then h.items h.last in omega (arith, most, over.1, items)
 
 -- ---- last
 
--- what the back's last is, or where it has none the front's
+-- what the second's last is, or where it has none the first's
 abbrev pub or_before : {A E : Type 0} → Option A → Result (Option A) E → Result (Option A) E
 or_before o (Ok (Some x)) = Ok (Some x)
 or_before o (Ok None) = Ok o
@@ -123,11 +123,11 @@ module _ {S U A E : Type 0} (steps : S → Answered A E → S → Type 0) (other
   abbrev Step : S × U × StillDrawn → Answered A E → S × U × StillDrawn → Type 0
   Step = chain_step steps others
 
-  counted_front_alone : {s : S} {u : U} {r : Result ℕ E} → Counted steps s r → Counted Step (s, u, FrontAlone) r
-  counted_front_alone {s = s} {u = u} h = record { items = h.items; last = h.last; left = (h.left, u, FrontAlone); ran = from_front steps others (map item h.items ++ h.last ∷ []) s u h.left h.ran; exit = h.exit }
+  counted_first_alone : {s : S} {u : U} {r : Result ℕ E} → Counted steps s r → Counted Step (s, u, FirstAlone) r
+  counted_first_alone {s = s} {u = u} h = record { items = h.items; last = h.last; left = (h.left, u, FirstAlone); ran = from_first steps others (map item h.items ++ h.last ∷ []) s u h.left h.ran; exit = h.exit }
 
-  counted_back_alone : {s : S} {u : U} {r : Result ℕ E} → Counted others u r → Counted Step (s, u, BackAlone) r
-  counted_back_alone {s = s} {u = u} h = record { items = h.items; last = h.last; left = (s, h.left, BackAlone); ran = from_back steps others (map item h.items ++ h.last ∷ []) s u h.left h.ran; exit = h.exit }
+  counted_second_alone : {s : S} {u : U} {r : Result ℕ E} → Counted others u r → Counted Step (s, u, SecondAlone) r
+  counted_second_alone {s = s} {u = u} h = record { items = h.items; last = h.last; left = (s, h.left, SecondAlone); ran = from_second steps others (map item h.items ++ h.last ∷ []) s u h.left h.ran; exit = h.exit }
 
   counted_failed : {s : S} {u : U} {e : E} → Counted steps s (Err e) → Counted Step (s, u, Both) (Err e)
   counted_failed {s = s} {u = u} {e = e} h = record { items = h.items; last = h.last; left = (h.left, u, Both); ran = from_both steps others (map item h.items ++ h.last ∷ []) s u h.left h.ran (no_end h.items h.last (count_no_end (length h.items) h.last e h.exit)); exit = h.exit }
@@ -136,16 +136,16 @@ module _ {S U A E : Type 0} (steps : S → Answered A E → S → Type 0) (other
   counted_over {s = s} {u = u} {n = n} {r = r} f b = let over = count_at_end (length f.items) n f.last f.exit in record {
     items = f.items ++ b.items;
     last = b.last;
-    left = (f.left, b.left, BackAlone);
+    left = (f.left, b.left, SecondAlone);
     ran = run_over steps others f.items b.items b.last s f.left u b.left (subst (λ (z : Answered A E). Run steps s (map item f.items ++ z ∷ []) f.left) over.0 f.ran) b.ran;
     exit = subst (λ (k : ℕ). CountExit k b.last (added n r)) (omega (arith, over.1, length-append f.items b.items)) (count_more n (length b.items) b.last r b.exit);
   }
 
-  last_front_alone : {s : S} {u : U} {r : Result (Option A) E} → LastOf steps s r → LastOf Step (s, u, FrontAlone) r
-  last_front_alone {s = s} {u = u} h = record { items = h.items; last = h.last; left = (h.left, u, FrontAlone); ran = from_front steps others (map item h.items ++ h.last ∷ []) s u h.left h.ran; exit = h.exit }
+  last_first_alone : {s : S} {u : U} {r : Result (Option A) E} → LastOf steps s r → LastOf Step (s, u, FirstAlone) r
+  last_first_alone {s = s} {u = u} h = record { items = h.items; last = h.last; left = (h.left, u, FirstAlone); ran = from_first steps others (map item h.items ++ h.last ∷ []) s u h.left h.ran; exit = h.exit }
 
-  last_back_alone : {s : S} {u : U} {r : Result (Option A) E} → LastOf others u r → LastOf Step (s, u, BackAlone) r
-  last_back_alone {s = s} {u = u} h = record { items = h.items; last = h.last; left = (s, h.left, BackAlone); ran = from_back steps others (map item h.items ++ h.last ∷ []) s u h.left h.ran; exit = h.exit }
+  last_second_alone : {s : S} {u : U} {r : Result (Option A) E} → LastOf others u r → LastOf Step (s, u, SecondAlone) r
+  last_second_alone {s = s} {u = u} h = record { items = h.items; last = h.last; left = (s, h.left, SecondAlone); ran = from_second steps others (map item h.items ++ h.last ∷ []) s u h.left h.ran; exit = h.exit }
 
   last_failed : {s : S} {u : U} {e : E} → LastOf steps s (Err e) → LastOf Step (s, u, Both) (Err e)
   last_failed {s = s} {u = u} {e = e} h = record { items = h.items; last = h.last; left = (h.left, u, Both); ran = from_both steps others (map item h.items ++ h.last ∷ []) s u h.left h.ran (no_end h.items h.last (last_no_end h.items h.last e h.exit)); exit = h.exit }
@@ -154,23 +154,23 @@ module _ {S U A E : Type 0} (steps : S → Answered A E → S → Type 0) (other
   last_over {s = s} {u = u} {o = o} {r = r} f b = let over = last_at_end f.items o f.last f.exit in record {
     items = f.items ++ b.items;
     last = b.last;
-    left = (f.left, b.left, BackAlone);
+    left = (f.left, b.left, SecondAlone);
     ran = run_over steps others f.items b.items b.last s f.left u b.left (subst (λ (z : Answered A E). Run steps s (map item f.items ++ z ∷ []) f.left) over.0 f.ran) b.ran;
     exit = last_more f.items b.items o b.last r over.1 b.exit;
   }
 
   module _ {F : Type 0} {tests : F → A → Result Bool E → F → Type 0} {s t : S} {f g : F} {r : Answered A E} where
-    searched_front_alone : {u : U} → Searched tests find_pick steps None s f r t g → Searched tests find_pick Step None (s, u, FrontAlone) f r (t, u, FrontAlone) g
-    searched_front_alone {u = u} h = record { items = h.items; last = h.last; closure = h.closure; ran = from_front steps others (map item h.items ++ h.last ∷ []) s u t h.ran; went = h.went; exit = h.exit }
+    searched_first_alone : {u : U} → Searched tests find_pick steps None s f r t g → Searched tests find_pick Step None (s, u, FirstAlone) f r (t, u, FirstAlone) g
+    searched_first_alone {u = u} h = record { items = h.items; last = h.last; closure = h.closure; ran = from_first steps others (map item h.items ++ h.last ∷ []) s u t h.ran; went = h.went; exit = h.exit }
 
     searched_both : {u : U} → is_end r ≡ false → Searched tests find_pick steps None s f r t g → Searched tests find_pick Step None (s, u, Both) f r (t, u, Both) g
     searched_both {u = u} goes h = record { items = h.items; last = h.last; closure = h.closure; ran = from_both steps others (map item h.items ++ h.last ∷ []) s u t h.ran (no_end h.items h.last (search_no_end tests (length h.items) h.closure g h.last r goes h.exit)); went = h.went; exit = h.exit }
 
   module _ {F : Type 0} {tests : F → A → Result Bool E → F → Type 0} {u v : U} {g h : F} {r : Answered A E} where
-    searched_back_alone : {s : S} → Searched tests find_pick others None u g r v h → Searched tests find_pick Step None (s, u, BackAlone) g r (s, v, BackAlone) h
-    searched_back_alone {s = s} b = record { items = b.items; last = b.last; closure = b.closure; ran = from_back steps others (map item b.items ++ b.last ∷ []) s u v b.ran; went = b.went; exit = b.exit }
+    searched_second_alone : {s : S} → Searched tests find_pick others None u g r v h → Searched tests find_pick Step None (s, u, SecondAlone) g r (s, v, SecondAlone) h
+    searched_second_alone {s = s} b = record { items = b.items; last = b.last; closure = b.closure; ran = from_second steps others (map item b.items ++ b.last ∷ []) s u v b.ran; went = b.went; exit = b.exit }
 
-    searched_over : {s t : S} {f : F} → Searched tests find_pick steps None s f (Ok None) t g → Searched tests find_pick others None u g r v h → Searched tests find_pick Step None (s, u, Both) f r (t, v, BackAlone) h
+    searched_over : {s t : S} {f : F} → Searched tests find_pick steps None s f (Ok None) t g → Searched tests find_pick others None u g r v h → Searched tests find_pick Step None (s, u, Both) f r (t, v, SecondAlone) h
     searched_over {s = s} {t = t} {f = f} a b = let over = search_at_end tests (length a.items) a.closure g a.last a.exit in record {
       items = a.items ++ b.items;
       last = b.last;
@@ -183,89 +183,89 @@ module _ {S U A E : Type 0} (steps : S → Answered A E → S → Type 0) (other
 -- ---- of the struct
 
 abbrev chain : {S U A E : Type 0} → Contract S A E → Contract U A E → Contract (Chain S U) A E
-chain front back = seen_as chain_parts (chain_contract front back)
+chain first second = seen_as chain_parts (chain_contract first second)
 
-module _ {S U A E : Type 0} (front : Contract S A E) (back : Contract U A E) {s : Chain S U} where
+module _ {S U A E : Type 0} (first : Contract S A E) (second : Contract U A E) {s : Chain S U} where
   -- the state by which of its sides are drawn
-  at_drawn : {drawn : StillDrawn} (P : S × U × StillDrawn → Type 0) → s.still_drawn ≡ drawn → P (s.front, s.back, drawn) → P (chain_parts s)
-  at_drawn P is h = subst (λ (d : StillDrawn). P (s.front, s.back, d)) (sym is) h
+  at_drawn : {drawn : StillDrawn} (P : S × U × StillDrawn → Type 0) → s.still_drawn ≡ drawn → P (s.first, s.second, drawn) → P (chain_parts s)
+  at_drawn P is h = subst (λ (d : StillDrawn). P (s.first, s.second, d)) (sym is) h
 
-  counted_of : {drawn : StillDrawn} {r : Result ℕ E} → s.still_drawn ≡ drawn → Counted (chain_step front.steps back.steps) (s.front, s.back, drawn) r → Counted (chain front back).steps s r
-  counted_of {r = r} is h = counted_held chain_parts (λ s p. of_parts p) (λ s p. refl) (chain_contract front back) (at_drawn (λ p. Counted (chain_step front.steps back.steps) p r) is h)
+  counted_of : {drawn : StillDrawn} {r : Result ℕ E} → s.still_drawn ≡ drawn → Counted (chain_step first.steps second.steps) (s.first, s.second, drawn) r → Counted (chain first second).steps s r
+  counted_of {r = r} is h = counted_held chain_parts (λ s p. of_parts p) (λ s p. refl) (chain_contract first second) (at_drawn (λ p. Counted (chain_step first.steps second.steps) p r) is h)
 
-  last_of : {drawn : StillDrawn} {r : Result (Option A) E} → s.still_drawn ≡ drawn → LastOf (chain_step front.steps back.steps) (s.front, s.back, drawn) r → LastOf (chain front back).steps s r
-  last_of {r = r} is h = last_held chain_parts (λ s p. of_parts p) (λ s p. refl) (chain_contract front back) (at_drawn (λ p. LastOf (chain_step front.steps back.steps) p r) is h)
+  last_of : {drawn : StillDrawn} {r : Result (Option A) E} → s.still_drawn ≡ drawn → LastOf (chain_step first.steps second.steps) (s.first, s.second, drawn) r → LastOf (chain first second).steps s r
+  last_of {r = r} is h = last_held chain_parts (λ s p. of_parts p) (λ s p. refl) (chain_contract first second) (at_drawn (λ p. LastOf (chain_step first.steps second.steps) p r) is h)
 
-  pub counts_front_alone : {r : Result ℕ E} → s.still_drawn ≡ FrontAlone → Counted front.steps s.front r → Counted (chain front back).steps s r
-  counts_front_alone is h = counted_of is (counted_front_alone front.steps back.steps h)
+  pub counts_first_alone : {r : Result ℕ E} → s.still_drawn ≡ FirstAlone → Counted first.steps s.first r → Counted (chain first second).steps s r
+  counts_first_alone is h = counted_of is (counted_first_alone first.steps second.steps h)
 
-  pub counts_back_alone : {r : Result ℕ E} → s.still_drawn ≡ BackAlone → Counted back.steps s.back r → Counted (chain front back).steps s r
-  counts_back_alone is h = counted_of is (counted_back_alone front.steps back.steps h)
+  pub counts_second_alone : {r : Result ℕ E} → s.still_drawn ≡ SecondAlone → Counted second.steps s.second r → Counted (chain first second).steps s r
+  counts_second_alone is h = counted_of is (counted_second_alone first.steps second.steps h)
 
-  pub counts_failure : {e : E} → s.still_drawn ≡ Both → Counted front.steps s.front (Err e) → Counted (chain front back).steps s (Err e)
-  counts_failure is h = counted_of is (counted_failed front.steps back.steps h)
+  pub counts_failure : {e : E} → s.still_drawn ≡ Both → Counted first.steps s.first (Err e) → Counted (chain first second).steps s (Err e)
+  counts_failure is h = counted_of is (counted_failed first.steps second.steps h)
 
-  pub counts_over : {n : ℕ} (r : Result ℕ E) → s.still_drawn ≡ Both → Counted front.steps s.front (Ok n) → Counted back.steps s.back r → Counted (chain front back).steps s (added n r)
-  counts_over r is f b = counted_of is (counted_over front.steps back.steps f b)
+  pub counts_over : {n : ℕ} (r : Result ℕ E) → s.still_drawn ≡ Both → Counted first.steps s.first (Ok n) → Counted second.steps s.second r → Counted (chain first second).steps s (added n r)
+  counts_over r is f b = counted_of is (counted_over first.steps second.steps f b)
 
-  pub lasts_front_alone : {r : Result (Option A) E} → s.still_drawn ≡ FrontAlone → LastOf front.steps s.front r → LastOf (chain front back).steps s r
-  lasts_front_alone is h = last_of is (last_front_alone front.steps back.steps h)
+  pub lasts_first_alone : {r : Result (Option A) E} → s.still_drawn ≡ FirstAlone → LastOf first.steps s.first r → LastOf (chain first second).steps s r
+  lasts_first_alone is h = last_of is (last_first_alone first.steps second.steps h)
 
-  pub lasts_back_alone : {r : Result (Option A) E} → s.still_drawn ≡ BackAlone → LastOf back.steps s.back r → LastOf (chain front back).steps s r
-  lasts_back_alone is h = last_of is (last_back_alone front.steps back.steps h)
+  pub lasts_second_alone : {r : Result (Option A) E} → s.still_drawn ≡ SecondAlone → LastOf second.steps s.second r → LastOf (chain first second).steps s r
+  lasts_second_alone is h = last_of is (last_second_alone first.steps second.steps h)
 
-  pub lasts_failure : {e : E} → s.still_drawn ≡ Both → LastOf front.steps s.front (Err e) → LastOf (chain front back).steps s (Err e)
-  lasts_failure is h = last_of is (last_failed front.steps back.steps h)
+  pub lasts_failure : {e : E} → s.still_drawn ≡ Both → LastOf first.steps s.first (Err e) → LastOf (chain first second).steps s (Err e)
+  lasts_failure is h = last_of is (last_failed first.steps second.steps h)
 
-  pub lasts_over : {o : Option A} (r : Result (Option A) E) → s.still_drawn ≡ Both → LastOf front.steps s.front (Ok o) → LastOf back.steps s.back r → LastOf (chain front back).steps s (or_before o r)
-  lasts_over r is f b = last_of is (last_over front.steps back.steps f b)
+  pub lasts_over : {o : Option A} (r : Result (Option A) E) → s.still_drawn ≡ Both → LastOf first.steps s.first (Ok o) → LastOf second.steps s.second r → LastOf (chain first second).steps s (or_before o r)
+  lasts_over r is f b = last_of is (last_over first.steps second.steps f b)
 
   -- what is still to come of the sides
-  pub fits_both : (k : ℕ) → s.still_drawn ≡ Both → AtMost (chain front back) s k → (a : ℕ) × (b : ℕ) × front.to_come s.front a × back.to_come s.back b × (a + b ≤ k)
-  fits_both k is h = let n = number_of_at_most (chain front back) s k h in
-      let m = subst (λ (d : StillDrawn). (chain_contract front back).to_come (s.front, s.back, d) n.0) is n.1 in
+  pub fits_both : (k : ℕ) → s.still_drawn ≡ Both → AtMost (chain first second) s k → (a : ℕ) × (b : ℕ) × first.bound s.first a × second.bound s.second b × (a + b ≤ k)
+  fits_both k is h = let n = number_of_at_most (chain first second) s k h in
+      let m = subst (λ (d : StillDrawn). (chain_contract first second).bound (s.first, s.second, d) n.0) is n.1 in
       (m.0, m.1, m.2, m.3, omega (arith, m.4, n.2))
 
   -- so the sum of what was counted fits
-  pub sum_fits : (k n j : ℕ) → Lawful front → Lawful back → front.can s.front → back.can s.back → s.still_drawn ≡ Both → AtMost (chain front back) s k → Counted front.steps s.front (Ok n) → Counted back.steps s.back (Ok j) → n + j ≤ k
+  pub sum_fits : (k n j : ℕ) → Lawful first → Lawful second → first.can_next s.first → second.can_next s.second → s.still_drawn ≡ Both → AtMost (chain first second) s k → Counted first.steps s.first (Ok n) → Counted second.steps s.second (Ok j) → n + j ≤ k
   sum_fits k n j l l' c c' is h f b = let m = fits_both k is h in
       let first = counted_within l m.0 n c m.2 f in let rest = counted_within l' m.1 j c' m.3 b in
       omega (arith, first, rest, m.4)
 
-module _ {S U A E F : Type 0} (front : Contract S A E) (back : Contract U A E) {tests : F → A → Result Bool E → F → Type 0} {s w : Chain S U} {f h : F} {r : Answered A E} where
-  searched_of : {drawn now : StillDrawn} → s.still_drawn ≡ drawn → w.still_drawn ≡ now → Searched tests find_pick (chain_step front.steps back.steps) None (s.front, s.back, drawn) f r (w.front, w.back, now) h → Searched tests find_pick (chain front back).steps None s f r w h
-  searched_of {drawn = drawn} is stays x = searched_held chain_parts (λ s p. of_parts p) (λ s p. refl) (chain_contract front back)
-      (subst (λ (d : StillDrawn). Searched tests find_pick (chain_step front.steps back.steps) None (s.front, s.back, d) f r (chain_parts w) h) (sym is)
-      (subst (λ (d : StillDrawn). Searched tests find_pick (chain_step front.steps back.steps) None (s.front, s.back, drawn) f r (w.front, w.back, d) h) (sym stays) x))
+module _ {S U A E F : Type 0} (first : Contract S A E) (second : Contract U A E) {tests : F → A → Result Bool E → F → Type 0} {s w : Chain S U} {f h : F} {r : Answered A E} where
+  searched_of : {drawn now : StillDrawn} → s.still_drawn ≡ drawn → w.still_drawn ≡ now → Searched tests find_pick (chain_step first.steps second.steps) None (s.first, s.second, drawn) f r (w.first, w.second, now) h → Searched tests find_pick (chain first second).steps None s f r w h
+  searched_of {drawn = drawn} is stays x = searched_held chain_parts (λ s p. of_parts p) (λ s p. refl) (chain_contract first second)
+      (subst (λ (d : StillDrawn). Searched tests find_pick (chain_step first.steps second.steps) None (s.first, s.second, d) f r (chain_parts w) h) (sym is)
+      (subst (λ (d : StillDrawn). Searched tests find_pick (chain_step first.steps second.steps) None (s.first, s.second, drawn) f r (w.first, w.second, d) h) (sym stays) x))
 
-  pub searches_front_alone : s.still_drawn ≡ FrontAlone → w.back ≡ s.back → w.still_drawn ≡ FrontAlone → Searched tests find_pick front.steps None s.front f r w.front h → Searched tests find_pick (chain front back).steps None s f r w h
-  searches_front_alone is kept stays x = searched_of is stays (subst (λ (u : U). Searched tests find_pick (chain_step front.steps back.steps) None (s.front, s.back, FrontAlone) f r (w.front, u, FrontAlone) h) (sym kept) (searched_front_alone front.steps back.steps x))
+  pub searches_first_alone : s.still_drawn ≡ FirstAlone → w.second ≡ s.second → w.still_drawn ≡ FirstAlone → Searched tests find_pick first.steps None s.first f r w.first h → Searched tests find_pick (chain first second).steps None s f r w h
+  searches_first_alone is kept stays x = searched_of is stays (subst (λ (u : U). Searched tests find_pick (chain_step first.steps second.steps) None (s.first, s.second, FirstAlone) f r (w.first, u, FirstAlone) h) (sym kept) (searched_first_alone first.steps second.steps x))
 
-  pub searches_back_alone : s.still_drawn ≡ BackAlone → w.front ≡ s.front → w.still_drawn ≡ BackAlone → Searched tests find_pick back.steps None s.back f r w.back h → Searched tests find_pick (chain front back).steps None s f r w h
-  searches_back_alone is kept stays x = searched_of is stays (subst (λ (t : S). Searched tests find_pick (chain_step front.steps back.steps) None (s.front, s.back, BackAlone) f r (t, w.back, BackAlone) h) (sym kept) (searched_back_alone front.steps back.steps x))
+  pub searches_second_alone : s.still_drawn ≡ SecondAlone → w.first ≡ s.first → w.still_drawn ≡ SecondAlone → Searched tests find_pick second.steps None s.second f r w.second h → Searched tests find_pick (chain first second).steps None s f r w h
+  searches_second_alone is kept stays x = searched_of is stays (subst (λ (t : S). Searched tests find_pick (chain_step first.steps second.steps) None (s.first, s.second, SecondAlone) f r (t, w.second, SecondAlone) h) (sym kept) (searched_second_alone first.steps second.steps x))
 
-  -- the front's search ended at an item or a failure
-  pub searches_both : {q : Answered A E} → s.still_drawn ≡ Both → w.back ≡ s.back → w.still_drawn ≡ Both → q ≡ r → is_end r ≡ false → Searched tests find_pick front.steps None s.front f q w.front h → Searched tests find_pick (chain front back).steps None s f r w h
-  searches_both is kept stays same goes x = searched_of is stays (subst (λ (u : U). Searched tests find_pick (chain_step front.steps back.steps) None (s.front, s.back, Both) f r (w.front, u, Both) h) (sym kept) (searched_both front.steps back.steps goes (subst (λ (z : Answered A E). Searched tests find_pick front.steps None s.front f z w.front h) same x)))
+  -- the first's search ended at an item or a failure
+  pub searches_both : {q : Answered A E} → s.still_drawn ≡ Both → w.second ≡ s.second → w.still_drawn ≡ Both → q ≡ r → is_end r ≡ false → Searched tests find_pick first.steps None s.first f q w.first h → Searched tests find_pick (chain first second).steps None s f r w h
+  searches_both is kept stays same goes x = searched_of is stays (subst (λ (u : U). Searched tests find_pick (chain_step first.steps second.steps) None (s.first, s.second, Both) f r (w.first, u, Both) h) (sym kept) (searched_both first.steps second.steps goes (subst (λ (z : Answered A E). Searched tests find_pick first.steps None s.first f z w.first h) same x)))
 
-  -- the same where the back isn't drawn alone
-  pub searches_front : {q : Answered A E} → (s.still_drawn ≡ BackAlone → ⊥) → w.back ≡ s.back → w.still_drawn ≡ s.still_drawn → q ≡ r → is_end r ≡ false → Searched tests find_pick front.steps None s.front f q w.front h → Searched tests find_pick (chain front back).steps None s f r w h
-  searches_front drawn kept now same goes x = by s.still_drawn refl
+  -- the same where the second isn't drawn alone
+  pub searches_first : {q : Answered A E} → (s.still_drawn ≡ SecondAlone → ⊥) → w.second ≡ s.second → w.still_drawn ≡ s.still_drawn → q ≡ r → is_end r ≡ false → Searched tests find_pick first.steps None s.first f q w.first h → Searched tests find_pick (chain first second).steps None s f r w h
+  searches_first drawn kept now same goes x = by s.still_drawn refl
     where
-      by : (d : StillDrawn) → s.still_drawn ≡ d → Searched tests find_pick (chain front back).steps None s f r w h
+      by : (d : StillDrawn) → s.still_drawn ≡ d → Searched tests find_pick (chain first second).steps None s f r w h
       by Both is = searches_both is kept (now ∙ is) same goes x
-      by FrontAlone is = searches_front_alone is kept (now ∙ is) (subst (λ (z : Answered A E). Searched tests find_pick front.steps None s.front f z w.front h) same x)
-      by BackAlone is = absurd (drawn is)
+      by FirstAlone is = searches_first_alone is kept (now ∙ is) (subst (λ (z : Answered A E). Searched tests find_pick first.steps None s.first f z w.first h) same x)
+      by SecondAlone is = absurd (drawn is)
 
   -- it found none
-  pub searches_over : {g : F} {q : Answered A E} → s.still_drawn ≡ Both → w.still_drawn ≡ BackAlone → q ≡ end → Searched tests find_pick front.steps None s.front f q w.front g → Searched tests find_pick back.steps None s.back g r w.back h → Searched tests find_pick (chain front back).steps None s f r w h
-  searches_over {g = g} is stays none a b = searched_of is stays (searched_over front.steps back.steps (subst (λ (z : Answered A E). Searched tests find_pick front.steps None s.front f z w.front g) none a) b)
+  pub searches_over : {g : F} {q : Answered A E} → s.still_drawn ≡ Both → w.still_drawn ≡ SecondAlone → q ≡ end → Searched tests find_pick first.steps None s.first f q w.first g → Searched tests find_pick second.steps None s.second g r w.second h → Searched tests find_pick (chain first second).steps None s f r w h
+  searches_over {g = g} is stays none a b = searched_of is stays (searched_over first.steps second.steps (subst (λ (z : Answered A E). Searched tests find_pick first.steps None s.first f z w.first g) none a) b)
 
-module _ {S U A E F : Type 0} (front : Contract S A E) (back : Contract U A E) {tests : F → A → Result Bool E → F → Type 0} {takes : F → A → Type 0} {s : Chain S U} {f : F} where
-  -- then the tests that may be made in a search of the chain may be made in one of the back
-  pub tests_over : {t : S} {g : F} {q : Answered A E} → s.still_drawn ≡ Both → CallableInSearch tests find_pick (chain front back).steps takes s f → q ≡ end → Searched tests find_pick front.steps None s.front f q t g → CallableInSearch tests find_pick back.steps takes s.back g
-  tests_over {t = t} {g = g} is c none h = let a = subst (λ (z : Answered A E). Searched tests find_pick front.steps None s.front f z t g) none h in
+module _ {S U A E F : Type 0} (first : Contract S A E) (second : Contract U A E) {tests : F → A → Result Bool E → F → Type 0} {takes : F → A → Type 0} {s : Chain S U} {f : F} where
+  -- then the tests that may be made in a search of the chain may be made in one of the second
+  pub tests_over : {t : S} {g : F} {q : Answered A E} → s.still_drawn ≡ Both → CallableInSearch tests find_pick (chain first second).steps takes s f → q ≡ end → Searched tests find_pick first.steps None s.first f q t g → CallableInSearch tests find_pick second.steps takes s.second g
+  tests_over {t = t} {g = g} is c none h = let a = subst (λ (z : Answered A E). Searched tests find_pick first.steps None s.first f z t g) none h in
       let over = search_at_end tests (length a.items) a.closure g a.last a.exit in
-      holds_after_end front.steps back.steps a.items t (parts_hold chain_parts of_parts (λ p. refl) front back is c)
-      (subst (λ (z : Answered A E). Run front.steps s.front (map item a.items ++ z ∷ []) t) over.0 a.ran)
+      holds_after_end first.steps second.steps a.items t (parts_hold chain_parts of_parts (λ p. refl) first second is c)
+      (subst (λ (z : Answered A E). Run first.steps s.first (map item a.items ++ z ∷ []) t) over.0 a.ran)
       (subst (λ (z : F). FoldsTo (Passed tests find_pick) f a.items z) (sym over.1) a.went)

@@ -13,9 +13,9 @@ use Rattle.fallible_contract.specs.Lists.{AlwaysGives, Lists, EachLists, result_
 use Rattle.fallible_contract.proofs.Lemmas.Lists.Passing.{gives_if, lists_seen}
 use Rattle.fallible_core.proofs.Lemmas.Joining.Chain.{not_end}
 use Rattle.fallible_contract.specs.Folds.{HoldsAtEachTurn, carrying_turn, CarryingExit, Carried, stopped_answer, unpacked}
-use Rattle.fallible_contract.proofs.Lemmas.Definitions.{FirstOf, IsByAnswers}
+use Rattle.fallible_contract.proofs.Lemmas.LawForm.{FirstOf, IsByAnswers}
 use Rattle.fallible_contract.proofs.Lemmas.Contract.{given_after}
-use Rattle.fallible_core.specs.Joining.Flatten.{flatten_parts, flatten_contract, FlattenTrace, BeginTurn, EachInner, Part, of_inner, of_failure, of_end, outer_answer, part_answers, Finished, FinishedPart, LastPart, FinishedInHand, Joined, FlattenAnswers, nothing_drawn, still_in_hand, outer_drawn}
+use Rattle.fallible_core.specs.Joining.Flatten.{flatten_parts, flatten_contract, FlattenTrace, IsFlattenNextTurn, EachInner, Part, of_inner, of_failure, of_end, outer_answer, part_answers, Finished, FinishedPart, LastPart, FinishedInHand, Joined, FlattenAnswers, nothing_drawn, still_in_hand, outer_drawn}
 use Rattle.fallible_core.specs.Laws.Joining.Flatten.{Flattens, done, gives, fails, finishes, begins, outer_fails, outer_ends, to_flattens}
 
 module _ {S X C B E : Type 0} (outer : S → Answered X E → S → Type 0) (into : X → C → Type 0) (inner : C → Answered B E → C → Type 0) where
@@ -142,11 +142,11 @@ module _ {S X C B E : Type 0} {outer : S → Answered X E → S → Type 0} {int
 -- ---- one draw where nothing is in hand, as a fold of the outer source that stops
 
 module _ {S X C B E : Type 0} (outer : S → Answered X E → S → Type 0) (into : X → C → Type 0) (inner : C → Answered B E → C → Type 0) (turns : Option C → X → ControlFlow (Option C × Result B E) (Option C) → Type 0)
-    (turn : (hand : Option C) (x : X) (r : ControlFlow (Option C × Result B E) (Option C)) → turns hand x r → BeginTurn into inner hand x r) where
+    (turn : (hand : Option C) (x : X) (r : ControlFlow (Option C × Result B E) (Option C)) → turns hand x r → IsFlattenNextTurn into inner hand x r) where
   abbrev G : S → Option C → List (Answered B E) → S → Option C → Type 0
   G = Flattens outer into inner
 
-  begun_turn : (x : X) (p : Option C × Result B E) (hand : Option C) (u t : S) → outer u (item x) t → BeginTurn into inner hand x (Break p) → G u None (stopped_answer p.1 ∷ []) t p.0
+  begun_turn : (x : X) (p : Option C × Result B E) (hand : Option C) (u t : S) → outer u (item x) t → IsFlattenNextTurn into inner hand x (Break p) → G u None (stopped_answer p.1 ∷ []) t p.0
   begun_turn x (hand', Ok y) hand u t step w = rw w.4 (begins x step w.2 (gives y w.3 done))
   begun_turn x (hand', Err e) hand u t step w = rw w.4 (begins x step w.2 (fails e w.3 done))
 
@@ -163,7 +163,7 @@ module _ {S X C B E : Type 0} (outer : S → Answered X E → S → Type 0) (int
   flatten_fold {s} {t} {exit} w = from_flattens outer into inner s t None (unpacked exit).0 ((unpacked exit).1 ∷ []) (after_ended w.last (unpacked exit).1 t (unpacked exit).0 w.carried (λ u none step. begun_exit w.last w.carried exit u t none w.exit step) w.items s None refl w.ran w.went)
 
 -- each turn of such a fold begins an inner iterator that may be drawn from
-pub callable_begins : {S X C B E : Type 0} {m : Contract S X E} (into : X → C → Type 0) (inner : Contract C B E) (R : Option C → X → Option C → Type 0) {s : S} → Lawful m → m.can s → EachInner m into inner inner.can s → HoldsAtEachTurn m.steps R (λ hand x. (c : C) → into x c → inner.can c) s None
+pub callable_begins : {S X C B E : Type 0} {m : Contract S X E} (into : X → C → Type 0) (inner : Contract C B E) (R : Option C → X → Option C → Type 0) {s : S} → Lawful m → m.can_next s → EachInner m into inner inner.can_next s → HoldsAtEachTurn m.steps R (λ hand x. (c : C) → into x c → inner.can_next c) s None
 callable_begins into inner R {s = s} l can each = record { at = λ items t u hand x ran went step c becomes. each.at x c (given_after l s items t u x can ran step) becomes }
 
 -- ---- what it lists

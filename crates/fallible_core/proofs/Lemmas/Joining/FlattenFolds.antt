@@ -12,7 +12,7 @@ use Rattle.fallible_contract.specs.Folds.{HoldsAtEachTurn, carrying_turn, Carryi
 use Rattle.fallible_contract.proofs.Lemmas.Contract.{given_after}
 use Rattle.fallible_contract.proofs.Lemmas.Folding.{carried_from, holds_from, holds_into}
 use Rattle.fallible_contract.proofs.Lemmas.Folds.{holds_after_items, carried_after_items, carried_end, carried_failure}
-use Rattle.fallible_core.specs.Joining.Flatten.{flatten_contract, JoiningTurn, JoiningTakes}
+use Rattle.fallible_core.specs.Joining.Flatten.{flatten_contract, IsFlattenFoldTurn, JoiningTakes}
 use Rattle.fallible_core.specs.Laws.Joining.Flatten.{done, begins, outer_fails, outer_ends, to_flattens}
 use Rattle.fallible_core.proofs.Lemmas.Joining.Flatten.{from_flattens, flatten_in_hand, flatten_after_end}
 use Rattle.fallible_core.proofs.Lemmas.Joining.ChainFolds.{yields_first, exit_at_end, exit_elsewhere}
@@ -99,7 +99,7 @@ module _ {S X C B E : Type 0} (m : Contract S X E) (into : X → C → Type 0) (
     -- ---- the outer source's fold
 
     abbrev Joins : V → X → ControlFlow (C × Exit V E R) V → Type 0
-    Joins = JoiningTurn into inner turns
+    Joins = IsFlattenFoldTurn into inner turns
 
     abbrev Folds : S → V → Exit V E R → S → Option C → Type 0
     Folds s v r t hand = Carried Draw turns (s, None) v r (t, hand)
@@ -135,12 +135,12 @@ module _ {S X C B E : Type 0} (m : Contract S X E) (into : X → C → Type 0) (
       holds_joined (x ∷ items) s t v w ran went holds = let turned = went.1 in
           holds_joined items ran.0 t went.0 w ran.2 went.2 (holds_over_hand turned.3 (holds_at_item x ran.1 turned.2 holds))
 
-    -- The outer source's turn may be taken at each item, where the whole may be drawn from, has a number to come, and the caller's turn may be taken at each of its items.
-    pub takes_joined : {P : V → B → Type 0} {s : S} {v : V} → Lawful m → Lawful inner → (flatten_contract m into inner).can (s, None) → (flatten_contract m into inner).has_end (s, None) → HoldsAtEachTurn Draw (carrying_turn turns) P (s, None) v
+    -- The outer source's turn may be taken at each item, where the whole may be drawn from, has a bound, and the caller's turn may be taken at each of its items.
+    pub takes_joined : {P : V → B → Type 0} {s : S} {v : V} → Lawful m → Lawful inner → (flatten_contract m into inner).can_next (s, None) → (flatten_contract m into inner).is_finite (s, None) → HoldsAtEachTurn Draw (carrying_turn turns) P (s, None) v
         → HoldsAtEachTurn m.steps (carrying_turn Joins) (JoiningTakes into inner turns P) s v
     takes_joined {P = P} {s = s} {v = v} l k can finite holds = record {
       at = λ items t u w x ran went step c becomes.
           let given = given_after l s items t u x can.0 ran step in
           let number = finite.2.1.at x c given becomes in
-          (can.3.at x c given becomes, (k.ends c).1 (number.0, number.1), holds_in_hand (holds_at_item P x step becomes (holds_joined P items s t v w ran went holds)));
+          (can.3.at x c given becomes, (k.bounded c).1 (number.0, number.1), holds_in_hand (holds_at_item P x step becomes (holds_joined P items s t v w ran went holds)));
     }

@@ -12,8 +12,8 @@ use Rattle.fallible_core.specs.OneToOne.Cloned.{cloned_call, cloned_parts, clone
 use Rattle.fallible_contract.specs.Traces.{Answered}
 use Rattle.fallible_contract.specs.Passing.{passing_step}
 use Rattle.fallible_contract.specs.Lists.{Lists, mapped, pointed_to}
-use Rattle.fallible_contract.specs.Listed.{Listed, items_listed, source_list, passed_list}
-use Rattle.fallible_contract.proofs.Lemmas.Listed.Passing.{GivesAt, beside, source_beside, listed_passed}
+use Rattle.fallible_contract.specs.BothEnds.{ListsBothEnds, items_listed, source_list, passed_list}
+use Rattle.fallible_contract.proofs.Lemmas.BothEnds.Passing.{GivesAt, beside, source_beside, listed_passed}
 use Rattle.fallible_core.proofs.Lemmas.OneToOne.Map.{never_ends}
 use Rattle.fallible_contract.proofs.Lemmas.Lists.Passing.{passed, all_given, lists_seen}
 
@@ -36,12 +36,12 @@ module _ {T E : Type 0} (is_clone : T → T → Type 0) (is_infallible : T → T
 
 pub stays_cloned : {S T E : Type 0} {m : Contract S (Bor T) E} {s t : S} (is_clone : T → T → Type 0) (is_infallible : T → Type 0) (from : AllocError → E → Type 0) → Stays m s t → Stays (seen_as cloned_parts (cloned_contract is_clone is_infallible from m)) (record { it = s }) (record { it = t })
 stays_cloned is_clone is_infallible from a = record {
-  can = (a.can, tt);
-  has_end = a.has_end;
-  to_come = a.to_come;
-  gives = λ y h. may_answer_after a.gives reaches_here h;
-  fails = λ e h. elim h [ inl b ↦ inl (a.fails e b) | inr b ↦ inr (may_answer_after a.gives reaches_here b) ];
-  names = a.names;
+  can_next = (a.can_next, tt);
+  is_finite = a.is_finite;
+  bound = a.bound;
+  may_give = λ y h. may_answer_after a.may_give reaches_here h;
+  may_fail = λ e h. elim h [ inl b ↦ inl (a.may_fail e b) | inr b ↦ inr (may_answer_after a.may_give reaches_here b) ];
+  lenders = a.lenders;
 }
 
 -- ---- from both ends
@@ -80,10 +80,10 @@ module _ {T E : Type 0} (is_clone : T → T → Type 0) (is_infallible : T → T
   given_clones (Err e ∷ asked) p q all = given_clones asked p q all
 
   -- it lists the clones
-  pub listed_clones : {S : Type 0} (front back : S → Answered (Bor T) E → S → Type 0) (asked : List (Result (Bor T × T) E)) (s : S) → All OneClone (items_listed asked) → Listed front back s (source_list asked)
-      → Listed (passing_step front (cloned_call is_clone is_infallible from) map_outcome) (passing_step back (cloned_call is_clone is_infallible from) map_outcome) (s, tt) (passed_list map_outcome (map with_clone asked))
+  pub listed_clones : {S : Type 0} (front back : S → Answered (Bor T) E → S → Type 0) (asked : List (Result (Bor T × T) E)) (s : S) → All OneClone (items_listed asked) → ListsBothEnds front back s (source_list asked)
+      → ListsBothEnds (passing_step front (cloned_call is_clone is_infallible from) map_outcome) (passing_step back (cloned_call is_clone is_infallible from) map_outcome) (s, tt) (passed_list map_outcome (map with_clone asked))
   listed_clones front back asked s all i = listed_passed front back (cloned_call is_clone is_infallible from) map_outcome never_ends (map with_clone asked) s tt
-      (λ made p q w. given_clones asked p q all) (subst (λ (l : List (Result (Bor T) E)). Listed front back s l) (sym (source_with_clones asked)) i)
+      (λ made p q w. given_clones asked p q all) (subst (λ (l : List (Result (Bor T) E)). ListsBothEnds front back s l) (sym (source_with_clones asked)) i)
 
 -- ---- where a clone equals its original
 
@@ -103,6 +103,6 @@ module _ {T E : Type 0} (is_clone : T → T → Type 0) (is_infallible : T → T
   one_original (Ok x ∷ l) = All-cons (OneClone {E = E} is_clone is_infallible from) (x, x.now) (items_listed (with_original l)) (infallible x.now, λ y called. equal x.now y called) (one_original l)
   one_original (Err e ∷ l) = one_original l
 
-  pub listed_originals : {S : Type 0} (front back : S → Answered (Bor T) E → S → Type 0) (l : List (Result (Bor T) E)) (s : S) → Listed front back s l
-      → Listed (passing_step front (cloned_call is_clone is_infallible from) map_outcome) (passing_step back (cloned_call is_clone is_infallible from) map_outcome) (s, tt) (passed_list map_outcome (map with_clone (with_original l)))
-  listed_originals front back l s i = listed_clones is_clone is_infallible from front back (with_original l) s (one_original l) (subst (λ (k : List (Result (Bor T) E)). Listed front back s k) (sym (source_beside (λ x. x.now) l)) i)
+  pub listed_originals : {S : Type 0} (front back : S → Answered (Bor T) E → S → Type 0) (l : List (Result (Bor T) E)) (s : S) → ListsBothEnds front back s l
+      → ListsBothEnds (passing_step front (cloned_call is_clone is_infallible from) map_outcome) (passing_step back (cloned_call is_clone is_infallible from) map_outcome) (s, tt) (passed_list map_outcome (map with_clone (with_original l)))
+  listed_originals front back l s i = listed_clones is_clone is_infallible from front back (with_original l) s (one_original l) (subst (λ (k : List (Result (Bor T) E)). ListsBothEnds front back s k) (sym (source_beside (λ x. x.now) l)) i)

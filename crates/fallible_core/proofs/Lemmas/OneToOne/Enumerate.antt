@@ -8,7 +8,7 @@ use Rattle.fallible_contract.proofs.Lemmas.Lists.Passing.{lists_seen}
 use Rattle.fallible_contract.specs.Traces.{Answered, item}
 use Rattle.fallible_core.specs.OneToOne.Enumerate.{EnumerateTrace, enumerate_parts, enumerate_contract}
 use Rattle.fallible_core.specs.Laws.OneToOne.Enumerate.{Numbered, numbered_none, numbered_item, numbered_end, numbered_failure, to_numbered}
-use Rattle.fallible_contract.proofs.Lemmas.Definitions.{FirstOf, IsByAnswers}
+use Rattle.fallible_contract.proofs.Lemmas.LawForm.{FirstOf, IsByAnswers}
 
 module _ {S A E : Type 0} (steps : S → Answered A E → S → Type 0) where
   abbrev M : S → ℕ → List (Answered (ℕ × A) E) → S → ℕ → Type 0

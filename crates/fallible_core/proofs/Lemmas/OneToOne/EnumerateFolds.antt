@@ -34,7 +34,7 @@ to_numbers {steps = steps} p r q step = passed steps p.0 q.0 p.1 q.1 r (to_passe
 
 -- an item that comes may be counted
 pub drawn_numbered : {S A E : Type 0} {m : Contract S A E} {s t : S} {n : ℕ} → Lawful m → IsNumberable m s n → (drawn : Answered A E) → m.steps s drawn t → IfItem (λ x. number_takes n x) drawn
-drawn_numbered {s = s} {t = t} l can (Ok (Some x)) step = let fewer = (l.goes s (item x) t can.can step).answer.1 can.bound can.bounds in let fits = can.fits in omega (arith, fewer.2, fits)
+drawn_numbered {s = s} {t = t} l can (Ok (Some x)) step = let fewer = (l.kept_by_draw s (item x) t can.can_next step).answer.1 can.bound can.bounds in let fits = can.fits in omega (arith, fewer.2, fits)
 drawn_numbered l can (Ok None) step = tt
 drawn_numbered l can (Err e) step = tt
 
@@ -59,7 +59,7 @@ module _ {S A E C R : Type 0} {m : Contract S A E} (l : Lawful m) (turns : C →
       → HoldsAtEachTurn m.steps (carrying_turn Numbers) (FoldingTakes {E = E} number_call number_outcome number_takes P) s (c, n)
   takes_numbered {P = P} {s = s} {n = n} {c = c} can holds = record {
     at = λ items t u p x ran went step. (
-      (let k = counts_along items (c, n) p 0 went in let below = (count_fits {m = m} can.bound l can.can (inl can.bounds)).at items t u k.0 x ran k.1 step in let fits = can.fits in omega (arith, below, k.2, fits)),
+      (let k = counts_along items (c, n) p 0 went in let below = (count_fits {m = m} can.bound l can.can_next (inl can.bounds)).at items t u k.0 x ran k.1 step in let fits = can.fits in omega (arith, below, k.2, fits)),
       ((takes_freely number_call number_outcome turns {pre = λ _ _. ⊤} (λ g x. tt) holds).at items t u p x ran went step).1,
     );
   }

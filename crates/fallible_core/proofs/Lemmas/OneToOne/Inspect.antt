@@ -17,14 +17,14 @@ pub never_ends : {X E : Type 0} (x : X) (v : Result (Unit {0}) E) → inspect_ou
 never_ends x (Ok u) e = absurd cc
 never_ends x (Err d) e = absurd cc
 
-outcome_listed : {X E : Type 0} (x : X) (v : Result (Unit {0}) E) (l : List (Result X E)) → by_outcome (inspect_outcome x v) l ≡ once_seen x v ∷ l
-outcome_listed x (Ok u) l = refl
-outcome_listed x (Err e) l = refl
+by_outcome_is : {X E : Type 0} (x : X) (v : Result (Unit {0}) E) (l : List (Result X E)) → by_outcome (inspect_outcome x v) l ≡ once_seen x v ∷ l
+by_outcome_is x (Ok u) l = refl
+by_outcome_is x (Err e) l = refl
 
 pub inspected_is : {X E : Type 0} (h : X → Result (Unit {0}) E) (l : List (Result X E)) → passed inspect_outcome (λ (p : Unit {0}) x. h x) (λ p x. p) tt l ≡ inspected h l
 unfolding inspected
 inspected_is h [] = refl
-inspected_is h (Ok x ∷ l) = outcome_listed x (h x) _ ∙ ap (λ t. once_seen x (h x) ∷ t) (inspected_is h l)
+inspected_is h (Ok x ∷ l) = by_outcome_is x (h x) _ ∙ ap (λ t. once_seen x (h x) ∷ t) (inspected_is h l)
 inspected_is h (Err e ∷ l) = ap (λ t. Err e ∷ t) (inspected_is h l)
 
 pub lists_inspected : {S F X E : Type 0} (m : Contract S X E) (g : Mut F (Bor X × Unit {0}) (Result (Unit {0}) E)) (s : Inspect S F) (f : F) (h : X → Result (Unit {0}) E) (l : List (Result X E)) → inspect_parts s ≡ (s.it, Some f) → Acts (call_at g) f h → Lists m.steps s.it l

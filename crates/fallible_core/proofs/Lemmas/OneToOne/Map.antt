@@ -16,14 +16,14 @@ pub never_ends : {X B E : Type 0} (x : X) (v : Result B E) → map_outcome x v �
 never_ends x (Ok y) e = absurd cc
 never_ends x (Err d) e = absurd cc
 
-outcome_listed : {X B E : Type 0} (x : X) (y : Result B E) (l : List (Result B E)) → by_outcome (map_outcome x y) l ≡ y ∷ l
-outcome_listed x (Ok y) l = refl
-outcome_listed x (Err e) l = refl
+by_outcome_is : {X B E : Type 0} (x : X) (y : Result B E) (l : List (Result B E)) → by_outcome (map_outcome x y) l ≡ y ∷ l
+by_outcome_is x (Ok y) l = refl
+by_outcome_is x (Err e) l = refl
 
 pub mapped_is : {X B E : Type 0} (h : X → Result B E) (l : List (Result X E)) → passed map_outcome (λ (p : Unit {0}) x. h x) (λ p x. p) tt l ≡ mapped h l
 unfolding mapped
 mapped_is h [] = refl
-mapped_is h (Ok x ∷ l) = outcome_listed x (h x) _ ∙ ap (λ t. h x ∷ t) (mapped_is h l)
+mapped_is h (Ok x ∷ l) = by_outcome_is x (h x) _ ∙ ap (λ t. h x ∷ t) (mapped_is h l)
 mapped_is h (Err e ∷ l) = ap (λ t. Err e ∷ t) (mapped_is h l)
 
 pub lists_mapped : {S F X B E : Type 0} (m : Contract S X E) (g : Mut F (X × Unit {0}) (Result B E)) (s : Map S F) (f : F) (h : X → Result B E) (l : List (Result X E)) → map_parts s ≡ (s.it, Some f) → Acts (call_on g) f h → Lists m.steps s.it l

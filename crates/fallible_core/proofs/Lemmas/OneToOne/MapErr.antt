@@ -11,7 +11,7 @@ use Rattle.fallible_contract.proofs.Lemmas.Lists.Passing.{lists_seen}
 use Rattle.fallible_contract.specs.Traces.{Answered, item}
 use Rattle.fallible_core.specs.OneToOne.MapErr.{item_here, asked_of, end_here, MapErrTrace, MapErrAnswer, TakesFailure, map_err_parts, map_err_contract}
 use Rattle.fallible_core.specs.Laws.OneToOne.MapErr.{Mapped, mapped_none, mapped_item, mapped_end, mapped_failure, to_mapped}
-use Rattle.fallible_contract.proofs.Lemmas.Definitions.{FirstOf, IsByAnswers}
+use Rattle.fallible_contract.proofs.Lemmas.LawForm.{FirstOf, IsByAnswers}
 
 module _ {S F X D E : Type 0} (steps : S → Answered X D → S → Type 0) (call : F → D → E → F → Type 0) where
   abbrev M : S → F → List (Answered X E) → S → F → Type 0
@@ -61,9 +61,9 @@ map_err_answered {steps = steps} {call = call} {s = s} {t = t} {f = f} {g = g} (
 map_err_answered {steps = steps} {call = call} {s = s} {t = t} {f = f} {g = g} (Err d) step h = subst (λ q. MapErrTrace steps call (s, f) (q ∷ []) (t, g)) (sym h.2) (map_err_failure d h.0 step h.1)
 
 -- its closure may be called on a failure that was drawn
-pub takes_drawn_failure : {S F X D E : Type 0} {m : Contract S X D} {s t : S} (call : F → D → E → F → Type 0) (pre : F → D → Type 0) (f : F) → Lawful m → m.can s → (drawn : Answered X D) → m.steps s drawn t → IsCallable call pre (m.fails s) f → TakesFailure pre f drawn
+pub takes_drawn_failure : {S F X D E : Type 0} {m : Contract S X D} {s t : S} (call : F → D → E → F → Type 0) (pre : F → D → Type 0) (f : F) → Lawful m → m.can_next s → (drawn : Answered X D) → m.steps s drawn t → IsCallable call pre (m.may_fail s) f → TakesFailure pre f drawn
 takes_drawn_failure call pre f l c (Ok o) step callable = tt
-takes_drawn_failure {s = s} {t = t} call pre f l c (Err d) step callable = callable.at f d reaches_here ((l.goes s (Err d) t c step).answer.0)
+takes_drawn_failure {s = s} {t = t} call pre f l c (Err d) step callable = callable.at f d reaches_here ((l.kept_by_draw s (Err d) t c step).answer.0)
 
 -- ---- what it lists
 

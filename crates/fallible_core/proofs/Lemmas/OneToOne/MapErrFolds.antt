@@ -68,12 +68,12 @@ folds_map_err {steps = steps} {turns = turns} {s = s} {t = t} {f = f} {g = g} {e
 }
 
 module _ {S X D : Type 0} {m : Contract S X D} (l : Lawful m) where
-  failure_given : (items : List X) (s t : S) (e : D) → m.can s → Run m.steps s (map item items ++ Err e ∷ []) t → m.fails s e
-  failure_given [] s t e can ran = (l.goes s (Err e) ran.0 can ran.1).answer.0
-  failure_given (x ∷ items) s t e can ran = let a = l.goes s (item x) ran.0 can ran.1 in a.fails e (failure_given items ran.0 t e a.can ran.2)
+  failure_given : (items : List X) (s t : S) (e : D) → m.can_next s → Run m.steps s (map item items ++ Err e ∷ []) t → m.may_fail s e
+  failure_given [] s t e can ran = (l.kept_by_draw s (Err e) ran.0 can ran.1).answer.0
+  failure_given (x ∷ items) s t e can ran = let a = l.kept_by_draw s (item x) ran.0 can ran.1 in a.may_fail e (failure_given items ran.0 t e a.can_next ran.2)
 
   -- the closure may be called on the failure that the fold met
-  pub takes_exit : {F E C R : Type 0} {turns : C → X → ControlFlow R C → Type 0} {s t : S} {f : F} {c : C} {exit : Exit C D R} (call : F → D → E → F → Type 0) (pre : F → D → Type 0) → m.can s → IsCallable call pre (m.fails s) f → Carried m.steps turns s c exit t → TakesExit pre f exit
+  pub takes_exit : {F E C R : Type 0} {turns : C → X → ControlFlow R C → Type 0} {s t : S} {f : F} {c : C} {exit : Exit C D R} (call : F → D → E → F → Type 0) (pre : F → D → Type 0) → m.can_next s → IsCallable call pre (m.may_fail s) f → Carried m.steps turns s c exit t → TakesExit pre f exit
   takes_exit {exit = Ended c} call pre can callable w = tt
   takes_exit {turns = turns} {s = s} {t = t} {f = f} {exit = Failed c e} call pre can callable w = callable.at f e reaches_here (failure_given w.items s t e can (subst (λ (r : Answered X D). Run m.steps s (map item w.items ++ r ∷ []) t) (failure_met m.steps call turns w.last c w.carried e w.exit) w.ran))
   takes_exit {exit = Stopped r} call pre can callable w = tt
@@ -133,7 +133,7 @@ last_met items (Err b) made d exit is = failed_last (Err b) b d exit is refl
 last_met items (Ok (Some x)) made d exit is = absurd exit
 
 -- the closure may be called on the failure that such a call answered
-module _ {S F X D E : Type 0} {m : Contract S X D} (l : Lawful m) (call : F → D → E → F → Type 0) (pre : F → D → Type 0) {s : S} {f : F} (can : m.can s) (callable : IsCallable call pre (m.fails s) f) where
+module _ {S F X D E : Type 0} {m : Contract S X D} (l : Lawful m) (call : F → D → E → F → Type 0) (pre : F → D → Type 0) {s : S} {f : F} (can : m.can_next s) (callable : IsCallable call pre (m.may_fail s) f) where
   takes_made : {C : Type 0} (made : Result C D) (items : List X) (last : Answered X D) (t : S) → Run m.steps s (map item items ++ last ∷ []) t → ((d : D) → made ≡ Err d → last ≡ Err d) → TakesFailure pre f made
   takes_made (Ok v) items last t ran met = tt
   takes_made (Err d) items last t ran met = callable.at f d reaches_here (failure_given l items s t d can (subst (λ (r : Answered X D). Run m.steps s (map item items ++ r ∷ []) t) (met d refl) ran))

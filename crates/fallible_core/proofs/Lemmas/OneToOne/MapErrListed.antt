@@ -5,9 +5,9 @@ use Rattle.std.proofs.lemmas.List.Elements.{All-nil, All-cons}
 use Rattle.fallible_contract.specs.Traces.{Answered}
 use Rattle.fallible_contract.specs.Closures.{Steady}
 use Rattle.fallible_contract.specs.Lists.{Acts, failures_mapped}
-use Rattle.fallible_contract.specs.Listed.{TakesFirst, Listed, failure_listed, failures_listed}
-use Rattle.fallible_contract.proofs.Lemmas.Listed.{takes_front, listed_by_swapping, listed_swapped}
-use Rattle.fallible_contract.proofs.Lemmas.Listed.Passing.{map-reverse, filter_map-reverse, GivesAt, steady_after, steady_rest, steady_answer, steady_none, steady_reversed, stays_acting}
+use Rattle.fallible_contract.specs.BothEnds.{TakesFirst, ListsBothEnds, failure_listed, failures_listed}
+use Rattle.fallible_contract.proofs.Lemmas.BothEnds.{takes_front, listed_by_swapping, listed_swapped}
+use Rattle.fallible_contract.proofs.Lemmas.BothEnds.Passing.{map-reverse, filter_map-reverse, GivesAt, steady_after, steady_rest, steady_answer, steady_none, steady_reversed, stays_acting}
 use Rattle.fallible_core.specs.OneToOne.MapErr.{MapErrTrace}
 use Rattle.fallible_core.specs.Laws.OneToOne.MapErr.{Mapped, mapped_none, mapped_item, mapped_end, mapped_failure, to_mapped}
 
@@ -32,23 +32,23 @@ module _ {S F X D E : Type 0} (front back : S → Answered X D → S → Type 0)
   record Says (p : S × F) (l : List (Result X E)) : Type 0 where
     asked : List (Result X (D × E))
     list_is : l ≡ answered asked
-    listed : Listed front back p.0 (asked_of asked)
+    listed : ListsBothEnds front back p.0 (asked_of asked)
     steady : Steady call p.1 (failures_listed asked)
 
-  says : (asked : List (Result X (D × E))) (s : S) (f : F) → Listed front back s (asked_of asked) → Steady call f (failures_listed asked) → Says (s, f) (answered asked)
+  says : (asked : List (Result X (D × E))) (s : S) (f : F) → ListsBothEnds front back s (asked_of asked) → Steady call f (failures_listed asked) → Says (s, f) (answered asked)
   says asked s f i k = record { asked = asked; list_is = refl; listed = i; steady = k }
 
-  item_taken : (asked : List (Result X (D × E))) (s t : S) (f : F) (x : X) → Listed front back s (asked_of asked) → Steady call f (failures_listed asked) → front s (Ok (Some x)) t → TakesFirst (λ l. Says (t, f) l) (Ok (Some x)) (answered asked)
+  item_taken : (asked : List (Result X (D × E))) (s t : S) (f : F) (x : X) → ListsBothEnds front back s (asked_of asked) → Steady call f (failures_listed asked) → front s (Ok (Some x)) t → TakesFirst (λ l. Says (t, f) l) (Ok (Some x)) (answered asked)
   item_taken [] s t f x i k step = absurd (let e = (takes_front i step).0 in cc)
   item_taken (Ok y ∷ asked) s t f x i k step = let h = takes_front i step in let same : x ≡ y = (let e = h.0 in cc) in (ap (λ (z : X). Ok (Some z)) same, says asked t f h.1 k)
   item_taken (Err c ∷ asked) s t f x i k step = absurd (let e = (takes_front i step).0 in cc)
 
-  end_taken : (asked : List (Result X (D × E))) (s t : S) (f : F) → Listed front back s (asked_of asked) → front s (Ok None) t → TakesFirst (λ l. Says (t, f) l) (Ok None) (answered asked)
+  end_taken : (asked : List (Result X (D × E))) (s t : S) (f : F) → ListsBothEnds front back s (asked_of asked) → front s (Ok None) t → TakesFirst (λ l. Says (t, f) l) (Ok None) (answered asked)
   end_taken [] s t f i step = (refl, says [] t f (takes_front i step).1 (steady_none call f))
   end_taken (Ok y ∷ asked) s t f i step = absurd (let e = (takes_front i step).0 in cc)
   end_taken (Err c ∷ asked) s t f i step = absurd (let e = (takes_front i step).0 in cc)
 
-  failure_taken : (asked : List (Result X (D × E))) (s t : S) (f g : F) (d : D) (e : E) → Listed front back s (asked_of asked) → Steady call f (failures_listed asked) → front s (Err d) t → call f d e g → TakesFirst (λ l. Says (t, g) l) (Err e) (answered asked)
+  failure_taken : (asked : List (Result X (D × E))) (s t : S) (f g : F) (d : D) (e : E) → ListsBothEnds front back s (asked_of asked) → Steady call f (failures_listed asked) → front s (Err d) t → call f d e g → TakesFirst (λ l. Says (t, g) l) (Err e) (answered asked)
   failure_taken [] s t f g d e i k step called = absurd (let q = (takes_front i step).0 in cc)
   failure_taken (Ok y ∷ asked) s t f g d e i k step called = absurd (let q = (takes_front i step).0 in cc)
   failure_taken (Err c ∷ asked) s t f g d e i k step called =
@@ -57,7 +57,7 @@ module _ {S F X D E : Type 0} (front back : S → Answered X D → S → Type 0)
       let answer = steady_answer call c (failures_listed asked) f g e k (subst (λ (z : D). call f z e g) same called) in
       (ap (λ (z : E). Err z) answer, says asked t g h.1 (steady_after call (failures_listed asked) f g d e (steady_rest call c (failures_listed asked) f k) called))
 
-  taken : (asked : List (Result X (D × E))) (s t : S) (f g : F) (r : Answered X E) → Listed front back s (asked_of asked) → Steady call f (failures_listed asked) → Mapped front call s f (r ∷ []) t g → TakesFirst (λ l. Says (t, g) l) r (answered asked)
+  taken : (asked : List (Result X (D × E))) (s t : S) (f g : F) (r : Answered X E) → ListsBothEnds front back s (asked_of asked) → Steady call f (failures_listed asked) → Mapped front call s f (r ∷ []) t g → TakesFirst (λ l. Says (t, g) l) r (answered asked)
   taken asked s t f _ _ i k (mapped_item x step mapped_none) = item_taken asked s t f x i k step
   taken asked s t f _ _ i k (mapped_end step mapped_none) = end_taken asked s t f i step
   taken asked s t f g _ i k (mapped_failure d e step called mapped_none) = failure_taken asked s t f g d e i k step called
@@ -70,12 +70,12 @@ module _ {S F X D E : Type 0} (front back : S → Answered X D → S → Type 0)
   swapped p l a = record {
     asked = reverse a.asked;
     list_is = ap reverse a.list_is ∙ sym (map-reverse (with_failure (λ c. c.1)) a.asked);
-    listed = subst (λ (k : List (Result X D)). Listed front back p.0 k) (sym (map-reverse (with_failure (λ c. c.0)) a.asked)) (listed_swapped a.listed);
+    listed = subst (λ (k : List (Result X D)). ListsBothEnds front back p.0 k) (sym (map-reverse (with_failure (λ c. c.0)) a.asked)) (listed_swapped a.listed);
     steady = subst (λ (pairs : List (D × E)). Steady call p.1 pairs) (sym (filter_map-reverse failure_listed a.asked)) (steady_reversed call (failures_listed a.asked) p.1 a.steady);
   }
 
 module _ {S F X D E : Type 0} (front back : S → Answered X D → S → Type 0) (call : F → D → E → F → Type 0) where
-  listed_answered : (asked : List (Result X (D × E))) (s : S) (f : F) → Steady call f (failures_listed asked) → Listed front back s (asked_of asked) → Listed (map_err_step front call) (map_err_step back call) (s, f) (answered asked)
+  listed_answered : (asked : List (Result X (D × E))) (s : S) (f : F) → Steady call f (failures_listed asked) → ListsBothEnds front back s (asked_of asked) → ListsBothEnds (map_err_step front call) (map_err_step back call) (s, f) (answered asked)
   listed_answered asked s f k i = listed_by_swapping (map_err_step front call) (map_err_step back call) (Says front back call) (Says back front call) (swapped back front call) (swapped front back call) (taken_front front back call) (taken_front back front call) (s, f) (answered asked) (says front back call asked s f i k)
 
 -- ---- in the words of lists
@@ -88,8 +88,8 @@ mapped_by h (Err e ∷ l) = ap {B = List (Result _ _)} (λ k. Err (h e) ∷ k) (
 
 module _ {S F X D E : Type 0} (front back : S → Answered X D → S → Type 0) (call : F → D → E → F → Type 0) where
   -- It lists the closure's answers on the failures.
-  pub listed_failures : (asked : List (Result X (D × E))) (s : S) (f : F) → Steady call f (failures_listed asked) → Listed front back s (failures_mapped (λ c. c.0) asked) → Listed (map_err_step front call) (map_err_step back call) (s, f) (failures_mapped (λ c. c.1) asked)
-  listed_failures asked s f k i = subst (λ (l : List (Result X E)). Listed (map_err_step front call) (map_err_step back call) (s, f) l) (mapped_by (λ c. c.1) asked) (listed_answered front back call asked s f k (subst (λ (l : List (Result X D)). Listed front back s l) (sym (mapped_by (λ c. c.0) asked)) i))
+  pub listed_failures : (asked : List (Result X (D × E))) (s : S) (f : F) → Steady call f (failures_listed asked) → ListsBothEnds front back s (failures_mapped (λ c. c.0) asked) → ListsBothEnds (map_err_step front call) (map_err_step back call) (s, f) (failures_mapped (λ c. c.1) asked)
+  listed_failures asked s f k i = subst (λ (l : List (Result X E)). ListsBothEnds (map_err_step front call) (map_err_step back call) (s, f) l) (mapped_by (λ c. c.1) asked) (listed_answered front back call asked s f k (subst (λ (l : List (Result X D)). ListsBothEnds front back s l) (sym (mapped_by (λ c. c.0) asked)) i))
 
 -- ---- a closure that acts as a function
 
@@ -116,6 +116,6 @@ module _ {F D E : Type 0} (call : F → D → E → F → Type 0) (f : F) (h : D
   steady_acting : {X : Type 0} (l : List (Result X D)) → Steady call f (failures_listed (map (beside h) l))
   steady_acting l = λ made p q w. subst (λ (g : F). All (GivesAt call g q) (failures_listed (map (beside h) l))) (sym (stays_acting call f h acts made p w)) (given_acting q l)
 
-  pub listed_acting : {S X : Type 0} (front back : S → Answered X D → S → Type 0) (s : S) (l : List (Result X D)) → Listed front back s l → Listed (map_err_step front call) (map_err_step back call) (s, f) (failures_mapped h l)
-  listed_acting front back s l i = subst (λ (k : List (Result _ E)). Listed (map_err_step front call) (map_err_step back call) (s, f) k) (part_beside h (λ c. c.1) l ∙ mapped_by h l)
-      (listed_answered front back call (map (beside h) l) s f (steady_acting l) (subst (λ (k : List (Result _ D)). Listed front back s k) (sym (part_beside h (λ c. c.0) l ∙ same_failures l)) i))
+  pub listed_acting : {S X : Type 0} (front back : S → Answered X D → S → Type 0) (s : S) (l : List (Result X D)) → ListsBothEnds front back s l → ListsBothEnds (map_err_step front call) (map_err_step back call) (s, f) (failures_mapped h l)
+  listed_acting front back s l i = subst (λ (k : List (Result _ E)). ListsBothEnds (map_err_step front call) (map_err_step back call) (s, f) k) (part_beside h (λ c. c.1) l ∙ mapped_by h l)
+      (listed_answered front back call (map (beside h) l) s f (steady_acting l) (subst (λ (k : List (Result _ D)). ListsBothEnds front back s k) (sym (part_beside h (λ c. c.0) l ∙ same_failures l)) i))

@@ -5,7 +5,7 @@ use Rattle.std.specs.Fn.{Shared, FnReturnsAt}
 use Rattle.std.proofs.Common.{refl, sym, ap, subst, arith, inl, inr}
 use Rattle.fallible_contract.specs.Traces.{Answered, Run, item, end}
 use Rattle.fallible_core.specs.declared.peeking.peekable.Peekable.{Peekable}
-use Rattle.fallible_contract.specs.Contract.{Contract, Goes, Stays, Lawful, seen_as}
+use Rattle.fallible_contract.specs.Contract.{Contract, KeptByDraw, Stays, Lawful, seen_as}
 use Rattle.fallible_contract.specs.Lists.{AlwaysGives, Lists}
 use Rattle.fallible_contract.proofs.Lemmas.Lists.Passing.{lists_seen}
 use Rattle.fallible_core.specs.Peeking.Peekable.{peekable_parts, held_answers, behind_held, PeekableTrace, peekable_step, peekable_contract, seen, told, held_of, held_item, Fills, Peeks, Looks, TakenIf, NextIf}
@@ -19,33 +19,33 @@ module _ {S A E : Type 0} {m : Contract S A E} (l : Lawful m) where
   Q = peekable_contract m
 
   -- an item that was drawn is held
-  item_stays : (s t : S) (x : A) → Goes m s (item x) t → Stays Q (s, None) (t, Some (Some x))
+  item_stays : (s t : S) (x : A) → KeptByDraw m s (item x) t → Stays Q (s, None) (t, Some (Some x))
   item_stays s t x a = record {
-    can = a.can;
-    has_end = a.has_end;
-    to_come = λ n b. let k = a.answer.1 b.0 b.1 in (n, (k.0, k.1, omega (arith, k.2, b.2)), omega arith);
-    gives = λ y h. elim h [ inl e ↦ (let same : x ≡ y = cc in inr (subst (λ (z : A). m.gives s z) same a.answer.0)) | inr g ↦ inr (a.gives y g) ];
-    fails = a.fails;
-    names = a.names;
+    can_next = a.can_next;
+    is_finite = a.is_finite;
+    bound = λ n b. let k = a.answer.1 b.0 b.1 in (n, (k.0, k.1, omega (arith, k.2, b.2)), omega arith);
+    may_give = λ y h. elim h [ inl e ↦ (let same : x ≡ y = cc in inr (subst (λ (z : A). m.may_give s z) same a.answer.0)) | inr g ↦ inr (a.may_give y g) ];
+    may_fail = a.may_fail;
+    lenders = a.lenders;
   }
 
   -- an end that was drawn is held
-  end_stays : (s t : S) → Goes m s end t → Stays Q (s, None) (t, Some None)
+  end_stays : (s t : S) → KeptByDraw m s end t → Stays Q (s, None) (t, Some None)
   end_stays s t a = record {
-    can = a.can;
-    has_end = a.has_end;
-    to_come = λ n b. let k = a.answer.0 b.0 b.1 in (n, (k.0, k.1, omega (arith, k.2, b.2)), omega arith);
-    gives = λ y h. elim h [ inl e ↦ absurd cc | inr g ↦ inr (a.gives y g) ];
-    fails = a.fails;
-    names = a.names;
+    can_next = a.can_next;
+    is_finite = a.is_finite;
+    bound = λ n b. let k = a.answer.0 b.0 b.1 in (n, (k.0, k.1, omega (arith, k.2, b.2)), omega arith);
+    may_give = λ y h. elim h [ inl e ↦ absurd cc | inr g ↦ inr (a.may_give y g) ];
+    may_fail = a.may_fail;
+    lenders = a.lenders;
   }
 
-  peeked_stays : (s t : S) (r : Answered A E) (held : Option (Option A)) → m.can s → Peeks m.steps (s, None) r (t, held) → Stays Q (s, None) (t, held)
-  peeked_stays s t (Ok (Some x)) held c peeks = rw peeks.1 (item_stays s t x (l.goes s (item x) t c peeks.0))
-  peeked_stays s t (Ok None) held c peeks = rw peeks.1 (end_stays s t (l.goes s end t c peeks.0))
-  peeked_stays s t (Err e) held c peeks = let a = l.goes s (Err e) t c peeks.0 in rw peeks.1 (stays_after (drawn_goes m s t (Err e) a) (stays_here a.can))
+  peeked_stays : (s t : S) (r : Answered A E) (held : Option (Option A)) → m.can_next s → Peeks m.steps (s, None) r (t, held) → Stays Q (s, None) (t, held)
+  peeked_stays s t (Ok (Some x)) held c peeks = rw peeks.1 (item_stays s t x (l.kept_by_draw s (item x) t c peeks.0))
+  peeked_stays s t (Ok None) held c peeks = rw peeks.1 (end_stays s t (l.kept_by_draw s end t c peeks.0))
+  peeked_stays s t (Err e) held c peeks = let a = l.kept_by_draw s (Err e) t c peeks.0 in rw peeks.1 (stays_after (drawn_goes m s t (Err e) a) (stays_here a.can_next))
 
-  pub stays_peek : (p : S × Option (Option A)) (r : Answered A E) (q : S × Option (Option A)) → m.can p.0 → Peeks m.steps p r q → Stays Q p q
+  pub stays_peek : (p : S × Option (Option A)) (r : Answered A E) (q : S × Option (Option A)) → m.can_next p.0 → Peeks m.steps p r q → Stays Q p q
   stays_peek (s, Some o) r (t, held) c peeks = rw (peeks.1, peeks.2) (stays_here c)
   stays_peek (s, None) r (t, held) c peeks = peeked_stays s t r held c peeks
 
@@ -73,7 +73,7 @@ module _ {S A E : Type 0} (steps : S → Answered A E → S → Type 0) where
     takes_failure (s, Some o) q e step = absurd (let d = step.0 in cc)
     takes_failure (s, None) (t, held) e step = record { peeked = Err e; left = (t, held); peeks = step; taken = (refl, refl) }
 
-pub stays_kept : {S A E : Type 0} {m : Contract S A E} → Lawful m → (p q : S × Option (Option A)) (o : Option A) → m.can p.0 → peekable_step m.steps p (Ok o) q → Stays (peekable_contract m) p (q.0, Some o)
+pub stays_kept : {S A E : Type 0} {m : Contract S A E} → Lawful m → (p q : S × Option (Option A)) (o : Option A) → m.can_next p.0 → peekable_step m.steps p (Ok o) q → Stays (peekable_contract m) p (q.0, Some o)
 stays_kept {m = m} l p q o c step = stays_peek l p (Ok o) (q.0, Some o) c (peeks_again m.steps p q o step)
 
 -- ---- `peek`

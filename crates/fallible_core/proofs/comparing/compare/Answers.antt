@@ -23,10 +23,10 @@ returns-in-Some g c = c.loop-x.invariant.whole _ (compared_round _ _ (Ok c.in-Ok
 pub loop-x-preserved : goal.loop-x-preserved
 loop-x-preserved g c = let equal = round_goes_on g.K.Rule.rule c.in-Ok.x c.in-Ok-next.y (sym c.decide.ensures ∙ c.in-None.is) in
     let step = rw equal.2 at c.in-Ok.ensures in let next = rw equal.3 at c.in-Ok-next.ensures in
-    let goes = g.met.L.FallibleIterator.lawful.goes _ _ _ c.loop-x.invariant.can_left step in
-    let went = g.met.R.FallibleIterator.lawful.goes _ _ _ c.loop-x.invariant.can_right next in record {
-      can_left = goes.can;
-      can_right = went.can;
+    let goes = g.met.L.FallibleIterator.lawful.kept_by_draw _ _ _ c.loop-x.invariant.can_left step in
+    let went = g.met.R.FallibleIterator.lawful.kept_by_draw _ _ _ c.loop-x.invariant.can_right next in record {
+      can_left = goes.can_next;
+      can_right = went.can_next;
       bounded = either_fewer g.L.FallibleIterator.contract g.R.FallibleIterator.contract _ _ _ _ _ _ goes.answer.1 went.answer.1 c.one_less-count.ensures c.loop-x.invariant.bounded;
       whole = λ r rest. c.loop-x.invariant.whole r (compared_after _ _ equal.4 step next rest);
     }

@@ -4,9 +4,9 @@ use Rattle.std.specs.Fn.{Mut}
 use Rattle.std.specs.Borrow.{Bor}
 use Rattle.std.proofs.Common.{refl, sym, subst}
 use Rattle.fallible_contract.specs.Traces.{item, failure, end}
-use Rattle.fallible_contract.specs.Contract.{Contract, Goes, Lawful}
+use Rattle.fallible_contract.specs.Contract.{Contract, KeptByDraw, Lawful}
 use Rattle.fallible_contract.specs.Closures.{Calls, call_in, IsCallableIn, call_at, takes_at}
-use Rattle.fallible_contract.specs.Passing.{Place, asked, failure_at, end_at, passing}
+use Rattle.fallible_contract.specs.Passing.{Place, asked, failure_at, end_at, passing_contract}
 use Rattle.fallible_contract.specs.Hints.{upper_alone}
 use Rattle.fallible_core.specs.Cutting.TakeWhile.{take_while_outcome, taken_answer, is_refused, place_drawn, take_while_contract}
 use Rattle.fallible_contract.specs.Laws.Closures.{callable_in_after}
@@ -15,7 +15,7 @@ use Rattle.fallible_contract.specs.Laws.Closing.{lawful_closing}
 
 module _ {S F X E : Type 0} (m : Contract S X E) (l : Lawful m) (g : Mut F (Bor X × Unit {0}) (Result Bool E)) where
   abbrev N : Contract (S × Option F) X E
-  N = passing m (call_in (call_at g)) (IsCallableIn (call_at g) (takes_at g)) take_while_outcome (λ p h. upper_alone m p.0 h)
+  N = passing_contract m (call_in (call_at g)) (IsCallableIn (call_at g) (takes_at g)) take_while_outcome (λ p h. upper_alone m p.0 h)
 
   lawful_taking : Lawful N
   lawful_taking = lawful_passing (call_in (call_at g)) (IsCallableIn (call_at g) (takes_at g)) take_while_outcome (λ p h. upper_alone m p.0 h) (callable_in_after (call_at g) (takes_at g)) l
@@ -24,12 +24,12 @@ module _ {S F X E : Type 0} (m : Contract S X E) (l : Lawful m) (g : Mut F (Bor 
   one_call : (p q : Option F) (x : X) (v : Result Bool E) → Calls (call_in (call_at g)) p ((x, v) ∷ []) q → call_in (call_at g) p x v q
   one_call p q x v called = subst (λ (k : Option F). call_in (call_at g) p x v k) called.2 called.1
 
-  goes_taken : (p : S × Option F) (x : Place X (Result Bool E) E) (q : S × Option F) → N.can p → place_drawn m.steps (call_in (call_at g)) p x q → Goes N p (taken_answer x) q
-  goes_taken (s, f) (asked x (Ok true)) (t, h) c step = lawful_taking.goes (s, f) (item x) (t, h) c (passes_item x (Ok true) x step.0 (one_call f h x (Ok true) step.1) refl)
-  goes_taken (s, f) (asked x (Ok false)) (t, h) c step = lawful_taking.goes (s, f) end (t, h) c (passes_closing x (Ok false) step.0 (one_call f h x (Ok false) step.1) refl)
-  goes_taken (s, f) (asked x (Err e)) (t, h) c step = lawful_taking.goes (s, f) (failure e) (t, h) c (passes_refusal x (Err e) e step.0 (one_call f h x (Err e) step.1) refl)
-  goes_taken (s, f) (failure_at e) (t, h) c step = lawful_taking.goes (s, f) (failure e) (t, h) c (rw (sym step.1) (passes_failure step.0))
-  goes_taken (s, f) end_at (t, h) c step = lawful_taking.goes (s, f) end (t, h) c (rw (sym step.1) (passes_end step.0))
+  goes_taken : (p : S × Option F) (x : Place X (Result Bool E) E) (q : S × Option F) → N.can_next p → place_drawn m.steps (call_in (call_at g)) p x q → KeptByDraw N p (taken_answer x) q
+  goes_taken (s, f) (asked x (Ok true)) (t, h) c step = lawful_taking.kept_by_draw (s, f) (item x) (t, h) c (passes_item x (Ok true) x step.0 (one_call f h x (Ok true) step.1) refl)
+  goes_taken (s, f) (asked x (Ok false)) (t, h) c step = lawful_taking.kept_by_draw (s, f) end (t, h) c (passes_closing x (Ok false) step.0 (one_call f h x (Ok false) step.1) refl)
+  goes_taken (s, f) (asked x (Err e)) (t, h) c step = lawful_taking.kept_by_draw (s, f) (failure e) (t, h) c (passes_refusal x (Err e) e step.0 (one_call f h x (Err e) step.1) refl)
+  goes_taken (s, f) (failure_at e) (t, h) c step = lawful_taking.kept_by_draw (s, f) (failure e) (t, h) c (rw (sym step.1) (passes_failure step.0))
+  goes_taken (s, f) end_at (t, h) c step = lawful_taking.kept_by_draw (s, f) end (t, h) c (rw (sym step.1) (passes_end step.0))
 
 pub lawful_take_while : {S F X E : Type 0} {m : Contract S X E} (g : Mut F (Bor X × Unit {0}) (Result Bool E)) → Lawful m → Lawful (take_while_contract m g)
 lawful_take_while {m = m} g l = lawful_closing (place_drawn m.steps (call_in (call_at g))) taken_answer is_refused (goes_taken m l g) (lawful_taking m l g)

@@ -3,9 +3,9 @@ use Rattle.std.specs.Prelude.{Some, None, Ok, Err, ⊤}
 use Rattle.std.specs.declared.alloc.AllocError.{AllocError}
 use Rattle.std.proofs.Common.{refl, inl, inr}
 use Rattle.fallible_contract.specs.Traces.{Answered, end}
-use Rattle.fallible_contract.specs.Contract.{Contract, OnAnswer, Goes, Lawful}
+use Rattle.fallible_contract.specs.Contract.{Contract, OnAnswer, KeptByDraw, Lawful}
 use Rattle.fallible_core.specs.Joining.Cycle.{CycleAnswer, cycle_contract}
-use Rattle.fallible_contract.specs.Laws.ToCome.{bounds_fewer, bounds_failure, bounds_end, bound_stays}
+use Rattle.fallible_contract.specs.Laws.BoundsRuns.{bounds_fewer, bounds_failure, bounds_end, bound_stays}
 
 module _ {S A E : Type 0} (is_clone : S → S → Type 0) (is_infallible : S → Type 0) (from : AllocError → E → Type 0) (m : Contract S A E) where
   abbrev C : Contract (S × S) A E
@@ -13,9 +13,9 @@ module _ {S A E : Type 0} (is_clone : S → S → Type 0) (is_infallible : S →
 
   -- the answer was one to come
   abbrev Came : S × S → Answered A E → Type 0
-  Came p (Ok (Some x)) = C.gives p x
+  Came p (Ok (Some x)) = C.may_give p x
   Came p (Ok None) = ⊤
-  Came p (Err e) = C.fails p e
+  Came p (Err e) = C.may_fail p e
 
   on_answer : (p q : S × S) (r : Answered A E) → C.steps p r q → Came p r → OnAnswer C p r q
   on_answer p q (Ok (Some x)) step came = (came, (λ n b. bounds_fewer {steps = C.steps} x step b), (λ f. absurd f))
@@ -32,28 +32,28 @@ module _ {S A E : Type 0} (is_clone : S → S → Type 0) (is_infallible : S →
   came_from_clone s t k c (Ok None) is a = tt
   came_from_clone s t k c (Err e) is a = inr (inl (c, is, a.0))
 
-  -- with what the answer and what is left have to do with the source, a draw goes
-  goes_by : (s t k : S) (r : Answered A E) → C.can (s, k) → m.can t → C.steps (s, k) r (t, k) → Came (s, k) r → ((x : A) → m.gives t x → C.gives (s, k) x) → ((e : E) → m.fails t e → C.fails (s, k) e) → Goes C (s, k) r (t, k)
+  -- with what the answer and what is left have to do with the source, a draw keeps the contract
+  goes_by : (s t k : S) (r : Answered A E) → C.can_next (s, k) → m.can_next t → C.steps (s, k) r (t, k) → Came (s, k) r → ((x : A) → m.may_give t x → C.may_give (s, k) x) → ((e : E) → m.may_fail t e → C.may_fail (s, k) e) → KeptByDraw C (s, k) r (t, k)
   goes_by s t k r c can step came gives fails = let a = on_answer (s, k) (t, k) r step came in record {
-    can = (can, c.1);
-    has_end = bound_stays C (s, k) (t, k) r a;
+    can_next = (can, c.1);
+    is_finite = bound_stays C (s, k) (t, k) r a;
     answer = a;
-    gives = λ x h. elim h [ inl g ↦ gives x g | inr d ↦ inr d ];
-    fails = λ e h. elim h [ inl g ↦ fails e g | inr d ↦ inr d ];
-    names = refl;
+    may_give = λ x h. elim h [ inl g ↦ gives x g | inr d ↦ inr d ];
+    may_fail = λ e h. elim h [ inl g ↦ fails e g | inr d ↦ inr d ];
+    lenders = refl;
   }
 
-  goes_cycle : Lawful m → (s t k : S) (r : Answered A E) → C.can (s, k) → CycleAnswer is_clone is_infallible from m.steps k s r t → Goes C (s, k) r (t, k)
+  goes_cycle : Lawful m → (s t k : S) (r : Answered A E) → C.can_next (s, k) → CycleAnswer is_clone is_infallible from m.steps k s r t → KeptByDraw C (s, k) r (t, k)
   goes_cycle l s t k r c h = elim h [
-    | inl d ↦ (let a = l.goes s r t c.0 d.0 in goes_by s t k r c a.can (refl, inl d) (came_from_run s t k r a.answer) (λ x g. inl (a.gives x g)) (λ e g. inl (a.fails e g)))
+    | inl d ↦ (let a = l.kept_by_draw s r t c.0 d.0 in goes_by s t k r c a.can_next (refl, inl d) (came_from_run s t k r a.answer) (λ x g. inl (a.may_give x g)) (λ e g. inl (a.may_fail e g)))
     | inr i ↦ elim i [
-      | inl d ↦ (let a = l.goes d.1 r t (c.1 d.1 d.3) d.4 in goes_by s t k r c a.can (refl, inr (inl d)) (came_from_clone s t k d.1 r d.3 a.answer) (λ x g. inr (d.1, d.3, a.gives x g)) (λ e g. inr (inl (d.1, d.3, a.fails e g))))
-      | inr d ↦ (let a = l.goes s end t c.0 d.1 in goes_by s t k r c a.can (refl, inr (inr d)) (rw d.2 (inr (inr d.3))) (λ x g. inl (a.gives x g)) (λ e g. inl (a.fails e g)))
+      | inl d ↦ (let a = l.kept_by_draw d.1 r t (c.1 d.1 d.3) d.4 in goes_by s t k r c a.can_next (refl, inr (inl d)) (came_from_clone s t k d.1 r d.3 a.answer) (λ x g. inr (d.1, d.3, a.may_give x g)) (λ e g. inr (inl (d.1, d.3, a.may_fail e g))))
+      | inr d ↦ (let a = l.kept_by_draw s end t c.0 d.1 in goes_by s t k r c a.can_next (refl, inr (inr d)) (rw d.2 (inr (inr d.3))) (λ x g. inl (a.may_give x g)) (λ e g. inl (a.may_fail e g)))
     ]
   ]
 
-  goes_cycle_parts : Lawful m → (p : S × S) (r : Answered A E) (q : S × S) → C.can p → C.steps p r q → Goes C p r q
+  goes_cycle_parts : Lawful m → (p : S × S) (r : Answered A E) (q : S × S) → C.can_next p → C.steps p r q → KeptByDraw C p r q
   goes_cycle_parts l (s, k) r (t, k') c step = rw step.0 (goes_cycle l s t k r c step.1)
 
 pub lawful_cycle : {S A E : Type 0} {m : Contract S A E} (is_clone : S → S → Type 0) (is_infallible : S → Type 0) (from : AllocError → E → Type 0) → Lawful m → Lawful (cycle_contract is_clone is_infallible from m)
-lawful_cycle {m = m} is_clone is_infallible from l = record { goes = goes_cycle_parts is_clone is_infallible from m l; ends = λ p. ((λ e. e), (λ h. h)) }
+lawful_cycle {m = m} is_clone is_infallible from l = record { kept_by_draw = goes_cycle_parts is_clone is_infallible from m l; bounded = λ p. ((λ e. e), (λ h. h)) }

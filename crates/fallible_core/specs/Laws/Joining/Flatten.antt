@@ -5,7 +5,7 @@ use Rattle.std.proofs.Common.{refl, sym, ap, subst, arith, inl, inr}
 use Rattle.std.proofs.lemmas.List.{append-nil}
 use Rattle.std.proofs.Math.Nat.{mul-suc, mul-le-mul_left}
 use Rattle.fallible_contract.specs.Traces.{Answered, Run, item, failure, end, NoEnd}
-use Rattle.fallible_contract.specs.Contract.{Contract, OnAnswer, Goes, Stays, Lawful}
+use Rattle.fallible_contract.specs.Contract.{Contract, OnAnswer, KeptByDraw, Stays, Lawful}
 use Rattle.fallible_contract.specs.Laws.Contract.{no_more, goes_later}
 use Rattle.fallible_core.specs.Joining.Flatten.{flatten_contract, NumberInHand, SomeInner, EachInner, FlattenNumber, Part, of_inner, of_failure, of_end, outer_answer, part_answers, Finished, FinishedParts, LastPart, FinishedInHand, Joined, FlattenAnswers, nothing_drawn, still_in_hand, outer_drawn}
 
@@ -90,14 +90,14 @@ module _ {S X C B E : Type 0} (m : Contract S X E) (l : Lawful m) (into : X → 
   abbrev M : Contract (S × Option C) B E
   M = flatten_contract m into inner
 
-  some_after_draw : (P : C → Type 0) (s u : S) → ((x : X) → m.gives u x → m.gives s x) → SomeInner m into inner P u → SomeInner m into inner P s
+  some_after_draw : (P : C → Type 0) (s u : S) → ((x : X) → m.may_give u x → m.may_give s x) → SomeInner m into inner P u → SomeInner m into inner P s
   some_after_draw P s u fewer p = record { argument = p.argument; iterator = p.iterator; given = fewer p.argument p.given; becomes = p.becomes; holds = p.holds }
 
-  each_after_draw : (P : C → Type 0) (s u : S) → ((x : X) → m.gives u x → m.gives s x) → EachInner m into inner P s → EachInner m into inner P u
+  each_after_draw : (P : C → Type 0) (s u : S) → ((x : X) → m.may_give u x → m.may_give s x) → EachInner m into inner P s → EachInner m into inner P u
   each_after_draw P s u fewer p = record { at = λ x c given becomes. p.at x c (fewer x given) becomes }
 
   -- the number where there is one more answer of the inner iterator in hand
-  number_in_hand : (s : S) (c d : C) (n j : ℕ) (b : FlattenNumber m into inner s (Some c) n) → inner.to_come d j → FlattenNumber m into inner s (Some d) (b.each * b.outer + j)
+  number_in_hand : (s : S) (c d : C) (n j : ℕ) (b : FlattenNumber m into inner s (Some c) n) → inner.bound d j → FlattenNumber m into inner s (Some d) (b.each * b.outer + j)
   number_in_hand s c d n j b is = record { outer = b.outer; each = b.each; in_hand = j; outer_is = b.outer_is; each_is = b.each_is; in_hand_is = is; sum = omega arith }
 
   answer_in_hand : (s : S) (c d : C) (r : Answered B E) → OnAnswer inner c r d → OnAnswer M (s, Some c) r (s, Some d)
@@ -105,83 +105,83 @@ module _ {S X C B E : Type 0} (m : Contract S X E) (l : Lawful m) (into : X → 
   answer_in_hand s c d (Ok None) a = ((λ n b. let j = a.0 b.in_hand b.in_hand_is in (b.each * b.outer + j.0, number_in_hand s c d n j.0 b j.1, omega (arith, j.2, b.sum))), (λ f. absurd f))
   answer_in_hand s c d (Err e) a = (inr (inl a.0), (λ n b. let j = a.1 b.in_hand b.in_hand_is in (b.each * b.outer + j.0, number_in_hand s c d n j.0 b j.1, omega (arith, j.2, b.sum))), (λ f. absurd f))
 
-  in_hand_goes : (s : S) (c d : C) (r : Answered B E) → M.can (s, Some c) → inner.steps c r d → Goes M (s, Some c) r (s, Some d)
-  in_hand_goes s c d r can step = let g = k.goes c r d can.2 step in record {
-    can = (can.0, can.1, g.can, can.3);
-    has_end = λ e. (e.0, g.has_end e.1, e.2);
+  in_hand_goes : (s : S) (c d : C) (r : Answered B E) → M.can_next (s, Some c) → inner.steps c r d → KeptByDraw M (s, Some c) r (s, Some d)
+  in_hand_goes s c d r can step = let g = k.kept_by_draw c r d can.2 step in record {
+    can_next = (can.0, can.1, g.can_next, can.3);
+    is_finite = λ e. (e.0, g.is_finite e.1, e.2);
     answer = answer_in_hand s c d r g.answer;
-    gives = λ y h. elim h [ inl p ↦ inl (g.gives y p) | inr p ↦ inr p ];
-    fails = λ e h. elim h [ inl p ↦ inl p | inr p ↦ inr (elim p [ inl q ↦ inl (g.fails e q) | inr q ↦ inr q ]) ];
-    names = refl;
+    may_give = λ y h. elim h [ inl p ↦ inl (g.may_give y p) | inr p ↦ inr p ];
+    may_fail = λ e h. elim h [ inl p ↦ inl p | inr p ↦ inr (elim p [ inl q ↦ inl (g.may_fail e q) | inr q ↦ inr q ]) ];
+    lenders = refl;
   }
 
   -- an inner iterator that ended is dropped
-  dropped : (s : S) (c : C) → M.can (s, Some c) → Stays M (s, Some c) (s, None)
+  dropped : (s : S) (c : C) → M.can_next (s, Some c) → Stays M (s, Some c) (s, None)
   dropped s c can = record {
-    can = (can.0, can.1, tt, can.3);
-    has_end = λ e. (e.0, tt, e.2);
-    to_come = λ n b. (b.each * b.outer, record { outer = b.outer; each = b.each; in_hand = 0; outer_is = b.outer_is; each_is = b.each_is; in_hand_is = refl; sum = omega arith }, omega (arith, b.sum));
-    gives = λ y h. elim h [ inl p ↦ absurd p | inr p ↦ inr p ];
-    fails = λ e h. elim h [ inl p ↦ inl p | inr p ↦ elim p [ inl q ↦ absurd q | inr q ↦ inr (inr q) ] ];
-    names = refl;
+    can_next = (can.0, can.1, tt, can.3);
+    is_finite = λ e. (e.0, tt, e.2);
+    bound = λ n b. (b.each * b.outer, record { outer = b.outer; each = b.each; in_hand = 0; outer_is = b.outer_is; each_is = b.each_is; in_hand_is = refl; sum = omega arith }, omega (arith, b.sum));
+    may_give = λ y h. elim h [ inl p ↦ absurd p | inr p ↦ inr p ];
+    may_fail = λ e h. elim h [ inl p ↦ inl p | inr p ↦ elim p [ inl q ↦ absurd q | inr q ↦ inr (inr q) ] ];
+    lenders = refl;
   }
 
   one_fewer : (b a j q : ℕ) → j < a → q ≤ b → b * j + q ≤ b * a
   one_fewer b a j q lt le = let h : b * j + b ≤ b * a = rw (sym (mul-suc b j)) (mul-le-mul_left b lt) in omega (arith, h, le)
 
   -- an item became an inner iterator, which is in hand then
-  begun_stays : (s u : S) (c : C) (x : X) → M.can (s, None) → m.steps s (item x) u → into x c → Stays M (s, None) (u, Some c)
-  begun_stays s u c x can step becomes = let g = l.goes s (item x) u can.0 step in record {
-    can = (g.can, g.has_end can.1, can.3.at x c g.answer.0 becomes, each_after_draw inner.can s u g.gives can.3);
-    has_end = λ e. (g.has_end e.0, (let n = e.2.1.at x c g.answer.0 becomes in (k.ends c).1 (n.0, n.1)), (e.2.0, each_after_draw _ s u g.gives e.2.1));
-    to_come = λ n b. let j = g.answer.1 b.outer b.outer_is in let q = b.each_is.at x c g.answer.0 becomes in (
+  begun_stays : (s u : S) (c : C) (x : X) → M.can_next (s, None) → m.steps s (item x) u → into x c → Stays M (s, None) (u, Some c)
+  begun_stays s u c x can step becomes = let g = l.kept_by_draw s (item x) u can.0 step in record {
+    can_next = (g.can_next, g.is_finite can.1, can.3.at x c g.answer.0 becomes, each_after_draw inner.can_next s u g.may_give can.3);
+    is_finite = λ e. (g.is_finite e.0, (let n = e.2.1.at x c g.answer.0 becomes in (k.bounded c).1 (n.0, n.1)), (e.2.0, each_after_draw _ s u g.may_give e.2.1));
+    bound = λ n b. let j = g.answer.1 b.outer b.outer_is in let q = b.each_is.at x c g.answer.0 becomes in (
       b.each * j.0 + q.0,
-      record { outer = j.0; each = b.each; in_hand = q.0; outer_is = j.1; each_is = each_after_draw _ s u g.gives b.each_is; in_hand_is = q.1; sum = omega arith },
+      record { outer = j.0; each = b.each; in_hand = q.0; outer_is = j.1; each_is = each_after_draw _ s u g.may_give b.each_is; in_hand_is = q.1; sum = omega arith },
       (let le = one_fewer b.each b.outer j.0 q.0 j.2 q.2 in omega (arith, le, b.sum)),
     );
-    gives = λ y h. inr (elim h [ inl p ↦ record { argument = x; iterator = c; given = g.answer.0; becomes = becomes; holds = p } | inr p ↦ some_after_draw _ s u g.gives p ]);
-    fails = λ e h. elim h [ inl p ↦ inl (g.fails e p) | inr p ↦ inr (inr (elim p [ inl q ↦ record { argument = x; iterator = c; given = g.answer.0; becomes = becomes; holds = q } | inr q ↦ some_after_draw _ s u g.gives q ])) ];
-    names = g.names;
+    may_give = λ y h. inr (elim h [ inl p ↦ record { argument = x; iterator = c; given = g.answer.0; becomes = becomes; holds = p } | inr p ↦ some_after_draw _ s u g.may_give p ]);
+    may_fail = λ e h. elim h [ inl p ↦ inl (g.may_fail e p) | inr p ↦ inr (inr (elim p [ inl q ↦ record { argument = x; iterator = c; given = g.answer.0; becomes = becomes; holds = q } | inr q ↦ some_after_draw _ s u g.may_give q ])) ];
+    lenders = g.lenders;
   }
 
   -- an answer of the outer source that is no item
-  outer_stays : (s u : S) (r : Answered X E) → M.can (s, None) → Goes m s r u → Stays M (s, None) (u, None)
+  outer_stays : (s u : S) (r : Answered X E) → M.can_next (s, None) → KeptByDraw m s r u → Stays M (s, None) (u, None)
   outer_stays s u r can g = record {
-    can = (g.can, g.has_end can.1, tt, each_after_draw inner.can s u g.gives can.3);
-    has_end = λ e. (g.has_end e.0, tt, (e.2.0, each_after_draw _ s u g.gives e.2.1));
-    to_come = λ n b. let j = no_more m s u r g.answer b.outer b.outer_is in (b.each * j.0, record { outer = j.0; each = b.each; in_hand = 0; outer_is = j.1; each_is = each_after_draw _ s u g.gives b.each_is; in_hand_is = refl; sum = omega arith }, (let le = mul-le-mul_left b.each j.2 in omega (arith, le, b.sum)));
-    gives = λ y h. elim h [ inl p ↦ absurd p | inr p ↦ inr (some_after_draw _ s u g.gives p) ];
-    fails = λ e h. elim h [ inl p ↦ inl (g.fails e p) | inr p ↦ elim p [ inl q ↦ absurd q | inr q ↦ inr (inr (some_after_draw _ s u g.gives q)) ] ];
-    names = g.names;
+    can_next = (g.can_next, g.is_finite can.1, tt, each_after_draw inner.can_next s u g.may_give can.3);
+    is_finite = λ e. (g.is_finite e.0, tt, (e.2.0, each_after_draw _ s u g.may_give e.2.1));
+    bound = λ n b. let j = no_more m s u r g.answer b.outer b.outer_is in (b.each * j.0, record { outer = j.0; each = b.each; in_hand = 0; outer_is = j.1; each_is = each_after_draw _ s u g.may_give b.each_is; in_hand_is = refl; sum = omega arith }, (let le = mul-le-mul_left b.each j.2 in omega (arith, le, b.sum)));
+    may_give = λ y h. elim h [ inl p ↦ absurd p | inr p ↦ inr (some_after_draw _ s u g.may_give p) ];
+    may_fail = λ e h. elim h [ inl p ↦ inl (g.may_fail e p) | inr p ↦ elim p [ inl q ↦ absurd q | inr q ↦ inr (inr (some_after_draw _ s u g.may_give q)) ] ];
+    lenders = g.lenders;
   }
 
-  end_goes : (p q : S × Option C) → Stays M p q → Goes M p end q
-  end_goes p q h = record { can = h.can; has_end = h.has_end; answer = (h.to_come, (λ f. absurd f)); gives = h.gives; fails = h.fails; names = h.names }
+  end_goes : (p q : S × Option C) → Stays M p q → KeptByDraw M p end q
+  end_goes p q h = record { can_next = h.can_next; is_finite = h.is_finite; answer = (h.bound, (λ f. absurd f)); may_give = h.may_give; may_fail = h.may_fail; lenders = h.lenders }
 
-  failure_goes : (p q : S × Option C) (e : E) → M.fails p e → Stays M p q → Goes M p (failure e) q
-  failure_goes p q e given h = record { can = h.can; has_end = h.has_end; answer = (given, h.to_come, (λ f. absurd f)); gives = h.gives; fails = h.fails; names = h.names }
+  failure_goes : (p q : S × Option C) (e : E) → M.may_fail p e → Stays M p q → KeptByDraw M p (failure e) q
+  failure_goes p q e given h = record { can_next = h.can_next; is_finite = h.is_finite; answer = (given, h.bound, (λ f. absurd f)); may_give = h.may_give; may_fail = h.may_fail; lenders = h.lenders }
 
-  flattens_goes : (s t : S) (hand hand' : Option C) (r : Answered B E) → M.can (s, hand) → Flattens m.steps into inner.steps s hand (r ∷ []) t hand' → Goes M (s, hand) r (t, hand')
+  flattens_goes : (s t : S) (hand hand' : Option C) (r : Answered B E) → M.can_next (s, hand) → Flattens m.steps into inner.steps s hand (r ∷ []) t hand' → KeptByDraw M (s, hand) r (t, hand')
   flattens_goes s _ _ _ _ can (gives {c = c} {d = d} y step done) = in_hand_goes s c d (item y) can step
   flattens_goes s _ _ _ _ can (fails {c = c} {d = d} e step done) = in_hand_goes s c d (failure e) can step
-  flattens_goes s t _ hand' r can (finishes {c = c} {d = d} step rest) = let h = dropped s c can in goes_later h (λ f. absurd f) (flattens_goes s t None hand' r h.can rest)
-  flattens_goes s t _ hand' r can (begins {u = u} {c = c} x step becomes rest) = let h = begun_stays s u c x can step becomes in goes_later h (λ f. absurd f) (flattens_goes u t (Some c) hand' r h.can rest)
-  flattens_goes s _ _ _ _ can (outer_fails {u = u} e step done) = let g = l.goes s (failure e) u can.0 step in failure_goes (s, None) (u, None) e (inl g.answer.0) (outer_stays s u (failure e) can g)
-  flattens_goes s _ _ _ _ can (outer_ends {u = u} step done) = end_goes (s, None) (u, None) (outer_stays s u end can (l.goes s end u can.0 step))
+  flattens_goes s t _ hand' r can (finishes {c = c} {d = d} step rest) = let h = dropped s c can in goes_later h (λ f. absurd f) (flattens_goes s t None hand' r h.can_next rest)
+  flattens_goes s t _ hand' r can (begins {u = u} {c = c} x step becomes rest) = let h = begun_stays s u c x can step becomes in goes_later h (λ f. absurd f) (flattens_goes u t (Some c) hand' r h.can_next rest)
+  flattens_goes s _ _ _ _ can (outer_fails {u = u} e step done) = let g = l.kept_by_draw s (failure e) u can.0 step in failure_goes (s, None) (u, None) e (inl g.answer.0) (outer_stays s u (failure e) can g)
+  flattens_goes s _ _ _ _ can (outer_ends {u = u} step done) = end_goes (s, None) (u, None) (outer_stays s u end can (l.kept_by_draw s end u can.0 step))
 
-  ends_in_hand : (hand : Option C) → IfSome hand inner.has_end → (j : ℕ) × NumberInHand hand inner.to_come j
-  ends_in_hand (Some c) e = (k.ends c).0 e
+  ends_in_hand : (hand : Option C) → IfSome hand inner.is_finite → (j : ℕ) × NumberInHand hand inner.bound j
+  ends_in_hand (Some c) e = (k.bounded c).0 e
   ends_in_hand None e = (0, refl)
 
-  number_ends : (hand : Option C) (j : ℕ) → NumberInHand hand inner.to_come j → IfSome hand inner.has_end
-  number_ends (Some c) j is = (k.ends c).1 (j, is)
+  number_ends : (hand : Option C) (j : ℕ) → NumberInHand hand inner.bound j → IfSome hand inner.is_finite
+  number_ends (Some c) j is = (k.bounded c).1 (j, is)
   number_ends None j is = tt
 
   pub lawful_flatten : Lawful M
   lawful_flatten = record {
-    goes = λ p r q can step. flattens_goes p.0 q.0 p.1 q.1 r can (to_flattens m.steps into inner.steps p.0 q.0 p.1 q.1 (r ∷ []) step);
-    ends = λ p. (
-      (λ e. let a = (l.ends p.0).0 e.0 in let j = ends_in_hand p.1 e.1 in (e.2.0 * a.0 + j.0, record { outer = a.0; each = e.2.0; in_hand = j.0; outer_is = a.1; each_is = e.2.1; in_hand_is = j.1; sum = omega arith })),
-      (λ n. let b = n.1 in ((l.ends p.0).1 (b.outer, b.outer_is), number_ends p.1 b.in_hand b.in_hand_is, (b.each, b.each_is))),
+    kept_by_draw = λ p r q can step. flattens_goes p.0 q.0 p.1 q.1 r can (to_flattens m.steps into inner.steps p.0 q.0 p.1 q.1 (r ∷ []) step);
+    bounded = λ p. (
+      (λ e. let a = (l.bounded p.0).0 e.0 in let j = ends_in_hand p.1 e.1 in (e.2.0 * a.0 + j.0, record { outer = a.0; each = e.2.0; in_hand = j.0; outer_is = a.1; each_is = e.2.1; in_hand_is = j.1; sum = omega arith })),
+      (λ n. let b = n.1 in ((l.bounded p.0).1 (b.outer, b.outer_is), number_ends p.1 b.in_hand b.in_hand_is, (b.each, b.each_is))),
     );
   }

@@ -2,7 +2,7 @@
 use Rattle.std.specs.Prelude.{ℕ, Option, Some, None, Ok, Err, ◌↔◌}
 use Rattle.std.proofs.Common.{arith, inl, inr, refl, ap₂}
 use Rattle.fallible_contract.specs.Traces.{Answered, item, failure}
-use Rattle.fallible_contract.specs.Contract.{Contract, NoMore, OnAnswer, Goes, Lawful, names_of_both}
+use Rattle.fallible_contract.specs.Contract.{Contract, NoMore, OnAnswer, KeptByDraw, Lawful, lenders_of_both}
 use Rattle.fallible_core.specs.Joining.Zip.{ZipPlace, left_failed, both_drawn, left_answer, zip_answer, right_step, zip_contract}
 use Rattle.fallible_contract.specs.Laws.Contract.{no_more}
 
@@ -26,32 +26,32 @@ module _ {S U A B E : Type 0} (left : Contract S A E) (right : Contract U B E) w
   pair_answer s t u v None (Ok y) a b = (no_more_pairs s t u v a.0 (no_more right u v (Ok y) b), (λ f. absurd f))
 
   module _ (l : Lawful left) (k : Lawful right) where
-    goes_place : (s t : S) (u v : U) (x : ZipPlace A B E) → Z.can (s, u) → left.steps s (left_answer x) t → right_step right.steps u x v → Goes Z (s, u) (zip_answer x) (t, v)
-    goes_place s t u v (left_failed e) c step same = let a = l.goes s (failure e) t c.0 step in rw same record {
-      can = (a.can, c.1);
-      has_end = λ h. elim h [ inl h ↦ inl (a.has_end h) | inr h ↦ inr h ];
+    goes_place : (s t : S) (u v : U) (x : ZipPlace A B E) → Z.can_next (s, u) → left.steps s (left_answer x) t → right_step right.steps u x v → KeptByDraw Z (s, u) (zip_answer x) (t, v)
+    goes_place s t u v (left_failed e) c step same = let a = l.kept_by_draw s (failure e) t c.0 step in rw same record {
+      can_next = (a.can_next, c.1);
+      is_finite = λ h. elim h [ inl h ↦ inl (a.is_finite h) | inr h ↦ inr h ];
       answer = (inl a.answer.0, no_more_pairs s t u u a.answer.1 (λ n h. (n, h, omega arith)), (λ f. absurd f));
-      gives = λ z h. (a.gives z.0 h.0, h.1);
-      fails = λ d h. elim h [ inl h ↦ inl (a.fails d h) | inr h ↦ inr h ];
-      names = ap₂ names_of_both a.names refl;
+      may_give = λ z h. (a.may_give z.0 h.0, h.1);
+      may_fail = λ d h. elim h [ inl h ↦ inl (a.may_fail d h) | inr h ↦ inr h ];
+      lenders = ap₂ lenders_of_both a.lenders refl;
     }
-    goes_place s t u v (both_drawn x r) c step drawn = let a = l.goes s (Ok x) t c.0 step in let b = k.goes u r v c.1 drawn in record {
-      can = (a.can, b.can);
-      has_end = λ h. elim h [ inl h ↦ inl (a.has_end h) | inr h ↦ inr (b.has_end h) ];
+    goes_place s t u v (both_drawn x r) c step drawn = let a = l.kept_by_draw s (Ok x) t c.0 step in let b = k.kept_by_draw u r v c.1 drawn in record {
+      can_next = (a.can_next, b.can_next);
+      is_finite = λ h. elim h [ inl h ↦ inl (a.is_finite h) | inr h ↦ inr (b.is_finite h) ];
       answer = pair_answer s t u v x r a.answer b.answer;
-      gives = λ z h. (a.gives z.0 h.0, b.gives z.1 h.1);
-      fails = λ d h. elim h [ inl h ↦ inl (a.fails d h) | inr h ↦ inr (b.fails d h) ];
-      names = ap₂ names_of_both a.names b.names;
+      may_give = λ z h. (a.may_give z.0 h.0, b.may_give z.1 h.1);
+      may_fail = λ d h. elim h [ inl h ↦ inl (a.may_fail d h) | inr h ↦ inr (b.may_fail d h) ];
+      lenders = ap₂ lenders_of_both a.lenders b.lenders;
     }
 
-    goes_zip : (p : S × U) (r : Answered (A × B) E) (q : S × U) → Z.can p → Z.steps p r q → Goes Z p r q
+    goes_zip : (p : S × U) (r : Answered (A × B) E) (q : S × U) → Z.can_next p → Z.steps p r q → KeptByDraw Z p r q
     goes_zip (s, u) r (t, v) c step = rw step.3 (goes_place s t u v step.0 c step.1 step.2)
 
-    zip_ends : (p : S × U) → Z.has_end p ↔ ((n : ℕ) × Z.to_come p n)
+    zip_ends : (p : S × U) → Z.is_finite p ↔ ((n : ℕ) × Z.bound p n)
     zip_ends (s, u) = (
-      (λ e. elim e [ inl h ↦ let a = (l.ends s).0 h in (a.0, inl a.1) | inr h ↦ let b = (k.ends u).0 h in (b.0, inr b.1) ]),
-      (λ h. elim h.1 [ inl b ↦ inl ((l.ends s).1 (h.0, b)) | inr b ↦ inr ((k.ends u).1 (h.0, b)) ]),
+      (λ e. elim e [ inl h ↦ let a = (l.bounded s).0 h in (a.0, inl a.1) | inr h ↦ let b = (k.bounded u).0 h in (b.0, inr b.1) ]),
+      (λ h. elim h.1 [ inl b ↦ inl ((l.bounded s).1 (h.0, b)) | inr b ↦ inr ((k.bounded u).1 (h.0, b)) ]),
     )
 
 pub lawful_zip : {S U A B E : Type 0} {left : Contract S A E} {right : Contract U B E} → Lawful left → Lawful right → Lawful (zip_contract left right)
-lawful_zip {left = left} {right = right} l k = record { goes = goes_zip left right l k; ends = zip_ends left right l k }
+lawful_zip {left = left} {right = right} l k = record { kept_by_draw = goes_zip left right l k; bounded = zip_ends left right l k }

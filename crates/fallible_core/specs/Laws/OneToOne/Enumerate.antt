@@ -2,7 +2,7 @@
 use Rattle.std.specs.Prelude.{◌≡◌, ℕ, ◌+◌, List, [], ◌∷◌, Some, None, Ok, Err}
 use Rattle.std.proofs.Common.{sym, subst, arith}
 use Rattle.fallible_contract.specs.Traces.{Answered, Run, item, items_in}
-use Rattle.fallible_contract.specs.Contract.{Contract, Goes, Lawful}
+use Rattle.fallible_contract.specs.Contract.{Contract, KeptByDraw, Lawful}
 use Rattle.fallible_core.specs.OneToOne.Enumerate.{numbered_from, EnumerateTrace, enumerate_contract}
 
 module _ {S A E : Type 0} (steps : S → Answered A E → S → Type 0) where
@@ -26,34 +26,34 @@ module _ {S A E : Type 0} (m : Contract S A E) (l : Lawful m) where
   abbrev M : Contract (S × ℕ) (ℕ × A) E
   M = enumerate_contract m
 
-  numbered_goes : (s t : S) (n k : ℕ) (r : Answered (ℕ × A) E) → M.can (s, n) → Numbered m.steps s n (r ∷ []) t k → Goes M (s, n) r (t, k)
-  numbered_goes s t n _ _ c (numbered_item x step numbered_none) = let a = l.goes s (item x) t c.can step in record {
-    can = (let b = a.answer.1 c.bound c.bounds in record { can = a.can; bound = b.0; bounds = b.1; fits = omega (arith, b.2, c.fits) });
-    has_end = a.has_end;
+  numbered_goes : (s t : S) (n k : ℕ) (r : Answered (ℕ × A) E) → M.can_next (s, n) → Numbered m.steps s n (r ∷ []) t k → KeptByDraw M (s, n) r (t, k)
+  numbered_goes s t n _ _ c (numbered_item x step numbered_none) = let a = l.kept_by_draw s (item x) t c.can_next step in record {
+    can_next = (let b = a.answer.1 c.bound c.bounds in record { can_next = a.can_next; bound = b.0; bounds = b.1; fits = omega (arith, b.2, c.fits) });
+    is_finite = a.is_finite;
     answer = ((a.answer.0, omega arith, (λ j b. let d = a.answer.1 j b in omega (arith, d.2))), a.answer.1, a.answer.2);
-    gives = λ y h. (a.gives y.1 h.0, omega (arith, h.1), (λ j b. let d = a.answer.1 j b in let e = h.2 d.0 d.1 in omega (arith, d.2, e)));
-    fails = a.fails;
-    names = a.names;
+    may_give = λ y h. (a.may_give y.1 h.0, omega (arith, h.1), (λ j b. let d = a.answer.1 j b in let e = h.2 d.0 d.1 in omega (arith, d.2, e)));
+    may_fail = a.may_fail;
+    lenders = a.lenders;
   }
-  numbered_goes s t n _ _ c (numbered_end step numbered_none) = let a = l.goes s (Ok None) t c.can step in record {
-    can = (let b = a.answer.0 c.bound c.bounds in record { can = a.can; bound = b.0; bounds = b.1; fits = omega (arith, b.2, c.fits) });
-    has_end = a.has_end;
+  numbered_goes s t n _ _ c (numbered_end step numbered_none) = let a = l.kept_by_draw s (Ok None) t c.can_next step in record {
+    can_next = (let b = a.answer.0 c.bound c.bounds in record { can_next = a.can_next; bound = b.0; bounds = b.1; fits = omega (arith, b.2, c.fits) });
+    is_finite = a.is_finite;
     answer = a.answer;
-    gives = λ y h. (a.gives y.1 h.0, h.1, (λ j b. let d = a.answer.0 j b in let e = h.2 d.0 d.1 in omega (arith, d.2, e)));
-    fails = a.fails;
-    names = a.names;
+    may_give = λ y h. (a.may_give y.1 h.0, h.1, (λ j b. let d = a.answer.0 j b in let e = h.2 d.0 d.1 in omega (arith, d.2, e)));
+    may_fail = a.may_fail;
+    lenders = a.lenders;
   }
-  numbered_goes s t n _ _ c (numbered_failure e step numbered_none) = let a = l.goes s (Err e) t c.can step in record {
-    can = (let b = a.answer.1 c.bound c.bounds in record { can = a.can; bound = b.0; bounds = b.1; fits = omega (arith, b.2, c.fits) });
-    has_end = a.has_end;
+  numbered_goes s t n _ _ c (numbered_failure e step numbered_none) = let a = l.kept_by_draw s (Err e) t c.can_next step in record {
+    can_next = (let b = a.answer.1 c.bound c.bounds in record { can_next = a.can_next; bound = b.0; bounds = b.1; fits = omega (arith, b.2, c.fits) });
+    is_finite = a.is_finite;
     answer = a.answer;
-    gives = λ y h. (a.gives y.1 h.0, h.1, (λ j b. let d = a.answer.1 j b in let e = h.2 d.0 d.1 in omega (arith, d.2, e)));
-    fails = a.fails;
-    names = a.names;
+    may_give = λ y h. (a.may_give y.1 h.0, h.1, (λ j b. let d = a.answer.1 j b in let e = h.2 d.0 d.1 in omega (arith, d.2, e)));
+    may_fail = a.may_fail;
+    lenders = a.lenders;
   }
 
-  goes_enumerate : (p : S × ℕ) (r : Answered (ℕ × A) E) (q : S × ℕ) → M.can p → M.steps p r q → Goes M p r q
+  goes_enumerate : (p : S × ℕ) (r : Answered (ℕ × A) E) (q : S × ℕ) → M.can_next p → M.steps p r q → KeptByDraw M p r q
   goes_enumerate (s, n) r (t, k) c step = numbered_goes s t n k r c (to_numbered m.steps s t n k (r ∷ []) step)
 
 pub lawful_enumerate : {S A E : Type 0} {m : Contract S A E} → Lawful m → Lawful (enumerate_contract m)
-lawful_enumerate {m = m} l = record { goes = goes_enumerate m l; ends = λ p. l.ends p.0 }
+lawful_enumerate {m = m} l = record { kept_by_draw = goes_enumerate m l; bounded = λ p. l.bounded p.0 }

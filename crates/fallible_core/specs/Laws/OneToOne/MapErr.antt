@@ -4,7 +4,7 @@ use Rattle.std.specs.List.{filter_map}
 use Rattle.std.specs.Fn.{Mut}
 use Rattle.std.proofs.Common.{refl, sym, subst}
 use Rattle.fallible_contract.specs.Traces.{Answered, Run, item}
-use Rattle.fallible_contract.specs.Contract.{Contract, OnAnswer, Goes, Lawful}
+use Rattle.fallible_contract.specs.Contract.{Contract, OnAnswer, KeptByDraw, Lawful}
 use Rattle.fallible_contract.specs.Closures.{Calls, Reaches, call_on}
 use Rattle.fallible_contract.specs.Ends.{Ends, from_back, ends_of, LawfulEnds}
 use Rattle.fallible_core.specs.OneToOne.MapErr.{FailurePlace, item_here, asked_of, end_here, source_answer, failure_call, mapped_answer, MapErrTrace, map_err_contract}
@@ -31,50 +31,50 @@ module _ {S F X D E : Type 0} (m : Contract S X D) (l : Lawful m) (g : Mut F (D 
   abbrev M : Contract (S × F) X E
   M = map_err_contract m g
 
-  mapped_reaches : (s t : S) (f h : F) (r : Answered X E) → m.can s → Mapped m.steps (call_on g) s f (r ∷ []) t h → Reaches (call_on g) (m.fails s) f h
+  mapped_reaches : (s t : S) (f h : F) (r : Answered X E) → m.can_next s → Mapped m.steps (call_on g) s f (r ∷ []) t h → Reaches (call_on g) (m.may_fail s) f h
   mapped_reaches s t f _ _ c (mapped_item x step mapped_none) = reaches_here
   mapped_reaches s t f _ _ c (mapped_end step mapped_none) = reaches_here
-  mapped_reaches s t f h _ c (mapped_failure d e step called mapped_none) = reaches_from d e ((l.goes s (Err d) t c step).answer.0) called reaches_here
+  mapped_reaches s t f h _ c (mapped_failure d e step called mapped_none) = reaches_from d e ((l.kept_by_draw s (Err d) t c step).answer.0) called reaches_here
 
   -- what the source's draw made of what is to come
   record Came (s t : S) : Type 0 where
-    can : m.can t
-    has_end : m.has_end s → m.has_end t
-    gives : (x : X) → m.gives t x → m.gives s x
-    fails : (d : D) → m.fails t d → m.fails s d
-    names : m.names t ≡ m.names s
+    can_next : m.can_next t
+    is_finite : m.is_finite s → m.is_finite t
+    may_give : (x : X) → m.may_give t x → m.may_give s x
+    may_fail : (d : D) → m.may_fail t d → m.may_fail s d
+    lenders : m.lenders t ≡ m.lenders s
 
-  came : (s t : S) (r : Answered X D) → Goes m s r t → Came s t
-  came s t r a = record { can = a.can; has_end = a.has_end; gives = a.gives; fails = a.fails; names = a.names }
+  came : (s t : S) (r : Answered X D) → KeptByDraw m s r t → Came s t
+  came s t r a = record { can_next = a.can_next; is_finite = a.is_finite; may_give = a.may_give; may_fail = a.may_fail; lenders = a.lenders }
 
-  mapped_came : (s t : S) (f h : F) (r : Answered X E) → m.can s → Mapped m.steps (call_on g) s f (r ∷ []) t h → Came s t
-  mapped_came s t f _ _ c (mapped_item x step mapped_none) = came s t (item x) (l.goes s (item x) t c step)
-  mapped_came s t f _ _ c (mapped_end step mapped_none) = came s t (Ok None) (l.goes s (Ok None) t c step)
-  mapped_came s t f _ _ c (mapped_failure d e step called mapped_none) = came s t (Err d) (l.goes s (Err d) t c step)
+  mapped_came : (s t : S) (f h : F) (r : Answered X E) → m.can_next s → Mapped m.steps (call_on g) s f (r ∷ []) t h → Came s t
+  mapped_came s t f _ _ c (mapped_item x step mapped_none) = came s t (item x) (l.kept_by_draw s (item x) t c step)
+  mapped_came s t f _ _ c (mapped_end step mapped_none) = came s t (Ok None) (l.kept_by_draw s (Ok None) t c step)
+  mapped_came s t f _ _ c (mapped_failure d e step called mapped_none) = came s t (Err d) (l.kept_by_draw s (Err d) t c step)
 
-  mapped_goes : (s t : S) (f h : F) (r : Answered X E) → m.can s → Mapped m.steps (call_on g) s f (r ∷ []) t h → OnAnswer M (s, f) r (t, h)
-  mapped_goes s t f _ _ c (mapped_item x step mapped_none) = (l.goes s (item x) t c step).answer
-  mapped_goes s t f _ _ c (mapped_end step mapped_none) = (l.goes s (Ok None) t c step).answer
-  mapped_goes s t f h _ c (mapped_failure d e step called mapped_none) = let a = (l.goes s (Err d) t c step).answer in (may_answer_here h d e a.0 called refl, a.1, a.2)
+  mapped_goes : (s t : S) (f h : F) (r : Answered X E) → m.can_next s → Mapped m.steps (call_on g) s f (r ∷ []) t h → OnAnswer M (s, f) r (t, h)
+  mapped_goes s t f _ _ c (mapped_item x step mapped_none) = (l.kept_by_draw s (item x) t c step).answer
+  mapped_goes s t f _ _ c (mapped_end step mapped_none) = (l.kept_by_draw s (Ok None) t c step).answer
+  mapped_goes s t f h _ c (mapped_failure d e step called mapped_none) = let a = (l.kept_by_draw s (Err d) t c step).answer in (may_answer_here h d e a.0 called refl, a.1, a.2)
 
-  goes_map_err : (p : S × F) (r : Answered X E) (q : S × F) → M.can p → M.steps p r q → Goes M p r q
+  goes_map_err : (p : S × F) (r : Answered X E) (q : S × F) → M.can_next p → M.steps p r q → KeptByDraw M p r q
   goes_map_err (s, f) r (t, h) c step = let p = to_mapped m.steps (call_on g) s t f h (r ∷ []) step in let a = mapped_came s t f h r c.0 p in let reached = mapped_reaches s t f h r c.0 p in record {
-    can = (a.can, callable_after a.fails reached c.1);
-    has_end = a.has_end;
+    can_next = (a.can_next, callable_after a.may_fail reached c.1);
+    is_finite = a.is_finite;
     answer = mapped_goes s t f h r c.0 p;
-    gives = a.gives;
-    fails = λ e k. may_answer_after a.fails reached k;
-    names = a.names;
+    may_give = a.may_give;
+    may_fail = λ e k. may_answer_after a.may_fail reached k;
+    lenders = a.lenders;
   }
 
 pub lawful_map_err : {S F X D E : Type 0} {m : Contract S X D} (g : Mut F (D × Unit {0}) E) → Lawful m → Lawful (map_err_contract m g)
-lawful_map_err {m = m} g l = record { goes = goes_map_err m l g; ends = λ p. l.ends p.0 }
+lawful_map_err {m = m} g l = record { kept_by_draw = goes_map_err m l g; bounded = λ p. l.bounded p.0 }
 
 pub lawful_ends_map_err : {S F X D E : Type 0} {m : Contract S X D} {e : Ends S X D} (g : Mut F (D × Unit {0}) E) → LawfulEnds m e → LawfulEnds (map_err_contract m g) (ends_of (map_err_contract (from_back m e) g))
 lawful_ends_map_err g l = record {
-  front_can = λ p c. (l.front_can p.0 c.0, callable_after (l.fails p.0) reaches_here c.1);
-  gives = λ p x h. l.gives p.0 x h;
-  fails = λ p d h. may_answer_after (l.fails p.0) reaches_here h;
+  front_can = λ p c. (l.front_can p.0 c.0, callable_after (l.may_fail p.0) reaches_here c.1);
+  may_give = λ p x h. l.may_give p.0 x h;
+  may_fail = λ p d h. may_answer_after (l.may_fail p.0) reaches_here h;
   front = lawful_map_err g l.front;
   back = lawful_map_err g l.back;
 }

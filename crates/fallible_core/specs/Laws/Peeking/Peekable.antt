@@ -2,7 +2,7 @@
 use Rattle.std.specs.Prelude.{◌+◌, Option, Some, None, Ok, Err}
 use Rattle.std.proofs.Common.{refl, arith, inl, inr}
 use Rattle.fallible_contract.specs.Traces.{Answered}
-use Rattle.fallible_contract.specs.Contract.{Contract, OnAnswer, Goes, Lawful}
+use Rattle.fallible_contract.specs.Contract.{Contract, OnAnswer, KeptByDraw, Lawful}
 use Rattle.fallible_core.specs.Peeking.Peekable.{held_items, peekable_contract}
 
 module _ {S A E : Type 0} (m : Contract S A E) where
@@ -14,14 +14,14 @@ module _ {S A E : Type 0} (m : Contract S A E) where
   answer_held s (Some x) = (inl refl, (λ n b. (b.0, (b.0, b.1, omega arith), omega (arith, b.2))), (λ f. absurd f))
   answer_held s None = ((λ n b. (n, (b.0, b.1, omega (arith, b.2)), omega arith)), (λ f. absurd f))
 
-  held_goes : (s : S) (o : Option A) → m.can s → Goes P (s, Some o) (Ok o) (s, None)
+  held_goes : (s : S) (o : Option A) → m.can_next s → KeptByDraw P (s, Some o) (Ok o) (s, None)
   held_goes s o c = record {
-    can = c;
-    has_end = λ e. e;
+    can_next = c;
+    is_finite = λ e. e;
     answer = answer_held s o;
-    gives = λ y h. elim h [ inl e ↦ absurd cc | inr g ↦ inr g ];
-    fails = λ e h. h;
-    names = refl;
+    may_give = λ y h. elim h [ inl e ↦ absurd cc | inr g ↦ inr g ];
+    may_fail = λ e h. h;
+    lenders = refl;
   }
 
   answer_drawn : (s t : S) (r : Answered A E) → OnAnswer m s r t → OnAnswer P (s, None) r (t, None)
@@ -30,22 +30,22 @@ module _ {S A E : Type 0} (m : Contract S A E) where
   answer_drawn s t (Err e) a = (a.0, (λ n b. let k = a.1 b.0 b.1 in (k.0, (k.0, k.1, omega arith), omega (arith, k.2, b.2))), (λ f. absurd f))
 
   -- the source's answer comes, where nothing is held
-  pub drawn_goes : (s t : S) (r : Answered A E) → Goes m s r t → Goes P (s, None) r (t, None)
+  pub drawn_goes : (s t : S) (r : Answered A E) → KeptByDraw m s r t → KeptByDraw P (s, None) r (t, None)
   drawn_goes s t r a = record {
-    can = a.can;
-    has_end = a.has_end;
+    can_next = a.can_next;
+    is_finite = a.is_finite;
     answer = answer_drawn s t r a.answer;
-    gives = λ y h. elim h [ inl e ↦ absurd cc | inr g ↦ inr (a.gives y g) ];
-    fails = a.fails;
-    names = a.names;
+    may_give = λ y h. elim h [ inl e ↦ absurd cc | inr g ↦ inr (a.may_give y g) ];
+    may_fail = a.may_fail;
+    lenders = a.lenders;
   }
 
-  goes_peekable : Lawful m → (p : S × Option (Option A)) (r : Answered A E) (q : S × Option (Option A)) → P.can p → P.steps p r q → Goes P p r q
+  goes_peekable : Lawful m → (p : S × Option (Option A)) (r : Answered A E) (q : S × Option (Option A)) → P.can_next p → P.steps p r q → KeptByDraw P p r q
   goes_peekable l (s, Some o) r (t, held) c step = rw (step.0, step.1, step.2) (held_goes s o c)
-  goes_peekable l (s, None) r (t, held) c step = rw step.1 (drawn_goes s t r (l.goes s r t c step.0))
+  goes_peekable l (s, None) r (t, held) c step = rw step.1 (drawn_goes s t r (l.kept_by_draw s r t c step.0))
 
 pub lawful_peekable : {S A E : Type 0} {m : Contract S A E} → Lawful m → Lawful (peekable_contract m)
 lawful_peekable {m = m} l = record {
-  goes = goes_peekable m l;
-  ends = λ p. ((λ e. let k = (l.ends p.0).0 e in (k.0 + held_items p.1, (k.0, k.1, omega arith))), (λ h. (l.ends p.0).1 ((h.1).0, (h.1).1)));
+  kept_by_draw = goes_peekable m l;
+  bounded = λ p. ((λ e. let k = (l.bounded p.0).0 e in (k.0 + held_items p.1, (k.0, k.1, omega arith))), (λ h. (l.bounded p.0).1 ((h.1).0, (h.1).1)));
 }

@@ -7,7 +7,7 @@ use Rattle.fallible_contract.specs.Traces.{Answered, Yields, item, end, is_end}
 use Rattle.fallible_contract.specs.Contract.{Contract}
 use Rattle.fallible_contract.specs.Hints.{hint_sum, hint_smaller, fitting_sum, smaller_bound, cycle_hint}
 use Rattle.fallible_core.specs.declared.joining.chain.StillDrawn.{StillDrawn}
-use Rattle.fallible_core.specs.declared.joining.chain.StillDrawn.TheVariants.{Both, FrontAlone, BackAlone}
+use Rattle.fallible_core.specs.declared.joining.chain.StillDrawn.TheVariants.{Both, FirstAlone, SecondAlone}
 use Rattle.fallible_core.specs.Joining.Chain.{chain_step, chain_hints}
 use Rattle.fallible_core.specs.Joining.Cycle.{cycle_step}
 use Rattle.fallible_core.specs.Joining.Zip.{ZipPlace, left_failed, both_drawn, left_answer, zip_answer, right_step, zip_step}
@@ -43,83 +43,83 @@ module _ {S U A E : Type 0} (steps : S → Answered A E → S → Type 0) (other
   chained = chain_step steps others
 
   -- where one side alone is still drawn
-  front_item : (p q : S × U × StillDrawn) (r : Answered A E) → p.2 ≡ FrontAlone → chained p r q → steps p.0 r q.0 × (q.2 ≡ FrontAlone)
-  front_item (s, u, Both) q r e w = absurd cc
-  front_item (s, u, FrontAlone) q r e w = (w.0, w.2)
-  front_item (s, u, BackAlone) q r e w = absurd cc
+  first_item : (p q : S × U × StillDrawn) (r : Answered A E) → p.2 ≡ FirstAlone → chained p r q → steps p.0 r q.0 × (q.2 ≡ FirstAlone)
+  first_item (s, u, Both) q r e w = absurd cc
+  first_item (s, u, FirstAlone) q r e w = (w.0, w.2)
+  first_item (s, u, SecondAlone) q r e w = absurd cc
 
-  pub front_one : OneOfOne chained steps (λ p. p.0) (λ p. p.2 ≡ FrontAlone)
-  front_one = record { item_drawn = λ p q x e w. let d = front_item p q (item x) e w in (x, d.0, d.1); end_drawn = λ p q e w. (front_item p q end e w).0 }
+  pub first_one : OneOfOne chained steps (λ p. p.0) (λ p. p.2 ≡ FirstAlone)
+  first_one = record { item_drawn = λ p q x e w. let d = first_item p q (item x) e w in (x, d.0, d.1); end_drawn = λ p q e w. (first_item p q end e w).0 }
 
-  back_item : (p q : S × U × StillDrawn) (r : Answered A E) → p.2 ≡ BackAlone → chained p r q → others p.1 r q.1 × (q.2 ≡ BackAlone)
-  back_item (s, u, Both) q r e w = absurd cc
-  back_item (s, u, FrontAlone) q r e w = absurd cc
-  back_item (s, u, BackAlone) q r e w = (w.0, w.2)
+  second_item : (p q : S × U × StillDrawn) (r : Answered A E) → p.2 ≡ SecondAlone → chained p r q → others p.1 r q.1 × (q.2 ≡ SecondAlone)
+  second_item (s, u, Both) q r e w = absurd cc
+  second_item (s, u, FirstAlone) q r e w = absurd cc
+  second_item (s, u, SecondAlone) q r e w = (w.0, w.2)
 
-  pub back_one : OneOfOne chained others (λ p. p.1) (λ p. p.2 ≡ BackAlone)
-  back_one = record { item_drawn = λ p q x e w. let d = back_item p q (item x) e w in (x, d.0, d.1); end_drawn = λ p q e w. (back_item p q end e w).0 }
+  pub second_one : OneOfOne chained others (λ p. p.1) (λ p. p.2 ≡ SecondAlone)
+  second_one = record { item_drawn = λ p q x e w. let d = second_item p q (item x) e w in (x, d.0, d.1); end_drawn = λ p q e w. (second_item p q end e w).0 }
 
-  -- the front stays as it is once its end was met
-  front_stays : (xs : List A) (p q : S × U × StillDrawn) → p.2 ≡ BackAlone → Yields chained p xs q → q.0 ≡ p.0
-  front_stays [] p q e ran = sym (ap (λ (z : S × U × StillDrawn). z.0) ran)
-  front_stays (x ∷ xs) (s, u, Both) q e ran = absurd cc
-  front_stays (x ∷ xs) (s, u, FrontAlone) q e ran = absurd cc
-  front_stays (x ∷ xs) (s, u, BackAlone) q e ran = front_stays xs ran.0 q ran.1.2 ran.2 ∙ ran.1.1
+  -- the first stays as it is once its end was met
+  first_stays : (xs : List A) (p q : S × U × StillDrawn) → p.2 ≡ SecondAlone → Yields chained p xs q → q.0 ≡ p.0
+  first_stays [] p q e ran = sym (ap (λ (z : S × U × StillDrawn). z.0) ran)
+  first_stays (x ∷ xs) (s, u, Both) q e ran = absurd cc
+  first_stays (x ∷ xs) (s, u, FirstAlone) q e ran = absurd cc
+  first_stays (x ∷ xs) (s, u, SecondAlone) q e ran = first_stays xs ran.0 q ran.1.2 ran.2 ∙ ran.1.1
 
-  -- A run of items of a chain of which both sides were still drawn: the front alone was drawn, or it met its end, and the back was drawn.
+  -- A run of items of a chain of which both sides were still drawn: the first alone was drawn, or it met its end, and the second was drawn.
   record InFront (s : S) (u : U) (n : ℕ) (q : S × U × StillDrawn) : Type 0 where
-    of_front : List A
-    ran : Yields steps s of_front q.0
-    many : n ≡ length of_front
+    of_first : List A
+    ran : Yields steps s of_first q.0
+    many : n ≡ length of_first
     undrawn : q.1 ≡ u
     both : q.2 ≡ Both
 
   record InBack (s : S) (u : U) (n : ℕ) (q : S × U × StillDrawn) : Type 0 where
-    of_front : List A
-    of_back : List A
+    of_first : List A
+    of_second : List A
     left : S
-    ran : Yields steps s of_front left
+    ran : Yields steps s of_first left
     ended : steps left end q.0
-    ran_back : Yields others u of_back q.1
-    many : n ≡ length of_front + length of_back
-    back : q.2 ≡ BackAlone
+    ran_second : Yields others u of_second q.1
+    many : n ≡ length of_first + length of_second
+    second : q.2 ≡ SecondAlone
 
   in_front : (x : A) (s t : S) (u : U) (n : ℕ) (q : S × U × StillDrawn) → steps s (item x) t → InFront t u n q ⊎ InBack t u n q → InFront s u (suc n) q ⊎ InBack s u (suc n) q
-  in_front x s t u n q step (inl d) = inl (record { of_front = x ∷ d.of_front; ran = (t, step, d.ran); many = omega (arith, d.many); undrawn = d.undrawn; both = d.both })
-  in_front x s t u n q step (inr d) = inr (record { of_front = x ∷ d.of_front; of_back = d.of_back; left = d.left; ran = (t, step, d.ran); ended = d.ended; ran_back = d.ran_back; many = omega (arith, d.many); back = d.back })
+  in_front x s t u n q step (inl d) = inl (record { of_first = x ∷ d.of_first; ran = (t, step, d.ran); many = omega (arith, d.many); undrawn = d.undrawn; both = d.both })
+  in_front x s t u n q step (inr d) = inr (record { of_first = x ∷ d.of_first; of_second = d.of_second; left = d.left; ran = (t, step, d.ran); ended = d.ended; ran_second = d.ran_second; many = omega (arith, d.many); second = d.second })
 
   runs : (xs : List A) (p : S × U × StillDrawn) (q : S × U × StillDrawn) → p.2 ≡ Both → Yields chained p xs q → InFront p.0 p.1 (length xs) q ⊎ InBack p.0 p.1 (length xs) q
-  runs [] p q e ran = inl (record { of_front = []; ran = ap (λ (z : S × U × StillDrawn). z.0) ran; many = refl; undrawn = sym (ap (λ (z : S × U × StillDrawn). z.1) ran); both = subst (λ (z : S × U × StillDrawn). z.2 ≡ Both) ran e })
-  runs (x ∷ xs) (s, u, FrontAlone) q e ran = absurd cc
-  runs (x ∷ xs) (s, u, BackAlone) q e ran = absurd cc
+  runs [] p q e ran = inl (record { of_first = []; ran = ap (λ (z : S × U × StillDrawn). z.0) ran; many = refl; undrawn = sym (ap (λ (z : S × U × StillDrawn). z.1) ran); both = subst (λ (z : S × U × StillDrawn). z.2 ≡ Both) ran e })
+  runs (x ∷ xs) (s, u, FirstAlone) q e ran = absurd cc
+  runs (x ∷ xs) (s, u, SecondAlone) q e ran = absurd cc
   runs (x ∷ xs) (s, u, Both) q e ran = elim ran.1 [
     | inl d ↦ in_front x s ran.0.0 u (length xs) q d.0 (subst (λ (v : U). InFront ran.0.0 v (length xs) q ⊎ InBack ran.0.0 v (length xs) q) d.2 (runs xs ran.0 q d.3 ran.2))
     | inr d ↦
-        let rest = as_many chained others (λ p. p.1) (λ p. p.2 ≡ BackAlone) back_one.item_drawn xs ran.0 q d.2 ran.2 in
-        let stays : q.0 ≡ ran.0.0 = front_stays xs ran.0 q d.2 ran.2 in
-        inr (record { of_front = []; of_back = x ∷ rest.0; left = s; ran = refl; ended = subst (λ (t : S). steps s end t) (sym stays) d.0; ran_back = (ran.0.1, d.1, rest.1); many = omega (arith, rest.2); back = rest.3 })
+        let rest = as_many chained others (λ p. p.1) (λ p. p.2 ≡ SecondAlone) second_one.item_drawn xs ran.0 q d.2 ran.2 in
+        let stays : q.0 ≡ ran.0.0 = first_stays xs ran.0 q d.2 ran.2 in
+        inr (record { of_first = []; of_second = x ∷ rest.0; left = s; ran = refl; ended = subst (λ (t : S). steps s end t) (sym stays) d.0; ran_second = (ran.0.1, d.1, rest.1); many = omega (arith, rest.2); second = rest.3 })
   ]
 
   -- ---- bounds
 
   ended_both : (p q : S × U × StillDrawn) → p.2 ≡ Both → chained p end q → steps p.0 end q.0 × others p.1 end q.1
   ended_both (s, u, Both) q e w = elim w [ inl d ↦ absurd (let no : is_end {A = A} {E = E} end ≡ false = d.1 in cc) | inr d ↦ (d.0, d.1) ]
-  ended_both (s, u, FrontAlone) q e w = absurd cc
-  ended_both (s, u, BackAlone) q e w = absurd cc
+  ended_both (s, u, FirstAlone) q e w = absurd cc
+  ended_both (s, u, SecondAlone) q e w = absurd cc
 
   both_above : (p q : S × U × StillDrawn) (f b : ℕ × Option ℕ) (n : ℕ) → Brackets steps p.0 f → Brackets others p.1 b → InFront p.0 p.1 n q ⊎ InBack p.0 p.1 n q → IfSome (hint_sum f b).1 (λ m. n ≤ m)
-  both_above p q f b n i j (inl d) = sum_above f.1 b.1 n 0 n (omega arith) (subst (λ (k : ℕ). IfSome f.1 (λ m. k ≤ m)) (sym d.many) (i.above d.of_front q.0 d.ran)) (j.above [] p.1 refl)
-  both_above p q f b n i j (inr d) = sum_above f.1 b.1 (length d.of_front) (length d.of_back) n d.many (i.above d.of_front d.left d.ran) (j.above d.of_back q.1 d.ran_back)
+  both_above p q f b n i j (inl d) = sum_above f.1 b.1 n 0 n (omega arith) (subst (λ (k : ℕ). IfSome f.1 (λ m. k ≤ m)) (sym d.many) (i.above d.of_first q.0 d.ran)) (j.above [] p.1 refl)
+  both_above p q f b n i j (inr d) = sum_above f.1 b.1 (length d.of_first) (length d.of_second) n d.many (i.above d.of_first d.left d.ran) (j.above d.of_second q.1 d.ran_second)
 
   both_below : (p q z : S × U × StillDrawn) (f b : ℕ × Option ℕ) (n : ℕ) → Brackets steps p.0 f → Brackets others p.1 b → InFront p.0 p.1 n q ⊎ InBack p.0 p.1 n q → chained q end z → f.0 + b.0 ≤ n
   both_below p q z f b n i j (inl d) w =
       let e = ended_both q z d.both w in
-      let le = i.below d.of_front q.0 z.0 d.ran e.0 in
+      let le = i.below d.of_first q.0 z.0 d.ran e.0 in
       let ge : b.0 ≤ 0 = j.below [] p.1 z.1 refl (subst (λ (v : U). others v end z.1) d.undrawn e.1) in
       omega (arith, le, ge, d.many)
   both_below p q z f b n i j (inr d) w =
-      let le = i.below d.of_front d.left q.0 d.ran d.ended in
-      let ge = j.below d.of_back q.1 z.1 d.ran_back (back_item q z end d.back w).0 in
+      let le = i.below d.of_first d.left q.0 d.ran d.ended in
+      let ge = j.below d.of_second q.1 z.1 d.ran_second (second_item q z end d.second w).0 in
       omega (arith, le, ge, d.many)
 
   pub both_brackets : (p : S × U × StillDrawn) (f b : ℕ × Option ℕ) → p.2 ≡ Both → Brackets steps p.0 f → Brackets others p.1 b → Brackets chained p (hint_sum f b)
@@ -131,22 +131,22 @@ module _ {S U A E : Type 0} (steps : S → Answered A E → S → Type 0) (other
   pub both_sound : (p : S × U × StillDrawn) (h f b : ℕ × Option ℕ) → p.2 ≡ Both → h ≡ hint_sum f b → AsSoundAsBoth chained p h steps p.0 f others p.1 b
   both_sound p h f b e is = as_sound_as_both chained steps others p p.0 p.1 (λ i j. min (i + j) (2 ^ 64 - 1)) fitting_sum (λ j k i l. both_brackets p j k e i l) h f b is
 
-module _ {S U A E : Type 0} (front : Contract S A E) (back : Contract U A E) where
+module _ {S U A E : Type 0} (first : Contract S A E) (second : Contract U A E) where
   -- what its hints are made of, by the sides that are still drawn
-  pub both_hints : (p : S × U × StillDrawn) (h : ℕ × Option ℕ) → p.2 ≡ Both → chain_hints front back p h → (f : ℕ × Option ℕ) × (b : ℕ × Option ℕ) × front.hints p.0 f × back.hints p.1 b × (h ≡ hint_sum f b)
+  pub both_hints : (p : S × U × StillDrawn) (h : ℕ × Option ℕ) → p.2 ≡ Both → chain_hints first second p h → (f : ℕ × Option ℕ) × (b : ℕ × Option ℕ) × first.hints p.0 f × second.hints p.1 b × (h ≡ hint_sum f b)
   both_hints (s, u, Both) h e is = is
-  both_hints (s, u, FrontAlone) h e is = absurd cc
-  both_hints (s, u, BackAlone) h e is = absurd cc
+  both_hints (s, u, FirstAlone) h e is = absurd cc
+  both_hints (s, u, SecondAlone) h e is = absurd cc
 
-  pub front_hints : (p : S × U × StillDrawn) (h : ℕ × Option ℕ) → p.2 ≡ FrontAlone → chain_hints front back p h → front.hints p.0 h
-  front_hints (s, u, Both) h e is = absurd cc
-  front_hints (s, u, FrontAlone) h e is = is
-  front_hints (s, u, BackAlone) h e is = absurd cc
+  pub first_hints : (p : S × U × StillDrawn) (h : ℕ × Option ℕ) → p.2 ≡ FirstAlone → chain_hints first second p h → first.hints p.0 h
+  first_hints (s, u, Both) h e is = absurd cc
+  first_hints (s, u, FirstAlone) h e is = is
+  first_hints (s, u, SecondAlone) h e is = absurd cc
 
-  pub back_hints : (p : S × U × StillDrawn) (h : ℕ × Option ℕ) → p.2 ≡ BackAlone → chain_hints front back p h → back.hints p.1 h
-  back_hints (s, u, Both) h e is = absurd cc
-  back_hints (s, u, FrontAlone) h e is = absurd cc
-  back_hints (s, u, BackAlone) h e is = is
+  pub second_hints : (p : S × U × StillDrawn) (h : ℕ × Option ℕ) → p.2 ≡ SecondAlone → chain_hints first second p h → second.hints p.1 h
+  second_hints (s, u, Both) h e is = absurd cc
+  second_hints (s, u, FirstAlone) h e is = absurd cc
+  second_hints (s, u, SecondAlone) h e is = is
 
 -- ---- `Zip`
 

@@ -6,7 +6,7 @@ use Rattle.std.specs.Iterator.SizeHint.{IsWithinCount}
 use Rattle.std.proofs.Common.{refl, sym, ap, subst, arith}
 use Rattle.fallible_contract.specs.Traces.{Answered, Yields, item, failure, end}
 use Rattle.fallible_contract.specs.Lists.{results, items}
-use Rattle.fallible_contract.specs.Listed.{items_listed}
+use Rattle.fallible_contract.specs.BothEnds.{items_listed}
 use Rattle.fallible_contract.specs.Held.{once_step, held_count}
 use Rattle.fallible_iterator.specs.Sources.Std.{std_step}
 use Rattle.fallible_iterator.specs.SoundHints.{BoundsAbove, Brackets, BracketsCalls, CountsDown, Bounds}

@@ -31,8 +31,8 @@ module _ {S Z X : Type 0} (gives : S → Option Z → S → Type 0) (h : X → Z
   abbrev no_more_calls : (s t : S) → gives s None t → runs.Run gives
   no_more_calls s t w = run gives s [] true (s, refl, λ e. (t, w))
 
-  none_read : (s t : S) (z : Z) → RunsRead gives h s [] → gives s (Some z) t → ⊥
-  none_read s t z reads w = let few : 1 ≤ 0 = (reads (one_call s t z w) (seen 1) refl).0 in omega (arith, few)
+  reads_no_item : (s t : S) (z : Z) → RunsRead gives h s [] → gives s (Some z) t → ⊥
+  reads_no_item s t z reads w = let few : 1 ≤ 0 = (reads (one_call s t z w) (seen 1) refl).0 in omega (arith, few)
 
   some_read : (s t : S) (x : X) (l : List X) → RunsRead gives h s (x ∷ l) → gives s None t → ⊥
   some_read s t x l reads w = let all : 0 ≡ suc (length l) = (reads (no_more_calls s t w) (seen 0) refl).1 refl in omega (arith, all)
@@ -53,8 +53,8 @@ module _ {S A E Z X : Type 0} (of_item : A → Z) (of_failure : E → Z) (can : 
   Gives s l = AlwaysGives (std_step of_item of_failure can gives remaining) s l
 
   ended : (r : Answered A E) (s t : S) → RunsRead gives h s [] → gives s (element_by of_item of_failure r) t → r ≡ Ok None
-  ended (Ok (Some x)) s t reads w = absurd (none_read gives h s t (of_item x) reads w)
-  ended (Err e) s t reads w = absurd (none_read gives h s t (of_failure e) reads w)
+  ended (Ok (Some x)) s t reads w = absurd (reads_no_item gives h s t (of_item x) reads w)
+  ended (Err e) s t reads w = absurd (reads_no_item gives h s t (of_failure e) reads w)
   ended (Ok None) s t reads w = refl
 
   -- one call at an element

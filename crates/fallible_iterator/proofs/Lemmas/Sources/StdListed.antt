@@ -5,9 +5,9 @@ use Rattle.std.proofs.lemmas.List.{reverse-append, reverse-reverse}
 use Rattle.std.specs.Iterator.{YieldsFirst, YieldsLast}
 use Rattle.fallible_contract.specs.Traces.{Answered}
 use Rattle.fallible_contract.specs.Lists.{result_answer}
-use Rattle.fallible_contract.specs.Listed.{TakesFirst, Listed}
-use Rattle.fallible_contract.proofs.Lemmas.Listed.{listed_by_swapping}
-use Rattle.fallible_contract.proofs.Lemmas.Listed.Passing.{map-reverse}
+use Rattle.fallible_contract.specs.BothEnds.{TakesFirst, ListsBothEnds}
+use Rattle.fallible_contract.proofs.Lemmas.BothEnds.{listed_by_swapping}
+use Rattle.fallible_contract.proofs.Lemmas.BothEnds.Passing.{map-reverse}
 use Rattle.fallible_iterator.specs.Sources.Std.{element_by}
 
 module _ {S A E Z : Type 0} (of_item : A → Z) (of_failure : E → Z) (rest : S → List Z) (to : Z → Result A E)
@@ -52,7 +52,7 @@ module _ {S A E Z : Type 0} (of_item : A → Z) (of_failure : E → Z) (next nex
   last_taken s l is r t step = let o = element_by of_item of_failure r in subst (λ (k : List (Result A E)). TakesFirst (λ j. j ≡ map to (reverse (rest t))) r k) (sym is)
       (taken of_item of_failure rest to answered none o r (reverse (rest s)) (reverse (rest t)) refl (last_ends rest s t o (last s o t step)) (last_gives rest s t o (last s o t step)))
 
-  pub listed_rest : (s : S) → Listed front back s (map to (rest s))
+  pub listed_rest : (s : S) → ListsBothEnds front back s (map to (rest s))
   listed_rest s = listed_by_swapping front back (λ t k. k ≡ map to (rest t)) (λ t k. k ≡ map to (reverse (rest t)))
       (λ t k is. ap reverse is ∙ sym (map-reverse to (rest t)))
       (λ t k is. ap reverse is ∙ sym (map-reverse to (reverse (rest t))) ∙ ap (map to) (reverse-reverse (rest t)))

@@ -3,7 +3,7 @@ use Rattle.std.specs.Prelude.{Some, None, Ok, Err, ⊤}
 use Rattle.std.specs.Fn.{Called, Mut}
 use Rattle.std.proofs.Common.{refl}
 use Rattle.fallible_contract.specs.Closures.{Reaches}
-use Rattle.fallible_contract.specs.Laws.ToCome.{bounds_fewer, bounds_failure, bounds_end, bound_stays}
+use Rattle.fallible_contract.specs.Laws.BoundsRuns.{bounds_fewer, bounds_failure, bounds_end, bound_stays}
 use Rattle.fallible_contract.specs.Laws.Closures.{reaches_here, reaches_from, callable_after, may_answer_here, may_answer_after}
 use Rattle.fallible_contract.specs.Traces.{Answered, item, failure}
 use Rattle.fallible_contract.specs.Contract.{Contract, OnAnswer, Lawful}
@@ -23,13 +23,13 @@ module _ {F A E : Type 0} (g : Mut F (Unit {0}) (Answered A E)) where
 
   pub lawful_from_fn : Lawful FromFn
   lawful_from_fn = record {
-    goes = λ f r h c called. record {
-      can = callable_after (λ x p. p) (one_call f h r called) c;
-      has_end = bound_stays FromFn f h r (from_fn_answer f h r called);
+    kept_by_draw = λ f r h c called. record {
+      can_next = callable_after (λ x p. p) (one_call f h r called) c;
+      is_finite = bound_stays FromFn f h r (from_fn_answer f h r called);
       answer = from_fn_answer f h r called;
-      gives = λ x a. may_answer_after (λ u p. p) (one_call f h r called) a;
-      fails = λ e a. may_answer_after (λ u p. p) (one_call f h r called) a;
-      names = refl;
+      may_give = λ x a. may_answer_after (λ u p. p) (one_call f h r called) a;
+      may_fail = λ e a. may_answer_after (λ u p. p) (one_call f h r called) a;
+      lenders = refl;
     };
-    ends = λ f. ((λ e. e), (λ p. p));
+    bounded = λ f. ((λ e. e), (λ p. p));
   }

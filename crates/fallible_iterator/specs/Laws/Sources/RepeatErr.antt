@@ -3,7 +3,7 @@ use Rattle.std.specs.Prelude.{Some, None, Ok, Err}
 use Rattle.std.specs.declared.alloc.AllocError.{AllocError}
 use Rattle.std.proofs.Common.{sym, subst, arith, refl}
 use Rattle.fallible_contract.specs.Traces.{Answered}
-use Rattle.fallible_contract.specs.Contract.{Contract, OnAnswer, Goes, Lawful}
+use Rattle.fallible_contract.specs.Contract.{Contract, OnAnswer, KeptByDraw, Lawful}
 use Rattle.fallible_iterator.specs.Sources.RepeatErr.{RepeatErrAnswer, repeat_err_contract}
 
 module _ {A E : Type 0} (is_clone : E → E → Type 0) (is_infallible : E → Type 0) (from : AllocError → E → Type 0) where
@@ -15,8 +15,8 @@ module _ {A E : Type 0} (is_clone : E → E → Type 0) (is_infallible : E → T
   repeat_err_answer v (Ok None) h = absurd h
   repeat_err_answer v (Err e) h = (h, (λ n b. (n, tt, omega arith)), (λ f. absurd f))
 
-  goes_repeat_err : (v : E) (r : Answered A E) (w : E) → RepeatErr.steps v r w → Goes RepeatErr v r w
-  goes_repeat_err v r w step = subst (λ (u : E). Goes RepeatErr v r u) (sym step.1) (record { can = tt; has_end = λ e. e; answer = repeat_err_answer v r step.0; gives = λ x h. h; fails = λ e h. h; names = refl })
+  goes_repeat_err : (v : E) (r : Answered A E) (w : E) → RepeatErr.steps v r w → KeptByDraw RepeatErr v r w
+  goes_repeat_err v r w step = subst (λ (u : E). KeptByDraw RepeatErr v r u) (sym step.1) (record { can_next = tt; is_finite = λ e. e; answer = repeat_err_answer v r step.0; may_give = λ x h. h; may_fail = λ e h. h; lenders = refl })
 
   pub lawful_repeat_err : Lawful RepeatErr
-  lawful_repeat_err = record { goes = λ v r w c step. goes_repeat_err v r w step; ends = λ v. ((λ e. (0, tt)), (λ p. tt)) }
+  lawful_repeat_err = record { kept_by_draw = λ v r w c step. goes_repeat_err v r w step; bounded = λ v. ((λ e. (0, tt)), (λ p. tt)) }

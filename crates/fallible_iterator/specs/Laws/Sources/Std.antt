@@ -7,7 +7,7 @@ use Rattle.fallible_contract.specs.declared.answers.Side.TheVariants.{Front, Bac
 use Rattle.fallible_contract.specs.Traces.{Answered, Run, item, failure}
 use Rattle.fallible_contract.specs.Contract.{Contract, OnAnswer, Lawful}
 use Rattle.fallible_contract.specs.Ends.{LawfulEnds}
-use Rattle.fallible_contract.specs.Listed.{step_at, Mix}
+use Rattle.fallible_contract.specs.BothEnds.{step_at, RunAtEnds}
 use Rattle.fallible_iterator.specs.Sources.Std.{std_step, std_contract, std_ends, IsAskable, Comes, IsAskableAtEnds, ComesAtEnds}
 
 -- ---- draws that are each one call, whatever is asked of them and whatever may come
@@ -17,7 +17,7 @@ module _ {S A E Z : Type 0} (of_item : A → Z) (of_failure : E → Z) (can : S 
   step = std_step of_item of_failure can gives remaining
 
   abbrev Over : Contract S A E
-  Over = record (std_contract of_item of_failure can gives remaining) { can = Askable; gives = λ s x. Arrives s (item x); fails = λ s e. Arrives s (failure e) }
+  Over = record (std_contract of_item of_failure can gives remaining) { can_next = Askable; may_give = λ s x. Arrives s (item x); may_fail = λ s e. Arrives s (failure e) }
 
   -- After a draw it may be asked again, and at an end the bound doesn't rise; what is drawn was to come, and what may come after a draw was to come before it.
   record Follows : Type 0 where
@@ -38,15 +38,15 @@ module _ {S A E Z : Type 0} (of_item : A → Z) (of_failure : E → Z) (can : S 
 
   lawful_over : Follows → Lawful Over
   lawful_over l = record {
-    goes = λ s r t c w. record {
-      can = l.again s t r c w;
-      has_end = finite_after s t r w;
+    kept_by_draw = λ s r t c w. record {
+      can_next = l.again s t r c w;
+      is_finite = finite_after s t r w;
       answer = std_answer l s t r c w;
-      gives = λ x. l.later s t r (item x) w;
-      fails = λ e. l.later s t r (failure e) w;
-      names = refl;
+      may_give = λ x. l.later s t r (item x) w;
+      may_fail = λ e. l.later s t r (failure e) w;
+      lenders = refl;
     };
-    ends = λ s. ((λ f. (size (remaining s), (f, omega arith))), (λ p. p.1.0));
+    bounded = λ s. ((λ f. (size (remaining s), (f, omega arith))), (λ p. p.1.0));
   }
 
 -- ---- from the front
@@ -94,7 +94,7 @@ module _ {S A E Z : Type 0} (of_item : A → Z) (of_failure : E → Z) (can can_
   later_at side s t r q w c = record { before = (side, r) ∷ c.before; from = c.from; side = c.side; left = c.left; ran = (t, w, c.ran); drawn = c.drawn }
 
   -- draws from the front alone are draws from either end
-  mixed : (trace : List (Answered A E)) (s t : S) → Run front s trace t → Mix front back s (map (λ r. (Front, r)) trace) t
+  mixed : (trace : List (Answered A E)) (s t : S) → Run front s trace t → RunAtEnds front back s (map (λ r. (Front, r)) trace) t
   mixed [] s t ran = ran
   mixed (r ∷ trace) s t ran = (ran.0, ran.1, mixed trace ran.0 t ran.2)
 
@@ -116,8 +116,8 @@ module _ {S A E Z : Type 0} (of_item : A → Z) (of_failure : E → Z) (can can_
   pub lawful_std_ends : LawfulEnds (std_contract {A = A} {E = E} of_item of_failure can gives remaining) (std_ends of_item of_failure can can_back gives gives_back remaining)
   lawful_std_ends = record {
     front_can = front_askable;
-    gives = λ s x. front_comes s (item x);
-    fails = λ s e. front_comes s (failure e);
+    may_give = λ s x. front_comes s (item x);
+    may_fail = λ s e. front_comes s (failure e);
     front = lawful_over of_item of_failure can gives remaining AtEnds ArrivesAtEnds follows_front;
     back = lawful_over of_item of_failure can_back gives_back remaining AtEnds ArrivesAtEnds follows_back;
   }

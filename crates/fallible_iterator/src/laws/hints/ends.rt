@@ -5,7 +5,7 @@ ghost use Rattle.std.specs.declared.boxed.Box.{Box};
 ghost use Rattle.std.specs.declared.alloc.Global.{Global};
 ghost use Rattle.fallible_contract.specs.Ends.{from_back};
 ghost use Rattle.fallible_iterator.specs.SoundHints.{KeepsBrackets, KeepsBracketsOfBoth};
-ghost use Rattle.fallible_core.specs.declared.joining.chain.StillDrawn.TheVariants.{Both, FrontAlone, BackAlone};
+ghost use Rattle.fallible_core.specs.declared.joining.chain.StillDrawn.TheVariants.{Both, FirstAlone, SecondAlone};
 ghost use Rattle.fallible_core.specs.OneToOne.Map.{map_parts};
 ghost use Rattle.fallible_core.specs.OneToOne.Inspect.{inspect_parts};
 ghost use Rattle.fallible_core.specs.OneToOne.Cloned.{cloned_parts};
@@ -131,11 +131,11 @@ pub fn law_hints_back_chain<
         ⟦<Chain<T, U> as DoubleEndedFallibleIterator>⟧.ends) s
         (from_back T.contract T.ends) (chain_parts s).0 (from_back U.contract U.ends)
         (chain_parts s).1 }
-    ensures front_alone { (s : Chain T U) → (chain_parts s).2 ≡ FrontAlone
+    ensures first_alone { (s : Chain T U) → (chain_parts s).2 ≡ FirstAlone
         → KeepsBrackets (from_back ⟦<Chain<T, U> as FallibleIterator>⟧.contract
         ⟦<Chain<T, U> as DoubleEndedFallibleIterator>⟧.ends) s
         (from_back T.contract T.ends) (chain_parts s).0 }
-    ensures back_alone { (s : Chain T U) → (chain_parts s).2 ≡ BackAlone
+    ensures second_alone { (s : Chain T U) → (chain_parts s).2 ≡ SecondAlone
         → KeepsBrackets (from_back ⟦<Chain<T, U> as FallibleIterator>⟧.contract
         ⟦<Chain<T, U> as DoubleEndedFallibleIterator>⟧.ends) s
         (from_back U.contract U.ends) (chain_parts s).1 }

@@ -1,7 +1,7 @@
 // The hints of the adapters that join sources.
 ghost use Rattle.std.specs.Prelude.{◌≡◌, ℕ, Option, Result};
 ghost use Rattle.fallible_iterator.specs.SoundHints.{BoundsBelow, Brackets, KeepsBrackets, KeepsBracketsOfBoth, SoundHints};
-ghost use Rattle.fallible_core.specs.declared.joining.chain.StillDrawn.TheVariants.{Both, FrontAlone, BackAlone};
+ghost use Rattle.fallible_core.specs.declared.joining.chain.StillDrawn.TheVariants.{Both, FirstAlone, SecondAlone};
 ghost use Rattle.fallible_core.specs.Joining.Chain.{chain_parts};
 ghost use Rattle.fallible_core.specs.Joining.Cycle.{cycle_parts};
 ghost use Rattle.fallible_core.specs.Joining.Zip.{zip_parts};
@@ -17,10 +17,10 @@ pub fn law_hints_chain<T: FallibleIterator, U: FallibleIterator<Item = T::Item, 
     ensures both { (s : Chain T U) → (chain_parts s).2 ≡ Both
         → KeepsBracketsOfBoth ⟦<Chain<T, U> as FallibleIterator>⟧.contract s T.contract
         (chain_parts s).0 U.contract (chain_parts s).1 }
-    ensures front_alone { (s : Chain T U) → (chain_parts s).2 ≡ FrontAlone
+    ensures first_alone { (s : Chain T U) → (chain_parts s).2 ≡ FirstAlone
         → KeepsBrackets ⟦<Chain<T, U> as FallibleIterator>⟧.contract s T.contract
         (chain_parts s).0 }
-    ensures back_alone { (s : Chain T U) → (chain_parts s).2 ≡ BackAlone
+    ensures second_alone { (s : Chain T U) → (chain_parts s).2 ≡ SecondAlone
         → KeepsBrackets ⟦<Chain<T, U> as FallibleIterator>⟧.contract s U.contract
         (chain_parts s).1 }
 {}

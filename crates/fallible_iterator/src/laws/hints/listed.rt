@@ -5,11 +5,11 @@ ghost use Rattle.std.specs.Borrow.{Bor, MutBor};
 ghost use Rattle.std.specs.declared.boxed.Box.{Box};
 ghost use Rattle.std.specs.declared.alloc.Global.{Global};
 ghost use Rattle.fallible_contract.specs.Lists.{Lists, results, items, mapped, inspected, filtered, filter_mapped, failures_mapped, pointed_to, chained};
-ghost use Rattle.fallible_contract.specs.Listed.{Listed, source_list, passed_list};
+ghost use Rattle.fallible_contract.specs.BothEnds.{ListsBothEnds, source_list, passed_list};
 ghost use Rattle.fallible_iterator.specs.SoundHints.{Brackets, Bounds, KeepsBounds, KeepsBoundsOfBoth};
 ghost use Rattle.fallible_iterator.specs.Sources.Convert.{convert_parts};
 ghost use Rattle.fallible_iterator.specs.Sources.IntoFallible.{into_fallible_parts};
-ghost use Rattle.fallible_core.specs.declared.joining.chain.StillDrawn.TheVariants.{Both, FrontAlone, BackAlone};
+ghost use Rattle.fallible_core.specs.declared.joining.chain.StillDrawn.TheVariants.{Both, FirstAlone, SecondAlone};
 ghost use Rattle.fallible_core.specs.OneToOne.Map.{map_outcome, map_parts};
 ghost use Rattle.fallible_core.specs.OneToOne.Inspect.{inspect_outcome, inspect_parts};
 ghost use Rattle.fallible_core.specs.OneToOne.Cloned.{cloned_parts};
@@ -38,9 +38,9 @@ pub fn law_hints_lists<I: FallibleIterator>()
 /// Where it lists the list from both ends, the hint brackets what comes from the front and what comes from behind.
 pub fn law_hints_listed<I: DoubleEndedFallibleIterator>()
     ensures front { (s : I) (l : List (Result I.Item I.Error)) (h : ℕ × Option ℕ)
-        → Listed I.contract.steps I.ends.steps s l → Bounds h l → Brackets I.contract.steps s h }
+        → ListsBothEnds I.contract.steps I.ends.steps s l → Bounds h l → Brackets I.contract.steps s h }
     ensures back { (s : I) (l : List (Result I.Item I.Error)) (h : ℕ × Option ℕ)
-        → Listed I.contract.steps I.ends.steps s l → Bounds h l → Brackets I.ends.steps s h }
+        → ListsBothEnds I.contract.steps I.ends.steps s l → Bounds h l → Brackets I.ends.steps s h }
 {}
 
 /// Each hint of `Convert` bounds the list of the std iterator's results, where what remains is the length of that list.
@@ -147,12 +147,12 @@ pub fn law_hints_listed_chain<
     ensures both { (s : Chain T U) (a b : List (Result T.Item T.Error)) → (chain_parts s).2 ≡ Both
         → KeepsBoundsOfBoth ⟦<Chain<T, U> as FallibleIterator>⟧.contract s (chained a b) T.contract
         (chain_parts s).0 a U.contract (chain_parts s).1 b }
-    ensures front_alone { (s : Chain T U) (l : List (Result T.Item T.Error))
-        → (chain_parts s).2 ≡ FrontAlone
+    ensures first_alone { (s : Chain T U) (l : List (Result T.Item T.Error))
+        → (chain_parts s).2 ≡ FirstAlone
         → KeepsBounds ⟦<Chain<T, U> as FallibleIterator>⟧.contract s l T.contract
         (chain_parts s).0 l }
-    ensures back_alone { (s : Chain T U) (l : List (Result T.Item T.Error))
-        → (chain_parts s).2 ≡ BackAlone
+    ensures second_alone { (s : Chain T U) (l : List (Result T.Item T.Error))
+        → (chain_parts s).2 ≡ SecondAlone
         → KeepsBounds ⟦<Chain<T, U> as FallibleIterator>⟧.contract s l U.contract
         (chain_parts s).1 l }
 {}

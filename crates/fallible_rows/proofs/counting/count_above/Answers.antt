@@ -1,18 +1,18 @@
 -- What the chain's rows answered is what was read, and the reader is the one that was lent.
 use Rattle.std.proofs.Common.{rules, tests, ◌≡◌, ◌-◌, ◌^◌, sym, subst, refl, lit≤}
 use Rattle.fallible_contract.specs.Laws.Contract.{lawful_seen}
-use Rattle.fallible_contract.specs.Laws.ToCome.{lawful_unbounded}
+use Rattle.fallible_contract.specs.Laws.BoundsRuns.{lawful_unbounded}
 use Rattle.fallible_core.specs.Cutting.Take.{take_parts}
 use Rattle.fallible_core.specs.Filtering.Filter.{filter_parts}
 use Rattle.fallible_core.specs.Laws.Cutting.Take.{lawful_take}
 use Rattle.fallible_core.specs.Laws.Filtering.Filter.{lawful_filter}
 use Rattle.fallible_rows.specs.RowTraces.{rows_parts, row_step}
 use Rattle.fallible_rows.specs.declared.reading.Lent.{Lent}
-use Rattle.fallible_rows.specs.Counting.{CountsFront}
+use Rattle.fallible_rows.specs.Counting.{CountsPrefix}
 use Rattle.fallible_rows.proofs.ChainLemmas.{chain_reads}
 use Rattle.fallible_core.proofs.Lemmas.Callers.{fold_counted, callable_counting}
 use Rattle.fallible_rows.proofs.ReportLemmas.{row_limit-is}
-use Rattle.fallible_rows.proofs.FrontLemmas.{counts_front, reads_keep}
+use Rattle.fallible_rows.proofs.PrefixLemmas.{counts_prefix, reads_keep}
 use Rattle.fallible_rows.proofs.counting.count_above.Goals as goal
 
 pub try_fold-requires-clause-callable : goal.try_fold-requires-clause-callable
@@ -24,6 +24,6 @@ returns g c =
     let exit = fold_counted (λ f n x r h k. search rules) (λ e d h. search rules) counted in
     let read = chain_reads _ _ _ _ c.new.result c.new.ensures (lit≤ tt) _ c.filter-above.result c.try_fold.new.self c.take.result _ _ counted.items counted.last (λ x r h k. search (rules, tests)) c.filter-above.ensures.parts c.take.ensures.parts counted.ran in
     let names = sym (reads_keep _ _ (λ (s : Lent g.row.R.Denot). s.reader.ghost_name) (λ r q k. k) _ _ _ _ _ _ read.reads) in
-    let holds = counts_front _ _ _ _ _ refl read.items _ read.count_is _ row_limit-is counted.last c.try_fold.result read.reads exit in
-    let finally = λ (x : g.row.R.Denot) (same : x ≡ c.try_fold.new.self.it.it.reader.reader.now). subst (λ y. CountsFront (g.R.Read.remaining c.args.reader.now) (g.R.Read.remaining y) c.try_fold.result) (sym same) holds in
+    let holds = counts_prefix _ _ _ _ _ refl read.items _ read.count_is _ row_limit-is counted.last c.try_fold.result read.reads exit in
+    let finally = λ (x : g.row.R.Denot) (same : x ≡ c.try_fold.new.self.it.it.reader.reader.now). subst (λ y. CountsPrefix (g.R.Read.remaining c.args.reader.now) (g.R.Read.remaining y) c.try_fold.result) (sym same) holds in
     finally _ (search (rules, names))

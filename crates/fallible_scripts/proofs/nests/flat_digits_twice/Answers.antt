@@ -6,4 +6,4 @@ pub digits-before-requires-clause-finite : goal.digits-before-requires-clause-fi
 digits-before-requires-clause-finite c = (search rules, search rules, (1, record { at = λ x inner came becomes. (1, search rules, search rules) }))
 
 pub digits-after-requires-clause-finite : goal.digits-after-requires-clause-finite
-digits-after-requires-clause-finite c = c.digits-before.ensures.has_end (search rules, search rules, (1, record { at = λ x inner came becomes. (1, search rules, search rules) }))
+digits-after-requires-clause-finite c = c.digits-before.ensures.is_finite (search rules, search rules, (1, record { at = λ x inner came becomes. (1, search rules, search rules) }))

@@ -16,5 +16,5 @@ returns-in-Err g c = leaves_skip _ {p = (c.args.it.now, c.args.left.now)} {q = (
 pub loop-x-preserved : goal.loop-x-preserved
 loop-x-preserved g c = let i = c.loop-x.invariant in let step = rw c.in-Ok-Some.field-0-is at c.in-Ok-Some.ensures in record {
   whole = λ r t k rest. i.whole r t k (left_out_first _ _ c.in-Ok-Some.x c.loop-x.left (omega (arith, c.if-left-eq0.false)) step rest);
-  can = (g.met.I.FallibleIterator.lawful.goes _ _ _ i.can step).can;
+  can_next = (g.met.I.FallibleIterator.lawful.kept_by_draw _ _ _ i.can_next step).can_next;
 }

@@ -6,4 +6,4 @@ pub try_fold_carrying-requires-clause-callable : goal.try_fold_carrying-requires
 try_fold_carrying-requires-clause-callable g c = callable_begins _ _ _ g.met.O.FallibleIterator.lawful c.requires.0 c.requires.3
 
 pub returns : goal.returns
-returns g c = rw c.unpack.ensures (flatten_fold _ _ _ _ (λ u x r p. p) c.try_fold_carrying.ensures.carried)
+returns g c = rw c.draw_of_exit.ensures (flatten_fold _ _ _ _ (λ u x r p. p) c.try_fold_carrying.ensures.carried)

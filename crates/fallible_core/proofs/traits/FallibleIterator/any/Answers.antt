@@ -7,7 +7,7 @@ use Rattle.fallible_contract.proofs.Lemmas.Lists.Searched.{any_is}
 use Rattle.fallible_core.proofs.traits.FallibleIterator.any.Goals as goal
 
 pub returns-clause-searched : goal.returns-clause-searched
-returns-clause-searched g c = searched {call = call_on g.F.FnMut} {pick = any_pick} false (λ f x r w. w) c.try_fold_carrying.ensures.carried c.answer_at.ensures
+returns-clause-searched g c = searched {call = call_on g.F.FnMut} {pick = any_pick} false (λ f x r w. w) c.try_fold_carrying.ensures.carried c.search_of_exit.ensures
 
 pub returns-clause-value : goal.returns-clause-value
-returns-clause-value g c h l acts i = any_is l i {call = call_on g.F.FnMut} h acts (searched {call = call_on g.F.FnMut} {pick = any_pick} false (λ f x r w. w) c.try_fold_carrying.ensures.carried c.answer_at.ensures).1
+returns-clause-value g c h l acts i = any_is l i {call = call_on g.F.FnMut} h acts (searched {call = call_on g.F.FnMut} {pick = any_pick} false (λ f x r w. w) c.try_fold_carrying.ensures.carried c.search_of_exit.ensures).1

@@ -1,4 +1,4 @@
--- What the front lists, and then what the back lists.
+-- What the first lists, and then what the second lists.
 use Rattle.std.proofs.Common.{refl}
 use Rattle.fallible_core.proofs.Lemmas.Joining.Chain.{lists_chained}
 use Rattle.fallible_core.proofs.traits.FallibleIterator.chain.Goals as goal

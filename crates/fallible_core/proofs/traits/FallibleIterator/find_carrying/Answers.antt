@@ -8,4 +8,4 @@ pub try_fold_carrying-requires-clause-callable : goal.try_fold_carrying-requires
 try_fold_carrying-requires-clause-callable g c = holds_map (λ d x e w. search rules) (λ d x p. search rules) c.requires.callable
 
 pub returns-clause-searched : goal.returns-clause-searched
-returns-clause-searched g c = found_by (g.K.Test.tests c.args.k.now) _ (λ d x r w. search rules) c.try_fold_carrying.ensures.carried c.unpack.ensures
+returns-clause-searched g c = found_by (g.K.Test.tests c.args.test.now) _ (λ d x r w. search rules) c.try_fold_carrying.ensures.carried c.draw_of_exit.ensures

@@ -1,4 +1,4 @@
--- `number` makes a number of no bytes, whose ghost field is the number to come that the law gives, since there is one.
+-- `number` makes a number of no bytes, whose ghost field is the bound that the law gives, since there is one.
 use Rattle.std.proofs.Common.{[], ◌∷◌, refl}
 use Rattle.std.proofs.raw_atomic.Walks.{proved}
 use mir.MapTy.{inst_fn}
@@ -34,7 +34,7 @@ number_spec 𝓤 𝓛 𝓜 𝓡 wired S I E _ _ _ g d d' m _ =
     (λ κs. (shr_vals, tt)) (λ κs. (shr_Tells (named 0) κs.0 R, tt)) (λ κs qs bounds a _ are.
     let y : (walk_of 𝓛 T stayed c).Ghost = ((κs, qs, bounds, a, (shr_vals a.0, tt)), tt) in
     qed 𝓛 ((raw (alive 𝓛 T.signature κs qs) ⊛ ‵ (owns (types_at T.signature.params κs) a y.0.4)) ∷ (raw (fact 𝓤 _) ⊛ raw (fact 𝓤 _) ⊛ raw (fact 𝓤 _) ⊛ raw (fact 𝓤 _)) ∷ []) ∵
-    move ! (1 ∷ []) $ split ! $ drop ! $ split ! $ drop ! $ split ! $ drop ! $ heard ! _ (λ ends. let bound = (m.lawful.ends _).0 ends in
+    move ! (1 ∷ []) $ split ! $ drop ! $ split ! $ drop ! $ split ! $ drop ! $ heard ! _ (λ ends. let bound = (m.lawful.bounded _).0 ends in
     split ! $ move ! (1 ∷ []) $ drop ! $ enter ! _ _ _ _ _ $ alloc_all ! (λ l. pass_all ! refl ((tt, tt), tt) $
     sets ! (agg ! (no_more !)) refl (tt, tt) $ sets ! (agg ! (and_then ! (get ! refl) (no_more !))) refl (tt, (tt, tt)) $
     returns ! (look_at ! 0 refl) $ free_all ! refl $ use0 𝓛 (‵ (N.own_val (number bound.0) (word ∷ []))) (number_made 𝓛 bound.0) $

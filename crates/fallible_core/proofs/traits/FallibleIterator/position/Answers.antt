@@ -7,10 +7,10 @@ use Rattle.fallible_contract.proofs.Lemmas.Lists.Searched.{position_is}
 use Rattle.fallible_core.proofs.traits.FallibleIterator.position.Goals as goal
 
 pub try_fold_carrying-requires-clause-callable : goal.try_fold_carrying-requires-clause-callable
-try_fold_carrying-requires-clause-callable g c = placed_callable (call_on g.F.FnMut) position_pick _ g.met.Self.FallibleIterator.lawful c.requires.can c.requires.fits c.requires.callable
+try_fold_carrying-requires-clause-callable g c = placed_callable (call_on g.F.FnMut) position_pick _ g.met.Self.FallibleIterator.lawful c.requires.can_next c.requires.fits c.requires.callable
 
 pub returns-clause-searched : goal.returns-clause-searched
-returns-clause-searched g c = searched_placed {call = call_on g.F.FnMut} {pick = position_pick} None (λ p x r w. w) c.try_fold_carrying.ensures.carried c.found_at.ensures
+returns-clause-searched g c = searched_placed {call = call_on g.F.FnMut} {pick = position_pick} None (λ p x r w. w) c.try_fold_carrying.ensures.carried c.find_of_exit.ensures
 
 pub returns-clause-value : goal.returns-clause-value
-returns-clause-value g c h l acts i = position_is l i {call = call_on g.F.FnMut} h acts (searched_placed {call = call_on g.F.FnMut} {pick = position_pick} None (λ p x r w. w) c.try_fold_carrying.ensures.carried c.found_at.ensures).1
+returns-clause-value g c h l acts i = position_is l i {call = call_on g.F.FnMut} h acts (searched_placed {call = call_on g.F.FnMut} {pick = position_pick} None (λ p x r w. w) c.try_fold_carrying.ensures.carried c.find_of_exit.ensures).1

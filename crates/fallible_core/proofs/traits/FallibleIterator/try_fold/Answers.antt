@@ -5,7 +5,7 @@ use Rattle.fallible_contract.proofs.Lemmas.Lists.Drawn.{folded_is}
 use Rattle.fallible_core.proofs.traits.FallibleIterator.try_fold.Goals as goal
 
 pub returns-clause-folded : goal.returns-clause-folded
-returns-clause-folded g c = folded_by_turns (λ p x r h. search rules) c.try_fold_carrying.result c.try_fold_carrying.ensures.carried c.folded_at.ensures
+returns-clause-folded g c = folded_by_turns (λ p x r h. search rules) c.try_fold_carrying.result c.try_fold_carrying.ensures.carried c.fold_of_exit.ensures
 
 pub returns-clause-value : goal.returns-clause-value
 returns-clause-value g c convert converts h l acts i = folded_is _ _ convert h _ acts converts l (returns-clause-folded g c) i

@@ -1,5 +1,5 @@
 -- Each draw takes the first or the last of what is left of the list.
-use Rattle.fallible_contract.proofs.Lemmas.Listed.Interleaving.{interleaves}
+use Rattle.fallible_contract.proofs.Lemmas.BothEnds.Interleaving.{interleaves}
 use Rattle.fallible_iterator.proofs.laws.ends.law_interleave.Goals as goal
 
 pub returns : goal.returns

@@ -1,15 +1,15 @@
 -- A draw of it is one of the innermost source from the same end.
 use Rattle.std.proofs.Common.{refl}
-use Rattle.fallible_contract.proofs.Lemmas.Definitions.{meets_held}
-use Rattle.fallible_contract.proofs.Lemmas.Listed.{listed_seen, listed_as_seen}
+use Rattle.fallible_contract.proofs.Lemmas.LawForm.{traces_of_parts}
+use Rattle.fallible_contract.proofs.Lemmas.BothEnds.{listed_seen, listed_as_seen}
 use Rattle.fallible_iterator.proofs.Lemmas.Ends.{mixed_held}
 use Rattle.fallible_iterator.proofs.laws.ends.law_rev_rev.Goals as goal
 
 pub returns-clause-front : goal.returns-clause-front
-returns-clause-front g c = meets_held (λ u. u.it.it) (λ p. record { it = record { it = p } }) (λ s. refl) (λ p. refl) _ _ (λ p trace q. ((λ ran. ran), (λ ran. ran)))
+returns-clause-front g c = traces_of_parts (λ u. u.it.it) (λ p. record { it = record { it = p } }) (λ s. refl) (λ p. refl) _ _ (λ p trace q. ((λ ran. ran), (λ ran. ran)))
 
 pub returns-clause-back : goal.returns-clause-back
-returns-clause-back g c = meets_held (λ u. u.it.it) (λ p. record { it = record { it = p } }) (λ s. refl) (λ p. refl) _ _ (λ p trace q. ((λ ran. ran), (λ ran. ran)))
+returns-clause-back g c = traces_of_parts (λ u. u.it.it) (λ p. record { it = record { it = p } }) (λ s. refl) (λ p. refl) _ _ (λ p trace q. ((λ ran. ran), (λ ran. ran)))
 
 pub returns-clause-lists : goal.returns-clause-lists
 returns-clause-lists g c = λ s l. (

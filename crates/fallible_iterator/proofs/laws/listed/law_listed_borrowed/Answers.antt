@@ -1,6 +1,6 @@
 -- Each draw is one from the value behind it.
 use Rattle.std.proofs.Common.{refl}
-use Rattle.fallible_contract.proofs.Lemmas.Listed.{listed_within, listed_seen, listed_as_seen}
+use Rattle.fallible_contract.proofs.Lemmas.BothEnds.{listed_within, listed_seen, listed_as_seen}
 use Rattle.fallible_iterator.proofs.laws.listed.law_listed_borrowed.Goals as goal
 
 pub returns-clause-borrowed : goal.returns-clause-borrowed

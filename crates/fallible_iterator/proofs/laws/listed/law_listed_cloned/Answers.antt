@@ -1,5 +1,5 @@
 -- What its parts list.
-use Rattle.fallible_contract.proofs.Lemmas.Listed.{listed_seen_at}
+use Rattle.fallible_contract.proofs.Lemmas.BothEnds.{listed_seen_at}
 use Rattle.fallible_core.specs.OneToOne.Cloned.{cloned_parts}
 use Rattle.fallible_core.proofs.Lemmas.OneToOne.Cloned.{clones_passed, originals_passed, listed_clones, listed_originals}
 use Rattle.fallible_iterator.proofs.laws.listed.law_listed_cloned.Goals as goal

@@ -1,8 +1,8 @@
 -- What its parts list.
 use Rattle.std.proofs.Common.{refl}
 use Rattle.fallible_contract.specs.Closures.{call_on}
-use Rattle.fallible_contract.proofs.Lemmas.Listed.{listed_seen_at}
-use Rattle.fallible_contract.proofs.Lemmas.Listed.Passing.{listed_in_slot, listed_acting}
+use Rattle.fallible_contract.proofs.Lemmas.BothEnds.{listed_seen_at}
+use Rattle.fallible_contract.proofs.Lemmas.BothEnds.Passing.{listed_in_slot, listed_acting}
 use Rattle.fallible_core.specs.Filtering.FilterMap.{filter_map_outcome, filter_map_parts}
 use Rattle.fallible_core.proofs.Lemmas.Filtering.FilterMap.{never_ends, filter_mapped_is}
 use Rattle.fallible_iterator.proofs.laws.listed.law_listed_filter_map.Goals as goal

@@ -1,6 +1,6 @@
 -- A draw of it is one of its source from the other end.
 use Rattle.std.proofs.Common.{refl}
-use Rattle.fallible_contract.proofs.Lemmas.Listed.{listed_seen, listed_as_seen, listed_swapped}
+use Rattle.fallible_contract.proofs.Lemmas.BothEnds.{listed_seen, listed_as_seen, listed_swapped}
 use Rattle.fallible_core.specs.Ends.Rev.{rev_parts}
 use Rattle.fallible_iterator.proofs.laws.listed.law_listed_rev.Goals as goal
 

@@ -1,8 +1,8 @@
 -- Each draw adds its answer, and they tell those of the list.
 use Rattle.std.proofs.Common.{◌≡◌, ℕ, vec_len, subst, arith}
 use Rattle.fallible_contract.proofs.Lemmas.Contract.{stays_step}
-use Rattle.fallible_contract.proofs.Lemmas.Answers.{one_more_answer, answers_told}
-use Rattle.fallible_contract.specs.Answers.{IsAnswers}
+use Rattle.fallible_contract.proofs.Lemmas.ShownTraces.{one_more_answer, answers_told}
+use Rattle.fallible_contract.specs.ShownTraces.{IsAnswers}
 use Rattle.fallible_iterator.proofs.laws.traces.answers.Goals as goal
 
 pub loop-it-preserved : goal.loop-it-preserved

@@ -1,7 +1,7 @@
 -- What was made are the answers of as many draws, and there is room for the rest.
 use Rattle.std.proofs.Common.{◌≤◌, ◌-◌, vec_len, vec_capacity}
 use Rattle.fallible_contract.specs.Contract.{Stays}
-use Rattle.fallible_contract.specs.Answers.{IsAnswers}
+use Rattle.fallible_contract.specs.ShownTraces.{IsAnswers}
 use Rattle.fallible_iterator.proofs.laws.traces.answers.Given as goal
 
 abbrev pub invariant-loop-it : goal.invariant-loop-it

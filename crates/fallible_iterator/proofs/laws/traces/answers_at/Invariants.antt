@@ -2,7 +2,7 @@
 use Rattle.std.proofs.Common.{◌≡◌, ◌≤◌, length, take, vec_len, vec_capacity}
 use Rattle.fallible_contract.specs.Contract.{Stays}
 use Rattle.fallible_contract.specs.Ends.{from_front}
-use Rattle.fallible_contract.specs.Answers.{IsAnswersAt}
+use Rattle.fallible_contract.specs.ShownTraces.{IsAnswersAt}
 use Rattle.fallible_iterator.proofs.laws.traces.answers_at.Given as goal
 
 abbrev pub invariant-loop-side : goal.invariant-loop-side

@@ -8,11 +8,11 @@ use Rattle.fallible_rows.specs.declared.digits.Digits.{Digits}
 use Rattle.fallible_rows.specs.Digits.{TellsOf}
 use Rattle.fallible_rows.proofs.digits.Digits.answer.Goals as goal
 
-told : (place : ℕ) → place ≤ 4294967295 → place ≡ told_place place
-told place small = omega arith
+told_place-small : (place : ℕ) → place ≤ 4294967295 → place ≡ told_place place
+told_place-small place small = omega arith
 
 refused : (place : ℕ) (bytes : List ℕ) → place ≤ 4294967295 → row_number bytes ≡ None → Err (Row place) ≡ row_answer place bytes
-refused place bytes small none = ap {B = Answered ℕ RowFault} (λ p. Err (Row p)) (told place small) ∙ ap (answer_of_number place) (sym none)
+refused place bytes small none = ap {B = Answered ℕ RowFault} (λ p. Err (Row p)) (told_place-small place small) ∙ ap (answer_of_number place) (sym none)
 
 pub returns-in-Number : goal.returns-in-Number
 returns-in-Number c = λ bytes tells. ap (answer_of_number c.args.place) (sym (subst (λ (d : Digits). TellsOf d bytes) c.in-Number.is tells).0)

@@ -3,10 +3,10 @@ use Rattle.std.proofs.Common.{rules, arith, inr}
 use Rattle.scripts.proofs.nests.FlattenedPeekedCase.perform.Goals as goal
 
 pub operate-requires-clause-finite : goal.operate-requires-clause-finite
-operate-requires-clause-finite c = c.peek_copied.ensures.stays.has_end (search rules, search rules, (4, record { at = λ x inner came becomes. (4, search rules, search rules) }))
+operate-requires-clause-finite c = c.peek_copied.ensures.stays.is_finite (search rules, search rules, (4, record { at = λ x inner came becomes. (4, search rules, search rules) }))
 
 pub operate-requires-clause-fits : goal.operate-requires-clause-fits
-operate-requires-clause-fits c = let left = c.peek_copied.ensures.stays.to_come 16 (
+operate-requires-clause-fits c = let left = c.peek_copied.ensures.stays.bound 16 (
   16,
   record {
     outer = 4;

@@ -10,11 +10,11 @@ use Rattle.fallible_core.proofs.cutting.skip.SkipFallibleIterator.try_fold_carry
 pub turn-requires : goal.turn-requires
 turn-requires g c = holds_here {s = c.args.self.now} {t = record { it = c.reach_past.new.it; to_skip = c.reach_past.new.left }} c.requires.callable (rw c.in-Ok-Some.field-0-is at c.in-Ok-Some.ensures)
 
-pub try_fold_carrying-requires-clause-can : goal.try_fold_carrying-requires-clause-can
-try_fold_carrying-requires-clause-can g c = ((lawful_seen skip_parts (lawful_skip g.met.I.FallibleIterator.lawful)).goes c.args.self.now (Ok (Some c.in-Ok-Some.x)) (record { it = c.reach_past.new.it; to_skip = c.reach_past.new.left }) c.requires.can (rw c.in-Ok-Some.field-0-is at c.in-Ok-Some.ensures)).can
+pub try_fold_carrying-requires-clause-can_next : goal.try_fold_carrying-requires-clause-can_next
+try_fold_carrying-requires-clause-can_next g c = ((lawful_seen skip_parts (lawful_skip g.met.I.FallibleIterator.lawful)).kept_by_draw c.args.self.now (Ok (Some c.in-Ok-Some.x)) (record { it = c.reach_past.new.it; to_skip = c.reach_past.new.left }) c.requires.can_next (rw c.in-Ok-Some.field-0-is at c.in-Ok-Some.ensures)).can_next
 
 pub try_fold_carrying-requires-clause-finite : goal.try_fold_carrying-requires-clause-finite
-try_fold_carrying-requires-clause-finite g c = ((lawful_seen skip_parts (lawful_skip g.met.I.FallibleIterator.lawful)).goes c.args.self.now (Ok (Some c.in-Ok-Some.x)) (record { it = c.reach_past.new.it; to_skip = c.reach_past.new.left }) c.requires.can (rw c.in-Ok-Some.field-0-is at c.in-Ok-Some.ensures)).has_end c.requires.finite
+try_fold_carrying-requires-clause-finite g c = ((lawful_seen skip_parts (lawful_skip g.met.I.FallibleIterator.lawful)).kept_by_draw c.args.self.now (Ok (Some c.in-Ok-Some.x)) (record { it = c.reach_past.new.it; to_skip = c.reach_past.new.left }) c.requires.can_next (rw c.in-Ok-Some.field-0-is at c.in-Ok-Some.ensures)).is_finite c.requires.finite
 
 pub try_fold_carrying-requires-clause-callable : goal.try_fold_carrying-requires-clause-callable
 try_fold_carrying-requires-clause-callable g c = holds_past g.I.FallibleIterator.contract {s = record { it = c.reach_past.new.it; to_skip = c.reach_past.new.left }} (item_is_past g.I.FallibleIterator.contract c.args.self.now (record { it = c.reach_past.new.it; to_skip = c.reach_past.new.left }) c.in-Ok-Some.x (rw c.in-Ok-Some.field-0-is at c.in-Ok-Some.ensures)) (holds_after {s = c.args.self.now} {t = record { it = c.reach_past.new.it; to_skip = c.reach_past.new.left }} c.requires.callable (rw c.in-Ok-Some.field-0-is at c.in-Ok-Some.ensures) c.in-Continue.ensures)
@@ -32,13 +32,13 @@ pub returns-in-Err-clause-carried : goal.returns-in-Err-clause-carried
 returns-in-Err-clause-carried g c = carried_failure {s = c.args.self.now} {t = record { it = c.reach_past.new.it; to_skip = c.reach_past.new.left }} c.in-Err.ensures
 
 pub returns-in-Continue-clause-stays : goal.returns-in-Continue-clause-stays
-returns-in-Continue-clause-stays g c = stays_run (lawful_seen skip_parts (lawful_skip g.met.I.FallibleIterator.lawful)) _ _ _ c.requires.can (returns-in-Continue-clause-carried g c).ran
+returns-in-Continue-clause-stays g c = stays_run (lawful_seen skip_parts (lawful_skip g.met.I.FallibleIterator.lawful)) _ _ _ c.requires.can_next (returns-in-Continue-clause-carried g c).ran
 
 pub returns-in-Break-clause-stays : goal.returns-in-Break-clause-stays
-returns-in-Break-clause-stays g c = stays_run (lawful_seen skip_parts (lawful_skip g.met.I.FallibleIterator.lawful)) _ _ _ c.requires.can (returns-in-Break-clause-carried g c).ran
+returns-in-Break-clause-stays g c = stays_run (lawful_seen skip_parts (lawful_skip g.met.I.FallibleIterator.lawful)) _ _ _ c.requires.can_next (returns-in-Break-clause-carried g c).ran
 
 pub returns-in-Ok-None-clause-stays : goal.returns-in-Ok-None-clause-stays
-returns-in-Ok-None-clause-stays g c = stays_run (lawful_seen skip_parts (lawful_skip g.met.I.FallibleIterator.lawful)) _ _ _ c.requires.can (returns-in-Ok-None-clause-carried g c).ran
+returns-in-Ok-None-clause-stays g c = stays_run (lawful_seen skip_parts (lawful_skip g.met.I.FallibleIterator.lawful)) _ _ _ c.requires.can_next (returns-in-Ok-None-clause-carried g c).ran
 
 pub returns-in-Err-clause-stays : goal.returns-in-Err-clause-stays
-returns-in-Err-clause-stays g c = stays_run (lawful_seen skip_parts (lawful_skip g.met.I.FallibleIterator.lawful)) _ _ _ c.requires.can (returns-in-Err-clause-carried g c).ran
+returns-in-Err-clause-stays g c = stays_run (lawful_seen skip_parts (lawful_skip g.met.I.FallibleIterator.lawful)) _ _ _ c.requires.can_next (returns-in-Err-clause-carried g c).ran

@@ -6,13 +6,13 @@ use Rattle.fallible_core.proofs.Lemmas.Cutting.TakeWhileFolds.{refused_folds, ta
 use Rattle.fallible_core.proofs.cutting.take_while.TakeWhileFallibleIterator.try_fold_carrying.Goals as goal
 
 pub returns-then-self-clause-carried : goal.returns-then-self-clause-carried
-returns-then-self-clause-carried g c = refused_folds g.I.FallibleIterator.contract g.P.FnMut c.args.self.now (g.K.Turn.turns c.args.k.now) c.if-self.true
+returns-then-self-clause-carried g c = refused_folds g.I.FallibleIterator.contract g.P.FnMut c.args.self.now (g.K.Turn.turns c.args.turn.now) c.if-self.true
 
 pub fold_passing-state-requires-clause-callable : goal.fold_passing-state-requires-clause-callable
-fold_passing-state-requires-clause-callable g c = taking_takes g.I.FallibleIterator.contract g.P.FnMut c.args.self.now c.take_out.ensures.value c.if-self.false (g.K.Turn.turns c.args.k.now) g.met.I.FallibleIterator.lawful c.requires.can.0 c.requires.can.1 c.requires.callable
+fold_passing-state-requires-clause-callable g c = taking_takes g.I.FallibleIterator.contract g.P.FnMut c.args.self.now c.take_out.ensures.value c.if-self.false (g.K.Turn.turns c.args.turn.now) g.met.I.FallibleIterator.lawful c.requires.can_next.0 c.requires.can_next.1 c.requires.callable
 
 pub returns-clause-carried : goal.returns-clause-carried
-returns-clause-carried g c = taking_folds g.I.FallibleIterator.contract g.P.FnMut c.args.self.now c.take_out.ensures.value c.if-self.false (g.K.Turn.turns c.args.k.now) c.fold_passing-state.ensures.carried
+returns-clause-carried g c = taking_folds g.I.FallibleIterator.contract g.P.FnMut c.args.self.now c.take_out.ensures.value c.if-self.false (g.K.Turn.turns c.args.turn.now) c.fold_passing-state.ensures.carried
 
 pub returns-clause-stays : goal.returns-clause-stays
-returns-clause-stays g c = stays_run (lawful_seen take_while_parts (lawful_take_while g.P.FnMut g.met.I.FallibleIterator.lawful)) _ _ _ c.requires.can (returns-clause-carried g c).ran
+returns-clause-stays g c = stays_run (lawful_seen take_while_parts (lawful_take_while g.P.FnMut g.met.I.FallibleIterator.lawful)) _ _ _ c.requires.can_next (returns-clause-carried g c).ran

@@ -13,4 +13,4 @@ pub returns-clause-carried : goal.returns-clause-carried
 returns-clause-carried g c = carried_held rev_parts (λ s p. record s { it = p }) (λ s p. refl) (from_front g.I.FallibleIterator.contract g.I.DoubleEndedFallibleIterator.ends) c.try_fold_carrying.ensures.carried
 
 pub returns-clause-stays : goal.returns-clause-stays
-returns-clause-stays g c = stays_held rev_parts (λ s p. record s { it = p }) (λ s p. refl) (from_front g.I.FallibleIterator.contract g.I.DoubleEndedFallibleIterator.ends) (stays_run g.met.I.DoubleEndedFallibleIterator.lawful_ends.front _ _ _ c.requires.can c.try_fold_carrying.ensures.carried.ran)
+returns-clause-stays g c = stays_held rev_parts (λ s p. record s { it = p }) (λ s p. refl) (from_front g.I.FallibleIterator.contract g.I.DoubleEndedFallibleIterator.ends) (stays_run g.met.I.DoubleEndedFallibleIterator.lawful_ends.front _ _ _ c.requires.can_next c.try_fold_carrying.ensures.carried.ran)

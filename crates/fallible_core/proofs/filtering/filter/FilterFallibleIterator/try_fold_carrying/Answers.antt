@@ -12,4 +12,4 @@ pub returns-clause-carried : goal.returns-clause-carried
 returns-clause-carried g c = carried_into (λ p. record { it = p.0; f = p.1 }) (λ p r q step. step) c.fold_in_slot.ensures
 
 pub returns-clause-stays : goal.returns-clause-stays
-returns-clause-stays g c = stays_run (lawful_seen filter_parts (lawful_filter g.F.FnMut g.met.I.FallibleIterator.lawful)) _ _ _ c.requires.can (returns-clause-carried g c).ran
+returns-clause-stays g c = stays_run (lawful_seen filter_parts (lawful_filter g.F.FnMut g.met.I.FallibleIterator.lawful)) _ _ _ c.requires.can_next (returns-clause-carried g c).ran

@@ -3,4 +3,4 @@ use Rattle.fallible_contract.proofs.Lemmas.Nth.{first_reached}
 use Rattle.fallible_core.proofs.filtering.filter_map.FilterMapFallibleIterator.next.Goals as goal
 
 pub returns : goal.returns
-returns g c = rw c.reached.ensures (first_reached c.try_fold_carrying.ensures.carried)
+returns g c = rw c.item_of_exit.ensures (first_reached c.try_fold_carrying.ensures.carried)

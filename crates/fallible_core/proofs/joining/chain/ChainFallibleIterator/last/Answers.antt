@@ -1,7 +1,7 @@
--- The last item is the back's, or where it has none the front's; where one side alone is still drawn, it is that side's.
+-- The last item is the second's, or where it has none the first's; where one side alone is still drawn, it is that side's.
 use Rattle.std.specs.Prelude.{Some, None, Ok, Err}
 use Rattle.fallible_contract.proofs.Lemmas.Lists.Drawn.{last_is}
-use Rattle.fallible_core.proofs.Lemmas.Joining.ChainConsuming.{lasts_over, lasts_failure, lasts_front_alone, lasts_back_alone}
+use Rattle.fallible_core.proofs.Lemmas.Joining.ChainConsuming.{lasts_over, lasts_failure, lasts_first_alone, lasts_second_alone}
 use Rattle.fallible_core.proofs.joining.chain.ChainFallibleIterator.last.Goals as goal
 
 pub returns-in-Ok-Some-clause-last : goal.returns-in-Ok-Some-clause-last
@@ -28,14 +28,14 @@ returns-in-Err-clause-last g c = lasts_failure g.T.FallibleIterator.contract g.U
 pub returns-in-Err-clause-value : goal.returns-in-Err-clause-value
 returns-in-Err-clause-value g c l i = last_is l (returns-in-Err-clause-last g c) i
 
-pub returns-in-FrontAlone-clause-last : goal.returns-in-FrontAlone-clause-last
-returns-in-FrontAlone-clause-last g c = lasts_front_alone g.T.FallibleIterator.contract g.U.FallibleIterator.contract c.in-FrontAlone.is c.last-in-FrontAlone.ensures.last
+pub returns-in-FirstAlone-clause-last : goal.returns-in-FirstAlone-clause-last
+returns-in-FirstAlone-clause-last g c = lasts_first_alone g.T.FallibleIterator.contract g.U.FallibleIterator.contract c.in-FirstAlone.is c.last-in-FirstAlone.ensures.last
 
-pub returns-in-FrontAlone-clause-value : goal.returns-in-FrontAlone-clause-value
-returns-in-FrontAlone-clause-value g c l i = last_is l (returns-in-FrontAlone-clause-last g c) i
+pub returns-in-FirstAlone-clause-value : goal.returns-in-FirstAlone-clause-value
+returns-in-FirstAlone-clause-value g c l i = last_is l (returns-in-FirstAlone-clause-last g c) i
 
-pub returns-in-BackAlone-clause-last : goal.returns-in-BackAlone-clause-last
-returns-in-BackAlone-clause-last g c = lasts_back_alone g.T.FallibleIterator.contract g.U.FallibleIterator.contract c.in-BackAlone.is c.last-in-BackAlone.ensures.last
+pub returns-in-SecondAlone-clause-last : goal.returns-in-SecondAlone-clause-last
+returns-in-SecondAlone-clause-last g c = lasts_second_alone g.T.FallibleIterator.contract g.U.FallibleIterator.contract c.in-SecondAlone.is c.last-in-SecondAlone.ensures.last
 
-pub returns-in-BackAlone-clause-value : goal.returns-in-BackAlone-clause-value
-returns-in-BackAlone-clause-value g c l i = last_is l (returns-in-BackAlone-clause-last g c) i
+pub returns-in-SecondAlone-clause-value : goal.returns-in-SecondAlone-clause-value
+returns-in-SecondAlone-clause-value g c l i = last_is l (returns-in-SecondAlone-clause-last g c) i

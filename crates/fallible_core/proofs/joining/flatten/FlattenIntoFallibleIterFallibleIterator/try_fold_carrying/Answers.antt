@@ -13,4 +13,4 @@ pub returns-clause-carried : goal.returns-clause-carried
 returns-clause-carried g c = carried_held flatten_parts (λ s p. record { it = p.0; in_hand = p.1 }) (λ s p. refl) (flatten_contract g.I.FallibleIterator.contract g.U.IntoFallibleIterator.into_gives g.U.IntoFallibleIter.FallibleIterator.contract) c.fold_joined.ensures
 
 pub returns-clause-stays : goal.returns-clause-stays
-returns-clause-stays g c = stays_run (lawful_seen flatten_parts (lawful_flatten _ g.met.I.FallibleIterator.lawful g.U.IntoFallibleIterator.into_gives _ g.met.U.IntoFallibleIter.FallibleIterator.lawful)) _ _ _ c.requires.can (returns-clause-carried g c).ran
+returns-clause-stays g c = stays_run (lawful_seen flatten_parts (lawful_flatten _ g.met.I.FallibleIterator.lawful g.U.IntoFallibleIterator.into_gives _ g.met.U.IntoFallibleIter.FallibleIterator.lawful)) _ _ _ c.requires.can_next (returns-clause-carried g c).ran

@@ -7,7 +7,7 @@ use Rattle.fallible_core.proofs.Lemmas.OneToOne.Cloned.{stays_cloned}
 use Rattle.fallible_core.proofs.one_to_one.cloned.ClonedFallibleIterator.try_fold_carrying.Goals as goal
 
 pub fold_passing-requires-clause-callable : goal.fold_passing-requires-clause-callable
-fold_passing-requires-clause-callable g c = takes_freely (cloned_call g.T.Clone.is_clone g.T.Clone.is_infallible g.I.Error.From.from_gives) map_outcome (g.K.Turn.turns c.args.k.now) {pre = λ _ _. ⊤} (λ u x. tt) (holds_into (λ p. record { it = p.0 }) (λ p x q step. step) c.requires.callable)
+fold_passing-requires-clause-callable g c = takes_freely (cloned_call g.T.Clone.is_clone g.T.Clone.is_infallible g.I.Error.From.from_gives) map_outcome (g.K.Turn.turns c.args.turn.now) {pre = λ _ _. ⊤} (λ u x. tt) (holds_into (λ p. record { it = p.0 }) (λ p x q step. step) c.requires.callable)
 
 pub returns-clause-carried : goal.returns-clause-carried
 returns-clause-carried g c = carried_into (λ p. record { it = p.0 }) (λ p r q step. step) c.fold_passing.ensures.carried

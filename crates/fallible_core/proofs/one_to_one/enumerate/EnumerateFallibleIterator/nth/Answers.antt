@@ -4,7 +4,7 @@ use Rattle.fallible_contract.proofs.Lemmas.Lists.Drawn.{nth_is}
 use Rattle.fallible_core.proofs.one_to_one.enumerate.EnumerateFallibleIterator.nth.Goals as goal
 
 pub returns-clause-nth : goal.returns-clause-nth
-returns-clause-nth g c = rw c.reached.ensures (nth_reached c.try_fold_carrying.ensures.carried)
+returns-clause-nth g c = rw c.item_of_exit.ensures (nth_reached c.try_fold_carrying.ensures.carried)
 
 pub returns-clause-value : goal.returns-clause-value
 returns-clause-value g c l i = nth_is l (returns-clause-nth g c) i

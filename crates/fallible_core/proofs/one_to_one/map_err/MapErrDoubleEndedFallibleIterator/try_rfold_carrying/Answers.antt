@@ -11,10 +11,10 @@ pub try_rfold_carrying-requires-clause-callable : goal.try_rfold_carrying-requir
 try_rfold_carrying-requires-clause-callable g c = holds_into (λ s. record { it = s; f = c.args.self.now.f }) (mapped_items (call_on g.F.FnMut) c.args.self.now.f) c.requires.callable
 
 pub exited-requires : goal.exited-requires
-exited-requires g c = takes_exit g.met.I.DoubleEndedFallibleIterator.lawful_ends.back (call_on g.F.FnMut) (takes_on g.F.FnMut) c.requires.can.0 c.requires.can.1 c.try_rfold_carrying.ensures.carried
+exited-requires g c = takes_exit g.met.I.DoubleEndedFallibleIterator.lawful_ends.back (call_on g.F.FnMut) (takes_on g.F.FnMut) c.requires.can_next.0 c.requires.can_next.1 c.try_rfold_carrying.ensures.carried
 
 pub returns-clause-carried : goal.returns-clause-carried
 returns-clause-carried g c = carried_into (λ p. record { it = p.0; f = p.1 }) (λ p r q step. step) (folds_map_err (call_on g.F.FnMut) c.try_rfold_carrying.ensures.carried c.exited.ensures)
 
 pub returns-clause-stays : goal.returns-clause-stays
-returns-clause-stays g c = stays_run (lawful_seen map_err_parts (lawful_map_err g.F.FnMut g.met.I.DoubleEndedFallibleIterator.lawful_ends.back)) _ _ _ c.requires.can (returns-clause-carried g c).ran
+returns-clause-stays g c = stays_run (lawful_seen map_err_parts (lawful_map_err g.F.FnMut g.met.I.DoubleEndedFallibleIterator.lawful_ends.back)) _ _ _ c.requires.can_next (returns-clause-carried g c).ran

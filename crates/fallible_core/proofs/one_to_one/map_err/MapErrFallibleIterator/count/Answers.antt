@@ -8,7 +8,7 @@ use Rattle.fallible_core.proofs.Lemmas.OneToOne.MapErrFolds.{takes_counted, coun
 use Rattle.fallible_core.proofs.one_to_one.map_err.MapErrFallibleIterator.count.Goals as goal
 
 pub answer-requires : goal.answer-requires
-answer-requires g c = takes_counted g.met.I.FallibleIterator.lawful (call_on g.F.FnMut) (takes_on g.F.FnMut) c.requires.can.0 c.requires.can.1 c.count.ensures.counted
+answer-requires g c = takes_counted g.met.I.FallibleIterator.lawful (call_on g.F.FnMut) (takes_on g.F.FnMut) c.requires.can_next.0 c.requires.can_next.1 c.count.ensures.counted
 
 pub returns-clause-counted : goal.returns-clause-counted
 returns-clause-counted g c = counted_held map_err_parts (λ s p. record { it = p.0; f = p.1 }) (λ s p. refl) (map_err_contract g.I.FallibleIterator.contract g.F.FnMut) (counted_map_err _ c.count.ensures.counted c.answer.ensures)

@@ -8,7 +8,7 @@ use Rattle.fallible_core.proofs.Lemmas.OneToOne.MapErrFolds.{takes_last, last_ma
 use Rattle.fallible_core.proofs.one_to_one.map_err.MapErrFallibleIterator.last.Goals as goal
 
 pub answer-requires : goal.answer-requires
-answer-requires g c = takes_last g.met.I.FallibleIterator.lawful (call_on g.F.FnMut) (takes_on g.F.FnMut) c.requires.can.0 c.requires.can.1 c.last.ensures.last
+answer-requires g c = takes_last g.met.I.FallibleIterator.lawful (call_on g.F.FnMut) (takes_on g.F.FnMut) c.requires.can_next.0 c.requires.can_next.1 c.last.ensures.last
 
 pub returns-clause-last : goal.returns-clause-last
 returns-clause-last g c = last_held map_err_parts (λ s p. record { it = p.0; f = p.1 }) (λ s p. refl) (map_err_contract g.I.FallibleIterator.contract g.F.FnMut) (last_map_err _ c.last.ensures.last c.answer.ensures)

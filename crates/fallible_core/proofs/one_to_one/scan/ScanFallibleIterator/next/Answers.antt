@@ -6,7 +6,7 @@ use Rattle.fallible_contract.specs.Laws.Passing.{passes_end, passes_failure}
 use Rattle.fallible_core.proofs.one_to_one.scan.ScanFallibleIterator.next.Goals as goal
 
 pub f-requires : goal.f-requires
-f-requires g c = let goes = g.met.I.FallibleIterator.lawful.goes _ _ _ c.requires.0 (rw c.in-Ok-Some.field-0-is at c.in-Ok-Some.ensures) in c.requires.1.at _ _ reaches_here goes.answer.0 _ refl
+f-requires g c = let goes = g.met.I.FallibleIterator.lawful.kept_by_draw _ _ _ c.requires.0 (rw c.in-Ok-Some.field-0-is at c.in-Ok-Some.ensures) in c.requires.1.at _ _ reaches_here goes.answer.0 _ refl
 
 pub returns-in-Ok-Some : goal.returns-in-Ok-Some
 returns-in-Ok-Some g c = scans_item _ _ (rw c.in-Ok-Some.field-0-is at c.in-Ok-Some.ensures) record { shown = _; shows = refl; left = _; called = c.f.ensures; leaves = refl }

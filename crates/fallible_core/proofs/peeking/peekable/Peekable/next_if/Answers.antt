@@ -11,13 +11,13 @@ pub returns-in-Ok-Some-clause-taken : goal.returns-in-Ok-Some-clause-taken
 returns-in-Ok-Some-clause-taken g c = keeps_item _ _ _ (peekable_parts c.next.new.self) _ (rw c.in-Ok-Some.field-0-is at c.in-Ok-Some.ensures) record { shown = _; shows = refl; says = record { met = c.if-f.ensures } }
 
 pub returns-in-Ok-Some-clause-stays : goal.returns-in-Ok-Some-clause-stays
-returns-in-Ok-Some-clause-stays g c = stays_kept g.met.I.FallibleIterator.lawful _ (peekable_parts c.next.new.self) (Some c.in-Ok-Some.x) c.requires.can (rw c.in-Ok-Some.field-0-is at c.in-Ok-Some.ensures)
+returns-in-Ok-Some-clause-stays g c = stays_kept g.met.I.FallibleIterator.lawful _ (peekable_parts c.next.new.self) (Some c.in-Ok-Some.x) c.requires.can_next (rw c.in-Ok-Some.field-0-is at c.in-Ok-Some.ensures)
 
 pub returns-in-Ok-None-clause-taken : goal.returns-in-Ok-None-clause-taken
 returns-in-Ok-None-clause-taken g c = keeps_end _ _ _ (peekable_parts c.next.new.self) (rw c.in-Ok-None.field-0-is at c.in-Ok-None.ensures)
 
 pub returns-in-Ok-None-clause-stays : goal.returns-in-Ok-None-clause-stays
-returns-in-Ok-None-clause-stays g c = stays_kept g.met.I.FallibleIterator.lawful _ (peekable_parts c.next.new.self) None c.requires.can (rw c.in-Ok-None.field-0-is at c.in-Ok-None.ensures)
+returns-in-Ok-None-clause-stays g c = stays_kept g.met.I.FallibleIterator.lawful _ (peekable_parts c.next.new.self) None c.requires.can_next (rw c.in-Ok-None.field-0-is at c.in-Ok-None.ensures)
 
 pub returns-clause-taken : goal.returns-clause-taken
 returns-clause-taken g c = takes_failure _ _ _ _ _ c.in-Err.ensures

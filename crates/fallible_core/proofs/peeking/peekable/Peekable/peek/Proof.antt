@@ -93,7 +93,7 @@ peek_spec 𝓤 𝓛 𝓜 𝓡 wired I X E L L' L'' g d d' d'' m m' m'' =
     let G₁ = triple_of 𝓛 (f₁.signature I X E) (f₁.spec I X E g d d' d'' 𝓛 𝓜.mem 𝓡.returns) in
     let z₁ : G₁.Ghost = (((κ₁, κs.1), (p.1, qs.1), (⊑_trans κ₁ κ κs.1.0 (meet_⊑_right (p.0 ∷ []) κ) bounds.0, tt), (record r { ghost_name = δ }, tt), (vs, tt)), tt) in
     nothing ! $ move ! (1 ∷ 0 ∷ []) $ join ! $ move ! (2 ∷ 4 ∷ []) $ join ! $ join ! $
-    use0 𝓛 (raw (fact 𝓤 ((peekable_contract g.contract).can (peekable_parts r.now)))) (fact_i 𝓤 _ (emp 𝓤) can) $ use0 𝓛 (raw (fact 𝓤 _)) (fact_i 𝓤 _ (emp 𝓤) inE) $ join ! $
+    use0 𝓛 (raw (fact 𝓤 ((peekable_contract g.contract).can_next (peekable_parts r.now)))) (fact_i 𝓤 _ (emp 𝓤) can) $ use0 𝓛 (raw (fact 𝓤 _)) (fact_i 𝓤 _ (emp 𝓤) inE) $ join ! $
     use0 𝓛 (raw (fact 𝓤 _)) (fact_i 𝓤 _ (emp 𝓤) inX) $ join ! $ use0 𝓛 (raw (fact 𝓤 _)) (fact_i 𝓤 _ (emp 𝓤) inI) $ join ! $ move ! (1 ∷ 0 ∷ []) $
     use2 𝓛 (raw (G₁.pre z₁)) (id⊢ 𝓤 _) $
     calls_at ! Tab G₁ (fill.met 𝓤 𝓛 𝓜 𝓡 (code.calls-fallible_core::peeking::peekable::Peekable::fill 𝓡.env wired) I X E L L' L'' g d d' d'' m m' m'') z₁ (and_then ! (get ! refl) (no_more !)) (λ v.

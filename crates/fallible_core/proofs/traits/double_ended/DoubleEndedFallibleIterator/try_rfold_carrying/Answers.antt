@@ -18,20 +18,20 @@ returns-in-Err-clause-carried g c = c.loop-carried.invariant.whole _ _ (carried_
 
 pub loop-carried-preserved : goal.loop-carried-preserved
 loop-carried-preserved g c = let step = rw c.in-Ok-Some.field-0-is at c.in-Ok-Some.ensures in
-    let goes = g.met.Self.DoubleEndedFallibleIterator.lawful_ends.back.goes _ _ _ c.loop-carried.invariant.can step in
+    let goes = g.met.Self.DoubleEndedFallibleIterator.lawful_ends.back.kept_by_draw _ _ _ c.loop-carried.invariant.can_next step in
     let b = c.loop-carried.invariant.bounded in
     let fewer = goes.answer.1 b.0 b.1 in record {
-      can = goes.can;
+      can_next = goes.can_next;
       bounded = (fewer.0, fewer.1, omega (arith, fewer.2, b.2));
       callable = holds_after c.loop-carried.invariant.callable step c.in-Continue.ensures;
       whole = λ r t rest. c.loop-carried.invariant.whole r t (carried_after _ step c.in-Continue.ensures rest);
     }
 
 pub returns-in-Ok-None-clause-stays : goal.returns-in-Ok-None-clause-stays
-returns-in-Ok-None-clause-stays g c = let r = c.loop-carried.invariant.whole _ _ (carried_end (rw c.in-Ok-None.field-0-is at c.in-Ok-None.ensures)) in stays_run g.met.Self.DoubleEndedFallibleIterator.lawful_ends.back _ _ _ c.requires.can r.ran
+returns-in-Ok-None-clause-stays g c = let r = c.loop-carried.invariant.whole _ _ (carried_end (rw c.in-Ok-None.field-0-is at c.in-Ok-None.ensures)) in stays_run g.met.Self.DoubleEndedFallibleIterator.lawful_ends.back _ _ _ c.requires.can_next r.ran
 
 pub returns-in-Break-clause-stays : goal.returns-in-Break-clause-stays
-returns-in-Break-clause-stays g c = let r = c.loop-carried.invariant.whole _ _ (carried_stop _ (rw c.in-Ok-Some.field-0-is at c.in-Ok-Some.ensures) c.in-Break.ensures) in stays_run g.met.Self.DoubleEndedFallibleIterator.lawful_ends.back _ _ _ c.requires.can r.ran
+returns-in-Break-clause-stays g c = let r = c.loop-carried.invariant.whole _ _ (carried_stop _ (rw c.in-Ok-Some.field-0-is at c.in-Ok-Some.ensures) c.in-Break.ensures) in stays_run g.met.Self.DoubleEndedFallibleIterator.lawful_ends.back _ _ _ c.requires.can_next r.ran
 
 pub returns-in-Err-clause-stays : goal.returns-in-Err-clause-stays
-returns-in-Err-clause-stays g c = let r = c.loop-carried.invariant.whole _ _ (carried_failure c.in-Err.ensures) in stays_run g.met.Self.DoubleEndedFallibleIterator.lawful_ends.back _ _ _ c.requires.can r.ran
+returns-in-Err-clause-stays g c = let r = c.loop-carried.invariant.whole _ _ (carried_failure c.in-Err.ensures) in stays_run g.met.Self.DoubleEndedFallibleIterator.lawful_ends.back _ _ _ c.requires.can_next r.ran

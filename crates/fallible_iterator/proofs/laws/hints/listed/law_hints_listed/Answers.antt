@@ -1,5 +1,5 @@
 -- A run takes the first of the list, and with an end all of it.
-use Rattle.fallible_iterator.proofs.Lemmas.Hints.Listed.{listed_brackets, listed_brackets_behind}
+use Rattle.fallible_iterator.proofs.Lemmas.Hints.ListsBothEnds.{listed_brackets, listed_brackets_behind}
 use Rattle.fallible_iterator.proofs.laws.hints.listed.law_hints_listed.Goals as goal
 
 pub returns-clause-front : goal.returns-clause-front

@@ -4,7 +4,7 @@ use Rattle.std.proofs.Common.{◌∙◌}
 use Rattle.fallible_core.specs.OneToOne.Map.{map_outcome}
 use Rattle.fallible_core.proofs.Lemmas.OneToOne.Map.{never_ends, mapped_is}
 use Rattle.fallible_iterator.proofs.Lemmas.Hints.OneToOne.{map_leaves_none_out}
-use Rattle.fallible_iterator.proofs.Lemmas.Hints.Listed.{bounds_acting, bounds_beside, pointed_is}
+use Rattle.fallible_iterator.proofs.Lemmas.Hints.ListsBothEnds.{bounds_acting, bounds_beside, pointed_is}
 use Rattle.fallible_iterator.proofs.laws.hints.listed.law_hints_listed_cloned.Goals as goal
 
 pub returns-clause-clones : goal.returns-clause-clones

@@ -1,7 +1,7 @@
 -- No item has more than one in its place.
 use Rattle.fallible_core.specs.Filtering.Filter.{filter_outcome}
 use Rattle.fallible_core.proofs.Lemmas.Filtering.Filter.{never_ends, filtered_is}
-use Rattle.fallible_iterator.proofs.Lemmas.Hints.Listed.{upper_passed, upper_acting, bounds_made_of}
+use Rattle.fallible_iterator.proofs.Lemmas.Hints.ListsBothEnds.{upper_passed, upper_acting, bounds_made_of}
 use Rattle.fallible_iterator.proofs.laws.hints.listed.law_hints_listed_filter.Goals as goal
 
 pub returns-clause-steady : goal.returns-clause-steady

@@ -1,7 +1,7 @@
 -- No item has more than one in its place.
 use Rattle.fallible_core.specs.Filtering.FilterMap.{filter_map_outcome}
 use Rattle.fallible_core.proofs.Lemmas.Filtering.FilterMap.{never_ends, filter_mapped_is}
-use Rattle.fallible_iterator.proofs.Lemmas.Hints.Listed.{upper_passed, upper_acting, bounds_made_of}
+use Rattle.fallible_iterator.proofs.Lemmas.Hints.ListsBothEnds.{upper_passed, upper_acting, bounds_made_of}
 use Rattle.fallible_iterator.proofs.laws.hints.listed.law_hints_listed_filter_map.Goals as goal
 
 pub returns-clause-steady : goal.returns-clause-steady

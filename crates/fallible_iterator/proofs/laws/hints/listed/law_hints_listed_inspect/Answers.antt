@@ -2,7 +2,7 @@
 use Rattle.fallible_core.specs.OneToOne.Inspect.{inspect_outcome}
 use Rattle.fallible_core.proofs.Lemmas.OneToOne.Inspect.{never_ends, inspected_is}
 use Rattle.fallible_iterator.proofs.Lemmas.Hints.OneToOne.{inspect_leaves_none_out}
-use Rattle.fallible_iterator.proofs.Lemmas.Hints.Listed.{bounds_passed, bounds_acting}
+use Rattle.fallible_iterator.proofs.Lemmas.Hints.ListsBothEnds.{bounds_passed, bounds_acting}
 use Rattle.fallible_iterator.proofs.laws.hints.listed.law_hints_listed_inspect.Goals as goal
 
 pub returns-clause-steady : goal.returns-clause-steady

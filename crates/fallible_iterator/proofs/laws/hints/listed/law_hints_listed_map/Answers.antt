@@ -2,7 +2,7 @@
 use Rattle.fallible_core.specs.OneToOne.Map.{map_outcome}
 use Rattle.fallible_core.proofs.Lemmas.OneToOne.Map.{never_ends, mapped_is}
 use Rattle.fallible_iterator.proofs.Lemmas.Hints.OneToOne.{map_leaves_none_out}
-use Rattle.fallible_iterator.proofs.Lemmas.Hints.Listed.{bounds_passed, bounds_acting}
+use Rattle.fallible_iterator.proofs.Lemmas.Hints.ListsBothEnds.{bounds_passed, bounds_acting}
 use Rattle.fallible_iterator.proofs.laws.hints.listed.law_hints_listed_map.Goals as goal
 
 pub returns-clause-steady : goal.returns-clause-steady

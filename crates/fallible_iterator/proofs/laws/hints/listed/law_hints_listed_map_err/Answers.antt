@@ -1,5 +1,5 @@
 -- Each failure has one in its place.
-use Rattle.fallible_iterator.proofs.Lemmas.Hints.Listed.{bounds_failures_mapped, bounds_before_mapping}
+use Rattle.fallible_iterator.proofs.Lemmas.Hints.ListsBothEnds.{bounds_failures_mapped, bounds_before_mapping}
 use Rattle.fallible_iterator.proofs.laws.hints.listed.law_hints_listed_map_err.Goals as goal
 
 pub returns-clause-steady : goal.returns-clause-steady

@@ -1,5 +1,5 @@
 -- A run takes the first of the list, and with an end all of it.
-use Rattle.fallible_iterator.proofs.Lemmas.Hints.Listed.{bounds_brackets}
+use Rattle.fallible_iterator.proofs.Lemmas.Hints.ListsBothEnds.{bounds_brackets}
 use Rattle.fallible_iterator.proofs.laws.hints.listed.law_hints_lists.Goals as goal
 
 pub returns : goal.returns

@@ -9,18 +9,18 @@ use Rattle.fallible_iterator.proofs.Lemmas.Sources.StdFold.{takes_std, folds_std
 use Rattle.fallible_iterator.proofs.sources.into_fallible.IntoFallibleFallibleIterator.try_fold_carrying.Goals as goal
 
 pub try_fold-requires-clause-can : goal.try_fold-requires-clause-can
-try_fold-requires-clause-can g c = c.requires.can.asked [] _ refl
+try_fold-requires-clause-can g c = c.requires.can_next.asked [] _ refl
 
 pub try_fold-requires-clause-callable : goal.try_fold-requires-clause-callable
-try_fold-requires-clause-callable g c = takes_std (λ x. x) never Ok (λ z. refl) g.I.Iterator.can_next g.I.Iterator.next_gives g.I.Iterator.remaining _ _ (g.K.Turn.turns c.args.k.now) (λ d z r h p. search rules) (g.K.Turn.can_turn c.args.k.now) (λ d z p. search rules)
+try_fold-requires-clause-callable g c = takes_std (λ x. x) never Ok (λ z. refl) g.I.Iterator.can_next g.I.Iterator.next_gives g.I.Iterator.remaining _ _ (g.K.Turn.turns c.args.turn.now) (λ d z r h p. search rules) (g.K.Turn.can_turn c.args.turn.now) (λ d z p. search rules)
     (holds_into (λ p. record { it = p }) (λ p x q step. step) c.requires.callable)
 
 pub shape_of-self : goal.shape_of-self
-shape_of-self g c = sym (keeps_lent (λ x. x) never Ok (λ z. refl) g.I.Iterator.can_next g.I.Iterator.next_gives g.I.Iterator.remaining _ _ (g.K.Turn.turns c.args.k.now) (λ d z r h p. search rules) c.try_fold.new.self c.try_fold.ensures.ran)
+shape_of-self g c = sym (keeps_lent (λ x. x) never Ok (λ z. refl) g.I.Iterator.can_next g.I.Iterator.next_gives g.I.Iterator.remaining _ _ (g.K.Turn.turns c.args.turn.now) (λ d z r h p. search rules) c.try_fold.new.self c.try_fold.ensures.ran)
 
 pub returns-clause-carried : goal.returns-clause-carried
 returns-clause-carried g c = rw c.exited.ensures (carried_into (λ p. record { it = p }) (λ p r q step. step)
-    (folds_std (λ x. x) never Ok (λ z. refl) g.I.Iterator.can_next g.I.Iterator.next_gives g.I.Iterator.remaining _ _ (g.K.Turn.turns c.args.k.now) (λ d z r h p. search rules) c.try_fold.new.self c.try_fold.ensures.ran))
+    (folds_std (λ x. x) never Ok (λ z. refl) g.I.Iterator.can_next g.I.Iterator.next_gives g.I.Iterator.remaining _ _ (g.K.Turn.turns c.args.turn.now) (λ d z r h p. search rules) c.try_fold.new.self c.try_fold.ensures.ran))
 
 pub returns-clause-stays : goal.returns-clause-stays
-returns-clause-stays g c = stays_run (lawful_seen into_fallible_parts (lawful_std (λ x. x) never g.I.Iterator.can_next g.I.Iterator.next_gives g.I.Iterator.remaining)) _ _ _ c.requires.can (returns-clause-carried g c).ran
+returns-clause-stays g c = stays_run (lawful_seen into_fallible_parts (lawful_std (λ x. x) never g.I.Iterator.can_next g.I.Iterator.next_gives g.I.Iterator.remaining)) _ _ _ c.requires.can_next (returns-clause-carried g c).ran

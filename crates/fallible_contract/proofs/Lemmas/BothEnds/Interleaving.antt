@@ -1,0 +1,107 @@
+-- The law of interleaving: what came from both ends, and what is left, make the list.
+use Rattle.std.specs.Prelude.{◌≡◌, Result, Ok, Err, List, [], ◌∷◌, ◌++◌, reverse}
+use Rattle.std.proofs.Common.{refl, sym, ap, subst, ◌∙◌, append_assoc}
+use Rattle.std.proofs.lemmas.List.{append-nil, reverse-append, reverse-reverse}
+use Rattle.fallible_contract.specs.declared.answers.Side.{Side}
+use Rattle.fallible_contract.specs.declared.answers.Side.TheVariants.{Front, Back}
+use Rattle.fallible_contract.specs.Traces.{Answered, end}
+use Rattle.fallible_contract.specs.Lists.{result_answer}
+use Rattle.fallible_contract.specs.BothEnds.{TakesFirst, ListsBothEnds, step_at, RunAtEnds, answer_came, came_in_front, came_behind, Interleaves}
+use Rattle.fallible_contract.proofs.Lemmas.BothEnds.{takes_front, takes_back}
+
+module _ {A E : Type 0} where
+  -- an answer that isn't an end came before the others
+  came_first : (y : Result A E) (r : Answered A E) (m : List (Result A E)) → r ≡ result_answer y → answer_came r m ≡ y ∷ m
+  came_first (Ok x) r m e = ap (λ q. answer_came q m) e
+  came_first (Err d) r m e = ap (λ q. answer_came q m) e
+
+  no_result_ends : (y : Result A E) → result_answer y ≡ end → ⊥
+  no_result_ends (Ok x) e = absurd cc
+  no_result_ends (Err d) e = absurd cc
+
+  -- the answer of one draw, in front of what comes in front later, and of what comes behind later
+  abbrev with_front : Side → Answered A E → List (Result A E) → List (Result A E)
+  with_front Front r m = answer_came r m
+  with_front Back r m = m
+
+  abbrev with_behind : Side → Answered A E → List (Result A E) → List (Result A E)
+  with_behind Front r n = n
+  with_behind Back r n = answer_came r n
+
+  front_is : (side : Side) (r : Answered A E) (drawn : List (Side × Answered A E)) → with_front side r (came_in_front drawn) ≡ came_in_front ((side, r) ∷ drawn)
+  front_is Front r drawn = refl
+  front_is Back r drawn = refl
+
+  behind_is : (side : Side) (r : Answered A E) (drawn : List (Side × Answered A E)) → with_behind side r (came_behind drawn) ≡ came_behind ((side, r) ∷ drawn)
+  behind_is Front r drawn = refl
+  behind_is Back r drawn = refl
+
+  -- What one draw took from the list l: what makes the rest makes l with its answer, and only the empty list gives an end.
+  record OneTaken (l : List (Result A E)) (side : Side) (r : Answered A E) (rest : List (Result A E)) : Type 0 where
+    makes : (m w n : List (Result A E)) → rest ≡ m ++ w ++ reverse n → l ≡ with_front side r m ++ w ++ reverse (with_behind side r n)
+    at_end : r ≡ end → l ≡ []
+
+  end_taken : (l : List (Result A E)) (side : Side) (r : Answered A E) → l ≡ [] → r ≡ end → OneTaken l side r []
+  end_taken l Front r empty e = record { makes = λ m w n k. empty ∙ k ∙ ap (λ q. answer_came q m ++ w ++ reverse n) (sym e); at_end = λ d. empty }
+  end_taken l Back r empty e = record { makes = λ m w n k. empty ∙ k ∙ ap (λ q. m ++ w ++ reverse (answer_came q n)) (sym e); at_end = λ d. empty }
+
+  first_taken : (y : Result A E) (l : List (Result A E)) (r : Answered A E) → r ≡ result_answer y → OneTaken (y ∷ l) Front r l
+  first_taken y l r e = record {
+    makes = λ m w n k. ap {B = List (Result A E)} (λ j. y ∷ j) k ∙ ap (λ j. j ++ w ++ reverse n) (sym (came_first y r m e));
+    at_end = λ d. absurd (no_result_ends y (sym e ∙ d));
+  }
+
+  last_taken : (l : List (Result A E)) (y : Result A E) (k : List (Result A E)) (r : Answered A E) → l ≡ reverse (y ∷ k) → r ≡ result_answer y → OneTaken l Back r (reverse k)
+  last_taken l y k r at e = record {
+    makes = λ m w n is. at ∙ reverse-append (y ∷ []) k ∙ ap (λ j. j ++ y ∷ []) is ∙ append_assoc (m ++ w) (reverse n) (y ∷ []) ∙ ap (λ j. m ++ w ++ j) (sym (reverse-append (y ∷ []) n)) ∙ ap (λ j. m ++ w ++ reverse j) (sym (came_first y r n e));
+    at_end = λ d. absurd (no_result_ends y (sym e ∙ d));
+  }
+
+module _ {S A E : Type 0} (front back : S → Answered A E → S → Type 0) where
+  -- what one draw leaves of the list
+  abbrev Leaves : S → List (Result A E) → Side → Answered A E → Type 0
+  Leaves t l side r = (rest : List (Result A E)) × ListsBothEnds front back t rest × OneTaken l side r rest
+
+  leaves_front : (t : S) (r : Answered A E) (l : List (Result A E)) → TakesFirst (λ k. ListsBothEnds front back t k) r l → Leaves t l Front r
+  leaves_front t r [] h = ([], h.1, end_taken [] Front r refl h.0)
+  leaves_front t r (y ∷ l) h = (l, h.1, first_taken y l r h.0)
+
+  leaves_back : (t : S) (r : Answered A E) (l k : List (Result A E)) → l ≡ reverse k → TakesFirst (λ j. ListsBothEnds front back t (reverse j)) r k → Leaves t l Back r
+  leaves_back t r l [] at h = ([], h.1, end_taken l Back r at h.0)
+  leaves_back t r l (y ∷ k) at h = (reverse k, h.1, last_taken l y k r at h.0)
+
+  leaves : (side : Side) (s t : S) (r : Answered A E) (l : List (Result A E)) → ListsBothEnds front back s l → step_at front back side s r t → Leaves t l side r
+  leaves Front s t r l i step = leaves_front t r l (takes_front i step)
+  leaves Back s t r l i step = leaves_back t r l (reverse l) (sym (reverse-reverse l)) (takes_back i step)
+
+  no_draws : (before after : List (Side × Answered A E)) (d : Side × Answered A E) → [] ≡ before ++ d ∷ after → ⊥
+  no_draws [] after d e = absurd cc
+  no_draws (c ∷ before) after d e = absurd cc
+
+  -- where an end was answered, later or at once, nothing was left
+  empty_at_end : (l rest : List (Result A E)) (side : Side) (r : Answered A E) (drawn : List (Side × Answered A E)) → OneTaken l side r rest
+      → ((before after : List (Side × Answered A E)) (at : Side) → drawn ≡ before ++ (at, end) ∷ after → rest ≡ came_in_front before ++ reverse (came_behind before))
+      → (before after : List (Side × Answered A E)) (at : Side) → (side, r) ∷ drawn ≡ before ++ (at, end) ∷ after → l ≡ came_in_front before ++ reverse (came_behind before)
+  empty_at_end l rest side r drawn one later [] after at e = let same : (side, r) ≡ (at, end) = cc in one.at_end (ap (λ (d : Side × Answered A E). d.1) same)
+  empty_at_end l rest side r drawn one later (d ∷ before) after at e =
+      let same : (side, r) ≡ d = cc in
+      let others : drawn ≡ before ++ (at, end) ∷ after = cc in
+      let made = one.makes (came_in_front before) [] (came_behind before) (later before after at others ∙ ap (λ j. j ++ reverse (came_behind before)) (sym (append-nil (came_in_front before)))) in
+      subst (λ (c : Side × Answered A E). l ≡ came_in_front (c ∷ before) ++ reverse (came_behind (c ∷ before))) same
+      (made ∙ ap (λ j. j ++ reverse (with_behind side r (came_behind before))) (append-nil (with_front side r (came_in_front before))) ∙ ap (λ j. j ++ reverse (with_behind side r (came_behind before))) (front_is side r before) ∙ ap (λ j. came_in_front ((side, r) ∷ before) ++ reverse j) (behind_is side r before))
+
+  interleaved : (drawn : List (Side × Answered A E)) (s t : S) (l : List (Result A E)) → ListsBothEnds front back s l → RunAtEnds front back s drawn t → Interleaves front back l drawn t
+  interleaved [] s t l i mixed = record { left = l; listed = subst (λ (u : S). ListsBothEnds front back u l) mixed i; makes = sym (append-nil l); ends = λ before after side e. absurd (no_draws before after (side, end) e) }
+  interleaved ((side, r) ∷ drawn) s t l i mixed =
+      let one = leaves side s mixed.0 r l i mixed.1 in
+      let rest = interleaved drawn mixed.0 t one.0 one.1 mixed.2 in
+      record {
+        left = rest.left;
+        listed = rest.listed;
+        makes = one.2.makes (came_in_front drawn) rest.left (came_behind drawn) rest.makes ∙ ap (λ j. j ++ rest.left ++ reverse (with_behind side r (came_behind drawn))) (front_is side r drawn) ∙ ap (λ j. came_in_front ((side, r) ∷ drawn) ++ rest.left ++ reverse j) (behind_is side r drawn);
+        ends = empty_at_end l one.0 side r drawn one.2 rest.ends;
+      }
+
+-- Draws from both ends of what lists l interleave l.
+pub interleaves : {S A E : Type 0} {front back : S → Answered A E → S → Type 0} {s t : S} {l : List (Result A E)} (drawn : List (Side × Answered A E)) → ListsBothEnds front back s l → RunAtEnds front back s drawn t → Interleaves front back l drawn t
+interleaves {front = front} {back = back} {s = s} {t = t} {l = l} drawn i mixed = interleaved front back drawn s t l i mixed

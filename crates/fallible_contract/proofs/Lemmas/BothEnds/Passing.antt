@@ -1,0 +1,213 @@
+-- What an adapter that lets answers pass lists from both ends, from what its source lists.
+use Rattle.std.specs.Prelude.{◌≡◌, Option, Result, Some, None, Ok, Err, List, [], ◌∷◌, ◌++◌, map, reverse, All}
+use Rattle.std.specs.List.{filter_map, cons_option}
+use Rattle.std.proofs.Common.{refl, sym, ap, subst, ◌∙◌}
+use Rattle.std.proofs.lemmas.List.{append-nil, reverse-append, map-append}
+use Rattle.std.proofs.lemmas.List.Elements.{filter_map-append, All-nil, All-cons, All-head, All-tail, All-append}
+use Rattle.fallible_contract.specs.Traces.{Answered, item, end}
+use Rattle.fallible_contract.specs.Passing.{passing_step}
+use Rattle.fallible_contract.specs.Closures.{Calls, Steady, call_in}
+use Rattle.fallible_contract.specs.declared.passing.Outcome.{Outcome}
+use Rattle.fallible_contract.specs.declared.passing.Outcome.TheVariants.{Kept, LeftOut, Failure, End}
+use Rattle.fallible_contract.specs.Laws.Passing.{Passes, done, ends, fails, keeps, refuses, closes, leaves_out, to_passes}
+use Rattle.fallible_contract.specs.BothEnds.{TakesFirst, ListsBothEnds, item_listed, items_listed, source_result, source_list, outcome_listed, passed_result, passed_list}
+use Rattle.fallible_contract.specs.Lists.{Acts}
+use Rattle.fallible_contract.proofs.Lemmas.Lists.Passing.{by_outcome, passed}
+use Rattle.fallible_contract.proofs.Lemmas.BothEnds.{takes_front, listed_by_swapping, listed_swapped}
+
+-- ---- lists reversed
+
+pub map-reverse : {X Y : Type 0} (h : X → Y) (xs : List X) → map h (reverse xs) ≡ reverse (map h xs)
+map-reverse h [] = refl
+map-reverse h (x ∷ xs) = ap (map h) (reverse-append (x ∷ []) xs) ∙ map-append h (reverse xs) (x ∷ []) ∙ ap (λ l. l ++ h x ∷ []) (map-reverse h xs) ∙ sym (reverse-append (h x ∷ []) (map h xs))
+
+cons_reversed : {Y : Type 0} (o : Option Y) (ys : List Y) → reverse ys ++ cons_option o [] ≡ reverse (cons_option o ys)
+cons_reversed None ys = append-nil (reverse ys)
+cons_reversed (Some y) ys = sym (reverse-append (y ∷ []) ys)
+
+pub filter_map-reverse : {X Y : Type 0} (h : X → Option Y) (xs : List X) → filter_map h (reverse xs) ≡ reverse (filter_map h xs)
+filter_map-reverse h [] = refl
+filter_map-reverse h (x ∷ xs) = ap (filter_map h) (reverse-append (x ∷ []) xs) ∙ filter_map-append h (reverse xs) (x ∷ []) ∙ ap (λ l. l ++ cons_option (h x) []) (filter_map-reverse h xs) ∙ cons_reversed (h x) (filter_map h xs)
+
+pub All-reverse : {X : Type 0} (P : X → Type 0) (xs : List X) → All P xs → All P (reverse xs)
+All-reverse P [] a = a
+All-reverse P (x ∷ xs) a = subst (λ (l : List _). All P l) (sym (reverse-append (x ∷ []) xs)) (All-append P (reverse xs) (x ∷ []) (All-reverse P xs (All-tail P x xs a)) (All-cons P x [] (All-head P x xs a) (All-nil P)))
+
+-- ---- steady closures
+
+module _ {F X R : Type 0} (call : F → X → R → F → Type 0) where
+  -- at p the closure gives to the argument of the pair the answer beside it
+  abbrev pub GivesAt : F → F → X × R → Type 0
+  GivesAt p q c = (r : R) → call p c.0 r q → r ≡ c.1
+
+  -- a steady closure is steady after a call, and over fewer pairs
+  pub steady_after : (pairs : List (X × R)) (f g : F) (x : X) (v : R) → Steady call f pairs → call f x v g → Steady call g pairs
+  steady_after pairs f g x v steady called = λ made p q w. steady ((x, v) ∷ made) p q (g, called, w)
+
+  pub steady_rest : (c : X × R) (pairs : List (X × R)) (f : F) → Steady call f (c ∷ pairs) → Steady call f pairs
+  steady_rest c pairs f steady = λ made p q w. All-tail (GivesAt p q) c pairs (steady made p q w)
+
+  pub steady_answer : (c : X × R) (pairs : List (X × R)) (f g : F) (v : R) → Steady call f (c ∷ pairs) → call f c.0 v g → v ≡ c.1
+  steady_answer c pairs f g v steady called = All-head (GivesAt f g) c pairs (steady [] f g refl) v called
+
+  pub steady_none : (f : F) → Steady call f []
+  steady_none f = λ made p q w. All-nil (GivesAt p q)
+
+  pub steady_reversed : (pairs : List (X × R)) (f : F) → Steady call f pairs → Steady call f (reverse pairs)
+  steady_reversed pairs f steady = λ made p q w. All-reverse (GivesAt p q) pairs (steady made p q w)
+
+-- ---- draws from the front
+
+module _ {S F X R B E : Type 0} (front back : S → Answered X E → S → Type 0) (call : F → X → R → F → Type 0) (outcome : X → R → Outcome B E) (never_ends : (x : X) (v : R) → outcome x v ≡ End → ⊥) where
+  -- what is listed of the source and its closure
+  pub record Says (p : S × F) (l : List (Result B E)) : Type 0 where
+    pub asked : List (Result (X × R) E)
+    pub list_is : l ≡ passed_list outcome asked
+    pub listed : ListsBothEnds front back p.0 (source_list asked)
+    pub steady : Steady call p.1 (items_listed asked)
+
+  -- what is known after the closure was called on an item that was drawn
+  record AskedFirst (asked : List (Result (X × R) E)) (x : X) (v : R) (u : S) (g : F) : Type 0 where
+    others : List (Result (X × R) E)
+    list_is : passed_list outcome asked ≡ cons_option (outcome_listed (outcome x v)) (passed_list outcome others)
+    listed : ListsBothEnds front back u (source_list others)
+    steady : Steady call g (items_listed others)
+
+  asked_first : (asked : List (Result (X × R) E)) (s u : S) (f g : F) (x : X) (v : R) → ListsBothEnds front back s (source_list asked) → Steady call f (items_listed asked) → front s (item x) u → call f x v g → AskedFirst asked x v u g
+  asked_first [] s u f g x v i k step called = absurd (let e = (takes_front i step).0 in cc)
+  asked_first (Err e ∷ asked) s u f g x v i k step called = absurd (let e = (takes_front i step).0 in cc)
+  asked_first (Ok c ∷ asked) s u f g x v i k step called =
+      let h = takes_front i step in
+      let same : x ≡ c.0 = (let e = h.0 in cc) in
+      let answer = steady_answer call c (items_listed asked) f g v k (subst (λ (z : X). call f z v g) same called) in
+      record {
+        others = asked;
+        list_is = ap (λ (w : R). cons_option (outcome_listed (outcome c.0 w)) (passed_list outcome asked)) (sym answer) ∙ ap (λ (z : X). cons_option (outcome_listed (outcome z v)) (passed_list outcome asked)) (sym same);
+        listed = h.1;
+        steady = steady_after call (items_listed asked) f g x v (steady_rest call c (items_listed asked) f k) called;
+      }
+
+  says : (asked : List (Result (X × R) E)) (s : S) (f : F) → ListsBothEnds front back s (source_list asked) → Steady call f (items_listed asked) → Says (s, f) (passed_list outcome asked)
+  says asked s f i k = record { asked = asked; list_is = refl; listed = i; steady = k }
+
+  end_taken : (asked : List (Result (X × R) E)) (s u : S) (f : F) → ListsBothEnds front back s (source_list asked) → front s end u → TakesFirst (λ l. Says (u, f) l) end (passed_list outcome asked)
+  end_taken [] s u f i step = (refl, says [] u f (takes_front i step).1 (steady_none call f))
+  end_taken (Ok c ∷ asked) s u f i step = absurd (let e = (takes_front i step).0 in cc)
+  end_taken (Err e ∷ asked) s u f i step = absurd (let e = (takes_front i step).0 in cc)
+
+  failure_taken : (asked : List (Result (X × R) E)) (s u : S) (f : F) (d : E) → ListsBothEnds front back s (source_list asked) → Steady call f (items_listed asked) → front s (Err d) u → TakesFirst (λ l. Says (u, f) l) (Err d) (passed_list outcome asked)
+  failure_taken [] s u f d i k step = absurd (let e = (takes_front i step).0 in cc)
+  failure_taken (Ok c ∷ asked) s u f d i k step = absurd (let e = (takes_front i step).0 in cc)
+  failure_taken (Err e ∷ asked) s u f d i k step = let h = takes_front i step in let same : d ≡ e = (let q = h.0 in cc) in (ap (λ (z : E). Err z) same, says asked u f h.1 k)
+
+  -- the answer that an outcome is takes the first of the list
+  outcome_taken : (asked : List (Result (X × R) E)) (u : S) (g : F) (x : X) (v : R) (y : Result B E) (r : Answered B E) → AskedFirst asked x v u g → outcome_listed (outcome x v) ≡ Some y → ((k : List (Result B E)) → Says (u, g) k → TakesFirst (λ l. Says (u, g) l) r (y ∷ k)) → TakesFirst (λ l. Says (u, g) l) r (passed_list outcome asked)
+  outcome_taken asked u g x v y r a is taken = subst (λ (l : List (Result B E)). TakesFirst (λ l. Says (u, g) l) r l) (sym (a.list_is ∙ ap (λ (o : Option (Result B E)). cons_option o (passed_list outcome a.others)) is)) (taken (passed_list outcome a.others) (says a.others u g a.listed a.steady))
+
+  pub front_taken : (asked : List (Result (X × R) E)) (s t : S) (f g : F) (r : Answered B E) → ListsBothEnds front back s (source_list asked) → Steady call f (items_listed asked) → Passes front call outcome s f (r ∷ []) t g → TakesFirst (λ l. Says (t, g) l) r (passed_list outcome asked)
+  front_taken asked s t f g _ i k (ends step done) = end_taken asked s t f i step
+  front_taken asked s t f g _ i k (fails e step done) = failure_taken asked s t f e i k step
+  front_taken asked s t f g _ i k (keeps x v y step called is done) = outcome_taken asked t g x v (Ok y) (item y) (asked_first asked s t f g x v i k step called) (ap outcome_listed is) (λ l h. (refl, h))
+  front_taken asked s t f g _ i k (refuses x v e step called is done) = outcome_taken asked t g x v (Err e) (Err e) (asked_first asked s t f g x v i k step called) (ap outcome_listed is) (λ l h. (refl, h))
+  front_taken asked s t f g _ i k (closes x v step called is done) = absurd (never_ends x v is)
+  front_taken asked s t f g r i k (leaves_out {u = u} {h = h} x v step called is rest) =
+      let a = asked_first asked s u f h x v i k step called in
+      let same : passed_list outcome asked ≡ passed_list outcome a.others = a.list_is ∙ ap (λ (o : Outcome B E). cons_option (outcome_listed o) (passed_list outcome a.others)) is in
+      subst (λ (l : List (Result B E)). TakesFirst (λ l. Says (t, g) l) r l) (sym same) (front_taken a.others u t h g r a.listed a.steady rest)
+
+-- ---- draws from behind are draws from the front of the ends swapped
+
+module _ {S F X R B E : Type 0} (front back : S → Answered X E → S → Type 0) (call : F → X → R → F → Type 0) (outcome : X → R → Outcome B E) (never_ends : (x : X) (v : R) → outcome x v ≡ End → ⊥) where
+  abbrev SaysBoth : S × F → List (Result B E) → Type 0
+  SaysBoth = Says front back call outcome never_ends
+
+  says_swapped : (p : S × F) (l : List (Result B E)) → Says back front call outcome never_ends p l → SaysBoth p (reverse l)
+  says_swapped p l a = record {
+    asked = reverse a.asked;
+    list_is = ap reverse a.list_is ∙ sym (filter_map-reverse (passed_result outcome) a.asked);
+    listed = subst (λ (k : List (Result X E)). ListsBothEnds front back p.0 k) (sym (map-reverse source_result a.asked)) (listed_swapped a.listed);
+    steady = subst (λ (pairs : List (X × R)). Steady call p.1 pairs) (sym (filter_map-reverse item_listed a.asked)) (steady_reversed call (items_listed a.asked) p.1 a.steady);
+  }
+
+  passed_front : (p : S × F) (l : List (Result B E)) → SaysBoth p l → (r : Answered B E) (q : S × F) → passing_step front call outcome p r q → TakesFirst (λ k. SaysBoth q k) r l
+  passed_front p l a r q step = subst (λ (k : List (Result B E)). TakesFirst (λ j. SaysBoth q j) r k) (sym a.list_is) (front_taken front back call outcome never_ends a.asked p.0 q.0 p.1 q.1 r a.listed a.steady (to_passes step))
+
+module _ {S F X R B E : Type 0} (front back : S → Answered X E → S → Type 0) (call : F → X → R → F → Type 0) (outcome : X → R → Outcome B E) (never_ends : (x : X) (v : R) → outcome x v ≡ End → ⊥) where
+  -- The source lists what it was asked of, and the closure gives the answers beside the items, in whatever state: the adapter lists what becomes of them.
+  pub listed_passed : (asked : List (Result (X × R) E)) (s : S) (f : F) → Steady call f (items_listed asked) → ListsBothEnds front back s (source_list asked) → ListsBothEnds (passing_step front call outcome) (passing_step back call outcome) (s, f) (passed_list outcome asked)
+  listed_passed asked s f steady i = listed_by_swapping (passing_step front call outcome) (passing_step back call outcome) (Says front back call outcome never_ends) (Says back front call outcome never_ends) (says_swapped back front call outcome never_ends) (says_swapped front back call outcome never_ends) (passed_front front back call outcome never_ends) (passed_front back front call outcome never_ends) (s, f) (passed_list outcome asked) (record { asked = asked; list_is = refl; listed = i; steady = steady })
+
+-- ---- a closure in its slot
+
+module _ {F X R : Type 0} (call : F → X → R → F → Type 0) where
+  called_in_slot : (f : F) (x : X) (v : R) (slot : Option F) → call_in call (Some f) x v slot → (g : F) × (slot ≡ Some g) × call f x v g
+  called_in_slot f x v (Some g) called = (g, refl, called)
+  called_in_slot f x v None called = absurd called
+
+  calls_in_slot : (made : List (X × R)) (f : F) (slot : Option F) → Calls (call_in call) (Some f) made slot → (g : F) × (slot ≡ Some g) × Calls call f made g
+  calls_in_slot [] f slot w = (f, sym w, refl)
+  calls_in_slot (c ∷ made) f slot w =
+      let one = called_in_slot f c.0 c.1 w.0 w.1 in
+      let rest = calls_in_slot made one.0 slot (subst (λ (k : Option F). Calls (call_in call) k made slot) one.1 w.2) in
+      (rest.0, rest.1, (one.0, one.2, rest.2))
+
+  given_in_slot : (q : Option F) (g : F) (pairs : List (X × R)) → ((h : F) → All (GivesAt call g h) pairs) → All (GivesAt (call_in call) (Some g) q) pairs
+  given_in_slot (Some h) g pairs given = given h
+  given_in_slot None g pairs given = λ k d below r called. absurd called
+
+  -- a closure that is steady is steady in its slot
+  pub steady_in_slot : (pairs : List (X × R)) (f : F) → Steady call f pairs → Steady (call_in call) (Some f) pairs
+  steady_in_slot pairs f steady = λ made p q w.
+      let one = calls_in_slot made f p w in
+      subst (λ (slot : Option F). All (GivesAt (call_in call) slot q) pairs) (sym one.1)
+      (given_in_slot q one.0 pairs (λ h. steady made one.0 h one.2))
+
+module _ {S F X R B E : Type 0} (front back : S → Answered X E → S → Type 0) (call : F → X → R → F → Type 0) (outcome : X → R → Outcome B E) (never_ends : (x : X) (v : R) → outcome x v ≡ End → ⊥) where
+  -- what an adapter lists whose closure stands in its slot
+  pub listed_in_slot : (asked : List (Result (X × R) E)) (s : S) (f : F) → Steady call f (items_listed asked) → ListsBothEnds front back s (source_list asked)
+      → ListsBothEnds (passing_step front (call_in call) outcome) (passing_step back (call_in call) outcome) (s, Some f) (passed_list outcome asked)
+  listed_in_slot asked s f steady i = listed_passed front back (call_in call) outcome never_ends asked s (Some f) (steady_in_slot call (items_listed asked) f steady) i
+
+-- ---- a closure that acts as a function
+
+-- an item beside what h makes of it
+abbrev pub beside : {X R E : Type 0} → (X → R) → Result X E → Result (X × R) E
+beside h (Ok x) = Ok (x, h x)
+beside h (Err e) = Err e
+
+pub source_beside : {X R E : Type 0} (h : X → R) (l : List (Result X E)) → source_list (map (beside h) l) ≡ l
+source_beside h [] = refl
+source_beside h (Ok x ∷ l) = ap {B = List (Result _ _)} (λ k. Ok x ∷ k) (source_beside h l)
+source_beside h (Err e ∷ l) = ap {B = List (Result _ _)} (λ k. Err e ∷ k) (source_beside h l)
+
+module _ {F X R : Type 0} (call : F → X → R → F → Type 0) (f : F) (h : X → R) (acts : Acts call f h) where
+  -- calls leave it as it is
+  pub stays_acting : (made : List (X × R)) (p : F) → Calls call f made p → p ≡ f
+  stays_acting [] p w = sym w
+  stays_acting (c ∷ made) p w = stays_acting made p (subst (λ (g : F). Calls call g made p) (acts c.0 c.1 w.0 w.1).0 w.2)
+
+  given_acting : {E : Type 0} (q : F) (l : List (Result X E)) → All (GivesAt call f q) (items_listed (map (beside h) l))
+  given_acting q [] = All-nil (GivesAt call f q)
+  given_acting q (Ok x ∷ l) = All-cons (GivesAt call f q) (x, h x) (items_listed (map (beside h) l)) (λ r called. (acts x r q called).1) (given_acting q l)
+  given_acting q (Err e ∷ l) = given_acting q l
+
+  steady_acting : {E : Type 0} (l : List (Result X E)) → Steady call f (items_listed (map (beside h) l))
+  steady_acting l = λ made p q w. subst (λ (g : F). All (GivesAt call g q) (items_listed (map (beside h) l))) (sym (stays_acting made p w)) (given_acting q l)
+
+module _ {F X R B E : Type 0} (call : F → X → R → F → Type 0) (outcome : X → R → Outcome B E) (never_ends : (x : X) (v : R) → outcome x v ≡ End → ⊥) (f : F) (h : X → R) (acts : Acts call f h) where
+  outcome_acting : (o : Outcome B E) → (o ≡ End → ⊥) → (l : List (Result B E)) → cons_option (outcome_listed o) l ≡ by_outcome o l
+  outcome_acting (Kept y) not_end l = refl
+  outcome_acting LeftOut not_end l = refl
+  outcome_acting (Failure e) not_end l = refl
+  outcome_acting End not_end l = absurd (not_end refl)
+
+  passed_acting : (l : List (Result X E)) → passed_list outcome (map (beside h) l) ≡ passed outcome (λ (p : Unit {0}) x. h x) (λ p x. p) tt l
+  passed_acting [] = refl
+  passed_acting (Ok x ∷ l) = ap (cons_option (outcome_listed (outcome x (h x)))) (passed_acting l) ∙ outcome_acting (outcome x (h x)) (never_ends x (h x)) _
+  passed_acting (Err e ∷ l) = ap {B = List (Result B E)} (λ k. Err e ∷ k) (passed_acting l)
+
+  -- what an adapter lists whose closure acts as a function
+  pub listed_acting : {S : Type 0} (front back : S → Answered X E → S → Type 0) (s : S) (l : List (Result X E)) → ListsBothEnds front back s l
+      → ListsBothEnds (passing_step front (call_in call) outcome) (passing_step back (call_in call) outcome) (s, Some f) (passed outcome (λ (p : Unit {0}) x. h x) (λ p x. p) tt l)
+  listed_acting front back s l i = subst (λ (k : List (Result B E)). ListsBothEnds (passing_step front (call_in call) outcome) (passing_step back (call_in call) outcome) (s, Some f) k) (passed_acting l)
+      (listed_in_slot front back call outcome never_ends (map (beside h) l) s f (steady_acting call f h acts l) (subst (λ (k : List (Result X E)). ListsBothEnds front back s k) (sym (source_beside h l)) i))

@@ -1,6 +1,0 @@
--- Each item lowers the number.
-use Rattle.fallible_contract.proofs.Lemmas.ToCome.{items_at_most}
-use Rattle.fallible_iterator.proofs.laws.to_come.law_to_come.Goals as goal
-
-pub returns : goal.returns
-returns g c = λ s n trace t can bound ran. items_at_most g.met.I.FallibleIterator.lawful trace s t n can bound ran
