@@ -6,8 +6,8 @@ use Rattle.fallible_core.specs.declared.joining.chain.StillDrawn.{StillDrawn}
 use Rattle.fallible_core.specs.declared.joining.chain.StillDrawn.TheVariants.{Both, FirstAlone, SecondAlone}
 use Rattle.fallible_contract.specs.Traces.{Answered, end, is_end}
 use Rattle.fallible_contract.specs.Lists.{result_answer, chained}
-use Rattle.fallible_contract.specs.ListsBothEnds.{TakesFirst, ListsBothEnds}
-use Rattle.fallible_contract.proofs.Lemmas.ListsBothEnds.{takes_first, listed_by_swapping, listed_swapped}
+use Rattle.fallible_contract.specs.BothEnds.{TakesFirst, ListsBothEnds}
+use Rattle.fallible_contract.proofs.Lemmas.BothEnds.{takes_front, listed_by_swapping, listed_swapped}
 use Rattle.fallible_core.specs.Joining.Chain.{chain_step, chain_behind}
 
 -- One answer from behind: a draw of the chain of the second and the first, each drawn from behind.
@@ -36,10 +36,10 @@ module _ {S U A E : Type 0} (steps behind : S → Answered A E → S → Type 0)
   at_end s t v r (y ∷ a) b h j = absurd (result_no_end y end h.0 refl)
 
   taken : (p : S × U × StillDrawn) (l : List (Result A E)) → ChainLists p l → (r : Answered A E) (q : S × U × StillDrawn) → chain_step steps others p r q → TakesFirst (λ k. ChainLists q k) r l
-  taken (s, u, Both) l h r (t, v, left) (inl step) = rw (step.3, step.2, h.2) (before_end t u r h.0 h.1 step.1 (takes_first h.3 step.0) h.4)
-  taken (s, u, Both) l h r (t, v, left) (inr step) = rw (step.2, h.2) (at_end s t v r h.0 h.1 (takes_first h.3 step.0) (takes_first h.4 step.1))
-  taken (s, u, FirstAlone) l h r (t, v, left) step = rw step.2 (takes_first h step.0)
-  taken (s, u, SecondAlone) l h r (t, v, left) step = rw step.2 (takes_first h step.0)
+  taken (s, u, Both) l h r (t, v, left) (inl step) = rw (step.3, step.2, h.2) (before_end t u r h.0 h.1 step.1 (takes_front h.3 step.0) h.4)
+  taken (s, u, Both) l h r (t, v, left) (inr step) = rw (step.2, h.2) (at_end s t v r h.0 h.1 (takes_front h.3 step.0) (takes_front h.4 step.1))
+  taken (s, u, FirstAlone) l h r (t, v, left) step = rw step.2 (takes_front h step.0)
+  taken (s, u, SecondAlone) l h r (t, v, left) step = rw step.2 (takes_front h step.0)
 
 module _ {S U A E : Type 0} (steps behind : S → Answered A E → S → Type 0) (others others_behind : U → Answered A E → U → Type 0) where
   -- the same, seen from behind

@@ -7,8 +7,8 @@ use Rattle.fallible_core.proofs.bridges.unwrap.UnwrapIterator.next.Goals as goal
 pub unwrap-requires : goal.unwrap-requires
 unwrap-requires g c = no_failure g.I.FallibleIterator.contract _ _ c.next.result c.requires.1 c.next.ensures
 
-pub returns-clause-kept_by_draw : goal.returns-clause-kept_by_draw
-returns-clause-kept_by_draw g c =
+pub returns-clause-goes : goal.returns-clause-goes
+returns-clause-goes g c =
     let m = g.I.FallibleIterator.contract in
     progress m unwrap_parts g.met.I.FallibleIterator.lawful c.args.self.now (record { it = c.next.new.self }) c.unwrap.result c.requires.0 c.requires.1
     (subst (λ (r : _). m.steps c.args.self.now.it r c.next.new.self) c.unwrap.ensures c.next.ensures)

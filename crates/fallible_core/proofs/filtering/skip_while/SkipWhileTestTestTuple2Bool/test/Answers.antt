@@ -1,6 +1,6 @@
 -- The call on a reference to the item before the first false, and what its answer makes of the item.
 use Rattle.std.proofs.Common.{true, false, Ok, Err, Some, refl}
-use Rattle.fallible_core.proofs.filtering.skip_while.AskingTestTuple2Bool.test.Goals as goal
+use Rattle.fallible_core.proofs.filtering.skip_while.SkipWhileTestTestTuple2Bool.test.Goals as goal
 
 pub returns-in-Ok-true : goal.returns-in-Ok-true
 returns-in-Ok-true g c = (Some (Ok true), (c.if-found.false, record { shown = _; shows = refl; called = rw c.in-Ok-true.field-0-test at c.in-Ok-true.ensures }, refl), refl)
