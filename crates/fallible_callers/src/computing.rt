@@ -1,5 +1,6 @@
 //! What chains of calls compute.
-ghost use Rattle.std.specs.Prelude.{◌≡◌, ◌+◌, ◌*◌, ◌%◌, ◌^◌, ◌<◌, [], ◌∷◌, List, Result, Ok, Err, Option, Some, None, nat_lt, if◌then◌else◌};
+ghost use Rattle.std.specs.Prelude.{◌≡◌, ◌+◌, ◌*◌, ◌/◌, ◌%◌, ◌^◌, ◌<◌, [], ◌∷◌, List, Result, Ok, Err, Option, Some, None, nat_lt, if◌then◌else◌};
+ghost use Rattle.fallible_core.specs.OneToOne.MapWhile.{mapped_while};
 ghost use Rattle.fallible_contract.specs.Lists.{items, results, mapped, filtered, taken, counted, nth_of, folded, collected, CollectedAs, numbered, skipped_while, taken_while, zipped, scanned, chained, Lists};
 
 use fallible_iterator::{FallibleIterator, Fault, convert, once};
@@ -100,6 +101,17 @@ pub fn running_sums(alloc: Global, readings: Vec<Result<u32, u8>>) -> Result<Vec
             *sum = sum.wrapping_add(u64::from(reading));
             Ok(Some(*sum))
         })
+        .collect(alloc)
+}
+
+/// The halves of the readings up to the first one that is 0.
+pub fn halves(alloc: Global, readings: Vec<Result<u32, u8>>) -> Result<Vec<u32>, Fault<u8>>
+    ensures { CollectedAs (λ xs v. v.items ≡ xs)
+        (mapped_while (λ x. Ok (if nat_lt 0 x then Some (x / 2) else None)) (results readings.items))
+        result }
+{
+    convert(readings.into_iter())
+        .map_while(|reading: u32| Ok(if reading > 0 { Some(reading / 2) } else { None }))
         .collect(alloc)
 }
 

@@ -1,7 +1,7 @@
 //! What searches find, and which item is the best.
-ghost use Rattle.std.specs.Prelude.{◌≡◌, ◌*◌, Result, Ok, Option, nat_lt};
+ghost use Rattle.std.specs.Prelude.{◌≡◌, ◌+◌, ◌*◌, ◌%◌, ◌^◌, Result, Ok, Option, nat_lt};
 ghost use Rattle.std.specs.Ordering.{nat_cmp};
-ghost use Rattle.fallible_contract.specs.Lists.{results, mapped, filtered, numbered, skipped, taken, all_of, any_of, found, last_of, position_in, greatest, least, PartedAs, UnzippedAs};
+ghost use Rattle.fallible_contract.specs.Lists.{results, mapped, filtered, numbered, skipped, taken, all_of, any_of, found, last_of, position_in, reduced, greatest, least, PartedAs, UnzippedAs};
 
 use fallible_iterator::{FallibleIterator, Fault, convert};
 use std::alloc::Global;
@@ -30,6 +30,13 @@ pub fn place_above_100(readings: Vec<Result<u32, u8>>) -> Result<Option<usize>, 
     ensures { result ≡ position_in (λ x. Ok (nat_lt 100 x)) (results readings.items) }
 {
     convert(readings.into_iter()).position(|reading| Ok(reading > 100))
+}
+
+/// The sum of the readings modulo 2 ^ 32, or the first failure; none where there is no reading.
+pub fn sum_of_some(readings: Vec<Result<u32, u8>>) -> Result<Option<u32>, u8>
+    ensures { result ≡ reduced (λ s x. Ok ((s + x) % 2 ^ 32)) (results readings.items) }
+{
+    convert(readings.into_iter()).reduce(|sum, reading| Ok(sum.wrapping_add(reading)))
 }
 
 /// The greatest reading above 100, or the first failure.

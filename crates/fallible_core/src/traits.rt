@@ -90,7 +90,7 @@ pub trait FallibleIterator: Drop + Sized {
 
     /// One answer: an item, a failure or an end. The step of the type says which, and what is left, which may be drawn from again.
     ///
-    /// Asks the type's own condition, `can_next`, which the making of each source and adapter gives and each draw keeps.
+    /// Asks the type's own condition, `can_next`: a search finds it of what sources and adapters make, and each draw keeps it.
     fn next(&mut self) -> Result<Option<Self::Item>, Self::Error>
         requires { contract.can_next self.old }
         ensures { contract.steps self.old result self.new };
@@ -111,7 +111,7 @@ pub trait FallibleIterator: Drop + Sized {
         }
     }
 
-    // Draws until an end, a failure or a turn that stops, and hands the carried value back at each exit. Every fold goes through it, and a type may override it for all of them. It is no part of the surface.
+    /// For types that override folds: draws until an end, a failure or a turn that stops, and hands the carried value back at each exit. Every fold goes through it. A caller uses `try_fold`.
     fn try_fold_carrying<C, R, K: Turn<C, Self::Item, R>>(
         &mut self,
         init: C,
@@ -140,7 +140,9 @@ pub trait FallibleIterator: Drop + Sized {
         }
     }
 
-    /// The number of items up to the end, or the first failure, after which nothing is drawn. It asks that at most `usize::MAX` items are left.
+    /// The number of items up to the end, or the first failure.
+    ///
+    /// Asks that at most `usize::MAX` items are left.
     fn count(mut self) -> Result<usize, Self::Error>
     where
         Self::Item: Drop,
@@ -152,7 +154,7 @@ pub trait FallibleIterator: Drop + Sized {
         drain_of_exit(self.try_fold_carrying(0, &CountTurn))
     }
 
-    /// The last item up to the end; none where no item comes before it. The first failure is the answer, and nothing is drawn after it.
+    /// The last item up to the end; none where no item comes before it. The first failure is the answer.
     ///
     /// Asks that it is finite.
     fn last(mut self) -> Result<Option<Self::Item>, Self::Error>
@@ -167,6 +169,8 @@ pub trait FallibleIterator: Drop + Sized {
     }
 
     /// The item with n items before it. It draws at most n + 1 answers; a failure or an end that comes first is the answer, and nothing is drawn after it. What is left may be drawn from again.
+    ///
+    /// Asks that it may be drawn from.
     fn nth(&mut self, n: usize) -> Result<Option<Self::Item>, Self::Error>
     where
         Self::Item: Drop,
@@ -209,7 +213,9 @@ pub trait FallibleIterator: Drop + Sized {
         fold_of_exit(self.try_fold_carrying((init, f), &TryFoldTurn))
     }
 
-    /// `try_fold` on the iterator itself, where the closure fails with the iterator's own error. It asks what `try_fold` asks.
+    /// `try_fold` on the iterator itself, where the closure fails with the iterator's own error.
+    ///
+    /// Asks what `try_fold` asks.
     final fn fold<B, F>(mut self, init: B, f: F) -> Result<B, Self::Error>
     where
         B: Drop,
@@ -245,7 +251,7 @@ pub trait FallibleIterator: Drop + Sized {
         fold_of_exit(self.try_fold_carrying((None, f), &ReduceTurn))
     }
 
-    // Draws until the test accepts an item or fails on it, a failure or an end comes, and hands the carried value back at every exit. `find` goes through it, and a type may override it for both. It is no part of the surface.
+    /// For types that override searches: draws until the test accepts an item or fails on it, a failure or an end comes, and hands the carried value back at each exit. `find` goes through it, which a caller uses.
     fn find_carrying<C, K: Test<C, Self::Item, Self::Error>>(
         &mut self,
         init: C,
@@ -618,9 +624,9 @@ pub trait FallibleIterator: Drop + Sized {
         }
     }
 
-    /// Makes a collection of the items up to the end. The collection is made first, and then each item is pushed as it is drawn; no room is taken ahead. Of equal items a set keeps the first; a map keeps the first of equal keys, with its last value.
+    /// Makes a collection of the items up to the end. Of equal items a set keeps the first; a map keeps the first of equal keys, with its last value.
     ///
-    /// `Fault::Source` of the first failure, after which nothing is drawn. `Fault::Memory` where the collection refused: nothing was drawn where it could not be made, and else the item that it refused was the last one drawn. Of a collection that never refuses it is never answered.
+    /// `Fault::Source` of the first failure. `Fault::Memory` where the collection refused: nothing was drawn where it could not be made, and else the item that it refused was the last one drawn. Of a collection that never refuses it is never answered. That the collection is made before the first draw, and that no room is taken ahead, is tested and no part of the contract.
     ///
     /// Asks that it is finite.
     final fn collect<C: Collect<Self::Item>>(
@@ -648,9 +654,9 @@ pub trait FallibleIterator: Drop + Sized {
         }
     }
 
-    /// Makes two collections of the items up to the end: of those on which the predicate answers true, and of the others. Both collections are made first; then the predicate is called once on each item as it is drawn, and the item is pushed to its side. No room is taken ahead. Of equal items a set keeps the first; a map keeps the first of equal keys, with its last value.
+    /// Makes two collections of the items up to the end: of those on which the predicate answers true, and of the others. The predicate is called once on each item. Of equal items a set keeps the first; a map keeps the first of equal keys, with its last value.
     ///
-    /// `Fault::Source` of the first failure of the source or of the predicate, after which nothing is drawn. `Fault::Memory` where a collection refused: nothing was drawn where one could not be made, and else the item that was refused was the last one drawn. Of a collection that never refuses it is never answered.
+    /// `Fault::Source` of the first failure of the source or of the predicate. `Fault::Memory` where a collection refused: nothing was drawn where one could not be made, and else the item that was refused was the last one drawn. Of a collection that never refuses it is never answered.
     ///
     /// Asks that it is finite, and that the predicate may be called on each item that may come.
     final fn partition<B: Collect<Self::Item>, F>(
@@ -690,7 +696,9 @@ pub trait FallibleIterator: Drop + Sized {
         }
     }
 
-    /// The first parts of the pairs up to the end in one collection, and the second parts in another. Both collections are made first; then each pair is pushed as it is drawn, its first part before its second, and nothing is reserved ahead. Of equal items a set keeps the first; a map keeps the first of equal keys, with its last value. Where an item fails, nothing is drawn after it: `Fault::Source` is the first failure, before which all pairs were accepted; `Fault::Memory` says that a making was refused, and nothing was drawn, or that a push was refused, whose pair is the last that was drawn and is dropped whole.
+    /// The first parts of the pairs up to the end in one collection, and the second parts in another. Of equal items a set keeps the first; a map keeps the first of equal keys, with its last value.
+    ///
+    /// `Fault::Source` of the first failure, before which all pairs were accepted. `Fault::Memory` where a collection refused: nothing was drawn where one could not be made, and else the pair that was refused was the last one drawn, and is dropped whole. That both are made before the first draw is tested and no part of the contract.
     ///
     /// Asks that it is finite.
     final fn unzip<A, B, FromA: Collect<A>, FromB: Collect<B>>(
@@ -727,7 +735,7 @@ pub trait FallibleIterator: Drop + Sized {
         }
     }
 
-    /// Calls the closure on each item in order, up to the end. The first failure, of this iterator or of the closure, is the answer, and nothing is drawn after it.
+    /// Calls the closure on each item in order, up to the end. The first failure, of this iterator or of the closure, is the answer.
     ///
     /// Asks that it is finite, and that the closure may be called on each item that may come.
     final fn for_each<F>(mut self, f: F) -> Result<(), Self::Error>
@@ -842,7 +850,7 @@ pub trait FallibleIterator: Drop + Sized {
         find_of_exit(self.try_fold_carrying((0, f), &PositionTurn))
     }
 
-    /// The greatest item, of equal ones the last; none where no item comes before the end. The first failure is the answer, and nothing is drawn after it.
+    /// The greatest item, of equal ones the last; none where no item comes before the end. The first failure is the answer.
     ///
     /// Asks that it is finite.
     final fn max(self) -> Result<Option<Self::Item>, Self::Error>
@@ -859,7 +867,7 @@ pub trait FallibleIterator: Drop + Sized {
         best_by(self, Ordering::Greater, compare)
     }
 
-    /// The least item, of equal ones the last; none where no item comes before the end. The first failure is the answer, and nothing is drawn after it.
+    /// The least item, of equal ones the last; none where no item comes before the end. The first failure is the answer.
     ///
     /// Asks that it is finite.
     final fn min(self) -> Result<Option<Self::Item>, Self::Error>
@@ -876,7 +884,7 @@ pub trait FallibleIterator: Drop + Sized {
         best_by(self, Ordering::Less, compare)
     }
 
-    /// The item of the greatest key, of equal ones the last; none where no item comes before the end. The closure makes the key of each item once, in order. The first failure, of this iterator or of the closure, is the answer, and nothing is drawn after it.
+    /// The item of the greatest key, of equal ones the last; none where no item comes before the end. The closure makes the key of each item once, in order. The first failure, of this iterator or of the closure, is the answer.
     ///
     /// Asks that it is finite, and that the closure may be called on each item that may come.
     final fn max_by_key<B, F>(self, f: F) -> Result<Option<Self::Item>, Self::Error>
@@ -895,7 +903,7 @@ pub trait FallibleIterator: Drop + Sized {
         without_key(best_by_key(self, Ordering::Greater, f))
     }
 
-    /// The item of the least key, of equal ones the last; none where no item comes before the end. The closure makes the key of each item once, in order. The first failure, of this iterator or of the closure, is the answer, and nothing is drawn after it.
+    /// The item of the least key, of equal ones the last; none where no item comes before the end. The closure makes the key of each item once, in order. The first failure, of this iterator or of the closure, is the answer.
     ///
     /// Asks that it is finite, and that the closure may be called on each item that may come.
     final fn min_by_key<B, F>(self, f: F) -> Result<Option<Self::Item>, Self::Error>
@@ -914,7 +922,7 @@ pub trait FallibleIterator: Drop + Sized {
         without_key(best_by_key(self, Ordering::Less, f))
     }
 
-    /// The greatest item by the closure, which is called on the best item so far and the next one; of equal ones the last, and none where no item comes before the end. The first failure, of this iterator or of the closure, is the answer, and nothing is drawn after it.
+    /// The greatest item by the closure, which is called on the best item so far and the next one; of equal ones the last, and none where no item comes before the end. The first failure, of this iterator or of the closure, is the answer.
     ///
     /// Asks that it is finite, and that the closure may be called on the best item so far and each item that may come.
     final fn max_by<F>(self, f: F) -> Result<Option<Self::Item>, Self::Error>
@@ -932,7 +940,7 @@ pub trait FallibleIterator: Drop + Sized {
         best_by(self, Ordering::Greater, f)
     }
 
-    /// The least item by the closure, which is called on the best item so far and the next one; of equal ones the last, and none where no item comes before the end. The first failure, of this iterator or of the closure, is the answer, and nothing is drawn after it.
+    /// The least item by the closure, which is called on the best item so far and the next one; of equal ones the last, and none where no item comes before the end. The first failure, of this iterator or of the closure, is the answer.
     ///
     /// Asks that it is finite, and that the closure may be called on the best item so far and each item that may come.
     final fn min_by<F>(self, f: F) -> Result<Option<Self::Item>, Self::Error>
@@ -950,7 +958,9 @@ pub trait FallibleIterator: Drop + Sized {
         best_by(self, Ordering::Less, f)
     }
 
-    /// How the two compare by the order of their items: as the first two items that aren't equal, and where there are none, the side that ends alone is less. It draws in rounds, this iterator and then the other, until a failure, an end or two items that decide, and nothing after that; where this one ended, the other is still drawn. The failure that comes first is the answer: in each round one of this iterator before one of the other, which is not drawn then.
+    /// How the two compare by the order of their items: as the first two items that aren't equal; where there are none, the side that ends alone is less.
+    ///
+    /// Draws in rounds, this iterator and then the other, until a failure, an end or two items that decide. Where this one ended, the other is still drawn in that round. The failure that comes first is the answer: in each round one of this iterator before one of the other, which is not drawn then.
     ///
     /// Asks that both sides may be drawn from, and that one of them is finite.
     final fn cmp<I>(self, other: I) -> Result<Ordering, Self::Error>
@@ -968,9 +978,9 @@ pub trait FallibleIterator: Drop + Sized {
         ordered(answer)
     }
 
-    /// How the two compare by the order of their items: as the first two items that aren't equal, none where those have no order, and where there are none, the side that ends alone is less. It draws in rounds, this iterator and then the other, until a failure, an end or two items that decide, and nothing after that; where this one ended, the other is still drawn. The failure that comes first is the answer: in each round one of this iterator before one of the other, which is not drawn then.
+    /// How the two compare by the order of their items: as the first two items that aren't equal, none where those have no order, and where there are none, the side that ends alone is less.
     ///
-    /// Asks that both sides may be drawn from, and that one of them is finite.
+    /// Draws, fails and asks as `cmp` does.
     final fn partial_cmp<I>(self, other: I) -> Result<Option<Ordering>, Self::Error>
     where
         I: IntoFallibleIterator<Item = Self::Item, Error = Self::Error>,
@@ -985,9 +995,9 @@ pub trait FallibleIterator: Drop + Sized {
         compare::<Self, I::IntoFallibleIter, ByPartialCmp>(self, other.into_fallible_iter())
     }
 
-    /// Whether the two give equal items, one by one, and end together. It draws in rounds, this iterator and then the other, until a failure, an end or two items that decide, and nothing after that; where this one ended, the other is still drawn. The failure that comes first is the answer: in each round one of this iterator before one of the other, which is not drawn then.
+    /// Whether the two give equal items, one by one, and end together.
     ///
-    /// Asks that both sides may be drawn from, and that one of them is finite.
+    /// Draws, fails and asks as `cmp` does.
     final fn eq<I>(self, other: I) -> Result<bool, Self::Error>
     where
         I: IntoFallibleIterator<Item = Self::Item, Error = Self::Error>,
@@ -1003,9 +1013,9 @@ pub trait FallibleIterator: Drop + Sized {
         read_eq(answer)
     }
 
-    /// Whether the two differ: the opposite of `eq`. It draws in rounds, this iterator and then the other, until a failure, an end or two items that decide, and nothing after that; where this one ended, the other is still drawn. The failure that comes first is the answer: in each round one of this iterator before one of the other, which is not drawn then.
+    /// Whether the two differ: the opposite of `eq`.
     ///
-    /// Asks that both sides may be drawn from, and that one of them is finite.
+    /// Draws, fails and asks as `cmp` does.
     final fn ne<I>(self, other: I) -> Result<bool, Self::Error>
     where
         I: IntoFallibleIterator<Item = Self::Item, Error = Self::Error>,
@@ -1021,9 +1031,9 @@ pub trait FallibleIterator: Drop + Sized {
         read_ne(answer)
     }
 
-    /// Whether this one is less than the other, by `partial_cmp`; false where two items have no order. It draws in rounds, this iterator and then the other, until a failure, an end or two items that decide, and nothing after that; where this one ended, the other is still drawn. The failure that comes first is the answer: in each round one of this iterator before one of the other, which is not drawn then.
+    /// Whether this one is less than the other, by `partial_cmp`; false where two items have no order.
     ///
-    /// Asks that both sides may be drawn from, and that one of them is finite.
+    /// Draws, fails and asks as `cmp` does.
     final fn lt<I>(self, other: I) -> Result<bool, Self::Error>
     where
         I: IntoFallibleIterator<Item = Self::Item, Error = Self::Error>,
@@ -1042,9 +1052,9 @@ pub trait FallibleIterator: Drop + Sized {
         read_lt(answer)
     }
 
-    /// Whether this one is less than the other or equal, by `partial_cmp`; false where two items have no order. It draws in rounds, this iterator and then the other, until a failure, an end or two items that decide, and nothing after that; where this one ended, the other is still drawn. The failure that comes first is the answer: in each round one of this iterator before one of the other, which is not drawn then.
+    /// Whether this one is less than the other or equal, by `partial_cmp`; false where two items have no order.
     ///
-    /// Asks that both sides may be drawn from, and that one of them is finite.
+    /// Draws, fails and asks as `cmp` does.
     final fn le<I>(self, other: I) -> Result<bool, Self::Error>
     where
         I: IntoFallibleIterator<Item = Self::Item, Error = Self::Error>,
@@ -1063,9 +1073,9 @@ pub trait FallibleIterator: Drop + Sized {
         read_le(answer)
     }
 
-    /// Whether this one is greater than the other, by `partial_cmp`; false where two items have no order. It draws in rounds, this iterator and then the other, until a failure, an end or two items that decide, and nothing after that; where this one ended, the other is still drawn. The failure that comes first is the answer: in each round one of this iterator before one of the other, which is not drawn then.
+    /// Whether this one is greater than the other, by `partial_cmp`; false where two items have no order.
     ///
-    /// Asks that both sides may be drawn from, and that one of them is finite.
+    /// Draws, fails and asks as `cmp` does.
     final fn gt<I>(self, other: I) -> Result<bool, Self::Error>
     where
         I: IntoFallibleIterator<Item = Self::Item, Error = Self::Error>,
@@ -1084,9 +1094,9 @@ pub trait FallibleIterator: Drop + Sized {
         read_gt(answer)
     }
 
-    /// Whether this one is greater than the other or equal, by `partial_cmp`; false where two items have no order. It draws in rounds, this iterator and then the other, until a failure, an end or two items that decide, and nothing after that; where this one ended, the other is still drawn. The failure that comes first is the answer: in each round one of this iterator before one of the other, which is not drawn then.
+    /// Whether this one is greater than the other or equal, by `partial_cmp`; false where two items have no order.
     ///
-    /// Asks that both sides may be drawn from, and that one of them is finite.
+    /// Draws, fails and asks as `cmp` does.
     final fn ge<I>(self, other: I) -> Result<bool, Self::Error>
     where
         I: IntoFallibleIterator<Item = Self::Item, Error = Self::Error>,
@@ -1117,7 +1127,7 @@ pub trait FallibleIterator: Drop + Sized {
         }
     }
 
-    /// Begins anew at each end, with a clone of this iterator, which is kept. It clones once now, for the first run, and draws nothing; where that clone is refused, this iterator is dropped and the answer is `Err(AllocError)`. A clone that is refused later is a failure, after which the run goes on.
+    /// Begins anew at each end, with a clone of this iterator, which is kept. It clones now, for the first run, and draws nothing; where that clone is refused, this iterator is dropped and the answer is `Err(AllocError)`. A clone that is refused later is a failure, after which the run goes on.
     ///
     /// Asks that each of its clones may be drawn from, as is so where clones equal their originals. It states no bound, so it is drained through `take`.
     final fn cycle(self) -> Result<Cycle<Self>, AllocError>

@@ -146,6 +146,25 @@ fn inspect_folds_by_one_fold(rt: HostRuntime) {
 }
 
 #[test]
+fn map_while_folds_by_one_fold(rt: HostRuntime) {
+    let log = Log::new();
+    let answers = [Ok(1), Ok(2), Ok(3)];
+    let mut it = counted(&answers, &log).map_while(|x: u32| if x < 3 {
+        Ok(Some(x))
+    } else {
+        Ok(None)
+    });
+    assert_eq!(rt;
+        it.try_fold(
+            0,
+            |sum: u32, x: u32| Ok::<u32, TestError>(sum.wrapping_add(x))
+        ),
+        Ok(3)
+    );
+    assert_eq!(rt; log.read(), [0, 0, 1, 0, 0, 0, 0, 0]);
+}
+
+#[test]
 fn cloned_folds_by_one_fold(rt: HostRuntime) {
     let log = Log::new();
     let numbers = [1, 2];

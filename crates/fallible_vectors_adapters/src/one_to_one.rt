@@ -96,6 +96,38 @@ fn nth_of_enumerate_counts_the_items_that_it_drew(rt: HostRuntime) {
     assert_eq!(rt; [it.nth(1), it.next()], [Err(9), Ok(Some((1, 6)))]);
 }
 
+// The half of an item, none of 0, and a failure of 7.
+fn half(x: u32) -> Result<Option<u32>, u32> {
+    match x {
+        0 => Ok(None),
+        7 => Err(1),
+        x => Ok(Some(x / 2)),
+    }
+}
+
+#[test]
+fn map_while_ends_at_a_none_and_goes_on(rt: HostRuntime) -> Result<(), Fail> {
+    let answers: [Result<u32, u32>; 5] = [Ok(4), Ok(0), Err(9), Ok(7), Ok(6)];
+    let mut it = convert(answers.iter().copied()).map_while(half);
+    assert_eq!(rt; it.size_hint(), (0, Some(5)));
+    expect_answers(
+        &rt,
+        &mut it,
+        &[Item(2), End, Failure(9), Failure(1), Item(3), End],
+    )
+}
+
+#[test]
+fn a_fold_of_map_while_stops_at_a_none(rt: HostRuntime) {
+    let answers: [Result<u32, u32>; 4] = [Ok(4), Ok(8), Ok(0), Ok(6)];
+    let mut it = convert(answers.iter().copied()).map_while(half);
+    assert_eq!(rt;
+        it.by_ref().fold(0, |sum: u32, x| Ok(sum.wrapping_add(x))),
+        Ok(6)
+    );
+    assert_eq!(rt; it.next(), Ok(Some(3)));
+}
+
 #[test]
 fn scan_goes_on_after_a_none(rt: HostRuntime) {
     let answers: [Result<u32, ()>; 4] = [Ok(1), Ok(2), Ok(9), Ok(3)];

@@ -9,11 +9,12 @@ use fallible_callers::bridging::{
 };
 use fallible_callers::computing::{
     above_100, above_100_of_ten, all_up_to_100, both_columns, collected_above_100,
-    doubled_above_1000, fold_of_one, fourth_above_100, places, products, running_sums, sum,
+    doubled_above_1000, fold_of_one, fourth_above_100, halves, places, products, running_sums, sum,
 };
 use fallible_callers::consuming::{
     all_above_100, any_above_100, first_above_100, greatest_above_100, greatest_double_of_ten,
-    last_above_100, least_double_above_1000, parted_at_100, place_above_100, two_columns,
+    last_above_100, least_double_above_1000, parted_at_100, place_above_100, sum_of_some,
+    two_columns,
 };
 use fallible_callers::drawing::{draw_all, second_if_above, third_draw, third_of};
 use fallible_callers::generic::{mean, mean_of_nest, sum_of_nest};
@@ -119,11 +120,20 @@ where
 }
 
 #[test]
+fn a_sum_from_the_first_reading_on(rt: HostRuntime) -> Result<(), Fail> {
+    assert_eq!(rt; sum_of_some(good_readings(rt.alloc())?), Ok(Some(1206)));
+    assert_eq!(rt; sum_of_some(readings(rt.alloc())?), Err(9));
+    Ok(())
+}
+
+#[test]
 fn collections(rt: HostRuntime) -> Result<(), Fail> {
     let above = collected_above_100(rt.alloc(), good_readings(rt.alloc())?);
     expect_made(&rt, above, &[600, 501]);
     let sums = running_sums(rt.alloc(), good_readings(rt.alloc())?);
     expect_made(&rt, sums, &[5, 605, 705, 1206]);
+    let halves = halves(rt.alloc(), good_readings(rt.alloc())?);
+    expect_made(&rt, halves, &[2, 300, 50, 250]);
     let seen = places(rt.alloc(), good_readings(rt.alloc())?);
     expect_made(&rt, seen, &[(1, 600), (2, 100), (3, 501)]);
     Ok(())

@@ -25,6 +25,26 @@ fn last_of_a_chain_with_an_empty_back_is_the_front_s(rt: HostRuntime) {
     assert_eq!(rt; it.last(), Ok(Some(1)));
 }
 
+// What the items come to by their digits, where 7 is a failure, and what the next draw answers.
+fn reduced(answers: &[Result<u32, u32>]) -> (Result<Option<u32>, u32>, Result<Option<u32>, u32>) {
+    let mut it = convert(answers.iter().copied());
+    let digits = it.by_ref().reduce(|before, x| if x == 7 {
+        Err(1)
+    } else {
+        Ok(before.wrapping_mul(10).wrapping_add(x))
+    });
+    (digits, it.next())
+}
+
+#[test]
+fn reduce_begins_with_the_first_item(rt: HostRuntime) {
+    assert_eq!(rt; reduced(&[Ok(7), Ok(2), Ok(3)]), (Ok(Some(723)), Ok(None)));
+    assert_eq!(rt; reduced(&[Ok(5)]), (Ok(Some(5)), Ok(None)));
+    assert_eq!(rt; reduced(&[]), (Ok(None), Ok(None)));
+    assert_eq!(rt; reduced(&[Ok(5), Err(9), Ok(3)]), (Err(9), Ok(Some(3))));
+    assert_eq!(rt; reduced(&[Ok(5), Ok(7), Ok(3)]), (Err(1), Ok(Some(3))));
+}
+
 // The greatest item, and what the next draw answers.
 fn max_of(answers: &[Result<i32, u32>]) -> (Result<Option<i32>, u32>, Result<Option<i32>, u32>) {
     let mut it = convert(answers.iter().copied());

@@ -22,7 +22,7 @@ pub trait DoubleEndedFallibleIterator: FallibleIterator {
         requires { ends.can_next self.old }
         ensures { ends.steps self.old result self.new };
 
-    // Draws from behind until an end, a failure or a turn that stops, and hands the carried value back at each exit. Every fold from behind goes through it, and a type may override it for all of them. It is no part of the surface.
+    /// For types that override folds: draws from behind until an end, a failure or a turn that stops, and hands the carried value back at each exit. Every fold from behind goes through it. A caller uses `try_rfold`.
     fn try_rfold_carrying<C, R, K: Turn<C, Self::Item, R>>(
         &mut self,
         init: C,
@@ -73,7 +73,9 @@ pub trait DoubleEndedFallibleIterator: FallibleIterator {
         fold_of_exit(self.try_rfold_carrying((init, f), &TryFoldTurn))
     }
 
-    /// `try_rfold` on the iterator itself, where the closure fails with the iterator's own error. It asks what `try_rfold` asks.
+    /// `try_rfold` on the iterator itself, where the closure fails with the iterator's own error.
+    ///
+    /// Asks what `try_rfold` asks.
     final fn rfold<B, F>(mut self, init: B, f: F) -> Result<B, Self::Error>
     where
         B: Drop,
