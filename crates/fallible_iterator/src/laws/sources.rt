@@ -48,7 +48,7 @@ pub fn law_back_into_fallible<T, I: std::iter::DoubleEndedIterator<Item = T>>()
     ensures trace { TracesAre into_fallible_parts
         ⟦<IntoFallible<I> as DoubleEndedFallibleIterator>⟧.ends.steps
         (IntoFallibleTrace I.can_next_back I.next_back_gives I.remaining) }
-    ensures lists_second { (s : IntoFallible I) (l : List T)
+    ensures lists_back { (s : IntoFallible I) (l : List T)
         → RunsReadBehind I.next_back_gives (λ x. x) (into_fallible_parts s) l
         → Lists ⟦<IntoFallible<I> as DoubleEndedFallibleIterator>⟧.ends.steps s
         (reversed (items l)) }

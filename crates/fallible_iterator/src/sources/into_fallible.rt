@@ -83,7 +83,7 @@ impl<T, I: std::iter::DoubleEndedIterator<Item = T>> IntoFallible<I> {
         ensures lists { (l : List (Result T Infallible))
             → Lists ⟦<IntoFallible<I> as DoubleEndedFallibleIterator>⟧.ends.steps self l
             → Lists ⟦<Rev<IntoFallible<I>> as FallibleIterator>⟧.contract.steps result l }
-        ensures lists_second { (l : List T)
+        ensures lists_back { (l : List T)
             → RunsReadBehind I.next_back_gives (λ x. x) (into_fallible_parts self) l
             → Lists ⟦<Rev<IntoFallible<I>> as FallibleIterator>⟧.contract.steps result
             (reversed (items l)) }
