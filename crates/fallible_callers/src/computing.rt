@@ -107,7 +107,8 @@ pub fn running_sums(alloc: Global, readings: Vec<Result<u32, u8>>) -> Result<Vec
 /// The halves of the readings up to the first one that is 0.
 pub fn halves(alloc: Global, readings: Vec<Result<u32, u8>>) -> Result<Vec<u32>, Fault<u8>>
     ensures { CollectedAs (λ xs v. v.items ≡ xs)
-        (mapped_while (λ x. Ok (if nat_lt 0 x then Some (x / 2) else None)) (results readings.items))
+        (mapped_while (λ x. Ok (if nat_lt 0 x then Some (x / 2) else None))
+        (results readings.items))
         result }
 {
     convert(readings.into_iter())

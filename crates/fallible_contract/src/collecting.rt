@@ -101,7 +101,8 @@ impl<'a, A: Drop, E, B: Collect<A>, F: FnMut(&A) -> Result<bool, E>> Turn<
 > for PartitionTurn {
     ghost can_turn = { λ _ c x. takes_at F.FnMut c.0 x };
 
-    ghost turns = { λ _ c x r. IsPartitionTurnBehind (call_at F.FnMut) B.made B.push_refuses c x r };
+    ghost turns = { λ _ c x r. IsPartitionTurnBehind
+        (call_at F.FnMut) B.made B.push_refuses c x r };
 
     /// The predicate is asked once, and the item is pushed to the side of its answer.
     fn turn(
@@ -136,7 +137,8 @@ impl<'a, A, B: Drop, C: Collect<A>, D: Collect<B>> Turn<&'a mut (C, D), (A, B), 
     for UnzipTurn {
     ghost can_turn = { λ _ _ _. ⊤ };
 
-    ghost turns = { λ _ c x r. IsUnzipTurnBehind C.made D.made C.push_refuses D.push_refuses c x r };
+    ghost turns = { λ _ c x r. IsUnzipTurnBehind
+        C.made D.made C.push_refuses D.push_refuses c x r };
 
     /// The first part is pushed to the first collection, and then the second part to the second.
     fn turn(

@@ -329,7 +329,8 @@ pub trait FallibleIterator: Drop + Sized {
     final fn take_while<P>(self, predicate: P) -> TakeWhile<Self, P>
     where
         P: FnMut(&Self::Item) -> Result<bool, Self::Error>,
-        requires { IsCallable (call_at P.FnMut) (takes_at P.FnMut) (contract.may_give self) predicate }
+        requires { IsCallable (call_at P.FnMut)
+            (takes_at P.FnMut) (contract.may_give self) predicate }
         ensures parts { take_while_parts result ≡ ((self, Some predicate), false) }
         ensures lists { OverListWith (Acts (call_at P.FnMut) predicate) contract.steps self
             (λ h l. Lists (seen_as take_while_parts (take_while_contract contract P.FnMut)).steps

@@ -10,7 +10,8 @@ pub fn listed<T: Drop, E: Drop, const N: usize>(
     alloc: Global,
     answers: [Result<T, E>; N],
 ) -> Result<Convert<IntoIter<Result<T, E>>>, AllocError>
-    ensures can_next { IfOk result ⟦<Convert<IntoIter<Result<T, E>>> as FallibleIterator>⟧.contract.can_next }
+    ensures can_next { IfOk result
+        ⟦<Convert<IntoIter<Result<T, E>>> as FallibleIterator>⟧.contract.can_next }
     ensures ends { IfOk result
         ⟦<Convert<IntoIter<Result<T, E>>> as DoubleEndedFallibleIterator>⟧.ends.can_next }
     ensures finite { IfOk result

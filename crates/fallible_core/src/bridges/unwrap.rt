@@ -16,7 +16,8 @@ pub struct Unwrap<I> {
 impl<I: FallibleIterator> std::iter::Iterator for Unwrap<I> {
     type Item = I::Item;
 
-    ghost can_next = { λ s. I.contract.can_next (unwrap_parts s) × NeverFails I.contract (unwrap_parts s) };
+    ghost can_next = { λ s. I.contract.can_next (unwrap_parts s)
+        × NeverFails I.contract (unwrap_parts s) };
 
     ghost next_gives = { unwrap_steps I.contract.steps };
 

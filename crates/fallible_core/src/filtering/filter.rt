@@ -76,7 +76,8 @@ where
         rfold_in_slot(&mut self.it, &mut self.f, &FilterPass, init, turn)
     }
 
-    ghost lawful_ends = { lawful_ends_seen filter_parts (lawful_ends_filter F.FnMut I.lawful_ends) };
+    ghost lawful_ends = { lawful_ends_seen
+        filter_parts (lawful_ends_filter F.FnMut I.lawful_ends) };
 }
 
 // What becomes of an item by the predicate's answer.

@@ -140,9 +140,11 @@ fn fold_joined<
     turn: &K,
 ) -> Exit<C, U::Error, R>
 where
-    requires can_next { (flatten_contract O.contract U.into_gives U.IntoFallibleIter.contract).can_next
+    requires can_next { (flatten_contract O.contract U.into_gives
+        U.IntoFallibleIter.contract).can_next
         (outer.old, in_hand.old) }
-    requires finite { (flatten_contract O.contract U.into_gives U.IntoFallibleIter.contract).is_finite
+    requires finite { (flatten_contract O.contract U.into_gives
+        U.IntoFallibleIter.contract).is_finite
         (outer.old, in_hand.old) }
     requires callable { CallableCarrying
         (flatten_contract O.contract U.into_gives U.IntoFallibleIter.contract).steps
@@ -172,9 +174,11 @@ fn fold_outer<
     K: Turn<C, U::Item, R>,
 >(outer: &mut O, init: C, turn: &K) -> (Option<U::IntoFallibleIter>, Exit<C, U::Error, R>)
 where
-    requires can_next { (flatten_contract O.contract U.into_gives U.IntoFallibleIter.contract).can_next
+    requires can_next { (flatten_contract O.contract U.into_gives
+        U.IntoFallibleIter.contract).can_next
         (outer.old, None) }
-    requires finite { (flatten_contract O.contract U.into_gives U.IntoFallibleIter.contract).is_finite
+    requires finite { (flatten_contract O.contract U.into_gives
+        U.IntoFallibleIter.contract).is_finite
         (outer.old, None) }
     requires callable { CallableCarrying
         (flatten_contract O.contract U.into_gives U.IntoFallibleIter.contract).steps

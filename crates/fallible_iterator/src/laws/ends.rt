@@ -31,7 +31,8 @@ use std::alloc::AllocError;
 pub fn law_interleave<I: DoubleEndedFallibleIterator>()
     ensures { (s t : I) (l : List (Result I.Item I.Error))
         (drawn : List (Side × Answered I.Item I.Error))
-        → ListsBothEnds I.contract.steps I.ends.steps s l → RunAtEnds I.contract.steps I.ends.steps s drawn t
+        → ListsBothEnds I.contract.steps I.ends.steps s l
+        → RunAtEnds I.contract.steps I.ends.steps s drawn t
         → Interleaves I.contract.steps I.ends.steps l drawn t }
 {}
 
@@ -49,9 +50,11 @@ where
         (from_side Front (map item h.items ++ h.last ∷ [])) t }
     ensures fold_back { (s t : I) (b : B) (f : F) (r : Result B E)
         (h : Folded I.ends.steps (call_with F.FnMut) E.from_gives s b f r t)
-        → RunAtEnds I.contract.steps I.ends.steps s (from_side Back (map item h.items ++ h.last ∷ [])) t }
+        → RunAtEnds I.contract.steps
+        I.ends.steps s (from_side Back (map item h.items ++ h.last ∷ [])) t }
     ensures then_others { (s t u : I) (drawn others : List (Side × Answered I.Item I.Error))
-        → RunAtEnds I.contract.steps I.ends.steps s drawn t → RunAtEnds I.contract.steps I.ends.steps t others u
+        → RunAtEnds I.contract.steps I.ends.steps s drawn t
+        → RunAtEnds I.contract.steps I.ends.steps t others u
         → RunAtEnds I.contract.steps I.ends.steps s (drawn ++ others) u }
 {}
 
@@ -95,7 +98,8 @@ pub fn law_rev_rev<I: DoubleEndedFallibleIterator>()
         ⟦<Rev<Rev<I>> as FallibleIterator>⟧.contract.steps (Run I.contract.steps) }
     ensures back { TracesAre (λ s. rev_parts (rev_parts s))
         ⟦<Rev<Rev<I>> as DoubleEndedFallibleIterator>⟧.ends.steps (Run I.ends.steps) }
-    ensures both { DrawsTheSame (λ s. rev_parts (rev_parts s)) (RunAtEnds I.contract.steps I.ends.steps)
+    ensures both { DrawsTheSame
+        (λ s. rev_parts (rev_parts s)) (RunAtEnds I.contract.steps I.ends.steps)
         (RunAtEnds ⟦<Rev<Rev<I>> as FallibleIterator>⟧.contract.steps
         ⟦<Rev<Rev<I>> as DoubleEndedFallibleIterator>⟧.ends.steps) }
     ensures lists { ListsTheSame (λ s. rev_parts (rev_parts s))

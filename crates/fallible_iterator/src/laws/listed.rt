@@ -91,7 +91,8 @@ where
 /// `MapErr` lists what its closure answers on each failure of its source's list, in the failure's place.
 pub fn law_listed_map_err<I: DoubleEndedFallibleIterator, B, F: FnMut(I::Error) -> B>()
 where
-    ensures { ListsFailures map_err_parts (call_on F.FnMut) (ListsBothEnds I.contract.steps I.ends.steps)
+    ensures { ListsFailures map_err_parts
+        (call_on F.FnMut) (ListsBothEnds I.contract.steps I.ends.steps)
         (ListsBothEnds ⟦<MapErr<I, F> as FallibleIterator>⟧.contract.steps
         ⟦<MapErr<I, F> as DoubleEndedFallibleIterator>⟧.ends.steps) }
 {}
@@ -116,7 +117,8 @@ pub fn law_listed_rev<I: DoubleEndedFallibleIterator>()
 
 /// A `&mut I` and a `Box<I>` list just what the value behind them lists.
 pub fn law_listed_borrowed<'a, I: DoubleEndedFallibleIterator + 'a>()
-    ensures borrowed { ListsTheSame (λ (s : MutBor I). s.now) (ListsBothEnds I.contract.steps I.ends.steps)
+    ensures borrowed { ListsTheSame
+        (λ (s : MutBor I). s.now) (ListsBothEnds I.contract.steps I.ends.steps)
         (ListsBothEnds ⟦<&'a mut I as FallibleIterator>⟧.contract.steps
         ⟦<&'a mut I as DoubleEndedFallibleIterator>⟧.ends.steps) }
     ensures boxed { ListsTheSame (λ (s : Box I Global). s.value)
@@ -186,7 +188,8 @@ where
     ensures rev { ListsReversed rev_parts (ListsBothEnds I.contract.steps I.ends.steps)
         (ListsBothEnds ⟦<Rev<I> as FallibleIterator>⟧.contract.steps
         ⟦<Rev<I> as DoubleEndedFallibleIterator>⟧.ends.steps) }
-    ensures borrowed { ListsTheSame (λ (s : MutBor I). s.now) (ListsBothEnds I.contract.steps I.ends.steps)
+    ensures borrowed { ListsTheSame
+        (λ (s : MutBor I). s.now) (ListsBothEnds I.contract.steps I.ends.steps)
         (ListsBothEnds ⟦<&'a mut I as FallibleIterator>⟧.contract.steps
         ⟦<&'a mut I as DoubleEndedFallibleIterator>⟧.ends.steps) }
     ensures boxed { ListsTheSame (λ (s : Box I Global). s.value)

@@ -38,7 +38,8 @@ pub fn law_hints_lists<I: FallibleIterator>()
 /// Where it lists the list from both ends, the hint brackets what comes from the front and what comes from behind.
 pub fn law_hints_listed<I: DoubleEndedFallibleIterator>()
     ensures front { (s : I) (l : List (Result I.Item I.Error)) (h : ℕ × Option ℕ)
-        → ListsBothEnds I.contract.steps I.ends.steps s l → Bounds h l → Brackets I.contract.steps s h }
+        → ListsBothEnds I.contract.steps I.ends.steps s l → Bounds h l
+        → Brackets I.contract.steps s h }
     ensures back { (s : I) (l : List (Result I.Item I.Error)) (h : ℕ × Option ℕ)
         → ListsBothEnds I.contract.steps I.ends.steps s l → Bounds h l → Brackets I.ends.steps s h }
 {}
