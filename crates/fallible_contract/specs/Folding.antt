@@ -1,5 +1,5 @@
 -- Folds of an adapter through its source's own fold: the source's turn is the adapter's outcome on an item, and then the caller's turn on what is kept of it.
-use Rattle.std.specs.Prelude.{◌≡◌, Result, Ok, Err}
+use Rattle.std.specs.Prelude.{◌≡◌}
 use Rattle.std.specs.declared.ops.ControlFlow.{ControlFlow}
 use Rattle.std.specs.declared.ops.ControlFlow.TheVariants.{Continue, Break}
 use Rattle.fallible_contract.specs.declared.folds.Exit.{Exit}

@@ -1,6 +1,5 @@
 -- The best of the items by a fold that keeps the best so far.
 use Rattle.std.specs.Prelude.{◌≡◌, List, [], ◌∷◌, ◌++◌, map, drop, Bool, true, false, cond, Option, Some, None, IsSomeAnd, Result, Ok, Err}
-use Rattle.std.specs.declared.ops.ControlFlow.TheVariants.{Continue}
 use Rattle.std.specs.List.{FoldsTo, last_or, zip}
 use Rattle.std.specs.Cmp.{IsTotalOrder, upto}
 use Rattle.std.specs.declared.cmp.Ordering.{Ordering}

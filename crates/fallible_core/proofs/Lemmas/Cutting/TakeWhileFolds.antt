@@ -8,8 +8,7 @@ use Rattle.std.proofs.Common.{refl, sym, ap, subst}
 use Rattle.fallible_contract.specs.declared.folds.Exit.{Exit}
 use Rattle.fallible_contract.specs.declared.folds.Exit.TheVariants.{Ended}
 use Rattle.fallible_contract.specs.Traces.{Answered, item}
-use Rattle.fallible_contract.specs.Closing.{closing_step}
-use Rattle.fallible_contract.specs.Closures.{IsCallable, IsCallableIn, Reaches, call_in, call_at, takes_at}
+use Rattle.fallible_contract.specs.Closures.{IsCallable, IsCallableIn, call_at, takes_at}
 use Rattle.fallible_contract.specs.Contract.{Contract, Lawful, seen_as}
 use Rattle.fallible_contract.specs.Folds.{HoldsAtEachTurn, carrying_turn, Carried}
 use Rattle.fallible_contract.specs.Folding.{FoldingTurn, FoldingTakes}
@@ -19,7 +18,7 @@ use Rattle.fallible_contract.proofs.Lemmas.Folding.{holds_while, carried_while, 
 use Rattle.fallible_contract.proofs.Lemmas.Folds.{carried_end}
 use Rattle.fallible_contract.proofs.Lemmas.Passing.{answer_passed}
 use Rattle.fallible_core.specs.declared.cutting.take_while.TakeWhile.{TakeWhile}
-use Rattle.fallible_core.specs.Cutting.TakeWhile.{take_while_outcome, taken_answer, is_refused, place_drawn, refusing_call, take_while_contract, take_while_parts}
+use Rattle.fallible_core.specs.Cutting.TakeWhile.{take_while_outcome, refusing_call, take_while_contract, take_while_parts}
 
 -- ---- calls of the predicate, beside whether one refused
 

@@ -1,5 +1,5 @@
 -- A fold of the source is one of `Peekable` where nothing is held, and one more item in front where an item is; a held end is a fold without a draw.
-use Rattle.std.specs.Prelude.{◌≡◌, Option, Result, Some, None, Ok, Err}
+use Rattle.std.specs.Prelude.{◌≡◌, Option, Some, None}
 use Rattle.std.specs.declared.ops.ControlFlow.{ControlFlow}
 use Rattle.std.specs.declared.ops.ControlFlow.TheVariants.{Continue, Break}
 use Rattle.std.proofs.Common.{refl, sym, subst}
