@@ -2,6 +2,7 @@
 ghost use Rattle.fallible_contract.specs.Contract.{Stays};
 ghost use Rattle.fallible_contract.specs.Ends.{from_back};
 
+use crate::calls::Calls;
 use crate::counted::{Counted, Log};
 use crate::shared::{add_up, counted, hundred_more, is_even, put_behind, tens_of_even};
 use fallible_iterator::{DoubleEndedFallibleIterator, FallibleIterator, convert};
@@ -25,7 +26,7 @@ fn rev_counts_by_one_fold_from_behind(rt: HostRuntime) {
     let log = Log::new();
     let answers = [Ok(0), Err(1), Ok(2), Err(3)];
     assert_eq!(rt; counted(&answers, &log).rev().count(), Err(3));
-    assert_eq!(rt; log.read(), [0, 0, 0, 1, 0, 0, 0, 0]);
+    assert_eq!(rt; log.calls(), Calls::none().rfolds(1));
 }
 
 // Fails with its first item.
@@ -40,7 +41,7 @@ fn rev_folds_by_one_fold_of_the_other_end(rt: HostRuntime) {
     let mut it = counted(&answers, &log).rev();
     assert_eq!(rt; it.try_rfold(0, stop), Err(1));
     assert_eq!(rt; it.try_fold(0, stop), Err(3));
-    assert_eq!(rt; log.read(), [0, 0, 1, 1, 0, 0, 0, 0]);
+    assert_eq!(rt; log.calls(), Calls::none().folds(1).rfolds(1));
 }
 
 #[test]
@@ -62,7 +63,7 @@ fn map_stopped_from_behind_goes_on_at_both_ends(rt: HostRuntime) {
     assert_eq!(rt; on, 32);
     assert_eq!(rt; it.draw_back(), Ok(Some(23)));
     assert_eq!(rt; it.draw_front(), Ok(Some(14)));
-    assert_eq!(rt; log.read(), [1, 1, 0, 1, 0, 0, 0, 0]);
+    assert_eq!(rt; log.calls(), Calls::none().nexts(1).next_backs(1).rfolds(1));
 }
 
 #[test]
@@ -72,10 +73,10 @@ fn filter_draws_and_folds_from_behind_by_folds(rt: HostRuntime) {
     let mut it = counted(&answers, &log).filter(is_even);
     assert_eq!(rt; it.draw_back(), Ok(Some(4)));
     assert_eq!(rt; it.draw_back(), Ok(Some(2)));
-    assert_eq!(rt; log.read(), [0, 0, 0, 2, 0, 0, 0, 0]);
+    assert_eq!(rt; log.calls(), Calls::none().rfolds(2));
     let mut it = counted(&answers, &log).filter(is_even);
     assert_eq!(rt; it.try_rfold(0, put_behind), Ok(42));
-    assert_eq!(rt; log.read(), [0, 0, 0, 3, 0, 0, 0, 0]);
+    assert_eq!(rt; log.calls(), Calls::none().rfolds(3));
 }
 
 #[test]
@@ -85,11 +86,11 @@ fn references_and_boxes_pass_folds_from_behind_on(rt: HostRuntime) -> Result<(),
     let mut it = counted(&answers, &log);
     let mut borrowed = &mut it;
     assert_eq!(rt; digits_from_behind(&mut borrowed), Ok(65));
-    assert_eq!(rt; log.read(), [0, 0, 0, 1, 0, 0, 0, 0]);
+    assert_eq!(rt; log.calls(), Calls::none().rfolds(1));
     let answers = [Err(5), Ok(6)];
     let mut boxed = Box::new(rt.alloc(), counted(&answers, &log))?;
     assert_eq!(rt; digits_from_behind(&mut boxed), Err(5));
-    assert_eq!(rt; log.read(), [0, 0, 0, 2, 0, 0, 0, 0]);
+    assert_eq!(rt; log.calls(), Calls::none().rfolds(2));
     Ok(())
 }
 
@@ -107,8 +108,8 @@ fn chain_stopped_in_its_second_goes_on_there(rt: HostRuntime) {
     assert_eq!(rt; on, 4);
     assert_eq!(rt; it.next_back(), Ok(Some(3)));
     assert_eq!(rt; it.next(), Ok(Some(1)));
-    assert_eq!(rt; firsts.read(), [1, 0, 0, 0, 0, 0, 0, 0]);
-    assert_eq!(rt; seconds.read(), [0, 1, 0, 1, 0, 0, 0, 0]);
+    assert_eq!(rt; firsts.calls(), Calls::none().nexts(1));
+    assert_eq!(rt; seconds.calls(), Calls::none().next_backs(1).rfolds(1));
 }
 
 #[test]
@@ -122,7 +123,7 @@ fn cloned_folds_from_behind_by_one_fold(rt: HostRuntime) {
         |_: u32, x: u32| Err(TestError::Number(x)),
     );
     assert_eq!(rt; stopped, Err(TestError::Number(2)));
-    assert_eq!(rt; log.read(), [0, 0, 0, 1, 0, 0, 0, 0]);
+    assert_eq!(rt; log.calls(), Calls::none().rfolds(1));
 }
 
 #[test]
@@ -132,7 +133,7 @@ fn filter_map_draws_and_folds_from_behind_by_folds(rt: HostRuntime) {
     let mut it = counted(&answers, &log).filter_map(tens_of_even);
     assert_eq!(rt; it.draw_back(), Ok(Some(40)));
     assert_eq!(rt; it.try_rfold(0, add_up), Ok(20));
-    assert_eq!(rt; log.read(), [0, 0, 0, 2, 0, 0, 0, 0]);
+    assert_eq!(rt; log.calls(), Calls::none().rfolds(2));
 }
 
 // Fails with 9 on 1.
@@ -146,5 +147,5 @@ fn inspect_and_map_err_fold_from_behind_by_one_fold(rt: HostRuntime) {
     let answers = [Ok(1), Ok(2), Ok(3)];
     let mut it = counted(&answers, &log).inspect(look).map_err(hundred_more);
     assert_eq!(rt; it.try_rfold(0, add_up), Err(109));
-    assert_eq!(rt; log.read(), [0, 0, 0, 1, 0, 0, 0, 0]);
+    assert_eq!(rt; log.calls(), Calls::none().rfolds(1));
 }

@@ -6,6 +6,7 @@ ghost use Rattle.fallible_contract.specs.Laws.Contract.{lawful_seen};
 ghost use Rattle.fallible_contract.specs.Laws.Ends.{lawful_ends_seen};
 ghost use Rattle.fallible_scripts.specs.Counted.{counted_parts};
 
+use crate::calls::Calls;
 use fallible_contract::searching::Test;
 use fallible_iterator::folds::{Exit, Turn};
 use fallible_iterator::{DoubleEndedFallibleIterator, FallibleIterator};
@@ -47,18 +48,18 @@ impl Log {
         }
     }
 
-    /// The numbers, in the order of the fields.
-    pub fn read(&self) -> [u32; 8] {
-        [
-            self.nexts.get(),
-            self.next_backs.get(),
-            self.folds.get(),
-            self.rfolds.get(),
-            self.counts.get(),
-            self.lasts.get(),
-            self.nths.get(),
-            self.finds.get(),
-        ]
+    /// The numbers so far.
+    pub fn calls(&self) -> Calls {
+        Calls {
+            nexts: self.nexts.get(),
+            next_backs: self.next_backs.get(),
+            folds: self.folds.get(),
+            rfolds: self.rfolds.get(),
+            counts: self.counts.get(),
+            lasts: self.lasts.get(),
+            nths: self.nths.get(),
+            finds: self.finds.get(),
+        }
     }
 }
 

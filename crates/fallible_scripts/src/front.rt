@@ -1,6 +1,7 @@
 // Folds from the front go through the source's own.
 ghost use Rattle.fallible_contract.specs.Contract.{Stays};
 
+use crate::calls::Calls;
 use crate::counted::{Counted, Log};
 use crate::shared::{
     add_up, below_three, counted, hundred_more, is_even, numbers, stop, ten_times, tens_of_even,
@@ -37,7 +38,7 @@ fn map_folds_by_one_fold(rt: HostRuntime) {
     let answers = [Ok(1), Ok(2), Ok(3), Ok(4)];
     let mut it = counted(&answers, &log).map(ten_times);
     assert_eq!(rt; it.try_fold(0, add_up), Ok(100));
-    assert_eq!(rt; log.read(), [0, 0, 1, 0, 0, 0, 0, 0]);
+    assert_eq!(rt; log.calls(), Calls::none().folds(1));
 }
 
 #[test]
@@ -49,7 +50,7 @@ fn filter_draws_by_folds(rt: HostRuntime) {
         [it.draw(), it.draw(), it.draw()],
         [Ok(Some(2)), Ok(Some(4)), Ok(None)]
     );
-    assert_eq!(rt; log.read(), [0, 0, 3, 0, 0, 0, 0, 0]);
+    assert_eq!(rt; log.calls(), Calls::none().folds(3));
 }
 
 #[test]
@@ -58,7 +59,7 @@ fn filter_folds_by_one_fold(rt: HostRuntime) {
     let answers = [Ok(1), Ok(2), Ok(3), Ok(4)];
     let mut it = counted(&answers, &log).filter(is_even);
     assert_eq!(rt; it.try_fold(0, add_up), Ok(6));
-    assert_eq!(rt; log.read(), [0, 0, 1, 0, 0, 0, 0, 0]);
+    assert_eq!(rt; log.calls(), Calls::none().folds(1));
 }
 
 #[test]
@@ -68,7 +69,7 @@ fn map_err_leaves_the_caller_s_error(rt: HostRuntime) {
     let mut it = counted(&answers, &log).map_err(hundred_more);
     assert_eq!(rt; it.try_fold(0, stop), Err(3));
     assert_eq!(rt; [it.next(), it.next()], [Err(105), Ok(Some(2))]);
-    assert_eq!(rt; log.read(), [2, 0, 1, 0, 0, 0, 0, 0]);
+    assert_eq!(rt; log.calls(), Calls::none().nexts(2).folds(1));
 }
 
 #[test]
@@ -78,7 +79,7 @@ fn fuse_keeps_the_end_that_its_fold_met(rt: HostRuntime) {
     let mut it = counted(&answers, &log).fuse();
     assert_eq!(rt; it.try_fold(0, add_up), Ok(10));
     assert_eq!(rt; it.try_fold(0, add_up), Ok(0));
-    assert_eq!(rt; log.read(), [0, 0, 1, 0, 0, 0, 0, 0]);
+    assert_eq!(rt; log.calls(), Calls::none().folds(1));
 }
 
 #[test]
@@ -87,7 +88,7 @@ fn skip_while_draws_by_a_find(rt: HostRuntime) {
     let answers = [Ok(1), Ok(2), Ok(3), Ok(4)];
     let mut it = counted(&answers, &log).skip_while(below_three);
     assert_eq!(rt; it.next(), Ok(Some(3)));
-    assert_eq!(rt; log.read(), [0, 0, 0, 0, 0, 0, 0, 1]);
+    assert_eq!(rt; log.calls(), Calls::none().finds(1));
 }
 
 #[test]
@@ -97,7 +98,7 @@ fn peekable_folds_what_it_holds_and_then_its_source(rt: HostRuntime) {
     let mut it = counted(&answers, &log).peekable();
     assert_eq!(rt; it.peek_copied(), Ok(Some(1)));
     assert_eq!(rt; it.try_fold(0, add_up), Ok(10));
-    assert_eq!(rt; log.read(), [1, 0, 1, 0, 0, 0, 0, 0]);
+    assert_eq!(rt; log.calls(), Calls::none().nexts(1).folds(1));
 }
 
 #[test]
@@ -118,7 +119,7 @@ fn filter_keeps_its_closure_where_a_fold_stops(rt: HostRuntime) {
     assert_eq!(rt; stopped, Err(7));
     assert_eq!(rt; on, 3);
     assert_eq!(rt; it.draw(), Ok(Some(5)));
-    assert_eq!(rt; log.read(), [0, 0, 3, 0, 0, 0, 0, 0]);
+    assert_eq!(rt; log.calls(), Calls::none().folds(3));
 }
 
 #[test]
@@ -128,7 +129,7 @@ fn filter_map_draws_and_folds_by_folds(rt: HostRuntime) {
     let mut it = counted(&answers, &log).filter_map(tens_of_even);
     assert_eq!(rt; it.draw(), Ok(Some(20)));
     assert_eq!(rt; it.try_fold(0, add_up), Ok(40));
-    assert_eq!(rt; log.read(), [0, 0, 2, 0, 0, 0, 0, 0]);
+    assert_eq!(rt; log.calls(), Calls::none().folds(2));
 }
 
 // Fails with 9 on 3.
@@ -142,7 +143,7 @@ fn inspect_folds_by_one_fold(rt: HostRuntime) {
     let answers = [Ok(1), Ok(2), Ok(3)];
     let mut it = counted(&answers, &log).inspect(look);
     assert_eq!(rt; it.try_fold(0, add_up), Err(9));
-    assert_eq!(rt; log.read(), [0, 0, 1, 0, 0, 0, 0, 0]);
+    assert_eq!(rt; log.calls(), Calls::none().folds(1));
 }
 
 #[test]
@@ -154,14 +155,8 @@ fn map_while_folds_by_one_fold(rt: HostRuntime) {
     } else {
         Ok(None)
     });
-    assert_eq!(rt;
-        it.try_fold(
-            0,
-            |sum: u32, x: u32| Ok::<u32, TestError>(sum.wrapping_add(x))
-        ),
-        Ok(3)
-    );
-    assert_eq!(rt; log.read(), [0, 0, 1, 0, 0, 0, 0, 0]);
+    assert_eq!(rt; it.try_fold(0, add_up), Ok(3));
+    assert_eq!(rt; log.calls(), Calls::none().folds(1));
 }
 
 #[test]
@@ -172,7 +167,7 @@ fn cloned_folds_by_one_fold(rt: HostRuntime) {
     let mut it = Counted::new(it, &log).cloned();
     let sum: Result<u32, TestError> = it.try_fold(0, |sum: u32, x: u32| Ok(sum.wrapping_add(x)));
     assert_eq!(rt; sum, Ok(3));
-    assert_eq!(rt; log.read(), [0, 0, 1, 0, 0, 0, 0, 0]);
+    assert_eq!(rt; log.calls(), Calls::none().folds(1));
 }
 
 // Stops at the item with the number 1.
@@ -187,7 +182,7 @@ fn enumerate_folds_by_one_fold_and_counts_on(rt: HostRuntime) {
     let mut it = counted(&answers, &log).enumerate();
     assert_eq!(rt; it.try_fold(0, stop_at_one), Err(6));
     assert_eq!(rt; it.next(), Ok(Some((2, 7))));
-    assert_eq!(rt; log.read(), [1, 0, 1, 0, 0, 0, 0, 0]);
+    assert_eq!(rt; log.calls(), Calls::none().nexts(1).folds(1));
 }
 
 #[test]
@@ -197,7 +192,7 @@ fn step_by_folds_by_one_fold_and_leaves_out_on(rt: HostRuntime) {
     let mut it = counted(&answers, &log).step_by(3);
     assert_eq!(rt; it.try_fold(0, add_up), Err(9));
     assert_eq!(rt; it.next(), Ok(Some(4)));
-    assert_eq!(rt; log.read(), [2, 0, 1, 0, 0, 0, 0, 0]);
+    assert_eq!(rt; log.calls(), Calls::none().nexts(2).folds(1));
 }
 
 #[test]
@@ -206,13 +201,13 @@ fn fuse_passes_nth_on_and_keeps_the_end_that_it_met(rt: HostRuntime) {
     let answers = [Ok(5), Ok(6)];
     let mut it = counted(&answers, &log).fuse();
     assert_eq!(rt; it.nth(1), Ok(Some(6)));
-    assert_eq!(rt; log.read(), [0, 0, 0, 0, 0, 0, 1, 0]);
+    assert_eq!(rt; log.calls(), Calls::none().nths(1));
     let mut it = counted(&answers, &log).fuse();
     assert_eq!(rt; it.nth(2), Ok(None));
-    assert_eq!(rt; log.read(), [0, 0, 0, 0, 0, 0, 2, 0]);
+    assert_eq!(rt; log.calls(), Calls::none().nths(2));
     assert_eq!(rt; it.nth(0), Ok(None));
     assert_eq!(rt; it.next(), Ok(None));
-    assert_eq!(rt; log.read(), [0, 0, 0, 0, 0, 0, 2, 0]);
+    assert_eq!(rt; log.calls(), Calls::none().nths(2));
 }
 
 #[test]
@@ -221,7 +216,7 @@ fn map_err_passes_nth_on(rt: HostRuntime) {
     let answers = [Ok(5), Ok(6)];
     let mut it = counted(&answers, &log).map_err(hundred_more);
     assert_eq!(rt; it.nth(2), Ok(None));
-    assert_eq!(rt; log.read(), [0, 0, 0, 0, 0, 0, 1, 0]);
+    assert_eq!(rt; log.calls(), Calls::none().nths(1));
 }
 
 #[test]
@@ -231,10 +226,10 @@ fn references_and_boxes_pass_nth_on(rt: HostRuntime) -> Result<(), Fail> {
     let mut it = counted(&answers, &log);
     let mut borrowed = &mut it;
     assert_eq!(rt; reached(&mut borrowed, 1), Ok(Some(6)));
-    assert_eq!(rt; log.read(), [0, 0, 0, 0, 0, 0, 1, 0]);
+    assert_eq!(rt; log.calls(), Calls::none().nths(1));
     let mut boxed = Box::new(rt.alloc(), counted(&answers, &log))?;
     assert_eq!(rt; reached(&mut boxed, 1), Ok(Some(6)));
-    assert_eq!(rt; log.read(), [0, 0, 0, 0, 0, 0, 2, 0]);
+    assert_eq!(rt; log.calls(), Calls::none().nths(2));
     Ok(())
 }
 
@@ -245,11 +240,11 @@ fn references_and_boxes_pass_folds_on(rt: HostRuntime) -> Result<(), Fail> {
     let mut it = counted(&answers, &log);
     let mut borrowed = &mut it;
     assert_eq!(rt; summed(&mut borrowed), Ok(11));
-    assert_eq!(rt; log.read(), [0, 0, 1, 0, 0, 0, 0, 0]);
+    assert_eq!(rt; log.calls(), Calls::none().folds(1));
     let answers = [Ok(5), Err(6)];
     let mut boxed = Box::new(rt.alloc(), counted(&answers, &log))?;
     assert_eq!(rt; summed(&mut boxed), Err(6));
-    assert_eq!(rt; log.read(), [0, 0, 2, 0, 0, 0, 0, 0]);
+    assert_eq!(rt; log.calls(), Calls::none().folds(2));
     Ok(())
 }
 
@@ -259,9 +254,9 @@ fn skip_folds_up_to_the_first_item_that_stays_and_then_the_rest(rt: HostRuntime)
     let answers = [Ok(1), Ok(2), Err(9), Ok(3), Ok(4), Ok(5)];
     let mut it = counted(&answers, &log).skip(3);
     assert_eq!(rt; it.try_fold(0, add_up), Err(9));
-    assert_eq!(rt; log.read(), [0, 0, 1, 0, 0, 0, 0, 0]);
+    assert_eq!(rt; log.calls(), Calls::none().folds(1));
     assert_eq!(rt; it.try_fold(0, add_up), Ok(9));
-    assert_eq!(rt; log.read(), [0, 0, 3, 0, 0, 0, 0, 0]);
+    assert_eq!(rt; log.calls(), Calls::none().folds(3));
 }
 
 #[test]
@@ -270,7 +265,7 @@ fn skip_while_folds_the_rest_by_one_fold(rt: HostRuntime) {
     let answers = [Ok(1), Ok(2), Ok(3), Ok(1)];
     let mut it = counted(&answers, &log).skip_while(below_three);
     assert_eq!(rt; it.try_fold(0, add_up), Ok(4));
-    assert_eq!(rt; log.read(), [0, 0, 1, 0, 0, 0, 0, 1]);
+    assert_eq!(rt; log.calls(), Calls::none().folds(1).finds(1));
 }
 
 #[test]
@@ -280,7 +275,7 @@ fn take_while_folds_by_one_fold_and_keeps_its_end(rt: HostRuntime) {
     let mut it = counted(&answers, &log).take_while(below_three);
     assert_eq!(rt; it.try_fold(0, add_up), Ok(3));
     assert_eq!(rt; it.next(), Ok(None));
-    assert_eq!(rt; log.read(), [0, 0, 1, 0, 0, 0, 0, 0]);
+    assert_eq!(rt; log.calls(), Calls::none().folds(1));
 }
 
 #[test]
@@ -289,9 +284,9 @@ fn enumerate_reaches_by_one_fold(rt: HostRuntime) {
     let answers = [Ok(5), Ok(6)];
     let mut it = counted(&answers, &log).enumerate();
     assert_eq!(rt; it.nth(1), Ok(Some((1, 6))));
-    assert_eq!(rt; log.read(), [0, 0, 1, 0, 0, 0, 0, 0]);
+    assert_eq!(rt; log.calls(), Calls::none().folds(1));
     assert_eq!(rt; it.nth(0), Ok(None));
-    assert_eq!(rt; log.read(), [0, 0, 2, 0, 0, 0, 0, 0]);
+    assert_eq!(rt; log.calls(), Calls::none().folds(2));
 }
 
 #[test]
@@ -300,9 +295,9 @@ fn enumerate_nth_counts_what_came_before_a_failure(rt: HostRuntime) {
     let answers = [Ok(5), Err(9), Ok(6)];
     let mut it = counted(&answers, &log).enumerate();
     assert_eq!(rt; it.nth(1), Err(9));
-    assert_eq!(rt; log.read(), [0, 0, 1, 0, 0, 0, 0, 0]);
+    assert_eq!(rt; log.calls(), Calls::none().folds(1));
     assert_eq!(rt; it.next(), Ok(Some((1, 6))));
-    assert_eq!(rt; log.read(), [1, 0, 1, 0, 0, 0, 0, 0]);
+    assert_eq!(rt; log.calls(), Calls::none().nexts(1).folds(1));
 }
 
 // The item, and an end in place of one above 5.
@@ -318,7 +313,7 @@ fn enumerate_nth_counts_what_came_before_an_end(rt: HostRuntime) {
     let mut it = Counted::new(it, &log).enumerate();
     assert_eq!(rt; it.nth(3), Ok(None));
     assert_eq!(rt; it.next(), Ok(Some((2, 3))));
-    assert_eq!(rt; log.read(), [1, 0, 1, 0, 0, 0, 0, 0]);
+    assert_eq!(rt; log.calls(), Calls::none().nexts(1).folds(1));
 }
 
 #[test]
@@ -328,7 +323,7 @@ fn enumerate_passes_count_on(rt: HostRuntime) {
     assert_eq!(rt; counted(&answers, &log).enumerate().count(), Ok(2));
     let answers = [Ok(5), Err(6)];
     assert_eq!(rt; counted(&answers, &log).enumerate().count(), Err(6));
-    assert_eq!(rt; log.read(), [0, 0, 0, 0, 2, 0, 0, 0]);
+    assert_eq!(rt; log.calls(), Calls::none().counts(2));
 }
 
 #[test]
@@ -341,7 +336,7 @@ fn fuse_and_map_err_pass_count_on(rt: HostRuntime) {
         counted(&answers, &log).map_err(hundred_more).count(),
         Err(106)
     );
-    assert_eq!(rt; log.read(), [0, 0, 0, 0, 2, 0, 0, 0]);
+    assert_eq!(rt; log.calls(), Calls::none().counts(2));
 }
 
 #[test]
@@ -354,5 +349,5 @@ fn fuse_and_map_err_pass_last_on(rt: HostRuntime) {
         counted(&answers, &log).map_err(hundred_more).last(),
         Err(106)
     );
-    assert_eq!(rt; log.read(), [0, 0, 0, 0, 0, 2, 0, 0]);
+    assert_eq!(rt; log.calls(), Calls::none().lasts(2));
 }

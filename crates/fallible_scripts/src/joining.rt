@@ -1,6 +1,7 @@
 // Folds across several sources go through each one's own.
 ghost use Rattle.std.specs.Prelude.{◌-◌, ◌^◌};
 
+use crate::calls::Calls;
 use crate::counted::{Counted, Log};
 use crate::shared::{add_up, counted};
 use fallible_iterator::{FallibleIterator, IteratorExt, once};
@@ -22,8 +23,8 @@ fn chain_folds_each_side_once(rt: HostRuntime) {
     let mut it = counted(&first, &firsts).chain(counted(&second, &seconds));
     assert_eq!(rt; it.try_fold(0, add_up_to_three), Err(3));
     assert_eq!(rt; it.next(), Ok(Some(4)));
-    assert_eq!(rt; firsts.read(), [0, 0, 1, 0, 0, 0, 0, 0]);
-    assert_eq!(rt; seconds.read(), [1, 0, 1, 0, 0, 0, 0, 0]);
+    assert_eq!(rt; firsts.calls(), Calls::none().folds(1));
+    assert_eq!(rt; seconds.calls(), Calls::none().nexts(1).folds(1));
 }
 
 #[test]
@@ -32,11 +33,11 @@ fn chain_folds_its_first_on_after_a_failure(rt: HostRuntime) {
     let (first, second) = ([Ok(1), Err(9), Ok(2)], [Ok(4)]);
     let mut it = counted(&first, &firsts).chain(counted(&second, &seconds));
     assert_eq!(rt; it.try_fold(0, add_up), Err(9));
-    assert_eq!(rt; firsts.read(), [0, 0, 1, 0, 0, 0, 0, 0]);
-    assert_eq!(rt; seconds.read(), [0, 0, 0, 0, 0, 0, 0, 0]);
+    assert_eq!(rt; firsts.calls(), Calls::none().folds(1));
+    assert_eq!(rt; seconds.calls(), Calls::none());
     assert_eq!(rt; it.try_fold(0, add_up), Ok(6));
-    assert_eq!(rt; firsts.read(), [0, 0, 2, 0, 0, 0, 0, 0]);
-    assert_eq!(rt; seconds.read(), [0, 0, 1, 0, 0, 0, 0, 0]);
+    assert_eq!(rt; firsts.calls(), Calls::none().folds(2));
+    assert_eq!(rt; seconds.calls(), Calls::none().folds(1));
 }
 
 // Two ranges, whose bounds add up to one that fits.
@@ -46,8 +47,8 @@ fn chain_counts_each_side_once(rt: HostRuntime) {
     let first = Counted::new((1u32..3).into_fallible(), &firsts);
     let second = Counted::new((3u32..4).into_fallible(), &seconds);
     assert_eq!(rt; first.chain(second).count(), Ok(3));
-    assert_eq!(rt; firsts.read(), [0, 0, 0, 0, 1, 0, 0, 0]);
-    assert_eq!(rt; seconds.read(), [0, 0, 0, 0, 1, 0, 0, 0]);
+    assert_eq!(rt; firsts.calls(), Calls::none().counts(1));
+    assert_eq!(rt; seconds.calls(), Calls::none().counts(1));
 }
 
 #[test]
@@ -56,8 +57,8 @@ fn chain_takes_the_last_of_each_side(rt: HostRuntime) {
     let (first, second) = ([Ok(1), Ok(2)], [Ok(3)]);
     let it = counted(&first, &firsts).chain(counted(&second, &seconds));
     assert_eq!(rt; it.last(), Ok(Some(3)));
-    assert_eq!(rt; firsts.read(), [0, 0, 0, 0, 0, 1, 0, 0]);
-    assert_eq!(rt; seconds.read(), [0, 0, 0, 0, 0, 1, 0, 0]);
+    assert_eq!(rt; firsts.calls(), Calls::none().lasts(1));
+    assert_eq!(rt; seconds.calls(), Calls::none().lasts(1));
 }
 
 // Whether the item is 3.
@@ -71,8 +72,8 @@ fn chain_searches_each_side_once(rt: HostRuntime) {
     let (first, second) = ([Ok(1), Ok(2)], [Ok(3)]);
     let mut it = counted(&first, &firsts).chain(counted(&second, &seconds));
     assert_eq!(rt; it.find(is_three), Ok(Some(3)));
-    assert_eq!(rt; firsts.read(), [0, 0, 0, 0, 0, 0, 0, 1]);
-    assert_eq!(rt; seconds.read(), [0, 0, 0, 0, 0, 0, 0, 1]);
+    assert_eq!(rt; firsts.calls(), Calls::none().finds(1));
+    assert_eq!(rt; seconds.calls(), Calls::none().finds(1));
 }
 
 // The sum of the items of two inner iterators, which `log` sees the outer source of drawn.
@@ -124,8 +125,8 @@ fn digits_mapped_flat(outer: &Log, inners: &Log) -> Result<u32, Infallible> {
 fn flat_map_folds_each_source_once(rt: HostRuntime) {
     let (outer, inners) = (Log::new(), Log::new());
     assert_eq!(rt; digits_mapped_flat(&outer, &inners).ok(), Some(3434));
-    assert_eq!(rt; outer.read(), [0, 0, 1, 0, 0, 0, 0, 0]);
-    assert_eq!(rt; inners.read(), [0, 0, 2, 0, 0, 0, 0, 0]);
+    assert_eq!(rt; outer.calls(), Calls::none().folds(1));
+    assert_eq!(rt; inners.calls(), Calls::none().folds(2));
 }
 
 #[test]
@@ -138,9 +139,9 @@ fn flatten_folds_the_inner_iterator_in_hand_first(rt: HostRuntime) {
         &outer,
     );
     assert_eq!(rt; both, (Ok(Some(1)), Ok(5)));
-    assert_eq!(rt; outer.read(), [0, 0, 2, 0, 0, 0, 0, 0]);
-    assert_eq!(rt; firsts.read(), [1, 0, 1, 0, 0, 0, 0, 0]);
-    assert_eq!(rt; seconds.read(), [0, 0, 1, 0, 0, 0, 0, 0]);
+    assert_eq!(rt; outer.calls(), Calls::none().folds(2));
+    assert_eq!(rt; firsts.calls(), Calls::none().nexts(1).folds(1));
+    assert_eq!(rt; seconds.calls(), Calls::none().folds(1));
 }
 
 #[test]
@@ -149,7 +150,7 @@ fn flatten_folds_each_source_once(rt: HostRuntime) {
     let (first, second) = ([Ok(1), Ok(2)], [Ok(3)]);
     let sum = summed_flat(counted(&first, &firsts), counted(&second, &seconds), &outer);
     assert_eq!(rt; sum, Ok(6));
-    assert_eq!(rt; outer.read(), [0, 0, 1, 0, 0, 0, 0, 0]);
-    assert_eq!(rt; firsts.read(), [0, 0, 1, 0, 0, 0, 0, 0]);
-    assert_eq!(rt; seconds.read(), [0, 0, 1, 0, 0, 0, 0, 0]);
+    assert_eq!(rt; outer.calls(), Calls::none().folds(1));
+    assert_eq!(rt; firsts.calls(), Calls::none().folds(1));
+    assert_eq!(rt; seconds.calls(), Calls::none().folds(1));
 }

@@ -3,6 +3,7 @@
 
 #[cfg(test)]
 mod behind;
+pub mod calls;
 pub mod counted;
 #[cfg(test)]
 mod front;

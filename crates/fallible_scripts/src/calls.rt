@@ -1,0 +1,102 @@
+//! The numbers of a log, under names.
+
+/// How often each call came: `Calls::none().folds(1)` is one fold and nothing else.
+#[derive(Debug, Drop, PartialEq)]
+pub struct Calls {
+    /// of `next`
+    pub nexts: u32,
+    /// of `next_back`
+    pub next_backs: u32,
+    /// of `try_fold_carrying`
+    pub folds: u32,
+    /// of `try_rfold_carrying`
+    pub rfolds: u32,
+    /// of `count`
+    pub counts: u32,
+    /// of `last`
+    pub lasts: u32,
+    /// of `nth`
+    pub nths: u32,
+    /// of `find`
+    pub finds: u32,
+}
+
+impl Calls {
+    /// No call.
+    pub fn none() -> Calls {
+        Calls {
+            nexts: 0,
+            next_backs: 0,
+            folds: 0,
+            rfolds: 0,
+            counts: 0,
+            lasts: 0,
+            nths: 0,
+            finds: 0,
+        }
+    }
+
+    /// As many calls of `next`.
+    pub fn nexts(self, number: u32) -> Calls {
+        Calls {
+            nexts: number,
+            ..self
+        }
+    }
+
+    /// As many calls of `next_back`.
+    pub fn next_backs(self, number: u32) -> Calls {
+        Calls {
+            next_backs: number,
+            ..self
+        }
+    }
+
+    /// As many calls of `try_fold_carrying`.
+    pub fn folds(self, number: u32) -> Calls {
+        Calls {
+            folds: number,
+            ..self
+        }
+    }
+
+    /// As many calls of `try_rfold_carrying`.
+    pub fn rfolds(self, number: u32) -> Calls {
+        Calls {
+            rfolds: number,
+            ..self
+        }
+    }
+
+    /// As many calls of `count`.
+    pub fn counts(self, number: u32) -> Calls {
+        Calls {
+            counts: number,
+            ..self
+        }
+    }
+
+    /// As many calls of `last`.
+    pub fn lasts(self, number: u32) -> Calls {
+        Calls {
+            lasts: number,
+            ..self
+        }
+    }
+
+    /// As many calls of `nth`.
+    pub fn nths(self, number: u32) -> Calls {
+        Calls {
+            nths: number,
+            ..self
+        }
+    }
+
+    /// As many calls of `find`.
+    pub fn finds(self, number: u32) -> Calls {
+        Calls {
+            finds: number,
+            ..self
+        }
+    }
+}
