@@ -1,10 +1,12 @@
-//! What the tests share: sources over listed and scripted answers, what draws are expected to answer, and values whose clones may be refused.
+//! What the tests share: sources over listed and scripted answers, closures, what draws are expected to answer, and values whose clones may be refused.
 #![tactic(auto)]
 
 pub mod alike;
 pub mod answered;
+pub mod closures;
 pub mod collected;
 pub mod listed;
+pub mod numbers;
 pub mod scripted;
 pub mod test_error;
 pub mod text;
