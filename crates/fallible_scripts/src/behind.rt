@@ -4,8 +4,9 @@ ghost use Rattle.fallible_contract.specs.Ends.{from_back};
 
 use crate::calls::Calls;
 use crate::counted::{Counted, Log};
-use crate::shared::{add_up, counted, hundred_more, is_even, put_behind, tens_of_even};
+use crate::shared::{counted, hundred_more, is_even, tens_of_even};
 use fallible_iterator::{DoubleEndedFallibleIterator, FallibleIterator, convert};
+use fallible_testing::closures::{add_up, put_behind};
 use fallible_testing::test_error::TestError;
 use std::test::Fail;
 

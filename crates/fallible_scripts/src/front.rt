@@ -3,10 +3,10 @@ ghost use Rattle.fallible_contract.specs.Contract.{Stays};
 
 use crate::calls::Calls;
 use crate::counted::{Counted, Log};
-use crate::shared::{
-    add_up, below_three, counted, hundred_more, is_even, numbers, stop, ten_times, tens_of_even,
-};
+use crate::shared::{below_three, counted, hundred_more, is_even, stop, ten_times, tens_of_even};
 use fallible_iterator::{FallibleIterator, convert};
+use fallible_testing::closures::add_up;
+use fallible_testing::numbers::numbers;
 use fallible_testing::test_error::TestError;
 use std::test::Fail;
 

@@ -3,8 +3,9 @@ ghost use Rattle.std.specs.Prelude.{◌-◌, ◌^◌};
 
 use crate::calls::Calls;
 use crate::counted::{Counted, Log};
-use crate::shared::{add_up, counted};
+use crate::shared::counted;
 use fallible_iterator::{FallibleIterator, IteratorExt, once};
+use fallible_testing::closures::add_up;
 use std::convert::Infallible;
 
 // The sum so far, with which it fails at 3.

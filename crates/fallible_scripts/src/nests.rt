@@ -1,10 +1,11 @@
 // Nests in which one adapter works through another's fold, each beside the same nest drawn by `next` alone.
 ghost use Rattle.fallible_contract.specs.Contract.{Stays};
 
-use crate::shared::{below_three, is_even, numbers, stop, tens_of_even};
+use crate::shared::{below_three, is_even, stop, tens_of_even};
 use fallible_iterator::laws::Answer::{End, Failure, Item};
 use fallible_iterator::{FallibleIterator, IteratorExt, Once, once};
 use fallible_testing::answered::expect_answers;
+use fallible_testing::numbers::numbers;
 use fallible_testing::scripted::{Script, scripted};
 use std::alloc::{AllocError, Global};
 use std::convert::Infallible;

@@ -2,22 +2,13 @@
 ghost use Rattle.std.specs.Prelude.{◌^◌, ◌-◌};
 
 use crate::counted::{Counted, Log};
-use fallible_iterator::{Convert, DoubleEndedFallibleIterator, FallibleIterator, convert};
+use fallible_iterator::{Convert, DoubleEndedFallibleIterator, FallibleIterator};
+use fallible_testing::numbers::numbers;
 use std::iter::Copied;
 use std::slice::Iter;
 
 /// A source over listed answers, whose calls are counted.
 pub type Numbers<'a> = Counted<'a, Convert<Copied<Iter<'a, Result<u32, u32>>>>>;
-
-/// Gives the answers.
-pub fn numbers<'a>(answers: &'a [Result<u32, u32>]) -> Convert<Copied<Iter<'a, Result<u32, u32>>>>
-    ensures can_next { ⟦<Convert<Copied<Iter<'a, Result<u32, u32>>>> as FallibleIterator>⟧.contract.can_next
-        result }
-    ensures finite { ⟦<Convert<Copied<Iter<'a, Result<u32, u32>>>> as FallibleIterator>⟧.contract.bound
-        result (2 ^ 64 - 1) }
-{
-    convert(answers.iter().copied())
-}
 
 /// Gives the answers, and adds its calls to `log`.
 pub fn counted<'a>(answers: &'a [Result<u32, u32>], log: &'a Log) -> Numbers<'a>
@@ -28,17 +19,7 @@ pub fn counted<'a>(answers: &'a [Result<u32, u32>], log: &'a Log) -> Numbers<'a>
     ensures finite { ⟦<Counted<'a, Convert<Copied<Iter<'a, Result<u32, u32>>>>> as FallibleIterator>⟧.contract.bound
         result (2 ^ 64 - 1) }
 {
-    Counted::new(convert(answers.iter().copied()), log)
-}
-
-/// The sum of the items.
-pub fn add_up(sum: u32, x: u32) -> Result<u32, u32> {
-    Ok(sum.wrapping_add(x))
-}
-
-/// The items as digits.
-pub fn put_behind(digits: u32, x: u32) -> Result<u32, u32> {
-    Ok(digits.wrapping_mul(10).wrapping_add(x))
+    Counted::new(numbers(answers), log)
 }
 
 /// Fails with 3 on any item.
