@@ -1,14 +1,15 @@
 // Borrowed sources.
+use fallible_iterator::FallibleIterator;
 use fallible_iterator::laws::Answer::{End, Failure, Item};
-use fallible_iterator::{FallibleIterator, convert};
 use fallible_testing::answered::expect_answers;
 use fallible_testing::listed::listed;
+use fallible_testing::numbers::numbers;
 use std::test::Fail;
 
 #[test]
 fn what_is_drawn_from_a_borrow_is_drawn_from_it(rt: HostRuntime) {
-    let answers: [Result<u32, u32>; 3] = [Ok(1), Err(2), Ok(3)];
-    let mut it = convert(answers.iter().copied());
+    let answers = [Ok(1), Err(2), Ok(3)];
+    let mut it = numbers(&answers);
     assert_eq!(rt; it.by_ref().next(), Ok(Some(1)));
     assert_eq!(rt; it.next(), Err(2));
     assert_eq!(rt; it.by_ref().count(), Ok(1));

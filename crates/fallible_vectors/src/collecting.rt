@@ -1,27 +1,20 @@
 // Collections.
 ghost use Rattle.std.specs.Prelude.{⊤};
 
-use fallible_iterator::{Collect, FallibleIterator, Fault, IntoFallible, IteratorExt, convert};
+use fallible_iterator::{Collect, FallibleIterator, Fault, IntoFallible, IteratorExt};
+use fallible_testing::closures::even_thirds;
 use fallible_testing::collected::{expect_collected, expect_refused, expect_source_fault};
 use fallible_testing::listed::listed;
+use fallible_testing::numbers::numbers;
 use std::alloc::{AllocError, Global};
 use std::convert::Infallible;
 use std::ops::Range;
 use std::test::Fail;
 
-// Even items pass where 3 divides them, and odd ones fail.
-fn even_thirds(x: &u32) -> Result<bool, u32> {
-    if *x % 2 == 0 {
-        Ok(*x % 3 == 0)
-    } else {
-        Err(*x)
-    }
-}
-
 #[test]
 fn collect_doubled(rt: HostRuntime) -> Result<(), Fail> {
-    let answers: [Result<u32, u32>; 5] = [Ok(0), Ok(1), Ok(2), Ok(3), Ok(4)];
-    let it = convert(answers.iter().copied()).map(|x: u32| Ok(x.wrapping_mul(2)));
+    let answers = [Ok(0), Ok(1), Ok(2), Ok(3), Ok(4)];
+    let it = numbers(&answers).map(|x: u32| Ok(x.wrapping_mul(2)));
     expect_collected(it.collect(rt.alloc()), &[0, 2, 4, 6, 8])
 }
 
@@ -30,14 +23,12 @@ fn collected(
     alloc: Global,
     answers: &[Result<u32, u32>],
 ) -> (Result<Vec<u32>, Fault<u32>>, Result<Option<u32>, u32>) {
-    let mut it = convert(answers.iter().copied());
+    let mut it = numbers(answers);
     (it.by_ref().collect(alloc), it.next())
 }
 
 #[test]
-fn collect_fails_at_the_first_failure_and_draws_nothing_after_it(
-    rt: HostRuntime,
-) -> Result<(), Fail> {
+fn collect_fails_at_the_first_failure_and_draws_no_more(rt: HostRuntime) -> Result<(), Fail> {
     let (made, next) = collected(rt.alloc(), &[Ok(0), Err(1), Ok(2), Err(3)]);
     expect_source_fault(made, 1)?;
     assert_eq!(rt; next, Ok(Some(2)));
@@ -56,8 +47,8 @@ fn collect_takes_no_room_ahead(rt: HostRuntime) {
 
 #[test]
 fn collect_fails_as_map_err_makes_it(rt: HostRuntime) -> Result<(), Fail> {
-    let answers: [Result<u32, u32>; 2] = [Ok(1), Err(5)];
-    let it = convert(answers.iter().copied()).map_err(|e: u32| e.wrapping_add(100));
+    let answers = [Ok(1), Err(5)];
+    let it = numbers(&answers).map_err(|e: u32| e.wrapping_add(100));
     expect_source_fault(it.collect::<Vec<u32>>(rt.alloc()), 105)
 }
 
@@ -66,9 +57,7 @@ fn collected_even_thirds(
     alloc: Global,
     answers: &[Result<u32, u32>],
 ) -> Result<Vec<u32>, Fault<u32>> {
-    convert(answers.iter().copied())
-        .filter(even_thirds)
-        .collect(alloc)
+    numbers(answers).filter(even_thirds).collect(alloc)
 }
 
 #[test]
@@ -124,8 +113,8 @@ impl Collect<u32> for Total {
 
 #[test]
 fn collect_into_a_collection_that_counts(rt: HostRuntime) {
-    let answers: [Result<u32, u32>; 3] = [Ok(1), Ok(2), Ok(3)];
-    let made = convert(answers.iter().copied()).collect::<Total>(rt.alloc());
+    let answers = [Ok(1), Ok(2), Ok(3)];
+    let made = numbers(&answers).collect::<Total>(rt.alloc());
     assert_eq!(rt; made.expect(&rt, "a collection").count, 3);
 }
 
@@ -173,8 +162,8 @@ fn collect_into_a_vec_whose_request_may_be_refused(rt: HostRuntime) -> Result<()
 
 #[test]
 fn collect_refused_memory_leaves_the_rest(rt: HostRuntime) -> Result<(), Fail> {
-    let answers: [Result<u32, u32>; 3] = [Ok(1), Ok(2), Ok(3)];
-    let mut it = convert(answers.iter().copied());
+    let answers = [Ok(1), Ok(2), Ok(3)];
+    let mut it = numbers(&answers);
     expect_refused(it.by_ref().collect::<Hungry>(rt.alloc()))?;
     assert_eq!(rt; it.next(), Ok(Some(2)));
     Ok(())

@@ -1,15 +1,16 @@
 // Nothing is drawn after the answer that decides, so a borrowed source still gives the rest.
 ghost use Rattle.std.specs.Prelude.{⊤};
 
-use fallible_iterator::{Collect, FallibleIterator, convert};
+use fallible_iterator::{Collect, FallibleIterator};
 use fallible_testing::collected::expect_refused;
+use fallible_testing::numbers::numbers;
 use std::alloc::{AllocError, Global};
 use std::test::Fail;
 
 #[test]
 fn count_draws_nothing_after_a_failure(rt: HostRuntime) {
-    let answers: [Result<u32, u32>; 3] = [Ok(1), Err(2), Ok(3)];
-    let mut it = convert(answers.iter().copied());
+    let answers = [Ok(1), Err(2), Ok(3)];
+    let mut it = numbers(&answers);
     assert_eq!(rt; it.by_ref().count(), Err(2));
     assert_eq!(rt; it.next(), Ok(Some(3)));
 }
@@ -25,8 +26,8 @@ fn low_sum(sum: u32, x: u32) -> Result<u32, u32> {
 
 #[test]
 fn fold_draws_nothing_after_its_closure_fails(rt: HostRuntime) {
-    let answers: [Result<u32, u32>; 3] = [Ok(1), Ok(5), Ok(3)];
-    let mut it = convert(answers.iter().copied());
+    let answers = [Ok(1), Ok(5), Ok(3)];
+    let mut it = numbers(&answers);
     assert_eq!(rt; it.by_ref().fold(0, low_sum), Err(5));
     assert_eq!(rt; it.next(), Ok(Some(3)));
 }
@@ -59,8 +60,8 @@ impl Collect<u32> for Greedy {
 
 #[test]
 fn collect_draws_nothing_where_its_collection_is_refused(rt: HostRuntime) -> Result<(), Fail> {
-    let answers: [Result<u32, u32>; 2] = [Ok(1), Ok(2)];
-    let mut it = convert(answers.iter().copied());
+    let answers = [Ok(1), Ok(2)];
+    let mut it = numbers(&answers);
     expect_refused(it.by_ref().collect::<Greedy>(rt.alloc()))?;
     assert_eq!(rt; it.next(), Ok(Some(1)));
     Ok(())

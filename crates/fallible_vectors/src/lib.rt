@@ -6,7 +6,7 @@ mod borrowed;
 #[cfg(test)]
 mod borrowed_items;
 #[cfg(test)]
-mod bridging;
+mod bridges;
 #[cfg(test)]
 mod collecting;
 #[cfg(test)]

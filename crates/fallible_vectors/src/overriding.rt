@@ -2,8 +2,9 @@
 ghost use Rattle.fallible_contract.specs.Contract.{seen_as};
 ghost use Rattle.fallible_contract.specs.Laws.Contract.{lawful_seen};
 
+use fallible_iterator::FallibleIterator;
 use fallible_iterator::folds::{Exit, Turn};
-use fallible_iterator::{FallibleIterator, convert};
+use fallible_testing::numbers::numbers;
 use std::cell::Cell;
 
 // Numbers from a source, and how often their fold was called.
@@ -42,10 +43,10 @@ impl<'a, I: FallibleIterator<Item = u32, Error = u32>> FallibleIterator for Watc
 
 #[test]
 fn try_fold_goes_through_its_own_fold(rt: HostRuntime) {
-    let answers: [Result<u32, u32>; 4] = [Ok(1), Ok(2), Ok(4), Ok(8)];
+    let answers = [Ok(1), Ok(2), Ok(4), Ok(8)];
     let folds = Cell::new(0);
     let mut watched = Watched {
-        it: convert(answers.iter().copied()),
+        it: numbers(&answers),
         folds: &folds,
     };
     let stopped = watched.try_fold(0, |sum, x| {
@@ -62,10 +63,10 @@ fn try_fold_goes_through_its_own_fold(rt: HostRuntime) {
 
 #[test]
 fn fold_goes_through_its_own_fold_and_fails_as_its_source(rt: HostRuntime) {
-    let answers: [Result<u32, u32>; 3] = [Ok(1), Err(7), Ok(2)];
+    let answers = [Ok(1), Err(7), Ok(2)];
     let folds = Cell::new(0);
     let watched = Watched {
-        it: convert(answers.iter().copied()),
+        it: numbers(&answers),
         folds: &folds,
     };
     assert_eq!(rt; watched.fold(0, |sum, x| Ok(x.wrapping_add(sum))), Err(7));

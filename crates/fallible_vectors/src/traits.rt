@@ -5,6 +5,7 @@ use fallible_iterator::laws::Answer;
 use fallible_iterator::laws::Answer::{End, Failure, Item};
 use fallible_iterator::{FallibleIterator, convert, once, once_err};
 use fallible_testing::answered::expect_answers;
+use fallible_testing::numbers::numbers;
 use std::test::Fail;
 
 // The sum, which fails with an item above 2.
@@ -18,7 +19,7 @@ fn checked_sum(sum: u32, x: u32) -> Result<u32, u32> {
 
 // How many items the answers have.
 fn counted(answers: &[Result<u32, u32>]) -> Result<usize, u32> {
-    convert(answers.iter().copied()).count()
+    numbers(answers).count()
 }
 
 #[test]
@@ -29,7 +30,7 @@ fn count_gives_the_number_of_items_or_the_first_failure(rt: HostRuntime) {
 
 // What `checked_sum` makes of the answers.
 fn summed(answers: &[Result<u32, u32>]) -> Result<u32, u32> {
-    convert(answers.iter().copied()).fold(0, checked_sum)
+    numbers(answers).fold(0, checked_sum)
 }
 
 #[test]
@@ -57,8 +58,8 @@ fn fold_of_one_item(rt: HostRuntime) {
 
 #[test]
 fn try_fold_stops_and_leaves_the_rest(rt: HostRuntime) {
-    let answers: [Result<u32, u32>; 4] = [Ok(1), Ok(2), Ok(3), Err(9)];
-    let mut it = convert(answers.iter().copied());
+    let answers = [Ok(1), Ok(2), Ok(3), Err(9)];
+    let mut it = numbers(&answers);
     let stopped: Result<u32, u32> = it.try_fold(0, |sum: u32, x: u32| {
         if x == 2 {
             Err(7)
@@ -85,7 +86,7 @@ fn next_after(
     answers: &[Result<u32, u32>],
     expected: &[Answer<u32, u32>],
 ) -> Result<Result<Option<u32>, u32>, Fail> {
-    let mut it = convert(answers.iter().copied());
+    let mut it = numbers(answers);
     expect_answers(rt, &mut it, expected)?;
     Ok(it.next())
 }
@@ -150,7 +151,7 @@ where
 
 // How many steps the answers take.
 fn steps_over(answers: &[Result<u32, u32>]) -> Result<u32, u32> {
-    steps_taken(convert(answers.iter().copied()))
+    steps_taken(numbers(answers))
 }
 
 #[test]
@@ -200,6 +201,6 @@ where
 
 #[test]
 fn fold_that_calls_a_method_of_its_items_bound(rt: HostRuntime) {
-    let answers: [Result<u32, u32>; 3] = [Ok(5), Ok(6), Ok(5)];
-    assert_eq!(rt; equal_to(convert(answers.iter().copied()), &5), Ok(2));
+    let answers = [Ok(5), Ok(6), Ok(5)];
+    assert_eq!(rt; equal_to(numbers(&answers), &5), Ok(2));
 }
