@@ -1,11 +1,12 @@
-// Adapters that cut a trace off, and `nth`.
+// Adapters that cut a trace off.
 ghost use Rattle.std.specs.Prelude.{◌≤◌};
 
+use fallible_iterator::FallibleIterator;
 use fallible_iterator::laws::Answer;
 use fallible_iterator::laws::Answer::{End, Item};
-use fallible_iterator::{FallibleIterator, convert};
 use fallible_testing::answered::expect_answers;
 use fallible_testing::collected::expect_collected;
+use fallible_testing::numbers::numbers;
 use fallible_testing::scripted::{Script, scripted};
 use std::test::Fail;
 
@@ -15,19 +16,9 @@ type Hint = (usize, Option<usize>);
 
 const END: Drawn = Ok(None);
 
-#[test]
-fn nth_of_four_items(rt: HostRuntime) {
-    let answers: [Result<u32, u32>; 4] = [Ok(0), Ok(1), Ok(2), Ok(3)];
-    let mut it = convert(answers.iter().copied());
-    assert_eq!(rt;
-        [it.nth(1), it.nth(0), it.nth(2)],
-        [Ok(Some(1)), Ok(Some(2)), END]
-    );
-}
-
 // What four draws of `take` answer, and then what the source gives next.
 fn taken(count: usize, answers: &[Result<u32, u32>]) -> ([Drawn; 4], Drawn) {
-    let mut source = convert(answers.iter().copied());
+    let mut source = numbers(answers);
     let mut it = (&mut source).take(count);
     ([it.next(), it.next(), it.next(), it.next()], source.next())
 }
@@ -104,7 +95,7 @@ fn take_while_goes_on_after_an_end(rt: HostRuntime) -> Result<(), Fail> {
 
 // What `skip` hints before and after its first draw, and what five draws answer.
 fn skipped(count: usize, answers: &[Result<u32, u32>]) -> ([Hint; 2], [Drawn; 5]) {
-    let mut it = convert(answers.iter().copied()).skip(count);
+    let mut it = numbers(answers).skip(count);
     let before = it.size_hint();
     let first = it.next();
     let after = it.size_hint();
@@ -155,7 +146,7 @@ fn skip_counts_on_after_a_failure(rt: HostRuntime) {
 fn stepped(step: usize, answers: &[Result<u32, u32>]) -> ([Hint; 2], [Drawn; 4])
     requires { 1 ≤ step }
 {
-    let mut it = convert(answers.iter().copied()).step_by(step);
+    let mut it = numbers(answers).step_by(step);
     let before = it.size_hint();
     let (first, second) = (it.next(), it.next());
     let after = it.size_hint();
@@ -190,8 +181,8 @@ fn step_by_gives_each_item_of_a_step(rt: HostRuntime) {
 
 #[test]
 fn step_by_the_greatest_step_is_collected(rt: HostRuntime) -> Result<(), Fail> {
-    let answers: [Result<u32, u32>; 2] = [Ok(1), Ok(2)];
-    let it = convert(answers.iter().copied()).step_by(usize::MAX);
+    let answers = [Ok(1), Ok(2)];
+    let it = numbers(&answers).step_by(usize::MAX);
     expect_collected(it.collect(rt.alloc()), &[1])
 }
 
@@ -231,7 +222,7 @@ fn step_by_counts_on_after_an_end(rt: HostRuntime) -> Result<(), Fail> {
 
 #[test]
 fn a_nest_is_counted(rt: HostRuntime) {
-    let answers: [Result<u32, u32>; 5] = [Ok(0), Ok(1), Ok(2), Ok(3), Ok(4)];
-    let it = convert(answers.iter().copied());
+    let answers = [Ok(0), Ok(1), Ok(2), Ok(3), Ok(4)];
+    let it = numbers(&answers);
     assert_eq!(rt; it.skip(1).step_by(2).fuse().take(2).count(), Ok(2));
 }

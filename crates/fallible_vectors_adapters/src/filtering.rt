@@ -1,8 +1,10 @@
 // Adapters that leave items out.
+use fallible_iterator::FallibleIterator;
 use fallible_iterator::laws::Answer;
 use fallible_iterator::laws::Answer::{End, Failure, Item};
-use fallible_iterator::{FallibleIterator, convert};
 use fallible_testing::answered::expect_answers;
+use fallible_testing::closures::ten_more_of_even;
+use fallible_testing::numbers::numbers;
 use std::test::Fail;
 
 // Expects these answers of `skip_while` below a bound, where the closure fails with 8 on one item.
@@ -13,7 +15,7 @@ fn expect_skipped_below(
     answers: &[Result<u32, u32>],
     expected: &[Answer<u32, u32>],
 ) -> Result<(), Fail> {
-    let mut it = convert(answers.iter().copied()).skip_while(|x: &u32| if failing == Some(*x) {
+    let mut it = numbers(answers).skip_while(|x: &u32| if failing == Some(*x) {
         Err(8)
     } else {
         Ok(*x < bound)
@@ -36,24 +38,13 @@ fn skip_while_keeps_all_from_its_first_false(rt: HostRuntime) -> Result<(), Fail
     expect_skipped_below(&rt, 5, None, &answers, &[End])
 }
 
-// Even gives 10 more, divisible by 3 none, and all else fails.
-fn even_or_third(x: u32) -> Result<Option<u32>, u32> {
-    if x % 2 == 0 {
-        Ok(Some(x.wrapping_add(10)))
-    } else if x % 3 == 0 {
-        Ok(None)
-    } else {
-        Err(x)
-    }
-}
-
-// Expects these answers of `filter_map`.
-fn expect_even_or_third(
+// Expects these answers of `filter_map` with `ten_more_of_even`.
+fn expect_ten_more_of_even(
     rt: &HostRuntime,
     answers: &[Result<u32, u32>],
     expected: &[Answer<u32, u32>],
 ) -> Result<(), Fail> {
-    let mut it = convert(answers.iter().copied()).filter_map(even_or_third);
+    let mut it = numbers(answers).filter_map(ten_more_of_even);
     expect_answers(rt, &mut it, expected)
 }
 
@@ -61,26 +52,22 @@ fn expect_even_or_third(
 fn filter_map_leaves_out_nones_and_fails_by_its_closure(rt: HostRuntime) -> Result<(), Fail> {
     let answers = [Ok(0), Ok(2), Ok(3), Ok(4), Ok(6)];
     let items = [Item(10), Item(12), Item(14), Item(16), End];
-    expect_even_or_third(&rt, &answers, &items)?;
+    expect_ten_more_of_even(&rt, &answers, &items)?;
     let answers = [Ok(0), Ok(1), Ok(2), Ok(3), Ok(4), Ok(5), Ok(6)];
-    expect_even_or_third(&rt, &answers, &[Item(10), Failure(1)])
+    expect_ten_more_of_even(&rt, &answers, &[Item(10), Failure(1)])
 }
 
 #[test]
 fn filter_goes_on_after_a_failed_item(rt: HostRuntime) -> Result<(), Fail> {
     let answers = [Ok(0), Ok(2), Ok(4), Ok(6)];
-    let mut it = convert(answers.iter().copied()).filter(|x: &u32| if *x == 2 {
-        Err(2)
-    } else {
-        Ok(*x != 4)
-    });
+    let mut it = numbers(&answers).filter(|x: &u32| if *x == 2 { Err(2) } else { Ok(*x != 4) });
     expect_answers(&rt, &mut it, &[Item(0), Failure(2), Item(6), End])
 }
 
 #[test]
 fn even_items_ten_times_over_are_cut_by_take(rt: HostRuntime) -> Result<(), Fail> {
-    let answers: [Result<u32, u32>; 4] = [Ok(1), Ok(2), Ok(3), Ok(4)];
-    let mut it = convert(answers.iter().copied())
+    let answers = [Ok(1), Ok(2), Ok(3), Ok(4)];
+    let mut it = numbers(&answers)
         .filter(|x: &u32| Ok(*x % 2 == 0))
         .map(|x: u32| Ok(x.wrapping_mul(10)))
         .take(1);

@@ -6,6 +6,6 @@ mod cutting;
 #[cfg(test)]
 mod filtering;
 #[cfg(test)]
-mod fusing;
+mod fuse;
 #[cfg(test)]
 mod one_to_one;

@@ -3,6 +3,7 @@ use fallible_iterator::laws::Answer;
 use fallible_iterator::laws::Answer::{End, Failure, Item};
 use fallible_iterator::{FallibleIterator, IntoFallible, convert};
 use fallible_testing::answered::expect_answers;
+use fallible_testing::numbers::numbers;
 use fallible_testing::test_error::TestError;
 use fallible_testing::text::Text;
 use std::cell::Cell;
@@ -22,9 +23,9 @@ fn map_fails_on_an_item(rt: HostRuntime) -> Result<(), Fail> {
 
 #[test]
 fn map_keeps_its_closure_where_a_fold_stops(rt: HostRuntime) {
-    let answers: [Result<u32, u32>; 4] = [Ok(1), Ok(2), Ok(3), Ok(4)];
+    let answers = [Ok(1), Ok(2), Ok(3), Ok(4)];
     let mut calls = 0u32;
-    let mut it = convert(answers.iter().copied()).map(move |x: u32| {
+    let mut it = numbers(&answers).map(move |x: u32| {
         calls = calls.wrapping_add(1);
         Ok(x.wrapping_mul(10).wrapping_add(calls))
     });
@@ -62,12 +63,8 @@ fn inspect_shows_each_item(rt: HostRuntime) {
 
 #[test]
 fn inspect_fails_on_an_item(rt: HostRuntime) -> Result<(), Fail> {
-    let answers: [Result<u32, u32>; 3] = [Ok(1), Ok(2), Ok(3)];
-    let mut it = convert(answers.iter().copied()).inspect(|x: &u32| if *x == 2 {
-        Err(20)
-    } else {
-        Ok(())
-    });
+    let answers = [Ok(1), Ok(2), Ok(3)];
+    let mut it = numbers(&answers).inspect(|x: &u32| if *x == 2 { Err(20) } else { Ok(()) });
     expect_answers(&rt, &mut it, &[Item(1), Failure(20), Item(3), End])
 }
 
@@ -77,7 +74,7 @@ fn expect_enumerated(
     answers: &[Result<u32, u32>],
     expected: &[Answer<(usize, u32), u32>],
 ) -> Result<(), Fail> {
-    let mut it = convert(answers.iter().copied()).enumerate();
+    let mut it = numbers(answers).enumerate();
     expect_answers(rt, &mut it, expected)
 }
 
@@ -91,8 +88,8 @@ fn enumerate_counts_items_alone(rt: HostRuntime) -> Result<(), Fail> {
 
 #[test]
 fn nth_of_enumerate_counts_the_items_that_it_drew(rt: HostRuntime) {
-    let answers: [Result<u32, u32>; 3] = [Ok(5), Err(9), Ok(6)];
-    let mut it = convert(answers.iter().copied()).enumerate();
+    let answers = [Ok(5), Err(9), Ok(6)];
+    let mut it = numbers(&answers).enumerate();
     assert_eq!(rt; [it.nth(1), it.next()], [Err(9), Ok(Some((1, 6)))]);
 }
 
@@ -107,8 +104,8 @@ fn half(x: u32) -> Result<Option<u32>, u32> {
 
 #[test]
 fn map_while_ends_at_a_none_and_goes_on(rt: HostRuntime) -> Result<(), Fail> {
-    let answers: [Result<u32, u32>; 5] = [Ok(4), Ok(0), Err(9), Ok(7), Ok(6)];
-    let mut it = convert(answers.iter().copied()).map_while(half);
+    let answers = [Ok(4), Ok(0), Err(9), Ok(7), Ok(6)];
+    let mut it = numbers(&answers).map_while(half);
     assert_eq!(rt; it.size_hint(), (0, Some(5)));
     expect_answers(
         &rt,
@@ -119,8 +116,8 @@ fn map_while_ends_at_a_none_and_goes_on(rt: HostRuntime) -> Result<(), Fail> {
 
 #[test]
 fn a_fold_of_map_while_stops_at_a_none(rt: HostRuntime) {
-    let answers: [Result<u32, u32>; 4] = [Ok(4), Ok(8), Ok(0), Ok(6)];
-    let mut it = convert(answers.iter().copied()).map_while(half);
+    let answers = [Ok(4), Ok(8), Ok(0), Ok(6)];
+    let mut it = numbers(&answers).map_while(half);
     assert_eq!(rt;
         it.by_ref().fold(0, |sum: u32, x| Ok(sum.wrapping_add(x))),
         Ok(6)
@@ -155,8 +152,8 @@ fn scan_keeps_its_state(rt: HostRuntime) {
 
 #[test]
 fn scan_keeps_its_state_after_a_failure(rt: HostRuntime) {
-    let answers: [Result<u32, u32>; 3] = [Ok(1), Ok(2), Ok(3)];
-    let mut it = convert(answers.iter().copied()).scan(0, |sum: &mut u32, x: u32| {
+    let answers = [Ok(1), Ok(2), Ok(3)];
+    let mut it = numbers(&answers).scan(0, |sum: &mut u32, x: u32| {
         *sum = sum.wrapping_add(x);
         if *sum == 3 { Err(3) } else { Ok(Some(*sum)) }
     });
@@ -166,8 +163,8 @@ fn scan_keeps_its_state_after_a_failure(rt: HostRuntime) {
 
 #[test]
 fn map_err_replaces_failures(rt: HostRuntime) {
-    let answers: [Result<u32, u32>; 2] = [Ok(1), Err(5)];
-    let mut it = convert(answers.iter().copied()).map_err(|e: u32| e.wrapping_add(100));
+    let answers = [Ok(1), Err(5)];
+    let mut it = numbers(&answers).map_err(|e: u32| e.wrapping_add(100));
     let drawn = [it.next(), it.next(), it.next()];
     assert_eq!(rt; drawn, [Ok(Some(1)), Err(105), Ok(None)]);
 }
