@@ -4,23 +4,24 @@ ghost use Rattle.std.specs.Prelude.{⊤};
 use crate::tagged::Tagged;
 use fallible_iterator::{Collect, FallibleIterator, Fault, convert};
 use fallible_testing::collected::{expect_refused, expect_source_fault};
+use fallible_testing::numbers::numbers;
 use std::alloc::{AllocError, Global};
 use std::collections::{BTreeMap, BTreeSet, HashMap, HashSet, VecDeque};
 use std::test::Fail;
 
 // The items in a set that has an order.
 fn btree_set(alloc: Global, answers: &[Result<u32, u32>]) -> Result<BTreeSet<u32>, Fault<u32>> {
-    convert(answers.iter().copied()).collect::<BTreeSet<u32>>(alloc)
+    numbers(answers).collect::<BTreeSet<u32>>(alloc)
 }
 
 // The items in a set by hash.
 fn hash_set(alloc: Global, answers: &[Result<u32, u32>]) -> Result<HashSet<u32>, Fault<u32>> {
-    convert(answers.iter().copied()).collect::<HashSet<u32>>(alloc)
+    numbers(answers).collect::<HashSet<u32>>(alloc)
 }
 
 // The items in a deque.
 fn deque(alloc: Global, answers: &[Result<u32, u32>]) -> Result<VecDeque<u32>, Fault<u32>> {
-    convert(answers.iter().copied()).collect::<VecDeque<u32>>(alloc)
+    numbers(answers).collect::<VecDeque<u32>>(alloc)
 }
 
 // The pairs in a map that has an order.
@@ -106,7 +107,7 @@ fn entry(found: Option<(&Tagged, &u32)>) -> Option<(char, u32)> {
 }
 
 #[test]
-fn collect_into_a_map_keeps_the_first_of_equal_keys_with_the_last_value(rt: HostRuntime) {
+fn collect_into_a_map_keeps_the_first_key_with_the_last_value(rt: HostRuntime) {
     let answers: [Result<(Tagged, u32), u32>; 3] = [
         Ok((tagged(1, 'a'), 10)),
         Ok((tagged(2, 'b'), 20)),

@@ -1,6 +1,7 @@
 // Comparisons draw in rounds, and what the deciding round left is drawn next.
 use crate::parts::Parts;
 use fallible_iterator::{FallibleIterator, convert, empty, once};
+use fallible_testing::numbers::numbers;
 use std::cmp::Ordering;
 
 // what a draw answers
@@ -50,8 +51,8 @@ fn cmp_of(
     left: &[Result<u32, u32>],
     right: &[Result<u32, u32>],
 ) -> (Result<Ordering, u32>, Result<Option<u32>, u32>) {
-    let mut right = convert(right.iter().copied());
-    let answer = convert(left.iter().copied()).cmp(&mut right);
+    let mut right = numbers(right);
+    let answer = numbers(left).cmp(&mut right);
     (answer, right.next())
 }
 
@@ -108,7 +109,7 @@ fn the_first_unequal_items_say_what_is_greater_and_what_is_less(rt: HostRuntime)
 }
 
 #[test]
-fn items_without_an_order_are_neither_less_nor_greater_nor_equal(rt: HostRuntime) {
+fn items_without_an_order_are_not_less_greater_or_equal(rt: HostRuntime) {
     let left = || once::<Parts, u32>(Parts {
         first: 1,
         second: 2,
@@ -127,9 +128,7 @@ fn items_without_an_order_are_neither_less_nor_greater_nor_equal(rt: HostRuntime
 }
 
 #[test]
-fn unlike_items_and_an_item_unlike_itself_are_not_equal_nor_the_latter_in_an_order(
-    rt: HostRuntime,
-) {
+fn unlike_items_and_one_unlike_itself_are_not_equal(rt: HostRuntime) {
     let unlike_itself = [Ok(f64::NAN)];
     assert_eq!(rt; ne_of(&[Ok(1.0)], &[Ok(2.0)]), Ok(true));
     assert_eq!(rt; ne_of(&unlike_itself, &unlike_itself), Ok(true));

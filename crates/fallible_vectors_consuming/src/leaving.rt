@@ -1,5 +1,6 @@
 // What a consumer that takes the iterator leaves: nothing is drawn after the answer that decides, so a borrowed source gives what follows it.
 use fallible_iterator::{DoubleEndedFallibleIterator, FallibleIterator, Fault};
+use fallible_testing::closures::add_up;
 use fallible_testing::collected::{expect_collected, expect_source_fault};
 use fallible_testing::scripted::{Script, scripted};
 use std::alloc::{AllocError, Global};
@@ -64,12 +65,8 @@ fn for_each_leaves_what_follows(rt: HostRuntime) -> Result<(), Fail> {
     Ok(())
 }
 
-fn sum(total: u32, x: u32) -> Result<u32, u32> {
-    Ok(total.wrapping_add(x))
-}
-
 fn sum_of(mut s: Script<u32, u32>) -> (Result<u32, u32>, Drawn) {
-    (s.by_ref().fold(0, sum), s.next())
+    (s.by_ref().fold(0, add_up), s.next())
 }
 
 #[test]
@@ -182,7 +179,7 @@ fn max_by_key_leaves_what_follows(rt: HostRuntime) -> Result<(), Fail> {
 
 // Sums from behind, and what the next draw from behind answers.
 fn sum_from_behind(mut s: Script<u32, u32>) -> (Result<u32, u32>, Drawn) {
-    (s.by_ref().rfold(0, sum), s.next_back())
+    (s.by_ref().rfold(0, add_up), s.next_back())
 }
 
 #[test]

@@ -6,6 +6,8 @@ mod collecting;
 #[cfg(test)]
 mod comparing;
 #[cfg(test)]
+mod folds;
+#[cfg(test)]
 mod leaving;
 /// Items of which some have no order.
 pub mod parts;

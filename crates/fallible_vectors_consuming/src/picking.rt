@@ -1,49 +1,7 @@
 // Of equal items the last is the best; a failure is the answer, and nothing is drawn after it.
 use crate::tagged::Tagged;
-use fallible_iterator::{FallibleIterator, convert, empty, once};
+use fallible_iterator::{FallibleIterator, convert};
 use std::cmp::Ordering;
-
-// The last item, and what the next draw answers.
-fn last_of(answers: &[Result<u32, u32>]) -> (Result<Option<u32>, u32>, Result<Option<u32>, u32>) {
-    let mut it = convert(answers.iter().copied());
-    (it.by_ref().last(), it.next())
-}
-
-#[test]
-fn last_is_none_without_an_item_and_draws_nothing_after_a_failure(rt: HostRuntime) {
-    assert_eq!(rt;
-        last_of(&[Ok(0), Ok(1), Ok(2), Ok(3)]),
-        (Ok(Some(3)), Ok(None))
-    );
-    assert_eq!(rt; last_of(&[]), (Ok(None), Ok(None)));
-    assert_eq!(rt; last_of(&[Ok(0), Err(9), Ok(2)]), (Err(9), Ok(Some(2))));
-}
-
-#[test]
-fn last_of_a_chain_with_an_empty_back_is_the_front_s(rt: HostRuntime) {
-    let it = once::<u32, u32>(1).chain(empty());
-    assert_eq!(rt; it.last(), Ok(Some(1)));
-}
-
-// What the items come to by their digits, where 7 is a failure, and what the next draw answers.
-fn reduced(answers: &[Result<u32, u32>]) -> (Result<Option<u32>, u32>, Result<Option<u32>, u32>) {
-    let mut it = convert(answers.iter().copied());
-    let digits = it.by_ref().reduce(|before, x| if x == 7 {
-        Err(1)
-    } else {
-        Ok(before.wrapping_mul(10).wrapping_add(x))
-    });
-    (digits, it.next())
-}
-
-#[test]
-fn reduce_begins_with_the_first_item(rt: HostRuntime) {
-    assert_eq!(rt; reduced(&[Ok(7), Ok(2), Ok(3)]), (Ok(Some(723)), Ok(None)));
-    assert_eq!(rt; reduced(&[Ok(5)]), (Ok(Some(5)), Ok(None)));
-    assert_eq!(rt; reduced(&[]), (Ok(None), Ok(None)));
-    assert_eq!(rt; reduced(&[Ok(5), Err(9), Ok(3)]), (Err(9), Ok(Some(3))));
-    assert_eq!(rt; reduced(&[Ok(5), Ok(7), Ok(3)]), (Err(1), Ok(Some(3))));
-}
 
 // The greatest item, and what the next draw answers.
 fn max_of(answers: &[Result<i32, u32>]) -> (Result<Option<i32>, u32>, Result<Option<i32>, u32>) {
@@ -52,7 +10,7 @@ fn max_of(answers: &[Result<i32, u32>]) -> (Result<Option<i32>, u32>, Result<Opt
 }
 
 #[test]
-fn max_is_none_without_an_item_and_draws_nothing_after_a_failure(rt: HostRuntime) {
+fn max_is_none_without_an_item_and_stops_at_a_failure(rt: HostRuntime) {
     assert_eq!(rt;
         max_of(&[Ok(0), Ok(3), Ok(1), Ok(-10)]),
         (Ok(Some(3)), Ok(None))
@@ -132,9 +90,7 @@ fn max_and_min_by_the_order_back_are_the_least_and_the_greatest(rt: HostRuntime)
 }
 
 #[test]
-fn max_and_min_by_are_called_with_the_best_so_far_first_and_draw_nothing_after_a_failure(
-    rt: HostRuntime,
-) {
+fn max_by_and_min_by_ask_with_the_best_so_far_first_and_stop(rt: HostRuntime) {
     let answers = [Ok(5), Ok(2), Ok(7)];
     assert_eq!(rt; max_by_product(&answers, 1, 7), Err((5, 7)));
     assert_eq!(rt; min_by_product(&answers, 1, 2), (Err((5, 2)), Ok(Some(7))));
@@ -165,7 +121,7 @@ fn max_by_key_of(
 }
 
 #[test]
-fn max_by_key_makes_each_key_once_and_fails_where_its_closure_fails(rt: HostRuntime) {
+fn max_by_key_makes_each_key_once_or_fails_by_its_closure(rt: HostRuntime) {
     let answers = [Ok(0), Ok(3), Ok(1), Ok(-10)];
     assert_eq!(rt; max_by_key_of(&answers, -1, NOWHERE), (Ok(Some(-10)), 4));
     assert_eq!(rt; max_by_key_of(&answers, -1, -1), (Err(0), 1));
@@ -187,7 +143,7 @@ fn min_by_key_of(
 }
 
 #[test]
-fn min_by_key_is_the_last_of_equal_keys_and_fails_where_its_closure_fails(rt: HostRuntime) {
+fn min_by_key_is_the_last_of_equal_keys_or_fails_by_its_closure(rt: HostRuntime) {
     let answers = [Ok((0, 'a')), Ok((3, 'b')), Ok((1, 'c')), Ok((-10, 'd'))];
     assert_eq!(rt; min_by_key_of(&answers, -1, NOWHERE), Ok(Some((3, 'b'))));
     assert_eq!(rt; min_by_key_of(&answers, -1, -1), Err(0));

@@ -1,8 +1,9 @@
 // Searches end with the item that decides, and the next draw goes on after it.
 ghost use Rattle.std.specs.Prelude.{◌^◌, ◌-◌};
 
-use fallible_iterator::{FallibleIterator, convert, from_fn, once};
+use fallible_iterator::{FallibleIterator, from_fn, once};
 use fallible_testing::listed::listed;
+use fallible_testing::numbers::numbers;
 use std::test::Fail;
 
 // what a draw answers
@@ -17,7 +18,7 @@ fn push_each(
     answers: &[Result<u32, u32>],
     failing: u32,
 ) -> (Result<(), u32>, Drawn) {
-    let mut it = convert(answers.iter().copied());
+    let mut it = numbers(answers);
     let done = it.by_ref().for_each(|x: u32| {
         if x == failing {
             return Err(20);
@@ -39,7 +40,7 @@ fn for_each_is_called_on_each_item_in_order(rt: HostRuntime) {
 }
 
 #[test]
-fn for_each_draws_nothing_after_a_failure_of_its_closure_or_the_source(rt: HostRuntime) {
+fn for_each_draws_nothing_after_either_failure(rt: HostRuntime) {
     let mut seen = Vec::new(rt.alloc());
     let three = [Ok(1), Ok(2), Ok(3)];
     assert_eq!(rt; push_each(&mut seen, &three, 2), (Err(20), Ok(Some(3))));
@@ -52,7 +53,7 @@ fn for_each_draws_nothing_after_a_failure_of_its_closure_or_the_source(rt: HostR
 
 // Whether all items are below 4, of a predicate that fails with 20 at `failing`, and what the next draw answers.
 fn all_below_4(answers: &[Result<u32, u32>], failing: u32) -> (Result<bool, u32>, Drawn) {
-    let mut it = convert(answers.iter().copied());
+    let mut it = numbers(answers);
     let all = it.all(|x: u32| if x == failing { Err(20) } else { Ok(x < 4) });
     (all, it.next())
 }
@@ -94,7 +95,7 @@ fn all_over_a_fuse_meets_the_end_once(rt: HostRuntime) -> Result<(), Fail> {
 
 // Whether any item is 3, of a predicate that fails with 20 at `failing`, and what the next draw answers.
 fn any_is_3(answers: &[Result<u32, u32>], failing: u32) -> (Result<bool, u32>, Drawn) {
-    let mut it = convert(answers.iter().copied());
+    let mut it = numbers(answers);
     let any = it.any(|x: u32| if x == failing { Err(20) } else { Ok(x == 3) });
     (any, it.next())
 }
@@ -110,7 +111,7 @@ fn any_stops_at_the_first_item_that_is_or_fails(rt: HostRuntime) {
 
 // What a search for `wanted` finds, with a predicate that fails with 29 at `failing`, how often the predicate was called, and what the next draw answers.
 fn find_one(answers: &[Result<u32, u32>], wanted: u32, failing: u32) -> (Drawn, u32, Drawn) {
-    let mut it = convert(answers.iter().copied());
+    let mut it = numbers(answers);
     let mut calls = 0u32;
     let found = it.find(|x: &u32| {
         calls = calls.wrapping_add(1);
@@ -135,7 +136,7 @@ fn find_stops_at_the_first_item_that_decides(rt: HostRuntime) {
 #[test]
 fn find_fails_at_a_failure_and_goes_on_after_it(rt: HostRuntime) {
     let answers = [Ok(0), Err(9), Ok(2)];
-    let mut it = convert(answers.iter().copied());
+    let mut it = numbers(&answers);
     assert_eq!(rt; it.find(|x: &u32| Ok(*x == 2)), Err(9));
     assert_eq!(rt; it.find(|x: &u32| Ok(*x == 2)), Ok(Some(2)));
     assert_eq!(rt; it.find(|x: &u32| Ok(*x == 2)), Ok(None));
@@ -188,9 +189,9 @@ fn find_within_a_flatten_keeps_the_inner_iterator(rt: HostRuntime) -> Result<(),
 }
 
 #[test]
-fn find_map_answers_the_first_value_and_calls_its_closure_once_an_item(rt: HostRuntime) {
-    let four: [Result<u32, u32>; 4] = [Ok(0), Ok(1), Ok(2), Ok(3)];
-    let mut it = convert(four.iter().copied());
+fn find_map_answers_the_first_value_by_one_call_an_item(rt: HostRuntime) {
+    let four = [Ok(0), Ok(1), Ok(2), Ok(3)];
+    let mut it = numbers(&four);
     let mut calls = 0u32;
     let found = it.find_map(|x: u32| {
         calls = calls.wrapping_add(1);
@@ -206,7 +207,7 @@ fn positions(
     wanted: [u32; 3],
     failing: u32,
 ) -> [Result<Option<usize>, u32>; 3] {
-    let mut it = convert(answers.iter().copied());
+    let mut it = numbers(answers);
     let [first, second, third] = wanted;
     [
         it.position(|x: u32| if x == failing {
@@ -228,7 +229,7 @@ fn positions(
 }
 
 #[test]
-fn position_counts_the_items_before_and_fails_where_its_predicate_fails(rt: HostRuntime) {
+fn position_counts_the_items_before_or_fails_by_its_predicate(rt: HostRuntime) {
     let four = [Ok(1), Ok(2), Ok(3), Ok(4)];
     assert_eq!(rt;
         positions(&four, [2, 3, 5], NOWHERE),
@@ -246,8 +247,8 @@ fn position_counts_the_items_before_and_fails_where_its_predicate_fails(rt: Host
 
 #[test]
 fn position_draws_nothing_after_its_predicate_fails(rt: HostRuntime) {
-    let four: [Result<u32, u32>; 4] = [Ok(1), Ok(2), Ok(3), Ok(4)];
-    let mut it = convert(four.iter().copied());
+    let four = [Ok(1), Ok(2), Ok(3), Ok(4)];
+    let mut it = numbers(&four);
     let found = it.position(|x: u32| if x == 3 { Err(42) } else { Ok(x == 4) });
     assert_eq!(rt; found, Err(42));
     assert_eq!(rt; it.next(), Ok(Some(4)));
@@ -255,8 +256,8 @@ fn position_draws_nothing_after_its_predicate_fails(rt: HostRuntime) {
 
 #[test]
 fn find_stops_at_the_first_odd_item(rt: HostRuntime) {
-    let four: [Result<u32, u32>; 4] = [Ok(0), Ok(1), Ok(2), Ok(3)];
-    let mut it = convert(four.iter().copied());
+    let four = [Ok(0), Ok(1), Ok(2), Ok(3)];
+    let mut it = numbers(&four);
     assert_eq!(rt; it.find(|x: &u32| Ok(*x % 2 == 1)), Ok(Some(1)));
     assert_eq!(rt; it.next(), Ok(Some(2)));
 }
