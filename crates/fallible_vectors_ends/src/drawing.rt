@@ -2,15 +2,16 @@
 use fallible_iterator::laws::Answer::{End, Failure, Item};
 use fallible_iterator::laws::Side::{Back, Front};
 use fallible_iterator::laws::{Answer, Side};
-use fallible_iterator::{DoubleEndedFallibleIterator, FallibleIterator, IteratorExt, convert};
+use fallible_iterator::{DoubleEndedFallibleIterator, FallibleIterator, IteratorExt};
 use fallible_testing::answered::expect_answers_at;
 use fallible_testing::listed::listed;
+use fallible_testing::numbers::numbers;
 use std::test::Fail;
 
 #[test]
 fn map_from_both_ends(rt: HostRuntime) -> Result<(), Fail> {
-    let answers: [Result<u32, u32>; 4] = [Ok(1), Err(2), Ok(3), Ok(4)];
-    let mut it = convert(answers.iter().copied()).map(|x: u32| Ok(x.wrapping_mul(10)));
+    let answers = [Ok(1), Err(2), Ok(3), Ok(4)];
+    let mut it = numbers(&answers).map(|x: u32| Ok(x.wrapping_mul(10)));
     expect_answers_at(
         &rt,
         &mut it,
@@ -34,8 +35,8 @@ fn into_fallible_from_both_ends(rt: HostRuntime) -> Result<(), Fail> {
 
 #[test]
 fn filter_from_both_ends(rt: HostRuntime) -> Result<(), Fail> {
-    let answers: [Result<u32, u32>; 5] = [Ok(1), Ok(2), Ok(3), Ok(4), Ok(5)];
-    let mut it = convert(answers.iter().copied()).filter(|x: &u32| Ok(*x % 2 == 1));
+    let answers = [Ok(1), Ok(2), Ok(3), Ok(4), Ok(5)];
+    let mut it = numbers(&answers).filter(|x: &u32| Ok(*x % 2 == 1));
     expect_answers_at(
         &rt,
         &mut it,
@@ -52,7 +53,7 @@ fn left_of_a_chain(
     sides: &[Side],
     expected: &[Answer<u32, u32>],
 ) -> Result<((usize, Option<usize>), Result<Option<u32>, u32>), Fail> {
-    let mut it = convert(first.iter().copied()).chain(convert(second.iter().copied()));
+    let mut it = numbers(first).chain(numbers(second));
     expect_answers_at(rt, &mut it, sides, expected)?;
     Ok((it.size_hint(), it.next()))
 }
@@ -88,8 +89,8 @@ fn a_reference_and_a_box_draw_from_both_ends(rt: HostRuntime) -> Result<(), Fail
 
 #[test]
 fn inspect_sees_what_comes_from_each_end(rt: HostRuntime) -> Result<(), Fail> {
-    let answers: [Result<u32, u32>; 3] = [Ok(1), Ok(2), Ok(3)];
-    let it = convert(answers.iter().copied());
+    let answers = [Ok(1), Ok(2), Ok(3)];
+    let it = numbers(&answers);
     let mut it = it.inspect(|x: &u32| if *x == 3 { Err(30) } else { Ok(()) });
     expect_answers_at(
         &rt,

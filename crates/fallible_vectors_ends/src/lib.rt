@@ -8,4 +8,4 @@ mod folding;
 #[cfg(test)]
 mod own_type;
 #[cfg(test)]
-mod reversing;
+mod rev;
