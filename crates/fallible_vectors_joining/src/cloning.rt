@@ -6,6 +6,7 @@ use fallible_iterator::{
 use fallible_testing::alike::expect_alike;
 use fallible_testing::answered::expect_answers;
 use fallible_testing::listed::listed;
+use fallible_testing::numbers::numbers;
 use fallible_testing::test_error::TestError;
 use std::convert::Infallible;
 use std::ops::Range;
@@ -70,8 +71,8 @@ fn one_more(e: u32) -> u32 {
 
 #[test]
 fn clones_of_map_err_and_cloned(rt: HostRuntime) -> Result<(), Fail> {
-    let failures: [Result<u32, u32>; 2] = [Err(1), Err(2)];
-    let mut it = convert(failures.iter().copied()).map_err(one_more);
+    let failures = [Err(1), Err(2)];
+    let mut it = numbers(&failures).map_err(one_more);
     assert_eq!(rt; it.next(), Err(2));
     expect_alike(&rt, &mut it, &[Failure(3)])?;
     let numbers = [1u32, 2];

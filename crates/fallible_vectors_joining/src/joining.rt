@@ -4,6 +4,7 @@ use fallible_iterator::{
 };
 use fallible_testing::collected::expect_collected;
 use fallible_testing::listed::listed;
+use fallible_testing::numbers::numbers;
 use fallible_testing::scripted::scripted;
 use fallible_testing::test_error::TestError;
 use std::test::Fail;
@@ -22,7 +23,7 @@ type Drawn<T> = Result<Option<T>, u32>;
 
 // What four draws from the front's answers, chained with one item, answer, and the hints before and after the first and after the third.
 fn chained(front: &[Result<u32, u32>], item: u32) -> ([Drawn<u32>; 4], [Hint; 3]) {
-    let mut it = convert(front.iter().copied()).chain(once(item));
+    let mut it = numbers(front).chain(once(item));
     let before = it.size_hint();
     let first = it.next();
     let then = it.size_hint();
@@ -83,9 +84,9 @@ fn chain_is_counted_up_to_a_failure_of_the_second(rt: HostRuntime) {
 
 // What a chain of two ranges of these lengths hints at.
 fn chain_hint(first: usize, second: usize) -> Hint {
-    (0..front)
+    (0..first)
         .into_fallible()
-        .chain((0..back).into_fallible())
+        .chain((0..second).into_fallible())
         .size_hint()
 }
 
@@ -102,8 +103,8 @@ fn zipped(
     left: &[Result<u32, u32>],
     right: &[Result<u32, u32>],
 ) -> (Hint, [Drawn<(u32, u32)>; 2], Drawn<u32>) {
-    let mut right = convert(right.iter().copied());
-    let mut it = convert(left.iter().copied()).zip(&mut right);
+    let mut right = numbers(right);
+    let mut it = numbers(left).zip(&mut right);
     let hint = it.size_hint();
     let drawn = [it.next(), it.next()];
     drop(it);
@@ -153,8 +154,8 @@ fn zip_hints_at_the_shorter_side(rt: HostRuntime) {
 fn zip_draws_the_right_at_an_end_of_the_left(rt: HostRuntime) -> Result<(), Fail> {
     let script = [Ok(Some(1)), Ok(None), Ok(Some(2))];
     let left = scripted::<u32, u32, 3>(rt.alloc(), script)?;
-    let right: [Result<u32, u32>; 3] = [Ok(10), Ok(20), Ok(30)];
-    let mut it = left.zip(convert(right.iter().copied()));
+    let right = [Ok(10), Ok(20), Ok(30)];
+    let mut it = left.zip(numbers(&right));
     assert_eq!(rt;
         [it.next(), it.next(), it.next()],
         [Ok(Some((1, 10))), Ok(None), Ok(Some((2, 30)))]

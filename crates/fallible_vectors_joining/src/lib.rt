@@ -4,9 +4,9 @@
 #[cfg(test)]
 mod cloning;
 #[cfg(test)]
-mod cycling;
+mod cycle;
 #[cfg(test)]
-mod flattening;
+mod flatten;
 #[cfg(test)]
 mod joining;
 #[cfg(test)]

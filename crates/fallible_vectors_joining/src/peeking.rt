@@ -5,7 +5,9 @@ ghost use Rattle.std.specs.Cmp.Rules.{comparing};
 ghost use Rattle.fallible_core.specs.Peeking.Peekable.{Fills, peekable_parts};
 
 use fallible_iterator::{FallibleIterator, Peekable, convert, from_fn, once, repeat};
+use fallible_testing::closures::add_up;
 use fallible_testing::listed::listed;
+use fallible_testing::numbers::numbers;
 use fallible_testing::test_error::TestError;
 use std::cell::Cell;
 use std::test::Fail;
@@ -17,7 +19,7 @@ fn copied(looked_at: Result<Option<&u32>, u32>) -> Result<Option<u32>, u32> {
 
 // What two peeks answer, the two draws that follow, one more peek, and two more draws.
 fn peeks_and_draws(answers: &[Result<u32, u32>]) -> [Result<Option<u32>, u32>; 7] {
-    let mut it = convert(answers.iter().copied()).peekable();
+    let mut it = numbers(answers).peekable();
     [
         copied(it.peek()),
         copied(it.peek()),
@@ -81,8 +83,8 @@ fn peek_at_borrowed_items(rt: HostRuntime) {
 
 #[test]
 fn peek_draws_once(rt: HostRuntime) {
-    let answers: [Result<u32, u32>; 3] = [Ok(1), Ok(2), Ok(3)];
-    let mut it = convert(answers.iter().copied());
+    let answers = [Ok(1), Ok(2), Ok(3)];
+    let mut it = numbers(&answers);
     let mut ahead = (&mut it).peekable();
     assert_eq!(rt; ahead.peek(), Ok(Some(&1)));
     assert_eq!(rt; ahead.peek(), Ok(Some(&1)));
@@ -90,14 +92,14 @@ fn peek_draws_once(rt: HostRuntime) {
 }
 
 // What `next_if` answers for the first two numbers, and `next_if_eq` for the others.
-fn next_ifs(answers: &[Result<u32, u32>], numbers: [u32; 5]) -> [Result<Option<u32>, u32>; 5] {
-    let mut it = convert(answers.iter().copied()).peekable();
+fn next_ifs(answers: &[Result<u32, u32>], wanted: [u32; 5]) -> [Result<Option<u32>, u32>; 5] {
+    let mut it = numbers(answers).peekable();
     [
-        it.next_if(|x: &u32| *x == numbers[0]),
-        it.next_if(|x: &u32| *x == numbers[1]),
-        it.next_if_eq(&numbers[2]),
-        it.next_if_eq(&numbers[3]),
-        it.next_if_eq(&numbers[4]),
+        it.next_if(|x: &u32| *x == wanted[0]),
+        it.next_if(|x: &u32| *x == wanted[1]),
+        it.next_if_eq(&wanted[2]),
+        it.next_if_eq(&wanted[3]),
+        it.next_if_eq(&wanted[4]),
     ]
 }
 
@@ -164,8 +166,8 @@ where
 
 #[test]
 fn what_is_looked_at_is_the_next_item(rt: HostRuntime) {
-    let answers: [Result<u32, u32>; 2] = [Ok(1), Err(2)];
-    let mut it = convert(answers.iter().copied()).peekable();
+    let answers = [Ok(1), Err(2)];
+    let mut it = numbers(&answers).peekable();
     assert_eq!(rt; take_looked_at(&mut it), Ok(Some(1)));
     assert_eq!(rt; take_looked_at(&mut it), Err(2));
     assert_eq!(rt; take_looked_at(&mut it), Ok(None));
@@ -174,8 +176,8 @@ fn what_is_looked_at_is_the_next_item(rt: HostRuntime) {
 #[test]
 fn next_if_calls_its_closure_once(rt: HostRuntime) {
     let calls = Cell::new(0u32);
-    let answers: [Result<u32, u32>; 2] = [Ok(1), Err(2)];
-    let mut it = convert(answers.iter().copied()).peekable();
+    let answers = [Ok(1), Err(2)];
+    let mut it = numbers(&answers).peekable();
     let refuse = |_x: &u32| {
         calls.set(calls.get().wrapping_add(1));
         false
@@ -253,10 +255,6 @@ fn peek_and_next_if_hold_the_end_that_they_draw(rt: HostRuntime) {
     assert_eq!(rt; it.next_if_eq(&7), Ok(Some(7)));
 }
 
-fn sum(total: u32, x: u32) -> Result<u32, u32> {
-    Ok(total.wrapping_add(x))
-}
-
 #[test]
 fn a_held_end_ends_one_fold(rt: HostRuntime) {
     let mut calls = 0u32;
@@ -272,7 +270,7 @@ fn a_held_end_ends_one_fold(rt: HostRuntime) {
     assert_eq!(rt; it.peek(), Ok(None));
     assert_eq!(rt; it.size_hint(), (0, Some(0)));
     assert_eq!(rt; it.next_if(|_x: &u32| true), Ok(None));
-    assert_eq!(rt; it.try_fold(0, sum), Ok(0));
+    assert_eq!(rt; it.try_fold(0, add_up), Ok(0));
     assert_eq!(rt; it.next(), Ok(Some(7)));
 }
 
@@ -293,7 +291,7 @@ fn peek_and_fold_up_to_two(
     Result<u32, u32>,
     [Result<Option<u32>, u32>; 2],
 ) {
-    let mut it = convert(answers.iter().copied()).peekable();
+    let mut it = numbers(answers).peekable();
     let held = copied(it.peek());
     let outcome = it.try_fold(0, sum_up_to_two);
     (held, outcome, [copied(it.peek()), it.next()])

@@ -3,11 +3,13 @@ ghost use Rattle.std.specs.Prelude.{IfOk};
 
 use fallible_iterator::laws::Answer::{End, Failure, Item};
 use fallible_iterator::{
-    FallibleIterator, IntoFallible, IntoFallibleIterator, Take, convert, from_fn, once,
+    FallibleIterator, IntoFallible, IntoFallibleIterator, Take, from_fn, once,
 };
 use fallible_testing::answered::expect_answers;
+use fallible_testing::closures::add_up;
 use fallible_testing::collected::expect_collected;
 use fallible_testing::listed::listed;
+use fallible_testing::numbers::numbers;
 use fallible_testing::scripted::{Script, scripted};
 use std::alloc::{AllocError, Global};
 use std::convert::Infallible;
@@ -64,10 +66,6 @@ struct Stopped {
     first: Result<Option<u32>, u32>,
     outcome: Result<u32, u32>,
     item: Option<u32>,
-}
-
-fn sum(total: u32, x: u32) -> Result<u32, u32> {
-    Ok(total.wrapping_add(x))
 }
 
 // Draws once, and folds with a closure that fails with 7 on its first item.
@@ -132,7 +130,7 @@ where
     requires can_next { U.contract.can_next inner }
     requires finite { U.contract.bound inner 9 }
 {
-    once::<U, u32>(inner).flatten().fold(0, sum)
+    once::<U, u32>(inner).flatten().fold(0, add_up)
 }
 
 // The same of a flat_map whose closure answers the inner iterator as it is.
@@ -155,7 +153,7 @@ where
 {
     once::<U, u32>(inner)
         .flat_map(|inner: U| -> Result<U, u32> { Ok(inner) })
-        .fold(0, sum)
+        .fold(0, add_up)
 }
 
 // Gives 1, ends, and then gives 2.
@@ -194,9 +192,7 @@ fn a_fold_of_flatten_draws_nothing_after_an_inner_end(rt: HostRuntime) -> Result
 }
 
 #[test]
-fn a_fold_of_flatten_draws_nothing_after_the_end_of_the_one_in_hand(
-    rt: HostRuntime,
-) -> Result<(), Fail> {
+fn a_fold_of_flatten_draws_nothing_after_the_end_in_hand(rt: HostRuntime) -> Result<(), Fail> {
     let mut s = one_end_two(rt.alloc())?;
     let ended = draw_and_stop(&mut s);
     assert_eq!(rt; ended.first, Ok(Some(1)));
@@ -226,9 +222,9 @@ fn a_fold_of_flat_map_draws_nothing_after_an_inner_end(rt: HostRuntime) -> Resul
 
 #[test]
 fn flat_map_keeps_its_closures_state(rt: HostRuntime) -> Result<(), Fail> {
-    let answers: [Result<u32, u32>; 3] = [Ok(10), Ok(20), Ok(30)];
+    let answers = [Ok(10), Ok(20), Ok(30)];
     let mut calls = 0u32;
-    let mut it = convert(answers.iter().copied()).flat_map(move |x: u32| -> Result<_, u32> {
+    let mut it = numbers(&answers).flat_map(move |x: u32| -> Result<_, u32> {
         calls = calls.wrapping_add(1);
         if calls == 2 {
             Err(x)

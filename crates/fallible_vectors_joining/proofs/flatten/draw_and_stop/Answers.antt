@@ -9,7 +9,7 @@ use Rattle.fallible_core.specs.Joining.Flatten.{EachInner, flatten_contract}
 use Rattle.fallible_contract.specs.Laws.Contract.{lawful_seen}
 use Rattle.fallible_iterator.specs.Laws.Sources.Once.{lawful_once}
 use Rattle.fallible_core.specs.Laws.Joining.Flatten.{lawful_flatten}
-use Rattle.fallible_vectors_joining.proofs.flattening.draw_and_stop.Goals as goal
+use Rattle.fallible_vectors_joining.proofs.flatten.draw_and_stop.Goals as goal
 
 module _ {U C B E : Type 0} (into : U → C → Type 0) (inner : Contract C B E) (x : U) where
   abbrev O : Contract (Once U E) U E
