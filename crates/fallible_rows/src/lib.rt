@@ -3,6 +3,8 @@
 #![tactic(auto)]
 
 mod counting;
+#[cfg(test)]
+mod devices;
 mod digits;
 mod fault;
 pub mod laws;
