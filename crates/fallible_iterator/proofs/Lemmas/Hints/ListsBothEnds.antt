@@ -11,7 +11,7 @@ use Rattle.fallible_contract.specs.Lists.{AlwaysGives, Lists, mapped, failures_m
 use Rattle.fallible_contract.specs.BothEnds.{ListsBothEnds, item_listed, items_listed, failure_listed, failures_listed, source_list, outcome_listed, passed_list}
 use Rattle.fallible_contract.specs.Hints.{hint_sum}
 use Rattle.fallible_contract.proofs.Lemmas.Lists.Passing.{passed, by_outcome}
-use Rattle.fallible_contract.proofs.Lemmas.BothEnds.{lists_front, lists_behind}
+use Rattle.fallible_contract.proofs.Lemmas.BothEnds.{lists_first, lists_behind}
 use Rattle.fallible_contract.proofs.Lemmas.BothEnds.Passing.{filter_map-reverse, beside, source_beside}
 use Rattle.fallible_iterator.specs.SoundHints.{Brackets, Bounds}
 use Rattle.fallible_iterator.proofs.Lemmas.Hints.Drawn.{no_greater}
@@ -62,7 +62,7 @@ module _ {A E : Type 0} where
   }
 
 pub listed_brackets : {S A E : Type 0} {front back : S → Answered A E → S → Type 0} (s : S) (l : List (Result A E)) (h : ℕ × Option ℕ) → ListsBothEnds front back s l → Bounds h l → Brackets front s h
-listed_brackets {front = front} s l h i b = bounds_brackets front s l h (lists_front i) b
+listed_brackets {front = front} s l h i b = bounds_brackets front s l h (lists_first i) b
 
 pub listed_brackets_behind : {S A E : Type 0} {front back : S → Answered A E → S → Type 0} (s : S) (l : List (Result A E)) (h : ℕ × Option ℕ) → ListsBothEnds front back s l → Bounds h l → Brackets back s h
 listed_brackets_behind {back = back} s l h i b = bounds_brackets back s (reverse l) h (lists_behind i) (bounds_reversed h l b)

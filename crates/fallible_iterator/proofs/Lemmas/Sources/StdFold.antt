@@ -1,11 +1,11 @@
 -- A fold through std's own `try_fold`, or `try_rfold`, is a fold of the type over the std iterator: `read` is the result that an element is.
 use Rattle.std.specs.Prelude.{◌≡◌, List, [], ◌∷◌, Option, Result, Some, None, Ok, Err, MatchOption, IfOk, IsErr, IsErrAnd}
 use Rattle.std.specs.declared.ops.ControlFlow.{ControlFlow}
+use Rattle.std.specs.declared.ops.ControlFlow.TheVariants.{Continue, Break}
 use Rattle.std.specs.Iterator.{Count, MakesProgress, Yields, TryFoldTurn, TryFoldsItems, CallableInTryFold}
 use Rattle.std.specs.List.{FoldsTo}
 use Rattle.std.specs.Fn.{Called, Takes, Mut}
 use Rattle.std.specs.Result.{result_from_control_flow}
-use Rattle.std.specs.declared.ops.ControlFlow.TheVariants.{Break}
 use Rattle.std.proofs.Common.{refl, sym, subst, ap, ◌∙◌}
 use Rattle.fallible_contract.specs.declared.folds.Exit.{Exit}
 use Rattle.fallible_contract.specs.declared.folds.Exit.TheVariants.{Failed, Stopped}
