@@ -14,12 +14,6 @@ OneOf A B = (B → A ⊎ B) → (A → A ⊎ B) → A ⊎ B
 abbrev pub OneIsFinite : {S O T A B E D : Type 0} → Contract S A E → (O → T → Type 0) → Contract T B D → S → O → Type 0
 OneIsFinite {T = T} left into right s other = OneOf (left.is_finite s) ((t : T) → into other t → right.is_finite t)
 
--- What each comparison asks: the left and whatever the value given may become may be drawn from, and one of the two sides has a bound.
-pub record CanCompare {S O T A B E D : Type 0} (left : Contract S A E) (into : O → T → Type 0) (right : Contract T B D) (s : S) (other : O) : Type 0 where
-  pub can_left : left.can_next s
-  pub can_right : (t : T) → into other t → right.can_next t
-  pub finite : OneIsFinite left into right s other
-
 -- A rule says how two items compare, or that they have no order. The rule of an order is its answer, and that of an equality knows equal items only.
 abbrev pub by_cmp : {A : Type 0} → (A → A → Ordering) → A → A → Option Ordering
 by_cmp cmp x y = Some (cmp x y)

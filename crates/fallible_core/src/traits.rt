@@ -32,7 +32,7 @@ ghost use Rattle.fallible_core.specs.Joining.Cycle.{cycle_parts};
 ghost use Rattle.fallible_core.specs.declared.joining.chain.StillDrawn.TheVariants.{Both};
 ghost use Rattle.fallible_contract.specs.Collecting.{Collects, IsCollectTurn, Asks, IsPartitionTurn, Partitions, MadeOfParts, PairRefused, IsUnzipTurn};
 ghost use Rattle.fallible_contract.specs.Lists.{items, Lists, Acts, Repeats, repeated, EachLists, flattened, mapped, filtered, taken, counted, filter_mapped, inspected, ActsWithState, scanned, skipped_while, taken_while, numbered, failures_mapped, pointed_to, CollectedAs, chained, skipped, stepped, zipped, NoFailureAtEnd, nth_of, folded, reduced, ActsWith, Converts, all_of, any_of, find_mapped, found, last_of, PartedAs, UnzippedAs, position_in, each_done, best_by, greatest, least, best_by_key, compared};
-ghost use Rattle.fallible_contract.specs.Comparing.{CanCompare, by_cmp, by_eq, read_as, reads_eq, reads_ne, reads_lt, reads_le, reads_gt, reads_ge, ComparedWith, ReadWith};
+ghost use Rattle.fallible_contract.specs.Comparing.{OneIsFinite, by_cmp, by_eq, read_as, reads_eq, reads_ne, reads_lt, reads_le, reads_gt, reads_ge, ComparedWith, ReadWith};
 ghost use Rattle.std.specs.declared.cmp.Ordering.{Ordering};
 ghost use Rattle.std.specs.declared.cmp.Ordering.TheVariants.{Less, Greater};
 ghost use Rattle.fallible_contract.specs.Picking.{call_at_two, takes_at_two, PickCall, takes_in_pick, Picked, KeyCall, Best, BestByKey};
@@ -968,7 +968,11 @@ pub trait FallibleIterator: Drop + Sized {
     where
         I: IntoFallibleIterator<Item = Self::Item, Error = Self::Error>,
         Self::Item: Ord + Drop,
-        requires { CanCompare contract I.into_gives I.IntoFallibleIter.contract self other }
+        requires can_next { contract.can_next self }
+        requires right { (right : I.IntoFallibleIter) → I.into_gives other right
+            → I.IntoFallibleIter.contract.can_next right }
+        requires finite { OneIsFinite contract I.into_gives I.IntoFallibleIter.contract
+            self other }
         ensures compared { ComparedWith (by_cmp Self.Item.cmp) I.into_gives contract.steps
             I.IntoFallibleIter.contract.steps self other (read_as (λ o. Some o) result) }
         ensures value { OverBoth contract.steps self I.into_gives other
@@ -986,7 +990,11 @@ pub trait FallibleIterator: Drop + Sized {
     where
         I: IntoFallibleIterator<Item = Self::Item, Error = Self::Error>,
         Self::Item: PartialOrd + Drop,
-        requires { CanCompare contract I.into_gives I.IntoFallibleIter.contract self other }
+        requires can_next { contract.can_next self }
+        requires right { (right : I.IntoFallibleIter) → I.into_gives other right
+            → I.IntoFallibleIter.contract.can_next right }
+        requires finite { OneIsFinite contract I.into_gives I.IntoFallibleIter.contract
+            self other }
         ensures compared { ComparedWith Self.Item.partial_cmp I.into_gives contract.steps
             I.IntoFallibleIter.contract.steps self other result }
         ensures value { OverBoth contract.steps self I.into_gives other
@@ -1003,7 +1011,11 @@ pub trait FallibleIterator: Drop + Sized {
     where
         I: IntoFallibleIterator<Item = Self::Item, Error = Self::Error>,
         Self::Item: PartialEq + Drop,
-        requires { CanCompare contract I.into_gives I.IntoFallibleIter.contract self other }
+        requires can_next { contract.can_next self }
+        requires right { (right : I.IntoFallibleIter) → I.into_gives other right
+            → I.IntoFallibleIter.contract.can_next right }
+        requires finite { OneIsFinite contract I.into_gives I.IntoFallibleIter.contract
+            self other }
         ensures compared { ReadWith (by_eq Self.Item.eq) reads_eq I.into_gives contract.steps
             I.IntoFallibleIter.contract.steps self other result }
         ensures value { OverBoth contract.steps self I.into_gives other
@@ -1021,7 +1033,11 @@ pub trait FallibleIterator: Drop + Sized {
     where
         I: IntoFallibleIterator<Item = Self::Item, Error = Self::Error>,
         Self::Item: PartialEq + Drop,
-        requires { CanCompare contract I.into_gives I.IntoFallibleIter.contract self other }
+        requires can_next { contract.can_next self }
+        requires right { (right : I.IntoFallibleIter) → I.into_gives other right
+            → I.IntoFallibleIter.contract.can_next right }
+        requires finite { OneIsFinite contract I.into_gives I.IntoFallibleIter.contract
+            self other }
         ensures compared { ReadWith (by_eq Self.Item.eq) reads_ne I.into_gives contract.steps
             I.IntoFallibleIter.contract.steps self other result }
         ensures value { OverBoth contract.steps self I.into_gives other
@@ -1039,7 +1055,11 @@ pub trait FallibleIterator: Drop + Sized {
     where
         I: IntoFallibleIterator<Item = Self::Item, Error = Self::Error>,
         Self::Item: PartialOrd + Drop,
-        requires { CanCompare contract I.into_gives I.IntoFallibleIter.contract self other }
+        requires can_next { contract.can_next self }
+        requires right { (right : I.IntoFallibleIter) → I.into_gives other right
+            → I.IntoFallibleIter.contract.can_next right }
+        requires finite { OneIsFinite contract I.into_gives I.IntoFallibleIter.contract
+            self other }
         ensures compared { ReadWith Self.Item.partial_cmp reads_lt I.into_gives contract.steps
             I.IntoFallibleIter.contract.steps self other result }
         ensures value { OverBoth contract.steps self I.into_gives other
@@ -1060,7 +1080,11 @@ pub trait FallibleIterator: Drop + Sized {
     where
         I: IntoFallibleIterator<Item = Self::Item, Error = Self::Error>,
         Self::Item: PartialOrd + Drop,
-        requires { CanCompare contract I.into_gives I.IntoFallibleIter.contract self other }
+        requires can_next { contract.can_next self }
+        requires right { (right : I.IntoFallibleIter) → I.into_gives other right
+            → I.IntoFallibleIter.contract.can_next right }
+        requires finite { OneIsFinite contract I.into_gives I.IntoFallibleIter.contract
+            self other }
         ensures compared { ReadWith Self.Item.partial_cmp reads_le I.into_gives contract.steps
             I.IntoFallibleIter.contract.steps self other result }
         ensures value { OverBoth contract.steps self I.into_gives other
@@ -1081,7 +1105,11 @@ pub trait FallibleIterator: Drop + Sized {
     where
         I: IntoFallibleIterator<Item = Self::Item, Error = Self::Error>,
         Self::Item: PartialOrd + Drop,
-        requires { CanCompare contract I.into_gives I.IntoFallibleIter.contract self other }
+        requires can_next { contract.can_next self }
+        requires right { (right : I.IntoFallibleIter) → I.into_gives other right
+            → I.IntoFallibleIter.contract.can_next right }
+        requires finite { OneIsFinite contract I.into_gives I.IntoFallibleIter.contract
+            self other }
         ensures compared { ReadWith Self.Item.partial_cmp reads_gt I.into_gives contract.steps
             I.IntoFallibleIter.contract.steps self other result }
         ensures value { OverBoth contract.steps self I.into_gives other
@@ -1102,7 +1130,11 @@ pub trait FallibleIterator: Drop + Sized {
     where
         I: IntoFallibleIterator<Item = Self::Item, Error = Self::Error>,
         Self::Item: PartialOrd + Drop,
-        requires { CanCompare contract I.into_gives I.IntoFallibleIter.contract self other }
+        requires can_next { contract.can_next self }
+        requires right { (right : I.IntoFallibleIter) → I.into_gives other right
+            → I.IntoFallibleIter.contract.can_next right }
+        requires finite { OneIsFinite contract I.into_gives I.IntoFallibleIter.contract
+            self other }
         ensures compared { ReadWith Self.Item.partial_cmp reads_ge I.into_gives contract.steps
             I.IntoFallibleIter.contract.steps self other result }
         ensures value { OverBoth contract.steps self I.into_gives other

@@ -4,7 +4,7 @@ use Rattle.fallible_contract.proofs.Lemmas.Lists.Compared.{read_is}
 use Rattle.fallible_core.proofs.traits.FallibleIterator.le.Goals as goal
 
 pub compare-answer-requires-clause-right : goal.compare-answer-requires-clause-right
-compare-answer-requires-clause-right g c = c.requires.can_right _ c.into_fallible_iter.ensures
+compare-answer-requires-clause-right g c = c.requires.right _ c.into_fallible_iter.ensures
 
 pub compare-answer-requires-clause-finite : goal.compare-answer-requires-clause-finite
 compare-answer-requires-clause-finite g c = end_of_either _ _ _ c.into_fallible_iter.ensures c.requires.finite

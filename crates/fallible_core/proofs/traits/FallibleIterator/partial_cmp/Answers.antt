@@ -4,7 +4,7 @@ use Rattle.fallible_contract.proofs.Lemmas.Lists.Compared.{compared_with_is}
 use Rattle.fallible_core.proofs.traits.FallibleIterator.partial_cmp.Goals as goal
 
 pub compare-requires-clause-right : goal.compare-requires-clause-right
-compare-requires-clause-right g c = c.requires.can_right _ c.into_fallible_iter.ensures
+compare-requires-clause-right g c = c.requires.right _ c.into_fallible_iter.ensures
 
 pub compare-requires-clause-finite : goal.compare-requires-clause-finite
 compare-requires-clause-finite g c = end_of_either _ _ _ c.into_fallible_iter.ensures c.requires.finite
