@@ -118,10 +118,8 @@ fn map_while_ends_at_a_none_and_goes_on(rt: HostRuntime) -> Result<(), Fail> {
 fn a_fold_of_map_while_stops_at_a_none(rt: HostRuntime) {
     let answers = [Ok(4), Ok(8), Ok(0), Ok(6)];
     let mut it = numbers(&answers).map_while(half);
-    assert_eq!(rt;
-        it.by_ref().fold(0, |sum: u32, x| Ok(sum.wrapping_add(x))),
-        Ok(6)
-    );
+    let sum: Result<u32, u32> = it.try_fold(0, |sum: u32, x: u32| Ok(sum.wrapping_add(x)));
+    assert_eq!(rt; sum, Ok(6));
     assert_eq!(rt; it.next(), Ok(Some(3)));
 }
 
