@@ -6,7 +6,11 @@ use Rattle.fallible_contract.specs.declared.answers.Side.{Side}
 use Rattle.fallible_contract.specs.Traces.{Answered}
 use Rattle.fallible_contract.specs.Closures.{Steady}
 use Rattle.fallible_contract.specs.declared.passing.Outcome.{Outcome}
-use Rattle.fallible_contract.specs.Lists.{Lists, Acts, mapped, failures_mapped, pointed_to, chained}
+use Rattle.fallible_contract.specs.Lists.{Lists, Acts}
+use Rattle.fallible_core.specs.OneToOne.Map.{mapped}
+use Rattle.fallible_core.specs.OneToOne.MapErr.{failures_mapped}
+use Rattle.fallible_core.specs.OneToOne.Cloned.{pointed_to}
+use Rattle.fallible_core.specs.Joining.Chain.{chained}
 use Rattle.fallible_contract.specs.BothEnds.{ListsBothEnds, RunAtEnds, Interleaves, items_listed, failures_listed, source_list, passed_list}
 use Rattle.fallible_core.specs.declared.joining.chain.StillDrawn.{StillDrawn}
 use Rattle.fallible_core.specs.declared.joining.chain.StillDrawn.TheVariants.{Both, FirstAlone, SecondAlone}

@@ -4,7 +4,8 @@ use Rattle.std.proofs.Common.{refl, sym, ap, subst, arith}
 use Rattle.fallible_contract.specs.Traces.{LastKept, Answered, Run, item, end, failure, items_in}
 use Rattle.fallible_contract.specs.Counting.{numbered, is_kept, kept, KeptByNumber}
 use Rattle.fallible_contract.specs.Laws.Counting.{last_tail, no_answers}
-use Rattle.fallible_contract.specs.Lists.{AlwaysGives, stepped}
+use Rattle.fallible_contract.specs.Lists.{AlwaysGives}
+use Rattle.fallible_core.specs.Cutting.StepBy.{stepped}
 use Rattle.fallible_contract.proofs.Lemmas.Lists.Passing.{gives_if}
 
 -- How the numbers that are kept and the numbers of items still to be left out fit: `fits j k` where the next item has number k, and j items are left out before one is kept.

@@ -1,5 +1,5 @@
 -- `Skip`, which leaves out the first items.
-use Rattle.std.specs.Prelude.{ℕ, Option, ◌≡◌, ◌-◌, ltb, List, [], ◌∷◌}
+use Rattle.std.specs.Prelude.{ℕ, Option, ◌≡◌, ◌-◌, ltb, List, [], ◌∷◌, zero, suc, Result, Ok, Err}
 use Rattle.fallible_core.specs.declared.cutting.skip.Skip.{Skip}
 use Rattle.fallible_contract.specs.Traces.{Answered}
 use Rattle.fallible_contract.specs.Contract.{Contract}
@@ -22,3 +22,12 @@ skip_step steps p r q = SkipTrace steps p (r ∷ []) q
 -- `Skip`'s contract: that of its source but for the step and the hint.
 abbrev pub skip_contract : {S A E : Type 0} → Contract S A E → Contract (S × ℕ) A E
 skip_contract m = with_steps_contract m (skip_step m.steps) (λ p h. (k : ℕ × Option ℕ) × m.hints p.0 k × (h ≡ hint_less p.1 k))
+
+-- ---- what it lists
+
+-- without the first n items; failures don't count, and stay
+unfoldable pub skipped : {A E : Type 0} → ℕ → List (Result A E) → List (Result A E)
+skipped n [] = []
+skipped n (Err e ∷ l) = Err e ∷ skipped n l
+skipped zero (Ok x ∷ l) = Ok x ∷ skipped zero l
+skipped (suc n) (Ok x ∷ l) = skipped n l

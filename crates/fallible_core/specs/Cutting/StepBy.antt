@@ -1,5 +1,5 @@
 -- `StepBy`, which keeps one item at each step.
-use Rattle.std.specs.Prelude.{ℕ, zero, suc, Bool, Option, ◌≡◌, ◌+◌, ◌-◌, ◌%◌, ltb, leb, eqb, cond, ◌&&◌, List, [], ◌∷◌, ⊤}
+use Rattle.std.specs.Prelude.{ℕ, zero, suc, Bool, Option, ◌≡◌, ◌+◌, ◌-◌, ◌%◌, ltb, leb, eqb, cond, ◌&&◌, List, [], ◌∷◌, ⊤, Result, Ok, Err}
 use Rattle.fallible_core.specs.declared.cutting.step_by.StepBy.{StepBy}
 use Rattle.fallible_contract.specs.Traces.{Answered}
 use Rattle.fallible_contract.specs.Contract.{Contract}
@@ -52,3 +52,12 @@ count_outcome x (suc n) = LeftOut
 -- any item may be counted down
 abbrev pub count_takes : {A : Type 0} → ℕ → A → Type 0
 count_takes n x = ⊤
+
+-- ---- what it lists
+
+-- without the first n items, and from there on without the `between` items after each one that is kept; failures don't count, and stay
+unfoldable pub stepped : {A E : Type 0} → ℕ → ℕ → List (Result A E) → List (Result A E)
+stepped between n [] = []
+stepped between n (Err e ∷ l) = Err e ∷ stepped between n l
+stepped between zero (Ok x ∷ l) = Ok x ∷ stepped between between l
+stepped between (suc n) (Ok x ∷ l) = stepped between n l

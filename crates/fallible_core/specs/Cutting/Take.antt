@@ -1,5 +1,5 @@
 -- `Take`, which ends after a number of items.
-use Rattle.std.specs.Prelude.{◌≡◌, ℕ, zero, suc, ◌+◌, ◌≤◌, ◌<◌, List, [], ◌∷◌, ◌++◌, replicate, Option, ⊤, ◌⊎◌}
+use Rattle.std.specs.Prelude.{◌≡◌, ℕ, zero, suc, ◌+◌, ◌≤◌, ◌<◌, List, [], ◌∷◌, ◌++◌, replicate, Option, ⊤, ◌⊎◌, Result, Ok, Err}
 use Rattle.fallible_contract.specs.Traces.{Answered, Run, end, items_in}
 use Rattle.fallible_contract.specs.Contract.{Contract}
 use Rattle.fallible_contract.specs.WithSteps.{with_steps_contract}
@@ -32,3 +32,12 @@ take_contract m = record (with_steps_contract m (take_step m.steps) (λ p h. (k 
 -- the source, and how many items are still to be taken
 abbrev pub take_parts : {I : Type 0} → Take I → I × ℕ
 take_parts s = (s.it, s.left)
+
+-- ---- what it lists
+
+-- up to and with the n-th item; failures don't count
+unfoldable pub taken : {X E : Type 0} → ℕ → List (Result X E) → List (Result X E)
+taken zero l = []
+taken (suc n) [] = []
+taken (suc n) (Ok x ∷ l) = Ok x ∷ taken n l
+taken (suc n) (Err e ∷ l) = Err e ∷ taken (suc n) l

@@ -65,3 +65,17 @@ refuses (Err e) = false
 -- one call of the predicate, which leaves beside it whether it refused the item
 abbrev pub refusing_call : {F X E : Type 0} → (F → X → Result Bool E → F → Type 0) → F × Bool → X → Result Bool E → F × Bool → Type 0
 refusing_call call p x v q = call p.0 x v q.0 × (q.1 ≡ refuses v)
+
+-- ---- what it lists
+
+-- an item before a list where the predicate's answer keeps it; where it refuses it, the list ends
+abbrev pub cons_while : {X E : Type 0} → X → Result Bool E → List (Result X E) → List (Result X E)
+cons_while x (Ok true) l = Ok x ∷ l
+cons_while x (Ok false) l = []
+cons_while x (Err e) l = Err e ∷ l
+
+-- up to the first item x for which h x is false, without it; where h x is a failure, that failure in the place of x
+unfoldable pub taken_while : {X E : Type 0} → (X → Result Bool E) → List (Result X E) → List (Result X E)
+taken_while h [] = []
+taken_while h (Ok x ∷ l) = cons_while x (h x) (taken_while h l)
+taken_while h (Err e ∷ l) = Err e ∷ taken_while h l

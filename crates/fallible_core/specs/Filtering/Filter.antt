@@ -1,5 +1,5 @@
 -- `Filter`, which leaves out the items that a predicate refuses.
-use Rattle.std.specs.Prelude.{Option, Result, Ok, Err, List, Bool, true, false}
+use Rattle.std.specs.Prelude.{Option, Result, Ok, Err, List, Bool, true, false, [], ◌∷◌}
 use Rattle.std.specs.Fn.{Mut}
 use Rattle.std.specs.Borrow.{Bor}
 use Rattle.fallible_contract.specs.Traces.{Answered}
@@ -28,3 +28,17 @@ filter_contract m g = leaving_out_contract m (call_in (call_at g)) (IsCallableIn
 -- the source, and the slot of the closure
 abbrev pub filter_parts : {I F : Type 0} → Filter I F → I × Option F
 filter_parts s = (s.it, s.f)
+
+-- ---- what it lists
+
+-- an item before a list, where the predicate's answer keeps it; else nothing, or the predicate's failure
+abbrev pub cons_if : {X E : Type 0} → X → Result Bool E → List (Result X E) → List (Result X E)
+cons_if x (Ok true) l = Ok x ∷ l
+cons_if x (Ok false) l = l
+cons_if x (Err e) l = Err e ∷ l
+
+-- without the items x for which h x is false; where h x is a failure, that failure in the place of x
+unfoldable pub filtered : {X E : Type 0} → (X → Result Bool E) → List (Result X E) → List (Result X E)
+filtered h [] = []
+filtered h (Ok x ∷ l) = cons_if x (h x) (filtered h l)
+filtered h (Err e ∷ l) = Err e ∷ filtered h l

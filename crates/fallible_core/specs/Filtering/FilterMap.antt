@@ -1,5 +1,5 @@
 -- `FilterMap`, which leaves out the items on which its closure answers none.
-use Rattle.std.specs.Prelude.{Option, Result, Some, Ok, Err, List, None}
+use Rattle.std.specs.Prelude.{Option, Result, Some, Ok, Err, List, None, [], ◌∷◌}
 use Rattle.std.specs.Fn.{Mut}
 use Rattle.fallible_contract.specs.Traces.{Answered}
 use Rattle.fallible_contract.specs.Contract.{Contract}
@@ -27,3 +27,17 @@ filter_map_contract m g = leaving_out_contract m (call_in (call_on g)) (IsCallab
 -- the source, and the slot of the closure
 abbrev pub filter_map_parts : {I F : Type 0} → FilterMap I F → I × Option F
 filter_map_parts s = (s.it, s.f)
+
+-- ---- what it lists
+
+-- the value that a closure answers before a list; nothing where it answers none
+abbrev pub cons_some : {B E : Type 0} → Result (Option B) E → List (Result B E) → List (Result B E)
+cons_some (Ok (Some y)) l = Ok y ∷ l
+cons_some (Ok None) l = l
+cons_some (Err e) l = Err e ∷ l
+
+-- the value of h x in the place of each item x, and nothing where h x is none; where h x is a failure, that failure in the place of x
+unfoldable pub filter_mapped : {X B E : Type 0} → (X → Result (Option B) E) → List (Result X E) → List (Result B E)
+filter_mapped h [] = []
+filter_mapped h (Ok x ∷ l) = cons_some (h x) (filter_mapped h l)
+filter_mapped h (Err e ∷ l) = Err e ∷ filter_mapped h l

@@ -85,3 +85,17 @@ skip_while_contract m g = leaving_out_contract m (skip_call (call_in (call_at g)
 -- the source, whether the predicate answered false, and the predicate's slot
 abbrev pub skip_while_parts : {I P : Type 0} → SkipWhile I P → I × (Bool × Option P)
 skip_while_parts s = (s.it, (s.found, s.predicate))
+
+-- ---- what it lists
+
+-- an item from where the predicate's first answer on it decides: false keeps it and what comes after it, true leaves it out, and a failure stands in its place
+abbrev pub cons_from : {X E : Type 0} → X → Result Bool E → List (Result X E) → List (Result X E) → List (Result X E)
+cons_from x (Ok false) l skipped = Ok x ∷ l
+cons_from x (Ok true) l skipped = skipped
+cons_from x (Err e) l skipped = Err e ∷ skipped
+
+-- from the first item x on for which h x is false; before it failures stay, and where h x is a failure, that failure in the place of x
+unfoldable pub skipped_while : {X E : Type 0} → (X → Result Bool E) → List (Result X E) → List (Result X E)
+skipped_while h [] = []
+skipped_while h (Ok x ∷ l) = cons_from x (h x) l (skipped_while h l)
+skipped_while h (Err e ∷ l) = Err e ∷ skipped_while h l

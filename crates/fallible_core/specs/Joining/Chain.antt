@@ -1,5 +1,5 @@
 -- `Chain`: one source's answers up to its first end, and then those of another.
-use Rattle.std.specs.Prelude.{◌≡◌, ◌≢◌, ℕ, ◌+◌, ◌≤◌, false, List, [], ◌∷◌, ◌++◌, Option, ◌⊎◌}
+use Rattle.std.specs.Prelude.{◌≡◌, ◌≢◌, ℕ, ◌+◌, ◌≤◌, false, List, [], ◌∷◌, ◌++◌, Option, ◌⊎◌, Result}
 use Rattle.std.specs.Iterator.{Count, count_add}
 use Rattle.fallible_core.specs.declared.joining.chain.StillDrawn.{StillDrawn}
 use Rattle.fallible_core.specs.declared.joining.chain.StillDrawn.TheVariants.{Both, FirstAlone, SecondAlone}
@@ -95,3 +95,10 @@ chain_ends f e = record {
 -- the first, the second, and which of them are still drawn
 abbrev pub chain_parts : {T U : Type 0} → Chain T U → T × U × StillDrawn
 chain_parts s = (s.first, s.second, s.still_drawn)
+
+-- ---- what it lists
+
+-- one list and then another
+unfoldable pub chained : {A E : Type 0} → List (Result A E) → List (Result A E) → List (Result A E)
+chained [] b = b
+chained (y ∷ a) b = y ∷ chained a b

@@ -1,5 +1,7 @@
 -- `Flatten` and `FlatMap`: each item of an outer source becomes an inner iterator, and the answers of these are joined.
 use Rattle.std.specs.Prelude.{◌≡◌, ◌≢◌, ℕ, ◌+◌, ◌*◌, IsSomeAnd, ◌≤◌, List, [], ◌∷◌, ◌++◌, map, Option, Result, Some, None, Ok, Err, IfSome, ⊤, ◌⊎◌}
+use Rattle.fallible_core.specs.Joining.Chain.{chained}
+use Rattle.fallible_contract.specs.Lists.{Lists}
 use Rattle.std.specs.declared.ops.ControlFlow.{ControlFlow}
 use Rattle.std.specs.declared.ops.ControlFlow.TheVariants.{Continue, Break}
 use Rattle.std.specs.List.{flat_map}
@@ -156,3 +158,15 @@ module _ {X C B E V R : Type 0} (into : X → C → Type 0) (inner : Contract C 
 -- the outer source, and the inner iterator in hand
 abbrev pub flatten_parts : {I J : Type 0} → Flatten I J → I × Option J
 flatten_parts s = (s.it, s.in_hand)
+
+-- ---- what it lists
+
+-- Whatever iterator `into` allows for an item x, its answers list `inner x`.
+abbrev pub EachLists : {X C B E : Type 0} → (X → C → Type 0) → (C → Answered B E → C → Type 0) → (X → List (Result B E)) → Type 0
+EachLists {X} {C} into steps inner = (x : X) (c : C) → into x c → Lists steps c (inner x)
+
+-- the list `inner x` in the place of each item x; failures stay in their places
+unfoldable pub flattened : {X B E : Type 0} → (X → List (Result B E)) → List (Result X E) → List (Result B E)
+flattened inner [] = []
+flattened inner (Ok x ∷ l) = chained (inner x) (flattened inner l)
+flattened inner (Err e ∷ l) = Err e ∷ flattened inner l

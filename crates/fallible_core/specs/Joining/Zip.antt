@@ -1,5 +1,5 @@
 -- `Zip`: the pairs of two sources' items, place by place.
-use Rattle.std.specs.Prelude.{ℕ, Option, Some, ◌≡◌, List, map, None, Ok, Err, ◌⊎◌}
+use Rattle.std.specs.Prelude.{ℕ, Option, Some, ◌≡◌, List, map, None, Ok, Err, ◌⊎◌, Result, [], ◌∷◌, ⊤}
 use Rattle.std.specs.List.{filter_map}
 use Rattle.std.specs.Iterator.{endless}
 use Rattle.fallible_core.specs.declared.joining.zip.Zip.{Zip}
@@ -63,3 +63,22 @@ zip_contract left right = record {
   hints = λ p h. (g : ℕ × Option ℕ) × (k : ℕ × Option ℕ) × left.hints p.0 g × right.hints p.1 k × (h ≡ hint_smaller g k);
   lenders = λ p. lenders_of_both (left.lenders p.0) (right.lenders p.1);
 }
+
+-- ---- what it lists
+
+-- pairs of an item and what stands beside it, up to the first end; a failure of the first list stands alone, and one of the second takes the item's place
+unfoldable pub zipped : {A B E : Type 0} → List (Result A E) → List (Result B E) → List (Result (A × B) E)
+zipped [] b = []
+zipped (Err e ∷ a) b = Err e ∷ zipped a b
+zipped (Ok x ∷ a) [] = []
+zipped (Ok x ∷ a) (Ok y ∷ b) = Ok (x, y) ∷ zipped a b
+zipped (Ok x ∷ a) (Err e ∷ b) = Err e ∷ zipped a b
+
+-- beside the end of the first list, if the second comes so far, stands no failure
+abbrev pub NoFailureAtEnd : {A B E : Type 0} → List (Result A E) → List (Result B E) → Type 0
+NoFailureAtEnd [] [] = ⊤
+NoFailureAtEnd [] (Ok y ∷ b) = ⊤
+NoFailureAtEnd [] (Err e ∷ b) = ⊥
+NoFailureAtEnd (Err e ∷ a) b = NoFailureAtEnd a b
+NoFailureAtEnd (Ok x ∷ a) [] = ⊤
+NoFailureAtEnd (Ok x ∷ a) (y ∷ b) = NoFailureAtEnd a b

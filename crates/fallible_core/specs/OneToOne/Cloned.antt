@@ -1,5 +1,5 @@
 -- `Cloned`, which clones what each item points to.
-use Rattle.std.specs.Prelude.{⊤, Result, Ok, Err, List}
+use Rattle.std.specs.Prelude.{⊤, Result, Ok, Err, List, [], ◌∷◌}
 use Rattle.std.specs.Borrow.{Bor}
 use Rattle.std.specs.declared.alloc.AllocError.{AllocError}
 use Rattle.fallible_contract.specs.Traces.{Answered}
@@ -26,3 +26,11 @@ module _ {T E : Type 0} (is_clone : T → T → Type 0) (is_infallible : T → T
 -- the source, and nothing else
 abbrev pub cloned_parts : {I : Type 0} → Cloned I → I × Unit {0}
 cloned_parts s = (s.it, tt)
+
+-- ---- what it lists
+
+-- what each item points to, in its place
+unfoldable pub pointed_to : {A E : Type 0} → List (Result (Bor A) E) → List (Result A E)
+pointed_to [] = []
+pointed_to (Ok x ∷ l) = Ok x.now ∷ pointed_to l
+pointed_to (Err e ∷ l) = Err e ∷ pointed_to l

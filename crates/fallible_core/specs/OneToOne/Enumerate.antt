@@ -1,5 +1,5 @@
 -- `Enumerate`, which numbers the items.
-use Rattle.std.specs.Prelude.{◌≡◌, ℕ, ◌+◌, ◌-◌, ◌^◌, ◌≤◌, ◌<◌, List, [], ◌∷◌, Some, None, Ok, Err}
+use Rattle.std.specs.Prelude.{◌≡◌, ℕ, ◌+◌, ◌-◌, ◌^◌, ◌≤◌, ◌<◌, List, [], ◌∷◌, Some, None, Ok, Err, Result}
 use Rattle.fallible_contract.specs.Traces.{Answered, Run, item, failure, end, items_in}
 use Rattle.fallible_contract.specs.Contract.{Contract}
 use Rattle.fallible_contract.specs.declared.passing.Outcome.{Outcome}
@@ -58,3 +58,11 @@ number_outcome x v = Kept (v, x)
 -- an item may be counted where the next number fits a `usize`
 abbrev pub number_takes : {A : Type 0} → ℕ → A → Type 0
 number_takes n x = n < 2 ^ 64 - 1
+
+-- ---- what it lists
+
+-- each item beside its number, from n on; failures have none
+unfoldable pub numbered : {A E : Type 0} → ℕ → List (Result A E) → List (Result (ℕ × A) E)
+numbered n [] = []
+numbered n (Ok x ∷ l) = Ok (n, x) ∷ numbered (n + 1) l
+numbered n (Err e ∷ l) = Err e ∷ numbered n l

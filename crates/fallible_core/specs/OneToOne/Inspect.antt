@@ -1,5 +1,5 @@
 -- `Inspect`, whose closure sees each item.
-use Rattle.std.specs.Prelude.{Option, Result, Ok, Err, List}
+use Rattle.std.specs.Prelude.{Option, Result, Ok, Err, List, [], ◌∷◌}
 use Rattle.std.specs.Fn.{Mut}
 use Rattle.std.specs.Borrow.{Bor}
 use Rattle.fallible_contract.specs.Traces.{Answered}
@@ -26,3 +26,16 @@ inspect_contract m g = passing_contract m (call_in (call_at g)) (IsCallableIn (c
 -- the source, and the slot of the closure
 abbrev pub inspect_parts : {I F : Type 0} → Inspect I F → I × Option F
 inspect_parts s = (s.it, s.f)
+
+-- ---- what it lists
+
+-- an item that a closure has seen, or the closure's failure
+abbrev pub once_seen : {X E : Type 0} → X → Result (Unit {0}) E → Result X E
+once_seen x (Ok u) = Ok x
+once_seen x (Err e) = Err e
+
+-- the list itself, but where h x is a failure, that failure in the place of the item x
+unfoldable pub inspected : {X E : Type 0} → (X → Result (Unit {0}) E) → List (Result X E) → List (Result X E)
+inspected h [] = []
+inspected h (Ok x ∷ l) = once_seen x (h x) ∷ inspected h l
+inspected h (Err e ∷ l) = Err e ∷ inspected h l

@@ -1,5 +1,5 @@
 -- `Map`, whose closure is called on each item.
-use Rattle.std.specs.Prelude.{Option, Result, Ok, Err, List}
+use Rattle.std.specs.Prelude.{Option, Result, Ok, Err, List, [], ◌∷◌}
 use Rattle.std.specs.Fn.{Mut}
 use Rattle.fallible_contract.specs.Traces.{Answered}
 use Rattle.fallible_contract.specs.Contract.{Contract}
@@ -25,3 +25,11 @@ map_contract m g = passing_contract m (call_in (call_on g)) (IsCallableIn (call_
 -- the source, and the slot of the closure
 abbrev pub map_parts : {I F : Type 0} → Map I F → I × Option F
 map_parts s = (s.it, s.f)
+
+-- ---- what it lists
+
+-- h x in the place of each item x
+unfoldable pub mapped : {X B E : Type 0} → (X → Result B E) → List (Result X E) → List (Result B E)
+mapped h [] = []
+mapped h (Ok x ∷ l) = h x ∷ mapped h l
+mapped h (Err e ∷ l) = Err e ∷ mapped h l

@@ -79,3 +79,11 @@ TakesExit pre f (Stopped r) = ⊤
 -- the source and the closure
 abbrev pub map_err_parts : {I F : Type 0} → MapErr I F → I × F
 map_err_parts s = (s.it, s.f)
+
+-- ---- what it lists
+
+-- h e in the place of each failure e
+unfoldable pub failures_mapped : {A D E : Type 0} → (D → E) → List (Result A D) → List (Result A E)
+failures_mapped h [] = []
+failures_mapped h (Ok x ∷ l) = Ok x ∷ failures_mapped h l
+failures_mapped h (Err e ∷ l) = Err (h e) ∷ failures_mapped h l

@@ -1,5 +1,5 @@
 -- `Scan`, whose closure is called on a state and each item.
-use Rattle.std.specs.Prelude.{Option, Result, Some, None, Ok, Err, List}
+use Rattle.std.specs.Prelude.{Option, Result, Some, None, Ok, Err, List, [], ◌∷◌}
 use Rattle.std.specs.Fn.{Mut, TakesWithState, CalledWithState}
 use Rattle.std.specs.Borrow.{MutBor}
 use Rattle.fallible_contract.specs.Traces.{Answered}
@@ -36,3 +36,17 @@ scan_contract m g = passing_contract m (scan_call g) (λ P h. IsCallable (scan_c
 -- the source, and the state beside the closure
 abbrev pub scan_parts : {I T F : Type 0} → Scan I T F → I × (T × F)
 scan_parts s = (s.it, (s.state, s.f))
+
+-- ---- what it lists
+
+-- the value that a closure answers before a list; where it answers none, the list ends
+abbrev pub cons_or_end : {B E : Type 0} → Result (Option B) E → List (Result B E) → List (Result B E)
+cons_or_end (Ok (Some y)) l = Ok y ∷ l
+cons_or_end (Ok None) l = []
+cons_or_end (Err e) l = Err e ∷ l
+
+-- at state t the answer of `next t x` in the place of each item x, up to the first none, and the rest at the state that `next t x` leaves
+unfoldable pub scanned : {T X B E : Type 0} → (T → X → Result (Option B) E × T) → T → List (Result X E) → List (Result B E)
+scanned next t [] = []
+scanned next t (Ok x ∷ l) = cons_or_end (next t x).0 (scanned next (next t x).1 l)
+scanned next t (Err e ∷ l) = Err e ∷ scanned next t l

@@ -7,8 +7,8 @@ use Rattle.fallible_core.specs.declared.filtering.filter.Filter.{Filter}
 use Rattle.fallible_contract.specs.declared.passing.Outcome.TheVariants.{End}
 use Rattle.fallible_contract.specs.Contract.{Contract, seen_as}
 use Rattle.fallible_contract.specs.Closures.{call_at}
-use Rattle.fallible_core.specs.Filtering.Filter.{filter_outcome, filter_parts, filter_contract}
-use Rattle.fallible_contract.specs.Lists.{Lists, Acts, cons_if, filtered}
+use Rattle.fallible_core.specs.Filtering.Filter.{filter_outcome, filter_parts, filter_contract, cons_if, filtered}
+use Rattle.fallible_contract.specs.Lists.{Lists, Acts}
 use Rattle.fallible_contract.proofs.Lemmas.Lists.Passing.{passed, by_outcome, lists_seen, lists_passed}
 
 -- no answer of the closure makes an end

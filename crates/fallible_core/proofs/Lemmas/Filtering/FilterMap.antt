@@ -6,8 +6,8 @@ use Rattle.fallible_core.specs.declared.filtering.filter_map.FilterMap.{FilterMa
 use Rattle.fallible_contract.specs.declared.passing.Outcome.TheVariants.{End}
 use Rattle.fallible_contract.specs.Contract.{Contract, seen_as}
 use Rattle.fallible_contract.specs.Closures.{call_on}
-use Rattle.fallible_core.specs.Filtering.FilterMap.{filter_map_outcome, filter_map_parts, filter_map_contract}
-use Rattle.fallible_contract.specs.Lists.{Lists, Acts, cons_some, filter_mapped}
+use Rattle.fallible_core.specs.Filtering.FilterMap.{filter_map_outcome, filter_map_parts, filter_map_contract, cons_some, filter_mapped}
+use Rattle.fallible_contract.specs.Lists.{Lists, Acts}
 use Rattle.fallible_contract.proofs.Lemmas.Lists.Passing.{passed, by_outcome, lists_seen, lists_passed}
 
 -- no answer of the closure makes an end

@@ -7,11 +7,11 @@ use Rattle.std.proofs.Common.{refl, sym, ap, subst, inl, inr}
 use Rattle.fallible_core.specs.declared.one_to_one.cloned.Cloned.{Cloned}
 use Rattle.fallible_contract.specs.Contract.{Contract, Stays, seen_as}
 use Rattle.fallible_contract.specs.Laws.Closures.{reaches_here, may_answer_after}
-use Rattle.fallible_core.specs.OneToOne.Map.{map_outcome}
-use Rattle.fallible_core.specs.OneToOne.Cloned.{cloned_call, cloned_parts, cloned_contract}
+use Rattle.fallible_core.specs.OneToOne.Map.{map_outcome, mapped}
+use Rattle.fallible_core.specs.OneToOne.Cloned.{cloned_call, cloned_parts, cloned_contract, pointed_to}
 use Rattle.fallible_contract.specs.Traces.{Answered}
 use Rattle.fallible_contract.specs.Passing.{passing_step}
-use Rattle.fallible_contract.specs.Lists.{Lists, mapped, pointed_to}
+use Rattle.fallible_contract.specs.Lists.{Lists}
 use Rattle.fallible_contract.specs.BothEnds.{ListsBothEnds, items_listed, source_list, passed_list}
 use Rattle.fallible_contract.proofs.Lemmas.BothEnds.Passing.{GivesAt, beside, source_beside, listed_passed}
 use Rattle.fallible_core.proofs.Lemmas.OneToOne.Map.{never_ends}

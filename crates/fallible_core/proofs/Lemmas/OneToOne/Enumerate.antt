@@ -3,10 +3,10 @@ use Rattle.std.specs.Prelude.{◌≡◌, ℕ, ◌+◌, List, [], ◌∷◌, Resu
 use Rattle.std.proofs.Common.{refl, sym, ap, subst, arith}
 use Rattle.fallible_core.specs.declared.one_to_one.enumerate.Enumerate.{Enumerate}
 use Rattle.fallible_contract.specs.Contract.{Contract, seen_as}
-use Rattle.fallible_contract.specs.Lists.{AlwaysGives, Lists, numbered}
+use Rattle.fallible_contract.specs.Lists.{AlwaysGives, Lists}
+use Rattle.fallible_core.specs.OneToOne.Enumerate.{numbered, EnumerateTrace, enumerate_parts, enumerate_contract}
 use Rattle.fallible_contract.proofs.Lemmas.Lists.Passing.{lists_seen}
 use Rattle.fallible_contract.specs.Traces.{Answered, item}
-use Rattle.fallible_core.specs.OneToOne.Enumerate.{EnumerateTrace, enumerate_parts, enumerate_contract}
 use Rattle.fallible_core.specs.Laws.OneToOne.Enumerate.{Numbered, numbered_none, numbered_item, numbered_end, numbered_failure, to_numbered}
 use Rattle.fallible_contract.proofs.Lemmas.LawForm.{FirstOf, IsByAnswers}
 

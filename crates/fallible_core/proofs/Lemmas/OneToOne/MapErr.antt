@@ -6,10 +6,10 @@ use Rattle.fallible_core.specs.declared.one_to_one.map_err.MapErr.{MapErr}
 use Rattle.fallible_contract.specs.Closures.{IsCallable, call_on}
 use Rattle.fallible_contract.specs.Contract.{Contract, Lawful, seen_as}
 use Rattle.fallible_contract.specs.Laws.Closures.{reaches_here}
-use Rattle.fallible_contract.specs.Lists.{AlwaysGives, Lists, Acts, failures_mapped}
+use Rattle.fallible_contract.specs.Lists.{AlwaysGives, Lists, Acts}
+use Rattle.fallible_core.specs.OneToOne.MapErr.{failures_mapped, item_here, asked_of, end_here, MapErrTrace, MapErrAnswer, TakesFailure, map_err_parts, map_err_contract}
 use Rattle.fallible_contract.proofs.Lemmas.Lists.Passing.{lists_seen}
 use Rattle.fallible_contract.specs.Traces.{Answered, item}
-use Rattle.fallible_core.specs.OneToOne.MapErr.{item_here, asked_of, end_here, MapErrTrace, MapErrAnswer, TakesFailure, map_err_parts, map_err_contract}
 use Rattle.fallible_core.specs.Laws.OneToOne.MapErr.{Mapped, mapped_none, mapped_item, mapped_end, mapped_failure, to_mapped}
 use Rattle.fallible_contract.proofs.Lemmas.LawForm.{FirstOf, IsByAnswers}
 

@@ -4,11 +4,11 @@ use Rattle.std.proofs.Common.{refl, sym, ap, subst, ◌∙◌}
 use Rattle.std.proofs.lemmas.List.Elements.{All-nil, All-cons}
 use Rattle.fallible_contract.specs.Traces.{Answered}
 use Rattle.fallible_contract.specs.Closures.{Steady}
-use Rattle.fallible_contract.specs.Lists.{Acts, failures_mapped}
+use Rattle.fallible_contract.specs.Lists.{Acts}
+use Rattle.fallible_core.specs.OneToOne.MapErr.{failures_mapped, MapErrTrace}
 use Rattle.fallible_contract.specs.BothEnds.{TakesFirst, ListsBothEnds, failure_listed, failures_listed}
 use Rattle.fallible_contract.proofs.Lemmas.BothEnds.{takes_front, listed_by_swapping, listed_swapped}
 use Rattle.fallible_contract.proofs.Lemmas.BothEnds.Passing.{map-reverse, filter_map-reverse, GivesAt, steady_after, steady_rest, steady_answer, steady_none, steady_reversed, stays_acting}
-use Rattle.fallible_core.specs.OneToOne.MapErr.{MapErrTrace}
 use Rattle.fallible_core.specs.Laws.OneToOne.MapErr.{Mapped, mapped_none, mapped_item, mapped_end, mapped_failure, to_mapped}
 
 -- h e in the place of the failure e

@@ -4,11 +4,11 @@ use Rattle.std.proofs.Common.{refl, ap, ◌∙◌}
 use Rattle.std.specs.Fn.{Mut}
 use Rattle.fallible_contract.specs.Closures.{call_on}
 use Rattle.fallible_contract.specs.Contract.{Contract, seen_as}
-use Rattle.fallible_contract.specs.Lists.{Lists, Acts, cons_or_end}
+use Rattle.fallible_contract.specs.Lists.{Lists, Acts}
+use Rattle.fallible_core.specs.OneToOne.Scan.{cons_or_end, scan_outcome}
 use Rattle.fallible_contract.specs.Passing.{LeavesNoneOut}
 use Rattle.fallible_contract.proofs.Lemmas.Lists.Passing.{passed, lists_seen, lists_passed}
 use Rattle.fallible_core.specs.OneToOne.MapWhile.{map_while_parts, map_while_contract, mapped_while}
-use Rattle.fallible_core.specs.OneToOne.Scan.{scan_outcome}
 use Rattle.fallible_core.specs.declared.one_to_one.map_while.MapWhile.{MapWhile}
 use Rattle.fallible_core.proofs.Lemmas.OneToOne.Scan.{outcome_listed}
 

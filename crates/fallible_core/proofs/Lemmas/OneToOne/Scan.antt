@@ -4,10 +4,10 @@ use Rattle.std.proofs.Common.{refl, ap, subst, ◌∙◌}
 use Rattle.std.specs.Fn.{Mut}
 use Rattle.std.specs.Borrow.{MutBor}
 use Rattle.fallible_contract.specs.Traces.{Answered, item}
-use Rattle.fallible_core.specs.OneToOne.Scan.{scan_call, ScanTrace, scan_outcome, scan_parts, scan_contract}
+use Rattle.fallible_core.specs.OneToOne.Scan.{scan_call, ScanTrace, scan_outcome, scan_parts, scan_contract, cons_or_end, scanned}
 use Rattle.fallible_core.specs.declared.one_to_one.scan.Scan.{Scan}
 use Rattle.fallible_contract.specs.Contract.{Contract, seen_as}
-use Rattle.fallible_contract.specs.Lists.{Lists, ActsWithState, cons_or_end, scanned}
+use Rattle.fallible_contract.specs.Lists.{Lists, ActsWithState}
 use Rattle.fallible_contract.proofs.Lemmas.Lists.Passing.{passed, by_outcome, all_given, lists_seen}
 use Rattle.fallible_contract.specs.Laws.Passing.{passes_item, passes_refusal, passes_closing}
 

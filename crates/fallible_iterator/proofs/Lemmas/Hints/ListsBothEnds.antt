@@ -7,7 +7,11 @@ use Rattle.std.proofs.lemmas.List.{length-reverse}
 use Rattle.fallible_contract.specs.Traces.{Answered, Yields, item, end}
 use Rattle.fallible_contract.specs.declared.passing.Outcome.{Outcome}
 use Rattle.fallible_contract.specs.declared.passing.Outcome.TheVariants.{Kept, LeftOut, Failure, End}
-use Rattle.fallible_contract.specs.Lists.{AlwaysGives, Lists, mapped, failures_mapped, pointed_to, chained}
+use Rattle.fallible_contract.specs.Lists.{AlwaysGives, Lists}
+use Rattle.fallible_core.specs.OneToOne.Map.{mapped}
+use Rattle.fallible_core.specs.OneToOne.MapErr.{failures_mapped}
+use Rattle.fallible_core.specs.OneToOne.Cloned.{pointed_to}
+use Rattle.fallible_core.specs.Joining.Chain.{chained}
 use Rattle.fallible_contract.specs.BothEnds.{ListsBothEnds, item_listed, items_listed, failure_listed, failures_listed, source_list, outcome_listed, passed_list}
 use Rattle.fallible_contract.specs.Hints.{hint_sum}
 use Rattle.fallible_contract.proofs.Lemmas.Lists.Passing.{passed, by_outcome}

@@ -1,8 +1,7 @@
 -- The lists of the inner iterators that the closure makes, joined.
 use Rattle.std.proofs.Common.{refl}
 use Rattle.fallible_contract.specs.Contract.{seen_as}
-use Rattle.fallible_core.specs.OneToOne.Map.{map_parts, map_contract}
-use Rattle.fallible_contract.specs.Lists.{mapped}
+use Rattle.fallible_core.specs.OneToOne.Map.{map_parts, map_contract, mapped}
 use Rattle.fallible_core.proofs.Lemmas.Joining.Flatten.{lists_flattened}
 use Rattle.fallible_core.proofs.traits.FallibleIterator.flat_map.Goals as goal
 

@@ -1,5 +1,6 @@
 -- One law an adapter, and the law of interleaving of the whole.
-use Rattle.fallible_contract.specs.Lists.{mapped, filtered}
+use Rattle.fallible_core.specs.OneToOne.Map.{mapped}
+use Rattle.fallible_core.specs.Filtering.Filter.{filtered}
 use Rattle.fallible_core.specs.Ends.Rev.{rev_parts}
 use Rattle.fallible_iterator.proofs.laws.ends.law_interleave_nest.Goals as goal
 
