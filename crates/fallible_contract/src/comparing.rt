@@ -71,60 +71,42 @@ pub fn decide<A: Drop, K: Rule<A>>(left: Option<A>, right: Option<A>) -> Option<
 pub fn read_eq<E>(answer: Result<Option<Ordering>, E>) -> Result<bool, E>
     ensures { result ≡ read_as reads_eq answer }
 {
-    match answer {
-        Ok(order) => Ok(matches!(order, Some(Ordering::Equal))),
-        Err(e) => Err(e),
-    }
+    Ok(matches!(answer?, Some(Ordering::Equal)))
 }
 
 /// Reads `ne` off a comparison's answer.
 pub fn read_ne<E>(answer: Result<Option<Ordering>, E>) -> Result<bool, E>
     ensures { result ≡ read_as reads_ne answer }
 {
-    match answer {
-        Ok(order) => Ok(!matches!(order, Some(Ordering::Equal))),
-        Err(e) => Err(e),
-    }
+    Ok(!matches!(answer?, Some(Ordering::Equal)))
 }
 
 /// Reads `lt` off a comparison's answer.
 pub fn read_lt<E>(answer: Result<Option<Ordering>, E>) -> Result<bool, E>
     ensures { result ≡ read_as reads_lt answer }
 {
-    match answer {
-        Ok(order) => Ok(matches!(order, Some(Ordering::Less))),
-        Err(e) => Err(e),
-    }
+    Ok(matches!(answer?, Some(Ordering::Less)))
 }
 
 /// Reads `le` off a comparison's answer.
 pub fn read_le<E>(answer: Result<Option<Ordering>, E>) -> Result<bool, E>
     ensures { result ≡ read_as reads_le answer }
 {
-    match answer {
-        Ok(order) => Ok(matches!(order, Some(Ordering::Less | Ordering::Equal))),
-        Err(e) => Err(e),
-    }
+    Ok(matches!(answer?, Some(Ordering::Less | Ordering::Equal)))
 }
 
 /// Reads `gt` off a comparison's answer.
 pub fn read_gt<E>(answer: Result<Option<Ordering>, E>) -> Result<bool, E>
     ensures { result ≡ read_as reads_gt answer }
 {
-    match answer {
-        Ok(order) => Ok(matches!(order, Some(Ordering::Greater))),
-        Err(e) => Err(e),
-    }
+    Ok(matches!(answer?, Some(Ordering::Greater)))
 }
 
 /// Reads `ge` off a comparison's answer.
 pub fn read_ge<E>(answer: Result<Option<Ordering>, E>) -> Result<bool, E>
     ensures { result ≡ read_as reads_ge answer }
 {
-    match answer {
-        Ok(order) => Ok(matches!(order, Some(Ordering::Greater | Ordering::Equal))),
-        Err(e) => Err(e),
-    }
+    Ok(matches!(answer?, Some(Ordering::Greater | Ordering::Equal)))
 }
 
 /// The order, where a comparison found one.
@@ -132,9 +114,8 @@ pub fn ordered<E>(answer: Result<Option<Ordering>, E>) -> Result<Ordering, E>
     requires { ¬ (answer ≡ Ok None) }
     ensures { read_as (λ o. Some o) result ≡ answer }
 {
-    match answer {
-        Ok(Some(order)) => Ok(order),
-        Ok(None) => Ok(Ordering::Equal),
-        Err(e) => Err(e),
+    match answer? {
+        Some(order) => Ok(order),
+        None => Ok(Ordering::Equal),
     }
 }

@@ -88,9 +88,8 @@ impl<A: Drop, E, K: Ord + Drop, F: FnMut(&A) -> Result<K, E>> Turn<(Option<(K, A
 pub fn without_key<A, E, K: Drop>(best: Result<Option<(K, A)>, E>) -> Result<Option<A>, E>
     ensures { result ≡ item_of best }
 {
-    match best {
-        Ok(Some((_, x))) => Ok(Some(x)),
-        Ok(None) => Ok(None),
-        Err(e) => Err(e),
+    match best? {
+        Some((_, x)) => Ok(Some(x)),
+        None => Ok(None),
     }
 }

@@ -6,9 +6,9 @@ ghost use Rattle.fallible_contract.specs.Clauses.{OverList, OverListWith, OverBo
 ghost use Rattle.fallible_contract.specs.Contract.{Contract, AtMost, Lawful, Stays, NeverFails, seen_as};
 ghost use Rattle.fallible_contract.specs.Closures.{IsCallable, call_on, takes_on, call_at, takes_at};
 ghost use Rattle.fallible_core.specs.OneToOne.Enumerate.{IsNumberable, enumerate_parts, enumerate_contract, numbered};
-ghost use Rattle.fallible_core.specs.Filtering.SkipWhile.{skip_call, skip_takes, skip_while_parts, skip_while_contract, skipped_while};
-ghost use Rattle.fallible_core.specs.OneToOne.Scan.{scan_call, scan_takes, scan_parts, scan_contract, scanned};
-ghost use Rattle.fallible_core.specs.OneToOne.Map.{map_parts, map_contract, mapped};
+ghost use Rattle.fallible_core.specs.Filtering.SkipWhile.{skip_call, skip_takes, skip_while_parts, skip_while_contract, skipped_while, skip_while_source, skip_while_found, skip_while_predicate};
+ghost use Rattle.fallible_core.specs.OneToOne.Scan.{scan_call, scan_takes, scan_parts, scan_contract, scanned, scan_source, scan_state, scan_closure};
+ghost use Rattle.fallible_core.specs.OneToOne.Map.{map_parts, map_contract, mapped, map_source, map_closure};
 ghost use Rattle.fallible_core.specs.OneToOne.Inspect.{inspect_parts, inspect_contract, inspected};
 ghost use Rattle.fallible_core.specs.Filtering.Filter.{filter_parts, filter_contract, filtered};
 ghost use Rattle.fallible_core.specs.Filtering.FilterMap.{filter_map_parts, filter_map_contract, filter_mapped};
@@ -17,18 +17,18 @@ ghost use Rattle.fallible_core.specs.OneToOne.MapErr.{map_err_parts, map_err_con
 ghost use Rattle.fallible_core.specs.OneToOne.Cloned.{cloned_parts, cloned_contract, pointed_to};
 ghost use Rattle.fallible_core.specs.Ends.Rev.{rev_parts, rev_contract};
 ghost use Rattle.fallible_core.specs.Cutting.Take.{take_parts, take_contract, taken};
-ghost use Rattle.fallible_core.specs.Cutting.TakeWhile.{take_while_parts, take_while_contract, taken_while};
+ghost use Rattle.fallible_core.specs.Cutting.TakeWhile.{take_while_parts, take_while_contract, taken_while, take_while_source, take_while_predicate, take_while_refused};
 ghost use Rattle.fallible_core.specs.Cutting.Fuse.{fuse_parts, fuse_contract};
 ghost use Rattle.fallible_core.specs.Cutting.Skip.{skip_parts, skip_contract, skipped};
-ghost use Rattle.fallible_core.specs.Cutting.StepBy.{step_by_parts, step_by_contract, stepped};
-ghost use Rattle.fallible_core.specs.Joining.Chain.{chain_parts, chain_contract, chained};
-ghost use Rattle.fallible_core.specs.Joining.Zip.{zip_parts, zip_contract, zipped, NoFailureAtEnd};
-ghost use Rattle.fallible_core.specs.Joining.Flatten.{flatten_parts, flatten_contract, EachLists, flattened};
+ghost use Rattle.fallible_core.specs.Cutting.StepBy.{step_by_parts, step_by_contract, stepped, step_by_source, step_by_between, step_by_left};
+ghost use Rattle.fallible_core.specs.Joining.Chain.{chain_parts, chain_contract, chained, chain_first, chain_second, chain_still_drawn};
+ghost use Rattle.fallible_core.specs.Joining.Zip.{zip_parts, zip_contract, zipped, NoFailureAtEnd, zip_left, zip_right};
+ghost use Rattle.fallible_core.specs.Joining.Flatten.{flatten_parts, flatten_contract, EachLists, flattened, flatten_inner, flatten_source};
 ghost use Rattle.fallible_core.specs.Borrowed.{borrowed};
 ghost use Rattle.fallible_core.specs.Bridges.Iterator.{iterator_parts, iterator_steps};
 ghost use Rattle.fallible_core.specs.Bridges.Unwrap.{unwrap_parts, unwrap_steps, unwrapped};
 ghost use Rattle.fallible_core.specs.Peeking.Peekable.{peekable_parts, peekable_contract};
-ghost use Rattle.fallible_core.specs.Joining.Cycle.{cycle_parts};
+ghost use Rattle.fallible_core.specs.Joining.Cycle.{cycle_kept, cycle_source};
 ghost use Rattle.fallible_core.specs.declared.joining.chain.StillDrawn.TheVariants.{Both};
 ghost use Rattle.fallible_contract.specs.Collecting.{Collects, IsCollectTurn, Asks, IsPartitionTurn, Partitions, MadeOfParts, PairRefused, IsUnzipTurn};
 ghost use Rattle.fallible_contract.specs.Lists.{items, Lists, Acts, Repeats, repeated, counted, ActsWithState, CollectedAs, nth_of, folded, reduced, ActsWith, Converts, all_of, any_of, find_mapped, found, last_of, PartedAs, UnzippedAs, position_in, each_done, best_by, greatest, least, best_by_key, compared};
@@ -331,7 +331,9 @@ pub trait FallibleIterator: Drop + Sized {
         P: FnMut(&Self::Item) -> Result<bool, Self::Error>,
         requires { IsCallable (call_at P.FnMut)
             (takes_at P.FnMut) (contract.may_give self) predicate }
-        ensures parts { take_while_parts result ≡ ((self, Some predicate), false) }
+        ensures source { take_while_source result ≡ self }
+        ensures predicate { take_while_predicate result ≡ Some predicate }
+        ensures refused { take_while_refused result ≡ false }
         ensures lists { OverListWith (Acts (call_at P.FnMut) predicate) contract.steps self
             (λ h l. Lists (seen_as take_while_parts (take_while_contract contract P.FnMut)).steps
             result (taken_while h l)) }
@@ -370,7 +372,9 @@ pub trait FallibleIterator: Drop + Sized {
     /// Keeps the first item, and then one item at each step, so that of each `step` items one is kept. Failures and ends pass, and don't count. The step is at least 1. Making the adapter draws nothing; one call draws at most `step` answers.
     final fn step_by(self, step: usize) -> StepBy<Self>
         requires { 1 ≤ step }
-        ensures parts { step_by_parts result ≡ (self, (step - 1, 0)) }
+        ensures source { step_by_source result ≡ self }
+        ensures between { step_by_between result ≡ step - 1 }
+        ensures left { step_by_left result ≡ 0 }
         ensures lists { OverList contract.steps self
             (λ l. Lists (seen_as step_by_parts (step_by_contract contract)).steps
             result (stepped (step - 1) 0 l)) }
@@ -458,7 +462,9 @@ pub trait FallibleIterator: Drop + Sized {
         requires finite { contract.is_finite self }
         requires callable { IsCallable (skip_call (call_at P.FnMut)) (skip_takes (takes_at P.FnMut))
             (contract.may_give self) (false, predicate) }
-        ensures parts { skip_while_parts result ≡ (self, (false, Some predicate)) }
+        ensures source { skip_while_source result ≡ self }
+        ensures found { skip_while_found result ≡ false }
+        ensures predicate { skip_while_predicate result ≡ Some predicate }
         ensures lists { OverListWith (Acts (call_at P.FnMut) predicate) contract.steps self
             (λ h l. Lists (seen_as skip_while_parts (skip_while_contract contract P.FnMut)).steps
             result (skipped_while h l)) }
@@ -496,7 +502,9 @@ pub trait FallibleIterator: Drop + Sized {
         F: FnMut(&mut St, Self::Item) -> Result<Option<B>, Self::Error>,
         requires { IsCallable (scan_call F.FnMut) (scan_takes F.FnMut) (contract.may_give self)
             (initial_state, f) }
-        ensures parts { scan_parts result ≡ (self, (initial_state, f)) }
+        ensures source { scan_source result ≡ self }
+        ensures state { scan_state result ≡ initial_state }
+        ensures closure { scan_closure result ≡ f }
         ensures lists { OverListWith (ActsWithState (scan_call F.FnMut) f) contract.steps self
             (λ next l. Lists (seen_as scan_parts (scan_contract contract F.FnMut)).steps
             result (scanned next initial_state l)) }
@@ -539,9 +547,9 @@ pub trait FallibleIterator: Drop + Sized {
     final fn chain<I>(self, it: I) -> Chain<Self, I::IntoFallibleIter>
     where
         I: IntoFallibleIterator<Item = Self::Item, Error = Self::Error>,
-        ensures front { (chain_parts result).0 ≡ self }
-        ensures back { I.into_gives it (chain_parts result).1 }
-        ensures sides { (chain_parts result).2 ≡ Both }
+        ensures first { chain_first result ≡ self }
+        ensures second { I.into_gives it (chain_second result) }
+        ensures still_drawn { chain_still_drawn result ≡ Both }
         ensures lists { OverBoth contract.steps self I.into_gives it
             I.IntoFallibleIter.contract.steps
             (λ a b. Lists (seen_as chain_parts (chain_contract contract
@@ -558,8 +566,8 @@ pub trait FallibleIterator: Drop + Sized {
     final fn zip<I>(self, o: I) -> Zip<Self, I::IntoFallibleIter>
     where
         I: IntoFallibleIterator<Error = Self::Error>,
-        ensures left { (zip_parts result).0 ≡ self }
-        ensures right { I.into_gives o (zip_parts result).1 }
+        ensures left { zip_left result ≡ self }
+        ensures right { I.into_gives o (zip_right result) }
         ensures lists { OverBoth contract.steps self I.into_gives o
             I.IntoFallibleIter.contract.steps
             (λ a b. NoFailureAtEnd a b
@@ -585,7 +593,8 @@ pub trait FallibleIterator: Drop + Sized {
     where
         Self::Item: IntoFallibleIterator<Error = Self::Error>,
         requires { contract.is_finite self }
-        ensures parts { flatten_parts result ≡ (self, None) }
+        ensures source { flatten_source result ≡ self }
+        ensures inner { flatten_inner result ≡ None }
         ensures lists { OverListWith
             (EachLists Self.Item.into_gives Self.Item.IntoFallibleIter.contract.steps)
             contract.steps self
@@ -609,8 +618,9 @@ pub trait FallibleIterator: Drop + Sized {
         requires finite { contract.is_finite self }
         requires callable { IsCallable (call_on F.FnMut) (takes_on F.FnMut)
             (contract.may_give self) f }
-        ensures outer { map_parts (flatten_parts result).0 ≡ (self, Some f) }
-        ensures in_hand { (flatten_parts result).1 ≡ None }
+        ensures source { map_source (flatten_source result) ≡ self }
+        ensures closure { map_closure (flatten_source result) ≡ Some f }
+        ensures inner { flatten_inner result ≡ None }
         ensures lists { (inner : U → List (Result U.Item Self.Error))
             → EachLists U.into_gives U.IntoFallibleIter.contract.steps inner
             → OverListWith (Acts (call_on F.FnMut) f) contract.steps self
@@ -1169,7 +1179,7 @@ pub trait FallibleIterator: Drop + Sized {
         Self::Error: From<AllocError>,
         requires { (c : Self) → Self.is_clone self c → contract.can_next c }
         ensures { MatchResult result
-            (λ made. Self.is_clone self (cycle_parts made).0 × ((cycle_parts made).1 ≡ self))
+            (λ made. Self.is_clone self (cycle_source made) × (cycle_kept made ≡ self))
             (λ _. ¬ (Self.is_infallible self)) }
     {
         let run = self.clone()?;

@@ -7,7 +7,7 @@ use Rattle.fallible_contract.specs.Traces.{Answered, Run}
 use Rattle.fallible_core.specs.declared.cutting.take.Take.{Take}
 use Rattle.fallible_core.specs.declared.one_to_one.map.Map.{Map}
 use Rattle.fallible_core.specs.declared.filtering.filter.Filter.{Filter}
-use Rattle.fallible_core.specs.Cutting.Take.{TakeTrace, take_parts}
+use Rattle.fallible_core.specs.Cutting.Take.{TakeTrace, take_left, take_source}
 use Rattle.fallible_core.specs.OneToOne.Map.{MapTrace, map_parts}
 use Rattle.fallible_core.specs.Filtering.Filter.{FilterTrace, filter_parts}
 use Rattle.fallible_iterator.specs.declared.sources.convert.Convert.{Convert}
@@ -24,7 +24,7 @@ RunsAsSource {V = V} {A = A} {E = E} source_of can source steps = (s : V) (trace
 -- the parts of the types within such a nest
 module _ {S P F : Type 0} where
   abbrev pub map_of : Take (Map (Filter S P) F) → Filter S P × Option F
-  map_of s = map_parts (take_parts s).0
+  map_of s = map_parts (take_source s)
 
   abbrev pub filter_of : Take (Map (Filter S P) F) → S × Option P
   filter_of s = filter_parts (map_of s).0
@@ -40,11 +40,11 @@ pub record TakeMapFilterTrace {S P F X B E : Type 0} (steps : S → Answered X E
   pub drawn : Run steps (source_of s) source_trace (source_of t)
   pub filters : FilterTrace first_of predicate (source_trace, (filter_of s).1) kept ([], (filter_of t).1)
   pub maps : MapTrace first_of closure (kept, (map_of s).1) mapped ([], (map_of t).1)
-  pub takes : TakeTrace first_of (mapped, (take_parts s).1) trace ([], (take_parts t).1)
+  pub takes : TakeTrace first_of (mapped, take_left s) trace ([], take_left t)
 
 -- A `Take` of a borrowed `Convert`: the calls of the std iterator gave a list, place by place, the definition of `Take` makes of that list the trace, and what is borrowed holds the std iterator after just those calls, behind the same reference.
 pub record TakeBorrowedTrace {S A E : Type 0} (can : S → Type 0) (gives : S → Option (Result A E) → S → Type 0) (remaining : S → Count) (s : Take (MutBor (Convert S))) (trace : List (Answered A E)) (t : Take (MutBor (Convert S))) : Type 0 where
   pub source_trace : List (Answered A E)
-  pub drawn : ConvertTrace can gives remaining (convert_parts (take_parts s).0.now) source_trace (convert_parts (take_parts t).0.now)
-  pub takes : TakeTrace first_of (source_trace, (take_parts s).1) trace ([], (take_parts t).1)
-  pub same_reference : (take_parts t).0.ghost_name ≡ (take_parts s).0.ghost_name
+  pub drawn : ConvertTrace can gives remaining (convert_parts (take_source s).now) source_trace (convert_parts (take_source t).now)
+  pub takes : TakeTrace first_of (source_trace, take_left s) trace ([], take_left t)
+  pub same_reference : (take_source t).ghost_name ≡ (take_source s).ghost_name

@@ -1,4 +1,5 @@
--- Lemmas on the runs of such types: one file a type.
+-- Lemmas on the runs of such types: one file a type, and `Counting`, which `Skip` and `StepBy` share.
+pub mod Counting
 pub mod Fuse
 pub mod FuseFolds
 pub mod Skip

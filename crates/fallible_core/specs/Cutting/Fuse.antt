@@ -15,6 +15,14 @@ pub record FuseTrace {S A E : Type 0} (steps : S → Answered A E → S → Type
 abbrev pub fuse_contract : {S A E : Type 0} → Contract S A E → Contract (S × Bool) A E
 fuse_contract m = closing_contract m m.steps (λ r. r) is_end
 
+-- the source
+abbrev pub fuse_source : {I : Type 0} → Fuse I → I
+fuse_source s = s.it
+
+-- whether an end was given
+abbrev pub fuse_ended : {I : Type 0} → Fuse I → Bool
+fuse_ended s = s.ended
+
 -- the source, and whether its end was met
 abbrev pub fuse_parts : {I : Type 0} → Fuse I → I × Bool
-fuse_parts s = (s.it, s.ended)
+fuse_parts s = (fuse_source s, fuse_ended s)

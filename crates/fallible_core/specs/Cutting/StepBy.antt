@@ -9,9 +9,21 @@ use Rattle.fallible_contract.specs.declared.passing.Outcome.TheVariants.{Kept, L
 use Rattle.fallible_contract.specs.WithSteps.{with_steps_contract}
 use Rattle.fallible_contract.specs.Hints.{hint_kept}
 
+-- the source
+abbrev pub step_by_source : {I : Type 0} → StepBy I → I
+step_by_source s = s.it
+
+-- how many items stand between two that are kept
+abbrev pub step_by_between : {I : Type 0} → StepBy I → ℕ
+step_by_between s = s.between
+
+-- how many items it leaves out before the next one
+abbrev pub step_by_left : {I : Type 0} → StepBy I → ℕ
+step_by_left s = s.left
+
 -- the source, and how many items are left out between two and how many next
 abbrev pub step_by_parts : {I : Type 0} → StepBy I → I × (ℕ × ℕ)
-step_by_parts s = (s.it, (s.between, s.left))
+step_by_parts s = (step_by_source s, (step_by_between s, step_by_left s))
 
 -- whether the item with number k is kept, where r are left out at first: k is r + 1 plus a multiple of the step
 abbrev pub keeps_at_steps : ℕ → ℕ → ℕ → Bool

@@ -29,9 +29,17 @@ take_contract m = record (with_steps_contract m (take_step m.steps) (λ p h. (k 
   is_finite = λ p. ⊤;
 }
 
+-- the source
+abbrev pub take_source : {I : Type 0} → Take I → I
+take_source s = s.it
+
+-- how many items it still gives
+abbrev pub take_left : {I : Type 0} → Take I → ℕ
+take_left s = s.left
+
 -- the source, and how many items are still to be taken
 abbrev pub take_parts : {I : Type 0} → Take I → I × ℕ
-take_parts s = (s.it, s.left)
+take_parts s = (take_source s, take_left s)
 
 -- ---- what it lists
 

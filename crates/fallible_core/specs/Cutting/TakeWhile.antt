@@ -50,9 +50,21 @@ place_drawn steps call p x q = steps p.0 (source_answer x) q.0 × Calls call p.1
 abbrev pub take_while_contract : {S F X E : Type 0} → Contract S X E → Mut F (Bor X × Unit {0}) (Result Bool E) → Contract ((S × Option F) × Bool) X E
 take_while_contract m g = closing_contract (passing_contract m (call_in (call_at g)) (IsCallableIn (call_at g) (takes_at g)) take_while_outcome (λ p h. upper_alone m p.0 h)) (place_drawn m.steps (call_in (call_at g))) taken_answer is_refused
 
+-- the source
+abbrev pub take_while_source : {I P : Type 0} → TakeWhile I P → I
+take_while_source s = s.it
+
+-- the slot of the predicate
+abbrev pub take_while_predicate : {I P : Type 0} → TakeWhile I P → Option P
+take_while_predicate s = s.predicate
+
+-- whether an item was refused
+abbrev pub take_while_refused : {I P : Type 0} → TakeWhile I P → Bool
+take_while_refused s = s.refused
+
 -- the source and the slot of the predicate, and whether an item was refused
 abbrev pub take_while_parts : {I P : Type 0} → TakeWhile I P → (I × Option P) × Bool
-take_while_parts s = ((s.it, s.predicate), s.refused)
+take_while_parts s = ((take_while_source s, take_while_predicate s), take_while_refused s)
 
 -- ---- its fold, through the source's own
 

@@ -25,9 +25,17 @@ FilterTrace steps g p trace q = PassTrace steps (call_in (call_at g)) filter_out
 abbrev pub filter_contract : {S F X E : Type 0} → Contract S X E → Mut F (Bor X × Unit {0}) (Result Bool E) → Contract (S × Option F) X E
 filter_contract m g = leaving_out_contract m (call_in (call_at g)) (IsCallableIn (call_at g) (takes_at g)) filter_outcome (λ p h. upper_alone m p.0 h)
 
+-- the source
+abbrev pub filter_source : {I F : Type 0} → Filter I F → I
+filter_source s = s.it
+
+-- the slot of the predicate
+abbrev pub filter_predicate : {I F : Type 0} → Filter I F → Option F
+filter_predicate s = s.f
+
 -- the source, and the slot of the closure
 abbrev pub filter_parts : {I F : Type 0} → Filter I F → I × Option F
-filter_parts s = (s.it, s.f)
+filter_parts s = (filter_source s, filter_predicate s)
 
 -- ---- what it lists
 

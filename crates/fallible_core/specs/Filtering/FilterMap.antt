@@ -24,9 +24,17 @@ FilterMapTrace steps g p trace q = PassTrace steps (call_in (call_on g)) filter_
 abbrev pub filter_map_contract : {S F X B E : Type 0} → Contract S X E → Mut F (X × Unit {0}) (Result (Option B) E) → Contract (S × Option F) B E
 filter_map_contract m g = leaving_out_contract m (call_in (call_on g)) (IsCallableIn (call_on g) (takes_on g)) filter_map_outcome (λ p h. upper_alone m p.0 h)
 
+-- the source
+abbrev pub filter_map_source : {I F : Type 0} → FilterMap I F → I
+filter_map_source s = s.it
+
+-- the slot of the closure
+abbrev pub filter_map_closure : {I F : Type 0} → FilterMap I F → Option F
+filter_map_closure s = s.f
+
 -- the source, and the slot of the closure
 abbrev pub filter_map_parts : {I F : Type 0} → FilterMap I F → I × Option F
-filter_map_parts s = (s.it, s.f)
+filter_map_parts s = (filter_map_source s, filter_map_closure s)
 
 -- ---- what it lists
 

@@ -82,9 +82,21 @@ skip_while_hints m p h = MatchBool (p.1).0 (m.hints p.0 h) (upper_alone m p.0 h)
 abbrev pub skip_while_contract : {S F X E : Type 0} → Contract S X E → Mut F (Bor X × Unit {0}) (Result Bool E) → Contract (S × (Bool × Option F)) X E
 skip_while_contract m g = leaving_out_contract m (skip_call (call_in (call_at g))) (IsAskableIn (call_at g) (takes_at g)) skip_while_outcome (skip_while_hints m)
 
+-- the source
+abbrev pub skip_while_source : {I P : Type 0} → SkipWhile I P → I
+skip_while_source s = s.it
+
+-- whether the first kept item was found
+abbrev pub skip_while_found : {I P : Type 0} → SkipWhile I P → Bool
+skip_while_found s = s.found
+
+-- the slot of the predicate
+abbrev pub skip_while_predicate : {I P : Type 0} → SkipWhile I P → Option P
+skip_while_predicate s = s.predicate
+
 -- the source, whether the predicate answered false, and the predicate's slot
 abbrev pub skip_while_parts : {I P : Type 0} → SkipWhile I P → I × (Bool × Option P)
-skip_while_parts s = (s.it, (s.found, s.predicate))
+skip_while_parts s = (skip_while_source s, (skip_while_found s, skip_while_predicate s))
 
 -- ---- what it lists
 

@@ -92,9 +92,21 @@ chain_ends f e = record {
   may_fail = chain_may_come f.may_fail e.may_fail;
 }
 
+-- the first side
+abbrev pub chain_first : {T U : Type 0} → Chain T U → T
+chain_first s = s.first
+
+-- the second side
+abbrev pub chain_second : {T U : Type 0} → Chain T U → U
+chain_second s = s.second
+
+-- which sides are still drawn
+abbrev pub chain_still_drawn : {T U : Type 0} → Chain T U → StillDrawn
+chain_still_drawn s = s.still_drawn
+
 -- the first, the second, and which of them are still drawn
 abbrev pub chain_parts : {T U : Type 0} → Chain T U → T × U × StillDrawn
-chain_parts s = (s.first, s.second, s.still_drawn)
+chain_parts s = (chain_first s, chain_second s, chain_still_drawn s)
 
 -- ---- what it lists
 

@@ -38,6 +38,14 @@ module _ {S A E : Type 0} (is_clone : S → S → Type 0) (is_infallible : S →
     hints = λ p h. (k : ℕ × Option ℕ) × m.hints p.1 k × (h ≡ cycle_hint k);
   }
 
+-- the source
+abbrev pub cycle_source : {I : Type 0} → Cycle I → I
+cycle_source s = s.it
+
+-- the source that is kept for the next round
+abbrev pub cycle_kept : {I : Type 0} → Cycle I → I
+cycle_kept s = s.kept
+
 -- the current run, and the kept source
 abbrev pub cycle_parts : {I : Type 0} → Cycle I → I × I
-cycle_parts s = (s.it, s.kept)
+cycle_parts s = (cycle_source s, cycle_kept s)

@@ -155,9 +155,17 @@ module _ {X C B E V R : Type 0} (into : X → C → Type 0) (inner : Contract C 
   abbrev pub JoiningTakes : (V → B → Type 0) → V → X → Type 0
   JoiningTakes can v x = (c : C) → into x c → inner.can_next c × inner.is_finite c × CallableCarrying inner.steps turns can c v
 
+-- the source
+abbrev pub flatten_source : {I J : Type 0} → Flatten I J → I
+flatten_source s = s.it
+
+-- the inner iterator in hand
+abbrev pub flatten_inner : {I J : Type 0} → Flatten I J → Option J
+flatten_inner s = s.in_hand
+
 -- the outer source, and the inner iterator in hand
 abbrev pub flatten_parts : {I J : Type 0} → Flatten I J → I × Option J
-flatten_parts s = (s.it, s.in_hand)
+flatten_parts s = (flatten_source s, flatten_inner s)
 
 -- ---- what it lists
 

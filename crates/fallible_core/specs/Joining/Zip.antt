@@ -7,9 +7,17 @@ use Rattle.fallible_contract.specs.Traces.{Answered, Run, item, failure, end}
 use Rattle.fallible_contract.specs.Contract.{Contract, lenders_of_both}
 use Rattle.fallible_contract.specs.Hints.{hint_smaller}
 
+-- the left side
+abbrev pub zip_left : {T U : Type 0} → Zip T U → T
+zip_left s = s.left
+
+-- the right side
+abbrev pub zip_right : {T U : Type 0} → Zip T U → U
+zip_right s = s.right
+
 -- the left and the right
 abbrev pub zip_parts : {T U : Type 0} → Zip T U → T × U
-zip_parts s = (s.left, s.right)
+zip_parts s = (zip_left s, zip_right s)
 
 -- One place of two traces: a failure of the left, beside which the right has no answer; or an item or an end of the left, and an answer of the right.
 pub data ZipPlace (A B E : Type 0) : Type 0 where

@@ -23,9 +23,13 @@ module _ {T E : Type 0} (is_clone : T → T → Type 0) (is_infallible : T → T
   abbrev pub cloned_contract : {S : Type 0} → Contract S (Bor T) E → Contract (S × Unit {0}) T E
   cloned_contract m = passing_contract m cloned_call (λ P u. ⊤) map_outcome (λ p h. m.hints p.0 h)
 
+-- the source
+abbrev pub cloned_source : {I : Type 0} → Cloned I → I
+cloned_source s = s.it
+
 -- the source, and nothing else
 abbrev pub cloned_parts : {I : Type 0} → Cloned I → I × Unit {0}
-cloned_parts s = (s.it, tt)
+cloned_parts s = (cloned_source s, tt)
 
 -- ---- what it lists
 

@@ -41,9 +41,17 @@ enumerate_contract m = record {
   lenders = λ p. m.lenders p.0;
 }
 
+-- the source
+abbrev pub enumerate_source : {I : Type 0} → Enumerate I → I
+enumerate_source s = s.it
+
+-- the number of the next item
+abbrev pub enumerate_count : {I : Type 0} → Enumerate I → ℕ
+enumerate_count s = s.count
+
 -- the source, and the number of the next item
 abbrev pub enumerate_parts : {I : Type 0} → Enumerate I → I × ℕ
-enumerate_parts s = (s.it, s.count)
+enumerate_parts s = (enumerate_source s, enumerate_count s)
 
 -- ---- its fold, through the source's own
 

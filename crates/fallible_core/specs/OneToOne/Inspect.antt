@@ -23,9 +23,17 @@ InspectTrace steps g p trace q = PassTrace steps (call_in (call_at g)) inspect_o
 abbrev pub inspect_contract : {S F X E : Type 0} → Contract S X E → Mut F (Bor X × Unit {0}) (Result (Unit {0}) E) → Contract (S × Option F) X E
 inspect_contract m g = passing_contract m (call_in (call_at g)) (IsCallableIn (call_at g) (takes_at g)) inspect_outcome (λ p h. m.hints p.0 h)
 
+-- the source
+abbrev pub inspect_source : {I F : Type 0} → Inspect I F → I
+inspect_source s = s.it
+
+-- the slot of the closure
+abbrev pub inspect_closure : {I F : Type 0} → Inspect I F → Option F
+inspect_closure s = s.f
+
 -- the source, and the slot of the closure
 abbrev pub inspect_parts : {I F : Type 0} → Inspect I F → I × Option F
-inspect_parts s = (s.it, s.f)
+inspect_parts s = (inspect_source s, inspect_closure s)
 
 -- ---- what it lists
 

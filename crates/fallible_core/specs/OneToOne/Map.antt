@@ -22,9 +22,17 @@ MapTrace steps g p trace q = PassTrace steps (call_in (call_on g)) map_outcome p
 abbrev pub map_contract : {S F X B E : Type 0} → Contract S X E → Mut F (X × Unit {0}) (Result B E) → Contract (S × Option F) B E
 map_contract m g = passing_contract m (call_in (call_on g)) (IsCallableIn (call_on g) (takes_on g)) map_outcome (λ p h. m.hints p.0 h)
 
+-- the source
+abbrev pub map_source : {I F : Type 0} → Map I F → I
+map_source s = s.it
+
+-- the slot of the closure
+abbrev pub map_closure : {I F : Type 0} → Map I F → Option F
+map_closure s = s.f
+
 -- the source, and the slot of the closure
 abbrev pub map_parts : {I F : Type 0} → Map I F → I × Option F
-map_parts s = (s.it, s.f)
+map_parts s = (map_source s, map_closure s)
 
 -- ---- what it lists
 

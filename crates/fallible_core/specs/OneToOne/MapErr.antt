@@ -76,9 +76,17 @@ TakesExit pre f (Ended c) = ⊤
 TakesExit pre f (Failed c d) = pre f d
 TakesExit pre f (Stopped r) = ⊤
 
+-- the source
+abbrev pub map_err_source : {I F : Type 0} → MapErr I F → I
+map_err_source s = s.it
+
+-- the closure
+abbrev pub map_err_closure : {I F : Type 0} → MapErr I F → F
+map_err_closure s = s.f
+
 -- the source and the closure
 abbrev pub map_err_parts : {I F : Type 0} → MapErr I F → I × F
-map_err_parts s = (s.it, s.f)
+map_err_parts s = (map_err_source s, map_err_closure s)
 
 -- ---- what it lists
 

@@ -17,9 +17,17 @@ MapWhileTrace steps g p trace q = PassTrace steps (call_in (call_on g)) scan_out
 abbrev pub map_while_contract : {S F X B E : Type 0} → Contract S X E → Mut F (X × Unit {0}) (Result (Option B) E) → Contract (S × Option F) B E
 map_while_contract m g = passing_contract m (call_in (call_on g)) (IsCallableIn (call_on g) (takes_on g)) scan_outcome (λ p h. upper_alone m p.0 h)
 
+-- the source
+abbrev pub map_while_source : {I F : Type 0} → MapWhile I F → I
+map_while_source s = s.it
+
+-- the slot of the closure
+abbrev pub map_while_closure : {I F : Type 0} → MapWhile I F → Option F
+map_while_closure s = s.f
+
 -- the source, and the slot of the closure
 abbrev pub map_while_parts : {I F : Type 0} → MapWhile I F → I × Option F
-map_while_parts s = (s.it, s.f)
+map_while_parts s = (map_while_source s, map_while_closure s)
 
 -- the value of h x in the place of each item x, up to the first item for which h x is none; where h x is a failure, that failure in the place of x
 unfoldable pub mapped_while : {X B E : Type 0} → (X → Result (Option B) E) → List (Result X E) → List (Result B E)

@@ -33,9 +33,21 @@ ScanTrace steps g p trace q = PassTrace steps (scan_call g) scan_outcome p trace
 abbrev pub scan_contract : {S F T X B E : Type 0} → Contract S X E → Mut F (MutBor T × (X × Unit {0})) (Result (Option B) E × (MutBor T × Unit {0})) → Contract (S × (T × F)) B E
 scan_contract m g = passing_contract m (scan_call g) (λ P h. IsCallable (scan_call g) (scan_takes g) P h) scan_outcome (λ p h. upper_alone m p.0 h)
 
+-- the source
+abbrev pub scan_source : {I T F : Type 0} → Scan I T F → I
+scan_source s = s.it
+
+-- the state
+abbrev pub scan_state : {I T F : Type 0} → Scan I T F → T
+scan_state s = s.state
+
+-- the closure
+abbrev pub scan_closure : {I T F : Type 0} → Scan I T F → F
+scan_closure s = s.f
+
 -- the source, and the state beside the closure
 abbrev pub scan_parts : {I T F : Type 0} → Scan I T F → I × (T × F)
-scan_parts s = (s.it, (s.state, s.f))
+scan_parts s = (scan_source s, (scan_state s, scan_closure s))
 
 -- ---- what it lists
 

@@ -8,9 +8,17 @@ use Rattle.fallible_contract.specs.Traces.{Answered, Run, item, failure, end}
 use Rattle.fallible_contract.specs.Contract.{Contract}
 use Rattle.fallible_contract.specs.Hints.{HintWithItem}
 
+-- the source
+abbrev pub peekable_source : {I A E : Type 0} → Peekable I A E → I
+peekable_source s = s.it
+
+-- the answer that it holds, if it holds one
+abbrev pub peekable_held : {I A E : Type 0} → Peekable I A E → Option (Option A)
+peekable_held s = s.held
+
 -- the source, and the answer that was looked at
 abbrev pub peekable_parts : {I A E : Type 0} → Peekable I A E → I × Option (Option A)
-peekable_parts s = (s.it, s.held)
+peekable_parts s = (peekable_source s, peekable_held s)
 
 -- the answer that is held, an item or an end, if there is one
 abbrev pub held_answers : {A E : Type 0} → Option (Option A) → List (Answered A E)

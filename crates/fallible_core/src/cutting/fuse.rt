@@ -28,13 +28,12 @@ impl<I: FallibleIterator> FallibleIterator for Fuse<I> {
         if self.ended {
             return Ok(None);
         }
-        match self.it.next() {
-            Ok(Some(x)) => Ok(Some(x)),
-            Ok(None) => {
+        match self.it.next()? {
+            Some(x) => Ok(Some(x)),
+            None => {
                 self.ended = true;
                 Ok(None)
             }
-            Err(e) => Err(e),
         }
     }
 

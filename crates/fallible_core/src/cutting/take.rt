@@ -28,13 +28,12 @@ impl<I: FallibleIterator> FallibleIterator for Take<I> {
         if self.left == 0 {
             return Ok(None);
         }
-        match self.it.next() {
-            Ok(Some(x)) => {
+        match self.it.next()? {
+            Some(x) => {
                 self.left -= 1;
                 Ok(Some(x))
             }
-            Ok(None) => Ok(None),
-            Err(e) => Err(e),
+            None => Ok(None),
         }
     }
 

@@ -3,7 +3,7 @@ ghost use Rattle.std.specs.Prelude.{◌≡◌, ⊤, Result, Option, None, Ok, Er
 ghost use Rattle.std.specs.Borrow.{sem, follows_so};
 ghost use mathlib.Core.Option.{none};
 ghost use Rattle.fallible_contract.specs.Contract.{Stays};
-ghost use Rattle.fallible_core.specs.Peeking.Peekable.{peekable_contract, seen, held_item, Fills, Peeks, Looks, IsTestable, peekable_parts};
+ghost use Rattle.fallible_core.specs.Peeking.Peekable.{peekable_contract, seen, held_item, Fills, Peeks, Looks, IsTestable, peekable_parts, peekable_held};
 ghost use Rattle.fallible_core.specs.contracts.peeking.peekable.Peekable.{the_row};
 
 use crate::peeking::Peekable;
@@ -103,7 +103,7 @@ where
     /// The held item, and none where an end or nothing is held. It draws nothing.
     pub fn held(&self) -> Option<&I::Item>
     where
-        ensures { option_copied result ≡ held_item (peekable_parts self.now).1 }
+        ensures { option_copied result ≡ held_item (peekable_held self.now) }
     {
         match &self.held {
             Some(Some(x)) => Some(x),

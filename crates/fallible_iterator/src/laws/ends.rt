@@ -14,12 +14,14 @@ ghost use Rattle.fallible_core.specs.OneToOne.Inspect.{InspectTrace, inspect_par
 ghost use Rattle.fallible_core.specs.OneToOne.Cloned.{ClonedTrace, cloned_parts};
 ghost use Rattle.fallible_core.specs.OneToOne.MapErr.{MapErrTrace, map_err_parts};
 ghost use Rattle.fallible_core.specs.Filtering.FilterMap.{FilterMapTrace, filter_map_parts};
+ghost use Rattle.fallible_core.specs.Joining.Chain.{chain_behind, chain_parts, ChainTrace};
 ghost use Rattle.fallible_core.specs.Ends.Rev.{rev_parts};
 ghost use Rattle.fallible_iterator.specs.Listing.{DrawsInterleave, DrawsTheSame, ListsTheSame};
 
 use super::listed::{law_listed_filter, law_listed_map, law_listed_rev};
 use fallible_core::ends::Rev;
 use fallible_core::filtering::{Filter, FilterMap};
+use fallible_core::joining::Chain;
 use fallible_core::one_to_one::{Cloned, Inspect, Map, MapErr};
 use fallible_core::traits::FallibleIterator;
 use fallible_core::traits::double_ended::DoubleEndedFallibleIterator;
@@ -131,6 +133,16 @@ pub fn law_back_map_err<I: DoubleEndedFallibleIterator, B, F: FnMut(I::Error) ->
 where
     ensures { TracesAre map_err_parts ⟦<MapErr<I, F> as DoubleEndedFallibleIterator>⟧.ends.steps
         (MapErrTrace I.ends.steps (call_on F.FnMut)) }
+{}
+
+/// A trace of `Chain` from behind is the same with the sides swapped, both drawn from behind: the second's up to its first end, and from the draw that meets this end on the first's.
+pub fn law_back_chain<
+    T: DoubleEndedFallibleIterator,
+    U: DoubleEndedFallibleIterator<Item = T::Item, Error = T::Error>,
+>()
+    ensures { TracesAre (λ s. chain_behind (chain_parts s))
+        ⟦<Chain<T, U> as DoubleEndedFallibleIterator>⟧.ends.steps
+        (ChainTrace U.ends.steps T.ends.steps) }
 {}
 
 /// From behind the answers of `Cloned` are the source's from behind, with a clone in each item's place, or the failure made of its refusal.

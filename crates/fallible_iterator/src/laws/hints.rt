@@ -30,7 +30,7 @@ pub use listed::{
 };
 pub use one_to_one::{
     law_hints_cloned, law_hints_enumerate, law_hints_inspect, law_hints_map, law_hints_map_err,
-    law_hints_scan,
+    law_hints_map_while, law_hints_scan,
 };
 pub use peeking::law_hints_peekable;
 pub use sources::{

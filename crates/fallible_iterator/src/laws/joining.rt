@@ -1,7 +1,7 @@
 // The whole-trace laws of the adapters that join sources.
 ghost use Rattle.std.specs.Prelude.{Result};
 ghost use Rattle.fallible_contract.specs.LawForm.{TracesAre};
-ghost use Rattle.fallible_core.specs.Joining.Chain.{chain_behind, chain_parts, ChainTrace};
+ghost use Rattle.fallible_core.specs.Joining.Chain.{chain_parts, ChainTrace};
 ghost use Rattle.fallible_core.specs.Joining.Cycle.{cycle_parts, CycleTrace};
 ghost use Rattle.fallible_core.specs.Joining.Flatten.{flatten_parts, FlattenTrace};
 ghost use Rattle.fallible_core.specs.Joining.Zip.{zip_parts, ZipTrace};
@@ -10,23 +10,12 @@ use fallible_core::joining::{Chain, Cycle, Flatten, Zip};
 use fallible_core::one_to_one::Map;
 use fallible_core::traits::FallibleIterator;
 use fallible_core::traits::conversion::IntoFallibleIterator;
-use fallible_core::traits::double_ended::DoubleEndedFallibleIterator;
 use std::alloc::AllocError;
 
 /// A trace of `Chain` is the first's up to its first end, and from the draw that meets this end on the second's; where one side alone is still drawn, it is that side's.
 pub fn law_chain<T: FallibleIterator, U: FallibleIterator<Item = T::Item, Error = T::Error>>()
     ensures { TracesAre chain_parts ⟦<Chain<T, U> as FallibleIterator>⟧.contract.steps
         (ChainTrace T.contract.steps U.contract.steps) }
-{}
-
-/// A trace of `Chain` from behind is the same with the sides swapped, both drawn from behind: the second's up to its first end, and from the draw that meets this end on the first's.
-pub fn law_back_chain<
-    T: DoubleEndedFallibleIterator,
-    U: DoubleEndedFallibleIterator<Item = T::Item, Error = T::Error>,
->()
-    ensures { TracesAre (λ s. chain_behind (chain_parts s))
-        ⟦<Chain<T, U> as DoubleEndedFallibleIterator>⟧.ends.steps
-        (ChainTrace U.ends.steps T.ends.steps) }
 {}
 
 /// A trace of `Zip` has an answer for each answer of the left's trace: the left's failure, without a draw of the right; else, beside an answer of the right, the right's failure, the pair of two items, or an end.

@@ -2,7 +2,7 @@
 ghost use Rattle.fallible_contract.specs.LawForm.{TracesAre};
 ghost use Rattle.std.specs.Prelude.{List, Result};
 ghost use Rattle.fallible_contract.specs.Lists.{Lists};
-ghost use Rattle.fallible_core.specs.Peeking.Peekable.{peekable_parts, PeekableTrace, behind_held};
+ghost use Rattle.fallible_core.specs.Peeking.Peekable.{peekable_parts, PeekableTrace, behind_held, peekable_held, peekable_source};
 
 use fallible_core::peeking::Peekable;
 use fallible_core::traits::FallibleIterator;
@@ -14,7 +14,7 @@ where
     ensures traces { TracesAre peekable_parts ⟦<Peekable<I> as FallibleIterator>⟧.contract.steps
         (PeekableTrace I.contract.steps) }
     ensures lists { (s : Peekable I I.Item I.Error) (l : List (Result I.Item I.Error))
-        → Lists I.contract.steps (peekable_parts s).0 l
+        → Lists I.contract.steps (peekable_source s) l
         → Lists ⟦<Peekable<I> as FallibleIterator>⟧.contract.steps s
-        (behind_held (peekable_parts s).1 l) }
+        (behind_held (peekable_held s) l) }
 {}

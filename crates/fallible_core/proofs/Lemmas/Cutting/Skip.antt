@@ -10,7 +10,8 @@ use Rattle.fallible_contract.specs.Lists.{AlwaysGives, Lists}
 use Rattle.fallible_core.specs.Cutting.StepBy.{stepped}
 use Rattle.fallible_contract.proofs.Lemmas.Lists.Passing.{lists_seen}
 use Rattle.fallible_contract.proofs.Lemmas.LawForm.{IsByAnswers, runs_by_answers}
-use Rattle.fallible_contract.proofs.Lemmas.Counting.{Fits, Leaves, none, keeps_item, keeps_end, keeps_failure, nothing_left, then_others, first_apart, by_number, from_number, leaves_one, stepped_gives}
+use Rattle.fallible_contract.proofs.Lemmas.Counting.{Fits, Leaves, none, keeps_item, keeps_end, keeps_failure, nothing_left, then_others, first_apart, by_number, from_number}
+use Rattle.fallible_core.proofs.Lemmas.Cutting.Counting.{leaves_one, stepped_gives}
 
 -- the items up to the n-th are left out
 skip_fits : (n : ℕ) → Fits (λ k. ltb n k) 0 (λ k. n - k) (λ j k. j ≡ n + 1 - k)

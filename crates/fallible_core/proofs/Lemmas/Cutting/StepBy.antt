@@ -13,7 +13,8 @@ use Rattle.fallible_contract.proofs.Lemmas.Lists.Passing.{lists_seen}
 use Rattle.fallible_core.specs.Cutting.Skip.{SkipTrace}
 use Rattle.fallible_core.proofs.Lemmas.Cutting.Skip.{skip_leaves}
 use Rattle.fallible_contract.proofs.Lemmas.LawForm.{IsByAnswers, runs_by_answers}
-use Rattle.fallible_contract.proofs.Lemmas.Counting.{Fits, Leaves, moved, none, keeps_item, keeps_end, keeps_failure, leaves_out, nothing_left, then_others, first_apart, by_number, from_number, leaves_one, stepped_gives}
+use Rattle.fallible_contract.proofs.Lemmas.Counting.{Fits, Leaves, moved, none, keeps_item, keeps_end, keeps_failure, leaves_out, nothing_left, then_others, first_apart, by_number, from_number}
+use Rattle.fallible_core.proofs.Lemmas.Cutting.Counting.{leaves_one, stepped_gives}
 
 -- ---- numbers
 

@@ -5,7 +5,8 @@ use Rattle.std.proofs.lemmas.Bool.{cases_lt, le-leb, lt-leb}
 use Rattle.std.proofs.Math.Nat.{le-div_iff_mul-le, div-lt_iff_lt-mul, div-one}
 use Rattle.fallible_contract.specs.Traces.{Answered, Yields, item, end}
 use Rattle.fallible_contract.specs.Hints.{hint_less, hint_kept, kept_of}
-use Rattle.fallible_contract.proofs.Lemmas.Counting.{Leaves, nothing_left, keeps_item, keeps_end, leaves_out, leaves_one}
+use Rattle.fallible_contract.proofs.Lemmas.Counting.{Leaves, nothing_left, keeps_item, keeps_end, leaves_out}
+use Rattle.fallible_core.proofs.Lemmas.Cutting.Counting.{leaves_one}
 use Rattle.fallible_core.specs.Cutting.Skip.{skip_step}
 use Rattle.fallible_core.specs.Cutting.StepBy.{step_by_step}
 use Rattle.fallible_core.proofs.Lemmas.Cutting.Skip.{skip_leaves}

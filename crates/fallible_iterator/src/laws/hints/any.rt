@@ -3,9 +3,9 @@ ghost use Rattle.std.specs.Prelude.{ℕ, List, length, Option, Result};
 ghost use Rattle.fallible_contract.specs.Traces.{Yields};
 ghost use Rattle.fallible_contract.specs.Hints.{hint_less};
 ghost use Rattle.fallible_iterator.specs.SoundHints.{Brackets, SoundAbove, SoundHints};
-ghost use Rattle.fallible_core.specs.Cutting.Take.{take_parts};
-ghost use Rattle.fallible_core.specs.Filtering.Filter.{filter_parts};
-ghost use Rattle.fallible_core.specs.OneToOne.Map.{map_parts};
+ghost use Rattle.fallible_core.specs.Cutting.Take.{take_source};
+ghost use Rattle.fallible_core.specs.Filtering.Filter.{filter_source};
+ghost use Rattle.fallible_core.specs.OneToOne.Map.{map_source};
 
 use fallible_core::cutting::Take;
 use fallible_core::filtering::Filter;
@@ -27,10 +27,10 @@ pub fn law_hints_nest<
 >()
 where
     ensures sound { (s : Take (Filter (Map I F) G))
-        → SoundHints I.contract (map_parts (filter_parts (take_parts s).0).0).0
+        → SoundHints I.contract (map_source (filter_source (take_source s)))
         → SoundHints ⟦<Take<Filter<Map<I, F>, G>> as FallibleIterator>⟧.contract s }
     ensures above { (s : Take (Filter (Map I F) G))
-        → SoundAbove I.contract (map_parts (filter_parts (take_parts s).0).0).0
+        → SoundAbove I.contract (map_source (filter_source (take_source s)))
         → SoundAbove ⟦<Take<Filter<Map<I, F>, G>> as FallibleIterator>⟧.contract s }
 {
     super::law_hints_map::<I, B, F>();

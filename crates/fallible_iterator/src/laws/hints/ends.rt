@@ -6,13 +6,13 @@ ghost use Rattle.std.specs.declared.alloc.Global.{Global};
 ghost use Rattle.fallible_contract.specs.Ends.{from_back};
 ghost use Rattle.fallible_iterator.specs.SoundHints.{KeepsBrackets, KeepsBracketsOfBoth};
 ghost use Rattle.fallible_core.specs.declared.joining.chain.StillDrawn.TheVariants.{Both, FirstAlone, SecondAlone};
-ghost use Rattle.fallible_core.specs.OneToOne.Map.{map_parts};
-ghost use Rattle.fallible_core.specs.OneToOne.Inspect.{inspect_parts};
-ghost use Rattle.fallible_core.specs.OneToOne.Cloned.{cloned_parts};
-ghost use Rattle.fallible_core.specs.OneToOne.MapErr.{map_err_parts};
-ghost use Rattle.fallible_core.specs.Filtering.Filter.{filter_parts};
-ghost use Rattle.fallible_core.specs.Filtering.FilterMap.{filter_map_parts};
-ghost use Rattle.fallible_core.specs.Joining.Chain.{chain_parts};
+ghost use Rattle.fallible_core.specs.OneToOne.Map.{map_source};
+ghost use Rattle.fallible_core.specs.OneToOne.Inspect.{inspect_source};
+ghost use Rattle.fallible_core.specs.OneToOne.Cloned.{cloned_source};
+ghost use Rattle.fallible_core.specs.OneToOne.MapErr.{map_err_source};
+ghost use Rattle.fallible_core.specs.Filtering.Filter.{filter_source};
+ghost use Rattle.fallible_core.specs.Filtering.FilterMap.{filter_map_source};
+ghost use Rattle.fallible_core.specs.Joining.Chain.{chain_first, chain_second, chain_still_drawn};
 ghost use Rattle.fallible_core.specs.Ends.Rev.{rev_parts};
 
 use fallible_core::ends::Rev;
@@ -60,7 +60,7 @@ where
     ensures { (s : Map I F)
         → KeepsBrackets (from_back ⟦<Map<I, F> as FallibleIterator>⟧.contract
         ⟦<Map<I, F> as DoubleEndedFallibleIterator>⟧.ends) s
-        (from_back I.contract I.ends) (map_parts s).0 }
+        (from_back I.contract I.ends) (map_source s) }
 {}
 
 /// From behind each hint of `Inspect` is as sound as the hint of its source that it is made of.
@@ -73,7 +73,7 @@ where
     ensures { (s : Inspect I F)
         → KeepsBrackets (from_back ⟦<Inspect<I, F> as FallibleIterator>⟧.contract
         ⟦<Inspect<I, F> as DoubleEndedFallibleIterator>⟧.ends) s
-        (from_back I.contract I.ends) (inspect_parts s).0 }
+        (from_back I.contract I.ends) (inspect_source s) }
 {}
 
 /// From behind each hint of `MapErr` is as sound as the hint of its source that it is made of.
@@ -82,7 +82,7 @@ where
     ensures { (s : MapErr I F)
         → KeepsBrackets (from_back ⟦<MapErr<I, F> as FallibleIterator>⟧.contract
         ⟦<MapErr<I, F> as DoubleEndedFallibleIterator>⟧.ends) s
-        (from_back I.contract I.ends) (map_err_parts s).0 }
+        (from_back I.contract I.ends) (map_err_source s) }
 {}
 
 /// From behind each hint of `Cloned` is as sound as the hint of its source that it is made of.
@@ -92,7 +92,7 @@ where
     ensures { (s : Cloned I)
         → KeepsBrackets (from_back ⟦<Cloned<I> as FallibleIterator>⟧.contract
         ⟦<Cloned<I> as DoubleEndedFallibleIterator>⟧.ends) s
-        (from_back I.contract I.ends) (cloned_parts s).0 }
+        (from_back I.contract I.ends) (cloned_source s) }
 {}
 
 /// From behind each hint of `Filter` is as sound as the hint of its source that it is made of.
@@ -105,7 +105,7 @@ where
     ensures { (s : Filter I F)
         → KeepsBrackets (from_back ⟦<Filter<I, F> as FallibleIterator>⟧.contract
         ⟦<Filter<I, F> as DoubleEndedFallibleIterator>⟧.ends) s
-        (from_back I.contract I.ends) (filter_parts s).0 }
+        (from_back I.contract I.ends) (filter_source s) }
 {}
 
 /// From behind each hint of `FilterMap` is as sound as the hint of its source that it is made of.
@@ -118,7 +118,7 @@ where
     ensures { (s : FilterMap I F)
         → KeepsBrackets (from_back ⟦<FilterMap<I, F> as FallibleIterator>⟧.contract
         ⟦<FilterMap<I, F> as DoubleEndedFallibleIterator>⟧.ends) s
-        (from_back I.contract I.ends) (filter_map_parts s).0 }
+        (from_back I.contract I.ends) (filter_map_source s) }
 {}
 
 /// From behind each hint of `Chain` is as sound as the hints of the sides that are still drawn.
@@ -126,17 +126,17 @@ pub fn law_hints_back_chain<
     T: DoubleEndedFallibleIterator,
     U: DoubleEndedFallibleIterator<Item = T::Item, Error = T::Error>,
 >()
-    ensures both { (s : Chain T U) → (chain_parts s).2 ≡ Both
+    ensures both { (s : Chain T U) → chain_still_drawn s ≡ Both
         → KeepsBracketsOfBoth (from_back ⟦<Chain<T, U> as FallibleIterator>⟧.contract
         ⟦<Chain<T, U> as DoubleEndedFallibleIterator>⟧.ends) s
-        (from_back T.contract T.ends) (chain_parts s).0 (from_back U.contract U.ends)
-        (chain_parts s).1 }
-    ensures first_alone { (s : Chain T U) → (chain_parts s).2 ≡ FirstAlone
+        (from_back T.contract T.ends) (chain_first s) (from_back U.contract U.ends)
+        (chain_second s) }
+    ensures first_alone { (s : Chain T U) → chain_still_drawn s ≡ FirstAlone
         → KeepsBrackets (from_back ⟦<Chain<T, U> as FallibleIterator>⟧.contract
         ⟦<Chain<T, U> as DoubleEndedFallibleIterator>⟧.ends) s
-        (from_back T.contract T.ends) (chain_parts s).0 }
-    ensures second_alone { (s : Chain T U) → (chain_parts s).2 ≡ SecondAlone
+        (from_back T.contract T.ends) (chain_first s) }
+    ensures second_alone { (s : Chain T U) → chain_still_drawn s ≡ SecondAlone
         → KeepsBrackets (from_back ⟦<Chain<T, U> as FallibleIterator>⟧.contract
         ⟦<Chain<T, U> as DoubleEndedFallibleIterator>⟧.ends) s
-        (from_back U.contract U.ends) (chain_parts s).1 }
+        (from_back U.contract U.ends) (chain_second s) }
 {}

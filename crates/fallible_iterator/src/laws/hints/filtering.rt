@@ -1,9 +1,9 @@
 // The hints of the adapters that leave items out.
 ghost use Rattle.std.specs.Prelude.{◌≡◌, Result, Option, true, false};
 ghost use Rattle.fallible_iterator.specs.SoundHints.{KeepsBrackets};
-ghost use Rattle.fallible_core.specs.Filtering.Filter.{filter_parts};
-ghost use Rattle.fallible_core.specs.Filtering.FilterMap.{filter_map_parts};
-ghost use Rattle.fallible_core.specs.Filtering.SkipWhile.{skip_while_parts};
+ghost use Rattle.fallible_core.specs.Filtering.Filter.{filter_source};
+ghost use Rattle.fallible_core.specs.Filtering.FilterMap.{filter_map_source};
+ghost use Rattle.fallible_core.specs.Filtering.SkipWhile.{skip_while_source};
 
 use fallible_core::filtering::{Filter, FilterMap, SkipWhile};
 use fallible_core::traits::FallibleIterator;
@@ -14,7 +14,7 @@ where
     I::Item: Drop,
     ensures { (s : Filter I F)
         → KeepsBrackets ⟦<Filter<I, F> as FallibleIterator>⟧.contract s I.contract
-        (filter_parts s).0 }
+        (filter_source s) }
 {}
 
 /// Each hint of `FilterMap` is as sound as the hint of its source that it is made of.
@@ -26,7 +26,7 @@ pub fn law_hints_filter_map<
 where
     ensures { (s : FilterMap I F)
         → KeepsBrackets ⟦<FilterMap<I, F> as FallibleIterator>⟧.contract s I.contract
-        (filter_map_parts s).0 }
+        (filter_map_source s) }
 {}
 
 /// Each hint of `SkipWhile`, before its predicate's first false and after it, is as sound as the hint of its source that it is made of.
@@ -35,5 +35,5 @@ where
     I::Item: Drop,
     ensures { (s : SkipWhile I P)
         → KeepsBrackets ⟦<SkipWhile<I, P> as FallibleIterator>⟧.contract s I.contract
-        (skip_while_parts s).0 }
+        (skip_while_source s) }
 {}

@@ -2,9 +2,9 @@
 ghost use Rattle.std.specs.Prelude.{◌≡◌, ℕ, Option, Result};
 ghost use Rattle.fallible_iterator.specs.SoundHints.{BoundsBelow, Brackets, KeepsBrackets, KeepsBracketsOfBoth, SoundHints};
 ghost use Rattle.fallible_core.specs.declared.joining.chain.StillDrawn.TheVariants.{Both, FirstAlone, SecondAlone};
-ghost use Rattle.fallible_core.specs.Joining.Chain.{chain_parts};
-ghost use Rattle.fallible_core.specs.Joining.Cycle.{cycle_parts};
-ghost use Rattle.fallible_core.specs.Joining.Zip.{zip_parts};
+ghost use Rattle.fallible_core.specs.Joining.Chain.{chain_first, chain_second, chain_still_drawn};
+ghost use Rattle.fallible_core.specs.Joining.Cycle.{cycle_kept};
+ghost use Rattle.fallible_core.specs.Joining.Zip.{zip_left, zip_right};
 
 use fallible_core::joining::{Chain, Cycle, Flatten, Zip};
 use fallible_core::one_to_one::Map;
@@ -14,15 +14,15 @@ use std::alloc::AllocError;
 
 /// Each hint of `Chain` is as sound as the hints of the sides that are still drawn.
 pub fn law_hints_chain<T: FallibleIterator, U: FallibleIterator<Item = T::Item, Error = T::Error>>()
-    ensures both { (s : Chain T U) → (chain_parts s).2 ≡ Both
+    ensures both { (s : Chain T U) → chain_still_drawn s ≡ Both
         → KeepsBracketsOfBoth ⟦<Chain<T, U> as FallibleIterator>⟧.contract s T.contract
-        (chain_parts s).0 U.contract (chain_parts s).1 }
-    ensures first_alone { (s : Chain T U) → (chain_parts s).2 ≡ FirstAlone
+        (chain_first s) U.contract (chain_second s) }
+    ensures first_alone { (s : Chain T U) → chain_still_drawn s ≡ FirstAlone
         → KeepsBrackets ⟦<Chain<T, U> as FallibleIterator>⟧.contract s T.contract
-        (chain_parts s).0 }
-    ensures second_alone { (s : Chain T U) → (chain_parts s).2 ≡ SecondAlone
+        (chain_first s) }
+    ensures second_alone { (s : Chain T U) → chain_still_drawn s ≡ SecondAlone
         → KeepsBrackets ⟦<Chain<T, U> as FallibleIterator>⟧.contract s U.contract
-        (chain_parts s).1 }
+        (chain_second s) }
 {}
 
 /// Each hint of `Zip` is as sound as the hints of both sides.
@@ -32,7 +32,7 @@ where
     U::Item: Drop,
     ensures { (s : Zip T U)
         → KeepsBracketsOfBoth ⟦<Zip<T, U> as FallibleIterator>⟧.contract s T.contract
-        (zip_parts s).0 U.contract (zip_parts s).1 }
+        (zip_left s) U.contract (zip_right s) }
 {}
 
 /// Each hint of `Flatten` brackets what comes from it.
@@ -58,10 +58,10 @@ where
     I::Error: From<AllocError>,
     ensures clones { (s : Cycle I) (h : ℕ × Option ℕ)
         → ⟦<Cycle<I> as FallibleIterator>⟧.contract.hints s h
-        → (k : ℕ × Option ℕ) × I.contract.hints (cycle_parts s).1 k
-        × (((c : I) → I.is_clone (cycle_parts s).1 c → BoundsBelow I.contract.steps c k.0)
+        → (k : ℕ × Option ℕ) × I.contract.hints (cycle_kept s) k
+        × (((c : I) → I.is_clone (cycle_kept s) c → BoundsBelow I.contract.steps c k.0)
         → Brackets ⟦<Cycle<I> as FallibleIterator>⟧.contract.steps s h) }
     ensures equal { (s : Cycle I)
-        → ((c : I) → I.is_clone (cycle_parts s).1 c → c ≡ (cycle_parts s).1)
-        → KeepsBrackets ⟦<Cycle<I> as FallibleIterator>⟧.contract s I.contract (cycle_parts s).1 }
+        → ((c : I) → I.is_clone (cycle_kept s) c → c ≡ (cycle_kept s))
+        → KeepsBrackets ⟦<Cycle<I> as FallibleIterator>⟧.contract s I.contract (cycle_kept s) }
 {}

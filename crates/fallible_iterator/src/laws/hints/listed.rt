@@ -5,13 +5,13 @@ ghost use Rattle.std.specs.Borrow.{Bor, MutBor};
 ghost use Rattle.std.specs.declared.boxed.Box.{Box};
 ghost use Rattle.std.specs.declared.alloc.Global.{Global};
 ghost use Rattle.fallible_contract.specs.Lists.{Lists, results, items};
-ghost use Rattle.fallible_core.specs.OneToOne.Map.{mapped, map_outcome, map_parts};
-ghost use Rattle.fallible_core.specs.OneToOne.Inspect.{inspected, inspect_outcome, inspect_parts};
-ghost use Rattle.fallible_core.specs.Filtering.Filter.{filtered, filter_outcome, filter_parts};
-ghost use Rattle.fallible_core.specs.Filtering.FilterMap.{filter_mapped, filter_map_outcome, filter_map_parts};
-ghost use Rattle.fallible_core.specs.OneToOne.MapErr.{failures_mapped, map_err_parts};
-ghost use Rattle.fallible_core.specs.OneToOne.Cloned.{pointed_to, cloned_parts};
-ghost use Rattle.fallible_core.specs.Joining.Chain.{chained, chain_parts};
+ghost use Rattle.fallible_core.specs.OneToOne.Map.{mapped, map_outcome, map_source};
+ghost use Rattle.fallible_core.specs.OneToOne.Inspect.{inspected, inspect_outcome, inspect_source};
+ghost use Rattle.fallible_core.specs.Filtering.Filter.{filtered, filter_outcome, filter_source};
+ghost use Rattle.fallible_core.specs.Filtering.FilterMap.{filter_mapped, filter_map_outcome, filter_map_source};
+ghost use Rattle.fallible_core.specs.OneToOne.MapErr.{failures_mapped, map_err_source};
+ghost use Rattle.fallible_core.specs.OneToOne.Cloned.{pointed_to, cloned_source};
+ghost use Rattle.fallible_core.specs.Joining.Chain.{chained, chain_first, chain_second, chain_still_drawn};
 ghost use Rattle.fallible_contract.specs.BothEnds.{ListsBothEnds, source_list, passed_list};
 ghost use Rattle.fallible_iterator.specs.SoundHints.{Brackets, Bounds, KeepsBounds, KeepsBoundsOfBoth};
 ghost use Rattle.fallible_iterator.specs.Sources.Convert.{convert_parts};
@@ -65,10 +65,10 @@ pub fn law_hints_listed_map<I: FallibleIterator, B, F: FnMut(I::Item) -> Result<
 where
     ensures steady { (s : Map I F) (asked : List (Result (I.Item × Result B I.Error) I.Error))
         → KeepsBounds ⟦<Map<I, F> as FallibleIterator>⟧.contract s (passed_list map_outcome asked)
-        I.contract (map_parts s).0 (source_list asked) }
+        I.contract (map_source s) (source_list asked) }
     ensures acts { (s : Map I F) (h : I.Item → Result B I.Error) (l : List (Result I.Item I.Error))
         → KeepsBounds ⟦<Map<I, F> as FallibleIterator>⟧.contract s (mapped h l) I.contract
-        (map_parts s).0 l }
+        (map_source s) l }
 {}
 
 /// Each hint of `Inspect` bounds its list wherever a hint of its source bounds the source's list.
@@ -78,11 +78,11 @@ where
     ensures steady { (s : Inspect I F)
         (asked : List (Result (I.Item × Result (Unit {0}) I.Error) I.Error))
         → KeepsBounds ⟦<Inspect<I, F> as FallibleIterator>⟧.contract s
-        (passed_list inspect_outcome asked) I.contract (inspect_parts s).0 (source_list asked) }
+        (passed_list inspect_outcome asked) I.contract (inspect_source s) (source_list asked) }
     ensures acts { (s : Inspect I F) (h : I.Item → Result (Unit {0}) I.Error)
         (l : List (Result I.Item I.Error))
         → KeepsBounds ⟦<Inspect<I, F> as FallibleIterator>⟧.contract s (inspected h l) I.contract
-        (inspect_parts s).0 l }
+        (inspect_source s) l }
 {}
 
 /// Each hint of `Filter` bounds its list wherever a hint of its source bounds the source's list.
@@ -91,11 +91,11 @@ where
     I::Item: Drop,
     ensures steady { (s : Filter I F) (asked : List (Result (I.Item × Result Bool I.Error) I.Error))
         → KeepsBounds ⟦<Filter<I, F> as FallibleIterator>⟧.contract s
-        (passed_list filter_outcome asked) I.contract (filter_parts s).0 (source_list asked) }
+        (passed_list filter_outcome asked) I.contract (filter_source s) (source_list asked) }
     ensures acts { (s : Filter I F) (h : I.Item → Result Bool I.Error)
         (l : List (Result I.Item I.Error))
         → KeepsBounds ⟦<Filter<I, F> as FallibleIterator>⟧.contract s (filtered h l) I.contract
-        (filter_parts s).0 l }
+        (filter_source s) l }
 {}
 
 /// Each hint of `FilterMap` bounds its list wherever a hint of its source bounds the source's list.
@@ -108,12 +108,12 @@ where
     ensures steady { (s : FilterMap I F)
         (asked : List (Result (I.Item × Result (Option B) I.Error) I.Error))
         → KeepsBounds ⟦<FilterMap<I, F> as FallibleIterator>⟧.contract s
-        (passed_list filter_map_outcome asked) I.contract (filter_map_parts s).0
+        (passed_list filter_map_outcome asked) I.contract (filter_map_source s)
         (source_list asked) }
     ensures acts { (s : FilterMap I F) (h : I.Item → Result (Option B) I.Error)
         (l : List (Result I.Item I.Error))
         → KeepsBounds ⟦<FilterMap<I, F> as FallibleIterator>⟧.contract s (filter_mapped h l)
-        I.contract (filter_map_parts s).0 l }
+        I.contract (filter_map_source s) l }
 {}
 
 /// Each hint of `MapErr` bounds its list wherever a hint of its source bounds the source's list.
@@ -121,11 +121,11 @@ pub fn law_hints_listed_map_err<I: FallibleIterator, B, F: FnMut(I::Error) -> B>
 where
     ensures steady { (s : MapErr I F) (asked : List (Result I.Item (I.Error × B)))
         → KeepsBounds ⟦<MapErr<I, F> as FallibleIterator>⟧.contract s
-        (failures_mapped (λ c. c.1) asked) I.contract (map_err_parts s).0
+        (failures_mapped (λ c. c.1) asked) I.contract (map_err_source s)
         (failures_mapped (λ c. c.0) asked) }
     ensures acts { (s : MapErr I F) (h : I.Error → B) (l : List (Result I.Item I.Error))
         → KeepsBounds ⟦<MapErr<I, F> as FallibleIterator>⟧.contract s (failures_mapped h l)
-        I.contract (map_err_parts s).0 l }
+        I.contract (map_err_source s) l }
 {}
 
 /// Each hint of `Cloned` bounds its list wherever a hint of its source bounds the source's list.
@@ -134,10 +134,10 @@ where
     I::Error: From<AllocError>,
     ensures clones { (s : Cloned I) (asked : List (Result (Bor T × T) I.Error))
         → KeepsBounds ⟦<Cloned<I> as FallibleIterator>⟧.contract s (mapped (λ c. Ok c.1) asked)
-        I.contract (cloned_parts s).0 (source_list asked) }
+        I.contract (cloned_source s) (source_list asked) }
     ensures originals { (s : Cloned I) (l : List (Result (Bor T) I.Error))
         → KeepsBounds ⟦<Cloned<I> as FallibleIterator>⟧.contract s (pointed_to l) I.contract
-        (cloned_parts s).0 l }
+        (cloned_source s) l }
 {}
 
 /// Each hint of `Chain` bounds the lists of the sides that are still drawn, one after the other, wherever the hints of these bound their lists.
@@ -145,17 +145,17 @@ pub fn law_hints_listed_chain<
     T: FallibleIterator,
     U: FallibleIterator<Item = T::Item, Error = T::Error>,
 >()
-    ensures both { (s : Chain T U) (a b : List (Result T.Item T.Error)) → (chain_parts s).2 ≡ Both
+    ensures both { (s : Chain T U) (a b : List (Result T.Item T.Error)) → chain_still_drawn s ≡ Both
         → KeepsBoundsOfBoth ⟦<Chain<T, U> as FallibleIterator>⟧.contract s (chained a b) T.contract
-        (chain_parts s).0 a U.contract (chain_parts s).1 b }
+        (chain_first s) a U.contract (chain_second s) b }
     ensures first_alone { (s : Chain T U) (l : List (Result T.Item T.Error))
-        → (chain_parts s).2 ≡ FirstAlone
+        → chain_still_drawn s ≡ FirstAlone
         → KeepsBounds ⟦<Chain<T, U> as FallibleIterator>⟧.contract s l T.contract
-        (chain_parts s).0 l }
+        (chain_first s) l }
     ensures second_alone { (s : Chain T U) (l : List (Result T.Item T.Error))
-        → (chain_parts s).2 ≡ SecondAlone
+        → chain_still_drawn s ≡ SecondAlone
         → KeepsBounds ⟦<Chain<T, U> as FallibleIterator>⟧.contract s l U.contract
-        (chain_parts s).1 l }
+        (chain_second s) l }
 {}
 
 /// Each hint of `Rev` bounds the reverse of its source's list wherever it bounds that list.

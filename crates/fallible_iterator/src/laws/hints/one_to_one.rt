@@ -1,14 +1,15 @@
 // The hints of the adapters with one answer for each draw.
 ghost use Rattle.std.specs.Prelude.{Result, Option};
 ghost use Rattle.fallible_iterator.specs.SoundHints.{KeepsBrackets};
-ghost use Rattle.fallible_core.specs.OneToOne.Map.{map_parts};
-ghost use Rattle.fallible_core.specs.OneToOne.Inspect.{inspect_parts};
-ghost use Rattle.fallible_core.specs.OneToOne.Scan.{scan_parts};
-ghost use Rattle.fallible_core.specs.OneToOne.Cloned.{cloned_parts};
-ghost use Rattle.fallible_core.specs.OneToOne.MapErr.{map_err_parts};
-ghost use Rattle.fallible_core.specs.OneToOne.Enumerate.{enumerate_parts};
+ghost use Rattle.fallible_core.specs.OneToOne.Map.{map_source};
+ghost use Rattle.fallible_core.specs.OneToOne.Inspect.{inspect_source};
+ghost use Rattle.fallible_core.specs.OneToOne.MapWhile.{map_while_source};
+ghost use Rattle.fallible_core.specs.OneToOne.Scan.{scan_source};
+ghost use Rattle.fallible_core.specs.OneToOne.Cloned.{cloned_source};
+ghost use Rattle.fallible_core.specs.OneToOne.MapErr.{map_err_source};
+ghost use Rattle.fallible_core.specs.OneToOne.Enumerate.{enumerate_source};
 
-use fallible_core::one_to_one::{Cloned, Enumerate, Inspect, Map, MapErr, Scan};
+use fallible_core::one_to_one::{Cloned, Enumerate, Inspect, Map, MapErr, MapWhile, Scan};
 use fallible_core::traits::FallibleIterator;
 use std::alloc::AllocError;
 
@@ -16,7 +17,7 @@ use std::alloc::AllocError;
 pub fn law_hints_map<I: FallibleIterator, B, F: FnMut(I::Item) -> Result<B, I::Error>>()
 where
     ensures { (s : Map I F)
-        → KeepsBrackets ⟦<Map<I, F> as FallibleIterator>⟧.contract s I.contract (map_parts s).0 }
+        → KeepsBrackets ⟦<Map<I, F> as FallibleIterator>⟧.contract s I.contract (map_source s) }
 {}
 
 /// Each hint of `Inspect` is as sound as the hint of its source that it is made of.
@@ -25,7 +26,7 @@ where
     I::Item: Drop,
     ensures { (s : Inspect I F)
         → KeepsBrackets ⟦<Inspect<I, F> as FallibleIterator>⟧.contract s I.contract
-        (inspect_parts s).0 }
+        (inspect_source s) }
 {}
 
 /// Each hint of `MapErr` is as sound as the hint of its source that it is made of.
@@ -33,7 +34,7 @@ pub fn law_hints_map_err<I: FallibleIterator, B, F: FnMut(I::Error) -> B>()
 where
     ensures { (s : MapErr I F)
         → KeepsBrackets ⟦<MapErr<I, F> as FallibleIterator>⟧.contract s I.contract
-        (map_err_parts s).0 }
+        (map_err_source s) }
 {}
 
 /// Each hint of `Enumerate` is as sound as the hint of its source that it is made of.
@@ -42,7 +43,15 @@ where
     I::Item: Drop,
     ensures { (s : Enumerate I)
         → KeepsBrackets ⟦<Enumerate<I> as FallibleIterator>⟧.contract s I.contract
-        (enumerate_parts s).0 }
+        (enumerate_source s) }
+{}
+
+/// Each hint of `MapWhile` is as sound as the hint of its source that it is made of.
+pub fn law_hints_map_while<I: FallibleIterator, B, F: FnMut(I::Item) -> Result<Option<B>, I::Error>>()
+where
+    ensures { (s : MapWhile I F)
+        → KeepsBrackets ⟦<MapWhile<I, F> as FallibleIterator>⟧.contract s I.contract
+        (map_while_source s) }
 {}
 
 /// Each hint of `Scan` is as sound as the hint of its source that it is made of.
@@ -55,7 +64,7 @@ pub fn law_hints_scan<
 where
     ensures { (s : Scan I St F)
         → KeepsBrackets ⟦<Scan<I, St, F> as FallibleIterator>⟧.contract s I.contract
-        (scan_parts s).0 }
+        (scan_source s) }
 {}
 
 /// Each hint of `Cloned` is as sound as the hint of its source that it is made of.
@@ -63,5 +72,5 @@ pub fn law_hints_cloned<'a, T: Clone + 'a, I: FallibleIterator<Item = &'a T>>()
 where
     I::Error: From<AllocError>,
     ensures { (s : Cloned I)
-        → KeepsBrackets ⟦<Cloned<I> as FallibleIterator>⟧.contract s I.contract (cloned_parts s).0 }
+        → KeepsBrackets ⟦<Cloned<I> as FallibleIterator>⟧.contract s I.contract (cloned_source s) }
 {}

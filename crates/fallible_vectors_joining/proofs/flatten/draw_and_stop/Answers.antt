@@ -34,13 +34,13 @@ module _ {U C B E : Type 0} (into : U → C → Type 0) (inner : Contract C B E)
   keeps k p q r can step = (lawful_flatten O (lawful_seen (λ v. v.value) lawful_once) into inner k).kept_by_draw p r q can step
 
 pub next-first-requires : goal.next-first-requires
-next-first-requires g c = starts _ _ c.args.inner c.flatten-it.result.it c.flatten-it.result.in_hand (subst (λ s. s.value ≡ Some c.args.inner) (sym (ap (λ p. p.0) c.flatten-it.ensures.parts)) c.once.ensures.parts) (ap (λ p. p.1) c.flatten-it.ensures.parts) c.requires.can_next
+next-first-requires g c = starts _ _ c.args.inner c.flatten-it.result.it c.flatten-it.result.in_hand (subst (λ s. s.value ≡ Some c.args.inner) (sym c.flatten-it.ensures.source) c.once.ensures.parts) c.flatten-it.ensures.inner c.requires.can_next
 
 pub try_fold-outcome-requires-clause-can_next : goal.try_fold-outcome-requires-clause-can_next
-try_fold-outcome-requires-clause-can_next g c = let can = starts _ _ c.args.inner c.flatten-it.result.it c.flatten-it.result.in_hand (subst (λ s. s.value ≡ Some c.args.inner) (sym (ap (λ p. p.0) c.flatten-it.ensures.parts)) c.once.ensures.parts) (ap (λ p. p.1) c.flatten-it.ensures.parts) c.requires.can_next in
+try_fold-outcome-requires-clause-can_next g c = let can = starts _ _ c.args.inner c.flatten-it.result.it c.flatten-it.result.in_hand (subst (λ s. s.value ≡ Some c.args.inner) (sym c.flatten-it.ensures.source) c.once.ensures.parts) c.flatten-it.ensures.inner c.requires.can_next in
     (keeps g.U.IntoFallibleIterator.into_gives _ c.args.inner g.met.U.IntoFallibleIter.FallibleIterator.lawful (c.flatten-it.result.it, c.flatten-it.result.in_hand) (c.next-first.new.self.it, c.next-first.new.self.in_hand) c.next-first.result can c.next-first.ensures).can_next
 
 pub try_fold-outcome-requires-clause-finite : goal.try_fold-outcome-requires-clause-finite
-try_fold-outcome-requires-clause-finite g c = let value = subst (λ s. s.value ≡ Some c.args.inner) (sym (ap (λ p. p.0) c.flatten-it.ensures.parts)) c.once.ensures.parts in let hand = ap (λ p. p.1) c.flatten-it.ensures.parts in
+try_fold-outcome-requires-clause-finite g c = let value = subst (λ s. s.value ≡ Some c.args.inner) (sym c.flatten-it.ensures.source) c.once.ensures.parts in let hand = c.flatten-it.ensures.inner in
     let can = starts _ _ c.args.inner c.flatten-it.result.it c.flatten-it.result.in_hand value hand c.requires.can_next in
     (keeps g.U.IntoFallibleIterator.into_gives _ c.args.inner g.met.U.IntoFallibleIter.FallibleIterator.lawful (c.flatten-it.result.it, c.flatten-it.result.in_hand) (c.next-first.new.self.it, c.next-first.new.self.in_hand) c.next-first.result can c.next-first.ensures).is_finite (finite _ _ c.args.inner c.flatten-it.result.it c.flatten-it.result.in_hand value hand c.requires.finite)
