@@ -1,7 +1,33 @@
--- What the clauses of `src/` cite, and in `Laws` what follows from it: lemmas that the ghost members cite.
-pub mod Comparing
+-- What the clauses of `src/` cite, and in `Laws` what follows from it: lemmas that the ghost members cite. What the clauses of the crates below cite is handed on, so that a crate above names this one alone.
+pub mod Agreement
 pub mod Laws
 pub mod Listing
+pub mod Lists
 pub mod Nests
 pub mod SoundHints
 pub mod Sources
+pub use Rattle.fallible_contract.specs.BothEnds
+pub use Rattle.fallible_contract.specs.Clauses
+pub use Rattle.fallible_contract.specs.Closures
+pub use Rattle.fallible_contract.specs.Collecting
+pub use Rattle.fallible_contract.specs.Comparing
+pub use Rattle.fallible_contract.specs.Contract
+pub use Rattle.fallible_contract.specs.Ends
+pub use Rattle.fallible_contract.specs.Folds
+pub use Rattle.fallible_contract.specs.Held
+pub use Rattle.fallible_contract.specs.Hints
+pub use Rattle.fallible_contract.specs.LawForm
+pub use Rattle.fallible_contract.specs.Picking
+pub use Rattle.fallible_contract.specs.Refusals
+pub use Rattle.fallible_contract.specs.Searching
+pub use Rattle.fallible_contract.specs.ShownTraces
+pub use Rattle.fallible_contract.specs.Traces
+pub use Rattle.fallible_contract.specs.WithSteps
+pub use Rattle.fallible_core.specs.Borrowed
+pub use Rattle.fallible_core.specs.Bridges
+pub use Rattle.fallible_core.specs.Cutting
+pub use Rattle.fallible_core.specs.Ends.Rev
+pub use Rattle.fallible_core.specs.Filtering
+pub use Rattle.fallible_core.specs.Joining
+pub use Rattle.fallible_core.specs.OneToOne
+pub use Rattle.fallible_core.specs.Peeking

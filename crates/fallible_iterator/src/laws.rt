@@ -25,7 +25,6 @@ pub use ends::{
     law_back_map_err, law_interleave, law_interleave_folds, law_interleave_nest, law_rev,
     law_rev_rev,
 };
-pub use fallible_contract::answers::{Answer, Side};
 pub use filtering::{law_filter, law_filter_map, law_skip_while};
 pub use joining::{law_chain, law_cycle, law_flat_map, law_flatten, law_zip};
 pub use listed::{

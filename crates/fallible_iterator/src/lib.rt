@@ -1,14 +1,19 @@
 //! Fallible iterators: iterators whose `next` may fail, with adapters and folds, where every call is proved to meet its contract.
 //!
-//! The trait and its adapters are those of `fallible_core`, and what is said of them is `fallible_contract`; the sources are this crate's own.
+//! A crate above names this one alone. The trait and its adapters are those of `fallible_core`, and what is said of them is `fallible_contract`; both are handed on, as are their specifications. The sources are this crate's own.
 #![tactic(auto)]
 
 pub mod conversion;
 pub mod laws;
+pub mod prelude;
 pub mod sources;
 
 pub use conversion::IteratorExt;
-pub use fallible_contract::{Collect, Fault, folds};
+pub use fallible_contract::answers::{Answer, Side};
+pub use fallible_contract::folds::{Exit, Turn};
+pub use fallible_contract::searching::Test;
+pub use fallible_contract::{Collect, Fault};
+pub use fallible_core::number::Number;
 pub use fallible_core::{
     Chain, Cloned, Cycle, DoubleEndedFallibleIterator, Enumerate, FallibleIterator, Filter,
     FilterMap, FlatMap, Flatten, Fuse, Inspect, IntoFallibleIterator, Iterator, Map, MapErr,

@@ -3,7 +3,7 @@ ghost use Rattle.std.specs.Prelude.{◌≡◌, Bool, List, Result};
 ghost use Rattle.std.specs.declared.cmp.Ordering.{Ordering};
 ghost use Rattle.fallible_contract.specs.Comparing.{ComparedWith, ReadWith, by_cmp, by_eq, read_as, reads_eq};
 ghost use Rattle.fallible_contract.specs.Lists.{Lists, compared};
-ghost use Rattle.fallible_iterator.specs.Comparing.{EqIsCmpEqual};
+ghost use Rattle.fallible_iterator.specs.Agreement.{EqIsCmpEqual};
 
 use fallible_core::traits::FallibleIterator;
 use fallible_core::traits::conversion::IntoFallibleIterator;
