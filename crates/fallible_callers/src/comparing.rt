@@ -1,10 +1,8 @@
 //! How two chains compare, where one of them is known to end.
 ghost use Rattle.std.specs.Prelude.{◌≡◌, ◌*◌, ◌%◌, ◌^◌, List, Result, Ok, Some, nat_lt, nat_eq};
 ghost use Rattle.std.specs.Ordering.{nat_cmp};
-ghost use Rattle.fallible_contract.specs.Comparing.{by_cmp, by_eq, read_as, reads_eq};
-ghost use Rattle.fallible_contract.specs.Lists.{Lists, results, compared};
-ghost use Rattle.fallible_core.specs.OneToOne.Map.{mapped};
-ghost use Rattle.fallible_core.specs.Filtering.Filter.{filtered};
+ghost use Rattle.fallible_iterator.specs.Comparing.{by_cmp, by_eq, read_as, reads_eq};
+ghost use Rattle.fallible_iterator.specs.Lists.{Lists, results, compared, mapped, filtered};
 
 use fallible_iterator::{FallibleIterator, convert, repeat};
 use std::alloc::AllocError;

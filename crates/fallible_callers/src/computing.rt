@@ -1,16 +1,6 @@
 //! What chains of calls compute.
 ghost use Rattle.std.specs.Prelude.{◌≡◌, ◌+◌, ◌*◌, ◌/◌, ◌%◌, ◌^◌, ◌<◌, [], ◌∷◌, List, Result, Ok, Err, Option, Some, None, nat_lt, if◌then◌else◌};
-ghost use Rattle.fallible_core.specs.OneToOne.MapWhile.{mapped_while};
-ghost use Rattle.fallible_contract.specs.Lists.{items, results, counted, nth_of, folded, collected, CollectedAs, Lists};
-ghost use Rattle.fallible_core.specs.OneToOne.Map.{mapped};
-ghost use Rattle.fallible_core.specs.Filtering.Filter.{filtered};
-ghost use Rattle.fallible_core.specs.Cutting.Take.{taken};
-ghost use Rattle.fallible_core.specs.OneToOne.Enumerate.{numbered};
-ghost use Rattle.fallible_core.specs.Filtering.SkipWhile.{skipped_while};
-ghost use Rattle.fallible_core.specs.Cutting.TakeWhile.{taken_while};
-ghost use Rattle.fallible_core.specs.Joining.Zip.{zipped};
-ghost use Rattle.fallible_core.specs.OneToOne.Scan.{scanned};
-ghost use Rattle.fallible_core.specs.Joining.Chain.{chained};
+ghost use Rattle.fallible_iterator.specs.Lists.{mapped_while, items, results, counted, nth_of, folded, collected, CollectedAs, Lists, mapped, filtered, taken, numbered, skipped_while, taken_while, zipped, scanned, chained};
 
 use fallible_iterator::{FallibleIterator, Fault, convert, once};
 use std::alloc::Global;

@@ -1,12 +1,7 @@
 //! What searches find, and which item is the best.
 ghost use Rattle.std.specs.Prelude.{◌≡◌, ◌+◌, ◌*◌, ◌%◌, ◌^◌, Result, Ok, Option, nat_lt};
 ghost use Rattle.std.specs.Ordering.{nat_cmp};
-ghost use Rattle.fallible_contract.specs.Lists.{results, all_of, any_of, found, last_of, position_in, reduced, greatest, least, PartedAs, UnzippedAs};
-ghost use Rattle.fallible_core.specs.OneToOne.Map.{mapped};
-ghost use Rattle.fallible_core.specs.Filtering.Filter.{filtered};
-ghost use Rattle.fallible_core.specs.OneToOne.Enumerate.{numbered};
-ghost use Rattle.fallible_core.specs.Cutting.Skip.{skipped};
-ghost use Rattle.fallible_core.specs.Cutting.Take.{taken};
+ghost use Rattle.fallible_iterator.specs.Lists.{results, all_of, any_of, found, last_of, position_in, reduced, greatest, least, PartedAs, UnzippedAs, mapped, filtered, numbered, skipped, taken};
 
 use fallible_iterator::{FallibleIterator, Fault, convert};
 use std::alloc::Global;

@@ -1,6 +1,6 @@
 //! Draws by hand.
 ghost use Rattle.std.specs.Prelude.{◌≡◌, List, ◌∷◌, Result, Ok, Some};
-ghost use Rattle.fallible_contract.specs.Lists.{Lists};
+ghost use Rattle.fallible_iterator.specs.Lists.{Lists};
 
 use fallible_iterator::{FallibleIterator, convert};
 

@@ -1,9 +1,6 @@
 //! Callers over any fallible iterator.
 ghost use Rattle.std.specs.Prelude.{◌≡◌, ◌+◌, ◌*◌, ◌%◌, ◌^◌, ℕ, List, Result, Ok, nat_lt};
-ghost use Rattle.fallible_contract.specs.Lists.{Lists, results, folded};
-ghost use Rattle.fallible_core.specs.OneToOne.Map.{mapped};
-ghost use Rattle.fallible_core.specs.Filtering.Filter.{filtered};
-ghost use Rattle.fallible_core.specs.Cutting.Take.{taken};
+ghost use Rattle.fallible_iterator.specs.Lists.{Lists, results, folded, mapped, filtered, taken};
 ghost use Rattle.fallible_callers.specs.Means.{mean_of};
 
 use fallible_iterator::{FallibleIterator, convert};

@@ -1,11 +1,7 @@
 //! Ranges, drained.
 ghost use Rattle.std.specs.Prelude.{◌≡◌, ◌+◌, ◌%◌, ◌^◌, Ok, IfOk, nat_lt};
 ghost use Rattle.std.specs.List.{range_with_len};
-ghost use Rattle.fallible_contract.specs.Lists.{items, results, counted, folded, CollectedAs};
-ghost use Rattle.fallible_core.specs.Cutting.Take.{taken};
-ghost use Rattle.fallible_core.specs.OneToOne.Map.{mapped};
-ghost use Rattle.fallible_core.specs.Filtering.Filter.{filtered};
-ghost use Rattle.fallible_core.specs.Joining.Flatten.{flattened};
+ghost use Rattle.fallible_iterator.specs.Lists.{items, results, counted, folded, CollectedAs, taken, mapped, filtered, flattened};
 ghost use Rattle.fallible_callers.specs.Runs.{below, numbers};
 
 use fallible_iterator::{FallibleIterator, Fault, IteratorExt, convert};

@@ -1,7 +1,7 @@
 //! A source of one's own over any reader, and the lines of a reader.
 ghost use Rattle.std.proofs.Common.{rules};
-ghost use Rattle.fallible_contract.specs.Contract.{unbounded_contract};
-ghost use Rattle.fallible_contract.specs.Laws.BoundsRuns.{lawful_unbounded};
+ghost use Rattle.fallible_iterator.specs.Contract.{unbounded_contract};
+ghost use Rattle.fallible_iterator.specs.Laws.BoundsRuns.{lawful_unbounded};
 ghost use Rattle.fallible_callers.specs.Reading.{DrawsByte};
 
 use fallible_iterator::{FallibleIterator, convert, convert_fused};

@@ -22,6 +22,7 @@ pub use Rattle.fallible_contract.specs.Refusals
 pub use Rattle.fallible_contract.specs.Searching
 pub use Rattle.fallible_contract.specs.ShownTraces
 pub use Rattle.fallible_contract.specs.Traces
+pub use Rattle.fallible_contract.specs.declared.answers.Side
 pub use Rattle.fallible_contract.specs.WithSteps
 pub use Rattle.fallible_core.specs.Borrowed
 pub use Rattle.fallible_core.specs.Bridges

@@ -3,8 +3,8 @@ use crate::asking::{Failure, Number};
 use crate::counting::{Counting, Pointing};
 use crate::expecting::expect_refused_clones;
 use crate::requests::Requests;
-use fallible_iterator::laws::Answer;
-use fallible_iterator::laws::Answer::{End, Item};
+use fallible_iterator::Answer;
+use fallible_iterator::Answer::{End, Item};
 use fallible_iterator::{
     FallibleIterator, IntoFallible, convert, empty, from_fn, once, once_err, repeat, repeat_err,
 };

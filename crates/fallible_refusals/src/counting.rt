@@ -1,8 +1,8 @@
 // A source of which each clone asks for memory.
 ghost use Rattle.std.specs.Prelude.{◌≡◌, ◌+◌, ◌-◌, ◌≤◌, MatchResult, MatchOption};
 ghost use Rattle.std.proofs.Common.{rules};
-ghost use Rattle.fallible_contract.specs.Contract.{counted_contract};
-ghost use Rattle.fallible_contract.specs.Ends.{counted_ends};
+ghost use Rattle.fallible_iterator.specs.Contract.{counted_contract};
+ghost use Rattle.fallible_iterator.specs.Ends.{counted_ends};
 
 use crate::requests::Requests;
 use fallible_iterator::{DoubleEndedFallibleIterator, FallibleIterator};

@@ -1,9 +1,10 @@
 // What a clone that is refused leaves.
-ghost use Rattle.fallible_contract.specs.Contract.{Stays};
+ghost use Rattle.fallible_iterator.specs.Contract.{Stays};
 
 use crate::requests::Requests;
 use fallible_iterator::FallibleIterator;
-use fallible_iterator::laws::{Answer, answers};
+use fallible_iterator::Answer;
+use fallible_iterator::laws::answers;
 use std::alloc::AllocError;
 use std::fmt::Debug;
 use std::test::Fail;

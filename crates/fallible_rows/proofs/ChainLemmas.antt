@@ -3,14 +3,14 @@ use Rattle.std.proofs.Common.{◌≡◌, ℕ, ◌++◌, ◌∷◌, [], ◌⊎◌
 use Rattle.std.specs.Fn.{Mut}
 use Rattle.std.specs.Borrow.{Bor}
 use Rattle.std.proofs.lemmas.List.Sums.{length-filter}
-use Rattle.fallible_contract.specs.Traces.{Answered, Run, item, end}
-use Rattle.fallible_contract.specs.Contract.{Contract, seen_as, unbounded_contract}
-use Rattle.fallible_contract.specs.Closures.{call_at}
-use Rattle.fallible_contract.specs.Lists.{Acts}
+use Rattle.fallible_iterator.specs.Traces.{Answered, Run, item, end}
+use Rattle.fallible_iterator.specs.Contract.{Contract, seen_as, unbounded_contract}
+use Rattle.fallible_iterator.specs.Closures.{call_at}
+use Rattle.fallible_iterator.specs.Lists.{Acts}
 use Rattle.fallible_core.specs.declared.cutting.take.Take.{Take}
 use Rattle.fallible_core.specs.declared.filtering.filter.Filter.{Filter}
-use Rattle.fallible_core.specs.Cutting.Take.{take_contract, take_parts}
-use Rattle.fallible_core.specs.Filtering.Filter.{filter_contract, filter_parts}
+use Rattle.fallible_iterator.specs.Cutting.Take.{take_contract, take_parts}
+use Rattle.fallible_iterator.specs.Filtering.Filter.{filter_contract, filter_parts}
 use Rattle.fallible_rows.specs.declared.fault.RowFault.{RowFault}
 use Rattle.fallible_rows.specs.declared.rows.Ahead.{Ahead}
 use Rattle.fallible_rows.specs.declared.rows.Rows.{Rows}

@@ -3,8 +3,8 @@ use Rattle.std.proofs.Common.{◌≡◌, ◌≢◌, ℕ, zero, suc, ◌+◌, ◌
 use Rattle.std.specs.Prelude.{replicate, ◌↔◌}
 use Rattle.std.proofs.lemmas.List.{length-append}
 use Rattle.std.proofs.lemmas.List.Elements.{All-nil}
-use Rattle.fallible_contract.specs.Traces.{Answered, Run, failure, end}
-use Rattle.fallible_contract.specs.Laws.Closures.{turns_then}
+use Rattle.fallible_iterator.specs.Traces.{Answered, Run, failure, end}
+use Rattle.fallible_iterator.specs.Laws.Closures.{turns_then}
 use Rattle.fallible_rows.specs.declared.fault.RowFault.{RowFault}
 use Rattle.fallible_rows.specs.declared.fault.RowFault.TheVariants.{Row, Read}
 use Rattle.fallible_rows.specs.declared.rows.Ahead.{Ahead}

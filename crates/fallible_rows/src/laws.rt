@@ -1,6 +1,6 @@
 //! What a trace of the rows of a reader is.
 ghost use Rattle.std.specs.Prelude.{◌≡◌, ℕ, ◌≤◌, ◌<◌, List, Option, Result, ◌↔◌};
-ghost use Rattle.fallible_contract.specs.Traces.{Answered, Run};
+ghost use Rattle.fallible_iterator.specs.Traces.{Answered, Run};
 ghost use Rattle.fallible_rows.specs.RowTraces.{rows_parts, IsPlaced, RowsTrace, AnswersRowsOf, NeverFailsToRead, BeginsWith, CanGiveAll};
 ghost use Rattle.fallible_rows.specs.declared.fault.RowFault.{RowFault};
 

@@ -1,8 +1,8 @@
 //! Rows of a reader, as a fallible iterator.
 ghost use Rattle.std.specs.Prelude.{◌≡◌, ◌-◌, ◌^◌};
-ghost use Rattle.fallible_contract.specs.Contract.{unbounded_contract, seen_as};
-ghost use Rattle.fallible_contract.specs.Laws.Contract.{lawful_seen};
-ghost use Rattle.fallible_contract.specs.Laws.BoundsRuns.{lawful_unbounded};
+ghost use Rattle.fallible_iterator.specs.Contract.{unbounded_contract, seen_as};
+ghost use Rattle.fallible_iterator.specs.Laws.Contract.{lawful_seen};
+ghost use Rattle.fallible_iterator.specs.Laws.BoundsRuns.{lawful_unbounded};
 ghost use Rattle.fallible_rows.specs.RowTraces.{rows_parts, begun, row_step};
 ghost use Rattle.fallible_rows.specs.Digits.{ReadsRow};
 

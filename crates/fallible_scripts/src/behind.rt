@@ -1,6 +1,6 @@
 // Folds from behind go through the source's own.
-ghost use Rattle.fallible_contract.specs.Contract.{Stays};
-ghost use Rattle.fallible_contract.specs.Ends.{from_back};
+ghost use Rattle.fallible_iterator.specs.Contract.{Stays};
+ghost use Rattle.fallible_iterator.specs.Ends.{from_back};
 
 use crate::calls::Calls;
 use crate::counted::{Counted, Log};

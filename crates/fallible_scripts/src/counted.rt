@@ -1,14 +1,14 @@
 //! An iterator that counts the calls which it gets.
 ghost use Rattle.std.specs.Prelude.{◌≡◌, Result, Option};
-ghost use Rattle.fallible_contract.specs.Contract.{seen_as};
-ghost use Rattle.fallible_contract.specs.Ends.{ends_seen_as};
-ghost use Rattle.fallible_contract.specs.Laws.Contract.{lawful_seen};
-ghost use Rattle.fallible_contract.specs.Laws.Ends.{lawful_ends_seen};
+ghost use Rattle.fallible_iterator.specs.Contract.{seen_as};
+ghost use Rattle.fallible_iterator.specs.Ends.{ends_seen_as};
+ghost use Rattle.fallible_iterator.specs.Laws.Contract.{lawful_seen};
+ghost use Rattle.fallible_iterator.specs.Laws.Ends.{lawful_ends_seen};
 ghost use Rattle.fallible_scripts.specs.Counted.{counted_parts};
 
 use crate::calls::Calls;
-use fallible_contract::searching::Test;
-use fallible_iterator::folds::{Exit, Turn};
+use fallible_iterator::Test;
+use fallible_iterator::{Exit, Turn};
 use fallible_iterator::{DoubleEndedFallibleIterator, FallibleIterator};
 use std::cell::Cell;
 

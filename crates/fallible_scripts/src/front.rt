@@ -1,5 +1,5 @@
 // Folds from the front go through the source's own.
-ghost use Rattle.fallible_contract.specs.Contract.{Stays};
+ghost use Rattle.fallible_iterator.specs.Contract.{Stays};
 
 use crate::calls::Calls;
 use crate::counted::{Counted, Log};

@@ -1,8 +1,8 @@
 // Nests in which one adapter works through another's fold, each beside the same nest drawn by `next` alone.
-ghost use Rattle.fallible_contract.specs.Contract.{Stays};
+ghost use Rattle.fallible_iterator.specs.Contract.{Stays};
 
 use crate::shared::{below_three, is_even, stop, tens_of_even};
-use fallible_iterator::laws::Answer::{End, Failure, Item};
+use fallible_iterator::Answer::{End, Failure, Item};
 use fallible_iterator::{FallibleIterator, IteratorExt, Once, once};
 use fallible_testing::answered::expect_answers;
 use fallible_testing::numbers::numbers;

@@ -1,6 +1,6 @@
 // The two ways of draining a chain.
 ghost use Rattle.std.specs.Prelude.{◌-◌, ◌^◌};
-ghost use Rattle.fallible_contract.specs.Contract.{AtMost};
+ghost use Rattle.fallible_iterator.specs.Contract.{AtMost};
 
 use crate::loops::mixed;
 use crate::name::Way;

@@ -1,9 +1,9 @@
 //! What a clone and its original answer.
-ghost use Rattle.fallible_contract.specs.Contract.{Stays};
+ghost use Rattle.fallible_iterator.specs.Contract.{Stays};
 
 use crate::answered::expect_answers;
 use fallible_iterator::FallibleIterator;
-use fallible_iterator::laws::Answer;
+use fallible_iterator::Answer;
 use std::fmt::Debug;
 use std::test::Fail;
 

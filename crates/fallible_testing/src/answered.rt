@@ -1,8 +1,9 @@
 //! What the next draws answer.
-ghost use Rattle.fallible_contract.specs.Contract.{Stays};
-ghost use Rattle.fallible_contract.specs.Ends.{from_front};
+ghost use Rattle.fallible_iterator.specs.Contract.{Stays};
+ghost use Rattle.fallible_iterator.specs.Ends.{from_front};
 
-use fallible_iterator::laws::{Answer, Side, answers, answers_at};
+use fallible_iterator::{Answer, Side};
+use fallible_iterator::laws::{answers, answers_at};
 use fallible_iterator::{DoubleEndedFallibleIterator, FallibleIterator};
 use std::fmt::Debug;
 use std::test::Fail;

@@ -2,8 +2,8 @@
 ghost use Rattle.std.specs.Prelude.{◌≡◌, ◌+◌, ◌≤◌, MatchResult, MatchOption};
 ghost use Rattle.std.proofs.Common.{rules};
 ghost use Rattle.std.specs.Vec.Iter.{into_iter_len};
-ghost use Rattle.fallible_contract.specs.Contract.{counted_contract};
-ghost use Rattle.fallible_contract.specs.Ends.{counted_ends};
+ghost use Rattle.fallible_iterator.specs.Contract.{counted_contract};
+ghost use Rattle.fallible_iterator.specs.Ends.{counted_ends};
 
 use fallible_iterator::{DoubleEndedFallibleIterator, FallibleIterator};
 use std::alloc::{AllocError, Global};

@@ -1,9 +1,9 @@
 // A fallible iterator of a user's own that writes its own fold.
-ghost use Rattle.fallible_contract.specs.Contract.{seen_as};
-ghost use Rattle.fallible_contract.specs.Laws.Contract.{lawful_seen};
+ghost use Rattle.fallible_iterator.specs.Contract.{seen_as};
+ghost use Rattle.fallible_iterator.specs.Laws.Contract.{lawful_seen};
 
 use fallible_iterator::FallibleIterator;
-use fallible_iterator::folds::{Exit, Turn};
+use fallible_iterator::{Exit, Turn};
 use fallible_testing::numbers::numbers;
 use std::cell::Cell;
 

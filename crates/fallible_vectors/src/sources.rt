@@ -1,5 +1,5 @@
 // Sources.
-use fallible_iterator::laws::Answer::{Failure, Item};
+use fallible_iterator::Answer::{Failure, Item};
 use fallible_iterator::{
     FallibleIterator, IteratorExt, convert_fused, empty, from_fn, once, repeat, repeat_err,
 };

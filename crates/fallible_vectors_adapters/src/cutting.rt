@@ -2,8 +2,8 @@
 ghost use Rattle.std.specs.Prelude.{◌≤◌};
 
 use fallible_iterator::FallibleIterator;
-use fallible_iterator::laws::Answer;
-use fallible_iterator::laws::Answer::{End, Item};
+use fallible_iterator::Answer;
+use fallible_iterator::Answer::{End, Item};
 use fallible_testing::answered::expect_answers;
 use fallible_testing::collected::expect_collected;
 use fallible_testing::numbers::numbers;

@@ -20,7 +20,7 @@ use fallible_callers::drawing::{draw_all, second_if_above, third_draw, third_of}
 use fallible_callers::generic::{mean, mean_of_nest, sum_of_nest};
 use fallible_callers::ranges::{count_and_sum, runs, sum_below};
 use fallible_callers::reading::{Bytes, LineFault, ReadFailed, newlines_of_three, sum_of_lines};
-use fallible_iterator::laws::Answer::Item;
+use fallible_iterator::Answer::Item;
 use fallible_iterator::{FallibleIterator, Fault, convert, empty};
 use std::alloc::{AllocError, Global};
 use std::convert::Infallible;

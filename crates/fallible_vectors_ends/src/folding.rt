@@ -1,6 +1,6 @@
 // Folds from behind.
-use fallible_iterator::laws::Answer::{End, Item};
-use fallible_iterator::laws::Side::{Back, Front};
+use fallible_iterator::Answer::{End, Item};
+use fallible_iterator::Side::{Back, Front};
 use fallible_iterator::{DoubleEndedFallibleIterator, FallibleIterator};
 use fallible_testing::answered::expect_answers_at;
 use fallible_testing::closures::{add_up, put_behind};

@@ -1,8 +1,8 @@
 // A fallible iterator of a user's own, with two ends.
 ghost use Rattle.std.specs.Prelude.{◌≡◌, ◌+◌, ◌≤◌, ◌%◌, ◌^◌, MatchResult, MatchOption};
 ghost use Rattle.std.proofs.Common.{rules};
-ghost use Rattle.fallible_contract.specs.Contract.{counted_contract};
-ghost use Rattle.fallible_contract.specs.Ends.{counted_ends};
+ghost use Rattle.fallible_iterator.specs.Contract.{counted_contract};
+ghost use Rattle.fallible_iterator.specs.Ends.{counted_ends};
 
 use fallible_iterator::{DoubleEndedFallibleIterator, FallibleIterator};
 

@@ -1,5 +1,5 @@
 // What `rev` makes of sources and adapters.
-use fallible_iterator::laws::Answer::{Failure, Item};
+use fallible_iterator::Answer::{Failure, Item};
 use fallible_iterator::{
     DoubleEndedFallibleIterator, FallibleIterator, Fault, IntoFallible, convert,
 };

@@ -1,5 +1,5 @@
 // A clone goes on where its original stands, and leaves it there.
-use fallible_iterator::laws::Answer::{End, Failure, Item};
+use fallible_iterator::Answer::{End, Failure, Item};
 use fallible_iterator::{
     FallibleIterator, IntoFallible, convert, empty, from_fn, once, once_err, repeat, repeat_err,
 };

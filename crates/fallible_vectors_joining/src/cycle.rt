@@ -1,7 +1,7 @@
 // The adapter that begins anew at each end.
 ghost use Rattle.std.specs.Prelude.{◌≡◌, ◌+◌, ◌≤◌, MatchResult, MatchOption};
 ghost use Rattle.std.proofs.Common.{rules};
-ghost use Rattle.fallible_contract.specs.Contract.{counted_contract};
+ghost use Rattle.fallible_iterator.specs.Contract.{counted_contract};
 
 use fallible_iterator::{FallibleIterator, convert, empty, once};
 use fallible_testing::collected::expect_collected;

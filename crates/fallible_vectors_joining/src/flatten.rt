@@ -1,7 +1,7 @@
 // Adapters that join inner iterators.
 ghost use Rattle.std.specs.Prelude.{IfOk};
 
-use fallible_iterator::laws::Answer::{End, Failure, Item};
+use fallible_iterator::Answer::{End, Failure, Item};
 use fallible_iterator::{
     FallibleIterator, IntoFallible, IntoFallibleIterator, Take, from_fn, once,
 };

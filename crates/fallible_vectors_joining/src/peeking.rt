@@ -2,7 +2,7 @@
 ghost use Rattle.std.specs.Prelude.{◌≡◌, ◌==◌, ⊤, Some, None, Ok, MatchResult};
 ghost use Rattle.std.proofs.Common.{rules};
 ghost use Rattle.std.specs.Cmp.Rules.{comparing};
-ghost use Rattle.fallible_core.specs.Peeking.Peekable.{Fills, peekable_parts};
+ghost use Rattle.fallible_iterator.specs.Peeking.Peekable.{Fills, peekable_parts};
 
 use fallible_iterator::{FallibleIterator, Peekable, convert, from_fn, once, repeat};
 use fallible_testing::closures::add_up;

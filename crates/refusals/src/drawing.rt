@@ -1,5 +1,5 @@
 // What the next draws answer.
-ghost use Rattle.fallible_contract.specs.Contract.{Stays};
+ghost use Rattle.fallible_iterator.specs.Contract.{Stays};
 
 use fallible_iterator::FallibleIterator;
 use std::fmt::Debug;

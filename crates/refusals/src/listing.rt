@@ -1,6 +1,7 @@
 // What the calls answer that list answers.
 use crate::failure::Failure;
-use fallible_iterator::laws::{Side, answers, answers_at};
+use fallible_iterator::Side;
+use fallible_iterator::laws::{answers, answers_at};
 use fallible_iterator::{FallibleIterator, convert};
 use std::io;
 

@@ -1,6 +1,6 @@
 //! Does an operation with any nest.
 ghost use Rattle.std.specs.Prelude.{◌-◌, ◌^◌};
-ghost use Rattle.fallible_contract.specs.Contract.{AtMost, Stays};
+ghost use Rattle.fallible_iterator.specs.Contract.{AtMost, Stays};
 
 use crate::answer::{Answer, Coded, Failed, Seen};
 use crate::case::Run;

@@ -1,8 +1,8 @@
 //! A source of four scripted answers.
 ghost use Rattle.std.specs.Prelude.{◌≡◌, ◌+◌, ◌-◌, ◌≤◌, MatchResult, MatchOption};
 ghost use Rattle.std.proofs.Common.{rules};
-ghost use Rattle.fallible_contract.specs.Contract.{counted_contract};
-ghost use Rattle.fallible_contract.specs.Ends.{counted_ends};
+ghost use Rattle.fallible_iterator.specs.Contract.{counted_contract};
+ghost use Rattle.fallible_iterator.specs.Ends.{counted_ends};
 ghost use Rattle.scripts.specs.Left.{left_of, left_of_twin};
 
 use crate::answer::{Answer, Failed};

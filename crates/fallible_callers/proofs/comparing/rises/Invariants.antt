@@ -1,7 +1,7 @@
 -- It may be drawn from, and some bound is at most the one that is counted down.
 use Rattle.std.proofs.Common.{ℕ, ◌≤◌}
-use Rattle.fallible_contract.specs.Contract.{seen_as}
-use Rattle.fallible_core.specs.Peeking.Peekable.{peekable_contract, peekable_parts}
+use Rattle.fallible_iterator.specs.Contract.{seen_as}
+use Rattle.fallible_iterator.specs.Peeking.Peekable.{peekable_contract, peekable_parts}
 use Rattle.fallible_callers.proofs.comparing.rises.Given as goal
 
 abbrev pub invariant-loop-left : goal.invariant-loop-left

@@ -1,11 +1,11 @@
 -- What the chain's rows answered is what was read, and the reader is the one that was lent.
 use Rattle.std.proofs.Common.{rules, tests, ◌≡◌, ◌-◌, ◌^◌, sym, subst, refl, lit≤}
-use Rattle.fallible_contract.specs.Laws.Contract.{lawful_seen}
-use Rattle.fallible_contract.specs.Laws.BoundsRuns.{lawful_unbounded}
-use Rattle.fallible_core.specs.Cutting.Take.{take_parts}
-use Rattle.fallible_core.specs.Filtering.Filter.{filter_parts}
-use Rattle.fallible_core.specs.Laws.Cutting.Take.{lawful_take}
-use Rattle.fallible_core.specs.Laws.Filtering.Filter.{lawful_filter}
+use Rattle.fallible_iterator.specs.Laws.Contract.{lawful_seen}
+use Rattle.fallible_iterator.specs.Laws.BoundsRuns.{lawful_unbounded}
+use Rattle.fallible_iterator.specs.Cutting.Take.{take_parts}
+use Rattle.fallible_iterator.specs.Filtering.Filter.{filter_parts}
+use Rattle.fallible_iterator.specs.Laws.Cutting.Take.{lawful_take}
+use Rattle.fallible_iterator.specs.Laws.Filtering.Filter.{lawful_filter}
 use Rattle.fallible_rows.specs.RowTraces.{rows_parts, row_step}
 use Rattle.fallible_rows.specs.declared.reading.Lent.{Lent}
 use Rattle.fallible_rows.specs.Counting.{CountsPrefix}

@@ -1,6 +1,6 @@
 -- The fold over the list of one item.
 use Rattle.std.proofs.Common.{rules, Ok, [], ◌∷◌}
-use Rattle.fallible_contract.specs.Lists.{folded}
+use Rattle.fallible_iterator.specs.Lists.{folded}
 use Rattle.fallible_vectors.proofs.traits.folded_once.Goals as goal
 
 pub returns : goal.returns

@@ -1,5 +1,5 @@
 -- The draws so far leave what may be drawn from again.
-use Rattle.fallible_contract.specs.Contract.{Stays}
+use Rattle.fallible_iterator.specs.Contract.{Stays}
 use Rattle.scripts.proofs.operating.drawn.Given as goal
 
 abbrev pub invariant-loop : goal.invariant-loop

@@ -1,5 +1,5 @@
 use Rattle.std.proofs.Common.{◌≡◌, ℕ, ◌≤◌, List, [], None, Err, subst, arith, ap, ◌∙◌, sym, append-nil}
-use Rattle.fallible_contract.specs.Traces.{Answered}
+use Rattle.fallible_iterator.specs.Traces.{Answered}
 use Rattle.fallible_rows.specs.declared.fault.RowFault.{RowFault}
 use Rattle.fallible_rows.specs.declared.fault.RowFault.TheVariants.{Row}
 use Rattle.fallible_rows.specs.Rows.{row_number}

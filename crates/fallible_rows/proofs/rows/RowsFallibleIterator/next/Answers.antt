@@ -1,5 +1,5 @@
 use Rattle.std.proofs.Common.{Option, Some, inl, inr, subst, sym, refl}
-use Rattle.fallible_contract.specs.Traces.{end, failure}
+use Rattle.fallible_iterator.specs.Traces.{end, failure}
 use Rattle.fallible_rows.specs.declared.fault.RowFault.TheVariants.{Read}
 use Rattle.fallible_rows.specs.declared.rows.Ahead.{Ahead}
 use Rattle.fallible_rows.specs.RowTraces.{row_step}
