@@ -1,5 +1,5 @@
 -- Lists of answers, from the front: what a caller states that a chain of calls computed.
-use Rattle.std.specs.Prelude.{◌≡◌, ℕ, ◌+◌, ◌-◌, zero, suc, ◌≤◌, ◌<◌, length, reverse, slice_index_or, Result, Some, None, Ok, Err, List, [], ◌∷◌, Bool, true, false, ⊤}
+use Rattle.std.specs.Prelude.{◌≡◌, ℕ, ◌+◌, ◌-◌, zero, suc, ◌≤◌, ◌<◌, length, reverse, slice_index_or, Result, Some, None, Ok, Err, List, [], ◌∷◌, Bool, true, false, not, is_some, ⊤}
 use Rattle.std.specs.Iterator.Runs.{EachRunFrom}
 use Rattle.std.specs.List.{last_or}
 use Rattle.std.specs.declared.option.Option.{Option}
@@ -253,3 +253,56 @@ compared rule [] (Err e ∷ b) = Err e
 compared rule (Ok x ∷ a) [] = Ok (Some Greater)
 compared rule (Ok x ∷ a) (Ok y ∷ b) = unless_equal (rule x y) (compared rule a b)
 compared rule (Ok x ∷ a) (Err e ∷ b) = Err e
+
+-- ---- what a call leaves of a list, where it drew no end
+
+-- without the first answer
+unfoldable pub behind_first : {A E : Type 0} → List (Result A E) → List (Result A E)
+behind_first [] = []
+behind_first (y ∷ l) = l
+
+-- what stands behind the item with n items before it, or behind the failure that comes first
+unfoldable pub behind_nth : {A E : Type 0} → ℕ → List (Result A E) → List (Result A E)
+behind_nth n [] = []
+behind_nth zero (Ok x ∷ l) = l
+behind_nth (suc n) (Ok x ∷ l) = behind_nth n l
+behind_nth n (Err e ∷ l) = l
+
+-- the list at which a search stops, or what it leaves of a later one
+abbrev pub stopped_or : {B : Type 0} → Bool → B → B → B
+stopped_or true here later = here
+stopped_or false here later = later
+
+-- what a search leaves at an item: what stands behind it where the closure's answer stops the search, or the closure fails
+abbrev pub behind_answer : {A V E : Type 0} → (V → Bool) → Result V E → List (Result A E) → List (Result A E) → List (Result A E)
+behind_answer stops (Ok v) here later = stopped_or (stops v) here later
+behind_answer stops (Err e) here later = here
+
+-- what stands behind the first item x where h x is an answer that stops, or a failure; or behind the failure of the list that comes first
+unfoldable pub behind_stop : {A V E : Type 0} → (V → Bool) → (A → Result V E) → List (Result A E) → List (Result A E)
+behind_stop stops h [] = []
+behind_stop stops h (Ok x ∷ l) = behind_answer stops (h x) l (behind_stop stops h l)
+behind_stop stops h (Err e ∷ l) = l
+
+-- what `find`, `any` and `position` leave: what stands behind the first item x for which h x is true
+unfoldable pub behind_true : {A E : Type 0} → (A → Result Bool E) → List (Result A E) → List (Result A E)
+behind_true h l = behind_stop (λ v. v) h l
+
+-- what `all` leaves: what stands behind the first item x for which h x is false
+unfoldable pub behind_false : {A E : Type 0} → (A → Result Bool E) → List (Result A E) → List (Result A E)
+behind_false h l = behind_stop not h l
+
+-- what `find_map` leaves: what stands behind the first item x for which h x is a value
+unfoldable pub behind_value : {A B E : Type 0} → (A → Result (Option B) E) → List (Result A E) → List (Result A E)
+behind_value h l = behind_stop is_some h l
+
+-- what a fold leaves at an item: what stands behind it where h fails
+abbrev pub behind_failed : {B E E' A : Type 0} → Result B E' → List (Result A E) → (B → List (Result A E)) → List (Result A E)
+behind_failed (Ok c) here later = later c
+behind_failed (Err e) here later = here
+
+-- what `try_fold` leaves: what stands behind the first item on which h, called on the value so far and that item, fails; or behind the failure of the list that comes first
+unfoldable pub behind_fold : {A B E E' : Type 0} → (B → A → Result B E') → B → List (Result A E) → List (Result A E)
+behind_fold h b [] = []
+behind_fold h b (Ok x ∷ l) = behind_failed (h b x) l (λ c. behind_fold h c l)
+behind_fold h b (Err e ∷ l) = l

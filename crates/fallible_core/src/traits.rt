@@ -1,5 +1,5 @@
 //! The trait of fallible iterators: one call that each type writes, and all that comes with it.
-ghost use Rattle.std.specs.Prelude.{◌≡◌, ℕ, true, false, ◌+◌, ◌-◌, ◌≤◌, ◌<◌, ◌^◌, List, Option, Result, Some, None, Ok, Bool, MatchResult, ◌↔◌, ◌⊎◌};
+ghost use Rattle.std.specs.Prelude.{◌≡◌, ℕ, true, false, ◌+◌, ◌-◌, ◌≤◌, ◌<◌, ◌^◌, List, Option, Result, Some, None, Ok, Bool, MatchResult, ◌↔◌, ◌⊎◌, Err};
 ghost use Rattle.std.specs.Borrow.{Bor};
 ghost use Rattle.std.specs.Iterator.Runs.{EachRunFrom, ItemsAre};
 ghost use Rattle.fallible_contract.specs.Clauses.{OverList, OverListWith, OverBoth};
@@ -31,7 +31,7 @@ ghost use Rattle.fallible_core.specs.Peeking.Peekable.{peekable_parts, peekable_
 ghost use Rattle.fallible_core.specs.Joining.Cycle.{cycle_kept, cycle_source};
 ghost use Rattle.fallible_core.specs.declared.joining.chain.StillDrawn.TheVariants.{Both};
 ghost use Rattle.fallible_contract.specs.Collecting.{Collects, IsCollectTurn, Asks, IsPartitionTurn, Partitions, MadeOfParts, PairRefused, IsUnzipTurn};
-ghost use Rattle.fallible_contract.specs.Lists.{items, Lists, Acts, Repeats, repeated, counted, ActsWithState, CollectedAs, nth_of, folded, reduced, ActsWith, Converts, all_of, any_of, find_mapped, found, last_of, PartedAs, UnzippedAs, position_in, each_done, best_by, greatest, least, best_by_key, compared};
+ghost use Rattle.fallible_contract.specs.Lists.{behind_first, behind_nth, behind_true, behind_false, behind_value, behind_fold, items, Lists, Acts, Repeats, repeated, counted, ActsWithState, CollectedAs, nth_of, folded, reduced, ActsWith, Converts, all_of, any_of, find_mapped, found, last_of, PartedAs, UnzippedAs, position_in, each_done, best_by, greatest, least, best_by_key, compared};
 ghost use Rattle.fallible_contract.specs.Comparing.{OneIsFinite, by_cmp, by_eq, read_as, reads_eq, reads_ne, reads_lt, reads_le, reads_gt, reads_ge, ComparedWith, ReadWith};
 ghost use Rattle.std.specs.declared.cmp.Ordering.{Ordering};
 ghost use Rattle.std.specs.declared.cmp.Ordering.TheVariants.{Less, Greater};
@@ -177,6 +177,8 @@ pub trait FallibleIterator: Drop + Sized {
         requires { contract.can_next self.old }
         ensures nth { Nth contract.steps self.old n result self.new }
         ensures value { OverList contract.steps self.old (λ l. result ≡ nth_of n l) }
+        ensures rest { OverList contract.steps self.old
+            (λ l. ¬ (result ≡ Ok None) → Lists contract.steps self.new (behind_nth n l)) }
         ensures stays { Stays contract self.old self.new }
     {
         let mut left = n;
@@ -208,6 +210,9 @@ pub trait FallibleIterator: Drop + Sized {
         ensures value { (convert : Self.Error → E) → Converts E.from_gives convert
             → OverListWith (ActsWith (call_with F.FnMut) f) contract.steps self.old
             (λ h l. result ≡ folded convert h init l) }
+        ensures rest { OverListWith (ActsWith (call_with F.FnMut) f) contract.steps self.old
+            (λ h l. (e : E) → result ≡ Err e
+            → Lists contract.steps self.new (behind_fold h init l)) }
         ensures stays { Stays contract self.old self.new }
     {
         fold_of_exit(self.try_fold_carrying((init, f), &TryFoldTurn))
@@ -778,6 +783,9 @@ pub trait FallibleIterator: Drop + Sized {
             self.old f result self.new g }
         ensures value { OverListWith (Acts (call_on F.FnMut) f) contract.steps self.old
             (λ h l. result ≡ all_of h l) }
+        ensures rest { OverListWith (Acts (call_on F.FnMut) f) contract.steps self.old
+            (λ h l. ¬ (result ≡ Ok true)
+            → Lists contract.steps self.new (behind_false h l)) }
         ensures stays { Stays contract self.old self.new }
     {
         search_of_exit(self.try_fold_carrying(f, &AllTurn), true)
@@ -797,6 +805,9 @@ pub trait FallibleIterator: Drop + Sized {
             self.old f result self.new g }
         ensures value { OverListWith (Acts (call_on F.FnMut) f) contract.steps self.old
             (λ h l. result ≡ any_of h l) }
+        ensures rest { OverListWith (Acts (call_on F.FnMut) f) contract.steps self.old
+            (λ h l. ¬ (result ≡ Ok false)
+            → Lists contract.steps self.new (behind_true h l)) }
         ensures stays { Stays contract self.old self.new }
     {
         search_of_exit(self.try_fold_carrying(f, &AnyTurn), false)
@@ -817,6 +828,9 @@ pub trait FallibleIterator: Drop + Sized {
             self.old f result self.new g }
         ensures value { OverListWith (Acts (call_at F.FnMut) f) contract.steps self.old
             (λ h l. result ≡ found h l) }
+        ensures rest { OverListWith (Acts (call_at F.FnMut) f) contract.steps self.old
+            (λ h l. ¬ (result ≡ Ok None)
+            → Lists contract.steps self.new (behind_true h l)) }
         ensures stays { Stays contract self.old self.new }
     {
         let (_, answer) = self.find_carrying(f, &FindTest);
@@ -837,6 +851,9 @@ pub trait FallibleIterator: Drop + Sized {
             self.old f result self.new g }
         ensures value { OverListWith (Acts (call_on F.FnMut) f) contract.steps self.old
             (λ h l. result ≡ find_mapped h l) }
+        ensures rest { OverListWith (Acts (call_on F.FnMut) f) contract.steps self.old
+            (λ h l. ¬ (result ≡ Ok None)
+            → Lists contract.steps self.new (behind_value h l)) }
         ensures stays { Stays contract self.old self.new }
     {
         find_of_exit(self.try_fold_carrying(f, &FindMapTurn))
@@ -856,6 +873,9 @@ pub trait FallibleIterator: Drop + Sized {
             self.old f result self.new g }
         ensures value { OverListWith (Acts (call_on F.FnMut) f) contract.steps self.old
             (λ h l. result ≡ position_in h l) }
+        ensures rest { OverListWith (Acts (call_on F.FnMut) f) contract.steps self.old
+            (λ h l. ¬ (result ≡ Ok None)
+            → Lists contract.steps self.new (behind_true h l)) }
         ensures stays { Stays contract self.old self.new }
     {
         find_of_exit(self.try_fold_carrying((0, f), &PositionTurn))
@@ -1193,6 +1213,8 @@ pub trait FallibleIterator: Drop + Sized {
     final fn draw(&mut self) -> Result<Option<Self::Item>, Self::Error>
         requires { contract.can_next self.old }
         ensures drawn { contract.steps self.old result self.new }
+        ensures rest { OverList contract.steps self.old
+            (λ l. ¬ (result ≡ Ok None) → Lists contract.steps self.new (behind_first l)) }
         ensures stays { Stays contract self.old self.new }
     {
         Self::next(self)

@@ -1,4 +1,5 @@
 -- Lists of answers: what callers state.
+pub mod Behind
 pub mod Compared
 pub mod Drawn
 pub mod Parted

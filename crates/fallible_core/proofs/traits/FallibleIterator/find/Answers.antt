@@ -1,6 +1,7 @@
 -- The search that carries the closure is the search by it.
 use Rattle.fallible_contract.specs.Closures.{call_at}
 use Rattle.fallible_contract.proofs.Lemmas.Lists.Searched.{find_is}
+use Rattle.fallible_contract.proofs.Lemmas.Lists.Behind.{behind_find}
 use Rattle.fallible_core.proofs.traits.FallibleIterator.find.Goals as goal
 
 pub returns-clause-searched : goal.returns-clause-searched
@@ -8,3 +9,6 @@ returns-clause-searched g c = (c.find_carrying-answer.result.0, c.find_carrying-
 
 pub returns-clause-value : goal.returns-clause-value
 returns-clause-value g c h l acts i = find_is l i {call = call_at g.F.FnMut} h acts (returns-clause-searched g c).1
+
+pub returns-clause-rest : goal.returns-clause-rest
+returns-clause-rest g c h l acts i no_end = behind_find l i {call = call_at g.F.FnMut} h acts (returns-clause-searched g c).1 no_end

@@ -1,6 +1,7 @@
 -- Each skipped item goes before what is left of the call.
 use Rattle.std.proofs.Common.{arith}
 use Rattle.fallible_contract.proofs.Lemmas.Nth.{nth_after, nth_now, nth_next}
+use Rattle.fallible_contract.proofs.Lemmas.Lists.Behind.{behind_nth_is}
 use Rattle.fallible_contract.proofs.Lemmas.Lists.Drawn.{nth_is}
 use Rattle.fallible_contract.specs.Laws.Contract.{stays_here}
 use Rattle.fallible_contract.proofs.Lemmas.Contract.{stays_step}
@@ -21,14 +22,23 @@ returns-in-Ok-None-clause-nth g c = c.loop-left.invariant.whole _ _ (nth_now _ (
 pub returns-in-Ok-None-clause-value : goal.returns-in-Ok-None-clause-value
 returns-in-Ok-None-clause-value g c l i = nth_is l (returns-in-Ok-None-clause-nth g c) i
 
+pub returns-in-Ok-None-clause-rest : goal.returns-in-Ok-None-clause-rest
+returns-in-Ok-None-clause-rest g c l i no_end = behind_nth_is l (returns-in-Ok-None-clause-nth g c) i no_end
+
 pub returns-in-Err-clause-nth : goal.returns-in-Err-clause-nth
 returns-in-Err-clause-nth g c = c.loop-left.invariant.whole _ _ (nth_now _ (omega arith) c.in-Err.ensures)
 
 pub returns-in-Err-clause-value : goal.returns-in-Err-clause-value
 returns-in-Err-clause-value g c l i = nth_is l (returns-in-Err-clause-nth g c) i
 
+pub returns-in-Err-clause-rest : goal.returns-in-Err-clause-rest
+returns-in-Err-clause-rest g c l i no_end = behind_nth_is l (returns-in-Err-clause-nth g c) i no_end
+
 pub returns-clause-nth : goal.returns-clause-nth
 returns-clause-nth g c = c.loop-left.invariant.whole _ _ (nth_next c.loop-left.left c.next-2.result c.loop-left-test.false c.next-2.ensures)
 
 pub returns-clause-value : goal.returns-clause-value
 returns-clause-value g c l i = nth_is l (returns-clause-nth g c) i
+
+pub returns-clause-rest : goal.returns-clause-rest
+returns-clause-rest g c l i no_end = behind_nth_is l (returns-clause-nth g c) i no_end

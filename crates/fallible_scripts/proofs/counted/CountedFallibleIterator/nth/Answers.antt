@@ -1,6 +1,7 @@
 -- The call of the one that is held is that of the whole, since its steps are.
 use Rattle.std.proofs.Common.{refl}
 use Rattle.fallible_contract.proofs.Lemmas.Overriding.{nth_held}
+use Rattle.fallible_contract.proofs.Lemmas.Lists.Behind.{behind_nth_is}
 use Rattle.fallible_contract.proofs.Lemmas.Lists.Drawn.{nth_is}
 use Rattle.fallible_scripts.specs.Counted.{counted_parts}
 use Rattle.fallible_scripts.proofs.Lemmas.{put}
@@ -11,3 +12,6 @@ returns-clause-nth g c = nth_held counted_parts put (λ s it. refl) g.I.Fallible
 
 pub returns-clause-value : goal.returns-clause-value
 returns-clause-value g c l i = nth_is l (returns-clause-nth g c) i
+
+pub returns-clause-rest : goal.returns-clause-rest
+returns-clause-rest g c l i no_end = behind_nth_is l (returns-clause-nth g c) i no_end

@@ -1,5 +1,6 @@
 -- While it is open its draws are the source's, and a none of the source's `nth` closes it; once closed it ends without a draw.
 use Rattle.std.proofs.Common.{refl, true}
+use Rattle.fallible_contract.proofs.Lemmas.Lists.Behind.{behind_nth_is}
 use Rattle.fallible_contract.proofs.Lemmas.Lists.Drawn.{nth_is}
 use Rattle.fallible_core.proofs.Lemmas.Cutting.FuseFolds.{open_nth, closed_nth}
 use Rattle.fallible_core.proofs.cutting.fuse.FuseFallibleIterator.nth.Goals as goal
@@ -10,11 +11,17 @@ returns-then-ended-clause-nth g c = closed_nth g.I.FallibleIterator.contract c.a
 pub returns-then-ended-clause-value : goal.returns-then-ended-clause-value
 returns-then-ended-clause-value g c l i = nth_is l (returns-then-ended-clause-nth g c) i
 
+pub returns-then-ended-clause-rest : goal.returns-then-ended-clause-rest
+returns-then-ended-clause-rest g c l i no_end = behind_nth_is l (returns-then-ended-clause-nth g c) i no_end
+
 pub returns-in-Ok-Some-clause-nth : goal.returns-in-Ok-Some-clause-nth
 returns-in-Ok-Some-clause-nth g c = open_nth g.I.FallibleIterator.contract c.args.self.now c.args.self.now.ended c.if-ended.false c.if-ended.false (rw c.in-Ok-Some.field-0-is at c.in-Ok-Some.ensures.nth)
 
 pub returns-in-Ok-Some-clause-value : goal.returns-in-Ok-Some-clause-value
 returns-in-Ok-Some-clause-value g c l i = nth_is l (returns-in-Ok-Some-clause-nth g c) i
+
+pub returns-in-Ok-Some-clause-rest : goal.returns-in-Ok-Some-clause-rest
+returns-in-Ok-Some-clause-rest g c l i no_end = behind_nth_is l (returns-in-Ok-Some-clause-nth g c) i no_end
 
 pub returns-in-Ok-None-clause-nth : goal.returns-in-Ok-None-clause-nth
 returns-in-Ok-None-clause-nth g c = open_nth g.I.FallibleIterator.contract c.args.self.now true c.if-ended.false refl (rw c.in-Ok-None.field-0-is at c.in-Ok-None.ensures.nth)
@@ -22,8 +29,14 @@ returns-in-Ok-None-clause-nth g c = open_nth g.I.FallibleIterator.contract c.arg
 pub returns-in-Ok-None-clause-value : goal.returns-in-Ok-None-clause-value
 returns-in-Ok-None-clause-value g c l i = nth_is l (returns-in-Ok-None-clause-nth g c) i
 
+pub returns-in-Ok-None-clause-rest : goal.returns-in-Ok-None-clause-rest
+returns-in-Ok-None-clause-rest g c l i no_end = behind_nth_is l (returns-in-Ok-None-clause-nth g c) i no_end
+
 pub returns-in-Err-clause-nth : goal.returns-in-Err-clause-nth
 returns-in-Err-clause-nth g c = open_nth g.I.FallibleIterator.contract c.args.self.now c.args.self.now.ended c.if-ended.false c.if-ended.false c.in-Err.ensures.nth
 
 pub returns-in-Err-clause-value : goal.returns-in-Err-clause-value
 returns-in-Err-clause-value g c l i = nth_is l (returns-in-Err-clause-nth g c) i
+
+pub returns-in-Err-clause-rest : goal.returns-in-Err-clause-rest
+returns-in-Err-clause-rest g c l i no_end = behind_nth_is l (returns-in-Err-clause-nth g c) i no_end

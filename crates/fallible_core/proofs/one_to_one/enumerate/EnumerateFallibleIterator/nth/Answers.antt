@@ -1,5 +1,6 @@
 -- Its fold that passes over n items, and stops with the next one.
 use Rattle.fallible_contract.proofs.Lemmas.Nth.{nth_reached}
+use Rattle.fallible_contract.proofs.Lemmas.Lists.Behind.{behind_nth_is}
 use Rattle.fallible_contract.proofs.Lemmas.Lists.Drawn.{nth_is}
 use Rattle.fallible_core.proofs.one_to_one.enumerate.EnumerateFallibleIterator.nth.Goals as goal
 
@@ -8,3 +9,6 @@ returns-clause-nth g c = rw c.item_of_exit.ensures (nth_reached c.try_fold_carry
 
 pub returns-clause-value : goal.returns-clause-value
 returns-clause-value g c l i = nth_is l (returns-clause-nth g c) i
+
+pub returns-clause-rest : goal.returns-clause-rest
+returns-clause-rest g c l i no_end = behind_nth_is l (returns-clause-nth g c) i no_end

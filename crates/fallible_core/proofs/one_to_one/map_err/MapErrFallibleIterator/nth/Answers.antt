@@ -3,6 +3,7 @@ use Rattle.std.proofs.Common.{refl}
 use Rattle.fallible_contract.specs.Closures.{call_on, takes_on}
 use Rattle.fallible_contract.specs.Laws.Contract.{lawful_seen, stays_run}
 use Rattle.fallible_contract.proofs.Lemmas.Overriding.{nth_held}
+use Rattle.fallible_contract.proofs.Lemmas.Lists.Behind.{behind_nth_is}
 use Rattle.fallible_contract.proofs.Lemmas.Lists.Drawn.{nth_is}
 use Rattle.fallible_core.specs.OneToOne.MapErr.{map_err_contract, map_err_parts}
 use Rattle.fallible_core.specs.Laws.OneToOne.MapErr.{lawful_map_err}
@@ -17,6 +18,9 @@ returns-clause-nth g c = nth_held map_err_parts (λ s p. record { it = p.0; f = 
 
 pub returns-clause-value : goal.returns-clause-value
 returns-clause-value g c l i = nth_is l (returns-clause-nth g c) i
+
+pub returns-clause-rest : goal.returns-clause-rest
+returns-clause-rest g c l i no_end = behind_nth_is l (returns-clause-nth g c) i no_end
 
 pub returns-clause-stays : goal.returns-clause-stays
 returns-clause-stays g c = stays_run (lawful_seen map_err_parts (lawful_map_err g.F.FnMut g.met.I.FallibleIterator.lawful)) _ _ _ c.requires (returns-clause-nth g c).ran

@@ -1,4 +1,5 @@
 -- The draws of the one behind it are its own.
+use Rattle.fallible_contract.proofs.Lemmas.Lists.Behind.{behind_nth_is}
 use Rattle.fallible_contract.proofs.Lemmas.Lists.Drawn.{nth_is}
 use Rattle.fallible_core.proofs.Lemmas.Borrowed.{nth_behind}
 use Rattle.fallible_core.proofs.traits.borrowed.RefMutFallibleIterator.nth.Goals as goal
@@ -8,3 +9,6 @@ returns-clause-nth g c = nth_behind g.I.FallibleIterator.contract.steps c.nth.en
 
 pub returns-clause-value : goal.returns-clause-value
 returns-clause-value g c l i = nth_is l (returns-clause-nth g c) i
+
+pub returns-clause-rest : goal.returns-clause-rest
+returns-clause-rest g c l i no_end = behind_nth_is l (returns-clause-nth g c) i no_end
