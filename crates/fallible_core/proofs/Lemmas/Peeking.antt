@@ -1,3 +1,4 @@
 -- Lemmas on the runs of such types: one file a type.
 pub mod Peekable
 pub mod PeekableFolds
+pub mod PeekableLists

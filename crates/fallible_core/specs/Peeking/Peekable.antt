@@ -135,3 +135,43 @@ TestedBy g f x b = FnReturnsAt g f x b
 -- The closure may be called on a reference to each item of which P holds.
 abbrev pub IsTestable : {F A R : Type 0} → Shared F (Bor A × Unit {0}) R → F → (A → Type 0) → Type 0
 IsTestable {A = A} g f P = (x : Bor A) → P x.now → g.pre f (x, tt)
+
+-- ---- what looking makes of what is listed
+
+-- what `peek` and `look` leave: the list, without the failure that stands first
+unfoldable pub looked_ahead : {A E : Type 0} → List (Result A E) → List (Result A E)
+looked_ahead [] = []
+looked_ahead (Ok x ∷ l) = Ok x ∷ l
+looked_ahead (Err e ∷ l) = l
+
+-- h of the item that stands first; none where the list is empty, and the failure that stands first
+unfoldable pub looked_at : {A E R : Type 0} → (A → R) → List (Result A E) → Result (Option R) E
+looked_at h [] = Ok None
+looked_at h (Ok x ∷ l) = Ok (Some (h x))
+looked_at h (Err e ∷ l) = Err e
+
+-- the item x, or none, by a test's answer on it
+abbrev pub taken_by : {A E : Type 0} → Bool → A → Answered A E
+taken_by true x = item x
+taken_by false x = end
+
+-- the item x that stands first, where h x is true; none where it is false or the list is empty, and the failure that stands first
+unfoldable pub first_if : {A E : Type 0} → (A → Bool) → List (Result A E) → Answered A E
+first_if h [] = end
+first_if h (Ok x ∷ l) = taken_by (h x) x
+first_if h (Err e ∷ l) = Err e
+
+-- what stands behind an item, or the item too, by a test's answer on it
+abbrev pub left_by : {A E : Type 0} → Bool → A → List (Result A E) → List (Result A E)
+left_by true x l = l
+left_by false x l = Ok x ∷ l
+
+-- what `next_if` leaves: the list without its first item x, where h x is true, or without the failure that stands first
+unfoldable pub behind_if : {A E : Type 0} → (A → Bool) → List (Result A E) → List (Result A E)
+behind_if h [] = []
+behind_if h (Ok x ∷ l) = left_by (h x) x l
+behind_if h (Err e ∷ l) = l
+
+-- The closure f answers h x on each item x.
+abbrev pub LooksAs : {F A R : Type 0} → Shared F (Bor A × Unit {0}) R → F → (A → R) → Type 0
+LooksAs {A = A} {R = R} g f h = (x : A) (v : R) → FnReturnsAt g f x v → v ≡ h x

@@ -2,8 +2,10 @@
 ghost use Rattle.std.specs.Prelude.{◌≡◌, ⊤, Result, Option, None, Ok, Err, MatchResult, option_copied};
 ghost use Rattle.std.specs.Borrow.{sem, follows_so};
 ghost use mathlib.Core.Option.{none};
-ghost use Rattle.fallible_contract.specs.Contract.{Stays};
-ghost use Rattle.fallible_core.specs.Peeking.Peekable.{peekable_contract, seen, held_item, Fills, Peeks, Looks, IsTestable, peekable_parts, peekable_held};
+ghost use Rattle.fallible_contract.specs.Clauses.{OverList, OverListWith};
+ghost use Rattle.fallible_contract.specs.Contract.{Stays, seen_as};
+ghost use Rattle.fallible_contract.specs.Lists.{Lists, nth_of};
+ghost use Rattle.fallible_core.specs.Peeking.Peekable.{peekable_contract, seen, held_item, Fills, Peeks, Looks, IsTestable, peekable_parts, peekable_held, LooksAs, looked_ahead, looked_at};
 ghost use Rattle.fallible_core.specs.contracts.peeking.peekable.Peekable.{the_row};
 
 use crate::peeking::Peekable;
@@ -42,6 +44,9 @@ where
             ((peekable_contract I.contract).may_give (peekable_parts self.old)) }
         ensures looked { Looks I.contract.steps F.Fn f
             (peekable_parts self.old) result (peekable_parts self.new) }
+        ensures lists { OverListWith (LooksAs F.Fn f) (seen_as peekable_parts (peekable_contract I.contract)).steps self.old
+            (λ h l. (result ≡ looked_at h l) × Lists (seen_as peekable_parts (peekable_contract I.contract)).steps
+            self.new (looked_ahead l)) }
         ensures stays { Stays (peekable_contract I.contract)
             (peekable_parts self.old) (peekable_parts self.new) }
     {
@@ -59,6 +64,9 @@ where
         requires { (peekable_contract I.contract).can_next (peekable_parts self.old) }
         ensures peeked { Peeks I.contract.steps
             (peekable_parts self.old) result (peekable_parts self.new) }
+        ensures lists { OverList (seen_as peekable_parts (peekable_contract I.contract)).steps self.old
+            (λ l. (result ≡ nth_of 0 l) × Lists (seen_as peekable_parts (peekable_contract I.contract)).steps
+            self.new (looked_ahead l)) }
         ensures stays { Stays (peekable_contract I.contract)
             (peekable_parts self.old) (peekable_parts self.new) }
     {

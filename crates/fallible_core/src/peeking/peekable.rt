@@ -1,7 +1,9 @@
 // The adapter that looks ahead.
 ghost use Rattle.std.specs.Prelude.{◌≡◌, Result, Option};
+ghost use Rattle.fallible_contract.specs.Clauses.{OverList, OverListWith};
 ghost use Rattle.fallible_contract.specs.Contract.{seen_as, Stays};
-ghost use Rattle.fallible_core.specs.Peeking.Peekable.{peekable_contract, NextIf, TestedBy, IsTestable, peekable_parts};
+ghost use Rattle.fallible_contract.specs.Lists.{Lists};
+ghost use Rattle.fallible_core.specs.Peeking.Peekable.{peekable_contract, NextIf, TestedBy, IsTestable, peekable_parts, LooksAs, first_if, behind_if};
 ghost use Rattle.fallible_contract.specs.Laws.Contract.{lawful_seen};
 ghost use Rattle.fallible_core.specs.Laws.Peeking.Peekable.{lawful_peekable};
 
@@ -77,6 +79,9 @@ where
             ((peekable_contract I.contract).may_give (peekable_parts self.old)) }
         ensures taken { NextIf I.contract.steps (TestedBy F.Fn f)
             (peekable_parts self.old) result (peekable_parts self.new) }
+        ensures lists { OverListWith (LooksAs F.Fn f) (seen_as peekable_parts (peekable_contract I.contract)).steps self.old
+            (λ h l. (result ≡ first_if h l) × Lists (seen_as peekable_parts (peekable_contract I.contract)).steps
+            self.new (behind_if h l)) }
         ensures stays { Stays (peekable_contract I.contract)
             (peekable_parts self.old) (peekable_parts self.new) }
     {
@@ -104,6 +109,10 @@ where
         requires { (peekable_contract I.contract).can_next (peekable_parts self.old) }
         ensures taken { NextIf I.contract.steps (λ x b. b ≡ I.Item.eq x expected.now)
             (peekable_parts self.old) result (peekable_parts self.new) }
+        ensures lists { OverList (seen_as peekable_parts (peekable_contract I.contract)).steps self.old
+            (λ l. (result ≡ first_if (λ x. I.Item.eq x expected.now) l)
+            × Lists (seen_as peekable_parts (peekable_contract I.contract)).steps self.new
+            (behind_if (λ x. I.Item.eq x expected.now) l)) }
         ensures stays { Stays (peekable_contract I.contract)
             (peekable_parts self.old) (peekable_parts self.new) }
     {

@@ -2,6 +2,7 @@
 use Rattle.std.proofs.Common.{Some, None, refl}
 use Rattle.fallible_core.specs.Peeking.Peekable.{peekable_parts}
 use Rattle.fallible_core.proofs.Lemmas.Peeking.Peekable.{takes_item, keeps_item, keeps_end, takes_failure, stays_kept}
+use Rattle.fallible_core.proofs.Lemmas.Peeking.PeekableLists.{next_if_listed}
 use Rattle.fallible_core.proofs.peeking.peekable.Peekable.next_if.Goals as goal
 
 pub returns-then-f-clause-taken : goal.returns-then-f-clause-taken
@@ -21,3 +22,15 @@ returns-in-Ok-None-clause-stays g c = stays_kept g.met.I.FallibleIterator.lawful
 
 pub returns-clause-taken : goal.returns-clause-taken
 returns-clause-taken g c = takes_failure _ _ _ _ _ c.in-Err.ensures
+
+pub returns-then-f-clause-lists : goal.returns-then-f-clause-lists
+returns-then-f-clause-lists g c h l acts i = next_if_listed g.I.FallibleIterator.contract _ _ l i h acts (returns-then-f-clause-taken g c)
+
+pub returns-in-Ok-Some-clause-lists : goal.returns-in-Ok-Some-clause-lists
+returns-in-Ok-Some-clause-lists g c h l acts i = next_if_listed g.I.FallibleIterator.contract _ _ l i h acts (returns-in-Ok-Some-clause-taken g c)
+
+pub returns-in-Ok-None-clause-lists : goal.returns-in-Ok-None-clause-lists
+returns-in-Ok-None-clause-lists g c h l acts i = next_if_listed g.I.FallibleIterator.contract _ _ l i h acts (returns-in-Ok-None-clause-taken g c)
+
+pub returns-clause-lists : goal.returns-clause-lists
+returns-clause-lists g c h l acts i = next_if_listed g.I.FallibleIterator.contract _ _ l i h acts (returns-clause-taken g c)
