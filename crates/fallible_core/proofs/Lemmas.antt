@@ -5,5 +5,6 @@ pub mod Callers
 pub mod Cutting
 pub mod Filtering
 pub mod Joining
+pub mod LeftAtEnds
 pub mod OneToOne
 pub mod Peeking

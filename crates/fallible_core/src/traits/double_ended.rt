@@ -1,9 +1,10 @@
 //! The second end.
-ghost use Rattle.std.specs.Prelude.{◌≡◌, List, Option, Result};
+ghost use Rattle.std.specs.Prelude.{◌≡◌, List, Option, Result, reverse};
+ghost use Rattle.fallible_contract.specs.BothEnds.{ListsBothEnds};
 ghost use Rattle.fallible_contract.specs.Clauses.{OverListWith};
 ghost use Rattle.fallible_contract.specs.Contract.{Stays};
 ghost use Rattle.fallible_contract.specs.Ends.{Ends, from_front, from_back, LawfulEnds};
-ghost use Rattle.fallible_contract.specs.Lists.{ActsWith, Converts, folded};
+ghost use Rattle.fallible_contract.specs.Lists.{ActsWith, Converts, behind_first, behind_fold, folded, nth_of};
 ghost use Rattle.fallible_contract.specs.Folds.{CallableCarrying, Carried, CallableInFold, call_with, takes_with, Folded};
 
 use crate::traits::FallibleIterator;
@@ -68,6 +69,11 @@ pub trait DoubleEndedFallibleIterator: FallibleIterator {
         ensures value { (convert : Self.Error → E) → Converts E.from_gives convert
             → OverListWith (ActsWith (call_with F.FnMut) f) ends.steps self.old
             (λ h l. result ≡ folded convert h init l) }
+        ensures rest { (h : B → Self.Item → Result B E) (l : List (Result Self.Item Self.Error))
+            → ActsWith (call_with F.FnMut) f h
+            → ListsBothEnds Self.contract.steps ends.steps self.old l
+            → ListsBothEnds Self.contract.steps ends.steps self.new
+            (reverse (behind_fold h init (reverse l))) }
         ensures stays { Stays (from_back Self.contract ends) self.old self.new }
     {
         fold_of_exit(self.try_rfold_carrying((init, f), &TryFoldTurn))
@@ -100,6 +106,10 @@ pub trait DoubleEndedFallibleIterator: FallibleIterator {
     where
         requires { ends.can_next self.old }
         ensures drawn { Self.contract.steps self.old result self.new }
+        ensures rest { (l : List (Result Self.Item Self.Error))
+            → ListsBothEnds Self.contract.steps ends.steps self.old l
+            → (result ≡ nth_of 0 l)
+            × ListsBothEnds Self.contract.steps ends.steps self.new (behind_first l) }
         ensures stays { Stays (from_front Self.contract ends) self.old self.new }
     {
         self.next()
@@ -110,6 +120,11 @@ pub trait DoubleEndedFallibleIterator: FallibleIterator {
     where
         requires { ends.can_next self.old }
         ensures drawn { ends.steps self.old result self.new }
+        ensures rest { (l : List (Result Self.Item Self.Error))
+            → ListsBothEnds Self.contract.steps ends.steps self.old l
+            → (result ≡ nth_of 0 (reverse l))
+            × ListsBothEnds Self.contract.steps ends.steps self.new
+            (reverse (behind_first (reverse l))) }
         ensures stays { Stays (from_back Self.contract ends) self.old self.new }
     {
         self.next_back()

@@ -151,7 +151,7 @@ module _ {S A E F : Type 0} {steps : S → Answered A E → S → Type 0} {s t :
 -- ---- try_fold
 
 module _ {A E F B E' : Type 0} (call : F → B → A → Result B E' → F → Type 0) (from : E → E' → Type 0) (h : B → A → Result B E') (f : F) (acts : ActsWith call f h) where
-  front_fold : (items : List A) (rest : List (Result A E)) (b v : B) (g : F) → FoldsTo {P = B × F} (went_on_with call) (b, f) items (v, g) → (g ≡ f) × (behind_fold h b (map (λ x. Ok x) items ++ rest) ≡ behind_fold h v rest)
+  pub front_fold : (items : List A) (rest : List (Result A E)) (b v : B) (g : F) → FoldsTo {P = B × F} (went_on_with call) (b, f) items (v, g) → (g ≡ f) × (behind_fold h b (map (λ x. Ok x) items ++ rest) ≡ behind_fold h v rest)
   unfolding behind_fold
   front_fold [] rest b v g went = (sym (ap (λ p. p.1) went), ap (λ p. behind_fold h p.0 rest) went)
   front_fold (x ∷ items) rest b v g went =
@@ -161,11 +161,11 @@ module _ {A E F B E' : Type 0} (call : F → B → A → Result B E' → F → T
       let all : List (Result A E) = map (λ y. Ok y) items ++ rest in
       (d.0, ap (λ (w : Result B E'). behind_failed w all (λ c. behind_fold h c all)) (sym a.1) ∙ d.1)
 
-  failed_fold : (b : B) (e : E) (l : List (Result A E)) → behind_fold h b (Err e ∷ l) ≡ l
+  pub failed_fold : (b : B) (e : E) (l : List (Result A E)) → behind_fold h b (Err e ∷ l) ≡ l
   unfolding behind_fold
   failed_fold b e l = refl
 
-  item_fold : (b : B) (x : A) (e : E') (g : F) (l : List (Result A E)) → call f b x (Err e) g → behind_fold h b (Ok x ∷ l) ≡ l
+  pub item_fold : (b : B) (x : A) (e : E') (g : F) (l : List (Result A E)) → call f b x (Err e) g → behind_fold h b (Ok x ∷ l) ≡ l
   unfolding behind_fold
   item_fold b x e g l called = ap (λ (w : Result B E'). behind_failed w l (λ c. behind_fold h c l)) (sym (acts b x (Err e) g called).1)
 
