@@ -6,4 +6,5 @@ pub mod Contract
 pub mod Counting
 pub mod Ends
 pub mod Passing
+pub mod Showing
 pub mod WithSteps

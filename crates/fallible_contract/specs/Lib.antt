@@ -19,6 +19,7 @@ pub mod Passing
 pub mod Picking
 pub mod Refusals
 pub mod Searching
+pub mod Showing
 pub mod ShownTraces
 pub mod Traces
 pub mod WithSteps

@@ -20,6 +20,7 @@ pub use Rattle.fallible_contract.specs.LawForm
 pub use Rattle.fallible_contract.specs.Picking
 pub use Rattle.fallible_contract.specs.Refusals
 pub use Rattle.fallible_contract.specs.Searching
+pub use Rattle.fallible_contract.specs.Showing
 pub use Rattle.fallible_contract.specs.ShownTraces
 pub use Rattle.fallible_contract.specs.Traces
 pub use Rattle.fallible_contract.specs.declared.answers.Side

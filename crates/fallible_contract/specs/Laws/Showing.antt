@@ -1,0 +1,39 @@
+-- A type whose value shows what it lists is lawful, and lists that.
+use Rattle.std.specs.Prelude.{◌≡◌, length, Result, Some, None, Ok, Err, List, [], ◌∷◌}
+use Rattle.std.proofs.Common.{refl, sym, ap, subst, ◌∙◌, arith}
+use Rattle.fallible_contract.specs.Traces.{Answered}
+use Rattle.fallible_contract.specs.Contract.{OnAnswer, Lawful}
+use Rattle.fallible_contract.specs.Lists.{AlwaysGives, Lists}
+use Rattle.fallible_contract.specs.Showing.{TakesShown, listing}
+
+module _ {S A E : Type 0} (shows : S → List (Result A E)) where
+  gives_shown : (l : List (Result A E)) (s : S) → shows s ≡ l → AlwaysGives (listing shows).steps s l
+  gives_shown [] s e = λ r t w. (subst (λ (k : List (Result A E)). TakesShown k r (shows t)) e w).0
+  gives_shown (y ∷ l) s e = λ r t w. let h = subst (λ (k : List (Result A E)). TakesShown k r (shows t)) e w in (h.0, gives_shown l t h.1)
+
+  pub lists_shown : (s : S) → Lists (listing shows).steps s (shows s)
+  lists_shown s = record { runs = gives_shown (shows s) s refl }
+
+  answer_shown : (s t : S) (l : List (Result A E)) (r : Answered A E) → shows s ≡ l → TakesShown l r (shows t) → OnAnswer (listing shows) s r t
+  answer_shown s t [] (Ok (Some x)) e w = absurd (let h = w.0 in cc)
+  answer_shown s t [] (Err d) e w = absurd (let h = w.0 in cc)
+  answer_shown s t [] (Ok None) e w = let same = ap length w.1 ∙ ap length (sym e) in ((λ n b. (length (shows t), omega arith, omega (arith, same, b))), (λ f. absurd f))
+  answer_shown s t (Ok y ∷ l) (Ok (Some x)) e w = let now = ap length e in let then = ap length w.1 in (tt, (λ n b. (length (shows t), omega arith, omega (arith, now, then, b))), (λ f. absurd f))
+  answer_shown s t (Ok y ∷ l) (Ok None) e w = absurd (let h = w.0 in cc)
+  answer_shown s t (Ok y ∷ l) (Err d) e w = absurd (let h = w.0 in cc)
+  answer_shown s t (Err y ∷ l) (Ok (Some x)) e w = absurd (let h = w.0 in cc)
+  answer_shown s t (Err y ∷ l) (Ok None) e w = absurd (let h = w.0 in cc)
+  answer_shown s t (Err y ∷ l) (Err d) e w = let now = ap length e in let then = ap length w.1 in (tt, (λ n b. (length (shows t), omega arith, omega (arith, now, then, b))), (λ f. absurd f))
+
+  pub lawful_listing : Lawful (listing shows)
+  lawful_listing = record {
+    kept_by_draw = λ s r t c step. record {
+      can_next = tt;
+      is_finite = λ f. tt;
+      answer = answer_shown s t (shows s) r refl step;
+      may_give = λ x g. tt;
+      may_fail = λ e g. tt;
+      lenders = refl;
+    };
+    bounded = λ s. ((λ f. (length (shows s), omega arith)), (λ n. tt));
+  }
