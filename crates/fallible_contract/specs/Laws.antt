@@ -5,5 +5,6 @@ pub mod Closures
 pub mod Contract
 pub mod Counting
 pub mod Ends
+pub mod Exchange
 pub mod Passing
 pub mod WithSteps
