@@ -1,6 +1,6 @@
 -- Hints of the adapters with one answer for each draw.
 use Rattle.std.specs.Prelude.{◌≡◌, ℕ, [], ◌∷◌, Option, Some, None, Result, Ok, Err, ⊤}
-use Rattle.std.proofs.Common.{sym, subst}
+use Rattle.std.proofs.Common.{ap, subst}
 use Rattle.fallible_contract.specs.Traces.{Answered, item, end}
 use Rattle.fallible_contract.specs.declared.passing.Outcome.TheVariants.{LeftOut}
 use Rattle.fallible_core.specs.OneToOne.Map.{map_outcome}
@@ -23,7 +23,7 @@ inspect_leaves_none_out x (Err d) e = cc
 
 -- what is no failure was drawn so
 drawn_so : {F X D E : Type 0} (call : F → D → E → F → Type 0) (f g : F) (o : Option X) (drawn : Answered X D) → MapErrAnswer call f drawn (Ok o) g → drawn ≡ Ok o
-drawn_so call f g o (Ok v) made = sym made.0
+drawn_so call f g o (Ok v) made = let same : v ≡ o = (let e = made.0 in cc) in ap (λ z. Ok z) same
 drawn_so call f g o (Err d) made = absurd (let e = made.2 in cc)
 
 module _ {S F X D E : Type 0} (steps : S → Answered X D → S → Type 0) (call : F → D → E → F → Type 0) where
