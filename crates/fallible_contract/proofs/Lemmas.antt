@@ -6,6 +6,7 @@ pub mod Collecting
 pub mod Comparing
 pub mod Contract
 pub mod Counting
+pub mod Exchange
 pub mod Folding
 pub mod Folds
 pub mod Held

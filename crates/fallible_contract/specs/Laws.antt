@@ -5,6 +5,7 @@ pub mod Closures
 pub mod Contract
 pub mod Counting
 pub mod Ends
+pub mod Exchange
 pub mod Passing
 pub mod Showing
 pub mod WithSteps

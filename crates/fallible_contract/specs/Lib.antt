@@ -8,6 +8,7 @@ pub mod Comparing
 pub mod Contract
 pub mod Counting
 pub mod Ends
+pub mod Exchange
 pub mod Folding
 pub mod Folds
 pub mod Held

@@ -1,5 +1,5 @@
 -- A definition over whole traces is met by runs of a step.
-use Rattle.std.specs.Prelude.{◌↔◌, ◌≡◌, List, [], ◌∷◌}
+use Rattle.std.specs.Prelude.{◌↔◌, ◌≡◌, List, [], ◌∷◌, map}
 use Rattle.std.proofs.Common.{sym, ◌∙◌, ap, subst}
 use Rattle.fallible_contract.specs.Traces.{Answered, Run}
 use Rattle.fallible_contract.specs.LawForm.{TracesAre}
@@ -17,6 +17,15 @@ module _ {P A E : Type 0} (D : P → List (Answered A E) → P → Type 0) where
     pub same : (p q : P) → D p [] q → p ≡ q
     pub joins : (p u q : P) (r : Answered A E) (rest : List (Answered A E)) → D p (r ∷ []) u → D u rest q → D p (r ∷ rest) q
     pub splits : (p q : P) (r : Answered A E) (rest : List (Answered A E)) → D p (r ∷ rest) q → FirstOf p r rest q
+
+-- so is one whose answers are those of such a trace under other names
+pub answers_renamed : {P A B D E : Type 0} {T : P → List (Answered B D) → P → Type 0} (name : Answered A E → Answered B D) → IsByAnswers T → IsByAnswers (λ p trace q. T p (map name trace) q)
+answers_renamed name by = record {
+  none = by.none;
+  same = by.same;
+  joins = λ p u q r rest d e. by.joins p u q (name r) (map name rest) d e;
+  splits = λ p q r rest d. let first = by.splits p q (name r) (map name rest) d in record { then_at = first.then_at; first = first.first; others = first.others };
+}
 
 -- A run of steps that are the definition at one answer is the definition over the whole trace.
 module _ {P A E : Type 0} (D : P → List (Answered A E) → P → Type 0) (by : IsByAnswers D) where

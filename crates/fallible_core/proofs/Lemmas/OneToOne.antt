@@ -7,5 +7,4 @@ pub mod Map
 pub mod MapErr
 pub mod MapWhile
 pub mod MapErrFolds
-pub mod MapErrListed
 pub mod Scan

@@ -1,44 +1,24 @@
 -- `MapErr`, whose closure is called on failures.
-use Rattle.std.specs.Prelude.{◌≡◌, List, [], ◌∷◌, map, Option, Result, Some, None, Ok, Err, ⊤}
-use Rattle.std.specs.List.{filter_map}
+use Rattle.std.specs.Prelude.{◌≡◌, List, [], ◌∷◌, map, Result, Ok, Err, ⊤}
 use Rattle.std.specs.Fn.{Mut}
 use Rattle.fallible_contract.specs.declared.folds.Exit.{Exit}
 use Rattle.fallible_contract.specs.declared.folds.Exit.TheVariants.{Ended, Failed, Stopped}
-use Rattle.fallible_contract.specs.Traces.{Answered, Run, item, failure, end}
+use Rattle.fallible_contract.specs.declared.passing.Outcome.{Outcome}
+use Rattle.fallible_contract.specs.declared.passing.Outcome.TheVariants.{Kept}
+use Rattle.fallible_contract.specs.Traces.{Answered}
 use Rattle.fallible_contract.specs.Contract.{Contract}
-use Rattle.fallible_contract.specs.Closures.{Calls, IsCallable, MayAnswer, call_on, takes_on}
+use Rattle.fallible_contract.specs.Closures.{IsCallable, MayAnswer, call_on, takes_on}
+use Rattle.fallible_contract.specs.Exchange.{exchanged, steps_exchanged}
+use Rattle.fallible_contract.specs.Passing.{PassTrace}
 use Rattle.fallible_core.specs.declared.one_to_one.map_err.MapErr.{MapErr}
 
--- one answer of the source: an item, a failure with what the closure answered on it, or an end
-pub data FailurePlace (X D E : Type 0) : Type 0 where
-  item_here : X → FailurePlace X D E
-  asked_of : D → E → FailurePlace X D E
-  end_here : FailurePlace X D E
+-- what the closure answers on a failure stands in its place
+abbrev pub map_err_outcome : {X D E : Type 0} → D → E → Outcome E X
+map_err_outcome d e = Kept e
 
--- the source's answer at a place
-abbrev pub source_answer : {X D E : Type 0} → FailurePlace X D E → Answered X D
-source_answer (item_here x) = item x
-source_answer (asked_of d e) = failure d
-source_answer end_here = end
-
--- the call at a place, if there was one: its argument and its answer
-abbrev pub failure_call : {X D E : Type 0} → FailurePlace X D E → Option (D × E)
-failure_call (item_here x) = None
-failure_call (asked_of d e) = Some (d, e)
-failure_call end_here = None
-
--- the adapter's answer at a place
-abbrev pub mapped_answer : {X D E : Type 0} → FailurePlace X D E → Answered X E
-mapped_answer (item_here x) = item x
-mapped_answer (asked_of d e) = failure e
-mapped_answer end_here = end
-
--- `MapErr`: place by place the source's trace, where each failure is replaced by the closure's answer on it. The closure is called on the failures in order, and on nothing else. The parts are the source and the closure.
-pub record MapErrTrace {S F X D E : Type 0} (steps : S → Answered X D → S → Type 0) (call : F → D → E → F → Type 0) (p : S × F) (trace : List (Answered X E)) (q : S × F) : Type 0 where
-  pub places : List (FailurePlace X D E)
-  pub drawn : Run steps p.0 (map source_answer places) q.0
-  pub called : Calls call p.1 (filter_map failure_call places) q.1
-  pub answers : trace ≡ map mapped_answer places
+-- `MapErr` is `Map` on failures: its trace, items and failures exchanged, is that of `Map`, by a closure that never fails, over the source with items and failures exchanged. So the closure is called on the failures in order, and on nothing else. The parts are the source and the closure.
+abbrev pub MapErrTrace : {S F X D E : Type 0} → (S → Answered X D → S → Type 0) → (F → D → E → F → Type 0) → S × F → List (Answered X E) → S × F → Type 0
+MapErrTrace steps call p trace q = PassTrace (steps_exchanged steps) call map_err_outcome p (map exchanged trace) q
 
 -- `MapErr`'s contract: the closure may be called on each failure that may come, in each state that such calls bring it to; all else is the source's.
 abbrev pub map_err_contract : {S F X D E : Type 0} → Contract S X D → Mut F (D × Unit {0}) E → Contract (S × F) X E

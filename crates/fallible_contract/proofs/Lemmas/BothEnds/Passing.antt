@@ -12,7 +12,7 @@ use Rattle.fallible_contract.specs.declared.passing.Outcome.TheVariants.{Kept, L
 use Rattle.fallible_contract.specs.Laws.Passing.{Passes, done, ends, fails, keeps, refuses, closes, leaves_out, to_passes}
 use Rattle.fallible_contract.specs.BothEnds.{TakesFirst, ListsBothEnds, item_listed, items_listed, source_result, source_list, outcome_listed, passed_result, passed_list}
 use Rattle.fallible_contract.specs.Lists.{Acts}
-use Rattle.fallible_contract.proofs.Lemmas.Lists.Passing.{by_outcome, passed}
+use Rattle.fallible_contract.proofs.Lemmas.Lists.Passing.{by_outcome, passed, acts_in_slot}
 use Rattle.fallible_contract.proofs.Lemmas.BothEnds.{takes_front, listed_by_swapping, listed_swapped}
 
 -- ---- lists reversed
@@ -207,7 +207,12 @@ module _ {F X R B E : Type 0} (call : F → X → R → F → Type 0) (outcome :
   passed_acting (Err e ∷ l) = ap {B = List (Result B E)} (λ k. Err e ∷ k) (passed_acting l)
 
   -- what an adapter lists whose closure acts as a function
-  pub listed_acting : {S : Type 0} (front back : S → Answered X E → S → Type 0) (s : S) (l : List (Result X E)) → ListsBothEnds front back s l
-      → ListsBothEnds (passing_step front (call_in call) outcome) (passing_step back (call_in call) outcome) (s, Some f) (passed outcome (λ (p : Unit {0}) x. h x) (λ p x. p) tt l)
-  listed_acting front back s l i = subst (λ (k : List (Result B E)). ListsBothEnds (passing_step front (call_in call) outcome) (passing_step back (call_in call) outcome) (s, Some f) k) (passed_acting l)
-      (listed_in_slot front back call outcome never_ends (map (beside h) l) s f (steady_acting call f h acts l) (subst (λ (k : List (Result X E)). ListsBothEnds front back s k) (sym (source_beside h l)) i))
+  pub listed_by_function : {S : Type 0} (front back : S → Answered X E → S → Type 0) (s : S) (l : List (Result X E)) → ListsBothEnds front back s l
+      → ListsBothEnds (passing_step front call outcome) (passing_step back call outcome) (s, f) (passed outcome (λ (p : Unit {0}) x. h x) (λ p x. p) tt l)
+  listed_by_function front back s l i = subst (λ (k : List (Result B E)). ListsBothEnds (passing_step front call outcome) (passing_step back call outcome) (s, f) k) (passed_acting l)
+      (listed_passed front back call outcome never_ends (map (beside h) l) s f (steady_acting call f h acts l) (subst (λ (k : List (Result X E)). ListsBothEnds front back s k) (sym (source_beside h l)) i))
+
+-- the same, where the closure stands in its slot
+pub listed_acting : {F X R B E : Type 0} (call : F → X → R → F → Type 0) (outcome : X → R → Outcome B E) → ((x : X) (v : R) → outcome x v ≡ End → ⊥) → (f : F) (h : X → R) → Acts call f h → {S : Type 0} (front back : S → Answered X E → S → Type 0) (s : S) (l : List (Result X E)) → ListsBothEnds front back s l
+    → ListsBothEnds (passing_step front (call_in call) outcome) (passing_step back (call_in call) outcome) (s, Some f) (passed outcome (λ (p : Unit {0}) x. h x) (λ p x. p) tt l)
+listed_acting call outcome never_ends f h acts front back s l i = listed_by_function (call_in call) outcome never_ends (Some f) h (acts_in_slot call f h acts) front back s l i

@@ -1,5 +1,5 @@
 -- What an adapter that lets answers pass lists, from what its source lists.
-use Rattle.std.specs.Prelude.{◌≡◌, Option, Result, Some, None, Ok, Err, List, [], ◌∷◌}
+use Rattle.std.specs.Prelude.{◌≡◌, Result, Some, None, Ok, Err, List, [], ◌∷◌}
 use Rattle.std.proofs.Common.{refl, sym, ap, subst, ◌∙◌}
 use Rattle.fallible_contract.specs.Traces.{Answered}
 use Rattle.fallible_contract.specs.Closures.{call_in}
@@ -127,15 +127,22 @@ module _ {S F P X R B E : Type 0} (steps : S → Answered X E → S → Type 0) 
   all_given (Err d ∷ l) s f p at a = λ r t w. failure_given d l (passed outcome answers next p l) s f (λ u b. all_given l u f p at b) a r t.0 t.1 (to_passes w)
   all_given (Ok x ∷ l) s f p at a = item_given l (passed outcome answers next (next p x) l) x (outcome x (answers p x)) s f p refl at a (λ u g k b. all_given l u g (next p x) k b)
 
--- ---- with a closure in its slot that acts as a function
+-- ---- with a closure that acts as a function
 
 module _ {F X R : Type 0} (call : F → X → R → F → Type 0) (f : F) (h : X → R) (acts : Acts call f h) where
-  acts_in_slot : (s : Option F) (p : Unit {0}) (x : X) (v : R) (t : Option F) → s ≡ Some f → call_in call s x v t → (t ≡ Some f) × (v ≡ h x)
-  acts_in_slot None p x v t e c = absurd cc
-  acts_in_slot (Some k) p x v None e c = absurd c
-  acts_in_slot (Some k) p x v (Some g) e c = let same : k ≡ f = cc in let a = acts x v g (subst (λ (z : F). call z x v g) same c) in (ap Some a.0, a.1)
+  acts_still : (g : F) (p : Unit {0}) (x : X) (v : R) (k : F) → g ≡ f → call g x v k → (k ≡ f) × (v ≡ h x)
+  acts_still g p x v k e c = acts x v k (subst (λ (z : F). call z x v k) e c)
 
   -- what an adapter lists whose closure is asked of each item
-  pub lists_passed : {S B E : Type 0} (steps : S → Answered X E → S → Type 0) (outcome : X → R → Outcome B E) (s : S) (l : List (Result X E)) → AlwaysGives steps s l
-      → AlwaysGives (passing_step steps (call_in call) outcome) (s, Some f) (passed outcome (λ (p : Unit {0}) x. h x) (λ p x. p) tt l)
-  lists_passed steps outcome s l a = all_given steps (call_in call) outcome (λ t p. t ≡ Some f) (λ p x. h x) (λ p x. p) (acts_in_slot) l s (Some f) tt refl a
+  pub lists_acting : {S B E : Type 0} (steps : S → Answered X E → S → Type 0) (outcome : X → R → Outcome B E) (s : S) (l : List (Result X E)) → AlwaysGives steps s l
+      → AlwaysGives (passing_step steps call outcome) (s, f) (passed outcome (λ (p : Unit {0}) x. h x) (λ p x. p) tt l)
+  lists_acting steps outcome s l a = all_given steps call outcome (λ g p. g ≡ f) (λ p x. h x) (λ p x. p) (acts_still) l s f tt refl a
+
+  pub acts_in_slot : Acts (call_in call) (Some f) h
+  acts_in_slot x v None c = absurd c
+  acts_in_slot x v (Some g) c = let a = acts x v g c in (ap Some a.0, a.1)
+
+-- the same, where the closure stands in its slot
+pub lists_passed : {F X R : Type 0} (call : F → X → R → F → Type 0) (f : F) (h : X → R) → Acts call f h → {S B E : Type 0} (steps : S → Answered X E → S → Type 0) (outcome : X → R → Outcome B E) (s : S) (l : List (Result X E)) → AlwaysGives steps s l
+    → AlwaysGives (passing_step steps (call_in call) outcome) (s, Some f) (passed outcome (λ (p : Unit {0}) x. h x) (λ p x. p) tt l)
+lists_passed call f h acts steps outcome s l a = lists_acting (call_in call) (Some f) h (acts_in_slot call f h acts) steps outcome s l a

@@ -3,11 +3,11 @@ use Rattle.std.proofs.Common.{refl}
 use Rattle.fallible_contract.specs.Closures.{call_on}
 use Rattle.fallible_contract.proofs.Lemmas.BothEnds.{listed_seen_at}
 use Rattle.fallible_core.specs.OneToOne.MapErr.{map_err_parts}
-use Rattle.fallible_core.proofs.Lemmas.OneToOne.MapErrListed.{listed_failures, listed_acting}
+use Rattle.fallible_core.proofs.Lemmas.OneToOne.MapErr.{listed_failures, listed_function}
 use Rattle.fallible_iterator.proofs.laws.listed.law_listed_map_err.Goals as goal
 
 pub returns : goal.returns
 returns g c = record {
-  steady = λ s it f asked at steady i. listed_seen_at map_err_parts s at refl (listed_failures _ _ (call_on g.F.FnMut) asked it f steady i);
-  acts = λ s it f h l at acts i. listed_seen_at map_err_parts s at refl (listed_acting (call_on g.F.FnMut) f h acts _ _ it l i);
+  steady = λ s it f asked at steady i. listed_seen_at map_err_parts s at refl (listed_failures g.I.FallibleIterator.contract.steps g.I.DoubleEndedFallibleIterator.ends.steps (call_on g.F.FnMut) it f asked steady i);
+  acts = λ s it f h l at acts i. listed_seen_at map_err_parts s at refl (listed_function g.I.FallibleIterator.contract.steps g.I.DoubleEndedFallibleIterator.ends.steps (call_on g.F.FnMut) it f h acts l i);
 }

@@ -1,20 +1,17 @@
 -- The source's `nth`, and the call where it met a failure.
-use Rattle.std.proofs.Common.{refl}
-use Rattle.fallible_contract.specs.Closures.{call_on, takes_on}
 use Rattle.fallible_contract.specs.Laws.Contract.{lawful_seen, stays_run}
-use Rattle.fallible_contract.proofs.Lemmas.Overriding.{nth_held}
 use Rattle.fallible_contract.proofs.Lemmas.Lists.Behind.{behind_nth_is}
 use Rattle.fallible_contract.proofs.Lemmas.Lists.Drawn.{nth_is}
-use Rattle.fallible_core.specs.OneToOne.MapErr.{map_err_contract, map_err_parts}
+use Rattle.fallible_core.specs.OneToOne.MapErr.{map_err_parts}
 use Rattle.fallible_core.specs.Laws.OneToOne.MapErr.{lawful_map_err}
 use Rattle.fallible_core.proofs.Lemmas.OneToOne.MapErrFolds.{takes_nth, nth_map_err}
 use Rattle.fallible_core.proofs.one_to_one.map_err.MapErrFallibleIterator.nth.Goals as goal
 
 pub answer-requires : goal.answer-requires
-answer-requires g c = takes_nth g.met.I.FallibleIterator.lawful (call_on g.F.FnMut) (takes_on g.F.FnMut) c.requires.0 c.requires.1 c.nth.ensures.nth
+answer-requires g c = takes_nth g.met.I.FallibleIterator.lawful g.F.FnMut c.requires c.nth.ensures.nth
 
 pub returns-clause-nth : goal.returns-clause-nth
-returns-clause-nth g c = nth_held map_err_parts (λ s p. record { it = p.0; f = p.1 }) (λ s p. refl) (map_err_contract g.I.FallibleIterator.contract g.F.FnMut) (nth_map_err _ c.nth.ensures.nth c.answer.ensures)
+returns-clause-nth g c = nth_map_err _ _ c.nth.ensures.nth c.answer.ensures
 
 pub returns-clause-value : goal.returns-clause-value
 returns-clause-value g c l i = nth_is l (returns-clause-nth g c) i

@@ -1,0 +1,18 @@
+-- Items and failures exchanged: so an adapter that calls its closure on failures is one that calls it on items.
+use Rattle.std.specs.Prelude.{Result, Some, None, Ok, Err}
+use Rattle.fallible_contract.specs.Traces.{Answered}
+
+-- an answer with its item as a failure and its failure as an item
+abbrev pub exchanged : {A E : Type 0} → Answered A E → Answered E A
+exchanged (Ok (Some x)) = Err x
+exchanged (Ok None) = Ok None
+exchanged (Err e) = Ok (Some e)
+
+-- the same of one element of a list of results
+abbrev pub exchanged_result : {A E : Type 0} → Result A E → Result E A
+exchanged_result (Ok x) = Err x
+exchanged_result (Err e) = Ok e
+
+-- the same of each answer of a step
+abbrev pub steps_exchanged : {S A E : Type 0} → (S → Answered A E → S → Type 0) → S → Answered E A → S → Type 0
+steps_exchanged steps s r t = steps s (exchanged r) t
