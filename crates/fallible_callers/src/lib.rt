@@ -8,5 +8,7 @@ pub mod computing;
 pub mod consuming;
 pub mod drawing;
 pub mod generic;
+pub mod own;
 pub mod ranges;
 pub mod reading;
+pub mod resting;

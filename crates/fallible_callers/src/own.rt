@@ -1,0 +1,54 @@
+//! A source of one's own that shows what it lists.
+ghost use Rattle.std.specs.Prelude.{◌≡◌, ◌%◌, eqb, Ok};
+ghost use Rattle.fallible_iterator.specs.Contract.{AtMost};
+ghost use Rattle.fallible_iterator.specs.Laws.Showing.{lawful_listing};
+ghost use Rattle.fallible_iterator.specs.Lists.{Lists, counted, filtered};
+ghost use Rattle.fallible_iterator.specs.Showing.{listing};
+ghost use Rattle.fallible_callers.specs.Down.{counts_down, down_from};
+
+use fallible_iterator::FallibleIterator;
+
+/// Counts down to 1, and then ends.
+#[derive(Drop)]
+pub struct Countdown {
+    left: u32,
+}
+
+impl FallibleIterator for Countdown {
+    type Item = u32;
+
+    type Error = u8;
+
+    ghost contract = { listing counts_down };
+
+    /// The next lower number.
+    fn next(&mut self) -> Result<Option<u32>, u8> {
+        if self.left == 0 {
+            return Ok(None);
+        }
+        let x = self.left;
+        self.left -= 1;
+        Ok(Some(x))
+    }
+
+    fn size_hint(&self) -> (usize, Option<usize>) {
+        (0, None)
+    }
+
+    ghost lawful = { lawful_listing counts_down };
+}
+
+/// A countdown from a number.
+pub fn countdown(left: u32) -> Countdown
+    ensures lists { Lists (listing counts_down).steps result (down_from left) }
+    ensures fits { AtMost (listing counts_down) result left }
+{
+    Countdown { left }
+}
+
+/// How many of the numbers from n down to 1 are even.
+pub fn even_below(n: u32) -> Result<usize, u8>
+    ensures { result ≡ counted (filtered (λ x. Ok (eqb (x % 2) 0)) (down_from n)) }
+{
+    countdown(n).filter(|x| Ok(*x % 2 == 0)).count()
+}
