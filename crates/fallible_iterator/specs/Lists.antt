@@ -26,3 +26,4 @@ pub use Rattle.fallible_core.specs.Joining.Zip.{NoFailureAtEnd}
 unfoldable pub use Rattle.fallible_core.specs.Joining.Zip.{zipped}
 pub use Rattle.fallible_core.specs.Joining.Flatten.{EachLists}
 unfoldable pub use Rattle.fallible_core.specs.Joining.Flatten.{flattened}
+unfoldable pub use Rattle.fallible_core.specs.Peeking.Peekable.{looked_ahead, looked_at, first_if, behind_if}
