@@ -58,7 +58,7 @@ unfoldable pub items : {A E : Type 0} → List A → List (Result A E)
 items [] = []
 items (x ∷ xs) = Ok x ∷ items xs
 
--- ---- lists of adapters
+-- ---- words that several adapters share
 
 -- the last first
 unfoldable pub reversed : {A E : Type 0} → List (Result A E) → List (Result A E)
@@ -160,8 +160,6 @@ unfoldable pub parted : {A E : Type 0} → (A → Result Bool E) → List (Resul
 parted h [] = Ok ([], [])
 parted h (Ok x ∷ l) = on_value (h x) (λ v. to_side x v (parted h l))
 parted h (Err e ∷ l) = Err e
-
--- ---- joining, leaving out by number, and what consumers make
 
 -- The collection is one of the list's items, the source's failure the list's first; want of memory says nothing of the list.
 abbrev pub CollectedBy : {A E C : Type 0} → (List A → C → Type 0) → List (Result A E) → Result C (Fault E) → Type 0

@@ -1213,6 +1213,7 @@ pub trait FallibleIterator: Drop + Sized {
     final fn draw(&mut self) -> Result<Option<Self::Item>, Self::Error>
         requires { contract.can_next self.old }
         ensures drawn { contract.steps self.old result self.new }
+        ensures value { OverList contract.steps self.old (λ l. result ≡ nth_of 0 l) }
         ensures rest { OverList contract.steps self.old
             (λ l. ¬ (result ≡ Ok None) → Lists contract.steps self.new (behind_first l)) }
         ensures stays { Stays contract self.old self.new }

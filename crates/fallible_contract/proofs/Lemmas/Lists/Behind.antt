@@ -4,7 +4,7 @@ use Rattle.std.specs.List.{FoldsTo}
 use Rattle.std.proofs.Common.{refl, sym, ap, subst, ◌∙◌, arith}
 use Rattle.fallible_contract.specs.Traces.{Answered, Run, item}
 use Rattle.fallible_contract.specs.Folds.{Nth, NthExit, went_on_with, FoldExit, Folded}
-use Rattle.fallible_contract.specs.Lists.{AlwaysGives, Lists, Acts, ActsWith, behind_first, behind_nth, stopped_or, behind_answer, behind_stop, behind_true, behind_false, behind_value, behind_failed, behind_fold}
+use Rattle.fallible_contract.specs.Lists.{AlwaysGives, Lists, Acts, ActsWith, nth_of, behind_first, behind_nth, stopped_or, behind_answer, behind_stop, behind_true, behind_false, behind_value, behind_failed, behind_fold}
 use Rattle.fallible_contract.specs.Searching.{Passed, Decided, SearchExit, Searched, all_pick, any_pick, find_map_pick, find_pick, position_pick}
 
 module _ {S A E : Type 0} (steps : S → Answered A E → S → Type 0) where
@@ -37,6 +37,12 @@ module _ {S A E : Type 0} (steps : S → Answered A E → S → Type 0) where
       record { rest = d.rest; list_is = (let same : y ≡ x = (let q = h.0 in cc) in let is = d.list_is in cc); given = d.given }
 
 -- ---- one draw
+
+pub first_is : {S A E : Type 0} {steps : S → Answered A E → S → Type 0} {s : S} {r : Answered A E} (t : S) (l : List (Result A E)) → steps s r t → Lists steps s l → r ≡ nth_of 0 l
+unfolding nth_of
+first_is {r = r} t [] step i = i.runs r t step
+first_is {r = r} t (Ok x ∷ l) step i = (i.runs r t step).0
+first_is {r = r} t (Err e ∷ l) step i = (i.runs r t step).0
 
 pub behind_first_is : {S A E : Type 0} {steps : S → Answered A E → S → Type 0} {s t : S} {r : Answered A E} (l : List (Result A E)) → steps s r t → Lists steps s l → ¬ (r ≡ Ok None) → Lists steps t (behind_first l)
 unfolding behind_first

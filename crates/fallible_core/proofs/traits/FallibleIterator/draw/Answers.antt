@@ -1,6 +1,9 @@
--- What one answer leaves of the list is the list without its first.
-use Rattle.fallible_contract.proofs.Lemmas.Lists.Behind.{behind_first_is}
+-- One answer is the first of the list, and leaves the list without it.
+use Rattle.fallible_contract.proofs.Lemmas.Lists.Behind.{behind_first_is, first_is}
 use Rattle.fallible_core.proofs.traits.FallibleIterator.draw.Goals as goal
+
+pub returns-clause-value : goal.returns-clause-value
+returns-clause-value g c l i = first_is c.next.new.self l c.next.ensures i
 
 pub returns-clause-rest : goal.returns-clause-rest
 returns-clause-rest g c l i no_end = behind_first_is l c.next.ensures i no_end
