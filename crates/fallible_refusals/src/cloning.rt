@@ -126,6 +126,15 @@ fn refused_clones_of_filter_filter_map_and_skip_while(rt: HostRuntime) -> Result
     )
 }
 
+// Of 1 to 5 those below 5, and 10 more; 5 becomes an end.
+#[test]
+fn refused_clones_of_map_while(rt: HostRuntime) -> Result<(), Fail> {
+    let r = Requests::refusing(u32::MAX);
+    let mut it = Counting::new(1, 6, &r).map_while(ten_more);
+    let expected = [Item(11), Item(12), Item(13), Item(14), End, End];
+    expect_refused_clones(&rt, "MapWhile", &mut it, &r, 1, &expected)
+}
+
 // The sum so far, which is kept.
 fn added<'a>(sum: &mut Number<'a>, x: u32) -> Result<Option<u32>, TestError> {
     sum.value = sum.value.wrapping_add(x);

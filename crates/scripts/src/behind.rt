@@ -1,25 +1,25 @@
-//! Adapters with two ends, over twins that are drawn from behind. `rev` draws and folds them from behind.
+//! Adapters with two ends, over twins that are drawn from behind, by calls from behind and through `rev`.
 ghost use Rattle.std.specs.Prelude.{◌-◌, ◌^◌};
 
 use crate::answer::{Answer, Failed, Seen};
 use crate::case::{Case, Given, Run};
 use crate::joining::BESIDE;
 use crate::lists::whole;
-use crate::operating::operate;
 use crate::operation::Outcome;
+use crate::rfolding::operate_behind;
 use crate::rules::{
-    by_calls, chained, failures_mapped_by_calls, filter_mapped_by_calls, filtered_by_calls,
-    inspected_by_calls, mapped_by_calls, unchanged,
+    POINTED_TO, by_calls, chained, failures_mapped_by_calls, filter_mapped_by_calls,
+    filtered_by_calls, inspected_by_calls, mapped_by_calls, pointed_to, unchanged,
 };
 use crate::script::Twin;
 use fallible_iterator::FallibleIterator;
 use std::alloc::AllocError;
 
-// What the end that is not drawn from gives.
-const NOTHING: [Answer; 4] = [Answer::End, Answer::End, Answer::End, Answer::End];
+/// What the end that is not drawn from gives.
+pub const NOTHING: [Answer; 4] = [Answer::End, Answer::End, Answer::End, Answer::End];
 
-// A twin that gives the script from behind, and nothing from the front.
-fn behind<'a>(run: &Run<'a>) -> Twin<'a> {
+/// A twin that gives the script from behind, and nothing from the front.
+pub fn behind<'a>(run: &Run<'a>) -> Twin<'a> {
     Twin::new(run.other(NOTHING), run.script())
 }
 
@@ -33,7 +33,7 @@ impl Case for Reversed {
 
     fn perform(run: &Run<'_>) -> Result<Option<Outcome>, AllocError> {
         let mut twin = behind(run);
-        operate(run, (&mut twin).rev())
+        operate_behind(run, &mut twin)
     }
 
     fn expected(given: &Given) -> Result<Vec<Seen>, AllocError> {
@@ -51,7 +51,7 @@ impl Case for ReversedTwice {
 
     fn perform(run: &Run<'_>) -> Result<Option<Outcome>, AllocError> {
         let mut twin = Twin::new(run.script(), run.other(NOTHING));
-        operate(run, (&mut twin).rev().rev())
+        operate_behind(run, (&mut twin).rev())
     }
 
     fn expected(given: &Given) -> Result<Vec<Seen>, AllocError> {
@@ -70,17 +70,15 @@ impl Case for MappedBehind {
     fn perform(run: &Run<'_>) -> Result<Option<Outcome>, AllocError> {
         let mut twin = behind(run);
         let mut calls: u32 = 0;
-        let nest = (&mut twin)
-            .map(|x: u32| {
-                calls = calls.wrapping_add(1);
-                if calls % 3 == 0 {
-                    Err(Failed(8))
-                } else {
-                    Ok(x.wrapping_mul(10).wrapping_add(calls))
-                }
-            })
-            .rev();
-        operate(run, nest)
+        let nest = (&mut twin).map(|x: u32| {
+            calls = calls.wrapping_add(1);
+            if calls % 3 == 0 {
+                Err(Failed(8))
+            } else {
+                Ok(x.wrapping_mul(10).wrapping_add(calls))
+            }
+        });
+        operate_behind(run, nest)
     }
 
     fn expected(given: &Given) -> Result<Vec<Seen>, AllocError> {
@@ -99,17 +97,15 @@ impl Case for InspectedBehind {
     fn perform(run: &Run<'_>) -> Result<Option<Outcome>, AllocError> {
         let mut twin = behind(run);
         let mut calls: u32 = 0;
-        let nest = (&mut twin)
-            .inspect(|_: &u32| {
-                calls = calls.wrapping_add(1);
-                if calls % 3 == 0 {
-                    Err(Failed(8))
-                } else {
-                    Ok(())
-                }
-            })
-            .rev();
-        operate(run, nest)
+        let nest = (&mut twin).inspect(|_: &u32| {
+            calls = calls.wrapping_add(1);
+            if calls % 3 == 0 {
+                Err(Failed(8))
+            } else {
+                Ok(())
+            }
+        });
+        operate_behind(run, nest)
     }
 
     fn expected(given: &Given) -> Result<Vec<Seen>, AllocError> {
@@ -128,17 +124,37 @@ impl Case for FailuresMappedBehind {
     fn perform(run: &Run<'_>) -> Result<Option<Outcome>, AllocError> {
         let mut twin = behind(run);
         let mut calls: u32 = 0;
-        let nest = (&mut twin)
-            .map_err(|e: Failed| {
-                calls = calls.wrapping_add(1);
-                Failed(e.0.wrapping_add(100).wrapping_add(calls))
-            })
-            .rev();
-        operate(run, nest)
+        let nest = (&mut twin).map_err(|e: Failed| {
+            calls = calls.wrapping_add(1);
+            Failed(e.0.wrapping_add(100).wrapping_add(calls))
+        });
+        operate_behind(run, nest)
     }
 
     fn expected(given: &Given) -> Result<Vec<Seen>, AllocError> {
         failures_mapped_by_calls(given.alloc, given.all.as_slice())
+    }
+}
+
+/// `cloned` of a reference for each item.
+pub struct ClonedBehind;
+
+impl Case for ClonedBehind {
+    fn name() -> &'static str {
+        "cloned of map, from behind"
+    }
+
+    fn perform(run: &Run<'_>) -> Result<Option<Outcome>, AllocError> {
+        let mut twin = behind(run);
+        let numbers = &POINTED_TO;
+        let nest = (&mut twin)
+            .map(|x: u32| Ok(&numbers[(x % 8) as usize]))
+            .cloned();
+        operate_behind(run, nest)
+    }
+
+    fn expected(given: &Given) -> Result<Vec<Seen>, AllocError> {
+        pointed_to(given.alloc, given.all.as_slice())
     }
 }
 
@@ -153,13 +169,11 @@ impl Case for FilteredBehind {
     fn perform(run: &Run<'_>) -> Result<Option<Outcome>, AllocError> {
         let mut twin = behind(run);
         let mut calls: u32 = 0;
-        let nest = (&mut twin)
-            .filter(|_: &u32| {
-                calls = calls.wrapping_add(1);
-                by_calls(calls).map_err(Failed)
-            })
-            .rev();
-        operate(run, nest)
+        let nest = (&mut twin).filter(|_: &u32| {
+            calls = calls.wrapping_add(1);
+            by_calls(calls).map_err(Failed)
+        });
+        operate_behind(run, nest)
     }
 
     fn expected(given: &Given) -> Result<Vec<Seen>, AllocError> {
@@ -178,17 +192,15 @@ impl Case for FilterMappedBehind {
     fn perform(run: &Run<'_>) -> Result<Option<Outcome>, AllocError> {
         let mut twin = behind(run);
         let mut calls: u32 = 0;
-        let nest = (&mut twin)
-            .filter_map(|x: u32| {
-                calls = calls.wrapping_add(1);
-                match by_calls(calls) {
-                    Ok(true) => Ok(Some(x.wrapping_mul(10).wrapping_add(calls))),
-                    Ok(false) => Ok(None),
-                    Err(e) => Err(Failed(e)),
-                }
-            })
-            .rev();
-        operate(run, nest)
+        let nest = (&mut twin).filter_map(|x: u32| {
+            calls = calls.wrapping_add(1);
+            match by_calls(calls) {
+                Ok(true) => Ok(Some(x.wrapping_mul(10).wrapping_add(calls))),
+                Ok(false) => Ok(None),
+                Err(e) => Err(Failed(e)),
+            }
+        });
+        operate_behind(run, nest)
     }
 
     fn expected(given: &Given) -> Result<Vec<Seen>, AllocError> {
@@ -207,7 +219,7 @@ impl Case for ChainedFirst {
     fn perform(run: &Run<'_>) -> Result<Option<Outcome>, AllocError> {
         let mut twin = behind(run);
         let mut beside = Twin::new(run.other(NOTHING), run.other(BESIDE));
-        operate(run, (&mut beside).chain(&mut twin).rev())
+        operate_behind(run, (&mut beside).chain(&mut twin))
     }
 
     fn expected(given: &Given) -> Result<Vec<Seen>, AllocError> {
@@ -227,7 +239,7 @@ impl Case for ChainedSecond {
     fn perform(run: &Run<'_>) -> Result<Option<Outcome>, AllocError> {
         let mut twin = behind(run);
         let mut beside = Twin::new(run.other(NOTHING), run.other(BESIDE));
-        operate(run, (&mut twin).chain(&mut beside).rev())
+        operate_behind(run, (&mut twin).chain(&mut beside))
     }
 
     fn expected(given: &Given) -> Result<Vec<Seen>, AllocError> {

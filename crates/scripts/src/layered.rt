@@ -1,16 +1,17 @@
 //! The adapters that stand over any source.
 ghost use Rattle.std.specs.Prelude.{◌-◌, ◌^◌};
 
-use crate::answer::{Answer, Failed, Seen, pair_code};
+use crate::answer::{Answer, Coded, Failed, Seen, pair_code};
 use crate::case::Run;
 use crate::joining::{BESIDE, inner_of};
 use crate::layers::{Layer, Visit};
 use crate::lists::whole;
 use crate::operation::Outcome;
 use crate::rules::{
-    by_calls, chained, chained_after, each, failures_mapped_by_calls, filter_mapped_by_calls,
-    filtered_by_calls, fused, inspected_by_calls, joined, mapped_by_calls, skipped,
-    skipped_while_by_calls, stepped, taken, taken_while_by_calls, without_lost_first, zipped,
+    POINTED_TO, by_calls, chained, chained_after, each, failures_mapped_by_calls,
+    filter_mapped_by_calls, filtered_by_calls, fused, inspected_by_calls, joined, mapped_by_calls,
+    mapped_while_by_calls, numbered, pointed_to, skipped, skipped_while_by_calls, stepped, taken,
+    taken_while_by_calls, without_lost_first, zipped,
 };
 use fallible_iterator::FallibleIterator;
 use std::alloc::{AllocError, Global};
@@ -135,6 +136,78 @@ impl Layer for Scan {
                 Some(answer)
             }
         })
+    }
+}
+
+/// `map_while` to ten times the item and how often the closure was called, on odd calls; it fails with 8 on each third call, and ends on the others.
+pub struct MapWhile;
+
+impl Layer for MapWhile {
+    fn name() -> &'static str {
+        "map_while"
+    }
+
+    fn over<I, V: Visit>(run: &Run<'_>, it: I) -> Result<Option<Outcome>, AllocError>
+    where
+        I: FallibleIterator<Item = u32, Error = Failed>,
+    {
+        let mut calls: u32 = 0;
+        let nest = it.map_while(|x: u32| {
+            calls = calls.wrapping_add(1);
+            match by_calls(calls) {
+                Ok(true) => Ok(Some(x.wrapping_mul(10).wrapping_add(calls))),
+                Ok(false) => Ok(None),
+                Err(e) => Err(Failed(e)),
+            }
+        });
+        V::visit(run, nest)
+    }
+
+    fn rule(alloc: Global, source: &[Seen], _made: u32) -> Result<Vec<Seen>, AllocError> {
+        mapped_while_by_calls(alloc, source)
+    }
+}
+
+/// `cloned` of a reference for each item.
+pub struct Cloned;
+
+impl Layer for Cloned {
+    fn name() -> &'static str {
+        "cloned of map"
+    }
+
+    fn over<I, V: Visit>(run: &Run<'_>, it: I) -> Result<Option<Outcome>, AllocError>
+    where
+        I: FallibleIterator<Item = u32, Error = Failed>,
+    {
+        let numbers = &POINTED_TO;
+        let nest = it.map(|x: u32| Ok(&numbers[(x % 8) as usize])).cloned();
+        V::visit(run, nest)
+    }
+
+    fn rule(alloc: Global, source: &[Seen], _made: u32) -> Result<Vec<Seen>, AllocError> {
+        pointed_to(alloc, source)
+    }
+}
+
+/// `enumerate`, its pairs as numbers.
+pub struct Enumerate;
+
+impl Layer for Enumerate {
+    fn name() -> &'static str {
+        "map of enumerate"
+    }
+
+    fn over<I, V: Visit>(run: &Run<'_>, it: I) -> Result<Option<Outcome>, AllocError>
+    where
+        I: FallibleIterator<Item = u32, Error = Failed>,
+    {
+        let nest = it.enumerate().map(|pair: (usize, u32)| Ok(pair.code()));
+        V::visit(run, nest)
+    }
+
+    fn rule(alloc: Global, source: &[Seen], _made: u32) -> Result<Vec<Seen>, AllocError> {
+        numbered(alloc, source)
     }
 }
 

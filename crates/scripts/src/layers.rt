@@ -1,5 +1,7 @@
 //! Adapters over any source, and nests of one in another.
-use crate::answer::{Answer, Failed, Seen};
+ghost use Rattle.std.specs.Prelude.{ℕ, ◌+◌, ◌*◌, ◌≤◌};
+
+use crate::answer::{Failed, Seen};
 use crate::case::{Case, Given, Run};
 use crate::operating::operate_inside;
 use crate::operation::Outcome;
@@ -9,12 +11,16 @@ use std::marker::PhantomData;
 
 /// What is done with a source.
 pub trait Visit {
-    /// Does it.
+    // How many items the source under a layer that this is done with may have.
+    ghost most: { ℕ };
+
+    /// Does it. A layer gives at most four items for each of its source's, and four more.
     fn visit<I>(run: &Run<'_>, it: I) -> Result<Option<Outcome>, AllocError>
     where
         I: FallibleIterator<Item = u32, Error = Failed>,
         requires can_next { I.contract.can_next it }
-        requires finite { I.contract.is_finite it };
+        requires finite { I.contract.is_finite it }
+        requires fits { (n : ℕ) × I.contract.bound it n × (n ≤ 4 * most + 4) };
 }
 
 /// An adapter over any source of numbers, and its rule.
@@ -27,7 +33,9 @@ pub trait Layer {
     where
         I: FallibleIterator<Item = u32, Error = Failed>,
         requires can_next { I.contract.can_next it }
-        requires finite { I.contract.is_finite it };
+        requires finite { I.contract.is_finite it }
+        requires fits { (n : ℕ) × I.contract.bound it n × (n ≤ V.most) }
+        requires small { V.most ≤ 1000 };
 
     /// How many answers it draws of its source at its making.
     fn made() -> u32 {
@@ -38,10 +46,32 @@ pub trait Layer {
     fn rule(alloc: Global, source: &[Seen], made: u32) -> Result<Vec<Seen>, AllocError>;
 }
 
+/// What a layer stands on: a source made of the script of the run, and its rule.
+pub trait Base {
+    /// What it is called.
+    fn name() -> &'static str;
+
+    /// Does with it what `V` does.
+    fn under<V: Visit>(run: &Run<'_>) -> Result<Option<Outcome>, AllocError>
+    where
+        requires enough { 8 ≤ V.most }
+        requires small { V.most ≤ 1000 };
+
+    /// How many answers it draws of the script at its making.
+    fn made() -> u32 {
+        0
+    }
+
+    /// Its answers, by its rule over all that the script gives.
+    fn rule(given: &Given) -> Result<Vec<Seen>, AllocError>;
+}
+
 /// Does the operation of the run.
 pub struct Operated;
 
 impl Visit for Operated {
+    ghost most = { 404 };
+
     fn visit<I>(run: &Run<'_>, it: I) -> Result<Option<Outcome>, AllocError>
     where
         I: FallibleIterator<Item = u32, Error = Failed>,
@@ -56,6 +86,8 @@ pub struct Under<L> {
 }
 
 impl<L: Layer> Visit for Under<L> {
+    ghost most = { 100 };
+
     fn visit<I>(run: &Run<'_>, it: I) -> Result<Option<Outcome>, AllocError>
     where
         I: FallibleIterator<Item = u32, Error = Failed>,
@@ -64,27 +96,50 @@ impl<L: Layer> Visit for Under<L> {
     }
 }
 
-/// The second layer over the first over a script.
-pub struct Pair<A, B> {
-    layers: PhantomData<(A, B)>,
+/// The layer over a borrowed script.
+pub struct OverScript<L> {
+    layer: PhantomData<L>,
 }
 
-impl<A: Layer, B: Layer> Case for Pair<A, B> {
+impl<L: Layer> Base for OverScript<L> {
     fn name() -> &'static str {
-        B::name()
+        L::name()
+    }
+
+    fn under<V: Visit>(run: &Run<'_>) -> Result<Option<Outcome>, AllocError> {
+        let mut script = run.script();
+        L::over::<_, V>(run, &mut script)
+    }
+
+    fn made() -> u32 {
+        L::made()
+    }
+
+    fn rule(given: &Given) -> Result<Vec<Seen>, AllocError> {
+        L::rule(given.alloc, given.all.as_slice(), 0)
+    }
+}
+
+/// The layer over the base.
+pub struct Pair<B, L> {
+    parts: PhantomData<(B, L)>,
+}
+
+impl<B: Base, L: Layer> Case for Pair<B, L> {
+    fn name() -> &'static str {
+        L::name()
     }
 
     fn source() -> &'static str {
-        A::name()
+        B::name()
     }
 
     fn perform(run: &Run<'_>) -> Result<Option<Outcome>, AllocError> {
-        let mut script = run.script();
-        A::over::<_, Under<B>>(run, &mut script)
+        B::under::<Under<L>>(run)
     }
 
     fn expected(given: &Given) -> Result<Vec<Seen>, AllocError> {
-        let first = A::rule(given.alloc, given.all.as_slice(), 0)?;
-        B::rule(given.alloc, first.as_slice(), A::made())
+        let below = B::rule(given)?;
+        L::rule(given.alloc, below.as_slice(), B::made())
     }
 }

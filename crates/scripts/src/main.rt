@@ -2,11 +2,13 @@
 #![tactic(auto)]
 
 mod answer;
+mod bases;
 mod behind;
 mod case;
 mod comparing;
 mod consuming;
 mod cutting;
+mod cycling;
 mod driving;
 mod filtering;
 mod joining;
@@ -18,15 +20,19 @@ mod one_to_one;
 mod operating;
 mod operation;
 mod pairs;
+mod pairs_behind;
 mod peeking;
+mod rfolding;
 mod rows;
 mod rules;
 mod script;
 
 use comparing::drive_comparisons;
 use consuming::drive_consumers;
+use cycling::drive_cycles;
 use driving::{Tally, drive};
 use pairs::drive_pairs;
+use pairs_behind::drive_pairs_behind;
 use rows::drive_rows;
 use std::io;
 
@@ -42,6 +48,8 @@ fn main(rt: HostRuntime) -> io::Result<()> {
     drive_consumers(&rt, &mut total)?;
     drive_comparisons(&rt, &mut total)?;
     drive_pairs(&rt, &mut total)?;
+    drive_cycles(&rt, &mut total)?;
+    drive_pairs_behind(&rt, &mut total)?;
     let cases = total.cases;
     let mismatches = total.mismatches;
     println!(rt; "in all: {cases} cases, {mismatches} mismatches")
@@ -56,6 +64,7 @@ fn drive_one_to_one(rt: &HostRuntime, total: &mut Tally) -> io::Result<()> {
     drive::<one_to_one::FailuresMapped>(rt, total)?;
     drive::<one_to_one::Clones>(rt, total)?;
     drive::<one_to_one::Scanned>(rt, total)?;
+    drive::<one_to_one::MappedWhile>(rt, total)?;
     drive::<one_to_one::Enumerated>(rt, total)
 }
 
@@ -108,6 +117,7 @@ fn drive_behind(rt: &HostRuntime, total: &mut Tally) -> io::Result<()> {
     drive::<behind::MappedBehind>(rt, total)?;
     drive::<behind::InspectedBehind>(rt, total)?;
     drive::<behind::FailuresMappedBehind>(rt, total)?;
+    drive::<behind::ClonedBehind>(rt, total)?;
     drive::<behind::FilteredBehind>(rt, total)?;
     drive::<behind::FilterMappedBehind>(rt, total)?;
     drive::<behind::ChainedFirst>(rt, total)?;

@@ -6,7 +6,8 @@ use crate::case::{Case, Given, Run};
 use crate::operating::operate;
 use crate::operation::Outcome;
 use crate::rules::{
-    each, failures_mapped_by_calls, inspected_by_calls, mapped_by_calls, unchanged,
+    by_calls, each, failures_mapped_by_calls, inspected_by_calls, mapped_by_calls,
+    mapped_while_by_calls, numbered, unchanged,
 };
 use crate::script::Pointing;
 use fallible_iterator::FallibleIterator;
@@ -242,15 +243,33 @@ impl Case for Enumerated {
     }
 
     fn expected(given: &Given) -> Result<Vec<Seen>, AllocError> {
-        let mut items: u32 = 0;
-        each(given.alloc, given.all.as_slice(), |answer: Answer| {
-            if let Answer::Item(x) = answer {
-                let number = items;
-                items = items.wrapping_add(1);
-                Some(Answer::Item(number.wrapping_mul(1000).wrapping_add(x)))
-            } else {
-                Some(answer)
+        numbered(given.alloc, given.all.as_slice())
+    }
+}
+
+/// `map_while` to ten times the item and how often the closure was called, on odd calls; it fails with 8 on each third call, and ends on the others.
+pub struct MappedWhile;
+
+impl Case for MappedWhile {
+    fn name() -> &'static str {
+        "map_while, by calls"
+    }
+
+    fn perform(run: &Run<'_>) -> Result<Option<Outcome>, AllocError> {
+        let mut script = run.script();
+        let mut calls: u32 = 0;
+        let nest = (&mut script).map_while(|x: u32| {
+            calls = calls.wrapping_add(1);
+            match by_calls(calls) {
+                Ok(true) => Ok(Some(x.wrapping_mul(10).wrapping_add(calls))),
+                Ok(false) => Ok(None),
+                Err(e) => Err(Failed(e)),
             }
-        })
+        });
+        operate(run, nest)
+    }
+
+    fn expected(given: &Given) -> Result<Vec<Seen>, AllocError> {
+        mapped_while_by_calls(given.alloc, given.all.as_slice())
     }
 }

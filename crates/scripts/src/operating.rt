@@ -52,7 +52,7 @@ where
             let decided = taken(run.alloc, it, call, j)?;
             Ok(Some(taking(run, decided)))
         }
-        Operation::Position(_) | Operation::Count => Ok(None),
+        Operation::Position(_) | Operation::Count | Operation::Behind(_, _) => Ok(None),
     }
 }
 
@@ -92,8 +92,8 @@ where
     }
 }
 
-// What decided, where the nest was taken.
-fn taking(run: &Run<'_>, decided: (Passed, Answer)) -> Outcome {
+/// What decided, where the nest was taken.
+pub fn taking(run: &Run<'_>, decided: (Passed, Answer)) -> Outcome {
     let (passed, answer) = decided;
     Outcome {
         passed,
@@ -202,8 +202,8 @@ where
     (passed, stopped(folded, reached))
 }
 
-// What a fold that fails with 7 at an item came to.
-fn stopped(folded: Result<u32, Failed>, reached: u32) -> Answer {
+/// What a fold that fails with 7 at an item came to.
+pub fn stopped(folded: Result<u32, Failed>, reached: u32) -> Answer {
     match folded {
         Ok(_) => Answer::End,
         Err(Failed(7)) => Answer::Item(reached),

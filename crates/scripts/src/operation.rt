@@ -14,6 +14,8 @@ pub enum Operation {
     Position(u32),
     /// `count`
     Count,
+    /// a call from behind, of the nest itself and not of its `rev`, which stops at the item with that number
+    Behind(Behind, u32),
 }
 
 /// A call that leaves the nest.
@@ -44,6 +46,17 @@ pub enum Taking {
     Last,
     /// `collect` into a `Vec`
     Collect,
+}
+
+/// A call from behind.
+#[derive(Clone, Copy, PartialEq, Eq, Debug)]
+pub enum Behind {
+    /// draws by `next_back` until the item, a failure or an end
+    Draws,
+    /// `try_rfold`, which fails with 7 on the item
+    TryRfold,
+    /// `rfold`, which fails with 7 on the item
+    Rfold,
 }
 
 /// The items that came before the answer that decided.
@@ -93,7 +106,8 @@ pub struct Outcome {
 /// What the operation must come to, by what came of draws up to the same item.
 pub fn wanted(operation: Operation, drawn: Outcome) -> Outcome {
     match operation {
-        Operation::Draws(_) => drawn,
+        Operation::Draws(_) | Operation::Behind(Behind::Draws | Behind::TryRfold, _) => drawn,
+        Operation::Behind(Behind::Rfold, _) => wanted_of_taking(Taking::Fold, drawn),
         Operation::Borrowing(call, _) => wanted_of_borrowing(call, drawn),
         Operation::Taking(call, _) => wanted_of_taking(call, drawn),
         Operation::Position(_) => Outcome {

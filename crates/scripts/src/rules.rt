@@ -179,23 +179,26 @@ where
     Ok(made)
 }
 
-/// The answers before the first end; and then laps, each the first answer, whatever it is, and the answers behind it up to an end. The end that closes a lap is drawn and left out.
-pub fn cycled(alloc: Global, answers: [Answer; 4]) -> Result<Vec<Seen>, AllocError> {
-    let mut made = Vec::new(alloc);
-    let mut draws: u32 = 0;
+/// The answers before the first end; and then laps, each the first answer, whatever it is, and the answers behind it up to an end. The end that closes a lap is drawn and left out. The source drew so many answers at its making, and a clone of it draws none of those again.
+pub fn cycled(alloc: Global, source: &[Seen], made: u32) -> Result<Vec<Seen>, AllocError> {
+    let mut laps = Vec::new(alloc);
+    let mut before: u32 = 0;
     for lap in 0..20 {
         let mut is_first = 0 < lap;
-        for answer in answers {
-            if answer == Answer::End && !is_first {
+        for seen in source {
+            let draws = before.wrapping_add(seen.draws);
+            if seen.answer == Answer::End && !is_first {
+                before = draws.wrapping_sub(made);
                 break;
             }
             is_first = false;
-            draws = draws.wrapping_add(1);
-            made.push(Seen { answer, draws })?;
+            laps.push(Seen {
+                answer: seen.answer,
+                draws,
+            })?;
         }
-        draws = draws.wrapping_add(1);
     }
-    Ok(made)
+    Ok(laps)
 }
 
 /// What a closure that is told how often it was called before says: a failure where that is a multiple of 3, and else whether it is odd.
@@ -307,6 +310,51 @@ pub fn filter_mapped_by_calls(alloc: Global, source: &[Seen]) -> Result<Vec<Seen
                 Ok(false) => None,
                 Err(e) => Some(Answer::Failure(e)),
             }
+        } else {
+            Some(answer)
+        }
+    })
+}
+
+/// Each third item replaced by a failure, each other one whose number, from 1, is odd by ten times it and that number, and the rest by ends.
+pub fn mapped_while_by_calls(alloc: Global, source: &[Seen]) -> Result<Vec<Seen>, AllocError> {
+    let mut items: u32 = 0;
+    each(alloc, source, |answer: Answer| {
+        if let Answer::Item(x) = answer {
+            items = items.wrapping_add(1);
+            match by_calls(items) {
+                Ok(true) => Some(Answer::Item(x.wrapping_mul(10).wrapping_add(items))),
+                Ok(false) => Some(Answer::End),
+                Err(e) => Some(Answer::Failure(e)),
+            }
+        } else {
+            Some(answer)
+        }
+    })
+}
+
+/// What item x points to is number x % 8 of these.
+pub const POINTED_TO: [u32; 8] = [40, 41, 42, 43, 44, 45, 46, 47];
+
+/// Each item replaced by what it points to.
+pub fn pointed_to(alloc: Global, source: &[Seen]) -> Result<Vec<Seen>, AllocError> {
+    each(alloc, source, |answer: Answer| {
+        if let Answer::Item(x) = answer {
+            Some(Answer::Item(POINTED_TO[(x % 8) as usize]))
+        } else {
+            Some(answer)
+        }
+    })
+}
+
+/// Each item beside its number, from 0.
+pub fn numbered(alloc: Global, source: &[Seen]) -> Result<Vec<Seen>, AllocError> {
+    let mut items: u32 = 0;
+    each(alloc, source, |answer: Answer| {
+        if let Answer::Item(x) = answer {
+            let number = items;
+            items = items.wrapping_add(1);
+            Some(Answer::Item(pair_code(number, x)))
         } else {
             Some(answer)
         }

@@ -1,0 +1,10 @@
+-- One more draw.
+use Rattle.fallible_contract.specs.Laws.Contract.{stays_here}
+use Rattle.fallible_contract.proofs.Lemmas.Contract.{stays_step}
+use Rattle.scripts.proofs.rfolding.drawn_back.Goals as goal
+
+pub loop-init : goal.loop-init
+loop-init g c = record { stays = stays_here c.requires.can_next }
+
+pub loop-preserved : goal.loop-preserved
+loop-preserved g c = record { stays = stays_step g.met.I.DoubleEndedFallibleIterator.lawful_ends.back c.loop.invariant.stays c.draw_back.ensures.drawn }

@@ -1,0 +1,170 @@
+//! Does an operation with any nest that has two ends, from behind.
+ghost use Rattle.std.specs.Prelude.{◌-◌, ◌^◌};
+ghost use Rattle.fallible_contract.specs.Contract.{AtMost, Stays};
+ghost use Rattle.fallible_contract.specs.Ends.{from_back};
+
+use crate::answer::{Answer, Coded, Failed, Seen};
+use crate::case::Run;
+use crate::operating::{operate, stopped, taking};
+use crate::operation::{Behind, Operation, Outcome, Passed};
+use fallible_iterator::{DoubleEndedFallibleIterator, FallibleIterator};
+use std::alloc::AllocError;
+use std::cell::Cell;
+
+/// Does the operation of the run with the nest from behind: the calls from behind with the nest itself, and the others with its `rev`.
+pub fn operate_behind<I>(run: &Run<'_>, mut it: I) -> Result<Option<Outcome>, AllocError>
+where
+    I: DoubleEndedFallibleIterator<Error = Failed>,
+    I::Item: Coded,
+    requires can_next { I.ends.can_next it }
+    requires finite { I.contract.is_finite it }
+    requires fits { AtMost I.contract it (2 ^ 64 - 1) }
+{
+    match run.operation {
+        Operation::Behind(Behind::Draws, j) => {
+            let decided = drawn_back(&mut it, j);
+            Ok(Some(and_after_back(run, &mut it, decided)))
+        }
+        Operation::Behind(Behind::TryRfold, j) => {
+            let decided = try_rfolded(&mut it, j);
+            Ok(Some(and_after_back(run, &mut it, decided)))
+        }
+        Operation::Behind(Behind::Rfold, j) => Ok(Some(taking(run, rfolded(it, j)))),
+        _ => operate(run, it.rev()),
+    }
+}
+
+/// The same by the calls alone through which adapters reach into their sources from behind: draws and `try_rfold`; none of other operations.
+pub fn operate_inside_behind<I>(run: &Run<'_>, mut it: I) -> Option<Outcome>
+where
+    I: DoubleEndedFallibleIterator<Error = Failed>,
+    I::Item: Coded,
+    requires can_next { I.ends.can_next it }
+    requires finite { I.contract.is_finite it }
+{
+    let decided = match run.operation {
+        Operation::Draws(j) => drawn_back(&mut it, j),
+        Operation::Behind(Behind::TryRfold, j) => try_rfolded(&mut it, j),
+        _ => return None,
+    };
+    Some(and_after_back(run, &mut it, decided))
+}
+
+// What decided, and the next eight answers from behind.
+#[inline(never)]
+fn and_after_back<I>(run: &Run<'_>, it: &mut I, decided: (Passed, Answer)) -> Outcome
+where
+    I: DoubleEndedFallibleIterator<Error = Failed>,
+    I::Item: Coded,
+    requires { I.ends.can_next it.old }
+{
+    let (passed, answer) = decided;
+    let draws = run.draws.get();
+    Outcome {
+        passed,
+        answer,
+        draws,
+        after: Some(last_answers(it, run.draws)),
+    }
+}
+
+// One answer from behind.
+#[inline(never)]
+fn last_answer<I>(it: &mut I, draws: &Cell<u32>) -> Seen
+where
+    I: DoubleEndedFallibleIterator<Error = Failed>,
+    I::Item: Coded,
+    requires { I.ends.can_next it.old }
+    ensures { Stays (from_back I.contract I.ends) it.old it.new }
+{
+    let answer = Answer::of(it.draw_back());
+    Seen {
+        answer,
+        draws: draws.get(),
+    }
+}
+
+// Eight answers from behind.
+#[inline(never)]
+fn last_answers<I>(it: &mut I, draws: &Cell<u32>) -> [Seen; 8]
+where
+    I: DoubleEndedFallibleIterator<Error = Failed>,
+    I::Item: Coded,
+    requires { I.ends.can_next it.old }
+    ensures { Stays (from_back I.contract I.ends) it.old it.new }
+{
+    [
+        last_answer(it, draws),
+        last_answer(it, draws),
+        last_answer(it, draws),
+        last_answer(it, draws),
+        last_answer(it, draws),
+        last_answer(it, draws),
+        last_answer(it, draws),
+        last_answer(it, draws),
+    ]
+}
+
+// Draws from behind until item number j, a failure or an end.
+#[inline(never)]
+fn drawn_back<I>(it: &mut I, j: u32) -> (Passed, Answer)
+where
+    I: DoubleEndedFallibleIterator<Error = Failed>,
+    I::Item: Coded,
+    requires can_next { I.ends.can_next it.old }
+    ensures { Stays (from_back I.contract I.ends) it.old it.new }
+{
+    let mut passed = Passed::none();
+    for _ in 0..j {
+        match Answer::of(it.draw_back()) {
+            Answer::Item(x) => passed = passed.and(x),
+            decided => return (passed, decided),
+        }
+    }
+    (passed, Answer::of(it.draw_back()))
+}
+
+// `try_rfold` that fails with 7 on item number j.
+#[inline(never)]
+fn try_rfolded<I>(it: &mut I, j: u32) -> (Passed, Answer)
+where
+    I: DoubleEndedFallibleIterator<Error = Failed>,
+    I::Item: Coded,
+    requires can_next { I.ends.can_next it.old }
+    requires finite { I.contract.is_finite it.old }
+    ensures { Stays (from_back I.contract I.ends) it.old it.new }
+{
+    let mut passed = Passed::none();
+    let mut reached = 0;
+    let folded: Result<u32, Failed> = it.try_rfold(0, |number: u32, x: I::Item| {
+        if number == j {
+            reached = x.code();
+            return Err(Failed(7));
+        }
+        passed = passed.and(x.code());
+        Ok(number.wrapping_add(1))
+    });
+    (passed, stopped(folded, reached))
+}
+
+// `rfold` that fails with 7 on item number j.
+#[inline(never)]
+fn rfolded<I>(it: I, j: u32) -> (Passed, Answer)
+where
+    I: DoubleEndedFallibleIterator<Error = Failed>,
+    I::Item: Coded,
+    requires can_next { I.ends.can_next it }
+    requires finite { I.contract.is_finite it }
+{
+    let mut passed = Passed::none();
+    let mut reached = 0;
+    let folded = it.rfold(0, |number: u32, x: I::Item| {
+        if number == j {
+            reached = x.code();
+            return Err(Failed(7));
+        }
+        passed = passed.and(x.code());
+        Ok(number.wrapping_add(1))
+    });
+    (passed, stopped(folded, reached))
+}
