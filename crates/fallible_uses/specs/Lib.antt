@@ -1,0 +1,5 @@
+-- What the clauses of `src/` cite.
+pub mod Means
+pub mod Pages
+pub mod Report
+pub mod Tables
