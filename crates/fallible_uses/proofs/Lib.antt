@@ -1,1 +1,2 @@
+mod MergingLemmas
 mod TableLemmas

@@ -5,6 +5,7 @@ pub mod client;
 pub mod edges;
 pub mod generic;
 pub mod lines;
+pub mod merging;
 pub mod pages;
 pub mod report;
 pub mod table;

@@ -5,10 +5,14 @@ use crate::client::{Lost, Row, report_above_100};
 use crate::edges::{back_above_100, front_above_100};
 use crate::generic::{mean, running_sums};
 use crate::lines::{LineFault, sum_of_lines};
+use crate::merging::next_merged;
 use crate::pages::{Cursor, PageRefused, Pages};
+use crate::report::{RunFault, run};
 use crate::table::{CutShort, TableFault, Totals, first_bad, high_of_good, sum_up};
 use fallible_iterator::{FallibleIterator, convert};
 use std::alloc::{AllocError, Global};
+use std::io;
+use std::io::{ErrorKind, Read};
 use std::test::Fail;
 use std::vec::IntoIter;
 
@@ -147,4 +151,43 @@ fn pages(rt: HostRuntime) -> Result<(), Fail> {
     assert_eq!(rt; rows.pages().asked, 3);
     assert_eq!(rt; rows.draw(), Ok(None));
     Ok(())
+}
+
+#[test]
+fn merged(rt: HostRuntime) -> Result<(), Fail> {
+    let left = readings(rt.alloc(), [Ok(4), Err(9)])?;
+    let right = readings(rt.alloc(), [Ok(2), Ok(4)])?;
+    let mut left = convert(left.into_iter()).peekable();
+    let mut right = convert(right.into_iter()).peekable();
+    assert_eq!(rt; next_merged(&mut left, &mut right), Ok(Some(2)));
+    assert_eq!(rt; next_merged(&mut left, &mut right), Ok(Some(4)));
+    assert_eq!(rt; next_merged(&mut left, &mut right), Err(9));
+    assert_eq!(rt; next_merged(&mut left, &mut right), Ok(Some(4)));
+    assert_eq!(rt; next_merged(&mut left, &mut right), Ok(None));
+    Ok(())
+}
+
+// Fails at each read.
+#[derive(Drop)]
+struct Broken;
+
+impl Read for Broken {
+    fn read(&mut self, _: &mut [u8]) -> io::Result<usize> {
+        Err(io::Error::from(ErrorKind::Other))
+    }
+}
+
+#[test]
+fn reports(rt: HostRuntime) {
+    let mut written = Vec::new(rt.alloc());
+    assert_eq!(rt;
+        run(rt.alloc(), &mut Broken, &mut written),
+        Err(RunFault::Read)
+    );
+    let mut table = &TABLE[..8];
+    assert_eq!(rt; run(rt.alloc(), &mut table, &mut written), Ok(()));
+    assert_eq!(rt;
+        written.as_slice(),
+        b"records 1\nlow 1\nhigh 258\n".as_slice()
+    );
 }
