@@ -19,7 +19,9 @@ pub struct Row {
 #[derive(Clone, Copy, Debug, PartialEq, Eq)]
 pub struct Lost;
 
-/// How many elements a std iterator gives: code that knows nothing of fallible iterators.
+/// How many elements a std iterator gives up to its end: code that knows nothing of fallible iterators. It draws up to the end.
+///
+/// Asks that the iterator may be drawn from and ends, and that the number fits a `usize`.
 pub fn lines_of_report<S: std::iter::Iterator<Item = Result<Row, Lost>>>(rows: S) -> usize
     requires can { S.can_next rows }
     requires finite { IsFinite (S.remaining rows) }
@@ -30,7 +32,7 @@ pub fn lines_of_report<S: std::iter::Iterator<Item = Result<Row, Lost>>>(rows: S
     rows.count()
 }
 
-/// How many lines a report on the rows above 100 has. A lost connection has a line too, and the rows after it are drawn.
+/// How many lines a report on the rows above 100 has. It draws all rows; a lost connection has a line too, and ends nothing.
 pub fn report_above_100(rows: Vec<Result<Row, Lost>>) -> usize
     ensures { result ≡ length
         (filtered (λ row. Ok (nat_lt 100 row.amount)) (results rows.items)) }

@@ -11,3 +11,4 @@ pub mod report;
 pub mod table;
 #[cfg(test)]
 mod tests;
+pub mod tokens;

@@ -12,7 +12,7 @@ pub enum LineFault {
     Line(u64),
 }
 
-/// The sum of the numbers that the lines of a reader are, modulo 2 ^ 64, or the first fault, after which it reads no line. Places are counted modulo 2 ^ 64. No clause says the value, since std's contract of `lines` says no list.
+/// The sum of the numbers that the lines of a reader are, modulo 2 ^ 64. It draws up to the first fault. It fails with `Read` where a line can't be read, and with `Line` and the place of a line that is no number; places are counted modulo 2 ^ 64. No clause says the value, since std's contract of `lines` says no list.
 pub fn sum_of_lines<R: BufRead + Drop>(alloc: Global, reader: R) -> Result<u64, LineFault> {
     convert_fused(reader.lines(alloc))
         .map_err(|_| LineFault::Read)

@@ -6,9 +6,9 @@ ghost use Rattle.fallible_uses.specs.Merging.{MergesNext};
 
 use fallible_iterator::{FallibleIterator, Peekable};
 
-/// The lesser of the next items of two sources, and of equal ones that of the left; none where both are at their ends. Where the left fails, that is the answer, and else where the right fails.
+/// The lesser of the next items of two sources, and of equal ones that of the left; none where both are at their ends. It draws at most once from each, from the left first. It fails where the left does, or else the right. The other item stays held, and both may be drawn from again.
 ///
-/// It looks at the left first. The other item stays held. It draws at most once from each.
+/// Asks that both may be drawn from.
 pub fn next_merged<I, J>(
     left: &mut Peekable<I>,
     right: &mut Peekable<J>,

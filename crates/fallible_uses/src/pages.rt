@@ -35,7 +35,7 @@ pub struct Cursor<P> {
 }
 
 impl<P: Pages> Cursor<P> {
-    /// The rows of these pages from page 0 on, of which none is asked for yet.
+    /// The rows of these pages from page 0 on. Making them asks for no page.
     pub fn new(alloc: Global, pages: P) -> Cursor<P>
         ensures { cursor_parts result ≡ at_start pages }
     {

@@ -46,9 +46,7 @@ fn write_report<W: Write>(totals: Totals, writer: &mut W) -> io::Result<()>
     )
 }
 
-/// Reads a table up to the end of `reader`, and writes its totals to `writer`.
-///
-/// It fails with `Table` and the table's first fault, with `Read` where a read fails, with `Memory` where there is none for the table, and with `Write` where the writer fails. An interrupted read is tried again. Only at `Write` may something have been written.
+/// Reads a table up to the end of `reader`, and writes its totals to `writer`. It fails with `Table` and the table's first fault, with `Read` where a read fails, with `Memory` where there is none for the table, and with `Write` where the writer fails. An interrupted read is tried again. After `Ok` and `Table` the reader is at its end. Only at `Ok` and `Write` may something have been written.
 pub fn run<R: Read, W: Write>(alloc: Global, reader: &mut R, writer: &mut W) -> Result<(), RunFault>
     ensures ok { OnOk result (WritesReport (R.remaining reader.old) (R.remaining reader.new)
         (W.contents writer.old) (W.contents writer.new)) }

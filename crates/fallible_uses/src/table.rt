@@ -72,7 +72,7 @@ impl FallibleIterator for Records<'_> {
     ghost lawful = { Prim.search rules };
 }
 
-/// The records of a table.
+/// The records of a table. Making them draws nothing.
 pub fn read<'a>(bytes: &'a [u8]) -> Records<'a>
     ensures same { result.bytes.now ≡ bytes.now }
     ensures lists { Lists ⟦<Records<'a> as FallibleIterator>⟧.contract.steps
@@ -81,14 +81,14 @@ pub fn read<'a>(bytes: &'a [u8]) -> Records<'a>
     Records { bytes }
 }
 
-/// The place of the first record that isn't good, counted from 0, and none where all are good. A record that is cut short is the answer where none before it is bad.
+/// How many records come before the first one that isn't good; none where all are good. It draws up to that record. It fails where the table ends within a record and none before it is bad.
 pub fn first_bad(bytes: &[u8]) -> Result<Option<usize>, CutShort>
     ensures { result ≡ position_in (λ r. Ok (nat_lt r.high r.low)) (records bytes.now) }
 {
     read(bytes).position(|record| Ok(record.high < record.low))
 }
 
-/// The sum of the second numbers of the good records, modulo 2 ^ 64, where no record is cut short.
+/// The sum of the second numbers of the good records, modulo 2 ^ 64. It draws up to the table's end. It fails where that is within a record.
 pub fn high_of_good(bytes: &[u8]) -> Result<u64, CutShort>
     ensures { result ≡ folded (λ e. e) (λ s r. Ok ((s + r.high) % 2 ^ 64)) 0
         (filtered (λ r. Ok (is_good r)) (records bytes.now)) }
@@ -143,7 +143,7 @@ fn checked(place: usize, drawn: Record) -> Result<Record, TableFault>
     }
 }
 
-/// The totals of a table, modulo 2 ^ 64, or its first fault.
+/// The totals of a table, modulo 2 ^ 64. It draws up to the first fault. It fails with `Bad` at the first record that isn't good, and with `Cut` where the table ends within a record and none before it is bad.
 pub fn sum_up(bytes: &[u8]) -> Result<Totals, TableFault>
     ensures { result ≡ totals_of bytes.now }
 {

@@ -9,6 +9,7 @@ use crate::merging::next_merged;
 use crate::pages::{Cursor, PageRefused, Pages};
 use crate::report::{RunFault, run};
 use crate::table::{CutShort, TableFault, Totals, first_bad, high_of_good, sum_up};
+use crate::tokens::{TextFault, evaluate};
 use fallible_iterator::{FallibleIterator, convert};
 use std::alloc::{AllocError, Global};
 use std::io;
@@ -189,5 +190,18 @@ fn reports(rt: HostRuntime) {
     assert_eq!(rt;
         written.as_slice(),
         b"records 1\nlow 1\nhigh 258\n".as_slice()
+    );
+}
+
+#[test]
+fn texts(rt: HostRuntime) {
+    assert_eq!(rt; evaluate(rt.alloc(), "2+3*(4+10)*2"), Ok(86));
+    assert_eq!(rt; evaluate(rt.alloc(), "((7))*(1+1)"), Ok(14));
+    assert_eq!(rt; evaluate(rt.alloc(), "2+*3"), Err(TextFault::Unexpected));
+    assert_eq!(rt; evaluate(rt.alloc(), "(2"), Err(TextFault::Unexpected));
+    assert_eq!(rt; evaluate(rt.alloc(), "2)+x"), Err(TextFault::Unexpected));
+    assert_eq!(rt;
+        evaluate(rt.alloc(), "18446744073709551616"),
+        Err(TextFault::Unknown)
     );
 }

@@ -1,5 +1,5 @@
 -- Each way out is one of the lemmas.
-use Rattle.std.proofs.Common.{rules, ◌≡◌, Some, None, Ok, Err, sym}
+use Rattle.std.proofs.Common.{rules, ◌≡◌, None, Err, sym}
 use Rattle.fallible_uses.proofs.MergingLemmas.{left_fails, right_draws, right_fails, right_gives_it, left_gives_it}
 use Rattle.fallible_uses.proofs.merging.next_merged.Goals as goal
 
