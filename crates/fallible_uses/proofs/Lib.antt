@@ -1,0 +1,2 @@
+mod MergingLemmas
+mod TableLemmas

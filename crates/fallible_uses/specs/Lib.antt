@@ -1,0 +1,6 @@
+-- What the clauses of `src/` cite.
+pub mod Means
+pub mod Merging
+pub mod Pages
+pub mod Report
+pub mod Tables

@@ -1,0 +1,33 @@
+-- What a draw of rows from pages asks and answers.
+use Rattle.std.specs.Prelude.{◌≡◌, ℕ, ◌+◌, ◌%◌, ◌^◌, List, [], ◌∷◌, Result, Ok, Err}
+use Rattle.std.specs.Vec.Iter.{into_iter_items}
+use Rattle.std.specs.declared.vec.IntoIter.{IntoIter}
+use Rattle.std.specs.declared.alloc.Global.{Global}
+use Rattle.fallible_contract.specs.Traces.{Answered, item, failure, end}
+use Rattle.fallible_uses.specs.declared.pages.Cursor.{Cursor}
+use Rattle.fallible_uses.specs.declared.pages.PageRefused.{PageRefused}
+
+-- the rows of a page, where it was not refused
+abbrev pub rows_of : Result (IntoIter ℕ Global) PageRefused → Result (List ℕ) PageRefused
+rows_of (Ok rows) = Ok (into_iter_items rows)
+rows_of (Err e) = Err e
+
+-- the pages, the rows in hand, and the place of the next page
+abbrev pub cursor_parts : {P : Type 0} → Cursor P → P × (List ℕ × ℕ)
+cursor_parts c = (c.pages, (into_iter_items c.rows, c.place))
+
+-- What becomes of an asked page: its first row is answered and the others are in hand, and the next page is asked for after them. An empty one is an end. A refused one is a failure. After both the same page is asked for again.
+abbrev pub Opens : Result (List ℕ) PageRefused → ℕ → Answered ℕ PageRefused → List ℕ → ℕ → Type 0
+Opens (Ok (x ∷ rest)) place r rows next = (r ≡ item x) × (rows ≡ rest) × (next ≡ (place + 1) % 2 ^ 32)
+Opens (Ok []) place r rows next = (r ≡ end) × (rows ≡ []) × (next ≡ place)
+Opens (Err e) place r rows next = (r ≡ failure e) × (rows ≡ []) × (next ≡ place)
+
+module _ {P : Type 0} (gives : P → ℕ → Result (List ℕ) PageRefused → P → Type 0) where
+  -- One draw: a row in hand is answered, and no page is asked for. Where none is, one page is.
+  abbrev pub DrawsRow : P × (List ℕ × ℕ) → Answered ℕ PageRefused → P × (List ℕ × ℕ) → Type 0
+  DrawsRow (pages, (x ∷ rest, place)) r (pages', (rows, next)) = (r ≡ item x) × (pages' ≡ pages) × (rows ≡ rest) × (next ≡ place)
+  DrawsRow (pages, ([], place)) r (pages', (rows, next)) = (page : Result (List ℕ) PageRefused) × gives pages place page pages' × Opens page place r rows next
+
+-- a cursor at its start: no row is in hand, and page 0 is the next
+abbrev pub at_start : {P : Type 0} → P → P × (List ℕ × ℕ)
+at_start pages = (pages, ([], 0))

@@ -1,0 +1,36 @@
+//! Two sorted sources, merged.
+ghost use Rattle.std.specs.Prelude.{◌≡◌};
+ghost use Rattle.fallible_contract.specs.Contract.{Stays};
+ghost use Rattle.fallible_core.specs.Peeking.Peekable.{peekable_contract, peekable_parts, peekable_step};
+ghost use Rattle.fallible_uses.specs.Merging.{MergesNext};
+
+use fallible_iterator::{FallibleIterator, Peekable};
+
+/// The lesser of the next items of two sources, and of equal ones that of the left; none where both are at their ends. It draws at most once from each, from the left first. It fails where the left does, or else the right. The other item stays held, and both may be drawn from again.
+///
+/// Asks that both may be drawn from.
+pub fn next_merged<I, J>(
+    left: &mut Peekable<I>,
+    right: &mut Peekable<J>,
+) -> Result<Option<u32>, I::Error>
+where
+    I: FallibleIterator<Item = u32>,
+    J: FallibleIterator<Item = u32, Error = I::Error>,
+    requires left { (peekable_contract I.contract).can_next (peekable_parts left.old) }
+    requires right { (peekable_contract J.contract).can_next (peekable_parts right.old) }
+    ensures value { MergesNext (peekable_step I.contract.steps) (peekable_step J.contract.steps)
+        (peekable_parts left.old) (peekable_parts right.old) result
+        (peekable_parts left.new) (peekable_parts right.new) }
+    ensures left { Stays (peekable_contract I.contract)
+        (peekable_parts left.old) (peekable_parts left.new) }
+    ensures right { Stays (peekable_contract J.contract)
+        (peekable_parts right.old) (peekable_parts right.new) }
+{
+    let Some(first) = left.peek_copied()? else {
+        return right.draw();
+    };
+    match right.next_if(|second| *second < first)? {
+        Some(second) => Ok(Some(second)),
+        None => left.draw(),
+    }
+}

@@ -1,0 +1,82 @@
+//! A cursor over pages of rows.
+ghost use Rattle.std.specs.Prelude.{◌≡◌, ℕ, List, Result, Option};
+ghost use Rattle.fallible_contract.specs.Contract.{unbounded_contract, seen_as};
+ghost use Rattle.fallible_contract.specs.Laws.Contract.{lawful_seen};
+ghost use Rattle.fallible_contract.specs.Laws.BoundsRuns.{lawful_unbounded};
+ghost use Rattle.fallible_uses.specs.declared.pages.PageRefused.{PageRefused};
+ghost use Rattle.fallible_uses.specs.Pages.{rows_of, cursor_parts, at_start, DrawsRow};
+
+use fallible_iterator::FallibleIterator;
+use std::alloc::Global;
+use std::vec::IntoIter;
+
+/// A page was refused.
+#[derive(Clone, Copy, Debug, PartialEq, Eq)]
+pub struct PageRefused;
+
+/// What gives pages of rows by their places, and may refuse one.
+pub trait Pages: Drop + Sized {
+    // What asking for the page at a place may answer, and leave.
+    ghost gives: { Self → ℕ → Result (List ℕ) PageRefused → Self → Type 0 };
+
+    /// The rows of the page at this place. There are none behind the last page.
+    fn page(&mut self, place: u32) -> Result<IntoIter<u32, Global>, PageRefused>
+        ensures { gives self.old place (rows_of result) self.new };
+}
+
+/// The rows of pages, in order. A draw asks for a page where no row is in hand, and for no other. Where the page is refused, it fails, and the next draw asks for the same page again. An empty page is an end.
+///
+/// It states no bound, so it is drained through `take`.
+#[derive(Drop)]
+pub struct Cursor<P> {
+    pages: P,
+    rows: IntoIter<u32, Global>,
+    place: u32,
+}
+
+impl<P: Pages> Cursor<P> {
+    /// The rows of these pages from page 0 on. Making them asks for no page.
+    pub fn new(alloc: Global, pages: P) -> Cursor<P>
+        ensures { cursor_parts result ≡ at_start pages }
+    {
+        Cursor {
+            pages,
+            rows: Vec::new(alloc).into_iter(),
+            place: 0,
+        }
+    }
+
+    /// The pages, as they are now.
+    pub fn pages(&self) -> &P
+        ensures { result.now ≡ (cursor_parts self.now).0 }
+    {
+        &self.pages
+    }
+}
+
+impl<P: Pages> FallibleIterator for Cursor<P> {
+    type Item = u32;
+
+    type Error = PageRefused;
+
+    ghost contract = { seen_as cursor_parts (unbounded_contract (DrawsRow P.gives)) };
+
+    fn next(&mut self) -> Result<Option<u32>, PageRefused> {
+        if let Some(row) = self.rows.next() {
+            return Ok(Some(row));
+        }
+        let mut rows = self.pages.page(self.place)?;
+        let Some(row) = rows.next() else {
+            return Ok(None);
+        };
+        self.rows = rows;
+        self.place = self.place.wrapping_add(1);
+        Ok(Some(row))
+    }
+
+    fn size_hint(&self) -> (usize, Option<usize>) {
+        (0, None)
+    }
+
+    ghost lawful = { lawful_seen cursor_parts (lawful_unbounded (DrawsRow P.gives)) };
+}
