@@ -1,9 +1,9 @@
 -- One merged item: what the looks and the draws of both sources say of their lists.
 use Rattle.std.specs.Prelude.{◌≡◌, ℕ, Bool, true, false, nat_lt, List, [], ◌∷◌, Option, Some, None, Result, Ok, Err}
 use Rattle.std.proofs.Common.{refl, sym, ap, subst, ◌∙◌, inl, inr}
-use Rattle.fallible_contract.specs.Traces.{Answered}
-use Rattle.fallible_contract.specs.Lists.{AlwaysGives}
-use Rattle.fallible_core.specs.Peeking.Peekable.{peekable_step, Peeks, TakenIf, NextIf}
+use Rattle.fallible_iterator.specs.Traces.{Answered}
+use Rattle.fallible_iterator.specs.Lists.{AlwaysGives}
+use Rattle.fallible_iterator.specs.Peeking.Peekable.{peekable_step, Peeks, TakenIf, NextIf}
 use Rattle.fallible_uses.specs.Merging.{picked, merged_at, merged, first_of, ListBoth, MergesNext}
 
 -- ---- what a list has first

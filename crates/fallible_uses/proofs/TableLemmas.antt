@@ -2,8 +2,8 @@
 use Rattle.std.specs.Prelude.{◌≡◌, ℕ, zero, suc, ◌/◌, ◌<◌, ◌≤◌, List, [], ◌∷◌, length, drop, Some, None, Ok, Err}
 use Rattle.std.proofs.Common.{refl, sym, ap, subst, arith}
 use Rattle.std.proofs.lemmas.List.{length-drop}
-use Rattle.fallible_contract.specs.Traces.{Answered, end}
-use Rattle.fallible_contract.specs.Lists.{AlwaysGives}
+use Rattle.fallible_iterator.specs.Traces.{Answered, end}
+use Rattle.fallible_iterator.specs.Lists.{AlwaysGives}
 use Rattle.fallible_uses.specs.declared.table.Record.{Record}
 use Rattle.fallible_uses.specs.declared.table.CutShort.{CutShort}
 use Rattle.fallible_uses.specs.Tables.{record_of, cut_of, records_then, records, DrawsRecord}

@@ -1,7 +1,7 @@
 -- Two sources, merged.
 use Rattle.std.specs.Prelude.{◌≡◌, ℕ, Bool, true, false, nat_lt, List, [], ◌∷◌, Option, Some, Result, Ok, Err}
-use Rattle.fallible_contract.specs.Traces.{Answered, end}
-use Rattle.fallible_contract.specs.Lists.{Lists, result_answer}
+use Rattle.fallible_iterator.specs.Traces.{Answered, end}
+use Rattle.fallible_iterator.specs.Lists.{Lists, result_answer}
 
 -- the second where the test is true, else the first
 abbrev pub picked : {E : Type 0} → Bool → List (Result ℕ E) → List (Result ℕ E) → List (Result ℕ E)

@@ -3,7 +3,7 @@ use Rattle.std.specs.Prelude.{◌≡◌, ℕ, ◌+◌, ◌%◌, ◌^◌, List, [
 use Rattle.std.specs.Vec.Iter.{into_iter_items}
 use Rattle.std.specs.declared.vec.IntoIter.{IntoIter}
 use Rattle.std.specs.declared.alloc.Global.{Global}
-use Rattle.fallible_contract.specs.Traces.{Answered, item, failure, end}
+use Rattle.fallible_iterator.specs.Traces.{Answered, item, failure, end}
 use Rattle.fallible_uses.specs.declared.pages.Cursor.{Cursor}
 use Rattle.fallible_uses.specs.declared.pages.PageRefused.{PageRefused}
 

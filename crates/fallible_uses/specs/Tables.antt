@@ -1,8 +1,8 @@
 -- Records of bytes, and what is made of them.
 use Rattle.std.specs.Prelude.{◌≡◌, ℕ, zero, suc, ◌+◌, ◌/◌, ◌%◌, ◌^◌, ◌<◌, ◌≤◌, List, [], ◌∷◌, length, take, drop, Bool, nat_le, Some, None, Result, Ok, Err, if◌then◌else◌}
 use Rattle.std.specs.Int.{w32, from_le_bytes}
-use Rattle.fallible_contract.specs.Traces.{Answered}
-use Rattle.fallible_contract.specs.Lists.{folded, mapped, numbered, failures_mapped}
+use Rattle.fallible_iterator.specs.Traces.{Answered}
+use Rattle.fallible_iterator.specs.Lists.{folded, mapped, numbered, failures_mapped}
 use Rattle.fallible_uses.specs.declared.table.Record.{Record}
 use Rattle.fallible_uses.specs.declared.table.CutShort.{CutShort}
 use Rattle.fallible_uses.specs.declared.table.TableFault.{TableFault}

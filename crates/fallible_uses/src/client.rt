@@ -2,7 +2,7 @@
 ghost use Rattle.std.specs.Prelude.{◌≡◌, Ok, List, Result, length, nat_lt};
 ghost use Rattle.std.specs.Iterator.{IsFinite};
 ghost use Rattle.std.specs.Iterator.Runs.{CountFits, EachRunFrom, ItemsAre};
-ghost use Rattle.fallible_contract.specs.Lists.{results, filtered};
+ghost use Rattle.fallible_iterator.specs.Lists.{results, filtered};
 
 use fallible_iterator::{FallibleIterator, convert};
 

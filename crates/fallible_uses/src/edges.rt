@@ -1,6 +1,6 @@
 //! The front and the back of a list that a predicate accepts.
 ghost use Rattle.std.specs.Prelude.{◌≡◌, Ok, Result, List, nat_lt};
-ghost use Rattle.fallible_contract.specs.Lists.{results, reversed, taken_while, counted};
+ghost use Rattle.fallible_iterator.specs.Lists.{results, reversed, counted, taken_while};
 
 use fallible_iterator::{FallibleIterator, convert};
 

@@ -1,6 +1,6 @@
 //! Over any source of numbers.
 ghost use Rattle.std.specs.Prelude.{◌≡◌, ◌+◌, ◌%◌, ◌^◌, ℕ, List, Result, Ok, Option, Some};
-ghost use Rattle.fallible_contract.specs.Lists.{Lists, scanned, CollectedAs};
+ghost use Rattle.fallible_iterator.specs.Lists.{Lists, CollectedAs, scanned};
 ghost use Rattle.fallible_uses.specs.Means.{with_item, mean_of};
 
 use fallible_iterator::{FallibleIterator, Fault};

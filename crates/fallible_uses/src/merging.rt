@@ -1,7 +1,7 @@
 //! Two sorted sources, merged.
 ghost use Rattle.std.specs.Prelude.{◌≡◌};
-ghost use Rattle.fallible_contract.specs.Contract.{Stays};
-ghost use Rattle.fallible_core.specs.Peeking.Peekable.{peekable_contract, peekable_parts, peekable_step};
+ghost use Rattle.fallible_iterator.specs.Contract.{Stays};
+ghost use Rattle.fallible_iterator.specs.Peeking.Peekable.{peekable_contract, peekable_parts, peekable_step};
 ghost use Rattle.fallible_uses.specs.Merging.{MergesNext};
 
 use fallible_iterator::{FallibleIterator, Peekable};

@@ -1,8 +1,8 @@
 //! A binary table: records of two numbers, little endian.
 ghost use Rattle.std.specs.Prelude.{◌≡◌, ◌+◌, ◌*◌, ◌%◌, ◌^◌, Ok, nat_lt, length};
 ghost use Rattle.std.proofs.Common.{rules};
-ghost use Rattle.fallible_contract.specs.Contract.{counted_contract};
-ghost use Rattle.fallible_contract.specs.Lists.{Lists, filtered, folded, position_in};
+ghost use Rattle.fallible_iterator.specs.Contract.{counted_contract};
+ghost use Rattle.fallible_iterator.specs.Lists.{Lists, folded, position_in, filtered};
 ghost use Rattle.fallible_uses.specs.Tables.{DrawsRecord, record_of, records, is_good, checked, with_record, totals_of};
 
 use fallible_iterator::FallibleIterator;

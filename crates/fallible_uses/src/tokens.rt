@@ -1,7 +1,7 @@
 //! Sums and products with parentheses.
 ghost use Rattle.std.specs.Prelude.{◌≡◌, ◌≤◌, ◌<◌, MatchResult, MatchOption, length};
 ghost use Rattle.std.proofs.Common.{rules};
-ghost use Rattle.fallible_contract.specs.Contract.{counted_contract};
+ghost use Rattle.fallible_iterator.specs.Contract.{counted_contract};
 
 use fallible_iterator::FallibleIterator;
 use std::alloc::Global;

@@ -1,7 +1,7 @@
 //! Does an operation with any nest that has two ends, from behind.
 ghost use Rattle.std.specs.Prelude.{◌-◌, ◌^◌};
-ghost use Rattle.fallible_contract.specs.Contract.{AtMost, Stays};
-ghost use Rattle.fallible_contract.specs.Ends.{from_back};
+ghost use Rattle.fallible_iterator.specs.Contract.{AtMost, Stays};
+ghost use Rattle.fallible_iterator.specs.Ends.{from_back};
 
 use crate::answer::{Answer, Coded, Failed, Seen};
 use crate::case::Run;

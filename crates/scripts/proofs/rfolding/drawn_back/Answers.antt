@@ -1,5 +1,5 @@
 -- One more draw.
-use Rattle.fallible_contract.specs.Laws.Contract.{stays_here}
+use Rattle.fallible_iterator.specs.Laws.Contract.{stays_here}
 use Rattle.fallible_contract.proofs.Lemmas.Contract.{stays_step}
 use Rattle.scripts.proofs.rfolding.drawn_back.Goals as goal
 

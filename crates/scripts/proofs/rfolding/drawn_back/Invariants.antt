@@ -1,6 +1,6 @@
 -- The draws so far leave what may be drawn from behind again.
-use Rattle.fallible_contract.specs.Contract.{Stays}
-use Rattle.fallible_contract.specs.Ends.{from_back}
+use Rattle.fallible_iterator.specs.Contract.{Stays}
+use Rattle.fallible_iterator.specs.Ends.{from_back}
 use Rattle.scripts.proofs.rfolding.drawn_back.Given as goal
 
 abbrev pub invariant-loop : goal.invariant-loop
