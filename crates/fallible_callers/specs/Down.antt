@@ -3,10 +3,10 @@ use Rattle.std.specs.Prelude.{ℕ, zero, suc, Result, Ok, List, [], ◌∷◌}
 use Rattle.fallible_callers.specs.declared.own.Countdown.{Countdown}
 
 -- the numbers from n down to 1, each an item
-unfoldable pub down_from : {E : Type 0} → ℕ → List (Result ℕ E)
+unfoldable pub down_from : ℕ → List (Result ℕ ℕ)
 down_from zero = []
 down_from (suc n) = Ok (suc n) ∷ down_from n
 
 -- what a countdown shows: the numbers that are left
-abbrev pub counts_down : {E : Type 0} → Countdown → List (Result ℕ E)
+abbrev pub counts_down : Countdown → List (Result ℕ ℕ)
 counts_down s = down_from s.left

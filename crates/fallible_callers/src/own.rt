@@ -38,17 +38,19 @@ impl FallibleIterator for Countdown {
     ghost lawful = { lawful_listing counts_down };
 }
 
-/// A countdown from a number.
-pub fn countdown(left: u32) -> Countdown
-    ensures lists { Lists (listing counts_down).steps result (down_from left) }
-    ensures fits { AtMost (listing counts_down) result left }
-{
-    Countdown { left }
+impl Countdown {
+    /// A countdown from a number.
+    pub fn new(left: u32) -> Countdown
+        ensures lists { Lists (listing counts_down).steps result (down_from left) }
+        ensures fits { AtMost (listing counts_down) result left }
+    {
+        Countdown { left }
+    }
 }
 
 /// How many of the numbers from n down to 1 are even.
 pub fn even_below(n: u32) -> Result<usize, u8>
     ensures { result ≡ counted (filtered (λ x. Ok (eqb (x % 2) 0)) (down_from n)) }
 {
-    countdown(n).filter(|x| Ok(*x % 2 == 0)).count()
+    Countdown::new(n).filter(|x| Ok(*x % 2 == 0)).count()
 }

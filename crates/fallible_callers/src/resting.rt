@@ -1,7 +1,7 @@
 //! What is left after a call through a borrow.
-ghost use Rattle.std.specs.Prelude.{◌≡◌, ◌-◌, ◌^◌, ℕ, eqb, List, Result, Ok, Some};
+ghost use Rattle.std.specs.Prelude.{◌≡◌, ◌-◌, ◌^◌, ℕ, eqb, List, Option, Result, Ok, Some};
 ghost use Rattle.fallible_iterator.specs.Contract.{AtMost};
-ghost use Rattle.fallible_iterator.specs.Lists.{Lists, behind_true, counted, found, nth_of, position_in, results};
+ghost use Rattle.fallible_iterator.specs.Lists.{Lists, behind_first, behind_true, counted, found, looked_ahead, nth_of, position_in, results};
 
 use fallible_iterator::{FallibleIterator, convert};
 
@@ -31,4 +31,34 @@ where
         Some(_) => it.count(),
         None => Ok(0),
     }
+}
+
+/// How many readings come behind the first two.
+pub fn count_behind_two(readings: Vec<Result<u32, u8>>) -> Result<usize, u8>
+    ensures { (x y : ℕ) → nth_of 0 (results readings.items) ≡ Ok (Some x)
+        → nth_of 0 (behind_first (results readings.items)) ≡ Ok (Some y)
+        → result ≡ counted (behind_first (behind_first (results readings.items))) }
+{
+    let mut left = convert(readings.into_iter());
+    left.draw()?;
+    left.draw()?;
+    left.count()
+}
+
+/// The first item, which is looked at, and how many there are.
+pub fn first_and_count<I: FallibleIterator<Item = u32>>(
+    it: I,
+) -> Result<(Option<u32>, usize), I::Error>
+where
+    requires can_next { I.contract.can_next it }
+    requires fits { AtMost I.contract it (2 ^ 64 - 1) }
+    ensures { (l : List (Result ℕ I.Error)) (x : Option ℕ) (n : ℕ)
+        → Lists I.contract.steps it l
+        → nth_of 0 l ≡ Ok x
+        → counted (looked_ahead l) ≡ Ok n
+        → result ≡ Ok (x, n) }
+{
+    let mut ahead = it.peekable();
+    let first = ahead.peek_copied()?;
+    Ok((first, ahead.count()?))
 }

@@ -6,16 +6,16 @@ use Rattle.fallible_iterator.specs.Showing.{TakesShown}
 use Rattle.fallible_callers.proofs.own.CountdownFallibleIterator.next.Goals as goal
 
 -- an end of a countdown from 0, and else its number
-ends_at : {E : Type 0} (n : ℕ) → n ≡ 0 → TakesShown (down_from {E = E} n) (Ok None) (down_from n)
+ends_at : (n : ℕ) → n ≡ 0 → TakesShown (down_from n) (Ok None) (down_from n)
 unfolding down_from
 ends_at n e = rw e (refl, refl)
 
-goes_down : {E : Type 0} (n k : ℕ) → n ≡ suc k → TakesShown (down_from {E = E} n) (Ok (Some n)) (down_from k)
+goes_down : (n k : ℕ) → n ≡ suc k → TakesShown (down_from n) (Ok (Some n)) (down_from k)
 unfolding down_from
 goes_down n k e = rw e (refl, refl)
 
-pub returns-then : goal.returns-then
-returns-then c = ends_at _ (omega arith)
+pub returns-then-self-eq0 : goal.returns-then-self-eq0
+returns-then-self-eq0 c = ends_at _ (omega arith)
 
 pub returns : goal.returns
 returns c = goes_down _ _ (omega arith)

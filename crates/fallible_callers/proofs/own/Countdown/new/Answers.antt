@@ -3,9 +3,9 @@ use Rattle.std.specs.Prelude.{◌≡◌, ℕ, zero, suc, length}
 use Rattle.std.proofs.Common.{refl, ap, arith, inr}
 use Rattle.fallible_iterator.specs.Laws.Showing.{lists_shown}
 use Rattle.fallible_callers.specs.Down.{counts_down, down_from}
-use Rattle.fallible_callers.proofs.own.countdown.Goals as goal
+use Rattle.fallible_callers.proofs.own.Countdown.new.Goals as goal
 
-length_down : {E : Type 0} (n : ℕ) → length (down_from {E = E} n) ≡ n
+length_down : (n : ℕ) → length (down_from n) ≡ n
 unfolding down_from
 length_down zero = refl
 length_down (suc n) = ap suc (length_down n)
