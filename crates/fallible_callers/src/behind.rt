@@ -11,9 +11,10 @@ ghost use Rattle.fallible_iterator.specs.declared.sources.convert.Convert.{Conve
 ghost use Rattle.fallible_iterator.specs.Listing.{DrawsInterleave};
 ghost use Rattle.fallible_iterator.specs.Sources.Convert.{convert_parts};
 
-use fallible_iterator::{Answer, Side};
 use fallible_iterator::laws::{answers_at, law_back_convert, law_interleave, law_listed_convert};
-use fallible_iterator::{Convert, DoubleEndedFallibleIterator, FallibleIterator, Fault, convert};
+use fallible_iterator::{
+    Answer, Convert, DoubleEndedFallibleIterator, FallibleIterator, Fault, Side, convert,
+};
 use std::alloc::{AllocError, Global};
 
 /// The last reading.

@@ -21,9 +21,9 @@ pub use bridges::{law_back_iterator, law_iterator, law_unwrap};
 pub use comparing::law_eq_is_cmp_equal;
 pub use cutting::{law_fuse, law_skip, law_step_by, law_take, law_take_while};
 pub use ends::{
-    law_back_chain, law_back_cloned, law_back_filter, law_back_filter_map, law_back_inspect, law_back_map,
-    law_back_map_err, law_interleave, law_interleave_folds, law_interleave_nest, law_rev,
-    law_rev_rev,
+    law_back_chain, law_back_cloned, law_back_filter, law_back_filter_map, law_back_inspect,
+    law_back_map, law_back_map_err, law_interleave, law_interleave_folds, law_interleave_nest,
+    law_rev, law_rev_rev,
 };
 pub use filtering::{law_filter, law_filter_map, law_skip_while};
 pub use joining::{law_chain, law_cycle, law_flat_map, law_flatten, law_zip};

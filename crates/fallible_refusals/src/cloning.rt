@@ -3,10 +3,10 @@ use crate::asking::{Failure, Number};
 use crate::counting::{Counting, Pointing};
 use crate::expecting::expect_refused_clones;
 use crate::requests::Requests;
-use fallible_iterator::Answer;
 use fallible_iterator::Answer::{End, Item};
 use fallible_iterator::{
-    FallibleIterator, IntoFallible, convert, empty, from_fn, once, once_err, repeat, repeat_err,
+    Answer, FallibleIterator, IntoFallible, convert, empty, from_fn, once, once_err, repeat,
+    repeat_err,
 };
 use fallible_testing::answered::expect_answers;
 use fallible_testing::listed::listed;

@@ -2,9 +2,8 @@
 ghost use Rattle.fallible_iterator.specs.Contract.{Stays};
 
 use crate::requests::Requests;
-use fallible_iterator::FallibleIterator;
-use fallible_iterator::Answer;
 use fallible_iterator::laws::answers;
+use fallible_iterator::{Answer, FallibleIterator};
 use std::alloc::AllocError;
 use std::fmt::Debug;
 use std::test::Fail;

@@ -1,8 +1,7 @@
 //! What no clause says: the numbers of the examples, and calls that fail or come in pieces.
 use crate::{RowFault, Rows, fault_line, run};
-use fallible_iterator::FallibleIterator;
-use fallible_iterator::Answer;
 use fallible_iterator::laws::answers;
+use fallible_iterator::{Answer, FallibleIterator};
 use std::alloc::{AllocError, Global};
 use std::io;
 use std::io::{ErrorKind, Read, Write};

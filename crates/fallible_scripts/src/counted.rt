@@ -7,9 +7,7 @@ ghost use Rattle.fallible_iterator.specs.Laws.Ends.{lawful_ends_seen};
 ghost use Rattle.fallible_scripts.specs.Counted.{counted_parts};
 
 use crate::calls::Calls;
-use fallible_iterator::Test;
-use fallible_iterator::{Exit, Turn};
-use fallible_iterator::{DoubleEndedFallibleIterator, FallibleIterator};
+use fallible_iterator::{DoubleEndedFallibleIterator, Exit, FallibleIterator, Test, Turn};
 use std::cell::Cell;
 
 /// How often each call came from outside. A hidden form counts as the call whose contract it has.

@@ -2,8 +2,7 @@
 ghost use Rattle.fallible_iterator.specs.Contract.{Stays};
 
 use crate::answered::expect_answers;
-use fallible_iterator::FallibleIterator;
-use fallible_iterator::Answer;
+use fallible_iterator::{Answer, FallibleIterator};
 use std::fmt::Debug;
 use std::test::Fail;
 

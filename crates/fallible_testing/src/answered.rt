@@ -2,9 +2,8 @@
 ghost use Rattle.fallible_iterator.specs.Contract.{Stays};
 ghost use Rattle.fallible_iterator.specs.Ends.{from_front};
 
-use fallible_iterator::{Answer, Side};
 use fallible_iterator::laws::{answers, answers_at};
-use fallible_iterator::{DoubleEndedFallibleIterator, FallibleIterator};
+use fallible_iterator::{Answer, DoubleEndedFallibleIterator, FallibleIterator, Side};
 use std::fmt::Debug;
 use std::test::Fail;
 

@@ -1,6 +1,6 @@
 // Borrowed sources.
-use fallible_iterator::FallibleIterator;
 use fallible_iterator::Answer::{End, Failure, Item};
+use fallible_iterator::FallibleIterator;
 use fallible_testing::answered::expect_answers;
 use fallible_testing::listed::listed;
 use fallible_testing::numbers::numbers;

@@ -2,8 +2,7 @@
 ghost use Rattle.fallible_iterator.specs.Contract.{seen_as};
 ghost use Rattle.fallible_iterator.specs.Laws.Contract.{lawful_seen};
 
-use fallible_iterator::FallibleIterator;
-use fallible_iterator::{Exit, Turn};
+use fallible_iterator::{Exit, FallibleIterator, Turn};
 use fallible_testing::numbers::numbers;
 use std::cell::Cell;
 

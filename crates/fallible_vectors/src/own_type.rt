@@ -3,8 +3,8 @@ ghost use Rattle.std.specs.Prelude.{◌≡◌, ◌+◌, MatchResult, MatchOption
 ghost use Rattle.std.proofs.Common.{rules};
 ghost use Rattle.fallible_iterator.specs.Contract.{counted_contract};
 
-use fallible_iterator::FallibleIterator;
 use fallible_iterator::Answer::{End, Item};
+use fallible_iterator::FallibleIterator;
 use fallible_testing::answered::expect_answers;
 use std::test::Fail;
 

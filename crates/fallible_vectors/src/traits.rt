@@ -1,9 +1,8 @@
 // The trait's own methods.
 ghost use Rattle.std.specs.Prelude.{◌≡◌, Ok};
 
-use fallible_iterator::Answer;
 use fallible_iterator::Answer::{End, Failure, Item};
-use fallible_iterator::{FallibleIterator, convert, once, once_err};
+use fallible_iterator::{Answer, FallibleIterator, convert, once, once_err};
 use fallible_testing::answered::expect_answers;
 use fallible_testing::numbers::numbers;
 use std::test::Fail;

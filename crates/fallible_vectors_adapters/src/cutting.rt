@@ -1,9 +1,8 @@
 // Adapters that cut a trace off.
 ghost use Rattle.std.specs.Prelude.{◌≤◌};
 
-use fallible_iterator::FallibleIterator;
-use fallible_iterator::Answer;
 use fallible_iterator::Answer::{End, Item};
+use fallible_iterator::{Answer, FallibleIterator};
 use fallible_testing::answered::expect_answers;
 use fallible_testing::collected::expect_collected;
 use fallible_testing::numbers::numbers;

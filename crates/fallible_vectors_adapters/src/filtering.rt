@@ -1,7 +1,6 @@
 // Adapters that leave items out.
-use fallible_iterator::FallibleIterator;
-use fallible_iterator::Answer;
 use fallible_iterator::Answer::{End, Failure, Item};
+use fallible_iterator::{Answer, FallibleIterator};
 use fallible_testing::answered::expect_answers;
 use fallible_testing::closures::ten_more_of_even;
 use fallible_testing::numbers::numbers;

@@ -1,7 +1,6 @@
 // The adapter that ends for good: an end that it met is kept, whoever drew it.
-use fallible_iterator::FallibleIterator;
-use fallible_iterator::Answer;
 use fallible_iterator::Answer::{End, Item};
+use fallible_iterator::{Answer, FallibleIterator};
 use fallible_testing::answered::expect_answers;
 use fallible_testing::scripted::{Script, scripted};
 use std::alloc::{AllocError, Global};

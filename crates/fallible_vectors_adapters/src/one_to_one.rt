@@ -1,7 +1,6 @@
 // Adapters with one answer for each draw.
-use fallible_iterator::Answer;
 use fallible_iterator::Answer::{End, Failure, Item};
-use fallible_iterator::{FallibleIterator, IntoFallible, convert};
+use fallible_iterator::{Answer, FallibleIterator, IntoFallible, convert};
 use fallible_testing::answered::expect_answers;
 use fallible_testing::numbers::numbers;
 use fallible_testing::test_error::TestError;

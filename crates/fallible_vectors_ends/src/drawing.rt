@@ -1,8 +1,7 @@
 // Draws from both ends, one after another.
 use fallible_iterator::Answer::{End, Failure, Item};
 use fallible_iterator::Side::{Back, Front};
-use fallible_iterator::{Answer, Side};
-use fallible_iterator::{DoubleEndedFallibleIterator, FallibleIterator, IteratorExt};
+use fallible_iterator::{Answer, DoubleEndedFallibleIterator, FallibleIterator, IteratorExt, Side};
 use fallible_testing::answered::expect_answers_at;
 use fallible_testing::listed::listed;
 use fallible_testing::numbers::numbers;

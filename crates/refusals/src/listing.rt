@@ -1,8 +1,7 @@
 // What the calls answer that list answers.
 use crate::failure::Failure;
-use fallible_iterator::Side;
 use fallible_iterator::laws::{answers, answers_at};
-use fallible_iterator::{FallibleIterator, convert};
+use fallible_iterator::{FallibleIterator, Side, convert};
 use std::io;
 
 // The first four answers, and the next.

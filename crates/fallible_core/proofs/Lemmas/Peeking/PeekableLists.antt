@@ -61,8 +61,9 @@ module _ {S A E : Type 0} (steps : S → Answered A E → S → Type 0) where
   taken test h acts (Ok None) r p q [] is given w = (w.0, subst (λ (z : S × Option (Option A)). AlwaysGives {A = A} Step z []) (sym w.1) given)
   taken test h acts (Err e) r p q [] is given w = absurd cc
   taken test h acts (Ok (Some x)) r p q (Ok y ∷ l) is given w = let same : x ≡ y = cc in elim w [
-      inl t ↦ (let yes : h y ≡ true = sym (acts x true t.0 ∙ ap h same) in rw yes (t.1 ∙ ap (λ (z : A). item z) same, (given r q t.2).1))
-    | inr t ↦ (let no : h y ≡ false = sym (acts x false t.0 ∙ ap h same) in rw no (t.1, subst (λ (z : S × Option (Option A)). AlwaysGives Step z (Ok y ∷ l)) (sym t.2) given)) ]
+    | inl t ↦ (let yes : h y ≡ true = sym (acts x true t.0 ∙ ap h same) in rw yes (t.1 ∙ ap (λ (z : A). item z) same, (given r q t.2).1))
+    | inr t ↦ (let no : h y ≡ false = sym (acts x false t.0 ∙ ap h same) in rw no (t.1, subst (λ (z : S × Option (Option A)). AlwaysGives Step z (Ok y ∷ l)) (sym t.2) given))
+  ]
   taken test h acts (Ok None) r p q (Ok y ∷ l) is given w = absurd cc
   taken test h acts (Err e) r p q (Ok y ∷ l) is given w = absurd cc
   taken test h acts (Ok (Some x)) r p q (Err y ∷ l) is given w = absurd cc

@@ -47,7 +47,11 @@ where
 {}
 
 /// Each hint of `MapWhile` is as sound as the hint of its source that it is made of.
-pub fn law_hints_map_while<I: FallibleIterator, B, F: FnMut(I::Item) -> Result<Option<B>, I::Error>>()
+pub fn law_hints_map_while<
+    I: FallibleIterator,
+    B,
+    F: FnMut(I::Item) -> Result<Option<B>, I::Error>,
+>()
 where
     ensures { (s : MapWhile I F)
         → KeepsBrackets ⟦<MapWhile<I, F> as FallibleIterator>⟧.contract s I.contract
