@@ -77,7 +77,7 @@ use std::ops::ControlFlow;
 
 /// An iterator whose `next` may fail. It may go on after an end and after a failure.
 ///
-/// A type of one's own writes `next`, `size_hint` and `contract`: its step, and what it says of what is still to come. `counted_contract` of `specs/Contract` makes that of a step and a bound. A search then finds `lawful`.
+/// A type of one's own writes `next`, `size_hint` and `contract`: its step, and what it says of what is still to come. `counted_contract` of `specs/Contract` makes that of a step and a bound, and a search then finds `lawful`; `listing` of `specs/Showing` makes it of the list that a value shows.
 pub trait FallibleIterator: Drop + Sized {
     /// What it gives.
     type Item;
@@ -1209,7 +1209,7 @@ pub trait FallibleIterator: Drop + Sized {
         })
     }
 
-    /// `next`, which also says that what is left may be drawn from again: so a proof that draws several times by hand goes on by itself.
+    /// `next`, which also says that what is left may be drawn from again: so a proof that draws several times by hand goes on by itself. Over a list it answers the first, and leaves the rest.
     final fn draw(&mut self) -> Result<Option<Self::Item>, Self::Error>
         requires { contract.can_next self.old }
         ensures drawn { contract.steps self.old result self.new }

@@ -101,7 +101,7 @@ pub trait DoubleEndedFallibleIterator: FallibleIterator {
     // What the other functions know of draws from both ends: see `KeptByDraw`.
     ghost lawful_ends: { LawfulEnds Self.contract ends };
 
-    /// `next`, which also says that what is left may be drawn from again, from either end. `draw` says it of the front alone.
+    /// `next`, which also says that what is left may be drawn from again, from either end. `draw` says it of the front alone. Of what is listed from both ends it answers the first, and leaves the rest.
     final fn draw_front(&mut self) -> Result<Option<Self::Item>, Self::Error>
     where
         requires { ends.can_next self.old }
@@ -115,7 +115,7 @@ pub trait DoubleEndedFallibleIterator: FallibleIterator {
         self.next()
     }
 
-    /// `next_back`, which also says that what is left may be drawn from again, from either end.
+    /// `next_back`, which also says that what is left may be drawn from again, from either end. Of what is listed from both ends it answers the last, and leaves what stands before it.
     final fn draw_back(&mut self) -> Result<Option<Self::Item>, Self::Error>
     where
         requires { ends.can_next self.old }
