@@ -1,7 +1,7 @@
 -- What a mean is.
 use Rattle.std.specs.Prelude.{ℕ, ◌+◌, ◌%◌, ◌/◌, ◌^◌, zero, suc, Result, Ok, Some, None, List}
-use Rattle.std.specs.declared.option.Option.{Option}
 use Rattle.fallible_iterator.specs.Lists.{folded, on_value}
+use Rattle.std.specs.declared.option.Option.{Option}
 
 -- a sum by a number, where that isn't 0
 abbrev pub quotient : ℕ → ℕ → Option ℕ

@@ -1,11 +1,11 @@
 -- Runs of numbers.
 use Rattle.std.specs.Prelude.{ℕ, ◌-◌, List, Result}
 use Rattle.std.specs.List.{range_with_len}
+use Rattle.fallible_iterator.specs.Sources.IntoFallible.{into_fallible_parts}
+use Rattle.fallible_iterator.specs.Lists.{items}
 use Rattle.std.specs.declared.ops.Range.{Range}
 use Rattle.std.specs.declared.convert.Infallible.{Infallible}
 use Rattle.fallible_iterator.specs.declared.sources.into_fallible.IntoFallible.{IntoFallible}
-use Rattle.fallible_iterator.specs.Sources.IntoFallible.{into_fallible_parts}
-use Rattle.fallible_iterator.specs.Lists.{items}
 
 -- the range from 0 to n
 abbrev pub below : ℕ → IntoFallible (Range ℕ)

@@ -1,15 +1,15 @@
 //! Draws from behind.
 ghost use Rattle.std.specs.Prelude.{◌≡◌, ℕ, ◌+◌, ◌++◌, ◌%◌, ◌^◌, [], ◌∷◌, List, Result, Ok, Option, Some};
 ghost use Rattle.std.specs.Vec.Iter.{into_iter_items};
-ghost use Rattle.std.specs.declared.vec.IntoIter.{IntoIter};
-ghost use Rattle.std.specs.declared.alloc.Global.{Global};
 ghost use Rattle.fallible_iterator.specs.Side.{Side};
 ghost use Rattle.fallible_iterator.specs.Traces.{Answered};
 ghost use Rattle.fallible_iterator.specs.BothEnds.{ListsBothEnds};
 ghost use Rattle.fallible_iterator.specs.Lists.{results, reversed, folded, CollectedAs};
-ghost use Rattle.fallible_iterator.specs.declared.sources.convert.Convert.{Convert};
 ghost use Rattle.fallible_iterator.specs.Listing.{DrawsInterleave};
 ghost use Rattle.fallible_iterator.specs.Sources.Convert.{convert_parts};
+ghost use Rattle.std.specs.declared.vec.IntoIter.{IntoIter};
+ghost use Rattle.std.specs.declared.alloc.Global.{Global};
+ghost use Rattle.fallible_iterator.specs.declared.sources.convert.Convert.{Convert};
 
 use fallible_iterator::laws::{answers_at, law_back_convert, law_interleave, law_listed_convert};
 use fallible_iterator::{

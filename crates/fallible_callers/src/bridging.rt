@@ -1,8 +1,8 @@
 //! Callers that hand a fallible iterator to std, and take it back.
 ghost use Rattle.std.specs.Prelude.{◌≡◌, ℕ, ◌+◌, ◌%◌, ◌^◌, ◌<◌, ◌≤◌, Ok, Err, List, Result, length, sum, IfOk, nat_lt};
-ghost use Rattle.std.specs.declared.convert.Infallible.{Infallible};
 ghost use Rattle.fallible_iterator.specs.Lists.{items, results, counted, mapped, filtered, taken};
 ghost use Rattle.fallible_iterator.specs.Bridges.Unwrap.{unwrapped};
+ghost use Rattle.std.specs.declared.convert.Infallible.{Infallible};
 
 use fallible_iterator::laws::law_iterator;
 use fallible_iterator::{Convert, FallibleIterator, IteratorExt, Take, convert};

@@ -1,12 +1,12 @@
 -- Draws from both ends, and lists of what has two ends.
 use Rattle.std.specs.Prelude.{◌≡◌, ℕ, zero, suc, ⊤, List, [], ◌∷◌, ◌++◌, map, reverse, Option, Result, Some, None, Ok, Err}
 use Rattle.std.specs.List.{FoldsTo, filter_map}
+use Rattle.fallible_contract.specs.Traces.{Answered, end}
+use Rattle.fallible_contract.specs.Lists.{result_answer}
 use Rattle.fallible_contract.specs.declared.answers.Side.{Side}
 use Rattle.fallible_contract.specs.declared.answers.Side.TheVariants.{Front, Back}
-use Rattle.fallible_contract.specs.Traces.{Answered, end}
 use Rattle.fallible_contract.specs.declared.passing.Outcome.{Outcome}
 use Rattle.fallible_contract.specs.declared.passing.Outcome.TheVariants.{Kept, LeftOut, Failure, End}
-use Rattle.fallible_contract.specs.Lists.{result_answer}
 
 -- The answer r takes the first of the list, and P holds of the rest; where the list is empty it is an end, and P holds of the empty list.
 abbrev pub TakesFirst : {A E : Type 0} → (List (Result A E) → Type 0) → Answered A E → List (Result A E) → Type 0

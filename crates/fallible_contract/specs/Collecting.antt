@@ -1,15 +1,15 @@
 -- Collections made of items.
 pub mod Keyed
 use Rattle.std.specs.Prelude.{◌≡◌, Bool, cond, List, [], ◌∷◌, ◌++◌, map, Result, Ok, Err, ◌⊎◌}
-use Rattle.std.specs.declared.ops.ControlFlow.{ControlFlow}
-use Rattle.std.specs.declared.ops.ControlFlow.TheVariants.{Continue, Break}
 use Rattle.std.specs.List.{FoldsTo}
 use Rattle.std.specs.Borrow.{MutBor}
+use Rattle.fallible_contract.specs.Traces.{Answered, Run, item, end, failure}
+use Rattle.fallible_contract.specs.Folds.{TurnBehind}
+use Rattle.std.specs.declared.ops.ControlFlow.{ControlFlow}
+use Rattle.std.specs.declared.ops.ControlFlow.TheVariants.{Continue, Break}
 use Rattle.std.specs.declared.alloc.AllocError.{AllocError}
 use Rattle.fallible_contract.specs.declared.collecting.Fault.{Fault}
 use Rattle.fallible_contract.specs.declared.collecting.Fault.TheVariants.{Source, Memory}
-use Rattle.fallible_contract.specs.Traces.{Answered, Run, item, end, failure}
-use Rattle.fallible_contract.specs.Folds.{TurnBehind}
 
 -- The collection has the items that came, up to an end.
 pub record CollectsAll {S A E C : Type 0} (steps : S → Answered A E → S → Type 0) (made : List A → C → Type 0) (s : S) (c : C) : Type 0 where

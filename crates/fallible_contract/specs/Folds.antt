@@ -1,12 +1,12 @@
 -- Folds.
 use Rattle.std.specs.Prelude.{◌≡◌, ℕ, ◌+◌, ◌≤◌, length, List, [], ◌∷◌, ◌++◌, map, Option, Result, Some, None, Ok, Err, ⊤}
-use Rattle.std.specs.declared.ops.ControlFlow.{ControlFlow}
-use Rattle.std.specs.declared.ops.ControlFlow.TheVariants.{Continue, Break}
 use Rattle.std.specs.List.{FoldsTo, last_or}
 use Rattle.std.specs.Fn.{Called, Takes, Mut}
+use Rattle.fallible_contract.specs.Traces.{Answered, Run, Yields, item}
+use Rattle.std.specs.declared.ops.ControlFlow.{ControlFlow}
+use Rattle.std.specs.declared.ops.ControlFlow.TheVariants.{Continue, Break}
 use Rattle.fallible_contract.specs.declared.folds.Exit.{Exit}
 use Rattle.fallible_contract.specs.declared.folds.Exit.TheVariants.{Ended, Failed, Stopped}
-use Rattle.fallible_contract.specs.Traces.{Answered, Run, Yields, item}
 
 -- P holds of each item that may come after items on which the turns went on, with what they made by then
 pub record HoldsAtEachTurn {S A E C : Type 0} (steps : S → Answered A E → S → Type 0) (goes_on : C → A → C → Type 0) (P : C → A → Type 0) (s : S) (c : C) : Type 0 where

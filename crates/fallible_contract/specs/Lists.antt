@@ -2,13 +2,13 @@
 use Rattle.std.specs.Prelude.{◌≡◌, ℕ, ◌+◌, ◌-◌, zero, suc, ◌≤◌, ◌<◌, length, reverse, slice_index_or, Result, Some, None, Ok, Err, List, [], ◌∷◌, Bool, true, false, not, is_some, ⊤}
 use Rattle.std.specs.Iterator.Runs.{EachRunFrom}
 use Rattle.std.specs.List.{last_or}
-use Rattle.std.specs.declared.option.Option.{Option}
 use Rattle.fallible_contract.specs.Traces.{Answered, Run, end}
-use Rattle.std.specs.declared.cmp.Ordering.{Ordering}
-use Rattle.std.specs.declared.cmp.Ordering.TheVariants.{Less, Equal, Greater}
 use Rattle.fallible_contract.specs.Picking.{better, better_key, item_of}
 use Rattle.fallible_contract.specs.Searching.{all_pick, any_pick, find_map_pick, find_pick, position_pick, each_pick}
 use Rattle.fallible_contract.specs.Collecting.{MadeOfParts}
+use Rattle.std.specs.declared.option.Option.{Option}
+use Rattle.std.specs.declared.cmp.Ordering.{Ordering}
+use Rattle.std.specs.declared.cmp.Ordering.TheVariants.{Less, Equal, Greater}
 use Rattle.fallible_contract.specs.declared.collecting.Fault.{Fault}
 use Rattle.fallible_contract.specs.declared.collecting.Fault.TheVariants.{Source, Memory}
 

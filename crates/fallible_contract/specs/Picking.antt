@@ -1,13 +1,13 @@
 -- The best of the items, by an order of the items, by a closure that compares two, or by a key.
 use Rattle.std.specs.Prelude.{◌≡◌, List, [], ◌∷◌, ◌++◌, map, drop, Bool, true, false, cond, Option, Some, None, IsSomeAnd, Result, Ok, Err, ⊤}
-use Rattle.std.specs.declared.cmp.Ordering.{Ordering}
-use Rattle.std.specs.declared.cmp.Ordering.TheVariants.{Less, Equal, Greater}
 use Rattle.std.specs.List.{FoldsTo, last_or, zip}
 use Rattle.std.specs.Fn.{CalledAtTwo, TakesAtTwo, Mut}
 use Rattle.std.specs.Borrow.{Bor}
 use Rattle.fallible_contract.specs.Traces.{Answered, Run, item}
 use Rattle.fallible_contract.specs.Closures.{Calls}
 use Rattle.fallible_contract.specs.Folds.{Folded}
+use Rattle.std.specs.declared.cmp.Ordering.{Ordering}
+use Rattle.std.specs.declared.cmp.Ordering.TheVariants.{Less, Equal, Greater}
 
 -- whether two orderings are the same
 abbrev pub same_order : Ordering → Ordering → Bool

@@ -1,11 +1,11 @@
 -- Traces as values.
 use Rattle.std.specs.Prelude.{◌≡◌, ℕ, List, [], ◌∷◌, map, length, Result, Some, None, Ok, Err}
-use Rattle.fallible_contract.specs.declared.answers.Answer.{Answer}
-use Rattle.fallible_contract.specs.declared.answers.Answer.TheVariants.{Item, Failure, End}
-use Rattle.fallible_contract.specs.declared.answers.Side.{Side}
 use Rattle.fallible_contract.specs.Traces.{Answered, Run}
 use Rattle.fallible_contract.specs.Lists.{result_answer}
 use Rattle.fallible_contract.specs.BothEnds.{RunAtEnds}
+use Rattle.fallible_contract.specs.declared.answers.Answer.{Answer}
+use Rattle.fallible_contract.specs.declared.answers.Answer.TheVariants.{Item, Failure, End}
+use Rattle.fallible_contract.specs.declared.answers.Side.{Side}
 
 -- the answer that a value tells
 abbrev pub answer_of : {A E : Type 0} → Answered A E → Answer A E

@@ -1,7 +1,7 @@
 //! Comparisons: the rules of two items, and what is read off a comparison.
-ghost use Rattle.std.specs.Prelude.{◌≡◌, Option, Some, None, Ok};
-ghost use Rattle.std.specs.declared.cmp.Ordering.{Ordering};
+ghost use Rattle.std.specs.Prelude.{◌≡◌, Bool, Option, Some, None, Ok};
 ghost use Rattle.fallible_contract.specs.Comparing.{by_cmp, by_eq, decided, read_as, reads_eq, reads_ne, reads_lt, reads_le, reads_gt, reads_ge};
+ghost use Rattle.std.specs.declared.cmp.Ordering.{Ordering};
 
 use std::cmp::Ordering;
 
@@ -67,46 +67,80 @@ pub fn decide<A: Drop, K: Rule<A>>(left: Option<A>, right: Option<A>) -> Option<
     }
 }
 
-/// Reads `eq` off a comparison's answer.
-pub fn read_eq<E>(answer: Result<Option<Ordering>, E>) -> Result<bool, E>
-    ensures { result ≡ read_as reads_eq answer }
-{
-    Ok(matches!(answer?, Some(Ordering::Equal)))
+/// What is read off a comparison's answer.
+pub trait Reading {
+    // What an order, or the lack of one, is read as.
+    ghost reads: { Option Ordering → Bool };
+
+    /// Reads the answer, where it is no failure.
+    fn read<E>(answer: Result<Option<Ordering>, E>) -> Result<bool, E>
+        ensures { result ≡ read_as reads answer };
 }
 
-/// Reads `ne` off a comparison's answer.
-pub fn read_ne<E>(answer: Result<Option<Ordering>, E>) -> Result<bool, E>
-    ensures { result ≡ read_as reads_ne answer }
-{
-    Ok(!matches!(answer?, Some(Ordering::Equal)))
+/// Reads `eq`: whether the two are equal.
+pub struct ReadEq;
+
+impl Reading for ReadEq {
+    ghost reads = { reads_eq };
+
+    fn read<E>(answer: Result<Option<Ordering>, E>) -> Result<bool, E> {
+        Ok(matches!(answer?, Some(Ordering::Equal)))
+    }
 }
 
-/// Reads `lt` off a comparison's answer.
-pub fn read_lt<E>(answer: Result<Option<Ordering>, E>) -> Result<bool, E>
-    ensures { result ≡ read_as reads_lt answer }
-{
-    Ok(matches!(answer?, Some(Ordering::Less)))
+/// Reads `ne`: whether they are not.
+pub struct ReadNe;
+
+impl Reading for ReadNe {
+    ghost reads = { reads_ne };
+
+    fn read<E>(answer: Result<Option<Ordering>, E>) -> Result<bool, E> {
+        Ok(!matches!(answer?, Some(Ordering::Equal)))
+    }
 }
 
-/// Reads `le` off a comparison's answer.
-pub fn read_le<E>(answer: Result<Option<Ordering>, E>) -> Result<bool, E>
-    ensures { result ≡ read_as reads_le answer }
-{
-    Ok(matches!(answer?, Some(Ordering::Less | Ordering::Equal)))
+/// Reads `lt`: whether the left is less.
+pub struct ReadLt;
+
+impl Reading for ReadLt {
+    ghost reads = { reads_lt };
+
+    fn read<E>(answer: Result<Option<Ordering>, E>) -> Result<bool, E> {
+        Ok(matches!(answer?, Some(Ordering::Less)))
+    }
 }
 
-/// Reads `gt` off a comparison's answer.
-pub fn read_gt<E>(answer: Result<Option<Ordering>, E>) -> Result<bool, E>
-    ensures { result ≡ read_as reads_gt answer }
-{
-    Ok(matches!(answer?, Some(Ordering::Greater)))
+/// Reads `le`: whether the left is less or equal.
+pub struct ReadLe;
+
+impl Reading for ReadLe {
+    ghost reads = { reads_le };
+
+    fn read<E>(answer: Result<Option<Ordering>, E>) -> Result<bool, E> {
+        Ok(matches!(answer?, Some(Ordering::Less | Ordering::Equal)))
+    }
 }
 
-/// Reads `ge` off a comparison's answer.
-pub fn read_ge<E>(answer: Result<Option<Ordering>, E>) -> Result<bool, E>
-    ensures { result ≡ read_as reads_ge answer }
-{
-    Ok(matches!(answer?, Some(Ordering::Greater | Ordering::Equal)))
+/// Reads `gt`: whether the left is greater.
+pub struct ReadGt;
+
+impl Reading for ReadGt {
+    ghost reads = { reads_gt };
+
+    fn read<E>(answer: Result<Option<Ordering>, E>) -> Result<bool, E> {
+        Ok(matches!(answer?, Some(Ordering::Greater)))
+    }
+}
+
+/// Reads `ge`: whether the left is greater or equal.
+pub struct ReadGe;
+
+impl Reading for ReadGe {
+    ghost reads = { reads_ge };
+
+    fn read<E>(answer: Result<Option<Ordering>, E>) -> Result<bool, E> {
+        Ok(matches!(answer?, Some(Ordering::Greater | Ordering::Equal)))
+    }
 }
 
 /// The order, where a comparison found one.

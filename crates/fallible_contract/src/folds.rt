@@ -1,9 +1,9 @@
 //! Folds that carry a value.
 ghost use Rattle.std.specs.Prelude.{◌≡◌, ◌+◌, ◌-◌, ◌^◌, ◌<◌, ⊤, Result, Ok, Err, Some, None, IsSomeAnd};
-ghost use Rattle.std.specs.declared.ops.ControlFlow.{ControlFlow};
-ghost use Rattle.std.specs.declared.ops.ControlFlow.TheVariants.{Continue, Break};
 ghost use Rattle.fallible_contract.specs.Folding.{handed};
 ghost use Rattle.fallible_contract.specs.Folds.{unpacked, ValueAt, FoldedAt, IsFoldTurn, IsNthTurn, reached_at, call_with, takes_with, ReduceCall, reduce_takes};
+ghost use Rattle.std.specs.declared.ops.ControlFlow.{ControlFlow};
+ghost use Rattle.std.specs.declared.ops.ControlFlow.TheVariants.{Continue, Break};
 
 use std::convert::Infallible;
 use std::ops::ControlFlow;

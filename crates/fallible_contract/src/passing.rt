@@ -2,8 +2,8 @@
 ghost use Rattle.std.specs.Prelude.{Option, Result, IsSomeAnd};
 ghost use Rattle.fallible_contract.specs.Closures.{call_in};
 ghost use Rattle.fallible_contract.specs.Folding.{FoldingTakes, FoldingTurn};
-ghost use Rattle.fallible_contract.specs.declared.passing.Outcome.{Outcome};
 ghost use Rattle.fallible_contract.specs.Passing.{ItemPassed, PassAnswer, IfItem, LeavesNoneOut};
+ghost use Rattle.fallible_contract.specs.declared.passing.Outcome.{Outcome};
 
 use crate::folds::{Exit, Turn, take_out};
 use std::ops::ControlFlow;

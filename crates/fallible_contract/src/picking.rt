@@ -1,9 +1,9 @@
 //! The best of the items: the turns of the folds that keep the better of two.
 ghost use Rattle.std.specs.Prelude.{◌≡◌};
-ghost use Rattle.std.specs.declared.cmp.Ordering.{Ordering};
 ghost use Rattle.fallible_contract.specs.Closures.{call_at, takes_at};
 ghost use Rattle.fallible_contract.specs.Folds.{IsFoldTurn};
 ghost use Rattle.fallible_contract.specs.Picking.{same_order, call_at_two, takes_at_two, PickCall, takes_in_pick, KeyCall, item_of};
+ghost use Rattle.std.specs.declared.cmp.Ordering.{Ordering};
 
 use crate::folds::Turn;
 use std::cmp::Ordering;

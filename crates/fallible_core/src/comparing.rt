@@ -1,10 +1,13 @@
 //! Comparisons: one loop of rounds over a rule of two items.
-ghost use Rattle.std.specs.Prelude.{◌⊎◌};
-ghost use Rattle.fallible_contract.specs.Comparing.{Compared};
+ghost use Rattle.std.specs.Prelude.{◌≡◌, ◌⊎◌};
+ghost use Rattle.fallible_contract.specs.Clauses.{OverBoth};
+ghost use Rattle.fallible_contract.specs.Comparing.{Compared, OneIsFinite, ReadWith, read_as};
+ghost use Rattle.fallible_contract.specs.Lists.{compared};
 
 use crate::joining::Zip;
 use crate::traits::FallibleIterator;
-use fallible_contract::comparing::{Rule, decide};
+use crate::traits::conversion::IntoFallibleIterator;
+use fallible_contract::comparing::{Reading, Rule, decide};
 use std::cmp::Ordering;
 
 /// Draws the left and then the right in each round, until a failure, an end, or two items that aren't equal by the rule.
@@ -35,4 +38,26 @@ where
             None => count = count.one_less(),
         }
     }
+}
+
+/// Compares what the other value becomes with the iterator, by the rule, and reads the answer.
+pub fn compare_read<L, I, K, R>(left: L, other: I) -> Result<bool, L::Error>
+where
+    L: FallibleIterator,
+    L::Item: Drop,
+    I: IntoFallibleIterator<Item = L::Item, Error = L::Error>,
+    K: Rule<L::Item>,
+    R: Reading,
+    requires can_next { L.contract.can_next left }
+    requires right { (right : I.IntoFallibleIter) → I.into_gives other right
+        → I.IntoFallibleIter.contract.can_next right }
+    requires finite { OneIsFinite L.contract I.into_gives I.IntoFallibleIter.contract left other }
+    ensures compared { ReadWith K.rule R.reads I.into_gives L.contract.steps
+        I.IntoFallibleIter.contract.steps left other result }
+    ensures value { OverBoth L.contract.steps left I.into_gives other
+        I.IntoFallibleIter.contract.steps
+        (λ a b. result ≡ read_as R.reads (compared K.rule a b)) }
+{
+    let answer = compare::<L, I::IntoFallibleIter, K>(left, other.into_fallible_iter());
+    R::read(answer)
 }

@@ -1,9 +1,9 @@
 //! The best of the items: one fold that keeps the better of two.
 ghost use Rattle.std.specs.Prelude.{◌≡◌, Option, Result, None};
-ghost use Rattle.std.specs.declared.cmp.Ordering.{Ordering};
 ghost use Rattle.fallible_contract.specs.Closures.{call_at, takes_at};
 ghost use Rattle.fallible_contract.specs.Folds.{CallableInFold, Folded};
 ghost use Rattle.fallible_contract.specs.Picking.{call_at_two, takes_at_two, PickCall, PickedByFold, takes_in_pick, KeyCall};
+ghost use Rattle.std.specs.declared.cmp.Ordering.{Ordering};
 
 use crate::traits::FallibleIterator;
 use fallible_contract::folds::Exit;

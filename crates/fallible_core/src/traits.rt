@@ -5,6 +5,12 @@ ghost use Rattle.std.specs.Iterator.Runs.{EachRunFrom, ItemsAre};
 ghost use Rattle.fallible_contract.specs.Clauses.{OverList, OverListWith, OverBoth};
 ghost use Rattle.fallible_contract.specs.Contract.{Contract, AtMost, Lawful, Stays, NeverFails, seen_as};
 ghost use Rattle.fallible_contract.specs.Closures.{IsCallable, call_on, takes_on, call_at, takes_at};
+ghost use Rattle.fallible_contract.specs.Collecting.{Collects, IsCollectTurn, Asks, IsPartitionTurn, Partitions, MadeOfParts, PairRefused, IsUnzipTurn};
+ghost use Rattle.fallible_contract.specs.Lists.{behind_first, behind_nth, behind_true, behind_false, behind_value, behind_fold, items, Lists, Acts, Repeats, repeated, counted, ActsWithState, CollectedAs, nth_of, folded, reduced, ActsWith, Converts, all_of, any_of, find_mapped, found, last_of, PartedAs, UnzippedAs, position_in, each_done, best_by, greatest, least, best_by_key, compared};
+ghost use Rattle.fallible_contract.specs.Comparing.{OneIsFinite, by_cmp, by_eq, read_as, reads_eq, reads_ne, reads_lt, reads_le, reads_gt, reads_ge, ComparedWith, ReadWith};
+ghost use Rattle.fallible_contract.specs.Picking.{call_at_two, takes_at_two, PickCall, takes_in_pick, Picked, KeyCall, Best, BestByKey};
+ghost use Rattle.fallible_contract.specs.Searching.{CallableInSearch, Searched, IsSearchTurn, IsPositionTurn, IsFindTurn, all_pick, any_pick, find_map_pick, find_pick, position_pick, each_pick};
+ghost use Rattle.fallible_contract.specs.Folds.{HoldsAtEachTurn, CallableCarrying, Carried, CallableInFold, call_with, takes_with, IsFoldTurn, Folded, Counted, LastOf, Nth, ReduceCall, reduce_takes};
 ghost use Rattle.fallible_core.specs.OneToOne.Enumerate.{IsNumberable, enumerate_parts, enumerate_contract, numbered};
 ghost use Rattle.fallible_core.specs.Filtering.SkipWhile.{skip_call, skip_takes, skip_while_parts, skip_while_contract, skipped_while, skip_while_source, skip_while_found, skip_while_predicate};
 ghost use Rattle.fallible_core.specs.OneToOne.Scan.{scan_call, scan_takes, scan_parts, scan_contract, scanned, scan_source, scan_state, scan_closure};
@@ -29,15 +35,9 @@ ghost use Rattle.fallible_core.specs.Bridges.Iterator.{iterator_parts, iterator_
 ghost use Rattle.fallible_core.specs.Bridges.Unwrap.{unwrap_parts, unwrap_steps, unwrapped};
 ghost use Rattle.fallible_core.specs.Peeking.Peekable.{peekable_parts, peekable_contract};
 ghost use Rattle.fallible_core.specs.Joining.Cycle.{cycle_kept, cycle_source};
-ghost use Rattle.fallible_core.specs.declared.joining.chain.StillDrawn.TheVariants.{Both};
-ghost use Rattle.fallible_contract.specs.Collecting.{Collects, IsCollectTurn, Asks, IsPartitionTurn, Partitions, MadeOfParts, PairRefused, IsUnzipTurn};
-ghost use Rattle.fallible_contract.specs.Lists.{behind_first, behind_nth, behind_true, behind_false, behind_value, behind_fold, items, Lists, Acts, Repeats, repeated, counted, ActsWithState, CollectedAs, nth_of, folded, reduced, ActsWith, Converts, all_of, any_of, find_mapped, found, last_of, PartedAs, UnzippedAs, position_in, each_done, best_by, greatest, least, best_by_key, compared};
-ghost use Rattle.fallible_contract.specs.Comparing.{OneIsFinite, by_cmp, by_eq, read_as, reads_eq, reads_ne, reads_lt, reads_le, reads_gt, reads_ge, ComparedWith, ReadWith};
 ghost use Rattle.std.specs.declared.cmp.Ordering.{Ordering};
 ghost use Rattle.std.specs.declared.cmp.Ordering.TheVariants.{Less, Greater};
-ghost use Rattle.fallible_contract.specs.Picking.{call_at_two, takes_at_two, PickCall, takes_in_pick, Picked, KeyCall, Best, BestByKey};
-ghost use Rattle.fallible_contract.specs.Searching.{CallableInSearch, Searched, IsSearchTurn, IsPositionTurn, IsFindTurn, all_pick, any_pick, find_map_pick, find_pick, position_pick, each_pick};
-ghost use Rattle.fallible_contract.specs.Folds.{HoldsAtEachTurn, CallableCarrying, Carried, CallableInFold, call_with, takes_with, IsFoldTurn, Folded, Counted, LastOf, Nth, ReduceCall, reduce_takes};
+ghost use Rattle.fallible_core.specs.declared.joining.chain.StillDrawn.TheVariants.{Both};
 
 mod borrowed;
 mod boxed;
@@ -45,7 +45,7 @@ pub mod conversion;
 pub mod double_ended;
 
 use crate::bridges::{Iterator, Unwrap};
-use crate::comparing::compare;
+use crate::comparing::{compare, compare_read};
 use crate::cutting::{Fuse, Skip, StepBy, Take, TakeWhile};
 use crate::ends::Rev;
 use crate::filtering::{Filter, FilterMap, SkipWhile};
@@ -58,7 +58,7 @@ use crate::traits::conversion::IntoFallibleIterator;
 use crate::traits::double_ended::DoubleEndedFallibleIterator;
 use fallible_contract::collecting::{Collect, CollectTurn, Fault, PartitionTurn, UnzipTurn};
 use fallible_contract::comparing::{
-    ByCmp, ByEq, ByPartialCmp, ordered, read_eq, read_ge, read_gt, read_le, read_lt, read_ne,
+    ByCmp, ByEq, ByPartialCmp, ReadEq, ReadGe, ReadGt, ReadLe, ReadLt, ReadNe, ordered,
 };
 use fallible_contract::folds::{
     CountTurn, Exit, LastTurn, ReduceTurn, TryFoldTurn, Turn, drain_of_exit, draw_of_exit,
@@ -1052,8 +1052,7 @@ pub trait FallibleIterator: Drop + Sized {
             I.IntoFallibleIter.contract.steps
             (λ a b. result ≡ read_as reads_eq (compared (by_eq Self.Item.eq) a b)) }
     {
-        let answer = compare::<Self, I::IntoFallibleIter, ByEq>(self, other.into_fallible_iter());
-        read_eq(answer)
+        compare_read::<Self, I, ByEq, ReadEq>(self, other)
     }
 
     /// Whether the two differ: the opposite of `eq`.
@@ -1074,8 +1073,7 @@ pub trait FallibleIterator: Drop + Sized {
             I.IntoFallibleIter.contract.steps
             (λ a b. result ≡ read_as reads_ne (compared (by_eq Self.Item.eq) a b)) }
     {
-        let answer = compare::<Self, I::IntoFallibleIter, ByEq>(self, other.into_fallible_iter());
-        read_ne(answer)
+        compare_read::<Self, I, ByEq, ReadNe>(self, other)
     }
 
     /// Whether this one is less than the other, by `partial_cmp`; false where two items have no order.
@@ -1096,11 +1094,7 @@ pub trait FallibleIterator: Drop + Sized {
             I.IntoFallibleIter.contract.steps
             (λ a b. result ≡ read_as reads_lt (compared Self.Item.partial_cmp a b)) }
     {
-        let answer = compare::<Self, I::IntoFallibleIter, ByPartialCmp>(
-            self,
-            other.into_fallible_iter(),
-        );
-        read_lt(answer)
+        compare_read::<Self, I, ByPartialCmp, ReadLt>(self, other)
     }
 
     /// Whether this one is less than the other or equal, by `partial_cmp`; false where two items have no order.
@@ -1121,11 +1115,7 @@ pub trait FallibleIterator: Drop + Sized {
             I.IntoFallibleIter.contract.steps
             (λ a b. result ≡ read_as reads_le (compared Self.Item.partial_cmp a b)) }
     {
-        let answer = compare::<Self, I::IntoFallibleIter, ByPartialCmp>(
-            self,
-            other.into_fallible_iter(),
-        );
-        read_le(answer)
+        compare_read::<Self, I, ByPartialCmp, ReadLe>(self, other)
     }
 
     /// Whether this one is greater than the other, by `partial_cmp`; false where two items have no order.
@@ -1146,11 +1136,7 @@ pub trait FallibleIterator: Drop + Sized {
             I.IntoFallibleIter.contract.steps
             (λ a b. result ≡ read_as reads_gt (compared Self.Item.partial_cmp a b)) }
     {
-        let answer = compare::<Self, I::IntoFallibleIter, ByPartialCmp>(
-            self,
-            other.into_fallible_iter(),
-        );
-        read_gt(answer)
+        compare_read::<Self, I, ByPartialCmp, ReadGt>(self, other)
     }
 
     /// Whether this one is greater than the other or equal, by `partial_cmp`; false where two items have no order.
@@ -1171,11 +1157,7 @@ pub trait FallibleIterator: Drop + Sized {
             I.IntoFallibleIter.contract.steps
             (λ a b. result ≡ read_as reads_ge (compared Self.Item.partial_cmp a b)) }
     {
-        let answer = compare::<Self, I::IntoFallibleIter, ByPartialCmp>(
-            self,
-            other.into_fallible_iter(),
-        );
-        read_ge(answer)
+        compare_read::<Self, I, ByPartialCmp, ReadGe>(self, other)
     }
 
     /// Lets the next answer be looked at ahead: an item or an end that `peek` saw is held, and comes first. Making the adapter draws nothing, and holds nothing.

@@ -23,7 +23,6 @@ pub use Rattle.fallible_contract.specs.Searching
 pub use Rattle.fallible_contract.specs.Showing
 pub use Rattle.fallible_contract.specs.ShownTraces
 pub use Rattle.fallible_contract.specs.Traces
-pub use Rattle.fallible_contract.specs.declared.answers.Side
 pub use Rattle.fallible_contract.specs.WithSteps
 pub use Rattle.fallible_core.specs.Borrowed
 pub use Rattle.fallible_core.specs.Bridges
@@ -33,3 +32,4 @@ pub use Rattle.fallible_core.specs.Filtering
 pub use Rattle.fallible_core.specs.Joining
 pub use Rattle.fallible_core.specs.OneToOne
 pub use Rattle.fallible_core.specs.Peeking
+pub use Rattle.fallible_contract.specs.declared.answers.Side

@@ -2,19 +2,19 @@
 use Rattle.std.specs.Prelude.{◌≡◌, ◌↔◌, List, reverse, Option, Some, Result, Ok, All}
 use Rattle.std.specs.Borrow.{Bor}
 use Rattle.std.specs.Iterator.{YieldsFirst, YieldsLast}
-use Rattle.fallible_contract.specs.declared.answers.Side.{Side}
 use Rattle.fallible_contract.specs.Traces.{Answered}
 use Rattle.fallible_contract.specs.Closures.{Steady}
-use Rattle.fallible_contract.specs.declared.passing.Outcome.{Outcome}
 use Rattle.fallible_contract.specs.Lists.{Lists, Acts}
+use Rattle.fallible_contract.specs.BothEnds.{ListsBothEnds, RunAtEnds, Interleaves, items_listed, failures_listed, source_list, passed_list}
 use Rattle.fallible_core.specs.OneToOne.Map.{mapped}
 use Rattle.fallible_core.specs.OneToOne.MapErr.{failures_mapped}
 use Rattle.fallible_core.specs.OneToOne.Cloned.{pointed_to}
 use Rattle.fallible_core.specs.Joining.Chain.{chained}
-use Rattle.fallible_contract.specs.BothEnds.{ListsBothEnds, RunAtEnds, Interleaves, items_listed, failures_listed, source_list, passed_list}
+use Rattle.fallible_iterator.specs.Sources.Std.{element_by}
+use Rattle.fallible_contract.specs.declared.answers.Side.{Side}
+use Rattle.fallible_contract.specs.declared.passing.Outcome.{Outcome}
 use Rattle.fallible_core.specs.declared.joining.chain.StillDrawn.{StillDrawn}
 use Rattle.fallible_core.specs.declared.joining.chain.StillDrawn.TheVariants.{Both, FirstAlone, SecondAlone}
-use Rattle.fallible_iterator.specs.Sources.Std.{element_by}
 
 -- An adapter that calls a closure on each item: what becomes of each item by the closure's answer, where that answer stands beside the item, whatever state the calls bring the closure to; and the list function of what the closure acts as.
 pub record ListsByClosure {V S F X R B E : Type 0} (parts : V → S × Option F) (call : F → X → R → F → Type 0) (outcome : X → R → Outcome B E) (list : (X → R) → List (Result X E) → List (Result B E)) (lists_source : S → List (Result X E) → Type 0) (lists : V → List (Result B E) → Type 0) : Type 0 where

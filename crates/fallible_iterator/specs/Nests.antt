@@ -4,14 +4,14 @@ use Rattle.std.specs.Fn.{Mut}
 use Rattle.std.specs.Borrow.{Bor, MutBor}
 use Rattle.std.specs.Iterator.{Count}
 use Rattle.fallible_contract.specs.Traces.{Answered, Run}
-use Rattle.fallible_core.specs.declared.cutting.take.Take.{Take}
-use Rattle.fallible_core.specs.declared.one_to_one.map.Map.{Map}
-use Rattle.fallible_core.specs.declared.filtering.filter.Filter.{Filter}
 use Rattle.fallible_core.specs.Cutting.Take.{TakeTrace, take_left, take_source}
 use Rattle.fallible_core.specs.OneToOne.Map.{MapTrace, map_parts}
 use Rattle.fallible_core.specs.Filtering.Filter.{FilterTrace, filter_parts}
-use Rattle.fallible_iterator.specs.declared.sources.convert.Convert.{Convert}
 use Rattle.fallible_iterator.specs.Sources.Convert.{ConvertTrace, convert_parts}
+use Rattle.fallible_core.specs.declared.cutting.take.Take.{Take}
+use Rattle.fallible_core.specs.declared.one_to_one.map.Map.{Map}
+use Rattle.fallible_core.specs.declared.filtering.filter.Filter.{Filter}
+use Rattle.fallible_iterator.specs.declared.sources.convert.Convert.{Convert}
 
 -- A list of answers as a source: a draw takes its first. An adapter's definition over these steps, from a list to the empty one, is what it makes of that list.
 abbrev pub first_of : {A E : Type 0} → List (Answered A E) → Answered A E → List (Answered A E) → Type 0

@@ -1,19 +1,19 @@
 //! What a trace of each type is, as laws, and traces that a test or a caller can look at.
-pub mod borrowed;
+mod borrowed;
 mod bound;
-pub mod bridges;
-pub mod comparing;
+mod bridges;
+mod comparing;
 mod cutting;
-pub mod ends;
+mod ends;
 mod filtering;
 pub mod hints;
 mod joining;
-pub mod listed;
-pub mod nests;
+mod listed;
+mod nests;
 mod one_to_one;
 mod peeking;
-pub mod sources;
-pub mod traces;
+mod sources;
+mod traces;
 
 pub use borrowed::law_borrowed;
 pub use bound::{law_bound, law_bound_ends};

@@ -4,11 +4,9 @@ use Rattle.std.specs.Prelude.{replicate}
 use Rattle.std.specs.Io.KnownBytes.{Consumes, IsAtEnd}
 use Rattle.std.proofs.KnownBytes.{Consumes-nil, Consumes-trans, Consumes-kept}
 use Rattle.std.proofs.lemmas.List.Elements.{All-take}
+use Rattle.fallible_core.proofs.Lemmas.Callers.{no_item-end, no_item-failure, items_then_last, not_items_with}
 use Rattle.fallible_iterator.specs.Traces.{Answered, item, failure, end}
 use Rattle.fallible_iterator.specs.Folds.{CountExit}
-use Rattle.fallible_rows.specs.declared.fault.RowFault.{RowFault}
-use Rattle.fallible_rows.specs.declared.fault.RowFault.TheVariants.{Row, Read}
-use Rattle.fallible_rows.specs.declared.rows.Ahead.{Ahead}
 use Rattle.fallible_rows.specs.Reading.{GivesEnd}
 use Rattle.fallible_rows.specs.Rows.{rows}
 use Rattle.fallible_rows.specs.Report.{row_limit, line_of_count}
@@ -16,7 +14,9 @@ use Rattle.fallible_rows.specs.RowTraces.{told_place, row_answers, IsClosed, IsO
 use Rattle.fallible_rows.specs.Counting.{CountsPrefix}
 use Rattle.fallible_rows.proofs.ReportLemmas.{row_limit-is, above, is_taken, item_rows, refused_rows, no_end, tally-numbers, tally-refused, prefix_at_end, prefix_full, prefix_refused, prefix_refused_at_end}
 use Rattle.fallible_rows.proofs.ChainLemmas.{ReadsAtMost}
-use Rattle.fallible_core.proofs.Lemmas.Callers.{no_item-end, no_item-failure, items_then_last, not_items_with}
+use Rattle.fallible_rows.specs.declared.fault.RowFault.{RowFault}
+use Rattle.fallible_rows.specs.declared.fault.RowFault.TheVariants.{Row, Read}
+use Rattle.fallible_rows.specs.declared.rows.Ahead.{Ahead}
 
 abbrev Answers : Type 0
 Answers = List (Answered ℕ RowFault)

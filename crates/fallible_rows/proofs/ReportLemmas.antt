@@ -9,13 +9,13 @@ use Rattle.std.proofs.lemmas.List.{take_at, take_all, length_push}
 use Rattle.std.proofs.lemmas.List.Elements.{All-nil, All-cons, All-head, All-tail, All-take}
 use Rattle.std.proofs.lemmas.List.Sums.{sum_by-cons}
 use Rattle.fallible_iterator.specs.Traces.{Answered, item, failure, end}
-use Rattle.fallible_rows.specs.declared.fault.RowFault.{RowFault}
-use Rattle.fallible_rows.specs.declared.fault.RowFault.TheVariants.{Row}
 use Rattle.fallible_rows.specs.Rows.{rows, row_number}
 use Rattle.fallible_rows.specs.Report.{row_limit, first_rows, is_refused, is_above, unless_refused, tally, report, line_of_count}
 use Rattle.fallible_rows.specs.RowTraces.{told_place, answer_of_number, row_answer, row_answers, IsClosed}
 use Rattle.fallible_rows.specs.Run.{AreNumbers, but_last, ReadsPrefix}
 use Rattle.fallible_rows.proofs.RowLemmas.{rows-closed, rows-none}
+use Rattle.fallible_rows.specs.declared.fault.RowFault.{RowFault}
+use Rattle.fallible_rows.specs.declared.fault.RowFault.TheVariants.{Row}
 
 pub row_limit-is : row_limit ≡ 1000000
 unfolding row_limit

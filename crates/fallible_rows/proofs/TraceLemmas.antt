@@ -1,9 +1,13 @@
 -- Lemmas on what draws from the rows of a reader answer.
 use Rattle.std.proofs.Common.{◌↔◌, ◌≡◌, ◌≢◌, ℕ, ◌+◌, List, [], ◌∷◌, ◌++◌, Option, Some, None, refl, subst, ◌⊎◌, inl, inr}
 use Rattle.std.proofs.lemmas.List.Elements.{All-nil, All-cons, All-append}
+use Rattle.fallible_contract.proofs.Lemmas.LawForm.{traces_of_parts}
 use Rattle.fallible_iterator.specs.Traces.{Answered, Run, failure, end}
 use Rattle.fallible_iterator.specs.Laws.Closures.{turns_then}
-use Rattle.fallible_contract.proofs.Lemmas.LawForm.{traces_of_parts}
+use Rattle.fallible_rows.specs.Digits.{TellsOf, ClosesAs, ReadsRow}
+use Rattle.fallible_rows.specs.Reading.{GivesByte}
+use Rattle.fallible_rows.specs.RowTraces.{rows_parts, told_place, row_answer, IsOneRow, GivesBytes, DrawsRow}
+use Rattle.fallible_rows.proofs.RowLemmas.{not_newline}
 use Rattle.fallible_rows.specs.declared.fault.RowFault.{RowFault}
 use Rattle.fallible_rows.specs.declared.fault.RowFault.TheVariants.{Read}
 use Rattle.fallible_rows.specs.declared.digits.Digits.{Digits}
@@ -11,10 +15,6 @@ use Rattle.fallible_rows.specs.declared.rows.Ahead.{Ahead}
 use Rattle.fallible_rows.specs.declared.rows.Rows.{Rows}
 use Rattle.fallible_rows.specs.declared.rows.Close.{Close}
 use Rattle.fallible_rows.specs.declared.rows.Close.TheVariants.{Newline, End, Failure}
-use Rattle.fallible_rows.specs.Digits.{TellsOf, ClosesAs, ReadsRow}
-use Rattle.fallible_rows.specs.Reading.{GivesByte}
-use Rattle.fallible_rows.specs.RowTraces.{rows_parts, told_place, row_answer, IsOneRow, GivesBytes, DrawsRow}
-use Rattle.fallible_rows.proofs.RowLemmas.{not_newline}
 
 pub IsOneRow-more : (row : List ℕ) (byte : ℕ) → IsOneRow row → byte ≢ 10 → IsOneRow (row ++ byte ∷ [])
 IsOneRow-more row byte one other = All-append not_newline row (byte ∷ []) one (All-cons not_newline byte [] other (All-nil not_newline))

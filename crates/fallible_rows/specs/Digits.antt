@@ -1,12 +1,12 @@
 -- What is kept of the bytes of a row, and what a draw reads of one.
 use Rattle.std.specs.Prelude.{◌≡◌, ◌≢◌, ℕ, ◌+◌, ◌<◌, List, [], ◌++◌, length, Option, Some, None}
+use Rattle.fallible_rows.specs.Reading.{GivesByte, GivesEnd}
+use Rattle.fallible_rows.specs.Rows.{row_number}
+use Rattle.fallible_rows.specs.RowTraces.{IsOneRow, GivesBytes, MissesByte}
 use Rattle.fallible_rows.specs.declared.digits.Digits.{Digits}
 use Rattle.fallible_rows.specs.declared.digits.Digits.TheVariants.{Empty, Number, Refused}
 use Rattle.fallible_rows.specs.declared.rows.Close.{Close}
 use Rattle.fallible_rows.specs.declared.rows.Close.TheVariants.{Newline, End, Failure}
-use Rattle.fallible_rows.specs.Reading.{GivesByte, GivesEnd}
-use Rattle.fallible_rows.specs.Rows.{row_number}
-use Rattle.fallible_rows.specs.RowTraces.{IsOneRow, GivesBytes, MissesByte}
 
 -- it tells of the bytes that came so far: there are none; they are a number of so many digits; or they are none, whatever follows
 abbrev pub TellsOf : Digits → List ℕ → Type 0

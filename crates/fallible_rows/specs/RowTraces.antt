@@ -2,12 +2,12 @@
 use Rattle.std.specs.Prelude.{◌≡◌, ◌≢◌, ℕ, ◌+◌, ◌<◌, ◌≤◌, ◌⊎◌, min, List, [], ◌∷◌, ◌++◌, length, take, replicate, All, Option, Some, None, ⊤}
 use Rattle.std.specs.List.{FoldsTo}
 use Rattle.fallible_iterator.specs.Traces.{Answered, item, failure, end}
+use Rattle.fallible_rows.specs.Rows.{rows, row_number}
+use Rattle.fallible_rows.specs.Reading.{GivesByte, GivesEnd, FailsToRead}
 use Rattle.fallible_rows.specs.declared.fault.RowFault.{RowFault}
 use Rattle.fallible_rows.specs.declared.fault.RowFault.TheVariants.{Row, Read}
 use Rattle.fallible_rows.specs.declared.rows.Ahead.{Ahead}
 use Rattle.fallible_rows.specs.declared.rows.Rows.{Rows}
-use Rattle.fallible_rows.specs.Rows.{rows, row_number}
-use Rattle.fallible_rows.specs.Reading.{GivesByte, GivesEnd, FailsToRead}
 
 -- the parts of the rows of a reader: the reader, and how many bytes may be read and the place of the next row, until they end for good
 abbrev pub rows_parts : {B : Type 0} → Rows B → B × Option Ahead

@@ -4,9 +4,9 @@ use Rattle.std.proofs.Common.{refl, sym, ap, subst, arith}
 use Rattle.std.proofs.lemmas.List.{length-drop}
 use Rattle.fallible_iterator.specs.Traces.{Answered, end}
 use Rattle.fallible_iterator.specs.Lists.{AlwaysGives}
+use Rattle.fallible_uses.specs.Tables.{record_of, cut_of, records_then, records, DrawsRecord}
 use Rattle.fallible_uses.specs.declared.table.Record.{Record}
 use Rattle.fallible_uses.specs.declared.table.CutShort.{CutShort}
-use Rattle.fallible_uses.specs.Tables.{record_of, cut_of, records_then, records, DrawsRecord}
 
 none_left : (r : Answered Record CutShort) (rest : List ℕ) → DrawsRecord [] r rest → r ≡ end
 none_left (Ok (Some x)) rest w = absurd (let h = w.0 in omega (arith, h))

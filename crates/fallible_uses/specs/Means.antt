@@ -1,7 +1,7 @@
 -- What a mean is.
 use Rattle.std.specs.Prelude.{ℕ, ◌+◌, ◌%◌, ◌/◌, ◌^◌, zero, suc, Result, Ok, Some, None, List}
-use Rattle.std.specs.declared.option.Option.{Option}
 use Rattle.fallible_iterator.specs.Lists.{folded, on_value}
+use Rattle.std.specs.declared.option.Option.{Option}
 use Rattle.fallible_uses.specs.declared.generic.Sum.{Sum}
 
 -- the sum and the number with one item more, both modulo 2 ^ 64

@@ -1,9 +1,9 @@
 -- What a draw of rows from pages asks and answers.
 use Rattle.std.specs.Prelude.{◌≡◌, ℕ, ◌+◌, ◌%◌, ◌^◌, List, [], ◌∷◌, Result, Ok, Err}
 use Rattle.std.specs.Vec.Iter.{into_iter_items}
+use Rattle.fallible_iterator.specs.Traces.{Answered, item, failure, end}
 use Rattle.std.specs.declared.vec.IntoIter.{IntoIter}
 use Rattle.std.specs.declared.alloc.Global.{Global}
-use Rattle.fallible_iterator.specs.Traces.{Answered, item, failure, end}
 use Rattle.fallible_uses.specs.declared.pages.Cursor.{Cursor}
 use Rattle.fallible_uses.specs.declared.pages.PageRefused.{PageRefused}
 

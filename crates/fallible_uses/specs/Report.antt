@@ -1,12 +1,12 @@
 -- What a run over a table reads and writes.
 use Rattle.std.specs.Prelude.{◌≡◌, ℕ, List, [], ◌∷◌, ◌++◌, Option, Result, Ok, codes, decimal}
 use Rattle.std.specs.Io.KnownBytes.{Appends, Consumes, IsAtEnd}
+use Rattle.fallible_uses.specs.Tables.{totals_of}
 use Rattle.fallible_uses.specs.declared.table.TableFault.{TableFault}
 use Rattle.fallible_uses.specs.declared.table.TableFault.TheVariants.{Bad, Cut}
 use Rattle.fallible_uses.specs.declared.table.Totals.{Totals}
 use Rattle.fallible_uses.specs.declared.report.RunFault.{RunFault}
 use Rattle.fallible_uses.specs.declared.report.RunFault.TheVariants.{Table, Read, Memory, Write}
-use Rattle.fallible_uses.specs.Tables.{totals_of}
 
 -- the lines that tell the totals
 abbrev pub report_of : Totals → List ℕ

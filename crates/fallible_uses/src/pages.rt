@@ -3,8 +3,8 @@ ghost use Rattle.std.specs.Prelude.{◌≡◌, ℕ, List, Result, Option};
 ghost use Rattle.fallible_iterator.specs.Contract.{unbounded_contract, seen_as};
 ghost use Rattle.fallible_iterator.specs.Laws.Contract.{lawful_seen};
 ghost use Rattle.fallible_iterator.specs.Laws.BoundsRuns.{lawful_unbounded};
-ghost use Rattle.fallible_uses.specs.declared.pages.PageRefused.{PageRefused};
 ghost use Rattle.fallible_uses.specs.Pages.{rows_of, cursor_parts, at_start, DrawsRow};
+ghost use Rattle.fallible_uses.specs.declared.pages.PageRefused.{PageRefused};
 
 use fallible_iterator::FallibleIterator;
 use std::alloc::Global;

@@ -1,8 +1,8 @@
 //! The totals of a table that a reader gives, as lines of text.
 ghost use Rattle.std.specs.Prelude.{◌≡◌, ◌≢◌, Err, OnOk, OnErr, MatchResult};
 ghost use Rattle.std.specs.Io.KnownBytes.{Appends, Keeps};
-ghost use Rattle.fallible_uses.specs.declared.table.TableFault.{TableFault};
 ghost use Rattle.fallible_uses.specs.Report.{report_of, ReadsTable, WritesReport, status_of, line_of};
+ghost use Rattle.fallible_uses.specs.declared.table.TableFault.{TableFault};
 
 use crate::table::{TableFault, Totals, sum_up};
 use std::alloc::Global;

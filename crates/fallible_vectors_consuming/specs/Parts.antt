@@ -1,7 +1,5 @@
 -- Pairs of numbers, compared part by part.
 use Rattle.std.specs.Prelude.{◌≡◌, Bool, true, false, ◌&&◌, Option, Some, None, ◌==◌, ◌⊎◌}
-use Rattle.std.specs.declared.cmp.Ordering.{Ordering}
-use Rattle.std.specs.declared.cmp.Ordering.TheVariants.{Less, Equal, Greater}
 use Rattle.std.specs.Ordering.{nat_cmp, ordering_reverse, is_eq, is_gt, is_lt, is_some_and}
 use Rattle.std.specs.Cmp.{IsPartialOrder, IsTotalOrder, unsigned_ties, Equal-is, first_so, second_so}
 use Rattle.std.specs.Option.{option_map}
@@ -10,6 +8,8 @@ use Rattle.std.proofs.Math.Path.{refl, sym, ap, ◌∙◌}
 use Rattle.std.proofs.Common.{inl, inr}
 use Rattle.std.proofs.lemmas.Bool.{true≢false}
 use Rattle.std.proofs.lemmas.Cmp.{alike_right, upto, on_total, nat_cmp_total}
+use Rattle.std.specs.declared.cmp.Ordering.{Ordering}
+use Rattle.std.specs.declared.cmp.Ordering.TheVariants.{Less, Equal, Greater}
 use Rattle.fallible_vectors_consuming.specs.declared.parts.Parts.{Parts}
 
 -- Less where neither part is greater and one is less, greater the other way round, and equal where both are equal; else there is no order.

@@ -2,11 +2,11 @@
 use Rattle.std.specs.Prelude.{◌≡◌, ℕ, ◌+◌, ◌≤◌, List, [], ◌∷◌, Some, None, Ok, Err}
 use Rattle.std.proofs.Common.{arith}
 use Rattle.fallible_contract.specs.Traces.{Answered, Run, item, end, items_in}
-use Rattle.fallible_contract.specs.declared.answers.Side.{Side}
-use Rattle.fallible_contract.specs.declared.answers.Side.TheVariants.{Front, Back}
 use Rattle.fallible_contract.specs.Contract.{Contract, Lawful}
 use Rattle.fallible_contract.specs.Ends.{Ends, LawfulEnds}
 use Rattle.fallible_contract.specs.BothEnds.{step_at, RunAtEnds, answers_drawn}
+use Rattle.fallible_contract.specs.declared.answers.Side.{Side}
+use Rattle.fallible_contract.specs.declared.answers.Side.TheVariants.{Front, Back}
 
 module _ {S A E : Type 0} {m : Contract S A E} (l : Lawful m) where
   pub items_at_most : (trace : List (Answered A E)) (s t : S) (n : ℕ) → m.can_next s → m.bound s n → Run m.steps s trace t → items_in trace ≤ n

@@ -1,16 +1,16 @@
 -- What a fold makes that carries a collection, and `collect` by it.
 pub mod Keyed
 use Rattle.std.specs.Prelude.{◌≡◌, List, [], ◌∷◌, ◌++◌, map, Some, None, Ok, Err}
-use Rattle.std.specs.declared.ops.ControlFlow.{ControlFlow}
-use Rattle.std.specs.declared.ops.ControlFlow.TheVariants.{Continue, Break}
 use Rattle.std.specs.List.{FoldsTo}
-use Rattle.std.specs.declared.alloc.AllocError.{AllocError}
 use Rattle.std.proofs.Common.{refl, sym, ap, subst, append_assoc, append-nil}
-use Rattle.fallible_contract.specs.declared.folds.Exit.{Exit}
-use Rattle.fallible_contract.specs.declared.folds.Exit.TheVariants.{Ended, Failed, Stopped}
 use Rattle.fallible_contract.specs.Traces.{Answered, Run, item}
 use Rattle.fallible_contract.specs.Folds.{CarryingExit, Carried}
 use Rattle.fallible_contract.specs.Collecting.{CollectsAll, FailsWith, RefusesItem, IsCollectTurn, MadeOfParts, PairRefused, IsUnzipTurn}
+use Rattle.std.specs.declared.ops.ControlFlow.{ControlFlow}
+use Rattle.std.specs.declared.ops.ControlFlow.TheVariants.{Continue, Break}
+use Rattle.std.specs.declared.alloc.AllocError.{AllocError}
+use Rattle.fallible_contract.specs.declared.folds.Exit.{Exit}
+use Rattle.fallible_contract.specs.declared.folds.Exit.TheVariants.{Ended, Failed, Stopped}
 
 -- Turns that go on add the item to what is made; one that stops with q stops as `stops` says.
 module _ {A C R : Type 0} (made : List A → C → Type 0) (turns : C → A → ControlFlow R C → Type 0)

@@ -1,11 +1,11 @@
 -- Comparisons, one round at a time.
 use Rattle.std.specs.Prelude.{◌≡◌, ◌↔◌, ℕ, ◌+◌, ◌≤◌, ◌<◌, ◌⊎◌, [], ◌∷◌, Option, Some, None, Result, Ok, Err}
-use Rattle.std.specs.declared.cmp.Ordering.{Ordering}
-use Rattle.std.specs.declared.cmp.Ordering.TheVariants.{Less, Equal, Greater}
 use Rattle.std.proofs.Common.{refl, sym, ap, subst, ◌∙◌, arith, inl, inr}
 use Rattle.fallible_contract.specs.Traces.{Answered, item}
 use Rattle.fallible_contract.specs.Contract.{Contract, Fewer}
 use Rattle.fallible_contract.specs.Comparing.{OneOf, LastRound, Compared, ComparedWith, by_cmp, unless_equal, decided}
+use Rattle.std.specs.declared.cmp.Ordering.{Ordering}
+use Rattle.std.specs.declared.cmp.Ordering.TheVariants.{Less, Equal, Greater}
 
 module _ {S T A E : Type 0} {rule : A → A → Option Ordering} {left-steps : S → Answered A E → S → Type 0} {right-steps : T → Answered A E → T → Type 0} {s : S} {t : T} where
   -- a round of two equal items, and then the rest
@@ -77,11 +77,7 @@ module _ {S T A B E D : Type 0} (m : Contract S A E) (o : Contract T B D) where
   abbrev pub EitherAtMost : S → T → ℕ → Type 0
   EitherAtMost s t k = ((n : ℕ) × m.bound s n × (n ≤ k)) ⊎ ((n : ℕ) × o.bound t n × (n ≤ k))
 
-  -- a round of two items is one of those, and there is one less after it
-  pub either_positive : (s u : S) (t v : T) (k : ℕ) → Fewer m s u → Fewer o t v → EitherAtMost s t k → 0 < k
-  either_positive s u t v k p q (inl b) = let f = p b.0 b.1 in omega (arith, f.2, b.2)
-  either_positive s u t v k p q (inr b) = let f = q b.0 b.1 in omega (arith, f.2, b.2)
-
+  -- after a round of two items there is one less
   pub either_fewer : (s u : S) (t v : T) (k j : ℕ) → Fewer m s u → Fewer o t v → j + 1 ≡ k → EitherAtMost s t k → EitherAtMost u v j
   either_fewer s u t v k j p q e (inl b) = let f = p b.0 b.1 in inl (f.0, f.1, omega (arith, f.2, b.2, e))
   either_fewer s u t v k j p q e (inr b) = let f = q b.0 b.1 in inr (f.0, f.1, omega (arith, f.2, b.2, e))

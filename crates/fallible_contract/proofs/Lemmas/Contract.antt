@@ -2,12 +2,12 @@
 use Rattle.std.specs.Prelude.{ℕ, ◌≤◌, List, [], ◌∷◌, Some, None, Ok, Err}
 use Rattle.std.proofs.Common.{arith, subst, inl, inr, ◌∙◌}
 use Rattle.fallible_contract.specs.Traces.{Answered, Yields, item}
-use Rattle.fallible_contract.specs.declared.answers.Side.{Side}
-use Rattle.fallible_contract.specs.declared.answers.Side.TheVariants.{Front, Back}
 use Rattle.fallible_contract.specs.Contract.{Contract, AtMost, OnAnswer, KeptByDraw, Stays, Lawful}
 use Rattle.fallible_contract.specs.Ends.{Ends, from_front, from_back, LawfulEnds}
 use Rattle.fallible_contract.specs.BothEnds.{step_at}
 use Rattle.fallible_contract.specs.Laws.Contract.{no_more_then, stays_after, stays_here}
+use Rattle.fallible_contract.specs.declared.answers.Side.{Side}
+use Rattle.fallible_contract.specs.declared.answers.Side.TheVariants.{Front, Back}
 
 module _ {S A E : Type 0} (m : Contract S A E) where
   -- where at most k items are still to come, a bound says so

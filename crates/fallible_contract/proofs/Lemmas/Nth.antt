@@ -1,12 +1,12 @@
 -- `nth`, one draw at a time, and as one fold.
 use Rattle.std.specs.Prelude.{◌≡◌, ℕ, suc, ◌+◌, ◌≤◌, length, List, [], ◌∷◌, ◌++◌, map, Some, None, Ok, Err}
-use Rattle.std.specs.declared.ops.ControlFlow.{ControlFlow}
-use Rattle.std.specs.declared.ops.ControlFlow.TheVariants.{Break}
 use Rattle.std.specs.List.{FoldsTo}
 use Rattle.std.proofs.Common.{refl, sym, subst, arith}
-use Rattle.fallible_contract.specs.declared.folds.Exit.{Exit}
 use Rattle.fallible_contract.specs.Traces.{Answered, Run, item}
 use Rattle.fallible_contract.specs.Folds.{carrying_turn, CarryingExit, Carried, NthExit, Nth, IsNthTurn, reached_at}
+use Rattle.std.specs.declared.ops.ControlFlow.{ControlFlow}
+use Rattle.std.specs.declared.ops.ControlFlow.TheVariants.{Break}
+use Rattle.fallible_contract.specs.declared.folds.Exit.{Exit}
 
 exit_more : {A E : Type 0} (n k skipped : ℕ) (r : Answered A E) → k ≡ n + 1 → NthExit n skipped r → NthExit k (suc skipped) r
 exit_more n k skipped (Ok (Some x)) e h = omega (arith, e, h)

@@ -1,13 +1,13 @@
 -- The folds of a type that hands them on to a value it holds: `view` is that value, and `put` has another one in its place.
 use Rattle.std.specs.Prelude.{◌≡◌, ℕ, Option, List, [], ◌∷◌, ◌++◌, map, Result}
-use Rattle.std.specs.declared.ops.ControlFlow.{ControlFlow}
 use Rattle.std.specs.List.{FoldsTo}
 use Rattle.std.proofs.Common.{refl, sym, subst}
-use Rattle.fallible_contract.specs.declared.folds.Exit.{Exit}
 use Rattle.fallible_contract.specs.Traces.{Answered, Yields, item}
 use Rattle.fallible_contract.specs.Contract.{Contract, Stays, seen_as}
 use Rattle.fallible_contract.specs.Folds.{HoldsAtEachTurn, Carried, Counted, LastOf, Nth}
 use Rattle.fallible_contract.specs.Searching.{Searched}
+use Rattle.std.specs.declared.ops.ControlFlow.{ControlFlow}
+use Rattle.fallible_contract.specs.declared.folds.Exit.{Exit}
 
 module _ {S P : Type 0} (view : S → P) (put : S → P → S) (viewed : (s : S) (p : P) → view (put s p) ≡ p) where
   -- answers of the held value and a last one are answers of the whole

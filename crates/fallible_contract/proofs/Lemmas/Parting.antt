@@ -1,17 +1,17 @@
 -- `partition` by the fold that carries the closure and a reference to both collections.
 use Rattle.std.specs.Prelude.{◌≡◌, Bool, true, false, cond, List, [], ◌∷◌, ◌++◌, Result, Ok, Err}
-use Rattle.std.specs.declared.ops.ControlFlow.TheVariants.{Continue}
 use Rattle.std.specs.List.{FoldsTo}
 use Rattle.std.specs.Borrow.{MutBor}
 use Rattle.std.proofs.Common.{refl, sym, ap, ◌∙◌, subst, inl, inr}
-use Rattle.fallible_contract.specs.declared.folds.Exit.TheVariants.{Ended, Failed, Stopped}
-use Rattle.fallible_contract.specs.declared.collecting.Fault.{Fault}
-use Rattle.fallible_contract.specs.declared.collecting.Fault.TheVariants.{Source, Memory}
 use Rattle.fallible_contract.specs.Traces.{Answered}
 use Rattle.fallible_contract.specs.Folds.{HoldsAtEachTurn, CallableCarrying, Carried}
 use Rattle.fallible_contract.proofs.Lemmas.Folds.{callable_behind, ended_behind, failed_behind, stopped_behind}
 use Rattle.fallible_contract.proofs.Lemmas.Collecting.{gathered_all, gathered_failed, gathered_stopped, parts_more}
 use Rattle.fallible_contract.specs.Collecting.{answered_true, answered_false, Parts, ClosureFails, SideRefuses, IsPartitionTurn, IsPartitionTurnBehind, Asks, Partitions}
+use Rattle.std.specs.declared.ops.ControlFlow.TheVariants.{Continue}
+use Rattle.fallible_contract.specs.declared.folds.Exit.TheVariants.{Ended, Failed, Stopped}
+use Rattle.fallible_contract.specs.declared.collecting.Fault.{Fault}
+use Rattle.fallible_contract.specs.declared.collecting.Fault.TheVariants.{Source, Memory}
 
 true_more : {A : Type 0} (ps : List (A × Bool)) (x : A) (v : Bool) → cond v (answered_true ps ++ x ∷ []) (answered_true ps) ≡ answered_true (ps ++ (x, v) ∷ [])
 true_more [] x true = refl

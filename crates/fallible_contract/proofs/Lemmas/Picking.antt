@@ -2,8 +2,6 @@
 use Rattle.std.specs.Prelude.{◌≡◌, List, [], ◌∷◌, ◌++◌, map, drop, Bool, true, false, cond, Option, Some, None, IsSomeAnd, Result, Ok, Err}
 use Rattle.std.specs.List.{FoldsTo, last_or, zip}
 use Rattle.std.specs.Cmp.{IsTotalOrder, upto}
-use Rattle.std.specs.declared.cmp.Ordering.{Ordering}
-use Rattle.std.specs.declared.cmp.Ordering.TheVariants.{Less, Equal, Greater}
 use Rattle.std.specs.Ordering.{ordering_reverse, is_gt}
 use Rattle.std.proofs.Common.{refl, sym, ap, subst, ◌∙◌, append_assoc, append-nil}
 use Rattle.fallible_contract.specs.Traces.{Answered, Run, item}
@@ -12,6 +10,8 @@ use Rattle.fallible_contract.specs.Folds.{went_on_with, FoldExit, Folded}
 use Rattle.fallible_contract.specs.Lists.{Lists, Acts, ActsWith, on_value, pick_of, best_by, greatest, least, key_of, best_by_key}
 use Rattle.fallible_contract.specs.Picking.{same_order, better, better_key, PickCall, KeyCall, item_of, OfEach, IsLastBest, IsBestOf, BestExit, Best, KeyExit, BestByKey, NextBests, Bests, PickExit, PickedByFold, Picked}
 use Rattle.fallible_contract.proofs.Lemmas.Lists.Drawn.{folded_is}
+use Rattle.std.specs.declared.cmp.Ordering.{Ordering}
+use Rattle.std.specs.declared.cmp.Ordering.TheVariants.{Less, Equal, Greater}
 
 -- `keeps` is `Greater` or `Less`
 abbrev pub Keeps : Ordering → Type 0

@@ -1,16 +1,16 @@
 -- Searches by the fold that carries the closure.
 use Rattle.std.specs.Prelude.{◌≡◌, ℕ, ◌+◌, ◌<◌, length, List, [], ◌∷◌, Bool, Option, Some, None, Result, Ok, Err, ⊤}
-use Rattle.std.specs.declared.ops.ControlFlow.{ControlFlow}
-use Rattle.std.specs.declared.ops.ControlFlow.TheVariants.{Continue, Break}
 use Rattle.std.specs.List.{FoldsTo}
 use Rattle.std.proofs.Common.{refl, sym, ap, subst, arith}
-use Rattle.fallible_contract.specs.declared.folds.Exit.{Exit}
-use Rattle.fallible_contract.specs.declared.folds.Exit.TheVariants.{Ended, Failed, Stopped}
 use Rattle.fallible_contract.specs.Traces.{Answered}
 use Rattle.fallible_contract.specs.Contract.{Contract, AtMost, Lawful}
 use Rattle.fallible_contract.specs.Folds.{HoldsAtEachTurn, carrying_turn, CarryingExit, Carried, stopped_answer, unpacked}
 use Rattle.fallible_contract.proofs.Lemmas.Folds.{count_fits, turns_map}
 use Rattle.fallible_contract.specs.Searching.{Passed, Decided, IsSearchTurn, IsPositionTurn, SearchExit, CallableInSearch, Searched, find_pick, IsFindTurn, answer_by}
+use Rattle.std.specs.declared.ops.ControlFlow.{ControlFlow}
+use Rattle.std.specs.declared.ops.ControlFlow.TheVariants.{Continue, Break}
+use Rattle.fallible_contract.specs.declared.folds.Exit.{Exit}
+use Rattle.fallible_contract.specs.declared.folds.Exit.TheVariants.{Ended, Failed, Stopped}
 
 -- `At n c`: c is carried after n items. `closure c` is the closure in it.
 module _ {A E F V R C : Type 0} (call : F → A → Result V E → F → Type 0) (pick : ℕ → A → V → Option R) (turns : C → A → ControlFlow (Result R E) C → Type 0) (closure : C → F) (At : ℕ → C → Type 0)
@@ -55,23 +55,6 @@ module _ {A E F V R : Type 0} (call : F → A → Result V E → F → Type 0) (
 
   pub placed_callable : {S : Type 0} {m : Contract S A E} {takes : F → A → Type 0} {s : S} {f : F} (k : ℕ) → Lawful m → m.can_next s → AtMost m s k → CallableInSearch call pick m.steps takes s f → HoldsAtEachTurn {C = ℕ × F} m.steps (λ c x d. IsPositionTurn call pick c x (Continue d)) (λ c x. takes c.1 x × (c.0 < k)) s (0, f)
   placed_callable {f = f} k l c b h = record { at = λ items t u p x ran went step. let w = placed_apart items (0, f) p went in (h.at items t u p.1 x ran w.1 step, (count_fits k l c b).at items t u p.0 x ran w.0 step) }
-
--- what holds of a search by one kind of calls holds of it by a wider kind
-module _ {A E F V R : Type 0} (call wider : F → A → Result V E → F → Type 0) (pick : ℕ → A → V → Option R) (widen : (f : F) (x : A) (v : Result V E) (g : F) → call f x v g → wider f x v g) where
-  decided_map : (n : ℕ) (f : F) (x : A) (r : Result R E) (g : F) → Decided call pick n f x r g → Decided wider pick n f x r g
-  decided_map n f x (Ok z) g d = (d.0, widen f x (Ok d.0) g d.1, d.2)
-  decided_map n f x (Err e) g d = widen f x (Err e) g d
-
-  exit_map : (none : R) (n : ℕ) (f : F) (last : Answered A E) (r : Result R E) (g : F) → SearchExit call pick none n f last r g → SearchExit wider pick none n f last r g
-  exit_map none n f (Ok None) r g e = e
-  exit_map none n f (Err d) r g e = e
-  exit_map none n f (Ok (Some x)) r g e = decided_map n f x r g e
-
-  passed_map : (f : F) (x : A) (g : F) → Passed call pick f x g → Passed wider pick f x g
-  passed_map f x g w = (w.0, widen f x (Ok w.0) g w.1, w.2)
-
-pub searched_map : {S A E F V R : Type 0} {steps : S → Answered A E → S → Type 0} {call wider : F → A → Result V E → F → Type 0} {pick : ℕ → A → V → Option R} {none : R} {s t : S} {f g : F} {r : Result R E} → Searched call pick steps none s f r t g → ((f : F) (x : A) (v : Result V E) (g : F) → call f x v g → wider f x v g) → Searched wider pick steps none s f r t g
-searched_map {call = call} {wider = wider} {pick = pick} {none = none} {f = f} {g = g} {r = r} h widen = record { items = h.items; last = h.last; closure = h.closure; ran = h.ran; went = turns_map (passed_map call wider pick widen) h.items f h.closure h.went; exit = exit_map call wider pick widen none (length h.items) h.closure h.last r g h.exit }
 
 -- `find`, whose fold stops at the item, and hands back what it carried
 module _ {A E C : Type 0} (tests : C → A → Result Bool E → C → Type 0) (turns : C → A → ControlFlow (C × Result A E) C → Type 0)

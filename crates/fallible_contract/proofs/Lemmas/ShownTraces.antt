@@ -2,13 +2,13 @@
 use Rattle.std.specs.Prelude.{◌≡◌, ℕ, ◌+◌, ◌≤◌, List, [], ◌∷◌, ◌++◌, map, length, take, Result}
 use Rattle.std.proofs.Common.{refl, sym, ◌∙◌, ap, length-append, arith}
 use Rattle.std.proofs.lemmas.List.{map-append}
-use Rattle.fallible_contract.specs.declared.answers.Answer.{Answer}
-use Rattle.fallible_contract.specs.declared.answers.Side.{Side}
 use Rattle.fallible_contract.specs.Traces.{Answered, Run}
 use Rattle.fallible_contract.specs.ShownTraces.{answer_of, IsAnswers, IsAnswersAt, answers_of}
 use Rattle.fallible_contract.specs.Lists.{AlwaysGives, Lists}
 use Rattle.fallible_contract.specs.BothEnds.{step_at}
 use Rattle.fallible_contract.specs.Laws.Closures.{turns_then}
+use Rattle.fallible_contract.specs.declared.answers.Answer.{Answer}
+use Rattle.fallible_contract.specs.declared.answers.Side.{Side}
 
 pub one_more_answer : {S A E : Type 0} {steps : S → Answered A E → S → Type 0} {s t u : S} {n : ℕ} {values : List (Answer A E)} {r : Answered A E} → IsAnswers steps s n values t → steps t r u → IsAnswers steps s (n + 1) (values ++ answer_of r ∷ []) u
 one_more_answer {s = s} {t = t} {u = u} {n = n} {r = r} p step = record {
@@ -17,9 +17,6 @@ one_more_answer {s = s} {t = t} {u = u} {n = n} {r = r} p step = record {
   values_are = ap (λ l. l ++ answer_of r ∷ []) p.values_are ∙ sym (map-append answer_of p.trace (r ∷ []));
   count = length-append p.trace (r ∷ []) ∙ ap (λ k. k + 1) p.count;
 }
-
-pub no_answers : {S A E : Type 0} {steps : S → Answered A E → S → Type 0} {s : S} → IsAnswers steps s 0 [] s
-no_answers = record { trace = []; ran = refl; values_are = refl; count = refl }
 
 -- draws from both ends
 

@@ -1,12 +1,12 @@
 -- What std's sets and maps are made of: which of equal items they keep.
 use Rattle.std.specs.Prelude.{◌≡◌, Bool, List, map, Option}
 use Rattle.std.specs.List.{find}
-use Rattle.std.specs.declared.cmp.Ordering.{Ordering}
 use Rattle.std.specs.Ordering.{eq_by_cmp}
 use Rattle.std.specs.BTreeSet as sorted
 use Rattle.std.specs.BTreeMap as tree
 use Rattle.std.specs.HashSet as bag
 use Rattle.std.specs.HashMap as hash
+use Rattle.std.specs.declared.cmp.Ordering.{Ordering}
 
 -- What is stored for any query is the first of the items that is equal to it.
 abbrev pub FirstStays : {K : Type 0} → (K → K → Bool) → List K → (K → Option K) → Type 0

@@ -3,11 +3,11 @@ use Rattle.std.specs.Prelude.{ℕ, Option}
 use Rattle.std.proofs.Common.{inl, inr}
 use Rattle.fallible_contract.specs.Contract.{Contract, seen_as}
 use Rattle.fallible_contract.specs.Ends.{Ends, from_front, from_back, ends_of, ends_seen_as, LawfulEnds}
-use Rattle.fallible_contract.specs.declared.passing.Outcome.{Outcome}
 use Rattle.fallible_contract.specs.Passing.{passing_contract, leaving_out_contract}
 use Rattle.fallible_contract.specs.Laws.Contract.{lawful_seen}
 use Rattle.fallible_contract.specs.Laws.Closures.{reaches_here, may_answer_after}
 use Rattle.fallible_contract.specs.Laws.Passing.{StaysCallable, lawful_passing, lawful_leaving_out}
+use Rattle.fallible_contract.specs.declared.passing.Outcome.{Outcome}
 
 -- a type whose values are seen as those of another
 pub lawful_ends_seen : {S P A E : Type 0} {m : Contract P A E} {e : Ends P A E} (view : S → P) → LawfulEnds m e → LawfulEnds (seen_as view m) (ends_seen_as view e)

@@ -4,12 +4,12 @@ use Rattle.std.specs.List.{filter_map, cons_option}
 use Rattle.std.proofs.Common.{refl, sym, ap, subst, arith, inl, inr}
 use Rattle.fallible_contract.specs.Traces.{LastKept, Answered, Run, item}
 use Rattle.fallible_contract.specs.Contract.{Contract, OnAnswer, KeptByDraw, Lawful, Stays}
-use Rattle.fallible_contract.specs.declared.passing.Outcome.{Outcome}
-use Rattle.fallible_contract.specs.declared.passing.Outcome.TheVariants.{Kept, LeftOut, Failure, End}
 use Rattle.fallible_contract.specs.Passing.{PassTrace, passing_contract, leaving_out_contract, Place, asked, failure_at, end_at, source_answer, call_of, outcome_answer, answer_at, has_answer}
 use Rattle.fallible_contract.specs.Closures.{Calls, Reaches}
 use Rattle.fallible_contract.specs.Laws.Contract.{stays_run}
 use Rattle.fallible_contract.specs.Laws.Closures.{reaches_here, reaches_weaken, reaches_from, may_answer_here, may_answer_after}
+use Rattle.fallible_contract.specs.declared.passing.Outcome.{Outcome}
+use Rattle.fallible_contract.specs.declared.passing.Outcome.TheVariants.{Kept, LeftOut, Failure, End}
 
 module _ {S F X R B E : Type 0} (steps : S → Answered X E → S → Type 0) (call : F → X → R → F → Type 0) (outcome : X → R → Outcome B E) where
   -- the same as `PassTrace`, built from the first answer on

@@ -1,14 +1,14 @@
 -- The runs of a borrowed fallible iterator are those of the one behind it.
 use Rattle.std.specs.Prelude.{◌≡◌, ℕ, Result, List, [], ◌∷◌, ◌++◌, map}
 use Rattle.std.specs.Borrow.{MutBor}
-use Rattle.std.specs.declared.boxed.Box.{Box}
-use Rattle.std.specs.declared.alloc.Global.{Global}
 use Rattle.std.proofs.Common.{refl, ap}
 use Rattle.fallible_contract.specs.Traces.{Answered, Run, item}
 use Rattle.fallible_contract.specs.Contract.{Contract}
 use Rattle.fallible_contract.specs.Folds.{Nth}
-use Rattle.fallible_core.specs.Borrowed.{borrowed}
 use Rattle.fallible_contract.specs.Lists.{AlwaysGives, Lists}
+use Rattle.fallible_core.specs.Borrowed.{borrowed}
+use Rattle.std.specs.declared.boxed.Box.{Box}
+use Rattle.std.specs.declared.alloc.Global.{Global}
 
 module _ {S A E : Type 0} (steps : S → Answered A E → S → Type 0) where
   abbrev behind : MutBor S → Answered A E → MutBor S → Type 0

@@ -8,17 +8,18 @@ use Rattle.fallible_contract.specs.Contract.{Contract, Lawful, AtMost, seen_as}
 use Rattle.fallible_contract.specs.Closures.{call_at, call_in}
 use Rattle.fallible_contract.specs.Lists.{Acts}
 use Rattle.fallible_contract.specs.Folds.{HoldsAtEachTurn, CountExit, FoldExit, Folded}
-use Rattle.fallible_contract.specs.declared.passing.Outcome.{Outcome}
-use Rattle.fallible_contract.specs.declared.passing.Outcome.TheVariants.{Kept, LeftOut, Failure, End}
 use Rattle.fallible_contract.specs.Passing.{PassTrace}
 use Rattle.fallible_contract.specs.Laws.Passing.{Passes, done, ends, fails, keeps, refuses, closes, leaves_out, to_passes}
 use Rattle.fallible_contract.proofs.Lemmas.LawForm.{runs_by_answers}
+use Rattle.fallible_contract.proofs.Lemmas.Lists.Passing.{acts_in_slot}
 use Rattle.fallible_contract.proofs.Lemmas.Folds.{count_fits}
 use Rattle.fallible_contract.proofs.Lemmas.Passing.{passing_by_answers}
+use Rattle.fallible_core.specs.Cutting.Take.{take_step, take_contract, take_parts}
+use Rattle.fallible_core.specs.Filtering.Filter.{tested_outcome, filter_contract, filter_parts}
+use Rattle.fallible_contract.specs.declared.passing.Outcome.{Outcome}
+use Rattle.fallible_contract.specs.declared.passing.Outcome.TheVariants.{Kept, LeftOut, Failure, End}
 use Rattle.fallible_core.specs.declared.cutting.take.Take.{Take}
 use Rattle.fallible_core.specs.declared.filtering.filter.Filter.{Filter}
-use Rattle.fallible_core.specs.Cutting.Take.{take_step, take_contract, take_parts}
-use Rattle.fallible_core.specs.Filtering.Filter.{filter_outcome, filter_contract, filter_parts}
 
 -- ---- traces
 
@@ -88,19 +89,19 @@ callable_counting {f = f} k counts below l c b = record { at = λ items t u d x 
 -- ---- `Filter`
 
 module _ {X E : Type 0} where
-  is_kept : (x y : X) (b : Bool) → filter_outcome {E = E} x (Ok b) ≡ Kept y → (b ≡ true) × (x ≡ y)
+  is_kept : (x y : X) (b : Bool) → tested_outcome {E = E} x (Ok b) ≡ Kept y → (b ≡ true) × (x ≡ y)
   is_kept x y true e = (refl, cc)
   is_kept x y false e = absurd cc
 
-  is_left_out : (x : X) (b : Bool) → filter_outcome {E = E} x (Ok b) ≡ LeftOut → b ≡ false
+  is_left_out : (x : X) (b : Bool) → tested_outcome {E = E} x (Ok b) ≡ LeftOut → b ≡ false
   is_left_out x true e = absurd cc
   is_left_out x false e = refl
 
-  not_failed : (x : X) (b : Bool) (e : E) → filter_outcome x (Ok b) ≡ Failure e → ⊥
+  not_failed : (x : X) (b : Bool) (e : E) → tested_outcome x (Ok b) ≡ Failure e → ⊥
   not_failed x true e h = cc
   not_failed x false e h = cc
 
-  not_end : (x : X) (b : Bool) → filter_outcome {E = E} x (Ok b) ≡ End → ⊥
+  not_end : (x : X) (b : Bool) → tested_outcome {E = E} x (Ok b) ≡ End → ⊥
   not_end x true h = cc
   not_end x false h = cc
 
@@ -114,10 +115,10 @@ module _ {S F X E : Type 0} (steps : S → Answered X E → S → Type 0) (call 
   abbrev Below : S → List X → Answered X E → S → Type 0
   Below s xs last t = FilteredRun steps h s xs last t
 
-  passes_none : {s t : S} {f g : F} → Passes steps call filter_outcome s f [] t g → s ≡ t
+  passes_none : {s t : S} {f g : F} → Passes steps call tested_outcome s f [] t g → s ≡ t
   passes_none done = refl
 
-  last_below : (s u t : S) (f g : F) (z last : Answered X E) (rest : List (Answered X E)) → z ∷ rest ≡ last ∷ [] → steps s z u → Passes steps call filter_outcome u f rest t g → Below s [] last t
+  last_below : (s u t : S) (f g : F) (z last : Answered X E) (rest : List (Answered X E)) → z ∷ rest ≡ last ∷ [] → steps s z u → Passes steps call tested_outcome u f rest t g → Below s [] last t
   last_below s u t f g z last [] e step p = record { items = []; ran = (t, (let at : u ≡ t = passes_none p in let is : z ≡ last = cc in subst (λ (v : S). steps s last v) at (subst (λ (q : Answered X E). steps s q u) is step)), refl); are = refl }
   last_below s u t f g z last (r ∷ rest) e step p = absurd cc
 
@@ -127,10 +128,10 @@ module _ {S F X E : Type 0} (steps : S → Answered X E → S → Type 0) (call 
   left_below : (s u t : S) (x : X) (xs : List X) (last : Answered X E) → h x ≡ false → steps s (item x) u → Below u xs last t → Below s xs last t
   left_below s u t x xs last is step b = record { items = x ∷ b.items; ran = (u, step, b.ran); are = b.are ∙ ap (λ c. cond c (x ∷ filter h b.items) (filter h b.items)) (sym is) }
 
-  answers_as : (o : Outcome X E) (f g : F) (x : X) (v : Result Bool E) → f ≡ fixed → call f x v g → filter_outcome x v ≡ o → filter_outcome x (Ok (h x)) ≡ o
-  answers_as o f g x v at called is = ap (filter_outcome x) (sym (acts f x v g at called).1) ∙ is
+  answers_as : (o : Outcome X E) (f g : F) (x : X) (v : Result Bool E) → f ≡ fixed → call f x v g → tested_outcome x v ≡ o → tested_outcome x (Ok (h x)) ≡ o
+  answers_as o f g x v at called is = ap (tested_outcome x) (sym (acts f x v g at called).1) ∙ is
 
-  below_passes : (xs : List X) (last : Answered X E) (s t : S) (f g : F) (trace : List (Answered X E)) → f ≡ fixed → trace ≡ map item xs ++ last ∷ [] → Passes steps call filter_outcome s f trace t g → Below s xs last t
+  below_passes : (xs : List X) (last : Answered X E) (s t : S) (f g : F) (trace : List (Answered X E)) → f ≡ fixed → trace ≡ map item xs ++ last ∷ [] → Passes steps call tested_outcome s f trace t g → Below s xs last t
   below_passes [] last s t f g _ at e done = absurd cc
   below_passes (x ∷ xs) last s t f g _ at e done = absurd cc
   below_passes [] last s t f g _ at e (ends {u = u} step p) = last_below s u t f g end last _ e step p
@@ -143,19 +144,17 @@ module _ {S F X E : Type 0} (steps : S → Answered X E → S → Type 0) (call 
   below_passes xs last s t f g _ at e (closes {h = j} x v step called is p) = absurd (not_end x (h x) (answers_as End f j x v at called is))
   below_passes xs last s t f g trace at e (leaves_out {u = u} {h = j} x v step called is p) = left_below s u t x xs last (is_left_out x (h x) (answers_as LeftOut f j x v at called is)) step (below_passes xs last u t j g trace (acts f x v j at called).0 e p)
 
-  pub below_run : (xs : List X) (last : Answered X E) (p q : S × F) → p.1 ≡ fixed → Run (λ p r q. PassTrace steps call filter_outcome p (r ∷ []) q) p (map item xs ++ last ∷ []) q → Below p.0 xs last q.0
-  below_run xs last p q at ran = below_passes xs last p.0 q.0 p.1 q.1 _ at refl (to_passes ((runs_by_answers _ (passing_by_answers steps call filter_outcome) p _ q).0 ran))
+  pub below_run : (xs : List X) (last : Answered X E) (p q : S × F) → p.1 ≡ fixed → Run (λ p r q. PassTrace steps call tested_outcome p (r ∷ []) q) p (map item xs ++ last ∷ []) q → Below p.0 xs last q.0
+  below_run xs last p q at ran = below_passes xs last p.0 q.0 p.1 q.1 _ at refl (to_passes ((runs_by_answers _ (passing_by_answers steps call tested_outcome) p _ q).0 ran))
 
--- a closure in its slot acts as the closure does
-acts_in_slot : {F X R : Type 0} (call : F → X → R → F → Type 0) (f : F) (h : X → R) → Acts call f h → (s : Option F) (x : X) (v : R) (t : Option F) → s ≡ Some f → call_in call s x v t → (t ≡ Some f) × (v ≡ h x)
-acts_in_slot call f h acts None x v t e c = absurd cc
-acts_in_slot call f h acts (Some k) x v None e c = absurd c
-acts_in_slot call f h acts (Some k) x v (Some g) e c = let same : k ≡ f = cc in let a = acts x v g (subst (λ (z : _). call z x v g) same c) in (ap Some a.0, a.1)
+-- a closure in its slot acts as the closure does, also in a slot that equals it
+acts_from : {F X R : Type 0} (call : F → X → R → F → Type 0) (f : F) (h : X → R) → Acts call f h → (s : Option F) (x : X) (v : R) (t : Option F) → s ≡ Some f → call_in call s x v t → (t ≡ Some f) × (v ≡ h x)
+acts_from call f h acts s x v t e c = acts_in_slot call f h acts x v t (subst (λ z. call_in call z x v t) e c)
 
 pub filtered_run : {I F X E : Type 0} (m : Contract I X E) (g : Mut F (Bor X × Unit {0}) (Result Bool E)) (h : X → Bool) (f : F) (it : I) (s t : Filter I F) (xs : List X) (last : Answered X E) → Acts (call_at g) f (λ x. Ok (h x)) → filter_parts s ≡ (it, Some f) → Run (seen_as filter_parts (filter_contract m g)).steps s (map item xs ++ last ∷ []) t → FilteredRun m.steps h it xs last t.it
 filtered_run {I = I} m g h f it s t xs last acts parts ran =
     let at : s.it ≡ it = ap (λ p. p.0) parts in
-    subst (λ (i : I). FilteredRun m.steps h i xs last t.it) at (below_run m.steps (call_in (call_at g)) (Some f) h (acts_in_slot (call_at g) f (λ x. Ok (h x)) acts) xs last (filter_parts s) (filter_parts t) (ap (λ p. p.1) parts) (run_seen filter_parts _ (map item xs ++ last ∷ []) s t ran))
+    subst (λ (i : I). FilteredRun m.steps h i xs last t.it) at (below_run m.steps (call_in (call_at g)) (Some f) h (acts_from (call_at g) f (λ x. Ok (h x)) acts) xs last (filter_parts s) (filter_parts t) (ap (λ p. p.1) parts) (run_seen filter_parts _ (map item xs ++ last ∷ []) s t ran))
 
 -- ---- `Take`
 

@@ -1,13 +1,12 @@
 -- What a call at one end answers and leaves of what is listed from both.
-use Rattle.std.specs.Prelude.{◌≡◌, Option, Result, Some, None, Ok, Err, List, [], ◌∷◌, ◌++◌, map, reverse}
-use Rattle.std.specs.List.{FoldsTo}
+use Rattle.std.specs.Prelude.{◌≡◌, Result, Some, None, Ok, Err, List, [], ◌∷◌, ◌++◌, map, reverse}
 use Rattle.std.proofs.Common.{refl, sym, ap, subst, ◌∙◌}
 use Rattle.fallible_contract.specs.Traces.{Answered, Run, item}
-use Rattle.fallible_contract.specs.Folds.{went_on_with, FoldExit, Folded}
+use Rattle.fallible_contract.specs.Folds.{FoldExit, Folded}
 use Rattle.fallible_contract.specs.Lists.{ActsWith, nth_of, behind_first, behind_fold}
 use Rattle.fallible_contract.specs.BothEnds.{TakesFirst, ListsBothEnds}
 use Rattle.fallible_contract.proofs.Lemmas.BothEnds.{takes_front, listed_swapped}
-use Rattle.fallible_contract.proofs.Lemmas.Lists.Behind.{front_fold, failed_fold, item_fold}
+use Rattle.fallible_contract.proofs.Lemmas.Lists.Behind.{front_fold, item_fold}
 
 -- ---- one draw
 

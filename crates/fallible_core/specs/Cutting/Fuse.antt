@@ -2,8 +2,8 @@
 use Rattle.std.specs.Prelude.{List, Bool}
 use Rattle.fallible_contract.specs.Traces.{Answered, Run, is_end}
 use Rattle.fallible_contract.specs.Contract.{Contract}
-use Rattle.fallible_core.specs.declared.cutting.fuse.Fuse.{Fuse}
 use Rattle.fallible_contract.specs.Closing.{ClosingTrace, closing_contract}
+use Rattle.fallible_core.specs.declared.cutting.fuse.Fuse.{Fuse}
 
 -- `Fuse`: the source's trace, which the source's end closes.
 pub record FuseTrace {S A E : Type 0} (steps : S → Answered A E → S → Type 0) (p : S × Bool) (trace : List (Answered A E)) (q : S × Bool) : Type 0 where

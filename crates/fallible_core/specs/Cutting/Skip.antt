@@ -1,11 +1,11 @@
 -- `Skip`, which leaves out the first items.
 use Rattle.std.specs.Prelude.{ℕ, Option, ◌≡◌, ◌-◌, ltb, List, [], ◌∷◌, zero, suc, Result, Ok, Err}
-use Rattle.fallible_core.specs.declared.cutting.skip.Skip.{Skip}
 use Rattle.fallible_contract.specs.Traces.{Answered}
 use Rattle.fallible_contract.specs.Contract.{Contract}
 use Rattle.fallible_contract.specs.Counting.{KeptByNumber}
 use Rattle.fallible_contract.specs.WithSteps.{with_steps_contract}
 use Rattle.fallible_contract.specs.Hints.{hint_less}
+use Rattle.fallible_core.specs.declared.cutting.skip.Skip.{Skip}
 
 -- the source
 abbrev pub skip_source : {I : Type 0} → Skip I → I

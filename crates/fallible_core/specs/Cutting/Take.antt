@@ -3,8 +3,8 @@ use Rattle.std.specs.Prelude.{◌≡◌, ℕ, zero, suc, ◌+◌, ◌≤◌, ◌
 use Rattle.fallible_contract.specs.Traces.{Answered, Run, end, items_in}
 use Rattle.fallible_contract.specs.Contract.{Contract}
 use Rattle.fallible_contract.specs.WithSteps.{with_steps_contract}
-use Rattle.fallible_core.specs.declared.cutting.take.Take.{Take}
 use Rattle.fallible_contract.specs.Hints.{hint_up_to}
+use Rattle.fallible_core.specs.declared.cutting.take.Take.{Take}
 
 -- `Take` at n: the source's trace, and then ends without draws. Each shorter front of the source's trace has fewer than n items, and the whole at most n; ends without draws come only after n items. What is left to take is n less the items.
 pub record TakeTrace {S A E : Type 0} (steps : S → Answered A E → S → Type 0) (p : S × ℕ) (trace : List (Answered A E)) (q : S × ℕ) : Type 0 where

@@ -5,25 +5,18 @@ use Rattle.std.specs.Borrow.{Bor}
 use Rattle.fallible_contract.specs.Traces.{Answered}
 use Rattle.fallible_contract.specs.Contract.{Contract}
 use Rattle.fallible_contract.specs.Closures.{call_at, takes_at, call_in, IsCallableIn}
-use Rattle.fallible_contract.specs.declared.passing.Outcome.{Outcome}
-use Rattle.fallible_contract.specs.declared.passing.Outcome.TheVariants.{Kept, LeftOut, Failure}
 use Rattle.fallible_contract.specs.Passing.{PassTrace, leaving_out_contract}
-use Rattle.fallible_core.specs.declared.filtering.filter.Filter.{Filter}
+pub use Rattle.fallible_contract.specs.Passing.{tested_outcome}
 use Rattle.fallible_contract.specs.Hints.{upper_alone}
-
--- An item is kept where the predicate answers true, left out where it answers false, and replaced by a failure of it.
-abbrev pub filter_outcome : {X E : Type 0} → X → Result Bool E → Outcome X E
-filter_outcome x (Ok true) = Kept x
-filter_outcome x (Ok false) = LeftOut
-filter_outcome x (Err e) = Failure e
+use Rattle.fallible_core.specs.declared.filtering.filter.Filter.{Filter}
 
 -- `Filter`: the source's trace without the items refused, where an item whose predicate failed is replaced by that failure; it doesn't end in a refused item.
 abbrev pub FilterTrace : {S F X E : Type 0} → (S → Answered X E → S → Type 0) → Mut F (Bor X × Unit {0}) (Result Bool E) → S × Option F → List (Answered X E) → S × Option F → Type 0
-FilterTrace steps g p trace q = PassTrace steps (call_in (call_at g)) filter_outcome p trace q
+FilterTrace steps g p trace q = PassTrace steps (call_in (call_at g)) tested_outcome p trace q
 
 -- `Filter`'s contract: its hint has the source's upper bound alone.
 abbrev pub filter_contract : {S F X E : Type 0} → Contract S X E → Mut F (Bor X × Unit {0}) (Result Bool E) → Contract (S × Option F) X E
-filter_contract m g = leaving_out_contract m (call_in (call_at g)) (IsCallableIn (call_at g) (takes_at g)) filter_outcome (λ p h. upper_alone m p.0 h)
+filter_contract m g = leaving_out_contract m (call_in (call_at g)) (IsCallableIn (call_at g) (takes_at g)) tested_outcome (λ p h. upper_alone m p.0 h)
 
 -- the source
 abbrev pub filter_source : {I F : Type 0} → Filter I F → I

@@ -4,11 +4,11 @@ use Rattle.std.specs.Fn.{Mut}
 use Rattle.fallible_contract.specs.Traces.{Answered}
 use Rattle.fallible_contract.specs.Contract.{Contract}
 use Rattle.fallible_contract.specs.Closures.{call_on, takes_on, call_in, IsCallableIn}
+use Rattle.fallible_contract.specs.Passing.{PassTrace, leaving_out_contract}
+use Rattle.fallible_contract.specs.Hints.{upper_alone}
 use Rattle.fallible_contract.specs.declared.passing.Outcome.{Outcome}
 use Rattle.fallible_contract.specs.declared.passing.Outcome.TheVariants.{Kept, LeftOut, Failure}
-use Rattle.fallible_contract.specs.Passing.{PassTrace, leaving_out_contract}
 use Rattle.fallible_core.specs.declared.filtering.filter_map.FilterMap.{FilterMap}
-use Rattle.fallible_contract.specs.Hints.{upper_alone}
 
 -- An item is replaced by the value that the closure answers, left out where it answers none, and replaced by a failure of it.
 abbrev pub filter_map_outcome : {X B E : Type 0} → X → Result (Option B) E → Outcome B E

@@ -6,11 +6,11 @@ use Rattle.std.specs.List.{filter_map}
 use Rattle.fallible_contract.specs.Traces.{Answered, Run, LastKept}
 use Rattle.fallible_contract.specs.Contract.{Contract}
 use Rattle.fallible_contract.specs.Closures.{Calls, IsCallable, call_in, call_at, takes_at}
+use Rattle.fallible_contract.specs.Passing.{Place, asked, failure_at, end_at, source_answer, call_of, answer_at, leaving_out_contract, has_answer}
+use Rattle.fallible_contract.specs.Hints.{upper_alone}
 use Rattle.fallible_contract.specs.declared.passing.Outcome.{Outcome}
 use Rattle.fallible_contract.specs.declared.passing.Outcome.TheVariants.{Kept, LeftOut, Failure}
-use Rattle.fallible_contract.specs.Passing.{Place, asked, failure_at, end_at, source_answer, call_of, answer_at, leaving_out_contract, has_answer}
 use Rattle.fallible_core.specs.declared.filtering.skip_while.SkipWhile.{SkipWhile}
-use Rattle.fallible_contract.specs.Hints.{upper_alone}
 
 -- the predicate answered false
 abbrev pub answers_false : {E : Type 0} → Result Bool E → Bool

@@ -1,13 +1,13 @@
 -- `Chain`: one source's answers up to its first end, and then those of another.
 use Rattle.std.specs.Prelude.{◌≡◌, ◌≢◌, ℕ, ◌+◌, ◌≤◌, false, List, [], ◌∷◌, ◌++◌, Option, ◌⊎◌, Result}
 use Rattle.std.specs.Iterator.{Count, count_add}
-use Rattle.fallible_core.specs.declared.joining.chain.StillDrawn.{StillDrawn}
-use Rattle.fallible_core.specs.declared.joining.chain.StillDrawn.TheVariants.{Both, FirstAlone, SecondAlone}
 use Rattle.fallible_contract.specs.Traces.{Answered, Run, end, is_end, NoEnd}
 use Rattle.fallible_contract.specs.Contract.{Contract, lenders_of_both}
 use Rattle.fallible_contract.specs.Ends.{Ends}
-use Rattle.fallible_core.specs.declared.joining.chain.Chain.{Chain}
 use Rattle.fallible_contract.specs.Hints.{hint_sum}
+use Rattle.fallible_core.specs.declared.joining.chain.StillDrawn.{StillDrawn}
+use Rattle.fallible_core.specs.declared.joining.chain.StillDrawn.TheVariants.{Both, FirstAlone, SecondAlone}
+use Rattle.fallible_core.specs.declared.joining.chain.Chain.{Chain}
 
 -- The first's trace is a list without an end, and then an end. The answers are that list, and then the second's trace, which isn't empty.
 pub record JoinedTrace {S U A E : Type 0} (steps : S → Answered A E → S → Type 0) (others : U → Answered A E → U → Type 0) (s : S) (u : U) (trace : List (Answered A E)) (t : S) (v : U) : Type 0 where

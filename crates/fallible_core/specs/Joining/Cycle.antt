@@ -1,11 +1,11 @@
 -- `Cycle`: a run, and at its end a fresh clone of the kept source as the next run.
 use Rattle.std.specs.Prelude.{◌≡◌, ℕ, List, [], ◌∷◌, ◌++◌, Option, false, ◌⊎◌}
-use Rattle.std.specs.declared.alloc.AllocError.{AllocError}
 use Rattle.fallible_contract.specs.Traces.{Answered, Run, failure, end, is_end, NoEnd}
 use Rattle.fallible_contract.specs.Contract.{Contract, unbounded_contract}
 use Rattle.fallible_contract.specs.Refusals.{RefusedAs}
-use Rattle.fallible_core.specs.declared.joining.cycle.Cycle.{Cycle}
 use Rattle.fallible_contract.specs.Hints.{cycle_hint}
+use Rattle.std.specs.declared.alloc.AllocError.{AllocError}
+use Rattle.fallible_core.specs.declared.joining.cycle.Cycle.{Cycle}
 
 module _ {S A E : Type 0} (is_clone : S → S → Type 0) (is_infallible : S → Type 0) (from : AllocError → E → Type 0) where
   module _ (steps : S → Answered A E → S → Type 0) where

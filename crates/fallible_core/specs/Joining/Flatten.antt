@@ -1,16 +1,16 @@
 -- `Flatten` and `FlatMap`: each item of an outer source becomes an inner iterator, and the answers of these are joined.
 use Rattle.std.specs.Prelude.{◌≡◌, ◌≢◌, ℕ, ◌+◌, ◌*◌, IsSomeAnd, ◌≤◌, List, [], ◌∷◌, ◌++◌, map, Option, Result, Some, None, Ok, Err, IfSome, ⊤, ◌⊎◌}
-use Rattle.fallible_core.specs.Joining.Chain.{chained}
-use Rattle.fallible_contract.specs.Lists.{Lists}
-use Rattle.std.specs.declared.ops.ControlFlow.{ControlFlow}
-use Rattle.std.specs.declared.ops.ControlFlow.TheVariants.{Continue, Break}
 use Rattle.std.specs.List.{flat_map}
 use Rattle.std.specs.Iterator.{endless}
-use Rattle.fallible_contract.specs.declared.folds.Exit.{Exit}
-use Rattle.fallible_contract.specs.declared.folds.Exit.TheVariants.{Ended}
+use Rattle.fallible_contract.specs.Lists.{Lists}
 use Rattle.fallible_contract.specs.Traces.{Answered, Run, item, failure, end, NoEnd}
 use Rattle.fallible_contract.specs.Contract.{Contract}
 use Rattle.fallible_contract.specs.Folds.{CallableCarrying, Carried}
+use Rattle.fallible_core.specs.Joining.Chain.{chained}
+use Rattle.std.specs.declared.ops.ControlFlow.{ControlFlow}
+use Rattle.std.specs.declared.ops.ControlFlow.TheVariants.{Continue, Break}
+use Rattle.fallible_contract.specs.declared.folds.Exit.{Exit}
+use Rattle.fallible_contract.specs.declared.folds.Exit.TheVariants.{Ended}
 use Rattle.fallible_core.specs.declared.joining.flatten.Flatten.{Flatten}
 
 -- What one answer of the outer source puts into the trace: an item became an inner iterator, with the answers that came from it; or a failure or an end, which is the answer itself.

@@ -2,10 +2,10 @@
 use Rattle.std.specs.Prelude.{ℕ, Option, Some, ◌≡◌, List, map, None, Ok, Err, ◌⊎◌, Result, [], ◌∷◌, ⊤}
 use Rattle.std.specs.List.{filter_map}
 use Rattle.std.specs.Iterator.{endless}
-use Rattle.fallible_core.specs.declared.joining.zip.Zip.{Zip}
 use Rattle.fallible_contract.specs.Traces.{Answered, Run, item, failure, end}
 use Rattle.fallible_contract.specs.Contract.{Contract, lenders_of_both}
 use Rattle.fallible_contract.specs.Hints.{hint_smaller}
+use Rattle.fallible_core.specs.declared.joining.zip.Zip.{Zip}
 
 -- the left side
 abbrev pub zip_left : {T U : Type 0} → Zip T U → T

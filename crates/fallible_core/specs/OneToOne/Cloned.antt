@@ -1,13 +1,13 @@
 -- `Cloned`, which clones what each item points to.
 use Rattle.std.specs.Prelude.{⊤, Result, Ok, Err, List, [], ◌∷◌}
 use Rattle.std.specs.Borrow.{Bor}
-use Rattle.std.specs.declared.alloc.AllocError.{AllocError}
 use Rattle.fallible_contract.specs.Traces.{Answered}
 use Rattle.fallible_contract.specs.Contract.{Contract}
 use Rattle.fallible_contract.specs.Refusals.{RefusedAs}
 use Rattle.fallible_contract.specs.Passing.{PassTrace, passing_contract}
-use Rattle.fallible_core.specs.declared.one_to_one.cloned.Cloned.{Cloned}
 use Rattle.fallible_core.specs.OneToOne.Map.{map_outcome}
+use Rattle.std.specs.declared.alloc.AllocError.{AllocError}
+use Rattle.fallible_core.specs.declared.one_to_one.cloned.Cloned.{Cloned}
 
 module _ {T E : Type 0} (is_clone : T → T → Type 0) (is_infallible : T → Type 0) (from : AllocError → E → Type 0) where
   -- the item's clone, or, where that may be refused, the failure made of the refusal

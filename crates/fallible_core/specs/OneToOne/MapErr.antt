@@ -1,15 +1,15 @@
 -- `MapErr`, whose closure is called on failures.
 use Rattle.std.specs.Prelude.{◌≡◌, List, [], ◌∷◌, map, Result, Ok, Err, ⊤}
 use Rattle.std.specs.Fn.{Mut}
-use Rattle.fallible_contract.specs.declared.folds.Exit.{Exit}
-use Rattle.fallible_contract.specs.declared.folds.Exit.TheVariants.{Ended, Failed, Stopped}
-use Rattle.fallible_contract.specs.declared.passing.Outcome.{Outcome}
-use Rattle.fallible_contract.specs.declared.passing.Outcome.TheVariants.{Kept}
 use Rattle.fallible_contract.specs.Traces.{Answered}
 use Rattle.fallible_contract.specs.Contract.{Contract}
 use Rattle.fallible_contract.specs.Closures.{IsCallable, MayAnswer, call_on, takes_on}
 use Rattle.fallible_contract.specs.Exchange.{exchanged, steps_exchanged}
 use Rattle.fallible_contract.specs.Passing.{PassTrace}
+use Rattle.fallible_contract.specs.declared.folds.Exit.{Exit}
+use Rattle.fallible_contract.specs.declared.folds.Exit.TheVariants.{Ended, Failed, Stopped}
+use Rattle.fallible_contract.specs.declared.passing.Outcome.{Outcome}
+use Rattle.fallible_contract.specs.declared.passing.Outcome.TheVariants.{Kept}
 use Rattle.fallible_core.specs.declared.one_to_one.map_err.MapErr.{MapErr}
 
 -- what the closure answers on a failure stands in its place

@@ -4,9 +4,9 @@ use Rattle.std.specs.Fn.{Mut}
 use Rattle.fallible_contract.specs.Closures.{call_on, takes_on, call_in, IsCallableIn}
 use Rattle.fallible_contract.specs.Contract.{Contract}
 use Rattle.fallible_contract.specs.Hints.{upper_alone}
-use Rattle.fallible_core.specs.OneToOne.Scan.{cons_or_end, scan_outcome}
 use Rattle.fallible_contract.specs.Passing.{PassTrace, passing_contract}
 use Rattle.fallible_contract.specs.Traces.{Answered}
+use Rattle.fallible_core.specs.OneToOne.Scan.{cons_or_end, scan_outcome}
 use Rattle.fallible_core.specs.declared.one_to_one.map_while.MapWhile.{MapWhile}
 
 -- `MapWhile`: the source's trace, where each item is replaced by the closure's answer on it, none being an end.

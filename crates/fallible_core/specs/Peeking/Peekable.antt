@@ -3,10 +3,10 @@ use Rattle.std.specs.Prelude.{ℕ, Bool, Option, Some, ◌≡◌, ◌+◌, ◌�
 use Rattle.std.specs.Iterator.{endless}
 use Rattle.std.specs.Fn.{Shared, FnReturnsAt}
 use Rattle.std.specs.Borrow.{Bor}
-use Rattle.fallible_core.specs.declared.peeking.peekable.Peekable.{Peekable}
 use Rattle.fallible_contract.specs.Traces.{Answered, Run, item, failure, end}
 use Rattle.fallible_contract.specs.Contract.{Contract}
 use Rattle.fallible_contract.specs.Hints.{HintWithItem}
+use Rattle.fallible_core.specs.declared.peeking.peekable.Peekable.{Peekable}
 
 -- the source
 abbrev pub peekable_source : {I A E : Type 0} → Peekable I A E → I

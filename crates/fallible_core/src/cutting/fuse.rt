@@ -1,8 +1,8 @@
 // The adapter that ends for good at the first end.
 ghost use Rattle.std.specs.Prelude.{Result, Option};
 ghost use Rattle.fallible_contract.specs.Contract.{seen_as};
-ghost use Rattle.fallible_core.specs.Cutting.Fuse.{fuse_contract, fuse_parts};
 ghost use Rattle.fallible_contract.specs.Laws.Contract.{lawful_seen};
+ghost use Rattle.fallible_core.specs.Cutting.Fuse.{fuse_contract, fuse_parts};
 ghost use Rattle.fallible_core.specs.Laws.Cutting.Fuse.{lawful_fuse};
 
 use crate::traits::FallibleIterator;

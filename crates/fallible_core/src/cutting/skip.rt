@@ -1,8 +1,8 @@
 // The adapter that leaves out the first items.
 ghost use Rattle.std.specs.Prelude.{Result, Option};
 ghost use Rattle.fallible_contract.specs.Contract.{seen_as};
-ghost use Rattle.fallible_core.specs.Cutting.Skip.{skip_contract, skip_parts};
 ghost use Rattle.fallible_contract.specs.Laws.Contract.{lawful_seen};
+ghost use Rattle.fallible_core.specs.Cutting.Skip.{skip_contract, skip_parts};
 ghost use Rattle.fallible_core.specs.Laws.Cutting.Skip.{lawful_skip};
 
 use crate::cutting::counting::{next_past, reach_past};
@@ -38,7 +38,7 @@ where
         less(self.it.size_hint(), self.to_skip)
     }
 
-    // One fold of the source up to the first item that stays, and after that item another one of the rest.
+    /// One fold of the source up to the first item that stays, and after that item another one of the rest.
     fn try_fold_carrying<C, R, K: Turn<C, I::Item, R>>(
         &mut self,
         init: C,

@@ -1,8 +1,8 @@
 // The adapter that keeps one item at each step.
 ghost use Rattle.std.specs.Prelude.{Result, Option};
 ghost use Rattle.fallible_contract.specs.Contract.{seen_as};
-ghost use Rattle.fallible_core.specs.Cutting.StepBy.{step_by_contract, step_by_parts, count_call, count_outcome, count_takes};
 ghost use Rattle.fallible_contract.specs.Laws.Contract.{lawful_seen};
+ghost use Rattle.fallible_core.specs.Cutting.StepBy.{step_by_contract, step_by_parts, count_call, count_outcome, count_takes};
 ghost use Rattle.fallible_core.specs.Laws.Cutting.StepBy.{lawful_step_by};
 
 use crate::cutting::counting::next_past;
@@ -48,7 +48,7 @@ where
         kept(self.it.size_hint(), self.between, self.left)
     }
 
-    // One fold of the source, which counts down the items that are left out.
+    /// One fold of the source, which counts down the items that are left out.
     fn try_fold_carrying<C, R, K: Turn<C, I::Item, R>>(
         &mut self,
         init: C,

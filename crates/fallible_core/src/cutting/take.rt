@@ -1,8 +1,8 @@
 // The adapter that ends after a number of items.
 ghost use Rattle.std.specs.Prelude.{Result, Option};
 ghost use Rattle.fallible_contract.specs.Contract.{seen_as};
-ghost use Rattle.fallible_core.specs.Cutting.Take.{take_contract, take_parts};
 ghost use Rattle.fallible_contract.specs.Laws.Contract.{lawful_seen};
+ghost use Rattle.fallible_core.specs.Cutting.Take.{take_contract, take_parts};
 ghost use Rattle.fallible_core.specs.Laws.Cutting.Take.{lawful_take};
 
 use crate::traits::FallibleIterator;

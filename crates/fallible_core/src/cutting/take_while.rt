@@ -2,8 +2,8 @@
 ghost use Rattle.std.specs.Prelude.{◌≡◌, Result, Option};
 ghost use Rattle.fallible_contract.specs.Contract.{seen_as};
 ghost use Rattle.fallible_contract.specs.Closures.{call_at, takes_at};
-ghost use Rattle.fallible_core.specs.Cutting.TakeWhile.{refusing_call, take_while_contract, take_while_outcome, take_while_parts};
 ghost use Rattle.fallible_contract.specs.Laws.Contract.{lawful_seen};
+ghost use Rattle.fallible_core.specs.Cutting.TakeWhile.{refusing_call, take_while_contract, take_while_outcome, take_while_parts};
 ghost use Rattle.fallible_core.specs.Laws.Cutting.TakeWhile.{lawful_take_while};
 
 use crate::passing::fold_passing;

@@ -2,9 +2,9 @@
 ghost use Rattle.std.specs.Prelude.{Result, Option};
 ghost use Rattle.fallible_contract.specs.Contract.{seen_as};
 ghost use Rattle.fallible_contract.specs.Ends.{from_front, ends_of, ends_seen_as};
-ghost use Rattle.fallible_core.specs.Ends.Rev.{rev_contract, rev_parts};
 ghost use Rattle.fallible_contract.specs.Laws.Contract.{lawful_seen};
 ghost use Rattle.fallible_contract.specs.Laws.Ends.{lawful_ends_seen, lawful_ends_swapped};
+ghost use Rattle.fallible_core.specs.Ends.Rev.{rev_contract, rev_parts};
 
 use crate::traits::FallibleIterator;
 use crate::traits::double_ended::DoubleEndedFallibleIterator;

@@ -3,9 +3,9 @@ ghost use Rattle.std.specs.Prelude.{Some, Result, Option};
 ghost use Rattle.fallible_contract.specs.Contract.{seen_as};
 ghost use Rattle.fallible_contract.specs.Closures.{call_at, takes_at};
 ghost use Rattle.fallible_contract.specs.Ends.{from_back, ends_of, ends_seen_as};
-ghost use Rattle.fallible_core.specs.Filtering.Filter.{filter_outcome, filter_contract, filter_parts};
 ghost use Rattle.fallible_contract.specs.Laws.Contract.{lawful_seen};
 ghost use Rattle.fallible_contract.specs.Laws.Ends.{lawful_ends_seen};
+ghost use Rattle.fallible_core.specs.Filtering.Filter.{tested_outcome, filter_contract, filter_parts};
 ghost use Rattle.fallible_core.specs.Laws.Filtering.Filter.{lawful_filter, lawful_ends_filter};
 
 use crate::passing::{fold_in_slot, rfold_in_slot};
@@ -93,7 +93,7 @@ impl<X: Drop, E, F: FnMut(&X) -> Result<bool, E>> Pass<F, X, E> for FilterPass {
 
     ghost call = { λ _ f x v g. call_at F.FnMut f x v g };
 
-    ghost outcome = { λ _ x v. filter_outcome x v };
+    ghost outcome = { λ _ x v. tested_outcome x v };
 
     fn pass(&self, state: F, item: X) -> (F, Outcome<X, E>) {
         let mut f = state;

@@ -3,8 +3,8 @@ ghost use Rattle.std.specs.Prelude.{Some, Result, Option};
 ghost use Rattle.fallible_contract.specs.Closures.{call_at, takes_at};
 ghost use Rattle.fallible_contract.specs.Contract.{seen_as};
 ghost use Rattle.fallible_contract.specs.Passing.{PassTest};
-ghost use Rattle.fallible_core.specs.Filtering.SkipWhile.{skip_call, skip_takes, skip_while_outcome, skip_while_contract, skip_while_parts};
 ghost use Rattle.fallible_contract.specs.Laws.Contract.{lawful_seen};
+ghost use Rattle.fallible_core.specs.Filtering.SkipWhile.{skip_call, skip_takes, skip_while_outcome, skip_while_contract, skip_while_parts};
 ghost use Rattle.fallible_core.specs.Laws.Filtering.SkipWhile.{lawful_skip_while};
 
 use crate::traits::FallibleIterator;
@@ -53,7 +53,7 @@ where
         }
     }
 
-    // The items up to the first one that is kept, as `next` draws them, and after it the source's fold.
+    /// The items up to the first one that is kept, as `next` draws them, and after it the source's fold.
     fn try_fold_carrying<C, R, K: Turn<C, I::Item, R>>(
         &mut self,
         init: C,

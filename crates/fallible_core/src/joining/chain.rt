@@ -2,9 +2,9 @@
 ghost use Rattle.std.specs.Prelude.{◌≡◌, Result, Option};
 ghost use Rattle.fallible_contract.specs.Contract.{seen_as};
 ghost use Rattle.fallible_contract.specs.Ends.{ends_seen_as};
-ghost use Rattle.fallible_core.specs.Joining.Chain.{chain_contract, chain_ends, chain_parts};
 ghost use Rattle.fallible_contract.specs.Laws.Contract.{lawful_seen};
 ghost use Rattle.fallible_contract.specs.Laws.Ends.{lawful_ends_seen};
+ghost use Rattle.fallible_core.specs.Joining.Chain.{chain_contract, chain_ends, chain_parts};
 ghost use Rattle.fallible_core.specs.Laws.Joining.Chain.{lawful_chain, lawful_ends_chain};
 
 use crate::traits::FallibleIterator;
@@ -61,7 +61,7 @@ impl<T: FallibleIterator, U: FallibleIterator<Item = T::Item, Error = T::Error>>
         }
     }
 
-    // The first's fold, and at its end, in the same call, the second's; where one side alone is drawn, that side's.
+    /// The first's fold, and at its end, in the same call, the second's; where one side alone is drawn, that side's.
     fn try_fold_carrying<C, R, K: Turn<C, T::Item, R>>(
         &mut self,
         init: C,
@@ -87,7 +87,7 @@ impl<T: FallibleIterator, U: FallibleIterator<Item = T::Item, Error = T::Error>>
         }
     }
 
-    // The first's count, and then the second's, added up.
+    /// The first's count, and then the second's, added up.
     fn count(self) -> Result<usize, T::Error>
     where
         T::Item: Drop,
@@ -110,7 +110,7 @@ impl<T: FallibleIterator, U: FallibleIterator<Item = T::Item, Error = T::Error>>
         }
     }
 
-    // The second's last, or where it has none the first's. Where the first fails, the second isn't drawn.
+    /// The second's last, or where it has none the first's. Where the first fails, the second isn't drawn.
     fn last(self) -> Result<Option<T::Item>, T::Error>
     where
         T::Item: Drop,
@@ -134,7 +134,7 @@ impl<T: FallibleIterator, U: FallibleIterator<Item = T::Item, Error = T::Error>>
         }
     }
 
-    // The first's search, and where it found none, in the same call, the second's; where one side alone is drawn, that side's.
+    /// The first's search, and where it found none, in the same call, the second's; where one side alone is drawn, that side's.
     fn find_carrying<C, K: Test<C, T::Item, T::Error>>(
         &mut self,
         init: C,
@@ -190,7 +190,7 @@ impl<
         self.first.next_back()
     }
 
-    // The second's fold from behind, and at its end, in the same call, the first's; where one side alone is drawn, that side's.
+    /// The second's fold from behind, and at its end, in the same call, the first's; where one side alone is drawn, that side's.
     fn try_rfold_carrying<C, R, K: Turn<C, T::Item, R>>(
         &mut self,
         init: C,

@@ -1,8 +1,8 @@
 // The adapter that begins anew at each end.
 ghost use Rattle.std.specs.Prelude.{Result, Option};
 ghost use Rattle.fallible_contract.specs.Contract.{seen_as};
-ghost use Rattle.fallible_core.specs.Joining.Cycle.{cycle_contract, cycle_parts};
 ghost use Rattle.fallible_contract.specs.Laws.Contract.{lawful_seen};
+ghost use Rattle.fallible_core.specs.Joining.Cycle.{cycle_contract, cycle_parts};
 ghost use Rattle.fallible_core.specs.Laws.Joining.Cycle.{lawful_cycle};
 
 use crate::traits::FallibleIterator;

@@ -2,8 +2,8 @@
 ghost use Rattle.std.specs.Prelude.{◌≡◌, ℕ, [], ◌∷◌, None, Ok, List, Option, Result};
 ghost use Rattle.fallible_contract.specs.Contract.{seen_as};
 ghost use Rattle.fallible_contract.specs.Folds.{CallableCarrying, Carried};
-ghost use Rattle.fallible_core.specs.Joining.Flatten.{FlattenTrace, flatten_contract, IsFlattenNextTurn, JoiningTakes, IsFlattenFoldTurn, flatten_parts};
 ghost use Rattle.fallible_contract.specs.Laws.Contract.{lawful_seen};
+ghost use Rattle.fallible_core.specs.Joining.Flatten.{FlattenTrace, flatten_contract, IsFlattenNextTurn, JoiningTakes, IsFlattenFoldTurn, flatten_parts};
 ghost use Rattle.fallible_core.specs.Laws.Joining.Flatten.{lawful_flatten};
 
 use crate::one_to_one::Map;
@@ -37,7 +37,7 @@ impl<U: IntoFallibleIterator, I: FallibleIterator<Item = U, Error = U::Error>> F
         (0, None)
     }
 
-    // The fold of the inner iterator in hand, and at its end, in the same call, the outer source's.
+    /// The fold of the inner iterator in hand, and at its end, in the same call, the outer source's.
     fn try_fold_carrying<C, R, K: Turn<C, U::Item, R>>(
         &mut self,
         init: C,

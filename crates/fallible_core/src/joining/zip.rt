@@ -1,8 +1,8 @@
 // The adapter that pairs the items of two sources.
 ghost use Rattle.std.specs.Prelude.{◌≡◌, Result, Option};
 ghost use Rattle.fallible_contract.specs.Contract.{seen_as};
-ghost use Rattle.fallible_core.specs.Joining.Zip.{zip_contract, zip_parts};
 ghost use Rattle.fallible_contract.specs.Laws.Contract.{lawful_seen};
+ghost use Rattle.fallible_core.specs.Joining.Zip.{zip_contract, zip_parts};
 ghost use Rattle.fallible_core.specs.Laws.Joining.Zip.{lawful_zip};
 
 use crate::traits::FallibleIterator;

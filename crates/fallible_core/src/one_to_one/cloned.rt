@@ -2,10 +2,10 @@
 ghost use Rattle.std.specs.Prelude.{⊤, Some, Result, Option};
 ghost use Rattle.fallible_contract.specs.Contract.{seen_as};
 ghost use Rattle.fallible_contract.specs.Ends.{from_back, ends_of, ends_seen_as};
-ghost use Rattle.fallible_core.specs.OneToOne.Map.{map_outcome};
-ghost use Rattle.fallible_core.specs.OneToOne.Cloned.{cloned_call, cloned_contract, cloned_parts};
 ghost use Rattle.fallible_contract.specs.Laws.Contract.{lawful_seen};
 ghost use Rattle.fallible_contract.specs.Laws.Ends.{lawful_ends_seen};
+ghost use Rattle.fallible_core.specs.OneToOne.Map.{map_outcome};
+ghost use Rattle.fallible_core.specs.OneToOne.Cloned.{cloned_call, cloned_contract, cloned_parts};
 ghost use Rattle.fallible_core.specs.Laws.OneToOne.Cloned.{lawful_cloned, lawful_ends_cloned};
 
 use crate::passing::{fold_passing, rfold_passing};

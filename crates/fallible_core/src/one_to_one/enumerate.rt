@@ -1,8 +1,8 @@
 // The adapter that numbers the items.
 ghost use Rattle.std.specs.Prelude.{Some, Result, Option};
 ghost use Rattle.fallible_contract.specs.Contract.{seen_as};
-ghost use Rattle.fallible_core.specs.OneToOne.Enumerate.{enumerate_contract, enumerate_parts, number_call, number_outcome, number_takes};
 ghost use Rattle.fallible_contract.specs.Laws.Contract.{lawful_seen};
+ghost use Rattle.fallible_core.specs.OneToOne.Enumerate.{enumerate_contract, enumerate_parts, number_call, number_outcome, number_takes};
 ghost use Rattle.fallible_core.specs.Laws.OneToOne.Enumerate.{lawful_enumerate};
 
 use crate::passing::fold_passing;
@@ -38,7 +38,7 @@ where
         self.it.size_hint()
     }
 
-    // The count goes on for each item that the source gives, also for the one where the turn stops.
+    /// The count goes on for each item that the source gives, also for the one where the turn stops.
     fn try_fold_carrying<C, R, K: Turn<C, (usize, I::Item), R>>(
         &mut self,
         init: C,

@@ -3,9 +3,9 @@ ghost use Rattle.std.specs.Prelude.{Some, Result, Option};
 ghost use Rattle.fallible_contract.specs.Contract.{seen_as};
 ghost use Rattle.fallible_contract.specs.Closures.{call_on, takes_on};
 ghost use Rattle.fallible_contract.specs.Ends.{from_back, ends_of, ends_seen_as};
-ghost use Rattle.fallible_core.specs.OneToOne.MapErr.{MapErrAnswer, MapErrExit, TakesExit, TakesFailure, map_err_contract, map_err_parts};
 ghost use Rattle.fallible_contract.specs.Laws.Contract.{lawful_seen};
 ghost use Rattle.fallible_contract.specs.Laws.Ends.{lawful_ends_seen};
+ghost use Rattle.fallible_core.specs.OneToOne.MapErr.{MapErrAnswer, MapErrExit, TakesExit, TakesFailure, map_err_contract, map_err_parts};
 ghost use Rattle.fallible_core.specs.Laws.OneToOne.MapErr.{lawful_map_err, lawful_ends_map_err};
 
 use crate::traits::FallibleIterator;

@@ -1,8 +1,8 @@
 // The adapter that calls a closure on a state and each item.
 ghost use Rattle.std.specs.Prelude.{Some, Result, Option};
 ghost use Rattle.fallible_contract.specs.Contract.{seen_as};
-ghost use Rattle.fallible_core.specs.OneToOne.Scan.{scan_contract, scan_parts};
 ghost use Rattle.fallible_contract.specs.Laws.Contract.{lawful_seen};
+ghost use Rattle.fallible_core.specs.OneToOne.Scan.{scan_contract, scan_parts};
 ghost use Rattle.fallible_core.specs.Laws.OneToOne.Scan.{lawful_scan};
 
 use crate::traits::FallibleIterator;

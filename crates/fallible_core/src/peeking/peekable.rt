@@ -3,8 +3,8 @@ ghost use Rattle.std.specs.Prelude.{◌≡◌, Result, Option};
 ghost use Rattle.fallible_contract.specs.Clauses.{OverList, OverListWith};
 ghost use Rattle.fallible_contract.specs.Contract.{seen_as, Stays};
 ghost use Rattle.fallible_contract.specs.Lists.{Lists};
-ghost use Rattle.fallible_core.specs.Peeking.Peekable.{peekable_contract, NextIf, TestedBy, IsTestable, peekable_parts, LooksAs, first_if, behind_if};
 ghost use Rattle.fallible_contract.specs.Laws.Contract.{lawful_seen};
+ghost use Rattle.fallible_core.specs.Peeking.Peekable.{peekable_contract, NextIf, TestedBy, IsTestable, peekable_parts, LooksAs, first_if, behind_if};
 ghost use Rattle.fallible_core.specs.Laws.Peeking.Peekable.{lawful_peekable};
 
 use crate::traits::FallibleIterator;
@@ -46,7 +46,7 @@ where
         }
     }
 
-    // The turn on a held item, and then the source's fold; a held end ends the fold without a draw.
+    /// The turn on a held item, and then the source's fold; a held end ends the fold without a draw.
     fn try_fold_carrying<C, R, K: Turn<C, I::Item, R>>(
         &mut self,
         init: C,

@@ -5,8 +5,6 @@ use Rattle.std.specs.Result.{result_transpose}
 use Rattle.std.specs.Iterator.{Count, IsFinite, size, MakesProgress}
 use Rattle.std.specs.List.{FoldsTo}
 use Rattle.std.proofs.Common.{refl, sym, ap, subst, ◌∙◌}
-use Rattle.fallible_contract.specs.declared.answers.Side.{Side}
-use Rattle.fallible_contract.specs.declared.answers.Side.TheVariants.{Front, Back}
 use Rattle.fallible_contract.specs.Traces.{Answered, Run}
 use Rattle.fallible_contract.specs.Contract.{Contract, Lawful}
 use Rattle.fallible_contract.specs.Ends.{Ends, LawfulEnds, from_back}
@@ -14,6 +12,8 @@ use Rattle.fallible_contract.specs.BothEnds.{RunAtEnds}
 use Rattle.fallible_contract.specs.Lists.{AlwaysGives, Lists}
 use Rattle.fallible_contract.specs.Laws.Contract.{stays_run}
 use Rattle.fallible_iterator.specs.Sources.Std.{std_step, element_by, IsAskable, IsAskableAtEnds}
+use Rattle.fallible_contract.specs.declared.answers.Side.{Side}
+use Rattle.fallible_contract.specs.declared.answers.Side.TheVariants.{Front, Back}
 
 module _ {A E : Type 0} where
   there_and_back : (r : Answered A E) → option_transpose (result_transpose r) ≡ r

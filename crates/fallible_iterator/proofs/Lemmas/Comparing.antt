@@ -1,12 +1,12 @@
 -- What two comparisons over the same lists have to do with each other.
 use Rattle.std.specs.Prelude.{◌≡◌, ◌↔◌, Bool, true, false, Option, Some, Result, Ok, Err, List, [], ◌∷◌}
 use Rattle.std.specs.Ordering.{is_eq}
-use Rattle.std.specs.declared.cmp.Ordering.{Ordering}
-use Rattle.std.specs.declared.cmp.Ordering.TheVariants.{Less, Equal, Greater}
 use Rattle.std.proofs.Common.{refl, sym, ap, ◌∙◌}
 use Rattle.std.proofs.lemmas.Bool.{true≢false}
 use Rattle.fallible_contract.specs.Comparing.{by_cmp, by_eq, equal_where, read_as, reads_eq}
 use Rattle.fallible_contract.specs.Lists.{compared, unless_equal}
+use Rattle.std.specs.declared.cmp.Ordering.{Ordering}
+use Rattle.std.specs.declared.cmp.Ordering.TheVariants.{Less, Equal, Greater}
 
 module _ {E : Type 0} where
   -- one pair, and then the rest

@@ -1,10 +1,10 @@
 -- Draws from both ends of values that are seen by their parts, of which each names one value.
 use Rattle.std.specs.Prelude.{◌≡◌, ◌↔◌, List, [], ◌∷◌}
 use Rattle.std.proofs.Common.{sym, ◌∙◌, ap, subst}
-use Rattle.fallible_contract.specs.declared.answers.Side.{Side}
-use Rattle.fallible_contract.specs.declared.answers.Side.TheVariants.{Front, Back}
 use Rattle.fallible_contract.specs.Traces.{Answered}
 use Rattle.fallible_contract.specs.BothEnds.{RunAtEnds}
+use Rattle.fallible_contract.specs.declared.answers.Side.{Side}
+use Rattle.fallible_contract.specs.declared.answers.Side.TheVariants.{Front, Back}
 
 module _ {V P A E : Type 0} (parts : V → P) (make : P → V) (made : (s : V) → make (parts s) ≡ s) (has : (p : P) → parts (make p) ≡ p) (front back : P → Answered A E → P → Type 0) where
   abbrev seen_front : V → Answered A E → V → Type 0

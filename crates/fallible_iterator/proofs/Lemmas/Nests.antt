@@ -3,10 +3,10 @@ use Rattle.std.specs.Prelude.{◌≡◌, ℕ, List, [], ◌∷◌, map}
 use Rattle.std.specs.Borrow.{MutBor}
 use Rattle.std.proofs.Common.{refl, sym, ap, subst, ◌∙◌}
 use Rattle.fallible_contract.specs.Traces.{Answered, Run}
-use Rattle.fallible_contract.specs.declared.passing.Outcome.{Outcome}
 use Rattle.fallible_contract.specs.Passing.{source_answer, PassTrace}
 use Rattle.fallible_core.specs.Cutting.Take.{TakeTrace}
 use Rattle.fallible_iterator.specs.Nests.{first_of}
+use Rattle.fallible_contract.specs.declared.passing.Outcome.{Outcome}
 
 module _ {A E : Type 0} where
   -- the draws of a whole list

@@ -1,11 +1,11 @@
 -- `Convert`: the results of a std iterator.
 use Rattle.std.specs.Prelude.{Option, List, Result, Ok, Err}
 use Rattle.std.specs.Iterator.{Count}
-use Rattle.fallible_iterator.specs.declared.sources.convert.Convert.{Convert}
 use Rattle.fallible_contract.specs.Traces.{Answered}
 use Rattle.fallible_contract.specs.Contract.{Contract}
 use Rattle.fallible_contract.specs.Ends.{Ends}
 use Rattle.fallible_iterator.specs.Sources.Std.{StdTrace, std_contract, std_ends}
+use Rattle.fallible_iterator.specs.declared.sources.convert.Convert.{Convert}
 
 -- the std iterator
 abbrev pub convert_parts : {I : Type 0} → Convert I → I

@@ -2,10 +2,10 @@
 use Rattle.std.specs.Prelude.{◌≡◌, List, ⊤}
 use Rattle.std.specs.List.{FoldsTo}
 use Rattle.std.specs.Fn.{Called, Mut}
-use Rattle.fallible_iterator.specs.declared.sources.from_fn.FromFn.{FromFn}
 use Rattle.fallible_contract.specs.Closures.{IsCallable, MayAnswer}
 use Rattle.fallible_contract.specs.Traces.{Answered, item, failure}
 use Rattle.fallible_contract.specs.Contract.{Contract, unbounded_contract}
+use Rattle.fallible_iterator.specs.declared.sources.from_fn.FromFn.{FromFn}
 
 -- the closure
 abbrev pub from_fn_parts : {F : Type 0} → FromFn F → F

@@ -1,12 +1,12 @@
 -- `IntoFallible`: the elements of a std iterator, none of which is a failure.
 use Rattle.std.specs.Prelude.{Option, List}
 use Rattle.std.specs.Iterator.{Count}
-use Rattle.std.specs.declared.convert.Infallible.{Infallible}
-use Rattle.fallible_iterator.specs.declared.sources.into_fallible.IntoFallible.{IntoFallible}
 use Rattle.fallible_contract.specs.Traces.{Answered}
 use Rattle.fallible_contract.specs.Contract.{Contract}
 use Rattle.fallible_contract.specs.Ends.{Ends}
 use Rattle.fallible_iterator.specs.Sources.Std.{StdTrace, std_contract, std_ends}
+use Rattle.std.specs.declared.convert.Infallible.{Infallible}
+use Rattle.fallible_iterator.specs.declared.sources.into_fallible.IntoFallible.{IntoFallible}
 
 -- the std iterator
 abbrev pub into_fallible_parts : {I : Type 0} → IntoFallible I → I

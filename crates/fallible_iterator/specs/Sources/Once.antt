@@ -1,10 +1,10 @@
 -- `Once`: one item.
 use Rattle.std.specs.Prelude.{Option, Some, ◌≡◌, ◌≤◌, ⊤}
 use Rattle.std.specs.Iterator.{at_most}
-use Rattle.fallible_iterator.specs.declared.sources.once.Once.{Once}
 use Rattle.fallible_contract.specs.Traces.{item}
 use Rattle.fallible_contract.specs.Contract.{Contract, no_lenders}
 use Rattle.fallible_contract.specs.Held.{once_step, held_count}
+use Rattle.fallible_iterator.specs.declared.sources.once.Once.{Once}
 
 -- the item that is still to come
 abbrev pub once_parts : {T E : Type 0} → Once T E → Option T

@@ -1,10 +1,10 @@
 -- `OnceErr`: one failure.
 use Rattle.std.specs.Prelude.{Option, Some, ◌≡◌, ⊤}
 use Rattle.std.specs.Iterator.{at_most}
-use Rattle.fallible_iterator.specs.declared.sources.once_err.OnceErr.{OnceErr}
 use Rattle.fallible_contract.specs.Traces.{failure}
 use Rattle.fallible_contract.specs.Contract.{Contract, no_lenders}
 use Rattle.fallible_contract.specs.Held.{once_step, held_count}
+use Rattle.fallible_iterator.specs.declared.sources.once_err.OnceErr.{OnceErr}
 
 -- the failure that is still to come
 abbrev pub once_err_parts : {T E : Type 0} → OnceErr T E → Option E

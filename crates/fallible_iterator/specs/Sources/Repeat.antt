@@ -1,10 +1,10 @@
 -- `Repeat`: clones as items.
 use Rattle.std.specs.Prelude.{Some, ◌≡◌, List, None, Ok, Err, ◌^◌, ◌-◌, All}
-use Rattle.std.specs.declared.alloc.AllocError.{AllocError}
-use Rattle.fallible_iterator.specs.declared.sources.repeat.Repeat.{Repeat}
 use Rattle.fallible_contract.specs.Traces.{Answered, item, failure}
 use Rattle.fallible_contract.specs.Contract.{Contract, unbounded_contract}
 use Rattle.fallible_contract.specs.Refusals.{RefusedAs}
+use Rattle.std.specs.declared.alloc.AllocError.{AllocError}
+use Rattle.fallible_iterator.specs.declared.sources.repeat.Repeat.{Repeat}
 
 -- the value that is cloned
 abbrev pub repeat_parts : {T E : Type 0} → Repeat T E → T

@@ -1,11 +1,11 @@
 -- `RepeatErr`: clones as failures.
 use Rattle.std.specs.Prelude.{Some, ◌≡◌, List, Ok, Err, ⊤, ◌⊎◌, All}
 use Rattle.std.specs.Iterator.{endless}
-use Rattle.std.specs.declared.alloc.AllocError.{AllocError}
-use Rattle.fallible_iterator.specs.declared.sources.repeat_err.RepeatErr.{RepeatErr}
 use Rattle.fallible_contract.specs.Traces.{Answered, failure}
 use Rattle.fallible_contract.specs.Contract.{Contract, no_lenders}
 use Rattle.fallible_contract.specs.Refusals.{RefusedAs}
+use Rattle.std.specs.declared.alloc.AllocError.{AllocError}
+use Rattle.fallible_iterator.specs.declared.sources.repeat_err.RepeatErr.{RepeatErr}
 
 -- the failure that is cloned
 abbrev pub repeat_err_parts : {T E : Type 0} → RepeatErr T E → E

@@ -1,9 +1,9 @@
 //! A borrowed fallible iterator has the runs of its own.
 ghost use Rattle.std.specs.Prelude.{◌≡◌, ◌↔◌, List, Option, Result};
 ghost use Rattle.std.specs.Borrow.{MutBor};
+ghost use Rattle.fallible_contract.specs.Traces.{Answered, Run};
 ghost use Rattle.std.specs.declared.boxed.Box.{Box};
 ghost use Rattle.std.specs.declared.alloc.Global.{Global};
-ghost use Rattle.fallible_contract.specs.Traces.{Answered, Run};
 
 use fallible_core::traits::FallibleIterator;
 use fallible_core::traits::double_ended::DoubleEndedFallibleIterator;

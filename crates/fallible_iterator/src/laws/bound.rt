@@ -1,8 +1,8 @@
 // What a bound means.
 ghost use Rattle.std.specs.Prelude.{ℕ, ◌≤◌, List};
-ghost use Rattle.fallible_contract.specs.declared.answers.Side.{Side};
 ghost use Rattle.fallible_contract.specs.Traces.{Answered, Run, items_in};
 ghost use Rattle.fallible_contract.specs.BothEnds.{RunAtEnds, answers_drawn};
+ghost use Rattle.fallible_contract.specs.declared.answers.Side.{Side};
 
 use fallible_core::traits::FallibleIterator;
 use fallible_core::traits::double_ended::DoubleEndedFallibleIterator;

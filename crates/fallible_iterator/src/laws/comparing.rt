@@ -1,9 +1,9 @@
 // How comparisons agree with each other.
 ghost use Rattle.std.specs.Prelude.{◌≡◌, Bool, List, Result};
-ghost use Rattle.std.specs.declared.cmp.Ordering.{Ordering};
 ghost use Rattle.fallible_contract.specs.Comparing.{ComparedWith, ReadWith, by_cmp, by_eq, read_as, reads_eq};
 ghost use Rattle.fallible_contract.specs.Lists.{Lists, compared};
 ghost use Rattle.fallible_iterator.specs.Agreement.{EqIsCmpEqual};
+ghost use Rattle.std.specs.declared.cmp.Ordering.{Ordering};
 
 use fallible_core::traits::FallibleIterator;
 use fallible_core::traits::conversion::IntoFallibleIterator;

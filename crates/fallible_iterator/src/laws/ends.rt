@@ -1,15 +1,13 @@
 // What is drawn from both ends, and what from behind.
 ghost use Rattle.std.specs.Prelude.{◌≡◌, ◌++◌, ◌∷◌, [], map, reverse, Some, Bool, List, Option, Result};
-ghost use Rattle.fallible_contract.specs.declared.answers.Side.{Side};
-ghost use Rattle.fallible_contract.specs.declared.answers.Side.TheVariants.{Front, Back};
 ghost use Rattle.fallible_contract.specs.Traces.{Answered, Run, item};
 ghost use Rattle.fallible_contract.specs.Folds.{Folded, call_with};
 ghost use Rattle.fallible_contract.specs.LawForm.{TracesAre};
 ghost use Rattle.fallible_contract.specs.Closures.{call_on, call_at};
 ghost use Rattle.fallible_contract.specs.Lists.{Acts};
+ghost use Rattle.fallible_contract.specs.BothEnds.{ListsBothEnds, RunAtEnds, step_at, from_side, Interleaves};
 ghost use Rattle.fallible_core.specs.OneToOne.Map.{mapped, MapTrace, map_parts};
 ghost use Rattle.fallible_core.specs.Filtering.Filter.{filtered, FilterTrace, filter_parts};
-ghost use Rattle.fallible_contract.specs.BothEnds.{ListsBothEnds, RunAtEnds, step_at, from_side, Interleaves};
 ghost use Rattle.fallible_core.specs.OneToOne.Inspect.{InspectTrace, inspect_parts};
 ghost use Rattle.fallible_core.specs.OneToOne.Cloned.{ClonedTrace, cloned_parts};
 ghost use Rattle.fallible_core.specs.OneToOne.MapErr.{MapErrTrace, map_err_parts};
@@ -17,6 +15,8 @@ ghost use Rattle.fallible_core.specs.Filtering.FilterMap.{FilterMapTrace, filter
 ghost use Rattle.fallible_core.specs.Joining.Chain.{chain_behind, chain_parts, ChainTrace};
 ghost use Rattle.fallible_core.specs.Ends.Rev.{rev_parts};
 ghost use Rattle.fallible_iterator.specs.Listing.{DrawsInterleave, DrawsTheSame, ListsTheSame};
+ghost use Rattle.fallible_contract.specs.declared.answers.Side.{Side};
+ghost use Rattle.fallible_contract.specs.declared.answers.Side.TheVariants.{Front, Back};
 
 use super::listed::{law_listed_filter, law_listed_map, law_listed_rev};
 use fallible_core::ends::Rev;

@@ -1,15 +1,13 @@
 // What each type with two ends lists, from what its source lists.
 ghost use Rattle.std.specs.Prelude.{Ok, Err, Option, Result};
 ghost use Rattle.std.specs.Borrow.{MutBor};
-ghost use Rattle.std.specs.declared.boxed.Box.{Box};
-ghost use Rattle.std.specs.declared.alloc.Global.{Global};
 ghost use Rattle.fallible_contract.specs.Closures.{call_on, call_at};
-ghost use Rattle.fallible_core.specs.OneToOne.Map.{mapped, map_outcome, map_parts};
-ghost use Rattle.fallible_core.specs.OneToOne.Inspect.{inspected, inspect_outcome, inspect_parts};
-ghost use Rattle.fallible_core.specs.Filtering.Filter.{filtered, filter_outcome, filter_parts};
-ghost use Rattle.fallible_core.specs.Filtering.FilterMap.{filter_mapped, filter_map_outcome, filter_map_parts};
 ghost use Rattle.fallible_contract.specs.Lists.{results, items};
 ghost use Rattle.fallible_contract.specs.BothEnds.{ListsBothEnds};
+ghost use Rattle.fallible_core.specs.OneToOne.Map.{mapped, map_outcome, map_parts};
+ghost use Rattle.fallible_core.specs.OneToOne.Inspect.{inspected, inspect_outcome, inspect_parts};
+ghost use Rattle.fallible_core.specs.Filtering.Filter.{filtered, tested_outcome, filter_parts};
+ghost use Rattle.fallible_core.specs.Filtering.FilterMap.{filter_mapped, filter_map_outcome, filter_map_parts};
 ghost use Rattle.fallible_core.specs.OneToOne.Cloned.{cloned_parts};
 ghost use Rattle.fallible_core.specs.OneToOne.MapErr.{map_err_parts};
 ghost use Rattle.fallible_core.specs.Joining.Chain.{chain_parts};
@@ -17,6 +15,8 @@ ghost use Rattle.fallible_core.specs.Ends.Rev.{rev_parts};
 ghost use Rattle.fallible_iterator.specs.Sources.Convert.{convert_parts};
 ghost use Rattle.fallible_iterator.specs.Sources.IntoFallible.{into_fallible_parts, never};
 ghost use Rattle.fallible_iterator.specs.Listing.{ListsByClosure, ListsFailures, ListsClones, ListsBothSides, ListsReversed, ListsTheSame, ListsElements, ListsAtEachEnd};
+ghost use Rattle.std.specs.declared.boxed.Box.{Box};
+ghost use Rattle.std.specs.declared.alloc.Global.{Global};
 
 use super::sources::{law_listed_convert, law_listed_into_fallible};
 use crate::sources::{Convert, IntoFallible};
@@ -59,7 +59,7 @@ pub fn law_listed_filter<
 >()
 where
     I::Item: Drop,
-    ensures { ListsByClosure filter_parts (call_at F.FnMut) filter_outcome filtered
+    ensures { ListsByClosure filter_parts (call_at F.FnMut) tested_outcome filtered
         (ListsBothEnds I.contract.steps I.ends.steps)
         (ListsBothEnds ⟦<Filter<I, F> as FallibleIterator>⟧.contract.steps
         ⟦<Filter<I, F> as DoubleEndedFallibleIterator>⟧.ends.steps) }
@@ -165,7 +165,7 @@ where
         (ListsBothEnds I.contract.steps I.ends.steps)
         (ListsBothEnds ⟦<Inspect<I, G> as FallibleIterator>⟧.contract.steps
         ⟦<Inspect<I, G> as DoubleEndedFallibleIterator>⟧.ends.steps) }
-    ensures filter { ListsByClosure filter_parts (call_at P.FnMut) filter_outcome filtered
+    ensures filter { ListsByClosure filter_parts (call_at P.FnMut) tested_outcome filtered
         (ListsBothEnds I.contract.steps I.ends.steps)
         (ListsBothEnds ⟦<Filter<I, P> as FallibleIterator>⟧.contract.steps
         ⟦<Filter<I, P> as DoubleEndedFallibleIterator>⟧.ends.steps) }

@@ -1,6 +1,6 @@
 // The whole-trace law of the adapter that looks ahead.
-ghost use Rattle.fallible_contract.specs.LawForm.{TracesAre};
 ghost use Rattle.std.specs.Prelude.{List, Result};
+ghost use Rattle.fallible_contract.specs.LawForm.{TracesAre};
 ghost use Rattle.fallible_contract.specs.Lists.{Lists};
 ghost use Rattle.fallible_core.specs.Peeking.Peekable.{peekable_parts, PeekableTrace, behind_held, peekable_held, peekable_source};
 

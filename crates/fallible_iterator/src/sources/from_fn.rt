@@ -1,8 +1,8 @@
 // The fallible iterator of a closure.
 ghost use Rattle.std.specs.Prelude.{Result, Option};
 ghost use Rattle.fallible_contract.specs.Contract.{seen_as};
-ghost use Rattle.fallible_iterator.specs.Sources.FromFn.{from_fn_contract, from_fn_parts};
 ghost use Rattle.fallible_contract.specs.Laws.Contract.{lawful_seen};
+ghost use Rattle.fallible_iterator.specs.Sources.FromFn.{from_fn_contract, from_fn_parts};
 ghost use Rattle.fallible_iterator.specs.Laws.Sources.FromFn.{lawful_from_fn};
 
 use fallible_core::FallibleIterator;

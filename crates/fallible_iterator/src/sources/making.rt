@@ -1,16 +1,16 @@
 //! The functions that make sources.
 ghost use Rattle.std.specs.Prelude.{◌≡◌, false, Some, None, Ok, Err, List, [], ◌∷◌, Result, ⊤};
-ghost use Rattle.fallible_iterator.specs.Sources.Convert.{convert_parts, convert_contract};
+ghost use Rattle.std.specs.Iterator.Adapters.{fuse_source, fuse_done};
 ghost use Rattle.fallible_contract.specs.Contract.{seen_as};
 ghost use Rattle.fallible_contract.specs.Lists.{Lists, RunsRead, Repeats, results, items};
+ghost use Rattle.fallible_contract.specs.Closures.{IsCallable};
+ghost use Rattle.fallible_iterator.specs.Sources.Convert.{convert_parts, convert_contract};
 ghost use Rattle.fallible_iterator.specs.Sources.FromFn.{from_fn_parts, call_of_none};
 ghost use Rattle.fallible_iterator.specs.Sources.Once.{once_parts, once_contract};
 ghost use Rattle.fallible_iterator.specs.Sources.Empty.{empty_contract};
 ghost use Rattle.fallible_iterator.specs.Sources.OnceErr.{once_err_parts, once_err_contract};
 ghost use Rattle.fallible_iterator.specs.Sources.Repeat.{repeat_parts, repeat_contract};
 ghost use Rattle.fallible_iterator.specs.Sources.RepeatErr.{repeat_err_parts};
-ghost use Rattle.fallible_contract.specs.Closures.{IsCallable};
-ghost use Rattle.std.specs.Iterator.Adapters.{fuse_source, fuse_done};
 
 use crate::sources::{Convert, Empty, FromFn, Once, OnceErr, Repeat, RepeatErr};
 use fallible_core::FallibleIterator;

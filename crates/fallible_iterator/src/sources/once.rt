@@ -1,8 +1,8 @@
 // The source of one item.
 ghost use Rattle.std.specs.Prelude.{Some, Ok, Result, Option};
 ghost use Rattle.fallible_contract.specs.Contract.{seen_as};
-ghost use Rattle.fallible_iterator.specs.Sources.Once.{once_contract, once_parts};
 ghost use Rattle.fallible_contract.specs.Laws.Contract.{lawful_seen};
+ghost use Rattle.fallible_iterator.specs.Sources.Once.{once_contract, once_parts};
 ghost use Rattle.fallible_iterator.specs.Laws.Sources.Once.{lawful_once};
 
 use fallible_core::FallibleIterator;

@@ -1,8 +1,8 @@
 // The source of one failure.
 ghost use Rattle.std.specs.Prelude.{Some, Ok, Err, Result, Option};
 ghost use Rattle.fallible_contract.specs.Contract.{seen_as};
-ghost use Rattle.fallible_iterator.specs.Sources.OnceErr.{once_err_contract, once_err_parts};
 ghost use Rattle.fallible_contract.specs.Laws.Contract.{lawful_seen};
+ghost use Rattle.fallible_iterator.specs.Sources.OnceErr.{once_err_contract, once_err_parts};
 ghost use Rattle.fallible_iterator.specs.Laws.Sources.OnceErr.{lawful_once_err};
 
 use fallible_core::FallibleIterator;

@@ -1,8 +1,8 @@
 // The source of clones as items.
 ghost use Rattle.std.specs.Prelude.{Some, Ok, Err, Result, Option};
 ghost use Rattle.fallible_contract.specs.Contract.{seen_as};
-ghost use Rattle.fallible_iterator.specs.Sources.Repeat.{repeat_contract, repeat_parts};
 ghost use Rattle.fallible_contract.specs.Laws.Contract.{lawful_seen};
+ghost use Rattle.fallible_iterator.specs.Sources.Repeat.{repeat_contract, repeat_parts};
 ghost use Rattle.fallible_iterator.specs.Laws.Sources.Repeat.{lawful_repeat};
 
 use fallible_core::FallibleIterator;

@@ -1,8 +1,8 @@
 // The source of clones as failures.
 ghost use Rattle.std.specs.Prelude.{Some, Ok, Err, Result, Option};
 ghost use Rattle.fallible_contract.specs.Contract.{seen_as};
-ghost use Rattle.fallible_iterator.specs.Sources.RepeatErr.{repeat_err_contract, repeat_err_parts};
 ghost use Rattle.fallible_contract.specs.Laws.Contract.{lawful_seen};
+ghost use Rattle.fallible_iterator.specs.Sources.RepeatErr.{repeat_err_contract, repeat_err_parts};
 ghost use Rattle.fallible_iterator.specs.Laws.Sources.RepeatErr.{lawful_repeat_err};
 
 use fallible_core::FallibleIterator;

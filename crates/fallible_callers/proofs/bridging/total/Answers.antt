@@ -1,7 +1,7 @@
 -- What is summed is what `unwrap` reads of the numbers.
 use Rattle.std.proofs.Common.{rules, arith}
-use Rattle.std.specs.declared.convert.Infallible.{Infallible}
 use Rattle.fallible_core.proofs.Lemmas.Bridges.{items_unwrapped}
+use Rattle.std.specs.declared.convert.Infallible.{Infallible}
 use Rattle.fallible_callers.proofs.bridging.total.Goals as goal
 
 pub sum-requires-clause-fits : goal.sum-requires-clause-fits

@@ -2,12 +2,12 @@
 use Rattle.std.specs.Prelude.{◌≡◌, Result, Ok, Err, List, [], ◌∷◌, ◌++◌, reverse}
 use Rattle.std.proofs.Common.{refl, sym, ap, subst, ◌∙◌, append_assoc}
 use Rattle.std.proofs.lemmas.List.{append-nil, reverse-append, reverse-reverse}
-use Rattle.fallible_contract.specs.declared.answers.Side.{Side}
-use Rattle.fallible_contract.specs.declared.answers.Side.TheVariants.{Front, Back}
 use Rattle.fallible_contract.specs.Traces.{Answered, end}
 use Rattle.fallible_contract.specs.Lists.{result_answer}
 use Rattle.fallible_contract.specs.BothEnds.{TakesFirst, ListsBothEnds, step_at, RunAtEnds, answer_came, came_in_front, came_behind, Interleaves}
 use Rattle.fallible_contract.proofs.Lemmas.BothEnds.{takes_front, takes_back}
+use Rattle.fallible_contract.specs.declared.answers.Side.{Side}
+use Rattle.fallible_contract.specs.declared.answers.Side.TheVariants.{Front, Back}
 
 module _ {A E : Type 0} where
   -- an answer that isn't an end came before the others

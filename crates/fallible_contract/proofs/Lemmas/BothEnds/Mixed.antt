@@ -1,12 +1,10 @@
 -- Runs and folds from one end stand among draws from both.
 use Rattle.std.specs.Prelude.{Result, List, [], ◌∷◌, ◌++◌, map}
-use Rattle.std.specs.declared.ops.ControlFlow.{ControlFlow}
-use Rattle.fallible_contract.specs.declared.answers.Side.{Side}
-use Rattle.fallible_contract.specs.declared.folds.Exit.{Exit}
 use Rattle.fallible_contract.specs.Traces.{Answered, Run, item}
-use Rattle.fallible_contract.specs.Folds.{Folded, Carried}
+use Rattle.fallible_contract.specs.Folds.{Folded}
 use Rattle.fallible_contract.specs.Laws.Closures.{turns_then}
 use Rattle.fallible_contract.specs.BothEnds.{step_at, RunAtEnds, from_side}
+use Rattle.fallible_contract.specs.declared.answers.Side.{Side}
 
 module _ {S A E : Type 0} (front back : S → Answered A E → S → Type 0) where
   -- a run from one end
@@ -18,13 +16,6 @@ module _ {S A E : Type 0} (front back : S → Answered A E → S → Type 0) whe
   pub mix_then : (drawn others : List (Side × Answered A E)) (s t u : S) → RunAtEnds front back s drawn t → RunAtEnds front back t others u → RunAtEnds front back s (drawn ++ others) u
   mix_then drawn others s t u first rest = turns_then _ drawn others s t u first rest
 
-  -- a run from one end between draws
-  pub run_between : (before after : List (Side × Answered A E)) (side : Side) (trace : List (Answered A E)) (s t u v : S) → RunAtEnds front back s before t → Run (step_at front back side) t trace u → RunAtEnds front back u after v → RunAtEnds front back s (before ++ from_side side trace ++ after) v
-  run_between before after side trace s t u v first ran rest = mix_then (before ++ from_side side trace) after s u v (mix_then before (from_side side trace) s t u first (run_mixed side trace t u ran)) rest
-
   -- a fold from one end, also one that stopped: its items, and the answer that decided
-  pub carried_mixed : {C R : Type 0} {turns : C → A → ControlFlow R C → Type 0} {s t : S} {c : C} {exit : Exit C E R} (side : Side) (fold : Carried (step_at front back side) turns s c exit t) → RunAtEnds front back s (from_side side (map item fold.items ++ fold.last ∷ [])) t
-  carried_mixed {s = s} {t = t} side fold = run_mixed side (map item fold.items ++ fold.last ∷ []) s t fold.ran
-
   pub folded_mixed : {F B E' : Type 0} {call : F → B → A → Result B E' → F → Type 0} {from : E → E' → Type 0} {s t : S} {b : B} {f : F} {r : Result B E'} (side : Side) (fold : Folded (step_at front back side) call from s b f r t) → RunAtEnds front back s (from_side side (map item fold.items ++ fold.last ∷ [])) t
   folded_mixed {s = s} {t = t} side fold = run_mixed side (map item fold.items ++ fold.last ∷ []) s t fold.ran

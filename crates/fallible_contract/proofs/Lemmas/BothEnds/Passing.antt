@@ -7,13 +7,13 @@ use Rattle.std.proofs.lemmas.List.Elements.{filter_map-append, All-nil, All-cons
 use Rattle.fallible_contract.specs.Traces.{Answered, item, end}
 use Rattle.fallible_contract.specs.Passing.{passing_step}
 use Rattle.fallible_contract.specs.Closures.{Calls, Steady, call_in}
-use Rattle.fallible_contract.specs.declared.passing.Outcome.{Outcome}
-use Rattle.fallible_contract.specs.declared.passing.Outcome.TheVariants.{Kept, LeftOut, Failure, End}
 use Rattle.fallible_contract.specs.Laws.Passing.{Passes, done, ends, fails, keeps, refuses, closes, leaves_out, to_passes}
 use Rattle.fallible_contract.specs.BothEnds.{TakesFirst, ListsBothEnds, item_listed, items_listed, source_result, source_list, outcome_listed, passed_result, passed_list}
 use Rattle.fallible_contract.specs.Lists.{Acts}
 use Rattle.fallible_contract.proofs.Lemmas.Lists.Passing.{by_outcome, passed, acts_in_slot}
 use Rattle.fallible_contract.proofs.Lemmas.BothEnds.{takes_front, listed_by_swapping, listed_swapped}
+use Rattle.fallible_contract.specs.declared.passing.Outcome.{Outcome}
+use Rattle.fallible_contract.specs.declared.passing.Outcome.TheVariants.{Kept, LeftOut, Failure, End}
 
 -- ---- lists reversed
 

@@ -6,8 +6,6 @@ use Rattle.std.specs.List.Sorted.{IsPermutation}
 use Rattle.std.specs.Option.{is_some, option_or}
 use Rattle.std.specs.Map.{keys_of, lookup_key}
 use Rattle.std.specs.Set.{is_member}
-use Rattle.std.specs.declared.cmp.Ordering.{Ordering}
-use Rattle.std.specs.declared.cmp.Ordering.TheVariants.{Less, Equal, Greater}
 use Rattle.std.specs.Ordering.{eq_by_cmp, match_ordering, is_eq}
 use Rattle.std.specs.Cmp.{IsEquivalence, IsTotalOrder, eq_by_cmp_equiv}
 use Rattle.std.specs.BTreeSet.{insert_key}
@@ -24,6 +22,8 @@ use Rattle.std.proofs.lemmas.Map.Keys.{IsDistinct-IsPermutation}
 use Rattle.std.proofs.lemmas.Map.{update_all_push}
 use Rattle.std.proofs.lemmas.Map.Made.{is_some-lookup}
 use Rattle.fallible_contract.specs.Collecting.Keyed.{FirstStays, IsSortedSetOf, IsSortedMapOf, IsHashedSetOf, IsHashedMapOf}
+use Rattle.std.specs.declared.cmp.Ordering.{Ordering}
+use Rattle.std.specs.declared.cmp.Ordering.TheVariants.{Less, Equal, Greater}
 
 -- ---- what a search finds
 

@@ -1,13 +1,13 @@
 -- What a comparison makes of two sources whose answers are listed.
 use Rattle.std.specs.Prelude.{◌≡◌, Option, Some, None, Result, Ok, Err, List, [], ◌∷◌, ◌++◌, map}
-use Rattle.std.specs.declared.cmp.Ordering.{Ordering}
-use Rattle.std.specs.declared.cmp.Ordering.TheVariants.{Less, Equal, Greater}
 use Rattle.std.proofs.Common.{refl, sym, ap, ◌∙◌}
 use Rattle.fallible_contract.specs.Traces.{Answered, Run, item}
 use Rattle.fallible_contract.specs.Picking.{OfEach}
 use Rattle.fallible_contract.specs.Lists.{AlwaysGives, Lists, unless_equal, compared}
 use Rattle.fallible_contract.specs.Comparing.{where_drawn, LastRound, Compared, ComparedWith, ReadWith, read_as}
 use Rattle.fallible_contract.proofs.Lemmas.Lists.Drawn.{LeftAt, left_at}
+use Rattle.std.specs.declared.cmp.Ordering.{Ordering}
+use Rattle.std.specs.declared.cmp.Ordering.TheVariants.{Less, Equal, Greater}
 
 -- an item that was drawn was the list's first, and the rest lists what is left
 gives_item : {S A E : Type 0} (steps : S → Answered A E → S → Type 0) (l : List (Result A E)) (s u : S) (x : A) → AlwaysGives steps s l → steps s (item x) u → (rest : List (Result A E)) × (l ≡ Ok x ∷ rest) × AlwaysGives steps u rest

@@ -2,13 +2,13 @@
 use Rattle.std.specs.Prelude.{◌≡◌, ℕ, ◌+◌, ◌-◌, zero, suc, length, Option, Some, None, Result, Ok, Err, List, [], ◌∷◌, ◌++◌, map}
 use Rattle.std.specs.List.{FoldsTo, last_or}
 use Rattle.std.proofs.Common.{refl, sym, ap, subst, ◌∙◌, arith}
-use Rattle.std.specs.declared.alloc.AllocError.{AllocError}
 use Rattle.fallible_contract.specs.Traces.{Answered, Run, item}
 use Rattle.fallible_contract.specs.Folds.{Counted, CountExit, LastOf, LastExit, Nth, NthExit, went_on_with, FoldExit, Folded, ReduceCall}
-use Rattle.fallible_contract.specs.declared.collecting.Fault.{Fault}
-use Rattle.fallible_contract.specs.declared.collecting.Fault.TheVariants.{Source, Memory}
 use Rattle.fallible_contract.specs.Collecting.{Collects, MadeOfParts}
 use Rattle.fallible_contract.specs.Lists.{AlwaysGives, Lists, one_more_than, counted, last_of, nth_of, before, collected, CollectedBy, CollectedAs, UnzippedAs, on_value, folded, ActsWith, Converts, reduce_of, reduced}
+use Rattle.std.specs.declared.alloc.AllocError.{AllocError}
+use Rattle.fallible_contract.specs.declared.collecting.Fault.{Fault}
+use Rattle.fallible_contract.specs.declared.collecting.Fault.TheVariants.{Source, Memory}
 
 module _ {A E : Type 0} where
   -- what is left of the list at the last answer that was drawn

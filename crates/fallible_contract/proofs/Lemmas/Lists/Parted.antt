@@ -1,14 +1,14 @@
 -- What `partition` makes of a source whose answers are listed.
 use Rattle.std.specs.Prelude.{◌≡◌, Bool, true, false, Result, Some, None, Ok, Err, List, [], ◌∷◌, ◌++◌, map}
 use Rattle.std.specs.List.{FoldsTo}
-use Rattle.std.specs.declared.alloc.AllocError.{AllocError}
 use Rattle.std.proofs.Common.{refl, sym, ap, subst, ◌∙◌, inl, inr}
 use Rattle.fallible_contract.specs.Traces.{Answered}
-use Rattle.fallible_contract.specs.declared.collecting.Fault.{Fault}
-use Rattle.fallible_contract.specs.declared.collecting.Fault.TheVariants.{Source, Memory}
 use Rattle.fallible_contract.specs.Collecting.{answered_true, answered_false, Parts, ClosureFails, CollectsAll, FailsWith, RefusesItem, Partitions}
 use Rattle.fallible_contract.specs.Lists.{Lists, Acts, on_value, to_side, parted, PartedBy, PartedAs}
 use Rattle.fallible_contract.proofs.Lemmas.Lists.Drawn.{drawn}
+use Rattle.std.specs.declared.alloc.AllocError.{AllocError}
+use Rattle.fallible_contract.specs.declared.collecting.Fault.{Fault}
+use Rattle.fallible_contract.specs.declared.collecting.Fault.TheVariants.{Source, Memory}
 
 module _ {A E F : Type 0} (call : F → A → Result Bool E → F → Type 0) (h : A → Result Bool E) (f : F) (acts : Acts call f h) where
   abbrev asked : F → A × Bool → F → Type 0

@@ -3,11 +3,11 @@ use Rattle.std.specs.Prelude.{◌≡◌, Result, Some, None, Ok, Err, List, [], 
 use Rattle.std.proofs.Common.{refl, sym, ap, subst, ◌∙◌}
 use Rattle.fallible_contract.specs.Traces.{Answered}
 use Rattle.fallible_contract.specs.Closures.{call_in}
-use Rattle.fallible_contract.specs.declared.passing.Outcome.{Outcome}
-use Rattle.fallible_contract.specs.declared.passing.Outcome.TheVariants.{Kept, LeftOut, Failure, End}
 use Rattle.fallible_contract.specs.Passing.{passing_step}
 use Rattle.fallible_contract.specs.Laws.Passing.{Passes, done, ends, fails, keeps, refuses, closes, leaves_out, to_passes, from_passes}
 use Rattle.fallible_contract.specs.Lists.{AlwaysGives, Lists, Acts}
+use Rattle.fallible_contract.specs.declared.passing.Outcome.{Outcome}
+use Rattle.fallible_contract.specs.declared.passing.Outcome.TheVariants.{Kept, LeftOut, Failure, End}
 
 -- where each draw from s is one from a state that gives the list, s gives it
 module _ {S A E : Type 0} (steps : S → Answered A E → S → Type 0) where

@@ -1,11 +1,11 @@
 -- What the adapters that keep items by their numbers list.
-use Rattle.std.specs.Prelude.{◌≡◌, ℕ, zero, suc, List, [], ◌∷◌, None, Result, Ok, Err}
+use Rattle.std.specs.Prelude.{◌≡◌, ℕ, zero, suc, List, [], ◌∷◌, Result, Ok, Err}
 use Rattle.std.proofs.Common.{refl, subst}
 use Rattle.fallible_contract.specs.Traces.{Answered, item, end}
 use Rattle.fallible_contract.specs.Lists.{AlwaysGives}
-use Rattle.fallible_core.specs.Cutting.StepBy.{stepped}
 use Rattle.fallible_contract.proofs.Lemmas.Counting.{Leaves, keeps_item, keeps_end, keeps_failure, leaves_out, nothing_left}
 use Rattle.fallible_contract.proofs.Lemmas.Lists.Passing.{gives_if}
+use Rattle.fallible_core.specs.Cutting.StepBy.{stepped}
 
 module _ {S A E : Type 0} (steps : S → Answered A E → S → Type 0) (between : ℕ) where
   -- one answer

@@ -1,9 +1,6 @@
 -- A fold of the source is a fold of `Fuse`, which the source's end closes; so are its count, its last item and its `nth`.
 use Rattle.std.specs.Prelude.{◌≡◌, ℕ, Bool, true, false, Option, List, [], ◌∷◌, ◌++◌, map, Result, Some, None, Ok, Err}
-use Rattle.std.specs.declared.ops.ControlFlow.{ControlFlow}
 use Rattle.std.proofs.Common.{refl, sym, ap, subst, arith}
-use Rattle.fallible_contract.specs.declared.folds.Exit.{Exit}
-use Rattle.fallible_contract.specs.declared.folds.Exit.TheVariants.{Ended, Failed, Stopped}
 use Rattle.fallible_contract.specs.Traces.{Answered, Run, item, is_end}
 use Rattle.fallible_contract.specs.Closing.{closing_step}
 use Rattle.fallible_contract.specs.Contract.{Contract, seen_as}
@@ -11,8 +8,11 @@ use Rattle.fallible_contract.specs.Folds.{HoldsAtEachTurn, CarryingExit, Carried
 use Rattle.fallible_contract.proofs.Lemmas.Overriding.{counted_held, last_held, nth_held}
 use Rattle.fallible_contract.proofs.Lemmas.Folding.{holds_into, carried_into}
 use Rattle.fallible_contract.proofs.Lemmas.Folds.{carried_end}
-use Rattle.fallible_core.specs.declared.cutting.fuse.Fuse.{Fuse}
 use Rattle.fallible_core.specs.Cutting.Fuse.{fuse_parts, fuse_contract}
+use Rattle.std.specs.declared.ops.ControlFlow.{ControlFlow}
+use Rattle.fallible_contract.specs.declared.folds.Exit.{Exit}
+use Rattle.fallible_contract.specs.declared.folds.Exit.TheVariants.{Ended, Failed, Stopped}
+use Rattle.fallible_core.specs.declared.cutting.fuse.Fuse.{Fuse}
 
 -- whether a fold met the end
 abbrev pub met_end : {C E R : Type 0} → Exit C E R → Bool

@@ -3,15 +3,15 @@ use Rattle.std.specs.Prelude.{◌≡◌, ℕ, zero, suc, ◌+◌, ◌-◌, ◌�
 use Rattle.std.proofs.Common.{refl, ap, arith}
 use Rattle.std.proofs.lemmas.Bool.{lt-ltb, le-ltb}
 use Rattle.fallible_contract.specs.Traces.{Answered, Run}
-use Rattle.fallible_core.specs.declared.cutting.skip.Skip.{Skip}
 use Rattle.fallible_contract.specs.Contract.{Contract, seen_as}
-use Rattle.fallible_core.specs.Cutting.Skip.{SkipTrace, skip_step, skip_parts, skip_contract, skipped}
 use Rattle.fallible_contract.specs.Lists.{AlwaysGives, Lists}
-use Rattle.fallible_core.specs.Cutting.StepBy.{stepped}
 use Rattle.fallible_contract.proofs.Lemmas.Lists.Passing.{lists_seen}
 use Rattle.fallible_contract.proofs.Lemmas.LawForm.{IsByAnswers, runs_by_answers}
 use Rattle.fallible_contract.proofs.Lemmas.Counting.{Fits, Leaves, none, keeps_item, keeps_end, keeps_failure, nothing_left, then_others, first_apart, by_number, from_number}
+use Rattle.fallible_core.specs.Cutting.Skip.{SkipTrace, skip_step, skip_parts, skip_contract, skipped}
+use Rattle.fallible_core.specs.Cutting.StepBy.{stepped}
 use Rattle.fallible_core.proofs.Lemmas.Cutting.Counting.{leaves_one, stepped_gives}
+use Rattle.fallible_core.specs.declared.cutting.skip.Skip.{Skip}
 
 -- the items up to the n-th are left out
 skip_fits : (n : ℕ) → Fits (λ k. ltb n k) 0 (λ k. n - k) (λ j k. j ≡ n + 1 - k)

@@ -1,18 +1,18 @@
 -- A fold of `Skip` begins by a fold of its source up to the first item that stays. After that item nothing is left to leave out: from there on a fold of the source is one of it.
 use Rattle.std.specs.Prelude.{◌≡◌, ℕ, ◌+◌, List, [], ◌∷◌, ◌++◌, map, Some, None, Ok, Err}
-use Rattle.std.specs.declared.ops.ControlFlow.{ControlFlow}
 use Rattle.std.specs.List.{FoldsTo}
 use Rattle.std.proofs.Common.{refl, sym, subst, arith}
-use Rattle.fallible_contract.specs.declared.folds.Exit.{Exit}
-use Rattle.fallible_contract.specs.declared.folds.Exit.TheVariants.{Ended, Failed, Stopped}
 use Rattle.fallible_contract.specs.Traces.{Answered, Run, item}
 use Rattle.fallible_contract.specs.Contract.{Contract, seen_as}
 use Rattle.fallible_contract.specs.Folds.{HoldsAtEachTurn, Carried, CarryingExit, carrying_turn, IsNthTurn, reached_at}
 use Rattle.fallible_contract.proofs.Lemmas.Counting.{Leaves, none, keeps_item, keeps_end, keeps_failure, leaves_out, left_out_first, moved, nothing_left}
 use Rattle.fallible_contract.proofs.Lemmas.Folding.{holds_into, carried_into}
-use Rattle.fallible_core.specs.declared.cutting.skip.Skip.{Skip}
 use Rattle.fallible_core.specs.Cutting.Skip.{skip_parts, skip_step, skip_contract}
 use Rattle.fallible_core.proofs.Lemmas.Cutting.Skip.{skip_leaves, leaves_skip, plain_draw}
+use Rattle.std.specs.declared.ops.ControlFlow.{ControlFlow}
+use Rattle.fallible_contract.specs.declared.folds.Exit.{Exit}
+use Rattle.fallible_contract.specs.declared.folds.Exit.TheVariants.{Ended, Failed, Stopped}
+use Rattle.fallible_core.specs.declared.cutting.skip.Skip.{Skip}
 
 module _ {S A E : Type 0} (steps : S → Answered A E → S → Type 0) where
   none_left : {s t : S} {n k : ℕ} {x : A} → Leaves steps 0 n s (item x ∷ []) t k → k ≡ 0

@@ -5,16 +5,16 @@ use Rattle.std.proofs.lemmas.Bool.{lt-ltb, le-ltb, le-leb, lt-leb}
 use Rattle.std.proofs.Math.Dec.{eqb-suc-zero}
 use Rattle.std.proofs.Math.Nat.{mul-add-mod_self_left, mod-eq_of_lt}
 use Rattle.fallible_contract.specs.Traces.{Answered, Run}
-use Rattle.fallible_core.specs.declared.cutting.step_by.StepBy.{StepBy}
 use Rattle.fallible_contract.specs.Contract.{Contract, seen_as}
-use Rattle.fallible_core.specs.Cutting.StepBy.{keeps_at_steps, left_after, StepByTrace, step_by_step, step_by_parts, step_by_contract, stepped}
 use Rattle.fallible_contract.specs.Lists.{AlwaysGives, Lists}
 use Rattle.fallible_contract.proofs.Lemmas.Lists.Passing.{lists_seen}
-use Rattle.fallible_core.specs.Cutting.Skip.{SkipTrace}
-use Rattle.fallible_core.proofs.Lemmas.Cutting.Skip.{skip_leaves}
 use Rattle.fallible_contract.proofs.Lemmas.LawForm.{IsByAnswers, runs_by_answers}
 use Rattle.fallible_contract.proofs.Lemmas.Counting.{Fits, Leaves, moved, none, keeps_item, keeps_end, keeps_failure, leaves_out, nothing_left, then_others, first_apart, by_number, from_number}
+use Rattle.fallible_core.specs.Cutting.StepBy.{keeps_at_steps, left_after, StepByTrace, step_by_step, step_by_parts, step_by_contract, stepped}
+use Rattle.fallible_core.specs.Cutting.Skip.{SkipTrace}
+use Rattle.fallible_core.proofs.Lemmas.Cutting.Skip.{skip_leaves}
 use Rattle.fallible_core.proofs.Lemmas.Cutting.Counting.{leaves_one, stepped_gives}
+use Rattle.fallible_core.specs.declared.cutting.step_by.StepBy.{StepBy}
 
 -- ---- numbers
 

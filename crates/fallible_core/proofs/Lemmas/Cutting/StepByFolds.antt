@@ -3,11 +3,11 @@ use Rattle.std.specs.Prelude.{◌≡◌, ℕ, zero, suc, [], ◌∷◌}
 use Rattle.std.proofs.Common.{refl, sym, ap, subst, ◌∙◌, arith}
 use Rattle.fallible_contract.specs.Traces.{Answered, item}
 use Rattle.fallible_contract.specs.Passing.{passing_step}
-use Rattle.fallible_contract.specs.declared.passing.Outcome.TheVariants.{Kept}
 use Rattle.fallible_contract.specs.Laws.Passing.{Passes, done, ends, fails, keeps, refuses, closes, leaves_out, to_passes}
 use Rattle.fallible_contract.proofs.Lemmas.Counting.{Leaves, none, keeps_item, keeps_end, keeps_failure, left_out_first}
 use Rattle.fallible_core.specs.Cutting.StepBy.{step_by_step, left_next, count_call, count_outcome}
 use Rattle.fallible_core.proofs.Lemmas.Cutting.StepBy.{leaves_step_by}
+use Rattle.fallible_contract.specs.declared.passing.Outcome.TheVariants.{Kept}
 
 module _ {S A E : Type 0} (steps : S → Answered A E → S → Type 0) (between : ℕ) where
   abbrev Counts : S → ℕ → Answered A E → S → ℕ → Type 0

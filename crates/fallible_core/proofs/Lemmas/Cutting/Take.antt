@@ -1,13 +1,13 @@
 -- The runs of `Take` are the traces that its definition names.
 use Rattle.std.specs.Prelude.{ℕ, Some, ◌≡◌, zero, suc, ◌+◌, ◌<◌, List, [], ◌∷◌, ◌++◌, replicate, None, Ok, Err, ◌↔◌}
-use Rattle.std.specs.declared.result.Result.{Result}
 use Rattle.std.proofs.Common.{refl, ap, subst, arith}
-use Rattle.fallible_core.specs.declared.cutting.take.Take.{Take}
 use Rattle.fallible_contract.specs.Contract.{Contract, seen_as}
 use Rattle.fallible_contract.specs.Lists.{AlwaysGives, Lists, Repeats, repeated}
-use Rattle.fallible_core.specs.Cutting.Take.{taken, TakeTrace, take_step, take_parts, take_contract}
 use Rattle.fallible_contract.proofs.Lemmas.Lists.Passing.{lists_seen}
 use Rattle.fallible_contract.specs.Traces.{Answered, Run, end, items_in}
+use Rattle.fallible_core.specs.Cutting.Take.{taken, TakeTrace, take_step, take_parts, take_contract}
+use Rattle.std.specs.declared.result.Result.{Result}
+use Rattle.fallible_core.specs.declared.cutting.take.Take.{Take}
 
 module _ {A E : Type 0} where
   count_first : (r : Answered A E) (rest : List (Answered A E)) → items_in (r ∷ rest) ≡ items_in (r ∷ []) + items_in rest

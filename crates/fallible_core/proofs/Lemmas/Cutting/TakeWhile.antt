@@ -4,16 +4,16 @@ use Rattle.std.specs.List.{FoldsTo, filter_map}
 use Rattle.std.specs.Fn.{Mut}
 use Rattle.std.specs.Borrow.{Bor}
 use Rattle.std.proofs.Common.{refl, sym, ap, subst, ◌∙◌}
-use Rattle.fallible_core.specs.declared.cutting.take_while.TakeWhile.{TakeWhile}
 use Rattle.fallible_contract.specs.Contract.{Contract, seen_as}
 use Rattle.fallible_contract.specs.Lists.{AlwaysGives, Lists, Acts, result_answer}
-use Rattle.fallible_core.specs.Cutting.TakeWhile.{cons_while, taken_while, take_while_outcome, taken_answer, is_refused, TakeWhileTrace, place_drawn, take_while_parts, take_while_contract}
 use Rattle.fallible_contract.proofs.Lemmas.Lists.Passing.{passed, by_outcome, lists_seen, lists_passed}
 use Rattle.fallible_contract.specs.Traces.{Answered, Run}
 use Rattle.fallible_contract.specs.Closures.{Calls, call_in, call_at}
 use Rattle.fallible_contract.specs.Passing.{LeavesNoneOut, Place, asked, failure_at, end_at, source_answer, call_of, passing_step}
 use Rattle.fallible_contract.specs.Closing.{closing_step}
 use Rattle.fallible_contract.proofs.Lemmas.Closing.{closing_law}
+use Rattle.fallible_core.specs.Cutting.TakeWhile.{cons_while, taken_while, take_while_outcome, taken_answer, is_refused, TakeWhileTrace, place_drawn, take_while_parts, take_while_contract}
+use Rattle.fallible_core.specs.declared.cutting.take_while.TakeWhile.{TakeWhile}
 
 module _ {S F X R E : Type 0} (steps : S → Answered X E → S → Type 0) (call : F → X → R → F → Type 0) where
   -- the call at a first place, and those at the others

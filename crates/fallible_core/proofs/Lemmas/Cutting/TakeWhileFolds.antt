@@ -1,12 +1,9 @@
 -- A fold of the source by the predicate's answers is a fold of `TakeWhile`, which a refused item closes.
 use Rattle.std.specs.Prelude.{◌≡◌, Bool, true, false, List, [], ◌∷◌, Option, Result, Some, Ok, Err}
-use Rattle.std.specs.declared.ops.ControlFlow.{ControlFlow}
 use Rattle.std.specs.List.{FoldsTo}
 use Rattle.std.specs.Fn.{Mut}
 use Rattle.std.specs.Borrow.{Bor}
 use Rattle.std.proofs.Common.{refl, sym, ap, subst}
-use Rattle.fallible_contract.specs.declared.folds.Exit.{Exit}
-use Rattle.fallible_contract.specs.declared.folds.Exit.TheVariants.{Ended}
 use Rattle.fallible_contract.specs.Traces.{Answered, item}
 use Rattle.fallible_contract.specs.Closures.{IsCallable, IsCallableIn, call_at, takes_at}
 use Rattle.fallible_contract.specs.Contract.{Contract, Lawful, seen_as}
@@ -17,8 +14,11 @@ use Rattle.fallible_contract.specs.Laws.Passing.{Passes, done, ends, fails, keep
 use Rattle.fallible_contract.proofs.Lemmas.Folding.{holds_while, carried_while, takes_through}
 use Rattle.fallible_contract.proofs.Lemmas.Folds.{carried_end}
 use Rattle.fallible_contract.proofs.Lemmas.Passing.{answer_passed}
-use Rattle.fallible_core.specs.declared.cutting.take_while.TakeWhile.{TakeWhile}
 use Rattle.fallible_core.specs.Cutting.TakeWhile.{take_while_outcome, refusing_call, take_while_contract, take_while_parts}
+use Rattle.std.specs.declared.ops.ControlFlow.{ControlFlow}
+use Rattle.fallible_contract.specs.declared.folds.Exit.{Exit}
+use Rattle.fallible_contract.specs.declared.folds.Exit.TheVariants.{Ended}
+use Rattle.fallible_core.specs.declared.cutting.take_while.TakeWhile.{TakeWhile}
 
 -- ---- calls of the predicate, beside whether one refused
 

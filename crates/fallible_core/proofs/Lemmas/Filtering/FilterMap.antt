@@ -2,13 +2,13 @@
 use Rattle.std.specs.Prelude.{◌≡◌, Option, Result, Ok, Err, List, [], ◌∷◌, Some, None}
 use Rattle.std.proofs.Common.{refl, ap, ◌∙◌}
 use Rattle.std.specs.Fn.{Mut}
-use Rattle.fallible_core.specs.declared.filtering.filter_map.FilterMap.{FilterMap}
-use Rattle.fallible_contract.specs.declared.passing.Outcome.TheVariants.{End}
 use Rattle.fallible_contract.specs.Contract.{Contract, seen_as}
 use Rattle.fallible_contract.specs.Closures.{call_on}
-use Rattle.fallible_core.specs.Filtering.FilterMap.{filter_map_outcome, filter_map_parts, filter_map_contract, cons_some, filter_mapped}
 use Rattle.fallible_contract.specs.Lists.{Lists, Acts}
 use Rattle.fallible_contract.proofs.Lemmas.Lists.Passing.{passed, by_outcome, lists_seen, lists_passed}
+use Rattle.fallible_core.specs.Filtering.FilterMap.{filter_map_outcome, filter_map_parts, filter_map_contract, cons_some, filter_mapped}
+use Rattle.fallible_contract.specs.declared.passing.Outcome.TheVariants.{End}
+use Rattle.fallible_core.specs.declared.filtering.filter_map.FilterMap.{FilterMap}
 
 -- no answer of the closure makes an end
 pub never_ends : {X B E : Type 0} (x : X) (v : Result (Option B) E) → filter_map_outcome x v ≡ End → ⊥

@@ -2,20 +2,20 @@
 use Rattle.std.specs.Prelude.{Option, Result, Bool, Some, None, Ok, Err, ◌≡◌, List, [], ◌∷◌, ◌++◌, map, true, false, IsSome, ◌↔◌}
 use Rattle.std.specs.List.{filter_map}
 use Rattle.std.proofs.Common.{refl, sym, ◌∙◌, ap, subst, append-nil}
-use Rattle.fallible_contract.specs.Traces.{Answered, Run, item}
-use Rattle.fallible_contract.specs.Closures.{Calls, call_in, call_at}
 use Rattle.std.specs.Fn.{Mut}
 use Rattle.std.specs.Borrow.{Bor}
-use Rattle.fallible_core.specs.declared.filtering.skip_while.SkipWhile.{SkipWhile}
+use Rattle.fallible_contract.specs.Traces.{Answered, Run, item}
+use Rattle.fallible_contract.specs.Closures.{Calls, call_in, call_at}
 use Rattle.fallible_contract.specs.Contract.{Contract, seen_as}
 use Rattle.fallible_contract.specs.Lists.{Lists, Acts}
-use Rattle.fallible_core.specs.Filtering.SkipWhile.{cons_from, skipped_while, skip_call, skip_while_outcome, skip_while_parts, skip_while_contract, answers_false, false_at, EndsAtFalse, asked_outcome, AskedUntilFalse, SkipWhileTrace}
 use Rattle.fallible_contract.proofs.Lemmas.Lists.Passing.{passed, by_outcome, all_given, lists_seen}
-use Rattle.fallible_core.specs.Laws.Filtering.SkipWhile.{into}
 use Rattle.fallible_contract.specs.Passing.{PassTrace, Place, asked, failure_at, end_at, source_answer, call_of, answer_at}
 use Rattle.fallible_contract.proofs.Lemmas.LawForm.{runs_by_answers}
 use Rattle.fallible_contract.proofs.Lemmas.Passing.{passing_by_answers, passes_held}
 use Rattle.fallible_contract.specs.Laws.Passing.{Passes, done, ends, fails, keeps, refuses, closes, leaves_out, kept_tail, kept_cons, kept_before, answered, to_passes, from_passes}
+use Rattle.fallible_core.specs.Filtering.SkipWhile.{cons_from, skipped_while, skip_call, skip_while_outcome, skip_while_parts, skip_while_contract, answers_false, false_at, EndsAtFalse, asked_outcome, AskedUntilFalse, SkipWhileTrace}
+use Rattle.fallible_core.specs.Laws.Filtering.SkipWhile.{into}
+use Rattle.fallible_core.specs.declared.filtering.skip_while.SkipWhile.{SkipWhile}
 
 -- ---- the places met, one before the others
 

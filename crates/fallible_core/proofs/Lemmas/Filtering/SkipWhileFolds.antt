@@ -1,19 +1,19 @@
 -- After an item `SkipWhile` asks its predicate no more: from there on a fold of the source is one of it.
 use Rattle.std.specs.Prelude.{◌≡◌, Bool, true, false, Option, Some, None, List, [], ◌∷◌, Result, Ok, Err}
-use Rattle.std.specs.declared.ops.ControlFlow.{ControlFlow}
 use Rattle.std.specs.Fn.{Mut}
 use Rattle.std.specs.Borrow.{Bor}
 use Rattle.std.proofs.Common.{refl, ap, subst, sym, ◌∙◌}
-use Rattle.fallible_contract.specs.declared.folds.Exit.{Exit}
 use Rattle.fallible_contract.specs.Traces.{Answered, item}
 use Rattle.fallible_contract.specs.Closures.{call_in, call_at}
 use Rattle.fallible_contract.specs.Contract.{Contract, seen_as}
 use Rattle.fallible_contract.specs.Folds.{HoldsAtEachTurn, Carried}
 use Rattle.fallible_contract.specs.Laws.Passing.{Passes, done, ends, fails, keeps, refuses, closes, leaves_out, to_passes, from_passes}
 use Rattle.fallible_contract.proofs.Lemmas.Folding.{holds_into, carried_into}
-use Rattle.fallible_core.specs.declared.filtering.skip_while.SkipWhile.{SkipWhile}
 use Rattle.fallible_core.specs.Filtering.SkipWhile.{skip_call, skip_while_outcome, skip_while_contract, skip_while_parts}
 use Rattle.fallible_core.proofs.Lemmas.Filtering.SkipWhile.{after_false, run_passes}
+use Rattle.std.specs.declared.ops.ControlFlow.{ControlFlow}
+use Rattle.fallible_contract.specs.declared.folds.Exit.{Exit}
+use Rattle.fallible_core.specs.declared.filtering.skip_while.SkipWhile.{SkipWhile}
 
 module _ {S F X E : Type 0} (steps : S → Answered X E → S → Type 0) (call : F → X → Result Bool E → F → Type 0) where
   -- where an item is the answer, the predicate has answered false

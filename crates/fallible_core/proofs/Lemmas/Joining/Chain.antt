@@ -1,14 +1,14 @@
 -- The runs of `Chain` are the traces that its definition names.
 use Rattle.std.specs.Prelude.{◌≡◌, ◌≢◌, true, false, List, [], ◌∷◌, ◌++◌, ◌↔◌, Result, Ok, Err}
 use Rattle.std.proofs.Common.{refl, sym, ap, subst, inl, inr}
-use Rattle.fallible_core.specs.declared.joining.chain.Chain.{Chain}
 use Rattle.fallible_contract.specs.Contract.{Contract, seen_as}
 use Rattle.fallible_contract.specs.Lists.{AlwaysGives, Lists, result_answer}
-use Rattle.fallible_core.specs.Joining.Chain.{chained, JoinedTrace, ChainTrace, chain_step, chain_parts, chain_behind, chain_contract}
 use Rattle.fallible_contract.proofs.Lemmas.Lists.Passing.{lists_seen}
+use Rattle.fallible_contract.specs.Traces.{Answered, Run, end, NoEnd, is_end}
+use Rattle.fallible_core.specs.Joining.Chain.{chained, JoinedTrace, ChainTrace, chain_step, chain_parts, chain_behind, chain_contract}
+use Rattle.fallible_core.specs.declared.joining.chain.Chain.{Chain}
 use Rattle.fallible_core.specs.declared.joining.chain.StillDrawn.{StillDrawn}
 use Rattle.fallible_core.specs.declared.joining.chain.StillDrawn.TheVariants.{Both, FirstAlone, SecondAlone}
-use Rattle.fallible_contract.specs.Traces.{Answered, Run, end, NoEnd, is_end}
 
 module _ {S U A E : Type 0} (steps : S → Answered A E → S → Type 0) (others : U → Answered A E → U → Type 0) where
   abbrev Step : S × U × StillDrawn → Answered A E → S × U × StillDrawn → Type 0

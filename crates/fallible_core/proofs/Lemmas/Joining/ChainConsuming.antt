@@ -2,9 +2,6 @@
 use Rattle.std.specs.Prelude.{◌≡◌, ℕ, ◌+◌, ◌≤◌, length, Bool, true, false, List, [], ◌∷◌, ◌++◌, map, Option, Result, Some, None, Ok, Err}
 use Rattle.std.specs.List.{FoldsTo, last_or}
 use Rattle.std.proofs.Common.{refl, sym, ◌∙◌, ap, subst, arith, length-append}
-use Rattle.fallible_core.specs.declared.joining.chain.Chain.{Chain}
-use Rattle.fallible_core.specs.declared.joining.chain.StillDrawn.{StillDrawn}
-use Rattle.fallible_core.specs.declared.joining.chain.StillDrawn.TheVariants.{Both, FirstAlone, SecondAlone}
 use Rattle.fallible_contract.specs.Traces.{Answered, Run, item, end, is_end, items_in}
 use Rattle.fallible_contract.specs.Contract.{Contract, AtMost, Lawful, seen_as}
 use Rattle.fallible_contract.specs.Folds.{CountExit, Counted, LastExit, LastOf}
@@ -16,6 +13,9 @@ use Rattle.fallible_contract.proofs.Lemmas.Overriding.{counted_held, last_held, 
 use Rattle.fallible_core.specs.Joining.Chain.{chain_step, chain_contract, chain_parts}
 use Rattle.fallible_core.proofs.Lemmas.Joining.Chain.{of_parts, from_first, from_second, from_both}
 use Rattle.fallible_core.proofs.Lemmas.Joining.ChainFolds.{no_end, run_over, holds_after_end, parts_hold}
+use Rattle.fallible_core.specs.declared.joining.chain.Chain.{Chain}
+use Rattle.fallible_core.specs.declared.joining.chain.StillDrawn.{StillDrawn}
+use Rattle.fallible_core.specs.declared.joining.chain.StillDrawn.TheVariants.{Both, FirstAlone, SecondAlone}
 
 -- ---- count
 

@@ -2,13 +2,13 @@
 use Rattle.std.specs.Prelude.{◌≡◌, false, Result, Ok, Err, List, [], ◌∷◌, ◌++◌, reverse}
 use Rattle.std.proofs.Common.{refl, sym, ap, subst, ◌∙◌, inl, inr}
 use Rattle.std.proofs.lemmas.List.{reverse-append}
-use Rattle.fallible_core.specs.declared.joining.chain.StillDrawn.{StillDrawn}
-use Rattle.fallible_core.specs.declared.joining.chain.StillDrawn.TheVariants.{Both, FirstAlone, SecondAlone}
 use Rattle.fallible_contract.specs.Traces.{Answered, end, is_end}
 use Rattle.fallible_contract.specs.Lists.{result_answer}
-use Rattle.fallible_core.specs.Joining.Chain.{chained, chain_step, chain_behind}
 use Rattle.fallible_contract.specs.BothEnds.{TakesFirst, ListsBothEnds}
 use Rattle.fallible_contract.proofs.Lemmas.BothEnds.{takes_front, listed_by_swapping, listed_swapped}
+use Rattle.fallible_core.specs.Joining.Chain.{chained, chain_step, chain_behind}
+use Rattle.fallible_core.specs.declared.joining.chain.StillDrawn.{StillDrawn}
+use Rattle.fallible_core.specs.declared.joining.chain.StillDrawn.TheVariants.{Both, FirstAlone, SecondAlone}
 
 -- One answer from behind: a draw of the chain of the second and the first, each drawn from behind.
 abbrev pub chain_step_behind : {S U A E : Type 0} → (S → Answered A E → S → Type 0) → (U → Answered A E → U → Type 0) → S × U × StillDrawn → Answered A E → S × U × StillDrawn → Type 0

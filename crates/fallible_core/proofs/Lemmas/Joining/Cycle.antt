@@ -1,9 +1,9 @@
 -- The runs of `Cycle` are the traces that its definition names.
 use Rattle.std.specs.Prelude.{◌≡◌, List, [], ◌∷◌, ◌++◌, Err, false, ◌↔◌}
-use Rattle.std.specs.declared.alloc.AllocError.{AllocError}
 use Rattle.std.proofs.Common.{refl, sym, ap, subst, inl, inr}
 use Rattle.fallible_contract.specs.Traces.{Answered, Run, end, is_end, NoEnd}
 use Rattle.fallible_core.specs.Joining.Cycle.{Laps, CycleTrace, last_lap, then_a_clone, then_a_refusal, CycleAnswer, cycle_step}
+use Rattle.std.specs.declared.alloc.AllocError.{AllocError}
 
 module _ {S A E : Type 0} (is_clone : S → S → Type 0) (is_infallible : S → Type 0) (from : AllocError → E → Type 0) (steps : S → Answered A E → S → Type 0) where
   abbrev Trace : S → S → List (Answered A E) → S → Type 0

@@ -1,23 +1,23 @@
 -- The runs of `Flatten` are the traces that its definition names, one draw of it is a fold that stops, and what it lists.
 use Rattle.std.specs.Prelude.{◌≡◌, false, List, [], ◌∷◌, ◌++◌, map, Option, Result, Some, None, Ok, Err}
-use Rattle.std.specs.declared.ops.ControlFlow.{ControlFlow}
-use Rattle.std.specs.declared.ops.ControlFlow.TheVariants.{Continue, Break}
 use Rattle.std.specs.List.{FoldsTo, flat_map}
 use Rattle.std.proofs.Common.{refl, sym, ◌∙◌, ap, subst}
 use Rattle.std.proofs.lemmas.List.{append-nil}
-use Rattle.fallible_contract.specs.declared.folds.Exit.{Exit}
 use Rattle.fallible_contract.specs.Traces.{Answered, Run, item, failure, end, is_end}
 use Rattle.fallible_contract.specs.Contract.{Contract, Lawful, seen_as}
-use Rattle.fallible_core.specs.declared.joining.flatten.Flatten.{Flatten}
 use Rattle.fallible_contract.specs.Lists.{AlwaysGives, Lists, result_answer}
-use Rattle.fallible_core.specs.Joining.Flatten.{EachLists, flattened, flatten_parts, flatten_contract, FlattenTrace, IsFlattenNextTurn, EachInner, Part, of_inner, of_failure, of_end, outer_answer, part_answers, Finished, FinishedPart, LastPart, FinishedInHand, Joined, FlattenAnswers, nothing_drawn, still_in_hand, outer_drawn}
-use Rattle.fallible_core.specs.Joining.Chain.{chained}
 use Rattle.fallible_contract.proofs.Lemmas.Lists.Passing.{gives_if, lists_seen}
-use Rattle.fallible_core.proofs.Lemmas.Joining.Chain.{not_end}
 use Rattle.fallible_contract.specs.Folds.{HoldsAtEachTurn, carrying_turn, CarryingExit, Carried, stopped_answer, unpacked}
 use Rattle.fallible_contract.proofs.Lemmas.LawForm.{FirstOf, IsByAnswers}
 use Rattle.fallible_contract.proofs.Lemmas.Contract.{given_after}
+use Rattle.fallible_core.specs.Joining.Flatten.{EachLists, flattened, flatten_parts, flatten_contract, FlattenTrace, IsFlattenNextTurn, EachInner, Part, of_inner, of_failure, of_end, outer_answer, part_answers, Finished, FinishedPart, LastPart, FinishedInHand, Joined, FlattenAnswers, nothing_drawn, still_in_hand, outer_drawn}
+use Rattle.fallible_core.specs.Joining.Chain.{chained}
+use Rattle.fallible_core.proofs.Lemmas.Joining.Chain.{not_end}
 use Rattle.fallible_core.specs.Laws.Joining.Flatten.{Flattens, done, gives, fails, finishes, begins, outer_fails, outer_ends, to_flattens}
+use Rattle.std.specs.declared.ops.ControlFlow.{ControlFlow}
+use Rattle.std.specs.declared.ops.ControlFlow.TheVariants.{Continue, Break}
+use Rattle.fallible_contract.specs.declared.folds.Exit.{Exit}
+use Rattle.fallible_core.specs.declared.joining.flatten.Flatten.{Flatten}
 
 module _ {S X C B E : Type 0} (outer : S → Answered X E → S → Type 0) (into : X → C → Type 0) (inner : C → Answered B E → C → Type 0) where
   abbrev F : S → Option C → List (Answered B E) → S → Option C → Type 0

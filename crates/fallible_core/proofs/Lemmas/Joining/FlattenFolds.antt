@@ -1,11 +1,7 @@
 -- Folds of `Flatten`: one of the inner iterator in hand, and after its end one of the outer source, whose turn folds the inner iterator that the item becomes.
 use Rattle.std.specs.Prelude.{◌≡◌, ◌≢◌, false, List, [], ◌∷◌, ◌++◌, map, Option, Some, None, Ok, Err}
-use Rattle.std.specs.declared.ops.ControlFlow.{ControlFlow}
-use Rattle.std.specs.declared.ops.ControlFlow.TheVariants.{Break}
 use Rattle.std.specs.List.{FoldsTo}
 use Rattle.std.proofs.Common.{refl, sym, ap, subst}
-use Rattle.fallible_contract.specs.declared.folds.Exit.{Exit}
-use Rattle.fallible_contract.specs.declared.folds.Exit.TheVariants.{Ended, Failed, Stopped}
 use Rattle.fallible_contract.specs.Traces.{Answered, Run, Yields, item, end, is_end}
 use Rattle.fallible_contract.specs.Contract.{Contract, Lawful}
 use Rattle.fallible_contract.specs.Folds.{HoldsAtEachTurn, carrying_turn, CarryingExit, Carried}
@@ -16,6 +12,10 @@ use Rattle.fallible_core.specs.Joining.Flatten.{flatten_contract, IsFlattenFoldT
 use Rattle.fallible_core.specs.Laws.Joining.Flatten.{done, begins, outer_fails, outer_ends, to_flattens}
 use Rattle.fallible_core.proofs.Lemmas.Joining.Flatten.{from_flattens, flatten_in_hand, flatten_after_end}
 use Rattle.fallible_core.proofs.Lemmas.Joining.ChainFolds.{yields_first, exit_at_end, exit_elsewhere}
+use Rattle.std.specs.declared.ops.ControlFlow.{ControlFlow}
+use Rattle.std.specs.declared.ops.ControlFlow.TheVariants.{Break}
+use Rattle.fallible_contract.specs.declared.folds.Exit.{Exit}
+use Rattle.fallible_contract.specs.declared.folds.Exit.TheVariants.{Ended, Failed, Stopped}
 
 -- what the outer source's fold hands back: the inner iterator in hand, and the exit of the whole
 abbrev pub joined_hand : {C E V R : Type 0} → Exit V E (C × Exit V E R) → Option C

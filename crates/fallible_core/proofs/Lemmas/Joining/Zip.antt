@@ -2,12 +2,12 @@
 use Rattle.std.specs.Prelude.{◌≡◌, List, [], ◌∷◌, map, ◌↔◌, Some, None, Result, Ok, Err}
 use Rattle.std.specs.List.{filter_map}
 use Rattle.std.proofs.Common.{refl, ap, ◌∙◌}
-use Rattle.fallible_core.specs.declared.joining.zip.Zip.{Zip}
 use Rattle.fallible_contract.specs.Traces.{Answered, Run, end}
 use Rattle.fallible_contract.specs.Contract.{Contract, seen_as}
 use Rattle.fallible_contract.specs.Lists.{AlwaysGives, Lists, items}
-use Rattle.fallible_core.specs.Joining.Zip.{zipped, NoFailureAtEnd, ZipPlace, left_failed, both_drawn, left_answer, right_answer, zip_answer, ZipTrace, right_step, zip_step, zip_parts, zip_contract}
 use Rattle.fallible_contract.proofs.Lemmas.Lists.Passing.{lists_seen}
+use Rattle.fallible_core.specs.Joining.Zip.{zipped, NoFailureAtEnd, ZipPlace, left_failed, both_drawn, left_answer, right_answer, zip_answer, ZipTrace, right_step, zip_step, zip_parts, zip_contract}
+use Rattle.fallible_core.specs.declared.joining.zip.Zip.{Zip}
 
 module _ {S U A B E : Type 0} (steps : S → Answered A E → S → Type 0) (others : U → Answered B E → U → Type 0) where
   abbrev Step : S × U → Answered (A × B) E → S × U → Type 0

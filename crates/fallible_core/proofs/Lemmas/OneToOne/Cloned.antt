@@ -2,20 +2,20 @@
 use Rattle.std.specs.Prelude.{◌≡◌, Result, Ok, Err, List, [], ◌∷◌, map, All}
 use Rattle.std.proofs.lemmas.List.Elements.{All-nil, All-cons, All-head, All-tail}
 use Rattle.std.specs.Borrow.{Bor}
-use Rattle.std.specs.declared.alloc.AllocError.{AllocError}
 use Rattle.std.proofs.Common.{refl, sym, ap, subst, inl, inr}
-use Rattle.fallible_core.specs.declared.one_to_one.cloned.Cloned.{Cloned}
 use Rattle.fallible_contract.specs.Contract.{Contract, Stays, seen_as}
 use Rattle.fallible_contract.specs.Laws.Closures.{reaches_here, may_answer_after}
-use Rattle.fallible_core.specs.OneToOne.Map.{map_outcome, mapped}
-use Rattle.fallible_core.specs.OneToOne.Cloned.{cloned_call, cloned_parts, cloned_contract, pointed_to}
 use Rattle.fallible_contract.specs.Traces.{Answered}
 use Rattle.fallible_contract.specs.Passing.{passing_step}
 use Rattle.fallible_contract.specs.Lists.{Lists}
 use Rattle.fallible_contract.specs.BothEnds.{ListsBothEnds, items_listed, source_list, passed_list}
 use Rattle.fallible_contract.proofs.Lemmas.BothEnds.Passing.{GivesAt, beside, source_beside, listed_passed}
-use Rattle.fallible_core.proofs.Lemmas.OneToOne.Map.{never_ends}
 use Rattle.fallible_contract.proofs.Lemmas.Lists.Passing.{passed, all_given, lists_seen}
+use Rattle.fallible_core.specs.OneToOne.Map.{map_outcome, mapped}
+use Rattle.fallible_core.specs.OneToOne.Cloned.{cloned_call, cloned_parts, cloned_contract, pointed_to}
+use Rattle.fallible_core.proofs.Lemmas.OneToOne.Map.{never_ends}
+use Rattle.std.specs.declared.alloc.AllocError.{AllocError}
+use Rattle.fallible_core.specs.declared.one_to_one.cloned.Cloned.{Cloned}
 
 pointed_to_is : {T E : Type 0} (l : List (Result (Bor T) E)) → passed map_outcome (λ (p : Unit {0}) (x : Bor T). Ok x.now) (λ p x. p) tt l ≡ pointed_to l
 unfolding pointed_to

@@ -1,14 +1,14 @@
 -- The runs of `Enumerate` are the traces that its definition names, and what it lists.
 use Rattle.std.specs.Prelude.{◌≡◌, ℕ, ◌+◌, List, [], ◌∷◌, Result, Some, None, Ok, Err}
 use Rattle.std.proofs.Common.{refl, sym, ap, subst, arith}
-use Rattle.fallible_core.specs.declared.one_to_one.enumerate.Enumerate.{Enumerate}
 use Rattle.fallible_contract.specs.Contract.{Contract, seen_as}
 use Rattle.fallible_contract.specs.Lists.{AlwaysGives, Lists}
-use Rattle.fallible_core.specs.OneToOne.Enumerate.{numbered, EnumerateTrace, enumerate_parts, enumerate_contract}
 use Rattle.fallible_contract.proofs.Lemmas.Lists.Passing.{lists_seen}
 use Rattle.fallible_contract.specs.Traces.{Answered, item}
-use Rattle.fallible_core.specs.Laws.OneToOne.Enumerate.{Numbered, numbered_none, numbered_item, numbered_end, numbered_failure, to_numbered}
 use Rattle.fallible_contract.proofs.Lemmas.LawForm.{FirstOf, IsByAnswers}
+use Rattle.fallible_core.specs.OneToOne.Enumerate.{numbered, EnumerateTrace, enumerate_parts, enumerate_contract}
+use Rattle.fallible_core.specs.Laws.OneToOne.Enumerate.{Numbered, numbered_none, numbered_item, numbered_end, numbered_failure, to_numbered}
+use Rattle.fallible_core.specs.declared.one_to_one.enumerate.Enumerate.{Enumerate}
 
 module _ {S A E : Type 0} (steps : S → Answered A E → S → Type 0) where
   abbrev M : S → ℕ → List (Answered (ℕ × A) E) → S → ℕ → Type 0

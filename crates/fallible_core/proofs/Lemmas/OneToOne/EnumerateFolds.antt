@@ -1,10 +1,7 @@
 -- A fold of the source that numbers its items is a fold of `Enumerate`, and a count of the source is a count of it.
 use Rattle.std.specs.Prelude.{◌≡◌, ℕ, suc, ◌+◌, length, List, [], ◌∷◌, ◌++◌, map, Result, Some, None, Ok, Err, ⊤}
-use Rattle.std.specs.declared.ops.ControlFlow.{ControlFlow}
-use Rattle.std.specs.declared.ops.ControlFlow.TheVariants.{Continue, Break}
 use Rattle.std.specs.List.{FoldsTo}
 use Rattle.std.proofs.Common.{refl, sym, ap, subst, ◌∙◌, arith, inl}
-use Rattle.fallible_contract.specs.declared.folds.Exit.{Exit}
 use Rattle.fallible_contract.specs.Traces.{Answered, Run, item}
 use Rattle.fallible_contract.specs.Passing.{IfItem, passing_step}
 use Rattle.fallible_contract.specs.Contract.{Contract, Lawful}
@@ -15,6 +12,9 @@ use Rattle.fallible_contract.proofs.Lemmas.Folds.{count_fits}
 use Rattle.fallible_contract.proofs.Lemmas.Folding.{takes_freely}
 use Rattle.fallible_core.specs.OneToOne.Enumerate.{IsNumberable, number_call, number_outcome, number_takes}
 use Rattle.fallible_core.proofs.Lemmas.OneToOne.Enumerate.{enumerate_item, enumerate_end, enumerate_failure, numbered_step}
+use Rattle.std.specs.declared.ops.ControlFlow.{ControlFlow}
+use Rattle.std.specs.declared.ops.ControlFlow.TheVariants.{Continue, Break}
+use Rattle.fallible_contract.specs.declared.folds.Exit.{Exit}
 
 -- ---- steps
 

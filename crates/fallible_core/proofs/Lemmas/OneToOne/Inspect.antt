@@ -3,14 +3,14 @@ use Rattle.std.specs.Prelude.{◌≡◌, Result, Ok, Err, List, [], ◌∷◌, S
 use Rattle.std.proofs.Common.{refl, ap, ◌∙◌}
 use Rattle.std.specs.Fn.{Mut}
 use Rattle.std.specs.Borrow.{Bor}
-use Rattle.fallible_core.specs.declared.one_to_one.inspect.Inspect.{Inspect}
-use Rattle.fallible_contract.specs.declared.passing.Outcome.TheVariants.{End}
 use Rattle.fallible_contract.specs.Contract.{Contract, seen_as}
 use Rattle.fallible_contract.specs.Closures.{call_at}
 use Rattle.fallible_contract.specs.Passing.{LeavesNoneOut}
-use Rattle.fallible_core.specs.OneToOne.Inspect.{inspect_outcome, inspect_parts, inspect_contract, once_seen, inspected}
 use Rattle.fallible_contract.specs.Lists.{Lists, Acts}
 use Rattle.fallible_contract.proofs.Lemmas.Lists.Passing.{passed, by_outcome, lists_seen, lists_passed}
+use Rattle.fallible_core.specs.OneToOne.Inspect.{inspect_outcome, inspect_parts, inspect_contract, once_seen, inspected}
+use Rattle.fallible_contract.specs.declared.passing.Outcome.TheVariants.{End}
+use Rattle.fallible_core.specs.declared.one_to_one.inspect.Inspect.{Inspect}
 
 -- no answer of the closure makes an end
 pub never_ends : {X E : Type 0} (x : X) (v : Result (Unit {0}) E) → inspect_outcome x v ≡ End → ⊥

@@ -2,14 +2,14 @@
 use Rattle.std.specs.Prelude.{◌≡◌, Result, Ok, Err, List, [], ◌∷◌, Some}
 use Rattle.std.proofs.Common.{refl, ap, ◌∙◌}
 use Rattle.std.specs.Fn.{Mut}
-use Rattle.fallible_core.specs.declared.one_to_one.map.Map.{Map}
-use Rattle.fallible_contract.specs.declared.passing.Outcome.TheVariants.{End}
 use Rattle.fallible_contract.specs.Contract.{Contract, seen_as}
 use Rattle.fallible_contract.specs.Closures.{call_on}
 use Rattle.fallible_contract.specs.Passing.{LeavesNoneOut}
-use Rattle.fallible_core.specs.OneToOne.Map.{map_outcome, map_parts, map_contract, mapped}
 use Rattle.fallible_contract.specs.Lists.{Lists, Acts}
 use Rattle.fallible_contract.proofs.Lemmas.Lists.Passing.{passed, by_outcome, lists_seen, lists_passed}
+use Rattle.fallible_core.specs.OneToOne.Map.{map_outcome, map_parts, map_contract, mapped}
+use Rattle.fallible_contract.specs.declared.passing.Outcome.TheVariants.{End}
+use Rattle.fallible_core.specs.declared.one_to_one.map.Map.{Map}
 
 -- no answer of the closure makes an end
 pub never_ends : {X B E : Type 0} (x : X) (v : Result B E) → map_outcome x v ≡ End → ⊥

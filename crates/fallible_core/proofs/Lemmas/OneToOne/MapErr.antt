@@ -2,21 +2,21 @@
 use Rattle.std.specs.Prelude.{◌≡◌, List, [], ◌∷◌, map, Result, Some, None, Ok, Err}
 use Rattle.std.specs.Fn.{Mut}
 use Rattle.std.proofs.Common.{refl, sym, ap, subst, ◌∙◌}
-use Rattle.fallible_core.specs.declared.one_to_one.map_err.MapErr.{MapErr}
-use Rattle.fallible_contract.specs.declared.passing.Outcome.TheVariants.{End}
 use Rattle.fallible_contract.specs.Traces.{Answered}
 use Rattle.fallible_contract.specs.Closures.{Steady, call_on}
 use Rattle.fallible_contract.specs.Contract.{Contract, seen_as}
 use Rattle.fallible_contract.specs.Exchange.{exchanged, exchanged_result, steps_exchanged}
 use Rattle.fallible_contract.specs.Passing.{passing_step}
 use Rattle.fallible_contract.specs.Lists.{Lists, Acts}
-use Rattle.fallible_core.specs.OneToOne.MapErr.{failures_mapped, map_err_outcome, MapErrTrace, MapErrAnswer, map_err_parts, map_err_contract}
 use Rattle.fallible_contract.specs.BothEnds.{ListsBothEnds, items_listed, failures_listed, source_list, passed_list}
 use Rattle.fallible_contract.proofs.Lemmas.LawForm.{IsByAnswers, answers_renamed}
 use Rattle.fallible_contract.proofs.Lemmas.Passing.{passing_by_answers, answer_passed}
 use Rattle.fallible_contract.proofs.Lemmas.Exchange.{gives_exchanged, listed_exchanged, list_exchanged_twice}
 use Rattle.fallible_contract.proofs.Lemmas.Lists.Passing.{passed, lists_seen, lists_acting}
 use Rattle.fallible_contract.proofs.Lemmas.BothEnds.Passing.{listed_passed, listed_by_function}
+use Rattle.fallible_core.specs.OneToOne.MapErr.{failures_mapped, map_err_outcome, MapErrTrace, MapErrAnswer, map_err_parts, map_err_contract}
+use Rattle.fallible_contract.specs.declared.passing.Outcome.TheVariants.{End}
+use Rattle.fallible_core.specs.declared.one_to_one.map_err.MapErr.{MapErr}
 
 pub map_err_by_answers : {S F X D E : Type 0} (steps : S → Answered X D → S → Type 0) (call : F → D → E → F → Type 0) → IsByAnswers (MapErrTrace steps call)
 map_err_by_answers steps call = answers_renamed exchanged (passing_by_answers (steps_exchanged steps) call map_err_outcome)

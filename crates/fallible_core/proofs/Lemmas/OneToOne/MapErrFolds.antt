@@ -1,19 +1,19 @@
 -- A fold of the source, and the call where it met a failure, are a fold of `MapErr`; so of its count, its last item and its `nth`.
 use Rattle.std.specs.Prelude.{◌≡◌, ℕ, length, List, [], ◌∷◌, ◌++◌, map, Option, Result, Some, None, Ok, Err}
-use Rattle.std.specs.declared.ops.ControlFlow.{ControlFlow}
 use Rattle.std.specs.Fn.{Mut}
 use Rattle.std.specs.List.{last_or}
 use Rattle.std.proofs.Common.{refl, sym, subst}
-use Rattle.fallible_contract.specs.declared.folds.Exit.{Exit}
 use Rattle.fallible_contract.specs.Traces.{Answered, Run, item}
 use Rattle.fallible_contract.specs.Contract.{Contract, Lawful}
 use Rattle.fallible_contract.specs.Closures.{IsCallable, call_on, takes_on}
 use Rattle.fallible_contract.specs.Folds.{HoldsAtEachTurn, CarryingExit, Carried, Counted, LastOf, NthExit, Nth}
 use Rattle.fallible_contract.specs.Laws.Closures.{reaches_here, callable_after}
 use Rattle.fallible_contract.proofs.Lemmas.Folding.{holds_into}
-use Rattle.fallible_core.specs.declared.one_to_one.map_err.MapErr.{MapErr}
 use Rattle.fallible_core.specs.OneToOne.MapErr.{MapErrTrace, MapErrAnswer, MapErrExit, TakesExit, TakesFailure, map_err_parts}
 use Rattle.fallible_core.proofs.Lemmas.OneToOne.MapErr.{map_err_answered}
+use Rattle.std.specs.declared.ops.ControlFlow.{ControlFlow}
+use Rattle.fallible_contract.specs.declared.folds.Exit.{Exit}
+use Rattle.fallible_core.specs.declared.one_to_one.map_err.MapErr.{MapErr}
 
 -- v where the last answer is an end, or its failure: so of a count and of a last item
 abbrev ValueAtEnd : {C X D : Type 0} → C → Answered X D → Result C D → Type 0

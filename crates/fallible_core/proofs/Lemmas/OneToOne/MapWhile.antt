@@ -5,12 +5,12 @@ use Rattle.std.specs.Fn.{Mut}
 use Rattle.fallible_contract.specs.Closures.{call_on}
 use Rattle.fallible_contract.specs.Contract.{Contract, seen_as}
 use Rattle.fallible_contract.specs.Lists.{Lists, Acts}
-use Rattle.fallible_core.specs.OneToOne.Scan.{cons_or_end, scan_outcome}
 use Rattle.fallible_contract.specs.Passing.{LeavesNoneOut}
 use Rattle.fallible_contract.proofs.Lemmas.Lists.Passing.{passed, lists_seen, lists_passed}
+use Rattle.fallible_core.specs.OneToOne.Scan.{cons_or_end, scan_outcome}
 use Rattle.fallible_core.specs.OneToOne.MapWhile.{map_while_parts, map_while_contract, mapped_while}
-use Rattle.fallible_core.specs.declared.one_to_one.map_while.MapWhile.{MapWhile}
 use Rattle.fallible_core.proofs.Lemmas.OneToOne.Scan.{outcome_listed}
+use Rattle.fallible_core.specs.declared.one_to_one.map_while.MapWhile.{MapWhile}
 
 mapped_while_is : {X B E : Type 0} (h : X → Result (Option B) E) (l : List (Result X E)) → passed scan_outcome (λ (p : Unit {0}) x. h x) (λ p x. p) tt l ≡ mapped_while h l
 unfolding mapped_while

@@ -4,12 +4,12 @@ use Rattle.std.proofs.Common.{refl, ap, subst, ◌∙◌}
 use Rattle.std.specs.Fn.{Mut}
 use Rattle.std.specs.Borrow.{MutBor}
 use Rattle.fallible_contract.specs.Traces.{Answered, item}
-use Rattle.fallible_core.specs.OneToOne.Scan.{scan_call, ScanTrace, scan_outcome, scan_parts, scan_contract, cons_or_end, scanned}
-use Rattle.fallible_core.specs.declared.one_to_one.scan.Scan.{Scan}
 use Rattle.fallible_contract.specs.Contract.{Contract, seen_as}
 use Rattle.fallible_contract.specs.Lists.{Lists, ActsWithState}
 use Rattle.fallible_contract.proofs.Lemmas.Lists.Passing.{passed, by_outcome, all_given, lists_seen}
 use Rattle.fallible_contract.specs.Laws.Passing.{passes_item, passes_refusal, passes_closing}
+use Rattle.fallible_core.specs.OneToOne.Scan.{scan_call, ScanTrace, scan_outcome, scan_parts, scan_contract, cons_or_end, scanned}
+use Rattle.fallible_core.specs.declared.one_to_one.scan.Scan.{Scan}
 
 -- one answer of the source that is an item, and the call on it
 pub scans_item : {S F T X B E : Type 0} {steps : S → Answered X E → S → Type 0} {g : Mut F (MutBor T × (X × Unit {0})) (Result (Option B) E × (MutBor T × Unit {0}))} {s t : S} {p q : T × F} (x : X) (r : Result (Option B) E) → steps s (item x) t → scan_call g p x r q → ScanTrace steps g (s, p) (r ∷ []) (t, q)

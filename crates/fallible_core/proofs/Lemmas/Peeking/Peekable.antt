@@ -4,13 +4,13 @@ use Rattle.std.specs.Borrow.{Bor}
 use Rattle.std.specs.Fn.{Shared, FnReturnsAt}
 use Rattle.std.proofs.Common.{refl, sym, ap, subst, arith, inl, inr}
 use Rattle.fallible_contract.specs.Traces.{Answered, Run, item, end}
-use Rattle.fallible_core.specs.declared.peeking.peekable.Peekable.{Peekable}
 use Rattle.fallible_contract.specs.Contract.{Contract, KeptByDraw, Stays, Lawful, seen_as}
 use Rattle.fallible_contract.specs.Lists.{AlwaysGives, Lists}
 use Rattle.fallible_contract.proofs.Lemmas.Lists.Passing.{lists_seen}
-use Rattle.fallible_core.specs.Peeking.Peekable.{peekable_parts, held_answers, behind_held, PeekableTrace, peekable_step, peekable_contract, seen, told, held_of, held_item, Fills, Peeks, Looks, TakenIf, NextIf}
 use Rattle.fallible_contract.specs.Laws.Contract.{stays_after, stays_here}
+use Rattle.fallible_core.specs.Peeking.Peekable.{peekable_parts, held_answers, behind_held, PeekableTrace, peekable_step, peekable_contract, seen, told, held_of, held_item, Fills, Peeks, Looks, TakenIf, NextIf}
 use Rattle.fallible_core.specs.Laws.Peeking.Peekable.{drawn_goes}
+use Rattle.fallible_core.specs.declared.peeking.peekable.Peekable.{Peekable}
 
 -- ---- looking ahead
 

@@ -1,17 +1,17 @@
 -- A fold of the source is one of `Peekable` where nothing is held, and one more item in front where an item is; a held end is a fold without a draw.
 use Rattle.std.specs.Prelude.{◌≡◌, Option, Some, None}
-use Rattle.std.specs.declared.ops.ControlFlow.{ControlFlow}
-use Rattle.std.specs.declared.ops.ControlFlow.TheVariants.{Continue, Break}
 use Rattle.std.proofs.Common.{refl, sym, subst}
-use Rattle.fallible_contract.specs.declared.folds.Exit.{Exit}
-use Rattle.fallible_contract.specs.declared.folds.Exit.TheVariants.{Ended, Stopped}
 use Rattle.fallible_contract.specs.Traces.{Answered}
 use Rattle.fallible_contract.specs.Contract.{Contract, seen_as}
 use Rattle.fallible_contract.specs.Folds.{HoldsAtEachTurn, Carried}
 use Rattle.fallible_contract.proofs.Lemmas.Folding.{holds_into, carried_into}
 use Rattle.fallible_contract.proofs.Lemmas.Folds.{holds_here, holds_after, carried_after, carried_end, carried_stop}
-use Rattle.fallible_core.specs.declared.peeking.peekable.Peekable.{Peekable}
 use Rattle.fallible_core.specs.Peeking.Peekable.{peekable_parts, peekable_contract}
+use Rattle.std.specs.declared.ops.ControlFlow.{ControlFlow}
+use Rattle.std.specs.declared.ops.ControlFlow.TheVariants.{Continue, Break}
+use Rattle.fallible_contract.specs.declared.folds.Exit.{Exit}
+use Rattle.fallible_contract.specs.declared.folds.Exit.TheVariants.{Ended, Stopped}
+use Rattle.fallible_core.specs.declared.peeking.peekable.Peekable.{Peekable}
 
 module _ {S A E : Type 0} (m : Contract S A E) (s : Peekable S A E) where
   abbrev steps : Peekable S A E → Answered A E → Peekable S A E → Type 0

@@ -1,14 +1,14 @@
 -- What looking ahead answers over a source that is listed, and what is listed then.
 use Rattle.std.specs.Prelude.{◌≡◌, Bool, Option, Some, None, Result, Ok, Err, List, [], ◌∷◌, true, false, ◌⊎◌}
 use Rattle.std.proofs.Common.{refl, sym, ap, subst, ◌∙◌, inl, inr}
-use Rattle.std.specs.Fn.{Shared, FnReturnsAt}
+use Rattle.std.specs.Fn.{Shared}
 use Rattle.std.specs.Borrow.{Bor}
-use Rattle.fallible_core.specs.declared.peeking.peekable.Peekable.{Peekable}
-use Rattle.fallible_contract.specs.Traces.{Answered, item, end}
+use Rattle.fallible_contract.specs.Traces.{Answered, item}
 use Rattle.fallible_contract.specs.Contract.{Contract, seen_as}
 use Rattle.fallible_contract.specs.Lists.{AlwaysGives, Lists, nth_of}
 use Rattle.fallible_contract.proofs.Lemmas.Lists.Passing.{lists_seen}
-use Rattle.fallible_core.specs.Peeking.Peekable.{peekable_parts, peekable_step, peekable_contract, Peeks, Looks, LooksAt, LooksAs, TakenIf, NextIf, looked_ahead, looked_at, taken_by, first_if, left_by, behind_if}
+use Rattle.fallible_core.specs.Peeking.Peekable.{peekable_parts, peekable_step, peekable_contract, Peeks, Looks, LooksAt, LooksAs, TakenIf, NextIf, looked_ahead, looked_at, first_if, behind_if}
+use Rattle.fallible_core.specs.declared.peeking.peekable.Peekable.{Peekable}
 
 -- what is listed of a value is listed of its parts
 parts_give : {V P A E : Type 0} (view : V → P) (back : P → V) (same : (p : P) → view (back p) ≡ p) (steps : P → Answered A E → P → Type 0) (l : List (Result A E)) (s : V) → AlwaysGives (λ u r v. steps (view u) r (view v)) s l → AlwaysGives steps (view s) l

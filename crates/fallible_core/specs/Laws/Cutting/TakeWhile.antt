@@ -8,10 +8,10 @@ use Rattle.fallible_contract.specs.Contract.{Contract, KeptByDraw, Lawful}
 use Rattle.fallible_contract.specs.Closures.{Calls, call_in, IsCallableIn, call_at, takes_at}
 use Rattle.fallible_contract.specs.Passing.{Place, asked, failure_at, end_at, passing_contract}
 use Rattle.fallible_contract.specs.Hints.{upper_alone}
-use Rattle.fallible_core.specs.Cutting.TakeWhile.{take_while_outcome, taken_answer, is_refused, place_drawn, take_while_contract}
 use Rattle.fallible_contract.specs.Laws.Closures.{callable_in_after}
 use Rattle.fallible_contract.specs.Laws.Passing.{lawful_passing, passes_closing, passes_item, passes_refusal, passes_end, passes_failure}
 use Rattle.fallible_contract.specs.Laws.Closing.{lawful_closing}
+use Rattle.fallible_core.specs.Cutting.TakeWhile.{take_while_outcome, taken_answer, is_refused, place_drawn, take_while_contract}
 
 module _ {S F X E : Type 0} (m : Contract S X E) (l : Lawful m) (g : Mut F (Bor X × Unit {0}) (Result Bool E)) where
   abbrev N : Contract (S × Option F) X E

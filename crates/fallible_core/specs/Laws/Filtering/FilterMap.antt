@@ -5,10 +5,10 @@ use Rattle.fallible_contract.specs.Contract.{Contract, Lawful}
 use Rattle.fallible_contract.specs.Closures.{call_on, takes_on, call_in, IsCallableIn}
 use Rattle.fallible_contract.specs.Laws.Closures.{callable_in_after}
 use Rattle.fallible_contract.specs.Hints.{upper_alone}
-use Rattle.fallible_core.specs.Filtering.FilterMap.{filter_map_outcome, filter_map_contract}
 use Rattle.fallible_contract.specs.Ends.{Ends, from_back, ends_of, LawfulEnds}
 use Rattle.fallible_contract.specs.Laws.Passing.{lawful_leaving_out}
 use Rattle.fallible_contract.specs.Laws.Ends.{lawful_ends_leaving_out}
+use Rattle.fallible_core.specs.Filtering.FilterMap.{filter_map_outcome, filter_map_contract}
 
 pub lawful_filter_map : {S F X B E : Type 0} {m : Contract S X E} (g : Mut F (X × Unit {0}) (Result (Option B) E)) → Lawful m → Lawful (filter_map_contract m g)
 lawful_filter_map {m = m} g l = lawful_leaving_out (call_in (call_on g)) (IsCallableIn (call_on g) (takes_on g)) filter_map_outcome (λ p h. upper_alone m p.0 h) (callable_in_after (call_on g) (takes_on g)) l

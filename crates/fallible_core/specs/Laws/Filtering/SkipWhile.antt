@@ -5,9 +5,9 @@ use Rattle.std.specs.Borrow.{Bor}
 use Rattle.std.proofs.Common.{refl, sym, subst}
 use Rattle.fallible_contract.specs.Contract.{Contract, Lawful}
 use Rattle.fallible_contract.specs.Closures.{Reaches, call_in, call_at, takes_at}
-use Rattle.fallible_core.specs.Filtering.SkipWhile.{skip_call, IsAskableIn, skip_while_outcome, skip_while_hints, skip_while_contract}
 use Rattle.fallible_contract.specs.Laws.Closures.{reaches_within, callable_after}
 use Rattle.fallible_contract.specs.Laws.Passing.{lawful_leaving_out}
+use Rattle.fallible_core.specs.Filtering.SkipWhile.{skip_call, IsAskableIn, skip_while_outcome, skip_while_hints, skip_while_contract}
 
 module _ {F X E : Type 0} (call : F → X → Result Bool E → F → Type 0) where
   -- the flag, and the predicate in its slot

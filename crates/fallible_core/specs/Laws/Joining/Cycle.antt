@@ -1,11 +1,11 @@
 -- The contract of `Cycle` is lawful where the source's is.
 use Rattle.std.specs.Prelude.{Some, None, Ok, Err, ⊤}
-use Rattle.std.specs.declared.alloc.AllocError.{AllocError}
 use Rattle.std.proofs.Common.{refl, inl, inr}
 use Rattle.fallible_contract.specs.Traces.{Answered, end}
 use Rattle.fallible_contract.specs.Contract.{Contract, OnAnswer, KeptByDraw, Lawful}
-use Rattle.fallible_core.specs.Joining.Cycle.{CycleAnswer, cycle_contract}
 use Rattle.fallible_contract.specs.Laws.BoundsRuns.{bounds_fewer, bounds_failure, bounds_end, bound_stays}
+use Rattle.fallible_core.specs.Joining.Cycle.{CycleAnswer, cycle_contract}
+use Rattle.std.specs.declared.alloc.AllocError.{AllocError}
 
 module _ {S A E : Type 0} (is_clone : S → S → Type 0) (is_infallible : S → Type 0) (from : AllocError → E → Type 0) (m : Contract S A E) where
   abbrev C : Contract (S × S) A E

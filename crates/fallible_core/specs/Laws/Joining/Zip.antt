@@ -3,8 +3,8 @@ use Rattle.std.specs.Prelude.{ℕ, Option, Some, None, Ok, Err, ◌↔◌}
 use Rattle.std.proofs.Common.{arith, inl, inr, refl, ap₂}
 use Rattle.fallible_contract.specs.Traces.{Answered, item, failure}
 use Rattle.fallible_contract.specs.Contract.{Contract, NoMore, OnAnswer, KeptByDraw, Lawful, lenders_of_both}
-use Rattle.fallible_core.specs.Joining.Zip.{ZipPlace, left_failed, both_drawn, left_answer, zip_answer, right_step, zip_contract}
 use Rattle.fallible_contract.specs.Laws.Contract.{no_more}
+use Rattle.fallible_core.specs.Joining.Zip.{ZipPlace, left_failed, both_drawn, left_answer, zip_answer, right_step, zip_contract}
 
 module _ {S U A B E : Type 0} (left : Contract S A E) (right : Contract U B E) where
   abbrev Z : Contract (S × U) (A × B) E

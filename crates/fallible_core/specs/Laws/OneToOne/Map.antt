@@ -4,10 +4,10 @@ use Rattle.std.specs.Fn.{Mut}
 use Rattle.fallible_contract.specs.Contract.{Contract, Lawful}
 use Rattle.fallible_contract.specs.Closures.{call_on, takes_on, call_in, IsCallableIn}
 use Rattle.fallible_contract.specs.Laws.Closures.{callable_in_after}
-use Rattle.fallible_core.specs.OneToOne.Map.{map_outcome, map_contract}
 use Rattle.fallible_contract.specs.Ends.{Ends, from_back, ends_of, LawfulEnds}
 use Rattle.fallible_contract.specs.Laws.Passing.{lawful_passing}
 use Rattle.fallible_contract.specs.Laws.Ends.{lawful_ends_passing}
+use Rattle.fallible_core.specs.OneToOne.Map.{map_outcome, map_contract}
 
 pub lawful_map : {S F X B E : Type 0} {m : Contract S X E} (g : Mut F (X × Unit {0}) (Result B E)) → Lawful m → Lawful (map_contract m g)
 lawful_map {m = m} g l = lawful_passing (call_in (call_on g)) (IsCallableIn (call_on g) (takes_on g)) map_outcome (λ p h. m.hints p.0 h) (callable_in_after (call_on g) (takes_on g)) l

@@ -1,18 +1,18 @@
 -- Hints of the adapters that join sources.
 use Rattle.std.specs.Prelude.{min, ◌≡◌, ℕ, zero, suc, ◌+◌, ◌-◌, ◌^◌, ◌≤◌, cond, ltb, List, [], ◌∷◌, length, Option, Some, None, Ok, Err, IfSome, ⊤, false, ◌⊎◌}
-use Rattle.std.specs.declared.alloc.AllocError.{AllocError}
 use Rattle.std.proofs.Common.{refl, sym, ap, subst, ◌∙◌, arith, inl, inr}
 use Rattle.std.proofs.lemmas.Bool.{cases_lt, lt-ltb, le-ltb}
 use Rattle.fallible_contract.specs.Traces.{Answered, Yields, item, end, is_end}
 use Rattle.fallible_contract.specs.Contract.{Contract}
 use Rattle.fallible_contract.specs.Hints.{hint_sum, hint_smaller, fitting_sum, smaller_bound, cycle_hint}
-use Rattle.fallible_core.specs.declared.joining.chain.StillDrawn.{StillDrawn}
-use Rattle.fallible_core.specs.declared.joining.chain.StillDrawn.TheVariants.{Both, FirstAlone, SecondAlone}
 use Rattle.fallible_core.specs.Joining.Chain.{chain_step, chain_hints}
 use Rattle.fallible_core.specs.Joining.Cycle.{cycle_step}
 use Rattle.fallible_core.specs.Joining.Zip.{ZipPlace, left_failed, both_drawn, left_answer, zip_answer, right_step, zip_step}
 use Rattle.fallible_iterator.specs.SoundHints.{BoundsAbove, BoundsBelow, Brackets, AsSound, AsSoundAsBoth}
 use Rattle.fallible_iterator.proofs.Lemmas.Hints.Drawn.{as_sound_as_both, OneOfOne, ItemOfItem, pair_is, as_many, no_end, nothing_said}
+use Rattle.std.specs.declared.alloc.AllocError.{AllocError}
+use Rattle.fallible_core.specs.declared.joining.chain.StillDrawn.{StillDrawn}
+use Rattle.fallible_core.specs.declared.joining.chain.StillDrawn.TheVariants.{Both, FirstAlone, SecondAlone}
 
 -- the sums are the same whichever side is named first
 sum_of_swapped : (f b : Option ℕ) → fitting_sum f b ≡ fitting_sum b f

@@ -5,21 +5,21 @@ use Rattle.std.specs.Borrow.{Bor}
 use Rattle.std.proofs.Common.{refl, sym, ap, subst, ◌∙◌, arith}
 use Rattle.std.proofs.lemmas.List.{length-reverse}
 use Rattle.fallible_contract.specs.Traces.{Answered, Yields, item, end}
-use Rattle.fallible_contract.specs.declared.passing.Outcome.{Outcome}
-use Rattle.fallible_contract.specs.declared.passing.Outcome.TheVariants.{Kept, LeftOut, Failure, End}
 use Rattle.fallible_contract.specs.Lists.{AlwaysGives, Lists}
-use Rattle.fallible_core.specs.OneToOne.Map.{mapped}
-use Rattle.fallible_core.specs.OneToOne.MapErr.{failures_mapped}
-use Rattle.fallible_core.specs.OneToOne.Cloned.{pointed_to}
-use Rattle.fallible_core.specs.Joining.Chain.{chained}
 use Rattle.fallible_contract.specs.BothEnds.{ListsBothEnds, item_listed, items_listed, failure_listed, failures_listed, source_list, outcome_listed, passed_list}
 use Rattle.fallible_contract.specs.Hints.{hint_sum}
 use Rattle.fallible_contract.proofs.Lemmas.Lists.Passing.{passed, by_outcome}
 use Rattle.fallible_contract.proofs.Lemmas.BothEnds.{lists_first, lists_behind}
 use Rattle.fallible_contract.proofs.Lemmas.BothEnds.Passing.{filter_map-reverse, beside, source_beside}
+use Rattle.fallible_core.specs.OneToOne.Map.{mapped}
+use Rattle.fallible_core.specs.OneToOne.MapErr.{failures_mapped}
+use Rattle.fallible_core.specs.OneToOne.Cloned.{pointed_to}
+use Rattle.fallible_core.specs.Joining.Chain.{chained}
 use Rattle.fallible_iterator.specs.SoundHints.{Brackets, Bounds}
 use Rattle.fallible_iterator.proofs.Lemmas.Hints.Drawn.{no_greater}
 use Rattle.fallible_iterator.proofs.Lemmas.Hints.Joining.{sum_above}
+use Rattle.fallible_contract.specs.declared.passing.Outcome.{Outcome}
+use Rattle.fallible_contract.specs.declared.passing.Outcome.TheVariants.{Kept, LeftOut, Failure, End}
 
 -- ---- runs of what lists a list
 

@@ -4,13 +4,13 @@ use Rattle.std.proofs.Common.{refl, ap, sym, subst, ◌∙◌}
 use Rattle.std.proofs.lemmas.List.{map-append, reverse-append}
 use Rattle.std.specs.Iterator.{Count}
 use Rattle.fallible_contract.specs.Traces.{Answered}
-use Rattle.fallible_iterator.specs.declared.sources.convert.Convert.{Convert}
 use Rattle.fallible_contract.specs.Contract.{seen_as}
+use Rattle.fallible_contract.specs.Lists.{Lists, RunsRead, RunsReadBehind, result_answer, results, items, reversed}
+use Rattle.fallible_contract.proofs.Lemmas.Lists.Passing.{lists_seen}
 use Rattle.fallible_iterator.specs.Sources.Std.{element_by}
 use Rattle.fallible_iterator.specs.Sources.Convert.{convert_parts, convert_contract}
-use Rattle.fallible_contract.specs.Lists.{Lists, RunsRead, RunsReadBehind, result_answer, results, items, reversed}
 use Rattle.fallible_iterator.proofs.Lemmas.Sources.Std.{gives_read, read_behind}
-use Rattle.fallible_contract.proofs.Lemmas.Lists.Passing.{lists_seen}
+use Rattle.fallible_iterator.specs.declared.sources.convert.Convert.{Convert}
 
 pub results_are : {A E : Type 0} (l : List (Result A E)) → map (λ y. y) l ≡ results l
 unfolding results

@@ -2,9 +2,9 @@
 use Rattle.std.specs.Prelude.{◌≡◌, ℕ, List, [], ◌∷◌, replicate, ◌↔◌}
 use Rattle.std.proofs.Common.{refl, sym, subst, suc, zero}
 use Rattle.fallible_contract.specs.Traces.{Answered, Run, end}
+use Rattle.fallible_contract.specs.Lists.{Lists}
 use Rattle.fallible_iterator.specs.Sources.Empty.{EmptyTrace, empty_contract}
 use Rattle.fallible_iterator.specs.declared.sources.empty.Empty.{Empty}
-use Rattle.fallible_contract.specs.Lists.{Lists}
 
 -- ---- ends alone
 

@@ -1,17 +1,17 @@
 -- What `IntoFallible` lists.
 use Rattle.std.specs.Prelude.{◌≡◌, Option, Some, None, Ok, Err, List, reverse}
 use Rattle.std.specs.Iterator.{Count}
-use Rattle.std.specs.declared.convert.Infallible.{Infallible}
 use Rattle.std.proofs.Common.{refl, subst}
 use Rattle.fallible_contract.specs.Traces.{Answered}
-use Rattle.fallible_iterator.specs.declared.sources.into_fallible.IntoFallible.{IntoFallible}
 use Rattle.fallible_contract.specs.Contract.{seen_as}
+use Rattle.fallible_contract.specs.Lists.{Lists, RunsRead, RunsReadBehind, result_answer, items, reversed}
+use Rattle.fallible_contract.proofs.Lemmas.Lists.Passing.{lists_seen}
 use Rattle.fallible_iterator.specs.Sources.Std.{element_by}
 use Rattle.fallible_iterator.specs.Sources.IntoFallible.{into_fallible_parts, into_fallible_contract, never}
-use Rattle.fallible_contract.specs.Lists.{Lists, RunsRead, RunsReadBehind, result_answer, items, reversed}
 use Rattle.fallible_iterator.proofs.Lemmas.Sources.Std.{gives_read, read_behind}
 use Rattle.fallible_iterator.proofs.Lemmas.Sources.Convert.{items_are, items_reversed}
-use Rattle.fallible_contract.proofs.Lemmas.Lists.Passing.{lists_seen}
+use Rattle.std.specs.declared.convert.Infallible.{Infallible}
+use Rattle.fallible_iterator.specs.declared.sources.into_fallible.IntoFallible.{IntoFallible}
 
 pub item_answered : {A : Type 0} (r : Answered A Infallible) (x : A) → element_by (λ y. y) never r ≡ Some x → r ≡ result_answer (Ok x)
 item_answered (Ok (Some y)) x e = cc

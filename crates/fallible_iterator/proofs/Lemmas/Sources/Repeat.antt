@@ -1,13 +1,13 @@
 -- The runs of one answer again and again, and that it is the same each time.
 use Rattle.std.specs.Prelude.{◌≡◌, Some, None, Result, Ok, Err, List, [], ◌∷◌, All, ◌↔◌}
-use Rattle.std.specs.declared.alloc.AllocError.{AllocError}
 use Rattle.std.proofs.Common.{refl, sym, subst, ap, ◌∙◌}
 use Rattle.std.proofs.lemmas.List.Elements.{All-nil, All-cons, All-head, All-tail}
 use Rattle.fallible_contract.specs.Traces.{Answered, Run}
-use Rattle.fallible_iterator.specs.declared.sources.repeat.Repeat.{Repeat}
 use Rattle.fallible_contract.specs.Contract.{seen_as}
-use Rattle.fallible_iterator.specs.Sources.Repeat.{RepeatAnswer, repeat_parts, repeat_contract}
 use Rattle.fallible_contract.specs.Lists.{Repeats, result_answer}
+use Rattle.fallible_iterator.specs.Sources.Repeat.{RepeatAnswer, repeat_parts, repeat_contract}
+use Rattle.std.specs.declared.alloc.AllocError.{AllocError}
+use Rattle.fallible_iterator.specs.declared.sources.repeat.Repeat.{Repeat}
 
 -- ---- one answer again and again
 

@@ -6,8 +6,8 @@ use Rattle.std.proofs.Common.{refl, sym, ap, subst, ◌∙◌, arith, true≢fal
 use Rattle.std.proofs.lemmas.List.{length-reverse, get_or-reverse}
 use Rattle.std.proofs.iter.runs.Made.{run, took, seen, at-is}
 use Rattle.fallible_contract.specs.Traces.{Answered, Run}
-use Rattle.fallible_iterator.specs.Sources.Std.{std_step, StdTrace, element_by}
 use Rattle.fallible_contract.specs.Lists.{AlwaysGives, RunsRead, RunsReadBehind, result_answer}
+use Rattle.fallible_iterator.specs.Sources.Std.{std_step, StdTrace, element_by}
 
 module _ {S A E Z : Type 0} (of_item : A → Z) (of_failure : E → Z) (can : S → Type 0) (gives : S → Option Z → S → Type 0) (remaining : S → Count) where
   to_std : (trace : List (Answered A E)) (s t : S) → Run (std_step of_item of_failure can gives remaining) s trace t → StdTrace of_item of_failure can gives remaining s trace t

@@ -1,21 +1,21 @@
 -- A fold through std's own `try_fold`, or `try_rfold`, is a fold of the type over the std iterator: `read` is the result that an element is.
 use Rattle.std.specs.Prelude.{◌≡◌, List, [], ◌∷◌, Option, Result, Some, None, Ok, Err, MatchOption, IfOk, IsErr, IsErrAnd}
-use Rattle.std.specs.declared.ops.ControlFlow.{ControlFlow}
-use Rattle.std.specs.declared.ops.ControlFlow.TheVariants.{Continue, Break}
 use Rattle.std.specs.Iterator.{Count, MakesProgress, Yields, TryFoldTurn, TryFoldsItems, CallableInTryFold}
 use Rattle.std.specs.List.{FoldsTo}
 use Rattle.std.specs.Fn.{Called, Takes, Mut}
 use Rattle.std.specs.Result.{result_from_control_flow}
 use Rattle.std.proofs.Common.{refl, sym, subst, ap, ◌∙◌}
-use Rattle.fallible_contract.specs.declared.folds.Exit.{Exit}
-use Rattle.fallible_contract.specs.declared.folds.Exit.TheVariants.{Failed, Stopped}
 use Rattle.fallible_contract.specs.Traces.{Answered}
 use Rattle.fallible_contract.specs.Lists.{result_answer}
 use Rattle.fallible_contract.specs.Folds.{HoldsAtEachTurn, carrying_turn, Carried}
 use Rattle.fallible_contract.proofs.Lemmas.Folds.{holds_here, holds_after, carried_after, carried_end, carried_failure, carried_stop}
-use Rattle.fallible_iterator.specs.declared.sources.std_fold.Progressing.{Progressing}
 use Rattle.fallible_iterator.specs.Sources.Std.{std_step, element_by}
 use Rattle.fallible_iterator.specs.Sources.StdFold.{progressing, ElementTurn, exit_of}
+use Rattle.std.specs.declared.ops.ControlFlow.{ControlFlow}
+use Rattle.std.specs.declared.ops.ControlFlow.TheVariants.{Continue, Break}
+use Rattle.fallible_contract.specs.declared.folds.Exit.{Exit}
+use Rattle.fallible_contract.specs.declared.folds.Exit.TheVariants.{Failed, Stopped}
+use Rattle.fallible_iterator.specs.declared.sources.std_fold.Progressing.{Progressing}
 
 -- what is made of what `?` hands over
 err_is : {C X : Type 0} (r : Result C X) (x : X) → IsErrAnd r (λ y. y ≡ x) → r ≡ Err x

@@ -1,11 +1,11 @@
 -- The contract of `Repeat` is lawful.
 use Rattle.std.specs.Prelude.{Some, None, Ok, Err}
-use Rattle.std.specs.declared.alloc.AllocError.{AllocError}
 use Rattle.std.proofs.Common.{refl, sym, subst}
 use Rattle.fallible_contract.specs.Laws.BoundsRuns.{bounds_fewer, bounds_failure}
 use Rattle.fallible_contract.specs.Traces.{Answered}
 use Rattle.fallible_contract.specs.Contract.{Contract, OnAnswer, KeptByDraw, Lawful}
 use Rattle.fallible_iterator.specs.Sources.Repeat.{RepeatAnswer, repeat_contract}
+use Rattle.std.specs.declared.alloc.AllocError.{AllocError}
 
 module _ {A E : Type 0} (is_clone : A → A → Type 0) (is_infallible : A → Type 0) (from : AllocError → E → Type 0) where
   abbrev Repeat : Contract A A E

@@ -1,10 +1,10 @@
 -- The contract of `RepeatErr` is lawful.
 use Rattle.std.specs.Prelude.{Some, None, Ok, Err}
-use Rattle.std.specs.declared.alloc.AllocError.{AllocError}
 use Rattle.std.proofs.Common.{sym, subst, arith, refl}
 use Rattle.fallible_contract.specs.Traces.{Answered}
 use Rattle.fallible_contract.specs.Contract.{Contract, OnAnswer, KeptByDraw, Lawful}
 use Rattle.fallible_iterator.specs.Sources.RepeatErr.{RepeatErrAnswer, repeat_err_contract}
+use Rattle.std.specs.declared.alloc.AllocError.{AllocError}
 
 module _ {A E : Type 0} (is_clone : E → E → Type 0) (is_infallible : E → Type 0) (from : AllocError → E → Type 0) where
   abbrev RepeatErr : Contract E A E

@@ -2,13 +2,13 @@
 use Rattle.std.specs.Prelude.{List, [], ◌∷◌, map, ◌≤◌, Option, Some, None, Ok, Err}
 use Rattle.std.specs.Iterator.{Count, IsFinite, size}
 use Rattle.std.proofs.Common.{refl, arith}
-use Rattle.fallible_contract.specs.declared.answers.Side.{Side}
-use Rattle.fallible_contract.specs.declared.answers.Side.TheVariants.{Front, Back}
 use Rattle.fallible_contract.specs.Traces.{Answered, Run, item, failure}
 use Rattle.fallible_contract.specs.Contract.{Contract, OnAnswer, Lawful}
 use Rattle.fallible_contract.specs.Ends.{LawfulEnds}
 use Rattle.fallible_contract.specs.BothEnds.{step_at, RunAtEnds}
 use Rattle.fallible_iterator.specs.Sources.Std.{std_step, std_contract, std_ends, IsAskable, Comes, IsAskableAtEnds, ComesAtEnds}
+use Rattle.fallible_contract.specs.declared.answers.Side.{Side}
+use Rattle.fallible_contract.specs.declared.answers.Side.TheVariants.{Front, Back}
 
 -- ---- draws that are each one call, whatever is asked of them and whatever may come
 

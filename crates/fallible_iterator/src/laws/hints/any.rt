@@ -2,10 +2,10 @@
 ghost use Rattle.std.specs.Prelude.{ℕ, List, length, Option, Result};
 ghost use Rattle.fallible_contract.specs.Traces.{Yields};
 ghost use Rattle.fallible_contract.specs.Hints.{hint_less};
-ghost use Rattle.fallible_iterator.specs.SoundHints.{Brackets, SoundAbove, SoundHints};
 ghost use Rattle.fallible_core.specs.Cutting.Take.{take_source};
 ghost use Rattle.fallible_core.specs.Filtering.Filter.{filter_source};
 ghost use Rattle.fallible_core.specs.OneToOne.Map.{map_source};
+ghost use Rattle.fallible_iterator.specs.SoundHints.{Brackets, SoundAbove, SoundHints};
 
 use fallible_core::cutting::Take;
 use fallible_core::filtering::Filter;

@@ -1,11 +1,11 @@
 // The hints of the adapters that cut a trace off.
 ghost use Rattle.std.specs.Prelude.{◌≡◌, Result, true, false};
-ghost use Rattle.fallible_iterator.specs.SoundHints.{KeepsBrackets, SoundHints};
 ghost use Rattle.fallible_core.specs.Cutting.Fuse.{fuse_ended, fuse_source};
 ghost use Rattle.fallible_core.specs.Cutting.Skip.{skip_source};
 ghost use Rattle.fallible_core.specs.Cutting.StepBy.{step_by_source};
 ghost use Rattle.fallible_core.specs.Cutting.Take.{take_source};
 ghost use Rattle.fallible_core.specs.Cutting.TakeWhile.{take_while_refused, take_while_source};
+ghost use Rattle.fallible_iterator.specs.SoundHints.{KeepsBrackets, SoundHints};
 
 use fallible_core::cutting::{Fuse, Skip, StepBy, Take, TakeWhile};
 use fallible_core::traits::FallibleIterator;

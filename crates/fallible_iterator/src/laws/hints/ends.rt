@@ -1,11 +1,7 @@
 // The hints of what stands behind a `&mut` or in a `Box`, and of what is drawn from behind.
 ghost use Rattle.std.specs.Prelude.{◌≡◌, Result, Option};
 ghost use Rattle.std.specs.Borrow.{MutBor};
-ghost use Rattle.std.specs.declared.boxed.Box.{Box};
-ghost use Rattle.std.specs.declared.alloc.Global.{Global};
 ghost use Rattle.fallible_contract.specs.Ends.{from_back};
-ghost use Rattle.fallible_iterator.specs.SoundHints.{KeepsBrackets, KeepsBracketsOfBoth};
-ghost use Rattle.fallible_core.specs.declared.joining.chain.StillDrawn.TheVariants.{Both, FirstAlone, SecondAlone};
 ghost use Rattle.fallible_core.specs.OneToOne.Map.{map_source};
 ghost use Rattle.fallible_core.specs.OneToOne.Inspect.{inspect_source};
 ghost use Rattle.fallible_core.specs.OneToOne.Cloned.{cloned_source};
@@ -14,6 +10,10 @@ ghost use Rattle.fallible_core.specs.Filtering.Filter.{filter_source};
 ghost use Rattle.fallible_core.specs.Filtering.FilterMap.{filter_map_source};
 ghost use Rattle.fallible_core.specs.Joining.Chain.{chain_first, chain_second, chain_still_drawn};
 ghost use Rattle.fallible_core.specs.Ends.Rev.{rev_parts};
+ghost use Rattle.fallible_iterator.specs.SoundHints.{KeepsBrackets, KeepsBracketsOfBoth};
+ghost use Rattle.std.specs.declared.boxed.Box.{Box};
+ghost use Rattle.std.specs.declared.alloc.Global.{Global};
+ghost use Rattle.fallible_core.specs.declared.joining.chain.StillDrawn.TheVariants.{Both, FirstAlone, SecondAlone};
 
 use fallible_core::ends::Rev;
 use fallible_core::filtering::{Filter, FilterMap};

@@ -1,9 +1,9 @@
 // The hints of the adapters that leave items out.
 ghost use Rattle.std.specs.Prelude.{◌≡◌, Result, Option, true, false};
-ghost use Rattle.fallible_iterator.specs.SoundHints.{KeepsBrackets};
 ghost use Rattle.fallible_core.specs.Filtering.Filter.{filter_source};
 ghost use Rattle.fallible_core.specs.Filtering.FilterMap.{filter_map_source};
 ghost use Rattle.fallible_core.specs.Filtering.SkipWhile.{skip_while_source};
+ghost use Rattle.fallible_iterator.specs.SoundHints.{KeepsBrackets};
 
 use fallible_core::filtering::{Filter, FilterMap, SkipWhile};
 use fallible_core::traits::FallibleIterator;

@@ -1,10 +1,10 @@
 // The hints of the adapters that join sources.
 ghost use Rattle.std.specs.Prelude.{◌≡◌, ℕ, Option, Result};
-ghost use Rattle.fallible_iterator.specs.SoundHints.{BoundsBelow, Brackets, KeepsBrackets, KeepsBracketsOfBoth, SoundHints};
-ghost use Rattle.fallible_core.specs.declared.joining.chain.StillDrawn.TheVariants.{Both, FirstAlone, SecondAlone};
 ghost use Rattle.fallible_core.specs.Joining.Chain.{chain_first, chain_second, chain_still_drawn};
 ghost use Rattle.fallible_core.specs.Joining.Cycle.{cycle_kept};
 ghost use Rattle.fallible_core.specs.Joining.Zip.{zip_left, zip_right};
+ghost use Rattle.fallible_iterator.specs.SoundHints.{BoundsBelow, Brackets, KeepsBrackets, KeepsBracketsOfBoth, SoundHints};
+ghost use Rattle.fallible_core.specs.declared.joining.chain.StillDrawn.TheVariants.{Both, FirstAlone, SecondAlone};
 
 use fallible_core::joining::{Chain, Cycle, Flatten, Zip};
 use fallible_core::one_to_one::Map;

@@ -2,22 +2,22 @@
 ghost use Rattle.std.specs.Prelude.{◌≡◌, ℕ, reverse, Ok, Bool, List, Option, Result};
 ghost use Rattle.std.specs.Iterator.{item_count};
 ghost use Rattle.std.specs.Borrow.{Bor, MutBor};
-ghost use Rattle.std.specs.declared.boxed.Box.{Box};
-ghost use Rattle.std.specs.declared.alloc.Global.{Global};
 ghost use Rattle.fallible_contract.specs.Lists.{Lists, results, items};
+ghost use Rattle.fallible_contract.specs.BothEnds.{ListsBothEnds, source_list, passed_list};
 ghost use Rattle.fallible_core.specs.OneToOne.Map.{mapped, map_outcome, map_source};
 ghost use Rattle.fallible_core.specs.OneToOne.Inspect.{inspected, inspect_outcome, inspect_source};
-ghost use Rattle.fallible_core.specs.Filtering.Filter.{filtered, filter_outcome, filter_source};
+ghost use Rattle.fallible_core.specs.Filtering.Filter.{filtered, tested_outcome, filter_source};
 ghost use Rattle.fallible_core.specs.Filtering.FilterMap.{filter_mapped, filter_map_outcome, filter_map_source};
 ghost use Rattle.fallible_core.specs.OneToOne.MapErr.{failures_mapped, map_err_source};
 ghost use Rattle.fallible_core.specs.OneToOne.Cloned.{pointed_to, cloned_source};
 ghost use Rattle.fallible_core.specs.Joining.Chain.{chained, chain_first, chain_second, chain_still_drawn};
-ghost use Rattle.fallible_contract.specs.BothEnds.{ListsBothEnds, source_list, passed_list};
+ghost use Rattle.fallible_core.specs.Ends.Rev.{rev_parts};
 ghost use Rattle.fallible_iterator.specs.SoundHints.{Brackets, Bounds, KeepsBounds, KeepsBoundsOfBoth};
 ghost use Rattle.fallible_iterator.specs.Sources.Convert.{convert_parts};
 ghost use Rattle.fallible_iterator.specs.Sources.IntoFallible.{into_fallible_parts};
+ghost use Rattle.std.specs.declared.boxed.Box.{Box};
+ghost use Rattle.std.specs.declared.alloc.Global.{Global};
 ghost use Rattle.fallible_core.specs.declared.joining.chain.StillDrawn.TheVariants.{Both, FirstAlone, SecondAlone};
-ghost use Rattle.fallible_core.specs.Ends.Rev.{rev_parts};
 
 use crate::sources::{Convert, IntoFallible};
 use fallible_core::ends::Rev;
@@ -91,7 +91,7 @@ where
     I::Item: Drop,
     ensures steady { (s : Filter I F) (asked : List (Result (I.Item × Result Bool I.Error) I.Error))
         → KeepsBounds ⟦<Filter<I, F> as FallibleIterator>⟧.contract s
-        (passed_list filter_outcome asked) I.contract (filter_source s) (source_list asked) }
+        (passed_list tested_outcome asked) I.contract (filter_source s) (source_list asked) }
     ensures acts { (s : Filter I F) (h : I.Item → Result Bool I.Error)
         (l : List (Result I.Item I.Error))
         → KeepsBounds ⟦<Filter<I, F> as FallibleIterator>⟧.contract s (filtered h l) I.contract

@@ -1,6 +1,5 @@
 // The hints of the adapters with one answer for each draw.
 ghost use Rattle.std.specs.Prelude.{Result, Option};
-ghost use Rattle.fallible_iterator.specs.SoundHints.{KeepsBrackets};
 ghost use Rattle.fallible_core.specs.OneToOne.Map.{map_source};
 ghost use Rattle.fallible_core.specs.OneToOne.Inspect.{inspect_source};
 ghost use Rattle.fallible_core.specs.OneToOne.MapWhile.{map_while_source};
@@ -8,6 +7,7 @@ ghost use Rattle.fallible_core.specs.OneToOne.Scan.{scan_source};
 ghost use Rattle.fallible_core.specs.OneToOne.Cloned.{cloned_source};
 ghost use Rattle.fallible_core.specs.OneToOne.MapErr.{map_err_source};
 ghost use Rattle.fallible_core.specs.OneToOne.Enumerate.{enumerate_source};
+ghost use Rattle.fallible_iterator.specs.SoundHints.{KeepsBrackets};
 
 use fallible_core::one_to_one::{Cloned, Enumerate, Inspect, Map, MapErr, MapWhile, Scan};
 use fallible_core::traits::FallibleIterator;

@@ -1,7 +1,7 @@
 // The hints of the adapter that looks ahead.
 ghost use Rattle.std.specs.Prelude.{◌≡◌, Some, None};
-ghost use Rattle.fallible_iterator.specs.SoundHints.{KeepsBrackets, SoundHints};
 ghost use Rattle.fallible_core.specs.Peeking.Peekable.{peekable_held, peekable_source};
+ghost use Rattle.fallible_iterator.specs.SoundHints.{KeepsBrackets, SoundHints};
 
 use fallible_core::peeking::Peekable;
 use fallible_core::traits::FallibleIterator;

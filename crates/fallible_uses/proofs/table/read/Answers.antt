@@ -1,9 +1,9 @@
 -- The bytes give their records.
 use Rattle.std.proofs.Common.{refl}
 use Rattle.fallible_contract.proofs.Lemmas.Lists.Passing.{lists_seen}
-use Rattle.fallible_uses.specs.declared.table.Records.{Records}
 use Rattle.fallible_uses.specs.Tables.{DrawsRecord}
 use Rattle.fallible_uses.proofs.TableLemmas.{records_given}
+use Rattle.fallible_uses.specs.declared.table.Records.{Records}
 use Rattle.fallible_uses.proofs.table.read.Goals as goal
 
 pub returns-clause-lists : goal.returns-clause-lists

@@ -1,7 +1,7 @@
 -- Each adapter lists what is made of the list before it.
 use Rattle.std.proofs.Common.{rules, ◌+◌, ◌/◌, length}
-use Rattle.fallible_uses.specs.declared.table.TableFault.TheVariants.{Cut}
 use Rattle.fallible_uses.specs.Tables.{checked}
+use Rattle.fallible_uses.specs.declared.table.TableFault.TheVariants.{Cut}
 use Rattle.fallible_uses.proofs.table.sum_up.Goals as goal
 
 pub returns : goal.returns

@@ -1,14 +1,14 @@
 -- The one inner iterator may be drawn from, and its number serves for each that may come; so they do after a draw.
-use Rattle.std.proofs.Common.{◌≡◌, Option, Some, None, sym, ap, subst, arith}
-use Rattle.fallible_iterator.specs.declared.sources.once.Once.{Once}
+use Rattle.std.proofs.Common.{◌≡◌, Option, Some, None, sym, subst, arith}
+use Rattle.std.specs.Prelude.{IfSome}
 use Rattle.fallible_iterator.specs.Traces.{Answered}
 use Rattle.fallible_iterator.specs.Contract.{Contract, KeptByDraw, Lawful, seen_as}
-use Rattle.std.specs.Prelude.{IfSome}
 use Rattle.fallible_iterator.specs.Sources.Once.{once_contract}
 use Rattle.fallible_iterator.specs.Joining.Flatten.{EachInner, flatten_contract}
 use Rattle.fallible_iterator.specs.Laws.Contract.{lawful_seen}
 use Rattle.fallible_iterator.specs.Laws.Sources.Once.{lawful_once}
 use Rattle.fallible_iterator.specs.Laws.Joining.Flatten.{lawful_flatten}
+use Rattle.fallible_iterator.specs.declared.sources.once.Once.{Once}
 use Rattle.fallible_vectors_joining.proofs.flatten.draw_and_stop.Goals as goal
 
 module _ {U C B E : Type 0} (into : U → C → Type 0) (inner : Contract C B E) (x : U) where

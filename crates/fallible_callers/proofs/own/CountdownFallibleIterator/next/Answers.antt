@@ -1,8 +1,8 @@
 -- The number that is left is the first of what is shown.
 use Rattle.std.specs.Prelude.{◌≡◌, ℕ, ◌+◌, suc, Some, None, Ok}
 use Rattle.std.proofs.Common.{refl, arith}
-use Rattle.fallible_callers.specs.Down.{down_from}
 use Rattle.fallible_iterator.specs.Showing.{TakesShown}
+use Rattle.fallible_callers.specs.Down.{down_from}
 use Rattle.fallible_callers.proofs.own.CountdownFallibleIterator.next.Goals as goal
 
 -- an end of a countdown from 0, and else its number

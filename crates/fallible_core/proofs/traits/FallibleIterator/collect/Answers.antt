@@ -1,10 +1,10 @@
 -- The fold that carries a reference to the collection collects.
 use Rattle.std.specs.Prelude.{Ok, Err}
 use Rattle.std.proofs.Common.{inr, rules}
-use Rattle.fallible_contract.specs.declared.collecting.Fault.TheVariants.{Source}
 use Rattle.fallible_contract.proofs.Lemmas.Collecting.{collected_all, collect_failed, collect_refused}
 use Rattle.fallible_contract.proofs.Lemmas.Folds.{ended_behind, failed_behind, stopped_behind}
 use Rattle.fallible_contract.proofs.Lemmas.Lists.Drawn.{collected_as, refused_as}
+use Rattle.fallible_contract.specs.declared.collecting.Fault.TheVariants.{Source}
 use Rattle.fallible_core.proofs.traits.FallibleIterator.collect.Goals as goal
 
 pub returns-in-Ended-clause-collects : goal.returns-in-Ended-clause-collects

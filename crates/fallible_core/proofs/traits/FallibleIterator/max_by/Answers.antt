@@ -1,7 +1,7 @@
 -- The fold goes through the bests, as the closure says.
-use Rattle.std.specs.declared.cmp.Ordering.TheVariants.{Greater}
 use Rattle.fallible_contract.specs.Picking.{call_at_two}
 use Rattle.fallible_contract.proofs.Lemmas.Picking.{picked_of, best_by_is}
+use Rattle.std.specs.declared.cmp.Ordering.TheVariants.{Greater}
 use Rattle.fallible_core.proofs.traits.FallibleIterator.max_by.Goals as goal
 
 pub returns-clause-picked : goal.returns-clause-picked

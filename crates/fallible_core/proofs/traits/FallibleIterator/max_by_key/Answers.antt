@@ -1,7 +1,7 @@
 -- The fold that keeps the better of two by their keys finds the item of the best key.
-use Rattle.std.specs.declared.cmp.Ordering.TheVariants.{Greater}
 use Rattle.fallible_contract.specs.Closures.{call_at}
 use Rattle.fallible_contract.proofs.Lemmas.Picking.{best_of_keys, best_by_key_is}
+use Rattle.std.specs.declared.cmp.Ordering.TheVariants.{Greater}
 use Rattle.fallible_core.proofs.traits.FallibleIterator.max_by_key.Goals as goal
 
 pub returns-clause-best : goal.returns-clause-best

@@ -2,9 +2,9 @@
 use Rattle.std.specs.Prelude.{Ok, Err}
 use Rattle.std.proofs.Common.{rules}
 use Rattle.fallible_contract.specs.Closures.{call_at, takes_at}
-use Rattle.fallible_contract.specs.declared.collecting.Fault.TheVariants.{Source}
 use Rattle.fallible_contract.proofs.Lemmas.Parting.{part_callable, parted_ended, parted_failed, parted_stopped}
 use Rattle.fallible_contract.proofs.Lemmas.Lists.Parted.{parted_as, unparted_as}
+use Rattle.fallible_contract.specs.declared.collecting.Fault.TheVariants.{Source}
 use Rattle.fallible_core.proofs.traits.FallibleIterator.partition.Goals as goal
 
 pub try_fold_carrying-requires-clause-callable : goal.try_fold_carrying-requires-clause-callable

@@ -1,11 +1,11 @@
 -- The fold that carries a reference to both collections collects the pairs.
 use Rattle.std.specs.Prelude.{Ok, Err}
 use Rattle.std.proofs.Common.{inr, rules}
-use Rattle.fallible_contract.specs.declared.collecting.Fault.TheVariants.{Source}
 use Rattle.fallible_contract.specs.Collecting.{MadeOfParts, PairRefused}
 use Rattle.fallible_contract.proofs.Lemmas.Collecting.{collected_all, collect_failed, collect_refused, pair_pushed}
 use Rattle.fallible_contract.proofs.Lemmas.Folds.{ended_behind, failed_behind, stopped_behind}
 use Rattle.fallible_contract.proofs.Lemmas.Lists.Drawn.{unzipped_as, not_unzipped_as}
+use Rattle.fallible_contract.specs.declared.collecting.Fault.TheVariants.{Source}
 use Rattle.fallible_core.proofs.traits.FallibleIterator.unzip.Goals as goal
 
 pub returns-in-Ended-clause-collects : goal.returns-in-Ended-clause-collects

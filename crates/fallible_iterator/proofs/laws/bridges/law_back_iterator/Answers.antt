@@ -1,8 +1,8 @@
 -- An element from behind is the answer that it becomes.
 use Rattle.std.proofs.Common.{refl}
+use Rattle.fallible_contract.proofs.Lemmas.LawForm.{traces_of_parts}
 use Rattle.fallible_core.specs.Bridges.Iterator.{iterator_parts}
 use Rattle.fallible_core.proofs.Lemmas.Bridges.{reads_list}
-use Rattle.fallible_contract.proofs.Lemmas.LawForm.{traces_of_parts}
 use Rattle.fallible_iterator.proofs.Lemmas.Bridges.{runs_transposed, askable_at_ends}
 use Rattle.fallible_iterator.proofs.laws.bridges.law_back_iterator.Goals as goal
 

@@ -1,6 +1,6 @@
 -- Each answer of a run is one of a draw from that end.
-use Rattle.fallible_contract.specs.declared.answers.Side.TheVariants.{Front, Back}
 use Rattle.fallible_contract.proofs.Lemmas.BothEnds.Mixed.{run_mixed, mix_then, folded_mixed}
+use Rattle.fallible_contract.specs.declared.answers.Side.TheVariants.{Front, Back}
 use Rattle.fallible_iterator.proofs.laws.ends.law_interleave_folds.Goals as goal
 
 pub returns-clause-run : goal.returns-clause-run

@@ -1,8 +1,8 @@
 -- A run of the values is one of their parts, which is a trace, answer by answer.
 use Rattle.std.proofs.Common.{refl}
-use Rattle.fallible_core.specs.OneToOne.MapWhile.{map_while_parts}
 use Rattle.fallible_contract.proofs.Lemmas.LawForm.{traces_of_parts, runs_by_answers}
 use Rattle.fallible_contract.proofs.Lemmas.Passing.{passing_by_answers}
+use Rattle.fallible_core.specs.OneToOne.MapWhile.{map_while_parts}
 use Rattle.fallible_iterator.proofs.laws.one_to_one.law_map_while.Goals as goal
 
 pub returns : goal.returns

@@ -1,7 +1,7 @@
 -- A run of the values is one of their parts, which the law of the parts speaks of.
 use Rattle.std.proofs.Common.{refl}
-use Rattle.fallible_core.specs.Peeking.Peekable.{peekable_parts}
 use Rattle.fallible_contract.proofs.Lemmas.LawForm.{traces_of_parts}
+use Rattle.fallible_core.specs.Peeking.Peekable.{peekable_parts}
 use Rattle.fallible_core.proofs.Lemmas.Peeking.Peekable.{peekable_law, lists_held}
 use Rattle.fallible_iterator.proofs.laws.peeking.law_peekable.Goals as goal
 

@@ -1,7 +1,7 @@
 -- A run from behind of the values is one of their parts, which the law of the parts speaks of; and what the std iterator reads from behind is what is listed.
 use Rattle.std.proofs.Common.{refl}
-use Rattle.fallible_iterator.specs.Sources.IntoFallible.{into_fallible_parts}
 use Rattle.fallible_contract.proofs.Lemmas.LawForm.{traces_of_parts}
+use Rattle.fallible_iterator.specs.Sources.IntoFallible.{into_fallible_parts}
 use Rattle.fallible_iterator.proofs.Lemmas.Sources.Std.{std_runs}
 use Rattle.fallible_iterator.proofs.Lemmas.Sources.IntoFallible.{lists_elements_behind}
 use Rattle.fallible_iterator.proofs.laws.sources.law_back_into_fallible.Goals as goal

@@ -1,7 +1,7 @@
 -- A run of the struct is a run of the closure.
 use Rattle.std.proofs.Common.{refl}
-use Rattle.fallible_iterator.specs.Sources.FromFn.{from_fn_parts}
 use Rattle.fallible_contract.proofs.Lemmas.LawForm.{traces_of_parts}
+use Rattle.fallible_iterator.specs.Sources.FromFn.{from_fn_parts}
 use Rattle.fallible_iterator.proofs.laws.sources.law_from_fn.Goals as goal
 
 pub returns : goal.returns

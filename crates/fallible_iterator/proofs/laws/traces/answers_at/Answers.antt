@@ -1,9 +1,9 @@
 -- Each draw adds its answer.
 use Rattle.std.proofs.Common.{arith}
 use Rattle.std.proofs.lemmas.List.{take_more}
-use Rattle.fallible_contract.specs.declared.answers.Side.TheVariants.{Front}
 use Rattle.fallible_contract.proofs.Lemmas.Contract.{stays_step_at}
 use Rattle.fallible_contract.proofs.Lemmas.ShownTraces.{one_more_answer_at}
+use Rattle.fallible_contract.specs.declared.answers.Side.TheVariants.{Front}
 use Rattle.fallible_iterator.proofs.laws.traces.answers_at.Goals as goal
 
 pub loop-side-preserved : goal.loop-side-preserved

@@ -1,7 +1,7 @@
 -- The caller's turn on the item, or the failure with what was carried.
 use Rattle.std.proofs.Common.{refl}
-use Rattle.std.specs.declared.ops.ControlFlow.TheVariants.{Continue, Break}
 use Rattle.fallible_iterator.specs.Sources.StdFold.{ElementTurn}
+use Rattle.std.specs.declared.ops.ControlFlow.TheVariants.{Continue, Break}
 use Rattle.fallible_iterator.proofs.sources.std_fold.turn_of_element.Goals as goal
 
 pub returns-in-Continue : goal.returns-in-Continue

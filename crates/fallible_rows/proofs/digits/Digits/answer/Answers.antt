@@ -1,11 +1,11 @@
 use Rattle.std.proofs.Common.{◌≡◌, ℕ, ◌≤◌, List, [], None, Err, subst, arith, ap, ◌∙◌, sym, append-nil}
 use Rattle.fallible_iterator.specs.Traces.{Answered}
-use Rattle.fallible_rows.specs.declared.fault.RowFault.{RowFault}
-use Rattle.fallible_rows.specs.declared.fault.RowFault.TheVariants.{Row}
 use Rattle.fallible_rows.specs.Rows.{row_number}
 use Rattle.fallible_rows.specs.RowTraces.{answer_of_number, told_place, row_answer}
-use Rattle.fallible_rows.specs.declared.digits.Digits.{Digits}
 use Rattle.fallible_rows.specs.Digits.{TellsOf}
+use Rattle.fallible_rows.specs.declared.fault.RowFault.{RowFault}
+use Rattle.fallible_rows.specs.declared.fault.RowFault.TheVariants.{Row}
+use Rattle.fallible_rows.specs.declared.digits.Digits.{Digits}
 use Rattle.fallible_rows.proofs.digits.Digits.answer.Goals as goal
 
 told_place-small : (place : ℕ) → place ≤ 4294967295 → place ≡ told_place place

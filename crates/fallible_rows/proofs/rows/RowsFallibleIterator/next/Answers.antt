@@ -1,9 +1,9 @@
 use Rattle.std.proofs.Common.{Option, Some, inl, inr, subst, sym, refl}
 use Rattle.fallible_iterator.specs.Traces.{end, failure}
-use Rattle.fallible_rows.specs.declared.fault.RowFault.TheVariants.{Read}
-use Rattle.fallible_rows.specs.declared.rows.Ahead.{Ahead}
 use Rattle.fallible_rows.specs.RowTraces.{row_step}
 use Rattle.fallible_rows.proofs.TraceLemmas.{drawn_by_newline, drawn_by_end, drawn_by_failure}
+use Rattle.fallible_rows.specs.declared.fault.RowFault.TheVariants.{Read}
+use Rattle.fallible_rows.specs.declared.rows.Ahead.{Ahead}
 use Rattle.fallible_rows.proofs.rows.RowsFallibleIterator.next.Goals as goal
 
 pub returns-in-Newline : goal.returns-in-Newline

@@ -1,7 +1,7 @@
 -- The call of the one that is held is that of the whole, since its steps are.
 use Rattle.std.proofs.Common.{refl}
-use Rattle.fallible_iterator.specs.Ends.{from_back}
 use Rattle.fallible_contract.proofs.Lemmas.Overriding.{holds_held, carried_held}
+use Rattle.fallible_iterator.specs.Ends.{from_back}
 use Rattle.fallible_scripts.specs.Counted.{counted_parts}
 use Rattle.fallible_scripts.proofs.Lemmas.{put}
 use Rattle.fallible_scripts.proofs.counted.CountedDoubleEndedFallibleIterator.try_rfold_carrying.Goals as goal

@@ -1,8 +1,8 @@
 -- One answer of the source, and the call on the state and the item, are the trace of one answer.
 use Rattle.std.proofs.Common.{refl}
 use Rattle.fallible_contract.specs.Laws.Closures.{reaches_here}
-use Rattle.fallible_core.proofs.Lemmas.OneToOne.Scan.{scans_item}
 use Rattle.fallible_contract.specs.Laws.Passing.{passes_end, passes_failure}
+use Rattle.fallible_core.proofs.Lemmas.OneToOne.Scan.{scans_item}
 use Rattle.fallible_core.proofs.one_to_one.scan.ScanFallibleIterator.next.Goals as goal
 
 pub f-requires : goal.f-requires

@@ -33,6 +33,10 @@ use denote.Triple.Clauses.{Ended, Lasts, lasts}
 use denote.Triple.Spec.{triple_of}
 use denote.Triple.Table.{framed}
 use denote.Triple.Walked.{Stays, stay_dropped, Goes-dropped, walk_of, ends_at}
+use Rattle.std.specs.contracts.result.Result as result
+use Rattle.std.specs.contracts.option.Option as option
+use Rattle.std.proofs.option.Option.TheLaws as option_laws
+use Rattle.std.proofs.result.Result.TheLaws as result_laws
 use Rattle.fallible_contract.specs.Contract as draws
 use Rattle.fallible_core.specs.Peeking.Peekable.{peekable_parts, peekable_contract, seen, held_item, Fills, Peeks}
 use Rattle.fallible_core.proofs.Lemmas.Peeking.Peekable.{peeks_joined}
@@ -47,10 +51,6 @@ use Rattle.fallible_core.proofs.peeking.peekable.Peekable.joined.Met as joined
 use Rattle.fallible_core.proofs.Loans.{Ends, begins, said_less}
 use Rattle.fallible_core.proofs.peeking.peekable.Peekable.peek.Statement.{statement}
 use Rattle.fallible_core.proofs.peeking.peekable.Peekable.peek.Code as code
-use Rattle.std.specs.contracts.result.Result as result
-use Rattle.std.specs.contracts.option.Option as option
-use Rattle.std.proofs.option.Option.TheLaws as option_laws
-use Rattle.std.proofs.result.Result.TheLaws as result_laws
 
 pub peek_spec : {M : Type 1} → statement M
 peek_spec 𝓤 𝓛 𝓜 𝓡 wired I X E L L' L'' g d d' d'' m m' m'' =

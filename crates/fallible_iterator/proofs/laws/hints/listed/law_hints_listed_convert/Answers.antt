@@ -1,6 +1,6 @@
 -- A hint is within what remains.
-use Rattle.fallible_iterator.specs.Sources.Convert.{convert_parts}
 use Rattle.fallible_contract.specs.Lists.{results}
+use Rattle.fallible_iterator.specs.Sources.Convert.{convert_parts}
 use Rattle.fallible_iterator.proofs.Lemmas.Hints.Sources.{bounds_rest, long_results}
 use Rattle.fallible_iterator.proofs.laws.hints.listed.law_hints_listed_convert.Goals as goal
 

@@ -1,6 +1,6 @@
 -- A hint is within what remains.
-use Rattle.fallible_iterator.specs.Sources.IntoFallible.{into_fallible_parts}
 use Rattle.fallible_contract.specs.Lists.{items}
+use Rattle.fallible_iterator.specs.Sources.IntoFallible.{into_fallible_parts}
 use Rattle.fallible_iterator.proofs.Lemmas.Hints.Sources.{bounds_rest, long_items}
 use Rattle.fallible_iterator.proofs.laws.hints.listed.law_hints_listed_into_fallible.Goals as goal
 

@@ -1,7 +1,7 @@
 -- The answer of the loop of rounds is read.
 use Rattle.fallible_contract.proofs.Lemmas.Comparing.{end_of_either}
 use Rattle.fallible_contract.proofs.Lemmas.Lists.Compared.{read_is}
-use Rattle.fallible_core.proofs.traits.FallibleIterator.gt.Goals as goal
+use Rattle.fallible_core.proofs.comparing.compare_read.Goals as goal
 
 pub compare-answer-requires-clause-right : goal.compare-answer-requires-clause-right
 compare-answer-requires-clause-right g c = c.requires.right _ c.into_fallible_iter.ensures
@@ -10,7 +10,7 @@ pub compare-answer-requires-clause-finite : goal.compare-answer-requires-clause-
 compare-answer-requires-clause-finite g c = end_of_either _ _ _ c.into_fallible_iter.ensures c.requires.finite
 
 pub returns-clause-compared : goal.returns-clause-compared
-returns-clause-compared g c = record { answer = _; compared = record { right = _; made = c.into_fallible_iter.ensures; compared = c.compare-answer.ensures }; is = c.read_gt.ensures }
+returns-clause-compared g c = record { answer = _; compared = record { right = _; made = c.into_fallible_iter.ensures; compared = c.compare-answer.ensures }; is = c.read.ensures }
 
 pub returns-clause-value : goal.returns-clause-value
 returns-clause-value g c a b i j = read_is a b (returns-clause-compared g c) i j
