@@ -755,6 +755,8 @@ pub trait FallibleIterator: Drop + Sized {
     ///
     /// Making it draws nothing. One call draws one answer, from the other end. It fails as that draw does. After a failure and after an end the next call draws the source again.
     ///
+    /// Asks nothing. Each draw asks that the source may be drawn from, from either end.
+    ///
     /// ```
     /// convert(readings.into_iter()).rev().collect(alloc)
     /// ```
@@ -772,6 +774,8 @@ pub trait FallibleIterator: Drop + Sized {
     /// Gives the answers up to the first end, and then those of `it`.
     ///
     /// Making it draws nothing. It calls `into_fallible_iter` once, and keeps what that gives. One call draws one answer; the draw that meets the first end draws `it` at once. It fails as the side does that is drawn: a failure passes, and changes no side. From the first end on only `it` is drawn.
+    ///
+    /// Asks nothing. Each draw asks that both sides may be drawn from.
     ///
     /// ```
     /// convert(left.iter().copied().map(Ok))
@@ -799,6 +803,8 @@ pub trait FallibleIterator: Drop + Sized {
     /// Pairs each item with one of `o`. Two items make a pair, and where neither fails, an end of either is an end.
     ///
     /// Making it draws nothing. It calls `into_fallible_iter` once, and keeps what that gives. One call draws one answer, and then, where that isn't a failure, one of `o`, also at an end. It fails as this iterator does, or else as `o` does. An item beside a failure or an end is lost, and the next call draws both again.
+    ///
+    /// Asks nothing. Each draw asks that both sides may be drawn from.
     ///
     /// ```
     /// (&mut left).zip(&mut right).draw()?;

@@ -106,7 +106,7 @@ where
         Ok(self.held().copied())
     }
 
-    /// Nothing but that an answer is held. With `held` it does what `peek` does, in two steps after which a caller's proof knows what is held.
+    /// Answers `()` where an item or an end is held. With `held` it does what `peek` does, in two steps after which a caller's proof knows what is held.
     ///
     /// It draws, fails and holds as `peek` does. What is left may be drawn from again.
     ///

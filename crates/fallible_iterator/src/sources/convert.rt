@@ -78,6 +78,8 @@ impl<T, E, I: std::iter::DoubleEndedIterator<Item = Result<T, E>>> Convert<I> {
     ///
     /// Making it draws nothing. One call draws one answer, from the other end. It fails as that draw does. After a failure and after an end the next call draws the source again.
     ///
+    /// Asks nothing. Each draw asks that the source may be drawn from, from either end.
+    ///
     /// ```
     /// convert(readings.into_iter()).rev().collect(alloc)
     /// ```

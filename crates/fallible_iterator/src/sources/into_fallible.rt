@@ -81,6 +81,8 @@ impl<T, I: std::iter::DoubleEndedIterator<Item = T>> IntoFallible<I> {
     ///
     /// Making it draws nothing. One call draws one answer, from the other end. It fails as that draw does. After a failure and after an end the next call draws the source again.
     ///
+    /// Asks nothing. Each draw asks that the source may be drawn from, from either end.
+    ///
     /// ```
     /// let mut it = IntoFallible::from(1..4u32).rev();
     /// assert_eq!(rt; it.size_hint(), (3, Some(3)));
