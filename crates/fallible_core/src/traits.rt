@@ -88,20 +88,47 @@ pub trait FallibleIterator: Drop + Sized {
     // All that the contract says of the values of this type.
     ghost contract: { Contract Self Self.Item Self.Error };
 
-    /// One answer: an item, a failure or an end. The step of the type says which, and what is left, which may be drawn from again.
+    /// One answer: an item, a failure or an end. The step of the type says which.
     ///
-    /// Asks the type's own condition, `can_next`: a search finds it of what sources and adapters make, and each draw keeps it.
+    /// It is one draw. It fails where the step says so. What is left is what the step says, and may be drawn from again.
+    ///
+    /// Asks that the type's own condition, `can_next`, holds: a search finds it of what sources and adapters make, and each draw keeps it.
+    ///
+    /// ```
+    /// let answers: [Result<u32, u32>; 2] = [Ok(1), Err(2)];
+    /// let mut it = answers.iter().copied().transpose_into_fallible();
+    /// let drawn = [it.next(), it.next(), it.next()];
+    /// assert_eq!(rt; drawn, [Ok(Some(1)), Err(2), Ok(None)]);
+    /// ```
     fn next(&mut self) -> Result<Option<Self::Item>, Self::Error>
         requires { contract.can_next self.old }
         ensures { contract.steps self.old result self.new };
 
     /// Bounds on the items of a run up to its first end, where it has no failure. A type with nothing to say answers `(0, None)`.
+    ///
+    /// It draws nothing and never fails. The iterator is as before.
+    ///
+    /// ```
+    /// let mut it = once::<u32, u32>(1).peekable();
+    /// assert_eq!(rt; it.size_hint(), (1, Some(1)));
+    /// ```
     fn size_hint(&self) -> (usize, Option<usize>)
         ensures { contract.hints self.now result };
 
     /// A bound, for a loop of one's own to count down by; it has no bytes, and only clauses read it.
     ///
     /// `let mut left = it.number();` before the loop, `left = left.one_less();` after each item, and `left.value` as the measure: the invariant is that the iterator may be drawn from, and that some bound of it is at most `left.value`.
+    ///
+    /// It draws nothing and never fails. The iterator is as before.
+    ///
+    /// Asks that it is finite.
+    ///
+    /// ```
+    /// let mut left = (*it).number();
+    /// while let Some(_) = it.draw()? {
+    ///     left = left.one_less();
+    /// }
+    /// ```
     fn number(&self) -> Number
         requires { contract.is_finite self.now }
         ensures { contract.bound self.now result.value }
@@ -140,9 +167,18 @@ pub trait FallibleIterator: Drop + Sized {
         }
     }
 
-    /// The number of items up to the end, or the first failure.
+    /// The number of items up to the end.
     ///
-    /// Asks that at most `usize::MAX` items are left.
+    /// It draws up to the end or the first failure. It fails with that failure. It takes the iterator, and no clause says what is left.
+    ///
+    /// Asks that it may be drawn from, and that at most `usize::MAX` items are left.
+    ///
+    /// ```
+    /// convert(readings.into_iter())
+    ///     .take(10)
+    ///     .filter(|reading| Ok(*reading > 100))
+    ///     .count()
+    /// ```
     fn count(mut self) -> Result<usize, Self::Error>
     where
         Self::Item: Drop,
@@ -154,9 +190,18 @@ pub trait FallibleIterator: Drop + Sized {
         drain_of_exit(self.try_fold_carrying(0, &CountTurn))
     }
 
-    /// The last item up to the end; none where no item comes before it. The first failure is the answer.
+    /// The last item up to the end; none where no item comes before it.
     ///
-    /// Asks that it is finite.
+    /// It draws up to the end or the first failure. It fails with that failure. It takes the iterator, and no clause says what is left.
+    ///
+    /// Asks that it may be drawn from and is finite.
+    ///
+    /// ```
+    /// convert(readings.into_iter())
+    ///     .take(10)
+    ///     .filter(|reading| Ok(*reading > 100))
+    ///     .last()
+    /// ```
     fn last(mut self) -> Result<Option<Self::Item>, Self::Error>
     where
         Self::Item: Drop,
@@ -168,9 +213,20 @@ pub trait FallibleIterator: Drop + Sized {
         drain_of_exit(self.try_fold_carrying(None, &LastTurn))
     }
 
-    /// The item with n items before it. It draws at most n + 1 answers; a failure or an end that comes first is the answer, and nothing is drawn after it. What is left may be drawn from again.
+    /// The item with n items before it; none where an end comes first.
+    ///
+    /// It draws at most n + 1 answers: up to that item, or a failure or an end that comes first. It fails with that failure. Nothing is drawn after the answer, and what is left may be drawn from again.
     ///
     /// Asks that it may be drawn from.
+    ///
+    /// ```
+    /// let answers = [Ok(0), Ok(1), Ok(2), Ok(3)];
+    /// let mut it = numbers(&answers);
+    /// assert_eq!(rt;
+    ///     [it.nth(1), it.nth(0), it.nth(2)],
+    ///     [Ok(Some(1)), Ok(Some(2)), Ok(None)]
+    /// );
+    /// ```
     fn nth(&mut self, n: usize) -> Result<Option<Self::Item>, Self::Error>
     where
         Self::Item: Drop,
@@ -193,9 +249,20 @@ pub trait FallibleIterator: Drop + Sized {
         self.next()
     }
 
-    /// Calls the closure on the value so far and each item in order. At the end it answers the last value; at a failure that failure, converted; where the closure fails, its error. Nothing is drawn after the answer that decides, and what is left may be drawn from again.
+    /// Calls the closure on the value so far and each item in order, and answers the last value at the end.
     ///
-    /// Asks that it is finite, and that the closure may be called on each item that may come with the value so far.
+    /// It draws up to the end, the first failure or an item on which the closure fails. It fails with the iterator's failure, converted, or with the closure's error. Nothing is drawn after the answer that decides, and what is left may be drawn from again.
+    ///
+    /// Asks that it may be drawn from and is finite, and that the closure may be called on each item that may come with the value so far.
+    ///
+    /// ```
+    /// let mut above = convert(readings.into_iter()).filter(|reading| Ok(*reading > 100));
+    /// let sum: Result<u32, u8> = (&mut above)
+    ///     .take(2)
+    ///     .try_fold(0, |sum: u32, reading: u32| Ok(sum.wrapping_add(reading)));
+    /// let sum = sum?;
+    /// Ok((sum, above.draw()?))
+    /// ```
     final fn try_fold<B, E, F>(&mut self, init: B, f: F) -> Result<B, E>
     where
         B: Drop,
@@ -220,7 +287,16 @@ pub trait FallibleIterator: Drop + Sized {
 
     /// `try_fold` on the iterator itself, where the closure fails with the iterator's own error.
     ///
+    /// It draws and fails as `try_fold` does, and converts no failure. It takes the iterator, and no clause says what is left.
+    ///
     /// Asks what `try_fold` asks.
+    ///
+    /// ```
+    /// convert(readings.into_iter()).fold(
+    ///     0,
+    ///     |sum: u64, reading: u32| Ok(sum.wrapping_add(u64::from(reading))),
+    /// )
+    /// ```
     final fn fold<B, F>(mut self, init: B, f: F) -> Result<B, Self::Error>
     where
         B: Drop,
@@ -237,9 +313,15 @@ pub trait FallibleIterator: Drop + Sized {
         self.try_fold(init, f)
     }
 
-    /// `fold` from the first item on: that item is the value so far, and the closure is called on it and each further item. None where no item comes; the first failure, or the closure's, is the answer.
+    /// `fold` from the first item on: that item is the value so far, and the closure is called on it and each further item. None where no item comes.
     ///
-    /// Asks that it is finite, and that the closure may be called on the value so far and each item that may come.
+    /// It draws up to the end, the first failure or an item on which the closure fails. It fails with the failure that comes first, of this iterator or of the closure. It takes the iterator, and no clause says what is left.
+    ///
+    /// Asks that it may be drawn from and is finite, and that the closure may be called on the value so far and each item that may come.
+    ///
+    /// ```
+    /// convert(readings.into_iter()).reduce(|sum, reading| Ok(sum.wrapping_add(reading)))
+    /// ```
     final fn reduce<F>(mut self, f: F) -> Result<Option<Self::Item>, Self::Error>
     where
         Self::Item: Drop,
@@ -279,9 +361,17 @@ pub trait FallibleIterator: Drop + Sized {
     // What the other functions know of a draw: see `KeptByDraw`.
     ghost lawful: { Lawful contract };
 
-    /// Replaces each item by the closure's answer on it; where the closure fails, its failure is the answer and the item is lost. Making the adapter draws nothing and calls nothing.
+    /// Replaces each item by the closure's answer on it.
+    ///
+    /// Making it draws nothing and calls nothing. One call draws one answer. It fails as the source does. Where the closure fails, its failure is the answer, and the item is lost. After a failure and after an end the next call draws the source again.
     ///
     /// Asks that the closure may be called on each item that may come, in each state that such calls bring it to.
+    ///
+    /// ```
+    /// convert(readings.into_iter())
+    ///     .map(|reading| if reading > 100 { Err(7) } else { Ok(reading) })
+    ///     .count()
+    /// ```
     final fn map<F, B>(self, f: F) -> Map<Self, F>
     where
         F: FnMut(Self::Item) -> Result<B, Self::Error>,
@@ -297,9 +387,17 @@ pub trait FallibleIterator: Drop + Sized {
         }
     }
 
-    /// Keeps the items to which the predicate answers true, and loses those to which it answers false; where it fails, its failure is the answer, the item is lost, and the next call goes on after it. One call draws until an item is kept, a failure comes or an end. Making the adapter draws nothing and calls nothing.
+    /// Keeps the items to which the predicate answers true, and loses those to which it answers false.
+    ///
+    /// Making it draws nothing and calls nothing. One call draws until an item is kept, a failure comes or an end. It fails as the source does. Where the predicate fails, its failure is the answer, and the item is lost. After a failure and after an end the next call goes on.
     ///
     /// Asks that it is finite, and that the predicate may be called on each item that may come, in each state that such calls bring it to.
+    ///
+    /// ```
+    /// convert(numbers.iter().copied().map(Ok))
+    ///     .filter(|number| Ok(*number > 100))
+    ///     .count()
+    /// ```
     final fn filter<F>(self, f: F) -> Filter<Self, F>
     where
         F: FnMut(&Self::Item) -> Result<bool, Self::Error>,
@@ -317,7 +415,16 @@ pub trait FallibleIterator: Drop + Sized {
         }
     }
 
-    /// Ends after n items; failures and ends of the source pass, and don't count. Making the adapter draws nothing, nor does a call after the n-th item.
+    /// Gives the source's answers up to the n-th item, and then ends. Failures and ends of the source pass, and don't count.
+    ///
+    /// Making it draws nothing. One call draws one answer, and none after the n-th item. It fails as the source does. After a failure and after an end of the source the next call draws it again. After the n-th item it ends for good.
+    ///
+    /// ```
+    /// Bytes { reader }
+    ///     .take(3)
+    ///     .filter(|byte| Ok(*byte == b'\n'))
+    ///     .count()
+    /// ```
     final fn take(self, n: usize) -> Take<Self>
         ensures parts { take_parts result ≡ (self, n) }
         ensures lists { OverList contract.steps self
@@ -328,9 +435,17 @@ pub trait FallibleIterator: Drop + Sized {
         Take { it: self, left: n }
     }
 
-    /// Ends at the first item that the predicate refuses, which is lost, and then without a draw. A failure of the predicate is the answer, loses the item, and ends nothing. Making the adapter draws nothing and calls nothing.
+    /// Gives the items before the first one that the predicate refuses, which is lost, and ends there.
+    ///
+    /// Making it draws nothing and calls nothing. One call draws one answer, and none after the refused item. It fails as the source does. Where the predicate fails, its failure is the answer, and the item is lost. After a failure and after an end of the source the next call draws it again. After the refused item it ends for good.
     ///
     /// Asks that the predicate may be called on each item that may come, in each state that such calls bring it to.
+    ///
+    /// ```
+    /// convert(readings.into_iter())
+    ///     .take_while(|reading| Ok(*reading > 100))
+    ///     .count()
+    /// ```
     final fn take_while<P>(self, predicate: P) -> TakeWhile<Self, P>
     where
         P: FnMut(&Self::Item) -> Result<bool, Self::Error>,
@@ -350,7 +465,18 @@ pub trait FallibleIterator: Drop + Sized {
         }
     }
 
-    /// Ends for good at the source's first end, without a draw from then on. A failure ends nothing. Making the adapter draws nothing.
+    /// Gives the source's answers up to its first end, and ends for good there.
+    ///
+    /// Making it draws nothing. One call draws one answer, and none after that end. It fails as the source does. A failure ends nothing: the next call draws the source again.
+    ///
+    /// ```
+    /// let mut source = ended_after_two(rt.alloc())?;
+    /// let mut it = (&mut source)
+    ///     .fuse()
+    ///     .filter(|x: &u32| -> Result<bool, u32> { Ok(*x == 2) });
+    /// expect_answers(&rt, &mut it, &[Item(2), End, End, End, End])?;
+    /// assert_eq!(rt; source.next(), Err(9));
+    /// ```
     final fn fuse(self) -> Fuse<Self>
         ensures parts { fuse_parts result ≡ (self, false) }
         ensures lists { OverList contract.steps self
@@ -362,7 +488,15 @@ pub trait FallibleIterator: Drop + Sized {
         }
     }
 
-    /// Leaves out the first n items. A failure or an end that comes among them is the answer, and the rest of them is left out after it. Making the adapter draws nothing; one call draws at most n + 1 answers.
+    /// Leaves out the first n items.
+    ///
+    /// Making it draws nothing. One call draws at most n + 1 answers. It fails as the source does. A failure or an end that comes among the first n items is the answer, and the rest of them is left out after it.
+    ///
+    /// ```
+    /// convert(readings.into_iter())
+    ///     .skip(1)
+    ///     .any(|reading| Ok(reading > 100))
+    /// ```
     final fn skip(self, n: usize) -> Skip<Self>
         ensures parts { skip_parts result ≡ (self, n) }
         ensures lists { OverList contract.steps self
@@ -374,7 +508,17 @@ pub trait FallibleIterator: Drop + Sized {
         }
     }
 
-    /// Keeps the first item, and then one item at each step, so that of each `step` items one is kept. Failures and ends pass, and don't count. The step is at least 1. Making the adapter draws nothing; one call draws at most `step` answers.
+    /// Keeps the first item, and then one item at each step, so that of each `step` items one is kept. Failures and ends pass, and don't count.
+    ///
+    /// Making it draws nothing. One call draws at most `step` answers. It fails as the source does. After a failure and after an end it counts on.
+    ///
+    /// Asks that the step is at least 1.
+    ///
+    /// ```
+    /// let answers = [Ok(0), Ok(1), Ok(2), Ok(3), Ok(4)];
+    /// let it = numbers(&answers);
+    /// assert_eq!(rt; it.skip(1).step_by(2).fuse().take(2).count(), Ok(2));
+    /// ```
     final fn step_by(self, step: usize) -> StepBy<Self>
         requires { 1 ≤ step }
         ensures source { step_by_source result ≡ self }
@@ -391,9 +535,18 @@ pub trait FallibleIterator: Drop + Sized {
         }
     }
 
-    /// Replaces each item by the value that the closure answers on it, and leaves it out where the answer is none. Where the closure fails, its failure is the answer, that item is lost, and the next call goes on after it. Making the adapter draws nothing and calls nothing.
+    /// Replaces each item by the value that the closure answers on it, and leaves it out where the answer is none.
+    ///
+    /// Making it draws nothing and calls nothing. One call draws until the closure answers a value, a failure comes or an end. It fails as the source does. Where the closure fails, its failure is the answer, and the item is lost. After a failure and after an end the next call goes on.
     ///
     /// Asks that the source is finite, since one call may leave many items out, and that the closure may be called on each item that may come.
+    ///
+    /// ```
+    /// let answers = [Ok(1), Ok(2), Ok(3), Ok(4)];
+    /// let mut it = counted(&answers, &log).filter_map(tens_of_even);
+    /// assert_eq!(rt; it.draw(), Ok(Some(20)));
+    /// assert_eq!(rt; it.try_fold(0, add_up), Ok(40));
+    /// ```
     final fn filter_map<B, F>(self, f: F) -> FilterMap<Self, F>
     where
         F: FnMut(Self::Item) -> Result<Option<B>, Self::Error>,
@@ -411,9 +564,17 @@ pub trait FallibleIterator: Drop + Sized {
         }
     }
 
-    /// Shows each item to the closure, and answers it then. Where the closure fails, its failure is the answer, and that item is lost. Making the adapter draws nothing and calls nothing.
+    /// Shows each item to the closure, and answers it then.
+    ///
+    /// Making it draws nothing and calls nothing. One call draws one answer. It fails as the source does. Where the closure fails, its failure is the answer, and the item is lost. After a failure and after an end the next call draws the source again.
     ///
     /// Asks that the closure may be called on a reference to each item that may come.
+    ///
+    /// ```
+    /// let answers = [Ok(1), Ok(2), Ok(3)];
+    /// let mut it = numbers(&answers).inspect(|x: &u32| if *x == 2 { Err(20) } else { Ok(()) });
+    /// expect_answers(&rt, &mut it, &[Item(1), Failure(20), Item(3), End])
+    /// ```
     final fn inspect<F>(self, f: F) -> Inspect<Self, F>
     where
         F: FnMut(&Self::Item) -> Result<(), Self::Error>,
@@ -429,9 +590,18 @@ pub trait FallibleIterator: Drop + Sized {
         }
     }
 
-    /// Replaces each failure by the closure's value on it, which is called once for each failure and for nothing else. Making the adapter draws nothing and calls nothing.
+    /// Replaces each failure by the closure's value on it, which is called once for each failure and for nothing else.
+    ///
+    /// Making it draws nothing and calls nothing. One call draws one answer. It fails where the source does, with the closure's value. After a failure and after an end the next call draws the source again.
     ///
     /// Asks that the closure may be called on each failure that may come.
+    ///
+    /// ```
+    /// let answers = [Ok(1), Err(5)];
+    /// let mut it = numbers(&answers).map_err(|e: u32| e.wrapping_add(100));
+    /// let drawn = [it.next(), it.next(), it.next()];
+    /// assert_eq!(rt; drawn, [Ok(Some(1)), Err(105), Ok(None)]);
+    /// ```
     final fn map_err<B, F>(self, f: F) -> MapErr<Self, F>
     where
         F: FnMut(Self::Error) -> B,
@@ -444,9 +614,15 @@ pub trait FallibleIterator: Drop + Sized {
         MapErr { it: self, f }
     }
 
-    /// Puts each item beside the number of items drawn before it, from 0 on; failures and ends don't count. Making the adapter draws nothing.
+    /// Puts each item beside the number of items drawn before it, from 0 on; failures and ends don't count.
+    ///
+    /// Making it draws nothing. One call draws one answer. It fails as the source does. After a failure and after an end the next call draws the source again.
     ///
     /// Asks that at most `usize::MAX` items are still to come, so that each number fits. Draws ask that items can be let go, as its `count` and `nth` do.
+    ///
+    /// ```
+    /// convert(readings.into_iter()).enumerate().unzip(alloc)
+    /// ```
     final fn enumerate(self) -> Enumerate<Self>
         requires { AtMost contract self (2 ^ 64 - 1) }
         ensures parts { enumerate_parts result ≡ (self, 0) }
@@ -458,9 +634,19 @@ pub trait FallibleIterator: Drop + Sized {
         Enumerate { it: self, count: 0 }
     }
 
-    /// Leaves out the items before the first one to which the predicate answers false, and asks it no more from there on. Where it fails, its failure is the answer, that item is lost, and the skipping goes on. Making the adapter draws nothing and calls nothing.
+    /// Leaves out the items before the first one to which the predicate answers false, and asks it no more from there on.
+    ///
+    /// Making it draws nothing and calls nothing. One call draws until an item is kept, a failure comes or an end. It fails as the source does. Where the predicate fails, its failure is the answer, the item is lost, and the skipping goes on. After a failure and after an end the next call goes on.
     ///
     /// Asks that the source is finite, since one call may leave many items out, and that the predicate may be called on a reference to each item that may come until it first answers false.
+    ///
+    /// ```
+    /// convert(readings.into_iter())
+    ///     .enumerate()
+    ///     .skip_while(|place| Ok(place.1 < 11))
+    ///     .take_while(|place| Ok(0 < place.1))
+    ///     .collect(alloc)
+    /// ```
     final fn skip_while<P>(self, predicate: P) -> SkipWhile<Self, P>
     where
         P: FnMut(&Self::Item) -> Result<bool, Self::Error>,
@@ -481,9 +667,17 @@ pub trait FallibleIterator: Drop + Sized {
         }
     }
 
-    /// Replaces each item by the value that the closure answers on it, up to the first none, which is an end; the next call goes on after it. Where the closure fails, its failure is the answer and the item is lost. Making the adapter draws nothing and calls nothing.
+    /// Replaces each item by the value that the closure answers on it, up to the first none, which is an end.
+    ///
+    /// Making it draws nothing and calls nothing. One call draws one answer. It fails as the source does. Where the closure fails, its failure is the answer, and the item is lost. After a none, a failure and an end the next call draws the source again.
     ///
     /// Asks that the closure may be called on each item that may come, in each state that such calls bring it to.
+    ///
+    /// ```
+    /// convert(readings.into_iter())
+    ///     .map_while(|reading: u32| Ok(if reading > 0 { Some(reading / 2) } else { None }))
+    ///     .collect(alloc)
+    /// ```
     final fn map_while<F, B>(self, f: F) -> MapWhile<Self, F>
     where
         F: FnMut(Self::Item) -> Result<Option<B>, Self::Error>,
@@ -499,9 +693,20 @@ pub trait FallibleIterator: Drop + Sized {
         }
     }
 
-    /// Replaces each item by the closure's answer on the state and the item. None is an end, and the next call goes on; where the closure fails, its failure is the answer, and that item is lost. The state stays as the closure left it. Making the adapter draws nothing and calls nothing.
+    /// Replaces each item by the closure's answer on the state and the item, where none is an end.
+    ///
+    /// Making it draws nothing and calls nothing. One call draws one answer. It fails as the source does. Where the closure fails, its failure is the answer, and the item is lost. The state stays as the closure left it. After a none, a failure and an end the next call draws the source again.
     ///
     /// Asks that the closure may be called on each item that may come, with each state that such calls lead to.
+    ///
+    /// ```
+    /// convert(readings.into_iter())
+    ///     .scan(0, |sum: &mut u64, reading: u32| {
+    ///         *sum = sum.wrapping_add(u64::from(reading));
+    ///         Ok(Some(*sum))
+    ///     })
+    ///     .collect(alloc)
+    /// ```
     final fn scan<St, B, F>(self, initial_state: St, f: F) -> Scan<Self, St, F>
     where
         F: FnMut(&mut St, Self::Item) -> Result<Option<B>, Self::Error>,
@@ -521,7 +726,17 @@ pub trait FallibleIterator: Drop + Sized {
         }
     }
 
-    /// Replaces each item by a clone of what it points to. Where the clone is refused, the failure made of the refusal is the answer, and that item is lost. Making the adapter draws nothing.
+    /// Replaces each item by a clone of what it points to.
+    ///
+    /// Making it draws nothing. One call draws one answer. It fails as the source does. Where the clone is refused, the failure made of the refusal is the answer, and the item is lost. After a failure and after an end the next call draws the source again.
+    ///
+    /// ```
+    /// let items = [1, 2, 3];
+    /// let made = IntoFallible::from(items.iter());
+    /// let mut it = made.map_err(|_| AllocError).cloned().rev();
+    /// let drawn = [it.next(), it.next(), it.next(), it.next()];
+    /// assert_eq!(rt; drawn, [Ok(Some(3)), Ok(Some(2)), Ok(Some(1)), Ok(None)]);
+    /// ```
     final fn cloned<'a, T: 'a>(self) -> Cloned<Self>
     where
         Self: FallibleIterator<Item = &'a T>,
@@ -536,7 +751,15 @@ pub trait FallibleIterator: Drop + Sized {
         Cloned { it: self }
     }
 
-    /// Swaps the ends: a draw from the adapter is a draw from behind, and the other way round. Making the adapter draws nothing.
+    /// Swaps the ends: a draw from the adapter is a draw from behind, and the other way round.
+    ///
+    /// Making it draws nothing. One call draws one answer, from the other end. It fails as that draw does. After a failure and after an end the next call draws the source again.
+    ///
+    /// Asks nothing. Each draw asks that the source may be drawn from, from either end.
+    ///
+    /// ```
+    /// convert(readings.into_iter()).rev().collect(alloc)
+    /// ```
     final fn rev(self) -> Rev<Self>
     where
         Self: DoubleEndedFallibleIterator,
@@ -548,7 +771,17 @@ pub trait FallibleIterator: Drop + Sized {
         Rev { it: self }
     }
 
-    /// Gives the answers up to the first end, and then those of `it`. The draw that meets that end draws `it` at once, and from then on only `it` is drawn. A failure passes, and changes no side. Making the adapter draws nothing: it calls `into_fallible_iter` once, and keeps what that gives.
+    /// Gives the answers up to the first end, and then those of `it`.
+    ///
+    /// Making it draws nothing. It calls `into_fallible_iter` once, and keeps what that gives. One call draws one answer; the draw that meets the first end draws `it` at once. It fails as the side does that is drawn: a failure passes, and changes no side. From the first end on only `it` is drawn.
+    ///
+    /// Asks nothing. Each draw asks that both sides may be drawn from.
+    ///
+    /// ```
+    /// convert(left.iter().copied().map(Ok))
+    ///     .chain(convert(right.iter().copied().map(Ok)))
+    ///     .count()
+    /// ```
     final fn chain<I>(self, it: I) -> Chain<Self, I::IntoFallibleIter>
     where
         I: IntoFallibleIterator<Item = Self::Item, Error = Self::Error>,
@@ -567,7 +800,17 @@ pub trait FallibleIterator: Drop + Sized {
         }
     }
 
-    /// Pairs each item with one of `o`. A call draws one answer, and then, where that isn't a failure, one of `o`, also at an end. Two items make a pair. A failure of either is the answer, and else an end of either is an end; an item beside a failure or an end is lost, and the next call draws both again. Making the adapter draws nothing: it calls `into_fallible_iter` once, and keeps what that gives.
+    /// Pairs each item with one of `o`. Two items make a pair, and where neither fails, an end of either is an end.
+    ///
+    /// Making it draws nothing. It calls `into_fallible_iter` once, and keeps what that gives. One call draws one answer, and then, where that isn't a failure, one of `o`, also at an end. It fails as this iterator does, or else as `o` does. An item beside a failure or an end is lost, and the next call draws both again.
+    ///
+    /// Asks nothing. Each draw asks that both sides may be drawn from.
+    ///
+    /// ```
+    /// (&mut left).zip(&mut right).draw()?;
+    /// left.draw()?;
+    /// right.draw()
+    /// ```
     final fn zip<I>(self, o: I) -> Zip<Self, I::IntoFallibleIter>
     where
         I: IntoFallibleIterator<Error = Self::Error>,
@@ -591,9 +834,18 @@ pub trait FallibleIterator: Drop + Sized {
         }
     }
 
-    /// Joins the answers of the inner iterators that the items become: the one in hand answers until its end, at which it is dropped, and then the next item is drawn. A failure of the inner iterator is the answer, and keeps it in hand. A failure or an end of this iterator is the answer, and the next call draws from it again. Making the adapter draws nothing.
+    /// Joins the answers of the inner iterators that the items become: the one in hand answers until its end, at which it is dropped, and then the next item is drawn.
+    ///
+    /// Making it draws nothing. One call draws the inner iterator in hand, and this one only where none is in hand, or it ended. It fails as either does. A failure of the inner iterator keeps it in hand. After a failure or an end of this iterator the next call draws from it again.
     ///
     /// Asks that it is finite, since many inner iterators may end at once. Each draw asks that the inner iterator in hand and each that may come may be drawn from; a drain also asks that the one in hand is finite, and one bound that serves for each that may come.
+    ///
+    /// ```
+    /// let inner = IntoFallible::from(1..3u32);
+    /// let mut it = once::<IntoFallible<Range<u32>>, Infallible>(inner).flatten();
+    /// assert_eq!(rt; it.size_hint(), (0, None));
+    /// assert_eq!(rt; it.next(), Ok(Some(1)));
+    /// ```
     final fn flatten(self) -> Flatten<Self, <Self::Item as IntoFallibleIterator>::IntoFallibleIter>
     where
         Self::Item: IntoFallibleIterator<Error = Self::Error>,
@@ -613,9 +865,18 @@ pub trait FallibleIterator: Drop + Sized {
         }
     }
 
-    /// Joins the answers of the inner iterators that the closure makes of the items, as `flatten` does. Where the closure fails, its failure is the answer, that item is lost, and the next call goes on after it. Making the adapter draws nothing and calls nothing.
+    /// Joins the answers of the inner iterators that the closure makes of the items, as `flatten` does.
+    ///
+    /// Making it draws nothing and calls nothing. One call draws as that of `flatten`, and fails as it does. Where the closure fails, its failure is the answer, that item is lost, and the next call goes on after it.
     ///
     /// Asks that it is finite, since many inner iterators may end at once, and that the closure may be called on each item that may come. Each draw asks that the inner iterator in hand and each that may come may be drawn from; a drain also asks that the one in hand is finite, and one bound that serves for each that may come.
+    ///
+    /// ```
+    /// convert(bounds.into_iter())
+    ///     .flat_map(|bound: u32| Ok((0..bound).into_fallible()))
+    ///     .take(1000)
+    ///     .collect(alloc)
+    /// ```
     final fn flat_map<U, F>(self, f: F) -> FlatMap<Self, U::IntoFallibleIter, F>
     where
         U: IntoFallibleIterator<Error = Self::Error>,
@@ -642,9 +903,17 @@ pub trait FallibleIterator: Drop + Sized {
 
     /// Makes a collection of the items up to the end. Of equal items a set keeps the first; a map keeps the first of equal keys, with its last value.
     ///
-    /// `Fault::Source` of the first failure. `Fault::Memory` where the collection refused: nothing was drawn where it could not be made, and else the item that it refused was the last one drawn. Of a collection that never refuses it is never answered. That the collection is made before the first draw, and that no room is taken ahead, is tested and no part of the contract.
+    /// It draws up to the end, the first failure or an item that the collection refuses. That the collection is made before the first draw, so that nothing is drawn where it is refused, and that no room is taken ahead, is tested and no part of the contract.
     ///
-    /// Asks that it is finite.
+    /// It fails with `Fault::Source` of the first failure, and with `Fault::Memory` where the collection refused: it could not be made, or the item that it refused was the last one drawn. Of a collection that never refuses `Fault::Memory` is never answered. It takes the iterator, and no clause says what is left.
+    ///
+    /// Asks that it may be drawn from and is finite.
+    ///
+    /// ```
+    /// convert(readings.into_iter())
+    ///     .filter(|reading| Ok(*reading > 100))
+    ///     .collect(alloc)
+    /// ```
     final fn collect<C: Collect<Self::Item>>(
         mut self,
         alloc: Global,
@@ -670,11 +939,19 @@ pub trait FallibleIterator: Drop + Sized {
         }
     }
 
-    /// Makes two collections of the items up to the end: of those on which the predicate answers true, and of the others. The predicate is called once on each item. Of equal items a set keeps the first; a map keeps the first of equal keys, with its last value.
+    /// Makes two collections of the items up to the end: of those on which the predicate answers true, and of the others. Of equal items a set keeps the first; a map keeps the first of equal keys, with its last value.
     ///
-    /// `Fault::Source` of the first failure of the source or of the predicate. `Fault::Memory` where a collection refused: nothing was drawn where one could not be made, and else the item that was refused was the last one drawn. Of a collection that never refuses it is never answered.
+    /// It draws up to the end, the first failure, an item on which the predicate fails or one that a collection refuses. The predicate is called once on each item. That both are made before the first draw is tested and no part of the contract.
     ///
-    /// Asks that it is finite, and that the predicate may be called on each item that may come.
+    /// It fails with `Fault::Source` of the first failure of the source or of the predicate, and with `Fault::Memory` where a collection refused: one could not be made, or the item that was refused was the last one drawn. Of a collection that never refuses `Fault::Memory` is never answered. It takes the iterator, and no clause says what is left.
+    ///
+    /// Asks that it may be drawn from and is finite, and that the predicate may be called on each item that may come.
+    ///
+    /// ```
+    /// convert(readings.into_iter())
+    ///     .take(10)
+    ///     .partition(alloc, |reading| Ok(*reading > 100))
+    /// ```
     final fn partition<B: Collect<Self::Item>, F>(
         mut self,
         alloc: Global,
@@ -714,9 +991,15 @@ pub trait FallibleIterator: Drop + Sized {
 
     /// The first parts of the pairs up to the end in one collection, and the second parts in another. Of equal items a set keeps the first; a map keeps the first of equal keys, with its last value.
     ///
-    /// `Fault::Source` of the first failure, before which all pairs were accepted. `Fault::Memory` where a collection refused: nothing was drawn where one could not be made, and else the pair that was refused was the last one drawn, and is dropped whole. That both are made before the first draw is tested and no part of the contract.
+    /// It draws up to the end, the first failure or a pair that a collection refuses. That both are made before the first draw is tested and no part of the contract.
     ///
-    /// Asks that it is finite.
+    /// It fails with `Fault::Source` of the first failure, before which all pairs were accepted, and with `Fault::Memory` where a collection refused: one could not be made, or the pair that was refused was the last one drawn. That pair is dropped whole. It takes the iterator, and no clause says what is left.
+    ///
+    /// Asks that it may be drawn from and is finite.
+    ///
+    /// ```
+    /// convert(readings.into_iter()).enumerate().unzip(alloc)
+    /// ```
     final fn unzip<A, B, FromA: Collect<A>, FromB: Collect<B>>(
         mut self,
         alloc: Global,
@@ -751,9 +1034,15 @@ pub trait FallibleIterator: Drop + Sized {
         }
     }
 
-    /// Calls the closure on each item in order, up to the end. The first failure, of this iterator or of the closure, is the answer.
+    /// Calls the closure on each item in order, up to the end.
     ///
-    /// Asks that it is finite, and that the closure may be called on each item that may come.
+    /// It draws up to the end, the first failure or an item on which the closure fails. It fails with the failure that comes first, of this iterator or of the closure. It takes the iterator, and no clause says what is left.
+    ///
+    /// Asks that it may be drawn from and is finite, and that the closure may be called on each item that may come.
+    ///
+    /// ```
+    /// (s.by_ref().for_each(accept), s.next())
+    /// ```
     final fn for_each<F>(mut self, f: F) -> Result<(), Self::Error>
     where
         F: FnMut(Self::Item) -> Result<(), Self::Error>,
@@ -769,9 +1058,17 @@ pub trait FallibleIterator: Drop + Sized {
         search_of_exit(self.try_fold_carrying(f, &ForEachTurn), ())
     }
 
-    /// Whether the predicate answers true on each item up to the end. It stops at the first item on which it answers false, or fails; a failure that comes first is the answer. Nothing is drawn after the answer that decides, and what is left may be drawn from again.
+    /// Whether the predicate answers true on each item up to the end.
     ///
-    /// Asks that it is finite, and that the predicate may be called on each item that may come until it decides.
+    /// It draws up to the first item on which the predicate answers false or fails, the first failure or the end. It fails with the failure that comes first, of this iterator or of the predicate. Nothing is drawn after the answer that decides, and what is left may be drawn from again.
+    ///
+    /// Asks that it may be drawn from and is finite, and that the predicate may be called on each item that may come until it decides.
+    ///
+    /// ```
+    /// convert(readings.into_iter())
+    ///     .filter(|reading| Ok(*reading > 0))
+    ///     .all(|reading| Ok(reading > 100))
+    /// ```
     final fn all<F>(&mut self, f: F) -> Result<bool, Self::Error>
     where
         F: FnMut(Self::Item) -> Result<bool, Self::Error>,
@@ -791,9 +1088,17 @@ pub trait FallibleIterator: Drop + Sized {
         search_of_exit(self.try_fold_carrying(f, &AllTurn), true)
     }
 
-    /// Whether the predicate answers true on an item before the end. It stops at the first item on which it answers true, or fails; a failure that comes first is the answer. Nothing is drawn after the answer that decides, and what is left may be drawn from again.
+    /// Whether the predicate answers true on an item before the end.
     ///
-    /// Asks that it is finite, and that the predicate may be called on each item that may come until it decides.
+    /// It draws up to the first item on which the predicate answers true or fails, the first failure or the end. It fails with the failure that comes first, of this iterator or of the predicate. Nothing is drawn after the answer that decides, and what is left may be drawn from again.
+    ///
+    /// Asks that it may be drawn from and is finite, and that the predicate may be called on each item that may come until it decides.
+    ///
+    /// ```
+    /// convert(readings.into_iter())
+    ///     .skip(1)
+    ///     .any(|reading| Ok(reading > 100))
+    /// ```
     final fn any<F>(&mut self, f: F) -> Result<bool, Self::Error>
     where
         F: FnMut(Self::Item) -> Result<bool, Self::Error>,
@@ -813,9 +1118,19 @@ pub trait FallibleIterator: Drop + Sized {
         search_of_exit(self.try_fold_carrying(f, &AnyTurn), false)
     }
 
-    /// The first item for which the predicate is true; none where no such item comes before the end. It draws up to and with that item, the first failure or the first end, and calls the predicate on each item drawn, in order; where it fails, its failure is the answer. Nothing is drawn after the answer that decides, and what is left may be drawn from again.
+    /// The first item for which the predicate is true; none where no such item comes before the end.
     ///
-    /// Asks that it is finite, and that the predicate may be called on a reference to each item that may come until it first answers true.
+    /// It draws up to and with the first item on which the predicate answers true or fails, the first failure or the first end, and calls the predicate on each item drawn, in order. It fails with the failure that comes first, of this iterator or of the predicate. Nothing is drawn after the answer that decides, and what is left may be drawn from again.
+    ///
+    /// Asks that it may be drawn from and is finite, and that the predicate may be called on a reference to each item that may come until it first answers true.
+    ///
+    /// ```
+    /// let mut left = convert(readings.into_iter());
+    /// match left.find(|reading| Ok(*reading == 0))? {
+    ///     Some(_) => left.nth(0),
+    ///     None => Ok(None),
+    /// }
+    /// ```
     final fn find<F>(&mut self, f: F) -> Result<Option<Self::Item>, Self::Error>
     where
         Self::Item: Drop,
@@ -837,9 +1152,20 @@ pub trait FallibleIterator: Drop + Sized {
         answer
     }
 
-    /// The first value that the closure answers on the items in order, each of which it is called on once. A failure that comes first, of this iterator or of the closure, is the answer, and so is an end. Nothing is drawn after the answer that decides, and what is left may be drawn from again.
+    /// The first value that the closure answers on the items in order, each of which it is called on once; none where no value comes before the end.
     ///
-    /// Asks that it is finite, and that the closure may be called on each item that may come until it decides.
+    /// It draws up to the first item on which the closure answers a value or fails, the first failure or the end. It fails with the failure that comes first, of this iterator or of the closure. Nothing is drawn after the answer that decides, and what is left may be drawn from again.
+    ///
+    /// Asks that it may be drawn from and is finite, and that the closure may be called on each item that may come until it decides.
+    ///
+    /// ```
+    /// let found = it.find_map(|x: u32| {
+    ///     calls = calls.wrapping_add(1);
+    ///     Ok(if x == 2 { Some(("hi", calls)) } else { None })
+    /// });
+    /// assert_eq!(rt; (found, calls), (Ok(Some(("hi", 3))), 3));
+    /// assert_eq!(rt; it.next(), Ok(Some(3)));
+    /// ```
     final fn find_map<B, F>(&mut self, f: F) -> Result<Option<B>, Self::Error>
     where
         F: FnMut(Self::Item) -> Result<Option<B>, Self::Error>,
@@ -859,9 +1185,18 @@ pub trait FallibleIterator: Drop + Sized {
         find_of_exit(self.try_fold_carrying(f, &FindMapTurn))
     }
 
-    /// How many items come before the first one on which the predicate answers true; none where no such item comes before the end. A failure that comes first, of this iterator or of the predicate, is the answer. Nothing is drawn after the answer that decides, and what is left may be drawn from again.
+    /// How many items come before the first one on which the predicate answers true; none where no such item comes before the end.
     ///
-    /// Asks that at most `usize::MAX` items are left, and that the predicate may be called on each item that may come until it decides.
+    /// It draws up to the first item on which the predicate answers true or fails, the first failure or the end. It fails with the failure that comes first, of this iterator or of the predicate. Nothing is drawn after the answer that decides, and what is left may be drawn from again.
+    ///
+    /// Asks that it may be drawn from, that at most `usize::MAX` items are left, and that the predicate may be called on each item that may come until it decides.
+    ///
+    /// ```
+    /// match it.position(|x| Ok(x == 0))? {
+    ///     Some(_) => it.count(),
+    ///     None => Ok(0),
+    /// }
+    /// ```
     final fn position<F>(&mut self, f: F) -> Result<Option<usize>, Self::Error>
     where
         F: FnMut(Self::Item) -> Result<bool, Self::Error>,
@@ -881,9 +1216,17 @@ pub trait FallibleIterator: Drop + Sized {
         find_of_exit(self.try_fold_carrying((0, f), &PositionTurn))
     }
 
-    /// The greatest item, of equal ones the last; none where no item comes before the end. The first failure is the answer.
+    /// The greatest item, of equal ones the last; none where no item comes before the end.
     ///
-    /// Asks that it is finite.
+    /// It draws up to the end or the first failure. It fails with that failure. It takes the iterator, and no clause says what is left.
+    ///
+    /// Asks that it may be drawn from and is finite.
+    ///
+    /// ```
+    /// convert(readings.into_iter())
+    ///     .filter(|reading| Ok(*reading > 100))
+    ///     .max()
+    /// ```
     final fn max(self) -> Result<Option<Self::Item>, Self::Error>
     where
         Self::Item: Ord + Drop,
@@ -898,9 +1241,19 @@ pub trait FallibleIterator: Drop + Sized {
         best_by(self, Ordering::Greater, compare)
     }
 
-    /// The least item, of equal ones the last; none where no item comes before the end. The first failure is the answer.
+    /// The least item, of equal ones the last; none where no item comes before the end.
     ///
-    /// Asks that it is finite.
+    /// It draws up to the end or the first failure. It fails with that failure. It takes the iterator, and no clause says what is left.
+    ///
+    /// Asks that it may be drawn from and is finite.
+    ///
+    /// ```
+    /// convert(readings.into_iter())
+    ///     .skip(1)
+    ///     .map(|reading| Ok(u64::from(reading) * 2))
+    ///     .filter(|double| Ok(*double > 1000))
+    ///     .min()
+    /// ```
     final fn min(self) -> Result<Option<Self::Item>, Self::Error>
     where
         Self::Item: Ord + Drop,
@@ -915,9 +1268,20 @@ pub trait FallibleIterator: Drop + Sized {
         best_by(self, Ordering::Less, compare)
     }
 
-    /// The item of the greatest key, of equal ones the last; none where no item comes before the end. The closure makes the key of each item once, in order. The first failure, of this iterator or of the closure, is the answer.
+    /// The item of the greatest key, of equal ones the last; none where no item comes before the end. The closure makes the key of each item once, in order.
     ///
-    /// Asks that it is finite, and that the closure may be called on each item that may come.
+    /// It draws up to the end, the first failure or an item on which the closure fails. It fails with the failure that comes first, of this iterator or of the closure. It takes the iterator, and no clause says what is left.
+    ///
+    /// Asks that it may be drawn from and is finite, and that the closure may be called on each item that may come.
+    ///
+    /// ```
+    /// let it = convert(answers.iter().copied());
+    /// let mut calls = 0u32;
+    /// let greatest = it.max_by_key(|x: &i32| {
+    ///     calls = calls.wrapping_add(1);
+    ///     product(sign, bound, *x)
+    /// });
+    /// ```
     final fn max_by_key<B, F>(self, f: F) -> Result<Option<Self::Item>, Self::Error>
     where
         Self::Item: Drop,
@@ -934,9 +1298,16 @@ pub trait FallibleIterator: Drop + Sized {
         without_key(best_by_key(self, Ordering::Greater, f))
     }
 
-    /// The item of the least key, of equal ones the last; none where no item comes before the end. The closure makes the key of each item once, in order. The first failure, of this iterator or of the closure, is the answer.
+    /// The item of the least key, of equal ones the last; none where no item comes before the end. The closure makes the key of each item once, in order.
     ///
-    /// Asks that it is finite, and that the closure may be called on each item that may come.
+    /// It draws up to the end, the first failure or an item on which the closure fails. It fails with the failure that comes first, of this iterator or of the closure. It takes the iterator, and no clause says what is left.
+    ///
+    /// Asks that it may be drawn from and is finite, and that the closure may be called on each item that may come.
+    ///
+    /// ```
+    /// let it = convert(answers.iter().copied());
+    /// it.min_by_key(|x: &(i32, char)| product(sign, bound, x.0))
+    /// ```
     final fn min_by_key<B, F>(self, f: F) -> Result<Option<Self::Item>, Self::Error>
     where
         Self::Item: Drop,
@@ -953,9 +1324,16 @@ pub trait FallibleIterator: Drop + Sized {
         without_key(best_by_key(self, Ordering::Less, f))
     }
 
-    /// The greatest item by the closure, which is called on the best item so far and the next one; of equal ones the last, and none where no item comes before the end. The first failure, of this iterator or of the closure, is the answer.
+    /// The greatest item by the closure, which is called on the best item so far and the next one; of equal ones the last, and none where no item comes before the end.
     ///
-    /// Asks that it is finite, and that the closure may be called on the best item so far and each item that may come.
+    /// It draws up to the end, the first failure or an item on which the closure fails. It fails with the failure that comes first, of this iterator or of the closure. It takes the iterator, and no clause says what is left.
+    ///
+    /// Asks that it may be drawn from and is finite, and that the closure may be called on the best item so far and each item that may come.
+    ///
+    /// ```
+    /// let it = convert(answers.iter().copied());
+    /// it.max_by(|best: &i32, x: &i32| compare(sign, failing, *best, *x))
+    /// ```
     final fn max_by<F>(self, f: F) -> Result<Option<Self::Item>, Self::Error>
     where
         Self::Item: Drop,
@@ -971,9 +1349,19 @@ pub trait FallibleIterator: Drop + Sized {
         best_by(self, Ordering::Greater, f)
     }
 
-    /// The least item by the closure, which is called on the best item so far and the next one; of equal ones the last, and none where no item comes before the end. The first failure, of this iterator or of the closure, is the answer.
+    /// The least item by the closure, which is called on the best item so far and the next one; of equal ones the last, and none where no item comes before the end.
     ///
-    /// Asks that it is finite, and that the closure may be called on the best item so far and each item that may come.
+    /// It draws up to the end, the first failure or an item on which the closure fails. It fails with the failure that comes first, of this iterator or of the closure. It takes the iterator, and no clause says what is left.
+    ///
+    /// Asks that it may be drawn from and is finite, and that the closure may be called on the best item so far and each item that may come.
+    ///
+    /// ```
+    /// let mut it = convert(answers.iter().copied());
+    /// let least = it
+    ///     .by_ref()
+    ///     .min_by(|best: &i32, x: &i32| compare(sign, failing, *best, *x));
+    /// (least, it.next())
+    /// ```
     final fn min_by<F>(self, f: F) -> Result<Option<Self::Item>, Self::Error>
     where
         Self::Item: Drop,
@@ -991,9 +1379,15 @@ pub trait FallibleIterator: Drop + Sized {
 
     /// How the two compare by the order of their items: as the first two items that aren't equal; where there are none, the side that ends alone is less.
     ///
-    /// Draws in rounds, this iterator and then the other, until a failure, an end or two items that decide. Where this one ended, the other is still drawn in that round. The failure that comes first is the answer: in each round one of this iterator before one of the other, which is not drawn then.
+    /// It draws in rounds, this iterator and then the other, until a failure, an end or two items that decide. Where this one ended, the other is still drawn in that round; where this one failed, it is not. It fails with the failure that comes first: in each round one of this iterator before one of the other. It takes both, and no clause says what is left.
     ///
     /// Asks that both sides may be drawn from, and that one of them is finite.
+    ///
+    /// ```
+    /// convert(left.into_iter())
+    ///     .map(|reading: u32| Ok(reading.wrapping_mul(2)))
+    ///     .cmp(convert(right.into_iter()).filter(|reading| Ok(*reading > 100)))
+    /// ```
     final fn cmp<I>(self, other: I) -> Result<Ordering, Self::Error>
     where
         I: IntoFallibleIterator<Item = Self::Item, Error = Self::Error>,
@@ -1016,6 +1410,12 @@ pub trait FallibleIterator: Drop + Sized {
     /// How the two compare by the order of their items: as the first two items that aren't equal, none where those have no order, and where there are none, the side that ends alone is less.
     ///
     /// Draws, fails and asks as `cmp` does.
+    ///
+    /// ```
+    /// convert(left.into_iter())
+    ///     .take(10)
+    ///     .partial_cmp(convert(right.into_iter()).skip(1))
+    /// ```
     final fn partial_cmp<I>(self, other: I) -> Result<Option<Ordering>, Self::Error>
     where
         I: IntoFallibleIterator<Item = Self::Item, Error = Self::Error>,
@@ -1037,6 +1437,10 @@ pub trait FallibleIterator: Drop + Sized {
     /// Whether the two give equal items, one by one, and end together.
     ///
     /// Draws, fails and asks as `cmp` does.
+    ///
+    /// ```
+    /// convert(left.into_iter()).eq(convert(right.into_iter()))
+    /// ```
     final fn eq<I>(self, other: I) -> Result<bool, Self::Error>
     where
         I: IntoFallibleIterator<Item = Self::Item, Error = Self::Error>,
@@ -1058,6 +1462,12 @@ pub trait FallibleIterator: Drop + Sized {
     /// Whether the two differ: the opposite of `eq`.
     ///
     /// Draws, fails and asks as `cmp` does.
+    ///
+    /// ```
+    /// convert(left.into_iter())
+    ///     .map(|reading: u32| Ok(reading.wrapping_mul(2)))
+    ///     .ne(convert(right.into_iter()))
+    /// ```
     final fn ne<I>(self, other: I) -> Result<bool, Self::Error>
     where
         I: IntoFallibleIterator<Item = Self::Item, Error = Self::Error>,
@@ -1079,6 +1489,12 @@ pub trait FallibleIterator: Drop + Sized {
     /// Whether this one is less than the other, by `partial_cmp`; false where two items have no order.
     ///
     /// Draws, fails and asks as `cmp` does.
+    ///
+    /// ```
+    /// let mut right = convert(right.iter().copied());
+    /// let answer = convert(left.iter().copied()).lt(&mut right);
+    /// (answer, right.next())
+    /// ```
     final fn lt<I>(self, other: I) -> Result<bool, Self::Error>
     where
         I: IntoFallibleIterator<Item = Self::Item, Error = Self::Error>,
@@ -1100,6 +1516,12 @@ pub trait FallibleIterator: Drop + Sized {
     /// Whether this one is less than the other or equal, by `partial_cmp`; false where two items have no order.
     ///
     /// Draws, fails and asks as `cmp` does.
+    ///
+    /// ```
+    /// convert(left.into_iter()).le(convert(right.into_iter()).map(|reading: u32| Ok(
+    ///     reading.wrapping_mul(2),
+    /// )))
+    /// ```
     final fn le<I>(self, other: I) -> Result<bool, Self::Error>
     where
         I: IntoFallibleIterator<Item = Self::Item, Error = Self::Error>,
@@ -1121,6 +1543,10 @@ pub trait FallibleIterator: Drop + Sized {
     /// Whether this one is greater than the other, by `partial_cmp`; false where two items have no order.
     ///
     /// Draws, fails and asks as `cmp` does.
+    ///
+    /// ```
+    /// convert(left.into_iter()).gt(convert(right.into_iter()).filter(|reading| Ok(*reading > 100)))
+    /// ```
     final fn gt<I>(self, other: I) -> Result<bool, Self::Error>
     where
         I: IntoFallibleIterator<Item = Self::Item, Error = Self::Error>,
@@ -1142,6 +1568,12 @@ pub trait FallibleIterator: Drop + Sized {
     /// Whether this one is greater than the other or equal, by `partial_cmp`; false where two items have no order.
     ///
     /// Draws, fails and asks as `cmp` does.
+    ///
+    /// ```
+    /// convert(left.into_iter())
+    ///     .skip(1)
+    ///     .ge(convert(right.into_iter()).take(10))
+    /// ```
     final fn ge<I>(self, other: I) -> Result<bool, Self::Error>
     where
         I: IntoFallibleIterator<Item = Self::Item, Error = Self::Error>,
@@ -1160,7 +1592,15 @@ pub trait FallibleIterator: Drop + Sized {
         compare_read::<Self, I, ByPartialCmp, ReadGe>(self, other)
     }
 
-    /// Lets the next answer be looked at ahead: an item or an end that `peek` saw is held, and comes first. Making the adapter draws nothing, and holds nothing.
+    /// Lets the next answer be looked at ahead: an item or an end that `peek` saw is held, and comes first.
+    ///
+    /// Making it draws nothing, and holds nothing. One call draws one answer, and none where an answer is held. It fails as the source does. After a failure and after an end the next call draws the source again.
+    ///
+    /// ```
+    /// let mut ahead = it.peekable();
+    /// let first = ahead.peek_copied()?;
+    /// Ok((first, ahead.count()?))
+    /// ```
     final fn peekable(self) -> Peekable<Self>
         ensures parts { peekable_parts result ≡ (self, None) }
         ensures lists { OverList contract.steps self
@@ -1172,9 +1612,19 @@ pub trait FallibleIterator: Drop + Sized {
         }
     }
 
-    /// Begins anew at each end, with a clone of this iterator, which is kept. It clones now, for the first run, and draws nothing; where that clone is refused, this iterator is dropped and the answer is `Err(AllocError)`. A clone that is refused later is a failure, after which the run goes on.
+    /// Begins anew at each end, with a clone of this iterator, which is kept.
     ///
-    /// Asks that each of its clones may be drawn from, as is so where clones equal their originals. It states no bound, so it is drained through `take`.
+    /// It clones now, for the first run, and draws nothing. One call draws one answer, and at a run's end one more, of a fresh clone.
+    ///
+    /// Where the clone for the first run is refused, this iterator is dropped and the answer is `Err(AllocError)`. A draw fails as the run does, and where a clone is refused, with the failure made of the refusal. The run goes on after either. It states no bound, so it is drained through `take`.
+    ///
+    /// Asks that each of its clones may be drawn from, as is so where clones equal their originals.
+    ///
+    /// ```
+    /// let it = convert(numbers.iter().map(|x| Ok::<u32, TestError>(*x))).cycle()?;
+    /// let hint = it.size_hint();
+    /// expect_collected(it.take(expected.len()).collect(rt.alloc()), expected)?;
+    /// ```
     final fn cycle(self) -> Result<Cycle<Self>, AllocError>
     where
         Self: Clone,
@@ -1191,7 +1641,18 @@ pub trait FallibleIterator: Drop + Sized {
         })
     }
 
-    /// `next`, which also says that what is left may be drawn from again: so a proof that draws several times by hand goes on by itself. Over a list it answers the first, and leaves the rest.
+    /// The answer of `next`. Over a list it is the first.
+    ///
+    /// It is one draw, and fails as `next` does. What is left may be drawn from again, which the clauses of `next` don't say: so a proof that draws several times by hand goes on by itself. Over a list it leaves the rest.
+    ///
+    /// Asks that it may be drawn from.
+    ///
+    /// ```
+    /// let mut left = convert(readings.into_iter());
+    /// left.draw()?;
+    /// left.draw()?;
+    /// left.count()
+    /// ```
     final fn draw(&mut self) -> Result<Option<Self::Item>, Self::Error>
         requires { contract.can_next self.old }
         ensures drawn { contract.steps self.old result self.new }
@@ -1204,6 +1665,17 @@ pub trait FallibleIterator: Drop + Sized {
     }
 
     /// Itself, borrowed: what is drawn from the borrow is drawn from it.
+    ///
+    /// Making it draws nothing and never fails. A draw of the borrow answers and fails as that of the iterator does.
+    ///
+    /// ```
+    /// let answers = [Ok(1), Err(2), Ok(3)];
+    /// let mut it = numbers(&answers);
+    /// assert_eq!(rt; it.by_ref().next(), Ok(Some(1)));
+    /// assert_eq!(rt; it.next(), Err(2));
+    /// assert_eq!(rt; it.by_ref().count(), Ok(1));
+    /// assert_eq!(rt; it.next(), Ok(None));
+    /// ```
     final fn by_ref(&mut self) -> &mut Self
         ensures value { result.now ≡ self.old }
         ensures same_reference { result.ghost_name ≡ self.entry.ghost_name }
@@ -1213,9 +1685,19 @@ pub trait FallibleIterator: Drop + Sized {
         self
     }
 
-    /// A std iterator over the answers: each item is an `Ok`, each failure an `Err`, an end is none, and it draws again whenever it is asked again. Making it draws nothing.
+    /// A std iterator over the answers: each item is an `Ok`, each failure an `Err`, and an end is none.
     ///
-    /// A std loop over it asks a bound on the items and failures together, as `convert` and `into_fallible` have one where their std iterator does, and what draws from them has; where there is none, std's `take` gives one.
+    /// Making it draws nothing. One call of its `next` draws one answer, and never fails. It draws again whenever it is asked again.
+    ///
+    /// Asks nothing. A std loop over it asks a bound on the items and failures together, as `convert` and `into_fallible` have one where their std iterator does, and what draws from them has; where there is none, std's `take` gives one.
+    ///
+    /// ```
+    /// for reading in convert(readings.into_iter()).iterator() {
+    ///     if reading.is_err() {
+    ///         failures = failures.wrapping_add(1);
+    ///     }
+    /// }
+    /// ```
     final fn iterator(self) -> Iterator<Self>
         ensures parts { iterator_parts result ≡ self }
         ensures reads { OverList contract.steps self
@@ -1224,7 +1706,15 @@ pub trait FallibleIterator: Drop + Sized {
         Iterator { it: self }
     }
 
-    /// A std iterator over the items. It asks that no failure can ever come, and so it never panics. Making it draws nothing.
+    /// A std iterator over the items.
+    ///
+    /// Making it draws nothing. One call of its `next` draws one answer, and never fails. It draws again whenever it is asked again.
+    ///
+    /// Asks that no failure can ever come, and so it never panics.
+    ///
+    /// ```
+    /// numbers.into_iter().into_fallible().unwrap().count()
+    /// ```
     final fn unwrap<T>(self) -> Unwrap<Self>
     where
         Self: FallibleIterator<Item = T>,

@@ -10,6 +10,17 @@ use crate::sources::{Convert, IntoFallible};
 /// What every std iterator has besides: two ways to become a fallible one. Neither draws anything.
 pub trait IteratorExt: std::iter::Iterator {
     /// The fallible iterator whose items are the values of `Ok`, and whose failures are those of `Err`.
+    ///
+    /// Making it draws nothing. One call draws one element of the std iterator. It fails with the value of an `Err`. After a failure and after an end the next call asks the std iterator again.
+    ///
+    /// Asks nothing. Each draw asks what one of `convert` asks.
+    ///
+    /// ```
+    /// let answers: [Result<u32, u32>; 2] = [Ok(1), Err(2)];
+    /// let mut it = answers.iter().copied().transpose_into_fallible();
+    /// let drawn = [it.next(), it.next(), it.next()];
+    /// assert_eq!(rt; drawn, [Ok(Some(1)), Err(2), Ok(None)]);
+    /// ```
     final fn transpose_into_fallible<T, E>(self) -> Convert<Self>
     where
         Self: Sized + std::iter::Iterator<Item = Result<T, E>>,
@@ -22,7 +33,18 @@ pub trait IteratorExt: std::iter::Iterator {
         Convert { it: self }
     }
 
-    /// The fallible iterator that gives the same elements and never fails.
+    /// The fallible iterator that gives the same elements.
+    ///
+    /// Making it draws nothing. One call draws one element of the std iterator. It never fails. After an end the next call asks the std iterator again.
+    ///
+    /// Asks nothing. Each draw asks what one of `convert` asks.
+    ///
+    /// ```
+    /// (0..end).into_fallible().fold(
+    ///     0,
+    ///     |sum: u64, number: u32| Ok(sum.wrapping_add(u64::from(number))),
+    /// )
+    /// ```
     final fn into_fallible<T>(self) -> IntoFallible<Self>
     where
         Self: Sized + std::iter::Iterator<Item = T>,

@@ -15,9 +15,22 @@ impl<I: FallibleIterator> Peekable<I>
 where
     I::Item: Drop,
 {
-    /// The next item: a reference to it, or none at an end. It is held then, so that `next` answers it without a draw. Where an answer is held it is that one, and nothing is drawn. Else it draws once; a failure is answered, and is not held. What is left may be drawn from again.
+    /// The next item: a reference to it, or none at an end. Where an answer is held it is that one.
+    ///
+    /// It draws once where nothing is held, and else nothing. It fails as the source does; a failure is answered, and is not held. An item or an end is held then, so that `next` answers it without a draw. What is left may be drawn from again.
     ///
     /// The reference keeps the whole borrowed while it is used. A caller whose proof goes on after it takes `look`, which hands the item to a closure, or `peek_copied`.
+    ///
+    /// Asks that it may be drawn from.
+    ///
+    /// ```
+    /// let answers = [Ok(1), Ok(2), Ok(3)];
+    /// let mut it = numbers(&answers);
+    /// let mut ahead = (&mut it).peekable();
+    /// assert_eq!(rt; ahead.peek(), Ok(Some(&1)));
+    /// assert_eq!(rt; ahead.peek(), Ok(Some(&1)));
+    /// assert_eq!(rt; it.next(), Ok(Some(2)));
+    /// ```
     pub fn peek(&mut self) -> Result<Option<&I::Item>, I::Error>
     where
         requires { (peekable_contract I.contract).can_next (peekable_parts self.old) }
@@ -34,9 +47,18 @@ where
         Self::joined(filled, held)
     }
 
-    /// What the closure answers on a reference to the next item, or none at an end. It looks as `peek` does: where an answer is held it is that one, and nothing is drawn; else it draws once, and holds an item or an end. A failure is answered, and is not held. What is left may be drawn from again, and a caller's proof knows what is held.
+    /// What the closure answers on a reference to the next item, or none at an end.
     ///
-    /// Asks that the closure may be called on a reference to each item that may come.
+    /// It draws, fails and holds as `peek` does. What is left may be drawn from again, and a caller's proof knows what is held.
+    ///
+    /// Asks that it may be drawn from, and that the closure may be called on a reference to each item that may come.
+    ///
+    /// ```
+    /// let mut ahead = convert(readings.into_iter()).peekable();
+    /// let first = ahead.peek_copied()?;
+    /// ahead.draw()?;
+    /// let second = ahead.look(|reading| *reading)?;
+    /// ```
     pub fn look<R, F: Fn(&I::Item) -> R>(&mut self, f: F) -> Result<Option<R>, I::Error>
     where
         requires can_next { (peekable_contract I.contract).can_next (peekable_parts self.old) }
@@ -57,7 +79,17 @@ where
         }
     }
 
-    /// A copy of the next item, or none at an end. It looks as `peek` does: a failure is answered, and is not held. A caller's proof knows what is held.
+    /// A copy of the next item, or none at an end.
+    ///
+    /// It draws, fails and holds as `peek` does. What is left may be drawn from again, and a caller's proof knows what is held.
+    ///
+    /// Asks that it may be drawn from.
+    ///
+    /// ```
+    /// let mut ahead = it.peekable();
+    /// let first = ahead.peek_copied()?;
+    /// Ok((first, ahead.count()?))
+    /// ```
     pub fn peek_copied(&mut self) -> Result<Option<I::Item>, I::Error>
     where
         I::Item: Copy,
@@ -74,7 +106,19 @@ where
         Ok(self.held().copied())
     }
 
-    /// Draws once where nothing is held, and holds an item or an end; a failure is answered, and is not held. With `held` it does what `peek` does, in two steps after which a caller's proof knows what is held.
+    /// Answers `()` where an item or an end is held. With `held` it does what `peek` does, in two steps after which a caller's proof knows what is held.
+    ///
+    /// It draws, fails and holds as `peek` does. What is left may be drawn from again.
+    ///
+    /// Asks that it may be drawn from.
+    ///
+    /// ```
+    /// match it.fill() {
+    ///     Ok(()) => {}
+    ///     Err(e) => return Err(e),
+    /// }
+    /// let is_item = (*it).held().is_some();
+    /// ```
     pub fn fill(&mut self) -> Result<(), I::Error>
     where
         requires { (peekable_contract I.contract).can_next (peekable_parts self.old) }
@@ -108,7 +152,13 @@ where
         }
     }
 
-    /// The held item, and none where an end or nothing is held. It draws nothing.
+    /// The held item, and none where an end or nothing is held.
+    ///
+    /// It draws nothing and never fails. What is held stays held.
+    ///
+    /// ```
+    /// let is_item = (*it).held().is_some();
+    /// ```
     pub fn held(&self) -> Option<&I::Item>
     where
         ensures { option_copied result ≡ held_item (peekable_held self.now) }

@@ -69,9 +69,18 @@ impl<I: FallibleIterator> Peekable<I>
 where
     I::Item: Drop,
 {
-    /// The next item, where the closure answers true on it; else it stays held, and the answer is none. An end is answered as none and stays held, and the closure isn't called. It draws once where nothing is held; a failure that comes then is the answer, and is not held. What is left may be drawn from again.
+    /// The next item, where the closure answers true on it, and else none. At an end it is none, and the closure isn't called.
     ///
-    /// Asks that the closure may be called on a reference to each item that may come.
+    /// It draws once where nothing is held, and else nothing. It fails as the source does; a failure is answered, and is not held. An item that is refused stays held, and so does an end. What is left may be drawn from again.
+    ///
+    /// Asks that it may be drawn from, and that the closure may be called on a reference to each item that may come.
+    ///
+    /// ```
+    /// match right.next_if(|second| *second < first)? {
+    ///     Some(second) => Ok(Some(second)),
+    ///     None => left.draw(),
+    /// }
+    /// ```
     pub fn next_if<F: Fn(&I::Item) -> bool>(&mut self, f: F) -> Result<Option<I::Item>, I::Error>
     where
         requires can_next { (peekable_contract I.contract).can_next (peekable_parts self.old) }
@@ -102,7 +111,18 @@ where
         }
     }
 
-    /// `next_if` that takes the next item where it equals the one expected.
+    /// The next item, where it equals the one expected, and else none.
+    ///
+    /// It draws, fails and holds as `next_if` does. What is left may be drawn from again.
+    ///
+    /// Asks that it may be drawn from.
+    ///
+    /// ```
+    /// assert_eq!(rt; it.next_if_eq(&7), Ok(None));
+    /// assert_eq!(rt; it.peek(), Ok(None));
+    /// assert_eq!(rt; it.next(), Ok(None));
+    /// assert_eq!(rt; it.next_if_eq(&7), Ok(Some(7)));
+    /// ```
     pub fn next_if_eq(&mut self, expected: &I::Item) -> Result<Option<I::Item>, I::Error>
     where
         I::Item: PartialEq,

@@ -17,7 +17,7 @@ pub trait IntoFallibleIterator {
     // Holds of the value and of what it may become.
     ghost into_gives: { Self → Self.IntoFallibleIter → Type 0 };
 
-    /// Becomes the fallible iterator.
+    /// The fallible iterator that the value becomes: `into_gives` says which. A fallible iterator gives itself, and draws nothing.
     fn into_fallible_iter(self) -> Self::IntoFallibleIter
         ensures { into_gives self result };
 }

@@ -18,7 +18,15 @@ pub trait DoubleEndedFallibleIterator: FallibleIterator {
     // What the contract says of draws from behind.
     ghost ends: { Ends Self Self.Item Self.Error };
 
-    /// One answer from behind: an item, a failure or an end. The step from behind says which, and what is left.
+    /// One answer from behind: an item, a failure or an end. The step from behind says which.
+    ///
+    /// It is one draw, from behind. It fails where the step says so. What is left is what the step says, and may be drawn from again, from either end.
+    ///
+    /// Asks that it may be drawn from, from either end.
+    ///
+    /// ```
+    /// convert(readings.into_iter()).next_back()
+    /// ```
     fn next_back(&mut self) -> Result<Option<Self::Item>, Self::Error>
         requires { ends.can_next self.old }
         ensures { ends.steps self.old result self.new };
@@ -52,9 +60,19 @@ pub trait DoubleEndedFallibleIterator: FallibleIterator {
         }
     }
 
-    /// `try_fold` from behind: calls the closure on the value so far and each item, the last one first. At the end it answers the last value; at a failure that failure, converted; where the closure fails, its error. Nothing is drawn after the answer that decides, and what is left may be drawn from again, from either end.
+    /// `try_fold` from behind: calls the closure on the value so far and each item, the last one first, and answers the last value at the end.
     ///
-    /// Asks that it is finite, and that the closure may be called on each item that may come from behind with the value so far.
+    /// It draws from behind up to the end, the first failure or an item on which the closure fails. It fails with the iterator's failure, converted, or with the closure's error. Nothing is drawn after the answer that decides, and what is left may be drawn from again, from either end.
+    ///
+    /// Asks that it may be drawn from, from either end, and is finite, and that the closure may be called on each item that may come from behind with the value so far.
+    ///
+    /// ```
+    /// let answers = [Ok(1), Err(2), Ok(3), Ok(4)];
+    /// let mut it = numbers(&answers);
+    /// let failed: Result<u32, u32> = it.try_rfold(0, add_up);
+    /// assert_eq!(rt; failed, Err(2));
+    /// assert_eq!(rt; it.next_back(), Ok(Some(1)));
+    /// ```
     final fn try_rfold<B, E, F>(&mut self, init: B, f: F) -> Result<B, E>
     where
         B: Drop,
@@ -81,7 +99,15 @@ pub trait DoubleEndedFallibleIterator: FallibleIterator {
 
     /// `try_rfold` on the iterator itself, where the closure fails with the iterator's own error.
     ///
+    /// It draws and fails as `try_rfold` does, and converts no failure. It takes the iterator, and no clause says what is left.
+    ///
     /// Asks what `try_rfold` asks.
+    ///
+    /// ```
+    /// let answers = [Ok(1), Ok(2), Ok(3)];
+    /// let it = numbers(&answers);
+    /// assert_eq!(rt; it.rfold(0, put_behind), Ok(321));
+    /// ```
     final fn rfold<B, F>(mut self, init: B, f: F) -> Result<B, Self::Error>
     where
         B: Drop,
@@ -101,7 +127,17 @@ pub trait DoubleEndedFallibleIterator: FallibleIterator {
     // What the other functions know of draws from both ends: see `KeptByDraw`.
     ghost lawful_ends: { LawfulEnds Self.contract ends };
 
-    /// `next`, which also says that what is left may be drawn from again, from either end. `draw` says it of the front alone. Of what is listed from both ends it answers the first, and leaves the rest.
+    /// The answer of `next`. Of what is listed from both ends it is the first.
+    ///
+    /// It is one draw, and fails as `next` does. What is left may be drawn from again, from either end, where `draw` says it of the front alone. Of what is listed from both ends it leaves the rest.
+    ///
+    /// Asks that it may be drawn from, from either end.
+    ///
+    /// ```
+    /// it.draw_back()?;
+    /// it.draw_front()?;
+    /// it.draw_back()
+    /// ```
     final fn draw_front(&mut self) -> Result<Option<Self::Item>, Self::Error>
     where
         requires { ends.can_next self.old }
@@ -115,7 +151,20 @@ pub trait DoubleEndedFallibleIterator: FallibleIterator {
         self.next()
     }
 
-    /// `next_back`, which also says that what is left may be drawn from again, from either end. Of what is listed from both ends it answers the last, and leaves what stands before it.
+    /// The answer of `next_back`. Of what is listed from both ends it is the last.
+    ///
+    /// It is one draw, from behind, and fails as `next_back` does. What is left may be drawn from again, from either end. Of what is listed from both ends it leaves what stands before the answer.
+    ///
+    /// Asks that it may be drawn from, from either end.
+    ///
+    /// ```
+    /// let mut it = convert(readings.into_iter())
+    ///     .map(|reading| Ok(u64::from(reading) * 2))
+    ///     .filter(|double| Ok(*double > 1000));
+    /// it.draw_back()?;
+    /// it.draw_front()?;
+    /// it.draw_back()
+    /// ```
     final fn draw_back(&mut self) -> Result<Option<Self::Item>, Self::Error>
     where
         requires { ends.can_next self.old }

@@ -10,7 +10,16 @@ use fallible_contract::answers::{Answer, Side};
 use fallible_core::{DoubleEndedFallibleIterator, FallibleIterator};
 use std::alloc::{AllocError, Global};
 
-/// Makes `n` calls of `next` and gives their answers in order. It takes all its room first: where that is refused, nothing was drawn.
+/// The answers of `n` draws, in order.
+///
+/// It draws n answers. It fails with `AllocError` where its room is refused: it takes all of it first, and nothing was drawn then. What is left may be drawn from again.
+///
+/// Asks that it may be drawn from.
+///
+/// ```
+/// let mut rows = Rows::new(b"1\nx\n3\n".as_slice());
+/// let drawn = answers(rt.alloc(), &mut rows, 5)?;
+/// ```
 pub fn answers<I: FallibleIterator>(
     alloc: Global,
     it: &mut I,
@@ -32,7 +41,16 @@ where
     Ok(made)
 }
 
-/// Makes one draw for each of the sides, from the end that it names, and gives their answers in order. It takes all its room first: where that is refused, nothing was drawn.
+/// The answers of one draw for each of the sides, from the end that it names, in order.
+///
+/// It draws one answer for each side. It fails with `AllocError` where its room is refused: it takes all of it first, and nothing was drawn then. What is left may be drawn from again, from either end.
+///
+/// Asks that it may be drawn from, from either end.
+///
+/// ```
+/// let mut it = convert(readings.into_iter());
+/// answers_at(alloc, &mut it, &[Side::Front, Side::Back, Side::Back])
+/// ```
 pub fn answers_at<I: DoubleEndedFallibleIterator>(
     alloc: Global,
     it: &mut I,

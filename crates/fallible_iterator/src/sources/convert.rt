@@ -74,7 +74,15 @@ impl<T, E, I: std::iter::DoubleEndedIterator<Item = Result<T, E>>> DoubleEndedFa
 
 // `rev` of the trait, which says besides what a std iterator that has two ends lists from behind.
 impl<T, E, I: std::iter::DoubleEndedIterator<Item = Result<T, E>>> Convert<I> {
-    /// Swaps the ends: a draw from the adapter is a draw from behind, and the other way round. Making the adapter draws nothing.
+    /// Swaps the ends: a draw from the adapter is a draw from behind, and the other way round.
+    ///
+    /// Making it draws nothing. One call draws one answer, from the other end. It fails as that draw does. After a failure and after an end the next call draws the source again.
+    ///
+    /// Asks nothing. Each draw asks that the source may be drawn from, from either end.
+    ///
+    /// ```
+    /// convert(readings.into_iter()).rev().collect(alloc)
+    /// ```
     pub fn rev(self) -> Rev<Convert<I>>
         ensures parts { rev_parts result ≡ self }
         ensures lists { (l : List (Result T E))

@@ -77,7 +77,17 @@ impl<T, I: std::iter::DoubleEndedIterator<Item = T>> DoubleEndedFallibleIterator
 
 // `rev` of the trait, which says besides what a std iterator that has two ends lists from behind.
 impl<T, I: std::iter::DoubleEndedIterator<Item = T>> IntoFallible<I> {
-    /// Swaps the ends: a draw from the adapter is a draw from behind, and the other way round. Making the adapter draws nothing.
+    /// Swaps the ends: a draw from the adapter is a draw from behind, and the other way round.
+    ///
+    /// Making it draws nothing. One call draws one answer, from the other end. It fails as that draw does. After a failure and after an end the next call draws the source again.
+    ///
+    /// Asks nothing. Each draw asks that the source may be drawn from, from either end.
+    ///
+    /// ```
+    /// let mut it = IntoFallible::from(1..4u32).rev();
+    /// assert_eq!(rt; it.size_hint(), (3, Some(3)));
+    /// assert_eq!(rt; it.next(), Ok(Some(3)));
+    /// ```
     pub fn rev(self) -> Rev<IntoFallible<I>>
         ensures parts { rev_parts result ≡ self }
         ensures lists { (l : List (Result T Infallible))
@@ -95,6 +105,14 @@ impl<T, I: std::iter::DoubleEndedIterator<Item = T>> IntoFallible<I> {
 impl<T, I: std::iter::Iterator<Item = T>> From<I> for IntoFallible<I> {
     ghost from_gives = { λ it s. into_fallible_parts s ≡ it };
 
+    /// The fallible iterator that gives the elements of a std iterator, as `into_fallible` makes it.
+    ///
+    /// Making it draws nothing. One call draws one element of the std iterator. It never fails. After an end the next call asks the std iterator again.
+    ///
+    /// ```
+    /// let it = IntoFallible::from(0..4u32).chain(IntoFallible::from(4..8u32));
+    /// expect_collected(it.collect(rt.alloc()), &[0, 1, 2, 3, 4, 5, 6, 7])
+    /// ```
     fn from(it: I) -> IntoFallible<I> {
         IntoFallible { it }
     }

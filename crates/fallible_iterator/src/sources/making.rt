@@ -18,9 +18,18 @@ use std::alloc::AllocError;
 use std::iter::Fuse;
 use std::marker::PhantomData;
 
-/// Makes a fallible iterator of a std iterator over results. It draws nothing.
+/// Makes a fallible iterator of a std iterator over results: an `Ok` is an item, an `Err` a failure, and none an end.
 ///
-/// It may be drawn from where the std iterator may be asked again after every answer, also after `None`, and a bound that it states doesn't rise there; from both ends, where that holds after every answer from either end. Of a std iterator that doesn't say so, as `lines` of a reader, `convert_fused` makes one. What it lists from behind is said by `rev` and by `law_back_convert`, which ask that the std iterator has two ends.
+/// Making it draws nothing. One call draws one element of the std iterator. It fails with the value of an `Err`. After a failure and after an end the next call asks the std iterator again.
+///
+/// Asks nothing. It may be drawn from where the std iterator may be asked again after every answer, also after `None`, and a bound that it states doesn't rise there; from both ends, where that holds after every answer from either end. Of a std iterator that doesn't say so, as `lines` of a reader, `convert_fused` makes one. What it lists from behind is said by `rev` and by `law_back_convert`, which ask that the std iterator has two ends.
+///
+/// ```
+/// convert(readings.into_iter())
+///     .take(10)
+///     .filter(|reading| Ok(*reading > 100))
+///     .count()
+/// ```
 pub fn convert<T, E, I: Iterator<Item = Result<T, E>>>(it: I) -> Convert<I>
     ensures parts { convert_parts result ≡ it }
     ensures results { (l : List (Result T E)) → RunsRead I.next_gives (λ y. y) it l
@@ -34,9 +43,18 @@ pub fn convert<T, E, I: Iterator<Item = Result<T, E>>>(it: I) -> Convert<I>
     Convert { it }
 }
 
-/// Makes a fallible iterator of a std iterator over results which may have more to come after it answered `None`, as `lines` of a reader: `convert_fused(reader.lines(alloc))`. It draws nothing. After its first end the std iterator isn't asked again.
+/// Makes a fallible iterator of a std iterator over results which may have more to come after it answered `None`, as `lines` of a reader. It is `convert` of the iterator's `fuse`.
 ///
-/// It is `convert` of the iterator's `fuse`, and may be drawn from where the std iterator may be asked again after every `Some`.
+/// Making it draws nothing. One call draws one element of the std iterator. It fails with the value of an `Err`. After its first end the std iterator isn't asked again.
+///
+/// Asks nothing. It may be drawn from where the std iterator may be asked again after every `Some`.
+///
+/// ```
+/// convert_fused(reader.lines(alloc))
+///     .map_err(|_| LineFault::Read)
+///     .map(|line| line.parse::<u64>().map_err(|_| LineFault::Number))
+///     .fold(0, |sum: u64, number: u64| Ok(sum.wrapping_add(number)))
+/// ```
 pub fn convert_fused<T, E, I: Iterator<Item = Result<T, E>>>(it: I) -> Convert<Fuse<I>>
     ensures source { fuse_source (convert_parts result) ≡ it }
     ensures fresh { fuse_done (convert_parts result) ≡ false }
@@ -49,6 +67,13 @@ pub fn convert_fused<T, E, I: Iterator<Item = Result<T, E>>>(it: I) -> Convert<F
 }
 
 /// Makes a fallible iterator of one item, which then ends.
+///
+/// Making it draws nothing. It never fails. After the item it ends for good.
+///
+/// ```
+/// let mut it = once::<u32, u32>(5);
+/// assert_eq!(rt; [it.next(), it.next()], [Ok(Some(5)), Ok(None)]);
+/// ```
 pub fn once<T, E>(value: T) -> Once<T, E>
     ensures parts { once_parts result ≡ Some value }
     ensures lists { Lists (seen_as once_parts (once_contract {A = T} {E = E})).steps result
@@ -61,6 +86,16 @@ pub fn once<T, E>(value: T) -> Once<T, E>
 }
 
 /// Makes a fallible iterator of one failure, which then ends.
+///
+/// Making it draws nothing. It fails once. After the failure it ends for good.
+///
+/// ```
+/// let mut it = once_err::<u32, u32>(4);
+/// assert_eq!(rt;
+///     [it.next(), it.next(), it.next()],
+///     [Err(4), Ok(None), Ok(None)]
+/// );
+/// ```
 pub fn once_err<T, E>(error: E) -> OnceErr<T, E>
     ensures parts { once_err_parts result ≡ Some error }
     ensures lists { Lists (seen_as once_err_parts (once_err_contract {A = T} {E = E})).steps result
@@ -72,9 +107,20 @@ pub fn once_err<T, E>(error: E) -> OnceErr<T, E>
     }
 }
 
-/// Makes a fallible iterator of a closure, which is called once for each draw, also after an end or a failure, and whose answer is that of the draw. It calls nothing now.
+/// Makes a fallible iterator of a closure, whose answer is that of the draw.
 ///
-/// Asks that the closure may be called in each state that such calls bring it to. It states no bound, so it is drained through `take`.
+/// Making it draws nothing and calls nothing. One draw calls the closure once, also after an end or a failure. It fails as the closure does. It states no bound, so it is drained through `take`.
+///
+/// Asks that the closure may be called in each state that such calls bring it to.
+///
+/// ```
+/// let mut calls = 0u32;
+/// let mut it = from_fn(move || {
+///     calls = calls.wrapping_add(1);
+///     Ok::<Option<u32>, u32>(Some(calls))
+/// });
+/// assert_eq!(rt; it.next(), Ok(Some(1)));
+/// ```
 pub fn from_fn<I, E, F: FnMut() -> Result<Option<I>, E>>(fun: F) -> FromFn<F>
     requires { IsCallable (call_of_none F.FnMut) (λ f _. F.pre f) (λ _. ⊤) fun }
     ensures { from_fn_parts result ≡ fun }
@@ -83,6 +129,13 @@ pub fn from_fn<I, E, F: FnMut() -> Result<Option<I>, E>>(fun: F) -> FromFn<F>
 }
 
 /// Makes a fallible iterator that only ends.
+///
+/// Making it draws nothing. It never fails.
+///
+/// ```
+/// let mut it = empty::<u32, u32>();
+/// assert_eq!(rt; [it.next(), it.next()], [Ok(None), Ok(None)]);
+/// ```
 pub fn empty<T, E>() -> Empty<T, E>
     ensures lists { Lists (empty_contract {S = Empty T E} {A = T} {E = E}).steps result [] }
 {
@@ -92,7 +145,14 @@ pub fn empty<T, E>() -> Empty<T, E>
     }
 }
 
-/// Makes a fallible iterator that always gives a clone of `value`; where a clone is refused, the answer is the failure made of the refusal, and the value stays. It states no bound, so it is drained through `take`.
+/// Makes a fallible iterator that always gives a clone of `value`.
+///
+/// Making it draws nothing. Where a clone is refused, it fails with the failure made of the refusal. The value stays, and the next call clones it again. It states no bound, so it is drained through `take`.
+///
+/// ```
+/// let it = repeat::<u32, TestError>(5).take(2);
+/// expect_collected(it.collect(rt.alloc()), &[5, 5])
+/// ```
 pub fn repeat<T: Clone, E: From<AllocError>>(value: T) -> Repeat<T, E>
     ensures parts { repeat_parts result ≡ value }
     ensures repeats { T.is_infallible value → ((x : T) → T.is_clone value x → x ≡ value)
@@ -106,7 +166,18 @@ pub fn repeat<T: Clone, E: From<AllocError>>(value: T) -> Repeat<T, E>
     }
 }
 
-/// Makes a fallible iterator that always fails with a clone of `error`; where a clone is refused, with the failure made of the refusal, and the error stays.
+/// Makes a fallible iterator that always fails with a clone of `error`.
+///
+/// Making it draws nothing. Where a clone is refused, it fails with the failure made of the refusal. The error stays, and the next call clones it again.
+///
+/// ```
+/// let mut it = repeat_err::<u32, TestError>(TestError::Number(4));
+/// let failure = || Err(TestError::Number(4));
+/// assert_eq!(rt;
+///     [it.next(), it.next(), it.next()],
+///     [failure(), failure(), failure()]
+/// );
+/// ```
 pub fn repeat_err<T, E: Clone + From<AllocError>>(error: E) -> RepeatErr<T, E>
     ensures parts { repeat_err_parts result ≡ error }
 {
