@@ -4,7 +4,7 @@ ghost use Rattle.std.specs.Iterator.{IsFinite};
 ghost use Rattle.std.specs.Iterator.Runs.{CountFits, EachRunFrom, ItemsAre};
 ghost use Rattle.fallible_iterator.specs.Lists.{results, filtered};
 
-use fallible_iterator::{FallibleIterator, convert};
+use fallible_iterator::prelude::*;
 
 /// A row of a client.
 #[derive(Clone, Copy, Debug, PartialEq, Eq)]

@@ -2,7 +2,7 @@
 ghost use Rattle.std.specs.Prelude.{◌≡◌, Ok, Result, List, nat_lt};
 ghost use Rattle.fallible_iterator.specs.Lists.{results, reversed, counted, taken_while};
 
-use fallible_iterator::{FallibleIterator, convert};
+use fallible_iterator::prelude::*;
 
 /// How many readings stand in front of the first one up to 100, or the failure that comes before it. It draws nothing after either.
 pub fn front_above_100(readings: Vec<Result<u32, u8>>) -> Result<usize, u8>
