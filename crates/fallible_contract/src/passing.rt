@@ -120,7 +120,13 @@ where
     ensures { PassAnswer (call_in (A.call adapter.now)) (A.outcome adapter.now)
         slot.old drawn result slot.new }
 {
-    let (state, answer) = passed(drawn, take_out(slot), adapter);
-    *slot = Some(state);
-    answer
+    match drawn {
+        Ok(Some(x)) => {
+            let (state, answer) = passed(Ok(Some(x)), take_out(slot), adapter);
+            *slot = Some(state);
+            answer
+        }
+        Ok(None) => Ok(None),
+        Err(e) => Err(e),
+    }
 }

@@ -134,16 +134,6 @@ module _ {S F X R B E : Type 0} {steps : S → Answered X E → S → Type 0} {c
   pub answer_passed : {r : Answered B E} (drawn : Answered X E) → steps s drawn t → PassAnswer call outcome f drawn r g → PassTrace steps call outcome (s, f) (r ∷ []) (t, g)
   answer_passed drawn step h = from_passes (answer_passes drawn step h)
 
--- the same, where the closure stands in a slot
-module _ {F X R B E : Type 0} (call : F → X → R → F → Type 0) (outcome : X → R → Outcome B E) (f g : F) (r : Answered B E) where
-  full_passed : (drawn : Answered X E) → PassAnswer call outcome f drawn r g → PassAnswer (call_in call) outcome (Some f) drawn r (Some g)
-  full_passed (Ok (Some x)) h = h
-  full_passed (Ok None) h = (h.0, ap Some h.1)
-  full_passed (Err e) h = (h.0, ap Some h.1)
-
-  pub answer_in_slot : {slot : Option F} → slot ≡ Some f → (drawn : Answered X E) → PassAnswer call outcome f drawn r g → PassAnswer (call_in call) outcome slot drawn r (Some g)
-  answer_in_slot at drawn h = subst (λ (o : Option F). PassAnswer (call_in call) outcome o drawn r (Some g)) (sym at) (full_passed drawn h)
-
 -- the closure may be called on an item that was drawn
 pub drawn_takes : {S F X R E : Type 0} {m : Contract S X E} {s t : S} {call : F → X → R → F → Type 0} {pre : F → X → Type 0} {f : F} → Lawful m → m.can_next s → (drawn : Answered X E) → m.steps s drawn t → IsCallable call pre (m.may_give s) f → IfItem (pre f) drawn
 drawn_takes {s = s} {t = t} {f = f} l c (Ok (Some x)) step callable = callable.at f x reaches_here ((l.kept_by_draw s (item x) t c step).answer.0)
