@@ -66,8 +66,10 @@ where
             ((peekable_contract I.contract).may_give (peekable_parts self.old)) }
         ensures looked { Looks I.contract.steps F.Fn f
             (peekable_parts self.old) result (peekable_parts self.new) }
-        ensures lists { OverListWith (LooksAs F.Fn f) (seen_as peekable_parts (peekable_contract I.contract)).steps self.old
-            (λ h l. (result ≡ looked_at h l) × Lists (seen_as peekable_parts (peekable_contract I.contract)).steps
+        ensures lists { OverListWith (LooksAs F.Fn f)
+            (seen_as peekable_parts (peekable_contract I.contract)).steps self.old
+            (λ h l. (result ≡ looked_at h l)
+            × Lists (seen_as peekable_parts (peekable_contract I.contract)).steps
             self.new (looked_ahead l)) }
         ensures stays { Stays (peekable_contract I.contract)
             (peekable_parts self.old) (peekable_parts self.new) }
@@ -96,8 +98,10 @@ where
         requires { (peekable_contract I.contract).can_next (peekable_parts self.old) }
         ensures peeked { Peeks I.contract.steps
             (peekable_parts self.old) result (peekable_parts self.new) }
-        ensures lists { OverList (seen_as peekable_parts (peekable_contract I.contract)).steps self.old
-            (λ l. (result ≡ nth_of 0 l) × Lists (seen_as peekable_parts (peekable_contract I.contract)).steps
+        ensures lists { OverList
+            (seen_as peekable_parts (peekable_contract I.contract)).steps self.old
+            (λ l. (result ≡ nth_of 0 l)
+            × Lists (seen_as peekable_parts (peekable_contract I.contract)).steps
             self.new (looked_ahead l)) }
         ensures stays { Stays (peekable_contract I.contract)
             (peekable_parts self.old) (peekable_parts self.new) }

@@ -88,8 +88,10 @@ where
             ((peekable_contract I.contract).may_give (peekable_parts self.old)) }
         ensures taken { NextIf I.contract.steps (TestedBy F.Fn f)
             (peekable_parts self.old) result (peekable_parts self.new) }
-        ensures lists { OverListWith (LooksAs F.Fn f) (seen_as peekable_parts (peekable_contract I.contract)).steps self.old
-            (λ h l. (result ≡ first_if h l) × Lists (seen_as peekable_parts (peekable_contract I.contract)).steps
+        ensures lists { OverListWith (LooksAs F.Fn f)
+            (seen_as peekable_parts (peekable_contract I.contract)).steps self.old
+            (λ h l. (result ≡ first_if h l)
+            × Lists (seen_as peekable_parts (peekable_contract I.contract)).steps
             self.new (behind_if h l)) }
         ensures stays { Stays (peekable_contract I.contract)
             (peekable_parts self.old) (peekable_parts self.new) }
@@ -129,7 +131,8 @@ where
         requires { (peekable_contract I.contract).can_next (peekable_parts self.old) }
         ensures taken { NextIf I.contract.steps (λ x b. b ≡ I.Item.eq x expected.now)
             (peekable_parts self.old) result (peekable_parts self.new) }
-        ensures lists { OverList (seen_as peekable_parts (peekable_contract I.contract)).steps self.old
+        ensures lists { OverList
+            (seen_as peekable_parts (peekable_contract I.contract)).steps self.old
             (λ l. (result ≡ first_if (λ x. I.Item.eq x expected.now) l)
             × Lists (seen_as peekable_parts (peekable_contract I.contract)).steps self.new
             (behind_if (λ x. I.Item.eq x expected.now) l)) }
