@@ -9,7 +9,7 @@ use Rattle.fallible_contract.specs.Closures.{Reaches, IsCallable, IsCallableIn, 
 use Rattle.fallible_contract.specs.Folds.{HoldsAtEachTurn, carrying_turn, CarryingExit, Carried}
 use Rattle.fallible_contract.specs.Folding.{TurnedBy, FoldingTurn, FoldingTakes, handed}
 use Rattle.fallible_contract.specs.Laws.Closures.{reaches_here, reaches_weaken, reaches_from}
-use Rattle.fallible_contract.specs.Laws.Passing.{done, ends, fails, keeps, refuses, closes, leaves_out, to_passes, from_passes}
+use Rattle.fallible_contract.specs.Laws.Passing.{done, end_passes, failure_passes, keeps, refuses, closes, leaves_out, to_passes, from_passes}
 use Rattle.fallible_contract.proofs.Lemmas.Contract.{given_after}
 use Rattle.fallible_contract.proofs.Lemmas.Folds.{holds_here, holds_after, carried_after, carried_end, carried_failure, carried_stop}
 use Rattle.fallible_contract.proofs.Lemmas.Passing.{passes_in_slot}
@@ -106,8 +106,8 @@ module _ {S C F X V B E R : Type 0} (steps : S → Answered X E → S → Type 0
 
   -- the last answer of the source's fold
   last_through : (last : Answered X E) (s t : S) (f : F) (c : C) (exit : Exit (C × F) E (F × Exit C E R)) → steps s last t → CarryingExit Turned (c, f) last exit → Folds s f c (handed exit) t
-  last_through (Ok None) s t f c exit step w = subst (λ h. Folds s f c (handed h) t) (sym w) (carried_end (from_passes (ends step done)))
-  last_through (Err e) s t f c exit step w = subst (λ h. Folds s f c (handed h) t) (sym w) (carried_failure (from_passes (fails e step done)))
+  last_through (Ok None) s t f c exit step w = subst (λ h. Folds s f c (handed h) t) (sym w) (carried_end (from_passes (end_passes step done)))
+  last_through (Err e) s t f c exit step w = subst (λ h. Folds s f c (handed h) t) (sym w) (carried_failure (from_passes (failure_passes e step done)))
   last_through (Ok (Some x)) s t f c exit step w = subst (λ h. Folds s f c (handed h) t) (sym w.2) (let turned = w.1 in stops_at x turned.0 (outcome x turned.0) s t f turned.1 c w.0 step turned.2 refl turned.3)
 
   -- an item on which the source's turn went on, before the rest of the fold

@@ -12,7 +12,7 @@ use Rattle.fallible_contract.specs.Folds.{HoldsAtEachTurn}
 use Rattle.fallible_contract.proofs.Lemmas.Folds.{turns_map, holds_map}
 use Rattle.fallible_contract.specs.Passing.{ItemPassed, PassTest, PassAnswer, IfItem, outcome_answer, PassTrace, call_of}
 use Rattle.fallible_contract.specs.Searching.{Passed, Decided, SearchExit, CallableInSearch, Searched, find_pick}
-use Rattle.fallible_contract.specs.Laws.Passing.{Passes, done, ends, fails, keeps, refuses, closes, leaves_out, to_passes, from_passes}
+use Rattle.fallible_contract.specs.Laws.Passing.{Passes, done, end_passes, failure_passes, keeps, refuses, closes, leaves_out, to_passes, from_passes}
 use Rattle.fallible_contract.specs.declared.passing.Outcome.{Outcome}
 use Rattle.fallible_contract.specs.declared.passing.Outcome.TheVariants.{Kept, LeftOut, Failure, End}
 
@@ -20,8 +20,8 @@ use Rattle.fallible_contract.specs.declared.passing.Outcome.TheVariants.{Kept, L
 
 module _ {S F X R B E : Type 0} (steps : S → Answered X E → S → Type 0) (call : F → X → R → F → Type 0) (outcome : X → R → Outcome B E) where
   passes_cons : (s u t : S) (f h g : F) (r : Answered B E) (rest : List (Answered B E)) → Passes steps call outcome s f (r ∷ []) u h → Passes steps call outcome u h rest t g → Passes steps call outcome s f (r ∷ rest) t g
-  passes_cons s u t f h g _ rest (ends step done) q = ends step q
-  passes_cons s u t f h g _ rest (fails e step done) q = fails e step q
+  passes_cons s u t f h g _ rest (end_passes step done) q = end_passes step q
+  passes_cons s u t f h g _ rest (failure_passes e step done) q = failure_passes e step q
   passes_cons s u t f h g _ rest (keeps x v y step called is done) q = keeps x v y step called is q
   passes_cons s u t f h g _ rest (refuses x v e step called is done) q = refuses x v e step called is q
   passes_cons s u t f h g _ rest (closes x v step called is done) q = closes x v step called is q
@@ -35,8 +35,8 @@ module _ {S F X R B E : Type 0} (steps : S → Answered X E → S → Type 0) (c
     others : Passes steps call outcome source closure rest t g
 
   passes_split : (s t : S) (f g : F) (r : Answered B E) (rest : List (Answered B E)) → Passes steps call outcome s f (r ∷ rest) t g → FirstPassed s f r rest t g
-  passes_split s t f g _ rest (ends {u = u} step p) = record { source = u; closure = f; first = ends step done; others = p }
-  passes_split s t f g _ rest (fails {u = u} e step p) = record { source = u; closure = f; first = fails e step done; others = p }
+  passes_split s t f g _ rest (end_passes {u = u} step p) = record { source = u; closure = f; first = end_passes step done; others = p }
+  passes_split s t f g _ rest (failure_passes {u = u} e step p) = record { source = u; closure = f; first = failure_passes e step done; others = p }
   passes_split s t f g _ rest (keeps {u = u} {h = h} x v y step called is p) = record { source = u; closure = h; first = keeps x v y step called is done; others = p }
   passes_split s t f g _ rest (refuses {u = u} {h = h} x v e step called is p) = record { source = u; closure = h; first = refuses x v e step called is done; others = p }
   passes_split s t f g _ rest (closes {u = u} {h = h} x v step called is p) = record { source = u; closure = h; first = closes x v step called is done; others = p }
@@ -89,8 +89,8 @@ module _ {S F X R E : Type 0} (steps : S → Answered X E → S → Type 0) (cal
   decided_by_test n x (Err e) u t h g step w = refuses x w.0 e step w.1 w.2 done
 
   final_test : (last : Answered X E) (n : ℕ) (r : Answered X E) (u t : S) (h g : F) → SearchExit (PassTest call outcome) find_pick None n h last r g → steps u last t → Passes steps call outcome u h (r ∷ []) t g
-  final_test (Ok None) n r u t h g e step = subst (λ (q : Answered X E). Passes steps call outcome u h (q ∷ []) t g) (sym e.0) (subst (λ (k : F). Passes steps call outcome u h (Ok None ∷ []) t k) (sym e.1) (ends step done))
-  final_test (Err d) n r u t h g e step = subst (λ (q : Answered X E). Passes steps call outcome u h (q ∷ []) t g) (sym e.0) (subst (λ (k : F). Passes steps call outcome u h (Err d ∷ []) t k) (sym e.1) (fails d step done))
+  final_test (Ok None) n r u t h g e step = subst (λ (q : Answered X E). Passes steps call outcome u h (q ∷ []) t g) (sym e.0) (subst (λ (k : F). Passes steps call outcome u h (Ok None ∷ []) t k) (sym e.1) (end_passes step done))
+  final_test (Err d) n r u t h g e step = subst (λ (q : Answered X E). Passes steps call outcome u h (q ∷ []) t g) (sym e.0) (subst (λ (k : F). Passes steps call outcome u h (Err d ∷ []) t k) (sym e.1) (failure_passes d step done))
   final_test (Ok (Some x)) n r u t h g e step = decided_by_test n x r u t h g step e
 
 -- a search by such a test is the trace of one answer
@@ -127,8 +127,8 @@ module _ {S F X R B E : Type 0} {steps : S → Answered X E → S → Type 0} {c
 
   answer_passes : {r : Answered B E} (drawn : Answered X E) → steps s drawn t → PassAnswer call outcome f drawn r g → Passes steps call outcome s f (r ∷ []) t g
   answer_passes {r = r} (Ok (Some x)) step h = item_passed x h.0 (outcome x h.0) r step h.1 refl h.2
-  answer_passes (Ok None) step h = subst (λ (q : Answered B E). Passes steps call outcome s f (q ∷ []) t g) (sym h.0) (subst (λ (k : F). Passes steps call outcome s f (Ok None ∷ []) t k) (sym h.1) (ends step done))
-  answer_passes (Err e) step h = subst (λ (q : Answered B E). Passes steps call outcome s f (q ∷ []) t g) (sym h.0) (subst (λ (k : F). Passes steps call outcome s f (Err e ∷ []) t k) (sym h.1) (fails e step done))
+  answer_passes (Ok None) step h = subst (λ (q : Answered B E). Passes steps call outcome s f (q ∷ []) t g) (sym h.0) (subst (λ (k : F). Passes steps call outcome s f (Ok None ∷ []) t k) (sym h.1) (end_passes step done))
+  answer_passes (Err e) step h = subst (λ (q : Answered B E). Passes steps call outcome s f (q ∷ []) t g) (sym h.0) (subst (λ (k : F). Passes steps call outcome s f (Err e ∷ []) t k) (sym h.1) (failure_passes e step done))
 
   -- what the adapter makes of one answer of its source is its trace of one answer
   pub answer_passed : {r : Answered B E} (drawn : Answered X E) → steps s drawn t → PassAnswer call outcome f drawn r g → PassTrace steps call outcome (s, f) (r ∷ []) (t, g)

@@ -15,8 +15,8 @@ module _ {S F X R B E : Type 0} (steps : S → Answered X E → S → Type 0) (c
   -- the same as `PassTrace`, built from the first answer on
   pub data Passes : S → F → List (Answered B E) → S → F → Type 0 where
     done : {s : S} {f : F} → Passes s f [] s f
-    ends : {s u t : S} {f g : F} {trace : List (Answered B E)} → steps s (Ok None) u → Passes u f trace t g → Passes s f (Ok None ∷ trace) t g
-    fails : {s u t : S} {f g : F} {trace : List (Answered B E)} (e : E) → steps s (Err e) u → Passes u f trace t g → Passes s f (Err e ∷ trace) t g
+    end_passes : {s u t : S} {f g : F} {trace : List (Answered B E)} → steps s (Ok None) u → Passes u f trace t g → Passes s f (Ok None ∷ trace) t g
+    failure_passes : {s u t : S} {f g : F} {trace : List (Answered B E)} (e : E) → steps s (Err e) u → Passes u f trace t g → Passes s f (Err e ∷ trace) t g
     keeps : {s u t : S} {f h g : F} {trace : List (Answered B E)} (x : X) (v : R) (y : B) → steps s (item x) u → call f x v h → outcome x v ≡ Kept y → Passes u h trace t g → Passes s f (item y ∷ trace) t g
     refuses : {s u t : S} {f h g : F} {trace : List (Answered B E)} (x : X) (v : R) (e : E) → steps s (item x) u → call f x v h → outcome x v ≡ Failure e → Passes u h trace t g → Passes s f (Err e ∷ trace) t g
     closes : {s u t : S} {f h g : F} {trace : List (Answered B E)} (x : X) (v : R) → steps s (item x) u → call f x v h → outcome x v ≡ End → Passes u h trace t g → Passes s f (Ok None ∷ trace) t g
@@ -64,8 +64,8 @@ module _ {S F X R B E : Type 0} {steps : S → Answered X E → S → Type 0} {c
 
   from_places : (places : List (Place X R E)) (s : S) (f : F) (trace : List (Answered B E)) (t : S) (g : F) → Run steps s (map source_answer places) t → Calls call f (filter_map call_of places) g → trace ≡ filter_map (answer_at outcome) places → LastKept (has_answer outcome) places → Passes steps call outcome s f trace t g
   from_places [] s f trace t g ran called e close = subst (λ (l : List (Answered B E)). Passes steps call outcome s f l t g) (sym e) (subst (λ (u : S). Passes steps call outcome s f [] u g) ran (subst (λ (h : F). Passes steps call outcome s f [] s h) called done))
-  from_places (failure_at d ∷ places) s f trace t g ran called e close = subst (λ (l : List (Answered B E)). Passes steps call outcome s f l t g) (sym e) (fails d ran.1 (from_places places ran.0 f _ t g ran.2 called refl (kept_tail outcome (failure_at d) places close)))
-  from_places (end_at ∷ places) s f trace t g ran called e close = subst (λ (l : List (Answered B E)). Passes steps call outcome s f l t g) (sym e) (ends ran.1 (from_places places ran.0 f _ t g ran.2 called refl (kept_tail outcome end_at places close)))
+  from_places (failure_at d ∷ places) s f trace t g ran called e close = subst (λ (l : List (Answered B E)). Passes steps call outcome s f l t g) (sym e) (failure_passes d ran.1 (from_places places ran.0 f _ t g ran.2 called refl (kept_tail outcome (failure_at d) places close)))
+  from_places (end_at ∷ places) s f trace t g ran called e close = subst (λ (l : List (Answered B E)). Passes steps call outcome s f l t g) (sym e) (end_passes ran.1 (from_places places ran.0 f _ t g ran.2 called refl (kept_tail outcome end_at places close)))
   from_places (asked x v ∷ places) s f trace t g ran called e close = from_asked x v (outcome x v) refl places trace ran.1 called.1 e close (from_places places ran.0 called.0 _ t g ran.2 called.2 refl (kept_tail outcome (asked x v) places close))
 
   pub to_passes : {s t : S} {f g : F} {trace : List (Answered B E)} → PassTrace steps call outcome (s, f) trace (t, g) → Passes steps call outcome s f trace t g
@@ -73,8 +73,8 @@ module _ {S F X R B E : Type 0} {steps : S → Answered X E → S → Type 0} {c
 
   pub from_passes : {s t : S} {f g : F} {trace : List (Answered B E)} → Passes steps call outcome s f trace t g → PassTrace steps call outcome (s, f) trace (t, g)
   from_passes done = record { places = []; drawn = refl; called = refl; answers = refl; last_kept = tt }
-  from_passes (ends {u = u} step h) = let p = from_passes h in record { places = end_at ∷ p.places; drawn = (u, step, p.drawn); called = p.called; answers = ap (λ l. Ok None ∷ l) p.answers; last_kept = kept_cons outcome end_at p.places refl p.last_kept }
-  from_passes (fails {u = u} e step h) = let p = from_passes h in record { places = failure_at e ∷ p.places; drawn = (u, step, p.drawn); called = p.called; answers = ap (λ l. Err e ∷ l) p.answers; last_kept = kept_cons outcome (failure_at e) p.places refl p.last_kept }
+  from_passes (end_passes {u = u} step h) = let p = from_passes h in record { places = end_at ∷ p.places; drawn = (u, step, p.drawn); called = p.called; answers = ap (λ l. Ok None ∷ l) p.answers; last_kept = kept_cons outcome end_at p.places refl p.last_kept }
+  from_passes (failure_passes {u = u} e step h) = let p = from_passes h in record { places = failure_at e ∷ p.places; drawn = (u, step, p.drawn); called = p.called; answers = ap (λ l. Err e ∷ l) p.answers; last_kept = kept_cons outcome (failure_at e) p.places refl p.last_kept }
   from_passes (keeps {u = u} {h = j} x v y step called is h) = let p = from_passes h in record { places = asked x v ∷ p.places; drawn = (u, step, p.drawn); called = (j, called, p.called); answers = rw is (ap (λ l. item y ∷ l) p.answers); last_kept = kept_cons outcome (asked x v) p.places (rw is refl) p.last_kept }
   from_passes (refuses {u = u} {h = j} x v e step called is h) = let p = from_passes h in record { places = asked x v ∷ p.places; drawn = (u, step, p.drawn); called = (j, called, p.called); answers = rw is (ap (λ l. Err e ∷ l) p.answers); last_kept = kept_cons outcome (asked x v) p.places (rw is refl) p.last_kept }
   from_passes (closes {u = u} {h = j} x v step called is h) = let p = from_passes h in record { places = asked x v ∷ p.places; drawn = (u, step, p.drawn); called = (j, called, p.called); answers = rw is (ap (λ l. Ok None ∷ l) p.answers); last_kept = kept_cons outcome (asked x v) p.places (rw is refl) p.last_kept }
@@ -95,8 +95,8 @@ module _ {S F X R B E : Type 0} (m : Contract S X E) (l : Lawful m) (call : F �
 
   passes_reaches : (s t : S) (f g : F) (trace : List (Answered B E)) → m.can_next s → P s f trace t g → Reaches call (m.may_give s) f g
   passes_reaches s _ f _ _ c done = reaches_here
-  passes_reaches s t f g _ c (ends {u = u} step p) = let a = l.kept_by_draw s (Ok None) u c step in reaches_weaken a.may_give (passes_reaches u t f g _ a.can_next p)
-  passes_reaches s t f g _ c (fails {u = u} e step p) = let a = l.kept_by_draw s (Err e) u c step in reaches_weaken a.may_give (passes_reaches u t f g _ a.can_next p)
+  passes_reaches s t f g _ c (end_passes {u = u} step p) = let a = l.kept_by_draw s (Ok None) u c step in reaches_weaken a.may_give (passes_reaches u t f g _ a.can_next p)
+  passes_reaches s t f g _ c (failure_passes {u = u} e step p) = let a = l.kept_by_draw s (Err e) u c step in reaches_weaken a.may_give (passes_reaches u t f g _ a.can_next p)
   passes_reaches s t f g _ c (keeps {u = u} {h = h} x v y step called is p) = let a = l.kept_by_draw s (item x) u c step in reaches_from x v a.answer.0 called (reaches_weaken a.may_give (passes_reaches u t h g _ a.can_next p))
   passes_reaches s t f g _ c (refuses {u = u} {h = h} x v e step called is p) = let a = l.kept_by_draw s (item x) u c step in reaches_from x v a.answer.0 called (reaches_weaken a.may_give (passes_reaches u t h g _ a.can_next p))
   passes_reaches s t f g _ c (closes {u = u} {h = h} x v step called is p) = let a = l.kept_by_draw s (item x) u c step in reaches_from x v a.answer.0 called (reaches_weaken a.may_give (passes_reaches u t h g _ a.can_next p))
@@ -113,8 +113,8 @@ module _ {S F X R B E : Type 0} (m : Contract S X E) (l : Lawful m) (call : F �
     answer_after s u t f h g (Err e) x v a called b = (elim b.0 [ inl c ↦ inl (a.may_fail e c) | inr c ↦ inr (may_answer_after a.may_give (reaches_from x v a.answer.0 called reaches_here) c) ], (λ n c. let j = a.answer.1 n c in let k = b.1 j.0 j.1 in (k.0, k.1, omega (arith, j.2, k.2))), (λ d. let j = a.answer.2 d in let k = b.2 j.0 in (k.0, omega (arith, j.1, k.1))))
 
     passes_answer : (s t : S) (f g : F) (r : Answered B E) → m.can_next s → P s f (r ∷ []) t g → OnAnswer M (s, f) r (t, g)
-    passes_answer s t f g _ c (ends step done) = (l.kept_by_draw s (Ok None) t c step).answer
-    passes_answer s t f g _ c (fails e step done) = let a = (l.kept_by_draw s (Err e) t c step).answer in (inl a.0, a.1, a.2)
+    passes_answer s t f g _ c (end_passes step done) = (l.kept_by_draw s (Ok None) t c step).answer
+    passes_answer s t f g _ c (failure_passes e step done) = let a = (l.kept_by_draw s (Err e) t c step).answer in (inl a.0, a.1, a.2)
     passes_answer s t f g _ c (keeps x v y step called is done) = let a = (l.kept_by_draw s (item x) t c step).answer in (may_answer_here g x v a.0 called is, a.1, a.2)
     passes_answer s t f g _ c (refuses x v e step called is done) = let a = (l.kept_by_draw s (item x) t c step).answer in (inr (may_answer_here g x v a.0 called is), (λ n b. let k = a.1 n b in (k.0, k.1, omega (arith, k.2))), a.2)
     passes_answer s t f g _ c (closes x v step called is done) = let a = (l.kept_by_draw s (item x) t c step).answer in ((λ n b. let k = a.1 n b in (k.0, k.1, omega (arith, k.2))), (λ d. let k = a.2 d in (k.0, omega (arith, k.1))))
@@ -163,10 +163,10 @@ module _ {S F X R B E : Type 0} {steps : S → Answered X E → S → Type 0} {c
 
 module _ {S F X R B E : Type 0} {steps : S → Answered X E → S → Type 0} {call : F → X → R → F → Type 0} {outcome : X → R → Outcome B E} {s t : S} {f : F} where
   pub passes_end : steps s (Ok None) t → PassTrace steps call outcome (s, f) (Ok None ∷ []) (t, f)
-  passes_end step = from_passes (ends step done)
+  passes_end step = from_passes (end_passes step done)
 
   pub passes_failure : {e : E} → steps s (Err e) t → PassTrace steps call outcome (s, f) (Err e ∷ []) (t, f)
-  passes_failure {e} step = from_passes (fails e step done)
+  passes_failure {e} step = from_passes (failure_passes e step done)
 
 module _ {S F X R B E : Type 0} {steps : S → Answered X E → S → Type 0} {call : F → X → R → F → Type 0} {outcome : X → R → Outcome B E} {s t : S} {f g : F} where
   -- an item that makes an end

@@ -9,7 +9,7 @@ use Rattle.fallible_contract.specs.Closures.{call_at, call_in}
 use Rattle.fallible_contract.specs.Lists.{Acts}
 use Rattle.fallible_contract.specs.Folds.{HoldsAtEachTurn, CountExit, FoldExit, Folded}
 use Rattle.fallible_contract.specs.Passing.{PassTrace}
-use Rattle.fallible_contract.specs.Laws.Passing.{Passes, done, ends, fails, keeps, refuses, closes, leaves_out, to_passes}
+use Rattle.fallible_contract.specs.Laws.Passing.{Passes, done, end_passes, failure_passes, keeps, refuses, closes, leaves_out, to_passes}
 use Rattle.fallible_contract.proofs.Lemmas.LawForm.{runs_by_answers}
 use Rattle.fallible_contract.proofs.Lemmas.Lists.Passing.{acts_in_slot}
 use Rattle.fallible_contract.proofs.Lemmas.Folds.{count_fits}
@@ -134,10 +134,10 @@ module _ {S F X E : Type 0} (steps : S → Answered X E → S → Type 0) (call 
   below_passes : (xs : List X) (last : Answered X E) (s t : S) (f g : F) (trace : List (Answered X E)) → f ≡ fixed → trace ≡ map item xs ++ last ∷ [] → Passes steps call tested_outcome s f trace t g → Below s xs last t
   below_passes [] last s t f g _ at e done = absurd cc
   below_passes (x ∷ xs) last s t f g _ at e done = absurd cc
-  below_passes [] last s t f g _ at e (ends {u = u} step p) = last_below s u t f g end last _ e step p
-  below_passes (x ∷ xs) last s t f g _ at e (ends step p) = absurd cc
-  below_passes [] last s t f g _ at e (fails {u = u} d step p) = last_below s u t f g (failure d) last _ e step p
-  below_passes (x ∷ xs) last s t f g _ at e (fails d step p) = absurd cc
+  below_passes [] last s t f g _ at e (end_passes {u = u} step p) = last_below s u t f g end last _ e step p
+  below_passes (x ∷ xs) last s t f g _ at e (end_passes step p) = absurd cc
+  below_passes [] last s t f g _ at e (failure_passes {u = u} d step p) = last_below s u t f g (failure d) last _ e step p
+  below_passes (x ∷ xs) last s t f g _ at e (failure_passes d step p) = absurd cc
   below_passes [] last s t f g _ at e (keeps {u = u} {h = j} {trace = rest} x v y step called is p) = let k = is_kept x y (h x) (answers_as (Kept y) f j x v at called is) in last_below s u t j g (item x) last rest (ap {B = List (Answered X E)} (λ (z : X). item z ∷ rest) k.1 ∙ e) step p
   below_passes (z ∷ xs) last s t f g _ at e (keeps {u = u} {h = j} x v y step called is p) = let k = is_kept x y (h x) (answers_as (Kept y) f j x v at called is) in kept_below s u t x z xs last k.0 (k.1 ∙ cc) step (below_passes xs last u t j g _ (acts f x v j at called).0 (cc) p)
   below_passes xs last s t f g _ at e (refuses {h = j} x v d step called is p) = absurd (not_failed x (h x) d (answers_as (Failure d) f j x v at called is))

@@ -7,7 +7,7 @@ use Rattle.std.proofs.lemmas.List.Elements.{filter_map-append, All-nil, All-cons
 use Rattle.fallible_contract.specs.Traces.{Answered, item, end}
 use Rattle.fallible_contract.specs.Passing.{passing_step}
 use Rattle.fallible_contract.specs.Closures.{Calls, Steady, call_in}
-use Rattle.fallible_contract.specs.Laws.Passing.{Passes, done, ends, fails, keeps, refuses, closes, leaves_out, to_passes}
+use Rattle.fallible_contract.specs.Laws.Passing.{Passes, done, end_passes, failure_passes, keeps, refuses, closes, leaves_out, to_passes}
 use Rattle.fallible_contract.specs.BothEnds.{TakesFirst, ListsBothEnds, item_listed, items_listed, source_result, source_list, outcome_listed, passed_result, passed_list}
 use Rattle.fallible_contract.specs.Lists.{Acts}
 use Rattle.fallible_contract.proofs.Lemmas.Lists.Passing.{by_outcome, passed, acts_in_slot}
@@ -105,8 +105,8 @@ module _ {S F X R B E : Type 0} (front back : S → Answered X E → S → Type 
   outcome_taken asked u g x v y r a is taken = subst (λ (l : List (Result B E)). TakesFirst (λ l. Says (u, g) l) r l) (sym (a.list_is ∙ ap (λ (o : Option (Result B E)). cons_option o (passed_list outcome a.others)) is)) (taken (passed_list outcome a.others) (says a.others u g a.listed a.steady))
 
   pub front_taken : (asked : List (Result (X × R) E)) (s t : S) (f g : F) (r : Answered B E) → ListsBothEnds front back s (source_list asked) → Steady call f (items_listed asked) → Passes front call outcome s f (r ∷ []) t g → TakesFirst (λ l. Says (t, g) l) r (passed_list outcome asked)
-  front_taken asked s t f g _ i k (ends step done) = end_taken asked s t f i step
-  front_taken asked s t f g _ i k (fails e step done) = failure_taken asked s t f e i k step
+  front_taken asked s t f g _ i k (end_passes step done) = end_taken asked s t f i step
+  front_taken asked s t f g _ i k (failure_passes e step done) = failure_taken asked s t f e i k step
   front_taken asked s t f g _ i k (keeps x v y step called is done) = outcome_taken asked t g x v (Ok y) (item y) (asked_first asked s t f g x v i k step called) (ap outcome_listed is) (λ l h. (refl, h))
   front_taken asked s t f g _ i k (refuses x v e step called is done) = outcome_taken asked t g x v (Err e) (Err e) (asked_first asked s t f g x v i k step called) (ap outcome_listed is) (λ l h. (refl, h))
   front_taken asked s t f g _ i k (closes x v step called is done) = absurd (never_ends x v is)

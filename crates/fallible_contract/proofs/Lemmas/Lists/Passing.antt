@@ -4,7 +4,7 @@ use Rattle.std.proofs.Common.{refl, sym, ap, subst, ◌∙◌}
 use Rattle.fallible_contract.specs.Traces.{Answered}
 use Rattle.fallible_contract.specs.Closures.{call_in}
 use Rattle.fallible_contract.specs.Passing.{passing_step}
-use Rattle.fallible_contract.specs.Laws.Passing.{Passes, done, ends, fails, keeps, refuses, closes, leaves_out, to_passes, from_passes}
+use Rattle.fallible_contract.specs.Laws.Passing.{Passes, done, end_passes, failure_passes, keeps, refuses, closes, leaves_out, to_passes, from_passes}
 use Rattle.fallible_contract.specs.Lists.{AlwaysGives, Lists, Acts}
 use Rattle.fallible_contract.specs.declared.passing.Outcome.{Outcome}
 use Rattle.fallible_contract.specs.declared.passing.Outcome.TheVariants.{Kept, LeftOut, Failure, End}
@@ -45,8 +45,8 @@ module _ {S F P X R B E : Type 0} (steps : S → Answered X E → S → Type 0) 
 
   -- what one draw gives, where the source's list is empty
   none_given : (s : S) (f : F) (r : Answered B E) (t : S) (g : F) → AlwaysGives {A = X} steps s [] → Passes steps call outcome s f (r ∷ []) t g → r ≡ Ok None
-  none_given s f _ t g a (ends step d) = refl
-  none_given s f _ t g a (fails e step d) = absurd (let h = a (Err e) _ step in cc)
+  none_given s f _ t g a (end_passes step d) = refl
+  none_given s f _ t g a (failure_passes e step d) = absurd (let h = a (Err e) _ step in cc)
   none_given s f _ t g a (keeps x v y step called is d) = absurd (let h = a (Ok (Some x)) _ step in cc)
   none_given s f _ t g a (refuses x v e step called is d) = absurd (let h = a (Ok (Some x)) _ step in cc)
   none_given s f _ t g a (closes x v step called is d) = absurd (let h = a (Ok (Some x)) _ step in cc)
@@ -55,8 +55,8 @@ module _ {S F P X R B E : Type 0} (steps : S → Answered X E → S → Type 0) 
   -- one draw at a failure of the source's list
   failure_given : (d : E) (l : List (Result X E)) (rest : List (Result B E)) (s : S) (f : F) → ((u : S) → AlwaysGives steps u l → Gives u f rest) → AlwaysGives steps s (Err d ∷ l)
       → (r : Answered B E) (t : S) (g : F) → Passes steps call outcome s f (r ∷ []) t g → (r ≡ Err d) × Gives t g rest
-  failure_given d l rest s f then a _ t g (ends step c) = absurd (let h = (a (Ok None) _ step).0 in cc)
-  failure_given d l rest s f then a _ t g (fails e step done) = let h = a (Err e) t step in ((let q = h.0 in cc), then t h.1)
+  failure_given d l rest s f then a _ t g (end_passes step c) = absurd (let h = (a (Ok None) _ step).0 in cc)
+  failure_given d l rest s f then a _ t g (failure_passes e step done) = let h = a (Err e) t step in ((let q = h.0 in cc), then t h.1)
   failure_given d l rest s f then a _ t g (keeps x v y step called is c) = absurd (let h = (a (Ok (Some x)) _ step).0 in cc)
   failure_given d l rest s f then a _ t g (refuses x v e step called is c) = absurd (let h = (a (Ok (Some x)) _ step).0 in cc)
   failure_given d l rest s f then a _ t g (closes x v step called is c) = absurd (let h = (a (Ok (Some x)) _ step).0 in cc)
@@ -79,8 +79,8 @@ module _ {S F P X R B E : Type 0} (steps : S → Answered X E → S → Type 0) 
 
   kept_given : (l : List (Result X E)) (rest : List (Result B E)) (x : X) (y : B) (s : S) (f : F) (p : P) → outcome x (answers p x) ≡ Kept y → At f p → AlwaysGives steps s (Ok x ∷ l)
       → ((u : S) (g : F) → At g (next p x) → AlwaysGives steps u l → Gives u g rest) → (r : Answered B E) (t : S) (g : F) → Passes steps call outcome s f (r ∷ []) t g → (r ≡ Ok (Some y)) × Gives t g rest
-  kept_given l rest x y s f p is at a then _ t g (ends step c) = absurd (let h = (a (Ok None) _ step).0 in cc)
-  kept_given l rest x y s f p is at a then _ t g (fails e step c) = absurd (let h = (a (Err e) _ step).0 in cc)
+  kept_given l rest x y s f p is at a then _ t g (end_passes step c) = absurd (let h = (a (Ok None) _ step).0 in cc)
+  kept_given l rest x y s f p is at a then _ t g (failure_passes e step c) = absurd (let h = (a (Err e) _ step).0 in cc)
   kept_given l rest x y s f p is at a then _ t g (keeps z v w step called out done) = let k = called_as l x (Kept y) s f p is at a z v t g step called in ((let q = sym out ∙ k.outcome_is in cc), then t g k.at k.others)
   kept_given l rest x y s f p is at a then _ t g (refuses z v e step called out c) = absurd (let q = sym out ∙ (called_as l x (Kept y) s f p is at a z v _ _ step called).outcome_is in cc)
   kept_given l rest x y s f p is at a then _ t g (closes z v step called out c) = absurd (let q = sym out ∙ (called_as l x (Kept y) s f p is at a z v _ _ step called).outcome_is in cc)
@@ -88,8 +88,8 @@ module _ {S F P X R B E : Type 0} (steps : S → Answered X E → S → Type 0) 
 
   failed_given : (l : List (Result X E)) (rest : List (Result B E)) (x : X) (d : E) (s : S) (f : F) (p : P) → outcome x (answers p x) ≡ Failure d → At f p → AlwaysGives steps s (Ok x ∷ l)
       → ((u : S) (g : F) → At g (next p x) → AlwaysGives steps u l → Gives u g rest) → (r : Answered B E) (t : S) (g : F) → Passes steps call outcome s f (r ∷ []) t g → (r ≡ Err d) × Gives t g rest
-  failed_given l rest x d s f p is at a then _ t g (ends step c) = absurd (let h = (a (Ok None) _ step).0 in cc)
-  failed_given l rest x d s f p is at a then _ t g (fails e step c) = absurd (let h = (a (Err e) _ step).0 in cc)
+  failed_given l rest x d s f p is at a then _ t g (end_passes step c) = absurd (let h = (a (Ok None) _ step).0 in cc)
+  failed_given l rest x d s f p is at a then _ t g (failure_passes e step c) = absurd (let h = (a (Err e) _ step).0 in cc)
   failed_given l rest x d s f p is at a then _ t g (keeps z v w step called out c) = absurd (let q = sym out ∙ (called_as l x (Failure d) s f p is at a z v _ _ step called).outcome_is in cc)
   failed_given l rest x d s f p is at a then _ t g (refuses z v e step called out done) = let k = called_as l x (Failure d) s f p is at a z v t g step called in ((let q = sym out ∙ k.outcome_is in cc), then t g k.at k.others)
   failed_given l rest x d s f p is at a then _ t g (closes z v step called out c) = absurd (let q = sym out ∙ (called_as l x (Failure d) s f p is at a z v _ _ step called).outcome_is in cc)
@@ -97,8 +97,8 @@ module _ {S F P X R B E : Type 0} (steps : S → Answered X E → S → Type 0) 
 
   end_given : (l : List (Result X E)) (x : X) (s : S) (f : F) (p : P) → outcome x (answers p x) ≡ End → At f p → AlwaysGives steps s (Ok x ∷ l)
       → (r : Answered B E) (t : S) (g : F) → Passes steps call outcome s f (r ∷ []) t g → r ≡ Ok None
-  end_given l x s f p is at a _ t g (ends step c) = refl
-  end_given l x s f p is at a _ t g (fails e step c) = absurd (let h = (a (Err e) _ step).0 in cc)
+  end_given l x s f p is at a _ t g (end_passes step c) = refl
+  end_given l x s f p is at a _ t g (failure_passes e step c) = absurd (let h = (a (Err e) _ step).0 in cc)
   end_given l x s f p is at a _ t g (keeps z v w step called out c) = absurd (let q = sym out ∙ (called_as l x End s f p is at a z v _ _ step called).outcome_is in cc)
   end_given l x s f p is at a _ t g (refuses z v e step called out c) = absurd (let q = sym out ∙ (called_as l x End s f p is at a z v _ _ step called).outcome_is in cc)
   end_given l x s f p is at a _ t g (closes z v step called out c) = refl
@@ -108,8 +108,8 @@ module _ {S F P X R B E : Type 0} (steps : S → Answered X E → S → Type 0) 
   draw_after_left_out : (l : List (Result X E)) (rest : List (Result B E)) (x : X) (s : S) (f : F) (p : P) → outcome x (answers p x) ≡ LeftOut → At f p → AlwaysGives steps s (Ok x ∷ l)
       → ((u : S) (g : F) → At g (next p x) → AlwaysGives steps u l → Gives u g rest) → (r : Answered B E) (t : S) (g : F) → Passes steps call outcome s f (r ∷ []) t g
       → (q : S × F) × passing_step steps call outcome q r (t, g) × AlwaysGives (passing_step steps call outcome) q rest
-  draw_after_left_out l rest x s f p is at a then _ t g (ends step c) = absurd (let h = (a (Ok None) _ step).0 in cc)
-  draw_after_left_out l rest x s f p is at a then _ t g (fails e step c) = absurd (let h = (a (Err e) _ step).0 in cc)
+  draw_after_left_out l rest x s f p is at a then _ t g (end_passes step c) = absurd (let h = (a (Ok None) _ step).0 in cc)
+  draw_after_left_out l rest x s f p is at a then _ t g (failure_passes e step c) = absurd (let h = (a (Err e) _ step).0 in cc)
   draw_after_left_out l rest x s f p is at a then _ t g (keeps z v w step called out c) = absurd (let q = sym out ∙ (called_as l x LeftOut s f p is at a z v _ _ step called).outcome_is in cc)
   draw_after_left_out l rest x s f p is at a then _ t g (refuses z v e step called out c) = absurd (let q = sym out ∙ (called_as l x LeftOut s f p is at a z v _ _ step called).outcome_is in cc)
   draw_after_left_out l rest x s f p is at a then _ t g (closes z v step called out c) = absurd (let q = sym out ∙ (called_as l x LeftOut s f p is at a z v _ _ step called).outcome_is in cc)

@@ -3,7 +3,7 @@ use Rattle.std.specs.Prelude.{◌≡◌, ℕ, zero, suc, [], ◌∷◌}
 use Rattle.std.proofs.Common.{refl, sym, ap, subst, ◌∙◌, arith}
 use Rattle.fallible_contract.specs.Traces.{Answered, item}
 use Rattle.fallible_contract.specs.Passing.{passing_step}
-use Rattle.fallible_contract.specs.Laws.Passing.{Passes, done, ends, fails, keeps, refuses, closes, leaves_out, to_passes}
+use Rattle.fallible_contract.specs.Laws.Passing.{Passes, done, end_passes, failure_passes, keeps, refuses, closes, leaves_out, to_passes}
 use Rattle.fallible_contract.proofs.Lemmas.Counting.{Leaves, none, keeps_item, keeps_end, keeps_failure, left_out_first}
 use Rattle.fallible_core.specs.Cutting.StepBy.{step_by_step, left_next, count_call, count_outcome}
 use Rattle.fallible_core.proofs.Lemmas.Cutting.StepBy.{leaves_step_by}
@@ -17,8 +17,8 @@ module _ {S A E : Type 0} (steps : S → Answered A E → S → Type 0) (between
   One s n r t k = Leaves steps between n s (r ∷ []) t k
 
   counted : (s t : S) (n k : ℕ) (r : Answered A E) → Counts s n r t k → One s n r t k
-  counted s t n k _ (ends step done) = keeps_end step none
-  counted s t n k _ (fails e step done) = keeps_failure e step none
+  counted s t n k _ (end_passes step done) = keeps_end step none
+  counted s t n k _ (failure_passes e step done) = keeps_failure e step none
   counted s t zero k _ (keeps x v y step called is done) = let at : count_outcome {E = E} x zero ≡ Kept y = subst (λ (i : ℕ). count_outcome {E = E} x i ≡ Kept y) called.0 is in let same : x ≡ y = cc in
       subst (λ (z : A). One s zero (item z) t k) same (subst (λ (j : ℕ). One s zero (item x) t j) (sym called.1) (keeps_item x step none))
   counted s t (suc n) k _ (keeps x v y step called is done) = absurd (let at : count_outcome {E = E} x (suc n) ≡ Kept y = subst (λ (i : ℕ). count_outcome {E = E} x i ≡ Kept y) called.0 is in cc)

@@ -10,7 +10,7 @@ use Rattle.fallible_contract.specs.Contract.{Contract, Lawful, seen_as}
 use Rattle.fallible_contract.specs.Folds.{HoldsAtEachTurn, carrying_turn, Carried}
 use Rattle.fallible_contract.specs.Folding.{FoldingTurn, FoldingTakes}
 use Rattle.fallible_contract.specs.Passing.{asked, failure_at, end_at, PassAnswer, passing_step}
-use Rattle.fallible_contract.specs.Laws.Passing.{Passes, done, ends, fails, keeps, refuses, closes, leaves_out, to_passes}
+use Rattle.fallible_contract.specs.Laws.Passing.{Passes, done, end_passes, failure_passes, keeps, refuses, closes, leaves_out, to_passes}
 use Rattle.fallible_contract.proofs.Lemmas.Folding.{holds_while, carried_while, takes_through}
 use Rattle.fallible_contract.proofs.Lemmas.Folds.{carried_end}
 use Rattle.fallible_contract.proofs.Lemmas.Passing.{answer_passed}
@@ -52,8 +52,8 @@ module _ {S F X E : Type 0} (m : Contract S X E) (a : Mut F (Bor X × Unit {0}) 
 
   -- while no item was refused, one draw by the predicate's answer is one of `TakeWhile`
   one_drawn : (s t : S) (f : F) (q : F × Bool) (r : Answered X E) → Passes m.steps Calls take_while_outcome s (f, false) (r ∷ []) t q → steps (full (s, (f, false))) r (full (t, q))
-  one_drawn s t f _ _ (ends step done) = (end_at, (step, refl), refl, refl)
-  one_drawn s t f _ _ (fails e step done) = (failure_at e, (step, refl), refl, refl)
+  one_drawn s t f _ _ (end_passes step done) = (end_at, (step, refl), refl, refl)
+  one_drawn s t f _ _ (failure_passes e step done) = (failure_at e, (step, refl), refl, refl)
   one_drawn s t f q _ (keeps x (Ok true) y step called is done) = let same : x ≡ y = cc in subst (λ (z : X). steps (full (s, (f, false))) (item z) (full (t, q))) same (asked x (Ok true), (step, (Some q.0, called.0, refl)), refl, called.1)
   one_drawn s t f q _ (keeps x (Ok false) y step called is done) = absurd cc
   one_drawn s t f q _ (keeps x (Err e) y step called is done) = absurd cc

@@ -12,7 +12,7 @@ use Rattle.fallible_contract.proofs.Lemmas.Lists.Passing.{passed, by_outcome, al
 use Rattle.fallible_contract.specs.Passing.{PassTrace, Place, asked, failure_at, end_at, source_answer, call_of, answer_at}
 use Rattle.fallible_contract.proofs.Lemmas.LawForm.{runs_by_answers}
 use Rattle.fallible_contract.proofs.Lemmas.Passing.{passing_by_answers, passes_held}
-use Rattle.fallible_contract.specs.Laws.Passing.{Passes, done, ends, fails, keeps, refuses, closes, leaves_out, kept_tail, kept_cons, kept_before, answered, to_passes, from_passes}
+use Rattle.fallible_contract.specs.Laws.Passing.{Passes, done, end_passes, failure_passes, keeps, refuses, closes, leaves_out, kept_tail, kept_cons, kept_before, answered, to_passes, from_passes}
 use Rattle.fallible_core.specs.Filtering.SkipWhile.{cons_from, skipped_while, skip_call, skip_while_outcome, skip_while_parts, skip_while_contract, answers_false, false_at, EndsAtFalse, asked_outcome, AskedUntilFalse, SkipWhileTrace}
 use Rattle.fallible_core.specs.Laws.Filtering.SkipWhile.{into}
 use Rattle.fallible_core.specs.declared.filtering.skip_while.SkipWhile.{SkipWhile}
@@ -66,8 +66,8 @@ module _ {S F X E : Type 0} (steps : S → Answered X E → S → Type 0) (call 
 
   pub after_false : (s t : S) (p q : Bool × F) (trace : List (Answered X E)) → p.0 ≡ true → P s p trace t q → Passed s p trace t q
   after_false s _ p _ _ e done = record { ran = refl; same = refl }
-  after_false s t p q _ e (ends {u = u} {trace = rest} step h) = let k = after_false u t p q rest e h in record { ran = (u, step, k.ran); same = k.same }
-  after_false s t p q _ e (fails {u = u} {trace = rest} d step h) = let k = after_false u t p q rest e h in record { ran = (u, step, k.ran); same = k.same }
+  after_false s t p q _ e (end_passes {u = u} {trace = rest} step h) = let k = after_false u t p q rest e h in record { ran = (u, step, k.ran); same = k.same }
+  after_false s t p q _ e (failure_passes {u = u} {trace = rest} d step h) = let k = after_false u t p q rest e h in record { ran = (u, step, k.ran); same = k.same }
   after_false s t p q _ e (keeps {u = u} {h = j} {trace = rest} x None y step called is h) = let k = after_false u t j q rest (ap (λ (z : Bool × F). z.0) called.1 ∙ e) h in
       let same : x ≡ y = cc in record { ran = (u, subst (λ (z : X). steps s (item z) u) same step, k.ran); same = k.same ∙ called.1 }
   after_false s t p q _ e (keeps x (Some v) y step called is h) = absurd (let d = called.0 in cc)
@@ -80,8 +80,8 @@ module _ {S F X E : Type 0} (steps : S → Answered X E → S → Type 0) (call 
 
   pub run_passes : (trace : List (Answered X E)) (s t : S) (f : F) → Run steps s trace t → P s (true, f) trace t (true, f)
   run_passes [] s t f ran = subst (λ (u : S). P s (true, f) [] u (true, f)) ran done
-  run_passes (Ok None ∷ rest) s t f ran = ends ran.1 (run_passes rest ran.0 t f ran.2)
-  run_passes (Err e ∷ rest) s t f ran = fails e ran.1 (run_passes rest ran.0 t f ran.2)
+  run_passes (Ok None ∷ rest) s t f ran = end_passes ran.1 (run_passes rest ran.0 t f ran.2)
+  run_passes (Err e ∷ rest) s t f ran = failure_passes e ran.1 (run_passes rest ran.0 t f ran.2)
   run_passes (Ok (Some x) ∷ rest) s t f ran = keeps x None x ran.1 (refl, refl) refl (run_passes rest ran.0 t f ran.2)
 
   -- ---- before it
@@ -96,8 +96,8 @@ module _ {S F X E : Type 0} (steps : S → Answered X E → S → Type 0) (call 
 
   before_false : (s t : S) (p q : Bool × F) (trace : List (Answered X E)) → p.0 ≡ false → P s p trace t q → Skips s p.1 trace t q
   before_false s _ p _ _ e done = record { met = []; after = []; drawn = refl; called = refl; answers = refl; until_false = subst (λ (b : Bool). AskedUntilFalse {X = X} {E = E} false [] [] b) (sym e) (tt, refl, tt) }
-  before_false s t p q _ e (ends {u = u} {trace = rest} step h) = let k = before_false u t p q rest e h in record { met = end_at ∷ k.met; after = k.after; drawn = (u, step, k.drawn); called = k.called; answers = ap (λ (l : List (Answered X E)). Ok None ∷ l) k.answers; until_false = until_cons end_at k.met k.after q.0 refl refl k.until_false }
-  before_false s t p q _ e (fails {u = u} {trace = rest} d step h) = let k = before_false u t p q rest e h in record { met = failure_at d ∷ k.met; after = k.after; drawn = (u, step, k.drawn); called = k.called; answers = ap (λ (l : List (Answered X E)). Err d ∷ l) k.answers; until_false = until_cons (failure_at d) k.met k.after q.0 refl refl k.until_false }
+  before_false s t p q _ e (end_passes {u = u} {trace = rest} step h) = let k = before_false u t p q rest e h in record { met = end_at ∷ k.met; after = k.after; drawn = (u, step, k.drawn); called = k.called; answers = ap (λ (l : List (Answered X E)). Ok None ∷ l) k.answers; until_false = until_cons end_at k.met k.after q.0 refl refl k.until_false }
+  before_false s t p q _ e (failure_passes {u = u} {trace = rest} d step h) = let k = before_false u t p q rest e h in record { met = failure_at d ∷ k.met; after = k.after; drawn = (u, step, k.drawn); called = k.called; answers = ap (λ (l : List (Answered X E)). Err d ∷ l) k.answers; until_false = until_cons (failure_at d) k.met k.after q.0 refl refl k.until_false }
   before_false s t p q _ e (keeps x None y step called is h) = absurd (let d = called.0 in cc)
   before_false s t p q _ e (keeps {u = u} {h = j} {trace = rest} x (Some (Ok false)) y step called is h) = let k = after_false u t j q rest called.2 h in let same : x ≡ y = cc in
       record { met = asked x (Ok false) ∷ []; after = rest; drawn = (u, step, k.ran); called = (j.1, called.1, ap (λ (z : Bool × F). z.1) (sym k.same)); answers = ap (λ (z : X). item z ∷ rest) (sym same); until_false = subst (λ (b : Bool). AskedUntilFalse false (asked x (Ok false) ∷ []) rest b) (sym (ap (λ (z : Bool × F). z.0) k.same ∙ called.2)) refl }
@@ -130,8 +130,8 @@ module _ {S F X E : Type 0} (steps : S → Answered X E → S → Type 0) (call 
   skips_passes [] after s t f (true, k) ran called until = absurd until
   skips_passes [] after s t f (false, k) ran called until = let none = until.1 in let here : Run steps s [] t = subst (λ (l : List (Answered X E)). Run steps s l t) none ran in
       subst (λ (l : List (Answered X E)). P s (false, f) l t (false, k)) (sym none) (subst (λ (u : S). P s (false, f) [] u (false, k)) here (subst (λ (h : F). P s (false, f) [] s (false, h)) called done))
-  skips_passes (failure_at e ∷ met) after s t f q ran called until = fails e ran.1 (skips_passes met after ran.0 t f q ran.2 called (until_tail (failure_at e) met after q.0 refl until))
-  skips_passes (end_at ∷ met) after s t f q ran called until = ends ran.1 (skips_passes met after ran.0 t f q ran.2 called (until_tail end_at met after q.0 refl until))
+  skips_passes (failure_at e ∷ met) after s t f q ran called until = failure_passes e ran.1 (skips_passes met after ran.0 t f q ran.2 called (until_tail (failure_at e) met after q.0 refl until))
+  skips_passes (end_at ∷ met) after s t f q ran called until = end_passes ran.1 (skips_passes met after ran.0 t f q ran.2 called (until_tail end_at met after q.0 refl until))
   skips_passes (asked x (Err e) ∷ met) after s t f q ran called until = refuses x (Some (Err e)) e ran.1 (refl, called.1, refl) refl (skips_passes met after ran.0 t called.0 q ran.2 called.2 (until_tail (asked x (Err e)) met after q.0 refl until))
   skips_passes (asked x (Ok true) ∷ met) after s t f q ran called until = left_out_first met after (filter_map (answer_at asked_outcome) met ++ after) x s ran.0 t f called.0 q ran.1 called.1 refl until (skips_passes met after ran.0 t called.0 q ran.2 called.2 (until_tail (asked x (Ok true)) met after q.0 refl until))
   skips_passes (asked x (Ok false) ∷ []) after s t f (true, k) ran called until = keeps x (Some (Ok false)) x ran.1 (refl, called.1, refl) refl (subst (λ (h : F). P ran.0 (true, called.0) after t (true, h)) called.2 (run_passes after ran.0 t called.0 ran.2))

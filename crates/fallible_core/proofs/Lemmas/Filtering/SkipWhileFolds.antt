@@ -7,7 +7,7 @@ use Rattle.fallible_contract.specs.Traces.{Answered, item}
 use Rattle.fallible_contract.specs.Closures.{call_in, call_at}
 use Rattle.fallible_contract.specs.Contract.{Contract, seen_as}
 use Rattle.fallible_contract.specs.Folds.{HoldsAtEachTurn, Carried}
-use Rattle.fallible_contract.specs.Laws.Passing.{Passes, done, ends, fails, keeps, refuses, closes, leaves_out, to_passes, from_passes}
+use Rattle.fallible_contract.specs.Laws.Passing.{Passes, done, end_passes, failure_passes, keeps, refuses, closes, leaves_out, to_passes, from_passes}
 use Rattle.fallible_contract.proofs.Lemmas.Folding.{holds_into, carried_into}
 use Rattle.fallible_core.specs.Filtering.SkipWhile.{skip_call, skip_while_outcome, skip_while_contract, skip_while_parts}
 use Rattle.fallible_core.proofs.Lemmas.Filtering.SkipWhile.{after_false, run_passes}
@@ -19,8 +19,8 @@ module _ {S F X E : Type 0} (steps : S → Answered X E → S → Type 0) (call 
   -- where an item is the answer, the predicate has answered false
   found_by_item : (s t : S) (p q : Bool × F) (trace : List (Answered X E)) (x : X) → trace ≡ item x ∷ [] → Passes steps (skip_call call) skip_while_outcome s p trace t q → q.0 ≡ true
   found_by_item s _ p _ _ x e done = absurd cc
-  found_by_item s t p q _ x e (ends step h) = absurd cc
-  found_by_item s t p q _ x e (fails d step h) = absurd cc
+  found_by_item s t p q _ x e (end_passes step h) = absurd cc
+  found_by_item s t p q _ x e (failure_passes d step h) = absurd cc
   found_by_item s t p q _ x e (keeps {u = u} {h = j} {trace = rest} y None z step called is h) = let on : j.0 ≡ true = ap (λ (k : Bool × F). k.0) called.1 ∙ called.0 in ap (λ (k : Bool × F). k.0) (after_false steps call u t j q rest on h).same ∙ on
   found_by_item s t p q _ x e (keeps {u = u} {h = j} {trace = rest} y (Some (Ok false)) z step called is h) = ap (λ (k : Bool × F). k.0) (after_false steps call u t j q rest called.2 h).same ∙ called.2
   found_by_item s t p q _ x e (keeps y (Some (Ok true)) z step called is h) = absurd cc

@@ -7,7 +7,7 @@ use Rattle.fallible_contract.specs.Passing.{IfItem, passing_step}
 use Rattle.fallible_contract.specs.Contract.{Contract, Lawful}
 use Rattle.fallible_contract.specs.Folds.{HoldsAtEachTurn, carrying_turn, CountExit, Counted}
 use Rattle.fallible_contract.specs.Folding.{FoldingTurn, FoldingTakes, beside}
-use Rattle.fallible_contract.specs.Laws.Passing.{Passes, done, ends, fails, keeps, refuses, closes, leaves_out, to_passes}
+use Rattle.fallible_contract.specs.Laws.Passing.{Passes, done, end_passes, failure_passes, keeps, refuses, closes, leaves_out, to_passes}
 use Rattle.fallible_contract.proofs.Lemmas.Folds.{count_fits}
 use Rattle.fallible_contract.proofs.Lemmas.Folding.{takes_freely}
 use Rattle.fallible_core.specs.OneToOne.Enumerate.{IsNumberable, number_call, number_outcome, number_takes}
@@ -20,8 +20,8 @@ use Rattle.fallible_contract.specs.declared.folds.Exit.{Exit}
 
 module _ {S A E : Type 0} (steps : S → Answered A E → S → Type 0) where
   passed : (s t : S) (n k : ℕ) (r : Answered (ℕ × A) E) → Passes steps number_call number_outcome s n (r ∷ []) t k → numbered_step steps (s, n) r (t, k)
-  passed s t n k _ (ends step done) = enumerate_end step
-  passed s t n k _ (fails e step done) = enumerate_failure step
+  passed s t n k _ (end_passes step done) = enumerate_end step
+  passed s t n k _ (failure_passes e step done) = enumerate_failure step
   passed s t n k _ (keeps x v y step called is done) = let numbered : ◌≡◌ {A = ℕ × A} (v, x) y = cc in
       subst (λ (z : ℕ × A). numbered_step steps (s, n) (item z) (t, k)) (ap (λ (i : ℕ). (i, x)) (sym called.0) ∙ numbered) (subst (λ (j : ℕ). numbered_step steps (s, n) (item (n, x)) (t, j)) (sym called.1) (enumerate_item x step))
   passed s t n k _ (refuses x v e step called is rest) = absurd cc

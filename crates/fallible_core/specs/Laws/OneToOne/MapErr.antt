@@ -9,7 +9,7 @@ use Rattle.fallible_contract.specs.Ends.{Ends, from_back, ends_of, LawfulEnds}
 use Rattle.fallible_contract.specs.Exchange.{exchanged, steps_exchanged}
 use Rattle.fallible_contract.specs.Laws.Closures.{reaches_here, reaches_from, callable_after, may_answer_here, may_answer_after}
 use Rattle.fallible_contract.specs.Laws.Exchange.{exchanged_twice}
-use Rattle.fallible_contract.specs.Laws.Passing.{Passes, done, ends, fails, keeps, refuses, closes, leaves_out, to_passes}
+use Rattle.fallible_contract.specs.Laws.Passing.{Passes, done, end_passes, failure_passes, keeps, refuses, closes, leaves_out, to_passes}
 use Rattle.fallible_core.specs.OneToOne.MapErr.{map_err_outcome, MapErrTrace, MapErrAnswer, map_err_contract}
 
 module _ {S F X D E : Type 0} (steps : S → Answered X D → S → Type 0) (call : F → D → E → F → Type 0) where
@@ -18,8 +18,8 @@ module _ {S F X D E : Type 0} (steps : S → Answered X D → S → Type 0) (cal
   DrawnOnce s f r t g = (drawn : Answered X D) × steps s drawn t × MapErrAnswer call f drawn r g
 
   passed_once : (s t : S) (f g : F) (r : Answered E X) → Passes (steps_exchanged steps) call map_err_outcome s f (r ∷ []) t g → DrawnOnce s f (exchanged r) t g
-  passed_once s t f _ _ (ends step done) = (Ok None, step, (refl, refl))
-  passed_once s t f _ _ (fails x step done) = (Ok (Some x), step, (refl, refl))
+  passed_once s t f _ _ (end_passes step done) = (Ok None, step, (refl, refl))
+  passed_once s t f _ _ (failure_passes x step done) = (Ok (Some x), step, (refl, refl))
   passed_once s t f g _ (keeps d e y step called is done) = (Err d, step, (e, called, (let same : e ≡ y = cc in ap (λ (v : E). Err v) (sym same))))
   passed_once s t f g _ (refuses d e x step called is rest) = absurd cc
   passed_once s t f g _ (closes d e step called is rest) = absurd cc

@@ -3,7 +3,7 @@ use Rattle.std.specs.Prelude.{◌≡◌, ◌≤◌, List, [], ◌∷◌, length,
 use Rattle.std.proofs.Common.{refl, arith}
 use Rattle.fallible_contract.specs.Traces.{Answered, Yields, item, end}
 use Rattle.fallible_contract.specs.Passing.{PassTrace}
-use Rattle.fallible_contract.specs.Laws.Passing.{Passes, done, ends, keeps, closes, leaves_out, to_passes}
+use Rattle.fallible_contract.specs.Laws.Passing.{Passes, done, end_passes, keeps, closes, leaves_out, to_passes}
 use Rattle.fallible_iterator.proofs.Lemmas.Hints.Drawn.{ItemsOfItems, OneOfOne}
 use Rattle.fallible_contract.specs.declared.passing.Outcome.{Outcome}
 use Rattle.fallible_contract.specs.declared.passing.Outcome.TheVariants.{LeftOut, End}
@@ -27,7 +27,7 @@ module _ {S F X R B E : Type 0} (steps : S → Answered X E → S → Type 0) (c
     item_of_item s t f g y (leaves_out x v step called is rest) = absurd (never_left_out x v is)
 
     end_of_end : (s t : S) (f g : F) → Passes steps call outcome s f (end ∷ []) t g → steps s end t
-    end_of_end s t f g (ends step done) = step
+    end_of_end s t f g (end_passes step done) = step
     end_of_end s t f g (closes x v step called is rest) = absurd (never_ends x v is)
     end_of_end s t f g (leaves_out x v step called is rest) = absurd (never_left_out x v is)
 
