@@ -1,5 +1,5 @@
 -- Comparisons, one round at a time.
-use Rattle.std.specs.Prelude.{◌≡◌, ◌↔◌, ℕ, ◌+◌, ◌≤◌, ◌<◌, ◌⊎◌, [], ◌∷◌, Option, Some, None, Result, Ok, Err}
+use Rattle.std.specs.Prelude.{◌≡◌, ◌↔◌, ℕ, ◌+◌, ◌≤◌, ◌⊎◌, [], ◌∷◌, Option, Some, None, Result, Ok, Err}
 use Rattle.std.proofs.Common.{refl, sym, ap, subst, ◌∙◌, arith, inl, inr}
 use Rattle.fallible_contract.specs.Traces.{Answered, item}
 use Rattle.fallible_contract.specs.Contract.{Contract, Fewer}

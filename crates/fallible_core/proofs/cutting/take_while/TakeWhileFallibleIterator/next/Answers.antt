@@ -1,5 +1,4 @@
 -- What becomes of one answer of the source is one draw.
-use Rattle.std.proofs.Common.{false}
 use Rattle.fallible_contract.proofs.Lemmas.Passing.{drawn_takes}
 use Rattle.fallible_core.proofs.Lemmas.Cutting.TakeWhileFolds.{taking_step}
 use Rattle.fallible_core.proofs.Lemmas.Cutting.TakeWhile.{leaves_none_out}
