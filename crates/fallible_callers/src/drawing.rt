@@ -1,6 +1,6 @@
 //! Draws by hand.
-ghost use Rattle.std.specs.Prelude.{◌≡◌, List, ◌∷◌, Result, Ok, Some};
-ghost use Rattle.fallible_iterator.specs.Lists.{Lists};
+ghost use Rattle.std.specs.Prelude.{◌≡◌, ◌+◌, ◌/◌, ◌%◌, ◌^◌, ℕ, List, ◌∷◌, Result, Ok, Some, nat_lt};
+ghost use Rattle.fallible_iterator.specs.Lists.{Lists, filtered, folded, mapped, results, taken_while};
 
 use fallible_iterator::{FallibleIterator, convert};
 
@@ -45,6 +45,40 @@ where
         left = left.one_less();
     }
     Ok(())
+}
+
+/// The sum of the items up to the first that is 0, modulo 2 ^ 64, or the first failure before.
+pub fn sum_up_to_zero<I: FallibleIterator<Item = u32>>(mut it: I) -> Result<u64, I::Error>
+where
+    requires can_next { I.contract.can_next it }
+    requires finite { I.contract.is_finite it }
+    ensures { (l : List (Result ℕ I.Error)) → Lists I.contract.steps it l
+        → result ≡ folded (λ e. e) (λ s x. Ok ((s + x) % 2 ^ 64)) 0
+        (taken_while (λ x. Ok (nat_lt 0 x)) l) }
+{
+    let mut left = it.number();
+    let mut sum: u64 = 0;
+    while let Some(item) = it.draw()? {
+        if item == 0 {
+            return Ok(sum);
+        }
+        left = left.one_less();
+        sum = sum.wrapping_add(u64::from(item));
+    }
+    Ok(sum)
+}
+
+/// The sum of the halves of the readings below 100, up to the first half that is 0, modulo 2 ^ 64, or the first failure before.
+pub fn sum_of_halves_up_to_zero(readings: Vec<Result<u32, u8>>) -> Result<u64, u8>
+    ensures { result ≡ folded (λ e. e) (λ s x. Ok ((s + x) % 2 ^ 64)) 0
+        (taken_while (λ x. Ok (nat_lt 0 x))
+        (mapped (λ x. Ok (x / 2)) (filtered (λ x. Ok (nat_lt x 100)) (results readings.items)))) }
+{
+    sum_up_to_zero(
+        convert(readings.into_iter())
+            .filter(|reading| Ok(*reading < 100))
+            .map(|reading: u32| Ok(reading / 2)),
+    )
 }
 
 /// The sum of the first two readings above 100, and the one after them. The two are taken of a borrow, so the rest may still be drawn.

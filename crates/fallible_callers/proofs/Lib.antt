@@ -1,0 +1,2 @@
+-- What the proofs of several callers cite.
+pub mod Loops
