@@ -1,11 +1,16 @@
 //! Draws by hand.
-ghost use Rattle.std.specs.Prelude.{◌≡◌, ◌+◌, ◌/◌, ◌%◌, ◌^◌, ℕ, List, ◌∷◌, Result, Ok, Some, nat_lt};
-ghost use Rattle.fallible_iterator.specs.Lists.{Lists, filtered, folded, mapped, results, taken_while};
+ghost use Rattle.std.specs.Prelude.{◌≡◌, ◌+◌, ◌*◌, ◌/◌, ◌%◌, ◌^◌, ℕ, List, ◌∷◌, Result, Option, Ok, Some, None, nat_lt, if◌then◌else◌};
+ghost use Rattle.fallible_iterator.specs.Lists.{Lists, behind_first, behind_nth, filtered, folded, mapped, nth_of, results, taken, taken_while};
 
 use fallible_iterator::{FallibleIterator, convert};
 
 /// The third of the doubled readings above 100 among the first ten.
-pub fn third_draw(readings: Vec<Result<u32, u8>>) -> Result<Option<u64>, u8> {
+pub fn third_draw(readings: Vec<Result<u32, u8>>) -> Result<Option<u64>, u8>
+    ensures { let l : List (Result ℕ ℕ) = mapped (λ x. Ok (x * 2))
+        (filtered (λ x. Ok (nat_lt 100 x)) (taken 10 (results readings.items))) in (x y : ℕ)
+        → nth_of 0 l ≡ Ok (Some x) → nth_of 0 (behind_first l) ≡ Ok (Some y)
+        → result ≡ nth_of 0 (behind_first (behind_first l)) }
+{
     let mut doubled = convert(readings.into_iter())
         .take(10)
         .filter(|reading| Ok(*reading > 100))
@@ -39,6 +44,8 @@ where
     I::Item: Drop,
     requires can_next { I.contract.can_next it.old }
     requires finite { I.contract.is_finite it.old }
+    ensures { (l : List (Result I.Item I.Error)) → Lists I.contract.steps it.old l
+        → result ≡ folded (λ e. e) (λ done _. Ok done) tt l }
 {
     let mut left = (*it).number();
     while let Some(_) = it.draw()? {
@@ -82,7 +89,13 @@ pub fn sum_of_halves_up_to_zero(readings: Vec<Result<u32, u8>>) -> Result<u64, u
 }
 
 /// The sum of the first two readings above 100, and the one after them. The two are taken of a borrow, so the rest may still be drawn.
-pub fn two_and_the_next(readings: Vec<Result<u32, u8>>) -> Result<(u32, Option<u32>), u8> {
+pub fn two_and_the_next(readings: Vec<Result<u32, u8>>) -> Result<(u32, Option<u32>), u8>
+    ensures { let l : List (Result ℕ ℕ) = filtered (λ r. Ok (nat_lt 100 r))
+        (results readings.items) in (sum last : ℕ) (next : Option ℕ)
+        → folded (λ e. e) (λ s x. Ok ((s + x) % 2 ^ 32)) 0 (taken 2 l) ≡ Ok sum
+        → nth_of 1 l ≡ Ok (Some last) → nth_of 0 (behind_nth 1 l) ≡ Ok next
+        → result ≡ Ok (sum, next) }
+{
     let mut above = convert(readings.into_iter()).filter(|reading| Ok(*reading > 100));
     let sum: Result<u32, u8> = (&mut above)
         .take(2)
@@ -96,6 +109,8 @@ pub fn after_three<I: FallibleIterator>(it: &mut I) -> Result<Option<I::Item>, I
 where
     I::Item: Drop,
     requires { I.contract.can_next it.old }
+    ensures { (l : List (Result I.Item I.Error)) (x : I.Item) → Lists I.contract.steps it.old l
+        → nth_of 2 l ≡ Ok (Some x) → result ≡ nth_of 0 (behind_nth 2 l) }
 {
     (&mut *it).take(3).nth(2)?;
     it.draw()
