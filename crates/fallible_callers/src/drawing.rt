@@ -1,5 +1,5 @@
 //! Draws by hand.
-ghost use Rattle.std.specs.Prelude.{◌≡◌, ◌+◌, ◌*◌, ◌/◌, ◌%◌, ◌^◌, ℕ, List, ◌∷◌, Result, Option, Ok, Some, None, nat_lt, if◌then◌else◌};
+ghost use Rattle.std.specs.Prelude.{◌≡◌, ◌+◌, ◌*◌, ◌/◌, ◌%◌, ◌^◌, ℕ, List, ◌∷◌, Result, Option, Ok, Some, nat_lt};
 ghost use Rattle.fallible_iterator.specs.Lists.{Lists, behind_first, behind_nth, filtered, folded, mapped, nth_of, results, taken, taken_while};
 
 use fallible_iterator::{FallibleIterator, convert};
