@@ -16,7 +16,10 @@ use fallible_callers::consuming::{
     last_above_100, least_double_above_1000, parted_at_100, place_above_100, sum_of_some,
     two_columns,
 };
-use fallible_callers::drawing::{draw_all, second_if_above, third_draw, third_of};
+use fallible_callers::drawing::{
+    after_three, draw_all, second_if_above, sum_of_halves_up_to_zero, sum_up_to_zero, third_draw,
+    third_of, two_and_the_next,
+};
 use fallible_callers::generic::{mean, mean_of_nest, sum_of_nest};
 use fallible_callers::ranges::{count_and_sum, runs, sum_below};
 use fallible_callers::reading::{Bytes, LineFault, ReadFailed, newlines_of_three, sum_of_lines};
@@ -104,6 +107,34 @@ fn places_of_items(rt: HostRuntime) -> Result<(), Fail> {
     );
     assert_eq!(rt; second_if_above(good_readings(rt.alloc())?), Ok(Some(600)));
     assert_eq!(rt; second_if_above(readings(rt.alloc())?), Ok(None));
+    Ok(())
+}
+
+#[test]
+fn sums_up_to_zero(rt: HostRuntime) -> Result<(), Fail> {
+    let stopped: Vec<Result<u32, u8>> = Vec::from_array(
+        rt.alloc(),
+        [Ok(5), Ok(6), Ok(0), Err(9), Ok(7)],
+    )?;
+    let failing: Vec<Result<u32, u8>> = Vec::from_array(rt.alloc(), [Ok(5), Err(9), Ok(0)])?;
+    let ending: Vec<Result<u32, u8>> = Vec::from_array(rt.alloc(), [Ok(5), Ok(6)])?;
+    let halved = Vec::from_array(rt.alloc(), [Ok(9), Ok(300), Ok(7), Ok(1), Err(9), Ok(4)])?;
+    assert_eq!(rt; sum_up_to_zero(convert(stopped.into_iter())), Ok(11));
+    assert_eq!(rt; sum_up_to_zero(convert(failing.into_iter())), Err(9));
+    assert_eq!(rt; sum_up_to_zero(convert(ending.into_iter())), Ok(11));
+    assert_eq!(rt; sum_up_to_zero(empty::<u32, u8>()), Ok(0));
+    assert_eq!(rt; sum_of_halves_up_to_zero(halved), Ok(7));
+    Ok(())
+}
+
+#[test]
+fn what_a_borrow_leaves(rt: HostRuntime) -> Result<(), Fail> {
+    let mut left = convert(readings(rt.alloc())?.into_iter());
+    assert_eq!(rt; after_three(&mut left), Ok(Some(150)));
+    assert_eq!(rt;
+        two_and_the_next(readings(rt.alloc())?),
+        Ok((701, Some(150)))
+    );
     Ok(())
 }
 

@@ -1,9 +1,11 @@
--- It may be drawn from, and some bound is at most the one that is counted down.
-use Rattle.std.proofs.Common.{ℕ, ◌≤◌}
+-- A bound is counted down, and what the whole answers is what the rest answers from here.
+use Rattle.std.specs.Prelude.{Ok}
+use Rattle.fallible_iterator.specs.Lists.{folded}
+use Rattle.fallible_callers.proofs.Loops.{CountsDown, AnswersFromHere}
 use Rattle.fallible_callers.proofs.drawing.draw_all.Given as goal
 
 abbrev pub invariant-loop-left : goal.invariant-loop-left
-invariant-loop-left g l = let m = g.I.FallibleIterator.contract in m.can_next l.it × ((n : ℕ) × m.bound l.it n × (n ≤ l.left.value))
+invariant-loop-left g l = let m = g.I.FallibleIterator.contract in CountsDown m l.it l.left.value × AnswersFromHere m.steps (λ done rest. folded (λ e. e) (λ done _. Ok done) done rest) l.fn.it (tt {0}) l.it (tt {0})
 
 abbrev pub decreases-loop-left : goal.decreases-loop-left
 decreases-loop-left g l = l.left.value

@@ -1,0 +1,113 @@
+-- What a `take` of a borrow leaves the lender.
+use Rattle.std.specs.Prelude.{◌≡◌, ℕ, zero, suc, ◌<◌, length, List, [], ◌∷◌, ◌++◌, map, Result, Option, Some, None, Ok, Err}
+use Rattle.std.specs.Borrow.{MutBor}
+use Rattle.std.proofs.Common.{refl, ap, subst, arith, length-append, ◌⊎◌, inl, inr}
+use Rattle.fallible_iterator.specs.Traces.{Answered, Run, item, end}
+use Rattle.fallible_iterator.specs.Contract.{Contract, seen_as, unbounded_contract}
+use Rattle.fallible_iterator.specs.Folds.{Folded, FoldExit, Nth, NthExit}
+use Rattle.fallible_iterator.specs.Lists.{AlwaysGives, Lists, nth_of, behind_nth, taken}
+use Rattle.fallible_iterator.specs.Borrowed.{borrowed}
+use Rattle.fallible_iterator.specs.Cutting.Take.{take_parts, take_contract}
+use Rattle.fallible_core.proofs.Lemmas.Borrowed.{run_behind, lists_borrowed}
+use Rattle.fallible_core.proofs.Lemmas.Callers.{TakenRun, taken_run}
+use Rattle.fallible_core.specs.declared.cutting.take.Take.{Take}
+
+module _ {S A E : Type 0} (steps : S → Answered A E → S → Type 0) where
+  -- what is given behind k + 1 items
+  items_behind : (xs : List A) (k : ℕ) (l : List (Result A E)) (s t : S) → length xs ≡ suc k → AlwaysGives steps s l → Run steps s (map item xs) t → AlwaysGives steps t (behind_nth k l)
+  unfolding behind_nth
+  items_behind [] k l s t len a ran = absurd (omega (arith, len))
+  items_behind (x ∷ xs) k [] s t len a ran = absurd (let h = a (Ok (Some x)) ran.0 ran.1 in cc)
+  items_behind (x ∷ xs) k (Err e ∷ l) s t len a ran = absurd (let h = (a (Ok (Some x)) ran.0 ran.1).0 in cc)
+  items_behind (x ∷ []) zero (Ok y ∷ l) s t len a ran = subst (λ (u : S). AlwaysGives steps u l) ran.2 (a (Ok (Some x)) ran.0 ran.1).1
+  items_behind (x ∷ []) (suc k) (Ok y ∷ l) s t len a ran = absurd (omega (arith, len))
+  items_behind (x ∷ z ∷ xs) zero (Ok y ∷ l) s t len a ran = absurd (omega (arith, len))
+  items_behind (x ∷ z ∷ xs) (suc k) (Ok y ∷ l) s t len a ran = items_behind (z ∷ xs) k l ran.0 t (omega (arith, len)) (a (Ok (Some x)) ran.0 ran.1).1 ran.2
+
+  -- an end after at most k items
+  ends_before : (xs : List A) (k : ℕ) (l : List (Result A E)) (s t : S) → length xs < suc k → AlwaysGives steps s l → Run steps s (map item xs ++ end ∷ []) t → nth_of k l ≡ Ok None
+  unfolding nth_of
+  ends_before xs zero [] s t few a ran = refl
+  ends_before xs (suc k) [] s t few a ran = refl
+  ends_before [] k (Ok y ∷ l) s t few a ran = absurd (let h = (a (Ok None) ran.0 ran.1).0 in cc)
+  ends_before [] k (Err e ∷ l) s t few a ran = absurd (let h = (a (Ok None) ran.0 ran.1).0 in cc)
+  ends_before (x ∷ xs) zero (Ok y ∷ l) s t few a ran = absurd (omega (arith, few))
+  ends_before (x ∷ xs) (suc k) (Ok y ∷ l) s t few a ran = ends_before xs k l ran.0 t (omega (arith, few)) (a (Ok (Some x)) ran.0 ran.1).1 ran.2
+  ends_before (x ∷ xs) k (Err e ∷ l) s t few a ran = absurd (let h = (a (Ok (Some x)) ran.0 ran.1).0 in cc)
+
+  left_behind : (xs : List A) (k : ℕ) (l : List (Result A E)) (s t : S) → AlwaysGives steps s l → ¬ (nth_of k l ≡ Ok None) → (Run steps s (map item xs ++ end ∷ []) t × (length xs < suc k)) ⊎ (Run steps s (map item xs) t × (length xs ≡ suc k)) → AlwaysGives steps t (behind_nth k l)
+  left_behind xs k l s t a no_end (inl d) = absurd (no_end (ends_before xs k l s t d.1 a d.0))
+  left_behind xs k l s t a no_end (inr d) = items_behind xs k l s t d.1 a d.0
+
+more : {A : Type 0} (xs : List A) (y : A) (k : ℕ) → length xs ≡ k → length (xs ++ y ∷ []) ≡ suc k
+more xs y k len = omega (arith, length-append xs (y ∷ []), len)
+
+module _ {A E : Type 0} where
+  joined : (xs : List A) (y : A) → ◌≡◌ {A = List (Answered A E)} (map item xs ++ Ok (Some y) ∷ []) (map item (xs ++ y ∷ []))
+  joined [] y = refl
+  joined (x ∷ xs) y = ap {B = List (Answered A E)} (λ l. item x ∷ l) (joined xs y)
+
+module _ {S A E : Type 0} (m : Contract S A E) where
+  of_lender : (xs : List A) (k : ℕ) (s t : MutBor S) → TakenRun (borrowed m).steps (suc k) s xs end t → (Run m.steps s.now (map item xs ++ end ∷ []) t.now × (length xs < suc k)) ⊎ (Run m.steps s.now (map item xs) t.now × (length xs ≡ suc k))
+  of_lender xs k s t (inl d) = inl (run_behind m.steps (map item xs ++ end ∷ []) s t d.0, d.1)
+  of_lender xs k s t (inr d) = inr (run_behind m.steps (map item xs) s t d.0, d.2)
+
+module _ {S A E : Type 0} (m : Contract S A E) (k : ℕ) (l : List (Result A E)) (it t : MutBor S) (xs : List A) where
+  -- what an `nth` of k leaves, that came to an item
+  item_behind : (o : Option A) → NthExit {A = A} {E = E} k (length xs) (Ok o) → ¬ (nth_of k l ≡ Ok None) → AlwaysGives m.steps it.now l → TakenRun (borrowed m).steps (suc k) it xs (Ok o) t → AlwaysGives m.steps t.now (behind_nth k l)
+  item_behind (Some y) exit no_end a (inl d) = items_behind m.steps (xs ++ y ∷ []) k l it.now t.now (more xs y k exit) a (subst (λ (z : List (Answered A E)). Run m.steps it.now z t.now) (joined xs y) (run_behind m.steps (map item xs ++ Ok (Some y) ∷ []) it t d.0))
+  item_behind (Some y) exit no_end a (inr d) = absurd (let h = d.1 in cc)
+  item_behind None exit no_end a (inl d) = absurd (no_end (ends_before m.steps xs k l it.now t.now d.1 a (run_behind m.steps (map item xs ++ end ∷ []) it t d.0)))
+  item_behind None exit no_end a (inr d) = absurd (let all = d.2 in omega (arith, all, exit))
+
+last_is_end : {A B E E' F : Type 0} (call : F → B → A → Result B E' → F → Type 0) (from : E → E' → Type 0) (b : B) (f : F) (last : Answered A E) (v : B) → FoldExit call from b f last (Ok v) → last ≡ end
+last_is_end call from b f (Ok None) v exit = refl
+last_is_end call from b f (Err e) v exit = absurd (let h = exit.2 in cc)
+last_is_end call from b f (Ok (Some x)) v exit = absurd (let h = exit.2 in cc)
+
+-- the steps of `take` of a borrow of what steps so
+abbrev pub lent_steps : {S A E : Type 0} → (S → Answered A E → S → Type 0) → Take (MutBor S) → Answered A E → Take (MutBor S) → Type 0
+lent_steps steps = (seen_as take_parts (take_contract (borrowed (unbounded_contract steps)))).steps
+
+-- A borrow lists what the lender does.
+pub lists_lent : {S A E : Type 0} {steps : S → Answered A E → S → Type 0} {it : MutBor S} {l : List (Result A E)} → Lists steps it.now l → Lists (λ (s : MutBor S) (r : Answered A E) (t : MutBor S). steps s.now r t.now × (t.ghost_name ≡ s.ghost_name)) it l
+lists_lent {steps = steps} {it = it} {l = l} i = lists_borrowed (unbounded_contract steps) it l i
+
+-- After a fold over `take(k + 1)` of a borrow that came to its end, the lender lists what stands behind its first k + 1 items, where it has so many.
+pub behind_lent : {S A B E E' F : Type 0} {steps : S → Answered A E → S → Type 0} {it : MutBor S} {s t : Take (MutBor S)} {call : F → B → A → Result B E' → F → Type 0} {from : E → E' → Type 0} {b v : B} {f : F} {x : S} (k : ℕ) {l : List (Result A E)} → x ≡ t.it.now → take_parts s ≡ (it, suc k) → Folded (lent_steps steps) call from s b f (Ok v) t → Lists steps it.now l → ¬ (nth_of k l ≡ Ok None) → Lists steps x (behind_nth k l)
+behind_lent {S = S} {A = A} {E = E} {steps = steps} {it = it} {s = s} {t = t} {call = call} {from = from} {v = v} {x = x} k {l = l} back parts h i no_end =
+    let m : Contract S A E = unbounded_contract steps in
+    let ended : h.last ≡ end = last_is_end call from h.value h.closure h.last v h.exit in
+    let ran : Run (lent_steps steps) s (map item h.items ++ end ∷ []) t = subst (λ (r : Answered A E). Run (lent_steps steps) s (map item h.items ++ r ∷ []) t) ended h.ran in
+    let left : Lists steps t.it.now (behind_nth k l) = record { runs = left_behind steps h.items k l it.now t.it.now i.runs no_end (of_lender m h.items k it t.it (taken_run (borrowed m) (suc k) it s t h.items end parts ran)) } in
+    rw back left
+
+module _ {A E : Type 0} where
+  pub nth_taken : (n : ℕ) (l : List (Result A E)) → nth_of n (taken (suc n) l) ≡ nth_of n l
+  unfolding nth_of taken
+  nth_taken zero [] = refl
+  nth_taken (suc n) [] = refl
+  nth_taken zero (Ok x ∷ l) = refl
+  nth_taken (suc n) (Ok x ∷ l) = nth_taken n l
+  nth_taken zero (Err e ∷ l) = refl
+  nth_taken (suc n) (Err e ∷ l) = refl
+
+-- The same after `nth(k)` over it, which came to an item.
+pub behind_lent_nth : {S A E : Type 0} {steps : S → Answered A E → S → Type 0} {it : MutBor S} {s t : Take (MutBor S)} {o : Option A} {x : S} (k : ℕ) {l : List (Result A E)} → x ≡ t.it.now → take_parts s ≡ (it, suc k) → Nth (lent_steps steps) s k (Ok o) t → Lists steps it.now l → ¬ (nth_of k l ≡ Ok None) → Lists steps x (behind_nth k l)
+behind_lent_nth {steps = steps} {it = it} {s = s} {t = t} {o = o} {x = x} k {l = l} back parts h i no_end =
+    let left : Lists steps t.it.now (behind_nth k l) = record { runs = item_behind (unbounded_contract steps) k l it t.it h.skipped o h.exit no_end i.runs (taken_run (borrowed (unbounded_contract steps)) (suc k) it s t h.skipped (Ok o) parts h.ran) } in
+    rw back left
+
+-- ---- what a result says
+
+module _ {X E : Type 0} {r v : Result X E} {b : X} where
+  -- a failure is no value
+  pub no_failure : {e : E} → r ≡ Err e → r ≡ v → v ≡ Ok b → ⊥
+  no_failure is same value = cc
+
+  -- one result has one value
+  pub one_value : {a : X} → r ≡ Ok a → r ≡ v → v ≡ Ok b → a ≡ b
+  one_value is same value = cc
+
+pub both : {X Y E : Type 0} {a c : X} {b d : Y} → a ≡ c → b ≡ d → ◌≡◌ {A = Result (X × Y) E} (Ok (a, b)) (Ok (c, d))
+both e h = cc

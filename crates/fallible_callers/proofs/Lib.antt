@@ -1,0 +1,3 @@
+-- What the proofs of several callers cite.
+pub mod Loops
+pub mod Lent

@@ -1,0 +1,57 @@
+-- Loops by hand over draws: what their invariants say, and what each turn and each exit makes of it.
+use Rattle.std.specs.Prelude.{◌≡◌, ℕ, ◌≤◌, List, [], ◌∷◌, Result, Some, None, Ok, Err}
+use Rattle.std.proofs.Common.{refl, sym, ap, ◌∙◌}
+use Rattle.fallible_iterator.specs.Traces.{Answered}
+use Rattle.fallible_iterator.specs.Contract.{Contract}
+use Rattle.fallible_iterator.specs.Lists.{AlwaysGives, Lists}
+
+-- It may be drawn from, and some bound of it is at most the number that is counted down.
+abbrev pub CountsDown : {S A E : Type 0} → Contract S A E → S → ℕ → Type 0
+CountsDown m s left = m.can_next s × ((n : ℕ) × m.bound s n × (n ≤ left))
+
+module _ {S A E B R : Type 0} where
+  -- What the whole that s0 lists answers from the value b0 on is what the rest that s lists answers from b on.
+  pub record AnswersFromHere (steps : S → Answered A E → S → Type 0) (answers : B → List (Result A E) → R) (s0 : S) (b0 : B) (s : S) (b : B) : Type 0 where
+    pub at : (whole : List (Result A E)) → Lists steps s0 whole → (rest : List (Result A E)) × Lists steps s rest × (answers b0 whole ≡ answers b rest)
+
+  -- before the first turn
+  pub begins : {steps : S → Answered A E → S → Type 0} {answers : B → List (Result A E) → R} {s : S} {b : B} → AnswersFromHere steps answers s b s b
+  begins = record { at = λ whole i. (whole, i, refl) }
+
+  module _ (steps : S → Answered A E → S → Type 0) (answers : B → List (Result A E) → R) (s t : S) (b : B) (r : Answered A E) (drawn : steps s r t) where
+    item_on : (x : A) (c : B) (v : R) (rest : List (Result A E)) → r ≡ Ok (Some x) → ((l : List (Result A E)) → answers b (Ok x ∷ l) ≡ answers c l) → AlwaysGives steps s rest → v ≡ answers b rest → (l : List (Result A E)) × Lists steps t l × (v ≡ answers c l)
+    item_on x c v [] is same i e = absurd (let h = i r t drawn in cc)
+    item_on x c v (Ok y ∷ l) is same i e = let h = i r t drawn in let at : y ≡ x = (let q = h.0 in cc) in (l, record { runs = h.1 }, e ∙ ap (λ z. answers b (Ok z ∷ l)) at ∙ same l)
+    item_on x c v (Err y ∷ l) is same i e = absurd (let h = (i r t drawn).0 in cc)
+
+    item_decides : (x : A) (v : R) (rest : List (Result A E)) → r ≡ Ok (Some x) → ((l : List (Result A E)) → v ≡ answers b (Ok x ∷ l)) → AlwaysGives steps s rest → v ≡ answers b rest
+    item_decides x v [] is same i = absurd (let h = i r t drawn in cc)
+    item_decides x v (Ok y ∷ l) is same i = let at : x ≡ y = (let q = (i r t drawn).0 in cc) in same l ∙ ap (λ z. answers b (Ok z ∷ l)) at
+    item_decides x v (Err y ∷ l) is same i = absurd (let h = (i r t drawn).0 in cc)
+
+    failure_decides : (e : E) (v : R) (rest : List (Result A E)) → r ≡ Err e → ((l : List (Result A E)) → v ≡ answers b (Err e ∷ l)) → AlwaysGives steps s rest → v ≡ answers b rest
+    failure_decides e v [] is same i = absurd (let h = i r t drawn in cc)
+    failure_decides e v (Ok y ∷ l) is same i = absurd (let h = (i r t drawn).0 in cc)
+    failure_decides e v (Err d ∷ l) is same i = let at : e ≡ d = (let q = (i r t drawn).0 in cc) in same l ∙ ap (λ z. answers b (Err z ∷ l)) at
+
+    end_decides : (v : R) (rest : List (Result A E)) → r ≡ Ok None → v ≡ answers b [] → AlwaysGives steps s rest → v ≡ answers b rest
+    end_decides v [] is same i = same
+    end_decides v (Ok y ∷ l) is same i = absurd (let h = (i r t drawn).0 in cc)
+    end_decides v (Err y ∷ l) is same i = absurd (let h = (i r t drawn).0 in cc)
+
+  module _ {steps : S → Answered A E → S → Type 0} {answers : B → List (Result A E) → R} {s0 s t : S} {b0 b : B} {r : Answered A E} where
+    -- after an item on which the loop goes on with the value c
+    pub goes_on : (x : A) {c : B} → AnswersFromHere steps answers s0 b0 s b → steps s r t → r ≡ Ok (Some x) → ((l : List (Result A E)) → answers b (Ok x ∷ l) ≡ answers c l) → AnswersFromHere steps answers s0 b0 t c
+    goes_on x {c = c} here drawn is same = record { at = λ whole i. let k = here.at whole i in item_on steps answers s t b r drawn x c _ k.0 is same k.1.runs k.2 }
+
+    -- at an item at which the loop is left with v
+    pub stops : (x : A) {v : R} → AnswersFromHere steps answers s0 b0 s b → steps s r t → r ≡ Ok (Some x) → ((l : List (Result A E)) → v ≡ answers b (Ok x ∷ l)) → (whole : List (Result A E)) → Lists steps s0 whole → v ≡ answers b0 whole
+    stops x {v = v} here drawn is same whole i = let k = here.at whole i in item_decides steps answers s t b r drawn x v k.0 is same k.1.runs ∙ sym k.2
+
+    -- at a failure, with which the loop is left
+    pub fails : (e : E) {v : R} → AnswersFromHere steps answers s0 b0 s b → steps s r t → r ≡ Err e → ((l : List (Result A E)) → v ≡ answers b (Err e ∷ l)) → (whole : List (Result A E)) → Lists steps s0 whole → v ≡ answers b0 whole
+    fails e {v = v} here drawn is same whole i = let k = here.at whole i in failure_decides steps answers s t b r drawn e v k.0 is same k.1.runs ∙ sym k.2
+
+    -- at the end
+    pub ends : {v : R} → AnswersFromHere steps answers s0 b0 s b → steps s r t → r ≡ Ok None → v ≡ answers b [] → (whole : List (Result A E)) → Lists steps s0 whole → v ≡ answers b0 whole
+    ends {v = v} here drawn is same whole i = let k = here.at whole i in end_decides steps answers s t b r drawn v k.0 is same k.1.runs ∙ sym k.2
