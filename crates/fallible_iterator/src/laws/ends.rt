@@ -16,11 +16,11 @@ ghost use Rattle.fallible_core.specs.OneToOne.MapErr.{MapErrTrace, map_err_parts
 ghost use Rattle.fallible_core.specs.Filtering.FilterMap.{FilterMapTrace, filter_map_parts};
 ghost use Rattle.fallible_core.specs.Joining.Chain.{chain_behind, chain_parts, ChainTrace};
 ghost use Rattle.fallible_core.specs.Ends.Rev.{rev_parts};
-ghost use Rattle.fallible_iterator.specs.Listing.{DrawsInterleave, DrawsTheSame, ListsTheSame};
+ghost use Rattle.fallible_iterator.specs.Listing.{DrawsInterleave, DrawsTheSame, ListsAtEachEnd, ListsTheSame};
 ghost use Rattle.fallible_contract.specs.declared.answers.Side.{Side};
 ghost use Rattle.fallible_contract.specs.declared.answers.Side.TheVariants.{Front, Back};
 
-use super::listed::{law_listed_filter, law_listed_map, law_listed_rev};
+use super::listed::{law_listed_each, law_listed_filter, law_listed_map, law_listed_rev};
 use fallible_core::ends::Rev;
 use fallible_core::filtering::{Filter, FilterMap};
 use fallible_core::joining::Chain;
@@ -86,7 +86,7 @@ where
     law_interleave::<Rev<Filter<Map<I, F>, G>>>();
 }
 
-/// What both ends list, draw by draw: a draw from the front takes the first of it, and a draw from behind the last.
+/// What both ends list, draw by draw: a draw from the front takes the first of it, and a draw from behind the last; and each end lists it.
 pub fn law_draws<I: DoubleEndedFallibleIterator>()
     ensures front { (s t : I) (r : Answered I.Item I.Error) (y : Result I.Item I.Error)
         (l : List (Result I.Item I.Error))
@@ -96,7 +96,10 @@ pub fn law_draws<I: DoubleEndedFallibleIterator>()
         (l : List (Result I.Item I.Error))
         → ListsBothEnds I.contract.steps I.ends.steps s (l ++ y ∷ []) → I.ends.steps s r t
         → (r ≡ result_answer y) × ListsBothEnds I.contract.steps I.ends.steps t l }
-{}
+    ensures each_end { ListsAtEachEnd I.contract.steps I.ends.steps }
+{
+    law_listed_each::<I>();
+}
 
 /// After draws from the front, as those of a search, a value that may be drawn from both ends still may be; and `nth` leaves what stands behind the item, of what both ends list.
 pub fn law_after_front<I: DoubleEndedFallibleIterator>()

@@ -133,48 +133,69 @@ pub fn law_listed_each<I: DoubleEndedFallibleIterator>()
     ensures { ListsAtEachEnd I.contract.steps I.ends.steps }
 {}
 
-// ---- what an adapter lists from behind, from what its source lists from behind: a value is shown to the law, which says it of that one
+// ---- the same of one value, which is shown to the law, so that no type need be named; and what it lists from behind, from what its source lists from behind
 
-/// From behind `Map` lists what its closure answers on each item that its source lists from behind, in the item's place.
-pub fn law_behind_map<I: DoubleEndedFallibleIterator, B, F: FnMut(I::Item) -> Result<B, I::Error>>(
+/// A `Map` lists, from both ends and from behind, what its closure answers on each item that its source lists there, in the item's place.
+pub fn law_lists_map<I: DoubleEndedFallibleIterator, B, F: FnMut(I::Item) -> Result<B, I::Error>>(
     s: &Map<I, F>,
 )
 where
-    ensures { (it : I) (f : F) (h : I.Item → Result B I.Error) (l : List (Result I.Item I.Error))
+    ensures both { (it : I) (f : F) (h : I.Item → Result B I.Error)
+        (l : List (Result I.Item I.Error))
+        → map_parts s.now ≡ (it, Some f) → Acts (call_on F.FnMut) f h
+        → ListsBothEnds I.contract.steps I.ends.steps it l
+        → ListsBothEnds ⟦<Map<I, F> as FallibleIterator>⟧.contract.steps
+        ⟦<Map<I, F> as DoubleEndedFallibleIterator>⟧.ends.steps s.now (mapped h l) }
+    ensures behind { (it : I) (f : F) (h : I.Item → Result B I.Error)
+        (l : List (Result I.Item I.Error))
         → map_parts s.now ≡ (it, Some f) → Acts (call_on F.FnMut) f h
         → Lists I.ends.steps it l
         → Lists ⟦<Map<I, F> as DoubleEndedFallibleIterator>⟧.ends.steps s.now (mapped h l) }
-{}
+{
+    law_listed_map::<I, B, F>();
+}
 
-/// From behind `Filter` lists what its source lists from behind without the items refused, with the predicate's failure in the place of each item on which it failed.
-pub fn law_behind_filter<
+/// A `Filter` lists, from both ends and from behind, what its source lists there without the items refused, with the predicate's failure in the place of each item on which it failed.
+pub fn law_lists_filter<
     I: DoubleEndedFallibleIterator,
     F: FnMut(&I::Item) -> Result<bool, I::Error>,
->(
-    s: &Filter<I, F>,
-)
+>(s: &Filter<I, F>)
 where
     I::Item: Drop,
-    ensures { (it : I) (f : F) (h : I.Item → Result Bool I.Error)
+    ensures both { (it : I) (f : F) (h : I.Item → Result Bool I.Error)
+        (l : List (Result I.Item I.Error))
+        → filter_parts s.now ≡ (it, Some f) → Acts (call_at F.FnMut) f h
+        → ListsBothEnds I.contract.steps I.ends.steps it l
+        → ListsBothEnds ⟦<Filter<I, F> as FallibleIterator>⟧.contract.steps
+        ⟦<Filter<I, F> as DoubleEndedFallibleIterator>⟧.ends.steps s.now (filtered h l) }
+    ensures behind { (it : I) (f : F) (h : I.Item → Result Bool I.Error)
         (l : List (Result I.Item I.Error))
         → filter_parts s.now ≡ (it, Some f) → Acts (call_at F.FnMut) f h
         → Lists I.ends.steps it l
         → Lists ⟦<Filter<I, F> as DoubleEndedFallibleIterator>⟧.ends.steps s.now
         (filtered h l) }
-{}
+{
+    law_listed_filter::<I, F>();
+}
 
-/// From behind `Chain` lists what its second lists from behind, and then what its first does.
-pub fn law_behind_chain<
+/// A `Chain` lists from both ends what its first lists and then what its second does, and from behind what its second lists there and then what its first does.
+pub fn law_lists_chain<
     T: DoubleEndedFallibleIterator,
     U: DoubleEndedFallibleIterator<Item = T::Item, Error = T::Error>,
->(
-    s: &Chain<T, U>,
-)
-    ensures { (t : T) (u : U) (a b : List (Result T.Item T.Error))
+>(s: &Chain<T, U>)
+    ensures both { (t : T) (u : U) (a b : List (Result T.Item T.Error))
+        → chain_parts s.now ≡ (t, u, Both)
+        → ListsBothEnds T.contract.steps T.ends.steps t a
+        → ListsBothEnds U.contract.steps U.ends.steps u b
+        → ListsBothEnds ⟦<Chain<T, U> as FallibleIterator>⟧.contract.steps
+        ⟦<Chain<T, U> as DoubleEndedFallibleIterator>⟧.ends.steps s.now (chained a b) }
+    ensures behind { (t : T) (u : U) (a b : List (Result T.Item T.Error))
         → chain_parts s.now ≡ (t, u, Both)
         → Lists T.ends.steps t a → Lists U.ends.steps u b
         → Lists ⟦<Chain<T, U> as DoubleEndedFallibleIterator>⟧.ends.steps s.now (chained b a) }
-{}
+{
+    law_listed_chain::<T, U>();
+}
 
 // ---- all together
 

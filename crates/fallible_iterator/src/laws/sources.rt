@@ -15,7 +15,6 @@ ghost use Rattle.fallible_iterator.specs.Sources.Repeat.{RepeatTrace, repeat_par
 ghost use Rattle.fallible_iterator.specs.Sources.RepeatErr.{RepeatErrTrace, repeat_err_parts};
 ghost use Rattle.fallible_iterator.specs.Sources.Once.{once_parts};
 ghost use Rattle.fallible_iterator.specs.Sources.OnceErr.{once_err_parts};
-
 ghost use Rattle.std.specs.declared.vec.IntoIter.{IntoIter};
 ghost use Rattle.std.specs.declared.alloc.Global.{Global};
 ghost use Rattle.fallible_iterator.specs.declared.sources.convert.Convert.{Convert};
@@ -69,7 +68,13 @@ pub fn law_listed_convert<T, E, I: std::iter::DoubleEndedIterator<Item = Result<
 
 /// `Convert` of a vector's iterator lists from both ends what is left of the vector.
 pub fn law_listed_vec<T: Drop, E: Drop>()
-    ensures { (s : Convert (IntoIter (Result T E) Global)) (l : List (Result T E))
+    ensures listed { (s : Convert (IntoIter (Result T E) Global)) (l : List (Result T E))
+        → into_iter_items (convert_parts s) ≡ l
+        → ListsBothEnds
+        ⟦<Convert<vec::IntoIter<Result<T, E>, Global>> as FallibleIterator>⟧.contract.steps
+        ⟦<Convert<vec::IntoIter<Result<T, E>, Global>> as DoubleEndedFallibleIterator>⟧.ends.steps
+        s l }
+    ensures results { (s : Convert (IntoIter (Result T E) Global)) (l : List (Result T E))
         → into_iter_items (convert_parts s) ≡ l
         → ListsBothEnds
         ⟦<Convert<vec::IntoIter<Result<T, E>, Global>> as FallibleIterator>⟧.contract.steps

@@ -25,5 +25,9 @@ module _ {X Z : Type 0} where
 listed_as : {S A E : Type 0} {front back : S → Answered A E → S → Type 0} {s : S} {k l : List (Result A E)} → k ≡ l → ListsBothEnds front back s (results k) → ListsBothEnds front back s (results l)
 listed_as {front = front} {back = back} {s = s} same i = subst (λ (j : List _). ListsBothEnds front back s (results j)) same i
 
-pub returns : goal.returns
-returns g c s l same = listed_as same (c.law_listed_convert.ensures.rest into_iter_items first last s)
+pub returns-clause-results : goal.returns-clause-results
+returns-clause-results g c s l same = listed_as same (c.law_listed_convert.ensures.rest into_iter_items first last s)
+
+pub returns-clause-listed : goal.returns-clause-listed
+unfolding results
+returns-clause-listed g c s l same = returns-clause-results g c s l same
