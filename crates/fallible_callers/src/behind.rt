@@ -1,5 +1,5 @@
 //! Draws from behind.
-ghost use Rattle.std.specs.Prelude.{eqb, ◌*◌, ◌-◌, ◌≤◌, nat_lt, not, reverse, ◌≡◌, ℕ, ◌+◌, ◌++◌, ◌%◌, ◌^◌, [], ◌∷◌, List, Result, Ok, Option, Some};
+ghost use Rattle.std.specs.Prelude.{eqb, ◌*◌, nat_lt, not, reverse, ◌≡◌, ℕ, ◌+◌, ◌++◌, ◌%◌, ◌^◌, [], ◌∷◌, List, Result, Ok, Option, Some};
 ghost use Rattle.std.specs.Vec.Iter.{into_iter_items};
 ghost use Rattle.fallible_iterator.specs.Side.{Side};
 ghost use Rattle.fallible_iterator.specs.Traces.{Answered};
@@ -11,7 +11,10 @@ ghost use Rattle.std.specs.declared.vec.IntoIter.{IntoIter};
 ghost use Rattle.std.specs.declared.alloc.Global.{Global};
 ghost use Rattle.fallible_iterator.specs.declared.sources.convert.Convert.{Convert};
 
-use fallible_iterator::laws::{answers_at, law_after_front, law_back_convert, law_draws, law_interleave, law_listed_convert, law_listed_vec, law_lists_filter, law_lists_map};
+use fallible_iterator::laws::{
+    answers_at, law_after_front, law_back_convert, law_draws, law_interleave, law_listed_vec,
+    law_lists_filter, law_lists_map,
+};
 use fallible_iterator::{
     Answer, Convert, DoubleEndedFallibleIterator, FallibleIterator, Fault, Side, convert,
 };
@@ -137,7 +140,7 @@ pub fn law_readings()
         ⟦<Convert<std::vec::IntoIter<Result<u32, u8>, Global>> as DoubleEndedFallibleIterator>⟧.ends.steps
         (results (into_iter_items (convert_parts s))) s drawn t }
 {
-    law_listed_convert::<u32, u8, std::vec::IntoIter<Result<u32, u8>, Global>>();
+    law_listed_vec::<u32, u8>();
     law_interleave::<Convert<std::vec::IntoIter<Result<u32, u8>, Global>>>();
 }
 
