@@ -1,17 +1,20 @@
 //! Draws from behind.
-ghost use Rattle.std.specs.Prelude.{◌≡◌, ℕ, ◌+◌, ◌++◌, ◌%◌, ◌^◌, [], ◌∷◌, List, Result, Ok, Option, Some};
+ghost use Rattle.std.specs.Prelude.{eqb, ◌*◌, nat_lt, not, reverse, ◌≡◌, ℕ, ◌+◌, ◌++◌, ◌%◌, ◌^◌, [], ◌∷◌, List, Result, Ok, Option, Some};
 ghost use Rattle.std.specs.Vec.Iter.{into_iter_items};
 ghost use Rattle.fallible_iterator.specs.Side.{Side};
 ghost use Rattle.fallible_iterator.specs.Traces.{Answered};
 ghost use Rattle.fallible_iterator.specs.BothEnds.{ListsBothEnds};
-ghost use Rattle.fallible_iterator.specs.Lists.{results, reversed, folded, CollectedAs};
+ghost use Rattle.fallible_iterator.specs.Lists.{results, reversed, folded, counted, behind_true, behind_first, behind_nth, found, nth_of, mapped, filtered, skipped_while, CollectedAs};
 ghost use Rattle.fallible_iterator.specs.Listing.{DrawsInterleave};
 ghost use Rattle.fallible_iterator.specs.Sources.Convert.{convert_parts};
 ghost use Rattle.std.specs.declared.vec.IntoIter.{IntoIter};
 ghost use Rattle.std.specs.declared.alloc.Global.{Global};
 ghost use Rattle.fallible_iterator.specs.declared.sources.convert.Convert.{Convert};
 
-use fallible_iterator::laws::{answers_at, law_back_convert, law_interleave, law_listed_convert};
+use fallible_iterator::laws::{
+    answers_at, law_after_front, law_back_convert, law_draws, law_interleave, law_listed_vec,
+    law_lists_filter, law_lists_map,
+};
 use fallible_iterator::{
     Answer, Convert, DoubleEndedFallibleIterator, FallibleIterator, Fault, Side, convert,
 };
@@ -41,7 +44,12 @@ pub fn first_and_last(readings: Vec<Result<u32, u8>>) -> Result<Option<(u32, u32
 }
 
 /// How many readings there are besides the first and the last.
-pub fn count_between(readings: Vec<Result<u32, u8>>) -> Result<usize, u8> {
+pub fn count_between(readings: Vec<Result<u32, u8>>) -> Result<usize, u8>
+    ensures { (first last : ℕ) (between : List (Result ℕ ℕ))
+        → readings.items ≡ Ok first ∷ (between ++ Ok last ∷ []) → result ≡ counted between }
+{
+    law_listed_vec::<u32, u8>();
+    law_draws::<Convert<std::vec::IntoIter<Result<u32, u8>, Global>>>();
     let mut it = convert(readings.into_iter());
     it.next()?;
     it.next_back()?;
@@ -93,17 +101,29 @@ pub fn second_between<I: DoubleEndedFallibleIterator>(
 where
     I::Item: Drop,
     requires { I.ends.can_next it.old }
+    ensures { (l : List (Result I.Item I.Error)) (first last : I.Item)
+        → ListsBothEnds I.contract.steps I.ends.steps it.old l
+        → nth_of 0 l ≡ Ok (Some first)
+        → nth_of 0 (reverse (behind_first l)) ≡ Ok (Some last)
+        → result ≡ nth_of 0 (reverse (behind_first (reverse (behind_first l)))) }
 {
-    it.next()?;
-    it.next_back()?;
-    it.next()
+    it.draw_front()?;
+    it.draw_back()?;
+    it.draw_front()
 }
 
 /// The last of the doubled readings, once the first three were passed over.
-pub fn last_after_three(readings: Vec<Result<u32, u8>>) -> Result<Option<u64>, u8> {
+pub fn last_after_three(readings: Vec<Result<u32, u8>>) -> Result<Option<u64>, u8>
+    ensures { (third : ℕ)
+        → nth_of 2 (mapped (λ x. Ok (x * 2)) (results readings.items)) ≡ Ok (Some third)
+        → result ≡ nth_of 0 (reverse (behind_nth 2
+        (mapped (λ x. Ok (x * 2)) (results readings.items)))) }
+{
     let mut it = convert(readings.into_iter()).map(|reading| Ok(u64::from(reading) * 2));
+    law_listed_vec::<u32, u8>();
+    law_lists_map(&it);
     it.nth(2)?;
-    it.next_back()
+    it.draw_back()
 }
 
 /// What a vector's readings list from both ends, said by the laws: the readings that are left. So of draws from both ends what came in front, what is left and what came from behind, reversed, are those readings.
@@ -120,6 +140,70 @@ pub fn law_readings()
         ⟦<Convert<std::vec::IntoIter<Result<u32, u8>, Global>> as DoubleEndedFallibleIterator>⟧.ends.steps
         (results (into_iter_items (convert_parts s))) s drawn t }
 {
-    law_listed_convert::<u32, u8, std::vec::IntoIter<Result<u32, u8>, Global>>();
+    law_listed_vec::<u32, u8>();
     law_interleave::<Convert<std::vec::IntoIter<Result<u32, u8>, Global>>>();
+}
+
+/// The last item behind the first 0, of any fallible iterator with two ends.
+pub fn last_behind_zero<I: DoubleEndedFallibleIterator<Item = u32>>(
+    it: &mut I,
+) -> Result<Option<u32>, I::Error>
+where
+    requires can_next { I.ends.can_next it.old }
+    requires finite { I.contract.is_finite it.old }
+    ensures { (l : List (Result ℕ I.Error)) (x : ℕ)
+        → ListsBothEnds I.contract.steps I.ends.steps it.old l
+        → found (λ r. Ok (eqb r 0)) l ≡ Ok (Some x)
+        → result ≡ nth_of 0 (reverse (behind_true (λ r. Ok (eqb r 0)) l)) }
+{
+    law_after_front::<I>();
+    law_draws::<I>();
+    match it.find(|x| Ok(*x == 0))? {
+        Some(_) => it.draw_back(),
+        None => Ok(None),
+    }
+}
+
+/// How many readings come behind the first one that isn't 0, up to the last one that isn't: zeros at the front and behind are left out.
+pub fn count_trimmed(readings: Vec<Result<u32, u8>>) -> Result<usize, u8>
+    ensures { (x : ℕ)
+        → found (λ r. Ok (not (eqb r 0))) (results readings.items) ≡ Ok (Some x)
+        → result ≡ counted (skipped_while (λ r. Ok (eqb r 0))
+        (reverse (behind_true (λ r. Ok (not (eqb r 0))) (results readings.items)))) }
+{
+    law_listed_vec::<u32, u8>();
+    law_draws::<Convert<std::vec::IntoIter<Result<u32, u8>, Global>>>();
+    let mut left = convert(readings.into_iter());
+    match left.find(|reading| Ok(*reading != 0))? {
+        Some(_) => left.rev().skip_while(|reading| Ok(*reading == 0)).count(),
+        None => Ok(0),
+    }
+}
+
+/// The doubled readings, the last one first, or the first failure from behind. The laws say what `map` lists from behind of what `convert` does.
+pub fn doubled_from_behind(
+    alloc: Global,
+    readings: Vec<Result<u32, u8>>,
+) -> Result<Vec<u64>, Fault<u8>>
+    ensures { CollectedAs (λ xs v. v.items ≡ xs)
+        (mapped (λ x. Ok (x * 2)) (reversed (results readings.items))) result }
+{
+    let doubled = convert(readings.into_iter()).map(|reading| Ok(u64::from(reading) * 2));
+    law_back_convert::<u32, u8, std::vec::IntoIter<Result<u32, u8>, Global>>();
+    law_lists_map(&doubled);
+    doubled.rev().collect(alloc)
+}
+
+/// The readings above 100, the last one first, or the first failure from behind. The laws say what `filter` lists from behind of what `convert` does.
+pub fn above_100_from_behind(
+    alloc: Global,
+    readings: Vec<Result<u32, u8>>,
+) -> Result<Vec<u32>, Fault<u8>>
+    ensures { CollectedAs (λ xs v. v.items ≡ xs)
+        (filtered (λ x. Ok (nat_lt 100 x)) (reversed (results readings.items))) result }
+{
+    let above = convert(readings.into_iter()).filter(|reading| Ok(*reading > 100));
+    law_back_convert::<u32, u8, std::vec::IntoIter<Result<u32, u8>, Global>>();
+    law_lists_filter(&above);
+    above.rev().collect(alloc)
 }

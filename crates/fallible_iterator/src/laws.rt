@@ -21,16 +21,16 @@ pub use bridges::{law_back_iterator, law_iterator, law_unwrap};
 pub use comparing::law_eq_is_cmp_equal;
 pub use cutting::{law_fuse, law_skip, law_step_by, law_take, law_take_while};
 pub use ends::{
-    law_back_chain, law_back_cloned, law_back_filter, law_back_filter_map, law_back_inspect,
-    law_back_map, law_back_map_err, law_interleave, law_interleave_folds, law_interleave_nest,
-    law_rev, law_rev_rev,
+    law_after_front, law_back_chain, law_back_cloned, law_back_filter, law_back_filter_map,
+    law_back_inspect, law_back_map, law_back_map_err, law_draws, law_interleave,
+    law_interleave_folds, law_interleave_nest, law_rev, law_rev_rev,
 };
 pub use filtering::{law_filter, law_filter_map, law_skip_while};
 pub use joining::{law_chain, law_cycle, law_flat_map, law_flatten, law_zip};
 pub use listed::{
     law_listed, law_listed_borrowed, law_listed_chain, law_listed_cloned, law_listed_each,
     law_listed_filter, law_listed_filter_map, law_listed_inspect, law_listed_map,
-    law_listed_map_err, law_listed_rev,
+    law_listed_map_err, law_listed_rev, law_lists_chain, law_lists_filter, law_lists_map,
 };
 pub use nests::{law_nest, law_nest_borrowed};
 pub use one_to_one::{
@@ -39,7 +39,7 @@ pub use one_to_one::{
 pub use peeking::law_peekable;
 pub use sources::{
     law_back_convert, law_back_into_fallible, law_convert, law_empty, law_from_fn,
-    law_into_fallible, law_listed_convert, law_listed_into_fallible, law_once, law_once_err,
-    law_repeat, law_repeat_err, law_sources,
+    law_into_fallible, law_listed_convert, law_listed_into_fallible, law_listed_vec, law_once,
+    law_once_err, law_repeat, law_repeat_err, law_sources,
 };
 pub use traces::{answers, answers_at};

@@ -1,7 +1,8 @@
 // The values of the callers on small inputs.
 use fallible_callers::behind::{
-    count_between, first_and_last, last_after_three, last_but_one, last_drawn, last_first,
-    second_between, sum_from_behind, three_answers,
+    above_100_from_behind, count_between, count_trimmed, doubled_from_behind, first_and_last,
+    last_after_three, last_behind_zero, last_but_one, last_drawn, last_first, second_between,
+    sum_from_behind, three_answers,
 };
 use fallible_callers::bridging::{
     elements, elements_from_behind, elements_of_ten, failures, number_of, one_more, there_and_back,
@@ -24,7 +25,7 @@ use fallible_callers::generic::{mean, mean_of_nest, sum_of_nest};
 use fallible_callers::ranges::{count_and_sum, runs, sum_below};
 use fallible_callers::reading::{Bytes, LineFault, ReadFailed, newlines_of_three, sum_of_lines};
 use fallible_iterator::Answer::Item;
-use fallible_iterator::{FallibleIterator, Fault, convert, empty};
+use fallible_iterator::{DoubleEndedFallibleIterator, FallibleIterator, Fault, convert, empty};
 use std::alloc::{AllocError, Global};
 use std::convert::Infallible;
 use std::fmt::Debug;
@@ -325,5 +326,24 @@ fn ends(rt: HostRuntime) -> Result<(), Fail> {
     );
     let mut it = convert(good_readings(rt.alloc())?.into_iter());
     assert_eq!(rt; second_between(&mut it), Ok(Some(600)));
+    Ok(())
+}
+
+// What a search from the front and draws from behind give, and `rev` over a map and a filter.
+#[test]
+fn behind_searches(rt: HostRuntime) -> Result<(), Fail> {
+    let zeros = Vec::from_array(rt.alloc(), [Ok(0), Ok(5), Ok(0), Ok(7), Ok(0), Ok(0)])?;
+    assert_eq!(rt; count_trimmed(zeros), Ok(2));
+    let failing = Vec::from_array(rt.alloc(), [Ok(0), Ok(5), Err(9), Ok(0)])?;
+    assert_eq!(rt; count_trimmed(failing), Err(9));
+    let after = Vec::from_array(rt.alloc(), [Ok(5), Ok(0), Ok(600), Ok(501)])?;
+    let mut it = convert::<u32, u8, _>(after.into_iter());
+    assert_eq!(rt; last_behind_zero(&mut it), Ok(Some(501)));
+    assert_eq!(rt; it.draw_back(), Ok(Some(600)));
+    assert_eq!(rt; it.draw_back(), Ok(None));
+    let doubled = doubled_from_behind(rt.alloc(), good_readings(rt.alloc())?);
+    expect_made(&rt, doubled, &[1002, 200, 1200, 10]);
+    let above = above_100_from_behind(rt.alloc(), good_readings(rt.alloc())?);
+    expect_made(&rt, above, &[501, 600]);
     Ok(())
 }

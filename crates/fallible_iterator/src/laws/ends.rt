@@ -1,10 +1,12 @@
 // What is drawn from both ends, and what from behind.
-ghost use Rattle.std.specs.Prelude.{◌≡◌, ◌++◌, ◌∷◌, [], map, reverse, Some, Bool, List, Option, Result};
+ghost use Rattle.std.specs.Prelude.{◌≡◌, ℕ, ◌++◌, ◌∷◌, [], map, reverse, Some, None, Ok, Bool, List, Option, Result};
+ghost use Rattle.fallible_contract.specs.Contract.{Stays};
+ghost use Rattle.fallible_contract.specs.Ends.{from_front};
 ghost use Rattle.fallible_contract.specs.Traces.{Answered, Run, item};
-ghost use Rattle.fallible_contract.specs.Folds.{Folded, call_with};
+ghost use Rattle.fallible_contract.specs.Folds.{Folded, Nth, call_with};
 ghost use Rattle.fallible_contract.specs.LawForm.{TracesAre};
 ghost use Rattle.fallible_contract.specs.Closures.{call_on, call_at};
-ghost use Rattle.fallible_contract.specs.Lists.{Acts};
+ghost use Rattle.fallible_contract.specs.Lists.{Acts, behind_nth, result_answer};
 ghost use Rattle.fallible_contract.specs.BothEnds.{ListsBothEnds, RunAtEnds, step_at, from_side, Interleaves};
 ghost use Rattle.fallible_core.specs.OneToOne.Map.{mapped, MapTrace, map_parts};
 ghost use Rattle.fallible_core.specs.Filtering.Filter.{filtered, FilterTrace, filter_parts};
@@ -14,11 +16,11 @@ ghost use Rattle.fallible_core.specs.OneToOne.MapErr.{MapErrTrace, map_err_parts
 ghost use Rattle.fallible_core.specs.Filtering.FilterMap.{FilterMapTrace, filter_map_parts};
 ghost use Rattle.fallible_core.specs.Joining.Chain.{chain_behind, chain_parts, ChainTrace};
 ghost use Rattle.fallible_core.specs.Ends.Rev.{rev_parts};
-ghost use Rattle.fallible_iterator.specs.Listing.{DrawsInterleave, DrawsTheSame, ListsTheSame};
+ghost use Rattle.fallible_iterator.specs.Listing.{DrawsInterleave, DrawsTheSame, ListsAtEachEnd, ListsTheSame};
 ghost use Rattle.fallible_contract.specs.declared.answers.Side.{Side};
 ghost use Rattle.fallible_contract.specs.declared.answers.Side.TheVariants.{Front, Back};
 
-use super::listed::{law_listed_filter, law_listed_map, law_listed_rev};
+use super::listed::{law_listed_each, law_listed_filter, law_listed_map, law_listed_rev};
 use fallible_core::ends::Rev;
 use fallible_core::filtering::{Filter, FilterMap};
 use fallible_core::joining::Chain;
@@ -83,6 +85,32 @@ where
     law_listed_rev::<Filter<Map<I, F>, G>>();
     law_interleave::<Rev<Filter<Map<I, F>, G>>>();
 }
+
+/// What both ends list, draw by draw: a draw from the front takes the first of it, and a draw from behind the last; and each end lists it.
+pub fn law_draws<I: DoubleEndedFallibleIterator>()
+    ensures front { (s t : I) (r : Answered I.Item I.Error) (y : Result I.Item I.Error)
+        (l : List (Result I.Item I.Error))
+        → ListsBothEnds I.contract.steps I.ends.steps s (y ∷ l) → I.contract.steps s r t
+        → (r ≡ result_answer y) × ListsBothEnds I.contract.steps I.ends.steps t l }
+    ensures back { (s t : I) (r : Answered I.Item I.Error) (y : Result I.Item I.Error)
+        (l : List (Result I.Item I.Error))
+        → ListsBothEnds I.contract.steps I.ends.steps s (l ++ y ∷ []) → I.ends.steps s r t
+        → (r ≡ result_answer y) × ListsBothEnds I.contract.steps I.ends.steps t l }
+    ensures each_end { ListsAtEachEnd I.contract.steps I.ends.steps }
+{
+    law_listed_each::<I>();
+}
+
+/// After draws from the front, as those of a search, a value that may be drawn from both ends still may be; and `nth` leaves what stands behind the item, of what both ends list.
+pub fn law_after_front<I: DoubleEndedFallibleIterator>()
+    ensures stays { (s t : I) (trace : List (Answered I.Item I.Error)) → I.ends.can_next s
+        → Run I.contract.steps s trace t → Stays (from_front I.contract I.ends) s t }
+    ensures nth { (s t : I) (n : ℕ) (r : Answered I.Item I.Error)
+        (l : List (Result I.Item I.Error))
+        → ListsBothEnds I.contract.steps I.ends.steps s l
+        → Nth I.contract.steps s n r t → ¬ (r ≡ Ok None)
+        → ListsBothEnds I.contract.steps I.ends.steps t (behind_nth n l) }
+{}
 
 // ---- traces from behind
 

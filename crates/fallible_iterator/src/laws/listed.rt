@@ -1,8 +1,8 @@
 // What each type with two ends lists, from what its source lists.
-ghost use Rattle.std.specs.Prelude.{Ok, Err, Option, Result};
+ghost use Rattle.std.specs.Prelude.{◌≡◌, Ok, Err, Some, List, Option, Result, Bool};
 ghost use Rattle.std.specs.Borrow.{MutBor};
 ghost use Rattle.fallible_contract.specs.Closures.{call_on, call_at};
-ghost use Rattle.fallible_contract.specs.Lists.{results, items};
+ghost use Rattle.fallible_contract.specs.Lists.{Lists, Acts, results, items};
 ghost use Rattle.fallible_contract.specs.BothEnds.{ListsBothEnds};
 ghost use Rattle.fallible_core.specs.OneToOne.Map.{mapped, map_outcome, map_parts};
 ghost use Rattle.fallible_core.specs.OneToOne.Inspect.{inspected, inspect_outcome, inspect_parts};
@@ -10,7 +10,8 @@ ghost use Rattle.fallible_core.specs.Filtering.Filter.{filtered, tested_outcome,
 ghost use Rattle.fallible_core.specs.Filtering.FilterMap.{filter_mapped, filter_map_outcome, filter_map_parts};
 ghost use Rattle.fallible_core.specs.OneToOne.Cloned.{cloned_parts};
 ghost use Rattle.fallible_core.specs.OneToOne.MapErr.{map_err_parts};
-ghost use Rattle.fallible_core.specs.Joining.Chain.{chain_parts};
+ghost use Rattle.fallible_core.specs.Joining.Chain.{chain_parts, chained};
+ghost use Rattle.fallible_core.specs.declared.joining.chain.StillDrawn.TheVariants.{Both};
 ghost use Rattle.fallible_core.specs.Ends.Rev.{rev_parts};
 ghost use Rattle.fallible_iterator.specs.Sources.Convert.{convert_parts};
 ghost use Rattle.fallible_iterator.specs.Sources.IntoFallible.{into_fallible_parts, never};
@@ -131,6 +132,70 @@ pub fn law_listed_borrowed<'a, I: DoubleEndedFallibleIterator + 'a>()
 pub fn law_listed_each<I: DoubleEndedFallibleIterator>()
     ensures { ListsAtEachEnd I.contract.steps I.ends.steps }
 {}
+
+// ---- the same of one value, which is shown to the law, so that no type need be named; and what it lists from behind, from what its source lists from behind
+
+/// A `Map` lists, from both ends and from behind, what its closure answers on each item that its source lists there, in the item's place.
+pub fn law_lists_map<I: DoubleEndedFallibleIterator, B, F: FnMut(I::Item) -> Result<B, I::Error>>(
+    s: &Map<I, F>,
+)
+where
+    ensures both { (it : I) (f : F) (h : I.Item → Result B I.Error)
+        (l : List (Result I.Item I.Error))
+        → map_parts s.now ≡ (it, Some f) → Acts (call_on F.FnMut) f h
+        → ListsBothEnds I.contract.steps I.ends.steps it l
+        → ListsBothEnds ⟦<Map<I, F> as FallibleIterator>⟧.contract.steps
+        ⟦<Map<I, F> as DoubleEndedFallibleIterator>⟧.ends.steps s.now (mapped h l) }
+    ensures behind { (it : I) (f : F) (h : I.Item → Result B I.Error)
+        (l : List (Result I.Item I.Error))
+        → map_parts s.now ≡ (it, Some f) → Acts (call_on F.FnMut) f h
+        → Lists I.ends.steps it l
+        → Lists ⟦<Map<I, F> as DoubleEndedFallibleIterator>⟧.ends.steps s.now (mapped h l) }
+{
+    law_listed_map::<I, B, F>();
+}
+
+/// A `Filter` lists, from both ends and from behind, what its source lists there without the items refused, with the predicate's failure in the place of each item on which it failed.
+pub fn law_lists_filter<
+    I: DoubleEndedFallibleIterator,
+    F: FnMut(&I::Item) -> Result<bool, I::Error>,
+>(s: &Filter<I, F>)
+where
+    I::Item: Drop,
+    ensures both { (it : I) (f : F) (h : I.Item → Result Bool I.Error)
+        (l : List (Result I.Item I.Error))
+        → filter_parts s.now ≡ (it, Some f) → Acts (call_at F.FnMut) f h
+        → ListsBothEnds I.contract.steps I.ends.steps it l
+        → ListsBothEnds ⟦<Filter<I, F> as FallibleIterator>⟧.contract.steps
+        ⟦<Filter<I, F> as DoubleEndedFallibleIterator>⟧.ends.steps s.now (filtered h l) }
+    ensures behind { (it : I) (f : F) (h : I.Item → Result Bool I.Error)
+        (l : List (Result I.Item I.Error))
+        → filter_parts s.now ≡ (it, Some f) → Acts (call_at F.FnMut) f h
+        → Lists I.ends.steps it l
+        → Lists ⟦<Filter<I, F> as DoubleEndedFallibleIterator>⟧.ends.steps s.now
+        (filtered h l) }
+{
+    law_listed_filter::<I, F>();
+}
+
+/// A `Chain` lists from both ends what its first lists and then what its second does, and from behind what its second lists there and then what its first does.
+pub fn law_lists_chain<
+    T: DoubleEndedFallibleIterator,
+    U: DoubleEndedFallibleIterator<Item = T::Item, Error = T::Error>,
+>(s: &Chain<T, U>)
+    ensures both { (t : T) (u : U) (a b : List (Result T.Item T.Error))
+        → chain_parts s.now ≡ (t, u, Both)
+        → ListsBothEnds T.contract.steps T.ends.steps t a
+        → ListsBothEnds U.contract.steps U.ends.steps u b
+        → ListsBothEnds ⟦<Chain<T, U> as FallibleIterator>⟧.contract.steps
+        ⟦<Chain<T, U> as DoubleEndedFallibleIterator>⟧.ends.steps s.now (chained a b) }
+    ensures behind { (t : T) (u : U) (a b : List (Result T.Item T.Error))
+        → chain_parts s.now ≡ (t, u, Both)
+        → Lists T.ends.steps t a → Lists U.ends.steps u b
+        → Lists ⟦<Chain<T, U> as DoubleEndedFallibleIterator>⟧.ends.steps s.now (chained b a) }
+{
+    law_listed_chain::<T, U>();
+}
 
 // ---- all together
 

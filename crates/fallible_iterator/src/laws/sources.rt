@@ -1,5 +1,6 @@
 //! What a trace of each source is.
-ghost use Rattle.std.specs.Prelude.{List, Option, Result, Ok, Err};
+ghost use Rattle.std.specs.Prelude.{◌≡◌, List, Option, Result, Ok, Err};
+ghost use Rattle.std.specs.Vec.Iter.{into_iter_items};
 ghost use Rattle.fallible_contract.specs.LawForm.{TracesAre};
 ghost use Rattle.fallible_contract.specs.Lists.{Lists, RunsReadBehind, results, items, reversed};
 ghost use Rattle.fallible_contract.specs.BothEnds.{ListsBothEnds};
@@ -14,10 +15,14 @@ ghost use Rattle.fallible_iterator.specs.Sources.Repeat.{RepeatTrace, repeat_par
 ghost use Rattle.fallible_iterator.specs.Sources.RepeatErr.{RepeatErrTrace, repeat_err_parts};
 ghost use Rattle.fallible_iterator.specs.Sources.Once.{once_parts};
 ghost use Rattle.fallible_iterator.specs.Sources.OnceErr.{once_err_parts};
+ghost use Rattle.std.specs.declared.vec.IntoIter.{IntoIter};
+ghost use Rattle.std.specs.declared.alloc.Global.{Global};
+ghost use Rattle.fallible_iterator.specs.declared.sources.convert.Convert.{Convert};
 
 use crate::sources::{Convert, Empty, FromFn, IntoFallible, Once, OnceErr, Repeat, RepeatErr};
 use fallible_core::{DoubleEndedFallibleIterator, FallibleIterator};
-use std::alloc::AllocError;
+use std::alloc::{AllocError, Global};
+use std::vec;
 
 /// A trace of `Convert` is, place by place, the std iterator's answers, each with the progress that std's contract states: `Ok` is an item, `Err` a failure, none an end.
 pub fn law_convert<T, E, I: std::iter::Iterator<Item = Result<T, E>>>()
@@ -60,6 +65,24 @@ pub fn law_listed_convert<T, E, I: std::iter::DoubleEndedIterator<Item = Result<
         (ListsBothEnds ⟦<Convert<I> as FallibleIterator>⟧.contract.steps
         ⟦<Convert<I> as DoubleEndedFallibleIterator>⟧.ends.steps) }
 {}
+
+/// `Convert` of a vector's iterator lists from both ends what is left of the vector.
+pub fn law_listed_vec<T: Drop, E: Drop>()
+    ensures listed { (s : Convert (IntoIter (Result T E) Global)) (l : List (Result T E))
+        → into_iter_items (convert_parts s) ≡ l
+        → ListsBothEnds
+        ⟦<Convert<vec::IntoIter<Result<T, E>, Global>> as FallibleIterator>⟧.contract.steps
+        ⟦<Convert<vec::IntoIter<Result<T, E>, Global>> as DoubleEndedFallibleIterator>⟧.ends.steps
+        s l }
+    ensures results { (s : Convert (IntoIter (Result T E) Global)) (l : List (Result T E))
+        → into_iter_items (convert_parts s) ≡ l
+        → ListsBothEnds
+        ⟦<Convert<vec::IntoIter<Result<T, E>, Global>> as FallibleIterator>⟧.contract.steps
+        ⟦<Convert<vec::IntoIter<Result<T, E>, Global>> as DoubleEndedFallibleIterator>⟧.ends.steps
+        s (results l) }
+{
+    law_listed_convert::<T, E, vec::IntoIter<Result<T, E>, Global>>();
+}
 
 /// `IntoFallible` lists what the std iterator lists, each element an item; so also what is left of one whose state shows that.
 pub fn law_listed_into_fallible<T, I: std::iter::DoubleEndedIterator<Item = T>>()

@@ -1,26 +1,9 @@
--- The state of a vector's iterator shows what is left of it.
-use Rattle.std.specs.Prelude.{◌≡◌, List, [], ◌∷◌, Option, Some, None, length}
-use Rattle.std.specs.Iterator.{YieldsFirst, YieldsLast}
-use Rattle.std.specs.Vec.Iter.{into_iter_items, into_iter_steps, into_iter_steps_back}
-use Rattle.std.proofs.Common.{refl, sym, ◌∙◌, arith}
-use Rattle.std.specs.declared.vec.IntoIter.{IntoIter}
+-- The laws say it of what is left of the vector.
+use Rattle.std.proofs.Common.{refl}
 use Rattle.fallible_callers.proofs.behind.law_readings.Goals as goal
 
-none_left : {X : Type 0} (xs : List X) → length xs ≡ 0 → xs ≡ []
-none_left [] e = refl
-none_left (x ∷ xs) e = absurd (omega (arith, e))
-
-module _ {X Z : Type 0} where
-  first : (a : IntoIter X Z) (o : Option X) (b : IntoIter X Z) → into_iter_steps a o b → YieldsFirst into_iter_items a o b
-  first a None b h = (none_left (into_iter_items a) (sym a.rest.ok.0 ∙ h.0), none_left (into_iter_items b) (sym b.rest.ok.0 ∙ h.1))
-  first a (Some x) b h = h.0
-
-  last : (a : IntoIter X Z) (o : Option X) (b : IntoIter X Z) → into_iter_steps_back a o b → YieldsLast into_iter_items a o b
-  last a None b h = (none_left (into_iter_items a) (sym a.rest.ok.0 ∙ h.0), none_left (into_iter_items b) (sym b.rest.ok.0 ∙ h.1))
-  last a (Some x) b h = h
-
 pub returns-clause-listed : goal.returns-clause-listed
-returns-clause-listed c s = c.law_listed_convert.ensures.rest into_iter_items first last s
+returns-clause-listed c s = c.law_listed_vec.ensures.results s _ refl
 
 pub returns-clause-interleaves : goal.returns-clause-interleaves
 returns-clause-interleaves c s t drawn mix = c.law_interleave.ensures s t _ drawn (returns-clause-listed c s) mix
