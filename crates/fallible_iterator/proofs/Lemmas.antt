@@ -1,4 +1,5 @@
 -- Lemmas that no contract and no ghost member cites.
+pub mod Answering
 pub mod Bridges
 pub mod Comparing
 pub mod Ends
