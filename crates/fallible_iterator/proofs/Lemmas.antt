@@ -2,6 +2,7 @@
 pub mod Answering
 pub mod Bridges
 pub mod Comparing
+pub mod Cycled
 pub mod Ends
 pub mod Hints
 pub mod Nests

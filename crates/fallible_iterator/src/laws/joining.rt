@@ -1,11 +1,15 @@
 // The whole-trace laws of the adapters that join sources.
-ghost use Rattle.std.specs.Prelude.{Result};
+ghost use Rattle.std.specs.Prelude.{◌≡◌, ℕ, List, Result};
 ghost use Rattle.fallible_contract.specs.LawForm.{TracesAre};
+ghost use Rattle.fallible_contract.specs.Lists.{Lists, items};
+ghost use Rattle.fallible_core.specs.Cutting.Take.{take_parts};
 ghost use Rattle.fallible_core.specs.Joining.Chain.{chain_parts, ChainTrace};
-ghost use Rattle.fallible_core.specs.Joining.Cycle.{cycle_parts, CycleTrace};
+ghost use Rattle.fallible_core.specs.Joining.Cycle.{cycle_parts, cycle_kept, cycle_source, CycleTrace};
 ghost use Rattle.fallible_core.specs.Joining.Flatten.{flatten_parts, FlattenTrace};
 ghost use Rattle.fallible_core.specs.Joining.Zip.{zip_parts, ZipTrace};
+ghost use Rattle.fallible_iterator.specs.Cycled.{cycled};
 
+use fallible_core::cutting::Take;
 use fallible_core::joining::{Chain, Cycle, Flatten, Zip};
 use fallible_core::one_to_one::Map;
 use fallible_core::traits::FallibleIterator;
@@ -53,4 +57,16 @@ where
     I::Error: From<AllocError>,
     ensures { TracesAre cycle_parts ⟦<Cycle<I> as FallibleIterator>⟧.contract.steps
         (CycleTrace I.is_clone I.is_infallible I.Error.from_gives I.contract.steps) }
+{}
+
+/// The first n answers of a `Cycle` of items: those of one round after another. It asks that the kept source's clone is not refused, and that each clone lists the same items.
+pub fn law_cycle_taken<I: FallibleIterator + Clone>()
+where
+    I::Error: From<AllocError>,
+    ensures { (s : Take (Cycle I)) (made : Cycle I) (n : ℕ) (xs : List I.Item)
+        → take_parts s ≡ (made, n)
+        → I.is_infallible (cycle_kept made)
+        → I.is_clone (cycle_kept made) (cycle_source made)
+        → ((c : I) → I.is_clone (cycle_kept made) c → Lists I.contract.steps c (items xs))
+        → Lists ⟦<Take<Cycle<I>> as FallibleIterator>⟧.contract.steps s (cycled n xs) }
 {}

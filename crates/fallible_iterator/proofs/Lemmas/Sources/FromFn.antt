@@ -4,7 +4,7 @@ use Rattle.std.specs.Fn.{Mut}
 use Rattle.std.proofs.Common.{refl, subst}
 use Rattle.fallible_contract.specs.Traces.{Answered}
 use Rattle.fallible_contract.specs.Contract.{seen_as}
-use Rattle.fallible_contract.specs.Lists.{AlwaysGives, Lists}
+use Rattle.fallible_contract.specs.Lists.{Lists}
 use Rattle.fallible_contract.specs.Showing.{TakesShown}
 use Rattle.fallible_contract.proofs.Lemmas.Lists.Passing.{lists_seen}
 use Rattle.fallible_iterator.specs.Sources.FromFn.{from_fn_parts, from_fn_contract, call_of_none, CallsGive, CallsTakeShown}
