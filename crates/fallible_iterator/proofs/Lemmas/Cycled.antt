@@ -79,6 +79,7 @@ module _ {S A E : Type 0} (is_clone : S → S → Type 0) (is_infallible : S →
       (h.0, subst (λ (k : ℕ). Gives t.0 k (cycled_from n left xs)) (one_less n t.1 r x h.0 w.1) (cycled_gives n left t.0 kept h.1))
   cycled_gives (suc n) [] s rounds a = next_round n (λ left t k b. cycled_gives n left t k b) s rounds a xs refl
 
-  pub lists_cycled : (s : Take (Cycle S)) (made : Cycle S) (n : ℕ) → take_parts s ≡ (made, n) → is_infallible (cycle_kept made) → is_clone (cycle_kept made) (cycle_source made) → ((c : S) → is_clone (cycle_kept made) c → Lists m.steps c (items xs)) → Lists (seen_as take_parts (take_contract Around)).steps s (cycled n xs)
+  pub lists_cycled : (s : Take (Cycle S)) (made : Cycle S) (n : ℕ) (kept : S) → take_parts s ≡ (made, n) → cycle_kept made ≡ kept → is_infallible kept → is_clone kept (cycle_source made) → ((c : S) → is_clone kept c → Lists m.steps c (items xs)) → Lists (seen_as take_parts (take_contract Around)).steps s (cycled n xs)
   unfolding cycled
-  lists_cycled s made n parts granted is each = lists_seen take_parts (take_step Around.steps) s parts refl (cycled_gives n xs made (record { granted = granted; each = λ c clone. (each c clone).runs }) (each (cycle_source made) is).runs)
+  lists_cycled s made n kept parts same granted is each = let rounds : Rounds kept = record { granted = granted; each = λ c clone. (each c clone).runs } in
+      lists_seen take_parts (take_step Around.steps) s parts refl (cycled_gives n xs made (subst (λ (k : S). Rounds k) (sym same) rounds) (each (cycle_source made) is).runs)

@@ -63,10 +63,10 @@ where
 pub fn law_cycle_taken<I: FallibleIterator + Clone>()
 where
     I::Error: From<AllocError>,
-    ensures { (s : Take (Cycle I)) (made : Cycle I) (n : ℕ) (xs : List I.Item)
+    ensures { (s : Take (Cycle I)) (made : Cycle I) (n : ℕ) (kept : I) (xs : List I.Item)
         → take_parts s ≡ (made, n)
-        → I.is_infallible (cycle_kept made)
-        → I.is_clone (cycle_kept made) (cycle_source made)
-        → ((c : I) → I.is_clone (cycle_kept made) c → Lists I.contract.steps c (items xs))
+        → cycle_kept made ≡ kept → I.is_clone kept (cycle_source made)
+        → I.is_infallible kept
+        → ((c : I) → I.is_clone kept c → Lists I.contract.steps c (items xs))
         → Lists ⟦<Take<Cycle<I>> as FallibleIterator>⟧.contract.steps s (cycled n xs) }
 {}
