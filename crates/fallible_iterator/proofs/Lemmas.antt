@@ -1,6 +1,8 @@
 -- Lemmas that no contract and no ghost member cites.
+pub mod Answering
 pub mod Bridges
 pub mod Comparing
+pub mod Cycled
 pub mod Ends
 pub mod Hints
 pub mod Nests

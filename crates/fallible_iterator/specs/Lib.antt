@@ -1,5 +1,7 @@
 -- What the clauses of `src/` cite, and in `Laws` what follows from it: lemmas that the ghost members cite. What the clauses of the crates below cite is handed on, so that a crate above names this one alone.
 pub mod Agreement
+pub mod Answering
+pub mod Cycled
 pub mod Laws
 pub mod Listing
 pub mod Lists

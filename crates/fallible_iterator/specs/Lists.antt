@@ -27,3 +27,5 @@ unfoldable pub use Rattle.fallible_core.specs.Joining.Zip.{zipped}
 pub use Rattle.fallible_core.specs.Joining.Flatten.{EachLists}
 unfoldable pub use Rattle.fallible_core.specs.Joining.Flatten.{flattened}
 unfoldable pub use Rattle.fallible_core.specs.Peeking.Peekable.{looked_ahead, looked_at, first_if, behind_if}
+unfoldable pub use Rattle.fallible_iterator.specs.Answering.{behind_answers, answers_at_ends, behind_ends}
+unfoldable pub use Rattle.fallible_iterator.specs.Cycled.{cycled_from, cycled}

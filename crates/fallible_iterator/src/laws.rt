@@ -26,7 +26,9 @@ pub use ends::{
     law_interleave_folds, law_interleave_nest, law_rev, law_rev_rev,
 };
 pub use filtering::{law_filter, law_filter_map, law_skip_while};
-pub use joining::{law_chain, law_cycle, law_flat_map, law_flatten, law_zip};
+pub use joining::{
+    law_chain, law_cycle, law_cycle_taken, law_flat_map, law_flatten, law_flatten_finite, law_zip,
+};
 pub use listed::{
     law_listed, law_listed_borrowed, law_listed_chain, law_listed_cloned, law_listed_each,
     law_listed_filter, law_listed_filter_map, law_listed_inspect, law_listed_map,

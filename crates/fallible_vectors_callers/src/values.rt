@@ -22,6 +22,10 @@ use fallible_callers::drawing::{
     third_of, two_and_the_next,
 };
 use fallible_callers::generic::{mean, mean_of_nest, sum_of_nest};
+use fallible_callers::making::{
+    count_behind_two_answers, count_with_held, given_above_100, hundreds, numbers_above_100,
+    sum_of_one_again, sum_of_rounds,
+};
 use fallible_callers::ranges::{count_and_sum, runs, sum_below};
 use fallible_callers::reading::{Bytes, LineFault, ReadFailed, newlines_of_three, sum_of_lines};
 use fallible_iterator::Answer::Item;
@@ -82,6 +86,27 @@ fn bridges(rt: HostRuntime) -> Result<(), Fail> {
     assert_eq!(rt; there_and_back(readings(rt.alloc())?), Err(9));
     assert_eq!(rt; there_and_back(good_readings(rt.alloc())?), Ok(2));
     assert_eq!(rt; there_and_back_of_ten(good_readings(rt.alloc())?), Ok(2));
+    Ok(())
+}
+
+#[test]
+fn makers(rt: HostRuntime) -> Result<(), Fail> {
+    let numbers = Vec::from_array(rt.alloc(), [1, 101, 100, 250])?;
+    assert_eq!(rt; numbers_above_100(numbers), Ok(2));
+    assert_eq!(rt; given_above_100(good_readings(rt.alloc())?), Ok(2));
+    assert_eq!(rt; given_above_100(readings(rt.alloc())?), Err(9));
+    let behind_two = count_behind_two_answers(rt.alloc(), good_readings(rt.alloc())?)?;
+    assert_eq!(rt; behind_two, Ok(2));
+    let mut ahead = convert(good_readings(rt.alloc())?.into_iter()).peekable();
+    assert_eq!(rt; ahead.draw(), Ok(Some(5)));
+    assert_eq!(rt; ahead.peek_copied(), Ok(Some(600)));
+    assert_eq!(rt; count_with_held(ahead), Ok(3));
+    let around = [1, 2, 3];
+    let rounds = convert(around.iter().copied().map(Ok::<u32, AllocError>));
+    assert_eq!(rt; sum_of_rounds(rounds, 5), Ok(9));
+    assert_eq!(rt; sum_of_one_again(7, 3), Ok(21));
+    let two = Vec::from_array(rt.alloc(), [Ok(1), Ok(2)])?;
+    assert_eq!(rt; hundreds(two), Ok(200));
     Ok(())
 }
 

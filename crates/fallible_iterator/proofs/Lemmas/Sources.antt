@@ -1,6 +1,7 @@
 -- Lemmas on the runs of such types: one file a type.
 pub mod Convert
 pub mod Empty
+pub mod FromFn
 pub mod IntoFallible
 pub mod Once
 pub mod Repeat

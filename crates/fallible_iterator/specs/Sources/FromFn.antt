@@ -1,10 +1,12 @@
 -- `FromFn`: the answers of a closure.
-use Rattle.std.specs.Prelude.{◌≡◌, List, ⊤}
+use Rattle.std.specs.Prelude.{◌≡◌, List, Result, ⊤}
 use Rattle.std.specs.List.{FoldsTo}
 use Rattle.std.specs.Fn.{Called, Mut}
 use Rattle.fallible_contract.specs.Closures.{IsCallable, MayAnswer}
 use Rattle.fallible_contract.specs.Traces.{Answered, item, failure}
 use Rattle.fallible_contract.specs.Contract.{Contract, unbounded_contract}
+use Rattle.fallible_contract.specs.Lists.{AlwaysGives}
+use Rattle.fallible_contract.specs.Showing.{TakesShown}
 use Rattle.fallible_iterator.specs.declared.sources.from_fn.FromFn.{FromFn}
 
 -- the closure
@@ -27,3 +29,11 @@ module _ {F A E : Type 0} (g : Mut F (Unit {0}) (Answered A E)) where
     may_give = λ f x. MayAnswer (call_of_none g) (λ _. ⊤) f (λ _ r. r ≡ item x);
     may_fail = λ f e. MayAnswer (call_of_none g) (λ _. ⊤) f (λ _ r. r ≡ failure e);
   }
+
+-- Called again and again, the closure answers the list's answers, in order, and then an end.
+abbrev pub CallsGive : {F A E : Type 0} → (F → Unit {0} → Answered A E → F → Type 0) → F → List (Result A E) → Type 0
+CallsGive call f l = AlwaysGives (λ p r q. call p tt r q) f l
+
+-- In whatever state it is, a call of the closure takes the first of what that state shows, by `shows`, and leaves the rest; of an empty list an end, which leaves it empty.
+abbrev pub CallsTakeShown : {F A E : Type 0} → (F → Unit {0} → Answered A E → F → Type 0) → (F → List (Result A E)) → Type 0
+CallsTakeShown {F} {A} {E} call shows = (f : F) (r : Answered A E) (h : F) → call f tt r h → TakesShown (shows f) r (shows h)

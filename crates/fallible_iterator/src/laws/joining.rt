@@ -1,11 +1,15 @@
 // The whole-trace laws of the adapters that join sources.
-ghost use Rattle.std.specs.Prelude.{Result};
+ghost use Rattle.std.specs.Prelude.{◌≡◌, ℕ, IfSome, List, Option, Result};
 ghost use Rattle.fallible_contract.specs.LawForm.{TracesAre};
+ghost use Rattle.fallible_contract.specs.Lists.{Lists, items};
+ghost use Rattle.fallible_core.specs.Cutting.Take.{take_parts};
 ghost use Rattle.fallible_core.specs.Joining.Chain.{chain_parts, ChainTrace};
-ghost use Rattle.fallible_core.specs.Joining.Cycle.{cycle_parts, CycleTrace};
-ghost use Rattle.fallible_core.specs.Joining.Flatten.{flatten_parts, FlattenTrace};
+ghost use Rattle.fallible_core.specs.Joining.Cycle.{cycle_parts, cycle_kept, cycle_source, CycleTrace};
+ghost use Rattle.fallible_core.specs.Joining.Flatten.{flatten_parts, flatten_source, flatten_inner, FlattenTrace};
 ghost use Rattle.fallible_core.specs.Joining.Zip.{zip_parts, ZipTrace};
+ghost use Rattle.fallible_iterator.specs.Cycled.{cycled};
 
+use fallible_core::cutting::Take;
 use fallible_core::joining::{Chain, Cycle, Flatten, Zip};
 use fallible_core::one_to_one::Map;
 use fallible_core::traits::FallibleIterator;
@@ -53,4 +57,29 @@ where
     I::Error: From<AllocError>,
     ensures { TracesAre cycle_parts ⟦<Cycle<I> as FallibleIterator>⟧.contract.steps
         (CycleTrace I.is_clone I.is_infallible I.Error.from_gives I.contract.steps) }
+{}
+
+/// The first n answers of a `Cycle` of items: those of one round after another. It asks that the kept source's clone is not refused, and that each clone lists the same items.
+pub fn law_cycle_taken<I: FallibleIterator + Clone>()
+where
+    I::Error: From<AllocError>,
+    ensures { (s : Take (Cycle I)) (made : Cycle I) (n : ℕ) (kept : I) (xs : List I.Item)
+        → take_parts s ≡ (made, n)
+        → cycle_kept made ≡ kept → I.is_clone kept (cycle_source made)
+        → I.is_infallible kept
+        → ((c : I) → I.is_clone kept c → Lists I.contract.steps c (items xs))
+        → Lists ⟦<Take<Cycle<I>> as FallibleIterator>⟧.contract.steps s (cycled n xs) }
+{}
+
+/// A `Flatten` is finite where its outer source is, and `each` is a bound of the inner iterator in hand and of each one that may come. So a drain of it asks no term where a caller names that number.
+pub fn law_flatten_finite<U: IntoFallibleIterator, I: FallibleIterator<Item = U, Error = U::Error>>(
+    it: &Flatten<I, U::IntoFallibleIter>,
+    each: usize,
+)
+where
+    requires outer { I.contract.is_finite (flatten_source it.now) }
+    requires in_hand { IfSome (flatten_inner it.now) U.IntoFallibleIter.contract.is_finite }
+    requires inner { (x : U) (c : U.IntoFallibleIter) → I.contract.may_give (flatten_source it.now) x
+        → U.into_gives x c → U.IntoFallibleIter.contract.bound c each }
+    ensures { ⟦<Flatten<I, U::IntoFallibleIter> as FallibleIterator>⟧.contract.is_finite it.now }
 {}

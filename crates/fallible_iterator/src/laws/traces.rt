@@ -4,7 +4,8 @@ ghost use Rattle.fallible_contract.specs.Contract.{Contract, Stays};
 ghost use Rattle.fallible_contract.specs.Ends.{from_front};
 ghost use Rattle.fallible_contract.specs.ShownTraces.{answer_of, IsAnswers, IsAnswersAt, answers_of};
 ghost use Rattle.fallible_contract.specs.Lists.{Lists};
-ghost use Rattle.fallible_contract.specs.BothEnds.{step_at};
+ghost use Rattle.fallible_contract.specs.BothEnds.{step_at, ListsBothEnds};
+ghost use Rattle.fallible_iterator.specs.Answering.{behind_answers, answers_at_ends, behind_ends};
 
 use fallible_contract::answers::{Answer, Side};
 use fallible_core::{DoubleEndedFallibleIterator, FallibleIterator};
@@ -12,7 +13,7 @@ use std::alloc::{AllocError, Global};
 
 /// The answers of `n` draws, in order.
 ///
-/// It draws n answers. It fails with `AllocError` where its room is refused: it takes all of it first, and nothing was drawn then. What is left may be drawn from again.
+/// It draws n answers. It fails with `AllocError` where its room is refused: it takes all of it first, and nothing was drawn then. What is left may be drawn from again. Over a list of n answers or more it lists those behind them.
 ///
 /// Asks that it may be drawn from.
 ///
@@ -30,6 +31,8 @@ where
     ensures drawn { IfOk result (λ v. IsAnswers I.contract.steps it.old n v.items it.new) }
     ensures value { (l : List (Result I.Item I.Error)) → n ≤ length l + 1
         → Lists I.contract.steps it.old l → IfOk result (λ v. v.items ≡ take n (answers_of l)) }
+    ensures rest { (l : List (Result I.Item I.Error)) → n ≤ length l → Lists I.contract.steps it.old l
+        → IfOk result (λ _. Lists I.contract.steps it.new (behind_answers n l)) }
     ensures refused { IfErr result (λ _. it.new ≡ it.old) }
     ensures stays { Stays I.contract it.old it.new }
 {
@@ -43,7 +46,7 @@ where
 
 /// The answers of one draw for each of the sides, from the end that it names, in order.
 ///
-/// It draws one answer for each side. It fails with `AllocError` where its room is refused: it takes all of it first, and nothing was drawn then. What is left may be drawn from again, from either end.
+/// It draws one answer for each side. It fails with `AllocError` where its room is refused: it takes all of it first, and nothing was drawn then. What is left may be drawn from again, from either end. Over what both ends list they list what is between.
 ///
 /// Asks that it may be drawn from, from either end.
 ///
@@ -60,6 +63,13 @@ where
     requires { I.ends.can_next it.old }
     ensures drawn { IfOk result
         (λ v. IsAnswersAt I.contract.steps I.ends.steps it.old sides.now v.items it.new) }
+    ensures value { (l : List (Result I.Item I.Error))
+        → ListsBothEnds I.contract.steps I.ends.steps it.old l
+        → IfOk result (λ v. v.items ≡ answers_at_ends sides.now l) }
+    ensures rest { (l : List (Result I.Item I.Error))
+        → ListsBothEnds I.contract.steps I.ends.steps it.old l
+        → IfOk result (λ _. ListsBothEnds I.contract.steps I.ends.steps it.new
+        (behind_ends sides.now l)) }
     ensures refused { IfErr result (λ _. it.new ≡ it.old) }
     ensures stays { Stays (from_front I.contract I.ends) it.old it.new }
 {

@@ -2,7 +2,7 @@
 ghost use Rattle.std.specs.Prelude.{◌≡◌, Ok, List, Result, Option};
 ghost use Rattle.fallible_contract.specs.Contract.{seen_as};
 ghost use Rattle.fallible_contract.specs.Ends.{ends_seen_as};
-ghost use Rattle.fallible_contract.specs.Lists.{Lists, RunsReadBehind, items, reversed};
+ghost use Rattle.fallible_contract.specs.Lists.{Lists, RunsRead, RunsReadBehind, items, reversed};
 ghost use Rattle.fallible_contract.specs.Laws.Contract.{lawful_seen};
 ghost use Rattle.fallible_contract.specs.Laws.Ends.{lawful_ends_seen};
 ghost use Rattle.fallible_core.specs.Ends.Rev.{rev_parts};
@@ -113,7 +113,13 @@ impl<T, I: std::iter::Iterator<Item = T>> From<I> for IntoFallible<I> {
     /// let it = IntoFallible::from(0..4u32).chain(IntoFallible::from(4..8u32));
     /// expect_collected(it.collect(rt.alloc()), &[0, 1, 2, 3, 4, 5, 6, 7])
     /// ```
-    fn from(it: I) -> IntoFallible<I> {
+    fn from(it: I) -> IntoFallible<I>
+        ensures parts { into_fallible_parts result ≡ it }
+        ensures lists { (l : List T) → RunsRead I.next_gives (λ x. x) it l
+            → Lists (seen_as into_fallible_parts
+            (into_fallible_contract I.can_next I.next_gives I.remaining)).steps result
+            (items l) }
+    {
         IntoFallible { it }
     }
 }

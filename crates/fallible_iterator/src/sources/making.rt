@@ -5,7 +5,7 @@ ghost use Rattle.fallible_contract.specs.Contract.{seen_as};
 ghost use Rattle.fallible_contract.specs.Lists.{Lists, RunsRead, Repeats, results, items};
 ghost use Rattle.fallible_contract.specs.Closures.{IsCallable};
 ghost use Rattle.fallible_iterator.specs.Sources.Convert.{convert_parts, convert_contract};
-ghost use Rattle.fallible_iterator.specs.Sources.FromFn.{from_fn_parts, call_of_none};
+ghost use Rattle.fallible_iterator.specs.Sources.FromFn.{from_fn_parts, from_fn_contract, call_of_none, CallsGive, CallsTakeShown};
 ghost use Rattle.fallible_iterator.specs.Sources.Once.{once_parts, once_contract};
 ghost use Rattle.fallible_iterator.specs.Sources.Empty.{empty_contract};
 ghost use Rattle.fallible_iterator.specs.Sources.OnceErr.{once_err_parts, once_err_contract};
@@ -109,7 +109,7 @@ pub fn once_err<T, E>(error: E) -> OnceErr<T, E>
 
 /// Makes a fallible iterator of a closure, whose answer is that of the draw.
 ///
-/// Making it draws nothing and calls nothing. One draw calls the closure once, also after an end or a failure. It fails as the closure does. It states no bound, so it is drained through `take`.
+/// Making it draws nothing and calls nothing. One draw calls the closure once, also after an end or a failure. It fails as the closure does. It states no bound, so it is drained through `take`. Where the closure's state shows what it will answer, that is listed.
 ///
 /// Asks that the closure may be called in each state that such calls bring it to.
 ///
@@ -123,7 +123,11 @@ pub fn once_err<T, E>(error: E) -> OnceErr<T, E>
 /// ```
 pub fn from_fn<I, E, F: FnMut() -> Result<Option<I>, E>>(fun: F) -> FromFn<F>
     requires { IsCallable (call_of_none F.FnMut) (λ f _. F.pre f) (λ _. ⊤) fun }
-    ensures { from_fn_parts result ≡ fun }
+    ensures parts { from_fn_parts result ≡ fun }
+    ensures lists { (l : List (Result I E)) → CallsGive (call_of_none F.FnMut) fun l
+        → Lists (seen_as from_fn_parts (from_fn_contract F.FnMut)).steps result l }
+    ensures shown { (shows : F → List (Result I E)) → CallsTakeShown (call_of_none F.FnMut) shows
+        → Lists (seen_as from_fn_parts (from_fn_contract F.FnMut)).steps result (shows fun) }
 {
     FromFn { fun }
 }

@@ -1,8 +1,11 @@
--- Each draw adds its answer.
-use Rattle.std.proofs.Common.{arith}
-use Rattle.std.proofs.lemmas.List.{take_more}
+-- Each draw adds its answer, and they tell those of what both ends list.
+use Rattle.std.proofs.Common.{List, subst, arith}
+use Rattle.std.proofs.lemmas.List.{take_all, take_more}
 use Rattle.fallible_contract.proofs.Lemmas.Contract.{stays_step_at}
 use Rattle.fallible_contract.proofs.Lemmas.ShownTraces.{one_more_answer_at}
+use Rattle.fallible_contract.specs.ShownTraces.{IsAnswersAt}
+use Rattle.fallible_contract.specs.declared.answers.Side.{Side}
+use Rattle.fallible_iterator.proofs.Lemmas.Answering.{answers_at_told}
 use Rattle.fallible_contract.specs.declared.answers.Side.TheVariants.{Front}
 use Rattle.fallible_iterator.proofs.laws.traces.answers_at.Goals as goal
 
@@ -13,3 +16,13 @@ loop-side-preserved g c = let i = c.loop-side.invariant in let d = c.draw_at-ans
   drawn = rw (e.items, d.2, take_more c.args.sides.now c.loop-side.side-index Front c.loop-side-test.true) (one_more_answer_at _ d.0 i.drawn d.1);
   stays = stays_step_at _ _ g.met.I.DoubleEndedFallibleIterator.lawful_ends _ d.0 _ _ _ i.stays d.1;
 }
+
+pub returns-clause-value : goal.returns-clause-value
+returns-clause-value g c l listed = let front = g.I.FallibleIterator.contract.steps in let back = g.I.DoubleEndedFallibleIterator.ends.steps in
+    let all = take_all c.loop-side.side-index c.args.sides.now (omega (arith, c.loop-side-test.false)) in
+    (answers_at_told front back l (subst (λ (k : List Side). IsAnswersAt front back c.args.it.now k c.loop-side.given.items c.loop-side.it) all c.loop-side.invariant.drawn) listed).0
+
+pub returns-clause-rest : goal.returns-clause-rest
+returns-clause-rest g c l listed = let front = g.I.FallibleIterator.contract.steps in let back = g.I.DoubleEndedFallibleIterator.ends.steps in
+    let all = take_all c.loop-side.side-index c.args.sides.now (omega (arith, c.loop-side-test.false)) in
+    (answers_at_told front back l (subst (λ (k : List Side). IsAnswersAt front back c.args.it.now k c.loop-side.given.items c.loop-side.it) all c.loop-side.invariant.drawn) listed).1

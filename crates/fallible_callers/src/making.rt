@@ -1,0 +1,96 @@
+//! Sources made by `from` and by a closure, and what answers leave of them.
+ghost use Rattle.std.specs.Prelude.{◌≡◌, ℕ, ◌+◌, ◌-◌, ◌%◌, ◌^◌, ◌≤◌, [], ◌∷◌, length, List, Option, Result, Ok, IfOk, nat_lt};
+ghost use Rattle.std.specs.Vec.Iter.{into_iter_items};
+ghost use Rattle.fallible_iterator.specs.Showing.{TakesShown};
+ghost use Rattle.fallible_iterator.specs.Lists.{Lists, behind_answers, counted, cycled, filtered, folded, items, results, taken};
+ghost use Rattle.fallible_iterator.specs.Contract.{AtMost};
+ghost use Rattle.fallible_iterator.specs.Peeking.Peekable.{behind_held, peekable_held, peekable_source};
+
+use fallible_iterator::laws::{answers, law_cycle_taken, law_flatten_finite, law_peekable};
+use fallible_iterator::{
+    FallibleIterator, IntoFallible, IteratorExt, Peekable, convert, from_fn, once,
+};
+use std::alloc::{AllocError, Global};
+use std::convert::Infallible;
+
+/// How many of the numbers are above 100.
+pub fn numbers_above_100(numbers: Vec<u32>) -> Result<usize, Infallible>
+    ensures { result ≡ counted (filtered (λ x. Ok (nat_lt 100 x)) (items numbers.items)) }
+{
+    IntoFallible::from(numbers.into_iter())
+        .filter(|number| Ok(*number > 100))
+        .count()
+}
+
+/// How many of the first ten readings, which a closure gives one by one, are above 100.
+pub fn given_above_100(readings: Vec<Result<u32, u8>>) -> Result<usize, u8>
+    ensures { result ≡ counted
+        (filtered (λ x. Ok (nat_lt 100 x)) (taken 10 (results readings.items))) }
+{
+    let mut left = readings.into_iter();
+    let one = move || -> Result<Option<u32>, u8>
+        ensures { TakesShown (into_iter_items left.entry) result (into_iter_items left.exit) }
+    { left.next().transpose() };
+    from_fn(one)
+        .take(10)
+        .filter(|reading| Ok(*reading > 100))
+        .count()
+}
+
+/// How many readings come behind the first two, which are let go; or want of memory for those.
+pub fn count_behind_two_answers(
+    alloc: Global,
+    readings: Vec<Result<u32, u8>>,
+) -> Result<Result<usize, u8>, AllocError>
+    ensures { 2 ≤ length (results readings.items)
+        → IfOk result (λ count. count ≡ counted (behind_answers 2 (results readings.items))) }
+{
+    let mut it = convert(readings.into_iter());
+    let _ = answers(alloc, &mut it, 2)?;
+    Ok(it.count())
+}
+
+/// How many items a `Peekable` gives, with the one that it may hold.
+pub fn count_with_held<I: FallibleIterator>(ahead: Peekable<I>) -> Result<usize, I::Error>
+where
+    I::Item: Drop,
+    requires can_next { ⟦<Peekable<I> as FallibleIterator>⟧.contract.can_next ahead }
+    requires fits { AtMost ⟦<Peekable<I> as FallibleIterator>⟧.contract ahead (2 ^ 64 - 1) }
+    ensures { (l : List (Result I.Item I.Error)) → Lists I.contract.steps (peekable_source ahead) l
+        → result ≡ counted (behind_held (peekable_held ahead) l) }
+{
+    law_peekable::<I>();
+    ahead.count()
+}
+
+/// The sum of the first n items of an iterator that begins anew at each end, modulo 2 ^ 64.
+pub fn sum_of_rounds<I: FallibleIterator<Item = u32> + Clone>(
+    it: I,
+    n: usize,
+) -> Result<u64, I::Error>
+where
+    I::Error: From<AllocError>,
+    requires clones { (c : I) → I.is_clone it c → I.contract.can_next c }
+    ensures { (xs : List ℕ) → I.is_infallible it
+        → ((c : I) → I.is_clone it c → Lists I.contract.steps c (items xs))
+        → result ≡ folded (λ e. e) (λ s x. Ok ((s + x) % 2 ^ 64)) 0 (cycled n xs) }
+{
+    law_cycle_taken::<I>();
+    it.cycle()?
+        .take(n)
+        .fold(0, |sum: u64, x: u32| Ok(sum.wrapping_add(u64::from(x))))
+}
+
+/// The sum of n times the same number, modulo 2 ^ 64.
+pub fn sum_of_one_again(x: u32, n: usize) -> Result<u64, AllocError>
+    ensures { result ≡ folded (λ e. e) (λ s x. Ok ((s + x) % 2 ^ 64)) 0 (cycled n (x ∷ [])) }
+{
+    sum_of_rounds(once(x), n)
+}
+
+/// How many numbers below 100 come, once for each reading, up to the first failure.
+pub fn hundreds(readings: Vec<Result<u32, Infallible>>) -> Result<u64, Infallible> {
+    let joined = convert(readings.into_iter()).flat_map(|_| Ok((0u32..100).into_fallible()));
+    law_flatten_finite(&joined, 100);
+    joined.fold(0, |sum: u64, _| Ok(sum.wrapping_add(1)))
+}
