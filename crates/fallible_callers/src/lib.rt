@@ -9,6 +9,7 @@ pub mod consuming;
 pub mod drawing;
 pub mod generic;
 pub mod own;
+pub mod parsing;
 pub mod ranges;
 pub mod reading;
 pub mod resting;
