@@ -15,8 +15,10 @@ pub fn how_many_each(
         (parted (λ x. Ok (nat_lt 100 x)) (results readings.items))
         (λ sides. Ok (length sides.0, length sides.1))) }
 {
-    let (above, others): (Vec<u32>, Vec<u32>) =
-        convert(readings.into_iter()).partition(alloc, |reading| Ok(*reading > 100))?;
+    let (above, others): (Vec<u32>, Vec<u32>) = convert(readings.into_iter()).partition(
+        alloc,
+        |reading| Ok(*reading > 100),
+    )?;
     Ok((above.len(), others.len()))
 }
 

@@ -18,6 +18,8 @@ use fallible_callers::consuming::{
 };
 use fallible_callers::drawing::{draw_all, second_if_above, third_draw, third_of};
 use fallible_callers::generic::{mean, mean_of_nest, sum_of_nest};
+use fallible_callers::own::countdowns;
+use fallible_callers::parsing::{how_many_each, place_of_failure, second_behind_zero, sum_drawn};
 use fallible_callers::ranges::{count_and_sum, runs, sum_below};
 use fallible_callers::reading::{Bytes, LineFault, ReadFailed, newlines_of_three, sum_of_lines};
 use fallible_iterator::Answer::Item;
@@ -294,5 +296,30 @@ fn ends(rt: HostRuntime) -> Result<(), Fail> {
     );
     let mut it = convert(good_readings(rt.alloc())?.into_iter());
     assert_eq!(rt; second_between(&mut it), Ok(Some(600)));
+    Ok(())
+}
+
+#[test]
+fn parses(rt: HostRuntime) -> Result<(), Fail> {
+    let alloc = rt.alloc();
+    let both = how_many_each(alloc, good_readings(alloc)?);
+    assert_eq!(rt; both.ok(), Some((2, 2)));
+    assert!(rt; how_many_each(alloc, readings(alloc)?).is_err());
+    let zeros = Vec::from_array(alloc, [Ok(4), Ok(0), Ok(0), Ok(7), Err(8)])?;
+    assert_eq!(rt; second_behind_zero(zeros), Ok(Some(7)));
+    let one_zero = Vec::from_array(alloc, [Ok(0), Ok(7), Err(8)])?;
+    assert_eq!(rt; second_behind_zero(one_zero), Err(8));
+    assert_eq!(rt; place_of_failure(readings(alloc)?), Ok(Some(4)));
+    assert_eq!(rt; place_of_failure(good_readings(alloc)?), Ok(None));
+    assert_eq!(rt;
+        sum_drawn(&mut convert(good_readings(alloc)?.into_iter())),
+        Ok(1206)
+    );
+    assert_eq!(rt;
+        sum_drawn(&mut convert(readings(alloc)?.into_iter())),
+        Err(9)
+    );
+    let numbers = Vec::from_array(alloc, [Ok(2), Ok(0), Ok(3)])?;
+    expect_made(&rt, countdowns(alloc, numbers), &[2, 1, 3, 2, 1]);
     Ok(())
 }

@@ -27,10 +27,14 @@ returns-in_err-item g c l lists =
 
 pub loop-left-preserved : goal.loop-left-preserved
 unfolding folded behind_first
-loop-left-preserved g c = (search rules, search rules, λ l lists.
-    let left = c.loop-left.invariant.2 l lists in
-    let some : c.in_ok-item.field-0 ≡ Some c.in-Some.item = search rules in
-    (behind_first left.0, c.in_ok-item.ensures.rest left.0 left.1 (λ e. absurd (let h = some in cc)), search rules))
+loop-left-preserved g c = (
+  search rules,
+  search rules,
+  λ l lists.
+      let left = c.loop-left.invariant.2 l lists in
+      let some : c.in_ok-item.field-0 ≡ Some c.in-Some.item = search rules in
+      (behind_first left.0, c.in_ok-item.ensures.rest left.0 left.1 (λ e. absurd (let h = some in cc)), search rules),
+)
 
 pub returns : goal.returns
 returns g c l lists =
