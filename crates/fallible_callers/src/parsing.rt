@@ -1,6 +1,6 @@
 //! The idioms of parsers: where something stands, and what stands behind it.
 ghost use Rattle.std.specs.Prelude.{◌≡◌, ◌+◌, ◌%◌, ◌^◌, ℕ, eqb, length, List, Result, Ok, Option, Some, IfOk, is_err, nat_lt};
-ghost use Rattle.fallible_iterator.specs.Lists.{Lists, behind_true, folded, items, nth_of, on_value, parted, position_in, results};
+ghost use Rattle.fallible_iterator.specs.Lists.{Lists, behind_true, folded, items, nth_of, on_value, parted, position_in, results, taken_while};
 
 use fallible_iterator::{FallibleIterator, Fault, IteratorExt, convert};
 use std::alloc::Global;
@@ -59,4 +59,24 @@ where
         sum = sum.wrapping_add(u64::from(item));
     }
     Ok(sum)
+}
+
+/// The sum of the tokens below 10 that stand first, modulo 2 ^ 64, and the token after the one that ends them, which is lost. The clause says the sum.
+pub fn sum_and_next<I: FallibleIterator<Item = u32>>(
+    mut tokens: I,
+) -> Result<(u64, Option<u32>), I::Error>
+where
+    requires can_next { I.contract.can_next tokens }
+    requires finite { I.contract.is_finite tokens }
+    ensures { (l : List (Result ℕ I.Error)) → Lists I.contract.steps tokens l
+        → IfOk result (λ both. Ok both.0 ≡ folded (λ e. e) (λ s x. Ok ((s + x) % 2 ^ 64)) 0
+        (taken_while (λ x. Ok (nat_lt x 10)) l)) }
+{
+    let sum: Result<u64, I::Error> = (&mut tokens)
+        .take_while(|token| Ok(*token < 10))
+        .try_fold(0, |sum: u64, token: u32| Ok(
+            sum.wrapping_add(u64::from(token)),
+        ));
+    let sum = sum?;
+    Ok((sum, tokens.draw()?))
 }
