@@ -72,11 +72,10 @@ where
         → IfOk result (λ both. Ok both.0 ≡ folded (λ e. e) (λ s x. Ok ((s + x) % 2 ^ 64)) 0
         (taken_while (λ x. Ok (nat_lt x 10)) l)) }
 {
-    let sum: Result<u64, I::Error> = (&mut tokens)
-        .take_while(|token| Ok(*token < 10))
-        .try_fold(0, |sum: u64, token: u32| Ok(
-            sum.wrapping_add(u64::from(token)),
-        ));
+    let sum: Result<u64, I::Error> = (&mut tokens).take_while(|token| Ok(*token < 10)).try_fold(
+        0,
+        |sum: u64, token: u32| Ok(sum.wrapping_add(u64::from(token))),
+    );
     let sum = sum?;
     Ok((sum, tokens.draw()?))
 }
