@@ -58,8 +58,10 @@ pub fn even_below(n: u32) -> Result<usize, u8>
 
 /// The countdowns from each number, one after the other, of which at most 1000 numbers come, where memory suffices.
 pub fn countdowns(alloc: Global, numbers: Vec<Result<u32, u8>>) -> Result<Vec<u32>, Fault<u8>>
-    ensures { CollectedAs (λ xs v. v.items ≡ xs) (taken 1000
-        (flattened counts_down (mapped (λ n. Ok (counting_from n)) (results numbers.items)))) result }
+    ensures { CollectedAs (λ xs v. v.items ≡ xs)
+        (taken 1000
+        (flattened counts_down (mapped (λ n. Ok (counting_from n)) (results numbers.items))))
+        result }
 {
     convert(numbers.into_iter())
         .flat_map(|number: u32| Ok(Countdown { left: number }))

@@ -19,7 +19,9 @@ use fallible_callers::consuming::{
 use fallible_callers::drawing::{draw_all, second_if_above, third_draw, third_of};
 use fallible_callers::generic::{mean, mean_of_nest, sum_of_nest};
 use fallible_callers::own::countdowns;
-use fallible_callers::parsing::{how_many_each, place_of_failure, second_behind_zero, sum_drawn};
+use fallible_callers::parsing::{
+    how_many_each, place_of_failure, second_behind_zero, sum_and_next, sum_drawn,
+};
 use fallible_callers::ranges::{count_and_sum, runs, sum_below};
 use fallible_callers::reading::{Bytes, LineFault, ReadFailed, newlines_of_three, sum_of_lines};
 use fallible_iterator::Answer::Item;
@@ -319,6 +321,9 @@ fn parses(rt: HostRuntime) -> Result<(), Fail> {
         sum_drawn(&mut convert(readings(alloc)?.into_iter())),
         Err(9)
     );
+    let tokens = Vec::from_array(alloc, [Ok(3), Ok(4), Ok(12), Ok(8), Err(9)])?;
+    let both: Result<(u64, Option<u32>), u8> = sum_and_next(convert(tokens.into_iter()));
+    assert_eq!(rt; both, Ok((7, Some(8))));
     let numbers = Vec::from_array(alloc, [Ok(2), Ok(0), Ok(3)])?;
     expect_made(&rt, countdowns(alloc, numbers), &[2, 1, 3, 2, 1]);
     Ok(())
