@@ -10,3 +10,7 @@ down_from (suc n) = Ok (suc n) ∷ down_from n
 -- what a countdown shows: the numbers that are left
 abbrev pub counts_down : Countdown → List (Result ℕ ℕ)
 counts_down s = down_from s.left
+
+-- the countdown from n
+abbrev pub counting_from : ℕ → Countdown
+counting_from n = record { left = n }

@@ -67,6 +67,17 @@ pub fn sum(readings: Vec<Result<u32, u8>>) -> Result<u64, u8>
     )
 }
 
+/// The sum of the doubled readings, or the first failure: the code 7 where the sum doesn't fit.
+pub fn checked_sum(readings: Vec<Result<u32, u8>>) -> Result<u64, u8>
+    ensures { result ≡ folded (λ e. e)
+        (λ s x. if nat_lt (s + x) (2 ^ 64) then Ok (s + x) else Err 7) 0
+        (mapped (λ x. Ok (x * 2)) (results readings.items)) }
+{
+    convert(readings.into_iter())
+        .map(|reading| Ok(u64::from(reading) * 2))
+        .fold(0, |sum: u64, x: u64| sum.checked_add(x).ok_or(7))
+}
+
 /// The fourth of the readings above 100, or the failure or the end that comes first.
 pub fn fourth_above_100(readings: Vec<Result<u32, u8>>) -> Result<Option<u32>, u8>
     ensures { result ≡ nth_of 3 (filtered (λ x. Ok (nat_lt 100 x)) (results readings.items)) }

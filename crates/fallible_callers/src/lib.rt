@@ -10,6 +10,7 @@ pub mod drawing;
 pub mod generic;
 pub mod making;
 pub mod own;
+pub mod parsing;
 pub mod ranges;
 pub mod reading;
 pub mod resting;

@@ -2,11 +2,12 @@
 ghost use Rattle.std.specs.Prelude.{◌≡◌, ◌%◌, eqb, Ok};
 ghost use Rattle.fallible_iterator.specs.Contract.{AtMost};
 ghost use Rattle.fallible_iterator.specs.Laws.Showing.{lawful_listing};
-ghost use Rattle.fallible_iterator.specs.Lists.{Lists, counted, filtered};
+ghost use Rattle.fallible_iterator.specs.Lists.{Lists, CollectedAs, counted, filtered, flattened, mapped, results, taken};
 ghost use Rattle.fallible_iterator.specs.Showing.{listing};
-ghost use Rattle.fallible_callers.specs.Down.{counts_down, down_from};
+ghost use Rattle.fallible_callers.specs.Down.{counting_from, counts_down, down_from};
 
-use fallible_iterator::FallibleIterator;
+use fallible_iterator::{FallibleIterator, Fault, convert};
+use std::alloc::Global;
 
 /// Counts down to 1, and then ends.
 #[derive(Drop)]
@@ -53,4 +54,17 @@ pub fn even_below(n: u32) -> Result<usize, u8>
     ensures { result ≡ counted (filtered (λ x. Ok (eqb (x % 2) 0)) (down_from n)) }
 {
     Countdown::new(n).filter(|x| Ok(*x % 2 == 0)).count()
+}
+
+/// The countdowns from each number, one after the other, of which at most 1000 numbers come, where memory suffices.
+pub fn countdowns(alloc: Global, numbers: Vec<Result<u32, u8>>) -> Result<Vec<u32>, Fault<u8>>
+    ensures { CollectedAs (λ xs v. v.items ≡ xs)
+        (taken 1000
+        (flattened counts_down (mapped (λ n. Ok (counting_from n)) (results numbers.items))))
+        result }
+{
+    convert(numbers.into_iter())
+        .flat_map(|number: u32| Ok(Countdown { left: number }))
+        .take(1000)
+        .collect(alloc)
 }

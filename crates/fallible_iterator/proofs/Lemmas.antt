@@ -5,5 +5,7 @@ pub mod Comparing
 pub mod Cycled
 pub mod Ends
 pub mod Hints
+pub mod Lent
+pub mod Loops
 pub mod Nests
 pub mod Sources

@@ -1,8 +1,9 @@
 //! Two sorted sources, merged.
-ghost use Rattle.std.specs.Prelude.{◌≡◌};
-ghost use Rattle.fallible_iterator.specs.Contract.{Stays};
-ghost use Rattle.fallible_iterator.specs.Peeking.Peekable.{peekable_contract, peekable_parts, peekable_step};
-ghost use Rattle.fallible_uses.specs.Merging.{MergesNext};
+ghost use Rattle.std.specs.Prelude.{◌≡◌, ℕ, List, Result, Ok, Some};
+ghost use Rattle.fallible_iterator.specs.Contract.{Stays, seen_as};
+ghost use Rattle.fallible_iterator.specs.Lists.{Lists, behind_first, nth_of};
+ghost use Rattle.fallible_iterator.specs.Peeking.Peekable.{peekable_contract, peekable_parts};
+ghost use Rattle.fallible_uses.specs.Merging.{ListBoth, merged};
 
 use fallible_iterator::{FallibleIterator, Peekable};
 
@@ -18,9 +19,17 @@ where
     J: FallibleIterator<Item = u32, Error = I::Error>,
     requires left { (peekable_contract I.contract).can_next (peekable_parts left.old) }
     requires right { (peekable_contract J.contract).can_next (peekable_parts right.old) }
-    ensures value { MergesNext (peekable_step I.contract.steps) (peekable_step J.contract.steps)
-        (peekable_parts left.old) (peekable_parts right.old) result
-        (peekable_parts left.new) (peekable_parts right.new) }
+    ensures value { (a b : List (Result ℕ I.Error))
+        → Lists (seen_as peekable_parts (peekable_contract I.contract)).steps left.old a
+        → Lists (seen_as peekable_parts (peekable_contract J.contract)).steps right.old b
+        → result ≡ nth_of 0 (merged a b) }
+    ensures rest { (a b : List (Result ℕ I.Error)) (x : ℕ)
+        → Lists (seen_as peekable_parts (peekable_contract I.contract)).steps left.old a
+        → Lists (seen_as peekable_parts (peekable_contract J.contract)).steps right.old b
+        → result ≡ Ok (Some x)
+        → ListBoth (seen_as peekable_parts (peekable_contract I.contract)).steps
+        (seen_as peekable_parts (peekable_contract J.contract)).steps
+        left.new right.new (behind_first (merged a b)) }
     ensures left { Stays (peekable_contract I.contract)
         (peekable_parts left.old) (peekable_parts left.new) }
     ensures right { Stays (peekable_contract J.contract)

@@ -4,4 +4,6 @@
 #[cfg(test)]
 mod comparing;
 #[cfg(test)]
+mod first;
+#[cfg(test)]
 mod values;

@@ -9,8 +9,8 @@ use fallible_callers::bridging::{
     there_and_back_of_ten, total, up_to_ten,
 };
 use fallible_callers::computing::{
-    above_100, above_100_of_ten, all_up_to_100, both_columns, collected_above_100,
-    doubled_above_1000, fold_of_one, fourth_above_100, halves, places, products, running_sums, sum,
+    above_100, all_up_to_100, both_columns, checked_sum, collected_above_100, doubled_above_1000,
+    fold_of_one, fourth_above_100, halves, places, products, running_sums, sum,
 };
 use fallible_callers::consuming::{
     all_above_100, any_above_100, first_above_100, greatest_above_100, greatest_double_of_ten,
@@ -25,6 +25,10 @@ use fallible_callers::generic::{mean, mean_of_nest, sum_of_nest};
 use fallible_callers::making::{
     count_behind_two_answers, count_with_held, given_above_100, hundreds, numbers_above_100,
     sum_of_one_again, sum_of_rounds,
+};
+use fallible_callers::own::countdowns;
+use fallible_callers::parsing::{
+    how_many_each, place_of_failure, second_behind_zero, sum_and_next,
 };
 use fallible_callers::ranges::{count_and_sum, runs, sum_below};
 use fallible_callers::reading::{Bytes, LineFault, ReadFailed, newlines_of_three, sum_of_lines};
@@ -53,8 +57,8 @@ fn good_readings(alloc: Global) -> Result<Vec<Result<u32, u8>>, AllocError> {
 #[test]
 fn counts(rt: HostRuntime) -> Result<(), Fail> {
     assert_eq!(rt; above_100(&[1, 101, 100, 250]), Ok(2));
-    assert_eq!(rt; above_100_of_ten(readings(rt.alloc())?), Err(9));
-    assert_eq!(rt; above_100_of_ten(good_readings(rt.alloc())?), Ok(2));
+    assert_eq!(rt; checked_sum(readings(rt.alloc())?), Err(9));
+    assert_eq!(rt; checked_sum(good_readings(rt.alloc())?), Ok(2412));
     assert_eq!(rt; doubled_above_1000(good_readings(rt.alloc())?), Ok(2));
     assert_eq!(rt; all_up_to_100(good_readings(rt.alloc())?), Err(7));
     assert_eq!(rt; both_columns(&[1, 2, 3], &[4, 5]), Ok(5));
@@ -370,5 +374,25 @@ fn behind_searches(rt: HostRuntime) -> Result<(), Fail> {
     expect_made(&rt, doubled, &[1002, 200, 1200, 10]);
     let above = above_100_from_behind(rt.alloc(), good_readings(rt.alloc())?);
     expect_made(&rt, above, &[501, 600]);
+    Ok(())
+}
+
+#[test]
+fn parses(rt: HostRuntime) -> Result<(), Fail> {
+    let alloc = rt.alloc();
+    let both = how_many_each(alloc, good_readings(alloc)?);
+    assert_eq!(rt; both.ok(), Some((2, 2)));
+    assert!(rt; how_many_each(alloc, readings(alloc)?).is_err());
+    let zeros = Vec::from_array(alloc, [Ok(4), Ok(0), Ok(0), Ok(7), Err(8)])?;
+    assert_eq!(rt; second_behind_zero(zeros), Ok(Some(7)));
+    let one_zero = Vec::from_array(alloc, [Ok(0), Ok(7), Err(8)])?;
+    assert_eq!(rt; second_behind_zero(one_zero), Err(8));
+    assert_eq!(rt; place_of_failure(readings(alloc)?), Ok(Some(4)));
+    assert_eq!(rt; place_of_failure(good_readings(alloc)?), Ok(None));
+    let tokens = Vec::from_array(alloc, [Ok(3), Ok(4), Ok(12), Ok(8), Err(9)])?;
+    let both: Result<(u64, Option<u32>), u8> = sum_and_next(convert(tokens.into_iter()));
+    assert_eq!(rt; both, Ok((7, Some(8))));
+    let numbers = Vec::from_array(alloc, [Ok(2), Ok(0), Ok(3)])?;
+    expect_made(&rt, countdowns(alloc, numbers), &[2, 1, 3, 2, 1]);
     Ok(())
 }

@@ -11,13 +11,13 @@ ghost use Rattle.fallible_core.specs.Filtering.FilterMap.{filter_mapped, filter_
 ghost use Rattle.fallible_core.specs.OneToOne.Cloned.{cloned_parts};
 ghost use Rattle.fallible_core.specs.OneToOne.MapErr.{map_err_parts};
 ghost use Rattle.fallible_core.specs.Joining.Chain.{chain_parts, chained};
-ghost use Rattle.fallible_core.specs.declared.joining.chain.StillDrawn.TheVariants.{Both};
 ghost use Rattle.fallible_core.specs.Ends.Rev.{rev_parts};
 ghost use Rattle.fallible_iterator.specs.Sources.Convert.{convert_parts};
 ghost use Rattle.fallible_iterator.specs.Sources.IntoFallible.{into_fallible_parts, never};
 ghost use Rattle.fallible_iterator.specs.Listing.{ListsByClosure, ListsFailures, ListsClones, ListsBothSides, ListsReversed, ListsTheSame, ListsElements, ListsAtEachEnd};
 ghost use Rattle.std.specs.declared.boxed.Box.{Box};
 ghost use Rattle.std.specs.declared.alloc.Global.{Global};
+ghost use Rattle.fallible_core.specs.declared.joining.chain.StillDrawn.TheVariants.{Both};
 
 use super::sources::{law_listed_convert, law_listed_into_fallible};
 use crate::sources::{Convert, IntoFallible};

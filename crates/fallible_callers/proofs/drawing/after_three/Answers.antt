@@ -1,6 +1,6 @@
 -- What the lender has left.
 use Rattle.std.proofs.Common.{rules}
-use Rattle.fallible_callers.proofs.Lent.{behind_lent_nth, lists_lent, nth_taken}
+use Rattle.fallible_iterator.proofs.Lemmas.Lent.{behind_lent_nth, lists_lent, nth_taken}
 use Rattle.fallible_callers.proofs.drawing.after_three.Goals as goal
 
 pub returns-in_err-nth : goal.returns-in_err-nth

@@ -1,7 +1,7 @@
 -- What an item, a failure and the end make of it.
 use Rattle.std.proofs.Common.{rules}
 use Rattle.fallible_iterator.specs.Lists.{folded}
-use Rattle.fallible_callers.proofs.Loops.{goes_on, fails, ends}
+use Rattle.fallible_iterator.proofs.Lemmas.Loops.{goes_on, fails, ends}
 use Rattle.fallible_callers.proofs.drawing.draw_all.Goals as goal
 
 pub returns-in_err-draw : goal.returns-in_err-draw

@@ -1,7 +1,7 @@
 -- A bound is counted down, and what the whole answers is what the rest answers from here.
 use Rattle.std.specs.Prelude.{Ok}
 use Rattle.fallible_iterator.specs.Lists.{folded}
-use Rattle.fallible_callers.proofs.Loops.{CountsDown, AnswersFromHere}
+use Rattle.fallible_iterator.proofs.Lemmas.Loops.{CountsDown, AnswersFromHere}
 use Rattle.fallible_callers.proofs.drawing.draw_all.Given as goal
 
 abbrev pub invariant-loop-left : goal.invariant-loop-left

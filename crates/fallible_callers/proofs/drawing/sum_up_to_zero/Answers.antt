@@ -1,7 +1,7 @@
 -- What an item, the first 0, a failure and the end make of the sum.
 use Rattle.std.proofs.Common.{rules, arith}
 use Rattle.fallible_iterator.specs.Lists.{folded, taken_while}
-use Rattle.fallible_callers.proofs.Loops.{goes_on, stops, fails, ends}
+use Rattle.fallible_iterator.proofs.Lemmas.Loops.{goes_on, stops, fails, ends}
 use Rattle.fallible_callers.proofs.drawing.sum_up_to_zero.Goals as goal
 
 pub returns-in_err-item : goal.returns-in_err-item

@@ -1,6 +1,6 @@
 -- What the lender has left, and the sum of the two.
 use Rattle.std.proofs.Common.{rules, ◌+◌, ◌%◌, ◌^◌, Ok, nat_lt}
-use Rattle.fallible_callers.proofs.Lent.{behind_lent, lists_lent, no_failure, one_value, both}
+use Rattle.fallible_iterator.proofs.Lemmas.Lent.{behind_lent, lists_lent, no_failure, one_value, both}
 use Rattle.fallible_callers.proofs.drawing.two_and_the_next.Goals as goal
 
 pub returns-in_err-sum : goal.returns-in_err-sum

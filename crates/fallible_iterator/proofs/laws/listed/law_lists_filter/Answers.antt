@@ -1,7 +1,7 @@
 -- What its source lists from behind, without what the predicate refuses.
+use Rattle.std.proofs.Common.{subst, ap, sym}
 use Rattle.fallible_contract.specs.Ends.{from_back}
 use Rattle.fallible_contract.specs.Lists.{Lists}
-use Rattle.std.proofs.Common.{subst, ap, sym}
 use Rattle.fallible_core.proofs.Lemmas.Filtering.Filter.{lists_filtered}
 use Rattle.fallible_iterator.proofs.laws.listed.law_lists_filter.Goals as goal
 

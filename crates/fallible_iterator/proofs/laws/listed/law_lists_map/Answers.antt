@@ -1,7 +1,7 @@
 -- What its source lists from behind, mapped.
+use Rattle.std.proofs.Common.{subst, ap, sym}
 use Rattle.fallible_contract.specs.Ends.{from_back}
 use Rattle.fallible_contract.specs.Lists.{Lists}
-use Rattle.std.proofs.Common.{subst, ap, sym}
 use Rattle.fallible_core.proofs.Lemmas.OneToOne.Map.{lists_mapped}
 use Rattle.fallible_iterator.proofs.laws.listed.law_lists_map.Goals as goal
 

@@ -4,8 +4,8 @@ use Rattle.std.proofs.lemmas.List.{take_all, take_more}
 use Rattle.fallible_contract.proofs.Lemmas.Contract.{stays_step_at}
 use Rattle.fallible_contract.proofs.Lemmas.ShownTraces.{one_more_answer_at}
 use Rattle.fallible_contract.specs.ShownTraces.{IsAnswersAt}
-use Rattle.fallible_contract.specs.declared.answers.Side.{Side}
 use Rattle.fallible_iterator.proofs.Lemmas.Answering.{answers_at_told}
+use Rattle.fallible_contract.specs.declared.answers.Side.{Side}
 use Rattle.fallible_contract.specs.declared.answers.Side.TheVariants.{Front}
 use Rattle.fallible_iterator.proofs.laws.traces.answers_at.Goals as goal
 

@@ -2,12 +2,12 @@
 use Rattle.std.specs.Prelude.{◌≡◌, ℕ, zero, suc, ◌<◌, length, List, [], ◌∷◌, ◌++◌, map, Result, Option, Some, None, Ok, Err}
 use Rattle.std.specs.Borrow.{MutBor}
 use Rattle.std.proofs.Common.{refl, ap, subst, arith, length-append, ◌⊎◌, inl, inr}
-use Rattle.fallible_iterator.specs.Traces.{Answered, Run, item, end}
-use Rattle.fallible_iterator.specs.Contract.{Contract, seen_as, unbounded_contract}
-use Rattle.fallible_iterator.specs.Folds.{Folded, FoldExit, Nth, NthExit}
-use Rattle.fallible_iterator.specs.Lists.{AlwaysGives, Lists, nth_of, behind_nth, taken}
-use Rattle.fallible_iterator.specs.Borrowed.{borrowed}
-use Rattle.fallible_iterator.specs.Cutting.Take.{take_parts, take_contract}
+use Rattle.fallible_contract.specs.Traces.{Answered, Run, item, end}
+use Rattle.fallible_contract.specs.Contract.{Contract, seen_as, unbounded_contract}
+use Rattle.fallible_contract.specs.Folds.{Folded, FoldExit, Nth, NthExit}
+use Rattle.fallible_contract.specs.Lists.{AlwaysGives, Lists, nth_of, behind_nth}
+use Rattle.fallible_core.specs.Borrowed.{borrowed}
+use Rattle.fallible_core.specs.Cutting.Take.{take_parts, take_contract, taken}
 use Rattle.fallible_core.proofs.Lemmas.Borrowed.{run_behind, lists_borrowed}
 use Rattle.fallible_core.proofs.Lemmas.Callers.{TakenRun, taken_run}
 use Rattle.fallible_core.specs.declared.cutting.take.Take.{Take}

@@ -1,9 +1,9 @@
 -- Loops by hand over draws: what their invariants say, and what each turn and each exit makes of it.
 use Rattle.std.specs.Prelude.{◌≡◌, ℕ, ◌≤◌, List, [], ◌∷◌, Result, Some, None, Ok, Err}
 use Rattle.std.proofs.Common.{refl, sym, ap, ◌∙◌}
-use Rattle.fallible_iterator.specs.Traces.{Answered}
-use Rattle.fallible_iterator.specs.Contract.{Contract}
-use Rattle.fallible_iterator.specs.Lists.{AlwaysGives, Lists}
+use Rattle.fallible_contract.specs.Traces.{Answered}
+use Rattle.fallible_contract.specs.Contract.{Contract}
+use Rattle.fallible_contract.specs.Lists.{AlwaysGives, Lists}
 
 -- It may be drawn from, and some bound of it is at most the number that is counted down.
 abbrev pub CountsDown : {S A E : Type 0} → Contract S A E → S → ℕ → Type 0
@@ -13,10 +13,6 @@ module _ {S A E B R : Type 0} where
   -- What the whole that s0 lists answers from the value b0 on is what the rest that s lists answers from b on.
   pub record AnswersFromHere (steps : S → Answered A E → S → Type 0) (answers : B → List (Result A E) → R) (s0 : S) (b0 : B) (s : S) (b : B) : Type 0 where
     pub at : (whole : List (Result A E)) → Lists steps s0 whole → (rest : List (Result A E)) × Lists steps s rest × (answers b0 whole ≡ answers b rest)
-
-  -- before the first turn
-  pub begins : {steps : S → Answered A E → S → Type 0} {answers : B → List (Result A E) → R} {s : S} {b : B} → AnswersFromHere steps answers s b s b
-  begins = record { at = λ whole i. (whole, i, refl) }
 
   module _ (steps : S → Answered A E → S → Type 0) (answers : B → List (Result A E) → R) (s t : S) (b : B) (r : Answered A E) (drawn : steps s r t) where
     item_on : (x : A) (c : B) (v : R) (rest : List (Result A E)) → r ≡ Ok (Some x) → ((l : List (Result A E)) → answers b (Ok x ∷ l) ≡ answers c l) → AlwaysGives steps s rest → v ≡ answers b rest → (l : List (Result A E)) × Lists steps t l × (v ≡ answers c l)

@@ -1,3 +1,0 @@
--- What the proofs of several callers cite.
-pub mod Loops
-pub mod Lent

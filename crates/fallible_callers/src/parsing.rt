@@ -1,0 +1,64 @@
+//! The idioms of parsers: where something stands, and what stands behind it.
+ghost use Rattle.std.specs.Prelude.{◌≡◌, ◌+◌, ◌%◌, ◌^◌, ℕ, eqb, length, List, Result, Ok, Option, Some, IfOk, is_err, nat_lt};
+ghost use Rattle.fallible_iterator.specs.Lists.{Lists, behind_true, folded, items, nth_of, on_value, parted, position_in, results, taken_while};
+
+use fallible_iterator::{FallibleIterator, Fault, IteratorExt, convert};
+use std::alloc::Global;
+use std::convert::Infallible;
+
+/// How many of the readings are above 100, and how many are not, where memory suffices.
+pub fn how_many_each(
+    alloc: Global,
+    readings: Vec<Result<u32, u8>>,
+) -> Result<(usize, usize), Fault<u8>>
+    ensures { IfOk result (λ both. Ok both ≡ on_value
+        (parted (λ x. Ok (nat_lt 100 x)) (results readings.items))
+        (λ sides. Ok (length sides.0, length sides.1))) }
+{
+    let (above, others): (Vec<u32>, Vec<u32>) = convert(readings.into_iter()).partition(
+        alloc,
+        |reading| Ok(*reading > 100),
+    )?;
+    Ok((above.len(), others.len()))
+}
+
+/// The second reading behind the first one that is 0.
+pub fn second_behind_zero(readings: Vec<Result<u32, u8>>) -> Result<Option<u32>, u8>
+    ensures { (n : ℕ) → position_in (λ r. Ok (eqb r 0)) (results readings.items) ≡ Ok (Some n)
+        → result ≡ nth_of 1 (behind_true (λ r. Ok (eqb r 0)) (results readings.items)) }
+{
+    let mut left = convert(readings.into_iter());
+    match left.position(|reading| Ok(reading == 0))? {
+        Some(_) => left.nth(1),
+        None => Ok(None),
+    }
+}
+
+/// The place, from 0 on, of the first failure; none where there is no failure. Here each reading is an item, also one that failed.
+pub fn place_of_failure(readings: Vec<Result<u32, u8>>) -> Result<Option<usize>, Infallible>
+    ensures { result ≡ position_in (λ r. Ok (is_err r)) (items readings.items) }
+{
+    readings
+        .into_iter()
+        .into_fallible()
+        .position(|reading| Ok(reading.is_err()))
+}
+
+/// The sum of the tokens below 10 that stand first, modulo 2 ^ 64, and the token after the one that ends them, which is lost. The clause says the sum.
+pub fn sum_and_next<I: FallibleIterator<Item = u32>>(
+    mut tokens: I,
+) -> Result<(u64, Option<u32>), I::Error>
+where
+    requires can_next { I.contract.can_next tokens }
+    requires finite { I.contract.is_finite tokens }
+    ensures { (l : List (Result ℕ I.Error)) → Lists I.contract.steps tokens l
+        → IfOk result (λ both. Ok both.0 ≡ folded (λ e. e) (λ s x. Ok ((s + x) % 2 ^ 64)) 0
+        (taken_while (λ x. Ok (nat_lt x 10)) l)) }
+{
+    let sum: Result<u64, I::Error> = (&mut tokens).take_while(|token| Ok(*token < 10)).try_fold(
+        0,
+        |sum: u64, token: u32| Ok(sum.wrapping_add(u64::from(token))),
+    );
+    let sum = sum?;
+    Ok((sum, tokens.draw()?))
+}
