@@ -33,7 +33,9 @@ use fallible_callers::parsing::{
 use fallible_callers::ranges::{count_and_sum, runs, sum_below};
 use fallible_callers::reading::{Bytes, LineFault, ReadFailed, newlines_of_three, sum_of_lines};
 use fallible_iterator::Answer::Item;
-use fallible_iterator::{DoubleEndedFallibleIterator, FallibleIterator, Fault, convert, empty};
+use fallible_iterator::{
+    DoubleEndedFallibleIterator, FallibleIterator, Fault, convert, empty, once,
+};
 use std::alloc::{AllocError, Global};
 use std::convert::Infallible;
 use std::fmt::Debug;
@@ -101,10 +103,9 @@ fn makers(rt: HostRuntime) -> Result<(), Fail> {
     assert_eq!(rt; given_above_100(readings(rt.alloc())?), Err(9));
     let behind_two = count_behind_two_answers(rt.alloc(), good_readings(rt.alloc())?)?;
     assert_eq!(rt; behind_two, Ok(2));
-    let mut ahead = convert(good_readings(rt.alloc())?.into_iter()).peekable();
-    assert_eq!(rt; ahead.draw(), Ok(Some(5)));
-    assert_eq!(rt; ahead.peek_copied(), Ok(Some(600)));
-    assert_eq!(rt; count_with_held(ahead), Ok(3));
+    let mut ahead = once::<u32, u8>(5).peekable();
+    assert_eq!(rt; ahead.peek_copied(), Ok(Some(5)));
+    assert_eq!(rt; count_with_held(ahead), Ok(1));
     let around = [1, 2, 3];
     let rounds = convert(around.iter().copied().map(Ok::<u32, AllocError>));
     assert_eq!(rt; sum_of_rounds(rounds, 5), Ok(9));
