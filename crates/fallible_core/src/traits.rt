@@ -90,7 +90,7 @@ pub trait FallibleIterator: Drop + Sized {
 
     /// One answer: an item, a failure or an end. The step of the type says which.
     ///
-    /// It is one draw. It fails where the step says so. What is left is what the step says, and may be drawn from again.
+    /// It is one draw. It fails where the step says so. What is left is what the step says; by the type's law it may be drawn from again.
     ///
     /// Asks that the type's own condition, `can_next`, holds: a search finds it of what sources and adapters make, and each draw keeps it.
     ///
@@ -104,7 +104,7 @@ pub trait FallibleIterator: Drop + Sized {
         requires { contract.can_next self.old }
         ensures { contract.steps self.old result self.new };
 
-    /// Bounds on the items of a run up to its first end, where it has no failure. A type with nothing to say answers `(0, None)`.
+    /// Bounds on the items of a run up to its first end, where it has no failure, by the type's rule. The clause says the rule; that such bounds hold is said by `laws::hints` of `fallible_iterator`. A type with nothing to say answers `(0, None)`.
     ///
     /// It draws nothing and never fails. The iterator is as before.
     ///
@@ -993,7 +993,7 @@ pub trait FallibleIterator: Drop + Sized {
     ///
     /// It draws up to the end, the first failure or a pair that a collection refuses. That both are made before the first draw is tested and no part of the contract.
     ///
-    /// It fails with `Fault::Source` of the first failure, before which all pairs were accepted, and with `Fault::Memory` where a collection refused: one could not be made, or the pair that was refused was the last one drawn. That pair is dropped whole. It takes the iterator, and no clause says what is left.
+    /// It fails with `Fault::Source` of the first failure, before which all pairs were accepted, and with `Fault::Memory` where a collection refused: one could not be made, or the pair that was refused was the last one drawn. That pair is lost. It takes the iterator, and no clause says what is left.
     ///
     /// Asks that it may be drawn from and is finite.
     ///
