@@ -1614,7 +1614,7 @@ pub trait FallibleIterator: Drop + Sized {
 
     /// Begins anew at each end, with a clone of this iterator, which is kept.
     ///
-    /// It clones now, for the first run, and draws nothing. One call draws one answer, and at a run's end one more, of a fresh clone.
+    /// Making it makes one clone, for the first run, and draws nothing. One call draws one answer, and at a run's end one more, of a fresh clone.
     ///
     /// Where the clone for the first run is refused, this iterator is dropped and the answer is `Err(AllocError)`. A draw fails as the run does, and where a clone is refused, with the failure made of the refusal. The run goes on after either. It states no bound, so it is drained through `take`.
     ///
