@@ -90,7 +90,7 @@ pub trait FallibleIterator: Drop + Sized {
 
     /// One answer: an item, a failure or an end. The step of the type says which.
     ///
-    /// It is one draw. It fails where the step says so. What is left is what the step says, and may be drawn from again.
+    /// It is one draw. It fails where the step says so. What is left is what the step says; by the type's law it may be drawn from again.
     ///
     /// Asks that the type's own condition, `can_next`, holds: a search finds it of what sources and adapters make, and each draw keeps it.
     ///
@@ -104,7 +104,7 @@ pub trait FallibleIterator: Drop + Sized {
         requires { contract.can_next self.old }
         ensures { contract.steps self.old result self.new };
 
-    /// Bounds on the items of a run up to its first end, where it has no failure. A type with nothing to say answers `(0, None)`.
+    /// Bounds on the items of a run up to its first end, where it has no failure, by the type's rule. The clause says the rule; that such bounds hold is said by `laws::hints` of `fallible_iterator`. A type with nothing to say answers `(0, None)`.
     ///
     /// It draws nothing and never fails. The iterator is as before.
     ///
@@ -993,7 +993,7 @@ pub trait FallibleIterator: Drop + Sized {
     ///
     /// It draws up to the end, the first failure or a pair that a collection refuses. That both are made before the first draw is tested and no part of the contract.
     ///
-    /// It fails with `Fault::Source` of the first failure, before which all pairs were accepted, and with `Fault::Memory` where a collection refused: one could not be made, or the pair that was refused was the last one drawn. That pair is dropped whole. It takes the iterator, and no clause says what is left.
+    /// It fails with `Fault::Source` of the first failure, before which all pairs were accepted, and with `Fault::Memory` where a collection refused: one could not be made, or the pair that was refused was the last one drawn. That pair is lost. It takes the iterator, and no clause says what is left.
     ///
     /// Asks that it may be drawn from and is finite.
     ///
@@ -1614,7 +1614,7 @@ pub trait FallibleIterator: Drop + Sized {
 
     /// Begins anew at each end, with a clone of this iterator, which is kept.
     ///
-    /// It clones now, for the first run, and draws nothing. One call draws one answer, and at a run's end one more, of a fresh clone.
+    /// Making it makes one clone, for the first run, and draws nothing. One call draws one answer, and at a run's end one more, of a fresh clone.
     ///
     /// Where the clone for the first run is refused, this iterator is dropped and the answer is `Err(AllocError)`. A draw fails as the run does, and where a clone is refused, with the failure made of the refusal. The run goes on after either. It states no bound, so it is drained through `take`.
     ///
@@ -1689,7 +1689,7 @@ pub trait FallibleIterator: Drop + Sized {
     ///
     /// Making it draws nothing. One call of its `next` draws one answer, and never fails. It draws again whenever it is asked again.
     ///
-    /// Asks nothing. A std loop over it asks a bound on the items and failures together, as `convert` and `into_fallible` have one where their std iterator does, and what draws from them has; where there is none, std's `take` gives one.
+    /// Asks nothing. A std loop over it asks a bound on the items and failures together. `convert` and `into_fallible` have one where their std iterator does, and so have the adapters over them but `zip`, `flatten`, `flat_map`, `cycle` and `peekable`. Where there is none, std's `take` gives one.
     ///
     /// ```
     /// for reading in convert(readings.into_iter()).iterator() {

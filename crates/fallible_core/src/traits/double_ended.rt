@@ -20,7 +20,7 @@ pub trait DoubleEndedFallibleIterator: FallibleIterator {
 
     /// One answer from behind: an item, a failure or an end. The step from behind says which.
     ///
-    /// It is one draw, from behind. It fails where the step says so. What is left is what the step says, and may be drawn from again, from either end.
+    /// It is one draw, from behind. It fails where the step says so. What is left is what the step says; by the type's law it may be drawn from again, from either end.
     ///
     /// Asks that it may be drawn from, from either end.
     ///

@@ -71,7 +71,7 @@ where
         → Lists ⟦<Take<Cycle<I>> as FallibleIterator>⟧.contract.steps s (cycled n xs) }
 {}
 
-/// A `Flatten` is finite where its outer source is, and `each` is a bound of the inner iterator in hand and of each one that may come. So a drain of it asks no term where a caller names that number.
+/// A `Flatten` is finite where its outer source and the inner iterator in hand are, and `each` is a bound of each inner iterator that may come. So a drain of it asks no term where a caller names that number.
 pub fn law_flatten_finite<U: IntoFallibleIterator, I: FallibleIterator<Item = U, Error = U::Error>>(
     it: &Flatten<I, U::IntoFallibleIter>,
     each: usize,
