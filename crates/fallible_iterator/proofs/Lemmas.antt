@@ -6,6 +6,8 @@ pub mod Cycled
 pub mod Ends
 pub mod Hints
 pub mod Lent
+pub mod LentWhile
 pub mod Loops
+pub mod LoopsAtEnds
 pub mod Nests
 pub mod Sources

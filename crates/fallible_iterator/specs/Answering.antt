@@ -1,32 +1,41 @@
--- What answers that are drawn one after another tell of a list, and what they leave of it.
-use Rattle.std.specs.Prelude.{ℕ, zero, suc, Result, List, [], ◌∷◌, reverse}
+-- What draws from the ends that sides name tell of a list, and what they leave of it.
+use Rattle.std.specs.Prelude.{ℕ, zero, suc, ◌-◌, Result, List, [], ◌∷◌, ◌++◌, length, map, reverse, take, drop}
 use Rattle.fallible_contract.specs.ShownTraces.{answer_of}
-use Rattle.fallible_contract.specs.Lists.{nth_of, behind_first}
+use Rattle.fallible_contract.specs.Lists.{result_answer}
 use Rattle.fallible_contract.specs.declared.answers.Answer.{Answer}
+use Rattle.fallible_contract.specs.declared.answers.Answer.TheVariants.{End}
 use Rattle.fallible_contract.specs.declared.answers.Side.{Side}
 use Rattle.fallible_contract.specs.declared.answers.Side.TheVariants.{Front, Back}
 
--- what n draws leave of a list, where none of them answers its end: the list without its first n
-unfoldable pub behind_answers : {A E : Type 0} → ℕ → List (Result A E) → List (Result A E)
-behind_answers zero l = l
-behind_answers (suc n) l = behind_answers n (behind_first l)
+-- how many of the sides are the front
+abbrev pub fronts : List Side → ℕ
+fronts [] = zero
+fronts (Front ∷ sides) = suc (fronts sides)
+fronts (Back ∷ sides) = fronts sides
 
--- the answer of one draw at a side of a list: its first in front, its last behind, and an end where it is empty
-abbrev pub answer_at : {A E : Type 0} → Side → List (Result A E) → Answer A E
-answer_at Front l = answer_of (nth_of 0 l)
-answer_at Back l = answer_of (nth_of 0 (reverse l))
+-- how many of them are the back
+abbrev pub backs : List Side → ℕ
+backs [] = zero
+backs (Front ∷ sides) = backs sides
+backs (Back ∷ sides) = suc (backs sides)
 
--- what such a draw leaves: the list without its first, or without its last
-abbrev pub behind_at : {A E : Type 0} → Side → List (Result A E) → List (Result A E)
-behind_at Front l = behind_first l
-behind_at Back l = reverse (behind_first (reverse l))
+-- each result of a list, told as an answer
+unfoldable pub told : {A E : Type 0} → List (Result A E) → List (Answer A E)
+told [] = []
+told (y ∷ l) = answer_of (result_answer y) ∷ told l
 
--- the answers of one draw for each side, in order
+-- In the order of the sides: the next of the first list for a front, the next of the second for a back, and an end where that list has no more.
+unfoldable pub by_sides : {A E : Type 0} → List Side → List (Answer A E) → List (Answer A E) → List (Answer A E)
+by_sides [] a b = []
+by_sides (Front ∷ sides) [] b = End ∷ by_sides sides [] b
+by_sides (Front ∷ sides) (x ∷ a) b = x ∷ by_sides sides a b
+by_sides (Back ∷ sides) a [] = End ∷ by_sides sides a []
+by_sides (Back ∷ sides) a (x ∷ b) = x ∷ by_sides sides a b
+
+-- What is answered: for as many sides as the list has results, those of the list in order in front, and those of the list reversed behind; then ends.
 unfoldable pub answers_at_ends : {A E : Type 0} → List Side → List (Result A E) → List (Answer A E)
-answers_at_ends [] l = []
-answers_at_ends (side ∷ sides) l = answer_at side l ∷ answers_at_ends sides (behind_at side l)
+answers_at_ends sides l = by_sides (take (length l) sides) (told l) (told (reverse l)) ++ map (λ _. End) (drop (length l) sides)
 
--- what they leave of the list
+-- What is left: the list without as many at its front as sides are the front, and without as many at its back as sides are the back.
 unfoldable pub behind_ends : {A E : Type 0} → List Side → List (Result A E) → List (Result A E)
-behind_ends [] l = l
-behind_ends (side ∷ sides) l = behind_ends sides (behind_at side l)
+behind_ends sides l = drop (fronts sides) (take (length l - backs sides) l)

@@ -6,6 +6,7 @@ pub mod Laws
 pub mod Listing
 pub mod Lists
 pub mod Nests
+pub mod ShowingEnds
 pub mod SoundHints
 pub mod Sources
 pub use Rattle.fallible_contract.specs.BothEnds

@@ -27,5 +27,6 @@ unfoldable pub use Rattle.fallible_core.specs.Joining.Zip.{zipped}
 pub use Rattle.fallible_core.specs.Joining.Flatten.{EachLists}
 unfoldable pub use Rattle.fallible_core.specs.Joining.Flatten.{flattened}
 unfoldable pub use Rattle.fallible_core.specs.Peeking.Peekable.{looked_ahead, looked_at, first_if, behind_if}
-unfoldable pub use Rattle.fallible_iterator.specs.Answering.{behind_answers, answers_at_ends, behind_ends}
+unfoldable pub use Rattle.fallible_iterator.specs.Answering.{told, by_sides, answers_at_ends, behind_ends}
+pub use Rattle.fallible_iterator.specs.Answering.{fronts, backs}
 unfoldable pub use Rattle.fallible_iterator.specs.Cycled.{cycled_from, cycled}

@@ -1,25 +1,172 @@
 -- What draws tell of a list, and what they leave of it.
-use Rattle.std.specs.Prelude.{◌≡◌, ℕ, ◌≤◌, List, [], ◌∷◌, map, length, Result}
-use Rattle.std.proofs.Common.{refl, ◌∙◌, ap, subst, arith}
+use Rattle.std.specs.Prelude.{◌≡◌, ℕ, zero, suc, ◌+◌, ◌-◌, ◌≤◌, List, [], ◌∷◌, ◌++◌, map, length, reverse, take, drop, Result, Ok, Err, ◌⊎◌}
+use Rattle.std.proofs.Common.{refl, sym, ◌∙◌, ap, subst, arith, inl, inr}
+use Rattle.std.proofs.lemmas.List.{reverse-reverse, reverse-append, take-append-le, length-append, length-reverse}
+use Rattle.std.proofs.Math.Seq.{drop-nil, take-length}
 use Rattle.fallible_contract.specs.Traces.{Answered, Run}
 use Rattle.fallible_contract.specs.ShownTraces.{answer_of, IsAnswers, IsAnswersAt}
-use Rattle.fallible_contract.specs.Lists.{AlwaysGives, Lists, behind_first}
+use Rattle.fallible_contract.specs.Lists.{AlwaysGives, Lists, result_answer, nth_of, behind_first}
 use Rattle.fallible_contract.specs.BothEnds.{step_at, RunAtEnds, ListsBothEnds}
 use Rattle.fallible_core.proofs.Lemmas.LeftAtEnds.{left_in_front, left_behind}
-use Rattle.fallible_iterator.specs.Answering.{behind_answers, answer_at, behind_at, answers_at_ends, behind_ends}
+use Rattle.fallible_iterator.specs.Answering.{fronts, backs, told, by_sides, answers_at_ends, behind_ends}
 use Rattle.fallible_contract.specs.declared.answers.Answer.{Answer}
+use Rattle.fallible_contract.specs.declared.answers.Answer.TheVariants.{End}
 use Rattle.fallible_contract.specs.declared.answers.Side.{Side}
 use Rattle.fallible_contract.specs.declared.answers.Side.TheVariants.{Front, Back}
 
 module _ {S A E : Type 0} (steps : S → Answered A E → S → Type 0) where
-  left_of_list : (trace : List (Answered A E)) (l : List (Result A E)) (s t : S) → AlwaysGives steps s l → Run steps s trace t → length trace ≤ length l → AlwaysGives steps t (behind_answers (length trace) l)
-  unfolding behind_answers behind_first
+  left_of_list : (trace : List (Answered A E)) (l : List (Result A E)) (s t : S) → AlwaysGives steps s l → Run steps s trace t → length trace ≤ length l → AlwaysGives steps t (drop (length trace) l)
   left_of_list [] l s t a ran within = subst (λ (u : S). AlwaysGives steps u l) ran a
   left_of_list (r ∷ trace) [] s t a ran within = absurd (omega (arith, within))
   left_of_list (r ∷ trace) (y ∷ l) s t a ran within = left_of_list trace l ran.0 t (a r ran.0 ran.1).1 ran.2 (omega (arith, within))
 
-  pub answers_left : {s t : S} {n : ℕ} {values : List (Answer A E)} (l : List (Result A E)) → IsAnswers steps s n values t → n ≤ length l → Lists steps s l → Lists steps t (behind_answers n l)
-  answers_left {s} {t} {n} l p within i = record { runs = subst (λ (k : ℕ). AlwaysGives steps t (behind_answers k l)) p.count (left_of_list p.trace l s t i.runs p.ran (let c = p.count in omega (arith, c, within))) }
+  pub answers_left : {s t : S} {n : ℕ} {values : List (Answer A E)} (l : List (Result A E)) → IsAnswers steps s n values t → n ≤ length l → Lists steps s l → Lists steps t (drop n l)
+  answers_left {s} {t} {n} l p within i = record { runs = subst (λ (k : ℕ). AlwaysGives steps t (drop k l)) p.count (left_of_list p.trace l s t i.runs p.ran (let c = p.count in omega (arith, c, within))) }
+
+-- ---- sides
+
+-- the answer of one draw at a side of a list: its first in front, its last behind, and an end where it is empty
+abbrev answer_at : {A E : Type 0} → Side → List (Result A E) → Answer A E
+answer_at Front l = answer_of (nth_of 0 l)
+answer_at Back l = answer_of (nth_of 0 (reverse l))
+
+-- what such a draw leaves: the list without its first, or without its last
+abbrev behind_at : {A E : Type 0} → Side → List (Result A E) → List (Result A E)
+behind_at Front l = behind_first l
+behind_at Back l = reverse (behind_first (reverse l))
+
+module _ {A E : Type 0} where
+  -- a list is empty, or has a last
+  last_view : (l : List (Result A E)) → (l ≡ []) ⊎ ((k : List (Result A E)) × (y : Result A E) × (l ≡ k ++ y ∷ []))
+  last_view l = view (reverse l) refl
+    where
+      view : (r : List (Result A E)) → reverse l ≡ r → (l ≡ []) ⊎ ((k : List (Result A E)) × (y : Result A E) × (l ≡ k ++ y ∷ []))
+      view [] e = inl (sym (reverse-reverse l) ∙ ap reverse e)
+      view (y ∷ k) e = inr (reverse k, y, sym (reverse-reverse l) ∙ ap reverse e ∙ reverse-append (y ∷ []) k)
+
+  told-append : (a b : List (Result A E)) → told (a ++ b) ≡ told a ++ told b
+  unfolding told
+  told-append [] b = refl
+  told-append (y ∷ a) b = ap (λ l. answer_of (result_answer y) ∷ l) (told-append a b)
+
+  told-length : (a : List (Result A E)) → length (told a) ≡ length a
+  unfolding told
+  told-length [] = refl
+  told-length (y ∷ a) = ap suc (told-length a)
+
+  -- more values behind a list from which no more are taken than it has
+  more_behind : (sides : List Side) (a b c : List (Answer A E)) → backs sides ≤ length b → by_sides sides a (b ++ c) ≡ by_sides sides a b
+  unfolding by_sides
+  more_behind [] a b c few = refl
+  more_behind (Front ∷ sides) [] b c few = ap (λ l. End ∷ l) (more_behind sides [] b c (omega (arith, few)))
+  more_behind (Front ∷ sides) (x ∷ a) b c few = ap (λ l. x ∷ l) (more_behind sides a b c (omega (arith, few)))
+  more_behind (Back ∷ sides) a [] c few = absurd (omega (arith, few))
+  more_behind (Back ∷ sides) a (x ∷ b) c few = ap (λ l. x ∷ l) (more_behind sides a b c (omega (arith, few)))
+
+  more_in_front : (sides : List Side) (a b c : List (Answer A E)) → fronts sides ≤ length a → by_sides sides (a ++ c) b ≡ by_sides sides a b
+  unfolding by_sides
+  more_in_front [] a b c few = refl
+  more_in_front (Back ∷ sides) a [] c few = ap (λ l. End ∷ l) (more_in_front sides a [] c (omega (arith, few)))
+  more_in_front (Back ∷ sides) a (x ∷ b) c few = ap (λ l. x ∷ l) (more_in_front sides a b c (omega (arith, few)))
+  more_in_front (Front ∷ sides) [] b c few = absurd (omega (arith, few))
+  more_in_front (Front ∷ sides) (x ∷ a) b c few = ap (λ l. x ∷ l) (more_in_front sides a b c (omega (arith, few)))
+
+fronts_within : (n : ℕ) (sides : List Side) → fronts (take n sides) ≤ n
+fronts_within zero sides = omega arith
+fronts_within (suc n) [] = omega arith
+fronts_within (suc n) (Front ∷ sides) = let h = fronts_within n sides in omega (arith, h)
+fronts_within (suc n) (Back ∷ sides) = let h = fronts_within n sides in omega (arith, h)
+
+backs_within : (n : ℕ) (sides : List Side) → backs (take n sides) ≤ n
+backs_within zero sides = omega arith
+backs_within (suc n) [] = omega arith
+backs_within (suc n) (Front ∷ sides) = let h = backs_within n sides in omega (arith, h)
+backs_within (suc n) (Back ∷ sides) = let h = backs_within n sides in omega (arith, h)
+
+less_of_both : (b n : ℕ) → (suc n - b ≡ suc (n - b)) ⊎ ((suc n - b ≡ 0) × (n - b ≡ 0))
+less_of_both zero n = inl (omega arith)
+less_of_both (suc b) zero = inr (omega arith, omega arith)
+less_of_both (suc b) (suc n) = elim (less_of_both b n) [ inl e ↦ inl (omega (arith, e)) | inr e ↦ inr (omega (arith, e.0), omega (arith, e.1)) ]
+
+-- ---- one draw more
+
+module _ {A E : Type 0} where
+  told_first : (y : Result A E) (l : List (Result A E)) → answer_of (nth_of 0 (y ∷ l)) ≡ answer_of (result_answer y)
+  unfolding nth_of
+  told_first (Ok x) l = refl
+  told_first (Err e) l = refl
+
+  -- the answers of one side more
+  answers_front : (sides : List Side) (y : Result A E) (l : List (Result A E)) → answers_at_ends (Front ∷ sides) (y ∷ l) ≡ answer_of (result_answer y) ∷ answers_at_ends sides l
+  unfolding answers_at_ends by_sides told
+  answers_front sides y l =
+      let few : backs (take (length l) sides) ≤ length (told (reverse l)) = (let h = backs_within (length l) sides in let e = told-length (reverse l) in let r = length-reverse l in omega (arith, h, e, r)) in
+      ap (λ k. answer_of (result_answer y) ∷ (k ++ map (λ _. End) (drop (length l) sides)))
+      (ap (by_sides (take (length l) sides) (told l)) (ap told (reverse-append (y ∷ []) l) ∙ told-append (reverse l) (y ∷ []))
+      ∙ more_behind (take (length l) sides) (told l) (told (reverse l)) (told (y ∷ [])) few)
+
+  answers_back : (sides : List Side) (k : List (Result A E)) (y : Result A E) → answers_at_ends (Back ∷ sides) (k ++ y ∷ []) ≡ answer_of (result_answer y) ∷ answers_at_ends sides k
+  unfolding answers_at_ends by_sides told
+  answers_back sides k y =
+      let len : length (k ++ y ∷ []) ≡ suc (length k) = omega (arith, length-append k (y ∷ [])) in
+      let few : fronts (take (length k) sides) ≤ length (told k) = (let h = fronts_within (length k) sides in let e = told-length k in omega (arith, h, e)) in
+      ap (λ n. by_sides (take n (Back ∷ sides)) (told (k ++ y ∷ [])) (told (reverse (k ++ y ∷ []))) ++ map (λ _. End) (drop n (Back ∷ sides))) len
+      ∙ ap (λ b. by_sides (Back ∷ take (length k) sides) (told (k ++ y ∷ [])) (told b) ++ map (λ _. End) (drop (length k) sides)) (reverse-append k (y ∷ []))
+      ∙ ap (λ a. answer_of (result_answer y) ∷ (by_sides (take (length k) sides) a (told (reverse k)) ++ map (λ _. End) (drop (length k) sides))) (told-append k (y ∷ []))
+      ∙ ap (λ b. answer_of (result_answer y) ∷ (b ++ map (λ _. End) (drop (length k) sides))) (more_in_front (take (length k) sides) (told k) (told (reverse k)) (told (y ∷ [])) few)
+
+  cut : (i : ℕ) (y : Result A E) (l : List (Result A E)) (m n : ℕ) → (m ≡ suc n) ⊎ ((m ≡ 0) × (n ≡ 0)) → drop (suc i) (take m (y ∷ l)) ≡ drop i (take n l)
+  cut i y l m n (inl more) = ap (λ k. drop (suc i) (take k (y ∷ l))) more
+  cut i y l m n (inr none) = ap (λ k. drop (suc i) (take k (y ∷ l))) none.0 ∙ sym (drop-nil i) ∙ sym (ap (λ k. drop i (take k l)) none.1)
+
+  -- what one side more leaves
+  left_front : (sides : List Side) (y : Result A E) (l : List (Result A E)) → behind_ends (Front ∷ sides) (y ∷ l) ≡ behind_ends sides l
+  unfolding behind_ends
+  left_front sides y l = cut (fronts sides) y l (suc (length l) - backs sides) (length l - backs sides) (less_of_both (backs sides) (length l))
+
+  left_back : (sides : List Side) (k : List (Result A E)) (y : Result A E) → behind_ends (Back ∷ sides) (k ++ y ∷ []) ≡ behind_ends sides k
+  unfolding behind_ends
+  left_back sides k y =
+      let less : length (k ++ y ∷ []) - suc (backs sides) ≡ length k - backs sides = (let e = length-append k (y ∷ []) in omega (arith, e)) in
+      ap (λ n. drop (fronts sides) (take n (k ++ y ∷ []))) less
+      ∙ ap (drop (fronts sides)) (take-append-le (length k - backs sides) k (y ∷ []) (omega arith))
+
+  none_left : (i n : ℕ) → ◌≡◌ {A = List (Result A E)} (drop i (take n [])) []
+  none_left i zero = drop-nil i
+  none_left i (suc n) = drop-nil i
+
+  -- what is drawn at the back of a list with a last
+  drawn_back : (k : List (Result A E)) (y : Result A E) → (answer_at Back (k ++ y ∷ []) ≡ answer_of (result_answer y)) × (behind_at Back (k ++ y ∷ []) ≡ k)
+  unfolding behind_first
+  drawn_back k y = let last = reverse-append k (y ∷ []) in
+      (ap (λ l. answer_of (nth_of 0 l)) last ∙ told_first y (reverse k), ap (λ l. reverse (behind_first l)) last ∙ reverse-reverse k)
+
+  none_answered : (l : List (Result A E)) → [] ≡ answers_at_ends [] l
+  unfolding answers_at_ends by_sides
+  none_answered [] = refl
+  none_answered (y ∷ l) = refl
+
+  none_drawn : (l : List (Result A E)) → behind_ends [] l ≡ l
+  unfolding behind_ends
+  none_drawn l = let all : length l - 0 ≡ length l = omega arith in ap (λ n. take n l) all ∙ take-length l
+
+  abbrev OneMore : Side → List Side → List (Result A E) → Type 0
+  OneMore side sides l = (answers_at_ends (side ∷ sides) l ≡ answer_at side l ∷ answers_at_ends sides (behind_at side l)) × (behind_ends (side ∷ sides) l ≡ behind_ends sides (behind_at side l))
+
+  more_of_none : (side : Side) (sides : List Side) → OneMore side sides []
+  unfolding answers_at_ends behind_ends nth_of behind_first by_sides told
+  more_of_none Front sides = (refl, none_left (suc (fronts sides)) (0 - backs sides) ∙ sym (none_left (fronts sides) (0 - backs sides)))
+  more_of_none Back sides = (refl, none_left (fronts sides) (0 - suc (backs sides)) ∙ sym (none_left (fronts sides) (0 - backs sides)))
+
+  -- a side more is one draw and then the others, whatever the list
+  one_more : (side : Side) (sides : List Side) (l : List (Result A E)) → OneMore side sides l
+  unfolding behind_first
+  one_more Front sides [] = more_of_none Front sides
+  one_more Front sides (y ∷ l) = (answers_front sides y l ∙ ap (λ a. a ∷ answers_at_ends sides l) (sym (told_first y l)), left_front sides y l)
+  one_more Back sides l = elim (last_view l) [
+    | inl none ↦ subst (OneMore Back sides) (sym none) (more_of_none Back sides)
+    | inr s ↦ let d = drawn_back s.0 s.1 in subst (OneMore Back sides) (sym s.2) (answers_back sides s.0 s.1 ∙ ap (λ a. a ∷ answers_at_ends sides s.0) (sym d.0) ∙ ap (λ k. answer_at Back (s.0 ++ s.1 ∷ []) ∷ answers_at_ends sides k) (sym d.1), left_back sides s.0 s.1 ∙ ap (behind_ends sides) (sym d.1))
+  ]
 
 module _ {S A E : Type 0} (front back : S → Answered A E → S → Type 0) where
   drawn_at : (side : Side) (s t : S) (r : Answered A E) (l : List (Result A E)) → ListsBothEnds front back s l → step_at front back side s r t → (answer_of r ≡ answer_at side l) × ListsBothEnds front back t (behind_at side l)
@@ -27,9 +174,9 @@ module _ {S A E : Type 0} (front back : S → Answered A E → S → Type 0) whe
   drawn_at Back s t r l i step = let d = left_behind l i step in (ap answer_of d.0, d.1)
 
   told_at_ends : (pairs : List (Side × Answered A E)) (l : List (Result A E)) (s t : S) → ListsBothEnds front back s l → RunAtEnds front back s pairs t → (map (λ p. answer_of p.1) pairs ≡ answers_at_ends (map (λ p. p.0) pairs) l) × ListsBothEnds front back t (behind_ends (map (λ p. p.0) pairs) l)
-  unfolding answers_at_ends behind_ends
-  told_at_ends [] l s t i ran = (refl, subst (λ (u : S). ListsBothEnds front back u l) ran i)
-  told_at_ends (p ∷ pairs) l s t i ran = let d = drawn_at p.0 s ran.0 p.1 l i ran.1 in let rest = told_at_ends pairs (behind_at p.0 l) ran.0 t d.1 ran.2 in let first = d.0 in let others = rest.0 in ((cc), rest.1)
+  told_at_ends [] l s t i ran = (none_answered l, subst (λ (u : S). ListsBothEnds front back u (behind_ends [] l)) ran (subst (λ (k : List (Result A E)). ListsBothEnds front back s k) (sym (none_drawn l)) i))
+  told_at_ends (p ∷ pairs) l s t i ran = let d = drawn_at p.0 s ran.0 p.1 l i ran.1 in let rest = told_at_ends pairs (behind_at p.0 l) ran.0 t d.1 ran.2 in let more = one_more p.0 (map (λ q. q.0) pairs) l in
+      (ap (λ a. a ∷ map (λ q. answer_of q.1) pairs) d.0 ∙ ap (λ k. answer_at p.0 l ∷ k) rest.0 ∙ sym more.0, subst (λ (k : List (Result A E)). ListsBothEnds front back t k) (sym more.1) rest.1)
 
   pub answers_at_told : {s t : S} {sides : List Side} {values : List (Answer A E)} (l : List (Result A E)) → IsAnswersAt front back s sides values t → ListsBothEnds front back s l → (values ≡ answers_at_ends sides l) × ListsBothEnds front back t (behind_ends sides l)
   answers_at_told {s} {t} {sides} l p i = let d = told_at_ends p.pairs l s t i p.ran in

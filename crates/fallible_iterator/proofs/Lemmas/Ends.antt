@@ -59,7 +59,7 @@ module _ {A E : Type 0} where
   itself : (l : List (Result A E)) → Lists draws_list l l
   itself l = record { runs = gives_itself l }
 
-  same_result : (x y : Result A E) → result_answer x ≡ result_answer y → x ≡ y
+  pub same_result : (x y : Result A E) → result_answer x ≡ result_answer y → x ≡ y
   same_result (Ok x) (Ok y) e = cc
   same_result (Ok x) (Err y) e = absurd cc
   same_result (Err x) (Ok y) e = absurd cc

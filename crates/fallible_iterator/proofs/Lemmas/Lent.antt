@@ -1,16 +1,20 @@
--- What a `take` of a borrow leaves the lender.
-use Rattle.std.specs.Prelude.{◌≡◌, ℕ, zero, suc, ◌<◌, length, List, [], ◌∷◌, ◌++◌, map, Result, Option, Some, None, Ok, Err}
-use Rattle.std.specs.Borrow.{MutBor}
+-- What a `take` of a borrow leaves the lender, also under a `filter`, and what a pair of two borrows does.
+use Rattle.std.specs.Prelude.{◌≡◌, ℕ, zero, suc, ◌<◌, length, Bool, List, [], ◌∷◌, ◌++◌, map, Result, Option, Some, None, Ok, Err}
+use Rattle.std.specs.Borrow.{MutBor, Bor}
+use Rattle.std.specs.Fn.{Mut}
 use Rattle.std.proofs.Common.{refl, ap, subst, arith, length-append, ◌⊎◌, inl, inr}
 use Rattle.fallible_contract.specs.Traces.{Answered, Run, item, end}
 use Rattle.fallible_contract.specs.Contract.{Contract, seen_as, unbounded_contract}
+use Rattle.fallible_contract.specs.Closures.{call_at}
 use Rattle.fallible_contract.specs.Folds.{Folded, FoldExit, Nth, NthExit}
-use Rattle.fallible_contract.specs.Lists.{AlwaysGives, Lists, nth_of, behind_nth}
+use Rattle.fallible_contract.specs.Lists.{Acts, AlwaysGives, Lists, nth_of, behind_nth}
 use Rattle.fallible_core.specs.Borrowed.{borrowed}
 use Rattle.fallible_core.specs.Cutting.Take.{take_parts, take_contract, taken}
+use Rattle.fallible_core.specs.Filtering.Filter.{filter_parts, filter_contract}
 use Rattle.fallible_core.proofs.Lemmas.Borrowed.{run_behind, lists_borrowed}
-use Rattle.fallible_core.proofs.Lemmas.Callers.{TakenRun, taken_run}
+use Rattle.fallible_core.proofs.Lemmas.Callers.{TakenRun, filtered_run, taken_run}
 use Rattle.fallible_core.specs.declared.cutting.take.Take.{Take}
+use Rattle.fallible_core.specs.declared.filtering.filter.Filter.{Filter}
 
 module _ {S A E : Type 0} (steps : S → Answered A E → S → Type 0) where
   -- what is given behind k + 1 items
@@ -60,7 +64,7 @@ module _ {S A E : Type 0} (m : Contract S A E) (k : ℕ) (l : List (Result A E))
   item_behind None exit no_end a (inl d) = absurd (no_end (ends_before m.steps xs k l it.now t.now d.1 a (run_behind m.steps (map item xs ++ end ∷ []) it t d.0)))
   item_behind None exit no_end a (inr d) = absurd (let all = d.2 in omega (arith, all, exit))
 
-last_is_end : {A B E E' F : Type 0} (call : F → B → A → Result B E' → F → Type 0) (from : E → E' → Type 0) (b : B) (f : F) (last : Answered A E) (v : B) → FoldExit call from b f last (Ok v) → last ≡ end
+pub last_is_end : {A B E E' F : Type 0} (call : F → B → A → Result B E' → F → Type 0) (from : E → E' → Type 0) (b : B) (f : F) (last : Answered A E) (v : B) → FoldExit call from b f last (Ok v) → last ≡ end
 last_is_end call from b f (Ok None) v exit = refl
 last_is_end call from b f (Err e) v exit = absurd (let h = exit.2 in cc)
 last_is_end call from b f (Ok (Some x)) v exit = absurd (let h = exit.2 in cc)
@@ -97,6 +101,21 @@ pub behind_lent_nth : {S A E : Type 0} {steps : S → Answered A E → S → Typ
 behind_lent_nth {steps = steps} {it = it} {s = s} {t = t} {o = o} {x = x} k {l = l} back parts h i no_end =
     let left : Lists steps t.it.now (behind_nth k l) = record { runs = item_behind (unbounded_contract steps) k l it t.it h.skipped o h.exit no_end i.runs (taken_run (borrowed (unbounded_contract steps)) (suc k) it s t h.skipped (Ok o) parts h.ran) } in
     rw back left
+
+-- ---- under a filter
+
+-- the steps of `filter` over `take` of a borrow of what steps so
+abbrev pub lent_filter_steps : {S P A E : Type 0} → (S → Answered A E → S → Type 0) → Mut P (Bor A × Unit {0}) (Result Bool E) → Filter (Take (MutBor S)) P → Answered A E → Filter (Take (MutBor S)) P → Type 0
+lent_filter_steps steps g = (seen_as filter_parts (filter_contract (seen_as take_parts (take_contract (borrowed (unbounded_contract steps)))) g)).steps
+
+module _ {S P A E : Type 0} {steps : S → Answered A E → S → Type 0} {g : Mut P (Bor A × Unit {0}) (Result Bool E)} {it : MutBor S} {tk : Take (MutBor S)} {p : P} (s t : Filter (Take (MutBor S)) P) {x : S} (k : ℕ) {l : List (Result A E)} (h : A → Bool) where
+  -- After a run over `take(k + 1).filter(p)` of a borrow that came to its end, the lender lists what stands behind its first k + 1 items, where it has so many.
+  pub behind_lent_run : Acts (call_at g) p (λ y. Ok (h y)) → x ≡ t.it.it.now → take_parts tk ≡ (it, suc k) → filter_parts s ≡ (tk, Some p) → (xs : List A) → Run (lent_filter_steps steps g) s (map item xs ++ end ∷ []) t → Lists steps it.now l → ¬ (nth_of k l ≡ Ok None) → Lists steps x (behind_nth k l)
+  behind_lent_run acts back taken parts xs ran i no_end =
+      let m : Contract S A E = unbounded_contract steps in
+      let under = filtered_run (seen_as take_parts (take_contract (borrowed m))) g h p tk s t xs end acts parts ran in
+      let left : Lists steps t.it.it.now (behind_nth k l) = record { runs = left_behind steps under.items k l it.now t.it.it.now i.runs no_end (of_lender m under.items k it t.it.it (taken_run (borrowed m) (suc k) it tk t.it under.items end taken under.ran)) } in
+      rw back left
 
 -- ---- what a result says
 

@@ -1,11 +1,11 @@
 //! Traces that a test or a caller can look at.
-ghost use Rattle.std.specs.Prelude.{◌≡◌, ℕ, ◌+◌, ◌≤◌, List, length, take, IfOk, IfErr, Result, Option};
+ghost use Rattle.std.specs.Prelude.{◌≡◌, ℕ, ◌+◌, ◌≤◌, List, length, take, drop, IfOk, IfErr, Result, Option};
 ghost use Rattle.fallible_contract.specs.Contract.{Contract, Stays};
 ghost use Rattle.fallible_contract.specs.Ends.{from_front};
 ghost use Rattle.fallible_contract.specs.ShownTraces.{answer_of, IsAnswers, IsAnswersAt, answers_of};
 ghost use Rattle.fallible_contract.specs.Lists.{Lists};
 ghost use Rattle.fallible_contract.specs.BothEnds.{step_at, ListsBothEnds};
-ghost use Rattle.fallible_iterator.specs.Answering.{behind_answers, answers_at_ends, behind_ends};
+ghost use Rattle.fallible_iterator.specs.Answering.{answers_at_ends, behind_ends};
 
 use fallible_contract::answers::{Answer, Side};
 use fallible_core::{DoubleEndedFallibleIterator, FallibleIterator};
@@ -32,7 +32,7 @@ where
     ensures value { (l : List (Result I.Item I.Error)) → n ≤ length l + 1
         → Lists I.contract.steps it.old l → IfOk result (λ v. v.items ≡ take n (answers_of l)) }
     ensures rest { (l : List (Result I.Item I.Error)) → n ≤ length l → Lists I.contract.steps it.old l
-        → IfOk result (λ _. Lists I.contract.steps it.new (behind_answers n l)) }
+        → IfOk result (λ _. Lists I.contract.steps it.new (drop n l)) }
     ensures refused { IfErr result (λ _. it.new ≡ it.old) }
     ensures stays { Stays I.contract it.old it.new }
 {

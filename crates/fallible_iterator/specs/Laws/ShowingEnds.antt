@@ -1,0 +1,63 @@
+-- A type with two ends whose value shows what it lists is lawful, and lists that from both ends.
+use Rattle.std.specs.Prelude.{◌≡◌, ℕ, ◌≤◌, zero, suc, length, reverse, Result, Some, None, Ok, Err, List, [], ◌∷◌}
+use Rattle.std.proofs.Common.{refl, sym, ap, subst, ◌∙◌, arith}
+use Rattle.std.proofs.lemmas.List.{length-reverse, reverse-reverse}
+use Rattle.fallible_contract.specs.Traces.{Answered}
+use Rattle.fallible_contract.specs.Contract.{OnAnswer, NoMore, Fewer, Lawful}
+use Rattle.fallible_contract.specs.Ends.{from_back, LawfulEnds}
+use Rattle.fallible_contract.specs.BothEnds.{TakesFirst, ListsBothEndsFor, ListsBothEnds}
+use Rattle.fallible_contract.specs.Showing.{TakesShown, listing}
+use Rattle.fallible_contract.specs.Laws.Showing.{lawful_listing}
+use Rattle.fallible_iterator.specs.ShowingEnds.{listing_ends}
+
+module _ {S A E : Type 0} (shows : S → List (Result A E)) where
+  -- as many are shown from behind
+  no_more : (s t : S) → NoMore (listing (λ u. reverse (shows u))) s t → NoMore (listing shows) s t
+  no_more s t less n b = let d = less n (let e = length-reverse (shows s) in omega (arith, e, b)) in let e = length-reverse (shows t) in (d.0, (let k = d.1 in omega (arith, e, k)), d.2)
+
+  fewer : (s t : S) → Fewer (listing (λ u. reverse (shows u))) s t → Fewer (listing shows) s t
+  fewer s t less n b = let d = less n (let e = length-reverse (shows s) in omega (arith, e, b)) in let e = length-reverse (shows t) in (d.0, (let k = d.1 in omega (arith, e, k)), d.2)
+
+  answer_behind : (s t : S) (r : Answered A E) → OnAnswer (listing (λ u. reverse (shows u))) s r t → OnAnswer (from_back (listing shows) (listing_ends shows)) s r t
+  answer_behind s t (Ok (Some x)) a = (tt, fewer s t a.1, (λ f. absurd f))
+  answer_behind s t (Ok None) a = (no_more s t a.0, (λ f. absurd f))
+  answer_behind s t (Err e) a = (tt, no_more s t a.1, (λ f. absurd f))
+
+  pub lawful_listing_ends : LawfulEnds (listing shows) (listing_ends shows)
+  lawful_listing_ends = record {
+    front_can = λ s c. tt;
+    may_give = λ s x g. tt;
+    may_fail = λ s x g. tt;
+    front = lawful_listing shows;
+    back = record {
+      kept_by_draw = λ s r t c step. record {
+        can_next = tt;
+        is_finite = λ f. tt;
+        answer = answer_behind s t r ((lawful_listing (λ u. reverse (shows u))).kept_by_draw s r t tt step).answer;
+        may_give = λ x g. tt;
+        may_fail = λ e g. tt;
+        lenders = refl;
+      };
+      bounded = λ s. ((λ f. (length (shows s), omega arith)), (λ n. tt));
+    };
+  }
+
+  -- what takes of the list that is shown
+  shown_front : (n : ℕ) (l : List (Result A E)) (s t : S) (r : Answered A E) → shows s ≡ l → TakesShown l r (shows t) → ((k : List (Result A E)) → shows t ≡ k → ListsBothEndsFor (listing shows).steps (listing_ends shows).steps n t k) → TakesFirst (λ k. ListsBothEndsFor (listing shows).steps (listing_ends shows).steps n t k) r l
+  shown_front n [] s t r e w all = (w.0, all [] w.1)
+  shown_front n (y ∷ l) s t r e w all = (w.0, all l w.1)
+
+  shown_behind : (n : ℕ) (l : List (Result A E)) (s t : S) (r : Answered A E) → TakesShown l r (reverse (shows t)) → ((k : List (Result A E)) → shows t ≡ k → ListsBothEndsFor (listing shows).steps (listing_ends shows).steps n t k) → TakesFirst (λ k. ListsBothEndsFor (listing shows).steps (listing_ends shows).steps n t (reverse k)) r l
+  shown_behind n [] s t r w all = (w.0, all [] (sym (reverse-reverse (shows t)) ∙ ap reverse w.1))
+  shown_behind n (y ∷ l) s t r w all = (w.0, all (reverse l) (sym (reverse-reverse (shows t)) ∙ ap reverse w.1))
+
+  shown_for : (n : ℕ) (s : S) (l : List (Result A E)) → shows s ≡ l → ListsBothEndsFor (listing shows).steps (listing_ends shows).steps n s l
+  shown_for zero s l e = tt
+  shown_for (suc n) s l e = (
+    (λ r t step. shown_front n l s t r e (subst (λ (k : List (Result A E)). TakesShown k r (shows t)) e step) (λ k same. shown_for n t k same)),
+    (λ r t step. shown_behind n (reverse l) s t r (subst (λ (k : List (Result A E)). TakesShown (reverse k) r (reverse (shows t))) e step) (λ k same. shown_for n t k same)),
+  )
+
+  -- It lists what it shows, from both ends.
+  pub lists_both_shown : (s : S) → ListsBothEnds (listing shows).steps (listing_ends shows).steps s (shows s)
+  lists_both_shown s = record { for = λ n. shown_for n s (shows s) refl }
