@@ -1,10 +1,10 @@
 //! Draws from behind.
-ghost use Rattle.std.specs.Prelude.{eqb, ◌*◌, nat_lt, not, reverse, ◌≡◌, ℕ, ◌+◌, ◌++◌, ◌%◌, ◌^◌, [], ◌∷◌, List, Result, Ok, Option, Some};
+ghost use Rattle.std.specs.Prelude.{eqb, ◌*◌, nat_lt, not, reverse, ◌≡◌, ℕ, ◌+◌, ◌++◌, ◌%◌, ◌^◌, [], ◌∷◌, List, Result, Ok, IfOk, Option, Some};
 ghost use Rattle.std.specs.Vec.Iter.{into_iter_items};
 ghost use Rattle.fallible_iterator.specs.Side.{Side};
 ghost use Rattle.fallible_iterator.specs.Traces.{Answered};
 ghost use Rattle.fallible_iterator.specs.BothEnds.{ListsBothEnds};
-ghost use Rattle.fallible_iterator.specs.Lists.{results, reversed, folded, counted, behind_true, behind_first, behind_nth, found, nth_of, mapped, filtered, skipped_while, CollectedAs};
+ghost use Rattle.fallible_iterator.specs.Lists.{answers_at_ends, results, reversed, folded, counted, behind_true, behind_first, behind_nth, found, nth_of, mapped, filtered, skipped_while, chained, CollectedAs};
 ghost use Rattle.fallible_iterator.specs.Listing.{DrawsInterleave};
 ghost use Rattle.fallible_iterator.specs.Sources.Convert.{convert_parts};
 ghost use Rattle.std.specs.declared.vec.IntoIter.{IntoIter};
@@ -13,7 +13,7 @@ ghost use Rattle.fallible_iterator.specs.declared.sources.convert.Convert.{Conve
 
 use fallible_iterator::laws::{
     answers_at, law_after_front, law_back_convert, law_draws, law_interleave, law_listed_vec,
-    law_lists_filter, law_lists_map,
+    law_lists_chain, law_lists_filter, law_lists_map,
 };
 use fallible_iterator::{
     Answer, Convert, DoubleEndedFallibleIterator, FallibleIterator, Fault, Side, convert,
@@ -79,19 +79,47 @@ pub fn sum_from_behind(readings: Vec<Result<u32, u8>>) -> Result<u64, u8>
 pub fn three_answers(
     alloc: Global,
     readings: Vec<Result<u32, u8>>,
-) -> Result<Vec<Answer<u32, u8>>, AllocError> {
+) -> Result<Vec<Answer<u32, u8>>, AllocError>
+    ensures { IfOk result
+        (λ v. v.items ≡ answers_at_ends (Side.Front ∷ Side.Back ∷ Side.Back ∷ []) (results readings.items)) }
+{
+    law_listed_vec::<u32, u8>();
     let mut it = convert(readings.into_iter());
     answers_at(alloc, &mut it, &[Side::Front, Side::Back, Side::Back])
 }
 
-/// The last but one of the doubled readings above 1000, once the first and the last were drawn.
-pub fn last_but_one(readings: Vec<Result<u32, u8>>) -> Result<Option<u64>, u8> {
-    let mut it = convert(readings.into_iter())
-        .map(|reading| Ok(u64::from(reading) * 2))
-        .filter(|double| Ok(*double > 1000));
+/// The last but one item, once the last and the first were drawn, of any fallible iterator with two ends.
+pub fn last_but_one_of<I: DoubleEndedFallibleIterator>(
+    it: &mut I,
+) -> Result<Option<I::Item>, I::Error>
+where
+    I::Item: Drop,
+    requires { I.ends.can_next it.old }
+    ensures { (l : List (Result I.Item I.Error)) (first last : I.Item)
+        → ListsBothEnds I.contract.steps I.ends.steps it.old l
+        → nth_of 0 (reverse l) ≡ Ok (Some last)
+        → nth_of 0 (reverse (behind_first (reverse l))) ≡ Ok (Some first)
+        → result ≡ nth_of 0 (reverse (behind_first (reverse (behind_first (reverse l))))) }
+{
     it.draw_back()?;
     it.draw_front()?;
     it.draw_back()
+}
+
+/// The last but one of the doubled readings above 1000, once the last and the first were drawn.
+pub fn last_but_one(readings: Vec<Result<u32, u8>>) -> Result<Option<u64>, u8>
+    ensures { let l : List (Result ℕ ℕ) = filtered (λ x. Ok (nat_lt 1000 x))
+        (mapped (λ x. Ok (x * 2)) (results readings.items)) in (first last : ℕ)
+        → nth_of 0 (reverse l) ≡ Ok (Some last)
+        → nth_of 0 (reverse (behind_first (reverse l))) ≡ Ok (Some first)
+        → result ≡ nth_of 0 (reverse (behind_first (reverse (behind_first (reverse l))))) }
+{
+    let doubled = convert(readings.into_iter()).map(|reading| Ok(u64::from(reading) * 2));
+    law_listed_vec::<u32, u8>();
+    law_lists_map(&doubled);
+    let mut above = doubled.filter(|double| Ok(*double > 1000));
+    law_lists_filter(&above);
+    last_but_one_of(&mut above)
 }
 
 /// The second item, once the first and the last were drawn, of any fallible iterator with two ends.
@@ -206,4 +234,19 @@ pub fn above_100_from_behind(
     law_back_convert::<u32, u8, std::vec::IntoIter<Result<u32, u8>, Global>>();
     law_lists_filter(&above);
     above.rev().collect(alloc)
+}
+
+/// The readings of both, those of the right first, each the last one first, or the first failure from behind. The laws say what `chain` lists from behind of what both sides do.
+pub fn both_from_behind(
+    alloc: Global,
+    left: Vec<Result<u32, u8>>,
+    right: Vec<Result<u32, u8>>,
+) -> Result<Vec<u32>, Fault<u8>>
+    ensures { CollectedAs (λ xs v. v.items ≡ xs)
+        (chained (reversed (results right.items)) (reversed (results left.items))) result }
+{
+    let both = convert(left.into_iter()).chain(convert(right.into_iter()));
+    law_back_convert::<u32, u8, std::vec::IntoIter<Result<u32, u8>, Global>>();
+    law_lists_chain(&both);
+    both.rev().collect(alloc)
 }

@@ -1,6 +1,6 @@
 //! Draws by hand.
-ghost use Rattle.std.specs.Prelude.{◌≡◌, ◌+◌, ◌*◌, ◌/◌, ◌%◌, ◌^◌, ℕ, List, ◌∷◌, Result, Option, Ok, Some, nat_lt};
-ghost use Rattle.fallible_iterator.specs.Lists.{Lists, behind_first, behind_nth, filtered, folded, mapped, nth_of, results, taken, taken_while};
+ghost use Rattle.std.specs.Prelude.{◌≡◌, ◌+◌, ◌*◌, ◌/◌, ◌%◌, ◌^◌, ℕ, List, ◌∷◌, Result, Option, Ok, Some, None, nat_lt, if◌then◌else◌};
+ghost use Rattle.fallible_iterator.specs.Lists.{Lists, behind_first, behind_nth, chained, filtered, first_if, folded, items, mapped, nth_of, results, taken, taken_while, zipped};
 
 use fallible_iterator::{FallibleIterator, convert};
 
@@ -20,21 +20,31 @@ pub fn third_draw(readings: Vec<Result<u32, u8>>) -> Result<Option<u64>, u8>
     doubled.draw()
 }
 
-/// Looks at the next two readings, and draws the second where the first is below it.
-pub fn second_if_above(readings: Vec<Result<u32, u8>>) -> Result<Option<u32>, u8> {
+/// The first two readings, of which the second is only looked at.
+pub fn first_two(readings: Vec<Result<u32, u8>>) -> Result<(Option<u32>, Option<u32>), u8>
+    ensures { (first second : ℕ) (rest : List (Result ℕ ℕ))
+        → results readings.items ≡ Ok first ∷ Ok second ∷ rest
+        → result ≡ Ok (Some first, Some second) }
+{
     let mut ahead = convert(readings.into_iter()).peekable();
     let first = ahead.peek_copied()?;
     ahead.draw()?;
     let second = ahead.look(|reading| *reading)?;
-    match (first, second) {
-        (Some(first), Some(second)) => {
-            if first < second {
-                ahead.draw()
-            } else {
-                Ok(None)
-            }
-        }
-        _ => Ok(None),
+    Ok((first, second))
+}
+
+/// The second item, where it is above the first. Where it isn't, it is looked at and not drawn.
+pub fn second_if_above<I: FallibleIterator<Item = u32>>(it: I) -> Result<Option<u32>, I::Error>
+where
+    requires { I.contract.can_next it }
+    ensures { (l : List (Result ℕ I.Error)) (first : ℕ) → Lists I.contract.steps it l
+        → nth_of 0 l ≡ Ok (Some first)
+        → result ≡ first_if (λ second. nat_lt first second) (behind_first l) }
+{
+    let mut ahead = it.peekable();
+    match ahead.draw()? {
+        Some(first) => ahead.next_if(|second| first < *second),
+        None => Ok(None),
     }
 }
 
@@ -88,7 +98,22 @@ pub fn sum_of_halves_up_to_zero(readings: Vec<Result<u32, u8>>) -> Result<u64, u
     )
 }
 
-/// The sum of the first two readings above 100, and the one after them. The two are taken of a borrow, so the rest may still be drawn.
+/// The sum of the first two items, modulo 2 ^ 32, which are taken of a borrow.
+pub fn sum_of_two<I: FallibleIterator<Item = u32>>(it: &mut I) -> Result<u32, I::Error>
+where
+    requires { I.contract.can_next it.old }
+    ensures value { (l : List (Result ℕ I.Error)) → Lists I.contract.steps it.old l
+        → result ≡ folded (λ e. e) (λ s x. Ok ((s + x) % 2 ^ 32)) 0 (taken 2 l) }
+    ensures rest { (l : List (Result ℕ I.Error)) (sum second : ℕ)
+        → Lists I.contract.steps it.old l
+        → result ≡ Ok sum → nth_of 1 l ≡ Ok (Some second)
+        → Lists I.contract.steps it.new (behind_nth 1 l) }
+    ensures can_next { I.contract.can_next it.new }
+{
+    (&mut *it).take(2).try_fold(0, |sum: u32, x: u32| Ok(sum.wrapping_add(x)))
+}
+
+/// The sum of the first two readings above 100, and the one after them.
 pub fn two_and_the_next(readings: Vec<Result<u32, u8>>) -> Result<(u32, Option<u32>), u8>
     ensures { let l : List (Result ℕ ℕ) = filtered (λ r. Ok (nat_lt 100 r))
         (results readings.items) in (sum last : ℕ) (next : Option ℕ)
@@ -97,10 +122,7 @@ pub fn two_and_the_next(readings: Vec<Result<u32, u8>>) -> Result<(u32, Option<u
         → result ≡ Ok (sum, next) }
 {
     let mut above = convert(readings.into_iter()).filter(|reading| Ok(*reading > 100));
-    let sum: Result<u32, u8> = (&mut above)
-        .take(2)
-        .try_fold(0, |sum: u32, reading: u32| Ok(sum.wrapping_add(reading)));
-    let sum = sum?;
+    let sum = sum_of_two(&mut above)?;
     Ok((sum, above.draw()?))
 }
 
@@ -116,19 +138,40 @@ where
     it.draw()
 }
 
-/// An item of each side, drawn after the first pair of both, which is let go.
-pub fn after_a_pair<I, J>(mut left: I, mut right: J) -> Result<Option<J::Item>, I::Error>
+/// The first item of a chain of both sides, once the first pair of both was let go.
+pub fn after_a_pair<I, J>(mut left: I, mut right: J) -> Result<Option<I::Item>, I::Error>
 where
     I: FallibleIterator,
-    J: FallibleIterator<Error = I::Error>,
+    J: FallibleIterator<Item = I::Item, Error = I::Error>,
     I::Item: Drop,
-    J::Item: Drop,
     requires left { I.contract.can_next left }
     requires right { J.contract.can_next right }
+    ensures { (a b : List (Result I.Item I.Error)) (x y : I.Item)
+        → Lists I.contract.steps left a → Lists J.contract.steps right b
+        → nth_of 0 a ≡ Ok (Some x) → nth_of 0 b ≡ Ok (Some y)
+        → result ≡ nth_of 0 (chained (behind_first a) (behind_first b)) }
 {
     (&mut left).zip(&mut right).draw()?;
-    left.draw()?;
-    right.draw()
+    left.chain(right).draw()
+}
+
+/// The first pair of both sides, once the first item of a chain of both was let go.
+pub fn pair_behind_first<I, J>(
+    mut left: I,
+    mut right: J,
+) -> Result<Option<(I::Item, I::Item)>, I::Error>
+where
+    I: FallibleIterator,
+    J: FallibleIterator<Item = I::Item, Error = I::Error>,
+    I::Item: Drop,
+    requires left { I.contract.can_next left }
+    requires right { J.contract.can_next right }
+    ensures { (a : List (Result I.Item I.Error)) (b : List I.Item) (x : I.Item)
+        → Lists I.contract.steps left a → Lists J.contract.steps right (items b)
+        → nth_of 0 a ≡ Ok (Some x) → result ≡ nth_of 0 (zipped (behind_first a) (items b)) }
+{
+    (&mut left).chain(&mut right).draw()?;
+    left.zip(right).draw()
 }
 
 /// The third item, after the first two are let go.

@@ -1,9 +1,10 @@
 //! Sources made by `from` and by a closure, and what answers leave of them.
-ghost use Rattle.std.specs.Prelude.{◌≡◌, ℕ, ◌+◌, ◌-◌, ◌%◌, ◌^◌, ◌≤◌, [], ◌∷◌, length, List, Option, Result, Ok, IfOk, nat_lt};
+ghost use Rattle.std.specs.Prelude.{◌≡◌, ℕ, ◌+◌, ◌-◌, ◌%◌, ◌^◌, ◌≤◌, [], ◌∷◌, length, drop, List, Option, Result, Ok, IfOk, nat_lt};
 ghost use Rattle.std.specs.Vec.Iter.{into_iter_items};
 ghost use Rattle.fallible_iterator.specs.Showing.{TakesShown};
-ghost use Rattle.fallible_iterator.specs.Lists.{Lists, behind_answers, counted, cycled, filtered, folded, items, results, taken};
+ghost use Rattle.fallible_iterator.specs.Lists.{Lists, counted, cycled, filtered, flattened, folded, items, mapped, results, taken};
 ghost use Rattle.fallible_iterator.specs.Contract.{AtMost};
+ghost use Rattle.fallible_callers.specs.Runs.{below, numbers};
 ghost use Rattle.fallible_iterator.specs.Peeking.Peekable.{behind_held, peekable_held, peekable_source};
 
 use fallible_iterator::laws::{answers, law_cycle_taken, law_flatten_finite, law_peekable};
@@ -43,7 +44,7 @@ pub fn count_behind_two_answers(
     readings: Vec<Result<u32, u8>>,
 ) -> Result<Result<usize, u8>, AllocError>
     ensures { 2 ≤ length (results readings.items)
-        → IfOk result (λ count. count ≡ counted (behind_answers 2 (results readings.items))) }
+        → IfOk result (λ count. count ≡ counted (drop 2 (results readings.items))) }
 {
     let mut it = convert(readings.into_iter());
     let _ = answers(alloc, &mut it, 2)?;
@@ -88,8 +89,11 @@ pub fn sum_of_one_again(x: u32, n: usize) -> Result<u64, AllocError>
     sum_of_rounds(once(x), n)
 }
 
-/// How many numbers below 100 come, once for each reading, up to the first failure.
-pub fn hundreds(readings: Vec<Result<u32, Infallible>>) -> Result<u64, Infallible> {
+/// How many numbers below 100 come, once for each reading, modulo 2 ^ 64.
+pub fn hundreds(readings: Vec<Result<u32, Infallible>>) -> Result<u64, Infallible>
+    ensures { result ≡ folded (λ e. e) (λ s x. Ok ((s + 1) % 2 ^ 64)) 0
+        (flattened numbers (mapped (λ x. Ok (below 100)) (results readings.items))) }
+{
     let joined = convert(readings.into_iter()).flat_map(|_| Ok((0u32..100).into_fallible()));
     law_flatten_finite(&joined, 100);
     joined.fold(0, |sum: u64, _| Ok(sum.wrapping_add(1)))

@@ -1,6 +1,6 @@
 //! The idioms of parsers: where something stands, and what stands behind it.
-ghost use Rattle.std.specs.Prelude.{◌≡◌, ◌+◌, ◌%◌, ◌^◌, ℕ, eqb, length, List, Result, Ok, Option, Some, IfOk, is_err, nat_lt};
-ghost use Rattle.fallible_iterator.specs.Lists.{Lists, behind_true, folded, items, nth_of, on_value, parted, position_in, results, taken_while};
+ghost use Rattle.std.specs.Prelude.{◌≡◌, ◌+◌, ◌%◌, ◌^◌, ℕ, eqb, length, List, Result, Ok, Option, Some, IfOk, false, is_err, nat_lt};
+ghost use Rattle.fallible_iterator.specs.Lists.{Lists, all_of, behind_false, behind_true, folded, items, nth_of, on_value, parted, position_in, results, taken_while};
 
 use fallible_iterator::{FallibleIterator, Fault, IteratorExt, convert};
 use std::alloc::Global;
@@ -44,21 +44,40 @@ pub fn place_of_failure(readings: Vec<Result<u32, u8>>) -> Result<Option<usize>,
         .position(|reading| Ok(reading.is_err()))
 }
 
-/// The sum of the tokens below 10 that stand first, modulo 2 ^ 64, and the token after the one that ends them, which is lost. The clause says the sum.
+/// The sum of the items below 10 that stand first, modulo 2 ^ 64, which are taken of a borrow. The item that ends them is drawn and lost.
+pub fn sum_below_ten<I: FallibleIterator<Item = u32>>(tokens: &mut I) -> Result<u64, I::Error>
+where
+    requires can_next { I.contract.can_next tokens.old }
+    requires finite { I.contract.is_finite tokens.old }
+    ensures value { (l : List (Result ℕ I.Error)) → Lists I.contract.steps tokens.old l
+        → result ≡ folded (λ e. e) (λ s x. Ok ((s + x) % 2 ^ 64)) 0
+        (taken_while (λ x. Ok (nat_lt x 10)) l) }
+    ensures rest { (l : List (Result ℕ I.Error)) (sum : ℕ)
+        → Lists I.contract.steps tokens.old l
+        → result ≡ Ok sum → all_of (λ x. Ok (nat_lt x 10)) l ≡ Ok false
+        → Lists I.contract.steps tokens.new (behind_false (λ x. Ok (nat_lt x 10)) l) }
+    ensures can_next { I.contract.can_next tokens.new }
+{
+    (&mut *tokens)
+        .take_while(|token| Ok(*token < 10))
+        .try_fold(0, |sum: u64, token: u32| Ok(sum.wrapping_add(u64::from(token))))
+}
+
+/// The sum of the tokens below 10 that stand first, modulo 2 ^ 64, and the token after the one that ends them.
 pub fn sum_and_next<I: FallibleIterator<Item = u32>>(
     mut tokens: I,
 ) -> Result<(u64, Option<u32>), I::Error>
 where
     requires can_next { I.contract.can_next tokens }
     requires finite { I.contract.is_finite tokens }
-    ensures { (l : List (Result ℕ I.Error)) → Lists I.contract.steps tokens l
-        → IfOk result (λ both. Ok both.0 ≡ folded (λ e. e) (λ s x. Ok ((s + x) % 2 ^ 64)) 0
-        (taken_while (λ x. Ok (nat_lt x 10)) l)) }
+    ensures { (l : List (Result ℕ I.Error)) (sum : ℕ) (next : Option ℕ)
+        → Lists I.contract.steps tokens l
+        → all_of (λ x. Ok (nat_lt x 10)) l ≡ Ok false
+        → folded (λ e. e) (λ s x. Ok ((s + x) % 2 ^ 64)) 0
+        (taken_while (λ x. Ok (nat_lt x 10)) l) ≡ Ok sum
+        → nth_of 0 (behind_false (λ x. Ok (nat_lt x 10)) l) ≡ Ok next
+        → result ≡ Ok (sum, next) }
 {
-    let sum: Result<u64, I::Error> = (&mut tokens).take_while(|token| Ok(*token < 10)).try_fold(
-        0,
-        |sum: u64, token: u32| Ok(sum.wrapping_add(u64::from(token))),
-    );
-    let sum = sum?;
+    let sum = sum_below_ten(&mut tokens)?;
     Ok((sum, tokens.draw()?))
 }

@@ -1,20 +1,27 @@
--- What a `take` of a borrow leaves the lender, also under a `filter`, and what a pair of two borrows does.
+-- What a `take` of a borrow leaves the lender, also under a `filter`, and what a pair and a chain of two borrows do.
 use Rattle.std.specs.Prelude.{◌≡◌, ℕ, zero, suc, ◌<◌, length, Bool, List, [], ◌∷◌, ◌++◌, map, Result, Option, Some, None, Ok, Err}
 use Rattle.std.specs.Borrow.{MutBor, Bor}
 use Rattle.std.specs.Fn.{Mut}
-use Rattle.std.proofs.Common.{refl, ap, subst, arith, length-append, ◌⊎◌, inl, inr}
+use Rattle.std.proofs.Common.{refl, sym, ap, subst, ◌∙◌, arith, length-append, ◌⊎◌, inl, inr}
 use Rattle.fallible_contract.specs.Traces.{Answered, Run, item, end}
 use Rattle.fallible_contract.specs.Contract.{Contract, seen_as, unbounded_contract}
 use Rattle.fallible_contract.specs.Closures.{call_at}
 use Rattle.fallible_contract.specs.Folds.{Folded, FoldExit, Nth, NthExit}
-use Rattle.fallible_contract.specs.Lists.{Acts, AlwaysGives, Lists, nth_of, behind_nth}
+use Rattle.fallible_contract.specs.Lists.{Acts, AlwaysGives, Lists, nth_of, behind_first, behind_nth}
 use Rattle.fallible_core.specs.Borrowed.{borrowed}
 use Rattle.fallible_core.specs.Cutting.Take.{take_parts, take_contract, taken}
 use Rattle.fallible_core.specs.Filtering.Filter.{filter_parts, filter_contract}
+use Rattle.fallible_core.specs.Joining.Chain.{chain_step, chain_contract, chain_parts}
+use Rattle.fallible_core.specs.Joining.Zip.{ZipPlace, left_failed, both_drawn, left_answer, right_answer, right_step, zip_answer, zip_contract, zip_parts}
+use Rattle.fallible_contract.proofs.Lemmas.Lists.Behind.{first_is, behind_first_is}
 use Rattle.fallible_core.proofs.Lemmas.Borrowed.{run_behind, lists_borrowed}
 use Rattle.fallible_core.proofs.Lemmas.Callers.{TakenRun, filtered_run, taken_run}
 use Rattle.fallible_core.specs.declared.cutting.take.Take.{Take}
 use Rattle.fallible_core.specs.declared.filtering.filter.Filter.{Filter}
+use Rattle.fallible_core.specs.declared.joining.chain.Chain.{Chain}
+use Rattle.fallible_core.specs.declared.joining.chain.StillDrawn.{StillDrawn}
+use Rattle.fallible_core.specs.declared.joining.chain.StillDrawn.TheVariants.{Both, FirstAlone, SecondAlone}
+use Rattle.fallible_core.specs.declared.joining.zip.Zip.{Zip}
 
 module _ {S A E : Type 0} (steps : S → Answered A E → S → Type 0) where
   -- what is given behind k + 1 items
@@ -116,6 +123,63 @@ module _ {S P A E : Type 0} {steps : S → Answered A E → S → Type 0} {g : M
       let under = filtered_run (seen_as take_parts (take_contract (borrowed m))) g h p tk s t xs end acts parts ran in
       let left : Lists steps t.it.it.now (behind_nth k l) = record { runs = left_behind steps under.items k l it.now t.it.it.now i.runs no_end (of_lender m under.items k it t.it.it (taken_run (borrowed m) (suc k) it tk t.it under.items end taken under.ran)) } in
       rw back left
+
+-- ---- a pair of two borrows
+
+-- the steps of `zip` of borrows of what steps so
+abbrev pub lent_zip_steps : {S U A B E : Type 0} → (S → Answered A E → S → Type 0) → (U → Answered B E → U → Type 0) → Zip (MutBor S) (MutBor U) → Answered (A × B) E → Zip (MutBor S) (MutBor U) → Type 0
+lent_zip_steps steps others = (seen_as zip_parts (zip_contract (borrowed (unbounded_contract steps)) (borrowed (unbounded_contract others)))).steps
+
+module _ {A B E : Type 0} (x : A) (y : B) where
+  -- what a place answers at which each side has an item
+  pair_at : (p : ZipPlace A B E) → left_answer p ≡ Ok (Some x) → ((w : Answered B E) → right_answer p ≡ Some w → w ≡ Ok (Some y)) → zip_answer p ≡ Ok (Some (x, y))
+  pair_at (left_failed e) is right = absurd cc
+  pair_at (both_drawn None r) is right = absurd cc
+  pair_at (both_drawn (Some z) (Ok (Some w))) is right = let e = right (Ok (Some w)) refl in cc
+  pair_at (both_drawn (Some z) (Ok None)) is right = absurd (let e = right (Ok None) refl in cc)
+  pair_at (both_drawn (Some z) (Err d)) is right = absurd (let e = right (Err d) refl in cc)
+
+  right_drawn : {U : Type 0} (others : U → Answered B E → U → Type 0) (p : ZipPlace A B E) (u v : U) → left_answer p ≡ Ok (Some x) → right_step others u p v → (w : Answered B E) × (right_answer p ≡ Some w) × others u w v
+  right_drawn others (left_failed e) u v is step = absurd cc
+  right_drawn others (both_drawn z r) u v is step = (r, refl, step)
+
+module _ {S U A B E : Type 0} {steps : S → Answered A E → S → Type 0} {others : U → Answered B E → U → Type 0} {it : MutBor S} {other : MutBor U} (s t : Zip (MutBor S) (MutBor U)) {r : Answered (A × B) E} {a : List (Result A E)} {b : List (Result B E)} {x : A} {y : B} where
+  -- A draw over `zip` of two borrows that both have an item answers the pair, and leaves each lender without its first.
+  pub pair_lent : s.left ≡ it → s.right ≡ other → lent_zip_steps steps others s r t → Lists steps it.now a → Lists others other.now b → nth_of 0 a ≡ Ok (Some x) → nth_of 0 b ≡ Ok (Some y) → (r ≡ Ok (Some (x, y))) × Lists steps t.left.now (behind_first a) × Lists others t.right.now (behind_first b)
+  pair_lent left right w i j first second =
+      let of_left : steps it.now (left_answer w.0) t.left.now = subst (λ (u : MutBor S). steps u.now (left_answer w.0) t.left.now) left w.1.0 in
+      let is : left_answer w.0 ≡ Ok (Some x) = first_is t.left.now a of_left i ∙ first in
+      let d = right_drawn x y (borrowed (unbounded_contract others)).steps w.0 s.right t.right is w.2 in
+      let of_right : others other.now d.0 t.right.now = subst (λ (u : MutBor U). others u.now d.0 t.right.now) right d.2.0 in
+      let same : d.0 ≡ Ok (Some y) = first_is t.right.now b of_right j ∙ second in
+      let one = pair_at x y w.0 is (λ v e. let k = d.1 in cc) in
+      (w.3 ∙ one, behind_first_is a of_left i (λ e. cc), behind_first_is b of_right j (λ e. cc))
+
+-- ---- a chain of two borrows
+
+-- the steps of `chain` of borrows of what steps so
+abbrev pub lent_chain_steps : {S U A E : Type 0} → (S → Answered A E → S → Type 0) → (U → Answered A E → U → Type 0) → Chain (MutBor S) (MutBor U) → Answered A E → Chain (MutBor S) (MutBor U) → Type 0
+lent_chain_steps steps others = (seen_as chain_parts (chain_contract (borrowed (unbounded_contract steps)) (borrowed (unbounded_contract others)))).steps
+
+module _ {S U A E : Type 0} (steps : S → Answered A E → S → Type 0) (others : U → Answered A E → U → Type 0) (x : A) where
+  -- what the chain's step is of while both sides are still drawn, and the first has an item
+  item_of_first : (c d : MutBor S × MutBor U × StillDrawn) (r : Answered A E) (a : List (Result A E)) → c.2 ≡ Both → chain_step (borrowed (unbounded_contract steps)).steps (borrowed (unbounded_contract others)).steps c r d → Lists steps c.0.now a → nth_of 0 a ≡ Ok (Some x) → steps c.0.now r d.0.now × (r ≡ Ok (Some x)) × (d.1 ≡ c.1)
+  item_of_first (s, u, Both) (t, v, k) r a at (inl w) i first = (w.0.0, first_is t.now a w.0.0 i ∙ first, w.2)
+  item_of_first (s, u, Both) (t, v, k) r a at (inr w) i first = absurd (let e = first_is t.now a w.0.0 i ∙ first in cc)
+  item_of_first (s, u, FirstAlone) d r a at w i first = absurd cc
+  item_of_first (s, u, SecondAlone) d r a at w i first = absurd cc
+
+module _ {S U A E : Type 0} {steps : S → Answered A E → S → Type 0} {others : U → Answered A E → U → Type 0} {it : MutBor S} {other : MutBor U} (s t : Chain (MutBor S) (MutBor U)) {r : Answered A E} {a b : List (Result A E)} {x : A} where
+  -- A draw over `chain` of two borrows of which the first has an item answers that, and leaves the first lender without it, and the second as it was.
+  pub chain_lent : s.first ≡ it → s.second ≡ other → s.still_drawn ≡ Both → lent_chain_steps steps others s r t → Lists steps it.now a → Lists others other.now b → nth_of 0 a ≡ Ok (Some x) → (r ≡ Ok (Some x)) × Lists steps t.first.now (behind_first a) × Lists others t.second.now b
+  chain_lent first second still w i j is =
+      let listed : Lists steps s.first.now a = subst (λ (u : MutBor S). Lists steps u.now a) (sym first) i in
+      let d = item_of_first steps others x (chain_parts s) (chain_parts t) r a still w listed is in
+      (d.1, behind_first_is a d.0 listed (λ e. let k = d.1 in cc), subst (λ (u : MutBor U). Lists others u.now b) (sym (d.2 ∙ second)) j)
+
+-- what is listed of the value that a borrow left, which the lender is then
+pub returned : {S A E : Type 0} {steps : S → Answered A E → S → Type 0} {x y : S} {l : List (Result A E)} → x ≡ y → Lists steps y l → Lists steps x l
+returned back i = rw back i
 
 -- ---- what a result says
 

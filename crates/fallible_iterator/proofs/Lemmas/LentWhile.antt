@@ -13,7 +13,7 @@ use Rattle.fallible_contract.specs.Searching.{all_pick}
 use Rattle.fallible_contract.specs.Lists.{AlwaysGives, Lists, Acts, picked_or, decided, searched, all_of, behind_answer, behind_stop, behind_false, stopped_or}
 use Rattle.fallible_contract.proofs.Lemmas.Lists.Passing.{acts_in_slot}
 use Rattle.fallible_core.specs.Borrowed.{borrowed}
-use Rattle.fallible_core.specs.Cutting.TakeWhile.{taken_answer, is_refused, place_drawn, take_while_parts, take_while_contract}
+use Rattle.fallible_core.specs.Cutting.TakeWhile.{taken_answer, is_refused, place_drawn, take_while_source, take_while_predicate, take_while_refused, take_while_parts, take_while_contract}
 use Rattle.fallible_core.proofs.Lemmas.Borrowed.{lists_borrowed}
 use Rattle.fallible_core.proofs.Lemmas.Callers.{run_seen}
 use Rattle.fallible_iterator.proofs.Lemmas.Lent.{last_is_end}
@@ -105,8 +105,9 @@ module _ {S P A E : Type 0} (steps : S → Answered A E → S → Type 0) (g : M
       record { runs = gives_lender steps (behind_false h l) t.it left }
 
 -- After a fold over `take_while` of a borrow that came to its end, the lender lists what stands behind the first item that the predicate refuses, where there is one.
-pub behind_lent_while : {S P A E B E' F : Type 0} {steps : S → Answered A E → S → Type 0} {g : Mut P (Bor A × Unit {0}) (Result Bool E)} {it : MutBor S} {p : P} {s t : TakeWhile (MutBor S) P} {l : List (Result A E)} {call : F → B → A → Result B E' → F → Type 0} {from : E → E' → Type 0} {b v : B} {f : F} {x : S} (h : A → Result Bool E) → Acts (call_at g) p h → x ≡ t.it.now → take_while_parts s ≡ ((it, Some p), false) → Folded (until_steps steps g) call from s b f (Ok v) t → Lists steps it.now l → all_of h l ≡ Ok false → Lists steps x (behind_false h l)
-behind_lent_while {steps = steps} {g = g} {it = it} {p = p} {s = s} {t = t} {l = l} {call = call} {from = from} {v = v} h acts back parts d i found =
+pub behind_lent_while : {S P A E B E' F : Type 0} {steps : S → Answered A E → S → Type 0} {g : Mut P (Bor A × Unit {0}) (Result Bool E)} {it : MutBor S} {p : P} {s t : TakeWhile (MutBor S) P} {l : List (Result A E)} {call : F → B → A → Result B E' → F → Type 0} {from : E → E' → Type 0} {b v : B} {f : F} {x : S} (h : A → Result Bool E) → Acts (call_at g) p h → x ≡ t.it.now → take_while_source s ≡ it → take_while_predicate s ≡ Some p → take_while_refused s ≡ false → Folded (until_steps steps g) call from s b f (Ok v) t → Lists steps it.now l → all_of h l ≡ Ok false → Lists steps x (behind_false h l)
+behind_lent_while {steps = steps} {g = g} {it = it} {p = p} {s = s} {t = t} {l = l} {call = call} {from = from} {v = v} h acts back source predicate refused d i found =
+    let parts : take_while_parts s ≡ ((it, Some p), false) = cc in
     let ended : d.last ≡ end = last_is_end call from d.value d.closure d.last v d.exit in
     let ran = subst (λ (r : Answered _ _). Run (until_steps steps g) s (map item d.items ++ r ∷ []) t) ended d.ran in
     let left = left_of_run steps g it p s t l h acts parts d.items ran i found in

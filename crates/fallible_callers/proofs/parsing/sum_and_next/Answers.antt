@@ -1,7 +1,6 @@
--- The borrow lists what the tokens list.
-use Rattle.std.proofs.Common.{rules, Ok, nat_lt, ◌+◌, ◌%◌, ◌^◌}
-use Rattle.fallible_core.proofs.Lemmas.Borrowed.{lists_borrowed}
+-- The sum, and the first that is left.
+use Rattle.fallible_iterator.proofs.Lemmas.Lent.{both, one_value}
 use Rattle.fallible_callers.proofs.parsing.sum_and_next.Goals as goal
 
 pub returns : goal.returns
-returns g c l lists = c.in_ok-sum.ensures.value (λ e. e) (search rules) (λ s x. Ok ((s + x) % 2 ^ 64)) _ (search rules) (c.take_while.ensures.lists (λ x. Ok (nat_lt x 10)) l (search rules) (lists_borrowed g.I.FallibleIterator.contract _ l lists))
+returns g c l sum next i found is_sum is_next = both (one_value c.in_ok-sum.was (c.sum_below_ten.ensures.value l i) is_sum) (one_value c.in_ok-draw.was (c.draw.ensures.value _ (c.sum_below_ten.ensures.rest l _ i c.in_ok-sum.was found)) is_next)
