@@ -11,5 +11,5 @@ first_alike (suc n) (Ok x ∷ a) (Err e ∷ b) = Err e
 first_alike (suc n) (Ok x ∷ a) (Ok y ∷ b) = cond (eqb x y) (first_alike n a b) (Ok false)
 
 -- whether the list reads the same from both ends: its first half, with what stands in the middle, and the first half of the list reversed are alike
-unfoldable pub reads_alike : {E : Type 0} → List (Result ℕ E) → Result Bool E
-reads_alike l = first_alike ((length l + 1) / 2) l (reverse l)
+unfoldable pub alike : {E : Type 0} → List (Result ℕ E) → Result Bool E
+alike l = first_alike ((length l + 1) / 2) l (reverse l)

@@ -1,4 +1,5 @@
 -- What the clauses of `src/` cite.
+pub mod Alike
 pub mod Down
 pub mod Means
 pub mod Runs

@@ -9,6 +9,7 @@ ghost use Rattle.fallible_iterator.specs.Listing.{DrawsInterleave};
 ghost use Rattle.fallible_iterator.specs.Sources.Convert.{convert_parts};
 ghost use Rattle.std.specs.declared.vec.IntoIter.{IntoIter};
 ghost use Rattle.std.specs.declared.alloc.Global.{Global};
+ghost use Rattle.fallible_callers.specs.Alike.{alike};
 ghost use Rattle.fallible_iterator.specs.declared.sources.convert.Convert.{Convert};
 
 use fallible_iterator::laws::{
@@ -249,4 +250,25 @@ pub fn both_from_behind(
     law_back_convert::<u32, u8, std::vec::IntoIter<Result<u32, u8>, Global>>();
     law_lists_chain(&both);
     both.rev().collect(alloc)
+}
+
+/// Whether the items read the same from both ends, up to the first two that differ, or the failure that comes first as they are drawn in turn.
+pub fn read_alike<I: DoubleEndedFallibleIterator<Item = u32>>(mut it: I) -> Result<bool, I::Error>
+where
+    requires can_next { I.ends.can_next it }
+    requires finite { I.contract.is_finite it }
+    ensures { (l : List (Result ℕ I.Error))
+        → ListsBothEnds I.contract.steps I.ends.steps it l → result ≡ alike l }
+{
+    let mut left = it.number();
+    while let Some(first) = it.draw_front()? {
+        left = left.one_less();
+        let Some(last) = it.draw_back()? else {
+            return Ok(true);
+        };
+        if first != last {
+            return Ok(false);
+        }
+    }
+    Ok(true)
 }

@@ -1,18 +1,29 @@
 -- Loops by hand over draws from both ends: what their invariants say, and what each draw makes of it.
-use Rattle.std.specs.Prelude.{◌≡◌, List, [], ◌∷◌, ◌++◌, reverse, Result, None, Ok}
-use Rattle.std.proofs.Common.{sym, ap, ◌∙◌, subst}
+use Rattle.std.specs.Prelude.{◌≡◌, ℕ, ◌+◌, ◌≤◌, List, [], ◌∷◌, ◌++◌, reverse, Result, Some, None, Ok}
+use Rattle.std.proofs.Common.{sym, ap, ◌∙◌, subst, arith}
 use Rattle.std.proofs.lemmas.List.{reverse-reverse, reverse-append}
 use Rattle.fallible_contract.specs.Traces.{Answered, end}
+use Rattle.fallible_contract.specs.Contract.{Contract, Stays}
+use Rattle.fallible_contract.specs.Ends.{Ends, LawfulEnds, from_front, from_back}
 use Rattle.fallible_contract.specs.Lists.{result_answer}
 use Rattle.fallible_contract.specs.BothEnds.{TakesFirst, ListsBothEnds}
 use Rattle.fallible_contract.proofs.Lemmas.BothEnds.{takes_front, takes_back}
 use Rattle.fallible_core.proofs.Lemmas.Joining.Chain.{not_end}
 use Rattle.fallible_iterator.proofs.Lemmas.Ends.{same_result}
+use Rattle.fallible_iterator.proofs.Lemmas.Loops.{CountsDown}
 
 module _ {S A E R : Type 0} where
   -- What `of_whole` makes of the whole that s0 lists from both ends is what `of_rest` makes of the rest that s lists.
   pub record AnswersBetween (front back : S → Answered A E → S → Type 0) (of_whole : List (Result A E) → R) (s0 : S) (of_rest : List (Result A E) → R) (s : S) : Type 0 where
     pub at : (whole : List (Result A E)) → ListsBothEnds front back s0 whole → (rest : List (Result A E)) × ListsBothEnds front back s rest × (of_whole whole ≡ of_rest rest)
+
+-- An item from the front and a draw from behind count the number down by one.
+pub counts_turn : {S A E : Type 0} {m : Contract S A E} {e : Ends S A E} {s t u : S} {x : A} {left less : ℕ} → LawfulEnds m e → CountsDown (from_front m e) s left → m.steps s (Ok (Some x)) t → Stays (from_back m e) t u → less + 1 ≡ left → CountsDown (from_front m e) u less
+counts_turn {m = m} {s = s} {t = t} {x = x} law counts step stays one =
+    let n = counts.1 in
+    let fewer = (law.front.kept_by_draw s (Ok (Some x)) t counts.0 step).answer.1 n.0 n.1 in
+    let still = stays.bound fewer.0 fewer.1 in
+    let within = n.2 in let j = fewer.2 in let k = still.2 in (stays.can_next, (still.0, still.1, omega (arith, within, j, k, one)))
 
 module _ {A E : Type 0} (P : List (Result A E) → Type 0) (r : Answered A E) where
   -- what an answer takes that tells a result, and what one takes that is an end

@@ -1,0 +1,2 @@
+-- Lemmas that the answers of this crate cite.
+pub mod Alike
