@@ -1,2 +1,3 @@
 -- Lemmas that the answers of this crate cite.
 pub mod Alike
+pub mod Between

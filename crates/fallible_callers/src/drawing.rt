@@ -110,7 +110,9 @@ where
         → Lists I.contract.steps it.new (behind_nth 1 l) }
     ensures can_next { I.contract.can_next it.new }
 {
-    (&mut *it).take(2).try_fold(0, |sum: u32, x: u32| Ok(sum.wrapping_add(x)))
+    (&mut *it)
+        .take(2)
+        .try_fold(0, |sum: u32, x: u32| Ok(sum.wrapping_add(x)))
 }
 
 /// The sum of the first two readings above 100, and the one after them.

@@ -1,12 +1,16 @@
-//! A source of one's own that shows what it lists.
-ghost use Rattle.std.specs.Prelude.{◌≡◌, ◌%◌, eqb, Ok};
+//! Sources of one's own that show what they list.
+ghost use Rattle.std.specs.Prelude.{◌≡◌, ◌-◌, ◌%◌, ◌≤◌, eqb, Ok};
+ghost use Rattle.fallible_iterator.specs.BothEnds.{ListsBothEnds};
 ghost use Rattle.fallible_iterator.specs.Contract.{AtMost};
 ghost use Rattle.fallible_iterator.specs.Laws.Showing.{lawful_listing};
-ghost use Rattle.fallible_iterator.specs.Lists.{Lists, CollectedAs, counted, filtered, flattened, mapped, results, taken};
+ghost use Rattle.fallible_iterator.specs.Laws.ShowingEnds.{lawful_listing_ends};
+ghost use Rattle.fallible_iterator.specs.Lists.{Lists, CollectedAs, counted, filtered, flattened, mapped, results, reversed, taken};
 ghost use Rattle.fallible_iterator.specs.Showing.{listing};
+ghost use Rattle.fallible_iterator.specs.ShowingEnds.{listing_ends};
+ghost use Rattle.fallible_callers.specs.Between.{numbers_between, shows_between};
 ghost use Rattle.fallible_callers.specs.Down.{counting_from, counts_down, down_from};
 
-use fallible_iterator::{FallibleIterator, Fault, convert};
+use fallible_iterator::{DoubleEndedFallibleIterator, FallibleIterator, Fault, convert};
 use std::alloc::Global;
 
 /// Counts down to 1, and then ends.
@@ -67,4 +71,75 @@ pub fn countdowns(alloc: Global, numbers: Vec<Result<u32, u8>>) -> Result<Vec<u3
         .flat_map(|number: u32| Ok(Countdown { left: number }))
         .take(1000)
         .collect(alloc)
+}
+
+/// The numbers from `low` to below `high`, from either end.
+#[derive(Drop)]
+pub struct Between {
+    low: u32,
+    high: u32,
+}
+
+impl FallibleIterator for Between {
+    type Item = u32;
+
+    type Error = u8;
+
+    ghost contract = { listing shows_between };
+
+    /// The lowest number that is left.
+    fn next(&mut self) -> Result<Option<u32>, u8> {
+        if self.low >= self.high {
+            return Ok(None);
+        }
+        let x = self.low;
+        self.low += 1;
+        Ok(Some(x))
+    }
+
+    fn size_hint(&self) -> (usize, Option<usize>) {
+        (0, None)
+    }
+
+    ghost lawful = { lawful_listing shows_between };
+}
+
+impl DoubleEndedFallibleIterator for Between {
+    ghost ends = { listing_ends shows_between };
+
+    /// The greatest number that is left.
+    fn next_back(&mut self) -> Result<Option<u32>, u8> {
+        if self.low >= self.high {
+            return Ok(None);
+        }
+        self.high -= 1;
+        Ok(Some(self.high))
+    }
+
+    ghost lawful_ends = { lawful_listing_ends shows_between };
+}
+
+impl Between {
+    /// The numbers from `low` to below `high`.
+    pub fn new(low: u32, high: u32) -> Between
+        ensures both { ListsBothEnds (listing shows_between).steps
+            (listing_ends shows_between).steps result (numbers_between low high) }
+        ensures lists { Lists (listing shows_between).steps result (numbers_between low high) }
+        ensures behind { Lists (listing_ends shows_between).steps result
+            (reversed (numbers_between low high)) }
+        ensures fits { AtMost (listing shows_between) result (high - low) }
+    {
+        Between { low, high }
+    }
+}
+
+/// How many of the numbers from `low` to below `high` are even, counted from behind.
+pub fn even_between(low: u32, high: u32) -> Result<usize, u8>
+    ensures { result ≡ counted
+        (filtered (λ x. Ok (eqb (x % 2) 0)) (reversed (numbers_between low high))) }
+{
+    Between::new(low, high)
+        .rev()
+        .filter(|x| Ok(*x % 2 == 0))
+        .count()
 }

@@ -58,9 +58,10 @@ where
         → Lists I.contract.steps tokens.new (behind_false (λ x. Ok (nat_lt x 10)) l) }
     ensures can_next { I.contract.can_next tokens.new }
 {
-    (&mut *tokens)
-        .take_while(|token| Ok(*token < 10))
-        .try_fold(0, |sum: u64, token: u32| Ok(sum.wrapping_add(u64::from(token))))
+    (&mut *tokens).take_while(|token| Ok(*token < 10)).try_fold(
+        0,
+        |sum: u64, token: u32| Ok(sum.wrapping_add(u64::from(token))),
+    )
 }
 
 /// The sum of the tokens below 10 that stand first, modulo 2 ^ 64, and the token after the one that ends them.

@@ -6,7 +6,5 @@ use Rattle.fallible_callers.proofs.making.given_above_100.Goals as goal
 
 pub returns : goal.returns
 unfolding results
-returns c =
-    let same : c.args.readings.items ≡ into_iter_items c.into_iter-left.result = search rules in
-    let listed = c.from_fn.ensures.shown (λ f. into_iter_items f.0) (λ f r h called. search rules) in
-    rw same (c.count.ensures.value _ (c.filter.ensures.lists (λ x. Ok (nat_lt 100 x)) _ (search rules) (c.take.ensures.lists _ listed)))
+returns c = let same : c.args.readings.items ≡ into_iter_items c.into_iter-left.result = search rules in
+    rw same (c.count.ensures.value _ (c.filter.ensures.lists (λ x. Ok (nat_lt 100 x)) _ (search rules) (c.take.ensures.lists _ (c.from_fn.ensures.shown (λ f. into_iter_items f.0) (λ f r h called. search rules)))))
