@@ -1,10 +1,13 @@
 //! How two chains compare, where one of them is known to end.
-ghost use Rattle.std.specs.Prelude.{◌≡◌, ◌*◌, ◌%◌, ◌^◌, List, Result, Ok, Some, nat_lt, nat_eq};
+ghost use Rattle.std.specs.Prelude.{◌≡◌, ℕ, ◌+◌, ◌*◌, ◌%◌, ◌^◌, List, Result, Ok, Some, length, nat_lt, nat_eq};
 ghost use Rattle.std.specs.Ordering.{nat_cmp};
 ghost use Rattle.fallible_iterator.specs.Comparing.{by_cmp, by_eq, read_as, reads_eq, reads_ge, reads_gt, reads_le, reads_lt, reads_ne};
-ghost use Rattle.fallible_iterator.specs.Lists.{Lists, results, compared, mapped, filtered, skipped, taken};
+ghost use Rattle.fallible_iterator.specs.Contract.{seen_as};
+ghost use Rattle.fallible_iterator.specs.Peeking.Peekable.{peekable_contract, peekable_parts};
+ghost use Rattle.fallible_iterator.specs.Lists.{Lists, results, compared, mapped, filtered, repeated, skipped, taken};
+ghost use Rattle.fallible_callers.specs.Rises.{risen};
 
-use fallible_iterator::{FallibleIterator, convert, repeat};
+use fallible_iterator::{FallibleIterator, Peekable, convert, repeat};
 use std::alloc::AllocError;
 use std::cmp::Ordering;
 
@@ -115,7 +118,10 @@ pub fn at_least_ten(left: Vec<Result<u32, u8>>, right: Vec<Result<u32, u8>>) -> 
 pub fn limit_against(
     limit: u32,
     readings: Vec<Result<u32, AllocError>>,
-) -> Result<Ordering, AllocError> {
+) -> Result<Ordering, AllocError>
+    ensures { read_as (λ o. Some o) result ≡ compared (by_cmp nat_cmp)
+        (repeated (length readings.items + 1) limit) (results readings.items) }
+{
     repeat(limit).cmp(convert(readings.into_iter()))
 }
 
@@ -151,13 +157,25 @@ where
     left.cmp(right)
 }
 
-/// How often an item is greater than the one before it, modulo 2 ^ 64.
+/// How often an item is greater than the one before it, modulo 2 ^ 64, or the first failure.
 pub fn rises<J: FallibleIterator<Item = u32>>(it: J) -> Result<u64, J::Error>
 where
     requires can_next { J.contract.can_next it }
     requires finite { J.contract.is_finite it }
+    ensures { (l : List (Result ℕ J.Error)) → Lists J.contract.steps it l → result ≡ risen l }
 {
-    let mut ahead = it.peekable();
+    rises_ahead(it.peekable())
+}
+
+/// The same, of a source that looks ahead.
+fn rises_ahead<J: FallibleIterator<Item = u32>>(mut ahead: Peekable<J>) -> Result<u64, J::Error>
+where
+    requires can_next { (peekable_contract J.contract).can_next (peekable_parts ahead) }
+    requires finite { (peekable_contract J.contract).is_finite (peekable_parts ahead) }
+    ensures { (l : List (Result ℕ J.Error))
+        → Lists (seen_as peekable_parts (peekable_contract J.contract)).steps ahead l
+        → result ≡ risen l }
+{
     let mut left = ahead.number();
     let mut rises: u64 = 0;
     while let Some(item) = ahead.draw()? {

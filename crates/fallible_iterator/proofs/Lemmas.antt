@@ -1,11 +1,13 @@
 -- Lemmas that no contract and no ghost member cites.
 pub mod Answering
 pub mod Bridges
+pub mod ComparedRepeats
 pub mod Comparing
 pub mod Cycled
 pub mod Ends
 pub mod Hints
 pub mod Lent
+pub mod Looking
 pub mod Loops
 pub mod Nests
 pub mod Sources

@@ -1,0 +1,2 @@
+-- Lemmas of single callers.
+pub mod Rises
