@@ -8,6 +8,7 @@ pub mod Ends
 pub mod Hints
 pub mod Lent
 pub mod Looking
+pub mod Looped
 pub mod Loops
 pub mod Nests
 pub mod Sources
