@@ -1,2 +1,3 @@
 -- Lemmas of single callers.
+pub mod KnownBytes
 pub mod Rises

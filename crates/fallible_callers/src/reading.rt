@@ -1,6 +1,8 @@
 //! A source of one's own over any reader, and the lines of a reader.
+ghost use Rattle.std.specs.Prelude.{◌≡◌, ℕ, IsOk, List, Ok, Some, nat_eq};
 ghost use Rattle.std.proofs.Common.{rules};
 ghost use Rattle.fallible_iterator.specs.Contract.{unbounded_contract};
+ghost use Rattle.fallible_iterator.specs.Lists.{counted, filtered, items, taken};
 ghost use Rattle.fallible_iterator.specs.Laws.BoundsRuns.{lawful_unbounded};
 ghost use Rattle.fallible_callers.specs.Reading.{DrawsByte};
 
@@ -43,8 +45,13 @@ impl<R: Read + Drop> FallibleIterator for Bytes<R> {
     ghost lawful = { Prim.search (rules, lawful_unbounded) };
 }
 
-/// How many of the first three bytes are newlines.
-pub fn newlines_of_three<R: Read + Drop>(reader: R) -> Result<usize, ReadFailed> {
+/// How many of the first three bytes are newlines. The clause says it where the reader's bytes are known, and no read fails.
+pub fn newlines_of_three<R: Read + Drop>(reader: R) -> Result<usize, ReadFailed>
+where
+    ensures { (bytes : List ℕ) → R.remaining reader ≡ Some bytes
+        → IsOk result → result ≡ counted
+        (filtered (λ x. Ok (nat_eq x 10)) (taken 3 (items bytes))) }
+{
     Bytes { reader }
         .take(3)
         .filter(|byte| Ok(*byte == b'\n'))

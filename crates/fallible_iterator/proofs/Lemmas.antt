@@ -12,3 +12,4 @@ pub mod Looped
 pub mod Loops
 pub mod Nests
 pub mod Sources
+pub mod WithoutFailure
