@@ -1,3 +1,4 @@
 -- Lemmas of single callers.
 pub mod KnownBytes
+pub mod Lines
 pub mod Rises

@@ -1,5 +1,6 @@
 -- What the clauses of `src/` cite.
 pub mod Down
+pub mod Lines
 pub mod Means
 pub mod Rises
 pub mod Runs
