@@ -1,3 +1,6 @@
 -- Lemmas that the answers of this crate cite.
 pub mod Alike
 pub mod Between
+pub mod KnownBytes
+pub mod Lines
+pub mod Rises

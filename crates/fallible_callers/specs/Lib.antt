@@ -2,6 +2,8 @@
 pub mod Alike
 pub mod Between
 pub mod Down
+pub mod Lines
 pub mod Means
+pub mod Rises
 pub mod Runs
 pub mod Reading

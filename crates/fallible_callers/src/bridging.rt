@@ -1,10 +1,10 @@
 //! Callers that hand a fallible iterator to std, and take it back.
-ghost use Rattle.std.specs.Prelude.{◌≡◌, ℕ, ◌+◌, ◌%◌, ◌^◌, ◌<◌, ◌≤◌, Ok, Err, List, Result, length, sum, IfOk, nat_lt};
-ghost use Rattle.fallible_iterator.specs.Lists.{items, results, counted, mapped, filtered, taken};
+ghost use Rattle.std.specs.Prelude.{◌≡◌, ℕ, ◌+◌, ◌%◌, ◌^◌, ◌<◌, ◌≤◌, Ok, Err, List, Result, length, sum, IfOk, filter, is_err, nat_lt, take};
+ghost use Rattle.fallible_iterator.specs.Lists.{Lists, items, results, counted, mapped, filtered, taken};
 ghost use Rattle.fallible_iterator.specs.Bridges.Unwrap.{unwrapped};
 ghost use Rattle.std.specs.declared.convert.Infallible.{Infallible};
 
-use fallible_iterator::laws::law_iterator;
+use fallible_iterator::laws::{law_back_convert, law_back_iterator, law_iterator};
 use fallible_iterator::{Convert, FallibleIterator, IteratorExt, Take, convert};
 use std::alloc::{AllocError, Global};
 
@@ -17,8 +17,10 @@ pub fn elements(readings: Vec<Result<u32, u8>>) -> usize
 
 /// The same, counted from behind.
 pub fn elements_from_behind(readings: Vec<Result<u32, u8>>) -> usize
-    ensures { result ≤ length readings.items }
+    ensures { result ≡ length (results readings.items) }
 {
+    law_back_convert::<u32, u8, std::vec::IntoIter<Result<u32, u8>, Global>>();
+    law_back_iterator::<Convert<std::vec::IntoIter<Result<u32, u8>, Global>>>();
     convert(readings.into_iter()).iterator().rev().count()
 }
 
@@ -35,13 +37,17 @@ where
     I::Item: Drop,
     I::Error: Drop,
     requires { I.contract.can_next it }
-    ensures { result ≤ 10 }
+    ensures at_most { result ≤ 10 }
+    ensures value { (l : List (Result I.Item I.Error)) → Lists I.contract.steps it l
+        → result ≡ length (take 10 l) }
 {
     it.iterator().take(10).count()
 }
 
 /// How many of the readings are failures, modulo 2 ^ 32.
-pub fn failures(readings: Vec<Result<u32, u8>>) -> u32 {
+pub fn failures(readings: Vec<Result<u32, u8>>) -> u32
+    ensures { result ≡ length (filter is_err (results readings.items)) % 2 ^ 32 }
+{
     let mut failures: u32 = 0;
     for reading in convert(readings.into_iter()).iterator() {
         if reading.is_err() {

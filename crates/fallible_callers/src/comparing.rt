@@ -1,10 +1,13 @@
 //! How two chains compare, where one of them is known to end.
-ghost use Rattle.std.specs.Prelude.{◌≡◌, ◌*◌, ◌%◌, ◌^◌, List, Result, Ok, Some, nat_lt, nat_eq};
+ghost use Rattle.std.specs.Prelude.{◌≡◌, ℕ, ◌+◌, ◌*◌, ◌%◌, ◌^◌, List, Result, Ok, Some, length, nat_lt, nat_eq};
 ghost use Rattle.std.specs.Ordering.{nat_cmp};
-ghost use Rattle.fallible_iterator.specs.Comparing.{by_cmp, by_eq, read_as, reads_eq};
-ghost use Rattle.fallible_iterator.specs.Lists.{Lists, results, compared, mapped, filtered};
+ghost use Rattle.fallible_iterator.specs.Comparing.{by_cmp, by_eq, read_as, reads_eq, reads_ge, reads_gt, reads_le, reads_lt, reads_ne};
+ghost use Rattle.fallible_iterator.specs.Contract.{seen_as};
+ghost use Rattle.fallible_iterator.specs.Peeking.Peekable.{peekable_contract, peekable_parts};
+ghost use Rattle.fallible_iterator.specs.Lists.{Lists, results, compared, mapped, filtered, repeated, skipped, taken};
+ghost use Rattle.fallible_callers.specs.Rises.{risen};
 
-use fallible_iterator::{FallibleIterator, convert, repeat};
+use fallible_iterator::{FallibleIterator, Peekable, convert, repeat};
 use std::alloc::AllocError;
 use std::cmp::Ordering;
 
@@ -26,14 +29,20 @@ pub fn order_of_doubled(
 pub fn order_of_ten(
     left: Vec<Result<u32, u8>>,
     right: Vec<Result<u32, u8>>,
-) -> Result<Option<Ordering>, u8> {
+) -> Result<Option<Ordering>, u8>
+    ensures { result ≡ compared (by_cmp nat_cmp) (taken 10 (results left.items))
+        (skipped 1 (results right.items)) }
+{
     convert(left.into_iter())
         .take(10)
         .partial_cmp(convert(right.into_iter()).skip(1))
 }
 
 /// Whether both sides have the same readings, or the failure that comes first.
-pub fn same_readings(left: Vec<Result<u32, u8>>, right: Vec<Result<u32, u8>>) -> Result<bool, u8> {
+pub fn same_readings(left: Vec<Result<u32, u8>>, right: Vec<Result<u32, u8>>) -> Result<bool, u8>
+    ensures { result ≡ read_as reads_eq
+        (compared (by_eq nat_eq) (results left.items) (results right.items)) }
+{
     convert(left.into_iter()).eq(convert(right.into_iter()))
 }
 
@@ -49,14 +58,21 @@ pub fn same_above_100(left: Vec<Result<u32, u8>>, right: Vec<Result<u32, u8>>) -
 }
 
 /// Whether the doubled readings of the left differ from the readings of the right, or the failure that comes first.
-pub fn doubled_differ(left: Vec<Result<u32, u8>>, right: Vec<Result<u32, u8>>) -> Result<bool, u8> {
+pub fn doubled_differ(left: Vec<Result<u32, u8>>, right: Vec<Result<u32, u8>>) -> Result<bool, u8>
+    ensures { result ≡ read_as reads_ne (compared (by_eq nat_eq)
+        (mapped (λ x. Ok (x * 2 % 2 ^ 32)) (results left.items)) (results right.items)) }
+{
     convert(left.into_iter())
         .map(|reading: u32| Ok(reading.wrapping_mul(2)))
         .ne(convert(right.into_iter()))
 }
 
 /// Whether the first three readings above 100 of the left are less than those of the right, or the failure that comes first.
-pub fn three_are_less(left: Vec<Result<u32, u8>>, right: Vec<Result<u32, u8>>) -> Result<bool, u8> {
+pub fn three_are_less(left: Vec<Result<u32, u8>>, right: Vec<Result<u32, u8>>) -> Result<bool, u8>
+    ensures { result ≡ read_as reads_lt (compared (by_cmp nat_cmp)
+        (taken 3 (filtered (λ x. Ok (nat_lt 100 x)) (results left.items)))
+        (taken 3 (filtered (λ x. Ok (nat_lt 100 x)) (results right.items)))) }
+{
     convert(left.into_iter())
         .filter(|reading| Ok(*reading > 100))
         .take(3)
@@ -68,7 +84,10 @@ pub fn three_are_less(left: Vec<Result<u32, u8>>, right: Vec<Result<u32, u8>>) -
 }
 
 /// Whether the readings of the left are less than the doubled readings of the right or equal, or the failure that comes first.
-pub fn up_to_doubled(left: Vec<Result<u32, u8>>, right: Vec<Result<u32, u8>>) -> Result<bool, u8> {
+pub fn up_to_doubled(left: Vec<Result<u32, u8>>, right: Vec<Result<u32, u8>>) -> Result<bool, u8>
+    ensures { result ≡ read_as reads_le (compared (by_cmp nat_cmp)
+        (results left.items) (mapped (λ x. Ok (x * 2 % 2 ^ 32)) (results right.items))) }
+{
     convert(left.into_iter()).le(convert(right.into_iter()).map(|reading: u32| Ok(
         reading.wrapping_mul(2),
     )))
@@ -78,12 +97,18 @@ pub fn up_to_doubled(left: Vec<Result<u32, u8>>, right: Vec<Result<u32, u8>>) ->
 pub fn greater_than_above_100(
     left: Vec<Result<u32, u8>>,
     right: Vec<Result<u32, u8>>,
-) -> Result<bool, u8> {
+) -> Result<bool, u8>
+    ensures { result ≡ read_as reads_gt (compared (by_cmp nat_cmp)
+        (results left.items) (filtered (λ x. Ok (nat_lt 100 x)) (results right.items))) }
+{
     convert(left.into_iter()).gt(convert(right.into_iter()).filter(|reading| Ok(*reading > 100)))
 }
 
 /// Whether the readings of the left after the first are greater than the first ten of the right or equal, or the failure that comes first.
-pub fn at_least_ten(left: Vec<Result<u32, u8>>, right: Vec<Result<u32, u8>>) -> Result<bool, u8> {
+pub fn at_least_ten(left: Vec<Result<u32, u8>>, right: Vec<Result<u32, u8>>) -> Result<bool, u8>
+    ensures { result ≡ read_as reads_ge (compared (by_cmp nat_cmp)
+        (skipped 1 (results left.items)) (taken 10 (results right.items))) }
+{
     convert(left.into_iter())
         .skip(1)
         .ge(convert(right.into_iter()).take(10))
@@ -93,7 +118,10 @@ pub fn at_least_ten(left: Vec<Result<u32, u8>>, right: Vec<Result<u32, u8>>) -> 
 pub fn limit_against(
     limit: u32,
     readings: Vec<Result<u32, AllocError>>,
-) -> Result<Ordering, AllocError> {
+) -> Result<Ordering, AllocError>
+    ensures { read_as (λ o. Some o) result ≡ compared (by_cmp nat_cmp)
+        (repeated (length readings.items + 1) limit) (results readings.items) }
+{
     repeat(limit).cmp(convert(readings.into_iter()))
 }
 
@@ -129,13 +157,25 @@ where
     left.cmp(right)
 }
 
-/// How often an item is greater than the one before it, modulo 2 ^ 64.
+/// How often an item is greater than the one before it, modulo 2 ^ 64, or the first failure.
 pub fn rises<J: FallibleIterator<Item = u32>>(it: J) -> Result<u64, J::Error>
 where
     requires can_next { J.contract.can_next it }
     requires finite { J.contract.is_finite it }
+    ensures { (l : List (Result ℕ J.Error)) → Lists J.contract.steps it l → result ≡ risen l }
 {
-    let mut ahead = it.peekable();
+    rises_ahead(it.peekable())
+}
+
+/// The same, of a source that looks ahead.
+fn rises_ahead<J: FallibleIterator<Item = u32>>(mut ahead: Peekable<J>) -> Result<u64, J::Error>
+where
+    requires can_next { (peekable_contract J.contract).can_next (peekable_parts ahead) }
+    requires finite { (peekable_contract J.contract).is_finite (peekable_parts ahead) }
+    ensures { (l : List (Result ℕ J.Error))
+        → Lists (seen_as peekable_parts (peekable_contract J.contract)).steps ahead l
+        → result ≡ risen l }
+{
     let mut left = ahead.number();
     let mut rises: u64 = 0;
     while let Some(item) = ahead.draw()? {
