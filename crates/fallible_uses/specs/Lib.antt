@@ -1,4 +1,5 @@
 -- What the clauses of `src/` cite.
+pub mod Expressions
 pub mod Means
 pub mod Merging
 pub mod Pages

@@ -1,7 +1,11 @@
 //! Sums and products with parentheses.
-ghost use Rattle.std.specs.Prelude.{◌≡◌, ◌≤◌, ◌<◌, MatchResult, MatchOption, length};
+ghost use Rattle.std.specs.Prelude.{◌≡◌, ◌≢◌, ◌≤◌, ◌<◌, List, Result, Ok, Err, MatchResult, MatchOption, length, reverse};
 ghost use Rattle.std.proofs.Common.{rules};
 ghost use Rattle.fallible_iterator.specs.Contract.{counted_contract};
+ghost use Rattle.fallible_iterator.specs.Lists.{Lists};
+ghost use Rattle.fallible_uses.specs.Expressions.{level_value, with_factor, after_token, value_at_end, value_of_tokens};
+ghost use Rattle.fallible_uses.specs.declared.tokens.Token.{Token};
+ghost use Rattle.fallible_uses.specs.declared.tokens.TextFault.{TextFault};
 
 use fallible_iterator::FallibleIterator;
 use std::alloc::Global;
@@ -94,17 +98,21 @@ impl FallibleIterator for Tokens<'_> {
 
 // The sum of the terms so far, and the product of the factors so far of the term at hand.
 #[derive(Clone, Copy)]
-struct Level {
+pub(crate) struct Level {
     sum: u64,
     product: u64,
 }
 
 impl Level {
-    fn value(self) -> u64 {
+    fn value(self) -> u64
+        ensures { result ≡ level_value self }
+    {
         self.sum.wrapping_add(self.product)
     }
 
-    fn times(self, factor: u64) -> Level {
+    fn times(self, factor: u64) -> Level
+        ensures { result ≡ with_factor self factor }
+    {
         Level {
             sum: self.sum,
             product: self.product.wrapping_mul(factor),
@@ -123,7 +131,13 @@ struct Calculation {
 }
 
 impl Calculation {
-    fn after(mut self, token: Token) -> Result<Calculation, TextFault> {
+    fn after(mut self, token: Token) -> Result<Calculation, TextFault>
+        ensures { MatchResult result
+            (λ c. after_token (reverse self.outside.items, self.level, self.is_begun) token
+            ≡ Ok (reverse c.outside.items, c.level, c.is_begun))
+            (λ e. e ≢ TextFault.Memory
+            → after_token (reverse self.outside.items, self.level, self.is_begun) token ≡ Err e) }
+    {
         match (token, self.is_begun) {
             (Token::Number(number), true) => {
                 self.level = self.level.times(number);
@@ -153,21 +167,45 @@ impl Calculation {
         }
         Ok(self)
     }
+
+    fn end(self) -> Result<u64, TextFault>
+        ensures { result ≡ value_at_end (reverse self.outside.items, self.level, self.is_begun) }
+    {
+        if self.is_begun || !self.outside.is_empty() {
+            return Err(TextFault::Unexpected);
+        }
+        Ok(self.level.value())
+    }
 }
 
-/// The value of a text of numbers, `+`, `*` and parentheses, modulo 2 ^ 64. It draws up to the first fault. It fails with `Unknown` at what is no token, with `Unexpected` at a token that may not stand there, and with `Memory` where there is none for open parentheses. No clause says the value, since that fold's closure may be refused memory. `evaluate(alloc, "2+3*(4+10)*2")` is `Ok(86)`.
-pub fn evaluate(alloc: Global, text: &str) -> Result<u64, TextFault> {
-    let begun = Calculation {
+/// The value of tokens of numbers, `+`, `*` and parentheses, modulo 2 ^ 64. It draws up to the end or the first failure, which is the answer then. It fails with `Unexpected` at a token that may not stand there, and with `Memory` where there is none for open parentheses.
+///
+/// Asks that the source may be drawn from, and that it is finite.
+pub fn value_of<I: FallibleIterator<Item = Token, Error = TextFault>>(
+    alloc: Global,
+    mut tokens: I,
+) -> Result<u64, TextFault>
+where
+    requires can_next { I.contract.can_next tokens }
+    requires finite { I.contract.is_finite tokens }
+    ensures { (l : List (Result Token TextFault)) → Lists I.contract.steps tokens l
+        → result ≢ Err TextFault.Memory → result ≡ value_of_tokens l }
+{
+    let mut left = tokens.number();
+    let mut calculation = Calculation {
         outside: Vec::new(alloc),
         level: EMPTY,
         is_begun: true,
     };
-    let text = text.as_bytes();
-    let end = Tokens { text }.fold(begun, |calculation: Calculation, token: Token| {
-        calculation.after(token)
-    })?;
-    if end.is_begun || !end.outside.is_empty() {
-        return Err(TextFault::Unexpected);
+    while let Some(token) = tokens.draw()? {
+        left = left.one_less();
+        calculation = calculation.after(token)?;
     }
-    Ok(end.level.value())
+    calculation.end()
+}
+
+/// The value of a text of numbers, `+`, `*` and parentheses, modulo 2 ^ 64. It draws up to the first fault. It fails with `Unknown` at what is no token, with `Unexpected` at a token that may not stand there, and with `Memory` where there is none for open parentheses. `evaluate(alloc, "2+3*(4+10)*2")` is `Ok(86)`.
+pub fn evaluate(alloc: Global, text: &str) -> Result<u64, TextFault> {
+    let text = text.as_bytes();
+    value_of(alloc, Tokens { text })
 }
