@@ -1,2 +1,3 @@
 mod MergingLemmas
+mod NumberLemmas
 mod TableLemmas
