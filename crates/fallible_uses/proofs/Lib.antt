@@ -1,3 +1,4 @@
 mod MergingLemmas
 mod NumberLemmas
 mod TableLemmas
+mod TokenLemmas

@@ -1,11 +1,47 @@
--- What tokens of sums and products come to.
-use Rattle.std.specs.Prelude.{ℕ, ◌+◌, ◌*◌, ◌%◌, ◌^◌, Bool, true, false, List, [], ◌∷◌, Result, Ok, Err}
+-- Texts of sums and products: their tokens, and what these come to.
+use Rattle.std.specs.Prelude.{◌≡◌, ◌≤◌, length, take, drop, ℕ, ◌+◌, ◌*◌, ◌%◌, ◌^◌, ◌==◌, if◌then◌else◌, Bool, true, false, List, [], ◌∷◌, ◌++◌, Result, Ok, Err, option_map}
+use Rattle.std.specs.Char.{is_ascii_digit}
+use Rattle.std.specs.Option.{ok_or}
+use Rattle.std.specs.Str.{IsAscii}
 use Rattle.fallible_iterator.specs.Lists.{folded, on_value}
+use Rattle.fallible_uses.specs.Numbers.{number_of}
 use Rattle.fallible_uses.specs.declared.tokens.Token.{Token}
 use Rattle.fallible_uses.specs.declared.tokens.Token.TheVariants.{Number, Plus, Times, Open, Close}
 use Rattle.fallible_uses.specs.declared.tokens.TextFault.{TextFault}
-use Rattle.fallible_uses.specs.declared.tokens.TextFault.TheVariants.{Unexpected}
+use Rattle.fallible_uses.specs.declared.tokens.TextFault.TheVariants.{Unknown, Unexpected}
 use Rattle.fallible_uses.specs.declared.tokens.Level.{Level}
+
+-- ---- tokens
+
+-- the token that digits are: their number, or the failure of one that doesn't fit
+abbrev pub number_token : List ℕ → Result Token TextFault
+number_token digits = ok_or (option_map (λ n. Number n) (number_of digits)) Unknown
+
+-- the token that another byte is, or the failure of one that is none: 43 is `+`, 42 is `*`, and 40 and 41 are the parentheses
+abbrev pub sign_token : ℕ → Result Token TextFault
+sign_token byte = if byte == 43 then Ok Plus else if byte == 42 then Ok Times else if byte == 40 then Ok Open else if byte == 41 then Ok Close else Err Unknown
+
+-- the token of digits, where there are any, before others
+abbrev pub with_number : List ℕ → List (Result Token TextFault) → List (Result Token TextFault)
+with_number [] l = l
+with_number (digit ∷ digits) l = number_token (digit ∷ digits) ∷ l
+
+-- the tokens of a text behind digits that belong to it
+unfoldable pub tokens_behind : List ℕ → List ℕ → List (Result Token TextFault)
+tokens_behind digits [] = with_number digits []
+tokens_behind digits (byte ∷ text) = if is_ascii_digit byte then tokens_behind (digits ++ byte ∷ []) text else with_number digits (sign_token byte ∷ tokens_behind [] text)
+
+-- The tokens of a text: of digits in a row one number, of each other byte its own token. A byte that is none, and a number that doesn't fit, is a failure.
+abbrev pub tokens_of : List ℕ → List (Result Token TextFault)
+tokens_of text = tokens_behind [] text
+
+-- so many digits stand in front of a text, and the tokens of the text are those of the rest behind them
+pub record ReadsDigits (text : List ℕ) (end : ℕ) : Type 0 where
+  pub fits : end ≤ length text
+  pub same : tokens_of text ≡ tokens_behind (take end text) (drop end text)
+  pub ascii : IsAscii (take end text)
+
+-- ---- values
 
 -- a level without a term: the sum is 0, and the product of no factors is 1
 abbrev pub no_terms : Level
