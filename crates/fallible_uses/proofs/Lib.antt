@@ -1,4 +1,5 @@
 mod MergingLemmas
 mod NumberLemmas
+mod PageLemmas
 mod TableLemmas
 mod TokenLemmas
