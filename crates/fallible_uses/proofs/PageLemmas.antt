@@ -34,13 +34,13 @@ module _ {P : Type 0} (gives : P → ℕ → Result (List ℕ) PageRefused → P
   gives_book [] pages place i = λ r t drawn. (opened drawn.0 (Ok []) place r t.1.0 t.1.1 (i drawn.0 t.0 drawn.1) drawn.2).0
   gives_book (Ok [] ∷ book) pages place i = λ r t drawn. (opened drawn.0 (Ok []) place r t.1.0 t.1.1 (i drawn.0 t.0 drawn.1).0 drawn.2).0
   gives_book (Ok (x ∷ rows) ∷ book) pages place i = λ r t drawn.
-    let h = i drawn.0 t.0 drawn.1 in
-    let o = opened drawn.0 (Ok (x ∷ rows)) place r t.1.0 t.1.1 h.0 drawn.2 in
-    (o.0, by_parts (λ p. AlwaysGives (DrawsRow gives) p (items rows ++ rows_in book)) t t.0 rows ((place + 1) % 2 ^ 32) refl o.1 o.2 (in_hand rows (rows_in book) t.0 ((place + 1) % 2 ^ 32) (gives_book book t.0 ((place + 1) % 2 ^ 32) h.1)))
+      let h = i drawn.0 t.0 drawn.1 in
+      let o = opened drawn.0 (Ok (x ∷ rows)) place r t.1.0 t.1.1 h.0 drawn.2 in
+      (o.0, by_parts (λ p. AlwaysGives (DrawsRow gives) p (items rows ++ rows_in book)) t t.0 rows ((place + 1) % 2 ^ 32) refl o.1 o.2 (in_hand rows (rows_in book) t.0 ((place + 1) % 2 ^ 32) (gives_book book t.0 ((place + 1) % 2 ^ 32) h.1)))
   gives_book (Err e ∷ book) pages place i = λ r t drawn.
-    let h = i drawn.0 t.0 drawn.1 in
-    let o = opened drawn.0 (Err e) place r t.1.0 t.1.1 h.0 drawn.2 in
-    (o.0, by_parts (λ p. AlwaysGives (DrawsRow gives) p (rows_in book)) t t.0 [] place refl o.1 o.2 (gives_book book t.0 place h.1))
+      let h = i drawn.0 t.0 drawn.1 in
+      let o = opened drawn.0 (Err e) place r t.1.0 t.1.1 h.0 drawn.2 in
+      (o.0, by_parts (λ p. AlwaysGives (DrawsRow gives) p (rows_in book)) t t.0 [] place refl o.1 o.2 (gives_book book t.0 place h.1))
 
   pub lists_book : (book : List (Result (List ℕ) PageRefused)) (s : Cursor P) (pages : P) → cursor_parts s ≡ at_start pages → AnswersBook gives pages 0 book → Lists (seen_as cursor_parts (unbounded_contract (DrawsRow gives))).steps s (rows_in book)
   lists_book book s pages e i = record { runs = seen_gives cursor_parts (DrawsRow gives) (rows_in book) s (subst (λ (p : P × (List ℕ × ℕ)). AlwaysGives (DrawsRow gives) p (rows_in book)) (sym e) (gives_book book pages 0 i)) }
