@@ -1,3 +1,4 @@
+mod GrammarLemmas
 mod MergingLemmas
 mod NumberLemmas
 mod PageLemmas

@@ -1,5 +1,6 @@
 -- What the clauses of `src/` cite.
 pub mod Expressions
+pub mod Grammar
 pub mod Lines
 pub mod Means
 pub mod Merging

@@ -3,9 +3,10 @@ ghost use Rattle.std.specs.Prelude.{◌≡◌, ◌≢◌, ◌<◌, false, List, 
 ghost use Rattle.std.specs.Char.{is_ascii_digit};
 ghost use Rattle.std.specs.Str.{IsAscii};
 ghost use Rattle.fallible_iterator.specs.Laws.Showing.{lawful_listing};
-ghost use Rattle.fallible_iterator.specs.Lists.{Lists, result_answer};
+ghost use Rattle.fallible_iterator.specs.Lists.{Lists, items, result_answer};
 ghost use Rattle.fallible_iterator.specs.Showing.{listing};
 ghost use Rattle.fallible_uses.specs.Expressions.{number_token, sign_token, tokens_of, ReadsDigits, level_value, with_factor, after_token, value_at_end, value_of_tokens};
+ghost use Rattle.fallible_uses.specs.Grammar.{Expression, as_sum, written, expression_value};
 ghost use Rattle.fallible_uses.specs.declared.tokens.Token.{Token};
 ghost use Rattle.fallible_uses.specs.declared.tokens.TextFault.{TextFault};
 
@@ -232,9 +233,19 @@ where
     calculation.end()
 }
 
+/// What is written of a sum or a product, with the parentheses that it needs and any others, has its value.
+pub fn law_written()
+    ensures { (e : Expression)
+        → value_of_tokens (items (written as_sum e)) ≡ Ok (expression_value e) }
+{}
+
 /// The value of a text of numbers, `+`, `*` and parentheses, modulo 2 ^ 64. It draws up to the first fault. It fails with `Unknown` at what is no token, with `Unexpected` at a token that may not stand there, and with `Memory` where there is none for open parentheses. `evaluate(alloc, "2+3*(4+10)*2")` is `Ok(86)`.
 pub fn evaluate(alloc: Global, text: &str) -> Result<u64, TextFault>
-    ensures { result ≢ Err TextFault.Memory → result ≡ value_of_tokens (tokens_of text.now) }
+    ensures value { result ≢ Err TextFault.Memory
+        → result ≡ value_of_tokens (tokens_of text.now) }
+    ensures written { (e : Expression) → tokens_of text.now ≡ items (written as_sum e)
+        → result ≢ Err TextFault.Memory → result ≡ Ok (expression_value e) }
 {
+    law_written();
     value_of(alloc, Tokens::new(text.as_bytes()))
 }
