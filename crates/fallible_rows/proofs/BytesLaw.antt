@@ -62,7 +62,7 @@ fails_there prefix rest h =
     let long = length-append prefix (failure Read ∷ rest) in
     h (length prefix) end (omega (arith, long)) (get_or-append_seam prefix (failure Read) rest end)
 
-module _ {B : Type 0} (left : B → Option (List ℕ)) (stays : B → B → Type 0) where
+module _ {B : Type 0} (left : B → Option (List ℕ)) (stays : Bool → B → B → Type 0) where
   answers_known : (bytes : List ℕ) (trace : Answers) (r : B) (a : Ahead) (p : B × Option Ahead) → a.place ≡ 1 → left r ≡ Some bytes → NeverFailsToRead trace → ReadsRows left stays r a trace p → AnswersRowsOf bytes trace
   answers_known bytes trace r a p first tells never h = elim h.stopped [
     | inl s ↦

@@ -19,7 +19,7 @@ use Rattle.fallible_rows.specs.declared.fault.RowFault.{RowFault}
 use Rattle.fallible_rows.specs.declared.rows.Ahead.{Ahead}
 use Rattle.fallible_rows.specs.declared.rows.Rows.{Rows}
 
-module _ {B : Type 0} (left : B → Option (List ℕ)) (stays : B → B → Type 0) (r : B) (a : Ahead) where
+module _ {B : Type 0} (left : B → Option (List ℕ)) (stays : Bool → B → B → Type 0) (r : B) (a : Ahead) where
   -- the rows were read up to the last answer, before which fewer than n came; or n rows were, and the end came without a draw
   abbrev pub ReadsAtMost : ℕ → List ℕ → Answered ℕ RowFault → B × Option Ahead → Type 0
   ReadsAtMost n xs last p = (ReadsRows left stays r a (map item xs ++ last ∷ []) p × (length xs < n)) ⊎ (ReadsRows left stays r a (map item xs) p × (last ≡ end) × (length xs ≡ n))

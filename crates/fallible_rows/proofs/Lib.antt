@@ -1,5 +1,6 @@
 pub mod BytesLaw
 pub mod ChainLemmas
+pub mod ListsLaw
 pub mod PrefixLemmas
 pub mod ReportLemmas
 pub mod RowLemmas

@@ -1,5 +1,5 @@
 -- What was read, by what the rows of a reader answered.
-use Rattle.std.proofs.Common.{◌≡◌, ℕ, zero, suc, ◌+◌, ◌-◌, ◌<◌, ◌≤◌, ◌⊎◌, inl, inr, List, [], ◌∷◌, ◌++◌, length, map, refl, sym, ap, subst, ◌∙◌, arith, append-nil, Option, Some, None, Result, Ok, Err, count_by}
+use Rattle.std.proofs.Common.{Bool, true, false, ◌≡◌, ℕ, zero, suc, ◌+◌, ◌-◌, ◌<◌, ◌≤◌, ◌⊎◌, inl, inr, List, [], ◌∷◌, ◌++◌, length, map, refl, sym, ap, subst, ◌∙◌, arith, append-nil, Option, Some, None, Result, Ok, Err, count_by}
 use Rattle.std.specs.Prelude.{replicate}
 use Rattle.std.specs.Io.KnownBytes.{Consumes, IsAtEnd}
 use Rattle.std.proofs.KnownBytes.{Consumes-nil, Consumes-trans, Consumes-kept}
@@ -21,7 +21,7 @@ use Rattle.fallible_rows.specs.declared.rows.Ahead.{Ahead}
 abbrev Answers : Type 0
 Answers = List (Answered ℕ RowFault)
 
-module _ {B : Type 0} (left : B → Option (List ℕ)) (stays : B → B → Type 0) where
+module _ {B : Type 0} (left : B → Option (List ℕ)) (stays : Bool → B → B → Type 0) where
   pub gives_consumes : (bytes : List ℕ) (r q : B) → GivesBytes left stays r bytes q → Consumes (left r) (left q) bytes
   gives_consumes [] r q h = subst (λ (z : B). Consumes (left r) (left z) []) h (Consumes-nil (left r))
   gives_consumes (x ∷ xs) r q h = Consumes-trans (left r) (left h.0) (left q) (x ∷ []) xs h.1.0 (gives_consumes xs h.0 q h.2)
@@ -34,17 +34,17 @@ module _ {B : Type 0} (left : B → Option (List ℕ)) (stays : B → B → Type
   missed_consumes bytes limit count r q t h (inr m) = Consumes-kept (left r) (left q) (left t) bytes (gives_consumes bytes r q h) m.1.0
 
   -- what every read keeps, all of them keep
-  module _ {N : Type 0} (name : B → N) (kept : (r q : B) → stays r q → name q ≡ name r) where
+  module _ {N : Type 0} (name : B → N) (kept : (failed : Bool) (r q : B) → stays failed r q → name q ≡ name r) where
     gives_keeps : (bytes : List ℕ) (r q : B) → GivesBytes left stays r bytes q → name q ≡ name r
     gives_keeps [] r q h = ap name (sym h)
-    gives_keeps (x ∷ xs) r q h = gives_keeps xs h.0 q h.2 ∙ kept r h.0 h.1.1
+    gives_keeps (x ∷ xs) r q h = gives_keeps xs h.0 q h.2 ∙ kept false r h.0 h.1.1
 
     rows_keep : (r : B) (a : Ahead) (trace : Answers) (p : B × Option Ahead) → ReadsRows left stays r a trace p → name p.0 ≡ name r
     rows_keep r a trace p h = let before = gives_keeps (h.closed ++ h.unclosed) r h.last h.given in elim h.stopped [
       | inl s ↦ ap (λ (q : B × Option Ahead). name q.0) s.is_left ∙ before
       | inr k ↦ elim k [
-        | inl s ↦ kept h.last p.0 s.met_end.2 ∙ before
-        | inr s ↦ elim s.missed [ inl m ↦ ap name m.1 ∙ before | inr m ↦ kept h.last p.0 m.1.1 ∙ before ]
+        | inl s ↦ kept false h.last p.0 s.met_end.2 ∙ before
+        | inr s ↦ elim s.missed [ inl m ↦ ap name m.1 ∙ before | inr m ↦ kept true h.last p.0 m.1.1 ∙ before ]
       ]
     ]
 

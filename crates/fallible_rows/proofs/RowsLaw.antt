@@ -1,5 +1,5 @@
 -- Runs of the rows of a reader are the traces that their definition names.
-use Rattle.std.proofs.Common.{◌≡◌, ◌≢◌, ℕ, zero, suc, ◌+◌, ◌-◌, ◌<◌, ◌≤◌, ◌⊎◌, inl, inr, List, [], ◌∷◌, ◌++◌, length, Option, Some, None, Err, refl, sym, ap, subst, ◌∙◌, arith, append_assoc}
+use Rattle.std.proofs.Common.{Bool, ◌≡◌, ◌≢◌, ℕ, zero, suc, ◌+◌, ◌-◌, ◌<◌, ◌≤◌, ◌⊎◌, inl, inr, List, [], ◌∷◌, ◌++◌, length, Option, Some, None, Err, refl, sym, ap, subst, ◌∙◌, arith, append_assoc}
 use Rattle.std.specs.Prelude.{replicate, ◌↔◌}
 use Rattle.std.proofs.lemmas.List.{length-append}
 use Rattle.std.proofs.lemmas.List.Elements.{All-nil}
@@ -31,7 +31,7 @@ told_answers place (row ∷ rest) =
     let rests : row_answers (told_place place + 1) rest ≡ row_answers (place + 1) rest = sym (told_answers (told_place place + 1) rest) ∙ ap (λ k. row_answers k rest) next ∙ told_answers (place + 1) rest in
     ap {B = Answers} (λ x. x ∷ row_answers (told_place place + 1) rest) (told_answer place (row_number row)) ∙ ap {B = Answers} (λ l. row_answer place row ∷ l) rests
 
-module _ {B : Type 0} (left : B → Option (List ℕ)) (stays : B → B → Type 0) where
+module _ {B : Type 0} (left : B → Option (List ℕ)) (stays : Bool → B → B → Type 0) where
   abbrev step : B × Option Ahead → Answered ℕ RowFault → B × Option Ahead → Type 0
   step = row_step left stays
 

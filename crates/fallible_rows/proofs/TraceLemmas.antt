@@ -1,5 +1,5 @@
 -- Lemmas on what draws from the rows of a reader answer.
-use Rattle.std.proofs.Common.{◌↔◌, ◌≡◌, ◌≢◌, ℕ, ◌+◌, List, [], ◌∷◌, ◌++◌, Option, Some, None, refl, subst, ◌⊎◌, inl, inr}
+use Rattle.std.proofs.Common.{Bool, ◌↔◌, ◌≡◌, ◌≢◌, ℕ, ◌+◌, List, [], ◌∷◌, ◌++◌, Option, Some, None, refl, subst, ◌⊎◌, inl, inr}
 use Rattle.std.proofs.lemmas.List.Elements.{All-nil, All-cons, All-append}
 use Rattle.fallible_contract.proofs.Lemmas.LawForm.{traces_of_parts}
 use Rattle.fallible_iterator.specs.Traces.{Answered, Run, failure, end}
@@ -19,7 +19,7 @@ use Rattle.fallible_rows.specs.declared.rows.Close.TheVariants.{Newline, End, Fa
 pub IsOneRow-more : (row : List ℕ) (byte : ℕ) → IsOneRow row → byte ≢ 10 → IsOneRow (row ++ byte ∷ [])
 IsOneRow-more row byte one other = All-append not_newline row (byte ∷ []) one (All-cons not_newline byte [] other (All-nil not_newline))
 
-pub gives_more : {B : Type 0} (left : B → Option (List ℕ)) (stays : B → B → Type 0) (row : List ℕ) (byte : ℕ) (p q r : B) → GivesBytes left stays p row q → GivesByte left stays q byte r → GivesBytes left stays p (row ++ byte ∷ []) r
+pub gives_more : {B : Type 0} (left : B → Option (List ℕ)) (stays : Bool → B → B → Type 0) (row : List ℕ) (byte : ℕ) (p q r : B) → GivesBytes left stays p row q → GivesByte left stays q byte r → GivesBytes left stays p (row ++ byte ∷ []) r
 gives_more left stays row byte p q r h k = turns_then (GivesByte left stays) row (byte ∷ []) p q r h (r, k, refl)
 
 -- the value of these parts
@@ -32,7 +32,7 @@ rows_seen step trace s t = traces_of_parts rows_parts rows_of (λ x. refl) (λ p
 
 -- ---- one draw
 
-module _ {B : Type 0} (left : B → Option (List ℕ)) (stays : B → B → Type 0) (r q : B) (a : Ahead) (digits : Digits) (close : Close) (read : ReadsRow left stays r a.left (digits, close) q) where
+module _ {B : Type 0} (left : B → Option (List ℕ)) (stays : Bool → B → B → Type 0) (r q : B) (a : Ahead) (digits : Digits) (close : Close) (read : ReadsRow left stays r a.left (digits, close) q) where
   closes_as : (c : Close) → close ≡ c → ClosesAs left stays a.left read.row read.last c q
   closes_as c is = subst (λ (z : Close). ClosesAs left stays a.left read.row read.last z q) is read.closed
 

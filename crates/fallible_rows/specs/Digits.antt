@@ -1,5 +1,5 @@
 -- What is kept of the bytes of a row, and what a draw reads of one.
-use Rattle.std.specs.Prelude.{◌≡◌, ◌≢◌, ℕ, ◌+◌, ◌<◌, List, [], ◌++◌, length, Option, Some, None}
+use Rattle.std.specs.Prelude.{Bool, ◌≡◌, ◌≢◌, ℕ, ◌+◌, ◌<◌, List, [], ◌++◌, length, Option, Some, None}
 use Rattle.fallible_rows.specs.Reading.{GivesByte, GivesEnd}
 use Rattle.fallible_rows.specs.Rows.{row_number}
 use Rattle.fallible_rows.specs.RowTraces.{IsOneRow, GivesBytes, MissesByte}
@@ -14,7 +14,7 @@ TellsOf Empty bytes = bytes ≡ []
 TellsOf (Number count value) bytes = (row_number bytes ≡ Some value) × (length bytes ≡ count)
 TellsOf Refused bytes = (bytes ≢ []) × ((more : List ℕ) → row_number (bytes ++ more) ≡ None)
 
-module _ {B : Type 0} (left : B → Option (List ℕ)) (stays : B → B → Type 0) where
+module _ {B : Type 0} (left : B → Option (List ℕ)) (stays : Bool → B → B → Type 0) where
   -- what ended a row of which at most so many bytes might be read
   abbrev pub ClosesAs : ℕ → List ℕ → B → Close → B → Type 0
   ClosesAs limit row last (Newline more) q = GivesByte left stays last 10 q × (more + length row + 1 ≡ limit)

@@ -1,6 +1,7 @@
 -- What draws from the rows of a reader answer, and what they read.
-use Rattle.std.specs.Prelude.{◌≡◌, ◌≢◌, ℕ, ◌+◌, ◌<◌, ◌≤◌, ◌⊎◌, min, List, [], ◌∷◌, ◌++◌, length, take, replicate, All, Option, Some, None, ⊤}
+use Rattle.std.specs.Prelude.{Bool, ◌≡◌, ◌≢◌, ℕ, ◌+◌, ◌<◌, ◌≤◌, ◌⊎◌, min, List, [], ◌∷◌, ◌++◌, length, take, replicate, All, Option, Some, None, Result, ⊤}
 use Rattle.std.specs.List.{FoldsTo}
+use Rattle.std.specs.Option.{ok_or}
 use Rattle.fallible_iterator.specs.Traces.{Answered, item, failure, end}
 use Rattle.fallible_rows.specs.Rows.{rows, row_number}
 use Rattle.fallible_rows.specs.Reading.{GivesByte, GivesEnd, FailsToRead}
@@ -42,6 +43,15 @@ abbrev pub row_answers : ℕ → List (List ℕ) → List (Answered ℕ RowFault
 row_answers place [] = []
 row_answers place (row ∷ rest) = row_answer place row ∷ row_answers (place + 1) rest
 
+-- the number of a row at a place, or where it is none the failure that tells the place
+abbrev pub row_result : ℕ → List ℕ → Result ℕ RowFault
+row_result place row = ok_or (row_number row) (Row (told_place place))
+
+-- those of rows, of which the first has this place
+abbrev pub row_results : ℕ → List (List ℕ) → List (Result ℕ RowFault)
+row_results place [] = []
+row_results place (row ∷ rest) = row_result place row ∷ row_results (place + 1) rest
+
 -- ---- bytes
 
 -- bytes of one row: none of them is a newline
@@ -52,7 +62,7 @@ IsOneRow bytes = All (λ byte. byte ≢ 10) bytes
 abbrev pub IsClosed : List ℕ → Type 0
 IsClosed bytes = (bytes ≡ []) ⊎ ((prefix : List ℕ) × (bytes ≡ prefix ++ 10 ∷ []))
 
-module _ {B : Type 0} (left : B → Option (List ℕ)) (stays : B → B → Type 0) where
+module _ {B : Type 0} (left : B → Option (List ℕ)) (stays : Bool → B → B → Type 0) where
   -- the reader gave these bytes, one at a time
   abbrev pub GivesBytes : B → List ℕ → B → Type 0
   GivesBytes r bytes q = FoldsTo (GivesByte left stays) r bytes q
@@ -150,7 +160,7 @@ AnswersRowsOf bytes trace = (n : ℕ) × (ends : ℕ) × (trace ≡ take n (row_
 abbrev pub NeverFailsToRead : List (Answered ℕ RowFault) → Type 0
 NeverFailsToRead trace = All (λ r. r ≢ failure Read) trace
 
-module _ {B : Type 0} (left : B → Option (List ℕ)) (stays : B → B → Type 0) where
+module _ {B : Type 0} (left : B → Option (List ℕ)) (stays : Bool → B → B → Type 0) where
   -- no row was drawn, and the reader tells that it has these bytes left, fewer than may be read
   pub record BeginsWith (p : B × Option Ahead) (bytes : List ℕ) : Type 0 where
     pub limit : ℕ

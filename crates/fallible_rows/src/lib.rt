@@ -10,6 +10,7 @@ mod fault;
 pub mod laws;
 mod reading;
 mod rows;
+mod summing;
 #[cfg(test)]
 mod tests;
 
@@ -18,10 +19,11 @@ ghost use Rattle.std.specs.Io.KnownBytes.{Keeps};
 ghost use Rattle.fallible_rows.specs.Run.{WritesReport, IsRefusedAt, HasReport, NoneRefusedYet, TakesFromPrefix};
 
 pub use fault::{RowFault, fault_line};
-pub use reading::{ReadByte, ReadFailed};
+pub use reading::{Bytes, ReadByte, ReadFailed};
 pub use rows::Rows;
 use std::alloc::Global;
 use std::io::{Read, Write};
+pub use summing::sum_of_rows;
 
 /// Reads the first 1,000,000 rows of `reader`, one byte at a time, and writes to `writer` how many of them are above 100, in decimal, and a newline. A row ends at each newline and at the end of the bytes; an empty last one is none.
 ///

@@ -1,9 +1,12 @@
 //! Rows of a reader, as a fallible iterator.
-ghost use Rattle.std.specs.Prelude.{◌≡◌, ◌-◌, ◌^◌};
+ghost use Rattle.std.specs.Prelude.{◌≡◌, ◌-◌, ◌^◌, ◌<◌, ℕ, List, length, Some};
 ghost use Rattle.fallible_iterator.specs.Contract.{unbounded_contract, seen_as};
 ghost use Rattle.fallible_iterator.specs.Laws.Contract.{lawful_seen};
 ghost use Rattle.fallible_iterator.specs.Laws.BoundsRuns.{lawful_unbounded};
-ghost use Rattle.fallible_rows.specs.RowTraces.{rows_parts, begun, row_step};
+ghost use Rattle.fallible_iterator.specs.Lists.{Lists};
+ghost use Rattle.fallible_rows.specs.Reading.{NeverFails};
+ghost use Rattle.fallible_rows.specs.Rows.{rows};
+ghost use Rattle.fallible_rows.specs.RowTraces.{rows_parts, begun, row_step, row_results};
 ghost use Rattle.fallible_rows.specs.Digits.{ReadsRow};
 
 use crate::digits::Digits;
@@ -37,14 +40,22 @@ pub(crate) struct Ahead {
 impl<B: ReadByte> Rows<B> {
     /// The rows of `reader`, of which at most `u64::MAX` bytes are read. It reads nothing.
     pub fn new(reader: B) -> Rows<B>
-        ensures { rows_parts result ≡ begun reader (2 ^ 64 - 1) }
+        ensures parts { rows_parts result ≡ begun reader (2 ^ 64 - 1) }
+        ensures lists { (bytes : List ℕ) → NeverFails B.stays → B.left reader ≡ Some bytes
+            → length bytes < 2 ^ 64 - 1
+            → Lists (seen_as rows_parts (unbounded_contract (row_step B.left B.stays))).steps
+            result (row_results 1 (rows bytes)) }
     {
         Rows::with_limit(reader, u64::MAX)
     }
 
     /// The rows of `reader`, of which at most `limit` bytes are read. It reads nothing.
     pub fn with_limit(reader: B, limit: u64) -> Rows<B>
-        ensures { rows_parts result ≡ begun reader limit }
+        ensures parts { rows_parts result ≡ begun reader limit }
+        ensures lists { (bytes : List ℕ) → NeverFails B.stays → B.left reader ≡ Some bytes
+            → length bytes < limit
+            → Lists (seen_as rows_parts (unbounded_contract (row_step B.left B.stays))).steps
+            result (row_results 1 (rows bytes)) }
     {
         Rows {
             reader,

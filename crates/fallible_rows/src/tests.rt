@@ -1,5 +1,5 @@
 //! What no clause says: the numbers of the examples, and calls that fail or come in pieces.
-use crate::{RowFault, Rows, fault_line, run};
+use crate::{RowFault, Rows, fault_line, run, sum_of_rows};
 use fallible_iterator::laws::answers;
 use fallible_iterator::{Answer, FallibleIterator};
 use std::alloc::{AllocError, Global};
@@ -122,6 +122,13 @@ fn run_counts_rows_above_100(rt: HostRuntime) {
     expect_count(&rt, alloc, b"", b"0\n");
     expect_count(&rt, alloc, b"18446744073709551615", b"1\n");
     expect_count(&rt, alloc, b"00000000000000000101", b"1\n");
+}
+
+#[test]
+fn sum_of_rows_stops_at_a_row_that_is_no_number(rt: HostRuntime) {
+    assert_eq!(rt; sum_of_rows(b"40\n2\nfern", 2), Ok(42));
+    assert_eq!(rt; sum_of_rows(b"40\n2\n", 9), Ok(42));
+    assert_eq!(rt; sum_of_rows(b"40\n2\nfern", 3), Err(RowFault::Row(3)));
 }
 
 #[test]

@@ -1,2 +1,6 @@
+mod GrammarLemmas
 mod MergingLemmas
+mod NumberLemmas
+mod PageLemmas
 mod TableLemmas
+mod TokenLemmas

@@ -1,6 +1,10 @@
 -- What the clauses of `src/` cite.
+pub mod Expressions
+pub mod Grammar
+pub mod Lines
 pub mod Means
 pub mod Merging
+pub mod Numbers
 pub mod Pages
 pub mod Report
 pub mod Tables

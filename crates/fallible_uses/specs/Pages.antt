@@ -1,7 +1,8 @@
 -- What a draw of rows from pages asks and answers.
-use Rattle.std.specs.Prelude.{◌≡◌, ℕ, ◌+◌, ◌%◌, ◌^◌, List, [], ◌∷◌, Result, Ok, Err}
+use Rattle.std.specs.Prelude.{◌≡◌, ℕ, ◌+◌, ◌%◌, ◌^◌, List, [], ◌∷◌, ◌++◌, Result, Ok, Err}
 use Rattle.std.specs.Vec.Iter.{into_iter_items}
 use Rattle.fallible_iterator.specs.Traces.{Answered, item, failure, end}
+use Rattle.fallible_iterator.specs.Lists.{items}
 use Rattle.std.specs.declared.vec.IntoIter.{IntoIter}
 use Rattle.std.specs.declared.alloc.Global.{Global}
 use Rattle.fallible_uses.specs.declared.pages.Cursor.{Cursor}
@@ -31,3 +32,18 @@ module _ {P : Type 0} (gives : P → ℕ → Result (List ℕ) PageRefused → P
 -- a cursor at its start: no row is in hand, and page 0 is the next
 abbrev pub at_start : {P : Type 0} → P → P × (List ℕ × ℕ)
 at_start pages = (pages, ([], 0))
+
+-- ---- what it lists
+
+-- The pages answer as the book does: asked for this place, they answer its first answer. After a page of rows the next place is asked for, after a refusal the same one. Behind the book's end a page is empty.
+abbrev pub AnswersBook : {P : Type 0} → (P → ℕ → Result (List ℕ) PageRefused → P → Type 0) → P → ℕ → List (Result (List ℕ) PageRefused) → Type 0
+AnswersBook {P} gives pages place [] = (page : Result (List ℕ) PageRefused) (pages' : P) → gives pages place page pages' → page ≡ Ok []
+AnswersBook {P} gives pages place (Ok rows ∷ book) = (page : Result (List ℕ) PageRefused) (pages' : P) → gives pages place page pages' → (page ≡ Ok rows) × AnswersBook gives pages' ((place + 1) % 2 ^ 32) book
+AnswersBook {P} gives pages place (Err e ∷ book) = (page : Result (List ℕ) PageRefused) (pages' : P) → gives pages place page pages' → (page ≡ Err e) × AnswersBook gives pages' place book
+
+-- the rows of a book, up to its first empty page, and the refusals between them
+unfoldable pub rows_in : List (Result (List ℕ) PageRefused) → List (Result ℕ PageRefused)
+rows_in [] = []
+rows_in (Ok [] ∷ book) = []
+rows_in (Ok (x ∷ rows) ∷ book) = items (x ∷ rows) ++ rows_in book
+rows_in (Err e ∷ book) = Err e ∷ rows_in book

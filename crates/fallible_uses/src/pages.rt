@@ -1,9 +1,10 @@
 //! A cursor over pages of rows.
-ghost use Rattle.std.specs.Prelude.{◌≡◌, ℕ, List, Result, Option};
+ghost use Rattle.std.specs.Prelude.{◌≡◌, ◌+◌, ◌%◌, ◌^◌, ℕ, List, Result, Ok, Option};
 ghost use Rattle.fallible_iterator.specs.Contract.{unbounded_contract, seen_as};
 ghost use Rattle.fallible_iterator.specs.Laws.Contract.{lawful_seen};
 ghost use Rattle.fallible_iterator.specs.Laws.BoundsRuns.{lawful_unbounded};
-ghost use Rattle.fallible_uses.specs.Pages.{rows_of, cursor_parts, at_start, DrawsRow};
+ghost use Rattle.fallible_iterator.specs.Lists.{Lists, folded, taken};
+ghost use Rattle.fallible_uses.specs.Pages.{rows_of, cursor_parts, at_start, DrawsRow, AnswersBook, rows_in};
 ghost use Rattle.fallible_uses.specs.declared.pages.PageRefused.{PageRefused};
 
 use fallible_iterator::FallibleIterator;
@@ -37,7 +38,11 @@ pub struct Cursor<P> {
 impl<P: Pages> Cursor<P> {
     /// The rows of these pages from page 0 on. Making them asks for no page.
     pub fn new(alloc: Global, pages: P) -> Cursor<P>
-        ensures { cursor_parts result ≡ at_start pages }
+        ensures parts { cursor_parts result ≡ at_start pages }
+        ensures lists { (book : List (Result (List ℕ) PageRefused))
+            → AnswersBook P.gives pages 0 book
+            → Lists (seen_as cursor_parts (unbounded_contract (DrawsRow P.gives))).steps
+            result (rows_in book) }
     {
         Cursor {
             pages,
@@ -79,4 +84,15 @@ impl<P: Pages> FallibleIterator for Cursor<P> {
     }
 
     ghost lawful = { lawful_seen cursor_parts (lawful_unbounded (DrawsRow P.gives)) };
+}
+
+/// The sum of the first n rows of these pages, modulo 2 ^ 64. It draws up to the n-th row, the end or the first refusal, which is the answer then.
+pub fn sum_of_first<P: Pages>(alloc: Global, pages: P, n: usize) -> Result<u64, PageRefused>
+    ensures { (book : List (Result (List ℕ) PageRefused)) → AnswersBook P.gives pages 0 book
+        → result ≡ folded (λ e. e) (λ s x. Ok ((s + x) % 2 ^ 64)) 0 (taken n (rows_in book)) }
+{
+    Cursor::new(alloc, pages).take(n).fold(
+        0,
+        |sum: u64, row: u32| Ok(sum.wrapping_add(u64::from(row))),
+    )
 }

@@ -6,7 +6,7 @@ use crate::edges::{back_above_100, front_above_100};
 use crate::generic::{mean, running_sums};
 use crate::lines::{LineFault, sum_of_lines};
 use crate::merging::next_merged;
-use crate::pages::{Cursor, PageRefused, Pages};
+use crate::pages::{Cursor, PageRefused, Pages, sum_of_first};
 use crate::report::{RunFault, run};
 use crate::table::{CutShort, TableFault, Totals, first_bad, high_of_good, sum_up};
 use crate::tokens::{TextFault, evaluate};
@@ -151,6 +151,12 @@ fn pages(rt: HostRuntime) -> Result<(), Fail> {
     assert_eq!(rt; rows.draw(), Ok(Some(3)));
     assert_eq!(rt; rows.pages().asked, 3);
     assert_eq!(rt; rows.draw(), Ok(None));
+    let pages = ThreePages {
+        alloc: rt.alloc(),
+        asked: 0,
+        is_open: true,
+    };
+    assert_eq!(rt; sum_of_first(rt.alloc(), pages, 9), Ok(6));
     Ok(())
 }
 
@@ -200,6 +206,7 @@ fn texts(rt: HostRuntime) {
     assert_eq!(rt; evaluate(rt.alloc(), "2+*3"), Err(TextFault::Unexpected));
     assert_eq!(rt; evaluate(rt.alloc(), "(2"), Err(TextFault::Unexpected));
     assert_eq!(rt; evaluate(rt.alloc(), "2)+x"), Err(TextFault::Unexpected));
+    assert_eq!(rt; evaluate(rt.alloc(), "20+x"), Err(TextFault::Unknown));
     assert_eq!(rt;
         evaluate(rt.alloc(), "18446744073709551616"),
         Err(TextFault::Unknown)

@@ -1,8 +1,16 @@
 //! Sums and products with parentheses.
-ghost use Rattle.std.specs.Prelude.{◌≡◌, ◌≤◌, ◌<◌, MatchResult, MatchOption, length};
-ghost use Rattle.std.proofs.Common.{rules};
-ghost use Rattle.fallible_iterator.specs.Contract.{counted_contract};
+ghost use Rattle.std.specs.Prelude.{◌≡◌, ◌≢◌, ◌<◌, false, List, Result, Ok, Err, MatchResult, length, reverse, slice_index};
+ghost use Rattle.std.specs.Char.{is_ascii_digit};
+ghost use Rattle.std.specs.Str.{IsAscii};
+ghost use Rattle.fallible_iterator.specs.Laws.Showing.{lawful_listing};
+ghost use Rattle.fallible_iterator.specs.Lists.{Lists, items, result_answer};
+ghost use Rattle.fallible_iterator.specs.Showing.{listing};
+ghost use Rattle.fallible_uses.specs.Expressions.{number_token, sign_token, tokens_of, ReadsDigits, level_value, with_factor, after_token, value_at_end, value_of_tokens};
+ghost use Rattle.fallible_uses.specs.Grammar.{Expression, as_sum, written, expression_value};
+ghost use Rattle.fallible_uses.specs.declared.tokens.Token.{Token};
+ghost use Rattle.fallible_uses.specs.declared.tokens.TextFault.{TextFault};
 
+use crate::numbers::number_of;
 use fallible_iterator::FallibleIterator;
 use std::alloc::Global;
 
@@ -32,21 +40,61 @@ pub enum TextFault {
     Memory,
 }
 
-/// The tokens of a text. A byte that begins none is a failure, and the next draw goes on after it.
-#[derive(Drop)]
-pub struct Tokens<'a> {
-    /// What is left of the text.
-    pub text: &'a [u8],
-}
-
-// The number that digits are.
-fn number(digits: &[u8]) -> Result<Option<Token>, TextFault> {
+// The token that digits are, as an answer.
+fn number_token(digits: &[u8]) -> Result<Option<Token>, TextFault>
+    requires { IsAscii digits.now }
+    ensures { result ≡ result_answer (number_token digits.now) }
+{
     let Ok(text) = str::from_utf8(digits) else {
         return Err(TextFault::Unknown);
     };
-    match text.parse::<u64>() {
-        Ok(number) => Ok(Some(Token::Number(number))),
-        Err(_) => Err(TextFault::Unknown),
+    match number_of(text) {
+        Some(number) => Ok(Some(Token::Number(number))),
+        None => Err(TextFault::Unknown),
+    }
+}
+
+// The token that another byte is, as an answer.
+fn sign_token(byte: u8) -> Result<Option<Token>, TextFault>
+    ensures { result ≡ result_answer (sign_token byte) }
+{
+    match byte {
+        b'+' => Ok(Some(Token::Plus)),
+        b'*' => Ok(Some(Token::Times)),
+        b'(' => Ok(Some(Token::Open)),
+        b')' => Ok(Some(Token::Close)),
+        _ => Err(TextFault::Unknown),
+    }
+}
+
+// How many digits stand in front.
+fn digits_in_front(text: &[u8]) -> usize
+    ensures reads { ReadsDigits text.now result }
+    ensures stops { result < length text.now
+        → is_ascii_digit (slice_index text.now result) ≡ false }
+{
+    let mut end = 0;
+    while end < text.len() {
+        if !text[end].is_ascii_digit() {
+            return end;
+        }
+        end += 1;
+    }
+    end
+}
+
+/// The tokens of a text. A byte that begins none is a failure, and so is a number that doesn't fit. The next draw goes on after either.
+#[derive(Drop)]
+pub struct Tokens<'a> {
+    text: &'a [u8],
+}
+
+impl<'a> Tokens<'a> {
+    /// The tokens of this text. Making them reads nothing.
+    pub fn new(text: &'a [u8]) -> Tokens<'a>
+        ensures { Lists (listing (λ s. tokens_of s.text.now)).steps result (tokens_of text.now) }
+    {
+        Tokens { text }
     }
 }
 
@@ -55,56 +103,45 @@ impl FallibleIterator for Tokens<'_> {
 
     type Error = TextFault;
 
-    // A token and a failure take bytes of the text, and an end takes none.
-    ghost contract = { counted_contract (λ s r t. MatchResult r
-        (λ o. MatchOption o (length t.text.now ≤ length s.text.now)
-        (λ _. length t.text.now < length s.text.now))
-        (λ _. length t.text.now ≤ length s.text.now))
-        (λ s. length s.text.now) };
+    ghost contract = { listing (λ s. tokens_of s.text.now) };
 
     fn next(&mut self) -> Result<Option<Token>, TextFault> {
         let Some((first, rest)) = self.text.split_first() else {
             return Ok(None);
         };
-        if first.is_ascii_digit() {
-            let end = match rest.iter().position(|byte| !byte.is_ascii_digit()) {
-                Some(end) => end,
-                None => rest.len(),
-            };
-            let (digits, after) = self.text.split_at(end + 1);
-            self.text = after;
-            return number(digits);
+        if !first.is_ascii_digit() {
+            self.text = rest;
+            return sign_token(*first);
         }
-        self.text = rest;
-        match *first {
-            b'+' => Ok(Some(Token::Plus)),
-            b'*' => Ok(Some(Token::Times)),
-            b'(' => Ok(Some(Token::Open)),
-            b')' => Ok(Some(Token::Close)),
-            _ => Err(TextFault::Unknown),
-        }
+        let (digits, after) = self.text.split_at(digits_in_front(self.text));
+        self.text = after;
+        number_token(digits)
     }
 
     fn size_hint(&self) -> (usize, Option<usize>) {
         (0, None)
     }
 
-    ghost lawful = { Prim.search rules };
+    ghost lawful = { lawful_listing (λ s. tokens_of s.text.now) };
 }
 
 // The sum of the terms so far, and the product of the factors so far of the term at hand.
 #[derive(Clone, Copy)]
-struct Level {
+pub(crate) struct Level {
     sum: u64,
     product: u64,
 }
 
 impl Level {
-    fn value(self) -> u64 {
+    fn value(self) -> u64
+        ensures { result ≡ level_value self }
+    {
         self.sum.wrapping_add(self.product)
     }
 
-    fn times(self, factor: u64) -> Level {
+    fn times(self, factor: u64) -> Level
+        ensures { result ≡ with_factor self factor }
+    {
         Level {
             sum: self.sum,
             product: self.product.wrapping_mul(factor),
@@ -123,7 +160,13 @@ struct Calculation {
 }
 
 impl Calculation {
-    fn after(mut self, token: Token) -> Result<Calculation, TextFault> {
+    fn after(mut self, token: Token) -> Result<Calculation, TextFault>
+        ensures { MatchResult result
+            (λ c. after_token (reverse self.outside.items, self.level, self.is_begun) token
+            ≡ Ok (reverse c.outside.items, c.level, c.is_begun))
+            (λ e. e ≢ TextFault.Memory
+            → after_token (reverse self.outside.items, self.level, self.is_begun) token ≡ Err e) }
+    {
         match (token, self.is_begun) {
             (Token::Number(number), true) => {
                 self.level = self.level.times(number);
@@ -153,21 +196,56 @@ impl Calculation {
         }
         Ok(self)
     }
+
+    fn end(self) -> Result<u64, TextFault>
+        ensures { result ≡ value_at_end (reverse self.outside.items, self.level, self.is_begun) }
+    {
+        if self.is_begun || !self.outside.is_empty() {
+            return Err(TextFault::Unexpected);
+        }
+        Ok(self.level.value())
+    }
 }
 
-/// The value of a text of numbers, `+`, `*` and parentheses, modulo 2 ^ 64. It draws up to the first fault. It fails with `Unknown` at what is no token, with `Unexpected` at a token that may not stand there, and with `Memory` where there is none for open parentheses. No clause says the value, since that fold's closure may be refused memory. `evaluate(alloc, "2+3*(4+10)*2")` is `Ok(86)`.
-pub fn evaluate(alloc: Global, text: &str) -> Result<u64, TextFault> {
-    let begun = Calculation {
+/// The value of tokens of numbers, `+`, `*` and parentheses, modulo 2 ^ 64. It draws up to the end or the first failure, which is the answer then. It fails with `Unexpected` at a token that may not stand there, and with `Memory` where there is none for open parentheses.
+///
+/// Asks that the source may be drawn from, and that it is finite.
+pub fn value_of<I: FallibleIterator<Item = Token, Error = TextFault>>(
+    alloc: Global,
+    mut tokens: I,
+) -> Result<u64, TextFault>
+where
+    requires can_next { I.contract.can_next tokens }
+    requires finite { I.contract.is_finite tokens }
+    ensures { (l : List (Result Token TextFault)) → Lists I.contract.steps tokens l
+        → result ≢ Err TextFault.Memory → result ≡ value_of_tokens l }
+{
+    let mut left = tokens.number();
+    let mut calculation = Calculation {
         outside: Vec::new(alloc),
         level: EMPTY,
         is_begun: true,
     };
-    let text = text.as_bytes();
-    let end = Tokens { text }.fold(begun, |calculation: Calculation, token: Token| {
-        calculation.after(token)
-    })?;
-    if end.is_begun || !end.outside.is_empty() {
-        return Err(TextFault::Unexpected);
+    while let Some(token) = tokens.draw()? {
+        left = left.one_less();
+        calculation = calculation.after(token)?;
     }
-    Ok(end.level.value())
+    calculation.end()
+}
+
+/// What is written of a sum or a product, with the parentheses that it needs and any others, has its value.
+pub fn law_written()
+    ensures { (e : Expression)
+        → value_of_tokens (items (written as_sum e)) ≡ Ok (expression_value e) }
+{}
+
+/// The value of a text of numbers, `+`, `*` and parentheses, modulo 2 ^ 64. It draws up to the first fault. It fails with `Unknown` at what is no token, with `Unexpected` at a token that may not stand there, and with `Memory` where there is none for open parentheses. `evaluate(alloc, "2+3*(4+10)*2")` is `Ok(86)`.
+pub fn evaluate(alloc: Global, text: &str) -> Result<u64, TextFault>
+    ensures value { result ≢ Err TextFault.Memory
+        → result ≡ value_of_tokens (tokens_of text.now) }
+    ensures written { (e : Expression) → tokens_of text.now ≡ items (written as_sum e)
+        → result ≢ Err TextFault.Memory → result ≡ Ok (expression_value e) }
+{
+    law_written();
+    value_of(alloc, Tokens::new(text.as_bytes()))
 }
