@@ -1,5 +1,5 @@
 -- What draws tell of a list, and what they leave of it.
-use Rattle.std.specs.Prelude.{◌≡◌, ℕ, zero, suc, ◌+◌, ◌-◌, ◌≤◌, List, [], ◌∷◌, ◌++◌, map, length, reverse, take, drop, Result, Ok, Err, ◌⊎◌}
+use Rattle.std.specs.Prelude.{◌≡◌, ℕ, zero, suc, ◌-◌, ◌≤◌, List, [], ◌∷◌, ◌++◌, map, length, reverse, take, drop, Result, Ok, Err, ◌⊎◌}
 use Rattle.std.proofs.Common.{refl, sym, ◌∙◌, ap, subst, arith, inl, inr}
 use Rattle.std.proofs.lemmas.List.{reverse-reverse, reverse-append, take-append-le, length-append, length-reverse}
 use Rattle.std.proofs.Math.Seq.{drop-nil, take-length}

@@ -1,5 +1,5 @@
 -- What a `take_while` of a borrow leaves the lender.
-use Rattle.std.specs.Prelude.{◌≡◌, ℕ, ◌+◌, Bool, true, false, not, List, [], ◌∷◌, ◌++◌, map, Option, Result, Some, None, Ok, Err}
+use Rattle.std.specs.Prelude.{◌≡◌, ℕ, ◌+◌, Bool, true, false, not, List, [], ◌∷◌, ◌++◌, map, Option, Result, Some, Ok, Err}
 use Rattle.std.specs.Borrow.{MutBor, Bor}
 use Rattle.std.specs.Fn.{Mut}
 use Rattle.std.proofs.Common.{refl, sym, ap, subst, ◌∙◌}
@@ -10,7 +10,7 @@ use Rattle.fallible_contract.specs.Passing.{Place, asked, failure_at, end_at}
 use Rattle.fallible_contract.specs.Closing.{closing_step}
 use Rattle.fallible_contract.specs.Folds.{Folded}
 use Rattle.fallible_contract.specs.Searching.{all_pick}
-use Rattle.fallible_contract.specs.Lists.{AlwaysGives, Lists, Acts, picked_or, decided, searched, all_of, behind_answer, behind_stop, behind_false, stopped_or}
+use Rattle.fallible_contract.specs.Lists.{AlwaysGives, Lists, Acts, decided, searched, all_of, behind_answer, behind_stop, behind_false}
 use Rattle.fallible_contract.proofs.Lemmas.Lists.Passing.{acts_in_slot}
 use Rattle.fallible_core.specs.Borrowed.{borrowed}
 use Rattle.fallible_core.specs.Cutting.TakeWhile.{taken_answer, is_refused, place_drawn, take_while_source, take_while_predicate, take_while_refused, take_while_parts, take_while_contract}

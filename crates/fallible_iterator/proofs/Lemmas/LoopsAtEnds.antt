@@ -1,8 +1,8 @@
 -- Loops by hand over draws from both ends: what their invariants say, and what each draw makes of it.
-use Rattle.std.specs.Prelude.{◌≡◌, ℕ, ◌+◌, ◌≤◌, List, [], ◌∷◌, ◌++◌, reverse, Result, Some, None, Ok}
-use Rattle.std.proofs.Common.{sym, ap, ◌∙◌, subst, arith}
+use Rattle.std.specs.Prelude.{◌≡◌, ℕ, ◌+◌, List, [], ◌∷◌, ◌++◌, reverse, Result, Some, None, Ok}
+use Rattle.std.proofs.Common.{sym, ap, ◌∙◌, arith}
 use Rattle.std.proofs.lemmas.List.{reverse-reverse, reverse-append}
-use Rattle.fallible_contract.specs.Traces.{Answered, end}
+use Rattle.fallible_contract.specs.Traces.{Answered}
 use Rattle.fallible_contract.specs.Contract.{Contract, Stays}
 use Rattle.fallible_contract.specs.Ends.{Ends, LawfulEnds, from_front, from_back}
 use Rattle.fallible_contract.specs.Lists.{result_answer}

@@ -1,9 +1,9 @@
 -- A type with two ends whose value shows what it lists is lawful, and lists that from both ends.
-use Rattle.std.specs.Prelude.{◌≡◌, ℕ, ◌≤◌, zero, suc, length, reverse, Result, Some, None, Ok, Err, List, [], ◌∷◌}
+use Rattle.std.specs.Prelude.{◌≡◌, ℕ, zero, suc, length, reverse, Result, Some, None, Ok, Err, List, [], ◌∷◌}
 use Rattle.std.proofs.Common.{refl, sym, ap, subst, ◌∙◌, arith}
 use Rattle.std.proofs.lemmas.List.{length-reverse, reverse-reverse}
 use Rattle.fallible_contract.specs.Traces.{Answered}
-use Rattle.fallible_contract.specs.Contract.{OnAnswer, NoMore, Fewer, Lawful}
+use Rattle.fallible_contract.specs.Contract.{OnAnswer, NoMore, Fewer}
 use Rattle.fallible_contract.specs.Ends.{from_back, LawfulEnds}
 use Rattle.fallible_contract.specs.BothEnds.{TakesFirst, ListsBothEndsFor, ListsBothEnds}
 use Rattle.fallible_contract.specs.Showing.{TakesShown, listing}
