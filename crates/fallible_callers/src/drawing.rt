@@ -128,6 +128,40 @@ pub fn two_and_the_next(readings: Vec<Result<u32, u8>>) -> Result<(u32, Option<u
     Ok((sum, above.draw()?))
 }
 
+/// How many of the first ten items are above 100, modulo 2 ^ 64, which are taken of a borrow.
+pub fn above_100_of_first_ten<I: FallibleIterator<Item = u32>>(
+    it: &mut I,
+) -> Result<u64, I::Error>
+where
+    requires { I.contract.can_next it.old }
+    ensures value { (l : List (Result ℕ I.Error)) → Lists I.contract.steps it.old l
+        → result ≡ folded (λ e. e) (λ n x. Ok ((n + 1) % 2 ^ 64)) 0
+        (filtered (λ x. Ok (nat_lt 100 x)) (taken 10 l)) }
+    ensures rest { (l : List (Result ℕ I.Error)) (n tenth : ℕ)
+        → Lists I.contract.steps it.old l
+        → result ≡ Ok n → nth_of 9 l ≡ Ok (Some tenth)
+        → Lists I.contract.steps it.new (behind_nth 9 l) }
+    ensures can_next { I.contract.can_next it.new }
+{
+    (&mut *it)
+        .take(10)
+        .filter(|x| Ok(*x > 100))
+        .try_fold(0, |n: u64, _| Ok(n.wrapping_add(1)))
+}
+
+/// How many of the first ten readings are above 100, modulo 2 ^ 64, and the eleventh reading.
+pub fn above_100_and_the_next(readings: Vec<Result<u32, u8>>) -> Result<(u64, Option<u32>), u8>
+    ensures { let l : List (Result ℕ ℕ) = results readings.items in (n tenth : ℕ) (next : Option ℕ)
+        → folded (λ e. e) (λ n x. Ok ((n + 1) % 2 ^ 64)) 0
+        (filtered (λ x. Ok (nat_lt 100 x)) (taken 10 l)) ≡ Ok n
+        → nth_of 9 l ≡ Ok (Some tenth) → nth_of 0 (behind_nth 9 l) ≡ Ok next
+        → result ≡ Ok (n, next) }
+{
+    let mut it = convert(readings.into_iter());
+    let n = above_100_of_first_ten(&mut it)?;
+    Ok((n, it.draw()?))
+}
+
 /// The item after the first three, which are let go.
 pub fn after_three<I: FallibleIterator>(it: &mut I) -> Result<Option<I::Item>, I::Error>
 where

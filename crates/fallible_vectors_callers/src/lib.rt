@@ -4,6 +4,8 @@
 #[cfg(test)]
 mod comparing;
 #[cfg(test)]
+mod examples;
+#[cfg(test)]
 mod first;
 #[cfg(test)]
 mod values;

@@ -1,8 +1,8 @@
 // The values of the callers on small inputs.
 use fallible_callers::behind::{
-    above_100_from_behind, count_between, count_trimmed, doubled_from_behind, first_and_last,
-    last_after_three, last_behind_zero, last_but_one, last_drawn, last_first, second_between,
-    sum_from_behind, three_answers,
+    above_100_from_behind, both_from_behind, count_between, count_trimmed, doubled_from_behind,
+    first_and_last, last_after_three, last_behind_zero, last_but_one, last_drawn, last_first,
+    read_alike, second_between, sum_from_behind, three_answers,
 };
 use fallible_callers::bridging::{
     elements, elements_from_behind, elements_of_ten, failures, number_of, one_more, there_and_back,
@@ -18,15 +18,15 @@ use fallible_callers::consuming::{
     two_columns,
 };
 use fallible_callers::drawing::{
-    after_three, draw_all, second_if_above, sum_of_halves_up_to_zero, sum_up_to_zero, third_draw,
-    third_of, two_and_the_next,
+    after_a_pair, after_three, draw_all, first_two, pair_behind_first, second_if_above,
+    sum_of_halves_up_to_zero, sum_up_to_zero, third_draw, third_of, two_and_the_next,
 };
 use fallible_callers::generic::{mean, mean_of_nest, sum_of_nest};
 use fallible_callers::making::{
     count_behind_two_answers, count_with_held, given_above_100, hundreds, numbers_above_100,
     sum_of_one_again, sum_of_rounds,
 };
-use fallible_callers::own::countdowns;
+use fallible_callers::own::{countdowns, even_between};
 use fallible_callers::parsing::{
     how_many_each, place_of_failure, second_behind_zero, sum_and_next,
 };
@@ -128,6 +128,10 @@ fn means(rt: HostRuntime) -> Result<(), Fail> {
     Ok(())
 }
 
+fn above_the_first(readings: Vec<Result<u32, u8>>) -> Result<Option<u32>, u8> {
+    second_if_above(convert(readings.into_iter()))
+}
+
 #[test]
 fn places_of_items(rt: HostRuntime) -> Result<(), Fail> {
     assert_eq!(rt; fourth_above_100(readings(rt.alloc())?), Err(9));
@@ -136,8 +140,9 @@ fn places_of_items(rt: HostRuntime) -> Result<(), Fail> {
         third_of(convert(readings(rt.alloc())?.into_iter())),
         Ok(Some(600))
     );
-    assert_eq!(rt; second_if_above(good_readings(rt.alloc())?), Ok(Some(600)));
-    assert_eq!(rt; second_if_above(readings(rt.alloc())?), Ok(None));
+    assert_eq!(rt; above_the_first(good_readings(rt.alloc())?), Ok(Some(600)));
+    assert_eq!(rt; above_the_first(readings(rt.alloc())?), Ok(None));
+    assert_eq!(rt; first_two(good_readings(rt.alloc())?), Ok((Some(5), Some(600))));
     Ok(())
 }
 
@@ -356,6 +361,28 @@ fn ends(rt: HostRuntime) -> Result<(), Fail> {
     );
     let mut it = convert(good_readings(rt.alloc())?.into_iter());
     assert_eq!(rt; second_between(&mut it), Ok(Some(600)));
+    Ok(())
+}
+
+fn alike_of(numbers: Vec<Result<u32, u8>>) -> Result<bool, u8> {
+    read_alike(convert(numbers.into_iter()))
+}
+
+// What loops from both ends, two sides and numbers from behind come to.
+#[test]
+fn both_ends_and_sides(rt: HostRuntime) -> Result<(), Fail> {
+    let alloc = rt.alloc();
+    assert_eq!(rt; alike_of(Vec::from_array(alloc, [Ok(7), Ok(2), Ok(7)])?), Ok(true));
+    assert_eq!(rt; alike_of(Vec::from_array(alloc, [Ok(7), Ok(2), Ok(3), Ok(7)])?), Ok(false));
+    assert_eq!(rt; alike_of(Vec::from_array(alloc, [Ok(7), Err(9), Ok(7)])?), Err(9));
+    let both = both_from_behind(alloc, good_readings(alloc)?, good_readings(alloc)?);
+    expect_made(&rt, both, &[501, 100, 600, 5, 501, 100, 600, 5]);
+    let left = convert(good_readings(alloc)?.into_iter());
+    assert_eq!(rt; after_a_pair(left, once(8)), Ok(Some(600)));
+    let left = convert(good_readings(alloc)?.into_iter());
+    assert_eq!(rt; pair_behind_first(left, once(8)), Ok(Some((600, 8))));
+    assert_eq!(rt; even_between(3, 9), Ok(3));
+    assert_eq!(rt; even_between(9, 3), Ok(0));
     Ok(())
 }
 

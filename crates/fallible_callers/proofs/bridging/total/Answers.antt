@@ -5,13 +5,7 @@ use Rattle.std.specs.declared.convert.Infallible.{Infallible}
 use Rattle.fallible_callers.proofs.bridging.total.Goals as goal
 
 pub sum-requires-clause-fits : goal.sum-requires-clause-fits
-sum-requires-clause-fits c =
-    let same = items_unwrapped Infallible c.args.numbers.items in
-    let reads = c.unwrap.ensures.reads _ (c.into_fallible.ensures.lists c.args.numbers.items (search rules)) in
-    λ p seen from. grind arith
+sum-requires-clause-fits c = let same = items_unwrapped Infallible c.args.numbers.items in let reads = c.unwrap.ensures.reads _ (c.into_fallible.ensures.lists c.args.numbers.items (search rules)) in λ p seen from. grind arith
 
 pub returns : goal.returns
-returns c =
-    let same = items_unwrapped Infallible c.args.numbers.items in
-    let reads = c.unwrap.ensures.reads _ (c.into_fallible.ensures.lists c.args.numbers.items (search rules)) in
-    grind arith
+returns c = let same = items_unwrapped Infallible c.args.numbers.items in let reads = c.unwrap.ensures.reads _ (c.into_fallible.ensures.lists c.args.numbers.items (search rules)) in grind arith

@@ -1,0 +1,64 @@
+// Examples of the library's comments that no caller has, written out.
+use fallible_callers::reading::LineFault;
+use fallible_iterator::{DoubleEndedFallibleIterator, FallibleIterator, convert, convert_fused};
+use std::alloc::{AllocError, Global};
+use std::io::BufRead;
+use std::test::Fail;
+
+// Of `try_fold`.
+fn two_written_out(readings: Vec<Result<u32, u8>>) -> Result<(u32, Option<u32>), u8> {
+    let mut above = convert(readings.into_iter()).filter(|reading| Ok(*reading > 100));
+    let sum: Result<u32, u8> = (&mut above)
+        .take(2)
+        .try_fold(0, |sum: u32, reading: u32| Ok(sum.wrapping_add(reading)));
+    let sum = sum?;
+    Ok((sum, above.draw()?))
+}
+
+// Of `zip`.
+fn behind_a_pair<I, J>(mut left: I, mut right: J) -> Result<Option<J::Item>, I::Error>
+where
+    I: FallibleIterator,
+    J: FallibleIterator<Error = I::Error>,
+    I::Item: Drop,
+    J::Item: Drop,
+    requires left { I.contract.can_next left }
+    requires right { J.contract.can_next right }
+{
+    (&mut left).zip(&mut right).draw()?;
+    left.draw()?;
+    right.draw()
+}
+
+// Of `draw_back` and `draw_front`.
+fn last_but_one_written_out(readings: Vec<Result<u32, u8>>) -> Result<Option<u64>, u8> {
+    let mut it = convert(readings.into_iter())
+        .map(|reading| Ok(u64::from(reading) * 2))
+        .filter(|double| Ok(*double > 1000));
+    it.draw_back()?;
+    it.draw_front()?;
+    it.draw_back()
+}
+
+// Of `convert_fused`.
+fn lines_written_out<R: BufRead + Drop>(alloc: Global, reader: R) -> Result<u64, LineFault> {
+    convert_fused(reader.lines(alloc))
+        .map_err(|_| LineFault::Read)
+        .map(|line| line.parse::<u64>().map_err(|_| LineFault::Number))
+        .fold(0, |sum: u64, number: u64| Ok(sum.wrapping_add(number)))
+}
+
+fn some_readings(alloc: Global) -> Result<Vec<Result<u32, u8>>, AllocError> {
+    Ok(Vec::from_array(alloc, [Ok(600), Ok(3), Ok(700), Ok(800)])?)
+}
+
+#[test]
+fn answer(rt: HostRuntime) -> Result<(), Fail> {
+    assert_eq!(rt; two_written_out(some_readings(rt.alloc())?), Ok((1300, Some(800))));
+    assert_eq!(rt; last_but_one_written_out(some_readings(rt.alloc())?), Ok(Some(1400)));
+    let left = some_readings(rt.alloc())?.into_iter();
+    let right = some_readings(rt.alloc())?;
+    assert_eq!(rt; behind_a_pair(convert(left), convert(right.into_iter())), Ok(Some(3)));
+    assert_eq!(rt; lines_written_out(rt.alloc(), b"20\n22\n".as_slice()), Ok(42));
+    Ok(())
+}
