@@ -1,12 +1,12 @@
 -- What is written of a tree comes to the tree's value.
-use Rattle.std.proofs.Common.{◌≡◌, ℕ, ◌+◌, ◌*◌, ◌%◌, ◌^◌, ◌<◌, Bool, true, false, List, [], ◌∷◌, ◌++◌, Result, Ok, Err, refl, sym, ap, ◌∙◌, arith, append_assoc, append-nil}
+use Rattle.std.proofs.Common.{◌≡◌, ℕ, ◌+◌, ◌*◌, ◌%◌, ◌^◌, Bool, true, false, List, [], ◌∷◌, ◌++◌, Result, Ok, sym, ap, ◌∙◌, arith, append_assoc, append-nil}
 use Rattle.std.proofs.Math.Nat.{add-mod, add-mod-mod, mod-mod, mul_assoc}
 use Rattle.std.proofs.lemmas.Nat.{mul-mod_first, mul-mod_second}
 use Rattle.fallible_iterator.specs.Lists.{folded, items, on_value}
 use Rattle.fallible_uses.specs.Expressions.{no_terms, level_value, with_factor, with_plus, after_token, value_at_end, value_of_tokens}
-use Rattle.fallible_uses.specs.Grammar.{Expression, number, plus, times, parentheses, expression_value, enclosed, Place, as_sum, as_product, as_factor, written}
+use Rattle.fallible_uses.specs.Grammar.{Expression, number, plus, times, parentheses, expression_value, enclosed, as_sum, as_product, as_factor, written}
 use Rattle.fallible_uses.specs.declared.tokens.Token.{Token}
-use Rattle.fallible_uses.specs.declared.tokens.Token.TheVariants.{Number, Plus, Times, Open, Close}
+use Rattle.fallible_uses.specs.declared.tokens.Token.TheVariants.{Number, Plus, Times, Close}
 use Rattle.fallible_uses.specs.declared.tokens.TextFault.{TextFault}
 use Rattle.fallible_uses.specs.declared.tokens.Level.{Level}
 

@@ -1,6 +1,6 @@
 -- One merged item: what is answered and left, by what the looks and the draws say of both lists.
 use Rattle.std.specs.Prelude.{◌≡◌, ℕ, Bool, true, false, nat_lt, List, [], ◌∷◌, Some, None, Result, Ok, Err}
-use Rattle.std.proofs.Common.{refl, sym, subst}
+use Rattle.std.proofs.Common.{refl, subst}
 use Rattle.fallible_iterator.specs.Traces.{Answered}
 use Rattle.fallible_iterator.specs.Lists.{behind_first, nth_of, first_if, behind_if, looked_ahead}
 use Rattle.fallible_iterator.specs.Peeking.Peekable.{taken_by, left_by}

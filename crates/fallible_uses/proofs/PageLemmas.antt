@@ -1,10 +1,13 @@
 -- A cursor over pages that answer as a book does lists the rows of the book.
 use Rattle.std.specs.Prelude.{◌≡◌, ℕ, ◌+◌, ◌%◌, ◌^◌, List, [], ◌∷◌, ◌++◌, Result, Ok, Err}
-use Rattle.std.proofs.Common.{refl, sym, ap, subst, ◌∙◌}
-use Rattle.fallible_iterator.specs.Traces.{Answered, item, failure, end}
+use Rattle.std.proofs.Common.{refl, sym, subst}
+use Rattle.fallible_iterator.specs.Traces.{Answered}
 use Rattle.fallible_iterator.specs.Contract.{unbounded_contract, seen_as}
 use Rattle.fallible_iterator.specs.Lists.{AlwaysGives, Lists, items}
-use Rattle.fallible_uses.specs.Pages.{cursor_parts, at_start, DrawsRow, Opens, AnswersBook, rows_in}
+use Rattle.fallible_uses.specs.Pages.{cursor_parts, at_start, DrawsRow, Opens, AnswersBook, rows_in, pages_left, TakesPage, GivesPage, pages_of}
+use Rattle.std.specs.declared.vec.Vec.{Vec}
+use Rattle.std.specs.declared.alloc.Global.{Global}
+use Rattle.fallible_uses.specs.declared.pages.Book.{Book}
 use Rattle.fallible_uses.specs.declared.pages.Cursor.{Cursor}
 use Rattle.fallible_uses.specs.declared.pages.PageRefused.{PageRefused}
 
@@ -44,3 +47,10 @@ module _ {P : Type 0} (gives : P → ℕ → Result (List ℕ) PageRefused → P
 
   pub lists_book : (book : List (Result (List ℕ) PageRefused)) (s : Cursor P) (pages : P) → cursor_parts s ≡ at_start pages → AnswersBook gives pages 0 book → Lists (seen_as cursor_parts (unbounded_contract (DrawsRow gives))).steps s (rows_in book)
   lists_book book s pages e i = record { runs = seen_gives cursor_parts (DrawsRow gives) (rows_in book) s (subst (λ (p : P × (List ℕ × ℕ)). AlwaysGives (DrawsRow gives) p (rows_in book)) (sym e) (gives_book book pages 0 i)) }
+
+-- a book answers its pages
+pub answers_pages : (pages : List (Vec ℕ Global)) (s : Book) (place : ℕ) → pages_left s ≡ pages → AnswersBook GivesPage s place (pages_of pages)
+answers_pages [] s place e = λ page t given. (subst (λ (l : List (Vec ℕ Global)). TakesPage l page (pages_left t)) e given).0
+answers_pages (rows ∷ pages) s place e = λ page t given.
+    let h = subst (λ (l : List (Vec ℕ Global)). TakesPage l page (pages_left t)) e given in
+    (h.0, answers_pages pages t ((place + 1) % 2 ^ 32) h.1)

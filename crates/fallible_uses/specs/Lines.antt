@@ -1,5 +1,5 @@
 -- Numbers of lines, and their sum.
-use Rattle.std.specs.Prelude.{ℕ, ◌+◌, ◌%◌, ◌^◌, List, Result, Ok, Option, Some, string_bytes}
+use Rattle.std.specs.Prelude.{ℕ, ◌+◌, ◌%◌, ◌^◌, List, Result, Ok, Some, string_bytes}
 use Rattle.std.specs.Option.{ok_or}
 use Rattle.fallible_iterator.specs.Lists.{folded, scanned, on_value}
 use Rattle.fallible_uses.specs.Numbers.{number_of}

@@ -6,6 +6,8 @@ use Rattle.fallible_iterator.specs.Lists.{items}
 use Rattle.std.specs.declared.vec.IntoIter.{IntoIter}
 use Rattle.std.specs.declared.alloc.Global.{Global}
 use Rattle.fallible_uses.specs.declared.pages.Cursor.{Cursor}
+use Rattle.std.specs.declared.vec.Vec.{Vec}
+use Rattle.fallible_uses.specs.declared.pages.Book.{Book}
 use Rattle.fallible_uses.specs.declared.pages.PageRefused.{PageRefused}
 
 -- the rows of a page, where it was not refused
@@ -47,3 +49,22 @@ rows_in [] = []
 rows_in (Ok [] ∷ book) = []
 rows_in (Ok (x ∷ rows) ∷ book) = items (x ∷ rows) ++ rows_in book
 rows_in (Err e ∷ book) = Err e ∷ rows_in book
+
+-- ---- pages that are known
+
+-- the pages of a book that are left
+abbrev pub pages_left : Book → List (Vec ℕ Global)
+pages_left s = into_iter_items s.pages
+
+-- A book's first page that is left is given, whatever the place. Behind the last one a page is empty.
+abbrev pub TakesPage : List (Vec ℕ Global) → Result (List ℕ) PageRefused → List (Vec ℕ Global) → Type 0
+TakesPage [] page rest = (page ≡ Ok []) × (rest ≡ [])
+TakesPage (rows ∷ pages) page rest = (page ≡ Ok rows.items) × (rest ≡ pages)
+
+abbrev pub GivesPage : Book → ℕ → Result (List ℕ) PageRefused → Book → Type 0
+GivesPage s place page t = TakesPage (pages_left s) page (pages_left t)
+
+-- the answers of a book: each page
+abbrev pub pages_of : List (Vec ℕ Global) → List (Result (List ℕ) PageRefused)
+pages_of [] = []
+pages_of (rows ∷ pages) = Ok rows.items ∷ pages_of pages

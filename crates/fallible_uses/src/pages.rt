@@ -4,7 +4,7 @@ ghost use Rattle.fallible_iterator.specs.Contract.{unbounded_contract, seen_as};
 ghost use Rattle.fallible_iterator.specs.Laws.Contract.{lawful_seen};
 ghost use Rattle.fallible_iterator.specs.Laws.BoundsRuns.{lawful_unbounded};
 ghost use Rattle.fallible_iterator.specs.Lists.{Lists, folded, taken};
-ghost use Rattle.fallible_uses.specs.Pages.{rows_of, cursor_parts, at_start, DrawsRow, AnswersBook, rows_in};
+ghost use Rattle.fallible_uses.specs.Pages.{rows_of, cursor_parts, at_start, DrawsRow, AnswersBook, GivesPage, pages_of, rows_in};
 ghost use Rattle.fallible_uses.specs.declared.pages.PageRefused.{PageRefused};
 
 use fallible_iterator::FallibleIterator;
@@ -95,4 +95,42 @@ pub fn sum_of_first<P: Pages>(alloc: Global, pages: P, n: usize) -> Result<u64, 
         0,
         |sum: u64, row: u32| Ok(sum.wrapping_add(u64::from(row))),
     )
+}
+
+/// Pages that are known, in order.
+#[derive(Drop)]
+pub struct Book {
+    alloc: Global,
+    pages: IntoIter<Vec<u32>, Global>,
+}
+
+impl Book {
+    /// These pages.
+    pub fn new(alloc: Global, pages: Vec<Vec<u32>>) -> Book
+        ensures { AnswersBook GivesPage result 0 (pages_of pages.items) }
+    {
+        Book {
+            alloc,
+            pages: pages.into_iter(),
+        }
+    }
+}
+
+impl Pages for Book {
+    ghost gives = { GivesPage };
+
+    fn page(&mut self, _: u32) -> Result<IntoIter<u32, Global>, PageRefused> {
+        match self.pages.next() {
+            Some(rows) => Ok(rows.into_iter()),
+            None => Ok(Vec::new(self.alloc).into_iter()),
+        }
+    }
+}
+
+/// The sum of the first n rows of known pages up to the first empty one, modulo 2 ^ 64.
+pub fn sum_of_first_in(alloc: Global, pages: Vec<Vec<u32>>, n: usize) -> Result<u64, PageRefused>
+    ensures { result ≡ folded (λ e. e) (λ s x. Ok ((s + x) % 2 ^ 64)) 0
+        (taken n (rows_in (pages_of pages.items))) }
+{
+    sum_of_first(alloc, Book::new(alloc, pages), n)
 }
