@@ -129,9 +129,7 @@ pub fn two_and_the_next(readings: Vec<Result<u32, u8>>) -> Result<(u32, Option<u
 }
 
 /// How many of the first ten items are above 100, modulo 2 ^ 64, which are taken of a borrow.
-pub fn above_100_of_first_ten<I: FallibleIterator<Item = u32>>(
-    it: &mut I,
-) -> Result<u64, I::Error>
+pub fn above_100_of_first_ten<I: FallibleIterator<Item = u32>>(it: &mut I) -> Result<u64, I::Error>
 where
     requires { I.contract.can_next it.old }
     ensures value { (l : List (Result ℕ I.Error)) → Lists I.contract.steps it.old l
