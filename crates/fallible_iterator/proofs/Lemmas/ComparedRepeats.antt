@@ -1,9 +1,9 @@
 -- What a comparison makes of a source that gives one item again and again, and of one whose answers are listed.
-use Rattle.std.specs.Prelude.{◌≡◌, ℕ, ◌+◌, zero, suc, length, Option, Some, None, Result, Ok, Err, List, [], ◌∷◌, ◌++◌, map}
+use Rattle.std.specs.Prelude.{◌≡◌, ℕ, ◌+◌, suc, length, Option, Some, None, Result, Ok, Err, List, [], ◌∷◌, ◌++◌, map}
 use Rattle.std.proofs.Common.{refl, sym, ap, subst, arith, ◌∙◌}
 use Rattle.fallible_contract.specs.Traces.{Answered, Run, item}
 use Rattle.fallible_contract.specs.Picking.{OfEach}
-use Rattle.fallible_contract.specs.Lists.{AlwaysGives, Lists, Repeats, compared, repeated, result_answer, unless_equal}
+use Rattle.fallible_contract.specs.Lists.{AlwaysGives, Lists, Repeats, compared, repeated, unless_equal}
 use Rattle.fallible_contract.specs.Comparing.{where_drawn, LastRound, Compared, ComparedWith}
 use Rattle.fallible_contract.proofs.Lemmas.Lists.Drawn.{LeftAt, left_at}
 use Rattle.std.specs.declared.cmp.Ordering.{Ordering}

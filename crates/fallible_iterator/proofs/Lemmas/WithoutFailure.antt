@@ -1,19 +1,19 @@
 -- What is answered of a source that lists where no draw fails.
-use Rattle.std.specs.Prelude.{◌≡◌, ℕ, zero, suc, length, List, [], ◌∷◌, ◌++◌, map, Option, Some, None, Result, Ok, Err, IfOk, Bool, ⊤}
+use Rattle.std.specs.Prelude.{◌≡◌, ℕ, zero, suc, length, List, [], ◌∷◌, ◌++◌, map, Option, Some, None, Result, Ok, Err, Bool, ⊤}
 use Rattle.std.specs.List.{filter_map, cons_option}
 use Rattle.std.specs.Result.{IsOk}
 use Rattle.std.specs.Fn.{Mut}
 use Rattle.std.specs.Borrow.{Bor}
 use Rattle.std.proofs.Common.{refl, sym, ap, subst}
 use Rattle.fallible_contract.specs.Traces.{Answered, Run, item, end}
-use Rattle.fallible_contract.specs.Contract.{Contract, seen_as, unbounded_contract}
+use Rattle.fallible_contract.specs.Contract.{Contract, unbounded_contract}
 use Rattle.fallible_contract.specs.Closures.{call_at, call_in}
 use Rattle.fallible_contract.specs.Folds.{Counted, CountExit}
 use Rattle.fallible_contract.specs.Lists.{AlwaysGives, Lists, Acts, counted}
 use Rattle.fallible_contract.specs.Passing.{Place, asked, failure_at, end_at, PassTrace, source_answer, answer_at, outcome_answer, tested_outcome}
 use Rattle.fallible_contract.proofs.Lemmas.Lists.Drawn.{counted_is}
-use Rattle.fallible_core.specs.Cutting.Take.{take_step, take_parts, take_contract, taken}
-use Rattle.fallible_core.specs.Filtering.Filter.{filter_parts, filter_contract, filtered}
+use Rattle.fallible_core.specs.Cutting.Take.{take_step, take_parts, taken}
+use Rattle.fallible_core.specs.Filtering.Filter.{filter_parts, filtered}
 use Rattle.fallible_core.proofs.Lemmas.Cutting.Take.{lists_taken}
 use Rattle.fallible_core.proofs.Lemmas.Filtering.Filter.{lists_filtered}
 use Rattle.fallible_contract.specs.declared.passing.Outcome.{Outcome}
