@@ -1,10 +1,9 @@
 -- What the bytes of a reader list where no read fails.
-use Rattle.std.specs.Prelude.{◌≡◌, ℕ, List, [], ◌∷◌, Option, Some, None, Result, Ok, Err}
+use Rattle.std.specs.Prelude.{◌≡◌, ℕ, List, [], ◌∷◌, Option, Some, None, Ok, Err}
 use Rattle.std.specs.Io.KnownBytes.{Consumes, IsAtEnd}
-use Rattle.std.specs.Result.{IsOk}
-use Rattle.std.proofs.Common.{refl, sym, subst}
+use Rattle.std.proofs.Common.{refl, subst}
 use Rattle.fallible_iterator.specs.Traces.{Answered, item, end}
-use Rattle.fallible_iterator.specs.Lists.{AlwaysGives, Lists, items}
+use Rattle.fallible_iterator.specs.Lists.{AlwaysGives, items}
 use Rattle.fallible_iterator.proofs.Lemmas.WithoutFailure.{ok_steps, ListsWhereOk}
 use Rattle.fallible_callers.specs.Reading.{DrawsByte}
 

@@ -1,5 +1,5 @@
 -- What one number more, and the one behind it, make of how often a number is above the one before it.
-use Rattle.std.specs.Prelude.{◌≡◌, ℕ, ◌+◌, ◌%◌, ◌^◌, List, [], ◌∷◌, Result, Ok, Err, true, false, nat_lt, length, filter, drop, cond}
+use Rattle.std.specs.Prelude.{◌≡◌, ℕ, ◌+◌, ◌%◌, ◌^◌, List, ◌∷◌, Result, Ok, Err, true, false, nat_lt, length, filter, cond}
 use Rattle.std.specs.List.{zip}
 use Rattle.std.proofs.Common.{refl, ap, arith, ◌∙◌}
 use Rattle.std.proofs.Math.Nat.{mod-add-mod}
