@@ -54,11 +54,23 @@ fn some_readings(alloc: Global) -> Result<Vec<Result<u32, u8>>, AllocError> {
 
 #[test]
 fn answer(rt: HostRuntime) -> Result<(), Fail> {
-    assert_eq!(rt; two_written_out(some_readings(rt.alloc())?), Ok((1300, Some(800))));
-    assert_eq!(rt; last_but_one_written_out(some_readings(rt.alloc())?), Ok(Some(1400)));
+    assert_eq!(rt;
+        two_written_out(some_readings(rt.alloc())?),
+        Ok((1300, Some(800)))
+    );
+    assert_eq!(rt;
+        last_but_one_written_out(some_readings(rt.alloc())?),
+        Ok(Some(1400))
+    );
     let left = some_readings(rt.alloc())?.into_iter();
     let right = some_readings(rt.alloc())?;
-    assert_eq!(rt; behind_a_pair(convert(left), convert(right.into_iter())), Ok(Some(3)));
-    assert_eq!(rt; lines_written_out(rt.alloc(), b"20\n22\n".as_slice()), Ok(42));
+    assert_eq!(rt;
+        behind_a_pair(convert(left), convert(right.into_iter())),
+        Ok(Some(3))
+    );
+    assert_eq!(rt;
+        lines_written_out(rt.alloc(), b"20\n22\n".as_slice()),
+        Ok(42)
+    );
     Ok(())
 }
