@@ -3,5 +3,4 @@ pub mod Alike
 pub mod Between
 pub mod Ended
 pub mod KnownBytes
-pub mod Lines
 pub mod Rises

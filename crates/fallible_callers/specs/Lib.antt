@@ -2,7 +2,6 @@
 pub mod Alike
 pub mod Between
 pub mod Down
-pub mod Lines
 pub mod Means
 pub mod Rises
 pub mod Runs

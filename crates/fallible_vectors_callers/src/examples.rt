@@ -1,5 +1,4 @@
 // Examples of the library's comments that no caller has, written out.
-use fallible_callers::reading::LineFault;
 use fallible_iterator::{DoubleEndedFallibleIterator, FallibleIterator, convert, convert_fused};
 use std::alloc::{AllocError, Global};
 use std::io::BufRead;
@@ -40,6 +39,13 @@ fn last_but_one_written_out(readings: Vec<Result<u32, u8>>) -> Result<Option<u64
     it.draw_back()
 }
 
+// Why lines have no sum: one couldn't be read, or is no number.
+#[derive(Debug, Drop, PartialEq)]
+enum LineFault {
+    Read,
+    Number,
+}
+
 // Of `convert_fused`.
 fn lines_written_out<R: BufRead + Drop>(alloc: Global, reader: R) -> Result<u64, LineFault> {
     convert_fused(reader.lines(alloc))
@@ -71,6 +77,10 @@ fn answer(rt: HostRuntime) -> Result<(), Fail> {
     assert_eq!(rt;
         lines_written_out(rt.alloc(), b"20\n22\n".as_slice()),
         Ok(42)
+    );
+    assert_eq!(rt;
+        lines_written_out(rt.alloc(), b"20\nfern\n".as_slice()),
+        Err(LineFault::Number)
     );
     Ok(())
 }

@@ -16,7 +16,7 @@ unfolding collected
 returns-in_err-next g c = look_fails c.in_err-next.field-0.0 (goes_on c.in-Some.item {c = λ l. risen_from c.loop-left.rises (Ok c.in-Some.item ∷ l)} c.loop-left.invariant.1 c.draw.ensures.drawn (search rules) (λ l. refl)) c.peek_copied.ensures.lists (search rules) (λ l. search rules)
 
 pub loop-left-preserved-then-item-next : goal.loop-left-preserved-then-item-next
-loop-left-preserved-then-item-next g c = (search rules, sees_item c.in-Some-2.next (goes_on c.in-Some.item {c = λ l. risen_from c.loop-left.rises (Ok c.in-Some.item ∷ l)} c.loop-left.invariant.1 c.draw.ensures.drawn (search rules) (λ l. refl)) c.peek_copied.ensures.lists (search rules) (λ l. rises_on _ _ _ l (search rules)))
+loop-left-preserved-then-item-next g c = (counts_on (search rules) c.peek_copied.ensures.stays, sees_item c.in-Some-2.next (goes_on c.in-Some.item {c = λ l. risen_from c.loop-left.rises (Ok c.in-Some.item ∷ l)} c.loop-left.invariant.1 c.draw.ensures.drawn (search rules) (λ l. refl)) c.peek_copied.ensures.lists (search rules) (λ l. rises_on _ _ _ l (search rules)))
 
 pub loop-left-preserved-else-item-next : goal.loop-left-preserved-else-item-next
 loop-left-preserved-else-item-next g c = (counts_on (search rules) c.peek_copied.ensures.stays, sees_item c.in-Some-2.next (goes_on c.in-Some.item {c = λ l. risen_from c.loop-left.rises (Ok c.in-Some.item ∷ l)} c.loop-left.invariant.1 c.draw.ensures.drawn (search rules) (λ l. refl)) c.peek_copied.ensures.lists (search rules) (λ l. stays_on _ _ _ l (search rules)))
