@@ -1,6 +1,6 @@
 -- What a draw from each end makes of a list that reads the same from both.
 use Rattle.std.specs.Prelude.{◌≡◌, ◌≢◌, ℕ, ◌+◌, ◌/◌, ◌≤◌, zero, suc, eqb, cond, length, reverse, List, [], ◌∷◌, ◌++◌, Result, Ok, Err, Bool, true, false}
-use Rattle.std.proofs.Common.{refl, sym, ap, ◌∙◌, arith, inl, inr}
+use Rattle.std.proofs.Common.{refl, ap, ◌∙◌, arith, inl, inr}
 use Rattle.std.proofs.lemmas.List.{reverse-append, length-append, length-reverse}
 use Rattle.std.proofs.lemmas.Bool.Decides.{eqb_tells}
 use Rattle.fallible_callers.specs.Alike.{first_alike, alike}

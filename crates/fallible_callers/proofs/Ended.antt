@@ -1,5 +1,5 @@
 -- A fold that came to its end drew its items and then an end.
-use Rattle.std.specs.Prelude.{◌≡◌, List, [], ◌∷◌, ◌++◌, map, Result, Ok}
+use Rattle.std.specs.Prelude.{[], ◌∷◌, ◌++◌, map, Result, Ok}
 use Rattle.std.proofs.Common.{subst}
 use Rattle.fallible_iterator.specs.Traces.{Answered, Run, item, end}
 use Rattle.fallible_iterator.specs.Folds.{Folded}

@@ -1,5 +1,5 @@
 -- What is looked at behind the first.
-use Rattle.std.proofs.Common.{rules, ◌≡◌, ◌∷◌, Ok, Err}
+use Rattle.std.proofs.Common.{rules}
 use Rattle.fallible_iterator.specs.Lists.{behind_first, looked_ahead, looked_at, nth_of}
 use Rattle.fallible_callers.proofs.drawing.first_two.Goals as goal
 

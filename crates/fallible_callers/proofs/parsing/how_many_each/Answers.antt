@@ -1,6 +1,6 @@
 -- The two collections are the two lists that `parted` makes.
-use Rattle.std.proofs.Common.{rules, ◌≡◌, length, nat_lt, Ok, Result, List, ℕ, Bool}
-use Rattle.fallible_iterator.specs.Lists.{PartedAs, on_value, parted}
+use Rattle.std.proofs.Common.{rules, ◌≡◌, nat_lt, Ok, Result, List, ℕ, Bool}
+use Rattle.fallible_iterator.specs.Lists.{PartedAs, parted}
 use Rattle.std.specs.declared.vec.Vec.{Vec}
 use Rattle.std.specs.declared.alloc.Global.{Global}
 use Rattle.fallible_callers.proofs.parsing.how_many_each.Goals as goal

@@ -1,5 +1,5 @@
 -- The greatest number is the last of what is shown.
-use Rattle.std.proofs.Common.{rules, arith}
+use Rattle.std.proofs.Common.{arith}
 use Rattle.fallible_callers.proofs.Between.{ends_behind, takes_behind}
 use Rattle.fallible_callers.proofs.own.BetweenDoubleEndedFallibleIterator.next_back.Goals as goal
 

@@ -1,5 +1,5 @@
 -- The lowest number is the first of what is shown.
-use Rattle.std.proofs.Common.{rules, refl}
+use Rattle.std.proofs.Common.{refl}
 use Rattle.fallible_callers.proofs.Between.{ends_front, takes_front}
 use Rattle.fallible_callers.proofs.own.BetweenFallibleIterator.next.Goals as goal
 

@@ -1,5 +1,5 @@
 -- The number that is left is the first of what is shown.
-use Rattle.std.specs.Prelude.{◌≡◌, ℕ, ◌+◌, suc, Some, None, Ok}
+use Rattle.std.specs.Prelude.{◌≡◌, ℕ, suc, Some, None, Ok}
 use Rattle.std.proofs.Common.{refl, arith}
 use Rattle.fallible_iterator.specs.Showing.{TakesShown}
 use Rattle.fallible_callers.specs.Down.{down_from}
