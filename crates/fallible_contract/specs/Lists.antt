@@ -161,6 +161,15 @@ parted h [] = Ok ([], [])
 parted h (Ok x ∷ l) = on_value (h x) (λ v. to_side x v (parted h l))
 parted h (Err e ∷ l) = Err e
 
+-- There is a value in r, and the collection is made of it.
+abbrev pub MadeOf : {X E C : Type 0} → (X → C → Type 0) → Result X E → C → Type 0
+MadeOf made (Ok x) c = made x c
+MadeOf made (Err e) c = ⊥
+
+-- Each of the two collections is made of the list of its side.
+abbrev pub MadeOfSides : {A C : Type 0} → (List A → C → Type 0) → List A × List A → C × C → Type 0
+MadeOfSides made ps c = made ps.0 c.0 × made ps.1 c.1
+
 -- The collection is one of the list's items, the source's failure the list's first; want of memory says nothing of the list.
 abbrev pub CollectedBy : {A E C : Type 0} → (List A → C → Type 0) → List (Result A E) → Result C (Fault E) → Type 0
 CollectedBy {A = A} made l (Ok c) = (xs : List A) × (collected l ≡ Ok xs) × made xs c

@@ -1,12 +1,12 @@
 //! The trait of fallible iterators: one call that each type writes, and all that comes with it.
-ghost use Rattle.std.specs.Prelude.{◌≡◌, ℕ, true, false, ◌+◌, ◌-◌, ◌≤◌, ◌<◌, ◌^◌, List, Option, Result, Some, None, Ok, Bool, MatchResult, ◌↔◌, ◌⊎◌, Err};
+ghost use Rattle.std.specs.Prelude.{◌≡◌, ℕ, true, false, ◌+◌, ◌-◌, ◌≤◌, ◌<◌, ◌^◌, List, Option, Result, Some, None, Ok, Bool, MatchResult, IfOk, ◌↔◌, ◌⊎◌, Err};
 ghost use Rattle.std.specs.Borrow.{Bor};
 ghost use Rattle.std.specs.Iterator.Runs.{EachRunFrom, ItemsAre};
 ghost use Rattle.fallible_contract.specs.Clauses.{OverList, OverListWith, OverBoth};
 ghost use Rattle.fallible_contract.specs.Contract.{Contract, AtMost, Lawful, Stays, NeverFails, seen_as};
 ghost use Rattle.fallible_contract.specs.Closures.{IsCallable, call_on, takes_on, call_at, takes_at};
 ghost use Rattle.fallible_contract.specs.Collecting.{Collects, IsCollectTurn, Asks, IsPartitionTurn, Partitions, MadeOfParts, PairRefused, IsUnzipTurn};
-ghost use Rattle.fallible_contract.specs.Lists.{behind_first, behind_nth, behind_true, behind_false, behind_value, behind_fold, items, Lists, Acts, Repeats, repeated, counted, ActsWithState, CollectedAs, nth_of, folded, reduced, ActsWith, Converts, all_of, any_of, find_mapped, found, last_of, PartedAs, UnzippedAs, position_in, each_done, best_by, greatest, least, best_by_key, compared};
+ghost use Rattle.fallible_contract.specs.Lists.{behind_first, behind_nth, behind_true, behind_false, behind_value, behind_fold, items, Lists, Acts, Repeats, repeated, counted, ActsWithState, CollectedAs, nth_of, folded, reduced, ActsWith, Converts, all_of, any_of, find_mapped, found, last_of, collected, parted, MadeOf, MadeOfSides, PartedAs, UnzippedAs, position_in, each_done, best_by, greatest, least, best_by_key, compared};
 ghost use Rattle.fallible_contract.specs.Comparing.{OneIsFinite, by_cmp, by_eq, read_as, reads_eq, reads_ne, reads_lt, reads_le, reads_gt, reads_ge, ComparedWith, ReadWith};
 ghost use Rattle.fallible_contract.specs.Picking.{call_at_two, takes_at_two, PickCall, takes_in_pick, Picked, KeyCall, Best, BestByKey};
 ghost use Rattle.fallible_contract.specs.Searching.{CallableInSearch, Searched, IsSearchTurn, IsPositionTurn, IsFindTurn, all_pick, any_pick, find_map_pick, find_pick, position_pick, each_pick};
@@ -924,6 +924,8 @@ pub trait FallibleIterator: Drop + Sized {
         ensures collects { Collects contract.steps C.made C.empty_refuses C.push_refuses
             self result }
         ensures value { OverList contract.steps self (λ l. CollectedAs C.made l result) }
+        ensures contents { OverList contract.steps self
+            (λ l. IfOk result (MadeOf C.made (collected l))) }
     {
         let mut made = match C::empty(alloc) {
             Ok(made) => made,
@@ -968,6 +970,8 @@ pub trait FallibleIterator: Drop + Sized {
             B.push_refuses self f result }
         ensures value { OverListWith (Acts (call_at F.FnMut) f) contract.steps self
             (λ h l. PartedAs B.made h l result) }
+        ensures contents { OverListWith (Acts (call_at F.FnMut) f) contract.steps self
+            (λ h l. IfOk result (MadeOf (MadeOfSides B.made) (parted h l))) }
     {
         let first = match B::empty(alloc) {
             Ok(made) => made,
@@ -1014,6 +1018,8 @@ pub trait FallibleIterator: Drop + Sized {
             (PairRefused FromA.made FromB.made FromA.push_refuses FromB.push_refuses) self result }
         ensures value { OverList contract.steps self
             (λ l. UnzippedAs FromA.made FromB.made l result) }
+        ensures contents { OverList contract.steps self
+            (λ l. IfOk result (MadeOf (MadeOfParts FromA.made FromB.made) (collected l))) }
     {
         let first = match FromA::empty(alloc) {
             Ok(made) => made,

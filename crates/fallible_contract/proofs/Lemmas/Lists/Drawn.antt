@@ -5,7 +5,7 @@ use Rattle.std.proofs.Common.{refl, sym, ap, subst, ◌∙◌, arith}
 use Rattle.fallible_contract.specs.Traces.{Answered, Run, item}
 use Rattle.fallible_contract.specs.Folds.{Counted, CountExit, LastOf, LastExit, Nth, NthExit, went_on_with, FoldExit, Folded, ReduceCall}
 use Rattle.fallible_contract.specs.Collecting.{Collects, MadeOfParts}
-use Rattle.fallible_contract.specs.Lists.{AlwaysGives, Lists, one_more_than, counted, last_of, nth_of, before, collected, CollectedBy, CollectedAs, UnzippedAs, on_value, folded, ActsWith, Converts, reduce_of, reduced}
+use Rattle.fallible_contract.specs.Lists.{AlwaysGives, Lists, one_more_than, counted, last_of, nth_of, before, collected, CollectedBy, CollectedAs, MadeOf, UnzippedAs, on_value, folded, ActsWith, Converts, reduce_of, reduced}
 use Rattle.std.specs.declared.alloc.AllocError.{AllocError}
 use Rattle.fallible_contract.specs.declared.collecting.Fault.{Fault}
 use Rattle.fallible_contract.specs.declared.collecting.Fault.TheVariants.{Source, Memory}
@@ -101,6 +101,16 @@ not_unzipped_as made_first made_second l a = tt
 pub refused_as : {A E C : Type 0} (made : List A → C → Type 0) (l : List (Result A E)) (a : AllocError) → CollectedAs made l (Err (Memory a))
 unfolding CollectedAs
 refused_as made l a = tt
+
+-- a collection is made of what is collected
+pub contents_collected : {A E C : Type 0} (made : List A → C → Type 0) (l : List (Result A E)) (c : C) → CollectedAs made l (Ok c) → MadeOf made (collected l) c
+unfolding CollectedAs
+contents_collected made l c w = rw w.1 w.2
+
+-- two collections are made of the parts of what is collected
+pub contents_unzipped : {A B E C D : Type 0} (made_first : List A → C → Type 0) (made_second : List B → D → Type 0) (l : List (Result (A × B) E)) (c : C × D) → UnzippedAs made_first made_second l (Ok c) → MadeOf (MadeOfParts made_first made_second) (collected l) c
+unfolding UnzippedAs
+contents_unzipped made_first made_second l c w = rw w.1 w.2
 
 -- ---- last
 

@@ -4,7 +4,7 @@ use Rattle.std.specs.List.{FoldsTo}
 use Rattle.std.proofs.Common.{refl, sym, ap, subst, ◌∙◌, inl, inr}
 use Rattle.fallible_contract.specs.Traces.{Answered}
 use Rattle.fallible_contract.specs.Collecting.{answered_true, answered_false, Parts, ClosureFails, CollectsAll, FailsWith, RefusesItem, Partitions}
-use Rattle.fallible_contract.specs.Lists.{Lists, Acts, on_value, to_side, parted, PartedBy, PartedAs}
+use Rattle.fallible_contract.specs.Lists.{Lists, Acts, on_value, to_side, parted, MadeOf, MadeOfSides, PartedBy, PartedAs}
 use Rattle.fallible_contract.proofs.Lemmas.Lists.Drawn.{drawn}
 use Rattle.std.specs.declared.alloc.AllocError.{AllocError}
 use Rattle.fallible_contract.specs.declared.collecting.Fault.{Fault}
@@ -80,3 +80,8 @@ module _ {A E F : Type 0} (call : F → A → Result Bool E → F → Type 0) (h
 pub unparted_as : {A E B : Type 0} (made : List A → B → Type 0) (h : A → Result Bool E) (l : List (Result A E)) (a : AllocError) → PartedAs made h l (Err (Memory a))
 unfolding PartedAs
 unparted_as made h l a = tt
+
+-- two collections are made of the two lists of `parted`
+pub contents_parted : {A E C : Type 0} (made : List A → C → Type 0) (h : A → Result Bool E) (l : List (Result A E)) (c : C × C) → PartedAs made h l (Ok c) → MadeOf (MadeOfSides made) (parted h l) c
+unfolding PartedAs
+contents_parted made h l c w = rw w.1 (w.2, w.3)
