@@ -1,6 +1,5 @@
 -- Lemmas that the answers of this crate cite.
 pub mod Alike
 pub mod Between
-pub mod Ended
 pub mod KnownBytes
 pub mod Rises

@@ -1,7 +1,7 @@
 //! What searches find, and which item is the best.
-ghost use Rattle.std.specs.Prelude.{◌≡◌, ◌+◌, ◌*◌, ◌%◌, ◌^◌, Result, Ok, Option, nat_lt};
+ghost use Rattle.std.specs.Prelude.{◌≡◌, ◌+◌, ◌*◌, ◌%◌, ◌^◌, Result, Ok, IfOk, Option, length, map, nat_lt};
 ghost use Rattle.std.specs.Ordering.{nat_cmp};
-ghost use Rattle.fallible_iterator.specs.Lists.{results, all_of, any_of, found, last_of, position_in, reduced, greatest, least, PartedAs, UnzippedAs, mapped, filtered, numbered, skipped, taken};
+ghost use Rattle.fallible_iterator.specs.Lists.{results, all_of, any_of, collected, found, last_of, on_value, position_in, reduced, greatest, least, PartedAs, UnzippedAs, mapped, filtered, numbered, skipped, taken};
 
 use fallible_iterator::{FallibleIterator, Fault, convert};
 use std::alloc::Global;
@@ -117,4 +117,36 @@ pub fn two_columns(
         (numbered 0 (results readings.items)) result }
 {
     convert(readings.into_iter()).enumerate().unzip(alloc)
+}
+
+/// The readings above 100, and how many they are, where memory suffices.
+pub fn above_100_and_count(
+    alloc: Global,
+    readings: Vec<Result<u32, u8>>,
+) -> Result<(Vec<u32>, usize), Fault<u8>>
+    ensures items { IfOk result (λ both. collected
+        (filtered (λ x. Ok (nat_lt 100 x)) (results readings.items)) ≡ Ok both.0.items) }
+    ensures count { IfOk result (λ both. both.1 ≡ length both.0.items) }
+{
+    let above: Vec<u32> = convert(readings.into_iter())
+        .filter(|reading| Ok(*reading > 100))
+        .collect(alloc)?;
+    let count = above.len();
+    Ok((above, count))
+}
+
+/// The readings and their places, as two columns, where memory suffices.
+pub fn columns_exchanged(
+    alloc: Global,
+    readings: Vec<Result<u32, u8>>,
+) -> Result<(Vec<u32>, Vec<usize>), Fault<u8>>
+    ensures column { IfOk result (λ both. Ok both.0.items ≡ on_value
+        (collected (numbered 0 (results readings.items))) (λ pairs. Ok (map (λ p. p.1) pairs))) }
+    ensures places { IfOk result (λ both. Ok both.1.items ≡ on_value
+        (collected (numbered 0 (results readings.items))) (λ pairs. Ok (map (λ p. p.0) pairs))) }
+{
+    let (places, column): (Vec<usize>, Vec<u32>) = convert(readings.into_iter())
+        .enumerate()
+        .unzip(alloc)?;
+    Ok((column, places))
 }

@@ -5,9 +5,9 @@ use Rattle.fallible_contract.specs.Traces.{Answered, Run, item}
 use Rattle.fallible_contract.specs.Picking.{OfEach}
 use Rattle.fallible_contract.specs.Lists.{AlwaysGives, Lists, Repeats, compared, repeated, unless_equal}
 use Rattle.fallible_contract.specs.Comparing.{where_drawn, LastRound, Compared, ComparedWith}
-use Rattle.fallible_contract.proofs.Lemmas.Lists.Drawn.{LeftAt, left_at}
+use Rattle.fallible_contract.proofs.Lemmas.Lists.Compared.{last_round, right_left}
 use Rattle.std.specs.declared.cmp.Ordering.{Ordering}
-use Rattle.std.specs.declared.cmp.Ordering.TheVariants.{Less, Equal, Greater}
+use Rattle.std.specs.declared.cmp.Ordering.TheVariants.{Equal}
 
 one_more_repeated : {A E : Type 0} (n : ℕ) (x : A) → Ok x ∷ repeated n x ≡ repeated {A = A} {E = E} (n + 1) x
 unfolding repeated
@@ -18,35 +18,12 @@ repeats_after : {S A E : Type 0} (steps : S → Answered A E → S → Type 0) (
 repeats_after steps s u r y i w = record { each = λ trace t v q ran step. i.each (r ∷ trace) t v q (u, w, ran) step }
 
 module _ {A E : Type 0} (rule : A → A → Option Ordering) where
-  decides : (o : Option Ordering) (rest : Result (Option Ordering) E) → ¬ (o ≡ Some Equal) → Ok o ≡ unless_equal o rest
-  decides None rest h = refl
-  decides (Some Less) rest h = refl
-  decides (Some Equal) rest h = absurd (h refl)
-  decides (Some Greater) rest h = refl
-
-  -- what is left of the second list at the last round
-  abbrev RightLeft : Option (Answered A E) → List (Result A E) → Type 0
-  RightLeft None b = b ≡ b
-  RightLeft (Some y) b = LeftAt y b
-
-  -- the last round, in which the left gave the item x
-  last_round : (x : A) (y : Option (Answered A E)) (r : Result (Option Ordering) E) (a b : List (Result A E)) → RightLeft y b → LastRound rule (Ok (Some x)) y r → r ≡ compared rule (Ok x ∷ a) b
-  unfolding compared
-  last_round x None r a b left exit = absurd exit
-  last_round x (Some (Err e)) r a b left exit = exit ∙ sym (ap (compared rule (Ok x ∷ a)) left.1)
-  last_round x (Some (Ok None)) r a b left exit = exit ∙ sym (ap (compared rule (Ok x ∷ a)) left)
-  last_round x (Some (Ok (Some y))) r a b left exit = exit.0 ∙ decides (rule x y) (compared rule a left.0) exit.1 ∙ sym (ap (compared rule (Ok x ∷ a)) left.1)
-
   module _ {S T : Type 0} (left-steps : S → Answered A E → S → Type 0) (right-steps : T → Answered A E → T → Type 0) where
-    right_left : (y : Option (Answered A E)) (b : List (Result A E)) (t v : T) → AlwaysGives right-steps t b → Run right-steps t (where_drawn y) v → RightLeft y b
-    right_left None b t v gives ran = refl
-    right_left (Some y) b t v gives ran = left_at right-steps y b t ran.0 gives ran.1
-
     compared_from : (pairs : List (A × A)) (last : Answered A E) (y : Option (Answered A E)) (r : Result (Option Ordering) E) (x : A) (b : List (Result A E)) (s u : S) (t v : T) → OfEach (λ p. rule p.0 p.1 ≡ Some Equal) pairs → Repeats left-steps s (Ok x) → AlwaysGives right-steps t b → Run left-steps s (map item (map (λ p. p.0) pairs) ++ last ∷ []) u → Run right-steps t (map item (map (λ p. p.1) pairs) ++ where_drawn y) v → LastRound rule last y r → r ≡ compared rule (Ok x ∷ repeated (length b) x) b
     unfolding compared repeated
     compared_from [] last y r x b s u t v equal again gives ran run exit =
         let is : last ≡ Ok (Some x) = again.each [] s ran.0 last refl ran.1 in
-        last_round x y r (repeated (length b) x) b (right_left y b t v gives run) (subst (λ (z : Answered A E). LastRound rule z y r) is exit)
+        last_round rule (Ok (Some x)) y r (Ok x ∷ repeated (length b) x) b (repeated (length b) x, refl) (right_left rule right-steps y b t v gives run) (subst (λ (z : Answered A E). LastRound rule z y r) is exit)
     compared_from (p ∷ pairs) last y r x [] s u t v equal again gives ran run exit = absurd (let h = gives (Ok (Some p.1)) run.0 run.1 in cc)
     compared_from (p ∷ pairs) last y r x (Err e ∷ b) s u t v equal again gives ran run exit = absurd (let h = (gives (Ok (Some p.1)) run.0 run.1).0 in cc)
     compared_from (p ∷ pairs) last y r x (Ok z ∷ b) s u t v equal again gives ran run exit =

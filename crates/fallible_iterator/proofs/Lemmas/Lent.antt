@@ -76,6 +76,10 @@ last_is_end call from b f (Ok None) v exit = refl
 last_is_end call from b f (Err e) v exit = absurd (let h = exit.2 in cc)
 last_is_end call from b f (Ok (Some x)) v exit = absurd (let h = exit.2 in cc)
 
+-- a fold that came to its end drew its items and then an end
+pub run_to_end : {S A B E E' F : Type 0} {steps : S → Answered A E → S → Type 0} {call : F → B → A → Result B E' → F → Type 0} {from : E → E' → Type 0} {s t : S} {b v : B} {f : F} (d : Folded steps call from s b f (Ok v) t) → Run steps s (map item d.items ++ end ∷ []) t
+run_to_end {steps = steps} {call = call} {from = from} {s = s} {t = t} {v = v} d = subst (λ (r : Answered _ _). Run steps s (map item d.items ++ r ∷ []) t) (last_is_end call from d.value d.closure d.last v d.exit) d.ran
+
 -- the steps of `take` of a borrow of what steps so
 abbrev pub lent_steps : {S A E : Type 0} → (S → Answered A E → S → Type 0) → Take (MutBor S) → Answered A E → Take (MutBor S) → Type 0
 lent_steps steps = (seen_as take_parts (take_contract (borrowed (unbounded_contract steps)))).steps

@@ -1,7 +1,6 @@
 -- What the borrow lists under both, and what the lender has left.
 use Rattle.std.proofs.Common.{rules, ◌+◌, ◌%◌, ◌^◌, Ok, nat_lt}
-use Rattle.fallible_iterator.proofs.Lemmas.Lent.{behind_lent_run, lists_lent}
-use Rattle.fallible_callers.proofs.Ended.{run_to_end}
+use Rattle.fallible_iterator.proofs.Lemmas.Lent.{behind_lent_run, lists_lent, run_to_end}
 use Rattle.fallible_callers.proofs.drawing.above_100_of_first_ten.Goals as goal
 
 pub returns-clause-value : goal.returns-clause-value
