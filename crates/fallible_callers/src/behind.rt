@@ -1,10 +1,10 @@
 //! Draws from behind.
-ghost use Rattle.std.specs.Prelude.{eqb, ◌*◌, nat_lt, not, reverse, ◌≡◌, ℕ, ◌+◌, ◌++◌, ◌%◌, ◌^◌, [], ◌∷◌, List, Result, Ok, IfOk, Option, Some};
+ghost use Rattle.std.specs.Prelude.{eqb, ◌*◌, nat_lt, not, reverse, ◌≡◌, ℕ, ◌+◌, ◌++◌, ◌%◌, ◌^◌, [], ◌∷◌, List, Result, Ok, IfOk, Option, Some, None};
 ghost use Rattle.std.specs.Vec.Iter.{into_iter_items};
 ghost use Rattle.fallible_iterator.specs.Side.{Side};
 ghost use Rattle.fallible_iterator.specs.Traces.{Answered};
 ghost use Rattle.fallible_iterator.specs.BothEnds.{ListsBothEnds};
-ghost use Rattle.fallible_iterator.specs.Lists.{answers_at_ends, results, reversed, folded, counted, behind_true, behind_first, behind_nth, found, nth_of, mapped, filtered, skipped_while, chained, CollectedAs};
+ghost use Rattle.fallible_iterator.specs.Lists.{Lists, answers_at_ends, results, reversed, folded, counted, behind_true, behind_first, behind_nth, found, nth_of, mapped, filtered, skipped_while, chained, CollectedAs};
 ghost use Rattle.fallible_iterator.specs.Listing.{DrawsInterleave};
 ghost use Rattle.fallible_iterator.specs.Sources.Convert.{convert_parts};
 ghost use Rattle.std.specs.declared.vec.IntoIter.{IntoIter};
@@ -180,10 +180,13 @@ pub fn last_behind_zero<I: DoubleEndedFallibleIterator<Item = u32>>(
 where
     requires can_next { I.ends.can_next it.old }
     requires finite { I.contract.is_finite it.old }
-    ensures { (l : List (Result ℕ I.Error)) (x : ℕ)
+    ensures some { (l : List (Result ℕ I.Error)) (x : ℕ)
         → ListsBothEnds I.contract.steps I.ends.steps it.old l
         → found (λ r. Ok (eqb r 0)) l ≡ Ok (Some x)
         → result ≡ nth_of 0 (reverse (behind_true (λ r. Ok (eqb r 0)) l)) }
+    ensures none { (l : List (Result ℕ I.Error))
+        → Lists I.contract.steps it.old l
+        → found (λ r. Ok (eqb r 0)) l ≡ Ok None → result ≡ Ok None }
 {
     law_after_front::<I>();
     law_draws::<I>();
@@ -195,10 +198,12 @@ where
 
 /// How many readings come behind the first one that isn't 0, up to the last one that isn't: zeros at the front and behind are left out.
 pub fn count_trimmed(readings: Vec<Result<u32, u8>>) -> Result<usize, u8>
-    ensures { (x : ℕ)
+    ensures some { (x : ℕ)
         → found (λ r. Ok (not (eqb r 0))) (results readings.items) ≡ Ok (Some x)
         → result ≡ counted (skipped_while (λ r. Ok (eqb r 0))
         (reverse (behind_true (λ r. Ok (not (eqb r 0))) (results readings.items)))) }
+    ensures none { found (λ r. Ok (not (eqb r 0))) (results readings.items) ≡ Ok None
+        → result ≡ Ok 0 }
 {
     law_listed_vec::<u32, u8>();
     law_draws::<Convert<std::vec::IntoIter<Result<u32, u8>, Global>>>();

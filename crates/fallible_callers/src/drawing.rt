@@ -37,9 +37,11 @@ pub fn first_two(readings: Vec<Result<u32, u8>>) -> Result<(Option<u32>, Option<
 pub fn second_if_above<I: FallibleIterator<Item = u32>>(it: I) -> Result<Option<u32>, I::Error>
 where
     requires { I.contract.can_next it }
-    ensures { (l : List (Result ℕ I.Error)) (first : ℕ) → Lists I.contract.steps it l
+    ensures some { (l : List (Result ℕ I.Error)) (first : ℕ) → Lists I.contract.steps it l
         → nth_of 0 l ≡ Ok (Some first)
         → result ≡ first_if (λ second. nat_lt first second) (behind_first l) }
+    ensures none { (l : List (Result ℕ I.Error)) → Lists I.contract.steps it l
+        → nth_of 0 l ≡ Ok None → result ≡ Ok None }
 {
     let mut ahead = it.peekable();
     match ahead.draw()? {

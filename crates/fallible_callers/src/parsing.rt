@@ -1,5 +1,5 @@
 //! The idioms of parsers: where something stands, and what stands behind it.
-ghost use Rattle.std.specs.Prelude.{◌≡◌, ◌+◌, ◌%◌, ◌^◌, ℕ, eqb, length, List, Result, Ok, Option, Some, IfOk, false, is_err, nat_lt};
+ghost use Rattle.std.specs.Prelude.{◌≡◌, ◌+◌, ◌%◌, ◌^◌, ℕ, eqb, length, List, Result, Ok, Option, Some, None, IfOk, false, is_err, nat_lt};
 ghost use Rattle.fallible_iterator.specs.Lists.{Lists, all_of, behind_false, behind_true, folded, items, nth_of, on_value, parted, position_in, results, taken_while};
 
 use fallible_iterator::{FallibleIterator, Fault, IteratorExt, convert};
@@ -24,8 +24,10 @@ pub fn how_many_each(
 
 /// The second reading behind the first one that is 0.
 pub fn second_behind_zero(readings: Vec<Result<u32, u8>>) -> Result<Option<u32>, u8>
-    ensures { (n : ℕ) → position_in (λ r. Ok (eqb r 0)) (results readings.items) ≡ Ok (Some n)
+    ensures some { (n : ℕ) → position_in (λ r. Ok (eqb r 0)) (results readings.items) ≡ Ok (Some n)
         → result ≡ nth_of 1 (behind_true (λ r. Ok (eqb r 0)) (results readings.items)) }
+    ensures none { position_in (λ r. Ok (eqb r 0)) (results readings.items) ≡ Ok None
+        → result ≡ Ok None }
 {
     let mut left = convert(readings.into_iter());
     match left.position(|reading| Ok(reading == 0))? {

@@ -1,5 +1,5 @@
 //! What is left after a call through a borrow.
-ghost use Rattle.std.specs.Prelude.{◌≡◌, ◌-◌, ◌^◌, ℕ, eqb, List, Option, Result, Ok, Some};
+ghost use Rattle.std.specs.Prelude.{◌≡◌, ◌-◌, ◌^◌, ℕ, eqb, List, Option, Result, Ok, Some, None};
 ghost use Rattle.fallible_iterator.specs.Contract.{AtMost};
 ghost use Rattle.fallible_iterator.specs.Lists.{Lists, behind_first, behind_true, counted, found, looked_ahead, nth_of, position_in, results};
 
@@ -7,8 +7,10 @@ use fallible_iterator::{FallibleIterator, convert};
 
 /// The reading behind the first one that is 0.
 pub fn behind_zero(readings: Vec<Result<u32, u8>>) -> Result<Option<u32>, u8>
-    ensures { (x : ℕ) → found (λ r. Ok (eqb r 0)) (results readings.items) ≡ Ok (Some x)
+    ensures some { (x : ℕ) → found (λ r. Ok (eqb r 0)) (results readings.items) ≡ Ok (Some x)
         → result ≡ nth_of 0 (behind_true (λ r. Ok (eqb r 0)) (results readings.items)) }
+    ensures none { found (λ r. Ok (eqb r 0)) (results readings.items) ≡ Ok None
+        → result ≡ Ok None }
 {
     let mut left = convert(readings.into_iter());
     match left.find(|reading| Ok(*reading == 0))? {
@@ -22,10 +24,13 @@ pub fn count_behind<I: FallibleIterator<Item = u32>>(mut it: I) -> Result<usize,
 where
     requires can_next { I.contract.can_next it }
     requires fits { AtMost I.contract it (2 ^ 64 - 1) }
-    ensures { (l : List (Result ℕ I.Error)) (n : ℕ)
+    ensures some { (l : List (Result ℕ I.Error)) (n : ℕ)
         → Lists I.contract.steps it l
         → position_in (λ x. Ok (eqb x 0)) l ≡ Ok (Some n)
         → result ≡ counted (behind_true (λ x. Ok (eqb x 0)) l) }
+    ensures none { (l : List (Result ℕ I.Error))
+        → Lists I.contract.steps it l
+        → position_in (λ x. Ok (eqb x 0)) l ≡ Ok None → result ≡ Ok 0 }
 {
     match it.position(|x| Ok(x == 0))? {
         Some(_) => it.count(),

@@ -6,6 +6,7 @@ use Rattle.std.proofs.KnownBytes.{Consumes-trans}
 use Rattle.std.proofs.lemmas.List.{length-append}
 use Rattle.fallible_iterator.specs.Traces.{Answered, end}
 use Rattle.fallible_iterator.specs.Contract.{unbounded_contract, seen_as}
+use Rattle.fallible_iterator.specs.Laws.Contract.{lists_seen}
 use Rattle.fallible_iterator.specs.Lists.{AlwaysGives, Lists, result_answer}
 use Rattle.fallible_rows.specs.Reading.{NeverFails}
 use Rattle.fallible_rows.specs.Rows.{rows, row_number}
@@ -38,12 +39,6 @@ left_of : (old new : Option (List ℕ)) (bytes known : List ℕ) → old ≡ Som
 left_of None new bytes known is taken = absurd cc
 left_of (Some x) None bytes known is taken = absurd taken
 left_of (Some x) (Some y) bytes known is taken = let same : x ≡ known = cc in (y, refl, sym same ∙ taken, λ e. e)
-
-module _ {S T A E : Type 0} (view : S → T) (steps : T → Answered A E → T → Type 0) where
-  -- what is seen of a value lists what the value lists
-  seen_gives : (l : List (Result A E)) (s : S) → AlwaysGives steps (view s) l → AlwaysGives (λ s r t. steps (view s) r (view t)) s l
-  seen_gives [] s i = λ r t drawn. i r (view t) drawn
-  seen_gives (y ∷ l) s i = λ r t drawn. let h = i r (view t) drawn in (h.0, seen_gives l t h.1)
 
 module _ {B : Type 0} (left : B → Option (List ℕ)) (stays : Bool → B → B → Type 0) (never : NeverFails stays) where
   -- one draw of a list takes its first
@@ -98,4 +93,4 @@ module _ {B : Type 0} (left : B → Option (List ℕ)) (stays : Bool → B → B
   gives_rows (suc n) bytes r a few tells within = by_draws (r, Some a) (row_results a.place (rows bytes)) (takes_row n (gives_rows n) bytes r a few tells within)
 
   pub lists_rows : (s : Rows B) (reader : B) (limit : ℕ) (bytes : List ℕ) → rows_parts s ≡ begun reader limit → left reader ≡ Some bytes → length bytes < limit → Lists (seen_as rows_parts (unbounded_contract (row_step left stays))).steps s (row_results 1 (rows bytes))
-  lists_rows s reader limit bytes is tells within = record { runs = seen_gives rows_parts (row_step left stays) (row_results 1 (rows bytes)) s (subst (λ (p : B × Option Ahead). AlwaysGives (row_step left stays) p (row_results 1 (rows bytes))) (sym is) (gives_rows (suc (length bytes)) bytes reader (record { left = limit; place = 1 }) (omega arith) tells within)) }
+  lists_rows s reader limit bytes is tells within = lists_seen (unbounded_contract (row_step left stays)) rows_parts s (row_results 1 (rows bytes)) (record { runs = subst (λ (p : B × Option Ahead). AlwaysGives (row_step left stays) p (row_results 1 (rows bytes))) (sym is) (gives_rows (suc (length bytes)) bytes reader (record { left = limit; place = 1 }) (omega arith) tells within) })

@@ -16,8 +16,6 @@ mod exact_count;
 #[cfg(test)]
 mod overriding;
 #[cfg(test)]
-mod own_type;
-#[cfg(test)]
 mod sources;
 #[cfg(test)]
 mod traits;

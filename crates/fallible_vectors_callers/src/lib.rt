@@ -8,4 +8,6 @@ mod examples;
 #[cfg(test)]
 mod first;
 #[cfg(test)]
+mod own;
+#[cfg(test)]
 mod values;

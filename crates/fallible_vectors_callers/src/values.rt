@@ -13,9 +13,9 @@ use fallible_callers::computing::{
     fold_of_one, fourth_above_100, halves, places, products, running_sums, sum,
 };
 use fallible_callers::consuming::{
-    all_above_100, any_above_100, first_above_100, greatest_above_100, greatest_double_of_ten,
-    last_above_100, least_double_above_1000, parted_at_100, place_above_100, sum_of_some,
-    two_columns,
+    above_100_and_count, all_above_100, any_above_100, columns_exchanged, first_above_100,
+    greatest_above_100, greatest_double_of_ten, last_above_100, least_double_above_1000,
+    parted_at_100, place_above_100, sum_of_some, two_columns,
 };
 use fallible_callers::drawing::{
     after_a_pair, after_three, draw_all, first_two, pair_behind_first, second_if_above,
@@ -26,7 +26,7 @@ use fallible_callers::making::{
     count_behind_two_answers, count_with_held, given_above_100, hundreds, numbers_above_100,
     sum_of_one_again, sum_of_rounds,
 };
-use fallible_callers::own::{countdowns, even_between};
+use fallible_callers::own::countdowns;
 use fallible_callers::parsing::{
     how_many_each, place_of_failure, second_behind_zero, sum_and_next,
 };
@@ -311,6 +311,16 @@ fn two_collections(rt: HostRuntime) -> Result<(), Fail> {
     assert_eq!(rt; column.as_slice(), [5, 600, 100, 501].as_slice());
     let refused = two_columns(rt.alloc(), readings(rt.alloc())?);
     assert!(rt; matches!(refused, Err(Fault::Source(9))));
+    let (column, places) = columns_exchanged(rt.alloc(), good_readings(rt.alloc())?)?;
+    assert_eq!(rt; column.as_slice(), [5, 600, 100, 501].as_slice());
+    assert_eq!(rt; places.as_slice(), [0, 1, 2, 3].as_slice());
+    let refused = columns_exchanged(rt.alloc(), readings(rt.alloc())?);
+    assert!(rt; matches!(refused, Err(Fault::Source(9))));
+    let (above, count) = above_100_and_count(rt.alloc(), good_readings(rt.alloc())?)?;
+    assert_eq!(rt; above.as_slice(), [600, 501].as_slice());
+    assert_eq!(rt; count, 2);
+    let refused = above_100_and_count(rt.alloc(), readings(rt.alloc())?);
+    assert!(rt; matches!(refused, Err(Fault::Source(9))));
     Ok(())
 }
 
@@ -371,8 +381,6 @@ fn both_ends_and_sides(rt: HostRuntime) -> Result<(), Fail> {
     assert_eq!(rt; after_a_pair(left, once(8)), Ok(Some(600)));
     let left = convert(good_readings(alloc)?.into_iter());
     assert_eq!(rt; pair_behind_first(left, once(8)), Ok(Some((600, 8))));
-    assert_eq!(rt; even_between(3, 9), Ok(3));
-    assert_eq!(rt; even_between(9, 3), Ok(0));
     Ok(())
 }
 

@@ -6,6 +6,4 @@ mod drawing;
 #[cfg(test)]
 mod folding;
 #[cfg(test)]
-mod own_type;
-#[cfg(test)]
 mod rev;
