@@ -1,5 +1,5 @@
 -- What a comparison makes of a source that gives one item again and again, and of one whose answers are listed.
-use Rattle.std.specs.Prelude.{◌≡◌, ℕ, ◌+◌, suc, length, Option, Some, None, Result, Ok, Err, List, [], ◌∷◌, ◌++◌, map}
+use Rattle.std.specs.Prelude.{◌≡◌, ℕ, ◌+◌, suc, length, Option, Some, Result, Ok, Err, List, [], ◌∷◌, ◌++◌, map}
 use Rattle.std.proofs.Common.{refl, sym, ap, subst, arith, ◌∙◌}
 use Rattle.fallible_contract.specs.Traces.{Answered, Run, item}
 use Rattle.fallible_contract.specs.Picking.{OfEach}
