@@ -1,7 +1,8 @@
 //! Draws by hand.
-ghost use Rattle.std.specs.Prelude.{◌≡◌, ◌+◌, ◌*◌, ◌/◌, ◌%◌, ◌^◌, ℕ, List, ◌∷◌, Result, Option, Ok, Some, None, nat_lt, if◌then◌else◌};
+ghost use Rattle.std.specs.Prelude.{◌≡◌, ◌+◌, ◌*◌, ◌/◌, ◌%◌, ◌^◌, ℕ, List, ◌∷◌, Result, Option, Ok, Some, None, false, nat_lt, if◌then◌else◌};
 ghost use Rattle.fallible_iterator.specs.Lists.{Lists, behind_first, behind_nth, chained, filtered, first_if, folded, items, mapped, nth_of, results, taken, taken_while, zipped};
 
+use fallible_iterator::laws::{law_next, law_peek};
 use fallible_iterator::{FallibleIterator, convert};
 
 /// The third of the doubled readings above 100 among the first ten.
@@ -222,4 +223,34 @@ where
     it.draw()?;
     it.draw()?;
     it.draw()
+}
+
+/// The second item, by two plain draws, the first of which is let go. The law says what each `next` answers and leaves.
+pub fn second_of<I: FallibleIterator>(mut it: I) -> Result<Option<I::Item>, I::Error>
+where
+    I::Item: Drop,
+    requires { I.contract.can_next it }
+    ensures { (l : List (Result I.Item I.Error)) (x : I.Item) → Lists I.contract.steps it l
+        → nth_of 0 l ≡ Ok (Some x) → result ≡ nth_of 0 (behind_first l) }
+{
+    law_next::<I>();
+    it.next()?;
+    it.next()
+}
+
+/// Whether there is a first item and it is above 100. It is looked at and not drawn. The law says what `peek` answers.
+pub fn begins_above_100<I: FallibleIterator<Item = u32>>(it: I) -> Result<bool, I::Error>
+where
+    requires { I.contract.can_next it }
+    ensures some { (l : List (Result ℕ I.Error)) (x : ℕ) → Lists I.contract.steps it l
+        → nth_of 0 l ≡ Ok (Some x) → result ≡ Ok (nat_lt 100 x) }
+    ensures none { (l : List (Result ℕ I.Error)) → Lists I.contract.steps it l
+        → nth_of 0 l ≡ Ok None → result ≡ Ok false }
+{
+    law_peek::<I>();
+    let mut ahead = it.peekable();
+    match ahead.peek()? {
+        Some(first) => Ok(*first > 100),
+        None => Ok(false),
+    }
 }

@@ -4,6 +4,7 @@ mod bound;
 mod bridges;
 mod comparing;
 mod cutting;
+mod draws;
 mod ends;
 mod filtering;
 pub mod hints;
@@ -20,6 +21,7 @@ pub use bound::{law_bound, law_bound_ends};
 pub use bridges::{law_back_iterator, law_iterator, law_unwrap};
 pub use comparing::law_eq_is_cmp_equal;
 pub use cutting::{law_fuse, law_skip, law_step_by, law_take, law_take_while};
+pub use draws::{law_next, law_peek};
 pub use ends::{
     law_after_front, law_back_chain, law_back_cloned, law_back_filter, law_back_filter_map,
     law_back_inspect, law_back_map, law_back_map_err, law_draws, law_interleave,

@@ -4,9 +4,9 @@ use Rattle.std.specs.Io.KnownBytes.{Consumes, IsAtEnd}
 use Rattle.std.specs.Option.{ok_or}
 use Rattle.std.proofs.KnownBytes.{Consumes-trans}
 use Rattle.std.proofs.lemmas.List.{length-append}
+use Rattle.fallible_contract.proofs.Lemmas.Lists.Passing.{lists_seen}
 use Rattle.fallible_iterator.specs.Traces.{Answered, end}
 use Rattle.fallible_iterator.specs.Contract.{unbounded_contract, seen_as}
-use Rattle.fallible_iterator.specs.Laws.Contract.{lists_seen}
 use Rattle.fallible_iterator.specs.Lists.{AlwaysGives, Lists, result_answer}
 use Rattle.fallible_rows.specs.Reading.{NeverFails}
 use Rattle.fallible_rows.specs.Rows.{rows, row_number}
@@ -93,4 +93,4 @@ module _ {B : Type 0} (left : B → Option (List ℕ)) (stays : Bool → B → B
   gives_rows (suc n) bytes r a few tells within = by_draws (r, Some a) (row_results a.place (rows bytes)) (takes_row n (gives_rows n) bytes r a few tells within)
 
   pub lists_rows : (s : Rows B) (reader : B) (limit : ℕ) (bytes : List ℕ) → rows_parts s ≡ begun reader limit → left reader ≡ Some bytes → length bytes < limit → Lists (seen_as rows_parts (unbounded_contract (row_step left stays))).steps s (row_results 1 (rows bytes))
-  lists_rows s reader limit bytes is tells within = lists_seen (unbounded_contract (row_step left stays)) rows_parts s (row_results 1 (rows bytes)) (record { runs = subst (λ (p : B × Option Ahead). AlwaysGives (row_step left stays) p (row_results 1 (rows bytes))) (sym is) (gives_rows (suc (length bytes)) bytes reader (record { left = limit; place = 1 }) (omega arith) tells within) })
+  lists_rows s reader limit bytes is tells within = lists_seen rows_parts (row_step left stays) s is refl (gives_rows (suc (length bytes)) bytes reader (record { left = limit; place = 1 }) (omega arith) tells within)

@@ -1,9 +1,9 @@
 -- A cursor over pages that answer as a book does lists the rows of the book.
 use Rattle.std.specs.Prelude.{◌≡◌, ℕ, ◌+◌, ◌%◌, ◌^◌, List, [], ◌∷◌, ◌++◌, Result, Ok, Err}
 use Rattle.std.proofs.Common.{refl, sym, subst}
+use Rattle.fallible_contract.proofs.Lemmas.Lists.Passing.{lists_seen}
 use Rattle.fallible_iterator.specs.Traces.{Answered}
 use Rattle.fallible_iterator.specs.Contract.{unbounded_contract, seen_as}
-use Rattle.fallible_iterator.specs.Laws.Contract.{lists_seen}
 use Rattle.fallible_iterator.specs.Lists.{AlwaysGives, Lists, items}
 use Rattle.fallible_uses.specs.Pages.{cursor_parts, at_start, DrawsRow, Opens, AnswersBook, rows_in, pages_left, TakesPage, GivesPage, pages_of}
 use Rattle.std.specs.declared.vec.Vec.{Vec}
@@ -41,7 +41,7 @@ module _ {P : Type 0} (gives : P → ℕ → Result (List ℕ) PageRefused → P
       (o.0, by_parts (λ p. AlwaysGives (DrawsRow gives) p (rows_in book)) t t.0 [] place refl o.1 o.2 (gives_book book t.0 place h.1))
 
   pub lists_book : (book : List (Result (List ℕ) PageRefused)) (s : Cursor P) (pages : P) → cursor_parts s ≡ at_start pages → AnswersBook gives pages 0 book → Lists (seen_as cursor_parts (unbounded_contract (DrawsRow gives))).steps s (rows_in book)
-  lists_book book s pages e i = lists_seen (unbounded_contract (DrawsRow gives)) cursor_parts s (rows_in book) (record { runs = subst (λ (p : P × (List ℕ × ℕ)). AlwaysGives (DrawsRow gives) p (rows_in book)) (sym e) (gives_book book pages 0 i) })
+  lists_book book s pages e i = lists_seen cursor_parts (DrawsRow gives) s e refl (gives_book book pages 0 i)
 
 -- a book answers its pages
 pub answers_pages : (pages : List (Vec ℕ Global)) (s : Book) (place : ℕ) → pages_left s ≡ pages → AnswersBook GivesPage s place (pages_of pages)

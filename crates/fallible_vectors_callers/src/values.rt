@@ -1,45 +1,103 @@
 // The values of the callers on small inputs.
-use fallible_callers::behind::{
-    above_100_from_behind, both_from_behind, count_between, count_trimmed, doubled_from_behind,
-    first_and_last, last_after_three, last_behind_zero, last_but_one, last_drawn, last_first,
-    read_alike, second_between, sum_from_behind, three_answers,
-};
-use fallible_callers::bridging::{
-    elements, elements_from_behind, elements_of_ten, failures, number_of, one_more, there_and_back,
-    there_and_back_of_ten, total, up_to_ten,
-};
-use fallible_callers::computing::{
-    above_100, all_up_to_100, both_columns, checked_sum, collected_above_100, doubled_above_1000,
-    fold_of_one, fourth_above_100, halves, places, products, running_sums, sum,
-};
-use fallible_callers::consuming::{
-    above_100_and_count, all_above_100, any_above_100, columns_exchanged, first_above_100,
-    greatest_above_100, greatest_double_of_ten, last_above_100, least_double_above_1000,
-    parted_at_100, place_above_100, sum_of_some, two_columns,
-};
-use fallible_callers::drawing::{
-    after_a_pair, after_three, draw_all, first_two, pair_behind_first, second_if_above,
-    sum_of_halves_up_to_zero, sum_up_to_zero, third_draw, third_of, two_and_the_next,
-};
-use fallible_callers::generic::{mean, mean_of_nest, sum_of_nest};
-use fallible_callers::making::{
-    count_behind_two_answers, count_with_held, given_above_100, hundreds, numbers_above_100,
-    sum_of_one_again, sum_of_rounds,
-};
+use fallible_callers::behind::above_100_from_behind;
+use fallible_callers::behind::both_from_behind;
+use fallible_callers::behind::count_between;
+use fallible_callers::behind::count_trimmed;
+use fallible_callers::behind::doubled_from_behind;
+use fallible_callers::behind::first_and_last;
+use fallible_callers::behind::last_after_three;
+use fallible_callers::behind::last_behind_zero;
+use fallible_callers::behind::last_but_one;
+use fallible_callers::behind::last_drawn;
+use fallible_callers::behind::last_first;
+use fallible_callers::behind::read_alike;
+use fallible_callers::behind::second_between;
+use fallible_callers::behind::sum_from_behind;
+use fallible_callers::behind::three_answers;
+use fallible_callers::bridging::elements;
+use fallible_callers::bridging::elements_from_behind;
+use fallible_callers::bridging::elements_of_ten;
+use fallible_callers::bridging::failures;
+use fallible_callers::bridging::number_of;
+use fallible_callers::bridging::one_more;
+use fallible_callers::bridging::there_and_back;
+use fallible_callers::bridging::there_and_back_of_ten;
+use fallible_callers::bridging::total;
+use fallible_callers::bridging::up_to_ten;
+use fallible_callers::computing::above_100;
+use fallible_callers::computing::all_up_to_100;
+use fallible_callers::computing::both_columns;
+use fallible_callers::computing::checked_sum;
+use fallible_callers::computing::collected_above_100;
+use fallible_callers::computing::doubled_above_1000;
+use fallible_callers::computing::fold_of_one;
+use fallible_callers::computing::fourth_above_100;
+use fallible_callers::computing::halves;
+use fallible_callers::computing::places;
+use fallible_callers::computing::products;
+use fallible_callers::computing::running_sums;
+use fallible_callers::computing::sum;
+use fallible_callers::consuming::above_100_and_count;
+use fallible_callers::consuming::all_above_100;
+use fallible_callers::consuming::any_above_100;
+use fallible_callers::consuming::columns_exchanged;
+use fallible_callers::consuming::first_above_100;
+use fallible_callers::consuming::greatest_above_100;
+use fallible_callers::consuming::greatest_double_of_ten;
+use fallible_callers::consuming::last_above_100;
+use fallible_callers::consuming::least_double_above_1000;
+use fallible_callers::consuming::parted_at_100;
+use fallible_callers::consuming::place_above_100;
+use fallible_callers::consuming::sum_of_some;
+use fallible_callers::consuming::two_columns;
+use fallible_callers::drawing::after_a_pair;
+use fallible_callers::drawing::after_three;
+use fallible_callers::drawing::begins_above_100;
+use fallible_callers::drawing::draw_all;
+use fallible_callers::drawing::first_two;
+use fallible_callers::drawing::pair_behind_first;
+use fallible_callers::drawing::second_if_above;
+use fallible_callers::drawing::second_of;
+use fallible_callers::drawing::sum_of_halves_up_to_zero;
+use fallible_callers::drawing::sum_up_to_zero;
+use fallible_callers::drawing::third_draw;
+use fallible_callers::drawing::third_of;
+use fallible_callers::drawing::two_and_the_next;
+use fallible_callers::generic::mean;
+use fallible_callers::generic::mean_of_nest;
+use fallible_callers::generic::sum_of_nest;
+use fallible_callers::making::count_behind_two_answers;
+use fallible_callers::making::count_with_held;
+use fallible_callers::making::given_above_100;
+use fallible_callers::making::hundreds;
+use fallible_callers::making::numbers_above_100;
+use fallible_callers::making::sum_of_one_again;
+use fallible_callers::making::sum_of_rounds;
 use fallible_callers::own::countdowns;
-use fallible_callers::parsing::{
-    how_many_each, place_of_failure, second_behind_zero, sum_and_next,
-};
-use fallible_callers::ranges::{count_and_sum, runs, sum_below};
-use fallible_callers::reading::{Bytes, ReadFailed, newlines_of_three};
+use fallible_callers::parsing::how_many_each;
+use fallible_callers::parsing::place_of_failure;
+use fallible_callers::parsing::second_behind_zero;
+use fallible_callers::parsing::sum_and_next;
+use fallible_callers::ranges::count_and_sum;
+use fallible_callers::ranges::runs;
+use fallible_callers::ranges::sum_below;
+use fallible_callers::reading::Bytes;
+use fallible_callers::reading::ReadFailed;
+use fallible_callers::reading::newlines_of_three;
 use fallible_iterator::Answer::Item;
-use fallible_iterator::{
-    DoubleEndedFallibleIterator, FallibleIterator, Fault, convert, empty, once,
-};
-use std::alloc::{AllocError, Global};
+use fallible_iterator::DoubleEndedFallibleIterator;
+use fallible_iterator::FallibleIterator;
+use fallible_iterator::Fault;
+use fallible_iterator::convert;
+use fallible_iterator::empty;
+use fallible_iterator::once;
+use std::alloc::AllocError;
+use std::alloc::Global;
 use std::convert::Infallible;
 use std::fmt::Debug;
-use std::io::{self, ErrorKind, Read};
+use std::io::ErrorKind;
+use std::io::Read;
+use std::io::{self};
 use std::process::Abort;
 use std::test::Fail;
 
@@ -140,6 +198,12 @@ fn places_of_items(rt: HostRuntime) -> Result<(), Fail> {
         third_of(convert(readings(rt.alloc())?.into_iter())),
         Ok(Some(600))
     );
+    let good = good_readings(rt.alloc())?;
+    assert_eq!(rt; second_of(convert(good.into_iter())), Ok(Some(600)));
+    let good = good_readings(rt.alloc())?;
+    assert_eq!(rt; begins_above_100(convert(good.into_iter())), Ok(false));
+    let failing = readings(rt.alloc())?;
+    assert_eq!(rt; begins_above_100(convert(failing.into_iter())), Ok(true));
     assert_eq!(rt; above_the_first(good_readings(rt.alloc())?), Ok(Some(600)));
     assert_eq!(rt; above_the_first(readings(rt.alloc())?), Ok(None));
     assert_eq!(rt;

@@ -1,10 +1,9 @@
 -- What stays after any number of draws.
-use Rattle.std.specs.Prelude.{◌≤◌, List, [], ◌∷◌, Some, None, Result, Ok, Err}
+use Rattle.std.specs.Prelude.{◌≤◌, List, [], ◌∷◌, Some, None, Ok, Err}
 use Rattle.std.specs.Iterator.{IsFinite, size}
 use Rattle.std.proofs.Common.{arith, subst, refl, ◌∙◌}
 use Rattle.fallible_contract.specs.Traces.{Answered, Run}
 use Rattle.fallible_contract.specs.Contract.{Contract, NoMore, OnAnswer, KeptByDraw, Stays, Lawful, seen_as}
-use Rattle.fallible_contract.specs.Lists.{AlwaysGives, Lists}
 
 module _ {S A E : Type 0} (m : Contract S A E) where
   -- after any answer nothing more is to come than before
@@ -47,15 +46,6 @@ module _ {S P A E : Type 0} (m : Contract P A E) (view : S → P) where
 
 pub lawful_seen : {S P A E : Type 0} {m : Contract P A E} (view : S → P) → Lawful m → Lawful (seen_as view m)
 lawful_seen {m = m} view l = record { kept_by_draw = λ s r t c step. goes_seen m view s t r (l.kept_by_draw (view s) r (view t) c step); bounded = λ s. l.bounded (view s) }
-
-module _ {S P A E : Type 0} (m : Contract P A E) (view : S → P) where
-  gives_seen : (l : List (Result A E)) (s : S) → AlwaysGives m.steps (view s) l → AlwaysGives (seen_as view m).steps s l
-  gives_seen [] s i = λ r t drawn. i r (view t) drawn
-  gives_seen (y ∷ l) s i = λ r t drawn. let h = i r (view t) drawn in (h.0, gives_seen l t h.1)
-
-  -- it lists what the value lists as which it is seen
-  pub lists_seen : (s : S) (l : List (Result A E)) → Lists m.steps (view s) l → Lists (seen_as view m).steps s l
-  lists_seen s l i = record { runs = gives_seen l s i.runs }
 
 module _ {S A E : Type 0} {m : Contract S A E} where
   answer_later : (s t u : S) (r : Answered A E) → Stays m s t → (IsFinite (m.remaining s) → IsFinite (m.remaining t) × (size (m.remaining t) ≤ size (m.remaining s))) → OnAnswer m t r u → OnAnswer m s r u
