@@ -66,18 +66,18 @@ abbrev pub reads_ne : Option Ordering → Bool
 reads_ne o = not (reads_eq o)
 
 -- An order decides a comparison, and so does the lack of one, unless two items are equal.
-abbrev pub unless_equal : Option Ordering → Option (Option Ordering)
-unless_equal None = Some None
-unless_equal (Some Less) = Some (Some Less)
-unless_equal (Some Equal) = None
-unless_equal (Some Greater) = Some (Some Greater)
+abbrev pub decided_order : Option Ordering → Option (Option Ordering)
+decided_order None = Some None
+decided_order (Some Less) = Some (Some Less)
+decided_order (Some Equal) = None
+decided_order (Some Greater) = Some (Some Greater)
 
 -- What a round decides in which neither side fails: two ends are equal, the side that ends alone is less, and two items decide unless they are equal.
-abbrev pub decided : {A : Type 0} → (A → A → Option Ordering) → Option A → Option A → Option (Option Ordering)
-decided rule None None = Some (Some Equal)
-decided rule None (Some y) = Some (Some Less)
-decided rule (Some x) None = Some (Some Greater)
-decided rule (Some x) (Some y) = unless_equal (rule x y)
+abbrev pub decided_round : {A : Type 0} → (A → A → Option Ordering) → Option A → Option A → Option (Option Ordering)
+decided_round rule None None = Some (Some Equal)
+decided_round rule None (Some y) = Some (Some Less)
+decided_round rule (Some x) None = Some (Some Greater)
+decided_round rule (Some x) (Some y) = decided_order (rule x y)
 
 -- an answer, where the right was drawn
 abbrev pub where_drawn : {A E : Type 0} → Option (Answered A E) → List (Answered A E)

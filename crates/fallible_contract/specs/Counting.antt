@@ -3,11 +3,11 @@ use Rattle.std.specs.Prelude.{◌≡◌, ℕ, ◌+◌, List, [], ◌∷◌, map,
 use Rattle.fallible_contract.specs.Traces.{Answered, Run, LastKept, items_in}
 
 -- Each answer with its item's number. The items are numbered from k on; failures and ends have no number.
-abbrev pub numbered : {A E : Type 0} → ℕ → List (Answered A E) → List (Option ℕ × Answered A E)
-numbered k [] = []
-numbered k (Ok (Some x) ∷ rest) = (Some k, Ok (Some x)) ∷ numbered (k + 1) rest
-numbered k (Ok None ∷ rest) = (None, Ok None) ∷ numbered k rest
-numbered k (Err e ∷ rest) = (None, Err e) ∷ numbered k rest
+abbrev pub with_numbers : {A E : Type 0} → ℕ → List (Answered A E) → List (Option ℕ × Answered A E)
+with_numbers k [] = []
+with_numbers k (Ok (Some x) ∷ rest) = (Some k, Ok (Some x)) ∷ with_numbers (k + 1) rest
+with_numbers k (Ok None ∷ rest) = (None, Ok None) ∷ with_numbers k rest
+with_numbers k (Err e ∷ rest) = (None, Err e) ∷ with_numbers k rest
 
 -- An item is kept where its number is, and what has no number is kept.
 abbrev pub is_kept : {A E : Type 0} → (ℕ → Bool) → Option ℕ × Answered A E → Bool
@@ -22,6 +22,6 @@ kept keeps answers = map (λ p. p.1) (filter (is_kept keeps) answers)
 pub record KeptByNumber {S A E : Type 0} (keeps : ℕ → Bool) (left_after : ℕ → ℕ) (steps : S → Answered A E → S → Type 0) (s : S) (trace : List (Answered A E)) (t : S) (left : ℕ) : Type 0 where
   pub source_trace : List (Answered A E)
   pub drawn : Run steps s source_trace t
-  pub answers : trace ≡ kept keeps (numbered 1 source_trace)
-  pub last_kept : LastKept (is_kept keeps) (numbered 1 source_trace)
+  pub answers : trace ≡ kept keeps (with_numbers 1 source_trace)
+  pub last_kept : LastKept (is_kept keeps) (with_numbers 1 source_trace)
   pub remaining : left ≡ left_after (items_in source_trace)

@@ -1,6 +1,6 @@
 //! Comparisons: the rules of two items, and what is read off a comparison.
 ghost use Rattle.std.specs.Prelude.{◌≡◌, Bool, Option, Some, None, Ok};
-ghost use Rattle.fallible_contract.specs.Comparing.{by_cmp, by_eq, decided, read_as, reads_eq, reads_ne, reads_lt, reads_le, reads_gt, reads_ge};
+ghost use Rattle.fallible_contract.specs.Comparing.{by_cmp, by_eq, decided_round, read_as, reads_eq, reads_ne, reads_lt, reads_le, reads_gt, reads_ge};
 ghost use Rattle.std.specs.declared.cmp.Ordering.{Ordering};
 
 use std::cmp::Ordering;
@@ -54,7 +54,7 @@ impl<A: PartialEq> Rule<A> for ByEq {
 
 /// What the answers of one round decide, where neither side failed: none where both are items that are equal by the rule, so that the comparison goes on.
 pub fn decide<A: Drop, K: Rule<A>>(left: Option<A>, right: Option<A>) -> Option<Option<Ordering>>
-    ensures { result ≡ decided K.rule left right }
+    ensures { result ≡ decided_round K.rule left right }
 {
     match (left, right) {
         (None, None) => Some(Some(Ordering::Equal)),

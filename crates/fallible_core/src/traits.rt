@@ -1,16 +1,15 @@
 //! The trait of fallible iterators: one call that each type writes, and all that comes with it.
-ghost use Rattle.std.specs.Prelude.{◌≡◌, ℕ, true, false, ◌+◌, ◌-◌, ◌≤◌, ◌<◌, ◌^◌, List, Option, Result, Some, None, Ok, Bool, MatchResult, IfOk, ◌↔◌, ◌⊎◌, Err};
-ghost use Rattle.std.specs.Borrow.{Bor};
+ghost use Rattle.std.specs.Prelude.{◌≡◌, true, false, ◌+◌, ◌-◌, ◌≤◌, ◌<◌, ◌^◌, List, Option, Result, Some, None, Ok, MatchResult, IfOk, ◌⊎◌, Err};
 ghost use Rattle.std.specs.Iterator.Runs.{EachRunFrom, ItemsAre};
 ghost use Rattle.fallible_contract.specs.Clauses.{OverList, OverListWith, OverBoth};
 ghost use Rattle.fallible_contract.specs.Contract.{Contract, AtMost, Lawful, Stays, NeverFails, seen_as};
 ghost use Rattle.fallible_contract.specs.Closures.{IsCallable, call_on, takes_on, call_at, takes_at};
-ghost use Rattle.fallible_contract.specs.Collecting.{Collects, IsCollectTurn, Asks, IsPartitionTurn, Partitions, MadeOfParts, PairRefused, IsUnzipTurn};
+ghost use Rattle.fallible_contract.specs.Collecting.{Collects, Asks, Partitions, MadeOfParts, PairRefused};
 ghost use Rattle.fallible_contract.specs.Lists.{behind_first, behind_nth, behind_true, behind_false, behind_value, behind_fold, items, Lists, Acts, Repeats, repeated, counted, ActsWithState, CollectedAs, nth_of, folded, reduced, ActsWith, Converts, all_of, any_of, find_mapped, found, last_of, collected, parted, MadeOf, MadeOfSides, PartedAs, UnzippedAs, position_in, each_done, best_by, greatest, least, best_by_key, compared};
 ghost use Rattle.fallible_contract.specs.Comparing.{OneIsFinite, by_cmp, by_eq, read_as, reads_eq, reads_ne, reads_lt, reads_le, reads_gt, reads_ge, ComparedWith, ReadWith};
 ghost use Rattle.fallible_contract.specs.Picking.{call_at_two, takes_at_two, PickCall, takes_in_pick, Picked, KeyCall, Best, BestByKey};
-ghost use Rattle.fallible_contract.specs.Searching.{CallableInSearch, Searched, IsSearchTurn, IsPositionTurn, IsFindTurn, all_pick, any_pick, find_map_pick, find_pick, position_pick, each_pick};
-ghost use Rattle.fallible_contract.specs.Folds.{HoldsAtEachTurn, CallableCarrying, Carried, CallableInFold, call_with, takes_with, IsFoldTurn, Folded, Counted, LastOf, Nth, ReduceCall, reduce_takes};
+ghost use Rattle.fallible_contract.specs.Searching.{CallableInSearch, Searched, all_pick, any_pick, find_map_pick, find_pick, position_pick, each_pick};
+ghost use Rattle.fallible_contract.specs.Folds.{HoldsAtEachTurn, CallableCarrying, Carried, CallableInFold, call_with, takes_with, Folded, Counted, LastOf, Nth, ReduceCall, reduce_takes};
 ghost use Rattle.fallible_core.specs.OneToOne.Enumerate.{IsNumberable, enumerate_parts, enumerate_contract, numbered};
 ghost use Rattle.fallible_core.specs.Filtering.SkipWhile.{skip_call, skip_takes, skip_while_parts, skip_while_contract, skipped_while, skip_while_source, skip_while_found, skip_while_predicate};
 ghost use Rattle.fallible_core.specs.OneToOne.Scan.{scan_call, scan_takes, scan_parts, scan_contract, scanned, scan_source, scan_state, scan_closure};
@@ -37,6 +36,7 @@ ghost use Rattle.fallible_core.specs.Peeking.Peekable.{peekable_parts, peekable_
 ghost use Rattle.fallible_core.specs.Joining.Cycle.{cycle_kept, cycle_source};
 ghost use Rattle.std.specs.declared.cmp.Ordering.{Ordering};
 ghost use Rattle.std.specs.declared.cmp.Ordering.TheVariants.{Less, Greater};
+ghost use Rattle.fallible_contract.specs.declared.collecting.Fault.TheVariants.{Source};
 ghost use Rattle.fallible_core.specs.declared.joining.chain.StillDrawn.TheVariants.{Both};
 
 mod borrowed;
@@ -926,6 +926,8 @@ pub trait FallibleIterator: Drop + Sized {
         ensures value { OverList contract.steps self (λ l. CollectedAs C.made l result) }
         ensures contents { OverList contract.steps self
             (λ l. IfOk result (MadeOf C.made (collected l))) }
+        ensures failure { OverList contract.steps self
+            (λ l. (e : Self.Error) → result ≡ Err (Source e) → collected l ≡ Err e) }
     {
         let mut made = match C::empty(alloc) {
             Ok(made) => made,
@@ -972,6 +974,8 @@ pub trait FallibleIterator: Drop + Sized {
             (λ h l. PartedAs B.made h l result) }
         ensures contents { OverListWith (Acts (call_at F.FnMut) f) contract.steps self
             (λ h l. IfOk result (MadeOf (MadeOfSides B.made) (parted h l))) }
+        ensures failure { OverListWith (Acts (call_at F.FnMut) f) contract.steps self
+            (λ h l. (e : Self.Error) → result ≡ Err (Source e) → parted h l ≡ Err e) }
     {
         let first = match B::empty(alloc) {
             Ok(made) => made,
@@ -1020,6 +1024,8 @@ pub trait FallibleIterator: Drop + Sized {
             (λ l. UnzippedAs FromA.made FromB.made l result) }
         ensures contents { OverList contract.steps self
             (λ l. IfOk result (MadeOf (MadeOfParts FromA.made FromB.made) (collected l))) }
+        ensures failure { OverList contract.steps self
+            (λ l. (e : Self.Error) → result ≡ Err (Source e) → collected l ≡ Err e) }
     {
         let first = match FromA::empty(alloc) {
             Ok(made) => made,

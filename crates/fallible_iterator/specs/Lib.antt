@@ -36,3 +36,4 @@ pub use Rattle.fallible_core.specs.Joining
 pub use Rattle.fallible_core.specs.OneToOne
 pub use Rattle.fallible_core.specs.Peeking
 pub use Rattle.fallible_contract.specs.declared.answers.Side
+pub use Rattle.fallible_contract.specs.declared.collecting.Fault

@@ -8,7 +8,7 @@ use Rattle.fallible_contract.proofs.Lemmas.Lists.Passing.{lists_seen}
 use Rattle.fallible_iterator.specs.Traces.{Answered, end}
 use Rattle.fallible_iterator.specs.Contract.{unbounded_contract, seen_as}
 use Rattle.fallible_iterator.specs.Lists.{AlwaysGives, Lists, result_answer}
-use Rattle.fallible_rows.specs.Reading.{NeverFails}
+use Rattle.fallible_rows.specs.Reading.{NoReadFails}
 use Rattle.fallible_rows.specs.Rows.{rows, row_number}
 use Rattle.fallible_rows.specs.RowTraces.{rows_parts, begun, told_place, answer_of_number, row_result, row_results, DrawsRow, row_step}
 use Rattle.fallible_rows.proofs.RowLemmas.{rows-none, rows-row, rows-one}
@@ -40,7 +40,7 @@ left_of None new bytes known is taken = absurd cc
 left_of (Some x) None bytes known is taken = absurd taken
 left_of (Some x) (Some y) bytes known is taken = let same : x ≡ known = cc in (y, refl, sym same ∙ taken, λ e. e)
 
-module _ {B : Type 0} (left : B → Option (List ℕ)) (stays : Bool → B → B → Type 0) (never : NeverFails stays) where
+module _ {B : Type 0} (left : B → Option (List ℕ)) (stays : Bool → B → B → Type 0) (never : NoReadFails stays) where
   -- one draw of a list takes its first
   abbrev Takes : Answered ℕ RowFault → B × Option Ahead → Results → Type 0
   Takes answer p [] = answer ≡ end

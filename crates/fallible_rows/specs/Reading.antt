@@ -23,8 +23,8 @@ module _ {R : Type 0} (left : R → Option (List ℕ)) (stays : Bool → R → R
   ReadsOne r (Err e) q = FailsToRead r q
 
 -- no read of any such reader fails
-abbrev pub NeverFails : {R : Type 0} → (Bool → R → R → Type 0) → Type 0
-NeverFails {R} stays = (r q : R) → stays true r q → ⊥
+abbrev pub NoReadFails : {R : Type 0} → (Bool → R → R → Type 0) → Type 0
+NoReadFails {R} stays = (r q : R) → stays true r q → ⊥
 
 -- what is left of bytes: they themselves
 abbrev pub bytes_left : Bytes → Option (List ℕ)

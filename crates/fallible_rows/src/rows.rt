@@ -4,7 +4,7 @@ ghost use Rattle.fallible_iterator.specs.Contract.{unbounded_contract, seen_as};
 ghost use Rattle.fallible_iterator.specs.Laws.Contract.{lawful_seen};
 ghost use Rattle.fallible_iterator.specs.Laws.BoundsRuns.{lawful_unbounded};
 ghost use Rattle.fallible_iterator.specs.Lists.{Lists};
-ghost use Rattle.fallible_rows.specs.Reading.{NeverFails};
+ghost use Rattle.fallible_rows.specs.Reading.{NoReadFails};
 ghost use Rattle.fallible_rows.specs.Rows.{rows};
 ghost use Rattle.fallible_rows.specs.RowTraces.{rows_parts, begun, row_step, row_results};
 ghost use Rattle.fallible_rows.specs.Digits.{ReadsRow};
@@ -41,7 +41,7 @@ impl<B: ReadByte> Rows<B> {
     /// The rows of `reader`, of which at most `u64::MAX` bytes are read. It reads nothing.
     pub fn new(reader: B) -> Rows<B>
         ensures parts { rows_parts result ≡ begun reader (2 ^ 64 - 1) }
-        ensures lists { (bytes : List ℕ) → NeverFails B.stays → B.left reader ≡ Some bytes
+        ensures lists { (bytes : List ℕ) → NoReadFails B.stays → B.left reader ≡ Some bytes
             → length bytes < 2 ^ 64 - 1
             → Lists (seen_as rows_parts (unbounded_contract (row_step B.left B.stays))).steps
             result (row_results 1 (rows bytes)) }
@@ -52,7 +52,7 @@ impl<B: ReadByte> Rows<B> {
     /// The rows of `reader`, of which at most `limit` bytes are read. It reads nothing.
     pub fn with_limit(reader: B, limit: u64) -> Rows<B>
         ensures parts { rows_parts result ≡ begun reader limit }
-        ensures lists { (bytes : List ℕ) → NeverFails B.stays → B.left reader ≡ Some bytes
+        ensures lists { (bytes : List ℕ) → NoReadFails B.stays → B.left reader ≡ Some bytes
             → length bytes < limit
             → Lists (seen_as rows_parts (unbounded_contract (row_step B.left B.stays))).steps
             result (row_results 1 (rows bytes)) }

@@ -3,7 +3,7 @@ use Rattle.std.specs.Prelude.{◌≡◌, ◌↔◌, ℕ, ◌+◌, ◌≤◌, ◌
 use Rattle.std.proofs.Common.{refl, sym, ap, subst, ◌∙◌, arith, inl, inr}
 use Rattle.fallible_contract.specs.Traces.{Answered, item}
 use Rattle.fallible_contract.specs.Contract.{Contract, Fewer}
-use Rattle.fallible_contract.specs.Comparing.{OneOf, LastRound, Compared, ComparedWith, by_cmp, unless_equal, decided}
+use Rattle.fallible_contract.specs.Comparing.{OneOf, LastRound, Compared, ComparedWith, by_cmp, decided_order, decided_round}
 use Rattle.std.specs.declared.cmp.Ordering.{Ordering}
 use Rattle.std.specs.declared.cmp.Ordering.TheVariants.{Less, Equal, Greater}
 
@@ -43,27 +43,27 @@ module _ {A E : Type 0} (rule : A → A → Option Ordering) where
   has_order some (Ok (Some x)) (Some (Ok (Some y))) h = some x y (let e = h.0 in cc)
 
 module _ {A : Type 0} (rule : A → A → Option Ordering) where
-  decides_unequal : {E : Type 0} (x y : A) (o r : Option Ordering) → rule x y ≡ o → unless_equal o ≡ Some r → LastRound {E = E} rule (Ok (Some x)) (Some (Ok (Some y))) (Ok r)
+  decides_unequal : {E : Type 0} (x y : A) (o r : Option Ordering) → rule x y ≡ o → decided_order o ≡ Some r → LastRound {E = E} rule (Ok (Some x)) (Some (Ok (Some y))) (Ok r)
   decides_unequal x y None r same e = items_decide rule x y r (same ∙ let q = e in cc) (λ h. absurd (let q = e in cc))
   decides_unequal x y (Some Less) r same e = items_decide rule x y r (same ∙ let q = e in cc) (λ h. absurd (let q = e in cc))
   decides_unequal x y (Some Equal) r same e = absurd cc
   decides_unequal x y (Some Greater) r same e = items_decide rule x y r (same ∙ let q = e in cc) (λ h. absurd (let q = e in cc))
 
   -- what a round decided is the answer of the last round
-  pub round_decides : (E : Type 0) (x y : Option A) (r : Option Ordering) → decided rule x y ≡ Some r → LastRound {E = E} rule (Ok x) (Some (Ok y)) (Ok r)
+  pub round_decides : (E : Type 0) (x y : Option A) (r : Option Ordering) → decided_round rule x y ≡ Some r → LastRound {E = E} rule (Ok x) (Some (Ok y)) (Ok r)
   round_decides E None None r e = let q = e in cc
   round_decides E None (Some y) r e = let q = e in cc
   round_decides E (Some x) None r e = let q = e in cc
   round_decides E (Some x) (Some y) r e = decides_unequal x y (rule x y) r refl e
 
-  equal_alone : (o : Option Ordering) → unless_equal o ≡ None → o ≡ Some Equal
+  equal_alone : (o : Option Ordering) → decided_order o ≡ None → o ≡ Some Equal
   equal_alone None e = absurd cc
   equal_alone (Some Less) e = absurd cc
   equal_alone (Some Equal) e = refl
   equal_alone (Some Greater) e = absurd cc
 
   -- a round that decided nothing was one of two equal items
-  pub round_goes_on : (x y : Option A) → decided rule x y ≡ None → (a : A) × (b : A) × (x ≡ Some a) × (y ≡ Some b) × (rule a b ≡ Some Equal)
+  pub round_goes_on : (x y : Option A) → decided_round rule x y ≡ None → (a : A) × (b : A) × (x ≡ Some a) × (y ≡ Some b) × (rule a b ≡ Some Equal)
   round_goes_on None None e = absurd cc
   round_goes_on None (Some y) e = absurd cc
   round_goes_on (Some x) None e = absurd cc

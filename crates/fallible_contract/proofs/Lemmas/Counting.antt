@@ -2,7 +2,7 @@
 use Rattle.std.specs.Prelude.{◌≡◌, ℕ, zero, suc, ◌+◌, ◌-◌, ◌<◌, List, [], ◌∷◌, Option, Some, None, Ok, Err, Bool, true, false}
 use Rattle.std.proofs.Common.{refl, sym, ap, subst, arith}
 use Rattle.fallible_contract.specs.Traces.{LastKept, Answered, Run, item, end, failure, items_in}
-use Rattle.fallible_contract.specs.Counting.{numbered, is_kept, kept, KeptByNumber}
+use Rattle.fallible_contract.specs.Counting.{with_numbers, is_kept, kept, KeptByNumber}
 use Rattle.fallible_contract.specs.Laws.Counting.{last_tail, no_answers}
 
 -- How the numbers that are kept and the numbers of items still to be left out fit: `fits j k` where the next item has number k, and j items are left out before one is kept.
@@ -58,35 +58,35 @@ module _ {A E : Type 0} (keeps : ℕ → Bool) where
 
 module _ {S A E : Type 0} (steps : S → Answered A E → S → Type 0) {between : ℕ} {keeps : ℕ → Bool} {left_after : ℕ → ℕ} {fits : ℕ → ℕ → Type 0} (F : Fits keeps between left_after fits) where
   -- what such a trace was drawn from, where the first item has number c
-  to_source : {j k : ℕ} {s t : S} {trace : List (Answered A E)} (c : ℕ) → fits j c → Leaves steps between j s trace t k → (source : List (Answered A E)) × Run steps s source t × (trace ≡ kept keeps (numbered c source)) × LastKept (is_kept keeps) (numbered c source) × fits k (c + items_in source)
+  to_source : {j k : ℕ} {s t : S} {trace : List (Answered A E)} (c : ℕ) → fits j c → Leaves steps between j s trace t k → (source : List (Answered A E)) × Run steps s source t × (trace ≡ kept keeps (with_numbers c source)) × LastKept (is_kept keeps) (with_numbers c source) × fits k (c + items_in source)
   to_source {j} c f none = ([], refl, refl, tt, subst (λ (i : ℕ). fits j i) (omega arith) f)
   to_source {k = k} c f (keeps_item {u = u} x step more) =
       let h = F.kept c f in
       let d = to_source (c + 1) h.1 more in
-      (item x ∷ d.0, (u, step, d.1), rw h.0 (ap {B = List (Answered A E)} (λ l. item x ∷ l) d.2), last_cons keeps (Some c, item x) (numbered (c + 1) d.0) h.0 d.3, subst (λ (i : ℕ). fits k i) (omega arith) d.4)
-  to_source c f (keeps_end {u = u} step more) = let d = to_source c f more in (end ∷ d.0, (u, step, d.1), ap {B = List (Answered A E)} (λ l. end ∷ l) d.2, last_cons keeps (None, end) (numbered c d.0) refl d.3, d.4)
-  to_source c f (keeps_failure {u = u} e step more) = let d = to_source c f more in (failure e ∷ d.0, (u, step, d.1), ap {B = List (Answered A E)} (λ l. failure e ∷ l) d.2, last_cons keeps (None, failure e) (numbered c d.0) refl d.3, d.4)
+      (item x ∷ d.0, (u, step, d.1), rw h.0 (ap {B = List (Answered A E)} (λ l. item x ∷ l) d.2), last_cons keeps (Some c, item x) (with_numbers (c + 1) d.0) h.0 d.3, subst (λ (i : ℕ). fits k i) (omega arith) d.4)
+  to_source c f (keeps_end {u = u} step more) = let d = to_source c f more in (end ∷ d.0, (u, step, d.1), ap {B = List (Answered A E)} (λ l. end ∷ l) d.2, last_cons keeps (None, end) (with_numbers c d.0) refl d.3, d.4)
+  to_source c f (keeps_failure {u = u} e step more) = let d = to_source c f more in (failure e ∷ d.0, (u, step, d.1), ap {B = List (Answered A E)} (λ l. failure e ∷ l) d.2, last_cons keeps (None, failure e) (with_numbers c d.0) refl d.3, d.4)
   to_source {k = k} c f (leaves_out {j = j} {u = u} {r = r} {trace = trace} x step more) =
       let h = F.left_out j c f in
       let d = to_source (c + 1) h.1 more in
-      (item x ∷ d.0, (u, step, d.1), rw h.0 d.2, last_before keeps (Some c, item x) (numbered (c + 1) d.0) r trace d.2 d.3, subst (λ (i : ℕ). fits k i) (omega arith) d.4)
+      (item x ∷ d.0, (u, step, d.1), rw h.0 d.2, last_before keeps (Some c, item x) (with_numbers (c + 1) d.0) r trace d.2 d.3, subst (λ (i : ℕ). fits k i) (omega arith) d.4)
 
-  from_source : (source : List (Answered A E)) (c j : ℕ) (s t : S) (trace : List (Answered A E)) → fits j c → Run steps s source t → trace ≡ kept keeps (numbered c source) → LastKept (is_kept keeps) (numbered c source) → (k : ℕ) × fits k (c + items_in source) × Leaves steps between j s trace t k
+  from_source : (source : List (Answered A E)) (c j : ℕ) (s t : S) (trace : List (Answered A E)) → fits j c → Run steps s source t → trace ≡ kept keeps (with_numbers c source) → LastKept (is_kept keeps) (with_numbers c source) → (k : ℕ) × fits k (c + items_in source) × Leaves steps between j s trace t k
   from_source [] c j s t trace f ran e last = (j, subst (λ (i : ℕ). fits j i) (omega arith) f, rw (e, sym ran) none)
   from_source (Ok (Some x) ∷ source) c zero s t trace f ran e last =
       let h = F.kept c f in
-      let d = from_source source (c + 1) between ran.0 t _ h.1 ran.2 refl (last_tail keeps (Some c, item x) (numbered (c + 1) source) last) in
+      let d = from_source source (c + 1) between ran.0 t _ h.1 ran.2 refl (last_tail keeps (Some c, item x) (with_numbers (c + 1) source) last) in
       (d.0, subst (λ (i : ℕ). fits d.0 i) (omega arith) d.1, rw (rw h.0 at e) (keeps_item x ran.1 d.2))
   from_source (Ok (Some x) ∷ source) c (suc j) s t [] f ran e last =
       let h = F.left_out j c f in
-      let none_at : source ≡ [] = no_answers keeps source (c + 1) (last_tail keeps (Some c, item x) (numbered (c + 1) source) last) (sym (rw h.0 at e)) in
+      let none_at : source ≡ [] = no_answers keeps source (c + 1) (last_tail keeps (Some c, item x) (with_numbers (c + 1) source) last) (sym (rw h.0 at e)) in
       absurd (let at : keeps c ≡ true = rw none_at at last in let d : true ≡ false = cc in cc)
   from_source (Ok (Some x) ∷ source) c (suc j) s t (r ∷ trace) f ran e last =
       let h = F.left_out j c f in
-      let d = from_source source (c + 1) j ran.0 t (r ∷ trace) h.1 ran.2 (rw h.0 at e) (last_tail keeps (Some c, item x) (numbered (c + 1) source) last) in
+      let d = from_source source (c + 1) j ran.0 t (r ∷ trace) h.1 ran.2 (rw h.0 at e) (last_tail keeps (Some c, item x) (with_numbers (c + 1) source) last) in
       (d.0, subst (λ (i : ℕ). fits d.0 i) (omega arith) d.1, leaves_out {k = d.0} x ran.1 d.2)
-  from_source (Ok None ∷ source) c j s t trace f ran e last = let d = from_source source c j ran.0 t _ f ran.2 refl (last_tail keeps (None, end) (numbered c source) last) in (d.0, d.1, rw e (keeps_end ran.1 d.2))
-  from_source (Err b ∷ source) c j s t trace f ran e last = let d = from_source source c j ran.0 t _ f ran.2 refl (last_tail keeps (None, failure b) (numbered c source) last) in (d.0, d.1, rw e (keeps_failure b ran.1 d.2))
+  from_source (Ok None ∷ source) c j s t trace f ran e last = let d = from_source source c j ran.0 t _ f ran.2 refl (last_tail keeps (None, end) (with_numbers c source) last) in (d.0, d.1, rw e (keeps_end ran.1 d.2))
+  from_source (Err b ∷ source) c j s t trace f ran e last = let d = from_source source c j ran.0 t _ f ran.2 refl (last_tail keeps (None, failure b) (with_numbers c source) last) in (d.0, d.1, rw e (keeps_failure b ran.1 d.2))
 
   pub by_number : {j k : ℕ} {s t : S} {trace : List (Answered A E)} → fits j 1 → Leaves steps between j s trace t k → KeptByNumber keeps left_after steps s trace t k
   by_number {k = k} f h = let d = to_source 1 f h in record { source_trace = d.0; drawn = d.1; answers = d.2; last_kept = d.3; remaining = F.after k (items_in d.0) d.4 }

@@ -92,13 +92,13 @@ Peeks steps (s, Some o) r (t, held) = (r ≡ Ok o) × (t ≡ s) × (held ≡ Som
 Peeks steps (s, None) r (t, held) = steps s r t × (held ≡ held_of r)
 
 -- whether the answer was a failure, and which
-abbrev pub told : {A E : Type 0} → Answered A E → Result (Unit {0}) E
-told (Ok x) = Ok tt
-told (Err e) = Err e
+abbrev pub failure_told : {A E : Type 0} → Answered A E → Result (Unit {0}) E
+failure_told (Ok x) = Ok tt
+failure_told (Err e) = Err e
 
 -- where nothing is held, one answer is drawn, and an item or an end is held; a failure is told
 abbrev pub Fills : {S A E : Type 0} → (S → Answered A E → S → Type 0) → S × Option (Option A) → Result (Unit {0}) E → S × Option (Option A) → Type 0
-Fills {A = A} {E = E} steps p r q = (a : Answered A E) × Peeks steps p a q × (r ≡ told a)
+Fills {A = A} {E = E} steps p r q = (a : Answered A E) × Peeks steps p a q × (r ≡ failure_told a)
 
 -- the held item, if it is one that is held
 abbrev pub held_item : {A : Type 0} → Option (Option A) → Option A

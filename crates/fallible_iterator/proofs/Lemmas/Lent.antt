@@ -7,12 +7,12 @@ use Rattle.fallible_contract.specs.Traces.{Answered, Run, item, end}
 use Rattle.fallible_contract.specs.Contract.{Contract, seen_as, unbounded_contract}
 use Rattle.fallible_contract.specs.Closures.{call_at}
 use Rattle.fallible_contract.specs.Folds.{Folded, FoldExit, Nth, NthExit}
-use Rattle.fallible_contract.specs.Lists.{Acts, AlwaysGives, Lists, nth_of, behind_first, behind_nth}
+use Rattle.fallible_contract.specs.Lists.{Acts, AlwaysGives, Lists, nth_of, on_value, behind_first, behind_nth}
 use Rattle.fallible_core.specs.Borrowed.{borrowed}
 use Rattle.fallible_core.specs.Cutting.Take.{take_parts, take_contract, taken}
 use Rattle.fallible_core.specs.Filtering.Filter.{filter_parts, filter_contract}
 use Rattle.fallible_core.specs.Joining.Chain.{chain_step, chain_contract, chain_parts}
-use Rattle.fallible_core.specs.Joining.Zip.{ZipPlace, left_failed, both_drawn, left_answer, right_answer, right_step, zip_answer, zip_contract, zip_parts}
+use Rattle.fallible_core.specs.Joining.Zip.{ZipPlace, left_failed, both_drawn, left_answer, right_step, zip_answer, zip_contract, zip_parts, zipped}
 use Rattle.fallible_contract.proofs.Lemmas.Lists.Behind.{first_is, behind_first_is}
 use Rattle.fallible_core.proofs.Lemmas.Borrowed.{run_behind, lists_borrowed}
 use Rattle.fallible_core.proofs.Lemmas.Callers.{TakenRun, filtered_run, taken_run}
@@ -134,30 +134,54 @@ module _ {S P A E : Type 0} {steps : S → Answered A E → S → Type 0} {g : M
 abbrev pub lent_zip_steps : {S U A B E : Type 0} → (S → Answered A E → S → Type 0) → (U → Answered B E → U → Type 0) → Zip (MutBor S) (MutBor U) → Answered (A × B) E → Zip (MutBor S) (MutBor U) → Type 0
 lent_zip_steps steps others = (seen_as zip_parts (zip_contract (borrowed (unbounded_contract steps)) (borrowed (unbounded_contract others)))).steps
 
-module _ {A B E : Type 0} (x : A) (y : B) where
-  -- what a place answers at which each side has an item
-  pair_at : (p : ZipPlace A B E) → left_answer p ≡ Ok (Some x) → ((w : Answered B E) → right_answer p ≡ Some w → w ≡ Ok (Some y)) → zip_answer p ≡ Ok (Some (x, y))
-  pair_at (left_failed e) is right = absurd cc
-  pair_at (both_drawn None r) is right = absurd cc
-  pair_at (both_drawn (Some z) (Ok (Some w))) is right = let e = right (Ok (Some w)) refl in cc
-  pair_at (both_drawn (Some z) (Ok None)) is right = absurd (let e = right (Ok None) refl in cc)
-  pair_at (both_drawn (Some z) (Err d)) is right = absurd (let e = right (Err d) refl in cc)
+-- what an item of the left and an answer of the right make
+abbrev paired : {A B E : Type 0} → A → Answered B E → Answered (A × B) E
+paired x (Ok (Some y)) = Ok (Some (x, y))
+paired x (Ok None) = Ok None
+paired x (Err e) = Err e
 
-  right_drawn : {U : Type 0} (others : U → Answered B E → U → Type 0) (p : ZipPlace A B E) (u v : U) → left_answer p ≡ Ok (Some x) → right_step others u p v → (w : Answered B E) × (right_answer p ≡ Some w) × others u w v
-  right_drawn others (left_failed e) u v is step = absurd cc
-  right_drawn others (both_drawn z r) u v is step = (r, refl, step)
+-- where the left has an item, the right was drawn, and the place answers what both make
+right_drawn : {A B E U : Type 0} (x : A) (others : U → Answered B E → U → Type 0) (p : ZipPlace A B E) (u v : U) → left_answer p ≡ Ok (Some x) → right_step others u p v → (d : Answered B E) × others u d v × (zip_answer p ≡ paired x d)
+right_drawn x others (left_failed e) u v is step = absurd cc
+right_drawn x others (both_drawn None d) u v is step = absurd cc
+right_drawn x others (both_drawn (Some z) (Ok (Some y))) u v is step = (Ok (Some y), step, cc)
+right_drawn x others (both_drawn (Some z) (Ok None)) u v is step = (Ok None, step, refl)
+right_drawn x others (both_drawn (Some z) (Err e)) u v is step = (Err e, step, refl)
 
-module _ {S U A B E : Type 0} {steps : S → Answered A E → S → Type 0} {others : U → Answered B E → U → Type 0} {it : MutBor S} {other : MutBor U} (s t : Zip (MutBor S) (MutBor U)) {r : Answered (A × B) E} {a : List (Result A E)} {b : List (Result B E)} {x : A} {y : B} where
-  -- A draw over `zip` of two borrows that both have an item answers the pair, and leaves each lender without its first.
-  pub pair_lent : s.left ≡ it → s.right ≡ other → lent_zip_steps steps others s r t → Lists steps it.now a → Lists others other.now b → nth_of 0 a ≡ Ok (Some x) → nth_of 0 b ≡ Ok (Some y) → (r ≡ Ok (Some (x, y))) × Lists steps t.left.now (behind_first a) × Lists others t.right.now (behind_first b)
-  pair_lent left right w i j first second =
-      let of_left : steps it.now (left_answer w.0) t.left.now = subst (λ (u : MutBor S). steps u.now (left_answer w.0) t.left.now) left w.1.0 in
-      let is : left_answer w.0 ≡ Ok (Some x) = first_is t.left.now a of_left i ∙ first in
-      let d = right_drawn x y (borrowed (unbounded_contract others)).steps w.0 s.right t.right is w.2 in
-      let of_right : others other.now d.0 t.right.now = subst (λ (u : MutBor U). others u.now d.0 t.right.now) right d.2.0 in
-      let same : d.0 ≡ Ok (Some y) = first_is t.right.now b of_right j ∙ second in
-      let one = pair_at x y w.0 is (λ v e. let k = d.1 in cc) in
-      (w.3 ∙ one, behind_first_is a of_left i (λ e. cc), behind_first_is b of_right j (λ e. cc))
+-- what a place answers at which the left failed
+left_failed_at : {A B E : Type 0} {e : E} (p : ZipPlace A B E) → left_answer p ≡ Err e → zip_answer p ≡ Err e
+left_failed_at (left_failed d) is = cc
+left_failed_at (both_drawn z r) is = absurd cc
+
+-- what a step of a borrow makes of the value behind it
+lent_step : {S A E : Type 0} (steps : S → Answered A E → S → Type 0) {it u : MutBor S} (v : MutBor S) (r : Answered A E) → u ≡ it → steps u.now r v.now → steps it.now r v.now
+lent_step steps v r same step = subst (λ (u : MutBor _). steps u.now r v.now) same step
+
+module _ {S U A B E : Type 0} {steps : S → Answered A E → S → Type 0} {others : U → Answered B E → U → Type 0} {it : MutBor S} {other : MutBor U} (s t : Zip (MutBor S) (MutBor U)) {r : Answered (A × B) E} where
+  -- A draw over `zip` of two borrows answers the first pair, or the failure in its place, where the lists don't end there. A pair leaves each lender without its first.
+  pub pair_lent : (a : List (Result A E)) (b : List (Result B E)) → s.left ≡ it → s.right ≡ other → lent_zip_steps steps others s r t → Lists steps it.now a → Lists others other.now b → ¬ (nth_of 0 (zipped a b) ≡ Ok None) → (r ≡ nth_of 0 (zipped a b)) × ((p : Option (A × B)) → r ≡ Ok p → Lists steps t.left.now (behind_first a) × Lists others t.right.now (behind_first b))
+  unfolding nth_of zipped
+  pair_lent [] b left right w i j no_end = absurd (no_end refl)
+  pair_lent (Ok x ∷ a) [] left right w i j no_end = absurd (no_end refl)
+  pair_lent (Err e ∷ a) b left right w i j no_end =
+      let failed : r ≡ Err e = w.3 ∙ left_failed_at w.0 (first_is t.left.now (Err e ∷ a) (lent_step steps t.left (left_answer w.0) left w.1.0) i) in
+      (failed, λ p is. absurd cc)
+  pair_lent (Ok x ∷ a) (Ok y ∷ b) left right w i j no_end =
+      let of_left : steps it.now (left_answer w.0) t.left.now = lent_step steps t.left (left_answer w.0) left w.1.0 in
+      let at_left : left_answer w.0 ≡ Ok (Some x) = first_is t.left.now (Ok x ∷ a) of_left i in
+      let d = right_drawn x (borrowed (unbounded_contract others)).steps w.0 s.right t.right at_left w.2 in
+      let of_right : others other.now d.0 t.right.now = lent_step others t.right d.0 right d.1.0 in
+      let same : d.0 ≡ Ok (Some y) = first_is t.right.now (Ok y ∷ b) of_right j in
+      let pair : r ≡ Ok (Some (x, y)) = w.3 ∙ d.2 ∙ ap (paired x) same in
+      (pair, λ p is. (behind_first_is (Ok x ∷ a) of_left i (λ e. cc), behind_first_is (Ok y ∷ b) of_right j (λ e. cc)))
+  pair_lent (Ok x ∷ a) (Err e ∷ b) left right w i j no_end =
+      let of_left : steps it.now (left_answer w.0) t.left.now = lent_step steps t.left (left_answer w.0) left w.1.0 in
+      let at_left : left_answer w.0 ≡ Ok (Some x) = first_is t.left.now (Ok x ∷ a) of_left i in
+      let d = right_drawn x (borrowed (unbounded_contract others)).steps w.0 s.right t.right at_left w.2 in
+      let of_right : others other.now d.0 t.right.now = lent_step others t.right d.0 right d.1.0 in
+      let same : d.0 ≡ Err e = first_is t.right.now (Err e ∷ b) of_right j in
+      let failed : r ≡ Err e = w.3 ∙ d.2 ∙ ap (paired x) same in
+      (failed, λ p is. absurd cc)
 
 -- ---- a chain of two borrows
 
@@ -165,36 +189,34 @@ module _ {S U A B E : Type 0} {steps : S → Answered A E → S → Type 0} {oth
 abbrev pub lent_chain_steps : {S U A E : Type 0} → (S → Answered A E → S → Type 0) → (U → Answered A E → U → Type 0) → Chain (MutBor S) (MutBor U) → Answered A E → Chain (MutBor S) (MutBor U) → Type 0
 lent_chain_steps steps others = (seen_as chain_parts (chain_contract (borrowed (unbounded_contract steps)) (borrowed (unbounded_contract others)))).steps
 
-module _ {S U A E : Type 0} (steps : S → Answered A E → S → Type 0) (others : U → Answered A E → U → Type 0) (x : A) where
-  -- what the chain's step is of while both sides are still drawn, and the first has an item
-  item_of_first : (c d : MutBor S × MutBor U × StillDrawn) (r : Answered A E) (a : List (Result A E)) → c.2 ≡ Both → chain_step (borrowed (unbounded_contract steps)).steps (borrowed (unbounded_contract others)).steps c r d → Lists steps c.0.now a → nth_of 0 a ≡ Ok (Some x) → steps c.0.now r d.0.now × (r ≡ Ok (Some x)) × (d.1 ≡ c.1)
-  item_of_first (s, u, Both) (t, v, k) r a at (inl w) i first = (w.0.0, first_is t.now a w.0.0 i ∙ first, w.2)
-  item_of_first (s, u, Both) (t, v, k) r a at (inr w) i first = absurd (let e = first_is t.now a w.0.0 i ∙ first in cc)
-  item_of_first (s, u, FirstAlone) d r a at w i first = absurd cc
-  item_of_first (s, u, SecondAlone) d r a at w i first = absurd cc
+module _ {S U A E : Type 0} (steps : S → Answered A E → S → Type 0) (others : U → Answered A E → U → Type 0) where
+  -- what the chain's step is of while both sides are still drawn, and the first doesn't end
+  drawn_of_first : (c d : MutBor S × MutBor U × StillDrawn) (r : Answered A E) (a : List (Result A E)) → c.2 ≡ Both → chain_step (borrowed (unbounded_contract steps)).steps (borrowed (unbounded_contract others)).steps c r d → Lists steps c.0.now a → ¬ (nth_of 0 a ≡ Ok None) → steps c.0.now r d.0.now × (d.1 ≡ c.1)
+  drawn_of_first (s, u, Both) (t, v, k) r a at (inl w) i no_end = (w.0.0, w.2)
+  drawn_of_first (s, u, Both) (t, v, k) r a at (inr w) i no_end = absurd (no_end (sym (first_is t.now a w.0.0 i)))
+  drawn_of_first (s, u, FirstAlone) d r a at w i no_end = absurd cc
+  drawn_of_first (s, u, SecondAlone) d r a at w i no_end = absurd cc
 
-module _ {S U A E : Type 0} {steps : S → Answered A E → S → Type 0} {others : U → Answered A E → U → Type 0} {it : MutBor S} {other : MutBor U} (s t : Chain (MutBor S) (MutBor U)) {r : Answered A E} {a b : List (Result A E)} {x : A} where
-  -- A draw over `chain` of two borrows of which the first has an item answers that, and leaves the first lender without it, and the second as it was.
-  pub chain_lent : s.first ≡ it → s.second ≡ other → s.still_drawn ≡ Both → lent_chain_steps steps others s r t → Lists steps it.now a → Lists others other.now b → nth_of 0 a ≡ Ok (Some x) → (r ≡ Ok (Some x)) × Lists steps t.first.now (behind_first a) × Lists others t.second.now b
-  chain_lent first second still w i j is =
+module _ {S U A E : Type 0} {steps : S → Answered A E → S → Type 0} {others : U → Answered A E → U → Type 0} {it : MutBor S} {other : MutBor U} (s t : Chain (MutBor S) (MutBor U)) {r : Answered A E} {a b : List (Result A E)} where
+  -- A draw over `chain` of two borrows of which the first doesn't end answers its first, and leaves the first lender without it, and the second as it was.
+  pub chain_lent : s.first ≡ it → s.second ≡ other → s.still_drawn ≡ Both → lent_chain_steps steps others s r t → Lists steps it.now a → Lists others other.now b → ¬ (nth_of 0 a ≡ Ok None) → (r ≡ nth_of 0 a) × Lists steps t.first.now (behind_first a) × Lists others t.second.now b
+  chain_lent first second still w i j no_end =
       let listed : Lists steps s.first.now a = subst (λ (u : MutBor S). Lists steps u.now a) (sym first) i in
-      let d = item_of_first steps others x (chain_parts s) (chain_parts t) r a still w listed is in
-      (d.1, behind_first_is a d.0 listed (λ e. let k = d.1 in cc), subst (λ (u : MutBor U). Lists others u.now b) (sym (d.2 ∙ second)) j)
+      let d = drawn_of_first steps others (chain_parts s) (chain_parts t) r a still w listed no_end in
+      let is : r ≡ nth_of 0 a = first_is t.first.now a d.0 listed in
+      (is, behind_first_is a d.0 listed (λ e. no_end (sym is ∙ e)), subst (λ (u : MutBor U). Lists others u.now b) (sym (d.1 ∙ second)) j)
 
 -- what is listed of the value that a borrow left, which the lender is then
 pub returned : {S A E : Type 0} {steps : S → Answered A E → S → Type 0} {x y : S} {l : List (Result A E)} → x ≡ y → Lists steps y l → Lists steps x l
 returned back i = rw back i
 
--- ---- what a result says
+-- ---- what is made of a result
 
-module _ {X E : Type 0} {r v : Result X E} {b : X} where
-  -- a failure is no value
-  pub no_failure : {e : E} → r ≡ Err e → r ≡ v → v ≡ Ok b → ⊥
-  no_failure is same value = cc
+module _ {A B E : Type 0} {r v : Result A E} {q : Result B E} (f : A → Result B E) where
+  -- a failure stays
+  pub failure_stays : {e : E} → r ≡ Err e → r ≡ v → q ≡ Err e → q ≡ on_value v f
+  failure_stays is same fails = fails ∙ sym (ap (λ (w : Result A E). on_value w f) (sym same ∙ is))
 
-  -- one result has one value
-  pub one_value : {a : X} → r ≡ Ok a → r ≡ v → v ≡ Ok b → a ≡ b
-  one_value is same value = cc
-
-pub both : {X Y E : Type 0} {a c : X} {b d : Y} → a ≡ c → b ≡ d → ◌≡◌ {A = Result (X × Y) E} (Ok (a, b)) (Ok (c, d))
-both e h = cc
+  -- of a value it is what f makes of it
+  pub value_made : {x : A} → r ≡ Ok x → r ≡ v → q ≡ f x → q ≡ on_value v f
+  value_made is same made = made ∙ sym (ap (λ (w : Result A E). on_value w f) (sym same ∙ is))

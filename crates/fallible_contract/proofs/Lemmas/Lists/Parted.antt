@@ -85,3 +85,8 @@ unparted_as made h l a = tt
 pub contents_parted : {A E C : Type 0} (made : List A → C → Type 0) (h : A → Result Bool E) (l : List (Result A E)) (c : C × C) → PartedAs made h l (Ok c) → MadeOf (MadeOfSides made) (parted h l) c
 unfolding PartedAs
 contents_parted made h l c w = rw w.1 (w.2, w.3)
+
+-- the failure of the source or of the closure that `partition` answers is that of `parted`
+pub failure_parted : {A E C : Type 0} (made : List A → C → Type 0) (h : A → Result Bool E) (l : List (Result A E)) {r : Result (C × C) (Fault E)} {e : E} → PartedAs made h l r → r ≡ Err (Source e) → parted h l ≡ Err e
+unfolding PartedAs
+failure_parted made h l w is = subst (λ (r : Result _ (Fault _)). PartedBy made h l r) is w

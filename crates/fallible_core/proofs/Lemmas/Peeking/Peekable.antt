@@ -8,7 +8,7 @@ use Rattle.fallible_contract.specs.Contract.{Contract, KeptByDraw, Stays, Lawful
 use Rattle.fallible_contract.specs.Lists.{AlwaysGives, Lists}
 use Rattle.fallible_contract.proofs.Lemmas.Lists.Passing.{lists_seen}
 use Rattle.fallible_contract.specs.Laws.Contract.{stays_after, stays_here}
-use Rattle.fallible_core.specs.Peeking.Peekable.{peekable_parts, held_answers, behind_held, PeekableTrace, peekable_step, peekable_contract, seen, told, held_of, held_item, Fills, Peeks, Looks, TakenIf, NextIf}
+use Rattle.fallible_core.specs.Peeking.Peekable.{peekable_parts, held_answers, behind_held, PeekableTrace, peekable_step, peekable_contract, seen, failure_told, held_of, held_item, Fills, Peeks, Looks, TakenIf, NextIf}
 use Rattle.fallible_core.specs.Laws.Peeking.Peekable.{drawn_goes}
 use Rattle.fallible_core.specs.declared.peeking.peekable.Peekable.{Peekable}
 
@@ -84,7 +84,7 @@ module _ {S A E : Type 0} (steps : S → Answered A E → S → Type 0) where
   held_is (s, None) (t, held) a peeks = peeks.1
 
   -- what is answered, where a failure was told and else the held item is borrowed
-  answered_is : (a : Answered A E) (held : Option (Option A)) (shown : Option (Bor A)) (x : Result (Option (Bor A)) E) → held ≡ held_of a → option_copied shown ≡ held_item held → MatchResult (told a) (λ _. x ≡ Ok shown) (λ e. x ≡ Err e) → seen x ≡ a
+  answered_is : (a : Answered A E) (held : Option (Option A)) (shown : Option (Bor A)) (x : Result (Option (Bor A)) E) → held ≡ held_of a → option_copied shown ≡ held_item held → MatchResult (failure_told a) (λ _. x ≡ Ok shown) (λ e. x ≡ Err e) → seen x ≡ a
   answered_is (Ok (Some y)) held (Some z) x is copied joined = let same : Some z.now ≡ Some y = rw is at copied in let at : z.now ≡ y = cc in rw joined (ap (λ w. item w) at)
   answered_is (Ok (Some y)) held None x is copied joined = let none : None ≡ Some y = rw is at copied in absurd cc
   answered_is (Ok None) held (Some z) x is copied joined = let some : Some z.now ≡ None = rw is at copied in absurd cc
@@ -140,7 +140,7 @@ module _ {S A E : Type 0} (steps : S → Answered A E → S → Type 0) (test te
 
 -- ---- looking
 
-filled_with : {S A E : Type 0} (steps : S → Answered A E → S → Type 0) (p q : S × Option (Option A)) (a : Answered A E) (x : A) → Peeks steps p a q → Ok tt ≡ told a → held_item q.1 ≡ Some x → a ≡ Ok (Some x)
+filled_with : {S A E : Type 0} (steps : S → Answered A E → S → Type 0) (p q : S × Option (Option A)) (a : Answered A E) (x : A) → Peeks steps p a q → Ok tt ≡ failure_told a → held_item q.1 ≡ Some x → a ≡ Ok (Some x)
 filled_with steps (s, Some o) q a x w t h = cc
 filled_with steps (s, None) q (Ok o) x w t h = cc
 filled_with steps (s, None) q (Err e) x w t h = absurd cc

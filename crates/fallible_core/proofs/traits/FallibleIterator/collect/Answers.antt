@@ -3,7 +3,7 @@ use Rattle.std.specs.Prelude.{Ok, Err}
 use Rattle.std.proofs.Common.{inr, rules}
 use Rattle.fallible_contract.proofs.Lemmas.Collecting.{collected_all, collect_failed, collect_refused}
 use Rattle.fallible_contract.proofs.Lemmas.Folds.{ended_behind, failed_behind, stopped_behind}
-use Rattle.fallible_contract.proofs.Lemmas.Lists.Drawn.{collected_as, contents_collected, refused_as}
+use Rattle.fallible_contract.proofs.Lemmas.Lists.Drawn.{collected_as, contents_collected, failure_collected, refused_as}
 use Rattle.fallible_contract.specs.declared.collecting.Fault.TheVariants.{Source}
 use Rattle.fallible_core.proofs.traits.FallibleIterator.collect.Goals as goal
 
@@ -30,3 +30,6 @@ returns-clause-value g c l i = refused_as g.C.Collect.made l _
 
 pub returns-in-Ended-clause-contents : goal.returns-in-Ended-clause-contents
 returns-in-Ended-clause-contents g c l i = contents_collected g.C.Collect.made l _ (returns-in-Ended-clause-value g c l i)
+
+pub returns-in-Failed-clause-failure : goal.returns-in-Failed-clause-failure
+returns-in-Failed-clause-failure g c l i e is = failure_collected g.C.Collect.made l (returns-in-Failed-clause-value g c l i) is

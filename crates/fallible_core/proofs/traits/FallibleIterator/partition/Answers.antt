@@ -3,7 +3,7 @@ use Rattle.std.specs.Prelude.{Ok, Err}
 use Rattle.std.proofs.Common.{rules}
 use Rattle.fallible_contract.specs.Closures.{call_at, takes_at}
 use Rattle.fallible_contract.proofs.Lemmas.Parting.{part_callable, parted_ended, parted_failed, parted_stopped}
-use Rattle.fallible_contract.proofs.Lemmas.Lists.Parted.{parted_as, contents_parted, unparted_as}
+use Rattle.fallible_contract.proofs.Lemmas.Lists.Parted.{parted_as, contents_parted, failure_parted, unparted_as}
 use Rattle.fallible_contract.specs.declared.collecting.Fault.TheVariants.{Source}
 use Rattle.fallible_core.proofs.traits.FallibleIterator.partition.Goals as goal
 
@@ -36,3 +36,9 @@ returns-in-Err-empty-clause-value g c h l acts i = unparted_as g.B.Collect.made 
 
 pub returns-in-Ended-clause-contents : goal.returns-in-Ended-clause-contents
 returns-in-Ended-clause-contents g c h l acts i = contents_parted g.B.Collect.made h l _ (returns-in-Ended-clause-value g c h l acts i)
+
+pub returns-in-Failed-clause-failure : goal.returns-in-Failed-clause-failure
+returns-in-Failed-clause-failure g c h l acts i e is = failure_parted g.B.Collect.made h l (returns-in-Failed-clause-value g c h l acts i) is
+
+pub returns-clause-failure : goal.returns-clause-failure
+returns-clause-failure g c h l acts i e is = failure_parted g.B.Collect.made h l (returns-clause-value g c h l acts i) is

@@ -4,7 +4,7 @@ use Rattle.std.proofs.Common.{inr, rules}
 use Rattle.fallible_contract.specs.Collecting.{MadeOfParts, PairRefused}
 use Rattle.fallible_contract.proofs.Lemmas.Collecting.{collected_all, collect_failed, collect_refused, pair_pushed}
 use Rattle.fallible_contract.proofs.Lemmas.Folds.{ended_behind, failed_behind, stopped_behind}
-use Rattle.fallible_contract.proofs.Lemmas.Lists.Drawn.{unzipped_as, contents_unzipped, not_unzipped_as}
+use Rattle.fallible_contract.proofs.Lemmas.Lists.Drawn.{unzipped_as, contents_unzipped, failure_unzipped, not_unzipped_as}
 use Rattle.fallible_contract.specs.declared.collecting.Fault.TheVariants.{Source}
 use Rattle.fallible_core.proofs.traits.FallibleIterator.unzip.Goals as goal
 
@@ -34,3 +34,6 @@ returns-clause-value g c l i = not_unzipped_as g.FromA.Collect.made g.FromB.Coll
 
 pub returns-in-Ended-clause-contents : goal.returns-in-Ended-clause-contents
 returns-in-Ended-clause-contents g c l i = contents_unzipped g.FromA.Collect.made g.FromB.Collect.made l _ (returns-in-Ended-clause-value g c l i)
+
+pub returns-in-Failed-clause-failure : goal.returns-in-Failed-clause-failure
+returns-in-Failed-clause-failure g c l i e is = failure_unzipped g.FromA.Collect.made g.FromB.Collect.made l (returns-in-Failed-clause-value g c l i) is
