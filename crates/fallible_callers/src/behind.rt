@@ -1,10 +1,10 @@
 //! Draws from behind.
-ghost use Rattle.std.specs.Prelude.{eqb, ◌*◌, nat_lt, not, reverse, ◌≡◌, ℕ, ◌+◌, ◌++◌, ◌%◌, ◌^◌, [], ◌∷◌, List, Result, Ok, IfOk, Option, Some, None};
+ghost use Rattle.std.specs.Prelude.{eqb, ◌*◌, nat_lt, not, reverse, ◌≡◌, ℕ, ◌+◌, ◌++◌, ◌%◌, ◌^◌, [], ◌∷◌, List, Result, Ok, Err, IfOk, Option, Some, None};
 ghost use Rattle.std.specs.Vec.Iter.{into_iter_items};
 ghost use Rattle.fallible_iterator.specs.Side.{Side};
 ghost use Rattle.fallible_iterator.specs.Traces.{Answered};
 ghost use Rattle.fallible_iterator.specs.BothEnds.{ListsBothEnds};
-ghost use Rattle.fallible_iterator.specs.Lists.{Lists, answers_at_ends, results, reversed, folded, counted, behind_true, behind_first, behind_nth, found, nth_of, mapped, filtered, skipped_while, chained, CollectedAs};
+ghost use Rattle.fallible_iterator.specs.Lists.{Lists, answers_at_ends, results, reversed, folded, counted, behind_true, behind_first, behind_nth, found, nth_of, mapped, filtered, skipped_while, chained, CollectedAs, on_value};
 ghost use Rattle.fallible_iterator.specs.Listing.{DrawsInterleave};
 ghost use Rattle.fallible_iterator.specs.Sources.Convert.{convert_parts};
 ghost use Rattle.std.specs.declared.vec.IntoIter.{IntoIter};
@@ -21,18 +21,25 @@ use fallible_iterator::{
 };
 use std::alloc::{AllocError, Global};
 
-/// The last reading.
+/// The last reading, or a failure in its place; none where there is no reading.
 pub fn last_drawn(readings: Vec<Result<u32, u8>>) -> Result<Option<u32>, u8>
-    ensures { (front : List (Result ℕ ℕ)) (last : ℕ) → readings.items ≡ front ++ Ok last ∷ []
-        → result ≡ Ok (Some last) }
+    ensures last { (front : List (Result ℕ ℕ)) (last : ℕ)
+        → readings.items ≡ front ++ Ok last ∷ [] → result ≡ Ok (Some last) }
+    ensures fails { (front : List (Result ℕ ℕ)) (e : ℕ)
+        → readings.items ≡ front ++ Err e ∷ [] → result ≡ Err e }
+    ensures none { readings.items ≡ [] → result ≡ Ok None }
 {
     convert(readings.into_iter()).next_back()
 }
 
-/// The first reading and the last one, which are drawn in turn.
+/// The first reading and the last one, which are drawn in turn, or a failure in the place of one.
 pub fn first_and_last(readings: Vec<Result<u32, u8>>) -> Result<Option<(u32, u32)>, u8>
-    ensures { (first last : ℕ) (between : List (Result ℕ ℕ))
+    ensures both { (first last : ℕ) (between : List (Result ℕ ℕ))
         → readings.items ≡ Ok first ∷ (between ++ Ok last ∷ []) → result ≡ Ok (Some (first, last)) }
+    ensures first_fails { (e : ℕ) (rest : List (Result ℕ ℕ))
+        → readings.items ≡ Err e ∷ rest → result ≡ Err e }
+    ensures last_fails { (first e : ℕ) (between : List (Result ℕ ℕ))
+        → readings.items ≡ Ok first ∷ (between ++ Err e ∷ []) → result ≡ Err e }
 {
     let mut it = convert(readings.into_iter());
     match it.next()? {
@@ -44,10 +51,14 @@ pub fn first_and_last(readings: Vec<Result<u32, u8>>) -> Result<Option<(u32, u32
     }
 }
 
-/// How many readings there are besides the first and the last.
+/// How many readings there are besides the first and the last, or a failure: that of the first or of the last, and else the first between.
 pub fn count_between(readings: Vec<Result<u32, u8>>) -> Result<usize, u8>
-    ensures { (first last : ℕ) (between : List (Result ℕ ℕ))
+    ensures value { (first last : ℕ) (between : List (Result ℕ ℕ))
         → readings.items ≡ Ok first ∷ (between ++ Ok last ∷ []) → result ≡ counted between }
+    ensures first_fails { (e : ℕ) (rest : List (Result ℕ ℕ))
+        → readings.items ≡ Err e ∷ rest → result ≡ Err e }
+    ensures last_fails { (first e : ℕ) (between : List (Result ℕ ℕ))
+        → readings.items ≡ Ok first ∷ (between ++ Err e ∷ []) → result ≡ Err e }
 {
     law_listed_vec::<u32, u8>();
     law_draws::<Convert<std::vec::IntoIter<Result<u32, u8>, Global>>>();
@@ -89,31 +100,31 @@ pub fn three_answers(
     answers_at(alloc, &mut it, &[Side::Front, Side::Back, Side::Back])
 }
 
-/// The last but one item, once the last and the first were drawn, of any fallible iterator with two ends.
+/// The last but one item, once the last and the first were drawn, of any fallible iterator with two ends, or a failure in the place of one of these.
 pub fn last_but_one_of<I: DoubleEndedFallibleIterator>(
     it: &mut I,
 ) -> Result<Option<I::Item>, I::Error>
 where
     I::Item: Drop,
     requires { I.ends.can_next it.old }
-    ensures { (l : List (Result I.Item I.Error)) (first last : I.Item)
+    ensures { (l : List (Result I.Item I.Error))
         → ListsBothEnds I.contract.steps I.ends.steps it.old l
-        → nth_of 0 (reverse l) ≡ Ok (Some last)
-        → nth_of 0 (reverse (behind_first (reverse l))) ≡ Ok (Some first)
-        → result ≡ nth_of 0 (reverse (behind_first (reverse (behind_first (reverse l))))) }
+        → let left : List (Result I.Item I.Error) = reverse (behind_first (reverse l)) in
+        result ≡ on_value (nth_of 0 (reverse l)) (λ _. on_value (nth_of 0 left)
+        (λ _. nth_of 0 (reverse (behind_first left)))) }
 {
     it.draw_back()?;
     it.draw_front()?;
     it.draw_back()
 }
 
-/// The last but one of the doubled readings above 1000, once the last and the first were drawn.
+/// The last but one of the doubled readings above 1000, once the last and the first were drawn, or a failure from behind in the place of the last.
 pub fn last_but_one(readings: Vec<Result<u32, u8>>) -> Result<Option<u64>, u8>
     ensures { let l : List (Result ℕ ℕ) = filtered (λ x. Ok (nat_lt 1000 x))
-        (mapped (λ x. Ok (x * 2)) (results readings.items)) in (first last : ℕ)
-        → nth_of 0 (reverse l) ≡ Ok (Some last)
-        → nth_of 0 (reverse (behind_first (reverse l))) ≡ Ok (Some first)
-        → result ≡ nth_of 0 (reverse (behind_first (reverse (behind_first (reverse l))))) }
+        (mapped (λ x. Ok (x * 2)) (results readings.items)) in
+        let left : List (Result ℕ ℕ) = reverse (behind_first (reverse l)) in
+        result ≡ on_value (nth_of 0 (reverse l)) (λ _. on_value (nth_of 0 left)
+        (λ _. nth_of 0 (reverse (behind_first left)))) }
 {
     let doubled = convert(readings.into_iter()).map(|reading| Ok(u64::from(reading) * 2));
     law_listed_vec::<u32, u8>();
@@ -123,30 +134,33 @@ pub fn last_but_one(readings: Vec<Result<u32, u8>>) -> Result<Option<u64>, u8>
     last_but_one_of(&mut above)
 }
 
-/// The second item, once the first and the last were drawn, of any fallible iterator with two ends.
+/// The second item, once the first and the last were drawn, of any fallible iterator with two ends, or a failure in the place of one of these.
 pub fn second_between<I: DoubleEndedFallibleIterator>(
     it: &mut I,
 ) -> Result<Option<I::Item>, I::Error>
 where
     I::Item: Drop,
     requires { I.ends.can_next it.old }
-    ensures { (l : List (Result I.Item I.Error)) (first last : I.Item)
+    ensures { (l : List (Result I.Item I.Error))
         → ListsBothEnds I.contract.steps I.ends.steps it.old l
-        → nth_of 0 l ≡ Ok (Some first)
-        → nth_of 0 (reverse (behind_first l)) ≡ Ok (Some last)
-        → result ≡ nth_of 0 (reverse (behind_first (reverse (behind_first l)))) }
+        → let left : List (Result I.Item I.Error) = reverse (behind_first (reverse (behind_first l))) in
+        result ≡ on_value (nth_of 0 l) (λ _. on_value (nth_of 0 (reverse (behind_first l)))
+        (λ _. nth_of 0 left)) }
 {
     it.draw_front()?;
     it.draw_back()?;
     it.draw_front()
 }
 
-/// The last of the doubled readings, once the first three were passed over.
+/// The last of the doubled readings, once the first three were passed over, or a failure among these.
 pub fn last_after_three(readings: Vec<Result<u32, u8>>) -> Result<Option<u64>, u8>
-    ensures { (third : ℕ)
+    ensures value { (third : ℕ)
         → nth_of 2 (mapped (λ x. Ok (x * 2)) (results readings.items)) ≡ Ok (Some third)
         → result ≡ nth_of 0 (reverse (behind_nth 2
         (mapped (λ x. Ok (x * 2)) (results readings.items)))) }
+    ensures fails { (e : ℕ)
+        → nth_of 2 (mapped (λ x. Ok (x * 2)) (results readings.items)) ≡ Err e
+        → result ≡ Err e }
 {
     let mut it = convert(readings.into_iter()).map(|reading| Ok(u64::from(reading) * 2));
     law_listed_vec::<u32, u8>();
@@ -173,7 +187,7 @@ pub fn law_readings()
     law_interleave::<Convert<std::vec::IntoIter<Result<u32, u8>, Global>>>();
 }
 
-/// The last item behind the first 0, of any fallible iterator with two ends.
+/// The last item behind the first 0, of any fallible iterator with two ends; none where there is no 0, and the first failure before.
 pub fn last_behind_zero<I: DoubleEndedFallibleIterator<Item = u32>>(
     it: &mut I,
 ) -> Result<Option<u32>, I::Error>
@@ -187,6 +201,9 @@ where
     ensures none { (l : List (Result ℕ I.Error))
         → Lists I.contract.steps it.old l
         → found (λ r. Ok (eqb r 0)) l ≡ Ok None → result ≡ Ok None }
+    ensures fails { (l : List (Result ℕ I.Error)) (e : I.Error)
+        → Lists I.contract.steps it.old l
+        → found (λ r. Ok (eqb r 0)) l ≡ Err e → result ≡ Err e }
 {
     law_after_front::<I>();
     law_draws::<I>();
@@ -196,7 +213,7 @@ where
     }
 }
 
-/// How many readings come behind the first one that isn't 0, up to the last one that isn't: zeros at the front and behind are left out.
+/// How many readings come behind the first one that isn't 0, up to the last one that isn't: zeros at the front and behind are left out. Or the failure that comes first: from the front up to that one, and then from behind.
 pub fn count_trimmed(readings: Vec<Result<u32, u8>>) -> Result<usize, u8>
     ensures some { (x : ℕ)
         → found (λ r. Ok (not (eqb r 0))) (results readings.items) ≡ Ok (Some x)
@@ -204,6 +221,8 @@ pub fn count_trimmed(readings: Vec<Result<u32, u8>>) -> Result<usize, u8>
         (reverse (behind_true (λ r. Ok (not (eqb r 0))) (results readings.items)))) }
     ensures none { found (λ r. Ok (not (eqb r 0))) (results readings.items) ≡ Ok None
         → result ≡ Ok 0 }
+    ensures fails { (e : ℕ) → found (λ r. Ok (not (eqb r 0))) (results readings.items) ≡ Err e
+        → result ≡ Err e }
 {
     law_listed_vec::<u32, u8>();
     law_draws::<Convert<std::vec::IntoIter<Result<u32, u8>, Global>>>();

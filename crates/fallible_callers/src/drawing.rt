@@ -1,16 +1,22 @@
 //! Draws by hand.
-ghost use Rattle.std.specs.Prelude.{◌≡◌, ◌+◌, ◌*◌, ◌/◌, ◌%◌, ◌^◌, ℕ, List, ◌∷◌, Result, Option, Ok, Some, None, false, nat_lt, if◌then◌else◌};
-ghost use Rattle.fallible_iterator.specs.Lists.{Lists, behind_first, behind_nth, chained, filtered, first_if, folded, items, mapped, nth_of, results, taken, taken_while, zipped};
+ghost use Rattle.std.specs.Prelude.{◌≡◌, ◌+◌, ◌*◌, ◌/◌, ◌%◌, ◌^◌, ℕ, List, [], ◌∷◌, Result, Option, Ok, Err, Some, None, false, nat_lt, if◌then◌else◌};
+ghost use Rattle.fallible_iterator.specs.Lists.{Lists, behind_first, behind_nth, chained, filtered, first_if, folded, items, looked_at, mapped, nth_of, on_value, results, taken, taken_while, zipped};
 
 use fallible_iterator::laws::{law_next, law_peek};
 use fallible_iterator::{FallibleIterator, convert};
 
-/// The third of the doubled readings above 100 among the first ten.
+/// The third of the doubled readings above 100 among the first ten, or the failure of a draw before.
 pub fn third_draw(readings: Vec<Result<u32, u8>>) -> Result<Option<u64>, u8>
-    ensures { let l : List (Result ℕ ℕ) = mapped (λ x. Ok (x * 2))
+    ensures third { let l : List (Result ℕ ℕ) = mapped (λ x. Ok (x * 2))
         (filtered (λ x. Ok (nat_lt 100 x)) (taken 10 (results readings.items))) in (x y : ℕ)
         → nth_of 0 l ≡ Ok (Some x) → nth_of 0 (behind_first l) ≡ Ok (Some y)
         → result ≡ nth_of 0 (behind_first (behind_first l)) }
+    ensures first_fails { let l : List (Result ℕ ℕ) = mapped (λ x. Ok (x * 2))
+        (filtered (λ x. Ok (nat_lt 100 x)) (taken 10 (results readings.items))) in (e : ℕ)
+        → nth_of 0 l ≡ Err e → result ≡ Err e }
+    ensures second_fails { let l : List (Result ℕ ℕ) = mapped (λ x. Ok (x * 2))
+        (filtered (λ x. Ok (nat_lt 100 x)) (taken 10 (results readings.items))) in (x e : ℕ)
+        → nth_of 0 l ≡ Ok (Some x) → nth_of 0 (behind_first l) ≡ Err e → result ≡ Err e }
 {
     let mut doubled = convert(readings.into_iter())
         .take(10)
@@ -21,11 +27,13 @@ pub fn third_draw(readings: Vec<Result<u32, u8>>) -> Result<Option<u64>, u8>
     doubled.draw()
 }
 
-/// The first two readings, of which the second is only looked at.
+/// The first two readings, of which the second is only looked at, or a failure in their place.
 pub fn first_two(readings: Vec<Result<u32, u8>>) -> Result<(Option<u32>, Option<u32>), u8>
-    ensures { (first second : ℕ) (rest : List (Result ℕ ℕ))
-        → results readings.items ≡ Ok first ∷ Ok second ∷ rest
-        → result ≡ Ok (Some first, Some second) }
+    ensures value { (first : ℕ) (rest : List (Result ℕ ℕ))
+        → results readings.items ≡ Ok first ∷ rest
+        → result ≡ on_value (looked_at (λ x. x) rest) (λ second. Ok (Some first, second)) }
+    ensures fails { (e : ℕ) (rest : List (Result ℕ ℕ))
+        → results readings.items ≡ Err e ∷ rest → result ≡ Err e }
 {
     let mut ahead = convert(readings.into_iter()).peekable();
     let first = ahead.peek_copied()?;
@@ -34,7 +42,7 @@ pub fn first_two(readings: Vec<Result<u32, u8>>) -> Result<(Option<u32>, Option<
     Ok((first, second))
 }
 
-/// The second item, where it is above the first. Where it isn't, it is looked at and not drawn.
+/// The second item, where it is above the first. Where it isn't, it is looked at and not drawn. A failure in the place of the first is the answer.
 pub fn second_if_above<I: FallibleIterator<Item = u32>>(it: I) -> Result<Option<u32>, I::Error>
 where
     requires { I.contract.can_next it }
@@ -43,6 +51,8 @@ where
         → result ≡ first_if (λ second. nat_lt first second) (behind_first l) }
     ensures none { (l : List (Result ℕ I.Error)) → Lists I.contract.steps it l
         → nth_of 0 l ≡ Ok None → result ≡ Ok None }
+    ensures fails { (l : List (Result ℕ I.Error)) (e : I.Error) → Lists I.contract.steps it l
+        → nth_of 0 l ≡ Err e → result ≡ Err e }
 {
     let mut ahead = it.peekable();
     match ahead.draw()? {
@@ -118,13 +128,15 @@ where
         .try_fold(0, |sum: u32, x: u32| Ok(sum.wrapping_add(x)))
 }
 
-/// The sum of the first two readings above 100, and the one after them.
+/// The sum of the first two readings above 100, and the one after them, or the first failure among the three.
 pub fn two_and_the_next(readings: Vec<Result<u32, u8>>) -> Result<(u32, Option<u32>), u8>
-    ensures { let l : List (Result ℕ ℕ) = filtered (λ r. Ok (nat_lt 100 r))
-        (results readings.items) in (sum last : ℕ) (next : Option ℕ)
-        → folded (λ e. e) (λ s x. Ok ((s + x) % 2 ^ 32)) 0 (taken 2 l) ≡ Ok sum
-        → nth_of 1 l ≡ Ok (Some last) → nth_of 0 (behind_nth 1 l) ≡ Ok next
-        → result ≡ Ok (sum, next) }
+    ensures value { let l : List (Result ℕ ℕ) = filtered (λ r. Ok (nat_lt 100 r))
+        (results readings.items) in (last : ℕ) → nth_of 1 l ≡ Ok (Some last)
+        → result ≡ on_value (folded (λ e. e) (λ s x. Ok ((s + x) % 2 ^ 32)) 0 (taken 2 l))
+        (λ sum. on_value (nth_of 0 (behind_nth 1 l)) (λ next. Ok (sum, next))) }
+    ensures fails { let l : List (Result ℕ ℕ) = filtered (λ r. Ok (nat_lt 100 r))
+        (results readings.items) in (e : ℕ)
+        → folded (λ e. e) (λ s x. Ok ((s + x) % 2 ^ 32)) 0 (taken 2 l) ≡ Err e → result ≡ Err e }
 {
     let mut above = convert(readings.into_iter()).filter(|reading| Ok(*reading > 100));
     let sum = sum_of_two(&mut above)?;
@@ -150,32 +162,36 @@ where
         .try_fold(0, |n: u64, _| Ok(n.wrapping_add(1)))
 }
 
-/// How many of the first ten readings are above 100, modulo 2 ^ 64, and the eleventh reading.
+/// How many of the first ten readings are above 100, modulo 2 ^ 64, and the eleventh reading, or the first failure among the eleven.
 pub fn above_100_and_the_next(readings: Vec<Result<u32, u8>>) -> Result<(u64, Option<u32>), u8>
-    ensures { let l : List (Result ℕ ℕ) = results readings.items in (n tenth : ℕ) (next : Option ℕ)
+    ensures value { let l : List (Result ℕ ℕ) = results readings.items in (tenth : ℕ)
+        → nth_of 9 l ≡ Ok (Some tenth)
+        → result ≡ on_value (folded (λ e. e) (λ n x. Ok ((n + 1) % 2 ^ 64)) 0
+        (filtered (λ x. Ok (nat_lt 100 x)) (taken 10 l)))
+        (λ n. on_value (nth_of 0 (behind_nth 9 l)) (λ next. Ok (n, next))) }
+    ensures fails { let l : List (Result ℕ ℕ) = results readings.items in (e : ℕ)
         → folded (λ e. e) (λ n x. Ok ((n + 1) % 2 ^ 64)) 0
-        (filtered (λ x. Ok (nat_lt 100 x)) (taken 10 l)) ≡ Ok n
-        → nth_of 9 l ≡ Ok (Some tenth) → nth_of 0 (behind_nth 9 l) ≡ Ok next
-        → result ≡ Ok (n, next) }
+        (filtered (λ x. Ok (nat_lt 100 x)) (taken 10 l)) ≡ Err e → result ≡ Err e }
 {
     let mut it = convert(readings.into_iter());
     let n = above_100_of_first_ten(&mut it)?;
     Ok((n, it.draw()?))
 }
 
-/// The item after the first three, which are let go.
+/// The item after the first three, which are let go, or the first failure among the four.
 pub fn after_three<I: FallibleIterator>(it: &mut I) -> Result<Option<I::Item>, I::Error>
 where
     I::Item: Drop,
     requires { I.contract.can_next it.old }
-    ensures { (l : List (Result I.Item I.Error)) (x : I.Item) → Lists I.contract.steps it.old l
-        → nth_of 2 l ≡ Ok (Some x) → result ≡ nth_of 0 (behind_nth 2 l) }
+    ensures { (l : List (Result I.Item I.Error)) → Lists I.contract.steps it.old l
+        → ¬ (nth_of 2 l ≡ Ok None)
+        → result ≡ on_value (nth_of 2 l) (λ _. nth_of 0 (behind_nth 2 l)) }
 {
     (&mut *it).take(3).nth(2)?;
     it.draw()
 }
 
-/// The first item of a chain of both sides, once the first pair of both was let go.
+/// The first item of a chain of both sides, once the first pair of both was let go, or a failure in the place of that pair.
 pub fn after_a_pair<I, J>(mut left: I, mut right: J) -> Result<Option<I::Item>, I::Error>
 where
     I: FallibleIterator,
@@ -183,16 +199,17 @@ where
     I::Item: Drop,
     requires left { I.contract.can_next left }
     requires right { J.contract.can_next right }
-    ensures { (a b : List (Result I.Item I.Error)) (x y : I.Item)
+    ensures { (a b : List (Result I.Item I.Error))
         → Lists I.contract.steps left a → Lists J.contract.steps right b
-        → nth_of 0 a ≡ Ok (Some x) → nth_of 0 b ≡ Ok (Some y)
-        → result ≡ nth_of 0 (chained (behind_first a) (behind_first b)) }
+        → ¬ (nth_of 0 (zipped a b) ≡ Ok None)
+        → result ≡ on_value (nth_of 0 (zipped a b))
+        (λ _. nth_of 0 (chained (behind_first a) (behind_first b))) }
 {
     (&mut left).zip(&mut right).draw()?;
     left.chain(right).draw()
 }
 
-/// The first pair of both sides, once the first item of a chain of both was let go.
+/// The first pair of both sides, once the first item of a chain of both was let go, or a failure in its place.
 pub fn pair_behind_first<I, J>(
     mut left: I,
     mut right: J,
@@ -203,42 +220,49 @@ where
     I::Item: Drop,
     requires left { I.contract.can_next left }
     requires right { J.contract.can_next right }
-    ensures { (a : List (Result I.Item I.Error)) (b : List I.Item) (x : I.Item)
+    ensures { (a : List (Result I.Item I.Error)) (b : List I.Item)
         → Lists I.contract.steps left a → Lists J.contract.steps right (items b)
-        → nth_of 0 a ≡ Ok (Some x) → result ≡ nth_of 0 (zipped (behind_first a) (items b)) }
+        → ¬ (nth_of 0 a ≡ Ok None)
+        → result ≡ on_value (nth_of 0 a) (λ _. nth_of 0 (zipped (behind_first a) (items b))) }
 {
     (&mut left).chain(&mut right).draw()?;
     left.zip(right).draw()
 }
 
-/// The third item, after the first two are let go.
+/// The third answer, after the first two items are let go, or a failure in their place.
 pub fn third_of<I: FallibleIterator>(mut it: I) -> Result<Option<I::Item>, I::Error>
 where
     I::Item: Drop,
     requires { I.contract.can_next it }
-    ensures { (l : List (Result I.Item I.Error)) (x y z : I.Item)
+    ensures value { (l : List (Result I.Item I.Error)) (x y : I.Item)
         (rest : List (Result I.Item I.Error))
-        → Lists I.contract.steps it l → l ≡ Ok x ∷ Ok y ∷ Ok z ∷ rest → result ≡ Ok (Some z) }
+        → Lists I.contract.steps it l → l ≡ Ok x ∷ Ok y ∷ rest → result ≡ nth_of 0 rest }
+    ensures first_fails { (l rest : List (Result I.Item I.Error)) (e : I.Error)
+        → Lists I.contract.steps it l → l ≡ Err e ∷ rest → result ≡ Err e }
+    ensures second_fails { (l rest : List (Result I.Item I.Error)) (x : I.Item) (e : I.Error)
+        → Lists I.contract.steps it l → l ≡ Ok x ∷ Err e ∷ rest → result ≡ Err e }
 {
     it.draw()?;
     it.draw()?;
     it.draw()
 }
 
-/// The second item, by two plain draws, the first of which is let go. The law says what each `next` answers and leaves.
+/// The second item, by two plain draws, the first of which is let go, or a failure in its place. The law says what each `next` answers and leaves.
 pub fn second_of<I: FallibleIterator>(mut it: I) -> Result<Option<I::Item>, I::Error>
 where
     I::Item: Drop,
     requires { I.contract.can_next it }
-    ensures { (l : List (Result I.Item I.Error)) (x : I.Item) → Lists I.contract.steps it l
+    ensures value { (l : List (Result I.Item I.Error)) (x : I.Item) → Lists I.contract.steps it l
         → nth_of 0 l ≡ Ok (Some x) → result ≡ nth_of 0 (behind_first l) }
+    ensures fails { (l : List (Result I.Item I.Error)) (e : I.Error) → Lists I.contract.steps it l
+        → nth_of 0 l ≡ Err e → result ≡ Err e }
 {
     law_next::<I>();
     it.next()?;
     it.next()
 }
 
-/// Whether there is a first item and it is above 100. It is looked at and not drawn. The law says what `peek` answers.
+/// Whether there is a first item and it is above 100, or a failure in its place. It is looked at and not drawn. The law says what `peek` answers.
 pub fn begins_above_100<I: FallibleIterator<Item = u32>>(it: I) -> Result<bool, I::Error>
 where
     requires { I.contract.can_next it }
@@ -246,6 +270,8 @@ where
         → nth_of 0 l ≡ Ok (Some x) → result ≡ Ok (nat_lt 100 x) }
     ensures none { (l : List (Result ℕ I.Error)) → Lists I.contract.steps it l
         → nth_of 0 l ≡ Ok None → result ≡ Ok false }
+    ensures fails { (l : List (Result ℕ I.Error)) (e : I.Error) → Lists I.contract.steps it l
+        → nth_of 0 l ≡ Err e → result ≡ Err e }
 {
     law_peek::<I>();
     let mut ahead = it.peekable();

@@ -1,5 +1,5 @@
 //! The idioms of parsers: where something stands, and what stands behind it.
-ghost use Rattle.std.specs.Prelude.{◌≡◌, ◌+◌, ◌%◌, ◌^◌, ℕ, eqb, length, List, Result, Ok, Option, Some, None, IfOk, false, is_err, nat_lt};
+ghost use Rattle.std.specs.Prelude.{◌≡◌, ◌+◌, ◌%◌, ◌^◌, ℕ, eqb, length, List, Result, Ok, Err, Option, Some, None, IfOk, false, is_err, nat_lt};
 ghost use Rattle.fallible_iterator.specs.Lists.{Lists, all_of, behind_false, behind_true, folded, items, nth_of, on_value, parted, position_in, results, taken_while};
 
 use fallible_iterator::{FallibleIterator, Fault, IteratorExt, convert};
@@ -22,12 +22,14 @@ pub fn how_many_each(
     Ok((above.len(), others.len()))
 }
 
-/// The second reading behind the first one that is 0.
+/// The second reading behind the first one that is 0; none where there is no such one, and the first failure before.
 pub fn second_behind_zero(readings: Vec<Result<u32, u8>>) -> Result<Option<u32>, u8>
     ensures some { (n : ℕ) → position_in (λ r. Ok (eqb r 0)) (results readings.items) ≡ Ok (Some n)
         → result ≡ nth_of 1 (behind_true (λ r. Ok (eqb r 0)) (results readings.items)) }
     ensures none { position_in (λ r. Ok (eqb r 0)) (results readings.items) ≡ Ok None
         → result ≡ Ok None }
+    ensures fails { (e : ℕ) → position_in (λ r. Ok (eqb r 0)) (results readings.items) ≡ Err e
+        → result ≡ Err e }
 {
     let mut left = convert(readings.into_iter());
     match left.position(|reading| Ok(reading == 0))? {
@@ -66,20 +68,21 @@ where
     )
 }
 
-/// The sum of the tokens below 10 that stand first, modulo 2 ^ 64, and the token after the one that ends them.
+/// The sum of the tokens below 10 that stand first, modulo 2 ^ 64, and the token after the one that ends them, or the first failure among them.
 pub fn sum_and_next<I: FallibleIterator<Item = u32>>(
     mut tokens: I,
 ) -> Result<(u64, Option<u32>), I::Error>
 where
     requires can_next { I.contract.can_next tokens }
     requires finite { I.contract.is_finite tokens }
-    ensures { (l : List (Result ℕ I.Error)) (sum : ℕ) (next : Option ℕ)
-        → Lists I.contract.steps tokens l
+    ensures value { (l : List (Result ℕ I.Error)) → Lists I.contract.steps tokens l
         → all_of (λ x. Ok (nat_lt x 10)) l ≡ Ok false
+        → result ≡ on_value (folded (λ e. e) (λ s x. Ok ((s + x) % 2 ^ 64)) 0
+        (taken_while (λ x. Ok (nat_lt x 10)) l)) (λ sum. on_value
+        (nth_of 0 (behind_false (λ x. Ok (nat_lt x 10)) l)) (λ next. Ok (sum, next))) }
+    ensures fails { (l : List (Result ℕ I.Error)) (e : I.Error) → Lists I.contract.steps tokens l
         → folded (λ e. e) (λ s x. Ok ((s + x) % 2 ^ 64)) 0
-        (taken_while (λ x. Ok (nat_lt x 10)) l) ≡ Ok sum
-        → nth_of 0 (behind_false (λ x. Ok (nat_lt x 10)) l) ≡ Ok next
-        → result ≡ Ok (sum, next) }
+        (taken_while (λ x. Ok (nat_lt x 10)) l) ≡ Err e → result ≡ Err e }
 {
     let sum = sum_below_ten(&mut tokens)?;
     Ok((sum, tokens.draw()?))

@@ -1,16 +1,18 @@
 //! What is left after a call through a borrow.
-ghost use Rattle.std.specs.Prelude.{◌≡◌, ◌-◌, ◌^◌, ℕ, eqb, List, Option, Result, Ok, Some, None};
+ghost use Rattle.std.specs.Prelude.{◌≡◌, ◌-◌, ◌^◌, ℕ, eqb, List, Option, Result, Ok, Err, Some, None};
 ghost use Rattle.fallible_iterator.specs.Contract.{AtMost};
-ghost use Rattle.fallible_iterator.specs.Lists.{Lists, behind_first, behind_true, counted, found, looked_ahead, nth_of, position_in, results};
+ghost use Rattle.fallible_iterator.specs.Lists.{Lists, behind_first, behind_true, counted, found, looked_ahead, nth_of, on_value, position_in, results};
 
 use fallible_iterator::{FallibleIterator, convert};
 
-/// The reading behind the first one that is 0.
+/// The reading behind the first one that is 0; none where there is no such one, and the first failure before.
 pub fn behind_zero(readings: Vec<Result<u32, u8>>) -> Result<Option<u32>, u8>
     ensures some { (x : ℕ) → found (λ r. Ok (eqb r 0)) (results readings.items) ≡ Ok (Some x)
         → result ≡ nth_of 0 (behind_true (λ r. Ok (eqb r 0)) (results readings.items)) }
     ensures none { found (λ r. Ok (eqb r 0)) (results readings.items) ≡ Ok None
         → result ≡ Ok None }
+    ensures fails { (e : ℕ) → found (λ r. Ok (eqb r 0)) (results readings.items) ≡ Err e
+        → result ≡ Err e }
 {
     let mut left = convert(readings.into_iter());
     match left.find(|reading| Ok(*reading == 0))? {
@@ -19,7 +21,7 @@ pub fn behind_zero(readings: Vec<Result<u32, u8>>) -> Result<Option<u32>, u8>
     }
 }
 
-/// How many items come behind the first one that is a mark.
+/// How many items come behind the first one that is 0; 0 where there is no such one, and the first failure.
 pub fn count_behind<I: FallibleIterator<Item = u32>>(mut it: I) -> Result<usize, I::Error>
 where
     requires can_next { I.contract.can_next it }
@@ -31,6 +33,9 @@ where
     ensures none { (l : List (Result ℕ I.Error))
         → Lists I.contract.steps it l
         → position_in (λ x. Ok (eqb x 0)) l ≡ Ok None → result ≡ Ok 0 }
+    ensures fails { (l : List (Result ℕ I.Error)) (e : I.Error)
+        → Lists I.contract.steps it l
+        → position_in (λ x. Ok (eqb x 0)) l ≡ Err e → result ≡ Err e }
 {
     match it.position(|x| Ok(x == 0))? {
         Some(_) => it.count(),
@@ -38,11 +43,14 @@ where
     }
 }
 
-/// How many readings come behind the first two.
+/// How many readings come behind the first two, or the first failure.
 pub fn count_behind_two(readings: Vec<Result<u32, u8>>) -> Result<usize, u8>
-    ensures { (x y : ℕ) → nth_of 0 (results readings.items) ≡ Ok (Some x)
+    ensures value { (x y : ℕ) → nth_of 0 (results readings.items) ≡ Ok (Some x)
         → nth_of 0 (behind_first (results readings.items)) ≡ Ok (Some y)
         → result ≡ counted (behind_first (behind_first (results readings.items))) }
+    ensures first_fails { (e : ℕ) → nth_of 0 (results readings.items) ≡ Err e → result ≡ Err e }
+    ensures second_fails { (x e : ℕ) → nth_of 0 (results readings.items) ≡ Ok (Some x)
+        → nth_of 0 (behind_first (results readings.items)) ≡ Err e → result ≡ Err e }
 {
     let mut left = convert(readings.into_iter());
     left.draw()?;
@@ -50,18 +58,16 @@ pub fn count_behind_two(readings: Vec<Result<u32, u8>>) -> Result<usize, u8>
     left.count()
 }
 
-/// The first item, which is looked at, and how many there are.
+/// The first item, which is looked at, and how many there are, or the first failure.
 pub fn first_and_count<I: FallibleIterator<Item = u32>>(
     it: I,
 ) -> Result<(Option<u32>, usize), I::Error>
 where
     requires can_next { I.contract.can_next it }
     requires fits { AtMost I.contract it (2 ^ 64 - 1) }
-    ensures { (l : List (Result ℕ I.Error)) (x : Option ℕ) (n : ℕ)
-        → Lists I.contract.steps it l
-        → nth_of 0 l ≡ Ok x
-        → counted (looked_ahead l) ≡ Ok n
-        → result ≡ Ok (x, n) }
+    ensures { (l : List (Result ℕ I.Error)) → Lists I.contract.steps it l
+        → result ≡ on_value (nth_of 0 l)
+        (λ first. on_value (counted (looked_ahead l)) (λ n. Ok (first, n))) }
 {
     let mut ahead = it.peekable();
     let first = ahead.peek_copied()?;

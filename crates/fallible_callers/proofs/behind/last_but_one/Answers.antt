@@ -3,5 +3,5 @@ use Rattle.std.proofs.Common.{rules, Ok, ◌*◌}
 use Rattle.fallible_callers.proofs.behind.last_but_one.Goals as goal
 
 pub returns : goal.returns
-returns c first last = c.last_but_one_of.ensures _ first last (c.law_lists_filter.ensures.both _ _ _ _ c.filter-above.ensures.parts (search rules)
+returns c = c.last_but_one_of.ensures _ (c.law_lists_filter.ensures.both _ _ _ _ c.filter-above.ensures.parts (search rules)
     (c.law_lists_map.ensures.both _ _ (λ x. Ok (x * 2)) _ c.map-doubled.ensures.parts (search rules) (c.law_listed_vec.ensures.results _ c.args.readings.items (search rules))))
