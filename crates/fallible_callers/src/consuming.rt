@@ -1,6 +1,7 @@
 //! What searches find, and which item is the best.
-ghost use Rattle.std.specs.Prelude.{◌≡◌, ◌+◌, ◌*◌, ◌%◌, ◌^◌, Result, Ok, IfOk, Option, length, map, nat_lt};
+ghost use Rattle.std.specs.Prelude.{◌≡◌, ◌+◌, ◌*◌, ◌%◌, ◌^◌, ℕ, Result, Ok, Err, IfOk, Option, length, map, nat_lt};
 ghost use Rattle.std.specs.Ordering.{nat_cmp};
+ghost use Rattle.fallible_iterator.specs.Fault.{Fault};
 ghost use Rattle.fallible_iterator.specs.Lists.{results, all_of, any_of, collected, found, last_of, on_value, position_in, reduced, greatest, least, PartedAs, UnzippedAs, mapped, filtered, numbered, skipped, taken};
 
 use fallible_iterator::{FallibleIterator, Fault, convert};
@@ -119,7 +120,7 @@ pub fn two_columns(
     convert(readings.into_iter()).enumerate().unzip(alloc)
 }
 
-/// The readings above 100, and how many they are, where memory suffices.
+/// The readings above 100, and how many they are, or the first failure, where memory suffices.
 pub fn above_100_and_count(
     alloc: Global,
     readings: Vec<Result<u32, u8>>,
@@ -127,6 +128,8 @@ pub fn above_100_and_count(
     ensures items { IfOk result (λ both. collected
         (filtered (λ x. Ok (nat_lt 100 x)) (results readings.items)) ≡ Ok both.0.items) }
     ensures count { IfOk result (λ both. both.1 ≡ length both.0.items) }
+    ensures failure { (e : ℕ) → result ≡ Err (Fault.Source e) → collected
+        (filtered (λ x. Ok (nat_lt 100 x)) (results readings.items)) ≡ Err e }
 {
     let above: Vec<u32> = convert(readings.into_iter())
         .filter(|reading| Ok(*reading > 100))
@@ -135,7 +138,7 @@ pub fn above_100_and_count(
     Ok((above, count))
 }
 
-/// The readings and their places, as two columns, where memory suffices.
+/// The readings and their places, as two columns, or the first failure, where memory suffices.
 pub fn columns_exchanged(
     alloc: Global,
     readings: Vec<Result<u32, u8>>,
@@ -144,6 +147,8 @@ pub fn columns_exchanged(
         (collected (numbered 0 (results readings.items))) (λ pairs. Ok (map (λ p. p.1) pairs))) }
     ensures places { IfOk result (λ both. Ok both.1.items ≡ on_value
         (collected (numbered 0 (results readings.items))) (λ pairs. Ok (map (λ p. p.0) pairs))) }
+    ensures failure { (e : ℕ) → result ≡ Err (Fault.Source e)
+        → collected (numbered 0 (results readings.items)) ≡ Err e }
 {
     let (places, column): (Vec<usize>, Vec<u32>) = convert(readings.into_iter())
         .enumerate()

@@ -1,19 +1,22 @@
 //! The idioms of parsers: where something stands, and what stands behind it.
 ghost use Rattle.std.specs.Prelude.{◌≡◌, ◌+◌, ◌%◌, ◌^◌, ℕ, eqb, length, List, Result, Ok, Err, Option, Some, None, IfOk, false, is_err, nat_lt};
+ghost use Rattle.fallible_iterator.specs.Fault.{Fault};
 ghost use Rattle.fallible_iterator.specs.Lists.{Lists, all_of, behind_false, behind_true, folded, items, nth_of, on_value, parted, position_in, results, taken_while};
 
 use fallible_iterator::{FallibleIterator, Fault, IteratorExt, convert};
 use std::alloc::Global;
 use std::convert::Infallible;
 
-/// How many of the readings are above 100, and how many are not, where memory suffices.
+/// How many of the readings are above 100, and how many are not, or the first failure, where memory suffices.
 pub fn how_many_each(
     alloc: Global,
     readings: Vec<Result<u32, u8>>,
 ) -> Result<(usize, usize), Fault<u8>>
-    ensures { IfOk result (λ both. Ok both ≡ on_value
+    ensures value { IfOk result (λ both. Ok both ≡ on_value
         (parted (λ x. Ok (nat_lt 100 x)) (results readings.items))
         (λ sides. Ok (length sides.0, length sides.1))) }
+    ensures failure { (e : ℕ) → result ≡ Err (Fault.Source e)
+        → parted (λ x. Ok (nat_lt 100 x)) (results readings.items) ≡ Err e }
 {
     let (above, others): (Vec<u32>, Vec<u32>) = convert(readings.into_iter()).partition(
         alloc,
