@@ -1,7 +1,8 @@
 //! The idioms of parsers: where something stands, and what stands behind it.
-ghost use Rattle.std.specs.Prelude.{◌≡◌, ◌+◌, ◌%◌, ◌^◌, ℕ, eqb, length, List, Result, Ok, Err, Option, Some, None, IfOk, false, is_err, nat_lt};
+ghost use Rattle.std.specs.Prelude.{◌≡◌, ◌+◌, ◌%◌, ◌^◌, ℕ, eqb, length, List, Result, Ok, Err, Option, Some, None, IfOk, false, is_err, nat_lt, if◌then◌else◌};
 ghost use Rattle.fallible_iterator.specs.Fault.{Fault};
-ghost use Rattle.fallible_iterator.specs.Lists.{Lists, all_of, behind_false, behind_true, folded, items, nth_of, on_value, parted, position_in, results, taken_while};
+ghost use Rattle.fallible_iterator.specs.Lists.{Lists, all_of, behind_false, behind_true, folded, items, nth_of, numbered, on_value, parted, position_in, results, taken_while};
+ghost use Rattle.fallible_callers.specs.declared.parsing.NoSum.{NoSum};
 
 use fallible_iterator::{FallibleIterator, Fault, IteratorExt, convert};
 use std::alloc::Global;
@@ -49,6 +50,42 @@ pub fn place_of_failure(readings: Vec<Result<u32, u8>>) -> Result<Option<usize>,
         .into_iter()
         .into_fallible()
         .position(|reading| Ok(reading.is_err()))
+}
+
+/// Why there is no sum.
+#[derive(Debug, Drop, PartialEq)]
+pub enum NoSum {
+    /// The reading at this place, from 0 on, is above 100.
+    Above(usize),
+    /// A reading failed, with this code.
+    Failed(u8),
+}
+
+impl From<u8> for NoSum {
+    ghost use Rattle.fallible_callers.specs.declared.parsing.NoSum.TheVariants.{Failed};
+
+    ghost from_gives = { λ code why. why ≡ Failed code };
+
+    /// `NoSum::Failed`
+    fn from(code: u8) -> NoSum {
+        NoSum::Failed(code)
+    }
+}
+
+/// The sum of the readings, modulo 2 ^ 64. Where one is above 100, the place of the first such, and where one failed before, its code.
+pub fn sum_or_place(readings: Vec<Result<u32, u8>>) -> Result<u64, NoSum>
+    ensures { result ≡ folded (λ code. NoSum.Failed code)
+        (λ s p. if nat_lt 100 p.1 then Err (NoSum.Above p.0) else Ok ((s + p.1) % 2 ^ 64)) 0
+        (numbered 0 (results readings.items)) }
+{
+    convert(readings.into_iter()).enumerate().try_fold(
+        0,
+        |sum: u64, placed: (usize, u32)| if placed.1 > 100 {
+            Err(NoSum::Above(placed.0))
+        } else {
+            Ok(sum.wrapping_add(u64::from(placed.1)))
+        },
+    )
 }
 
 /// The sum of the items below 10 that stand first, modulo 2 ^ 64, which are taken of a borrow. The item that ends them is drawn and lost.
