@@ -93,7 +93,8 @@ pub fn three_answers(
     readings: Vec<Result<u32, u8>>,
 ) -> Result<Vec<Answer<u32, u8>>, AllocError>
     ensures { IfOk result
-        (λ v. v.items ≡ answers_at_ends (Side.Front ∷ Side.Back ∷ Side.Back ∷ []) (results readings.items)) }
+        (λ v. v.items ≡ answers_at_ends (Side.Front ∷ Side.Back ∷ Side.Back ∷ [])
+        (results readings.items)) }
 {
     law_listed_vec::<u32, u8>();
     let mut it = convert(readings.into_iter());
@@ -143,9 +144,9 @@ where
     requires { I.ends.can_next it.old }
     ensures { (l : List (Result I.Item I.Error))
         → ListsBothEnds I.contract.steps I.ends.steps it.old l
-        → let left : List (Result I.Item I.Error) = reverse (behind_first (reverse (behind_first l))) in
-        result ≡ on_value (nth_of 0 l) (λ _. on_value (nth_of 0 (reverse (behind_first l)))
-        (λ _. nth_of 0 left)) }
+        → let left : List (Result I.Item I.Error) = reverse (behind_first l) in
+        result ≡ on_value (nth_of 0 l) (λ _. on_value (nth_of 0 left)
+        (λ _. nth_of 0 (reverse (behind_first left)))) }
 {
     it.draw_front()?;
     it.draw_back()?;
