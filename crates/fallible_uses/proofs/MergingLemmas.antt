@@ -11,11 +11,11 @@ module _ {E : Type 0} where
   abbrev pub Gives : List (Result ℕ E) → List (Result ℕ E) → Answered ℕ E → List (Result ℕ E) → List (Result ℕ E) → Type 0
   Gives a b r left right = (r ≡ nth_of 0 (merged a b)) × (merged left right ≡ behind_first (merged a b))
 
-  pub left_fails : (e : E) (a b : List (Result ℕ E)) → Err e ≡ nth_of 0 a → Err e ≡ nth_of 0 (merged a b)
-  unfolding nth_of merged
+  pub left_fails : (e : E) (a b : List (Result ℕ E)) → Err e ≡ nth_of 0 a → Gives a b (Err e) (looked_ahead a) b
+  unfolding nth_of merged looked_ahead behind_first
   left_fails e [] b s = absurd cc
   left_fails e (Ok y ∷ a) b s = absurd cc
-  left_fails e (Err d ∷ a) b s = s
+  left_fails e (Err d ∷ a) b s = (s, refl)
 
   pub right_alone : (r : Answered ℕ E) (a b : List (Result ℕ E)) → Ok None ≡ nth_of 0 a → r ≡ nth_of 0 b → Gives a b r (looked_ahead a) (behind_first b)
   unfolding nth_of merged looked_ahead
@@ -34,14 +34,14 @@ module _ {E : Type 0} where
   no_failure e true y f = absurd cc
   no_failure e false y f = absurd cc
 
-  fails_second : (x : ℕ) (e : E) (a b : List (Result ℕ E)) → Err e ≡ first_if (λ y. nat_lt y x) b → Err e ≡ nth_of 0 (merged (Ok x ∷ a) b)
-  unfolding nth_of merged first_if
+  fails_second : (x : ℕ) (e : E) (a b : List (Result ℕ E)) → Err e ≡ first_if (λ y. nat_lt y x) b → Gives (Ok x ∷ a) b (Err e) (looked_ahead (Ok x ∷ a)) (behind_if (λ y. nat_lt y x) b)
+  unfolding nth_of merged first_if behind_if looked_ahead behind_first
   fails_second x e a [] f = absurd cc
   fails_second x e a (Ok z ∷ b) f = absurd (no_failure e (nat_lt z x) z f)
-  fails_second x e a (Err d ∷ b) f = f
+  fails_second x e a (Err d ∷ b) f = (f, refl)
 
-  pub right_fails : (x : ℕ) (e : E) (a b : List (Result ℕ E)) → Ok (Some x) ≡ nth_of 0 a → Err e ≡ first_if (λ y. nat_lt y x) b → Err e ≡ nth_of 0 (merged a b)
-  right_fails x e a b s f = subst (λ (k : List (Result ℕ E)). Err e ≡ nth_of 0 (merged k b)) (item_first x a s) (fails_second x e (behind_first a) b f)
+  pub right_fails : (x : ℕ) (e : E) (a b : List (Result ℕ E)) → Ok (Some x) ≡ nth_of 0 a → Err e ≡ first_if (λ y. nat_lt y x) b → Gives a b (Err e) (looked_ahead a) (behind_if (λ y. nat_lt y x) b)
+  right_fails x e a b s f = subst (λ (k : List (Result ℕ E)). Gives k b (Err e) (looked_ahead k) (behind_if (λ y. nat_lt y x) b)) (item_first x a s) (fails_second x e (behind_first a) b f)
 
   -- where the second item is taken, and where it isn't
   taken_second : (t : Bool) (y z : ℕ) (into : List (Result ℕ E) → List (Result ℕ E)) (b k : List (Result ℕ E)) → ◌≡◌ {A = Answered ℕ E} (Ok (Some z)) (taken_by t y) → (Ok (Some z) ≡ nth_of 0 (picked t (Ok y ∷ into b) k)) × (into (left_by t y b) ≡ behind_first (picked t (Ok y ∷ into b) k))

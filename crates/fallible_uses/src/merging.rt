@@ -1,5 +1,5 @@
 //! Two sorted sources, merged.
-ghost use Rattle.std.specs.Prelude.{◌≡◌, ℕ, List, Result, Ok, Some};
+ghost use Rattle.std.specs.Prelude.{◌≡◌, ℕ, List, Result, Ok, None};
 ghost use Rattle.fallible_iterator.specs.Contract.{Stays, seen_as};
 ghost use Rattle.fallible_iterator.specs.Lists.{Lists, behind_first, nth_of};
 ghost use Rattle.fallible_iterator.specs.Peeking.Peekable.{peekable_contract, peekable_parts};
@@ -7,7 +7,7 @@ ghost use Rattle.fallible_uses.specs.Merging.{ListBoth, merged};
 
 use fallible_iterator::{FallibleIterator, Peekable};
 
-/// The lesser of the next items of two sources, and of equal ones that of the left; none where both are at their ends. It draws at most once from each, from the left first. It fails where the left does, or else the right. The other item stays held, and both may be drawn from again.
+/// The lesser of the next items of two sources, and of equal ones that of the left; none where both are at their ends. It draws at most once from each, from the left first. It fails where the left does, or else the right. The other item stays held, and both may be drawn from again, also after a failure.
 ///
 /// Asks that both may be drawn from.
 pub fn next_merged<I, J>(
@@ -23,10 +23,10 @@ where
         → Lists (seen_as peekable_parts (peekable_contract I.contract)).steps left.old a
         → Lists (seen_as peekable_parts (peekable_contract J.contract)).steps right.old b
         → result ≡ nth_of 0 (merged a b) }
-    ensures rest { (a b : List (Result ℕ I.Error)) (x : ℕ)
+    ensures rest { (a b : List (Result ℕ I.Error))
         → Lists (seen_as peekable_parts (peekable_contract I.contract)).steps left.old a
         → Lists (seen_as peekable_parts (peekable_contract J.contract)).steps right.old b
-        → result ≡ Ok (Some x)
+        → ¬ (result ≡ Ok None)
         → ListBoth (seen_as peekable_parts (peekable_contract I.contract)).steps
         (seen_as peekable_parts (peekable_contract J.contract)).steps
         left.new right.new (behind_first (merged a b)) }
