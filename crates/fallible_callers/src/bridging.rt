@@ -1,12 +1,15 @@
 //! Callers that hand a fallible iterator to std, and take it back.
-ghost use Rattle.std.specs.Prelude.{◌≡◌, ℕ, ◌+◌, ◌%◌, ◌^◌, ◌<◌, ◌≤◌, Ok, Err, List, Result, length, sum, IfOk, filter, is_err, nat_lt, take};
-ghost use Rattle.fallible_iterator.specs.Lists.{Lists, items, results, counted, mapped, filtered, taken};
+ghost use Rattle.std.specs.Prelude.{◌≡◌, ℕ, ◌+◌, ◌-◌, ◌%◌, ◌^◌, ◌<◌, ◌≤◌, Ok, Err, Some, None, List, Option, Result, length, sum, IfOk, MatchOption, filter, is_err, nat_lt, take, slice_index_or};
+ghost use Rattle.std.specs.Iterator.{IsFinite};
+ghost use Rattle.fallible_iterator.specs.Contract.{NeverFails};
+ghost use Rattle.fallible_iterator.specs.Lists.{Lists, items, results, counted, mapped, filtered, taken, nth_of, behind_first, behind_nth};
 ghost use Rattle.fallible_iterator.specs.Bridges.Unwrap.{unwrapped};
 ghost use Rattle.std.specs.declared.convert.Infallible.{Infallible};
 
 use fallible_iterator::laws::{law_back_convert, law_back_iterator, law_iterator};
 use fallible_iterator::{Convert, FallibleIterator, IteratorExt, Take, convert};
 use std::alloc::{AllocError, Global};
+use std::fmt::Debug;
 
 /// How many readings there are, failures among them.
 pub fn elements(readings: Vec<Result<u32, u8>>) -> usize
@@ -44,6 +47,26 @@ where
     it.iterator().take(10).count()
 }
 
+/// The last answer behind the second item of any fallible iterator, which std reads: none where nothing comes behind it. Or the failure that comes before.
+pub fn last_behind_two<I: FallibleIterator>(
+    mut it: I,
+) -> Result<Option<Result<I::Item, I::Error>>, I::Error>
+where
+    I::Item: Drop,
+    I::Error: Drop,
+    requires can_next { I.contract.can_next it }
+    requires finite { IsFinite (I.contract.remaining it) }
+    ensures value { (l : List (Result I.Item I.Error)) → Lists I.contract.steps it l
+        → (x : I.Item) → nth_of 1 l ≡ Ok (Some x)
+        → IfOk result (λ last. MatchOption last (length (behind_nth 1 l) ≡ 0)
+        (λ y. y ≡ slice_index_or (behind_nth 1 l) (length (behind_nth 1 l) - 1) y)) }
+    ensures fails { (l : List (Result I.Item I.Error)) → Lists I.contract.steps it l
+        → (e : I.Error) → nth_of 1 l ≡ Err e → result ≡ Err e }
+{
+    it.nth(1)?;
+    Ok(it.iterator().last())
+}
+
 /// How many of the readings are failures, modulo 2 ^ 32.
 pub fn failures(readings: Vec<Result<u32, u8>>) -> u32
     ensures { result ≡ length (filter is_err (results readings.items)) % 2 ^ 32 }
@@ -55,6 +78,25 @@ pub fn failures(readings: Vec<Result<u32, u8>>) -> u32
         }
     }
     failures
+}
+
+/// How many more items, up to ten, come behind the first of any fallible iterator that can't fail; none where it has no first.
+pub fn ten_behind_the_first<I: FallibleIterator>(mut it: I) -> usize
+where
+    I::Item: Drop,
+    I::Error: Debug + Drop,
+    requires can_next { I.contract.can_next it }
+    requires sure { NeverFails I.contract it }
+    ensures value { (l : List (Result I.Item I.Error)) → Lists I.contract.steps it l
+        → (x : I.Item) → nth_of 0 l ≡ Ok (Some x)
+        → result ≡ length (take 10 (unwrapped (behind_first l))) }
+    ensures none { (l : List (Result I.Item I.Error)) → Lists I.contract.steps it l
+        → nth_of 0 l ≡ Ok None → result ≡ 0 }
+{
+    match it.draw() {
+        Ok(Some(_)) => it.unwrap().take(10).count(),
+        Ok(None) | Err(_) => 0,
+    }
 }
 
 /// The numbers, each one greater, modulo 2 ^ 32.

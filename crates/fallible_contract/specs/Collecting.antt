@@ -36,7 +36,7 @@ pub record RefusesItem {S A E C : Type 0} (steps : S → Answered A E → S → 
   pub is_made : made items collection
   pub refuses_it : refuses collection refused
 
--- What `collect` answers: the collection of all items up to an end; the first failure; or want of memory, where the empty collection was refused, or an item was.
+-- What `collect` answers: the collection of all items up to an end; the first failure; or want of memory, where making an empty collection may be refused, or an item was refused.
 abbrev pub Collects : {S A E C : Type 0} → (S → Answered A E → S → Type 0) → (List A → C → Type 0) → Type 0 → (C → A → Type 0) → S → Result C (Fault E) → Type 0
 Collects steps made empty_refuses refuses s (Ok c) = CollectsAll steps made s c
 Collects steps made empty_refuses refuses s (Err (Source e)) = FailsWith steps made s e
@@ -94,7 +94,7 @@ module _ {A E F B : Type 0} (call : F → A → Result Bool E → F → Type 0) 
   abbrev pub IsPartitionTurnBehind : (List A → B → Type 0) → (B → A → Type 0) → F × MutBor (B × B) → A → ControlFlow (Fault E) (F × MutBor (B × B)) → Type 0
   IsPartitionTurnBehind made refuses = TurnBehind (λ c. (c.0, c.1.now)) (λ c. c.1.ghost_name) (IsPartitionTurn made refuses)
 
--- What `partition` answers: both collections, made of all items up to an end; the first failure of the source or the closure, before which both were made of the items; or want of memory, where an empty collection was refused, or an item was.
+-- What `partition` answers: both collections, made of all items up to an end; the first failure of the source or the closure, before which both were made of the items; or want of memory, where making an empty collection may be refused, or an item was refused.
 abbrev pub Partitions : {S A E F B : Type 0} → (S → Answered A E → S → Type 0) → (F → A → Result Bool E → F → Type 0) → (List A → B → Type 0) → Type 0 → (B → A → Type 0) → S → F → Result (B × B) (Fault E) → Type 0
 Partitions {F = F} steps call made empty_refuses refuses s f (Ok p) = (g : F) × CollectsAll steps (Parts call made f) s (g, p)
 Partitions {B = B} steps call made empty_refuses refuses s f (Err (Source e)) = FailsWith steps (Parts call made f) s e ⊎ RefusesItem steps (Parts call made f) (ClosureFails {B = B} call e) s

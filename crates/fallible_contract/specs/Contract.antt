@@ -48,6 +48,10 @@ module _ {S A E : Type 0} (m : Contract S A E) where
   abbrev pub Fewer : S → S → Type 0
   Fewer s t = (n : ℕ) → m.bound s n → (k : ℕ) × m.bound t k × (k < n)
 
+  -- what remains of t has a bound where that of s has one, and no greater one
+  abbrev pub NoMoreRemains : S → S → Type 0
+  NoMoreRemains s t = IsFinite (m.remaining s) → IsFinite (m.remaining t) × (size (m.remaining t) ≤ size (m.remaining s))
+
   -- An item was one to come, and there are fewer then; a failure was one to come; neither a failure nor an end makes more to come.
   abbrev pub OnAnswer : S → Answered A E → S → Type 0
   OnAnswer s (Ok (Some x)) t = m.may_give s x × Fewer s t × (IsFinite (m.remaining s) → IsFinite (m.remaining t) × (size (m.remaining t) < size (m.remaining s)))
@@ -63,23 +67,35 @@ module _ {S A E : Type 0} (m : Contract S A E) where
     pub may_fail : (e : E) → m.may_fail t e → m.may_fail s e
     pub lenders : m.lenders t ≡ m.lenders s
 
-  -- The same after any number of draws.
+  -- The same after any number of draws, from whichever end they were made.
+  pub record KeptByDraws (s t : S) : Type 0 where
+    pub can_next : m.can_next t
+    pub is_finite : m.is_finite s → m.is_finite t
+    pub bound : NoMore s t
+    pub remaining : NoMoreRemains s t
+    pub may_give : (x : A) → m.may_give t x → m.may_give s x
+    pub may_fail : (e : E) → m.may_fail t e → m.may_fail s e
+    pub lenders : m.lenders t ≡ m.lenders s
+
+  -- no failure can ever come again
+  abbrev pub NeverFails : S → Type 0
+  NeverFails s = (trace : List (Answered A E)) (t u : S) (e : E) → Run m.steps s trace t → m.steps t (Err e) u → ⊥
+
+  -- The same after any number of draws from one end; and what can never fail can't fail afterwards.
   pub record Stays (s t : S) : Type 0 where
     pub can_next : m.can_next t
     pub is_finite : m.is_finite s → m.is_finite t
     pub bound : NoMore s t
+    pub remaining : NoMoreRemains s t
     pub may_give : (x : A) → m.may_give t x → m.may_give s x
     pub may_fail : (e : E) → m.may_fail t e → m.may_fail s e
     pub lenders : m.lenders t ≡ m.lenders s
+    pub sure : NeverFails s → NeverFails t
 
   -- What each impl proves: each draw keeps what `KeptByDraw` says, and it is finite just where it has a bound.
   pub record Lawful : Type 0 where
     pub kept_by_draw : (s : S) (r : Answered A E) (t : S) → m.can_next s → m.steps s r t → KeptByDraw s r t
     pub bounded : (s : S) → m.is_finite s ↔ ((n : ℕ) × m.bound s n)
-
-  -- no failure can ever come again
-  abbrev pub NeverFails : S → Type 0
-  NeverFails s = (trace : List (Answered A E)) (t u : S) (e : E) → Run m.steps s trace t → m.steps t (Err e) u → ⊥
 
 -- the contract of a type whose values are seen as those of another, as those of a struct by its parts
 abbrev pub seen_as : {S P A E : Type 0} → (S → P) → Contract P A E → Contract S A E

@@ -12,7 +12,7 @@ pub enum Answer<T, E> {
 }
 
 /// An end to draw from.
-#[derive(Clone, Copy, Debug, PartialEq, Eq, Drop)]
+#[derive(Debug, PartialEq, Eq, Drop)]
 pub enum Side {
     /// the end that `next` draws from
     Front,

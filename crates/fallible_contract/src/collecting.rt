@@ -1,5 +1,5 @@
 //! Collections that are made of items, and the turns of the folds that fill them.
-ghost use Rattle.std.specs.Prelude.{◌≡◌, ℕ, ◌≤◌, List, [], ◌∷◌, ◌++◌, MatchResult, ⊤, vec_len, vec_capacity};
+ghost use Rattle.std.specs.Prelude.{◌≡◌, ℕ, ◌≤◌, List, [], ◌∷◌, ◌++◌, MatchResult, IfOk, ⊤, vec_len, vec_capacity};
 ghost use Rattle.fallible_contract.specs.Closures.{call_at, takes_at};
 ghost use Rattle.fallible_contract.specs.Collecting.{IsCollectTurnBehind, IsUnzipTurnBehind, IsPartitionTurnBehind};
 
@@ -60,7 +60,11 @@ impl<T: Drop> Collect<T> for Vec<T> {
 
     ghost push_refuses = { λ v _. vec_capacity v ≤ vec_len v };
 
-    fn empty(alloc: Global) -> Result<Vec<T>, AllocError> {
+    /// No memory is taken.
+    fn empty(alloc: Global) -> Result<Vec<T>, AllocError>
+        ensures made { MatchResult result (λ v. v.items ≡ []) (λ _. ⊥) }
+        ensures no_room { IfOk result (λ v. vec_capacity v ≡ 0) }
+    {
         Ok(Vec::new(alloc))
     }
 

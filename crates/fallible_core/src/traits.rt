@@ -391,7 +391,7 @@ pub trait FallibleIterator: Drop + Sized {
     ///
     /// Making it draws nothing and calls nothing. One call draws until an item is kept, a failure comes or an end. It fails as the source does. Where the predicate fails, its failure is the answer, and the item is lost. After a failure and after an end the next call goes on.
     ///
-    /// Asks that it is finite, and that the predicate may be called on each item that may come, in each state that such calls bring it to.
+    /// Asks that it is finite, and that the predicate may be called on each item that may come, in each state that such calls bring it to. Draws ask that items can be let go.
     ///
     /// ```
     /// convert(numbers.iter().copied().map(Ok))
@@ -439,7 +439,7 @@ pub trait FallibleIterator: Drop + Sized {
     ///
     /// Making it draws nothing and calls nothing. One call draws one answer, and none after the refused item. It fails as the source does. Where the predicate fails, its failure is the answer, and the item is lost. After a failure and after an end of the source the next call draws it again. After the refused item it ends for good.
     ///
-    /// Asks that the predicate may be called on each item that may come, in each state that such calls bring it to.
+    /// Asks that the predicate may be called on each item that may come, in each state that such calls bring it to. Draws ask that items can be let go.
     ///
     /// ```
     /// convert(readings.into_iter())
@@ -492,6 +492,8 @@ pub trait FallibleIterator: Drop + Sized {
     ///
     /// Making it draws nothing. One call draws at most n + 1 answers. It fails as the source does. A failure or an end that comes among the first n items is the answer, and the rest of them is left out after it.
     ///
+    /// Asks nothing. Draws ask that items can be let go.
+    ///
     /// ```
     /// convert(readings.into_iter())
     ///     .skip(1)
@@ -512,7 +514,7 @@ pub trait FallibleIterator: Drop + Sized {
     ///
     /// Making it draws nothing. One call draws at most `step` answers. It fails as the source does. After a failure and after an end it counts on.
     ///
-    /// Asks that the step is at least 1.
+    /// Asks that the step is at least 1. Draws ask that items can be let go.
     ///
     /// ```
     /// let answers = [Ok(0), Ok(1), Ok(2), Ok(3), Ok(4)];
@@ -568,7 +570,7 @@ pub trait FallibleIterator: Drop + Sized {
     ///
     /// Making it draws nothing and calls nothing. One call draws one answer. It fails as the source does. Where the closure fails, its failure is the answer, and the item is lost. After a failure and after an end the next call draws the source again.
     ///
-    /// Asks that the closure may be called on a reference to each item that may come.
+    /// Asks that the closure may be called on a reference to each item that may come. Draws ask that items can be let go.
     ///
     /// ```
     /// let answers = [Ok(1), Ok(2), Ok(3)];
@@ -638,7 +640,7 @@ pub trait FallibleIterator: Drop + Sized {
     ///
     /// Making it draws nothing and calls nothing. One call draws until an item is kept, a failure comes or an end. It fails as the source does. Where the predicate fails, its failure is the answer, the item is lost, and the skipping goes on. After a failure and after an end the next call goes on.
     ///
-    /// Asks that the source is finite, since one call may leave many items out, and that the predicate may be called on a reference to each item that may come until it first answers false.
+    /// Asks that the source is finite, since one call may leave many items out, and that the predicate may be called on a reference to each item that may come until it first answers false. Draws ask that items can be let go.
     ///
     /// ```
     /// convert(readings.into_iter())
@@ -804,7 +806,7 @@ pub trait FallibleIterator: Drop + Sized {
     ///
     /// Making it draws nothing. It calls `into_fallible_iter` once, and keeps what that gives. One call draws one answer, and then, where that isn't a failure, one of `o`, also at an end. It fails as this iterator does, or else as `o` does. An item beside a failure or an end is lost, and the next call draws both again.
     ///
-    /// Asks nothing. Each draw asks that both sides may be drawn from.
+    /// Asks nothing. Draws ask that both sides may be drawn from, and that items can be let go.
     ///
     /// ```
     /// (&mut left).zip(&mut right).draw()?;
@@ -905,7 +907,7 @@ pub trait FallibleIterator: Drop + Sized {
     ///
     /// It draws up to the end, the first failure or an item that the collection refuses. That the collection is made before the first draw, so that nothing is drawn where it is refused, and that no room is taken ahead, is tested and no part of the contract.
     ///
-    /// It fails with `Fault::Source` of the first failure, and with `Fault::Memory` where the collection refused: it could not be made, or the item that it refused was the last one drawn. Of a collection that never refuses `Fault::Memory` is never answered. It takes the iterator, and no clause says what is left.
+    /// It fails with `Fault::Source` of the first failure, and with `Fault::Memory` where the collection refused: it is of a type whose making may be refused, or the item that it refused was the last one drawn. Of a collection that never refuses `Fault::Memory` is never answered. It takes the iterator, and no clause says what is left.
     ///
     /// Asks that it may be drawn from and is finite.
     ///
@@ -947,7 +949,7 @@ pub trait FallibleIterator: Drop + Sized {
     ///
     /// It draws up to the end, the first failure, an item on which the predicate fails or one that a collection refuses. The predicate is called once on each item. That both are made before the first draw is tested and no part of the contract.
     ///
-    /// It fails with `Fault::Source` of the first failure of the source or of the predicate, and with `Fault::Memory` where a collection refused: one could not be made, or the item that was refused was the last one drawn. Of a collection that never refuses `Fault::Memory` is never answered. It takes the iterator, and no clause says what is left.
+    /// It fails with `Fault::Source` of the first failure of the source or of the predicate, and with `Fault::Memory` where a collection refused: they are of a type whose making may be refused, or the item that was refused was the last one drawn. Of a collection that never refuses `Fault::Memory` is never answered. It takes the iterator, and no clause says what is left.
     ///
     /// Asks that it may be drawn from and is finite, and that the predicate may be called on each item that may come.
     ///
@@ -1001,7 +1003,7 @@ pub trait FallibleIterator: Drop + Sized {
     ///
     /// It draws up to the end, the first failure or a pair that a collection refuses. That both are made before the first draw is tested and no part of the contract.
     ///
-    /// It fails with `Fault::Source` of the first failure, before which all pairs were accepted, and with `Fault::Memory` where a collection refused: one could not be made, or the pair that was refused was the last one drawn. That pair is lost. It takes the iterator, and no clause says what is left.
+    /// It fails with `Fault::Source` of the first failure, before which all pairs were accepted, and with `Fault::Memory` where a collection refused: one is of a type whose making may be refused, or the pair that was refused was the last one drawn. That pair is lost. It takes the iterator, and no clause says what is left.
     ///
     /// Asks that it may be drawn from and is finite.
     ///

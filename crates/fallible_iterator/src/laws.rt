@@ -16,7 +16,7 @@ mod peeking;
 mod sources;
 mod traces;
 
-pub use borrowed::law_borrowed;
+pub use borrowed::{law_back_borrowed, law_borrowed};
 pub use bound::{law_bound, law_bound_ends};
 pub use bridges::{law_back_iterator, law_iterator, law_unwrap};
 pub use comparing::law_eq_is_cmp_equal;
@@ -46,4 +46,5 @@ pub use sources::{
     law_into_fallible, law_listed_convert, law_listed_into_fallible, law_listed_vec, law_once,
     law_once_err, law_repeat, law_repeat_err, law_sources,
 };
+pub use fallible_contract::answers::{Answer, Side};
 pub use traces::{answers, answers_at};

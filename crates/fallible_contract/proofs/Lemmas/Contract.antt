@@ -1,11 +1,11 @@
 -- What stays after any number of draws.
 use Rattle.std.specs.Prelude.{ℕ, ◌≤◌, List, [], ◌∷◌, Some, None, Ok, Err}
-use Rattle.std.proofs.Common.{arith, subst, inl, inr, ◌∙◌}
+use Rattle.std.proofs.Common.{arith, subst, inl, inr}
 use Rattle.fallible_contract.specs.Traces.{Answered, Yields, item}
-use Rattle.fallible_contract.specs.Contract.{Contract, AtMost, OnAnswer, KeptByDraw, Stays, Lawful}
+use Rattle.fallible_contract.specs.Contract.{Contract, AtMost, OnAnswer, KeptByDraw, KeptByDraws, Stays, Lawful}
 use Rattle.fallible_contract.specs.Ends.{Ends, from_front, from_back, LawfulEnds}
 use Rattle.fallible_contract.specs.BothEnds.{step_at}
-use Rattle.fallible_contract.specs.Laws.Contract.{no_more_then, stays_after, stays_here}
+use Rattle.fallible_contract.specs.Laws.Contract.{kept_after, kept_of, kept_then, stays_after, stays_here, stays_of, sure_after}
 use Rattle.fallible_contract.specs.declared.answers.Side.{Side}
 use Rattle.fallible_contract.specs.declared.answers.Side.TheVariants.{Front, Back}
 
@@ -18,28 +18,17 @@ module _ {S A E : Type 0} (m : Contract S A E) where
 module _ {S A E : Type 0} {m : Contract S A E} where
   pub stays_yields : Lawful m → (s : S) (xs : List A) (t : S) → m.can_next s → Yields m.steps s xs t → Stays m s t
   stays_yields l s [] t c ran = subst (λ (u : S). Stays m s u) ran (stays_here c)
-  stays_yields l s (x ∷ xs) t c ran = let g = l.kept_by_draw s (item x) ran.0 c ran.1 in stays_after g (stays_yields l ran.0 xs t g.can_next ran.2)
+  stays_yields l s (x ∷ xs) t c ran = let g = l.kept_by_draw s (item x) ran.0 c ran.1 in stays_after ran.1 g (stays_yields l ran.0 xs t g.can_next ran.2)
 
   -- an item that came after others was one to come
   pub given_after : Lawful m → (s : S) (xs : List A) (t u : S) (x : A) → m.can_next s → Yields m.steps s xs t → m.steps t (item x) u → m.may_give s x
   given_after l s xs t u x c ran step = let h = stays_yields l s xs t c ran in h.may_give x ((l.kept_by_draw t (item x) u h.can_next step).answer.0)
 
--- ---- a type whose values are seen as those of another
+-- ---- one more draw
 
 module _ {S A E : Type 0} {m : Contract S A E} where
-  stays_then : {s t u : S} → Stays m s t → Stays m t u → Stays m s u
-  stays_then {s} {t} {u} p q = record {
-    can_next = q.can_next;
-    is_finite = λ e. q.is_finite (p.is_finite e);
-    bound = no_more_then m s t u p.bound q.bound;
-    may_give = λ x h. p.may_give x (q.may_give x h);
-    may_fail = λ e h. p.may_fail e (q.may_fail e h);
-    lenders = q.lenders ∙ p.lenders;
-  }
-
-  -- one more draw
   pub stays_step : {s t u : S} {r : Answered A E} → Lawful m → Stays m s t → m.steps t r u → Stays m s u
-  stays_step {s} {t} {u} {r} l p step = let g = l.kept_by_draw t r u p.can_next step in stays_then p (stays_after g (stays_here g.can_next))
+  stays_step {s} {t} {u} {r} l p step = let g = l.kept_by_draw t r u p.can_next step in stays_of (kept_then (kept_of p) (kept_after g)) (λ never. sure_after m t u r step (p.sure never))
 
 -- ---- draws from both ends
 
@@ -49,8 +38,8 @@ module _ {S A E : Type 0} (m : Contract S A E) (e : Ends S A E) where
   answer_at s t (Ok None) h = h
   answer_at s t (Err d) h = h
 
-  -- one more draw, from the end that is named
-  pub stays_step_at : LawfulEnds m e → (side : Side) (r : Answered A E) (s t u : S) → Stays (from_front m e) s t → step_at m.steps e.steps side t r u → Stays (from_front m e) s u
-  stays_step_at l Front r s t u p step = stays_step l.front p step
-  stays_step_at l Back r s t u p step = let g = l.back.kept_by_draw t r u p.can_next step in
-      let h : KeptByDraw (from_front m e) t r u = record { can_next = g.can_next; is_finite = g.is_finite; answer = answer_at t u r g.answer; may_give = g.may_give; may_fail = g.may_fail; lenders = g.lenders } in stays_then p (stays_after h (stays_here h.can_next))
+  -- from the end that is named
+  pub kept_step_at : LawfulEnds m e → (side : Side) (r : Answered A E) (s t u : S) → KeptByDraws (from_front m e) s t → step_at m.steps e.steps side t r u → KeptByDraws (from_front m e) s u
+  kept_step_at l Front r s t u p step = kept_then p (kept_after (l.front.kept_by_draw t r u p.can_next step))
+  kept_step_at l Back r s t u p step = let g = l.back.kept_by_draw t r u p.can_next step in
+      let h : KeptByDraw (from_front m e) t r u = record { can_next = g.can_next; is_finite = g.is_finite; answer = answer_at t u r g.answer; may_give = g.may_give; may_fail = g.may_fail; lenders = g.lenders } in kept_then p (kept_after h)

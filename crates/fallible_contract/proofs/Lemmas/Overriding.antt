@@ -3,7 +3,7 @@ use Rattle.std.specs.Prelude.{◌≡◌, ℕ, Option, List, [], ◌∷◌, ◌++
 use Rattle.std.specs.List.{FoldsTo}
 use Rattle.std.proofs.Common.{refl, sym, subst}
 use Rattle.fallible_contract.specs.Traces.{Answered, Yields, item}
-use Rattle.fallible_contract.specs.Contract.{Contract, Stays, seen_as}
+use Rattle.fallible_contract.specs.Contract.{Contract, seen_as}
 use Rattle.fallible_contract.specs.Folds.{HoldsAtEachTurn, Carried, Counted, LastOf, Nth}
 use Rattle.fallible_contract.specs.Searching.{Searched}
 use Rattle.std.specs.declared.ops.ControlFlow.{ControlFlow}
@@ -44,6 +44,3 @@ module _ {S P : Type 0} (view : S → P) (put : S → P → S) (viewed : (s : S)
 
     pub searched_held : {F V R : Type 0} {call : F → A → Result V E → F → Type 0} {pick : ℕ → A → V → Option R} {none : R} {f g : F} {r : Result R E} {t : S} → Searched call pick m.steps none (view s) f r (view t) g → Searched call pick (seen_as view m).steps none s f r t g
     searched_held {t = t} h = record { items = h.items; last = h.last; closure = h.closure; ran = run_up m.steps (map item h.items) h.last s t h.ran; went = h.went; exit = h.exit }
-
-    pub stays_held : {t : S} → Stays m (view s) (view t) → Stays (seen_as view m) s t
-    stays_held h = record { can_next = h.can_next; is_finite = h.is_finite; bound = h.bound; may_give = h.may_give; may_fail = h.may_fail; lenders = h.lenders }

@@ -1,9 +1,8 @@
 -- What stays after any number of draws.
-use Rattle.std.specs.Prelude.{◌≤◌, List, [], ◌∷◌, Some, None, Ok, Err}
-use Rattle.std.specs.Iterator.{IsFinite, size}
+use Rattle.std.specs.Prelude.{List, [], ◌∷◌, Some, None, Ok, Err}
 use Rattle.std.proofs.Common.{arith, subst, refl, ◌∙◌}
 use Rattle.fallible_contract.specs.Traces.{Answered, Run}
-use Rattle.fallible_contract.specs.Contract.{Contract, NoMore, OnAnswer, KeptByDraw, Stays, Lawful, seen_as}
+use Rattle.fallible_contract.specs.Contract.{Contract, NoMore, NoMoreRemains, OnAnswer, KeptByDraw, KeptByDraws, NeverFails, Stays, Lawful, seen_as}
 
 module _ {S A E : Type 0} (m : Contract S A E) where
   -- after any answer nothing more is to come than before
@@ -12,26 +11,71 @@ module _ {S A E : Type 0} (m : Contract S A E) where
   no_more s t (Ok None) h n b = h.0 n b
   no_more s t (Err e) h n b = h.1 n b
 
-  pub no_more_then : (s t u : S) → NoMore m s t → NoMore m t u → NoMore m s u
+  -- and no more remains
+  no_more_remains : (s t : S) (r : Answered A E) → OnAnswer m s r t → NoMoreRemains m s t
+  no_more_remains s t (Ok (Some x)) h f = let k = h.2 f in (k.0, omega (arith, k.1))
+  no_more_remains s t (Ok None) h f = h.1 f
+  no_more_remains s t (Err e) h f = let k = h.2 f in (k.0, omega (arith, k.1))
+
+  no_more_then : (s t u : S) → NoMore m s t → NoMore m t u → NoMore m s u
   no_more_then s t u p q n b = let j = p n b in let k = q j.0 j.1 in (k.0, k.1, omega (arith, j.2, k.2))
 
+  no_more_remains_then : (s t u : S) → NoMoreRemains m s t → NoMoreRemains m t u → NoMoreRemains m s u
+  no_more_remains_then s t u p q f = let j = p f in let k = q j.0 in (k.0, omega (arith, j.1, k.1))
+
+  -- what can never fail can't fail after a draw
+  pub sure_after : (s t : S) (r : Answered A E) → m.steps s r t → NeverFails m s → NeverFails m t
+  sure_after s t r step sure trace u v e ran fails = sure (r ∷ trace) u v e (t, step, ran) fails
+
+-- ---- draws from whichever end
+
 module _ {S A E : Type 0} {m : Contract S A E} where
-  pub stays_after : {s t u : S} {r : Answered A E} → KeptByDraw m s r t → Stays m t u → Stays m s u
-  stays_after {s} {t} {u} {r} g h = record {
-    can_next = h.can_next;
-    is_finite = λ e. h.is_finite (g.is_finite e);
-    bound = no_more_then m s t u (no_more m s t r g.answer) h.bound;
-    may_give = λ x p. g.may_give x (h.may_give x p);
-    may_fail = λ e p. g.may_fail e (h.may_fail e p);
-    lenders = h.lenders ∙ g.lenders;
+  -- one draw, whatever its answer was
+  pub kept_after : {s t : S} {r : Answered A E} → KeptByDraw m s r t → KeptByDraws m s t
+  kept_after {s} {t} {r} g = record {
+    can_next = g.can_next;
+    is_finite = g.is_finite;
+    bound = no_more m s t r g.answer;
+    remaining = no_more_remains m s t r g.answer;
+    may_give = g.may_give;
+    may_fail = g.may_fail;
+    lenders = g.lenders;
   }
 
+  -- one run of draws after another
+  pub kept_then : {s t u : S} → KeptByDraws m s t → KeptByDraws m t u → KeptByDraws m s u
+  kept_then {s} {t} {u} p q = record {
+    can_next = q.can_next;
+    is_finite = λ e. q.is_finite (p.is_finite e);
+    bound = no_more_then m s t u p.bound q.bound;
+    remaining = no_more_remains_then m s t u p.remaining q.remaining;
+    may_give = λ x h. p.may_give x (q.may_give x h);
+    may_fail = λ e h. p.may_fail e (q.may_fail e h);
+    lenders = q.lenders ∙ p.lenders;
+  }
+
+  pub kept_here : {s : S} → m.can_next s → KeptByDraws m s s
+  kept_here c = record { can_next = c; is_finite = λ e. e; bound = λ n b. (n, b, omega arith); remaining = λ f. (f, omega arith); may_give = λ x p. p; may_fail = λ e p. p; lenders = refl }
+
+-- ---- draws from one end
+
+module _ {S A E : Type 0} {m : Contract S A E} where
+  pub kept_of : {s t : S} → Stays m s t → KeptByDraws m s t
+  kept_of h = record { can_next = h.can_next; is_finite = h.is_finite; bound = h.bound; remaining = h.remaining; may_give = h.may_give; may_fail = h.may_fail; lenders = h.lenders }
+
+  pub stays_of : {s t : S} → KeptByDraws m s t → (NeverFails m s → NeverFails m t) → Stays m s t
+  stays_of h sure = record { can_next = h.can_next; is_finite = h.is_finite; bound = h.bound; remaining = h.remaining; may_give = h.may_give; may_fail = h.may_fail; lenders = h.lenders; sure = sure }
+
+  -- a draw, and then those after it
+  pub stays_after : {s t u : S} {r : Answered A E} → m.steps s r t → KeptByDraw m s r t → Stays m t u → Stays m s u
+  stays_after {s} {t} {u} {r} step g h = stays_of (kept_then (kept_after g) (kept_of h)) (λ never. h.sure (sure_after m s t r step never))
+
   pub stays_here : {s : S} → m.can_next s → Stays m s s
-  stays_here c = record { can_next = c; is_finite = λ e. e; bound = λ n b. (n, b, omega arith); may_give = λ x p. p; may_fail = λ e p. p; lenders = refl }
+  stays_here c = stays_of (kept_here c) (λ never. never)
 
   pub stays_run : Lawful m → (s : S) (trace : List (Answered A E)) (t : S) → m.can_next s → Run m.steps s trace t → Stays m s t
   stays_run l s [] t c ran = subst (λ (u : S). Stays m s u) ran (stays_here c)
-  stays_run l s (r ∷ rest) t c ran = let g = l.kept_by_draw s r ran.0 c ran.1 in stays_after g (stays_run l ran.0 rest t g.can_next ran.2)
+  stays_run l s (r ∷ rest) t c ran = let g = l.kept_by_draw s r ran.0 c ran.1 in stays_after ran.1 g (stays_run l ran.0 rest t g.can_next ran.2)
 
 -- ---- a type whose values are seen as those of another
 
@@ -48,17 +92,17 @@ pub lawful_seen : {S P A E : Type 0} {m : Contract P A E} (view : S → P) → L
 lawful_seen {m = m} view l = record { kept_by_draw = λ s r t c step. goes_seen m view s t r (l.kept_by_draw (view s) r (view t) c step); bounded = λ s. l.bounded (view s) }
 
 module _ {S A E : Type 0} {m : Contract S A E} where
-  answer_later : (s t u : S) (r : Answered A E) → Stays m s t → (IsFinite (m.remaining s) → IsFinite (m.remaining t) × (size (m.remaining t) ≤ size (m.remaining s))) → OnAnswer m t r u → OnAnswer m s r u
-  answer_later s t u (Ok (Some x)) p le a = (p.may_give x a.0, (λ n b. let j = p.bound n b in let k = a.1 j.0 j.1 in (k.0, k.1, omega (arith, j.2, k.2))), (λ f. let j = le f in let k = a.2 j.0 in (k.0, omega (arith, j.1, k.1))))
-  answer_later s t u (Ok None) p le a = ((λ n b. let j = p.bound n b in let k = a.0 j.0 j.1 in (k.0, k.1, omega (arith, j.2, k.2))), (λ f. let j = le f in let k = a.1 j.0 in (k.0, omega (arith, j.1, k.1))))
-  answer_later s t u (Err e) p le a = (p.may_fail e a.0, (λ n b. let j = p.bound n b in let k = a.1 j.0 j.1 in (k.0, k.1, omega (arith, j.2, k.2))), (λ f. let j = le f in let k = a.2 j.0 in (k.0, omega (arith, j.1, k.1))))
+  answer_later : (s t u : S) (r : Answered A E) → KeptByDraws m s t → OnAnswer m t r u → OnAnswer m s r u
+  answer_later s t u (Ok (Some x)) p a = (p.may_give x a.0, (λ n b. let j = p.bound n b in let k = a.1 j.0 j.1 in (k.0, k.1, omega (arith, j.2, k.2))), (λ f. let j = p.remaining f in let k = a.2 j.0 in (k.0, omega (arith, j.1, k.1))))
+  answer_later s t u (Ok None) p a = (no_more_then m s t u p.bound a.0, no_more_remains_then m s t u p.remaining a.1)
+  answer_later s t u (Err e) p a = (p.may_fail e a.0, no_more_then m s t u p.bound a.1, (λ f. let j = p.remaining f in let k = a.2 j.0 in (k.0, omega (arith, j.1, k.1))))
 
   -- a draw keeps the contract also from where nothing more was to come before it
-  pub goes_later : {s t u : S} {r : Answered A E} → Stays m s t → (IsFinite (m.remaining s) → IsFinite (m.remaining t) × (size (m.remaining t) ≤ size (m.remaining s))) → KeptByDraw m t r u → KeptByDraw m s r u
-  goes_later {s} {t} {u} {r} p elements g = record {
+  pub goes_later : {s t u : S} {r : Answered A E} → KeptByDraws m s t → KeptByDraw m t r u → KeptByDraw m s r u
+  goes_later {s} {t} {u} {r} p g = record {
     can_next = g.can_next;
     is_finite = λ e. g.is_finite (p.is_finite e);
-    answer = answer_later s t u r p elements g.answer;
+    answer = answer_later s t u r p g.answer;
     may_give = λ x h. p.may_give x (g.may_give x h);
     may_fail = λ e h. p.may_fail e (g.may_fail e h);
     lenders = g.lenders ∙ p.lenders;

@@ -1,11 +1,11 @@
 -- A draw of an adapter that keeps items by their numbers goes as the draws of its source go.
 use Rattle.std.specs.Prelude.{◌≡◌, ℕ, ◌+◌, List, [], ◌∷◌, map, filter, cond, Option, Some, None, Ok, Err, Bool, true, false}
-use Rattle.std.proofs.Common.{refl, subst, arith, inl, inr}
+use Rattle.std.proofs.Common.{refl, subst, inl, inr}
 use Rattle.std.proofs.lemmas.Bool.{cases_Bool}
 use Rattle.fallible_contract.specs.Traces.{LastKept, Answered, Run, item, end, failure}
 use Rattle.fallible_contract.specs.Contract.{Contract, KeptByDraw, Lawful}
 use Rattle.fallible_contract.specs.Counting.{with_numbers, is_kept, kept, KeptByNumber}
-use Rattle.fallible_contract.specs.Laws.Contract.{stays_here, stays_after, goes_later}
+use Rattle.fallible_contract.specs.Laws.Contract.{kept_after, goes_later}
 
 module _ {A E : Type 0} (keeps : ℕ → Bool) where
   -- none is kept of these, and then it isn't the first one, nor any of the others
@@ -41,7 +41,7 @@ module _ {S A E : Type 0} (m : Contract S A E) (keeps : ℕ → Bool) (l : Lawfu
   goes_kept [] k s t r c ran e last = absurd cc
   goes_kept (Ok (Some x) ∷ source) k s t r c ran e last = elim (cases_Bool (keeps k)) [
     | inl h ↦ goes_last source (k + 1) s ran.0 t r (item x) c ran.1 ran.2 (rw h at e) (last_tail keeps (Some k, item x) (with_numbers (k + 1) source) last)
-    | inr h ↦ let a = l.kept_by_draw s (item x) ran.0 c ran.1 in goes_later (stays_after a (stays_here a.can_next)) (λ f. let n = a.answer.2 f in (n.0, omega (arith, n.1))) (goes_kept source (k + 1) ran.0 t r a.can_next ran.2 (rw h at e) (last_tail keeps (Some k, item x) (with_numbers (k + 1) source) last))
+    | inr h ↦ let a = l.kept_by_draw s (item x) ran.0 c ran.1 in goes_later (kept_after a) (goes_kept source (k + 1) ran.0 t r a.can_next ran.2 (rw h at e) (last_tail keeps (Some k, item x) (with_numbers (k + 1) source) last))
   ]
   goes_kept (Ok None ∷ source) k s t r c ran e last = goes_last source k s ran.0 t r end c ran.1 ran.2 e (last_tail keeps (None, end) (with_numbers k source) last)
   goes_kept (Err d ∷ source) k s t r c ran e last = goes_last source k s ran.0 t r (failure d) c ran.1 ran.2 e (last_tail keeps (None, failure d) (with_numbers k source) last)

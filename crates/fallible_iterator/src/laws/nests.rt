@@ -10,12 +10,11 @@ use super::cutting::law_take;
 use super::filtering::law_filter;
 use super::one_to_one::law_map;
 use super::sources::law_convert;
-use crate::sources::{Convert, IntoFallible};
+use crate::sources::Convert;
 use fallible_core::cutting::Take;
 use fallible_core::filtering::Filter;
 use fallible_core::one_to_one::Map;
 use fallible_core::traits::FallibleIterator;
-use std::ops::Range;
 
 /// A trace of a `Take` of a `Map` of a `Filter`, over every source, is the front, up to the n-th item, of the mapped, kept items of a trace of the source, with just the draws of that trace. A law of any other nest is the laws of its types in a row in the same way.
 pub fn law_nest<
@@ -47,7 +46,6 @@ pub fn law_nest_borrowed<'a, T: 'a, E: 'a, J: std::iter::Iterator<Item = Result<
         (record t { it = record s.it { now = t.it.now } }) }
 {
     law_convert::<T, E, J>();
-    // It also speaks of a type with two ends, for which any does here.
-    law_borrowed::<Convert<J>, IntoFallible<Range<u32>>>();
+    law_borrowed::<Convert<J>>();
     law_take::<&'a mut Convert<J>>();
 }

@@ -1,6 +1,6 @@
 //! Traces that a test or a caller can look at.
 ghost use Rattle.std.specs.Prelude.{◌≡◌, ℕ, ◌+◌, ◌≤◌, List, length, take, drop, IfOk, IfErr, Result, Option};
-ghost use Rattle.fallible_contract.specs.Contract.{Contract, Stays};
+ghost use Rattle.fallible_contract.specs.Contract.{Contract, KeptByDraws, Stays};
 ghost use Rattle.fallible_contract.specs.Ends.{from_front};
 ghost use Rattle.fallible_contract.specs.ShownTraces.{answer_of, IsAnswers, IsAnswersAt, answers_of};
 ghost use Rattle.fallible_contract.specs.Lists.{Lists};
@@ -71,11 +71,11 @@ where
         → IfOk result (λ _. ListsBothEnds I.contract.steps I.ends.steps it.new
         (behind_ends sides.now l)) }
     ensures refused { IfErr result (λ _. it.new ≡ it.old) }
-    ensures stays { Stays (from_front I.contract I.ends) it.old it.new }
+    ensures kept { KeptByDraws (from_front I.contract I.ends) it.old it.new }
 {
     let mut given = Vec::with_capacity(alloc, sides.len())?;
     for side in sides {
-        let answer = draw_at(it, *side);
+        let answer = draw_at(it, side);
         given.push_reserved(answer);
     }
     Ok(given)
@@ -90,11 +90,11 @@ where
     told(it.next())
 }
 
-fn draw_at<I: DoubleEndedFallibleIterator>(it: &mut I, side: Side) -> Answer<I::Item, I::Error>
+fn draw_at<I: DoubleEndedFallibleIterator>(it: &mut I, side: &Side) -> Answer<I::Item, I::Error>
 where
     requires { I.ends.can_next it.old }
     ensures { (r : Result (Option I.Item) I.Error)
-        × step_at I.contract.steps I.ends.steps side it.old r it.new × (result ≡ answer_of r) }
+        × step_at I.contract.steps I.ends.steps side.now it.old r it.new × (result ≡ answer_of r) }
 {
     match side {
         Side::Front => told(it.next()),

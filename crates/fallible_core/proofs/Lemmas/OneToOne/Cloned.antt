@@ -32,18 +32,6 @@ module _ {T E : Type 0} (is_clone : T → T → Type 0) (is_infallible : T → T
   lists_pointed_to m s l i = lists_seen cloned_parts (cloned_contract is_clone is_infallible from m).steps s refl (pointed_to_is l)
       (all_given m.steps (cloned_call is_clone is_infallible from) map_outcome (λ (f p : Unit {0}). Unit {0}) (λ p x. Ok x.now) (λ p x. p) (λ f p x v g at c. (tt, clone_is x v c)) l s.it tt tt tt i.runs)
 
--- ---- what stays of its source stays of it
-
-pub stays_cloned : {S T E : Type 0} {m : Contract S (Bor T) E} {s t : S} (is_clone : T → T → Type 0) (is_infallible : T → Type 0) (from : AllocError → E → Type 0) → Stays m s t → Stays (seen_as cloned_parts (cloned_contract is_clone is_infallible from m)) (record { it = s }) (record { it = t })
-stays_cloned is_clone is_infallible from a = record {
-  can_next = (a.can_next, tt);
-  is_finite = a.is_finite;
-  bound = a.bound;
-  may_give = λ y h. may_answer_after a.may_give reaches_here h;
-  may_fail = λ e h. elim h [ inl b ↦ inl (a.may_fail e b) | inr b ↦ inr (may_answer_after a.may_give reaches_here b) ];
-  lenders = a.lenders;
-}
-
 -- ---- from both ends
 
 -- an item beside its clone, as one beside what the call of `Cloned` answers

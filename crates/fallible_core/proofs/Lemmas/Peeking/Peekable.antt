@@ -4,7 +4,7 @@ use Rattle.std.specs.Borrow.{Bor}
 use Rattle.std.specs.Fn.{Shared, FnReturnsAt}
 use Rattle.std.proofs.Common.{refl, sym, ap, subst, arith, inl, inr}
 use Rattle.fallible_contract.specs.Traces.{Answered, Run, item, end}
-use Rattle.fallible_contract.specs.Contract.{Contract, KeptByDraw, Stays, Lawful, seen_as}
+use Rattle.fallible_contract.specs.Contract.{Contract, KeptByDraw, NeverFails, Stays, Lawful, seen_as}
 use Rattle.fallible_contract.specs.Lists.{AlwaysGives, Lists}
 use Rattle.fallible_contract.proofs.Lemmas.Lists.Passing.{lists_seen}
 use Rattle.fallible_contract.specs.Laws.Contract.{stays_after, stays_here}
@@ -18,32 +18,41 @@ module _ {S A E : Type 0} {m : Contract S A E} (l : Lawful m) where
   abbrev Q : Contract (S × Option (Option A)) A E
   Q = peekable_contract m
 
+  -- an item or an end that was drawn and is held comes next, as it came
+  sure_held : (s t : S) (o : Option A) → m.steps s (Ok o) t → NeverFails Q (s, None) → NeverFails Q (t, Some o)
+  sure_held s t o step never [] u v e ran fails = let d : Err e ≡ Ok o = (subst (λ (p : S × Option (Option A)). Q.steps p (Err e) v) (sym ran) fails).0 in absurd cc
+  sure_held s t o step never (r ∷ trace) u v e ((t', held'), held, ran) fails = never (r ∷ trace) u v e ((t', held'), (rw (held.0, held.1) step, held.2), ran) fails
+
   -- an item that was drawn is held
-  item_stays : (s t : S) (x : A) → KeptByDraw m s (item x) t → Stays Q (s, None) (t, Some (Some x))
-  item_stays s t x a = record {
+  item_stays : (s t : S) (x : A) → m.steps s (item x) t → KeptByDraw m s (item x) t → Stays Q (s, None) (t, Some (Some x))
+  item_stays s t x step a = record {
     can_next = a.can_next;
     is_finite = a.is_finite;
     bound = λ n b. let k = a.answer.1 b.0 b.1 in (n, (k.0, k.1, omega (arith, k.2, b.2)), omega arith);
+    remaining = λ f. absurd f;
     may_give = λ y h. elim h [ inl e ↦ (let same : x ≡ y = cc in inr (subst (λ (z : A). m.may_give s z) same a.answer.0)) | inr g ↦ inr (a.may_give y g) ];
     may_fail = a.may_fail;
     lenders = a.lenders;
+    sure = sure_held s t (Some x) step;
   }
 
   -- an end that was drawn is held
-  end_stays : (s t : S) → KeptByDraw m s end t → Stays Q (s, None) (t, Some None)
-  end_stays s t a = record {
+  end_stays : (s t : S) → m.steps s end t → KeptByDraw m s end t → Stays Q (s, None) (t, Some None)
+  end_stays s t step a = record {
     can_next = a.can_next;
     is_finite = a.is_finite;
     bound = λ n b. let k = a.answer.0 b.0 b.1 in (n, (k.0, k.1, omega (arith, k.2, b.2)), omega arith);
+    remaining = λ f. absurd f;
     may_give = λ y h. elim h [ inl e ↦ absurd cc | inr g ↦ inr (a.may_give y g) ];
     may_fail = a.may_fail;
     lenders = a.lenders;
+    sure = sure_held s t None step;
   }
 
   peeked_stays : (s t : S) (r : Answered A E) (held : Option (Option A)) → m.can_next s → Peeks m.steps (s, None) r (t, held) → Stays Q (s, None) (t, held)
-  peeked_stays s t (Ok (Some x)) held c peeks = rw peeks.1 (item_stays s t x (l.kept_by_draw s (item x) t c peeks.0))
-  peeked_stays s t (Ok None) held c peeks = rw peeks.1 (end_stays s t (l.kept_by_draw s end t c peeks.0))
-  peeked_stays s t (Err e) held c peeks = let a = l.kept_by_draw s (Err e) t c peeks.0 in rw peeks.1 (stays_after (drawn_goes m s t (Err e) a) (stays_here a.can_next))
+  peeked_stays s t (Ok (Some x)) held c peeks = rw peeks.1 (item_stays s t x peeks.0 (l.kept_by_draw s (item x) t c peeks.0))
+  peeked_stays s t (Ok None) held c peeks = rw peeks.1 (end_stays s t peeks.0 (l.kept_by_draw s end t c peeks.0))
+  peeked_stays s t (Err e) held c peeks = let a = l.kept_by_draw s (Err e) t c peeks.0 in rw peeks.1 (stays_after (peeks.0, refl) (drawn_goes m s t (Err e) a) (stays_here a.can_next))
 
   pub stays_peek : (p : S × Option (Option A)) (r : Answered A E) (q : S × Option (Option A)) → m.can_next p.0 → Peeks m.steps p r q → Stays Q p q
   stays_peek (s, Some o) r (t, held) c peeks = rw (peeks.1, peeks.2) (stays_here c)

@@ -5,7 +5,7 @@ use Rattle.std.proofs.Common.{refl, sym, ap, subst, arith, inl, inr}
 use Rattle.std.proofs.lemmas.List.{append-nil}
 use Rattle.std.proofs.Math.Nat.{mul-suc, mul-le-mul_left}
 use Rattle.fallible_contract.specs.Traces.{Answered, Run, item, failure, end, NoEnd}
-use Rattle.fallible_contract.specs.Contract.{Contract, OnAnswer, KeptByDraw, Stays, Lawful}
+use Rattle.fallible_contract.specs.Contract.{Contract, OnAnswer, KeptByDraw, KeptByDraws, Lawful}
 use Rattle.fallible_contract.specs.Laws.Contract.{no_more, goes_later}
 use Rattle.fallible_core.specs.Joining.Flatten.{flatten_contract, NumberInHand, SomeInner, EachInner, FlattenNumber, Part, of_inner, of_failure, of_end, outer_answer, part_answers, Finished, FinishedParts, LastPart, FinishedInHand, Joined, FlattenAnswers, nothing_drawn, still_in_hand, outer_drawn}
 
@@ -116,11 +116,12 @@ module _ {S X C B E : Type 0} (m : Contract S X E) (l : Lawful m) (into : X → 
   }
 
   -- an inner iterator that ended is dropped
-  dropped : (s : S) (c : C) → M.can_next (s, Some c) → Stays M (s, Some c) (s, None)
+  dropped : (s : S) (c : C) → M.can_next (s, Some c) → KeptByDraws M (s, Some c) (s, None)
   dropped s c can = record {
     can_next = (can.0, can.1, tt, can.3);
     is_finite = λ e. (e.0, tt, e.2);
     bound = λ n b. (b.each * b.outer, record { outer = b.outer; each = b.each; in_hand = 0; outer_is = b.outer_is; each_is = b.each_is; in_hand_is = refl; sum = omega arith }, omega (arith, b.sum));
+    remaining = λ f. absurd f;
     may_give = λ y h. elim h [ inl p ↦ absurd p | inr p ↦ inr p ];
     may_fail = λ e h. elim h [ inl p ↦ inl p | inr p ↦ elim p [ inl q ↦ absurd q | inr q ↦ inr (inr q) ] ];
     lenders = refl;
@@ -130,8 +131,8 @@ module _ {S X C B E : Type 0} (m : Contract S X E) (l : Lawful m) (into : X → 
   one_fewer b a j q lt le = let h : b * j + b ≤ b * a = rw (sym (mul-suc b j)) (mul-le-mul_left b lt) in omega (arith, h, le)
 
   -- an item became an inner iterator, which is in hand then
-  begun_stays : (s u : S) (c : C) (x : X) → M.can_next (s, None) → m.steps s (item x) u → into x c → Stays M (s, None) (u, Some c)
-  begun_stays s u c x can step becomes = let g = l.kept_by_draw s (item x) u can.0 step in record {
+  begun_keeps : (s u : S) (c : C) (x : X) → M.can_next (s, None) → m.steps s (item x) u → into x c → KeptByDraws M (s, None) (u, Some c)
+  begun_keeps s u c x can step becomes = let g = l.kept_by_draw s (item x) u can.0 step in record {
     can_next = (g.can_next, g.is_finite can.1, can.3.at x c g.answer.0 becomes, each_after_draw inner.can_next s u g.may_give can.3);
     is_finite = λ e. (g.is_finite e.0, (let n = e.2.1.at x c g.answer.0 becomes in (k.bounded c).1 (n.0, n.1)), (e.2.0, each_after_draw _ s u g.may_give e.2.1));
     bound = λ n b. let j = g.answer.1 b.outer b.outer_is in let q = b.each_is.at x c g.answer.0 becomes in (
@@ -139,35 +140,37 @@ module _ {S X C B E : Type 0} (m : Contract S X E) (l : Lawful m) (into : X → 
       record { outer = j.0; each = b.each; in_hand = q.0; outer_is = j.1; each_is = each_after_draw _ s u g.may_give b.each_is; in_hand_is = q.1; sum = omega arith },
       (let le = one_fewer b.each b.outer j.0 q.0 j.2 q.2 in omega (arith, le, b.sum)),
     );
+    remaining = λ f. absurd f;
     may_give = λ y h. inr (elim h [ inl p ↦ record { argument = x; iterator = c; given = g.answer.0; becomes = becomes; holds = p } | inr p ↦ some_after_draw _ s u g.may_give p ]);
     may_fail = λ e h. elim h [ inl p ↦ inl (g.may_fail e p) | inr p ↦ inr (inr (elim p [ inl q ↦ record { argument = x; iterator = c; given = g.answer.0; becomes = becomes; holds = q } | inr q ↦ some_after_draw _ s u g.may_give q ])) ];
     lenders = g.lenders;
   }
 
   -- an answer of the outer source that is no item
-  outer_stays : (s u : S) (r : Answered X E) → M.can_next (s, None) → KeptByDraw m s r u → Stays M (s, None) (u, None)
-  outer_stays s u r can g = record {
+  outer_keeps : (s u : S) (r : Answered X E) → M.can_next (s, None) → KeptByDraw m s r u → KeptByDraws M (s, None) (u, None)
+  outer_keeps s u r can g = record {
     can_next = (g.can_next, g.is_finite can.1, tt, each_after_draw inner.can_next s u g.may_give can.3);
     is_finite = λ e. (g.is_finite e.0, tt, (e.2.0, each_after_draw _ s u g.may_give e.2.1));
     bound = λ n b. let j = no_more m s u r g.answer b.outer b.outer_is in (b.each * j.0, record { outer = j.0; each = b.each; in_hand = 0; outer_is = j.1; each_is = each_after_draw _ s u g.may_give b.each_is; in_hand_is = refl; sum = omega arith }, (let le = mul-le-mul_left b.each j.2 in omega (arith, le, b.sum)));
+    remaining = λ f. absurd f;
     may_give = λ y h. elim h [ inl p ↦ absurd p | inr p ↦ inr (some_after_draw _ s u g.may_give p) ];
     may_fail = λ e h. elim h [ inl p ↦ inl (g.may_fail e p) | inr p ↦ elim p [ inl q ↦ absurd q | inr q ↦ inr (inr (some_after_draw _ s u g.may_give q)) ] ];
     lenders = g.lenders;
   }
 
-  end_goes : (p q : S × Option C) → Stays M p q → KeptByDraw M p end q
-  end_goes p q h = record { can_next = h.can_next; is_finite = h.is_finite; answer = (h.bound, (λ f. absurd f)); may_give = h.may_give; may_fail = h.may_fail; lenders = h.lenders }
+  end_goes : (p q : S × Option C) → KeptByDraws M p q → KeptByDraw M p end q
+  end_goes p q h = record { can_next = h.can_next; is_finite = h.is_finite; answer = (h.bound, h.remaining); may_give = h.may_give; may_fail = h.may_fail; lenders = h.lenders }
 
-  failure_goes : (p q : S × Option C) (e : E) → M.may_fail p e → Stays M p q → KeptByDraw M p (failure e) q
+  failure_goes : (p q : S × Option C) (e : E) → M.may_fail p e → KeptByDraws M p q → KeptByDraw M p (failure e) q
   failure_goes p q e given h = record { can_next = h.can_next; is_finite = h.is_finite; answer = (given, h.bound, (λ f. absurd f)); may_give = h.may_give; may_fail = h.may_fail; lenders = h.lenders }
 
   flattens_goes : (s t : S) (hand hand' : Option C) (r : Answered B E) → M.can_next (s, hand) → Flattens m.steps into inner.steps s hand (r ∷ []) t hand' → KeptByDraw M (s, hand) r (t, hand')
   flattens_goes s _ _ _ _ can (gives {c = c} {d = d} y step done) = in_hand_goes s c d (item y) can step
   flattens_goes s _ _ _ _ can (fails {c = c} {d = d} e step done) = in_hand_goes s c d (failure e) can step
-  flattens_goes s t _ hand' r can (finishes {c = c} {d = d} step rest) = let h = dropped s c can in goes_later h (λ f. absurd f) (flattens_goes s t None hand' r h.can_next rest)
-  flattens_goes s t _ hand' r can (begins {u = u} {c = c} x step becomes rest) = let h = begun_stays s u c x can step becomes in goes_later h (λ f. absurd f) (flattens_goes u t (Some c) hand' r h.can_next rest)
-  flattens_goes s _ _ _ _ can (outer_fails {u = u} e step done) = let g = l.kept_by_draw s (failure e) u can.0 step in failure_goes (s, None) (u, None) e (inl g.answer.0) (outer_stays s u (failure e) can g)
-  flattens_goes s _ _ _ _ can (outer_ends {u = u} step done) = end_goes (s, None) (u, None) (outer_stays s u end can (l.kept_by_draw s end u can.0 step))
+  flattens_goes s t _ hand' r can (finishes {c = c} {d = d} step rest) = let h = dropped s c can in goes_later h (flattens_goes s t None hand' r h.can_next rest)
+  flattens_goes s t _ hand' r can (begins {u = u} {c = c} x step becomes rest) = let h = begun_keeps s u c x can step becomes in goes_later h (flattens_goes u t (Some c) hand' r h.can_next rest)
+  flattens_goes s _ _ _ _ can (outer_fails {u = u} e step done) = let g = l.kept_by_draw s (failure e) u can.0 step in failure_goes (s, None) (u, None) e (inl g.answer.0) (outer_keeps s u (failure e) can g)
+  flattens_goes s _ _ _ _ can (outer_ends {u = u} step done) = end_goes (s, None) (u, None) (outer_keeps s u end can (l.kept_by_draw s end u can.0 step))
 
   ends_in_hand : (hand : Option C) → IfSome hand inner.is_finite → (j : ℕ) × NumberInHand hand inner.bound j
   ends_in_hand (Some c) e = (k.bounded c).0 e

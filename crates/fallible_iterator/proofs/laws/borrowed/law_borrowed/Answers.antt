@@ -1,4 +1,4 @@
--- Each draw from the borrow is one from the value behind it, from the same end.
+-- Each draw from the borrow is one from the value behind it.
 use Rattle.fallible_core.proofs.Lemmas.Borrowed.{run_behind, run_over, run_in_box, run_over_box}
 use Rattle.fallible_iterator.proofs.laws.borrowed.law_borrowed.Goals as goal
 
@@ -13,15 +13,3 @@ returns-clause-boxed_run g c = λ s trace t ran. run_in_box _ trace s t ran
 
 pub returns-clause-run_boxed : goal.returns-clause-run_boxed
 returns-clause-run_boxed g c = λ s trace x ran. run_over_box _ trace s x ran
-
-pub returns-clause-back_borrowed_run : goal.returns-clause-back_borrowed_run
-returns-clause-back_borrowed_run g c = λ s trace t ran. run_behind _ trace s t ran
-
-pub returns-clause-run_back_borrowed : goal.returns-clause-run_back_borrowed
-returns-clause-run_back_borrowed g c = λ s trace x ran. run_over _ trace s x ran
-
-pub returns-clause-back_boxed_run : goal.returns-clause-back_boxed_run
-returns-clause-back_boxed_run g c = λ s trace t ran. run_in_box _ trace s t ran
-
-pub returns-clause-run_back_boxed : goal.returns-clause-run_back_boxed
-returns-clause-run_back_boxed g c = λ s trace x ran. run_over_box _ trace s x ran

@@ -2,7 +2,8 @@
 use Rattle.std.proofs.Common.{refl}
 use Rattle.fallible_contract.specs.Ends.{from_front}
 use Rattle.fallible_contract.specs.Laws.Contract.{stays_run}
-use Rattle.fallible_contract.proofs.Lemmas.Overriding.{holds_held, carried_held, stays_held}
+use Rattle.fallible_contract.specs.Laws.Ends.{lawful_ends_seen, lawful_ends_swapped}
+use Rattle.fallible_contract.proofs.Lemmas.Overriding.{holds_held, carried_held}
 use Rattle.fallible_core.specs.Ends.Rev.{rev_parts}
 use Rattle.fallible_core.proofs.ends.rev.RevDoubleEndedFallibleIterator.try_rfold_carrying.Goals as goal
 
@@ -13,4 +14,4 @@ pub returns-clause-carried : goal.returns-clause-carried
 returns-clause-carried g c = carried_held rev_parts (λ s p. record s { it = p }) (λ s p. refl) (from_front g.I.FallibleIterator.contract g.I.DoubleEndedFallibleIterator.ends) c.try_fold_carrying.ensures.carried
 
 pub returns-clause-stays : goal.returns-clause-stays
-returns-clause-stays g c = stays_held rev_parts (λ s p. record s { it = p }) (λ s p. refl) (from_front g.I.FallibleIterator.contract g.I.DoubleEndedFallibleIterator.ends) (stays_run g.met.I.DoubleEndedFallibleIterator.lawful_ends.front _ _ _ c.requires.can_next c.try_fold_carrying.ensures.carried.ran)
+returns-clause-stays g c = stays_run (lawful_ends_seen rev_parts (lawful_ends_swapped g.met.I.DoubleEndedFallibleIterator.lawful_ends)).back _ _ _ c.requires.can_next (returns-clause-carried g c).ran

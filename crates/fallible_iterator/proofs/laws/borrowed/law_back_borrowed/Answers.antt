@@ -1,0 +1,15 @@
+-- Each draw from behind of the borrow is one of the value behind it.
+use Rattle.fallible_core.proofs.Lemmas.Borrowed.{run_behind, run_over, run_in_box, run_over_box}
+use Rattle.fallible_iterator.proofs.laws.borrowed.law_back_borrowed.Goals as goal
+
+pub returns-clause-borrowed_run : goal.returns-clause-borrowed_run
+returns-clause-borrowed_run g c = λ s trace t ran. run_behind _ trace s t ran
+
+pub returns-clause-run_borrowed : goal.returns-clause-run_borrowed
+returns-clause-run_borrowed g c = λ s trace x ran. run_over _ trace s x ran
+
+pub returns-clause-boxed_run : goal.returns-clause-boxed_run
+returns-clause-boxed_run g c = λ s trace t ran. run_in_box _ trace s t ran
+
+pub returns-clause-run_boxed : goal.returns-clause-run_boxed
+returns-clause-run_boxed g c = λ s trace x ran. run_over_box _ trace s x ran
