@@ -1,7 +1,7 @@
 // The folds of the adapters that let answers pass, through their sources' own. The adapter's state is carried beside the caller's value.
 ghost use Rattle.std.specs.Prelude.{Option};
 ghost use Rattle.fallible_contract.specs.Closures.{IsCallableIn, call_in};
-ghost use Rattle.fallible_contract.specs.Contract.{Stays};
+ghost use Rattle.fallible_contract.specs.Contract.{KeptByDraws};
 ghost use Rattle.fallible_contract.specs.Ends.{from_back};
 ghost use Rattle.fallible_contract.specs.Folding.{FoldingTakes, FoldingTurn};
 ghost use Rattle.fallible_contract.specs.Folds.{CallableCarrying, Carried};
@@ -32,7 +32,7 @@ where
     ensures carried { Carried (passing_step I.contract.steps (A.call adapter.now)
         (A.outcome adapter.now))
         (K.turns turn.now) (it.old, state) init result.1 (it.new, result.0) }
-    ensures stays { Stays I.contract it.old it.new }
+    ensures kept { KeptByDraws I.contract it.old it.new }
 {
     let turn = PassTurn { adapter, turn };
     exit_beside(it.try_fold_carrying((init, state), &turn))
@@ -58,7 +58,7 @@ where
     ensures carried { Carried (passing_step I.ends.steps (A.call adapter.now)
         (A.outcome adapter.now))
         (K.turns turn.now) (it.old, state) init result.1 (it.new, result.0) }
-    ensures stays { Stays (from_back I.contract I.ends) it.old it.new }
+    ensures kept { KeptByDraws (from_back I.contract I.ends) it.old it.new }
 {
     let turn = PassTurn { adapter, turn };
     exit_beside(it.try_rfold_carrying((init, state), &turn))

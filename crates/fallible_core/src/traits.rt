@@ -2,7 +2,7 @@
 ghost use Rattle.std.specs.Prelude.{◌≡◌, true, false, ◌+◌, ◌-◌, ◌≤◌, ◌<◌, ◌^◌, List, Option, Result, Some, None, Ok, MatchResult, IfOk, ◌⊎◌, Err};
 ghost use Rattle.std.specs.Iterator.Runs.{EachRunFrom, ItemsAre};
 ghost use Rattle.fallible_contract.specs.Clauses.{OverList, OverListWith, OverBoth};
-ghost use Rattle.fallible_contract.specs.Contract.{Contract, AtMost, Lawful, Stays, NeverFails, seen_as};
+ghost use Rattle.fallible_contract.specs.Contract.{Contract, AtMost, Lawful, KeptByDraws, Stays, NeverFails, seen_as};
 ghost use Rattle.fallible_contract.specs.Closures.{IsCallable, call_on, takes_on, call_at, takes_at};
 ghost use Rattle.fallible_contract.specs.Collecting.{Collects, Asks, Partitions, MadeOfParts, PairRefused};
 ghost use Rattle.fallible_contract.specs.Lists.{behind_first, behind_nth, behind_true, behind_false, behind_value, behind_fold, items, Lists, Acts, Repeats, repeated, counted, ActsWithState, CollectedAs, nth_of, folded, reduced, ActsWith, Converts, all_of, any_of, find_mapped, found, last_of, collected, parted, MadeOf, MadeOfSides, PartedAs, UnzippedAs, position_in, each_done, best_by, greatest, least, best_by_key, compared};
@@ -150,7 +150,7 @@ pub trait FallibleIterator: Drop + Sized {
         requires callable { CallableCarrying contract.steps (K.turns turn.now) (K.can_turn turn.now)
             self.old init }
         ensures carried { Carried contract.steps (K.turns turn.now) self.old init result self.new }
-        ensures stays { Stays contract self.old self.new }
+        ensures kept { KeptByDraws contract self.old self.new }
     {
         let mut carried = init;
         let mut left = (*self).number();
@@ -352,7 +352,7 @@ pub trait FallibleIterator: Drop + Sized {
             (K.can_test test.now) self.old init }
         ensures searched { Searched (K.tests test.now) find_pick contract.steps None self.old init
             result.1 self.new result.0 }
-        ensures stays { Stays contract self.old self.new }
+        ensures kept { KeptByDraws contract self.old self.new }
     {
         let turn = FindTurn { test };
         draw_of_exit(self.try_fold_carrying(init, &turn))

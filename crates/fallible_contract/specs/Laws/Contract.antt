@@ -27,6 +27,10 @@ module _ {S A E : Type 0} (m : Contract S A E) where
   pub sure_after : (s t : S) (r : Answered A E) → m.steps s r t → NeverFails m s → NeverFails m t
   sure_after s t r step sure trace u v e ran fails = sure (r ∷ trace) u v e (t, step, ran) fails
 
+  pub sure_run : (s : S) (trace : List (Answered A E)) (t : S) → Run m.steps s trace t → NeverFails m s → NeverFails m t
+  sure_run s [] t ran never = subst (λ (u : S). NeverFails m u) ran never
+  sure_run s (r ∷ rest) t ran never = sure_run ran.0 rest t ran.2 (sure_after s ran.0 r ran.1 never)
+
 -- ---- draws from whichever end
 
 module _ {S A E : Type 0} {m : Contract S A E} where
@@ -57,6 +61,10 @@ module _ {S A E : Type 0} {m : Contract S A E} where
   pub kept_here : {s : S} → m.can_next s → KeptByDraws m s s
   kept_here c = record { can_next = c; is_finite = λ e. e; bound = λ n b. (n, b, omega arith); remaining = λ f. (f, omega arith); may_give = λ x p. p; may_fail = λ e p. p; lenders = refl }
 
+  pub kept_run : Lawful m → (s : S) (trace : List (Answered A E)) (t : S) → m.can_next s → Run m.steps s trace t → KeptByDraws m s t
+  kept_run l s [] t c ran = subst (λ (u : S). KeptByDraws m s u) ran (kept_here c)
+  kept_run l s (r ∷ rest) t c ran = let g = l.kept_by_draw s r ran.0 c ran.1 in kept_then (kept_after g) (kept_run l ran.0 rest t g.can_next ran.2)
+
 -- ---- draws from one end
 
 module _ {S A E : Type 0} {m : Contract S A E} where
@@ -74,8 +82,7 @@ module _ {S A E : Type 0} {m : Contract S A E} where
   stays_here c = stays_of (kept_here c) (λ never. never)
 
   pub stays_run : Lawful m → (s : S) (trace : List (Answered A E)) (t : S) → m.can_next s → Run m.steps s trace t → Stays m s t
-  stays_run l s [] t c ran = subst (λ (u : S). Stays m s u) ran (stays_here c)
-  stays_run l s (r ∷ rest) t c ran = let g = l.kept_by_draw s r ran.0 c ran.1 in stays_after ran.1 g (stays_run l ran.0 rest t g.can_next ran.2)
+  stays_run l s trace t c ran = stays_of (kept_run l s trace t c ran) (sure_run m s trace t ran)
 
 -- ---- a type whose values are seen as those of another
 

@@ -3,10 +3,10 @@ use Rattle.std.specs.Prelude.{ℕ, Option, Some, None, Ok, Err, ◌≡◌, List,
 use Rattle.std.specs.List.{filter_map, cons_option}
 use Rattle.std.proofs.Common.{refl, sym, ap, subst, arith, inl, inr}
 use Rattle.fallible_contract.specs.Traces.{LastKept, Answered, Run, item}
-use Rattle.fallible_contract.specs.Contract.{Contract, OnAnswer, KeptByDraw, Lawful, Stays}
+use Rattle.fallible_contract.specs.Contract.{Contract, OnAnswer, KeptByDraw, KeptByDraws, Lawful}
 use Rattle.fallible_contract.specs.Passing.{PassTrace, passing_contract, leaving_out_contract, Place, asked, failure_at, end_at, source_answer, call_of, outcome_answer, answer_at, has_answer}
 use Rattle.fallible_contract.specs.Closures.{Calls, Reaches}
-use Rattle.fallible_contract.specs.Laws.Contract.{stays_run}
+use Rattle.fallible_contract.specs.Laws.Contract.{kept_run}
 use Rattle.fallible_contract.specs.Laws.Closures.{reaches_here, reaches_weaken, reaches_from, may_answer_here, may_answer_after}
 use Rattle.fallible_contract.specs.declared.passing.Outcome.{Outcome}
 use Rattle.fallible_contract.specs.declared.passing.Outcome.TheVariants.{Kept, LeftOut, Failure, End}
@@ -90,8 +90,8 @@ module _ {S F X R B E : Type 0} (m : Contract S X E) (l : Lawful m) (call : F �
   abbrev P : S → F → List (Answered B E) → S → F → Type 0
   P = Passes m.steps call outcome
 
-  passes_stays : (s t : S) (f g : F) (trace : List (Answered B E)) → m.can_next s → P s f trace t g → Stays m s t
-  passes_stays s t f g trace c p = let q = from_passes p in stays_run l s (map source_answer q.places) t c q.drawn
+  passes_keep : (s t : S) (f g : F) (trace : List (Answered B E)) → m.can_next s → P s f trace t g → KeptByDraws m s t
+  passes_keep s t f g trace c p = let q = from_passes p in kept_run l s (map source_answer q.places) t c q.drawn
 
   passes_reaches : (s t : S) (f g : F) (trace : List (Answered B E)) → m.can_next s → P s f trace t g → Reaches call (m.may_give s) f g
   passes_reaches s _ f _ _ c done = reaches_here
@@ -121,7 +121,7 @@ module _ {S F X R B E : Type 0} (m : Contract S X E) (l : Lawful m) (call : F �
     passes_answer s t f g r c (leaves_out {u = u} {h = h} x v step called is rest) = let a = l.kept_by_draw s (item x) u c step in answer_after s u t f h g r x v a called (passes_answer u t h g r a.can_next rest)
 
     goes_passing : StaysCallable call callable → (p : S × F) (r : Answered B E) (q : S × F) → M.can_next p → M.steps p r q → KeptByDraw M p r q
-    goes_passing after (s, f) r (t, g) c step = let p = to_passes step in let a = passes_stays s t f g _ c.0 p in let reached = passes_reaches s t f g _ c.0 p in record {
+    goes_passing after (s, f) r (t, g) c step = let p = to_passes step in let a = passes_keep s t f g _ c.0 p in let reached = passes_reaches s t f g _ c.0 p in record {
       can_next = (a.can_next, after (m.may_give s) (m.may_give t) f g a.may_give reached c.1);
       is_finite = a.is_finite;
       answer = passes_answer s t f g r c.0 p;

@@ -142,10 +142,8 @@ where
     where
         requires can_next { (peekable_contract I.contract).can_next (peekable_parts self.old) }
         requires empty { self.old.held ≡ None }
-        ensures filled { Fills I.contract.steps
+        ensures { Fills I.contract.steps
             (peekable_parts self.old) result (peekable_parts self.new) }
-        ensures stays { Stays (peekable_contract I.contract)
-            (peekable_parts self.old) (peekable_parts self.new) }
     {
         match self.it.next() {
             Ok(answer) => {

@@ -2,7 +2,7 @@
 ghost use Rattle.std.specs.Prelude.{◌≡◌, List, Option, Result, reverse};
 ghost use Rattle.fallible_contract.specs.BothEnds.{ListsBothEnds};
 ghost use Rattle.fallible_contract.specs.Clauses.{OverListWith};
-ghost use Rattle.fallible_contract.specs.Contract.{Stays};
+ghost use Rattle.fallible_contract.specs.Contract.{KeptByDraws, Stays};
 ghost use Rattle.fallible_contract.specs.Ends.{Ends, from_front, from_back, LawfulEnds};
 ghost use Rattle.fallible_contract.specs.Lists.{ActsWith, Converts, behind_first, behind_fold, folded, nth_of};
 ghost use Rattle.fallible_contract.specs.Folds.{CallableCarrying, Carried, CallableInFold, call_with, takes_with, Folded};
@@ -43,7 +43,7 @@ pub trait DoubleEndedFallibleIterator: FallibleIterator {
         requires callable { CallableCarrying ends.steps (K.turns turn.now) (K.can_turn turn.now)
             self.old init }
         ensures carried { Carried ends.steps (K.turns turn.now) self.old init result self.new }
-        ensures stays { Stays (from_back Self.contract ends) self.old self.new }
+        ensures kept { KeptByDraws (from_back Self.contract ends) self.old self.new }
     {
         let mut carried = init;
         let mut left = (*self).number();

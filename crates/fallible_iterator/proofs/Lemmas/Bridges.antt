@@ -10,7 +10,7 @@ use Rattle.fallible_contract.specs.Contract.{Contract, Lawful}
 use Rattle.fallible_contract.specs.Ends.{Ends, LawfulEnds, from_back}
 use Rattle.fallible_contract.specs.BothEnds.{RunAtEnds}
 use Rattle.fallible_contract.specs.Lists.{AlwaysGives, Lists}
-use Rattle.fallible_contract.specs.Laws.Contract.{stays_run}
+use Rattle.fallible_contract.specs.Laws.Contract.{kept_run}
 use Rattle.fallible_iterator.specs.Sources.Std.{std_step, element_by, IsAskable, IsAskableAtEnds}
 use Rattle.fallible_contract.specs.declared.answers.Side.{Side}
 use Rattle.fallible_contract.specs.declared.answers.Side.TheVariants.{Front, Back}
@@ -90,8 +90,8 @@ module _ {V S A E : Type 0} (m : Contract S A E) (view : V → S) where
 
   pub askable : Lawful m → (s : V) → m.can_next (view s) → IsAskable {A = A} {E = E} Ok Err can gives remaining s
   askable l s c = record {
-    asked = λ trace t ran. (stays_run l (view s) trace (view t) c (run_below trace s t ran)).can_next;
-    never_rises = λ trace t u ran h. never_rises_at t u l (stays_run l (view s) trace (view t) c (run_below trace s t ran)).can_next h;
+    asked = λ trace t ran. (kept_run l (view s) trace (view t) c (run_below trace s t ran)).can_next;
+    never_rises = λ trace t u ran h. never_rises_at t u l (kept_run l (view s) trace (view t) c (run_below trace s t ran)).can_next h;
   }
 
   -- each draw makes the progress that std asks

@@ -58,6 +58,9 @@ module _ {S A E : Type 0} {m : Contract S A E} (l : Lawful m) where
   stays_peek (s, Some o) r (t, held) c peeks = rw (peeks.1, peeks.2) (stays_here c)
   stays_peek (s, None) r (t, held) c peeks = peeked_stays s t r held c peeks
 
+  pub stays_filled : (p : S × Option (Option A)) (r : Result (Unit {0}) E) (q : S × Option (Option A)) → m.can_next p.0 → Fills m.steps p r q → Stays Q p q
+  stays_filled p r q c fills = stays_peek p fills.0 q c fills.1
+
 module _ {S A E : Type 0} (steps : S → Answered A E → S → Type 0) where
   -- the item or the end that a draw gave, put back
   pub peeks_again : (p q : S × Option (Option A)) (o : Option A) → peekable_step steps p (Ok o) q → Peeks steps p (Ok o) (q.0, Some o)

@@ -5,6 +5,7 @@ use Rattle.fallible_contract.specs.Searching.{all_pick}
 use Rattle.fallible_contract.proofs.Lemmas.Searching.{searched}
 use Rattle.fallible_contract.proofs.Lemmas.Lists.Searched.{all_is}
 use Rattle.fallible_contract.proofs.Lemmas.Lists.Behind.{behind_all}
+use Rattle.fallible_contract.specs.Laws.Contract.{stays_run}
 use Rattle.fallible_core.proofs.traits.FallibleIterator.all.Goals as goal
 
 pub returns-clause-searched : goal.returns-clause-searched
@@ -15,3 +16,6 @@ returns-clause-value g c h l acts i = all_is l i {call = call_on g.F.FnMut} h ac
 
 pub returns-clause-rest : goal.returns-clause-rest
 returns-clause-rest g c h l acts i no_end = behind_all l i {call = call_on g.F.FnMut} h acts (searched {call = call_on g.F.FnMut} {pick = all_pick} true (λ f x r w. w) c.try_fold_carrying.ensures.carried c.search_of_exit.ensures).1 no_end
+
+pub returns-clause-stays : goal.returns-clause-stays
+returns-clause-stays g c = stays_run g.met.Self.FallibleIterator.lawful _ _ _ c.requires.can_next c.try_fold_carrying.ensures.carried.ran

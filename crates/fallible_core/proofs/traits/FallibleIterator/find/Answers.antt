@@ -2,6 +2,7 @@
 use Rattle.fallible_contract.specs.Closures.{call_at}
 use Rattle.fallible_contract.proofs.Lemmas.Lists.Searched.{find_is}
 use Rattle.fallible_contract.proofs.Lemmas.Lists.Behind.{behind_find}
+use Rattle.fallible_contract.specs.Laws.Contract.{stays_run}
 use Rattle.fallible_core.proofs.traits.FallibleIterator.find.Goals as goal
 
 pub returns-clause-searched : goal.returns-clause-searched
@@ -12,3 +13,6 @@ returns-clause-value g c h l acts i = find_is l i {call = call_at g.F.FnMut} h a
 
 pub returns-clause-rest : goal.returns-clause-rest
 returns-clause-rest g c h l acts i no_end = behind_find l i {call = call_at g.F.FnMut} h acts (returns-clause-searched g c).1 no_end
+
+pub returns-clause-stays : goal.returns-clause-stays
+returns-clause-stays g c = stays_run g.met.Self.FallibleIterator.lawful _ _ _ c.requires.can_next c.find_carrying-answer.ensures.searched.ran

@@ -1,7 +1,7 @@
 -- Each turn goes before the fold from there on.
 use Rattle.std.proofs.Common.{rules, arith}
 use Rattle.fallible_contract.proofs.Lemmas.Folds.{holds_here, holds_after, carried_after, carried_end, carried_failure, carried_stop}
-use Rattle.fallible_contract.specs.Laws.Contract.{stays_run}
+use Rattle.fallible_contract.specs.Laws.Contract.{kept_run}
 use Rattle.fallible_core.proofs.traits.FallibleIterator.try_fold_carrying.Goals as goal
 
 pub returns-in-Ok-None-clause-carried : goal.returns-in-Ok-None-clause-carried
@@ -27,11 +27,11 @@ loop-carried-preserved g c = let step = rw c.in-Ok-Some.field-0-is at c.in-Ok-So
       whole = λ r t rest. c.loop-carried.invariant.whole r t (carried_after _ step c.in-Continue.ensures rest);
     }
 
-pub returns-in-Ok-None-clause-stays : goal.returns-in-Ok-None-clause-stays
-returns-in-Ok-None-clause-stays g c = let r = c.loop-carried.invariant.whole _ _ (carried_end (rw c.in-Ok-None.field-0-is at c.in-Ok-None.ensures)) in stays_run g.met.Self.FallibleIterator.lawful _ _ _ c.requires.can_next r.ran
+pub returns-in-Ok-None-clause-kept : goal.returns-in-Ok-None-clause-kept
+returns-in-Ok-None-clause-kept g c = let r = c.loop-carried.invariant.whole _ _ (carried_end (rw c.in-Ok-None.field-0-is at c.in-Ok-None.ensures)) in kept_run g.met.Self.FallibleIterator.lawful _ _ _ c.requires.can_next r.ran
 
-pub returns-in-Break-clause-stays : goal.returns-in-Break-clause-stays
-returns-in-Break-clause-stays g c = let r = c.loop-carried.invariant.whole _ _ (carried_stop _ (rw c.in-Ok-Some.field-0-is at c.in-Ok-Some.ensures) c.in-Break.ensures) in stays_run g.met.Self.FallibleIterator.lawful _ _ _ c.requires.can_next r.ran
+pub returns-in-Break-clause-kept : goal.returns-in-Break-clause-kept
+returns-in-Break-clause-kept g c = let r = c.loop-carried.invariant.whole _ _ (carried_stop _ (rw c.in-Ok-Some.field-0-is at c.in-Ok-Some.ensures) c.in-Break.ensures) in kept_run g.met.Self.FallibleIterator.lawful _ _ _ c.requires.can_next r.ran
 
-pub returns-in-Err-clause-stays : goal.returns-in-Err-clause-stays
-returns-in-Err-clause-stays g c = let r = c.loop-carried.invariant.whole _ _ (carried_failure c.in-Err.ensures) in stays_run g.met.Self.FallibleIterator.lawful _ _ _ c.requires.can_next r.ran
+pub returns-in-Err-clause-kept : goal.returns-in-Err-clause-kept
+returns-in-Err-clause-kept g c = let r = c.loop-carried.invariant.whole _ _ (carried_failure c.in-Err.ensures) in kept_run g.met.Self.FallibleIterator.lawful _ _ _ c.requires.can_next r.ran

@@ -1,5 +1,6 @@
 -- The call of the one that is held is that of the whole, since its steps are.
 use Rattle.std.proofs.Common.{refl}
+use Rattle.fallible_contract.specs.Laws.Contract.{lawful_seen, stays_run}
 use Rattle.fallible_contract.proofs.Lemmas.Overriding.{nth_held}
 use Rattle.fallible_contract.proofs.Lemmas.Lists.Behind.{behind_nth_is}
 use Rattle.fallible_contract.proofs.Lemmas.Lists.Drawn.{nth_is}
@@ -15,3 +16,6 @@ returns-clause-value g c l i = nth_is l (returns-clause-nth g c) i
 
 pub returns-clause-rest : goal.returns-clause-rest
 returns-clause-rest g c l i no_end = behind_nth_is l (returns-clause-nth g c) i no_end
+
+pub returns-clause-stays : goal.returns-clause-stays
+returns-clause-stays g c = stays_run (lawful_seen counted_parts g.met.I.FallibleIterator.lawful) _ _ _ c.requires (returns-clause-nth g c).ran

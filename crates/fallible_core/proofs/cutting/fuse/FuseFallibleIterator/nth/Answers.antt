@@ -3,6 +3,9 @@ use Rattle.std.proofs.Common.{refl, true}
 use Rattle.fallible_contract.proofs.Lemmas.Lists.Behind.{behind_nth_is}
 use Rattle.fallible_contract.proofs.Lemmas.Lists.Drawn.{nth_is}
 use Rattle.fallible_core.proofs.Lemmas.Cutting.FuseFolds.{open_nth, closed_nth}
+use Rattle.fallible_contract.specs.Laws.Contract.{lawful_seen, stays_run}
+use Rattle.fallible_core.specs.Cutting.Fuse.{fuse_parts}
+use Rattle.fallible_core.specs.Laws.Cutting.Fuse.{lawful_fuse}
 use Rattle.fallible_core.proofs.cutting.fuse.FuseFallibleIterator.nth.Goals as goal
 
 pub returns-then-ended-clause-nth : goal.returns-then-ended-clause-nth
@@ -40,3 +43,12 @@ returns-in-Err-clause-value g c l i = nth_is l (returns-in-Err-clause-nth g c) i
 
 pub returns-in-Err-clause-rest : goal.returns-in-Err-clause-rest
 returns-in-Err-clause-rest g c l i no_end = behind_nth_is l (returns-in-Err-clause-nth g c) i no_end
+
+pub returns-in-Ok-Some-clause-stays : goal.returns-in-Ok-Some-clause-stays
+returns-in-Ok-Some-clause-stays g c = stays_run (lawful_seen fuse_parts (lawful_fuse g.met.I.FallibleIterator.lawful)) _ _ _ c.requires (returns-in-Ok-Some-clause-nth g c).ran
+
+pub returns-in-Ok-None-clause-stays : goal.returns-in-Ok-None-clause-stays
+returns-in-Ok-None-clause-stays g c = stays_run (lawful_seen fuse_parts (lawful_fuse g.met.I.FallibleIterator.lawful)) _ _ _ c.requires (returns-in-Ok-None-clause-nth g c).ran
+
+pub returns-in-Err-clause-stays : goal.returns-in-Err-clause-stays
+returns-in-Err-clause-stays g c = stays_run (lawful_seen fuse_parts (lawful_fuse g.met.I.FallibleIterator.lawful)) _ _ _ c.requires (returns-in-Err-clause-nth g c).ran

@@ -1,6 +1,6 @@
 -- A fold of `Skip` begins with a fold of the source up to the first item that stays, which is one draw, and after that item it is a fold of the source.
 use Rattle.std.specs.Prelude.{Some, Ok}
-use Rattle.fallible_contract.specs.Laws.Contract.{lawful_seen, stays_run}
+use Rattle.fallible_contract.specs.Laws.Contract.{lawful_seen, kept_run}
 use Rattle.fallible_contract.proofs.Lemmas.Folds.{holds_here, holds_after, carried_after, carried_end, carried_failure, carried_stop}
 use Rattle.fallible_core.specs.Cutting.Skip.{skip_parts}
 use Rattle.fallible_core.specs.Laws.Cutting.Skip.{lawful_skip}
@@ -31,14 +31,14 @@ returns-in-Ok-None-clause-carried g c = carried_end {s = c.args.self.now} {t = r
 pub returns-in-Err-clause-carried : goal.returns-in-Err-clause-carried
 returns-in-Err-clause-carried g c = carried_failure {s = c.args.self.now} {t = record { it = c.reach_past.new.it; to_skip = c.reach_past.new.left }} c.in-Err.ensures
 
-pub returns-in-Continue-clause-stays : goal.returns-in-Continue-clause-stays
-returns-in-Continue-clause-stays g c = stays_run (lawful_seen skip_parts (lawful_skip g.met.I.FallibleIterator.lawful)) _ _ _ c.requires.can_next (returns-in-Continue-clause-carried g c).ran
+pub returns-in-Continue-clause-kept : goal.returns-in-Continue-clause-kept
+returns-in-Continue-clause-kept g c = kept_run (lawful_seen skip_parts (lawful_skip g.met.I.FallibleIterator.lawful)) _ _ _ c.requires.can_next (returns-in-Continue-clause-carried g c).ran
 
-pub returns-in-Break-clause-stays : goal.returns-in-Break-clause-stays
-returns-in-Break-clause-stays g c = stays_run (lawful_seen skip_parts (lawful_skip g.met.I.FallibleIterator.lawful)) _ _ _ c.requires.can_next (returns-in-Break-clause-carried g c).ran
+pub returns-in-Break-clause-kept : goal.returns-in-Break-clause-kept
+returns-in-Break-clause-kept g c = kept_run (lawful_seen skip_parts (lawful_skip g.met.I.FallibleIterator.lawful)) _ _ _ c.requires.can_next (returns-in-Break-clause-carried g c).ran
 
-pub returns-in-Ok-None-clause-stays : goal.returns-in-Ok-None-clause-stays
-returns-in-Ok-None-clause-stays g c = stays_run (lawful_seen skip_parts (lawful_skip g.met.I.FallibleIterator.lawful)) _ _ _ c.requires.can_next (returns-in-Ok-None-clause-carried g c).ran
+pub returns-in-Ok-None-clause-kept : goal.returns-in-Ok-None-clause-kept
+returns-in-Ok-None-clause-kept g c = kept_run (lawful_seen skip_parts (lawful_skip g.met.I.FallibleIterator.lawful)) _ _ _ c.requires.can_next (returns-in-Ok-None-clause-carried g c).ran
 
-pub returns-in-Err-clause-stays : goal.returns-in-Err-clause-stays
-returns-in-Err-clause-stays g c = stays_run (lawful_seen skip_parts (lawful_skip g.met.I.FallibleIterator.lawful)) _ _ _ c.requires.can_next (returns-in-Err-clause-carried g c).ran
+pub returns-in-Err-clause-kept : goal.returns-in-Err-clause-kept
+returns-in-Err-clause-kept g c = kept_run (lawful_seen skip_parts (lawful_skip g.met.I.FallibleIterator.lawful)) _ _ _ c.requires.can_next (returns-in-Err-clause-carried g c).ran

@@ -1,5 +1,5 @@
 -- The fold of its source by the predicate's answers; once an item was refused, an end without a draw.
-use Rattle.fallible_contract.specs.Laws.Contract.{lawful_seen, stays_run}
+use Rattle.fallible_contract.specs.Laws.Contract.{lawful_seen, kept_run}
 use Rattle.fallible_core.specs.Cutting.TakeWhile.{take_while_parts}
 use Rattle.fallible_core.specs.Laws.Cutting.TakeWhile.{lawful_take_while}
 use Rattle.fallible_core.proofs.Lemmas.Cutting.TakeWhileFolds.{refused_folds, taking_takes, taking_folds}
@@ -14,5 +14,5 @@ fold_passing-state-requires-clause-callable g c = taking_takes g.I.FallibleItera
 pub returns-clause-carried : goal.returns-clause-carried
 returns-clause-carried g c = taking_folds g.I.FallibleIterator.contract g.P.FnMut c.args.self.now c.take_out.ensures.value c.if-self.false (g.K.Turn.turns c.args.turn.now) c.fold_passing-state.ensures.carried
 
-pub returns-clause-stays : goal.returns-clause-stays
-returns-clause-stays g c = stays_run (lawful_seen take_while_parts (lawful_take_while g.P.FnMut g.met.I.FallibleIterator.lawful)) _ _ _ c.requires.can_next (returns-clause-carried g c).ran
+pub returns-clause-kept : goal.returns-clause-kept
+returns-clause-kept g c = kept_run (lawful_seen take_while_parts (lawful_take_while g.P.FnMut g.met.I.FallibleIterator.lawful)) _ _ _ c.requires.can_next (returns-clause-carried g c).ran

@@ -1,5 +1,5 @@
 -- The fold of its source from behind, with the closure in its slot.
-use Rattle.fallible_contract.specs.Laws.Contract.{lawful_seen, stays_run}
+use Rattle.fallible_contract.specs.Laws.Contract.{lawful_seen, kept_run}
 use Rattle.fallible_contract.proofs.Lemmas.Folding.{holds_into, carried_into}
 use Rattle.fallible_core.specs.Filtering.Filter.{filter_parts}
 use Rattle.fallible_core.specs.Laws.Filtering.Filter.{lawful_filter}
@@ -11,5 +11,5 @@ rfold_in_slot-requires-clause-callable g c = holds_into (λ p. record { it = p.0
 pub returns-clause-carried : goal.returns-clause-carried
 returns-clause-carried g c = carried_into (λ p. record { it = p.0; f = p.1 }) (λ p r q step. step) c.rfold_in_slot.ensures
 
-pub returns-clause-stays : goal.returns-clause-stays
-returns-clause-stays g c = stays_run (lawful_seen filter_parts (lawful_filter g.F.FnMut g.met.I.DoubleEndedFallibleIterator.lawful_ends.back)) _ _ _ c.requires.can_next (returns-clause-carried g c).ran
+pub returns-clause-kept : goal.returns-clause-kept
+returns-clause-kept g c = kept_run (lawful_seen filter_parts (lawful_filter g.F.FnMut g.met.I.DoubleEndedFallibleIterator.lawful_ends.back)) _ _ _ c.requires.can_next (returns-clause-carried g c).ran

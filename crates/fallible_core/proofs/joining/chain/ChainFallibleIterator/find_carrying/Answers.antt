@@ -1,7 +1,7 @@
 -- A search of `Chain` is one of the first, and where that found none one of the second; where one side alone is still drawn, it is one of that side.
 use Rattle.std.proofs.Common.{refl, ap, subst, ◌∙◌}
 use Rattle.std.specs.Prelude.{Ok, None}
-use Rattle.fallible_contract.specs.Laws.Contract.{stays_run, lawful_seen}
+use Rattle.fallible_contract.specs.Laws.Contract.{kept_run, lawful_seen}
 use Rattle.fallible_contract.specs.Searching.{Searched, find_pick}
 use Rattle.fallible_core.specs.Joining.Chain.{chain_parts}
 use Rattle.fallible_core.specs.Laws.Joining.Chain.{lawful_chain}
@@ -33,23 +33,23 @@ returns-in-SecondAlone-clause-searched g c = searches_second_alone g.T.FallibleI
 pub returns-in-Ok-Some : goal.returns-in-Ok-Some
 returns-in-Ok-Some g c = let searched = searches_first g.T.FallibleIterator.contract g.U.FallibleIterator.contract c.in_default.not-SecondAlone refl refl (c.in-Ok-Some.is ∙ ap (λ z. Ok z) c.in-Ok-Some.field-0-is) refl c.find_carrying-carried.ensures.searched in record {
   searched = searched;
-  stays = stays_run (lawful_seen chain_parts (lawful_chain g.met.T.FallibleIterator.lawful g.met.U.FallibleIterator.lawful)) _ _ _ c.requires.can_next searched.ran;
+  kept = kept_run (lawful_seen chain_parts (lawful_chain g.met.T.FallibleIterator.lawful g.met.U.FallibleIterator.lawful)) _ _ _ c.requires.can_next searched.ran;
 }
 
 pub returns-in-FirstAlone : goal.returns-in-FirstAlone
 returns-in-FirstAlone g c = let searched = searches_first_alone g.T.FallibleIterator.contract g.U.FallibleIterator.contract c.in-FirstAlone.is refl c.in-FirstAlone.is (subst (λ z. Searched (g.K.Test.tests c.args.test.now) find_pick g.T.FallibleIterator.contract.steps None c.args.self.now.first c.args.init z c.find_carrying-carried.new.self c.find_carrying-carried.result.0) (c.in-Ok-None.is ∙ ap (λ z. Ok z) c.in-Ok-None.field-0-is) c.find_carrying-carried.ensures.searched) in record {
   searched = searched;
-  stays = stays_run (lawful_seen chain_parts (lawful_chain g.met.T.FallibleIterator.lawful g.met.U.FallibleIterator.lawful)) _ _ _ c.requires.can_next searched.ran;
+  kept = kept_run (lawful_seen chain_parts (lawful_chain g.met.T.FallibleIterator.lawful g.met.U.FallibleIterator.lawful)) _ _ _ c.requires.can_next searched.ran;
 }
 
 pub returns-in_default-still_drawn : goal.returns-in_default-still_drawn
 returns-in_default-still_drawn g c = let searched = searches_over g.T.FallibleIterator.contract g.U.FallibleIterator.contract (both_drawn _ c.in_default.not-SecondAlone c.in_default-still_drawn.not-FirstAlone) refl (c.in-Ok-None.is ∙ ap (λ z. Ok z) c.in-Ok-None.field-0-is) c.find_carrying-carried.ensures.searched c.find_carrying-in_default-still_drawn.ensures.searched in record {
   searched = searched;
-  stays = stays_run (lawful_seen chain_parts (lawful_chain g.met.T.FallibleIterator.lawful g.met.U.FallibleIterator.lawful)) _ _ _ c.requires.can_next searched.ran;
+  kept = kept_run (lawful_seen chain_parts (lawful_chain g.met.T.FallibleIterator.lawful g.met.U.FallibleIterator.lawful)) _ _ _ c.requires.can_next searched.ran;
 }
 
 pub returns-in-Err : goal.returns-in-Err
 returns-in-Err g c = let searched = searches_first g.T.FallibleIterator.contract g.U.FallibleIterator.contract c.in_default.not-SecondAlone refl refl c.in-Err.is refl c.find_carrying-carried.ensures.searched in record {
   searched = searched;
-  stays = stays_run (lawful_seen chain_parts (lawful_chain g.met.T.FallibleIterator.lawful g.met.U.FallibleIterator.lawful)) _ _ _ c.requires.can_next searched.ran;
+  kept = kept_run (lawful_seen chain_parts (lawful_chain g.met.T.FallibleIterator.lawful g.met.U.FallibleIterator.lawful)) _ _ _ c.requires.can_next searched.ran;
 }

@@ -1,6 +1,6 @@
 -- A fold of `Chain` is one of the first, and after its end one of the second; where one side alone is still drawn, it is one of that side.
 use Rattle.std.proofs.Common.{refl}
-use Rattle.fallible_contract.specs.Laws.Contract.{stays_run, lawful_seen}
+use Rattle.fallible_contract.specs.Laws.Contract.{kept_run, lawful_seen}
 use Rattle.fallible_core.specs.Joining.Chain.{chain_parts}
 use Rattle.fallible_core.specs.Laws.Joining.Chain.{lawful_chain}
 use Rattle.fallible_core.proofs.Lemmas.Joining.Chain.{of_parts}
@@ -30,17 +30,17 @@ returns-in-SecondAlone-clause-carried g c = folds_second_alone chain_parts of_pa
 pub returns-in-FirstAlone : goal.returns-in-FirstAlone
 returns-in-FirstAlone g c = let carried = folds_first_alone chain_parts of_parts (λ p. refl) g.T.FallibleIterator.contract g.U.FallibleIterator.contract c.in-FirstAlone.is refl c.in-FirstAlone.is c.in-Ended.ensures.carried in record {
   carried = carried;
-  stays = stays_run (lawful_seen chain_parts (lawful_chain g.met.T.FallibleIterator.lawful g.met.U.FallibleIterator.lawful)) _ _ _ c.requires.can_next carried.ran;
+  kept = kept_run (lawful_seen chain_parts (lawful_chain g.met.T.FallibleIterator.lawful g.met.U.FallibleIterator.lawful)) _ _ _ c.requires.can_next carried.ran;
 }
 
 pub returns-in_default-still_drawn : goal.returns-in_default-still_drawn
 returns-in_default-still_drawn g c = let carried = folds_over chain_parts of_parts (λ p. refl) g.T.FallibleIterator.contract g.U.FallibleIterator.contract (both_drawn _ c.in_default.not-SecondAlone c.in_default-still_drawn.not-FirstAlone) refl c.in-Ended.ensures.carried c.try_fold_carrying-in_default-still_drawn.ensures.carried in record {
   carried = carried;
-  stays = stays_run (lawful_seen chain_parts (lawful_chain g.met.T.FallibleIterator.lawful g.met.U.FallibleIterator.lawful)) _ _ _ c.requires.can_next carried.ran;
+  kept = kept_run (lawful_seen chain_parts (lawful_chain g.met.T.FallibleIterator.lawful g.met.U.FallibleIterator.lawful)) _ _ _ c.requires.can_next carried.ran;
 }
 
 pub returns-in_default-try_fold_carrying : goal.returns-in_default-try_fold_carrying
 returns-in_default-try_fold_carrying g c = let carried = folds_first chain_parts of_parts (λ p. refl) g.T.FallibleIterator.contract g.U.FallibleIterator.contract c.in_default.not-SecondAlone refl refl c.in_default-try_fold_carrying.not-Ended c.try_fold_carrying-in_default.ensures.carried in record {
   carried = carried;
-  stays = stays_run (lawful_seen chain_parts (lawful_chain g.met.T.FallibleIterator.lawful g.met.U.FallibleIterator.lawful)) _ _ _ c.requires.can_next carried.ran;
+  kept = kept_run (lawful_seen chain_parts (lawful_chain g.met.T.FallibleIterator.lawful g.met.U.FallibleIterator.lawful)) _ _ _ c.requires.can_next carried.ran;
 }

@@ -1,5 +1,5 @@
 -- The fold of its source, by each item's number.
-use Rattle.fallible_contract.specs.Laws.Contract.{lawful_seen, stays_run}
+use Rattle.fallible_contract.specs.Laws.Contract.{lawful_seen, kept_run}
 use Rattle.fallible_contract.proofs.Lemmas.Folding.{holds_into, carried_into}
 use Rattle.fallible_core.specs.OneToOne.Enumerate.{enumerate_parts}
 use Rattle.fallible_core.specs.Laws.OneToOne.Enumerate.{lawful_enumerate}
@@ -12,5 +12,5 @@ fold_passing-count-requires-clause-callable g c = takes_numbered g.met.I.Fallibl
 pub returns-clause-carried : goal.returns-clause-carried
 returns-clause-carried g c = carried_into (λ p. record { it = p.0; count = p.1 }) to_numbers c.fold_passing-count.ensures.carried
 
-pub returns-clause-stays : goal.returns-clause-stays
-returns-clause-stays g c = stays_run (lawful_seen enumerate_parts (lawful_enumerate g.met.I.FallibleIterator.lawful)) _ _ _ c.requires.can_next (returns-clause-carried g c).ran
+pub returns-clause-kept : goal.returns-clause-kept
+returns-clause-kept g c = kept_run (lawful_seen enumerate_parts (lawful_enumerate g.met.I.FallibleIterator.lawful)) _ _ _ c.requires.can_next (returns-clause-carried g c).ran

@@ -1,7 +1,13 @@
 -- Where an answer is held, nothing is drawn.
 use Rattle.fallible_core.specs.Peeking.Peekable.{peekable_parts}
-use Rattle.fallible_core.proofs.Lemmas.Peeking.Peekable.{fills_held}
+use Rattle.fallible_core.proofs.Lemmas.Peeking.Peekable.{fills_held, stays_filled}
 use Rattle.fallible_core.proofs.peeking.peekable.Peekable.fill.Goals as goal
 
 pub returns-in-Some-clause-filled : goal.returns-in-Some-clause-filled
 returns-in-Some-clause-filled g c = fills_held g.I.FallibleIterator.contract.steps (peekable_parts c.args.self.now) _ c.in-Some.is
+
+pub returns-in-Some-clause-stays : goal.returns-in-Some-clause-stays
+returns-in-Some-clause-stays g c = stays_filled g.met.I.FallibleIterator.lawful (peekable_parts c.args.self.now) _ _ c.requires (returns-in-Some-clause-filled g c)
+
+pub returns-in-None-clause-stays : goal.returns-in-None-clause-stays
+returns-in-None-clause-stays g c = stays_filled g.met.I.FallibleIterator.lawful _ _ _ c.requires c.hold.ensures

@@ -1,6 +1,9 @@
 -- One draw, after which an item that the closure answers false on is put back, and an end.
 use Rattle.std.proofs.Common.{Some, None, refl}
+use Rattle.fallible_contract.specs.Laws.Contract.{stays_here}
+use Rattle.fallible_contract.proofs.Lemmas.Contract.{stays_step}
 use Rattle.fallible_core.specs.Peeking.Peekable.{peekable_parts}
+use Rattle.fallible_core.specs.Laws.Peeking.Peekable.{lawful_peekable}
 use Rattle.fallible_core.proofs.Lemmas.Peeking.Peekable.{takes_item, keeps_item, keeps_end, takes_failure, stays_kept}
 use Rattle.fallible_core.proofs.Lemmas.Peeking.PeekableLists.{next_if_listed}
 use Rattle.fallible_core.proofs.peeking.peekable.Peekable.next_if.Goals as goal
@@ -23,6 +26,9 @@ returns-in-Ok-None-clause-stays g c = stays_kept g.met.I.FallibleIterator.lawful
 pub returns-clause-taken : goal.returns-clause-taken
 returns-clause-taken g c = takes_failure _ _ _ _ _ c.in-Err.ensures
 
+pub returns-then-f-clause-stays : goal.returns-then-f-clause-stays
+returns-then-f-clause-stays g c = stays_step (lawful_peekable g.met.I.FallibleIterator.lawful) (stays_here c.requires.can_next) c.next.ensures
+
 pub returns-then-f-clause-lists : goal.returns-then-f-clause-lists
 returns-then-f-clause-lists g c h l acts i = next_if_listed g.I.FallibleIterator.contract _ _ l i h acts (returns-then-f-clause-taken g c)
 
@@ -31,6 +37,9 @@ returns-in-Ok-Some-clause-lists g c h l acts i = next_if_listed g.I.FallibleIter
 
 pub returns-in-Ok-None-clause-lists : goal.returns-in-Ok-None-clause-lists
 returns-in-Ok-None-clause-lists g c h l acts i = next_if_listed g.I.FallibleIterator.contract _ _ l i h acts (returns-in-Ok-None-clause-taken g c)
+
+pub returns-clause-stays : goal.returns-clause-stays
+returns-clause-stays g c = stays_step (lawful_peekable g.met.I.FallibleIterator.lawful) (stays_here c.requires.can_next) c.next.ensures
 
 pub returns-clause-lists : goal.returns-clause-lists
 returns-clause-lists g c h l acts i = next_if_listed g.I.FallibleIterator.contract _ _ l i h acts (returns-clause-taken g c)

@@ -2,6 +2,7 @@
 use Rattle.fallible_contract.proofs.Lemmas.Lists.Behind.{behind_nth_is}
 use Rattle.fallible_contract.proofs.Lemmas.Lists.Drawn.{nth_is}
 use Rattle.fallible_core.proofs.Lemmas.Borrowed.{nth_in_box}
+use Rattle.fallible_contract.specs.Laws.Contract.{lawful_seen, stays_run}
 use Rattle.fallible_core.proofs.traits.boxed.BoxFallibleIterator.nth.Goals as goal
 
 pub returns-clause-nth : goal.returns-clause-nth
@@ -12,3 +13,6 @@ returns-clause-value g c l i = nth_is l (returns-clause-nth g c) i
 
 pub returns-clause-rest : goal.returns-clause-rest
 returns-clause-rest g c l i no_end = behind_nth_is l (returns-clause-nth g c) i no_end
+
+pub returns-clause-stays : goal.returns-clause-stays
+returns-clause-stays g c = stays_run (lawful_seen (λ s. s.value) g.met.I.FallibleIterator.lawful) _ _ _ c.requires (returns-clause-nth g c).ran

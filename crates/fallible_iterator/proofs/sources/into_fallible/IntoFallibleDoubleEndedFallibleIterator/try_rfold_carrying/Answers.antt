@@ -1,7 +1,7 @@
 -- A fold through std's own from behind is a fold of it.
 use Rattle.std.specs.Prelude.{Ok}
 use Rattle.std.proofs.Common.{rules, refl, sym, []}
-use Rattle.fallible_contract.specs.Laws.Contract.{stays_run}
+use Rattle.fallible_contract.specs.Laws.Contract.{kept_run}
 use Rattle.fallible_contract.specs.Laws.Ends.{lawful_ends_seen}
 use Rattle.fallible_contract.proofs.Lemmas.Folding.{holds_into, carried_into}
 use Rattle.fallible_iterator.specs.Sources.IntoFallible.{into_fallible_parts, never}
@@ -23,5 +23,5 @@ pub returns-clause-carried : goal.returns-clause-carried
 returns-clause-carried g c = rw c.exited.ensures (carried_into (λ p. record { it = p }) (λ p r q step. step)
     (folds_std (λ x. x) never Ok (λ z. refl) g.I.DoubleEndedIterator.can_next_back g.I.DoubleEndedIterator.next_back_gives g.I.Iterator.remaining _ _ (g.K.Turn.turns c.args.turn.now) (λ d z r h p. search rules) c.try_rfold.new.self c.try_rfold.ensures.ran))
 
-pub returns-clause-stays : goal.returns-clause-stays
-returns-clause-stays g c = stays_run (lawful_ends_seen into_fallible_parts (lawful_std_ends (λ x. x) never g.I.Iterator.can_next g.I.DoubleEndedIterator.can_next_back g.I.Iterator.next_gives g.I.DoubleEndedIterator.next_back_gives g.I.Iterator.remaining)).back _ _ _ c.requires.can_next (returns-clause-carried g c).ran
+pub returns-clause-kept : goal.returns-clause-kept
+returns-clause-kept g c = kept_run (lawful_ends_seen into_fallible_parts (lawful_std_ends (λ x. x) never g.I.Iterator.can_next g.I.DoubleEndedIterator.can_next_back g.I.Iterator.next_gives g.I.DoubleEndedIterator.next_back_gives g.I.Iterator.remaining)).back _ _ _ c.requires.can_next (returns-clause-carried g c).ran
