@@ -1,7 +1,7 @@
 // The adapter that looks ahead.
 ghost use Rattle.std.specs.Prelude.{◌≡◌, Result, Option};
 ghost use Rattle.fallible_contract.specs.Clauses.{OverList, OverListWith};
-ghost use Rattle.fallible_contract.specs.Contract.{seen_as, Stays};
+ghost use Rattle.fallible_contract.specs.Contract.{seen_as, Fewer, Stays};
 ghost use Rattle.fallible_contract.specs.Lists.{Lists};
 ghost use Rattle.fallible_contract.specs.Laws.Contract.{lawful_seen};
 ghost use Rattle.fallible_core.specs.Peeking.Peekable.{peekable_contract, NextIf, TestedBy, IsTestable, peekable_parts, LooksAs, first_if, behind_if};
@@ -71,7 +71,7 @@ where
 {
     /// The next item, where the closure answers true on it, and else none. At an end it is none, and the closure isn't called.
     ///
-    /// It draws once where nothing is held, and else nothing. It fails as the source does; a failure is answered, and is not held. An item that is refused stays held, and so does an end. What is left may be drawn from again.
+    /// It draws once where nothing is held, and else nothing. It fails as the source does; a failure is answered, and is not held. An item that is refused stays held, and so does an end. What is left may be drawn from again, and after an item each bound is lower.
     ///
     /// Asks that it may be drawn from, and that the closure may be called on a reference to each item that may come.
     ///
@@ -94,6 +94,9 @@ where
             × Lists (seen_as peekable_parts (peekable_contract I.contract)).steps
             self.new (behind_if h l)) }
         ensures stays { Stays (peekable_contract I.contract)
+            (peekable_parts self.old) (peekable_parts self.new) }
+        ensures fewer { (x : I.Item) → result ≡ Ok (Some x)
+            → Fewer (peekable_contract I.contract)
             (peekable_parts self.old) (peekable_parts self.new) }
     {
         match self.next() {
@@ -137,6 +140,9 @@ where
             × Lists (seen_as peekable_parts (peekable_contract I.contract)).steps self.new
             (behind_if (λ x. I.Item.eq x expected.now) l)) }
         ensures stays { Stays (peekable_contract I.contract)
+            (peekable_parts self.old) (peekable_parts self.new) }
+        ensures fewer { (x : I.Item) → result ≡ Ok (Some x)
+            → Fewer (peekable_contract I.contract)
             (peekable_parts self.old) (peekable_parts self.new) }
     {
         self.next_if(|item: &I::Item| item.eq(expected))

@@ -15,11 +15,11 @@ module _ {A E F : Type 0} (call : F → A → Result Bool E → F → Type 0) (h
   asked g p k = call g p.0 (Ok p.1) k
 
   -- the closure stays as it is
-  asked_same : (ps : List (A × Bool)) (g : F) → FoldsTo {P = F} asked f ps g → g ≡ f
+  pub asked_same : (ps : List (A × Bool)) (g : F) → FoldsTo {P = F} asked f ps g → g ≡ f
   asked_same [] g went = sym went
   asked_same (p ∷ ps) g went = let a = acts p.0 (Ok p.1) went.0 went.1 in asked_same ps g (subst (λ (k : F). FoldsTo {P = F} asked k ps g) a.0 went.2)
 
-  parted_front : (ps : List (A × Bool)) (g : F) → FoldsTo {P = F} asked f ps g → parted h (map (λ x. Ok x) (map (λ p. p.0) ps) ++ []) ≡ Ok (answered_true ps, answered_false ps)
+  pub parted_front : (ps : List (A × Bool)) (g : F) → FoldsTo {P = F} asked f ps g → parted h (map (λ x. Ok x) (map (λ p. p.0) ps) ++ []) ≡ Ok (answered_true ps, answered_false ps)
   unfolding parted
   parted_front [] g went = refl
   parted_front ((x, true) ∷ ps) g went =

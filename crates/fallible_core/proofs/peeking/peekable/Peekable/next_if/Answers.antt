@@ -1,5 +1,6 @@
 -- One draw, after which an item that the closure answers false on is put back, and an end.
 use Rattle.std.proofs.Common.{Some, None, refl}
+use Rattle.fallible_contract.specs.Traces.{item}
 use Rattle.fallible_contract.specs.Laws.Contract.{stays_here}
 use Rattle.fallible_contract.proofs.Lemmas.Contract.{stays_step}
 use Rattle.fallible_core.specs.Peeking.Peekable.{peekable_parts}
@@ -28,6 +29,9 @@ returns-clause-taken g c = takes_failure _ _ _ _ _ c.in-Err.ensures
 
 pub returns-then-f-clause-stays : goal.returns-then-f-clause-stays
 returns-then-f-clause-stays g c = stays_step (lawful_peekable g.met.I.FallibleIterator.lawful) (stays_here c.requires.can_next) c.next.ensures
+
+pub returns-then-f-clause-fewer : goal.returns-then-f-clause-fewer
+returns-then-f-clause-fewer g c x is = ((lawful_peekable g.met.I.FallibleIterator.lawful).kept_by_draw _ (item c.in-Ok-Some.x) _ c.requires.can_next (rw c.in-Ok-Some.field-0-is at c.in-Ok-Some.ensures)).answer.1
 
 pub returns-then-f-clause-lists : goal.returns-then-f-clause-lists
 returns-then-f-clause-lists g c h l acts i = next_if_listed g.I.FallibleIterator.contract _ _ l i h acts (returns-then-f-clause-taken g c)
