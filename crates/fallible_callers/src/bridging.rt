@@ -80,23 +80,19 @@ pub fn failures(readings: Vec<Result<u32, u8>>) -> u32
     failures
 }
 
-/// How many more items, up to ten, come behind the first of any fallible iterator that can't fail; none where it has no first.
-pub fn ten_behind_the_first<I: FallibleIterator>(mut it: I) -> usize
+/// How many more items, up to ten, come behind the first of any fallible iterator that can't fail.
+pub fn ten_behind_the_first<I: FallibleIterator>(mut it: I) -> Result<usize, I::Error>
 where
     I::Item: Drop,
-    I::Error: Debug + Drop,
+    I::Error: Debug,
     requires can_next { I.contract.can_next it }
     requires sure { NeverFails I.contract it }
     ensures value { (l : List (Result I.Item I.Error)) → Lists I.contract.steps it l
         → (x : I.Item) → nth_of 0 l ≡ Ok (Some x)
-        → result ≡ length (take 10 (unwrapped (behind_first l))) }
-    ensures none { (l : List (Result I.Item I.Error)) → Lists I.contract.steps it l
-        → nth_of 0 l ≡ Ok None → result ≡ 0 }
+        → result ≡ Ok (length (take 10 (unwrapped (behind_first l)))) }
 {
-    match it.draw() {
-        Ok(Some(_)) => it.unwrap().take(10).count(),
-        Ok(None) | Err(_) => 0,
-    }
+    it.draw()?;
+    Ok(it.unwrap().take(10).count())
 }
 
 /// The numbers, each one greater, modulo 2 ^ 32.

@@ -27,6 +27,7 @@ pub use ends::{
     law_back_inspect, law_back_map, law_back_map_err, law_draws, law_interleave,
     law_interleave_folds, law_interleave_nest, law_rev, law_rev_rev,
 };
+pub use fallible_contract::answers::{Answer, Side};
 pub use filtering::{law_filter, law_filter_map, law_skip_while};
 pub use joining::{
     law_chain, law_cycle, law_cycle_taken, law_flat_map, law_flatten, law_flatten_finite, law_zip,
@@ -46,5 +47,4 @@ pub use sources::{
     law_into_fallible, law_listed_convert, law_listed_into_fallible, law_listed_vec, law_once,
     law_once_err, law_repeat, law_repeat_err, law_sources,
 };
-pub use fallible_contract::answers::{Answer, Side};
 pub use traces::{answers, answers_at};
