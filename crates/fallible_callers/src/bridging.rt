@@ -80,19 +80,22 @@ pub fn failures(readings: Vec<Result<u32, u8>>) -> u32
     failures
 }
 
-/// How many more items, up to ten, come behind the first of any fallible iterator that can't fail.
-pub fn ten_behind_the_first<I: FallibleIterator>(mut it: I) -> Result<usize, I::Error>
+/// The last item behind the first of any fallible iterator that can't fail: none where nothing comes behind it.
+pub fn last_behind_the_first<I: FallibleIterator>(mut it: I) -> Result<Option<I::Item>, I::Error>
 where
     I::Item: Drop,
     I::Error: Debug,
     requires can_next { I.contract.can_next it }
+    requires finite { IsFinite (I.contract.remaining it) }
     requires sure { NeverFails I.contract it }
     ensures value { (l : List (Result I.Item I.Error)) → Lists I.contract.steps it l
         → (x : I.Item) → nth_of 0 l ≡ Ok (Some x)
-        → result ≡ Ok (length (take 10 (unwrapped (behind_first l)))) }
+        → IfOk result (λ last. MatchOption last (length (unwrapped (behind_first l)) ≡ 0)
+        (λ y. y ≡ slice_index_or (unwrapped (behind_first l))
+        (length (unwrapped (behind_first l)) - 1) y)) }
 {
     it.draw()?;
-    Ok(it.unwrap().take(10).count())
+    Ok(it.unwrap().last())
 }
 
 /// The numbers, each one greater, modulo 2 ^ 32.
