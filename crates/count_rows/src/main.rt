@@ -7,21 +7,13 @@
 #![tactic(auto)]
 
 mod by_byte;
+mod program;
 
-use by_byte::ByByte;
-use fallible_rows::{RowFault, fault_line, run};
-use std::io::BufReader;
+use program::program;
 use std::process::ExitCode;
 
 fn main(rt: HostRuntime) -> ExitCode {
-    let outcome = match BufReader::new(rt.alloc(), rt.stdin()) {
-        Ok(reader) => run(rt.alloc(), &mut ByByte { reader }, &mut rt.stdout()),
-        Err(_) => Err(RowFault::Memory),
-    };
-    let Err(fault) = outcome else {
-        return ExitCode::SUCCESS;
-    };
-    match fault_line(&fault, &mut rt.stderr()) {
+    match program(rt.alloc(), rt.stdin(), &mut rt.stdout(), &mut rt.stderr()) {
         Ok(status) | Err(status) => ExitCode::from(status),
     }
 }

@@ -10,6 +10,7 @@ use Rattle.fallible_iterator.specs.Folds.{CountExit}
 use Rattle.fallible_rows.specs.Reading.{GivesEnd}
 use Rattle.fallible_rows.specs.Rows.{rows}
 use Rattle.fallible_rows.specs.Report.{row_limit, line_of_count}
+use Rattle.fallible_rows.specs.Run.{byte_limit}
 use Rattle.fallible_rows.specs.RowTraces.{told_place, row_answers, IsClosed, IsOneRow, GivesBytes, MissesByte, StopsBetween, StopsAtEnd, ReadsRows}
 use Rattle.fallible_rows.specs.Counting.{CountsPrefix}
 use Rattle.fallible_rows.proofs.ReportLemmas.{row_limit-is, above, is_taken, item_rows, refused_rows, no_end, tally-numbers, tally-refused, prefix_at_end, prefix_full, prefix_refused, prefix_refused_at_end}
@@ -52,46 +53,60 @@ module _ {B : Type 0} (left : B → Option (List ℕ)) (stays : Bool → B → B
     reads_keep r a n xs last p (inl d) = rows_keep r a (map item xs ++ last ∷ []) p d.0
     reads_keep r a n xs last p (inr d) = rows_keep r a (map item xs) p d.0
 
-  module _ (r : B) (a : Ahead) (p : B × Option Ahead) (first : a.place ≡ 1) (xs : List ℕ) (count : ℕ) (counted : count ≡ count_by above xs) where
+  module _ (r : B) (a : Ahead) (p : B × Option Ahead) (first : a.place ≡ 1) (most : a.left ≡ byte_limit) (xs : List ℕ) (count : ℕ) (counted : count ≡ count_by above xs) where
     abbrev Counts : Result ℕ RowFault → Type 0
     Counts result = CountsPrefix (left r) (left p.0) result
 
+    -- the end was met within the limit
+    abbrev MeetsEnd : List ℕ → Type 0
+    MeetsEnd bytes = IsAtEnd (left p.0) × (length bytes < byte_limit)
+
+    met_end : (last : B) (closed unclosed : List ℕ) (trace : Answers) → StopsAtEnd left stays last a closed unclosed trace p → MeetsEnd (closed ++ unclosed)
+    met_end last closed unclosed trace s = let limit = s.limit in (s.met_end.1, omega (arith, limit, most))
+
+    within : (last : B) (closed unclosed : List ℕ) (trace : Answers) → StopsBetween left stays last a closed unclosed trace p → length closed ≤ byte_limit
+    within last closed unclosed trace s = let limit = s.limit in omega (arith, limit, most)
+
+    missed_within : (count : ℕ) (q t : B) → MissesByte left stays a.left count q t → count ≤ byte_limit
+    missed_within count q t (inl m) = let limit = m.0 in omega (arith, limit, most)
+    missed_within count q t (inr m) = let limit = m.0 in omega (arith, limit, most)
+
     -- all rows are numbers
-    counts_of_numbers : (bytes : List ℕ) → row_answers a.place (rows bytes) ≡ map item xs → Consumes (left r) (left p.0) bytes → IsAtEnd (left p.0) ⊎ (IsClosed bytes × (length xs ≡ row_limit)) → length xs ≤ row_limit → Counts (Ok count)
+    counts_of_numbers : (bytes : List ℕ) → row_answers a.place (rows bytes) ≡ map item xs → Consumes (left r) (left p.0) bytes → MeetsEnd bytes ⊎ ((length bytes ≤ byte_limit) × IsClosed bytes × (length xs ≡ row_limit)) → length xs ≤ row_limit → Counts (Ok count)
     counts_of_numbers bytes are taken how few =
         let rs = item_rows a.place (rows bytes) xs are in
         let long = rs.long in
-        let within : length (rows bytes) ≤ row_limit = omega (arith, long, few) in (
+        let not_more : length (rows bytes) ≤ row_limit = omega (arith, long, few) in (
           bytes,
           elim how [
-            | inl at_end ↦ prefix_at_end (left r) (left p.0) bytes taken at_end (All-take is_taken (length (rows bytes) - 1) (rows bytes) rs.numbers) within
-            | inr full ↦ prefix_full (left r) (left p.0) bytes taken full.0 rs.numbers (let e = full.1 in omega (arith, long, e))
+            | inl met ↦ prefix_at_end (left r) (left p.0) bytes taken met (All-take is_taken (length (rows bytes) - 1) (rows bytes) rs.numbers) not_more
+            | inr full ↦ prefix_full (left r) (left p.0) bytes taken full.0 full.1 rs.numbers (let e = full.2 in omega (arith, long, e))
           ],
-          tally-numbers bytes rs.numbers within ∙ ap (λ n. Ok n) (rs.count ∙ sym counted),
+          tally-numbers bytes rs.numbers not_more ∙ ap (λ n. Ok n) (rs.count ∙ sym counted),
         )
 
     -- the last row alone is refused
-    last_refused : (bytes : List ℕ) (e : RowFault) → row_answers a.place (rows bytes) ≡ map item xs ++ failure e ∷ [] → Consumes (left r) (left p.0) bytes → IsAtEnd (left p.0) ⊎ IsClosed bytes → length xs < row_limit → Counts (Err e)
+    last_refused : (bytes : List ℕ) (e : RowFault) → row_answers a.place (rows bytes) ≡ map item xs ++ failure e ∷ [] → Consumes (left r) (left p.0) bytes → MeetsEnd bytes ⊎ ((length bytes ≤ byte_limit) × IsClosed bytes) → length xs < row_limit → Counts (Err e)
     last_refused bytes e are taken how few =
         let rs = refused_rows a.place (rows bytes) xs e are in
         let long = rs.long in
-        let within : length rs.good < row_limit = omega (arith, long, few) in
-        let place : told_place (a.place + length rs.good) ≡ length rs.good + 1 = omega (arith, first, within, row_limit-is) in
+        let fewer : length rs.good < row_limit = omega (arith, long, few) in
+        let place : told_place (a.place + length rs.good) ≡ length rs.good + 1 = omega (arith, first, fewer, row_limit-is) in
         subst (λ (f : RowFault). Counts (Err f)) (sym (rs.fault ∙ ap (λ k. Row k) place)) (
           bytes,
           elim how [
-            | inl at_end ↦ prefix_refused_at_end (left r) (left p.0) bytes taken rs.good rs.bad at_end rs.are rs.numbers within
-            | inr closed ↦ prefix_refused (left r) (left p.0) bytes taken rs.good rs.bad closed rs.are rs.numbers rs.refused within
+            | inl met ↦ prefix_refused_at_end (left r) (left p.0) bytes taken rs.good rs.bad met rs.are rs.numbers fewer
+            | inr closed ↦ prefix_refused (left r) (left p.0) bytes taken rs.good rs.bad closed.0 closed.1 rs.are rs.numbers rs.refused fewer
           ],
-          ap line_of_count (tally-refused bytes rs.good rs.bad [] rs.are rs.numbers rs.refused within),
+          ap line_of_count (tally-refused bytes rs.good rs.bad [] rs.are rs.numbers rs.refused fewer),
         )
 
     -- a read failed after rows that are all numbers
-    read_failed : (closed unclosed : List ℕ) → IsClosed closed → IsOneRow unclosed → row_answers a.place (rows closed) ≡ map item xs → Consumes (left r) (left p.0) (closed ++ unclosed) → length xs < row_limit → Counts (Err Read)
-    read_failed closed unclosed are_closed one are taken few =
+    read_failed : (closed unclosed : List ℕ) → IsClosed closed → IsOneRow unclosed → row_answers a.place (rows closed) ≡ map item xs → Consumes (left r) (left p.0) (closed ++ unclosed) → length (closed ++ unclosed) ≤ byte_limit → length xs < row_limit → Counts (Err Read)
+    read_failed closed unclosed are_closed one are taken not_more few =
         let rs = item_rows a.place (rows closed) xs are in
         let long = rs.long in
-        record { closed = closed; unclosed = unclosed; taken = taken; are_closed = are_closed; one = one; numbers = rs.numbers; few = omega (arith, long, few) }
+        record { closed = closed; unclosed = unclosed; taken = taken; within = not_more; are_closed = are_closed; one = one; numbers = rs.numbers; few = omega (arith, long, few) }
 
     -- by the last answer, where it was drawn
     by_end : (trace : Answers) → trace ≡ map item xs ++ end ∷ [] → ReadsRows left stays r a trace p → length xs < row_limit → Counts (Ok count)
@@ -107,17 +122,17 @@ module _ {B : Type 0} (left : B → Option (List ℕ)) (stays : Bool → B → B
         by_ends s zero e = absurd (no_end a.place (rows (h.closed ++ h.unclosed)) xs (sym (append-nil (row_answers a.place (rows (h.closed ++ h.unclosed)))) ∙ sym e ∙ are))
         by_ends s (suc n) e =
             let m = items_then_last (row_answers a.place (rows (h.closed ++ h.unclosed))) (replicate n end) end end xs no_item-end (sym e ∙ are) in
-            counts_of_numbers (h.closed ++ h.unclosed) m.0 (end_consumes (h.closed ++ h.unclosed) r h.last p.0 h.given s.met_end) (inl s.met_end.1) (omega arith)
+            counts_of_numbers (h.closed ++ h.unclosed) m.0 (end_consumes (h.closed ++ h.unclosed) r h.last p.0 h.given s.met_end) (inl (met_end h.last h.closed h.unclosed trace s)) (omega arith)
 
     by_failure : (trace : Answers) (e : RowFault) → trace ≡ map item xs ++ failure e ∷ [] → ReadsRows left stays r a trace p → length xs < row_limit → Counts (Err e)
     by_failure trace e are h few = elim h.stopped [
-      | inl s ↦ last_refused h.closed e (sym s.answers ∙ are) (between s) (inr h.are_closed) few
+      | inl s ↦ last_refused h.closed e (sym s.answers ∙ are) (between s) (inr (within h.last h.closed h.unclosed trace s, h.are_closed)) few
       | inr k ↦ elim k [
         | inl s ↦ by_ends s s.ends s.answers
         | inr s ↦ let m = items_then_last (row_answers a.place (rows h.closed)) (replicate s.ends end) (failure Read) (failure e) xs (no_item-failure Read) (sym s.answers ∙ are) in
             let q = m.1 in
             let same : Read ≡ e = cc in
-            subst (λ (f : RowFault). Counts (Err f)) same (read_failed h.closed h.unclosed h.are_closed h.one m.0 (missed_consumes (h.closed ++ h.unclosed) a.left (length (h.closed ++ h.unclosed)) r h.last p.0 h.given s.missed) few)
+            subst (λ (f : RowFault). Counts (Err f)) same (read_failed h.closed h.unclosed h.are_closed h.one m.0 (missed_consumes (h.closed ++ h.unclosed) a.left (length (h.closed ++ h.unclosed)) r h.last p.0 h.given s.missed) (missed_within (length (h.closed ++ h.unclosed)) h.last p.0 s.missed) few)
       ]
     ]
       where
@@ -127,13 +142,13 @@ module _ {B : Type 0} (left : B → Option (List ℕ)) (stays : Bool → B → B
             subst (λ (q : B × Option Ahead). Consumes (left r) (left q.0) h.closed) (sym s.is_left) (subst (Consumes (left r) (left h.last)) whole (gives_consumes (h.closed ++ h.unclosed) r h.last h.given))
 
         by_ends : StopsAtEnd left stays h.last a h.closed h.unclosed trace p → (n : ℕ) → trace ≡ row_answers a.place (rows (h.closed ++ h.unclosed)) ++ replicate n end → Counts (Err e)
-        by_ends s zero d = last_refused (h.closed ++ h.unclosed) e (sym (append-nil (row_answers a.place (rows (h.closed ++ h.unclosed)))) ∙ sym d ∙ are) (end_consumes (h.closed ++ h.unclosed) r h.last p.0 h.given s.met_end) (inl s.met_end.1) few
+        by_ends s zero d = last_refused (h.closed ++ h.unclosed) e (sym (append-nil (row_answers a.place (rows (h.closed ++ h.unclosed)))) ∙ sym d ∙ are) (end_consumes (h.closed ++ h.unclosed) r h.last p.0 h.given s.met_end) (inl (met_end h.last h.closed h.unclosed trace s)) few
         by_ends s (suc n) d = absurd (let m = (items_then_last (row_answers a.place (rows (h.closed ++ h.unclosed))) (replicate n end) end (failure e) xs no_item-end (sym d ∙ are)).1 in cc)
 
     -- where as many rows as are looked at were answered
     by_limit : (trace : Answers) → trace ≡ map item xs → ReadsRows left stays r a trace p → length xs ≡ row_limit → Counts (Ok count)
     by_limit trace are h long = elim h.stopped [
-      | inl s ↦ counts_of_numbers h.closed (sym s.answers ∙ are) (between s) (inr (h.are_closed, long)) (omega (arith, long))
+      | inl s ↦ counts_of_numbers h.closed (sym s.answers ∙ are) (between s) (inr (within h.last h.closed h.unclosed trace s, h.are_closed, long)) (omega (arith, long))
       | inr k ↦ elim k [
         | inl s ↦ by_ends s s.ends s.answers
         | inr s ↦ absurd (not_items_with (row_answers a.place (rows h.closed)) (replicate s.ends end) (failure Read) xs (no_item-failure Read) (sym s.answers ∙ are))
@@ -146,7 +161,7 @@ module _ {B : Type 0} (left : B → Option (List ℕ)) (stays : Bool → B → B
             subst (λ (q : B × Option Ahead). Consumes (left r) (left q.0) h.closed) (sym s.is_left) (subst (Consumes (left r) (left h.last)) whole (gives_consumes (h.closed ++ h.unclosed) r h.last h.given))
 
         by_ends : StopsAtEnd left stays h.last a h.closed h.unclosed trace p → (n : ℕ) → trace ≡ row_answers a.place (rows (h.closed ++ h.unclosed)) ++ replicate n end → Counts (Ok count)
-        by_ends s zero d = counts_of_numbers (h.closed ++ h.unclosed) (sym (append-nil (row_answers a.place (rows (h.closed ++ h.unclosed)))) ∙ sym d ∙ are) (end_consumes (h.closed ++ h.unclosed) r h.last p.0 h.given s.met_end) (inl s.met_end.1) (omega (arith, long))
+        by_ends s zero d = counts_of_numbers (h.closed ++ h.unclosed) (sym (append-nil (row_answers a.place (rows (h.closed ++ h.unclosed)))) ∙ sym d ∙ are) (end_consumes (h.closed ++ h.unclosed) r h.last p.0 h.given s.met_end) (inl (met_end h.last h.closed h.unclosed trace s)) (omega (arith, long))
         by_ends s (suc n) d = absurd (not_items_with (row_answers a.place (rows (h.closed ++ h.unclosed))) (replicate n end) end xs no_item-end (sym d ∙ are))
 
     -- the count of a chain over the first rows

@@ -12,7 +12,7 @@ use Rattle.fallible_iterator.specs.Traces.{Answered, item, failure, end}
 use Rattle.fallible_rows.specs.Rows.{rows, row_number}
 use Rattle.fallible_rows.specs.Report.{row_limit, first_rows, is_refused, is_above, unless_refused, tally, report, line_of_count}
 use Rattle.fallible_rows.specs.RowTraces.{told_place, answer_of_number, row_answer, row_answers, IsClosed}
-use Rattle.fallible_rows.specs.Run.{AreNumbers, but_last, ReadsPrefix}
+use Rattle.fallible_rows.specs.Run.{byte_limit, AreNumbers, but_last, ReadsPrefix}
 use Rattle.fallible_rows.proofs.RowLemmas.{rows-closed, rows-none}
 use Rattle.fallible_rows.specs.declared.fault.RowFault.{RowFault}
 use Rattle.fallible_rows.specs.declared.fault.RowFault.TheVariants.{Row}
@@ -178,28 +178,30 @@ but_last-good rs good bad are h =
     subst (λ l. AreNumbers (but_last l)) (sym are) (subst AreNumbers (sym (ap (λ n. take n (good ++ bad ∷ [])) long ∙ take_at good (bad ∷ []) (length good) refl)) h)
 
 module _ (old new : Option (List ℕ)) (bytes : List ℕ) (taken : Consumes old new bytes) where
-  pub prefix_at_end : IsAtEnd new → AreNumbers (but_last (rows bytes)) → length (rows bytes) ≤ row_limit → ReadsPrefix old new bytes
-  prefix_at_end at_end numbers few = record { taken = taken; none_sooner = (numbers, few); closed = inr at_end; same_report = Consumes-whole old new bytes (λ known. report bytes ≡ report known) taken at_end refl }
+  pub prefix_at_end : IsAtEnd new × (length bytes < byte_limit) → AreNumbers (but_last (rows bytes)) → length (rows bytes) ≤ row_limit → ReadsPrefix old new bytes
+  prefix_at_end met numbers few = let fewer = met.1 in record { taken = taken; within = omega (arith, fewer); none_sooner = (numbers, few); closed = inr met; same_report = Consumes-whole old new bytes (λ known. report bytes ≡ report known) taken met.0 refl }
 
-  pub prefix_full : IsClosed bytes → AreNumbers (rows bytes) → length (rows bytes) ≡ row_limit → ReadsPrefix old new bytes
-  prefix_full closed numbers long = record {
+  pub prefix_full : length bytes ≤ byte_limit → IsClosed bytes → AreNumbers (rows bytes) → length (rows bytes) ≡ row_limit → ReadsPrefix old new bytes
+  prefix_full within closed numbers long = record {
     taken = taken;
+    within = within;
     none_sooner = (but_last-numbers (rows bytes) numbers, omega (arith, long));
     closed = inl (ends_with_newline bytes closed (omega (arith, long, row_limit-is)), inl long);
     same_report = same_report-deciding old new bytes taken (same_with_more-full bytes closed long);
   }
 
-  pub prefix_refused : (good : List (List ℕ)) (bad : List ℕ) → IsClosed bytes → rows bytes ≡ good ++ bad ∷ [] → AreNumbers good → is_refused bad ≡ true → length good < row_limit → ReadsPrefix old new bytes
-  prefix_refused good bad closed are numbers refused few =
+  pub prefix_refused : (good : List (List ℕ)) (bad : List ℕ) → length bytes ≤ byte_limit → IsClosed bytes → rows bytes ≡ good ++ bad ∷ [] → AreNumbers good → is_refused bad ≡ true → length good < row_limit → ReadsPrefix old new bytes
+  prefix_refused good bad within closed are numbers refused few =
       let long : length (rows bytes) ≡ length good + 1 = ap length are ∙ length_push good bad in
       record {
         taken = taken;
+        within = within;
         none_sooner = (but_last-good (rows bytes) good bad are numbers, omega (arith, long, few));
         closed = inl (ends_with_newline bytes closed (omega (arith, long)), inr (length good + 1, ap line_of_count (tally-refused bytes good bad [] are numbers refused few)));
         same_report = same_report-deciding old new bytes taken (refused_same bytes good bad closed are numbers refused few);
       }
 
-  pub prefix_refused_at_end : (good : List (List ℕ)) (bad : List ℕ) → IsAtEnd new → rows bytes ≡ good ++ bad ∷ [] → AreNumbers good → length good < row_limit → ReadsPrefix old new bytes
-  prefix_refused_at_end good bad at_end are numbers few =
+  pub prefix_refused_at_end : (good : List (List ℕ)) (bad : List ℕ) → IsAtEnd new × (length bytes < byte_limit) → rows bytes ≡ good ++ bad ∷ [] → AreNumbers good → length good < row_limit → ReadsPrefix old new bytes
+  prefix_refused_at_end good bad met are numbers few =
       let long : length (rows bytes) ≡ length good + 1 = ap length are ∙ length_push good bad in
-      prefix_at_end at_end (but_last-good (rows bytes) good bad are numbers) (omega (arith, long, few))
+      prefix_at_end met (but_last-good (rows bytes) good bad are numbers) (omega (arith, long, few))

@@ -1,9 +1,13 @@
 -- What a run does to its reader and its writer.
-use Rattle.std.specs.Prelude.{◌≡◌, ℕ, ◌-◌, ◌≤◌, ◌<◌, ◌⊎◌, false, List, [], ◌∷◌, ◌++◌, length, take, All, IfSome, Option, Ok, Err}
+use Rattle.std.specs.Prelude.{◌≡◌, ℕ, ◌-◌, ◌^◌, ◌≤◌, ◌<◌, ◌⊎◌, false, List, [], ◌∷◌, ◌++◌, length, take, All, IfSome, Option, Ok, Err}
 use Rattle.std.specs.Io.KnownBytes.{Appends, Consumes, IsAtEnd}
 use Rattle.fallible_rows.specs.Rows.{rows}
 use Rattle.fallible_rows.specs.RowTraces.{IsOneRow, IsClosed}
 use Rattle.fallible_rows.specs.Report.{row_limit, is_refused, report}
+
+-- how many bytes are read at most: `u64::MAX`
+abbrev pub byte_limit : ℕ
+byte_limit = 2 ^ 64 - 1
 
 -- each of the rows is a number
 abbrev pub AreNumbers : List (List ℕ) → Type 0
@@ -19,16 +23,17 @@ CloseDeciding bytes =
     ((prefix : List ℕ) × (bytes ≡ prefix ++ 10 ∷ []))
     × ((length (rows bytes) ≡ row_limit) ⊎ ((place : ℕ) × (report bytes ≡ Err place)))
 
--- A reader lost these first bytes of those that it had, and no others. They are those up to and with the newline that closes the first row that is refused, or row 1,000,000, whichever is first, and else all that it had; and their report is that of all.
+-- A reader lost these first bytes of those that it had, and no others. They are those up to and with the newline that closes the first row that is refused, or row 1,000,000, whichever is first, and else all that it had; and their report is that of all. They are at most `u64::MAX`, and fewer where the end had to be met.
 pub record ReadsPrefix (old new : Option (List ℕ)) (bytes : List ℕ) : Type 0 where
   pub taken : Consumes old new bytes
+  pub within : length bytes ≤ byte_limit
   pub none_sooner : AreNumbers (but_last (rows bytes)) × (length (rows bytes) ≤ row_limit)
-  pub closed : CloseDeciding bytes ⊎ IsAtEnd new
+  pub closed : CloseDeciding bytes ⊎ (IsAtEnd new × (length bytes < byte_limit))
   pub same_report : IfSome old (λ known. report bytes ≡ report known)
 
--- a reader lost some first bytes of those that it had, where these are known, and no others
+-- a reader lost some first bytes of those that it had, where these are known, at most `u64::MAX`, and no others
 abbrev pub TakesFromPrefix : Option (List ℕ) → Option (List ℕ) → Type 0
-TakesFromPrefix old new = (bytes : List ℕ) × Consumes old new bytes
+TakesFromPrefix old new = (bytes : List ℕ) × Consumes old new bytes × (length bytes ≤ byte_limit)
 
 -- the prefix was read, and its report was written, and nothing else
 abbrev pub WritesReport : Option (List ℕ) → Option (List ℕ) → Option (List ℕ) → Option (List ℕ) → Type 0
@@ -44,11 +49,12 @@ abbrev pub HasReport : Option (List ℕ) → Option (List ℕ) → Type 0
 HasReport unread unread' =
     (bytes : List ℕ) × (text : List ℕ) × ReadsPrefix unread unread' bytes × (report bytes ≡ Ok text)
 
--- bytes were read, of which no row that was closed is refused, and fewer than 1,000,000 were
+-- bytes were read, at most `u64::MAX`, of which no row that was closed is refused, and fewer than 1,000,000 were
 pub record NoneRefusedYet (old new : Option (List ℕ)) : Type 0 where
   pub closed : List ℕ
   pub unclosed : List ℕ
   pub taken : Consumes old new (closed ++ unclosed)
+  pub within : length (closed ++ unclosed) ≤ byte_limit
   pub are_closed : IsClosed closed
   pub one : IsOneRow unclosed
   pub numbers : AreNumbers (rows closed)

@@ -2,5 +2,6 @@ mod GrammarLemmas
 mod MergingLemmas
 mod NumberLemmas
 mod PageLemmas
+mod RoomLemmas
 mod TableLemmas
 mod TokenLemmas

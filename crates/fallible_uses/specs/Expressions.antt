@@ -1,14 +1,16 @@
 -- Texts of sums and products: their tokens, and what these come to.
-use Rattle.std.specs.Prelude.{◌≡◌, ◌≤◌, length, take, drop, ℕ, ◌+◌, ◌*◌, ◌%◌, ◌^◌, ◌==◌, if◌then◌else◌, Bool, true, false, List, [], ◌∷◌, ◌++◌, Result, Ok, Err, option_map}
+use Rattle.std.specs.Prelude.{◌≡◌, ◌≤◌, nat_lt, length, take, drop, ℕ, ◌+◌, ◌*◌, ◌%◌, ◌^◌, ◌==◌, if◌then◌else◌, Bool, true, false, List, [], ◌∷◌, ◌++◌, Result, Ok, Err, option_map, vec_capacity}
 use Rattle.std.specs.Char.{is_ascii_digit}
 use Rattle.std.specs.Option.{ok_or}
 use Rattle.std.specs.Str.{IsAscii}
 use Rattle.fallible_iterator.specs.Lists.{folded, on_value}
 use Rattle.fallible_uses.specs.Numbers.{number_of}
+use Rattle.std.specs.declared.alloc.Global.{Global}
+use Rattle.std.specs.declared.vec.Vec.{Vec}
 use Rattle.fallible_uses.specs.declared.tokens.Token.{Token}
 use Rattle.fallible_uses.specs.declared.tokens.Token.TheVariants.{Number, Plus, Times, Open, Close}
 use Rattle.fallible_uses.specs.declared.tokens.TextFault.{TextFault}
-use Rattle.fallible_uses.specs.declared.tokens.TextFault.TheVariants.{Unknown, Unexpected}
+use Rattle.fallible_uses.specs.declared.tokens.TextFault.TheVariants.{Unknown, Unexpected, Memory}
 use Rattle.fallible_uses.specs.declared.tokens.Level.{Level}
 
 -- ---- tokens
@@ -80,3 +82,19 @@ value_from state l = on_value (folded (λ e. e) after_token state l) value_at_en
 -- the value of the tokens, or the failure that comes first
 abbrev pub value_of_tokens : List (Result Token TextFault) → Result ℕ TextFault
 value_of_tokens l = value_from ([], no_terms, true) l
+
+-- ---- values where memory may be refused
+
+-- one token, where so many parentheses may be open at once: an opening one that would be one more is the failure `Memory`
+abbrev pub after_token_in : ℕ → List Level × Level × Bool → Token → Result (List Level × Level × Bool) TextFault
+after_token_in room (outside, level, true) Open = if nat_lt (length outside) room then Ok (level ∷ outside, no_terms, true) else Err Memory
+after_token_in room state token = after_token state token
+
+-- the value from here on, where so many parentheses may be open at once
+abbrev pub value_from_in : ℕ → List Level × Level × Bool → List (Result Token TextFault) → Result ℕ TextFault
+value_from_in room state l = on_value (folded (λ e. e) (after_token_in room) state l) value_at_end
+
+-- It is the value of the tokens where as many parentheses may be open at once as some vector has room for.
+pub record IsValueInRoom (l : List (Result Token TextFault)) (r : Result ℕ TextFault) : Type 0 where
+  pub levels : Vec Level Global
+  pub is : r ≡ value_from_in (vec_capacity levels) ([], no_terms, true) l

@@ -6,5 +6,6 @@ pub mod Means
 pub mod Merging
 pub mod Numbers
 pub mod Pages
+pub mod Reading
 pub mod Report
 pub mod Tables

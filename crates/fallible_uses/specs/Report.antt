@@ -20,6 +20,10 @@ ReadsTable unread unread' r = (bytes : List ℕ) × Consumes unread unread' byte
 abbrev pub WritesReport : Option (List ℕ) → Option (List ℕ) → Option (List ℕ) → Option (List ℕ) → Type 0
 WritesReport unread unread' written written' = (totals : Totals) × ReadsTable unread unread' (Ok totals) × Appends written written' (report_of totals)
 
+-- the table was read, and has totals
+abbrev pub HasTotals : Option (List ℕ) → Option (List ℕ) → Type 0
+HasTotals unread unread' = (totals : Totals) × ReadsTable unread unread' (Ok totals)
+
 -- the status that a program ends with
 abbrev pub status_of : RunFault → ℕ
 status_of (Table (Bad place)) = 1

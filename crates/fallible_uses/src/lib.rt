@@ -8,6 +8,7 @@ pub mod lines;
 pub mod merging;
 mod numbers;
 pub mod pages;
+pub mod reading;
 pub mod report;
 pub mod table;
 #[cfg(test)]

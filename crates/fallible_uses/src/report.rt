@@ -1,13 +1,16 @@
 //! The totals of a table that a reader gives, as lines of text.
 ghost use Rattle.std.specs.Prelude.{◌≡◌, ◌≢◌, Err, OnOk, OnErr, MatchResult};
+ghost use Rattle.std.specs.IoError.{error_kind};
 ghost use Rattle.std.specs.Io.KnownBytes.{Appends, Keeps};
-ghost use Rattle.fallible_uses.specs.Report.{report_of, ReadsTable, WritesReport, status_of, line_of};
+ghost use Rattle.fallible_uses.specs.Report.{report_of, ReadsTable, WritesReport, HasTotals, status_of, line_of};
+ghost use Rattle.std.specs.declared.io.ErrorKind.{ErrorKind};
 ghost use Rattle.fallible_uses.specs.declared.table.TableFault.{TableFault};
 
+use crate::reading::ReadWhole;
 use crate::table::{TableFault, Totals, sum_up};
 use std::alloc::Global;
 use std::io;
-use std::io::{ErrorKind, Read, Write};
+use std::io::{ErrorKind, Write};
 
 /// Why a run gave no report.
 #[derive(Clone, Copy, Debug, PartialEq, Eq)]
@@ -24,13 +27,14 @@ pub enum RunFault {
 
 // What a failed read comes to.
 fn fault_of_read(error: &io::Error) -> RunFault
+    ensures memory { result ≡ RunFault.Memory → error_kind error.now ≡ ErrorKind.OutOfMemory }
+    ensures read { result ≡ RunFault.Read → error_kind error.now ≢ ErrorKind.OutOfMemory }
     ensures table { (fault : TableFault) → result ≢ RunFault.Table fault }
     ensures write { result ≢ RunFault.Write }
 {
-    if error.kind() == ErrorKind::OutOfMemory {
-        RunFault::Memory
-    } else {
-        RunFault::Read
+    match error.kind() {
+        ErrorKind::OutOfMemory => RunFault::Memory,
+        _ => RunFault::Read,
     }
 }
 
@@ -47,18 +51,30 @@ fn write_report<W: Write>(totals: Totals, writer: &mut W) -> io::Result<()>
 }
 
 /// Reads a table up to the end of `reader`, and writes its totals to `writer`. It fails with `Table` and the table's first fault, with `Read` where a read fails, with `Memory` where there is none for the table, and with `Write` where the writer fails. An interrupted read is tried again. After `Ok` and `Table` the reader is at its end. Only at `Ok` and `Write` may something have been written.
-pub fn run<R: Read, W: Write>(alloc: Global, reader: &mut R, writer: &mut W) -> Result<(), RunFault>
-    ensures ok { OnOk result (WritesReport (R.remaining reader.old) (R.remaining reader.new)
+pub fn run<R: ReadWhole, W: Write>(
+    alloc: Global,
+    reader: &mut R,
+    writer: &mut W,
+) -> Result<(), RunFault>
+    ensures ok { OnOk result (WritesReport (R.left reader.old) (R.left reader.new)
         (W.contents writer.old) (W.contents writer.new)) }
     ensures table { (fault : TableFault) → result ≡ Err (RunFault.Table fault)
-        → ReadsTable (R.remaining reader.old) (R.remaining reader.new) (Err fault) }
+        → ReadsTable (R.left reader.old) (R.left reader.new) (Err fault) }
+    ensures write { result ≡ Err RunFault.Write → HasTotals (R.left reader.old) (R.left reader.new) }
+
+    // Reading failed, and of which kind.
+    ensures read { result ≡ Err RunFault.Read → (kind : ErrorKind)
+        × (kind ≢ ErrorKind.OutOfMemory) × R.fails kind reader.old reader.new }
+    ensures memory { result ≡ Err RunFault.Memory
+        → R.fails ErrorKind.OutOfMemory reader.old reader.new }
+
     ensures unwritten { result ≢ Err RunFault.Write
         → OnErr result (Keeps (W.contents writer.old) (W.contents writer.new)) }
 {
-    let mut bytes = Vec::new(alloc);
-    if let Err(e) = reader.read_to_end(&mut bytes) {
-        return Err(fault_of_read(&e));
-    }
+    let bytes = match reader.read_whole(alloc) {
+        Ok(bytes) => bytes,
+        Err(e) => return Err(fault_of_read(&e)),
+    };
     match sum_up(bytes.as_slice()) {
         Ok(totals) => match write_report(totals, writer) {
             Ok(()) => Ok(()),

@@ -7,13 +7,14 @@ use crate::generic::{mean, running_sums};
 use crate::lines::{LineFault, sum_of_lines};
 use crate::merging::next_merged;
 use crate::pages::{Cursor, PageRefused, Pages, sum_of_first};
-use crate::report::{RunFault, run};
+use crate::report::{RunFault, fault_line, run};
 use crate::table::{CutShort, TableFault, Totals, first_bad, high_of_good, sum_up};
 use crate::tokens::{TextFault, evaluate};
 use fallible_iterator::{FallibleIterator, convert};
 use std::alloc::{AllocError, Global};
 use std::io;
-use std::io::{ErrorKind, Read};
+use std::io::{ErrorKind, Read, Write};
+use std::process::Abort;
 use std::test::Fail;
 use std::vec::IntoIter;
 
@@ -43,6 +44,9 @@ fn edges(rt: HostRuntime) -> Result<(), Fail> {
 fn sums(rt: HostRuntime) -> Result<(), Fail> {
     let numbers = readings(rt.alloc(), [Ok(4), Ok(5), Ok(9)])?;
     assert_eq!(rt; mean(convert(numbers.into_iter())), Ok(Some(6)));
+    // 20 by 3 is 6 and a rest.
+    let numbers = readings(rt.alloc(), [Ok(4), Ok(5), Ok(11)])?;
+    assert_eq!(rt; mean(convert(numbers.into_iter())), Ok(Some(6)));
     let none = readings(rt.alloc(), [])?;
     assert_eq!(rt; mean(convert(none.into_iter())), Ok(None));
     let numbers = readings(rt.alloc(), [Ok(4), Ok(5), Ok(9)])?;
@@ -65,6 +69,11 @@ fn tables(rt: HostRuntime) {
     assert_eq!(rt; first_bad(&TABLE[..15]), Err(CutShort));
     assert_eq!(rt; high_of_good(&TABLE), Ok(65794));
     assert_eq!(rt; high_of_good(&TABLE[..23]), Err(CutShort));
+    // Two records of 0 to 4294967295.
+    let high = [
+        0, 0, 0, 0, 255, 255, 255, 255, 0, 0, 0, 0, 255, 255, 255, 255,
+    ];
+    assert_eq!(rt; high_of_good(&high), Ok(8_589_934_590));
     let wanted = Totals {
         records: 1,
         low: 1,
@@ -151,12 +160,14 @@ fn pages(rt: HostRuntime) -> Result<(), Fail> {
     assert_eq!(rt; rows.draw(), Ok(Some(3)));
     assert_eq!(rt; rows.pages().asked, 3);
     assert_eq!(rt; rows.draw(), Ok(None));
-    let pages = ThreePages {
-        alloc: rt.alloc(),
-        asked: 0,
-        is_open: true,
-    };
-    assert_eq!(rt; sum_of_first(rt.alloc(), pages, 9), Ok(6));
+    for (n, sum) in [(0, 0), (1, 1), (2, 3), (9, 6)] {
+        let pages = ThreePages {
+            alloc: rt.alloc(),
+            asked: 0,
+            is_open: true,
+        };
+        assert_eq!(rt; sum_of_first(rt.alloc(), pages, n), Ok(sum));
+    }
     Ok(())
 }
 
@@ -174,35 +185,152 @@ fn merged(rt: HostRuntime) -> Result<(), Fail> {
     Ok(())
 }
 
-// Fails at each read.
+// Gives its bytes, and then fails at each read.
 #[derive(Drop)]
-struct Broken;
+struct BrokenReader<'a> {
+    bytes: &'a [u8],
+    kind: ErrorKind,
+}
 
-impl Read for Broken {
-    fn read(&mut self, _: &mut [u8]) -> io::Result<usize> {
-        Err(io::Error::from(ErrorKind::Other))
+impl Read for BrokenReader<'_> {
+    fn read(&mut self, buf: &mut [u8]) -> io::Result<usize> {
+        if self.bytes.is_empty() {
+            return Err(io::Error::from(self.kind));
+        }
+        Read::read(&mut self.bytes, buf)
+    }
+}
+
+// Takes so many bytes, one at a time, and then fails.
+#[derive(Drop)]
+struct BrokenWriter {
+    room: usize,
+}
+
+impl Write for BrokenWriter {
+    fn write(&mut self, buf: &[u8]) -> io::Result<usize> {
+        if self.room == 0 {
+            return Err(io::Error::from(ErrorKind::BrokenPipe));
+        }
+        let count = buf.len().min(1);
+        self.room -= count;
+        Ok(count)
+    }
+
+    fn flush(&mut self) -> io::Result<()> {
+        Ok(())
+    }
+}
+
+// What `run` answers over these bytes, where a read fails after them.
+fn run_on_broken(alloc: Global, bytes: &[u8], kind: ErrorKind) -> Result<(), RunFault> {
+    let mut reader = BrokenReader { bytes, kind };
+    run(alloc, &mut reader, &mut Vec::new(alloc))
+}
+
+fn expect_report(rt: &impl Abort, alloc: Global, mut table: &[u8], report: &[u8]) {
+    let mut written = Vec::new(alloc);
+    assert_eq!(rt; run(alloc, &mut table, &mut written), Ok(()));
+    assert_eq!(rt; written.as_slice(), report);
+}
+
+fn expect_fault(rt: &impl Abort, alloc: Global, mut table: &[u8], fault: TableFault) {
+    let mut written = Vec::new(alloc);
+    assert_eq!(rt;
+        run(alloc, &mut table, &mut written),
+        Err(RunFault::Table(fault))
+    );
+    assert!(rt; written.is_empty());
+}
+
+// A table of 600 records has more bytes than one read gives.
+#[test]
+fn reports(rt: HostRuntime) -> Result<(), Fail> {
+    let alloc = rt.alloc();
+    expect_report(&rt, alloc, &TABLE[..8], b"records 1\nlow 1\nhigh 258\n");
+    let mut table = Vec::new(alloc);
+    for _ in 0..600 {
+        table.extend_from_slice(&TABLE[..8])?;
+    }
+    expect_report(
+        &rt,
+        alloc,
+        table.as_slice(),
+        b"records 600\nlow 600\nhigh 154800\n",
+    );
+    expect_fault(&rt, alloc, &TABLE, TableFault::Bad(2));
+    expect_fault(&rt, alloc, &TABLE[..15], TableFault::Cut(2));
+    Ok(())
+}
+
+// The table has a bad record, and is cut short.
+#[test]
+fn run_answers_a_read_that_fails(rt: HostRuntime) {
+    for (kind, fault) in [
+        (ErrorKind::Other, RunFault::Read),
+        (ErrorKind::UnexpectedEof, RunFault::Read),
+        (ErrorKind::OutOfMemory, RunFault::Memory),
+    ] {
+        for count in [0, 7, 8, 16, 24] {
+            assert_eq!(rt;
+                run_on_broken(rt.alloc(), &TABLE[..count], kind),
+                Err(fault),
+                "{kind:?} after {count}"
+            );
+        }
+    }
+}
+
+// The report has 25 bytes.
+#[test]
+fn run_answers_each_write_that_fails(rt: HostRuntime) {
+    for room in 0..=25 {
+        let mut table = &TABLE[..8];
+        let mut writer = BrokenWriter { room };
+        let wanted = if room < 25 {
+            Err(RunFault::Write)
+        } else {
+            Ok(())
+        };
+        assert_eq!(rt; run(rt.alloc(), &mut table, &mut writer), wanted, "{room}");
     }
 }
 
 #[test]
-fn reports(rt: HostRuntime) {
-    let mut written = Vec::new(rt.alloc());
-    assert_eq!(rt;
-        run(rt.alloc(), &mut Broken, &mut written),
-        Err(RunFault::Read)
-    );
-    let mut table = &TABLE[..8];
-    assert_eq!(rt; run(rt.alloc(), &mut table, &mut written), Ok(()));
-    assert_eq!(rt;
-        written.as_slice(),
-        b"records 1\nlow 1\nhigh 258\n".as_slice()
-    );
+fn fault_line_tells_each_fault(rt: HostRuntime) {
+    for (fault, line, status) in [
+        (
+            RunFault::Table(TableFault::Bad(2)),
+            b"record 2: the first number is above the second\n".as_slice(),
+            1,
+        ),
+        (
+            RunFault::Table(TableFault::Cut(10)),
+            b"record 10: cut short\n".as_slice(),
+            5,
+        ),
+        (RunFault::Read, b"read failed\n".as_slice(), 2),
+        (RunFault::Memory, b"no memory\n".as_slice(), 3),
+        (RunFault::Write, b"write failed\n".as_slice(), 4),
+    ] {
+        let mut written = Vec::new(rt.alloc());
+        assert_eq!(rt; fault_line(&fault, &mut written), Ok(status));
+        assert_eq!(rt; written.as_slice(), line);
+        for room in 0..line.len() {
+            let mut writer = BrokenWriter { room };
+            assert_eq!(rt; fault_line(&fault, &mut writer), Err(status));
+        }
+    }
 }
 
 #[test]
 fn texts(rt: HostRuntime) {
     assert_eq!(rt; evaluate(rt.alloc(), "2+3*(4+10)*2"), Ok(86));
     assert_eq!(rt; evaluate(rt.alloc(), "((7))*(1+1)"), Ok(14));
+    assert_eq!(rt;
+        evaluate(rt.alloc(), "((((((((((((((((((((5))))))))))))))))))))"),
+        Ok(5)
+    );
     assert_eq!(rt; evaluate(rt.alloc(), "2+*3"), Err(TextFault::Unexpected));
     assert_eq!(rt; evaluate(rt.alloc(), "(2"), Err(TextFault::Unexpected));
     assert_eq!(rt; evaluate(rt.alloc(), "2)+x"), Err(TextFault::Unexpected));

@@ -1,11 +1,11 @@
 //! Sums and products with parentheses.
-ghost use Rattle.std.specs.Prelude.{◌≡◌, ◌≢◌, ◌<◌, false, List, Result, Ok, Err, MatchResult, length, reverse, slice_index};
+ghost use Rattle.std.specs.Prelude.{◌≡◌, ◌≢◌, ◌<◌, ◌≤◌, false, true, List, Result, Ok, Err, MatchResult, IfOk, length, reverse, slice_index, vec_len, vec_capacity};
 ghost use Rattle.std.specs.Char.{is_ascii_digit};
 ghost use Rattle.std.specs.Str.{IsAscii};
 ghost use Rattle.fallible_iterator.specs.Laws.Showing.{lawful_listing};
 ghost use Rattle.fallible_iterator.specs.Lists.{Lists, items, result_answer};
 ghost use Rattle.fallible_iterator.specs.Showing.{listing};
-ghost use Rattle.fallible_uses.specs.Expressions.{number_token, sign_token, tokens_of, ReadsDigits, level_value, with_factor, after_token, value_at_end, value_of_tokens};
+ghost use Rattle.fallible_uses.specs.Expressions.{number_token, sign_token, tokens_of, ReadsDigits, level_value, with_factor, after_token, value_at_end, value_of_tokens, IsValueInRoom};
 ghost use Rattle.fallible_uses.specs.Grammar.{Expression, as_sum, written, expression_value};
 ghost use Rattle.fallible_uses.specs.declared.tokens.Token.{Token};
 ghost use Rattle.fallible_uses.specs.declared.tokens.TextFault.{TextFault};
@@ -161,11 +161,16 @@ struct Calculation {
 
 impl Calculation {
     fn after(mut self, token: Token) -> Result<Calculation, TextFault>
-        ensures { MatchResult result
+        ensures value { MatchResult result
             (λ c. after_token (reverse self.outside.items, self.level, self.is_begun) token
             ≡ Ok (reverse c.outside.items, c.level, c.is_begun))
             (λ e. e ≢ TextFault.Memory
             → after_token (reverse self.outside.items, self.level, self.is_begun) token ≡ Err e) }
+
+        // Memory is refused at an opening parenthesis alone, where the levels outside fill their vector.
+        ensures memory { result ≡ Err TextFault.Memory → (token ≡ Token.Open)
+            × (self.is_begun ≡ true) × (vec_capacity self.outside ≤ vec_len self.outside) }
+        ensures capacity { IfOk result (λ c. vec_capacity self.outside ≤ vec_capacity c.outside) }
     {
         match (token, self.is_begun) {
             (Token::Number(number), true) => {
@@ -207,7 +212,7 @@ impl Calculation {
     }
 }
 
-/// The value of tokens of numbers, `+`, `*` and parentheses, modulo 2 ^ 64. It draws up to the end or the first failure, which is the answer then. It fails with `Unexpected` at a token that may not stand there, and with `Memory` where there is none for open parentheses.
+/// The value of tokens of numbers, `+`, `*` and parentheses, modulo 2 ^ 64. It draws up to the end or the first failure, which is the answer then. It fails with `Unexpected` at a token that may not stand there, and with `Memory` at an opening parenthesis for which there is none: where as many are open as the vector of those has room for.
 ///
 /// Asks that the source may be drawn from, and that it is finite.
 pub fn value_of<I: FallibleIterator<Item = Token, Error = TextFault>>(
@@ -217,8 +222,10 @@ pub fn value_of<I: FallibleIterator<Item = Token, Error = TextFault>>(
 where
     requires can_next { I.contract.can_next tokens }
     requires finite { I.contract.is_finite tokens }
-    ensures { (l : List (Result Token TextFault)) → Lists I.contract.steps tokens l
+    ensures value { (l : List (Result Token TextFault)) → Lists I.contract.steps tokens l
         → result ≢ Err TextFault.Memory → result ≡ value_of_tokens l }
+    ensures room { (l : List (Result Token TextFault)) → Lists I.contract.steps tokens l
+        → IsValueInRoom l result }
 {
     let mut left = tokens.number();
     let mut calculation = Calculation {
@@ -239,12 +246,13 @@ pub fn law_written()
         → value_of_tokens (items (written as_sum e)) ≡ Ok (expression_value e) }
 {}
 
-/// The value of a text of numbers, `+`, `*` and parentheses, modulo 2 ^ 64. It draws up to the first fault. It fails with `Unknown` at what is no token, with `Unexpected` at a token that may not stand there, and with `Memory` where there is none for open parentheses. `evaluate(alloc, "2+3*(4+10)*2")` is `Ok(86)`.
+/// The value of a text of numbers, `+`, `*` and parentheses, modulo 2 ^ 64. It draws up to the first fault. It fails with `Unknown` at what is no token, with `Unexpected` at a token that may not stand there, and with `Memory` at an opening parenthesis for which there is none: where as many are open as the vector of those has room for. `evaluate(alloc, "2+3*(4+10)*2")` is `Ok(86)`.
 pub fn evaluate(alloc: Global, text: &str) -> Result<u64, TextFault>
     ensures value { result ≢ Err TextFault.Memory
         → result ≡ value_of_tokens (tokens_of text.now) }
     ensures written { (e : Expression) → tokens_of text.now ≡ items (written as_sum e)
         → result ≢ Err TextFault.Memory → result ≡ Ok (expression_value e) }
+    ensures room { IsValueInRoom (tokens_of text.now) result }
 {
     law_written();
     value_of(alloc, Tokens::new(text.as_bytes()))

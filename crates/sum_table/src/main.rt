@@ -6,14 +6,18 @@
 //! totals cannot be printed, and 5 where the table ends within a record.
 #![tactic(auto)]
 
-use fallible_uses::report::{fault_line, run};
+mod program;
+
+use program::program;
 use std::process::ExitCode;
 
 fn main(rt: HostRuntime) -> ExitCode {
-    let Err(fault) = run(rt.alloc(), &mut rt.stdin(), &mut rt.stdout()) else {
-        return ExitCode::SUCCESS;
-    };
-    match fault_line(&fault, &mut rt.stderr()) {
+    match program(
+        rt.alloc(),
+        &mut rt.stdin(),
+        &mut rt.stdout(),
+        &mut rt.stderr(),
+    ) {
         Ok(status) | Err(status) => ExitCode::from(status),
     }
 }

@@ -1,0 +1,18 @@
+-- What reading a reader up to its end does to the bytes that it has left, where they are known.
+use Rattle.std.specs.Prelude.{ℕ, List, Option, Result, Ok, Err}
+use Rattle.std.specs.IoError.{error_kind}
+use Rattle.std.specs.Io.KnownBytes.{Consumes, IsAtEnd}
+use Rattle.std.specs.declared.alloc.Global.{Global}
+use Rattle.std.specs.declared.io.Error.{Error}
+use Rattle.std.specs.declared.io.ErrorKind.{ErrorKind}
+use Rattle.std.specs.declared.vec.Vec.{Vec}
+
+-- a reader lost some first bytes of those that it had, and no others
+abbrev pub TakesSome : Option (List ℕ) → Option (List ℕ) → Type 0
+TakesSome old new = (bytes : List ℕ) × Consumes old new bytes
+
+module _ {R : Type 0} (left : R → Option (List ℕ)) (fails : ErrorKind → R → R → Type 0) where
+  -- it gave all bytes that were left, and is at its end; or it failed
+  abbrev pub ReadsWhole : R → Result (Vec ℕ Global) Error → R → Type 0
+  ReadsWhole r (Ok bytes) q = Consumes (left r) (left q) bytes.items × IsAtEnd (left q)
+  ReadsWhole r (Err e) q = fails (error_kind e) r q
