@@ -8,6 +8,7 @@ pub mod computing;
 pub mod consuming;
 pub mod drawing;
 pub mod generic;
+pub mod idioms;
 pub mod making;
 pub mod own;
 pub mod parsing;

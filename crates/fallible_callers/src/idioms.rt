@@ -1,0 +1,49 @@
+//! Idioms of Rust, over fallible iterators.
+ghost use Rattle.std.specs.Prelude.{◌≡◌, ◌+◌, ◌-◌, ◌*◌, ◌%◌, ◌^◌, ◌≤◌, ℕ, List, [], ◌∷◌, Option, Result, Some, None, Ok, Err, nat_lt};
+ghost use Rattle.fallible_iterator.specs.Lists.{Lists, behind_first, failures_mapped, folded, nth_of, results};
+ghost use Rattle.fallible_callers.specs.declared.idioms.NoRow.{NoRow};
+
+use fallible_iterator::{FallibleIterator, Peekable, convert};
+
+// The sum and one more number, modulo 2 ^ 64.
+fn add(sum: u64, x: u32) -> Result<u64, u8>
+    ensures { result ≡ Ok ((sum + x) % 2 ^ 64) }
+{
+    Ok(sum.wrapping_add(u64::from(x)))
+}
+
+/// The sum of the readings, modulo 2 ^ 64, or the first failure: a fold by a named function.
+pub fn sum_by_name(readings: Vec<Result<u32, u8>>) -> Result<u64, u8>
+    ensures { result ≡ folded (λ e. e) (λ s x. Ok ((s + x) % 2 ^ 64)) 0 (results readings.items) }
+{
+    convert(readings.into_iter()).fold(0, add)
+}
+
+/// Why there is not one row.
+#[derive(Debug, Drop, PartialEq)]
+pub enum NoRow {
+    /// There is no row.
+    Missing,
+    /// There is more than one row.
+    Several,
+    /// A row can't be had, with this code.
+    Failed(u8),
+}
+
+/// The only row, of any source.
+pub fn query_one<I: FallibleIterator<Error = u8>>(rows: I) -> Result<I::Item, NoRow>
+where
+    I::Item: Drop,
+    requires { I.contract.can_next rows }
+    ensures one { (l : List (Result I.Item ℕ)) (x : I.Item) → Lists I.contract.steps rows l
+        → nth_of 0 l ≡ Ok (Some x) → nth_of 0 (behind_first l) ≡ Ok None → result ≡ Ok x }
+{
+    let mut rows = rows.map_err(|code| NoRow::Failed(code));
+    let Some(first) = rows.draw()? else {
+        return Err(NoRow::Missing);
+    };
+    match rows.draw()? {
+        Some(_) => Err(NoRow::Several),
+        None => Ok(first),
+    }
+}
