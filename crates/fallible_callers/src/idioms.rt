@@ -30,15 +30,35 @@ pub enum NoRow {
     Failed(u8),
 }
 
-/// The only row, of any source.
-pub fn query_one<I: FallibleIterator<Error = u8>>(rows: I) -> Result<I::Item, NoRow>
+impl From<u8> for NoRow {
+    ghost use Rattle.fallible_callers.specs.declared.idioms.NoRow.TheVariants.{Failed};
+
+    ghost from_gives = { λ code why. why ≡ Failed code };
+
+    /// `NoRow::Failed`
+    fn from(code: u8) -> NoRow {
+        NoRow::Failed(code)
+    }
+}
+
+/// The only row of any source; or why there is none: there is no row, there are several, or a row can't be had.
+pub fn query_one<I: FallibleIterator<Error = u8>>(mut rows: I) -> Result<I::Item, NoRow>
 where
     I::Item: Drop,
     requires { I.contract.can_next rows }
     ensures one { (l : List (Result I.Item ℕ)) (x : I.Item) → Lists I.contract.steps rows l
         → nth_of 0 l ≡ Ok (Some x) → nth_of 0 (behind_first l) ≡ Ok None → result ≡ Ok x }
+    ensures none { (l : List (Result I.Item ℕ)) → Lists I.contract.steps rows l
+        → nth_of 0 l ≡ Ok None → result ≡ Err NoRow.Missing }
+    ensures several { (l : List (Result I.Item ℕ)) (x y : I.Item) → Lists I.contract.steps rows l
+        → nth_of 0 l ≡ Ok (Some x) → nth_of 0 (behind_first l) ≡ Ok (Some y)
+        → result ≡ Err NoRow.Several }
+    ensures first_fails { (l : List (Result I.Item ℕ)) (e : ℕ) → Lists I.contract.steps rows l
+        → nth_of 0 l ≡ Err e → result ≡ Err (NoRow.Failed e) }
+    ensures second_fails { (l : List (Result I.Item ℕ)) (x : I.Item) (e : ℕ)
+        → Lists I.contract.steps rows l → nth_of 0 l ≡ Ok (Some x)
+        → nth_of 0 (behind_first l) ≡ Err e → result ≡ Err (NoRow.Failed e) }
 {
-    let mut rows = rows.map_err(|code| NoRow::Failed(code));
     let Some(first) = rows.draw()? else {
         return Err(NoRow::Missing);
     };
