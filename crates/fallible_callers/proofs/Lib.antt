@@ -4,3 +4,4 @@ pub mod Between
 pub mod Full
 pub mod KnownBytes
 pub mod Rises
+pub mod Taking

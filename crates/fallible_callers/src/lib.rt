@@ -6,6 +6,7 @@ pub mod bridging;
 pub mod comparing;
 pub mod computing;
 pub mod consuming;
+pub mod digits;
 pub mod drawing;
 pub mod generic;
 pub mod idioms;
