@@ -1,9 +1,9 @@
 //! Idioms of Rust, over fallible iterators.
-ghost use Rattle.std.specs.Prelude.{◌≡◌, ◌+◌, ◌-◌, ◌*◌, ◌%◌, ◌^◌, ◌≤◌, ℕ, List, [], ◌∷◌, Option, Result, Some, None, Ok, Err, nat_lt};
-ghost use Rattle.fallible_iterator.specs.Lists.{Lists, behind_first, failures_mapped, folded, nth_of, results};
+ghost use Rattle.std.specs.Prelude.{◌≡◌, ◌+◌, ◌%◌, ◌^◌, ℕ, List, Option, Result, Some, None, Ok, Err};
+ghost use Rattle.fallible_iterator.specs.Lists.{Lists, behind_first, folded, nth_of, results, skipped, taken};
 ghost use Rattle.fallible_callers.specs.declared.idioms.NoRow.{NoRow};
 
-use fallible_iterator::{FallibleIterator, Peekable, convert};
+use fallible_iterator::{FallibleIterator, Skip, Take, convert};
 
 // The sum and one more number, modulo 2 ^ 64.
 fn add(sum: u64, x: u32) -> Result<u64, u8>
@@ -66,4 +66,41 @@ where
         Some(_) => Err(NoRow::Several),
         None => Ok(first),
     }
+}
+
+/// The items of one page: those from `first` on, and no more than `size`. An adapter that a function returns is named by its type.
+pub fn page<I: FallibleIterator>(it: I, first: usize, size: usize) -> Take<Skip<I>>
+where
+    I::Item: Drop,
+    ensures { (l : List (Result I.Item I.Error)) → Lists I.contract.steps it l
+        → Lists ⟦<Take<Skip<I>> as FallibleIterator>⟧.contract.steps result
+        (taken size (skipped first l)) }
+{
+    it.skip(first).take(size)
+}
+
+// The sum of a number and the items, modulo 2 ^ 64, or the first failure.
+fn sum_from<I: FallibleIterator<Item = u32>>(start: u64, it: I) -> Result<u64, I::Error>
+where
+    requires can_next { I.contract.can_next it }
+    requires finite { I.contract.is_finite it }
+    ensures { (l : List (Result ℕ I.Error)) → Lists I.contract.steps it l
+        → result ≡ folded (λ e. e) (λ s x. Ok ((s + x) % 2 ^ 64)) start l }
+{
+    it.fold(
+        start,
+        |sum: u64, x: u32| Ok(sum.wrapping_add(u64::from(x))),
+    )
+}
+
+/// The sum of the cells of all rows, modulo 2 ^ 64, or the failure that comes first: of a row, or of a cell.
+pub fn sum_of_cells(rows: Vec<Result<Vec<Result<u32, u8>>, u8>>) -> Result<u64, u8>
+    ensures { result ≡ folded (λ e. e)
+        (λ s row. folded (λ e. e) (λ n x. Ok ((n + x) % 2 ^ 64)) s (results row.items))
+        0 (results rows.items) }
+{
+    convert(rows.into_iter()).fold(
+        0,
+        |sum: u64, row: Vec<Result<u32, u8>>| sum_from(sum, convert(row.into_iter())),
+    )
 }
