@@ -2,6 +2,7 @@
 pub mod Alike
 pub mod Between
 pub mod Down
+pub mod Full
 pub mod Means
 pub mod Rises
 pub mod Runs

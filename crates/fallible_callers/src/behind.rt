@@ -32,7 +32,7 @@ pub fn last_drawn(readings: Vec<Result<u32, u8>>) -> Result<Option<u32>, u8>
     convert(readings.into_iter()).next_back()
 }
 
-/// The first reading and the last one, which are drawn in turn, or a failure in the place of one.
+/// The first reading and the last one, which are drawn in turn, or a failure in the place of one; none where there are fewer than two.
 pub fn first_and_last(readings: Vec<Result<u32, u8>>) -> Result<Option<(u32, u32)>, u8>
     ensures both { (first last : ℕ) (between : List (Result ℕ ℕ))
         → readings.items ≡ Ok first ∷ (between ++ Ok last ∷ []) → result ≡ Ok (Some (first, last)) }
@@ -40,6 +40,8 @@ pub fn first_and_last(readings: Vec<Result<u32, u8>>) -> Result<Option<(u32, u32
         → readings.items ≡ Err e ∷ rest → result ≡ Err e }
     ensures last_fails { (first e : ℕ) (between : List (Result ℕ ℕ))
         → readings.items ≡ Ok first ∷ (between ++ Err e ∷ []) → result ≡ Err e }
+    ensures one { (only : ℕ) → readings.items ≡ Ok only ∷ [] → result ≡ Ok None }
+    ensures none { readings.items ≡ [] → result ≡ Ok None }
 {
     let mut it = convert(readings.into_iter());
     match it.next()? {
@@ -51,7 +53,7 @@ pub fn first_and_last(readings: Vec<Result<u32, u8>>) -> Result<Option<(u32, u32
     }
 }
 
-/// How many readings there are besides the first and the last, or a failure: that of the first or of the last, and else the first between.
+/// How many readings there are besides the first and the last, or a failure: that of the first or of the last, and else the first between. It is 0 where there are fewer than two.
 pub fn count_between(readings: Vec<Result<u32, u8>>) -> Result<usize, u8>
     ensures value { (first last : ℕ) (between : List (Result ℕ ℕ))
         → readings.items ≡ Ok first ∷ (between ++ Ok last ∷ []) → result ≡ counted between }
@@ -59,6 +61,8 @@ pub fn count_between(readings: Vec<Result<u32, u8>>) -> Result<usize, u8>
         → readings.items ≡ Err e ∷ rest → result ≡ Err e }
     ensures last_fails { (first e : ℕ) (between : List (Result ℕ ℕ))
         → readings.items ≡ Ok first ∷ (between ++ Err e ∷ []) → result ≡ Err e }
+    ensures one { (only : ℕ) → readings.items ≡ Ok only ∷ [] → result ≡ Ok 0 }
+    ensures none { readings.items ≡ [] → result ≡ Ok 0 }
 {
     law_listed_vec::<u32, u8>();
     law_draws::<Convert<std::vec::IntoIter<Result<u32, u8>, Global>>>();
@@ -153,7 +157,7 @@ where
     it.draw_front()
 }
 
-/// The last of the doubled readings, once the first three were passed over, or a failure among these.
+/// The last of the doubled readings, once the first three were passed over, or a failure among these; none where there are fewer than three.
 pub fn last_after_three(readings: Vec<Result<u32, u8>>) -> Result<Option<u64>, u8>
     ensures value { (third : ℕ)
         → nth_of 2 (mapped (λ x. Ok (x * 2)) (results readings.items)) ≡ Ok (Some third)
@@ -162,12 +166,16 @@ pub fn last_after_three(readings: Vec<Result<u32, u8>>) -> Result<Option<u64>, u
     ensures fails { (e : ℕ)
         → nth_of 2 (mapped (λ x. Ok (x * 2)) (results readings.items)) ≡ Err e
         → result ≡ Err e }
+    ensures none { nth_of 2 (mapped (λ x. Ok (x * 2)) (results readings.items)) ≡ Ok None
+        → result ≡ Ok None }
 {
     let mut it = convert(readings.into_iter()).map(|reading| Ok(u64::from(reading) * 2));
     law_listed_vec::<u32, u8>();
     law_lists_map(&it);
-    it.nth(2)?;
-    it.draw_back()
+    match it.nth(2)? {
+        Some(_) => it.draw_back(),
+        None => Ok(None),
+    }
 }
 
 /// What a vector's readings list from both ends, said by the laws: the readings that are left. So of draws from both ends what came in front, what is left and what came from behind, reversed, are those readings.

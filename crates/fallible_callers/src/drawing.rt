@@ -5,7 +5,7 @@ ghost use Rattle.fallible_iterator.specs.Lists.{Lists, behind_first, behind_nth,
 use fallible_iterator::laws::{law_next, law_peek};
 use fallible_iterator::{FallibleIterator, convert};
 
-/// The third of the doubled readings above 100 among the first ten, or the failure of a draw before.
+/// The third of the doubled readings above 100 among the first ten, or the failure of a draw before. No clause says what comes where there are fewer than two.
 pub fn third_draw(readings: Vec<Result<u32, u8>>) -> Result<Option<u64>, u8>
     ensures third { let l : List (Result ℕ ℕ) = mapped (λ x. Ok (x * 2))
         (filtered (λ x. Ok (nat_lt 100 x)) (taken 10 (results readings.items))) in (x y : ℕ)
@@ -27,13 +27,14 @@ pub fn third_draw(readings: Vec<Result<u32, u8>>) -> Result<Option<u64>, u8>
     doubled.draw()
 }
 
-/// The first two readings, of which the second is only looked at, or a failure in their place.
+/// The first two readings, of which the second is only looked at, or a failure in their place; none in the place of one that isn't there.
 pub fn first_two(readings: Vec<Result<u32, u8>>) -> Result<(Option<u32>, Option<u32>), u8>
     ensures value { (first : ℕ) (rest : List (Result ℕ ℕ))
         → results readings.items ≡ Ok first ∷ rest
         → result ≡ on_value (looked_at (λ x. x) rest) (λ second. Ok (Some first, second)) }
     ensures fails { (e : ℕ) (rest : List (Result ℕ ℕ))
         → results readings.items ≡ Err e ∷ rest → result ≡ Err e }
+    ensures none { readings.items ≡ [] → result ≡ Ok (None, None) }
 {
     let mut ahead = convert(readings.into_iter()).peekable();
     let first = ahead.peek_copied()?;
@@ -128,7 +129,7 @@ where
         .try_fold(0, |sum: u32, x: u32| Ok(sum.wrapping_add(x)))
 }
 
-/// The sum of the first two readings above 100, and the one after them, or the first failure among the three.
+/// The sum of the first two readings above 100, and the one after them, or the first failure among the three. No clause says what comes where there are fewer than two.
 pub fn two_and_the_next(readings: Vec<Result<u32, u8>>) -> Result<(u32, Option<u32>), u8>
     ensures value { let l : List (Result ℕ ℕ) = filtered (λ r. Ok (nat_lt 100 r))
         (results readings.items) in (last : ℕ) → nth_of 1 l ≡ Ok (Some last)
@@ -162,7 +163,7 @@ where
         .try_fold(0, |n: u64, _| Ok(n.wrapping_add(1)))
 }
 
-/// How many of the first ten readings are above 100, modulo 2 ^ 64, and the eleventh reading, or the first failure among the eleven.
+/// How many of the first ten readings are above 100, modulo 2 ^ 64, and the eleventh reading, or the first failure among the eleven. No clause says what comes where there are fewer than ten.
 pub fn above_100_and_the_next(readings: Vec<Result<u32, u8>>) -> Result<(u64, Option<u32>), u8>
     ensures value { let l : List (Result ℕ ℕ) = results readings.items in (tenth : ℕ)
         → nth_of 9 l ≡ Ok (Some tenth)
@@ -178,7 +179,7 @@ pub fn above_100_and_the_next(readings: Vec<Result<u32, u8>>) -> Result<(u64, Op
     Ok((n, it.draw()?))
 }
 
-/// The item after the first three, which are let go, or the first failure among the four.
+/// The item after the first three, which are let go, or the first failure among the four. No clause says what comes where there are fewer than three.
 pub fn after_three<I: FallibleIterator>(it: &mut I) -> Result<Option<I::Item>, I::Error>
 where
     I::Item: Drop,
@@ -191,7 +192,7 @@ where
     it.draw()
 }
 
-/// The first item of a chain of both sides, once the first pair of both was let go, or a failure in the place of that pair.
+/// The first item of a chain of both sides, once the first pair of both was let go, or a failure in the place of that pair. No clause says what comes where an end stands there.
 pub fn after_a_pair<I, J>(mut left: I, mut right: J) -> Result<Option<I::Item>, I::Error>
 where
     I: FallibleIterator,
@@ -209,7 +210,7 @@ where
     left.chain(right).draw()
 }
 
-/// The first pair of both sides, once the first item of a chain of both was let go, or a failure in its place.
+/// The first pair of both sides, once the first item of a chain of both was let go, or a failure in its place. No clause says what comes where the left has none, or where the right fails.
 pub fn pair_behind_first<I, J>(
     mut left: I,
     mut right: J,
@@ -229,7 +230,7 @@ where
     left.zip(right).draw()
 }
 
-/// The third answer, after the first two items are let go, or a failure in their place.
+/// The third answer, after the first two items are let go, or a failure in their place. No clause says what comes where an end stands there.
 pub fn third_of<I: FallibleIterator>(mut it: I) -> Result<Option<I::Item>, I::Error>
 where
     I::Item: Drop,
@@ -247,7 +248,7 @@ where
     it.draw()
 }
 
-/// The second item, by two plain draws, the first of which is let go, or a failure in its place. The law says what each `next` answers and leaves.
+/// The second item, by two plain draws, the first of which is let go, or a failure in its place. No clause says what comes where an end stands there. The law says what each `next` answers and leaves.
 pub fn second_of<I: FallibleIterator>(mut it: I) -> Result<Option<I::Item>, I::Error>
 where
     I::Item: Drop,

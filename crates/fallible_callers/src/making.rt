@@ -38,7 +38,7 @@ pub fn given_above_100(readings: Vec<Result<u32, u8>>) -> Result<usize, u8>
         .count()
 }
 
-/// How many readings come behind the first two, which are let go; or want of memory for those.
+/// How many readings come behind the first two, which are let go, or the first failure behind them; or want of memory for those two. No clause says what comes of fewer than two.
 pub fn count_behind_two_answers(
     alloc: Global,
     readings: Vec<Result<u32, u8>>,

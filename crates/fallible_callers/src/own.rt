@@ -1,16 +1,18 @@
 //! Sources of one's own that show what they list.
-ghost use Rattle.std.specs.Prelude.{◌≡◌, ◌-◌, ◌%◌, ◌≤◌, eqb, Ok};
+ghost use Rattle.std.specs.Prelude.{◌≡◌, ◌+◌, ◌-◌, ◌%◌, ◌^◌, ◌≤◌, eqb, Ok};
 ghost use Rattle.fallible_iterator.specs.BothEnds.{ListsBothEnds};
 ghost use Rattle.fallible_iterator.specs.Contract.{AtMost};
 ghost use Rattle.fallible_iterator.specs.Laws.Showing.{lawful_listing};
 ghost use Rattle.fallible_iterator.specs.Laws.ShowingEnds.{lawful_listing_ends};
-ghost use Rattle.fallible_iterator.specs.Lists.{Lists, CollectedAs, counted, filtered, flattened, mapped, results, reversed, taken};
+ghost use Rattle.fallible_iterator.specs.Lists.{Lists, CollectedAs, chained, counted, filtered, flattened, folded, mapped, results, reversed, taken};
 ghost use Rattle.fallible_iterator.specs.Showing.{listing};
 ghost use Rattle.fallible_iterator.specs.ShowingEnds.{listing_ends};
 ghost use Rattle.fallible_callers.specs.Between.{numbers_between, shows_between};
 ghost use Rattle.fallible_callers.specs.Down.{counting_from, counts_down, down_from};
 
-use fallible_iterator::{DoubleEndedFallibleIterator, FallibleIterator, Fault, convert};
+use fallible_iterator::{
+    DoubleEndedFallibleIterator, FallibleIterator, Fault, IntoFallibleIterator, convert,
+};
 use std::alloc::Global;
 
 /// Counts down to 1, and then ends.
@@ -142,4 +144,38 @@ pub fn even_between(low: u32, high: u32) -> Result<usize, u8>
         .rev()
         .filter(|x| Ok(*x % 2 == 0))
         .count()
+}
+
+/// The numbers from `low` to below `high`. It is no iterator, and becomes one.
+#[derive(Drop)]
+pub struct Span {
+    /// the lowest number
+    pub low: u32,
+    /// above the greatest number
+    pub high: u32,
+}
+
+impl IntoFallibleIterator for Span {
+    type Item = u32;
+
+    type Error = u8;
+
+    type IntoFallibleIter = Between;
+
+    ghost into_gives = { λ span it. Lists (listing shows_between).steps it
+        (numbers_between span.low span.high) };
+
+    fn into_fallible_iter(self) -> Between {
+        Between::new(self.low, self.high)
+    }
+}
+
+/// The sum of the readings and then of the numbers of a span, modulo 2 ^ 64, or the first failure.
+pub fn sum_with(readings: Vec<Result<u32, u8>>, span: Span) -> Result<u64, u8>
+    ensures { result ≡ folded (λ e. e) (λ s x. Ok ((s + x) % 2 ^ 64)) 0
+        (chained (results readings.items) (numbers_between span.low span.high)) }
+{
+    convert(readings.into_iter())
+        .chain(span)
+        .fold(0, |sum: u64, x: u32| Ok(sum.wrapping_add(u64::from(x))))
 }

@@ -2,13 +2,15 @@
 ghost use Rattle.std.specs.Prelude.{◌≡◌, ◌+◌, ◌%◌, ◌^◌, ℕ, eqb, length, List, Result, Ok, Err, Option, Some, None, IfOk, false, is_err, nat_lt, if◌then◌else◌};
 ghost use Rattle.fallible_iterator.specs.Fault.{Fault};
 ghost use Rattle.fallible_iterator.specs.Lists.{Lists, all_of, behind_false, behind_true, folded, items, nth_of, numbered, on_value, parted, position_in, results, taken_while};
+ghost use Rattle.fallible_callers.specs.Full.{SideFull};
 ghost use Rattle.fallible_callers.specs.declared.parsing.NoSum.{NoSum};
+ghost use Rattle.std.specs.declared.alloc.AllocError.{AllocError};
 
 use fallible_iterator::{FallibleIterator, Fault, IteratorExt, convert};
 use std::alloc::Global;
 use std::convert::Infallible;
 
-/// How many of the readings are above 100, and how many are not, or the first failure, where memory suffices.
+/// How many of the readings are above 100, and how many are not, or the first failure, where memory suffices. It is refused only where a vector of one side is full when a reading comes to it.
 pub fn how_many_each(
     alloc: Global,
     readings: Vec<Result<u32, u8>>,
@@ -18,6 +20,8 @@ pub fn how_many_each(
         (λ sides. Ok (length sides.0, length sides.1))) }
     ensures failure { (e : ℕ) → result ≡ Err (Fault.Source e)
         → parted (λ x. Ok (nat_lt 100 x)) (results readings.items) ≡ Err e }
+    ensures memory { (a : AllocError) → result ≡ Err (Fault.Memory a)
+        → SideFull (λ x. Ok (nat_lt 100 x)) (results readings.items) }
 {
     let (above, others): (Vec<u32>, Vec<u32>) = convert(readings.into_iter()).partition(
         alloc,
@@ -108,7 +112,7 @@ where
     )
 }
 
-/// The sum of the tokens below 10 that stand first, modulo 2 ^ 64, and the token after the one that ends them, or the first failure among them.
+/// The sum of the tokens below 10 that stand first, modulo 2 ^ 64, and the token after the one that ends them, or the first failure among them. No clause says what comes where no token ends them.
 pub fn sum_and_next<I: FallibleIterator<Item = u32>>(
     mut tokens: I,
 ) -> Result<(u64, Option<u32>), I::Error>

@@ -43,7 +43,7 @@ where
     }
 }
 
-/// How many readings come behind the first two, or the first failure.
+/// How many readings come behind the first two, or the first failure. No clause says what comes of fewer than two.
 pub fn count_behind_two(readings: Vec<Result<u32, u8>>) -> Result<usize, u8>
     ensures value { (x y : ℕ) → nth_of 0 (results readings.items) ≡ Ok (Some x)
         → nth_of 0 (behind_first (results readings.items)) ≡ Ok (Some y)

@@ -1,8 +1,10 @@
 // Types of one's own that show what they list, drawn from, and under adapters.
-use fallible_callers::own::{Between, Countdown, even_below, even_between};
-use fallible_iterator::Answer::{End, Item};
-use fallible_iterator::{DoubleEndedFallibleIterator, FallibleIterator};
+use fallible_callers::own::{Between, Countdown, Span, even_below, even_between, sum_with};
+use fallible_iterator::Answer;
+use fallible_iterator::Answer::{End, Failure, Item};
+use fallible_iterator::{DoubleEndedFallibleIterator, FallibleIterator, convert};
 use fallible_testing::answered::expect_answers;
+use std::cmp::Ordering;
 use std::test::Fail;
 
 #[test]
@@ -39,4 +41,57 @@ fn numbers_between_are_mapped_and_reversed(rt: HostRuntime) {
             |made: u32, x: u32| Ok(made.wrapping_mul(10).wrapping_add(x)),
         );
     assert_eq!(rt; folded, Ok(642));
+}
+
+fn span(low: u32, high: u32) -> Span {
+    Span { low, high }
+}
+
+#[test]
+fn a_span_is_chained_and_zipped(rt: HostRuntime) -> Result<(), Fail> {
+    let mut both = Between::new(1, 3).chain(span(5, 7));
+    expect_answers(
+        &rt,
+        &mut both,
+        &[Item(1), Item(2), Item(5), Item(6), End],
+    )?;
+    let mut pairs = Between::new(1, 3).zip(span(5, 9));
+    expect_answers(&rt, &mut pairs, &[Item((1, 5)), Item((2, 6)), End])
+}
+
+#[test]
+fn spans_are_joined(rt: HostRuntime) -> Result<(), Fail> {
+    let spans = Vec::from_array(
+        rt.alloc(),
+        [Ok(span(1, 3)), Ok(span(4, 4)), Err(9), Ok(span(7, 8))],
+    )?;
+    let mut joined = convert(spans.into_iter()).flatten();
+    let failed: Answer<u32, u8> = Failure(9);
+    expect_answers(
+        &rt,
+        &mut joined,
+        &[Item(1), Item(2), failed, Item(7), End],
+    )?;
+    let mut below = Between::new(1, 4).flat_map(|high: u32| Ok(span(0, high)));
+    expect_answers(
+        &rt,
+        &mut below,
+        &[Item(0), Item(0), Item(1), Item(0), Item(1), Item(2), End],
+    )
+}
+
+#[test]
+fn a_span_is_compared(rt: HostRuntime) {
+    assert_eq!(rt; Between::new(1, 3).cmp(span(1, 3)), Ok(Ordering::Equal));
+    assert_eq!(rt; Between::new(1, 3).cmp(span(1, 4)), Ok(Ordering::Less));
+    assert_eq!(rt; Between::new(1, 3).eq(span(1, 4)), Ok(false));
+}
+
+#[test]
+fn readings_and_a_span_are_summed(rt: HostRuntime) -> Result<(), Fail> {
+    let readings = Vec::from_array(rt.alloc(), [Ok(10), Ok(20)])?;
+    assert_eq!(rt; sum_with(readings, span(3, 6)), Ok(42));
+    let failing = Vec::from_array(rt.alloc(), [Ok(10), Err(9)])?;
+    assert_eq!(rt; sum_with(failing, span(3, 6)), Err(9));
+    Ok(())
 }

@@ -304,6 +304,38 @@ impl Read for Broken {
     }
 }
 
+// Fails at its first read, and then reads what is left.
+#[derive(Drop)]
+struct Shaky<'a> {
+    failed: bool,
+    left: &'a [u8],
+}
+
+impl<'a> Read for Shaky<'a> {
+    fn read(&mut self, buf: &mut [u8]) -> io::Result<usize> {
+        if self.failed {
+            self.left.read(buf)
+        } else {
+            self.failed = true;
+            Err(io::Error::from(ErrorKind::Interrupted))
+        }
+    }
+}
+
+#[test]
+fn a_failed_read_is_one_draw(rt: HostRuntime) {
+    let mut it = Bytes {
+        reader: Shaky {
+            failed: false,
+            left: b"a".as_slice(),
+        },
+    };
+    assert_eq!(rt;
+        [it.next(), it.next(), it.next()],
+        [Err(ReadFailed), Ok(Some(b'a')), Ok(None)]
+    );
+}
+
 fn bytes(text: &[u8]) -> Bytes<&[u8]> {
     Bytes { reader: text }
 }
@@ -418,6 +450,36 @@ fn ends(rt: HostRuntime) -> Result<(), Fail> {
     );
     let mut it = convert(good_readings(rt.alloc())?.into_iter());
     assert_eq!(rt; second_between(&mut it), Ok(Some(600)));
+    Ok(())
+}
+
+fn one_reading(alloc: Global) -> Result<Vec<Result<u32, u8>>, AllocError> {
+    Ok(Vec::from_array(alloc, [Ok(7)])?)
+}
+
+fn two_readings(alloc: Global) -> Result<Vec<Result<u32, u8>>, AllocError> {
+    Ok(Vec::from_array(alloc, [Ok(7), Ok(8)])?)
+}
+
+// What comes of fewer readings than a caller looks at, and of more than a hundred.
+#[test]
+fn few_and_many(rt: HostRuntime) -> Result<(), Fail> {
+    let alloc = rt.alloc();
+    assert_eq!(rt; first_and_last(Vec::new(alloc)), Ok(None));
+    assert_eq!(rt; first_and_last(one_reading(alloc)?), Ok(None));
+    assert_eq!(rt; first_and_last(two_readings(alloc)?), Ok(Some((7, 8))));
+    assert_eq!(rt; count_between(Vec::new(alloc)), Ok(0));
+    assert_eq!(rt; count_between(one_reading(alloc)?), Ok(0));
+    assert_eq!(rt; count_between(two_readings(alloc)?), Ok(0));
+    assert_eq!(rt; last_after_three(Vec::new(alloc)), Ok(None));
+    assert_eq!(rt; last_after_three(two_readings(alloc)?), Ok(None));
+    assert_eq!(rt; first_two(Vec::new(alloc)), Ok((None, None)));
+    assert_eq!(rt; first_two(one_reading(alloc)?), Ok((Some(7), None)));
+    let mut many = Vec::new(alloc);
+    for number in 0..151u32 {
+        many.push(Ok(number))?;
+    }
+    assert_eq!(rt; how_many_each(alloc, many).ok(), Some((50, 101)));
     Ok(())
 }
 
