@@ -3,6 +3,7 @@
 
 pub mod behind;
 pub mod bridging;
+pub mod collecting;
 pub mod comparing;
 pub mod computing;
 pub mod consuming;

@@ -2,6 +2,10 @@
 #![tactic(auto)]
 
 #[cfg(test)]
+mod bridging;
+#[cfg(test)]
+mod collecting;
+#[cfg(test)]
 mod comparing;
 #[cfg(test)]
 mod examples;
