@@ -87,10 +87,7 @@ where
     ensures { (l : List (Result ℕ I.Error)) → Lists I.contract.steps it l
         → result ≡ folded (λ e. e) (λ s x. Ok ((s + x) % 2 ^ 64)) start l }
 {
-    it.fold(
-        start,
-        |sum: u64, x: u32| Ok(sum.wrapping_add(u64::from(x))),
-    )
+    it.fold(start, |sum: u64, x: u32| Ok(sum.wrapping_add(u64::from(x))))
 }
 
 /// The sum of the cells of all rows, modulo 2 ^ 64, or the failure that comes first: of a row, or of a cell.

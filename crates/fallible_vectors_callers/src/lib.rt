@@ -12,6 +12,8 @@ mod examples;
 #[cfg(test)]
 mod first;
 #[cfg(test)]
+mod idioms;
+#[cfg(test)]
 mod own;
 #[cfg(test)]
 mod values;

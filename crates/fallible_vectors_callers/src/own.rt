@@ -1,8 +1,7 @@
 // Types of one's own that show what they list, drawn from, and under adapters.
 use fallible_callers::own::{Between, Countdown, Span, even_below, even_between, sum_with};
-use fallible_iterator::Answer;
 use fallible_iterator::Answer::{End, Failure, Item};
-use fallible_iterator::{DoubleEndedFallibleIterator, FallibleIterator, convert};
+use fallible_iterator::{Answer, DoubleEndedFallibleIterator, FallibleIterator, convert};
 use fallible_testing::answered::expect_answers;
 use std::cmp::Ordering;
 use std::test::Fail;
@@ -50,11 +49,7 @@ fn span(low: u32, high: u32) -> Span {
 #[test]
 fn a_span_is_chained_and_zipped(rt: HostRuntime) -> Result<(), Fail> {
     let mut both = Between::new(1, 3).chain(span(5, 7));
-    expect_answers(
-        &rt,
-        &mut both,
-        &[Item(1), Item(2), Item(5), Item(6), End],
-    )?;
+    expect_answers(&rt, &mut both, &[Item(1), Item(2), Item(5), Item(6), End])?;
     let mut pairs = Between::new(1, 3).zip(span(5, 9));
     expect_answers(&rt, &mut pairs, &[Item((1, 5)), Item((2, 6)), End])
 }
@@ -67,11 +62,7 @@ fn spans_are_joined(rt: HostRuntime) -> Result<(), Fail> {
     )?;
     let mut joined = convert(spans.into_iter()).flatten();
     let failed: Answer<u32, u8> = Failure(9);
-    expect_answers(
-        &rt,
-        &mut joined,
-        &[Item(1), Item(2), failed, Item(7), End],
-    )?;
+    expect_answers(&rt, &mut joined, &[Item(1), Item(2), failed, Item(7), End])?;
     let mut below = Between::new(1, 4).flat_map(|high: u32| Ok(span(0, high)));
     expect_answers(
         &rt,

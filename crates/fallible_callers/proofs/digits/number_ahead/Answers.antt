@@ -38,10 +38,11 @@ unfolding folded taken_while
 returns-in_err-digit-clause-value g c = take_fails is_ascii_digit c.in_err-digit.field-0.0 c.loop-left.invariant.1 (λ l i. c.next_if.ensures.lists is_ascii_digit l (search rules) i) (search rules) (λ l. search rules)
 
 pub loop-left-preserved : goal.loop-left-preserved
-loop-left-preserved g c =
-    (counts_taken g.I.FallibleIterator.contract g.met.I.FallibleIterator.lawful _ c.in-Some.digit c.loop-left.invariant.0 c.next_if.ensures.taken (search rules) c.next_if.ensures.stays c.one_less-left.ensures,
-    takes_item is_ascii_digit c.in-Some.digit c.loop-left.invariant.1 (λ l i. c.next_if.ensures.lists is_ascii_digit l (search rules) i) (search rules) (λ l digit. number_on _ _ _ l digit (let low = at_digit c.in-Some.digit digit in let made = c.from.ensures in omega (arith, low.0, low.1, made))),
-    takes_item is_ascii_digit c.in-Some.digit c.loop-left.invariant.2 (λ l i. c.next_if.ensures.lists is_ascii_digit l (search rules) i) (search rules) (λ l digit. left_on _ l digit))
+loop-left-preserved g c = (
+  counts_taken g.I.FallibleIterator.contract g.met.I.FallibleIterator.lawful _ c.in-Some.digit c.loop-left.invariant.0 c.next_if.ensures.taken (search rules) c.next_if.ensures.stays c.one_less-left.ensures,
+  takes_item is_ascii_digit c.in-Some.digit c.loop-left.invariant.1 (λ l i. c.next_if.ensures.lists is_ascii_digit l (search rules) i) (search rules) (λ l digit. number_on _ _ _ l digit (let low = at_digit c.in-Some.digit digit in let made = c.from.ensures in omega (arith, low.0, low.1, made))),
+  takes_item is_ascii_digit c.in-Some.digit c.loop-left.invariant.2 (λ l i. c.next_if.ensures.lists is_ascii_digit l (search rules) i) (search rules) (λ l digit. left_on _ l digit),
+)
 
 pub returns-clause-value : goal.returns-clause-value
 returns-clause-value g c l i = let k = takes_none is_ascii_digit c.loop-left.invariant.1 (λ l i. c.next_if.ensures.lists is_ascii_digit l (search rules) i) (search rules) l i in sym (k.3 ∙ number_at _ k.0 k.2)
