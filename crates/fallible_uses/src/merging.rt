@@ -1,6 +1,6 @@
 //! Two sorted sources, merged.
 ghost use Rattle.std.specs.Prelude.{◌≡◌, ℕ, List, Result, Ok, None};
-ghost use Rattle.fallible_iterator.specs.Contract.{Stays, seen_as};
+ghost use Rattle.fallible_iterator.specs.Contract.{KeptByDraws, seen_as};
 ghost use Rattle.fallible_iterator.specs.Lists.{Lists, behind_first, nth_of};
 ghost use Rattle.fallible_iterator.specs.Peeking.Peekable.{peekable_contract, peekable_parts};
 ghost use Rattle.fallible_uses.specs.Merging.{ListBoth, merged};
@@ -30,9 +30,9 @@ where
         → ListBoth (seen_as peekable_parts (peekable_contract I.contract)).steps
         (seen_as peekable_parts (peekable_contract J.contract)).steps
         left.new right.new (behind_first (merged a b)) }
-    ensures left { Stays (peekable_contract I.contract)
+    ensures left { KeptByDraws (peekable_contract I.contract)
         (peekable_parts left.old) (peekable_parts left.new) }
-    ensures right { Stays (peekable_contract J.contract)
+    ensures right { KeptByDraws (peekable_contract J.contract)
         (peekable_parts right.old) (peekable_parts right.new) }
 {
     let Some(first) = left.peek_copied()? else {

@@ -6,7 +6,10 @@ use std::test::Fail;
 #[test]
 fn the_last_behind_two(rt: HostRuntime) -> Result<(), Fail> {
     let failing = Vec::from_array(rt.alloc(), [Ok::<u32, u8>(1), Ok(2), Ok(3), Err(4)])?;
-    assert_eq!(rt; last_behind_two(convert(failing.into_iter())), Ok(Some(Err(4))));
+    assert_eq!(rt;
+        last_behind_two(convert(failing.into_iter())),
+        Ok(Some(Err(4)))
+    );
     let two = Vec::from_array(rt.alloc(), [Ok::<u32, u8>(1), Ok(2)])?;
     assert_eq!(rt; last_behind_two(convert(two.into_iter())), Ok(None));
     let early = Vec::from_array(rt.alloc(), [Ok::<u32, u8>(1), Err(2), Ok(3)])?;
@@ -17,8 +20,14 @@ fn the_last_behind_two(rt: HostRuntime) -> Result<(), Fail> {
 #[test]
 fn the_last_behind_the_first(rt: HostRuntime) -> Result<(), Fail> {
     let three = Vec::from_array(rt.alloc(), [7u32, 8, 9])?;
-    assert_eq!(rt; last_behind_the_first(three.into_iter().into_fallible()), Ok(Some(9)));
+    assert_eq!(rt;
+        last_behind_the_first(three.into_iter().into_fallible()),
+        Ok(Some(9))
+    );
     let one = Vec::from_array(rt.alloc(), [7u32])?;
-    assert_eq!(rt; last_behind_the_first(one.into_iter().into_fallible()), Ok(None));
+    assert_eq!(rt;
+        last_behind_the_first(one.into_iter().into_fallible()),
+        Ok(None)
+    );
     Ok(())
 }

@@ -1,11 +1,12 @@
 -- Loops by hand that look ahead: what an item, an end and a failure that were looked at make of it.
-use Rattle.std.specs.Prelude.{◌≡◌, ℕ, List, [], ◌∷◌, Result, Some, None, Ok, Err}
+use Rattle.std.specs.Prelude.{◌≡◌, ℕ, ◌+◌, List, [], ◌∷◌, Result, Some, None, Ok, Err}
 use Rattle.std.proofs.Common.{sym, subst, arith, ◌∙◌}
 use Rattle.fallible_contract.specs.Traces.{Answered}
-use Rattle.fallible_contract.specs.Contract.{Contract, Stays}
+use Rattle.fallible_contract.specs.Contract.{Contract, Fewer, Stays, seen_as}
 use Rattle.fallible_contract.specs.Lists.{Lists, nth_of}
-use Rattle.fallible_core.specs.Peeking.Peekable.{looked_ahead}
+use Rattle.fallible_core.specs.Peeking.Peekable.{looked_ahead, peekable_contract, peekable_parts}
 use Rattle.fallible_iterator.proofs.Lemmas.Loops.{CountsDown, AnswersFromHere}
+use Rattle.fallible_core.specs.declared.peeking.peekable.Peekable.{Peekable}
 
 -- A look from s answered r and left t.
 abbrev pub Looked : {S A E : Type 0} → (S → Answered A E → S → Type 0) → S → Answered A E → S → Type 0
@@ -14,6 +15,10 @@ Looked {A = A} {E = E} steps s r t = (l : List (Result A E)) → Lists steps s l
 -- what is counted down before a look is so after it
 pub counts_on : {S A E : Type 0} {m : Contract S A E} {s t : S} {left : ℕ} → CountsDown m s left → Stays m s t → CountsDown m t left
 counts_on counts stays = let k = stays.bound counts.1.0 counts.1.1 in (stays.can_next, (k.0, k.1, (let below = k.2 in let up_to = counts.1.2 in omega arith)))
+
+-- and one less is counted after a `next_if` that took an item
+pub counts_taken : {S A E : Type 0} (m : Contract S A E) {s t : Peekable S A E} {left less : ℕ} → CountsDown (seen_as peekable_parts (peekable_contract m)) s left → Fewer (peekable_contract m) (peekable_parts s) (peekable_parts t) → Stays (peekable_contract m) (peekable_parts s) (peekable_parts t) → less + 1 ≡ left → CountsDown (seen_as peekable_parts (peekable_contract m)) t less
+counts_taken m counts fewer stays one = let k = fewer counts.1.0 counts.1.1 in (stays.can_next, (k.0, k.1, (let below = k.2 in let up_to = counts.1.2 in omega (arith, below, up_to, one))))
 
 module _ {S A E B R : Type 0} (steps : S → Answered A E → S → Type 0) (answers : B → List (Result A E) → R) (t : S) (b : B) (r : Answered A E) where
   item_seen : (x : A) (c : B) (v : R) (rest : List (Result A E)) → r ≡ Ok (Some x) → ((l : List (Result A E)) → answers b (Ok x ∷ l) ≡ answers c (Ok x ∷ l)) → (r ≡ nth_of 0 rest) × Lists steps t (looked_ahead rest) → v ≡ answers b rest → (l : List (Result A E)) × Lists steps t l × (v ≡ answers c l)

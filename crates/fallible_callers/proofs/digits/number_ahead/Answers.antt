@@ -3,7 +3,8 @@ use Rattle.std.specs.Prelude.{◌≡◌, ℕ, ◌+◌, ◌-◌, ◌*◌, ◌%◌
 use Rattle.std.specs.Char.{is_ascii_digit}
 use Rattle.std.proofs.Common.{rules, refl, sym, ap, subst, arith, ◌∙◌}
 use Rattle.fallible_iterator.specs.Lists.{cons_from, cons_while, folded, skipped_while, taken_while}
-use Rattle.fallible_callers.proofs.Taking.{RefusesFirst, counts_taken, take_fails, takes_item, takes_none}
+use Rattle.fallible_iterator.proofs.Lemmas.Looking.{counts_taken}
+use Rattle.fallible_callers.proofs.Taking.{RefusesFirst, take_fails, takes_item, takes_none}
 use Rattle.fallible_callers.proofs.digits.number_ahead.Goals as goal
 
 at_digit : (x : ℕ) → is_ascii_digit x ≡ true → (48 ≤ x) × (x ≤ 57)
@@ -39,7 +40,7 @@ returns-in_err-digit-clause-value g c = take_fails is_ascii_digit c.in_err-digit
 
 pub loop-left-preserved : goal.loop-left-preserved
 loop-left-preserved g c = (
-  counts_taken g.I.FallibleIterator.contract g.met.I.FallibleIterator.lawful _ c.in-Some.digit c.loop-left.invariant.0 c.next_if.ensures.taken (search rules) c.next_if.ensures.stays c.one_less-left.ensures,
+  counts_taken g.I.FallibleIterator.contract c.loop-left.invariant.0 (c.next_if.ensures.fewer c.in-Some.digit (search rules)) c.next_if.ensures.stays c.one_less-left.ensures,
   takes_item is_ascii_digit c.in-Some.digit c.loop-left.invariant.1 (λ l i. c.next_if.ensures.lists is_ascii_digit l (search rules) i) (search rules) (λ l digit. number_on _ _ _ l digit (let low = at_digit c.in-Some.digit digit in let made = c.from.ensures in omega (arith, low.0, low.1, made))),
   takes_item is_ascii_digit c.in-Some.digit c.loop-left.invariant.2 (λ l i. c.next_if.ensures.lists is_ascii_digit l (search rules) i) (search rules) (λ l digit. left_on _ l digit),
 )
