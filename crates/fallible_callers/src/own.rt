@@ -1,5 +1,5 @@
 //! Sources of one's own that show what they list.
-ghost use Rattle.std.specs.Prelude.{◌≡◌, ◌+◌, ◌-◌, ◌%◌, ◌^◌, ◌≤◌, eqb, Ok};
+ghost use Rattle.std.specs.Prelude.{◌≡◌, ℕ, ◌+◌, ◌-◌, ◌%◌, ◌^◌, ◌≤◌, eqb, List, Result, Ok};
 ghost use Rattle.fallible_iterator.specs.BothEnds.{ListsBothEnds};
 ghost use Rattle.fallible_iterator.specs.Contract.{AtMost};
 ghost use Rattle.fallible_iterator.specs.Laws.Showing.{lawful_listing};
@@ -170,12 +170,15 @@ impl IntoFallibleIterator for Span {
     }
 }
 
-/// The sum of the readings and then of the numbers of a span, modulo 2 ^ 64, or the first failure.
-pub fn sum_with(readings: Vec<Result<u32, u8>>, span: Span) -> Result<u64, u8>
-    ensures { result ≡ folded (λ e. e) (λ s x. Ok ((s + x) % 2 ^ 64)) 0
-        (chained (results readings.items) (numbers_between span.low span.high)) }
+/// The sum of the items and then of the numbers of a span, modulo 2 ^ 64, or the first failure.
+pub fn sum_with<I: FallibleIterator<Item = u32, Error = u8>>(it: I, span: Span) -> Result<u64, u8>
+where
+    requires can_next { I.contract.can_next it }
+    requires finite { I.contract.is_finite it }
+    ensures { (l : List (Result ℕ ℕ)) → Lists I.contract.steps it l
+        → result ≡ folded (λ e. e) (λ s x. Ok ((s + x) % 2 ^ 64)) 0
+        (chained l (numbers_between span.low span.high)) }
 {
-    convert(readings.into_iter())
-        .chain(span)
+    it.chain(span)
         .fold(0, |sum: u64, x: u32| Ok(sum.wrapping_add(u64::from(x))))
 }

@@ -1,7 +1,7 @@
 -- What a digit, a failure and what is no digit make of the number, and of what is left.
-use Rattle.std.specs.Prelude.{◌≡◌, ℕ, ◌+◌, ◌-◌, ◌*◌, ◌%◌, ◌^◌, ◌≤◌, ◌<◌, true, false, List, [], ◌∷◌, Result, Ok, Err}
+use Rattle.std.specs.Prelude.{◌≡◌, ℕ, ◌+◌, ◌-◌, ◌*◌, ◌%◌, ◌^◌, ◌≤◌, true, List, [], ◌∷◌, Result, Ok, Err}
 use Rattle.std.specs.Char.{is_ascii_digit}
-use Rattle.std.proofs.Common.{rules, refl, sym, ap, subst, arith, ◌∙◌}
+use Rattle.std.proofs.Common.{rules, refl, sym, ap, arith, ◌∙◌}
 use Rattle.fallible_iterator.specs.Lists.{cons_from, cons_while, folded, skipped_while, taken_while}
 use Rattle.fallible_iterator.proofs.Lemmas.Looking.{counts_taken}
 use Rattle.fallible_callers.proofs.Taking.{RefusesFirst, take_fails, takes_item, takes_none}
