@@ -97,7 +97,7 @@ fn collected<'a, C: Collect<Number<'a>>>(
     Ok((outcome_of(made), next_of(it.next())))
 }
 
-// The last row meets no refusal.
+// No item is pushed after one that is refused. The last row meets no refusal.
 #[test]
 fn collect_refused_an_item_leaves_those_behind_it(rt: HostRuntime) -> Result<(), Fail> {
     for (number, next) in (0..).zip([Some(2), Some(3), Some(4), None, None]) {
@@ -111,8 +111,8 @@ fn collect_refused_an_item_leaves_those_behind_it(rt: HostRuntime) -> Result<(),
         };
         let got = collected::<Kept>(rt.alloc(), &requests)?;
         assert_eq!(rt;
-            (got, requests.met()),
-            ((wanted, next), number < 4),
+            (got, requests.made()),
+            ((wanted, next), number.wrapping_add(1).min(4)),
             "collect, push {number}"
         );
     }
@@ -167,8 +167,8 @@ fn partition_refused_an_item_leaves_those_behind_it(rt: HostRuntime) -> Result<(
         };
         let got = parted::<Kept>(rt.alloc(), &requests)?;
         assert_eq!(rt;
-            (got, requests.met()),
-            ((wanted, next), number < 4),
+            (got, requests.made()),
+            ((wanted, next), number.wrapping_add(1).min(4)),
             "partition, push {number}"
         );
     }
@@ -198,7 +198,7 @@ fn unzipped<'a, C: Collect<Number<'a>>, D: Collect<Number<'a>>>(
     Ok((outcome_of(made), next_of(next)))
 }
 
-// Each pair asks twice, first for its first part.
+// Each pair asks twice, first for its first part; where that is refused, it asks no more.
 #[test]
 fn unzip_refused_a_part_leaves_the_pairs_behind_it(rt: HostRuntime) -> Result<(), Fail> {
     let after = [
@@ -228,8 +228,8 @@ fn unzip_refused_a_part_leaves_the_pairs_behind_it(rt: HostRuntime) -> Result<()
         };
         let got = unzipped::<Kept, Kept>(rt.alloc(), &requests)?;
         assert_eq!(rt;
-            (got, requests.met()),
-            ((wanted, next), number < 8),
+            (got, requests.made()),
+            ((wanted, next), number.wrapping_add(1).min(8)),
             "unzip, push {number}"
         );
     }

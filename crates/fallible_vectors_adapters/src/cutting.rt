@@ -2,7 +2,7 @@
 ghost use Rattle.std.specs.Prelude.{◌≤◌};
 
 use fallible_iterator::Answer::{End, Item};
-use fallible_iterator::{Answer, FallibleIterator};
+use fallible_iterator::{Answer, FallibleIterator, IteratorExt, from_fn};
 use fallible_testing::answered::expect_answers;
 use fallible_testing::collected::expect_collected;
 use fallible_testing::numbers::numbers;
@@ -36,16 +36,15 @@ fn take_counts_items_alone(rt: HostRuntime) {
 
 #[test]
 fn take_ends_with_its_source(rt: HostRuntime) -> Result<(), Fail> {
-    let script = [
-        Ok(Some(1)),
-        Ok(Some(2)),
-        Ok(Some(3)),
-        Ok(Some(4)),
-        Ok(Some(5)),
-        END,
-        Err(7),
-    ];
-    let it = scripted::<u32, u32, 7>(rt.alloc(), script)?;
+    let mut calls = 0u32;
+    let it = from_fn(move || {
+        calls = calls.wrapping_add(1);
+        match calls {
+            1..=5 => Ok::<Option<u32>, u32>(Some(calls)),
+            6 => Ok(None),
+            _ => Err(7),
+        }
+    });
     expect_collected(it.take(6).collect(rt.alloc()), &[1, 2, 3, 4, 5])
 }
 
@@ -176,6 +175,22 @@ fn step_by_gives_each_item_of_a_step(rt: HostRuntime) {
         stepped(usize::MAX, &[Ok(1), Ok(2)]),
         ([(1, Some(1)), (0, Some(0))], [Ok(Some(1)), END, END, END])
     );
+}
+
+// What `step_by` of so many numbers hints, before and after its first draw.
+fn step_hints(count: usize, step: usize) -> [Hint; 2]
+    requires { 1 ≤ step }
+{
+    let mut it = (0..count).into_fallible().step_by(step);
+    let before = it.size_hint();
+    let _ = it.next();
+    [before, it.size_hint()]
+}
+
+#[test]
+fn step_by_counts_past_32_bits(rt: HostRuntime) {
+    let many: usize = 1 << 33;
+    assert_eq!(rt; step_hints(many, many), [(1, Some(1)), (0, Some(0))]);
 }
 
 #[test]

@@ -3,6 +3,7 @@ use fallible_iterator::Answer::{End, Failure, Item};
 use fallible_iterator::{Answer, FallibleIterator, IntoFallible, convert};
 use fallible_testing::answered::expect_answers;
 use fallible_testing::numbers::numbers;
+use fallible_testing::scripted::scripted;
 use fallible_testing::test_error::TestError;
 use fallible_testing::text::Text;
 use std::cell::Cell;
@@ -87,9 +88,9 @@ fn enumerate_counts_items_alone(rt: HostRuntime) -> Result<(), Fail> {
 
 #[test]
 fn nth_of_enumerate_counts_the_items_that_it_drew(rt: HostRuntime) {
-    let answers = [Ok(5), Err(9), Ok(6)];
-    let mut it = numbers(&answers).enumerate();
-    assert_eq!(rt; [it.nth(1), it.next()], [Err(9), Ok(Some((1, 6)))]);
+    let answers: [Result<u32, ()>; 3] = [Ok(5), Err(()), Ok(6)];
+    let mut it = convert(answers.iter().copied()).enumerate();
+    assert_eq!(rt; [it.nth(1), it.next()], [Err(()), Ok(Some((1, 6)))]);
 }
 
 // The half of an item, none of 0, and a failure of 7.
@@ -111,6 +112,13 @@ fn map_while_ends_at_a_none_and_goes_on(rt: HostRuntime) -> Result<(), Fail> {
         &mut it,
         &[Item(2), End, Failure(9), Failure(1), Item(3), End],
     )
+}
+
+#[test]
+fn enumerate_counts_no_end(rt: HostRuntime) -> Result<(), Fail> {
+    let answers = [Ok(4), Ok(0), Ok(6)];
+    let mut it = numbers(&answers).map_while(half).enumerate();
+    expect_answers(&rt, &mut it, &[Item((0, 2)), End, Item((1, 3)), End])
 }
 
 #[test]
@@ -156,6 +164,13 @@ fn scan_keeps_its_state_after_a_failure(rt: HostRuntime) {
     });
     let drawn = [it.next(), it.next(), it.next(), it.next()];
     assert_eq!(rt; drawn, [Ok(Some(1)), Err(3), Ok(Some(6)), Ok(None)]);
+}
+
+#[test]
+fn scan_draws_once_at_an_end(rt: HostRuntime) -> Result<(), Fail> {
+    let script = [Ok(Some(1)), Ok(None), Ok(Some(2))];
+    let mut it = scripted::<u32, u32, 3>(rt.alloc(), script)?.scan((), |_, x: u32| Ok(Some(x)));
+    expect_answers(&rt, &mut it, &[Item(1), End, Item(2), End])
 }
 
 #[test]
