@@ -23,7 +23,8 @@ pub trait ReadWhole {
 impl<R: Read> ReadWhole for R {
     ghost left = { R.remaining };
 
-    ghost fails = { λ kind s t. (kind ≢ ErrorKind.Interrupted) × TakesSome (R.remaining s) (R.remaining t) };
+    ghost fails = { λ kind s t. (kind ≢ ErrorKind.Interrupted)
+        × TakesSome (R.remaining s) (R.remaining t) };
 
     /// An interrupted read is tried again.
     fn read_whole(&mut self, alloc: Global) -> io::Result<Vec<u8>> {

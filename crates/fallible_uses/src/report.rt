@@ -50,7 +50,7 @@ fn write_report<W: Write>(totals: Totals, writer: &mut W) -> io::Result<()>
     )
 }
 
-/// Reads a table up to the end of `reader`, and writes its totals to `writer`. It fails with `Table` and the table's first fault, with `Read` where a read fails, with `Memory` where there is none for the table, and with `Write` where the writer fails. An interrupted read is tried again. After `Ok` and `Table` the reader is at its end. Only at `Ok` and `Write` may something have been written.
+/// Reads a table up to the end of `reader`, which may be any reader of std, and writes its totals to `writer`. It fails with `Table` and the table's first fault, with `Read` where a read fails, with `Memory` where there is none for the table, and with `Write` where the writer fails. An interrupted read is tried again. After `Ok` and `Table` the reader is at its end. Only at `Ok` and `Write` may something have been written.
 pub fn run<R: ReadWhole, W: Write>(
     alloc: Global,
     reader: &mut R,
@@ -60,7 +60,8 @@ pub fn run<R: ReadWhole, W: Write>(
         (W.contents writer.old) (W.contents writer.new)) }
     ensures table { (fault : TableFault) → result ≡ Err (RunFault.Table fault)
         → ReadsTable (R.left reader.old) (R.left reader.new) (Err fault) }
-    ensures write { result ≡ Err RunFault.Write → HasTotals (R.left reader.old) (R.left reader.new) }
+    ensures write { result ≡ Err RunFault.Write
+        → HasTotals (R.left reader.old) (R.left reader.new) }
 
     // Reading failed, and of which kind.
     ensures read { result ≡ Err RunFault.Read → (kind : ErrorKind)
