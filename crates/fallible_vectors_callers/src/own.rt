@@ -81,8 +81,8 @@ fn a_span_is_compared(rt: HostRuntime) {
 #[test]
 fn readings_and_a_span_are_summed(rt: HostRuntime) -> Result<(), Fail> {
     let readings = Vec::from_array(rt.alloc(), [Ok(10), Ok(20)])?;
-    assert_eq!(rt; sum_with(readings, span(3, 6)), Ok(42));
+    assert_eq!(rt; sum_with(convert(readings.into_iter()), span(3, 6)), Ok(42));
     let failing = Vec::from_array(rt.alloc(), [Ok(10), Err(9)])?;
-    assert_eq!(rt; sum_with(failing, span(3, 6)), Err(9));
+    assert_eq!(rt; sum_with(convert(failing.into_iter()), span(3, 6)), Err(9));
     Ok(())
 }
