@@ -2,7 +2,7 @@
 ghost use Rattle.std.specs.Prelude.{⊤};
 
 use fallible_iterator::{Collect, FallibleIterator, Fault, IntoFallible, IteratorExt};
-use fallible_testing::closures::even_thirds;
+use fallible_testing::closures::{even_thirds, ten_more_of_even};
 use fallible_testing::collected::{expect_collected, expect_refused, expect_source_fault};
 use fallible_testing::listed::listed;
 use fallible_testing::numbers::numbers;
@@ -45,11 +45,26 @@ fn collect_takes_no_room_ahead(rt: HostRuntime) {
     assert!(rt; made.expect(&rt, "a collection").capacity() < 1_000);
 }
 
+// What `collect` makes of the answers, whose failures are that much greater.
+fn collected_with_greater_failures(
+    alloc: Global,
+    answers: &[Result<u32, u32>],
+    more: u32,
+) -> Result<Vec<u32>, Fault<u32>> {
+    numbers(answers)
+        .map_err(move |e: u32| e.wrapping_add(more))
+        .collect(alloc)
+}
+
 #[test]
 fn collect_fails_as_map_err_makes_it(rt: HostRuntime) -> Result<(), Fail> {
     let answers = [Ok(1), Err(5)];
-    let it = numbers(&answers).map_err(|e: u32| e.wrapping_add(100));
-    expect_source_fault(it.collect::<Vec<u32>>(rt.alloc()), 105)
+    expect_source_fault(
+        collected_with_greater_failures(rt.alloc(), &answers, 100),
+        105,
+    )?;
+    let answers = [Ok(0), Err(1), Ok(2), Err(3)];
+    expect_source_fault(collected_with_greater_failures(rt.alloc(), &answers, 0), 1)
 }
 
 // What `collect` makes of the answers that `even_thirds` lets pass.
@@ -66,6 +81,23 @@ fn collect_filtered_and_fails_by_the_predicate(rt: HostRuntime) -> Result<(), Fa
     expect_collected(made, &[0, 6])?;
     let made = collected_even_thirds(rt.alloc(), &[Ok(0), Ok(1), Ok(2), Ok(3)]);
     expect_source_fault(made, 1)
+}
+
+// What `collect` makes of what `ten_more_of_even` makes of the answers.
+fn collected_ten_more_of_even(
+    alloc: Global,
+    answers: &[Result<u32, u32>],
+) -> Result<Vec<u32>, Fault<u32>> {
+    numbers(answers).filter_map(ten_more_of_even).collect(alloc)
+}
+
+#[test]
+fn collect_filter_mapped_and_fails_by_the_closure(rt: HostRuntime) -> Result<(), Fail> {
+    let answers = [Ok(0), Ok(2), Ok(3), Ok(4), Ok(6)];
+    let made = collected_ten_more_of_even(rt.alloc(), &answers);
+    expect_collected(made, &[10, 12, 14, 16])?;
+    let answers = [Ok(0), Ok(1), Ok(2), Ok(3), Ok(4), Ok(5), Ok(6)];
+    expect_source_fault(collected_ten_more_of_even(rt.alloc(), &answers), 1)
 }
 
 // What `collect` makes of the numbers of a range.
@@ -86,6 +118,17 @@ fn collect_from_a_std_iterator(rt: HostRuntime) -> Result<(), Fail> {
         collected_range(rt.alloc(), (0..4).into_fallible()),
         &[0, 1, 2, 3],
     )
+}
+
+// It has no room at first, and asks for more again and again.
+#[test]
+fn collect_goes_on_where_its_room_is_full(rt: HostRuntime) {
+    let made = collected_range(rt.alloc(), IntoFallible::from(0..1000));
+    let items = made.expect(&rt, "a collection");
+    assert_eq!(rt; items.len(), 1000);
+    for (number, item) in (0..).zip(&items) {
+        assert_eq!(rt; *item, number);
+    }
 }
 
 // A collection of a user's own, which counts and never refuses.

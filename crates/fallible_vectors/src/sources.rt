@@ -1,7 +1,8 @@
 // Sources.
-use fallible_iterator::Answer::{Failure, Item};
+use fallible_iterator::Answer::{End, Failure, Item};
 use fallible_iterator::{
-    FallibleIterator, IteratorExt, convert_fused, empty, from_fn, once, repeat, repeat_err,
+    FallibleIterator, IteratorExt, convert_fused, empty, from_fn, once, once_err, repeat,
+    repeat_err,
 };
 use fallible_testing::answered::expect_answers;
 use fallible_testing::collected::expect_collected;
@@ -11,7 +12,7 @@ use std::cell::Cell;
 use std::test::Fail;
 
 #[test]
-fn from_fn_goes_on_after_an_end(rt: HostRuntime) {
+fn from_fn_goes_on_after_an_end(rt: HostRuntime) -> Result<(), Fail> {
     let mut calls = 0u32;
     let mut it = from_fn(move || {
         calls = calls.wrapping_add(1);
@@ -21,8 +22,7 @@ fn from_fn_goes_on_after_an_end(rt: HostRuntime) {
             _ => Ok(None),
         }
     });
-    let drawn = [it.next(), it.next(), it.next(), it.next()];
-    assert_eq!(rt; drawn, [Ok(Some(1)), Ok(None), Ok(Some(2)), Ok(None)]);
+    expect_answers(&rt, &mut it, &[Item(1), End, Item(2), End])
 }
 
 #[test]
@@ -50,6 +50,15 @@ fn empty_and_once_end(rt: HostRuntime) {
     assert_eq!(rt; [it.next(), it.next()], [Ok(None), Ok(None)]);
     let mut it = once::<u32, u32>(5);
     assert_eq!(rt; [it.next(), it.next()], [Ok(Some(5)), Ok(None)]);
+}
+
+#[test]
+fn answers_of_empty_once_and_once_err(rt: HostRuntime) -> Result<(), Fail> {
+    expect_answers(&rt, &mut empty::<u32, u32>(), &[End, End])?;
+    let mut it = once::<u32, u32>(5);
+    expect_answers(&rt, &mut it, &[])?;
+    assert_eq!(rt; it.next(), Ok(Some(5)));
+    expect_answers(&rt, &mut once_err::<u32, u32>(4), &[Failure(4), End, End])
 }
 
 #[test]

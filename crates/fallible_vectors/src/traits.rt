@@ -97,16 +97,6 @@ fn answers_go_on_after_a_failure(rt: HostRuntime) -> Result<(), Fail> {
         next_after(&rt, &[Ok(1), Err(2), Ok(3)], &expected)?,
         Ok(None)
     );
-    assert_eq!(rt;
-        next_after(&rt, &[Err(4)], &[Failure(4), End, End])?,
-        Ok(None)
-    );
-    Ok(())
-}
-
-#[test]
-fn no_answers_draw_nothing(rt: HostRuntime) -> Result<(), Fail> {
-    assert_eq!(rt; next_after(&rt, &[Ok(5)], &[])?, Ok(Some(5)));
     Ok(())
 }
 

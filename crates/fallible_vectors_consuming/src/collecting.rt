@@ -138,6 +138,25 @@ fn collect_into_each_collection_fails_with_the_source(rt: HostRuntime) -> Result
     expect_source_fault(hash_map(rt.alloc(), &pairs), 9)
 }
 
+// Making a collection takes no room. The sorted ones tell of none; the program `refusals` makes them too.
+#[test]
+fn empty_collections_have_no_room(rt: HostRuntime) -> Result<(), Fail> {
+    let vec = <Vec<u32> as Collect<u32>>::empty(rt.alloc())?;
+    let deque = <VecDeque<u32> as Collect<u32>>::empty(rt.alloc())?;
+    let set = <HashSet<u32> as Collect<u32>>::empty(rt.alloc())?;
+    let map = <HashMap<u32, char> as Collect<(u32, char)>>::empty(rt.alloc())?;
+    assert_eq!(rt;
+        [
+            vec.capacity(),
+            deque.capacity(),
+            set.capacity(),
+            map.capacity()
+        ],
+        [0, 0, 0, 0]
+    );
+    Ok(())
+}
+
 // A collection that has room for two items.
 #[derive(Drop)]
 struct Two {

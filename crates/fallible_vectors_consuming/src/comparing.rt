@@ -77,8 +77,10 @@ fn a_front_is_less_and_the_longer_one_greater(rt: HostRuntime) {
 
 #[test]
 fn cmp_of_an_empty_one_is_less_and_draws_the_right(rt: HostRuntime) {
-    let answer = cmp_of(&[], &[Ok(7), Ok(8)]);
-    assert_eq!(rt; answer, (Ok(Ordering::Less), Ok(Some(8))));
+    let answers = [Ok(7), Ok(8)];
+    let mut right = numbers(&answers);
+    assert_eq!(rt; empty::<u32, u32>().cmp(&mut right), Ok(Ordering::Less));
+    assert_eq!(rt; right.next(), Ok(Some(8)));
 }
 
 #[test]

@@ -62,6 +62,8 @@ fn all_below_4(answers: &[Result<u32, u32>], failing: u32) -> (Result<bool, u32>
 fn all_stops_at_the_first_item_that_is_not(rt: HostRuntime) {
     let below = [Ok(0), Ok(1), Ok(2), Ok(3)];
     assert_eq!(rt; all_below_4(&below, NOWHERE), (Ok(true), Ok(None)));
+    let last_not = [Ok(0), Ok(1), Ok(2), Ok(4)];
+    assert_eq!(rt; all_below_4(&last_not, NOWHERE), (Ok(false), Ok(None)));
     let one_not = [Ok(0), Ok(4), Ok(1), Ok(2)];
     assert_eq!(rt; all_below_4(&one_not, NOWHERE), (Ok(false), Ok(Some(1))));
 }
@@ -102,6 +104,8 @@ fn any_is_3(answers: &[Result<u32, u32>], failing: u32) -> (Result<bool, u32>, D
 
 #[test]
 fn any_stops_at_the_first_item_that_is_or_fails(rt: HostRuntime) {
+    let last_is = [Ok(0), Ok(1), Ok(2), Ok(3)];
+    assert_eq!(rt; any_is_3(&last_is, NOWHERE), (Ok(true), Ok(None)));
     let one_is = [Ok(0), Ok(3), Ok(1), Ok(2)];
     assert_eq!(rt; any_is_3(&one_is, NOWHERE), (Ok(true), Ok(Some(1))));
     let none_is = [Ok(0), Ok(1), Ok(2), Ok(4)];

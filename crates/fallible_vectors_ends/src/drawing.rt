@@ -62,6 +62,9 @@ fn chain_fails_from_behind_and_goes_on_in_front_of_it(rt: HostRuntime) -> Result
     let (sides, expected) = ([Back, Back, Front], [Failure(9), Item(1), End]);
     let left = left_of_a_chain(&rt, &[Ok(1)], &[Err(9)], &sides, &expected)?;
     assert_eq!(rt; left, ((0, Some(0)), Ok(None)));
+    let (sides, expected) = ([Back, Back, Back], [Failure(9), Item(2), Item(1)]);
+    let left = left_of_a_chain(&rt, &[Ok(1)], &[Ok(2), Err(9)], &sides, &expected)?;
+    assert_eq!(rt; left, ((0, Some(0)), Ok(None)));
     Ok(())
 }
 

@@ -35,8 +35,9 @@ fn expect_cycle(
 #[test]
 fn cycle_of_one_and_of_four_items(rt: HostRuntime) -> Result<(), Fail> {
     let endless = (usize::MAX, None);
-    assert_eq!(rt; once::<u32, TestError>(1).cycle()?.size_hint(), endless);
-    assert_eq!(rt; expect_cycle(&rt, &[1], &[1, 1, 1])?, endless);
+    let it = once::<u32, TestError>(1).cycle()?;
+    assert_eq!(rt; it.size_hint(), endless);
+    expect_collected(it.take(3).collect(rt.alloc()), &[1, 1, 1])?;
     assert_eq!(rt;
         expect_cycle(&rt, &[0, 1, 2, 3], &[0, 1, 2, 3, 0, 1])?,
         endless

@@ -1,5 +1,5 @@
 // Adapters that join inner iterators.
-ghost use Rattle.std.specs.Prelude.{IfOk};
+ghost use Rattle.std.specs.Prelude.{◌^◌, ◌-◌, IfOk};
 
 use fallible_iterator::Answer::{End, Failure, Item};
 use fallible_iterator::{
@@ -133,6 +133,21 @@ where
     once::<U, u32>(inner).flatten().fold(0, add_up)
 }
 
+// What two folds of a flatten of one inner iterator come to, one after another, and the draw that follows.
+fn folds_and_draws_flat<U: FallibleIterator<Item = u32, Error = u32>>(
+    inner: U,
+) -> ([Result<u32, u32>; 2], Result<Option<u32>, u32>)
+where
+    U: Drop,
+    requires can_next { U.contract.can_next inner }
+    requires finite { U.contract.bound inner (2 ^ 64 - 1) }
+{
+    let mut it = once::<U, u32>(inner).flatten();
+    let first = it.try_fold(0, add_up);
+    let second = it.try_fold(0, add_up);
+    ([first, second], it.next())
+}
+
 // The same of a flat_map whose closure answers the inner iterator as it is.
 fn draws_flat_mapped<U: FallibleIterator<Item = u32, Error = u32>>(
     inner: U,
@@ -199,6 +214,14 @@ fn a_fold_of_flatten_draws_nothing_after_the_end_in_hand(rt: HostRuntime) -> Res
     assert_eq!(rt; ended.outcome, Ok(0));
     assert_eq!(rt; s.next(), Ok(Some(2)));
     Ok(())
+}
+
+// The first fold meets the inner iterator in the outer source, and the second finds it in hand.
+#[test]
+fn a_fold_of_flatten_keeps_an_inner_iterator_that_failed(rt: HostRuntime) {
+    let answers = [Ok(1), Err(9), Ok(2), Err(8), Ok(4)];
+    let folded = folds_and_draws_flat(numbers(&answers));
+    assert_eq!(rt; folded, ([Err(9), Err(8)], Ok(Some(4))));
 }
 
 #[test]

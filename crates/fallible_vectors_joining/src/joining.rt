@@ -45,6 +45,17 @@ fn chain_goes_on_after_a_failure_of_the_first(rt: HostRuntime) {
 }
 
 #[test]
+fn chain_draws_the_first_on_after_a_failure(rt: HostRuntime) {
+    assert_eq!(rt;
+        chained(&[Ok(1), Err(9), Ok(3)], 2),
+        (
+            [Ok(Some(1)), Err(9), Ok(Some(3)), Ok(Some(2))],
+            [(4, Some(4)), (3, Some(3)), (1, Some(1))],
+        )
+    );
+}
+
+#[test]
 fn chain_hints_at_the_sides_that_are_still_drawn(rt: HostRuntime) {
     assert_eq!(rt;
         chained(&[Ok(1), Ok(2)], 3),
@@ -95,6 +106,14 @@ fn chain_hints_at_no_more_than_fits(rt: HostRuntime) {
     let first = repeat::<u32, TestError>(5);
     assert_eq!(rt; first.chain(once(1)).size_hint(), (usize::MAX, None));
     assert_eq!(rt; chain_hint(usize::MAX, 0), (usize::MAX, Some(usize::MAX)));
+    assert_eq!(rt;
+        chain_hint(usize::MAX - 1, 1),
+        (usize::MAX, Some(usize::MAX))
+    );
+    assert_eq!(rt;
+        chain_hint(usize::MAX - 2, 1),
+        (usize::MAX - 1, Some(usize::MAX - 1))
+    );
     assert_eq!(rt; chain_hint(usize::MAX, 1), (usize::MAX, None));
 }
 

@@ -4,7 +4,7 @@ ghost use Rattle.std.proofs.Common.{rules};
 ghost use Rattle.std.specs.Cmp.Rules.{comparing};
 ghost use Rattle.fallible_iterator.specs.Peeking.Peekable.{Fills, peekable_parts};
 
-use fallible_iterator::{FallibleIterator, Peekable, convert, from_fn, once, repeat};
+use fallible_iterator::{FallibleIterator, IteratorExt, Peekable, convert, from_fn, once, repeat};
 use fallible_testing::closures::add_up;
 use fallible_testing::listed::listed;
 use fallible_testing::numbers::numbers;
@@ -91,11 +91,11 @@ fn peek_draws_once(rt: HostRuntime) {
     assert_eq!(rt; it.next(), Ok(Some(2)));
 }
 
-// What `next_if` answers for the first two numbers, and `next_if_eq` for the others.
+// What `next_if` answers of an item above the first number and of one that is the second, and `next_if_eq` of the others.
 fn next_ifs(answers: &[Result<u32, u32>], wanted: [u32; 5]) -> [Result<Option<u32>, u32>; 5] {
     let mut it = numbers(answers).peekable();
     [
-        it.next_if(|x: &u32| *x == wanted[0]),
+        it.next_if(|x: &u32| *x > wanted[0]),
         it.next_if(|x: &u32| *x == wanted[1]),
         it.next_if_eq(&wanted[2]),
         it.next_if_eq(&wanted[3]),
@@ -106,7 +106,7 @@ fn next_ifs(answers: &[Result<u32, u32>], wanted: [u32; 5]) -> [Result<Option<u3
 #[test]
 fn next_if_takes_an_item_that_is_accepted_and_answers_a_failure(rt: HostRuntime) {
     assert_eq!(rt;
-        next_ifs(&[Ok(1), Ok(2)], [2, 1, 2, 2, 2]),
+        next_ifs(&[Ok(1), Ok(2)], [1, 1, 2, 2, 2]),
         [Ok(None), Ok(Some(1)), Ok(Some(2)), Ok(None), Ok(None)]
     );
     assert_eq!(rt;
@@ -134,6 +134,9 @@ fn peekable_hint_counts_the_held_item_up_to_the_greatest_number(rt: HostRuntime)
     let mut it = repeat::<u32, TestError>(1).peekable();
     assert_eq!(rt; it.peek(), Ok(Some(&1)));
     assert_eq!(rt; it.size_hint(), (usize::MAX, None));
+    let mut it = (0..usize::MAX).into_fallible().peekable();
+    assert_eq!(rt; it.peek(), Ok(Some(&0)));
+    assert_eq!(rt; it.size_hint(), (usize::MAX, Some(usize::MAX)));
 }
 
 // Takes what is looked at. After `fill`, `held` tells whether it is an item or an end, and `next` is known to answer that without a draw.

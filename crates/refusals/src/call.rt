@@ -21,6 +21,7 @@ pub enum Call {
     UnzipVecDeque,
     UnzipSets,
     UnzipRoomy,
+    Empty,
     Cycle,
     Cloned,
     Repeat,
@@ -36,7 +37,7 @@ pub enum Call {
 
 impl Call {
     // Every call, in the order in which they are printed.
-    pub fn all() -> [Call; 24] {
+    pub fn all() -> [Call; 25] {
         [
             Call::CollectVec,
             Call::CollectDeque,
@@ -51,6 +52,7 @@ impl Call {
             Call::UnzipVecDeque,
             Call::UnzipSets,
             Call::UnzipRoomy,
+            Call::Empty,
             Call::Cycle,
             Call::Cloned,
             Call::Repeat,
@@ -81,6 +83,7 @@ impl Call {
             Call::UnzipVecDeque => "unzip_vec_deque",
             Call::UnzipSets => "unzip_hash_set_btree_set",
             Call::UnzipRoomy => "unzip_roomy",
+            Call::Empty => "empty",
             Call::Cycle => "cycle",
             Call::Cloned => "cloned",
             Call::Repeat => "repeat",
@@ -112,6 +115,7 @@ impl Call {
             Call::UnzipVecDeque => collecting::unzip::<Vec<u32>, VecDeque<u32>>(rt, name),
             Call::UnzipSets => collecting::unzip::<HashSet<u32>, BTreeSet<u32>>(rt, name),
             Call::UnzipRoomy => collecting::unzip::<Roomy, Roomy>(rt, name),
+            Call::Empty => collecting::make_empty(rt, name),
             Call::Cycle => cloning::cycle(rt, name),
             Call::Cloned => cloning::cloned(rt, name),
             Call::Repeat => cloning::repeated(rt, name),

@@ -2,6 +2,7 @@
 use crate::contents::Contents;
 use crate::failure::Failure;
 use fallible_iterator::{Collect, FallibleIterator, Fault, convert};
+use std::collections::{BTreeMap, BTreeSet, HashMap, HashSet, VecDeque};
 use std::io;
 
 // The numbers from 1 to 20, into a collection of them, by a borrow.
@@ -42,6 +43,26 @@ pub fn unzip<A: Collect<u32> + Contents, B: Collect<u32> + Contents>(
     let made: Result<(A, B), Fault<Failure>> = it.by_ref().unzip(rt.alloc());
     print_both(rt, name, made)?;
     println!(rt; "; then {:?}", it.next())
+}
+
+// An empty collection of each kind, whose making asks for no memory.
+pub fn make_empty(rt: &HostRuntime, name: &str) -> io::Result<()> {
+    print!(rt; "{name}: items")?;
+    print_empty::<u32, Vec<u32>>(rt)?;
+    print_empty::<u32, VecDeque<u32>>(rt)?;
+    print_empty::<u32, BTreeSet<u32>>(rt)?;
+    print_empty::<u32, HashSet<u32>>(rt)?;
+    print_empty::<(u32, u32), BTreeMap<u32, u32>>(rt)?;
+    print_empty::<(u32, u32), HashMap<u32, u32>>(rt)?;
+    println!(rt; "")
+}
+
+// How many items the collection has that is made.
+fn print_empty<T, C: Collect<T> + Contents>(rt: &HostRuntime) -> io::Result<()> {
+    match C::empty(rt.alloc()) {
+        Ok(collection) => print!(rt; " {}", collection.count()),
+        Err(_) => print!(rt; " refused"),
+    }
 }
 
 // What a collection holds, or why there is none.

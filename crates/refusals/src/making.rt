@@ -1,11 +1,11 @@
-// A collection whose making asks for memory.
+// A collection whose making asks for all the memory that it will need.
 ghost use Rattle.std.specs.Prelude.{⊤};
 
 use crate::contents::Contents;
 use fallible_iterator::Collect;
 use std::alloc::{AllocError, Global};
 
-// Items behind one another, with room for one from the making on.
+// Items behind one another, with room for 20 from the making on. So its only request is that of its making.
 #[derive(Drop)]
 pub struct Roomy {
     items: Vec<u32>,
@@ -19,7 +19,7 @@ impl Collect<u32> for Roomy {
     ghost push_refuses = { λ _ _. ⊤ };
 
     fn empty(alloc: Global) -> Result<Roomy, AllocError> {
-        let items = Vec::with_capacity(alloc, 1)?;
+        let items = Vec::with_capacity(alloc, 20)?;
         Ok(Roomy { items })
     }
 

@@ -5,7 +5,10 @@ use crate::answer::{Answer, Failed, Seen};
 use crate::case::{Case, Given, Run};
 use crate::operating::operate;
 use crate::operation::Outcome;
-use crate::rules::{add_ends, by_calls, cut, fused, skipped, stepped, taken, taken_while_by_calls};
+use crate::rules::{
+    add_ends, by_calls, cut, fused, skipped, stepped, taken, taken_up_to_the_second,
+    taken_while_by_calls, taken_while_failing,
+};
 use fallible_iterator::FallibleIterator;
 use std::alloc::AllocError;
 
@@ -92,6 +95,56 @@ impl Case for TakenWhileByCalls {
 
     fn expected(given: &Given) -> Result<Vec<Seen>, AllocError> {
         taken_while_by_calls(given.alloc, given.all.as_slice())
+    }
+}
+
+/// `take_while` by a closure that is true on its odd calls: on the first, and not on the second.
+pub struct TakenWhileOddCalls;
+
+impl Case for TakenWhileOddCalls {
+    fn name() -> &'static str {
+        "take_while, true on odd calls"
+    }
+
+    fn perform(run: &Run<'_>) -> Result<Option<Outcome>, AllocError> {
+        let mut script = run.script();
+        let mut calls: u32 = 0;
+        let nest = (&mut script).take_while(|_: &u32| {
+            calls = calls.wrapping_add(1);
+            Ok(calls % 2 == 1)
+        });
+        operate(run, nest)
+    }
+
+    fn expected(given: &Given) -> Result<Vec<Seen>, AllocError> {
+        taken_up_to_the_second(given.alloc, given.all.as_slice())
+    }
+}
+
+/// `take_while` of 1, by a closure that fails with 8 on each third call.
+pub struct TakenWhileFailing;
+
+impl Case for TakenWhileFailing {
+    fn name() -> &'static str {
+        "take_while, failing on each third call"
+    }
+
+    fn perform(run: &Run<'_>) -> Result<Option<Outcome>, AllocError> {
+        let mut script = run.script();
+        let mut calls: u32 = 0;
+        let nest = (&mut script).take_while(|x: &u32| {
+            calls = calls.wrapping_add(1);
+            if calls % 3 == 0 {
+                Err(Failed(8))
+            } else {
+                Ok(*x == 1)
+            }
+        });
+        operate(run, nest)
+    }
+
+    fn expected(given: &Given) -> Result<Vec<Seen>, AllocError> {
+        taken_while_failing(given.alloc, given.all.as_slice())
     }
 }
 

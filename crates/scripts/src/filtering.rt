@@ -6,7 +6,8 @@ use crate::case::{Case, Given, Run};
 use crate::operating::operate;
 use crate::operation::Outcome;
 use crate::rules::{
-    by_calls, each, filter_mapped_by_calls, filtered_by_calls, skipped_while_by_calls,
+    by_calls, each, filter_mapped_by_calls, filtered_by_calls, skipped, skipped_while_by_calls,
+    skipped_while_failing,
 };
 use fallible_iterator::FallibleIterator;
 use std::alloc::AllocError;
@@ -159,5 +160,55 @@ impl Case for SkippedWhileByCalls {
 
     fn expected(given: &Given) -> Result<Vec<Seen>, AllocError> {
         skipped_while_by_calls(given.alloc, given.all.as_slice())
+    }
+}
+
+/// `skip_while` by a closure that is true on its odd calls: on the first, and not on the second.
+pub struct SkippedWhileOddCalls;
+
+impl Case for SkippedWhileOddCalls {
+    fn name() -> &'static str {
+        "skip_while, true on odd calls"
+    }
+
+    fn perform(run: &Run<'_>) -> Result<Option<Outcome>, AllocError> {
+        let mut script = run.script();
+        let mut calls: u32 = 0;
+        let nest = (&mut script).skip_while(|_: &u32| {
+            calls = calls.wrapping_add(1);
+            Ok(calls % 2 == 1)
+        });
+        operate(run, nest)
+    }
+
+    fn expected(given: &Given) -> Result<Vec<Seen>, AllocError> {
+        skipped(given.alloc, given.all.as_slice(), 1)
+    }
+}
+
+/// `skip_while` of 1, by a closure that fails with 8 on each third call.
+pub struct SkippedWhileFailing;
+
+impl Case for SkippedWhileFailing {
+    fn name() -> &'static str {
+        "skip_while, failing on each third call"
+    }
+
+    fn perform(run: &Run<'_>) -> Result<Option<Outcome>, AllocError> {
+        let mut script = run.script();
+        let mut calls: u32 = 0;
+        let nest = (&mut script).skip_while(|x: &u32| {
+            calls = calls.wrapping_add(1);
+            if calls % 3 == 0 {
+                Err(Failed(8))
+            } else {
+                Ok(*x == 1)
+            }
+        });
+        operate(run, nest)
+    }
+
+    fn expected(given: &Given) -> Result<Vec<Seen>, AllocError> {
+        skipped_while_failing(given.alloc, given.all.as_slice())
     }
 }

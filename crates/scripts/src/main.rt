@@ -74,7 +74,9 @@ fn drive_filtering(rt: &HostRuntime, total: &mut Tally) -> io::Result<()> {
     drive::<filtering::FilterMapped>(rt, total)?;
     drive::<filtering::FilterMappedByCalls>(rt, total)?;
     drive::<filtering::SkippedWhile>(rt, total)?;
-    drive::<filtering::SkippedWhileByCalls>(rt, total)
+    drive::<filtering::SkippedWhileByCalls>(rt, total)?;
+    drive::<filtering::SkippedWhileOddCalls>(rt, total)?;
+    drive::<filtering::SkippedWhileFailing>(rt, total)
 }
 
 fn drive_cutting(rt: &HostRuntime, total: &mut Tally) -> io::Result<()> {
@@ -82,6 +84,8 @@ fn drive_cutting(rt: &HostRuntime, total: &mut Tally) -> io::Result<()> {
     drive::<cutting::TakenTwo>(rt, total)?;
     drive::<cutting::TakenWhile>(rt, total)?;
     drive::<cutting::TakenWhileByCalls>(rt, total)?;
+    drive::<cutting::TakenWhileOddCalls>(rt, total)?;
+    drive::<cutting::TakenWhileFailing>(rt, total)?;
     drive::<cutting::Fused>(rt, total)?;
     drive::<cutting::SkippedOne>(rt, total)?;
     drive::<cutting::SkippedTwo>(rt, total)?;

@@ -426,3 +426,62 @@ pub fn taken_while_by_calls(alloc: Global, source: &[Seen]) -> Result<Vec<Seen>,
         }
     })
 }
+
+/// Each third item up to the first 2 that is none of them replaced by a failure, the others before that 2 left out, and from it on all as it is.
+pub fn skipped_while_failing(alloc: Global, source: &[Seen]) -> Result<Vec<Seen>, AllocError> {
+    let mut items: u32 = 0;
+    let mut found = false;
+    each(alloc, source, |answer: Answer| {
+        if let Answer::Item(x) = answer {
+            items = items.wrapping_add(1);
+            if found {
+                Some(answer)
+            } else if items % 3 == 0 {
+                Some(Answer::Failure(8))
+            } else if x == 2 {
+                found = true;
+                Some(answer)
+            } else {
+                None
+            }
+        } else {
+            Some(answer)
+        }
+    })
+}
+
+/// The list up to its second item, which is replaced by an end, and then ends without draws.
+pub fn taken_up_to_the_second(alloc: Global, source: &[Seen]) -> Result<Vec<Seen>, AllocError> {
+    let mut items: u32 = 0;
+    cut(alloc, source, |answer: Answer| {
+        if let Answer::Item(_) = answer {
+            items = items.wrapping_add(1);
+            if items == 1 {
+                (answer, false)
+            } else {
+                (Answer::End, true)
+            }
+        } else {
+            (answer, false)
+        }
+    })
+}
+
+/// Each third item replaced by a failure, and the first 2 that is none of them by an end, after which come ends without draws.
+pub fn taken_while_failing(alloc: Global, source: &[Seen]) -> Result<Vec<Seen>, AllocError> {
+    let mut items: u32 = 0;
+    cut(alloc, source, |answer: Answer| {
+        if let Answer::Item(x) = answer {
+            items = items.wrapping_add(1);
+            if items % 3 == 0 {
+                (Answer::Failure(8), false)
+            } else if x == 2 {
+                (Answer::End, true)
+            } else {
+                (answer, false)
+            }
+        } else {
+            (answer, false)
+        }
+    })
+}
