@@ -47,7 +47,7 @@ where
     it.iterator().take(10).count()
 }
 
-/// The last answer behind the second item of any fallible iterator, which std reads: none where nothing comes behind it. Or the failure that comes before.
+/// The last answer behind the second item of any fallible iterator, which std reads: none where nothing comes behind it. Or the failure that comes before. No clause says what comes of fewer than two.
 pub fn last_behind_two<I: FallibleIterator>(
     mut it: I,
 ) -> Result<Option<Result<I::Item, I::Error>>, I::Error>
@@ -80,7 +80,7 @@ pub fn failures(readings: Vec<Result<u32, u8>>) -> u32
     failures
 }
 
-/// The last item behind the first of any fallible iterator that can't fail: none where nothing comes behind it.
+/// The last item behind the first of any fallible iterator that can't fail: none where nothing comes behind it. No clause says what comes where there is no first.
 pub fn last_behind_the_first<I: FallibleIterator>(mut it: I) -> Result<Option<I::Item>, I::Error>
 where
     I::Item: Drop,

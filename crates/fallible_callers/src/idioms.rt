@@ -1,9 +1,11 @@
 //! Idioms of Rust, over fallible iterators.
-ghost use Rattle.std.specs.Prelude.{◌≡◌, ◌+◌, ◌%◌, ◌^◌, ℕ, List, Option, Result, Some, None, Ok, Err};
-ghost use Rattle.fallible_iterator.specs.Lists.{Lists, behind_first, folded, nth_of, results, skipped, taken};
+ghost use Rattle.std.specs.Prelude.{◌≡◌, ◌+◌, ◌%◌, ◌^◌, ℕ, Bool, List, Option, Result, Some, None, Ok, Err, nat_lt};
+ghost use Rattle.fallible_iterator.specs.Closures.{IsCallable, call_at, takes_at};
+ghost use Rattle.fallible_iterator.specs.Filtering.Filter.{filter_parts};
+ghost use Rattle.fallible_iterator.specs.Lists.{Acts, Lists, behind_first, counted, filtered, folded, nth_of, results, skipped, taken};
 ghost use Rattle.fallible_callers.specs.declared.idioms.NoRow.{NoRow};
 
-use fallible_iterator::{FallibleIterator, Skip, Take, convert};
+use fallible_iterator::{FallibleIterator, Filter, Skip, Take, convert};
 
 // The sum and one more number, modulo 2 ^ 64.
 fn add(sum: u64, x: u32) -> Result<u64, u8>
@@ -77,6 +79,34 @@ where
         (taken size (skipped first l)) }
 {
     it.skip(first).take(size)
+}
+
+/// The items that a predicate keeps. A closure, which has no name, is a type parameter of the adapter that is returned.
+pub fn kept_by<I, F>(it: I, keep: F) -> Filter<I, F>
+where
+    I: FallibleIterator,
+    I::Item: Drop,
+    F: FnMut(&I::Item) -> Result<bool, I::Error>,
+    requires finite { I.contract.is_finite it }
+    requires callable { IsCallable (call_at F.FnMut) (takes_at F.FnMut)
+        (I.contract.may_give it) keep }
+    ensures parts { filter_parts result ≡ (it, Some keep) }
+    ensures lists { (h : I.Item → Result Bool I.Error) → Acts (call_at F.FnMut) keep h
+        → (l : List (Result I.Item I.Error)) → Lists I.contract.steps it l
+        → Lists ⟦<Filter<I, F> as FallibleIterator>⟧.contract.steps result (filtered h l) }
+{
+    it.filter(keep)
+}
+
+/// How many of the readings are above 100, or the first failure.
+pub fn count_kept(readings: Vec<Result<u32, u8>>) -> Result<usize, u8>
+    ensures { result ≡ counted (filtered (λ x. Ok (nat_lt 100 x)) (results readings.items)) }
+{
+    kept_by(
+        convert(readings.into_iter()),
+        |reading: &u32| Ok(*reading > 100),
+    )
+    .count()
 }
 
 // The sum of a number and the items, modulo 2 ^ 64, or the first failure.

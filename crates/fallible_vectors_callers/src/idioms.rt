@@ -1,7 +1,7 @@
 // What idioms and functions over any iterator answer.
 use fallible_callers::digits::number_ahead;
 use fallible_callers::generic::{last_or_code, sum_of_ahead, sum_of_all, sum_of_rows};
-use fallible_callers::idioms::{NoRow, page, query_one, sum_by_name, sum_of_cells};
+use fallible_callers::idioms::{NoRow, count_kept, page, query_one, sum_by_name, sum_of_cells};
 use fallible_callers::own::Span;
 use fallible_iterator::{FallibleIterator, convert};
 use std::alloc::{AllocError, Global};
@@ -51,9 +51,11 @@ fn one_row_is_asked_for(rt: HostRuntime) -> Result<(), Fail> {
 }
 
 #[test]
-fn a_page_and_all_cells(rt: HostRuntime) -> Result<(), Fail> {
+fn adapters_that_are_returned_and_all_cells(rt: HostRuntime) -> Result<(), Fail> {
     let all = readings(rt.alloc(), [Ok(1), Ok(2), Ok(4), Ok(8), Err(9)])?;
     assert_eq!(rt; page(convert(all.into_iter()), 1, 2).last(), Ok(Some(4)));
+    let above = readings(rt.alloc(), [Ok(100), Ok(101), Ok(300)])?;
+    assert_eq!(rt; count_kept(above), Ok(2));
     let first = readings(rt.alloc(), [Ok(1), Ok(2)])?;
     let second = readings(rt.alloc(), [Ok(40)])?;
     let table = Vec::from_array(rt.alloc(), [Ok(first), Ok(second)])?;
