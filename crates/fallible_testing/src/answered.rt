@@ -1,5 +1,5 @@
 //! What the next draws answer.
-ghost use Rattle.fallible_iterator.specs.Contract.{Stays};
+ghost use Rattle.fallible_iterator.specs.Contract.{KeptByDraws, Stays};
 ghost use Rattle.fallible_iterator.specs.Ends.{from_front};
 
 use fallible_iterator::laws::{answers, answers_at};
@@ -38,7 +38,7 @@ where
     I::Item: Debug + Drop + PartialEq,
     I::Error: Debug + Drop + PartialEq,
     requires { I.ends.can_next it.old }
-    ensures { Stays (from_front I.contract I.ends) it.old it.new }
+    ensures { KeptByDraws (from_front I.contract I.ends) it.old it.new }
 {
     let drawn = answers_at(rt.alloc(), it, sides)?;
     if drawn.as_slice() == expected {
