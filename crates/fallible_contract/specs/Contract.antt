@@ -78,8 +78,8 @@ module _ {S A E : Type 0} (m : Contract S A E) where
     pub lenders : m.lenders t ≡ m.lenders s
 
   -- no failure can ever come again
-  pub record NeverFails (s : S) : Type 0 where
-    pub at : (trace : List (Answered A E)) (t u : S) (e : E) → Run m.steps s trace t → m.steps t (Err e) u → ⊥
+  abbrev pub NeverFails : S → Type 0
+  NeverFails s = (trace : List (Answered A E)) (t u : S) (e : E) → Run m.steps s trace t → m.steps t (Err e) u → ⊥
 
   -- The same after any number of draws from one end; and what can never fail can't fail afterwards.
   pub record Stays (s t : S) : Type 0 where

@@ -25,7 +25,7 @@ module _ {S A E : Type 0} (m : Contract S A E) where
 
   -- what can never fail can't fail after a draw
   pub sure_after : (s t : S) (r : Answered A E) → m.steps s r t → NeverFails m s → NeverFails m t
-  sure_after s t r step sure = record { at = λ trace u v e ran fails. sure.at (r ∷ trace) u v e (t, step, ran) fails }
+  sure_after s t r step sure trace u v e ran fails = sure (r ∷ trace) u v e (t, step, ran) fails
 
   pub sure_run : (s : S) (trace : List (Answered A E)) (t : S) → Run m.steps s trace t → NeverFails m s → NeverFails m t
   sure_run s [] t ran never = subst (λ (u : S). NeverFails m u) ran never

@@ -8,7 +8,6 @@ use Rattle.std.proofs.iter.runs.Made.{took}
 use Rattle.std.proofs.iter.runs.Sources.{lists, as_is}
 use Rattle.std.specs.Result.{IsOk}
 use Rattle.fallible_contract.specs.Contract.{Contract, Lawful, NeverFails}
-use Rattle.fallible_contract.specs.Laws.Contract.{sure_after}
 use Rattle.fallible_contract.specs.Traces.{Answered}
 use Rattle.fallible_contract.specs.Lists.{AlwaysGives, Lists, result_answer, items}
 use Rattle.fallible_core.specs.Bridges.Unwrap.{unwrapped}
@@ -73,13 +72,17 @@ module _ {S A E : Type 0} (m : Contract S A E) where
   -- what can never fail did not fail now
   pub no_failure : (s t : S) (r : Answered A E) → NeverFails m s → m.steps s r t → IsOk r
   no_failure s t (Ok o) sure step = refl
-  no_failure s t (Err e) sure step = absurd (sure.at [] s t e refl step)
+  no_failure s t (Err e) sure step = absurd (sure [] s t e refl step)
+
+  -- and can't fail after a draw
+  sure_after : (s t : S) (r : Answered A E) → NeverFails m s → m.steps s r t → NeverFails m t
+  sure_after s t r sure step trace u v e ran fails = sure (r ∷ trace) u v e (t, step, ran) fails
 
   -- a draw of what can never fail is a call of std's `next` as std asks it to be
   pub progress : {V : Type 0} (view : V → S) → Lawful m → (s t : V) (o : Option A) → m.can_next (view s) → NeverFails m (view s) → m.steps (view s) (Ok o) (view t) → MakesProgress {S = V} {A = A} (λ v. m.can_next (view v) × NeverFails m (view v)) (λ v. m.remaining (view v)) s o t
   progress view l s t (Some x) c sure step =
       let g = l.kept_by_draw (view s) (Ok (Some x)) (view t) c step in
-      let later : m.can_next (view t) × NeverFails m (view t) = (g.can_next, sure_after m (view s) (view t) (Ok (Some x)) step sure) in
+      let later : m.can_next (view t) × NeverFails m (view t) = (g.can_next, sure_after (view s) (view t) (Ok (Some x)) sure step) in
       record { on = λ f. let less = g.answer.2 f in (later, less.0, less.1); keeps = later; rests = λ f. tt }
   progress view l s t None c sure step = record { on = λ f. tt; keeps = tt; rests = λ f. ((l.kept_by_draw (view s) (Ok None) (view t) c step).answer.1 f).0 }
 

@@ -19,12 +19,9 @@ module _ {S A E : Type 0} {m : Contract S A E} (l : Lawful m) where
   Q = peekable_contract m
 
   -- an item or an end that was drawn and is held comes next, as it came
-  sure_held_at : (s t : S) (o : Option A) → m.steps s (Ok o) t → NeverFails Q (s, None) → (trace : List (Answered A E)) (u v : S × Option (Option A)) (e : E) → Run Q.steps (t, Some o) trace u → Q.steps u (Err e) v → ⊥
-  sure_held_at s t o step never [] u v e ran fails = let d : Err e ≡ Ok o = (subst (λ (p : S × Option (Option A)). Q.steps p (Err e) v) (sym ran) fails).0 in absurd cc
-  sure_held_at s t o step never (r ∷ trace) u v e ((t', held'), held, ran) fails = never.at (r ∷ trace) u v e ((t', held'), (rw (held.0, held.1) step, held.2), ran) fails
-
   sure_held : (s t : S) (o : Option A) → m.steps s (Ok o) t → NeverFails Q (s, None) → NeverFails Q (t, Some o)
-  sure_held s t o step never = record { at = sure_held_at s t o step never }
+  sure_held s t o step never [] u v e ran fails = let d : Err e ≡ Ok o = (subst (λ (p : S × Option (Option A)). Q.steps p (Err e) v) (sym ran) fails).0 in absurd cc
+  sure_held s t o step never (r ∷ trace) u v e ((t', held'), held, ran) fails = never (r ∷ trace) u v e ((t', held'), (rw (held.0, held.1) step, held.2), ran) fails
 
   -- an item that was drawn is held
   item_stays : (s t : S) (x : A) → m.steps s (item x) t → KeptByDraw m s (item x) t → Stays Q (s, None) (t, Some (Some x))
