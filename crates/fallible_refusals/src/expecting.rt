@@ -1,5 +1,5 @@
 // What a clone that is refused leaves.
-ghost use Rattle.fallible_iterator.specs.Contract.{Stays};
+ghost use Rattle.fallible_iterator.specs.Contract.{KeptByDraws};
 
 use crate::requests::Requests;
 use fallible_iterator::laws::answers;
@@ -68,7 +68,7 @@ where
     I::Item: Debug + Drop + PartialEq,
     I::Error: Debug + Drop + PartialEq,
     requires { I.contract.can_next it.old }
-    ensures { Stays I.contract it.old it.new }
+    ensures { KeptByDraws I.contract it.old it.new }
 {
     let drawn = answers(rt.alloc(), it, expected.len())?;
     if drawn.as_slice() == expected {

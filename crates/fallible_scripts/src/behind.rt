@@ -1,5 +1,5 @@
 // Folds from behind go through the source's own.
-ghost use Rattle.fallible_iterator.specs.Contract.{Stays};
+ghost use Rattle.fallible_iterator.specs.Contract.{KeptByDraws};
 ghost use Rattle.fallible_iterator.specs.Ends.{from_back};
 
 use crate::calls::Calls;
@@ -17,7 +17,7 @@ fn digits_from_behind<I: DoubleEndedFallibleIterator<Item = u32, Error = u32>>(
 where
     requires can_next { I.ends.can_next it.old }
     requires finite { I.contract.is_finite it.old }
-    ensures { Stays (from_back I.contract I.ends) it.old it.new }
+    ensures { KeptByDraws (from_back I.contract I.ends) it.old it.new }
 {
     it.try_rfold(0, put_behind)
 }

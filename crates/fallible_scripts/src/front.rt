@@ -1,5 +1,5 @@
 // Folds from the front go through the source's own.
-ghost use Rattle.fallible_iterator.specs.Contract.{Stays};
+ghost use Rattle.fallible_iterator.specs.Contract.{KeptByDraws};
 
 use crate::calls::Calls;
 use crate::counted::{Counted, Log};
@@ -17,7 +17,7 @@ fn reached<I: FallibleIterator<Item = u32, Error = u32>>(
 ) -> Result<Option<u32>, u32>
 where
     requires { I.contract.can_next it.old }
-    ensures { Stays I.contract it.old it.new }
+    ensures { KeptByDraws I.contract it.old it.new }
 {
     it.nth(n)
 }
@@ -27,7 +27,7 @@ fn summed<I: FallibleIterator<Item = u32, Error = u32>>(it: &mut I) -> Result<u3
 where
     requires can_next { I.contract.can_next it.old }
     requires finite { I.contract.is_finite it.old }
-    ensures { Stays I.contract it.old it.new }
+    ensures { KeptByDraws I.contract it.old it.new }
 {
     it.try_fold(0, add_up)
 }

@@ -1,5 +1,5 @@
 // Nests in which one adapter works through another's fold, each beside the same nest drawn by `next` alone.
-ghost use Rattle.fallible_iterator.specs.Contract.{Stays};
+ghost use Rattle.fallible_iterator.specs.Contract.{KeptByDraws};
 
 use crate::shared::{below_three, is_even, stop, tens_of_even};
 use fallible_iterator::Answer::{End, Failure, Item};
@@ -21,7 +21,7 @@ fn digits<I: FallibleIterator<Item = u32, Error = u32>>(it: &mut I) -> (u32, Res
 where
     requires can_next { I.contract.can_next it.old }
     requires finite { I.contract.is_finite it.old }
-    ensures { Stays I.contract it.old it.new }
+    ensures { KeptByDraws I.contract it.old it.new }
 {
     let mut digits: u32 = 0;
     let ended = it.try_fold((), |_: (), x: u32| {

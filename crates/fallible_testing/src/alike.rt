@@ -1,5 +1,5 @@
 //! What a clone and its original answer.
-ghost use Rattle.fallible_iterator.specs.Contract.{Stays};
+ghost use Rattle.fallible_iterator.specs.Contract.{KeptByDraws};
 
 use crate::answered::expect_answers;
 use fallible_iterator::{Answer, FallibleIterator};
@@ -17,7 +17,7 @@ where
     I::Error: Debug + Drop + PartialEq,
     requires can_next { I.contract.can_next it.old }
     requires clones { (c : I) → I.is_clone it.old c → I.contract.can_next c }
-    ensures { Stays I.contract it.old it.new }
+    ensures { KeptByDraws I.contract it.old it.new }
 {
     let mut first = it.clone()?;
     let mut last = it.clone()?;

@@ -1,5 +1,5 @@
 //! What the next draws answer.
-ghost use Rattle.fallible_iterator.specs.Contract.{KeptByDraws, Stays};
+ghost use Rattle.fallible_iterator.specs.Contract.{KeptByDraws};
 ghost use Rattle.fallible_iterator.specs.Ends.{from_front};
 
 use fallible_iterator::laws::{answers, answers_at};
@@ -17,7 +17,7 @@ where
     I::Item: Debug + Drop + PartialEq,
     I::Error: Debug + Drop + PartialEq,
     requires { I.contract.can_next it.old }
-    ensures { Stays I.contract it.old it.new }
+    ensures { KeptByDraws I.contract it.old it.new }
 {
     let drawn = answers(rt.alloc(), it, expected.len())?;
     if drawn.as_slice() == expected {

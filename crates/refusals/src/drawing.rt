@@ -1,5 +1,5 @@
 // What the next draws answer.
-ghost use Rattle.fallible_iterator.specs.Contract.{Stays};
+ghost use Rattle.fallible_iterator.specs.Contract.{KeptByDraws};
 
 use fallible_iterator::FallibleIterator;
 use std::fmt::Debug;
@@ -11,7 +11,7 @@ where
     I::Item: Debug + Drop,
     I::Error: Debug + Drop,
     requires { I.contract.can_next it.old }
-    ensures { Stays I.contract it.old it.new }
+    ensures { KeptByDraws I.contract it.old it.new }
 {
     let first = it.draw();
     let second = it.draw();

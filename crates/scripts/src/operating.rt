@@ -1,6 +1,6 @@
 //! Does an operation with any nest.
 ghost use Rattle.std.specs.Prelude.{◌-◌, ◌^◌};
-ghost use Rattle.fallible_iterator.specs.Contract.{AtMost, Stays};
+ghost use Rattle.fallible_iterator.specs.Contract.{AtMost, KeptByDraws};
 
 use crate::answer::{Answer, Coded, Failed, Seen};
 use crate::case::Run;
@@ -110,7 +110,7 @@ where
     I: FallibleIterator<Error = Failed>,
     I::Item: Coded,
     requires { I.contract.can_next it.old }
-    ensures { Stays I.contract it.old it.new }
+    ensures { KeptByDraws I.contract it.old it.new }
 {
     let answer = Answer::of(it.draw());
     Seen {
@@ -126,7 +126,7 @@ where
     I: FallibleIterator<Error = Failed>,
     I::Item: Coded,
     requires { I.contract.can_next it.old }
-    ensures { Stays I.contract it.old it.new }
+    ensures { KeptByDraws I.contract it.old it.new }
 {
     [
         next_answer(it, draws),
@@ -148,7 +148,7 @@ where
     I::Item: Coded,
     requires can_next { I.contract.can_next it.old }
     requires finite { I.contract.is_finite it.old }
-    ensures { Stays I.contract it.old it.new }
+    ensures { KeptByDraws I.contract it.old it.new }
 {
     let mut passed = Passed::none();
     for _ in 0..j {
@@ -167,7 +167,7 @@ where
     I::Item: Coded,
     requires can_next { I.contract.can_next it.old }
     requires finite { I.contract.is_finite it.old }
-    ensures { Stays I.contract it.old it.new }
+    ensures { KeptByDraws I.contract it.old it.new }
 {
     match call {
         Borrowing::TryFold => try_folded(it, j),
@@ -187,7 +187,7 @@ where
     I::Item: Coded,
     requires can_next { I.contract.can_next it.old }
     requires finite { I.contract.is_finite it.old }
-    ensures { Stays I.contract it.old it.new }
+    ensures { KeptByDraws I.contract it.old it.new }
 {
     let mut passed = Passed::none();
     let mut reached = 0;
@@ -219,7 +219,7 @@ where
     I::Item: Coded,
     requires can_next { I.contract.can_next it.old }
     requires finite { I.contract.is_finite it.old }
-    ensures { Stays I.contract it.old it.new }
+    ensures { KeptByDraws I.contract it.old it.new }
 {
     let mut passed = Passed::none();
     let found = it.find(|x: &I::Item| {
@@ -240,7 +240,7 @@ where
     I::Item: Coded,
     requires can_next { I.contract.can_next it.old }
     requires finite { I.contract.is_finite it.old }
-    ensures { Stays I.contract it.old it.new }
+    ensures { KeptByDraws I.contract it.old it.new }
 {
     let mut passed = Passed::none();
     let found: Result<Option<u32>, Failed> = it.find_map(|x: I::Item| {
@@ -262,7 +262,7 @@ where
     requires can_next { I.contract.can_next it.old }
     requires finite { I.contract.is_finite it.old }
     requires fits { AtMost I.contract it.old (2 ^ 64 - 1) }
-    ensures { Stays I.contract it.old it.new }
+    ensures { KeptByDraws I.contract it.old it.new }
 {
     let mut passed = Passed::none();
     let placed = it.position(|x: I::Item| {
@@ -288,7 +288,7 @@ where
     I::Item: Coded,
     requires can_next { I.contract.can_next it.old }
     requires finite { I.contract.is_finite it.old }
-    ensures { Stays I.contract it.old it.new }
+    ensures { KeptByDraws I.contract it.old it.new }
 {
     let mut passed = Passed::none();
     let all = it.all(|x: I::Item| {
@@ -309,7 +309,7 @@ where
     I::Item: Coded,
     requires can_next { I.contract.can_next it.old }
     requires finite { I.contract.is_finite it.old }
-    ensures { Stays I.contract it.old it.new }
+    ensures { KeptByDraws I.contract it.old it.new }
 {
     let mut passed = Passed::none();
     let any = it.any(|x: I::Item| {

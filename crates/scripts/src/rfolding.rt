@@ -1,6 +1,6 @@
 //! Does an operation with any nest that has two ends, from behind.
 ghost use Rattle.std.specs.Prelude.{◌-◌, ◌^◌};
-ghost use Rattle.fallible_iterator.specs.Contract.{AtMost, Stays};
+ghost use Rattle.fallible_iterator.specs.Contract.{AtMost, KeptByDraws};
 ghost use Rattle.fallible_iterator.specs.Ends.{from_back};
 
 use crate::answer::{Answer, Coded, Failed, Seen};
@@ -75,7 +75,7 @@ where
     I: DoubleEndedFallibleIterator<Error = Failed>,
     I::Item: Coded,
     requires { I.ends.can_next it.old }
-    ensures { Stays (from_back I.contract I.ends) it.old it.new }
+    ensures { KeptByDraws (from_back I.contract I.ends) it.old it.new }
 {
     let answer = Answer::of(it.draw_back());
     Seen {
@@ -91,7 +91,7 @@ where
     I: DoubleEndedFallibleIterator<Error = Failed>,
     I::Item: Coded,
     requires { I.ends.can_next it.old }
-    ensures { Stays (from_back I.contract I.ends) it.old it.new }
+    ensures { KeptByDraws (from_back I.contract I.ends) it.old it.new }
 {
     [
         last_answer(it, draws),
@@ -112,7 +112,7 @@ where
     I: DoubleEndedFallibleIterator<Error = Failed>,
     I::Item: Coded,
     requires can_next { I.ends.can_next it.old }
-    ensures { Stays (from_back I.contract I.ends) it.old it.new }
+    ensures { KeptByDraws (from_back I.contract I.ends) it.old it.new }
 {
     let mut passed = Passed::none();
     for _ in 0..j {
@@ -132,7 +132,7 @@ where
     I::Item: Coded,
     requires can_next { I.ends.can_next it.old }
     requires finite { I.contract.is_finite it.old }
-    ensures { Stays (from_back I.contract I.ends) it.old it.new }
+    ensures { KeptByDraws (from_back I.contract I.ends) it.old it.new }
 {
     let mut passed = Passed::none();
     let mut reached = 0;
