@@ -1,19 +1,19 @@
 //! Adapters with two ends, over twins that are drawn from behind, by calls from behind and through `rev`.
-ghost use Rattle.std.specs.Prelude.{◌-◌, ◌^◌};
+ghost use Rattle.std.specs.Prelude.{ℕ, ◌+◌, ◌*◌, ◌≤◌, ◌-◌, ◌^◌};
 
 use crate::answer::{Answer, Failed, Seen};
 use crate::case::{Case, Given, Run};
-use crate::joining::BESIDE;
-use crate::lists::whole;
+use crate::filtering::{FilterMappedByCalls, FilteredByCalls};
+use crate::joining::{BESIDE, ChainedBehind, ChainedInFront};
+use crate::layers::Layer;
+use crate::one_to_one::{ClonesOfMapped, FailuresMapped, InspectedByCalls, MappedByCalls};
 use crate::operation::Outcome;
 use crate::rfolding::operate_behind;
-use crate::rules::{
-    POINTED_TO, by_calls, chained, failures_mapped_by_calls, filter_mapped_by_calls,
-    filtered_by_calls, inspected_by_calls, mapped_by_calls, pointed_to, unchanged,
-};
+use crate::rules::{POINTED_TO, by_calls, unchanged};
 use crate::script::Twin;
-use fallible_iterator::FallibleIterator;
+use fallible_iterator::{DoubleEndedFallibleIterator, FallibleIterator};
 use std::alloc::AllocError;
+use std::marker::PhantomData;
 
 /// What the end that is not drawn from gives.
 pub const NOTHING: [Answer; 4] = [Answer::End, Answer::End, Answer::End, Answer::End];
@@ -59,18 +59,77 @@ impl Case for ReversedTwice {
     }
 }
 
-/// `map` to ten times the item and how often the closure was called, which fails with 8 on each third call.
-pub struct MappedBehind;
+/// What is done with a source that has two ends.
+pub trait VisitBehind {
+    // How many items the source under a layer that this is done with may have.
+    ghost most: { ℕ };
 
-impl Case for MappedBehind {
+    /// Does it. A layer gives at most four items for each of its source's, and four more.
+    fn visit<I>(run: &Run<'_>, it: I) -> Result<Option<Outcome>, AllocError>
+    where
+        I: DoubleEndedFallibleIterator<Item = u32, Error = Failed>,
+        requires can_next { I.ends.can_next it }
+        requires finite { I.contract.is_finite it }
+        requires fits { (n : ℕ) × I.contract.bound it n × (n ≤ 4 * most + 4) };
+}
+
+/// A layer that has two ends where its source has. From behind it has the same rule.
+pub trait LayerBehind: Layer {
+    /// Does with the adapter over the source what `V` does.
+    fn over_behind<I, V: VisitBehind>(run: &Run<'_>, it: I) -> Result<Option<Outcome>, AllocError>
+    where
+        I: DoubleEndedFallibleIterator<Item = u32, Error = Failed>,
+        requires can_next { I.ends.can_next it }
+        requires finite { I.contract.is_finite it }
+        requires fits { (n : ℕ) × I.contract.bound it n × (n ≤ V.most) }
+        requires small { V.most ≤ 1000 };
+}
+
+/// Does the operation of the run from behind.
+pub struct OperatedBehind;
+
+impl VisitBehind for OperatedBehind {
+    ghost most = { 4 };
+
+    fn visit<I>(run: &Run<'_>, it: I) -> Result<Option<Outcome>, AllocError>
+    where
+        I: DoubleEndedFallibleIterator<Item = u32, Error = Failed>,
+    {
+        operate_behind(run, it)
+    }
+}
+
+/// The layer over a twin, from behind.
+pub struct OverBehind<L> {
+    layer: PhantomData<L>,
+}
+
+impl<L: LayerBehind> Case for OverBehind<L> {
     fn name() -> &'static str {
-        "map, by calls, from behind"
+        L::name()
+    }
+
+    fn source() -> &'static str {
+        "a twin, from behind"
     }
 
     fn perform(run: &Run<'_>) -> Result<Option<Outcome>, AllocError> {
         let mut twin = behind(run);
+        L::over_behind::<_, OperatedBehind>(run, &mut twin)
+    }
+
+    fn expected(given: &Given) -> Result<Vec<Seen>, AllocError> {
+        L::rule(given.alloc, given.all.as_slice(), 0)
+    }
+}
+
+impl LayerBehind for MappedByCalls {
+    fn over_behind<I, V: VisitBehind>(run: &Run<'_>, it: I) -> Result<Option<Outcome>, AllocError>
+    where
+        I: DoubleEndedFallibleIterator<Item = u32, Error = Failed>,
+    {
         let mut calls: u32 = 0;
-        let nest = (&mut twin).map(|x: u32| {
+        let nest = it.map(|x: u32| {
             calls = calls.wrapping_add(1);
             if calls % 3 == 0 {
                 Err(Failed(8))
@@ -78,26 +137,17 @@ impl Case for MappedBehind {
                 Ok(x.wrapping_mul(10).wrapping_add(calls))
             }
         });
-        operate_behind(run, nest)
-    }
-
-    fn expected(given: &Given) -> Result<Vec<Seen>, AllocError> {
-        mapped_by_calls(given.alloc, given.all.as_slice())
+        V::visit(run, nest)
     }
 }
 
-/// `inspect`, which fails with 8 on each third call.
-pub struct InspectedBehind;
-
-impl Case for InspectedBehind {
-    fn name() -> &'static str {
-        "inspect, by calls, from behind"
-    }
-
-    fn perform(run: &Run<'_>) -> Result<Option<Outcome>, AllocError> {
-        let mut twin = behind(run);
+impl LayerBehind for InspectedByCalls {
+    fn over_behind<I, V: VisitBehind>(run: &Run<'_>, it: I) -> Result<Option<Outcome>, AllocError>
+    where
+        I: DoubleEndedFallibleIterator<Item = u32, Error = Failed>,
+    {
         let mut calls: u32 = 0;
-        let nest = (&mut twin).inspect(|_: &u32| {
+        let nest = it.inspect(|_: &u32| {
             calls = calls.wrapping_add(1);
             if calls % 3 == 0 {
                 Err(Failed(8))
@@ -105,94 +155,56 @@ impl Case for InspectedBehind {
                 Ok(())
             }
         });
-        operate_behind(run, nest)
-    }
-
-    fn expected(given: &Given) -> Result<Vec<Seen>, AllocError> {
-        inspected_by_calls(given.alloc, given.all.as_slice())
+        V::visit(run, nest)
     }
 }
 
-/// `map_err` to 100 more and how often the closure was called.
-pub struct FailuresMappedBehind;
-
-impl Case for FailuresMappedBehind {
-    fn name() -> &'static str {
-        "map_err, by calls, from behind"
-    }
-
-    fn perform(run: &Run<'_>) -> Result<Option<Outcome>, AllocError> {
-        let mut twin = behind(run);
+impl LayerBehind for FailuresMapped {
+    fn over_behind<I, V: VisitBehind>(run: &Run<'_>, it: I) -> Result<Option<Outcome>, AllocError>
+    where
+        I: DoubleEndedFallibleIterator<Item = u32, Error = Failed>,
+    {
         let mut calls: u32 = 0;
-        let nest = (&mut twin).map_err(|e: Failed| {
+        let nest = it.map_err(|e: Failed| {
             calls = calls.wrapping_add(1);
             Failed(e.0.wrapping_add(100).wrapping_add(calls))
         });
-        operate_behind(run, nest)
-    }
-
-    fn expected(given: &Given) -> Result<Vec<Seen>, AllocError> {
-        failures_mapped_by_calls(given.alloc, given.all.as_slice())
+        V::visit(run, nest)
     }
 }
 
-/// `cloned` of a reference for each item.
-pub struct ClonedBehind;
-
-impl Case for ClonedBehind {
-    fn name() -> &'static str {
-        "cloned of map, from behind"
-    }
-
-    fn perform(run: &Run<'_>) -> Result<Option<Outcome>, AllocError> {
-        let mut twin = behind(run);
+impl LayerBehind for ClonesOfMapped {
+    fn over_behind<I, V: VisitBehind>(run: &Run<'_>, it: I) -> Result<Option<Outcome>, AllocError>
+    where
+        I: DoubleEndedFallibleIterator<Item = u32, Error = Failed>,
+    {
         let numbers = &POINTED_TO;
-        let nest = (&mut twin)
-            .map(|x: u32| Ok(&numbers[(x % 8) as usize]))
-            .cloned();
-        operate_behind(run, nest)
-    }
-
-    fn expected(given: &Given) -> Result<Vec<Seen>, AllocError> {
-        pointed_to(given.alloc, given.all.as_slice())
+        let nest = it.map(|x: u32| Ok(&numbers[(x % 8) as usize])).cloned();
+        V::visit(run, nest)
     }
 }
 
-/// `filter` by a closure that is true on odd calls and fails with 8 on each third call.
-pub struct FilteredBehind;
-
-impl Case for FilteredBehind {
-    fn name() -> &'static str {
-        "filter, by calls, from behind"
-    }
-
-    fn perform(run: &Run<'_>) -> Result<Option<Outcome>, AllocError> {
-        let mut twin = behind(run);
+impl LayerBehind for FilteredByCalls {
+    fn over_behind<I, V: VisitBehind>(run: &Run<'_>, it: I) -> Result<Option<Outcome>, AllocError>
+    where
+        I: DoubleEndedFallibleIterator<Item = u32, Error = Failed>,
+    {
         let mut calls: u32 = 0;
-        let nest = (&mut twin).filter(|_: &u32| {
+        let nest = it.filter(|_: &u32| {
             calls = calls.wrapping_add(1);
             by_calls(calls).map_err(Failed)
         });
-        operate_behind(run, nest)
-    }
-
-    fn expected(given: &Given) -> Result<Vec<Seen>, AllocError> {
-        filtered_by_calls(given.alloc, given.all.as_slice())
+        V::visit(run, nest)
     }
 }
 
-/// `filter_map` to ten times the item and how often the closure was called, on odd calls; it fails with 8 on each third call.
-pub struct FilterMappedBehind;
-
-impl Case for FilterMappedBehind {
-    fn name() -> &'static str {
-        "filter_map, by calls, from behind"
-    }
-
-    fn perform(run: &Run<'_>) -> Result<Option<Outcome>, AllocError> {
-        let mut twin = behind(run);
+impl LayerBehind for FilterMappedByCalls {
+    fn over_behind<I, V: VisitBehind>(run: &Run<'_>, it: I) -> Result<Option<Outcome>, AllocError>
+    where
+        I: DoubleEndedFallibleIterator<Item = u32, Error = Failed>,
+    {
         let mut calls: u32 = 0;
-        let nest = (&mut twin).filter_map(|x: u32| {
+        let nest = it.filter_map(|x: u32| {
             calls = calls.wrapping_add(1);
             match by_calls(calls) {
                 Ok(true) => Ok(Some(x.wrapping_mul(10).wrapping_add(calls))),
@@ -200,50 +212,28 @@ impl Case for FilterMappedBehind {
                 Err(e) => Err(Failed(e)),
             }
         });
-        operate_behind(run, nest)
-    }
-
-    fn expected(given: &Given) -> Result<Vec<Seen>, AllocError> {
-        filter_mapped_by_calls(given.alloc, given.all.as_slice())
+        V::visit(run, nest)
     }
 }
 
-/// `chain` of a twin and that of the script, which is drawn first from behind.
-pub struct ChainedFirst;
-
-impl Case for ChainedFirst {
-    fn name() -> &'static str {
-        "chain, behind, from behind"
-    }
-
-    fn perform(run: &Run<'_>) -> Result<Option<Outcome>, AllocError> {
-        let mut twin = behind(run);
+// From behind the source comes first where it is chained behind the other.
+impl LayerBehind for ChainedInFront {
+    fn over_behind<I, V: VisitBehind>(run: &Run<'_>, it: I) -> Result<Option<Outcome>, AllocError>
+    where
+        I: DoubleEndedFallibleIterator<Item = u32, Error = Failed>,
+    {
         let mut beside = Twin::new(run.other(NOTHING), run.other(BESIDE));
-        operate_behind(run, (&mut beside).chain(&mut twin))
-    }
-
-    fn expected(given: &Given) -> Result<Vec<Seen>, AllocError> {
-        let beside = whole(given.alloc, BESIDE)?;
-        chained(given.alloc, given.all.as_slice(), beside.as_slice())
+        V::visit(run, (&mut beside).chain(it))
     }
 }
 
-/// `chain` of the script's twin and another, which is drawn first from behind.
-pub struct ChainedSecond;
-
-impl Case for ChainedSecond {
-    fn name() -> &'static str {
-        "chain, in front, from behind"
-    }
-
-    fn perform(run: &Run<'_>) -> Result<Option<Outcome>, AllocError> {
-        let mut twin = behind(run);
+// From behind the source comes second where it is chained in front of the other.
+impl LayerBehind for ChainedBehind {
+    fn over_behind<I, V: VisitBehind>(run: &Run<'_>, it: I) -> Result<Option<Outcome>, AllocError>
+    where
+        I: DoubleEndedFallibleIterator<Item = u32, Error = Failed>,
+    {
         let mut beside = Twin::new(run.other(NOTHING), run.other(BESIDE));
-        operate_behind(run, (&mut twin).chain(&mut beside))
-    }
-
-    fn expected(given: &Given) -> Result<Vec<Seen>, AllocError> {
-        let beside = whole(given.alloc, BESIDE)?;
-        chained(given.alloc, beside.as_slice(), given.all.as_slice())
+        V::visit(run, it.chain(&mut beside))
     }
 }

@@ -3,6 +3,7 @@ ghost use Rattle.std.specs.Prelude.{◌-◌, ◌^◌};
 
 use crate::answer::{Answer, Failed, Seen};
 use crate::case::{Case, Given, Run};
+use crate::layers::{Layer, Visit};
 use crate::operating::operate;
 use crate::operation::Outcome;
 use crate::rules::{
@@ -10,7 +11,7 @@ use crate::rules::{
     taken_while_by_calls, taken_while_failing,
 };
 use fallible_iterator::FallibleIterator;
-use std::alloc::AllocError;
+use std::alloc::{AllocError, Global};
 
 /// `take(0)`.
 pub struct TakenNone;
@@ -35,18 +36,20 @@ impl Case for TakenNone {
 /// `take(2)`.
 pub struct TakenTwo;
 
-impl Case for TakenTwo {
+impl Layer for TakenTwo {
     fn name() -> &'static str {
         "take(2)"
     }
 
-    fn perform(run: &Run<'_>) -> Result<Option<Outcome>, AllocError> {
-        let mut script = run.script();
-        operate(run, (&mut script).take(2))
+    fn over<I, V: Visit>(run: &Run<'_>, it: I) -> Result<Option<Outcome>, AllocError>
+    where
+        I: FallibleIterator<Item = u32, Error = Failed>,
+    {
+        V::visit(run, it.take(2))
     }
 
-    fn expected(given: &Given) -> Result<Vec<Seen>, AllocError> {
-        taken(given.alloc, given.all.as_slice(), 2)
+    fn rule(alloc: Global, source: &[Seen], _made: u32) -> Result<Vec<Seen>, AllocError> {
+        taken(alloc, source, 2)
     }
 }
 
@@ -77,24 +80,26 @@ impl Case for TakenWhile {
 /// `take_while` by a closure that fails with 8 on its first call, is true on the second, and false on the third.
 pub struct TakenWhileByCalls;
 
-impl Case for TakenWhileByCalls {
+impl Layer for TakenWhileByCalls {
     fn name() -> &'static str {
         "take_while, by calls"
     }
 
-    fn perform(run: &Run<'_>) -> Result<Option<Outcome>, AllocError> {
-        let mut script = run.script();
+    fn over<I, V: Visit>(run: &Run<'_>, it: I) -> Result<Option<Outcome>, AllocError>
+    where
+        I: FallibleIterator<Item = u32, Error = Failed>,
+    {
         let mut calls: u32 = 0;
-        let nest = (&mut script).take_while(|_: &u32| {
+        let nest = it.take_while(|_: &u32| {
             let before = calls;
             calls = calls.wrapping_add(1);
             by_calls(before).map_err(Failed)
         });
-        operate(run, nest)
+        V::visit(run, nest)
     }
 
-    fn expected(given: &Given) -> Result<Vec<Seen>, AllocError> {
-        taken_while_by_calls(given.alloc, given.all.as_slice())
+    fn rule(alloc: Global, source: &[Seen], _made: u32) -> Result<Vec<Seen>, AllocError> {
+        taken_while_by_calls(alloc, source)
     }
 }
 
@@ -151,36 +156,40 @@ impl Case for TakenWhileFailing {
 /// `fuse`.
 pub struct Fused;
 
-impl Case for Fused {
+impl Layer for Fused {
     fn name() -> &'static str {
         "fuse"
     }
 
-    fn perform(run: &Run<'_>) -> Result<Option<Outcome>, AllocError> {
-        let mut script = run.script();
-        operate(run, (&mut script).fuse())
+    fn over<I, V: Visit>(run: &Run<'_>, it: I) -> Result<Option<Outcome>, AllocError>
+    where
+        I: FallibleIterator<Item = u32, Error = Failed>,
+    {
+        V::visit(run, it.fuse())
     }
 
-    fn expected(given: &Given) -> Result<Vec<Seen>, AllocError> {
-        fused(given.alloc, given.all.as_slice())
+    fn rule(alloc: Global, source: &[Seen], _made: u32) -> Result<Vec<Seen>, AllocError> {
+        fused(alloc, source)
     }
 }
 
 /// `skip(1)`.
 pub struct SkippedOne;
 
-impl Case for SkippedOne {
+impl Layer for SkippedOne {
     fn name() -> &'static str {
         "skip(1)"
     }
 
-    fn perform(run: &Run<'_>) -> Result<Option<Outcome>, AllocError> {
-        let mut script = run.script();
-        operate(run, (&mut script).skip(1))
+    fn over<I, V: Visit>(run: &Run<'_>, it: I) -> Result<Option<Outcome>, AllocError>
+    where
+        I: FallibleIterator<Item = u32, Error = Failed>,
+    {
+        V::visit(run, it.skip(1))
     }
 
-    fn expected(given: &Given) -> Result<Vec<Seen>, AllocError> {
-        skipped(given.alloc, given.all.as_slice(), 1)
+    fn rule(alloc: Global, source: &[Seen], _made: u32) -> Result<Vec<Seen>, AllocError> {
+        skipped(alloc, source, 1)
     }
 }
 
@@ -205,18 +214,20 @@ impl Case for SkippedTwo {
 /// `step_by(2)`.
 pub struct SteppedByTwo;
 
-impl Case for SteppedByTwo {
+impl Layer for SteppedByTwo {
     fn name() -> &'static str {
         "step_by(2)"
     }
 
-    fn perform(run: &Run<'_>) -> Result<Option<Outcome>, AllocError> {
-        let mut script = run.script();
-        operate(run, (&mut script).step_by(2))
+    fn over<I, V: Visit>(run: &Run<'_>, it: I) -> Result<Option<Outcome>, AllocError>
+    where
+        I: FallibleIterator<Item = u32, Error = Failed>,
+    {
+        V::visit(run, it.step_by(2))
     }
 
-    fn expected(given: &Given) -> Result<Vec<Seen>, AllocError> {
-        stepped(given.alloc, given.all.as_slice(), 2)
+    fn rule(alloc: Global, source: &[Seen], _made: u32) -> Result<Vec<Seen>, AllocError> {
+        stepped(alloc, source, 2)
     }
 }
 

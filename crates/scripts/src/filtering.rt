@@ -3,6 +3,7 @@ ghost use Rattle.std.specs.Prelude.{◌-◌, ◌^◌};
 
 use crate::answer::{Answer, Failed, Seen};
 use crate::case::{Case, Given, Run};
+use crate::layers::{Layer, Visit};
 use crate::operating::operate;
 use crate::operation::Outcome;
 use crate::rules::{
@@ -10,7 +11,7 @@ use crate::rules::{
     skipped_while_failing,
 };
 use fallible_iterator::FallibleIterator;
-use std::alloc::AllocError;
+use std::alloc::{AllocError, Global};
 
 /// `filter` that keeps 2.
 pub struct Filtered;
@@ -39,23 +40,25 @@ impl Case for Filtered {
 /// `filter` by a closure that is true on odd calls and fails with 8 on each third call.
 pub struct FilteredByCalls;
 
-impl Case for FilteredByCalls {
+impl Layer for FilteredByCalls {
     fn name() -> &'static str {
         "filter, by calls"
     }
 
-    fn perform(run: &Run<'_>) -> Result<Option<Outcome>, AllocError> {
-        let mut script = run.script();
+    fn over<I, V: Visit>(run: &Run<'_>, it: I) -> Result<Option<Outcome>, AllocError>
+    where
+        I: FallibleIterator<Item = u32, Error = Failed>,
+    {
         let mut calls: u32 = 0;
-        let nest = (&mut script).filter(|_: &u32| {
+        let nest = it.filter(|_: &u32| {
             calls = calls.wrapping_add(1);
             by_calls(calls).map_err(Failed)
         });
-        operate(run, nest)
+        V::visit(run, nest)
     }
 
-    fn expected(given: &Given) -> Result<Vec<Seen>, AllocError> {
-        filtered_by_calls(given.alloc, given.all.as_slice())
+    fn rule(alloc: Global, source: &[Seen], _made: u32) -> Result<Vec<Seen>, AllocError> {
+        filtered_by_calls(alloc, source)
     }
 }
 
@@ -89,15 +92,17 @@ impl Case for FilterMapped {
 /// `filter_map` to ten times the item and how often the closure was called, on odd calls; it fails with 8 on each third call.
 pub struct FilterMappedByCalls;
 
-impl Case for FilterMappedByCalls {
+impl Layer for FilterMappedByCalls {
     fn name() -> &'static str {
         "filter_map, by calls"
     }
 
-    fn perform(run: &Run<'_>) -> Result<Option<Outcome>, AllocError> {
-        let mut script = run.script();
+    fn over<I, V: Visit>(run: &Run<'_>, it: I) -> Result<Option<Outcome>, AllocError>
+    where
+        I: FallibleIterator<Item = u32, Error = Failed>,
+    {
         let mut calls: u32 = 0;
-        let nest = (&mut script).filter_map(|x: u32| {
+        let nest = it.filter_map(|x: u32| {
             calls = calls.wrapping_add(1);
             match by_calls(calls) {
                 Ok(true) => Ok(Some(x.wrapping_mul(10).wrapping_add(calls))),
@@ -105,11 +110,11 @@ impl Case for FilterMappedByCalls {
                 Err(e) => Err(Failed(e)),
             }
         });
-        operate(run, nest)
+        V::visit(run, nest)
     }
 
-    fn expected(given: &Given) -> Result<Vec<Seen>, AllocError> {
-        filter_mapped_by_calls(given.alloc, given.all.as_slice())
+    fn rule(alloc: Global, source: &[Seen], _made: u32) -> Result<Vec<Seen>, AllocError> {
+        filter_mapped_by_calls(alloc, source)
     }
 }
 
@@ -142,24 +147,26 @@ impl Case for SkippedWhile {
 /// `skip_while` by a closure that fails with 8 on its first call, is true on the second, and false on the third.
 pub struct SkippedWhileByCalls;
 
-impl Case for SkippedWhileByCalls {
+impl Layer for SkippedWhileByCalls {
     fn name() -> &'static str {
         "skip_while, by calls"
     }
 
-    fn perform(run: &Run<'_>) -> Result<Option<Outcome>, AllocError> {
-        let mut script = run.script();
+    fn over<I, V: Visit>(run: &Run<'_>, it: I) -> Result<Option<Outcome>, AllocError>
+    where
+        I: FallibleIterator<Item = u32, Error = Failed>,
+    {
         let mut calls: u32 = 0;
-        let nest = (&mut script).skip_while(|_: &u32| {
+        let nest = it.skip_while(|_: &u32| {
             let before = calls;
             calls = calls.wrapping_add(1);
             by_calls(before).map_err(Failed)
         });
-        operate(run, nest)
+        V::visit(run, nest)
     }
 
-    fn expected(given: &Given) -> Result<Vec<Seen>, AllocError> {
-        skipped_while_by_calls(given.alloc, given.all.as_slice())
+    fn rule(alloc: Global, source: &[Seen], _made: u32) -> Result<Vec<Seen>, AllocError> {
+        skipped_while_by_calls(alloc, source)
     }
 }
 

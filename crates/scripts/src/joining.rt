@@ -3,12 +3,13 @@ ghost use Rattle.std.specs.Prelude.{◌-◌, ◌^◌};
 
 use crate::answer::{Answer, Failed, Seen};
 use crate::case::{Case, Given, Run};
+use crate::layers::{Layer, Visit};
 use crate::lists::whole;
 use crate::operating::operate;
 use crate::operation::Outcome;
-use crate::rules::{chained, cycled, each, joined, taken, zipped};
+use crate::rules::{chained, chained_after, cycled, each, joined, taken, zipped};
 use fallible_iterator::FallibleIterator;
-use std::alloc::AllocError;
+use std::alloc::{AllocError, Global};
 
 /// What stands beside the script: an item, a failure, an end, and an item.
 pub const BESIDE: [Answer; 4] = [
@@ -18,43 +19,47 @@ pub const BESIDE: [Answer; 4] = [
     Answer::Item(7),
 ];
 
-/// The script chained with another.
+/// The source chained with a script.
 pub struct ChainedInFront;
 
-impl Case for ChainedInFront {
+impl Layer for ChainedInFront {
     fn name() -> &'static str {
         "chain, in front"
     }
 
-    fn perform(run: &Run<'_>) -> Result<Option<Outcome>, AllocError> {
-        let mut script = run.script();
+    fn over<I, V: Visit>(run: &Run<'_>, it: I) -> Result<Option<Outcome>, AllocError>
+    where
+        I: FallibleIterator<Item = u32, Error = Failed>,
+    {
         let mut beside = run.other(BESIDE);
-        operate(run, (&mut script).chain(&mut beside))
+        V::visit(run, it.chain(&mut beside))
     }
 
-    fn expected(given: &Given) -> Result<Vec<Seen>, AllocError> {
-        let beside = whole(given.alloc, BESIDE)?;
-        chained(given.alloc, given.all.as_slice(), beside.as_slice())
+    fn rule(alloc: Global, source: &[Seen], _made: u32) -> Result<Vec<Seen>, AllocError> {
+        let beside = whole(alloc, BESIDE)?;
+        chained(alloc, source, beside.as_slice())
     }
 }
 
-/// Another script chained with the script.
+/// A script chained with the source.
 pub struct ChainedBehind;
 
-impl Case for ChainedBehind {
+impl Layer for ChainedBehind {
     fn name() -> &'static str {
         "chain, behind"
     }
 
-    fn perform(run: &Run<'_>) -> Result<Option<Outcome>, AllocError> {
-        let mut script = run.script();
+    fn over<I, V: Visit>(run: &Run<'_>, it: I) -> Result<Option<Outcome>, AllocError>
+    where
+        I: FallibleIterator<Item = u32, Error = Failed>,
+    {
         let mut beside = run.other(BESIDE);
-        operate(run, (&mut beside).chain(&mut script))
+        V::visit(run, (&mut beside).chain(it))
     }
 
-    fn expected(given: &Given) -> Result<Vec<Seen>, AllocError> {
-        let beside = whole(given.alloc, BESIDE)?;
-        chained(given.alloc, beside.as_slice(), given.all.as_slice())
+    fn rule(alloc: Global, source: &[Seen], made: u32) -> Result<Vec<Seen>, AllocError> {
+        let beside = whole(alloc, BESIDE)?;
+        chained_after(alloc, beside.as_slice(), source, made)
     }
 }
 

@@ -2,37 +2,31 @@
 #![tactic(auto)]
 
 mod answer;
-mod bases;
 mod behind;
 mod case;
 mod comparing;
 mod consuming;
 mod cutting;
-mod cycling;
 mod driving;
 mod filtering;
 mod joining;
-mod layered;
 mod layers;
 mod lists;
 mod nests;
 mod one_to_one;
 mod operating;
 mod operation;
-mod pairs;
-mod pairs_behind;
 mod peeking;
 mod rfolding;
 mod rows;
 mod rules;
 mod script;
 
+use behind::OverBehind;
 use comparing::drive_comparisons;
 use consuming::drive_consumers;
-use cycling::drive_cycles;
 use driving::{Tally, drive};
-use pairs::drive_pairs;
-use pairs_behind::drive_pairs_behind;
+use layers::Over;
 use rows::drive_rows;
 use std::io;
 
@@ -47,9 +41,6 @@ fn main(rt: HostRuntime) -> io::Result<()> {
     drive_rows(&rt, &mut total)?;
     drive_consumers(&rt, &mut total)?;
     drive_comparisons(&rt, &mut total)?;
-    drive_pairs(&rt, &mut total)?;
-    drive_cycles(&rt, &mut total)?;
-    drive_pairs_behind(&rt, &mut total)?;
     let cases = total.cases;
     let mismatches = total.mismatches;
     println!(rt; "in all: {cases} cases, {mismatches} mismatches")
@@ -58,44 +49,45 @@ fn main(rt: HostRuntime) -> io::Result<()> {
 fn drive_one_to_one(rt: &HostRuntime, total: &mut Tally) -> io::Result<()> {
     drive::<one_to_one::Borrowed>(rt, total)?;
     drive::<one_to_one::Mapped>(rt, total)?;
-    drive::<one_to_one::MappedByCalls>(rt, total)?;
+    drive::<Over<one_to_one::MappedByCalls>>(rt, total)?;
     drive::<one_to_one::Inspected>(rt, total)?;
-    drive::<one_to_one::InspectedByCalls>(rt, total)?;
-    drive::<one_to_one::FailuresMapped>(rt, total)?;
+    drive::<Over<one_to_one::InspectedByCalls>>(rt, total)?;
+    drive::<Over<one_to_one::FailuresMapped>>(rt, total)?;
     drive::<one_to_one::Clones>(rt, total)?;
-    drive::<one_to_one::Scanned>(rt, total)?;
-    drive::<one_to_one::MappedWhile>(rt, total)?;
+    drive::<Over<one_to_one::ClonesOfMapped>>(rt, total)?;
+    drive::<Over<one_to_one::Scanned>>(rt, total)?;
+    drive::<Over<one_to_one::MappedWhile>>(rt, total)?;
     drive::<one_to_one::Enumerated>(rt, total)
 }
 
 fn drive_filtering(rt: &HostRuntime, total: &mut Tally) -> io::Result<()> {
     drive::<filtering::Filtered>(rt, total)?;
-    drive::<filtering::FilteredByCalls>(rt, total)?;
+    drive::<Over<filtering::FilteredByCalls>>(rt, total)?;
     drive::<filtering::FilterMapped>(rt, total)?;
-    drive::<filtering::FilterMappedByCalls>(rt, total)?;
+    drive::<Over<filtering::FilterMappedByCalls>>(rt, total)?;
     drive::<filtering::SkippedWhile>(rt, total)?;
-    drive::<filtering::SkippedWhileByCalls>(rt, total)?;
+    drive::<Over<filtering::SkippedWhileByCalls>>(rt, total)?;
     drive::<filtering::SkippedWhileOddCalls>(rt, total)?;
     drive::<filtering::SkippedWhileFailing>(rt, total)
 }
 
 fn drive_cutting(rt: &HostRuntime, total: &mut Tally) -> io::Result<()> {
     drive::<cutting::TakenNone>(rt, total)?;
-    drive::<cutting::TakenTwo>(rt, total)?;
+    drive::<Over<cutting::TakenTwo>>(rt, total)?;
     drive::<cutting::TakenWhile>(rt, total)?;
-    drive::<cutting::TakenWhileByCalls>(rt, total)?;
+    drive::<Over<cutting::TakenWhileByCalls>>(rt, total)?;
     drive::<cutting::TakenWhileOddCalls>(rt, total)?;
     drive::<cutting::TakenWhileFailing>(rt, total)?;
-    drive::<cutting::Fused>(rt, total)?;
-    drive::<cutting::SkippedOne>(rt, total)?;
+    drive::<Over<cutting::Fused>>(rt, total)?;
+    drive::<Over<cutting::SkippedOne>>(rt, total)?;
     drive::<cutting::SkippedTwo>(rt, total)?;
-    drive::<cutting::SteppedByTwo>(rt, total)?;
+    drive::<Over<cutting::SteppedByTwo>>(rt, total)?;
     drive::<cutting::SteppedByThree>(rt, total)
 }
 
 fn drive_joining(rt: &HostRuntime, total: &mut Tally) -> io::Result<()> {
-    drive::<joining::ChainedInFront>(rt, total)?;
-    drive::<joining::ChainedBehind>(rt, total)?;
+    drive::<Over<joining::ChainedInFront>>(rt, total)?;
+    drive::<Over<joining::ChainedBehind>>(rt, total)?;
     drive::<joining::ZippedLeft>(rt, total)?;
     drive::<joining::ZippedRight>(rt, total)?;
     drive::<joining::FlattenedOuter>(rt, total)?;
@@ -107,7 +99,7 @@ fn drive_joining(rt: &HostRuntime, total: &mut Tally) -> io::Result<()> {
 
 fn drive_nests(rt: &HostRuntime, total: &mut Tally) -> io::Result<()> {
     drive::<peeking::Unpeeked>(rt, total)?;
-    drive::<peeking::Peeked>(rt, total)?;
+    drive::<Over<peeking::Peeked>>(rt, total)?;
     drive::<peeking::TakenIf>(rt, total)?;
     drive::<nests::FilteredMappedTaken>(rt, total)?;
     drive::<nests::ChainedFused>(rt, total)?;
@@ -118,12 +110,12 @@ fn drive_nests(rt: &HostRuntime, total: &mut Tally) -> io::Result<()> {
 fn drive_behind(rt: &HostRuntime, total: &mut Tally) -> io::Result<()> {
     drive::<behind::Reversed>(rt, total)?;
     drive::<behind::ReversedTwice>(rt, total)?;
-    drive::<behind::MappedBehind>(rt, total)?;
-    drive::<behind::InspectedBehind>(rt, total)?;
-    drive::<behind::FailuresMappedBehind>(rt, total)?;
-    drive::<behind::ClonedBehind>(rt, total)?;
-    drive::<behind::FilteredBehind>(rt, total)?;
-    drive::<behind::FilterMappedBehind>(rt, total)?;
-    drive::<behind::ChainedFirst>(rt, total)?;
-    drive::<behind::ChainedSecond>(rt, total)
+    drive::<OverBehind<one_to_one::MappedByCalls>>(rt, total)?;
+    drive::<OverBehind<one_to_one::InspectedByCalls>>(rt, total)?;
+    drive::<OverBehind<one_to_one::FailuresMapped>>(rt, total)?;
+    drive::<OverBehind<one_to_one::ClonesOfMapped>>(rt, total)?;
+    drive::<OverBehind<filtering::FilteredByCalls>>(rt, total)?;
+    drive::<OverBehind<filtering::FilterMappedByCalls>>(rt, total)?;
+    drive::<OverBehind<joining::ChainedInFront>>(rt, total)?;
+    drive::<OverBehind<joining::ChainedBehind>>(rt, total)
 }

@@ -3,15 +3,16 @@ ghost use Rattle.std.specs.Prelude.{◌-◌, ◌^◌};
 
 use crate::answer::{Answer, Failed, Seen};
 use crate::case::{Case, Given, Run};
+use crate::layers::{Layer, Visit};
 use crate::operating::operate;
 use crate::operation::Outcome;
 use crate::rules::{
-    by_calls, each, failures_mapped_by_calls, inspected_by_calls, mapped_by_calls,
-    mapped_while_by_calls, numbered, unchanged,
+    POINTED_TO, by_calls, each, failures_mapped_by_calls, inspected_by_calls, mapped_by_calls,
+    mapped_while_by_calls, numbered, pointed_to, unchanged,
 };
 use crate::script::Pointing;
 use fallible_iterator::FallibleIterator;
-use std::alloc::AllocError;
+use std::alloc::{AllocError, Global};
 
 /// A borrowed script itself.
 pub struct Borrowed;
@@ -65,15 +66,17 @@ impl Case for Mapped {
 /// `map` to ten times the item and how often the closure was called, which fails with 8 on each third call.
 pub struct MappedByCalls;
 
-impl Case for MappedByCalls {
+impl Layer for MappedByCalls {
     fn name() -> &'static str {
         "map, by calls"
     }
 
-    fn perform(run: &Run<'_>) -> Result<Option<Outcome>, AllocError> {
-        let mut script = run.script();
+    fn over<I, V: Visit>(run: &Run<'_>, it: I) -> Result<Option<Outcome>, AllocError>
+    where
+        I: FallibleIterator<Item = u32, Error = Failed>,
+    {
         let mut calls: u32 = 0;
-        let nest = (&mut script).map(|x: u32| {
+        let nest = it.map(|x: u32| {
             calls = calls.wrapping_add(1);
             if calls % 3 == 0 {
                 Err(Failed(8))
@@ -81,11 +84,11 @@ impl Case for MappedByCalls {
                 Ok(x.wrapping_mul(10).wrapping_add(calls))
             }
         });
-        operate(run, nest)
+        V::visit(run, nest)
     }
 
-    fn expected(given: &Given) -> Result<Vec<Seen>, AllocError> {
-        mapped_by_calls(given.alloc, given.all.as_slice())
+    fn rule(alloc: Global, source: &[Seen], _made: u32) -> Result<Vec<Seen>, AllocError> {
+        mapped_by_calls(alloc, source)
     }
 }
 
@@ -118,15 +121,17 @@ impl Case for Inspected {
 /// `inspect`, which fails with 8 on each third call.
 pub struct InspectedByCalls;
 
-impl Case for InspectedByCalls {
+impl Layer for InspectedByCalls {
     fn name() -> &'static str {
         "inspect, by calls"
     }
 
-    fn perform(run: &Run<'_>) -> Result<Option<Outcome>, AllocError> {
-        let mut script = run.script();
+    fn over<I, V: Visit>(run: &Run<'_>, it: I) -> Result<Option<Outcome>, AllocError>
+    where
+        I: FallibleIterator<Item = u32, Error = Failed>,
+    {
         let mut calls: u32 = 0;
-        let nest = (&mut script).inspect(|_: &u32| {
+        let nest = it.inspect(|_: &u32| {
             calls = calls.wrapping_add(1);
             if calls % 3 == 0 {
                 Err(Failed(8))
@@ -134,34 +139,36 @@ impl Case for InspectedByCalls {
                 Ok(())
             }
         });
-        operate(run, nest)
+        V::visit(run, nest)
     }
 
-    fn expected(given: &Given) -> Result<Vec<Seen>, AllocError> {
-        inspected_by_calls(given.alloc, given.all.as_slice())
+    fn rule(alloc: Global, source: &[Seen], _made: u32) -> Result<Vec<Seen>, AllocError> {
+        inspected_by_calls(alloc, source)
     }
 }
 
 /// `map_err` to 100 more and how often the closure was called.
 pub struct FailuresMapped;
 
-impl Case for FailuresMapped {
+impl Layer for FailuresMapped {
     fn name() -> &'static str {
         "map_err, by calls"
     }
 
-    fn perform(run: &Run<'_>) -> Result<Option<Outcome>, AllocError> {
-        let mut script = run.script();
+    fn over<I, V: Visit>(run: &Run<'_>, it: I) -> Result<Option<Outcome>, AllocError>
+    where
+        I: FallibleIterator<Item = u32, Error = Failed>,
+    {
         let mut calls: u32 = 0;
-        let nest = (&mut script).map_err(|e: Failed| {
+        let nest = it.map_err(|e: Failed| {
             calls = calls.wrapping_add(1);
             Failed(e.0.wrapping_add(100).wrapping_add(calls))
         });
-        operate(run, nest)
+        V::visit(run, nest)
     }
 
-    fn expected(given: &Given) -> Result<Vec<Seen>, AllocError> {
-        failures_mapped_by_calls(given.alloc, given.all.as_slice())
+    fn rule(alloc: Global, source: &[Seen], _made: u32) -> Result<Vec<Seen>, AllocError> {
+        failures_mapped_by_calls(alloc, source)
     }
 }
 
@@ -191,36 +198,38 @@ impl Case for Clones {
     }
 }
 
-/// `scan` to the sums, which ends at the sum 3 and fails with 8 at the sum 4.
+/// `scan` to the item and its number, from 1, which ends at the second item and fails with 8 at the third.
 pub struct Scanned;
 
-impl Case for Scanned {
+impl Layer for Scanned {
     fn name() -> &'static str {
-        "scan"
+        "scan, by calls"
     }
 
-    fn perform(run: &Run<'_>) -> Result<Option<Outcome>, AllocError> {
-        let mut script = run.script();
-        let nest = (&mut script).scan(0, |sum: &mut u32, x: u32| {
-            *sum = (*sum).wrapping_add(x);
-            match *sum {
-                3 => Ok(None),
-                4 => Err(Failed(8)),
-                other => Ok(Some(other)),
+    fn over<I, V: Visit>(run: &Run<'_>, it: I) -> Result<Option<Outcome>, AllocError>
+    where
+        I: FallibleIterator<Item = u32, Error = Failed>,
+    {
+        let nest = it.scan(0, |items: &mut u32, x: u32| {
+            *items = (*items).wrapping_add(1);
+            match *items {
+                2 => Ok(None),
+                3 => Err(Failed(8)),
+                number => Ok(Some(x.wrapping_add(number))),
             }
         });
-        operate(run, nest)
+        V::visit(run, nest)
     }
 
-    fn expected(given: &Given) -> Result<Vec<Seen>, AllocError> {
-        let mut sum: u32 = 0;
-        each(given.alloc, given.all.as_slice(), |answer: Answer| {
+    fn rule(alloc: Global, source: &[Seen], _made: u32) -> Result<Vec<Seen>, AllocError> {
+        let mut items: u32 = 0;
+        each(alloc, source, |answer: Answer| {
             if let Answer::Item(x) = answer {
-                sum = sum.wrapping_add(x);
-                match sum {
-                    3 => Some(Answer::End),
-                    4 => Some(Answer::Failure(8)),
-                    other => Some(Answer::Item(other)),
+                items = items.wrapping_add(1);
+                match items {
+                    2 => Some(Answer::End),
+                    3 => Some(Answer::Failure(8)),
+                    number => Some(Answer::Item(x.wrapping_add(number))),
                 }
             } else {
                 Some(answer)
@@ -250,15 +259,17 @@ impl Case for Enumerated {
 /// `map_while` to ten times the item and how often the closure was called, on odd calls; it fails with 8 on each third call, and ends on the others.
 pub struct MappedWhile;
 
-impl Case for MappedWhile {
+impl Layer for MappedWhile {
     fn name() -> &'static str {
         "map_while, by calls"
     }
 
-    fn perform(run: &Run<'_>) -> Result<Option<Outcome>, AllocError> {
-        let mut script = run.script();
+    fn over<I, V: Visit>(run: &Run<'_>, it: I) -> Result<Option<Outcome>, AllocError>
+    where
+        I: FallibleIterator<Item = u32, Error = Failed>,
+    {
         let mut calls: u32 = 0;
-        let nest = (&mut script).map_while(|x: u32| {
+        let nest = it.map_while(|x: u32| {
             calls = calls.wrapping_add(1);
             match by_calls(calls) {
                 Ok(true) => Ok(Some(x.wrapping_mul(10).wrapping_add(calls))),
@@ -266,10 +277,32 @@ impl Case for MappedWhile {
                 Err(e) => Err(Failed(e)),
             }
         });
-        operate(run, nest)
+        V::visit(run, nest)
     }
 
-    fn expected(given: &Given) -> Result<Vec<Seen>, AllocError> {
-        mapped_while_by_calls(given.alloc, given.all.as_slice())
+    fn rule(alloc: Global, source: &[Seen], _made: u32) -> Result<Vec<Seen>, AllocError> {
+        mapped_while_by_calls(alloc, source)
+    }
+}
+
+/// `cloned` of a reference for each item.
+pub struct ClonesOfMapped;
+
+impl Layer for ClonesOfMapped {
+    fn name() -> &'static str {
+        "cloned of map"
+    }
+
+    fn over<I, V: Visit>(run: &Run<'_>, it: I) -> Result<Option<Outcome>, AllocError>
+    where
+        I: FallibleIterator<Item = u32, Error = Failed>,
+    {
+        let numbers = &POINTED_TO;
+        let nest = it.map(|x: u32| Ok(&numbers[(x % 8) as usize])).cloned();
+        V::visit(run, nest)
+    }
+
+    fn rule(alloc: Global, source: &[Seen], _made: u32) -> Result<Vec<Seen>, AllocError> {
+        pointed_to(alloc, source)
     }
 }

@@ -56,27 +56,9 @@ where
     }
 }
 
-/// The same by the calls alone through which adapters reach into their sources: draws, `try_fold`, `find` and `nth`; none of other operations.
-pub fn operate_inside<I>(run: &Run<'_>, mut it: I) -> Option<Outcome>
-where
-    I: FallibleIterator<Error = Failed>,
-    I::Item: Coded,
-    requires can_next { I.contract.can_next it }
-    requires finite { I.contract.is_finite it }
-{
-    let decided = match run.operation {
-        Operation::Draws(j) => drawn(&mut it, j),
-        Operation::Borrowing(Borrowing::TryFold, j) => try_folded(&mut it, j),
-        Operation::Borrowing(Borrowing::Find, j) => found(&mut it, j),
-        Operation::Borrowing(Borrowing::Nth, j) => (Passed::none(), Answer::of(it.nth(j as usize))),
-        _ => return None,
-    };
-    Some(and_after(run, &mut it, decided))
-}
-
-// What decided, and the next eight answers.
+/// What decided, and the next eight answers.
 #[inline(never)]
-fn and_after<I>(run: &Run<'_>, it: &mut I, decided: (Passed, Answer)) -> Outcome
+pub fn and_after<I>(run: &Run<'_>, it: &mut I, decided: (Passed, Answer)) -> Outcome
 where
     I: FallibleIterator<Error = Failed>,
     I::Item: Coded,
@@ -140,9 +122,9 @@ where
     ]
 }
 
-// Draws until item number j, a failure or an end.
+/// Draws until item number j, a failure or an end.
 #[inline(never)]
-fn drawn<I>(it: &mut I, j: u32) -> (Passed, Answer)
+pub fn drawn<I>(it: &mut I, j: u32) -> (Passed, Answer)
 where
     I: FallibleIterator<Error = Failed>,
     I::Item: Coded,
@@ -179,9 +161,9 @@ where
     }
 }
 
-// `try_fold` that fails with 7 on item number j.
+/// `try_fold` that fails with 7 on item number j.
 #[inline(never)]
-fn try_folded<I>(it: &mut I, j: u32) -> (Passed, Answer)
+pub fn try_folded<I>(it: &mut I, j: u32) -> (Passed, Answer)
 where
     I: FallibleIterator<Error = Failed>,
     I::Item: Coded,
@@ -211,9 +193,9 @@ pub fn stopped(folded: Result<u32, Failed>, reached: u32) -> Answer {
     }
 }
 
-// `find` that is true on item number j.
+/// `find` that is true on item number j.
 #[inline(never)]
-fn found<I>(it: &mut I, j: u32) -> (Passed, Answer)
+pub fn found<I>(it: &mut I, j: u32) -> (Passed, Answer)
 where
     I: FallibleIterator<Error = Failed>,
     I::Item: Coded,

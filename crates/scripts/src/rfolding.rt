@@ -34,25 +34,9 @@ where
     }
 }
 
-/// The same by the calls alone through which adapters reach into their sources from behind: draws and `try_rfold`; none of other operations.
-pub fn operate_inside_behind<I>(run: &Run<'_>, mut it: I) -> Option<Outcome>
-where
-    I: DoubleEndedFallibleIterator<Error = Failed>,
-    I::Item: Coded,
-    requires can_next { I.ends.can_next it }
-    requires finite { I.contract.is_finite it }
-{
-    let decided = match run.operation {
-        Operation::Draws(j) => drawn_back(&mut it, j),
-        Operation::Behind(Behind::TryRfold, j) => try_rfolded(&mut it, j),
-        _ => return None,
-    };
-    Some(and_after_back(run, &mut it, decided))
-}
-
-// What decided, and the next eight answers from behind.
+/// What decided, and the next eight answers from behind.
 #[inline(never)]
-fn and_after_back<I>(run: &Run<'_>, it: &mut I, decided: (Passed, Answer)) -> Outcome
+pub fn and_after_back<I>(run: &Run<'_>, it: &mut I, decided: (Passed, Answer)) -> Outcome
 where
     I: DoubleEndedFallibleIterator<Error = Failed>,
     I::Item: Coded,
@@ -105,9 +89,9 @@ where
     ]
 }
 
-// Draws from behind until item number j, a failure or an end.
+/// Draws from behind until item number j, a failure or an end.
 #[inline(never)]
-fn drawn_back<I>(it: &mut I, j: u32) -> (Passed, Answer)
+pub fn drawn_back<I>(it: &mut I, j: u32) -> (Passed, Answer)
 where
     I: DoubleEndedFallibleIterator<Error = Failed>,
     I::Item: Coded,
@@ -124,9 +108,9 @@ where
     (passed, Answer::of(it.draw_back()))
 }
 
-// `try_rfold` that fails with 7 on item number j.
+/// `try_rfold` that fails with 7 on item number j.
 #[inline(never)]
-fn try_rfolded<I>(it: &mut I, j: u32) -> (Passed, Answer)
+pub fn try_rfolded<I>(it: &mut I, j: u32) -> (Passed, Answer)
 where
     I: DoubleEndedFallibleIterator<Error = Failed>,
     I::Item: Coded,

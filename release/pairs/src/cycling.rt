@@ -1,15 +1,17 @@
 //! `cycle` of the layers that can be cloned, each over the script itself.
 ghost use Rattle.std.specs.Prelude.{◌-◌};
 
-use crate::answer::{Coded, Seen, pair_code};
+use crate::answer::{Coded, Failed, Seen, pair_code};
 use crate::case::{Case, Given, Run};
 use crate::driving::{Tally, drive_each};
 use crate::joining::{BESIDE, inner_of};
-use crate::layered::{
-    ChainBehind, ChainFront, Cloned, Enumerate, FlatMap, Fuse, Peek, Scan, Skip, StepBy, Take, Zip,
-};
+use crate::cutting::{Fused, SkippedOne, SteppedByTwo, TakenTwo};
+use crate::joining::{ChainedBehind, ChainedInFront};
+use crate::layered::{Enumerate, FlatMap, Zip};
+use crate::one_to_one::{ClonesOfMapped, Scanned};
+use crate::peeking::Peeked;
 use crate::layers::Layer;
-use crate::operating::operate_inside;
+use crate::inside::operate_inside;
 use crate::operation::Outcome;
 use crate::rules::{POINTED_TO, cycled, taken};
 use fallible_iterator::FallibleIterator;
@@ -51,18 +53,18 @@ impl<L: Clonable> Case for CycleOver<L> {
 /// Drives `cycle` of each layer that can be cloned, and prints a line for them all, and each mismatch.
 pub fn drive_cycles(rt: &HostRuntime, total: &mut Tally) -> io::Result<()> {
     let mut tally = Tally::none();
-    drive_each::<CycleOver<Scan>>(rt, &mut tally)?;
-    drive_each::<CycleOver<Cloned>>(rt, &mut tally)?;
+    drive_each::<CycleOver<Scanned>>(rt, &mut tally)?;
+    drive_each::<CycleOver<ClonesOfMapped>>(rt, &mut tally)?;
     drive_each::<CycleOver<Enumerate>>(rt, &mut tally)?;
-    drive_each::<CycleOver<Take>>(rt, &mut tally)?;
-    drive_each::<CycleOver<Fuse>>(rt, &mut tally)?;
-    drive_each::<CycleOver<Skip>>(rt, &mut tally)?;
-    drive_each::<CycleOver<StepBy>>(rt, &mut tally)?;
-    drive_each::<CycleOver<ChainFront>>(rt, &mut tally)?;
-    drive_each::<CycleOver<ChainBehind>>(rt, &mut tally)?;
+    drive_each::<CycleOver<TakenTwo>>(rt, &mut tally)?;
+    drive_each::<CycleOver<Fused>>(rt, &mut tally)?;
+    drive_each::<CycleOver<SkippedOne>>(rt, &mut tally)?;
+    drive_each::<CycleOver<SteppedByTwo>>(rt, &mut tally)?;
+    drive_each::<CycleOver<ChainedInFront>>(rt, &mut tally)?;
+    drive_each::<CycleOver<ChainedBehind>>(rt, &mut tally)?;
     drive_each::<CycleOver<Zip>>(rt, &mut tally)?;
     drive_each::<CycleOver<FlatMap>>(rt, &mut tally)?;
-    drive_each::<CycleOver<Peek>>(rt, &mut tally)?;
+    drive_each::<CycleOver<Peeked>>(rt, &mut tally)?;
     let cases = tally.cases;
     let mismatches = tally.mismatches;
     println!(rt; "cycle over each: {cases} cases, {mismatches} mismatches")?;
@@ -70,21 +72,21 @@ pub fn drive_cycles(rt: &HostRuntime, total: &mut Tally) -> io::Result<()> {
     Ok(())
 }
 
-impl Clonable for Scan {
+impl Clonable for Scanned {
     fn cycled(run: &Run<'_>) -> Result<Option<Outcome>, AllocError> {
         let nest = run.script().scan(0, |items: &mut u32, x: u32| {
             *items = (*items).wrapping_add(1);
-            if *items == 2 {
-                Ok(None)
-            } else {
-                Ok(Some(x.wrapping_add(*items)))
+            match *items {
+                2 => Ok(None),
+                3 => Err(Failed(8)),
+                number => Ok(Some(x.wrapping_add(number))),
             }
         });
         Ok(operate_inside(run, nest.cycle()?.take(8)))
     }
 }
 
-impl Clonable for Cloned {
+impl Clonable for ClonesOfMapped {
     fn cycled(run: &Run<'_>) -> Result<Option<Outcome>, AllocError> {
         let numbers = &POINTED_TO;
         let nest = run
@@ -105,42 +107,42 @@ impl Clonable for Enumerate {
     }
 }
 
-impl Clonable for Take {
+impl Clonable for TakenTwo {
     fn cycled(run: &Run<'_>) -> Result<Option<Outcome>, AllocError> {
         let nest = run.script().take(2);
         Ok(operate_inside(run, nest.cycle()?.take(8)))
     }
 }
 
-impl Clonable for Fuse {
+impl Clonable for Fused {
     fn cycled(run: &Run<'_>) -> Result<Option<Outcome>, AllocError> {
         let nest = run.script().fuse();
         Ok(operate_inside(run, nest.cycle()?.take(8)))
     }
 }
 
-impl Clonable for Skip {
+impl Clonable for SkippedOne {
     fn cycled(run: &Run<'_>) -> Result<Option<Outcome>, AllocError> {
         let nest = run.script().skip(1);
         Ok(operate_inside(run, nest.cycle()?.take(8)))
     }
 }
 
-impl Clonable for StepBy {
+impl Clonable for SteppedByTwo {
     fn cycled(run: &Run<'_>) -> Result<Option<Outcome>, AllocError> {
         let nest = run.script().step_by(2);
         Ok(operate_inside(run, nest.cycle()?.take(8)))
     }
 }
 
-impl Clonable for ChainFront {
+impl Clonable for ChainedInFront {
     fn cycled(run: &Run<'_>) -> Result<Option<Outcome>, AllocError> {
         let nest = run.script().chain(run.other(BESIDE));
         Ok(operate_inside(run, nest.cycle()?.take(8)))
     }
 }
 
-impl Clonable for ChainBehind {
+impl Clonable for ChainedBehind {
     fn cycled(run: &Run<'_>) -> Result<Option<Outcome>, AllocError> {
         let nest = run.other(BESIDE).chain(run.script());
         Ok(operate_inside(run, nest.cycle()?.take(8)))
@@ -164,7 +166,7 @@ impl Clonable for FlatMap {
     }
 }
 
-impl Clonable for Peek {
+impl Clonable for Peeked {
     fn cycled(run: &Run<'_>) -> Result<Option<Outcome>, AllocError> {
         let mut nest = run.script().peekable();
         let _ = nest.peek_copied();

@@ -1,0 +1,10 @@
+#!/usr/bin/env bash
+# Runs all that stands outside the gate: the edits and pairs that it leaves to a release, and the programs over devices,
+# tables and memory that refuse. The status is 0 where all of it is as wanted.
+set -eu
+cd "$(dirname "$0")"
+./release_edits.sh
+./release_pairs.sh
+./closed_devices.sh
+./table_runs.sh
+./refused_memory.sh

@@ -1,0 +1,16 @@
+#!/usr/bin/env bash
+# Drives each adapter over every other, which the gate leaves to a release: in a copy of the last commit release/pairs is
+# laid over crates/scripts, and that program is proved, built and run. It prints a line for each adapter below, and each
+# mismatch. The status is 0 where it prints what release/pairs/stdout says.
+set -eu
+cd "$(dirname "$0")/.."
+copy=$(mktemp -d)
+trap 'rm -rf "$copy"' EXIT
+git archive HEAD | tar -x -C "$copy"
+cd "$copy"
+cp -r release/pairs/. crates/scripts
+cd crates/scripts
+rt check | tail -n 1
+rt run >"$copy/printed"
+cat "$copy/printed"
+cmp "$copy/printed" stdout
