@@ -3,16 +3,12 @@
 #![tactic(auto)]
 
 mod counting;
-#[cfg(test)]
-mod devices;
 mod digits;
 mod fault;
 pub mod laws;
 mod reading;
 mod rows;
 mod summing;
-#[cfg(test)]
-mod tests;
 
 ghost use Rattle.std.specs.Prelude.{◌≡◌, ◌≢◌, ℕ, List, Ok, Err, OnOk, OnErr};
 ghost use Rattle.std.specs.Io.KnownBytes.{Keeps};

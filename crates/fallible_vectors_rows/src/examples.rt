@@ -1,7 +1,7 @@
 //! What no clause says: the numbers of the examples, and calls that fail or come in pieces.
-use crate::{RowFault, Rows, fault_line, run, sum_of_rows};
 use fallible_iterator::laws::answers;
 use fallible_iterator::{Answer, FallibleIterator};
+use fallible_rows::{RowFault, Rows, fault_line, run, sum_of_rows};
 use std::alloc::{AllocError, Global};
 use std::io;
 use std::io::{ErrorKind, Read, Write};

@@ -1,5 +1,5 @@
 //! Readers and writers that fail at each call in turn or come in pieces, and inputs that a generator makes, against a rule over the whole input.
-use crate::{RowFault, run};
+use fallible_rows::{RowFault, run};
 use std::alloc::{AllocError, Global};
 use std::io;
 use std::io::{ErrorKind, Read, Write};
