@@ -1,7 +1,7 @@
 #!/usr/bin/env bash
 # Drives each adapter over every other, which the gate leaves to a release: in a copy of the last commit release/pairs is
-# laid over crates/scripts, and that program is proved, built and run. It prints a line for each adapter below, and each
-# mismatch. The status is 0 where it prints what release/pairs/stdout says.
+# laid over crates/scripts, and that program is built, without a proof, and run. It prints a line for each adapter below,
+# and each mismatch. The status is 0 where it prints what release/pairs/stdout says.
 set -eu
 cd "$(dirname "$0")/.."
 copy=$(mktemp -d)
@@ -10,7 +10,6 @@ git archive HEAD | tar -x -C "$copy"
 cd "$copy"
 cp -r release/pairs/. crates/scripts
 cd crates/scripts
-rt check | tail -n 1
-rt run >"$copy/printed"
+rt try --steps 1 --seconds 120 >"$copy/printed" 2>"$copy/told" || cat "$copy/told"
 cat "$copy/printed"
 cmp "$copy/printed" stdout

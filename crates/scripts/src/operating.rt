@@ -101,9 +101,9 @@ where
     }
 }
 
-// Eight answers.
+/// Eight answers.
 #[inline(never)]
-fn next_answers<I>(it: &mut I, draws: &Cell<u32>) -> [Seen; 8]
+pub fn next_answers<I>(it: &mut I, draws: &Cell<u32>) -> [Seen; 8]
 where
     I: FallibleIterator<Error = Failed>,
     I::Item: Coded,

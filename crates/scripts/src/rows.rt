@@ -1,6 +1,7 @@
 //! A row by hand.
 use crate::answer::{Answer, Failed};
 use crate::driving::Tally;
+use crate::operating::next_answers;
 use crate::script::Script;
 use fallible_iterator::FallibleIterator;
 use std::cell::Cell;
@@ -48,12 +49,13 @@ fn summed_and_drawn(draws: &Cell<u32>) -> [Answer; 6] {
         Ok(all) => Answer::Item(all),
         Err(e) => Answer::Failure(e.0),
     };
+    let next = next_answers(&mut nest, draws);
     [
         summed,
-        Answer::of(nest.draw()),
-        Answer::of(nest.draw()),
-        Answer::of(nest.draw()),
-        Answer::of(nest.draw()),
-        Answer::of(nest.draw()),
+        next[0].answer,
+        next[1].answer,
+        next[2].answer,
+        next[3].answer,
+        next[4].answer,
     ]
 }
