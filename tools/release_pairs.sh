@@ -10,6 +10,11 @@ git archive HEAD | tar -x -C "$copy"
 cd "$copy"
 cp -r release/pairs/. crates/scripts
 cd crates/scripts
+# What the program does not name is a file that no build reads, which the toolchain refuses.
+for file in src/*.rt; do
+    name=$(basename "$file" .rt)
+    [ "$name" = main ] || grep -qx "mod $name;" src/main.rt || rm "$file"
+done
 rt try --steps 1 --seconds 120 >"$copy/printed" 2>"$copy/told" || cat "$copy/told"
 cat "$copy/printed"
 cmp "$copy/printed" stdout
