@@ -15,6 +15,6 @@ for file in src/*.rt; do
     name=$(basename "$file" .rt)
     [ "$name" = main ] || grep -qx "mod $name;" src/main.rt || rm "$file"
 done
-rt try --steps 1 --seconds 120 >"$copy/printed" 2>"$copy/told" || cat "$copy/told"
+rt try --steps 1 --seconds 1800 >"$copy/printed" 2>"$copy/told" || cat "$copy/told"
 cat "$copy/printed"
 cmp "$copy/printed" stdout

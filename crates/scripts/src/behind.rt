@@ -89,7 +89,8 @@ pub trait LayerBehind: Layer {
 pub struct OperatedBehind;
 
 impl VisitBehind for OperatedBehind {
-    ghost most = { 4 };
+    // at both ends of a twin
+    ghost most = { 8 };
 
     fn visit<I>(run: &Run<'_>, it: I) -> Result<Option<Outcome>, AllocError>
     where
