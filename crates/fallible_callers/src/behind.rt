@@ -139,24 +139,6 @@ pub fn last_but_one(readings: Vec<Result<u32, u8>>) -> Result<Option<u64>, u8>
     last_but_one_of(&mut above)
 }
 
-/// The second item, once the first and the last were drawn, of any fallible iterator with two ends, or a failure in the place of one of these.
-pub fn second_between<I: DoubleEndedFallibleIterator>(
-    it: &mut I,
-) -> Result<Option<I::Item>, I::Error>
-where
-    I::Item: Drop,
-    requires { I.ends.can_next it.old }
-    ensures { (l : List (Result I.Item I.Error))
-        → ListsBothEnds I.contract.steps I.ends.steps it.old l
-        → let left : List (Result I.Item I.Error) = reverse (behind_first l) in
-        result ≡ on_value (nth_of 0 l) (λ _. on_value (nth_of 0 left)
-        (λ _. nth_of 0 (reverse (behind_first left)))) }
-{
-    it.draw_front()?;
-    it.draw_back()?;
-    it.draw_front()
-}
-
 /// The last of the doubled readings, once the first three were passed over, or a failure among these; none where there are fewer than three.
 pub fn last_after_three(readings: Vec<Result<u32, u8>>) -> Result<Option<u64>, u8>
     ensures value { (third : ℕ)

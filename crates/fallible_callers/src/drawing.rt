@@ -1,5 +1,5 @@
 //! Draws by hand.
-ghost use Rattle.std.specs.Prelude.{◌≡◌, ◌+◌, ◌*◌, ◌/◌, ◌%◌, ◌^◌, ℕ, List, [], ◌∷◌, Result, Option, Ok, Err, Some, None, false, nat_lt, if◌then◌else◌};
+ghost use Rattle.std.specs.Prelude.{◌≡◌, ◌+◌, ◌*◌, ◌%◌, ◌^◌, ℕ, List, [], ◌∷◌, Result, Option, Ok, Err, Some, None, false, nat_lt};
 ghost use Rattle.fallible_iterator.specs.Lists.{Lists, behind_first, behind_nth, chained, filtered, first_if, folded, items, looked_at, mapped, nth_of, on_value, results, taken, taken_while, zipped};
 
 use fallible_iterator::laws::{law_next, law_peek};
@@ -99,19 +99,6 @@ where
     Ok(sum)
 }
 
-/// The sum of the halves of the readings below 100, up to the first half that is 0, modulo 2 ^ 64, or the first failure before.
-pub fn sum_of_halves_up_to_zero(readings: Vec<Result<u32, u8>>) -> Result<u64, u8>
-    ensures { result ≡ folded (λ e. e) (λ s x. Ok ((s + x) % 2 ^ 64)) 0
-        (taken_while (λ x. Ok (nat_lt 0 x))
-        (mapped (λ x. Ok (x / 2)) (filtered (λ x. Ok (nat_lt x 100)) (results readings.items)))) }
-{
-    sum_up_to_zero(
-        convert(readings.into_iter())
-            .filter(|reading| Ok(*reading < 100))
-            .map(|reading: u32| Ok(reading / 2)),
-    )
-}
-
 /// The sum of the first two items, modulo 2 ^ 32, which are taken of a borrow.
 pub fn sum_of_two<I: FallibleIterator<Item = u32>>(it: &mut I) -> Result<u32, I::Error>
 where
@@ -163,22 +150,6 @@ where
         .try_fold(0, |n: u64, _| Ok(n.wrapping_add(1)))
 }
 
-/// How many of the first ten readings are above 100, modulo 2 ^ 64, and the eleventh reading, or the first failure among the eleven. No clause says what comes where there are fewer than ten.
-pub fn above_100_and_the_next(readings: Vec<Result<u32, u8>>) -> Result<(u64, Option<u32>), u8>
-    ensures value { let l : List (Result ℕ ℕ) = results readings.items in (tenth : ℕ)
-        → nth_of 9 l ≡ Ok (Some tenth)
-        → result ≡ on_value (folded (λ e. e) (λ n x. Ok ((n + 1) % 2 ^ 64)) 0
-        (filtered (λ x. Ok (nat_lt 100 x)) (taken 10 l)))
-        (λ n. on_value (nth_of 0 (behind_nth 9 l)) (λ next. Ok (n, next))) }
-    ensures fails { let l : List (Result ℕ ℕ) = results readings.items in (e : ℕ)
-        → folded (λ e. e) (λ n x. Ok ((n + 1) % 2 ^ 64)) 0
-        (filtered (λ x. Ok (nat_lt 100 x)) (taken 10 l)) ≡ Err e → result ≡ Err e }
-{
-    let mut it = convert(readings.into_iter());
-    let n = above_100_of_first_ten(&mut it)?;
-    Ok((n, it.draw()?))
-}
-
 /// The item after the first three, which are let go, or the first failure among the four. No clause says what comes where there are fewer than three.
 pub fn after_three<I: FallibleIterator>(it: &mut I) -> Result<Option<I::Item>, I::Error>
 where
@@ -228,24 +199,6 @@ where
 {
     (&mut left).chain(&mut right).draw()?;
     left.zip(right).draw()
-}
-
-/// The third answer, after the first two items are let go, or a failure in their place. No clause says what comes where an end stands there.
-pub fn third_of<I: FallibleIterator>(mut it: I) -> Result<Option<I::Item>, I::Error>
-where
-    I::Item: Drop,
-    requires { I.contract.can_next it }
-    ensures value { (l : List (Result I.Item I.Error)) (x y : I.Item)
-        (rest : List (Result I.Item I.Error))
-        → Lists I.contract.steps it l → l ≡ Ok x ∷ Ok y ∷ rest → result ≡ nth_of 0 rest }
-    ensures first_fails { (l rest : List (Result I.Item I.Error)) (e : I.Error)
-        → Lists I.contract.steps it l → l ≡ Err e ∷ rest → result ≡ Err e }
-    ensures second_fails { (l rest : List (Result I.Item I.Error)) (x : I.Item) (e : I.Error)
-        → Lists I.contract.steps it l → l ≡ Ok x ∷ Err e ∷ rest → result ≡ Err e }
-{
-    it.draw()?;
-    it.draw()?;
-    it.draw()
 }
 
 /// The second item, by two plain draws, the first of which is let go, or a failure in its place. No clause says what comes where an end stands there. The law says what each `next` answers and leaves.

@@ -57,20 +57,6 @@ where
     }
 }
 
-/// The mean of the first three readings above 100, doubled.
-pub fn mean_of_nest(readings: Vec<Result<u32, u8>>) -> Result<Option<u64>, u8>
-    ensures { result ≡ mean_of (taken 3
-        (mapped (λ x. Ok (x * 2 % 2 ^ 32))
-        (filtered (λ x. Ok (nat_lt 100 x)) (results readings.items)))) }
-{
-    mean(
-        convert(readings.into_iter())
-            .filter(|reading| Ok(*reading > 100))
-            .map(|reading: u32| Ok(reading.wrapping_mul(2)))
-            .take(3),
-    )
-}
-
 /// The last item, or the first failure. Its bound fixes what it fails with, and not what it gives.
 pub fn last_or_code<I: FallibleIterator<Error = u8>>(it: I) -> Result<Option<I::Item>, u8>
 where

@@ -1,105 +1,44 @@
 // The values of the callers on small inputs.
-use fallible_callers::behind::above_100_from_behind;
-use fallible_callers::behind::both_from_behind;
-use fallible_callers::behind::count_between;
-use fallible_callers::behind::count_trimmed;
-use fallible_callers::behind::doubled_from_behind;
-use fallible_callers::behind::first_and_last;
-use fallible_callers::behind::last_after_three;
-use fallible_callers::behind::last_behind_zero;
-use fallible_callers::behind::last_but_one;
-use fallible_callers::behind::last_drawn;
-use fallible_callers::behind::last_first;
-use fallible_callers::behind::read_alike;
-use fallible_callers::behind::second_between;
-use fallible_callers::behind::sum_from_behind;
-use fallible_callers::behind::three_answers;
-use fallible_callers::bridging::elements;
-use fallible_callers::bridging::elements_from_behind;
-use fallible_callers::bridging::elements_of_ten;
-use fallible_callers::bridging::failures;
-use fallible_callers::bridging::number_of;
-use fallible_callers::bridging::one_more;
-use fallible_callers::bridging::there_and_back;
-use fallible_callers::bridging::there_and_back_of_ten;
-use fallible_callers::bridging::total;
-use fallible_callers::bridging::up_to_ten;
-use fallible_callers::computing::above_100;
-use fallible_callers::computing::all_up_to_100;
-use fallible_callers::computing::both_columns;
-use fallible_callers::computing::checked_sum;
-use fallible_callers::computing::collected_above_100;
-use fallible_callers::computing::doubled_above_1000;
-use fallible_callers::computing::fold_of_one;
-use fallible_callers::computing::fourth_above_100;
-use fallible_callers::computing::halves;
-use fallible_callers::computing::places;
-use fallible_callers::computing::products;
-use fallible_callers::computing::running_sums;
-use fallible_callers::computing::sum;
-use fallible_callers::consuming::above_100_and_count;
-use fallible_callers::consuming::all_above_100;
-use fallible_callers::consuming::any_above_100;
-use fallible_callers::consuming::columns_exchanged;
-use fallible_callers::consuming::first_above_100;
-use fallible_callers::consuming::greatest_above_100;
-use fallible_callers::consuming::greatest_double_of_ten;
-use fallible_callers::consuming::last_above_100;
-use fallible_callers::consuming::least_double_above_1000;
-use fallible_callers::consuming::parted_at_100;
-use fallible_callers::consuming::place_above_100;
-use fallible_callers::consuming::sum_of_some;
-use fallible_callers::consuming::two_columns;
-use fallible_callers::drawing::after_a_pair;
-use fallible_callers::drawing::after_three;
-use fallible_callers::drawing::begins_above_100;
-use fallible_callers::drawing::draw_all;
-use fallible_callers::drawing::first_two;
-use fallible_callers::drawing::pair_behind_first;
-use fallible_callers::drawing::second_if_above;
-use fallible_callers::drawing::second_of;
-use fallible_callers::drawing::sum_of_halves_up_to_zero;
-use fallible_callers::drawing::sum_up_to_zero;
-use fallible_callers::drawing::third_draw;
-use fallible_callers::drawing::third_of;
-use fallible_callers::drawing::two_and_the_next;
-use fallible_callers::generic::mean;
-use fallible_callers::generic::mean_of_nest;
-use fallible_callers::generic::sum_of_nest;
-use fallible_callers::making::count_behind_two_answers;
-use fallible_callers::making::count_with_held;
-use fallible_callers::making::given_above_100;
-use fallible_callers::making::hundreds;
-use fallible_callers::making::numbers_above_100;
-use fallible_callers::making::sum_of_one_again;
-use fallible_callers::making::sum_of_rounds;
+use fallible_callers::behind::{
+    above_100_from_behind, both_from_behind, count_between, count_trimmed, doubled_from_behind,
+    first_and_last, last_after_three, last_behind_zero, last_but_one, last_drawn, last_first,
+    read_alike, sum_from_behind, three_answers,
+};
+use fallible_callers::bridging::{
+    elements, elements_from_behind, failures, number_of, one_more, there_and_back_of_ten, total,
+    up_to_ten,
+};
+use fallible_callers::computing::{
+    above_100, all_up_to_100, both_columns, checked_sum, collected_above_100, fold_of_one,
+    fourth_above_100, halves, places, products, running_sums, sum,
+};
+use fallible_callers::consuming::{
+    above_100_and_count, all_above_100, any_above_100, columns_exchanged, greatest_above_100,
+    last_above_100, least_double_above_1000, parted_at_100, sum_of_some, two_columns,
+};
+use fallible_callers::drawing::{
+    after_a_pair, after_three, begins_above_100, draw_all, first_two, pair_behind_first,
+    second_if_above, second_of, sum_up_to_zero, third_draw, two_and_the_next,
+};
+use fallible_callers::generic::{mean, sum_of_nest};
+use fallible_callers::making::{
+    count_behind_two_answers, count_with_held, given_above_100, hundreds, numbers_above_100,
+    sum_of_one_again, sum_of_rounds,
+};
 use fallible_callers::own::countdowns;
-use fallible_callers::parsing::NoSum;
-use fallible_callers::parsing::how_many_each;
-use fallible_callers::parsing::place_of_failure;
-use fallible_callers::parsing::second_behind_zero;
-use fallible_callers::parsing::sum_and_next;
-use fallible_callers::parsing::sum_or_place;
-use fallible_callers::ranges::count_and_sum;
-use fallible_callers::ranges::runs;
-use fallible_callers::ranges::sum_below;
-use fallible_callers::reading::Bytes;
-use fallible_callers::reading::ReadFailed;
-use fallible_callers::reading::newlines_of_three;
+use fallible_callers::parsing::{
+    NoSum, how_many_each, place_of_failure, second_behind_zero, sum_and_next, sum_or_place,
+};
+use fallible_callers::ranges::{count_and_sum, runs, sum_below};
+use fallible_callers::reading::{Bytes, ReadFailed, newlines_of_three};
 use fallible_iterator::Answer::Item;
-use fallible_iterator::DoubleEndedFallibleIterator;
-use fallible_iterator::FallibleIterator;
-use fallible_iterator::Fault;
-use fallible_iterator::convert;
-use fallible_iterator::empty;
-use fallible_iterator::once;
-use std::alloc::AllocError;
-use std::alloc::Global;
+use fallible_iterator::{
+    DoubleEndedFallibleIterator, FallibleIterator, Fault, convert, empty, once,
+};
+use std::alloc::{AllocError, Global};
 use std::convert::Infallible;
 use std::fmt::Debug;
-use std::io::ErrorKind;
-use std::io::Read;
-use std::io::{self};
+use std::io::{self, ErrorKind, Read};
 use std::process::Abort;
 use std::test::Fail;
 
@@ -121,7 +60,6 @@ fn counts(rt: HostRuntime) -> Result<(), Fail> {
     assert_eq!(rt; above_100(&[1, 101, 100, 250]), Ok(2));
     assert_eq!(rt; checked_sum(readings(rt.alloc())?), Err(9));
     assert_eq!(rt; checked_sum(good_readings(rt.alloc())?), Ok(2412));
-    assert_eq!(rt; doubled_above_1000(good_readings(rt.alloc())?), Ok(2));
     assert_eq!(rt; all_up_to_100(good_readings(rt.alloc())?), Err(7));
     assert_eq!(rt; both_columns(&[1, 2, 3], &[4, 5]), Ok(5));
     Ok(())
@@ -141,7 +79,6 @@ fn folds(rt: HostRuntime) -> Result<(), Fail> {
 fn bridges(rt: HostRuntime) -> Result<(), Fail> {
     assert_eq!(rt; elements(readings(rt.alloc())?), 7);
     assert_eq!(rt; elements_from_behind(readings(rt.alloc())?), 7);
-    assert_eq!(rt; elements_of_ten(readings(rt.alloc())?), 7);
     assert_eq!(rt; up_to_ten(convert(readings(rt.alloc())?.into_iter())), 7);
     assert_eq!(rt; failures(readings(rt.alloc())?), 1);
     let numbers = Vec::from_array(rt.alloc(), [5, 600, 7])?;
@@ -149,8 +86,7 @@ fn bridges(rt: HostRuntime) -> Result<(), Fail> {
     assert_eq!(rt; number_of(numbers.clone()?), 3);
     assert_eq!(rt; total(numbers), 612);
     assert_eq!(rt; greater.as_slice(), [6, 601, 8].as_slice());
-    assert_eq!(rt; there_and_back(readings(rt.alloc())?), Err(9));
-    assert_eq!(rt; there_and_back(good_readings(rt.alloc())?), Ok(2));
+    assert_eq!(rt; there_and_back_of_ten(readings(rt.alloc())?), Err(9));
     assert_eq!(rt; there_and_back_of_ten(good_readings(rt.alloc())?), Ok(2));
     Ok(())
 }
@@ -183,8 +119,6 @@ fn means(rt: HostRuntime) -> Result<(), Fail> {
     );
     assert_eq!(rt; mean(convert(readings(rt.alloc())?.into_iter())), Err(9));
     assert_eq!(rt; mean(empty::<u32, u8>()), Ok(None));
-    assert_eq!(rt; mean_of_nest(readings(rt.alloc())?), Ok(Some(567)));
-    assert_eq!(rt; mean_of_nest(good_readings(rt.alloc())?), Ok(Some(1101)));
     Ok(())
 }
 
@@ -196,10 +130,6 @@ fn above_the_first(readings: Vec<Result<u32, u8>>) -> Result<Option<u32>, u8> {
 fn places_of_items(rt: HostRuntime) -> Result<(), Fail> {
     assert_eq!(rt; fourth_above_100(readings(rt.alloc())?), Err(9));
     assert_eq!(rt; third_draw(readings(rt.alloc())?), Ok(Some(300)));
-    assert_eq!(rt;
-        third_of(convert(readings(rt.alloc())?.into_iter())),
-        Ok(Some(600))
-    );
     let good = good_readings(rt.alloc())?;
     assert_eq!(rt; second_of(convert(good.into_iter())), Ok(Some(600)));
     let good = good_readings(rt.alloc())?;
@@ -223,12 +153,10 @@ fn sums_up_to_zero(rt: HostRuntime) -> Result<(), Fail> {
     )?;
     let failing: Vec<Result<u32, u8>> = Vec::from_array(rt.alloc(), [Ok(5), Err(9), Ok(0)])?;
     let ending: Vec<Result<u32, u8>> = Vec::from_array(rt.alloc(), [Ok(5), Ok(6)])?;
-    let halved = Vec::from_array(rt.alloc(), [Ok(9), Ok(300), Ok(7), Ok(1), Err(9), Ok(4)])?;
     assert_eq!(rt; sum_up_to_zero(convert(stopped.into_iter())), Ok(11));
     assert_eq!(rt; sum_up_to_zero(convert(failing.into_iter())), Err(9));
     assert_eq!(rt; sum_up_to_zero(convert(ending.into_iter())), Ok(11));
     assert_eq!(rt; sum_up_to_zero(empty::<u32, u8>()), Ok(0));
-    assert_eq!(rt; sum_of_halves_up_to_zero(halved), Ok(7));
     Ok(())
 }
 
@@ -363,8 +291,6 @@ fn readers(rt: HostRuntime) -> Result<(), Fail> {
 fn searches(rt: HostRuntime) -> Result<(), Fail> {
     assert_eq!(rt; all_above_100(readings(rt.alloc())?), Ok(false));
     assert_eq!(rt; any_above_100(readings(rt.alloc())?), Ok(true));
-    assert_eq!(rt; place_above_100(readings(rt.alloc())?), Ok(Some(0)));
-    assert_eq!(rt; place_above_100(good_readings(rt.alloc())?), Ok(Some(1)));
     Ok(())
 }
 
@@ -374,11 +300,6 @@ fn the_greatest_and_the_least(rt: HostRuntime) -> Result<(), Fail> {
     assert_eq!(rt;
         greatest_above_100(good_readings(rt.alloc())?),
         Ok(Some(600))
-    );
-    assert_eq!(rt; greatest_double_of_ten(readings(rt.alloc())?), Err(9));
-    assert_eq!(rt;
-        greatest_double_of_ten(good_readings(rt.alloc())?),
-        Ok(Some(1200))
     );
     assert_eq!(rt; least_double_above_1000(readings(rt.alloc())?), Err(9));
     assert_eq!(rt;
@@ -390,8 +311,6 @@ fn the_greatest_and_the_least(rt: HostRuntime) -> Result<(), Fail> {
 
 #[test]
 fn the_first_and_the_last(rt: HostRuntime) -> Result<(), Fail> {
-    assert_eq!(rt; first_above_100(readings(rt.alloc())?), Ok(Some(600)));
-    assert_eq!(rt; first_above_100(good_readings(rt.alloc())?), Ok(Some(501)));
     assert_eq!(rt; last_above_100(readings(rt.alloc())?), Err(9));
     assert_eq!(rt; last_above_100(good_readings(rt.alloc())?), Ok(Some(501)));
     Ok(())
@@ -448,8 +367,6 @@ fn ends(rt: HostRuntime) -> Result<(), Fail> {
         last_after_three(good_readings(rt.alloc())?),
         Ok(Some(1002))
     );
-    let mut it = convert(good_readings(rt.alloc())?.into_iter());
-    assert_eq!(rt; second_between(&mut it), Ok(Some(600)));
     Ok(())
 }
 
