@@ -1,16 +1,16 @@
 // What the uses answer, on values worked out by hand.
 ghost use Rattle.std.specs.Prelude.{⊤};
 
-use crate::client::{Lost, Row, report_above_100};
-use crate::edges::{back_above_100, front_above_100};
-use crate::generic::{mean, running_sums};
-use crate::lines::{LineFault, sum_of_lines};
-use crate::merging::next_merged;
-use crate::pages::{Cursor, PageRefused, Pages, sum_of_first};
-use crate::report::{RunFault, fault_line, run};
-use crate::table::{CutShort, TableFault, Totals, first_bad, high_of_good, sum_up};
-use crate::tokens::{TextFault, evaluate};
 use fallible_iterator::{FallibleIterator, convert};
+use fallible_uses::client::{Lost, Row, report_above_100};
+use fallible_uses::edges::{back_above_100, front_above_100};
+use fallible_uses::generic::running_sums;
+use fallible_uses::lines::{LineFault, sum_of_lines};
+use fallible_uses::merging::next_merged;
+use fallible_uses::pages::{Cursor, PageRefused, Pages, sum_of_first};
+use fallible_uses::report::{RunFault, fault_line, run};
+use fallible_uses::table::{CutShort, TableFault, Totals, first_bad, high_of_good, sum_up};
+use fallible_uses::tokens::{TextFault, evaluate};
 use std::alloc::{AllocError, Global};
 use std::io;
 use std::io::{ErrorKind, Read, Write};
@@ -27,7 +27,7 @@ fn readings<const N: usize>(
 }
 
 #[test]
-fn edges(rt: HostRuntime) -> Result<(), Fail> {
+fn over_vectors(rt: HostRuntime) -> Result<(), Fail> {
     let front = readings(rt.alloc(), [Ok(101), Ok(500), Ok(100), Err(9), Ok(101)])?;
     assert_eq!(rt; front_above_100(front), Ok(2));
     let back = readings(
@@ -37,21 +37,12 @@ fn edges(rt: HostRuntime) -> Result<(), Fail> {
     assert_eq!(rt; back_above_100(back), Ok(3));
     let failing = readings(rt.alloc(), [Ok(7), Err(9), Ok(101)])?;
     assert_eq!(rt; back_above_100(failing), Err(9));
-    Ok(())
-}
-
-#[test]
-fn sums(rt: HostRuntime) -> Result<(), Fail> {
-    let numbers = readings(rt.alloc(), [Ok(4), Ok(5), Ok(9)])?;
-    assert_eq!(rt; mean(convert(numbers.into_iter())), Ok(Some(6)));
-    // 20 by 3 is 6 and a rest.
-    let numbers = readings(rt.alloc(), [Ok(4), Ok(5), Ok(11)])?;
-    assert_eq!(rt; mean(convert(numbers.into_iter())), Ok(Some(6)));
-    let none = readings(rt.alloc(), [])?;
-    assert_eq!(rt; mean(convert(none.into_iter())), Ok(None));
     let numbers = readings(rt.alloc(), [Ok(4), Ok(5), Ok(9)])?;
     let running = running_sums(rt.alloc(), convert(numbers.into_iter()));
     assert!(rt; running.is_ok_and(|sums| sums.as_slice() == [4, 9, 18].as_slice()));
+    let row = |amount: u32| Ok(Row { account: 7, amount });
+    let rows = Vec::from_array(rt.alloc(), [row(101), row(100), Err(Lost), row(300)])?;
+    assert_eq!(rt; report_above_100(rows), 3);
     Ok(())
 }
 
@@ -90,14 +81,6 @@ fn tables(rt: HostRuntime) {
             high: 0
         })
     );
-}
-
-#[test]
-fn rows(rt: HostRuntime) -> Result<(), Fail> {
-    let row = |amount: u32| Ok(Row { account: 7, amount });
-    let rows = Vec::from_array(rt.alloc(), [row(101), row(100), Err(Lost), row(300)])?;
-    assert_eq!(rt; report_above_100(rows), 3);
-    Ok(())
 }
 
 #[test]
