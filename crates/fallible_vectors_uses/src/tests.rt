@@ -83,19 +83,6 @@ fn tables(rt: HostRuntime) {
     );
 }
 
-#[test]
-fn lines(rt: HostRuntime) {
-    assert_eq!(rt; sum_of_lines(rt.alloc(), b"40\n2\r\n".as_slice()), Ok(42));
-    assert_eq!(rt;
-        sum_of_lines(rt.alloc(), b"40\nfern\n2\nmoss".as_slice()),
-        Err(LineFault::Line(2))
-    );
-    assert_eq!(rt;
-        sum_of_lines(rt.alloc(), b"40\n\xFF\n".as_slice()),
-        Err(LineFault::Read)
-    );
-}
-
 // Three pages: 1 and 2, 3, and none. Page 1 is refused where it is asked for first. It counts how often it is asked.
 #[derive(Drop)]
 struct ThreePages {
@@ -306,8 +293,21 @@ fn fault_line_tells_each_fault(rt: HostRuntime) {
     }
 }
 
+fn sum_of_text(alloc: Global, text: &[u8]) -> Result<u64, LineFault> {
+    sum_of_lines(alloc, text)
+}
+
 #[test]
 fn texts(rt: HostRuntime) {
+    assert_eq!(rt; sum_of_text(rt.alloc(), b"40\n2\r\n"), Ok(42));
+    assert_eq!(rt;
+        sum_of_text(rt.alloc(), b"40\nfern\n2\nmoss"),
+        Err(LineFault::Line(2))
+    );
+    assert_eq!(rt;
+        sum_of_text(rt.alloc(), b"40\n\xFF\n"),
+        Err(LineFault::Read)
+    );
     assert_eq!(rt; evaluate(rt.alloc(), "2+3*(4+10)*2"), Ok(86));
     assert_eq!(rt; evaluate(rt.alloc(), "((7))*(1+1)"), Ok(14));
     assert_eq!(rt;
