@@ -1,8 +1,10 @@
 // What idioms and functions over any iterator answer.
-use fallible_callers::digits::number_ahead;
-use fallible_callers::generic::{last_or_code, sum_of_ahead, sum_of_all, sum_of_rows};
-use fallible_callers::idioms::{NoRow, count_kept, page, query_one, sum_by_name, sum_of_cells};
-use fallible_callers::own::Span;
+use fallible_callers_drawing::digits::number_ahead;
+use fallible_callers_drawing::generic::{last_or_code, sum_of_ahead, sum_of_all, sum_of_rows};
+use fallible_callers_drawing::idioms::{
+    NoRow, count_kept, page, query_one, sum_by_name, sum_of_cells,
+};
+use fallible_callers_drawing::own::Span;
 use fallible_iterator::{FallibleIterator, convert};
 use std::alloc::{AllocError, Global};
 use std::test::Fail;

@@ -1,5 +1,5 @@
 // Types of one's own that show what they list, drawn from, and under adapters.
-use fallible_callers::own::{Between, Countdown, Span, even_below, even_between, sum_with};
+use fallible_callers_drawing::own::{Between, Countdown, Span, even_below, even_between, sum_with};
 use fallible_iterator::Answer::{End, Failure, Item};
 use fallible_iterator::{Answer, DoubleEndedFallibleIterator, FallibleIterator, convert};
 use fallible_testing::answered::expect_answers;

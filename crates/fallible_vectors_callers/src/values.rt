@@ -1,9 +1,4 @@
 // The values of the callers on small inputs.
-use fallible_callers::behind::{
-    above_100_from_behind, both_from_behind, count_between, count_trimmed, doubled_from_behind,
-    first_and_last, last_after_three, last_behind_zero, last_but_one, last_drawn, last_first,
-    read_alike, sum_from_behind, three_answers,
-};
 use fallible_callers::bridging::{
     elements, elements_from_behind, failures, number_of, one_more, there_and_back_of_ten, total,
     up_to_ten,
@@ -16,21 +11,26 @@ use fallible_callers::consuming::{
     above_100_and_count, all_above_100, any_above_100, columns_exchanged, greatest_above_100,
     last_above_100, least_double_above_1000, parted_at_100, sum_of_some, two_columns,
 };
-use fallible_callers::drawing::{
-    after_a_pair, after_three, begins_above_100, draw_all, first_two, pair_behind_first,
-    second_if_above, second_of, sum_up_to_zero, third_draw, two_and_the_next,
-};
-use fallible_callers::generic::{mean, sum_of_nest};
 use fallible_callers::making::{
     count_behind_two_answers, count_with_held, given_above_100, hundreds, numbers_above_100,
     sum_of_one_again, sum_of_rounds,
 };
-use fallible_callers::own::countdowns;
-use fallible_callers::parsing::{
+use fallible_callers::ranges::{count_and_sum, runs, sum_below};
+use fallible_callers_drawing::behind::{
+    above_100_from_behind, both_from_behind, count_between, count_trimmed, doubled_from_behind,
+    first_and_last, last_after_three, last_behind_zero, last_but_one, last_drawn, last_first,
+    read_alike, sum_from_behind, three_answers,
+};
+use fallible_callers_drawing::drawing::{
+    after_a_pair, after_three, begins_above_100, draw_all, first_two, pair_behind_first,
+    second_if_above, second_of, sum_up_to_zero, third_draw, two_and_the_next,
+};
+use fallible_callers_drawing::generic::{mean, sum_of_nest};
+use fallible_callers_drawing::own::countdowns;
+use fallible_callers_drawing::parsing::{
     NoSum, how_many_each, place_of_failure, second_behind_zero, sum_and_next, sum_or_place,
 };
-use fallible_callers::ranges::{count_and_sum, runs, sum_below};
-use fallible_callers::reading::{Bytes, ReadFailed, newlines_of_three};
+use fallible_callers_drawing::reading::{Bytes, ReadFailed, newlines_of_three};
 use fallible_iterator::Answer::Item;
 use fallible_iterator::{
     DoubleEndedFallibleIterator, FallibleIterator, Fault, convert, empty, once,
