@@ -1,7 +1,2 @@
 -- Lemmas that the answers of this crate cite.
-pub mod Alike
-pub mod Between
-pub mod Full
-pub mod KnownBytes
 pub mod Rises
-pub mod Taking

@@ -1,9 +1,3 @@
 -- What the clauses of `src/` cite.
-pub mod Alike
-pub mod Between
-pub mod Down
-pub mod Full
-pub mod Means
 pub mod Rises
 pub mod Runs
-pub mod Reading

@@ -27,13 +27,6 @@ pub fn elements_from_behind(readings: Vec<Result<u32, u8>>) -> usize
     convert(readings.into_iter()).iterator().rev().count()
 }
 
-/// How many answers come up to the tenth item.
-pub fn elements_of_ten(readings: Vec<Result<u32, u8>>) -> usize
-    ensures { result ≡ length (taken 10 (results readings.items)) }
-{
-    convert(readings.into_iter()).take(10).iterator().count()
-}
-
 /// How many answers of any fallible iterator come up to its end, but no more than ten, which std's `take` counts.
 pub fn up_to_ten<I: FallibleIterator>(it: I) -> usize
 where
@@ -127,17 +120,7 @@ pub fn total(numbers: Vec<u32>) -> u32
     numbers.into_iter().into_fallible().unwrap().sum()
 }
 
-/// How many of the readings are above 100, on the way to std and back.
-pub fn there_and_back(readings: Vec<Result<u32, u8>>) -> Result<usize, u8>
-    ensures { result ≡ counted (filtered (λ x. Ok (nat_lt 100 x)) (results readings.items)) }
-{
-    law_iterator::<Convert<std::vec::IntoIter<Result<u32, u8>, Global>>>();
-    convert(convert(readings.into_iter()).iterator())
-        .filter(|reading| Ok(*reading > 100))
-        .count()
-}
-
-/// The same up to the tenth reading, which a fallible adapter takes on the way.
+/// How many of the first ten readings are above 100, on the way to std and back, up to the tenth taken by a fallible adapter.
 pub fn there_and_back_of_ten(readings: Vec<Result<u32, u8>>) -> Result<usize, u8>
     ensures { result ≡ counted
         (filtered (λ x. Ok (nat_lt 100 x)) (taken 10 (results readings.items))) }

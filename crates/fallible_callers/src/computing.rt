@@ -25,18 +25,6 @@ pub fn above_100_of_ten(readings: Vec<Result<u32, u8>>) -> Result<usize, u8>
         .count()
 }
 
-/// How many of the readings above 100 are still above 1000 once they are doubled.
-pub fn doubled_above_1000(readings: Vec<Result<u32, u8>>) -> Result<usize, u8>
-    ensures { result ≡ counted (filtered (λ x. Ok (nat_lt 1000 x))
-        (mapped (λ x. Ok (x * 2)) (filtered (λ x. Ok (nat_lt 100 x)) (results readings.items)))) }
-{
-    convert(readings.into_iter())
-        .filter(|reading| Ok(*reading > 100))
-        .map(|reading| Ok(u64::from(reading) * 2))
-        .filter(|double| Ok(*double > 1000))
-        .count()
-}
-
 /// How many readings there are, where none is above 100, and else the first failure: the code 7 for a reading above 100.
 pub fn all_up_to_100(readings: Vec<Result<u32, u8>>) -> Result<usize, u8>
     ensures { result ≡ counted

@@ -2,7 +2,7 @@
 ghost use Rattle.std.specs.Prelude.{◌≡◌, ◌+◌, ◌*◌, ◌%◌, ◌^◌, ℕ, Result, Ok, Err, IfOk, Option, length, map, nat_lt};
 ghost use Rattle.std.specs.Ordering.{nat_cmp};
 ghost use Rattle.fallible_iterator.specs.Fault.{Fault};
-ghost use Rattle.fallible_iterator.specs.Lists.{results, all_of, any_of, collected, found, last_of, on_value, position_in, reduced, greatest, least, PartedAs, UnzippedAs, mapped, filtered, numbered, skipped, taken};
+ghost use Rattle.fallible_iterator.specs.Lists.{results, all_of, any_of, collected, last_of, on_value, reduced, greatest, least, PartedAs, UnzippedAs, mapped, filtered, numbered, skipped, taken};
 
 use fallible_iterator::{FallibleIterator, Fault, convert};
 use std::alloc::Global;
@@ -26,13 +26,6 @@ pub fn any_above_100(readings: Vec<Result<u32, u8>>) -> Result<bool, u8>
         .any(|reading| Ok(reading > 100))
 }
 
-/// The place of the first reading above 100, if there is one, or the failure that comes first.
-pub fn place_above_100(readings: Vec<Result<u32, u8>>) -> Result<Option<usize>, u8>
-    ensures { result ≡ position_in (λ x. Ok (nat_lt 100 x)) (results readings.items) }
-{
-    convert(readings.into_iter()).position(|reading| Ok(reading > 100))
-}
-
 /// The sum of the readings modulo 2 ^ 32, or the first failure; none where there is no reading.
 pub fn sum_of_some(readings: Vec<Result<u32, u8>>) -> Result<Option<u32>, u8>
     ensures { result ≡ reduced (λ s x. Ok ((s + x) % 2 ^ 32)) (results readings.items) }
@@ -50,19 +43,6 @@ pub fn greatest_above_100(readings: Vec<Result<u32, u8>>) -> Result<Option<u32>,
         .max()
 }
 
-/// The greatest double of the readings above 100 among the first ten, or the first failure.
-pub fn greatest_double_of_ten(readings: Vec<Result<u32, u8>>) -> Result<Option<u64>, u8>
-    ensures { result ≡ greatest nat_cmp
-        (mapped (λ x. Ok (x * 2))
-        (filtered (λ x. Ok (nat_lt 100 x)) (taken 10 (results readings.items)))) }
-{
-    convert(readings.into_iter())
-        .take(10)
-        .filter(|reading| Ok(*reading > 100))
-        .map(|reading| Ok(u64::from(reading) * 2))
-        .max()
-}
-
 /// The least double above 1000 of the readings after the first, or the first failure.
 pub fn least_double_above_1000(readings: Vec<Result<u32, u8>>) -> Result<Option<u64>, u8>
     ensures { result ≡ least nat_cmp
@@ -74,15 +54,6 @@ pub fn least_double_above_1000(readings: Vec<Result<u32, u8>>) -> Result<Option<
         .map(|reading| Ok(u64::from(reading) * 2))
         .filter(|double| Ok(*double > 1000))
         .min()
-}
-
-/// The first reading above 100 after the first two, if there is one, or the failure that comes first.
-pub fn first_above_100(readings: Vec<Result<u32, u8>>) -> Result<Option<u32>, u8>
-    ensures { result ≡ found (λ x. Ok (nat_lt 100 x)) (skipped 2 (results readings.items)) }
-{
-    convert(readings.into_iter())
-        .skip(2)
-        .find(|reading| Ok(*reading > 100))
 }
 
 /// The last of the first ten readings that are above 100, if there is one, or the failure that comes first.

@@ -2,7 +2,6 @@
 pub mod Expressions
 pub mod Grammar
 pub mod Lines
-pub mod Means
 pub mod Merging
 pub mod Numbers
 pub mod Pages

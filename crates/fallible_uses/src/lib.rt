@@ -11,6 +11,4 @@ pub mod pages;
 pub mod reading;
 pub mod report;
 pub mod table;
-#[cfg(test)]
-mod tests;
 pub mod tokens;

@@ -17,6 +17,7 @@ fn readings<const N: usize>(
     Ok(Vec::from_array(alloc, readings)?)
 }
 
+// The last are orders against a side without an end.
 #[test]
 fn orders(rt: HostRuntime) -> Result<(), Fail> {
     let left = readings(rt.alloc(), [Ok(300), Ok(7)])?;
@@ -31,6 +32,14 @@ fn orders(rt: HostRuntime) -> Result<(), Fail> {
     let left = readings(rt.alloc(), [Ok(1), Err(9)])?;
     let right = readings(rt.alloc(), [Ok(9), Ok(1), Err(3)])?;
     assert_eq!(rt; order_of_ten(left, right), Err(9));
+    let lower = Vec::from_array(rt.alloc(), [Ok::<u32, AllocError>(100), Ok(7)])?;
+    assert_eq!(rt; limit_against(100, lower), Ok(Ordering::Greater));
+    let higher = Vec::from_array(rt.alloc(), [Ok::<u32, AllocError>(100), Ok(101)])?;
+    assert_eq!(rt; limit_against(100, higher), Ok(Ordering::Less));
+    let same = Vec::from_array(rt.alloc(), [Ok::<u32, AllocError>(100), Ok(100)])?;
+    assert_eq!(rt; limit_against(100, same), Ok(Ordering::Greater));
+    let failing = Vec::from_array(rt.alloc(), [Ok::<u32, AllocError>(100), Err(AllocError)])?;
+    assert_eq!(rt; limit_against(100, failing), Err(AllocError));
     Ok(())
 }
 
@@ -86,21 +95,12 @@ fn less_and_greater(rt: HostRuntime) -> Result<(), Fail> {
     Ok(())
 }
 
-#[test]
-fn against_a_side_without_an_end(rt: HostRuntime) -> Result<(), Fail> {
-    let lower = Vec::from_array(rt.alloc(), [Ok::<u32, AllocError>(100), Ok(7)])?;
-    assert_eq!(rt; limit_against(100, lower), Ok(Ordering::Greater));
-    let higher = Vec::from_array(rt.alloc(), [Ok::<u32, AllocError>(100), Ok(101)])?;
-    assert_eq!(rt; limit_against(100, higher), Ok(Ordering::Less));
-    let same = Vec::from_array(rt.alloc(), [Ok::<u32, AllocError>(100), Ok(100)])?;
-    assert_eq!(rt; limit_against(100, same), Ok(Ordering::Greater));
-    let failing = Vec::from_array(rt.alloc(), [Ok::<u32, AllocError>(100), Err(AllocError)])?;
-    assert_eq!(rt; limit_against(100, failing), Err(AllocError));
-    Ok(())
+fn rises_of(readings: Vec<Result<u32, u8>>) -> Result<u64, u8> {
+    rises(convert(readings.into_iter()))
 }
 
 #[test]
-fn of_any_two(rt: HostRuntime) -> Result<(), Fail> {
+fn of_any_source(rt: HostRuntime) -> Result<(), Fail> {
     let left = readings(rt.alloc(), [Ok(1), Ok(2)])?;
     let right = readings(rt.alloc(), [Ok(1), Ok(2)])?;
     assert_eq!(rt;
@@ -112,15 +112,10 @@ fn of_any_two(rt: HostRuntime) -> Result<(), Fail> {
         order_to(repeat(3), convert(right.into_iter())),
         Ok(Ordering::Less)
     );
-    Ok(())
-}
-
-#[test]
-fn rises_of_readings(rt: HostRuntime) -> Result<(), Fail> {
     let good = readings(rt.alloc(), [Ok(5), Ok(600), Ok(100), Ok(501), Ok(501)])?;
-    assert_eq!(rt; rises(convert(good.into_iter())), Ok(2));
+    assert_eq!(rt; rises_of(good), Ok(2));
     let failing = readings(rt.alloc(), [Ok(5), Ok(600), Err(9), Ok(1)])?;
-    assert_eq!(rt; rises(convert(failing.into_iter())), Err(9));
+    assert_eq!(rt; rises_of(failing), Err(9));
     assert_eq!(rt; rises(empty::<u32, u8>()), Ok(0));
     Ok(())
 }

@@ -1,4 +1,4 @@
-//! Vectors: what the callers of `fallible_callers` compute on small inputs. They stand apart, so that the callers are proved once.
+//! Vectors: what the callers of `fallible_callers` and `fallible_callers_drawing` compute on small inputs. They stand apart, so that the callers are proved once.
 #![tactic(auto)]
 
 #[cfg(test)]

@@ -1,5 +1,5 @@
 // Types of one's own that show what they list, drawn from, and under adapters.
-use fallible_callers::own::{Between, Countdown, Span, even_below, even_between, sum_with};
+use fallible_callers_drawing::own::{Between, Countdown, Span, even_below, even_between, sum_with};
 use fallible_iterator::Answer::{End, Failure, Item};
 use fallible_iterator::{Answer, DoubleEndedFallibleIterator, FallibleIterator, convert};
 use fallible_testing::answered::expect_answers;
@@ -7,13 +7,9 @@ use std::cmp::Ordering;
 use std::test::Fail;
 
 #[test]
-fn a_countdown_is_drained(rt: HostRuntime) {
+fn a_countdown_is_drained_and_mapped(rt: HostRuntime) -> Result<(), Fail> {
     assert_eq!(rt; Countdown::new(3).count(), Ok(3));
     assert_eq!(rt; even_below(9), Ok(4));
-}
-
-#[test]
-fn a_countdown_is_mapped_and_filtered(rt: HostRuntime) -> Result<(), Fail> {
     let mut doubled = Countdown::new(4)
         .map(|x| Ok(x.wrapping_mul(2)))
         .filter(|x| Ok(*x % 4 == 0));
@@ -21,17 +17,13 @@ fn a_countdown_is_mapped_and_filtered(rt: HostRuntime) -> Result<(), Fail> {
 }
 
 #[test]
-fn numbers_between_are_drawn_from_both_ends(rt: HostRuntime) {
+fn numbers_between_are_drawn_and_folded_from_both_ends(rt: HostRuntime) {
     let mut it = Between::new(3, 7);
     assert_eq!(rt; it.next(), Ok(Some(3)));
     assert_eq!(rt; it.next_back(), Ok(Some(6)));
     assert_eq!(rt; it.rev().last(), Ok(Some(4)));
     assert_eq!(rt; even_between(3, 9), Ok(3));
     assert_eq!(rt; even_between(9, 3), Ok(0));
-}
-
-#[test]
-fn numbers_between_are_mapped_and_reversed(rt: HostRuntime) {
     let folded = Between::new(1, 4)
         .map(|x: u32| Ok(x.wrapping_mul(2)))
         .rev()
@@ -46,8 +38,23 @@ fn span(low: u32, high: u32) -> Span {
     Span { low, high }
 }
 
+fn order_to_span(high: u32) -> Result<Ordering, u8> {
+    Between::new(1, 3).cmp(span(1, high))
+}
+
+fn sum_with_span(readings: Vec<Result<u32, u8>>) -> Result<u64, u8> {
+    sum_with(convert(readings.into_iter()), span(3, 6))
+}
+
 #[test]
-fn a_span_is_chained_and_zipped(rt: HostRuntime) -> Result<(), Fail> {
+fn a_span_is_chained_zipped_and_compared(rt: HostRuntime) -> Result<(), Fail> {
+    assert_eq!(rt; order_to_span(3), Ok(Ordering::Equal));
+    assert_eq!(rt; order_to_span(4), Ok(Ordering::Less));
+    assert_eq!(rt; Between::new(1, 3).eq(span(1, 4)), Ok(false));
+    let readings = Vec::from_array(rt.alloc(), [Ok(10), Ok(20)])?;
+    assert_eq!(rt; sum_with_span(readings), Ok(42));
+    let failing = Vec::from_array(rt.alloc(), [Ok(10), Err(9)])?;
+    assert_eq!(rt; sum_with_span(failing), Err(9));
     let mut both = Between::new(1, 3).chain(span(5, 7));
     expect_answers(&rt, &mut both, &[Item(1), Item(2), Item(5), Item(6), End])?;
     let mut pairs = Between::new(1, 3).zip(span(5, 9));
@@ -69,20 +76,4 @@ fn spans_are_joined(rt: HostRuntime) -> Result<(), Fail> {
         &mut below,
         &[Item(0), Item(0), Item(1), Item(0), Item(1), Item(2), End],
     )
-}
-
-#[test]
-fn a_span_is_compared(rt: HostRuntime) {
-    assert_eq!(rt; Between::new(1, 3).cmp(span(1, 3)), Ok(Ordering::Equal));
-    assert_eq!(rt; Between::new(1, 3).cmp(span(1, 4)), Ok(Ordering::Less));
-    assert_eq!(rt; Between::new(1, 3).eq(span(1, 4)), Ok(false));
-}
-
-#[test]
-fn readings_and_a_span_are_summed(rt: HostRuntime) -> Result<(), Fail> {
-    let readings = Vec::from_array(rt.alloc(), [Ok(10), Ok(20)])?;
-    assert_eq!(rt; sum_with(convert(readings.into_iter()), span(3, 6)), Ok(42));
-    let failing = Vec::from_array(rt.alloc(), [Ok(10), Err(9)])?;
-    assert_eq!(rt; sum_with(convert(failing.into_iter()), span(3, 6)), Err(9));
-    Ok(())
 }

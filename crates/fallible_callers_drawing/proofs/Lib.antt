@@ -1,0 +1,6 @@
+-- Lemmas that the answers of this crate cite.
+pub mod Alike
+pub mod Between
+pub mod Full
+pub mod KnownBytes
+pub mod Taking

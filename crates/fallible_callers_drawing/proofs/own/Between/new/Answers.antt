@@ -1,0 +1,22 @@
+-- It lists what it shows, from both ends, and as many items are to come as lie between.
+use Rattle.std.specs.Prelude.{length, reverse}
+use Rattle.std.proofs.Common.{arith, inr}
+use Rattle.fallible_iterator.specs.Lists.{reversed}
+use Rattle.fallible_iterator.specs.Laws.Showing.{lists_shown}
+use Rattle.fallible_iterator.specs.Laws.ShowingEnds.{lists_both_shown}
+use Rattle.fallible_callers_drawing.specs.Between.{numbers_between, shows_between}
+use Rattle.fallible_callers_drawing.proofs.Between.{length_between}
+use Rattle.fallible_callers_drawing.proofs.own.Between.new.Goals as goal
+
+pub returns-clause-both : goal.returns-clause-both
+returns-clause-both c = lists_both_shown shows_between _
+
+pub returns-clause-lists : goal.returns-clause-lists
+returns-clause-lists c = lists_shown shows_between _
+
+pub returns-clause-behind : goal.returns-clause-behind
+unfolding reversed
+returns-clause-behind c = lists_shown (λ s. reverse (shows_between s)) _
+
+pub returns-clause-fits : goal.returns-clause-fits
+returns-clause-fits c = let same = length_between c.args.low c.args.high in inr (length (numbers_between c.args.low c.args.high), omega arith, omega (arith, same))

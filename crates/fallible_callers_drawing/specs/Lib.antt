@@ -1,0 +1,7 @@
+-- What the clauses of `src/` cite.
+pub mod Alike
+pub mod Between
+pub mod Down
+pub mod Full
+pub mod Means
+pub mod Reading

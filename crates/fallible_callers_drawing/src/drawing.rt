@@ -1,0 +1,236 @@
+//! Draws by hand.
+ghost use Rattle.std.specs.Prelude.{◌≡◌, ◌+◌, ◌*◌, ◌%◌, ◌^◌, ℕ, List, [], ◌∷◌, Result, Option, Ok, Err, Some, None, false, nat_lt};
+ghost use Rattle.fallible_iterator.specs.Lists.{Lists, behind_first, behind_nth, chained, filtered, first_if, folded, items, looked_at, mapped, nth_of, on_value, results, taken, taken_while, zipped};
+
+use fallible_iterator::laws::{law_next, law_peek};
+use fallible_iterator::{FallibleIterator, convert};
+
+/// The third of the doubled readings above 100 among the first ten, or the failure of a draw before. No clause says what comes where there are fewer than two.
+pub fn third_draw(readings: Vec<Result<u32, u8>>) -> Result<Option<u64>, u8>
+    ensures third { let l : List (Result ℕ ℕ) = mapped (λ x. Ok (x * 2))
+        (filtered (λ x. Ok (nat_lt 100 x)) (taken 10 (results readings.items))) in (x y : ℕ)
+        → nth_of 0 l ≡ Ok (Some x) → nth_of 0 (behind_first l) ≡ Ok (Some y)
+        → result ≡ nth_of 0 (behind_first (behind_first l)) }
+    ensures first_fails { let l : List (Result ℕ ℕ) = mapped (λ x. Ok (x * 2))
+        (filtered (λ x. Ok (nat_lt 100 x)) (taken 10 (results readings.items))) in (e : ℕ)
+        → nth_of 0 l ≡ Err e → result ≡ Err e }
+    ensures second_fails { let l : List (Result ℕ ℕ) = mapped (λ x. Ok (x * 2))
+        (filtered (λ x. Ok (nat_lt 100 x)) (taken 10 (results readings.items))) in (x e : ℕ)
+        → nth_of 0 l ≡ Ok (Some x) → nth_of 0 (behind_first l) ≡ Err e → result ≡ Err e }
+{
+    let mut doubled = convert(readings.into_iter())
+        .take(10)
+        .filter(|reading| Ok(*reading > 100))
+        .map(|reading| Ok(u64::from(reading) * 2));
+    doubled.draw()?;
+    doubled.draw()?;
+    doubled.draw()
+}
+
+/// The first two readings, of which the second is only looked at, or a failure in their place; none in the place of one that isn't there.
+pub fn first_two(readings: Vec<Result<u32, u8>>) -> Result<(Option<u32>, Option<u32>), u8>
+    ensures value { (first : ℕ) (rest : List (Result ℕ ℕ))
+        → results readings.items ≡ Ok first ∷ rest
+        → result ≡ on_value (looked_at (λ x. x) rest) (λ second. Ok (Some first, second)) }
+    ensures fails { (e : ℕ) (rest : List (Result ℕ ℕ))
+        → results readings.items ≡ Err e ∷ rest → result ≡ Err e }
+    ensures none { readings.items ≡ [] → result ≡ Ok (None, None) }
+{
+    let mut ahead = convert(readings.into_iter()).peekable();
+    let first = ahead.peek_copied()?;
+    ahead.draw()?;
+    let second = ahead.look(|reading| *reading)?;
+    Ok((first, second))
+}
+
+/// The second item, where it is above the first. Where it isn't, it is looked at and not drawn. A failure in the place of the first is the answer.
+pub fn second_if_above<I: FallibleIterator<Item = u32>>(it: I) -> Result<Option<u32>, I::Error>
+where
+    requires { I.contract.can_next it }
+    ensures some { (l : List (Result ℕ I.Error)) (first : ℕ) → Lists I.contract.steps it l
+        → nth_of 0 l ≡ Ok (Some first)
+        → result ≡ first_if (λ second. nat_lt first second) (behind_first l) }
+    ensures none { (l : List (Result ℕ I.Error)) → Lists I.contract.steps it l
+        → nth_of 0 l ≡ Ok None → result ≡ Ok None }
+    ensures fails { (l : List (Result ℕ I.Error)) (e : I.Error) → Lists I.contract.steps it l
+        → nth_of 0 l ≡ Err e → result ≡ Err e }
+{
+    let mut ahead = it.peekable();
+    match ahead.draw()? {
+        Some(first) => ahead.next_if(|second| first < *second),
+        None => Ok(None),
+    }
+}
+
+/// Draws until the end, or the first failure, and lets the items go.
+pub fn draw_all<I: FallibleIterator>(it: &mut I) -> Result<(), I::Error>
+where
+    I::Item: Drop,
+    requires can_next { I.contract.can_next it.old }
+    requires finite { I.contract.is_finite it.old }
+    ensures { (l : List (Result I.Item I.Error)) → Lists I.contract.steps it.old l
+        → result ≡ folded (λ e. e) (λ done _. Ok done) tt l }
+{
+    let mut left = (*it).number();
+    while let Some(_) = it.draw()? {
+        left = left.one_less();
+    }
+    Ok(())
+}
+
+/// The sum of the items up to the first that is 0, modulo 2 ^ 64, or the first failure before.
+pub fn sum_up_to_zero<I: FallibleIterator<Item = u32>>(mut it: I) -> Result<u64, I::Error>
+where
+    requires can_next { I.contract.can_next it }
+    requires finite { I.contract.is_finite it }
+    ensures { (l : List (Result ℕ I.Error)) → Lists I.contract.steps it l
+        → result ≡ folded (λ e. e) (λ s x. Ok ((s + x) % 2 ^ 64)) 0
+        (taken_while (λ x. Ok (nat_lt 0 x)) l) }
+{
+    let mut left = it.number();
+    let mut sum: u64 = 0;
+    while let Some(item) = it.draw()? {
+        if item == 0 {
+            return Ok(sum);
+        }
+        left = left.one_less();
+        sum = sum.wrapping_add(u64::from(item));
+    }
+    Ok(sum)
+}
+
+/// The sum of the first two items, modulo 2 ^ 32, which are taken of a borrow.
+pub fn sum_of_two<I: FallibleIterator<Item = u32>>(it: &mut I) -> Result<u32, I::Error>
+where
+    requires { I.contract.can_next it.old }
+    ensures value { (l : List (Result ℕ I.Error)) → Lists I.contract.steps it.old l
+        → result ≡ folded (λ e. e) (λ s x. Ok ((s + x) % 2 ^ 32)) 0 (taken 2 l) }
+    ensures rest { (l : List (Result ℕ I.Error)) (sum second : ℕ)
+        → Lists I.contract.steps it.old l
+        → result ≡ Ok sum → nth_of 1 l ≡ Ok (Some second)
+        → Lists I.contract.steps it.new (behind_nth 1 l) }
+    ensures can_next { I.contract.can_next it.new }
+{
+    (&mut *it)
+        .take(2)
+        .try_fold(0, |sum: u32, x: u32| Ok(sum.wrapping_add(x)))
+}
+
+/// The sum of the first two readings above 100, and the one after them, or the first failure among the three. No clause says what comes where there are fewer than two.
+pub fn two_and_the_next(readings: Vec<Result<u32, u8>>) -> Result<(u32, Option<u32>), u8>
+    ensures value { let l : List (Result ℕ ℕ) = filtered (λ r. Ok (nat_lt 100 r))
+        (results readings.items) in (last : ℕ) → nth_of 1 l ≡ Ok (Some last)
+        → result ≡ on_value (folded (λ e. e) (λ s x. Ok ((s + x) % 2 ^ 32)) 0 (taken 2 l))
+        (λ sum. on_value (nth_of 0 (behind_nth 1 l)) (λ next. Ok (sum, next))) }
+    ensures fails { let l : List (Result ℕ ℕ) = filtered (λ r. Ok (nat_lt 100 r))
+        (results readings.items) in (e : ℕ)
+        → folded (λ e. e) (λ s x. Ok ((s + x) % 2 ^ 32)) 0 (taken 2 l) ≡ Err e → result ≡ Err e }
+{
+    let mut above = convert(readings.into_iter()).filter(|reading| Ok(*reading > 100));
+    let sum = sum_of_two(&mut above)?;
+    Ok((sum, above.draw()?))
+}
+
+/// How many of the first ten items are above 100, modulo 2 ^ 64, which are taken of a borrow.
+pub fn above_100_of_first_ten<I: FallibleIterator<Item = u32>>(it: &mut I) -> Result<u64, I::Error>
+where
+    requires { I.contract.can_next it.old }
+    ensures value { (l : List (Result ℕ I.Error)) → Lists I.contract.steps it.old l
+        → result ≡ folded (λ e. e) (λ n x. Ok ((n + 1) % 2 ^ 64)) 0
+        (filtered (λ x. Ok (nat_lt 100 x)) (taken 10 l)) }
+    ensures rest { (l : List (Result ℕ I.Error)) (n tenth : ℕ)
+        → Lists I.contract.steps it.old l
+        → result ≡ Ok n → nth_of 9 l ≡ Ok (Some tenth)
+        → Lists I.contract.steps it.new (behind_nth 9 l) }
+    ensures can_next { I.contract.can_next it.new }
+{
+    (&mut *it)
+        .take(10)
+        .filter(|x| Ok(*x > 100))
+        .try_fold(0, |n: u64, _| Ok(n.wrapping_add(1)))
+}
+
+/// The item after the first three, which are let go, or the first failure among the four. No clause says what comes where there are fewer than three.
+pub fn after_three<I: FallibleIterator>(it: &mut I) -> Result<Option<I::Item>, I::Error>
+where
+    I::Item: Drop,
+    requires { I.contract.can_next it.old }
+    ensures { (l : List (Result I.Item I.Error)) → Lists I.contract.steps it.old l
+        → ¬ (nth_of 2 l ≡ Ok None)
+        → result ≡ on_value (nth_of 2 l) (λ _. nth_of 0 (behind_nth 2 l)) }
+{
+    (&mut *it).take(3).nth(2)?;
+    it.draw()
+}
+
+/// The first item of a chain of both sides, once the first pair of both was let go, or a failure in the place of that pair. No clause says what comes where an end stands there.
+pub fn after_a_pair<I, J>(mut left: I, mut right: J) -> Result<Option<I::Item>, I::Error>
+where
+    I: FallibleIterator,
+    J: FallibleIterator<Item = I::Item, Error = I::Error>,
+    I::Item: Drop,
+    requires left { I.contract.can_next left }
+    requires right { J.contract.can_next right }
+    ensures { (a b : List (Result I.Item I.Error))
+        → Lists I.contract.steps left a → Lists J.contract.steps right b
+        → ¬ (nth_of 0 (zipped a b) ≡ Ok None)
+        → result ≡ on_value (nth_of 0 (zipped a b))
+        (λ _. nth_of 0 (chained (behind_first a) (behind_first b))) }
+{
+    (&mut left).zip(&mut right).draw()?;
+    left.chain(right).draw()
+}
+
+/// The first pair of both sides, once the first item of a chain of both was let go, or a failure in its place. No clause says what comes where the left has none, or where the right fails.
+pub fn pair_behind_first<I, J>(
+    mut left: I,
+    mut right: J,
+) -> Result<Option<(I::Item, I::Item)>, I::Error>
+where
+    I: FallibleIterator,
+    J: FallibleIterator<Item = I::Item, Error = I::Error>,
+    I::Item: Drop,
+    requires left { I.contract.can_next left }
+    requires right { J.contract.can_next right }
+    ensures { (a : List (Result I.Item I.Error)) (b : List I.Item)
+        → Lists I.contract.steps left a → Lists J.contract.steps right (items b)
+        → ¬ (nth_of 0 a ≡ Ok None)
+        → result ≡ on_value (nth_of 0 a) (λ _. nth_of 0 (zipped (behind_first a) (items b))) }
+{
+    (&mut left).chain(&mut right).draw()?;
+    left.zip(right).draw()
+}
+
+/// The second item, by two plain draws, the first of which is let go, or a failure in its place. No clause says what comes where an end stands there. The law says what each `next` answers and leaves.
+pub fn second_of<I: FallibleIterator>(mut it: I) -> Result<Option<I::Item>, I::Error>
+where
+    I::Item: Drop,
+    requires { I.contract.can_next it }
+    ensures value { (l : List (Result I.Item I.Error)) (x : I.Item) → Lists I.contract.steps it l
+        → nth_of 0 l ≡ Ok (Some x) → result ≡ nth_of 0 (behind_first l) }
+    ensures fails { (l : List (Result I.Item I.Error)) (e : I.Error) → Lists I.contract.steps it l
+        → nth_of 0 l ≡ Err e → result ≡ Err e }
+{
+    law_next::<I>();
+    it.next()?;
+    it.next()
+}
+
+/// Whether there is a first item and it is above 100, or a failure in its place. It is looked at and not drawn. The law says what `peek` answers.
+pub fn begins_above_100<I: FallibleIterator<Item = u32>>(it: I) -> Result<bool, I::Error>
+where
+    requires { I.contract.can_next it }
+    ensures some { (l : List (Result ℕ I.Error)) (x : ℕ) → Lists I.contract.steps it l
+        → nth_of 0 l ≡ Ok (Some x) → result ≡ Ok (nat_lt 100 x) }
+    ensures none { (l : List (Result ℕ I.Error)) → Lists I.contract.steps it l
+        → nth_of 0 l ≡ Ok None → result ≡ Ok false }
+    ensures fails { (l : List (Result ℕ I.Error)) (e : I.Error) → Lists I.contract.steps it l
+        → nth_of 0 l ≡ Err e → result ≡ Err e }
+{
+    law_peek::<I>();
+    let mut ahead = it.peekable();
+    match ahead.peek()? {
+        Some(first) => Ok(*first > 100),
+        None => Ok(false),
+    }
+}

@@ -1,0 +1,184 @@
+//! Sources of one's own that show what they list.
+ghost use Rattle.std.specs.Prelude.{◌≡◌, ℕ, ◌+◌, ◌-◌, ◌%◌, ◌^◌, ◌≤◌, eqb, List, Result, Ok};
+ghost use Rattle.fallible_iterator.specs.BothEnds.{ListsBothEnds};
+ghost use Rattle.fallible_iterator.specs.Contract.{AtMost};
+ghost use Rattle.fallible_iterator.specs.Laws.Showing.{lawful_listing};
+ghost use Rattle.fallible_iterator.specs.Laws.ShowingEnds.{lawful_listing_ends};
+ghost use Rattle.fallible_iterator.specs.Lists.{Lists, CollectedAs, chained, counted, filtered, flattened, folded, mapped, results, reversed, taken};
+ghost use Rattle.fallible_iterator.specs.Showing.{listing};
+ghost use Rattle.fallible_iterator.specs.ShowingEnds.{listing_ends};
+ghost use Rattle.fallible_callers_drawing.specs.Between.{numbers_between, shows_between};
+ghost use Rattle.fallible_callers_drawing.specs.Down.{counting_from, counts_down, down_from};
+
+use fallible_iterator::{
+    DoubleEndedFallibleIterator, FallibleIterator, Fault, IntoFallibleIterator, convert,
+};
+use std::alloc::Global;
+
+/// Counts down to 1, and then ends.
+#[derive(Drop)]
+pub struct Countdown {
+    left: u32,
+}
+
+impl FallibleIterator for Countdown {
+    type Item = u32;
+
+    type Error = u8;
+
+    ghost contract = { listing counts_down };
+
+    /// The next lower number.
+    fn next(&mut self) -> Result<Option<u32>, u8> {
+        if self.left == 0 {
+            return Ok(None);
+        }
+        let x = self.left;
+        self.left -= 1;
+        Ok(Some(x))
+    }
+
+    fn size_hint(&self) -> (usize, Option<usize>) {
+        (0, None)
+    }
+
+    ghost lawful = { lawful_listing counts_down };
+}
+
+impl Countdown {
+    /// A countdown from a number.
+    pub fn new(left: u32) -> Countdown
+        ensures lists { Lists (listing counts_down).steps result (down_from left) }
+        ensures fits { AtMost (listing counts_down) result left }
+    {
+        Countdown { left }
+    }
+}
+
+/// How many of the numbers from n down to 1 are even.
+pub fn even_below(n: u32) -> Result<usize, u8>
+    ensures { result ≡ counted (filtered (λ x. Ok (eqb (x % 2) 0)) (down_from n)) }
+{
+    Countdown::new(n).filter(|x| Ok(*x % 2 == 0)).count()
+}
+
+/// The countdowns from each number, one after the other, of which at most 1000 numbers come, where memory suffices.
+pub fn countdowns(alloc: Global, numbers: Vec<Result<u32, u8>>) -> Result<Vec<u32>, Fault<u8>>
+    ensures { CollectedAs (λ xs v. v.items ≡ xs)
+        (taken 1000
+        (flattened counts_down (mapped (λ n. Ok (counting_from n)) (results numbers.items))))
+        result }
+{
+    convert(numbers.into_iter())
+        .flat_map(|number: u32| Ok(Countdown { left: number }))
+        .take(1000)
+        .collect(alloc)
+}
+
+/// The numbers from `low` to below `high`, from either end.
+#[derive(Drop)]
+pub struct Between {
+    low: u32,
+    high: u32,
+}
+
+impl FallibleIterator for Between {
+    type Item = u32;
+
+    type Error = u8;
+
+    ghost contract = { listing shows_between };
+
+    /// The lowest number that is left.
+    fn next(&mut self) -> Result<Option<u32>, u8> {
+        if self.low >= self.high {
+            return Ok(None);
+        }
+        let x = self.low;
+        self.low += 1;
+        Ok(Some(x))
+    }
+
+    fn size_hint(&self) -> (usize, Option<usize>) {
+        (0, None)
+    }
+
+    ghost lawful = { lawful_listing shows_between };
+}
+
+impl DoubleEndedFallibleIterator for Between {
+    ghost ends = { listing_ends shows_between };
+
+    /// The greatest number that is left.
+    fn next_back(&mut self) -> Result<Option<u32>, u8> {
+        if self.low >= self.high {
+            return Ok(None);
+        }
+        self.high -= 1;
+        Ok(Some(self.high))
+    }
+
+    ghost lawful_ends = { lawful_listing_ends shows_between };
+}
+
+impl Between {
+    /// The numbers from `low` to below `high`.
+    pub fn new(low: u32, high: u32) -> Between
+        ensures both { ListsBothEnds (listing shows_between).steps
+            (listing_ends shows_between).steps result (numbers_between low high) }
+        ensures lists { Lists (listing shows_between).steps result (numbers_between low high) }
+        ensures behind { Lists (listing_ends shows_between).steps result
+            (reversed (numbers_between low high)) }
+        ensures fits { AtMost (listing shows_between) result (high - low) }
+    {
+        Between { low, high }
+    }
+}
+
+/// How many of the numbers from `low` to below `high` are even, counted from behind.
+pub fn even_between(low: u32, high: u32) -> Result<usize, u8>
+    ensures { result ≡ counted
+        (filtered (λ x. Ok (eqb (x % 2) 0)) (reversed (numbers_between low high))) }
+{
+    Between::new(low, high)
+        .rev()
+        .filter(|x| Ok(*x % 2 == 0))
+        .count()
+}
+
+/// The numbers from `low` to below `high`. It is no iterator, and becomes one.
+#[derive(Drop)]
+pub struct Span {
+    /// the lowest number
+    pub low: u32,
+    /// above the greatest number
+    pub high: u32,
+}
+
+impl IntoFallibleIterator for Span {
+    type Item = u32;
+
+    type Error = u8;
+
+    type IntoFallibleIter = Between;
+
+    ghost into_gives = { λ span it. Lists (listing shows_between).steps it
+        (numbers_between span.low span.high) };
+
+    fn into_fallible_iter(self) -> Between {
+        Between::new(self.low, self.high)
+    }
+}
+
+/// The sum of the items and then of the numbers of a span, modulo 2 ^ 64, or the first failure.
+pub fn sum_with<I: FallibleIterator<Item = u32, Error = u8>>(it: I, span: Span) -> Result<u64, u8>
+where
+    requires can_next { I.contract.can_next it }
+    requires finite { I.contract.is_finite it }
+    ensures { (l : List (Result ℕ ℕ)) → Lists I.contract.steps it l
+        → result ≡ folded (λ e. e) (λ s x. Ok ((s + x) % 2 ^ 64)) 0
+        (chained l (numbers_between span.low span.high)) }
+{
+    it.chain(span)
+        .fold(0, |sum: u64, x: u32| Ok(sum.wrapping_add(u64::from(x))))
+}
