@@ -9,19 +9,22 @@ fn last_of(answers: &[Result<u32, u32>]) -> (Result<Option<u32>, u32>, Result<Op
 }
 
 #[test]
-fn last_is_none_without_an_item_and_stops_at_a_failure(rt: HostRuntime) {
+fn last_and_nth_answer_an_item_or_none(rt: HostRuntime) {
     assert_eq!(rt;
         last_of(&[Ok(0), Ok(1), Ok(2), Ok(3)]),
         (Ok(Some(3)), Ok(None))
     );
     assert_eq!(rt; last_of(&[]), (Ok(None), Ok(None)));
     assert_eq!(rt; last_of(&[Ok(0), Err(9), Ok(2)]), (Err(9), Ok(Some(2))));
-}
-
-#[test]
-fn last_of_a_chain_with_an_empty_back_is_the_front_s(rt: HostRuntime) {
+    // The last of a chain with an empty back is the front's.
     let it = once::<u32, u32>(1).chain(empty());
     assert_eq!(rt; it.last(), Ok(Some(1)));
+    let answers = [Ok(0), Ok(1), Ok(2), Ok(3)];
+    let mut it = numbers(&answers);
+    assert_eq!(rt;
+        [it.nth(1), it.nth(0), it.nth(2)],
+        [Ok(Some(1)), Ok(Some(2)), Ok(None)]
+    );
 }
 
 // What the items come to by their digits, where 7 is a failure, and what the next draw answers.
@@ -42,14 +45,4 @@ fn reduce_begins_with_the_first_item(rt: HostRuntime) {
     assert_eq!(rt; reduced(&[]), (Ok(None), Ok(None)));
     assert_eq!(rt; reduced(&[Ok(5), Err(9), Ok(3)]), (Err(9), Ok(Some(3))));
     assert_eq!(rt; reduced(&[Ok(5), Ok(7), Ok(3)]), (Err(1), Ok(Some(3))));
-}
-
-#[test]
-fn nth_of_four_items(rt: HostRuntime) {
-    let answers = [Ok(0), Ok(1), Ok(2), Ok(3)];
-    let mut it = numbers(&answers);
-    assert_eq!(rt;
-        [it.nth(1), it.nth(0), it.nth(2)],
-        [Ok(Some(1)), Ok(Some(2)), Ok(None)]
-    );
 }
