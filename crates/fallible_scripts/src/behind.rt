@@ -22,21 +22,17 @@ where
     it.try_rfold(0, put_behind)
 }
 
-#[test]
-fn rev_counts_by_one_fold_from_behind(rt: HostRuntime) {
-    let log = Log::new();
-    let answers = [Ok(0), Err(1), Ok(2), Err(3)];
-    assert_eq!(rt; counted(&answers, &log).rev().count(), Err(3));
-    assert_eq!(rt; log.calls(), Calls::none().rfolds(1));
-}
-
 // Fails with its first item.
 fn stop(_: u32, x: u32) -> Result<u32, u32> {
     Err(x)
 }
 
 #[test]
-fn rev_folds_by_one_fold_of_the_other_end(rt: HostRuntime) {
+fn rev_counts_and_folds_by_one_fold_of_the_other_end(rt: HostRuntime) {
+    let log = Log::new();
+    let answers = [Ok(0), Err(1), Ok(2), Err(3)];
+    assert_eq!(rt; counted(&answers, &log).rev().count(), Err(3));
+    assert_eq!(rt; log.calls(), Calls::none().rfolds(1));
     let log = Log::new();
     let answers = [Ok(1), Ok(2), Ok(3)];
     let mut it = counted(&answers, &log).rev();
@@ -68,7 +64,7 @@ fn map_stopped_from_behind_goes_on_at_both_ends(rt: HostRuntime) {
 }
 
 #[test]
-fn filter_draws_and_folds_from_behind_by_folds(rt: HostRuntime) {
+fn filter_and_filter_map_draw_and_fold_from_behind_by_folds(rt: HostRuntime) {
     let log = Log::new();
     let answers = [Ok(1), Ok(2), Ok(3), Ok(4)];
     let mut it = counted(&answers, &log).filter(is_even);
@@ -78,6 +74,11 @@ fn filter_draws_and_folds_from_behind_by_folds(rt: HostRuntime) {
     let mut it = counted(&answers, &log).filter(is_even);
     assert_eq!(rt; it.try_rfold(0, put_behind), Ok(42));
     assert_eq!(rt; log.calls(), Calls::none().rfolds(3));
+    let log = Log::new();
+    let mut it = counted(&answers, &log).filter_map(tens_of_even);
+    assert_eq!(rt; it.draw_back(), Ok(Some(40)));
+    assert_eq!(rt; it.try_rfold(0, add_up), Ok(20));
+    assert_eq!(rt; log.calls(), Calls::none().rfolds(2));
 }
 
 #[test]
@@ -113,40 +114,27 @@ fn chain_stopped_in_its_second_goes_on_there(rt: HostRuntime) {
     assert_eq!(rt; seconds.calls(), Calls::none().next_backs(1).rfolds(1));
 }
 
-#[test]
-fn cloned_folds_from_behind_by_one_fold(rt: HostRuntime) {
-    let log = Log::new();
-    let numbers = [1, 2];
-    let it = convert(numbers.iter().map(|x| Ok::<&u32, TestError>(x)));
-    let mut it = Counted::new(it, &log).cloned();
-    let stopped: Result<u32, TestError> = it.try_rfold(
-        0,
-        |_: u32, x: u32| Err(TestError::Number(x)),
-    );
-    assert_eq!(rt; stopped, Err(TestError::Number(2)));
-    assert_eq!(rt; log.calls(), Calls::none().rfolds(1));
-}
-
-#[test]
-fn filter_map_draws_and_folds_from_behind_by_folds(rt: HostRuntime) {
-    let log = Log::new();
-    let answers = [Ok(1), Ok(2), Ok(3), Ok(4)];
-    let mut it = counted(&answers, &log).filter_map(tens_of_even);
-    assert_eq!(rt; it.draw_back(), Ok(Some(40)));
-    assert_eq!(rt; it.try_rfold(0, add_up), Ok(20));
-    assert_eq!(rt; log.calls(), Calls::none().rfolds(2));
-}
-
 // Fails with 9 on 1.
 fn look(x: &u32) -> Result<(), u32> {
     if *x == 1 { Err(9) } else { Ok(()) }
 }
 
+// Fails with its first clone.
+fn stop_at_clone(_: u32, x: u32) -> Result<u32, TestError> {
+    Err(TestError::Number(x))
+}
+
 #[test]
-fn inspect_and_map_err_fold_from_behind_by_one_fold(rt: HostRuntime) {
+fn inspect_map_err_and_cloned_fold_from_behind_by_one_fold(rt: HostRuntime) {
     let log = Log::new();
     let answers = [Ok(1), Ok(2), Ok(3)];
     let mut it = counted(&answers, &log).inspect(look).map_err(hundred_more);
     assert_eq!(rt; it.try_rfold(0, add_up), Err(109));
+    assert_eq!(rt; log.calls(), Calls::none().rfolds(1));
+    let log = Log::new();
+    let numbers = [1, 2];
+    let it = convert(numbers.iter().map(|x| Ok::<&u32, TestError>(x)));
+    let mut it = Counted::new(it, &log).cloned();
+    assert_eq!(rt; it.try_rfold(0, stop_at_clone), Err(TestError::Number(2)));
     assert_eq!(rt; log.calls(), Calls::none().rfolds(1));
 }

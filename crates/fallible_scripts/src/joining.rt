@@ -18,7 +18,7 @@ fn add_up_to_three(sum: u32, x: u32) -> Result<u32, u32> {
 }
 
 #[test]
-fn chain_folds_each_side_once(rt: HostRuntime) {
+fn chain_folds_each_side_once_and_goes_on(rt: HostRuntime) {
     let (firsts, seconds) = (Log::new(), Log::new());
     let (first, second) = ([Ok(1), Ok(2)], [Ok(3), Ok(4)]);
     let mut it = counted(&first, &firsts).chain(counted(&second, &seconds));
@@ -26,10 +26,7 @@ fn chain_folds_each_side_once(rt: HostRuntime) {
     assert_eq!(rt; it.next(), Ok(Some(4)));
     assert_eq!(rt; firsts.calls(), Calls::none().folds(1));
     assert_eq!(rt; seconds.calls(), Calls::none().nexts(1).folds(1));
-}
-
-#[test]
-fn chain_folds_its_first_on_after_a_failure(rt: HostRuntime) {
+    // After a failure it folds its first on.
     let (firsts, seconds) = (Log::new(), Log::new());
     let (first, second) = ([Ok(1), Err(9), Ok(2)], [Ok(4)]);
     let mut it = counted(&first, &firsts).chain(counted(&second, &seconds));
@@ -41,36 +38,27 @@ fn chain_folds_its_first_on_after_a_failure(rt: HostRuntime) {
     assert_eq!(rt; seconds.calls(), Calls::none().folds(1));
 }
 
-// Two ranges, whose bounds add up to one that fits.
-#[test]
-fn chain_counts_each_side_once(rt: HostRuntime) {
-    let (firsts, seconds) = (Log::new(), Log::new());
-    let first = Counted::new((1u32..3).into_fallible(), &firsts);
-    let second = Counted::new((3u32..4).into_fallible(), &seconds);
-    assert_eq!(rt; first.chain(second).count(), Ok(3));
-    assert_eq!(rt; firsts.calls(), Calls::none().counts(1));
-    assert_eq!(rt; seconds.calls(), Calls::none().counts(1));
-}
-
-#[test]
-fn chain_takes_the_last_of_each_side(rt: HostRuntime) {
-    let (firsts, seconds) = (Log::new(), Log::new());
-    let (first, second) = ([Ok(1), Ok(2)], [Ok(3)]);
-    let it = counted(&first, &firsts).chain(counted(&second, &seconds));
-    assert_eq!(rt; it.last(), Ok(Some(3)));
-    assert_eq!(rt; firsts.calls(), Calls::none().lasts(1));
-    assert_eq!(rt; seconds.calls(), Calls::none().lasts(1));
-}
-
 // Whether the item is 3.
 fn is_three(x: &u32) -> Result<bool, u32> {
     Ok(*x == 3)
 }
 
 #[test]
-fn chain_searches_each_side_once(rt: HostRuntime) {
+fn chain_counts_searches_and_takes_the_last_of_each_side_once(rt: HostRuntime) {
+    // Two ranges, whose bounds add up to one that fits.
+    let (firsts, seconds) = (Log::new(), Log::new());
+    let first = Counted::new((1u32..3).into_fallible(), &firsts);
+    let second = Counted::new((3u32..4).into_fallible(), &seconds);
+    assert_eq!(rt; first.chain(second).count(), Ok(3));
+    assert_eq!(rt; firsts.calls(), Calls::none().counts(1));
+    assert_eq!(rt; seconds.calls(), Calls::none().counts(1));
     let (firsts, seconds) = (Log::new(), Log::new());
     let (first, second) = ([Ok(1), Ok(2)], [Ok(3)]);
+    let it = counted(&first, &firsts).chain(counted(&second, &seconds));
+    assert_eq!(rt; it.last(), Ok(Some(3)));
+    assert_eq!(rt; firsts.calls(), Calls::none().lasts(1));
+    assert_eq!(rt; seconds.calls(), Calls::none().lasts(1));
+    let (firsts, seconds) = (Log::new(), Log::new());
     let mut it = counted(&first, &firsts).chain(counted(&second, &seconds));
     assert_eq!(rt; it.find(is_three), Ok(Some(3)));
     assert_eq!(rt; firsts.calls(), Calls::none().finds(1));
@@ -123,17 +111,20 @@ fn digits_mapped_flat(outer: &Log, inners: &Log) -> Result<u32, Infallible> {
 }
 
 #[test]
-fn flat_map_folds_each_source_once(rt: HostRuntime) {
+fn flatten_and_flat_map_fold_each_source_once(rt: HostRuntime) {
     let (outer, inners) = (Log::new(), Log::new());
     assert_eq!(rt; digits_mapped_flat(&outer, &inners).ok(), Some(3434));
     assert_eq!(rt; outer.calls(), Calls::none().folds(1));
     assert_eq!(rt; inners.calls(), Calls::none().folds(2));
-}
-
-#[test]
-fn flatten_folds_the_inner_iterator_in_hand_first(rt: HostRuntime) {
     let (outer, firsts, seconds) = (Log::new(), Log::new(), Log::new());
     let (first, second) = ([Ok(1), Ok(2)], [Ok(3)]);
+    let sum = summed_flat(counted(&first, &firsts), counted(&second, &seconds), &outer);
+    assert_eq!(rt; sum, Ok(6));
+    assert_eq!(rt; outer.calls(), Calls::none().folds(1));
+    assert_eq!(rt; firsts.calls(), Calls::none().folds(1));
+    assert_eq!(rt; seconds.calls(), Calls::none().folds(1));
+    // The inner iterator in hand is folded first.
+    let (outer, firsts, seconds) = (Log::new(), Log::new(), Log::new());
     let both = first_and_sum_of_others(
         counted(&first, &firsts),
         counted(&second, &seconds),
@@ -142,16 +133,5 @@ fn flatten_folds_the_inner_iterator_in_hand_first(rt: HostRuntime) {
     assert_eq!(rt; both, (Ok(Some(1)), Ok(5)));
     assert_eq!(rt; outer.calls(), Calls::none().folds(2));
     assert_eq!(rt; firsts.calls(), Calls::none().nexts(1).folds(1));
-    assert_eq!(rt; seconds.calls(), Calls::none().folds(1));
-}
-
-#[test]
-fn flatten_folds_each_source_once(rt: HostRuntime) {
-    let (outer, firsts, seconds) = (Log::new(), Log::new(), Log::new());
-    let (first, second) = ([Ok(1), Ok(2)], [Ok(3)]);
-    let sum = summed_flat(counted(&first, &firsts), counted(&second, &seconds), &outer);
-    assert_eq!(rt; sum, Ok(6));
-    assert_eq!(rt; outer.calls(), Calls::none().folds(1));
-    assert_eq!(rt; firsts.calls(), Calls::none().folds(1));
     assert_eq!(rt; seconds.calls(), Calls::none().folds(1));
 }
