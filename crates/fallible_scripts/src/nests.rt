@@ -37,18 +37,20 @@ fn chain_under_peekable_gives_a_held_item_first_and_ends_at_a_held_end(
 ) -> Result<(), Fail> {
     let second = [Ok(3), Err(9)];
     let mut it = over_an_end(rt.alloc())?.chain(numbers(&second)).peekable();
-    assert_eq!(rt; it.peek_copied(), Ok(Some(1)));
-    assert_eq!(rt; digits(&mut it), (13, Err(9)));
-    assert_eq!(rt; it.draw(), Ok(None));
+    assert_eq!(rt;
+        (it.peek_copied(), digits(&mut it), it.draw()),
+        (Ok(Some(1)), (13, Err(9)), Ok(None))
+    );
     let mut drawn = over_an_end(rt.alloc())?.chain(numbers(&second)).peekable();
     expect_answers(&rt, &mut drawn, &[Item(1), Item(3), Failure(9), End])?;
     let first = [Ok(1)];
     let second = scripted::<u32, u32, 2>(rt.alloc(), [Ok(None), Ok(Some(3))])?;
     let mut it = numbers(&first).chain(second).peekable();
-    assert_eq!(rt; it.draw(), Ok(Some(1)));
-    assert_eq!(rt; it.peek_copied(), Ok(None));
-    assert_eq!(rt; digits(&mut it), (0, Ok(())));
-    assert_eq!(rt; digits(&mut it), (3, Ok(())));
+    assert_eq!(rt; [it.draw(), it.peek_copied()], [Ok(Some(1)), Ok(None)]);
+    assert_eq!(rt;
+        [digits(&mut it), digits(&mut it)],
+        [(0, Ok(())), (3, Ok(()))]
+    );
     let second = scripted::<u32, u32, 2>(rt.alloc(), [Ok(None), Ok(Some(3))])?;
     let mut drawn = numbers(&first).chain(second).peekable();
     expect_answers(&rt, &mut drawn, &[Item(1), End, Item(3), End])
