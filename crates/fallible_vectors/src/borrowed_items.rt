@@ -50,8 +50,13 @@ fn lent_pages_are_collected_up_to_a_failure_and_counted(rt: HostRuntime) -> Resu
     expect_source_fault(listed_numbers(rt.alloc(), pages.as_slice()), 3)?;
     let (first, second, third) = ([5, 6], [], [7]);
     let pages = [first.as_slice(), second.as_slice(), third.as_slice()];
-    assert_eq!(rt; counted_items(pages.as_slice()), Ok(3));
-    assert_eq!(rt; counted_behind_a_peek(pages.as_slice()), Ok(3));
+    assert_eq!(rt;
+        [
+            counted_items(pages.as_slice()),
+            counted_behind_a_peek(pages.as_slice())
+        ],
+        [Ok(3), Ok(3)]
+    );
     Ok(())
 }
 
@@ -87,14 +92,18 @@ fn short_words_after_a_short_one(text: &str) -> Result<usize, ()> {
 
 #[test]
 fn borrowed_words_and_numbers_are_drained_and_peeked_at(rt: HostRuntime) -> Result<(), Fail> {
-    assert_eq!(rt; counted_words("one two\n\n  three\n"), Ok(3));
-    assert_eq!(rt; first_word("\n  one two\nthree"), Ok(Some("one")));
-    assert_eq!(rt; first_word("\n \n"), Ok(None));
     assert_eq!(rt;
-        short_words_after_a_short_one("one two six three ten"),
-        Ok(2)
+        [
+            counted_words("one two\n\n  three\n"),
+            short_words_after_a_short_one("one two six three ten"),
+            short_words_after_a_short_one("three ten")
+        ],
+        [Ok(3), Ok(2), Ok(0)]
     );
-    assert_eq!(rt; short_words_after_a_short_one("three ten"), Ok(0));
+    assert_eq!(rt;
+        [first_word("\n  one two\nthree"), first_word("\n \n")],
+        [Ok(Some("one")), Ok(None)]
+    );
     let numbers = [1u32, 2, 3];
     let mut it = IntoFallible::from(numbers.iter()).peekable();
     assert_eq!(rt; it.peek(), Ok(Some(&&1)));

@@ -1,6 +1,7 @@
 // The std iterators over fallible ones.
 use fallible_iterator::{FallibleIterator, IteratorExt, convert, once_err};
 use fallible_testing::numbers::numbers;
+use fallible_testing::rows::expect_rows;
 use fallible_testing::scripted::scripted;
 use std::alloc::AllocError;
 use std::test::Fail;
@@ -23,26 +24,30 @@ where
 #[test]
 fn iterator_gives_each_failure_as_an_element(rt: HostRuntime) -> Result<(), Fail> {
     let nothing = (0, None);
-    assert_eq!(rt;
-        three_elements(numbers(&[Ok(1), Err(2)])),
-        (nothing, [Some(Ok(1)), Some(Err(2)), None])
-    );
-    assert_eq!(rt;
-        three_elements(once_err::<u32, u32>(4)),
-        (nothing, [Some(Err(4)), None, None])
-    );
-    // It draws again after an end.
-    let answers: [Result<Option<u32>, u32>; 3] = [Ok(Some(1)), Ok(None), Ok(Some(2))];
-    assert_eq!(rt;
-        three_elements(scripted(rt.alloc(), answers)?),
-        (nothing, [Some(Ok(1)), None, Some(Ok(2))])
-    );
+    let again = [Ok(Some(1)), Ok(None), Ok(Some(2))];
+    expect_rows(&[
+        (
+            three_elements(numbers(&[Ok(1), Err(2)])),
+            (nothing, [Some(Ok(1)), Some(Err(2)), None]),
+        ),
+        (
+            three_elements(once_err(4)),
+            (nothing, [Some(Err(4)), None, None]),
+        ),
+        // It draws again after an end.
+        (
+            three_elements(scripted(rt.alloc(), again)?),
+            (nothing, [Some(Ok(1)), None, Some(Ok(2))]),
+        ),
+    ])?;
     // It has two ends and a clone.
     let answers = [Ok(1), Err(2), Ok(3)];
     let mut it = numbers(&answers).iterator();
     let mut clone = it.clone()?;
-    assert_eq!(rt; [it.next(), it.next_back()], [Some(Ok(1)), Some(Ok(3))]);
-    assert_eq!(rt; [it.next_back(), it.next()], [Some(Err(2)), None]);
+    assert_eq!(rt;
+        [it.next(), it.next_back(), it.next_back(), it.next()],
+        [Some(Ok(1)), Some(Ok(3)), Some(Err(2)), None]
+    );
     assert_eq!(rt; clone.next(), Some(Ok(1)));
     Ok(())
 }

@@ -165,21 +165,28 @@ fn collect_into_a_vec_whose_request_may_be_refused(rt: HostRuntime) -> Result<()
 
 #[test]
 fn collect_draws_no_more_after_a_failure_or_a_refusal(rt: HostRuntime) -> Result<(), Fail> {
-    let (made, next) = collected(rt.alloc(), &[Ok(0), Err(1), Ok(2), Err(3)]);
+    let (made, first) = collected(rt.alloc(), &[Ok(0), Err(1), Ok(2), Err(3)]);
     expect_source_fault(made, 1)?;
-    assert_eq!(rt; next, Ok(Some(2)));
-    let (made, next) = collected(rt.alloc(), &[Ok(0), Err(1), Ok(2)]);
+    let (made, second) = collected(rt.alloc(), &[Ok(0), Err(1), Ok(2)]);
     expect_source_fault(made, 1)?;
-    assert_eq!(rt; next, Ok(Some(2)));
+    let answers = [Ok(1), Ok(2), Ok(3)];
+    let mut it = numbers(&answers);
+    expect_refused(it.by_ref().collect::<Hungry>(rt.alloc()))?;
+    assert_eq!(rt;
+        [first, second, it.next()],
+        [Ok(Some(2)), Ok(Some(2)), Ok(Some(2))]
+    );
+    Ok(())
+}
+
+#[test]
+fn collect_takes_no_room_ahead_and_counts_into_a_counter(rt: HostRuntime) -> Result<(), Fail> {
     // A `Vec` grows with its items, by a factor: for five of them it has nowhere near 1,000 places.
     let (made, _) = collected(rt.alloc(), &[Ok(0), Ok(1), Ok(2), Ok(3), Ok(4)]);
     assert!(rt; made.expect(&rt, "a collection").capacity() < 1_000);
     let answers = [Ok(1), Ok(2), Ok(3)];
     let made = numbers(&answers).collect::<Total>(rt.alloc());
     assert_eq!(rt; made.expect(&rt, "a collection").count, 3);
-    let mut it = numbers(&answers);
-    expect_refused(it.by_ref().collect::<Hungry>(rt.alloc()))?;
-    assert_eq!(rt; it.next(), Ok(Some(2)));
     // A failure becomes a fault of the source.
     expect_source_fault::<(), u32>(Err(Fault::from(7)), 7)
 }

@@ -46,13 +46,14 @@ impl Collect<u32> for Greedy {
 fn count_fold_and_collect_draw_nothing_after_what_decides(rt: HostRuntime) -> Result<(), Fail> {
     let answers = [Ok(1), Err(2), Ok(3)];
     let mut it = numbers(&answers);
-    assert_eq!(rt; it.by_ref().count(), Err(2));
-    assert_eq!(rt; it.next(), Ok(Some(3)));
+    assert_eq!(rt; (it.by_ref().count(), it.next()), (Err(2), Ok(Some(3))));
     // Its closure fails.
     let answers = [Ok(1), Ok(5), Ok(3)];
     let mut it = numbers(&answers);
-    assert_eq!(rt; it.by_ref().fold(0, low_sum), Err(5));
-    assert_eq!(rt; it.next(), Ok(Some(3)));
+    assert_eq!(rt;
+        (it.by_ref().fold(0, low_sum), it.next()),
+        (Err(5), Ok(Some(3)))
+    );
     // Its collection is refused.
     let answers = [Ok(1), Ok(2)];
     let mut it = numbers(&answers);

@@ -48,7 +48,6 @@ fn from_fn_convert_fused_and_transposed_give_each_answer(rt: HostRuntime) -> Res
 fn empty_once_and_once_err_end(rt: HostRuntime) -> Result<(), Fail> {
     let mut it = empty::<u32, u32>();
     assert_eq!(rt; [it.next(), it.next()], [Ok(None), Ok(None)]);
-    expect_answers(&rt, &mut empty::<u32, u32>(), &[End, End])?;
     let mut it = once::<u32, u32>(5);
     assert_eq!(rt; [it.next(), it.next()], [Ok(Some(5)), Ok(None)]);
     let mut it = once::<u32, u32>(5);
@@ -59,7 +58,7 @@ fn empty_once_and_once_err_end(rt: HostRuntime) -> Result<(), Fail> {
         [it.next(), it.next(), it.next()],
         [Err(4), Ok(None), Ok(None)]
     );
-    expect_answers(&rt, &mut once_err::<u32, u32>(4), &[Failure(4), End, End])
+    Ok(())
 }
 
 #[test]

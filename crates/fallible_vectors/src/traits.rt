@@ -40,11 +40,20 @@ fn folded_once(x: u32) -> Result<u32, u32>
 
 #[test]
 fn count_and_fold_tell_of_the_items_or_fail(rt: HostRuntime) {
-    assert_eq!(rt; counted(&[Ok(0), Ok(1), Ok(2), Ok(3)]), Ok(4));
-    assert_eq!(rt; counted(&[Ok(0), Err(7), Err(8)]), Err(7));
-    assert_eq!(rt; summed(&[Ok(0), Ok(1), Ok(2), Ok(1)]), Ok(4));
-    assert_eq!(rt; summed(&[Ok(0), Ok(1), Ok(3), Ok(2)]), Err(3));
-    assert_eq!(rt; folded_once(5), Ok(5));
+    let four = [Ok(0), Ok(1), Ok(2), Ok(3)];
+    assert_eq!(rt;
+        [counted(&four), counted(&[Ok(0), Err(7), Err(8)])],
+        [Ok(4), Err(7)]
+    );
+    let at_three = [Ok(0), Ok(1), Ok(3), Ok(2)];
+    assert_eq!(rt;
+        [
+            summed(&[Ok(0), Ok(1), Ok(2), Ok(1)]),
+            summed(&at_three),
+            folded_once(5)
+        ],
+        [Ok(4), Err(3), Ok(5)]
+    );
 }
 
 #[test]
@@ -116,9 +125,14 @@ where
 
 #[test]
 fn fold_in_a_generic_function(rt: HostRuntime) {
-    assert_eq!(rt; steps_taken(once::<u32, u32>(5)), Ok(1));
-    assert_eq!(rt; steps_over(&[Ok(5), Ok(6), Ok(7)]), Ok(3));
-    assert_eq!(rt; steps_over(&[Ok(5), Err(6), Ok(7)]), Err(6));
+    assert_eq!(rt;
+        [
+            steps_taken(once::<u32, u32>(5)),
+            steps_over(&[Ok(5), Ok(6), Ok(7)]),
+            steps_over(&[Ok(5), Err(6), Ok(7)])
+        ],
+        [Ok(1), Ok(3), Err(6)]
+    );
     // It calls a method of its items' bound.
     let answers = [Ok(5), Ok(6), Ok(5)];
     assert_eq!(rt; equal_to(numbers(&answers), &5), Ok(2));
@@ -138,8 +152,6 @@ fn folds_over_borrowed_items(rt: HostRuntime) {
             Err(_) => Err(()),
         })
         .count();
-    // It fails at a bad row.
-    assert_eq!(rt; above, Err(()));
     let longest = convert("ab\nc\ndef".lines().map(found).fuse()).fold(0, |so_far, line| {
         if line.len() < so_far {
             Ok(so_far)
@@ -147,8 +159,11 @@ fn folds_over_borrowed_items(rt: HostRuntime) {
             Ok(line.len())
         }
     });
-    assert_eq!(rt; longest, Ok(3));
     let lines = convert("ab\nc\ndef".lines().map(found).fuse());
-    assert_eq!(rt; greatest_length(lines), Ok(3));
+    // The first fails at a bad row.
+    assert_eq!(rt;
+        [above, longest, greatest_length(lines)],
+        [Err(()), Ok(3), Ok(3)]
+    );
     assert_eq!(rt; greatest_length(once::<&str, u32>("ab")), Ok(2));
 }
