@@ -52,21 +52,28 @@ fn collect_into_sets_and_a_deque_or_fails_with_the_source(rt: HostRuntime) -> Re
     let (answers, failing) = ([Ok(2), Ok(1), Ok(2)], [Ok(0), Err(9), Ok(2)]);
     // A set has each once.
     let set = btree_set(rt.alloc(), &answers).expect(&rt, "a set");
-    assert_eq!(rt; set.len(), 2);
-    assert!(rt; set.contains(&1));
-    assert!(rt; set.contains(&2));
+    assert_eq!(rt;
+        (set.len(), set.contains(&1), set.contains(&2)),
+        (2, true, true)
+    );
     expect_source_fault(btree_set(rt.alloc(), &failing), 9)?;
     let set = hash_set(rt.alloc(), &answers).expect(&rt, "a set");
-    assert_eq!(rt; set.len(), 2);
-    assert!(rt; set.contains(&1));
-    assert!(rt; set.contains(&2));
+    assert_eq!(rt;
+        (set.len(), set.contains(&1), set.contains(&2)),
+        (2, true, true)
+    );
     expect_source_fault(hash_set(rt.alloc(), &failing), 9)?;
     // A deque keeps the order.
     let mut made = deque(rt.alloc(), &answers).expect(&rt, "a deque");
-    assert_eq!(rt; made.pop_front(), Some(2));
-    assert_eq!(rt; made.pop_front(), Some(1));
-    assert_eq!(rt; made.pop_front(), Some(2));
-    assert_eq!(rt; made.pop_front(), None);
+    assert_eq!(rt;
+        [
+            made.pop_front(),
+            made.pop_front(),
+            made.pop_front(),
+            made.pop_front()
+        ],
+        [Some(2), Some(1), Some(2), None]
+    );
     expect_source_fault(deque(rt.alloc(), &failing), 9)
 }
 
@@ -75,14 +82,16 @@ fn collect_into_a_map_keeps_the_last_value_or_fails(rt: HostRuntime) -> Result<(
     let answers = [Ok((1, 'a')), Ok((2, 'b')), Ok((1, 'c'))];
     let failing = [Ok((0, 'a')), Err(9), Ok((2, 'b'))];
     let map = btree_map(rt.alloc(), &answers).expect(&rt, "a map");
-    assert_eq!(rt; map.len(), 2);
-    assert_eq!(rt; map.get(&1), Some(&'c'));
-    assert_eq!(rt; map.get(&2), Some(&'b'));
+    assert_eq!(rt;
+        (map.len(), map.get(&1), map.get(&2)),
+        (2, Some(&'c'), Some(&'b'))
+    );
     expect_source_fault(btree_map(rt.alloc(), &failing), 9)?;
     let map = hash_map(rt.alloc(), &answers).expect(&rt, "a map");
-    assert_eq!(rt; map.len(), 2);
-    assert_eq!(rt; map.get(&1), Some(&'c'));
-    assert_eq!(rt; map.get(&2), Some(&'b'));
+    assert_eq!(rt;
+        (map.len(), map.get(&1), map.get(&2)),
+        (2, Some(&'c'), Some(&'b'))
+    );
     expect_source_fault(hash_map(rt.alloc(), &failing), 9)
 }
 
@@ -105,13 +114,11 @@ fn entry(found: Option<(&Tagged, &u32)>) -> Option<(char, u32)> {
 fn collect_keeps_the_first_of_equal_items_and_of_equal_keys(rt: HostRuntime) {
     let answers = [Ok(tagged(1, 'a')), Ok(tagged(2, 'b')), Ok(tagged(1, 'c'))];
     let set = collected::<BTreeSet<Tagged>, Tagged>(rt.alloc(), &answers).expect(&rt, "a set");
-    assert_eq!(rt; set.len(), 2);
-    assert_eq!(rt; tag(set.get(&tagged(1, 'd'))), Some('a'));
-    assert_eq!(rt; tag(set.get(&tagged(2, 'd'))), Some('b'));
+    let tags = [tag(set.get(&tagged(1, 'd'))), tag(set.get(&tagged(2, 'd')))];
+    assert_eq!(rt; (set.len(), tags), (2, [Some('a'), Some('b')]));
     let set = collected::<HashSet<Tagged>, Tagged>(rt.alloc(), &answers).expect(&rt, "a set");
-    assert_eq!(rt; set.len(), 2);
-    assert_eq!(rt; tag(set.get(&tagged(1, 'd'))), Some('a'));
-    assert_eq!(rt; tag(set.get(&tagged(2, 'd'))), Some('b'));
+    let tags = [tag(set.get(&tagged(1, 'd'))), tag(set.get(&tagged(2, 'd')))];
+    assert_eq!(rt; (set.len(), tags), (2, [Some('a'), Some('b')]));
     // The value is the last one.
     let answers = [
         Ok((tagged(1, 'a'), 10)),
@@ -121,15 +128,25 @@ fn collect_keeps_the_first_of_equal_items_and_of_equal_keys(rt: HostRuntime) {
     let map = collected::<BTreeMap<Tagged, u32>, (Tagged, u32)>(rt.alloc(), &answers).expect(
         &rt, "a map",
     );
-    assert_eq!(rt; map.len(), 2);
-    assert_eq!(rt; entry(map.get_key_value(&tagged(1, 'd'))), Some(('a', 30)));
-    assert_eq!(rt; entry(map.get_key_value(&tagged(2, 'd'))), Some(('b', 20)));
+    let entries = [
+        entry(map.get_key_value(&tagged(1, 'd'))),
+        entry(map.get_key_value(&tagged(2, 'd'))),
+    ];
+    assert_eq!(rt;
+        (map.len(), entries),
+        (2, [Some(('a', 30)), Some(('b', 20))])
+    );
     let map = collected::<HashMap<Tagged, u32>, (Tagged, u32)>(rt.alloc(), &answers).expect(
         &rt, "a map",
     );
-    assert_eq!(rt; map.len(), 2);
-    assert_eq!(rt; entry(map.get_key_value(&tagged(1, 'd'))), Some(('a', 30)));
-    assert_eq!(rt; entry(map.get_key_value(&tagged(2, 'd'))), Some(('b', 20)));
+    let entries = [
+        entry(map.get_key_value(&tagged(1, 'd'))),
+        entry(map.get_key_value(&tagged(2, 'd'))),
+    ];
+    assert_eq!(rt;
+        (map.len(), entries),
+        (2, [Some(('a', 30)), Some(('b', 20))])
+    );
 }
 
 // Making a collection takes no room. The sorted ones tell of none; the program `refusals` makes them too.
@@ -223,21 +240,23 @@ fn vectors_by_even(
 fn partition_draws_nothing_after_a_failure_or_a_refusal(rt: HostRuntime) -> Result<(), Fail> {
     let (sides, next) = vectors_by_even(rt.alloc(), &[Ok(0), Ok(1), Ok(2), Ok(3)]);
     let (even, odd) = sides.expect(&rt, "two collections");
-    assert_eq!(rt; even.as_slice(), [0, 2].as_slice());
-    assert_eq!(rt; odd.as_slice(), [1, 3].as_slice());
-    assert_eq!(rt; next, Ok(None));
-    let (sides, next) = vectors_by_even(rt.alloc(), &[Ok(0), Err(9), Ok(2)]);
+    assert_eq!(rt;
+        (even.as_slice(), odd.as_slice(), next),
+        ([0, 2].as_slice(), [1, 3].as_slice(), Ok(None))
+    );
+    let (sides, failed) = vectors_by_even(rt.alloc(), &[Ok(0), Err(9), Ok(2)]);
     expect_source_fault(sides, 9)?;
-    assert_eq!(rt; next, Ok(Some(2)));
     // What follows a refused item is left.
     let answers = [Ok(0), Ok(1), Ok(2), Ok(4), Ok(6)];
-    let (sides, next) = partition_by_even::<Two>(rt.alloc(), &answers);
+    let (sides, refused) = partition_by_even::<Two>(rt.alloc(), &answers);
     expect_refused(sides)?;
-    assert_eq!(rt; next, Ok(Some(6)));
     // Where the making is refused, all is left.
-    let (sides, next) = partition_by_even::<Never>(rt.alloc(), &[Ok(0), Ok(1)]);
+    let (sides, unmade) = partition_by_even::<Never>(rt.alloc(), &[Ok(0), Ok(1)]);
     expect_refused(sides)?;
-    assert_eq!(rt; next, Ok(Some(0)));
+    assert_eq!(rt;
+        [failed, refused, unmade],
+        [Ok(Some(2)), Ok(Some(6)), Ok(Some(0))]
+    );
     Ok(())
 }
 
@@ -267,21 +286,27 @@ fn unzip_draws_nothing_after_a_failure_or_a_refusal(rt: HostRuntime) -> Result<(
     let pairs = [Ok((0, 0)), Ok((1, -1)), Ok((2, -2)), Ok((3, -3))];
     let (both, next) = vectors_unzipped(rt.alloc(), &pairs);
     let (first, second) = both.expect(&rt, "two collections");
-    assert_eq!(rt; first.as_slice(), [0, 1, 2, 3].as_slice());
-    assert_eq!(rt; second.as_slice(), [0, -1, -2, -3].as_slice());
-    assert_eq!(rt; next, Ok(None));
-    let (both, next) = vectors_unzipped(rt.alloc(), &[Ok((0, 1)), Err(9), Ok((2, 3))]);
+    assert_eq!(rt;
+        (first.as_slice(), second.as_slice(), next),
+        (
+            [0, 1, 2, 3].as_slice(),
+            [0, -1, -2, -3].as_slice(),
+            Ok(None)
+        )
+    );
+    let (both, failed) = vectors_unzipped(rt.alloc(), &[Ok((0, 1)), Err(9), Ok((2, 3))]);
     expect_source_fault(both, 9)?;
-    assert_eq!(rt; next, Ok(Some((2, 3))));
     // What follows a refused part is left.
     let pairs = [Ok((0, 1)), Ok((2, 3)), Ok((4, 5)), Ok((6, 7))];
-    let (both, next) = unzip_of::<Vec<i32>, Two>(rt.alloc(), &pairs);
+    let (both, refused) = unzip_of::<Vec<i32>, Two>(rt.alloc(), &pairs);
     expect_refused(both)?;
-    assert_eq!(rt; next, Ok(Some((6, 7))));
     // Where the second making is refused, all is left.
-    let (both, next) = unzip_of::<Vec<i32>, Never>(rt.alloc(), &[Ok((0, 1)), Ok((2, 3))]);
+    let (both, unmade) = unzip_of::<Vec<i32>, Never>(rt.alloc(), &[Ok((0, 1)), Ok((2, 3))]);
     expect_refused(both)?;
-    assert_eq!(rt; next, Ok(Some((0, 1))));
+    assert_eq!(rt;
+        [failed, refused, unmade],
+        [Ok(Some((2, 3))), Ok(Some((6, 7))), Ok(Some((0, 1)))]
+    );
     Ok(())
 }
 
@@ -290,10 +315,12 @@ fn unzip_into_a_deque_and_a_set(rt: HostRuntime) {
     let pairs = [Ok((2, 7)), Ok((1, 8)), Ok((2, 7))];
     let (both, next) = unzip_of::<VecDeque<i32>, BTreeSet<i32>>(rt.alloc(), &pairs);
     let (mut first, second) = both.expect(&rt, "two collections");
-    assert_eq!(rt; first.pop_front(), Some(2));
-    assert_eq!(rt; first.pop_front(), Some(1));
-    assert_eq!(rt; first.pop_front(), Some(2));
-    assert_eq!(rt; second.len(), 2);
-    assert!(rt; second.contains(&8));
-    assert_eq!(rt; next, Ok(None));
+    assert_eq!(rt;
+        [first.pop_front(), first.pop_front(), first.pop_front()],
+        [Some(2), Some(1), Some(2)]
+    );
+    assert_eq!(rt;
+        (second.len(), second.contains(&8), next),
+        (2, true, Ok(None))
+    );
 }

@@ -4,9 +4,11 @@ ghost use Rattle.std.specs.Prelude.{◌^◌, ◌-◌};
 use crate::parts::Parts;
 use fallible_iterator::{Convert, FallibleIterator, Once, convert, empty, once};
 use fallible_testing::numbers::numbers;
+use fallible_testing::rows::expect_rows;
 use std::cmp::Ordering;
 use std::iter::Copied;
 use std::slice::Iter;
+use std::test::Fail;
 
 // what a draw answers
 type Drawn = Result<Option<f64>, u32>;
@@ -70,52 +72,59 @@ fn cmp_of(
     (answer, right.next())
 }
 
+// Rows of `gt`, `le` and `ge`.
 #[test]
-fn the_first_round_that_differs_or_fails_decides(rt: HostRuntime) {
-    // A left failure is the answer before the right is drawn.
-    let equal = eq_of(&[Ok(1.0), Err(2)], &[Ok(1.0), Ok(3.0)]);
-    assert_eq!(rt; equal, (Err(2), Ok(Some(3.0))));
-    assert_eq!(rt; lt_of(&[Err(8)], &[Ok(1.0)]), (Err(8), Ok(Some(1.0))));
-    // A front is less, and the longer one greater.
+fn the_first_unequal_items_say_what_is_greater_and_what_is_less() -> Result<(), Fail> {
     let (one, two) = ([Ok(1.0)], [Ok(1.0), Ok(2.0)]);
-    assert_eq!(rt; lt_of(&one, &two), (Ok(true), Ok(None)));
-    assert_eq!(rt; partial_cmp_of(&two, &one), Ok(Some(Ordering::Greater)));
-    let longer = cmp_of(&[Ok(1), Ok(2)], &[Ok(1)]);
-    assert_eq!(rt; longer, (Ok(Ordering::Greater), Ok(None)));
-    assert_eq!(rt; gt_le_ge_of(&two, &one), (Ok(true), Ok(false), Ok(true)));
-    assert_eq!(rt; gt_le_ge_of(&one, &two), (Ok(false), Ok(true), Ok(false)));
-    assert_eq!(rt; ne_of(&one, &two), Ok(true));
-    // Unlike items are not equal, nor is one that is unlike itself.
-    let unlike_itself = [Ok(f64::NAN)];
-    assert_eq!(rt; ne_of(&[Ok(1.0)], &[Ok(2.0)]), Ok(true));
-    assert_eq!(rt; ne_of(&unlike_itself, &unlike_itself), Ok(true));
-    assert_eq!(rt;
-        eq_of(&unlike_itself, &unlike_itself),
-        (Ok(false), Ok(None))
-    );
-    assert_eq!(rt; partial_cmp_of(&unlike_itself, &unlike_itself), Ok(None));
-}
-
-#[test]
-fn the_first_unequal_items_say_what_is_greater_and_what_is_less(rt: HostRuntime) {
-    let (two, three) = ([Ok(1.0), Ok(2.0)], [Ok(1.0), Ok(3.0), Ok(0.0)]);
+    let three = [Ok(1.0), Ok(3.0), Ok(0.0)];
     let greater = (Ok(true), Ok(false), Ok(true));
     let less = (Ok(false), Ok(true), Ok(false));
     let equal = (Ok(false), Ok(true), Ok(true));
-    assert_eq!(rt; gt_le_ge_of(&three, &two), greater);
-    assert_eq!(rt; gt_le_ge_of(&two, &three), less);
-    assert_eq!(rt; gt_le_ge_of(&two, &two), equal);
-    assert_eq!(rt; gt_le_ge_of(&[Ok(2.0)], &three), greater);
-    assert_eq!(rt; gt_le_ge_of(&[Ok(1.0)], &two), less);
-    assert_eq!(rt;
-        gt_le_ge_of(&[Ok(1.0), Err(4)], &two),
-        (Err(4), Err(4), Err(4))
-    );
-    assert_eq!(rt; lt_of(&two, &three), (Ok(true), Ok(Some(0.0))));
-    assert_eq!(rt; lt_of(&three, &two), (Ok(false), Ok(None)));
-    assert_eq!(rt; lt_of(&two, &two), (Ok(false), Ok(None)));
-    assert_eq!(rt; ne_of(&two, &three), Ok(true));
-    assert_eq!(rt; ne_of(&two, &two), Ok(false));
+    let failed = (Err(4), Err(4), Err(4));
+    expect_rows(&[
+        (gt_le_ge_of(&two, &one), greater),
+        (gt_le_ge_of(&one, &two), less),
+        (gt_le_ge_of(&three, &two), greater),
+        (gt_le_ge_of(&two, &three), less),
+        (gt_le_ge_of(&two, &two), equal),
+        (gt_le_ge_of(&[Ok(2.0)], &three), greater),
+        (gt_le_ge_of(&[Ok(1.0)], &two), less),
+        (gt_le_ge_of(&[Ok(1.0), Err(4)], &two), failed),
+    ])
+}
+
+#[test]
+fn the_first_round_that_differs_or_fails_decides(rt: HostRuntime) -> Result<(), Fail> {
+    let (one, two) = ([Ok(1.0)], [Ok(1.0), Ok(2.0)]);
+    let three = [Ok(1.0), Ok(3.0), Ok(0.0)];
+    let unlike_itself = [Ok(f64::NAN)];
+    expect_rows(&[
+        // A left failure is the answer before the right is drawn.
+        (
+            eq_of(&[Ok(1.0), Err(2)], &[Ok(1.0), Ok(3.0)]),
+            (Err(2), Ok(Some(3.0))),
+        ),
+        (lt_of(&[Err(8)], &[Ok(1.0)]), (Err(8), Ok(Some(1.0)))),
+        // A front is less, and the longer one greater.
+        (lt_of(&one, &two), (Ok(true), Ok(None))),
+        (lt_of(&two, &three), (Ok(true), Ok(Some(0.0)))),
+        (lt_of(&three, &two), (Ok(false), Ok(None))),
+        (lt_of(&two, &two), (Ok(false), Ok(None))),
+        (eq_of(&unlike_itself, &unlike_itself), (Ok(false), Ok(None))),
+    ])?;
+    let longer = cmp_of(&[Ok(1), Ok(2)], &[Ok(1)]);
+    assert_eq!(rt; longer, (Ok(Ordering::Greater), Ok(None)));
+    expect_rows(&[
+        (partial_cmp_of(&two, &one), Ok(Some(Ordering::Greater))),
+        (partial_cmp_of(&unlike_itself, &unlike_itself), Ok(None)),
+    ])?;
+    expect_rows(&[
+        (ne_of(&one, &two), Ok(true)),
+        (ne_of(&[Ok(1.0)], &[Ok(2.0)]), Ok(true)),
+        (ne_of(&unlike_itself, &unlike_itself), Ok(true)),
+        (ne_of(&two, &three), Ok(true)),
+        (ne_of(&two, &two), Ok(false)),
+    ])
 }
 
 // One item, of these parts.
@@ -127,12 +136,24 @@ fn one(first: u32, second: u32) -> Once<Parts, u32> {
 fn items_without_an_order_and_no_items_compare(rt: HostRuntime) {
     // Items without an order are not less, greater or equal.
     assert_eq!(rt; one(1, 2).partial_cmp(one(2, 1)), Ok(None));
-    assert_eq!(rt; one(1, 2).lt(one(2, 1)), Ok(false));
-    assert_eq!(rt; one(1, 2).le(one(2, 1)), Ok(false));
-    assert_eq!(rt; one(1, 2).gt(one(2, 1)), Ok(false));
-    assert_eq!(rt; one(1, 2).ge(one(2, 1)), Ok(false));
-    assert_eq!(rt; one(1, 2).eq(one(2, 1)), Ok(false));
-    assert_eq!(rt; one(1, 2).ne(one(2, 1)), Ok(true));
+    assert_eq!(rt;
+        [
+            one(1, 2).lt(one(2, 1)),
+            one(1, 2).le(one(2, 1)),
+            one(1, 2).gt(one(2, 1)),
+            one(1, 2).ge(one(2, 1)),
+            one(1, 2).eq(one(2, 1)),
+            one(1, 2).ne(one(2, 1))
+        ],
+        [
+            Ok(false),
+            Ok(false),
+            Ok(false),
+            Ok(false),
+            Ok(false),
+            Ok(true)
+        ]
+    );
     // One without items is less than one with items, of which it draws one.
     let answers = [Ok(7), Ok(8)];
     let mut right = numbers(&answers);

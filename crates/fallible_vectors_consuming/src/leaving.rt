@@ -133,27 +133,29 @@ fn parts_of(
 }
 
 #[test]
-fn collect_partition_and_unzip_leave_what_follows(rt: HostRuntime) -> Result<(), Fail> {
-    let (made, next) = collection_of(rt.alloc(), around(rt.alloc(), END, 2)?);
+fn collect_and_partition_leave_what_follows(rt: HostRuntime) -> Result<(), Fail> {
+    let (made, first) = collection_of(rt.alloc(), around(rt.alloc(), END, 2)?);
     expect_collected(made, &[1])?;
-    assert_eq!(rt; next, Ok(Some(2)));
-    let (made, next) = collection_of(rt.alloc(), around(rt.alloc(), FAILURE, 2)?);
+    let (made, second) = collection_of(rt.alloc(), around(rt.alloc(), FAILURE, 2)?);
     expect_source_fault(made, 9)?;
-    assert_eq!(rt; next, Ok(Some(2)));
-    let (sides, next) = sides_of(rt.alloc(), around(rt.alloc(), END, 2)?);
+    let (sides, third) = sides_of(rt.alloc(), around(rt.alloc(), END, 2)?);
     let (even, odd) = sides.expect(&rt, "two collections");
-    assert!(rt; even.is_empty());
-    assert_eq!(rt; odd.as_slice(), [1].as_slice());
-    assert_eq!(rt; next, Ok(Some(2)));
-    let (sides, next) = sides_of(rt.alloc(), around(rt.alloc(), FAILURE, 2)?);
+    assert_eq!(rt; (even.len(), odd.as_slice()), (0, [1].as_slice()));
+    let (sides, fourth) = sides_of(rt.alloc(), around(rt.alloc(), FAILURE, 2)?);
     expect_source_fault(sides, 9)?;
-    assert_eq!(rt; next, Ok(Some(2)));
+    assert_eq!(rt; [first, second, third, fourth], [Ok(Some(2)); 4]);
+    Ok(())
+}
+
+#[test]
+fn unzip_leaves_what_follows(rt: HostRuntime) -> Result<(), Fail> {
     let s = scripted(rt.alloc(), [Ok(Some((1, 3))), Ok(None), Ok(Some((2, 4)))])?;
     let (parts, next) = parts_of(rt.alloc(), s);
     let (first, second) = parts.expect(&rt, "two collections");
-    assert_eq!(rt; first.as_slice(), [1].as_slice());
-    assert_eq!(rt; second.as_slice(), [3].as_slice());
-    assert_eq!(rt; next, Ok(Some((2, 4))));
+    assert_eq!(rt;
+        (first.as_slice(), second.as_slice(), next),
+        ([1].as_slice(), [3].as_slice(), Ok(Some((2, 4))))
+    );
     let s = scripted(rt.alloc(), [Ok(Some((1, 3))), Err(9), Ok(Some((2, 4)))])?;
     let (parts, next) = parts_of(rt.alloc(), s);
     expect_source_fault(parts, 9)?;

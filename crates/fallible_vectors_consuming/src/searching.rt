@@ -4,6 +4,7 @@ ghost use Rattle.std.specs.Prelude.{◌^◌, ◌-◌};
 use fallible_iterator::{Convert, FallibleIterator, from_fn, once};
 use fallible_testing::listed::listed;
 use fallible_testing::numbers::numbers;
+use fallible_testing::rows::expect_rows;
 use std::iter::Copied;
 use std::slice::Iter;
 use std::test::Fail;
@@ -82,23 +83,23 @@ fn any_is_3(answers: &[Result<u32, u32>], failing: u32) -> (Result<bool, u32>, D
 }
 
 #[test]
-fn all_and_any_stop_at_the_first_item_that_decides_or_fails(rt: HostRuntime) {
-    let below = [Ok(0), Ok(1), Ok(2), Ok(3)];
-    assert_eq!(rt; all_below_4(&below, NOWHERE), (Ok(true), Ok(None)));
-    let last_not = [Ok(0), Ok(1), Ok(2), Ok(4)];
-    assert_eq!(rt; all_below_4(&last_not, NOWHERE), (Ok(false), Ok(None)));
-    let one_not = [Ok(0), Ok(4), Ok(1), Ok(2)];
-    assert_eq!(rt; all_below_4(&one_not, NOWHERE), (Ok(false), Ok(Some(1))));
-    assert_eq!(rt; all_below_4(&last_not, 0), (Err(20), Ok(Some(1))));
+fn all_and_any_stop_at_the_first_item_that_decides_or_fails() -> Result<(), Fail> {
+    let four = [Ok(0), Ok(1), Ok(2), Ok(3)];
+    let last_above = [Ok(0), Ok(1), Ok(2), Ok(4)];
+    let one_above = [Ok(0), Ok(4), Ok(1), Ok(2)];
     let failing = [Ok(0), Err(9), Ok(2)];
-    assert_eq!(rt; all_below_4(&failing, NOWHERE), (Err(9), Ok(Some(2))));
-    let last_is = [Ok(0), Ok(1), Ok(2), Ok(3)];
-    assert_eq!(rt; any_is_3(&last_is, NOWHERE), (Ok(true), Ok(None)));
     let one_is = [Ok(0), Ok(3), Ok(1), Ok(2)];
-    assert_eq!(rt; any_is_3(&one_is, NOWHERE), (Ok(true), Ok(Some(1))));
-    let none_is = [Ok(0), Ok(1), Ok(2), Ok(4)];
-    assert_eq!(rt; any_is_3(&none_is, NOWHERE), (Ok(false), Ok(None)));
-    assert_eq!(rt; any_is_3(&none_is, 0), (Err(20), Ok(Some(1))));
+    expect_rows(&[
+        (all_below_4(&four, NOWHERE), (Ok(true), Ok(None))),
+        (all_below_4(&last_above, NOWHERE), (Ok(false), Ok(None))),
+        (all_below_4(&one_above, NOWHERE), (Ok(false), Ok(Some(1)))),
+        (all_below_4(&last_above, 0), (Err(20), Ok(Some(1)))),
+        (all_below_4(&failing, NOWHERE), (Err(9), Ok(Some(2)))),
+        (any_is_3(&four, NOWHERE), (Ok(true), Ok(None))),
+        (any_is_3(&one_is, NOWHERE), (Ok(true), Ok(Some(1)))),
+        (any_is_3(&last_above, NOWHERE), (Ok(false), Ok(None))),
+        (any_is_3(&last_above, 0), (Err(20), Ok(Some(1)))),
+    ])
 }
 
 // What a search for `wanted` finds, with a predicate that fails with 29 at `failing`, how often the predicate was called, and what the next draw answers.
@@ -128,21 +129,30 @@ fn find_two_thrice(answers: &[Result<u32, u32>]) -> [Drawn; 3] {
 }
 
 #[test]
-fn find_and_find_map_stop_at_the_first_item_that_decides(rt: HostRuntime) {
+fn find_stops_at_the_first_item_that_decides(rt: HostRuntime) -> Result<(), Fail> {
     let four = [Ok(0), Ok(1), Ok(2), Ok(3)];
-    assert_eq!(rt; find_one(&four, 1, NOWHERE), (Ok(Some(1)), 2, Ok(Some(2))));
-    assert_eq!(rt; find_one(&four, 2, NOWHERE), (Ok(Some(2)), 3, Ok(Some(3))));
-    assert_eq!(rt; find_one(&four, NOWHERE, 2), (Err(29), 3, Ok(Some(3))));
-    assert_eq!(rt; find_one(&four, 0, 2), (Ok(Some(0)), 1, Ok(Some(1))));
+    expect_rows(&[
+        (find_one(&four, 1, NOWHERE), (Ok(Some(1)), 2, Ok(Some(2)))),
+        (find_one(&four, 2, NOWHERE), (Ok(Some(2)), 3, Ok(Some(3)))),
+        (find_one(&four, NOWHERE, 2), (Err(29), 3, Ok(Some(3)))),
+        (find_one(&four, 0, 2), (Ok(Some(0)), 1, Ok(Some(1)))),
+    ])?;
     let mut it = numbers(&four);
-    assert_eq!(rt; it.find(|x: &u32| Ok(*x % 2 == 1)), Ok(Some(1)));
-    assert_eq!(rt; it.next(), Ok(Some(2)));
+    assert_eq!(rt;
+        [it.find(|x: &u32| Ok(*x % 2 == 1)), it.next()],
+        [Ok(Some(1)), Ok(Some(2))]
+    );
     // It goes on after a failure.
     assert_eq!(rt;
         find_two_thrice(&[Ok(0), Err(9), Ok(2)]),
         [Err(9), Ok(Some(2)), Ok(None)]
     );
-    // `find_map` calls its closure once an item.
+    Ok(())
+}
+
+#[test]
+fn find_map_answers_the_first_value_by_one_call_an_item(rt: HostRuntime) {
+    let four = [Ok(0), Ok(1), Ok(2), Ok(3)];
     let mut it = numbers(&four);
     let mut calls = 0u32;
     let found = it.find_map(|x: u32| {
@@ -200,11 +210,16 @@ fn find_within_a_flatten_keeps_the_inner_iterator(rt: HostRuntime) -> Result<(),
 }
 
 // What a search for the item `wanted` counts, with a predicate that fails with 42 at `failing`.
-fn position_of(
-    it: &mut Convert<Copied<Iter<'_, Result<u32, u32>>>>,
+fn position_of<'a>(
+    it: &mut Convert<Copied<Iter<'a, Result<u32, u32>>>>,
     wanted: u32,
     failing: u32,
-) -> Result<Option<usize>, u32> {
+) -> Result<Option<usize>, u32>
+    requires finite { ⟦<Convert<Copied<Iter<'a, Result<u32, u32>>>> as FallibleIterator>⟧.contract.bound
+        it.old (2 ^ 64 - 1) }
+    ensures finite { ⟦<Convert<Copied<Iter<'a, Result<u32, u32>>>> as FallibleIterator>⟧.contract.bound
+        it.new (2 ^ 64 - 1) }
+{
     it.position(|x: u32| if x == failing {
         Err(42)
     } else {
@@ -212,7 +227,7 @@ fn position_of(
     })
 }
 
-// What three searches for the items `wanted` count, one after another.
+// What three searches for the items `wanted` count, one after another, with a predicate that fails with 42 at `failing`.
 fn positions(
     answers: &[Result<u32, u32>],
     wanted: [u32; 3],
@@ -228,22 +243,25 @@ fn positions(
 }
 
 #[test]
-fn position_counts_the_items_before_or_fails_by_its_predicate(rt: HostRuntime) {
+fn position_counts_the_items_before_or_fails_by_its_predicate(rt: HostRuntime) -> Result<(), Fail> {
     let four = [Ok(1), Ok(2), Ok(3), Ok(4)];
-    assert_eq!(rt;
-        positions(&four, [2, 3, 5], NOWHERE),
-        [Ok(Some(1)), Ok(Some(0)), Ok(None)]
-    );
-    assert_eq!(rt;
-        positions(&four, [2, 4, 4], 3),
-        [Ok(Some(1)), Err(42), Ok(Some(0))]
-    );
-    assert_eq!(rt;
-        positions(&four, [4, 4, 4], 3),
-        [Err(42), Ok(Some(0)), Ok(None)]
-    );
+    expect_rows(&[
+        (
+            positions(&four, [2, 3, 5], NOWHERE),
+            [Ok(Some(1)), Ok(Some(0)), Ok(None)],
+        ),
+        (
+            positions(&four, [2, 4, 4], 3),
+            [Ok(Some(1)), Err(42), Ok(Some(0))],
+        ),
+        (
+            positions(&four, [4, 4, 4], 3),
+            [Err(42), Ok(Some(0)), Ok(None)],
+        ),
+    ])?;
     // It draws nothing after its predicate fails.
     let mut it = numbers(&four);
     assert_eq!(rt; position_of(&mut it, 4, 3), Err(42));
     assert_eq!(rt; it.next(), Ok(Some(4)));
+    Ok(())
 }
