@@ -97,36 +97,6 @@ fn collected<'a, C: Collect<Number<'a>>>(
     Ok((outcome_of(made), next_of(it.next())))
 }
 
-// No item is pushed after one that is refused. The last row meets no refusal.
-#[test]
-fn collect_refused_an_item_leaves_those_behind_it(rt: HostRuntime) -> Result<(), Fail> {
-    for (number, next) in (0..).zip([Some(2), Some(3), Some(4), None, None]) {
-        let requests = Requests::refusing(number);
-        let wanted = if number < 4 {
-            Came::Refused
-        } else {
-            Came::Made(Kept {
-                values: Vec::from_array(rt.alloc(), [1, 2, 3, 4])?,
-            })
-        };
-        let got = collected::<Kept>(rt.alloc(), &requests)?;
-        assert_eq!(rt;
-            (got, requests.made()),
-            ((wanted, next), number.wrapping_add(1).min(4)),
-            "collect, push {number}"
-        );
-    }
-    Ok(())
-}
-
-#[test]
-fn collect_whose_making_is_refused_draws_nothing(rt: HostRuntime) -> Result<(), Fail> {
-    let requests = Requests::refusing(u32::MAX);
-    let got = collected::<Unmade>(rt.alloc(), &requests)?;
-    assert_eq!(rt; got, (Came::Refused, Some(1)), "collect, making");
-    Ok(())
-}
-
 // What `partition` makes of the even ones of the numbers from 1 to 4 and of the others through a borrow, and the next number of the source.
 fn parted<'a, C: Collect<Number<'a>>>(
     alloc: Global,
@@ -149,21 +119,36 @@ fn is_even(x: &Number<'_>) -> Result<bool, TestError> {
     Ok(x.value % 2 == 0)
 }
 
+// A collection of these numbers.
+fn made_of<const N: usize>(alloc: Global, values: [u32; N]) -> Result<Kept, AllocError> {
+    Ok(Kept {
+        values: Vec::from_array(alloc, values)?,
+    })
+}
+
+// No item is pushed after one that is refused. The last row meets no refusal.
 #[test]
-fn partition_refused_an_item_leaves_those_behind_it(rt: HostRuntime) -> Result<(), Fail> {
+fn collect_and_partition_refused_an_item_leave_those_behind_it(
+    rt: HostRuntime,
+) -> Result<(), Fail> {
     for (number, next) in (0..).zip([Some(2), Some(3), Some(4), None, None]) {
         let requests = Requests::refusing(number);
         let wanted = if number < 4 {
             Came::Refused
         } else {
-            Came::Made((
-                Kept {
-                    values: Vec::from_array(rt.alloc(), [2, 4])?,
-                },
-                Kept {
-                    values: Vec::from_array(rt.alloc(), [1, 3])?,
-                },
-            ))
+            Came::Made(made_of(rt.alloc(), [1, 2, 3, 4])?)
+        };
+        let got = collected::<Kept>(rt.alloc(), &requests)?;
+        assert_eq!(rt;
+            (got, requests.made()),
+            ((wanted, next), number.wrapping_add(1).min(4)),
+            "collect, push {number}"
+        );
+        let requests = Requests::refusing(number);
+        let wanted = if number < 4 {
+            Came::Refused
+        } else {
+            Came::Made((made_of(rt.alloc(), [2, 4])?, made_of(rt.alloc(), [1, 3])?))
         };
         let got = parted::<Kept>(rt.alloc(), &requests)?;
         assert_eq!(rt;
@@ -172,14 +157,6 @@ fn partition_refused_an_item_leaves_those_behind_it(rt: HostRuntime) -> Result<(
             "partition, push {number}"
         );
     }
-    Ok(())
-}
-
-#[test]
-fn partition_whose_making_is_refused_draws_nothing(rt: HostRuntime) -> Result<(), Fail> {
-    let requests = Requests::refusing(u32::MAX);
-    let got = parted::<Unmade>(rt.alloc(), &requests)?;
-    assert_eq!(rt; got, (Came::Refused, Some(1)), "partition, making");
     Ok(())
 }
 
@@ -217,14 +194,11 @@ fn unzip_refused_a_part_leaves_the_pairs_behind_it(rt: HostRuntime) -> Result<()
         let wanted = if number < 8 {
             Came::Refused
         } else {
-            Came::Made((
-                Kept {
-                    values: Vec::from_array(rt.alloc(), [1, 2, 3, 4])?,
-                },
-                Kept {
-                    values: Vec::from_array(rt.alloc(), [1, 2, 3, 4])?,
-                },
-            ))
+            let both = (
+                made_of(rt.alloc(), [1, 2, 3, 4])?,
+                made_of(rt.alloc(), [1, 2, 3, 4])?,
+            );
+            Came::Made(both)
         };
         let got = unzipped::<Kept, Kept>(rt.alloc(), &requests)?;
         assert_eq!(rt;
@@ -237,8 +211,12 @@ fn unzip_refused_a_part_leaves_the_pairs_behind_it(rt: HostRuntime) -> Result<()
 }
 
 #[test]
-fn unzip_whose_making_is_refused_draws_nothing(rt: HostRuntime) -> Result<(), Fail> {
+fn a_making_that_is_refused_draws_nothing(rt: HostRuntime) -> Result<(), Fail> {
     let requests = Requests::refusing(u32::MAX);
+    let got = collected::<Unmade>(rt.alloc(), &requests)?;
+    assert_eq!(rt; got, (Came::Refused, Some(1)), "collect, making");
+    let got = parted::<Unmade>(rt.alloc(), &requests)?;
+    assert_eq!(rt; got, (Came::Refused, Some(1)), "partition, making");
     let first = unzipped::<Unmade, Kept>(rt.alloc(), &requests)?;
     assert_eq!(rt; first, (Came::Refused, Some(1)), "unzip, first making");
     let second = unzipped::<Kept, Unmade>(rt.alloc(), &requests)?;

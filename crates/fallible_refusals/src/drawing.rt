@@ -22,6 +22,14 @@ fn number(drawn: Result<Option<Number<'_>>, TestError>) -> Drawn {
     drawn.map(|item| item.map(|item| item.value))
 }
 
+// Four draws, one after another.
+fn four<I: FallibleIterator>(it: &mut I) -> [Result<Option<I::Item>, I::Error>; 4]
+where
+    requires { I.contract.can_next it.old }
+{
+    [it.next(), it.next(), it.next(), it.next()]
+}
+
 // Four draws of clones of the numbers 1, 2 and 3.
 fn cloned(requests: &Requests) -> [Drawn; 4] {
     let numbers = [
@@ -30,101 +38,68 @@ fn cloned(requests: &Requests) -> [Drawn; 4] {
         Number::new(3, requests),
     ];
     let mut it = convert(numbers.iter().map(|x| Ok::<&Number<'_>, TestError>(x))).cloned();
-    [
-        number(it.next()),
-        number(it.next()),
-        number(it.next()),
-        number(it.next()),
-    ]
-}
-
-#[test]
-fn cloned_loses_the_item_whose_clone_is_refused(rt: HostRuntime) {
-    for number in 0..4 {
-        let requests = Requests::refusing(number);
-        let mut wanted = [Ok(Some(1)), Ok(Some(2)), Ok(Some(3)), Ok(None)];
-        if number < 3 {
-            wanted[number as usize] = Err(TestError::Memory);
-        }
-        let got = cloned(&requests);
-        assert_eq!(rt;
-            (got, requests.met()),
-            (wanted, number < 3),
-            "cloned, clone {number}"
-        );
-    }
+    let [first, second, third, fourth] = four(&mut it);
+    [number(first), number(second), number(third), number(fourth)]
 }
 
 // Four draws of a number again and again.
 fn repeated(requests: &Requests) -> [Drawn; 4] {
     let mut it = repeat::<Number<'_>, Failure<'_>>(Number::new(5, requests));
-    [
-        value(it.next()),
-        value(it.next()),
-        value(it.next()),
-        value(it.next()),
-    ]
-}
-
-#[test]
-fn repeat_keeps_its_value_where_a_clone_is_refused(rt: HostRuntime) {
-    for number in 0..5 {
-        let requests = Requests::refusing(number);
-        let mut wanted = [Ok(Some(5)), Ok(Some(5)), Ok(Some(5)), Ok(Some(5))];
-        if number < 4 {
-            wanted[number as usize] = Err(TestError::Memory);
-        }
-        let got = repeated(&requests);
-        assert_eq!(rt;
-            (got, requests.met()),
-            (wanted, number < 4),
-            "repeat, clone {number}"
-        );
-    }
+    let [first, second, third, fourth] = four(&mut it);
+    [value(first), value(second), value(third), value(fourth)]
 }
 
 // Four draws of a failure again and again.
 fn failing(requests: &Requests) -> [Drawn; 4] {
     let failure = Failure::Own(Number::new(6, requests));
     let mut it = repeat_err::<Number<'_>, Failure<'_>>(failure);
-    [
-        value(it.next()),
-        value(it.next()),
-        value(it.next()),
-        value(it.next()),
-    ]
+    let [first, second, third, fourth] = four(&mut it);
+    [value(first), value(second), value(third), value(fourth)]
 }
 
+// `cloned` loses the item whose clone is refused. `repeat` keeps its value, and `repeat_err` its failure. The last row meets no refusal.
 #[test]
-fn repeat_err_keeps_its_failure_where_a_clone_is_refused(rt: HostRuntime) {
+fn draws_whose_clone_is_refused_answer_it_and_go_on(rt: HostRuntime) {
     for number in 0..5 {
-        let requests = Requests::refusing(number);
+        let mut clones = [Ok(Some(1)), Ok(Some(2)), Ok(Some(3)), Ok(None)];
+        let mut fives = [Ok(Some(5)), Ok(Some(5)), Ok(Some(5)), Ok(Some(5))];
         let failure = || Err(TestError::Number(6));
-        let mut wanted = [failure(), failure(), failure(), failure()];
-        if number < 4 {
-            wanted[number as usize] = Err(TestError::Memory);
+        let mut failures = [failure(), failure(), failure(), failure()];
+        if number < 3 {
+            clones[number as usize] = Err(TestError::Memory);
         }
+        if number < 4 {
+            fives[number as usize] = Err(TestError::Memory);
+            failures[number as usize] = Err(TestError::Memory);
+        }
+        let requests = Requests::refusing(number);
+        let got = cloned(&requests);
+        assert_eq!(rt;
+            (got, requests.met()),
+            (clones, number < 3),
+            "cloned, clone {number}"
+        );
+        let requests = Requests::refusing(number);
+        let got = repeated(&requests);
+        assert_eq!(rt;
+            (got, requests.met()),
+            (fives, number < 4),
+            "repeat, clone {number}"
+        );
+        let requests = Requests::refusing(number);
         let got = failing(&requests);
         assert_eq!(rt;
             (got, requests.met()),
-            (wanted, number < 4),
+            (failures, number < 4),
             "repeat_err, clone {number}"
         );
     }
 }
 
-// Seven draws of a cycle of 1 and 2; none where the first clone is refused.
-fn cycled(requests: &Requests) -> Option<[Drawn; 7]> {
+// Eight draws of a cycle of 1 and 2; none where the first clone is refused.
+fn cycled(requests: &Requests) -> Option<[[Drawn; 4]; 2]> {
     match Counting::new(1, 3, requests).cycle() {
-        Ok(mut it) => Some([
-            it.next(),
-            it.next(),
-            it.next(),
-            it.next(),
-            it.next(),
-            it.next(),
-            it.next(),
-        ]),
+        Ok(mut it) => Some([four(&mut it), four(&mut it)]),
         Err(_) => None,
     }
 }
@@ -137,10 +112,19 @@ fn cycle_answers_each_clone_that_is_refused(rt: HostRuntime) {
     let memory = || Err(TestError::Memory);
     let rows = [
         None,
-        Some([one(), two(), memory(), one(), two(), one(), two()]),
-        Some([one(), two(), one(), two(), memory(), one(), two()]),
-        Some([one(), two(), one(), two(), one(), two(), memory()]),
-        Some([one(), two(), one(), two(), one(), two(), one()]),
+        Some([
+            [one(), two(), memory(), one()],
+            [two(), one(), two(), one()],
+        ]),
+        Some([
+            [one(), two(), one(), two()],
+            [memory(), one(), two(), one()],
+        ]),
+        Some([
+            [one(), two(), one(), two()],
+            [one(), two(), memory(), one()],
+        ]),
+        Some([[one(), two(), one(), two()], [one(), two(), one(), two()]]),
     ];
     for (number, wanted) in (0..).zip(rows) {
         let requests = Requests::refusing(number);

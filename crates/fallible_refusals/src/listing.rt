@@ -6,11 +6,13 @@ use fallible_iterator::laws::{answers, answers_at};
 use fallible_iterator::{FallibleIterator, Side};
 use std::test::Fail;
 
-// More answers than there is room for.
 #[test]
-fn answers_that_are_refused_draw_nothing(rt: HostRuntime) {
+fn answers_draw_nothing_where_refused_and_list_two_million_draws(
+    rt: HostRuntime,
+) -> Result<(), Fail> {
     let requests = Requests::refusing(0);
     let mut it = Counting::new(1, 4, &requests);
+    // More answers than there is room for.
     for n in [1 << 60, usize::MAX] {
         let listed = answers(rt.alloc(), &mut it, n);
         assert!(rt;
@@ -19,12 +21,7 @@ fn answers_that_are_refused_draw_nothing(rt: HostRuntime) {
         );
     }
     assert_eq!(rt; it.next(), Ok(Some(1)), "after answers that were refused");
-}
-
-// Three items, and then ends.
-#[test]
-fn answers_of_two_million_draws_are_listed(rt: HostRuntime) -> Result<(), Fail> {
-    let requests = Requests::refusing(0);
+    // Three items, and then ends.
     let mut it = Counting::new(1, 4, &requests);
     let listed = answers(rt.alloc(), &mut it, 2_000_000)?;
     assert_eq!(rt; listed.len(), 2_000_000);

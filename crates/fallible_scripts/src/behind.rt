@@ -22,27 +22,27 @@ where
     it.try_rfold(0, put_behind)
 }
 
-#[test]
-fn rev_counts_by_one_fold_from_behind(rt: HostRuntime) {
-    let log = Log::new();
-    let answers = [Ok(0), Err(1), Ok(2), Err(3)];
-    assert_eq!(rt; counted(&answers, &log).rev().count(), Err(3));
-    assert_eq!(rt; log.calls(), Calls::none().rfolds(1));
-}
-
 // Fails with its first item.
 fn stop(_: u32, x: u32) -> Result<u32, u32> {
     Err(x)
 }
 
 #[test]
-fn rev_folds_by_one_fold_of_the_other_end(rt: HostRuntime) {
+fn rev_counts_and_folds_by_one_fold_of_the_other_end(rt: HostRuntime) {
+    let log = Log::new();
+    let answers = [Ok(0), Err(1), Ok(2), Err(3)];
+    assert_eq!(rt;
+        (counted(&answers, &log).rev().count(), log.calls()),
+        (Err(3), Calls::none().rfolds(1))
+    );
     let log = Log::new();
     let answers = [Ok(1), Ok(2), Ok(3)];
     let mut it = counted(&answers, &log).rev();
     assert_eq!(rt; it.try_rfold(0, stop), Err(1));
-    assert_eq!(rt; it.try_fold(0, stop), Err(3));
-    assert_eq!(rt; log.calls(), Calls::none().folds(1).rfolds(1));
+    assert_eq!(rt;
+        (it.try_fold(0, stop), log.calls()),
+        (Err(3), Calls::none().folds(1).rfolds(1))
+    );
 }
 
 #[test]
@@ -60,24 +60,38 @@ fn map_stopped_from_behind_goes_on_at_both_ends(rt: HostRuntime) {
         on = x;
         if seen == 2 { Err(7) } else { Ok(x) }
     });
-    assert_eq!(rt; stopped, Err(7));
-    assert_eq!(rt; on, 32);
-    assert_eq!(rt; it.draw_back(), Ok(Some(23)));
-    assert_eq!(rt; it.draw_front(), Ok(Some(14)));
-    assert_eq!(rt; log.calls(), Calls::none().nexts(1).next_backs(1).rfolds(1));
+    assert_eq!(rt; (stopped, on), (Err(7), 32));
+    let drawn = [it.draw_back(), it.draw_front()];
+    assert_eq!(rt;
+        (drawn, log.calls()),
+        (
+            [Ok(Some(23)), Ok(Some(14))],
+            Calls::none().nexts(1).next_backs(1).rfolds(1)
+        )
+    );
 }
 
 #[test]
-fn filter_draws_and_folds_from_behind_by_folds(rt: HostRuntime) {
+fn filter_and_filter_map_draw_and_fold_from_behind_by_folds(rt: HostRuntime) {
     let log = Log::new();
     let answers = [Ok(1), Ok(2), Ok(3), Ok(4)];
     let mut it = counted(&answers, &log).filter(is_even);
-    assert_eq!(rt; it.draw_back(), Ok(Some(4)));
-    assert_eq!(rt; it.draw_back(), Ok(Some(2)));
-    assert_eq!(rt; log.calls(), Calls::none().rfolds(2));
+    let drawn = [it.draw_back(), it.draw_back()];
+    assert_eq!(rt;
+        (drawn, log.calls()),
+        ([Ok(Some(4)), Ok(Some(2))], Calls::none().rfolds(2))
+    );
     let mut it = counted(&answers, &log).filter(is_even);
-    assert_eq!(rt; it.try_rfold(0, put_behind), Ok(42));
-    assert_eq!(rt; log.calls(), Calls::none().rfolds(3));
+    assert_eq!(rt;
+        (it.try_rfold(0, put_behind), log.calls()),
+        (Ok(42), Calls::none().rfolds(3))
+    );
+    let log = Log::new();
+    let mut it = counted(&answers, &log).filter_map(tens_of_even);
+    assert_eq!(rt;
+        (it.draw_back(), it.try_rfold(0, add_up), log.calls()),
+        (Ok(Some(40)), Ok(20), Calls::none().rfolds(2))
+    );
 }
 
 #[test]
@@ -86,12 +100,16 @@ fn references_and_boxes_pass_folds_from_behind_on(rt: HostRuntime) -> Result<(),
     let answers = [Ok(5), Ok(6)];
     let mut it = counted(&answers, &log);
     let mut borrowed = &mut it;
-    assert_eq!(rt; digits_from_behind(&mut borrowed), Ok(65));
-    assert_eq!(rt; log.calls(), Calls::none().rfolds(1));
+    assert_eq!(rt;
+        (digits_from_behind(&mut borrowed), log.calls()),
+        (Ok(65), Calls::none().rfolds(1))
+    );
     let answers = [Err(5), Ok(6)];
     let mut boxed = Box::new(rt.alloc(), counted(&answers, &log))?;
-    assert_eq!(rt; digits_from_behind(&mut boxed), Err(5));
-    assert_eq!(rt; log.calls(), Calls::none().rfolds(2));
+    assert_eq!(rt;
+        (digits_from_behind(&mut boxed), log.calls()),
+        (Err(5), Calls::none().rfolds(2))
+    );
     Ok(())
 }
 
@@ -105,36 +123,15 @@ fn chain_stopped_in_its_second_goes_on_there(rt: HostRuntime) {
         on = x;
         Err(7)
     });
-    assert_eq!(rt; stopped, Err(7));
-    assert_eq!(rt; on, 4);
-    assert_eq!(rt; it.next_back(), Ok(Some(3)));
-    assert_eq!(rt; it.next(), Ok(Some(1)));
-    assert_eq!(rt; firsts.calls(), Calls::none().nexts(1));
-    assert_eq!(rt; seconds.calls(), Calls::none().next_backs(1).rfolds(1));
-}
-
-#[test]
-fn cloned_folds_from_behind_by_one_fold(rt: HostRuntime) {
-    let log = Log::new();
-    let numbers = [1, 2];
-    let it = convert(numbers.iter().map(|x| Ok::<&u32, TestError>(x)));
-    let mut it = Counted::new(it, &log).cloned();
-    let stopped: Result<u32, TestError> = it.try_rfold(
-        0,
-        |_: u32, x: u32| Err(TestError::Number(x)),
+    assert_eq!(rt; (stopped, on), (Err(7), 4));
+    assert_eq!(rt; [it.next_back(), it.next()], [Ok(Some(3)), Ok(Some(1))]);
+    assert_eq!(rt;
+        [firsts.calls(), seconds.calls()],
+        [
+            Calls::none().nexts(1),
+            Calls::none().next_backs(1).rfolds(1)
+        ]
     );
-    assert_eq!(rt; stopped, Err(TestError::Number(2)));
-    assert_eq!(rt; log.calls(), Calls::none().rfolds(1));
-}
-
-#[test]
-fn filter_map_draws_and_folds_from_behind_by_folds(rt: HostRuntime) {
-    let log = Log::new();
-    let answers = [Ok(1), Ok(2), Ok(3), Ok(4)];
-    let mut it = counted(&answers, &log).filter_map(tens_of_even);
-    assert_eq!(rt; it.draw_back(), Ok(Some(40)));
-    assert_eq!(rt; it.try_rfold(0, add_up), Ok(20));
-    assert_eq!(rt; log.calls(), Calls::none().rfolds(2));
 }
 
 // Fails with 9 on 1.
@@ -142,11 +139,26 @@ fn look(x: &u32) -> Result<(), u32> {
     if *x == 1 { Err(9) } else { Ok(()) }
 }
 
+// Fails with its first clone.
+fn stop_at_clone(_: u32, x: u32) -> Result<u32, TestError> {
+    Err(TestError::Number(x))
+}
+
 #[test]
-fn inspect_and_map_err_fold_from_behind_by_one_fold(rt: HostRuntime) {
+fn inspect_map_err_and_cloned_fold_from_behind_by_one_fold(rt: HostRuntime) {
     let log = Log::new();
     let answers = [Ok(1), Ok(2), Ok(3)];
     let mut it = counted(&answers, &log).inspect(look).map_err(hundred_more);
-    assert_eq!(rt; it.try_rfold(0, add_up), Err(109));
-    assert_eq!(rt; log.calls(), Calls::none().rfolds(1));
+    assert_eq!(rt;
+        (it.try_rfold(0, add_up), log.calls()),
+        (Err(109), Calls::none().rfolds(1))
+    );
+    let log = Log::new();
+    let numbers = [1, 2];
+    let it = convert(numbers.iter().map(|x| Ok::<&u32, TestError>(x)));
+    let mut it = Counted::new(it, &log).cloned();
+    assert_eq!(rt;
+        (it.try_rfold(0, stop_at_clone), log.calls()),
+        (Err(TestError::Number(2)), Calls::none().rfolds(1))
+    );
 }

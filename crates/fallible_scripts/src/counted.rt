@@ -4,7 +4,6 @@ ghost use Rattle.fallible_iterator.specs.Contract.{seen_as};
 ghost use Rattle.fallible_iterator.specs.Ends.{ends_seen_as};
 ghost use Rattle.fallible_iterator.specs.Laws.Contract.{lawful_seen};
 ghost use Rattle.fallible_iterator.specs.Laws.Ends.{lawful_ends_seen};
-ghost use Rattle.fallible_scripts.specs.Counted.{counted_parts};
 
 use crate::calls::Calls;
 use fallible_iterator::{DoubleEndedFallibleIterator, Exit, FallibleIterator, Test, Turn};
@@ -71,7 +70,7 @@ pub struct Counted<'a, I> {
 impl<'a, I> Counted<'a, I> {
     /// Counts the calls of `it` in `log`.
     pub fn new(it: I, log: &'a Log) -> Counted<'a, I>
-        ensures { counted_parts result ≡ it }
+        ensures { result.it ≡ it }
     {
         Counted { it, log }
     }
@@ -87,7 +86,7 @@ impl<'a, I: FallibleIterator> FallibleIterator for Counted<'a, I> {
 
     type Error = I::Error;
 
-    ghost contract = { seen_as counted_parts I.contract };
+    ghost contract = { seen_as (λ s. s.it) I.contract };
 
     fn next(&mut self) -> Result<Option<I::Item>, I::Error> {
         add(&self.log.nexts);
@@ -143,11 +142,11 @@ impl<'a, I: FallibleIterator> FallibleIterator for Counted<'a, I> {
         self.it.find_carrying(init, test)
     }
 
-    ghost lawful = { lawful_seen counted_parts I.lawful };
+    ghost lawful = { lawful_seen (λ s. s.it) I.lawful };
 }
 
 impl<'a, I: DoubleEndedFallibleIterator> DoubleEndedFallibleIterator for Counted<'a, I> {
-    ghost ends = { ends_seen_as counted_parts I.ends };
+    ghost ends = { ends_seen_as (λ s. s.it) I.ends };
 
     fn next_back(&mut self) -> Result<Option<I::Item>, I::Error> {
         add(&self.log.next_backs);
@@ -163,5 +162,5 @@ impl<'a, I: DoubleEndedFallibleIterator> DoubleEndedFallibleIterator for Counted
         self.it.try_rfold_carrying(init, turn)
     }
 
-    ghost lawful_ends = { lawful_ends_seen counted_parts I.lawful_ends };
+    ghost lawful_ends = { lawful_ends_seen (λ s. s.it) I.lawful_ends };
 }

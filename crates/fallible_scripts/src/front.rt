@@ -4,9 +4,12 @@ ghost use Rattle.fallible_iterator.specs.Contract.{KeptByDraws};
 use crate::calls::Calls;
 use crate::counted::{Counted, Log};
 use crate::shared::{below_three, counted, hundred_more, is_even, stop, ten_times, tens_of_even};
+use fallible_iterator::Answer::{End, Item};
 use fallible_iterator::{FallibleIterator, convert};
+use fallible_testing::answered::expect_answers;
 use fallible_testing::closures::add_up;
 use fallible_testing::numbers::numbers;
+use fallible_testing::rows::expect_rows;
 use fallible_testing::test_error::TestError;
 use std::test::Fail;
 
@@ -32,73 +35,73 @@ where
     it.try_fold(0, add_up)
 }
 
+// Fails with 9 on 3.
+fn look(x: &u32) -> Result<(), u32> {
+    if *x == 3 { Err(9) } else { Ok(()) }
+}
+
+// The item, and an end in place of one above 2.
+fn end_above_two(x: u32) -> Result<Option<u32>, u32> {
+    if x < 3 { Ok(Some(x)) } else { Ok(None) }
+}
+
+// The sum of the items.
+fn add_clones(sum: u32, x: u32) -> Result<u32, TestError> {
+    Ok(sum.wrapping_add(x))
+}
+
 #[test]
-fn map_folds_by_one_fold(rt: HostRuntime) {
+fn map_inspect_map_while_and_cloned_fold_by_one_fold(rt: HostRuntime) {
     let log = Log::new();
     let answers = [Ok(1), Ok(2), Ok(3), Ok(4)];
     let mut it = counted(&answers, &log).map(ten_times);
-    assert_eq!(rt; it.try_fold(0, add_up), Ok(100));
-    assert_eq!(rt; log.calls(), Calls::none().folds(1));
+    assert_eq!(rt;
+        (it.try_fold(0, add_up), log.calls()),
+        (Ok(100), Calls::none().folds(1))
+    );
+    let log = Log::new();
+    let answers = [Ok(1), Ok(2), Ok(3)];
+    let mut it = counted(&answers, &log).inspect(look);
+    assert_eq!(rt;
+        (it.try_fold(0, add_up), log.calls()),
+        (Err(9), Calls::none().folds(1))
+    );
+    let log = Log::new();
+    let mut it = counted(&answers, &log).map_while(end_above_two);
+    assert_eq!(rt;
+        (it.try_fold(0, add_up), log.calls()),
+        (Ok(3), Calls::none().folds(1))
+    );
+    let log = Log::new();
+    let numbers = [1, 2];
+    let it = convert(numbers.iter().map(|x| Ok::<&u32, TestError>(x)));
+    let mut it = Counted::new(it, &log).cloned();
+    assert_eq!(rt;
+        (it.try_fold(0, add_clones), log.calls()),
+        (Ok(3), Calls::none().folds(1))
+    );
 }
 
 #[test]
-fn filter_draws_by_folds(rt: HostRuntime) {
+fn filter_and_filter_map_draw_and_fold_by_folds(rt: HostRuntime) -> Result<(), Fail> {
     let log = Log::new();
     let answers = [Ok(1), Ok(2), Ok(3), Ok(4)];
+    let mut it = counted(&answers, &log).filter(is_even);
+    expect_answers(&rt, &mut it, &[Item(2), Item(4), End])?;
+    assert_eq!(rt; log.calls(), Calls::none().folds(3));
+    let log = Log::new();
     let mut it = counted(&answers, &log).filter(is_even);
     assert_eq!(rt;
-        [it.draw(), it.draw(), it.draw()],
-        [Ok(Some(2)), Ok(Some(4)), Ok(None)]
+        (it.try_fold(0, add_up), log.calls()),
+        (Ok(6), Calls::none().folds(1))
     );
-    assert_eq!(rt; log.calls(), Calls::none().folds(3));
-}
-
-#[test]
-fn filter_folds_by_one_fold(rt: HostRuntime) {
     let log = Log::new();
     let answers = [Ok(1), Ok(2), Ok(3), Ok(4)];
-    let mut it = counted(&answers, &log).filter(is_even);
-    assert_eq!(rt; it.try_fold(0, add_up), Ok(6));
-    assert_eq!(rt; log.calls(), Calls::none().folds(1));
-}
-
-#[test]
-fn map_err_leaves_the_caller_s_error(rt: HostRuntime) {
-    let log = Log::new();
-    let answers = [Ok(1), Err(5), Ok(2)];
-    let mut it = counted(&answers, &log).map_err(hundred_more);
-    assert_eq!(rt; it.try_fold(0, stop), Err(3));
-    assert_eq!(rt; [it.next(), it.next()], [Err(105), Ok(Some(2))]);
-    assert_eq!(rt; log.calls(), Calls::none().nexts(2).folds(1));
-}
-
-#[test]
-fn fuse_keeps_the_end_that_its_fold_met(rt: HostRuntime) {
-    let log = Log::new();
-    let answers = [Ok(1), Ok(2), Ok(3), Ok(4)];
-    let mut it = counted(&answers, &log).fuse();
-    assert_eq!(rt; it.try_fold(0, add_up), Ok(10));
-    assert_eq!(rt; it.try_fold(0, add_up), Ok(0));
-    assert_eq!(rt; log.calls(), Calls::none().folds(1));
-}
-
-#[test]
-fn skip_while_draws_by_a_find(rt: HostRuntime) {
-    let log = Log::new();
-    let answers = [Ok(1), Ok(2), Ok(3), Ok(4)];
-    let mut it = counted(&answers, &log).skip_while(below_three);
-    assert_eq!(rt; it.next(), Ok(Some(3)));
-    assert_eq!(rt; log.calls(), Calls::none().finds(1));
-}
-
-#[test]
-fn peekable_folds_what_it_holds_and_then_its_source(rt: HostRuntime) {
-    let log = Log::new();
-    let answers = [Ok(1), Ok(2), Ok(3), Ok(4)];
-    let mut it = counted(&answers, &log).peekable();
-    assert_eq!(rt; it.peek_copied(), Ok(Some(1)));
-    assert_eq!(rt; it.try_fold(0, add_up), Ok(10));
-    assert_eq!(rt; log.calls(), Calls::none().nexts(1).folds(1));
+    let mut it = counted(&answers, &log).filter_map(tens_of_even);
+    assert_eq!(rt; it.draw(), Ok(Some(20)));
+    assert_eq!(rt; it.try_fold(0, add_up), Ok(40));
+    assert_eq!(rt; log.calls(), Calls::none().folds(2));
+    Ok(())
 }
 
 #[test]
@@ -116,188 +119,75 @@ fn filter_keeps_its_closure_where_a_fold_stops(rt: HostRuntime) {
         on = x;
         Err(7)
     });
-    assert_eq!(rt; stopped, Err(7));
-    assert_eq!(rt; on, 3);
-    assert_eq!(rt; it.draw(), Ok(Some(5)));
-    assert_eq!(rt; log.calls(), Calls::none().folds(3));
+    assert_eq!(rt; (stopped, on), (Err(7), 3));
+    assert_eq!(rt;
+        (it.draw(), log.calls()),
+        (Ok(Some(5)), Calls::none().folds(3))
+    );
 }
 
 #[test]
-fn filter_map_draws_and_folds_by_folds(rt: HostRuntime) {
+fn skip_and_skip_while_fold_the_rest_by_one_fold(rt: HostRuntime) {
+    // `skip` folds up to the first item that stays, and then the rest.
+    let log = Log::new();
+    let answers = [Ok(1), Ok(2), Err(9), Ok(3), Ok(4), Ok(5)];
+    let mut it = counted(&answers, &log).skip(3);
+    assert_eq!(rt;
+        (it.try_fold(0, add_up), log.calls()),
+        (Err(9), Calls::none().folds(1))
+    );
+    assert_eq!(rt;
+        (it.try_fold(0, add_up), log.calls()),
+        (Ok(9), Calls::none().folds(3))
+    );
+    let log = Log::new();
+    let answers = [Ok(1), Ok(2), Ok(3), Ok(1)];
+    let mut it = counted(&answers, &log).skip_while(below_three);
+    assert_eq!(rt;
+        (it.try_fold(0, add_up), log.calls()),
+        (Ok(4), Calls::none().folds(1).finds(1))
+    );
+    // It draws by a `find`.
     let log = Log::new();
     let answers = [Ok(1), Ok(2), Ok(3), Ok(4)];
-    let mut it = counted(&answers, &log).filter_map(tens_of_even);
-    assert_eq!(rt; it.draw(), Ok(Some(20)));
-    assert_eq!(rt; it.try_fold(0, add_up), Ok(40));
-    assert_eq!(rt; log.calls(), Calls::none().folds(2));
-}
-
-// Fails with 9 on 3.
-fn look(x: &u32) -> Result<(), u32> {
-    if *x == 3 { Err(9) } else { Ok(()) }
+    let mut it = counted(&answers, &log).skip_while(below_three);
+    assert_eq!(rt;
+        (it.next(), log.calls()),
+        (Ok(Some(3)), Calls::none().finds(1))
+    );
 }
 
 #[test]
-fn inspect_folds_by_one_fold(rt: HostRuntime) {
+fn peekable_step_by_and_take_while_fold_by_one_fold_and_go_on(rt: HostRuntime) {
+    // What it holds is folded first, and then its source.
     let log = Log::new();
-    let answers = [Ok(1), Ok(2), Ok(3)];
-    let mut it = counted(&answers, &log).inspect(look);
-    assert_eq!(rt; it.try_fold(0, add_up), Err(9));
-    assert_eq!(rt; log.calls(), Calls::none().folds(1));
-}
-
-#[test]
-fn map_while_folds_by_one_fold(rt: HostRuntime) {
+    let answers = [Ok(1), Ok(2), Ok(3), Ok(4)];
+    let mut it = counted(&answers, &log).peekable();
+    assert_eq!(rt;
+        (it.peek_copied(), it.try_fold(0, add_up), log.calls()),
+        (Ok(Some(1)), Ok(10), Calls::none().nexts(1).folds(1))
+    );
+    // It leaves out on after a failure.
     let log = Log::new();
-    let answers = [Ok(1), Ok(2), Ok(3)];
-    let mut it = counted(&answers, &log).map_while(|x: u32| if x < 3 {
-        Ok(Some(x))
-    } else {
-        Ok(None)
-    });
-    assert_eq!(rt; it.try_fold(0, add_up), Ok(3));
-    assert_eq!(rt; log.calls(), Calls::none().folds(1));
-}
-
-#[test]
-fn cloned_folds_by_one_fold(rt: HostRuntime) {
+    let answers = [Ok(1), Ok(2), Err(9), Ok(3), Ok(4)];
+    let mut it = counted(&answers, &log).step_by(3);
+    assert_eq!(rt;
+        (it.try_fold(0, add_up), it.next(), log.calls()),
+        (Err(9), Ok(Some(4)), Calls::none().nexts(2).folds(1))
+    );
+    // It keeps its end.
     let log = Log::new();
-    let numbers = [1, 2];
-    let it = convert(numbers.iter().map(|x| Ok::<&u32, TestError>(x)));
-    let mut it = Counted::new(it, &log).cloned();
-    let sum: Result<u32, TestError> = it.try_fold(0, |sum: u32, x: u32| Ok(sum.wrapping_add(x)));
-    assert_eq!(rt; sum, Ok(3));
-    assert_eq!(rt; log.calls(), Calls::none().folds(1));
+    let answers = [Ok(1), Ok(2), Ok(3), Ok(1)];
+    let mut it = counted(&answers, &log).take_while(below_three);
+    assert_eq!(rt;
+        (it.try_fold(0, add_up), it.next(), log.calls()),
+        (Ok(3), Ok(None), Calls::none().folds(1))
+    );
 }
 
 // Stops at the item with the number 1.
 fn stop_at_one(_: usize, both: (usize, u32)) -> Result<usize, u32> {
     if both.0 == 1 { Err(both.1) } else { Ok(both.0) }
-}
-
-#[test]
-fn enumerate_folds_by_one_fold_and_counts_on(rt: HostRuntime) {
-    let log = Log::new();
-    let answers = [Ok(5), Ok(6), Ok(7)];
-    let mut it = counted(&answers, &log).enumerate();
-    assert_eq!(rt; it.try_fold(0, stop_at_one), Err(6));
-    assert_eq!(rt; it.next(), Ok(Some((2, 7))));
-    assert_eq!(rt; log.calls(), Calls::none().nexts(1).folds(1));
-}
-
-#[test]
-fn step_by_folds_by_one_fold_and_leaves_out_on(rt: HostRuntime) {
-    let log = Log::new();
-    let answers = [Ok(1), Ok(2), Err(9), Ok(3), Ok(4)];
-    let mut it = counted(&answers, &log).step_by(3);
-    assert_eq!(rt; it.try_fold(0, add_up), Err(9));
-    assert_eq!(rt; it.next(), Ok(Some(4)));
-    assert_eq!(rt; log.calls(), Calls::none().nexts(2).folds(1));
-}
-
-#[test]
-fn fuse_passes_nth_on_and_keeps_the_end_that_it_met(rt: HostRuntime) {
-    let log = Log::new();
-    let answers = [Ok(5), Ok(6)];
-    let mut it = counted(&answers, &log).fuse();
-    assert_eq!(rt; it.nth(1), Ok(Some(6)));
-    assert_eq!(rt; log.calls(), Calls::none().nths(1));
-    let mut it = counted(&answers, &log).fuse();
-    assert_eq!(rt; it.nth(2), Ok(None));
-    assert_eq!(rt; log.calls(), Calls::none().nths(2));
-    assert_eq!(rt; it.nth(0), Ok(None));
-    assert_eq!(rt; it.next(), Ok(None));
-    assert_eq!(rt; log.calls(), Calls::none().nths(2));
-}
-
-#[test]
-fn map_err_passes_nth_on(rt: HostRuntime) {
-    let log = Log::new();
-    let answers = [Ok(5), Ok(6)];
-    let mut it = counted(&answers, &log).map_err(hundred_more);
-    assert_eq!(rt; it.nth(2), Ok(None));
-    assert_eq!(rt; log.calls(), Calls::none().nths(1));
-}
-
-#[test]
-fn references_and_boxes_pass_nth_on(rt: HostRuntime) -> Result<(), Fail> {
-    let log = Log::new();
-    let answers = [Ok(5), Ok(6)];
-    let mut it = counted(&answers, &log);
-    let mut borrowed = &mut it;
-    assert_eq!(rt; reached(&mut borrowed, 1), Ok(Some(6)));
-    assert_eq!(rt; log.calls(), Calls::none().nths(1));
-    let mut boxed = Box::new(rt.alloc(), counted(&answers, &log))?;
-    assert_eq!(rt; reached(&mut boxed, 1), Ok(Some(6)));
-    assert_eq!(rt; log.calls(), Calls::none().nths(2));
-    Ok(())
-}
-
-#[test]
-fn references_and_boxes_pass_folds_on(rt: HostRuntime) -> Result<(), Fail> {
-    let log = Log::new();
-    let answers = [Ok(5), Ok(6)];
-    let mut it = counted(&answers, &log);
-    let mut borrowed = &mut it;
-    assert_eq!(rt; summed(&mut borrowed), Ok(11));
-    assert_eq!(rt; log.calls(), Calls::none().folds(1));
-    let answers = [Ok(5), Err(6)];
-    let mut boxed = Box::new(rt.alloc(), counted(&answers, &log))?;
-    assert_eq!(rt; summed(&mut boxed), Err(6));
-    assert_eq!(rt; log.calls(), Calls::none().folds(2));
-    Ok(())
-}
-
-#[test]
-fn skip_folds_up_to_the_first_item_that_stays_and_then_the_rest(rt: HostRuntime) {
-    let log = Log::new();
-    let answers = [Ok(1), Ok(2), Err(9), Ok(3), Ok(4), Ok(5)];
-    let mut it = counted(&answers, &log).skip(3);
-    assert_eq!(rt; it.try_fold(0, add_up), Err(9));
-    assert_eq!(rt; log.calls(), Calls::none().folds(1));
-    assert_eq!(rt; it.try_fold(0, add_up), Ok(9));
-    assert_eq!(rt; log.calls(), Calls::none().folds(3));
-}
-
-#[test]
-fn skip_while_folds_the_rest_by_one_fold(rt: HostRuntime) {
-    let log = Log::new();
-    let answers = [Ok(1), Ok(2), Ok(3), Ok(1)];
-    let mut it = counted(&answers, &log).skip_while(below_three);
-    assert_eq!(rt; it.try_fold(0, add_up), Ok(4));
-    assert_eq!(rt; log.calls(), Calls::none().folds(1).finds(1));
-}
-
-#[test]
-fn take_while_folds_by_one_fold_and_keeps_its_end(rt: HostRuntime) {
-    let log = Log::new();
-    let answers = [Ok(1), Ok(2), Ok(3), Ok(1)];
-    let mut it = counted(&answers, &log).take_while(below_three);
-    assert_eq!(rt; it.try_fold(0, add_up), Ok(3));
-    assert_eq!(rt; it.next(), Ok(None));
-    assert_eq!(rt; log.calls(), Calls::none().folds(1));
-}
-
-#[test]
-fn enumerate_reaches_by_one_fold(rt: HostRuntime) {
-    let log = Log::new();
-    let answers = [Ok(5), Ok(6)];
-    let mut it = counted(&answers, &log).enumerate();
-    assert_eq!(rt; it.nth(1), Ok(Some((1, 6))));
-    assert_eq!(rt; log.calls(), Calls::none().folds(1));
-    assert_eq!(rt; it.nth(0), Ok(None));
-    assert_eq!(rt; log.calls(), Calls::none().folds(2));
-}
-
-#[test]
-fn enumerate_nth_counts_what_came_before_a_failure(rt: HostRuntime) {
-    let log = Log::new();
-    let answers = [Ok(5), Err(9), Ok(6)];
-    let mut it = counted(&answers, &log).enumerate();
-    assert_eq!(rt; it.nth(1), Err(9));
-    assert_eq!(rt; log.calls(), Calls::none().folds(1));
-    assert_eq!(rt; it.next(), Ok(Some((1, 6))));
-    assert_eq!(rt; log.calls(), Calls::none().nexts(1).folds(1));
 }
 
 // The item, and an end in place of one above 5.
@@ -306,48 +196,147 @@ fn end_above_five(_: &mut (), x: u32) -> Result<Option<u32>, u32> {
 }
 
 #[test]
-fn enumerate_nth_counts_what_came_before_an_end(rt: HostRuntime) {
+fn enumerate_folds_and_reaches_by_one_fold_and_counts_on(rt: HostRuntime) -> Result<(), Fail> {
+    let log = Log::new();
+    let answers = [Ok(5), Ok(6), Ok(7)];
+    let mut it = counted(&answers, &log).enumerate();
+    assert_eq!(rt;
+        (it.try_fold(0, stop_at_one), it.next(), log.calls()),
+        (Err(6), Ok(Some((2, 7))), Calls::none().nexts(1).folds(1))
+    );
+    let (items, failing) = ([Ok(5), Ok(6)], [Ok(5), Err(9), Ok(6)]);
+    let (log, failures) = (Log::new(), Log::new());
+    let mut it = counted(&items, &log).enumerate();
+    let mut failed = counted(&failing, &failures).enumerate();
+    let one_next = Calls::none().nexts(1).folds(1);
+    expect_rows(&[
+        (
+            (it.nth(1), log.calls()),
+            (Ok(Some((1, 6))), Calls::none().folds(1)),
+        ),
+        ((it.nth(0), log.calls()), (Ok(None), Calls::none().folds(2))),
+        // What came before a failure is counted.
+        (
+            (failed.nth(1), failures.calls()),
+            (Err(9), Calls::none().folds(1)),
+        ),
+        (
+            (failed.next(), failures.calls()),
+            (Ok(Some((1, 6))), one_next),
+        ),
+    ])?;
+    // What came before an end is counted.
     let log = Log::new();
     let answers = [Ok(1), Ok(2), Ok(9), Ok(3)];
     let it = numbers(&answers).scan((), end_above_five);
     let mut it = Counted::new(it, &log).enumerate();
-    assert_eq!(rt; it.nth(3), Ok(None));
-    assert_eq!(rt; it.next(), Ok(Some((2, 3))));
-    assert_eq!(rt; log.calls(), Calls::none().nexts(1).folds(1));
-}
-
-#[test]
-fn enumerate_passes_count_on(rt: HostRuntime) {
-    let log = Log::new();
-    let answers = [Ok(5), Ok(6)];
-    assert_eq!(rt; counted(&answers, &log).enumerate().count(), Ok(2));
-    let answers = [Ok(5), Err(6)];
-    assert_eq!(rt; counted(&answers, &log).enumerate().count(), Err(6));
-    assert_eq!(rt; log.calls(), Calls::none().counts(2));
-}
-
-#[test]
-fn fuse_and_map_err_pass_count_on(rt: HostRuntime) {
-    let log = Log::new();
-    let answers = [Ok(5), Ok(6)];
-    assert_eq!(rt; counted(&answers, &log).fuse().count(), Ok(2));
-    let answers = [Ok(5), Err(6)];
     assert_eq!(rt;
-        counted(&answers, &log).map_err(hundred_more).count(),
-        Err(106)
+        (it.nth(3), it.next(), log.calls()),
+        (Ok(None), Ok(Some((2, 3))), Calls::none().nexts(1).folds(1))
     );
-    assert_eq!(rt; log.calls(), Calls::none().counts(2));
+    Ok(())
 }
 
 #[test]
-fn fuse_and_map_err_pass_last_on(rt: HostRuntime) {
+fn fuse_folds_by_one_fold_passes_nth_on_and_keeps_the_end_that_either_met(rt: HostRuntime) {
+    let log = Log::new();
+    let answers = [Ok(1), Ok(2), Ok(3), Ok(4)];
+    let mut it = counted(&answers, &log).fuse();
+    let sums = [it.try_fold(0, add_up), it.try_fold(0, add_up)];
+    assert_eq!(rt;
+        (sums, log.calls()),
+        ([Ok(10), Ok(0)], Calls::none().folds(1))
+    );
     let log = Log::new();
     let answers = [Ok(5), Ok(6)];
-    assert_eq!(rt; counted(&answers, &log).fuse().last(), Ok(Some(6)));
-    let answers = [Ok(5), Err(6)];
+    let mut it = counted(&answers, &log).fuse();
     assert_eq!(rt;
-        counted(&answers, &log).map_err(hundred_more).last(),
-        Err(106)
+        (it.nth(1), log.calls()),
+        (Ok(Some(6)), Calls::none().nths(1))
     );
-    assert_eq!(rt; log.calls(), Calls::none().lasts(2));
+    let mut it = counted(&answers, &log).fuse();
+    assert_eq!(rt; (it.nth(2), log.calls()), (Ok(None), Calls::none().nths(2)));
+    assert_eq!(rt;
+        (it.nth(0), it.next(), log.calls()),
+        (Ok(None), Ok(None), Calls::none().nths(2))
+    );
+}
+
+#[test]
+fn map_err_passes_nth_on_and_leaves_the_caller_s_error(rt: HostRuntime) {
+    let log = Log::new();
+    let answers = [Ok(5), Ok(6)];
+    let mut it = counted(&answers, &log).map_err(hundred_more);
+    assert_eq!(rt; (it.nth(2), log.calls()), (Ok(None), Calls::none().nths(1)));
+    let log = Log::new();
+    let answers = [Ok(1), Err(5), Ok(2)];
+    let mut it = counted(&answers, &log).map_err(hundred_more);
+    assert_eq!(rt; it.try_fold(0, stop), Err(3));
+    assert_eq!(rt;
+        (it.next(), it.next(), log.calls()),
+        (Err(105), Ok(Some(2)), Calls::none().nexts(2).folds(1))
+    );
+}
+
+#[test]
+fn references_and_boxes_pass_nth_and_folds_on(rt: HostRuntime) -> Result<(), Fail> {
+    let log = Log::new();
+    let answers = [Ok(5), Ok(6)];
+    let mut it = counted(&answers, &log);
+    let mut borrowed = &mut it;
+    assert_eq!(rt;
+        (reached(&mut borrowed, 1), log.calls()),
+        (Ok(Some(6)), Calls::none().nths(1))
+    );
+    let mut boxed = Box::new(rt.alloc(), counted(&answers, &log))?;
+    assert_eq!(rt;
+        (reached(&mut boxed, 1), log.calls()),
+        (Ok(Some(6)), Calls::none().nths(2))
+    );
+    let log = Log::new();
+    let mut it = counted(&answers, &log);
+    let mut borrowed = &mut it;
+    assert_eq!(rt;
+        (summed(&mut borrowed), log.calls()),
+        (Ok(11), Calls::none().folds(1))
+    );
+    let answers = [Ok(5), Err(6)];
+    let mut boxed = Box::new(rt.alloc(), counted(&answers, &log))?;
+    assert_eq!(rt;
+        (summed(&mut boxed), log.calls()),
+        (Err(6), Calls::none().folds(2))
+    );
+    Ok(())
+}
+
+#[test]
+fn enumerate_fuse_and_map_err_pass_count_and_last_on(rt: HostRuntime) {
+    let log = Log::new();
+    let (items, failing) = ([Ok(5), Ok(6)], [Ok(5), Err(6)]);
+    let both = [
+        counted(&items, &log).enumerate().count(),
+        counted(&failing, &log).enumerate().count(),
+    ];
+    assert_eq!(rt;
+        (both, log.calls()),
+        ([Ok(2), Err(6)], Calls::none().counts(2))
+    );
+    let log = Log::new();
+    let both = [
+        counted(&items, &log).fuse().count(),
+        counted(&failing, &log).map_err(hundred_more).count(),
+    ];
+    assert_eq!(rt;
+        (both, log.calls()),
+        ([Ok(2), Err(106)], Calls::none().counts(2))
+    );
+    let log = Log::new();
+    let both = [
+        counted(&items, &log).fuse().last(),
+        counted(&failing, &log).map_err(hundred_more).last(),
+    ];
+    assert_eq!(rt;
+        (both, log.calls()),
+        ([Ok(Some(6)), Err(106)], Calls::none().lasts(2))
+    );
 }

@@ -18,48 +18,30 @@ fn add_up_to_three(sum: u32, x: u32) -> Result<u32, u32> {
 }
 
 #[test]
-fn chain_folds_each_side_once(rt: HostRuntime) {
+fn chain_folds_each_side_once_and_goes_on(rt: HostRuntime) {
     let (firsts, seconds) = (Log::new(), Log::new());
     let (first, second) = ([Ok(1), Ok(2)], [Ok(3), Ok(4)]);
     let mut it = counted(&first, &firsts).chain(counted(&second, &seconds));
-    assert_eq!(rt; it.try_fold(0, add_up_to_three), Err(3));
-    assert_eq!(rt; it.next(), Ok(Some(4)));
-    assert_eq!(rt; firsts.calls(), Calls::none().folds(1));
-    assert_eq!(rt; seconds.calls(), Calls::none().nexts(1).folds(1));
-}
-
-#[test]
-fn chain_folds_its_first_on_after_a_failure(rt: HostRuntime) {
+    assert_eq!(rt;
+        (it.try_fold(0, add_up_to_three), it.next()),
+        (Err(3), Ok(Some(4)))
+    );
+    assert_eq!(rt;
+        [firsts.calls(), seconds.calls()],
+        [Calls::none().folds(1), Calls::none().nexts(1).folds(1)]
+    );
+    // After a failure it folds its first on.
     let (firsts, seconds) = (Log::new(), Log::new());
     let (first, second) = ([Ok(1), Err(9), Ok(2)], [Ok(4)]);
     let mut it = counted(&first, &firsts).chain(counted(&second, &seconds));
-    assert_eq!(rt; it.try_fold(0, add_up), Err(9));
-    assert_eq!(rt; firsts.calls(), Calls::none().folds(1));
-    assert_eq!(rt; seconds.calls(), Calls::none());
-    assert_eq!(rt; it.try_fold(0, add_up), Ok(6));
-    assert_eq!(rt; firsts.calls(), Calls::none().folds(2));
-    assert_eq!(rt; seconds.calls(), Calls::none().folds(1));
-}
-
-// Two ranges, whose bounds add up to one that fits.
-#[test]
-fn chain_counts_each_side_once(rt: HostRuntime) {
-    let (firsts, seconds) = (Log::new(), Log::new());
-    let first = Counted::new((1u32..3).into_fallible(), &firsts);
-    let second = Counted::new((3u32..4).into_fallible(), &seconds);
-    assert_eq!(rt; first.chain(second).count(), Ok(3));
-    assert_eq!(rt; firsts.calls(), Calls::none().counts(1));
-    assert_eq!(rt; seconds.calls(), Calls::none().counts(1));
-}
-
-#[test]
-fn chain_takes_the_last_of_each_side(rt: HostRuntime) {
-    let (firsts, seconds) = (Log::new(), Log::new());
-    let (first, second) = ([Ok(1), Ok(2)], [Ok(3)]);
-    let it = counted(&first, &firsts).chain(counted(&second, &seconds));
-    assert_eq!(rt; it.last(), Ok(Some(3)));
-    assert_eq!(rt; firsts.calls(), Calls::none().lasts(1));
-    assert_eq!(rt; seconds.calls(), Calls::none().lasts(1));
+    assert_eq!(rt;
+        (it.try_fold(0, add_up), [firsts.calls(), seconds.calls()]),
+        (Err(9), [Calls::none().folds(1), Calls::none()])
+    );
+    assert_eq!(rt;
+        (it.try_fold(0, add_up), [firsts.calls(), seconds.calls()]),
+        (Ok(6), [Calls::none().folds(2), Calls::none().folds(1)])
+    );
 }
 
 // Whether the item is 3.
@@ -68,13 +50,37 @@ fn is_three(x: &u32) -> Result<bool, u32> {
 }
 
 #[test]
-fn chain_searches_each_side_once(rt: HostRuntime) {
+fn chain_counts_searches_and_takes_the_last_of_each_side_once(rt: HostRuntime) {
+    // Two ranges, whose bounds add up to one that fits.
+    let (firsts, seconds) = (Log::new(), Log::new());
+    let first = Counted::new((1u32..3).into_fallible(), &firsts);
+    let second = Counted::new((3u32..4).into_fallible(), &seconds);
+    let count = first.chain(second).count();
+    assert_eq!(rt;
+        (count, [firsts.calls(), seconds.calls()]),
+        (Ok(3), [Calls::none().counts(1), Calls::none().counts(1)])
+    );
     let (firsts, seconds) = (Log::new(), Log::new());
     let (first, second) = ([Ok(1), Ok(2)], [Ok(3)]);
+    let it = counted(&first, &firsts).chain(counted(&second, &seconds));
+    let last = it.last();
+    assert_eq!(rt;
+        (last, [firsts.calls(), seconds.calls()]),
+        (
+            Ok(Some(3)),
+            [Calls::none().lasts(1), Calls::none().lasts(1)]
+        )
+    );
+    let (firsts, seconds) = (Log::new(), Log::new());
     let mut it = counted(&first, &firsts).chain(counted(&second, &seconds));
-    assert_eq!(rt; it.find(is_three), Ok(Some(3)));
-    assert_eq!(rt; firsts.calls(), Calls::none().finds(1));
-    assert_eq!(rt; seconds.calls(), Calls::none().finds(1));
+    let found = it.find(is_three);
+    assert_eq!(rt;
+        (found, [firsts.calls(), seconds.calls()]),
+        (
+            Ok(Some(3)),
+            [Calls::none().finds(1), Calls::none().finds(1)]
+        )
+    );
 }
 
 // The sum of the items of two inner iterators, which `log` sees the outer source of drawn.
@@ -123,35 +129,35 @@ fn digits_mapped_flat(outer: &Log, inners: &Log) -> Result<u32, Infallible> {
 }
 
 #[test]
-fn flat_map_folds_each_source_once(rt: HostRuntime) {
+fn flatten_and_flat_map_fold_each_source_once(rt: HostRuntime) {
     let (outer, inners) = (Log::new(), Log::new());
-    assert_eq!(rt; digits_mapped_flat(&outer, &inners).ok(), Some(3434));
-    assert_eq!(rt; outer.calls(), Calls::none().folds(1));
-    assert_eq!(rt; inners.calls(), Calls::none().folds(2));
-}
-
-#[test]
-fn flatten_folds_the_inner_iterator_in_hand_first(rt: HostRuntime) {
+    let digits = digits_mapped_flat(&outer, &inners).ok();
+    assert_eq!(rt;
+        (digits, [outer.calls(), inners.calls()]),
+        (Some(3434), [Calls::none().folds(1), Calls::none().folds(2)])
+    );
     let (outer, firsts, seconds) = (Log::new(), Log::new(), Log::new());
     let (first, second) = ([Ok(1), Ok(2)], [Ok(3)]);
+    let sum = summed_flat(counted(&first, &firsts), counted(&second, &seconds), &outer);
+    let one_fold = || Calls::none().folds(1);
+    assert_eq!(rt;
+        (sum, [outer.calls(), firsts.calls(), seconds.calls()]),
+        (Ok(6), [one_fold(), one_fold(), one_fold()])
+    );
+    // The inner iterator in hand is folded first.
+    let (outer, firsts, seconds) = (Log::new(), Log::new(), Log::new());
     let both = first_and_sum_of_others(
         counted(&first, &firsts),
         counted(&second, &seconds),
         &outer,
     );
     assert_eq!(rt; both, (Ok(Some(1)), Ok(5)));
-    assert_eq!(rt; outer.calls(), Calls::none().folds(2));
-    assert_eq!(rt; firsts.calls(), Calls::none().nexts(1).folds(1));
-    assert_eq!(rt; seconds.calls(), Calls::none().folds(1));
-}
-
-#[test]
-fn flatten_folds_each_source_once(rt: HostRuntime) {
-    let (outer, firsts, seconds) = (Log::new(), Log::new(), Log::new());
-    let (first, second) = ([Ok(1), Ok(2)], [Ok(3)]);
-    let sum = summed_flat(counted(&first, &firsts), counted(&second, &seconds), &outer);
-    assert_eq!(rt; sum, Ok(6));
-    assert_eq!(rt; outer.calls(), Calls::none().folds(1));
-    assert_eq!(rt; firsts.calls(), Calls::none().folds(1));
-    assert_eq!(rt; seconds.calls(), Calls::none().folds(1));
+    assert_eq!(rt;
+        [outer.calls(), firsts.calls(), seconds.calls()],
+        [
+            Calls::none().folds(2),
+            Calls::none().nexts(1).folds(1),
+            Calls::none().folds(1)
+        ]
+    );
 }

@@ -3,8 +3,10 @@
 
 #[cfg(test)]
 mod behind;
-pub mod calls;
-pub mod counted;
+#[cfg(test)]
+mod calls;
+#[cfg(test)]
+mod counted;
 #[cfg(test)]
 mod front;
 #[cfg(test)]

@@ -3,7 +3,7 @@ ghost use Rattle.fallible_iterator.specs.Contract.{KeptByDraws};
 
 use crate::shared::{below_three, is_even, stop, tens_of_even};
 use fallible_iterator::Answer::{End, Failure, Item};
-use fallible_iterator::{FallibleIterator, IteratorExt, Once, once};
+use fallible_iterator::{Answer, FallibleIterator, IteratorExt, Once, once};
 use fallible_testing::answered::expect_answers;
 use fallible_testing::numbers::numbers;
 use fallible_testing::scripted::{Script, scripted};
@@ -32,25 +32,25 @@ where
 }
 
 #[test]
-fn chain_under_peekable_gives_a_held_item_first(rt: HostRuntime) -> Result<(), Fail> {
+fn chain_under_peekable_gives_a_held_item_first_and_ends_at_a_held_end(
+    rt: HostRuntime,
+) -> Result<(), Fail> {
     let second = [Ok(3), Err(9)];
     let mut it = over_an_end(rt.alloc())?.chain(numbers(&second)).peekable();
-    assert_eq!(rt; it.peek_copied(), Ok(Some(1)));
-    assert_eq!(rt; digits(&mut it), (13, Err(9)));
-    assert_eq!(rt; it.draw(), Ok(None));
+    assert_eq!(rt;
+        (it.peek_copied(), digits(&mut it), it.draw()),
+        (Ok(Some(1)), (13, Err(9)), Ok(None))
+    );
     let mut drawn = over_an_end(rt.alloc())?.chain(numbers(&second)).peekable();
-    expect_answers(&rt, &mut drawn, &[Item(1), Item(3), Failure(9), End])
-}
-
-#[test]
-fn chain_under_peekable_ends_at_a_held_end(rt: HostRuntime) -> Result<(), Fail> {
+    expect_answers(&rt, &mut drawn, &[Item(1), Item(3), Failure(9), End])?;
     let first = [Ok(1)];
     let second = scripted::<u32, u32, 2>(rt.alloc(), [Ok(None), Ok(Some(3))])?;
     let mut it = numbers(&first).chain(second).peekable();
-    assert_eq!(rt; it.draw(), Ok(Some(1)));
-    assert_eq!(rt; it.peek_copied(), Ok(None));
-    assert_eq!(rt; digits(&mut it), (0, Ok(())));
-    assert_eq!(rt; digits(&mut it), (3, Ok(())));
+    assert_eq!(rt; [it.draw(), it.peek_copied()], [Ok(Some(1)), Ok(None)]);
+    assert_eq!(rt;
+        [digits(&mut it), digits(&mut it)],
+        [(0, Ok(())), (3, Ok(()))]
+    );
     let second = scripted::<u32, u32, 2>(rt.alloc(), [Ok(None), Ok(Some(3))])?;
     let mut drawn = numbers(&first).chain(second).peekable();
     expect_answers(&rt, &mut drawn, &[Item(1), End, Item(3), End])
@@ -95,52 +95,67 @@ fn four_and_an_end(alloc: Global) -> Result<Script<u32, u32>, AllocError> {
     )
 }
 
+// The digits that a fold gives, and how it ends.
+type Folded = (u32, Result<(), u32>);
+
+// What two folds of a clone give, one after another, and where a fold of another stops. Fails the test where draws answer otherwise, of the nest itself or of the clone whose fold stopped.
+fn folds_beside_draws<I: FallibleIterator<Item = u32, Error = u32> + Clone>(
+    rt: &HostRuntime,
+    it: &mut I,
+    drawn: &[Answer<u32, u32>],
+    left: &[Answer<u32, u32>],
+) -> Result<
+    (
+        (u32, Result<(), u32>),
+        (u32, Result<(), u32>),
+        Result<u32, u32>,
+    ),
+    Fail,
+>
+where
+    I: Drop,
+    requires can_next { I.contract.can_next it.old }
+    requires clones { (c : I) → I.is_clone it.old c → I.contract.can_next c × I.contract.is_finite c }
+{
+    let mut folded = it.clone()?;
+    let mut stopped = it.clone()?;
+    expect_answers(rt, it, drawn)?;
+    let first = digits(&mut folded);
+    let second = digits(&mut folded);
+    let at = stopped.try_fold(0, stop);
+    expect_answers(rt, &mut stopped, left)?;
+    Ok((first, second, at))
+}
+
 #[test]
-fn filter_over_fuse_folds_up_to_its_end(rt: HostRuntime) -> Result<(), Fail> {
+fn filters_over_fuse_fold_up_to_its_end_and_go_on_where_a_fold_stopped(
+    rt: HostRuntime,
+) -> Result<(), Fail> {
     let mut it = four_and_an_end(rt.alloc())?.fuse().filter(is_even);
-    assert_eq!(rt; digits(&mut it), (24, Ok(())));
-    assert_eq!(rt; digits(&mut it), (0, Ok(())));
-    let mut drawn = four_and_an_end(rt.alloc())?.fuse().filter(is_even);
-    expect_answers(&rt, &mut drawn, &[Item(2), Item(4), End, End])
-}
-
-#[test]
-fn filter_over_fuse_goes_on_where_a_fold_stopped(rt: HostRuntime) -> Result<(), Fail> {
-    let mut it = four_and_an_end(rt.alloc())?.fuse().filter(is_even);
-    assert_eq!(rt; it.try_fold(0, stop), Err(3));
-    expect_answers(&rt, &mut it, &[Item(4), End, End])
-}
-
-#[test]
-fn filter_map_over_fuse_folds_up_to_its_end(rt: HostRuntime) -> Result<(), Fail> {
+    let came = folds_beside_draws(
+        &rt,
+        &mut it,
+        &[Item(2), Item(4), End, End],
+        &[Item(4), End, End],
+    )?;
+    assert_eq!(rt; came, ((24, Ok(())), (0, Ok(())), Err(3)));
     let mut it = four_and_an_end(rt.alloc())?.fuse().filter_map(tens_of_even);
-    assert_eq!(rt; digits(&mut it), (240, Ok(())));
-    assert_eq!(rt; digits(&mut it), (0, Ok(())));
-    let mut drawn = four_and_an_end(rt.alloc())?.fuse().filter_map(tens_of_even);
-    expect_answers(&rt, &mut drawn, &[Item(20), Item(40), End, End])
-}
-
-#[test]
-fn filter_map_over_fuse_goes_on_where_a_fold_stopped(rt: HostRuntime) -> Result<(), Fail> {
-    let mut it = four_and_an_end(rt.alloc())?.fuse().filter_map(tens_of_even);
-    assert_eq!(rt; it.try_fold(0, stop), Err(3));
-    expect_answers(&rt, &mut it, &[Item(40), End, End])
-}
-
-#[test]
-fn skip_while_over_fuse_folds_up_to_its_end(rt: HostRuntime) -> Result<(), Fail> {
+    let came = folds_beside_draws(
+        &rt,
+        &mut it,
+        &[Item(20), Item(40), End, End],
+        &[Item(40), End, End],
+    )?;
+    assert_eq!(rt; came, ((240, Ok(())), (0, Ok(())), Err(3)));
     let mut it = four_and_an_end(rt.alloc())?.fuse().skip_while(below_three);
-    assert_eq!(rt; digits(&mut it), (34, Ok(())));
-    assert_eq!(rt; digits(&mut it), (0, Ok(())));
-    let mut drawn = four_and_an_end(rt.alloc())?.fuse().skip_while(below_three);
-    expect_answers(&rt, &mut drawn, &[Item(3), Item(4), End, End])
-}
-
-#[test]
-fn skip_while_over_fuse_goes_on_where_a_fold_stopped(rt: HostRuntime) -> Result<(), Fail> {
-    let mut it = four_and_an_end(rt.alloc())?.fuse().skip_while(below_three);
-    assert_eq!(rt; it.try_fold(0, stop), Err(3));
-    expect_answers(&rt, &mut it, &[Item(4), End, End])
+    let came = folds_beside_draws(
+        &rt,
+        &mut it,
+        &[Item(3), Item(4), End, End],
+        &[Item(4), End, End],
+    )?;
+    assert_eq!(rt; came, ((34, Ok(())), (0, Ok(())), Err(3)));
+    Ok(())
 }
 
 // An iterator of 1, an end, and an iterator of 2.

@@ -7,6 +7,7 @@ pub mod closures;
 pub mod collected;
 pub mod listed;
 pub mod numbers;
+pub mod rows;
 pub mod scripted;
 pub mod test_error;
 pub mod text;

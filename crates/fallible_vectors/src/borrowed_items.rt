@@ -24,16 +24,6 @@ fn listed_numbers(alloc: Global, pages: &[&[u32]]) -> Result<Vec<u32>, Fault<usi
     .collect(alloc)
 }
 
-#[test]
-fn lent_pages_are_collected_up_to_a_failure(rt: HostRuntime) -> Result<(), Fail> {
-    let (first, second, third) = ([1, 2], [], [3]);
-    let pages = [first.as_slice(), second.as_slice(), third.as_slice()];
-    expect_collected(listed_numbers(rt.alloc(), pages.as_slice()), &[1, 2, 3])?;
-    let failing = [3, 0, 4];
-    let pages = [first.as_slice(), failing.as_slice()];
-    expect_source_fault(listed_numbers(rt.alloc(), pages.as_slice()), 3)
-}
-
 // How many items the pages have, up to 9.
 fn counted_items(pages: &[&[u32]]) -> Result<usize, Infallible> {
     IntoFallible::from(pages.iter())
@@ -51,56 +41,49 @@ fn counted_behind_a_peek(pages: &[&[u32]]) -> Result<usize, Infallible> {
 }
 
 #[test]
-fn items_of_lent_pages_are_counted(rt: HostRuntime) {
+fn lent_pages_are_collected_up_to_a_failure_and_counted(rt: HostRuntime) -> Result<(), Fail> {
+    let (first, second, third) = ([1, 2], [], [3]);
+    let pages = [first.as_slice(), second.as_slice(), third.as_slice()];
+    expect_collected(listed_numbers(rt.alloc(), pages.as_slice()), &[1, 2, 3])?;
+    let failing = [3, 0, 4];
+    let pages = [first.as_slice(), failing.as_slice()];
+    expect_source_fault(listed_numbers(rt.alloc(), pages.as_slice()), 3)?;
     let (first, second, third) = ([5, 6], [], [7]);
     let pages = [first.as_slice(), second.as_slice(), third.as_slice()];
-    assert_eq!(rt; counted_items(pages.as_slice()), Ok(3));
-    assert_eq!(rt; counted_behind_a_peek(pages.as_slice()), Ok(3));
+    assert_eq!(rt;
+        [
+            counted_items(pages.as_slice()),
+            counted_behind_a_peek(pages.as_slice())
+        ],
+        [Ok(3), Ok(3)]
+    );
+    Ok(())
+}
+
+// A line or a word is an item.
+fn found(text: &str) -> Result<&str, ()> {
+    Ok(text)
 }
 
 // How many words the lines of the text have, up to 9.
 fn counted_words(text: &str) -> Result<usize, ()> {
-    convert(text.lines().map(|line| Ok::<&str, ()>(line)).fuse())
-        .flat_map(|line: &str| {
-            Ok(convert(
-                line.split_whitespace()
-                    .map(|word| Ok::<&str, ()>(word))
-                    .fuse(),
-            ))
-        })
+    convert(text.lines().map(found).fuse())
+        .flat_map(|line: &str| Ok(convert(line.split_whitespace().map(found).fuse())))
         .take(9)
         .count()
 }
 
 // The first word of the text.
 fn first_word<'a>(text: &'a str) -> Result<Option<&'a str>, ()> {
-    let mut words = convert(text.lines().map(|line| Ok::<&str, ()>(line)).fuse()).flat_map(
-        |line: &str| {
-            Ok(convert(
-                line.split_whitespace()
-                    .map(|word| Ok::<&str, ()>(word))
-                    .fuse(),
-            ))
-        },
-    );
+    let mut words = convert(text.lines().map(found).fuse()).flat_map(|line: &str| Ok(convert(
+        line.split_whitespace().map(found).fuse(),
+    )));
     words.next()
-}
-
-#[test]
-fn words_of_lines_are_drained(rt: HostRuntime) {
-    assert_eq!(rt; counted_words("one two\n\n  three\n"), Ok(3));
-    assert_eq!(rt; first_word("\n  one two\nthree"), Ok(Some("one")));
-    assert_eq!(rt; first_word("\n \n"), Ok(None));
 }
 
 // After the first word, where that has three letters, how many words of three letters follow in a row.
 fn short_words_after_a_short_one(text: &str) -> Result<usize, ()> {
-    let mut words = convert(
-        text.split_whitespace()
-            .map(|word| Ok::<&str, ()>(word))
-            .fuse(),
-    )
-    .peekable();
+    let mut words = convert(text.split_whitespace().map(found).fuse()).peekable();
     if words.next_if(|word: &&str| word.len() == 3)?.is_none() {
         return Ok(0);
     }
@@ -108,12 +91,19 @@ fn short_words_after_a_short_one(text: &str) -> Result<usize, ()> {
 }
 
 #[test]
-fn borrowed_words_are_peeked_at(rt: HostRuntime) {
+fn borrowed_words_and_numbers_are_drained_and_peeked_at(rt: HostRuntime) -> Result<(), Fail> {
     assert_eq!(rt;
-        short_words_after_a_short_one("one two six three ten"),
-        Ok(2)
+        [
+            counted_words("one two\n\n  three\n"),
+            short_words_after_a_short_one("one two six three ten"),
+            short_words_after_a_short_one("three ten")
+        ],
+        [Ok(3), Ok(2), Ok(0)]
     );
-    assert_eq!(rt; short_words_after_a_short_one("three ten"), Ok(0));
+    assert_eq!(rt;
+        [first_word("\n  one two\nthree"), first_word("\n \n")],
+        [Ok(Some("one")), Ok(None)]
+    );
     let numbers = [1u32, 2, 3];
     let mut it = IntoFallible::from(numbers.iter()).peekable();
     assert_eq!(rt; it.peek(), Ok(Some(&&1)));
@@ -123,8 +113,5 @@ fn borrowed_words_are_peeked_at(rt: HostRuntime) {
         .filter(|x| Ok(*x > 2))
         .take(2)
         .collect(rt.alloc());
-    match made {
-        Ok(items) => assert_eq!(rt; items.as_slice(), [3].as_slice()),
-        Err(_) => panic!(rt; "it failed"),
-    }
+    expect_collected(made, &[3])
 }

@@ -11,13 +11,6 @@ use std::convert::Infallible;
 use std::ops::Range;
 use std::test::Fail;
 
-#[test]
-fn collect_doubled(rt: HostRuntime) -> Result<(), Fail> {
-    let answers = [Ok(0), Ok(1), Ok(2), Ok(3), Ok(4)];
-    let it = numbers(&answers).map(|x: u32| Ok(x.wrapping_mul(2)));
-    expect_collected(it.collect(rt.alloc()), &[0, 2, 4, 6, 8])
-}
-
 // What `collect` through a reference makes of the answers, and what the next draw answers.
 fn collected(
     alloc: Global,
@@ -25,24 +18,6 @@ fn collected(
 ) -> (Result<Vec<u32>, Fault<u32>>, Result<Option<u32>, u32>) {
     let mut it = numbers(answers);
     (it.by_ref().collect(alloc), it.next())
-}
-
-#[test]
-fn collect_fails_at_the_first_failure_and_draws_no_more(rt: HostRuntime) -> Result<(), Fail> {
-    let (made, next) = collected(rt.alloc(), &[Ok(0), Err(1), Ok(2), Err(3)]);
-    expect_source_fault(made, 1)?;
-    assert_eq!(rt; next, Ok(Some(2)));
-    let (made, next) = collected(rt.alloc(), &[Ok(0), Err(1), Ok(2)]);
-    expect_source_fault(made, 1)?;
-    assert_eq!(rt; next, Ok(Some(2)));
-    Ok(())
-}
-
-// A `Vec` grows with its items, by a factor: for five of them it has nowhere near 1,000 places.
-#[test]
-fn collect_takes_no_room_ahead(rt: HostRuntime) {
-    let (made, _) = collected(rt.alloc(), &[Ok(0), Ok(1), Ok(2), Ok(3), Ok(4)]);
-    assert!(rt; made.expect(&rt, "a collection").capacity() < 1_000);
 }
 
 // What `collect` makes of the answers, whose failures are that much greater.
@@ -56,31 +31,12 @@ fn collected_with_greater_failures(
         .collect(alloc)
 }
 
-#[test]
-fn collect_fails_as_map_err_makes_it(rt: HostRuntime) -> Result<(), Fail> {
-    let answers = [Ok(1), Err(5)];
-    expect_source_fault(
-        collected_with_greater_failures(rt.alloc(), &answers, 100),
-        105,
-    )?;
-    let answers = [Ok(0), Err(1), Ok(2), Err(3)];
-    expect_source_fault(collected_with_greater_failures(rt.alloc(), &answers, 0), 1)
-}
-
 // What `collect` makes of the answers that `even_thirds` lets pass.
 fn collected_even_thirds(
     alloc: Global,
     answers: &[Result<u32, u32>],
 ) -> Result<Vec<u32>, Fault<u32>> {
     numbers(answers).filter(even_thirds).collect(alloc)
-}
-
-#[test]
-fn collect_filtered_and_fails_by_the_predicate(rt: HostRuntime) -> Result<(), Fail> {
-    let made = collected_even_thirds(rt.alloc(), &[Ok(0), Ok(2), Ok(4), Ok(6)]);
-    expect_collected(made, &[0, 6])?;
-    let made = collected_even_thirds(rt.alloc(), &[Ok(0), Ok(1), Ok(2), Ok(3)]);
-    expect_source_fault(made, 1)
 }
 
 // What `collect` makes of what `ten_more_of_even` makes of the answers.
@@ -92,7 +48,21 @@ fn collected_ten_more_of_even(
 }
 
 #[test]
-fn collect_filter_mapped_and_fails_by_the_closure(rt: HostRuntime) -> Result<(), Fail> {
+fn collect_over_an_adapter_makes_its_items_or_fails_as_it_does(
+    rt: HostRuntime,
+) -> Result<(), Fail> {
+    let answers = [Ok(0), Ok(1), Ok(2), Ok(3), Ok(4)];
+    let it = numbers(&answers).map(|x: u32| Ok(x.wrapping_mul(2)));
+    expect_collected(it.collect(rt.alloc()), &[0, 2, 4, 6, 8])?;
+    let made = collected_with_greater_failures(rt.alloc(), &[Ok(1), Err(5)], 100);
+    expect_source_fault(made, 105)?;
+    let answers = [Ok(0), Err(1), Ok(2), Err(3)];
+    let made = collected_with_greater_failures(rt.alloc(), &answers, 0);
+    expect_source_fault(made, 1)?;
+    let made = collected_even_thirds(rt.alloc(), &[Ok(0), Ok(2), Ok(4), Ok(6)]);
+    expect_collected(made, &[0, 6])?;
+    let made = collected_even_thirds(rt.alloc(), &[Ok(0), Ok(1), Ok(2), Ok(3)]);
+    expect_source_fault(made, 1)?;
     let answers = [Ok(0), Ok(2), Ok(3), Ok(4), Ok(6)];
     let made = collected_ten_more_of_even(rt.alloc(), &answers);
     expect_collected(made, &[10, 12, 14, 16])?;
@@ -109,7 +79,7 @@ fn collected_range(
 }
 
 #[test]
-fn collect_from_a_std_iterator(rt: HostRuntime) -> Result<(), Fail> {
+fn collect_from_a_std_iterator_goes_on_where_its_room_is_full(rt: HostRuntime) -> Result<(), Fail> {
     expect_collected(
         collected_range(rt.alloc(), IntoFallible::from(0..4)),
         &[0, 1, 2, 3],
@@ -117,18 +87,15 @@ fn collect_from_a_std_iterator(rt: HostRuntime) -> Result<(), Fail> {
     expect_collected(
         collected_range(rt.alloc(), (0..4).into_fallible()),
         &[0, 1, 2, 3],
-    )
-}
-
-// It has no room at first, and asks for more again and again.
-#[test]
-fn collect_goes_on_where_its_room_is_full(rt: HostRuntime) {
+    )?;
+    // It has no room at first, and asks for more again and again.
     let made = collected_range(rt.alloc(), IntoFallible::from(0..1000));
     let items = made.expect(&rt, "a collection");
     assert_eq!(rt; items.len(), 1000);
     for (number, item) in (0..).zip(&items) {
         assert_eq!(rt; *item, number);
     }
+    Ok(())
 }
 
 // A collection of a user's own, which counts and never refuses.
@@ -152,13 +119,6 @@ impl Collect<u32> for Total {
         self.count = self.count.wrapping_add(1);
         Ok(())
     }
-}
-
-#[test]
-fn collect_into_a_collection_that_counts(rt: HostRuntime) {
-    let answers = [Ok(1), Ok(2), Ok(3)];
-    let made = numbers(&answers).collect::<Total>(rt.alloc());
-    assert_eq!(rt; made.expect(&rt, "a collection").count, 3);
 }
 
 // A collection that asks for more room at each push than there is.
@@ -204,15 +164,29 @@ fn collect_into_a_vec_whose_request_may_be_refused(rt: HostRuntime) -> Result<()
 }
 
 #[test]
-fn collect_refused_memory_leaves_the_rest(rt: HostRuntime) -> Result<(), Fail> {
+fn collect_draws_no_more_after_a_failure_or_a_refusal(rt: HostRuntime) -> Result<(), Fail> {
+    let (made, first) = collected(rt.alloc(), &[Ok(0), Err(1), Ok(2), Err(3)]);
+    expect_source_fault(made, 1)?;
+    let (made, second) = collected(rt.alloc(), &[Ok(0), Err(1), Ok(2)]);
+    expect_source_fault(made, 1)?;
     let answers = [Ok(1), Ok(2), Ok(3)];
     let mut it = numbers(&answers);
     expect_refused(it.by_ref().collect::<Hungry>(rt.alloc()))?;
-    assert_eq!(rt; it.next(), Ok(Some(2)));
+    assert_eq!(rt;
+        [first, second, it.next()],
+        [Ok(Some(2)), Ok(Some(2)), Ok(Some(2))]
+    );
     Ok(())
 }
 
 #[test]
-fn a_failure_becomes_a_fault_of_the_source(rt: HostRuntime) -> Result<(), Fail> {
+fn collect_takes_no_room_ahead_and_counts_into_a_counter(rt: HostRuntime) -> Result<(), Fail> {
+    // A `Vec` grows with its items, by a factor: for five of them it has nowhere near 1,000 places.
+    let (made, _) = collected(rt.alloc(), &[Ok(0), Ok(1), Ok(2), Ok(3), Ok(4)]);
+    assert!(rt; made.expect(&rt, "a collection").capacity() < 1_000);
+    let answers = [Ok(1), Ok(2), Ok(3)];
+    let made = numbers(&answers).collect::<Total>(rt.alloc());
+    assert_eq!(rt; made.expect(&rt, "a collection").count, 3);
+    // A failure becomes a fault of the source.
     expect_source_fault::<(), u32>(Err(Fault::from(7)), 7)
 }

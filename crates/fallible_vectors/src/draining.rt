@@ -7,14 +7,6 @@ use fallible_testing::numbers::numbers;
 use std::alloc::{AllocError, Global};
 use std::test::Fail;
 
-#[test]
-fn count_draws_nothing_after_a_failure(rt: HostRuntime) {
-    let answers = [Ok(1), Err(2), Ok(3)];
-    let mut it = numbers(&answers);
-    assert_eq!(rt; it.by_ref().count(), Err(2));
-    assert_eq!(rt; it.next(), Ok(Some(3)));
-}
-
 // The sum, which fails with an item above 4.
 fn low_sum(sum: u32, x: u32) -> Result<u32, u32> {
     if x > 4 {
@@ -22,14 +14,6 @@ fn low_sum(sum: u32, x: u32) -> Result<u32, u32> {
     } else {
         Ok(sum.wrapping_add(x))
     }
-}
-
-#[test]
-fn fold_draws_nothing_after_its_closure_fails(rt: HostRuntime) {
-    let answers = [Ok(1), Ok(5), Ok(3)];
-    let mut it = numbers(&answers);
-    assert_eq!(rt; it.by_ref().fold(0, low_sum), Err(5));
-    assert_eq!(rt; it.next(), Ok(Some(3)));
 }
 
 // A collection that asks for more room at the start than there is.
@@ -59,7 +43,18 @@ impl Collect<u32> for Greedy {
 }
 
 #[test]
-fn collect_draws_nothing_where_its_collection_is_refused(rt: HostRuntime) -> Result<(), Fail> {
+fn count_fold_and_collect_draw_nothing_after_what_decides(rt: HostRuntime) -> Result<(), Fail> {
+    let answers = [Ok(1), Err(2), Ok(3)];
+    let mut it = numbers(&answers);
+    assert_eq!(rt; (it.by_ref().count(), it.next()), (Err(2), Ok(Some(3))));
+    // Its closure fails.
+    let answers = [Ok(1), Ok(5), Ok(3)];
+    let mut it = numbers(&answers);
+    assert_eq!(rt;
+        (it.by_ref().fold(0, low_sum), it.next()),
+        (Err(5), Ok(Some(3)))
+    );
+    // Its collection is refused.
     let answers = [Ok(1), Ok(2)];
     let mut it = numbers(&answers);
     expect_refused(it.by_ref().collect::<Greedy>(rt.alloc()))?;

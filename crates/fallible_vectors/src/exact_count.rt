@@ -41,19 +41,12 @@ impl FallibleIterator for Threes {
 }
 
 #[test]
-fn is_counted(rt: HostRuntime) {
-    let it = Threes { left: 4 };
-    assert_eq!(rt; it.count(), Ok(4));
-}
-
-#[test]
-fn is_numbered(rt: HostRuntime) -> Result<(), Fail> {
+fn is_counted_and_numbered(rt: HostRuntime) -> Result<(), Fail> {
+    assert_eq!(rt; Threes { left: 4 }.count(), Ok(4));
     let mut it = Threes { left: 2 }.enumerate();
-    expect_answers(&rt, &mut it, &[Item((0, 3)), Item((1, 3)), End])
-}
-
-#[test]
-fn is_counted_after_it_is_numbered(rt: HostRuntime) {
+    expect_answers(&rt, &mut it, &[Item((0, 3)), Item((1, 3)), End])?;
+    // It is counted after it is numbered.
     let it = Threes { left: 4 };
     assert_eq!(rt; it.enumerate().map(|(n, _)| Ok(n)).count(), Ok(4));
+    Ok(())
 }

@@ -40,34 +40,33 @@ impl<'a, I: FallibleIterator<Item = u32, Error = u32>> FallibleIterator for Watc
     ghost lawful = { lawful_seen (λ w. w.it) I.lawful };
 }
 
+// The sum, which stops with a power of two behind a sum of 1.
+fn up_to_a_power(sum: u32, x: u32) -> Result<u32, u32> {
+    if x.is_power_of_two() && sum == 1 {
+        Err(x)
+    } else {
+        Ok(x.wrapping_add(sum))
+    }
+}
+
 #[test]
-fn try_fold_goes_through_its_own_fold(rt: HostRuntime) {
-    let answers = [Ok(1), Ok(2), Ok(4), Ok(8)];
+fn folds_go_through_its_own_fold(rt: HostRuntime) {
     let folds = Cell::new(0);
+    let answers = [Ok(1), Ok(2), Ok(4), Ok(8)];
     let mut watched = Watched {
         it: numbers(&answers),
         folds: &folds,
     };
-    let stopped = watched.try_fold(0, |sum, x| {
-        if x.is_power_of_two() && sum == 1 {
-            Err(x)
-        } else {
-            Ok(x.wrapping_add(sum))
-        }
-    });
-    assert_eq!(rt; stopped, Err(2));
-    assert_eq!(rt; folds.get(), 1);
+    let stopped = watched.try_fold(0, up_to_a_power);
+    assert_eq!(rt; (stopped, folds.get()), (Err(2), 1));
     assert_eq!(rt; watched.next(), Ok(Some(4)));
-}
-
-#[test]
-fn fold_goes_through_its_own_fold_and_fails_as_its_source(rt: HostRuntime) {
+    // It fails as its source.
+    folds.set(0);
     let answers = [Ok(1), Err(7), Ok(2)];
-    let folds = Cell::new(0);
     let watched = Watched {
         it: numbers(&answers),
         folds: &folds,
     };
-    assert_eq!(rt; watched.fold(0, |sum, x| Ok(x.wrapping_add(sum))), Err(7));
-    assert_eq!(rt; folds.get(), 1);
+    let failed = watched.fold(0, |sum, x| Ok(x.wrapping_add(sum)));
+    assert_eq!(rt; (failed, folds.get()), (Err(7), 1));
 }

@@ -12,7 +12,8 @@ use std::cell::Cell;
 use std::test::Fail;
 
 #[test]
-fn from_fn_goes_on_after_an_end(rt: HostRuntime) -> Result<(), Fail> {
+fn from_fn_convert_fused_and_transposed_give_each_answer(rt: HostRuntime) -> Result<(), Fail> {
+    // It goes on after an end.
     let mut calls = 0u32;
     let mut it = from_fn(move || {
         calls = calls.wrapping_add(1);
@@ -22,11 +23,8 @@ fn from_fn_goes_on_after_an_end(rt: HostRuntime) -> Result<(), Fail> {
             _ => Ok(None),
         }
     });
-    expect_answers(&rt, &mut it, &[Item(1), End, Item(2), End])
-}
-
-#[test]
-fn convert_fused_only_ends_after_its_first_end(rt: HostRuntime) {
+    expect_answers(&rt, &mut it, &[Item(1), End, Item(2), End])?;
+    // It only ends after its first end.
     let mut calls = 0u32;
     let source = from_fn(move || {
         calls = calls.wrapping_add(1);
@@ -37,42 +35,41 @@ fn convert_fused_only_ends_after_its_first_end(rt: HostRuntime) {
         }
     });
     let mut it = convert_fused(source.iterator());
-    let drawn = [it.next(), it.next(), it.next(), it.next(), it.next()];
-    assert_eq!(rt;
-        drawn,
-        [Ok(Some(1)), Err(9), Ok(Some(3)), Ok(None), Ok(None)]
-    );
+    let expected = [Item(1), Failure(9), Item(3), End, End];
+    expect_answers(&rt, &mut it, &expected)?;
+    let answers: [Result<u32, u32>; 2] = [Ok(1), Err(2)];
+    let mut it = answers.iter().copied().transpose_into_fallible();
+    let drawn = [it.next(), it.next(), it.next()];
+    assert_eq!(rt; drawn, [Ok(Some(1)), Err(2), Ok(None)]);
+    Ok(())
 }
 
 #[test]
-fn empty_and_once_end(rt: HostRuntime) {
+fn empty_once_and_once_err_end(rt: HostRuntime) -> Result<(), Fail> {
     let mut it = empty::<u32, u32>();
     assert_eq!(rt; [it.next(), it.next()], [Ok(None), Ok(None)]);
     let mut it = once::<u32, u32>(5);
     assert_eq!(rt; [it.next(), it.next()], [Ok(Some(5)), Ok(None)]);
-}
-
-#[test]
-fn answers_of_empty_once_and_once_err(rt: HostRuntime) -> Result<(), Fail> {
-    expect_answers(&rt, &mut empty::<u32, u32>(), &[End, End])?;
     let mut it = once::<u32, u32>(5);
     expect_answers(&rt, &mut it, &[])?;
     assert_eq!(rt; it.next(), Ok(Some(5)));
-    expect_answers(&rt, &mut once_err::<u32, u32>(4), &[Failure(4), End, End])
+    let mut it = once_err::<u32, u32>(4);
+    assert_eq!(rt;
+        [it.next(), it.next(), it.next()],
+        [Err(4), Ok(None), Ok(None)]
+    );
+    Ok(())
 }
 
 #[test]
-fn repeat_err_always_fails(rt: HostRuntime) {
+fn repeat_and_repeat_err_go_on(rt: HostRuntime) -> Result<(), Fail> {
     let mut it = repeat_err::<u32, TestError>(TestError::Number(4));
     let failure = || Err(TestError::Number(4));
     assert_eq!(rt;
         [it.next(), it.next(), it.next()],
         [failure(), failure(), failure()]
     );
-}
-
-#[test]
-fn repeat_goes_on_after_a_refused_clone(rt: HostRuntime) -> Result<(), Fail> {
+    // The second clone is refused.
     let clones = Cell::new(0);
     let value = Text {
         text: "x",
@@ -80,19 +77,7 @@ fn repeat_goes_on_after_a_refused_clone(rt: HostRuntime) -> Result<(), Fail> {
     };
     let mut it = repeat::<Text<'_>, TestError>(value).map(|clone: Text<'_>| Ok(clone.text));
     let refused = Failure(TestError::Memory);
-    expect_answers(&rt, &mut it, &[Item("x"), refused, Item("x")])
-}
-
-#[test]
-fn repeat_is_cut_by_take(rt: HostRuntime) -> Result<(), Fail> {
+    expect_answers(&rt, &mut it, &[Item("x"), refused, Item("x")])?;
     let it = repeat::<u32, TestError>(5).take(2);
     expect_collected(it.collect(rt.alloc()), &[5, 5])
-}
-
-#[test]
-fn transposed_gives_items_and_failures(rt: HostRuntime) {
-    let answers: [Result<u32, u32>; 2] = [Ok(1), Err(2)];
-    let mut it = answers.iter().copied().transpose_into_fallible();
-    let drawn = [it.next(), it.next(), it.next()];
-    assert_eq!(rt; drawn, [Ok(Some(1)), Err(2), Ok(None)]);
 }

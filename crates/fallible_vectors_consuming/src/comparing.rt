@@ -1,22 +1,38 @@
 // Comparisons draw in rounds, and what the deciding round left is drawn next.
+ghost use Rattle.std.specs.Prelude.{◌^◌, ◌-◌};
+
 use crate::parts::Parts;
-use fallible_iterator::{FallibleIterator, convert, empty, once};
+use fallible_iterator::{Convert, FallibleIterator, Once, convert, empty, once};
 use fallible_testing::numbers::numbers;
+use fallible_testing::rows::expect_rows;
 use std::cmp::Ordering;
+use std::iter::Copied;
+use std::slice::Iter;
+use std::test::Fail;
 
 // what a draw answers
 type Drawn = Result<Option<f64>, u32>;
 
+// `convert` of the answers.
+fn doubles<'a>(answers: &'a [Result<f64, u32>]) -> Convert<Copied<Iter<'a, Result<f64, u32>>>>
+    ensures can_next { ⟦<Convert<Copied<Iter<'a, Result<f64, u32>>>> as FallibleIterator>⟧.contract.can_next
+        result }
+    ensures finite { ⟦<Convert<Copied<Iter<'a, Result<f64, u32>>>> as FallibleIterator>⟧.contract.bound
+        result (2 ^ 64 - 1) }
+{
+    convert(answers.iter().copied())
+}
+
 // Whether the two are equal, and what the next draw on the right answers.
 fn eq_of(left: &[Result<f64, u32>], right: &[Result<f64, u32>]) -> (Result<bool, u32>, Drawn) {
-    let mut right = convert(right.iter().copied());
-    let answer = convert(left.iter().copied()).eq(&mut right);
+    let mut right = doubles(right);
+    let answer = doubles(left).eq(&mut right);
     (answer, right.next())
 }
 
 // Whether the two differ.
 fn ne_of(left: &[Result<f64, u32>], right: &[Result<f64, u32>]) -> Result<bool, u32> {
-    convert(left.iter().copied()).ne(convert(right.iter().copied()))
+    doubles(left).ne(doubles(right))
 }
 
 // How the two compare.
@@ -24,7 +40,7 @@ fn partial_cmp_of(
     left: &[Result<f64, u32>],
     right: &[Result<f64, u32>],
 ) -> Result<Option<Ordering>, u32> {
-    convert(left.iter().copied()).partial_cmp(convert(right.iter().copied()))
+    doubles(left).partial_cmp(doubles(right))
 }
 
 // Whether the left one is less, and what the next draw on the right answers.
@@ -40,9 +56,9 @@ fn gt_le_ge_of(
     right: &[Result<f64, u32>],
 ) -> (Result<bool, u32>, Result<bool, u32>, Result<bool, u32>) {
     (
-        convert(left.iter().copied()).gt(convert(right.iter().copied())),
-        convert(left.iter().copied()).le(convert(right.iter().copied())),
-        convert(left.iter().copied()).ge(convert(right.iter().copied())),
+        doubles(left).gt(doubles(right)),
+        doubles(left).le(doubles(right)),
+        doubles(left).ge(doubles(right)),
     )
 }
 
@@ -56,87 +72,92 @@ fn cmp_of(
     (answer, right.next())
 }
 
+// Rows of `gt`, `le` and `ge`.
 #[test]
-fn a_left_failure_is_the_answer_before_the_right_is_drawn(rt: HostRuntime) {
-    let equal = eq_of(&[Ok(1.0), Err(2)], &[Ok(1.0), Ok(3.0)]);
-    assert_eq!(rt; equal, (Err(2), Ok(Some(3.0))));
-    assert_eq!(rt; lt_of(&[Err(8)], &[Ok(1.0)]), (Err(8), Ok(Some(1.0))));
+fn the_first_unequal_items_say_what_is_greater_and_what_is_less() -> Result<(), Fail> {
+    let (one, two) = ([Ok(1.0)], [Ok(1.0), Ok(2.0)]);
+    let three = [Ok(1.0), Ok(3.0), Ok(0.0)];
+    let greater = (Ok(true), Ok(false), Ok(true));
+    let less = (Ok(false), Ok(true), Ok(false));
+    let equal = (Ok(false), Ok(true), Ok(true));
+    let failed = (Err(4), Err(4), Err(4));
+    expect_rows(&[
+        (gt_le_ge_of(&two, &one), greater),
+        (gt_le_ge_of(&one, &two), less),
+        (gt_le_ge_of(&three, &two), greater),
+        (gt_le_ge_of(&two, &three), less),
+        (gt_le_ge_of(&two, &two), equal),
+        (gt_le_ge_of(&[Ok(2.0)], &three), greater),
+        (gt_le_ge_of(&[Ok(1.0)], &two), less),
+        (gt_le_ge_of(&[Ok(1.0), Err(4)], &two), failed),
+    ])
 }
 
 #[test]
-fn a_front_is_less_and_the_longer_one_greater(rt: HostRuntime) {
+fn the_first_round_that_differs_or_fails_decides(rt: HostRuntime) -> Result<(), Fail> {
     let (one, two) = ([Ok(1.0)], [Ok(1.0), Ok(2.0)]);
-    assert_eq!(rt; lt_of(&one, &two), (Ok(true), Ok(None)));
-    assert_eq!(rt; partial_cmp_of(&two, &one), Ok(Some(Ordering::Greater)));
+    let three = [Ok(1.0), Ok(3.0), Ok(0.0)];
+    let unlike_itself = [Ok(f64::NAN)];
+    expect_rows(&[
+        // A left failure is the answer before the right is drawn.
+        (
+            eq_of(&[Ok(1.0), Err(2)], &[Ok(1.0), Ok(3.0)]),
+            (Err(2), Ok(Some(3.0))),
+        ),
+        (lt_of(&[Err(8)], &[Ok(1.0)]), (Err(8), Ok(Some(1.0)))),
+        // A front is less, and the longer one greater.
+        (lt_of(&one, &two), (Ok(true), Ok(None))),
+        (lt_of(&two, &three), (Ok(true), Ok(Some(0.0)))),
+        (lt_of(&three, &two), (Ok(false), Ok(None))),
+        (lt_of(&two, &two), (Ok(false), Ok(None))),
+        (eq_of(&unlike_itself, &unlike_itself), (Ok(false), Ok(None))),
+    ])?;
     let longer = cmp_of(&[Ok(1), Ok(2)], &[Ok(1)]);
     assert_eq!(rt; longer, (Ok(Ordering::Greater), Ok(None)));
-    assert_eq!(rt; gt_le_ge_of(&two, &one), (Ok(true), Ok(false), Ok(true)));
-    assert_eq!(rt; gt_le_ge_of(&one, &two), (Ok(false), Ok(true), Ok(false)));
-    assert_eq!(rt; ne_of(&one, &two), Ok(true));
+    expect_rows(&[
+        (partial_cmp_of(&two, &one), Ok(Some(Ordering::Greater))),
+        (partial_cmp_of(&unlike_itself, &unlike_itself), Ok(None)),
+    ])?;
+    expect_rows(&[
+        (ne_of(&one, &two), Ok(true)),
+        (ne_of(&[Ok(1.0)], &[Ok(2.0)]), Ok(true)),
+        (ne_of(&unlike_itself, &unlike_itself), Ok(true)),
+        (ne_of(&two, &three), Ok(true)),
+        (ne_of(&two, &two), Ok(false)),
+    ])
+}
+
+// One item, of these parts.
+fn one(first: u32, second: u32) -> Once<Parts, u32> {
+    once(Parts { first, second })
 }
 
 #[test]
-fn cmp_of_an_empty_one_is_less_and_draws_the_right(rt: HostRuntime) {
+fn items_without_an_order_and_no_items_compare(rt: HostRuntime) {
+    // Items without an order are not less, greater or equal.
+    assert_eq!(rt; one(1, 2).partial_cmp(one(2, 1)), Ok(None));
+    assert_eq!(rt;
+        [
+            one(1, 2).lt(one(2, 1)),
+            one(1, 2).le(one(2, 1)),
+            one(1, 2).gt(one(2, 1)),
+            one(1, 2).ge(one(2, 1)),
+            one(1, 2).eq(one(2, 1)),
+            one(1, 2).ne(one(2, 1))
+        ],
+        [
+            Ok(false),
+            Ok(false),
+            Ok(false),
+            Ok(false),
+            Ok(false),
+            Ok(true)
+        ]
+    );
+    // One without items is less than one with items, of which it draws one.
     let answers = [Ok(7), Ok(8)];
     let mut right = numbers(&answers);
     assert_eq!(rt; empty::<u32, u32>().cmp(&mut right), Ok(Ordering::Less));
     assert_eq!(rt; right.next(), Ok(Some(8)));
-}
-
-#[test]
-fn ge_of_two_without_items_is_true(rt: HostRuntime) {
     assert_eq!(rt; empty::<u32, ()>().ge(empty::<u32, ()>()), Ok(true));
-}
-
-#[test]
-fn the_first_unequal_items_say_what_is_greater_and_what_is_less(rt: HostRuntime) {
-    let (two, three) = ([Ok(1.0), Ok(2.0)], [Ok(1.0), Ok(3.0), Ok(0.0)]);
-    let greater = (Ok(true), Ok(false), Ok(true));
-    let less = (Ok(false), Ok(true), Ok(false));
-    let equal = (Ok(false), Ok(true), Ok(true));
-    assert_eq!(rt; gt_le_ge_of(&three, &two), greater);
-    assert_eq!(rt; gt_le_ge_of(&two, &three), less);
-    assert_eq!(rt; gt_le_ge_of(&two, &two), equal);
-    assert_eq!(rt; gt_le_ge_of(&[Ok(2.0)], &three), greater);
-    assert_eq!(rt; gt_le_ge_of(&[Ok(1.0)], &two), less);
-    assert_eq!(rt;
-        gt_le_ge_of(&[Ok(1.0), Err(4)], &two),
-        (Err(4), Err(4), Err(4))
-    );
-    assert_eq!(rt; lt_of(&two, &three), (Ok(true), Ok(Some(0.0))));
-    assert_eq!(rt; lt_of(&three, &two), (Ok(false), Ok(None)));
-    assert_eq!(rt; lt_of(&two, &two), (Ok(false), Ok(None)));
-    assert_eq!(rt; ne_of(&two, &three), Ok(true));
-    assert_eq!(rt; ne_of(&two, &two), Ok(false));
-}
-
-#[test]
-fn items_without_an_order_are_not_less_greater_or_equal(rt: HostRuntime) {
-    let left = || once::<Parts, u32>(Parts {
-        first: 1,
-        second: 2,
-    });
-    let right = || once::<Parts, u32>(Parts {
-        first: 2,
-        second: 1,
-    });
-    assert_eq!(rt; left().partial_cmp(right()), Ok(None));
-    assert_eq!(rt; left().lt(right()), Ok(false));
-    assert_eq!(rt; left().le(right()), Ok(false));
-    assert_eq!(rt; left().gt(right()), Ok(false));
-    assert_eq!(rt; left().ge(right()), Ok(false));
-    assert_eq!(rt; left().eq(right()), Ok(false));
-    assert_eq!(rt; left().ne(right()), Ok(true));
-}
-
-#[test]
-fn unlike_items_and_one_unlike_itself_are_not_equal(rt: HostRuntime) {
-    let unlike_itself = [Ok(f64::NAN)];
-    assert_eq!(rt; ne_of(&[Ok(1.0)], &[Ok(2.0)]), Ok(true));
-    assert_eq!(rt; ne_of(&unlike_itself, &unlike_itself), Ok(true));
-    assert_eq!(rt;
-        eq_of(&unlike_itself, &unlike_itself),
-        (Ok(false), Ok(None))
-    );
-    assert_eq!(rt; partial_cmp_of(&unlike_itself, &unlike_itself), Ok(None));
 }

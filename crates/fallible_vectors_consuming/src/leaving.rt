@@ -22,30 +22,17 @@ fn around(alloc: Global, decides: Drawn, follows: u32) -> Result<Script<u32, u32
     scripted(alloc, [Ok(Some(1)), decides, Ok(Some(follows))])
 }
 
-fn count_of(mut s: Script<u32, u32>) -> (Result<usize, u32>, Drawn) {
-    (s.by_ref().count(), s.next())
+// The item that follows.
+fn next_of(s: &mut Script<u32, u32>) -> Drawn {
+    s.next()
 }
 
-#[test]
-fn count_leaves_what_follows(rt: HostRuntime) -> Result<(), Fail> {
-    let ended = count_of(around(rt.alloc(), END, 2)?);
-    assert_eq!(rt; ended, (Ok(1), Ok(Some(2))));
-    let failed = count_of(around(rt.alloc(), FAILURE, 2)?);
-    assert_eq!(rt; failed, (Err(9), Ok(Some(2))));
-    Ok(())
+fn count_of(mut s: Script<u32, u32>) -> (Result<usize, u32>, Drawn) {
+    (s.by_ref().count(), next_of(&mut s))
 }
 
 fn last_of(mut s: Script<u32, u32>) -> (Drawn, Drawn) {
-    (s.by_ref().last(), s.next())
-}
-
-#[test]
-fn last_leaves_what_follows(rt: HostRuntime) -> Result<(), Fail> {
-    let ended = last_of(around(rt.alloc(), END, 2)?);
-    assert_eq!(rt; ended, (Ok(Some(1)), Ok(Some(2))));
-    let failed = last_of(around(rt.alloc(), FAILURE, 2)?);
-    assert_eq!(rt; failed, (Err(9), Ok(Some(2))));
-    Ok(())
+    (s.by_ref().last(), next_of(&mut s))
 }
 
 fn accept(_x: u32) -> Result<(), u32> {
@@ -56,64 +43,86 @@ fn each_of(mut s: Script<u32, u32>) -> (Result<(), u32>, Drawn) {
     (s.by_ref().for_each(accept), s.next())
 }
 
-#[test]
-fn for_each_leaves_what_follows(rt: HostRuntime) -> Result<(), Fail> {
-    let ended = each_of(around(rt.alloc(), END, 2)?);
-    assert_eq!(rt; ended, (Ok(()), Ok(Some(2))));
-    let failed = each_of(around(rt.alloc(), FAILURE, 2)?);
-    assert_eq!(rt; failed, (Err(9), Ok(Some(2))));
-    Ok(())
-}
-
 fn sum_of(mut s: Script<u32, u32>) -> (Result<u32, u32>, Drawn) {
-    (s.by_ref().fold(0, add_up), s.next())
+    (s.by_ref().fold(0, add_up), next_of(&mut s))
+}
+
+fn greatest_of(mut s: Script<u32, u32>) -> (Drawn, Drawn) {
+    (s.by_ref().max(), next_of(&mut s))
+}
+
+fn greatest_by(mut s: Script<u32, u32>) -> (Drawn, Drawn) {
+    let greatest = s.by_ref().max_by(|x: &u32, y: &u32| Ok(x.cmp(y)));
+    (greatest, next_of(&mut s))
+}
+
+fn greatest_by_key(mut s: Script<u32, u32>) -> (Drawn, Drawn) {
+    (s.by_ref().max_by_key(|x: &u32| Ok(*x)), next_of(&mut s))
+}
+
+// What `count`, `for_each` and `fold` answer; and `last`, `max`, `max_by` and `max_by_key`.
+type Answers = (
+    Result<usize, u32>,
+    Result<(), u32>,
+    Result<u32, u32>,
+    [Drawn; 4],
+);
+
+// What the consumers answer, and what the next draw after each does.
+fn answers_of_each(alloc: Global, decides: Drawn) -> Result<(Answers, [Drawn; 7]), AllocError> {
+    let (count, after_count) = count_of(around(alloc, decides, 2)?);
+    let (each, after_each) = each_of(around(alloc, decides, 2)?);
+    let (sum, after_sum) = sum_of(around(alloc, decides, 2)?);
+    let (last, after_last) = last_of(around(alloc, decides, 2)?);
+    let (greatest, after_greatest) = greatest_of(around(alloc, decides, 2)?);
+    let (by, after_by) = greatest_by(around(alloc, decides, 2)?);
+    let (by_key, after_by_key) = greatest_by_key(around(alloc, decides, 2)?);
+    let answers = (count, each, sum, [last, greatest, by, by_key]);
+    let after = [
+        after_count,
+        after_each,
+        after_sum,
+        after_last,
+        after_greatest,
+        after_by,
+        after_by_key,
+    ];
+    Ok((answers, after))
+}
+
+// Sums from behind, and what the next draw from behind answers.
+fn sum_from_behind(mut s: Script<u32, u32>) -> (Result<u32, u32>, Drawn) {
+    (s.by_ref().rfold(0, add_up), s.next_back())
 }
 
 #[test]
-fn fold_leaves_what_follows(rt: HostRuntime) -> Result<(), Fail> {
-    let ended = sum_of(around(rt.alloc(), END, 2)?);
-    assert_eq!(rt; ended, (Ok(1), Ok(Some(2))));
-    let failed = sum_of(around(rt.alloc(), FAILURE, 2)?);
-    assert_eq!(rt; failed, (Err(9), Ok(Some(2))));
+fn folds_and_extrema_leave_what_follows(rt: HostRuntime) -> Result<(), Fail> {
+    let (answers, after) = answers_of_each(rt.alloc(), END)?;
+    assert_eq!(rt; answers, (Ok(1), Ok(()), Ok(1), [Ok(Some(1)); 4]));
+    assert_eq!(rt; after, [Ok(Some(2)); 7]);
+    let (answers, after) = answers_of_each(rt.alloc(), FAILURE)?;
+    assert_eq!(rt; answers, (Err(9), Err(9), Err(9), [Err(9); 4]));
+    assert_eq!(rt; after, [Ok(Some(2)); 7]);
+    let s = scripted(rt.alloc(), [Ok(Some(2)), END, Ok(Some(1))])?;
+    assert_eq!(rt; sum_from_behind(s), (Ok(1), Ok(Some(2))));
+    let s = scripted(rt.alloc(), [Ok(Some(2)), FAILURE, Ok(Some(1))])?;
+    assert_eq!(rt; sum_from_behind(s), (Err(9), Ok(Some(2))));
     Ok(())
 }
 
 fn collection_of(alloc: Global, mut s: Script<u32, u32>) -> (Result<Vec<u32>, Fault<u32>>, Drawn) {
-    (s.by_ref().collect(alloc), s.next())
+    (s.by_ref().collect(alloc), next_of(&mut s))
 }
 
-#[test]
-fn collect_leaves_what_follows(rt: HostRuntime) -> Result<(), Fail> {
-    let (made, next) = collection_of(rt.alloc(), around(rt.alloc(), END, 2)?);
-    expect_collected(made, &[1])?;
-    assert_eq!(rt; next, Ok(Some(2)));
-    let (made, next) = collection_of(rt.alloc(), around(rt.alloc(), FAILURE, 2)?);
-    expect_source_fault(made, 9)?;
-    assert_eq!(rt; next, Ok(Some(2)));
-    Ok(())
+fn is_even(x: &u32) -> Result<bool, u32> {
+    Ok(*x % 2 == 0)
 }
 
 fn sides_of(
     alloc: Global,
     mut s: Script<u32, u32>,
 ) -> (Result<(Vec<u32>, Vec<u32>), Fault<u32>>, Drawn) {
-    (
-        s.by_ref().partition(alloc, |x: &u32| Ok(*x % 2 == 0)),
-        s.next(),
-    )
-}
-
-#[test]
-fn partition_leaves_what_follows(rt: HostRuntime) -> Result<(), Fail> {
-    let (sides, next) = sides_of(rt.alloc(), around(rt.alloc(), END, 2)?);
-    let (even, odd) = sides.expect(&rt, "two collections");
-    assert!(rt; even.is_empty());
-    assert_eq!(rt; odd.as_slice(), [1].as_slice());
-    assert_eq!(rt; next, Ok(Some(2)));
-    let (sides, next) = sides_of(rt.alloc(), around(rt.alloc(), FAILURE, 2)?);
-    expect_source_fault(sides, 9)?;
-    assert_eq!(rt; next, Ok(Some(2)));
-    Ok(())
+    (s.by_ref().partition(alloc, is_even), next_of(&mut s))
 }
 
 fn parts_of(
@@ -124,70 +133,33 @@ fn parts_of(
 }
 
 #[test]
+fn collect_and_partition_leave_what_follows(rt: HostRuntime) -> Result<(), Fail> {
+    let (made, first) = collection_of(rt.alloc(), around(rt.alloc(), END, 2)?);
+    expect_collected(made, &[1])?;
+    let (made, second) = collection_of(rt.alloc(), around(rt.alloc(), FAILURE, 2)?);
+    expect_source_fault(made, 9)?;
+    let (sides, third) = sides_of(rt.alloc(), around(rt.alloc(), END, 2)?);
+    let (even, odd) = sides.expect(&rt, "two collections");
+    assert_eq!(rt; (even.len(), odd.as_slice()), (0, [1].as_slice()));
+    let (sides, fourth) = sides_of(rt.alloc(), around(rt.alloc(), FAILURE, 2)?);
+    expect_source_fault(sides, 9)?;
+    assert_eq!(rt; [first, second, third, fourth], [Ok(Some(2)); 4]);
+    Ok(())
+}
+
+#[test]
 fn unzip_leaves_what_follows(rt: HostRuntime) -> Result<(), Fail> {
     let s = scripted(rt.alloc(), [Ok(Some((1, 3))), Ok(None), Ok(Some((2, 4)))])?;
     let (parts, next) = parts_of(rt.alloc(), s);
     let (first, second) = parts.expect(&rt, "two collections");
-    assert_eq!(rt; first.as_slice(), [1].as_slice());
-    assert_eq!(rt; second.as_slice(), [3].as_slice());
-    assert_eq!(rt; next, Ok(Some((2, 4))));
+    assert_eq!(rt;
+        (first.as_slice(), second.as_slice(), next),
+        ([1].as_slice(), [3].as_slice(), Ok(Some((2, 4))))
+    );
     let s = scripted(rt.alloc(), [Ok(Some((1, 3))), Err(9), Ok(Some((2, 4)))])?;
     let (parts, next) = parts_of(rt.alloc(), s);
     expect_source_fault(parts, 9)?;
     assert_eq!(rt; next, Ok(Some((2, 4))));
-    Ok(())
-}
-
-fn greatest_of(mut s: Script<u32, u32>) -> (Drawn, Drawn) {
-    (s.by_ref().max(), s.next())
-}
-
-#[test]
-fn max_leaves_what_follows(rt: HostRuntime) -> Result<(), Fail> {
-    let ended = greatest_of(around(rt.alloc(), END, 2)?);
-    assert_eq!(rt; ended, (Ok(Some(1)), Ok(Some(2))));
-    let failed = greatest_of(around(rt.alloc(), FAILURE, 2)?);
-    assert_eq!(rt; failed, (Err(9), Ok(Some(2))));
-    Ok(())
-}
-
-fn greatest_by(mut s: Script<u32, u32>) -> (Drawn, Drawn) {
-    (s.by_ref().max_by(|x: &u32, y: &u32| Ok(x.cmp(y))), s.next())
-}
-
-#[test]
-fn max_by_leaves_what_follows(rt: HostRuntime) -> Result<(), Fail> {
-    let ended = greatest_by(around(rt.alloc(), END, 2)?);
-    assert_eq!(rt; ended, (Ok(Some(1)), Ok(Some(2))));
-    let failed = greatest_by(around(rt.alloc(), FAILURE, 2)?);
-    assert_eq!(rt; failed, (Err(9), Ok(Some(2))));
-    Ok(())
-}
-
-fn greatest_by_key(mut s: Script<u32, u32>) -> (Drawn, Drawn) {
-    (s.by_ref().max_by_key(|x: &u32| Ok(*x)), s.next())
-}
-
-#[test]
-fn max_by_key_leaves_what_follows(rt: HostRuntime) -> Result<(), Fail> {
-    let ended = greatest_by_key(around(rt.alloc(), END, 2)?);
-    assert_eq!(rt; ended, (Ok(Some(1)), Ok(Some(2))));
-    let failed = greatest_by_key(around(rt.alloc(), FAILURE, 2)?);
-    assert_eq!(rt; failed, (Err(9), Ok(Some(2))));
-    Ok(())
-}
-
-// Sums from behind, and what the next draw from behind answers.
-fn sum_from_behind(mut s: Script<u32, u32>) -> (Result<u32, u32>, Drawn) {
-    (s.by_ref().rfold(0, add_up), s.next_back())
-}
-
-#[test]
-fn rfold_leaves_what_follows(rt: HostRuntime) -> Result<(), Fail> {
-    let s = scripted(rt.alloc(), [Ok(Some(2)), END, Ok(Some(1))])?;
-    assert_eq!(rt; sum_from_behind(s), (Ok(1), Ok(Some(2))));
-    let s = scripted(rt.alloc(), [Ok(Some(2)), FAILURE, Ok(Some(1))])?;
-    assert_eq!(rt; sum_from_behind(s), (Err(9), Ok(Some(2))));
     Ok(())
 }
 
@@ -212,20 +184,7 @@ fn cmp_of(
     mut right: Script<u32, u32>,
 ) -> (Result<Ordering, u32>, [Drawn; 2]) {
     let answer = left.by_ref().cmp(right.by_ref());
-    (answer, [left.next(), right.next()])
-}
-
-#[test]
-fn cmp_leaves_what_follows_on_both_sides(rt: HostRuntime) -> Result<(), Fail> {
-    for (left, right, order, next) in rounds() {
-        let compared = cmp_of(around(rt.alloc(), left, 2)?, around(rt.alloc(), right, 3)?);
-        assert_eq!(rt;
-            compared,
-            (order, [Ok(Some(2)), next]),
-            "{left:?} and {right:?}"
-        );
-    }
-    Ok(())
+    (answer, [next_of(&mut left), next_of(&mut right)])
 }
 
 // Whether the two are equal, and what the next draws on the left and on the right answer.
@@ -234,18 +193,24 @@ fn eq_of(
     mut right: Script<u32, u32>,
 ) -> (Result<bool, u32>, [Drawn; 2]) {
     let answer = left.by_ref().eq(right.by_ref());
-    (answer, [left.next(), right.next()])
+    (answer, [next_of(&mut left), next_of(&mut right)])
 }
 
 #[test]
-fn eq_leaves_what_follows_on_both_sides(rt: HostRuntime) -> Result<(), Fail> {
+fn cmp_and_eq_leave_what_follows_on_both_sides(rt: HostRuntime) -> Result<(), Fail> {
     for (left, right, order, next) in rounds() {
+        let compared = cmp_of(around(rt.alloc(), left, 2)?, around(rt.alloc(), right, 3)?);
+        assert_eq!(rt;
+            compared,
+            (order, [Ok(Some(2)), next]),
+            "cmp of {left:?} and {right:?}"
+        );
         let compared = eq_of(around(rt.alloc(), left, 2)?, around(rt.alloc(), right, 3)?);
         let equal = order.map(|order| order == Ordering::Equal);
         assert_eq!(rt;
             compared,
             (equal, [Ok(Some(2)), next]),
-            "{left:?} and {right:?}"
+            "eq of {left:?} and {right:?}"
         );
     }
     Ok(())

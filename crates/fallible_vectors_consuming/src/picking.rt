@@ -1,45 +1,67 @@
 // Of equal items the last is the best; a failure is the answer, and nothing is drawn after it.
+ghost use Rattle.std.specs.Prelude.{◌^◌, ◌-◌};
+
 use crate::tagged::Tagged;
-use fallible_iterator::{FallibleIterator, convert};
+use fallible_iterator::{Convert, FallibleIterator, convert};
+use fallible_testing::rows::expect_rows;
 use std::cmp::Ordering;
+use std::iter::Copied;
+use std::slice::Iter;
+use std::test::Fail;
+
+// `convert` of the answers.
+fn copied_of<'a, T: Copy>(
+    answers: &'a [Result<T, u32>],
+) -> Convert<Copied<Iter<'a, Result<T, u32>>>>
+    ensures can_next { ⟦<Convert<Copied<Iter<'a, Result<T, u32>>>> as FallibleIterator>⟧.contract.can_next
+        result }
+    ensures finite { ⟦<Convert<Copied<Iter<'a, Result<T, u32>>>> as FallibleIterator>⟧.contract.bound
+        result (2 ^ 64 - 1) }
+{
+    convert(answers.iter().copied())
+}
 
 // The greatest item, and what the next draw answers.
 fn max_of(answers: &[Result<i32, u32>]) -> (Result<Option<i32>, u32>, Result<Option<i32>, u32>) {
-    let mut it = convert(answers.iter().copied());
+    let mut it = copied_of(answers);
     (it.by_ref().max(), it.next())
 }
 
-#[test]
-fn max_is_none_without_an_item_and_stops_at_a_failure(rt: HostRuntime) {
-    assert_eq!(rt;
-        max_of(&[Ok(0), Ok(3), Ok(1), Ok(-10)]),
-        (Ok(Some(3)), Ok(None))
-    );
-    assert_eq!(rt; max_of(&[]), (Ok(None), Ok(None)));
-    assert_eq!(rt; max_of(&[Ok(1), Err(7), Ok(2)]), (Err(7), Ok(Some(2))));
+// The tag of an item.
+fn tag(best: Result<Option<Tagged>, u32>) -> Result<Option<char>, u32> {
+    best.map(|best| best.map(|item| item.tag))
 }
 
 #[test]
-fn min_of_four_items(rt: HostRuntime) {
-    let answers: [Result<i32, u32>; 4] = [Ok(0), Ok(3), Ok(-10), Ok(1)];
-    assert_eq!(rt; convert(answers.iter().copied()).min(), Ok(Some(-10)));
-}
-
-#[test]
-fn max_and_min_are_the_last_of_equal_items(rt: HostRuntime) {
-    let answers: [Result<Tagged, u32>; 4] = [
+fn max_and_min_are_none_without_an_item_and_the_last_of_equal_items(
+    rt: HostRuntime,
+) -> Result<(), Fail> {
+    expect_rows(&[
+        (
+            max_of(&[Ok(0), Ok(3), Ok(1), Ok(-10)]),
+            (Ok(Some(3)), Ok(None)),
+        ),
+        (max_of(&[]), (Ok(None), Ok(None))),
+        // It stops at a failure.
+        (max_of(&[Ok(1), Err(7), Ok(2)]), (Err(7), Ok(Some(2)))),
+    ])?;
+    let answers = [Ok(0), Ok(3), Ok(-10), Ok(1)];
+    assert_eq!(rt; copied_of(&answers).min(), Ok(Some(-10)));
+    // Of equal items each is the last.
+    let answers = [
         Ok(Tagged { key: 1, tag: 'a' }),
         Ok(Tagged { key: 2, tag: 'b' }),
         Ok(Tagged { key: 2, tag: 'c' }),
         Ok(Tagged { key: 1, tag: 'd' }),
     ];
-    let greatest = convert(answers.iter().copied()).max();
     assert_eq!(rt;
-        greatest.map(|best| best.map(|item| item.tag)),
-        Ok(Some('c'))
+        [
+            tag(copied_of(&answers).max()),
+            tag(copied_of(&answers).min())
+        ],
+        [Ok(Some('c')), Ok(Some('d'))]
     );
-    let least = convert(answers.iter().copied()).min();
-    assert_eq!(rt; least.map(|best| best.map(|item| item.tag)), Ok(Some('d')));
+    Ok(())
 }
 
 // no item is this
@@ -80,20 +102,24 @@ fn min_by_product(
 }
 
 #[test]
-fn max_and_min_by_the_order_back_are_the_least_and_the_greatest(rt: HostRuntime) {
-    let answers = [Ok(0), Ok(3), Ok(1), Ok(-10)];
-    assert_eq!(rt; max_by_product(&answers, -1, NOWHERE), Ok(Some(-10)));
-    assert_eq!(rt;
-        min_by_product(&answers, -1, NOWHERE),
-        (Ok(Some(3)), Ok(None))
-    );
-}
-
-#[test]
 fn max_by_and_min_by_ask_with_the_best_so_far_first_and_stop(rt: HostRuntime) {
-    let answers = [Ok(5), Ok(2), Ok(7)];
-    assert_eq!(rt; max_by_product(&answers, 1, 7), Err((5, 7)));
-    assert_eq!(rt; min_by_product(&answers, 1, 2), (Err((5, 2)), Ok(Some(7))));
+    // By the order back they are the least and the greatest.
+    let answers = [Ok(0), Ok(3), Ok(1), Ok(-10)];
+    let three = [Ok(5), Ok(2), Ok(7)];
+    assert_eq!(rt;
+        [
+            max_by_product(&answers, -1, NOWHERE),
+            max_by_product(&three, 1, 7)
+        ],
+        [Ok(Some(-10)), Err((5, 7))]
+    );
+    assert_eq!(rt;
+        [
+            min_by_product(&answers, -1, NOWHERE),
+            min_by_product(&three, 1, 2)
+        ],
+        [(Ok(Some(3)), Ok(None)), (Err((5, 2)), Ok(Some(7)))]
+    );
 }
 
 // The product of an item with `sign`, which fails with the item above `bound`.
@@ -120,18 +146,6 @@ fn max_by_key_of(
     (greatest, calls)
 }
 
-#[test]
-fn max_by_key_makes_each_key_once_or_fails_by_its_closure(rt: HostRuntime) {
-    let answers = [Ok(0), Ok(3), Ok(1), Ok(-10)];
-    assert_eq!(rt; max_by_key_of(&answers, -1, NOWHERE), (Ok(Some(-10)), 4));
-    assert_eq!(rt; max_by_key_of(&answers, -1, -1), (Err(0), 1));
-    assert_eq!(rt; max_by_key_of(&answers, -1, 0), (Err(3), 2));
-    assert_eq!(rt;
-        max_by_key_of(&[Ok(3), Ok(1), Ok(3), Ok(2)], 1, NOWHERE),
-        (Ok(Some(3)), 4)
-    );
-}
-
 // The pair whose first number has the least key.
 fn min_by_key_of(
     answers: &[Result<(i32, char), i32>],
@@ -143,11 +157,25 @@ fn min_by_key_of(
 }
 
 #[test]
-fn min_by_key_is_the_last_of_equal_keys_or_fails_by_its_closure(rt: HostRuntime) {
+fn max_by_key_and_min_by_key_answer_an_item_or_fail_by_their_closure() -> Result<(), Fail> {
+    // Each key is made once.
+    let answers = [Ok(0), Ok(3), Ok(1), Ok(-10)];
+    expect_rows(&[
+        (max_by_key_of(&answers, -1, NOWHERE), (Ok(Some(-10)), 4)),
+        (max_by_key_of(&answers, -1, -1), (Err(0), 1)),
+        (max_by_key_of(&answers, -1, 0), (Err(3), 2)),
+        (
+            max_by_key_of(&[Ok(3), Ok(1), Ok(3), Ok(2)], 1, NOWHERE),
+            (Ok(Some(3)), 4),
+        ),
+    ])?;
+    // Of equal keys it is the last.
     let answers = [Ok((0, 'a')), Ok((3, 'b')), Ok((1, 'c')), Ok((-10, 'd'))];
-    assert_eq!(rt; min_by_key_of(&answers, -1, NOWHERE), Ok(Some((3, 'b'))));
-    assert_eq!(rt; min_by_key_of(&answers, -1, -1), Err(0));
-    assert_eq!(rt; min_by_key_of(&answers, -1, 0), Err(3));
     let equal = [Ok((1, 'a')), Ok((0, 'b')), Ok((0, 'c'))];
-    assert_eq!(rt; min_by_key_of(&equal, 1, NOWHERE), Ok(Some((0, 'c'))));
+    expect_rows(&[
+        (min_by_key_of(&answers, -1, NOWHERE), Ok(Some((3, 'b')))),
+        (min_by_key_of(&answers, -1, -1), Err(0)),
+        (min_by_key_of(&answers, -1, 0), Err(3)),
+        (min_by_key_of(&equal, 1, NOWHERE), Ok(Some((0, 'c')))),
+    ])
 }

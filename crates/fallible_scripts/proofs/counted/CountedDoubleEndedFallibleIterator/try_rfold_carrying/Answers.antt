@@ -2,12 +2,10 @@
 use Rattle.std.proofs.Common.{refl}
 use Rattle.fallible_contract.proofs.Lemmas.Overriding.{holds_held, carried_held}
 use Rattle.fallible_iterator.specs.Ends.{from_back}
-use Rattle.fallible_scripts.specs.Counted.{counted_parts}
-use Rattle.fallible_scripts.proofs.Lemmas.{put}
 use Rattle.fallible_scripts.proofs.counted.CountedDoubleEndedFallibleIterator.try_rfold_carrying.Goals as goal
 
 pub try_rfold_carrying-requires-clause-callable : goal.try_rfold_carrying-requires-clause-callable
-try_rfold_carrying-requires-clause-callable g c = holds_held counted_parts put (λ s it. refl) (from_back g.I.FallibleIterator.contract g.I.DoubleEndedFallibleIterator.ends) c.requires.callable
+try_rfold_carrying-requires-clause-callable g c = holds_held (λ s. s.it) (λ s it. record s { it = it }) (λ s it. refl) (from_back g.I.FallibleIterator.contract g.I.DoubleEndedFallibleIterator.ends) c.requires.callable
 
 pub returns-clause-carried : goal.returns-clause-carried
-returns-clause-carried g c = carried_held counted_parts put (λ s it. refl) (from_back g.I.FallibleIterator.contract g.I.DoubleEndedFallibleIterator.ends) c.try_rfold_carrying.ensures.carried
+returns-clause-carried g c = carried_held (λ s. s.it) (λ s it. record s { it = it }) (λ s it. refl) (from_back g.I.FallibleIterator.contract g.I.DoubleEndedFallibleIterator.ends) c.try_rfold_carrying.ensures.carried

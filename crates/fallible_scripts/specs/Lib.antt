@@ -1,2 +1,0 @@
--- What the clauses of `src/` cite.
-pub mod Counted

@@ -1,0 +1,13 @@
+//! What calls answer, beside what they are expected to.
+use std::fmt::Debug;
+use std::test::Fail;
+
+/// Fails the test at the first row whose two values differ: what was answered, and what is expected.
+pub fn expect_rows<T: Debug + PartialEq>(rows: &[(T, T)]) -> Result<(), Fail> {
+    for (answered, expected) in rows {
+        if answered != expected {
+            return Err(Fail::new(format_args!("answered {answered:?}, and not {expected:?}")));
+        }
+    }
+    Ok(())
+}
