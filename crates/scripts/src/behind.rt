@@ -64,13 +64,13 @@ pub trait VisitBehind {
     // How many items the source under a layer that this is done with may have.
     ghost most: { ℕ };
 
-    /// Does it. A layer gives at most four items for each of its source's, and four more.
+    /// Does it. A layer gives at most four items for each of its source's, and eight more.
     fn visit<I>(run: &Run<'_>, it: I) -> Result<Option<Outcome>, AllocError>
     where
         I: DoubleEndedFallibleIterator<Item = u32, Error = Failed>,
         requires can_next { I.ends.can_next it }
         requires finite { I.contract.is_finite it }
-        requires fits { (n : ℕ) × I.contract.bound it n × (n ≤ 4 * most + 4) };
+        requires fits { (n : ℕ) × I.contract.bound it n × (n ≤ 4 * most + 8) };
 }
 
 /// A layer that has two ends where its source has. From behind it has the same rule.

@@ -19,7 +19,7 @@ use std::marker::PhantomData;
 pub struct OperatedInsideBehind;
 
 impl VisitBehind for OperatedInsideBehind {
-    ghost most = { 404 };
+    ghost most = { 408 };
 
     fn visit<I>(run: &Run<'_>, it: I) -> Result<Option<Outcome>, AllocError>
     where
