@@ -5,6 +5,7 @@ pub mod alike;
 pub mod answered;
 pub mod closures;
 pub mod collected;
+pub mod course;
 pub mod listed;
 pub mod numbers;
 pub mod scripted;
