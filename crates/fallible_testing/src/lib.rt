@@ -6,6 +6,7 @@ pub mod answered;
 pub mod closures;
 pub mod collected;
 pub mod course;
+pub mod expected_numbers;
 pub mod listed;
 pub mod numbers;
 pub mod scripted;
