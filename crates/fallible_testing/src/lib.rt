@@ -5,6 +5,8 @@ pub mod alike;
 pub mod answered;
 pub mod closures;
 pub mod collected;
+pub mod course;
+pub mod expected_numbers;
 pub mod listed;
 pub mod numbers;
 pub mod rows;

@@ -1,7 +1,9 @@
 // The adapter that ends for good: an end that it met is kept, whoever drew it.
-use fallible_iterator::Answer::{End, Item};
+use fallible_iterator::Answer::{End, Failure, Item};
 use fallible_iterator::{Answer, FallibleIterator};
 use fallible_testing::answered::expect_answers;
+use fallible_testing::closures::add_up;
+use fallible_testing::expected_numbers::expect_numbers;
 use fallible_testing::scripted::{Script, scripted};
 use std::alloc::{AllocError, Global};
 use std::test::Fail;
@@ -10,37 +12,35 @@ type Drawn = Result<Option<u32>, u32>;
 
 const END: Drawn = Ok(None);
 
-// What five draws of `fuse` answer.
-fn fused(alloc: Global, script: [Drawn; 3]) -> Result<[Drawn; 5], AllocError> {
-    let mut it = scripted(alloc, script)?.fuse();
-    Ok([it.next(), it.next(), it.next(), it.next(), it.next()])
-}
-
-#[test]
-fn fuse_keeps_an_end_and_passes_failures(rt: HostRuntime) {
-    let script = [Ok(Some(1)), END, Ok(Some(2))];
-    assert_eq!(rt;
-        fused(rt.alloc(), script),
-        Ok([Ok(Some(1)), END, END, END, END])
-    );
-    let script = [Ok(Some(1)), Err(9), Ok(Some(2))];
-    assert_eq!(rt;
-        fused(rt.alloc(), script),
-        Ok([Ok(Some(1)), Err(9), Ok(Some(2)), END, END])
-    );
-}
-
-#[test]
-fn fuse_keeps_an_end_that_try_fold_met(rt: HostRuntime) -> Result<(), Fail> {
-    let script = [Ok(Some(1)), END, Ok(Some(2))];
-    let mut source = scripted::<u32, u32, 3>(rt.alloc(), script)?;
+// The sum of the items that are left after these answers of `fuse`, and what the source gives next after two more, which are ends.
+fn sum_and_next(
+    rt: &HostRuntime,
+    script: &[Drawn],
+    expected: &[Answer<u32, u32>],
+) -> Result<(Result<u32, u32>, Drawn), Fail> {
+    let mut source = Script {
+        answers: script.to_vec(rt.alloc())?.into_iter(),
+    };
     let mut it = (&mut source).fuse();
-    let summed: Result<u32, u32> = it.try_fold(0, |sum: u32, x: u32| Ok(sum.wrapping_add(x)));
-    assert_eq!(rt; summed, Ok(1));
-    assert_eq!(rt;
-        [it.next(), it.next(), source.next()],
-        [END, END, Ok(Some(2))]
-    );
+    expect_numbers(rt, &mut it, expected)?;
+    let sum = it.try_fold(0, add_up);
+    expect_numbers(rt, &mut it, &[End, End])?;
+    Ok((sum, source.next()))
+}
+
+#[test]
+fn fuse_keeps_an_end_and_passes_failures(rt: HostRuntime) -> Result<(), Fail> {
+    let script = [Ok(Some(1)), END, Ok(Some(2))];
+    let answers = [Item(1), End, End, End, End];
+    let left = sum_and_next(&rt, &script, &answers)?;
+    assert_eq!(rt; left, (Ok(0), Ok(Some(2))));
+    // The fold meets the end.
+    let left = sum_and_next(&rt, &script, &[])?;
+    assert_eq!(rt; left, (Ok(1), Ok(Some(2))));
+    let script = [Ok(Some(1)), Err(9), Ok(Some(2))];
+    let answers = [Item(1), Failure(9), Item(2), End, End];
+    let left = sum_and_next(&rt, &script, &answers)?;
+    assert_eq!(rt; left, (Ok(0), END));
     Ok(())
 }
 
@@ -49,24 +49,21 @@ fn ended_after_two(alloc: Global) -> Result<Script<u32, u32>, AllocError> {
     scripted(alloc, [Ok(Some(2)), END, Err(9), Err(9), Ok(Some(2))])
 }
 
+fn each(x: u32) -> Result<Option<u32>, u32> {
+    Ok(Some(x))
+}
+
 #[test]
-fn filter_over_fuse_only_ends_after_its_end(rt: HostRuntime) -> Result<(), Fail> {
+fn filters_over_fuse_only_end_after_its_end(rt: HostRuntime) -> Result<(), Fail> {
     let mut source = ended_after_two(rt.alloc())?;
     let mut it = (&mut source)
         .fuse()
         .filter(|x: &u32| -> Result<bool, u32> { Ok(*x == 2) });
     expect_answers(&rt, &mut it, &[Item(2), End, End, End, End])?;
     assert_eq!(rt; source.next(), Err(9));
-    Ok(())
-}
-
-#[test]
-fn filter_map_over_fuse_only_ends_after_its_end(rt: HostRuntime) -> Result<(), Fail> {
     let mut source = ended_after_two(rt.alloc())?;
-    let mut it = (&mut source)
-        .fuse()
-        .filter_map(|x: u32| -> Result<Option<u32>, u32> { Ok(Some(x)) });
-    expect_answers(&rt, &mut it, &[Item(2), End, End, End, End])?;
+    let mut it = (&mut source).fuse().filter_map(each);
+    expect_numbers(&rt, &mut it, &[Item(2), End, End, End, End])?;
     assert_eq!(rt; source.next(), Err(9));
     Ok(())
 }
@@ -81,7 +78,7 @@ fn next_after_skipping(
     let mut it = (&mut source)
         .fuse()
         .skip_while(|x: &u32| -> Result<bool, u32> { Ok(*x < bound) });
-    expect_answers(rt, &mut it, expected)?;
+    expect_numbers(rt, &mut it, expected)?;
     Ok(source.next())
 }
 

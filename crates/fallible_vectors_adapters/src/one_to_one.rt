@@ -2,6 +2,9 @@
 use fallible_iterator::Answer::{End, Failure, Item};
 use fallible_iterator::{Answer, FallibleIterator, IntoFallible, convert};
 use fallible_testing::answered::expect_answers;
+use fallible_testing::closures::add_up;
+use fallible_testing::course::Hint;
+use fallible_testing::expected_numbers::{expect_hinted_numbers, expect_numbers};
 use fallible_testing::numbers::numbers;
 use fallible_testing::scripted::scripted;
 use fallible_testing::test_error::TestError;
@@ -10,15 +13,25 @@ use std::cell::Cell;
 use std::convert::Infallible;
 use std::test::Fail;
 
-#[test]
-fn map_fails_on_an_item(rt: HostRuntime) -> Result<(), Fail> {
-    let answers: [Result<u32, ()>; 5] = [Ok(0), Ok(1), Ok(2), Ok(3), Ok(4)];
-    let mut it = convert(answers.iter().copied()).map(|x: u32| if x == 2 {
-        Err(())
+// Twice an item, and a failure of 2.
+fn doubled_but_two(x: u32) -> Result<u32, u32> {
+    if x == 2 {
+        Err(2)
     } else {
         Ok(x.wrapping_mul(2))
-    });
-    expect_answers(&rt, &mut it, &[Item(0), Item(2), Failure(())])
+    }
+}
+
+#[test]
+fn map_fails_on_an_item_and_map_err_replaces_failures(rt: HostRuntime) -> Result<(), Fail> {
+    let answers = [Ok(0), Ok(1), Ok(2), Ok(3), Ok(4)];
+    let mut it = numbers(&answers).map(doubled_but_two);
+    expect_numbers(&rt, &mut it, &[Item(0), Item(2), Failure(2)])?;
+    let answers = [Ok(1), Err(5)];
+    let mut it = numbers(&answers).map_err(|e: u32| e.wrapping_add(100));
+    let drawn = [it.next(), it.next(), it.next()];
+    assert_eq!(rt; drawn, [Ok(Some(1)), Err(105), Ok(None)]);
+    Ok(())
 }
 
 #[test]
@@ -48,49 +61,50 @@ fn map_is_shown_without_its_closure(rt: HostRuntime) -> Result<(), Fail> {
 }
 
 #[test]
-fn inspect_shows_each_item(rt: HostRuntime) {
-    let answers: [Result<u32, ()>; 4] = [Ok(0), Ok(1), Ok(2), Ok(3)];
+fn inspect_shows_each_item_and_fails_on_one(rt: HostRuntime) -> Result<(), Fail> {
+    let answers = [Ok(0), Ok(1), Ok(2), Ok(3)];
     let mut seen = Vec::new(rt.alloc());
-    let counted = convert(answers.iter().copied())
+    let counted = numbers(&answers)
         .inspect(|x: &u32| match seen.push(*x) {
             Ok(()) => Ok(()),
-            Err(_) => Err(()),
+            Err(_) => Err(0),
         })
         .count();
     assert_eq!(rt; counted, Ok(4));
     assert_eq!(rt; seen.as_slice(), [0, 1, 2, 3].as_slice());
-}
-
-#[test]
-fn inspect_fails_on_an_item(rt: HostRuntime) -> Result<(), Fail> {
     let answers = [Ok(1), Ok(2), Ok(3)];
     let mut it = numbers(&answers).inspect(|x: &u32| if *x == 2 { Err(20) } else { Ok(()) });
     expect_answers(&rt, &mut it, &[Item(1), Failure(20), Item(3), End])
 }
 
-// Expects these answers of `enumerate`.
-fn expect_enumerated(
+// What `nth` of `enumerate` answers after its first draws, and before the last. Fails the test where these answer otherwise.
+fn nth_enumerated(
     rt: &HostRuntime,
     answers: &[Result<u32, u32>],
-    expected: &[Answer<(usize, u32), u32>],
-) -> Result<(), Fail> {
+    first: &[Answer<(usize, u32), u32>],
+    n: usize,
+    last: &[Answer<(usize, u32), u32>],
+) -> Result<Result<Option<(usize, u32)>, u32>, Fail> {
     let mut it = numbers(answers).enumerate();
-    expect_answers(rt, &mut it, expected)
+    expect_answers(rt, &mut it, first)?;
+    let reached = it.nth(n);
+    expect_answers(rt, &mut it, last)?;
+    Ok(reached)
 }
 
 #[test]
 fn enumerate_counts_items_alone(rt: HostRuntime) -> Result<(), Fail> {
     let items = [Item((0, 5)), Failure(9), Item((1, 6))];
-    expect_enumerated(&rt, &[Ok(5), Err(9), Ok(6)], &items)?;
+    let reached = nth_enumerated(&rt, &[Ok(5), Err(9), Ok(6)], &items, 0, &[])?;
+    assert_eq!(rt; reached, Ok(None));
     let items = [Item((0, 5)), Item((1, 6)), Item((2, 7)), Item((3, 8)), End];
-    expect_enumerated(&rt, &[Ok(5), Ok(6), Ok(7), Ok(8)], &items)
-}
-
-#[test]
-fn nth_of_enumerate_counts_the_items_that_it_drew(rt: HostRuntime) {
-    let answers: [Result<u32, ()>; 3] = [Ok(5), Err(()), Ok(6)];
-    let mut it = convert(answers.iter().copied()).enumerate();
-    assert_eq!(rt; [it.nth(1), it.next()], [Err(()), Ok(Some((1, 6)))]);
+    let reached = nth_enumerated(&rt, &[Ok(5), Ok(6), Ok(7), Ok(8)], &items, 0, &[])?;
+    assert_eq!(rt; reached, Ok(None));
+    // It counts the items that `nth` drew.
+    let last = [Item((1, 6))];
+    let reached = nth_enumerated(&rt, &[Ok(5), Err(9), Ok(6)], &[], 1, &last)?;
+    assert_eq!(rt; reached, Err(9));
+    Ok(())
 }
 
 // The half of an item, none of 0, and a failure of 7.
@@ -102,16 +116,41 @@ fn half(x: u32) -> Result<Option<u32>, u32> {
     }
 }
 
+// The sum that a fold of halves comes to after this course, and before the last draws. Fails the test where these answer otherwise.
+fn sum_of_halves(
+    rt: &HostRuntime,
+    answers: &[Result<u32, u32>],
+    course: &[(Hint, &[Answer<u32, u32>])],
+    last: &[Answer<u32, u32>],
+) -> Result<Result<u32, u32>, Fail> {
+    let mut it = numbers(answers).map_while(half);
+    expect_hinted_numbers(rt, &mut it, course)?;
+    let sum = it.try_fold(0, add_up);
+    expect_numbers(rt, &mut it, last)?;
+    Ok(sum)
+}
+
 #[test]
 fn map_while_ends_at_a_none_and_goes_on(rt: HostRuntime) -> Result<(), Fail> {
-    let answers = [Ok(4), Ok(0), Err(9), Ok(7), Ok(6)];
-    let mut it = numbers(&answers).map_while(half);
-    assert_eq!(rt; it.size_hint(), (0, Some(5)));
-    expect_answers(
+    let sum = sum_of_halves(
         &rt,
-        &mut it,
-        &[Item(2), End, Failure(9), Failure(1), Item(3), End],
-    )
+        &[Ok(4), Ok(0), Err(9), Ok(7), Ok(6)],
+        &[(
+            (0, Some(5)),
+            &[Item(2), End, Failure(9), Failure(1), Item(3), End],
+        )],
+        &[],
+    )?;
+    assert_eq!(rt; sum, Ok(0));
+    // A fold stops at a none.
+    let sum = sum_of_halves(
+        &rt,
+        &[Ok(4), Ok(8), Ok(0), Ok(6)],
+        &[((0, Some(4)), &[])],
+        &[Item(3)],
+    )?;
+    assert_eq!(rt; sum, Ok(6));
+    Ok(())
 }
 
 #[test]
@@ -121,64 +160,46 @@ fn enumerate_counts_no_end(rt: HostRuntime) -> Result<(), Fail> {
     expect_answers(&rt, &mut it, &[Item((0, 2)), End, Item((1, 3)), End])
 }
 
-#[test]
-fn a_fold_of_map_while_stops_at_a_none(rt: HostRuntime) {
-    let answers = [Ok(4), Ok(8), Ok(0), Ok(6)];
-    let mut it = numbers(&answers).map_while(half);
-    let sum: Result<u32, u32> = it.try_fold(0, |sum: u32, x: u32| Ok(sum.wrapping_add(x)));
-    assert_eq!(rt; sum, Ok(6));
-    assert_eq!(rt; it.next(), Ok(Some(3)));
+// An item up to 5, and none of any other.
+fn up_to_five(_: &mut (), x: u32) -> Result<Option<u32>, u32> {
+    if x > 5 { Ok(None) } else { Ok(Some(x)) }
 }
 
 #[test]
-fn scan_goes_on_after_a_none(rt: HostRuntime) {
-    let answers: [Result<u32, ()>; 4] = [Ok(1), Ok(2), Ok(9), Ok(3)];
-    let mut it = convert(answers.iter().copied()).scan(
-        (),
-        |_, x: u32| if x > 5 { Ok(None) } else { Ok(Some(x)) },
-    );
-    let drawn = [it.next(), it.next(), it.next(), it.next()];
-    assert_eq!(rt; drawn, [Ok(Some(1)), Ok(Some(2)), Ok(None), Ok(Some(3))]);
-}
-
-#[test]
-fn scan_keeps_its_state(rt: HostRuntime) {
-    let answers: [Result<i32, ()>; 4] = [Ok(1), Ok(2), Ok(3), Ok(4)];
-    let mut it = convert(answers.iter().copied()).scan(0, |sum: &mut i32, x: i32| {
-        if x > 3 {
-            return Ok(None);
-        }
-        *sum = sum.wrapping_add(x);
-        Ok(Some(sum.wrapping_neg()))
-    });
-    let drawn = [it.next(), it.next(), it.next(), it.next()];
-    assert_eq!(rt; drawn, [Ok(Some(-1)), Ok(Some(-3)), Ok(Some(-6)), Ok(None)]);
-}
-
-#[test]
-fn scan_keeps_its_state_after_a_failure(rt: HostRuntime) {
-    let answers = [Ok(1), Ok(2), Ok(3)];
-    let mut it = numbers(&answers).scan(0, |sum: &mut u32, x: u32| {
-        *sum = sum.wrapping_add(x);
-        if *sum == 3 { Err(3) } else { Ok(Some(*sum)) }
-    });
-    let drawn = [it.next(), it.next(), it.next(), it.next()];
-    assert_eq!(rt; drawn, [Ok(Some(1)), Err(3), Ok(Some(6)), Ok(None)]);
-}
-
-#[test]
-fn scan_draws_once_at_an_end(rt: HostRuntime) -> Result<(), Fail> {
+fn scan_goes_on_after_a_none_and_an_end(rt: HostRuntime) -> Result<(), Fail> {
+    let answers = [Ok(1), Ok(2), Ok(9), Ok(3)];
+    let mut it = numbers(&answers).scan((), up_to_five);
+    expect_numbers(&rt, &mut it, &[Item(1), Item(2), End, Item(3)])?;
+    // It draws once at an end.
     let script = [Ok(Some(1)), Ok(None), Ok(Some(2))];
-    let mut it = scripted::<u32, u32, 3>(rt.alloc(), script)?.scan((), |_, x: u32| Ok(Some(x)));
-    expect_answers(&rt, &mut it, &[Item(1), End, Item(2), End])
+    let mut it = scripted::<u32, u32, 3>(rt.alloc(), script)?.scan((), up_to_five);
+    expect_numbers(&rt, &mut it, &[Item(1), End, Item(2), End])
+}
+
+// The sum so far, below 0, and none of an item above 3.
+fn negative_sum(sum: &mut i32, x: i32) -> Result<Option<i32>, ()> {
+    if x > 3 {
+        return Ok(None);
+    }
+    *sum = sum.wrapping_add(x);
+    Ok(Some(sum.wrapping_neg()))
+}
+
+// The sum so far. It fails with a sum of 3.
+fn sum_but_three(sum: &mut u32, x: u32) -> Result<Option<u32>, u32> {
+    *sum = sum.wrapping_add(x);
+    if *sum == 3 { Err(3) } else { Ok(Some(*sum)) }
 }
 
 #[test]
-fn map_err_replaces_failures(rt: HostRuntime) {
-    let answers = [Ok(1), Err(5)];
-    let mut it = numbers(&answers).map_err(|e: u32| e.wrapping_add(100));
-    let drawn = [it.next(), it.next(), it.next()];
-    assert_eq!(rt; drawn, [Ok(Some(1)), Err(105), Ok(None)]);
+fn scan_keeps_its_state(rt: HostRuntime) -> Result<(), Fail> {
+    let answers: [Result<i32, ()>; 4] = [Ok(1), Ok(2), Ok(3), Ok(4)];
+    let mut it = convert(answers.iter().copied()).scan(0, negative_sum);
+    expect_answers(&rt, &mut it, &[Item(-1), Item(-3), Item(-6), End])?;
+    // It keeps it after a failure.
+    let answers = [Ok(1), Ok(2), Ok(3)];
+    let mut it = numbers(&answers).scan(0, sum_but_three);
+    expect_numbers(&rt, &mut it, &[Item(1), Failure(3), Item(6), End])
 }
 
 #[test]

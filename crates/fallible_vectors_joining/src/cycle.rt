@@ -3,29 +3,49 @@ ghost use Rattle.std.specs.Prelude.{◌≡◌, ◌+◌, ◌≤◌, MatchResult, 
 ghost use Rattle.std.proofs.Common.{rules};
 ghost use Rattle.fallible_iterator.specs.Contract.{counted_contract};
 
-use fallible_iterator::{FallibleIterator, convert, empty, once};
+use fallible_iterator::Answer::{End, Failure, Item};
+use fallible_iterator::{Answer, FallibleIterator, convert};
+use fallible_testing::answered::expect_answers;
 use fallible_testing::collected::expect_collected;
-use fallible_testing::listed::listed;
+use fallible_testing::course::{Hint, expect_course};
 use fallible_testing::scripted::scripted;
 use fallible_testing::test_error::TestError;
 use std::alloc::AllocError;
 use std::cell::Cell;
 use std::test::Fail;
 
+// The answer, its failure as one of the tests'.
+fn with_test_error(answer: Result<u32, u32>) -> Result<u32, TestError> {
+    match answer {
+        Ok(x) => Ok(x),
+        Err(e) => Err(TestError::Number(e)),
+    }
+}
+
+// Expects this course of a cycle of these answers.
+fn expect_cycled(
+    rt: &HostRuntime,
+    answers: &[Result<u32, u32>],
+    course: &[(Hint, &[Answer<u32, TestError>])],
+) -> Result<(), Fail> {
+    let mut it = convert(answers.iter().copied().map(with_test_error)).cycle()?;
+    expect_course(rt, &mut it, course)
+}
+
 #[test]
-fn cycle_of_nothing_ends(rt: HostRuntime) -> Result<(), Fail> {
-    let mut it = empty::<u32, TestError>().cycle()?;
-    assert_eq!(rt; it.size_hint(), (0, None));
-    assert_eq!(rt; [it.next(), it.next()], [Ok(None), Ok(None)]);
-    Ok(())
+fn cycle_of_nothing_ends_and_another_passes_failures(rt: HostRuntime) -> Result<(), Fail> {
+    expect_cycled(&rt, &[], &[((0, None), &[End, End])])?;
+    let passed = [
+        Item(1),
+        Failure(TestError::Number(2)),
+        Item(1),
+        Failure(TestError::Number(2)),
+    ];
+    expect_cycled(&rt, &[Ok(1), Err(2)], &[((usize::MAX, None), &passed)])
 }
 
 // What a cycle of these numbers hints at. Fails the test where it begins with other items than those expected.
-fn expect_cycle(
-    rt: &HostRuntime,
-    numbers: &[u32],
-    expected: &[u32],
-) -> Result<(usize, Option<usize>), Fail> {
+fn expect_cycle(rt: &HostRuntime, numbers: &[u32], expected: &[u32]) -> Result<Hint, Fail> {
     let it = convert(numbers.iter().map(|x| Ok::<u32, TestError>(*x))).cycle()?;
     let hint = it.size_hint();
     expect_collected(it.take(expected.len()).collect(rt.alloc()), expected)?;
@@ -35,9 +55,7 @@ fn expect_cycle(
 #[test]
 fn cycle_of_one_and_of_four_items(rt: HostRuntime) -> Result<(), Fail> {
     let endless = (usize::MAX, None);
-    let it = once::<u32, TestError>(1).cycle()?;
-    assert_eq!(rt; it.size_hint(), endless);
-    expect_collected(it.take(3).collect(rt.alloc()), &[1, 1, 1])?;
+    assert_eq!(rt; expect_cycle(&rt, &[1], &[1, 1, 1])?, endless);
     assert_eq!(rt;
         expect_cycle(&rt, &[0, 1, 2, 3], &[0, 1, 2, 3, 0, 1])?,
         endless
@@ -46,26 +64,10 @@ fn cycle_of_one_and_of_four_items(rt: HostRuntime) -> Result<(), Fail> {
 }
 
 #[test]
-fn cycle_passes_failures(rt: HostRuntime) -> Result<(), Fail> {
-    let it = listed::<u32, TestError, 2>(rt.alloc(), [Ok(1), Err(TestError::Number(2))])?;
-    let mut it = it.cycle()?;
-    let failure = || Err(TestError::Number(2));
-    assert_eq!(rt;
-        [it.next(), it.next(), it.next(), it.next()],
-        [Ok(Some(1)), failure(), Ok(Some(1)), failure()]
-    );
-    Ok(())
-}
-
-#[test]
 fn cycle_answers_the_end_that_a_clone_begins_with(rt: HostRuntime) -> Result<(), Fail> {
     let it = scripted::<u32, TestError, 2>(rt.alloc(), [Ok(None), Ok(Some(5))])?;
     let mut it = it.cycle()?;
-    assert_eq!(rt;
-        [it.next(), it.next(), it.next(), it.next()],
-        [Ok(None), Ok(Some(5)), Ok(None), Ok(Some(5))]
-    );
-    Ok(())
+    expect_answers(&rt, &mut it, &[End, Item(5), End, Item(5)])
 }
 
 // Gives 1, 2, and then ends. Its second clone is refused.
@@ -119,33 +121,33 @@ impl<'a> FallibleIterator for Pair<'a> {
     ghost lawful = { Prim.search rules };
 }
 
-#[test]
-fn cycle_goes_on_after_a_refused_clone(rt: HostRuntime) -> Result<(), Fail> {
-    let clones = Cell::new(0);
-    let mut it = Pair {
-        left: 2,
-        clones: &clones,
-    }
-    .cycle()?;
-    assert_eq!(rt;
-        [it.next(), it.next(), it.next(), it.next()],
-        [
-            Ok(Some(1)),
-            Ok(Some(2)),
-            Err(TestError::Memory),
-            Ok(Some(1))
-        ]
-    );
-    Ok(())
-}
-
-#[test]
-fn cycle_is_refused_where_its_clone_is(rt: HostRuntime) {
-    let clones = Cell::new(1);
+// Whether a pair is cycled after so many clones. Fails the test where that gives other answers.
+fn is_cycled(
+    rt: &HostRuntime,
+    clones: u32,
+    expected: &[Answer<u32, TestError>],
+) -> Result<bool, Fail> {
+    let clones = Cell::new(clones);
     let made = Pair {
         left: 2,
         clones: &clones,
     }
     .cycle();
-    assert!(rt; made.is_err());
+    match made {
+        Ok(mut it) => {
+            expect_answers(rt, &mut it, expected)?;
+            Ok(true)
+        }
+        Err(_) => Ok(false),
+    }
+}
+
+#[test]
+fn cycle_is_refused_where_its_clone_is_and_goes_on_after_another(
+    rt: HostRuntime,
+) -> Result<(), Fail> {
+    let answers = [Item(1), Item(2), Failure(TestError::Memory), Item(1)];
+    assert!(rt; is_cycled(&rt, 0, &answers)?);
+    assert!(rt; !is_cycled(&rt, 1, &[])?);
+    Ok(())
 }

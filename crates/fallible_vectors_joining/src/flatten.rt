@@ -5,16 +5,20 @@ use fallible_iterator::Answer::{End, Failure, Item};
 use fallible_iterator::{
     FallibleIterator, IntoFallible, IntoFallibleIterator, Take, from_fn, once,
 };
-use fallible_testing::answered::expect_answers;
 use fallible_testing::closures::add_up;
 use fallible_testing::collected::expect_collected;
+use fallible_testing::expected_numbers::expect_numbers;
 use fallible_testing::listed::listed;
 use fallible_testing::numbers::numbers;
-use fallible_testing::scripted::{Script, scripted};
+use fallible_testing::scripted::Script;
 use std::alloc::{AllocError, Global};
 use std::convert::Infallible;
 use std::ops::Range;
 use std::test::Fail;
+
+type Drawn = Result<Option<u32>, u32>;
+
+const END: Drawn = Ok(None);
 
 #[test]
 fn flatten_drops_an_inner_iterator_at_its_end(rt: HostRuntime) -> Result<(), Fail> {
@@ -28,42 +32,29 @@ fn flatten_drops_an_inner_iterator_at_its_end(rt: HostRuntime) -> Result<(), Fai
         }
     });
     let mut it = listed(rt.alloc(), [Ok(inner), Err(7)])?.flatten();
-    assert_eq!(rt;
-        [it.next(), it.next(), it.next()],
-        [Ok(Some(1)), Err(7), Ok(None)]
-    );
-    Ok(())
+    expect_numbers(&rt, &mut it, &[Item(1), Failure(7), End])
+}
+
+// What the range gives.
+fn ranged(range: Range<u32>) -> Result<IntoFallible<Range<u32>>, Infallible> {
+    Ok(IntoFallible::from(range))
 }
 
 #[test]
-fn flatten_of_three_ranges(rt: HostRuntime) -> Result<(), Fail> {
-    let it = listed::<IntoFallible<Range<u32>>, Infallible, 3>(
-        rt.alloc(),
-        [
-            Ok(IntoFallible::from(0..1)),
-            Ok(IntoFallible::from(0..0)),
-            Ok(IntoFallible::from(1..5)),
-        ],
-    )?;
+fn flatten_and_flat_map_of_three_ranges(rt: HostRuntime) -> Result<(), Fail> {
+    let inner = [ranged(0..1), ranged(0..0), ranged(1..5)];
+    let it = listed::<IntoFallible<Range<u32>>, Infallible, 3>(rt.alloc(), inner)?;
     let it = it.flatten().take(9);
-    expect_collected(it.collect(rt.alloc()), &[0, 1, 2, 3, 4])
-}
-
-#[test]
-fn flat_map_of_three_ranges(rt: HostRuntime) -> Result<(), Fail> {
+    expect_collected(it.collect(rt.alloc()), &[0, 1, 2, 3, 4])?;
     let it = listed::<Range<u32>, Infallible, 3>(rt.alloc(), [Ok(0..1), Ok(0..0), Ok(1..5)])?;
-    let it = it
-        .flat_map(|range: Range<u32>| -> Result<IntoFallible<Range<u32>>, Infallible> {
-            Ok(IntoFallible::from(range))
-        })
-        .take(9);
+    let it = it.flat_map(ranged).take(9);
     expect_collected(it.collect(rt.alloc()), &[0, 1, 2, 3, 4])
 }
 
 // The first answer of joined inner iterators, the outcome of a fold that was stopped at the next item, and the item that its closure saw.
 #[derive(Drop)]
 struct Stopped {
-    first: Result<Option<u32>, u32>,
+    first: Drawn,
     outcome: Result<u32, u32>,
     item: Option<u32>,
 }
@@ -91,30 +82,8 @@ where
     }
 }
 
-#[test]
-fn flatten_draws_no_inner_end_ahead(rt: HostRuntime) {
-    let mut calls = 0u32;
-    let mut s = from_fn(move || {
-        calls = calls.wrapping_add(1);
-        match calls {
-            1 => Ok::<Option<u32>, u32>(Some(1)),
-            2 => Ok(Some(2)),
-            4 => Ok(Some(3)),
-            _ => Ok(None),
-        }
-    })
-    .take(9);
-    let stopped = draw_and_stop(&mut s);
-    assert_eq!(rt; stopped.first, Ok(Some(1)));
-    assert_eq!(rt; stopped.outcome, Err(7));
-    assert_eq!(rt; stopped.item, Some(2));
-    assert_eq!(rt; [s.next(), s.next()], [Ok(None), Ok(Some(3))]);
-}
-
 // What two draws of a flatten of one inner iterator answer.
-fn draws_flat<U: FallibleIterator<Item = u32, Error = u32>>(
-    inner: U,
-) -> [Result<Option<u32>, u32>; 2]
+fn draws_flat<U: FallibleIterator<Item = u32, Error = u32>>(inner: U) -> [Drawn; 2]
 where
     U: Drop,
     requires { U.contract.can_next inner }
@@ -136,7 +105,7 @@ where
 // What two folds of a flatten of one inner iterator come to, one after another, and the draw that follows.
 fn folds_and_draws_flat<U: FallibleIterator<Item = u32, Error = u32>>(
     inner: U,
-) -> ([Result<u32, u32>; 2], Result<Option<u32>, u32>)
+) -> ([Result<u32, u32>; 2], Drawn)
 where
     U: Drop,
     requires can_next { U.contract.can_next inner }
@@ -149,9 +118,7 @@ where
 }
 
 // The same of a flat_map whose closure answers the inner iterator as it is.
-fn draws_flat_mapped<U: FallibleIterator<Item = u32, Error = u32>>(
-    inner: U,
-) -> [Result<Option<u32>, u32>; 2]
+fn draws_flat_mapped<U: FallibleIterator<Item = u32, Error = u32>>(inner: U) -> [Drawn; 2]
 where
     U: Drop,
     requires { U.contract.can_next inner }
@@ -171,48 +138,77 @@ where
         .fold(0, add_up)
 }
 
-// Gives 1, ends, and then gives 2.
-fn one_end_two(alloc: Global) -> Result<Take<Script<u32, u32>>, AllocError>
+// Gives the answers of the script.
+fn given(alloc: Global, script: &[Drawn]) -> Result<Take<Script<u32, u32>>, AllocError>
     ensures { IfOk result
         (λ s. ⟦<Take<Script<u32, u32>> as FallibleIterator>⟧.contract.bound s 9) }
 {
-    Ok(scripted(alloc, [Ok(Some(1)), Ok(None), Ok(Some(2))])?.take(9))
+    let answers = script.to_vec(alloc)?.into_iter();
+    Ok(Script { answers }.take(9))
 }
 
-// Ends, and then gives 2.
-fn end_two(alloc: Global) -> Result<Take<Script<u32, u32>>, AllocError>
-    ensures { IfOk result
-        (λ s. ⟦<Take<Script<u32, u32>> as FallibleIterator>⟧.contract.bound s 9) }
-{
-    Ok(scripted(alloc, [Ok(None), Ok(Some(2))])?.take(9))
+// What two draws of a flatten of this inner iterator answer, and what that gives next; and the same of a flat_map.
+fn drawn_and_left(alloc: Global, inner: &[Drawn]) -> Result<[([Drawn; 2], Drawn); 2], AllocError> {
+    let mut flat = given(alloc, inner)?;
+    let mut mapped = given(alloc, inner)?;
+    Ok([
+        (draws_flat(&mut flat), flat.next()),
+        (draws_flat_mapped(&mut mapped), mapped.next()),
+    ])
 }
 
 #[test]
-fn flatten_draws_nothing_after_an_inner_end(rt: HostRuntime) -> Result<(), Fail> {
-    let mut s = one_end_two(rt.alloc())?;
-    assert_eq!(rt; draws_flat(&mut s), [Ok(Some(1)), Ok(None)]);
-    assert_eq!(rt; s.next(), Ok(Some(2)));
-    let mut s = end_two(rt.alloc())?;
-    assert_eq!(rt; draws_flat(&mut s), [Ok(None), Ok(None)]);
-    assert_eq!(rt; s.next(), Ok(Some(2)));
+fn flatten_and_flat_map_draw_nothing_after_an_inner_end(rt: HostRuntime) {
+    let one_end_two = [Ok(Some(1)), END, Ok(Some(2))];
+    assert_eq!(rt;
+        drawn_and_left(rt.alloc(), &one_end_two),
+        Ok([([Ok(Some(1)), END], Ok(Some(2))); 2])
+    );
+    let end_two = [END, Ok(Some(2))];
+    assert_eq!(rt;
+        drawn_and_left(rt.alloc(), &end_two),
+        Ok([([END, END], Ok(Some(2))); 2])
+    );
+}
+
+#[test]
+fn folds_of_flatten_and_flat_map_draw_nothing_after_an_inner_end(
+    rt: HostRuntime,
+) -> Result<(), Fail> {
+    let one_end_two = [Ok(Some(1)), END, Ok(Some(2))];
+    let mut flat = given(rt.alloc(), &one_end_two)?;
+    assert_eq!(rt; (sums_flat(&mut flat), flat.next()), (Ok(1), Ok(Some(2))));
+    let mut mapped = given(rt.alloc(), &one_end_two)?;
+    assert_eq!(rt;
+        (sums_flat_mapped(&mut mapped), mapped.next()),
+        (Ok(1), Ok(Some(2)))
+    );
     Ok(())
 }
 
-#[test]
-fn a_fold_of_flatten_draws_nothing_after_an_inner_end(rt: HostRuntime) -> Result<(), Fail> {
-    let mut s = one_end_two(rt.alloc())?;
-    assert_eq!(rt; sums_flat(&mut s), Ok(1));
-    assert_eq!(rt; s.next(), Ok(Some(2)));
-    Ok(())
+// What a draw and a fold that is stopped come to, and what the inner iterator gives next.
+fn stopped_and_left(alloc: Global, inner: &[Drawn]) -> Result<(Stopped, [Drawn; 2]), AllocError> {
+    let mut inner = given(alloc, inner)?;
+    let stopped = draw_and_stop(&mut inner);
+    Ok((stopped, [inner.next(), inner.next()]))
 }
 
 #[test]
-fn a_fold_of_flatten_draws_nothing_after_the_end_in_hand(rt: HostRuntime) -> Result<(), Fail> {
-    let mut s = one_end_two(rt.alloc())?;
-    let ended = draw_and_stop(&mut s);
+fn a_fold_of_flatten_draws_no_inner_end_ahead_and_nothing_after_it(
+    rt: HostRuntime,
+) -> Result<(), Fail> {
+    let inner = [Ok(Some(1)), Ok(Some(2)), END, Ok(Some(3))];
+    let (stopped, left) = stopped_and_left(rt.alloc(), &inner)?;
+    assert_eq!(rt; stopped.first, Ok(Some(1)));
+    assert_eq!(rt; stopped.outcome, Err(7));
+    assert_eq!(rt; stopped.item, Some(2));
+    assert_eq!(rt; left, [END, Ok(Some(3))]);
+    // The end is met by the inner iterator in hand.
+    let inner = [Ok(Some(1)), END, Ok(Some(2))];
+    let (ended, left) = stopped_and_left(rt.alloc(), &inner)?;
     assert_eq!(rt; ended.first, Ok(Some(1)));
     assert_eq!(rt; ended.outcome, Ok(0));
-    assert_eq!(rt; s.next(), Ok(Some(2)));
+    assert_eq!(rt; left, [Ok(Some(2)), END]);
     Ok(())
 }
 
@@ -222,25 +218,6 @@ fn a_fold_of_flatten_keeps_an_inner_iterator_that_failed(rt: HostRuntime) {
     let answers = [Ok(1), Err(9), Ok(2), Err(8), Ok(4)];
     let folded = folds_and_draws_flat(numbers(&answers));
     assert_eq!(rt; folded, ([Err(9), Err(8)], Ok(Some(4))));
-}
-
-#[test]
-fn flat_map_draws_nothing_after_an_inner_end(rt: HostRuntime) -> Result<(), Fail> {
-    let mut s = one_end_two(rt.alloc())?;
-    assert_eq!(rt; draws_flat_mapped(&mut s), [Ok(Some(1)), Ok(None)]);
-    assert_eq!(rt; s.next(), Ok(Some(2)));
-    let mut s = end_two(rt.alloc())?;
-    assert_eq!(rt; draws_flat_mapped(&mut s), [Ok(None), Ok(None)]);
-    assert_eq!(rt; s.next(), Ok(Some(2)));
-    Ok(())
-}
-
-#[test]
-fn a_fold_of_flat_map_draws_nothing_after_an_inner_end(rt: HostRuntime) -> Result<(), Fail> {
-    let mut s = one_end_two(rt.alloc())?;
-    assert_eq!(rt; sums_flat_mapped(&mut s), Ok(1));
-    assert_eq!(rt; s.next(), Ok(Some(2)));
-    Ok(())
 }
 
 #[test]
@@ -255,5 +232,5 @@ fn flat_map_keeps_its_closures_state(rt: HostRuntime) -> Result<(), Fail> {
             Ok(once::<u32, u32>(x.wrapping_add(calls)))
         }
     });
-    expect_answers(&rt, &mut it, &[Item(11), Failure(20), Item(33), End])
+    expect_numbers(&rt, &mut it, &[Item(11), Failure(20), Item(33), End])
 }

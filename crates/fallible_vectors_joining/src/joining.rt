@@ -1,96 +1,24 @@
 // Adapters that join two sources.
+use fallible_iterator::Answer::{End, Failure, Item};
 use fallible_iterator::{
-    FallibleIterator, IntoFallible, IteratorExt, convert, empty, from_fn, once, repeat, repeat_err,
+    Answer, FallibleIterator, IntoFallible, IteratorExt, convert, once, repeat, repeat_err,
 };
+use fallible_testing::answered::expect_answers;
 use fallible_testing::collected::expect_collected;
-use fallible_testing::listed::listed;
+use fallible_testing::course::{Hint, expect_course};
+use fallible_testing::expected_numbers::expect_hinted_numbers;
 use fallible_testing::numbers::numbers;
-use fallible_testing::scripted::scripted;
+use fallible_testing::scripted::{Script, scripted};
 use fallible_testing::test_error::TestError;
 use std::test::Fail;
+
+// What a draw answers.
+type Drawn = Result<Option<u32>, u32>;
 
 #[test]
 fn chain_of_two_ranges(rt: HostRuntime) -> Result<(), Fail> {
     let it = IntoFallible::from(0..4u32).chain(IntoFallible::from(4..8u32));
     expect_collected(it.collect(rt.alloc()), &[0, 1, 2, 3, 4, 5, 6, 7])
-}
-
-// What a hint tells.
-type Hint = (usize, Option<usize>);
-
-// What a draw answers.
-type Drawn<T> = Result<Option<T>, u32>;
-
-// What four draws from the front's answers, chained with one item, answer, and the hints before and after the first and after the third.
-fn chained(front: &[Result<u32, u32>], item: u32) -> ([Drawn<u32>; 4], [Hint; 3]) {
-    let mut it = numbers(front).chain(once(item));
-    let before = it.size_hint();
-    let first = it.next();
-    let then = it.size_hint();
-    let second = it.next();
-    let third = it.next();
-    let after = it.size_hint();
-    ([first, second, third, it.next()], [before, then, after])
-}
-
-#[test]
-fn chain_goes_on_after_a_failure_of_the_first(rt: HostRuntime) {
-    assert_eq!(rt;
-        chained(&[Ok(1), Err(9)], 2),
-        (
-            [Ok(Some(1)), Err(9), Ok(Some(2)), Ok(None)],
-            [(3, Some(3)), (2, Some(2)), (0, Some(0))],
-        )
-    );
-}
-
-#[test]
-fn chain_draws_the_first_on_after_a_failure(rt: HostRuntime) {
-    assert_eq!(rt;
-        chained(&[Ok(1), Err(9), Ok(3)], 2),
-        (
-            [Ok(Some(1)), Err(9), Ok(Some(3)), Ok(Some(2))],
-            [(4, Some(4)), (3, Some(3)), (1, Some(1))],
-        )
-    );
-}
-
-#[test]
-fn chain_hints_at_the_sides_that_are_still_drawn(rt: HostRuntime) {
-    assert_eq!(rt;
-        chained(&[Ok(1), Ok(2)], 3),
-        (
-            [Ok(Some(1)), Ok(Some(2)), Ok(Some(3)), Ok(None)],
-            [(3, Some(3)), (2, Some(2)), (0, Some(0))],
-        )
-    );
-}
-
-#[test]
-fn chain_draws_the_second_at_the_end_of_the_first(rt: HostRuntime) {
-    let first = from_fn(move || Ok::<Option<u32>, u32>(None));
-    let mut it = first.chain(once(2));
-    assert_eq!(rt; it.next(), Ok(Some(2)));
-    assert_eq!(rt; it.size_hint(), (0, Some(0)));
-}
-
-#[test]
-fn chain_draws_the_first_up_to_its_end(rt: HostRuntime) -> Result<(), Fail> {
-    let script = [Ok(Some(1)), Ok(None), Ok(Some(7))];
-    let mut first = scripted::<u32, u32, 3>(rt.alloc(), script)?;
-    let mut it = (&mut first).chain(empty());
-    assert_eq!(rt;
-        [it.next(), it.next(), it.next()],
-        [Ok(Some(1)), Ok(None), Ok(None)]
-    );
-    assert_eq!(rt; first.next(), Ok(Some(7)));
-    Ok(())
-}
-
-#[test]
-fn chain_is_counted_up_to_a_failure_of_the_second(rt: HostRuntime) {
-    let it = once::<u32, TestError>(1).chain(repeat_err(TestError::Number(2)));
-    assert_eq!(rt; it.count(), Err(TestError::Number(2)));
 }
 
 // What a chain of two ranges of these lengths hints at.
@@ -103,8 +31,6 @@ fn chain_hint(first: usize, second: usize) -> Hint {
 
 #[test]
 fn chain_hints_at_no_more_than_fits(rt: HostRuntime) {
-    let first = repeat::<u32, TestError>(5);
-    assert_eq!(rt; first.chain(once(1)).size_hint(), (usize::MAX, None));
     assert_eq!(rt; chain_hint(usize::MAX, 0), (usize::MAX, Some(usize::MAX)));
     assert_eq!(rt;
         chain_hint(usize::MAX - 1, 1),
@@ -115,48 +41,142 @@ fn chain_hints_at_no_more_than_fits(rt: HostRuntime) {
         (usize::MAX - 1, Some(usize::MAX - 1))
     );
     assert_eq!(rt; chain_hint(usize::MAX, 1), (usize::MAX, None));
+    let first = repeat::<u32, TestError>(5);
+    assert_eq!(rt; first.chain(once(1)).size_hint(), (usize::MAX, None));
+    // An endless side is counted up to a failure.
+    let it = once::<u32, TestError>(1).chain(repeat_err(TestError::Number(2)));
+    assert_eq!(rt; it.count(), Err(TestError::Number(2)));
 }
 
-// What a zip hints at, its first two draws, and the draw from the right that follows.
-fn zipped(
+// Expects this course of the front's answers, chained with one item.
+fn expect_chained(
+    rt: &HostRuntime,
+    front: &[Result<u32, u32>],
+    item: u32,
+    course: &[(Hint, &[Answer<u32, u32>])],
+) -> Result<(), Fail> {
+    expect_hinted_numbers(rt, &mut numbers(front).chain(once(item)), course)
+}
+
+#[test]
+fn chain_hints_at_the_sides_that_are_still_drawn(rt: HostRuntime) -> Result<(), Fail> {
+    // It goes on after a failure of the first.
+    expect_chained(
+        &rt,
+        &[Ok(1), Err(9)],
+        2,
+        &[
+            ((3, Some(3)), &[Item(1)]),
+            ((2, Some(2)), &[Failure(9), Item(2)]),
+            ((0, Some(0)), &[End]),
+        ],
+    )?;
+    // It draws the first on after a failure.
+    expect_chained(
+        &rt,
+        &[Ok(1), Err(9), Ok(3)],
+        2,
+        &[
+            ((4, Some(4)), &[Item(1)]),
+            ((3, Some(3)), &[Failure(9), Item(3)]),
+            ((1, Some(1)), &[Item(2)]),
+        ],
+    )?;
+    expect_chained(
+        &rt,
+        &[Ok(1), Ok(2)],
+        3,
+        &[
+            ((3, Some(3)), &[Item(1)]),
+            ((2, Some(2)), &[Item(2), Item(3)]),
+            ((0, Some(0)), &[End]),
+        ],
+    )
+}
+
+// What the first gives next after this course of it, chained with the second.
+fn next_of_the_first(
+    rt: &HostRuntime,
+    first: &[Drawn],
+    second: &[Result<u32, u32>],
+    course: &[(Hint, &[Answer<u32, u32>])],
+) -> Result<Drawn, Fail> {
+    let mut first = Script {
+        answers: first.to_vec(rt.alloc())?.into_iter(),
+    };
+    let mut it = (&mut first).chain(numbers(second));
+    expect_hinted_numbers(rt, &mut it, course)?;
+    Ok(first.next())
+}
+
+#[test]
+fn chain_draws_the_first_up_to_its_end(rt: HostRuntime) -> Result<(), Fail> {
+    // The second is drawn at that end.
+    let left = next_of_the_first(
+        &rt,
+        &[Ok(None)],
+        &[Ok(2)],
+        &[((1, None), &[Item(2)]), ((0, Some(0)), &[])],
+    )?;
+    assert_eq!(rt; left, Ok(None));
+    let first = [Ok(Some(1)), Ok(None), Ok(Some(7))];
+    let left = next_of_the_first(&rt, &first, &[], &[((0, None), &[Item(1), End, End])])?;
+    assert_eq!(rt; left, Ok(Some(7)));
+    Ok(())
+}
+
+// What the right gives next after this course of a zip.
+fn next_of_the_right(
+    rt: &HostRuntime,
     left: &[Result<u32, u32>],
     right: &[Result<u32, u32>],
-) -> (Hint, [Drawn<(u32, u32)>; 2], Drawn<u32>) {
+    course: &[(Hint, &[Answer<(u32, u32), u32>])],
+) -> Result<Drawn, Fail> {
     let mut right = numbers(right);
     let mut it = numbers(left).zip(&mut right);
-    let hint = it.size_hint();
-    let drawn = [it.next(), it.next()];
-    drop(it);
-    (hint, drawn, right.next())
+    expect_course(rt, &mut it, course)?;
+    Ok(right.next())
 }
 
 #[test]
-fn zip_draws_the_right_beside_all_but_a_failure_of_the_left(rt: HostRuntime) {
-    assert_eq!(rt;
-        zipped(&[Ok(1)], &[Ok(10), Ok(20), Ok(30)]),
-        ((1, Some(1)), [Ok(Some((1, 10))), Ok(None)], Ok(Some(30)))
-    );
-    assert_eq!(rt;
-        zipped(&[Err(5), Ok(1)], &[Ok(10)]),
-        ((1, Some(1)), [Err(5), Ok(Some((1, 10)))], Ok(None))
-    );
+fn zip_draws_the_right_beside_all_but_a_failure_of_the_left(rt: HostRuntime) -> Result<(), Fail> {
+    let right = [Ok(10), Ok(20), Ok(30)];
+    let left = next_of_the_right(
+        &rt,
+        &[Ok(1)],
+        &right,
+        &[((1, Some(1)), &[Item((1, 10)), End])],
+    )?;
+    assert_eq!(rt; left, Ok(Some(30)));
+    let left = next_of_the_right(
+        &rt,
+        &[Err(5), Ok(1)],
+        &[Ok(10)],
+        &[((1, Some(1)), &[Failure(5), Item((1, 10))])],
+    )?;
+    assert_eq!(rt; left, Ok(None));
+    // It hints at the shorter side.
+    let left = next_of_the_right(
+        &rt,
+        &[Ok(1), Ok(2)],
+        &right,
+        &[((2, Some(2)), &[Item((1, 10)), Item((2, 20))])],
+    )?;
+    assert_eq!(rt; left, Ok(Some(30)));
+    Ok(())
+}
+
+// What a zip of these numbers with an endless side hints at, and its count.
+fn beside_an_endless_side(left: &[u32]) -> (Hint, Result<usize, TestError>) {
+    let left = convert(left.iter().map(|x| Ok::<u32, TestError>(*x)));
+    let it = left.zip(repeat::<u32, TestError>(3));
+    (it.size_hint(), it.count())
 }
 
 #[test]
-fn zip_hints_at_the_shorter_side(rt: HostRuntime) {
-    assert_eq!(rt;
-        zipped(&[Ok(1), Ok(2)], &[Ok(10), Ok(20), Ok(30)]),
-        (
-            (2, Some(2)),
-            [Ok(Some((1, 10))), Ok(Some((2, 20)))],
-            Ok(Some(30))
-        )
-    );
-    let left = convert([1, 2].iter().map(|x| Ok::<u32, TestError>(*x)));
-    assert_eq!(rt;
-        left.zip(repeat::<u32, TestError>(3)).size_hint(),
-        (2, Some(2))
-    );
+fn zip_with_an_endless_side_hints_at_the_other(rt: HostRuntime) {
+    assert_eq!(rt; beside_an_endless_side(&[1, 2]), ((2, Some(2)), Ok(2)));
+    assert_eq!(rt; beside_an_endless_side(&[1]), ((1, Some(1)), Ok(1)));
     let left = repeat::<u32, TestError>(5);
     assert_eq!(rt;
         left.zip(once::<u32, TestError>(1)).size_hint(),
@@ -175,27 +195,19 @@ fn zip_draws_the_right_at_an_end_of_the_left(rt: HostRuntime) -> Result<(), Fail
     let left = scripted::<u32, u32, 3>(rt.alloc(), script)?;
     let right = [Ok(10), Ok(20), Ok(30)];
     let mut it = left.zip(numbers(&right));
-    assert_eq!(rt;
-        [it.next(), it.next(), it.next()],
-        [Ok(Some((1, 10))), Ok(None), Ok(Some((2, 30)))]
-    );
-    Ok(())
+    expect_answers(&rt, &mut it, &[Item((1, 10)), End, Item((2, 30))])
 }
 
-#[test]
-fn zip_with_an_endless_side_is_counted(rt: HostRuntime) {
-    let left = once::<u32, TestError>(1);
-    assert_eq!(rt; left.zip(repeat::<u32, TestError>(5)).count(), Ok(1));
+// The sum of both sides.
+fn both(pair: (u32, u32)) -> Result<u32, u32> {
+    Ok(pair.0.wrapping_add(pair.1))
 }
 
 #[test]
 fn a_nest_of_joins_is_drained(rt: HostRuntime) -> Result<(), Fail> {
-    let left = listed::<u32, u32, 2>(rt.alloc(), [Ok(1), Ok(2)])?
-        .chain(once(3))
-        .chain(once(4));
-    let right = listed::<u32, u32, 3>(rt.alloc(), [Ok(10), Ok(20), Ok(30)])?;
-    let sums = left
-        .zip(right)
-        .map(|pair: (u32, u32)| Ok(pair.0.wrapping_add(pair.1)));
+    let left = [Ok(1), Ok(2)];
+    let right = [Ok(10), Ok(20), Ok(30)];
+    let it = numbers(&left).chain(once(3)).chain(once(4));
+    let sums = it.zip(numbers(&right)).map(both);
     expect_collected(sums.collect(rt.alloc()), &[11, 22, 33])
 }

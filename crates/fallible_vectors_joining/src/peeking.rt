@@ -4,81 +4,120 @@ ghost use Rattle.std.proofs.Common.{rules};
 ghost use Rattle.std.specs.Cmp.Rules.{comparing};
 ghost use Rattle.fallible_iterator.specs.Peeking.Peekable.{Fills, peekable_parts};
 
-use fallible_iterator::{FallibleIterator, IteratorExt, Peekable, convert, from_fn, once, repeat};
-use fallible_testing::closures::add_up;
+use fallible_iterator::Answer::{End, Failure, Item};
+use fallible_iterator::{Answer, FallibleIterator, IteratorExt, Peekable, convert, once, repeat};
+use fallible_testing::answered::expect_answers;
+use fallible_testing::course::Hint;
 use fallible_testing::listed::listed;
 use fallible_testing::numbers::numbers;
+use fallible_testing::scripted::{Script, scripted};
 use fallible_testing::test_error::TestError;
 use std::cell::Cell;
 use std::test::Fail;
 
+type Drawn = Result<Option<u32>, u32>;
+
+// A call of what looks ahead, with what it answers.
+#[derive(Debug, PartialEq, Eq, Drop)]
+enum Look {
+    // `peek`
+    Peeks(Answer<u32, u32>),
+    // `next`
+    Draws(Answer<u32, u32>),
+    // `next_if` of an item above the number
+    TakesAbove(u32, Answer<u32, u32>),
+    // `next_if_eq` of the number
+    Takes(u32, Answer<u32, u32>),
+    // `size_hint`
+    Hints(Hint),
+    // a fold that adds up, and fails with 7 at 2
+    Folds(Result<u32, u32>),
+}
+
+use Look::{Draws, Folds, Hints, Peeks, Takes, TakesAbove};
+
+fn told(answer: Drawn) -> Answer<u32, u32> {
+    match answer {
+        Ok(Some(x)) => Item(x),
+        Ok(None) => End,
+        Err(e) => Failure(e),
+    }
+}
+
 // A copy of what `peek` looked at.
-fn copied(looked_at: Result<Option<&u32>, u32>) -> Result<Option<u32>, u32> {
+fn copied(looked_at: Result<Option<&u32>, u32>) -> Drawn {
     Ok(looked_at?.copied())
 }
 
-// What two peeks answer, the two draws that follow, one more peek, and two more draws.
-fn peeks_and_draws(answers: &[Result<u32, u32>]) -> [Result<Option<u32>, u32>; 7] {
-    let mut it = numbers(answers).peekable();
-    [
-        copied(it.peek()),
-        copied(it.peek()),
-        it.next(),
-        it.next(),
-        copied(it.peek()),
-        it.next(),
-        it.next(),
-    ]
+fn sum_up_to_two(total: u32, x: u32) -> Result<u32, u32> {
+    if x == 2 {
+        Err(7)
+    } else {
+        Ok(total.wrapping_add(x))
+    }
+}
+
+// Makes the calls of what looks ahead in a script, one after another. Fails the test where one answers otherwise.
+fn expect_looks(rt: &HostRuntime, script: &[Drawn], expected: &[Look]) -> Result<(), Fail> {
+    let answers = script.to_vec(rt.alloc())?.into_iter();
+    let mut it = Script { answers }.peekable();
+    for call in expected {
+        let made = match call {
+            Peeks(_) => Peeks(told(copied(it.peek()))),
+            Draws(_) => Draws(told(it.next())),
+            TakesAbove(least, _) => { TakesAbove(*least, told(it.next_if(|x: &u32| *x > *least))) }
+            Takes(wanted, _) => Takes(*wanted, told(it.next_if_eq(wanted))),
+            Hints(_) => Hints(it.size_hint()),
+            Folds(_) => Folds(it.try_fold(0, sum_up_to_two)),
+        };
+        if made != *call {
+            return Err(Fail::new(format_args!("{made:?}, and not {call:?}")));
+        }
+    }
+    Ok(())
 }
 
 #[test]
-fn peek_holds_an_item_and_no_failure(rt: HostRuntime) {
-    assert_eq!(rt;
-        peeks_and_draws(&[Err(4), Ok(5)]),
-        [
-            Err(4),
-            Ok(Some(5)),
-            Ok(Some(5)),
-            Ok(None),
-            Ok(None),
-            Ok(None),
-            Ok(None)
-        ]
-    );
-    assert_eq!(rt;
-        peeks_and_draws(&[Ok(0), Ok(1)]),
-        [
-            Ok(Some(0)),
-            Ok(Some(0)),
-            Ok(Some(0)),
-            Ok(Some(1)),
-            Ok(None),
-            Ok(None),
-            Ok(None),
-        ]
-    );
-    assert_eq!(rt;
-        peeks_and_draws(&[Ok(1), Err(2), Ok(3)]),
-        [
-            Ok(Some(1)),
-            Ok(Some(1)),
-            Ok(Some(1)),
-            Err(2),
-            Ok(Some(3)),
-            Ok(Some(3)),
-            Ok(None),
-        ]
-    );
-}
-
-#[test]
-fn peek_at_borrowed_items(rt: HostRuntime) {
-    let numbers = [1u32, 2];
-    let mut it = convert(numbers.iter().map(|x| Ok::<&u32, u32>(x))).peekable();
-    assert_eq!(rt; it.peek(), Ok(Some(&&1)));
-    assert_eq!(rt; it.next(), Ok(Some(&1)));
-    assert_eq!(rt; it.next(), Ok(Some(&2)));
-    assert_eq!(rt; it.next(), Ok(None));
+fn peek_holds_an_item_and_no_failure(rt: HostRuntime) -> Result<(), Fail> {
+    expect_looks(
+        &rt,
+        &[Err(4), Ok(Some(5))],
+        &[
+            Peeks(Failure(4)),
+            Peeks(Item(5)),
+            Draws(Item(5)),
+            Draws(End),
+            Peeks(End),
+            Draws(End),
+            Draws(End),
+        ],
+    )?;
+    expect_looks(
+        &rt,
+        &[Ok(Some(0)), Ok(Some(1))],
+        &[
+            Peeks(Item(0)),
+            Peeks(Item(0)),
+            Draws(Item(0)),
+            Draws(Item(1)),
+            Peeks(End),
+            Draws(End),
+            Draws(End),
+        ],
+    )?;
+    expect_looks(
+        &rt,
+        &[Ok(Some(1)), Err(2), Ok(Some(3))],
+        &[
+            Peeks(Item(1)),
+            Peeks(Item(1)),
+            Draws(Item(1)),
+            Draws(Failure(2)),
+            Peeks(Item(3)),
+            Draws(Item(3)),
+            Draws(End),
+        ],
+    )
 }
 
 #[test]
@@ -91,28 +130,103 @@ fn peek_draws_once(rt: HostRuntime) {
     assert_eq!(rt; it.next(), Ok(Some(2)));
 }
 
-// What `next_if` answers of an item above the first number and of one that is the second, and `next_if_eq` of the others.
-fn next_ifs(answers: &[Result<u32, u32>], wanted: [u32; 5]) -> [Result<Option<u32>, u32>; 5] {
-    let mut it = numbers(answers).peekable();
-    [
-        it.next_if(|x: &u32| *x > wanted[0]),
-        it.next_if(|x: &u32| *x == wanted[1]),
-        it.next_if_eq(&wanted[2]),
-        it.next_if_eq(&wanted[3]),
-        it.next_if_eq(&wanted[4]),
-    ]
+#[test]
+fn next_if_takes_an_item_that_is_accepted_and_answers_a_failure(
+    rt: HostRuntime,
+) -> Result<(), Fail> {
+    expect_looks(
+        &rt,
+        &[Ok(Some(1)), Ok(Some(2))],
+        &[
+            TakesAbove(1, End),
+            TakesAbove(0, Item(1)),
+            Takes(2, Item(2)),
+            Takes(2, End),
+            Takes(2, End),
+        ],
+    )?;
+    expect_looks(
+        &rt,
+        &[Err(4), Ok(Some(1)), Err(5)],
+        &[
+            TakesAbove(1, Failure(4)),
+            TakesAbove(3, End),
+            Takes(3, End),
+            Takes(1, Item(1)),
+            Takes(1, Failure(5)),
+        ],
+    )
 }
 
 #[test]
-fn next_if_takes_an_item_that_is_accepted_and_answers_a_failure(rt: HostRuntime) {
-    assert_eq!(rt;
-        next_ifs(&[Ok(1), Ok(2)], [1, 1, 2, 2, 2]),
-        [Ok(None), Ok(Some(1)), Ok(Some(2)), Ok(None), Ok(None)]
-    );
-    assert_eq!(rt;
-        next_ifs(&[Err(4), Ok(1), Err(5)], [1, 3, 3, 1, 1]),
-        [Err(4), Ok(None), Ok(None), Ok(Some(1)), Err(5)]
-    );
+fn peek_and_next_if_hold_the_end_that_they_draw(rt: HostRuntime) -> Result<(), Fail> {
+    expect_looks(
+        &rt,
+        &[Ok(None), Ok(Some(7)), Ok(None), Ok(Some(7))],
+        &[
+            Peeks(End),
+            Peeks(End),
+            Draws(End),
+            Draws(Item(7)),
+            Takes(7, End),
+            Peeks(End),
+            Draws(End),
+            Takes(7, Item(7)),
+        ],
+    )?;
+    let mut it = scripted::<u32, u32, 2>(rt.alloc(), [Ok(None), Ok(Some(7))])?.peekable();
+    assert_eq!(rt; it.next_if_eq(&7), Ok(None));
+    assert_eq!(rt; it.peek(), Ok(None));
+    assert_eq!(rt; it.next(), Ok(None));
+    assert_eq!(rt; it.next_if_eq(&7), Ok(Some(7)));
+    Ok(())
+}
+
+#[test]
+fn a_held_answer_belongs_to_one_fold(rt: HostRuntime) -> Result<(), Fail> {
+    // A held end ends it.
+    expect_looks(
+        &rt,
+        &[Ok(None), Ok(Some(7))],
+        &[
+            Peeks(End),
+            Hints((0, Some(0))),
+            TakesAbove(0, End),
+            Folds(Ok(0)),
+            Draws(Item(7)),
+        ],
+    )?;
+    // A fold that stops takes the held item.
+    let script = [Ok(Some(2)), Ok(Some(3)), Ok(Some(4))];
+    expect_looks(
+        &rt,
+        &script,
+        &[
+            Peeks(Item(2)),
+            Folds(Err(7)),
+            Peeks(Item(3)),
+            Draws(Item(3)),
+        ],
+    )?;
+    let script = [Ok(Some(1)), Ok(Some(2)), Ok(Some(3))];
+    expect_looks(
+        &rt,
+        &script,
+        &[
+            Peeks(Item(1)),
+            Folds(Err(7)),
+            Peeks(Item(3)),
+            Draws(Item(3)),
+        ],
+    )
+}
+
+#[test]
+fn peek_at_borrowed_items(rt: HostRuntime) -> Result<(), Fail> {
+    let numbers = [1u32, 2];
+    let mut it = convert(numbers.iter().map(|x| Ok::<&u32, u32>(x))).peekable();
+    assert_eq!(rt; it.peek(), Ok(Some(&&1)));
+    expect_answers(&rt, &mut it, &[Item(&1), Item(&2), End])
 }
 
 #[test]
@@ -181,20 +295,18 @@ fn next_if_calls_its_closure_once(rt: HostRuntime) {
     let calls = Cell::new(0u32);
     let answers = [Ok(1), Err(2)];
     let mut it = numbers(&answers).peekable();
-    let refuse = |_x: &u32| {
-        calls.set(calls.get().wrapping_add(1));
-        false
-    };
-    assert_eq!(rt; it.next_if(refuse), Ok(None));
-    assert_eq!(rt; calls.get(), 1);
-    let accept = |_x: &u32| {
-        calls.set(calls.get().wrapping_add(1));
-        true
-    };
-    assert_eq!(rt; it.next_if(accept), Ok(Some(1)));
-    assert_eq!(rt; calls.get(), 2);
-    assert_eq!(rt; it.next_if(accept), Err(2));
-    assert_eq!(rt; calls.get(), 2);
+    let rows = [
+        (false, Ok(None), 1),
+        (true, Ok(Some(1)), 2),
+        (true, Err(2), 2),
+    ];
+    for (accepts, answer, called) in rows {
+        let taken = it.next_if(|_x: &u32| {
+            calls.set(calls.get().wrapping_add(1));
+            accepts
+        });
+        assert_eq!(rt; (taken, calls.get()), (answer, called));
+    }
 }
 
 // A number that counts its comparisons.
@@ -223,91 +335,8 @@ fn next_if_eq_compares_once(rt: HostRuntime) {
         comparisons: &comparisons,
     };
     let mut it = once::<Compared<'_>, u32>(compared(1)).peekable();
-    assert!(rt;
-        it.next_if_eq(&compared(2))
-            .expect(&rt, "no failure")
-            .is_none()
-    );
-    assert_eq!(rt; comparisons.get(), 1);
-    assert!(rt;
-        it.next_if_eq(&compared(1))
-            .expect(&rt, "no failure")
-            .is_some()
-    );
-    assert_eq!(rt; comparisons.get(), 2);
-}
-
-#[test]
-fn peek_and_next_if_hold_the_end_that_they_draw(rt: HostRuntime) {
-    let mut calls = 0u32;
-    let mut it = from_fn(move || {
-        calls = calls.wrapping_add(1);
-        match calls {
-            2 | 4 => Ok::<Option<u32>, u32>(Some(7)),
-            _ => Ok(None),
-        }
-    })
-    .peekable();
-    assert_eq!(rt; it.peek(), Ok(None));
-    assert_eq!(rt; it.peek(), Ok(None));
-    assert_eq!(rt; it.next(), Ok(None));
-    assert_eq!(rt; it.next(), Ok(Some(7)));
-    assert_eq!(rt; it.next_if_eq(&7), Ok(None));
-    assert_eq!(rt; it.peek(), Ok(None));
-    assert_eq!(rt; it.next(), Ok(None));
-    assert_eq!(rt; it.next_if_eq(&7), Ok(Some(7)));
-}
-
-#[test]
-fn a_held_end_ends_one_fold(rt: HostRuntime) {
-    let mut calls = 0u32;
-    let mut it = from_fn(move || {
-        calls = calls.wrapping_add(1);
-        match calls {
-            2 => Ok::<Option<u32>, u32>(Some(7)),
-            _ => Ok(None),
-        }
-    })
-    .take(5)
-    .peekable();
-    assert_eq!(rt; it.peek(), Ok(None));
-    assert_eq!(rt; it.size_hint(), (0, Some(0)));
-    assert_eq!(rt; it.next_if(|_x: &u32| true), Ok(None));
-    assert_eq!(rt; it.try_fold(0, add_up), Ok(0));
-    assert_eq!(rt; it.next(), Ok(Some(7)));
-}
-
-// Stops at 2.
-fn sum_up_to_two(total: u32, x: u32) -> Result<u32, u32> {
-    if x == 2 {
-        Err(7)
-    } else {
-        Ok(total.wrapping_add(x))
+    for (number, is_taken, made) in [(2, false, 1), (1, true, 2)] {
+        let taken = it.next_if_eq(&compared(number)).expect(&rt, "no failure");
+        assert_eq!(rt; (taken.is_some(), comparisons.get()), (is_taken, made));
     }
-}
-
-// What a fold that stops at 2 answers after a peek, with what is looked at before and after it, and the next draw.
-fn peek_and_fold_up_to_two(
-    answers: &[Result<u32, u32>],
-) -> (
-    Result<Option<u32>, u32>,
-    Result<u32, u32>,
-    [Result<Option<u32>, u32>; 2],
-) {
-    let mut it = numbers(answers).peekable();
-    let held = copied(it.peek());
-    let outcome = it.try_fold(0, sum_up_to_two);
-    (held, outcome, [copied(it.peek()), it.next()])
-}
-
-#[test]
-fn a_fold_that_stops_takes_the_held_item(rt: HostRuntime) {
-    assert_eq!(rt;
-        peek_and_fold_up_to_two(&[Ok(2), Ok(3), Ok(4)]),
-        (Ok(Some(2)), Err(7), [Ok(Some(3)), Ok(Some(3))])
-    );
-    assert_eq!(rt;
-        peek_and_fold_up_to_two(&[Ok(1), Ok(2), Ok(3)]),
-        (Ok(Some(1)), Err(7), [Ok(Some(3)), Ok(Some(3))])
-    );
 }
