@@ -1,11 +1,12 @@
 // What `rev` makes of sources and adapters.
 use fallible_iterator::Answer::{Failure, Item};
+use fallible_iterator::Side::{Back, Front};
 use fallible_iterator::{
     DoubleEndedFallibleIterator, FallibleIterator, Fault, IntoFallible, convert,
 };
-use fallible_testing::answered::expect_answers;
 use fallible_testing::closures::{even_thirds, ten_more_of_even};
 use fallible_testing::collected::{expect_collected, expect_source_fault};
+use fallible_testing::expected_numbers::{expect_numbers, expect_numbers_at};
 use fallible_testing::numbers::numbers;
 use std::alloc::{AllocError, Global};
 use std::test::Fail;
@@ -31,28 +32,30 @@ fn letter(c: char) -> Result<char, ()> {
     if c.is_whitespace() { Err(()) } else { Ok(c) }
 }
 
-#[test]
-fn letters_are_counted_up_to_a_space_from_each_end(rt: HostRuntime) {
-    let it = convert("ab cd".chars().map(letter));
-    assert_eq!(rt; it.count(), Err(()));
-    let it = convert("ab cd".chars().map(letter));
-    assert_eq!(rt; it.rev().count(), Err(()));
+// The count of a text's letters from one end, or of all its letters and spaces as elements.
+fn counted_letters(text: &str, from_behind: bool, as_elements: bool) -> Result<usize, ()> {
+    let it = convert(text.chars().map(letter));
+    match (from_behind, as_elements) {
+        (false, false) => it.count(),
+        (true, false) => it.rev().count(),
+        (false, true) => Ok(it.iterator().count()),
+        (true, true) => Ok(it.iterator().rev().count()),
+    }
 }
 
 #[test]
-fn letters_and_spaces_are_counted_as_elements_from_each_end(rt: HostRuntime) {
-    let it = convert("ab cd".chars().map(letter)).iterator();
-    assert_eq!(rt; it.count(), 5);
-    let it = convert("ab cd".chars().map(letter)).iterator();
-    assert_eq!(rt; it.rev().count(), 5);
+fn letters_are_counted_up_to_a_space_and_both_as_elements(rt: HostRuntime) {
+    assert_eq!(rt; counted_letters("ab cd", false, false), Err(()));
+    assert_eq!(rt; counted_letters("ab cd", true, false), Err(()));
+    assert_eq!(rt; counted_letters("ab cd", false, true), Ok(5));
+    assert_eq!(rt; counted_letters("ab cd", true, true), Ok(5));
 }
 
 #[test]
-fn rev_of_rev_draws_the_front(rt: HostRuntime) {
+fn rev_of_rev_draws_the_front(rt: HostRuntime) -> Result<(), Fail> {
     let answers = [Ok(1), Ok(2)];
     let mut it = numbers(&answers).rev().rev();
-    assert_eq!(rt; it.next(), Ok(Some(1)));
-    assert_eq!(rt; it.next_back(), Ok(Some(2)));
+    expect_numbers_at(&rt, &mut it, &[Front, Back], &[Item(1), Item(2)])
 }
 
 // What is collected from behind of the answers that `even_thirds` lets pass.
@@ -103,31 +106,39 @@ fn find_from_behind_meets_the_last_item_first_or_fails(rt: HostRuntime) {
     assert_eq!(rt; found_from_behind(&answers, false), Err(29));
 }
 
-#[test]
-fn map_from_behind(rt: HostRuntime) -> Result<(), Fail> {
-    let answers = [Ok(0), Ok(1), Ok(2), Ok(3), Ok(4)];
-    let it = numbers(&answers).map(|x: u32| Ok(x.wrapping_mul(2)));
-    let made = it.rev().collect::<Vec<u32>>(rt.alloc());
-    expect_collected(made, &[8, 6, 4, 2, 0])
+fn doubled(x: u32) -> Result<u32, u32> {
+    Ok(x.wrapping_mul(2))
 }
 
-#[test]
-fn map_fails_from_both_ends_at_2(rt: HostRuntime) -> Result<(), Fail> {
-    let answers = [Ok(0), Ok(1), Ok(2), Ok(3), Ok(4)];
-    let mut it = numbers(&answers).map(|x: u32| if x == 2 {
+// Twice an item, and a failure of 2.
+fn doubled_but_two(x: u32) -> Result<u32, u32> {
+    if x == 2 {
         Err(0)
     } else {
         Ok(x.wrapping_mul(2))
-    });
+    }
+}
+
+#[test]
+fn map_from_behind_and_where_it_fails_at_2(rt: HostRuntime) -> Result<(), Fail> {
+    let answers = [Ok(0), Ok(1), Ok(2), Ok(3), Ok(4)];
+    let it = numbers(&answers).map(doubled);
+    let made = it.rev().collect::<Vec<u32>>(rt.alloc());
+    expect_collected(made, &[8, 6, 4, 2, 0])?;
+    let mut it = numbers(&answers).map(doubled_but_two);
     let mut clone = it.clone()?.rev();
-    expect_answers(&rt, &mut it, &[Item(0), Item(2), Failure(0)])?;
-    expect_answers(&rt, &mut clone, &[Item(8), Item(6), Failure(0)])
+    expect_numbers(&rt, &mut it, &[Item(0), Item(2), Failure(0)])?;
+    expect_numbers(&rt, &mut clone, &[Item(8), Item(6), Failure(0)])
+}
+
+fn same(e: u32) -> u32 {
+    e
 }
 
 #[test]
 fn map_err_from_behind_fails_with_3(rt: HostRuntime) -> Result<(), Fail> {
     let answers = [Ok(0), Err(1), Ok(2), Err(3)];
-    let it = numbers(&answers).map_err(|e: u32| e);
+    let it = numbers(&answers).map_err(same);
     expect_source_fault(it.rev().collect::<Vec<u32>>(rt.alloc()), 3)
 }
 
