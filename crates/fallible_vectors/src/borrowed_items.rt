@@ -60,7 +60,7 @@ fn lent_pages_are_collected_up_to_a_failure_and_counted(rt: HostRuntime) -> Resu
     Ok(())
 }
 
-// A line or a word is an item.
+// A line or a word is an item. A closure that gives an iterator can't give one over a named function.
 fn found(text: &str) -> Result<&str, ()> {
     Ok(text)
 }
@@ -68,7 +68,11 @@ fn found(text: &str) -> Result<&str, ()> {
 // How many words the lines of the text have, up to 9.
 fn counted_words(text: &str) -> Result<usize, ()> {
     convert(text.lines().map(found).fuse())
-        .flat_map(|line: &str| Ok(convert(line.split_whitespace().map(found).fuse())))
+        .flat_map(|line: &str| Ok(convert(
+            line.split_whitespace()
+                .map(|word| Ok::<&str, ()>(word))
+                .fuse(),
+        )))
         .take(9)
         .count()
 }
@@ -76,7 +80,9 @@ fn counted_words(text: &str) -> Result<usize, ()> {
 // The first word of the text.
 fn first_word<'a>(text: &'a str) -> Result<Option<&'a str>, ()> {
     let mut words = convert(text.lines().map(found).fuse()).flat_map(|line: &str| Ok(convert(
-        line.split_whitespace().map(found).fuse(),
+        line.split_whitespace()
+            .map(|word| Ok::<&str, ()>(word))
+            .fuse(),
     )));
     words.next()
 }
