@@ -8,7 +8,11 @@ copy=$(mktemp -d)
 trap 'rm -rf "$copy"' EXIT
 git archive HEAD | tar -x -C "$copy"
 cd "$copy"
-cp -r release/pairs/. crates/scripts
+# (the gate takes no .rt file that it doesn't read)
+for file in release/pairs/*.rt.txt; do
+    cp "$file" "crates/scripts/src/$(basename "$file" .txt)"
+done
+cp release/pairs/stdout crates/scripts/stdout
 cd crates/scripts
 # What the program does not name is a file that no build reads, which the toolchain refuses.
 for file in src/*.rt; do
