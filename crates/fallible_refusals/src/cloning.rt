@@ -33,7 +33,7 @@ fn refused_clones_of_sources(rt: HostRuntime) -> Result<(), Fail> {
 }
 
 #[test]
-fn refused_clones_of_sources_of_one_answer(rt: HostRuntime) -> Result<(), Fail> {
+fn refused_clones_of_empty_once_and_once_err(rt: HostRuntime) -> Result<(), Fail> {
     let r = Requests::refusing(u32::MAX);
     let mut it = empty::<u32, TestError>();
     expect_refused_clones(&rt, "Empty", &mut it, &r, 0, &[End])?;
@@ -42,7 +42,12 @@ fn refused_clones_of_sources_of_one_answer(rt: HostRuntime) -> Result<(), Fail> 
     expect_refused_clones(&rt, "Once", &mut it, &r, 1, &expected)?;
     let mut it = once_err::<u32, Failure<'_>>(Failure::Own(Number::new(4, &r)));
     let expected = [Answer::Failure(Failure::Own(Number::new(4, &r))), End];
-    expect_refused_clones(&rt, "OnceErr", &mut it, &r, 1, &expected)?;
+    expect_refused_clones(&rt, "OnceErr", &mut it, &r, 1, &expected)
+}
+
+#[test]
+fn refused_clones_of_repeat_and_repeat_err(rt: HostRuntime) -> Result<(), Fail> {
+    let r = Requests::refusing(u32::MAX);
     let mut it = repeat::<Number<'_>, TestError>(Number::new(5, &r));
     let expected = [Item(Number::new(5, &r)), Item(Number::new(5, &r))];
     expect_refused_clones(&rt, "Repeat", &mut it, &r, 1, &expected)?;
