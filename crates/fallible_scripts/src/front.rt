@@ -196,7 +196,7 @@ fn end_above_five(_: &mut (), x: u32) -> Result<Option<u32>, u32> {
 }
 
 #[test]
-fn enumerate_folds_and_reaches_by_one_fold_and_counts_on(rt: HostRuntime) -> Result<(), Fail> {
+fn enumerate_folds_by_one_fold_and_counts_on(rt: HostRuntime) {
     let log = Log::new();
     let answers = [Ok(5), Ok(6), Ok(7)];
     let mut it = counted(&answers, &log).enumerate();
@@ -204,37 +204,39 @@ fn enumerate_folds_and_reaches_by_one_fold_and_counts_on(rt: HostRuntime) -> Res
         (it.try_fold(0, stop_at_one), it.next(), log.calls()),
         (Err(6), Ok(Some((2, 7))), Calls::none().nexts(1).folds(1))
     );
-    let (items, failing) = ([Ok(5), Ok(6)], [Ok(5), Err(9), Ok(6)]);
-    let (log, failures) = (Log::new(), Log::new());
-    let mut it = counted(&items, &log).enumerate();
-    let mut failed = counted(&failing, &failures).enumerate();
-    let one_next = Calls::none().nexts(1).folds(1);
-    expect_rows(&[
-        (
-            (it.nth(1), log.calls()),
-            (Ok(Some((1, 6))), Calls::none().folds(1)),
-        ),
-        ((it.nth(0), log.calls()), (Ok(None), Calls::none().folds(2))),
-        // What came before a failure is counted.
-        (
-            (failed.nth(1), failures.calls()),
-            (Err(9), Calls::none().folds(1)),
-        ),
-        (
-            (failed.next(), failures.calls()),
-            (Ok(Some((1, 6))), one_next),
-        ),
-    ])?;
-    // What came before an end is counted.
+}
+
+#[test]
+fn enumerate_reaches_by_one_fold(rt: HostRuntime) {
+    let log = Log::new();
+    let answers = [Ok(5), Ok(6)];
+    let mut it = counted(&answers, &log).enumerate();
+    assert_eq!(rt; it.nth(1), Ok(Some((1, 6))));
+    assert_eq!(rt; log.calls(), Calls::none().folds(1));
+    assert_eq!(rt; it.nth(0), Ok(None));
+    assert_eq!(rt; log.calls(), Calls::none().folds(2));
+}
+
+#[test]
+fn enumerate_nth_counts_what_came_before_a_failure(rt: HostRuntime) {
+    let log = Log::new();
+    let answers = [Ok(5), Err(9), Ok(6)];
+    let mut it = counted(&answers, &log).enumerate();
+    assert_eq!(rt; it.nth(1), Err(9));
+    assert_eq!(rt; log.calls(), Calls::none().folds(1));
+    assert_eq!(rt; it.next(), Ok(Some((1, 6))));
+    assert_eq!(rt; log.calls(), Calls::none().nexts(1).folds(1));
+}
+
+#[test]
+fn enumerate_nth_counts_what_came_before_an_end(rt: HostRuntime) {
     let log = Log::new();
     let answers = [Ok(1), Ok(2), Ok(9), Ok(3)];
     let it = numbers(&answers).scan((), end_above_five);
     let mut it = Counted::new(it, &log).enumerate();
-    assert_eq!(rt;
-        (it.nth(3), it.next(), log.calls()),
-        (Ok(None), Ok(Some((2, 3))), Calls::none().nexts(1).folds(1))
-    );
-    Ok(())
+    assert_eq!(rt; it.nth(3), Ok(None));
+    assert_eq!(rt; it.next(), Ok(Some((2, 3))));
+    assert_eq!(rt; log.calls(), Calls::none().nexts(1).folds(1));
 }
 
 #[test]
