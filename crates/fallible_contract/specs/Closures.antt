@@ -1,5 +1,5 @@
 -- Calls of stored closures, which may keep state: `call f x r g` says that the closure f, called on x, may answer r and is then g.
-use Rattle.std.specs.Prelude.{◌≡◌, List, Option, IsSomeAnd, All}
+use Rattle.std.specs.Prelude.{◌≡◌, List, All}
 use Rattle.std.specs.List.{FoldsTo}
 use Rattle.std.specs.Fn.{Called, CalledAt, Takes, TakesAt, Mut}
 use Rattle.std.specs.Borrow.{Bor}
@@ -32,14 +32,6 @@ module _ {F X R : Type 0} (call : F → X → R → F → Type 0) where
     pub given : P argument
     pub called : call state argument answer left
     pub says : Q argument answer
-
--- A stored closure stands in a slot that is empty only during a call. One call of the closure in its slot.
-abbrev pub call_in : {F X R : Type 0} → (F → X → R → F → Type 0) → Option F → X → R → Option F → Type 0
-call_in call p x r q = IsSomeAnd p (λ f. IsSomeAnd q (λ g. call f x r g))
-
--- The slot is full, and the closure in it may be called on each argument of which P holds.
-abbrev pub IsCallableIn : {F X R : Type 0} → (F → X → R → F → Type 0) → (F → X → Type 0) → (X → Type 0) → Option F → Type 0
-IsCallableIn call pre P slot = IsSomeAnd slot (λ f. IsCallable call pre P f)
 
 -- one call on an item itself, which may answer so and leave the closure so
 abbrev pub call_on : {F A R : Type 0} → Mut F (A × Unit {0}) R → F → A → R → F → Type 0

@@ -2,9 +2,7 @@
 pub mod Keyed
 use Rattle.std.specs.Prelude.{◌≡◌, Bool, cond, List, [], ◌∷◌, ◌++◌, map, Result, Ok, Err, ◌⊎◌}
 use Rattle.std.specs.List.{FoldsTo}
-use Rattle.std.specs.Borrow.{MutBor}
 use Rattle.fallible_contract.specs.Traces.{Answered, Run, item, end, failure}
-use Rattle.fallible_contract.specs.Folds.{TurnBehind}
 use Rattle.std.specs.declared.ops.ControlFlow.{ControlFlow}
 use Rattle.std.specs.declared.ops.ControlFlow.TheVariants.{Continue, Break}
 use Rattle.std.specs.declared.alloc.AllocError.{AllocError}
@@ -42,14 +40,10 @@ Collects steps made empty_refuses refuses s (Ok c) = CollectsAll steps made s c
 Collects steps made empty_refuses refuses s (Err (Source e)) = FailsWith steps made s e
 Collects steps made empty_refuses refuses s (Err (Memory a)) = empty_refuses ⊎ RefusesItem steps made refuses s
 
--- one push: the collection of the items and one more, or a refusal
-abbrev pub IsCollectTurn : {A C : Type 0} → (List A → C → Type 0) → (C → A → Type 0) → C → A → ControlFlow AllocError C → Type 0
-IsCollectTurn {A} made refuses c x (Continue d) = (items : List A) → made items c → made (items ++ x ∷ []) d
-IsCollectTurn made refuses c x (Break a) = refuses c x
-
--- One push through a reference: the collection behind it takes the item, and the same reference is handed back; or it refuses the item.
-abbrev pub IsCollectTurnBehind : {A C : Type 0} → (List A → C → Type 0) → (C → A → Type 0) → MutBor C → A → ControlFlow AllocError (MutBor C) → Type 0
-IsCollectTurnBehind made refuses = TurnBehind (λ c. c.now) (λ c. c.ghost_name) (IsCollectTurn made refuses)
+-- one push: the collection of the items becomes one of the items and one more, or refuses it
+abbrev pub IsCollectTurn : {A C : Type 0} → (List A → C → Type 0) → (C → A → Type 0) → C → A → ControlFlow AllocError (Unit {0}) → C → Type 0
+IsCollectTurn {A} made refuses c x (Continue u) d = (items : List A) → made items c → made (items ++ x ∷ []) d
+IsCollectTurn made refuses c x (Break a) d = refuses c x
 
 -- ---- partition
 
@@ -85,14 +79,10 @@ module _ {A E F B : Type 0} (call : F → A → Result Bool E → F → Type 0) 
   SideRefuses refuses c x = (v : Bool) × (g : F) × call c.0 x (Ok v) g × refuses (cond v c.1.0 c.1.1) x
 
   -- One turn: the closure is called on the item, which is pushed to the side of the answer; or the closure fails, or the item is refused.
-  abbrev pub IsPartitionTurn : (List A → B → Type 0) → (B → A → Type 0) → F × (B × B) → A → ControlFlow (Fault E) (F × (B × B)) → Type 0
-  IsPartitionTurn made refuses c x (Continue d) = (v : Bool) × call c.0 x (Ok v) d.0 × ((xs ys : List A) → made xs c.1.0 → made ys c.1.1 → made (cond v (xs ++ x ∷ []) xs) d.1.0 × made (cond v ys (ys ++ x ∷ [])) d.1.1)
-  IsPartitionTurn made refuses c x (Break (Source e)) = ClosureFails e c x
-  IsPartitionTurn made refuses c x (Break (Memory a)) = SideRefuses refuses c x
-
-  -- The same turn through a reference to both collections.
-  abbrev pub IsPartitionTurnBehind : (List A → B → Type 0) → (B → A → Type 0) → F × MutBor (B × B) → A → ControlFlow (Fault E) (F × MutBor (B × B)) → Type 0
-  IsPartitionTurnBehind made refuses = TurnBehind (λ c. (c.0, c.1.now)) (λ c. c.1.ghost_name) (IsPartitionTurn made refuses)
+  abbrev pub IsPartitionTurn : (List A → B → Type 0) → (B → A → Type 0) → F × (B × B) → A → ControlFlow (Fault E) (Unit {0}) → F × (B × B) → Type 0
+  IsPartitionTurn made refuses c x (Continue u) d = (v : Bool) × call c.0 x (Ok v) d.0 × ((xs ys : List A) → made xs c.1.0 → made ys c.1.1 → made (cond v (xs ++ x ∷ []) xs) d.1.0 × made (cond v ys (ys ++ x ∷ [])) d.1.1)
+  IsPartitionTurn made refuses c x (Break (Source e)) d = ClosureFails e c x
+  IsPartitionTurn made refuses c x (Break (Memory a)) d = SideRefuses refuses c x
 
 -- What `partition` answers: both collections, made of all items up to an end; the first failure of the source or the closure, before which both were made of the items; or want of memory, where making an empty collection may be refused, or an item was refused.
 abbrev pub Partitions : {S A E F B : Type 0} → (S → Answered A E → S → Type 0) → (F → A → Result Bool E → F → Type 0) → (List A → B → Type 0) → Type 0 → (B → A → Type 0) → S → F → Result (B × B) (Fault E) → Type 0
@@ -110,13 +100,9 @@ module _ {A B C D : Type 0} (made_first : List A → C → Type 0) (made_second 
   module _ (first_refuses : C → A → Type 0) (second_refuses : D → B → Type 0) where
     -- The first collection refuses the first part; or it takes it, and the second collection refuses the second part.
     abbrev pub PairRefused : C × D → A × B → Type 0
-    PairRefused c x = first_refuses c.0 x.0 ⊎ ((d : C) × IsCollectTurn made_first first_refuses c.0 x.0 (Continue d) × second_refuses c.1 x.1)
+    PairRefused c x = first_refuses c.0 x.0 ⊎ ((d : C) × IsCollectTurn made_first first_refuses c.0 x.0 (Continue tt) d × second_refuses c.1 x.1)
 
     -- One turn: the first part is pushed to the first collection, and then the second part to the second; or the pair is refused.
-    abbrev pub IsUnzipTurn : C × D → A × B → ControlFlow AllocError (C × D) → Type 0
-    IsUnzipTurn c x (Continue d) = IsCollectTurn made_first first_refuses c.0 x.0 (Continue d.0) × IsCollectTurn made_second second_refuses c.1 x.1 (Continue d.1)
-    IsUnzipTurn c x (Break a) = PairRefused c x
-
-    -- The same turn through a reference to both collections.
-    abbrev pub IsUnzipTurnBehind : MutBor (C × D) → A × B → ControlFlow AllocError (MutBor (C × D)) → Type 0
-    IsUnzipTurnBehind = TurnBehind (λ c. c.now) (λ c. c.ghost_name) IsUnzipTurn
+    abbrev pub IsUnzipTurn : C × D → A × B → ControlFlow AllocError (Unit {0}) → C × D → Type 0
+    IsUnzipTurn c x (Continue u) d = IsCollectTurn made_first first_refuses c.0 x.0 (Continue tt) d.0 × IsCollectTurn made_second second_refuses c.1 x.1 (Continue tt) d.1
+    IsUnzipTurn c x (Break a) d = PairRefused c x

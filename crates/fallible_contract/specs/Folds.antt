@@ -1,12 +1,19 @@
 -- Folds.
-use Rattle.std.specs.Prelude.{◌≡◌, ℕ, ◌+◌, ◌≤◌, length, List, [], ◌∷◌, ◌++◌, map, Option, Result, Some, None, Ok, Err, ⊤}
+use Rattle.std.specs.Prelude.{◌≡◌, ℕ, ◌+◌, ◌≤◌, length, List, [], ◌∷◌, ◌++◌, map, Option, Result, Some, None, Ok, Err, ⊤, IsSomeAnd}
 use Rattle.std.specs.List.{FoldsTo, last_or}
 use Rattle.std.specs.Fn.{Called, Takes, Mut}
 use Rattle.fallible_contract.specs.Traces.{Answered, Run, Yields, item}
 use Rattle.std.specs.declared.ops.ControlFlow.{ControlFlow}
 use Rattle.std.specs.declared.ops.ControlFlow.TheVariants.{Continue, Break}
-use Rattle.fallible_contract.specs.declared.folds.Exit.{Exit}
-use Rattle.fallible_contract.specs.declared.folds.Exit.TheVariants.{Ended, Failed, Stopped}
+use Rattle.std.specs.Borrow.{GName}
+use Rattle.fallible_contract.specs.declared.folds.Beside.{Beside}
+
+-- Draws answered items and then a last answer, and left t. `came` holds of the items and that answer.
+pub record Drained {S A E : Type 0} (steps : S → Answered A E → S → Type 0) (came : List A → Answered A E → Type 0) (s t : S) : Type 0 where
+  pub items : List A
+  pub last : Answered A E
+  pub ran : Run steps s (map item items ++ last ∷ []) t
+  pub at : came items last
 
 -- P holds of each item that may come after items on which the turns went on, with what they made by then
 pub record HoldsAtEachTurn {S A E C : Type 0} (steps : S → Answered A E → S → Type 0) (goes_on : C → A → C → Type 0) (P : C → A → Type 0) (s : S) (c : C) : Type 0 where
@@ -27,10 +34,21 @@ module _ {A F B E' : Type 0} (call : F → B → A → Result B E' → F → Typ
   abbrev pub went_on_with : B × F → A → B × F → Type 0
   went_on_with p x q = call p.1 p.0 x (Ok q.0) q.1
 
-  -- one call, seen by the fold that carries the value and the closure
-  abbrev pub IsFoldTurn : B × F → A → ControlFlow E' (B × F) → Type 0
-  IsFoldTurn p x (Continue q) = went_on_with p x q
-  IsFoldTurn p x (Break e') = (f' : F) × call p.1 p.0 x (Err e') f'
+  -- One call, as the turn of a fold whose state is the value and the closure. Where the closure fails, the value is lost.
+  abbrev pub IsFoldTurn : B × F → A → ControlFlow E' (Unit {0}) → B × F → Type 0
+  IsFoldTurn p x (Continue u) q = went_on_with p x q
+  IsFoldTurn p x (Break e') q = call p.1 p.0 x (Err e') q.1
+
+  -- the same, where the value stands in a slot that is full before each turn
+  abbrev pub IsFoldTurnInSlot : Option B × F → A → ControlFlow E' (Unit {0}) → Option B × F → Type 0
+  IsFoldTurnInSlot (None, f) x r q = ⊥
+  IsFoldTurnInSlot (Some b, f) x (Continue u) q = IsSomeAnd q.0 (λ d. call f b x (Ok d) q.1)
+  IsFoldTurnInSlot (Some b, f) x (Break e') q = call f b x (Err e') q.1
+
+-- a turn with the value in its slot may be taken where the closure may be called on it
+abbrev pub takes_in_slot : {A F B : Type 0} → (F → B → A → Type 0) → Option B × F → A → Type 0
+takes_in_slot takes (None, f) x = ⊥
+takes_in_slot takes (Some b, f) x = takes f b x
 
 -- One call of a fold from the first item on: that item is the value so far, without a call, and from then on the closure is called on the value so far and the next item.
 abbrev pub ReduceCall : {A F E : Type 0} → (F → A → A → Result A E → F → Type 0) → F → Option A → A → Result (Option A) E → F → Type 0
@@ -57,71 +75,53 @@ module _ {S A E F B E' : Type 0} (steps : S → Answered A E → S → Type 0) (
   CallableInFold takes s f b = HoldsAtEachTurn {C = B × F} steps (went_on_with call) (λ p x. takes p.1 p.0 x) s (b, f)
 
   -- The closure was called on the items in order, each call with the value so far, b at first, and went on. Then came the last answer: an end, a failure, or an item on which the closure failed. The draws answered the items and the last answer, and left t.
-  pub record Folded (from : E → E' → Type 0) (s : S) (b : B) (f : F) (r : Result B E') (t : S) : Type 0 where
-    pub items : List A
-    pub last : Answered A E
-    pub value : B
-    pub closure : F
-    pub ran : Run steps s (map item items ++ last ∷ []) t
-    pub went : FoldsTo {P = B × F} (went_on_with call) (b, f) items (value, closure)
-    pub exit : FoldExit call from value closure last r
+  abbrev pub Folded : (E → E' → Type 0) → S → B → F → Result B E' → S → Type 0
+  Folded from s b f r t = Drained steps (λ items last. (p : B × F) × FoldsTo {P = B × F} (went_on_with call) (b, f) items p × FoldExit call from p.0 p.1 last r) s t
 
--- ---- the fold that carries a value, which every other one goes through
+-- ---- the fold that every other one goes through
 
--- `turns c x r` says that one turn on the carried value c and the item x may answer r: `Continue` with what is carried on, or `Break` where the fold stops.
-module _ {A C R : Type 0} (turns : C → A → ControlFlow R C → Type 0) where
+-- `turns c x r d` says that one turn on the state c and the item x may answer r and leave d: `Continue`, or `Break` where the fold stops.
+module _ {A C R : Type 0} (turns : C → A → ControlFlow R (Unit {0}) → C → Type 0) where
   -- one turn that went on
-  abbrev pub carrying_turn : C → A → C → Type 0
-  carrying_turn c x d = turns c x (Continue d)
+  abbrev pub goes_on : C → A → C → Type 0
+  goes_on c x d = turns c x (Continue tt) d
 
-module _ {A E C R : Type 0} (turns : C → A → ControlFlow R C → Type 0) where
-  -- an end and a failure hand the carried value back; where a turn stops, what it stopped with
-  abbrev pub CarryingExit : C → Answered A E → Exit C E R → Type 0
-  CarryingExit c (Ok None) r = r ≡ Ended c
-  CarryingExit c (Err e) r = r ≡ Failed c e
-  CarryingExit c (Ok (Some x)) r = (stop : R) × turns c x (Break stop) × (r ≡ Stopped stop)
+  -- the fold's answer by the last draw: an end, the failure, or what the turn on the item stopped with
+  abbrev pub DriveExit : {E : Type 0} → C → Answered A E → Answered R E → C → Type 0
+  DriveExit c (Ok None) r d = (r ≡ Ok None) × (d ≡ c)
+  DriveExit c (Err e) r d = (r ≡ Err e) × (d ≡ c)
+  DriveExit c (Ok (Some x)) r d = (stop : R) × turns c x (Break stop) d × (r ≡ Ok (Some stop))
 
-module _ {S A E C R : Type 0} (steps : S → Answered A E → S → Type 0) (turns : C → A → ControlFlow R C → Type 0) where
-  -- a turn may be taken on the carried value and each item that may come
-  abbrev pub CallableCarrying : (C → A → Type 0) → S → C → Type 0
-  CallableCarrying can s c = HoldsAtEachTurn steps (carrying_turn turns) can s c
+module _ {S A E C R : Type 0} (steps : S → Answered A E → S → Type 0) (turns : C → A → ControlFlow R (Unit {0}) → C → Type 0) where
+  -- a turn may be taken on the state and each item that may come
+  abbrev pub CallableDriving : (C → A → Type 0) → S → C → Type 0
+  CallableDriving can s c = HoldsAtEachTurn steps (goes_on turns) can s c
 
-  -- Turns on the items in order, each with the value carried so far, went on; then came the last answer.
-  pub record Carried (s : S) (c : C) (r : Exit C E R) (t : S) : Type 0 where
-    pub items : List A
-    pub last : Answered A E
-    pub carried : C
-    pub ran : Run steps s (map item items ++ last ∷ []) t
-    pub went : FoldsTo (carrying_turn turns) c items carried
-    pub exit : CarryingExit turns carried last r
+  -- Turns on the items in order, from the state c on, went on. Then came the last answer. The fold answered r, and left t of the source and d of the state.
+  abbrev pub Driven : S → C → Answered R E → S → C → Type 0
+  Driven s c r t d = Drained steps (λ items last. (z : C) × FoldsTo (goes_on turns) c items z × DriveExit turns z last r d) s t
 
--- One turn on a value that holds references: what `behind` reads of it goes as in `turns`, and a turn that goes on hands the same references back, which `names` tells.
-abbrev pub TurnBehind : {X N A C R : Type 0} → (X → C) → (X → N) → (C → A → ControlFlow R C → Type 0) → X → A → ControlFlow R X → Type 0
-TurnBehind behind names turns c x (Continue d) = turns (behind c) x (Continue (behind d)) × (names d ≡ names c)
-TurnBehind behind names turns c x (Break stop) = turns (behind c) x (Break stop)
+-- One turn on a state that holds references: what `behind` reads of it goes as in `turns`, and the references stay the same, which `names` tells.
+abbrev pub TurnBehind : {X N A C R : Type 0} → (X → C) → (X → N) → (C → A → ControlFlow R (Unit {0}) → C → Type 0) → X → A → ControlFlow R (Unit {0}) → X → Type 0
+TurnBehind behind names turns b x r d = turns (behind b) x r (behind d) × (names d ≡ names b)
+
+-- the caller's state beside the adapter's, and the names of the references to both
+abbrev pub beside : {C P : Type 0} → Beside C P → C × P
+beside b = (b.c.now, b.p.now)
+
+abbrev pub beside_names : {C P : Type 0} → Beside C P → GName × GName
+beside_names b = (b.c.ghost_name, b.p.ghost_name)
 
 -- the answer at which a fold stopped
 abbrev pub stopped_answer : {B E : Type 0} → Result B E → Answered B E
 stopped_answer (Ok y) = Ok (Some y)
 stopped_answer (Err e) = Err e
 
--- what a fold that stops at an answer hands back at each exit: the value carried, and the answer
-abbrev pub unpacked : {C B E : Type 0} → Exit C E (C × Result B E) → C × Answered B E
-unpacked (Ended c) = (c, Ok None)
-unpacked (Failed c e) = (c, Err e)
-unpacked (Stopped p) = (p.0, stopped_answer p.1)
-
--- What a fold hands back that no turn stops: the value carried at the end, or the failure.
-abbrev pub ValueAt : {C E R : Type 0} → Exit C E R → Result C E → Type 0
-ValueAt (Ended c) r = r ≡ Ok c
-ValueAt (Failed c e) r = r ≡ Err e
-ValueAt (Stopped s) r = ⊥
-
--- What `try_fold` makes of the fold that carries the value and the closure: the last value, the failure, converted, or the closure's error.
-abbrev pub FoldedAt : {B F D E : Type 0} → (D → E → Type 0) → Exit (B × F) D E → Result B E → Type 0
-FoldedAt from (Ended p) r = r ≡ Ok p.0
-FoldedAt {E = E} from (Failed p d) r = (e : E) × from d e × (r ≡ Err e)
-FoldedAt from (Stopped e) r = r ≡ Err e
+-- What is answered by a fold of the source whose turn stops with an answer: that answer, or the source's end or failure.
+abbrev pub within : {R E : Type 0} → Answered (Answered R E) E → Answered R E
+within (Ok (Some answer)) = answer
+within (Ok None) = Ok None
+within (Err e) = Err e
 
 -- ---- count
 
@@ -132,12 +132,8 @@ CountExit n (Err e) r = r ≡ Err e
 CountExit n (Ok (Some x)) r = ⊥
 
 -- The draws from s answered items and then an end or a failure; the result is the number of the items, or the failure.
-pub record Counted {S A E : Type 0} (steps : S → Answered A E → S → Type 0) (s : S) (r : Result ℕ E) : Type 0 where
-  pub items : List A
-  pub last : Answered A E
-  pub left : S
-  pub ran : Run steps s (map item items ++ last ∷ []) left
-  pub exit : CountExit (length items) last r
+abbrev pub Counted : {S A E : Type 0} → (S → Answered A E → S → Type 0) → S → Result ℕ E → Type 0
+Counted {S = S} steps s r = (left : S) × Drained steps (λ items last. CountExit (length items) last r) s left
 
 -- ---- last
 
@@ -148,12 +144,8 @@ LastExit items (Err e) r = r ≡ Err e
 LastExit items (Ok (Some x)) r = ⊥
 
 -- The draws from s answered items and then an end or a failure; the result is the last of the items, none of no items, or the failure.
-pub record LastOf {S A E : Type 0} (steps : S → Answered A E → S → Type 0) (s : S) (r : Result (Option A) E) : Type 0 where
-  pub items : List A
-  pub last : Answered A E
-  pub left : S
-  pub ran : Run steps s (map item items ++ last ∷ []) left
-  pub exit : LastExit items last r
+abbrev pub LastOf : {S A E : Type 0} → (S → Answered A E → S → Type 0) → S → Result (Option A) E → Type 0
+LastOf {S = S} steps s r = (left : S) × Drained steps (λ items last. LastExit items last r) s left
 
 -- ---- nth
 
@@ -164,18 +156,10 @@ NthExit n skipped (Ok None) = skipped ≤ n
 NthExit n skipped (Err e) = skipped ≤ n
 
 -- The draws from s answered the skipped items and then r, the first answer that is the item with n items before it, a failure, or an end. They left t.
-pub record Nth {S A E : Type 0} (steps : S → Answered A E → S → Type 0) (s : S) (n : ℕ) (r : Answered A E) (t : S) : Type 0 where
-  pub skipped : List A
-  pub ran : Run steps s (map item skipped ++ r ∷ []) t
-  pub exit : NthExit n (length skipped) r
+abbrev pub Nth : {S A E : Type 0} → (S → Answered A E → S → Type 0) → S → ℕ → Answered A E → S → Type 0
+Nth steps s n r t = Drained steps (λ skipped last. (last ≡ r) × NthExit n (length skipped) r) s t
 
 -- One turn of an `nth` that is one fold, where n items are still to be passed over: it passes over one of them, or stops with the item where there are none.
-abbrev pub IsNthTurn : {A : Type 0} → ℕ → A → ControlFlow A ℕ → Type 0
-IsNthTurn n x (Continue k) = n ≡ k + 1
-IsNthTurn n x (Break y) = (n ≡ 0) × (y ≡ x)
-
--- What a draw answers that is a fold which stops with an item: that item, none at the end, or the failure.
-abbrev pub reached_at : {C A E : Type 0} → Exit C E A → Answered A E
-reached_at (Ended c) = Ok None
-reached_at (Failed c e) = Err e
-reached_at (Stopped x) = Ok (Some x)
+abbrev pub IsNthTurn : {A : Type 0} → ℕ → A → ControlFlow A (Unit {0}) → ℕ → Type 0
+IsNthTurn n x (Continue u) k = n ≡ k + 1
+IsNthTurn n x (Break y) k = (n ≡ 0) × (y ≡ x) × (k ≡ n)

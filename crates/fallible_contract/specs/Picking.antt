@@ -5,7 +5,7 @@ use Rattle.std.specs.Fn.{CalledAtTwo, TakesAtTwo, Mut}
 use Rattle.std.specs.Borrow.{Bor}
 use Rattle.fallible_contract.specs.Traces.{Answered, Run, item}
 use Rattle.fallible_contract.specs.Closures.{Calls}
-use Rattle.fallible_contract.specs.Folds.{Folded}
+use Rattle.fallible_contract.specs.Folds.{Drained, Folded}
 use Rattle.std.specs.declared.cmp.Ordering.{Ordering}
 use Rattle.std.specs.declared.cmp.Ordering.TheVariants.{Less, Equal, Greater}
 
@@ -132,12 +132,8 @@ module _ {A : Type 0} (keeps : Ordering) (cmp : A → A → Ordering) where
   BestExit items (Ok (Some x)) r = ⊥
 
   -- The draws answered items and then an end or a failure; the result is the best of them, or the failure.
-  pub record Best {S E : Type 0} (steps : S → Answered A E → S → Type 0) (s : S) (r : Result (Option A) E) : Type 0 where
-    pub items : List A
-    pub last : Answered A E
-    pub left : S
-    pub ran : Run steps s (map item items ++ last ∷ []) left
-    pub exit : BestExit items last r
+  abbrev pub Best : {S E : Type 0} → (S → Answered A E → S → Type 0) → S → Result (Option A) E → Type 0
+  Best {S = S} steps s r = (left : S) × Drained steps (λ items last. BestExit items last r) s left
 
 -- ---- by an order of keys
 

@@ -1,12 +1,10 @@
 -- Searches: a closure is called on the items in order, until it decides.
-use Rattle.std.specs.Prelude.{◌≡◌, ℕ, ◌+◌, length, List, [], ◌∷◌, ◌++◌, map, Bool, true, false, Option, Some, None, Result, Ok, Err}
+use Rattle.std.specs.Prelude.{◌≡◌, ℕ, ◌+◌, length, Bool, true, false, Option, Some, None, Result, Ok, Err}
 use Rattle.std.specs.List.{FoldsTo}
-use Rattle.fallible_contract.specs.Traces.{Answered, Run, item}
-use Rattle.fallible_contract.specs.Folds.{HoldsAtEachTurn, stopped_answer}
+use Rattle.fallible_contract.specs.Traces.{Answered}
+use Rattle.fallible_contract.specs.Folds.{Drained, HoldsAtEachTurn, stopped_answer}
 use Rattle.std.specs.declared.ops.ControlFlow.{ControlFlow}
 use Rattle.std.specs.declared.ops.ControlFlow.TheVariants.{Continue, Break}
-use Rattle.fallible_contract.specs.declared.folds.Exit.{Exit}
-use Rattle.fallible_contract.specs.declared.folds.Exit.TheVariants.{Ended, Failed, Stopped}
 
 -- ---- what each search picks: `pick n x v` is its answer where the closure answers v on x, the item with n items before it, and none where it goes on
 
@@ -49,15 +47,15 @@ module _ {A E F V R : Type 0} (call : F → A → Result V E → F → Type 0) (
   Decided n f x (Ok z) g = (v : V) × call f x (Ok v) g × (pick n x v ≡ Some z)
   Decided n f x (Err e) g = call f x (Err e) g
 
-  -- one call, seen by the fold that carries the closure
-  abbrev pub IsSearchTurn : F → A → ControlFlow (Result R E) F → Type 0
-  IsSearchTurn f x (Continue g) = Passed f x g
-  IsSearchTurn f x (Break r) = (g : F) × ((n : ℕ) → Decided n f x r g)
+  -- one call, as the turn of a fold whose state is the closure
+  abbrev pub IsSearchTurn : F → A → ControlFlow (Result R E) (Unit {0}) → F → Type 0
+  IsSearchTurn f x (Continue u) g = Passed f x g
+  IsSearchTurn f x (Break r) g = (n : ℕ) → Decided n f x r g
 
-  -- one call, seen by the fold that carries the number of items before, and the closure
-  abbrev pub IsPositionTurn : ℕ × F → A → ControlFlow (Result R E) (ℕ × F) → Type 0
-  IsPositionTurn p x (Continue q) = (q.0 ≡ p.0 + 1) × Passed p.1 x q.1
-  IsPositionTurn p x (Break r) = (g : F) × Decided p.0 p.1 x r g
+  -- one call, as the turn of a fold whose state is the number of items before, and the closure
+  abbrev pub IsPositionTurn : ℕ × F → A → ControlFlow (Result R E) (Unit {0}) → ℕ × F → Type 0
+  IsPositionTurn p x (Continue u) q = (q.0 ≡ p.0 + 1) × Passed p.1 x q.1
+  IsPositionTurn p x (Break r) q = Decided p.0 p.1 x r q.1
 
   -- The answer r by the last draw, with n items before it: `none` at an end; the failure; what the closure decided on the item. It leaves the closure as g.
   abbrev pub SearchExit : R → ℕ → F → Answered A E → Result R E → F → Type 0
@@ -71,21 +69,22 @@ module _ {A E F V R : Type 0} (call : F → A → Result V E → F → Type 0) (
     CallableInSearch takes s f = HoldsAtEachTurn steps Passed takes s f
 
     -- The closure was called on the items in order, and the search went on. Then came the last answer: an end, a failure, or an item on which the closure decided or failed. The draws left t, and the calls g.
-    pub record Searched (none : R) (s : S) (f : F) (r : Result R E) (t : S) (g : F) : Type 0 where
-      pub items : List A
-      pub last : Answered A E
-      pub closure : F
-      pub ran : Run steps s (map item items ++ last ∷ []) t
-      pub went : FoldsTo Passed f items closure
-      pub exit : SearchExit none (length items) closure last r g
+    abbrev pub Searched : R → S → F → Result R E → S → F → Type 0
+    Searched none s f r t g = Drained steps (λ items last. (h : F) × FoldsTo Passed f items h × SearchExit none (length items) h last r g) s t
 
--- what a search answers, by how its fold ended
-abbrev pub answer_by : {C E R : Type 0} → R → Exit C E (Result R E) → Result R E
-answer_by none (Ended c) = Ok none
-answer_by none (Failed c e) = Err e
-answer_by none (Stopped r) = r
+-- what a search answers, by what its fold answered, which stops with the answer
+abbrev pub answer_by : {E R : Type 0} → R → Answered (Result R E) E → Result R E
+answer_by none (Ok None) = Ok none
+answer_by none (Err e) = Err e
+answer_by none (Ok (Some r)) = r
 
--- One test, seen by the fold that `find` is: the test goes on, or it ends the search with the item or its failure, and hands back what is carried.
-abbrev pub IsFindTurn : {A E C : Type 0} → (C → A → Result Bool E → C → Type 0) → C → A → ControlFlow (C × Result A E) C → Type 0
-IsFindTurn tests c x (Continue d) = Passed tests find_pick c x d
-IsFindTurn tests c x (Break p) = (n : ℕ) → Decided tests find_pick n c x (stopped_answer p.1) p.0
+-- what `find` answers, by what its fold answered, which stops with the item or the failure of the test
+abbrev pub found_by : {A E : Type 0} → Answered (Result A E) E → Answered A E
+found_by (Ok None) = Ok None
+found_by (Err e) = Err e
+found_by (Ok (Some stop)) = stopped_answer stop
+
+-- One test, as the turn of the fold that `find` is: the test goes on, or it stops the fold with the item, or with its failure.
+abbrev pub IsFindTurn : {A E C : Type 0} → (C → A → Result Bool E → C → Type 0) → C → A → ControlFlow (Result A E) (Unit {0}) → C → Type 0
+IsFindTurn tests c x (Continue u) d = Passed tests find_pick c x d
+IsFindTurn tests c x (Break stop) d = (n : ℕ) → Decided tests find_pick n c x (stopped_answer stop) d

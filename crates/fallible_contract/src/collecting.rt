@@ -1,7 +1,7 @@
 //! Collections that are made of items, and the turns of the folds that fill them.
 ghost use Rattle.std.specs.Prelude.{◌≡◌, ℕ, ◌≤◌, List, [], ◌∷◌, ◌++◌, MatchResult, IfOk, ⊤, vec_len, vec_capacity};
 ghost use Rattle.fallible_contract.specs.Closures.{call_at, takes_at};
-ghost use Rattle.fallible_contract.specs.Collecting.{IsCollectTurnBehind, IsUnzipTurnBehind, IsPartitionTurnBehind};
+ghost use Rattle.fallible_contract.specs.Collecting.{IsCollectTurn, IsUnzipTurn, IsPartitionTurn};
 
 mod deque;
 mod hashed;
@@ -76,87 +76,74 @@ impl<T: Drop> Collect<T> for Vec<T> {
     }
 }
 
-/// The turn of `collect`: it carries a reference to the collection, and stops where that refuses an item.
+/// The turn of `collect`, whose state is the collection. It stops where that refuses an item.
 #[derive(Drop)]
 pub struct CollectTurn;
 
-impl<'a, A, C: Collect<A>> Turn<&'a mut C, A, AllocError> for CollectTurn {
+impl<A, C: Collect<A>> Turn<C, A, AllocError> for CollectTurn {
     ghost can_turn = { λ _ _ _. ⊤ };
 
-    ghost turns = { λ _ made x r. IsCollectTurnBehind C.made C.push_refuses made x r };
+    ghost turns = { λ _ c x r d. IsCollectTurn C.made C.push_refuses c x r d };
 
     /// The item after the others.
-    fn turn(&self, carried: &'a mut C, item: A) -> ControlFlow<AllocError, &'a mut C> {
-        match carried.push_one(item) {
-            Ok(()) => ControlFlow::Continue(carried),
+    fn turn(&self, state: &mut C, item: A) -> ControlFlow<AllocError, ()> {
+        match state.push_one(item) {
+            Ok(()) => ControlFlow::Continue(()),
             Err(refused) => ControlFlow::Break(refused),
         }
     }
 }
 
-/// The turn of `partition`: it carries the predicate and a reference to both collections.
+/// The turn of `partition`, whose state is the predicate and both collections.
 #[derive(Drop)]
 pub struct PartitionTurn;
 
-impl<'a, A: Drop, E, B: Collect<A>, F: FnMut(&A) -> Result<bool, E>> Turn<
-    (F, &'a mut (B, B)),
-    A,
-    Fault<E>,
-> for PartitionTurn {
+impl<A: Drop, E, B: Collect<A>, F: FnMut(&A) -> Result<bool, E>> Turn<(F, (B, B)), A, Fault<E>>
+    for PartitionTurn {
     ghost can_turn = { λ _ c x. takes_at F.FnMut c.0 x };
 
-    ghost turns = { λ _ c x r. IsPartitionTurnBehind
-        (call_at F.FnMut) B.made B.push_refuses c x r };
+    ghost turns = { λ _ c x r d. IsPartitionTurn (call_at F.FnMut) B.made B.push_refuses
+        c x r d };
 
     /// The predicate is asked once, and the item is pushed to the side of its answer.
-    fn turn(
-        &self,
-        carried: (F, &'a mut (B, B)),
-        item: A,
-    ) -> ControlFlow<Fault<E>, (F, &'a mut (B, B))> {
-        let (mut f, sides) = carried;
-        let answer = match f(&item) {
+    fn turn(&self, state: &mut (F, (B, B)), item: A) -> ControlFlow<Fault<E>, ()> {
+        let answer = match (state.0)(&item) {
             Ok(answer) => answer,
             Err(e) => return ControlFlow::Break(Fault::Source(e)),
         };
         if answer {
-            match sides.0.push_one(item) {
-                Ok(()) => ControlFlow::Continue((f, sides)),
+            match state.1.0.push_one(item) {
+                Ok(()) => ControlFlow::Continue(()),
                 Err(refused) => ControlFlow::Break(Fault::Memory(refused)),
             }
         } else {
-            match sides.1.push_one(item) {
-                Ok(()) => ControlFlow::Continue((f, sides)),
+            match state.1.1.push_one(item) {
+                Ok(()) => ControlFlow::Continue(()),
                 Err(refused) => ControlFlow::Break(Fault::Memory(refused)),
             }
         }
     }
 }
 
-/// The turn of `unzip`: it carries a reference to both collections.
+/// The turn of `unzip`, whose state is both collections.
 #[derive(Drop)]
 pub struct UnzipTurn;
 
-impl<'a, A, B: Drop, C: Collect<A>, D: Collect<B>> Turn<&'a mut (C, D), (A, B), AllocError>
-    for UnzipTurn {
+impl<A, B: Drop, C: Collect<A>, D: Collect<B>> Turn<(C, D), (A, B), AllocError> for UnzipTurn {
     ghost can_turn = { λ _ _ _. ⊤ };
 
-    ghost turns = { λ _ c x r. IsUnzipTurnBehind
-        C.made D.made C.push_refuses D.push_refuses c x r };
+    ghost turns = { λ _ c x r d. IsUnzipTurn C.made D.made C.push_refuses D.push_refuses
+        c x r d };
 
     /// The first part is pushed to the first collection, and then the second part to the second.
-    fn turn(
-        &self,
-        carried: &'a mut (C, D),
-        item: (A, B),
-    ) -> ControlFlow<AllocError, &'a mut (C, D)> {
+    fn turn(&self, state: &mut (C, D), item: (A, B)) -> ControlFlow<AllocError, ()> {
         let (a, b) = item;
-        match carried.0.push_one(a) {
+        match state.0.push_one(a) {
             Ok(()) => {}
             Err(refused) => return ControlFlow::Break(refused),
         }
-        match carried.1.push_one(b) {
-            Ok(()) => ControlFlow::Continue(carried),
+        match state.1.push_one(b) {
+            Ok(()) => ControlFlow::Continue(()),
             Err(refused) => ControlFlow::Break(refused),
         }
     }

@@ -20,7 +20,7 @@ fn stays_best(keeps: Ordering, order: Ordering) -> bool
     }
 }
 
-/// The turn of a fold that keeps the best item by a closure that compares two: it carries the best so far, if there is one, and the closure.
+/// The turn of a fold that keeps the best item by a closure that compares two. Its state is the best so far, if there is one, and the closure.
 #[derive(Drop)]
 pub struct BestTurn {
     /// how the best so far compares with an item that it stays before
@@ -30,29 +30,29 @@ pub struct BestTurn {
 impl<A: Drop, E, F: FnMut(&A, &A) -> Result<Ordering, E>> Turn<(Option<A>, F), A, E> for BestTurn {
     ghost can_turn = { λ _ p x. takes_in_pick (takes_at_two F.FnMut) p.1 p.0 x };
 
-    ghost turns = { λ k p x r. IsFoldTurn (PickCall k.keeps (call_at_two F.FnMut)) p x r };
+    ghost turns = { λ k p x r q. IsFoldTurn (PickCall k.keeps (call_at_two F.FnMut)) p x r q };
 
     /// The first item without a call; then the closure is asked once.
-    fn turn(&self, carried: (Option<A>, F), item: A) -> ControlFlow<E, (Option<A>, F)> {
-        let (best, mut f) = carried;
-        let best = match best {
-            Some(best) => best,
-            None => return ControlFlow::Continue((Some(item), f)),
-        };
-        match f(&best, &item) {
-            Ok(order) => {
-                if stays_best(self.keeps, order) {
-                    ControlFlow::Continue((Some(best), f))
-                } else {
-                    ControlFlow::Continue((Some(item), f))
+    fn turn(&self, state: &mut (Option<A>, F), item: A) -> ControlFlow<E, ()> {
+        let best = match state.0.take() {
+            Some(best) => match (state.1)(&best, &item) {
+                Ok(order) => {
+                    if stays_best(self.keeps, order) {
+                        best
+                    } else {
+                        item
+                    }
                 }
-            }
-            Err(e) => ControlFlow::Break(e),
-        }
+                Err(e) => return ControlFlow::Break(e),
+            },
+            None => item,
+        };
+        state.0 = Some(best);
+        ControlFlow::Continue(())
     }
 }
 
-/// The turn of a fold that keeps the item of the best key: it carries that item beside its key, if there is one, and the closure.
+/// The turn of a fold that keeps the item of the best key. Its state is that item beside its key, if there is one, and the closure.
 #[derive(Drop)]
 pub struct BestKeyTurn {
     /// how the best key so far compares with a key that it stays before
@@ -63,24 +63,26 @@ impl<A: Drop, E, K: Ord + Drop, F: FnMut(&A) -> Result<K, E>> Turn<(Option<(K, A
     for BestKeyTurn {
     ghost can_turn = { λ _ p x. takes_at F.FnMut p.1 x };
 
-    ghost turns = { λ k p x r. IsFoldTurn (KeyCall k.keeps K.cmp (call_at F.FnMut)) p x r };
+    ghost turns = { λ k p x r q. IsFoldTurn (KeyCall k.keeps K.cmp (call_at F.FnMut)) p x r q };
 
     /// The key is made once, and compared with the best so far.
-    fn turn(&self, carried: (Option<(K, A)>, F), item: A) -> ControlFlow<E, (Option<(K, A)>, F)> {
-        let (best, mut f) = carried;
-        let key = match f(&item) {
+    fn turn(&self, state: &mut (Option<(K, A)>, F), item: A) -> ControlFlow<E, ()> {
+        let key = match (state.1)(&item) {
             Ok(key) => key,
             Err(e) => return ControlFlow::Break(e),
         };
-        let best = match best {
-            Some(best) => best,
-            None => return ControlFlow::Continue((Some((key, item)), f)),
+        let best = match state.0.take() {
+            Some(best) => {
+                if stays_best(self.keeps, best.0.cmp(&key)) {
+                    best
+                } else {
+                    (key, item)
+                }
+            }
+            None => (key, item),
         };
-        if stays_best(self.keeps, best.0.cmp(&key)) {
-            ControlFlow::Continue((Some(best), f))
-        } else {
-            ControlFlow::Continue((Some((key, item)), f))
-        }
+        state.0 = Some(best);
+        ControlFlow::Continue(())
     }
 }
 
