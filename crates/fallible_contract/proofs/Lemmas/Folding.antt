@@ -20,7 +20,7 @@ use Rattle.fallible_contract.specs.declared.passing.Outcome.TheVariants.{Kept, L
 
 -- ---- draws from another value, of which every step is one from this one
 
-module _ {S A E : Type 0} {steps : S → Answered A E → S → Type 0} (s u : S) (same : (r : Answered A E) (t : S) → steps u r t → steps s r t) where
+module _ {S A E : Type 0} (steps : S → Answered A E → S → Type 0) (s u : S) (same : (r : Answered A E) (t : S) → steps u r t → steps s r t) where
   run_from : (items : List A) (last : Answered A E) (t : S) → Run steps u (map item items ++ last ∷ []) t → Run steps s (map item items ++ last ∷ []) t
   run_from [] last t ran = (ran.0, same last ran.0 ran.1, ran.2)
   run_from (x ∷ items) last t ran = (ran.0, same (item x) ran.0 ran.1, ran.2)
@@ -32,10 +32,10 @@ module _ {S A E : Type 0} {steps : S → Answered A E → S → Type 0} (s u : S
 
 module _ {S A E : Type 0} {steps : S → Answered A E → S → Type 0} {s u : S} (same : (r : Answered A E) (t : S) → steps u r t → steps s r t) where
   pub drained_from : {came : List A → Answered A E → Type 0} {t : S} → Drained steps came u t → Drained steps came s t
-  drained_from {t = t} w = record { items = w.items; last = w.last; ran = run_from s u same w.items w.last t w.ran; at = w.at }
+  drained_from {t = t} w = record { items = w.items; last = w.last; ran = run_from steps s u same w.items w.last t w.ran; at = w.at }
 
   pub holds_from : {C : Type 0} {goes : C → A → C → Type 0} {P : C → A → Type 0} {c : C} → HoldsAtEachTurn steps goes P s c → HoldsAtEachTurn steps goes P u c
-  holds_from h = record { at = at_items s u same h }
+  holds_from h = record { at = at_items steps s u same h }
 
 -- ---- draws of what holds another value
 
@@ -73,7 +73,7 @@ module _ {S P A E : Type 0} (Q : P → Type 0) (steps : P → Answered A E → P
   yields_while (x ∷ items) p q at w = let rest = yields_while items w.0 q (keeps_on p x w.0 at w.1) w.2 in ((into w.0, holds p (item x) w.0 at w.1, rest.0), rest.1)
 
   pub holds_while : {C : Type 0} {goes : C → A → C → Type 0} {T : C → A → Type 0} {p : P} {c : C} → Q p → HoldsAtEachTurn held goes T (into p) c → HoldsAtEachTurn steps goes T p c
-  holds_while {p = p} at h = record { at = λ items q u d x ran went step. let y = yields_while items p q at ran in h.at items (into q) (into u) d x y.0 went (holds q x u y.1 step) }
+  holds_while {p = p} at h = record { at = λ items q u d x ran went step. let y = yields_while items p q at ran in h.at items (into q) (into u) d x y.0 went (holds q (item x) u y.1 step) }
 
 -- ---- an adapter's fold through its source's
 
@@ -139,7 +139,7 @@ module _ {S C F X V B E R : Type 0} (steps : S → Answered X E → S → Type 0
 -- A fold of the source by that turn is a fold of the adapter.
 pub drives_through : {S C F X V B E R : Type 0} {steps : S → Answered X E → S → Type 0} {call : F → X → V → F → Type 0} {outcome : X → V → Outcome B E} {turns : C → B → ControlFlow R (Unit {0}) → C → Type 0} {s t : S} {p q : C × F} {r : Answered (Answered R E) E}
     → Driven steps (FoldingTurn call outcome turns) s p r t q → Driven (passing_step steps call outcome) turns (s, p.1) p.0 (within r) (t, q.1) q.0
-drives_through {steps = steps} {call = call} {outcome = outcome} {turns = turns} {s = s} {t = t} {p = p} {q = q} {r = r} w = items_through steps call outcome turns w.items w.last s t p w.at.0 q r w.ran w.at.1 w.at.2
+drives_through {steps = steps} {call = call} {outcome = outcome} {turns = turns} {s = s} {t = t} {p = p} {q = q} {r = r} w = items_through steps call outcome turns w.items w.last s t p w.at.carried q r w.ran w.at.went w.at.exit
 
 -- The same, where the adapter's closure and the caller's state stand behind references. What was lent is what is behind those that came back, once they are known to be the same.
 pub drives_beside : {S C F X V B E R : Type 0} {steps : S → Answered X E → S → Type 0} {call : F → X → V → F → Type 0} {outcome : X → V → Outcome B E} {turns : C → B → ControlFlow R (Unit {0}) → C → Type 0} {s t : S} {b d : Beside C F} {r : Answered (Answered R E) E} (f : F) (c : C)

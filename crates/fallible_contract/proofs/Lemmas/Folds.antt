@@ -5,7 +5,7 @@ use Rattle.std.proofs.Common.{refl, sym, ap, ◌∙◌, subst, arith}
 use Rattle.fallible_contract.specs.Traces.{Answered, Run, Yields, item}
 use Rattle.fallible_contract.specs.Contract.{Contract, AtMost, Lawful}
 use Rattle.fallible_contract.proofs.Lemmas.Contract.{number_of_at_most}
-use Rattle.fallible_contract.specs.Folds.{Drained, CountExit, Counted, LastExit, LastOf, HoldsAtEachTurn, went_on_with, CallableInFold, IsFoldTurn, IsFoldTurnInSlot, takes_in_slot, FoldExit, Folded, goes_on, DriveExit, CallableDriving, Driven, TurnBehind}
+use Rattle.fallible_contract.specs.Folds.{Drained, CountExit, CountedBy, Counted, LastExit, LastBy, LastOf, HoldsAtEachTurn, went_on_with, CallableInFold, IsFoldTurn, IsFoldTurnInSlot, takes_in_slot, FoldExit, FoldedBy, Folded, goes_on, DriveExit, CallableDriving, DrivenBy, Driven, TurnBehind}
 use Rattle.std.specs.declared.ops.ControlFlow.{ControlFlow}
 use Rattle.std.specs.declared.ops.ControlFlow.TheVariants.{Continue, Break}
 
@@ -48,17 +48,17 @@ module _ {S A E : Type 0} {steps : S → Answered A E → S → Type 0} where
 module _ {S A E C R : Type 0} {steps : S → Answered A E → S → Type 0} {turns : C → A → ControlFlow R (Unit {0}) → C → Type 0} where
   -- a turn that went on, and then a fold
   pub driven_after : {s t u : S} {c d z : C} {r : Answered R E} (x : A) → steps s (item x) t → goes_on turns c x d → Driven steps turns t d r u z → Driven steps turns s c r u z
-  driven_after {d = d} x step turn rest = drained_more x step (λ items last w. (w.0, (d, turn, w.1), w.2)) rest
+  driven_after {d = d} x step turn rest = drained_more x step (λ items last w. record { carried = w.carried; went = (d, turn, w.went); exit = w.exit }) rest
 
   -- the three last turns
   pub driven_end : {s t : S} {c : C} → steps s (Ok None) t → Driven steps turns s c (Ok None) t c
-  driven_end {c = c} step = drained_last (Ok None) step (c, refl, (refl, refl))
+  driven_end {c = c} step = drained_last (Ok None) step (record { carried = c; went = refl; exit = (refl, refl) })
 
   pub driven_failure : {s t : S} {c : C} {e : E} → steps s (Err e) t → Driven steps turns s c (Err e) t c
-  driven_failure {c = c} {e = e} step = drained_last (Err e) step (c, refl, (refl, refl))
+  driven_failure {c = c} {e = e} step = drained_last (Err e) step (record { carried = c; went = refl; exit = (refl, refl) })
 
   pub driven_stop : {s t : S} {c d : C} {stop : R} (x : A) → steps s (item x) t → turns c x (Break stop) d → Driven steps turns s c (Ok (Some stop)) t d
-  driven_stop {c = c} {stop = stop} x step turn = drained_last (item x) step (c, refl, (stop, turn, refl))
+  driven_stop {c = c} {stop = stop} x step turn = drained_last (item x) step (record { carried = c; went = refl; exit = (stop, turn, refl) })
 
   pub driven_after_items : {r : Answered R E} {u : S} {z : C} (items : List A) (s t : S) (c d : C) → Yields steps s items t → FoldsTo (goes_on turns) c items d → Driven steps turns t d r u z → Driven steps turns s c r u z
   driven_after_items {r} {u} {z} [] s t c d ran went h = subst (λ (v : S). Driven steps turns v c r u z) (sym ran) (subst (λ (k : C). Driven steps turns t k r u z) (sym went) h)
@@ -83,10 +83,10 @@ module _ {X N A C R : Type 0} (behind : X → C) (names : X → N) (turns : C �
 
     -- it is a fold on what is behind the references, and these come back
     pub driven_behind : {t : S} {d : X} {r : Answered R E} → Driven steps (TurnBehind behind names turns) s c r t d → Driven steps turns s (behind c) r t (behind d)
-    driven_behind {d = d} {r = r} w = drained_map (λ items last h. (behind h.0, (went_behind items c h.0 h.1).0, (exit_behind last r h.0 d h.2).0)) w
+    driven_behind {d = d} {r = r} w = drained_map (λ items last h. record { carried = behind h.carried; went = (went_behind items c h.carried h.went).0; exit = (exit_behind last r h.carried d h.exit).0 }) w
 
     pub names_kept : {t : S} {d : X} {r : Answered R E} → Driven steps (TurnBehind behind names turns) s c r t d → names d ≡ names c
-    names_kept {d = d} {r = r} w = (exit_behind w.last r w.at.0 d w.at.2).1 ∙ (went_behind w.items c w.at.0 w.at.1).1
+    names_kept {d = d} {r = r} w = (exit_behind w.last r w.at.carried d w.at.exit).1 ∙ (went_behind w.items c w.at.carried w.at.went).1
 
 -- ---- `count`
 
@@ -114,7 +114,7 @@ Counts n x r k = (r ≡ Continue tt) × (k ≡ n + 1)
 abbrev Keeps : {A R : Type 0} → Option A → A → ControlFlow R (Unit {0}) → Option A → Type 0
 Keeps o x r d = (r ≡ Continue tt) × (d ≡ Some x)
 
-module _ {A E R : Type 0} where
+module _ {A E : Type 0} (R : Type 0) where
   count_ended : (last : Answered A E) (n k : ℕ) → DriveExit (Counts {R = R}) n last (Ok None) k → CountExit n last (Ok k)
   count_ended (Ok None) n k h = ap Ok h.1
   count_ended (Ok (Some x)) n k h = absurd (let e = h.1.0 in cc)
@@ -123,22 +123,22 @@ module _ {A E R : Type 0} where
   count_failed : (last : Answered A E) (n k : ℕ) (e : E) → DriveExit (Counts {R = R}) n last (Err e) k → CountExit n last (Err e)
   count_failed (Ok None) n k e h = absurd (let f = h.0 in cc)
   count_failed (Ok (Some x)) n k e h = absurd (let f = h.1.0 in cc)
-  count_failed (Err d) n k e h = h.0
+  count_failed (Err d) n k e h = let same : e ≡ d = (let f = h.0 in cc) in ap Err same
+
+counted_at : {A : Type 0} (R : Type 0) (items : List A) (n : ℕ) → FoldsTo (goes_on (Counts {R = R})) 0 items n → n ≡ length items
+counted_at R items n w = let e = counted_up items 0 n (turns_map (λ c x d h. h.1) items 0 n w) in omega (arith, e)
 
 module _ {S A E R : Type 0} {steps : S → Answered A E → S → Type 0} {s t : S} where
-  counted_at : (items : List A) (n : ℕ) → FoldsTo (goes_on (Counts {R = R})) 0 items n → n ≡ length items
-  counted_at items n w = let e = counted_up items 0 n (turns_map (λ c x d h. h.1) items 0 n w) in omega (arith, e)
-
   -- the fold whose state is the number of items counts them
   pub counted_ended : {n : ℕ} → Driven steps (Counts {R = R}) s 0 (Ok None) t n → Counted steps s (Ok n)
-  counted_ended {n} w = (t, drained_map (λ items last h. subst (λ (k : ℕ). CountExit k last (Ok n)) (counted_at items h.0 h.1) (count_ended {R = R} last h.0 n h.2)) w)
+  counted_ended {n} w = (t, drained_map (λ items last h. record { exit = subst (λ (k : ℕ). CountExit k last (Ok n)) (counted_at R items h.carried h.went) (count_ended R last h.carried n h.exit) }) w)
 
   pub counted_failed : {n : ℕ} {e : E} → Driven steps (Counts {R = R}) s 0 (Err e) t n → Counted steps s (Err e)
-  counted_failed {n} {e} w = (t, drained_map (λ items last h. subst (λ (k : ℕ). CountExit k last (Err e)) (counted_at items h.0 h.1) (count_failed {R = R} last h.0 n e h.2)) w)
+  counted_failed {n} {e} w = (t, drained_map (λ items last h. record { exit = subst (λ (k : ℕ). CountExit k last (Err e)) (counted_at R items h.carried h.went) (count_failed R last h.carried n e h.exit) }) w)
 
 -- ---- `last`
 
-module _ {A R : Type 0} where
+module _ {A : Type 0} (R : Type 0) where
   last_kept : (items : List A) (o p : Option A) → FoldsTo (goes_on (Keeps {R = R})) o items p → p ≡ last_or o items
   last_kept [] o p e = sym e
   last_kept (x ∷ items) o p w = last_kept items (Some x) p (subst (λ (q : Option A). FoldsTo (goes_on (Keeps {R = R})) q items p) w.1.1 w.2)
@@ -151,15 +151,15 @@ module _ {A R : Type 0} where
   last_failure : {E : Type 0} (items : List A) (last : Answered A E) (o p : Option A) (e : E) → DriveExit (Keeps {R = R}) o last (Err e) p → LastExit items last (Err e)
   last_failure items (Ok None) o p e h = absurd (let f = h.0 in cc)
   last_failure items (Ok (Some x)) o p e h = absurd (let f = h.1.0 in cc)
-  last_failure items (Err d) o p e h = h.0
+  last_failure items (Err d) o p e h = let same : e ≡ d = (let f = h.0 in cc) in ap Err same
 
 module _ {S A E R : Type 0} {steps : S → Answered A E → S → Type 0} {s t : S} where
   -- the fold whose state is the item that came last ends with the last one
   pub last_ended : {p : Option A} → Driven steps (Keeps {R = R}) s None (Ok None) t p → LastOf steps s (Ok p)
-  last_ended {p} w = (t, drained_map (λ items last h. last_exit {R = R} items last h.0 p (last_kept {R = R} items None h.0 h.1) h.2) w)
+  last_ended {p} w = (t, drained_map (λ items last h. record { exit = last_exit R items last h.carried p (last_kept R items None h.carried h.went) h.exit }) w)
 
   pub last_failed : {p : Option A} {e : E} → Driven steps (Keeps {R = R}) s None (Err e) t p → LastOf steps s (Err e)
-  last_failed {p} {e} w = (t, drained_map (λ items last h. last_failure {R = R} items last h.0 p e h.2) w)
+  last_failed {p} {e} w = (t, drained_map (λ items last h. record { exit = last_failure R items last h.carried p e h.exit }) w)
 
 -- ---- folds whose state is the value and the closure
 
@@ -181,13 +181,13 @@ module _ {A E F B E' : Type 0} (call : F → B → A → Result B E' → F → T
 
   module _ {S : Type 0} {steps : S → Answered A E → S → Type 0} {s t : S} {b : B} {f : F} where
     pub folded_ended : (q : B × F) → Driven steps (IsFoldTurn call) s (b, f) (Ok None) t q → Folded steps call from s b f (Ok q.0) t
-    folded_ended q w = drained_map (λ items last h. (h.0, h.1, fold_ended last h.0 q h.2)) w
+    folded_ended q w = drained_map (λ items last h. record { value = h.carried.0; closure = h.carried.1; went = h.went; exit = fold_ended last h.carried q h.exit }) w
 
     pub folded_failed : (q : B × F) (e : E) (e' : E') → Driven steps (IsFoldTurn call) s (b, f) (Err e) t q → from e e' → Folded steps call from s b f (Err e') t
-    folded_failed q e e' w c = drained_map (λ items last h. (h.0, h.1, fold_failed last h.0 q e e' h.2 c)) w
+    folded_failed q e e' w c = drained_map (λ items last h. record { value = h.carried.0; closure = h.carried.1; went = h.went; exit = fold_failed last h.carried q e e' h.exit c }) w
 
     pub folded_stopped : (q : B × F) (e' : E') → Driven steps (IsFoldTurn call) s (b, f) (Ok (Some e')) t q → Folded steps call from s b f (Err e') t
-    folded_stopped q e' w = drained_map (λ items last h. (h.0, h.1, fold_stopped last h.0 q e' h.2)) w
+    folded_stopped q e' w = drained_map (λ items last h. record { value = h.carried.0; closure = h.carried.1; went = h.went; exit = fold_stopped last h.carried q e' h.exit }) w
 
 -- ---- the same, where the value stands in a slot, which is full before each turn
 
@@ -214,7 +214,7 @@ module _ {A F B E' : Type 0} (call : F → B → A → Result B E' → F → Typ
   ended_full (Err e) p d w = absurd (let f = w.0 in cc)
 
   pub slot_full : {S E : Type 0} {steps : S → Answered A E → S → Type 0} {s t : S} {b : B} {f g : F} → Driven {E = E} steps (IsFoldTurnInSlot call) s (Some b, f) (Ok None) t (None, g) → ⊥
-  slot_full {b = b} {f = f} {g = g} w = let full = full_went w.items (b, f) w.at.0 w.at.1 in let e = ended_full w.last full.0 (None, g) (subst (λ z. DriveExit (IsFoldTurnInSlot call) z w.last (Ok None) (None, g)) (sym full.2) w.at.2) in let n : ◌≡◌ {A = Option B} None (Some full.0.0) = ap (λ z. z.0) e in cc
+  slot_full {b = b} {f = f} {g = g} w = let full = full_went w.items (b, f) w.at.carried w.at.went in let e = ended_full w.last full.0 (None, g) (subst (λ z. DriveExit (IsFoldTurnInSlot call) z w.last (Ok None) (None, g)) (sym full.2) w.at.exit) in let n : ◌≡◌ {A = Option B} None (Some full.0.0) = ap (λ z. z.0) e in cc
 
 module _ {A E F B E' : Type 0} (call : F → B → A → Result B E' → F → Type 0) (from : E → E' → Type 0) where
   slot_ended : (last : Answered A E) (p : B × F) (b : B) (g : F) → DriveExit (IsFoldTurnInSlot call) (Full call p) last (Ok None) (Some b, g) → FoldExit call from p.0 p.1 last (Ok b)
@@ -234,7 +234,7 @@ module _ {A E F B E' : Type 0} (call : F → B → A → Result B E' → F → T
 
   module _ {S : Type 0} {steps : S → Answered A E → S → Type 0} {s t : S} {b : B} {f : F} where
     by_slot : {d : Option B × F} {a : Answered E' E} {r : Result B E'} → ((last : Answered A E) (p : B × F) → DriveExit (IsFoldTurnInSlot call) (Full call p) last a d → FoldExit call from p.0 p.1 last r) → Driven steps (IsFoldTurnInSlot call) s (Some b, f) a t d → Folded steps call from s b f r t
-    by_slot {d} {a} exits w = drained_map (λ items last h. let full = full_went call items (b, f) h.0 h.1 in (full.0, full.1, exits last full.0 (subst (λ z. DriveExit (IsFoldTurnInSlot call) z last a d) (sym full.2) h.2))) w
+    by_slot {d} {a} exits w = drained_map (λ items last h. let full = full_went call items (b, f) h.carried h.went in record { value = full.0.0; closure = full.0.1; went = full.1; exit = exits last full.0 (subst (λ z. DriveExit (IsFoldTurnInSlot call) z last a d) (sym full.2) h.exit) }) w
 
     pub slot_folded_ended : (v : B) (g : F) → Driven steps (IsFoldTurnInSlot call) s (Some b, f) (Ok None) t (Some v, g) → Folded steps call from s b f (Ok v) t
     slot_folded_ended v g w = by_slot (λ last p h. slot_ended last p v g h) w
@@ -258,4 +258,4 @@ module _ {S C A E : Type 0} (steps : S → Answered A E → S → Type 0) where
   first_last [] (Ok (Some x)) c d z r s t went ran at = let same : at.0 ≡ x = (let e = at.1 in cc) in rw (at.2, same, sym ran.2) ran.1
 
 pub first_drawn : {S C A E : Type 0} {steps : S → Answered A E → S → Type 0} {s t : S} {c d : C} {r : Answered A E} → Driven steps (λ _ x r _. r ≡ Break x) s c r t d → steps s r t
-first_drawn {steps = steps} {s = s} {t = t} {c = c} {d = d} {r = r} w = first_last steps w.items w.last c w.at.0 d r s t w.at.1 w.ran w.at.2
+first_drawn {steps = steps} {s = s} {t = t} {c = c} {d = d} {r = r} w = first_last steps w.items w.last c w.at.carried d r s t w.at.went w.ran w.at.exit

@@ -19,11 +19,11 @@ exit_now n (Err e) h = omega arith
 module _ {S A E : Type 0} {steps : S → Answered A E → S → Type 0} where
   -- a skipped item, and then the rest
   pub nth_after : {s u t : S} {r : Answered A E} (n k : ℕ) (x : A) → k ≡ n + 1 → steps s (item x) u → Nth steps u n r t → Nth steps s k r t
-  nth_after {r = r} n k x e step rest = drained_more x step (λ skipped last h. (h.0, exit_more n k (length skipped) r e h.1)) rest
+  nth_after {r = r} n k x e step rest = drained_more x step (λ skipped last h. record { is = h.is; exit = exit_more n k (length skipped) r e h.exit }) rest
 
   -- the answer comes with no item skipped
   pub nth_now : {s t : S} {r : Answered A E} (n : ℕ) → NthExit n 0 r → steps s r t → Nth steps s n r t
-  nth_now {r = r} n exit step = drained_last r step (refl, exit)
+  nth_now {r = r} n exit step = drained_last r step (record { is = refl; exit = exit })
 
   -- the answer to a draw where nothing is left to skip
   pub nth_next : {s t : S} (n : ℕ) (r : Answered A E) → n ≤ 0 → steps s r t → Nth steps s n r t
@@ -43,4 +43,4 @@ reached_last items (Ok (Some x)) r n d k over at = let same : r ≡ item x = at.
 
 -- the fold that passes over n items and stops with the next one is `nth`
 pub nth_reached : {S A E : Type 0} {steps : S → Answered A E → S → Type 0} {s t : S} {n k : ℕ} {r : Answered A E} → Driven steps IsNthTurn s n r t k → Nth steps s n r t
-nth_reached {n = n} {k = k} {r = r} w = drained_map (λ items last h. reached_last items last r n h.0 k (passed_over items n h.0 h.1) h.2) w
+nth_reached {n = n} {k = k} {r = r} w = drained_map (λ items last h. let e = reached_last items last r n h.carried k (passed_over items n h.carried h.went) h.exit in record { is = e.0; exit = e.1 }) w

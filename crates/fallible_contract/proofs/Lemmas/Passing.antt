@@ -95,7 +95,7 @@ module _ {S F X R E : Type 0} (steps : S → Answered X E → S → Type 0) (cal
 
 -- a search by such a test is the trace of one answer
 pub passes_search : {S F X R E : Type 0} {steps : S → Answered X E → S → Type 0} {call : F → X → R → F → Type 0} {outcome : X → R → Outcome X E} {s t : S} {f g : F} {r : Answered X E} → Searched (PassTest call outcome) find_pick steps None s f r t g → PassTrace steps call outcome (s, f) (r ∷ []) (t, g)
-passes_search {steps = steps} {call = call} {outcome = outcome} {s = s} {t = t} {f = f} {g = g} {r = r} w = from_passes (after_left_out steps call outcome w.last r t w.at.0 g (λ u step. final_test steps call outcome w.last (length w.items) r u t w.at.0 g w.at.2 step) w.items s f w.ran (turns_map (left_by_test steps call outcome) w.items f w.at.0 w.at.1))
+passes_search {steps = steps} {call = call} {outcome = outcome} {s = s} {t = t} {f = f} {g = g} {r = r} w = from_passes (after_left_out steps call outcome w.last r t w.at.closure g (λ u step. final_test steps call outcome w.last (length w.items) r u t w.at.closure g w.at.exit step) w.items s f w.ran (turns_map (left_by_test steps call outcome) w.items f w.at.closure w.at.went))
 
 -- a stored closure may be called at each test of such a search
 pub callable_search : {S F X R E : Type 0} {m : Contract S X E} {call : F → X → R → F → Type 0} {pre : F → X → Type 0} (outcome : X → R → Outcome X E) {s : S} {f : F} → Lawful m → m.can_next s → IsCallable call pre (m.may_give s) f → CallableInSearch (PassTest call outcome) find_pick m.steps pre s f
