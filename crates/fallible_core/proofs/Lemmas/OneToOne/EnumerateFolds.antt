@@ -75,16 +75,16 @@ module _ {S A E : Type 0} (steps : S → Answered A E → S → Type 0) where
     items = beside_numbers n items;
     last = Ok None;
     ran = run_numbered items (Ok None) (Ok None) s t n (λ u v k step. enumerate_end step) ran;
-    at = subst (λ (k : ℕ). r ≡ Ok k) (sym (as_many items n)) exit;
+    at = record { exit = subst (λ (k : ℕ). r ≡ Ok k) (sym (as_many items n)) exit };
   })
   counted_last items (Err e) s t n r ran exit = ((t, n + length items), record {
     items = beside_numbers n items;
     last = Err e;
     ran = run_numbered items (Err e) (Err e) s t n (λ u v k step. enumerate_failure step) ran;
-    at = exit;
+    at = record { exit = exit };
   })
   counted_last items (Ok (Some x)) s t n r ran exit = absurd exit
 
 -- the source's count is that of `Enumerate`
 pub counted_numbered : {S A E : Type 0} {steps : S → Answered A E → S → Type 0} {s : S} {n : ℕ} {r : Result ℕ E} → Counted steps s r → Counted (numbered_step steps) (s, n) r
-counted_numbered {steps = steps} {s = s} {n = n} {r = r} w = counted_last steps w.1.items w.1.last s w.0 n r w.1.ran w.1.at
+counted_numbered {steps = steps} {s = s} {n = n} {r = r} w = counted_last steps w.1.items w.1.last s w.0 n r w.1.ran w.1.at.exit

@@ -1,12 +1,11 @@
 -- What a call of the source answers, and the call of the closure where it met a failure, are what that call of `MapErr` answers: so of a fold, a count, a last item and an `nth`.
 use Rattle.std.specs.Prelude.{◌≡◌, ℕ, length, List, [], ◌∷◌, ◌++◌, map, Option, Result, Some, None, Ok, Err}
 use Rattle.std.specs.Fn.{Mut}
-use Rattle.std.specs.List.{FoldsTo}
 use Rattle.std.proofs.Common.{refl, sym, subst}
 use Rattle.fallible_contract.specs.Traces.{Answered, Run, item}
 use Rattle.fallible_contract.specs.Contract.{Contract, Lawful}
 use Rattle.fallible_contract.specs.Closures.{IsCallable, call_on, takes_on}
-use Rattle.fallible_contract.specs.Folds.{Drained, HoldsAtEachTurn, goes_on, DriveExit, CountExit, LastExit, NthExit}
+use Rattle.fallible_contract.specs.Folds.{Drained, HoldsAtEachTurn, DrivenBy, CountedBy, LastBy, NthExit, NthBy}
 use Rattle.fallible_contract.specs.Laws.Closures.{reaches_here, callable_after}
 use Rattle.fallible_contract.proofs.Lemmas.Folding.{holds_into}
 use Rattle.fallible_core.specs.OneToOne.MapErr.{MapErrTrace, MapErrAnswer, TakesFailure, map_err_parts}
@@ -21,42 +20,36 @@ pub record FailsLast {X C D E : Type 0} (came : Result C D → List X → Answer
   pub at_value : (made : Result C D) (items : List X) (v : Option X) → came made items (Ok v) → (w : C) × (made ≡ Ok w) × becomes (Ok w) items (Ok v)
   pub at_failure : (made : Result C D) (items : List X) (d : D) → came made items (Err d) → (made ≡ Err d) × ((e : E) → becomes (Err e) items (Err e))
 
--- a fold, from the state c to d
 module _ {X D E C R : Type 0} (turns : C → X → ControlFlow R (Unit {0}) → C → Type 0) (c d : C) where
-  abbrev pub DriveCame : {D : Type 0} → Answered R D → List X → Answered X D → Type 0
-  DriveCame made items last = (z : C) × FoldsTo (goes_on turns) c items z × DriveExit turns z last made d
+  drive_value : (made : Answered R D) (items : List X) (v : Option X) → DrivenBy turns c made d items (Ok v) → (w : Option R) × (made ≡ Ok w) × DrivenBy {E = E} turns c (Ok w) d items (Ok v)
+  drive_value made items None at = (None, at.exit.0, record { carried = at.carried; went = at.went; exit = (refl, at.exit.1) })
+  drive_value made items (Some x) at = (Some at.exit.0, at.exit.2, record { carried = at.carried; went = at.went; exit = (at.exit.0, at.exit.1, refl) })
 
-  drive_value : (made : Answered R D) (items : List X) (v : Option X) → DriveCame made items (Ok v) → (w : Option R) × (made ≡ Ok w) × DriveCame {D = E} (Ok w) items (Ok v)
-  drive_value made items None at = (None, at.2.0, (at.0, at.1, (refl, at.2.1)))
-  drive_value made items (Some x) at = (Some at.2.0, at.2.2, (at.0, at.1, (at.2.0, at.2.1, refl)))
-
-  pub drive_fails : FailsLast {E = E} (λ made items last. DriveCame {D = D} made items last) (λ made items last. DriveCame made items last)
-  drive_fails = record { at_value = drive_value; at_failure = λ made items e at. (at.2.0, (λ f. (at.0, at.1, (refl, at.2.1)))) }
+  -- a fold, from the state c to d
+  pub drive_fails : FailsLast (λ made. DrivenBy {E = D} turns c made d) (λ made. DrivenBy {E = E} turns c made d)
+  drive_fails = record { at_value = drive_value; at_failure = λ made items e at. (at.exit.0, (λ f. record { carried = at.carried; went = at.went; exit = (refl, at.exit.1) })) }
 
 module _ {X D E : Type 0} where
-  count_value : (made : Result ℕ D) (items : List X) (v : Option X) → CountExit (length items) (Ok v) made → (w : ℕ) × (made ≡ Ok w) × CountExit {E = E} (length items) (Ok v) (Ok w)
-  count_value made items None at = (length items, at, refl)
-  count_value made items (Some x) at = absurd at
+  count_value : (made : Result ℕ D) (items : List X) (v : Option X) → CountedBy made items (Ok v) → (w : ℕ) × (made ≡ Ok w) × CountedBy {E = E} (Ok w) items (Ok v)
+  count_value made items None at = (length items, at.exit, record { exit = refl })
+  count_value made items (Some x) at = absurd at.exit
 
-  pub count_fails : FailsLast {X = X} {D = D} {E = E} (λ made items last. CountExit (length items) last made) (λ made items last. CountExit (length items) last made)
-  count_fails = record { at_value = count_value; at_failure = λ made items d at. (at, (λ e. refl)) }
+  pub count_fails : FailsLast (CountedBy {A = X} {E = D}) (CountedBy {A = X} {E = E})
+  count_fails = record { at_value = count_value; at_failure = λ made items d at. (at.exit, (λ e. record { exit = refl })) }
 
-  last_value : (made : Result (Option X) D) (items : List X) (v : Option X) → LastExit items (Ok v) made → (w : Option X) × (made ≡ Ok w) × LastExit {E = E} items (Ok v) (Ok w)
-  last_value made items None at = (_, at, refl)
-  last_value made items (Some x) at = absurd at
+  last_value : (made : Result (Option X) D) (items : List X) (v : Option X) → LastBy made items (Ok v) → (w : Option X) × (made ≡ Ok w) × LastBy {E = E} (Ok w) items (Ok v)
+  last_value made items None at = (_, at.exit, record { exit = refl })
+  last_value made items (Some x) at = absurd at.exit
 
-  pub last_fails : FailsLast {D = D} {E = E} (λ made items last. LastExit {A = X} items last made) (λ made items last. LastExit items last made)
-  last_fails = record { at_value = last_value; at_failure = λ made items d at. (at, (λ e. refl)) }
+  pub last_fails : FailsLast (LastBy {A = X} {E = D}) (LastBy {A = X} {E = E})
+  last_fails = record { at_value = last_value; at_failure = λ made items d at. (at.exit, (λ e. record { exit = refl })) }
 
-  abbrev pub NthCame : {D : Type 0} → ℕ → Answered X D → List X → Answered X D → Type 0
-  NthCame n made items last = (last ≡ made) × NthExit n (length items) made
+  nth_value : (n : ℕ) (made : Answered X D) (items : List X) (v : Option X) → NthBy n made items (Ok v) → (w : Option X) × (made ≡ Ok w) × NthBy {E = E} n (Ok w) items (Ok v)
+  nth_value n made items None at = (None, sym at.is, record { is = refl; exit = subst (NthExit n (length items)) (sym at.is) at.exit })
+  nth_value n made items (Some x) at = (Some x, sym at.is, record { is = refl; exit = subst (NthExit n (length items)) (sym at.is) at.exit })
 
-  nth_value : (n : ℕ) (made : Answered X D) (items : List X) (v : Option X) → NthCame n made items (Ok v) → (w : Option X) × (made ≡ Ok w) × NthCame {D = E} n (Ok w) items (Ok v)
-  nth_value n made items None at = (None, sym at.0, (refl, subst (NthExit n (length items)) (sym at.0) at.1))
-  nth_value n made items (Some x) at = (Some x, sym at.0, (refl, subst (NthExit n (length items)) (sym at.0) at.1))
-
-  pub nth_fails : (n : ℕ) → FailsLast {D = D} {E = E} (NthCame n) (NthCame n)
-  nth_fails n = record { at_value = nth_value n; at_failure = λ made items d at. (sym at.0, (λ e. (refl, subst (NthExit n (length items)) (sym at.0) at.1))) }
+  pub nth_fails : (n : ℕ) → FailsLast (NthBy {A = X} {E = D} n) (NthBy {A = X} {E = E} n)
+  nth_fails n = record { at_value = nth_value n; at_failure = λ made items d at. (sym at.is, (λ e. record { is = refl; exit = subst (NthExit n (length items)) (sym at.is) at.exit })) }
 
 -- ---- what becomes of the last answer
 
