@@ -56,11 +56,11 @@ take_while_source s = s.it
 
 -- the predicate
 abbrev pub take_while_predicate : {I P : Type 0} → TakeWhile I P → P
-take_while_predicate s = s.testing.0
+take_while_predicate s = s.taking.1
 
 -- whether an item was refused
 abbrev pub take_while_refused : {I P : Type 0} → TakeWhile I P → Bool
-take_while_refused s = s.testing.1
+take_while_refused s = s.taking.0
 
 -- the source and the predicate, and whether an item was refused
 abbrev pub take_while_parts : {I P : Type 0} → TakeWhile I P → (I × P) × Bool
@@ -75,8 +75,8 @@ refused_by refused (Ok false) = true
 refused_by refused (Err e) = refused
 
 -- one call of the predicate, beside which stands whether an item was refused
-abbrev pub refusing_call : {F X E : Type 0} → (F → X → Result Bool E → F → Type 0) → F × Bool → X → Result Bool E → F × Bool → Type 0
-refusing_call call p x v q = call p.0 x v q.0 × (q.1 ≡ refused_by p.1 v)
+abbrev pub refusing_call : {F X E : Type 0} → (F → X → Result Bool E → F → Type 0) → Bool × F → X → Result Bool E → Bool × F → Type 0
+refusing_call call p x v q = call p.1 x v q.1 × (q.0 ≡ refused_by p.0 v)
 
 -- ---- what it lists
 

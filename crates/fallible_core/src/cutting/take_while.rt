@@ -15,8 +15,8 @@ use fallible_contract::passing::{Outcome, Pass, passed};
 #[derive(Clone, Debug, Drop)]
 pub struct TakeWhile<I, P> {
     pub(crate) it: I,
-    // the predicate, and whether it refused an item
-    pub(crate) testing: (P, bool),
+    // whether an item was refused, and the predicate
+    pub(crate) taking: (bool, P),
 }
 
 impl<I: FallibleIterator, P: FnMut(&I::Item) -> Result<bool, I::Error>> FallibleIterator
@@ -32,14 +32,14 @@ where
 
     /// Draws one answer and calls the predicate where it is an item; draws none once an item was refused.
     fn next(&mut self) -> Result<Option<I::Item>, I::Error> {
-        if self.testing.1 {
+        if self.taking.0 {
             return Ok(None);
         }
-        passed(self.it.next(), &mut self.testing, &TakeWhilePass)
+        passed(self.it.next(), &mut self.taking, &TakeWhilePass)
     }
 
     fn size_hint(&self) -> (usize, Option<usize>) {
-        if self.testing.1 {
+        if self.taking.0 {
             (0, Some(0))
         } else {
             (0, self.it.size_hint().1)
@@ -51,10 +51,10 @@ where
         state: &mut C,
         turn: &K,
     ) -> Result<Option<R>, I::Error> {
-        if self.testing.1 {
+        if self.taking.0 {
             return Ok(None);
         }
-        drive_passing(&mut self.it, &mut self.testing, &TakeWhilePass, state, turn)
+        drive_passing(&mut self.it, &mut self.taking, &TakeWhilePass, state, turn)
     }
 
     ghost lawful = { lawful_seen take_while_parts (lawful_take_while P.FnMut I.lawful) };
@@ -64,22 +64,22 @@ where
 #[derive(Drop)]
 struct TakeWhilePass;
 
-impl<X: Drop, E, P: FnMut(&X) -> Result<bool, E>> Pass<(P, bool), X, E> for TakeWhilePass {
+impl<X: Drop, E, P: FnMut(&X) -> Result<bool, E>> Pass<(bool, P), X, E> for TakeWhilePass {
     type Kept = X;
 
     type Answer = Result<bool, E>;
 
-    ghost can_pass = { λ _ p x. takes_at P.FnMut p.0 x };
+    ghost can_pass = { λ _ p x. takes_at P.FnMut p.1 x };
 
     ghost call = { λ _ p x v q. refusing_call (call_at P.FnMut) p x v q };
 
     ghost outcome = { λ _ x v. take_while_outcome x v };
 
-    fn pass(&self, state: &mut (P, bool), item: X) -> Outcome<X, E> {
-        match (state.0)(&item) {
+    fn pass(&self, state: &mut (bool, P), item: X) -> Outcome<X, E> {
+        match (state.1)(&item) {
             Ok(true) => Outcome::Kept(item),
             Ok(false) => {
-                state.1 = true;
+                state.0 = true;
                 Outcome::End
             }
             Err(e) => Outcome::Failure(e),
