@@ -18,32 +18,32 @@ module _ {A C R : Type 0} (made : List A → C → Type 0) (turns : C → A → 
   gathered before (x ∷ items) c d h went = subst (λ l. made l d) (append_assoc before (x ∷ []) items) (gathered (before ++ x ∷ []) items went.0 d (adds c x went.0 went.1 before h) went.2)
 
   module _ {S E : Type 0} (steps : S → Answered A E → S → Type 0) {s t : S} {c : C} (is_empty : made [] c) where
-    made_by : {r : Answered R E} {d : C} → (w : Driven steps turns s c r t d) → made w.items w.at.0
-    made_by w = gathered [] w.items c w.at.0 is_empty w.at.1
+    made_by : {r : Answered R E} {d : C} → (w : Driven steps turns s c r t d) → made w.items w.at.carried
+    made_by w = gathered [] w.items c w.at.carried is_empty w.at.went
 
-    ended : (d : C) (w : Driven steps turns s c (Ok None) t d) (last : Answered A E) → Run steps s (map item w.items ++ last ∷ []) t → DriveExit turns w.at.0 last (Ok None) d → CollectsAll steps made s d
+    ended : (d : C) (w : Driven steps turns s c (Ok None) t d) (last : Answered A E) → Run steps s (map item w.items ++ last ∷ []) t → DriveExit turns w.at.carried last (Ok None) d → CollectsAll steps made s d
     ended d w (Ok None) ran e = record { items = w.items; left = t; ran = ran; is_made = subst (λ z. made w.items z) (sym e.1) (made_by w) }
     ended d w (Ok (Some x)) ran e = absurd (let f = e.2 in cc)
     ended d w (Err f) ran e = absurd (let f = e.0 in cc)
 
     pub gathered_all : (d : C) → Driven steps turns s c (Ok None) t d → CollectsAll steps made s d
-    gathered_all d w = ended d w w.last w.ran w.at.2
+    gathered_all d w = ended d w w.last w.ran w.at.exit
 
-    failed : (d : C) (e : E) (w : Driven steps turns s c (Err e) t d) (last : Answered A E) → Run steps s (map item w.items ++ last ∷ []) t → DriveExit turns w.at.0 last (Err e) d → FailsWith steps made s e
+    failed : (d : C) (e : E) (w : Driven steps turns s c (Err e) t d) (last : Answered A E) → Run steps s (map item w.items ++ last ∷ []) t → DriveExit turns w.at.carried last (Err e) d → FailsWith steps made s e
     failed d e w (Ok None) ran h = absurd (let f = h.0 in cc)
     failed d e w (Ok (Some x)) ran h = absurd (let f = h.2 in cc)
-    failed d e w (Err f) ran h = let same : f ≡ e = (let is = h.0 in cc) in record { items = w.items; collection = w.at.0; left = t; ran = subst (λ z. Run steps s (map item w.items ++ Err z ∷ []) t) same ran; is_made = made_by w }
+    failed d e w (Err f) ran h = let same : f ≡ e = (let is = h.0 in cc) in record { items = w.items; collection = w.at.carried; left = t; ran = subst (λ z. Run steps s (map item w.items ++ Err z ∷ []) t) same ran; is_made = made_by w }
 
     pub gathered_failed : (d : C) (e : E) → Driven steps turns s c (Err e) t d → FailsWith steps made s e
-    gathered_failed d e w = failed d e w w.last w.ran w.at.2
+    gathered_failed d e w = failed d e w w.last w.ran w.at.exit
 
-    stopped : (d : C) (q : R) (stops : C → A → Type 0) → ((c : C) (x : A) (d : C) → turns c x (Break q) d → stops c x) → (w : Driven steps turns s c (Ok (Some q)) t d) (last : Answered A E) → Run steps s (map item w.items ++ last ∷ []) t → DriveExit turns w.at.0 last (Ok (Some q)) d → RefusesItem steps made stops s
+    stopped : (d : C) (q : R) (stops : C → A → Type 0) → ((c : C) (x : A) (d : C) → turns c x (Break q) d → stops c x) → (w : Driven steps turns s c (Ok (Some q)) t d) (last : Answered A E) → Run steps s (map item w.items ++ last ∷ []) t → DriveExit turns w.at.carried last (Ok (Some q)) d → RefusesItem steps made stops s
     stopped d q stops by w (Ok None) ran h = absurd (let f = h.0 in cc)
-    stopped d q stops by w (Ok (Some x)) ran h = let same : h.0 ≡ q = (let f = h.2 in cc) in record { items = w.items; refused = x; collection = w.at.0; left = t; ran = ran; is_made = made_by w; refuses_it = by w.at.0 x d (subst (λ (z : R). turns w.at.0 x (Break z) d) same h.1) }
+    stopped d q stops by w (Ok (Some x)) ran h = let same : h.0 ≡ q = (let f = h.2 in cc) in record { items = w.items; refused = x; collection = w.at.carried; left = t; ran = ran; is_made = made_by w; refuses_it = by w.at.carried x d (subst (λ (z : R). turns w.at.carried x (Break z) d) same h.1) }
     stopped d q stops by w (Err f) ran h = absurd (let f = h.0 in cc)
 
     pub gathered_stopped : (d : C) (q : R) (stops : C → A → Type 0) → ((c : C) (x : A) (d : C) → turns c x (Break q) d → stops c x) → Driven steps turns s c (Ok (Some q)) t d → RefusesItem steps made stops s
-    gathered_stopped d q stops by w = stopped d q stops by w w.last w.ran w.at.2
+    gathered_stopped d q stops by w = stopped d q stops by w w.last w.ran w.at.exit
 
 -- ---- collect
 

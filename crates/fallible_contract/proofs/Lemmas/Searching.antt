@@ -4,8 +4,8 @@ use Rattle.std.specs.List.{FoldsTo}
 use Rattle.std.proofs.Common.{refl, sym, ap, ◌∙◌, subst, arith}
 use Rattle.fallible_contract.specs.Traces.{Answered}
 use Rattle.fallible_contract.specs.Contract.{Contract, AtMost, Lawful}
-use Rattle.fallible_contract.specs.Folds.{HoldsAtEachTurn, goes_on, DriveExit, Driven, stopped_answer}
-use Rattle.fallible_contract.proofs.Lemmas.Folds.{count_fits, turns_map}
+use Rattle.fallible_contract.specs.Folds.{HoldsAtEachTurn, goes_on, DriveExit, Driven}
+use Rattle.fallible_contract.proofs.Lemmas.Folds.{count_fits, drained_map, turns_map}
 use Rattle.fallible_contract.specs.Searching.{Passed, Decided, IsSearchTurn, IsPositionTurn, SearchExit, CallableInSearch, Searched, find_pick, IsFindTurn, answer_by, found_by}
 use Rattle.std.specs.declared.ops.ControlFlow.{ControlFlow}
 use Rattle.std.specs.declared.ops.ControlFlow.TheVariants.{Continue, Break}
@@ -26,8 +26,11 @@ module _ {A E F V R C : Type 0} (call : F → A → Result V E → F → Type 0)
 
   pub searched_by : {S : Type 0} {steps : S → Answered A E → S → Type 0} {s t : S} {c d : C} {answer : Answered (Result R E) E} (none : R) (r : Result R E) → At 0 c → Driven steps turns s c answer t d → r ≡ answer_by none answer → Searched call pick steps none s (closure c) r t (closure d)
   searched_by {c = c} {d = d} {answer = answer} none r at h by =
-      let p = passed_all h.items 0 c h.at.0 at h.at.1 in
-      record { items = h.items; last = h.last; ran = h.ran; at = (closure h.at.0, p.0, search_exit none h.last (length h.items) h.at.0 d answer r (subst (λ k. At k h.at.0) (omega arith) p.1) h.at.2 by) }
+      drained_map (λ items last w. let p = passed_all items 0 c w.carried at w.went in record {
+        closure = closure w.carried;
+        went = p.0;
+        exit = search_exit none last (length items) w.carried d answer r (subst (λ k. At k w.carried) (omega arith) p.1) w.exit by;
+      }) h
 
 module _ {S A E F V R : Type 0} {steps : S → Answered A E → S → Type 0} {call : F → A → Result V E → F → Type 0} {pick : ℕ → A → V → Option R} {s t : S} {f : F} {answer : Answered (Result R E) E} where
   -- the state is the closure
@@ -56,4 +59,4 @@ module _ {A E C : Type 0} (tests : C → A → Result Bool E → C → Type 0) (
   find_exit (Ok (Some x)) n c d answer r h by = subst (λ (q : Answered A E). Decided tests find_pick n c x q d) (sym (by ∙ ap found_by h.2)) (turn c x (Break h.0) d h.1 n)
 
   pub found_search : {S : Type 0} {steps : S → Answered A E → S → Type 0} {s t : S} {c d : C} {answer : Answered (Result A E) E} {r : Answered A E} → Driven steps turns s c answer t d → r ≡ found_by answer → Searched tests find_pick steps None s c r t d
-  found_search {c = c} {d = d} {answer = answer} {r = r} h by = record { items = h.items; last = h.last; ran = h.ran; at = (h.at.0, turns_map (λ c x e w. turn c x (Continue tt) e w) h.items c h.at.0 h.at.1, find_exit h.last (length h.items) h.at.0 d answer r h.at.2 by) }
+  found_search {c = c} {d = d} {answer = answer} {r = r} h by = drained_map (λ items last w. record { closure = w.carried; went = turns_map (λ c x e k. turn c x (Continue tt) e k) items c w.carried w.went; exit = find_exit last (length items) w.carried d answer r w.exit by }) h
