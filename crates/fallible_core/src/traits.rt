@@ -513,8 +513,7 @@ pub trait FallibleIterator: Drop + Sized {
     {
         TakeWhile {
             it: self,
-            predicate: Some(predicate),
-            refused: false,
+            taking: (false, predicate),
         }
     }
 
@@ -717,8 +716,7 @@ pub trait FallibleIterator: Drop + Sized {
     {
         SkipWhile {
             it: self,
-            found: false,
-            predicate: Some(predicate),
+            skipping: (false, predicate),
         }
     }
 

@@ -5,7 +5,7 @@ use Rattle.std.proofs.Common.{refl, sym, ap, ◌∙◌, subst, arith}
 use Rattle.fallible_contract.specs.Traces.{Answered, Run, Yields, item}
 use Rattle.fallible_contract.specs.Contract.{Contract, AtMost, Lawful}
 use Rattle.fallible_contract.proofs.Lemmas.Contract.{number_of_at_most}
-use Rattle.fallible_contract.specs.Folds.{Drained, CountExit, CountedBy, Counted, LastExit, LastBy, LastOf, HoldsAtEachTurn, went_on_with, CallableInFold, IsFoldTurn, IsFoldTurnInSlot, takes_in_slot, FoldExit, FoldedBy, Folded, goes_on, DriveExit, CallableDriving, DrivenBy, Driven, TurnBehind}
+use Rattle.fallible_contract.specs.Folds.{Drained, CountExit, Counted, LastExit, LastOf, HoldsAtEachTurn, went_on_with, CallableInFold, IsFoldTurn, IsFoldTurnInSlot, takes_in_slot, FoldExit, Folded, goes_on, DriveExit, CallableDriving, Driven, TurnBehind}
 use Rattle.std.specs.declared.ops.ControlFlow.{ControlFlow}
 use Rattle.std.specs.declared.ops.ControlFlow.TheVariants.{Continue, Break}
 

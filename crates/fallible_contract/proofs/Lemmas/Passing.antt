@@ -1,7 +1,7 @@
 -- A trace that lets answers pass, answer by answer.
 use Rattle.std.specs.Prelude.{◌≡◌, ℕ, length, true, false, List, [], ◌∷◌, ◌++◌, map, Option, Result, Some, None, Ok, Err}
-use Rattle.std.specs.List.{FoldsTo, filter_map}
-use Rattle.std.proofs.Common.{refl, sym, ap, subst}
+use Rattle.std.specs.List.{FoldsTo}
+use Rattle.std.proofs.Common.{refl, sym, subst}
 use Rattle.fallible_contract.specs.Traces.{Answered, Run, Yields, item}
 use Rattle.fallible_contract.specs.Contract.{Contract, Lawful}
 use Rattle.fallible_contract.specs.Closures.{Reaches, IsCallable}
@@ -10,7 +10,7 @@ use Rattle.fallible_contract.proofs.Lemmas.Contract.{given_after}
 use Rattle.fallible_contract.specs.Laws.Closures.{reaches_here, reaches_weaken, reaches_from}
 use Rattle.fallible_contract.specs.Folds.{HoldsAtEachTurn}
 use Rattle.fallible_contract.proofs.Lemmas.Folds.{turns_map, holds_map}
-use Rattle.fallible_contract.specs.Passing.{ItemPassed, PassTest, PassAnswer, IfItem, outcome_answer, PassTrace, call_of}
+use Rattle.fallible_contract.specs.Passing.{ItemPassed, PassTest, PassAnswer, IfItem, outcome_answer, PassTrace}
 use Rattle.fallible_contract.specs.Searching.{Passed, Decided, SearchExit, CallableInSearch, Searched, find_pick}
 use Rattle.fallible_contract.specs.Laws.Passing.{Passes, done, end_passes, failure_passes, keeps, refuses, closes, leaves_out, to_passes, from_passes}
 use Rattle.fallible_contract.specs.declared.passing.Outcome.{Outcome}

@@ -1,11 +1,11 @@
 -- `TakeWhile`, which ends for good at the first item that a predicate refuses.
-use Rattle.std.specs.Prelude.{◌≡◌, List, [], ◌∷◌, map, Option, Result, Ok, Err, Bool, true, false}
+use Rattle.std.specs.Prelude.{◌≡◌, List, [], ◌∷◌, map, Result, Ok, Err, Bool, true, false}
 use Rattle.std.specs.List.{filter_map}
 use Rattle.std.specs.Fn.{Mut}
 use Rattle.std.specs.Borrow.{Bor}
 use Rattle.fallible_contract.specs.Traces.{Answered, Run, item, failure, end}
 use Rattle.fallible_contract.specs.Contract.{Contract}
-use Rattle.fallible_contract.specs.Closures.{Calls, call_in, IsCallableIn, call_at, takes_at}
+use Rattle.fallible_contract.specs.Closures.{Calls, IsCallable, call_at, takes_at}
 use Rattle.fallible_contract.specs.Passing.{Place, asked, failure_at, end_at, source_answer, call_of, passing_contract}
 use Rattle.fallible_contract.specs.Hints.{upper_alone}
 use Rattle.fallible_contract.specs.Closing.{ClosingTrace, closing_contract}
@@ -35,7 +35,7 @@ is_refused (asked x (Err e)) = false
 is_refused (failure_at e) = false
 is_refused end_at = false
 
--- `TakeWhile`: the source's trace, with the predicate called on each item, in which an item is replaced by the predicate's failure on it, and the first refused one by an end, which closes. The parts are the source and what holds the predicate, and whether an item was refused.
+-- `TakeWhile`: the source's trace, with the predicate called on each item, in which an item is replaced by the predicate's failure on it, and the first refused one by an end, which closes. The parts are the source and the predicate, and whether an item was refused.
 pub record TakeWhileTrace {S F X E : Type 0} (steps : S → Answered X E → S → Type 0) (call : F → X → Result Bool E → F → Type 0) (p : (S × F) × Bool) (trace : List (Answered X E)) (q : (S × F) × Bool) : Type 0 where
   pub places : List (Place X (Result Bool E) E)
   pub drawn : Run steps (p.0).0 (map source_answer places) (q.0).0
@@ -47,36 +47,36 @@ abbrev pub place_drawn : {S F X R E : Type 0} → (S → Answered X E → S → 
 place_drawn steps call p x q = steps p.0 (source_answer x) q.0 × Calls call p.1 (filter_map call_of (x ∷ [])) q.1
 
 -- `TakeWhile`'s contract, with the flag whether an item was refused: the predicate may be called on each item that may come, and until then the hint has the source's upper bound alone.
-abbrev pub take_while_contract : {S F X E : Type 0} → Contract S X E → Mut F (Bor X × Unit {0}) (Result Bool E) → Contract ((S × Option F) × Bool) X E
-take_while_contract m g = closing_contract (passing_contract m (call_in (call_at g)) (IsCallableIn (call_at g) (takes_at g)) take_while_outcome (λ p h. upper_alone m p.0 h)) (place_drawn m.steps (call_in (call_at g))) taken_answer is_refused
+abbrev pub take_while_contract : {S F X E : Type 0} → Contract S X E → Mut F (Bor X × Unit {0}) (Result Bool E) → Contract ((S × F) × Bool) X E
+take_while_contract m g = closing_contract (passing_contract m (call_at g) (λ P f. IsCallable (call_at g) (takes_at g) P f) take_while_outcome (λ p h. upper_alone m p.0 h)) (place_drawn m.steps (call_at g)) taken_answer is_refused
 
 -- the source
 abbrev pub take_while_source : {I P : Type 0} → TakeWhile I P → I
 take_while_source s = s.it
 
--- the slot of the predicate
-abbrev pub take_while_predicate : {I P : Type 0} → TakeWhile I P → Option P
-take_while_predicate s = s.predicate
+-- the predicate
+abbrev pub take_while_predicate : {I P : Type 0} → TakeWhile I P → P
+take_while_predicate s = s.taking.1
 
 -- whether an item was refused
 abbrev pub take_while_refused : {I P : Type 0} → TakeWhile I P → Bool
-take_while_refused s = s.refused
+take_while_refused s = s.taking.0
 
--- the source and the slot of the predicate, and whether an item was refused
-abbrev pub take_while_parts : {I P : Type 0} → TakeWhile I P → (I × Option P) × Bool
+-- the source and the predicate, and whether an item was refused
+abbrev pub take_while_parts : {I P : Type 0} → TakeWhile I P → (I × P) × Bool
 take_while_parts s = ((take_while_source s, take_while_predicate s), take_while_refused s)
 
 -- ---- its fold, through the source's own
 
--- whether the predicate's answer refuses the item
-abbrev pub refuses : {E : Type 0} → Result Bool E → Bool
-refuses (Ok true) = false
-refuses (Ok false) = true
-refuses (Err e) = false
+-- whether an item was refused, once the predicate answered on one more
+abbrev pub refused_by : {E : Type 0} → Bool → Result Bool E → Bool
+refused_by refused (Ok true) = refused
+refused_by refused (Ok false) = true
+refused_by refused (Err e) = refused
 
--- one call of the predicate, which leaves beside it whether it refused the item
-abbrev pub refusing_call : {F X E : Type 0} → (F → X → Result Bool E → F → Type 0) → F × Bool → X → Result Bool E → F × Bool → Type 0
-refusing_call call p x v q = call p.0 x v q.0 × (q.1 ≡ refuses v)
+-- one call of the predicate, beside which stands whether an item was refused
+abbrev pub refusing_call : {F X E : Type 0} → (F → X → Result Bool E → F → Type 0) → Bool × F → X → Result Bool E → Bool × F → Type 0
+refusing_call call p x v q = call p.1 x v q.1 × (q.0 ≡ refused_by p.0 v)
 
 -- ---- what it lists
 

@@ -3,7 +3,6 @@ ghost use Rattle.std.specs.Prelude.{[], ◌∷◌};
 ghost use Rattle.fallible_core.specs.Cutting.Skip.{SkipTrace};
 
 use crate::traits::FallibleIterator;
-use fallible_contract::folds::{Exit, NthTurn};
 
 // Leaves out as many items as `left` says, and answers the item after them, or a failure or an end that comes before it. Each left-out item lowers `left` by one.
 pub(crate) fn next_past<I: FallibleIterator>(
@@ -26,32 +25,5 @@ where
             Err(e) => return Err(e),
         }
         *left -= 1;
-    }
-}
-
-// The same by one fold of the source, which asks that it is finite.
-pub(crate) fn reach_past<I: FallibleIterator>(
-    it: &mut I,
-    left: &mut usize,
-) -> Result<Option<I::Item>, I::Error>
-where
-    I::Item: Drop,
-    requires can_next { I.contract.can_next it.old }
-    requires finite { I.contract.is_finite it.old }
-    ensures { SkipTrace I.contract.steps (it.old, left.old) (result ∷ []) (it.new, left.new) }
-{
-    match it.try_fold_carrying(*left, &NthTurn) {
-        Exit::Ended(still) => {
-            *left = still;
-            Ok(None)
-        }
-        Exit::Failed(still, e) => {
-            *left = still;
-            Err(e)
-        }
-        Exit::Stopped(item) => {
-            *left = 0;
-            Ok(Some(item))
-        }
     }
 }

@@ -6,7 +6,7 @@ ghost use Rattle.fallible_core.specs.Cutting.Fuse.{fuse_contract, fuse_parts};
 ghost use Rattle.fallible_core.specs.Laws.Cutting.Fuse.{lawful_fuse};
 
 use crate::traits::FallibleIterator;
-use fallible_contract::folds::{Exit, Turn};
+use fallible_contract::folds::Turn;
 
 /// The answers of the source up to its first end, and then ends. A failure ends nothing.
 #[derive(Clone, Debug, Drop)]
@@ -45,48 +45,48 @@ impl<I: FallibleIterator> FallibleIterator for Fuse<I> {
         }
     }
 
-    fn try_fold_carrying<C, R, K: Turn<C, I::Item, R>>(
+    fn drive<C, R, K: Turn<C, I::Item, R>>(
         &mut self,
-        init: C,
+        state: &mut C,
         turn: &K,
-    ) -> Exit<C, I::Error, R> {
+    ) -> Result<Option<R>, I::Error> {
         let Fuse { it, ended } = self;
         if *ended {
-            return Exit::Ended(init);
+            return Ok(None);
         }
-        match it.try_fold_carrying(init, turn) {
-            Exit::Ended(carried) => {
+        match it.drive(state, turn) {
+            Ok(Some(stop)) => Ok(Some(stop)),
+            Ok(None) => {
                 *ended = true;
-                Exit::Ended(carried)
+                Ok(None)
             }
-            Exit::Failed(carried, e) => Exit::Failed(carried, e),
-            Exit::Stopped(stop) => Exit::Stopped(stop),
+            Err(e) => Err(e),
         }
     }
 
     /// The source's count, and 0 once its end was met.
-    fn count(self) -> Result<usize, I::Error>
+    fn drive_count(self) -> Result<usize, I::Error>
     where
         I::Item: Drop,
     {
         if self.ended {
             return Ok(0);
         }
-        self.it.count()
+        self.it.drive_count()
     }
 
-    fn last(self) -> Result<Option<I::Item>, I::Error>
+    fn drive_last(self) -> Result<Option<I::Item>, I::Error>
     where
         I::Item: Drop,
     {
         if self.ended {
             return Ok(None);
         }
-        self.it.last()
+        self.it.drive_last()
     }
 
     /// The source's `nth`, whose none is its end and closes it; a failure doesn't.
-    fn nth(&mut self, n: usize) -> Result<Option<I::Item>, I::Error>
+    fn drive_nth(&mut self, n: usize) -> Result<Option<I::Item>, I::Error>
     where
         I::Item: Drop,
     {
@@ -94,7 +94,7 @@ impl<I: FallibleIterator> FallibleIterator for Fuse<I> {
         if *ended {
             return Ok(None);
         }
-        match it.nth(n) {
+        match it.drive_nth(n) {
             Ok(Some(x)) => Ok(Some(x)),
             Ok(None) => {
                 *ended = true;

@@ -5,9 +5,9 @@ ghost use Rattle.fallible_contract.specs.Laws.Contract.{lawful_seen};
 ghost use Rattle.fallible_core.specs.Cutting.Skip.{skip_contract, skip_parts};
 ghost use Rattle.fallible_core.specs.Laws.Cutting.Skip.{lawful_skip};
 
-use crate::cutting::counting::{next_past, reach_past};
+use crate::cutting::counting::next_past;
 use crate::traits::FallibleIterator;
-use fallible_contract::folds::{Exit, Turn};
+use fallible_contract::folds::{NthTurn, Turn};
 use fallible_contract::hints::less;
 use std::ops::ControlFlow;
 
@@ -39,18 +39,18 @@ where
     }
 
     /// One fold of the source up to the first item that stays, and after that item another one of the rest.
-    fn try_fold_carrying<C, R, K: Turn<C, I::Item, R>>(
+    fn drive<C, R, K: Turn<C, I::Item, R>>(
         &mut self,
-        init: C,
+        state: &mut C,
         turn: &K,
-    ) -> Exit<C, I::Error, R> {
-        match reach_past(&mut self.it, &mut self.to_skip) {
-            Ok(Some(x)) => match turn.turn(init, x) {
-                ControlFlow::Continue(carried) => self.it.try_fold_carrying(carried, turn),
-                ControlFlow::Break(stop) => Exit::Stopped(stop),
+    ) -> Result<Option<R>, I::Error> {
+        match self.it.drive(&mut self.to_skip, &NthTurn) {
+            Ok(Some(x)) => match turn.turn(state, x) {
+                ControlFlow::Continue(()) => self.it.drive(state, turn),
+                ControlFlow::Break(stop) => Ok(Some(stop)),
             },
-            Ok(None) => Exit::Ended(init),
-            Err(e) => Exit::Failed(init, e),
+            Ok(None) => Ok(None),
+            Err(e) => Err(e),
         }
     }
 

@@ -6,9 +6,9 @@ ghost use Rattle.fallible_core.specs.Cutting.StepBy.{step_by_contract, step_by_p
 ghost use Rattle.fallible_core.specs.Laws.Cutting.StepBy.{lawful_step_by};
 
 use crate::cutting::counting::next_past;
-use crate::passing::fold_passing;
+use crate::passing::drive_passing;
 use crate::traits::FallibleIterator;
-use fallible_contract::folds::{Exit, Turn};
+use fallible_contract::folds::Turn;
 use fallible_contract::hints::kept;
 use fallible_contract::passing::{Outcome, Pass};
 
@@ -49,23 +49,21 @@ where
     }
 
     /// One fold of the source, which counts down the items that are left out.
-    fn try_fold_carrying<C, R, K: Turn<C, I::Item, R>>(
+    fn drive<C, R, K: Turn<C, I::Item, R>>(
         &mut self,
-        init: C,
+        state: &mut C,
         turn: &K,
-    ) -> Exit<C, I::Error, R> {
+    ) -> Result<Option<R>, I::Error> {
         let adapter = StepByPass {
             between: self.between,
         };
-        let (left, exit) = fold_passing(&mut self.it, self.left, &adapter, init, turn);
-        self.left = left;
-        exit
+        drive_passing(&mut self.it, &mut self.left, &adapter, state, turn)
     }
 
     ghost lawful = { lawful_seen step_by_parts (lawful_step_by I.lawful) };
 }
 
-// An item that is left out lowers what is left, and the one after them is kept. How many are left out next is carried.
+// An item that is left out lowers what is left, and the one after them is kept. The state is how many are left out next.
 #[derive(Drop)]
 struct StepByPass {
     between: usize,
@@ -82,11 +80,13 @@ impl<X: Drop, E> Pass<usize, X, E> for StepByPass {
 
     ghost outcome = { λ _ x v. count_outcome x v };
 
-    fn pass(&self, state: usize, item: X) -> (usize, Outcome<X, E>) {
-        if 0 < state {
-            (state - 1, Outcome::LeftOut)
+    fn pass(&self, state: &mut usize, item: X) -> Outcome<X, E> {
+        if 0 < *state {
+            *state -= 1;
+            Outcome::LeftOut
         } else {
-            (self.between, Outcome::Kept(item))
+            *state = self.between;
+            Outcome::Kept(item)
         }
     }
 }

@@ -6,19 +6,17 @@ ghost use Rattle.fallible_contract.specs.Laws.Contract.{lawful_seen};
 ghost use Rattle.fallible_core.specs.Cutting.TakeWhile.{refusing_call, take_while_contract, take_while_outcome, take_while_parts};
 ghost use Rattle.fallible_core.specs.Laws.Cutting.TakeWhile.{lawful_take_while};
 
-use crate::passing::fold_passing;
+use crate::passing::drive_passing;
 use crate::traits::FallibleIterator;
-use fallible_contract::folds::{Exit, Turn, take_out};
+use fallible_contract::folds::Turn;
 use fallible_contract::passing::{Outcome, Pass, passed};
 
 /// The answers of the source up to the first item that the predicate refuses, which is lost, and from there on ends. An item on which the predicate fails is lost, and its failure is the answer; neither it nor an end of the source ends anything.
 #[derive(Clone, Debug, Drop)]
 pub struct TakeWhile<I, P> {
     pub(crate) it: I,
-    // empty only during a call
-    pub(crate) predicate: Option<P>,
-    // whether an item was refused
-    pub(crate) refused: bool,
+    // whether an item was refused, and the predicate
+    pub(crate) taking: (bool, P),
 }
 
 impl<I: FallibleIterator, P: FnMut(&I::Item) -> Result<bool, I::Error>> FallibleIterator
@@ -34,66 +32,57 @@ where
 
     /// Draws one answer and calls the predicate where it is an item; draws none once an item was refused.
     fn next(&mut self) -> Result<Option<I::Item>, I::Error> {
-        if self.refused {
+        if self.taking.0 {
             return Ok(None);
         }
-        let drawn = self.it.next();
-        let state = (take_out(&mut self.predicate), false);
-        let (state, answer) = passed(drawn, state, &TakeWhilePass);
-        let (predicate, refused) = state;
-        self.predicate = Some(predicate);
-        self.refused = refused;
-        answer
+        passed(self.it.next(), &mut self.taking, &TakeWhilePass)
     }
 
     fn size_hint(&self) -> (usize, Option<usize>) {
-        if self.refused {
+        if self.taking.0 {
             (0, Some(0))
         } else {
             (0, self.it.size_hint().1)
         }
     }
 
-    fn try_fold_carrying<C, R, K: Turn<C, I::Item, R>>(
+    fn drive<C, R, K: Turn<C, I::Item, R>>(
         &mut self,
-        init: C,
+        state: &mut C,
         turn: &K,
-    ) -> Exit<C, I::Error, R> {
-        if self.refused {
-            return Exit::Ended(init);
+    ) -> Result<Option<R>, I::Error> {
+        if self.taking.0 {
+            return Ok(None);
         }
-        let state = (take_out(&mut self.predicate), false);
-        let (state, exit) = fold_passing(&mut self.it, state, &TakeWhilePass, init, turn);
-        let (predicate, refused) = state;
-        self.predicate = Some(predicate);
-        self.refused = refused;
-        exit
+        drive_passing(&mut self.it, &mut self.taking, &TakeWhilePass, state, turn)
     }
 
     ghost lawful = { lawful_seen take_while_parts (lawful_take_while P.FnMut I.lawful) };
 }
 
-// An item that the predicate accepts; one that it refuses makes an end. Whether one was refused is carried beside the predicate.
+// An item that the predicate accepts; one that it refuses makes an end. Beside the predicate stands whether it refused one.
 #[derive(Drop)]
 struct TakeWhilePass;
 
-impl<X: Drop, E, P: FnMut(&X) -> Result<bool, E>> Pass<(P, bool), X, E> for TakeWhilePass {
+impl<X: Drop, E, P: FnMut(&X) -> Result<bool, E>> Pass<(bool, P), X, E> for TakeWhilePass {
     type Kept = X;
 
     type Answer = Result<bool, E>;
 
-    ghost can_pass = { λ _ p x. takes_at P.FnMut p.0 x };
+    ghost can_pass = { λ _ p x. takes_at P.FnMut p.1 x };
 
     ghost call = { λ _ p x v q. refusing_call (call_at P.FnMut) p x v q };
 
     ghost outcome = { λ _ x v. take_while_outcome x v };
 
-    fn pass(&self, state: (P, bool), item: X) -> ((P, bool), Outcome<X, E>) {
-        let (mut predicate, _) = state;
-        match predicate(&item) {
-            Ok(true) => ((predicate, false), Outcome::Kept(item)),
-            Ok(false) => ((predicate, true), Outcome::End),
-            Err(e) => ((predicate, false), Outcome::Failure(e)),
+    fn pass(&self, state: &mut (bool, P), item: X) -> Outcome<X, E> {
+        match (state.1)(&item) {
+            Ok(true) => Outcome::Kept(item),
+            Ok(false) => {
+                state.0 = true;
+                Outcome::End
+            }
+            Err(e) => Outcome::Failure(e),
         }
     }
 }

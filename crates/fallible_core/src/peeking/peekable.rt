@@ -8,7 +8,7 @@ ghost use Rattle.fallible_core.specs.Peeking.Peekable.{peekable_contract, NextIf
 ghost use Rattle.fallible_core.specs.Laws.Peeking.Peekable.{lawful_peekable};
 
 use crate::traits::FallibleIterator;
-use fallible_contract::folds::{Exit, Turn};
+use fallible_contract::folds::Turn;
 use fallible_contract::hints::one_more;
 use std::ops::ControlFlow;
 
@@ -47,18 +47,18 @@ where
     }
 
     /// The turn on a held item, and then the source's fold; a held end ends the fold without a draw.
-    fn try_fold_carrying<C, R, K: Turn<C, I::Item, R>>(
+    fn drive<C, R, K: Turn<C, I::Item, R>>(
         &mut self,
-        init: C,
+        state: &mut C,
         turn: &K,
-    ) -> Exit<C, I::Error, R> {
+    ) -> Result<Option<R>, I::Error> {
         match self.held.take() {
-            Some(Some(x)) => match turn.turn(init, x) {
-                ControlFlow::Continue(carried) => self.it.try_fold_carrying(carried, turn),
-                ControlFlow::Break(stop) => Exit::Stopped(stop),
+            Some(Some(x)) => match turn.turn(state, x) {
+                ControlFlow::Continue(()) => self.it.drive(state, turn),
+                ControlFlow::Break(stop) => Ok(Some(stop)),
             },
-            Some(None) => Exit::Ended(init),
-            None => self.it.try_fold_carrying(init, turn),
+            Some(None) => Ok(None),
+            None => self.it.drive(state, turn),
         }
     }
 

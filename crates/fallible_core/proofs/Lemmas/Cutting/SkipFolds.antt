@@ -1,17 +1,14 @@
 -- A fold of `Skip` begins by a fold of its source up to the first item that stays. After that item nothing is left to leave out: from there on a fold of the source is one of it.
 use Rattle.std.specs.Prelude.{◌≡◌, ℕ, ◌+◌, List, [], ◌∷◌, ◌++◌, map, Some, None, Ok, Err}
 use Rattle.std.specs.List.{FoldsTo}
-use Rattle.std.proofs.Common.{refl, sym, subst, arith}
+use Rattle.std.proofs.Common.{refl, sym, subst, ◌∙◌, arith}
 use Rattle.fallible_contract.specs.Traces.{Answered, Run, item}
 use Rattle.fallible_contract.specs.Contract.{Contract, seen_as}
-use Rattle.fallible_contract.specs.Folds.{HoldsAtEachTurn, Carried, CarryingExit, carrying_turn, IsNthTurn, reached_at}
+use Rattle.fallible_contract.specs.Folds.{Drained, HoldsAtEachTurn, goes_on, DriveExit, Driven, IsNthTurn}
 use Rattle.fallible_contract.proofs.Lemmas.Counting.{Leaves, none, keeps_item, keeps_end, keeps_failure, leaves_out, left_out_first, moved, nothing_left}
-use Rattle.fallible_contract.proofs.Lemmas.Folding.{holds_into, carried_into}
+use Rattle.fallible_contract.proofs.Lemmas.Folding.{holds_into, drained_into}
 use Rattle.fallible_core.specs.Cutting.Skip.{skip_parts, skip_step, skip_contract}
 use Rattle.fallible_core.proofs.Lemmas.Cutting.Skip.{skip_leaves, leaves_skip, plain_draw}
-use Rattle.std.specs.declared.ops.ControlFlow.{ControlFlow}
-use Rattle.fallible_contract.specs.declared.folds.Exit.{Exit}
-use Rattle.fallible_contract.specs.declared.folds.Exit.TheVariants.{Ended, Failed, Stopped}
 use Rattle.fallible_core.specs.declared.cutting.skip.Skip.{Skip}
 
 module _ {S A E : Type 0} (steps : S → Answered A E → S → Type 0) where
@@ -26,26 +23,21 @@ module _ {S A E : Type 0} (steps : S → Answered A E → S → Type 0) where
   -- ---- the fold that passes over the items to leave out
 
   -- each turn that goes on leaves one item out, and then comes the last answer
-  passed : (items : List A) (last : Answered A E) (n d k : ℕ) (s t : S) → FoldsTo (carrying_turn IsNthTurn) n items d → Run steps s (map item items ++ last ∷ []) t → ((u : S) → steps u last t → Leaves steps 0 d u (last ∷ []) t k) → Leaves steps 0 n s (last ∷ []) t k
+  passed : (items : List A) (last : Answered A E) (n d k : ℕ) (s t : S) → FoldsTo (goes_on IsNthTurn) n items d → Run steps s (map item items ++ last ∷ []) t → ((u : S) → steps u last t → Leaves steps 0 d u (last ∷ []) t k) → Leaves steps 0 n s (last ∷ []) t k
   passed [] last n d k s t went ran then = moved steps 0 refl went (then s (subst (λ (v : S). steps s last v) ran.2 ran.1))
   passed (x ∷ items) last n d k s t went ran then = let one : n ≡ went.0 + 1 = went.1 in
       left_out_first steps 0 x n (omega (arith, one)) ran.1 (moved steps 0 refl (omega (arith, one)) (passed items last went.0 d k ran.0 t went.2 ran.2 then))
 
-  -- how many items are left to leave out, by the exit of that fold
-  abbrev pub left_at : Exit ℕ E A → ℕ
-  left_at (Ended n) = n
-  left_at (Failed n e) = n
-  left_at (Stopped x) = 0
-
-  reached_last : (items : List A) (last : Answered A E) (n d : ℕ) (exit : Exit ℕ E A) (s t : S) → FoldsTo (carrying_turn IsNthTurn) n items d → Run steps s (map item items ++ last ∷ []) t → CarryingExit IsNthTurn d last exit → Leaves steps 0 n s (reached_at exit ∷ []) t (left_at exit)
-  reached_last items (Ok None) n d exit s t went ran at = subst (λ (z : Exit ℕ E A). Leaves steps 0 n s (reached_at z ∷ []) t (left_at z)) (sym at) (passed items (Ok None) n d d s t went ran (λ u step. keeps_end step none))
-  reached_last items (Err e) n d exit s t went ran at = subst (λ (z : Exit ℕ E A). Leaves steps 0 n s (reached_at z ∷ []) t (left_at z)) (sym at) (passed items (Err e) n d d s t went ran (λ u step. keeps_failure e step none))
-  reached_last items (Ok (Some x)) n d exit s t went ran at = subst (λ (z : Exit ℕ E A). Leaves steps 0 n s (reached_at z ∷ []) t (left_at z)) (sym at.2)
-      (subst (λ (y : A). Leaves steps 0 n s (item y ∷ []) t 0) (sym at.1.1) (passed items (item x) n d 0 s t went ran (λ u step. moved steps 0 refl at.1.0 (keeps_item x step none))))
+  reached_last : (items : List A) (last : Answered A E) (n d k : ℕ) (r : Answered A E) (s t : S) → FoldsTo (goes_on IsNthTurn) n items d → Run steps s (map item items ++ last ∷ []) t → DriveExit IsNthTurn d last r k → Leaves steps 0 n s (r ∷ []) t k
+  reached_last items (Ok None) n d k r s t went ran at = subst (λ (q : Answered A E). Leaves steps 0 n s (q ∷ []) t k) (sym at.0) (passed items (Ok None) n d k s t went ran (λ u step. moved steps 0 refl (sym at.1) (keeps_end step none)))
+  reached_last items (Err e) n d k r s t went ran at = subst (λ (q : Answered A E). Leaves steps 0 n s (q ∷ []) t k) (sym at.0) (passed items (Err e) n d k s t went ran (λ u step. moved steps 0 refl (sym at.1) (keeps_failure e step none)))
+  reached_last items (Ok (Some x)) n d k r s t went ran at = let reached = at.1 in
+      subst (λ (q : Answered A E). Leaves steps 0 n s (q ∷ []) t k) (sym at.2) (subst (λ (y : A). Leaves steps 0 n s (item y ∷ []) t k) (sym reached.1) (passed items (item x) n d k s t went ran
+      (λ u step. subst (λ (j : ℕ). Leaves steps 0 d u (item x ∷ []) t j) (sym (reached.2 ∙ reached.0)) (moved steps 0 refl reached.0 (keeps_item x step none)))))
 
   -- such a fold is one draw of `Skip`
-  pub skips_reached : {s t : S} {n : ℕ} {exit : Exit ℕ E A} → Carried steps IsNthTurn s n exit t → skip_step steps (s, n) (reached_at exit) (t, left_at exit)
-  skips_reached {s} {t} {n} {exit} w = leaves_skip steps {p = (s, n)} {q = (t, left_at exit)} (reached_last w.items w.last n w.carried exit s t w.went w.ran w.exit)
+  pub skips_reached : {s t : S} {n k : ℕ} {r : Answered A E} → Driven steps IsNthTurn s n r t k → skip_step steps (s, n) r (t, k)
+  skips_reached {s} {t} {n} {k} {r} w = leaves_skip steps {p = (s, n)} {q = (t, k)} (reached_last w.items w.last n w.at.carried k r s t w.at.went w.ran w.at.exit)
 
 abbrev skip : {S A E : Type 0} → Contract S A E → Contract (Skip S) A E
 skip m = seen_as skip_parts (skip_contract m)
@@ -60,9 +52,9 @@ module _ {S A E : Type 0} (m : Contract S A E) where
 
   module _ {s : Skip S} (at : s.to_skip ≡ 0) where
     -- what holds at each turn of it holds at each of the source
-    pub holds_past : {C : Type 0} {goes_on : C → A → C → Type 0} {P : C → A → Type 0} {c : C} → HoldsAtEachTurn (skip m).steps goes_on P s c → HoldsAtEachTurn m.steps goes_on P s.it c
-    holds_past {goes_on = goes_on} {P = P} {c = c} h = holds_into past (λ p x q step. past_step m.steps p (item x) q step) (subst (λ (n : ℕ). HoldsAtEachTurn (skip m).steps goes_on P (record { it = s.it; to_skip = n }) c) at h)
+    pub holds_past : {C : Type 0} {on : C → A → C → Type 0} {P : C → A → Type 0} {c : C} → HoldsAtEachTurn (skip m).steps on P s c → HoldsAtEachTurn m.steps on P s.it c
+    holds_past {on = on} {P = P} {c = c} h = holds_into past (λ p x q step. past_step m.steps p (item x) q step) (subst (λ (n : ℕ). HoldsAtEachTurn (skip m).steps on P (record { it = s.it; to_skip = n }) c) at h)
 
-    -- and a fold of the source is one of it
-    pub folds_past : {C R : Type 0} {turns : C → A → ControlFlow R C → Type 0} {c : C} {exit : Exit C E R} {t : S} → Carried m.steps turns s.it c exit t → Carried (skip m).steps turns s c exit (record { it = t; to_skip = s.to_skip })
-    folds_past {turns = turns} {c = c} {exit = exit} {t = t} w = subst (λ (n : ℕ). Carried (skip m).steps turns (record { it = s.it; to_skip = n }) c exit (record { it = t; to_skip = n })) (sym at) (carried_into past (λ p r q step. past_step m.steps p r q step) w)
+    -- and a drain of the source is one of it
+    pub drained_past : {came : List A → Answered A E → Type 0} {t : S} → Drained m.steps came s.it t → Drained (skip m).steps came s (record { it = t; to_skip = s.to_skip })
+    drained_past {came = came} {t = t} w = subst (λ (n : ℕ). Drained (skip m).steps came (record { it = s.it; to_skip = n }) (record { it = t; to_skip = n })) (sym at) (drained_into past (λ p r q step. past_step m.steps p r q step) w)

@@ -4,11 +4,11 @@ use Rattle.fallible_core.proofs.Lemmas.Cutting.TakeWhileFolds.{taking_step}
 use Rattle.fallible_core.proofs.Lemmas.Cutting.TakeWhile.{leaves_none_out}
 use Rattle.fallible_core.proofs.cutting.take_while.TakeWhileFallibleIterator.next.Goals as goal
 
-pub passed-state-requires-clause-takes : goal.passed-state-requires-clause-takes
-passed-state-requires-clause-takes g c = let callable = rw c.take_out.ensures.value at c.requires.1 in drawn_takes g.met.I.FallibleIterator.lawful c.requires.0 _ c.next-drawn.ensures callable
+pub passed-requires-clause-takes : goal.passed-requires-clause-takes
+passed-requires-clause-takes g c = drawn_takes g.met.I.FallibleIterator.lawful c.requires.0 _ c.next.ensures c.requires.1
 
-pub passed-state-requires-clause-answers : goal.passed-state-requires-clause-answers
-passed-state-requires-clause-answers g c = leaves_none_out
+pub passed-requires-clause-answers : goal.passed-requires-clause-answers
+passed-requires-clause-answers g c = leaves_none_out
 
 pub returns : goal.returns
-returns g c = taking_step g.I.FallibleIterator.contract g.P.FnMut c.args.self.now c.take_out.ensures.value c.if-self.false _ _ _ c.next-drawn.ensures c.passed-state.ensures
+returns g c = taking_step g.I.FallibleIterator.contract g.P.FnMut c.args.self.now c.if-self.false _ c.next.ensures c.passed.ensures
