@@ -69,14 +69,21 @@ module _ {A E F B E' : Type 0} (call : F → B → A → Result B E' → F → T
   FoldExit b f (Err e) r = (e' : E') × from e e' × (r ≡ Err e')
   FoldExit b f (Ok (Some x)) r = (f' : F) × (e' : E') × call f b x (Err e') f' × (r ≡ Err e')
 
+-- The closure was called on the items in order, each call with the value so far, b at first, and went on. Then came the last answer: an end, a failure, or an item on which the closure failed.
+pub record FoldedBy {A E F B E' : Type 0} (call : F → B → A → Result B E' → F → Type 0) (from : E → E' → Type 0) (b : B) (f : F) (r : Result B E') (items : List A) (last : Answered A E) : Type 0 where
+  pub value : B
+  pub closure : F
+  pub went : FoldsTo {P = B × F} (went_on_with call) (b, f) items (value, closure)
+  pub exit : FoldExit call from value closure last r
+
 module _ {S A E F B E' : Type 0} (steps : S → Answered A E → S → Type 0) (call : F → B → A → Result B E' → F → Type 0) where
   -- the closure may be called on the value so far and each item that may come
   abbrev pub CallableInFold : (F → B → A → Type 0) → S → F → B → Type 0
   CallableInFold takes s f b = HoldsAtEachTurn {C = B × F} steps (went_on_with call) (λ p x. takes p.1 p.0 x) s (b, f)
 
-  -- The closure was called on the items in order, each call with the value so far, b at first, and went on. Then came the last answer: an end, a failure, or an item on which the closure failed. The draws answered the items and the last answer, and left t.
+  -- The draws from s answered items and a last answer, and left t, by which the fold with f from b on answers r.
   abbrev pub Folded : (E → E' → Type 0) → S → B → F → Result B E' → S → Type 0
-  Folded from s b f r t = Drained steps (λ items last. (p : B × F) × FoldsTo {P = B × F} (went_on_with call) (b, f) items p × FoldExit call from p.0 p.1 last r) s t
+  Folded from s b f r t = Drained steps (FoldedBy call from b f r) s t
 
 -- ---- the fold that every other one goes through
 
@@ -92,14 +99,20 @@ module _ {A C R : Type 0} (turns : C → A → ControlFlow R (Unit {0}) → C �
   DriveExit c (Err e) r d = (r ≡ Err e) × (d ≡ c)
   DriveExit c (Ok (Some x)) r d = (stop : R) × turns c x (Break stop) d × (r ≡ Ok (Some stop))
 
+-- Turns on the items in order, from the state c on, went on. Then came the last answer, by which the fold answered r and left d of the state.
+pub record DrivenBy {A E C R : Type 0} (turns : C → A → ControlFlow R (Unit {0}) → C → Type 0) (c : C) (r : Answered R E) (d : C) (items : List A) (last : Answered A E) : Type 0 where
+  pub carried : C
+  pub went : FoldsTo (goes_on turns) c items carried
+  pub exit : DriveExit turns carried last r d
+
 module _ {S A E C R : Type 0} (steps : S → Answered A E → S → Type 0) (turns : C → A → ControlFlow R (Unit {0}) → C → Type 0) where
   -- a turn may be taken on the state and each item that may come
   abbrev pub CallableDriving : (C → A → Type 0) → S → C → Type 0
   CallableDriving can s c = HoldsAtEachTurn steps (goes_on turns) can s c
 
-  -- Turns on the items in order, from the state c on, went on. Then came the last answer. The fold answered r, and left t of the source and d of the state.
+  -- The draws from s answered items and a last answer, and left t, by which the fold from the state c on answers r and leaves d.
   abbrev pub Driven : S → C → Answered R E → S → C → Type 0
-  Driven s c r t d = Drained steps (λ items last. (z : C) × FoldsTo (goes_on turns) c items z × DriveExit turns z last r d) s t
+  Driven s c r t d = Drained steps (DrivenBy turns c r d) s t
 
 -- One turn on a state that holds references: what `behind` reads of it goes as in `turns`, and the references stay the same, which `names` tells.
 abbrev pub TurnBehind : {X N A C R : Type 0} → (X → C) → (X → N) → (C → A → ControlFlow R (Unit {0}) → C → Type 0) → X → A → ControlFlow R (Unit {0}) → X → Type 0
@@ -131,9 +144,12 @@ CountExit n (Ok None) r = r ≡ Ok n
 CountExit n (Err e) r = r ≡ Err e
 CountExit n (Ok (Some x)) r = ⊥
 
+pub record CountedBy {A E : Type 0} (r : Result ℕ E) (items : List A) (last : Answered A E) : Type 0 where
+  pub exit : CountExit (length items) last r
+
 -- The draws from s answered items and then an end or a failure; the result is the number of the items, or the failure.
 abbrev pub Counted : {S A E : Type 0} → (S → Answered A E → S → Type 0) → S → Result ℕ E → Type 0
-Counted {S = S} steps s r = (left : S) × Drained steps (λ items last. CountExit (length items) last r) s left
+Counted {S = S} steps s r = (left : S) × Drained steps (CountedBy r) s left
 
 -- ---- last
 
@@ -143,9 +159,12 @@ LastExit items (Ok None) r = r ≡ Ok (last_or None items)
 LastExit items (Err e) r = r ≡ Err e
 LastExit items (Ok (Some x)) r = ⊥
 
+pub record LastBy {A E : Type 0} (r : Result (Option A) E) (items : List A) (last : Answered A E) : Type 0 where
+  pub exit : LastExit items last r
+
 -- The draws from s answered items and then an end or a failure; the result is the last of the items, none of no items, or the failure.
 abbrev pub LastOf : {S A E : Type 0} → (S → Answered A E → S → Type 0) → S → Result (Option A) E → Type 0
-LastOf {S = S} steps s r = (left : S) × Drained steps (λ items last. LastExit items last r) s left
+LastOf {S = S} steps s r = (left : S) × Drained steps (LastBy r) s left
 
 -- ---- nth
 
@@ -155,9 +174,13 @@ NthExit n skipped (Ok (Some x)) = skipped ≡ n
 NthExit n skipped (Ok None) = skipped ≤ n
 NthExit n skipped (Err e) = skipped ≤ n
 
+pub record NthBy {A E : Type 0} (n : ℕ) (r : Answered A E) (skipped : List A) (last : Answered A E) : Type 0 where
+  pub is : last ≡ r
+  pub exit : NthExit n (length skipped) r
+
 -- The draws from s answered the skipped items and then r, the first answer that is the item with n items before it, a failure, or an end. They left t.
 abbrev pub Nth : {S A E : Type 0} → (S → Answered A E → S → Type 0) → S → ℕ → Answered A E → S → Type 0
-Nth steps s n r t = Drained steps (λ skipped last. (last ≡ r) × NthExit n (length skipped) r) s t
+Nth steps s n r t = Drained steps (NthBy n r) s t
 
 -- One turn of an `nth` that is one fold, where n items are still to be passed over: it passes over one of them, or stops with the item where there are none.
 abbrev pub IsNthTurn : {A : Type 0} → ℕ → A → ControlFlow A (Unit {0}) → ℕ → Type 0

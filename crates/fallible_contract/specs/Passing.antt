@@ -85,7 +85,7 @@ tested_outcome x (Ok true) = Kept x
 tested_outcome x (Ok false) = LeftOut
 tested_outcome x (Err e) = Failure e
 
--- One call of the closure on an item, as the test of a search that carries the closure.
+-- One call of the closure on an item, as the test of a search whose state is the closure.
 abbrev pub PassTest : {F X R E : Type 0} → (F → X → R → F → Type 0) → (X → R → Outcome X E) → F → X → Result Bool E → F → Type 0
 PassTest {R = R} call outcome f x v g = (w : R) × call f x w g × (outcome x w ≡ tested_outcome x v)
 

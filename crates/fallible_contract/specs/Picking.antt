@@ -131,9 +131,12 @@ module _ {A : Type 0} (keeps : Ordering) (cmp : A → A → Ordering) where
   BestExit items (Err e) r = r ≡ Err e
   BestExit items (Ok (Some x)) r = ⊥
 
+  pub record BestBy {E : Type 0} (r : Result (Option A) E) (items : List A) (last : Answered A E) : Type 0 where
+    pub exit : BestExit items last r
+
   -- The draws answered items and then an end or a failure; the result is the best of them, or the failure.
   abbrev pub Best : {S E : Type 0} → (S → Answered A E → S → Type 0) → S → Result (Option A) E → Type 0
-  Best {S = S} steps s r = (left : S) × Drained steps (λ items last. BestExit items last r) s left
+  Best {S = S} steps s r = (left : S) × Drained steps (BestBy r) s left
 
 -- ---- by an order of keys
 

@@ -1,5 +1,5 @@
 -- Searches: a closure is called on the items in order, until it decides.
-use Rattle.std.specs.Prelude.{◌≡◌, ℕ, ◌+◌, length, Bool, true, false, Option, Some, None, Result, Ok, Err}
+use Rattle.std.specs.Prelude.{◌≡◌, ℕ, ◌+◌, length, List, Bool, true, false, Option, Some, None, Result, Ok, Err}
 use Rattle.std.specs.List.{FoldsTo}
 use Rattle.fallible_contract.specs.Traces.{Answered}
 use Rattle.fallible_contract.specs.Folds.{Drained, HoldsAtEachTurn, stopped_answer}
@@ -63,14 +63,20 @@ module _ {A E F V R : Type 0} (call : F → A → Result V E → F → Type 0) (
   SearchExit none n f (Err e) r g = (r ≡ Err e) × (g ≡ f)
   SearchExit none n f (Ok (Some x)) r g = Decided n f x r g
 
+  -- The closure was called on the items in order, and the search went on. Then came the last answer: an end, a failure, or an item on which the closure decided or failed. The calls left g.
+  pub record SearchedBy (none : R) (f : F) (r : Result R E) (g : F) (items : List A) (last : Answered A E) : Type 0 where
+    pub closure : F
+    pub went : FoldsTo Passed f items closure
+    pub exit : SearchExit none (length items) closure last r g
+
   module _ {S : Type 0} (steps : S → Answered A E → S → Type 0) where
     -- the closure may be called on each item that may come after items on which the search goes on
     abbrev pub CallableInSearch : (F → A → Type 0) → S → F → Type 0
     CallableInSearch takes s f = HoldsAtEachTurn steps Passed takes s f
 
-    -- The closure was called on the items in order, and the search went on. Then came the last answer: an end, a failure, or an item on which the closure decided or failed. The draws left t, and the calls g.
+    -- The draws from s answered items and a last answer, and left t, by which the search with f answers r and leaves it as g.
     abbrev pub Searched : R → S → F → Result R E → S → F → Type 0
-    Searched none s f r t g = Drained steps (λ items last. (h : F) × FoldsTo Passed f items h × SearchExit none (length items) h last r g) s t
+    Searched none s f r t g = Drained steps (SearchedBy none f r g) s t
 
 -- what a search answers, by what its fold answered, which stops with the answer
 abbrev pub answer_by : {E R : Type 0} → R → Answered (Result R E) E → Result R E

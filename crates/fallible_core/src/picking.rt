@@ -6,7 +6,6 @@ ghost use Rattle.fallible_contract.specs.Picking.{call_at_two, takes_at_two, Pic
 ghost use Rattle.std.specs.declared.cmp.Ordering.{Ordering};
 
 use crate::traits::FallibleIterator;
-use fallible_contract::folds::Exit;
 use fallible_contract::picking::{BestKeyTurn, BestTurn};
 use std::cmp::Ordering;
 
@@ -23,10 +22,13 @@ where
     ensures { PickedByFold keeps (call_at_two F.FnMut) I.contract.steps it f result }
 {
     let mut it = it;
-    match it.try_fold_carrying((None, f), &BestTurn { keeps }) {
-        Exit::Ended((best, _)) => Ok(best),
-        Exit::Failed(_, e) => Err(e),
-        Exit::Stopped(e) => Err(e),
+    let mut state = (None, f);
+    let answer = it.drive(&mut state, &BestTurn { keeps });
+    let (best, _) = state;
+    match answer {
+        Ok(None) => Ok(best),
+        Ok(Some(e)) => Err(e),
+        Err(e) => Err(e),
     }
 }
 
@@ -46,9 +48,12 @@ where
         it None f result left }
 {
     let mut it = it;
-    match it.try_fold_carrying((None, f), &BestKeyTurn { keeps }) {
-        Exit::Ended((best, _)) => Ok(best),
-        Exit::Failed(_, e) => Err(e),
-        Exit::Stopped(e) => Err(e),
+    let mut state = (None, f);
+    let answer = it.drive(&mut state, &BestKeyTurn { keeps });
+    let (best, _) = state;
+    match answer {
+        Ok(None) => Ok(best),
+        Ok(Some(e)) => Err(e),
+        Err(e) => Err(e),
     }
 }

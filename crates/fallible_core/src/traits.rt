@@ -2,14 +2,14 @@
 ghost use Rattle.std.specs.Prelude.{◌≡◌, true, false, ◌+◌, ◌-◌, ◌≤◌, ◌<◌, ◌^◌, List, Option, Result, Some, None, Ok, MatchResult, IfOk, ◌⊎◌, Err};
 ghost use Rattle.std.specs.Iterator.Runs.{EachRunFrom, ItemsAre};
 ghost use Rattle.fallible_contract.specs.Clauses.{OverList, OverListWith, OverBoth};
-ghost use Rattle.fallible_contract.specs.Contract.{Contract, AtMost, Lawful, KeptByDraws, Stays, NeverFails, seen_as};
+ghost use Rattle.fallible_contract.specs.Contract.{Contract, AtMost, Lawful, Stays, NeverFails, seen_as};
 ghost use Rattle.fallible_contract.specs.Closures.{IsCallable, call_on, takes_on, call_at, takes_at};
 ghost use Rattle.fallible_contract.specs.Collecting.{Collects, Asks, Partitions, MadeOfParts, PairRefused};
 ghost use Rattle.fallible_contract.specs.Lists.{behind_first, behind_nth, behind_true, behind_false, behind_value, behind_fold, items, Lists, Acts, Repeats, repeated, counted, ActsWithState, CollectedAs, nth_of, folded, reduced, ActsWith, Converts, all_of, any_of, find_mapped, found, last_of, collected, parted, MadeOf, MadeOfSides, PartedAs, UnzippedAs, position_in, each_done, best_by, greatest, least, best_by_key, compared};
 ghost use Rattle.fallible_contract.specs.Comparing.{OneIsFinite, by_cmp, by_eq, read_as, reads_eq, reads_ne, reads_lt, reads_le, reads_gt, reads_ge, ComparedWith, ReadWith};
 ghost use Rattle.fallible_contract.specs.Picking.{call_at_two, takes_at_two, PickCall, takes_in_pick, Picked, KeyCall, Best, BestByKey};
 ghost use Rattle.fallible_contract.specs.Searching.{CallableInSearch, Searched, all_pick, any_pick, find_map_pick, find_pick, position_pick, each_pick};
-ghost use Rattle.fallible_contract.specs.Folds.{HoldsAtEachTurn, CallableCarrying, Carried, CallableInFold, call_with, takes_with, Folded, Counted, LastOf, Nth, ReduceCall, reduce_takes};
+ghost use Rattle.fallible_contract.specs.Folds.{HoldsAtEachTurn, CallableDriving, Driven, CallableInFold, call_with, takes_with, Folded, Counted, LastOf, Nth, ReduceCall, reduce_takes};
 ghost use Rattle.fallible_core.specs.OneToOne.Enumerate.{IsNumberable, enumerate_parts, enumerate_contract, numbered};
 ghost use Rattle.fallible_core.specs.Filtering.SkipWhile.{skip_call, skip_takes, skip_while_parts, skip_while_contract, skipped_while, skip_while_source, skip_while_found, skip_while_predicate};
 ghost use Rattle.fallible_core.specs.OneToOne.Scan.{scan_call, scan_takes, scan_parts, scan_contract, scanned, scan_source, scan_state, scan_closure};
@@ -60,14 +60,11 @@ use fallible_contract::collecting::{Collect, CollectTurn, Fault, PartitionTurn, 
 use fallible_contract::comparing::{
     ByCmp, ByEq, ByPartialCmp, ReadEq, ReadGe, ReadGt, ReadLe, ReadLt, ReadNe, ordered,
 };
-use fallible_contract::folds::{
-    CountTurn, Exit, LastTurn, ReduceTurn, TryFoldTurn, Turn, drain_of_exit, draw_of_exit,
-    fold_of_exit,
-};
+use fallible_contract::folds::{CountTurn, LastTurn, ReduceTurn, TryFoldTurn, Turn};
 use fallible_contract::picking::without_key;
 use fallible_contract::searching::{
-    AllTurn, AnyTurn, FindMapTurn, FindTest, FindTurn, ForEachTurn, PositionTurn, Test,
-    find_of_exit, search_of_exit,
+    AllTurn, AnyTurn, FindMapTurn, FindTest, FindTurn, ForEachTurn, PositionTurn, Test, answer_or,
+    answer_or_none, found,
 };
 use std::alloc::{AllocError, Global};
 use std::cmp::Ordering;
@@ -138,32 +135,47 @@ pub trait FallibleIterator: Drop + Sized {
         }
     }
 
-    /// For types that override folds: draws until an end, a failure or a turn that stops, and hands the carried value back at each exit. Every fold goes through it. A caller uses `try_fold`.
-    fn try_fold_carrying<C, R, K: Turn<C, Self::Item, R>>(
+    /// For types that override folds: draws until an end, a failure or a turn that stops the fold, and answers as `next` does: none at an end, the failure, or what the turn stopped with. All that changes from turn to turn stands behind `state`. Every fold goes through it. A caller uses `try_fold`.
+    fn drive<C, R, K: Turn<C, Self::Item, R>>(
         &mut self,
-        init: C,
+        state: &mut C,
         turn: &K,
-    ) -> Exit<C, Self::Error, R>
+    ) -> Result<Option<R>, Self::Error>
     where
         requires can_next { contract.can_next self.old }
         requires finite { contract.is_finite self.old }
-        requires callable { CallableCarrying contract.steps (K.turns turn.now) (K.can_turn turn.now)
-            self.old init }
-        ensures carried { Carried contract.steps (K.turns turn.now) self.old init result self.new }
-        ensures kept { KeptByDraws contract self.old self.new }
+        requires callable { CallableDriving contract.steps (K.turns turn.now) (K.can_turn turn.now)
+            self.old state.old }
+        ensures { Driven contract.steps (K.turns turn.now) self.old state.old result
+            self.new state.new }
     {
-        let mut carried = init;
         let mut left = (*self).number();
         loop {
             match self.next() {
-                Ok(None) => return Exit::Ended(carried),
-                Err(e) => return Exit::Failed(carried, e),
-                Ok(Some(x)) => match turn.turn(carried, x) {
-                    ControlFlow::Continue(c) => carried = c,
-                    ControlFlow::Break(stop) => return Exit::Stopped(stop),
+                Ok(Some(x)) => match turn.turn(state, x) {
+                    ControlFlow::Continue(()) => {}
+                    ControlFlow::Break(stop) => return Ok(Some(stop)),
                 },
+                Ok(None) => return Ok(None),
+                Err(e) => return Err(e),
             }
             left = left.one_less();
+        }
+    }
+
+    /// For types that override it: `count`, without what it says of a list.
+    fn drive_count(mut self) -> Result<usize, Self::Error>
+    where
+        Self::Item: Drop,
+        requires can_next { contract.can_next self }
+        requires fits { AtMost contract self (2 ^ 64 - 1) }
+        ensures { Counted contract.steps self result }
+    {
+        let mut number = 0;
+        match self.drive(&mut number, &CountTurn) {
+            Ok(None) => Ok(number),
+            Ok(Some(never)) => match never {},
+            Err(e) => Err(e),
         }
     }
 
@@ -179,7 +191,7 @@ pub trait FallibleIterator: Drop + Sized {
     ///     .filter(|reading| Ok(*reading > 100))
     ///     .count()
     /// ```
-    fn count(mut self) -> Result<usize, Self::Error>
+    final fn count(self) -> Result<usize, Self::Error>
     where
         Self::Item: Drop,
         requires can_next { contract.can_next self }
@@ -187,7 +199,23 @@ pub trait FallibleIterator: Drop + Sized {
         ensures counted { Counted contract.steps self result }
         ensures value { OverList contract.steps self (λ l. result ≡ counted l) }
     {
-        drain_of_exit(self.try_fold_carrying(0, &CountTurn))
+        self.drive_count()
+    }
+
+    /// For types that override it: `last`, without what it says of a list.
+    fn drive_last(mut self) -> Result<Option<Self::Item>, Self::Error>
+    where
+        Self::Item: Drop,
+        requires can_next { contract.can_next self }
+        requires finite { contract.is_finite self }
+        ensures { LastOf contract.steps self result }
+    {
+        let mut last = None;
+        match self.drive(&mut last, &LastTurn) {
+            Ok(None) => Ok(last),
+            Ok(Some(never)) => match never {},
+            Err(e) => Err(e),
+        }
     }
 
     /// The last item up to the end; none where no item comes before it.
@@ -202,7 +230,7 @@ pub trait FallibleIterator: Drop + Sized {
     ///     .filter(|reading| Ok(*reading > 100))
     ///     .last()
     /// ```
-    fn last(mut self) -> Result<Option<Self::Item>, Self::Error>
+    final fn last(self) -> Result<Option<Self::Item>, Self::Error>
     where
         Self::Item: Drop,
         requires can_next { contract.can_next self }
@@ -210,7 +238,26 @@ pub trait FallibleIterator: Drop + Sized {
         ensures last { LastOf contract.steps self result }
         ensures value { OverList contract.steps self (λ l. result ≡ last_of l) }
     {
-        drain_of_exit(self.try_fold_carrying(None, &LastTurn))
+        self.drive_last()
+    }
+
+    /// For types that override it: `nth`, without what it says of a list and of what is left.
+    fn drive_nth(&mut self, n: usize) -> Result<Option<Self::Item>, Self::Error>
+    where
+        Self::Item: Drop,
+        requires { contract.can_next self.old }
+        ensures { Nth contract.steps self.old n result self.new }
+    {
+        let mut left = n;
+        while 0 < left {
+            match self.next() {
+                Ok(Some(_)) => {}
+                Ok(None) => return Ok(None),
+                Err(e) => return Err(e),
+            }
+            left -= 1;
+        }
+        self.next()
     }
 
     /// The item with n items before it; none where an end comes first.
@@ -227,7 +274,7 @@ pub trait FallibleIterator: Drop + Sized {
     ///     [Ok(Some(1)), Ok(Some(2)), Ok(None)]
     /// );
     /// ```
-    fn nth(&mut self, n: usize) -> Result<Option<Self::Item>, Self::Error>
+    final fn nth(&mut self, n: usize) -> Result<Option<Self::Item>, Self::Error>
     where
         Self::Item: Drop,
         requires { contract.can_next self.old }
@@ -237,16 +284,7 @@ pub trait FallibleIterator: Drop + Sized {
             (λ l. ¬ (result ≡ Ok None) → Lists contract.steps self.new (behind_nth n l)) }
         ensures stays { Stays contract self.old self.new }
     {
-        let mut left = n;
-        while 0 < left {
-            match self.next() {
-                Ok(Some(_)) => {}
-                Ok(None) => return Ok(None),
-                Err(e) => return Err(e),
-            }
-            left -= 1;
-        }
-        self.next()
+        self.drive_nth(n)
     }
 
     /// Calls the closure on the value so far and each item in order, and answers the last value at the end.
@@ -282,7 +320,17 @@ pub trait FallibleIterator: Drop + Sized {
             → Lists contract.steps self.new (behind_fold h init l)) }
         ensures stays { Stays contract self.old self.new }
     {
-        fold_of_exit(self.try_fold_carrying((init, f), &TryFoldTurn))
+        let mut state = (Some(init), f);
+        let answer = self.drive(&mut state, &TryFoldTurn);
+        let (value, _) = state;
+        match answer {
+            Ok(None) => match value {
+                Some(value) => Ok(value),
+                None => unreachable!(),
+            },
+            Ok(Some(e)) => Err(e),
+            Err(e) => Err(E::from(e)),
+        }
     }
 
     /// `try_fold` on the iterator itself, where the closure fails with the iterator's own error.
@@ -335,27 +383,32 @@ pub trait FallibleIterator: Drop + Sized {
         ensures value { OverListWith (ActsWith (call_with F.FnMut) f) contract.steps self
             (λ h l. result ≡ reduced h l) }
     {
-        fold_of_exit(self.try_fold_carrying((None, f), &ReduceTurn))
+        let mut state = (None, f);
+        let answer = self.drive(&mut state, &ReduceTurn);
+        let (value, _) = state;
+        match answer {
+            Ok(None) => Ok(value),
+            Ok(Some(e)) => Err(e),
+            Err(e) => Err(e),
+        }
     }
 
-    /// For types that override searches: draws until the test accepts an item or fails on it, a failure or an end comes, and hands the carried value back at each exit. `find` goes through it, which a caller uses.
-    fn find_carrying<C, K: Test<C, Self::Item, Self::Error>>(
+    /// For types that override searches: draws until the test accepts an item or fails on it, a failure or an end comes. `find` goes through it, which a caller uses.
+    fn drive_find<C, K: Test<C, Self::Item, Self::Error>>(
         &mut self,
-        init: C,
+        state: &mut C,
         test: &K,
-    ) -> (C, Result<Option<Self::Item>, Self::Error>)
+    ) -> Result<Option<Self::Item>, Self::Error>
     where
         Self::Item: Drop,
         requires can_next { contract.can_next self.old }
         requires finite { contract.is_finite self.old }
         requires callable { CallableInSearch (K.tests test.now) find_pick contract.steps
-            (K.can_test test.now) self.old init }
-        ensures searched { Searched (K.tests test.now) find_pick contract.steps None self.old init
-            result.1 self.new result.0 }
-        ensures kept { KeptByDraws contract self.old self.new }
+            (K.can_test test.now) self.old state.old }
+        ensures { Searched (K.tests test.now) find_pick contract.steps None self.old state.old
+            result self.new state.new }
     {
-        let turn = FindTurn { test };
-        draw_of_exit(self.try_fold_carrying(init, &turn))
+        found(self.drive(state, &FindTurn { test }))
     }
 
     // What the other functions know of a draw: see `KeptByDraw`.
@@ -376,14 +429,14 @@ pub trait FallibleIterator: Drop + Sized {
     where
         F: FnMut(Self::Item) -> Result<B, Self::Error>,
         requires { IsCallable (call_on F.FnMut) (takes_on F.FnMut) (contract.may_give self) f }
-        ensures parts { map_parts result ≡ (self, Some f) }
+        ensures parts { map_parts result ≡ (self, f) }
         ensures lists { OverListWith (Acts (call_on F.FnMut) f) contract.steps self
             (λ h l. Lists (seen_as map_parts (map_contract contract F.FnMut)).steps
             result (mapped h l)) }
     {
         Map {
             it: self,
-            f: Some(f),
+            f,
         }
     }
 
@@ -404,14 +457,14 @@ pub trait FallibleIterator: Drop + Sized {
         requires finite { contract.is_finite self }
         requires callable { IsCallable (call_at F.FnMut) (takes_at F.FnMut)
             (contract.may_give self) f }
-        ensures parts { filter_parts result ≡ (self, Some f) }
+        ensures parts { filter_parts result ≡ (self, f) }
         ensures lists { OverListWith (Acts (call_at F.FnMut) f) contract.steps self
             (λ h l. Lists (seen_as filter_parts (filter_contract contract F.FnMut)).steps
             result (filtered h l)) }
     {
         Filter {
             it: self,
-            f: Some(f),
+            f,
         }
     }
 
@@ -452,7 +505,7 @@ pub trait FallibleIterator: Drop + Sized {
         requires { IsCallable (call_at P.FnMut)
             (takes_at P.FnMut) (contract.may_give self) predicate }
         ensures source { take_while_source result ≡ self }
-        ensures predicate { take_while_predicate result ≡ Some predicate }
+        ensures predicate { take_while_predicate result ≡ predicate }
         ensures refused { take_while_refused result ≡ false }
         ensures lists { OverListWith (Acts (call_at P.FnMut) predicate) contract.steps self
             (λ h l. Lists (seen_as take_while_parts (take_while_contract contract P.FnMut)).steps
@@ -460,8 +513,7 @@ pub trait FallibleIterator: Drop + Sized {
     {
         TakeWhile {
             it: self,
-            predicate: Some(predicate),
-            refused: false,
+            taking: (false, predicate),
         }
     }
 
@@ -555,14 +607,14 @@ pub trait FallibleIterator: Drop + Sized {
         requires finite { contract.is_finite self }
         requires callable { IsCallable (call_on F.FnMut) (takes_on F.FnMut)
             (contract.may_give self) f }
-        ensures parts { filter_map_parts result ≡ (self, Some f) }
+        ensures parts { filter_map_parts result ≡ (self, f) }
         ensures lists { OverListWith (Acts (call_on F.FnMut) f) contract.steps self
             (λ h l. Lists (seen_as filter_map_parts (filter_map_contract contract F.FnMut)).steps
             result (filter_mapped h l)) }
     {
         FilterMap {
             it: self,
-            f: Some(f),
+            f,
         }
     }
 
@@ -581,14 +633,14 @@ pub trait FallibleIterator: Drop + Sized {
     where
         F: FnMut(&Self::Item) -> Result<(), Self::Error>,
         requires { IsCallable (call_at F.FnMut) (takes_at F.FnMut) (contract.may_give self) f }
-        ensures parts { inspect_parts result ≡ (self, Some f) }
+        ensures parts { inspect_parts result ≡ (self, f) }
         ensures lists { OverListWith (Acts (call_at F.FnMut) f) contract.steps self
             (λ h l. Lists (seen_as inspect_parts (inspect_contract contract F.FnMut)).steps
             result (inspected h l)) }
     {
         Inspect {
             it: self,
-            f: Some(f),
+            f,
         }
     }
 
@@ -657,15 +709,14 @@ pub trait FallibleIterator: Drop + Sized {
             (contract.may_give self) (false, predicate) }
         ensures source { skip_while_source result ≡ self }
         ensures found { skip_while_found result ≡ false }
-        ensures predicate { skip_while_predicate result ≡ Some predicate }
+        ensures predicate { skip_while_predicate result ≡ predicate }
         ensures lists { OverListWith (Acts (call_at P.FnMut) predicate) contract.steps self
             (λ h l. Lists (seen_as skip_while_parts (skip_while_contract contract P.FnMut)).steps
             result (skipped_while h l)) }
     {
         SkipWhile {
             it: self,
-            found: false,
-            predicate: Some(predicate),
+            skipping: (false, predicate),
         }
     }
 
@@ -684,14 +735,14 @@ pub trait FallibleIterator: Drop + Sized {
     where
         F: FnMut(Self::Item) -> Result<Option<B>, Self::Error>,
         requires { IsCallable (call_on F.FnMut) (takes_on F.FnMut) (contract.may_give self) f }
-        ensures parts { map_while_parts result ≡ (self, Some f) }
+        ensures parts { map_while_parts result ≡ (self, f) }
         ensures lists { OverListWith (Acts (call_on F.FnMut) f) contract.steps self
             (λ h l. Lists (seen_as map_while_parts (map_while_contract contract F.FnMut)).steps
             result (mapped_while h l)) }
     {
         MapWhile {
             it: self,
-            f: Some(f),
+            f,
         }
     }
 
@@ -723,8 +774,7 @@ pub trait FallibleIterator: Drop + Sized {
     {
         Scan {
             it: self,
-            state: initial_state,
-            f,
+            scanning: (initial_state, f),
         }
     }
 
@@ -887,7 +937,7 @@ pub trait FallibleIterator: Drop + Sized {
         requires callable { IsCallable (call_on F.FnMut) (takes_on F.FnMut)
             (contract.may_give self) f }
         ensures source { map_source (flatten_source result) ≡ self }
-        ensures closure { map_closure (flatten_source result) ≡ Some f }
+        ensures closure { map_closure (flatten_source result) ≡ f }
         ensures inner { flatten_inner result ≡ None }
         ensures lists { (inner : U → List (Result U.Item Self.Error))
             → EachLists U.into_gives U.IntoFallibleIter.contract.steps inner
@@ -935,13 +985,10 @@ pub trait FallibleIterator: Drop + Sized {
             Ok(made) => made,
             Err(refused) => return Err(Fault::Memory(refused)),
         };
-        match self.try_fold_carrying(&mut made, &CollectTurn) {
-            Exit::Ended(last) => {
-                let _ = &*last;
-                Ok(made)
-            }
-            Exit::Failed(_, e) => Err(Fault::Source(e)),
-            Exit::Stopped(refused) => Err(Fault::Memory(refused)),
+        match self.drive(&mut made, &CollectTurn) {
+            Ok(None) => Ok(made),
+            Ok(Some(refused)) => Err(Fault::Memory(refused)),
+            Err(e) => Err(Fault::Source(e)),
         }
     }
 
@@ -987,15 +1034,13 @@ pub trait FallibleIterator: Drop + Sized {
             Ok(made) => made,
             Err(refused) => return Err(Fault::Memory(refused)),
         };
-        let mut sides = (first, second);
-        match self.try_fold_carrying((f, &mut sides), &PartitionTurn) {
-            Exit::Ended(carried) => {
-                let (_f, last) = carried;
-                let _ = &*last;
-                Ok(sides)
-            }
-            Exit::Failed(_carried, e) => Err(Fault::Source(e)),
-            Exit::Stopped(fault) => Err(fault),
+        let mut state = (f, (first, second));
+        let answer = self.drive(&mut state, &PartitionTurn);
+        let (_, sides) = state;
+        match answer {
+            Ok(None) => Ok(sides),
+            Ok(Some(fault)) => Err(fault),
+            Err(e) => Err(Fault::Source(e)),
         }
     }
 
@@ -1038,13 +1083,10 @@ pub trait FallibleIterator: Drop + Sized {
             Err(refused) => return Err(Fault::Memory(refused)),
         };
         let mut both = (first, second);
-        match self.try_fold_carrying(&mut both, &UnzipTurn) {
-            Exit::Ended(last) => {
-                let _ = &*last;
-                Ok(both)
-            }
-            Exit::Failed(_, e) => Err(Fault::Source(e)),
-            Exit::Stopped(refusal) => Err(Fault::Memory(refusal)),
+        match self.drive(&mut both, &UnzipTurn) {
+            Ok(None) => Ok(both),
+            Ok(Some(refused)) => Err(Fault::Memory(refused)),
+            Err(e) => Err(Fault::Source(e)),
         }
     }
 
@@ -1069,7 +1111,8 @@ pub trait FallibleIterator: Drop + Sized {
         ensures value { OverListWith (Acts (call_on F.FnMut) f) contract.steps self
             (λ h l. result ≡ each_done h l) }
     {
-        search_of_exit(self.try_fold_carrying(f, &ForEachTurn), ())
+        let mut f = f;
+        answer_or(self.drive(&mut f, &ForEachTurn), ())
     }
 
     /// Whether the predicate answers true on each item up to the end.
@@ -1099,7 +1142,8 @@ pub trait FallibleIterator: Drop + Sized {
             → Lists contract.steps self.new (behind_false h l)) }
         ensures stays { Stays contract self.old self.new }
     {
-        search_of_exit(self.try_fold_carrying(f, &AllTurn), true)
+        let mut f = f;
+        answer_or(self.drive(&mut f, &AllTurn), true)
     }
 
     /// Whether the predicate answers true on an item before the end.
@@ -1129,7 +1173,8 @@ pub trait FallibleIterator: Drop + Sized {
             → Lists contract.steps self.new (behind_true h l)) }
         ensures stays { Stays contract self.old self.new }
     {
-        search_of_exit(self.try_fold_carrying(f, &AnyTurn), false)
+        let mut f = f;
+        answer_or(self.drive(&mut f, &AnyTurn), false)
     }
 
     /// The first item for which the predicate is true; none where no such item comes before the end.
@@ -1162,8 +1207,8 @@ pub trait FallibleIterator: Drop + Sized {
             → Lists contract.steps self.new (behind_true h l)) }
         ensures stays { Stays contract self.old self.new }
     {
-        let (_, answer) = self.find_carrying(f, &FindTest);
-        answer
+        let mut f = f;
+        self.drive_find(&mut f, &FindTest)
     }
 
     /// The first value that the closure answers on the items in order, each of which it is called on once; none where no value comes before the end.
@@ -1196,7 +1241,8 @@ pub trait FallibleIterator: Drop + Sized {
             → Lists contract.steps self.new (behind_value h l)) }
         ensures stays { Stays contract self.old self.new }
     {
-        find_of_exit(self.try_fold_carrying(f, &FindMapTurn))
+        let mut f = f;
+        answer_or_none(self.drive(&mut f, &FindMapTurn))
     }
 
     /// How many items come before the first one on which the predicate answers true; none where no such item comes before the end.
@@ -1227,7 +1273,7 @@ pub trait FallibleIterator: Drop + Sized {
             → Lists contract.steps self.new (behind_true h l)) }
         ensures stays { Stays contract self.old self.new }
     {
-        find_of_exit(self.try_fold_carrying((0, f), &PositionTurn))
+        answer_or_none(self.drive(&mut (0, f), &PositionTurn))
     }
 
     /// The greatest item, of equal ones the last; none where no item comes before the end.

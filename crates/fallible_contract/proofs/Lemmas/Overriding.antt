@@ -1,13 +1,10 @@
 -- The folds of a type that hands them on to a value it holds: `view` is that value, and `put` has another one in its place.
-use Rattle.std.specs.Prelude.{◌≡◌, ℕ, Option, List, [], ◌∷◌, ◌++◌, map, Result}
+use Rattle.std.specs.Prelude.{◌≡◌, List, [], ◌∷◌, ◌++◌, map}
 use Rattle.std.specs.List.{FoldsTo}
 use Rattle.std.proofs.Common.{refl, sym, subst}
 use Rattle.fallible_contract.specs.Traces.{Answered, Yields, item}
 use Rattle.fallible_contract.specs.Contract.{Contract, seen_as}
-use Rattle.fallible_contract.specs.Folds.{HoldsAtEachTurn, Carried, Counted, LastOf, Nth}
-use Rattle.fallible_contract.specs.Searching.{Searched}
-use Rattle.std.specs.declared.ops.ControlFlow.{ControlFlow}
-use Rattle.fallible_contract.specs.declared.folds.Exit.{Exit}
+use Rattle.fallible_contract.specs.Folds.{HoldsAtEachTurn, Drained}
 
 module _ {S P : Type 0} (view : S → P) (put : S → P → S) (viewed : (s : S) (p : P) → view (put s p) ≡ p) where
   -- answers of the held value and a last one are answers of the whole
@@ -29,18 +26,10 @@ module _ {S P : Type 0} (view : S → P) (put : S → P → S) (viewed : (s : S)
           h.at items whole.0 (put s q) d x whole.1 went (subst (λ (z : P). m.steps z (item x) (view (put s q))) (sym whole.2) (subst (λ (z : P). m.steps p (item x) z) e step));
     }
 
-    -- a fold over the held value is one over the whole
-    pub carried_held : {C R : Type 0} {turns : C → A → ControlFlow R C → Type 0} {t : S} {c : C} {r : Exit C E R} → Carried m.steps turns (view s) c r (view t) → Carried (seen_as view m).steps turns s c r t
-    carried_held {t = t} h = record { items = h.items; last = h.last; carried = h.carried; ran = run_up m.steps (map item h.items) h.last s t h.ran; went = h.went; exit = h.exit }
+    -- draws of the held value are draws of the whole
+    pub drained_held : {came : List A → Answered A E → Type 0} {t : S} → Drained m.steps came (view s) (view t) → Drained (seen_as view m).steps came s t
+    drained_held {t = t} h = record { items = h.items; last = h.last; ran = run_up m.steps (map item h.items) h.last s t h.ran; at = h.at }
 
-    pub counted_held : {r : Result ℕ E} → Counted m.steps (view s) r → Counted (seen_as view m).steps s r
-    counted_held h = record { items = h.items; last = h.last; left = put s h.left; ran = run_up m.steps (map item h.items) h.last s (put s h.left) (subst (λ (p : P). FoldsTo m.steps (view s) (map item h.items ++ h.last ∷ []) p) (sym (viewed s h.left)) h.ran); exit = h.exit }
-
-    pub last_held : {r : Result (Option A) E} → LastOf m.steps (view s) r → LastOf (seen_as view m).steps s r
-    last_held h = record { items = h.items; last = h.last; left = put s h.left; ran = run_up m.steps (map item h.items) h.last s (put s h.left) (subst (λ (p : P). FoldsTo m.steps (view s) (map item h.items ++ h.last ∷ []) p) (sym (viewed s h.left)) h.ran); exit = h.exit }
-
-    pub nth_held : {n : ℕ} {r : Answered A E} {t : S} → Nth m.steps (view s) n r (view t) → Nth (seen_as view m).steps s n r t
-    nth_held {r = r} {t = t} h = record { skipped = h.skipped; ran = run_up m.steps (map item h.skipped) r s t h.ran; exit = h.exit }
-
-    pub searched_held : {F V R : Type 0} {call : F → A → Result V E → F → Type 0} {pick : ℕ → A → V → Option R} {none : R} {f g : F} {r : Result R E} {t : S} → Searched call pick m.steps none (view s) f r (view t) g → Searched call pick (seen_as view m).steps none s f r t g
-    searched_held {t = t} h = record { items = h.items; last = h.last; closure = h.closure; ran = run_up m.steps (map item h.items) h.last s t h.ran; went = h.went; exit = h.exit }
+    -- the same, where no clause says what is left
+    pub drained_held_left : {came : List A → Answered A E → Type 0} → (left : P) × Drained m.steps came (view s) left → (left : S) × Drained (seen_as view m).steps came s left
+    drained_held_left {came = came} h = (put s h.0, drained_held (subst (λ (p : P). Drained m.steps came (view s) p) (sym (viewed s h.0)) h.1))

@@ -1,15 +1,12 @@
--- `partition` by the fold that carries the closure and a reference to both collections.
-use Rattle.std.specs.Prelude.{◌≡◌, Bool, true, false, cond, List, [], ◌∷◌, ◌++◌, Result, Ok, Err}
+-- `partition` by the fold whose state is the closure and both collections.
+use Rattle.std.specs.Prelude.{◌≡◌, Bool, true, false, cond, List, [], ◌∷◌, ◌++◌, Result, Some, None, Ok, Err}
 use Rattle.std.specs.List.{FoldsTo}
-use Rattle.std.specs.Borrow.{MutBor}
 use Rattle.std.proofs.Common.{refl, sym, ap, ◌∙◌, subst, inl, inr}
 use Rattle.fallible_contract.specs.Traces.{Answered}
-use Rattle.fallible_contract.specs.Folds.{HoldsAtEachTurn, CallableCarrying, Carried}
-use Rattle.fallible_contract.proofs.Lemmas.Folds.{callable_behind, ended_behind, failed_behind, stopped_behind}
+use Rattle.fallible_contract.specs.Folds.{HoldsAtEachTurn, goes_on, CallableDriving, Driven}
 use Rattle.fallible_contract.proofs.Lemmas.Collecting.{gathered_all, gathered_failed, gathered_stopped, parts_more}
-use Rattle.fallible_contract.specs.Collecting.{answered_true, answered_false, Parts, ClosureFails, SideRefuses, IsPartitionTurn, IsPartitionTurnBehind, Asks, Partitions}
+use Rattle.fallible_contract.specs.Collecting.{answered_true, answered_false, Parts, ClosureFails, SideRefuses, IsPartitionTurn, Asks, Partitions}
 use Rattle.std.specs.declared.ops.ControlFlow.TheVariants.{Continue}
-use Rattle.fallible_contract.specs.declared.folds.Exit.TheVariants.{Ended, Failed, Stopped}
 use Rattle.fallible_contract.specs.declared.collecting.Fault.{Fault}
 use Rattle.fallible_contract.specs.declared.collecting.Fault.TheVariants.{Source, Memory}
 
@@ -32,7 +29,7 @@ one_more_call step f g h [] q e w = (h, subst (λ p. step p q h) (sym e) w, refl
 one_more_call step f g h (r ∷ qs) q went w = (went.0, went.1, one_more_call step went.0 g h qs q went.2 w)
 
 module _ {A E F B : Type 0} (call : F → A → Result Bool E → F → Type 0) (made : List A → B → Type 0) (refuses : B → A → Type 0) (f : F) where
-  pub part_more : (c : F × (B × B)) (x : A) (d : F × (B × B)) → IsPartitionTurn call made refuses c x (Continue d) → (items : List A) → Parts call made f items c → Parts call made f (items ++ x ∷ []) d
+  pub part_more : (c : F × (B × B)) (x : A) (d : F × (B × B)) → IsPartitionTurn call made refuses c x (Continue tt) d → (items : List A) → Parts call made f items c → Parts call made f (items ++ x ∷ []) d
   part_more c x d w items h = let ps = h.answered in let v = w.0 in let both = w.2 (answered_true ps) (answered_false ps) h.first h.second in record {
     answered = ps ++ (x, v) ∷ [];
     beside = sym (parts_more (λ p. p.0) ps (x, v)) ∙ ap (λ l. l ++ x ∷ []) h.beside;
@@ -44,22 +41,21 @@ module _ {A E F B : Type 0} (call : F → A → Result Bool E → F → Type 0) 
   pub no_parts : (a b : B) → made [] a → made [] b → Parts call made f [] (f, (a, b))
   no_parts a b h k = record { answered = []; beside = refl; called = refl; first = h; second = k }
 
-  asked : (items : List A) (c d : F × (B × B)) → FoldsTo (λ c x d. IsPartitionTurn call made refuses c x (Continue d)) c items d → FoldsTo (Asks call) c.0 items d.0
+  asked : (items : List A) (c d : F × (B × B)) → FoldsTo (goes_on (IsPartitionTurn call made refuses)) c items d → FoldsTo (Asks call) c.0 items d.0
   asked [] c d e = ap (λ z. z.0) e
   asked (x ∷ items) c d w = ((w.0).0, (w.1.0, w.1.1), asked items w.0 d w.2)
 
   -- where the closure may be asked, the turn may be taken
-  pub part_callable : {S : Type 0} {steps : S → Answered A E → S → Type 0} {s : S} (takes : F → A → Type 0) (sides : MutBor (B × B)) → HoldsAtEachTurn steps (Asks call) takes s f → CallableCarrying steps (IsPartitionTurnBehind call made refuses) (λ c x. takes c.0 x) s (f, sides)
-  part_callable takes sides h = callable_behind (λ c. (c.0, c.1.now)) (λ c. c.1.ghost_name) (IsPartitionTurn call made refuses) (record { at = λ items t u d x ran went step. h.at items t u d.0 x ran (asked items (f, sides.now) d went) step })
+  pub part_callable : {S : Type 0} {steps : S → Answered A E → S → Type 0} {s : S} (takes : F → A → Type 0) (sides : B × B) → HoldsAtEachTurn steps (Asks call) takes s f → CallableDriving steps (IsPartitionTurn call made refuses) (λ c x. takes c.0 x) s (f, sides)
+  part_callable takes sides h = record { at = λ items t u d x ran went step. h.at items t u d.0 x ran (asked items (f, sides) d went) step }
 
-module _ {S A E F B : Type 0} (steps : S → Answered A E → S → Type 0) (call : F → A → Result Bool E → F → Type 0) (made : List A → B → Type 0) (empty_refuses : Type 0) (refuses : B → A → Type 0) {s t : S} {f : F} {sides : MutBor (B × B)} (first : made [] sides.now.0) (second : made [] sides.now.1) where
-  -- e is what both collections are once the reference that came back is given up
-  pub parted_ended : (d : F × MutBor (B × B)) {e : B × B} → Carried steps (IsPartitionTurnBehind call made refuses) s (f, sides) (Ended d) t → (d.1.ghost_name ≡ sides.ghost_name → e ≡ d.1.now) → Partitions steps call made empty_refuses refuses s f (Ok e)
-  parted_ended d {e} w back = (d.0, gathered_all (Parts call made f) (IsPartitionTurn call made refuses) (part_more call made refuses f) steps (no_parts call made refuses f sides.now.0 sides.now.1 first second) (d.0, e) (ended_behind (λ c. (c.0, c.1.now)) (λ c. c.1.ghost_name) (IsPartitionTurn call made refuses) w (λ same. ap (λ (z : B × B). (d.0, z)) (back same))))
+module _ {S A E F B : Type 0} (steps : S → Answered A E → S → Type 0) (call : F → A → Result Bool E → F → Type 0) (made : List A → B → Type 0) (empty_refuses : Type 0) (refuses : B → A → Type 0) {s t : S} {f : F} {sides : B × B} (first : made [] sides.0) (second : made [] sides.1) where
+  pub parted_ended : (d : F × (B × B)) → Driven steps (IsPartitionTurn call made refuses) s (f, sides) (Ok None) t d → Partitions steps call made empty_refuses refuses s f (Ok d.1)
+  parted_ended d w = (d.0, gathered_all (Parts call made f) (IsPartitionTurn call made refuses) (part_more call made refuses f) steps (no_parts call made refuses f sides.0 sides.1 first second) d w)
 
-  pub parted_failed : (d : F × MutBor (B × B)) (e : E) → Carried steps (IsPartitionTurnBehind call made refuses) s (f, sides) (Failed d e) t → Partitions steps call made empty_refuses refuses s f (Err (Source e))
-  parted_failed d e w = inl (gathered_failed (Parts call made f) (IsPartitionTurn call made refuses) (part_more call made refuses f) steps (no_parts call made refuses f sides.now.0 sides.now.1 first second) (d.0, d.1.now) e (failed_behind (λ c. (c.0, c.1.now)) (λ c. c.1.ghost_name) (IsPartitionTurn call made refuses) w))
+  pub parted_failed : (d : F × (B × B)) (e : E) → Driven steps (IsPartitionTurn call made refuses) s (f, sides) (Err e) t d → Partitions steps call made empty_refuses refuses s f (Err (Source e))
+  parted_failed d e w = inl (gathered_failed (Parts call made f) (IsPartitionTurn call made refuses) (part_more call made refuses f) steps (no_parts call made refuses f sides.0 sides.1 first second) d e w)
 
-  pub parted_stopped : (q : Fault E) → Carried steps (IsPartitionTurnBehind call made refuses) s (f, sides) (Stopped q) t → Partitions steps call made empty_refuses refuses s f (Err q)
-  parted_stopped (Source e) w = inr (gathered_stopped (Parts call made f) (IsPartitionTurn call made refuses) (part_more call made refuses f) steps (no_parts call made refuses f sides.now.0 sides.now.1 first second) (Source e) (ClosureFails call e) (λ c x p. p) (stopped_behind (λ c. (c.0, c.1.now)) (λ c. c.1.ghost_name) (IsPartitionTurn call made refuses) w))
-  parted_stopped (Memory m) w = inr (gathered_stopped (Parts call made f) (IsPartitionTurn call made refuses) (part_more call made refuses f) steps (no_parts call made refuses f sides.now.0 sides.now.1 first second) (Memory m) (SideRefuses call refuses) (λ c x p. p) (stopped_behind (λ c. (c.0, c.1.now)) (λ c. c.1.ghost_name) (IsPartitionTurn call made refuses) w))
+  pub parted_stopped : (d : F × (B × B)) (q : Fault E) → Driven steps (IsPartitionTurn call made refuses) s (f, sides) (Ok (Some q)) t d → Partitions steps call made empty_refuses refuses s f (Err q)
+  parted_stopped d (Source e) w = inr (gathered_stopped (Parts call made f) (IsPartitionTurn call made refuses) (part_more call made refuses f) steps (no_parts call made refuses f sides.0 sides.1 first second) d (Source e) (ClosureFails call e) (λ c x d p. p) w)
+  parted_stopped d (Memory m) w = inr (gathered_stopped (Parts call made f) (IsPartitionTurn call made refuses) (part_more call made refuses f) steps (no_parts call made refuses f sides.0 sides.1 first second) d (Memory m) (SideRefuses call refuses) (λ c x d p. p) w)

@@ -1,16 +1,16 @@
 -- A trace that lets answers pass, answer by answer.
-use Rattle.std.specs.Prelude.{◌≡◌, ℕ, length, true, false, List, [], ◌∷◌, ◌++◌, map, Option, Result, Some, None, Ok, Err, IsSomeAnd}
-use Rattle.std.specs.List.{FoldsTo, filter_map}
-use Rattle.std.proofs.Common.{refl, sym, ap, subst}
+use Rattle.std.specs.Prelude.{◌≡◌, ℕ, length, true, false, List, [], ◌∷◌, ◌++◌, map, Option, Result, Some, None, Ok, Err}
+use Rattle.std.specs.List.{FoldsTo}
+use Rattle.std.proofs.Common.{refl, sym, subst}
 use Rattle.fallible_contract.specs.Traces.{Answered, Run, Yields, item}
 use Rattle.fallible_contract.specs.Contract.{Contract, Lawful}
-use Rattle.fallible_contract.specs.Closures.{Calls, Reaches, IsCallable, IsCallableIn, call_in}
+use Rattle.fallible_contract.specs.Closures.{Reaches, IsCallable}
 use Rattle.fallible_contract.proofs.Lemmas.LawForm.{FirstOf, IsByAnswers}
 use Rattle.fallible_contract.proofs.Lemmas.Contract.{given_after}
 use Rattle.fallible_contract.specs.Laws.Closures.{reaches_here, reaches_weaken, reaches_from}
 use Rattle.fallible_contract.specs.Folds.{HoldsAtEachTurn}
 use Rattle.fallible_contract.proofs.Lemmas.Folds.{turns_map, holds_map}
-use Rattle.fallible_contract.specs.Passing.{ItemPassed, PassTest, PassAnswer, IfItem, outcome_answer, PassTrace, call_of}
+use Rattle.fallible_contract.specs.Passing.{ItemPassed, PassTest, PassAnswer, IfItem, outcome_answer, PassTrace}
 use Rattle.fallible_contract.specs.Searching.{Passed, Decided, SearchExit, CallableInSearch, Searched, find_pick}
 use Rattle.fallible_contract.specs.Laws.Passing.{Passes, done, end_passes, failure_passes, keeps, refuses, closes, leaves_out, to_passes, from_passes}
 use Rattle.fallible_contract.specs.declared.passing.Outcome.{Outcome}
@@ -95,26 +95,11 @@ module _ {S F X R E : Type 0} (steps : S → Answered X E → S → Type 0) (cal
 
 -- a search by such a test is the trace of one answer
 pub passes_search : {S F X R E : Type 0} {steps : S → Answered X E → S → Type 0} {call : F → X → R → F → Type 0} {outcome : X → R → Outcome X E} {s t : S} {f g : F} {r : Answered X E} → Searched (PassTest call outcome) find_pick steps None s f r t g → PassTrace steps call outcome (s, f) (r ∷ []) (t, g)
-passes_search {steps = steps} {call = call} {outcome = outcome} {s = s} {t = t} {f = f} {g = g} {r = r} w = from_passes (after_left_out steps call outcome w.last r t w.closure g (λ u step. final_test steps call outcome w.last (length w.items) r u t w.closure g w.exit step) w.items s f w.ran (turns_map (left_by_test steps call outcome) w.items f w.closure w.went))
+passes_search {steps = steps} {call = call} {outcome = outcome} {s = s} {t = t} {f = f} {g = g} {r = r} w = from_passes (after_left_out steps call outcome w.last r t w.at.closure g (λ u step. final_test steps call outcome w.last (length w.items) r u t w.at.closure g w.at.exit step) w.items s f w.ran (turns_map (left_by_test steps call outcome) w.items f w.at.closure w.at.went))
 
 -- a stored closure may be called at each test of such a search
 pub callable_search : {S F X R E : Type 0} {m : Contract S X E} {call : F → X → R → F → Type 0} {pre : F → X → Type 0} (outcome : X → R → Outcome X E) {s : S} {f : F} → Lawful m → m.can_next s → IsCallable call pre (m.may_give s) f → CallableInSearch (PassTest call outcome) find_pick m.steps pre s f
 callable_search {m = m} {call = call} outcome l c callable = holds_map (left_by_test m.steps call outcome) (λ g x p. p) (callable_turns outcome l c callable)
-
--- ---- what holds the closure
-
-module _ {F H X R : Type 0} (call : F → X → R → F → Type 0) (held : H → X → R → H → Type 0) (into : F → H) (holds : (f : F) (x : X) (v : R) (g : F) → call f x v g → held (into f) x v (into g)) where
-  -- calls of a closure are calls of what holds it
-  calls_held : (pairs : List (X × R)) (f g : F) → Calls call f pairs g → Calls held (into f) pairs (into g)
-  calls_held [] f g e = ap into e
-  calls_held (c ∷ pairs) f g w = (into w.0, holds f c.0 c.1 w.0 w.1, calls_held pairs w.0 g w.2)
-
-  pub passes_held : {S B E : Type 0} {steps : S → Answered X E → S → Type 0} {outcome : X → R → Outcome B E} {s t : S} {f g : F} {trace : List (Answered B E)} → PassTrace steps call outcome (s, f) trace (t, g) → PassTrace steps held outcome (s, into f) trace (t, into g)
-  passes_held {f = f} {g = g} p = record { places = p.places; drawn = p.drawn; called = calls_held (filter_map call_of p.places) f g p.called; answers = p.answers; last_kept = p.last_kept }
-
--- a closure in its slot
-pub passes_in_slot : {S F X R B E : Type 0} {steps : S → Answered X E → S → Type 0} {call : F → X → R → F → Type 0} {outcome : X → R → Outcome B E} {s t : S} {f g : F} {trace : List (Answered B E)} → PassTrace steps call outcome (s, f) trace (t, g) → PassTrace steps (call_in call) outcome (s, Some f) trace (t, Some g)
-passes_in_slot {F = F} {call = call} p = passes_held {F = F} {H = Option F} call (call_in call) Some (λ f x v g called. called) p
 
 -- ---- one draw that leaves nothing out
 
@@ -139,11 +124,6 @@ pub drawn_takes : {S F X R E : Type 0} {m : Contract S X E} {s t : S} {call : F 
 drawn_takes {s = s} {t = t} {f = f} l c (Ok (Some x)) step callable = callable.at f x reaches_here ((l.kept_by_draw s (item x) t c step).answer.0)
 drawn_takes l c (Ok None) step callable = tt
 drawn_takes l c (Err e) step callable = tt
-
--- the same, where the closure stands in a slot
-pub drawn_in_slot : {S F X R E : Type 0} {m : Contract S X E} {s t : S} (call : F → X → R → F → Type 0) (pre : F → X → Type 0) (slot : Option F) → Lawful m → m.can_next s → (drawn : Answered X E) → m.steps s drawn t → IsCallableIn call pre (m.may_give s) slot → IsSomeAnd slot (λ f. IfItem (pre f) drawn)
-drawn_in_slot call pre (Some f) l c drawn step callable = drawn_takes l c drawn step callable
-drawn_in_slot call pre None l c drawn step callable = absurd callable
 
 -- what holds of each item holds of one that was drawn
 pub freely : {X E : Type 0} {P : X → Type 0} → ((x : X) → P x) → (drawn : Answered X E) → IfItem P drawn

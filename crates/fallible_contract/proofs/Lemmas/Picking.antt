@@ -93,7 +93,7 @@ module _ {A : Type 0} {cmp : A → A → Ordering} (o : IsTotalOrder cmp) (keeps
 
     -- a fold that keeps the better of two by the order finds the best
     pub best_of : {S : Type 0} {steps : S → Answered A E → S → Type 0} {from : E → E → Type 0} {s t : S} {f : F} {r : Result (Option A) E} → ((e d : E) → from e d → d ≡ e) → Folded steps (PickCall keeps call) from s None f r t → Best keeps cmp steps s r
-    best_of {from = from} {t = t} {f = f} {r = r} same h = record { items = h.items; last = h.last; left = t; ran = h.ran; exit = best_exit from same h.items h.value h.closure h.last r (best_items h.items h.value f h.closure h.went) h.exit }
+    best_of {from = from} {t = t} {f = f} {r = r} same h = (t, record { items = h.items; last = h.last; ran = h.ran; at = record { exit = best_exit from same h.items h.at.value h.at.closure h.last r (best_items h.items h.at.value f h.at.closure h.at.went) h.at.exit } })
 
 -- ---- by a key
 
@@ -132,8 +132,8 @@ module _ {A E F K : Type 0} {cmp : K → K → Ordering} (o : IsTotalOrder cmp) 
   -- a fold that keeps the better of two by their keys finds the item of the best key
   pub best_of_keys : {S : Type 0} {steps : S → Answered A E → S → Type 0} {from : E → E → Type 0} {s t : S} {f : F} {kept : Result (Option (K × A)) E} (r : Result (Option A) E) → ((e d : E) → from e d → d ≡ e) → Folded steps (KeyCall keeps cmp call) from s None f kept t → r ≡ item_of kept → BestByKey keeps cmp call steps s f r
   best_of_keys {steps = steps} {from = from} {s = s} {t = t} {f = f} {kept = kept} r same h is =
-      let a = key_items h.items f h.value h.closure h.went in
-      record { keyed = a.keyed; last = h.last; closure = h.closure; left = t; ran = subst (λ (xs : List A). Run steps s (map item xs ++ h.last ∷ []) t) (sym a.are) h.ran; called = a.called; exit = key_exit from same a.keyed h.value h.closure h.last kept r a.best h.exit is }
+      let a = key_items h.items f h.at.value h.at.closure h.at.went in
+      record { keyed = a.keyed; last = h.last; closure = h.at.closure; left = t; ran = subst (λ (xs : List A). Run steps s (map item xs ++ h.last ∷ []) t) (sym a.are) h.ran; called = a.called; exit = key_exit from same a.keyed h.at.value h.at.closure h.last kept r a.best h.at.exit is }
 
 -- ---- over a list
 
@@ -198,8 +198,8 @@ module _ {A E F : Type 0} (keeps : Ordering) (call : F → A → A → Result Or
   pub picked_of : {S : Type 0} {steps : S → Answered A E → S → Type 0} {s : S} {f : F} {r : Result (Option A) E} → PickedByFold keeps call steps s f r → Picked keeps call steps s f r
   picked_of {f = f} {r = r} h =
       let by = h.folded in
-      let a = picked_items by.items f by.value by.closure by.went in
-      record { items = by.items; orders = a.orders; bests = a.bests; last = by.last; closure = by.closure; left = h.left; ran = by.ran; are = a.are; called = a.called; exit = pick_exit a.bests by.value by.closure by.last r a.at_last by.exit }
+      let a = picked_items by.items f by.at.value by.at.closure by.at.went in
+      record { items = by.items; orders = a.orders; bests = a.bests; last = by.last; closure = by.at.closure; left = h.left; ran = by.ran; are = a.are; called = a.called; exit = pick_exit a.bests by.at.value by.at.closure by.last r a.at_last by.at.exit }
 
 -- ---- by the order of the items
 

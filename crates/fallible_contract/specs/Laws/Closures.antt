@@ -1,8 +1,8 @@
 -- What calls of a stored closure lead to.
-use Rattle.std.specs.Prelude.{◌≡◌, List, [], ◌∷◌, ◌++◌, Option, Some, None}
+use Rattle.std.specs.Prelude.{◌≡◌, List, [], ◌∷◌, ◌++◌}
 use Rattle.std.specs.List.{FoldsTo}
 use Rattle.std.proofs.Common.{refl, sym, subst}
-use Rattle.fallible_contract.specs.Closures.{Reaches, IsCallable, IsCallableIn, MayAnswer, call_in}
+use Rattle.fallible_contract.specs.Closures.{Reaches, IsCallable, MayAnswer}
 
 -- turns over two lists, one after the other
 pub turns_then : {P A : Type 0} (R : P → A → P → Type 0) (xs ys : List A) (p q r : P) → FoldsTo R p xs q → FoldsTo R q ys r → FoldsTo R p (xs ++ ys) r
@@ -50,13 +50,3 @@ module _ {F H X R : Type 0} (call : F → X → R → F → Type 0) (held : H �
 
   pub reaches_within : (f : F) (h : H) → Reaches held P (into f) h → (g : F) × (h ≡ into g) × Reaches call P f g
   reaches_within f h r = let k = folds_within r.made f h r.by in (k.0, k.1, record { made = r.made; by = k.2 })
-
--- a call in a full slot leaves it full
-in_slot_within : {F X R : Type 0} (call : F → X → R → F → Type 0) (f : F) (x : X) (v : R) (slot : Option F) → call_in call (Some f) x v slot → (g : F) × (slot ≡ Some g) × call f x v g
-in_slot_within call f x v (Some g) called = (g, refl, called)
-in_slot_within call f x v None called = absurd called
-
--- a stored closure that may be called may be called after calls
-pub callable_in_after : {F X R : Type 0} (call : F → X → R → F → Type 0) (pre : F → X → Type 0) (P Q : X → Type 0) (slot slot' : Option F) → ((x : X) → Q x → P x) → Reaches (call_in call) P slot slot' → IsCallableIn call pre P slot → IsCallableIn call pre Q slot'
-callable_in_after {F = F} call pre P Q (Some f) slot' h r c = let k = reaches_within {F = F} {H = Option F} call (call_in call) Some (in_slot_within call) P f slot' r in subst (λ (o : Option F). IsCallableIn call pre Q o) (sym k.1) (callable_after h k.2 c)
-callable_in_after call pre P Q None slot' h r c = absurd c

@@ -4,7 +4,6 @@ use Rattle.std.specs.Borrow.{MutBor}
 use Rattle.std.proofs.Common.{refl, ap}
 use Rattle.fallible_contract.specs.Traces.{Answered, Run, item}
 use Rattle.fallible_contract.specs.Contract.{Contract}
-use Rattle.fallible_contract.specs.Folds.{Nth}
 use Rattle.fallible_contract.specs.Lists.{AlwaysGives, Lists}
 use Rattle.fallible_core.specs.Borrowed.{borrowed}
 use Rattle.std.specs.declared.boxed.Box.{Box}
@@ -36,13 +35,6 @@ module _ {S A E : Type 0} (steps : S → Answered A E → S → Type 0) where
   pub run_over_box : (trace : List (Answered A E)) (s : Box S Global) (x : S) → Run steps s.value trace x → Run in_box s trace (record s { value = x })
   run_over_box [] s x e = ap (λ (y : S). record s { value = y }) e
   run_over_box (r ∷ rest) s x h = let u : Box S Global = record s { value = h.0 } in (u, h.1, run_over_box rest u x h.2)
-
-  -- its `nth` is that of the one behind it
-  pub nth_behind : {s : MutBor S} {n : ℕ} {r : Answered A E} {x : S} → Nth steps s.now n r x → Nth behind s n r (record s { now = x })
-  nth_behind {s = s} {r = r} {x = x} h = record { skipped = h.skipped; ran = run_over (map item h.skipped ++ r ∷ []) s x h.ran; exit = h.exit }
-
-  pub nth_in_box : {s : Box S Global} {n : ℕ} {r : Answered A E} {x : S} → Nth steps s.value n r x → Nth in_box s n r (record s { value = x })
-  nth_in_box {s = s} {r = r} {x = x} h = record { skipped = h.skipped; ran = run_over_box (map item h.skipped ++ r ∷ []) s x h.ran; exit = h.exit }
 
 -- it lists what the one behind it lists
 pub lists_borrowed : {S A E : Type 0} (m : Contract S A E) (s : MutBor S) (l : List (Result A E)) → Lists m.steps s.now l → Lists (borrowed m).steps s l

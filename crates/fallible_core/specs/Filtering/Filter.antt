@@ -1,33 +1,33 @@
 -- `Filter`, which leaves out the items that a predicate refuses.
-use Rattle.std.specs.Prelude.{Option, Result, Ok, Err, List, Bool, true, false, [], ◌∷◌}
+use Rattle.std.specs.Prelude.{Result, Ok, Err, List, Bool, true, false, [], ◌∷◌}
 use Rattle.std.specs.Fn.{Mut}
 use Rattle.std.specs.Borrow.{Bor}
 use Rattle.fallible_contract.specs.Traces.{Answered}
 use Rattle.fallible_contract.specs.Contract.{Contract}
-use Rattle.fallible_contract.specs.Closures.{call_at, takes_at, call_in, IsCallableIn}
+use Rattle.fallible_contract.specs.Closures.{call_at, takes_at, IsCallable}
 use Rattle.fallible_contract.specs.Passing.{PassTrace, leaving_out_contract}
 pub use Rattle.fallible_contract.specs.Passing.{tested_outcome}
 use Rattle.fallible_contract.specs.Hints.{upper_alone}
 use Rattle.fallible_core.specs.declared.filtering.filter.Filter.{Filter}
 
 -- `Filter`: the source's trace without the items refused, where an item whose predicate failed is replaced by that failure; it doesn't end in a refused item.
-abbrev pub FilterTrace : {S F X E : Type 0} → (S → Answered X E → S → Type 0) → Mut F (Bor X × Unit {0}) (Result Bool E) → S × Option F → List (Answered X E) → S × Option F → Type 0
-FilterTrace steps g p trace q = PassTrace steps (call_in (call_at g)) tested_outcome p trace q
+abbrev pub FilterTrace : {S F X E : Type 0} → (S → Answered X E → S → Type 0) → Mut F (Bor X × Unit {0}) (Result Bool E) → S × F → List (Answered X E) → S × F → Type 0
+FilterTrace steps g p trace q = PassTrace steps (call_at g) tested_outcome p trace q
 
 -- `Filter`'s contract: its hint has the source's upper bound alone.
-abbrev pub filter_contract : {S F X E : Type 0} → Contract S X E → Mut F (Bor X × Unit {0}) (Result Bool E) → Contract (S × Option F) X E
-filter_contract m g = leaving_out_contract m (call_in (call_at g)) (IsCallableIn (call_at g) (takes_at g)) tested_outcome (λ p h. upper_alone m p.0 h)
+abbrev pub filter_contract : {S F X E : Type 0} → Contract S X E → Mut F (Bor X × Unit {0}) (Result Bool E) → Contract (S × F) X E
+filter_contract m g = leaving_out_contract m (call_at g) (λ P f. IsCallable (call_at g) (takes_at g) P f) tested_outcome (λ p h. upper_alone m p.0 h)
 
 -- the source
 abbrev pub filter_source : {I F : Type 0} → Filter I F → I
 filter_source s = s.it
 
--- the slot of the predicate
-abbrev pub filter_predicate : {I F : Type 0} → Filter I F → Option F
+-- the predicate
+abbrev pub filter_predicate : {I F : Type 0} → Filter I F → F
 filter_predicate s = s.f
 
--- the source, and the slot of the closure
-abbrev pub filter_parts : {I F : Type 0} → Filter I F → I × Option F
+-- the source, and the predicate
+abbrev pub filter_parts : {I F : Type 0} → Filter I F → I × F
 filter_parts s = (filter_source s, filter_predicate s)
 
 -- ---- what it lists

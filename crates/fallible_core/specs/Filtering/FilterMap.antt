@@ -3,7 +3,7 @@ use Rattle.std.specs.Prelude.{Option, Result, Some, Ok, Err, List, None, [], ◌
 use Rattle.std.specs.Fn.{Mut}
 use Rattle.fallible_contract.specs.Traces.{Answered}
 use Rattle.fallible_contract.specs.Contract.{Contract}
-use Rattle.fallible_contract.specs.Closures.{call_on, takes_on, call_in, IsCallableIn}
+use Rattle.fallible_contract.specs.Closures.{call_on, takes_on, IsCallable}
 use Rattle.fallible_contract.specs.Passing.{PassTrace, leaving_out_contract}
 use Rattle.fallible_contract.specs.Hints.{upper_alone}
 use Rattle.fallible_contract.specs.declared.passing.Outcome.{Outcome}
@@ -17,23 +17,23 @@ filter_map_outcome x (Ok None) = LeftOut
 filter_map_outcome x (Err e) = Failure e
 
 -- `FilterMap`: the source's trace without the items answered none, where each other item is replaced by the value or the failure that the closure answers on it; it doesn't end in an item answered none.
-abbrev pub FilterMapTrace : {S F X B E : Type 0} → (S → Answered X E → S → Type 0) → Mut F (X × Unit {0}) (Result (Option B) E) → S × Option F → List (Answered B E) → S × Option F → Type 0
-FilterMapTrace steps g p trace q = PassTrace steps (call_in (call_on g)) filter_map_outcome p trace q
+abbrev pub FilterMapTrace : {S F X B E : Type 0} → (S → Answered X E → S → Type 0) → Mut F (X × Unit {0}) (Result (Option B) E) → S × F → List (Answered B E) → S × F → Type 0
+FilterMapTrace steps g p trace q = PassTrace steps (call_on g) filter_map_outcome p trace q
 
 -- `FilterMap`'s contract: its hint has the source's upper bound alone.
-abbrev pub filter_map_contract : {S F X B E : Type 0} → Contract S X E → Mut F (X × Unit {0}) (Result (Option B) E) → Contract (S × Option F) B E
-filter_map_contract m g = leaving_out_contract m (call_in (call_on g)) (IsCallableIn (call_on g) (takes_on g)) filter_map_outcome (λ p h. upper_alone m p.0 h)
+abbrev pub filter_map_contract : {S F X B E : Type 0} → Contract S X E → Mut F (X × Unit {0}) (Result (Option B) E) → Contract (S × F) B E
+filter_map_contract m g = leaving_out_contract m (call_on g) (λ P f. IsCallable (call_on g) (takes_on g) P f) filter_map_outcome (λ p h. upper_alone m p.0 h)
 
 -- the source
 abbrev pub filter_map_source : {I F : Type 0} → FilterMap I F → I
 filter_map_source s = s.it
 
--- the slot of the closure
-abbrev pub filter_map_closure : {I F : Type 0} → FilterMap I F → Option F
+-- the closure
+abbrev pub filter_map_closure : {I F : Type 0} → FilterMap I F → F
 filter_map_closure s = s.f
 
--- the source, and the slot of the closure
-abbrev pub filter_map_parts : {I F : Type 0} → FilterMap I F → I × Option F
+-- the source, and the closure
+abbrev pub filter_map_parts : {I F : Type 0} → FilterMap I F → I × F
 filter_map_parts s = (filter_map_source s, filter_map_closure s)
 
 -- ---- what it lists

@@ -1,11 +1,11 @@
 -- `SkipWhile`, which leaves out items up to the first one that a predicate refuses.
-use Rattle.std.specs.Prelude.{◌≡◌, List, Option, Some, None, ℕ, ⊤, Result, Ok, Err, [], ◌∷◌, ◌++◌, map, Bool, true, false, IsSomeAnd, MatchBool}
+use Rattle.std.specs.Prelude.{◌≡◌, List, Option, Some, None, ℕ, ⊤, Result, Ok, Err, [], ◌∷◌, ◌++◌, map, Bool, true, false, MatchBool}
 use Rattle.std.specs.Fn.{Mut}
 use Rattle.std.specs.Borrow.{Bor}
 use Rattle.std.specs.List.{filter_map}
 use Rattle.fallible_contract.specs.Traces.{Answered, Run, LastKept}
 use Rattle.fallible_contract.specs.Contract.{Contract}
-use Rattle.fallible_contract.specs.Closures.{Calls, IsCallable, call_in, call_at, takes_at}
+use Rattle.fallible_contract.specs.Closures.{Calls, IsCallable, call_at, takes_at}
 use Rattle.fallible_contract.specs.Passing.{Place, asked, failure_at, end_at, source_answer, call_of, answer_at, leaving_out_contract, has_answer}
 use Rattle.fallible_contract.specs.Hints.{upper_alone}
 use Rattle.fallible_contract.specs.declared.passing.Outcome.{Outcome}
@@ -26,10 +26,6 @@ skip_call call p x (Some v) q = (p.0 ≡ false) × call p.1 x v q.1 × (q.0 ≡ 
 -- the predicate may be called on the item, where it is asked
 abbrev pub skip_takes : {F X : Type 0} → (F → X → Type 0) → Bool × F → X → Type 0
 skip_takes takes p x = p.0 ≡ false → takes p.1 x
-
--- Its slot is full, and it may be called where it is asked.
-abbrev pub IsAskableIn : {F X E : Type 0} → (F → X → Result Bool E → F → Type 0) → (F → X → Type 0) → (X → Type 0) → Bool × Option F → Type 0
-IsAskableIn call takes P p = IsSomeAnd p.1 (λ f. IsCallable (skip_call call) (skip_takes takes) P (p.0, f))
 
 -- An item is kept where the predicate isn't asked or answers false, left out where it answers true, and replaced by a failure of it.
 abbrev pub skip_while_outcome : {X E : Type 0} → X → Option (Result Bool E) → Outcome X E
@@ -79,8 +75,8 @@ abbrev pub skip_while_hints : {S F X E : Type 0} → Contract S X E → S × (Bo
 skip_while_hints m p h = MatchBool (p.1).0 (m.hints p.0 h) (upper_alone m p.0 h)
 
 -- `SkipWhile`'s contract.
-abbrev pub skip_while_contract : {S F X E : Type 0} → Contract S X E → Mut F (Bor X × Unit {0}) (Result Bool E) → Contract (S × (Bool × Option F)) X E
-skip_while_contract m g = leaving_out_contract m (skip_call (call_in (call_at g))) (IsAskableIn (call_at g) (takes_at g)) skip_while_outcome (skip_while_hints m)
+abbrev pub skip_while_contract : {S F X E : Type 0} → Contract S X E → Mut F (Bor X × Unit {0}) (Result Bool E) → Contract (S × (Bool × F)) X E
+skip_while_contract m g = leaving_out_contract m (skip_call (call_at g)) (λ P p. IsCallable (skip_call (call_at g)) (skip_takes (takes_at g)) P p) skip_while_outcome (skip_while_hints m)
 
 -- the source
 abbrev pub skip_while_source : {I P : Type 0} → SkipWhile I P → I
@@ -88,15 +84,15 @@ skip_while_source s = s.it
 
 -- whether the first kept item was found
 abbrev pub skip_while_found : {I P : Type 0} → SkipWhile I P → Bool
-skip_while_found s = s.found
+skip_while_found s = s.skipping.0
 
--- the slot of the predicate
-abbrev pub skip_while_predicate : {I P : Type 0} → SkipWhile I P → Option P
-skip_while_predicate s = s.predicate
+-- the predicate
+abbrev pub skip_while_predicate : {I P : Type 0} → SkipWhile I P → P
+skip_while_predicate s = s.skipping.1
 
--- the source, whether the predicate answered false, and the predicate's slot
-abbrev pub skip_while_parts : {I P : Type 0} → SkipWhile I P → I × (Bool × Option P)
-skip_while_parts s = (skip_while_source s, (skip_while_found s, skip_while_predicate s))
+-- the source, and whether the predicate answered false beside the predicate
+abbrev pub skip_while_parts : {I P : Type 0} → SkipWhile I P → I × (Bool × P)
+skip_while_parts s = (skip_while_source s, s.skipping)
 
 -- ---- what it lists
 

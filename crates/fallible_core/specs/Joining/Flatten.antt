@@ -5,12 +5,10 @@ use Rattle.std.specs.Iterator.{endless}
 use Rattle.fallible_contract.specs.Lists.{Lists}
 use Rattle.fallible_contract.specs.Traces.{Answered, Run, item, failure, end, NoEnd}
 use Rattle.fallible_contract.specs.Contract.{Contract}
-use Rattle.fallible_contract.specs.Folds.{CallableCarrying, Carried}
+use Rattle.fallible_contract.specs.Folds.{CallableDriving, Driven}
 use Rattle.fallible_core.specs.Joining.Chain.{chained}
 use Rattle.std.specs.declared.ops.ControlFlow.{ControlFlow}
 use Rattle.std.specs.declared.ops.ControlFlow.TheVariants.{Continue, Break}
-use Rattle.fallible_contract.specs.declared.folds.Exit.{Exit}
-use Rattle.fallible_contract.specs.declared.folds.Exit.TheVariants.{Ended}
 use Rattle.fallible_core.specs.declared.joining.flatten.Flatten.{Flatten}
 
 -- What one answer of the outer source puts into the trace: an item became an inner iterator, with the answers that came from it; or a failure or an end, which is the answer itself.
@@ -135,25 +133,17 @@ module _ {S X C B E : Type 0} (m : Contract S X E) (into : X → C → Type 0) (
     lenders = λ p. m.lenders p.0;
   }
 
--- ---- one draw, as a fold of the outer source that stops
-
--- One turn: the item became an inner iterator, and this was drawn from once. The fold goes on where it ended at once, and else stops with it in hand and its answer.
-abbrev pub IsFlattenNextTurn : {X C B E : Type 0} → (X → C → Type 0) → (C → Answered B E → C → Type 0) → Option C → X → ControlFlow (Option C × Result B E) (Option C) → Type 0
-IsFlattenNextTurn {C = C} into inner hand x (Continue hand') = (c : C) × (d : C) × into x c × inner c end d × (hand' ≡ hand)
-IsFlattenNextTurn {C = C} into inner hand x (Break (hand', Ok y)) = (c : C) × (d : C) × into x c × inner c (item y) d × (hand' ≡ Some d)
-IsFlattenNextTurn {C = C} into inner hand x (Break (hand', Err e)) = (c : C) × (d : C) × into x c × inner c (failure e) d × (hand' ≡ Some d)
-
 -- ---- a fold, as one of the outer source
 
-module _ {X C B E V R : Type 0} (into : X → C → Type 0) (inner : Contract C B E) (turns : V → B → ControlFlow R V → Type 0) where
-  -- One turn: the item became an inner iterator, and this was folded by the caller's turns. The fold goes on where that one ended, and else stops with the inner iterator and the exit.
-  abbrev pub IsFlattenFoldTurn : V → X → ControlFlow (C × Exit V E R) V → Type 0
-  IsFlattenFoldTurn v x (Continue w) = (c : C) × (d : C) × into x c × Carried inner.steps turns c v (Ended w) d
-  IsFlattenFoldTurn v x (Break (d, exit)) = (c : C) × into x c × Carried inner.steps turns c v exit d × ((w : V) → exit ≢ Ended w)
+module _ {X C B E V R : Type 0} (into : X → C → Type 0) (inner : Contract C B E) (turns : V → B → ControlFlow R (Unit {0}) → V → Type 0) where
+  -- One turn, on the caller's state and the inner iterator in hand: the item became an inner iterator, and this was folded by the caller's turns. The fold goes on where that one ended, and else stops with its answer and that inner iterator in hand.
+  abbrev pub IsFlattenTurn : V × Option C → X → ControlFlow (Answered R E) (Unit {0}) → V × Option C → Type 0
+  IsFlattenTurn p x (Continue u) q = (c : C) × (d : C) × into x c × Driven inner.steps turns c p.0 (Ok None) d q.0 × (q.1 ≡ p.1)
+  IsFlattenTurn p x (Break r) q = (c : C) × (d : C) × into x c × Driven inner.steps turns c p.0 r d q.0 × (r ≢ Ok None) × (q.1 ≡ Some d)
 
   -- It may be taken where what the item may become may be folded so.
-  abbrev pub JoiningTakes : (V → B → Type 0) → V → X → Type 0
-  JoiningTakes can v x = (c : C) → into x c → inner.can_next c × inner.is_finite c × CallableCarrying inner.steps turns can c v
+  abbrev pub JoiningTakes : (V → B → Type 0) → V × Option C → X → Type 0
+  JoiningTakes can p x = (c : C) → into x c → inner.can_next c × inner.is_finite c × CallableDriving inner.steps turns can c p.0
 
 -- the source
 abbrev pub flatten_source : {I J : Type 0} → Flatten I J → I

@@ -6,8 +6,6 @@ use Rattle.fallible_contract.specs.Contract.{Contract}
 use Rattle.fallible_contract.specs.Closures.{IsCallable, MayAnswer, call_on, takes_on}
 use Rattle.fallible_contract.specs.Exchange.{exchanged, steps_exchanged}
 use Rattle.fallible_contract.specs.Passing.{PassTrace}
-use Rattle.fallible_contract.specs.declared.folds.Exit.{Exit}
-use Rattle.fallible_contract.specs.declared.folds.Exit.TheVariants.{Ended, Failed, Stopped}
 use Rattle.fallible_contract.specs.declared.passing.Outcome.{Outcome}
 use Rattle.fallible_contract.specs.declared.passing.Outcome.TheVariants.{Kept}
 use Rattle.fallible_core.specs.declared.one_to_one.map_err.MapErr.{MapErr}
@@ -43,18 +41,6 @@ MapErrAnswer {E = E} call f (Err d) r g = (e : E) × call f d e g × (r ≡ Err 
 abbrev pub TakesFailure : {F C D : Type 0} → (F → D → Type 0) → F → Result C D → Type 0
 TakesFailure pre f (Ok v) = ⊤
 TakesFailure pre f (Err d) = pre f d
-
--- What `MapErr` makes of the exit of its source's fold: the closure is called on the failure that the fold met, and on nothing that a turn stopped with.
-abbrev pub MapErrExit : {F D E C R : Type 0} → (F → D → E → F → Type 0) → F → Exit C D R → Exit C E R → F → Type 0
-MapErrExit call f (Ended c) exit g = (exit ≡ Ended c) × (g ≡ f)
-MapErrExit {E = E} call f (Failed c d) exit g = (e : E) × call f d e g × (exit ≡ Failed c e)
-MapErrExit call f (Stopped r) exit g = (exit ≡ Stopped r) × (g ≡ f)
-
--- where the fold met a failure, the closure may be called on it
-abbrev pub TakesExit : {F D C R : Type 0} → (F → D → Type 0) → F → Exit C D R → Type 0
-TakesExit pre f (Ended c) = ⊤
-TakesExit pre f (Failed c d) = pre f d
-TakesExit pre f (Stopped r) = ⊤
 
 -- the source
 abbrev pub map_err_source : {I F : Type 0} → MapErr I F → I

@@ -39,15 +39,15 @@ scan_source s = s.it
 
 -- the state
 abbrev pub scan_state : {I T F : Type 0} → Scan I T F → T
-scan_state s = s.state
+scan_state s = s.scanning.0
 
 -- the closure
 abbrev pub scan_closure : {I T F : Type 0} → Scan I T F → F
-scan_closure s = s.f
+scan_closure s = s.scanning.1
 
 -- the source, and the state beside the closure
 abbrev pub scan_parts : {I T F : Type 0} → Scan I T F → I × (T × F)
-scan_parts s = (scan_source s, (scan_state s, scan_closure s))
+scan_parts s = (scan_source s, s.scanning)
 
 -- ---- what it lists
 

@@ -8,7 +8,7 @@ ghost use Rattle.fallible_core.specs.Ends.Rev.{rev_contract, rev_parts};
 
 use crate::traits::FallibleIterator;
 use crate::traits::double_ended::DoubleEndedFallibleIterator;
-use fallible_contract::folds::{Exit, Turn};
+use fallible_contract::folds::Turn;
 
 /// The source with its ends swapped: a draw from the front is a draw of the source from behind, and the other way round.
 #[derive(Clone, Debug, Drop)]
@@ -32,12 +32,12 @@ impl<I: DoubleEndedFallibleIterator> FallibleIterator for Rev<I> {
         self.it.size_hint()
     }
 
-    fn try_fold_carrying<C, R, K: Turn<C, I::Item, R>>(
+    fn drive<C, R, K: Turn<C, I::Item, R>>(
         &mut self,
-        init: C,
+        state: &mut C,
         turn: &K,
-    ) -> Exit<C, I::Error, R> {
-        self.it.try_rfold_carrying(init, turn)
+    ) -> Result<Option<R>, I::Error> {
+        self.it.drive_back(state, turn)
     }
 
     ghost lawful = { lawful_seen rev_parts I.lawful_ends.back };
@@ -51,12 +51,12 @@ impl<I: DoubleEndedFallibleIterator> DoubleEndedFallibleIterator for Rev<I> {
         self.it.next()
     }
 
-    fn try_rfold_carrying<C, R, K: Turn<C, I::Item, R>>(
+    fn drive_back<C, R, K: Turn<C, I::Item, R>>(
         &mut self,
-        init: C,
+        state: &mut C,
         turn: &K,
-    ) -> Exit<C, I::Error, R> {
-        self.it.try_fold_carrying(init, turn)
+    ) -> Result<Option<R>, I::Error> {
+        self.it.drive(state, turn)
     }
 
     ghost lawful_ends = { lawful_ends_seen rev_parts (lawful_ends_swapped I.lawful_ends) };

@@ -8,18 +8,17 @@ ghost use Rattle.fallible_contract.specs.Laws.Ends.{lawful_ends_seen};
 ghost use Rattle.fallible_core.specs.Filtering.Filter.{tested_outcome, filter_contract, filter_parts};
 ghost use Rattle.fallible_core.specs.Laws.Filtering.Filter.{lawful_filter, lawful_ends_filter};
 
-use crate::passing::{fold_in_slot, rfold_in_slot};
+use crate::passing::{drive_back_passing, drive_passing};
 use crate::traits::FallibleIterator;
 use crate::traits::double_ended::DoubleEndedFallibleIterator;
-use fallible_contract::folds::{Exit, FirstTurn, Turn, item_of_exit};
+use fallible_contract::folds::{FirstTurn, Turn};
 use fallible_contract::passing::{Outcome, Pass};
 
 /// The items to which the predicate answers true. An item on which it fails is lost, and its failure is the answer.
 #[derive(Clone, Debug, Drop)]
 pub struct Filter<I, F> {
     pub(crate) it: I,
-    // empty only during a call
-    pub(crate) f: Option<F>,
+    pub(crate) f: F,
 }
 
 impl<I: FallibleIterator, F: FnMut(&I::Item) -> Result<bool, I::Error>> FallibleIterator
@@ -35,19 +34,19 @@ where
 
     /// Draws until an item is kept, a failure comes or an end comes, and calls the predicate on each item.
     fn next(&mut self) -> Result<Option<I::Item>, I::Error> {
-        item_of_exit(self.try_fold_carrying((), &FirstTurn))
+        self.drive(&mut (), &FirstTurn)
     }
 
     fn size_hint(&self) -> (usize, Option<usize>) {
         (0, self.it.size_hint().1)
     }
 
-    fn try_fold_carrying<C, R, K: Turn<C, I::Item, R>>(
+    fn drive<C, R, K: Turn<C, I::Item, R>>(
         &mut self,
-        init: C,
+        state: &mut C,
         turn: &K,
-    ) -> Exit<C, I::Error, R> {
-        fold_in_slot(&mut self.it, &mut self.f, &FilterPass, init, turn)
+    ) -> Result<Option<R>, I::Error> {
+        drive_passing(&mut self.it, &mut self.f, &FilterPass, state, turn)
     }
 
     ghost lawful = { lawful_seen filter_parts (lawful_filter F.FnMut I.lawful) };
@@ -65,15 +64,15 @@ where
 
     /// Draws from behind until an item is kept, a failure comes or an end comes, and calls the predicate on each item.
     fn next_back(&mut self) -> Result<Option<I::Item>, I::Error> {
-        item_of_exit(self.try_rfold_carrying((), &FirstTurn))
+        self.drive_back(&mut (), &FirstTurn)
     }
 
-    fn try_rfold_carrying<C, R, K: Turn<C, I::Item, R>>(
+    fn drive_back<C, R, K: Turn<C, I::Item, R>>(
         &mut self,
-        init: C,
+        state: &mut C,
         turn: &K,
-    ) -> Exit<C, I::Error, R> {
-        rfold_in_slot(&mut self.it, &mut self.f, &FilterPass, init, turn)
+    ) -> Result<Option<R>, I::Error> {
+        drive_back_passing(&mut self.it, &mut self.f, &FilterPass, state, turn)
     }
 
     ghost lawful_ends = { lawful_ends_seen
@@ -95,12 +94,11 @@ impl<X: Drop, E, F: FnMut(&X) -> Result<bool, E>> Pass<F, X, E> for FilterPass {
 
     ghost outcome = { λ _ x v. tested_outcome x v };
 
-    fn pass(&self, state: F, item: X) -> (F, Outcome<X, E>) {
-        let mut f = state;
-        match f(&item) {
-            Ok(true) => (f, Outcome::Kept(item)),
-            Ok(false) => (f, Outcome::LeftOut),
-            Err(e) => (f, Outcome::Failure(e)),
+    fn pass(&self, state: &mut F, item: X) -> Outcome<X, E> {
+        match state(&item) {
+            Ok(true) => Outcome::Kept(item),
+            Ok(false) => Outcome::LeftOut,
+            Err(e) => Outcome::Failure(e),
         }
     }
 }

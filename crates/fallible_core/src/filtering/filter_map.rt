@@ -8,18 +8,17 @@ ghost use Rattle.fallible_contract.specs.Laws.Ends.{lawful_ends_seen};
 ghost use Rattle.fallible_core.specs.Filtering.FilterMap.{filter_map_outcome, filter_map_contract, filter_map_parts};
 ghost use Rattle.fallible_core.specs.Laws.Filtering.FilterMap.{lawful_filter_map, lawful_ends_filter_map};
 
-use crate::passing::{fold_in_slot, rfold_in_slot};
+use crate::passing::{drive_back_passing, drive_passing};
 use crate::traits::FallibleIterator;
 use crate::traits::double_ended::DoubleEndedFallibleIterator;
-use fallible_contract::folds::{Exit, FirstTurn, Turn, item_of_exit};
+use fallible_contract::folds::{FirstTurn, Turn};
 use fallible_contract::passing::{Outcome, Pass};
 
 /// The values that the closure answers. An item on which it answers none is left out; an item on which it fails is lost, and its failure is the answer.
 #[derive(Clone, Debug, Drop)]
 pub struct FilterMap<I, F> {
     pub(crate) it: I,
-    // empty only during a call
-    pub(crate) f: Option<F>,
+    pub(crate) f: F,
 }
 
 impl<I: FallibleIterator, B, F: FnMut(I::Item) -> Result<Option<B>, I::Error>> FallibleIterator
@@ -32,19 +31,19 @@ impl<I: FallibleIterator, B, F: FnMut(I::Item) -> Result<Option<B>, I::Error>> F
 
     /// Draws until the closure answers a value, a failure comes or an end comes, and calls the closure on each item.
     fn next(&mut self) -> Result<Option<B>, I::Error> {
-        item_of_exit(self.try_fold_carrying((), &FirstTurn))
+        self.drive(&mut (), &FirstTurn)
     }
 
     fn size_hint(&self) -> (usize, Option<usize>) {
         (0, self.it.size_hint().1)
     }
 
-    fn try_fold_carrying<C, R, K: Turn<C, B, R>>(
+    fn drive<C, R, K: Turn<C, B, R>>(
         &mut self,
-        init: C,
+        state: &mut C,
         turn: &K,
-    ) -> Exit<C, I::Error, R> {
-        fold_in_slot(&mut self.it, &mut self.f, &FilterMapPass, init, turn)
+    ) -> Result<Option<R>, I::Error> {
+        drive_passing(&mut self.it, &mut self.f, &FilterMapPass, state, turn)
     }
 
     ghost lawful = { lawful_seen filter_map_parts (lawful_filter_map F.FnMut I.lawful) };
@@ -60,15 +59,15 @@ impl<
 
     /// Draws from behind until the closure answers a value, a failure comes or an end comes, and calls the closure on each item.
     fn next_back(&mut self) -> Result<Option<B>, I::Error> {
-        item_of_exit(self.try_rfold_carrying((), &FirstTurn))
+        self.drive_back(&mut (), &FirstTurn)
     }
 
-    fn try_rfold_carrying<C, R, K: Turn<C, B, R>>(
+    fn drive_back<C, R, K: Turn<C, B, R>>(
         &mut self,
-        init: C,
+        state: &mut C,
         turn: &K,
-    ) -> Exit<C, I::Error, R> {
-        rfold_in_slot(&mut self.it, &mut self.f, &FilterMapPass, init, turn)
+    ) -> Result<Option<R>, I::Error> {
+        drive_back_passing(&mut self.it, &mut self.f, &FilterMapPass, state, turn)
     }
 
     ghost lawful_ends = { lawful_ends_seen filter_map_parts
@@ -90,12 +89,11 @@ impl<X, B, E, F: FnMut(X) -> Result<Option<B>, E>> Pass<F, X, E> for FilterMapPa
 
     ghost outcome = { λ _ x v. filter_map_outcome x v };
 
-    fn pass(&self, state: F, item: X) -> (F, Outcome<B, E>) {
-        let mut f = state;
-        match f(item) {
-            Ok(Some(y)) => (f, Outcome::Kept(y)),
-            Ok(None) => (f, Outcome::LeftOut),
-            Err(e) => (f, Outcome::Failure(e)),
+    fn pass(&self, state: &mut F, item: X) -> Outcome<B, E> {
+        match state(item) {
+            Ok(Some(y)) => Outcome::Kept(y),
+            Ok(None) => Outcome::LeftOut,
+            Err(e) => Outcome::Failure(e),
         }
     }
 }

@@ -8,7 +8,7 @@ ghost use Rattle.fallible_core.specs.Filtering.SkipWhile.{skip_call, skip_takes,
 ghost use Rattle.fallible_core.specs.Laws.Filtering.SkipWhile.{lawful_skip_while};
 
 use crate::traits::FallibleIterator;
-use fallible_contract::folds::{Exit, Turn, take_out};
+use fallible_contract::folds::Turn;
 use fallible_contract::searching::Test;
 use std::ops::ControlFlow;
 
@@ -16,10 +16,8 @@ use std::ops::ControlFlow;
 #[derive(Clone, Debug, Drop)]
 pub struct SkipWhile<I, P> {
     pub(crate) it: I,
-    // the predicate answered false
-    pub(crate) found: bool,
-    // empty only during a call
-    pub(crate) predicate: Option<P>,
+    // whether the predicate answered false, and the predicate
+    pub(crate) skipping: (bool, P),
 }
 
 impl<I: FallibleIterator, P: FnMut(&I::Item) -> Result<bool, I::Error>> FallibleIterator
@@ -33,20 +31,17 @@ where
 
     ghost contract = { seen_as skip_while_parts (skip_while_contract I.contract P.FnMut) };
 
-    /// Draws until an item is kept, a failure comes or an end comes, and asks the predicate of each item until it first answered false.
+    /// Draws until an item is kept, a failure comes or an end comes, and asks the predicate of each item until it first answered false. Once it did, one call draws one answer.
     fn next(&mut self) -> Result<Option<I::Item>, I::Error> {
-        let predicate = take_out(&mut self.predicate);
-        let (state, answer) = self
-            .it
-            .find_carrying((self.found, predicate), &SkipWhileTest);
-        let (found, predicate) = state;
-        self.found = found;
-        self.predicate = Some(predicate);
-        answer
+        if self.skipping.0 {
+            self.it.next()
+        } else {
+            self.it.drive_find(&mut self.skipping, &SkipWhileTest)
+        }
     }
 
     fn size_hint(&self) -> (usize, Option<usize>) {
-        if self.found {
+        if self.skipping.0 {
             self.it.size_hint()
         } else {
             (0, self.it.size_hint().1)
@@ -54,25 +49,25 @@ where
     }
 
     /// The items up to the first one that is kept, as `next` draws them, and after it the source's fold.
-    fn try_fold_carrying<C, R, K: Turn<C, I::Item, R>>(
+    fn drive<C, R, K: Turn<C, I::Item, R>>(
         &mut self,
-        init: C,
+        state: &mut C,
         turn: &K,
-    ) -> Exit<C, I::Error, R> {
+    ) -> Result<Option<R>, I::Error> {
         match self.next() {
-            Ok(Some(x)) => match turn.turn(init, x) {
-                ControlFlow::Continue(carried) => self.it.try_fold_carrying(carried, turn),
-                ControlFlow::Break(stop) => Exit::Stopped(stop),
+            Ok(Some(x)) => match turn.turn(state, x) {
+                ControlFlow::Continue(()) => self.it.drive(state, turn),
+                ControlFlow::Break(stop) => Ok(Some(stop)),
             },
-            Ok(None) => Exit::Ended(init),
-            Err(e) => Exit::Failed(init, e),
+            Ok(None) => Ok(None),
+            Err(e) => Err(e),
         }
     }
 
     ghost lawful = { lawful_seen skip_while_parts (lawful_skip_while P.FnMut I.lawful) };
 }
 
-// The test of `next`, with the flag beside the predicate: accepts an item once the predicate answered false, or where it does so now.
+// The test of the search in `next`, whose state is the flag beside the predicate: it accepts an item once the predicate answered false, or where it does so on it.
 #[derive(Drop)]
 struct SkipWhileTest;
 
@@ -82,15 +77,17 @@ impl<X, E, P: FnMut(&X) -> Result<bool, E>> Test<(bool, P), X, E> for SkipWhileT
     ghost tests = { λ _ state x v d. PassTest (skip_call (call_at P.FnMut)) skip_while_outcome
         state x v d };
 
-    fn test(&self, carried: (bool, P), item: &X) -> ((bool, P), Result<bool, E>) {
-        let (found, mut predicate) = carried;
-        if found {
-            return ((true, predicate), Ok(true));
+    fn test(&self, state: &mut (bool, P), item: &X) -> Result<bool, E> {
+        if state.0 {
+            return Ok(true);
         }
-        match predicate(item) {
-            Ok(true) => ((false, predicate), Ok(false)),
-            Ok(false) => ((true, predicate), Ok(true)),
-            Err(e) => ((false, predicate), Err(e)),
+        match (state.1)(item) {
+            Ok(true) => Ok(false),
+            Ok(false) => {
+                state.0 = true;
+                Ok(true)
+            }
+            Err(e) => Err(e),
         }
     }
 }

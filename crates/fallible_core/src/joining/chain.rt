@@ -9,7 +9,7 @@ ghost use Rattle.fallible_core.specs.Laws.Joining.Chain.{lawful_chain, lawful_en
 
 use crate::traits::FallibleIterator;
 use crate::traits::double_ended::DoubleEndedFallibleIterator;
-use fallible_contract::folds::{Exit, Turn};
+use fallible_contract::folds::Turn;
 use fallible_contract::hints::sum;
 use fallible_contract::searching::Test;
 
@@ -62,33 +62,34 @@ impl<T: FallibleIterator, U: FallibleIterator<Item = T::Item, Error = T::Error>>
     }
 
     /// The first's fold, and at its end, in the same call, the second's; where one side alone is drawn, that side's.
-    fn try_fold_carrying<C, R, K: Turn<C, T::Item, R>>(
+    fn drive<C, R, K: Turn<C, T::Item, R>>(
         &mut self,
-        init: C,
+        state: &mut C,
         turn: &K,
-    ) -> Exit<C, T::Error, R> {
+    ) -> Result<Option<R>, T::Error> {
         let Chain {
             first,
             second,
             still_drawn,
         } = self;
         match still_drawn {
-            StillDrawn::SecondAlone => second.try_fold_carrying(init, turn),
-            _ => match first.try_fold_carrying(init, turn) {
-                Exit::Ended(carried) => match still_drawn {
-                    StillDrawn::FirstAlone => Exit::Ended(carried),
+            StillDrawn::SecondAlone => second.drive(state, turn),
+            _ => match first.drive(state, turn) {
+                Ok(Some(stop)) => Ok(Some(stop)),
+                Ok(None) => match still_drawn {
+                    StillDrawn::FirstAlone => Ok(None),
                     _ => {
                         *still_drawn = StillDrawn::SecondAlone;
-                        second.try_fold_carrying(carried, turn)
+                        second.drive(state, turn)
                     }
                 },
-                exit => exit,
+                Err(e) => Err(e),
             },
         }
     }
 
     /// The first's count, and then the second's, added up.
-    fn count(self) -> Result<usize, T::Error>
+    fn drive_count(self) -> Result<usize, T::Error>
     where
         T::Item: Drop,
     {
@@ -98,20 +99,20 @@ impl<T: FallibleIterator, U: FallibleIterator<Item = T::Item, Error = T::Error>>
             still_drawn,
         } = self;
         match still_drawn {
-            StillDrawn::Both => match first.count() {
-                Ok(before) => match second.count() {
+            StillDrawn::Both => match first.drive_count() {
+                Ok(before) => match second.drive_count() {
                     Ok(after) => Ok(before + after),
                     Err(e) => Err(e),
                 },
                 Err(e) => Err(e),
             },
-            StillDrawn::FirstAlone => first.count(),
-            StillDrawn::SecondAlone => second.count(),
+            StillDrawn::FirstAlone => first.drive_count(),
+            StillDrawn::SecondAlone => second.drive_count(),
         }
     }
 
     /// The second's last, or where it has none the first's. Where the first fails, the second isn't drawn.
-    fn last(self) -> Result<Option<T::Item>, T::Error>
+    fn drive_last(self) -> Result<Option<T::Item>, T::Error>
     where
         T::Item: Drop,
     {
@@ -121,25 +122,25 @@ impl<T: FallibleIterator, U: FallibleIterator<Item = T::Item, Error = T::Error>>
             still_drawn,
         } = self;
         match still_drawn {
-            StillDrawn::Both => match first.last() {
-                Ok(before) => match second.last() {
+            StillDrawn::Both => match first.drive_last() {
+                Ok(before) => match second.drive_last() {
                     Ok(Some(x)) => Ok(Some(x)),
                     Ok(None) => Ok(before),
                     Err(e) => Err(e),
                 },
                 Err(e) => Err(e),
             },
-            StillDrawn::FirstAlone => first.last(),
-            StillDrawn::SecondAlone => second.last(),
+            StillDrawn::FirstAlone => first.drive_last(),
+            StillDrawn::SecondAlone => second.drive_last(),
         }
     }
 
     /// The first's search, and where it found none, in the same call, the second's; where one side alone is drawn, that side's.
-    fn find_carrying<C, K: Test<C, T::Item, T::Error>>(
+    fn drive_find<C, K: Test<C, T::Item, T::Error>>(
         &mut self,
-        init: C,
+        state: &mut C,
         test: &K,
-    ) -> (C, Result<Option<T::Item>, T::Error>)
+    ) -> Result<Option<T::Item>, T::Error>
     where
         T::Item: Drop,
     {
@@ -148,20 +149,19 @@ impl<T: FallibleIterator, U: FallibleIterator<Item = T::Item, Error = T::Error>>
             second,
             still_drawn,
         } = self;
-        if let StillDrawn::SecondAlone = still_drawn {
-            return second.find_carrying(init, test);
-        }
-        let (carried, answer) = first.find_carrying(init, test);
-        match answer {
-            Ok(Some(x)) => (carried, Ok(Some(x))),
-            Ok(None) => match still_drawn {
-                StillDrawn::FirstAlone => (carried, Ok(None)),
-                _ => {
-                    *still_drawn = StillDrawn::SecondAlone;
-                    second.find_carrying(carried, test)
-                }
+        match still_drawn {
+            StillDrawn::SecondAlone => second.drive_find(state, test),
+            _ => match first.drive_find(state, test) {
+                Ok(Some(x)) => Ok(Some(x)),
+                Ok(None) => match still_drawn {
+                    StillDrawn::FirstAlone => Ok(None),
+                    _ => {
+                        *still_drawn = StillDrawn::SecondAlone;
+                        second.drive_find(state, test)
+                    }
+                },
+                Err(e) => Err(e),
             },
-            Err(e) => (carried, Err(e)),
         }
     }
 
@@ -191,27 +191,28 @@ impl<
     }
 
     /// The second's fold from behind, and at its end, in the same call, the first's; where one side alone is drawn, that side's.
-    fn try_rfold_carrying<C, R, K: Turn<C, T::Item, R>>(
+    fn drive_back<C, R, K: Turn<C, T::Item, R>>(
         &mut self,
-        init: C,
+        state: &mut C,
         turn: &K,
-    ) -> Exit<C, T::Error, R> {
+    ) -> Result<Option<R>, T::Error> {
         let Chain {
             first,
             second,
             still_drawn,
         } = self;
         match still_drawn {
-            StillDrawn::FirstAlone => first.try_rfold_carrying(init, turn),
-            _ => match second.try_rfold_carrying(init, turn) {
-                Exit::Ended(carried) => match still_drawn {
-                    StillDrawn::SecondAlone => Exit::Ended(carried),
+            StillDrawn::FirstAlone => first.drive_back(state, turn),
+            _ => match second.drive_back(state, turn) {
+                Ok(Some(stop)) => Ok(Some(stop)),
+                Ok(None) => match still_drawn {
+                    StillDrawn::SecondAlone => Ok(None),
                     _ => {
                         *still_drawn = StillDrawn::FirstAlone;
-                        first.try_rfold_carrying(carried, turn)
+                        first.drive_back(state, turn)
                     }
                 },
-                exit => exit,
+                Err(e) => Err(e),
             },
         }
     }

@@ -1,15 +1,15 @@
 // The adapters that join the answers of inner iterators.
 ghost use Rattle.std.specs.Prelude.{◌≡◌, ℕ, [], ◌∷◌, None, Ok, List, Option, Result};
 ghost use Rattle.fallible_contract.specs.Contract.{seen_as};
-ghost use Rattle.fallible_contract.specs.Folds.{CallableCarrying, Carried};
+ghost use Rattle.fallible_contract.specs.Folds.{CallableDriving, Driven, TurnBehind, beside, beside_names};
 ghost use Rattle.fallible_contract.specs.Laws.Contract.{lawful_seen};
-ghost use Rattle.fallible_core.specs.Joining.Flatten.{FlattenTrace, flatten_contract, IsFlattenNextTurn, JoiningTakes, IsFlattenFoldTurn, flatten_parts};
+ghost use Rattle.fallible_core.specs.Joining.Flatten.{FlattenTrace, flatten_contract, JoiningTakes, IsFlattenTurn, flatten_parts};
 ghost use Rattle.fallible_core.specs.Laws.Joining.Flatten.{lawful_flatten};
 
 use crate::one_to_one::Map;
 use crate::traits::FallibleIterator;
 use crate::traits::conversion::IntoFallibleIterator;
-use fallible_contract::folds::{Exit, Turn, draw_of_exit};
+use fallible_contract::folds::{Beside, Turn, answer_within};
 use std::ops::ControlFlow;
 
 /// The answers of the inner iterators `J` that the items become, one inner iterator after the other. The one in hand answers until its end, at which it is dropped; then the next item is drawn. A failure of the inner iterator keeps it. A failure or an end of the outer source is the answer, and the next call draws from it again.
@@ -38,12 +38,12 @@ impl<U: IntoFallibleIterator, I: FallibleIterator<Item = U, Error = U::Error>> F
     }
 
     /// The fold of the inner iterator in hand, and at its end, in the same call, the outer source's.
-    fn try_fold_carrying<C, R, K: Turn<C, U::Item, R>>(
+    fn drive<C, R, K: Turn<C, U::Item, R>>(
         &mut self,
-        init: C,
+        state: &mut C,
         turn: &K,
-    ) -> Exit<C, U::Error, R> {
-        fold_joined(&mut self.it, &mut self.in_hand, init, turn)
+    ) -> Result<Option<R>, U::Error> {
+        drive_joined(&mut self.it, &mut self.in_hand, state, turn)
     }
 
     ghost lawful = { lawful_seen flatten_parts
@@ -53,7 +53,7 @@ impl<U: IntoFallibleIterator, I: FallibleIterator<Item = U, Error = U::Error>> F
 /// The answers of the inner iterators `J` that the closure makes of the items, as `Flatten` joins them: a `Flatten` over the `Map` of the closure. Where the closure fails, its failure is the answer, and that item is lost.
 pub type FlatMap<I, J, F> = Flatten<Map<I, F>, J>;
 
-// One answer of the joined inner iterators. The one in hand is dropped at its end.
+// One answer of the joined inner iterators. The one in hand is dropped at its end, and then the next item is drawn.
 fn next_joined<U: IntoFallibleIterator, O: FallibleIterator<Item = U, Error = U::Error>>(
     outer: &mut O,
     in_hand: &mut Option<U::IntoFallibleIter>,
@@ -64,70 +64,28 @@ where
     ensures { FlattenTrace O.contract.steps U.into_gives U.IntoFallibleIter.contract.steps
         (outer.old, in_hand.old) (result ∷ []) (outer.new, in_hand.new) }
 {
-    match in_hand {
-        Some(inner) => match inner.next() {
-            Ok(Some(y)) => return Ok(Some(y)),
-            Err(e) => return Err(e),
-            Ok(None) => {}
-        },
-        None => {}
-    }
-    *in_hand = None;
-    let (inner, answer) = begin(outer);
-    *in_hand = inner;
-    answer
-}
-
-// One answer where no inner iterator is in hand, and the one that is in hand then: the outer source's fold, which stops at the first inner iterator that does not end at once.
-fn begin<U: IntoFallibleIterator, O: FallibleIterator<Item = U, Error = U::Error>>(
-    outer: &mut O,
-) -> (
-    Option<U::IntoFallibleIter>,
-    Result<Option<U::Item>, U::Error>,
-)
-where
-    requires { (flatten_contract O.contract U.into_gives U.IntoFallibleIter.contract).can_next
-        (outer.old, None) }
-    ensures { FlattenTrace O.contract.steps U.into_gives U.IntoFallibleIter.contract.steps
-        (outer.old, None) (result.1 ∷ []) (outer.new, result.0) }
-{
-    draw_of_exit(outer.try_fold_carrying(None, &FlattenNextTurn))
-}
-
-// The turn of `begin`: stops with the inner iterator that the item becomes in hand, and its first answer, and goes on where it ends at once.
-#[derive(Drop)]
-struct FlattenNextTurn;
-
-impl<U: IntoFallibleIterator> Turn<
-    Option<U::IntoFallibleIter>,
-    U,
-    (Option<U::IntoFallibleIter>, Result<U::Item, U::Error>),
-> for FlattenNextTurn {
-    ghost can_turn = { λ _ _ x. (c : U.IntoFallibleIter) → U.into_gives x c
-        → U.IntoFallibleIter.contract.can_next c };
-
-    ghost turns = { λ _ in_hand x r. IsFlattenNextTurn U.into_gives
-        U.IntoFallibleIter.contract.steps in_hand x r };
-
-    fn turn(
-        &self,
-        carried: Option<U::IntoFallibleIter>,
-        item: U,
-    ) -> ControlFlow<
-        (Option<U::IntoFallibleIter>, Result<U::Item, U::Error>),
-        Option<U::IntoFallibleIter>,
-    > {
-        let mut inner = item.into_fallible_iter();
-        match inner.next() {
-            Ok(Some(y)) => ControlFlow::Break((Some(inner), Ok(y))),
-            Ok(None) => ControlFlow::Continue(carried),
-            Err(e) => ControlFlow::Break((Some(inner), Err(e))),
+    let mut left = (*outer).number();
+    loop {
+        match in_hand {
+            Some(inner) => match inner.next() {
+                Ok(Some(y)) => return Ok(Some(y)),
+                Err(e) => return Err(e),
+                Ok(None) => {}
+            },
+            None => {}
         }
+        *in_hand = None;
+        match outer.next() {
+            Ok(Some(x)) => *in_hand = Some(x.into_fallible_iter()),
+            Ok(None) => return Ok(None),
+            Err(e) => return Err(e),
+        }
+        left = left.one_less();
     }
 }
 
 // One fold of the joined inner iterators: of the one in hand, which is dropped at its end, and then of the outer source. The one in which the fold stopped stays in hand.
-fn fold_joined<
+fn drive_joined<
     U: IntoFallibleIterator,
     O: FallibleIterator<Item = U, Error = U::Error>,
     C,
@@ -136,9 +94,9 @@ fn fold_joined<
 >(
     outer: &mut O,
     in_hand: &mut Option<U::IntoFallibleIter>,
-    init: C,
+    state: &mut C,
     turn: &K,
-) -> Exit<C, U::Error, R>
+) -> Result<Option<R>, U::Error>
 where
     requires can_next { (flatten_contract O.contract U.into_gives
         U.IntoFallibleIter.contract).can_next
@@ -146,83 +104,93 @@ where
     requires finite { (flatten_contract O.contract U.into_gives
         U.IntoFallibleIter.contract).is_finite
         (outer.old, in_hand.old) }
-    requires callable { CallableCarrying
+    requires callable { CallableDriving
         (flatten_contract O.contract U.into_gives U.IntoFallibleIter.contract).steps
-        (K.turns turn.now) (K.can_turn turn.now) (outer.old, in_hand.old) init }
-    ensures { Carried (flatten_contract O.contract U.into_gives U.IntoFallibleIter.contract).steps
-        (K.turns turn.now) (outer.old, in_hand.old) init result (outer.new, in_hand.new) }
+        (K.turns turn.now) (K.can_turn turn.now) (outer.old, in_hand.old) state.old }
+    ensures { Driven (flatten_contract O.contract U.into_gives U.IntoFallibleIter.contract).steps
+        (K.turns turn.now) (outer.old, in_hand.old) state.old result
+        (outer.new, in_hand.new) state.new }
 {
-    let carried = match in_hand {
-        Some(inner) => match inner.try_fold_carrying(init, turn) {
-            Exit::Ended(carried) => carried,
-            exit => return exit,
+    match in_hand {
+        Some(inner) => match inner.drive(state, turn) {
+            Ok(Some(stop)) => return Ok(Some(stop)),
+            Err(e) => return Err(e),
+            Ok(None) => {}
         },
-        None => init,
-    };
+        None => {}
+    }
     *in_hand = None;
-    let (inner, exit) = fold_outer(outer, carried, turn);
-    *in_hand = inner;
-    exit
+    drive_outer(outer, in_hand, state, turn)
 }
 
-// The fold where no inner iterator is in hand, and the one that is in hand then: one of the outer source.
-fn fold_outer<
+// The fold where no inner iterator is in hand: one of the outer source.
+fn drive_outer<
     U: IntoFallibleIterator,
     O: FallibleIterator<Item = U, Error = U::Error>,
     C,
     R,
     K: Turn<C, U::Item, R>,
->(outer: &mut O, init: C, turn: &K) -> (Option<U::IntoFallibleIter>, Exit<C, U::Error, R>)
+>(
+    outer: &mut O,
+    in_hand: &mut Option<U::IntoFallibleIter>,
+    state: &mut C,
+    turn: &K,
+) -> Result<Option<R>, U::Error>
 where
+    requires empty { in_hand.old ≡ None }
     requires can_next { (flatten_contract O.contract U.into_gives
         U.IntoFallibleIter.contract).can_next
         (outer.old, None) }
     requires finite { (flatten_contract O.contract U.into_gives
         U.IntoFallibleIter.contract).is_finite
         (outer.old, None) }
-    requires callable { CallableCarrying
+    requires callable { CallableDriving
         (flatten_contract O.contract U.into_gives U.IntoFallibleIter.contract).steps
-        (K.turns turn.now) (K.can_turn turn.now) (outer.old, None) init }
-    ensures { Carried (flatten_contract O.contract U.into_gives U.IntoFallibleIter.contract).steps
-        (K.turns turn.now) (outer.old, None) init result.1 (outer.new, result.0) }
+        (K.turns turn.now) (K.can_turn turn.now) (outer.old, None) state.old }
+    ensures { Driven (flatten_contract O.contract U.into_gives U.IntoFallibleIter.contract).steps
+        (K.turns turn.now) (outer.old, None) state.old result (outer.new, in_hand.new) state.new }
 {
-    let turn = FlattenFoldTurn { turn };
-    match outer.try_fold_carrying(init, &turn) {
-        Exit::Ended(carried) => (None, Exit::Ended(carried)),
-        Exit::Failed(carried, e) => (None, Exit::Failed(carried, e)),
-        Exit::Stopped(stop) => {
-            let (inner, exit) = stop;
-            (Some(inner), exit)
-        }
-    }
+    let mut both = Beside {
+        c: state,
+        p: in_hand,
+    };
+    let answer = outer.drive(&mut both, &FlattenTurn { turn });
+    answer_within(answer)
 }
 
-// The turn of the outer source's fold: the inner iterator that the item becomes is folded by the caller's turn. The outer fold goes on where that fold ended, and else stops with the inner iterator and the exit.
+// The turn of the outer source's fold: the inner iterator that the item becomes is folded by the caller's turn. The outer fold goes on where that fold ended, and else stops with its answer and the inner iterator in hand.
 #[derive(Drop)]
-struct FlattenFoldTurn<'a, K> {
+struct FlattenTurn<'a, K> {
     turn: &'a K,
 }
 
-impl<'a, U: IntoFallibleIterator, C, R, K: Turn<C, U::Item, R>> Turn<
-    C,
+impl<'a, 'b, U: IntoFallibleIterator, C, R, K: Turn<C, U::Item, R>> Turn<
+    Beside<'b, C, Option<U::IntoFallibleIter>>,
     U,
-    (U::IntoFallibleIter, Exit<C, U::Error, R>),
-> for FlattenFoldTurn<'a, K> {
-    ghost can_turn = { λ k c x. JoiningTakes U.into_gives U.IntoFallibleIter.contract
-        (K.turns k.turn.now) (K.can_turn k.turn.now) c x };
+    Result<Option<R>, U::Error>,
+> for FlattenTurn<'a, K> {
+    ghost can_turn = { λ k b x. JoiningTakes U.into_gives U.IntoFallibleIter.contract
+        (K.turns k.turn.now) (K.can_turn k.turn.now) (beside b) x };
 
-    ghost turns = { λ k c x r. IsFlattenFoldTurn U.into_gives U.IntoFallibleIter.contract
-        (K.turns k.turn.now) c x r };
+    ghost turns = { λ k b x r d. TurnBehind beside beside_names
+        (IsFlattenTurn U.into_gives U.IntoFallibleIter.contract (K.turns k.turn.now)) b x r d };
 
     fn turn(
         &self,
-        carried: C,
+        state: &mut Beside<'b, C, Option<U::IntoFallibleIter>>,
         item: U,
-    ) -> ControlFlow<(U::IntoFallibleIter, Exit<C, U::Error, R>), C> {
+    ) -> ControlFlow<Result<Option<R>, U::Error>, ()> {
         let mut inner = item.into_fallible_iter();
-        match inner.try_fold_carrying(carried, self.turn) {
-            Exit::Ended(carried) => ControlFlow::Continue(carried),
-            exit => ControlFlow::Break((inner, exit)),
+        match inner.drive(state.c, self.turn) {
+            Ok(Some(stop)) => {
+                *state.p = Some(inner);
+                ControlFlow::Break(Ok(Some(stop)))
+            }
+            Ok(None) => ControlFlow::Continue(()),
+            Err(e) => {
+                *state.p = Some(inner);
+                ControlFlow::Break(Err(e))
+            }
         }
     }
 }

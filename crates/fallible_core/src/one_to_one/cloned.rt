@@ -8,10 +8,10 @@ ghost use Rattle.fallible_core.specs.OneToOne.Map.{map_outcome};
 ghost use Rattle.fallible_core.specs.OneToOne.Cloned.{cloned_call, cloned_contract, cloned_parts};
 ghost use Rattle.fallible_core.specs.Laws.OneToOne.Cloned.{lawful_cloned, lawful_ends_cloned};
 
-use crate::passing::{fold_passing, rfold_passing};
+use crate::passing::{drive_back_passing, drive_passing};
 use crate::traits::FallibleIterator;
 use crate::traits::double_ended::DoubleEndedFallibleIterator;
-use fallible_contract::folds::{Exit, Turn};
+use fallible_contract::folds::Turn;
 use fallible_contract::passing::{Outcome, Pass, passed};
 use std::alloc::AllocError;
 
@@ -34,19 +34,19 @@ where
 
     /// Draws one answer, and clones what it points to where it is an item.
     fn next(&mut self) -> Result<Option<T>, I::Error> {
-        passed(self.it.next(), (), &ClonePass).1
+        passed(self.it.next(), &mut (), &ClonePass)
     }
 
     fn size_hint(&self) -> (usize, Option<usize>) {
         self.it.size_hint()
     }
 
-    fn try_fold_carrying<C, R, K: Turn<C, T, R>>(
+    fn drive<C, R, K: Turn<C, T, R>>(
         &mut self,
-        init: C,
+        state: &mut C,
         turn: &K,
-    ) -> Exit<C, I::Error, R> {
-        fold_passing(&mut self.it, (), &ClonePass, init, turn).1
+    ) -> Result<Option<R>, I::Error> {
+        drive_passing(&mut self.it, &mut (), &ClonePass, state, turn)
     }
 
     ghost lawful = { lawful_seen cloned_parts
@@ -63,22 +63,22 @@ where
 
     /// Draws one answer from behind, and clones what it points to where it is an item.
     fn next_back(&mut self) -> Result<Option<T>, I::Error> {
-        passed(self.it.next_back(), (), &ClonePass).1
+        passed(self.it.next_back(), &mut (), &ClonePass)
     }
 
-    fn try_rfold_carrying<C, R, K: Turn<C, T, R>>(
+    fn drive_back<C, R, K: Turn<C, T, R>>(
         &mut self,
-        init: C,
+        state: &mut C,
         turn: &K,
-    ) -> Exit<C, I::Error, R> {
-        rfold_passing(&mut self.it, (), &ClonePass, init, turn).1
+    ) -> Result<Option<R>, I::Error> {
+        drive_back_passing(&mut self.it, &mut (), &ClonePass, state, turn)
     }
 
     ghost lawful_ends = { lawful_ends_seen cloned_parts
         (lawful_ends_cloned T.is_clone T.is_infallible I.Error.from_gives I.lawful_ends) };
 }
 
-// A clone of what an item points to. No closure is carried.
+// A clone of what an item points to. It keeps no state.
 #[derive(Drop)]
 struct ClonePass;
 
@@ -93,10 +93,10 @@ impl<'b, T: Clone + 'b, E: From<AllocError>> Pass<(), &'b T, E> for ClonePass {
 
     ghost outcome = { λ _ x v. map_outcome x v };
 
-    fn pass(&self, state: (), item: &'b T) -> ((), Outcome<T, E>) {
+    fn pass(&self, _state: &mut (), item: &'b T) -> Outcome<T, E> {
         match T::clone(item) {
-            Ok(y) => (state, Outcome::Kept(y)),
-            Err(refused) => (state, Outcome::Failure(E::from(refused))),
+            Ok(y) => Outcome::Kept(y),
+            Err(refused) => Outcome::Failure(E::from(refused)),
         }
     }
 }

@@ -5,9 +5,9 @@ ghost use Rattle.fallible_contract.specs.Laws.Contract.{lawful_seen};
 ghost use Rattle.fallible_core.specs.OneToOne.Enumerate.{enumerate_contract, enumerate_parts, number_call, number_outcome, number_takes};
 ghost use Rattle.fallible_core.specs.Laws.OneToOne.Enumerate.{lawful_enumerate};
 
-use crate::passing::fold_passing;
+use crate::passing::drive_passing;
 use crate::traits::FallibleIterator;
-use fallible_contract::folds::{Exit, NthTurn, Turn, item_of_exit};
+use fallible_contract::folds::{NthTurn, Turn};
 use fallible_contract::passing::{Outcome, Pass, passed};
 
 /// Each item beside the number of items drawn before it. Failures and ends pass, and don't count.
@@ -29,9 +29,7 @@ where
 
     /// Draws one answer, and counts it where it is an item.
     fn next(&mut self) -> Result<Option<(usize, I::Item)>, I::Error> {
-        let (count, answer) = passed(self.it.next(), self.count, &EnumeratePass);
-        self.count = count;
-        answer
+        passed(self.it.next(), &mut self.count, &EnumeratePass)
     }
 
     fn size_hint(&self) -> (usize, Option<usize>) {
@@ -39,30 +37,29 @@ where
     }
 
     /// The count goes on for each item that the source gives, also for the one where the turn stops.
-    fn try_fold_carrying<C, R, K: Turn<C, (usize, I::Item), R>>(
+    fn drive<C, R, K: Turn<C, (usize, I::Item), R>>(
         &mut self,
-        init: C,
+        state: &mut C,
         turn: &K,
-    ) -> Exit<C, I::Error, R> {
-        let (count, exit) = fold_passing(&mut self.it, self.count, &EnumeratePass, init, turn);
-        self.count = count;
-        exit
+    ) -> Result<Option<R>, I::Error> {
+        drive_passing(&mut self.it, &mut self.count, &EnumeratePass, state, turn)
     }
 
     /// The source's count.
-    fn count(self) -> Result<usize, I::Error> {
-        self.it.count()
+    fn drive_count(self) -> Result<usize, I::Error> {
+        self.it.drive_count()
     }
 
     /// One fold of the source, which counts each item that it gives.
-    fn nth(&mut self, n: usize) -> Result<Option<(usize, I::Item)>, I::Error> {
-        item_of_exit(self.try_fold_carrying(n, &NthTurn))
+    fn drive_nth(&mut self, n: usize) -> Result<Option<(usize, I::Item)>, I::Error> {
+        let mut left = n;
+        self.drive(&mut left, &NthTurn)
     }
 
     ghost lawful = { lawful_seen enumerate_parts (lawful_enumerate I.lawful) };
 }
 
-// An item beside its number. The number of the next item is carried.
+// An item beside its number. Its state is the number of the next item.
 #[derive(Drop)]
 struct EnumeratePass;
 
@@ -77,7 +74,9 @@ impl<X, E> Pass<usize, X, E> for EnumeratePass {
 
     ghost outcome = { λ _ x v. number_outcome x v };
 
-    fn pass(&self, state: usize, item: X) -> (usize, Outcome<(usize, X), E>) {
-        (state + 1, Outcome::Kept((state, item)))
+    fn pass(&self, state: &mut usize, item: X) -> Outcome<(usize, X), E> {
+        let number = *state;
+        *state += 1;
+        Outcome::Kept((number, item))
     }
 }

@@ -8,18 +8,17 @@ ghost use Rattle.fallible_contract.specs.Laws.Ends.{lawful_ends_seen};
 ghost use Rattle.fallible_core.specs.OneToOne.Inspect.{inspect_contract, inspect_outcome, inspect_parts};
 ghost use Rattle.fallible_core.specs.Laws.OneToOne.Inspect.{lawful_inspect, lawful_ends_inspect};
 
-use crate::passing::{fold_in_slot, rfold_in_slot};
+use crate::passing::{drive_back_passing, drive_passing};
 use crate::traits::FallibleIterator;
 use crate::traits::double_ended::DoubleEndedFallibleIterator;
-use fallible_contract::folds::{Exit, Turn};
-use fallible_contract::passing::{Outcome, Pass, passed_in_slot};
+use fallible_contract::folds::Turn;
+use fallible_contract::passing::{Outcome, Pass, passed};
 
 /// The items of the source, each shown to the closure first. An item on which the closure fails is lost, and its failure is the answer.
 #[derive(Clone, Debug, Drop)]
 pub struct Inspect<I, F> {
     pub(crate) it: I,
-    // empty only during a call
-    pub(crate) f: Option<F>,
+    pub(crate) f: F,
 }
 
 impl<I: FallibleIterator, F: FnMut(&I::Item) -> Result<(), I::Error>> FallibleIterator
@@ -35,19 +34,19 @@ where
 
     /// Draws one answer, and calls the closure where it is an item.
     fn next(&mut self) -> Result<Option<I::Item>, I::Error> {
-        passed_in_slot(self.it.next(), &mut self.f, &InspectPass)
+        passed(self.it.next(), &mut self.f, &InspectPass)
     }
 
     fn size_hint(&self) -> (usize, Option<usize>) {
         self.it.size_hint()
     }
 
-    fn try_fold_carrying<C, R, K: Turn<C, I::Item, R>>(
+    fn drive<C, R, K: Turn<C, I::Item, R>>(
         &mut self,
-        init: C,
+        state: &mut C,
         turn: &K,
-    ) -> Exit<C, I::Error, R> {
-        fold_in_slot(&mut self.it, &mut self.f, &InspectPass, init, turn)
+    ) -> Result<Option<R>, I::Error> {
+        drive_passing(&mut self.it, &mut self.f, &InspectPass, state, turn)
     }
 
     ghost lawful = { lawful_seen inspect_parts (lawful_inspect F.FnMut I.lawful) };
@@ -65,15 +64,15 @@ where
 
     /// Draws one answer from behind, and calls the closure where it is an item.
     fn next_back(&mut self) -> Result<Option<I::Item>, I::Error> {
-        passed_in_slot(self.it.next_back(), &mut self.f, &InspectPass)
+        passed(self.it.next_back(), &mut self.f, &InspectPass)
     }
 
-    fn try_rfold_carrying<C, R, K: Turn<C, I::Item, R>>(
+    fn drive_back<C, R, K: Turn<C, I::Item, R>>(
         &mut self,
-        init: C,
+        state: &mut C,
         turn: &K,
-    ) -> Exit<C, I::Error, R> {
-        rfold_in_slot(&mut self.it, &mut self.f, &InspectPass, init, turn)
+    ) -> Result<Option<R>, I::Error> {
+        drive_back_passing(&mut self.it, &mut self.f, &InspectPass, state, turn)
     }
 
     ghost lawful_ends = { lawful_ends_seen inspect_parts
@@ -95,11 +94,10 @@ impl<X: Drop, E, F: FnMut(&X) -> Result<(), E>> Pass<F, X, E> for InspectPass {
 
     ghost outcome = { λ _ x v. inspect_outcome x v };
 
-    fn pass(&self, state: F, item: X) -> (F, Outcome<X, E>) {
-        let mut f = state;
-        match f(&item) {
-            Ok(()) => (f, Outcome::Kept(item)),
-            Err(e) => (f, Outcome::Failure(e)),
+    fn pass(&self, state: &mut F, item: X) -> Outcome<X, E> {
+        match state(&item) {
+            Ok(()) => Outcome::Kept(item),
+            Err(e) => Outcome::Failure(e),
         }
     }
 }

@@ -8,19 +8,18 @@ ghost use Rattle.fallible_contract.specs.Laws.Ends.{lawful_ends_seen};
 ghost use Rattle.fallible_core.specs.OneToOne.Map.{map_contract, map_outcome, map_parts};
 ghost use Rattle.fallible_core.specs.Laws.OneToOne.Map.{lawful_map, lawful_ends_map};
 
-use crate::passing::{fold_in_slot, rfold_in_slot};
+use crate::passing::{drive_back_passing, drive_passing};
 use crate::traits::FallibleIterator;
 use crate::traits::double_ended::DoubleEndedFallibleIterator;
-use fallible_contract::folds::{Exit, Turn};
-use fallible_contract::passing::{Outcome, Pass, passed_in_slot};
+use fallible_contract::folds::Turn;
+use fallible_contract::passing::{Outcome, Pass, passed};
 use std::fmt;
 
 /// Each item replaced by the closure's answer on it; where the closure fails, its failure is the answer and the item is lost.
 #[derive(Clone, Drop)]
 pub struct Map<T, F> {
     pub(crate) it: T,
-    // empty only during a call
-    pub(crate) f: Option<F>,
+    pub(crate) f: F,
 }
 
 // It asks nothing of the closure.
@@ -41,19 +40,19 @@ impl<I: FallibleIterator, B, F: FnMut(I::Item) -> Result<B, I::Error>> FallibleI
 
     /// Draws one answer, and calls the closure where it is an item.
     fn next(&mut self) -> Result<Option<B>, I::Error> {
-        passed_in_slot(self.it.next(), &mut self.f, &MapPass)
+        passed(self.it.next(), &mut self.f, &MapPass)
     }
 
     fn size_hint(&self) -> (usize, Option<usize>) {
         self.it.size_hint()
     }
 
-    fn try_fold_carrying<C, R, K: Turn<C, B, R>>(
+    fn drive<C, R, K: Turn<C, B, R>>(
         &mut self,
-        init: C,
+        state: &mut C,
         turn: &K,
-    ) -> Exit<C, I::Error, R> {
-        fold_in_slot(&mut self.it, &mut self.f, &MapPass, init, turn)
+    ) -> Result<Option<R>, I::Error> {
+        drive_passing(&mut self.it, &mut self.f, &MapPass, state, turn)
     }
 
     ghost lawful = { lawful_seen map_parts (lawful_map F.FnMut I.lawful) };
@@ -69,15 +68,15 @@ impl<
 
     /// Draws one answer from behind, and calls the closure where it is an item.
     fn next_back(&mut self) -> Result<Option<B>, I::Error> {
-        passed_in_slot(self.it.next_back(), &mut self.f, &MapPass)
+        passed(self.it.next_back(), &mut self.f, &MapPass)
     }
 
-    fn try_rfold_carrying<C, R, K: Turn<C, B, R>>(
+    fn drive_back<C, R, K: Turn<C, B, R>>(
         &mut self,
-        init: C,
+        state: &mut C,
         turn: &K,
-    ) -> Exit<C, I::Error, R> {
-        rfold_in_slot(&mut self.it, &mut self.f, &MapPass, init, turn)
+    ) -> Result<Option<R>, I::Error> {
+        drive_back_passing(&mut self.it, &mut self.f, &MapPass, state, turn)
     }
 
     ghost lawful_ends = { lawful_ends_seen map_parts (lawful_ends_map F.FnMut I.lawful_ends) };
@@ -98,11 +97,10 @@ impl<X, B, E, F: FnMut(X) -> Result<B, E>> Pass<F, X, E> for MapPass {
 
     ghost outcome = { λ _ x v. map_outcome x v };
 
-    fn pass(&self, state: F, item: X) -> (F, Outcome<B, E>) {
-        let mut f = state;
-        match f(item) {
-            Ok(y) => (f, Outcome::Kept(y)),
-            Err(e) => (f, Outcome::Failure(e)),
+    fn pass(&self, state: &mut F, item: X) -> Outcome<B, E> {
+        match state(item) {
+            Ok(y) => Outcome::Kept(y),
+            Err(e) => Outcome::Failure(e),
         }
     }
 }

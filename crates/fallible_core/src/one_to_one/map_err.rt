@@ -5,12 +5,12 @@ ghost use Rattle.fallible_contract.specs.Closures.{call_on, takes_on};
 ghost use Rattle.fallible_contract.specs.Ends.{from_back, ends_of, ends_seen_as};
 ghost use Rattle.fallible_contract.specs.Laws.Contract.{lawful_seen};
 ghost use Rattle.fallible_contract.specs.Laws.Ends.{lawful_ends_seen};
-ghost use Rattle.fallible_core.specs.OneToOne.MapErr.{MapErrAnswer, MapErrExit, TakesExit, TakesFailure, map_err_contract, map_err_parts};
+ghost use Rattle.fallible_core.specs.OneToOne.MapErr.{MapErrAnswer, TakesFailure, map_err_contract, map_err_parts};
 ghost use Rattle.fallible_core.specs.Laws.OneToOne.MapErr.{lawful_map_err, lawful_ends_map_err};
 
 use crate::traits::FallibleIterator;
 use crate::traits::double_ended::DoubleEndedFallibleIterator;
-use fallible_contract::folds::{Exit, Turn};
+use fallible_contract::folds::Turn;
 
 /// The source with each failure replaced by the closure's value on it. Its failures are those values; items and ends pass.
 #[derive(Clone, Debug, Drop)]
@@ -35,36 +35,36 @@ impl<I: FallibleIterator, B, F: FnMut(I::Error) -> B> FallibleIterator for MapEr
         self.it.size_hint()
     }
 
-    fn try_fold_carrying<C, R, K: Turn<C, I::Item, R>>(
+    fn drive<C, R, K: Turn<C, I::Item, R>>(
         &mut self,
-        init: C,
+        state: &mut C,
         turn: &K,
-    ) -> Exit<C, B, R> {
-        exited(self.it.try_fold_carrying(init, turn), &mut self.f)
+    ) -> Result<Option<R>, B> {
+        answer(self.it.drive(state, turn), &mut self.f)
     }
 
     /// The source's count, or the closure's value on the failure that it met.
-    fn count(self) -> Result<usize, B>
+    fn drive_count(self) -> Result<usize, B>
     where
         I::Item: Drop,
     {
         let MapErr { it, mut f } = self;
-        answer(it.count(), &mut f)
+        answer(it.drive_count(), &mut f)
     }
 
-    fn last(self) -> Result<Option<I::Item>, B>
+    fn drive_last(self) -> Result<Option<I::Item>, B>
     where
         I::Item: Drop,
     {
         let MapErr { it, mut f } = self;
-        answer(it.last(), &mut f)
+        answer(it.drive_last(), &mut f)
     }
 
-    fn nth(&mut self, n: usize) -> Result<Option<I::Item>, B>
+    fn drive_nth(&mut self, n: usize) -> Result<Option<I::Item>, B>
     where
         I::Item: Drop,
     {
-        answer(self.it.nth(n), &mut self.f)
+        answer(self.it.drive_nth(n), &mut self.f)
     }
 
     ghost lawful = { lawful_seen map_err_parts (lawful_map_err F.FnMut I.lawful) };
@@ -80,12 +80,12 @@ impl<I: DoubleEndedFallibleIterator, B, F: FnMut(I::Error) -> B> DoubleEndedFall
         answer(self.it.next_back(), &mut self.f)
     }
 
-    fn try_rfold_carrying<C, R, K: Turn<C, I::Item, R>>(
+    fn drive_back<C, R, K: Turn<C, I::Item, R>>(
         &mut self,
-        init: C,
+        state: &mut C,
         turn: &K,
-    ) -> Exit<C, B, R> {
-        exited(self.it.try_rfold_carrying(init, turn), &mut self.f)
+    ) -> Result<Option<R>, B> {
+        answer(self.it.drive_back(state, turn), &mut self.f)
     }
 
     ghost lawful_ends = { lawful_ends_seen map_err_parts
@@ -100,17 +100,5 @@ fn answer<C, D, E, F: FnMut(D) -> E>(made: Result<C, D>, f: &mut F) -> Result<C,
     match made {
         Ok(c) => Ok(c),
         Err(e) => Err(f(e)),
-    }
-}
-
-// What the closure makes of the exit of the source's fold: it is called where that is a failure.
-fn exited<C, D, E, R, F: FnMut(D) -> E>(exit: Exit<C, D, R>, f: &mut F) -> Exit<C, E, R>
-    requires { TakesExit (takes_on F.FnMut) f.old exit }
-    ensures { MapErrExit (call_on F.FnMut) f.old exit result f.new }
-{
-    match exit {
-        Exit::Ended(carried) => Exit::Ended(carried),
-        Exit::Failed(carried, e) => Exit::Failed(carried, f(e)),
-        Exit::Stopped(stop) => Exit::Stopped(stop),
     }
 }

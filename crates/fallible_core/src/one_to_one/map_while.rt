@@ -6,17 +6,16 @@ ghost use Rattle.fallible_core.specs.OneToOne.Scan.{scan_outcome};
 ghost use Rattle.fallible_core.specs.OneToOne.MapWhile.{map_while_contract, map_while_parts};
 ghost use Rattle.fallible_core.specs.Laws.OneToOne.MapWhile.{lawful_map_while};
 
-use crate::passing::fold_in_slot;
+use crate::passing::drive_passing;
 use crate::traits::FallibleIterator;
-use fallible_contract::folds::{Exit, Turn};
-use fallible_contract::passing::{Outcome, Pass, passed_in_slot};
+use fallible_contract::folds::Turn;
+use fallible_contract::passing::{Outcome, Pass, passed};
 
 /// The value that the closure answers in the place of each item. None is an end, and the next call goes on; where the closure fails, its failure is the answer and the item is lost.
 #[derive(Clone, Debug, Drop)]
 pub struct MapWhile<I, F> {
     pub(crate) it: I,
-    // empty only during a call
-    pub(crate) f: Option<F>,
+    pub(crate) f: F,
 }
 
 impl<I: FallibleIterator, B, F: FnMut(I::Item) -> Result<Option<B>, I::Error>> FallibleIterator
@@ -29,19 +28,19 @@ impl<I: FallibleIterator, B, F: FnMut(I::Item) -> Result<Option<B>, I::Error>> F
 
     /// Draws one answer, and calls the closure where it is an item.
     fn next(&mut self) -> Result<Option<B>, I::Error> {
-        passed_in_slot(self.it.next(), &mut self.f, &MapWhilePass)
+        passed(self.it.next(), &mut self.f, &MapWhilePass)
     }
 
     fn size_hint(&self) -> (usize, Option<usize>) {
         (0, self.it.size_hint().1)
     }
 
-    fn try_fold_carrying<C, R, K: Turn<C, B, R>>(
+    fn drive<C, R, K: Turn<C, B, R>>(
         &mut self,
-        init: C,
+        state: &mut C,
         turn: &K,
-    ) -> Exit<C, I::Error, R> {
-        fold_in_slot(&mut self.it, &mut self.f, &MapWhilePass, init, turn)
+    ) -> Result<Option<R>, I::Error> {
+        drive_passing(&mut self.it, &mut self.f, &MapWhilePass, state, turn)
     }
 
     ghost lawful = { lawful_seen map_while_parts (lawful_map_while F.FnMut I.lawful) };
@@ -62,12 +61,11 @@ impl<X, B, E, F: FnMut(X) -> Result<Option<B>, E>> Pass<F, X, E> for MapWhilePas
 
     ghost outcome = { λ _ x v. scan_outcome x v };
 
-    fn pass(&self, state: F, item: X) -> (F, Outcome<B, E>) {
-        let mut f = state;
-        match f(item) {
-            Ok(Some(y)) => (f, Outcome::Kept(y)),
-            Ok(None) => (f, Outcome::End),
-            Err(e) => (f, Outcome::Failure(e)),
+    fn pass(&self, state: &mut F, item: X) -> Outcome<B, E> {
+        match state(item) {
+            Ok(Some(y)) => Outcome::Kept(y),
+            Ok(None) => Outcome::End,
+            Err(e) => Outcome::Failure(e),
         }
     }
 }

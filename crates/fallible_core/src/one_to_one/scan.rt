@@ -2,17 +2,20 @@
 ghost use Rattle.std.specs.Prelude.{Some, Result, Option};
 ghost use Rattle.fallible_contract.specs.Contract.{seen_as};
 ghost use Rattle.fallible_contract.specs.Laws.Contract.{lawful_seen};
-ghost use Rattle.fallible_core.specs.OneToOne.Scan.{scan_contract, scan_parts};
+ghost use Rattle.fallible_core.specs.OneToOne.Scan.{scan_call, scan_takes, scan_outcome, scan_contract, scan_parts};
 ghost use Rattle.fallible_core.specs.Laws.OneToOne.Scan.{lawful_scan};
 
+use crate::passing::drive_passing;
 use crate::traits::FallibleIterator;
+use fallible_contract::folds::Turn;
+use fallible_contract::passing::{Outcome, Pass, passed};
 
 /// Each item replaced by the closure's answer on the state and the item. None is an end, and the next call goes on; where the closure fails, its failure is the answer and the item is lost.
 #[derive(Clone, Debug, Drop)]
 pub struct Scan<I, St, F> {
     pub(crate) it: I,
-    pub(crate) state: St,
-    pub(crate) f: F,
+    // the state, and the closure
+    pub(crate) scanning: (St, F),
 }
 
 impl<
@@ -29,16 +32,44 @@ impl<
 
     /// Draws one answer, and calls the closure where it is an item.
     fn next(&mut self) -> Result<Option<B>, I::Error> {
-        match self.it.next() {
-            Ok(Some(x)) => (self.f)(&mut self.state, x),
-            Ok(None) => Ok(None),
-            Err(e) => Err(e),
-        }
+        passed(self.it.next(), &mut self.scanning, &ScanPass)
     }
 
     fn size_hint(&self) -> (usize, Option<usize>) {
         (0, self.it.size_hint().1)
     }
 
+    fn drive<C, R, K: Turn<C, B, R>>(
+        &mut self,
+        state: &mut C,
+        turn: &K,
+    ) -> Result<Option<R>, I::Error> {
+        drive_passing(&mut self.it, &mut self.scanning, &ScanPass, state, turn)
+    }
+
     ghost lawful = { lawful_seen scan_parts (lawful_scan F.FnMut I.lawful) };
+}
+
+// What the closure makes of the state and an item.
+#[derive(Drop)]
+struct ScanPass;
+
+impl<X, St, B, E, F: FnMut(&mut St, X) -> Result<Option<B>, E>> Pass<(St, F), X, E> for ScanPass {
+    type Kept = B;
+
+    type Answer = Result<Option<B>, E>;
+
+    ghost can_pass = { λ _ p x. scan_takes F.FnMut p x };
+
+    ghost call = { λ _ p x v q. scan_call F.FnMut p x v q };
+
+    ghost outcome = { λ _ x v. scan_outcome x v };
+
+    fn pass(&self, state: &mut (St, F), item: X) -> Outcome<B, E> {
+        match (state.1)(&mut state.0, item) {
+            Ok(Some(y)) => Outcome::Kept(y),
+            Ok(None) => Outcome::End,
+            Err(e) => Outcome::Failure(e),
+        }
+    }
 }

@@ -6,7 +6,7 @@ ghost use Rattle.fallible_core.specs.Laws.Borrowed.{lawful_borrowed, lawful_ends
 
 use crate::traits::FallibleIterator;
 use crate::traits::double_ended::DoubleEndedFallibleIterator;
-use fallible_contract::folds::{Exit, Turn};
+use fallible_contract::folds::Turn;
 
 impl<I: FallibleIterator> FallibleIterator for &mut I {
     type Item = I::Item;
@@ -23,19 +23,19 @@ impl<I: FallibleIterator> FallibleIterator for &mut I {
         (**self).size_hint()
     }
 
-    fn try_fold_carrying<C, R, K: Turn<C, I::Item, R>>(
+    fn drive<C, R, K: Turn<C, I::Item, R>>(
         &mut self,
-        init: C,
+        state: &mut C,
         turn: &K,
-    ) -> Exit<C, I::Error, R> {
-        (**self).try_fold_carrying(init, turn)
+    ) -> Result<Option<R>, I::Error> {
+        (**self).drive(state, turn)
     }
 
-    fn nth(&mut self, n: usize) -> Result<Option<I::Item>, I::Error>
+    fn drive_nth(&mut self, n: usize) -> Result<Option<I::Item>, I::Error>
     where
         I::Item: Drop,
     {
-        (**self).nth(n)
+        (**self).drive_nth(n)
     }
 
     ghost lawful = { lawful_borrowed I.lawful };
@@ -48,12 +48,12 @@ impl<I: DoubleEndedFallibleIterator> DoubleEndedFallibleIterator for &mut I {
         (**self).next_back()
     }
 
-    fn try_rfold_carrying<C, R, K: Turn<C, I::Item, R>>(
+    fn drive_back<C, R, K: Turn<C, I::Item, R>>(
         &mut self,
-        init: C,
+        state: &mut C,
         turn: &K,
-    ) -> Exit<C, I::Error, R> {
-        (**self).try_rfold_carrying(init, turn)
+    ) -> Result<Option<R>, I::Error> {
+        (**self).drive_back(state, turn)
     }
 
     ghost lawful_ends = { lawful_ends_borrowed I.lawful_ends };

@@ -2,13 +2,13 @@
 ghost use Rattle.std.specs.Prelude.{◌≡◌, List, Option, Result, reverse};
 ghost use Rattle.fallible_contract.specs.BothEnds.{ListsBothEnds};
 ghost use Rattle.fallible_contract.specs.Clauses.{OverListWith};
-ghost use Rattle.fallible_contract.specs.Contract.{KeptByDraws, Stays};
+ghost use Rattle.fallible_contract.specs.Contract.{Stays};
 ghost use Rattle.fallible_contract.specs.Ends.{Ends, from_front, from_back, LawfulEnds};
 ghost use Rattle.fallible_contract.specs.Lists.{ActsWith, Converts, behind_first, behind_fold, folded, nth_of};
-ghost use Rattle.fallible_contract.specs.Folds.{CallableCarrying, Carried, CallableInFold, call_with, takes_with, Folded};
+ghost use Rattle.fallible_contract.specs.Folds.{CallableDriving, Driven, CallableInFold, call_with, takes_with, Folded};
 
 use crate::traits::FallibleIterator;
-use fallible_contract::folds::{Exit, TryFoldTurn, Turn, fold_of_exit};
+use fallible_contract::folds::{TryFoldTurn, Turn};
 use std::ops::ControlFlow;
 
 /// A fallible iterator that may be drawn from behind as well. Draws from both ends may be made one after another, in any order; a bound stays one after them all, and the hint is what the type's rule says of what is left.
@@ -31,30 +31,29 @@ pub trait DoubleEndedFallibleIterator: FallibleIterator {
         requires { ends.can_next self.old }
         ensures { ends.steps self.old result self.new };
 
-    /// For types that override folds: draws from behind until an end, a failure or a turn that stops, and hands the carried value back at each exit. Every fold from behind goes through it. A caller uses `try_rfold`.
-    fn try_rfold_carrying<C, R, K: Turn<C, Self::Item, R>>(
+    /// `drive` from behind. Every fold from behind goes through it. A caller uses `try_rfold`.
+    fn drive_back<C, R, K: Turn<C, Self::Item, R>>(
         &mut self,
-        init: C,
+        state: &mut C,
         turn: &K,
-    ) -> Exit<C, Self::Error, R>
+    ) -> Result<Option<R>, Self::Error>
     where
         requires can_next { ends.can_next self.old }
         requires finite { Self.contract.is_finite self.old }
-        requires callable { CallableCarrying ends.steps (K.turns turn.now) (K.can_turn turn.now)
-            self.old init }
-        ensures carried { Carried ends.steps (K.turns turn.now) self.old init result self.new }
-        ensures kept { KeptByDraws (from_back Self.contract ends) self.old self.new }
+        requires callable { CallableDriving ends.steps (K.turns turn.now) (K.can_turn turn.now)
+            self.old state.old }
+        ensures { Driven ends.steps (K.turns turn.now) self.old state.old result
+            self.new state.new }
     {
-        let mut carried = init;
         let mut left = (*self).number();
         loop {
             match self.next_back() {
-                Ok(None) => return Exit::Ended(carried),
-                Err(e) => return Exit::Failed(carried, e),
-                Ok(Some(x)) => match turn.turn(carried, x) {
-                    ControlFlow::Continue(c) => carried = c,
-                    ControlFlow::Break(stop) => return Exit::Stopped(stop),
+                Ok(Some(x)) => match turn.turn(state, x) {
+                    ControlFlow::Continue(()) => {}
+                    ControlFlow::Break(stop) => return Ok(Some(stop)),
                 },
+                Ok(None) => return Ok(None),
+                Err(e) => return Err(e),
             }
             left = left.one_less();
         }
@@ -94,7 +93,17 @@ pub trait DoubleEndedFallibleIterator: FallibleIterator {
             (reverse (behind_fold h init (reverse l))) }
         ensures stays { Stays (from_back Self.contract ends) self.old self.new }
     {
-        fold_of_exit(self.try_rfold_carrying((init, f), &TryFoldTurn))
+        let mut state = (Some(init), f);
+        let answer = self.drive_back(&mut state, &TryFoldTurn);
+        let (value, _) = state;
+        match answer {
+            Ok(None) => match value {
+                Some(value) => Ok(value),
+                None => unreachable!(),
+            },
+            Ok(Some(e)) => Err(e),
+            Err(e) => Err(E::from(e)),
+        }
     }
 
     /// `try_rfold` on the iterator itself, where the closure fails with the iterator's own error.

@@ -1,7 +1,7 @@
 -- Runs and folds from one end stand among draws from both.
-use Rattle.std.specs.Prelude.{Result, List, [], ◌∷◌, ◌++◌, map}
+use Rattle.std.specs.Prelude.{List, [], ◌∷◌, ◌++◌, map}
 use Rattle.fallible_contract.specs.Traces.{Answered, Run, item}
-use Rattle.fallible_contract.specs.Folds.{Folded}
+use Rattle.fallible_contract.specs.Folds.{Drained}
 use Rattle.fallible_contract.specs.Laws.Closures.{turns_then}
 use Rattle.fallible_contract.specs.BothEnds.{step_at, RunAtEnds, from_side}
 use Rattle.fallible_contract.specs.declared.answers.Side.{Side}
@@ -17,5 +17,5 @@ module _ {S A E : Type 0} (front back : S → Answered A E → S → Type 0) whe
   mix_then drawn others s t u first rest = turns_then _ drawn others s t u first rest
 
   -- a fold from one end, also one that stopped: its items, and the answer that decided
-  pub folded_mixed : {F B E' : Type 0} {call : F → B → A → Result B E' → F → Type 0} {from : E → E' → Type 0} {s t : S} {b : B} {f : F} {r : Result B E'} (side : Side) (fold : Folded (step_at front back side) call from s b f r t) → RunAtEnds front back s (from_side side (map item fold.items ++ fold.last ∷ [])) t
+  pub folded_mixed : {came : List A → Answered A E → Type 0} {s t : S} (side : Side) (fold : Drained (step_at front back side) came s t) → RunAtEnds front back s (from_side side (map item fold.items ++ fold.last ∷ [])) t
   folded_mixed {s = s} {t = t} side fold = run_mixed side (map item fold.items ++ fold.last ∷ []) s t fold.ran

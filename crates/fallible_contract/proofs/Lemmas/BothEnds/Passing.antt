@@ -6,11 +6,11 @@ use Rattle.std.proofs.lemmas.List.{append-nil, reverse-append, map-append}
 use Rattle.std.proofs.lemmas.List.Elements.{filter_map-append, All-nil, All-cons, All-head, All-tail, All-append}
 use Rattle.fallible_contract.specs.Traces.{Answered, item, end}
 use Rattle.fallible_contract.specs.Passing.{passing_step}
-use Rattle.fallible_contract.specs.Closures.{Calls, Steady, call_in}
+use Rattle.fallible_contract.specs.Closures.{Calls, Steady}
 use Rattle.fallible_contract.specs.Laws.Passing.{Passes, done, end_passes, failure_passes, keeps, refuses, closes, leaves_out, to_passes}
 use Rattle.fallible_contract.specs.BothEnds.{TakesFirst, ListsBothEnds, item_listed, items_listed, source_result, source_list, outcome_listed, passed_result, passed_list}
 use Rattle.fallible_contract.specs.Lists.{Acts}
-use Rattle.fallible_contract.proofs.Lemmas.Lists.Passing.{by_outcome, passed, acts_in_slot}
+use Rattle.fallible_contract.proofs.Lemmas.Lists.Passing.{by_outcome, passed}
 use Rattle.fallible_contract.proofs.Lemmas.BothEnds.{takes_front, listed_by_swapping, listed_swapped}
 use Rattle.fallible_contract.specs.declared.passing.Outcome.{Outcome}
 use Rattle.fallible_contract.specs.declared.passing.Outcome.TheVariants.{Kept, LeftOut, Failure, End}
@@ -137,37 +137,6 @@ module _ {S F X R B E : Type 0} (front back : S → Answered X E → S → Type 
   pub listed_passed : (asked : List (Result (X × R) E)) (s : S) (f : F) → Steady call f (items_listed asked) → ListsBothEnds front back s (source_list asked) → ListsBothEnds (passing_step front call outcome) (passing_step back call outcome) (s, f) (passed_list outcome asked)
   listed_passed asked s f steady i = listed_by_swapping (passing_step front call outcome) (passing_step back call outcome) (Says front back call outcome never_ends) (Says back front call outcome never_ends) (says_swapped back front call outcome never_ends) (says_swapped front back call outcome never_ends) (passed_front front back call outcome never_ends) (passed_front back front call outcome never_ends) (s, f) (passed_list outcome asked) (record { asked = asked; list_is = refl; listed = i; steady = steady })
 
--- ---- a closure in its slot
-
-module _ {F X R : Type 0} (call : F → X → R → F → Type 0) where
-  called_in_slot : (f : F) (x : X) (v : R) (slot : Option F) → call_in call (Some f) x v slot → (g : F) × (slot ≡ Some g) × call f x v g
-  called_in_slot f x v (Some g) called = (g, refl, called)
-  called_in_slot f x v None called = absurd called
-
-  calls_in_slot : (made : List (X × R)) (f : F) (slot : Option F) → Calls (call_in call) (Some f) made slot → (g : F) × (slot ≡ Some g) × Calls call f made g
-  calls_in_slot [] f slot w = (f, sym w, refl)
-  calls_in_slot (c ∷ made) f slot w =
-      let one = called_in_slot f c.0 c.1 w.0 w.1 in
-      let rest = calls_in_slot made one.0 slot (subst (λ (k : Option F). Calls (call_in call) k made slot) one.1 w.2) in
-      (rest.0, rest.1, (one.0, one.2, rest.2))
-
-  given_in_slot : (q : Option F) (g : F) (pairs : List (X × R)) → ((h : F) → All (GivesAt call g h) pairs) → All (GivesAt (call_in call) (Some g) q) pairs
-  given_in_slot (Some h) g pairs given = given h
-  given_in_slot None g pairs given = λ k d below r called. absurd called
-
-  -- a closure that is steady is steady in its slot
-  pub steady_in_slot : (pairs : List (X × R)) (f : F) → Steady call f pairs → Steady (call_in call) (Some f) pairs
-  steady_in_slot pairs f steady = λ made p q w.
-      let one = calls_in_slot made f p w in
-      subst (λ (slot : Option F). All (GivesAt (call_in call) slot q) pairs) (sym one.1)
-      (given_in_slot q one.0 pairs (λ h. steady made one.0 h one.2))
-
-module _ {S F X R B E : Type 0} (front back : S → Answered X E → S → Type 0) (call : F → X → R → F → Type 0) (outcome : X → R → Outcome B E) (never_ends : (x : X) (v : R) → outcome x v ≡ End → ⊥) where
-  -- what an adapter lists whose closure stands in its slot
-  pub listed_in_slot : (asked : List (Result (X × R) E)) (s : S) (f : F) → Steady call f (items_listed asked) → ListsBothEnds front back s (source_list asked)
-      → ListsBothEnds (passing_step front (call_in call) outcome) (passing_step back (call_in call) outcome) (s, Some f) (passed_list outcome asked)
-  listed_in_slot asked s f steady i = listed_passed front back (call_in call) outcome never_ends asked s (Some f) (steady_in_slot call (items_listed asked) f steady) i
-
 -- ---- a closure that acts as a function
 
 -- an item beside what h makes of it
@@ -211,8 +180,3 @@ module _ {F X R B E : Type 0} (call : F → X → R → F → Type 0) (outcome :
       → ListsBothEnds (passing_step front call outcome) (passing_step back call outcome) (s, f) (passed outcome (λ (p : Unit {0}) x. h x) (λ p x. p) tt l)
   listed_by_function front back s l i = subst (λ (k : List (Result B E)). ListsBothEnds (passing_step front call outcome) (passing_step back call outcome) (s, f) k) (passed_acting l)
       (listed_passed front back call outcome never_ends (map (beside h) l) s f (steady_acting call f h acts l) (subst (λ (k : List (Result X E)). ListsBothEnds front back s k) (sym (source_beside h l)) i))
-
--- the same, where the closure stands in its slot
-pub listed_acting : {F X R B E : Type 0} (call : F → X → R → F → Type 0) (outcome : X → R → Outcome B E) → ((x : X) (v : R) → outcome x v ≡ End → ⊥) → (f : F) (h : X → R) → Acts call f h → {S : Type 0} (front back : S → Answered X E → S → Type 0) (s : S) (l : List (Result X E)) → ListsBothEnds front back s l
-    → ListsBothEnds (passing_step front (call_in call) outcome) (passing_step back (call_in call) outcome) (s, Some f) (passed outcome (λ (p : Unit {0}) x. h x) (λ p x. p) tt l)
-listed_acting call outcome never_ends f h acts front back s l i = listed_by_function (call_in call) outcome never_ends (Some f) h (acts_in_slot call f h acts) front back s l i

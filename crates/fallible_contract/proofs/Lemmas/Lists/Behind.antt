@@ -71,9 +71,9 @@ module _ {S A E : Type 0} (steps : S → Answered A E → S → Type 0) where
 
 pub behind_nth_is : {S A E : Type 0} {steps : S → Answered A E → S → Type 0} {s t : S} {n : ℕ} {r : Answered A E} (l : List (Result A E)) → Nth steps s n r t → Lists steps s l → ¬ (r ≡ Ok None) → Lists steps t (behind_nth n l)
 behind_nth_is {steps = steps} {s = s} {t = t} {n = n} {r = r} l c i no_end =
-    let d = after steps c.skipped r l s t i.runs c.ran in
-    let k = left_nth steps n (length c.skipped) r d.rest t c.exit no_end d.given in
-    record { runs = subst (λ (m : _). AlwaysGives steps t m) (sym (ap (behind_nth n) d.list_is ∙ front_nth steps c.skipped d.rest n k.0 k.1)) k.2 }
+    let d = after steps c.items r l s t i.runs (subst (λ (q : Answered _ _). Run steps s (map item c.items ++ q ∷ []) t) c.at.is c.ran) in
+    let k = left_nth steps n (length c.items) r d.rest t c.at.exit no_end d.given in
+    record { runs = subst (λ (m : _). AlwaysGives steps t m) (sym (ap (behind_nth n) d.list_is ∙ front_nth steps c.items d.rest n k.0 k.1)) k.2 }
 
 -- ---- searches
 
@@ -108,8 +108,8 @@ module _ {A E F V R : Type 0} (call : F → A → Result V E → F → Type 0) (
     behind_stop_is : {s t : S} {g : F} {r : Result R E} (l : List (Result A E)) → Searched call pick steps none s f r t g → Lists steps s l → ¬ (r ≡ Ok none) → Lists steps t (behind_stop stops h l)
     behind_stop_is {s = s} {t = t} {g = g} {r = r} l c i no_end =
         let d = after steps c.items c.last l s t i.runs c.ran in
-        let p = front_stop c.items d.rest c.closure c.went in
-        let given = left_stop c.last (length c.items) r g d.rest t (subst (λ (k : F). SearchExit call pick none (length c.items) k c.last r g) p.0 c.exit) no_end d.given in
+        let p = front_stop c.items d.rest c.at.closure c.at.went in
+        let given = left_stop c.last (length c.items) r g d.rest t (subst (λ (k : F). SearchExit call pick none (length c.items) k c.last r g) p.0 c.at.exit) no_end d.given in
         record { runs = subst (λ (m : List (Result A E)). AlwaysGives steps t m) (sym (ap (behind_stop stops h) d.list_is ∙ p.1)) given }
 
 -- each search stops at what it picks
@@ -184,6 +184,6 @@ module _ {A E F B E' : Type 0} (call : F → B → A → Result B E' → F → T
     pub behind_fold_is : {s t : S} {b : B} {r : Result B E'} (l : List (Result A E)) → Folded steps call from s b f r t → Lists steps s l → (d : E') → r ≡ Err d → Lists steps t (behind_fold h b l)
     behind_fold_is {s = s} {t = t} {b = b} {r = r} l c i e is =
         let d = after steps c.items c.last l s t i.runs c.ran in
-        let p = front_fold c.items d.rest b c.value c.closure c.went in
-        let exit = subst (λ (q : Result B E'). FoldExit call from c.value f c.last q) is (subst (λ (g : F). FoldExit call from c.value g c.last r) p.0 c.exit) in
-        record { runs = subst (λ (m : List (Result A E)). AlwaysGives steps t m) (sym (ap (behind_fold h b) d.list_is ∙ p.1)) (left_fold c.last c.value e d.rest t exit d.given) }
+        let p = front_fold c.items d.rest b c.at.value c.at.closure c.at.went in
+        let exit = subst (λ (q : Result B E'). FoldExit call from c.at.value f c.last q) is (subst (λ (g : F). FoldExit call from c.at.value g c.last r) p.0 c.at.exit) in
+        record { runs = subst (λ (m : List (Result A E)). AlwaysGives steps t m) (sym (ap (behind_fold h b) d.list_is ∙ p.1)) (left_fold c.last c.at.value e d.rest t exit d.given) }

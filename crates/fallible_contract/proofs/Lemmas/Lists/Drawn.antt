@@ -61,7 +61,7 @@ module _ {A E : Type 0} where
   counted_by items (Ok (Some x)) r l rest is left exit = absurd exit
 
 pub counted_is : {S A E : Type 0} {steps : S → Answered A E → S → Type 0} {s : S} {r : Result ℕ E} (l : List (Result A E)) → Counted steps s r → Lists steps s l → r ≡ counted l
-counted_is {steps = steps} {s = s} {r = r} l c i = let d = drawn steps c.items c.last l s c.left i.runs c.ran in counted_by c.items c.last r l d.rest d.list_is d.left c.exit
+counted_is {steps = steps} {s = s} {r = r} l c i = let w = c.1 in let d = drawn steps w.items w.last l s c.0 i.runs w.ran in counted_by w.items w.last r l d.rest d.list_is d.left w.at.exit
 
 -- ---- collect
 
@@ -132,7 +132,7 @@ module _ {A E : Type 0} where
   last_by items (Ok (Some x)) r l rest is left exit = absurd exit
 
 pub last_is : {S A E : Type 0} {steps : S → Answered A E → S → Type 0} {s : S} {r : Result (Option A) E} (l : List (Result A E)) → LastOf steps s r → Lists steps s l → r ≡ last_of l
-last_is {steps = steps} {s = s} {r = r} l c i = let d = drawn steps c.items c.last l s c.left i.runs c.ran in last_by c.items c.last r l d.rest d.list_is d.left c.exit
+last_is {steps = steps} {s = s} {r = r} l c i = let w = c.1 in let d = drawn steps w.items w.last l s c.0 i.runs w.ran in last_by w.items w.last r l d.rest d.list_is d.left w.at.exit
 
 -- ---- nth
 
@@ -156,9 +156,9 @@ module _ {A E : Type 0} where
 
 pub nth_is : {S A E : Type 0} {steps : S → Answered A E → S → Type 0} {s t : S} {n : ℕ} {r : Answered A E} (l : List (Result A E)) → Nth steps s n r t → Lists steps s l → r ≡ nth_of n l
 nth_is {steps = steps} {s = s} {t = t} {n = n} {r = r} l c i =
-    let d = drawn steps c.skipped r l s t i.runs c.ran in
-    let h = nth_left n (length c.skipped) r d.rest c.exit d.left in
-    sym (ap (nth_of n) d.list_is ∙ nth_front c.skipped d.rest n h.0 h.1 ∙ h.2)
+    let d = drawn steps c.items r l s t i.runs (subst (λ (q : Answered _ _). Run steps s (map item c.items ++ q ∷ []) t) c.at.is c.ran) in
+    let h = nth_left n (length c.items) r d.rest c.at.exit d.left in
+    sym (ap (nth_of n) d.list_is ∙ nth_front c.items d.rest n h.0 h.1 ∙ h.2)
 
 -- ---- try_fold and fold
 
@@ -184,8 +184,8 @@ module _ {A E F B E' : Type 0} (call : F → B → A → Result B E' → F → T
   pub folded_is : {S : Type 0} {steps : S → Answered A E → S → Type 0} {s t : S} {b : B} {r : Result B E'} (l : List (Result A E)) → Folded steps call from s b f r t → Lists steps s l → r ≡ folded convert h b l
   folded_is {steps = steps} {s = s} {t = t} {b = b} {r = r} l c i =
       let d = drawn steps c.items c.last l s t i.runs c.ran in
-      let p = folded_front c.items d.rest b c.value c.closure c.went in
-      folded_left c.last c.value r d.rest (subst (λ (g : F). FoldExit call from c.value g c.last r) p.0 c.exit) d.left ∙ sym (ap (folded convert h b) d.list_is ∙ p.1)
+      let p = folded_front c.items d.rest b c.at.value c.at.closure c.at.went in
+      folded_left c.last c.at.value r d.rest (subst (λ (g : F). FoldExit call from c.at.value g c.last r) p.0 c.at.exit) d.left ∙ sym (ap (folded convert h b) d.list_is ∙ p.1)
 
 -- ---- a fold from the first item on
 

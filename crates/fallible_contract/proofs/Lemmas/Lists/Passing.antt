@@ -2,7 +2,6 @@
 use Rattle.std.specs.Prelude.{◌≡◌, Result, Some, None, Ok, Err, List, [], ◌∷◌}
 use Rattle.std.proofs.Common.{refl, sym, ap, subst, ◌∙◌}
 use Rattle.fallible_contract.specs.Traces.{Answered}
-use Rattle.fallible_contract.specs.Closures.{call_in}
 use Rattle.fallible_contract.specs.Passing.{passing_step}
 use Rattle.fallible_contract.specs.Laws.Passing.{Passes, done, end_passes, failure_passes, keeps, refuses, closes, leaves_out, to_passes, from_passes}
 use Rattle.fallible_contract.specs.Lists.{AlwaysGives, Lists, Acts}
@@ -134,15 +133,6 @@ module _ {F X R : Type 0} (call : F → X → R → F → Type 0) (f : F) (h : X
   acts_still g p x v k e c = acts x v k (subst (λ (z : F). call z x v k) e c)
 
   -- what an adapter lists whose closure is asked of each item
-  pub lists_acting : {S B E : Type 0} (steps : S → Answered X E → S → Type 0) (outcome : X → R → Outcome B E) (s : S) (l : List (Result X E)) → AlwaysGives steps s l
+  pub lists_passed : {S B E : Type 0} (steps : S → Answered X E → S → Type 0) (outcome : X → R → Outcome B E) (s : S) (l : List (Result X E)) → AlwaysGives steps s l
       → AlwaysGives (passing_step steps call outcome) (s, f) (passed outcome (λ (p : Unit {0}) x. h x) (λ p x. p) tt l)
-  lists_acting steps outcome s l a = all_given steps call outcome (λ g p. g ≡ f) (λ p x. h x) (λ p x. p) (acts_still) l s f tt refl a
-
-  pub acts_in_slot : Acts (call_in call) (Some f) h
-  acts_in_slot x v None c = absurd c
-  acts_in_slot x v (Some g) c = let a = acts x v g c in (ap Some a.0, a.1)
-
--- the same, where the closure stands in its slot
-pub lists_passed : {F X R : Type 0} (call : F → X → R → F → Type 0) (f : F) (h : X → R) → Acts call f h → {S B E : Type 0} (steps : S → Answered X E → S → Type 0) (outcome : X → R → Outcome B E) (s : S) (l : List (Result X E)) → AlwaysGives steps s l
-    → AlwaysGives (passing_step steps (call_in call) outcome) (s, Some f) (passed outcome (λ (p : Unit {0}) x. h x) (λ p x. p) tt l)
-lists_passed call f h acts steps outcome s l a = lists_acting (call_in call) (Some f) h (acts_in_slot call f h acts) steps outcome s l a
+  lists_passed steps outcome s l a = all_given steps call outcome (λ g p. g ≡ f) (λ p x. h x) (λ p x. p) (acts_still) l s f tt refl a

@@ -32,8 +32,8 @@ module _ {A E F V R : Type 0} (call : F → A → Result V E → F → Type 0) (
   pub searched_is : {S : Type 0} {steps : S → Answered A E → S → Type 0} {s t : S} {g : F} {r : Result R E} (l : List (Result A E)) → Searched call pick steps none s f r t g → Lists steps s l → r ≡ searched pick none h 0 l
   searched_is {steps = steps} {s = s} {t = t} {g = g} {r = r} l c i =
       let d = drawn steps c.items c.last l s t i.runs c.ran in
-      let p = searched_front c.items d.rest 0 c.closure c.went in
-      searched_left c.last (length c.items) r g d.rest (subst (λ (k : F). SearchExit call pick none (length c.items) k c.last r g) p.0 c.exit) d.left ∙ ap (λ k. searched pick none h k d.rest) (omega arith) ∙ sym (ap (searched pick none h 0) d.list_is ∙ p.1)
+      let p = searched_front c.items d.rest 0 c.at.closure c.at.went in
+      searched_left c.last (length c.items) r g d.rest (subst (λ (k : F). SearchExit call pick none (length c.items) k c.last r g) p.0 c.at.exit) d.left ∙ ap (λ k. searched pick none h k d.rest) (omega arith) ∙ sym (ap (searched pick none h 0) d.list_is ∙ p.1)
 
 module _ {S A E F : Type 0} {steps : S → Answered A E → S → Type 0} {s t : S} {f g : F} (l : List (Result A E)) (i : Lists steps s l) where
   pub all_is : {call : F → A → Result Bool E → F → Type 0} (h : A → Result Bool E) {r : Result Bool E} → Acts call f h → Searched call all_pick steps true s f r t g → r ≡ all_of h l

@@ -5,16 +5,15 @@ use Rattle.std.proofs.Common.{refl, sym, ◌∙◌, ap, subst, append-nil}
 use Rattle.std.specs.Fn.{Mut}
 use Rattle.std.specs.Borrow.{Bor}
 use Rattle.fallible_contract.specs.Traces.{Answered, Run, item}
-use Rattle.fallible_contract.specs.Closures.{Calls, call_in, call_at}
+use Rattle.fallible_contract.specs.Closures.{Calls, call_at}
 use Rattle.fallible_contract.specs.Contract.{Contract, seen_as}
 use Rattle.fallible_contract.specs.Lists.{Lists, Acts}
 use Rattle.fallible_contract.proofs.Lemmas.Lists.Passing.{passed, by_outcome, all_given, lists_seen}
 use Rattle.fallible_contract.specs.Passing.{PassTrace, Place, asked, failure_at, end_at, source_answer, call_of, answer_at}
 use Rattle.fallible_contract.proofs.Lemmas.LawForm.{runs_by_answers}
-use Rattle.fallible_contract.proofs.Lemmas.Passing.{passing_by_answers, passes_held}
+use Rattle.fallible_contract.proofs.Lemmas.Passing.{passing_by_answers}
 use Rattle.fallible_contract.specs.Laws.Passing.{Passes, done, end_passes, failure_passes, keeps, refuses, closes, leaves_out, kept_tail, kept_cons, kept_before, answered, to_passes, from_passes}
 use Rattle.fallible_core.specs.Filtering.SkipWhile.{cons_from, skipped_while, skip_call, skip_while_outcome, skip_while_parts, skip_while_contract, answers_false, false_at, EndsAtFalse, asked_outcome, AskedUntilFalse, SkipWhileTrace}
-use Rattle.fallible_core.specs.Laws.Filtering.SkipWhile.{into}
 use Rattle.fallible_core.specs.declared.filtering.skip_while.SkipWhile.{SkipWhile}
 
 -- ---- the places met, one before the others
@@ -161,15 +160,6 @@ pub skip_while_law : {S F X E : Type 0} (steps : S → Answered X E → S → Ty
 skip_while_law steps call p trace q = let law = runs_by_answers (PassTrace steps (skip_call call) skip_while_outcome) (passing_by_answers steps (skip_call call) skip_while_outcome) p trace q in
     ((λ ran. to_skip_while steps call p.0 q.0 p.1 q.1 trace (to_passes (law.0 ran))), (λ d. law.1 (from_passes (from_skip_while steps call p.0 q.0 p.1 q.1 trace d))))
 
--- ---- the predicate in its slot
-
-held_in_slot : {F X E : Type 0} (call : F → X → Result Bool E → F → Type 0) (p : Bool × F) (x : X) (v : Option (Result Bool E)) (q : Bool × F) → skip_call call p x v q → skip_call (call_in call) (into call p) x v (into call q)
-held_in_slot call p x None q called = (called.0, ap (into call) called.1)
-held_in_slot call p x (Some v) q called = called
-
-pub skips_in_slot : {S F X E : Type 0} {steps : S → Answered X E → S → Type 0} {call : F → X → Result Bool E → F → Type 0} {s t : S} {p q : Bool × F} {trace : List (Answered X E)} → PassTrace steps (skip_call call) skip_while_outcome (s, p) trace (t, q) → PassTrace steps (skip_call (call_in call)) skip_while_outcome (s, (p.0, Some p.1)) trace (t, (q.0, Some q.1))
-skips_in_slot {F = F} {call = call} h = passes_held {F = Bool × F} {H = Bool × Option F} (skip_call call) (skip_call (call_in call)) (into call) (held_in_slot call) h
-
 -- ---- what it lists
 
 -- what the predicate answers on an item, where it is asked, and the flag after it
@@ -202,19 +192,14 @@ module _ {X E : Type 0} (h : X → Result Bool E) where
   skipped_while_is (Err e ∷ l) = ap (λ k. Err e ∷ k) (skipped_while_is l)
 
 module _ {F X E : Type 0} (call : F → X → Result Bool E → F → Type 0) (f : F) (h : X → Result Bool E) (acts : Acts call f h) where
-  asked_in_slot : (s : Option F) (x : X) (v : Result Bool E) (t : Option F) → s ≡ Some f → call_in call s x v t → (t ≡ Some f) × (v ≡ h x)
-  asked_in_slot None x v t e c = absurd cc
-  asked_in_slot (Some k) x v None e c = absurd c
-  asked_in_slot (Some k) x v (Some g) e c = let same : k ≡ f = cc in let a = acts x v g (subst (λ (z : F). call z x v g) same c) in (ap Some a.0, a.1)
-
-  acts_until_false : (p : Bool × Option F) (b : Bool) (x : X) (v : Option (Result Bool E)) (q : Bool × Option F) → p ≡ (b, Some f) → skip_call (call_in call) p x v q → (q ≡ (flag_after h b x, Some f)) × (v ≡ asked_by h b x)
+  acts_until_false : (p : Bool × F) (b : Bool) (x : X) (v : Option (Result Bool E)) (q : Bool × F) → p ≡ (b, f) → skip_call call p x v q → (q ≡ (flag_after h b x, f)) × (v ≡ asked_by h b x)
   acts_until_false p true x None q e c = (c.1 ∙ e, refl)
   acts_until_false p false x None q e c = absurd (let at : p.0 ≡ false = ap (λ z. z.0) e in let found = c.0 in cc)
   acts_until_false p true x (Some v) q e c = absurd (let at : p.0 ≡ true = ap (λ z. z.0) e in let unfound = c.0 in cc)
-  acts_until_false p false x (Some v) q e c = let a = asked_in_slot p.1 x v q.1 (ap (λ z. z.1) e) c.1 in
-      (ap (λ (b : Bool). (b, q.1)) (c.2 ∙ ap answers_false a.1) ∙ ap (λ (k : Option F). (answers_false (h x), k)) a.0, ap Some a.1)
+  acts_until_false p false x (Some v) q e c = let a = acts x v q.1 (subst (λ (z : F). call z x v q.1) (ap (λ z. z.1) e) c.1) in
+      (ap (λ (b : Bool). (b, q.1)) (c.2 ∙ ap answers_false a.1) ∙ ap (λ (k : F). (answers_false (h x), k)) a.0, ap Some a.1)
 
-pub lists_skipped_while : {S F X E : Type 0} (m : Contract S X E) (g : Mut F (Bor X × Unit {0}) (Result Bool E)) (s : SkipWhile S F) (f : F) (h : X → Result Bool E) (l : List (Result X E)) → skip_while_parts s ≡ (s.it, (false, Some f)) → Acts (call_at g) f h → Lists m.steps s.it l
+pub lists_skipped_while : {S F X E : Type 0} (m : Contract S X E) (g : Mut F (Bor X × Unit {0}) (Result Bool E)) (s : SkipWhile S F) (f : F) (h : X → Result Bool E) (l : List (Result X E)) → skip_while_parts s ≡ (s.it, (false, f)) → Acts (call_at g) f h → Lists m.steps s.it l
     → Lists (seen_as skip_while_parts (skip_while_contract m g)).steps s (skipped_while h l)
 lists_skipped_while {F = F} m g s f h l parts a i = lists_seen skip_while_parts (skip_while_contract m g).steps s parts (skipped_while_is h l)
-    (all_given m.steps (skip_call (call_in (call_at g))) skip_while_outcome (λ (p : Bool × Option F) b. p ≡ (b, Some f)) (asked_by h) (flag_after h) (acts_until_false (call_at g) f h a) l s.it (false, Some f) false refl i.runs)
+    (all_given m.steps (skip_call (call_at g)) skip_while_outcome (λ (p : Bool × F) b. p ≡ (b, f)) (asked_by h) (flag_after h) (acts_until_false (call_at g) f h a) l s.it (false, f) false refl i.runs)

@@ -1,18 +1,16 @@
 -- After an item `SkipWhile` asks its predicate no more: from there on a fold of the source is one of it.
-use Rattle.std.specs.Prelude.{◌≡◌, Bool, true, false, Option, Some, None, List, [], ◌∷◌, Result, Ok, Err}
+use Rattle.std.specs.Prelude.{◌≡◌, Bool, true, false, Some, None, List, [], ◌∷◌, Result, Ok, Err}
 use Rattle.std.specs.Fn.{Mut}
 use Rattle.std.specs.Borrow.{Bor}
 use Rattle.std.proofs.Common.{refl, ap, subst, sym, ◌∙◌}
 use Rattle.fallible_contract.specs.Traces.{Answered, item}
-use Rattle.fallible_contract.specs.Closures.{call_in, call_at}
+use Rattle.fallible_contract.specs.Closures.{call_at}
 use Rattle.fallible_contract.specs.Contract.{Contract, seen_as}
-use Rattle.fallible_contract.specs.Folds.{HoldsAtEachTurn, Carried}
+use Rattle.fallible_contract.specs.Folds.{HoldsAtEachTurn, Drained}
 use Rattle.fallible_contract.specs.Laws.Passing.{Passes, done, end_passes, failure_passes, keeps, refuses, closes, leaves_out, to_passes, from_passes}
-use Rattle.fallible_contract.proofs.Lemmas.Folding.{holds_into, carried_into}
+use Rattle.fallible_contract.proofs.Lemmas.Folding.{holds_into, drained_into}
 use Rattle.fallible_core.specs.Filtering.SkipWhile.{skip_call, skip_while_outcome, skip_while_contract, skip_while_parts}
 use Rattle.fallible_core.proofs.Lemmas.Filtering.SkipWhile.{after_false, run_passes}
-use Rattle.std.specs.declared.ops.ControlFlow.{ControlFlow}
-use Rattle.fallible_contract.specs.declared.folds.Exit.{Exit}
 use Rattle.fallible_core.specs.declared.filtering.skip_while.SkipWhile.{SkipWhile}
 
 module _ {S F X E : Type 0} (steps : S → Answered X E → S → Type 0) (call : F → X → Result Bool E → F → Type 0) where
@@ -37,21 +35,27 @@ module _ {S F X E : Type 0} (m : Contract S X E) (g : Mut F (Bor X × Unit {0}) 
   steps = (seen_as skip_while_parts (skip_while_contract m g)).steps
 
   -- the predicate has answered false
-  abbrev past : Option F → S → SkipWhile S F
-  past slot s = record { it = s; found = true; predicate = slot }
+  abbrev past : F → S → SkipWhile S F
+  past f s = record { it = s; skipping = (true, f) }
 
   -- a draw of the source is one of it then
-  past_step : (slot : Option F) (s t : S) (r : Answered X E) → m.steps s r t → steps (past slot s) r (past slot t)
-  past_step slot s t r step = from_passes (run_passes m.steps (call_in (call_at g)) (r ∷ []) s t slot (t, step, refl))
+  past_step : (f : F) (s t : S) (r : Answered X E) → m.steps s r t → steps (past f s) r (past f t)
+  past_step f s t r step = from_passes (run_passes m.steps (call_at g) (r ∷ []) s t f (t, step, refl))
 
-  pub item_is_past : (s t : SkipWhile S F) (x : X) → steps s (item x) t → t.found ≡ true
-  item_is_past s t x step = found_by_item m.steps (call_in (call_at g)) s.it t.it (s.found, s.predicate) (t.found, t.predicate) (item x ∷ []) x refl (to_passes step)
+  pub item_is_past : (s t : SkipWhile S F) (x : X) → steps s (item x) t → t.skipping.0 ≡ true
+  item_is_past s t x step = found_by_item m.steps (call_at g) s.it t.it s.skipping t.skipping (item x ∷ []) x refl (to_passes step)
 
-  module _ {s : SkipWhile S F} (at : s.found ≡ true) where
+  module _ {s : SkipWhile S F} (at : s.skipping.0 ≡ true) where
+    abbrev past_at : S → Bool → SkipWhile S F
+    past_at t b = record { it = t; skipping = (b, s.skipping.1) }
+
+    pub step_past : {r : Answered X E} {t : S} → m.steps s.it r t → steps s r (record { it = t; skipping = s.skipping })
+    step_past {r = r} {t = t} step = subst (λ (b : Bool). steps (past_at s.it b) r (past_at t b)) (sym at) (past_step s.skipping.1 s.it t r step)
+
     -- what holds at each turn of it holds at each of the source
-    pub holds_past : {C : Type 0} {goes_on : C → X → C → Type 0} {P : C → X → Type 0} {c : C} → HoldsAtEachTurn steps goes_on P s c → HoldsAtEachTurn m.steps goes_on P s.it c
-    holds_past {goes_on = goes_on} {P = P} {c = c} h = holds_into {held = steps} (past s.predicate) (λ p x q step. past_step s.predicate p q (item x) step) (subst (λ (b : Bool). HoldsAtEachTurn steps goes_on P (record { it = s.it; found = b; predicate = s.predicate }) c) at h)
+    pub holds_past : {C : Type 0} {goes : C → X → C → Type 0} {P : C → X → Type 0} {c : C} → HoldsAtEachTurn steps goes P s c → HoldsAtEachTurn m.steps goes P s.it c
+    holds_past {goes = goes} {P = P} {c = c} h = holds_into {held = steps} (past s.skipping.1) (λ p x q step. past_step s.skipping.1 p q (item x) step) (subst (λ (b : Bool). HoldsAtEachTurn steps goes P (past_at s.it b) c) at h)
 
-    -- and a fold of the source is one of it
-    pub folds_past : {C R : Type 0} {turns : C → X → ControlFlow R C → Type 0} {c : C} {exit : Exit C E R} {t : S} → Carried m.steps turns s.it c exit t → Carried steps turns s c exit (record { it = t; found = s.found; predicate = s.predicate })
-    folds_past {turns = turns} {c = c} {exit = exit} {t = t} w = subst (λ (b : Bool). Carried steps turns (record { it = s.it; found = b; predicate = s.predicate }) c exit (record { it = t; found = b; predicate = s.predicate })) (sym at) (carried_into {held = steps} (past s.predicate) (λ p r q step. past_step s.predicate p q r step) w)
+    -- and draws of the source are draws of it
+    pub drained_past : {came : List X → Answered X E → Type 0} {t : S} → Drained m.steps came s.it t → Drained steps came s (record { it = t; skipping = s.skipping })
+    drained_past {came = came} {t = t} w = subst (λ (b : Bool). Drained steps came (past_at s.it b) (past_at t b)) (sym at) (drained_into {held = steps} (past s.skipping.1) (λ p r q step. past_step s.skipping.1 p q r step) w)

@@ -1,22 +1,17 @@
--- The runs of `Flatten` are the traces that its definition names, one draw of it is a fold that stops, and what it lists.
+-- The runs of `Flatten` are the traces that its definition names, what one draw of it is, and what it lists.
 use Rattle.std.specs.Prelude.{◌≡◌, false, List, [], ◌∷◌, ◌++◌, map, Option, Result, Some, None, Ok, Err}
-use Rattle.std.specs.List.{FoldsTo, flat_map}
+use Rattle.std.specs.List.{flat_map}
 use Rattle.std.proofs.Common.{refl, sym, ◌∙◌, ap, subst}
 use Rattle.std.proofs.lemmas.List.{append-nil}
 use Rattle.fallible_contract.specs.Traces.{Answered, Run, item, failure, end, is_end}
-use Rattle.fallible_contract.specs.Contract.{Contract, Lawful, seen_as}
+use Rattle.fallible_contract.specs.Contract.{Contract, seen_as}
 use Rattle.fallible_contract.specs.Lists.{AlwaysGives, Lists, result_answer}
 use Rattle.fallible_contract.proofs.Lemmas.Lists.Passing.{gives_if, lists_seen}
-use Rattle.fallible_contract.specs.Folds.{HoldsAtEachTurn, carrying_turn, CarryingExit, Carried, stopped_answer, unpacked}
 use Rattle.fallible_contract.proofs.Lemmas.LawForm.{FirstOf, IsByAnswers}
-use Rattle.fallible_contract.proofs.Lemmas.Contract.{given_after}
-use Rattle.fallible_core.specs.Joining.Flatten.{EachLists, flattened, flatten_parts, flatten_contract, FlattenTrace, IsFlattenNextTurn, EachInner, Part, of_inner, of_failure, of_end, outer_answer, part_answers, Finished, FinishedPart, LastPart, FinishedInHand, Joined, FlattenAnswers, nothing_drawn, still_in_hand, outer_drawn}
+use Rattle.fallible_core.specs.Joining.Flatten.{EachLists, flattened, flatten_parts, flatten_contract, FlattenTrace, Part, of_inner, of_failure, of_end, outer_answer, part_answers, Finished, FinishedPart, LastPart, FinishedInHand, Joined, FlattenAnswers, nothing_drawn, still_in_hand, outer_drawn}
 use Rattle.fallible_core.specs.Joining.Chain.{chained}
 use Rattle.fallible_core.proofs.Lemmas.Joining.Chain.{not_end}
 use Rattle.fallible_core.specs.Laws.Joining.Flatten.{Flattens, done, gives, fails, finishes, begins, outer_fails, outer_ends, to_flattens}
-use Rattle.std.specs.declared.ops.ControlFlow.{ControlFlow}
-use Rattle.std.specs.declared.ops.ControlFlow.TheVariants.{Continue, Break}
-use Rattle.fallible_contract.specs.declared.folds.Exit.{Exit}
 use Rattle.fallible_core.specs.declared.joining.flatten.Flatten.{Flatten}
 
 module _ {S X C B E : Type 0} (outer : S → Answered X E → S → Type 0) (into : X → C → Type 0) (inner : C → Answered B E → C → Type 0) where
@@ -140,32 +135,15 @@ module _ {S X C B E : Type 0} {outer : S → Answered X E → S → Type 0} {int
   pub flatten_after_end : {s t : S} {c : C} {hand hand' : Option C} {r : Answered B E} (d : C) → hand ≡ Some c → inner c end d → FlattenTrace outer into inner (s, None) (r ∷ []) (t, hand') → FlattenTrace outer into inner (s, hand) (r ∷ []) (t, hand')
   flatten_after_end {s} {t} {c} {hand} {hand'} {r} d e step p = rw e (end_in_hand outer into inner s t c d None hand' r (r ∷ []) [] step refl refl p)
 
--- ---- one draw where nothing is in hand, as a fold of the outer source that stops
+  -- where none is in hand, an item of the outer source becomes it, and a failure or an end is the answer
+  pub flatten_at_item : {s u : S} {c : C} {q : S × Option C} {r : Answered B E} (x : X) → outer s (item x) u → into x c → FlattenTrace outer into inner (u, Some c) (r ∷ []) q → FlattenTrace outer into inner (s, None) (r ∷ []) q
+  flatten_at_item {s} {u} {c} {q} {r} x step becomes p = from_flattens outer into inner s q.0 None q.1 (r ∷ []) (begins x step becomes (to_flattens outer into inner u q.0 (Some c) q.1 (r ∷ []) p))
 
-module _ {S X C B E : Type 0} (outer : S → Answered X E → S → Type 0) (into : X → C → Type 0) (inner : C → Answered B E → C → Type 0) (turns : Option C → X → ControlFlow (Option C × Result B E) (Option C) → Type 0)
-    (turn : (hand : Option C) (x : X) (r : ControlFlow (Option C × Result B E) (Option C)) → turns hand x r → IsFlattenNextTurn into inner hand x r) where
-  abbrev G : S → Option C → List (Answered B E) → S → Option C → Type 0
-  G = Flattens outer into inner
+  pub flatten_outer_failure : {s t : S} (e : E) → outer s (failure e) t → FlattenTrace outer into inner (s, None) (failure e ∷ []) (t, None)
+  flatten_outer_failure {s} {t} e step = from_flattens outer into inner s t None None (failure e ∷ []) (outer_fails e step done)
 
-  begun_turn : (x : X) (p : Option C × Result B E) (hand : Option C) (u t : S) → outer u (item x) t → IsFlattenNextTurn into inner hand x (Break p) → G u None (stopped_answer p.1 ∷ []) t p.0
-  begun_turn x (hand', Ok y) hand u t step w = rw w.4 (begins x step w.2 (gives y w.3 done))
-  begun_turn x (hand', Err e) hand u t step w = rw w.4 (begins x step w.2 (fails e w.3 done))
-
-  begun_exit : (last : Answered X E) (hand : Option C) (exit : Exit (Option C) E (Option C × Result B E)) (u t : S) → hand ≡ None → CarryingExit turns hand last exit → outer u last t → G u None ((unpacked exit).1 ∷ []) t (unpacked exit).0
-  begun_exit (Ok None) hand exit u t none e step = rw (e, none) (outer_ends step done)
-  begun_exit (Err d) hand exit u t none e step = rw (e, none) (outer_fails d step done)
-  begun_exit (Ok (Some x)) hand exit u t none e step = rw e.2 (begun_turn x e.0 hand u t step (turn hand x (Break e.0) e.1))
-
-  after_ended : (last : Answered X E) (r : Answered B E) (t : S) (hand' v : Option C) → ((u : S) → v ≡ None → outer u last t → G u None (r ∷ []) t hand') → (items : List X) (s : S) (hand : Option C) → hand ≡ None → Run outer s (map item items ++ last ∷ []) t → FoldsTo (carrying_turn turns) hand items v → G s None (r ∷ []) t hand'
-  after_ended last r t hand' v final [] s hand none ran went = final s (subst (λ (h : Option C). h ≡ None) went none) (subst (λ (u : S). outer s last u) ran.2 ran.1)
-  after_ended last r t hand' v final (x ∷ items) s hand none ran went = let b = turn hand x (Continue went.0) went.1 in begins x ran.1 b.2 (finishes b.3 (after_ended last r t hand' v final items ran.0 went.0 (b.4 ∙ none) ran.2 went.2))
-
-  pub flatten_fold : {s t : S} {exit : Exit (Option C) E (Option C × Result B E)} → Carried outer turns s None exit t → FlattenTrace outer into inner (s, None) ((unpacked exit).1 ∷ []) (t, (unpacked exit).0)
-  flatten_fold {s} {t} {exit} w = from_flattens outer into inner s t None (unpacked exit).0 ((unpacked exit).1 ∷ []) (after_ended w.last (unpacked exit).1 t (unpacked exit).0 w.carried (λ u none step. begun_exit w.last w.carried exit u t none w.exit step) w.items s None refl w.ran w.went)
-
--- each turn of such a fold begins an inner iterator that may be drawn from
-pub callable_begins : {S X C B E : Type 0} {m : Contract S X E} (into : X → C → Type 0) (inner : Contract C B E) (R : Option C → X → Option C → Type 0) {s : S} → Lawful m → m.can_next s → EachInner m into inner inner.can_next s → HoldsAtEachTurn m.steps R (λ hand x. (c : C) → into x c → inner.can_next c) s None
-callable_begins into inner R {s = s} l can each = record { at = λ items t u hand x ran went step c becomes. each.at x c (given_after l s items t u x can ran step) becomes }
+  pub flatten_outer_end : {s t : S} → outer s end t → FlattenTrace outer into inner (s, None) (end ∷ []) (t, None)
+  flatten_outer_end {s} {t} step = from_flattens outer into inner s t None None (end ∷ []) (outer_ends step done)
 
 -- ---- what it lists
 

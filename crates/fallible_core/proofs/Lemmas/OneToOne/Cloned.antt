@@ -2,9 +2,8 @@
 use Rattle.std.specs.Prelude.{◌≡◌, Result, Ok, Err, List, [], ◌∷◌, map, All}
 use Rattle.std.proofs.lemmas.List.Elements.{All-nil, All-cons, All-head, All-tail}
 use Rattle.std.specs.Borrow.{Bor}
-use Rattle.std.proofs.Common.{refl, sym, ap, subst, inl, inr}
-use Rattle.fallible_contract.specs.Contract.{Contract, KeptByDraws, seen_as}
-use Rattle.fallible_contract.specs.Laws.Closures.{reaches_here, may_answer_after}
+use Rattle.std.proofs.Common.{refl, sym, ap, subst}
+use Rattle.fallible_contract.specs.Contract.{Contract, seen_as}
 use Rattle.fallible_contract.specs.Traces.{Answered}
 use Rattle.fallible_contract.specs.Passing.{passing_step}
 use Rattle.fallible_contract.specs.Lists.{Lists}
@@ -31,19 +30,6 @@ module _ {T E : Type 0} (is_clone : T → T → Type 0) (is_infallible : T → T
   pub lists_pointed_to : {S : Type 0} (m : Contract S (Bor T) E) (s : Cloned S) (l : List (Result (Bor T) E)) → Lists m.steps s.it l → Lists (seen_as cloned_parts (cloned_contract is_clone is_infallible from m)).steps s (pointed_to l)
   lists_pointed_to m s l i = lists_seen cloned_parts (cloned_contract is_clone is_infallible from m).steps s refl (pointed_to_is l)
       (all_given m.steps (cloned_call is_clone is_infallible from) map_outcome (λ (f p : Unit {0}). Unit {0}) (λ p x. Ok x.now) (λ p x. p) (λ f p x v g at c. (tt, clone_is x v c)) l s.it tt tt tt i.runs)
-
--- ---- what is kept of its source is kept of it
-
-pub kept_cloned : {S T E : Type 0} {m : Contract S (Bor T) E} {s t : S} (is_clone : T → T → Type 0) (is_infallible : T → Type 0) (from : AllocError → E → Type 0) → KeptByDraws m s t → KeptByDraws (seen_as cloned_parts (cloned_contract is_clone is_infallible from m)) (record { it = s }) (record { it = t })
-kept_cloned is_clone is_infallible from a = record {
-  can_next = (a.can_next, tt);
-  is_finite = a.is_finite;
-  bound = a.bound;
-  remaining = a.remaining;
-  may_give = λ y h. may_answer_after a.may_give reaches_here h;
-  may_fail = λ e h. elim h [ inl b ↦ inl (a.may_fail e b) | inr b ↦ inr (may_answer_after a.may_give reaches_here b) ];
-  lenders = a.lenders;
-}
 
 -- ---- from both ends
 

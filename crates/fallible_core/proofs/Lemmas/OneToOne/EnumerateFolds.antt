@@ -1,20 +1,18 @@
 -- A fold of the source that numbers its items is a fold of `Enumerate`, and a count of the source is a count of it.
-use Rattle.std.specs.Prelude.{◌≡◌, ℕ, suc, ◌+◌, length, List, [], ◌∷◌, ◌++◌, map, Result, Some, None, Ok, Err, ⊤}
+use Rattle.std.specs.Prelude.{◌≡◌, ℕ, suc, ◌+◌, length, List, [], ◌∷◌, ◌++◌, map, Result, Some, None, Ok, Err}
 use Rattle.std.specs.List.{FoldsTo}
 use Rattle.std.proofs.Common.{refl, sym, ap, subst, ◌∙◌, arith, inl}
 use Rattle.fallible_contract.specs.Traces.{Answered, Run, item}
 use Rattle.fallible_contract.specs.Passing.{IfItem, passing_step}
 use Rattle.fallible_contract.specs.Contract.{Contract, Lawful}
-use Rattle.fallible_contract.specs.Folds.{HoldsAtEachTurn, carrying_turn, CountExit, Counted}
-use Rattle.fallible_contract.specs.Folding.{FoldingTurn, FoldingTakes, beside}
+use Rattle.fallible_contract.specs.Folds.{HoldsAtEachTurn, goes_on, CountExit, Counted}
+use Rattle.fallible_contract.specs.Folding.{FoldingTurn, FoldingTakes}
 use Rattle.fallible_contract.specs.Laws.Passing.{Passes, done, end_passes, failure_passes, keeps, refuses, closes, leaves_out, to_passes}
 use Rattle.fallible_contract.proofs.Lemmas.Folds.{count_fits}
-use Rattle.fallible_contract.proofs.Lemmas.Folding.{takes_freely}
+use Rattle.fallible_contract.proofs.Lemmas.Folding.{takes_where}
 use Rattle.fallible_core.specs.OneToOne.Enumerate.{IsNumberable, number_call, number_outcome, number_takes}
 use Rattle.fallible_core.proofs.Lemmas.OneToOne.Enumerate.{enumerate_item, enumerate_end, enumerate_failure, numbered_step}
 use Rattle.std.specs.declared.ops.ControlFlow.{ControlFlow}
-use Rattle.std.specs.declared.ops.ControlFlow.TheVariants.{Continue, Break}
-use Rattle.fallible_contract.specs.declared.folds.Exit.{Exit}
 
 -- ---- steps
 
@@ -40,29 +38,18 @@ drawn_numbered l can (Err e) step = tt
 
 -- ---- where the source's turn may be taken
 
-module _ {S A E C R : Type 0} {m : Contract S A E} (l : Lawful m) (turns : C → ℕ × A → ControlFlow R C → Type 0) where
-  abbrev Numbers : C × ℕ → A → ControlFlow (ℕ × Exit C E R) (C × ℕ) → Type 0
-  Numbers = FoldingTurn {E = E} number_call number_outcome turns
-
-  count_on : (made : ControlFlow R C) (q : C × ℕ) (g : ℕ) → Continue q ≡ beside {E = E} g made → q.1 ≡ g
-  count_on (Continue c) q g e = let same : q ≡ (c, g) = cc in ap (λ z. z.1) same
-  count_on (Break stop) q g e = absurd cc
-
+module _ {S A E C R : Type 0} {m : Contract S A E} (l : Lawful m) (turns : C → ℕ × A → ControlFlow R (Unit {0}) → C → Type 0) where
   -- each turn that goes on counts one item
-  counts_along : (items : List A) (p q : C × ℕ) (j : ℕ) → FoldsTo (carrying_turn Numbers) p items q → (k : ℕ) × FoldsTo (λ (i : ℕ) (x : A) (n : ℕ). n ≡ i + 1) j items k × (q.1 + j ≡ p.1 + k)
+  counts_along : (items : List A) (p q : C × ℕ) (j : ℕ) → FoldsTo (goes_on (FoldingTurn {E = E} number_call number_outcome turns)) p items q → (k : ℕ) × FoldsTo (λ (i : ℕ) (x : A) (n : ℕ). n ≡ i + 1) j items k × (q.1 + j ≡ p.1 + k)
   counts_along [] p q j w = let same : p.1 ≡ q.1 = ap (λ z. z.1) w in (j, refl, omega (arith, same))
-  counts_along (x ∷ items) p q j w = let turned = w.1 in let one : w.0.1 ≡ turned.1 = count_on turned.3.0 w.0 turned.1 turned.3.2 in let up : turned.1 ≡ p.1 + 1 = turned.2.1 in
-      let rest = counts_along items w.0 q (j + 1) w.2 in (rest.0, (j + 1, refl, rest.1), omega (arith, one, up, rest.2))
+  counts_along (x ∷ items) p q j w = let turned = w.1 in let up : w.0.1 ≡ p.1 + 1 = turned.1.1 in
+      let rest = counts_along items w.0 q (j + 1) w.2 in (rest.0, (j + 1, refl, rest.1), omega (arith, up, rest.2))
 
   -- The numbers of all items to come fit, so each item may be counted, and the caller's turn be taken on it and its number.
-  pub takes_numbered : {P : C → ℕ × A → Type 0} {s : S} {n : ℕ} {c : C} → IsNumberable m s n → HoldsAtEachTurn (passing_step m.steps number_call number_outcome) (carrying_turn turns) P (s, n) c
-      → HoldsAtEachTurn m.steps (carrying_turn Numbers) (FoldingTakes {E = E} number_call number_outcome number_takes P) s (c, n)
-  takes_numbered {P = P} {s = s} {n = n} {c = c} can holds = record {
-    at = λ items t u p x ran went step. (
-      (let k = counts_along items (c, n) p 0 went in let below = (count_fits {m = m} can.bound l can.can_next (inl can.bounds)).at items t u k.0 x ran k.1 step in let fits = can.fits in omega (arith, below, k.2, fits)),
-      ((takes_freely number_call number_outcome turns {pre = λ _ _. ⊤} (λ g x. tt) holds).at items t u p x ran went step).1,
-    );
-  }
+  pub takes_numbered : {P : C → ℕ × A → Type 0} {s : S} {n : ℕ} {c : C} → IsNumberable m s n → HoldsAtEachTurn (passing_step m.steps number_call number_outcome) (goes_on turns) P (s, n) c
+      → HoldsAtEachTurn m.steps (goes_on (FoldingTurn {E = E} number_call number_outcome turns)) (FoldingTakes {E = E} number_call number_outcome number_takes P) s (c, n)
+  takes_numbered {P = P} {s = s} {n = n} {c = c} can holds = takes_where number_call number_outcome turns (λ k x. number_takes k x)
+      (λ items t u p x ran went step. let k = counts_along items (c, n) p 0 went in let below = (count_fits {m = m} can.bound l can.can_next (inl can.bounds)).at items t u k.0 x ran k.1 step in let fits = can.fits in omega (arith, below, k.2, fits)) holds
 
 -- ---- `count`
 
@@ -84,22 +71,20 @@ module _ {S A E : Type 0} (steps : S → Answered A E → S → Type 0) where
       ((ran.0, n + 1), enumerate_item x ran.1, subst (λ (k : ℕ). Run (numbered_step steps) (ran.0, n + 1) (map item (beside_numbers (n + 1) items) ++ answer ∷ []) (t, k)) same (run_numbered items last answer ran.0 t (n + 1) then ran.2))
 
   counted_last : (items : List A) (last : Answered A E) (s t : S) (n : ℕ) (r : Result ℕ E) → Run steps s (map item items ++ last ∷ []) t → CountExit (length items) last r → Counted (numbered_step steps) (s, n) r
-  counted_last items (Ok None) s t n r ran exit = record {
+  counted_last items (Ok None) s t n r ran exit = ((t, n + length items), record {
     items = beside_numbers n items;
     last = Ok None;
-    left = (t, n + length items);
     ran = run_numbered items (Ok None) (Ok None) s t n (λ u v k step. enumerate_end step) ran;
-    exit = subst (λ (k : ℕ). r ≡ Ok k) (sym (as_many items n)) exit;
-  }
-  counted_last items (Err e) s t n r ran exit = record {
+    at = record { exit = subst (λ (k : ℕ). r ≡ Ok k) (sym (as_many items n)) exit };
+  })
+  counted_last items (Err e) s t n r ran exit = ((t, n + length items), record {
     items = beside_numbers n items;
     last = Err e;
-    left = (t, n + length items);
     ran = run_numbered items (Err e) (Err e) s t n (λ u v k step. enumerate_failure step) ran;
-    exit = exit;
-  }
+    at = record { exit = exit };
+  })
   counted_last items (Ok (Some x)) s t n r ran exit = absurd exit
 
 -- the source's count is that of `Enumerate`
 pub counted_numbered : {S A E : Type 0} {steps : S → Answered A E → S → Type 0} {s : S} {n : ℕ} {r : Result ℕ E} → Counted steps s r → Counted (numbered_step steps) (s, n) r
-counted_numbered {steps = steps} {s = s} {n = n} {r = r} w = counted_last steps w.items w.last s w.left n r w.ran w.exit
+counted_numbered {steps = steps} {s = s} {n = n} {r = r} w = counted_last steps w.1.items w.1.last s w.0 n r w.1.ran w.1.at.exit

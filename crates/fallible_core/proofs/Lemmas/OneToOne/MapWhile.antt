@@ -1,12 +1,11 @@
 -- What `MapWhile` lists.
-use Rattle.std.specs.Prelude.{◌≡◌, Option, Result, Some, None, Ok, Err, List, [], ◌∷◌}
+use Rattle.std.specs.Prelude.{◌≡◌, Option, Result, Ok, Err, List, [], ◌∷◌}
 use Rattle.std.proofs.Common.{refl, ap, ◌∙◌}
 use Rattle.std.specs.Fn.{Mut}
 use Rattle.fallible_contract.specs.Closures.{call_on}
 use Rattle.fallible_contract.specs.Contract.{Contract, seen_as}
 use Rattle.fallible_contract.specs.Lists.{Lists, Acts}
-use Rattle.fallible_contract.specs.Passing.{LeavesNoneOut}
-use Rattle.fallible_contract.proofs.Lemmas.Lists.Passing.{passed, lists_seen, lists_passed}
+use Rattle.fallible_contract.proofs.Lemmas.Lists.Passing.{passed, lists_seen, lists_acting}
 use Rattle.fallible_core.specs.OneToOne.Scan.{cons_or_end, scan_outcome}
 use Rattle.fallible_core.specs.OneToOne.MapWhile.{map_while_parts, map_while_contract, mapped_while}
 use Rattle.fallible_core.proofs.Lemmas.OneToOne.Scan.{outcome_listed}
@@ -18,12 +17,6 @@ mapped_while_is h [] = refl
 mapped_while_is h (Ok x ∷ l) = outcome_listed x (h x) _ ∙ ap (λ t. cons_or_end (h x) t) (mapped_while_is h l)
 mapped_while_is h (Err e ∷ l) = ap (λ t. Err e ∷ t) (mapped_while_is h l)
 
-pub lists_mapped_while : {S F X B E : Type 0} (m : Contract S X E) (g : Mut F (X × Unit {0}) (Result (Option B) E)) (s : MapWhile S F) (f : F) (h : X → Result (Option B) E) (l : List (Result X E)) → map_while_parts s ≡ (s.it, Some f) → Acts (call_on g) f h → Lists m.steps s.it l
+pub lists_mapped_while : {S F X B E : Type 0} (m : Contract S X E) (g : Mut F (X × Unit {0}) (Result (Option B) E)) (s : MapWhile S F) (f : F) (h : X → Result (Option B) E) (l : List (Result X E)) → map_while_parts s ≡ (s.it, f) → Acts (call_on g) f h → Lists m.steps s.it l
     → Lists (seen_as map_while_parts (map_while_contract m g)).steps s (mapped_while h l)
-lists_mapped_while m g s f h l parts a i = lists_seen map_while_parts (map_while_contract m g).steps s parts (mapped_while_is h l) (lists_passed (call_on g) f h a m.steps scan_outcome s.it l i.runs)
-
--- it leaves nothing out
-pub leaves_none_out : {X B E : Type 0} → LeavesNoneOut {X = X} {B = B} {E = E} scan_outcome
-leaves_none_out x (Ok (Some y)) = refl
-leaves_none_out x (Ok None) = refl
-leaves_none_out x (Err e) = refl
+lists_mapped_while m g s f h l parts a i = lists_seen map_while_parts (map_while_contract m g).steps s parts (mapped_while_is h l) (lists_acting (call_on g) f h a m.steps scan_outcome s.it l i.runs)

@@ -1,23 +1,14 @@
--- One answer of `Scan`, and what it lists.
+-- What `Scan` lists.
 use Rattle.std.specs.Prelude.{◌≡◌, List, [], ◌∷◌, Option, Result, Some, None, Ok, Err}
 use Rattle.std.proofs.Common.{refl, ap, subst, ◌∙◌}
 use Rattle.std.specs.Fn.{Mut}
 use Rattle.std.specs.Borrow.{MutBor}
-use Rattle.fallible_contract.specs.Traces.{Answered, item}
 use Rattle.fallible_contract.specs.Contract.{Contract, seen_as}
 use Rattle.fallible_contract.specs.Lists.{Lists, ActsWithState}
+use Rattle.fallible_contract.specs.Passing.{LeavesNoneOut}
 use Rattle.fallible_contract.proofs.Lemmas.Lists.Passing.{passed, by_outcome, all_given, lists_seen}
-use Rattle.fallible_contract.specs.Laws.Passing.{passes_item, passes_refusal, passes_closing}
-use Rattle.fallible_core.specs.OneToOne.Scan.{scan_call, ScanTrace, scan_outcome, scan_parts, scan_contract, cons_or_end, scanned}
+use Rattle.fallible_core.specs.OneToOne.Scan.{scan_call, scan_outcome, scan_parts, scan_contract, cons_or_end, scanned}
 use Rattle.fallible_core.specs.declared.one_to_one.scan.Scan.{Scan}
-
--- one answer of the source that is an item, and the call on it
-pub scans_item : {S F T X B E : Type 0} {steps : S → Answered X E → S → Type 0} {g : Mut F (MutBor T × (X × Unit {0})) (Result (Option B) E × (MutBor T × Unit {0}))} {s t : S} {p q : T × F} (x : X) (r : Result (Option B) E) → steps s (item x) t → scan_call g p x r q → ScanTrace steps g (s, p) (r ∷ []) (t, q)
-scans_item x (Ok (Some y)) step called = passes_item x (Ok (Some y)) y step called refl
-scans_item x (Ok None) step called = passes_closing x (Ok None) step called refl
-scans_item x (Err e) step called = passes_refusal x (Err e) e step called refl
-
--- ---- what it lists
 
 -- what an outcome puts before the rest of the list
 pub outcome_listed : {X B E : Type 0} (x : X) (v : Result (Option B) E) (l : List (Result B E)) → by_outcome (scan_outcome x v) l ≡ cons_or_end v l
@@ -39,3 +30,9 @@ pub lists_scanned : {S F T X B E : Type 0} (m : Contract S X E) (g : Mut F (MutB
     → Lists (seen_as scan_parts (scan_contract m g)).steps s (scanned next t l)
 lists_scanned {F = F} {T = T} m g s t f next l parts a i = lists_seen scan_parts (scan_contract m g).steps s parts (scanned_is next t l)
     (all_given m.steps (scan_call g) scan_outcome (λ (p : T × F) u. p ≡ (u, f)) (λ u x. (next u x).0) (λ u x. (next u x).1) (acts_at (scan_call g) f next a) l s.it (t, f) t refl i.runs)
+
+-- it leaves nothing out
+pub leaves_none_out : {X B E : Type 0} → LeavesNoneOut {X = X} {B = B} {E = E} scan_outcome
+leaves_none_out x (Ok (Some y)) = refl
+leaves_none_out x (Ok None) = refl
+leaves_none_out x (Err e) = refl

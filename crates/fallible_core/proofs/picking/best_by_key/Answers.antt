@@ -1,13 +1,14 @@
--- The fold that carries the best so far and the closure is the fold.
+-- The fold whose state is the best so far and the closure is the fold.
+use Rattle.std.specs.Prelude.{◌≡◌}
 use Rattle.std.proofs.Common.{refl}
 use Rattle.fallible_contract.proofs.Lemmas.Folds.{folded_ended, folded_failed, folded_stopped}
 use Rattle.fallible_core.proofs.picking.best_by_key.Goals as goal
 
-pub returns-in-Ended : goal.returns-in-Ended
-returns-in-Ended g c = (_, folded_ended (λ p x r h. h) _ c.in-Ended.ensures.carried)
+pub returns-in-Ok-None : goal.returns-in-Ok-None
+returns-in-Ok-None g c = (_, folded_ended _ _ _ (rw c.in-Ok-None.field-0-is at c.in-Ok-None.ensures))
 
-pub returns-in-Failed : goal.returns-in-Failed
-returns-in-Failed g c = (_, folded_failed (λ p x r h. h) _ _ _ c.in-Failed.ensures.carried refl)
+pub returns-in-Ok-Some : goal.returns-in-Ok-Some
+returns-in-Ok-Some g c = (_, folded_stopped _ _ _ _ (rw c.in-Ok-Some.field-0-is at c.in-Ok-Some.ensures))
 
 pub returns : goal.returns
-returns g c = (_, folded_stopped (λ p x r h. h) _ c.in-Stopped.ensures.carried)
+returns g c = (_, folded_failed _ _ _ _ _ c.in-Err.ensures refl)

@@ -116,7 +116,7 @@ module _ {S X C B E : Type 0} (m : Contract S X E) (l : Lawful m) (into : X → 
   }
 
   -- an inner iterator that ended is dropped
-  dropped : (s : S) (c : C) → M.can_next (s, Some c) → KeptByDraws M (s, Some c) (s, None)
+  pub dropped : (s : S) (c : C) → M.can_next (s, Some c) → KeptByDraws M (s, Some c) (s, None)
   dropped s c can = record {
     can_next = (can.0, can.1, tt, can.3);
     is_finite = λ e. (e.0, tt, e.2);
@@ -131,7 +131,7 @@ module _ {S X C B E : Type 0} (m : Contract S X E) (l : Lawful m) (into : X → 
   one_fewer b a j q lt le = let h : b * j + b ≤ b * a = rw (sym (mul-suc b j)) (mul-le-mul_left b lt) in omega (arith, h, le)
 
   -- an item became an inner iterator, which is in hand then
-  begun_keeps : (s u : S) (c : C) (x : X) → M.can_next (s, None) → m.steps s (item x) u → into x c → KeptByDraws M (s, None) (u, Some c)
+  pub begun_keeps : (s u : S) (c : C) (x : X) → M.can_next (s, None) → m.steps s (item x) u → into x c → KeptByDraws M (s, None) (u, Some c)
   begun_keeps s u c x can step becomes = let g = l.kept_by_draw s (item x) u can.0 step in record {
     can_next = (g.can_next, g.is_finite can.1, can.3.at x c g.answer.0 becomes, each_after_draw inner.can_next s u g.may_give can.3);
     is_finite = λ e. (g.is_finite e.0, (let n = e.2.1.at x c g.answer.0 becomes in (k.bounded c).1 (n.0, n.1)), (e.2.0, each_after_draw _ s u g.may_give e.2.1));

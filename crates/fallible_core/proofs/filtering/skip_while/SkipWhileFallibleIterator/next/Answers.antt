@@ -1,13 +1,11 @@
--- The search that stops at the first item kept or failed is the trace of one answer.
-use Rattle.fallible_contract.specs.Closures.{call_at}
+-- The search that stops at the first item kept or failed is the trace of one answer; once the predicate answered false, so is one of the source.
 use Rattle.fallible_contract.proofs.Lemmas.Passing.{callable_search, passes_search}
-use Rattle.fallible_core.specs.Filtering.SkipWhile.{skip_call, skip_while_outcome}
-use Rattle.fallible_core.proofs.Lemmas.Filtering.SkipWhile.{skips_in_slot}
+use Rattle.fallible_core.specs.Filtering.SkipWhile.{skip_while_outcome}
+use Rattle.fallible_core.proofs.Lemmas.Filtering.SkipWhileFolds.{step_past}
 use Rattle.fallible_core.proofs.filtering.skip_while.SkipWhileFallibleIterator.next.Goals as goal
 
-pub find_carrying-state-requires-clause-callable : goal.find_carrying-state-requires-clause-callable
-find_carrying-state-requires-clause-callable g c = let callable = rw c.take_out-predicate.ensures.value at c.requires.1.1 in
-    callable_search skip_while_outcome g.met.I.FallibleIterator.lawful c.requires.1.0 callable
+pub drive_find-requires-clause-callable : goal.drive_find-requires-clause-callable
+drive_find-requires-clause-callable g c = callable_search skip_while_outcome g.met.I.FallibleIterator.lawful c.requires.1.0 c.requires.1.1
 
 pub returns : goal.returns
-returns g c = rw c.take_out-predicate.ensures.value (skips_in_slot {call = call_at g.P.FnMut} (passes_search {call = skip_call (call_at g.P.FnMut)} {outcome = skip_while_outcome} c.find_carrying-state.ensures.searched))
+returns g c = passes_search {outcome = skip_while_outcome} c.drive_find.ensures

@@ -4,11 +4,11 @@ use Rattle.fallible_contract.proofs.Lemmas.Passing.{answer_passed}
 use Rattle.fallible_core.proofs.Lemmas.OneToOne.EnumerateFolds.{to_numbers, drawn_numbered}
 use Rattle.fallible_core.proofs.one_to_one.enumerate.EnumerateFallibleIterator.next.Goals as goal
 
-pub passed-count-requires-clause-takes : goal.passed-count-requires-clause-takes
-passed-count-requires-clause-takes g c = drawn_numbered g.met.I.FallibleIterator.lawful c.requires _ c.next.ensures
+pub passed-requires-clause-takes : goal.passed-requires-clause-takes
+passed-requires-clause-takes g c = drawn_numbered g.met.I.FallibleIterator.lawful c.requires _ c.next.ensures
 
-pub passed-count-requires-clause-answers : goal.passed-count-requires-clause-answers
-passed-count-requires-clause-answers g c = λ x n. refl
+pub passed-requires-clause-answers : goal.passed-requires-clause-answers
+passed-requires-clause-answers g c = λ x n. refl
 
 pub returns : goal.returns
-returns g c = to_numbers _ _ _ (answer_passed _ c.next.ensures c.passed-count.ensures)
+returns g c = to_numbers _ _ _ (answer_passed _ c.next.ensures c.passed.ensures)

@@ -1,14 +1,13 @@
 -- One answer of the source from behind, and what the closure makes of it, are the trace of one answer.
-use Rattle.fallible_contract.specs.Closures.{call_on, takes_on}
-use Rattle.fallible_contract.proofs.Lemmas.Passing.{answer_passed, drawn_in_slot}
+use Rattle.fallible_contract.proofs.Lemmas.Passing.{answer_passed, drawn_takes}
 use Rattle.fallible_core.proofs.Lemmas.OneToOne.Map.{leaves_none_out}
 use Rattle.fallible_core.proofs.one_to_one.map.MapDoubleEndedFallibleIterator.next_back.Goals as goal
 
-pub passed_in_slot-requires-clause-takes : goal.passed_in_slot-requires-clause-takes
-passed_in_slot-requires-clause-takes g c = drawn_in_slot (call_on g.F.FnMut) (takes_on g.F.FnMut) _ g.met.I.DoubleEndedFallibleIterator.lawful_ends.back c.requires.0 _ c.next_back.ensures c.requires.1
+pub passed-requires-clause-takes : goal.passed-requires-clause-takes
+passed-requires-clause-takes g c = drawn_takes g.met.I.DoubleEndedFallibleIterator.lawful_ends.back c.requires.0 _ c.next_back.ensures c.requires.1
 
-pub passed_in_slot-requires-clause-answers : goal.passed_in_slot-requires-clause-answers
-passed_in_slot-requires-clause-answers g c = leaves_none_out
+pub passed-requires-clause-answers : goal.passed-requires-clause-answers
+passed-requires-clause-answers g c = leaves_none_out
 
 pub returns : goal.returns
-returns g c = answer_passed _ c.next_back.ensures c.passed_in_slot.ensures
+returns g c = answer_passed _ c.next_back.ensures c.passed.ensures
