@@ -10,7 +10,7 @@ pub mod sources;
 
 pub use conversion::IteratorExt;
 pub use fallible_contract::answers::{Answer, Side};
-pub use fallible_contract::folds::{Exit, Turn};
+pub use fallible_contract::folds::Turn;
 pub use fallible_contract::searching::Test;
 pub use fallible_contract::{Collect, Fault};
 pub use fallible_core::number::Number;

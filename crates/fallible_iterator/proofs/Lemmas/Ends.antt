@@ -85,11 +85,11 @@ module _ {S A E : Type 0} {front back : S → Answered A E → S → Type 0} {s 
   left_is trace k ran lists = let d = all_drawn front back trace s t l i ran in subst (λ (j : List (Result A E)). ListsBothEnds front back t j) (gives_alone d.0 k (lists d.0 d.1).runs) d.2
 
   pub nth_leaves : {n : ℕ} {r : Answered A E} → Nth front s n r t → ¬ (r ≡ Ok None) → ListsBothEnds front back t (behind_nth n l)
-  nth_leaves {n = n} c no_end = left_is _ (behind_nth n l) c.ran (λ left ran. behind_nth_is l (record { skipped = c.skipped; ran = ran; exit = c.exit }) (itself l) no_end)
+  nth_leaves {n = n} c no_end = left_is _ (behind_nth n l) c.ran (λ left ran. behind_nth_is l (record { items = c.items; last = c.last; ran = ran; at = c.at }) (itself l) no_end)
 
   module _ {F : Type 0} {f g : F} {call : F → A → Result Bool E → F → Type 0} (h : A → Result Bool E) (acts : Acts call f h) where
     pub find_leaves : {r : Result (Option A) E} → Searched call find_pick front None s f r t g → ¬ (r ≡ Ok None) → ListsBothEnds front back t (behind_true h l)
-    find_leaves c no_end = left_is _ (behind_true h l) c.ran (λ left ran. behind_find l (itself l) {call = call} h acts (record { items = c.items; last = c.last; closure = c.closure; ran = ran; went = c.went; exit = c.exit }) no_end)
+    find_leaves c no_end = left_is _ (behind_true h l) c.ran (λ left ran. behind_find l (itself l) {call = call} h acts (record { items = c.items; last = c.last; ran = ran; at = c.at }) no_end)
 
     pub position_leaves : {r : Result (Option ℕ) E} → Searched call position_pick front None s f r t g → ¬ (r ≡ Ok None) → ListsBothEnds front back t (behind_true h l)
-    position_leaves c no_end = left_is _ (behind_true h l) c.ran (λ left ran. behind_place l (itself l) {call = call} h acts (record { items = c.items; last = c.last; closure = c.closure; ran = ran; went = c.went; exit = c.exit }) no_end)
+    position_leaves c no_end = left_is _ (behind_true h l) c.ran (λ left ran. behind_place l (itself l) {call = call} h acts (record { items = c.items; last = c.last; ran = ran; at = c.at }) no_end)

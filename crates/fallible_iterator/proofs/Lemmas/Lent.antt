@@ -78,7 +78,7 @@ last_is_end call from b f (Ok (Some x)) v exit = absurd (let h = exit.2 in cc)
 
 -- a fold that came to its end drew its items and then an end
 pub run_to_end : {S A B E E' F : Type 0} {steps : S → Answered A E → S → Type 0} {call : F → B → A → Result B E' → F → Type 0} {from : E → E' → Type 0} {s t : S} {b v : B} {f : F} (d : Folded steps call from s b f (Ok v) t) → Run steps s (map item d.items ++ end ∷ []) t
-run_to_end {steps = steps} {call = call} {from = from} {s = s} {t = t} {v = v} d = subst (λ (r : Answered _ _). Run steps s (map item d.items ++ r ∷ []) t) (last_is_end call from d.value d.closure d.last v d.exit) d.ran
+run_to_end {steps = steps} {call = call} {from = from} {s = s} {t = t} {v = v} d = subst (λ (r : Answered _ _). Run steps s (map item d.items ++ r ∷ []) t) (last_is_end call from d.at.value d.at.closure d.last v d.at.exit) d.ran
 
 -- the steps of `take` of a borrow of what steps so
 abbrev pub lent_steps : {S A E : Type 0} → (S → Answered A E → S → Type 0) → Take (MutBor S) → Answered A E → Take (MutBor S) → Type 0
@@ -92,7 +92,7 @@ lists_lent {steps = steps} {it = it} {l = l} i = lists_borrowed (unbounded_contr
 pub behind_lent : {S A B E E' F : Type 0} {steps : S → Answered A E → S → Type 0} {it : MutBor S} {s t : Take (MutBor S)} {call : F → B → A → Result B E' → F → Type 0} {from : E → E' → Type 0} {b v : B} {f : F} {x : S} (k : ℕ) {l : List (Result A E)} → x ≡ t.it.now → take_parts s ≡ (it, suc k) → Folded (lent_steps steps) call from s b f (Ok v) t → Lists steps it.now l → ¬ (nth_of k l ≡ Ok None) → Lists steps x (behind_nth k l)
 behind_lent {S = S} {A = A} {E = E} {steps = steps} {it = it} {s = s} {t = t} {call = call} {from = from} {v = v} {x = x} k {l = l} back parts h i no_end =
     let m : Contract S A E = unbounded_contract steps in
-    let ended : h.last ≡ end = last_is_end call from h.value h.closure h.last v h.exit in
+    let ended : h.last ≡ end = last_is_end call from h.at.value h.at.closure h.last v h.at.exit in
     let ran : Run (lent_steps steps) s (map item h.items ++ end ∷ []) t = subst (λ (r : Answered A E). Run (lent_steps steps) s (map item h.items ++ r ∷ []) t) ended h.ran in
     let left : Lists steps t.it.now (behind_nth k l) = record { runs = left_behind steps h.items k l it.now t.it.now i.runs no_end (of_lender m h.items k it t.it (taken_run (borrowed m) (suc k) it s t h.items end parts ran)) } in
     rw back left
@@ -110,7 +110,7 @@ module _ {A E : Type 0} where
 -- The same after `nth(k)` over it, which came to an item.
 pub behind_lent_nth : {S A E : Type 0} {steps : S → Answered A E → S → Type 0} {it : MutBor S} {s t : Take (MutBor S)} {o : Option A} {x : S} (k : ℕ) {l : List (Result A E)} → x ≡ t.it.now → take_parts s ≡ (it, suc k) → Nth (lent_steps steps) s k (Ok o) t → Lists steps it.now l → ¬ (nth_of k l ≡ Ok None) → Lists steps x (behind_nth k l)
 behind_lent_nth {steps = steps} {it = it} {s = s} {t = t} {o = o} {x = x} k {l = l} back parts h i no_end =
-    let left : Lists steps t.it.now (behind_nth k l) = record { runs = item_behind (unbounded_contract steps) k l it t.it h.skipped o h.exit no_end i.runs (taken_run (borrowed (unbounded_contract steps)) (suc k) it s t h.skipped (Ok o) parts h.ran) } in
+    let left : Lists steps t.it.now (behind_nth k l) = record { runs = item_behind (unbounded_contract steps) k l it t.it h.items o h.at.exit no_end i.runs (taken_run (borrowed (unbounded_contract steps)) (suc k) it s t h.items (Ok o) parts (subst (λ (r : Answered A E). Run (lent_steps steps) s (map item h.items ++ r ∷ []) t) h.at.is h.ran)) } in
     rw back left
 
 -- ---- under a filter
@@ -121,7 +121,7 @@ lent_filter_steps steps g = (seen_as filter_parts (filter_contract (seen_as take
 
 module _ {S P A E : Type 0} {steps : S → Answered A E → S → Type 0} {g : Mut P (Bor A × Unit {0}) (Result Bool E)} {it : MutBor S} {tk : Take (MutBor S)} {p : P} (s t : Filter (Take (MutBor S)) P) {x : S} (k : ℕ) {l : List (Result A E)} (h : A → Bool) where
   -- After a run over `take(k + 1).filter(p)` of a borrow that came to its end, the lender lists what stands behind its first k + 1 items, where it has so many.
-  pub behind_lent_run : Acts (call_at g) p (λ y. Ok (h y)) → x ≡ t.it.it.now → take_parts tk ≡ (it, suc k) → filter_parts s ≡ (tk, Some p) → (xs : List A) → Run (lent_filter_steps steps g) s (map item xs ++ end ∷ []) t → Lists steps it.now l → ¬ (nth_of k l ≡ Ok None) → Lists steps x (behind_nth k l)
+  pub behind_lent_run : Acts (call_at g) p (λ y. Ok (h y)) → x ≡ t.it.it.now → take_parts tk ≡ (it, suc k) → filter_parts s ≡ (tk, p) → (xs : List A) → Run (lent_filter_steps steps g) s (map item xs ++ end ∷ []) t → Lists steps it.now l → ¬ (nth_of k l ≡ Ok None) → Lists steps x (behind_nth k l)
   behind_lent_run acts back taken parts xs ran i no_end =
       let m : Contract S A E = unbounded_contract steps in
       let under = filtered_run (seen_as take_parts (take_contract (borrowed m))) g h p tk s t xs end acts parts ran in

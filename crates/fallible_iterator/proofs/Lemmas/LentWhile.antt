@@ -5,13 +5,12 @@ use Rattle.std.specs.Fn.{Mut}
 use Rattle.std.proofs.Common.{refl, sym, ap, subst, ◌∙◌}
 use Rattle.fallible_contract.specs.Traces.{Answered, Run, item, end}
 use Rattle.fallible_contract.specs.Contract.{Contract, seen_as, unbounded_contract}
-use Rattle.fallible_contract.specs.Closures.{call_in, call_at}
+use Rattle.fallible_contract.specs.Closures.{call_at}
 use Rattle.fallible_contract.specs.Passing.{Place, asked, failure_at, end_at}
 use Rattle.fallible_contract.specs.Closing.{closing_step}
 use Rattle.fallible_contract.specs.Folds.{Folded}
 use Rattle.fallible_contract.specs.Searching.{all_pick}
 use Rattle.fallible_contract.specs.Lists.{AlwaysGives, Lists, Acts, decided, searched, all_of, behind_answer, behind_stop, behind_false}
-use Rattle.fallible_contract.proofs.Lemmas.Lists.Passing.{acts_in_slot}
 use Rattle.fallible_core.specs.Borrowed.{borrowed}
 use Rattle.fallible_core.specs.Cutting.TakeWhile.{taken_answer, is_refused, place_drawn, take_while_source, take_while_predicate, take_while_refused, take_while_parts, take_while_contract}
 use Rattle.fallible_core.proofs.Lemmas.Borrowed.{lists_borrowed}
@@ -94,21 +93,21 @@ module _ {S A E : Type 0} (steps : S → Answered A E → S → Type 0) where
   gives_lender [] s a = λ r t w. a r (record s { now = t }) (w, refl)
   gives_lender (y ∷ l) s a = λ r t w. let u : MutBor S = record s { now = t } in let d = a r u (w, refl) in (d.0, gives_lender l u d.1)
 
-module _ {S P A E : Type 0} (steps : S → Answered A E → S → Type 0) (g : Mut P (Bor A × Unit {0}) (Result Bool E)) (it : MutBor S) (p : P) (s t : TakeWhile (MutBor S) P) (l : List (Result A E)) (h : A → Result Bool E) (acts : Acts (call_at g) p h) (parts : take_while_parts s ≡ ((it, Some p), false)) where
+module _ {S P A E : Type 0} (steps : S → Answered A E → S → Type 0) (g : Mut P (Bor A × Unit {0}) (Result Bool E)) (it : MutBor S) (p : P) (s t : TakeWhile (MutBor S) P) (l : List (Result A E)) (h : A → Result Bool E) (acts : Acts (call_at g) p h) (parts : take_while_parts s ≡ ((it, p), false)) where
   -- A run over `take_while` of a borrow that came to its end leaves the lender at what stands behind the first item that the predicate refuses, where there is one.
   left_of_run : (xs : List A) → Run (until_steps steps g) s (map item xs ++ end ∷ []) t → Lists steps it.now l → all_of h l ≡ Ok false → Lists steps t.it.now (behind_false h l)
   unfolding all_of behind_false
   left_of_run xs ran i found =
       let m : Contract (MutBor S) A E = borrowed (unbounded_contract steps) in
-      let seen = subst (λ (q : (MutBor S × Option P) × Bool). Run (take_while_contract m g).steps q (map item xs ++ end ∷ []) (take_while_parts t)) parts (run_seen take_while_parts (take_while_contract m g).steps (map item xs ++ end ∷ []) s t ran) in
-      let left = left_at_end m.steps (call_in (call_at g)) (Some p) h (acts_in_slot (call_at g) p h acts) xs 0 l it t.it (Some p) t.predicate t.refused refl (lists_borrowed (unbounded_contract steps) it l i).runs seen found in
+      let seen = subst (λ (q : (MutBor S × P) × Bool). Run (take_while_contract m g).steps q (map item xs ++ end ∷ []) (take_while_parts t)) parts (run_seen take_while_parts (take_while_contract m g).steps (map item xs ++ end ∷ []) s t ran) in
+      let left = left_at_end m.steps (call_at g) p h acts xs 0 l it t.it p (take_while_predicate t) (take_while_refused t) refl (lists_borrowed (unbounded_contract steps) it l i).runs seen found in
       record { runs = gives_lender steps (behind_false h l) t.it left }
 
 -- After a fold over `take_while` of a borrow that came to its end, the lender lists what stands behind the first item that the predicate refuses, where there is one.
-pub behind_lent_while : {S P A E B E' F : Type 0} {steps : S → Answered A E → S → Type 0} {g : Mut P (Bor A × Unit {0}) (Result Bool E)} {it : MutBor S} {p : P} {s t : TakeWhile (MutBor S) P} {l : List (Result A E)} {call : F → B → A → Result B E' → F → Type 0} {from : E → E' → Type 0} {b v : B} {f : F} {x : S} (h : A → Result Bool E) → Acts (call_at g) p h → x ≡ t.it.now → take_while_source s ≡ it → take_while_predicate s ≡ Some p → take_while_refused s ≡ false → Folded (until_steps steps g) call from s b f (Ok v) t → Lists steps it.now l → all_of h l ≡ Ok false → Lists steps x (behind_false h l)
+pub behind_lent_while : {S P A E B E' F : Type 0} {steps : S → Answered A E → S → Type 0} {g : Mut P (Bor A × Unit {0}) (Result Bool E)} {it : MutBor S} {p : P} {s t : TakeWhile (MutBor S) P} {l : List (Result A E)} {call : F → B → A → Result B E' → F → Type 0} {from : E → E' → Type 0} {b v : B} {f : F} {x : S} (h : A → Result Bool E) → Acts (call_at g) p h → x ≡ t.it.now → take_while_source s ≡ it → take_while_predicate s ≡ p → take_while_refused s ≡ false → Folded (until_steps steps g) call from s b f (Ok v) t → Lists steps it.now l → all_of h l ≡ Ok false → Lists steps x (behind_false h l)
 behind_lent_while {steps = steps} {g = g} {it = it} {p = p} {s = s} {t = t} {l = l} {call = call} {from = from} {v = v} h acts back source predicate refused d i found =
-    let parts : take_while_parts s ≡ ((it, Some p), false) = cc in
-    let ended : d.last ≡ end = last_is_end call from d.value d.closure d.last v d.exit in
+    let parts : take_while_parts s ≡ ((it, p), false) = cc in
+    let ended : d.last ≡ end = last_is_end call from d.at.value d.at.closure d.last v d.at.exit in
     let ran = subst (λ (r : Answered _ _). Run (until_steps steps g) s (map item d.items ++ r ∷ []) t) ended d.ran in
     let left = left_of_run steps g it p s t l h acts parts d.items ran i found in
     rw back left

@@ -7,7 +7,7 @@ use Rattle.std.specs.Borrow.{Bor}
 use Rattle.std.proofs.Common.{refl, sym, ap, subst}
 use Rattle.fallible_contract.specs.Traces.{Answered, Run, item, end}
 use Rattle.fallible_contract.specs.Contract.{Contract, unbounded_contract}
-use Rattle.fallible_contract.specs.Closures.{call_at, call_in}
+use Rattle.fallible_contract.specs.Closures.{call_at}
 use Rattle.fallible_contract.specs.Folds.{Counted, CountExit}
 use Rattle.fallible_contract.specs.Lists.{AlwaysGives, Lists, Acts, counted}
 use Rattle.fallible_contract.specs.Passing.{Place, asked, failure_at, end_at, PassTrace, source_answer, answer_at, outcome_answer, tested_outcome}
@@ -76,12 +76,12 @@ module _ {S X E : Type 0} (steps : S → Answered X E → S → Type 0) where
     last_kept = d.last_kept;
   }
 
-pub filtered_where_ok : {S F X E : Type 0} {steps : S → Answered X E → S → Type 0} {g : Mut F (Bor X × Unit {0}) (Result Bool E)} {s : Filter S F} {it : S} {f : F} (h : X → Result Bool E) {l : List (Result X E)} → filter_parts s ≡ (it, Some f) → Acts (call_at g) f h → ListsWhereOk steps it l → ListsWhereOk (λ (u : Filter S F) (r : Answered X E) (v : Filter S F). PassTrace steps (call_in (call_at g)) tested_outcome (filter_parts u) (r ∷ []) (filter_parts v)) s (filtered h l)
+pub filtered_where_ok : {S F X E : Type 0} {steps : S → Answered X E → S → Type 0} {g : Mut F (Bor X × Unit {0}) (Result Bool E)} {s : Filter S F} {it : S} {f : F} (h : X → Result Bool E) {l : List (Result X E)} → filter_parts s ≡ (it, f) → Acts (call_at g) f h → ListsWhereOk steps it l → ListsWhereOk (λ (u : Filter S F) (r : Answered X E) (v : Filter S F). PassTrace steps (call_at g) tested_outcome (filter_parts u) (r ∷ []) (filter_parts v)) s (filtered h l)
 filtered_where_ok {S} {F} {X} {E} {steps} {g} {s} {it} {f} h {l} parts acts i =
-    let at : it ≡ s.it = sym (ap (λ (p : S × Option F). p.0) parts) in
-    let slot : s.f ≡ Some f = ap (λ (p : S × Option F). p.1) parts in
+    let at : it ≡ s.it = sym (ap (λ (p : S × F). p.0) parts) in
+    let same : s.f ≡ f = ap (λ (p : S × F). p.1) parts in
     let m : Contract S X E = unbounded_contract (ok_steps steps) in
-    lists_fewer _ _ (λ u r v w. filter_ok steps (call_in (call_at g)) tested_outcome (filter_parts u) r (filter_parts v) w.0 w.1) (filtered h l) s (lists_filtered m g s f h l (ap (λ (o : Option F). (s.it, o)) slot) acts (subst (λ (u : S). Lists (ok_steps steps) u l) at i))
+    lists_fewer _ _ (λ u r v w. filter_ok steps (call_at g) tested_outcome (filter_parts u) r (filter_parts v) w.0 w.1) (filtered h l) s (lists_filtered m g s f h l (ap (λ (o : F). (s.it, o)) same) acts (subst (λ (u : S). Lists (ok_steps steps) u l) at i))
 
 -- ---- `count`
 
@@ -91,10 +91,10 @@ module _ {S A E : Type 0} (steps : S → Answered A E → S → Type 0) where
   run_ok (x ∷ items) s t ran = (ran.0, (ran.1, refl), run_ok items ran.0 t ran.2)
 
   counted_ok : (s t : S) (items : List A) (last : Answered A E) (n : ℕ) → Run steps s (map item items ++ last ∷ []) t → CountExit (length items) last (Ok n) → Counted (ok_steps steps) s (Ok n)
-  counted_ok s t items (Ok None) n ran exit = record { items = items; last = Ok None; left = t; ran = run_ok items s t ran; exit = exit }
+  counted_ok s t items (Ok None) n ran exit = (t, record { items = items; last = Ok None; ran = run_ok items s t ran; at = record { exit = exit } })
   counted_ok s t items (Ok (Some x)) n ran exit = absurd exit
   counted_ok s t items (Err e) n ran exit = absurd cc
 
 pub counted_where_ok : {S A E : Type 0} {steps : S → Answered A E → S → Type 0} {s : S} {l : List (Result A E)} (r : Result ℕ E) → Counted steps s r → ListsWhereOk steps s l → IsOk r → r ≡ counted l
-counted_where_ok {steps = steps} {s = s} {l = l} (Ok n) c i ok = counted_is l (counted_ok steps s c.left c.items c.last n c.ran c.exit) i
+counted_where_ok {steps = steps} {s = s} {l = l} (Ok n) c i ok = counted_is l (counted_ok steps s c.0 c.1.items c.1.last n c.1.ran c.1.at.exit) i
 counted_where_ok (Err e) c i ok = absurd cc

@@ -73,7 +73,7 @@ where
     ensures { (s t : Rev (Filter (Map I F) G)) (inner : Map I F) (it : I) (f : F) (g : G)
         (h : I.Item → Result B I.Error) (k : B → Result Bool I.Error)
         (l : List (Result I.Item I.Error)) (drawn : List (Side × Answered B I.Error))
-        → filter_parts (rev_parts s) ≡ (inner, Some g) → map_parts inner ≡ (it, Some f)
+        → filter_parts (rev_parts s) ≡ (inner, g) → map_parts inner ≡ (it, f)
         → Acts (call_on F.FnMut) f h → Acts (call_at G.FnMut) g k
         → ListsBothEnds I.contract.steps I.ends.steps it l
         → DrawsInterleave ⟦<Rev<Filter<Map<I, F>, G>> as FallibleIterator>⟧.contract.steps

@@ -142,13 +142,13 @@ pub fn law_lists_map<I: DoubleEndedFallibleIterator, B, F: FnMut(I::Item) -> Res
 where
     ensures both { (it : I) (f : F) (h : I.Item → Result B I.Error)
         (l : List (Result I.Item I.Error))
-        → map_parts s.now ≡ (it, Some f) → Acts (call_on F.FnMut) f h
+        → map_parts s.now ≡ (it, f) → Acts (call_on F.FnMut) f h
         → ListsBothEnds I.contract.steps I.ends.steps it l
         → ListsBothEnds ⟦<Map<I, F> as FallibleIterator>⟧.contract.steps
         ⟦<Map<I, F> as DoubleEndedFallibleIterator>⟧.ends.steps s.now (mapped h l) }
     ensures behind { (it : I) (f : F) (h : I.Item → Result B I.Error)
         (l : List (Result I.Item I.Error))
-        → map_parts s.now ≡ (it, Some f) → Acts (call_on F.FnMut) f h
+        → map_parts s.now ≡ (it, f) → Acts (call_on F.FnMut) f h
         → Lists I.ends.steps it l
         → Lists ⟦<Map<I, F> as DoubleEndedFallibleIterator>⟧.ends.steps s.now (mapped h l) }
 {
@@ -164,13 +164,13 @@ where
     I::Item: Drop,
     ensures both { (it : I) (f : F) (h : I.Item → Result Bool I.Error)
         (l : List (Result I.Item I.Error))
-        → filter_parts s.now ≡ (it, Some f) → Acts (call_at F.FnMut) f h
+        → filter_parts s.now ≡ (it, f) → Acts (call_at F.FnMut) f h
         → ListsBothEnds I.contract.steps I.ends.steps it l
         → ListsBothEnds ⟦<Filter<I, F> as FallibleIterator>⟧.contract.steps
         ⟦<Filter<I, F> as DoubleEndedFallibleIterator>⟧.ends.steps s.now (filtered h l) }
     ensures behind { (it : I) (f : F) (h : I.Item → Result Bool I.Error)
         (l : List (Result I.Item I.Error))
-        → filter_parts s.now ≡ (it, Some f) → Acts (call_at F.FnMut) f h
+        → filter_parts s.now ≡ (it, f) → Acts (call_at F.FnMut) f h
         → Lists I.ends.steps it l
         → Lists ⟦<Filter<I, F> as DoubleEndedFallibleIterator>⟧.ends.steps s.now
         (filtered h l) }

@@ -10,8 +10,8 @@ ghost use Rattle.fallible_iterator.specs.Sources.Convert.{convert_contract, conv
 ghost use Rattle.fallible_iterator.specs.Sources.Std.{element_by};
 ghost use Rattle.fallible_iterator.specs.Laws.Sources.Std.{lawful_std, lawful_std_ends};
 
-use crate::sources::std_fold::{Progressing, exited, turn_of_element};
-use fallible_contract::folds::{Exit, Turn};
+use crate::sources::std_fold::{Progressing, turn_of_element};
+use fallible_contract::folds::Turn;
 use fallible_core::{DoubleEndedFallibleIterator, FallibleIterator, Rev};
 
 /// The fallible iterator of a std iterator over results: each `Ok` is an item, each `Err` a failure, and none is an end.
@@ -37,12 +37,22 @@ impl<T, E, I: std::iter::Iterator<Item = Result<T, E>>> FallibleIterator for Con
         self.it.size_hint()
     }
 
-    fn try_fold_carrying<C, R, K: Turn<C, T, R>>(&mut self, init: C, turn: &K) -> Exit<C, E, R> {
+    fn drive<C, R, K: Turn<C, T, R>>(
+        &mut self,
+        state: &mut C,
+        turn: &K,
+    ) -> Result<Option<R>, E> {
         let mut drawn = Progressing { it: &mut self.it };
-        exited(drawn.try_fold(
-            init,
-            |carried, element| turn_of_element(turn, carried, element),
-        ))
+        match drawn.try_fold(state, |state, element| turn_of_element(turn, state, element)) {
+            Ok(state) => {
+                let _ = &*state;
+                Ok(None)
+            }
+            Err((state, answer)) => {
+                let _ = &*state;
+                answer
+            }
+        }
     }
 
     ghost lawful = { lawful_seen convert_parts
@@ -59,12 +69,22 @@ impl<T, E, I: std::iter::DoubleEndedIterator<Item = Result<T, E>>> DoubleEndedFa
         transpose(self.it.next_back())
     }
 
-    fn try_rfold_carrying<C, R, K: Turn<C, T, R>>(&mut self, init: C, turn: &K) -> Exit<C, E, R> {
+    fn drive_back<C, R, K: Turn<C, T, R>>(
+        &mut self,
+        state: &mut C,
+        turn: &K,
+    ) -> Result<Option<R>, E> {
         let mut drawn = Progressing { it: &mut self.it };
-        exited(drawn.try_rfold(
-            init,
-            |carried, element| turn_of_element(turn, carried, element),
-        ))
+        match drawn.try_rfold(state, |state, element| turn_of_element(turn, state, element)) {
+            Ok(state) => {
+                let _ = &*state;
+                Ok(None)
+            }
+            Err((state, answer)) => {
+                let _ = &*state;
+                answer
+            }
+        }
     }
 
     ghost lawful_ends = { lawful_ends_seen convert_parts

@@ -9,8 +9,8 @@ ghost use Rattle.fallible_core.specs.Ends.Rev.{rev_parts};
 ghost use Rattle.fallible_iterator.specs.Sources.IntoFallible.{into_fallible_contract, into_fallible_ends, never, into_fallible_parts};
 ghost use Rattle.fallible_iterator.specs.Laws.Sources.Std.{lawful_std, lawful_std_ends};
 
-use crate::sources::std_fold::{Progressing, exited, turn_of_element};
-use fallible_contract::folds::{Exit, Turn};
+use crate::sources::std_fold::{Progressing, turn_of_element};
+use fallible_contract::folds::Turn;
 use fallible_core::{DoubleEndedFallibleIterator, FallibleIterator, Rev};
 use std::convert::Infallible;
 
@@ -37,13 +37,22 @@ impl<T, I: std::iter::Iterator<Item = T>> FallibleIterator for IntoFallible<I> {
         self.it.size_hint()
     }
 
-    fn try_fold_carrying<C, R, K: Turn<C, T, R>>(
+    fn drive<C, R, K: Turn<C, T, R>>(
         &mut self,
-        init: C,
+        state: &mut C,
         turn: &K,
-    ) -> Exit<C, Infallible, R> {
+    ) -> Result<Option<R>, Infallible> {
         let mut drawn = Progressing { it: &mut self.it };
-        exited(drawn.try_fold(init, |carried, x| turn_of_element(turn, carried, Ok(x))))
+        match drawn.try_fold(state, |state, x| turn_of_element(turn, state, Ok(x))) {
+            Ok(state) => {
+                let _ = &*state;
+                Ok(None)
+            }
+            Err((state, answer)) => {
+                let _ = &*state;
+                answer
+            }
+        }
     }
 
     ghost lawful = { lawful_seen into_fallible_parts
@@ -61,13 +70,22 @@ impl<T, I: std::iter::DoubleEndedIterator<Item = T>> DoubleEndedFallibleIterator
         Ok(self.it.next_back())
     }
 
-    fn try_rfold_carrying<C, R, K: Turn<C, T, R>>(
+    fn drive_back<C, R, K: Turn<C, T, R>>(
         &mut self,
-        init: C,
+        state: &mut C,
         turn: &K,
-    ) -> Exit<C, Infallible, R> {
+    ) -> Result<Option<R>, Infallible> {
         let mut drawn = Progressing { it: &mut self.it };
-        exited(drawn.try_rfold(init, |carried, x| turn_of_element(turn, carried, Ok(x))))
+        match drawn.try_rfold(state, |state, x| turn_of_element(turn, state, Ok(x))) {
+            Ok(state) => {
+                let _ = &*state;
+                Ok(None)
+            }
+            Err((state, answer)) => {
+                let _ = &*state;
+                answer
+            }
+        }
     }
 
     ghost lawful_ends = { lawful_ends_seen into_fallible_parts

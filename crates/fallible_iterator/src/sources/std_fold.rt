@@ -1,8 +1,8 @@
 // Folds over a std iterator through its own `try_fold` and `try_rfold`.
-ghost use Rattle.std.specs.Prelude.{◌≡◌, IfOk, Option, Result};
-ghost use Rattle.fallible_iterator.specs.Sources.StdFold.{progressing, ElementTurn, exit_of};
+ghost use Rattle.std.specs.Prelude.{IfOk, Option, Result};
+ghost use Rattle.fallible_iterator.specs.Sources.StdFold.{progressing, ElementTurn, lent};
 
-use fallible_contract::folds::{Exit, Turn};
+use fallible_contract::folds::Turn;
 use std::ops::ControlFlow;
 
 // A std iterator behind a reference, of each of whose calls it is known besides that it made progress.
@@ -36,30 +36,20 @@ impl<'a, I: std::iter::DoubleEndedIterator> std::iter::DoubleEndedIterator for P
     }
 }
 
-// One turn of std's fold: the caller's turn on an item. A failure stops the fold.
-pub(crate) fn turn_of_element<C, A, E, R, K: Turn<C, A, R>>(
+// One turn of std's fold: the caller's turn on an item. A failure stops the fold. The caller's state is what std's fold carries.
+pub(crate) fn turn_of_element<'a, C, A, E, R, K: Turn<C, A, R>>(
     turn: &K,
-    carried: C,
+    state: &'a mut C,
     element: Result<A, E>,
-) -> Result<C, Exit<C, E, R>>
-    requires { IfOk element (λ x. K.can_turn turn.now carried x) }
-    ensures { ElementTurn (K.turns turn.now) carried element result }
+) -> Result<&'a mut C, (&'a mut C, Result<Option<R>, E>)>
+    requires { IfOk element (λ x. K.can_turn turn.now state.old x) }
+    ensures { ElementTurn (lent (K.turns turn.now)) state.entry element result }
 {
     match element {
-        Ok(x) => match turn.turn(carried, x) {
-            ControlFlow::Continue(carried) => Ok(carried),
-            ControlFlow::Break(stop) => Err(Exit::Stopped(stop)),
+        Ok(x) => match turn.turn(state, x) {
+            ControlFlow::Continue(()) => Ok(state),
+            ControlFlow::Break(stop) => Err((state, Ok(Some(stop)))),
         },
-        Err(e) => Err(Exit::Failed(carried, e)),
-    }
-}
-
-// How the fold ended, by what std's fold answered.
-pub(crate) fn exited<C, E, R>(folded: Result<C, Exit<C, E, R>>) -> Exit<C, E, R>
-    ensures { result ≡ exit_of folded }
-{
-    match folded {
-        Ok(carried) => Exit::Ended(carried),
-        Err(exit) => exit,
+        Err(e) => Err((state, Err(e))),
     }
 }
