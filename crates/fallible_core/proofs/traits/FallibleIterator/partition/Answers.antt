@@ -14,7 +14,7 @@ pub returns-in-Ok-None-clause-partitions : goal.returns-in-Ok-None-clause-partit
 returns-in-Ok-None-clause-partitions g c = parted_ended _ (call_at g.F.FnMut) g.B.Collect.made g.B.Collect.empty_refuses g.B.Collect.push_refuses c.in-Ok.ensures c.in-Ok-empty.ensures _ (rw c.in-Ok-None.field-0-is at c.in-Ok-None.ensures)
 
 pub returns-clause-partitions : goal.returns-clause-partitions
-returns-clause-partitions g c = parted_failed _ (call_at g.F.FnMut) g.B.Collect.made g.B.Collect.empty_refuses g.B.Collect.push_refuses c.in-Ok.ensures c.in-Ok-empty.ensures _ _ c.in-Err-drive.ensures
+returns-clause-partitions g c = parted_failed _ (call_at g.F.FnMut) g.B.Collect.made g.B.Collect.empty_refuses g.B.Collect.push_refuses c.in-Ok.ensures c.in-Ok-empty.ensures _ _ c.in-Err-answer.ensures
 
 pub returns-in-Ok-Some-clause-partitions : goal.returns-in-Ok-Some-clause-partitions
 returns-in-Ok-Some-clause-partitions g c = parted_stopped _ (call_at g.F.FnMut) g.B.Collect.made g.B.Collect.empty_refuses g.B.Collect.push_refuses c.in-Ok.ensures c.in-Ok-empty.ensures _ _ (rw c.in-Ok-Some.field-0-is at c.in-Ok-Some.ensures)
