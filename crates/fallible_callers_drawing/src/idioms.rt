@@ -90,7 +90,7 @@ where
     requires finite { I.contract.is_finite it }
     requires callable { IsCallable (call_at F.FnMut) (takes_at F.FnMut)
         (I.contract.may_give it) keep }
-    ensures parts { filter_parts result ≡ (it, Some keep) }
+    ensures parts { filter_parts result ≡ (it, keep) }
     ensures lists { (h : I.Item → Result Bool I.Error) → Acts (call_at F.FnMut) keep h
         → (l : List (Result I.Item I.Error)) → Lists I.contract.steps it l
         → Lists ⟦<Filter<I, F> as FallibleIterator>⟧.contract.steps result (filtered h l) }

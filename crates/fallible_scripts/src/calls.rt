@@ -7,17 +7,17 @@ pub struct Calls {
     pub nexts: u32,
     /// of `next_back`
     pub next_backs: u32,
-    /// of `try_fold_carrying`
+    /// of `drive`
     pub folds: u32,
-    /// of `try_rfold_carrying`
+    /// of `drive_back`
     pub rfolds: u32,
-    /// of `count`
+    /// of `drive_count`
     pub counts: u32,
-    /// of `last`
+    /// of `drive_last`
     pub lasts: u32,
-    /// of `nth`
+    /// of `drive_nth`
     pub nths: u32,
-    /// of `find`
+    /// of `drive_find`
     pub finds: u32,
 }
 
@@ -52,7 +52,7 @@ impl Calls {
         }
     }
 
-    /// As many calls of `try_fold_carrying`.
+    /// As many calls of `drive`.
     pub fn folds(self, number: u32) -> Calls {
         Calls {
             folds: number,
@@ -60,7 +60,7 @@ impl Calls {
         }
     }
 
-    /// As many calls of `try_rfold_carrying`.
+    /// As many calls of `drive_back`.
     pub fn rfolds(self, number: u32) -> Calls {
         Calls {
             rfolds: number,
@@ -68,7 +68,7 @@ impl Calls {
         }
     }
 
-    /// As many calls of `count`.
+    /// As many calls of `drive_count`.
     pub fn counts(self, number: u32) -> Calls {
         Calls {
             counts: number,
@@ -76,7 +76,7 @@ impl Calls {
         }
     }
 
-    /// As many calls of `last`.
+    /// As many calls of `drive_last`.
     pub fn lasts(self, number: u32) -> Calls {
         Calls {
             lasts: number,
@@ -84,7 +84,7 @@ impl Calls {
         }
     }
 
-    /// As many calls of `nth`.
+    /// As many calls of `drive_nth`.
     pub fn nths(self, number: u32) -> Calls {
         Calls {
             nths: number,
@@ -92,7 +92,7 @@ impl Calls {
         }
     }
 
-    /// As many calls of `find`.
+    /// As many calls of `drive_find`.
     pub fn finds(self, number: u32) -> Calls {
         Calls {
             finds: number,

@@ -6,27 +6,27 @@ ghost use Rattle.fallible_iterator.specs.Laws.Contract.{lawful_seen};
 ghost use Rattle.fallible_iterator.specs.Laws.Ends.{lawful_ends_seen};
 
 use crate::calls::Calls;
-use fallible_iterator::{DoubleEndedFallibleIterator, Exit, FallibleIterator, Test, Turn};
+use fallible_iterator::{DoubleEndedFallibleIterator, FallibleIterator, Test, Turn};
 use std::cell::Cell;
 
-/// How often each call came from outside. A hidden form counts as the call whose contract it has.
+/// How often each call came from outside. A call that types override counts as the one that callers make of it.
 #[derive(Drop)]
 pub struct Log {
     /// of `next`
     pub nexts: Cell<u32>,
     /// of `next_back`
     pub next_backs: Cell<u32>,
-    /// of `try_fold_carrying`, through which `try_fold` and `fold` go
+    /// of `drive`, through which `try_fold` and `fold` go
     pub folds: Cell<u32>,
-    /// of `try_rfold_carrying`, through which `try_rfold` and `rfold` go
+    /// of `drive_back`, through which `try_rfold` and `rfold` go
     pub rfolds: Cell<u32>,
-    /// of `count`
+    /// of `drive_count`, through which `count` goes
     pub counts: Cell<u32>,
-    /// of `last`
+    /// of `drive_last`, through which `last` goes
     pub lasts: Cell<u32>,
-    /// of `nth`
+    /// of `drive_nth`, through which `nth` goes
     pub nths: Cell<u32>,
-    /// of `find`
+    /// of `drive_find`, through which `find` goes
     pub finds: Cell<u32>,
 }
 
@@ -97,49 +97,49 @@ impl<'a, I: FallibleIterator> FallibleIterator for Counted<'a, I> {
         self.it.size_hint()
     }
 
-    fn try_fold_carrying<C, R, K: Turn<C, I::Item, R>>(
+    fn drive<C, R, K: Turn<C, I::Item, R>>(
         &mut self,
-        init: C,
+        state: &mut C,
         turn: &K,
-    ) -> Exit<C, I::Error, R> {
+    ) -> Result<Option<R>, I::Error> {
         add(&self.log.folds);
-        self.it.try_fold_carrying(init, turn)
+        self.it.drive(state, turn)
     }
 
-    fn count(self) -> Result<usize, I::Error>
+    fn drive_count(self) -> Result<usize, I::Error>
     where
         I::Item: Drop,
     {
         add(&self.log.counts);
-        self.it.count()
+        self.it.drive_count()
     }
 
-    fn last(self) -> Result<Option<I::Item>, I::Error>
+    fn drive_last(self) -> Result<Option<I::Item>, I::Error>
     where
         I::Item: Drop,
     {
         add(&self.log.lasts);
-        self.it.last()
+        self.it.drive_last()
     }
 
-    fn nth(&mut self, n: usize) -> Result<Option<I::Item>, I::Error>
+    fn drive_nth(&mut self, n: usize) -> Result<Option<I::Item>, I::Error>
     where
         I::Item: Drop,
     {
         add(&self.log.nths);
-        self.it.nth(n)
+        self.it.drive_nth(n)
     }
 
-    fn find_carrying<C, K: Test<C, I::Item, I::Error>>(
+    fn drive_find<C, K: Test<C, I::Item, I::Error>>(
         &mut self,
-        init: C,
+        state: &mut C,
         test: &K,
-    ) -> (C, Result<Option<I::Item>, I::Error>)
+    ) -> Result<Option<I::Item>, I::Error>
     where
         I::Item: Drop,
     {
         add(&self.log.finds);
-        self.it.find_carrying(init, test)
+        self.it.drive_find(state, test)
     }
 
     ghost lawful = { lawful_seen (λ s. s.it) I.lawful };
@@ -153,13 +153,13 @@ impl<'a, I: DoubleEndedFallibleIterator> DoubleEndedFallibleIterator for Counted
         self.it.next_back()
     }
 
-    fn try_rfold_carrying<C, R, K: Turn<C, I::Item, R>>(
+    fn drive_back<C, R, K: Turn<C, I::Item, R>>(
         &mut self,
-        init: C,
+        state: &mut C,
         turn: &K,
-    ) -> Exit<C, I::Error, R> {
+    ) -> Result<Option<R>, I::Error> {
         add(&self.log.rfolds);
-        self.it.try_rfold_carrying(init, turn)
+        self.it.drive_back(state, turn)
     }
 
     ghost lawful_ends = { lawful_ends_seen (λ s. s.it) I.lawful_ends };

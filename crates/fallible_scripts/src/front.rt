@@ -82,6 +82,24 @@ fn map_inspect_map_while_and_cloned_fold_by_one_fold(rt: HostRuntime) {
     );
 }
 
+// The sum of the items so far.
+fn sum_so_far(sum: &mut u32, x: u32) -> Result<Option<u32>, u32> {
+    *sum = sum.wrapping_add(x);
+    Ok(Some(*sum))
+}
+
+#[test]
+fn scan_folds_by_one_fold_and_goes_on_from_its_state(rt: HostRuntime) {
+    let log = Log::new();
+    let answers = [Ok(1), Ok(2), Ok(3), Ok(4)];
+    let mut it = counted(&answers, &log).scan(0, sum_so_far);
+    let folded = [it.try_fold(0, stop), it.try_fold(0, add_up)];
+    assert_eq!(rt;
+        (folded, log.calls()),
+        ([Err(3), Ok(19)], Calls::none().folds(2))
+    );
+}
+
 #[test]
 fn filter_and_filter_map_draw_and_fold_by_folds(rt: HostRuntime) -> Result<(), Fail> {
     let log = Log::new();
@@ -154,6 +172,11 @@ fn skip_and_skip_while_fold_the_rest_by_one_fold(rt: HostRuntime) {
     assert_eq!(rt;
         (it.next(), log.calls()),
         (Ok(Some(3)), Calls::none().finds(1))
+    );
+    // Once the predicate was false, it draws its source.
+    assert_eq!(rt;
+        (it.next(), log.calls()),
+        (Ok(Some(4)), Calls::none().nexts(1).finds(1))
     );
 }
 

@@ -155,7 +155,7 @@ fn flatten_and_flat_map_fold_each_source_once(rt: HostRuntime) {
     assert_eq!(rt;
         [outer.calls(), firsts.calls(), seconds.calls()],
         [
-            Calls::none().folds(2),
+            Calls::none().nexts(1).folds(1),
             Calls::none().nexts(1).folds(1),
             Calls::none().folds(1)
         ]

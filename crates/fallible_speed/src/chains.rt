@@ -1,8 +1,10 @@
 // The chains of adapters.
-use crate::draining::{collected, counted, drained, sum_of};
+use crate::draining::{
+    answered, collected, counted, drained, eight_of, iterated, runs, sum_of, sure,
+};
 use crate::loops::mixed;
 use crate::name::{Name, Way};
-use fallible_iterator::{FallibleIterator, Fault, IteratorExt};
+use fallible_iterator::{FallibleIterator, Fault, IteratorExt, convert};
 use std::alloc::{AllocError, Global};
 use std::convert::Infallible;
 
@@ -21,14 +23,12 @@ pub fn run(alloc: Global, way: Way, name: Name, n: u64) -> Result<u64, AllocErro
         Name::Scan => Ok(sure(scan(way, n))),
         Name::Nest => Ok(sure(nest(way, n))),
         Name::Chains => Ok(sure(chains(way, n))),
-    }
-}
-
-// The answer of what can't fail.
-fn sure(answer: Result<u64, Infallible>) -> u64 {
-    match answer {
-        Ok(value) => value,
-        Err(never) => match never {},
+        Name::Eight => Ok(sure(eight(way, n))),
+        Name::Short => Ok(sure(short(way, n))),
+        Name::Sparse => Ok(sure(sparse(way, n))),
+        Name::NextIf => Ok(sure(next_if(n))),
+        Name::Failures => Ok(failures(way, n)),
+        Name::Iterator => Ok(iterator(way, n)),
     }
 }
 
@@ -156,5 +156,50 @@ fn chains(way: Way, n: u64) -> Result<u64, Infallible> {
             .chain((0..n / 2).into_fallible())
             .map(|z: u64| Ok(z ^ 5))
             .inspect(|_: &u64| Ok(())),
+    )
+}
+
+// A fold into a struct of eight numbers.
+fn eight(way: Way, n: u64) -> Result<u64, Infallible> {
+    eight_of(way, (0..n).into_fallible().map(|x: u64| Ok(mixed(x, x))))
+}
+
+// Inner iterators of one to three numbers.
+fn short(way: Way, n: u64) -> Result<u64, Infallible> {
+    drained(
+        way,
+        (0..n / 2)
+            .into_fallible()
+            .flat_map(|x: u64| Ok((0..x % 3 + 1).into_fallible())),
+    )
+}
+
+// One number kept of a hundred.
+fn sparse(way: Way, n: u64) -> Result<u64, Infallible> {
+    drained(
+        way,
+        (0..n).into_fallible().filter(|x: &u64| Ok(*x % 100 == 0)),
+    )
+}
+
+// A parser that looks one number ahead.
+fn next_if(n: u64) -> Result<u64, Infallible> {
+    runs((0..n).into_fallible().peekable())
+}
+
+// A failure in the place of every third number.
+fn failures(way: Way, n: u64) -> u64 {
+    let answers = (0..n).map(|x: u64| if x % 3 == 0 { Err(x) } else { Ok(x) });
+    answered(way, convert(answers).map_err(|e: u64| e ^ 5), n)
+}
+
+// What std draws of a fallible iterator.
+fn iterator(way: Way, n: u64) -> u64 {
+    iterated(
+        way,
+        (0..n)
+            .into_fallible()
+            .map(|x: u64| Ok(mixed(x, x)))
+            .filter(|y: &u64| Ok(*y % 3 == 0)),
     )
 }

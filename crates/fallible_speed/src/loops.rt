@@ -1,4 +1,5 @@
 // The loops written by hand.
+use crate::eight::Eight;
 use crate::name::Name;
 use std::alloc::{AllocError, Global};
 
@@ -22,6 +23,12 @@ pub fn run(alloc: Global, name: Name, n: u64) -> Result<u64, AllocError> {
         Name::Scan => Ok(scan(n)),
         Name::Nest => Ok(nest(n)),
         Name::Chains => Ok(chains(n)),
+        Name::Eight => Ok(eight(n)),
+        Name::Short => Ok(short(n)),
+        Name::Sparse => Ok(sparse(n)),
+        Name::NextIf => Ok(next_if(n)),
+        Name::Failures => Ok(failures(n)),
+        Name::Iterator => Ok(fold(n)),
     }
 }
 
@@ -200,6 +207,60 @@ fn chains(n: u64) -> u64 {
     }
     for x in 0..n / 2 {
         value = mixed(value, x ^ 5);
+    }
+    value
+}
+
+fn eight(n: u64) -> u64 {
+    let mut eight = Eight::zero();
+    for x in 0..n {
+        eight = eight.with(mixed(x, x));
+    }
+    eight.all()
+}
+
+fn short(n: u64) -> u64 {
+    let mut value = 0;
+    for x in 0..n / 2 {
+        for y in 0..x % 3 + 1 {
+            value = mixed(value, y);
+        }
+    }
+    value
+}
+
+fn sparse(n: u64) -> u64 {
+    let mut value = 0;
+    for x in 0..n {
+        if x % 100 == 0 {
+            value = mixed(value, x);
+        }
+    }
+    value
+}
+
+fn next_if(n: u64) -> u64 {
+    let mut value = 0;
+    let mut run = 0;
+    for x in 0..n {
+        if x % 4 == 0 {
+            value = mixed(value, run);
+            run = x;
+        } else {
+            run = mixed(run, x);
+        }
+    }
+    mixed(value, run)
+}
+
+fn failures(n: u64) -> u64 {
+    let mut value = 0;
+    for x in 0..n {
+        if x % 3 == 0 {
+            value = mixed(value, x ^ 5);
+        } else {
+            value = mixed(value, x);
+        }
     }
     value
 }

@@ -5,6 +5,7 @@
 
 mod chains;
 mod draining;
+mod eight;
 mod loops;
 mod name;
 mod task;

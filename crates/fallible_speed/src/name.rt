@@ -15,11 +15,17 @@ pub enum Name {
     Scan,
     Nest,
     Chains,
+    Eight,
+    Short,
+    Sparse,
+    NextIf,
+    Failures,
+    Iterator,
 }
 
 impl Name {
     // Every name, in the order of the table.
-    pub fn all() -> [Name; 12] {
+    pub fn all() -> [Name; 18] {
         [
             Name::Count,
             Name::Fold,
@@ -33,6 +39,12 @@ impl Name {
             Name::Scan,
             Name::Nest,
             Name::Chains,
+            Name::Eight,
+            Name::Short,
+            Name::Sparse,
+            Name::NextIf,
+            Name::Failures,
+            Name::Iterator,
         ]
     }
 
@@ -51,6 +63,12 @@ impl Name {
             Name::Scan => "scan",
             Name::Nest => "nest",
             Name::Chains => "chains",
+            Name::Eight => "eight",
+            Name::Short => "short",
+            Name::Sparse => "sparse",
+            Name::NextIf => "next_if",
+            Name::Failures => "failures",
+            Name::Iterator => "iterator",
         }
     }
 

@@ -2,7 +2,7 @@
 ghost use Rattle.fallible_iterator.specs.Contract.{seen_as};
 ghost use Rattle.fallible_iterator.specs.Laws.Contract.{lawful_seen};
 
-use fallible_iterator::{Exit, FallibleIterator, Turn};
+use fallible_iterator::{FallibleIterator, Turn};
 use fallible_testing::numbers::numbers;
 use std::cell::Cell;
 
@@ -28,13 +28,13 @@ impl<'a, I: FallibleIterator<Item = u32, Error = u32>> FallibleIterator for Watc
         self.it.size_hint()
     }
 
-    fn try_fold_carrying<C, R, K: Turn<C, u32, R>>(
+    fn drive<C, R, K: Turn<C, u32, R>>(
         &mut self,
-        init: C,
+        state: &mut C,
         turn: &K,
-    ) -> Exit<C, u32, R> {
+    ) -> Result<Option<R>, u32> {
         self.folds.set(self.folds.get().wrapping_add(1));
-        self.it.try_fold_carrying(init, turn)
+        self.it.drive(state, turn)
     }
 
     ghost lawful = { lawful_seen (λ w. w.it) I.lawful };
