@@ -220,7 +220,7 @@ pub trait FallibleIterator: Drop + Sized {
 
     /// The last item up to the end; none where no item comes before it.
     ///
-    /// It draws up to the end or the first failure. It fails with that failure. It takes the iterator, and no clause says what is left.
+    /// It draws, fails and takes the iterator as `count` does.
     ///
     /// Asks that it may be drawn from and is finite.
     ///
@@ -335,7 +335,7 @@ pub trait FallibleIterator: Drop + Sized {
 
     /// `try_fold` on the iterator itself, where the closure fails with the iterator's own error.
     ///
-    /// It draws and fails as `try_fold` does, and converts no failure. It takes the iterator, and no clause says what is left.
+    /// It draws up to the end, the first failure or an item on which the closure fails. It fails with the failure that comes first, of this iterator or of the closure. It takes the iterator, and no clause says what is left.
     ///
     /// Asks what `try_fold` asks.
     ///
@@ -363,9 +363,7 @@ pub trait FallibleIterator: Drop + Sized {
 
     /// `fold` from the first item on: that item is the value so far, and the closure is called on it and each further item. None where no item comes.
     ///
-    /// It draws up to the end, the first failure or an item on which the closure fails. It fails with the failure that comes first, of this iterator or of the closure. It takes the iterator, and no clause says what is left.
-    ///
-    /// Asks that it may be drawn from and is finite, and that the closure may be called on the value so far and each item that may come.
+    /// It draws, fails, asks and takes the iterator as `fold` does.
     ///
     /// ```
     /// convert(readings.into_iter()).reduce(|sum, reading| Ok(sum.wrapping_add(reading)))
@@ -444,7 +442,7 @@ pub trait FallibleIterator: Drop + Sized {
     ///
     /// Making it draws nothing and calls nothing. One call draws until an item is kept, a failure comes or an end. It fails as the source does. Where the predicate fails, its failure is the answer, and the item is lost. After a failure and after an end the next call goes on.
     ///
-    /// Asks that it is finite, and that the predicate may be called on each item that may come, in each state that such calls bring it to. Draws ask that items can be let go.
+    /// Asks that it is finite, since one call may leave many items out, and of the predicate what `map` asks of its closure. Draws ask that items can be let go.
     ///
     /// ```
     /// convert(numbers.iter().copied().map(Ok))
@@ -470,7 +468,7 @@ pub trait FallibleIterator: Drop + Sized {
 
     /// Gives the source's answers up to the n-th item, and then ends. Failures and ends of the source pass, and don't count.
     ///
-    /// Making it draws nothing. One call draws one answer, and none after the n-th item. It fails as the source does. After a failure and after an end of the source the next call draws it again. After the n-th item it ends for good.
+    /// Making it draws nothing. One call draws one answer, and none after the n-th item. It fails as the source does. Up to the n-th item it goes on as `map`. After that item it ends for good.
     ///
     /// ```
     /// Bytes { reader }
@@ -490,9 +488,9 @@ pub trait FallibleIterator: Drop + Sized {
 
     /// Gives the items before the first one that the predicate refuses, which is lost, and ends there.
     ///
-    /// Making it draws nothing and calls nothing. One call draws one answer, and none after the refused item. It fails as the source does. Where the predicate fails, its failure is the answer, and the item is lost. After a failure and after an end of the source the next call draws it again. After the refused item it ends for good.
+    /// Up to the refused item it is made, draws, fails and goes on as `map`. After that item it draws nothing, and ends for good.
     ///
-    /// Asks that the predicate may be called on each item that may come, in each state that such calls bring it to. Draws ask that items can be let go.
+    /// Asks of the predicate what `map` asks of its closure. Draws ask that items can be let go.
     ///
     /// ```
     /// convert(readings.into_iter())
@@ -591,9 +589,9 @@ pub trait FallibleIterator: Drop + Sized {
 
     /// Replaces each item by the value that the closure answers on it, and leaves it out where the answer is none.
     ///
-    /// Making it draws nothing and calls nothing. One call draws until the closure answers a value, a failure comes or an end. It fails as the source does. Where the closure fails, its failure is the answer, and the item is lost. After a failure and after an end the next call goes on.
+    /// It is made, draws, fails and goes on as `filter`.
     ///
-    /// Asks that the source is finite, since one call may leave many items out, and that the closure may be called on each item that may come.
+    /// Asks that it is finite, as `filter` does, and of the closure what `map` asks.
     ///
     /// ```
     /// let answers = [Ok(1), Ok(2), Ok(3), Ok(4)];
@@ -620,9 +618,9 @@ pub trait FallibleIterator: Drop + Sized {
 
     /// Shows each item to the closure, and answers it then.
     ///
-    /// Making it draws nothing and calls nothing. One call draws one answer. It fails as the source does. Where the closure fails, its failure is the answer, and the item is lost. After a failure and after an end the next call draws the source again.
+    /// It is made, draws, fails and goes on as `map`.
     ///
-    /// Asks that the closure may be called on a reference to each item that may come. Draws ask that items can be let go.
+    /// Asks what `map` asks, of calls on a reference to each item. Draws ask that items can be let go.
     ///
     /// ```
     /// let answers = [Ok(1), Ok(2), Ok(3)];
@@ -646,7 +644,7 @@ pub trait FallibleIterator: Drop + Sized {
 
     /// Replaces each failure by the closure's value on it, which is called once for each failure and for nothing else.
     ///
-    /// Making it draws nothing and calls nothing. One call draws one answer. It fails where the source does, with the closure's value. After a failure and after an end the next call draws the source again.
+    /// It is made, draws and goes on as `map`. It fails where the source does, with the closure's value.
     ///
     /// Asks that the closure may be called on each failure that may come.
     ///
@@ -670,7 +668,7 @@ pub trait FallibleIterator: Drop + Sized {
 
     /// Puts each item beside the number of items drawn before it, from 0 on; failures and ends don't count.
     ///
-    /// Making it draws nothing. One call draws one answer. It fails as the source does. After a failure and after an end the next call draws the source again.
+    /// It is made, draws and goes on as `map`. It fails as the source does.
     ///
     /// Asks that at most `usize::MAX` items are still to come, so that each number fits. Draws ask that items can be let go, as its `count` and `nth` do.
     ///
@@ -690,9 +688,9 @@ pub trait FallibleIterator: Drop + Sized {
 
     /// Leaves out the items before the first one to which the predicate answers false, and asks it no more from there on.
     ///
-    /// Making it draws nothing and calls nothing. One call draws until an item is kept, a failure comes or an end. It fails as the source does. Where the predicate fails, its failure is the answer, the item is lost, and the skipping goes on. After a failure and after an end the next call goes on.
+    /// It is made, draws, fails and goes on as `filter`. Where the predicate fails, the skipping goes on.
     ///
-    /// Asks that the source is finite, since one call may leave many items out, and that the predicate may be called on a reference to each item that may come until it first answers false. Draws ask that items can be let go.
+    /// Asks that it is finite, as `filter` does, and that the predicate may be called on a reference to each item that may come until it first answers false. Draws ask that items can be let go.
     ///
     /// ```
     /// convert(readings.into_iter())
@@ -722,9 +720,7 @@ pub trait FallibleIterator: Drop + Sized {
 
     /// Replaces each item by the value that the closure answers on it, up to the first none, which is an end.
     ///
-    /// Making it draws nothing and calls nothing. One call draws one answer. It fails as the source does. Where the closure fails, its failure is the answer, and the item is lost. After a none, a failure and an end the next call draws the source again.
-    ///
-    /// Asks that the closure may be called on each item that may come, in each state that such calls bring it to.
+    /// It is made, draws, fails, asks and goes on as `map`, also after a none.
     ///
     /// ```
     /// convert(readings.into_iter())
@@ -748,7 +744,7 @@ pub trait FallibleIterator: Drop + Sized {
 
     /// Replaces each item by the closure's answer on the state and the item, where none is an end.
     ///
-    /// Making it draws nothing and calls nothing. One call draws one answer. It fails as the source does. Where the closure fails, its failure is the answer, and the item is lost. The state stays as the closure left it. After a none, a failure and an end the next call draws the source again.
+    /// It is made, draws, fails and goes on as `map`, also after a none. The state stays as the closure left it.
     ///
     /// Asks that the closure may be called on each item that may come, with each state that such calls lead to.
     ///
@@ -780,7 +776,7 @@ pub trait FallibleIterator: Drop + Sized {
 
     /// Replaces each item by a clone of what it points to.
     ///
-    /// Making it draws nothing. One call draws one answer. It fails as the source does. Where the clone is refused, the failure made of the refusal is the answer, and the item is lost. After a failure and after an end the next call draws the source again.
+    /// It is made, draws and goes on as `map`. It fails as the source does. Where the clone is refused, the failure made of the refusal is the answer, and the item is lost.
     ///
     /// ```
     /// let items = [1, 2, 3];
@@ -805,7 +801,7 @@ pub trait FallibleIterator: Drop + Sized {
 
     /// Swaps the ends: a draw from the adapter is a draw from behind, and the other way round.
     ///
-    /// Making it draws nothing. One call draws one answer, from the other end. It fails as that draw does. After a failure and after an end the next call draws the source again.
+    /// One call draws one answer, from the other end. It fails as that draw does. It is made and goes on as `map`.
     ///
     /// Asks nothing. Each draw asks that the source may be drawn from, from either end.
     ///
@@ -854,7 +850,7 @@ pub trait FallibleIterator: Drop + Sized {
 
     /// Pairs each item with one of `o`. Two items make a pair, and where neither fails, an end of either is an end.
     ///
-    /// Making it draws nothing. It calls `into_fallible_iter` once, and keeps what that gives. One call draws one answer, and then, where that isn't a failure, one of `o`, also at an end. It fails as this iterator does, or else as `o` does. An item beside a failure or an end is lost, and the next call draws both again.
+    /// It is made as `chain`. One call draws one answer, and then, where that isn't a failure, one of `o`, also at an end. It fails as this iterator does, or else as `o` does. An item beside a failure or an end is lost, and the next call draws both again.
     ///
     /// Asks nothing. Draws ask that both sides may be drawn from, and that items can be let go.
     ///
@@ -919,9 +915,9 @@ pub trait FallibleIterator: Drop + Sized {
 
     /// Joins the answers of the inner iterators that the closure makes of the items, as `flatten` does.
     ///
-    /// Making it draws nothing and calls nothing. One call draws as that of `flatten`, and fails as it does. Where the closure fails, its failure is the answer, that item is lost, and the next call goes on after it.
+    /// It is made, draws, fails and goes on as `flatten` of `map`.
     ///
-    /// Asks that it is finite, since many inner iterators may end at once, and that the closure may be called on each item that may come. Each draw asks that the inner iterator in hand and each that may come may be drawn from; a drain also asks that the one in hand is finite, and one bound that serves for each that may come.
+    /// Asks what `flatten` asks, at its making, a draw and a drain, and of the closure what `map` asks.
     ///
     /// ```
     /// convert(bounds.into_iter())
@@ -992,11 +988,9 @@ pub trait FallibleIterator: Drop + Sized {
         }
     }
 
-    /// Makes two collections of the items up to the end: of those on which the predicate answers true, and of the others. Of equal items a set keeps the first; a map keeps the first of equal keys, with its last value.
+    /// Makes two collections of the items up to the end: of those on which the predicate answers true, and of the others. The predicate is called once on each item. Of equal items they keep what those of `collect` keep.
     ///
-    /// It draws up to the end, the first failure, an item on which the predicate fails or one that a collection refuses. The predicate is called once on each item. That both are made before the first draw is tested and no part of the contract.
-    ///
-    /// It fails with `Fault::Source` of the first failure of the source or of the predicate, and with `Fault::Memory` where a collection refused: they are of a type whose making may be refused, or the item that was refused was the last one drawn. Of a collection that never refuses `Fault::Memory` is never answered. It takes the iterator, and no clause says what is left.
+    /// It draws, fails and takes the iterator as `collect` does. It stops also where the predicate fails, with `Fault::Source` of its failure.
     ///
     /// Asks that it may be drawn from and is finite, and that the predicate may be called on each item that may come.
     ///
@@ -1044,13 +1038,9 @@ pub trait FallibleIterator: Drop + Sized {
         }
     }
 
-    /// The first parts of the pairs up to the end in one collection, and the second parts in another. Of equal items a set keeps the first; a map keeps the first of equal keys, with its last value.
+    /// The first parts of the pairs up to the end in one collection, and the second parts in another. Of equal items they keep what those of `collect` keep.
     ///
-    /// It draws up to the end, the first failure or a pair that a collection refuses. That both are made before the first draw is tested and no part of the contract.
-    ///
-    /// It fails with `Fault::Source` of the first failure, before which all pairs were accepted, and with `Fault::Memory` where a collection refused: one is of a type whose making may be refused, or the pair that was refused was the last one drawn. That pair is lost. It takes the iterator, and no clause says what is left.
-    ///
-    /// Asks that it may be drawn from and is finite.
+    /// It draws, fails, asks and takes the iterator as `collect` does. Before a failure of the source all pairs were accepted. A pair that is refused is lost.
     ///
     /// ```
     /// convert(readings.into_iter()).enumerate().unzip(alloc)
@@ -1092,7 +1082,7 @@ pub trait FallibleIterator: Drop + Sized {
 
     /// Calls the closure on each item in order, up to the end.
     ///
-    /// It draws up to the end, the first failure or an item on which the closure fails. It fails with the failure that comes first, of this iterator or of the closure. It takes the iterator, and no clause says what is left.
+    /// It draws, fails and takes the iterator as `fold` does.
     ///
     /// Asks that it may be drawn from and is finite, and that the closure may be called on each item that may come.
     ///
@@ -1148,9 +1138,7 @@ pub trait FallibleIterator: Drop + Sized {
 
     /// Whether the predicate answers true on an item before the end.
     ///
-    /// It draws up to the first item on which the predicate answers true or fails, the first failure or the end. It fails with the failure that comes first, of this iterator or of the predicate. Nothing is drawn after the answer that decides, and what is left may be drawn from again.
-    ///
-    /// Asks that it may be drawn from and is finite, and that the predicate may be called on each item that may come until it decides.
+    /// It draws up to the first item on which the predicate answers true or fails, the first failure or the end. All else is as with `all`.
     ///
     /// ```
     /// convert(readings.into_iter())
@@ -1179,9 +1167,7 @@ pub trait FallibleIterator: Drop + Sized {
 
     /// The first item for which the predicate is true; none where no such item comes before the end.
     ///
-    /// It draws up to and with the first item on which the predicate answers true or fails, the first failure or the first end, and calls the predicate on each item drawn, in order. It fails with the failure that comes first, of this iterator or of the predicate. Nothing is drawn after the answer that decides, and what is left may be drawn from again.
-    ///
-    /// Asks that it may be drawn from and is finite, and that the predicate may be called on a reference to each item that may come until it first answers true.
+    /// It draws up to the first item on which the predicate answers true or fails, the first failure or the end, and calls the predicate on each item drawn, in order. All else is as with `all`, of calls on a reference to each item.
     ///
     /// ```
     /// let mut left = convert(readings.into_iter());
@@ -1213,9 +1199,7 @@ pub trait FallibleIterator: Drop + Sized {
 
     /// The first value that the closure answers on the items in order, each of which it is called on once; none where no value comes before the end.
     ///
-    /// It draws up to the first item on which the closure answers a value or fails, the first failure or the end. It fails with the failure that comes first, of this iterator or of the closure. Nothing is drawn after the answer that decides, and what is left may be drawn from again.
-    ///
-    /// Asks that it may be drawn from and is finite, and that the closure may be called on each item that may come until it decides.
+    /// It draws up to the first item on which the closure answers a value or fails, the first failure or the end. All else is as with `all`.
     ///
     /// ```
     /// let found = it.find_map(|x: u32| {
@@ -1247,9 +1231,7 @@ pub trait FallibleIterator: Drop + Sized {
 
     /// How many items come before the first one on which the predicate answers true; none where no such item comes before the end.
     ///
-    /// It draws up to the first item on which the predicate answers true or fails, the first failure or the end. It fails with the failure that comes first, of this iterator or of the predicate. Nothing is drawn after the answer that decides, and what is left may be drawn from again.
-    ///
-    /// Asks that it may be drawn from, that at most `usize::MAX` items are left, and that the predicate may be called on each item that may come until it decides.
+    /// It draws up to the first item on which the predicate answers true or fails, the first failure or the end. In place of a bound it asks that at most `usize::MAX` items are left. All else is as with `all`.
     ///
     /// ```
     /// match it.position(|x| Ok(x == 0))? {
@@ -1278,7 +1260,7 @@ pub trait FallibleIterator: Drop + Sized {
 
     /// The greatest item, of equal ones the last; none where no item comes before the end.
     ///
-    /// It draws up to the end or the first failure. It fails with that failure. It takes the iterator, and no clause says what is left.
+    /// It draws, fails and takes the iterator as `count` does.
     ///
     /// Asks that it may be drawn from and is finite.
     ///
@@ -1301,11 +1283,7 @@ pub trait FallibleIterator: Drop + Sized {
         best_by(self, Ordering::Greater, compare)
     }
 
-    /// The least item, of equal ones the last; none where no item comes before the end.
-    ///
-    /// It draws up to the end or the first failure. It fails with that failure. It takes the iterator, and no clause says what is left.
-    ///
-    /// Asks that it may be drawn from and is finite.
+    /// The least item. All else is as with `max`.
     ///
     /// ```
     /// convert(readings.into_iter())
@@ -1330,7 +1308,7 @@ pub trait FallibleIterator: Drop + Sized {
 
     /// The item of the greatest key, of equal ones the last; none where no item comes before the end. The closure makes the key of each item once, in order.
     ///
-    /// It draws up to the end, the first failure or an item on which the closure fails. It fails with the failure that comes first, of this iterator or of the closure. It takes the iterator, and no clause says what is left.
+    /// It draws, fails and takes the iterator as `fold` does.
     ///
     /// Asks that it may be drawn from and is finite, and that the closure may be called on each item that may come.
     ///
@@ -1358,11 +1336,7 @@ pub trait FallibleIterator: Drop + Sized {
         without_key(best_by_key(self, Ordering::Greater, f))
     }
 
-    /// The item of the least key, of equal ones the last; none where no item comes before the end. The closure makes the key of each item once, in order.
-    ///
-    /// It draws up to the end, the first failure or an item on which the closure fails. It fails with the failure that comes first, of this iterator or of the closure. It takes the iterator, and no clause says what is left.
-    ///
-    /// Asks that it may be drawn from and is finite, and that the closure may be called on each item that may come.
+    /// The item of the least key. All else is as with `max_by_key`.
     ///
     /// ```
     /// let it = convert(answers.iter().copied());
@@ -1386,7 +1360,7 @@ pub trait FallibleIterator: Drop + Sized {
 
     /// The greatest item by the closure, which is called on the best item so far and the next one; of equal ones the last, and none where no item comes before the end.
     ///
-    /// It draws up to the end, the first failure or an item on which the closure fails. It fails with the failure that comes first, of this iterator or of the closure. It takes the iterator, and no clause says what is left.
+    /// It draws, fails and takes the iterator as `fold` does.
     ///
     /// Asks that it may be drawn from and is finite, and that the closure may be called on the best item so far and each item that may come.
     ///
@@ -1409,11 +1383,7 @@ pub trait FallibleIterator: Drop + Sized {
         best_by(self, Ordering::Greater, f)
     }
 
-    /// The least item by the closure, which is called on the best item so far and the next one; of equal ones the last, and none where no item comes before the end.
-    ///
-    /// It draws up to the end, the first failure or an item on which the closure fails. It fails with the failure that comes first, of this iterator or of the closure. It takes the iterator, and no clause says what is left.
-    ///
-    /// Asks that it may be drawn from and is finite, and that the closure may be called on the best item so far and each item that may come.
+    /// The least item by the closure. All else is as with `max_by`.
     ///
     /// ```
     /// let mut it = convert(answers.iter().copied());
@@ -1654,7 +1624,7 @@ pub trait FallibleIterator: Drop + Sized {
 
     /// Lets the next answer be looked at ahead: an item or an end that `peek` saw is held, and comes first.
     ///
-    /// Making it draws nothing, and holds nothing. One call draws one answer, and none where an answer is held. It fails as the source does. After a failure and after an end the next call draws the source again.
+    /// Making it draws nothing, and holds nothing. One call draws one answer, and none where an answer is held. It fails as the source does. It goes on as `map`.
     ///
     /// ```
     /// let mut ahead = it.peekable();
@@ -1768,7 +1738,7 @@ pub trait FallibleIterator: Drop + Sized {
 
     /// A std iterator over the items.
     ///
-    /// Making it draws nothing. One call of its `next` draws one answer, and never fails. It draws again whenever it is asked again.
+    /// It is made and drawn from as `iterator`.
     ///
     /// Asks that no failure can ever come, and so it never panics.
     ///

@@ -17,7 +17,7 @@ use Rattle.fallible_core.specs.declared.joining.chain.StillDrawn.{StillDrawn}
 use Rattle.fallible_core.specs.declared.joining.chain.StillDrawn.TheVariants.{Both, FirstAlone, SecondAlone}
 
 -- An adapter that calls a closure on each item: what becomes of each item by the closure's answer, where that answer stands beside the item, whatever state the calls bring the closure to; and the list function of what the closure acts as.
-pub record ListsByClosure {V S F X R B E : Type 0} (parts : V → S × Option F) (call : F → X → R → F → Type 0) (outcome : X → R → Outcome B E) (list : (X → R) → List (Result X E) → List (Result B E)) (lists_source : S → List (Result X E) → Type 0) (lists : V → List (Result B E) → Type 0) : Type 0 where
+pub record ListsByClosure {V S F X R B E : Type 0} (parts : V → S × F) (call : F → X → R → F → Type 0) (outcome : X → R → Outcome B E) (list : (X → R) → List (Result X E) → List (Result B E)) (lists_source : S → List (Result X E) → Type 0) (lists : V → List (Result B E) → Type 0) : Type 0 where
   pub steady : (s : V) (it : S) (f : F) (asked : List (Result (X × R) E)) → parts s ≡ (it, f) → Steady call f (items_listed asked) → lists_source it (source_list asked) → lists s (passed_list outcome asked)
   pub acts : (s : V) (it : S) (f : F) (h : X → R) (l : List (Result X E)) → parts s ≡ (it, f) → Acts call f h → lists_source it l → lists s (list h l)
 

@@ -23,10 +23,10 @@ RunsAsSource {V = V} {A = A} {E = E} source_of can source steps = (s : V) (trace
 
 -- the parts of the types within such a nest
 module _ {S P F : Type 0} where
-  abbrev pub map_of : Take (Map (Filter S P) F) → Filter S P × Option F
+  abbrev pub map_of : Take (Map (Filter S P) F) → Filter S P × F
   map_of s = map_parts (take_source s)
 
-  abbrev pub filter_of : Take (Map (Filter S P) F) → S × Option P
+  abbrev pub filter_of : Take (Map (Filter S P) F) → S × P
   filter_of s = filter_parts (map_of s).0
 
   abbrev pub source_of : Take (Map (Filter S P) F) → S

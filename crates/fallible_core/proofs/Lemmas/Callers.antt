@@ -5,13 +5,12 @@ use Rattle.std.specs.Fn.{Mut}
 use Rattle.std.specs.Borrow.{Bor}
 use Rattle.fallible_contract.specs.Traces.{Answered, Run, item, failure, end}
 use Rattle.fallible_contract.specs.Contract.{Contract, Lawful, AtMost, seen_as}
-use Rattle.fallible_contract.specs.Closures.{call_at, call_in}
+use Rattle.fallible_contract.specs.Closures.{call_at}
 use Rattle.fallible_contract.specs.Lists.{Acts}
 use Rattle.fallible_contract.specs.Folds.{HoldsAtEachTurn, CountExit, FoldExit, Folded}
 use Rattle.fallible_contract.specs.Passing.{PassTrace}
 use Rattle.fallible_contract.specs.Laws.Passing.{Passes, done, end_passes, failure_passes, keeps, refuses, closes, leaves_out, to_passes}
 use Rattle.fallible_contract.proofs.Lemmas.LawForm.{runs_by_answers}
-use Rattle.fallible_contract.proofs.Lemmas.Lists.Passing.{acts_in_slot}
 use Rattle.fallible_contract.proofs.Lemmas.Folds.{count_fits}
 use Rattle.fallible_contract.proofs.Lemmas.Passing.{passing_by_answers}
 use Rattle.fallible_core.specs.Cutting.Take.{take_step, take_contract, take_parts}
@@ -80,7 +79,7 @@ module _ {A E F : Type 0} {call : F → ℕ → A → Result ℕ E → F → Typ
 
   -- its result is the number of the items
   pub fold_counted : {S : Type 0} {steps : S → Answered A E → S → Type 0} {from : E → E → Type 0} {s t : S} {f : F} {r : Result ℕ E} → ((e d : E) → from e d → d ≡ e) → (h : Folded steps call from s 0 f r t) → CountExit (length h.items) h.last r
-  fold_counted {from = from} {f = f} {r = r} same h = subst (λ n. CountExit n h.last r) (let e = counted_up h.items 0 h.value (counts_beside (λ p x q w. let e = counts p.1 p.0 x (Ok q.0) q.1 w in cc) h.items (0, f) (h.value, h.closure) h.went) in omega (arith, e)) (exit_counted from same h.value h.closure h.last r h.exit)
+  fold_counted {from = from} {f = f} {r = r} same h = subst (λ n. CountExit n h.last r) (let e = counted_up h.items 0 h.at.value (counts_beside (λ p x q w. let e = counts p.1 p.0 x (Ok q.0) q.1 w in cc) h.items (0, f) (h.at.value, h.at.closure) h.at.went) in omega (arith, e)) (exit_counted from same h.at.value h.at.closure h.last r h.at.exit)
 
 -- where at most k items are to come, a fold that counts may take its turn where it may at each number below k
 pub callable_counting : {S A E F : Type 0} {m : Contract S A E} {Q : ℕ × F → A → ℕ × F → Type 0} {P : ℕ × F → A → Type 0} {s : S} {f : F} (k : ℕ) → ((p : ℕ × F) (x : A) (q : ℕ × F) → Q p x q → q.0 ≡ p.0 + 1) → ((p : ℕ × F) (x : A) → p.0 < k → P p x) → Lawful m → m.can_next s → AtMost m s k → HoldsAtEachTurn {C = ℕ × F} m.steps Q P s (0, f)
@@ -147,14 +146,14 @@ module _ {S F X E : Type 0} (steps : S → Answered X E → S → Type 0) (call 
   pub below_run : (xs : List X) (last : Answered X E) (p q : S × F) → p.1 ≡ fixed → Run (λ p r q. PassTrace steps call tested_outcome p (r ∷ []) q) p (map item xs ++ last ∷ []) q → Below p.0 xs last q.0
   below_run xs last p q at ran = below_passes xs last p.0 q.0 p.1 q.1 _ at refl (to_passes ((runs_by_answers _ (passing_by_answers steps call tested_outcome) p _ q).0 ran))
 
--- a closure in its slot acts as the closure does, also in a slot that equals it
-acts_from : {F X R : Type 0} (call : F → X → R → F → Type 0) (f : F) (h : X → R) → Acts call f h → (s : Option F) (x : X) (v : R) (t : Option F) → s ≡ Some f → call_in call s x v t → (t ≡ Some f) × (v ≡ h x)
-acts_from call f h acts s x v t e c = acts_in_slot call f h acts x v t (subst (λ z. call_in call z x v t) e c)
+-- a closure that equals one that acts as a function acts so
+acts_from : {F X R : Type 0} (call : F → X → R → F → Type 0) (f : F) (h : X → R) → Acts call f h → (k : F) (x : X) (v : R) (g : F) → k ≡ f → call k x v g → (g ≡ f) × (v ≡ h x)
+acts_from call f h acts k x v g e c = acts x v g (subst (λ z. call z x v g) e c)
 
-pub filtered_run : {I F X E : Type 0} (m : Contract I X E) (g : Mut F (Bor X × Unit {0}) (Result Bool E)) (h : X → Bool) (f : F) (it : I) (s t : Filter I F) (xs : List X) (last : Answered X E) → Acts (call_at g) f (λ x. Ok (h x)) → filter_parts s ≡ (it, Some f) → Run (seen_as filter_parts (filter_contract m g)).steps s (map item xs ++ last ∷ []) t → FilteredRun m.steps h it xs last t.it
+pub filtered_run : {I F X E : Type 0} (m : Contract I X E) (g : Mut F (Bor X × Unit {0}) (Result Bool E)) (h : X → Bool) (f : F) (it : I) (s t : Filter I F) (xs : List X) (last : Answered X E) → Acts (call_at g) f (λ x. Ok (h x)) → filter_parts s ≡ (it, f) → Run (seen_as filter_parts (filter_contract m g)).steps s (map item xs ++ last ∷ []) t → FilteredRun m.steps h it xs last t.it
 filtered_run {I = I} m g h f it s t xs last acts parts ran =
     let at : s.it ≡ it = ap (λ p. p.0) parts in
-    subst (λ (i : I). FilteredRun m.steps h i xs last t.it) at (below_run m.steps (call_in (call_at g)) (Some f) h (acts_from (call_at g) f (λ x. Ok (h x)) acts) xs last (filter_parts s) (filter_parts t) (ap (λ p. p.1) parts) (run_seen filter_parts _ (map item xs ++ last ∷ []) s t ran))
+    subst (λ (i : I). FilteredRun m.steps h i xs last t.it) at (below_run m.steps (call_at g) f h (acts_from (call_at g) f (λ x. Ok (h x)) acts) xs last (filter_parts s) (filter_parts t) (ap (λ p. p.1) parts) (run_seen filter_parts _ (map item xs ++ last ∷ []) s t ran))
 
 -- ---- `Take`
 

@@ -55,8 +55,8 @@ module _ {S A E : Type 0} (front back : S → Answered A E → S → Type 0) whe
     pub fold_left_in_front : {s t : S} {b : B} {r : Result B E'} (l : List (Result A E)) → Folded front call from s b f r t → ListsBothEnds front back s l → ListsBothEnds front back t (behind_fold h b l)
     fold_left_in_front {s = s} {t = t} {b = b} {r = r} l c i =
         let d = left_at_last c.items c.last l s t i c.ran in
-        let p = front_fold call from h f acts c.items d.rest b c.value c.closure c.went in
-        subst (λ (k : List (Result A E)). ListsBothEnds front back t k) (sym (ap (behind_fold h b) d.list_is ∙ p.1)) (fold_left c.last c.value r d.rest t (subst (λ (g : F). FoldExit call from c.value g c.last r) p.0 c.exit) d.taken)
+        let p = front_fold call from h f acts c.items d.rest b c.at.value c.at.closure c.at.went in
+        subst (λ (k : List (Result A E)). ListsBothEnds front back t k) (sym (ap (behind_fold h b) d.list_is ∙ p.1)) (fold_left c.last c.at.value r d.rest t (subst (λ (g : F). FoldExit call from c.at.value g c.last r) p.0 c.at.exit) d.taken)
 
 -- the same from behind
 pub fold_left_behind : {S A E F B E' : Type 0} (front back : S → Answered A E → S → Type 0) (call : F → B → A → Result B E' → F → Type 0) (from : E → E' → Type 0) (h : B → A → Result B E') (f : F) → ActsWith call f h → {s t : S} {b : B} {r : Result B E'} (l : List (Result A E)) → Folded back call from s b f r t → ListsBothEnds front back s l → ListsBothEnds front back t (reverse (behind_fold h b (reverse l)))

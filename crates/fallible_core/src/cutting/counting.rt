@@ -14,16 +14,24 @@ where
     requires { I.contract.can_next it.old }
     ensures { SkipTrace I.contract.steps (it.old, left.old) (result ∷ []) (it.new, left.new) }
 {
+    let mut still = *left;
     loop {
         match it.next() {
             Ok(Some(x)) => {
-                if *left == 0 {
+                if still == 0 {
+                    *left = still;
                     return Ok(Some(x));
                 }
             }
-            Ok(None) => return Ok(None),
-            Err(e) => return Err(e),
+            Ok(None) => {
+                *left = still;
+                return Ok(None);
+            }
+            Err(e) => {
+                *left = still;
+                return Err(e);
+            }
         }
-        *left -= 1;
+        still -= 1;
     }
 }

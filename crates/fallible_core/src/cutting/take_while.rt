@@ -1,5 +1,5 @@
 // The adapter that ends at the first item which a predicate refuses.
-ghost use Rattle.std.specs.Prelude.{◌≡◌, Result, Option};
+ghost use Rattle.std.specs.Prelude.{Result, Option};
 ghost use Rattle.fallible_contract.specs.Contract.{seen_as};
 ghost use Rattle.fallible_contract.specs.Closures.{call_at, takes_at};
 ghost use Rattle.fallible_contract.specs.Laws.Contract.{lawful_seen};

@@ -109,7 +109,7 @@ module _ {A E : Type 0} where
 
 -- The same after `nth(k)` over it, which came to an item.
 pub behind_lent_nth : {S A E : Type 0} {steps : S → Answered A E → S → Type 0} {it : MutBor S} {s t : Take (MutBor S)} {o : Option A} {x : S} (k : ℕ) {l : List (Result A E)} → x ≡ t.it.now → take_parts s ≡ (it, suc k) → Nth (lent_steps steps) s k (Ok o) t → Lists steps it.now l → ¬ (nth_of k l ≡ Ok None) → Lists steps x (behind_nth k l)
-behind_lent_nth {steps = steps} {it = it} {s = s} {t = t} {o = o} {x = x} k {l = l} back parts h i no_end =
+behind_lent_nth {A = A} {E = E} {steps = steps} {it = it} {s = s} {t = t} {o = o} {x = x} k {l = l} back parts h i no_end =
     let left : Lists steps t.it.now (behind_nth k l) = record { runs = item_behind (unbounded_contract steps) k l it t.it h.items o h.at.exit no_end i.runs (taken_run (borrowed (unbounded_contract steps)) (suc k) it s t h.items (Ok o) parts (subst (λ (r : Answered A E). Run (lent_steps steps) s (map item h.items ++ r ∷ []) t) h.at.is h.ran)) } in
     rw back left
 

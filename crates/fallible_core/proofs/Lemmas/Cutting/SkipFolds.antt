@@ -4,11 +4,13 @@ use Rattle.std.specs.List.{FoldsTo}
 use Rattle.std.proofs.Common.{refl, sym, subst, ◌∙◌, arith}
 use Rattle.fallible_contract.specs.Traces.{Answered, Run, item}
 use Rattle.fallible_contract.specs.Contract.{Contract, seen_as}
-use Rattle.fallible_contract.specs.Folds.{Drained, HoldsAtEachTurn, goes_on, DriveExit, Driven, IsNthTurn}
+use Rattle.fallible_contract.specs.Folds.{HoldsAtEachTurn, goes_on, DriveExit, Driven, IsNthTurn}
 use Rattle.fallible_contract.proofs.Lemmas.Counting.{Leaves, none, keeps_item, keeps_end, keeps_failure, leaves_out, left_out_first, moved, nothing_left}
 use Rattle.fallible_contract.proofs.Lemmas.Folding.{holds_into, drained_into}
+use Rattle.fallible_contract.proofs.Lemmas.Folds.{holds_after, driven_after}
 use Rattle.fallible_core.specs.Cutting.Skip.{skip_parts, skip_step, skip_contract}
 use Rattle.fallible_core.proofs.Lemmas.Cutting.Skip.{skip_leaves, leaves_skip, plain_draw}
+use Rattle.std.specs.declared.ops.ControlFlow.{ControlFlow}
 use Rattle.fallible_core.specs.declared.cutting.skip.Skip.{Skip}
 
 module _ {S A E : Type 0} (steps : S → Answered A E → S → Type 0) where
@@ -46,15 +48,19 @@ skip m = seen_as skip_parts (skip_contract m)
 abbrev past : {S : Type 0} → S → Skip S
 past s = record { it = s; to_skip = 0 }
 
-module _ {S A E : Type 0} (m : Contract S A E) where
-  pub item_is_past : (s t : Skip S) (x : A) → (skip m).steps s (item x) t → t.to_skip ≡ 0
-  item_is_past s t x step = none_left m.steps (skip_leaves m.steps {p = skip_parts s} {q = skip_parts t} step)
+module _ {S A E : Type 0} (m : Contract S A E) (s : Skip S) where
+  -- the fold up to the first item that stays is one draw
+  pub reaching : {t : S} {k : ℕ} {r : Answered A E} → Driven m.steps IsNthTurn s.it s.to_skip r t k → (skip m).steps s r (record { it = t; to_skip = k })
+  reaching w = skips_reached m.steps w
 
-  module _ {s : Skip S} (at : s.to_skip ≡ 0) where
-    -- what holds at each turn of it holds at each of the source
-    pub holds_past : {C : Type 0} {on : C → A → C → Type 0} {P : C → A → Type 0} {c : C} → HoldsAtEachTurn (skip m).steps on P s c → HoldsAtEachTurn m.steps on P s.it c
-    holds_past {on = on} {P = P} {c = c} h = holds_into past (λ p x q step. past_step m.steps p (item x) q step) (subst (λ (n : ℕ). HoldsAtEachTurn (skip m).steps on P (record { it = s.it; to_skip = n }) c) at h)
+  module _ {t : S} {k : ℕ} {x : A} (w : Driven m.steps IsNthTurn s.it s.to_skip (item x) t k) where
+    nothing_more : k ≡ 0
+    nothing_more = none_left m.steps (skip_leaves m.steps {p = skip_parts s} {q = (t, k)} (reaching w))
 
-    -- and a drain of the source is one of it
-    pub drained_past : {came : List A → Answered A E → Type 0} {t : S} → Drained m.steps came s.it t → Drained (skip m).steps came s (record { it = t; to_skip = s.to_skip })
-    drained_past {came = came} {t = t} w = subst (λ (n : ℕ). Drained (skip m).steps came (record { it = s.it; to_skip = n }) (record { it = t; to_skip = n })) (sym at) (drained_into past (λ p r q step. past_step m.steps p r q step) w)
+    -- after that item what holds at each turn holds at each turn of the source
+    pub holds_past : {C : Type 0} {on : C → A → C → Type 0} {P : C → A → Type 0} {c d : C} → HoldsAtEachTurn (skip m).steps on P s c → on c x d → HoldsAtEachTurn m.steps on P t d
+    holds_past {on = on} {P = P} {d = d} h turn = holds_into past (λ p x q step. past_step m.steps p (item x) q step) (subst (λ (n : ℕ). HoldsAtEachTurn (skip m).steps on P (record { it = t; to_skip = n }) d) nothing_more (holds_after h (reaching w) turn))
+
+    -- and a fold of the source is the rest of the fold
+    pub driven_past : {C R : Type 0} {turns : C → A → ControlFlow R (Unit {0}) → C → Type 0} {c d z : C} {r : Answered R E} {u : S} → goes_on turns c x d → Driven m.steps turns t d r u z → Driven (skip m).steps turns s c r (record { it = u; to_skip = k }) z
+    driven_past {turns = turns} {d = d} {z = z} {r = r} {u = u} turn rest = driven_after x (reaching w) turn (subst (λ (n : ℕ). Driven (skip m).steps turns (record { it = t; to_skip = n }) d r (record { it = u; to_skip = n }) z) (sym nothing_more) (drained_into past (λ p r q step. past_step m.steps p r q step) rest))

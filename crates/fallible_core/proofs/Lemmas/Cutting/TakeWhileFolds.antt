@@ -90,8 +90,8 @@ module _ {S F X E : Type 0} (m : Contract S X E) (a : Mut F (Bor X × Unit {0}) 
 
     module _ (unrefused : s.taking.0 ≡ false) where
       -- what becomes of one answer of the source is one draw
-      pub taking_step : {t : S} {q : Bool × F} {r : Answered X E} (drawn : Answered X E) → m.steps s.it drawn t → PassAnswer Calls take_while_outcome s.taking drawn r q → steps s r (of_parts (t, q))
-      taking_step {t = t} {q = q} {r = r} drawn step h = drawn_open (s.it, s.taking) r (t, q) unrefused (answer_passed drawn step h)
+      pub taking_step : {t : S} (q : Bool × F) (r drawn : Answered X E) → m.steps s.it drawn t → PassAnswer Calls take_while_outcome s.taking drawn r q → steps s r (of_parts (t, q))
+      taking_step {t = t} q r drawn step h = drawn_open (s.it, s.taking) r (t, q) unrefused (answer_passed drawn step h)
 
       -- where its turns may be taken, the source's may
       pub taking_takes : {C R : Type 0} (turns : C → X → ControlFlow R (Unit {0}) → C → Type 0) {P : C → X → Type 0} {c : C} → Lawful m → m.can_next s.it → IsCallable (call_at a) (takes_at a) (m.may_give s.it) s.taking.1 → HoldsAtEachTurn steps (goes_on turns) P s c

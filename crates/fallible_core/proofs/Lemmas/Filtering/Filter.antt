@@ -6,7 +6,7 @@ use Rattle.std.specs.Borrow.{Bor}
 use Rattle.fallible_contract.specs.Contract.{Contract, seen_as}
 use Rattle.fallible_contract.specs.Closures.{call_at}
 use Rattle.fallible_contract.specs.Lists.{Lists, Acts}
-use Rattle.fallible_contract.proofs.Lemmas.Lists.Passing.{passed, by_outcome, lists_seen, lists_acting}
+use Rattle.fallible_contract.proofs.Lemmas.Lists.Passing.{passed, by_outcome, lists_seen, lists_passed}
 use Rattle.fallible_core.specs.Filtering.Filter.{tested_outcome, filter_parts, filter_contract, cons_if, filtered}
 use Rattle.fallible_contract.specs.declared.passing.Outcome.TheVariants.{End}
 use Rattle.fallible_core.specs.declared.filtering.filter.Filter.{Filter}
@@ -30,4 +30,4 @@ filtered_is h (Err e ∷ l) = ap (λ t. Err e ∷ t) (filtered_is h l)
 
 pub lists_filtered : {S F X E : Type 0} (m : Contract S X E) (g : Mut F (Bor X × Unit {0}) (Result Bool E)) (s : Filter S F) (f : F) (h : X → Result Bool E) (l : List (Result X E)) → filter_parts s ≡ (s.it, f) → Acts (call_at g) f h → Lists m.steps s.it l
     → Lists (seen_as filter_parts (filter_contract m g)).steps s (filtered h l)
-lists_filtered m g s f h l parts a i = lists_seen filter_parts (filter_contract m g).steps s parts (filtered_is h l) (lists_acting (call_at g) f h a m.steps tested_outcome s.it l i.runs)
+lists_filtered m g s f h l parts a i = lists_seen filter_parts (filter_contract m g).steps s parts (filtered_is h l) (lists_passed (call_at g) f h a m.steps tested_outcome s.it l i.runs)

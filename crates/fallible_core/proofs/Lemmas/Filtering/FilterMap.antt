@@ -5,7 +5,7 @@ use Rattle.std.specs.Fn.{Mut}
 use Rattle.fallible_contract.specs.Contract.{Contract, seen_as}
 use Rattle.fallible_contract.specs.Closures.{call_on}
 use Rattle.fallible_contract.specs.Lists.{Lists, Acts}
-use Rattle.fallible_contract.proofs.Lemmas.Lists.Passing.{passed, by_outcome, lists_seen, lists_acting}
+use Rattle.fallible_contract.proofs.Lemmas.Lists.Passing.{passed, by_outcome, lists_seen, lists_passed}
 use Rattle.fallible_core.specs.Filtering.FilterMap.{filter_map_outcome, filter_map_parts, filter_map_contract, cons_some, filter_mapped}
 use Rattle.fallible_contract.specs.declared.passing.Outcome.TheVariants.{End}
 use Rattle.fallible_core.specs.declared.filtering.filter_map.FilterMap.{FilterMap}
@@ -29,4 +29,4 @@ filter_mapped_is h (Err e ∷ l) = ap (λ t. Err e ∷ t) (filter_mapped_is h l)
 
 pub lists_filter_mapped : {S F X B E : Type 0} (m : Contract S X E) (g : Mut F (X × Unit {0}) (Result (Option B) E)) (s : FilterMap S F) (f : F) (h : X → Result (Option B) E) (l : List (Result X E)) → filter_map_parts s ≡ (s.it, f) → Acts (call_on g) f h → Lists m.steps s.it l
     → Lists (seen_as filter_map_parts (filter_map_contract m g)).steps s (filter_mapped h l)
-lists_filter_mapped m g s f h l parts a i = lists_seen filter_map_parts (filter_map_contract m g).steps s parts (filter_mapped_is h l) (lists_acting (call_on g) f h a m.steps filter_map_outcome s.it l i.runs)
+lists_filter_mapped m g s f h l parts a i = lists_seen filter_map_parts (filter_map_contract m g).steps s parts (filter_mapped_is h l) (lists_passed (call_on g) f h a m.steps filter_map_outcome s.it l i.runs)

@@ -38,7 +38,6 @@ module _ {S F X E : Type 0} (m : Contract S X E) (g : Mut F (Bor X × Unit {0}) 
   abbrev past : F → S → SkipWhile S F
   past f s = record { it = s; skipping = (true, f) }
 
-  -- a draw of the source is one of it then
   past_step : (f : F) (s t : S) (r : Answered X E) → m.steps s r t → steps (past f s) r (past f t)
   past_step f s t r step = from_passes (run_passes m.steps (call_at g) (r ∷ []) s t f (t, step, refl))
 
@@ -46,16 +45,14 @@ module _ {S F X E : Type 0} (m : Contract S X E) (g : Mut F (Bor X × Unit {0}) 
   item_is_past s t x step = found_by_item m.steps (call_at g) s.it t.it s.skipping t.skipping (item x ∷ []) x refl (to_passes step)
 
   module _ {s : SkipWhile S F} (at : s.skipping.0 ≡ true) where
-    abbrev past_at : S → Bool → SkipWhile S F
-    past_at t b = record { it = t; skipping = (b, s.skipping.1) }
-
+    -- a draw of the source is one of it
     pub step_past : {r : Answered X E} {t : S} → m.steps s.it r t → steps s r (record { it = t; skipping = s.skipping })
-    step_past {r = r} {t = t} step = subst (λ (b : Bool). steps (past_at s.it b) r (past_at t b)) (sym at) (past_step s.skipping.1 s.it t r step)
+    step_past {r = r} {t = t} step = subst (λ (b : Bool). steps (record { it = s.it; skipping = (b, s.skipping.1) }) r (record { it = t; skipping = (b, s.skipping.1) })) (sym at) (past_step s.skipping.1 s.it t r step)
 
     -- what holds at each turn of it holds at each of the source
     pub holds_past : {C : Type 0} {goes : C → X → C → Type 0} {P : C → X → Type 0} {c : C} → HoldsAtEachTurn steps goes P s c → HoldsAtEachTurn m.steps goes P s.it c
-    holds_past {goes = goes} {P = P} {c = c} h = holds_into {held = steps} (past s.skipping.1) (λ p x q step. past_step s.skipping.1 p q (item x) step) (subst (λ (b : Bool). HoldsAtEachTurn steps goes P (past_at s.it b) c) at h)
+    holds_past {goes = goes} {P = P} {c = c} h = holds_into {held = steps} (past s.skipping.1) (λ p x q step. past_step s.skipping.1 p q (item x) step) (subst (λ (b : Bool). HoldsAtEachTurn steps goes P (record { it = s.it; skipping = (b, s.skipping.1) }) c) at h)
 
     -- and draws of the source are draws of it
     pub drained_past : {came : List X → Answered X E → Type 0} {t : S} → Drained m.steps came s.it t → Drained steps came s (record { it = t; skipping = s.skipping })
-    drained_past {came = came} {t = t} w = subst (λ (b : Bool). Drained steps came (past_at s.it b) (past_at t b)) (sym at) (drained_into {held = steps} (past s.skipping.1) (λ p r q step. past_step s.skipping.1 p q r step) w)
+    drained_past {came = came} {t = t} w = subst (λ (b : Bool). Drained steps came (record { it = s.it; skipping = (b, s.skipping.1) }) (record { it = t; skipping = (b, s.skipping.1) })) (sym at) (drained_into {held = steps} (past s.skipping.1) (λ p r q step. past_step s.skipping.1 p q r step) w)

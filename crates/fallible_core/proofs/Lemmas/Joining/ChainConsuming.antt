@@ -4,8 +4,8 @@ use Rattle.std.specs.List.{FoldsTo, last_or}
 use Rattle.std.proofs.Common.{refl, sym, ◌∙◌, ap, subst, arith, length-append}
 use Rattle.fallible_contract.specs.Traces.{Answered, item, end, is_end, items_in}
 use Rattle.fallible_contract.specs.Contract.{Contract, AtMost, Lawful, seen_as}
-use Rattle.fallible_contract.specs.Folds.{Drained, CountExit, Counted, LastExit, LastOf}
-use Rattle.fallible_contract.specs.Searching.{Passed, Decided, SearchExit, find_pick}
+use Rattle.fallible_contract.specs.Folds.{Drained, CountExit, CountedBy, Counted, LastExit, LastBy, LastOf}
+use Rattle.fallible_contract.specs.Searching.{Passed, Decided, SearchExit, SearchedBy, find_pick}
 use Rattle.fallible_contract.specs.Laws.Closures.{turns_then}
 use Rattle.fallible_contract.proofs.Lemmas.Contract.{number_of_at_most}
 use Rattle.fallible_contract.proofs.Lemmas.BoundsRuns.{items_at_most}
@@ -38,8 +38,8 @@ count_more n k (Ok None) r h = ap (λ z. added n z) h
 count_more n k (Err e) r h = ap (λ z. added n z) h
 count_more n k (Ok (Some x)) r h = absurd h
 
-count_joins : {A E : Type 0} {n : ℕ} (r : Result ℕ E) (xs ys : List A) (met last : Answered A E) → CountExit (length xs) met (Ok n) → CountExit (length ys) last r → (met ≡ end) × CountExit (length (xs ++ ys)) last (added n r)
-count_joins {n = n} r xs ys met last f b = let over = count_at_end (length xs) n met f in (over.0, subst (λ (k : ℕ). CountExit k last (added n r)) (omega (arith, over.1, length-append xs ys)) (count_more n (length ys) last r b))
+count_joins : {A E : Type 0} {n : ℕ} (r : Result ℕ E) (xs ys : List A) (met last : Answered A E) → CountedBy (Ok n) xs met → CountedBy r ys last → (met ≡ end) × CountedBy (added n r) (xs ++ ys) last
+count_joins {n = n} r xs ys met last f b = let over = count_at_end (length xs) n met f.exit in (over.0, record { exit = subst (λ (k : ℕ). CountExit k last (added n r)) (omega (arith, over.1, length-append xs ys)) (count_more n (length ys) last r b.exit) })
 
 items_then : {A E : Type 0} (items : List A) (last : Answered A E) → length items ≤ items_in (map item items ++ last ∷ [])
 items_then [] last = omega arith
@@ -48,7 +48,7 @@ items_then (x ∷ items) last = let h = items_then items last in omega (arith, h
 -- what was counted is within a bound
 counted_within : {S A E : Type 0} {m : Contract S A E} → Lawful m → {s : S} (n k : ℕ) → m.can_next s → m.bound s n → Counted m.steps s (Ok k) → k ≤ n
 counted_within l {s} n k c b (left, h) = let most = items_at_most l (map item h.items ++ h.last ∷ []) s left n c b h.ran in
-    let over = count_at_end (length h.items) k h.last h.at in let items = items_then h.items h.last in omega (arith, most, over.1, items)
+    let over = count_at_end (length h.items) k h.last h.at.exit in let items = items_then h.items h.last in omega (arith, most, over.1, items)
 
 -- ---- last
 
@@ -85,8 +85,8 @@ last_more xs ys o (Ok None) r is h = ap (λ z. or_before o z) h ∙ last_or_befo
 last_more xs ys o (Err e) r is h = ap (λ z. or_before o z) h
 last_more xs ys o (Ok (Some x)) r is h = absurd h
 
-last_joins : {A E : Type 0} {o : Option A} (r : Result (Option A) E) (xs ys : List A) (met last : Answered A E) → LastExit xs met (Ok o) → LastExit ys last r → (met ≡ end) × LastExit (xs ++ ys) last (or_before o r)
-last_joins {o = o} r xs ys met last f b = let over = last_at_end xs o met f in (over.0, last_more xs ys o last r over.1 b)
+last_joins : {A E : Type 0} {o : Option A} (r : Result (Option A) E) (xs ys : List A) (met last : Answered A E) → LastBy (Ok o) xs met → LastBy r ys last → (met ≡ end) × LastBy (or_before o r) (xs ++ ys) last
+last_joins {o = o} r xs ys met last f b = let over = last_at_end xs o met f.exit in (over.0, record { exit = last_more xs ys o last r over.1 b.exit })
 
 -- ---- searches
 
@@ -101,10 +101,6 @@ picks_some n x false e = absurd cc
 module _ {A E F : Type 0} (tests : F → A → Result Bool E → F → Type 0) where
   abbrev Exit : ℕ → F → Answered A E → Answered A E → F → Type 0
   Exit n f last r g = SearchExit tests find_pick None n f last r g
-
-  -- what comes to a search from the state f that answers r and leaves g
-  abbrev Came : F → Answered A E → F → List A → Answered A E → Type 0
-  Came f r g items last = (h : F) × FoldsTo (Passed tests find_pick) f items h × Exit (length items) h last r g
 
   search_at_end : (n : ℕ) (f g : F) (last : Answered A E) → Exit n f last (Ok None) g → (last ≡ end) × (g ≡ f)
   search_at_end n f g (Ok None) h = (refl, h.1)
@@ -127,47 +123,47 @@ module _ {A E F : Type 0} (tests : F → A → Result Bool E → F → Type 0) w
   search_later n k f g (Ok (Some x)) r h = decided_later n k f g x r h
 
   -- a search that found none met an end, and went on up to there; else it met none
-  pub search_met_end : {f g : F} (items : List A) (last : Answered A E) → Came f (Ok None) g items last → (last ≡ end) × FoldsTo (Passed tests find_pick) f items g
-  search_met_end {f} {g} items last h = let over = search_at_end (length items) h.0 g last h.2 in (over.0, subst (λ (z : F). FoldsTo (Passed tests find_pick) f items z) (sym over.1) h.1)
+  pub search_met_end : {f g : F} (items : List A) (last : Answered A E) → SearchedBy tests find_pick None f (Ok None) g items last → (last ≡ end) × FoldsTo (Passed tests find_pick) f items g
+  search_met_end {f} {g} items last h = let over = search_at_end (length items) h.closure g last h.exit in (over.0, subst (λ (z : F). FoldsTo (Passed tests find_pick) f items z) (sym over.1) h.went)
 
-  pub search_met_none : {f g : F} {r : Answered A E} → is_end r ≡ false → (items : List A) (last : Answered A E) → Came f r g items last → is_end last ≡ false
-  search_met_none {g = g} {r = r} goes items last h = search_no_end (length items) h.0 g last r goes h.2
+  pub search_met_none : {f g : F} {r : Answered A E} → is_end r ≡ false → (items : List A) (last : Answered A E) → SearchedBy tests find_pick None f r g items last → is_end last ≡ false
+  search_met_none {g = g} {r = r} goes items last h = search_no_end (length items) h.closure g last r goes h.exit
 
   -- a search that found none, and then another from where it left the state
-  pub search_joins : {f g k : F} {r : Answered A E} (xs ys : List A) (met last : Answered A E) → Came f (Ok None) g xs met → Came g r k ys last → (met ≡ end) × Came f r k (xs ++ ys) last
-  search_joins {k = k} {r = r} xs ys met last a b = let over = search_met_end xs met a in (over.0, (b.0, turns_then _ xs ys _ _ _ over.1 b.1, search_later (length ys) (length (xs ++ ys)) b.0 k last r b.2))
+  pub search_joins : {f g k : F} {r : Answered A E} (xs ys : List A) (met last : Answered A E) → SearchedBy tests find_pick None f (Ok None) g xs met → SearchedBy tests find_pick None g r k ys last → (met ≡ end) × SearchedBy tests find_pick None f r k (xs ++ ys) last
+  search_joins {k = k} {r = r} xs ys met last a b = let over = search_met_end xs met a in (over.0, record { closure = b.closure; went = turns_then _ xs ys _ _ _ over.1 b.went; exit = search_later (length ys) (length (xs ++ ys)) b.closure k last r b.exit })
 
 -- ---- draws of `Chain` of which no clause says what they leave
 
 abbrev chain : {S U A E : Type 0} → Contract S A E → Contract U A E → Contract (Chain S U) A E
 chain first second = seen_as chain_parts (chain_contract first second)
 
+-- draws up to a last answer, which left something
+abbrev Drains : {S A E : Type 0} → Contract S A E → (List A → Answered A E → Type 0) → S → Type 0
+Drains {S} m came s = (left : S) × Drained m.steps came s left
+
 module _ {S U A E : Type 0} (first : Contract S A E) (second : Contract U A E) {s : Chain S U} where
   module _ {came : List A → Answered A E → Type 0} where
-    -- it left something
-    abbrev Draws : Type 0
-    Draws = (left : Chain S U) × Drained (chain first second).steps came s left
-
-    pub left_first_alone : s.still_drawn ≡ FirstAlone → (left : S) × Drained first.steps came s.first left → Draws
+    pub left_first_alone : s.still_drawn ≡ FirstAlone → Drains first came s.first → Drains (chain first second) came s
     left_first_alone is h = (of_parts (h.0, s.second, FirstAlone), drains_first_alone chain_parts of_parts (λ p. refl) first second is refl refl h.1)
 
-    pub left_second_alone : s.still_drawn ≡ SecondAlone → (left : U) × Drained second.steps came s.second left → Draws
+    pub left_second_alone : s.still_drawn ≡ SecondAlone → Drains second came s.second → Drains (chain first second) came s
     left_second_alone is h = (of_parts (s.first, h.0, SecondAlone), drains_second_alone chain_parts of_parts (λ p. refl) first second is refl refl h.1)
 
-    left_both : s.still_drawn ≡ Both → ((items : List A) (last : Answered A E) → came items last → is_end last ≡ false) → (left : S) × Drained first.steps came s.first left → Draws
+    left_both : s.still_drawn ≡ Both → ((items : List A) (last : Answered A E) → came items last → is_end last ≡ false) → Drains first came s.first → Drains (chain first second) came s
     left_both is other h = (of_parts (h.0, s.second, s.still_drawn), drains_first chain_parts of_parts (λ p. refl) first second (both_not_second is) refl refl other h.1)
 
-    left_over : {before after : List A → Answered A E → Type 0} → s.still_drawn ≡ Both → ((xs ys : List A) (met last : Answered A E) → before xs met → after ys last → (met ≡ end) × came (xs ++ ys) last) → (left : S) × Drained first.steps before s.first left → (left : U) × Drained second.steps after s.second left → Draws
+    left_over : {before after : List A → Answered A E → Type 0} → s.still_drawn ≡ Both → ((xs ys : List A) (met last : Answered A E) → before xs met → after ys last → (met ≡ end) × came (xs ++ ys) last) → Drains first before s.first → Drains second after s.second → Drains (chain first second) came s
     left_over is joins f b = (of_parts (f.0, b.0, SecondAlone), drains_over chain_parts of_parts (λ p. refl) first second is refl joins f.1 b.1)
 
   pub counts_failure : {e : E} → s.still_drawn ≡ Both → Counted first.steps s.first (Err e) → Counted (chain first second).steps s (Err e)
-  counts_failure {e} is h = left_both is (λ items last c. count_no_end (length items) last e c) h
+  counts_failure {e} is h = left_both is (λ items last c. count_no_end (length items) last e c.exit) h
 
   pub counts_over : {n : ℕ} (r : Result ℕ E) → s.still_drawn ≡ Both → Counted first.steps s.first (Ok n) → Counted second.steps s.second r → Counted (chain first second).steps s (added n r)
   counts_over r is f b = left_over is (count_joins r) f b
 
   pub lasts_failure : {e : E} → s.still_drawn ≡ Both → LastOf first.steps s.first (Err e) → LastOf (chain first second).steps s (Err e)
-  lasts_failure {e} is h = left_both is (λ items last c. last_no_end items last e c) h
+  lasts_failure {e} is h = left_both is (λ items last c. last_no_end items last e c.exit) h
 
   pub lasts_over : {o : Option A} (r : Result (Option A) E) → s.still_drawn ≡ Both → LastOf first.steps s.first (Ok o) → LastOf second.steps s.second r → LastOf (chain first second).steps s (or_before o r)
   lasts_over r is f b = left_over is (last_joins r) f b

@@ -5,7 +5,7 @@ use Rattle.std.proofs.Common.{refl, sym, ◌∙◌, ap, ap₂, subst, inl, inr, 
 use Rattle.std.proofs.lemmas.List.{map-append}
 use Rattle.fallible_contract.specs.Traces.{Answered, Run, Yields, NoEnd, item, end, is_end}
 use Rattle.fallible_contract.specs.Contract.{Contract, seen_as}
-use Rattle.fallible_contract.specs.Folds.{Drained, HoldsAtEachTurn, goes_on, DriveExit}
+use Rattle.fallible_contract.specs.Folds.{Drained, HoldsAtEachTurn, goes_on, DriveExit, DrivenBy}
 use Rattle.fallible_contract.specs.Laws.Closures.{turns_then}
 use Rattle.fallible_contract.proofs.Lemmas.Folding.{drained_into, holds_into}
 use Rattle.fallible_contract.proofs.Lemmas.Overriding.{holds_held, drained_held}
@@ -51,10 +51,6 @@ yields_first steps (x ∷ items) last s t ran = let h = yields_first steps items
 -- ---- what came to a fold
 
 module _ {A E C R : Type 0} (turns : C → A → ControlFlow R (Unit {0}) → C → Type 0) where
-  -- what comes to a fold from the state c that answers r and leaves d
-  abbrev pub DriveCame : C → Answered R E → C → List A → Answered A E → Type 0
-  DriveCame c r d items last = (z : C) × FoldsTo (goes_on turns) c items z × DriveExit turns z last r d
-
   exit_at_end : (z d : C) (last : Answered A E) → DriveExit turns z last (Ok None) d → (last ≡ end) × (z ≡ d)
   exit_at_end z d (Ok None) h = (refl, sym h.1)
   exit_at_end z d (Err e) h = absurd (let f = h.0 in cc)
@@ -66,15 +62,15 @@ module _ {A E C R : Type 0} (turns : C → A → ControlFlow R (Unit {0}) → C 
   exit_elsewhere z d (Ok (Some x)) r other h = refl
 
   -- a fold that ended met an end, and its turns went on up to there; else it met none
-  pub drive_met_end : {c d : C} (items : List A) (last : Answered A E) → DriveCame c (Ok None) d items last → (last ≡ end) × FoldsTo (goes_on turns) c items d
-  drive_met_end {c} {d} items last h = let over = exit_at_end h.0 d last h.2 in (over.0, subst (λ (z : C). FoldsTo (goes_on turns) c items z) over.1 h.1)
+  pub drive_met_end : {c d : C} (items : List A) (last : Answered A E) → DrivenBy turns c (Ok None) d items last → (last ≡ end) × FoldsTo (goes_on turns) c items d
+  drive_met_end {c} {d} items last h = let over = exit_at_end h.carried d last h.exit in (over.0, subst (λ (z : C). FoldsTo (goes_on turns) c items z) over.1 h.went)
 
-  pub drive_met_none : {c d : C} {r : Answered R E} → (r ≡ Ok None → ⊥) → (items : List A) (last : Answered A E) → DriveCame c r d items last → is_end last ≡ false
-  drive_met_none {d = d} {r = r} other items last h = exit_elsewhere h.0 d last r other h.2
+  pub drive_met_none : {c d : C} {r : Answered R E} → (r ≡ Ok None → ⊥) → (items : List A) (last : Answered A E) → DrivenBy turns c r d items last → is_end last ≡ false
+  drive_met_none {d = d} {r = r} other items last h = exit_elsewhere h.carried d last r other h.exit
 
   -- a fold that ended, and then another from where it left the state
-  pub drive_joins : {c d z : C} {r : Answered R E} (xs ys : List A) (met last : Answered A E) → DriveCame c (Ok None) d xs met → DriveCame d r z ys last → (met ≡ end) × DriveCame c r z (xs ++ ys) last
-  drive_joins xs ys met last f b = let over = drive_met_end xs met f in (over.0, (b.0, turns_then _ xs ys _ _ _ over.1 b.1, b.2))
+  pub drive_joins : {c d z : C} {r : Answered R E} (xs ys : List A) (met last : Answered A E) → DrivenBy turns c (Ok None) d xs met → DrivenBy turns d r z ys last → (met ≡ end) × DrivenBy turns c r z (xs ++ ys) last
+  drive_joins xs ys met last f b = let over = drive_met_end xs met f in (over.0, record { carried = b.carried; went = turns_then _ xs ys _ _ _ over.1 b.went; exit = b.exit })
 
 -- ---- by which of its sides are drawn
 

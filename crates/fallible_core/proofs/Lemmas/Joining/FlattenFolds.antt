@@ -89,7 +89,7 @@ module _ {S X C B E : Type 0} (m : Contract S X E) (into : X → C → Type 0) (
 
     -- A fold of the outer source by that turn is a fold of the whole.
     driven_joined : {s t : S} {p q : V × Option C} {r : Answered (Answered R E) E} → p.1 ≡ None → Driven m.steps Joins s p r t q → Driven Draw turns (s, None) p.0 (within r) (t, q.1) q.0
-    driven_joined {s = s} {t = t} {p = p} {q = q} {r = r} is f = items_joined f.items f.last s t p f.at.0 q r is f.ran f.at.1 f.at.2
+    driven_joined {s = s} {t = t} {p = p} {q = q} {r = r} is f = items_joined f.items f.last s t p f.at.carried q r is f.ran f.at.went f.at.exit
 
     -- The same, where the caller's state and the inner iterator in hand stand behind references. What was lent is what is behind those that came back, once they are known to be the same.
     pub driven_beside : {s t : S} {b d : Beside V (Option C)} {r : Answered (Answered R E) E} (hand : Option C) (v : V) → b.p.now ≡ None → Driven m.steps (TurnBehind beside beside_names Joins) s b r t d

@@ -7,7 +7,7 @@ use Rattle.fallible_contract.specs.Contract.{Contract, seen_as}
 use Rattle.fallible_contract.specs.Closures.{call_at}
 use Rattle.fallible_contract.specs.Passing.{LeavesNoneOut}
 use Rattle.fallible_contract.specs.Lists.{Lists, Acts}
-use Rattle.fallible_contract.proofs.Lemmas.Lists.Passing.{passed, by_outcome, lists_seen, lists_acting}
+use Rattle.fallible_contract.proofs.Lemmas.Lists.Passing.{passed, by_outcome, lists_seen, lists_passed}
 use Rattle.fallible_core.specs.OneToOne.Inspect.{inspect_outcome, inspect_parts, inspect_contract, once_seen, inspected}
 use Rattle.fallible_contract.specs.declared.passing.Outcome.TheVariants.{End}
 use Rattle.fallible_core.specs.declared.one_to_one.inspect.Inspect.{Inspect}
@@ -29,7 +29,7 @@ inspected_is h (Err e ∷ l) = ap (λ t. Err e ∷ t) (inspected_is h l)
 
 pub lists_inspected : {S F X E : Type 0} (m : Contract S X E) (g : Mut F (Bor X × Unit {0}) (Result (Unit {0}) E)) (s : Inspect S F) (f : F) (h : X → Result (Unit {0}) E) (l : List (Result X E)) → inspect_parts s ≡ (s.it, f) → Acts (call_at g) f h → Lists m.steps s.it l
     → Lists (seen_as inspect_parts (inspect_contract m g)).steps s (inspected h l)
-lists_inspected m g s f h l parts a i = lists_seen inspect_parts (inspect_contract m g).steps s parts (inspected_is h l) (lists_acting (call_at g) f h a m.steps inspect_outcome s.it l i.runs)
+lists_inspected m g s f h l parts a i = lists_seen inspect_parts (inspect_contract m g).steps s parts (inspected_is h l) (lists_passed (call_at g) f h a m.steps inspect_outcome s.it l i.runs)
 
 -- it leaves nothing out
 pub leaves_none_out : {X E : Type 0} → LeavesNoneOut {X = X} {B = X} {E = E} inspect_outcome

@@ -6,7 +6,7 @@ use Rattle.fallible_contract.specs.Contract.{Contract, seen_as}
 use Rattle.fallible_contract.specs.Closures.{call_on}
 use Rattle.fallible_contract.specs.Passing.{LeavesNoneOut}
 use Rattle.fallible_contract.specs.Lists.{Lists, Acts}
-use Rattle.fallible_contract.proofs.Lemmas.Lists.Passing.{passed, by_outcome, lists_seen, lists_acting}
+use Rattle.fallible_contract.proofs.Lemmas.Lists.Passing.{passed, by_outcome, lists_seen, lists_passed}
 use Rattle.fallible_core.specs.OneToOne.Map.{map_outcome, map_parts, map_contract, mapped}
 use Rattle.fallible_contract.specs.declared.passing.Outcome.TheVariants.{End}
 use Rattle.fallible_core.specs.declared.one_to_one.map.Map.{Map}
@@ -28,7 +28,7 @@ mapped_is h (Err e ∷ l) = ap (λ t. Err e ∷ t) (mapped_is h l)
 
 pub lists_mapped : {S F X B E : Type 0} (m : Contract S X E) (g : Mut F (X × Unit {0}) (Result B E)) (s : Map S F) (f : F) (h : X → Result B E) (l : List (Result X E)) → map_parts s ≡ (s.it, f) → Acts (call_on g) f h → Lists m.steps s.it l
     → Lists (seen_as map_parts (map_contract m g)).steps s (mapped h l)
-lists_mapped m g s f h l parts a i = lists_seen map_parts (map_contract m g).steps s parts (mapped_is h l) (lists_acting (call_on g) f h a m.steps map_outcome s.it l i.runs)
+lists_mapped m g s f h l parts a i = lists_seen map_parts (map_contract m g).steps s parts (mapped_is h l) (lists_passed (call_on g) f h a m.steps map_outcome s.it l i.runs)
 
 -- it leaves nothing out
 pub leaves_none_out : {X B E : Type 0} → LeavesNoneOut {X = X} {B = B} {E = E} map_outcome

@@ -12,7 +12,7 @@ use Rattle.fallible_contract.specs.BothEnds.{ListsBothEnds, items_listed, failur
 use Rattle.fallible_contract.proofs.Lemmas.LawForm.{IsByAnswers, answers_renamed}
 use Rattle.fallible_contract.proofs.Lemmas.Passing.{passing_by_answers, answer_passed}
 use Rattle.fallible_contract.proofs.Lemmas.Exchange.{gives_exchanged, listed_exchanged, list_exchanged_twice}
-use Rattle.fallible_contract.proofs.Lemmas.Lists.Passing.{passed, lists_seen, lists_acting}
+use Rattle.fallible_contract.proofs.Lemmas.Lists.Passing.{passed, lists_seen, lists_passed}
 use Rattle.fallible_contract.proofs.Lemmas.BothEnds.Passing.{listed_passed, listed_by_function}
 use Rattle.fallible_core.specs.OneToOne.MapErr.{failures_mapped, map_err_outcome, MapErrTrace, MapErrAnswer, map_err_parts, map_err_contract}
 use Rattle.fallible_contract.specs.declared.passing.Outcome.TheVariants.{End}
@@ -46,7 +46,7 @@ mapped_back h l = ap (map exchanged_result) (mapped_exchanged (passed map_err_ou
 pub lists_failures_mapped : {S F X D E : Type 0} (m : Contract S X D) (g : Mut F (D × Unit {0}) E) (s : MapErr S F) (f : F) (h : D → E) (l : List (Result X D)) → map_err_parts s ≡ (s.it, f) → Acts (call_on g) f h → Lists m.steps s.it l
     → Lists (seen_as map_err_parts (map_err_contract m g)).steps s (failures_mapped h l)
 lists_failures_mapped m g s f h l parts a i = lists_seen map_err_parts (map_err_contract m g).steps s parts (mapped_back h l)
-    (gives_exchanged (passing_step (steps_exchanged m.steps) (call_on g) map_err_outcome) _ (s.it, f) (lists_acting (call_on g) f h a (steps_exchanged m.steps) map_err_outcome s.it (map exchanged_result l) (gives_exchanged m.steps l s.it i.runs)))
+    (gives_exchanged (passing_step (steps_exchanged m.steps) (call_on g) map_err_outcome) _ (s.it, f) (lists_passed (call_on g) f h a (steps_exchanged m.steps) map_err_outcome s.it (map exchanged_result l) (gives_exchanged m.steps l s.it i.runs)))
 
 -- the failures of a list are the items of the list exchanged
 asked_exchanged : {A E : Type 0} (l : List (Result A E)) → items_listed (map exchanged_result l) ≡ failures_listed l

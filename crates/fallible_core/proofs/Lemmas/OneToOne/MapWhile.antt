@@ -5,7 +5,7 @@ use Rattle.std.specs.Fn.{Mut}
 use Rattle.fallible_contract.specs.Closures.{call_on}
 use Rattle.fallible_contract.specs.Contract.{Contract, seen_as}
 use Rattle.fallible_contract.specs.Lists.{Lists, Acts}
-use Rattle.fallible_contract.proofs.Lemmas.Lists.Passing.{passed, lists_seen, lists_acting}
+use Rattle.fallible_contract.proofs.Lemmas.Lists.Passing.{passed, lists_seen, lists_passed}
 use Rattle.fallible_core.specs.OneToOne.Scan.{cons_or_end, scan_outcome}
 use Rattle.fallible_core.specs.OneToOne.MapWhile.{map_while_parts, map_while_contract, mapped_while}
 use Rattle.fallible_core.proofs.Lemmas.OneToOne.Scan.{outcome_listed}
@@ -19,4 +19,4 @@ mapped_while_is h (Err e ∷ l) = ap (λ t. Err e ∷ t) (mapped_while_is h l)
 
 pub lists_mapped_while : {S F X B E : Type 0} (m : Contract S X E) (g : Mut F (X × Unit {0}) (Result (Option B) E)) (s : MapWhile S F) (f : F) (h : X → Result (Option B) E) (l : List (Result X E)) → map_while_parts s ≡ (s.it, f) → Acts (call_on g) f h → Lists m.steps s.it l
     → Lists (seen_as map_while_parts (map_while_contract m g)).steps s (mapped_while h l)
-lists_mapped_while m g s f h l parts a i = lists_seen map_while_parts (map_while_contract m g).steps s parts (mapped_while_is h l) (lists_acting (call_on g) f h a m.steps scan_outcome s.it l i.runs)
+lists_mapped_while m g s f h l parts a i = lists_seen map_while_parts (map_while_contract m g).steps s parts (mapped_while_is h l) (lists_passed (call_on g) f h a m.steps scan_outcome s.it l i.runs)

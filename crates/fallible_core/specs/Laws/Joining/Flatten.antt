@@ -116,7 +116,7 @@ module _ {S X C B E : Type 0} (m : Contract S X E) (l : Lawful m) (into : X → 
   }
 
   -- an inner iterator that ended is dropped
-  pub dropped : (s : S) (c : C) → M.can_next (s, Some c) → KeptByDraws M (s, Some c) (s, None)
+  dropped : (s : S) (c : C) → M.can_next (s, Some c) → KeptByDraws M (s, Some c) (s, None)
   dropped s c can = record {
     can_next = (can.0, can.1, tt, can.3);
     is_finite = λ e. (e.0, tt, e.2);

@@ -6,7 +6,7 @@ use Rattle.fallible_contract.proofs.Lemmas.Lists.Searched.{each_is}
 use Rattle.fallible_core.proofs.traits.FallibleIterator.for_each.Goals as goal
 
 pub returns-clause-searched : goal.returns-clause-searched
-returns-clause-searched g c = let d = searched {call = call_on g.F.FnMut} {pick = each_pick} tt (λ f x r w. w) c.drive.ensures c.answer_or.ensures in (c.drive.new.self, d.0, d.1)
+returns-clause-searched g c = let d = searched {call = call_on g.F.FnMut} {pick = each_pick} tt (λ f x r g w. w) c.drive.ensures c.answer_or.ensures in (c.drive.new.self, _, d)
 
 pub returns-clause-value : goal.returns-clause-value
-returns-clause-value g c h l acts i = each_is l i {call = call_on g.F.FnMut} h acts (searched {call = call_on g.F.FnMut} {pick = each_pick} tt (λ f x r w. w) c.drive.ensures c.answer_or.ensures).1
+returns-clause-value g c h l acts i = each_is l i {call = call_on g.F.FnMut} h acts (searched {call = call_on g.F.FnMut} {pick = each_pick} tt (λ f x r g w. w) c.drive.ensures c.answer_or.ensures)

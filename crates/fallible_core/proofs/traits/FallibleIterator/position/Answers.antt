@@ -12,13 +12,13 @@ pub drive-requires-clause-callable : goal.drive-requires-clause-callable
 drive-requires-clause-callable g c = placed_callable (call_on g.F.FnMut) position_pick _ g.met.Self.FallibleIterator.lawful c.requires.can_next c.requires.fits c.requires.callable
 
 pub returns-clause-searched : goal.returns-clause-searched
-returns-clause-searched g c = searched_placed {call = call_on g.F.FnMut} {pick = position_pick} None (λ p x r w. w) c.drive.ensures c.answer_or_none.ensures
+returns-clause-searched g c = (_, searched_placed {call = call_on g.F.FnMut} {pick = position_pick} None (λ p x r q w. w) c.drive.ensures c.answer_or_none.ensures)
 
 pub returns-clause-value : goal.returns-clause-value
-returns-clause-value g c h l acts i = position_is l i {call = call_on g.F.FnMut} h acts (searched_placed {call = call_on g.F.FnMut} {pick = position_pick} None (λ p x r w. w) c.drive.ensures c.answer_or_none.ensures).1
+returns-clause-value g c h l acts i = position_is l i {call = call_on g.F.FnMut} h acts (searched_placed {call = call_on g.F.FnMut} {pick = position_pick} None (λ p x r q w. w) c.drive.ensures c.answer_or_none.ensures)
 
 pub returns-clause-rest : goal.returns-clause-rest
-returns-clause-rest g c h l acts i no_end = behind_place l i {call = call_on g.F.FnMut} h acts (searched_placed {call = call_on g.F.FnMut} {pick = position_pick} None (λ p x r w. w) c.drive.ensures c.answer_or_none.ensures).1 no_end
+returns-clause-rest g c h l acts i no_end = behind_place l i {call = call_on g.F.FnMut} h acts (searched_placed {call = call_on g.F.FnMut} {pick = position_pick} None (λ p x r q w. w) c.drive.ensures c.answer_or_none.ensures) no_end
 
 pub returns-clause-stays : goal.returns-clause-stays
 returns-clause-stays g c = stays_run g.met.Self.FallibleIterator.lawful _ _ _ c.requires.can_next c.drive.ensures.ran

@@ -1,27 +1,26 @@
--- The fold that carries a reference to both collections collects the pairs.
+-- The fold whose state is both collections collects the pairs.
 use Rattle.std.specs.Prelude.{Ok, Err}
-use Rattle.std.proofs.Common.{inr, rules}
+use Rattle.std.proofs.Common.{inr}
 use Rattle.fallible_contract.specs.Collecting.{MadeOfParts, PairRefused}
 use Rattle.fallible_contract.proofs.Lemmas.Collecting.{collected_all, collect_failed, collect_refused, pair_pushed}
-use Rattle.fallible_contract.proofs.Lemmas.Folds.{ended_behind, failed_behind, stopped_behind}
 use Rattle.fallible_contract.proofs.Lemmas.Lists.Drawn.{unzipped_as, contents_unzipped, failure_unzipped, not_unzipped_as}
 use Rattle.fallible_contract.specs.declared.collecting.Fault.TheVariants.{Source}
 use Rattle.fallible_core.proofs.traits.FallibleIterator.unzip.Goals as goal
 
-pub returns-in-Ended-clause-collects : goal.returns-in-Ended-clause-collects
-returns-in-Ended-clause-collects g c = collected_all {refuses = PairRefused g.FromA.Collect.made g.FromB.Collect.made g.FromA.Collect.push_refuses g.FromB.Collect.push_refuses} (λ d x r p. pair_pushed g.FromA.Collect.made g.FromB.Collect.made g.FromA.Collect.push_refuses g.FromB.Collect.push_refuses d x r p) (c.in-Ok.ensures, c.in-Ok-empty.ensures) (ended_behind _ _ _ c.in-Ended.ensures.carried (λ same. search rules))
+pub returns-in-Ok-None-clause-collects : goal.returns-in-Ok-None-clause-collects
+returns-in-Ok-None-clause-collects g c = collected_all {refuses = PairRefused g.FromA.Collect.made g.FromB.Collect.made g.FromA.Collect.push_refuses g.FromB.Collect.push_refuses} (λ d x r e p. pair_pushed g.FromA.Collect.made g.FromB.Collect.made g.FromA.Collect.push_refuses g.FromB.Collect.push_refuses d x r e p) (c.in-Ok.ensures, c.in-Ok-empty.ensures) (rw c.in-Ok-None.field-0-is at c.in-Ok-None.ensures)
 
-pub returns-in-Ended-clause-value : goal.returns-in-Ended-clause-value
-returns-in-Ended-clause-value g c l i = unzipped_as g.FromA.Collect.made g.FromB.Collect.made ⊥ (PairRefused g.FromA.Collect.made g.FromB.Collect.made g.FromA.Collect.push_refuses g.FromB.Collect.push_refuses) (Ok _) l (returns-in-Ended-clause-collects g c) i
-
-pub returns-in-Failed-clause-collects : goal.returns-in-Failed-clause-collects
-returns-in-Failed-clause-collects g c = collect_failed {made = MadeOfParts g.FromA.Collect.made g.FromB.Collect.made} {refuses = PairRefused g.FromA.Collect.made g.FromB.Collect.made g.FromA.Collect.push_refuses g.FromB.Collect.push_refuses} (λ d x r p. pair_pushed g.FromA.Collect.made g.FromB.Collect.made g.FromA.Collect.push_refuses g.FromB.Collect.push_refuses d x r p) (c.in-Ok.ensures, c.in-Ok-empty.ensures) (failed_behind _ _ _ c.in-Failed.ensures.carried)
-
-pub returns-in-Failed-clause-value : goal.returns-in-Failed-clause-value
-returns-in-Failed-clause-value g c l i = unzipped_as g.FromA.Collect.made g.FromB.Collect.made ⊥ (PairRefused g.FromA.Collect.made g.FromB.Collect.made g.FromA.Collect.push_refuses g.FromB.Collect.push_refuses) (Err (Source _)) l (returns-in-Failed-clause-collects g c) i
+pub returns-in-Ok-None-clause-value : goal.returns-in-Ok-None-clause-value
+returns-in-Ok-None-clause-value g c l i = unzipped_as g.FromA.Collect.made g.FromB.Collect.made ⊥ (PairRefused g.FromA.Collect.made g.FromB.Collect.made g.FromA.Collect.push_refuses g.FromB.Collect.push_refuses) (Ok _) l (returns-in-Ok-None-clause-collects g c) i
 
 pub returns-clause-collects : goal.returns-clause-collects
-returns-clause-collects g c = inr (collect_refused {made = MadeOfParts g.FromA.Collect.made g.FromB.Collect.made} {refuses = PairRefused g.FromA.Collect.made g.FromB.Collect.made g.FromA.Collect.push_refuses g.FromB.Collect.push_refuses} (λ d x r p. pair_pushed g.FromA.Collect.made g.FromB.Collect.made g.FromA.Collect.push_refuses g.FromB.Collect.push_refuses d x r p) (c.in-Ok.ensures, c.in-Ok-empty.ensures) (stopped_behind _ _ _ c.in-Stopped.ensures.carried))
+returns-clause-collects g c = collect_failed {made = MadeOfParts g.FromA.Collect.made g.FromB.Collect.made} {refuses = PairRefused g.FromA.Collect.made g.FromB.Collect.made g.FromA.Collect.push_refuses g.FromB.Collect.push_refuses} (λ d x r e p. pair_pushed g.FromA.Collect.made g.FromB.Collect.made g.FromA.Collect.push_refuses g.FromB.Collect.push_refuses d x r e p) (c.in-Ok.ensures, c.in-Ok-empty.ensures) c.in-Err-drive.ensures
+
+pub returns-clause-value : goal.returns-clause-value
+returns-clause-value g c l i = unzipped_as g.FromA.Collect.made g.FromB.Collect.made ⊥ (PairRefused g.FromA.Collect.made g.FromB.Collect.made g.FromA.Collect.push_refuses g.FromB.Collect.push_refuses) (Err (Source _)) l (returns-clause-collects g c) i
+
+pub returns-in-Ok-Some-clause-collects : goal.returns-in-Ok-Some-clause-collects
+returns-in-Ok-Some-clause-collects g c = inr (collect_refused {made = MadeOfParts g.FromA.Collect.made g.FromB.Collect.made} {refuses = PairRefused g.FromA.Collect.made g.FromB.Collect.made g.FromA.Collect.push_refuses g.FromB.Collect.push_refuses} (λ d x r e p. pair_pushed g.FromA.Collect.made g.FromB.Collect.made g.FromA.Collect.push_refuses g.FromB.Collect.push_refuses d x r e p) (c.in-Ok.ensures, c.in-Ok-empty.ensures) (rw c.in-Ok-Some.field-0-is at c.in-Ok-Some.ensures))
 
 pub returns-in-Err-clause-value : goal.returns-in-Err-clause-value
 returns-in-Err-clause-value g c l i = not_unzipped_as g.FromA.Collect.made g.FromB.Collect.made l _
@@ -29,11 +28,11 @@ returns-in-Err-clause-value g c l i = not_unzipped_as g.FromA.Collect.made g.Fro
 pub returns-in-Err-empty-clause-value : goal.returns-in-Err-empty-clause-value
 returns-in-Err-empty-clause-value g c l i = not_unzipped_as g.FromA.Collect.made g.FromB.Collect.made l _
 
-pub returns-clause-value : goal.returns-clause-value
-returns-clause-value g c l i = not_unzipped_as g.FromA.Collect.made g.FromB.Collect.made l _
+pub returns-in-Ok-Some-clause-value : goal.returns-in-Ok-Some-clause-value
+returns-in-Ok-Some-clause-value g c l i = not_unzipped_as g.FromA.Collect.made g.FromB.Collect.made l _
 
-pub returns-in-Ended-clause-contents : goal.returns-in-Ended-clause-contents
-returns-in-Ended-clause-contents g c l i = contents_unzipped g.FromA.Collect.made g.FromB.Collect.made l _ (returns-in-Ended-clause-value g c l i)
+pub returns-in-Ok-None-clause-contents : goal.returns-in-Ok-None-clause-contents
+returns-in-Ok-None-clause-contents g c l i = contents_unzipped g.FromA.Collect.made g.FromB.Collect.made l _ (returns-in-Ok-None-clause-value g c l i)
 
-pub returns-in-Failed-clause-failure : goal.returns-in-Failed-clause-failure
-returns-in-Failed-clause-failure g c l i e is = failure_unzipped g.FromA.Collect.made g.FromB.Collect.made l (returns-in-Failed-clause-value g c l i) is
+pub returns-clause-failure : goal.returns-clause-failure
+returns-clause-failure g c l i e is = failure_unzipped g.FromA.Collect.made g.FromB.Collect.made l (returns-clause-value g c l i) is

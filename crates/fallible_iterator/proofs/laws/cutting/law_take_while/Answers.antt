@@ -6,4 +6,4 @@ use Rattle.fallible_core.proofs.Lemmas.Cutting.TakeWhile.{take_while_law}
 use Rattle.fallible_iterator.proofs.laws.cutting.law_take_while.Goals as goal
 
 pub returns : goal.returns
-returns g c = traces_of_parts take_while_parts (λ p. record { it = (p.0).0; predicate = (p.0).1; refused = p.1 }) (λ s. refl) (λ p. refl) _ _ (take_while_law _ _)
+returns g c = traces_of_parts take_while_parts (λ p. record { it = (p.0).0; taking = (p.1, (p.0).1) }) (λ s. refl) (λ p. refl) _ _ (take_while_law _ _)

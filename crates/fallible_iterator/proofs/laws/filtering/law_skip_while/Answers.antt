@@ -6,4 +6,4 @@ use Rattle.fallible_core.proofs.Lemmas.Filtering.SkipWhile.{skip_while_law}
 use Rattle.fallible_iterator.proofs.laws.filtering.law_skip_while.Goals as goal
 
 pub returns : goal.returns
-returns g c = traces_of_parts skip_while_parts (λ p. record { it = p.0; found = (p.1).0; predicate = (p.1).1 }) (λ s. refl) (λ p. refl) _ _ (skip_while_law _ _)
+returns g c = traces_of_parts skip_while_parts (λ p. record { it = p.0; skipping = p.1 }) (λ s. refl) (λ p. refl) _ _ (skip_while_law _ _)

@@ -6,4 +6,4 @@ use Rattle.fallible_core.specs.OneToOne.Scan.{scan_parts}
 use Rattle.fallible_iterator.proofs.laws.one_to_one.law_scan.Goals as goal
 
 pub returns : goal.returns
-returns g c = traces_of_parts scan_parts (λ p. record { it = p.0; state = (p.1).0; f = (p.1).1 }) (λ s. refl) (λ p. refl) _ _ (runs_by_answers _ (passing_by_answers _ _ _))
+returns g c = traces_of_parts scan_parts (λ p. record { it = p.0; scanning = p.1 }) (λ s. refl) (λ p. refl) _ _ (runs_by_answers _ (passing_by_answers _ _ _))

@@ -11,4 +11,4 @@ pub passed-requires-clause-answers : goal.passed-requires-clause-answers
 passed-requires-clause-answers g c = leaves_none_out
 
 pub returns : goal.returns
-returns g c = taking_step g.I.FallibleIterator.contract g.P.FnMut c.args.self.now c.if-self.false _ c.next.ensures c.passed.ensures
+returns g c = taking_step g.I.FallibleIterator.contract g.P.FnMut c.args.self.now c.if-self.false _ _ _ c.next.ensures c.passed.ensures

@@ -7,5 +7,8 @@ use Rattle.fallible_core.proofs.filtering.skip_while.SkipWhileFallibleIterator.n
 pub drive_find-requires-clause-callable : goal.drive_find-requires-clause-callable
 drive_find-requires-clause-callable g c = callable_search skip_while_outcome g.met.I.FallibleIterator.lawful c.requires.1.0 c.requires.1.1
 
-pub returns : goal.returns
-returns g c = passes_search {outcome = skip_while_outcome} c.drive_find.ensures
+pub returns-then-self : goal.returns-then-self
+returns-then-self g c = step_past g.I.FallibleIterator.contract g.P.FnMut {s = c.args.self.now} c.if-self.true c.next.ensures
+
+pub returns-else-self : goal.returns-else-self
+returns-else-self g c = passes_search {outcome = skip_while_outcome} c.drive_find.ensures

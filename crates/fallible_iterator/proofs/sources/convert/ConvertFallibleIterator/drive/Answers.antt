@@ -22,5 +22,5 @@ shape_of-self g c = sym (keeps_lent Ok Err (λ z. z) reads_result g.I.Iterator.c
 pub returns-in-Ok : goal.returns-in-Ok
 returns-in-Ok g c = drained_into (λ p. record { it = p }) (λ p r q step. step) (drives_lent _ (folds_std Ok Err (λ z. z) reads_result g.I.Iterator.can_next g.I.Iterator.next_gives g.I.Iterator.remaining _ _ (lent (g.K.Turn.turns c.args.turn.now)) (λ d z r h p. search rules) c.try_fold.new.self c.in-Ok.ensures.ran) (λ same. search rules))
 
-pub returns : goal.returns
-returns g c = drained_into (λ p. record { it = p }) (λ p r q step. step) (drives_lent _ (folds_std Ok Err (λ z. z) reads_result g.I.Iterator.can_next g.I.Iterator.next_gives g.I.Iterator.remaining _ _ (lent (g.K.Turn.turns c.args.turn.now)) (λ d z r h p. search rules) c.try_fold.new.self c.in-Err.ensures.ran) (λ same. search rules))
+pub returns-in-Err : goal.returns-in-Err
+returns-in-Err g c = drained_into (λ p. record { it = p }) (λ p r q step. step) (drives_lent _ (folds_std Ok Err (λ z. z) reads_result g.I.Iterator.can_next g.I.Iterator.next_gives g.I.Iterator.remaining _ _ (lent (g.K.Turn.turns c.args.turn.now)) (λ d z r h p. search rules) c.try_fold.new.self c.in-Err.ensures.ran) (λ same. search rules))
