@@ -30,7 +30,8 @@ pub use ends::{
 pub use fallible_contract::answers::{Answer, Side};
 pub use filtering::{law_filter, law_filter_map, law_skip_while};
 pub use joining::{
-    law_chain, law_cycle, law_cycle_taken, law_flat_map, law_flatten, law_flatten_finite, law_zip,
+    law_chain, law_cycle, law_cycle_taken, law_flat_map, law_flat_map_finite, law_flatten,
+    law_flatten_finite, law_zip,
 };
 pub use listed::{
     law_listed, law_listed_borrowed, law_listed_chain, law_listed_cloned, law_listed_each,

@@ -5,12 +5,13 @@ ghost use Rattle.fallible_contract.specs.Lists.{Lists, items};
 ghost use Rattle.fallible_core.specs.Cutting.Take.{take_parts};
 ghost use Rattle.fallible_core.specs.Joining.Chain.{chain_parts, ChainTrace};
 ghost use Rattle.fallible_core.specs.Joining.Cycle.{cycle_parts, cycle_kept, cycle_source, CycleTrace};
+ghost use Rattle.fallible_core.specs.Joining.FlatMap.{flat_map_parts, flat_map_mapped, flat_map_source, flat_map_inner};
 ghost use Rattle.fallible_core.specs.Joining.Flatten.{flatten_parts, flatten_source, flatten_inner, FlattenTrace};
 ghost use Rattle.fallible_core.specs.Joining.Zip.{zip_parts, ZipTrace};
 ghost use Rattle.fallible_iterator.specs.Cycled.{cycled};
 
 use fallible_core::cutting::Take;
-use fallible_core::joining::{Chain, Cycle, Flatten, Zip};
+use fallible_core::joining::{Chain, Cycle, FlatMap, Flatten, Zip};
 use fallible_core::one_to_one::Map;
 use fallible_core::traits::FallibleIterator;
 use fallible_core::traits::conversion::IntoFallibleIterator;
@@ -33,8 +34,7 @@ where
 
 /// A trace of `Flatten` joins the answers of the inner iterators, each up to its end, and the outer source's failures and ends; the last inner iterator, where its end was not drawn, stays in hand.
 pub fn law_flatten<U: IntoFallibleIterator, I: FallibleIterator<Item = U, Error = U::Error>>()
-    ensures { TracesAre flatten_parts
-        ⟦<Flatten<I, U::IntoFallibleIter> as FallibleIterator>⟧.contract.steps
+    ensures { TracesAre flatten_parts ⟦<Flatten<I> as FallibleIterator>⟧.contract.steps
         (FlattenTrace I.contract.steps U.into_gives U.IntoFallibleIter.contract.steps) }
 {}
 
@@ -45,8 +45,7 @@ pub fn law_flat_map<
     F: FnMut(I::Item) -> Result<U, I::Error>,
 >()
 where
-    ensures { TracesAre flatten_parts
-        ⟦<Flatten<Map<I, F>, U::IntoFallibleIter> as FallibleIterator>⟧.contract.steps
+    ensures { TracesAre flat_map_parts ⟦<FlatMap<I, U, F> as FallibleIterator>⟧.contract.steps
         (FlattenTrace ⟦<Map<I, F> as FallibleIterator>⟧.contract.steps U.into_gives
         U.IntoFallibleIter.contract.steps) }
 {}
@@ -73,7 +72,7 @@ where
 
 /// A `Flatten` is finite where its outer source and the inner iterator in hand are, and `each` is a bound of each inner iterator that may come. So a drain of it asks no term where a caller names that number.
 pub fn law_flatten_finite<U: IntoFallibleIterator, I: FallibleIterator<Item = U, Error = U::Error>>(
-    it: &Flatten<I, U::IntoFallibleIter>,
+    it: &Flatten<I>,
     each: usize,
 )
 where
@@ -81,5 +80,23 @@ where
     requires in_hand { IfSome (flatten_inner it.now) U.IntoFallibleIter.contract.is_finite }
     requires inner { (x : U) (c : U.IntoFallibleIter) → I.contract.may_give (flatten_source it.now) x
         → U.into_gives x c → U.IntoFallibleIter.contract.bound c each }
-    ensures { ⟦<Flatten<I, U::IntoFallibleIter> as FallibleIterator>⟧.contract.is_finite it.now }
+    ensures { ⟦<Flatten<I> as FallibleIterator>⟧.contract.is_finite it.now }
+{}
+
+/// A `FlatMap` is finite where its source and the inner iterator in hand are, and `each` is a bound of each inner iterator that the closure may make. So a drain of it asks no term where a caller names that number.
+pub fn law_flat_map_finite<
+    I: FallibleIterator,
+    U: IntoFallibleIterator<Error = I::Error>,
+    F: FnMut(I::Item) -> Result<U, I::Error>,
+>(
+    it: &FlatMap<I, U, F>,
+    each: usize,
+)
+where
+    requires outer { I.contract.is_finite (flat_map_source it.now) }
+    requires in_hand { IfSome (flat_map_inner it.now) U.IntoFallibleIter.contract.is_finite }
+    requires inner { (x : U) (c : U.IntoFallibleIter)
+        → ⟦<Map<I, F> as FallibleIterator>⟧.contract.may_give (flat_map_mapped it.now) x
+        → U.into_gives x c → U.IntoFallibleIter.contract.bound c each }
+    ensures { ⟦<FlatMap<I, U, F> as FallibleIterator>⟧.contract.is_finite it.now }
 {}

@@ -6,8 +6,7 @@ ghost use Rattle.fallible_core.specs.Joining.Zip.{zip_left, zip_right};
 ghost use Rattle.fallible_iterator.specs.SoundHints.{BoundsBelow, Brackets, KeepsBrackets, KeepsBracketsOfBoth, SoundHints};
 ghost use Rattle.fallible_core.specs.declared.joining.chain.StillDrawn.TheVariants.{Both, FirstAlone, SecondAlone};
 
-use fallible_core::joining::{Chain, Cycle, Flatten, Zip};
-use fallible_core::one_to_one::Map;
+use fallible_core::joining::{Chain, Cycle, FlatMap, Flatten, Zip};
 use fallible_core::traits::FallibleIterator;
 use fallible_core::traits::conversion::IntoFallibleIterator;
 use std::alloc::AllocError;
@@ -37,8 +36,7 @@ where
 
 /// Each hint of `Flatten` brackets what comes from it.
 pub fn law_hints_flatten<U: IntoFallibleIterator, I: FallibleIterator<Item = U, Error = U::Error>>()
-    ensures { (s : Flatten I U.IntoFallibleIter)
-        → SoundHints ⟦<Flatten<I, U::IntoFallibleIter> as FallibleIterator>⟧.contract s }
+    ensures { (s : _) → SoundHints ⟦<Flatten<I> as FallibleIterator>⟧.contract s }
 {}
 
 /// Each hint of `FlatMap` brackets what comes from it.
@@ -48,8 +46,7 @@ pub fn law_hints_flat_map<
     F: FnMut(I::Item) -> Result<U, I::Error>,
 >()
 where
-    ensures { (s : Flatten (Map I F) U.IntoFallibleIter)
-        → SoundHints ⟦<Flatten<Map<I, F>, U::IntoFallibleIter> as FallibleIterator>⟧.contract s }
+    ensures { (s : _) → SoundHints ⟦<FlatMap<I, U, F> as FallibleIterator>⟧.contract s }
 {}
 
 /// Each hint of `Cycle` brackets what comes from it wherever the lower bound of the kept source's hint bounds what comes from each clone of it; so, where each clone equals the kept source, it is as sound as the kept source's hint.
