@@ -7,7 +7,7 @@ ghost use Rattle.fallible_iterator.specs.Contract.{AtMost};
 ghost use Rattle.fallible_callers.specs.Runs.{below, numbers};
 ghost use Rattle.fallible_iterator.specs.Peeking.Peekable.{behind_held, peekable_held, peekable_source};
 
-use fallible_iterator::laws::{answers, law_cycle_taken, law_flatten_finite, law_peekable};
+use fallible_iterator::laws::{answers, law_cycle_taken, law_flat_map_finite, law_peekable};
 use fallible_iterator::{
     FallibleIterator, IntoFallible, IteratorExt, Peekable, convert, from_fn, once,
 };
@@ -95,6 +95,6 @@ pub fn hundreds(readings: Vec<Result<u32, Infallible>>) -> Result<u64, Infallibl
         (flattened numbers (mapped (λ x. Ok (below 100)) (results readings.items))) }
 {
     let joined = convert(readings.into_iter()).flat_map(|_| Ok((0u32..100).into_fallible()));
-    law_flatten_finite(&joined, 100);
+    law_flat_map_finite(&joined, 100);
     joined.fold(0, |sum: u64, _| Ok(sum.wrapping_add(1)))
 }
