@@ -71,18 +71,24 @@ module _ {S A E : Type 0} (steps : S → Answered A E → S → Type 0) where
       ((ran.0, n + 1), enumerate_item x ran.1, subst (λ (k : ℕ). Run (numbered_step steps) (ran.0, n + 1) (map item (beside_numbers (n + 1) items) ++ answer ∷ []) (t, k)) same (run_numbered items last answer ran.0 t (n + 1) then ran.2))
 
   counted_last : (items : List A) (last : Answered A E) (s t : S) (n : ℕ) (r : Result ℕ E) → Run steps s (map item items ++ last ∷ []) t → CountExit (length items) last r → Counted (numbered_step steps) (s, n) r
-  counted_last items (Ok None) s t n r ran exit = ((t, n + length items), record {
-    items = beside_numbers n items;
-    last = Ok None;
-    ran = run_numbered items (Ok None) (Ok None) s t n (λ u v k step. enumerate_end step) ran;
-    at = record { exit = subst (λ (k : ℕ). r ≡ Ok k) (sym (as_many items n)) exit };
-  })
-  counted_last items (Err e) s t n r ran exit = ((t, n + length items), record {
-    items = beside_numbers n items;
-    last = Err e;
-    ran = run_numbered items (Err e) (Err e) s t n (λ u v k step. enumerate_failure step) ran;
-    at = record { exit = exit };
-  })
+  counted_last items (Ok None) s t n r ran exit = (
+    (t, n + length items),
+    record {
+      items = beside_numbers n items;
+      last = Ok None;
+      ran = run_numbered items (Ok None) (Ok None) s t n (λ u v k step. enumerate_end step) ran;
+      at = record { exit = subst (λ (k : ℕ). r ≡ Ok k) (sym (as_many items n)) exit };
+    },
+  )
+  counted_last items (Err e) s t n r ran exit = (
+    (t, n + length items),
+    record {
+      items = beside_numbers n items;
+      last = Err e;
+      ran = run_numbered items (Err e) (Err e) s t n (λ u v k step. enumerate_failure step) ran;
+      at = record { exit = exit };
+    },
+  )
   counted_last items (Ok (Some x)) s t n r ran exit = absurd exit
 
 -- the source's count is that of `Enumerate`
