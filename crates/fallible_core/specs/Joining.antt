@@ -1,5 +1,6 @@
 -- Adapters that join traces: one file a type.
 pub mod Chain
 pub mod Cycle
+pub mod FlatMap
 pub mod Flatten
 pub mod Zip

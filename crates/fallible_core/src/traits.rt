@@ -29,6 +29,7 @@ ghost use Rattle.fallible_core.specs.Cutting.StepBy.{step_by_parts, step_by_cont
 ghost use Rattle.fallible_core.specs.Joining.Chain.{chain_parts, chain_contract, chained, chain_first, chain_second, chain_still_drawn};
 ghost use Rattle.fallible_core.specs.Joining.Zip.{zip_parts, zip_contract, zipped, NoFailureAtEnd, zip_left, zip_right};
 ghost use Rattle.fallible_core.specs.Joining.Flatten.{flatten_parts, flatten_contract, EachLists, flattened, flatten_inner, flatten_source};
+ghost use Rattle.fallible_core.specs.Joining.FlatMap.{flat_map_parts, flat_map_contract, flat_map_source, flat_map_closure, flat_map_inner};
 ghost use Rattle.fallible_core.specs.Borrowed.{borrowed};
 ghost use Rattle.fallible_core.specs.Bridges.Iterator.{iterator_parts, iterator_steps};
 ghost use Rattle.fallible_core.specs.Bridges.Unwrap.{unwrap_parts, unwrap_steps, unwrapped};
@@ -894,7 +895,7 @@ pub trait FallibleIterator: Drop + Sized {
     /// assert_eq!(rt; it.size_hint(), (0, None));
     /// assert_eq!(rt; it.next(), Ok(Some(1)));
     /// ```
-    final fn flatten(self) -> Flatten<Self, <Self::Item as IntoFallibleIterator>::IntoFallibleIter>
+    final fn flatten(self) -> Flatten<Self>
     where
         Self::Item: IntoFallibleIterator<Error = Self::Error>,
         requires { contract.is_finite self }
@@ -925,25 +926,24 @@ pub trait FallibleIterator: Drop + Sized {
     ///     .take(1000)
     ///     .collect(alloc)
     /// ```
-    final fn flat_map<U, F>(self, f: F) -> FlatMap<Self, U::IntoFallibleIter, F>
+    final fn flat_map<U, F>(self, f: F) -> FlatMap<Self, U, F>
     where
         U: IntoFallibleIterator<Error = Self::Error>,
         F: FnMut(Self::Item) -> Result<U, Self::Error>,
         requires finite { contract.is_finite self }
         requires callable { IsCallable (call_on F.FnMut) (takes_on F.FnMut)
             (contract.may_give self) f }
-        ensures source { map_source (flatten_source result) ≡ self }
-        ensures closure { map_closure (flatten_source result) ≡ f }
-        ensures inner { flatten_inner result ≡ None }
+        ensures source { flat_map_source result ≡ self }
+        ensures closure { flat_map_closure result ≡ f }
+        ensures inner { flat_map_inner result ≡ None }
         ensures lists { (inner : U → List (Result U.Item Self.Error))
             → EachLists U.into_gives U.IntoFallibleIter.contract.steps inner
             → OverListWith (Acts (call_on F.FnMut) f) contract.steps self
-            (λ h l. Lists (seen_as flatten_parts (flatten_contract
-            (seen_as map_parts (map_contract contract F.FnMut))
+            (λ h l. Lists (seen_as flat_map_parts (flat_map_contract contract F.FnMut
             U.into_gives U.IntoFallibleIter.contract)).steps
             result (flattened inner (mapped h l))) }
     {
-        Flatten {
+        FlatMap {
             it: self.map(f),
             in_hand: None,
         }

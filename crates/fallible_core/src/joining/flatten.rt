@@ -1,4 +1,4 @@
-// The adapters that join the answers of inner iterators.
+// The adapter that joins the answers of inner iterators.
 ghost use Rattle.std.specs.Prelude.{◌≡◌, ℕ, [], ◌∷◌, None, Ok, List, Option, Result};
 ghost use Rattle.fallible_contract.specs.Contract.{seen_as};
 ghost use Rattle.fallible_contract.specs.Folds.{CallableDriving, Driven, TurnBehind, beside, beside_names};
@@ -6,21 +6,24 @@ ghost use Rattle.fallible_contract.specs.Laws.Contract.{lawful_seen};
 ghost use Rattle.fallible_core.specs.Joining.Flatten.{FlattenTrace, flatten_contract, JoiningTakes, IsFlattenTurn, flatten_parts};
 ghost use Rattle.fallible_core.specs.Laws.Joining.Flatten.{lawful_flatten};
 
-use crate::one_to_one::Map;
 use crate::traits::FallibleIterator;
 use crate::traits::conversion::IntoFallibleIterator;
 use fallible_contract::folds::{Beside, Turn, answer_within};
 use std::ops::ControlFlow;
 
-/// The answers of the inner iterators `J` that the items become, one inner iterator after the other. The one in hand answers until its end, at which it is dropped; then the next item is drawn. A failure of the inner iterator keeps it. A failure or an end of the outer source is the answer, and the next call draws from it again.
-#[derive(Clone, Debug, Drop)]
-pub struct Flatten<I, J> {
+/// The answers of the inner iterators that the items become, one inner iterator after the other. The one in hand answers until its end, at which it is dropped; then the next item is drawn. A failure of the inner iterator keeps it. A failure or an end of the outer source is the answer, and the next call draws from it again.
+#[derive(Drop)]
+#[derive_where(Clone, Debug; I, <I::Item as IntoFallibleIterator>::IntoFallibleIter)]
+pub struct Flatten<I: FallibleIterator>
+where
+    I::Item: IntoFallibleIterator,
+{
     pub(crate) it: I,
-    pub(crate) in_hand: Option<J>,
+    pub(crate) in_hand: Option<<I::Item as IntoFallibleIterator>::IntoFallibleIter>,
 }
 
 impl<U: IntoFallibleIterator, I: FallibleIterator<Item = U, Error = U::Error>> FallibleIterator
-    for Flatten<I, U::IntoFallibleIter> {
+    for Flatten<I> {
     type Item = U::Item;
 
     type Error = U::Error;
@@ -50,11 +53,8 @@ impl<U: IntoFallibleIterator, I: FallibleIterator<Item = U, Error = U::Error>> F
         (lawful_flatten _ I.lawful U.into_gives _ U.IntoFallibleIter.lawful) };
 }
 
-/// The answers of the inner iterators `J` that the closure makes of the items, as `Flatten` joins them: a `Flatten` over the `Map` of the closure. Where the closure fails, its failure is the answer, and that item is lost.
-pub type FlatMap<I, J, F> = Flatten<Map<I, F>, J>;
-
 // One answer of the joined inner iterators. The one in hand is dropped at its end, and then the next item is drawn.
-fn next_joined<U: IntoFallibleIterator, O: FallibleIterator<Item = U, Error = U::Error>>(
+pub(crate) fn next_joined<U: IntoFallibleIterator, O: FallibleIterator<Item = U, Error = U::Error>>(
     outer: &mut O,
     in_hand: &mut Option<U::IntoFallibleIter>,
 ) -> Result<Option<U::Item>, U::Error>
@@ -85,7 +85,7 @@ where
 }
 
 // One fold of the joined inner iterators: of the one in hand, which is dropped at its end, and then of the outer source. The one in which the fold stopped stays in hand.
-fn drive_joined<
+pub(crate) fn drive_joined<
     U: IntoFallibleIterator,
     O: FallibleIterator<Item = U, Error = U::Error>,
     C,

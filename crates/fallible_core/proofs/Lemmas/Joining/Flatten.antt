@@ -8,11 +8,10 @@ use Rattle.fallible_contract.specs.Contract.{Contract, seen_as}
 use Rattle.fallible_contract.specs.Lists.{AlwaysGives, Lists, result_answer}
 use Rattle.fallible_contract.proofs.Lemmas.Lists.Passing.{gives_if, lists_seen}
 use Rattle.fallible_contract.proofs.Lemmas.LawForm.{FirstOf, IsByAnswers}
-use Rattle.fallible_core.specs.Joining.Flatten.{EachLists, flattened, flatten_parts, flatten_contract, FlattenTrace, Part, of_inner, of_failure, of_end, outer_answer, part_answers, Finished, FinishedPart, LastPart, FinishedInHand, Joined, FlattenAnswers, nothing_drawn, still_in_hand, outer_drawn}
+use Rattle.fallible_core.specs.Joining.Flatten.{EachLists, flattened, flatten_contract, FlattenTrace, Part, of_inner, of_failure, of_end, outer_answer, part_answers, Finished, FinishedPart, LastPart, FinishedInHand, Joined, FlattenAnswers, nothing_drawn, still_in_hand, outer_drawn}
 use Rattle.fallible_core.specs.Joining.Chain.{chained}
 use Rattle.fallible_core.proofs.Lemmas.Joining.Chain.{not_end}
 use Rattle.fallible_core.specs.Laws.Joining.Flatten.{Flattens, done, gives, fails, finishes, begins, outer_fails, outer_ends, to_flattens}
-use Rattle.fallible_core.specs.declared.joining.flatten.Flatten.{Flatten}
 
 module _ {S X C B E : Type 0} (outer : S → Answered X E → S → Type 0) (into : X → C → Type 0) (inner : C → Answered B E → C → Type 0) where
   abbrev F : S → Option C → List (Answered B E) → S → Option C → Type 0
@@ -215,5 +214,5 @@ module _ {S X C B E : Type 0} (outer : S → Answered X E → S → Type 0) (int
   flattened_gives inner each (Ok x ∷ l) s a = gives_from (chained (inner x) (flattened inner l)) s None (outer_item x l (chained (inner x) (flattened inner l)) s a (λ u c becomes b. in_hand_gives (inner x) (flattened inner l) c u (each x c becomes).runs (flattened_gives inner each l u b)))
 
 module _ {X C B E : Type 0} (into : X → C → Type 0) (k : Contract C B E) (inner : X → List (Result B E)) (l : List (Result X E)) (each : EachLists into k.steps inner) where
-  pub lists_flattened : {S : Type 0} (m : Contract S X E) (f : Flatten S C) → flatten_parts f ≡ (f.it, None) → Lists m.steps f.it l → Lists (seen_as flatten_parts (flatten_contract m into k)).steps f (flattened inner l)
-  lists_flattened m f parts i = lists_seen flatten_parts (flatten_contract m into k).steps f parts refl (flattened_gives m.steps into k.steps inner each l f.it i.runs)
+  pub lists_flattened : {V S : Type 0} (view : V → S × Option C) (m : Contract S X E) (f : V) (s : S) → view f ≡ (s, None) → Lists m.steps s l → Lists (seen_as view (flatten_contract m into k)).steps f (flattened inner l)
+  lists_flattened view m f s parts i = lists_seen view (flatten_contract m into k).steps f parts refl (flattened_gives m.steps into k.steps inner each l s i.runs)

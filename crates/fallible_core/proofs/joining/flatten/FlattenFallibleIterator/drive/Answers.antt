@@ -2,7 +2,7 @@
 use Rattle.std.proofs.Common.{refl}
 use Rattle.fallible_contract.proofs.Lemmas.Overriding.{drained_held, holds_held}
 use Rattle.fallible_core.specs.Joining.Flatten.{flatten_contract, flatten_parts}
-use Rattle.fallible_core.proofs.joining.flatten.FlattenIntoFallibleIterFallibleIterator.drive.Goals as goal
+use Rattle.fallible_core.proofs.joining.flatten.FlattenFallibleIterator.drive.Goals as goal
 
 pub drive_joined-requires-clause-callable : goal.drive_joined-requires-clause-callable
 drive_joined-requires-clause-callable g c = holds_held flatten_parts (λ s p. record { it = p.0; in_hand = p.1 }) (λ s p. refl) (flatten_contract g.I.FallibleIterator.contract g.U.IntoFallibleIterator.into_gives g.U.IntoFallibleIter.FallibleIterator.contract) c.requires.callable

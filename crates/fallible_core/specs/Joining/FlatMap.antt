@@ -1,0 +1,29 @@
+-- `FlatMap`: the closure's answers become inner iterators, whose answers are joined as `Flatten` joins them.
+use Rattle.std.specs.Prelude.{Option, Result}
+use Rattle.std.specs.Fn.{Mut}
+use Rattle.fallible_contract.specs.Contract.{Contract, seen_as}
+use Rattle.fallible_core.specs.Joining.Flatten.{flatten_contract}
+use Rattle.fallible_core.specs.OneToOne.Map.{map_source, map_closure, map_parts, map_contract}
+use Rattle.fallible_core.specs.declared.joining.flat_map.FlatMap.{FlatMap}
+use Rattle.fallible_core.specs.declared.one_to_one.map.Map.{Map}
+
+-- `FlatMap`'s contract: that of a `Flatten` over the `Map` of the closure.
+abbrev pub flat_map_contract : {S F X Y C B E : Type 0} → Contract S X E → Mut F (X × Unit {0}) (Result Y E) → (Y → C → Type 0) → Contract C B E → Contract (Map S F × Option C) B E
+flat_map_contract m g into inner = flatten_contract (seen_as map_parts (map_contract m g)) into inner
+
+module _ {I U F B E J : Type 0} where
+  -- the source
+  abbrev pub flat_map_source : FlatMap I U F B E J → I
+  flat_map_source s = map_source s.it
+
+  -- the closure
+  abbrev pub flat_map_closure : FlatMap I U F B E J → F
+  flat_map_closure s = map_closure s.it
+
+  -- the inner iterator in hand
+  abbrev pub flat_map_inner : FlatMap I U F B E J → Option J
+  flat_map_inner s = s.in_hand
+
+  -- the `Map` of the closure over the source, and the inner iterator in hand
+  abbrev pub flat_map_parts : FlatMap I U F B E J → Map I F × Option J
+  flat_map_parts s = (s.it, flat_map_inner s)

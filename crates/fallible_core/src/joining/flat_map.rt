@@ -1,0 +1,55 @@
+// The adapter that joins the answers of the inner iterators which a closure makes.
+ghost use Rattle.std.specs.Prelude.{Option, Result};
+ghost use Rattle.fallible_contract.specs.Contract.{seen_as};
+ghost use Rattle.fallible_contract.specs.Laws.Contract.{lawful_seen};
+ghost use Rattle.fallible_core.specs.Joining.FlatMap.{flat_map_contract, flat_map_parts};
+ghost use Rattle.fallible_core.specs.Laws.Joining.FlatMap.{lawful_flat_map};
+
+use crate::joining::flatten::{drive_joined, next_joined};
+use crate::one_to_one::Map;
+use crate::traits::FallibleIterator;
+use crate::traits::conversion::IntoFallibleIterator;
+use fallible_contract::folds::Turn;
+
+/// The answers of the inner iterators that the closure makes of the items, as `Flatten` joins them. Where the closure fails, its failure is the answer, and that item is lost.
+#[derive(Drop)]
+#[derive_where(Clone; I, F, U::IntoFallibleIter)]
+#[derive_where(Debug; I, U::IntoFallibleIter)]
+pub struct FlatMap<I, U: IntoFallibleIterator, F> {
+    pub(crate) it: Map<I, F>,
+    pub(crate) in_hand: Option<U::IntoFallibleIter>,
+}
+
+impl<
+    U: IntoFallibleIterator,
+    I: FallibleIterator<Error = U::Error>,
+    F: FnMut(I::Item) -> Result<U, U::Error>,
+> FallibleIterator for FlatMap<I, U, F> {
+    type Item = U::Item;
+
+    type Error = U::Error;
+
+    ghost contract = { seen_as flat_map_parts
+        (flat_map_contract I.contract F.FnMut U.into_gives U.IntoFallibleIter.contract) };
+
+    /// Draws as `Flatten` does, and calls the closure once on each item that it draws.
+    fn next(&mut self) -> Result<Option<U::Item>, U::Error> {
+        next_joined(&mut self.it, &mut self.in_hand)
+    }
+
+    fn size_hint(&self) -> (usize, Option<usize>) {
+        (0, None)
+    }
+
+    /// The fold of the inner iterator in hand, and at its end, in the same call, that of the closure's answers.
+    fn drive<C, R, K: Turn<C, U::Item, R>>(
+        &mut self,
+        state: &mut C,
+        turn: &K,
+    ) -> Result<Option<R>, U::Error> {
+        drive_joined(&mut self.it, &mut self.in_hand, state, turn)
+    }
+
+    ghost lawful = { lawful_seen flat_map_parts
+        (lawful_flat_map F.FnMut I.lawful U.into_gives U.IntoFallibleIter.lawful) };
+}
