@@ -86,6 +86,7 @@ impl<A, C: Collect<A>> Turn<C, A, AllocError> for CollectTurn {
     ghost turns = { λ _ c x r d. IsCollectTurn C.made C.push_refuses c x r d };
 
     /// The item after the others.
+    #[inline(always)]
     fn turn(&self, state: &mut C, item: A) -> ControlFlow<AllocError, ()> {
         match state.push_one(item) {
             Ok(()) => ControlFlow::Continue(()),
@@ -106,6 +107,7 @@ impl<A: Drop, E, B: Collect<A>, F: FnMut(&A) -> Result<bool, E>> Turn<(F, (B, B)
         c x r d };
 
     /// The predicate is asked once, and the item is pushed to the side of its answer.
+    #[inline(always)]
     fn turn(&self, state: &mut (F, (B, B)), item: A) -> ControlFlow<Fault<E>, ()> {
         let answer = match (state.0)(&item) {
             Ok(answer) => answer,
@@ -136,6 +138,7 @@ impl<A, B: Drop, C: Collect<A>, D: Collect<B>> Turn<(C, D), (A, B), AllocError> 
         c x r d };
 
     /// The first part is pushed to the first collection, and then the second part to the second.
+    #[inline(always)]
     fn turn(&self, state: &mut (C, D), item: (A, B)) -> ControlFlow<AllocError, ()> {
         let (a, b) = item;
         match state.0.push_one(a) {

@@ -28,6 +28,7 @@ impl<C, A, R, F: Fn(&mut C, A) -> ControlFlow<R, ()>> Turn<C, A, R> for F {
     ghost turns = { λ f c x r d. (lent : MutBor C) × (back : MutBor C) × (lent.now ≡ c)
         × F.post f lent x r back × (back.now ≡ d) };
 
+    #[inline(always)]
     fn turn(&self, state: &mut C, item: A) -> ControlFlow<R, ()> {
         self(state, item)
     }
@@ -43,6 +44,7 @@ pub struct Beside<'a, C, P> {
 }
 
 /// What is answered by a fold of the source whose turn stops with an answer: that answer, or the source's end or failure.
+#[inline(always)]
 pub fn answer_within<R, E>(
     answer: Result<Option<Result<Option<R>, E>>, E>,
 ) -> Result<Option<R>, E>
@@ -65,6 +67,7 @@ impl<A: Drop> Turn<usize, A, Infallible> for CountTurn {
     ghost turns = { λ _ n _ r k. (r ≡ Continue tt) × (k ≡ n + 1) };
 
     /// One more.
+    #[inline(always)]
     fn turn(&self, state: &mut usize, _item: A) -> ControlFlow<Infallible, ()> {
         *state += 1;
         ControlFlow::Continue(())
@@ -81,6 +84,7 @@ impl<A: Drop> Turn<Option<A>, A, Infallible> for LastTurn {
     ghost turns = { λ _ _ x r d. (r ≡ Continue tt) × (d ≡ Some x) };
 
     /// The item in the place of the one before.
+    #[inline(always)]
     fn turn(&self, state: &mut Option<A>, item: A) -> ControlFlow<Infallible, ()> {
         *state = Some(item);
         ControlFlow::Continue(())
@@ -97,6 +101,7 @@ impl<A, B: Drop, E, F: FnMut(B, A) -> Result<B, E>> Turn<(Option<B>, F), A, E> f
     ghost turns = { λ _ p x r q. IsFoldTurnInSlot (call_with F.FnMut) p x r q };
 
     /// The closure's answer on the value so far and the item.
+    #[inline(always)]
     fn turn(&self, state: &mut (Option<B>, F), item: A) -> ControlFlow<E, ()> {
         match state.0.take() {
             Some(value) => match (state.1)(value, item) {
@@ -121,6 +126,7 @@ impl<A: Drop, E, F: FnMut(A, A) -> Result<A, E>> Turn<(Option<A>, F), A, E> for 
     ghost turns = { λ _ p x r q. IsFoldTurn (ReduceCall (call_with F.FnMut)) p x r q };
 
     /// The first item without a call; then the closure's answer on the value so far and the item.
+    #[inline(always)]
     fn turn(&self, state: &mut (Option<A>, F), item: A) -> ControlFlow<E, ()> {
         let value = match state.0.take() {
             Some(value) => match (state.1)(value, item) {
@@ -144,6 +150,7 @@ impl<A: Drop> Turn<usize, A, A> for NthTurn {
     ghost turns = { λ _ n x r k. IsNthTurn n x r k };
 
     /// One fewer, or the item.
+    #[inline(always)]
     fn turn(&self, state: &mut usize, item: A) -> ControlFlow<A, ()> {
         if *state == 0 {
             ControlFlow::Break(item)
@@ -164,6 +171,7 @@ impl<A> Turn<(), A, A> for FirstTurn {
     ghost turns = { λ _ _ x r _. r ≡ Break x };
 
     /// The item.
+    #[inline(always)]
     fn turn(&self, _state: &mut (), item: A) -> ControlFlow<A, ()> {
         ControlFlow::Break(item)
     }

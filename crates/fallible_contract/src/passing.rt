@@ -67,6 +67,7 @@ impl<'a, 'b, P, X, E, C, R, A: Pass<P, X, E>, K: Turn<C, A::Kept, R>> Turn<
         b x r d };
 
     /// The call, made once, and the caller's turn where the item is kept.
+    #[inline(always)]
     fn turn(&self, state: &mut Beside<'b, C, P>, item: X) -> ControlFlow<Result<Option<R>, E>, ()> {
         match self.adapter.pass(state.p, item) {
             Outcome::Kept(y) => match self.turn.turn(state.c, y) {

@@ -33,6 +33,7 @@ impl<A: Drop, E, F: FnMut(&A, &A) -> Result<Ordering, E>> Turn<(Option<A>, F), A
     ghost turns = { λ k p x r q. IsFoldTurn (PickCall k.keeps (call_at_two F.FnMut)) p x r q };
 
     /// The first item without a call; then the closure is asked once.
+    #[inline(always)]
     fn turn(&self, state: &mut (Option<A>, F), item: A) -> ControlFlow<E, ()> {
         let best = match state.0.take() {
             Some(best) => match (state.1)(&best, &item) {
@@ -66,6 +67,7 @@ impl<A: Drop, E, K: Ord + Drop, F: FnMut(&A) -> Result<K, E>> Turn<(Option<(K, A
     ghost turns = { λ k p x r q. IsFoldTurn (KeyCall k.keeps K.cmp (call_at F.FnMut)) p x r q };
 
     /// The key is made once, and compared with the best so far.
+    #[inline(always)]
     fn turn(&self, state: &mut (Option<(K, A)>, F), item: A) -> ControlFlow<E, ()> {
         let key = match (state.1)(&item) {
             Ok(key) => key,

@@ -64,6 +64,7 @@ impl<C, A, E, F: Fn(&mut C, &A) -> Result<bool, E>> Test<C, A, E> for F {
     ghost tests = { λ f c x v d. (lent : MutBor C) × (shown : Bor A) × (back : MutBor C)
         × (lent.now ≡ c) × (shown.now ≡ x) × F.post f lent shown v back × (back.now ≡ d) };
 
+    #[inline(always)]
     fn test(&self, state: &mut C, item: &A) -> Result<bool, E> {
         self(state, item)
     }
@@ -82,6 +83,7 @@ impl<'a, C, A: Drop, E, K: Test<C, A, E>> Turn<C, A, Result<A, E>> for FindTurn<
     ghost turns = { λ k c x r d. IsFindTurn (K.tests k.test.now) c x r d };
 
     /// The test, made once.
+    #[inline(always)]
     fn turn(&self, state: &mut C, item: A) -> ControlFlow<Result<A, E>, ()> {
         match self.test.test(state, &item) {
             Ok(true) => ControlFlow::Break(Ok(item)),
@@ -101,6 +103,7 @@ impl<A, E, F: FnMut(&A) -> Result<bool, E>> Test<F, A, E> for FindTest {
     ghost tests = { λ _ f x v g. call_at F.FnMut f x v g };
 
     /// The predicate's answer, asked once.
+    #[inline(always)]
     fn test(&self, state: &mut F, item: &A) -> Result<bool, E> {
         state(item)
     }
@@ -116,6 +119,7 @@ impl<A, E, F: FnMut(A) -> Result<(), E>> Turn<F, A, Result<(), E>> for ForEachTu
     ghost turns = { λ _ f x r g. IsSearchTurn (call_on F.FnMut) each_pick f x r g };
 
     /// The call, made once.
+    #[inline(always)]
     fn turn(&self, state: &mut F, item: A) -> ControlFlow<Result<(), E>, ()> {
         match state(item) {
             Ok(()) => ControlFlow::Continue(()),
@@ -134,6 +138,7 @@ impl<A, E, F: FnMut(A) -> Result<bool, E>> Turn<F, A, Result<bool, E>> for AllTu
     ghost turns = { λ _ f x r g. IsSearchTurn (call_on F.FnMut) all_pick f x r g };
 
     /// The predicate's answer, asked once.
+    #[inline(always)]
     fn turn(&self, state: &mut F, item: A) -> ControlFlow<Result<bool, E>, ()> {
         match state(item) {
             Ok(true) => ControlFlow::Continue(()),
@@ -153,6 +158,7 @@ impl<A, E, F: FnMut(A) -> Result<bool, E>> Turn<F, A, Result<bool, E>> for AnyTu
     ghost turns = { λ _ f x r g. IsSearchTurn (call_on F.FnMut) any_pick f x r g };
 
     /// The predicate's answer, asked once.
+    #[inline(always)]
     fn turn(&self, state: &mut F, item: A) -> ControlFlow<Result<bool, E>, ()> {
         match state(item) {
             Ok(true) => ControlFlow::Break(Ok(true)),
@@ -173,6 +179,7 @@ impl<A, B, E, F: FnMut(A) -> Result<Option<B>, E>> Turn<F, A, Result<Option<B>, 
     ghost turns = { λ _ f x r g. IsSearchTurn (call_on F.FnMut) find_map_pick f x r g };
 
     /// The closure's answer, asked once.
+    #[inline(always)]
     fn turn(&self, state: &mut F, item: A) -> ControlFlow<Result<Option<B>, E>, ()> {
         match state(item) {
             Ok(Some(y)) => ControlFlow::Break(Ok(Some(y))),
@@ -193,6 +200,7 @@ impl<A, E, F: FnMut(A) -> Result<bool, E>> Turn<(usize, F), A, Result<Option<usi
     ghost turns = { λ _ p x r q. IsPositionTurn (call_on F.FnMut) position_pick p x r q };
 
     /// The predicate's answer, asked once, and one more item before the next.
+    #[inline(always)]
     fn turn(
         &self,
         state: &mut (usize, F),

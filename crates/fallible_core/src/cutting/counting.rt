@@ -14,24 +14,16 @@ where
     requires { I.contract.can_next it.old }
     ensures { SkipTrace I.contract.steps (it.old, left.old) (result ∷ []) (it.new, left.new) }
 {
-    let mut still = *left;
     loop {
         match it.next() {
             Ok(Some(x)) => {
-                if still == 0 {
-                    *left = still;
+                if *left == 0 {
                     return Ok(Some(x));
                 }
             }
-            Ok(None) => {
-                *left = still;
-                return Ok(None);
-            }
-            Err(e) => {
-                *left = still;
-                return Err(e);
-            }
+            Ok(None) => return Ok(None),
+            Err(e) => return Err(e),
         }
-        still -= 1;
+        *left -= 1;
     }
 }

@@ -80,6 +80,7 @@ impl<X: Drop, E> Pass<usize, X, E> for StepByPass {
 
     ghost outcome = { λ _ x v. count_outcome x v };
 
+    #[inline(always)]
     fn pass(&self, state: &mut usize, item: X) -> Outcome<X, E> {
         if 0 < *state {
             *state -= 1;

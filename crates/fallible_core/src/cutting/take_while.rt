@@ -75,6 +75,7 @@ impl<X: Drop, E, P: FnMut(&X) -> Result<bool, E>> Pass<(bool, P), X, E> for Take
 
     ghost outcome = { λ _ x v. take_while_outcome x v };
 
+    #[inline(always)]
     fn pass(&self, state: &mut (bool, P), item: X) -> Outcome<X, E> {
         match (state.1)(&item) {
             Ok(true) => Outcome::Kept(item),

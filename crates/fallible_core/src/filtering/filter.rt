@@ -94,6 +94,7 @@ impl<X: Drop, E, F: FnMut(&X) -> Result<bool, E>> Pass<F, X, E> for FilterPass {
 
     ghost outcome = { λ _ x v. tested_outcome x v };
 
+    #[inline(always)]
     fn pass(&self, state: &mut F, item: X) -> Outcome<X, E> {
         match state(&item) {
             Ok(true) => Outcome::Kept(item),

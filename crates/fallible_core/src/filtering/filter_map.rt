@@ -89,6 +89,7 @@ impl<X, B, E, F: FnMut(X) -> Result<Option<B>, E>> Pass<F, X, E> for FilterMapPa
 
     ghost outcome = { λ _ x v. filter_map_outcome x v };
 
+    #[inline(always)]
     fn pass(&self, state: &mut F, item: X) -> Outcome<B, E> {
         match state(item) {
             Ok(Some(y)) => Outcome::Kept(y),

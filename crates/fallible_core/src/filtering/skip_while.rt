@@ -77,6 +77,7 @@ impl<X, E, P: FnMut(&X) -> Result<bool, E>> Test<(bool, P), X, E> for SkipWhileT
     ghost tests = { λ _ state x v d. PassTest (skip_call (call_at P.FnMut)) skip_while_outcome
         state x v d };
 
+    #[inline(always)]
     fn test(&self, state: &mut (bool, P), item: &X) -> Result<bool, E> {
         if state.0 {
             return Ok(true);

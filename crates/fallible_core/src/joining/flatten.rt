@@ -175,6 +175,7 @@ impl<'a, 'b, U: IntoFallibleIterator, C, R, K: Turn<C, U::Item, R>> Turn<
     ghost turns = { λ k b x r d. TurnBehind beside beside_names
         (IsFlattenTurn U.into_gives U.IntoFallibleIter.contract (K.turns k.turn.now)) b x r d };
 
+    #[inline(always)]
     fn turn(
         &self,
         state: &mut Beside<'b, C, Option<U::IntoFallibleIter>>,

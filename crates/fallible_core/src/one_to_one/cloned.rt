@@ -93,6 +93,7 @@ impl<'b, T: Clone + 'b, E: From<AllocError>> Pass<(), &'b T, E> for ClonePass {
 
     ghost outcome = { λ _ x v. map_outcome x v };
 
+    #[inline(always)]
     fn pass(&self, _state: &mut (), item: &'b T) -> Outcome<T, E> {
         match T::clone(item) {
             Ok(y) => Outcome::Kept(y),

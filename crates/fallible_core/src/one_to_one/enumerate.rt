@@ -74,6 +74,7 @@ impl<X, E> Pass<usize, X, E> for EnumeratePass {
 
     ghost outcome = { λ _ x v. number_outcome x v };
 
+    #[inline(always)]
     fn pass(&self, state: &mut usize, item: X) -> Outcome<(usize, X), E> {
         let number = *state;
         *state += 1;

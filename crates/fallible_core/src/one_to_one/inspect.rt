@@ -94,6 +94,7 @@ impl<X: Drop, E, F: FnMut(&X) -> Result<(), E>> Pass<F, X, E> for InspectPass {
 
     ghost outcome = { λ _ x v. inspect_outcome x v };
 
+    #[inline(always)]
     fn pass(&self, state: &mut F, item: X) -> Outcome<X, E> {
         match state(&item) {
             Ok(()) => Outcome::Kept(item),

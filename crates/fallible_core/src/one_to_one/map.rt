@@ -97,6 +97,7 @@ impl<X, B, E, F: FnMut(X) -> Result<B, E>> Pass<F, X, E> for MapPass {
 
     ghost outcome = { λ _ x v. map_outcome x v };
 
+    #[inline(always)]
     fn pass(&self, state: &mut F, item: X) -> Outcome<B, E> {
         match state(item) {
             Ok(y) => Outcome::Kept(y),

@@ -61,6 +61,7 @@ impl<X, B, E, F: FnMut(X) -> Result<Option<B>, E>> Pass<F, X, E> for MapWhilePas
 
     ghost outcome = { λ _ x v. scan_outcome x v };
 
+    #[inline(always)]
     fn pass(&self, state: &mut F, item: X) -> Outcome<B, E> {
         match state(item) {
             Ok(Some(y)) => Outcome::Kept(y),

@@ -65,6 +65,7 @@ impl<X, St, B, E, F: FnMut(&mut St, X) -> Result<Option<B>, E>> Pass<(St, F), X,
 
     ghost outcome = { λ _ x v. scan_outcome x v };
 
+    #[inline(always)]
     fn pass(&self, state: &mut (St, F), item: X) -> Outcome<B, E> {
         match (state.1)(&mut state.0, item) {
             Ok(Some(y)) => Outcome::Kept(y),

@@ -37,6 +37,7 @@ impl<'a, I: std::iter::DoubleEndedIterator> std::iter::DoubleEndedIterator for P
 }
 
 // One turn of std's fold: the caller's turn on an item. A failure stops the fold. The caller's state is what std's fold carries.
+#[inline(always)]
 pub(crate) fn turn_of_element<'a, C, A, E, R, K: Turn<C, A, R>>(
     turn: &K,
     state: &'a mut C,

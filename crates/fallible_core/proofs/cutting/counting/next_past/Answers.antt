@@ -4,17 +4,17 @@ use Rattle.fallible_contract.proofs.Lemmas.Counting.{none, keeps_end, keeps_fail
 use Rattle.fallible_core.proofs.Lemmas.Cutting.Skip.{leaves_skip, plain_draw}
 use Rattle.fallible_core.proofs.cutting.counting.next_past.Goals as goal
 
-pub returns-then-still-eq0 : goal.returns-then-still-eq0
-returns-then-still-eq0 g c = leaves_skip _ {p = (c.args.it.now, c.args.left.now)} {q = (c.next.new.self, c.loop-x.still)} (c.loop-x.invariant.whole _ _ _ (plain_draw _ c.loop-x.still _ (omega (arith, c.if-still-eq0.true)) (rw c.in-Ok-Some.field-0-is at c.in-Ok-Some.ensures)))
+pub returns-then-left-eq0 : goal.returns-then-left-eq0
+returns-then-left-eq0 g c = leaves_skip _ {p = (c.args.it.now, c.args.left.now)} {q = (c.next.new.self, c.loop-x.left)} (c.loop-x.invariant.whole _ _ _ (plain_draw _ c.loop-x.left _ (omega (arith, c.if-left-eq0.true)) (rw c.in-Ok-Some.field-0-is at c.in-Ok-Some.ensures)))
 
 pub returns-in-Ok-None : goal.returns-in-Ok-None
-returns-in-Ok-None g c = leaves_skip _ {p = (c.args.it.now, c.args.left.now)} {q = (c.next.new.self, c.loop-x.still)} (c.loop-x.invariant.whole _ _ _ (keeps_end (rw c.in-Ok-None.field-0-is at c.in-Ok-None.ensures) none))
+returns-in-Ok-None g c = leaves_skip _ {p = (c.args.it.now, c.args.left.now)} {q = (c.next.new.self, c.loop-x.left)} (c.loop-x.invariant.whole _ _ _ (keeps_end (rw c.in-Ok-None.field-0-is at c.in-Ok-None.ensures) none))
 
 pub returns-in-Err : goal.returns-in-Err
-returns-in-Err g c = leaves_skip _ {p = (c.args.it.now, c.args.left.now)} {q = (c.next.new.self, c.loop-x.still)} (c.loop-x.invariant.whole _ _ _ (keeps_failure c.in-Err.e c.in-Err.ensures none))
+returns-in-Err g c = leaves_skip _ {p = (c.args.it.now, c.args.left.now)} {q = (c.next.new.self, c.loop-x.left)} (c.loop-x.invariant.whole _ _ _ (keeps_failure c.in-Err.e c.in-Err.ensures none))
 
 pub loop-x-preserved : goal.loop-x-preserved
 loop-x-preserved g c = let i = c.loop-x.invariant in let step = rw c.in-Ok-Some.field-0-is at c.in-Ok-Some.ensures in record {
-  whole = λ r t k rest. i.whole r t k (left_out_first _ _ c.in-Ok-Some.x c.loop-x.still (omega (arith, c.if-still-eq0.false)) step rest);
+  whole = λ r t k rest. i.whole r t k (left_out_first _ _ c.in-Ok-Some.x c.loop-x.left (omega (arith, c.if-left-eq0.false)) step rest);
   can_next = (g.met.I.FallibleIterator.lawful.kept_by_draw _ _ _ i.can_next step).can_next;
 }

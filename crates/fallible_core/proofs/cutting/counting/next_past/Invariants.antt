@@ -5,9 +5,9 @@ use Rattle.fallible_core.proofs.cutting.counting.next_past.Given as goal
 
 abbrev pub invariant-loop-x : goal.invariant-loop-x
 invariant-loop-x g l = let m = g.I.FallibleIterator.contract in record {
-  whole : (r : _) (t : _) (k : _) → Leaves m.steps 0 l.still l.it (r ∷ []) t k → Leaves m.steps 0 l.fn.left l.fn.it (r ∷ []) t k;
+  whole : (r : _) (t : _) (k : _) → Leaves m.steps 0 l.left l.it (r ∷ []) t k → Leaves m.steps 0 l.fn.left l.fn.it (r ∷ []) t k;
   can_next : m.can_next l.it;
 }
 
 abbrev pub decreases-loop-x : goal.decreases-loop-x
-decreases-loop-x g l = l.still
+decreases-loop-x g l = l.left
