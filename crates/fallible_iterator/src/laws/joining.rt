@@ -88,10 +88,7 @@ pub fn law_flat_map_finite<
     I: FallibleIterator,
     U: IntoFallibleIterator<Error = I::Error>,
     F: FnMut(I::Item) -> Result<U, I::Error>,
->(
-    it: &FlatMap<I, U, F>,
-    each: usize,
-)
+>(it: &FlatMap<I, U, F>, each: usize)
 where
     requires outer { I.contract.is_finite (flat_map_source it.now) }
     requires in_hand { IfSome (flat_map_inner it.now) U.IntoFallibleIter.contract.is_finite }
