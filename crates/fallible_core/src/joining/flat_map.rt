@@ -41,7 +41,7 @@ impl<
         (0, None)
     }
 
-    /// The fold of the inner iterator in hand, and at its end, in the same call, that of the closure's answers.
+    /// The fold of the inner iterator in hand, and at its end, in the same call, that of the source, whose items the closure makes inner iterators of.
     fn drive<C, R, K: Turn<C, U::Item, R>>(
         &mut self,
         state: &mut C,
