@@ -45,9 +45,7 @@ pub struct Beside<'a, C, P> {
 
 /// What is answered by a fold of the source whose turn stops with an answer: that answer, or the source's end or failure.
 #[inline(always)]
-pub fn answer_within<R, E>(
-    answer: Result<Option<Result<Option<R>, E>>, E>,
-) -> Result<Option<R>, E>
+pub fn answer_within<R, E>(answer: Result<Option<Result<Option<R>, E>>, E>) -> Result<Option<R>, E>
     ensures { result ≡ within answer }
 {
     match answer {

@@ -19,9 +19,7 @@ pub fn answer_or<R: Drop, E>(answer: Result<Option<Result<R, E>>, E>, none: R) -
 }
 
 /// What a search for a value answers, by what its fold answered: none at the end, the source's failure, or what the fold stopped with.
-pub fn answer_or_none<R, E>(
-    answer: Result<Option<Result<Option<R>, E>>, E>,
-) -> Result<Option<R>, E>
+pub fn answer_or_none<R, E>(answer: Result<Option<Result<Option<R>, E>>, E>) -> Result<Option<R>, E>
     ensures { result ≡ answer_by None answer }
 {
     match answer {
@@ -201,11 +199,7 @@ impl<A, E, F: FnMut(A) -> Result<bool, E>> Turn<(usize, F), A, Result<Option<usi
 
     /// The predicate's answer, asked once, and one more item before the next.
     #[inline(always)]
-    fn turn(
-        &self,
-        state: &mut (usize, F),
-        item: A,
-    ) -> ControlFlow<Result<Option<usize>, E>, ()> {
+    fn turn(&self, state: &mut (usize, F), item: A) -> ControlFlow<Result<Option<usize>, E>, ()> {
         match (state.1)(item) {
             Ok(true) => ControlFlow::Break(Ok(Some(state.0))),
             Ok(false) => {

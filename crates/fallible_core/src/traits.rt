@@ -433,10 +433,7 @@ pub trait FallibleIterator: Drop + Sized {
             (λ h l. Lists (seen_as map_parts (map_contract contract F.FnMut)).steps
             result (mapped h l)) }
     {
-        Map {
-            it: self,
-            f,
-        }
+        Map { it: self, f }
     }
 
     /// Keeps the items to which the predicate answers true, and loses those to which it answers false.
@@ -461,10 +458,7 @@ pub trait FallibleIterator: Drop + Sized {
             (λ h l. Lists (seen_as filter_parts (filter_contract contract F.FnMut)).steps
             result (filtered h l)) }
     {
-        Filter {
-            it: self,
-            f,
-        }
+        Filter { it: self, f }
     }
 
     /// Gives the source's answers up to the n-th item, and then ends. Failures and ends of the source pass, and don't count.
@@ -611,10 +605,7 @@ pub trait FallibleIterator: Drop + Sized {
             (λ h l. Lists (seen_as filter_map_parts (filter_map_contract contract F.FnMut)).steps
             result (filter_mapped h l)) }
     {
-        FilterMap {
-            it: self,
-            f,
-        }
+        FilterMap { it: self, f }
     }
 
     /// Shows each item to the closure, and answers it then.
@@ -637,10 +628,7 @@ pub trait FallibleIterator: Drop + Sized {
             (λ h l. Lists (seen_as inspect_parts (inspect_contract contract F.FnMut)).steps
             result (inspected h l)) }
     {
-        Inspect {
-            it: self,
-            f,
-        }
+        Inspect { it: self, f }
     }
 
     /// Replaces each failure by the closure's value on it, which is called once for each failure and for nothing else.
@@ -737,10 +725,7 @@ pub trait FallibleIterator: Drop + Sized {
             (λ h l. Lists (seen_as map_while_parts (map_while_contract contract F.FnMut)).steps
             result (mapped_while h l)) }
     {
-        MapWhile {
-            it: self,
-            f,
-        }
+        MapWhile { it: self, f }
     }
 
     /// Replaces each item by the closure's answer on the state and the item, where none is an end.

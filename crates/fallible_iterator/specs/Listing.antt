@@ -1,5 +1,5 @@
 -- What each type with two ends lists. `lists_source` says that from both ends a value of the source lists a list, and `lists` that one of the type does.
-use Rattle.std.specs.Prelude.{◌≡◌, ◌↔◌, List, reverse, Option, Some, Result, Ok, All}
+use Rattle.std.specs.Prelude.{◌≡◌, ◌↔◌, List, reverse, Option, Result, Ok, All}
 use Rattle.std.specs.Borrow.{Bor}
 use Rattle.std.specs.Iterator.{YieldsFirst, YieldsLast}
 use Rattle.fallible_contract.specs.Traces.{Answered}

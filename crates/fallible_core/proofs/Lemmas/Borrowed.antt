@@ -1,8 +1,8 @@
 -- The runs of a borrowed fallible iterator are those of the one behind it.
-use Rattle.std.specs.Prelude.{◌≡◌, ℕ, Result, List, [], ◌∷◌, ◌++◌, map}
+use Rattle.std.specs.Prelude.{◌≡◌, Result, List, [], ◌∷◌}
 use Rattle.std.specs.Borrow.{MutBor}
 use Rattle.std.proofs.Common.{refl, ap}
-use Rattle.fallible_contract.specs.Traces.{Answered, Run, item}
+use Rattle.fallible_contract.specs.Traces.{Answered, Run}
 use Rattle.fallible_contract.specs.Contract.{Contract}
 use Rattle.fallible_contract.specs.Lists.{AlwaysGives, Lists}
 use Rattle.fallible_core.specs.Borrowed.{borrowed}

@@ -1,5 +1,5 @@
 -- What a `take_while` of a borrow leaves the lender.
-use Rattle.std.specs.Prelude.{◌≡◌, ℕ, ◌+◌, Bool, true, false, not, List, [], ◌∷◌, ◌++◌, map, Option, Result, Some, Ok, Err}
+use Rattle.std.specs.Prelude.{◌≡◌, ℕ, ◌+◌, Bool, true, false, not, List, [], ◌∷◌, ◌++◌, map, Result, Ok, Err}
 use Rattle.std.specs.Borrow.{MutBor, Bor}
 use Rattle.std.specs.Fn.{Mut}
 use Rattle.std.proofs.Common.{refl, sym, ap, subst, ◌∙◌}

@@ -37,13 +37,12 @@ impl<T, E, I: std::iter::Iterator<Item = Result<T, E>>> FallibleIterator for Con
         self.it.size_hint()
     }
 
-    fn drive<C, R, K: Turn<C, T, R>>(
-        &mut self,
-        state: &mut C,
-        turn: &K,
-    ) -> Result<Option<R>, E> {
+    fn drive<C, R, K: Turn<C, T, R>>(&mut self, state: &mut C, turn: &K) -> Result<Option<R>, E> {
         let mut drawn = Progressing { it: &mut self.it };
-        match drawn.try_fold(state, |state, element| turn_of_element(turn, state, element)) {
+        match drawn.try_fold(
+            state,
+            |state, element| turn_of_element(turn, state, element),
+        ) {
             Ok(state) => {
                 let _ = &*state;
                 Ok(None)
@@ -75,7 +74,10 @@ impl<T, E, I: std::iter::DoubleEndedIterator<Item = Result<T, E>>> DoubleEndedFa
         turn: &K,
     ) -> Result<Option<R>, E> {
         let mut drawn = Progressing { it: &mut self.it };
-        match drawn.try_rfold(state, |state, element| turn_of_element(turn, state, element)) {
+        match drawn.try_rfold(
+            state,
+            |state, element| turn_of_element(turn, state, element),
+        ) {
             Ok(state) => {
                 let _ = &*state;
                 Ok(None)

@@ -1,5 +1,4 @@
 -- The fold whose state is the best so far and the closure is the fold.
-use Rattle.std.specs.Prelude.{◌≡◌}
 use Rattle.std.proofs.Common.{refl}
 use Rattle.fallible_contract.proofs.Lemmas.Folds.{folded_ended, folded_failed, folded_stopped}
 use Rattle.fallible_core.proofs.picking.best_by_key.Goals as goal

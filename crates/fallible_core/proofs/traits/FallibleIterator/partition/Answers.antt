@@ -1,6 +1,5 @@
 -- The fold whose state is the closure and both collections parts the items.
 use Rattle.std.specs.Prelude.{Ok, Err}
-use Rattle.std.proofs.Common.{rules}
 use Rattle.fallible_contract.specs.Closures.{call_at, takes_at}
 use Rattle.fallible_contract.proofs.Lemmas.Parting.{part_callable, parted_ended, parted_failed, parted_stopped}
 use Rattle.fallible_contract.proofs.Lemmas.Lists.Parted.{parted_as, contents_parted, failure_parted, unparted_as}
