@@ -931,6 +931,7 @@ pub trait FallibleIterator: Drop + Sized {
         FlatMap {
             it: self.map(f),
             in_hand: None,
+            made: PhantomData,
         }
     }
 

@@ -11,23 +11,23 @@ use Rattle.fallible_core.specs.declared.one_to_one.map.Map.{Map}
 abbrev pub flat_map_contract : {S F X Y C B E : Type 0} → Contract S X E → Mut F (X × Unit {0}) (Result Y E) → (Y → C → Type 0) → Contract C B E → Contract (Map S F × Option C) B E
 flat_map_contract m g into inner = flatten_contract (seen_as map_parts (map_contract m g)) into inner
 
-module _ {I U F B E J : Type 0} where
+module _ {I U F J : Type 0} where
   -- the `Map` of the closure over the source
-  abbrev pub flat_map_mapped : FlatMap I U F B E J → Map I F
+  abbrev pub flat_map_mapped : FlatMap I U F J → Map I F
   flat_map_mapped s = s.it
 
   -- the source
-  abbrev pub flat_map_source : FlatMap I U F B E J → I
+  abbrev pub flat_map_source : FlatMap I U F J → I
   flat_map_source s = map_source (flat_map_mapped s)
 
   -- the closure
-  abbrev pub flat_map_closure : FlatMap I U F B E J → F
+  abbrev pub flat_map_closure : FlatMap I U F J → F
   flat_map_closure s = map_closure (flat_map_mapped s)
 
   -- the inner iterator in hand
-  abbrev pub flat_map_inner : FlatMap I U F B E J → Option J
+  abbrev pub flat_map_inner : FlatMap I U F J → Option J
   flat_map_inner s = s.in_hand
 
   -- the `Map` of the closure over the source, and the inner iterator in hand
-  abbrev pub flat_map_parts : FlatMap I U F B E J → Map I F × Option J
+  abbrev pub flat_map_parts : FlatMap I U F J → Map I F × Option J
   flat_map_parts s = (flat_map_mapped s, flat_map_inner s)

@@ -146,15 +146,15 @@ module _ {X C B E V R : Type 0} (into : X → C → Type 0) (inner : Contract C 
   JoiningTakes can p x = (c : C) → into x c → inner.can_next c × inner.is_finite c × CallableDriving inner.steps turns can c p.0
 
 -- the source
-abbrev pub flatten_source : {I X E B D J : Type 0} → Flatten I X E B D J → I
+abbrev pub flatten_source : {I J : Type 0} → Flatten I J → I
 flatten_source s = s.it
 
 -- the inner iterator in hand
-abbrev pub flatten_inner : {I X E B D J : Type 0} → Flatten I X E B D J → Option J
+abbrev pub flatten_inner : {I J : Type 0} → Flatten I J → Option J
 flatten_inner s = s.in_hand
 
 -- the outer source, and the inner iterator in hand
-abbrev pub flatten_parts : {I X E B D J : Type 0} → Flatten I X E B D J → I × Option J
+abbrev pub flatten_parts : {I J : Type 0} → Flatten I J → I × Option J
 flatten_parts s = (flatten_source s, flatten_inner s)
 
 -- ---- what it lists

@@ -10,14 +10,17 @@ use crate::one_to_one::Map;
 use crate::traits::FallibleIterator;
 use crate::traits::conversion::IntoFallibleIterator;
 use fallible_contract::folds::Turn;
+use std::marker::PhantomData;
 
-/// The answers of the inner iterators that the closure makes of the items, as `Flatten` joins them. Where the closure fails, its failure is the answer, and that item is lost.
+/// The answers of the inner iterators that the closure makes of the items, as `Flatten` joins them. `J` is what an answer of the closure becomes, and no caller writes it. Where the closure fails, its failure is the answer, and that item is lost.
 #[derive(Drop)]
-#[derive_where(Clone; I, F, U::IntoFallibleIter)]
-#[derive_where(Debug; I, U::IntoFallibleIter)]
-pub struct FlatMap<I, U: IntoFallibleIterator, F> {
+#[derive_where(Clone; I, F, J)]
+#[derive_where(Debug; I, J)]
+pub struct FlatMap<I, U, F, J = <U as IntoFallibleIterator>::IntoFallibleIter> {
     pub(crate) it: Map<I, F>,
-    pub(crate) in_hand: Option<U::IntoFallibleIter>,
+    pub(crate) in_hand: Option<J>,
+    #[derive_where(skip)]
+    pub(crate) made: PhantomData<U>,
 }
 
 impl<

@@ -11,15 +11,14 @@ use crate::traits::conversion::IntoFallibleIterator;
 use fallible_contract::folds::{Beside, Turn, answer_within};
 use std::ops::ControlFlow;
 
-/// The answers of the inner iterators that the items become, one inner iterator after the other. The one in hand answers until its end, at which it is dropped; then the next item is drawn. A failure of the inner iterator keeps it. A failure or an end of the outer source is the answer, and the next call draws from it again.
-#[derive(Drop)]
-#[derive_where(Clone, Debug; I, <I::Item as IntoFallibleIterator>::IntoFallibleIter)]
-pub struct Flatten<I: FallibleIterator>
-where
-    I::Item: IntoFallibleIterator,
-{
+/// The answers of the inner iterators that the items become, one inner iterator after the other. `J` is what an item becomes, and no caller writes it. The one in hand answers until its end, at which it is dropped; then the next item is drawn. A failure of the inner iterator keeps it. A failure or an end of the outer source is the answer, and the next call draws from it again.
+#[derive(Clone, Debug, Drop)]
+pub struct Flatten<
+    I,
+    J = <<I as FallibleIterator>::Item as IntoFallibleIterator>::IntoFallibleIter,
+> {
     pub(crate) it: I,
-    pub(crate) in_hand: Option<<I::Item as IntoFallibleIterator>::IntoFallibleIter>,
+    pub(crate) in_hand: Option<J>,
 }
 
 impl<U: IntoFallibleIterator, I: FallibleIterator<Item = U, Error = U::Error>> FallibleIterator

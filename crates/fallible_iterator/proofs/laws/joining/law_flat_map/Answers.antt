@@ -6,4 +6,4 @@ use Rattle.fallible_core.proofs.Lemmas.Joining.Flatten.{flatten_by_answers}
 use Rattle.fallible_iterator.proofs.laws.joining.law_flat_map.Goals as goal
 
 pub returns : goal.returns
-returns g c = traces_of_parts flat_map_parts (λ p. record { it = p.0; in_hand = p.1 }) (λ s. refl) (λ p. refl) _ _ (runs_by_answers _ (flatten_by_answers _ _ _))
+returns g c = traces_of_parts flat_map_parts (λ p. record { it = p.0; in_hand = p.1; made = record {} }) (λ s. refl) (λ p. refl) _ _ (runs_by_answers _ (flatten_by_answers _ _ _))
