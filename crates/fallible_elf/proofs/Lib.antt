@@ -1,0 +1,3 @@
+mod RangeLemmas
+mod SectionLemmas
+mod SetLemmas

@@ -1,0 +1,7 @@
+-- What the clauses of `src/` cite.
+pub mod Faults
+pub mod Headers
+pub mod Numbers
+pub mod Sections
+pub mod Sets
+pub mod Shown
