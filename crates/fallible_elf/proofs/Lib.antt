@@ -1,3 +1,4 @@
 mod RangeLemmas
+mod ReportLemmas
 mod SectionLemmas
 mod SetLemmas

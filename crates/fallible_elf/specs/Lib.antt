@@ -2,6 +2,7 @@
 pub mod Faults
 pub mod Headers
 pub mod Numbers
+pub mod Report
 pub mod Sections
 pub mod Sets
 pub mod Shown

@@ -3,8 +3,10 @@
 
 pub mod fault;
 pub mod header;
+pub mod names;
 pub mod numbers;
 pub mod ranges;
+pub mod report;
 pub mod section;
 pub mod sections;
 pub mod set;
