@@ -1,5 +1,5 @@
 -- What a collection says of the list, and which fault is the first.
-use Rattle.std.specs.Prelude.{◌≡◌, ℕ, List, Option, Some, None, Result, Ok, Err, IsErrAnd}
+use Rattle.std.specs.Prelude.{◌≡◌, List, Option, Some, Result, Ok, Err, IsErrAnd}
 use Rattle.std.proofs.Common.{refl, sym, ap, subst, ◌∙◌}
 use Rattle.fallible_iterator.specs.Fault.{Fault}
 use Rattle.fallible_iterator.specs.Fault.TheVariants.{Source, Memory}
