@@ -1,3 +1,4 @@
+mod NameLemmas
 mod RangeLemmas
 mod ReportLemmas
 mod SectionLemmas
