@@ -7,7 +7,7 @@ use Rattle.fallible_elf.specs.Sets.{sets_of, ranges_of}
 use Rattle.fallible_iterator.specs.Fault.{Fault}
 use Rattle.fallible_iterator.specs.Fault.TheVariants.{Source}
 use Rattle.fallible_elf.specs.declared.fault.Damage.{Damage}
-use Rattle.fallible_elf.specs.declared.fault.Damage.TheVariants.{NotElf, HeaderCut, NotWide, NotLittleEndian, EntrySize, TableOutOfRange, NamesNumber, NamesOutOfRange, NamesNotEnded, NameOutOfRange, SetsOutOfRange, SetCut, SetForm, SetVersion, AddressSize, SegmentSize, RangesNotEnded}
+use Rattle.fallible_elf.specs.declared.fault.Damage.TheVariants.{NotElf, HeaderCut, NotWide, NotLittleEndian, EntrySize, TableOutOfRange, NamesNumber, NamesOutOfRange, NamesNotEnded, NameOutOfRange, SetsOutOfRange, SetsCompressed, SetCut, SetForm, SetVersion, AddressSize, SegmentSize, RangesNotEnded}
 use Rattle.fallible_elf.specs.declared.fault.ElfFault.{ElfFault}
 use Rattle.fallible_elf.specs.declared.report.RunFault.{RunFault}
 use Rattle.fallible_elf.specs.declared.report.RunFault.TheVariants.{Elf, Read, Memory, Write}
@@ -50,6 +50,7 @@ damage_text NamesOutOfRange = codes "the names lie outside the file"
 damage_text NamesNotEnded = codes "the last name has no end"
 damage_text NameOutOfRange = codes "a section's name lies outside the names"
 damage_text SetsOutOfRange = codes "the address ranges lie outside the file"
+damage_text SetsCompressed = codes "the address ranges are compressed"
 damage_text SetCut = codes "a set of ranges is cut short"
 damage_text SetForm = codes "a set's length has an unknown form"
 damage_text SetVersion = codes "a set has an unknown version"
@@ -73,6 +74,7 @@ abbrev pub damage_status : Damage → ℕ
 damage_status NotElf = 5
 damage_status NotWide = 5
 damage_status NotLittleEndian = 5
+damage_status SetsCompressed = 5
 damage_status damage = 1
 
 -- the status that a program ends with

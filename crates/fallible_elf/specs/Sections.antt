@@ -8,11 +8,12 @@ use Rattle.fallible_elf.specs.declared.fault.Damage.TheVariants.{NameOutOfRange}
 use Rattle.fallible_elf.specs.declared.header.Table.{Table}
 use Rattle.fallible_elf.specs.declared.section.Section.{Section}
 
--- The section whose header begins at a place, where the names begin at another. From its begin on, the header has at 0 where the name begins among the names, at 4 the type, at 16 the address, at 24 the offset, and at 32 the size.
+-- The section whose header begins at a place, where the names begin at another. From its begin on, the header has at 0 where the name begins among the names, at 4 the type, at 8 the flags, at 16 the address, at 24 the offset, and at 32 the size.
 abbrev pub section_at : ℕ → List ℕ → ℕ → Section
 section_at names bytes place = record {
   name = names + u32_at bytes place;
   kind = u32_at bytes (place + 4);
+  flags = u64_at bytes (place + 8);
   address = u64_at bytes (place + 16);
   offset = u64_at bytes (place + 24);
   size = u64_at bytes (place + 32);

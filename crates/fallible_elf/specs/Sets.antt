@@ -1,12 +1,12 @@
 -- The sets of address ranges that stand in a file, and their ranges, as DWARF writes them in the section `.debug_aranges`.
-use Rattle.std.specs.Prelude.{ℕ, zero, suc, ◌+◌, ◌-◌, ◌*◌, ◌/◌, min, drop, List, [], ◌∷◌, ◌++◌, length, slice_index, Bool, Option, Some, None, Result, Ok, Err, nat_le, nat_lt, nat_eq, eqb, ◌&&◌, if◌then◌else◌, codes}
+use Rattle.std.specs.Prelude.{ℕ, zero, suc, ◌+◌, ◌-◌, ◌*◌, ◌/◌, ◌%◌, min, drop, List, [], ◌∷◌, ◌++◌, length, slice_index, Bool, not, Option, Some, None, Result, Ok, Err, nat_le, nat_lt, nat_eq, eqb, ◌&&◌, if◌then◌else◌, codes}
 use Rattle.std.specs.List.{starts_with}
 use Rattle.fallible_iterator.specs.Lists.{on_value, found, flattened}
 use Rattle.fallible_elf.specs.Faults.{fault_at, fault_in, first_fault}
 use Rattle.fallible_elf.specs.Numbers.{u16_at, u32_at, u64_at}
 use Rattle.fallible_elf.specs.Sections.{headers_of}
 use Rattle.fallible_elf.specs.declared.fault.ElfFault.{ElfFault}
-use Rattle.fallible_elf.specs.declared.fault.Damage.TheVariants.{SetsOutOfRange, SetCut, SetForm, SetVersion, AddressSize, SegmentSize, RangesNotEnded}
+use Rattle.fallible_elf.specs.declared.fault.Damage.TheVariants.{SetsOutOfRange, SetsCompressed, SetCut, SetForm, SetVersion, AddressSize, SegmentSize, RangesNotEnded}
 use Rattle.fallible_elf.specs.declared.section.Section.{Section}
 use Rattle.fallible_elf.specs.declared.set.Region.{Region}
 use Rattle.fallible_elf.specs.declared.set.Set.{Set}
@@ -55,10 +55,17 @@ sets_between f bytes place limit = sets_from f bytes limit place (limit - place)
 unfoldable pub has_ranges : List ℕ → Section → Bool
 has_ranges bytes section = eqb section.kind 1 && starts_with nat_eq (drop section.name bytes) (codes ".debug_aranges" ++ 0 ∷ [])
 
+-- The bytes of a section lie in the file, and are not compressed, which bit 11 of the flags would say.
+abbrev pub region_checks : List ℕ → Section → List (Bool × ElfFault)
+region_checks bytes section =
+    (nat_le (section.offset + section.size) (length bytes), fault_at section.offset SetsOutOfRange)
+    ∷ (not (eqb (section.flags / 2048 % 2) 1), fault_at section.offset SetsCompressed)
+    ∷ []
+
 -- the bytes of a section, where there is one: from its offset on, so many as its size says; else none
 abbrev pub region_in : List ℕ → Option Section → Result Region ElfFault
 region_in bytes None = Ok (record { place = 0; end = 0 })
-region_in bytes (Some section) = if nat_le (section.offset + section.size) (length bytes) then Ok (record { place = section.offset; end = section.offset + section.size }) else Err (fault_at section.offset SetsOutOfRange)
+region_in bytes (Some section) = on_value (first_fault (region_checks bytes section)) (λ _. Ok (record { place = section.offset; end = section.offset + section.size }))
 
 -- the bytes of the first section that has the address ranges, or the first fault up to there
 abbrev pub region_of : List ℕ → Result Region ElfFault

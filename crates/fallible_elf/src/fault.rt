@@ -27,6 +27,8 @@ pub enum Damage {
     NameOutOfRange,
     /// The address ranges would lie outside the file.
     SetsOutOfRange,
+    /// The address ranges are compressed.
+    SetsCompressed,
     /// A set of address ranges ends within its header, or outside its section.
     SetCut,
     /// A set's length is written in a form that isn't read.

@@ -157,6 +157,7 @@ fn text_of(damage: Damage) -> &'static str
         Damage::NamesNotEnded => "the last name has no end",
         Damage::NameOutOfRange => "a section's name lies outside the names",
         Damage::SetsOutOfRange => "the address ranges lie outside the file",
+        Damage::SetsCompressed => "the address ranges are compressed",
         Damage::SetCut => "a set of ranges is cut short",
         Damage::SetForm => "a set's length has an unknown form",
         Damage::SetVersion => "a set has an unknown version",
@@ -173,7 +174,10 @@ impl RunFault {
     {
         match self {
             RunFault::Elf(fault) => match fault.damage {
-                Damage::NotElf | Damage::NotWide | Damage::NotLittleEndian => 5,
+                Damage::NotElf
+                | Damage::NotWide
+                | Damage::NotLittleEndian
+                | Damage::SetsCompressed => 5,
                 _ => 1,
             },
             RunFault::Read => 2,

@@ -12,6 +12,8 @@ pub struct Section {
     pub name: usize,
     /// Its type.
     pub kind: u32,
+    /// Its flags.
+    pub flags: u64,
     /// Where it lies in memory.
     pub address: u64,
     /// Where it begins in the file.
@@ -30,6 +32,7 @@ impl Section {
         Section {
             name: names + u32_at(file, place) as usize,
             kind: u32_at(file, place + 4),
+            flags: u64_at(file, place + 8),
             address: u64_at(file, place + 16),
             offset: u64_at(file, place + 24),
             size: u64_at(file, place + 32),

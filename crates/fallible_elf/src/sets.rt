@@ -35,6 +35,9 @@ fn region_in(file: &[u8], section: Option<Section>) -> Result<Region, ElfFault>
     if file.len() < place || file.len() - place < size {
         return Err(ElfFault::at(place, Damage::SetsOutOfRange));
     }
+    if section.flags / 2048 % 2 == 1 {
+        return Err(ElfFault::at(place, Damage::SetsCompressed));
+    }
     Ok(Region {
         place,
         end: place + size,

@@ -42,21 +42,22 @@ fn turned(alloc: Global, place: usize) -> Result<Vec<u8>, AllocError> {
 #[test]
 fn object_is_read(rt: HostRuntime) -> Result<(), Fail> {
     let tables = tables_of(rt.alloc(), &OBJECT)?;
-    let section = |name, kind, address, offset, size| Section {
+    let section = |name, kind, flags, address, offset, size| Section {
         name,
         kind,
+        flags,
         address,
         offset,
         size,
     };
-    // [ 1] .text PROGBITS 00000000004000b0 0000b0 000017, and so on
+    // [ 1] .text PROGBITS 00000000004000b0 0000b0 000017 00 AX, and so on
     let wanted = [
-        section(472, 0, 0, 0, 0),
-        section(499, 1, 0x4000b0, 0xb0, 0x17),
-        section(505, 1, 0, 0xc7, 0x60),
-        section(473, 2, 0, 0x128, 0x90),
-        section(481, 3, 0, 0x1b8, 0x20),
-        section(489, 3, 0, 0x1d8, 0x30),
+        section(472, 0, 0, 0, 0, 0),
+        section(499, 1, 6, 0x4000b0, 0xb0, 0x17),
+        section(505, 1, 0, 0, 0xc7, 0x60),
+        section(473, 2, 0, 0, 0x128, 0x90),
+        section(481, 3, 0, 0, 0x1b8, 0x20),
+        section(489, 3, 0, 0, 0x1d8, 0x30),
     ];
     assert_eq!(rt; tables.sections.as_slice(), wanted.as_slice());
     let set = |unit, place, end| Set { unit, place, end };
@@ -102,7 +103,9 @@ fn bytes_turned_over(rt: HostRuntime) -> Result<(), Fail> {
         (279, 295, fault(Damage::RangesNotEnded, 295)),
         (519, 520, fault(Damage::NamesNotEnded, 872)),
         (648, 652, fault(Damage::NameOutOfRange, 648)),
-        (652, 672, good),
+        (652, 657, good),
+        (657, 658, fault(Damage::SetsCompressed, 199)),
+        (658, 672, good),
         (680, 681, fault(Damage::SetCut, 295)),
         (681, 688, fault(Damage::SetsOutOfRange, 199)),
         (865, 872, fault(Damage::NamesOutOfRange, 864)),
