@@ -42,12 +42,18 @@ def run(path):
     return done.returncode, done.stdout.decode("latin-1").split("\n")[:-1], done.stderr.decode("latin-1")
 
 
+def shown(name):
+    """A name as readelf shows it: a control character as ^ and the letter with 64 more."""
+    plain = name.encode("latin-1").decode("unicode_escape")
+    return "".join(f"^{chr(ord(c) + 64)}" if ord(c) < 32 else c for c in plain)
+
+
 def rows_of(lines):
     """The sections and the ranges that the program printed."""
     sections = [OURS.fullmatch(line) for line in lines]
     ranges = [RANGE.fullmatch(line) for line in lines]
     return (
-        [(int(m[1]), m[6], int(m[2]), int(m[3], 16), int(m[4], 16), int(m[5], 16)) for m in sections if m],
+        [(int(m[1]), shown(m[6]), int(m[2]), int(m[3], 16), int(m[4], 16), int(m[5], 16)) for m in sections if m],
         [(int(m[1], 16), int(m[2], 16), int(m[3], 16)) for m in ranges if m],
     )
 
@@ -240,6 +246,21 @@ def damaged(path):
         yield f"{path}, cut at {length}", file[:length]
 
 
+def compare_good(tally, name, copy, mine, theirs):
+    """Compares what is read of a copy whose damage is no fault. It names what readelf does in its own way."""
+    tally.count["damaged copies with no fault"] += 1
+    if mine == theirs[:2]:
+        tally.count["of these the same rows"] += 1
+    elif theirs[2]:
+        tally.count["of these readelf complains"] += 1
+    elif mine[0] == theirs[0] and copy[16] == 1:
+        tally.count["of these readelf relocates the ranges"] += 1
+    elif mine[0] == theirs[0] and not mine[1]:
+        tally.count["of these readelf reads ranges in a section of another type"] += 1
+    else:
+        tally.differs(f"{name}: {mine}, readelf {theirs}")
+
+
 def compare_damaged(tally, room, n, name, copy):
     path = f"{room}/{n}"
     with open(path, "wb") as it:
@@ -251,13 +272,8 @@ def compare_damaged(tally, room, n, name, copy):
         tally.differs(f"{name}: status {status}, {told!r}, wanted {wanted!r}")
     if status != 0:
         tally.count["damaged copies with a fault"] += 1
-    elif n % 10 == 0:
-        theirs = readelf(path)
-        sections, ranges = rows_of(lines)
-        tally.count["damaged copies compared with readelf"] += 1
-        if sections != theirs[0] or ranges != theirs[1]:
-            tally.count["damaged copies that readelf reads otherwise"] += 1
-            print(f"{name}: readelf reads it otherwise")
+    else:
+        compare_good(tally, name, copy, rows_of(lines), readelf(path))
     os.remove(path)
 
 
