@@ -1,12 +1,12 @@
 -- What a draw takes of the headers that are left.
-use Rattle.std.specs.Prelude.{◌≡◌, ℕ, zero, suc, ◌+◌, ◌<◌, ◌≤◌, List, length, Option, Some, None, Result, Ok, Err}
-use Rattle.std.proofs.Common.{refl, ap, arith}
+use Rattle.std.specs.Prelude.{◌≡◌, ℕ, zero, suc, ◌+◌, ◌*◌, ◌<◌, ◌≤◌, List, length, Option, Some, None, Result, Ok, Err, slice_index_or}
+use Rattle.std.proofs.Common.{refl, sym, ap, ◌∙◌, arith}
 use Rattle.std.proofs.lemmas.Bool.{lt-ltb, le-ltb}
 use Rattle.fallible_iterator.specs.Lists.{result_answer}
 use Rattle.fallible_iterator.specs.Showing.{TakesShown}
 use Rattle.fallible_iterator.specs.Traces.{Answered}
 use Rattle.fallible_elf.specs.Faults.{fault_at}
-use Rattle.fallible_elf.specs.Headers.{table_of}
+use Rattle.fallible_elf.specs.Headers.{table_of, full_table, header_place, section_count, names_place, names_size}
 use Rattle.fallible_elf.specs.Numbers.{u32_at}
 use Rattle.fallible_elf.specs.Sections.{section_at, header_at, headers_from, headers_in, headers_of}
 use Rattle.fallible_elf.specs.declared.fault.ElfFault.{ElfFault}
@@ -50,3 +50,22 @@ headers_are bytes table e = ap (headers_in bytes) e
 pub fault_is : (bytes : List ℕ) (f : ElfFault) → Err f ≡ table_of bytes → headers_from 0 0 (Some f) bytes 0 0 ≡ headers_of bytes
 unfolding headers_of headers_from
 fault_is bytes f e = ap (headers_in bytes) e
+
+-- ---- by their numbers
+
+length_is : (names names_size : ℕ) (bytes : List ℕ) (place n : ℕ) → length (headers_from names names_size None bytes place n) ≡ n
+unfolding headers_from
+length_is names names_size bytes place zero = refl
+length_is names names_size bytes place (suc n) = ap suc (length_is names names_size bytes (place + 64) n)
+
+stands_at : (names names_size : ℕ) (bytes : List ℕ) (place n k : ℕ) (none : Result Section ElfFault) → k < n → slice_index_or (headers_from names names_size None bytes place n) k none ≡ header_at names names_size bytes (place + 64 * k)
+unfolding headers_from
+stands_at names names_size bytes place zero k none below = absurd (omega arith)
+stands_at names names_size bytes place (suc n) zero none below = let same : place ≡ place + 64 * 0 = omega arith in ap (header_at names names_size bytes) same
+stands_at names names_size bytes place (suc n) (suc k) none below = let same : place + 64 + 64 * k ≡ place + 64 * suc k = omega arith in stands_at names names_size bytes (place + 64) n k none (omega arith) ∙ ap (header_at names names_size bytes) same
+
+pub by_number : (bytes : List ℕ) → table_of bytes ≡ Ok (full_table bytes) → (length (headers_of bytes) ≡ section_count bytes) × ((n : ℕ) (none : Result Section ElfFault) → n < section_count bytes → slice_index_or (headers_of bytes) n none ≡ header_at (names_place bytes) (names_size bytes) bytes (header_place bytes n))
+by_number bytes e =
+    let t = full_table bytes in
+    let all : headers_from t.names t.names_size None bytes t.place t.count ≡ headers_of bytes = headers_are bytes t (sym e) in
+    (sym (ap length all) ∙ length_is t.names t.names_size bytes t.place t.count, (λ n none below. sym (ap (λ l. slice_index_or l n none) all) ∙ stands_at t.names t.names_size bytes t.place t.count n none below))

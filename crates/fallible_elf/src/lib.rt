@@ -3,6 +3,7 @@
 
 pub mod fault;
 pub mod header;
+pub mod laws;
 pub mod names;
 pub mod numbers;
 pub mod ranges;
