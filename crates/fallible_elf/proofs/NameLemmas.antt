@@ -1,6 +1,6 @@
 -- How many bytes stand before the first 0.
 use Rattle.std.specs.Prelude.{◌≡◌, ℕ, ◌<◌, ◌≤◌, List, length, not, eqb}
-use Rattle.std.proofs.Common.{sym, ap, arith, get_or}
+use Rattle.std.proofs.Common.{sym, ap, get_or}
 use Rattle.std.proofs.lemmas.Bool.{eq-eqb, ne_eqb}
 use Rattle.std.proofs.lemmas.List.Sums.{prefix_len_is}
 use Rattle.fallible_elf.specs.Names.{name_length}
