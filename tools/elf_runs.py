@@ -5,7 +5,7 @@ It runs the program over the files of crates/elf_tables/data and compares what i
 it over each ELF file of 64 bits below /usr/bin and /usr/lib (or the folders that are named), and compares the rows with
 those of `readelf -SW` and `readelf --debug-dump=aranges`. And it runs it over damaged copies of three files: each byte of
 the headers and of the address ranges turned over, and cut at many lengths. There it compares the fault and its place with
-what this script reads by itself, and the rows with those of readelf.
+what this script reads by itself, and the rows with those of readelf. It also runs it over inputs and outputs that refuse.
 
 It proves and builds the program first, where that is not done yet. It says each difference, and how many rows were the
 same. The status is 0 where nothing differs but what is named as readelf's own way.
@@ -199,6 +199,25 @@ def stored(tally):
         tally.count["stored runs"] += 1
 
 
+def devices(tally):
+    """Runs over inputs and outputs that are closed or refuse."""
+    file = f"{CRATE}/data/ends"
+    for what, command, wanted in (
+        ("input closed", f"{PROGRAM} <&-", (2, "read failed\n")),
+        ("input a folder", f"{PROGRAM} </", (2, "read failed\n")),
+        ("input empty", f"{PROGRAM} </dev/null", (5, "byte 0: no ELF file\n")),
+        ("input in pieces", f"(head -c 100 {file}; sleep 0.2; tail -c +101 {file}) | {PROGRAM}", (0, "")),
+        ("output closed", f"{PROGRAM} <{file} >&-", (4, "write failed\n")),
+        ("output full", f"{PROGRAM} <{file} >/dev/full", (4, "write failed\n")),
+        ("error closed, no ELF file", f"{PROGRAM} </dev/null 2>&-", (5, "")),
+        ("all closed", f"{PROGRAM} <&- >&- 2>&-", (2, "")),
+    ):
+        done = subprocess.run(["bash", "-c", command], capture_output=True, timeout=60)
+        tally.count["runs over devices"] += 1
+        if (done.returncode, done.stderr.decode()) != wanted:
+            tally.differs(f"{what}: status {done.returncode}, {done.stderr.decode()!r}, wanted {wanted}")
+
+
 def elf_files(folders):
     for folder in folders:
         for at, below, names in os.walk(folder):
@@ -283,6 +302,7 @@ def main(folders):
         sys.exit(built.stdout.decode() + built.stderr.decode() + "elf runs: elf_tables is not built")
     tally = Tally()
     stored(tally)
+    devices(tally)
     with ThreadPoolExecutor(2) as pool:
         list(pool.map(lambda path: compare_file(tally, path), elf_files(folders)))
         with tempfile.TemporaryDirectory() as room:

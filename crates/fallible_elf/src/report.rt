@@ -127,6 +127,8 @@ pub fn run<R: Read, W: Write>(alloc: Global, reader: &mut R, writer: &mut W) -> 
     ensures ok { OnOk result (ReadsFile (R.remaining reader.old) (R.remaining reader.new) None) }
     ensures fault { (fault : ElfFault) → result ≡ Err (RunFault.Elf fault)
         → ReadsFile (R.remaining reader.old) (R.remaining reader.new) (Some fault) }
+    ensures write { result ≡ Err RunFault.Write
+        → ReadsFile (R.remaining reader.old) (R.remaining reader.new) None }
     ensures unwritten { result ≢ Err RunFault.Write
         → OnErr result (Keeps (W.contents writer.old) (W.contents writer.new)) }
 {
