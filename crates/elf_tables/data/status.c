@@ -1,0 +1,2 @@
+/* A status. */
+int status(void) { return 3; }

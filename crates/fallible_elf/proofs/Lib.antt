@@ -1,0 +1,5 @@
+mod NameLemmas
+mod RangeLemmas
+mod ReportLemmas
+mod SectionLemmas
+mod SetLemmas

@@ -1,0 +1,69 @@
+-- What a draw takes of the sets and of the ranges that are left.
+use Rattle.std.specs.Prelude.{◌≡◌, ℕ, zero, suc, ◌+◌, ◌-◌, ◌<◌, ◌≤◌, List, ◌∷◌, nat_lt, if◌then◌else◌, Option, Some, None, Result, Ok, Err}
+use Rattle.std.proofs.Common.{refl, sym, ap, arith}
+use Rattle.std.proofs.lemmas.Bool.{lt-ltb, le-ltb}
+use Rattle.fallible_iterator.specs.Lists.{on_value}
+use Rattle.fallible_iterator.specs.Showing.{TakesShown}
+use Rattle.fallible_elf.specs.Faults.{fault_in, first_fault}
+use Rattle.fallible_elf.specs.Sets.{set_checks, set_at, set_then, sets_from, sets_between, region_of, sets_in, sets_of}
+use Rattle.fallible_elf.specs.declared.fault.ElfFault.{ElfFault}
+use Rattle.fallible_elf.specs.declared.set.Region.{Region}
+use Rattle.fallible_elf.specs.declared.set.Set.{Set}
+
+-- ---- sets
+
+made : (r : Result (Unit {0}) ElfFault) (s t : Set) → on_value r (λ _. Ok s) ≡ Ok t → s ≡ t
+made (Ok u) s t e = cc
+made (Err f) s t e = absurd (cc)
+
+-- a set ends behind its place
+ends_behind : (bytes : List ℕ) (limit place : ℕ) (set : Set) → set_at bytes limit place ≡ Ok set → place < set.end
+unfolding set_at
+ends_behind bytes limit place set e = let h = ap (λ (s : Set). s.end) (made (first_fault (set_checks bytes limit place)) _ set e) in omega (arith, h)
+
+-- where two bounds on how many come are large enough, the same sets come
+then_alike : (bytes : List ℕ) (limit place : ℕ) (y : Result Set ElfFault) (rest rest' : Set → List (Result Set ElfFault)) → ((set : Set) → y ≡ Ok set → rest set ≡ rest' set) → set_then y rest ≡ set_then y rest'
+then_alike bytes limit place (Ok set) rest rest' same = ap (λ l. Ok set ∷ l) (same set refl)
+then_alike bytes limit place (Err f) rest rest' same = refl
+
+enough : (f : Option ElfFault) (bytes : List ℕ) (limit n m place : ℕ) → limit ≤ place + n → limit ≤ place + m → sets_from f bytes limit place n ≡ sets_from f bytes limit place m
+unfolding sets_from
+enough f bytes limit zero zero place p q = refl
+enough f bytes limit zero (suc m) place p q = rw (le-ltb place limit (omega (arith, p))) refl
+enough f bytes limit (suc n) zero place p q = rw (le-ltb place limit (omega (arith, q))) refl
+enough f bytes limit (suc n) (suc m) place p q = ap (λ l. if nat_lt place limit then l else fault_in f) (then_alike bytes limit place (set_at bytes limit place) _ _ (λ set e. let on = ends_behind bytes limit place set e in enough f bytes limit n m set.end (omega (arith, on, p)) (omega (arith, on, q))))
+
+module _ (bytes : List ℕ) (limit place : ℕ) where
+  -- behind the last set: the fault, and then nothing
+  pub takes_fault : (f g : Option ElfFault) (e : ElfFault) → limit ≤ place → f ≡ Some e → g ≡ None → TakesShown (sets_between f bytes place limit) (Err e) (sets_between g bytes place limit)
+  unfolding sets_from
+  takes_fault f g e behind is after = let none : limit - place ≡ 0 = omega arith in rw (none, is, after) (refl, refl)
+
+  pub takes_end : (f g : Option ElfFault) → limit ≤ place → f ≡ None → g ≡ None → TakesShown (sets_between f bytes place limit) (Ok None) (sets_between g bytes place limit)
+  unfolding sets_from
+  takes_end f g behind is after = let none : limit - place ≡ 0 = omega arith in rw (none, is, after) (refl, refl)
+
+  -- a set, and those behind it are left
+  takes_of : (f : Option ElfFault) (k : ℕ) (set : Set) → place < limit → limit - place ≡ suc k → set_at bytes limit place ≡ Ok set → TakesShown (sets_between f bytes place limit) (Ok (Some set)) (sets_between f bytes set.end limit)
+  unfolding sets_from
+  takes_of f k set before some is = let on = ends_behind bytes limit place set is in rw (some, lt-ltb place limit before, is) (refl, enough f bytes limit (limit - set.end) k set.end (omega arith) (omega (arith, on, some)))
+
+  pub takes_set : (f : Option ElfFault) (set : Set) → place < limit → Ok set ≡ set_at bytes limit place → TakesShown (sets_between f bytes place limit) (Ok (Some set)) (sets_between f bytes set.end limit)
+  takes_set f set before is = takes_of f (limit - place - 1) set before (omega arith) (sym is)
+
+  -- a damaged one, and nothing is left
+  takes_damaged_of : (f : Option ElfFault) (k : ℕ) (e : ElfFault) → place < limit → limit - place ≡ suc k → set_at bytes limit place ≡ Err e → TakesShown (sets_between f bytes place limit) (Err e) (sets_between None bytes limit limit)
+  unfolding sets_from
+  takes_damaged_of f k e before some is = let none : limit - limit ≡ 0 = omega arith in rw (some, lt-ltb place limit before, is, none) (refl, refl)
+
+  pub takes_damaged : (f : Option ElfFault) (e : ElfFault) → place < limit → Err e ≡ set_at bytes limit place → TakesShown (sets_between f bytes place limit) (Err e) (sets_between None bytes limit limit)
+  takes_damaged f e before is = takes_damaged_of f (limit - place - 1) e before (omega arith) (sym is)
+
+-- the sets of the region that the file has, or its fault
+pub sets_are : (bytes : List ℕ) (region : Region) → Ok region ≡ region_of bytes → sets_between None bytes region.place region.end ≡ sets_of bytes
+unfolding sets_of
+sets_are bytes region e = ap (sets_in bytes) e
+
+pub fault_is : (bytes : List ℕ) (f : ElfFault) → Err f ≡ region_of bytes → sets_between (Some f) bytes 0 0 ≡ sets_of bytes
+unfolding sets_of sets_from
+fault_is bytes f e = ap (sets_in bytes) e

@@ -1,0 +1,9 @@
+-- What the clauses of `src/` cite.
+pub mod Faults
+pub mod Headers
+pub mod Names
+pub mod Numbers
+pub mod Report
+pub mod Sections
+pub mod Sets
+pub mod Shown

@@ -1,0 +1,14 @@
+//! The section headers and the address ranges of an ELF file of 64 bits whose numbers begin with their least byte.
+#![tactic(auto)]
+
+pub mod fault;
+pub mod header;
+pub mod laws;
+pub mod names;
+pub mod numbers;
+pub mod ranges;
+pub mod report;
+pub mod section;
+pub mod sections;
+pub mod set;
+pub mod sets;

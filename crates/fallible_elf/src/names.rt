@@ -1,0 +1,25 @@
+//! The names of sections.
+ghost use Rattle.std.specs.Prelude.{◌≡◌};
+ghost use Rattle.fallible_elf.specs.Names.{name_length, name_at};
+
+// How many bytes stand before the first 0.
+fn length_of(bytes: &[u8]) -> usize
+    ensures { result ≡ name_length bytes.now }
+{
+    let mut end = 0;
+    while end < bytes.len() && bytes[end] != 0 {
+        end += 1;
+    }
+    end
+}
+
+/// The bytes from a place on, up to the first 0 or to the end of the file.
+pub fn name_of(file: &[u8], place: usize) -> &[u8]
+    ensures { result.now ≡ name_at file.now place }
+{
+    if file.len() < place {
+        return &[];
+    }
+    let rest = &file[place..];
+    &rest[..length_of(rest)]
+}

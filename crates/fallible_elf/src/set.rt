@@ -1,0 +1,73 @@
+//! A set of address ranges.
+ghost use Rattle.std.specs.Prelude.{◌≡◌, ◌<◌, ◌≤◌, length, IfOk};
+ghost use Rattle.fallible_elf.specs.Sets.{set_at};
+
+use crate::fault::{Damage, ElfFault};
+use crate::numbers::{u16_at, u32_at};
+
+/// Bytes of a file.
+#[derive(Clone, Copy, Debug, PartialEq, Eq)]
+pub struct Region {
+    /// Where they begin.
+    pub place: usize,
+    /// Where they end.
+    pub end: usize,
+}
+
+/// A set: the address ranges of a unit.
+#[derive(Clone, Copy, Debug, PartialEq, Eq)]
+pub struct Set {
+    /// The offset of the unit in the section `.debug_info`.
+    pub unit: u32,
+    /// Where its ranges begin in the file.
+    pub place: usize,
+    /// Where it ends.
+    pub end: usize,
+}
+
+/// Addresses of a unit.
+#[derive(Clone, Copy, Debug, PartialEq, Eq)]
+pub struct Range {
+    /// The offset of the unit in the section `.debug_info`.
+    pub unit: u32,
+    /// The first address.
+    pub address: u64,
+    /// How many addresses there are.
+    pub length: u64,
+}
+
+impl Set {
+    #[tactic(auto, unfolding(crate::specs::Sets::set_at))]
+    // The set at a place of a section that ends at `limit`, or its first fault.
+    pub(crate) fn at(file: &[u8], limit: usize, place: usize) -> Result<Set, ElfFault>
+        requires within { limit ≤ length file.now }
+        requires before { place ≤ limit }
+        ensures value { result ≡ set_at file.now limit place }
+        ensures behind { IfOk result (λ set. place < set.end) }
+    {
+        if limit - place < 16 {
+            return Err(ElfFault::at(place, Damage::SetCut));
+        }
+        let length = u32_at(file, place) as usize;
+        if length >= 0xffff_fff0 {
+            return Err(ElfFault::at(place, Damage::SetForm));
+        }
+        if length < 12 || limit - place - 4 < length {
+            return Err(ElfFault::at(place, Damage::SetCut));
+        }
+        if u16_at(file, place + 4) != 2 {
+            return Err(ElfFault::at(place + 4, Damage::SetVersion));
+        }
+        if file[place + 10] != 8 {
+            return Err(ElfFault::at(place + 10, Damage::AddressSize));
+        }
+        if file[place + 11] != 0 {
+            return Err(ElfFault::at(place + 11, Damage::SegmentSize));
+        }
+        Ok(Set {
+            unit: u32_at(file, place + 6),
+            place: place + 16,
+            end: place + 4 + length,
+        })
+    }
+}

@@ -1,0 +1,359 @@
+// What is read of a real object, and of damaged copies of it. What `readelf` says of it stands in the comments.
+use crate::object::OBJECT;
+use fallible_elf::fault::{Damage, ElfFault};
+use fallible_elf::names::name_of;
+use fallible_elf::report::{RunFault, fault_line, run, tables_of};
+use fallible_elf::section::Section;
+use fallible_elf::set::{Range, Set};
+use std::alloc::{AllocError, Global};
+use std::io;
+use std::io::{ErrorKind, Read, Write};
+use std::process::Abort;
+use std::test::Fail;
+
+// The fault of a file, where it has one.
+fn judged(alloc: Global, file: &[u8]) -> Result<(), RunFault> {
+    tables_of(alloc, file)?;
+    Ok(())
+}
+
+fn fault(damage: Damage, place: usize) -> Result<(), RunFault> {
+    Err(RunFault::Elf(ElfFault { damage, place }))
+}
+
+// The object, with the bytes from a place on in the place of its own.
+fn with(alloc: Global, place: usize, bytes: &[u8]) -> Result<Vec<u8>, AllocError> {
+    let mut file = Vec::from_slice(alloc, &OBJECT)?;
+    for (at, byte) in file.iter_mut().skip(place).zip(bytes.iter()) {
+        *at = *byte;
+    }
+    Ok(file)
+}
+
+// The object with all bits of one byte turned over.
+fn turned(alloc: Global, place: usize) -> Result<Vec<u8>, AllocError> {
+    let mut file = Vec::from_slice(alloc, &OBJECT)?;
+    for at in file.iter_mut().skip(place).take(1) {
+        *at ^= 255;
+    }
+    Ok(file)
+}
+
+#[test]
+fn object_is_read(rt: HostRuntime) -> Result<(), Fail> {
+    let tables = tables_of(rt.alloc(), &OBJECT)?;
+    let section = |name, kind, flags, address, offset, size| Section {
+        name,
+        kind,
+        flags,
+        address,
+        offset,
+        size,
+    };
+    // [ 1] .text PROGBITS 00000000004000b0 0000b0 000017 00 AX, and so on
+    let wanted = [
+        section(472, 0, 0, 0, 0, 0),
+        section(499, 1, 6, 0x4000b0, 0xb0, 0x17),
+        section(505, 1, 0, 0, 0xc7, 0x60),
+        section(473, 2, 0, 0, 0x128, 0x90),
+        section(481, 3, 0, 0, 0x1b8, 0x20),
+        section(489, 3, 0, 0, 0x1d8, 0x30),
+    ];
+    assert_eq!(rt; tables.sections.as_slice(), wanted.as_slice());
+    let set = |unit, place, end| Set { unit, place, end };
+    let wanted = [set(0, 215, 247), set(0x67, 263, 295)];
+    assert_eq!(rt; tables.sets.as_slice(), wanted.as_slice());
+    // 00000000004000b0 0000000000000011, and 00000000004000c1 0000000000000006
+    let range = |unit, address, length| Range {
+        unit,
+        address,
+        length,
+    };
+    let wanted = [range(0, 0x4000b0, 0x11), range(0x67, 0x4000c1, 6)];
+    assert_eq!(rt; tables.ranges.as_slice(), wanted.as_slice());
+    assert_eq!(rt; name_of(&OBJECT, 505), b".debug_aranges".as_slice());
+    assert_eq!(rt; name_of(&OBJECT, 472), b"".as_slice());
+    assert_eq!(rt; name_of(&OBJECT, 904), b"".as_slice());
+    assert_eq!(rt; name_of(&OBJECT, 905), b"".as_slice());
+    Ok(())
+}
+
+// Each byte of the header, of the names' header, of the header of the ranges and of the ranges, turned over: from where to where, and the fault.
+#[test]
+fn bytes_turned_over(rt: HostRuntime) -> Result<(), Fail> {
+    let good = Ok(());
+    for (from, to, wanted) in [
+        (0, 4, fault(Damage::NotElf, 0)),
+        (4, 5, fault(Damage::NotWide, 4)),
+        (5, 6, fault(Damage::NotLittleEndian, 5)),
+        (6, 40, good),
+        (40, 48, fault(Damage::TableOutOfRange, 40)),
+        (48, 58, good),
+        (58, 60, fault(Damage::EntrySize, 58)),
+        (60, 62, fault(Damage::TableOutOfRange, 40)),
+        (62, 64, fault(Damage::NamesNumber, 62)),
+        (199, 203, fault(Damage::SetCut, 199)),
+        (203, 205, fault(Damage::SetVersion, 203)),
+        (205, 209, good),
+        (209, 210, fault(Damage::AddressSize, 209)),
+        (210, 211, fault(Damage::SegmentSize, 210)),
+        (211, 231, good),
+        (231, 247, fault(Damage::RangesNotEnded, 247)),
+        (247, 251, fault(Damage::SetCut, 247)),
+        (279, 295, fault(Damage::RangesNotEnded, 295)),
+        (519, 520, fault(Damage::NamesNotEnded, 872)),
+        (648, 652, fault(Damage::NameOutOfRange, 648)),
+        (652, 657, good),
+        (657, 658, fault(Damage::SetsCompressed, 199)),
+        (658, 672, good),
+        (680, 681, fault(Damage::SetCut, 295)),
+        (681, 688, fault(Damage::SetsOutOfRange, 199)),
+        (865, 872, fault(Damage::NamesOutOfRange, 864)),
+        (873, 880, fault(Damage::NamesOutOfRange, 864)),
+    ] {
+        for place in from..to {
+            let file = turned(rt.alloc(), place)?;
+            assert_eq!(rt; judged(rt.alloc(), file.as_slice()), wanted, "{place}");
+        }
+    }
+    Ok(())
+}
+
+#[test]
+fn cut_at_each_length(rt: HostRuntime) {
+    for length in 0..=OBJECT.len() {
+        let wanted = match length {
+            0..4 => fault(Damage::NotElf, 0),
+            4..64 => fault(Damage::HeaderCut, length),
+            64..904 => fault(Damage::TableOutOfRange, 40),
+            _ => Ok(()),
+        };
+        assert_eq!(rt; judged(rt.alloc(), &OBJECT[..length]), wanted, "{length}");
+    }
+}
+
+// Bytes in the place of the object's own, and the fault.
+#[test]
+fn bytes_exchanged(rt: HostRuntime) -> Result<(), Fail> {
+    let good = Ok(());
+    for (place, bytes, wanted) in [
+        // No section headers.
+        (40, [0; 8].as_slice(), good),
+        // The count, and the number of the names, are those in section 0: none, and 0.
+        (60, [0, 0].as_slice(), fault(Damage::NamesNumber, 62)),
+        (62, [255, 255].as_slice(), fault(Damage::NamesNotEnded, 552)),
+        (62, [6, 0].as_slice(), fault(Damage::NamesNumber, 62)),
+        // A length of 2 ^ 32 - 16, of 2 ^ 32 - 17, of 44 and one more, of 11.
+        (
+            199,
+            [240, 255, 255, 255].as_slice(),
+            fault(Damage::SetForm, 199),
+        ),
+        (
+            199,
+            [239, 255, 255, 255].as_slice(),
+            fault(Damage::SetCut, 199),
+        ),
+        (247, [45, 0, 0, 0].as_slice(), fault(Damage::SetCut, 247)),
+        (247, [11, 0, 0, 0].as_slice(), fault(Damage::SetCut, 247)),
+        // A set of no range, and behind it none.
+        (247, [12, 0, 0, 0].as_slice(), fault(Damage::SetCut, 263)),
+        // The last name of the table, and one behind it.
+        (648, [47, 0, 0, 0].as_slice(), good),
+        (
+            648,
+            [48, 0, 0, 0].as_slice(),
+            fault(Damage::NameOutOfRange, 648),
+        ),
+        // Ranges from 2 ^ 64 - 1 on.
+        (
+            672,
+            [255; 8].as_slice(),
+            fault(Damage::SetsOutOfRange, 18_446_744_073_709_551_615),
+        ),
+        // No names.
+        (872, [0; 8].as_slice(), fault(Damage::NamesNotEnded, 872)),
+    ] {
+        let file = with(rt.alloc(), place, bytes)?;
+        assert_eq!(rt;
+            judged(rt.alloc(), file.as_slice()),
+            wanted,
+            "{place} {bytes:?}"
+        );
+    }
+    Ok(())
+}
+
+// Section 0 has the count of sections as its size, and the number of the names as its link.
+#[test]
+fn counts_in_section_0(rt: HostRuntime) -> Result<(), Fail> {
+    let alloc = rt.alloc();
+    let mut file = with(alloc, 60, &[0, 0, 255, 255])?;
+    for (at, byte) in file.iter_mut().skip(552).zip([6, 0, 0, 0, 0, 0, 0, 0, 5]) {
+        *at = byte;
+    }
+    assert_eq!(rt; judged(alloc, file.as_slice()), Ok(()));
+    let tables = tables_of(alloc, file.as_slice())?;
+    assert_eq!(rt; tables.sections.len(), 6);
+    assert_eq!(rt; tables.ranges.len(), 2);
+    Ok(())
+}
+
+// 2 ^ 32 sections in 128 bytes, and 2 ^ 58 whose size in bytes is 2 ^ 64.
+#[test]
+fn counts_that_lie(rt: HostRuntime) -> Result<(), Fail> {
+    for count in [[0, 0, 0, 0, 1, 0, 0, 0], [0, 0, 0, 0, 0, 0, 0, 4], [255; 8]] {
+        let mut file = with(rt.alloc(), 40, &[64, 0, 0, 0, 0, 0, 0, 0])?;
+        for (at, byte) in file.iter_mut().skip(60).zip([0, 0]) {
+            *at = byte;
+        }
+        for (at, byte) in file.iter_mut().skip(96).zip(count) {
+            *at = byte;
+        }
+        file.truncate(128);
+        assert_eq!(rt;
+            judged(rt.alloc(), file.as_slice()),
+            fault(Damage::TableOutOfRange, 40)
+        );
+    }
+    Ok(())
+}
+
+// Gives its bytes, and then fails at each read.
+#[derive(Drop)]
+struct BrokenReader<'a> {
+    bytes: &'a [u8],
+    kind: ErrorKind,
+}
+
+impl Read for BrokenReader<'_> {
+    fn read(&mut self, buf: &mut [u8]) -> io::Result<usize> {
+        if self.bytes.is_empty() {
+            return Err(io::Error::from(self.kind));
+        }
+        Read::read(&mut self.bytes, buf)
+    }
+}
+
+// Takes so many bytes, one at a time, and then fails.
+#[derive(Drop)]
+struct BrokenWriter {
+    room: usize,
+}
+
+impl Write for BrokenWriter {
+    fn write(&mut self, buf: &[u8]) -> io::Result<usize> {
+        if self.room == 0 {
+            return Err(io::Error::from(ErrorKind::BrokenPipe));
+        }
+        let count = buf.len().min(1);
+        self.room -= count;
+        Ok(count)
+    }
+
+    fn flush(&mut self) -> io::Result<()> {
+        Ok(())
+    }
+}
+
+const REPORT: &[u8] = b"sections 6
+0 type 0 address 0x0 offset 0x0 size 0x0 name \n1 type 1 address 0x4000b0 offset 0xb0 size 0x17 name .text
+2 type 1 address 0x0 offset 0xc7 size 0x60 name .debug_aranges
+3 type 2 address 0x0 offset 0x128 size 0x90 name .symtab
+4 type 3 address 0x0 offset 0x1b8 size 0x20 name .strtab
+5 type 3 address 0x0 offset 0x1d8 size 0x30 name .shstrtab
+sets 2
+unit 0x0 from 0xd7 to 0xf7
+unit 0x67 from 0x107 to 0x127
+ranges 2
+unit 0x0 address 0x4000b0 length 0x11
+unit 0x67 address 0x4000c1 length 0x6
+";
+
+#[test]
+fn reports(rt: HostRuntime) -> Result<(), Fail> {
+    let mut written = Vec::new(rt.alloc());
+    let mut file = OBJECT.as_slice();
+    assert_eq!(rt; run(rt.alloc(), &mut file, &mut written), Ok(()));
+    assert_eq!(rt; written.as_slice(), REPORT);
+    let mut written = Vec::new(rt.alloc());
+    let mut cut = &OBJECT[..903];
+    assert_eq!(rt;
+        run(rt.alloc(), &mut cut, &mut written),
+        fault(Damage::TableOutOfRange, 40)
+    );
+    assert!(rt; written.is_empty());
+    Ok(())
+}
+
+#[test]
+fn run_answers_reads_and_writes_that_fail(rt: HostRuntime) {
+    for (kind, wanted) in [
+        (ErrorKind::Other, RunFault::Read),
+        (ErrorKind::OutOfMemory, RunFault::Memory),
+    ] {
+        for count in [0, 3, 64, 904] {
+            let mut reader = BrokenReader {
+                bytes: &OBJECT[..count],
+                kind,
+            };
+            let mut written = Vec::new(rt.alloc());
+            assert_eq!(rt;
+                run(rt.alloc(), &mut reader, &mut written),
+                Err(wanted),
+                "{count}"
+            );
+            assert!(rt; written.is_empty());
+        }
+    }
+    for room in [0, 1, 11, 400, REPORT.len() - 1] {
+        let mut file = OBJECT.as_slice();
+        let mut writer = BrokenWriter { room };
+        assert_eq!(rt;
+            run(rt.alloc(), &mut file, &mut writer),
+            Err(RunFault::Write),
+            "{room}"
+        );
+    }
+}
+
+fn expect_line(rt: &impl Abort, alloc: Global, fault: RunFault, line: &[u8], status: u8) {
+    let mut written = Vec::new(alloc);
+    assert_eq!(rt; fault_line(&fault, &mut written), Ok(status));
+    assert_eq!(rt; written.as_slice(), line);
+    for room in 0..line.len() {
+        let mut writer = BrokenWriter { room };
+        assert_eq!(rt; fault_line(&fault, &mut writer), Err(status));
+    }
+}
+
+#[test]
+fn fault_line_tells_each_fault(rt: HostRuntime) {
+    for (damage, place, line, status) in [
+        (Damage::NotElf, 0, b"byte 0: no ELF file\n".as_slice(), 5),
+        (
+            Damage::NotWide,
+            4,
+            b"byte 4: no file of 64 bits\n".as_slice(),
+            5,
+        ),
+        (
+            Damage::NotLittleEndian,
+            5,
+            b"byte 5: numbers don't begin with their least byte\n".as_slice(),
+            5,
+        ),
+        (
+            Damage::RangesNotEnded,
+            295,
+            b"byte 295: the ranges of a set have no end\n".as_slice(),
+            1,
+        ),
+    ] {
+        let fault = RunFault::Elf(ElfFault { damage, place });
+        expect_line(&rt, rt.alloc(), fault, line, status);
+    }
+    expect_line(&rt, rt.alloc(), RunFault::Read, b"read failed\n", 2);
+    expect_line(&rt, rt.alloc(), RunFault::Memory, b"no memory\n", 3);
+    expect_line(&rt, rt.alloc(), RunFault::Write, b"write failed\n", 4);
+}
