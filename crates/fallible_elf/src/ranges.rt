@@ -9,7 +9,7 @@ use crate::fault::{Damage, ElfFault};
 use crate::numbers::u64_at;
 use crate::set::{Range, Set};
 use crate::sets::sets_of;
-use fallible_iterator::laws::law_flatten_finite;
+use fallible_iterator::laws::law_flat_map_finite;
 use fallible_iterator::{FallibleIterator, Fault, IntoFallibleIterator};
 use std::alloc::Global;
 
@@ -103,6 +103,6 @@ pub fn all_ranges(alloc: Global, file: &[u8]) -> Result<Vec<Range>, Fault<ElfFau
     ensures { CollectedAs (λ all v. v.items ≡ all) (ranges_of file.now) result }
 {
     let joined = sets_of(file).flat_map(|set| Ok(SetIn { file, set }));
-    law_flatten_finite(&joined, MOST);
+    law_flat_map_finite(&joined, MOST);
     joined.collect(alloc)
 }
