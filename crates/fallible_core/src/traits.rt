@@ -1061,7 +1061,7 @@ pub trait FallibleIterator: Drop + Sized {
         let mut both = (first, second);
         match self.drive(&mut both, &UnzipTurn) {
             Ok(None) => Ok(both),
-            Ok(Some(refused)) => Err(Fault::Memory(refused)),
+            Ok(Some(refusal)) => Err(Fault::Memory(refusal)),
             Err(e) => Err(Fault::Source(e)),
         }
     }
