@@ -1,5 +1,5 @@
 //! Sources of one's own that show what they list.
-ghost use Rattle.std.specs.Prelude.{◌≡◌, ℕ, ◌+◌, ◌-◌, ◌%◌, ◌^◌, ◌≤◌, eqb, List, Result, Ok};
+ghost use Rattle.std.specs.Prelude.{◌≡◌, ℕ, ◌+◌, ◌-◌, ◌%◌, ◌^◌, ◌≤◌, eqb, length, List, Result, Ok};
 ghost use Rattle.fallible_iterator.specs.BothEnds.{ListsBothEnds};
 ghost use Rattle.fallible_iterator.specs.Contract.{AtMost};
 ghost use Rattle.fallible_iterator.specs.Laws.Showing.{lawful_listing};
@@ -53,6 +53,35 @@ impl Countdown {
     {
         Countdown { left }
     }
+}
+
+/// How many numbers a countdown from n gives, which std counts behind a look ahead.
+pub fn numbers_down(n: u32) -> usize
+    ensures { result ≡ length (down_from n) }
+{
+    Countdown::new(n).peekable().iterator().count()
+}
+
+/// How many of the numbers from n down to 1 are even, which a std loop counts, or the first failure.
+pub fn even_in_loop(n: u32) -> Result<u32, u8> {
+    let mut even: u32 = 0;
+    for number in Countdown::new(n).iterator() {
+        if number? % 2 == 0 {
+            even = even.wrapping_add(1);
+        }
+    }
+    Ok(even)
+}
+
+/// The sum of the numbers that are left, modulo 2 ^ 64.
+pub fn sum_down(mut numbers: Countdown) -> Result<u64, u8>
+    ensures { result ≡ folded (λ e. e) (λ s x. Ok ((s + x) % 2 ^ 64)) 0 (counts_down numbers) }
+{
+    let mut sum: u64 = 0;
+    while let Some(number) = numbers.next()? {
+        sum = sum.wrapping_add(u64::from(number));
+    }
+    Ok(sum)
 }
 
 /// How many of the numbers from n down to 1 are even.

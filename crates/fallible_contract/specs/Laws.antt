@@ -6,6 +6,7 @@ pub mod Contract
 pub mod Counting
 pub mod Ends
 pub mod Exchange
+pub mod Own
 pub mod Passing
 pub mod Showing
 pub mod WithSteps

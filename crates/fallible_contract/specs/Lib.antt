@@ -16,6 +16,7 @@ pub mod Hints
 pub mod LawForm
 pub mod Laws
 pub mod Lists
+pub mod Own
 pub mod Passing
 pub mod Picking
 pub mod Refusals

@@ -5,6 +5,7 @@ pub use Rattle.fallible_contract.specs.Laws.BoundsRuns
 pub use Rattle.fallible_contract.specs.Laws.Closures
 pub use Rattle.fallible_contract.specs.Laws.Contract
 pub use Rattle.fallible_contract.specs.Laws.Ends
+pub use Rattle.fallible_contract.specs.Laws.Own
 pub use Rattle.fallible_contract.specs.Laws.Showing
 pub use Rattle.fallible_contract.specs.Laws.WithSteps
 pub use Rattle.fallible_core.specs.Laws.Borrowed

@@ -20,6 +20,7 @@ pub use Rattle.fallible_contract.specs.Folds
 pub use Rattle.fallible_contract.specs.Held
 pub use Rattle.fallible_contract.specs.Hints
 pub use Rattle.fallible_contract.specs.LawForm
+pub use Rattle.fallible_contract.specs.Own
 pub use Rattle.fallible_contract.specs.Picking
 pub use Rattle.fallible_contract.specs.Refusals
 pub use Rattle.fallible_contract.specs.Searching

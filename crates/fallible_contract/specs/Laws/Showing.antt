@@ -1,10 +1,27 @@
 -- A type whose value shows what it lists is lawful, and lists that.
-use Rattle.std.specs.Prelude.{◌≡◌, length, Result, Some, None, Ok, Err, List, [], ◌∷◌}
+use Rattle.std.specs.Prelude.{◌≡◌, ◌<◌, length, Result, Some, None, Ok, Err, List, [], ◌∷◌}
 use Rattle.std.proofs.Common.{refl, sym, ap, subst, ◌∙◌, arith}
-use Rattle.fallible_contract.specs.Traces.{Answered}
+use Rattle.fallible_contract.specs.Traces.{Answered, item}
 use Rattle.fallible_contract.specs.Contract.{OnAnswer, Lawful}
 use Rattle.fallible_contract.specs.Lists.{AlwaysGives, Lists}
 use Rattle.fallible_contract.specs.Showing.{TakesShown, listing}
+
+module _ {A E : Type 0} where
+  -- what stood before a draw that answered r and left this list
+  abbrev pub before_answer : Answered A E → List (Result A E) → List (Result A E)
+  before_answer (Ok (Some x)) rest = Ok x ∷ rest
+  before_answer (Ok None) rest = []
+  before_answer (Err e) rest = Err e ∷ rest
+
+  -- the list that was shown begins with the answer, and is empty at an end
+  pub shown_before : (l : List (Result A E)) (r : Answered A E) (rest : List (Result A E)) → TakesShown l r rest → l ≡ before_answer r rest
+  shown_before [] r rest w = rw w.0 refl
+  shown_before (Ok x ∷ l) r rest w = rw (w.0, w.1) refl
+  shown_before (Err e ∷ l) r rest w = rw (w.0, w.1) refl
+
+  -- an item makes what is shown shorter
+  pub item_shortens : (l : List (Result A E)) (x : A) (rest : List (Result A E)) → TakesShown l (item x) rest → length rest < length l
+  item_shortens l x rest w = let e = ap length (shown_before l (item x) rest w) in omega (arith, e)
 
 module _ {S A E : Type 0} (shows : S → List (Result A E)) where
   gives_shown : (l : List (Result A E)) (s : S) → shows s ≡ l → AlwaysGives (listing shows).steps s l
@@ -17,13 +34,13 @@ module _ {S A E : Type 0} (shows : S → List (Result A E)) where
   answer_shown : (s t : S) (l : List (Result A E)) (r : Answered A E) → shows s ≡ l → TakesShown l r (shows t) → OnAnswer (listing shows) s r t
   answer_shown s t [] (Ok (Some x)) e w = absurd (let h = w.0 in cc)
   answer_shown s t [] (Err d) e w = absurd (let h = w.0 in cc)
-  answer_shown s t [] (Ok None) e w = let same = ap length w.1 ∙ ap length (sym e) in ((λ n b. (length (shows t), omega arith, omega (arith, same, b))), (λ f. absurd f))
-  answer_shown s t (Ok y ∷ l) (Ok (Some x)) e w = let now = ap length e in let then = ap length w.1 in (tt, (λ n b. (length (shows t), omega arith, omega (arith, now, then, b))), (λ f. absurd f))
+  answer_shown s t [] (Ok None) e w = let same = ap length w.1 ∙ ap length (sym e) in ((λ n b. (length (shows t), omega arith, omega (arith, same, b))), (λ f. (tt, omega (arith, same))))
+  answer_shown s t (Ok y ∷ l) (Ok (Some x)) e w = let now = ap length e in let then = ap length w.1 in (tt, (λ n b. (length (shows t), omega arith, omega (arith, now, then, b))), (λ f. (tt, omega (arith, now, then))))
   answer_shown s t (Ok y ∷ l) (Ok None) e w = absurd (let h = w.0 in cc)
   answer_shown s t (Ok y ∷ l) (Err d) e w = absurd (let h = w.0 in cc)
   answer_shown s t (Err y ∷ l) (Ok (Some x)) e w = absurd (let h = w.0 in cc)
   answer_shown s t (Err y ∷ l) (Ok None) e w = absurd (let h = w.0 in cc)
-  answer_shown s t (Err y ∷ l) (Err d) e w = let now = ap length e in let then = ap length w.1 in (tt, (λ n b. (length (shows t), omega arith, omega (arith, now, then, b))), (λ f. absurd f))
+  answer_shown s t (Err y ∷ l) (Err d) e w = let now = ap length e in let then = ap length w.1 in (tt, (λ n b. (length (shows t), omega arith, omega (arith, now, then, b))), (λ f. (tt, omega (arith, now, then))))
 
   pub lawful_listing : Lawful (listing shows)
   lawful_listing = record {

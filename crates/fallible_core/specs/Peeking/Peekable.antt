@@ -1,6 +1,6 @@
 -- `Peekable`, which looks one answer ahead and holds it.
 use Rattle.std.specs.Prelude.{ℕ, Bool, Option, Some, ◌≡◌, ◌+◌, ◌≤◌, List, [], ◌∷◌, ◌++◌, Result, None, Ok, Err, true, false, ◌⊎◌}
-use Rattle.std.specs.Iterator.{endless}
+use Rattle.std.specs.Iterator.{count_map}
 use Rattle.std.specs.Fn.{Shared, FnReturnsAt}
 use Rattle.std.specs.Borrow.{Bor}
 use Rattle.fallible_contract.specs.Traces.{Answered, Run, item, failure, end}
@@ -59,14 +59,14 @@ held_items (Some (Some x)) = 1
 held_items (Some None) = 0
 held_items None = 0
 
--- A held item is one more to come than the source's.
+-- A held item is one more to come than the source's, and one more that remains.
 abbrev pub peekable_contract : {S A E : Type 0} → Contract S A E → Contract (S × Option (Option A)) A E
 peekable_contract m = record {
   can_next = λ p. m.can_next p.0;
   steps = peekable_step m.steps;
   bound = λ p n. (k : ℕ) × m.bound p.0 k × (k + held_items p.1 ≤ n);
   is_finite = λ p. m.is_finite p.0;
-  remaining = λ _. endless;
+  remaining = λ p. count_map (λ n. n + held_items p.1) (m.remaining p.0);
   may_give = λ p x. (p.1 ≡ Some (Some x)) ⊎ m.may_give p.0 x;
   may_fail = λ p e. m.may_fail p.0 e;
   hints = peekable_hints m;

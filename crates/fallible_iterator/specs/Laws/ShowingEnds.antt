@@ -1,9 +1,10 @@
 -- A type with two ends whose value shows what it lists is lawful, and lists that from both ends.
-use Rattle.std.specs.Prelude.{◌≡◌, ℕ, zero, suc, length, reverse, Result, Some, None, Ok, Err, List, [], ◌∷◌}
+use Rattle.std.specs.Prelude.{◌≡◌, ℕ, ◌≤◌, ◌<◌, zero, suc, length, reverse, Result, Some, None, Ok, Err, List, [], ◌∷◌}
+use Rattle.std.specs.Iterator.{IsFinite, size}
 use Rattle.std.proofs.Common.{refl, sym, ap, subst, ◌∙◌, arith}
 use Rattle.std.proofs.lemmas.List.{length-reverse, reverse-reverse}
 use Rattle.fallible_contract.specs.Traces.{Answered}
-use Rattle.fallible_contract.specs.Contract.{OnAnswer, NoMore, Fewer}
+use Rattle.fallible_contract.specs.Contract.{OnAnswer, NoMore, NoMoreRemains, Fewer}
 use Rattle.fallible_contract.specs.Ends.{from_back, LawfulEnds}
 use Rattle.fallible_contract.specs.BothEnds.{TakesFirst, ListsBothEndsFor, ListsBothEnds}
 use Rattle.fallible_contract.specs.Showing.{TakesShown, listing}
@@ -18,10 +19,16 @@ module _ {S A E : Type 0} (shows : S → List (Result A E)) where
   fewer : (s t : S) → Fewer (listing (λ u. reverse (shows u))) s t → Fewer (listing shows) s t
   fewer s t less n b = let d = less n (let e = length-reverse (shows s) in omega (arith, e, b)) in let e = length-reverse (shows t) in (d.0, (let k = d.1 in omega (arith, e, k)), d.2)
 
+  less_remains : (s t : S) → length (reverse (shows t)) < length (reverse (shows s)) → IsFinite ((listing shows).remaining s) → IsFinite ((listing shows).remaining t) × (size ((listing shows).remaining t) < size ((listing shows).remaining s))
+  less_remains s t less f = (tt, (let d = length-reverse (shows s) in let e = length-reverse (shows t) in omega (arith, d, e, less)))
+
+  no_more_remains : (s t : S) → length (reverse (shows t)) ≤ length (reverse (shows s)) → NoMoreRemains (listing shows) s t
+  no_more_remains s t less f = (tt, (let d = length-reverse (shows s) in let e = length-reverse (shows t) in omega (arith, d, e, less)))
+
   answer_behind : (s t : S) (r : Answered A E) → OnAnswer (listing (λ u. reverse (shows u))) s r t → OnAnswer (from_back (listing shows) (listing_ends shows)) s r t
-  answer_behind s t (Ok (Some x)) a = (tt, fewer s t a.1, (λ f. absurd f))
-  answer_behind s t (Ok None) a = (no_more s t a.0, (λ f. absurd f))
-  answer_behind s t (Err e) a = (tt, no_more s t a.1, (λ f. absurd f))
+  answer_behind s t (Ok (Some x)) a = (tt, fewer s t a.1, less_remains s t (a.2 tt).1)
+  answer_behind s t (Ok None) a = (no_more s t a.0, no_more_remains s t (a.1 tt).1)
+  answer_behind s t (Err e) a = (tt, no_more s t a.1, less_remains s t (a.2 tt).1)
 
   pub lawful_listing_ends : LawfulEnds (listing shows) (listing_ends shows)
   lawful_listing_ends = record {

@@ -29,7 +29,7 @@ module _ {S A E : Type 0} {m : Contract S A E} (l : Lawful m) where
     can_next = a.can_next;
     is_finite = a.is_finite;
     bound = λ n b. let k = a.answer.1 b.0 b.1 in (n, (k.0, k.1, omega (arith, k.2, b.2)), omega arith);
-    remaining = λ f. absurd f;
+    remaining = λ f. let j = a.answer.2 f in (j.0, omega (arith, j.1));
     may_give = λ y h. elim h [ inl e ↦ (let same : x ≡ y = cc in inr (subst (λ (z : A). m.may_give s z) same a.answer.0)) | inr g ↦ inr (a.may_give y g) ];
     may_fail = a.may_fail;
     lenders = a.lenders;
@@ -42,7 +42,7 @@ module _ {S A E : Type 0} {m : Contract S A E} (l : Lawful m) where
     can_next = a.can_next;
     is_finite = a.is_finite;
     bound = λ n b. let k = a.answer.0 b.0 b.1 in (n, (k.0, k.1, omega (arith, k.2, b.2)), omega arith);
-    remaining = λ f. absurd f;
+    remaining = λ f. let j = a.answer.1 f in (j.0, omega (arith, j.1));
     may_give = λ y h. elim h [ inl e ↦ absurd cc | inr g ↦ inr (a.may_give y g) ];
     may_fail = a.may_fail;
     lenders = a.lenders;

@@ -11,8 +11,8 @@ module _ {S A E : Type 0} (m : Contract S A E) where
 
   -- the held answer comes
   answer_held : (s : S) (o : Option A) → OnAnswer P (s, Some o) (Ok o) (s, None)
-  answer_held s (Some x) = (inl refl, (λ n b. (b.0, (b.0, b.1, omega arith), omega (arith, b.2))), (λ f. absurd f))
-  answer_held s None = ((λ n b. (n, (b.0, b.1, omega (arith, b.2)), omega arith)), (λ f. absurd f))
+  answer_held s (Some x) = (inl refl, (λ n b. (b.0, (b.0, b.1, omega arith), omega (arith, b.2))), (λ f. (f, omega arith)))
+  answer_held s None = ((λ n b. (n, (b.0, b.1, omega (arith, b.2)), omega arith)), (λ f. (f, omega arith)))
 
   held_goes : (s : S) (o : Option A) → m.can_next s → KeptByDraw P (s, Some o) (Ok o) (s, None)
   held_goes s o c = record {
@@ -25,9 +25,9 @@ module _ {S A E : Type 0} (m : Contract S A E) where
   }
 
   answer_drawn : (s t : S) (r : Answered A E) → OnAnswer m s r t → OnAnswer P (s, None) r (t, None)
-  answer_drawn s t (Ok (Some x)) a = (inr a.0, (λ n b. let k = a.1 b.0 b.1 in (k.0, (k.0, k.1, omega arith), omega (arith, k.2, b.2))), (λ f. absurd f))
-  answer_drawn s t (Ok None) a = ((λ n b. let k = a.0 b.0 b.1 in (k.0, (k.0, k.1, omega arith), omega (arith, k.2, b.2))), (λ f. absurd f))
-  answer_drawn s t (Err e) a = (a.0, (λ n b. let k = a.1 b.0 b.1 in (k.0, (k.0, k.1, omega arith), omega (arith, k.2, b.2))), (λ f. absurd f))
+  answer_drawn s t (Ok (Some x)) a = (inr a.0, (λ n b. let k = a.1 b.0 b.1 in (k.0, (k.0, k.1, omega arith), omega (arith, k.2, b.2))), (λ f. let j = a.2 f in (j.0, omega (arith, j.1))))
+  answer_drawn s t (Ok None) a = ((λ n b. let k = a.0 b.0 b.1 in (k.0, (k.0, k.1, omega arith), omega (arith, k.2, b.2))), (λ f. let j = a.1 f in (j.0, omega (arith, j.1))))
+  answer_drawn s t (Err e) a = (a.0, (λ n b. let k = a.1 b.0 b.1 in (k.0, (k.0, k.1, omega arith), omega (arith, k.2, b.2))), (λ f. let j = a.2 f in (j.0, omega (arith, j.1))))
 
   -- the source's answer comes, where nothing is held
   pub drawn_goes : (s t : S) (r : Answered A E) → KeptByDraw m s r t → KeptByDraw P (s, None) r (t, None)

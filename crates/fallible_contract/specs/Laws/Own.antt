@@ -1,0 +1,114 @@
+-- The contracts of types of one's own are lawful.
+use Rattle.std.specs.Prelude.{ℕ, ◌+◌, ◌≤◌, Some, None, Ok, Err, List, [], ◌∷◌}
+use Rattle.std.specs.Iterator.{IsFinite, size}
+use Rattle.std.proofs.Common.{arith, subst, refl}
+use Rattle.fallible_contract.specs.Traces.{Answered, Run, items_in}
+use Rattle.fallible_contract.specs.Contract.{Contract, OnAnswer, KeptByDraw, KeptByDraws, Lawful}
+use Rattle.fallible_contract.specs.Passing.{IfItem}
+use Rattle.fallible_contract.specs.Own.{giving, items_and_failures_in, Gathers, MayCome, AllCome, MadeOfComing, gathering}
+use Rattle.fallible_contract.specs.Laws.Contract.{kept_after, kept_run}
+
+-- ---- a source that says which items come
+
+module _ {S A E : Type 0} (m : Contract S A E) (P : A → Type 0) where
+  answer_giving : (s t : S) (r : Answered A E) → IfItem P r → OnAnswer m s r t → OnAnswer (giving P m) s r t
+  answer_giving s t (Ok (Some x)) is a = ((a.0, is), a.1, a.2)
+  answer_giving s t (Ok None) is a = a
+  answer_giving s t (Err e) is a = a
+
+  goes_giving : (s t : S) (r : Answered A E) → IfItem P r → KeptByDraw m s r t → KeptByDraw (giving P m) s r t
+  goes_giving s t r is g = record {
+    can_next = g.can_next;
+    is_finite = g.is_finite;
+    answer = answer_giving s t r is g.answer;
+    may_give = λ x h. (g.may_give x h.0, h.1);
+    may_fail = g.may_fail;
+    lenders = g.lenders;
+  }
+
+pub lawful_giving : {S A E : Type 0} {m : Contract S A E} (P : A → Type 0) → Lawful m → Lawful (giving P m)
+lawful_giving {m = m} P l = record { kept_by_draw = λ s r t c step. goes_giving m P s t r step.1 (l.kept_by_draw s r t c step.0); bounded = l.bounded }
+
+-- ---- what several draws lower
+
+-- a failure counts besides the items
+items_most : {A E : Type 0} (trace : List (Answered A E)) → items_in trace ≤ items_and_failures_in trace
+items_most [] = omega arith
+items_most (Ok (Some x) ∷ rest) = let k = items_most rest in omega (arith, k)
+items_most (Ok None ∷ rest) = let k = items_most rest in omega (arith, k)
+items_most (Err e ∷ rest) = let k = items_most rest in omega (arith, k)
+
+module _ {P A E : Type 0} (m : Contract P A E) where
+  bound_lowered : (s t u : P) (r : Answered A E) (rest : List (Answered A E)) → OnAnswer m s r t → ((n : ℕ) → m.bound t n → (k : ℕ) × m.bound u k × (k + items_in rest ≤ n)) → (n : ℕ) → m.bound s n → (k : ℕ) × m.bound u k × (k + items_in (r ∷ rest) ≤ n)
+  bound_lowered s t u (Ok (Some x)) rest a then n b = let j = a.1 n b in let k = then j.0 j.1 in (k.0, k.1, omega (arith, j.2, k.2))
+  bound_lowered s t u (Ok None) rest a then n b = let j = a.0 n b in let k = then j.0 j.1 in (k.0, k.1, omega (arith, j.2, k.2))
+  bound_lowered s t u (Err e) rest a then n b = let j = a.1 n b in let k = then j.0 j.1 in (k.0, k.1, omega (arith, j.2, k.2))
+
+  -- each item drawn lowers each bound by one
+  pub lowers_bound : Lawful m → (s : P) (trace : List (Answered A E)) (t : P) → m.can_next s → Run m.steps s trace t → (n : ℕ) → m.bound s n → (k : ℕ) × m.bound t k × (k + items_in trace ≤ n)
+  lowers_bound l s [] t c ran n b = (n, subst (λ (u : P). m.bound u n) ran b, omega arith)
+  lowers_bound l s (r ∷ rest) t c ran n b = let g = l.kept_by_draw s r ran.0 c ran.1 in bound_lowered s ran.0 t r rest g.answer (lowers_bound l ran.0 rest t g.can_next ran.2) n b
+
+  remaining_lowered : (s t u : P) (r : Answered A E) (rest : List (Answered A E)) → OnAnswer m s r t → (IsFinite (m.remaining t) → IsFinite (m.remaining u) × (size (m.remaining u) + items_and_failures_in rest ≤ size (m.remaining t))) → IsFinite (m.remaining s) → IsFinite (m.remaining u) × (size (m.remaining u) + items_and_failures_in (r ∷ rest) ≤ size (m.remaining s))
+  remaining_lowered s t u (Ok (Some x)) rest a then f = let j = a.2 f in let k = then j.0 in (k.0, omega (arith, j.1, k.1))
+  remaining_lowered s t u (Ok None) rest a then f = let j = a.1 f in let k = then j.0 in (k.0, omega (arith, j.1, k.1))
+  remaining_lowered s t u (Err e) rest a then f = let j = a.2 f in let k = then j.0 in (k.0, omega (arith, j.1, k.1))
+
+  -- each item and each failure drawn lowers by one what remains
+  pub lowers_remaining : Lawful m → (s : P) (trace : List (Answered A E)) (t : P) → m.can_next s → Run m.steps s trace t → IsFinite (m.remaining s) → IsFinite (m.remaining t) × (size (m.remaining t) + items_and_failures_in trace ≤ size (m.remaining s))
+  lowers_remaining l s [] t c ran f = subst (λ (u : P). IsFinite (m.remaining u) × (size (m.remaining u) + 0 ≤ size (m.remaining s))) ran (f, omega arith)
+  lowers_remaining l s (r ∷ rest) t c ran f = let g = l.kept_by_draw s r ran.0 c ran.1 in remaining_lowered s ran.0 t r rest g.answer (lowers_remaining l ran.0 rest t g.can_next ran.2) f
+
+  came : (s t : P) (r : Answered A E) → OnAnswer m s r t → MayCome m s r
+  came s t (Ok (Some x)) a = a.0
+  came s t (Ok None) a = tt
+  came s t (Err e) a = a.0
+
+  comes_before : (s t : P) → KeptByDraws m s t → (r : Answered A E) → MayCome m t r → MayCome m s r
+  comes_before s t p (Ok (Some x)) h = p.may_give x h
+  comes_before s t p (Ok None) h = tt
+  comes_before s t p (Err e) h = p.may_fail e h
+
+  pub all_before : (s t : P) → KeptByDraws m s t → (trace : List (Answered A E)) → AllCome m t trace → AllCome m s trace
+  all_before s t p [] h = tt
+  all_before s t p (r ∷ rest) h = (comes_before s t p r h.0, all_before s t p rest h.1)
+
+  -- each answer that was drawn was one to come
+  pub all_came : Lawful m → (s : P) (trace : List (Answered A E)) (t : P) → m.can_next s → Run m.steps s trace t → AllCome m s trace
+  all_came l s [] t c ran = tt
+  all_came l s (r ∷ rest) t c ran = let g = l.kept_by_draw s r ran.0 c ran.1 in (came s ran.0 r g.answer, all_before s ran.0 (kept_after g) rest (all_came l ran.0 rest t g.can_next ran.2))
+
+-- ---- an adapter that takes several items for an answer
+
+module _ {S P A E B F : Type 0} (view : S → P) (made : List (Answered A E) → Answered B F → Type 0) (m : Contract P A E) where
+  abbrev G : Contract S B F
+  G = gathering view made m
+
+  answer_gathered : Lawful m → (s t : S) (r : Answered B F) → m.can_next (view s) → Gathers m.steps made (view s) r (view t) → OnAnswer G s r t
+  answer_gathered l s t (Ok (Some y)) c h = (
+    record { taken = h.taken; coming = all_came m l (view s) h.taken (view t) c h.drawn; answers = h.answers },
+    (λ n b. let k = lowers_bound m l (view s) h.taken (view t) c h.drawn n b in (k.0, k.1, let enough = h.enough in omega (arith, k.2, enough))),
+    (λ f. let k = lowers_remaining m l (view s) h.taken (view t) c h.drawn f in (k.0, let enough = h.enough in let most = items_most h.taken in omega (arith, k.1, enough, most))),
+  )
+  answer_gathered l s t (Ok None) c h = let k = kept_run l (view s) h.taken (view t) c h.drawn in (k.bound, k.remaining)
+  answer_gathered l s t (Err e) c h = (
+    record { taken = h.taken; coming = all_came m l (view s) h.taken (view t) c h.drawn; answers = h.answers },
+    (kept_run l (view s) h.taken (view t) c h.drawn).bound,
+    (λ f. let k = lowers_remaining m l (view s) h.taken (view t) c h.drawn f in (k.0, let enough = h.enough in omega (arith, k.1, enough))),
+  )
+
+  made_before : (s t : S) (r : Answered B F) → KeptByDraws m (view s) (view t) → MadeOfComing m (view t) made r → MadeOfComing m (view s) made r
+  made_before s t r p h = record { taken = h.taken; coming = all_before m (view s) (view t) p h.taken h.coming; answers = h.answers }
+
+  goes_gathered : Lawful m → (s t : S) (r : Answered B F) → m.can_next (view s) → Gathers m.steps made (view s) r (view t) → KeptByDraw G s r t
+  goes_gathered l s t r c h = let k = kept_run l (view s) h.taken (view t) c h.drawn in record {
+    can_next = k.can_next;
+    is_finite = k.is_finite;
+    answer = answer_gathered l s t r c h;
+    may_give = λ y g. made_before s t (Ok (Some y)) k g;
+    may_fail = λ e g. made_before s t (Err e) k g;
+    lenders = k.lenders;
+  }
+
+pub lawful_gathering : {S P A E B F : Type 0} {m : Contract P A E} (view : S → P) (made : List (Answered A E) → Answered B F → Type 0) → Lawful m → Lawful (gathering view made m)
+lawful_gathering {m = m} view made l = record { kept_by_draw = λ s r t c h. goes_gathered view made m l s t r c h; bounded = λ s. l.bounded (view s) }

@@ -1,0 +1,70 @@
+-- Contracts of types of one's own.
+use Rattle.std.specs.Prelude.{◌≡◌, ℕ, ◌+◌, ◌≤◌, Some, None, Ok, Err, ⊤, List, [], ◌∷◌}
+use Rattle.std.specs.Iterator.{at_most}
+use Rattle.fallible_contract.specs.Traces.{Answered, Run, item, failure, items_in}
+use Rattle.fallible_contract.specs.Contract.{Contract, counted_contract}
+use Rattle.fallible_contract.specs.Passing.{IfItem}
+
+-- As `counted_contract`, where the number counts failures too: at most so many items and failures together are left.
+abbrev pub counted_with_failures : {S A E : Type 0} → (S → Answered A E → S → Type 0) → (S → ℕ) → Contract S A E
+counted_with_failures steps left = let m = counted_contract steps left in record m { remaining = λ s. at_most (left s) }
+
+-- ---- a source that says which items come
+
+-- As m, and P holds of each item.
+abbrev pub giving : {S A E : Type 0} → (A → Type 0) → Contract S A E → Contract S A E
+giving P m = record m { steps = λ s r t. m.steps s r t × IfItem P r; may_give = λ s x. m.may_give s x × P x }
+
+-- ---- an adapter that takes several items for an answer
+
+-- how many items and failures a trace has
+abbrev pub items_and_failures_in : {A E : Type 0} → List (Answered A E) → ℕ
+items_and_failures_in [] = 0
+items_and_failures_in (Ok (Some x) ∷ rest) = items_and_failures_in rest + 1
+items_and_failures_in (Ok None ∷ rest) = items_and_failures_in rest
+items_and_failures_in (Err e ∷ rest) = items_and_failures_in rest + 1
+
+-- An item takes at least one item, and a failure at least one item or failure.
+abbrev pub TakesEnough : {A E B F : Type 0} → Answered B F → List (Answered A E) → Type 0
+TakesEnough (Ok (Some y)) taken = 1 ≤ items_in taken
+TakesEnough (Ok None) taken = ⊤
+TakesEnough (Err f) taken = 1 ≤ items_and_failures_in taken
+
+-- One answer of an adapter, and the draws that it is made of, from s up to t: `made` says which answer comes of which trace.
+pub record Gathers {P A E B F : Type 0} (steps : P → Answered A E → P → Type 0) (made : List (Answered A E) → Answered B F → Type 0) (s : P) (r : Answered B F) (t : P) : Type 0 where
+  pub taken : List (Answered A E)
+  pub drawn : Run steps s taken t
+  pub enough : TakesEnough r taken
+  pub answers : made taken r
+
+module _ {P A E : Type 0} (m : Contract P A E) (s : P) where
+  -- the answer may still come
+  abbrev pub MayCome : Answered A E → Type 0
+  MayCome (Ok (Some x)) = m.may_give s x
+  MayCome (Ok None) = ⊤
+  MayCome (Err e) = m.may_fail s e
+
+  -- each answer of a trace may still come
+  abbrev pub AllCome : List (Answered A E) → Type 0
+  AllCome [] = ⊤
+  AllCome (r ∷ rest) = MayCome r × AllCome rest
+
+  -- the answer is made of a trace of which each answer may still come
+  pub record MadeOfComing {B F : Type 0} (made : List (Answered A E) → Answered B F → Type 0) (r : Answered B F) : Type 0 where
+    pub taken : List (Answered A E)
+    pub coming : AllCome taken
+    pub answers : made taken r
+
+-- The contract of an adapter over m that makes each answer of several draws: at most as many items come as of its source, made of what its source gives.
+abbrev pub gathering : {S P A E B F : Type 0} → (S → P) → (List (Answered A E) → Answered B F → Type 0) → Contract P A E → Contract S B F
+gathering view made m = record {
+  can_next = λ s. m.can_next (view s);
+  steps = λ s r t. Gathers m.steps made (view s) r (view t);
+  bound = λ s n. m.bound (view s) n;
+  is_finite = λ s. m.is_finite (view s);
+  remaining = λ s. m.remaining (view s);
+  may_give = λ s y. MadeOfComing m (view s) made (item y);
+  may_fail = λ s f. MadeOfComing m (view s) made (failure f);
+  hints = λ _ h. h ≡ (0, None);
+  lenders = λ s. m.lenders (view s);
+}
