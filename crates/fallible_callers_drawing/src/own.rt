@@ -1,7 +1,8 @@
 //! Sources of one's own that show what they list.
-ghost use Rattle.std.specs.Prelude.{◌≡◌, ℕ, ◌+◌, ◌-◌, ◌%◌, ◌^◌, ◌≤◌, eqb, length, List, Result, Ok};
+ghost use Rattle.std.specs.Prelude.{◌≡◌, ℕ, ◌+◌, ◌-◌, ◌%◌, ◌^◌, ◌≤◌, eqb, length, List, Result, Ok, IfOk};
 ghost use Rattle.fallible_iterator.specs.BothEnds.{ListsBothEnds};
-ghost use Rattle.fallible_iterator.specs.Contract.{AtMost};
+ghost use Rattle.fallible_iterator.specs.Bridges.Unwrap.{unwrapped};
+ghost use Rattle.fallible_iterator.specs.Contract.{AtMost, NeverFails};
 ghost use Rattle.fallible_iterator.specs.Laws.Showing.{lawful_listing};
 ghost use Rattle.fallible_iterator.specs.Laws.ShowingEnds.{lawful_listing_ends};
 ghost use Rattle.fallible_iterator.specs.Lists.{Lists, CollectedAs, chained, counted, filtered, flattened, folded, mapped, results, reversed, taken};
@@ -13,7 +14,7 @@ ghost use Rattle.fallible_callers_drawing.specs.Down.{counting_from, counts_down
 use fallible_iterator::{
     DoubleEndedFallibleIterator, FallibleIterator, Fault, IntoFallibleIterator, convert,
 };
-use std::alloc::Global;
+use std::alloc::{AllocError, Global};
 
 /// Counts down to 1, and then ends.
 #[derive(Drop)]
@@ -74,6 +75,7 @@ pub fn even_in_loop(n: u32) -> Result<u32, u8> {
 }
 
 /// The sum of the numbers that are left, modulo 2 ^ 64.
+#[tactic(auto, using(fallible_contract::specs::Laws::Showing::shown_before), unfolding(fallible_contract::specs::Lists::folded))]
 pub fn sum_down(mut numbers: Countdown) -> Result<u64, u8>
     ensures { result ≡ folded (λ e. e) (λ s x. Ok ((s + x) % 2 ^ 64)) 0 (counts_down numbers) }
 {
@@ -82,6 +84,13 @@ pub fn sum_down(mut numbers: Countdown) -> Result<u64, u8>
         sum = sum.wrapping_add(u64::from(number));
     }
     Ok(sum)
+}
+
+/// The numbers from `low` to below `high`, which std collects, where memory suffices.
+pub fn collected_between(alloc: Global, low: u32, high: u32) -> Result<Vec<u32>, AllocError>
+    ensures { IfOk result (λ made. made.items ≡ unwrapped (numbers_between low high)) }
+{
+    Between::new(low, high).unwrap().collect(alloc)
 }
 
 /// How many of the numbers from n down to 1 are even.
@@ -158,6 +167,7 @@ impl Between {
         ensures lists { Lists (listing shows_between).steps result (numbers_between low high) }
         ensures behind { Lists (listing_ends shows_between).steps result
             (reversed (numbers_between low high)) }
+        ensures sure { NeverFails (listing shows_between) result }
         ensures fits { AtMost (listing shows_between) result (high - low) }
     {
         Between { low, high }

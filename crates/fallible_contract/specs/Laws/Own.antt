@@ -1,7 +1,7 @@
 -- The contracts of types of one's own are lawful.
 use Rattle.std.specs.Prelude.{ℕ, ◌+◌, ◌≤◌, Some, None, Ok, Err, List, [], ◌∷◌}
 use Rattle.std.specs.Iterator.{IsFinite, size}
-use Rattle.std.proofs.Common.{arith, subst, refl}
+use Rattle.std.proofs.Common.{arith, subst}
 use Rattle.fallible_contract.specs.Traces.{Answered, Run, items_in}
 use Rattle.fallible_contract.specs.Contract.{Contract, OnAnswer, KeptByDraw, KeptByDraws, Lawful}
 use Rattle.fallible_contract.specs.Passing.{IfItem}

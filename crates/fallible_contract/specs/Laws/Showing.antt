@@ -1,9 +1,9 @@
 -- A type whose value shows what it lists is lawful, and lists that.
-use Rattle.std.specs.Prelude.{◌≡◌, ◌<◌, length, Result, Some, None, Ok, Err, List, [], ◌∷◌}
+use Rattle.std.specs.Prelude.{◌≡◌, length, Result, Some, None, Ok, Err, List, [], ◌∷◌}
 use Rattle.std.proofs.Common.{refl, sym, ap, subst, ◌∙◌, arith}
-use Rattle.fallible_contract.specs.Traces.{Answered, item}
-use Rattle.fallible_contract.specs.Contract.{OnAnswer, Lawful}
-use Rattle.fallible_contract.specs.Lists.{AlwaysGives, Lists}
+use Rattle.fallible_contract.specs.Traces.{Answered}
+use Rattle.fallible_contract.specs.Contract.{OnAnswer, Lawful, NeverFails}
+use Rattle.fallible_contract.specs.Lists.{AlwaysGives, Lists, items}
 use Rattle.fallible_contract.specs.Showing.{TakesShown, listing}
 
 module _ {A E : Type 0} where
@@ -13,15 +13,11 @@ module _ {A E : Type 0} where
   before_answer (Ok None) rest = []
   before_answer (Err e) rest = Err e ∷ rest
 
-  -- the list that was shown begins with the answer, and is empty at an end
+  -- The list that was shown begins with the answer, and is empty at an end. So an item and a failure make what is shown shorter.
   pub shown_before : (l : List (Result A E)) (r : Answered A E) (rest : List (Result A E)) → TakesShown l r rest → l ≡ before_answer r rest
   shown_before [] r rest w = rw w.0 refl
   shown_before (Ok x ∷ l) r rest w = rw (w.0, w.1) refl
   shown_before (Err e ∷ l) r rest w = rw (w.0, w.1) refl
-
-  -- an item makes what is shown shorter
-  pub item_shortens : (l : List (Result A E)) (x : A) (rest : List (Result A E)) → TakesShown l (item x) rest → length rest < length l
-  item_shortens l x rest w = let e = ap length (shown_before l (item x) rest w) in omega (arith, e)
 
 module _ {S A E : Type 0} (shows : S → List (Result A E)) where
   gives_shown : (l : List (Result A E)) (s : S) → shows s ≡ l → AlwaysGives (listing shows).steps s l
@@ -54,3 +50,15 @@ module _ {S A E : Type 0} (shows : S → List (Result A E)) where
     };
     bounded = λ s. ((λ f. (length (shows s), omega arith)), (λ n. tt));
   }
+
+module _ {S A E : Type 0} (shows : S → List (Result A E)) where
+  fails_nowhere : (xs : List A) (s : S) → shows s ≡ items xs → NeverFails (listing shows) s
+  unfolding items
+  fails_nowhere [] s same [] t u e ran fails = let h = shown_before (shows t) (Err e) (shows u) fails in absurd (let k = ap shows ran in cc)
+  fails_nowhere (x ∷ xs) s same [] t u e ran fails = let h = shown_before (shows t) (Err e) (shows u) fails in absurd (let k = ap shows ran in cc)
+  fails_nowhere [] s same (r ∷ rest) t u e ran fails = let h = subst (λ (k : List (Result A E)). TakesShown k r (shows ran.0)) same ran.1 in fails_nowhere [] ran.0 h.1 rest t u e ran.2 fails
+  fails_nowhere (x ∷ xs) s same (r ∷ rest) t u e ran fails = let h = subst (λ (k : List (Result A E)). TakesShown k r (shows ran.0)) same ran.1 in fails_nowhere xs ran.0 h.1 rest t u e ran.2 fails
+
+  -- where it shows items alone, it never fails
+  pub never_fails_shown : (s : S) (xs : List A) → shows s ≡ items xs → NeverFails (listing shows) s
+  never_fails_shown s xs same = fails_nowhere xs s same

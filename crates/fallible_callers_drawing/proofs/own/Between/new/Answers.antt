@@ -1,8 +1,8 @@
--- It lists what it shows, from both ends, and as many items are to come as lie between.
+-- It lists what it shows, from both ends, which are items alone, and as many are to come as lie between.
 use Rattle.std.specs.Prelude.{length, reverse}
-use Rattle.std.proofs.Common.{arith, inr}
+use Rattle.std.proofs.Common.{refl, arith, inr}
 use Rattle.fallible_iterator.specs.Lists.{reversed}
-use Rattle.fallible_iterator.specs.Laws.Showing.{lists_shown}
+use Rattle.fallible_iterator.specs.Laws.Showing.{lists_shown, never_fails_shown}
 use Rattle.fallible_iterator.specs.Laws.ShowingEnds.{lists_both_shown}
 use Rattle.fallible_callers_drawing.specs.Between.{numbers_between, shows_between}
 use Rattle.fallible_callers_drawing.proofs.Between.{length_between}
@@ -17,6 +17,9 @@ returns-clause-lists c = lists_shown shows_between _
 pub returns-clause-behind : goal.returns-clause-behind
 unfolding reversed
 returns-clause-behind c = lists_shown (λ s. reverse (shows_between s)) _
+
+pub returns-clause-sure : goal.returns-clause-sure
+returns-clause-sure c = never_fails_shown shows_between _ _ refl
 
 pub returns-clause-fits : goal.returns-clause-fits
 returns-clause-fits c = let same = length_between c.args.low c.args.high in inr (length (numbers_between c.args.low c.args.high), omega arith, omega (arith, same))
