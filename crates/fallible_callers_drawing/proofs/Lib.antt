@@ -1,6 +1,7 @@
 -- Lemmas that the answers of this crate cite.
 pub mod Alike
 pub mod Between
+pub mod Down
 pub mod Full
 pub mod KnownBytes
 pub mod Taking

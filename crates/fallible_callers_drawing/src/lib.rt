@@ -7,6 +7,7 @@ pub mod drawing;
 pub mod generic;
 pub mod idioms;
 pub mod own;
+pub mod pairing;
 pub mod parsing;
 pub mod reading;
 pub mod resting;

@@ -1,16 +1,20 @@
 //! Sources of one's own that show what they list.
-ghost use Rattle.std.specs.Prelude.{◌≡◌, ℕ, ◌+◌, ◌-◌, ◌%◌, ◌^◌, ◌≤◌, eqb, length, List, Result, Ok, IfOk};
+ghost use Rattle.std.specs.Prelude.{◌≡◌, ℕ, ◌+◌, ◌-◌, ◌%◌, ◌^◌, ◌<◌, ◌≤◌, eqb, length, List, Result, Ok, IfOk};
 ghost use Rattle.fallible_iterator.specs.BothEnds.{ListsBothEnds};
 ghost use Rattle.fallible_iterator.specs.Bridges.Unwrap.{unwrapped};
 ghost use Rattle.fallible_iterator.specs.Contract.{AtMost, NeverFails};
+ghost use Rattle.fallible_iterator.specs.Laws.Own.{lawful_giving};
 ghost use Rattle.fallible_iterator.specs.Laws.Showing.{lawful_listing};
 ghost use Rattle.fallible_iterator.specs.Laws.ShowingEnds.{lawful_listing_ends};
-ghost use Rattle.fallible_iterator.specs.Lists.{Lists, CollectedAs, chained, counted, filtered, flattened, folded, mapped, results, reversed, taken};
+ghost use Rattle.fallible_iterator.specs.Lists.{Lists, CollectedAs, chained, counted, filtered, flattened, folded, mapped, repeated, results, reversed, taken};
+ghost use Rattle.fallible_iterator.specs.Own.{giving};
 ghost use Rattle.fallible_iterator.specs.Showing.{listing};
 ghost use Rattle.fallible_iterator.specs.ShowingEnds.{listing_ends};
 ghost use Rattle.fallible_callers_drawing.specs.Between.{numbers_between, shows_between};
 ghost use Rattle.fallible_callers_drawing.specs.Down.{counting_from, counts_down, down_from};
+ghost use Rattle.fallible_callers_drawing.specs.Rounds.{shows_rounds};
 
+use fallible_iterator::laws::law_flatten_finite;
 use fallible_iterator::{
     DoubleEndedFallibleIterator, FallibleIterator, Fault, IntoFallibleIterator, convert,
 };
@@ -111,6 +115,47 @@ pub fn countdowns(alloc: Global, numbers: Vec<Result<u32, u8>>) -> Result<Vec<u3
         .flat_map(|number: u32| Ok(Countdown { left: number }))
         .take(1000)
         .collect(alloc)
+}
+
+/// Countdowns from one number below 256, as many as are left.
+#[derive(Drop)]
+pub struct Rounds {
+    left: u32,
+    from: u8,
+}
+
+impl FallibleIterator for Rounds {
+    type Item = Countdown;
+
+    type Error = u8;
+
+    ghost contract = { giving (λ round. round.left < 256) (listing shows_rounds) };
+
+    /// The next countdown.
+    fn next(&mut self) -> Result<Option<Countdown>, u8> {
+        if self.left == 0 {
+            return Ok(None);
+        }
+        self.left -= 1;
+        let left = u32::from(self.from);
+        Ok(Some(Countdown { left }))
+    }
+
+    fn size_hint(&self) -> (usize, Option<usize>) {
+        (0, None)
+    }
+
+    ghost lawful = { lawful_giving (λ round. round.left < 256) (lawful_listing shows_rounds) };
+}
+
+/// How many numbers the rounds give that many countdowns make, modulo 2 ^ 64.
+pub fn numbers_in_rounds(left: u32, from: u8) -> Result<u64, u8>
+    ensures { result ≡ folded (λ e. e) (λ n _. Ok ((n + 1) % 2 ^ 64)) 0
+        (flattened counts_down (repeated left (counting_from from))) }
+{
+    let joined = Rounds { left, from }.flatten();
+    law_flatten_finite(&joined, 255);
+    joined.fold(0, |n: u64, _| Ok(n.wrapping_add(1)))
 }
 
 /// The numbers from `low` to below `high`, from either end.

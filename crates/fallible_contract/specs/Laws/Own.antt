@@ -1,9 +1,10 @@
 -- The contracts of types of one's own are lawful.
-use Rattle.std.specs.Prelude.{ℕ, ◌+◌, ◌≤◌, Some, None, Ok, Err, List, [], ◌∷◌}
+use Rattle.std.specs.Prelude.{ℕ, ◌+◌, ◌≤◌, Some, None, Ok, Err, Result, List, [], ◌∷◌}
 use Rattle.std.specs.Iterator.{IsFinite, size}
 use Rattle.std.proofs.Common.{arith, subst}
 use Rattle.fallible_contract.specs.Traces.{Answered, Run, items_in}
 use Rattle.fallible_contract.specs.Contract.{Contract, OnAnswer, KeptByDraw, KeptByDraws, Lawful}
+use Rattle.fallible_contract.specs.Lists.{AlwaysGives, Lists}
 use Rattle.fallible_contract.specs.Passing.{IfItem}
 use Rattle.fallible_contract.specs.Own.{giving, items_and_failures_in, Gathers, MayCome, AllCome, MadeOfComing, gathering}
 use Rattle.fallible_contract.specs.Laws.Contract.{kept_after, kept_run}
@@ -28,6 +29,15 @@ module _ {S A E : Type 0} (m : Contract S A E) (P : A → Type 0) where
 
 pub lawful_giving : {S A E : Type 0} {m : Contract S A E} (P : A → Type 0) → Lawful m → Lawful (giving P m)
 lawful_giving {m = m} P l = record { kept_by_draw = λ s r t c step. goes_giving m P s t r step.1 (l.kept_by_draw s r t c step.0); bounded = l.bounded }
+
+module _ {S A E : Type 0} (m : Contract S A E) (P : A → Type 0) where
+  gives_giving : (s : S) (l : List (Result A E)) → AlwaysGives m.steps s l → AlwaysGives (giving P m).steps s l
+  gives_giving s [] i = λ r t w. i r t w.0
+  gives_giving s (y ∷ l) i = λ r t w. let h = i r t w.0 in (h.0, gives_giving t l h.1)
+
+-- it lists what m does
+pub lists_giving : {S A E : Type 0} (m : Contract S A E) {s : S} {l : List (Result A E)} (P : A → Type 0) → Lists m.steps s l → Lists (giving P m).steps s l
+lists_giving m {s = s} {l = l} P i = record { runs = gives_giving m P s l i.runs }
 
 -- ---- what several draws lower
 

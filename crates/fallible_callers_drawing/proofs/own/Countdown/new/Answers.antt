@@ -1,14 +1,10 @@
 -- It lists what it shows, and as many items are to come as the number says.
-use Rattle.std.specs.Prelude.{◌≡◌, ℕ, zero, suc, length}
-use Rattle.std.proofs.Common.{refl, ap, arith, inr}
+use Rattle.std.specs.Prelude.{length}
+use Rattle.std.proofs.Common.{arith, inr}
 use Rattle.fallible_iterator.specs.Laws.Showing.{lists_shown}
 use Rattle.fallible_callers_drawing.specs.Down.{counts_down, down_from}
+use Rattle.fallible_callers_drawing.proofs.Down.{length_down}
 use Rattle.fallible_callers_drawing.proofs.own.Countdown.new.Goals as goal
-
-length_down : (n : ℕ) → length (down_from n) ≡ n
-unfolding down_from
-length_down zero = refl
-length_down (suc n) = ap suc (length_down n)
 
 pub returns-clause-lists : goal.returns-clause-lists
 returns-clause-lists c = lists_shown counts_down _
