@@ -60,6 +60,13 @@ impl Countdown {
     }
 }
 
+/// How many of the numbers from n down to 1 are even.
+pub fn even_below(n: u32) -> Result<usize, u8>
+    ensures { result ≡ counted (filtered (λ x. Ok (eqb (x % 2) 0)) (down_from n)) }
+{
+    Countdown::new(n).filter(|x| Ok(*x % 2 == 0)).count()
+}
+
 /// How many numbers a countdown from n gives, which std counts behind a look ahead.
 pub fn numbers_down(n: u32) -> usize
     ensures { result ≡ length (down_from n) }
@@ -95,13 +102,6 @@ pub fn collected_between(alloc: Global, low: u32, high: u32) -> Result<Vec<u32>,
     ensures { IfOk result (λ made. made.items ≡ unwrapped (numbers_between low high)) }
 {
     Between::new(low, high).unwrap().collect(alloc)
-}
-
-/// How many of the numbers from n down to 1 are even.
-pub fn even_below(n: u32) -> Result<usize, u8>
-    ensures { result ≡ counted (filtered (λ x. Ok (eqb (x % 2) 0)) (down_from n)) }
-{
-    Countdown::new(n).filter(|x| Ok(*x % 2 == 0)).count()
 }
 
 /// The countdowns from each number, one after the other, of which at most 1000 numbers come, where memory suffices.

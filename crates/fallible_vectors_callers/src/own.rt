@@ -1,5 +1,9 @@
 // Types of one's own that show what they list, drawn from, and under adapters.
-use fallible_callers_drawing::own::{Between, Countdown, Span, even_below, even_between, sum_with};
+use fallible_callers_drawing::own::{
+    Between, Countdown, Span, collected_between, even_below, even_between, even_in_loop,
+    numbers_down, numbers_in_rounds, sum_down, sum_with,
+};
+use fallible_callers_drawing::pairing::{Pairs, count_pairs};
 use fallible_iterator::Answer::{End, Failure, Item};
 use fallible_iterator::{Answer, DoubleEndedFallibleIterator, FallibleIterator, convert};
 use fallible_testing::answered::expect_answers;
@@ -14,6 +18,38 @@ fn a_countdown_is_drained_and_mapped(rt: HostRuntime) -> Result<(), Fail> {
         .map(|x| Ok(x.wrapping_mul(2)))
         .filter(|x| Ok(*x % 4 == 0));
     expect_answers(&rt, &mut doubled, &[Item(8), Item(4), End])
+}
+
+#[test]
+fn a_countdown_is_read_by_std_and_by_hand(rt: HostRuntime) -> Result<(), Fail> {
+    assert_eq!(rt; numbers_down(4), 4);
+    assert_eq!(rt; even_in_loop(9), Ok(4));
+    assert_eq!(rt; sum_down(Countdown::new(4)), Ok(10));
+    let between = collected_between(rt.alloc(), 3, 6)?;
+    assert_eq!(rt; between.as_slice(), [3, 4, 5].as_slice());
+    assert_eq!(rt; numbers_in_rounds(3, 4), Ok(12));
+    Ok(())
+}
+
+#[test]
+fn pairs_are_drawn_and_counted(rt: HostRuntime) -> Result<(), Fail> {
+    let readings: Vec<Result<u32, u8>> = Vec::from_array(
+        rt.alloc(),
+        [Ok(1), Ok(2), Ok(3), Err(9), Ok(4), Ok(5), Ok(6)],
+    )?;
+    let mut pairs = Pairs {
+        it: convert(readings.into_iter()),
+    };
+    assert_eq!(rt; pairs.next(), Ok(Some((1, 2))));
+    assert_eq!(rt; pairs.next(), Err(9));
+    assert_eq!(rt; pairs.next(), Ok(Some((4, 5))));
+    assert_eq!(rt; pairs.next(), Ok(None));
+    let numbers: Vec<Result<u32, u8>> = Vec::from_array(
+        rt.alloc(),
+        [Ok(1), Ok(2), Ok(3), Ok(4), Ok(5)],
+    )?;
+    assert_eq!(rt; count_pairs(convert(numbers.into_iter())), Ok(2));
+    Ok(())
 }
 
 #[test]

@@ -1,5 +1,5 @@
 -- What the draws of one answer make.
-use Rattle.std.specs.Prelude.{◌≡◌, Some, None, Ok, Err, [], ◌∷◌}
+use Rattle.std.specs.Prelude.{◌≡◌, [], ◌∷◌}
 use Rattle.std.proofs.Common.{rules, refl, arith}
 use Rattle.fallible_iterator.specs.Own.{Gathers}
 use Rattle.fallible_iterator.specs.Traces.{Answered, item, failure, end}
