@@ -1,5 +1,5 @@
 //! An adapter of one's own that takes two items for an answer.
-ghost use Rattle.std.specs.Prelude.{◌-◌, ◌^◌};
+ghost use Rattle.std.specs.Prelude.{ℕ, ◌-◌, ◌^◌, ◌<◌};
 ghost use Rattle.fallible_iterator.specs.Contract.{AtMost};
 ghost use Rattle.fallible_iterator.specs.Laws.Own.{lawful_gathering};
 ghost use Rattle.fallible_iterator.specs.Own.{gathering};
@@ -42,7 +42,7 @@ where
     ghost lawful = { lawful_gathering (λ s. s.it) MakesPair I.lawful };
 }
 
-/// How many pairs an iterator gives, or its first failure.
+/// How many pairs an iterator gives, or its first failure. No clause says the value.
 pub fn count_pairs<I: FallibleIterator>(it: I) -> Result<usize, I::Error>
 where
     I::Item: Drop,
@@ -50,4 +50,19 @@ where
     requires fits { AtMost I.contract it (2 ^ 64 - 1) }
 {
     Pairs { it }.count()
+}
+
+/// The sums of all pairs, added up modulo 2 ^ 64. Each sum fits, since each item that may come is below 2 ^ 31. No clause says the value.
+pub fn sum_of_pairs<I: FallibleIterator<Item = u32>>(it: I) -> Result<u64, I::Error>
+where
+    requires can_next { I.contract.can_next it }
+    requires finite { I.contract.is_finite it }
+    requires small { (x : ℕ) → I.contract.may_give it x → x < 2 ^ 31 }
+{
+    Pairs { it }
+        .map(|both: (u32, u32)| Ok(both.0 + both.1))
+        .fold(
+            0,
+            |sum: u64, both: u32| Ok(sum.wrapping_add(u64::from(both))),
+        )
 }

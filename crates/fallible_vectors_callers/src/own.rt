@@ -3,9 +3,9 @@ use fallible_callers_drawing::own::{
     Between, Countdown, Span, collected_between, even_below, even_between, even_in_loop,
     numbers_down, numbers_in_rounds, sum_down, sum_with,
 };
-use fallible_callers_drawing::pairing::{Pairs, count_pairs};
+use fallible_callers_drawing::pairing::{Pairs, count_pairs, sum_of_pairs};
 use fallible_iterator::Answer::{End, Failure, Item};
-use fallible_iterator::{Answer, DoubleEndedFallibleIterator, FallibleIterator, convert};
+use fallible_iterator::{Answer, DoubleEndedFallibleIterator, FallibleIterator, convert, once};
 use fallible_testing::answered::expect_answers;
 use std::cmp::Ordering;
 use std::test::Fail;
@@ -49,6 +49,7 @@ fn pairs_are_drawn_and_counted(rt: HostRuntime) -> Result<(), Fail> {
         [Ok(1), Ok(2), Ok(3), Ok(4), Ok(5)],
     )?;
     assert_eq!(rt; count_pairs(convert(numbers.into_iter())), Ok(2));
+    assert_eq!(rt; sum_of_pairs(once::<u32, u8>(7).chain(once(8))), Ok(15));
     Ok(())
 }
 
