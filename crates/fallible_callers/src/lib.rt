@@ -6,5 +6,6 @@ pub mod collecting;
 pub mod comparing;
 pub mod computing;
 pub mod consuming;
+pub mod equal;
 pub mod making;
 pub mod ranges;

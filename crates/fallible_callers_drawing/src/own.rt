@@ -1,5 +1,5 @@
 //! Sources of one's own that show what they list.
-ghost use Rattle.std.specs.Prelude.{◌≡◌, ℕ, ◌+◌, ◌-◌, ◌%◌, ◌^◌, ◌<◌, ◌≤◌, eqb, length, List, Result, Ok, IfOk};
+ghost use Rattle.std.specs.Prelude.{◌≡◌, ℕ, ◌+◌, ◌-◌, ◌*◌, ◌%◌, ◌^◌, ◌<◌, ◌≤◌, eqb, length, List, Result, Ok, IfOk};
 ghost use Rattle.fallible_iterator.specs.BothEnds.{ListsBothEnds};
 ghost use Rattle.fallible_iterator.specs.Bridges.Unwrap.{unwrapped};
 ghost use Rattle.fallible_iterator.specs.Contract.{AtMost, NeverFails};
@@ -97,11 +97,34 @@ pub fn sum_down(mut numbers: Countdown) -> Result<u64, u8>
     Ok(sum)
 }
 
+/// The sum of the doubled numbers that are left, modulo 2 ^ 64: what a fold behind `map` comes to, by a loop that maps nothing.
+#[tactic(auto, using(fallible_contract::specs::Laws::Showing::shown_before), unfolding(fallible_contract::specs::Lists::folded))]
+pub fn sum_down_doubled(mut numbers: Countdown) -> Result<u64, u8>
+    ensures { result ≡ folded (λ e. e) (λ s x. Ok ((s + x) % 2 ^ 64)) 0
+        (mapped (λ x. Ok (x * 2)) (counts_down numbers)) }
+{
+    let mut sum: u64 = 0;
+    while let Some(number) = numbers.next()? {
+        sum = sum.wrapping_add(u64::from(number) * 2);
+    }
+    Ok(sum)
+}
+
 /// The numbers from `low` to below `high`, which std collects, where memory suffices.
 pub fn collected_between(alloc: Global, low: u32, high: u32) -> Result<Vec<u32>, AllocError>
     ensures { IfOk result (λ made. made.items ≡ unwrapped (numbers_between low high)) }
 {
     Between::new(low, high).unwrap().collect(alloc)
+}
+
+/// The numbers from `low` to below `high`, which std collects as results, where memory suffices.
+pub fn tried_between(alloc: Global, low: u32, high: u32) -> Result<Vec<u32>, AllocError>
+    ensures { IfOk result (λ made. made.items ≡ unwrapped (numbers_between low high)) }
+{
+    Between::new(low, high)
+        .unwrap()
+        .map(|number: u32| Ok::<u32, AllocError>(number))
+        .try_collect(alloc)
 }
 
 /// The countdowns from each number, one after the other, of which at most 1000 numbers come, where memory suffices.

@@ -15,3 +15,4 @@ pub mod LoopsAtEnds
 pub mod Nests
 pub mod Sources
 pub mod WithoutFailure
+pub mod Words

@@ -8,6 +8,8 @@ mod collecting;
 #[cfg(test)]
 mod comparing;
 #[cfg(test)]
+mod equal;
+#[cfg(test)]
 mod examples;
 #[cfg(test)]
 mod first;
