@@ -84,7 +84,7 @@ pub fn pairs_down(n: u32, low: u32, high: u32) -> usize
         .count()
 }
 
-/// How many of these pairs have the same number twice, which a std loop counts, or the first failure.
+/// How many of these pairs have the same number twice, which a std loop counts, or the first failure. No clause says the value.
 pub fn same_in_pairs(n: u32, low: u32, high: u32) -> Result<u32, u8> {
     let mut same: u32 = 0;
     for pair in Countdown::new(n).zip(Between::new(low, high)).iterator() {
@@ -96,7 +96,7 @@ pub fn same_in_pairs(n: u32, low: u32, high: u32) -> Result<u32, u8> {
     Ok(same)
 }
 
-/// How many of the numbers from n down to 1 are even, which a std loop counts, or the first failure.
+/// How many of the numbers from n down to 1 are even, which a std loop counts, or the first failure. No clause says the value.
 pub fn even_in_loop(n: u32) -> Result<u32, u8> {
     let mut even: u32 = 0;
     for number in Countdown::new(n).iterator() {
