@@ -26,6 +26,7 @@ impl FallibleIterator for Ascii<'_> {
     ghost contract = { bounded_with_failures (λ s. length s.bytes.now - s.place)
         (listing shows_ascii) };
 
+    /// The next byte.
     fn next(&mut self) -> Result<Option<u8>, u8> {
         if self.bytes.len() <= self.place {
             return Ok(None);
