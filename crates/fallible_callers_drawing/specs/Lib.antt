@@ -1,5 +1,6 @@
 -- What the clauses of `src/` cite.
 pub mod Alike
+pub mod Ascii
 pub mod Between
 pub mod Down
 pub mod Full

@@ -1,6 +1,7 @@
 //! Callers of `fallible_iterator` that draw by hand, from either end, or go on with what a call left; functions over any iterator; and sources of one's own. Each states what it computes by plain list functions, as those of `fallible_callers` do.
 #![tactic(auto)]
 
+pub mod ascii;
 pub mod behind;
 pub mod digits;
 pub mod drawing;

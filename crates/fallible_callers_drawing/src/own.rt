@@ -6,7 +6,7 @@ ghost use Rattle.fallible_iterator.specs.Contract.{AtMost, NeverFails};
 ghost use Rattle.fallible_iterator.specs.Laws.Own.{lawful_giving};
 ghost use Rattle.fallible_iterator.specs.Laws.Showing.{lawful_listing};
 ghost use Rattle.fallible_iterator.specs.Laws.ShowingEnds.{lawful_listing_ends};
-ghost use Rattle.fallible_iterator.specs.Lists.{Lists, CollectedAs, chained, counted, filtered, flattened, folded, mapped, repeated, results, reversed, taken};
+ghost use Rattle.fallible_iterator.specs.Lists.{Lists, CollectedAs, chained, counted, filtered, flattened, folded, mapped, repeated, results, reversed, taken, zipped};
 ghost use Rattle.fallible_iterator.specs.Own.{giving};
 ghost use Rattle.fallible_iterator.specs.Showing.{listing};
 ghost use Rattle.fallible_iterator.specs.ShowingEnds.{listing_ends};
@@ -74,7 +74,29 @@ pub fn numbers_down(n: u32) -> usize
     Countdown::new(n).peekable().iterator().count()
 }
 
-/// How many of the numbers from n down to 1 are even, which a std loop counts, or the first failure.
+/// How many pairs there are of a number from n down to 1 and one of those from `low` to below `high`, which std counts.
+pub fn pairs_down(n: u32, low: u32, high: u32) -> usize
+    ensures { result ≡ length (zipped (down_from n) (numbers_between low high)) }
+{
+    Countdown::new(n)
+        .zip(Between::new(low, high))
+        .iterator()
+        .count()
+}
+
+/// How many of these pairs have the same number twice, which a std loop counts, or the first failure. No clause says the value.
+pub fn same_in_pairs(n: u32, low: u32, high: u32) -> Result<u32, u8> {
+    let mut same: u32 = 0;
+    for pair in Countdown::new(n).zip(Between::new(low, high)).iterator() {
+        let (left, right) = pair?;
+        if left == right {
+            same = same.wrapping_add(1);
+        }
+    }
+    Ok(same)
+}
+
+/// How many of the numbers from n down to 1 are even, which a std loop counts, or the first failure. No clause says the value.
 pub fn even_in_loop(n: u32) -> Result<u32, u8> {
     let mut even: u32 = 0;
     for number in Countdown::new(n).iterator() {
@@ -117,13 +139,13 @@ pub fn collected_between(alloc: Global, low: u32, high: u32) -> Result<Vec<u32>,
     Between::new(low, high).unwrap().collect(alloc)
 }
 
-/// The numbers from `low` to below `high`, which std collects as results, where memory suffices.
+/// The numbers from `low` to below `high`, each as a result, which std collects, where memory suffices.
 pub fn tried_between(alloc: Global, low: u32, high: u32) -> Result<Vec<u32>, AllocError>
     ensures { IfOk result (λ made. made.items ≡ unwrapped (numbers_between low high)) }
 {
     Between::new(low, high)
         .unwrap()
-        .map(|number: u32| Ok::<u32, AllocError>(number))
+        .map(|number| Ok::<_, AllocError>(number))
         .try_collect(alloc)
 }
 

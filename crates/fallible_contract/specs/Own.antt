@@ -1,5 +1,5 @@
 -- Contracts of types of one's own.
-use Rattle.std.specs.Prelude.{◌≡◌, ℕ, ◌+◌, ◌≤◌, Some, None, Ok, Err, ⊤, List, [], ◌∷◌}
+use Rattle.std.specs.Prelude.{◌≡◌, ℕ, ◌+◌, ◌<◌, ◌≤◌, Some, None, Ok, Err, ⊤, List, [], ◌∷◌}
 use Rattle.std.specs.Iterator.{at_most}
 use Rattle.fallible_contract.specs.Traces.{Answered, Run, item, failure, items_in}
 use Rattle.fallible_contract.specs.Contract.{Contract, counted_contract}
@@ -8,6 +8,28 @@ use Rattle.fallible_contract.specs.Passing.{IfItem}
 -- As `counted_contract`, where the number counts failures too: at most so many items and failures together are left.
 abbrev pub counted_with_failures : {S A E : Type 0} → (S → Answered A E → S → Type 0) → (S → ℕ) → Contract S A E
 counted_with_failures steps left = let m = counted_contract steps left in record m { remaining = λ s. at_most (left s) }
+
+-- ---- a source that knows how many are left
+
+-- an item lowers the number, and no other answer raises it
+abbrev pub LowersAtItem : {A E : Type 0} → Answered A E → ℕ → ℕ → Type 0
+LowersAtItem (Ok (Some x)) before after = after < before
+LowersAtItem (Ok None) before after = after ≤ before
+LowersAtItem (Err e) before after = after ≤ before
+
+-- an item and a failure lower the number, and an end doesn't raise it
+abbrev pub LowersAtAnswer : {A E : Type 0} → Answered A E → ℕ → ℕ → Type 0
+LowersAtAnswer (Ok (Some x)) before after = after < before
+LowersAtAnswer (Ok None) before after = after ≤ before
+LowersAtAnswer (Err e) before after = after < before
+
+-- As m, and at most so many items are left as the number says, which each item lowers.
+abbrev pub bounded_by : {S A E : Type 0} → (S → ℕ) → Contract S A E → Contract S A E
+bounded_by left m = record m { steps = λ s r t. m.steps s r t × LowersAtItem r (left s) (left t); bound = λ s n. left s ≤ n; is_finite = λ _. ⊤ }
+
+-- As `bounded_by`, where the number counts failures too: each failure lowers it as well.
+abbrev pub bounded_with_failures : {S A E : Type 0} → (S → ℕ) → Contract S A E → Contract S A E
+bounded_with_failures left m = record m { steps = λ s r t. m.steps s r t × LowersAtAnswer r (left s) (left t); bound = λ s n. left s ≤ n; is_finite = λ _. ⊤; remaining = λ s. at_most (left s) }
 
 -- ---- a source that says which items come
 

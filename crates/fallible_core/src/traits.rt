@@ -1705,7 +1705,7 @@ pub trait FallibleIterator: Drop + Sized {
     ///
     /// Making it draws nothing. One call of its `next` draws one answer, and never fails. It draws again whenever it is asked again.
     ///
-    /// Asks nothing. A std loop over it asks a bound on the items and failures together. `convert` and `into_fallible` have one where their std iterator does, and so have the adapters over them but `zip`, `flatten`, `flat_map`, `cycle` and `peekable`. Where there is none, std's `take` gives one.
+    /// Asks nothing. A std loop over it asks a bound on the items and failures together. `convert` and `into_fallible` have one where their std iterator does, and so have the adapters over them but `flatten`, `flat_map` and `cycle`; `chain` and `zip` where both sides have. Where there is none, std's `take` gives one.
     ///
     /// ```
     /// for reading in convert(readings.into_iter()).iterator() {

@@ -1,6 +1,6 @@
 -- What a draw takes of the ranges that are left, and what all of them are.
-use Rattle.std.specs.Prelude.{◌≡◌, ℕ, zero, suc, ◌+◌, ◌≤◌, ◌⊎◌, List, [], ◌∷◌, length, Bool, true, false, if◌then◌else◌, Option, Some, None, Result, Ok, Err}
-use Rattle.std.proofs.Common.{refl, ap, arith, inl, inr}
+use Rattle.std.specs.Prelude.{◌≡◌, ℕ, suc, ◌+◌, ◌⊎◌, List, [], ◌∷◌, true, false, Option, Some, None, Result, Ok, Err}
+use Rattle.std.proofs.Common.{refl, ap, inl, inr}
 use Rattle.std.proofs.lemmas.Bool.{eq-eqb, ne_eqb, and_from, and_left, and_right}
 use Rattle.fallible_iterator.specs.Lists.{mapped, flattened, chained}
 use Rattle.fallible_iterator.specs.Showing.{TakesShown}
@@ -32,17 +32,6 @@ module _ (unit : ℕ) (bytes : List ℕ) (place : ℕ) where
   pub takes_range : (f : Option ElfFault) (left k : ℕ) (r : Range) → left ≡ suc k → ((u64_at bytes place ≡ 0 → ⊥) ⊎ ((u64_at bytes place ≡ 0) × (u64_at bytes (place + 8) ≡ 0 → ⊥))) → r ≡ range_at unit bytes place → TakesShown (ranges_from f unit bytes place left) (Ok (Some r)) (ranges_from f unit bytes (place + 16) k)
   unfolding ranges_from
   takes_range f left k r some more is = rw (some, not_last more, is) (refl, refl)
-
-fits_unless : (last : Bool) (n : ℕ) (y : Result Range ElfFault) (l : List (Result Range ElfFault)) → length l ≤ n → length (if last then [] else y ∷ l) ≤ n + 1
-fits_unless true n y l fits = omega arith
-fits_unless false n y l fits = omega arith
-
--- as many answers as there is room for ranges, and one for the fault
-pub ranges_fit : (f : Option ElfFault) (unit : ℕ) (bytes : List ℕ) (place left : ℕ) → length (ranges_from f unit bytes place left) ≤ left + 1
-unfolding ranges_from
-ranges_fit (Some f) unit bytes place zero = omega arith
-ranges_fit None unit bytes place zero = omega arith
-ranges_fit f unit bytes place (suc n) = let few = fits_unless (is_last bytes place) (n + 1) (Ok (range_at unit bytes place)) (ranges_from f unit bytes (place + 16) n) (ranges_fit f unit bytes (place + 16) n) in omega (arith, few)
 
 -- a list whose items become others, which become lists
 pub flattened_mapped : {X Y B E : Type 0} (inner : Y → List (Result B E)) (h : X → Y) (l : List (Result X E)) → flattened inner (mapped (λ x. Ok (h x)) l) ≡ flattened (λ x. inner (h x)) l

@@ -35,13 +35,6 @@ module _ (names names_size : ℕ) (bytes : List ℕ) (place : ℕ) where
   pub takes_good : (f : Option ElfFault) (left k : ℕ) (s : Section) → left ≡ suc k → u32_at bytes place < names_size → s ≡ section_at names bytes place → TakesShown (headers_from names names_size f bytes place left) (Ok (Some s)) (headers_from names names_size f bytes (place + 64) k)
   takes_good f left k s some within is = rw some (takes_header f k (Ok s) (Ok (Some s)) (rw (lt-ltb (u32_at bytes place) names_size within) (rw is refl)) refl)
 
--- as many answers as headers, and one for the fault
-pub headers_fit : (names names_size : ℕ) (f : Option ElfFault) (bytes : List ℕ) (place left : ℕ) → length (headers_from names names_size f bytes place left) ≤ left + 1
-unfolding headers_from
-headers_fit names names_size (Some f) bytes place zero = omega arith
-headers_fit names names_size None bytes place zero = omega arith
-headers_fit names names_size f bytes place (suc n) = let h = headers_fit names names_size f bytes (place + 64) n in omega (arith, h)
-
 -- the headers of the table that the file has, or its fault
 pub headers_are : (bytes : List ℕ) (table : Table) → Ok table ≡ table_of bytes → headers_from table.names table.names_size None bytes table.place table.count ≡ headers_of bytes
 unfolding headers_of

@@ -1,7 +1,9 @@
 //! The address ranges of a file.
 ghost use Rattle.std.specs.Prelude.{◌≡◌, ◌-◌, ◌*◌, ◌^◌, ◌<◌, ◌≤◌, length};
+ghost use Rattle.fallible_iterator.specs.Laws.Own.{lawful_bounded_by};
 ghost use Rattle.fallible_iterator.specs.Laws.Showing.{lawful_listing};
 ghost use Rattle.fallible_iterator.specs.Lists.{CollectedAs};
+ghost use Rattle.fallible_iterator.specs.Own.{bounded_by};
 ghost use Rattle.fallible_iterator.specs.Showing.{listing};
 ghost use Rattle.fallible_elf.specs.Sets.{ranges_from, ranges_in, ranges_of};
 
@@ -32,7 +34,8 @@ impl FallibleIterator for Ranges<'_> {
 
     type Error = ElfFault;
 
-    ghost contract = { listing (λ s. ranges_from s.fault s.unit s.file.now s.place s.left) };
+    ghost contract = { bounded_by (λ s. s.left)
+        (listing (λ s. ranges_from s.fault s.unit s.file.now s.place s.left)) };
 
     fn next(&mut self) -> Result<Option<Range>, ElfFault> {
         if self.left == 0 {
@@ -59,7 +62,8 @@ impl FallibleIterator for Ranges<'_> {
         (0, None)
     }
 
-    ghost lawful = { lawful_listing (λ s. ranges_from s.fault s.unit s.file.now s.place s.left) };
+    ghost lawful = { lawful_bounded_by (λ s. s.left)
+        (lawful_listing (λ s. ranges_from s.fault s.unit s.file.now s.place s.left)) };
 }
 
 // No set has so many ranges.

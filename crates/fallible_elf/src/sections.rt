@@ -1,8 +1,10 @@
 //! The sections of a file.
 ghost use Rattle.std.specs.Prelude.{◌≡◌, ◌+◌, ◌-◌, ◌*◌, ◌^◌, ◌≤◌, length};
 ghost use Rattle.fallible_iterator.specs.Contract.{AtMost};
+ghost use Rattle.fallible_iterator.specs.Laws.Own.{lawful_bounded_by};
 ghost use Rattle.fallible_iterator.specs.Laws.Showing.{lawful_listing};
 ghost use Rattle.fallible_iterator.specs.Lists.{Lists, CollectedAs};
+ghost use Rattle.fallible_iterator.specs.Own.{bounded_by};
 ghost use Rattle.fallible_iterator.specs.Showing.{listing};
 ghost use Rattle.fallible_elf.specs.Sections.{headers_from, headers_of};
 
@@ -34,7 +36,8 @@ impl FallibleIterator for Sections<'_> {
 
     type Error = ElfFault;
 
-    ghost contract = { listing (λ s. headers_from s.names s.names_size s.fault s.file.now s.place s.left) };
+    ghost contract = { bounded_by (λ s. s.left)
+        (listing (λ s. headers_from s.names s.names_size s.fault s.file.now s.place s.left)) };
 
     fn next(&mut self) -> Result<Option<Section>, ElfFault> {
         if self.left == 0 {
@@ -56,7 +59,8 @@ impl FallibleIterator for Sections<'_> {
         (0, None)
     }
 
-    ghost lawful = { lawful_listing (λ s. headers_from s.names s.names_size s.fault s.file.now s.place s.left) };
+    ghost lawful = { lawful_bounded_by (λ s. s.left)
+        (lawful_listing (λ s. headers_from s.names s.names_size s.fault s.file.now s.place s.left)) };
 }
 
 /// The sections of a file. Making them reads where the headers are, and none of them.

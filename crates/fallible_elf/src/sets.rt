@@ -1,7 +1,9 @@
 //! The sets of address ranges of a file.
 ghost use Rattle.std.specs.Prelude.{◌≡◌, ◌-◌, ◌≤◌, length, IfOk};
+ghost use Rattle.fallible_iterator.specs.Laws.Own.{lawful_bounded_by};
 ghost use Rattle.fallible_iterator.specs.Laws.Showing.{lawful_listing};
 ghost use Rattle.fallible_iterator.specs.Lists.{Lists, CollectedAs};
+ghost use Rattle.fallible_iterator.specs.Own.{bounded_by};
 ghost use Rattle.fallible_iterator.specs.Showing.{listing};
 ghost use Rattle.fallible_elf.specs.Sets.{has_ranges, region_in, region_of, sets_between, sets_of};
 
@@ -71,7 +73,8 @@ impl FallibleIterator for Sets<'_> {
 
     type Error = ElfFault;
 
-    ghost contract = { listing (λ s. sets_between s.fault s.file.now s.place s.end) };
+    ghost contract = { bounded_by (λ s. s.end - s.place)
+        (listing (λ s. sets_between s.fault s.file.now s.place s.end)) };
 
     fn next(&mut self) -> Result<Option<Set>, ElfFault> {
         if self.end <= self.place {
@@ -97,7 +100,8 @@ impl FallibleIterator for Sets<'_> {
         (0, None)
     }
 
-    ghost lawful = { lawful_listing (λ s. sets_between s.fault s.file.now s.place s.end) };
+    ghost lawful = { lawful_bounded_by (λ s. s.end - s.place)
+        (lawful_listing (λ s. sets_between s.fault s.file.now s.place s.end)) };
 }
 
 /// The sets of a file. Making them reads the headers of its sections up to that of the address ranges.

@@ -1,7 +1,9 @@
 // Types of one's own that show what they list, drawn from, and under adapters.
+use fallible_callers_drawing::ascii::{Ascii, answers_in, first_line_end, line_ends};
 use fallible_callers_drawing::own::{
     Between, Countdown, Span, collected_between, even_below, even_between, even_in_loop,
-    numbers_down, numbers_in_rounds, sum_down, sum_down_doubled, sum_with, tried_between,
+    numbers_down, numbers_in_rounds, pairs_down, same_in_pairs, sum_down, sum_down_doubled,
+    sum_with, tried_between,
 };
 use fallible_callers_drawing::pairing::{Pairs, count_pairs, sum_of_pairs};
 use fallible_iterator::Answer::{End, Failure, Item};
@@ -24,14 +26,24 @@ fn a_countdown_is_drained_and_mapped(rt: HostRuntime) -> Result<(), Fail> {
 fn a_countdown_is_read_by_std_and_by_hand(rt: HostRuntime) -> Result<(), Fail> {
     assert_eq!(rt; numbers_down(4), 4);
     assert_eq!(rt; even_in_loop(9), Ok(4));
+    assert_eq!(rt; pairs_down(4, 1, 4), 3);
+    assert_eq!(rt; same_in_pairs(3, 1, 9), Ok(1));
     assert_eq!(rt; sum_down(Countdown::new(4)), Ok(10));
     assert_eq!(rt; sum_down_doubled(Countdown::new(4)), Ok(20));
     let between = collected_between(rt.alloc(), 3, 6)?;
     assert_eq!(rt; between.as_slice(), [3, 4, 5].as_slice());
-    let tried = tried_between(rt.alloc(), 3, 6)?;
-    assert_eq!(rt; tried.as_slice(), [3, 4, 5].as_slice());
+    let tried = tried_between(rt.alloc(), 3, 5)?;
+    assert_eq!(rt; tried.as_slice(), [3, 4].as_slice());
     assert_eq!(rt; numbers_in_rounds(3, 4), Ok(12));
     Ok(())
+}
+
+#[test]
+fn bytes_in_memory_are_counted(rt: HostRuntime) {
+    assert_eq!(rt; first_line_end(b"ab\nc"), Ok(Some(2)));
+    assert_eq!(rt; first_line_end(b"a\xe9\n"), Err(0xe9));
+    assert_eq!(rt; line_ends(Ascii::new(b"\na\n\n")), Ok(2));
+    assert_eq!(rt; answers_in(b"a\xe9\n"), 3);
 }
 
 #[test]

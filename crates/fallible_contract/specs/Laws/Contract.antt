@@ -12,7 +12,7 @@ module _ {S A E : Type 0} (m : Contract S A E) where
   no_more s t (Err e) h n b = h.1 n b
 
   -- and no more remains
-  no_more_remains : (s t : S) (r : Answered A E) → OnAnswer m s r t → NoMoreRemains m s t
+  pub no_more_remains : (s t : S) (r : Answered A E) → OnAnswer m s r t → NoMoreRemains m s t
   no_more_remains s t (Ok (Some x)) h f = let k = h.2 f in (k.0, omega (arith, k.1))
   no_more_remains s t (Ok None) h f = h.1 f
   no_more_remains s t (Err e) h f = let k = h.2 f in (k.0, omega (arith, k.1))

@@ -1,13 +1,67 @@
 -- The contracts of types of one's own are lawful.
-use Rattle.std.specs.Prelude.{ℕ, ◌+◌, ◌≤◌, Some, None, Ok, Err, Result, List, [], ◌∷◌}
-use Rattle.std.specs.Iterator.{IsFinite, size}
+use Rattle.std.specs.Prelude.{ℕ, ◌+◌, ◌≤◌, Some, None, Ok, Err, ⊤, Result, List, [], ◌∷◌}
+use Rattle.std.specs.Iterator.{Count, IsFinite, size, at_most}
 use Rattle.std.proofs.Common.{arith, subst}
 use Rattle.fallible_contract.specs.Traces.{Answered, Run, items_in}
 use Rattle.fallible_contract.specs.Contract.{Contract, OnAnswer, KeptByDraw, KeptByDraws, Lawful}
 use Rattle.fallible_contract.specs.Lists.{AlwaysGives, Lists}
 use Rattle.fallible_contract.specs.Passing.{IfItem}
-use Rattle.fallible_contract.specs.Own.{giving, items_and_failures_in, Gathers, MayCome, AllCome, MadeOfComing, gathering}
+use Rattle.fallible_contract.specs.Own.{LowersAtItem, LowersAtAnswer, bounded_by, bounded_with_failures, giving, items_and_failures_in, Gathers, MayCome, AllCome, MadeOfComing, gathering}
 use Rattle.fallible_contract.specs.Laws.Contract.{kept_after, kept_run}
+
+-- ---- a source of which each step says more
+
+module _ {S A E : Type 0} (steps more : S → Answered A E → S → Type 0) where
+  gives_narrowed : (s : S) (l : List (Result A E)) → AlwaysGives steps s l → AlwaysGives (λ s r t. steps s r t × more s r t) s l
+  gives_narrowed s [] i = λ r t w. i r t w.0
+  gives_narrowed s (y ∷ l) i = λ r t w. let h = i r t w.0 in (h.0, gives_narrowed t l h.1)
+
+-- ---- a source that knows how many are left
+
+module _ {S A E : Type 0} (m : Contract S A E) (left : S → ℕ) (lowers : Answered A E → ℕ → ℕ → Type 0) (remains : S → Count) where
+  -- `bounded_by` and `bounded_with_failures`
+  abbrev B : Contract S A E
+  B = record m { steps = λ s r t. m.steps s r t × lowers r (left s) (left t); bound = λ s n. left s ≤ n; is_finite = λ _. ⊤; remaining = remains }
+
+  goes_bounded : (s t : S) (r : Answered A E) → KeptByDraw m s r t → OnAnswer B s r t → KeptByDraw B s r t
+  goes_bounded s t r g answer = record {
+    can_next = g.can_next;
+    is_finite = λ f. tt;
+    answer = answer;
+    may_give = g.may_give;
+    may_fail = g.may_fail;
+    lenders = g.lenders;
+  }
+
+  lawful_bounded : ((s t : S) (r : Answered A E) → lowers r (left s) (left t) → OnAnswer m s r t → OnAnswer B s r t) → Lawful m → Lawful B
+  lawful_bounded answers l = record {
+    kept_by_draw = λ s r t c step. let g = l.kept_by_draw s r t c step.0 in goes_bounded s t r g (answers s t r step.1 g.answer);
+    bounded = λ s. ((λ f. (left s, omega arith)), (λ n. tt));
+  }
+
+module _ {S A E : Type 0} (m : Contract S A E) (left : S → ℕ) where
+  answer_bounded_by : (s t : S) (r : Answered A E) → LowersAtItem r (left s) (left t) → OnAnswer m s r t → OnAnswer (bounded_by left m) s r t
+  answer_bounded_by s t (Ok (Some x)) lower a = (a.0, (λ n b. (left t, omega arith, omega (arith, lower, b))), a.2)
+  answer_bounded_by s t (Ok None) lower a = ((λ n b. (left t, omega arith, omega (arith, lower, b))), a.1)
+  answer_bounded_by s t (Err e) lower a = (a.0, (λ n b. (left t, omega arith, omega (arith, lower, b))), a.2)
+
+  answer_with_failures : (s t : S) (r : Answered A E) → LowersAtAnswer r (left s) (left t) → OnAnswer m s r t → OnAnswer (bounded_with_failures left m) s r t
+  answer_with_failures s t (Ok (Some x)) lower a = (a.0, (λ n b. (left t, omega arith, omega (arith, lower, b))), (λ f. (tt, omega (arith, lower))))
+  answer_with_failures s t (Ok None) lower a = ((λ n b. (left t, omega arith, omega (arith, lower, b))), (λ f. (tt, omega (arith, lower))))
+  answer_with_failures s t (Err e) lower a = (a.0, (λ n b. (left t, omega arith, omega (arith, lower, b))), (λ f. (tt, omega (arith, lower))))
+
+pub lawful_bounded_by : {S A E : Type 0} {m : Contract S A E} (left : S → ℕ) → Lawful m → Lawful (bounded_by left m)
+lawful_bounded_by {m = m} left l = lawful_bounded m left LowersAtItem m.remaining (answer_bounded_by m left) l
+
+pub lawful_bounded_with_failures : {S A E : Type 0} {m : Contract S A E} (left : S → ℕ) → Lawful m → Lawful (bounded_with_failures left m)
+lawful_bounded_with_failures {m = m} left l = lawful_bounded m left LowersAtAnswer (λ s. at_most (left s)) (answer_with_failures m left) l
+
+-- each lists what m does
+pub lists_bounded_by : {S A E : Type 0} (m : Contract S A E) {s : S} {l : List (Result A E)} (left : S → ℕ) → Lists m.steps s l → Lists (bounded_by left m).steps s l
+lists_bounded_by m {s = s} {l = l} left i = record { runs = gives_narrowed m.steps (λ s r t. LowersAtItem r (left s) (left t)) s l i.runs }
+
+pub lists_bounded_with_failures : {S A E : Type 0} (m : Contract S A E) {s : S} {l : List (Result A E)} (left : S → ℕ) → Lists m.steps s l → Lists (bounded_with_failures left m).steps s l
+lists_bounded_with_failures m {s = s} {l = l} left i = record { runs = gives_narrowed m.steps (λ s r t. LowersAtAnswer r (left s) (left t)) s l i.runs }
 
 -- ---- a source that says which items come
 
@@ -30,14 +84,9 @@ module _ {S A E : Type 0} (m : Contract S A E) (P : A → Type 0) where
 pub lawful_giving : {S A E : Type 0} {m : Contract S A E} (P : A → Type 0) → Lawful m → Lawful (giving P m)
 lawful_giving {m = m} P l = record { kept_by_draw = λ s r t c step. goes_giving m P s t r step.1 (l.kept_by_draw s r t c step.0); bounded = l.bounded }
 
-module _ {S A E : Type 0} (m : Contract S A E) (P : A → Type 0) where
-  gives_giving : (s : S) (l : List (Result A E)) → AlwaysGives m.steps s l → AlwaysGives (giving P m).steps s l
-  gives_giving s [] i = λ r t w. i r t w.0
-  gives_giving s (y ∷ l) i = λ r t w. let h = i r t w.0 in (h.0, gives_giving t l h.1)
-
 -- it lists what m does
 pub lists_giving : {S A E : Type 0} (m : Contract S A E) {s : S} {l : List (Result A E)} (P : A → Type 0) → Lists m.steps s l → Lists (giving P m).steps s l
-lists_giving m {s = s} {l = l} P i = record { runs = gives_giving m P s l i.runs }
+lists_giving m {s = s} {l = l} P i = record { runs = gives_narrowed m.steps (λ _ r _. IfItem P r) s l i.runs }
 
 -- ---- what several draws lower
 

@@ -1,7 +1,7 @@
 -- `Zip`: the pairs of two sources' items, place by place.
 use Rattle.std.specs.Prelude.{ℕ, Option, Some, ◌≡◌, List, map, None, Ok, Err, ◌⊎◌, Result, [], ◌∷◌, ⊤}
 use Rattle.std.specs.List.{filter_map}
-use Rattle.std.specs.Iterator.{endless}
+use Rattle.std.specs.Iterator.{count_add}
 use Rattle.fallible_contract.specs.Traces.{Answered, Run, item, failure, end}
 use Rattle.fallible_contract.specs.Contract.{Contract, lenders_of_both}
 use Rattle.fallible_contract.specs.Hints.{hint_smaller}
@@ -58,14 +58,14 @@ right_step others u (both_drawn x r) v = others u r v
 abbrev pub zip_step : {S U A B E : Type 0} → (S → Answered A E → S → Type 0) → (U → Answered B E → U → Type 0) → S × U → Answered (A × B) E → S × U → Type 0
 zip_step {A = A} {B = B} {E = E} steps others p r q = (x : ZipPlace A B E) × steps p.0 (left_answer x) q.0 × right_step others p.1 x q.1 × (r ≡ zip_answer x)
 
--- Each bound of either source is one of the zip, and so it has an end where one of them has.
+-- Each bound of either source is one of the zip, and so it has an end where one of them has. A failure may come of either, so what remains is that of both, added up.
 abbrev pub zip_contract : {S U A B E : Type 0} → Contract S A E → Contract U B E → Contract (S × U) (A × B) E
 zip_contract left right = record {
   can_next = λ p. left.can_next p.0 × right.can_next p.1;
   steps = zip_step left.steps right.steps;
   bound = λ p n. left.bound p.0 n ⊎ right.bound p.1 n;
   is_finite = λ p. left.is_finite p.0 ⊎ right.is_finite p.1;
-  remaining = λ _. endless;
+  remaining = λ p. count_add (left.remaining p.0) (right.remaining p.1);
   may_give = λ p z. left.may_give p.0 z.0 × right.may_give p.1 z.1;
   may_fail = λ p e. left.may_fail p.0 e ⊎ right.may_fail p.1 e;
   hints = λ p h. (g : ℕ × Option ℕ) × (k : ℕ × Option ℕ) × left.hints p.0 g × right.hints p.1 k × (h ≡ hint_smaller g k);

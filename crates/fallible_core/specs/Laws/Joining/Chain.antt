@@ -10,11 +10,11 @@ use Rattle.fallible_core.specs.declared.joining.chain.StillDrawn.{StillDrawn}
 use Rattle.fallible_core.specs.declared.joining.chain.StillDrawn.TheVariants.{Both, FirstAlone, SecondAlone}
 
 -- a sum of counts is finite where both are
-both_finite : (a b : Bool) → T (cond a b false) → T a × T b
+pub both_finite : (a b : Bool) → T (cond a b false) → T a × T b
 both_finite true b h = (tt, h)
 both_finite false b h = absurd h
 
-sum_finite : (a b : Bool) → T a → T b → T (cond a b false)
+pub sum_finite : (a b : Bool) → T a → T b → T (cond a b false)
 sum_finite true b h k = k
 sum_finite false b h k = absurd h
 

@@ -1,10 +1,12 @@
 -- The contract of `Zip` is lawful where those of both sides are.
-use Rattle.std.specs.Prelude.{ℕ, Option, Some, None, Ok, Err, ◌↔◌}
+use Rattle.std.specs.Prelude.{ℕ, ◌+◌, ◌≤◌, ◌<◌, Option, Some, None, Ok, Err, ◌↔◌}
+use Rattle.std.specs.Iterator.{IsFinite, size}
 use Rattle.std.proofs.Common.{arith, inl, inr, refl, ap₂}
 use Rattle.fallible_contract.specs.Traces.{Answered, item, failure}
-use Rattle.fallible_contract.specs.Contract.{Contract, NoMore, OnAnswer, KeptByDraw, Lawful, lenders_of_both}
-use Rattle.fallible_contract.specs.Laws.Contract.{no_more}
+use Rattle.fallible_contract.specs.Contract.{Contract, NoMore, NoMoreRemains, OnAnswer, KeptByDraw, Lawful, lenders_of_both}
+use Rattle.fallible_contract.specs.Laws.Contract.{no_more, no_more_remains}
 use Rattle.fallible_core.specs.Joining.Zip.{ZipPlace, left_failed, both_drawn, left_answer, zip_answer, right_step, zip_contract}
+use Rattle.fallible_core.specs.Laws.Joining.Chain.{both_finite, sum_finite}
 
 module _ {S U A B E : Type 0} (left : Contract S A E) (right : Contract U B E) where
   abbrev Z : Contract (S × U) (A × B) E
@@ -14,23 +16,37 @@ module _ {S U A B E : Type 0} (left : Contract S A E) (right : Contract U B E) w
   no_more_pairs : (s t : S) (u v : U) → NoMore left s t → NoMore right u v → NoMore Z (s, u) (t, v)
   no_more_pairs s t u v p q n b = elim b [ inl h ↦ let k = p n h in (k.0, inl k.1, k.2) | inr h ↦ let k = q n h in (k.0, inr k.1, k.2) ]
 
+  -- what remains of both sides is no more, where it is no more of either
+  no_more_remains_of_pairs : (s t : S) (u v : U) → NoMoreRemains left s t → NoMoreRemains right u v → NoMoreRemains Z (s, u) (t, v)
+  no_more_remains_of_pairs s t u v p q f = let b = both_finite (left.remaining s).bounded (right.remaining u).bounded f in let j = p b.0 in let k = q b.1 in (sum_finite (left.remaining t).bounded (right.remaining v).bounded j.0 k.0, omega (arith, j.1, k.1))
+
+  -- it is less, where it is less of one side
+  abbrev LessRemains : S × U → S × U → Type 0
+  LessRemains p q = IsFinite (Z.remaining p) → IsFinite (Z.remaining q) × (size (Z.remaining q) < size (Z.remaining p))
+
+  less_of_left : (s t : S) (u v : U) → (IsFinite (left.remaining s) → IsFinite (left.remaining t) × (size (left.remaining t) < size (left.remaining s))) → NoMoreRemains right u v → LessRemains (s, u) (t, v)
+  less_of_left s t u v p q f = let b = both_finite (left.remaining s).bounded (right.remaining u).bounded f in let j = p b.0 in let k = q b.1 in (sum_finite (left.remaining t).bounded (right.remaining v).bounded j.0 k.0, omega (arith, j.1, k.1))
+
+  less_of_right : (s t : S) (u v : U) → NoMoreRemains left s t → (IsFinite (right.remaining u) → IsFinite (right.remaining v) × (size (right.remaining v) < size (right.remaining u))) → LessRemains (s, u) (t, v)
+  less_of_right s t u v p q f = let b = both_finite (left.remaining s).bounded (right.remaining u).bounded f in let j = p b.0 in let k = q b.1 in (sum_finite (left.remaining t).bounded (right.remaining v).bounded j.0 k.0, omega (arith, j.1, k.1))
+
   -- an answer of the left and one of the right
   pair_answer : (s t : S) (u v : U) (x : Option A) (r : Answered B E) → OnAnswer left s (Ok x) t → OnAnswer right u r v → OnAnswer Z (s, u) (zip_answer (both_drawn x r)) (t, v)
-  pair_answer s t u v x (Err e) a b = (inr b.0, no_more_pairs s t u v (no_more left s t (Ok x) a) b.1, (λ f. absurd f))
+  pair_answer s t u v x (Err e) a b = (inr b.0, no_more_pairs s t u v (no_more left s t (Ok x) a) b.1, less_of_right s t u v (no_more_remains left s t (Ok x) a) b.2)
   pair_answer s t u v (Some x) (Ok (Some y)) a b = (
     (a.0, b.0),
     (λ n h. elim h [ inl h ↦ let k = a.1 n h in (k.0, inl k.1, k.2) | inr h ↦ let k = b.1 n h in (k.0, inr k.1, k.2) ]),
-    (λ f. absurd f),
+    less_of_left s t u v a.2 (no_more_remains right u v (item y) b),
   )
-  pair_answer s t u v (Some x) (Ok None) a b = (no_more_pairs s t u v (no_more left s t (item x) a) b.0, (λ f. absurd f))
-  pair_answer s t u v None (Ok y) a b = (no_more_pairs s t u v a.0 (no_more right u v (Ok y) b), (λ f. absurd f))
+  pair_answer s t u v (Some x) (Ok None) a b = (no_more_pairs s t u v (no_more left s t (item x) a) b.0, no_more_remains_of_pairs s t u v (no_more_remains left s t (item x) a) b.1)
+  pair_answer s t u v None (Ok y) a b = (no_more_pairs s t u v a.0 (no_more right u v (Ok y) b), no_more_remains_of_pairs s t u v a.1 (no_more_remains right u v (Ok y) b))
 
   module _ (l : Lawful left) (k : Lawful right) where
     goes_place : (s t : S) (u v : U) (x : ZipPlace A B E) → Z.can_next (s, u) → left.steps s (left_answer x) t → right_step right.steps u x v → KeptByDraw Z (s, u) (zip_answer x) (t, v)
     goes_place s t u v (left_failed e) c step same = let a = l.kept_by_draw s (failure e) t c.0 step in rw same record {
       can_next = (a.can_next, c.1);
       is_finite = λ h. elim h [ inl h ↦ inl (a.is_finite h) | inr h ↦ inr h ];
-      answer = (inl a.answer.0, no_more_pairs s t u u a.answer.1 (λ n h. (n, h, omega arith)), (λ f. absurd f));
+      answer = (inl a.answer.0, no_more_pairs s t u u a.answer.1 (λ n h. (n, h, omega arith)), less_of_left s t u u a.answer.2 (λ f. (f, omega arith)));
       may_give = λ z h. (a.may_give z.0 h.0, h.1);
       may_fail = λ d h. elim h [ inl h ↦ inl (a.may_fail d h) | inr h ↦ inr h ];
       lenders = ap₂ lenders_of_both a.lenders refl;

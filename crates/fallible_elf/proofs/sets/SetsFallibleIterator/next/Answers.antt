@@ -4,13 +4,13 @@ use Rattle.fallible_elf.proofs.SetLemmas.{takes_fault, takes_end, takes_set, tak
 use Rattle.fallible_elf.proofs.sets.SetsFallibleIterator.next.Goals as goal
 
 pub returns-in-Some : goal.returns-in-Some
-returns-in-Some c = takes_fault _ _ _ _ _ _ (search rules) (search rules) (search rules)
+returns-in-Some c = (takes_fault _ _ _ _ _ _ (search rules) (search rules) (search rules), search rules)
 
 pub returns-in-None : goal.returns-in-None
-returns-in-None c = takes_end _ _ _ _ _ (search rules) (search rules) (search rules)
+returns-in-None c = (takes_end _ _ _ _ _ (search rules) (search rules) (search rules), search rules)
 
 pub returns-in-Ok : goal.returns-in-Ok
-returns-in-Ok c = takes_set _ _ _ _ _ (search rules) c.in-Ok.ensures.value
+returns-in-Ok c = (takes_set _ _ _ _ _ (search rules) c.in-Ok.ensures.value, search rules)
 
 pub returns-in-Err : goal.returns-in-Err
-returns-in-Err c = takes_damaged _ _ _ _ _ (search rules) c.in-Err.ensures.value
+returns-in-Err c = (takes_damaged _ _ _ _ _ (search rules) c.in-Err.ensures.value, search rules)
