@@ -4,8 +4,10 @@
 pub mod behind;
 pub mod digits;
 pub mod drawing;
+pub mod faults;
 pub mod generic;
 pub mod idioms;
+pub mod looping;
 pub mod own;
 pub mod pairing;
 pub mod parsing;
