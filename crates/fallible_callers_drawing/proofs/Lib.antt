@@ -5,3 +5,4 @@ pub mod Down
 pub mod Full
 pub mod KnownBytes
 pub mod Taking
+pub mod TwoByTwo

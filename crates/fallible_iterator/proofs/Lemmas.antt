@@ -5,6 +5,7 @@ pub mod ComparedRepeats
 pub mod Comparing
 pub mod Cycled
 pub mod Ends
+pub mod Gathered
 pub mod Hints
 pub mod Lent
 pub mod LentWhile

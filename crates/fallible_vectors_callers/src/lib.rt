@@ -16,6 +16,8 @@ mod first;
 #[cfg(test)]
 mod idioms;
 #[cfg(test)]
+mod looping;
+#[cfg(test)]
 mod own;
 #[cfg(test)]
 mod values;

@@ -1,0 +1,57 @@
+-- What an adapter of several draws lists, over a source that lists a list.
+use Rattle.std.specs.Prelude.{◌≡◌, ◌⊎◌, map, List, [], ◌∷◌, ◌++◌, Result, Ok, Err}
+use Rattle.std.proofs.Common.{refl, sym, ap, subst, inl, inr}
+use Rattle.fallible_contract.specs.Traces.{Answered, Run, end}
+use Rattle.fallible_contract.specs.Contract.{Contract}
+use Rattle.fallible_contract.specs.Lists.{AlwaysGives, Lists, result_answer}
+use Rattle.fallible_contract.specs.Own.{gathering, Gathers}
+
+-- the first of the answers is r, and the others are left; where there is none, r is an end
+abbrev pub BeginsWith : {B F : Type 0} → List (Result B F) → Answered B F → List (Result B F) → Type 0
+BeginsWith [] r rest = r ≡ end
+BeginsWith (y ∷ l) r rest = (r ≡ result_answer y) × (l ≡ rest)
+
+module _ {A E B F : Type 0} where
+  -- The answers that `made` makes of a list are `answers` of it: of what stands in front of a list the first one is made, and the others are those of the rest. Where the draws come to the end of the list, an end is made, and there are no answers.
+  pub record Cuts (made : List (Answered A E) → Answered B F → Type 0) (answers : List (Result A E) → List (Result B F)) : Type 0 where
+    pub goes_on : (front rest : List (Result A E)) (r : Answered B F) → made (map result_answer front) r → BeginsWith (answers (front ++ rest)) r (answers rest)
+    pub ends : (l : List (Result A E)) (more : List (Answered A E)) (r : Answered B F) → made (map result_answer l ++ end ∷ more) r → (r ≡ end) × (answers l ≡ [])
+
+module _ {P A E : Type 0} (steps : P → Answered A E → P → Type 0) where
+  -- Draws from what lists l take what stands in front of it, or come to its end.
+  abbrev Along : List (Answered A E) → List (Result A E) → P → Type 0
+  Along taken l t = ((front : List (Result A E)) × (rest : List (Result A E)) × (taken ≡ map result_answer front) × (l ≡ front ++ rest) × AlwaysGives steps t rest) ⊎ ((more : List (Answered A E)) × (taken ≡ map result_answer l ++ end ∷ more))
+
+  along_item : (r : Answered A E) (taken : List (Answered A E)) (y : Result A E) (l : List (Result A E)) (t : P) → r ≡ result_answer y → Along taken l t → Along (r ∷ taken) (y ∷ l) t
+  along_item r taken y l t is (inl (front, rest, same, whole, left)) = inl (y ∷ front, rest, rw (is, same) refl, rw whole refl, left)
+  along_item r taken y l t is (inr (more, same)) = inr (more, rw (is, same) refl)
+
+  along : (s t : P) (taken : List (Answered A E)) (l : List (Result A E)) → Run steps s taken t → AlwaysGives steps s l → Along taken l t
+  along s t [] l ran i = inl ([], l, refl, refl, subst (λ (u : P). AlwaysGives steps u l) ran i)
+  along s t (r ∷ taken) [] ran i = inr (taken, ap (λ z. z ∷ taken) (i r ran.0 ran.1))
+  along s t (r ∷ taken) (y ∷ l) ran i = let h = i r ran.0 ran.1 in along_item r taken y l t h.0 (along ran.0 t taken l ran.2 h.1)
+
+module _ {S P A E B F : Type 0} (view : S → P) (made : List (Answered A E) → Answered B F → Type 0) (m : Contract P A E) (answers : List (Result A E) → List (Result B F)) (cuts : Cuts made answers) where
+  -- what an answer says of the answers of l, and what is left of the source
+  abbrev Then : List (Result B F) → Answered B F → S → Type 0
+  Then out r t = ((r ≡ end) × (out ≡ [])) ⊎ ((rest : List (Result A E)) × BeginsWith out r (answers rest) × AlwaysGives m.steps (view t) rest)
+
+  on : (taken : List (Answered A E)) (l : List (Result A E)) (r : Answered B F) (t : S) → made taken r → Along m.steps taken l (view t) → Then (answers l) r t
+  on taken l r t is (inl (front, rest, same, whole, left)) = inr (rest, rw whole (cuts.goes_on front rest r (subst (λ k. made k r) same is)), left)
+  on taken l r t is (inr (more, same)) = inl (cuts.ends l more r (subst (λ k. made k r) same is))
+
+  none : (r : Answered B F) (t : S) → Then [] r t → r ≡ end
+  none r t (inl k) = k.0
+  none r t (inr k) = k.1
+
+  some : (y : Result B F) (out : List (Result B F)) (r : Answered B F) (t : S) → Then (y ∷ out) r t → (r ≡ result_answer y) × ((rest : List (Result A E)) × (answers rest ≡ out) × AlwaysGives m.steps (view t) rest)
+  some y out r t (inl k) = absurd (let h = k.1 in cc)
+  some y out r t (inr k) = (k.1.0, (k.0, sym k.1.1, k.2))
+
+  gives : (out : List (Result B F)) (s : S) (l : List (Result A E)) → answers l ≡ out → AlwaysGives m.steps (view s) l → AlwaysGives (gathering view made m).steps s out
+  gives [] s l is i = λ r t g. none r t (subst (λ k. Then k r t) is (on g.taken l r t g.answers (along m.steps (view s) (view t) g.taken l g.drawn i)))
+  gives (y ∷ out) s l is i = λ r t g. let k = some y out r t (subst (λ k. Then k r t) is (on g.taken l r t g.answers (along m.steps (view s) (view t) g.taken l g.drawn i))) in (k.0, gives out t k.1.0 k.1.1 k.1.2)
+
+  -- it lists the answers that are made of the list
+  pub lists_gathered : {s : S} {l : List (Result A E)} → Lists m.steps (view s) l → Lists (gathering view made m).steps s (answers l)
+  lists_gathered {s = s} {l = l} i = record { runs = gives (answers l) s l refl i.runs }
