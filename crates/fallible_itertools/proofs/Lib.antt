@@ -1,0 +1,1 @@
+-- Why the functions of `src/` do what their clauses say.

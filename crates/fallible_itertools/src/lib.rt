@@ -1,0 +1,8 @@
+//! More calls on every fallible iterator: items grouped, merged, paired and searched. It stands on `fallible_iterator` alone.
+//!
+//! Import the trait [`FallibleItertools`] to have them, and [`DoubleEndedFallibleItertools`] for those from the back.
+#![tactic(auto)]
+
+pub mod traits;
+
+pub use traits::FallibleItertools;

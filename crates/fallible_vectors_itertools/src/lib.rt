@@ -1,0 +1,2 @@
+//! Vectors: the calls of `fallible_itertools` on small inputs, with answers that come from outside.
+#![tactic(auto)]
