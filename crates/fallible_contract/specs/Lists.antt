@@ -27,6 +27,19 @@ module _ {S A E : Type 0} (steps : S → Answered A E → S → Type 0) where
   pub record Lists (s : S) (l : List (Result A E)) : Type 0 where
     pub runs : AlwaysGives s l
 
+  -- Whatever is drawn from s, each answer is an end.
+  pub record EndsForGood (s : S) : Type 0 where
+    pub each : (trace : List (Answered A E)) (t u : S) (r : Answered A E) → Run steps s trace t → steps t r u → r ≡ end
+
+  -- Whatever is drawn from s, the answers are those of the list, in order, and then ends alone.
+  abbrev pub GivesForGood : S → List (Result A E) → Type 0
+  GivesForGood s [] = EndsForGood s
+  GivesForGood s (y ∷ l) = (r : Answered A E) (t : S) → steps s r t → (r ≡ result_answer y) × GivesForGood t l
+
+  -- The answers of s list l, and each further one is an end.
+  pub record ListsForGood (s : S) (l : List (Result A E)) : Type 0 where
+    pub runs : GivesForGood s l
+
   -- Whatever is drawn from s, each answer is y.
   pub record Repeats (s : S) (y : Result A E) : Type 0 where
     pub each : (trace : List (Answered A E)) (t u : S) (r : Answered A E) → Run steps s trace t → steps t r u → r ≡ result_answer y

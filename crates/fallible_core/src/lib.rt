@@ -9,7 +9,7 @@ pub mod filtering;
 pub mod joining;
 pub mod number;
 pub mod one_to_one;
-mod passing;
+pub mod passing;
 pub mod peeking;
 mod picking;
 pub mod traits;

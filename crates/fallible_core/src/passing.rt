@@ -1,4 +1,4 @@
-// The folds of the adapters that let answers pass, through their sources' own. The adapter's state stands beside the caller's, each behind its reference.
+//! The folds of the adapters that let answers pass, through their sources' own. The adapter's state stands beside the caller's, each behind its reference.
 ghost use Rattle.fallible_contract.specs.Folding.{FoldingTakes, FoldingTurn};
 ghost use Rattle.fallible_contract.specs.Folds.{CallableDriving, Driven};
 ghost use Rattle.fallible_contract.specs.Passing.{passing_step};
@@ -8,8 +8,8 @@ use crate::traits::double_ended::DoubleEndedFallibleIterator;
 use fallible_contract::folds::{Beside, Turn, answer_within};
 use fallible_contract::passing::{Pass, PassTurn};
 
-// From the front.
-pub(crate) fn drive_passing<
+/// The fold from the front of an adapter: what becomes of each item of the source, and the caller's turn on what is kept.
+pub fn drive_passing<
     I: FallibleIterator,
     P,
     A: Pass<P, I::Item, I::Error>,
@@ -33,8 +33,8 @@ where
     answer_within(answer)
 }
 
-// From behind.
-pub(crate) fn drive_back_passing<
+/// The same from behind.
+pub fn drive_back_passing<
     I: DoubleEndedFallibleIterator,
     P,
     A: Pass<P, I::Item, I::Error>,

@@ -5,7 +5,7 @@ ghost use Rattle.fallible_contract.specs.Clauses.{OverList, OverListWith, OverBo
 ghost use Rattle.fallible_contract.specs.Contract.{Contract, AtMost, Lawful, Stays, NeverFails, seen_as};
 ghost use Rattle.fallible_contract.specs.Closures.{IsCallable, call_on, takes_on, call_at, takes_at};
 ghost use Rattle.fallible_contract.specs.Collecting.{Collects, Asks, Partitions, MadeOfParts, PairRefused};
-ghost use Rattle.fallible_contract.specs.Lists.{behind_first, behind_nth, behind_true, behind_false, behind_value, behind_fold, items, Lists, Acts, Repeats, repeated, counted, ActsWithState, CollectedAs, nth_of, folded, reduced, ActsWith, Converts, all_of, any_of, find_mapped, found, last_of, collected, parted, MadeOf, MadeOfSides, PartedAs, UnzippedAs, position_in, each_done, best_by, greatest, least, best_by_key, compared};
+ghost use Rattle.fallible_contract.specs.Lists.{behind_first, behind_nth, behind_true, behind_false, behind_value, behind_fold, items, Lists, ListsForGood, Acts, Repeats, repeated, counted, ActsWithState, CollectedAs, nth_of, folded, reduced, ActsWith, Converts, all_of, any_of, find_mapped, found, last_of, collected, parted, MadeOf, MadeOfSides, PartedAs, UnzippedAs, position_in, each_done, best_by, greatest, least, best_by_key, compared};
 ghost use Rattle.fallible_contract.specs.Comparing.{OneIsFinite, by_cmp, by_eq, read_as, reads_eq, reads_ne, reads_lt, reads_le, reads_gt, reads_ge, ComparedWith, ReadWith};
 ghost use Rattle.fallible_contract.specs.Picking.{call_at_two, takes_at_two, PickCall, takes_in_pick, Picked, KeyCall, Best, BestByKey};
 ghost use Rattle.fallible_contract.specs.Searching.{CallableInSearch, Searched, all_pick, any_pick, find_map_pick, find_pick, position_pick, each_pick};
@@ -526,6 +526,8 @@ pub trait FallibleIterator: Drop + Sized {
         ensures parts { fuse_parts result ≡ (self, false) }
         ensures lists { OverList contract.steps self
             (λ l. Lists (seen_as fuse_parts (fuse_contract contract)).steps result l) }
+        ensures for_good { OverList contract.steps self
+            (λ l. ListsForGood (seen_as fuse_parts (fuse_contract contract)).steps result l) }
     {
         Fuse {
             it: self,

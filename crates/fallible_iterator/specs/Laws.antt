@@ -2,10 +2,12 @@
 pub mod ShowingEnds
 pub mod Sources
 pub use Rattle.fallible_contract.specs.Laws.BoundsRuns
+pub use Rattle.fallible_contract.specs.Laws.Closing
 pub use Rattle.fallible_contract.specs.Laws.Closures
 pub use Rattle.fallible_contract.specs.Laws.Contract
 pub use Rattle.fallible_contract.specs.Laws.Ends
 pub use Rattle.fallible_contract.specs.Laws.Own
+pub use Rattle.fallible_contract.specs.Laws.Passing
 pub use Rattle.fallible_contract.specs.Laws.Showing
 pub use Rattle.fallible_contract.specs.Laws.WithSteps
 pub use Rattle.fallible_core.specs.Laws.Borrowed

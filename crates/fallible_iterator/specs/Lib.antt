@@ -11,16 +11,19 @@ pub mod SoundHints
 pub mod Sources
 pub use Rattle.fallible_contract.specs.BothEnds
 pub use Rattle.fallible_contract.specs.Clauses
+pub use Rattle.fallible_contract.specs.Closing
 pub use Rattle.fallible_contract.specs.Closures
 pub use Rattle.fallible_contract.specs.Collecting
 pub use Rattle.fallible_contract.specs.Comparing
 pub use Rattle.fallible_contract.specs.Contract
 pub use Rattle.fallible_contract.specs.Ends
+pub use Rattle.fallible_contract.specs.Folding
 pub use Rattle.fallible_contract.specs.Folds
 pub use Rattle.fallible_contract.specs.Held
 pub use Rattle.fallible_contract.specs.Hints
 pub use Rattle.fallible_contract.specs.LawForm
 pub use Rattle.fallible_contract.specs.Own
+pub use Rattle.fallible_contract.specs.Passing
 pub use Rattle.fallible_contract.specs.Picking
 pub use Rattle.fallible_contract.specs.Refusals
 pub use Rattle.fallible_contract.specs.Searching
@@ -38,3 +41,4 @@ pub use Rattle.fallible_core.specs.OneToOne
 pub use Rattle.fallible_core.specs.Peeking
 pub use Rattle.fallible_contract.specs.declared.answers.Side
 pub use Rattle.fallible_contract.specs.declared.collecting.Fault
+pub use Rattle.fallible_contract.specs.declared.passing.Outcome

@@ -1,5 +1,5 @@
 -- The list words: what a source lists, what an adapter makes of a list, and what a consumer makes of it. Each stands with its sentence in the room of its adapter, the rest in `Lists` of `fallible_contract`.
-pub use Rattle.fallible_contract.specs.Lists.{result_answer, AlwaysGives, Lists, Repeats, Acts, ActsWithState, RunsRead, RunsReadBehind, on_value, one_more_than, picked_or, decided, before, to_side, MadeOf, MadeOfSides, CollectedBy, PartedBy, ActsWith, reduce_of, Converts, pick_of, key_of, unless_equal, stopped_or, behind_answer, behind_failed}
+pub use Rattle.fallible_contract.specs.Lists.{result_answer, AlwaysGives, Lists, EndsForGood, GivesForGood, ListsForGood, Repeats, Acts, ActsWithState, RunsRead, RunsReadBehind, on_value, one_more_than, picked_or, decided, before, to_side, MadeOf, MadeOfSides, CollectedBy, PartedBy, ActsWith, reduce_of, Converts, pick_of, key_of, unless_equal, stopped_or, behind_answer, behind_failed}
 unfoldable pub use Rattle.fallible_contract.specs.Lists.{results, items, reversed, repeated, counted, nth_of, searched, all_of, any_of, find_mapped, found, position_in, each_done, collected, last_of, parted, CollectedAs, UnzippedAs, PartedAs, folded, reduced, best_by, greatest, least, best_by_key, compared, behind_first, behind_nth, behind_stop, behind_true, behind_false, behind_value, behind_fold}
 unfoldable pub use Rattle.fallible_core.specs.OneToOne.Map.{mapped}
 pub use Rattle.fallible_core.specs.OneToOne.Inspect.{once_seen}

@@ -2,6 +2,7 @@
 pub mod Behind
 pub mod Compared
 pub mod Drawn
+pub mod ForGood
 pub mod Parted
 pub mod Passing
 pub mod Searched

@@ -1,11 +1,12 @@
 -- The runs of `Fuse` are the traces that its definition names, and what it lists.
-use Rattle.std.specs.Prelude.{◌≡◌, Bool, false, List, [], ◌∷◌, Result, Ok, Err, ◌↔◌}
+use Rattle.std.specs.Prelude.{◌≡◌, Bool, true, false, List, [], ◌∷◌, Result, Ok, Err, ◌↔◌}
 use Rattle.std.specs.List.{FoldsTo}
 use Rattle.std.proofs.Common.{refl, sym, ap, subst, ◌∙◌}
 use Rattle.fallible_contract.specs.Contract.{Contract, seen_as}
-use Rattle.fallible_contract.specs.Lists.{AlwaysGives, Lists, result_answer}
+use Rattle.fallible_contract.specs.Lists.{AlwaysGives, Lists, EndsForGood, GivesForGood, ListsForGood, result_answer}
 use Rattle.fallible_contract.proofs.Lemmas.Lists.Passing.{lists_seen}
-use Rattle.fallible_contract.specs.Traces.{Answered, is_end}
+use Rattle.fallible_contract.proofs.Lemmas.Lists.ForGood.{lists_for_good_seen}
+use Rattle.fallible_contract.specs.Traces.{Answered, Run, end, is_end}
 use Rattle.fallible_contract.specs.Closing.{closing_step}
 use Rattle.fallible_contract.proofs.Lemmas.Closing.{closing_law}
 use Rattle.fallible_core.specs.Cutting.Fuse.{FuseTrace, fuse_parts, fuse_contract}
@@ -30,3 +31,25 @@ module _ {S A E : Type 0} (steps : S → Answered A E → S → Type 0) where
 
 pub lists_fused : {S A E : Type 0} (m : Contract S A E) (s : Fuse S) (l : List (Result A E)) → fuse_parts s ≡ (s.it, false) → Lists m.steps s.it l → Lists (seen_as fuse_parts (fuse_contract m)).steps s l
 lists_fused m s l parts i = lists_seen fuse_parts (fuse_contract m).steps s parts refl (fused_gives m.steps l s.it i.runs)
+
+-- ---- what it lists for good
+
+module _ {S A E : Type 0} (steps : S → Answered A E → S → Type 0) where
+  -- once closed it ends for good
+  closed_ends : (trace : List (Answered A E)) (p t u : S × Bool) (r : Answered A E) → p.1 ≡ true → Run (fused_step steps) p trace t → fused_step steps t r u → r ≡ end
+  closed_ends [] (s, true) t u r is ran w = (subst (λ (q : S × Bool). fused_step steps q r u) (sym ran) w).0
+  closed_ends [] (s, false) t u r is ran w = absurd cc
+  closed_ends (y ∷ trace) (s, true) t u r is ran w = closed_ends trace ran.0 t u r ran.1.2 ran.2 w
+  closed_ends (y ∷ trace) (s, false) t u r is ran w = absurd cc
+
+  -- where the source answers an end first, it ends for good
+  ends_after : (trace : List (Answered A E)) (s : S) (t u : S × Bool) (r : Answered A E) → AlwaysGives {A = A} {E = E} steps s [] → Run (fused_step steps) (s, false) trace t → fused_step steps t r u → r ≡ end
+  ends_after [] s t u r a ran w = let first = subst (λ (q : S × Bool). fused_step steps q r u) (sym ran) w in first.2 ∙ a first.0 u.0 first.1
+  ends_after (y ∷ trace) s t u r a ran w = let first = ran.1 in closed_ends trace ran.0 t u r (first.3 ∙ ap is_end (a first.0 (ran.0).0 first.1)) ran.2 w
+
+  fused_for_good : (l : List (Result A E)) (s : S) → AlwaysGives steps s l → GivesForGood (fused_step steps) (s, false) l
+  fused_for_good [] s a = record { each = λ trace t u r ran w. ends_after trace s t u r a ran w }
+  fused_for_good (y ∷ l) s a = λ r t w. let d = a w.0 t.0 w.1 in (w.2 ∙ d.0, subst (λ (b : Bool). GivesForGood (fused_step steps) (t.0, b) l) (sym (w.3 ∙ ap is_end d.0 ∙ no_end y)) (fused_for_good l t.0 d.1))
+
+pub lists_fused_for_good : {S A E : Type 0} (m : Contract S A E) (s : Fuse S) (l : List (Result A E)) → fuse_parts s ≡ (s.it, false) → Lists m.steps s.it l → ListsForGood (seen_as fuse_parts (fuse_contract m)).steps s l
+lists_fused_for_good m s l parts i = lists_for_good_seen fuse_parts (fuse_contract m).steps s parts refl (fused_for_good m.steps l s.it i.runs)
