@@ -1,1 +1,3 @@
--- What the clauses of `src/` cite.
+-- What the clauses of `src/` cite, and in `Laws` what follows from it: lemmas that the ghost members cite.
+pub mod Holding
+pub mod Laws

@@ -3,6 +3,7 @@
 //! Import the trait [`FallibleItertools`] to have them, and [`DoubleEndedFallibleItertools`] for those from the back.
 #![tactic(auto)]
 
+pub mod holding;
 pub mod traits;
 
 pub use traits::FallibleItertools;

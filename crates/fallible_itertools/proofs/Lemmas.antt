@@ -1,0 +1,2 @@
+-- Why the functions of `src/` do what their clauses say.
+pub mod Holding
