@@ -1,2 +1,4 @@
 -- Why the functions of `src/` do what their clauses say.
+pub mod Dedup
 pub mod Holding
+pub mod HoldingLists

@@ -1,5 +1,5 @@
 -- Adapters that hold what they drew until a later item or an end decides what becomes of it.
-use Rattle.std.specs.Prelude.{◌≡◌, ℕ, ◌+◌, ◌≤◌, ◌<◌, ◌⊎◌, ⊤, Option, Some, None, Ok, Err, List, [], ◌∷◌, Result}
+use Rattle.std.specs.Prelude.{◌≡◌, ℕ, ◌+◌, ◌≤◌, ◌<◌, ◌⊎◌, min, ⊤, Option, Some, None, Ok, Err, List, [], ◌∷◌, Result}
 use Rattle.std.specs.Iterator.{count_map}
 use Rattle.fallible_iterator.specs.Traces.{Answered}
 use Rattle.fallible_iterator.specs.Contract.{Contract}
@@ -66,3 +66,14 @@ asks_item asks p x o q = asks p (Some x) o q
 
 abbrev pub as_answered_item : {X B E : Type 0} → X → Outcome B E → Outcome B E
 as_answered_item x o = o
+
+-- ---- how many are held, and the hint
+
+-- an answer that is held, or none
+abbrev pub held_one : {A : Type 0} → Option A → ℕ
+held_one (Some x) = 1
+held_one None = 0
+
+-- At least one where the source has at least one or one is held. There is no upper bound: what is held comes at an end, and behind it the source may go on.
+abbrev pub one_at_least : {S P X E : Type 0} → Contract S X E → (P → ℕ) → S × P → ℕ × Option ℕ → Type 0
+one_at_least m held p h = (k : ℕ × Option ℕ) × m.hints p.0 k × (h ≡ (min (k.0 + held p.1) 1, None))

@@ -1,5 +1,5 @@
 //! The folds of the adapters that hold what they drew, through their sources' own.
-ghost use Rattle.std.specs.Prelude.{◌≡◌, ℕ, Option, Some, None, ⊤};
+ghost use Rattle.std.specs.Prelude.{◌≡◌, ℕ, ◌+◌, min, if◌then◌else◌, Option, Some, None, ⊤};
 ghost use Rattle.fallible_iterator.specs.Folds.{CallableDriving, Driven};
 ghost use Rattle.fallible_iterator.specs.Passing.{passing_step};
 ghost use Rattle.fallible_itertools.specs.Holding.{Holds, as_answered, holding_contract, with_ends};
@@ -99,5 +99,16 @@ where
             Outcome::End => return Ok(None),
         }
         left = left.one_less();
+    }
+}
+
+/// The hint of such an adapter: at least one item where the source has at least one or one is held.
+pub fn at_least_one(low: usize, is_held: bool) -> (usize, Option<usize>)
+    ensures { result ≡ (min (low + (if is_held then 1 else 0)) 1, None) }
+{
+    if low > 0 || is_held {
+        (1, None)
+    } else {
+        (0, None)
     }
 }

@@ -3,7 +3,9 @@
 //! Import the trait [`FallibleItertools`] to have them, and [`DoubleEndedFallibleItertools`] for those from the back.
 #![tactic(auto)]
 
+pub mod dedup;
 pub mod holding;
 pub mod traits;
 
+pub use dedup::Dedup;
 pub use traits::FallibleItertools;
