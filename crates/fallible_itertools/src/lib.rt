@@ -5,6 +5,7 @@
 
 pub mod dedup;
 pub mod holding;
+pub mod laws;
 pub mod traits;
 
 pub use dedup::Dedup;

@@ -1,10 +1,12 @@
 -- What `Dedup` lists.
-use Rattle.std.specs.Prelude.{◌≡◌, Bool, true, false, Option, Some, None, Result, Ok, Err, List, [], ◌∷◌}
-use Rattle.std.proofs.Common.{refl, sym, ap, subst, ◌∙◌}
+use Rattle.std.specs.Prelude.{◌≡◌, ◌≤◌, Bool, true, false, Option, Some, None, Result, Ok, Err, List, [], ◌∷◌}
+use Rattle.std.proofs.Common.{refl, ap, subst, arith}
 use Rattle.fallible_iterator.specs.Contract.{Contract, seen_as}
 use Rattle.fallible_iterator.specs.Lists.{Lists, ListsForGood}
 use Rattle.fallible_contract.proofs.Lemmas.Lists.Passing.{by_outcome, lists_seen}
 use Rattle.fallible_itertools.specs.Dedup.{dedup_at, dedup_asks, dedup_before, dedup_contract, dedup_parts, deduped, deduped_from}
+use Rattle.fallible_itertools.specs.Holding.{held_one}
+use Rattle.fallible_itertools.proofs.Lemmas.HoldingHints.{GivesHeld}
 use Rattle.fallible_itertools.proofs.Lemmas.HoldingLists.{held_list, held_gives}
 use Rattle.fallible_iterator.specs.Outcome.{Outcome}
 use Rattle.fallible_iterator.specs.Outcome.TheVariants.{Kept, LeftOut, Failure, End}
@@ -75,3 +77,21 @@ module _ {A E : Type 0} (eq : A → A → Bool) where
 
 pub lists_deduped : {S A E : Type 0} (m : Contract S A E) (eq : A → A → Bool) (s : Dedup S A E) (l : List (Result A E)) → dedup_parts s ≡ (s.it, None) → ListsForGood m.steps s.it l → Lists (seen_as dedup_parts (dedup_contract eq m)).steps s (deduped eq l)
 lists_deduped m eq s l parts i = lists_seen dedup_parts (dedup_contract eq m).steps s parts (deduped_is eq l) (held_gives m.steps (dedup_asks eq) (λ p a. p ≡ a) (does eq) (next eq) (acts eq) (settles eq) (no_failure eq) (none_left eq) l s.it None None refl i.runs)
+
+-- ---- its hint
+
+module _ {A : Type 0} (E : Type 0) (eq : A → A → Bool) where
+  one_held : (y x : A) (b : Bool) (q : Option A) → dedup_at eq {E = E} y x b LeftOut q → 1 ≤ held_one q
+  one_held y x true q w = rw w.1 (omega arith)
+  one_held y x false q w = absurd (let is = w.0 in cc)
+
+  left_out : (p : Option A) (x : A) (q : Option A) → dedup_asks eq {E = E} p (Some x) LeftOut q → 1 ≤ held_one q
+  left_out None x q w = rw w.1 (omega arith)
+  left_out (Some y) x q w = one_held y x (eq y x) q w
+
+  at_end : (p q : Option A) → dedup_asks eq {E = E} p None End q → held_one p ≡ 0
+  at_end None q w = refl
+  at_end (Some y) q w = absurd (let is = w.0 in cc)
+
+  pub gives_held : GivesHeld {E = E} (dedup_asks eq) held_one
+  gives_held = record { left_out = left_out; at_end = at_end }
