@@ -1,4 +1,5 @@
 -- Why the functions of `src/` do what their clauses say.
+pub mod Coalesce
 pub mod Dedup
 pub mod Holding
 pub mod HoldingHints

@@ -77,3 +77,7 @@ held_one None = 0
 -- At least one where the source has at least one or one is held. There is no upper bound: what is held comes at an end, and behind it the source may go on.
 abbrev pub one_at_least : {S P X E : Type 0} → Contract S X E → (P → ℕ) → S × P → ℕ × Option ℕ → Type 0
 one_at_least m held p h = (k : ℕ × Option ℕ) × m.hints p.0 k × (h ≡ (min (k.0 + held p.1) 1, None))
+
+-- the same beside a closure
+abbrev pub held_beside : {A F : Type 0} → Option A × F → ℕ
+held_beside p = held_one p.0

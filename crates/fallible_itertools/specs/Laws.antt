@@ -1,3 +1,4 @@
 -- What follows from the definitions: the lemmas that ghost members cite.
+pub mod Coalesce
 pub mod Dedup
 pub mod Holding

@@ -3,10 +3,12 @@
 //! Import the trait [`FallibleItertools`] to have them, and [`DoubleEndedFallibleItertools`] for those from the back.
 #![tactic(auto)]
 
+pub mod coalesce;
 pub mod dedup;
 pub mod holding;
 pub mod laws;
 pub mod traits;
 
+pub use coalesce::Coalesce;
 pub use dedup::Dedup;
 pub use traits::FallibleItertools;

@@ -1,16 +1,42 @@
 //! The traits that every fallible iterator has besides.
 ghost use Rattle.std.specs.Prelude.{◌≡◌, List, None, Result};
 ghost use Rattle.fallible_iterator.specs.Contract.{seen_as};
-ghost use Rattle.fallible_iterator.specs.Lists.{Lists, ListsForGood};
-ghost use Rattle.fallible_iterator.specs.Clauses.{OverList};
+ghost use Rattle.fallible_iterator.specs.Lists.{ActsWith, Lists, ListsForGood};
+ghost use Rattle.fallible_iterator.specs.Closures.{IsCallable};
+ghost use Rattle.fallible_iterator.specs.Folds.{call_with, takes_with};
+ghost use Rattle.fallible_itertools.specs.Coalesce.{coalesce_asks, coalesce_contract, coalesce_parts, coalesce_takes, coalesced};
 ghost use Rattle.fallible_itertools.specs.Dedup.{dedup_contract, dedup_parts, deduped};
+ghost use Rattle.fallible_itertools.specs.Holding.{MayBeAsked};
 
+use crate::coalesce::Coalesce;
 use crate::dedup::Dedup;
 use fallible_iterator::FallibleIterator;
 
 /// More calls on every fallible iterator.
 pub trait FallibleItertools: FallibleIterator {
     // ---- adapters that hold
+
+    /// Puts adjacent items together where the closure makes one of two.
+    final fn coalesce<F>(self, f: F) -> Coalesce<Self, F>
+    where
+        Self::Item: Drop,
+        F: FnMut(
+            Self::Item,
+            Self::Item,
+        ) -> Result<Result<Self::Item, (Self::Item, Self::Item)>, Self::Error>,
+        requires callable { IsCallable (coalesce_asks (call_with F.FnMut))
+            (coalesce_takes (takes_with F.FnMut)) (MayBeAsked Self.contract self) (None, f) }
+        ensures parts { coalesce_parts result ≡ (self, (None, f)) }
+        ensures lists { (h : Self.Item → Self.Item → Result (Result Self.Item (Self.Item × Self.Item)) Self.Error) (l : List (Result Self.Item Self.Error))
+            → ActsWith (call_with F.FnMut) f h → ListsForGood Self.contract.steps self l
+            → Lists (seen_as coalesce_parts (coalesce_contract Self.contract F.FnMut)).steps result
+            (coalesced h l) }
+    {
+        Coalesce {
+            it: self,
+            coalescing: (None, f),
+        }
+    }
 
     /// Gives of adjacent equal items the first.
     final fn dedup(self) -> Dedup<Self>

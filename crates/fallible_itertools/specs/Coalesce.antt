@@ -1,0 +1,74 @@
+-- `Coalesce`, which puts adjacent items together where a closure makes one of two.
+use Rattle.std.specs.Prelude.{◌≡◌, Option, Some, None, Result, Ok, Err, List, [], ◌∷◌, ⊤}
+use Rattle.std.specs.Fn.{Mut}
+use Rattle.fallible_iterator.specs.Traces.{Answered}
+use Rattle.fallible_iterator.specs.Contract.{Contract}
+use Rattle.fallible_iterator.specs.Folds.{call_with, takes_with}
+use Rattle.fallible_itertools.specs.Holding.{HoldingTrace, holding_contract, held_beside, one_at_least}
+use Rattle.fallible_iterator.specs.Outcome.{Outcome}
+use Rattle.fallible_iterator.specs.Outcome.TheVariants.{Kept, LeftOut, Failure, End}
+use Rattle.fallible_itertools.specs.declared.coalesce.Coalesce.{Coalesce}
+
+-- What becomes of two items by the closure's answer: one item that it makes of both is held in their place; of two the first is answered and the second held; where it fails, both are lost.
+abbrev pub coalesced_by : {A E : Type 0} → Result (Result A (A × A)) E → Outcome A E → Option A → Type 0
+coalesced_by (Ok (Ok z)) o q = (o ≡ LeftOut) × (q ≡ Some z)
+coalesced_by (Ok (Err both)) o q = (o ≡ Kept both.0) × (q ≡ Some both.1)
+coalesced_by (Err e) o q = (o ≡ Failure e) × (q ≡ None)
+
+module _ {A F E : Type 0} (call : F → A → A → Result (Result A (A × A)) E → F → Type 0) where
+  -- An item is held beside the closure, which is called on it and the next one.
+  abbrev pub coalesce_asks : Option A × F → Option A → Outcome A E → Option A × F → Type 0
+  coalesce_asks (None, f) (Some x) o q = (o ≡ LeftOut) × (q ≡ (Some x, f))
+  coalesce_asks (Some y, f) (Some x) o q = (v : Result (Result A (A × A)) E) × call f y x v q.1 × coalesced_by v o q.0
+  coalesce_asks (None, f) None o q = (o ≡ End) × (q ≡ (None, f))
+  coalesce_asks (Some y, f) None o q = (o ≡ Kept y) × (q ≡ (None, f))
+
+  -- `Coalesce`: the source's trace, where adjacent items stand put together, each where the next one that isn't put to it stands or an end; failures between them part nothing.
+  abbrev pub CoalesceTrace : {S : Type 0} → (S → Answered A E → S → Type 0) → S × (Option A × F) → List (Answered A E) → S × (Option A × F) → Type 0
+  CoalesceTrace steps p trace q = HoldingTrace steps coalesce_asks p trace q
+
+-- the closure may be called on what is held and the item
+abbrev pub coalesce_takes : {A F : Type 0} → (F → A → A → Type 0) → Option A × F → Option A → Type 0
+coalesce_takes takes (None, f) asked = ⊤
+coalesce_takes takes (Some y, f) None = ⊤
+coalesce_takes takes (Some y, f) (Some x) = takes f y x
+
+-- `Coalesce`'s contract
+abbrev pub coalesce_contract : {S A F E : Type 0} → Contract S A E → Mut F (A × (A × Unit {0})) (Result (Result A (A × A)) E) → Contract (S × (Option A × F)) A E
+coalesce_contract m g = holding_contract m (coalesce_asks (call_with g)) (coalesce_takes (takes_with g)) held_beside (one_at_least m held_beside)
+
+-- the source
+abbrev pub coalesce_source : {I A E F : Type 0} → Coalesce I F A E → I
+coalesce_source s = s.it
+
+-- the item that is held, if there is one
+abbrev pub coalesce_held : {I A E F : Type 0} → Coalesce I F A E → Option A
+coalesce_held s = s.coalescing.0
+
+-- the closure
+abbrev pub coalesce_closure : {I A E F : Type 0} → Coalesce I F A E → F
+coalesce_closure s = s.coalescing.1
+
+-- the source, and what is held beside the closure
+abbrev pub coalesce_parts : {I A E F : Type 0} → Coalesce I F A E → I × (Option A × F)
+coalesce_parts s = (coalesce_source s, (coalesce_held s, coalesce_closure s))
+
+-- ---- what it lists
+
+-- what stands before the rest, by the closure's answer on two items; `rest` is the list of what comes where an item is held, or none
+abbrev pub coalesced_at : {A E : Type 0} → Result (Result A (A × A)) E → (Option A → List (Result A E)) → List (Result A E)
+coalesced_at (Ok (Ok z)) rest = rest (Some z)
+coalesced_at (Ok (Err both)) rest = Ok both.0 ∷ rest (Some both.1)
+coalesced_at (Err e) rest = Err e ∷ rest None
+
+-- the same as `coalesced`, where an item may be held before the list
+unfoldable pub coalesced_from : {A E : Type 0} → (A → A → Result (Result A (A × A)) E) → Option A → List (Result A E) → List (Result A E)
+coalesced_from h None [] = []
+coalesced_from h (Some y) [] = Ok y ∷ []
+coalesced_from h None (Ok x ∷ l) = coalesced_from h (Some x) l
+coalesced_from h (Some y) (Ok x ∷ l) = coalesced_at (h y x) (λ held. coalesced_from h held l)
+coalesced_from h held (Err e ∷ l) = Err e ∷ coalesced_from h held l
+
+-- Adjacent items x and y put together where h x y is one item, which goes on in their place; a failure between two parts nothing, and comes before the item that is held.
+unfoldable pub coalesced : {A E : Type 0} → (A → A → Result (Result A (A × A)) E) → List (Result A E) → List (Result A E)
+coalesced h l = coalesced_from h None l

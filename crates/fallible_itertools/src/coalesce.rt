@@ -1,0 +1,96 @@
+// The adapter that puts adjacent items together.
+ghost use Rattle.std.specs.Prelude.{Option, Result};
+ghost use Rattle.fallible_iterator.specs.Contract.{seen_as};
+ghost use Rattle.fallible_iterator.specs.Folds.{call_with, takes_with};
+ghost use Rattle.fallible_iterator.specs.Laws.Contract.{lawful_seen};
+ghost use Rattle.fallible_itertools.specs.Coalesce.{coalesce_asks, coalesce_contract, coalesce_parts, coalesce_takes};
+ghost use Rattle.fallible_itertools.specs.Holding.{held_beside};
+ghost use Rattle.fallible_itertools.specs.Laws.Coalesce.{holds_coalesce, lawful_coalesce};
+
+use crate::holding::{Hold, at_least_one, drive_holding};
+use fallible_iterator::adapting::{FirstTurn, Outcome};
+use fallible_iterator::{FallibleIterator, Turn};
+
+/// Adjacent items put together where the closure makes one of two. What was made so far is held until the closure keeps two apart, or an end comes.
+#[derive(Clone, Debug, Drop)]
+pub struct Coalesce<I: FallibleIterator, F> {
+    pub(crate) it: I,
+    // the item that is held, and the closure
+    pub(crate) coalescing: (Option<I::Item>, F),
+}
+
+impl<
+    I: FallibleIterator,
+    F: FnMut(I::Item, I::Item) -> Result<Result<I::Item, (I::Item, I::Item)>, I::Error>,
+> FallibleIterator for Coalesce<I, F>
+where
+    I::Item: Drop,
+{
+    type Item = I::Item;
+
+    type Error = I::Error;
+
+    ghost contract = { seen_as coalesce_parts (coalesce_contract I.contract F.FnMut) };
+
+    /// Draws until the closure keeps two items apart or fails, or a failure or an end comes.
+    fn next(&mut self) -> Result<Option<I::Item>, I::Error> {
+        self.drive(&mut (), &FirstTurn)
+    }
+
+    fn size_hint(&self) -> (usize, Option<usize>) {
+        at_least_one(self.it.size_hint().0, self.coalescing.0.is_some())
+    }
+
+    fn drive<C, R, K: Turn<C, I::Item, R>>(
+        &mut self,
+        state: &mut C,
+        turn: &K,
+    ) -> Result<Option<R>, I::Error> {
+        let left = (*self).number();
+        drive_holding(&mut self.it, &mut self.coalescing, &CoalesceHold, left, state, turn)
+    }
+
+    ghost lawful = { lawful_seen coalesce_parts (lawful_coalesce F.FnMut I.lawful) };
+}
+
+// What the closure makes of the item that is held and the next one.
+#[derive(Drop)]
+struct CoalesceHold;
+
+impl<X: Drop, E, F: FnMut(X, X) -> Result<Result<X, (X, X)>, E>> Hold<(Option<X>, F), X, E>
+    for CoalesceHold {
+    type Kept = X;
+
+    ghost can_ask = { λ _ p x. coalesce_takes (takes_with F.FnMut) p x };
+
+    ghost asks = { λ _ p x o q. coalesce_asks (call_with F.FnMut) p x o q };
+
+    ghost held = { λ _ p. held_beside p };
+
+    fn ask(&self, holds: &mut (Option<X>, F), asked: Option<X>) -> Outcome<X, E>
+        requires { coalesce_takes (takes_with F.FnMut) holds.old asked }
+        ensures { coalesce_asks (call_with F.FnMut) holds.old asked result holds.new }
+    {
+        match (holds.0.take(), asked) {
+            (None, Some(x)) => {
+                holds.0 = Some(x);
+                Outcome::LeftOut
+            }
+            (Some(first), Some(x)) => match (holds.1)(first, x) {
+                Ok(Ok(one)) => {
+                    holds.0 = Some(one);
+                    Outcome::LeftOut
+                }
+                Ok(Err((first, second))) => {
+                    holds.0 = Some(second);
+                    Outcome::Kept(first)
+                }
+                Err(e) => Outcome::Failure(e),
+            },
+            (Some(first), None) => Outcome::Kept(first),
+            (None, None) => Outcome::End,
+        }
+    }
+
+    ghost holds = { λ _. holds_coalesce (call_with F.FnMut) };
+}
