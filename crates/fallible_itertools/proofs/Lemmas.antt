@@ -1,6 +1,7 @@
 -- Why the functions of `src/` do what their clauses say.
 pub mod Coalesce
 pub mod Dedup
+pub mod DedupByKey
 pub mod Holding
 pub mod HoldingHints
 pub mod HoldingLists

@@ -1,4 +1,5 @@
 -- What follows from the definitions: the lemmas that ghost members cite.
 pub mod Coalesce
 pub mod Dedup
+pub mod DedupByKey
 pub mod Holding

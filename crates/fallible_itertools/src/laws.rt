@@ -1,4 +1,7 @@
 //! What a trace of each adapter is, and that hints are sound, as functions whose body is empty.
 mod holding;
 
-pub use holding::{law_dedup, law_hints_dedup};
+pub use holding::{
+    law_coalesce, law_dedup, law_dedup_by_key, law_hints_coalesce, law_hints_dedup,
+    law_hints_dedup_by_key,
+};

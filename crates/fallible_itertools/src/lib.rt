@@ -5,10 +5,12 @@
 
 pub mod coalesce;
 pub mod dedup;
+pub mod dedup_by_key;
 pub mod holding;
 pub mod laws;
 pub mod traits;
 
 pub use coalesce::Coalesce;
 pub use dedup::Dedup;
+pub use dedup_by_key::DedupByKey;
 pub use traits::FallibleItertools;

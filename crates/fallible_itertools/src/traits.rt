@@ -1,15 +1,17 @@
 //! The traits that every fallible iterator has besides.
 ghost use Rattle.std.specs.Prelude.{◌≡◌, List, None, Result};
 ghost use Rattle.fallible_iterator.specs.Contract.{seen_as};
-ghost use Rattle.fallible_iterator.specs.Lists.{ActsWith, Lists, ListsForGood};
-ghost use Rattle.fallible_iterator.specs.Closures.{IsCallable};
+ghost use Rattle.fallible_iterator.specs.Lists.{Acts, ActsWith, Lists, ListsForGood};
+ghost use Rattle.fallible_iterator.specs.Closures.{IsCallable, call_at, takes_at};
 ghost use Rattle.fallible_iterator.specs.Folds.{call_with, takes_with};
 ghost use Rattle.fallible_itertools.specs.Coalesce.{coalesce_asks, coalesce_contract, coalesce_parts, coalesce_takes, coalesced};
 ghost use Rattle.fallible_itertools.specs.Dedup.{dedup_contract, dedup_parts, deduped};
+ghost use Rattle.fallible_itertools.specs.DedupByKey.{dedup_by_key_contract, dedup_by_key_parts, dedup_key_asks, dedup_key_takes, deduped_by_key};
 ghost use Rattle.fallible_itertools.specs.Holding.{MayBeAsked};
 
 use crate::coalesce::Coalesce;
 use crate::dedup::Dedup;
+use crate::dedup_by_key::DedupByKey;
 use fallible_iterator::FallibleIterator;
 
 /// More calls on every fallible iterator.
@@ -35,6 +37,30 @@ pub trait FallibleItertools: FallibleIterator {
         Coalesce {
             it: self,
             coalescing: (None, f),
+        }
+    }
+
+    /// Gives of adjacent items with equal keys the first.
+    final fn dedup_by_key<K, F>(self, f: F) -> DedupByKey<Self, K, F>
+    where
+        Self::Item: Drop,
+        K: PartialEq + Drop,
+        F: FnMut(&Self::Item) -> Result<K, Self::Error>,
+        requires callable { IsCallable (call_at F.FnMut) (takes_at F.FnMut)
+            (Self.contract.may_give self) f }
+        ensures parts { dedup_by_key_parts result ≡ (self, (None, f)) }
+        ensures callable { IsCallable (dedup_key_asks K.eq (call_at F.FnMut))
+            (dedup_key_takes (takes_at F.FnMut)) (MayBeAsked Self.contract self) (None, f) }
+        ensures lists { (h : Self.Item → Result K Self.Error)
+            (l : List (Result Self.Item Self.Error)) → Acts (call_at F.FnMut) f h
+            → ListsForGood Self.contract.steps self l
+            → Lists (seen_as dedup_by_key_parts
+            (dedup_by_key_contract K.eq Self.contract F.FnMut)).steps result
+            (deduped_by_key K.eq h l) }
+    {
+        DedupByKey {
+            it: self,
+            keying: (None, f),
         }
     }
 

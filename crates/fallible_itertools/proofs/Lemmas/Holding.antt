@@ -7,7 +7,7 @@ use Rattle.fallible_iterator.specs.Closures.{Reaches, IsCallable}
 use Rattle.fallible_iterator.specs.Contract.{Contract}
 use Rattle.fallible_iterator.specs.Passing.{outcome_answer, passing_step}
 use Rattle.fallible_iterator.specs.Folds.{Drained, DrivenBy, DriveExit, Driven, HoldsAtEachTurn, goes_on}
-use Rattle.fallible_iterator.specs.Laws.Closures.{reaches_here}
+use Rattle.fallible_iterator.specs.Laws.Closures.{reaches_here, reaches_from}
 use Rattle.fallible_iterator.specs.Laws.Passing.{Passes, done, end_passes, failure_passes, keeps, refuses, closes, leaves_out, to_passes, from_passes}
 use Rattle.fallible_contract.proofs.Lemmas.Folds.{holds_after, driven_after}
 use Rattle.fallible_contract.proofs.Lemmas.Folding.{holds_into}
@@ -162,3 +162,19 @@ module _ {S P X B E : Type 0} {m : Contract S X E} (l : Lawful m) (asks : P → 
   -- once its source ended, it may be asked of that end
   pub can_ask_of_end : {C R : Type 0} {turns : C → B → ControlFlow R (Unit {0}) → C → Type 0} {p q : S × P} {c d : C} {r : Answered R E} → (holding_contract m asks pre held (λ p h. ⊤)).can_next p → Driven (UpToEnd m.steps asks) turns p c r q d → pre q.1 None
   can_ask_of_end {p = p} {q = q} can w = (kept_run lawful_up_to p _ q (can.0, (can.1, can.2)) w.ran).can_next.1.1.at q.1 None reaches_here tt
+
+-- ---- a closure that is called once on each item, beside what is held
+
+module _ {P F X V B E : Type 0} (asks : P → Option X → Outcome B E → P → Type 0) (call : F → X → V → F → Type 0) (closure : P → F) (on_item : (p : P) (x : X) (o : Outcome B E) (q : P) → asks p (Some x) o q → (v : V) × call (closure p) x v (closure q)) (on_end : (p : P) (o : Outcome B E) (q : P) → asks p None o q → closure q ≡ closure p) where
+  reach_closure : {Q : X → Type 0} (made : List (Option X × Outcome B E)) (p q : P) → FoldsTo (λ p (c : Option X × Outcome B E) q. OrEnd Q c.0 × asks p c.0 c.1 q) p made q → Reaches call Q (closure p) (closure q)
+  reach_closure {Q = Q} [] p q w = subst (λ (z : P). Reaches call Q (closure p) (closure z)) w reaches_here
+  reach_closure {Q = Q} ((Some x, o) ∷ made) p q w = let v = on_item p x o w.0 w.1.1 in reaches_from x v.0 w.1.0 v.1 (reach_closure made w.0 q w.2)
+  reach_closure {Q = Q} ((None, o) ∷ made) p q w = subst (λ (f : F). Reaches call Q f (closure q)) (on_end p o w.0 w.1.1) (reach_closure made w.0 q w.2)
+
+  -- where the closure may be called on what comes, the adapter may be asked of it
+  pub callable_beside : {takes : F → X → Type 0} (pre : P → Option X → Type 0) → ((p : P) (x : X) → takes (closure p) x → pre p (Some x)) → ((p : P) → pre p None) → {Q : X → Type 0} {p : P} → IsCallable call takes Q (closure p) → IsCallable asks pre (OrEnd Q) p
+  callable_beside {takes = takes} pre at_item at_end {Q = Q} {p = p} c = record { at = λ q asked r may. callable_at q asked r may }
+    where
+      callable_at : (q : P) (asked : Option X) → Reaches asks (OrEnd Q) p q → OrEnd Q asked → pre q asked
+      callable_at q (Some x) r may = at_item q x (c.at (closure q) x (reach_closure r.made p q r.by) may)
+      callable_at q None r may = at_end q

@@ -1,9 +1,16 @@
 // Of the adapters that hold.
+ghost use Rattle.std.specs.Prelude.{Option, Result};
 ghost use Rattle.fallible_iterator.specs.LawForm.{TracesAre};
 ghost use Rattle.fallible_iterator.specs.SoundHints.{KeepsBrackets};
+ghost use Rattle.fallible_iterator.specs.Closures.{call_at};
+ghost use Rattle.fallible_iterator.specs.Folds.{call_with};
+ghost use Rattle.fallible_itertools.specs.Coalesce.{CoalesceTrace, coalesce_parts, coalesce_source};
+ghost use Rattle.fallible_itertools.specs.DedupByKey.{DedupByKeyTrace, dedup_by_key_parts, dedup_by_key_source};
 ghost use Rattle.fallible_itertools.specs.Dedup.{DedupTrace, dedup_parts, dedup_source};
 
+use crate::coalesce::Coalesce;
 use crate::dedup::Dedup;
+use crate::dedup_by_key::DedupByKey;
 use fallible_iterator::FallibleIterator;
 
 /// The answers of `Dedup` are the source's with the first of adjacent equal items alone, each where the next one that differs stands or an end.
@@ -20,4 +27,53 @@ where
     I::Item: PartialEq + Drop,
     ensures { (s : Dedup I I.Item I.Error)
         → KeepsBrackets ⟦<Dedup<I> as FallibleIterator>⟧.contract s I.contract (dedup_source s) }
+{}
+
+/// The answers of `Coalesce` are the source's where adjacent items stand put together, each where the next one that isn't put to it stands or an end, with the closure's failure in the place of an item on which it failed.
+pub fn law_coalesce<
+    I: FallibleIterator,
+    F: FnMut(I::Item, I::Item) -> Result<Result<I::Item, (I::Item, I::Item)>, I::Error>,
+>()
+where
+    I::Item: Drop,
+    ensures { TracesAre coalesce_parts ⟦<Coalesce<I, F> as FallibleIterator>⟧.contract.steps
+        (CoalesceTrace (call_with F.FnMut) I.contract.steps) }
+{}
+
+/// Each hint of `Coalesce` is as sound as the hint of its source that it is made of.
+pub fn law_hints_coalesce<
+    I: FallibleIterator,
+    F: FnMut(I::Item, I::Item) -> Result<Result<I::Item, (I::Item, I::Item)>, I::Error>,
+>()
+where
+    I::Item: Drop,
+    ensures { (s : Coalesce I F I.Item I.Error)
+        → KeepsBrackets ⟦<Coalesce<I, F> as FallibleIterator>⟧.contract s I.contract
+        (coalesce_source s) }
+{}
+
+/// The answers of `DedupByKey` are the source's with the first of adjacent items with equal keys alone, each where the next one that differs stands or an end, with the closure's failure in the place of an item on which it failed.
+pub fn law_dedup_by_key<
+    I: FallibleIterator,
+    K: PartialEq + Drop,
+    F: FnMut(&I::Item) -> Result<K, I::Error>,
+>()
+where
+    I::Item: Drop,
+    ensures { TracesAre dedup_by_key_parts
+        ⟦<DedupByKey<I, K, F> as FallibleIterator>⟧.contract.steps
+        (DedupByKeyTrace K.eq (call_at F.FnMut) I.contract.steps) }
+{}
+
+/// Each hint of `DedupByKey` is as sound as the hint of its source that it is made of.
+pub fn law_hints_dedup_by_key<
+    I: FallibleIterator,
+    K: PartialEq + Drop,
+    F: FnMut(&I::Item) -> Result<K, I::Error>,
+>()
+where
+    I::Item: Drop,
+    ensures { (s : DedupByKey I K F I.Item I.Error)
+        → KeepsBrackets ⟦<DedupByKey<I, K, F> as FallibleIterator>⟧.contract s I.contract
+        (dedup_by_key_source s) }
 {}

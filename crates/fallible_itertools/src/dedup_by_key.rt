@@ -1,0 +1,116 @@
+// The adapter that gives of adjacent items with equal keys the first.
+ghost use Rattle.std.specs.Prelude.{Ok, Option, Result};
+ghost use Rattle.fallible_iterator.specs.Closures.{call_at, takes_at};
+ghost use Rattle.fallible_iterator.specs.Contract.{seen_as};
+ghost use Rattle.fallible_iterator.specs.Laws.Contract.{lawful_seen};
+ghost use Rattle.fallible_itertools.specs.DedupByKey.{dedup_by_key_contract, dedup_by_key_parts, dedup_key_asks, dedup_key_takes, keyed_by};
+ghost use Rattle.fallible_itertools.specs.Holding.{held_beside};
+ghost use Rattle.fallible_itertools.specs.Laws.DedupByKey.{holds_dedup_key, lawful_dedup_by_key};
+
+use crate::holding::{Hold, at_least_one, drive_holding};
+use fallible_iterator::adapting::{FirstTurn, Outcome};
+use fallible_iterator::{FallibleIterator, Turn};
+
+/// Of adjacent items with equal keys the first. It is held, with its key, until an item with another key comes, or an end.
+#[derive(Clone, Debug, Drop)]
+pub struct DedupByKey<I: FallibleIterator, K, F> {
+    pub(crate) it: I,
+    // the key and the item that are held, and the closure
+    pub(crate) keying: (Option<(K, I::Item)>, F),
+}
+
+impl<
+    I: FallibleIterator,
+    K: PartialEq + Drop,
+    F: FnMut(&I::Item) -> Result<K, I::Error>,
+> FallibleIterator for DedupByKey<I, K, F>
+where
+    I::Item: Drop,
+{
+    type Item = I::Item;
+
+    type Error = I::Error;
+
+    ghost contract = { seen_as dedup_by_key_parts (dedup_by_key_contract K.eq I.contract F.FnMut) };
+
+    /// Draws until an item has another key than the one that is held, or a failure or an end comes.
+    fn next(&mut self) -> Result<Option<I::Item>, I::Error> {
+        self.drive(&mut (), &FirstTurn)
+    }
+
+    fn size_hint(&self) -> (usize, Option<usize>) {
+        at_least_one(self.it.size_hint().0, self.keying.0.is_some())
+    }
+
+    fn drive<C, R, T: Turn<C, I::Item, R>>(
+        &mut self,
+        state: &mut C,
+        turn: &T,
+    ) -> Result<Option<R>, I::Error> {
+        let left = (*self).number();
+        drive_holding(&mut self.it, &mut self.keying, &KeyHold, left, state, turn)
+    }
+
+    ghost lawful = { lawful_seen dedup_by_key_parts (lawful_dedup_by_key K.eq F.FnMut I.lawful) };
+}
+
+// What becomes of an item by its key.
+#[derive(Drop)]
+struct KeyHold;
+
+impl<X: Drop, E, K: PartialEq + Drop, F: FnMut(&X) -> Result<K, E>> Hold<
+    (Option<(K, X)>, F),
+    X,
+    E,
+> for KeyHold {
+    type Kept = X;
+
+    ghost can_ask = { λ _ p x. dedup_key_takes (takes_at F.FnMut) p x };
+
+    ghost asks = { λ _ p x o q. dedup_key_asks K.eq (call_at F.FnMut) p x o q };
+
+    ghost held = { λ _ p. held_beside p };
+
+    fn ask(&self, holds: &mut (Option<(K, X)>, F), asked: Option<X>) -> Outcome<X, E>
+        requires { dedup_key_takes (takes_at F.FnMut) holds.old asked }
+        ensures { dedup_key_asks K.eq (call_at F.FnMut) holds.old asked result holds.new }
+    {
+        match asked {
+            Some(x) => match (holds.1)(&x) {
+                Ok(key) => beside(&mut holds.0, key, x),
+                Err(e) => Outcome::Failure(e),
+            },
+            None => match holds.0.take() {
+                Some((_key, first)) => Outcome::Kept(first),
+                None => Outcome::End,
+            },
+        }
+    }
+
+    ghost holds = { λ _. holds_dedup_key K.eq (call_at F.FnMut) };
+}
+
+// An item with its key beside the one that is held, if one is.
+fn beside<X: Drop, E, K: PartialEq + Drop>(
+    held: &mut Option<(K, X)>,
+    key: K,
+    x: X,
+) -> Outcome<X, E>
+    ensures { keyed_by K.eq held.old x (Ok key) result held.new }
+{
+    match held.take() {
+        Some((first_key, first)) => {
+            if first_key == key {
+                *held = Some((first_key, first));
+                Outcome::LeftOut
+            } else {
+                *held = Some((key, x));
+                Outcome::Kept(first)
+            }
+        }
+        None => {
+            *held = Some((key, x));
+            Outcome::LeftOut
+        }
+    }
+}
