@@ -5,3 +5,4 @@ pub mod DedupByKey
 pub mod Holding
 pub mod HoldingHints
 pub mod HoldingLists
+pub mod TupleWindows

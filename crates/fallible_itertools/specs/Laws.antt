@@ -3,3 +3,4 @@ pub mod Coalesce
 pub mod Dedup
 pub mod DedupByKey
 pub mod Holding
+pub mod TupleWindows

@@ -4,3 +4,4 @@ pub mod Dedup
 pub mod DedupByKey
 pub mod Holding
 pub mod Laws
+pub mod TupleWindows

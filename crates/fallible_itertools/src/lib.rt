@@ -9,8 +9,10 @@ pub mod dedup_by_key;
 pub mod holding;
 pub mod laws;
 pub mod traits;
+pub mod tuple_windows;
 
 pub use coalesce::Coalesce;
 pub use dedup::Dedup;
 pub use dedup_by_key::DedupByKey;
 pub use traits::FallibleItertools;
+pub use tuple_windows::TupleWindows;

@@ -8,11 +8,14 @@ ghost use Rattle.fallible_itertools.specs.Coalesce.{coalesce_asks, coalesce_cont
 ghost use Rattle.fallible_itertools.specs.Dedup.{dedup_contract, dedup_parts, deduped};
 ghost use Rattle.fallible_itertools.specs.DedupByKey.{dedup_by_key_contract, dedup_by_key_parts, dedup_key_asks, dedup_key_takes, deduped_by_key};
 ghost use Rattle.fallible_itertools.specs.Holding.{MayBeAsked};
+ghost use Rattle.fallible_itertools.specs.TupleWindows.{tuple_windows_contract, tuple_windows_parts, windowed};
 
 use crate::coalesce::Coalesce;
 use crate::dedup::Dedup;
 use crate::dedup_by_key::DedupByKey;
+use crate::tuple_windows::TupleWindows;
 use fallible_iterator::FallibleIterator;
+use std::alloc::AllocError;
 
 /// More calls on every fallible iterator.
 pub trait FallibleItertools: FallibleIterator {
@@ -75,6 +78,26 @@ pub trait FallibleItertools: FallibleIterator {
             (deduped Self.Item.eq l) }
     {
         Dedup {
+            it: self,
+            held: None,
+        }
+    }
+
+    /// Gives each two adjacent items.
+    final fn tuple_windows(self) -> TupleWindows<Self>
+    where
+        Self::Item: Clone + Drop,
+        Self::Error: From<AllocError>,
+        ensures parts { tuple_windows_parts result ≡ (self, None) }
+        ensures lists { (l : List (Result Self.Item Self.Error))
+            → Lists Self.contract.steps self l
+            → ((x y : Self.Item) → Self.Item.is_clone x y → y ≡ x)
+            → ((x : Self.Item) → Self.Item.is_infallible x)
+            → Lists (seen_as tuple_windows_parts (tuple_windows_contract Self.Item.is_clone
+            Self.Item.is_infallible Self.Error.from_gives Self.contract)).steps result
+            (windowed l) }
+    {
+        TupleWindows {
             it: self,
             held: None,
         }

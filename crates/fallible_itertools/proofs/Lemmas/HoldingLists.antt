@@ -115,3 +115,18 @@ module _ {S P Q X B E : Type 0} (steps : S → Answered X E → S → Type 0) (a
     held_gives [] s p a at i = ended_gives (does a None) s p a refl i at
     held_gives (Ok x ∷ l) s p a at i = gives_by (Some x) (λ u. GivesForGood steps u l) (held_list does next (next a (Some x)) l) s p a (does a (Some x)) refl i at (λ u h b f. held_gives l u h (next a (Some x)) b f)
     held_gives (Err e ∷ l) s p a at i = λ r t w. failure_first e (λ u. GivesForGood steps u l) (held_list does next a l) s p i (λ u f. held_gives l u p a at f) r t.0 t.1 (first_of_all s t.0 p t.1 r (to_passes w))
+
+-- ---- where no end is answered by an item
+
+module _ {S P Q X B E : Type 0} (steps : S → Answered X E → S → Type 0) (asks : P → Option X → Outcome B E → P → Type 0)
+    (At : P → Q → Type 0) (does : Q → Option X → Outcome B E) (next : Q → Option X → Q) (acts : (p : P) (a : Q) (x : Option X) (o : Outcome B E) (q : P) → At p a → asks p x o q → At q (next a x) × (o ≡ does a x)) (ends : (a : Q) → does a None ≡ End) where
+  end_is : (s : S) → AlwaysGives {A = X} {E = E} steps s [] → (r : Answered X E) (t : S) → steps s r t → (r ≡ end) × Unit {0}
+  end_is s i r t step = (i r t step, tt)
+
+  ends_at : (s : S) (p : P) (a : Q) → AlwaysGives {A = X} {E = E} steps s [] → At p a → Gives steps asks At does next acts s p (by_outcome (does a None) [])
+  ends_at s p a i at = subst (λ (o : Outcome B E). Gives steps asks At does next acts s p (by_outcome o [])) (sym (ends a)) (λ r t w. let k = asked_of steps asks At does next acts None (λ u. Unit {0}) s p a (end_is s i) at r t.0 t.1 (first_of_all steps asks At does next acts s t.0 p t.1 r (to_passes w)) in (subst (λ (o : Outcome B E). ByFirst steps asks At does next acts o k.source k.holds r t.0 t.1) (ends a) k.first).0)
+
+  pub held_gives_once : (l : List (Result X E)) (s : S) (p : P) (a : Q) → At p a → AlwaysGives steps s l → Gives steps asks At does next acts s p (held_list does next a l)
+  held_gives_once [] s p a at i = ends_at s p a i at
+  held_gives_once (Ok x ∷ l) s p a at i = gives_by steps asks At does next acts (Some x) (λ u. AlwaysGives steps u l) (held_list does next (next a (Some x)) l) s p a (does a (Some x)) refl i at (λ u h b f. held_gives_once l u h (next a (Some x)) b f)
+  held_gives_once (Err e ∷ l) s p a at i = λ r t w. failure_first steps asks At does next acts e (λ u. AlwaysGives steps u l) (held_list does next a l) s p i (λ u f. held_gives_once l u p a at f) r t.0 t.1 (first_of_all steps asks At does next acts s t.0 p t.1 r (to_passes w))
