@@ -6,3 +6,4 @@ pub mod Holding
 pub mod HoldingHints
 pub mod HoldingLists
 pub mod TupleWindows
+pub mod WindowHints

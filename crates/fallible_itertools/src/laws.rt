@@ -3,5 +3,5 @@ mod holding;
 
 pub use holding::{
     law_coalesce, law_dedup, law_dedup_by_key, law_hints_coalesce, law_hints_dedup,
-    law_hints_dedup_by_key,
+    law_hints_dedup_by_key, law_hints_tuple_windows, law_tuple_windows,
 };

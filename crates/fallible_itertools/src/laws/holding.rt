@@ -7,11 +7,14 @@ ghost use Rattle.fallible_iterator.specs.Folds.{call_with};
 ghost use Rattle.fallible_itertools.specs.Coalesce.{CoalesceTrace, coalesce_parts, coalesce_source};
 ghost use Rattle.fallible_itertools.specs.DedupByKey.{DedupByKeyTrace, dedup_by_key_parts, dedup_by_key_source};
 ghost use Rattle.fallible_itertools.specs.Dedup.{DedupTrace, dedup_parts, dedup_source};
+ghost use Rattle.fallible_itertools.specs.TupleWindows.{TupleWindowsTrace, tuple_windows_parts, tuple_windows_source};
 
 use crate::coalesce::Coalesce;
 use crate::dedup::Dedup;
 use crate::dedup_by_key::DedupByKey;
+use crate::tuple_windows::TupleWindows;
 use fallible_iterator::FallibleIterator;
+use std::alloc::AllocError;
 
 /// The answers of `Dedup` are the source's with the first of adjacent equal items alone, each where the next one that differs stands or an end.
 pub fn law_dedup<I: FallibleIterator>()
@@ -76,4 +79,25 @@ where
     ensures { (s : DedupByKey I K F I.Item I.Error)
         → KeepsBrackets ⟦<DedupByKey<I, K, F> as FallibleIterator>⟧.contract s I.contract
         (dedup_by_key_source s) }
+{}
+
+/// The answers of `TupleWindows` are the source's where each item but the first is replaced by the pair of the one before it and itself, or by the failure made of a refused clone.
+pub fn law_tuple_windows<I: FallibleIterator>()
+where
+    I::Item: Clone + Drop,
+    I::Error: From<AllocError>,
+    ensures { TracesAre tuple_windows_parts
+        ⟦<TupleWindows<I> as FallibleIterator>⟧.contract.steps
+        (TupleWindowsTrace I.Item.is_clone I.Item.is_infallible I.Error.from_gives
+        I.contract.steps) }
+{}
+
+/// Each hint of `TupleWindows` is as sound as the hint of its source that it is made of.
+pub fn law_hints_tuple_windows<I: FallibleIterator>()
+where
+    I::Item: Clone + Drop,
+    I::Error: From<AllocError>,
+    ensures { (s : TupleWindows I I.Item I.Error)
+        → KeepsBrackets ⟦<TupleWindows<I> as FallibleIterator>⟧.contract s I.contract
+        (tuple_windows_source s) }
 {}
