@@ -47,7 +47,14 @@ where
         turn: &K,
     ) -> Result<Option<R>, I::Error> {
         let left = (*self).number();
-        drive_holding(&mut self.it, &mut self.coalescing, &CoalesceHold, left, state, turn)
+        drive_holding(
+            &mut self.it,
+            &mut self.coalescing,
+            &CoalesceHold,
+            left,
+            state,
+            turn,
+        )
     }
 
     ghost lawful = { lawful_seen coalesce_parts (lawful_coalesce F.FnMut I.lawful) };

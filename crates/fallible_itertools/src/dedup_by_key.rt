@@ -58,11 +58,8 @@ where
 #[derive(Drop)]
 struct KeyHold;
 
-impl<X: Drop, E, K: PartialEq + Drop, F: FnMut(&X) -> Result<K, E>> Hold<
-    (Option<(K, X)>, F),
-    X,
-    E,
-> for KeyHold {
+impl<X: Drop, E, K: PartialEq + Drop, F: FnMut(&X) -> Result<K, E>> Hold<(Option<(K, X)>, F), X, E>
+    for KeyHold {
     type Kept = X;
 
     ghost can_ask = { λ _ p x. dedup_key_takes (takes_at F.FnMut) p x };
@@ -91,11 +88,7 @@ impl<X: Drop, E, K: PartialEq + Drop, F: FnMut(&X) -> Result<K, E>> Hold<
 }
 
 // An item with its key beside the one that is held, if one is.
-fn beside<X: Drop, E, K: PartialEq + Drop>(
-    held: &mut Option<(K, X)>,
-    key: K,
-    x: X,
-) -> Outcome<X, E>
+fn beside<X: Drop, E, K: PartialEq + Drop>(held: &mut Option<(K, X)>, key: K, x: X) -> Outcome<X, E>
     ensures { keyed_by K.eq held.old x (Ok key) result held.new }
 {
     match held.take() {

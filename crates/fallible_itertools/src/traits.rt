@@ -21,7 +21,22 @@ use std::alloc::AllocError;
 pub trait FallibleItertools: FallibleIterator {
     // ---- adapters that hold
 
-    /// Puts adjacent items together where the closure makes one of two.
+    /// Puts adjacent items together where the closure makes one of two, `Ok(one)`; two that it keeps apart it hands back, `Err((first, second))`.
+    ///
+    /// Making it draws nothing. What was made so far is held until the closure keeps two apart, or an end comes: one call draws up to that, or to a failure, and calls the closure on what is held and each further item. It fails as the source does, and what is held stays. Where the closure fails, its failure is the answer, and the two items that it was called on are lost. An end answers the held item, and the next call draws the source again.
+    ///
+    /// What it lists is said over a source that ends for good, as one behind `fuse`.
+    ///
+    /// Asks that the closure may be called on what is held and each item that may come. Each draw asks what one of `dedup` asks.
+    ///
+    /// ```
+    /// convert(readings.into_iter())
+    ///     .fuse()
+    ///     .coalesce(|first: u32, second: u32| {
+    ///         Ok(if second < first { Ok(first) } else { Err((first, second)) })
+    ///     })
+    ///     .count()
+    /// ```
     final fn coalesce<F>(self, f: F) -> Coalesce<Self, F>
     where
         Self::Item: Drop,
@@ -43,7 +58,17 @@ pub trait FallibleItertools: FallibleIterator {
         }
     }
 
-    /// Gives of adjacent items with equal keys the first.
+    /// Gives of adjacent items with equal keys the first. The closure makes the key, once of each item.
+    ///
+    /// It is made, draws and ends as `dedup` does. Where the closure fails, its failure is the answer and that item is lost, and no other.
+    ///
+    /// Asks that the closure may be called on a reference to each item that may come. Each draw asks what one of `dedup` asks.
+    ///
+    /// ```
+    /// convert(readings.into_iter())
+    ///     .fuse()
+    ///     .dedup_by_key(|reading| Ok(*reading / 10))
+    /// ```
     final fn dedup_by_key<K, F>(self, f: F) -> DedupByKey<Self, K, F>
     where
         Self::Item: Drop,
@@ -68,6 +93,16 @@ pub trait FallibleItertools: FallibleIterator {
     }
 
     /// Gives of adjacent equal items the first.
+    ///
+    /// Making it draws nothing. The first of equal items is held until an item that differs comes, or an end: one call draws up to that, or to a failure. It fails as the source does, and what is held stays. An end answers the held item, and the next call draws the source again.
+    ///
+    /// What it lists is said over a source that ends for good, as one behind `fuse`.
+    ///
+    /// Asks nothing. Each draw asks that the source may be drawn from and is finite, since one draw may leave many items out.
+    ///
+    /// ```
+    /// convert(readings.into_iter()).fuse().dedup().count()
+    /// ```
     final fn dedup(self) -> Dedup<Self>
     where
         Self::Item: PartialEq + Drop,
@@ -83,7 +118,17 @@ pub trait FallibleItertools: FallibleIterator {
         }
     }
 
-    /// Gives each two adjacent items.
+    /// Gives each two adjacent items, as pairs. The later one of a pair is a clone.
+    ///
+    /// Making it draws nothing. One call draws one answer, and two for the first pair. It fails as the source does. Where a clone is refused, the failure made of the refusal is the answer and the later item is lost. The last item stays held at a failure and at an end, so the next pair begins with it.
+    ///
+    /// Asks nothing. Each draw asks that the source may be drawn from and is finite.
+    ///
+    /// ```
+    /// let mut it = (&mut source).tuple_windows();
+    /// let hint = it.size_hint();
+    /// let drawn = [it.next(), it.next(), it.next(), it.next(), it.next()];
+    /// ```
     final fn tuple_windows(self) -> TupleWindows<Self>
     where
         Self::Item: Clone + Drop,

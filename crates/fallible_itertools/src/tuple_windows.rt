@@ -41,7 +41,10 @@ where
         if self.held.is_some() {
             (low, high)
         } else {
-            (low.saturating_sub(1), high.map(|high| high.saturating_sub(1)))
+            (
+                low.saturating_sub(1),
+                high.map(|high| high.saturating_sub(1)),
+            )
         }
     }
 

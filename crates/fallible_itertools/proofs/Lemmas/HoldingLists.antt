@@ -74,7 +74,10 @@ module _ {S P Q X B E : Type 0} (steps : S → Answered X E → S → Type 0) (a
   asked_of x T s p a known at r t g (failed e step is same) = absurd (let h = (known (Err e) t step).0 in cc)
   asked_of x T s p a known at r t g (asked z w) = let d = known (Ok z) w.source w.step in let same : z ≡ x = (let h = d.0 in cc) in
       let c = acts p a x w.outcome w.holds at (subst (λ (k : Option X). asks p k w.outcome w.holds) same w.answered) in record {
-        source = w.source; holds = w.holds; then = d.1; at = c.0;
+        source = w.source;
+        holds = w.holds;
+        then = d.1;
+        at = c.0;
         first = subst (λ (o : Outcome B E). ByFirst o w.source w.holds r t g) c.1 w.first;
       }
 
