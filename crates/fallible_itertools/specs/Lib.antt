@@ -1,1 +1,3 @@
 -- What the clauses of `src/` cite.
+pub mod Converting
+pub mod Totals

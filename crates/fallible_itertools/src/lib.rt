@@ -3,6 +3,9 @@
 //! Import the trait [`FallibleItertools`] to have them, and [`DoubleEndedFallibleItertools`] for those from the back.
 #![tactic(auto)]
 
+mod converting;
+pub mod totals;
 pub mod traits;
 
+pub use totals::CheckedTotal;
 pub use traits::FallibleItertools;

@@ -1,2 +1,9 @@
 //! Vectors: the calls of `fallible_itertools` on small inputs, with answers that come from outside.
 #![tactic(auto)]
+
+#[cfg(test)]
+mod totals;
+#[cfg(test)]
+mod trying;
+pub mod uses_totals;
+pub mod uses_trying;
