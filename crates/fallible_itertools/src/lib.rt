@@ -4,8 +4,11 @@
 #![tactic(auto)]
 
 mod converting;
+mod sorting;
+pub mod stopping;
 pub mod totals;
 pub mod traits;
 
+pub use stopping::FoldWhile;
 pub use totals::CheckedTotal;
 pub use traits::FallibleItertools;

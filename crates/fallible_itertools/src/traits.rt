@@ -1,15 +1,21 @@
 //! The traits that every fallible iterator has besides.
-ghost use Rattle.std.specs.Prelude.{◌≡◌, ◌-◌, ◌^◌, None, Ok, Err};
+ghost use Rattle.std.specs.Prelude.{◌≡◌, ◌-◌, ◌^◌, true, Option, None, Ok, Err};
 ghost use Rattle.fallible_iterator.specs.Clauses.{OverList, OverListWith};
 ghost use Rattle.fallible_iterator.specs.Closures.{call_on, takes_on, call_at, takes_at};
 ghost use Rattle.fallible_iterator.specs.Contract.{AtMost, Stays};
-ghost use Rattle.fallible_iterator.specs.Folds.{HoldsAtEachTurn};
-ghost use Rattle.fallible_iterator.specs.Lists.{Lists, Acts, Converts};
-ghost use Rattle.fallible_iterator.specs.Searching.{Passed, Searched, each_pick, find_pick, position_pick};
+ghost use Rattle.fallible_iterator.specs.Folds.{HoldsAtEachTurn, CallableInFold, call_with, takes_with};
+ghost use Rattle.fallible_iterator.specs.Lists.{Lists, Acts, ActsWith, Converts};
+ghost use Rattle.fallible_iterator.specs.Searching.{CallableInSearch, Passed, Searched, all_pick, each_pick, find_pick, position_pick};
 ghost use Rattle.fallible_itertools.specs.Converting.{Converted, try_each_done, try_found, try_position_in, behind_try_each, behind_try_true};
+ghost use Rattle.fallible_itertools.specs.Sorting.{OrderCall, sorted_by_key};
+ghost use Rattle.fallible_itertools.specs.Stopping.{WhileCall, FoldedWhile, folded_while, behind_while};
 ghost use Rattle.fallible_itertools.specs.Totals.{Totalled, totalled};
+ghost use Rattle.std.specs.declared.cmp.Ordering.{Ordering};
+ghost use Rattle.fallible_itertools.specs.declared.stopping.FoldWhile.TheVariants.{Done};
 
 use crate::converting::converted;
+use crate::sorting::SortedTurn;
+use crate::stopping::{FoldWhile, FoldWhileTurn, while_or_stop};
 use crate::totals::{CheckedTotal, ProductTurn, SumTurn, total_or_none};
 use fallible_iterator::FallibleIterator;
 use fallible_iterator::searching::{
@@ -171,6 +177,73 @@ pub trait FallibleItertools: FallibleIterator {
         let mut product = Self::Item::one();
         let answer = self.drive(&mut product, &ProductTurn);
         total_or_none(answer, product)
+    }
+
+    /// Calls the closure on the value so far and each item in order, until it answers `Done`. Answers `Done` of its value, or `Continue` of the last value at the end.
+    ///
+    /// It draws up to the item on which the closure answers `Done` or fails, the first failure or the end. It fails with the failure that comes first, of this iterator or of the closure. Nothing is drawn after the answer that decides, and what is left may be drawn from again.
+    ///
+    /// Asks that it may be drawn from and is finite, and that the closure may be called on each item that may come with the value so far.
+    ///
+    /// ```
+    /// it.fold_while(0, |sum: u32, reading: u32| if reading == 0 {
+    ///     Ok(FoldWhile::Done(sum))
+    /// } else {
+    ///     Ok(FoldWhile::Continue(sum.wrapping_add(reading)))
+    /// })
+    /// ```
+    final fn fold_while<B, F>(&mut self, init: B, f: F) -> Result<FoldWhile<B>, Self::Error>
+    where
+        B: Drop,
+        F: FnMut(B, Self::Item) -> Result<FoldWhile<B>, Self::Error>,
+        requires can_next { Self.contract.can_next self.old }
+        requires finite { Self.contract.is_finite self.old }
+        requires callable { CallableInFold Self.contract.steps (WhileCall (call_with F.FnMut))
+            (takes_with F.FnMut) self.old f init }
+        ensures folded { FoldedWhile (call_with F.FnMut) Self.contract.steps self.old init f
+            result self.new }
+        ensures value { OverListWith (ActsWith (call_with F.FnMut) f) Self.contract.steps self.old
+            (λ h l. result ≡ folded_while h init l) }
+        ensures rest_done { OverListWith (ActsWith (call_with F.FnMut) f) Self.contract.steps
+            self.old (λ h l. (b : B) → result ≡ Ok (Done b)
+            → Lists Self.contract.steps self.new (behind_while h init l)) }
+        ensures rest_failed { OverListWith (ActsWith (call_with F.FnMut) f) Self.contract.steps
+            self.old (λ h l. (e : Self.Error) → result ≡ Err e
+            → Lists Self.contract.steps self.new (behind_while h init l)) }
+        ensures stays { Stays Self.contract self.old self.new }
+    {
+        let mut state = (Some(init), f);
+        let answer = self.drive(&mut state, &FoldWhileTurn);
+        let (value, _) = state;
+        while_or_stop(answer, value)
+    }
+
+    /// Whether the keys that the closure makes of the items never go down. A key that has no order with the one before it goes down.
+    ///
+    /// It draws up to the first item whose key goes down or on which the closure fails, the first failure or the end. Nothing is drawn after the answer that decides. It fails with the failure that comes first, of this iterator or of the closure. It takes the iterator, and no clause says what is left.
+    ///
+    /// Asks that it may be drawn from and is finite, and that the closure may be called on each item that may come.
+    ///
+    /// ```
+    /// convert(readings.into_iter()).is_sorted_by_key(|reading: u32| Ok(reading % 10))
+    /// ```
+    final fn is_sorted_by_key<K, F>(mut self, f: F) -> Result<bool, Self::Error>
+    where
+        K: PartialOrd + Drop,
+        F: FnMut(Self::Item) -> Result<K, Self::Error>,
+        requires can_next { Self.contract.can_next self }
+        requires finite { Self.contract.is_finite self }
+        requires callable { CallableInSearch (OrderCall K.partial_cmp (call_on F.FnMut)) all_pick
+            Self.contract.steps (λ p x. takes_on F.FnMut p.1 x) self (None, f) }
+        ensures sorted { (left : Self) × (q : Option K × F)
+            × Searched (OrderCall K.partial_cmp (call_on F.FnMut)) all_pick Self.contract.steps
+            true self (None, f) result left q }
+        ensures value { (order : K → K → Option Ordering) → order ≡ K.partial_cmp
+            → OverListWith (Acts (call_on F.FnMut) f) Self.contract.steps self
+            (λ h l. result ≡ sorted_by_key order h l) }
+    {
+        let mut state = (None, f);
+        answer_or(self.drive(&mut state, &SortedTurn), true)
     }
 }
 

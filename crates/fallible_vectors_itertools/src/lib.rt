@@ -2,8 +2,11 @@
 #![tactic(auto)]
 
 #[cfg(test)]
+mod stopping;
+#[cfg(test)]
 mod totals;
 #[cfg(test)]
 mod trying;
+pub mod uses_stopping;
 pub mod uses_totals;
 pub mod uses_trying;
