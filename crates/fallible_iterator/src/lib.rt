@@ -7,6 +7,7 @@ pub mod adapting;
 pub mod conversion;
 pub mod laws;
 pub mod prelude;
+pub mod searching;
 pub mod sources;
 
 pub use conversion::IteratorExt;

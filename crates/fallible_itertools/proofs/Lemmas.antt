@@ -1,4 +1,4 @@
--- Why the functions of `src/` do what their clauses say.
+-- The lemmas on each adapter, and on what adapters share.
 pub mod Coalesce
 pub mod Dedup
 pub mod DedupByKey

@@ -4,15 +4,21 @@
 #![tactic(auto)]
 
 pub mod coalesce;
+mod converting;
 pub mod dedup;
 pub mod dedup_by_key;
 pub mod holding;
 pub mod laws;
+mod sorting;
+pub mod stopping;
+pub mod totals;
 pub mod traits;
 pub mod tuple_windows;
 
 pub use coalesce::Coalesce;
 pub use dedup::Dedup;
 pub use dedup_by_key::DedupByKey;
+pub use stopping::FoldWhile;
+pub use totals::CheckedTotal;
 pub use traits::FallibleItertools;
 pub use tuple_windows::TupleWindows;

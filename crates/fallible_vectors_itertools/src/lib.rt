@@ -1,6 +1,15 @@
-//! Vectors: the calls of `fallible_itertools` on small inputs, with answers that come from outside.
+//! Vectors: the calls of `fallible_itertools` on small inputs, with answers that come from outside, and callers that state what they compute.
 #![tactic(auto)]
 
 pub mod holding;
 #[cfg(test)]
 mod holding_rows;
+#[cfg(test)]
+mod stopping;
+#[cfg(test)]
+mod totals;
+#[cfg(test)]
+mod trying;
+pub mod uses_stopping;
+pub mod uses_totals;
+pub mod uses_trying;
