@@ -1,1 +1,3 @@
 -- What the clauses of `src/` cite.
+pub mod Copied
+pub mod Laws

@@ -3,6 +3,9 @@
 //! Import the trait [`FallibleItertools`] to have them, and [`DoubleEndedFallibleItertools`] for those from the back.
 #![tactic(auto)]
 
+pub mod copied;
+pub mod laws;
 pub mod traits;
 
+pub use copied::Copied;
 pub use traits::FallibleItertools;

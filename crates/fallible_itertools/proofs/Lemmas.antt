@@ -1,0 +1,2 @@
+-- Lemmas, one room for each adapter.
+pub mod Copied

@@ -1,0 +1,7 @@
+//! What a trace of each adapter is, and that its hints are sound, as laws.
+mod copied;
+
+pub use copied::{
+    law_back_copied, law_copied, law_hints_back_copied, law_hints_copied, law_hints_listed_copied,
+    law_listed_copied,
+};
