@@ -1,2 +1,4 @@
 -- Lemmas, one room for each adapter.
 pub mod Copied
+pub mod TakeWhileInclusive
+pub mod TakeWhileInclusiveFolds

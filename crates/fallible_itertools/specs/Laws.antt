@@ -1,2 +1,3 @@
 -- What follows from the definitions: the lemmas that ghost members cite.
 pub mod Copied
+pub mod TakeWhileInclusive

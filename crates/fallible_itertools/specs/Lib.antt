@@ -1,3 +1,4 @@
 -- What the clauses of `src/` cite.
 pub mod Copied
 pub mod Laws
+pub mod TakeWhileInclusive

@@ -5,7 +5,9 @@
 
 pub mod copied;
 pub mod laws;
+pub mod take_while_inclusive;
 pub mod traits;
 
 pub use copied::Copied;
+pub use take_while_inclusive::TakeWhileInclusive;
 pub use traits::FallibleItertools;
