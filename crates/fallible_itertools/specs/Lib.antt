@@ -1,4 +1,5 @@
 -- What the clauses of `src/` cite.
 pub mod Copied
 pub mod Laws
+pub mod PeekingTakeWhile
 pub mod TakeWhileInclusive

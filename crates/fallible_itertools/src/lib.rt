@@ -5,9 +5,11 @@
 
 pub mod copied;
 pub mod laws;
+pub mod peeking_take_while;
 pub mod take_while_inclusive;
 pub mod traits;
 
 pub use copied::Copied;
+pub use peeking_take_while::{PeekingNext, PeekingTakeWhile};
 pub use take_while_inclusive::TakeWhileInclusive;
 pub use traits::FallibleItertools;

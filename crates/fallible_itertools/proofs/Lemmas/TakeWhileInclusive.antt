@@ -25,12 +25,12 @@ leaves_none_out x (Err e) = refl
 
 module _ {S F X R E : Type 0} (steps : S → Answered X E → S → Type 0) (call : F → X → R → F → Type 0) where
   -- the call at a first place, and those at the others
-  first_call : (x : Place X R E) (places : List (Place X R E)) (f h g : F) → Calls call f (filter_map call_of (x ∷ [])) h → Calls call h (filter_map call_of places) g → Calls call f (filter_map call_of (x ∷ places)) g
+  pub first_call : (x : Place X R E) (places : List (Place X R E)) (f h g : F) → Calls call f (filter_map call_of (x ∷ [])) h → Calls call h (filter_map call_of places) g → Calls call f (filter_map call_of (x ∷ places)) g
   first_call (asked x v) places f h g one rest = (one.0, one.1, subst (λ (k : F). Calls call k (filter_map call_of places) g) (sym one.2) rest)
   first_call (failure_at e) places f h g one rest = subst (λ (k : F). Calls call k (filter_map call_of places) g) (sym one) rest
   first_call end_at places f h g one rest = subst (λ (k : F). Calls call k (filter_map call_of places) g) (sym one) rest
 
-  calls_apart : (x : Place X R E) (places : List (Place X R E)) (f g : F) → Calls call f (filter_map call_of (x ∷ places)) g → (h : F) × Calls call f (filter_map call_of (x ∷ [])) h × Calls call h (filter_map call_of places) g
+  pub calls_apart : (x : Place X R E) (places : List (Place X R E)) (f g : F) → Calls call f (filter_map call_of (x ∷ places)) g → (h : F) × Calls call f (filter_map call_of (x ∷ [])) h × Calls call h (filter_map call_of places) g
   calls_apart (asked x v) places f g c = (c.0, (c.0, c.1, refl), c.2)
   calls_apart (failure_at e) places f g c = (f, refl, c)
   calls_apart end_at places f g c = (f, refl, c)

@@ -1,0 +1,25 @@
+// The laws of the adapter that leaves the first refused item in the iterator that it borrows.
+ghost use Rattle.std.specs.Prelude.{Result};
+ghost use Rattle.fallible_iterator.specs.Closures.{call_at};
+ghost use Rattle.fallible_iterator.specs.LawForm.{TracesAre};
+ghost use Rattle.fallible_iterator.specs.SoundHints.{KeepsBrackets};
+ghost use Rattle.fallible_itertools.specs.PeekingTakeWhile.{PeekingTrace, peeking_parts, peeking_source};
+
+use crate::peeking_take_while::{PeekingNext, PeekingTakeWhile};
+use fallible_iterator::FallibleIterator;
+
+/// A trace of `PeekingTakeWhile` is the source's, with the closure's failure in the place of each item on which it failed, and an end in the place of each item that it refuses, which is asked of again at the next place; where it is refused at the last, it stays next in the source.
+pub fn law_peeking_take_while<P: PeekingNext, F: FnMut(&P::Item) -> Result<bool, P::Error>>()
+where
+    ensures { TracesAre peeking_parts
+        ⟦<PeekingTakeWhile<P, F> as FallibleIterator>⟧.contract.steps
+        (PeekingTrace P.contract.steps P.looks (call_at F.FnMut)) }
+{}
+
+/// Each hint of `PeekingTakeWhile` is as sound as the hint of its source that it is made of.
+pub fn law_hints_peeking_take_while<P: PeekingNext, F: FnMut(&P::Item) -> Result<bool, P::Error>>()
+where
+    ensures { (s : PeekingTakeWhile P F)
+        → KeepsBrackets ⟦<PeekingTakeWhile<P, F> as FallibleIterator>⟧.contract s P.contract
+        (peeking_source s) }
+{}
