@@ -7,5 +7,7 @@ pub use copied::{
     law_back_copied, law_copied, law_hints_back_copied, law_hints_copied, law_hints_listed_copied,
     law_listed_copied,
 };
-pub use peeking_take_while::{law_hints_peeking_take_while, law_peeking_take_while};
+pub use peeking_take_while::{
+    law_hints_peeking_take_while, law_left_peeking_take_while, law_peeking_take_while,
+};
 pub use take_while_inclusive::{law_hints_take_while_inclusive, law_take_while_inclusive};

@@ -1,10 +1,10 @@
 //! Callers of the adapters that let answers pass: each states what it computes, and the contracts of the calls prove it.
 ghost use Rattle.std.specs.Prelude.{◌≡◌, ◌+◌, ◌%◌, ◌^◌, Ok, nat_lt};
-ghost use Rattle.fallible_iterator.specs.Lists.{counted, folded, pointed_to, results};
+ghost use Rattle.fallible_iterator.specs.Lists.{counted, folded, pointed_to, results, taken_while};
 ghost use Rattle.fallible_itertools.specs.TakeWhileInclusive.{taken_while_inclusive};
 
 use fallible_iterator::{FallibleIterator, convert};
-use fallible_itertools::FallibleItertools;
+use fallible_itertools::{FallibleItertools, PeekingNext};
 
 /// The sum of what the readings point to, modulo 2 ^ 64, or the first failure.
 pub fn sum_of_copies(readings: Vec<Result<&u32, u8>>) -> Result<u64, u8>
@@ -24,5 +24,15 @@ pub fn up_to_a_low_one(readings: Vec<Result<u32, u8>>) -> Result<usize, u8>
 {
     convert(readings.into_iter())
         .take_while_inclusive(|reading| Ok(*reading > 100))
+        .count()
+}
+
+/// How many readings stand before the first one that isn't above 100, or the first failure before.
+pub fn before_a_low_one(readings: Vec<Result<u32, u8>>) -> Result<usize, u8>
+    ensures { result ≡ counted (taken_while (λ x. Ok (nat_lt 100 x)) (results readings.items)) }
+{
+    let mut ahead = convert(readings.into_iter()).peekable();
+    ahead
+        .peeking_take_while(|reading| Ok(*reading > 100))
         .count()
 }

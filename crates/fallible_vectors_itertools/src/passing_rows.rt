@@ -2,7 +2,7 @@
 use fallible_iterator::Answer::{End, Failure, Item};
 use fallible_iterator::Side::{Back, Front};
 use fallible_iterator::{Answer, FallibleIterator, convert};
-use fallible_itertools::FallibleItertools;
+use fallible_itertools::{FallibleItertools, PeekingNext};
 use fallible_testing::closures::put_behind;
 use fallible_testing::course::Hint;
 use fallible_testing::expected_numbers::{
@@ -79,4 +79,48 @@ fn take_while_inclusive_keeps_the_refused_item_and_ends(rt: HostRuntime) -> Resu
         ((0, Some(0)), &[End]),
     ];
     expect_hinted_numbers(&rt, &mut it, &course)
+}
+
+// The fold of what is left after these answers of `peeking_take_while` below a bound, and what the source gives then. The closure fails on 7.
+fn left_after_below(
+    rt: &HostRuntime,
+    bound: u32,
+    script: &[Drawn],
+    expected: &[Answer<u32, u32>],
+) -> Result<(Result<u32, u32>, Drawn, Drawn), Fail> {
+    let source = Script {
+        answers: script.to_vec(rt.alloc())?.into_iter(),
+    };
+    let mut ahead = source.peekable();
+    let mut it = ahead.peeking_take_while(|x: &u32| -> Result<bool, u32> {
+        if *x == 7 { Err(70) } else { Ok(*x < bound) }
+    });
+    expect_numbers(rt, &mut it, expected)?;
+    let folded = it.try_fold(0, put_behind);
+    let first = ahead.next();
+    Ok((folded, first, ahead.next()))
+}
+
+#[test]
+fn peeking_take_while_leaves_the_refused_item(rt: HostRuntime) -> Result<(), Fail> {
+    let script = [Ok(Some(1)), Ok(Some(5)), Ok(Some(2))];
+    let answers = [Item(1), End, End];
+    let left = left_after_below(&rt, 3, &script, &answers)?;
+    assert_eq!(rt; left, (Ok(0), Ok(Some(5)), Ok(Some(2))));
+    let left = left_after_below(&rt, 3, &script, &[])?;
+    assert_eq!(rt; left, (Ok(1), Ok(Some(5)), Ok(Some(2))));
+    let script = [
+        Err(9),
+        Ok(Some(7)),
+        Ok(Some(1)),
+        END,
+        Ok(Some(2)),
+        Ok(Some(4)),
+    ];
+    let answers = [Failure(9), Failure(70), Item(1), End];
+    let left = left_after_below(&rt, 3, &script, &answers)?;
+    assert_eq!(rt; left, (Ok(2), Ok(Some(4)), END));
+    let left = left_after_below(&rt, 3, &script, &[Failure(9)])?;
+    assert_eq!(rt; left, (Err(70), Ok(Some(1)), END));
+    Ok(())
 }
