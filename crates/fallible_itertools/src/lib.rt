@@ -5,20 +5,26 @@
 
 pub mod coalesce;
 mod converting;
+pub mod copied;
 pub mod dedup;
 pub mod dedup_by_key;
 pub mod holding;
 pub mod laws;
+pub mod peeking_take_while;
 mod sorting;
 pub mod stopping;
+pub mod take_while_inclusive;
 pub mod totals;
 pub mod traits;
 pub mod tuple_windows;
 
 pub use coalesce::Coalesce;
+pub use copied::Copied;
 pub use dedup::Dedup;
 pub use dedup_by_key::DedupByKey;
+pub use peeking_take_while::{PeekingNext, PeekingTakeWhile};
 pub use stopping::FoldWhile;
+pub use take_while_inclusive::TakeWhileInclusive;
 pub use totals::CheckedTotal;
 pub use traits::FallibleItertools;
 pub use tuple_windows::TupleWindows;

@@ -1,29 +1,33 @@
 //! The traits that every fallible iterator has besides.
-ghost use Rattle.std.specs.Prelude.{◌≡◌, List, None, Result, ◌-◌, ◌^◌, true, Option, Ok, Err};
+ghost use Rattle.std.specs.Prelude.{◌≡◌, List, None, Result, ◌-◌, ◌^◌, true, Option, Ok, Err, false};
 ghost use Rattle.std.specs.declared.cmp.Ordering.{Ordering};
 ghost use Rattle.fallible_iterator.specs.Clauses.{OverList, OverListWith};
 ghost use Rattle.fallible_iterator.specs.Closures.{IsCallable, call_at, takes_at, call_on, takes_on};
 ghost use Rattle.fallible_iterator.specs.Contract.{seen_as, AtMost, Stays};
 ghost use Rattle.fallible_iterator.specs.Folds.{call_with, takes_with, HoldsAtEachTurn, CallableInFold};
-ghost use Rattle.fallible_iterator.specs.Lists.{Acts, ActsWith, Lists, ListsForGood, Converts};
+ghost use Rattle.fallible_iterator.specs.Lists.{Acts, ActsWith, Lists, ListsForGood, Converts, pointed_to};
 ghost use Rattle.fallible_iterator.specs.Searching.{CallableInSearch, Passed, Searched, all_pick, each_pick, find_pick, position_pick};
 ghost use Rattle.fallible_itertools.specs.Coalesce.{coalesce_asks, coalesce_contract, coalesce_parts, coalesce_takes, coalesced};
 ghost use Rattle.fallible_itertools.specs.Converting.{Converted, try_each_done, try_found, try_position_in, behind_try_each, behind_try_true};
+ghost use Rattle.fallible_itertools.specs.Copied.{copied_contract, copied_parts};
 ghost use Rattle.fallible_itertools.specs.Dedup.{dedup_contract, dedup_parts, deduped};
 ghost use Rattle.fallible_itertools.specs.DedupByKey.{dedup_by_key_contract, dedup_by_key_parts, dedup_key_asks, dedup_key_takes, deduped_by_key};
 ghost use Rattle.fallible_itertools.specs.Holding.{MayBeAsked};
 ghost use Rattle.fallible_itertools.specs.Sorting.{OrderCall, sorted_by_key};
 ghost use Rattle.fallible_itertools.specs.Stopping.{WhileCall, FoldedWhile, folded_while, behind_while};
+ghost use Rattle.fallible_itertools.specs.TakeWhileInclusive.{inclusive_contract, inclusive_parts, inclusive_predicate, inclusive_refused, inclusive_source, taken_while_inclusive};
 ghost use Rattle.fallible_itertools.specs.Totals.{Totalled, totalled};
 ghost use Rattle.fallible_itertools.specs.TupleWindows.{tuple_windows_contract, tuple_windows_parts, windowed};
 ghost use Rattle.fallible_itertools.specs.declared.stopping.FoldWhile.TheVariants.{Done};
 
 use crate::coalesce::Coalesce;
 use crate::converting::converted;
+use crate::copied::Copied;
 use crate::dedup::Dedup;
 use crate::dedup_by_key::DedupByKey;
 use crate::sorting::SortedTurn;
 use crate::stopping::{FoldWhile, FoldWhileTurn, while_or_stop};
+use crate::take_while_inclusive::TakeWhileInclusive;
 use crate::totals::{CheckedTotal, ProductTurn, SumTurn, total_or_none};
 use crate::tuple_windows::TupleWindows;
 use fallible_iterator::FallibleIterator;
@@ -381,6 +385,60 @@ pub trait FallibleItertools: FallibleIterator {
     {
         let mut state = (None, f);
         answer_or(self.drive(&mut state, &SortedTurn), true)
+    }
+
+    // ---- adapters that let answers pass
+
+    /// Replaces each item by a copy of what it points to.
+    ///
+    /// Making it draws nothing. One call draws one answer. It fails as the source does. After a failure and after an end the next call draws the source again. With two ends it has two.
+    ///
+    /// Asks nothing.
+    ///
+    /// ```
+    /// let items = [1, 2, 3];
+    /// let mut it = numbers.iter().into_fallible().copied();
+    /// ```
+    final fn copied<'a, T: 'a>(self) -> Copied<Self>
+    where
+        Self: FallibleIterator<Item = &'a T>,
+        T: Copy,
+        ensures parts { copied_parts result ≡ (self, tt) }
+        ensures lists { OverList Self.contract.steps self
+            (λ l. Lists (seen_as copied_parts (copied_contract Self.contract)).steps
+            result (pointed_to l)) }
+    {
+        Copied { it: self }
+    }
+
+    /// Gives the items up to and with the first one that the predicate refuses, and ends there.
+    ///
+    /// Making it draws nothing and calls nothing. Up to the refused item one call draws one answer. It fails as the source does. Where the predicate fails, its failure is the answer, and the item is lost; that ends nothing, and nor does an end of the source. After the refused item it draws nothing, and ends for good.
+    ///
+    /// Asks that the predicate may be called on each item that may come, in each state that such calls bring it to. Draws ask that items can be let go.
+    ///
+    /// ```
+    /// convert(readings.into_iter())
+    ///     .take_while_inclusive(|reading| Ok(*reading > 100))
+    ///     .count()
+    /// ```
+    final fn take_while_inclusive<P>(self, predicate: P) -> TakeWhileInclusive<Self, P>
+    where
+        P: FnMut(&Self::Item) -> Result<bool, Self::Error>,
+        requires { IsCallable (call_at P.FnMut) (takes_at P.FnMut)
+            (Self.contract.may_give self) predicate }
+        ensures source { inclusive_source result ≡ self }
+        ensures predicate { inclusive_predicate result ≡ predicate }
+        ensures refused { inclusive_refused result ≡ false }
+        ensures lists { OverListWith (Acts (call_at P.FnMut) predicate) Self.contract.steps self
+            (λ h l. Lists (seen_as inclusive_parts
+            (inclusive_contract Self.contract P.FnMut)).steps
+            result (taken_while_inclusive h l)) }
+    {
+        TakeWhileInclusive {
+            it: self,
+            taking: (false, predicate),
+        }
     }
 }
 

@@ -4,6 +4,9 @@
 pub mod holding;
 #[cfg(test)]
 mod holding_rows;
+pub mod passing;
+#[cfg(test)]
+mod passing_rows;
 #[cfg(test)]
 mod stopping;
 #[cfg(test)]

@@ -1,0 +1,36 @@
+-- What `Copied` lists.
+use Rattle.std.specs.Prelude.{◌≡◌, Result, Ok, Err, List, [], ◌∷◌}
+use Rattle.std.specs.Borrow.{Bor}
+use Rattle.std.proofs.Common.{refl, ap}
+use Rattle.fallible_contract.specs.Contract.{Contract, seen_as}
+use Rattle.fallible_contract.specs.Traces.{Answered}
+use Rattle.fallible_contract.specs.Passing.{passing_step}
+use Rattle.fallible_contract.specs.Lists.{Lists}
+use Rattle.fallible_contract.specs.BothEnds.{ListsBothEnds}
+use Rattle.fallible_contract.proofs.Lemmas.BothEnds.Passing.{listed_by_function}
+use Rattle.fallible_contract.proofs.Lemmas.Lists.Passing.{passed, lists_seen, lists_passed}
+use Rattle.fallible_contract.specs.declared.passing.Outcome.TheVariants.{LeftOut, End}
+use Rattle.fallible_core.specs.OneToOne.Cloned.{pointed_to}
+use Rattle.fallible_itertools.specs.Copied.{copied_call, copied_contract, copied_outcome, copied_parts}
+use Rattle.fallible_itertools.specs.declared.copied.Copied.{Copied}
+
+-- no item makes an end, and none is left out
+pub never_ends : {T E : Type 0} (x : Bor T) (u : Unit {0}) → copied_outcome {E = E} x u ≡ End → ⊥
+never_ends x u e = cc
+
+pub never_left_out : {T E : Type 0} (x : Bor T) (u : Unit {0}) → copied_outcome {E = E} x u ≡ LeftOut → ⊥
+never_left_out x u e = cc
+
+pub pointed_to_is : {T E : Type 0} (l : List (Result (Bor T) E)) → passed copied_outcome (λ (p : Unit {0}) (x : Bor T). tt) (λ p x. p) tt l ≡ pointed_to l
+unfolding pointed_to
+pointed_to_is [] = refl
+pointed_to_is (Ok x ∷ l) = ap (λ k. Ok x.now ∷ k) (pointed_to_is l)
+pointed_to_is (Err e ∷ l) = ap (λ k. Err e ∷ k) (pointed_to_is l)
+
+pub lists_copied : {S T E : Type 0} (m : Contract S (Bor T) E) (s : Copied S) (l : List (Result (Bor T) E)) → Lists m.steps s.it l → Lists (seen_as copied_parts (copied_contract m)).steps s (pointed_to l)
+lists_copied m s l i = lists_seen copied_parts (copied_contract m).steps s refl (pointed_to_is l) (lists_passed copied_call tt (λ x. tt) (λ x v g called. (refl, refl)) m.steps copied_outcome s.it l i.runs)
+
+-- from both ends
+pub listed_copies : {S T E : Type 0} (front back : S → Answered (Bor T) E → S → Type 0) (l : List (Result (Bor T) E)) (s : S) → ListsBothEnds front back s l
+    → ListsBothEnds (passing_step front copied_call copied_outcome) (passing_step back copied_call copied_outcome) (s, tt) (passed copied_outcome (λ (p : Unit {0}) (x : Bor T). tt) (λ p x. p) tt l)
+listed_copies front back l s i = listed_by_function copied_call copied_outcome never_ends tt (λ x. tt) (λ x v g called. (refl, refl)) front back s l i

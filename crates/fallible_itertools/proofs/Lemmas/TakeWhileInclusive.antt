@@ -1,0 +1,141 @@
+-- The runs of `TakeWhileInclusive` are the traces that its definition names; what it lists; and its hint.
+use Rattle.std.specs.Prelude.{◌≡◌, ℕ, ◌≤◌, min, Bool, true, false, List, [], ◌∷◌, length, map, Option, Result, Ok, Err, ◌↔◌}
+use Rattle.std.specs.List.{FoldsTo, filter_map}
+use Rattle.std.specs.Fn.{Mut}
+use Rattle.std.specs.Borrow.{Bor}
+use Rattle.std.proofs.Common.{refl, sym, ap, subst, ◌∙◌, arith}
+use Rattle.fallible_contract.specs.Contract.{Contract, seen_as}
+use Rattle.fallible_contract.specs.Lists.{AlwaysGives, Lists, Acts}
+use Rattle.fallible_contract.specs.Traces.{Answered, Run, Yields, item, end}
+use Rattle.fallible_contract.specs.Closures.{Calls, call_at}
+use Rattle.fallible_contract.specs.Passing.{LeavesNoneOut, Place, asked, failure_at, end_at, source_answer, call_of}
+use Rattle.fallible_contract.specs.Closing.{closing_step}
+use Rattle.fallible_contract.proofs.Lemmas.Closing.{closing_law}
+use Rattle.fallible_contract.proofs.Lemmas.Lists.Passing.{lists_seen}
+use Rattle.fallible_core.specs.Cutting.TakeWhile.{is_refused, place_drawn}
+use Rattle.fallible_iterator.specs.SoundHints.{BoundsBelow, AsSound}
+use Rattle.fallible_iterator.proofs.Lemmas.Hints.Drawn.{ItemsOfItems, above_of_source}
+use Rattle.fallible_itertools.specs.TakeWhileInclusive.{cons_through, taken_while_inclusive, inclusive_outcome, inclusive_answer, hint_of_first, InclusiveTrace, inclusive_parts, inclusive_contract}
+use Rattle.fallible_itertools.specs.declared.take_while_inclusive.TakeWhileInclusive.{TakeWhileInclusive}
+
+-- it leaves nothing out
+pub leaves_none_out : {X E : Type 0} → LeavesNoneOut {X = X} {B = X} {E = E} inclusive_outcome
+leaves_none_out x (Ok b) = refl
+leaves_none_out x (Err e) = refl
+
+module _ {S F X R E : Type 0} (steps : S → Answered X E → S → Type 0) (call : F → X → R → F → Type 0) where
+  -- the call at a first place, and those at the others
+  pub first_call : (x : Place X R E) (places : List (Place X R E)) (f h g : F) → Calls call f (filter_map call_of (x ∷ [])) h → Calls call h (filter_map call_of places) g → Calls call f (filter_map call_of (x ∷ places)) g
+  first_call (asked x v) places f h g one rest = (one.0, one.1, subst (λ (k : F). Calls call k (filter_map call_of places) g) (sym one.2) rest)
+  first_call (failure_at e) places f h g one rest = subst (λ (k : F). Calls call k (filter_map call_of places) g) (sym one) rest
+  first_call end_at places f h g one rest = subst (λ (k : F). Calls call k (filter_map call_of places) g) (sym one) rest
+
+  pub calls_apart : (x : Place X R E) (places : List (Place X R E)) (f g : F) → Calls call f (filter_map call_of (x ∷ places)) g → (h : F) × Calls call f (filter_map call_of (x ∷ [])) h × Calls call h (filter_map call_of places) g
+  calls_apart (asked x v) places f g c = (c.0, (c.0, c.1, refl), c.2)
+  calls_apart (failure_at e) places f g c = (f, refl, c)
+  calls_apart end_at places f g c = (f, refl, c)
+
+  -- the draws from the source, and the calls at their places
+  abbrev Both : List (Place X R E) → S → F → S → F → Type 0
+  Both places s f t g = Run steps s (map source_answer places) t × Calls call f (filter_map call_of places) g
+
+  to_both : (places : List (Place X R E)) (s : S) (f : F) (t : S) (g : F) → FoldsTo (place_drawn steps call) (s, f) places (t, g) → Both places s f t g
+  to_both [] s f t g e = (ap (λ p. p.0) e, ap (λ p. p.1) e)
+  to_both (x ∷ places) s f t g h = let b = to_both places h.0.0 h.0.1 t g h.2 in ((h.0.0, h.1.0, b.0), first_call x places f h.0.1 g h.1.1 b.1)
+
+  from_both : (places : List (Place X R E)) (s : S) (f : F) (t : S) (g : F) → Both places s f t g → FoldsTo (place_drawn steps call) (s, f) places (t, g)
+  from_both [] s f t g b = rw (b.0, b.1) refl
+  from_both (x ∷ places) s f t g b = let c = calls_apart x places f g b.1 in (((b.0).0, c.0), ((b.0).1, c.1), from_both places (b.0).0 c.0 t g ((b.0).2, c.2))
+
+module _ {S F X E : Type 0} (steps : S → Answered X E → S → Type 0) (call : F → X → Result Bool E → F → Type 0) where
+  -- one draw
+  abbrev pub inclusive_step : (S × F) × Bool → Answered X E → (S × F) × Bool → Type 0
+  inclusive_step = closing_step (place_drawn steps call) inclusive_answer is_refused
+
+  pub inclusive_law : (p : (S × F) × Bool) (trace : List (Answered X E)) (q : (S × F) × Bool) → FoldsTo inclusive_step p trace q ↔ InclusiveTrace steps call p trace q
+  inclusive_law p trace q = let law = closing_law (place_drawn steps call) inclusive_answer is_refused p.0 p.1 trace q.0 q.1 in
+      ((λ h. let d = law.0 h in let both = to_both steps call d.0 (p.0).0 (p.0).1 (q.0).0 (q.0).1 d.1 in record { places = d.0; drawn = both.0; called = both.1; cut = d.2 }), (λ h. law.1 (h.places, from_both steps call h.places (p.0).0 (p.0).1 (q.0).0 (q.0).1 (h.drawn, h.called), h.cut)))
+
+-- ---- what it lists
+
+module _ {S F X E : Type 0} (steps : S → Answered X E → S → Type 0) (call : F → X → Result Bool E → F → Type 0) (f : F) (h : X → Result Bool E) (acts : Acts call f h) where
+  abbrev Gives : S → F → Bool → List (Result X E) → Type 0
+  Gives s g b l = AlwaysGives (inclusive_step steps call) ((s, g), b) l
+
+  -- where the flag and the predicate are known
+  gives_where : (t : S) (k : F) (b c : Bool) (l : List (Result X E)) → k ≡ f → b ≡ c → Gives t f c l → Gives t k b l
+  gives_where t k b c l same is g = subst (λ (z : F). Gives t z b l) (sym same) (subst (λ (z : Bool). Gives t f z l) (sym is) g)
+
+  -- the place of the first draw, where the list is empty, begins with a failure, or with an item
+  at_none : (z : Place X (Result Bool E) E) (s t : S) (r : Answered X E) → AlwaysGives {A = X} steps s [] → steps s (source_answer z) t → r ≡ inclusive_answer z → r ≡ end
+  at_none (asked y v) s t r a step e = absurd (let d = a (item y) t step in cc)
+  at_none (failure_at d) s t r a step e = absurd (let k = a (Err d) t step in cc)
+  at_none end_at s t r a step e = e
+
+  at_failure : (z : Place X (Result Bool E) E) (d : E) (l : List (Result X E)) (s t : S) (k : F) → AlwaysGives steps s (Err d ∷ l) → place_drawn steps call (s, f) z (t, k) → (z ≡ failure_at d) × AlwaysGives steps t l × (k ≡ f)
+  at_failure (asked y v) d l s t k a drawn = absurd (let q = (a (item y) t drawn.0).0 in cc)
+  at_failure (failure_at c) d l s t k a drawn = let q = a (Err c) t drawn.0 in let same : c ≡ d = (let e = q.0 in cc) in (ap (λ (e : E). failure_at e) same, q.1, sym drawn.1)
+  at_failure end_at d l s t k a drawn = absurd (let q = (a end t drawn.0).0 in cc)
+
+  at_item : (z : Place X (Result Bool E) E) (x : X) (l : List (Result X E)) (s t : S) (k : F) → AlwaysGives steps s (Ok x ∷ l) → place_drawn steps call (s, f) z (t, k) → (z ≡ asked x (h x)) × AlwaysGives steps t l × (k ≡ f)
+  at_item (asked y v) x l s t k a drawn =
+      let q = a (item y) t drawn.0 in
+      let same : y ≡ x = (let e = q.0 in cc) in
+      let called = acts y v drawn.1.0 drawn.1.1 in
+      (ap (λ (w : Result Bool E). asked y w) called.1 ∙ ap (λ (w : X). asked w (h w)) same, q.1, sym drawn.1.2 ∙ called.0)
+  at_item (failure_at c) x l s t k a drawn = absurd (let q = (a (Err c) t drawn.0).0 in cc)
+  at_item end_at x l s t k a drawn = absurd (let q = (a end t drawn.0).0 in cc)
+
+  through_item : (x : X) (v : Result Bool E) (l rest : List (Result X E)) (s : S) → h x ≡ v → AlwaysGives steps s (Ok x ∷ l) → ((u : S) → AlwaysGives steps u l → Gives u f false rest) → Gives s f false (cons_through x v rest)
+  through_item x (Ok true) l rest s is a then = λ r q w. let d = at_item w.0 x l s (q.0).0 (q.0).1 a w.1 in let z : w.0 ≡ asked x (Ok true) = d.0 ∙ ap (λ (v : Result Bool E). asked x v) is in
+      (w.2 ∙ ap inclusive_answer z, gives_where (q.0).0 (q.0).1 q.1 false rest d.2 (w.3 ∙ ap is_refused z) (then (q.0).0 d.1))
+  through_item x (Ok false) l rest s is a then = λ r q w. let d = at_item w.0 x l s (q.0).0 (q.0).1 a w.1 in let z : w.0 ≡ asked x (Ok false) = d.0 ∙ ap (λ (v : Result Bool E). asked x v) is in
+      (w.2 ∙ ap inclusive_answer z, gives_where (q.0).0 (q.0).1 q.1 true [] d.2 (w.3 ∙ ap is_refused z) (λ r t over. over.0))
+  through_item x (Err e) l rest s is a then = λ r q w. let d = at_item w.0 x l s (q.0).0 (q.0).1 a w.1 in let z : w.0 ≡ asked x (Err e) = d.0 ∙ ap (λ (v : Result Bool E). asked x v) is in
+      (w.2 ∙ ap inclusive_answer z, gives_where (q.0).0 (q.0).1 q.1 false rest d.2 (w.3 ∙ ap is_refused z) (then (q.0).0 d.1))
+
+  inclusive_gives : (l : List (Result X E)) (s : S) → AlwaysGives steps s l → Gives s f false (taken_while_inclusive h l)
+  unfolding taken_while_inclusive
+  inclusive_gives [] s a = λ r q w. at_none w.0 s (q.0).0 r a w.1.0 w.2
+  inclusive_gives (Ok x ∷ l) s a = through_item x (h x) l (taken_while_inclusive h l) s refl a (λ u b. inclusive_gives l u b)
+  inclusive_gives (Err e ∷ l) s a = λ r q w. let d = at_failure w.0 e l s (q.0).0 (q.0).1 a w.1 in
+      (w.2 ∙ ap inclusive_answer d.0, gives_where (q.0).0 (q.0).1 q.1 false (taken_while_inclusive h l) d.2 (w.3 ∙ ap is_refused d.0) (inclusive_gives l (q.0).0 d.1))
+
+pub lists_inclusive : {S F X E : Type 0} (m : Contract S X E) (g : Mut F (Bor X × Unit {0}) (Result Bool E)) (s : TakeWhileInclusive S F) (f : F) (h : X → Result Bool E) (l : List (Result X E)) → inclusive_parts s ≡ ((s.it, f), false) → Acts (call_at g) f h → Lists m.steps s.it l
+    → Lists (seen_as inclusive_parts (inclusive_contract m g)).steps s (taken_while_inclusive h l)
+lists_inclusive m g s f h l parts a i = lists_seen inclusive_parts (inclusive_contract m g).steps s parts refl (inclusive_gives m.steps (call_at g) f h a l s.it i.runs)
+
+-- ---- its hint
+
+module _ {S F X E : Type 0} (steps : S → Answered X E → S → Type 0) (call : F → X → Result Bool E → F → Type 0) where
+  given : (z : Place X (Result Bool E) E) (y : X) → item y ≡ inclusive_answer z → (x : X) × (source_answer z ≡ item x)
+  given (asked x v) y e = (x, refl)
+  given (failure_at d) y e = absurd cc
+  given end_at y e = absurd cc
+
+  one_given : (p q : (S × F) × Bool) (y : X) → inclusive_step steps call p (item y) q → (xs : List X) × Yields steps (p.0).0 xs (q.0).0 × (1 ≤ length xs)
+  one_given (p, true) q y w = absurd (let e = w.0 in cc)
+  one_given (p, false) q y w = let d = given w.0 y w.2 in (d.0 ∷ [], ((q.0).0, subst (λ (r : Answered X E). steps p.0 r (q.0).0) d.1 w.1.0, refl), omega arith)
+
+  -- an item of it comes of one of the source
+  pub inclusive_items : ItemsOfItems (inclusive_step steps call) steps (λ p. (p.0).0) (λ p. Unit {0})
+  inclusive_items = record { drawn = λ p q y _ w. let d = one_given p q y w in (d.0, d.1, d.2, tt) }
+
+  ended : (z : Place X (Result Bool E) E) → end ≡ inclusive_answer z → source_answer z ≡ end
+  ended (asked x (Ok b)) e = absurd cc
+  ended (asked x (Err d)) e = absurd cc
+  ended (failure_at d) e = absurd cc
+  ended end_at e = refl
+
+  -- where no item came before an end, the source ended
+  below_first : (xs : List X) (p t u : (S × F) × Bool) (n : ℕ) → p.1 ≡ false → BoundsBelow steps (p.0).0 n → Yields (inclusive_step steps call) p xs t → inclusive_step steps call t end u → min n 1 ≤ length xs
+  below_first (x ∷ xs) p t u n unrefused b ran w = omega arith
+  below_first [] (p, true) t u n unrefused b ran w = absurd cc
+  below_first [] (p, false) t u n unrefused b ran w = let first : inclusive_step steps call (p, false) end u = subst (λ (z : (S × F) × Bool). inclusive_step steps call z end u) (sym ran) w in
+      let le = b [] p.0 (u.0).0 refl (subst (λ (r : Answered X E). steps p.0 r (u.0).0) (ended first.0 first.2) first.1.0) in omega (arith, le)
+
+  pub inclusive_sound : (p : (S × F) × Bool) (h k : ℕ × Option ℕ) → p.1 ≡ false → h ≡ hint_of_first k → AsSound (inclusive_step steps call) p h steps (p.0).0 k
+  inclusive_sound p h k unrefused is = subst (λ (j : ℕ × Option ℕ). AsSound (inclusive_step steps call) p j steps (p.0).0 k) (sym is) (record {
+    above = λ b. above_of_source (inclusive_step steps call) steps (λ p. (p.0).0) (λ p. Unit {0}) inclusive_items p tt k.1 b;
+    below = λ b xs t u ran step. below_first xs p t u k.0 unrefused b ran step;
+  })

@@ -1,0 +1,135 @@
+-- `PeekingTakeWhile`, which leaves the first refused item in what it borrows, and what looks ahead so.
+use Rattle.std.specs.Prelude.{◌≡◌, ⊤, List, [], ◌∷◌, map, Option, Result, Some, None, Ok, Err, Bool, true, false}
+use Rattle.std.specs.List.{filter_map}
+use Rattle.std.specs.Fn.{Mut}
+use Rattle.std.specs.Borrow.{Bor, MutBor}
+use Rattle.fallible_iterator.specs.Traces.{Answered, Run, item, failure, end}
+use Rattle.fallible_iterator.specs.Contract.{Contract, KeptByDraw}
+use Rattle.fallible_iterator.specs.Closures.{Calls, IsCallable, call_at, takes_at}
+use Rattle.fallible_iterator.specs.Passing.{Place, asked, failure_at, end_at, call_of, passing_contract}
+use Rattle.fallible_iterator.specs.Hints.{upper_alone}
+use Rattle.fallible_iterator.specs.Cutting.TakeWhile.{taken_answer, take_while_outcome}
+use Rattle.fallible_iterator.specs.Peeking.Peekable.{Peeks, peekable_parts}
+use Rattle.fallible_core.specs.declared.peeking.peekable.Peekable.{Peekable}
+use Rattle.fallible_itertools.specs.declared.peeking_take_while.PeekingTakeWhile.{PeekingTakeWhile}
+
+-- ---- what looks ahead
+
+-- A look at the next item: it comes next as it would have come, and nothing else is drawn. `looks s x t` says that the next item of s is x, and that a look at it leaves t.
+pub record LooksAhead {S X E : Type 0} (m : Contract S X E) (looks : S → X → S → Type 0) : Type 0 where
+  -- it keeps what a draw keeps that answers no item
+  pub kept : (s : S) (x : X) (t : S) → m.can_next s → looks s x t → KeptByDraw m s end t
+  -- the item is one to come
+  pub given : (s : S) (x : X) (t : S) → m.can_next s → looks s x t → m.may_give s x
+  -- a draw would have given it
+  pub comes : (s : S) (x : X) (t : S) → looks s x t → (u : S) × m.steps s (item x) u
+  -- a draw gives it, and leaves what a draw before the look would have left
+  pub next : (s : S) (x : X) (t : S) (r : Answered X E) (u : S) → looks s x t → m.steps t r u → (r ≡ item x) × m.steps s (item x) u
+  -- another look is at the same item
+  pub again : (s : S) (x : X) (t : S) (y : X) (u : S) → looks s x t → looks t y u → (y ≡ x) × looks s x u
+  -- an item that a draw gives can be looked at before
+  pub first : (s : S) (x : X) (u : S) → m.steps s (item x) u → (t : S) × looks s x t × m.steps t (item x) u
+  -- a look at what was looked at changes nothing
+  pub same : (s : S) (x : X) (t : S) → looks s x t → looks t x t
+
+-- a `Peekable` looks ahead by a peek
+abbrev pub peekable_looks : {S X E : Type 0} → (S → Answered X E → S → Type 0) → Peekable S X E → X → Peekable S X E → Type 0
+peekable_looks steps s x t = Peeks steps (peekable_parts s) (item x) (peekable_parts t)
+
+-- what the closure answers on the held item, and true where none is held
+abbrev pub AcceptsHeld : {F X E : Type 0} → (F → X → Result Bool E → F → Type 0) → Option X → F → Result Bool E → F → Type 0
+AcceptsHeld call (Some x) f v g = call f x v g
+AcceptsHeld call None f v g = (v ≡ Ok true) × (g ≡ f)
+
+-- what is borrowed looks as it does itself, and stays the same reference
+abbrev pub borrowed_looks : {S X : Type 0} → (S → X → S → Type 0) → MutBor S → X → MutBor S → Type 0
+borrowed_looks looks s x t = looks s.now x t.now × (t.ghost_name ≡ s.ghost_name)
+
+-- ---- the adapter
+
+-- the answer that was let go at a place: each but a refused item
+abbrev pub let_go : {X E : Type 0} → Place X (Result Bool E) E → Option (Answered X E)
+let_go (asked x (Ok true)) = Some (item x)
+let_go (asked x (Ok false)) = None
+let_go (asked x (Err e)) = Some (item x)
+let_go (failure_at e) = Some (failure e)
+let_go end_at = Some end
+
+-- behind a place where the item was refused stands one where the same item was asked of
+abbrev pub AgainAt : {X E : Type 0} → Place X (Result Bool E) E → Place X (Result Bool E) E → Type 0
+AgainAt (asked x (Ok true)) w = ⊤
+AgainAt {E = E} (asked x (Ok false)) w = (v : Result Bool E) × (w ≡ asked x v)
+AgainAt (asked x (Err e)) w = ⊤
+AgainAt (failure_at e) w = ⊤
+AgainAt end_at w = ⊤
+
+abbrev pub AskedAgain : {X E : Type 0} → List (Place X (Result Bool E) E) → Type 0
+AskedAgain [] = ⊤
+AskedAgain (z ∷ []) = ⊤
+AskedAgain (z ∷ w ∷ places) = AgainAt z w × AskedAgain (w ∷ places)
+
+module _ {S X E : Type 0} (looks : S → X → S → Type 0) where
+  -- how the source is left at the last place: where the item was refused it was looked at
+  abbrev pub LeftBehind : Place X (Result Bool E) E → S → S → Type 0
+  LeftBehind (asked x (Ok true)) u q = q ≡ u
+  LeftBehind (asked x (Ok false)) u q = looks u x q
+  LeftBehind (asked x (Err e)) u q = q ≡ u
+  LeftBehind (failure_at e) u q = q ≡ u
+  LeftBehind end_at u q = q ≡ u
+
+  abbrev pub LeftAt : List (Place X (Result Bool E) E) → S → S → Type 0
+  LeftAt [] u q = q ≡ u
+  LeftAt (z ∷ []) u q = LeftBehind z u q
+  LeftAt (z ∷ w ∷ places) u q = LeftAt (w ∷ places) u q
+
+-- `PeekingTakeWhile`: the closure is called on the item of each place, and an item is replaced by the closure's failure on it, and a refused one by an end. The answers that were let go are those of the source's draws; a refused item is asked of again at the next place, and where that is the last it was looked at and stays next. The parts are the source and the closure.
+pub record PeekingTrace {S F X E : Type 0} (steps : S → Answered X E → S → Type 0) (looks : S → X → S → Type 0) (call : F → X → Result Bool E → F → Type 0) (p : S × F) (trace : List (Answered X E)) (q : S × F) : Type 0 where
+  pub places : List (Place X (Result Bool E) E)
+  pub between : S
+  pub drawn : Run steps p.0 (filter_map let_go places) between
+  pub left : LeftAt looks places between q.0
+  pub called : Calls call p.1 (filter_map call_of places) q.1
+  pub answers : trace ≡ map taken_answer places
+  pub again : AskedAgain places
+
+-- the draw at a place, or the look at an item that was refused
+abbrev pub DrawnAt : {S X E : Type 0} → (S → Answered X E → S → Type 0) → (S → X → S → Type 0) → Place X (Result Bool E) E → S → S → Type 0
+DrawnAt steps looks (asked x (Ok true)) s t = steps s (item x) t
+DrawnAt steps looks (asked x (Ok false)) s t = looks s x t
+DrawnAt steps looks (asked x (Err e)) s t = steps s (item x) t
+DrawnAt steps looks (failure_at e) s t = steps s (failure e) t
+DrawnAt steps looks end_at s t = steps s end t
+
+-- One answer: that of one place, with the closure called on its item.
+abbrev pub peeking_step : {S F X E : Type 0} → (S → Answered X E → S → Type 0) → (S → X → S → Type 0) → (F → X → Result Bool E → F → Type 0) → S × F → Answered X E → S × F → Type 0
+peeking_step {X = X} {E = E} steps looks call p r q = (z : Place X (Result Bool E) E) × DrawnAt steps looks z p.0 q.0 × Calls call p.1 (filter_map call_of (z ∷ [])) q.1 × (r ≡ taken_answer z)
+
+-- The contract: the closure may be called on each item that may come, and the hint has the source's upper bound alone.
+abbrev pub peeking_contract : {S F X E : Type 0} → Contract S X E → (S → X → S → Type 0) → Mut F (Bor X × Unit {0}) (Result Bool E) → Contract (S × F) X E
+peeking_contract m looks g = record (passing_contract m (call_at g) (λ P f. IsCallable (call_at g) (takes_at g) P f) take_while_outcome (λ p h. upper_alone m p.0 h)) { steps = peeking_step m.steps looks (call_at g) }
+
+-- the source
+abbrev pub peeking_source : {P F : Type 0} → PeekingTakeWhile P F → P
+peeking_source s = s.it
+
+-- the closure
+abbrev pub peeking_closure : {P F : Type 0} → PeekingTakeWhile P F → F
+peeking_closure s = s.accept
+
+-- the source and the closure
+abbrev pub peeking_parts : {P F : Type 0} → PeekingTakeWhile P F → P × F
+peeking_parts s = (peeking_source s, peeking_closure s)
+
+-- ---- what it leaves
+
+-- what is left of the list at an item that the closure answers so on: that item and what stands behind it, where it is refused
+abbrev pub left_at : {X E : Type 0} → X → Result Bool E → List (Result X E) → Option (List (Result X E)) → Option (List (Result X E))
+left_at x (Ok true) l left = left
+left_at x (Ok false) l left = Some (Ok x ∷ l)
+left_at x (Err e) l left = left
+
+-- the list from the first item x on for which h x is false; none where there is no such item
+unfoldable pub left_by_while : {X E : Type 0} → (X → Result Bool E) → List (Result X E) → Option (List (Result X E))
+left_by_while h [] = None
+left_by_while h (Ok x ∷ l) = left_at x (h x) l (left_by_while h l)
+left_by_while h (Err e ∷ l) = left_by_while h l

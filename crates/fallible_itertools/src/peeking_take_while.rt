@@ -1,0 +1,143 @@
+//! The adapter that leaves the first refused item in the iterator that it borrows.
+ghost use Rattle.std.specs.Prelude.{◌≡◌, Some, Result, Option};
+ghost use Rattle.fallible_iterator.specs.Borrowed.{borrowed};
+ghost use Rattle.fallible_iterator.specs.Clauses.{OverListWith};
+ghost use Rattle.fallible_iterator.specs.Closures.{IsCallable, call_at, takes_at};
+ghost use Rattle.fallible_iterator.specs.Contract.{seen_as};
+ghost use Rattle.fallible_iterator.specs.Laws.Contract.{lawful_seen};
+ghost use Rattle.fallible_iterator.specs.Lists.{Acts, Lists, taken_while};
+ghost use Rattle.fallible_iterator.specs.Peeking.Peekable.{held_item, peekable_held};
+ghost use Rattle.fallible_itertools.specs.PeekingTakeWhile.{AcceptsHeld, LooksAhead, borrowed_looks, peekable_looks, peeking_closure, peeking_contract, peeking_parts, peeking_source, peeking_step};
+ghost use Rattle.fallible_itertools.specs.Laws.PeekingTakeWhile.{borrowed_looking, lawful_peeking, peekable_looking};
+
+use fallible_iterator::{FallibleIterator, Peekable};
+
+/// An iterator whose next item can be looked at, and stays next then: a `Peekable`, and a borrowed one.
+pub trait PeekingNext: FallibleIterator {
+    // Holds of a value, of its next item, and of what a look at that item leaves.
+    ghost looks: { Self → Self.Item → Self → Type 0 };
+
+    /// Draws one answer, where an item is shown to the closure first: one that it refuses stays next, and the answer is none. Where the closure fails, its failure is the answer, and the item is lost.
+    ///
+    /// It draws once, and nothing where an item or an end is held. It fails as the source does. What is left may be drawn from again.
+    ///
+    /// Asks that it may be drawn from, and that the closure may be called on each item that may come, in each state that such calls bring it to.
+    fn next_accepted<F>(&mut self, accept: &mut F) -> Result<Option<Self::Item>, Self::Error>
+    where
+        F: FnMut(&Self::Item) -> Result<bool, Self::Error>,
+        requires can_next { Self.contract.can_next self.old }
+        requires callable { IsCallable (call_at F.FnMut) (takes_at F.FnMut)
+            (Self.contract.may_give self.old) accept.old }
+        ensures { peeking_step Self.contract.steps looks (call_at F.FnMut)
+            (self.old, accept.old) result (self.new, accept.new) };
+
+    // What a look keeps, and that the item comes next as it would have come.
+    ghost looking: { LooksAhead Self.contract looks };
+
+    /// Gives the items up to the first one that the closure refuses, which stays next in this iterator.
+    ///
+    /// Making it draws nothing and calls nothing. One call draws one answer. It fails as this iterator does. Where the closure fails, its failure is the answer, and the item is lost. An end stands in the place of a refused item, and the next call asks of the same item again. A failure and an end of this iterator are let go, and end nothing.
+    ///
+    /// What it leaves is what this iterator goes on with: it steps through the borrow, and keeps the reference.
+    ///
+    /// Asks that the closure may be called on each item that may come, in each state that such calls bring it to.
+    final fn peeking_take_while<F>(&mut self, accept: F) -> PeekingTakeWhile<&mut Self, F>
+    where
+        F: FnMut(&Self::Item) -> Result<bool, Self::Error>,
+        requires { IsCallable (call_at F.FnMut) (takes_at F.FnMut)
+            (Self.contract.may_give self.old) accept }
+        ensures source { (peeking_source result).now ≡ self.old }
+        ensures same_reference { (peeking_source result).ghost_name ≡ self.entry.ghost_name }
+        ensures closure { peeking_closure result ≡ accept }
+        ensures lists { OverListWith (Acts (call_at F.FnMut) accept) Self.contract.steps self.old
+            (λ h l. Lists (seen_as peeking_parts (peeking_contract (borrowed Self.contract)
+            (borrowed_looks looks) F.FnMut)).steps result (taken_while h l)) }
+    {
+        PeekingTakeWhile { it: self, accept }
+    }
+}
+
+impl<I: FallibleIterator> PeekingNext for Peekable<I>
+where
+    I::Item: Drop,
+{
+    ghost looks = { peekable_looks I.contract.steps };
+
+    fn next_accepted<F>(&mut self, accept: &mut F) -> Result<Option<I::Item>, I::Error>
+    where
+        F: FnMut(&I::Item) -> Result<bool, I::Error>,
+    {
+        match self.fill() {
+            Ok(()) => {}
+            Err(e) => return Err(e),
+        }
+        match accepts_held(&*self, accept) {
+            Ok(true) => self.next(),
+            Ok(false) => Ok(None),
+            Err(e) => match self.next() {
+                Ok(_) => Err(e),
+                Err(_) => unreachable!(),
+            },
+        }
+    }
+
+    ghost looking = { peekable_looking I.lawful };
+}
+
+// What the closure answers on the held item, and true where none is held.
+fn accepts_held<I: FallibleIterator, F: FnMut(&I::Item) -> Result<bool, I::Error>>(
+    it: &Peekable<I>,
+    accept: &mut F,
+) -> Result<bool, I::Error>
+where
+    I::Item: Drop,
+    requires { (x : I.Item) → held_item (peekable_held it.now) ≡ Some x
+        → takes_at F.FnMut accept.old x }
+    ensures { AcceptsHeld (call_at F.FnMut) (held_item (peekable_held it.now))
+        accept.old result accept.new }
+{
+    match it.held() {
+        Some(item) => accept(item),
+        None => Ok(true),
+    }
+}
+
+impl<P: PeekingNext> PeekingNext for &mut P {
+    ghost looks = { borrowed_looks P.looks };
+
+    fn next_accepted<F>(&mut self, accept: &mut F) -> Result<Option<P::Item>, P::Error>
+    where
+        F: FnMut(&P::Item) -> Result<bool, P::Error>,
+    {
+        (**self).next_accepted(accept)
+    }
+
+    ghost looking = { borrowed_looking P.looking };
+}
+
+/// The items of what looks ahead up to the first one that the closure refuses, which stays next: an end stands in its place, and the next call asks of the same item again. An item on which the closure fails is lost, and its failure is the answer.
+#[derive(Clone, Debug, Drop)]
+pub struct PeekingTakeWhile<P, F> {
+    pub(crate) it: P,
+    pub(crate) accept: F,
+}
+
+impl<P: PeekingNext, F: FnMut(&P::Item) -> Result<bool, P::Error>> FallibleIterator
+    for PeekingTakeWhile<P, F> {
+    type Item = P::Item;
+
+    type Error = P::Error;
+
+    ghost contract = { seen_as peeking_parts (peeking_contract P.contract P.looks F.FnMut) };
+
+    /// One draw, and a call of the closure where it is an item; a refused item stays next. Its folds are made of such draws.
+    fn next(&mut self) -> Result<Option<P::Item>, P::Error> {
+        self.it.next_accepted(&mut self.accept)
+    }
+
+    fn size_hint(&self) -> (usize, Option<usize>) {
+        (0, self.it.size_hint().1)
+    }
+
+    ghost lawful = { lawful_seen peeking_parts (lawful_peeking F.FnMut P.lawful P.looking) };
+}

@@ -1,0 +1,165 @@
+//! The adapter that ends behind the first item which a predicate refuses.
+ghost use Rattle.std.specs.Prelude.{◌≡◌, false, Result, Option};
+ghost use Rattle.fallible_iterator.specs.Closures.{call_at, takes_at};
+ghost use Rattle.fallible_iterator.specs.Contract.{seen_as};
+ghost use Rattle.fallible_iterator.specs.Cutting.TakeWhile.{refusing_call};
+ghost use Rattle.fallible_iterator.specs.Folding.{FoldingTakes, FoldingTurn};
+ghost use Rattle.fallible_iterator.specs.Folds.{CallableDriving, Driven, TurnBehind, beside, beside_names};
+ghost use Rattle.fallible_iterator.specs.Laws.Contract.{lawful_seen};
+ghost use Rattle.fallible_itertools.specs.TakeWhileInclusive.{StoppingTurn, inclusive_contract, inclusive_outcome, inclusive_parts};
+ghost use Rattle.fallible_itertools.specs.Laws.TakeWhileInclusive.{lawful_inclusive};
+
+use fallible_iterator::adapting::{Beside, Outcome, Pass, PassTurn, answer_within, passed};
+use fallible_iterator::{FallibleIterator, Turn};
+use std::ops::ControlFlow;
+
+/// The answers of the source up to and with the first item that the predicate refuses, and from there on ends. An item on which the predicate fails is lost, and its failure is the answer; neither it nor an end of the source ends anything.
+#[derive(Clone, Debug, Drop)]
+pub struct TakeWhileInclusive<I, P> {
+    pub(crate) it: I,
+    // whether an item was refused, and the predicate
+    pub(crate) taking: (bool, P),
+}
+
+impl<I: FallibleIterator, P: FnMut(&I::Item) -> Result<bool, I::Error>> FallibleIterator
+    for TakeWhileInclusive<I, P>
+where
+    I::Item: Drop,
+{
+    type Item = I::Item;
+
+    type Error = I::Error;
+
+    ghost contract = { seen_as inclusive_parts (inclusive_contract I.contract P.FnMut) };
+
+    /// Draws one answer and calls the predicate where it is an item; draws none once an item was refused.
+    fn next(&mut self) -> Result<Option<I::Item>, I::Error> {
+        if self.taking.0 {
+            return Ok(None);
+        }
+        passed(self.it.next(), &mut self.taking, &InclusivePass)
+    }
+
+    fn size_hint(&self) -> (usize, Option<usize>) {
+        if self.taking.0 {
+            (0, Some(0))
+        } else {
+            let (low, high) = self.it.size_hint();
+            (low.min(1), high)
+        }
+    }
+
+    /// The source's fold, which the refused item stops.
+    fn drive<C, R, K: Turn<C, I::Item, R>>(
+        &mut self,
+        state: &mut C,
+        turn: &K,
+    ) -> Result<Option<R>, I::Error> {
+        if self.taking.0 {
+            return Ok(None);
+        }
+        drive_taking(&mut self.it, &mut self.taking, state, turn)
+    }
+
+    ghost lawful = { lawful_seen inclusive_parts (lawful_inclusive P.FnMut I.lawful) };
+}
+
+// An item is kept unless the predicate fails on it. Beside the predicate stands whether it refused one.
+#[derive(Drop)]
+struct InclusivePass;
+
+impl<X: Drop, E, P: FnMut(&X) -> Result<bool, E>> Pass<(bool, P), X, E> for InclusivePass {
+    type Kept = X;
+
+    type Answer = Result<bool, E>;
+
+    ghost can_pass = { λ _ p x. takes_at P.FnMut p.1 x };
+
+    ghost call = { λ _ p x v q. refusing_call (call_at P.FnMut) p x v q };
+
+    ghost outcome = { λ _ x v. inclusive_outcome x v };
+
+    #[inline(always)]
+    fn pass(&self, state: &mut (bool, P), item: X) -> Outcome<X, E> {
+        match (state.1)(&item) {
+            Ok(true) => Outcome::Kept(item),
+            Ok(false) => {
+                state.0 = true;
+                Outcome::Kept(item)
+            }
+            Err(e) => Outcome::Failure(e),
+        }
+    }
+}
+
+// The turn of the fold: what becomes of the item, and the caller's turn on it. Behind a refused item the fold ends, also where the caller's turn went on.
+#[derive(Drop)]
+struct InclusiveTurn<'a, K> {
+    turn: &'a K,
+}
+
+impl<'a, 'b, X: Drop, E, C, R, P: FnMut(&X) -> Result<bool, E>, K: Turn<C, X, R>> Turn<
+    Beside<'b, C, (bool, P)>,
+    X,
+    Result<Option<R>, E>,
+> for InclusiveTurn<'a, K> {
+    ghost can_turn = { λ k b x. FoldingTakes (refusing_call (call_at P.FnMut)) inclusive_outcome
+        (λ p x. takes_at P.FnMut p.1 x) (K.can_turn k.turn.now) (beside b) x };
+
+    ghost turns = { λ k b x r d. TurnBehind beside beside_names
+        (StoppingTurn (FoldingTurn (refusing_call (call_at P.FnMut)) inclusive_outcome
+        (K.turns k.turn.now))) b x r d };
+
+    #[inline(always)]
+    fn turn(
+        &self,
+        state: &mut Beside<'b, C, (bool, P)>,
+        item: X,
+    ) -> ControlFlow<Result<Option<R>, E>, ()> {
+        let passing = PassTurn {
+            adapter: &InclusivePass,
+            turn: self.turn,
+        };
+        match passing.turn(state, item) {
+            ControlFlow::Continue(()) => {
+                if state.p.0 {
+                    ControlFlow::Break(Ok(None))
+                } else {
+                    ControlFlow::Continue(())
+                }
+            }
+            ControlFlow::Break(answer) => ControlFlow::Break(answer),
+        }
+    }
+}
+
+// The fold from where no item was refused yet.
+fn drive_taking<
+    I: FallibleIterator,
+    P: FnMut(&I::Item) -> Result<bool, I::Error>,
+    C,
+    R,
+    K: Turn<C, I::Item, R>,
+>(it: &mut I, taking: &mut (bool, P), state: &mut C, turn: &K) -> Result<Option<R>, I::Error>
+where
+    I::Item: Drop,
+    requires can_next { I.contract.can_next it.old }
+    requires finite { I.contract.is_finite it.old }
+    requires unrefused { taking.old.0 ≡ false }
+    requires callable { CallableDriving I.contract.steps
+        (StoppingTurn (FoldingTurn (refusing_call (call_at P.FnMut)) inclusive_outcome
+        (K.turns turn.now)))
+        (FoldingTakes (refusing_call (call_at P.FnMut)) inclusive_outcome
+        (λ p x. takes_at P.FnMut p.1 x) (K.can_turn turn.now))
+        it.old (state.old, taking.old) }
+    ensures { Driven (inclusive_contract I.contract P.FnMut).steps (K.turns turn.now)
+        ((it.old, taking.old.1), taking.old.0) state.old result
+        ((it.new, taking.new.1), taking.new.0) state.new }
+{
+    let mut both = Beside {
+        c: state,
+        p: taking,
+    };
+    let answer = it.drive(&mut both, &InclusiveTurn { turn });
+    answer_within(answer)
+}
