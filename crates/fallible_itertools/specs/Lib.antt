@@ -1,1 +1,4 @@
 -- What the clauses of `src/` cite.
+pub mod Laws
+pub mod Sides
+pub mod ZipLongest

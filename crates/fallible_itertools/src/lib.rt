@@ -3,6 +3,9 @@
 //! Import the trait [`FallibleItertools`] to have them, and [`DoubleEndedFallibleItertools`] for those from the back.
 #![tactic(auto)]
 
+mod sides;
 pub mod traits;
+pub mod zip_longest;
 
 pub use traits::FallibleItertools;
+pub use zip_longest::{EitherOrBoth, ZipLongest};

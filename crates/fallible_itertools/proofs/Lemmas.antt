@@ -1,0 +1,3 @@
+-- The lemmas that the proofs of `src/` cite.
+pub mod Sides
+pub mod ZipLongest
