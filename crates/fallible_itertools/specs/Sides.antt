@@ -1,8 +1,8 @@
 -- What joins two sources and holds at most one item of each: each call asks the left and then the right, and a rule says what is made of what both give.
-use Rattle.std.specs.Prelude.{ℕ, ◌+◌, ◌-◌, ◌^◌, ◌≤◌, min, Option, Some, None, ◌≡◌, List, [], ◌∷◌, map, Ok, Err, ◌⊎◌, Result, ⊤}
+use Rattle.std.specs.Prelude.{ℕ, ◌+◌, ◌-◌, ◌^◌, ◌≤◌, min, Option, Some, None, ◌≡◌, List, [], ◌∷◌, map, Ok, ◌⊎◌, Result, ⊤}
 use Rattle.std.specs.List.{FoldsTo}
 use Rattle.std.specs.Iterator.{Count, count_add, count_map}
-use Rattle.fallible_iterator.specs.Traces.{Answered, Run, item, failure, end}
+use Rattle.fallible_iterator.specs.Traces.{Answered, Run, item, failure}
 use Rattle.fallible_iterator.specs.Contract.{Contract, lenders_of_both}
 use Rattle.fallible_iterator.specs.Lists.{ListsForGood}
 use Rattle.fallible_itertools.specs.declared.sides.Holding.{Holding}

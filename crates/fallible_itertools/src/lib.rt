@@ -3,6 +3,7 @@
 //! Import the trait [`FallibleItertools`] to have them, and [`DoubleEndedFallibleItertools`] for those from the back.
 #![tactic(auto)]
 
+pub mod laws;
 mod sides;
 pub mod traits;
 pub mod zip_longest;

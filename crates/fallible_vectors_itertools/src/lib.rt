@@ -1,2 +1,6 @@
 //! Vectors: the calls of `fallible_itertools` on small inputs, with answers that come from outside.
 #![tactic(auto)]
+
+pub mod joining;
+#[cfg(test)]
+mod joining_rows;

@@ -5,8 +5,8 @@ use Rattle.std.specs.Result.{IsErrAnd}
 use Rattle.std.proofs.Common.{refl, sym, ap, subst, arith, inl, inr}
 use Rattle.fallible_iterator.specs.Traces.{Answered, Run, Yields, item, failure, end}
 use Rattle.fallible_iterator.specs.Held.{held_count}
-use Rattle.fallible_iterator.specs.Lists.{EndsForGood, GivesForGood, result_answer}
-use Rattle.fallible_itertools.specs.Sides.{Gives, GivesIf, Rule, SidesPlace, left_failed, right_failed, both_gave, left_gave, right_gave, left_behind, right_behind, place_answer, place_decides, drawn_at, HeldThrough, before_drawn, IsGiven, SideTrace, SidesTrace, sides_step}
+use Rattle.fallible_iterator.specs.Lists.{GivesForGood, result_answer}
+use Rattle.fallible_itertools.specs.Sides.{Gives, GivesIf, Rule, SidesPlace, left_failed, right_failed, both_gave, left_gave, right_gave, left_behind, right_behind, place_answer, place_decides, drawn_at, before_drawn, IsGiven, SideTrace, SidesTrace, sides_step}
 use Rattle.fallible_itertools.specs.Laws.Sides.{IsLawfulRule}
 
 -- a result that is a failure, and which
@@ -15,10 +15,10 @@ failed_with (Ok x) e h = absurd h
 failed_with (Err d) e h = ap Err h
 
 module _ {S U A B C E F V : Type 0} (steps : S → Answered A E → S → Type 0) (others : U → Answered B E → U → Type 0) (rule : Rule A B C E F V) where
-  abbrev Parts : Type 0
+  abbrev pub Parts : Type 0
   Parts = (S × Option A) × (U × Option B) × F
 
-  abbrev Step : Parts → Answered C E → Parts → Type 0
+  abbrev pub Step : Parts → Answered C E → Parts → Type 0
   Step = sides_step steps others rule
 
 -- ---- whole traces: one side

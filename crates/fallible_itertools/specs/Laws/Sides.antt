@@ -1,11 +1,11 @@
 -- What joins two sources, and holds at most one item of each, is lawful where both are and its rule is.
-use Rattle.std.specs.Prelude.{ℕ, ◌+◌, ◌-◌, ◌≤◌, ◌<◌, Option, Some, None, ◌≡◌, Ok, Err, ◌⊎◌, Result, ⊤, ◌↔◌, T, cond, Bool, true, false}
+use Rattle.std.specs.Prelude.{ℕ, ◌+◌, ◌-◌, ◌≤◌, Option, Some, None, ◌≡◌, Ok, Err, ◌⊎◌, ⊤, ◌↔◌, T, cond, Bool, true, false}
 use Rattle.std.specs.Iterator.{IsFinite, size}
 use Rattle.std.proofs.Common.{refl, sym, subst, ap₂, arith, inl, inr}
 use Rattle.fallible_iterator.specs.Traces.{Answered, item, failure, end}
 use Rattle.fallible_iterator.specs.Contract.{Contract, OnAnswer, KeptByDraw, Lawful, lenders_of_both}
 use Rattle.fallible_iterator.specs.Held.{held_count}
-use Rattle.fallible_itertools.specs.Sides.{Gives, GivesIf, side_bound, side_remaining, side_gives, Rule, SidesPlace, left_failed, right_failed, both_gave, left_gave, right_gave, left_behind, right_behind, place_answer, place_decides, sides_step, sides_contract}
+use Rattle.fallible_itertools.specs.Sides.{Gives, GivesIf, side_bound, side_remaining, side_gives, Rule, SidesPlace, left_failed, right_failed, both_gave, left_gave, right_gave, left_behind, right_behind, place_answer, place_decides, sides_contract}
 
 -- a sum of counts is finite where both are
 both_finite : (a b : Bool) → T (cond a b false) → T a × T b

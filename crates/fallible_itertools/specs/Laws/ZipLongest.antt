@@ -1,6 +1,6 @@
 -- The contract of `ZipLongest` is lawful where those of both sides are.
-use Rattle.std.specs.Prelude.{ℕ, ◌+◌, ◌-◌, ◌≤◌, Option, Some, None, ◌≡◌, Ok}
-use Rattle.std.proofs.Common.{refl, arith, inl, inr}
+use Rattle.std.specs.Prelude.{◌+◌, ◌-◌, Option, Some, None, Ok}
+use Rattle.std.proofs.Common.{refl, arith, inl}
 use Rattle.fallible_iterator.specs.Contract.{Contract, Lawful}
 use Rattle.fallible_iterator.specs.Held.{held_count}
 use Rattle.fallible_itertools.specs.Laws.Sides.{OfItem, MadeBy, IsLawfulRule, lawful_sides}
@@ -20,7 +20,7 @@ made_longest E P Q None (Some y) p q = (q, omega arith)
 made_longest E P Q None None p q = tt
 
 module _ {A B E : Type 0} where
-  lawful_longest : IsLawfulRule (longest_rule {A = A} {B = B} {E = E})
+  pub lawful_longest : IsLawfulRule (longest_rule {A = A} {B = B} {E = E})
   lawful_longest = record {
     left_kept = λ x y v. inl refl;
     right_kept = λ x y v. inl refl;

@@ -1,0 +1,17 @@
+//! Callers of the adapters that join: each states what it computes, and the contracts of the calls prove it.
+ghost use Rattle.std.specs.Prelude.{◌≡◌};
+ghost use Rattle.fallible_iterator.specs.Lists.{counted, results};
+ghost use Rattle.fallible_itertools.specs.ZipLongest.{zipped_longest};
+
+use fallible_iterator::{FallibleIterator, convert};
+use fallible_itertools::FallibleItertools;
+
+/// How many places two columns have, each filled by one of them at least, or the first failure.
+pub fn places_of_both(left: Vec<Result<u32, u8>>, right: Vec<Result<u32, u8>>) -> Result<usize, u8>
+    ensures { result ≡ counted (zipped_longest (results left.items) (results right.items)) }
+{
+    convert(left.into_iter())
+        .fuse()
+        .zip_longest(convert(right.into_iter()).fuse())
+        .count()
+}
