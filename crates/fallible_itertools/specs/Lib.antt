@@ -1,4 +1,5 @@
 -- What the clauses of `src/` cite.
 pub mod Laws
+pub mod MergeBy
 pub mod Sides
 pub mod ZipLongest

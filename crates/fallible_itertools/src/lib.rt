@@ -4,9 +4,11 @@
 #![tactic(auto)]
 
 pub mod laws;
+pub mod merge_by;
 mod sides;
 pub mod traits;
 pub mod zip_longest;
 
+pub use merge_by::MergeBy;
 pub use traits::FallibleItertools;
 pub use zip_longest::{EitherOrBoth, ZipLongest};

@@ -1,10 +1,14 @@
 //! The traits that every fallible iterator has besides.
-ghost use Rattle.std.specs.Prelude.{◌≡◌, List, None, Option, Result};
+ghost use Rattle.std.specs.Prelude.{◌≡◌, Bool, List, None, Option, Result};
 ghost use Rattle.fallible_iterator.specs.Contract.{seen_as};
-ghost use Rattle.fallible_iterator.specs.Lists.{Lists, ListsForGood};
+ghost use Rattle.fallible_iterator.specs.Closures.{IsCallable};
+ghost use Rattle.fallible_iterator.specs.Lists.{ActsWith, Lists, ListsForGood};
+ghost use Rattle.fallible_iterator.specs.Picking.{call_at_two, takes_at_two};
+ghost use Rattle.fallible_itertools.specs.MergeBy.{call_on_two, merge_by_closure, merge_by_contract, merge_by_left, merge_by_left_held, merge_by_parts, merge_by_right, merge_by_right_held, merged};
 ghost use Rattle.fallible_itertools.specs.Sides.{OverBothForGood};
 ghost use Rattle.fallible_itertools.specs.ZipLongest.{zip_longest_contract, zip_longest_held, zip_longest_left, zip_longest_parts, zip_longest_right, zipped_longest};
 
+use crate::merge_by::MergeBy;
 use crate::sides::Holding;
 use crate::zip_longest::ZipLongest;
 use fallible_iterator::{FallibleIterator, IntoFallibleIterator};
@@ -12,6 +16,57 @@ use fallible_iterator::{FallibleIterator, IntoFallibleIterator};
 /// More calls on every fallible iterator.
 pub trait FallibleItertools: FallibleIterator {
     // ---- adapters that join
+
+    /// Merges the items of two sources: of an item and the next one of `other`, the closure answers whether the first of them goes first. Once a side has ended, the other's items are given without asking.
+    ///
+    /// It is made without a draw. It holds at most one item of each side. One call draws this iterator where nothing of it is held, and then, where that isn't a failure, `other` where nothing of it is held; an end isn't remembered. It fails as either does, and loses nothing that is held. Where the closure fails, its failure is the answer, and the two items that it was asked of are lost. Its folds draw as its calls do.
+    ///
+    /// Asks that the closure may be called on references to two items, one that may come of each side. Draws ask that both sides may be drawn from, and that items can be let go. What it lists is known where both sides end for good, as after `fuse`.
+    ///
+    /// ```
+    /// convert(left.into_iter())
+    ///     .fuse()
+    ///     .merge_by(convert(right.into_iter()).fuse(), |x, y| Ok(*x <= *y))
+    ///     .count()
+    /// ```
+    final fn merge_by<I, F>(self, other: I, f: F) -> MergeBy<Self, I::IntoFallibleIter, F>
+    where
+        I: IntoFallibleIterator<Item = Self::Item, Error = Self::Error>,
+        F: FnMut(&Self::Item, &Self::Item) -> Result<bool, Self::Error>,
+        requires { (right : I.IntoFallibleIter) → I.into_gives other right
+            → IsCallable (call_on_two (call_at_two F.FnMut)) (λ g z. takes_at_two F.FnMut g z.0 z.1)
+            (λ z. Self.contract.may_give self z.0
+            × I.IntoFallibleIter.contract.may_give right z.1) f }
+        ensures left { merge_by_left result ≡ self }
+        ensures left_held { merge_by_left_held result ≡ None }
+        ensures right { I.into_gives other (merge_by_right result) }
+        ensures right_held { merge_by_right_held result ≡ None }
+        ensures closure { merge_by_closure result ≡ f }
+        ensures for_good { (h : Self.Item → Self.Item → Result Bool Self.Error)
+            → ActsWith (call_at_two F.FnMut) f h
+            → OverBothForGood Self.contract.steps self I.into_gives other
+            I.IntoFallibleIter.contract.steps
+            (λ a b. ListsForGood (seen_as merge_by_parts (merge_by_contract Self.contract
+            I.IntoFallibleIter.contract F.FnMut)).steps result (merged h a b)) }
+        ensures lists { (h : Self.Item → Self.Item → Result Bool Self.Error)
+            → ActsWith (call_at_two F.FnMut) f h
+            → OverBothForGood Self.contract.steps self I.into_gives other
+            I.IntoFallibleIter.contract.steps
+            (λ a b. Lists (seen_as merge_by_parts (merge_by_contract Self.contract
+            I.IntoFallibleIter.contract F.FnMut)).steps result (merged h a b)) }
+    {
+        MergeBy {
+            left: Holding {
+                it: self,
+                held: None,
+            },
+            right: Holding {
+                it: other.into_fallible_iter(),
+                held: None,
+            },
+            f,
+        }
+    }
 
     /// Joins each item with one of `other`, place by place, up to the end of both. Where one side has an end beside an item, the item stands alone.
     ///

@@ -4,15 +4,24 @@ use Rattle.std.specs.List.{FoldsTo}
 use Rattle.std.specs.Result.{IsErrAnd}
 use Rattle.std.proofs.Common.{refl, sym, ap, subst, arith, inl, inr}
 use Rattle.fallible_iterator.specs.Traces.{Answered, Run, Yields, item, failure, end}
+use Rattle.fallible_iterator.specs.Contract.{Contract, Lawful}
 use Rattle.fallible_iterator.specs.Held.{held_count}
 use Rattle.fallible_iterator.specs.Lists.{GivesForGood, result_answer}
-use Rattle.fallible_itertools.specs.Sides.{Gives, GivesIf, Rule, SidesPlace, left_failed, right_failed, both_gave, left_gave, right_gave, left_behind, right_behind, place_answer, place_decides, drawn_at, before_drawn, IsGiven, SideTrace, SidesTrace, sides_step}
-use Rattle.fallible_itertools.specs.Laws.Sides.{IsLawfulRule}
+use Rattle.fallible_itertools.specs.Sides.{low_with, side_gives, Gives, GivesIf, Rule, SidesPlace, left_failed, right_failed, both_gave, left_gave, right_gave, left_behind, right_behind, place_answer, place_decides, drawn_at, before_drawn, IsGiven, SideTrace, SidesTrace, sides_step}
+use Rattle.fallible_itertools.specs.Laws.Sides.{IsLawfulRule, side_given}
 
 -- a result that is a failure, and which
 pub failed_with : {X E : Type 0} (r : Result X E) (e : E) → IsErrAnd r (λ d. d ≡ e) → r ≡ Err e
 failed_with (Ok x) e h = absurd h
 failed_with (Err d) e h = ap Err h
+
+-- what a side gave, known as another value
+pub gave_item : {S A E : Type 0} (steps : S → Answered A E → S → Type 0) (p : S × Option A) (t : S) {x y : Option A} → x ≡ y → Gives steps p (Ok x) t → Gives steps p (Ok y) t
+gave_item steps p t same g = subst (λ (z : _). Gives steps p (Ok z) t) same g
+
+-- an item that a side gave is one that might come
+pub item_may_come : {S A E : Type 0} (m : Contract S A E) → Lawful m → (p : S × Option A) (t : S) {x : Option A} {y : A} → m.can_next p.0 → x ≡ Some y → Gives m.steps p (Ok x) t → side_gives m p y
+item_may_come m l p t {y = y} c same g = (side_given m l p t (Some y) c (gave_item m.steps p t same g)).1
 
 module _ {S U A B C E F V : Type 0} (steps : S → Answered A E → S → Type 0) (others : U → Answered B E → U → Type 0) (rule : Rule A B C E F V) where
   abbrev pub Parts : Type 0
@@ -192,8 +201,8 @@ module _ {S A E : Type 0} (steps : S → Answered A E → S → Type 0) where
 
 -- How many items are given where so many of each side are let go; an end is given at an end of both.
 pub record GivesAsMany {A B C E F V : Type 0} (rule : Rule A B C E F V) (many : ℕ → ℕ → ℕ) : Type 0 where
-  pub item_given : (x : Option A) (y : Option B) (v : V) (z : C) (i j : ℕ) → rule.answer x y v ≡ item z → many ((held_count x - held_count (rule.left_held x y v)) + i) ((held_count y - held_count (rule.right_held x y v)) + j) ≤ many i j + 1
-  pub end_given : (x : Option A) (y : Option B) (v : V) → rule.answer x y v ≡ end → (x ≡ None) × (y ≡ None)
+  pub item_given : (f g : F) (x : Option A) (y : Option B) (v : V) (z : C) (i j : ℕ) → rule.decides f x y v g → rule.answer x y v ≡ item z → many ((held_count x - held_count (rule.left_held x y v)) + i) ((held_count y - held_count (rule.right_held x y v)) + j) ≤ many i j + 1
+  pub end_given : (f g : F) (x : Option A) (y : Option B) (v : V) → rule.decides f x y v g → rule.answer x y v ≡ end → (x ≡ None) × (y ≡ None)
   pub nothing : many 0 0 ≡ 0
 
 module _ {S U A B C E F V : Type 0} (steps : S → Answered A E → S → Type 0) (others : U → Answered B E → U → Type 0) (rule : Rule A B C E F V) (many : ℕ → ℕ → ℕ) (by : GivesAsMany rule many) (lawful : IsLawfulRule rule) where
@@ -209,7 +218,7 @@ module _ {S U A B C E F V : Type 0} (steps : S → Answered A E → S → Type 0
   both_end_now p t u g (left_failed e) m n d is = absurd cc
   both_end_now p t u g (right_failed x e) m n d is = absurd cc
   both_end_now p t u g (both_gave x y v) m n d is =
-      let no = by.end_given x y v is in
+      let no = by.end_given p.2 g x y v d is in
       record { of_left = 0; of_right = 0; left = none_from steps p.0 t (subst (λ (z : Option A). Gives steps p.0 (Ok z) t) no.0 m); right = none_from others p.1 u (subst (λ (z : Option B). Gives others p.1 (Ok z) u) no.1 n); few = omega (arith, by.nothing) }
 
   both_end_on : (p : Parts steps others rule) (t : S) (u : U) (g : F) (x : SidesPlace A B E V) (z : C) (k : ℕ) → GivesIf steps p.0 (left_gave x) t → GivesIf others p.1 (right_gave x) u → place_decides rule p.2 x g → place_answer rule x ≡ item z → BothEnd ((t, left_behind rule p.0.1 x), (u, right_behind rule p.1.1 x), g) k → BothEnd p (k + 1)
@@ -220,7 +229,7 @@ module _ {S U A B C E F V : Type 0} (steps : S → Answered A E → S → Type 0
     of_right = (held_count y - held_count (rule.right_held x y v)) + b.of_right;
     left = items_from steps p.0 t x (rule.left_held x y v) b.of_left (lawful.left_kept x y v) m b.left;
     right = items_from others p.1 u y (rule.right_held x y v) b.of_right (lawful.right_kept x y v) n b.right;
-    few = omega (arith, by.item_given x y v z b.of_left b.of_right is, b.few);
+    few = omega (arith, by.item_given p.2 g x y v z b.of_left b.of_right d is, b.few);
   }
 
   both_end_first : (p q : Parts steps others rule) (z : C) (k : ℕ) → Step steps others rule p (item z) q → BothEnd q k → BothEnd p (k + 1)
@@ -230,3 +239,8 @@ module _ {S U A B C E F V : Type 0} (steps : S → Answered A E → S → Type 0
   pub both_end : (zs : List C) (p q r : Parts steps others rule) → Yields (Step steps others rule) p zs q → Step steps others rule q end r → BothEnd p (length zs)
   both_end [] p q ((t, h), (u, k), g) ran w = subst (λ (z : Parts steps others rule). BothEnd z 0) (sym ran) (both_end_now q t u g w.0 w.1 w.3 w.5 (sym w.6))
   both_end (z ∷ zs) p q r ran w = let b = both_end_first p ran.0 z (length zs) ran.1 (both_end zs ran.0 q r ran.2 w) in record { of_left = b.of_left; of_right = b.of_right; left = b.left; right = b.right; few = omega (arith, b.few) }
+
+-- a lower bound of a side's source bounds what the side gives
+pub low_of : {A : Type 0} (h : Option A) (n i j : ℕ) → i ≤ j → j + held_count h ≤ n → low_with h i ≤ n
+low_of (Some x) n i j le few = omega (arith, le, few)
+low_of None n i j le few = omega (arith, le, few)

@@ -11,7 +11,7 @@ use Rattle.fallible_iterator.specs.SoundHints.{AsSoundAsBoth}
 use Rattle.fallible_itertools.specs.Sides.{low_with, SidesPlace, left_failed, right_failed, both_gave, right_behind}
 use Rattle.fallible_itertools.specs.ZipLongest.{longest, longest_rule, zip_longest_parts, zip_longest_contract, ZipLongestTrace, zipped_longest}
 use Rattle.fallible_itertools.specs.Laws.ZipLongest.{lawful_longest}
-use Rattle.fallible_itertools.proofs.Lemmas.Sides.{first_answer, rest_of, left_over, ListsBy, sides_for_good, GivesAsMany, both_end, Step, sides_law}
+use Rattle.fallible_itertools.proofs.Lemmas.Sides.{first_answer, rest_of, left_over, ListsBy, sides_for_good, GivesAsMany, both_end, low_of, Step, sides_law}
 use Rattle.fallible_itertools.specs.declared.zip_longest.EitherOrBoth.{EitherOrBoth}
 use Rattle.fallible_itertools.specs.declared.zip_longest.ZipLongest.{ZipLongest}
 
@@ -58,11 +58,7 @@ module _ {A B E : Type 0} where
   end_of_both None None is = (refl, refl)
 
   as_many_longest : GivesAsMany (longest_rule {A = A} {B = B} {E = E}) max
-  as_many_longest = record { item_given = λ x y v z i j is. one_of_each x y i j; end_given = λ x y v is. end_of_both x y is; nothing = refl }
-
-low_of : {A : Type 0} (h : Option A) (n i j : ℕ) → i ≤ j → j + held_count h ≤ n → low_with h i ≤ n
-low_of (Some x) n i j le few = omega (arith, le, few)
-low_of None n i j le few = omega (arith, le, few)
+  as_many_longest = record { item_given = λ f g x y v z i j d is. one_of_each x y i j; end_given = λ f g x y v d is. end_of_both x y is; nothing = refl }
 
 module _ {S U A B E : Type 0} (steps : S → Answered A E → S → Type 0) (others : U → Answered B E → U → Type 0) where
   abbrev Zipped : (S × Option A) × (U × Option B) × Unit {0} → Answered (EitherOrBoth A B) E → (S × Option A) × (U × Option B) × Unit {0} → Type 0
