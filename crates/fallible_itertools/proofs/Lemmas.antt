@@ -6,8 +6,11 @@ pub mod DedupByKey
 pub mod Holding
 pub mod HoldingHints
 pub mod HoldingLists
+pub mod MergeBy
 pub mod PeekingTakeWhile
+pub mod Sides
 pub mod TakeWhileInclusive
 pub mod TakeWhileInclusiveFolds
 pub mod TupleWindows
 pub mod WindowHints
+pub mod ZipLongest

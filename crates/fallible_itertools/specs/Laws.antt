@@ -4,6 +4,9 @@ pub mod Copied
 pub mod Dedup
 pub mod DedupByKey
 pub mod Holding
+pub mod MergeBy
 pub mod PeekingTakeWhile
+pub mod Sides
 pub mod TakeWhileInclusive
 pub mod TupleWindows
+pub mod ZipLongest

@@ -6,9 +6,12 @@ pub mod Dedup
 pub mod DedupByKey
 pub mod Holding
 pub mod Laws
+pub mod MergeBy
 pub mod PeekingTakeWhile
+pub mod Sides
 pub mod Sorting
 pub mod Stopping
 pub mod TakeWhileInclusive
 pub mod Totals
 pub mod TupleWindows
+pub mod ZipLongest

@@ -4,6 +4,9 @@
 pub mod holding;
 #[cfg(test)]
 mod holding_rows;
+pub mod joining;
+#[cfg(test)]
+mod joining_rows;
 pub mod passing;
 #[cfg(test)]
 mod passing_rows;

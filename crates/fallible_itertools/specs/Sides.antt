@@ -1,0 +1,183 @@
+-- What joins two sources and holds at most one item of each: each call asks the left and then the right, and a rule says what is made of what both give.
+use Rattle.std.specs.Prelude.{ℕ, ◌+◌, ◌-◌, ◌^◌, ◌≤◌, min, Option, Some, None, ◌≡◌, List, [], ◌∷◌, map, Ok, ◌⊎◌, Result, ⊤}
+use Rattle.std.specs.List.{FoldsTo}
+use Rattle.std.specs.Iterator.{Count, count_add, count_map}
+use Rattle.fallible_iterator.specs.Traces.{Answered, Run, item, failure}
+use Rattle.fallible_iterator.specs.Contract.{Contract, lenders_of_both}
+use Rattle.fallible_iterator.specs.Lists.{ListsForGood}
+use Rattle.fallible_itertools.specs.declared.sides.Holding.{Holding}
+
+-- ---- one side
+
+-- the source
+abbrev pub holding_source : {I A : Type 0} → Holding I A → I
+holding_source s = s.it
+
+-- the item that is held, if there is one
+abbrev pub holding_held : {I A : Type 0} → Holding I A → Option A
+holding_held s = s.held
+
+-- the source, and the item that is held
+abbrev pub holding_parts : {I A : Type 0} → Holding I A → I × Option A
+holding_parts s = (holding_source s, holding_held s)
+
+-- What a side gives, where it is asked, and the source that it leaves: the held item without a draw, and else one answer that is drawn.
+abbrev pub Gives : {S A E : Type 0} → (S → Answered A E → S → Type 0) → S × Option A → Answered A E → S → Type 0
+Gives steps (s, Some x) r t = (r ≡ item x) × (t ≡ s)
+Gives steps (s, None) r t = steps s r t
+
+-- the same where it may be that the side isn't asked
+abbrev pub GivesIf : {S A E : Type 0} → (S → Answered A E → S → Type 0) → S × Option A → Option (Answered A E) → S → Type 0
+GivesIf steps p (Some r) t = Gives steps p r t
+GivesIf steps p None t = t ≡ p.0
+
+module _ {S A E : Type 0} (m : Contract S A E) where
+  -- a held item is one more than a bound of the source
+  abbrev pub side_bound : S × Option A → ℕ → Type 0
+  side_bound (s, Some x) n = (k : ℕ) × m.bound s k × (k + 1 ≤ n)
+  side_bound (s, None) n = m.bound s n
+
+  -- and one more that remains
+  abbrev pub side_remaining : S × Option A → Count
+  side_remaining (s, Some x) = count_map (λ n. n + 1) (m.remaining s)
+  side_remaining (s, None) = m.remaining s
+
+  -- the held item may come, and what may come of the source
+  abbrev pub side_gives : S × Option A → A → Type 0
+  side_gives (s, Some x) y = (y ≡ x) ⊎ m.may_give s y
+  side_gives (s, None) y = m.may_give s y
+
+-- a lower bound of a side: one more where an item is held, at most the greatest number there is
+abbrev pub low_with : {A : Type 0} → Option A → ℕ → ℕ
+low_with (Some x) n = min (n + 1) (2 ^ 64 - 1)
+low_with None n = n
+
+-- the number is the lower bound of a side, by a hint of its source
+abbrev pub OffersLow : {S A E : Type 0} → Contract S A E → S × Option A → ℕ → Type 0
+OffersLow m p low = (h : ℕ × Option ℕ) × m.hints p.0 h × (low ≡ low_with p.1 h.0)
+
+-- ---- both sides
+
+-- What is made of what both sides gave, an item or an end of each.
+pub record Rule (A B C E F V : Type 0) : Type 1 where
+  -- the closure f decides v of them, and is then g
+  pub decides : F → Option A → Option B → V → F → Type 0
+  -- the answer, by what was decided
+  pub answer : Option A → Option B → V → Answered C E
+  -- the left's item, where it is held for the next call
+  pub left_held : Option A → Option B → V → Option A
+  -- the right's item, where it is held for the next call
+  pub right_held : Option A → Option B → V → Option B
+  -- f may be called on items of which P and Q hold
+  pub askable : (A → Type 0) → (B → Type 0) → F → Type 0
+  -- what may come of items of which P and Q hold
+  pub gives : (A → Type 0) → (B → Type 0) → C → Type 0
+  -- f may fail so on such items
+  pub refuses : (A → Type 0) → (B → Type 0) → F → E → Type 0
+
+-- One call: a failure of the left, beside which the right isn't asked; a failure of the right, beside an item or an end of the left; or an item or an end of each, and what was decided.
+pub data SidesPlace (A B E V : Type 0) : Type 0 where
+  left_failed : E → SidesPlace A B E V
+  right_failed : Option A → E → SidesPlace A B E V
+  both_gave : Option A → Option B → V → SidesPlace A B E V
+
+module _ {A B E V : Type 0} where
+  -- what the left gave at a place, which is always asked
+  abbrev pub left_gave : SidesPlace A B E V → Option (Answered A E)
+  left_gave (left_failed e) = Some (failure e)
+  left_gave (right_failed x e) = Some (Ok x)
+  left_gave (both_gave x y v) = Some (Ok x)
+
+  -- what the right gave, if it was asked
+  abbrev pub right_gave : SidesPlace A B E V → Option (Answered B E)
+  right_gave (left_failed e) = None
+  right_gave (right_failed x e) = Some (failure e)
+  right_gave (both_gave x y v) = Some (Ok y)
+
+module _ {A B C E F V : Type 0} (rule : Rule A B C E F V) where
+  -- the answer at a place: a failure of a side, or what the rule makes of what both gave
+  abbrev pub place_answer : SidesPlace A B E V → Answered C E
+  place_answer (left_failed e) = failure e
+  place_answer (right_failed x e) = failure e
+  place_answer (both_gave x y v) = rule.answer x y v
+
+  -- what is held of the left behind a place: the item that stood beside a failure of the right, or what the rule says
+  abbrev pub left_behind : Option A → SidesPlace A B E V → Option A
+  left_behind held (left_failed e) = None
+  left_behind held (right_failed x e) = x
+  left_behind held (both_gave x y v) = rule.left_held x y v
+
+  -- what is held of the right behind a place: what was held, where the left failed, or what the rule says
+  abbrev pub right_behind : Option B → SidesPlace A B E V → Option B
+  right_behind held (left_failed e) = held
+  right_behind held (right_failed x e) = None
+  right_behind held (both_gave x y v) = rule.right_held x y v
+
+  -- the closure decides of what both gave, and else stays as it is
+  abbrev pub place_decides : F → SidesPlace A B E V → F → Type 0
+  place_decides f (left_failed e) g = g ≡ f
+  place_decides f (right_failed x e) g = g ≡ f
+  place_decides f (both_gave x y v) g = rule.decides f x y v g
+
+-- ---- over whole traces
+
+-- an answer that was drawn before others; where an item was held, or the side wasn't asked, none was
+abbrev pub before_drawn : {A E : Type 0} → Option A → Option (Answered A E) → List (Answered A E) → List (Answered A E)
+before_drawn (Some x) gave l = l
+before_drawn None None l = l
+before_drawn None (Some r) l = r ∷ l
+
+-- what is held is what the side gives, where it is asked
+abbrev pub IsGiven : {A E : Type 0} → Option A → Option (Answered A E) → Type 0
+IsGiven (Some x) (Some r) = r ≡ item x
+IsGiven (Some x) None = ⊤
+IsGiven None gave = ⊤
+
+module _ {A E X : Type 0} (gave : X → Option (Answered A E)) (behind : Option A → X → Option A) where
+  -- the answers that one side drew at the places: what it gave where nothing of it was held
+  abbrev pub drawn_at : Option A → List X → List (Answered A E)
+  drawn_at held [] = []
+  drawn_at held (x ∷ places) = before_drawn held (gave x) (drawn_at (behind held x) places)
+
+  -- what is held before each place is given there, where the side is asked, and `last` is held behind the last place
+  abbrev pub HeldThrough : Option A → List X → Option A → Type 0
+  HeldThrough held [] last = last ≡ held
+  HeldThrough held (x ∷ places) last = IsGiven held (gave x) × HeldThrough (behind held x) places last
+
+  -- one side over all places
+  pub record SideTrace {S : Type 0} (steps : S → Answered A E → S → Type 0) (p : S × Option A) (places : List X) (q : S × Option A) : Type 0 where
+    pub drawn : Run steps p.0 (drawn_at p.1 places) q.0
+    pub held : HeldThrough p.1 places q.1
+
+module _ {S U A B C E F V : Type 0} (steps : S → Answered A E → S → Type 0) (others : U → Answered B E → U → Type 0) (rule : Rule A B C E F V) where
+  -- A place for each answer. A failure of the left is answered, and the right isn't asked. A failure of the right is answered, and the left's item is held, so that it stands at the next place too; an end of the left isn't held. Of an item or an end of each the rule makes the answer; after an end both are asked again.
+  pub record SidesTrace (p : (S × Option A) × (U × Option B) × F) (trace : List (Answered C E)) (q : (S × Option A) × (U × Option B) × F) : Type 0 where
+    pub places : List (SidesPlace A B E V)
+    pub left : SideTrace left_gave (left_behind rule) steps p.0 places q.0
+    pub right : SideTrace right_gave (right_behind rule) others p.1 places q.1
+    pub decided : FoldsTo (place_decides rule) p.2 places q.2
+    pub answers : trace ≡ map (place_answer rule) places
+
+  -- one answer: that of one place
+  abbrev pub sides_step : (S × Option A) × (U × Option B) × F → Answered C E → (S × Option A) × (U × Option B) × F → Type 0
+  sides_step p r q = (x : SidesPlace A B E V) × GivesIf steps p.0 (left_gave x) q.0.0 × (q.0.1 ≡ left_behind rule p.0.1 x) × GivesIf others p.1 (right_gave x) q.1.0 × (q.1.1 ≡ right_behind rule p.1.1 x) × place_decides rule p.2 x q.2 × (r ≡ place_answer rule x)
+
+-- An end of one side closes nothing, so the bounds of both are added up, and what remains of both.
+abbrev pub sides_contract : {S U A B C E F V : Type 0} → Contract S A E → Contract U B E → Rule A B C E F V → ((S × Option A) × (U × Option B) × F → ℕ × Option ℕ → Type 0) → Contract ((S × Option A) × (U × Option B) × F) C E
+sides_contract left right rule hints = record {
+  can_next = λ p. left.can_next p.0.0 × right.can_next p.1.0 × rule.askable (side_gives left p.0) (side_gives right p.1) p.2;
+  steps = sides_step left.steps right.steps rule;
+  bound = λ p n. (a : ℕ) × (b : ℕ) × side_bound left p.0 a × side_bound right p.1 b × (a + b ≤ n);
+  is_finite = λ p. left.is_finite p.0.0 × right.is_finite p.1.0;
+  remaining = λ p. count_add (side_remaining left p.0) (side_remaining right p.1);
+  may_give = λ p z. rule.gives (side_gives left p.0) (side_gives right p.1) z;
+  may_fail = λ p e. left.may_fail p.0.0 e ⊎ (right.may_fail p.1.0 e ⊎ rule.refuses (side_gives left p.0) (side_gives right p.1) p.2 e);
+  hints = hints;
+  lenders = λ p. lenders_of_both (left.lenders p.0.0) (right.lenders p.1.0);
+}
+
+-- ---- what it lists
+
+-- Over two sources that list a and b and then end for good, P a b.
+abbrev pub OverBothForGood : {S A E T C B D : Type 0} → (S → Answered A E → S → Type 0) → S → (T → C → Type 0) → T → (C → Answered B D → C → Type 0) → (List (Result A E) → List (Result B D) → Type 0) → Type 0
+OverBothForGood {A = A} {E = E} {C = C} {B = B} {D = D} steps s into other others P = (a : List (Result A E)) (b : List (Result B D)) → ListsForGood steps s a → ((c : C) → into other c → ListsForGood others c b) → P a b

@@ -1,0 +1,80 @@
+-- `ZipLongest`: the items of two sources place by place, up to the end of the longer one.
+use Rattle.std.specs.Prelude.{ℕ, max, Option, Some, None, ◌≡◌, List, [], ◌∷◌, map, Ok, Err, Result, ⊤}
+use Rattle.fallible_iterator.specs.Traces.{Answered}
+use Rattle.fallible_iterator.specs.Contract.{Contract}
+use Rattle.fallible_itertools.specs.Sides.{Rule, SidesTrace, sides_contract, holding_source, holding_held, low_with}
+use Rattle.fallible_itertools.specs.declared.zip_longest.EitherOrBoth.{EitherOrBoth}
+use Rattle.fallible_itertools.specs.declared.zip_longest.EitherOrBoth.TheVariants.{Both, Left, Right}
+use Rattle.fallible_itertools.specs.declared.zip_longest.ZipLongest.{ZipLongest}
+
+-- the left side
+abbrev pub zip_longest_left : {T U A E : Type 0} → ZipLongest T U A E → T
+zip_longest_left s = holding_source s.left
+
+-- the left's item that is held, if there is one
+abbrev pub zip_longest_held : {T U A E : Type 0} → ZipLongest T U A E → Option A
+zip_longest_held s = holding_held s.left
+
+-- the right side
+abbrev pub zip_longest_right : {T U A E : Type 0} → ZipLongest T U A E → U
+zip_longest_right s = s.right
+
+-- the left with what is held of it, and the right, of which nothing is held; it has no closure
+abbrev pub zip_longest_parts : {T U A E B : Type 0} → ZipLongest T U A E → (T × Option A) × (U × Option B) × Unit {0}
+zip_longest_parts s = ((zip_longest_left s, zip_longest_held s), (zip_longest_right s, None), tt)
+
+-- the items of both, or the item of the one side that has one, if there is one
+abbrev pub longest : {A B : Type 0} → Option A → Option B → Option (EitherOrBoth A B)
+longest (Some x) (Some y) = Some (Both x y)
+longest (Some x) None = Some (Left x)
+longest None (Some y) = Some (Right y)
+longest None None = None
+
+-- P holds of the left's item, and Q of the right's
+abbrev pub OfEach : {A B : Type 0} → (A → Type 0) → (B → Type 0) → EitherOrBoth A B → Type 0
+OfEach P Q (Both x y) = P x × Q y
+OfEach P Q (Left x) = P x
+OfEach P Q (Right y) = Q y
+
+-- The rule of `ZipLongest`: of what both gave it makes the answer, and holds nothing.
+abbrev pub longest_rule : {A B E : Type 0} → Rule A B (EitherOrBoth A B) E (Unit {0}) (Unit {0})
+longest_rule = record {
+  decides = λ f x y v g. ⊤;
+  answer = λ x y v. Ok (longest x y);
+  left_held = λ x y v. None;
+  right_held = λ x y v. None;
+  askable = λ P Q f. ⊤;
+  gives = OfEach;
+  refuses = λ P Q f e. ⊥;
+}
+
+-- `ZipLongest`: a place for each answer, by its rule; the left's item beside a failure of the right stands at the next place too.
+abbrev pub ZipLongestTrace : {S U A B E : Type 0} → (S → Answered A E → S → Type 0) → (U → Answered B E → U → Type 0) → (S × Option A) × (U × Option B) × Unit {0} → List (Answered (EitherOrBoth A B) E) → (S × Option A) × (U × Option B) × Unit {0} → Type 0
+ZipLongestTrace steps others p trace q = SidesTrace steps others longest_rule p trace q
+
+-- The greater of the lower bounds. There is no upper one, since a side may go on behind its end while the other still has items.
+abbrev pub zip_longest_hints : {S U A B E : Type 0} → Contract S A E → Contract U B E → (S × Option A) × (U × Option B) × Unit {0} → ℕ × Option ℕ → Type 0
+zip_longest_hints left right p h = (g : ℕ × Option ℕ) × (k : ℕ × Option ℕ) × left.hints p.0.0 g × right.hints p.1.0 k × (h ≡ (max (low_with p.0.1 g.0) k.0, None))
+
+-- `ZipLongest`'s contract, by its rule.
+abbrev pub zip_longest_contract : {S U A B E : Type 0} → Contract S A E → Contract U B E → Contract ((S × Option A) × (U × Option B) × Unit {0}) (EitherOrBoth A B) E
+zip_longest_contract left right = sides_contract left right longest_rule (zip_longest_hints left right)
+
+-- ---- what it lists
+
+-- the first list's item x beside the first item of b: the failures of b before that item, which x outlives, then both, or x alone at the end of b; and then what `rest` makes of what is left of b
+abbrev pub beside_next : {A B E : Type 0} → A → (List (Result B E) → List (Result (EitherOrBoth A B) E)) → List (Result B E) → List (Result (EitherOrBoth A B) E)
+beside_next x rest [] = Ok (Left x) ∷ rest []
+beside_next x rest (Ok y ∷ b) = Ok (Both x y) ∷ rest b
+beside_next x rest (Err e ∷ b) = Err e ∷ beside_next x rest b
+
+-- each item of a list alone, as the right's
+abbrev pub right_alone : {A B E : Type 0} → Result B E → Result (EitherOrBoth A B) E
+right_alone (Ok y) = Ok (Right y)
+right_alone (Err e) = Err e
+
+-- the items of both lists place by place, and those of the longer one alone; a failure of either stands where it is met, and an item of the first list beside a failure of the second one stands beside the next item of it
+unfoldable pub zipped_longest : {A B E : Type 0} → List (Result A E) → List (Result B E) → List (Result (EitherOrBoth A B) E)
+zipped_longest [] b = map right_alone b
+zipped_longest (Err e ∷ a) b = Err e ∷ zipped_longest a b
+zipped_longest (Ok x ∷ a) b = beside_next x (λ c. zipped_longest a c) b

@@ -1,0 +1,32 @@
+// The laws of `MergeBy`.
+ghost use Rattle.fallible_iterator.specs.LawForm.{TracesAre};
+ghost use Rattle.fallible_iterator.specs.SoundHints.{KeepsBracketsOfBoth};
+ghost use Rattle.fallible_itertools.specs.MergeBy.{MergeByTrace, merge_by_left, merge_by_parts, merge_by_right};
+
+use crate::merge_by::MergeBy;
+use fallible_iterator::FallibleIterator;
+
+/// A trace of `MergeBy` has an answer for each place: the left's failure, without a draw of the right, of which what is held stays; the right's failure, behind which the left's item stands at the next place too; else the first of two items by the closure, which holds the other, its failure, an item alone, or an end.
+pub fn law_merge_by<
+    T: FallibleIterator,
+    U: FallibleIterator<Item = T::Item, Error = T::Error>,
+    F: FnMut(&T::Item, &T::Item) -> Result<bool, T::Error>,
+>()
+where
+    T::Item: Drop,
+    ensures { TracesAre merge_by_parts ⟦<MergeBy<T, U, F> as FallibleIterator>⟧.contract.steps
+        (MergeByTrace T.contract.steps U.contract.steps F.FnMut) }
+{}
+
+/// Each hint of `MergeBy` is as sound as the hints of both sides.
+pub fn law_hints_merge_by<
+    T: FallibleIterator,
+    U: FallibleIterator<Item = T::Item, Error = T::Error>,
+    F: FnMut(&T::Item, &T::Item) -> Result<bool, T::Error>,
+>()
+where
+    T::Item: Drop,
+    ensures { (s : MergeBy T U F T.Item T.Error)
+        → KeepsBracketsOfBoth ⟦<MergeBy<T, U, F> as FallibleIterator>⟧.contract s T.contract
+        (merge_by_left s) U.contract (merge_by_right s) }
+{}

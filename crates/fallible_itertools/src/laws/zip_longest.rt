@@ -1,0 +1,26 @@
+// The laws of `ZipLongest`.
+ghost use Rattle.fallible_iterator.specs.LawForm.{TracesAre};
+ghost use Rattle.fallible_iterator.specs.SoundHints.{KeepsBracketsOfBoth};
+ghost use Rattle.fallible_itertools.specs.ZipLongest.{ZipLongestTrace, zip_longest_left, zip_longest_parts, zip_longest_right};
+
+use crate::zip_longest::ZipLongest;
+use fallible_iterator::FallibleIterator;
+
+/// A trace of `ZipLongest` has an answer for each place: the left's failure, without a draw of the right; the right's failure, behind which the left's item stands at the next place too; else what both gave, the items of both, an item alone, or an end.
+pub fn law_zip_longest<T: FallibleIterator, U: FallibleIterator<Error = T::Error>>()
+where
+    T::Item: Drop,
+    U::Item: Drop,
+    ensures { TracesAre zip_longest_parts ⟦<ZipLongest<T, U> as FallibleIterator>⟧.contract.steps
+        (ZipLongestTrace T.contract.steps U.contract.steps) }
+{}
+
+/// Each hint of `ZipLongest` is as sound as the hints of both sides.
+pub fn law_hints_zip_longest<T: FallibleIterator, U: FallibleIterator<Error = T::Error>>()
+where
+    T::Item: Drop,
+    U::Item: Drop,
+    ensures { (s : ZipLongest T U T.Item T.Error)
+        → KeepsBracketsOfBoth ⟦<ZipLongest<T, U> as FallibleIterator>⟧.contract s T.contract
+        (zip_longest_left s) U.contract (zip_longest_right s) }
+{}
