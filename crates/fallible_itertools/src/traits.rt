@@ -334,11 +334,14 @@ pub trait FallibleItertools: FallibleIterator {
     /// Asks that it may be drawn from and is finite, and that the closure may be called on each item that may come with the value so far.
     ///
     /// ```
-    /// it.fold_while(0, |sum: u32, reading: u32| if reading == 0 {
-    ///     Ok(FoldWhile::Done(sum))
-    /// } else {
-    ///     Ok(FoldWhile::Continue(sum.wrapping_add(reading)))
-    /// })
+    /// it.fold_while(
+    ///     0,
+    ///     |sum: u32, reading: u32| if reading == 0 {
+    ///         Ok(FoldWhile::Done(sum))
+    ///     } else {
+    ///         Ok(FoldWhile::Continue(sum.wrapping_add(reading)))
+    ///     },
+    /// )
     /// ```
     final fn fold_while<B, F>(&mut self, init: B, f: F) -> Result<FoldWhile<B>, Self::Error>
     where
@@ -373,7 +376,9 @@ pub trait FallibleItertools: FallibleIterator {
     /// Asks that it may be drawn from and is finite, and that the closure may be called on each item that may come.
     ///
     /// ```
-    /// convert(readings.into_iter()).is_sorted_by_key(|reading: u32| Ok(reading % 10))
+    /// convert(readings.into_iter())
+    ///     .filter(|reading| Ok(*reading > 100))
+    ///     .is_sorted_by_key(|reading: u32| Ok(reading % 10))
     /// ```
     final fn is_sorted_by_key<K, F>(mut self, f: F) -> Result<bool, Self::Error>
     where
