@@ -10,7 +10,7 @@ use Rattle.fallible_iterator.specs.Passing.{Place, asked, failure_at, end_at, ca
 use Rattle.fallible_iterator.specs.Hints.{upper_alone}
 use Rattle.fallible_iterator.specs.Cutting.TakeWhile.{taken_answer, take_while_outcome}
 use Rattle.fallible_iterator.specs.Peeking.Peekable.{Peeks, peekable_parts}
-use Rattle.fallible_core.specs.declared.peeking.peekable.Peekable.{Peekable}
+use Rattle.fallible_iterator.specs.Peekable.{Peekable}
 use Rattle.fallible_itertools.specs.declared.peeking_take_while.PeekingTakeWhile.{PeekingTakeWhile}
 
 -- ---- what looks ahead
