@@ -8,6 +8,6 @@ pub use copied::{
     law_listed_copied,
 };
 pub use peeking_take_while::{
-    law_hints_peeking_take_while, law_left_peeking_take_while, law_peeking_take_while,
+    law_hints_peeking_take_while, law_peeking_take_while, law_rest_peeking_take_while,
 };
 pub use take_while_inclusive::{law_hints_take_while_inclusive, law_take_while_inclusive};
