@@ -42,3 +42,4 @@ pub use Rattle.fallible_core.specs.Peeking
 pub use Rattle.fallible_contract.specs.declared.answers.Side
 pub use Rattle.fallible_contract.specs.declared.collecting.Fault
 pub use Rattle.fallible_contract.specs.declared.passing.Outcome
+pub use Rattle.fallible_core.specs.declared.peeking.peekable.Peekable

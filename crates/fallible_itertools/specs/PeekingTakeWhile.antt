@@ -10,7 +10,7 @@ use Rattle.fallible_iterator.specs.Passing.{Place, asked, failure_at, end_at, ca
 use Rattle.fallible_iterator.specs.Hints.{upper_alone}
 use Rattle.fallible_iterator.specs.Cutting.TakeWhile.{taken_answer, take_while_outcome}
 use Rattle.fallible_iterator.specs.Peeking.Peekable.{Peeks, peekable_parts}
-use Rattle.fallible_core.specs.declared.peeking.peekable.Peekable.{Peekable}
+use Rattle.fallible_iterator.specs.Peekable.{Peekable}
 use Rattle.fallible_itertools.specs.declared.peeking_take_while.PeekingTakeWhile.{PeekingTakeWhile}
 
 -- ---- what looks ahead
@@ -123,13 +123,13 @@ peeking_parts s = (peeking_source s, peeking_closure s)
 -- ---- what it leaves
 
 -- what is left of the list at an item that the closure answers so on: that item and what stands behind it, where it is refused
-abbrev pub left_at : {X E : Type 0} → X → Result Bool E → List (Result X E) → Option (List (Result X E)) → Option (List (Result X E))
-left_at x (Ok true) l left = left
-left_at x (Ok false) l left = Some (Ok x ∷ l)
-left_at x (Err e) l left = left
+abbrev pub rest_at : {X E : Type 0} → X → Result Bool E → List (Result X E) → Option (List (Result X E)) → Option (List (Result X E))
+rest_at x (Ok true) l left = left
+rest_at x (Ok false) l left = Some (Ok x ∷ l)
+rest_at x (Err e) l left = left
 
 -- the list from the first item x on for which h x is false; none where there is no such item
-unfoldable pub left_by_while : {X E : Type 0} → (X → Result Bool E) → List (Result X E) → Option (List (Result X E))
-left_by_while h [] = None
-left_by_while h (Ok x ∷ l) = left_at x (h x) l (left_by_while h l)
-left_by_while h (Err e ∷ l) = left_by_while h l
+unfoldable pub rest_by_while : {X E : Type 0} → (X → Result Bool E) → List (Result X E) → Option (List (Result X E))
+rest_by_while h [] = None
+rest_by_while h (Ok x ∷ l) = rest_at x (h x) l (rest_by_while h l)
+rest_by_while h (Err e ∷ l) = rest_by_while h l

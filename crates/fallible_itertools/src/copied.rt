@@ -48,7 +48,7 @@ impl<'a, T: Copy + 'a, I: DoubleEndedFallibleIterator<Item = &'a T>> DoubleEnded
     ghost ends = { ends_seen_as copied_parts
         (ends_of (copied_contract (from_back I.contract I.ends))) };
 
-    /// Draws one answer from behind, and copies what it points to where it is an item.
+    /// Draws one answer from the back, and copies what it points to where it is an item.
     fn next_back(&mut self) -> Result<Option<T>, I::Error> {
         passed(self.it.next_back(), &mut (), &CopyPass)
     }

@@ -17,9 +17,9 @@ pub trait PeekingNext: FallibleIterator {
     // Holds of a value, of its next item, and of what a look at that item leaves.
     ghost looks: { Self → Self.Item → Self → Type 0 };
 
-    /// Draws one answer, where an item is shown to the closure first: one that it refuses stays next, and the answer is none. Where the closure fails, its failure is the answer, and the item is lost.
+    /// For types that look ahead: one answer, where an item is shown to the closure first. One that it refuses stays next, and the answer is none. A caller uses `peeking_take_while`.
     ///
-    /// It draws once, and nothing where an item or an end is held. It fails as the source does. What is left may be drawn from again.
+    /// It is one draw, or a look where the item is refused. It fails as `next` does. Where the closure fails, its failure is the answer, and the item is lost. What is left may be drawn from again.
     ///
     /// Asks that it may be drawn from, and that the closure may be called on each item that may come, in each state that such calls bring it to.
     fn next_accepted<F>(&mut self, accept: &mut F) -> Result<Option<Self::Item>, Self::Error>
@@ -38,9 +38,15 @@ pub trait PeekingNext: FallibleIterator {
     ///
     /// Making it draws nothing and calls nothing. One call draws one answer. It fails as this iterator does. Where the closure fails, its failure is the answer, and the item is lost. An end stands in the place of a refused item, and the next call asks of the same item again. A failure and an end of this iterator are let go, and end nothing.
     ///
-    /// What it leaves is what this iterator goes on with: it steps through the borrow, and keeps the reference.
+    /// This iterator goes on with what is left: the refused item comes next, also of a look ahead.
     ///
     /// Asks that the closure may be called on each item that may come, in each state that such calls bring it to.
+    ///
+    /// ```
+    /// ahead
+    ///     .peeking_take_while(|reading| Ok(*reading > 100))
+    ///     .count()
+    /// ```
     final fn peeking_take_while<F>(&mut self, accept: F) -> PeekingTakeWhile<&mut Self, F>
     where
         F: FnMut(&Self::Item) -> Result<bool, Self::Error>,
@@ -130,7 +136,7 @@ impl<P: PeekingNext, F: FnMut(&P::Item) -> Result<bool, P::Error>> FallibleItera
 
     ghost contract = { seen_as peeking_parts (peeking_contract P.contract P.looks F.FnMut) };
 
-    /// One draw, and a call of the closure where it is an item; a refused item stays next. Its folds are made of such draws.
+    /// One draw, and a call of the closure where it is an item; a refused item stays next. Folds are made of such draws: a fold of the source would have let go of the refused item.
     fn next(&mut self) -> Result<Option<P::Item>, P::Error> {
         self.it.next_accepted(&mut self.accept)
     }

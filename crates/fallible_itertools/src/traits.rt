@@ -403,13 +403,15 @@ pub trait FallibleItertools: FallibleIterator {
 
     /// Replaces each item by a copy of what it points to.
     ///
-    /// Making it draws nothing. One call draws one answer. It fails as the source does. After a failure and after an end the next call draws the source again. With two ends it has two.
+    /// Making it draws nothing. One call draws one answer. It fails as the source does. After a failure and after an end the next call draws the source again. It has a second end where the source has one.
     ///
     /// Asks nothing.
     ///
     /// ```
-    /// let items = [1, 2, 3];
-    /// let mut it = numbers.iter().into_fallible().copied();
+    /// convert(readings.into_iter()).copied().fold(
+    ///     0,
+    ///     |sum: u64, reading: u32| Ok(sum.wrapping_add(u64::from(reading))),
+    /// )
     /// ```
     final fn copied<'a, T: 'a>(self) -> Copied<Self>
     where

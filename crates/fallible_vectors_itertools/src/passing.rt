@@ -1,9 +1,10 @@
 //! Callers of the adapters that let answers pass: each states what it computes, and the contracts of the calls prove it.
-ghost use Rattle.std.specs.Prelude.{◌≡◌, ◌+◌, ◌%◌, ◌^◌, Ok, nat_lt};
-ghost use Rattle.fallible_iterator.specs.Lists.{counted, folded, pointed_to, results, taken_while};
+ghost use Rattle.std.specs.Prelude.{◌≡◌, ℕ, ◌+◌, ◌-◌, ◌%◌, ◌^◌, List, Ok, Result, nat_lt};
+ghost use Rattle.fallible_iterator.specs.Contract.{AtMost};
+ghost use Rattle.fallible_iterator.specs.Lists.{Lists, counted, folded, pointed_to, results, taken_while};
 ghost use Rattle.fallible_itertools.specs.TakeWhileInclusive.{taken_while_inclusive};
 
-use fallible_iterator::{FallibleIterator, convert};
+use fallible_iterator::{FallibleIterator, Peekable, convert};
 use fallible_itertools::{FallibleItertools, PeekingNext};
 
 /// The sum of what the readings point to, modulo 2 ^ 64, or the first failure.
@@ -28,10 +29,16 @@ pub fn up_to_a_low_one(readings: Vec<Result<u32, u8>>) -> Result<usize, u8>
 }
 
 /// How many readings stand before the first one that isn't above 100, or the first failure before.
-pub fn before_a_low_one(readings: Vec<Result<u32, u8>>) -> Result<usize, u8>
-    ensures { result ≡ counted (taken_while (λ x. Ok (nat_lt 100 x)) (results readings.items)) }
+pub fn before_a_low_one<I: FallibleIterator<Item = u32>>(
+    ahead: &mut Peekable<I>,
+) -> Result<usize, I::Error>
+where
+    requires can_next { ⟦<Peekable<I> as FallibleIterator>⟧.contract.can_next ahead.old }
+    requires fits { AtMost ⟦<Peekable<I> as FallibleIterator>⟧.contract ahead.old (2 ^ 64 - 1) }
+    ensures { (l : List (Result ℕ I.Error))
+        → Lists ⟦<Peekable<I> as FallibleIterator>⟧.contract.steps ahead.old l
+        → result ≡ counted (taken_while (λ x. Ok (nat_lt 100 x)) l) }
 {
-    let mut ahead = convert(readings.into_iter()).peekable();
     ahead
         .peeking_take_while(|reading| Ok(*reading > 100))
         .count()

@@ -15,7 +15,7 @@ use Rattle.fallible_core.specs.Peeking.Peekable.{Fills, Peeks, failure_told, hel
 use Rattle.fallible_iterator.proofs.Lemmas.Hints.Drawn.{ItemsOfItems}
 use Rattle.fallible_itertools.proofs.Lemmas.TakeWhileInclusive.{first_call, calls_apart}
 use Rattle.fallible_itertools.specs.Laws.PeekingTakeWhile.{looked_step, held_step}
-use Rattle.fallible_itertools.specs.PeekingTakeWhile.{AcceptsHeld, AgainAt, AskedAgain, DrawnAt, LeftAt, LeftBehind, LooksAhead, PeekingTrace, left_at, left_by_while, let_go, peekable_looks, peeking_contract, peeking_parts, peeking_step}
+use Rattle.fallible_itertools.specs.PeekingTakeWhile.{AcceptsHeld, AgainAt, AskedAgain, DrawnAt, LeftAt, LeftBehind, LooksAhead, PeekingTrace, rest_at, rest_by_while, let_go, peekable_looks, peeking_contract, peeking_parts, peeking_step}
 use Rattle.fallible_core.specs.declared.peeking.peekable.Peekable.{Peekable}
 use Rattle.fallible_itertools.specs.declared.peeking_take_while.PeekingTakeWhile.{PeekingTakeWhile}
 
@@ -286,20 +286,20 @@ module _ {S F X E : Type 0} {m : Contract S X E} {looks : S → X → S → Type
   refused_look : (z : Place X (Result Bool E) E) (x : X) (s t : S) → z ≡ asked x (Ok false) → DrawnAt m.steps looks z s t → looks s x t
   refused_look z x s t is d = subst (λ (w : Place X (Result Bool E) E). DrawnAt m.steps looks w s t) is d
 
-  left_item : (x : X) (v : Result Bool E) (l rest : List (Result X E)) (left : Option (List (Result X E))) (s : S) (t : S × F) → h x ≡ v → AlwaysGives m.steps s (Ok x ∷ l) → ((u : S) → AlwaysGives m.steps u l → Leaves left rest u t) → Leaves (left_at x v l left) (cons_while x v rest) s t
-  left_item x (Ok true) l rest left s t is a then = λ ran. let w = ran.1 in let d = at_item k call f h acts w.0 x l s ran.0.0 ran.0.1 a w.1 w.2 in
+  rest_item : (x : X) (v : Result Bool E) (l rest : List (Result X E)) (left : Option (List (Result X E))) (s : S) (t : S × F) → h x ≡ v → AlwaysGives m.steps s (Ok x ∷ l) → ((u : S) → AlwaysGives m.steps u l → Leaves left rest u t) → Leaves (rest_at x v l left) (cons_while x v rest) s t
+  rest_item x (Ok true) l rest left s t is a then = λ ran. let w = ran.1 in let d = at_item k call f h acts w.0 x l s ran.0.0 ran.0.1 a w.1 w.2 in
       leaves_where left rest ran.0.0 ran.0.1 t d.1 (then ran.0.0 (d.2 (ap is_refused (d.0 ∙ ap (λ (v : Result Bool E). asked x v) is)))) ran.2
-  left_item x (Err e) l rest left s t is a then = λ ran. let w = ran.1 in let d = at_item k call f h acts w.0 x l s ran.0.0 ran.0.1 a w.1 w.2 in
+  rest_item x (Err e) l rest left s t is a then = λ ran. let w = ran.1 in let d = at_item k call f h acts w.0 x l s ran.0.0 ran.0.1 a w.1 w.2 in
       leaves_where left rest ran.0.0 ran.0.1 t d.1 (then ran.0.0 (d.2 (ap is_refused (d.0 ∙ ap (λ (v : Result Bool E). asked x v) is)))) ran.2
-  left_item x (Ok false) l rest left s t is a then = λ ran. let w = ran.1 in let d = at_item k call f h acts w.0 x l s ran.0.0 ran.0.1 a w.1 w.2 in
+  rest_item x (Ok false) l rest left s t is a then = λ ran. let w = ran.1 in let d = at_item k call f h acts w.0 x l s ran.0.0 ran.0.1 a w.1 w.2 in
       looked_gives x l s t.0 (subst (λ (u : S × F). looks s x u.0) ran.2 (refused_look w.0 x s ran.0.0 (d.0 ∙ ap (λ (v : Result Bool E). asked x v) is) w.1)) a
 
-  pub leaves_refused : (l : List (Result X E)) (s : S) (t : S × F) → AlwaysGives m.steps s l → Leaves (left_by_while h l) (taken_while h l) s t
-  unfolding left_by_while taken_while
+  pub leaves_refused : (l : List (Result X E)) (s : S) (t : S × F) → AlwaysGives m.steps s l → Leaves (rest_by_while h l) (taken_while h l) s t
+  unfolding rest_by_while taken_while
   leaves_refused [] s t a = λ ran. tt
-  leaves_refused (Ok x ∷ l) s t a = left_item x (h x) l (taken_while h l) (left_by_while h l) s t refl a (λ u b. leaves_refused l u t b)
+  leaves_refused (Ok x ∷ l) s t a = rest_item x (h x) l (taken_while h l) (rest_by_while h l) s t refl a (λ u b. leaves_refused l u t b)
   leaves_refused (Err e ∷ l) s t a = λ ran. let w = ran.1 in let d = at_failure k call f h acts w.0 e l s ran.0.0 ran.0.1 a w.1 w.2 in
-      leaves_where (left_by_while h l) (taken_while h l) ran.0.0 ran.0.1 t d.2 (leaves_refused l ran.0.0 t d.1) ran.2
+      leaves_where (rest_by_while h l) (taken_while h l) ran.0.0 ran.0.1 t d.2 (leaves_refused l ran.0.0 t d.1) ran.2
 
 -- a run of a value whose answers are those of its parts is one of these
 parts_ran : {V P A E : Type 0} (view : V → P) (steps : P → Answered A E → P → Type 0) (trace : List (Answered A E)) (s t : V) → Run (λ u r v. steps (view u) r (view v)) s trace t → Run steps (view s) trace (view t)
@@ -310,9 +310,9 @@ given_listed : {S X E : Type 0} (steps : S → Answered X E → S → Type 0) (s
 given_listed steps s None i = tt
 given_listed steps s (Some l) i = record { runs = i }
 
-pub left_listed : {S F X E : Type 0} {m : Contract S X E} {looks : S → X → S → Type 0} (k : LooksAhead m looks) (g : Mut F (Bor X × Unit {0}) (Result Bool E)) (s t : PeekingTakeWhile S F) (h : X → Result Bool E) (l : List (Result X E)) → Acts (call_at g) s.accept h → Lists m.steps s.it l
-    → Run (seen_as peeking_parts (peeking_contract m looks g)).steps s (map result_answer (taken_while h l) ++ end ∷ []) t → IfSome (left_by_while h l) (λ rest. Lists m.steps t.it rest)
-left_listed {m = m} {looks = looks} k g s t h l a i ran = given_listed m.steps t.it (left_by_while h l) (leaves_refused k (call_at g) s.accept h a l s.it (peeking_parts t) i.runs (parts_ran peeking_parts (peeking_contract m looks g).steps (map result_answer (taken_while h l) ++ end ∷ []) s t ran))
+pub rest_listed : {S F X E : Type 0} {m : Contract S X E} {looks : S → X → S → Type 0} (k : LooksAhead m looks) (g : Mut F (Bor X × Unit {0}) (Result Bool E)) (s t : PeekingTakeWhile S F) (h : X → Result Bool E) (l : List (Result X E)) → Acts (call_at g) s.accept h → Lists m.steps s.it l
+    → Run (seen_as peeking_parts (peeking_contract m looks g)).steps s (map result_answer (taken_while h l) ++ end ∷ []) t → IfSome (rest_by_while h l) (λ rest. Lists m.steps t.it rest)
+rest_listed {m = m} {looks = looks} k g s t h l a i ran = given_listed m.steps t.it (rest_by_while h l) (leaves_refused k (call_at g) s.accept h a l s.it (peeking_parts t) i.runs (parts_ran peeking_parts (peeking_contract m looks g).steps (map result_answer (taken_while h l) ++ end ∷ []) s t ran))
 
 -- ---- its hint
 

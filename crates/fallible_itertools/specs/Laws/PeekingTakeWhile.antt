@@ -16,7 +16,7 @@ use Rattle.fallible_iterator.specs.Laws.Peeking.Peekable.{lawful_peekable}
 use Rattle.fallible_iterator.specs.Cutting.TakeWhile.{taken_answer, take_while_outcome}
 use Rattle.fallible_iterator.specs.Peeking.Peekable.{Peeks, peekable_contract, peekable_parts, peekable_step}
 use Rattle.fallible_itertools.specs.PeekingTakeWhile.{DrawnAt, LooksAhead, borrowed_looks, peekable_looks, peeking_contract}
-use Rattle.fallible_core.specs.declared.peeking.peekable.Peekable.{Peekable}
+use Rattle.fallible_iterator.specs.Peekable.{Peekable}
 
 -- ---- a `Peekable` looks ahead
 

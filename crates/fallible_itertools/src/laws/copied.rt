@@ -18,7 +18,7 @@ where
         (CopiedTrace I.contract.steps) }
 {}
 
-/// From behind the answers of `Copied` are the source's from behind, with the value that each item points to in its place.
+/// From the back the answers of `Copied` are the source's from the back, with the value that each item points to in its place.
 pub fn law_back_copied<'a, T: Copy + 'a, I: DoubleEndedFallibleIterator<Item = &'a T>>()
 where
     ensures { TracesAre copied_parts ⟦<Copied<I> as DoubleEndedFallibleIterator>⟧.ends.steps
@@ -32,7 +32,7 @@ where
         → KeepsBrackets ⟦<Copied<I> as FallibleIterator>⟧.contract s I.contract (copied_source s) }
 {}
 
-/// From behind each hint of `Copied` is as sound as the hint of its source that it is made of.
+/// From the back each hint of `Copied` is as sound as the hint of its source that it is made of.
 pub fn law_hints_back_copied<'a, T: Copy + 'a, I: DoubleEndedFallibleIterator<Item = &'a T>>()
 where
     ensures { (s : Copied I)

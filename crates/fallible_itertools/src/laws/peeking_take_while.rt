@@ -5,7 +5,7 @@ ghost use Rattle.fallible_iterator.specs.LawForm.{TracesAre};
 ghost use Rattle.fallible_iterator.specs.Lists.{Acts, Lists, result_answer, taken_while};
 ghost use Rattle.fallible_iterator.specs.SoundHints.{KeepsBrackets};
 ghost use Rattle.fallible_iterator.specs.Traces.{Run, end};
-ghost use Rattle.fallible_itertools.specs.PeekingTakeWhile.{PeekingTrace, left_by_while, peeking_closure, peeking_parts, peeking_source};
+ghost use Rattle.fallible_itertools.specs.PeekingTakeWhile.{PeekingTrace, rest_by_while, peeking_closure, peeking_parts, peeking_source};
 
 use crate::peeking_take_while::{PeekingNext, PeekingTakeWhile};
 use fallible_iterator::FallibleIterator;
@@ -27,12 +27,12 @@ where
 {}
 
 /// What it leaves: over a source that lists l, with a closure that acts as h, draws up to the end in the place of a refused item leave a source that lists that item and what stands behind it.
-pub fn law_left_peeking_take_while<P: PeekingNext, F: FnMut(&P::Item) -> Result<bool, P::Error>>()
+pub fn law_rest_peeking_take_while<P: PeekingNext, F: FnMut(&P::Item) -> Result<bool, P::Error>>()
 where
     ensures { (s t : PeekingTakeWhile P F) (h : P.Item → Result Bool P.Error)
         (l : List (Result P.Item P.Error)) → Acts (call_at F.FnMut) (peeking_closure s) h
         → Lists P.contract.steps (peeking_source s) l
         → Run ⟦<PeekingTakeWhile<P, F> as FallibleIterator>⟧.contract.steps s
         (map result_answer (taken_while h l) ++ end ∷ []) t
-        → IfSome (left_by_while h l) (λ rest. Lists P.contract.steps (peeking_source t) rest) }
+        → IfSome (rest_by_while h l) (λ rest. Lists P.contract.steps (peeking_source t) rest) }
 {}

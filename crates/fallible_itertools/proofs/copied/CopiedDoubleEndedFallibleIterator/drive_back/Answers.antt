@@ -1,4 +1,4 @@
--- The fold of its source from behind, by the copies.
+-- The fold of its source from the back, by the copies.
 use Rattle.std.specs.Prelude.{⊤}
 use Rattle.fallible_contract.proofs.Lemmas.Folding.{takes_freely, holds_into, drained_into}
 use Rattle.fallible_itertools.specs.Copied.{copied_call, copied_outcome}
