@@ -1,5 +1,5 @@
 //! The traits that every fallible iterator has besides.
-ghost use Rattle.std.specs.Prelude.{◌≡◌, List, None, Result, ◌-◌, ◌^◌, true, Option, Ok, Err, false, Bool};
+ghost use Rattle.std.specs.Prelude.{◌≡◌, ℕ, ◌+◌, ◌≤◌, List, None, Result, ◌-◌, ◌^◌, true, Option, Ok, Err, false, Bool};
 ghost use Rattle.std.specs.declared.cmp.Ordering.{Ordering};
 ghost use Rattle.fallible_iterator.specs.Clauses.{OverList, OverListWith};
 ghost use Rattle.fallible_iterator.specs.Closures.{IsCallable, call_at, takes_at, call_on, takes_on};
@@ -482,6 +482,10 @@ pub trait FallibleItertools: FallibleIterator {
         ensures right { I.into_gives other (merge_by_right result) }
         ensures right_held { merge_by_right_held result ≡ None }
         ensures closure { merge_by_closure result ≡ f }
+        ensures bounded { (a b k : ℕ) → Self.contract.bound self a
+            → I.IntoFallibleIter.contract.bound (merge_by_right result) b → a + b ≤ k
+            → AtMost (seen_as merge_by_parts (merge_by_contract Self.contract
+            I.IntoFallibleIter.contract F.FnMut)) result k }
         ensures for_good { (h : Self.Item → Self.Item → Result Bool Self.Error)
             → ActsWith (call_at_two F.FnMut) f h
             → OverBothForGood Self.contract.steps self I.into_gives other
@@ -526,6 +530,10 @@ pub trait FallibleItertools: FallibleIterator {
         ensures left { zip_longest_left result ≡ self }
         ensures held { zip_longest_held result ≡ None }
         ensures right { I.into_gives other (zip_longest_right result) }
+        ensures bounded { (a b k : ℕ) → Self.contract.bound self a
+            → I.IntoFallibleIter.contract.bound (zip_longest_right result) b → a + b ≤ k
+            → AtMost (seen_as zip_longest_parts (zip_longest_contract Self.contract
+            I.IntoFallibleIter.contract)) result k }
         ensures for_good { OverBothForGood Self.contract.steps self I.into_gives other
             I.IntoFallibleIter.contract.steps
             (λ a b. ListsForGood (seen_as zip_longest_parts (zip_longest_contract Self.contract

@@ -1,5 +1,6 @@
 -- What both sides list for good, merged.
-use Rattle.std.proofs.Common.{refl}
+use Rattle.std.specs.Prelude.{◌+◌}
+use Rattle.std.proofs.Common.{refl, inr, arith}
 use Rattle.fallible_itertools.proofs.Lemmas.MergeBy.{lists_merged, lists_merged_for_good}
 use Rattle.fallible_itertools.proofs.traits.FallibleItertools.merge_by.Goals as goal
 
@@ -8,3 +9,6 @@ returns-clause-for_good g c h acts a b i k = lists_merged_for_good g.Self.Fallib
 
 pub returns-clause-lists : goal.returns-clause-lists
 returns-clause-lists g c h acts a b i k = lists_merged g.Self.FallibleIterator.contract g.I.IntoFallibleIter.FallibleIterator.contract g.F.FnMut _ _ _ h a b refl acts i (k _ c.into_fallible_iter.ensures)
+
+pub returns-clause-bounded : goal.returns-clause-bounded
+returns-clause-bounded g c a b k x y le = inr (a + b, (a, b, x, y, omega arith), le)

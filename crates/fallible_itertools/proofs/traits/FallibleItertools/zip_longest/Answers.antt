@@ -1,5 +1,6 @@
 -- What both sides list for good, place by place.
-use Rattle.std.proofs.Common.{refl}
+use Rattle.std.specs.Prelude.{◌+◌}
+use Rattle.std.proofs.Common.{refl, inr, arith}
 use Rattle.fallible_itertools.proofs.Lemmas.ZipLongest.{lists_zipped_longest, lists_zipped_longest_for_good}
 use Rattle.fallible_itertools.proofs.traits.FallibleItertools.zip_longest.Goals as goal
 
@@ -8,3 +9,6 @@ returns-clause-for_good g c a b i k = lists_zipped_longest_for_good g.Self.Falli
 
 pub returns-clause-lists : goal.returns-clause-lists
 returns-clause-lists g c a b i k = lists_zipped_longest g.Self.FallibleIterator.contract g.I.IntoFallibleIter.FallibleIterator.contract _ _ a b refl i (k _ c.into_fallible_iter.ensures)
+
+pub returns-clause-bounded : goal.returns-clause-bounded
+returns-clause-bounded g c a b k x y le = inr (a + b, (a, b, x, y, omega arith), le)
