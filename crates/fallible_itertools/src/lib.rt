@@ -3,6 +3,8 @@
 //! Import the trait [`FallibleItertools`] to have them, and [`DoubleEndedFallibleItertools`] for those from the back.
 #![tactic(auto)]
 
+pub mod double_ended;
 pub mod traits;
 
+pub use double_ended::DoubleEndedFallibleItertools;
 pub use traits::FallibleItertools;
