@@ -1,2 +1,4 @@
 -- What the clauses of `src/` cite.
+pub mod Few
 pub mod FromBehind
+pub mod MinMax

@@ -4,7 +4,11 @@
 #![tactic(auto)]
 
 pub mod double_ended;
+pub mod few;
+pub mod minmax;
 pub mod traits;
 
 pub use double_ended::DoubleEndedFallibleItertools;
+pub use few::NotOne;
+pub use minmax::MinMaxResult;
 pub use traits::FallibleItertools;

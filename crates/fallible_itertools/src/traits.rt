@@ -1,9 +1,113 @@
 //! The traits that every fallible iterator has besides.
-ghost use Rattle.std.specs.Prelude.{◌≡◌};
+ghost use Rattle.std.specs.Prelude.{◌≡◌, Option, Result, Ok, Err};
+ghost use Rattle.fallible_iterator.specs.Clauses.{OverList};
+ghost use Rattle.fallible_iterator.specs.Contract.{Stays};
+ghost use Rattle.fallible_iterator.specs.Lists.{Lists, behind_nth};
+ghost use Rattle.fallible_itertools.specs.Few.{AtMostOne, at_most_one_of, wanting_one};
+ghost use Rattle.fallible_itertools.specs.MinMax.{MinMaxed, minmaxed};
+ghost use Rattle.fallible_itertools.specs.declared.few.NotOne.TheVariants.{More};
 
+use crate::few::NotOne;
+use crate::minmax::{MinMaxResult, MinMaxTurn};
 use fallible_iterator::FallibleIterator;
 
 /// More calls on every fallible iterator.
-pub trait FallibleItertools: FallibleIterator {}
+pub trait FallibleItertools: FallibleIterator {
+    // ---- extremes, counts, comparisons
+
+    /// The only item: none where no item comes before the end, and the first two, as an `Err` within the answer, where more than one comes.
+    ///
+    /// It draws at most two answers: up to an end, a failure or the second item. It fails with that failure, and an item that came before it is lost then. Nothing is drawn after the answer that decides, and what is left may be drawn from again.
+    ///
+    /// Asks that it may be drawn from.
+    ///
+    /// ```
+    /// assert_eq!(rt; it.at_most_one(), Ok(Err((1, 2))));
+    /// ```
+    final fn at_most_one(
+        &mut self,
+    ) -> Result<Result<Option<Self::Item>, (Self::Item, Self::Item)>, Self::Error>
+    where
+        Self::Item: Drop,
+        requires { Self.contract.can_next self.old }
+        ensures drawn { AtMostOne Self.contract.steps self.old result self.new }
+        ensures value { OverList Self.contract.steps self.old (λ l. result ≡ at_most_one_of l) }
+        ensures behind_two { OverList Self.contract.steps self.old
+            (λ l. (p : Self.Item × Self.Item) → result ≡ Ok (Err p)
+            → Lists Self.contract.steps self.new (behind_nth 1 l)) }
+        ensures behind_failure { OverList Self.contract.steps self.old
+            (λ l. (e : Self.Error) → result ≡ Err e
+            → Lists Self.contract.steps self.new (behind_nth 1 l)) }
+        ensures stays { Stays Self.contract self.old self.new }
+    {
+        let first = match self.draw() {
+            Ok(Some(first)) => first,
+            Ok(None) => return Ok(Ok(None)),
+            Err(e) => return Err(e),
+        };
+        match self.draw() {
+            Ok(Some(second)) => Ok(Err((first, second))),
+            Ok(None) => Ok(Ok(Some(first))),
+            Err(e) => Err(e),
+        }
+    }
+
+    /// The only item, where exactly one comes before the end. `NotOne` within the answer says that none came, or hands back the first two.
+    ///
+    /// It draws, fails, asks and goes on as `at_most_one` does.
+    ///
+    /// ```
+    /// assert_eq!(rt; it.exactly_one(), Ok(Err(NotOne::NoItem)));
+    /// ```
+    final fn exactly_one(&mut self) -> Result<Result<Self::Item, NotOne<Self::Item>>, Self::Error>
+    where
+        Self::Item: Drop,
+        requires { Self.contract.can_next self.old }
+        ensures drawn { (r : Result (Result (Option Self.Item) (Self.Item × Self.Item)) Self.Error)
+            × AtMostOne Self.contract.steps self.old r self.new × (result ≡ wanting_one r) }
+        ensures value { OverList Self.contract.steps self.old
+            (λ l. result ≡ wanting_one (at_most_one_of l)) }
+        ensures behind_two { OverList Self.contract.steps self.old
+            (λ l. (x y : Self.Item) → result ≡ Ok (Err (More x y))
+            → Lists Self.contract.steps self.new (behind_nth 1 l)) }
+        ensures behind_failure { OverList Self.contract.steps self.old
+            (λ l. (e : Self.Error) → result ≡ Err e
+            → Lists Self.contract.steps self.new (behind_nth 1 l)) }
+        ensures stays { Stays Self.contract self.old self.new }
+    {
+        match self.at_most_one() {
+            Ok(Ok(Some(only))) => Ok(Ok(only)),
+            Ok(Ok(None)) => Ok(Err(NotOne::NoItem)),
+            Ok(Err((first, second))) => Ok(Err(NotOne::More(first, second))),
+            Err(e) => Err(e),
+        }
+    }
+
+    /// The first of the least items and the last of the greatest, in one pass; one item by itself, and nothing of no items.
+    ///
+    /// It draws up to the end or the first failure. It fails with that failure. It takes the iterator, and no clause says what is left.
+    ///
+    /// Asks that it may be drawn from and is finite.
+    ///
+    /// ```
+    /// assert_eq!(rt; it.minmax(), Ok(MinMaxResult::MinMax(1, 4)));
+    /// ```
+    final fn minmax(mut self) -> Result<MinMaxResult<Self::Item>, Self::Error>
+    where
+        Self::Item: Ord + Drop,
+        requires can_next { Self.contract.can_next self }
+        requires finite { Self.contract.is_finite self }
+        ensures minmaxed { MinMaxed Self.Item.cmp Self.contract.steps self result }
+        ensures value { OverList Self.contract.steps self
+            (λ l. result ≡ minmaxed Self.Item.cmp l) }
+    {
+        let mut found = MinMaxResult::NoElements;
+        match self.drive(&mut found, &MinMaxTurn) {
+            Ok(None) => Ok(found),
+            Ok(Some(never)) => match never {},
+            Err(e) => Err(e),
+        }
+    }
+}
 
 impl<I: FallibleIterator> FallibleItertools for I {}
