@@ -1,4 +1,5 @@
 -- What the clauses of `src/` cite.
 pub mod Few
 pub mod FromBehind
+pub mod Joined
 pub mod MinMax

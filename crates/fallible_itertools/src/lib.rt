@@ -5,6 +5,7 @@
 
 pub mod double_ended;
 pub mod few;
+pub mod joined;
 pub mod minmax;
 pub mod traits;
 

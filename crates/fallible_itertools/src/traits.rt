@@ -1,15 +1,21 @@
 //! The traits that every fallible iterator has besides.
-ghost use Rattle.std.specs.Prelude.{◌≡◌, Option, Result, Ok, Err};
+ghost use Rattle.std.specs.Prelude.{◌≡◌, Option, Result, Ok, Err, IfOk, ⊤};
 ghost use Rattle.fallible_iterator.specs.Clauses.{OverList};
+ghost use Rattle.fallible_iterator.specs.Collecting.{Collects};
 ghost use Rattle.fallible_iterator.specs.Contract.{Stays};
-ghost use Rattle.fallible_iterator.specs.Lists.{Lists, behind_nth};
+ghost use Rattle.fallible_iterator.specs.Lists.{CollectedAs, Lists, MadeOf, behind_nth, collected};
 ghost use Rattle.fallible_itertools.specs.Few.{AtMostOne, at_most_one_of, wanting_one};
+ghost use Rattle.fallible_itertools.specs.Joined.{JoinedAs};
 ghost use Rattle.fallible_itertools.specs.MinMax.{MinMaxed, minmaxed};
+ghost use Rattle.fallible_iterator.specs.Fault.TheVariants.{Source};
 ghost use Rattle.fallible_itertools.specs.declared.few.NotOne.TheVariants.{More};
 
 use crate::few::NotOne;
+use crate::joined::JoinTurn;
 use crate::minmax::{MinMaxResult, MinMaxTurn};
-use fallible_iterator::FallibleIterator;
+use fallible_iterator::{FallibleIterator, Fault};
+use std::alloc::Global;
+use std::fmt::Display;
 
 /// More calls on every fallible iterator.
 pub trait FallibleItertools: FallibleIterator {
@@ -106,6 +112,37 @@ pub trait FallibleItertools: FallibleIterator {
             Ok(None) => Ok(found),
             Ok(Some(never)) => match never {},
             Err(e) => Err(e),
+        }
+    }
+
+    /// The items as they are shown, with the separator between each two.
+    ///
+    /// It draws up to the end, the first failure or an item that can't be appended. It fails with `Fault::Source` of the first failure, and with `Fault::Memory` where the text refused the item that was drawn last: memory was refused, or showing the item failed. It takes the iterator, and no clause says what is left.
+    ///
+    /// Asks that it may be drawn from and is finite. The text is known of items whose type says how they are shown.
+    ///
+    /// ```
+    /// let text = numbers(&[Ok(1), Ok(20), Ok(3)]).join(rt.alloc(), ", ");
+    /// ```
+    final fn join(mut self, alloc: Global, separator: &str) -> Result<String, Fault<Self::Error>>
+    where
+        Self::Item: Display + Drop,
+        requires can_next { Self.contract.can_next self }
+        requires finite { Self.contract.is_finite self }
+        ensures collects { Collects Self.contract.steps
+            (JoinedAs Self.Item.output separator.now) ⊥ (λ _ _. ⊤) self result }
+        ensures value { OverList Self.contract.steps self
+            (λ l. CollectedAs (JoinedAs Self.Item.output separator.now) l result) }
+        ensures contents { OverList Self.contract.steps self (λ l. IfOk result
+            (MadeOf (JoinedAs Self.Item.output separator.now) (collected l))) }
+        ensures failure { OverList Self.contract.steps self
+            (λ l. (e : Self.Error) → result ≡ Err (Source e) → collected l ≡ Err e) }
+    {
+        let mut state = (false, String::new(alloc));
+        match self.drive(&mut state, &JoinTurn { separator }) {
+            Ok(None) => Ok(state.1),
+            Ok(Some(refused)) => Err(Fault::Memory(refused)),
+            Err(e) => Err(Fault::Source(e)),
         }
     }
 }
