@@ -1,21 +1,26 @@
 //! The traits that every fallible iterator has besides.
-ghost use Rattle.std.specs.Prelude.{◌≡◌, Option, Result, Ok, Err, IfOk, ⊤};
+ghost use Rattle.std.specs.Prelude.{◌≡◌, ◌-◌, ◌^◌, Option, Result, None, Ok, Err, IfOk, ⊤};
+ghost use Rattle.std.specs.HashMap.{get, spare};
 ghost use Rattle.fallible_iterator.specs.Clauses.{OverList};
 ghost use Rattle.fallible_iterator.specs.Collecting.{Collects};
-ghost use Rattle.fallible_iterator.specs.Contract.{Stays};
+ghost use Rattle.fallible_iterator.specs.Contract.{AtMost, Stays};
 ghost use Rattle.fallible_iterator.specs.Lists.{CollectedAs, Lists, MadeOf, behind_nth, collected};
+ghost use Rattle.fallible_itertools.specs.Counted.{IsCountsOf};
 ghost use Rattle.fallible_itertools.specs.Few.{AtMostOne, at_most_one_of, wanting_one};
 ghost use Rattle.fallible_itertools.specs.Joined.{JoinedAs};
 ghost use Rattle.fallible_itertools.specs.MinMax.{MinMaxed, minmaxed};
 ghost use Rattle.fallible_iterator.specs.Fault.TheVariants.{Source};
 ghost use Rattle.fallible_itertools.specs.declared.few.NotOne.TheVariants.{More};
 
+use crate::counted::Tally;
 use crate::few::NotOne;
 use crate::joined::JoinTurn;
 use crate::minmax::{MinMaxResult, MinMaxTurn};
 use fallible_iterator::{FallibleIterator, Fault};
 use std::alloc::Global;
+use std::collections::HashMap;
 use std::fmt::Display;
+use std::hash::Hash;
 
 /// More calls on every fallible iterator.
 pub trait FallibleItertools: FallibleIterator {
@@ -112,6 +117,35 @@ pub trait FallibleItertools: FallibleIterator {
             Ok(None) => Ok(found),
             Ok(Some(never)) => match never {},
             Err(e) => Err(e),
+        }
+    }
+
+    /// How often each item comes: a map from the items, of equal ones the first, to the number of those that are equal to it.
+    ///
+    /// It draws up to the end, the first failure or an item that the map refuses. It fails with `Fault::Source` of the first failure, and with `Fault::Memory` where the map refused the item that was drawn last: one that is equal to none before it, where memory was refused. It takes the iterator, and no clause says what is left.
+    ///
+    /// Asks that it may be drawn from, and that at most `usize::MAX` items are left, so that each number fits.
+    ///
+    /// ```
+    /// let counts = numbers(&[Ok(5), Ok(7), Ok(5)]).counts(rt.alloc());
+    /// ```
+    final fn counts(self, alloc: Global) -> Result<HashMap<Self::Item, usize>, Fault<Self::Error>>
+    where
+        Self::Item: Eq + Hash + Drop,
+        requires can_next { Self.contract.can_next self }
+        requires fits { AtMost Self.contract self (2 ^ 64 - 1) }
+        ensures collects { Collects Self.contract.steps (IsCountsOf Self.Item.eq) ⊥
+            (λ m x. (get Self.Item.eq m x ≡ None) × (spare m ≡ 0)) self result }
+        ensures value { OverList Self.contract.steps self
+            (λ l. CollectedAs (IsCountsOf Self.Item.eq) l result) }
+        ensures contents { OverList Self.contract.steps self
+            (λ l. IfOk result (MadeOf (IsCountsOf Self.Item.eq) (collected l))) }
+        ensures failure { OverList Self.contract.steps self
+            (λ l. (e : Self.Error) → result ≡ Err (Source e) → collected l ≡ Err e) }
+    {
+        match self.collect::<Tally<Self::Item>>(alloc) {
+            Ok(made) => Ok(made.counts),
+            Err(fault) => Err(fault),
         }
     }
 
