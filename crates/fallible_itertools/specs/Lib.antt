@@ -1,4 +1,5 @@
 -- What the clauses of `src/` cite.
+pub mod ComparedBy
 pub mod Counted
 pub mod Few
 pub mod FromBehind

@@ -3,6 +3,7 @@
 //! Import the trait [`FallibleItertools`] to have them, and [`DoubleEndedFallibleItertools`] for those from the back.
 #![tactic(auto)]
 
+pub mod compared;
 pub mod counted;
 pub mod double_ended;
 pub mod few;

@@ -1,10 +1,14 @@
 //! The traits that every fallible iterator has besides.
-ghost use Rattle.std.specs.Prelude.{◌≡◌, ◌-◌, ◌^◌, Option, Result, None, Ok, Err, IfOk, ⊤};
+ghost use Rattle.std.specs.Prelude.{◌≡◌, ◌-◌, ◌^◌, Bool, Option, Result, Some, None, Ok, Err, IfOk, ⊤};
 ghost use Rattle.std.specs.HashMap.{get, spare};
-ghost use Rattle.fallible_iterator.specs.Clauses.{OverList};
+ghost use Rattle.fallible_iterator.specs.Clauses.{OverBoth, OverList};
 ghost use Rattle.fallible_iterator.specs.Collecting.{Collects};
+ghost use Rattle.fallible_iterator.specs.Comparing.{OneIsFinite, equal_where, read_as, reads_eq};
+ghost use Rattle.fallible_iterator.specs.Folds.{call_with, goes_on, takes_with};
 ghost use Rattle.fallible_iterator.specs.Contract.{AtMost, Stays};
-ghost use Rattle.fallible_iterator.specs.Lists.{CollectedAs, Lists, MadeOf, behind_nth, collected};
+ghost use Rattle.fallible_iterator.specs.Lists.{ActsWith, CollectedAs, Lists, MadeOf, behind_nth, collected};
+ghost use Rattle.std.specs.declared.cmp.Ordering.{Ordering};
+ghost use Rattle.fallible_itertools.specs.ComparedBy.{CallableInRounds, ComparedByWith, IsCmpTurn, IsEqTurn, compared_by};
 ghost use Rattle.fallible_itertools.specs.Counted.{IsCountsOf};
 ghost use Rattle.fallible_itertools.specs.Few.{AtMostOne, at_most_one_of, wanting_one};
 ghost use Rattle.fallible_itertools.specs.Joined.{JoinedAs};
@@ -12,12 +16,15 @@ ghost use Rattle.fallible_itertools.specs.MinMax.{MinMaxed, minmaxed};
 ghost use Rattle.fallible_iterator.specs.Fault.TheVariants.{Source};
 ghost use Rattle.fallible_itertools.specs.declared.few.NotOne.TheVariants.{More};
 
+use crate::compared::{CmpTurn, EqTurn, compare_by};
 use crate::counted::Tally;
 use crate::few::NotOne;
 use crate::joined::JoinTurn;
 use crate::minmax::{MinMaxResult, MinMaxTurn};
-use fallible_iterator::{FallibleIterator, Fault};
+use fallible_iterator::consuming::{ReadEq, Reading, ordered};
+use fallible_iterator::{FallibleIterator, Fault, IntoFallibleIterator};
 use std::alloc::Global;
+use std::cmp::Ordering;
 use std::collections::HashMap;
 use std::fmt::Display;
 use std::hash::Hash;
@@ -178,6 +185,79 @@ pub trait FallibleItertools: FallibleIterator {
             Ok(Some(refused)) => Err(Fault::Memory(refused)),
             Err(e) => Err(Fault::Source(e)),
         }
+    }
+
+    /// How the two compare by the closure, which is called on the two items of each round: as the first two that it doesn't find equal, and where there are none, the side that ends alone is less.
+    ///
+    /// It draws in rounds, this iterator and then the other, until a failure, an end or two items that decide. Where this one ended, the other is still drawn in that round; where this one failed, it is not. It fails with the failure that comes first: in each round one of this iterator before one of the other, and that before one of the closure. It takes both, and no clause says what is left.
+    ///
+    /// Asks that both sides may be drawn from, that one of them is finite, and that the closure may be called on each two items that may come in one round.
+    ///
+    /// ```
+    /// let order = numbers(left).cmp_by(numbers(right), last_digits);
+    /// ```
+    final fn cmp_by<I, F>(self, other: I, f: F) -> Result<Ordering, Self::Error>
+    where
+        I: IntoFallibleIterator<Error = Self::Error>,
+        I::Item: Drop,
+        Self::Item: Drop,
+        F: FnMut(Self::Item, I::Item) -> Result<Ordering, Self::Error>,
+        requires can_next { Self.contract.can_next self }
+        requires right { (right : I.IntoFallibleIter) → I.into_gives other right
+            → I.IntoFallibleIter.contract.can_next right }
+        requires finite { OneIsFinite Self.contract I.into_gives I.IntoFallibleIter.contract
+            self other }
+        requires callable { (right : I.IntoFallibleIter) → I.into_gives other right
+            → CallableInRounds Self.contract.steps I.IntoFallibleIter.contract.steps
+            (goes_on (IsCmpTurn (call_with F.FnMut))) (λ g p. takes_with F.FnMut g p.0 p.1)
+            self right f }
+        ensures compared { ComparedByWith (IsCmpTurn (call_with F.FnMut)) I.into_gives
+            Self.contract.steps I.IntoFallibleIter.contract.steps self other f
+            (read_as (λ o. Some o) result) }
+        ensures value { (h : Self.Item → I.Item → Result Ordering Self.Error)
+            → ActsWith (call_with F.FnMut) f h
+            → OverBoth Self.contract.steps self I.into_gives other
+            I.IntoFallibleIter.contract.steps (λ a b. read_as (λ o. Some o) result
+            ≡ compared_by (λ x y. read_as (λ o. Some o) (h x y)) a b) }
+    {
+        let answer = compare_by(self, other.into_fallible_iter(), f, &CmpTurn);
+        ordered(answer)
+    }
+
+    /// Whether the closure finds the two items of each round equal, and the two end together.
+    ///
+    /// Draws, fails and asks as `cmp_by` does.
+    ///
+    /// ```
+    /// let equal = numbers(left).eq_by(numbers(right), same_last_digit);
+    /// ```
+    final fn eq_by<I, F>(self, other: I, f: F) -> Result<bool, Self::Error>
+    where
+        I: IntoFallibleIterator<Error = Self::Error>,
+        I::Item: Drop,
+        Self::Item: Drop,
+        F: FnMut(Self::Item, I::Item) -> Result<bool, Self::Error>,
+        requires can_next { Self.contract.can_next self }
+        requires right { (right : I.IntoFallibleIter) → I.into_gives other right
+            → I.IntoFallibleIter.contract.can_next right }
+        requires finite { OneIsFinite Self.contract I.into_gives I.IntoFallibleIter.contract
+            self other }
+        requires callable { (right : I.IntoFallibleIter) → I.into_gives other right
+            → CallableInRounds Self.contract.steps I.IntoFallibleIter.contract.steps
+            (goes_on (IsEqTurn (call_with F.FnMut))) (λ g p. takes_with F.FnMut g p.0 p.1)
+            self right f }
+        ensures compared { (answer : Result (Option Ordering) Self.Error)
+            × ComparedByWith (IsEqTurn (call_with F.FnMut)) I.into_gives Self.contract.steps
+            I.IntoFallibleIter.contract.steps self other f answer
+            × (result ≡ read_as reads_eq answer) }
+        ensures value { (h : Self.Item → I.Item → Result Bool Self.Error)
+            → ActsWith (call_with F.FnMut) f h
+            → OverBoth Self.contract.steps self I.into_gives other
+            I.IntoFallibleIter.contract.steps (λ a b. result
+            ≡ read_as reads_eq (compared_by (λ x y. read_as equal_where (h x y)) a b)) }
+    {
+        let answer = compare_by(self, other.into_fallible_iter(), f, &EqTurn);
+        ReadEq::read(answer)
     }
 }
 
