@@ -7,7 +7,7 @@ use Rattle.fallible_contract.specs.Lists.{Lists, behind_nth}
 use Rattle.fallible_contract.proofs.Lemmas.Folds.{drained_last}
 use Rattle.fallible_contract.proofs.Lemmas.Lists.Behind.{behind_nth_is}
 use Rattle.fallible_contract.proofs.Lemmas.Lists.Drawn.{LeftAt, drawn}
-use Rattle.fallible_itertools.specs.Few.{AtMostOneExit, AtMostOneBy, AtMostOne, at_most_one_of}
+use Rattle.fallible_itertools.specs.Few.{AtMostOneExit, AtMostOne, at_most_one_of}
 
 module _ {S A E : Type 0} {steps : S → Answered A E → S → Type 0} {s t : S} where
   -- the first draw decides

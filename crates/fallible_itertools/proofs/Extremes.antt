@@ -1,22 +1,22 @@
 -- The least and the greatest item by one fold.
-use Rattle.std.specs.Prelude.{◌≡◌, List, [], ◌∷◌, ◌++◌, map, false, true, cond, Option, Some, None, Result, Ok, Err}
+use Rattle.std.specs.Prelude.{◌≡◌, List, [], ◌∷◌, ◌++◌, map, false, cond, Option, Some, None, Result, Ok, Err}
 use Rattle.std.specs.List.{FoldsTo}
 use Rattle.std.specs.Cmp.{IsTotalOrder, upto}
 use Rattle.std.specs.Ordering.{ordering_reverse, is_gt}
 use Rattle.std.proofs.Common.{refl, sym, ap, subst, ◌∙◌, append-nil}
 use Rattle.fallible_contract.specs.Traces.{Answered}
 use Rattle.fallible_contract.specs.Folds.{goes_on, DriveExit, Driven}
-use Rattle.fallible_contract.specs.Picking.{same_order, better}
+use Rattle.fallible_contract.specs.Picking.{better}
 use Rattle.fallible_contract.specs.Lists.{Lists, on_value, folded, pick_of, best_by, greatest}
 use Rattle.fallible_contract.proofs.Lemmas.Folds.{drained_map}
 use Rattle.fallible_contract.proofs.Lemmas.Lists.Drawn.{LeftAt, drawn}
-use Rattle.fallible_itertools.specs.MinMax.{with_item, or_less, first_least, both_of, minmaxed, MinMaxExit, MinMaxBy, MinMaxed}
+use Rattle.fallible_itertools.specs.MinMax.{with_item, or_less, first_least, both_of, minmaxed, MinMaxExit, MinMaxed}
 use Rattle.std.specs.declared.cmp.Ordering.{Ordering}
 use Rattle.std.specs.declared.cmp.Ordering.TheVariants.{Less, Equal, Greater}
 use Rattle.std.specs.declared.ops.ControlFlow.{ControlFlow}
-use Rattle.std.specs.declared.ops.ControlFlow.TheVariants.{Continue, Break}
+use Rattle.std.specs.declared.ops.ControlFlow.TheVariants.{Continue}
 use Rattle.fallible_itertools.specs.declared.minmax.MinMaxResult.{MinMaxResult}
-use Rattle.fallible_itertools.specs.declared.minmax.MinMaxResult.TheVariants.{NoElements, OneElement, MinMax}
+use Rattle.fallible_itertools.specs.declared.minmax.MinMaxResult.TheVariants.{NoElements, MinMax}
 
 -- ---- the words of the list, item by item
 

@@ -1,7 +1,7 @@
 -- What a call from behind answers and leaves of what is listed from both ends.
 use Rattle.std.specs.Prelude.{◌≡◌, ℕ, ◌+◌, zero, suc, length, Bool, true, false, cond, is_some, Option, Some, None, Result, Ok, Err, List, [], ◌∷◌, ◌++◌, map, reverse}
 use Rattle.std.specs.List.{FoldsTo}
-use Rattle.std.proofs.Common.{refl, sym, ap, subst, ◌∙◌, arith, inr, ◌≤◌}
+use Rattle.std.proofs.Common.{refl, sym, ap, subst, ◌∙◌, arith, inr}
 use Rattle.fallible_contract.specs.Traces.{Answered, Run, item}
 use Rattle.fallible_contract.specs.Folds.{goes_on, DriveExit, Driven, CountExit, CountedBy, Drained, Nth, NthExit}
 use Rattle.fallible_contract.specs.Searching.{Passed, Decided, SearchExit, Searched, any_pick, find_pick}

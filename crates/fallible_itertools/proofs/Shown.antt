@@ -1,6 +1,5 @@
 -- A text made of the items by one fold.
-use Rattle.std.specs.Prelude.{◌≡◌, ℕ, List, [], ◌∷◌, ◌++◌, Bool, true, false, cond, Option, Some, None, Result, Ok, Err}
-use Rattle.std.specs.String.{string_bytes}
+use Rattle.std.specs.Prelude.{◌≡◌, ℕ, List, [], ◌∷◌, ◌++◌, Bool, true, false, cond, Option, Some, None, Ok, Err}
 use Rattle.std.proofs.Common.{refl, sym, ap, ◌∙◌, append_assoc}
 use Rattle.fallible_contract.specs.Traces.{Answered}
 use Rattle.fallible_contract.specs.Folds.{Driven}
@@ -8,8 +7,7 @@ use Rattle.fallible_contract.specs.Collecting.{CollectsAll, FailsWith, RefusesIt
 use Rattle.fallible_contract.proofs.Lemmas.Collecting.{gathered_all, gathered_failed, gathered_stopped}
 use Rattle.fallible_itertools.specs.Joined.{joined, JoinedAs, IsJoinTurn}
 use Rattle.std.specs.declared.string.String.{String}
-use Rattle.std.specs.declared.ops.ControlFlow.{ControlFlow}
-use Rattle.std.specs.declared.ops.ControlFlow.TheVariants.{Continue, Break}
+use Rattle.std.specs.declared.ops.ControlFlow.TheVariants.{Continue}
 use Rattle.std.specs.declared.alloc.AllocError.{AllocError}
 
 -- whether there is an item

@@ -1,5 +1,5 @@
 -- What a map of counts becomes when one more item is pushed.
-use Rattle.std.specs.Prelude.{◌≡◌, ℕ, zero, suc, ◌+◌, ◌-◌, ◌%◌, ◌^◌, ◌<◌, ◌≤◌, Bool, true, false, cond, List, [], ◌∷◌, ◌++◌, map, length, unwrap_or, IsSome, Option, Some, None, Result, Ok, Err}
+use Rattle.std.specs.Prelude.{◌≡◌, ℕ, zero, suc, ◌+◌, ◌-◌, ◌%◌, ◌^◌, ◌≤◌, Bool, true, false, cond, List, [], ◌∷◌, ◌++◌, map, length, unwrap_or, IsSome, Option, Some, None, Err}
 use Rattle.std.specs.Option.{option_map}
 use Rattle.std.specs.Cmp.{IsEquivalence}
 use Rattle.std.specs.HashMap as hash
@@ -8,8 +8,8 @@ use Rattle.std.proofs.Math.Nat.{mod-add-mod}
 use Rattle.std.proofs.lemmas.List.{map-append}
 use Rattle.fallible_contract.specs.Traces.{Answered, Run, item, end, items_in}
 use Rattle.fallible_contract.specs.Contract.{Contract, AtMost, Lawful}
-use Rattle.fallible_contract.specs.Collecting.{CollectsAll, FailsWith, RefusesItem, Collects}
-use Rattle.fallible_contract.specs.Collecting.Keyed.{FirstStays, IsHashedMapOf}
+use Rattle.fallible_contract.specs.Collecting.{CollectsAll, Collects}
+use Rattle.fallible_contract.specs.Collecting.Keyed.{FirstStays}
 use Rattle.fallible_contract.proofs.Lemmas.BoundsRuns.{items_at_most}
 use Rattle.fallible_contract.proofs.Lemmas.Contract.{number_of_at_most}
 use Rattle.fallible_contract.proofs.Lemmas.Collecting.Keyed.{hashed_map_pushed}

@@ -62,7 +62,7 @@ pub trait DoubleEndedFallibleItertools: DoubleEndedFallibleIterator {
     /// Asks that it may be drawn from, from either end.
     ///
     /// ```
-    /// assert_eq!(rt; it.nth_back(1), Ok(Some(3)));
+    /// assert_eq!(rt; it.nth_back(1), Ok(Some(4)));
     /// ```
     final fn nth_back(&mut self, n: usize) -> Result<Option<Self::Item>, Self::Error>
     where
@@ -87,7 +87,7 @@ pub trait DoubleEndedFallibleItertools: DoubleEndedFallibleIterator {
     /// Asks that it may be drawn from, from either end, and is finite, and that the predicate may be called on a reference to each item that may come from behind until it decides.
     ///
     /// ```
-    /// assert_eq!(rt; it.rfind(|x: &u32| Ok(*x < 3)), Ok(Some(2)));
+    /// assert_eq!(rt; it.rfind(at_below_three), Ok(Some(2)));
     /// ```
     final fn rfind<F>(&mut self, f: F) -> Result<Option<Self::Item>, Self::Error>
     where
@@ -122,7 +122,7 @@ pub trait DoubleEndedFallibleItertools: DoubleEndedFallibleIterator {
     /// Asks that it may be drawn from, from either end, that at most `usize::MAX` items are left, and that the predicate may be called on each item that may come from behind until it decides.
     ///
     /// ```
-    /// assert_eq!(rt; it.rposition(|x: u32| Ok(x < 3)), Ok(Some(1)));
+    /// let place = it.rposition(below_three);
     /// ```
     final fn rposition<F>(&mut self, f: F) -> Result<Option<usize>, Self::Error>
     where

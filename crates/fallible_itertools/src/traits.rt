@@ -40,7 +40,9 @@ pub trait FallibleItertools: FallibleIterator {
     /// Asks that it may be drawn from.
     ///
     /// ```
-    /// assert_eq!(rt; it.at_most_one(), Ok(Err((1, 2))));
+    /// convert(readings.into_iter())
+    ///     .filter(|reading| Ok(*reading > 100))
+    ///     .at_most_one()
     /// ```
     final fn at_most_one(
         &mut self,
@@ -75,7 +77,7 @@ pub trait FallibleItertools: FallibleIterator {
     /// It draws, fails, asks and goes on as `at_most_one` does.
     ///
     /// ```
-    /// assert_eq!(rt; it.exactly_one(), Ok(Err(NotOne::NoItem)));
+    /// it.take(10).exactly_one()
     /// ```
     final fn exactly_one(&mut self) -> Result<Result<Self::Item, NotOne<Self::Item>>, Self::Error>
     where
@@ -108,7 +110,9 @@ pub trait FallibleItertools: FallibleIterator {
     /// Asks that it may be drawn from and is finite.
     ///
     /// ```
-    /// assert_eq!(rt; it.minmax(), Ok(MinMaxResult::MinMax(1, 4)));
+    /// convert(readings.into_iter())
+    ///     .filter(|reading| Ok(*reading > 100))
+    ///     .minmax()
     /// ```
     final fn minmax(mut self) -> Result<MinMaxResult<Self::Item>, Self::Error>
     where

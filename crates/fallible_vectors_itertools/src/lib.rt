@@ -3,3 +3,6 @@
 
 #[cfg(test)]
 mod ends;
+#[cfg(test)]
+mod extremes;
+pub mod extremes_called;

@@ -1,5 +1,5 @@
 -- What `at_most_one` leaves behind the first two.
-use Rattle.std.proofs.Common.{Ok, Err, ap, ◌∙◌}
+use Rattle.std.proofs.Common.{Ok, ap, ◌∙◌}
 use Rattle.fallible_itertools.proofs.traits.FallibleItertools.exactly_one.Goals as goal
 
 pub returns-in-Ok-Err-clause-behind_two : goal.returns-in-Ok-Err-clause-behind_two

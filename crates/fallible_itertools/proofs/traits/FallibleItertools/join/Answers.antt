@@ -1,10 +1,10 @@
 -- The fold whose state is the text makes it.
-use Rattle.std.specs.Prelude.{Ok, Err, [], false}
+use Rattle.std.specs.Prelude.{Ok, Err}
 use Rattle.std.proofs.Common.{inr, refl}
 use Rattle.fallible_contract.proofs.Lemmas.Lists.Drawn.{collected_as, contents_collected, failure_collected, refused_as}
 use Rattle.fallible_itertools.specs.Joined.{JoinedAs}
 use Rattle.fallible_itertools.proofs.Shown.{joined_all, join_failed, join_refused}
-use Rattle.fallible_contract.specs.declared.collecting.Fault.TheVariants.{Source, Memory}
+use Rattle.fallible_contract.specs.declared.collecting.Fault.TheVariants.{Source}
 use Rattle.fallible_itertools.proofs.traits.FallibleItertools.join.Goals as goal
 
 pub returns-in-Ok-None-clause-collects : goal.returns-in-Ok-None-clause-collects
