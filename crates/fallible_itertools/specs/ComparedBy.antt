@@ -3,7 +3,7 @@ use Rattle.std.specs.Prelude.{◌≡◌, List, [], ◌∷◌, ◌++◌, map, tru
 use Rattle.std.specs.List.{FoldsTo}
 use Rattle.fallible_iterator.specs.Traces.{Answered, Run, Yields, item}
 use Rattle.fallible_iterator.specs.Folds.{goes_on}
-use Rattle.fallible_iterator.specs.Comparing.{where_drawn}
+use Rattle.fallible_iterator.specs.Comparing.{equal_where, read_as, reads_eq, where_drawn}
 use Rattle.fallible_iterator.specs.Lists.{on_value, unless_equal}
 use Rattle.std.specs.declared.cmp.Ordering.{Ordering}
 use Rattle.std.specs.declared.cmp.Ordering.TheVariants.{Less, Equal, Greater}
@@ -69,3 +69,11 @@ compared_by h [] (Err e ∷ b) = Err e
 compared_by h (Ok x ∷ a) [] = Ok (Some Greater)
 compared_by h (Ok x ∷ a) (Ok y ∷ b) = on_value (h x y) (λ o. unless_equal o (compared_by h a b))
 compared_by h (Ok x ∷ a) (Err e ∷ b) = Err e
+
+-- how two lists compare by the orders that h answers on two items; there is always one
+unfoldable pub ordered_by : {A B E : Type 0} → (A → B → Result Ordering E) → List (Result A E) → List (Result B E) → Result (Option Ordering) E
+ordered_by h a b = compared_by (λ x y. read_as (λ o. Some o) (h x y)) a b
+
+-- whether two lists are as long and h is true of each two items; or the failure that comes first
+unfoldable pub equal_by : {A B E : Type 0} → (A → B → Result Bool E) → List (Result A E) → List (Result B E) → Result Bool E
+equal_by h a b = read_as reads_eq (compared_by (λ x y. read_as equal_where (h x y)) a b)

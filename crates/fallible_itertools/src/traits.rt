@@ -3,12 +3,12 @@ ghost use Rattle.std.specs.Prelude.{◌≡◌, ◌-◌, ◌^◌, Bool, Option, R
 ghost use Rattle.std.specs.HashMap.{get, spare};
 ghost use Rattle.fallible_iterator.specs.Clauses.{OverBoth, OverList};
 ghost use Rattle.fallible_iterator.specs.Collecting.{Collects};
-ghost use Rattle.fallible_iterator.specs.Comparing.{OneIsFinite, equal_where, read_as, reads_eq};
+ghost use Rattle.fallible_iterator.specs.Comparing.{OneIsFinite, read_as, reads_eq};
 ghost use Rattle.fallible_iterator.specs.Folds.{call_with, goes_on, takes_with};
 ghost use Rattle.fallible_iterator.specs.Contract.{AtMost, Stays};
 ghost use Rattle.fallible_iterator.specs.Lists.{ActsWith, CollectedAs, Lists, MadeOf, behind_nth, collected};
 ghost use Rattle.std.specs.declared.cmp.Ordering.{Ordering};
-ghost use Rattle.fallible_itertools.specs.ComparedBy.{CallableInRounds, ComparedByWith, IsCmpTurn, IsEqTurn, compared_by};
+ghost use Rattle.fallible_itertools.specs.ComparedBy.{CallableInRounds, ComparedByWith, IsCmpTurn, IsEqTurn, equal_by, ordered_by};
 ghost use Rattle.fallible_itertools.specs.Counted.{IsCountsOf};
 ghost use Rattle.fallible_itertools.specs.Few.{AtMostOne, at_most_one_of, wanting_one};
 ghost use Rattle.fallible_itertools.specs.Joined.{JoinedAs};
@@ -221,8 +221,8 @@ pub trait FallibleItertools: FallibleIterator {
         ensures value { (h : Self.Item → I.Item → Result Ordering Self.Error)
             → ActsWith (call_with F.FnMut) f h
             → OverBoth Self.contract.steps self I.into_gives other
-            I.IntoFallibleIter.contract.steps (λ a b. read_as (λ o. Some o) result
-            ≡ compared_by (λ x y. read_as (λ o. Some o) (h x y)) a b) }
+            I.IntoFallibleIter.contract.steps
+            (λ a b. read_as (λ o. Some o) result ≡ ordered_by h a b) }
     {
         let answer = compare_by(self, other.into_fallible_iter(), f, &CmpTurn);
         ordered(answer)
@@ -257,8 +257,7 @@ pub trait FallibleItertools: FallibleIterator {
         ensures value { (h : Self.Item → I.Item → Result Bool Self.Error)
             → ActsWith (call_with F.FnMut) f h
             → OverBoth Self.contract.steps self I.into_gives other
-            I.IntoFallibleIter.contract.steps (λ a b. result
-            ≡ read_as reads_eq (compared_by (λ x y. read_as equal_where (h x y)) a b)) }
+            I.IntoFallibleIter.contract.steps (λ a b. result ≡ equal_by h a b) }
     {
         let answer = compare_by(self, other.into_fallible_iter(), f, &EqTurn);
         ReadEq::read(answer)

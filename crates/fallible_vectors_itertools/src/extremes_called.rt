@@ -1,18 +1,15 @@
 //! Callers of what is in `fallible_itertools` about extremes, counts, comparisons and the second end, with what they compute.
-ghost use Rattle.std.specs.Prelude.{◌≡◌, List, Result, Ok, Some, nat_eq, nat_lt, reverse};
+ghost use Rattle.std.specs.Prelude.{◌≡◌, Ok, nat_eq, nat_lt};
 ghost use Rattle.std.specs.Ordering.{nat_cmp};
-ghost use Rattle.fallible_iterator.specs.BothEnds.{ListsBothEnds};
 ghost use Rattle.fallible_iterator.specs.Clauses.{OverList};
-ghost use Rattle.fallible_iterator.specs.Comparing.{equal_where, read_as, reads_eq};
 ghost use Rattle.fallible_iterator.specs.Lists.{CollectedAs, filtered, found, nth_of, results, reversed, taken};
-ghost use Rattle.fallible_itertools.specs.ComparedBy.{compared_by};
+ghost use Rattle.fallible_itertools.specs.ComparedBy.{equal_by};
 ghost use Rattle.fallible_itertools.specs.Counted.{IsCountsOf};
 ghost use Rattle.fallible_itertools.specs.Few.{at_most_one_of, wanting_one};
-ghost use Rattle.fallible_itertools.specs.FromBehind.{last_position_in};
 ghost use Rattle.fallible_itertools.specs.MinMax.{minmaxed};
 
 use fallible_iterator::laws::law_back_convert;
-use fallible_iterator::{DoubleEndedFallibleIterator, FallibleIterator, Fault, convert};
+use fallible_iterator::{FallibleIterator, Fault, convert};
 use fallible_itertools::{DoubleEndedFallibleItertools, FallibleItertools, MinMaxResult, NotOne};
 use std::alloc::Global;
 use std::collections::HashMap;
@@ -60,21 +57,20 @@ pub fn tally(
 
 /// Whether the two have the same readings.
 pub fn same_readings(left: Vec<Result<u32, u8>>, right: Vec<Result<u16, u8>>) -> Result<bool, u8>
-    ensures { result ≡ read_as reads_eq (compared_by
-        (λ x y. read_as equal_where (Ok (nat_eq x y)))
-        (results left.items) (results right.items)) }
+    ensures { result ≡ equal_by (λ x y. Ok (nat_eq x y)) (results left.items)
+        (results right.items) }
 {
     convert(left.into_iter()).eq_by(convert(right.into_iter()), |x: u32, y: u16| {
         Ok(x == u32::from(y))
     })
 }
 
-/// The third reading from behind.
-pub fn third_last(readings: Vec<Result<u32, u8>>) -> Result<Option<u32>, u8>
-    ensures { result ≡ nth_of 2 (reversed (results readings.items)) }
+/// The reading with n readings behind it.
+pub fn nth_last(readings: Vec<Result<u32, u8>>, n: usize) -> Result<Option<u32>, u8>
+    ensures { result ≡ nth_of n (reversed (results readings.items)) }
 {
     law_back_convert::<u32, u8, std::vec::IntoIter<Result<u32, u8>, Global>>();
-    convert(readings.into_iter()).nth_back(2)
+    convert(readings.into_iter()).nth_back(n)
 }
 
 /// The last reading above 100.

@@ -1,6 +1,7 @@
 -- The loop of rounds by the closure's orders is the comparison, which finds an order.
 use Rattle.fallible_contract.specs.Folds.{call_with}
 use Rattle.fallible_contract.proofs.Lemmas.Comparing.{end_of_either}
+use Rattle.fallible_itertools.specs.ComparedBy.{ordered_by}
 use Rattle.fallible_itertools.proofs.Rounds.{always_ordered, cmp_acts, compared_by_is}
 use Rattle.fallible_itertools.proofs.traits.FallibleItertools.cmp_by.Goals as goal
 
@@ -20,4 +21,5 @@ pub returns-clause-compared : goal.returns-clause-compared
 returns-clause-compared g c = rw c.ordered.ensures (record { right = _; made = c.into_fallible_iter.ensures; compared = c.compare_by-answer.ensures })
 
 pub returns-clause-value : goal.returns-clause-value
+unfolding ordered_by
 returns-clause-value g c h acts a b i j = compared_by_is _ (cmp_acts (call_with g.F.FnMut) h acts) a b (returns-clause-compared g c) i j

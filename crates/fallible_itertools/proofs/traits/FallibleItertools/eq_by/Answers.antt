@@ -3,6 +3,7 @@ use Rattle.fallible_contract.specs.Comparing.{read_as, reads_eq}
 use Rattle.fallible_contract.specs.Folds.{call_with}
 use Rattle.fallible_contract.proofs.Lemmas.Comparing.{end_of_either}
 use Rattle.std.proofs.Common.{ap, ◌∙◌}
+use Rattle.fallible_itertools.specs.ComparedBy.{equal_by}
 use Rattle.fallible_itertools.proofs.Rounds.{eq_acts, compared_by_is}
 use Rattle.fallible_itertools.proofs.traits.FallibleItertools.eq_by.Goals as goal
 
@@ -19,4 +20,5 @@ pub returns-clause-compared : goal.returns-clause-compared
 returns-clause-compared g c = (_, record { right = _; made = c.into_fallible_iter.ensures; compared = c.compare_by-answer.ensures }, c.read.ensures)
 
 pub returns-clause-value : goal.returns-clause-value
+unfolding equal_by
 returns-clause-value g c h acts a b i j = let w = returns-clause-compared g c in w.2 ∙ ap (read_as reads_eq) (compared_by_is _ (eq_acts (call_with g.F.FnMut) h acts) a b w.1 i j)
