@@ -3,7 +3,6 @@ ghost use Rattle.std.specs.Prelude.{◌≡◌, Ok, nat_eq, nat_lt};
 ghost use Rattle.std.specs.Ordering.{nat_cmp};
 ghost use Rattle.fallible_iterator.specs.Clauses.{OverList};
 ghost use Rattle.fallible_iterator.specs.Lists.{CollectedAs, filtered, found, nth_of, results, reversed, taken};
-ghost use Rattle.fallible_itertools.specs.ComparedBy.{equal_by};
 ghost use Rattle.fallible_itertools.specs.Counted.{IsCountsOf};
 ghost use Rattle.fallible_itertools.specs.Few.{at_most_one_of, wanting_one};
 ghost use Rattle.fallible_itertools.specs.MinMax.{minmaxed};
@@ -53,16 +52,6 @@ pub fn tally(
     ensures { CollectedAs (IsCountsOf nat_eq) (results readings.items) result }
 {
     convert(readings.into_iter()).counts(alloc)
-}
-
-/// Whether the two have the same readings.
-pub fn same_readings(left: Vec<Result<u32, u8>>, right: Vec<Result<u16, u8>>) -> Result<bool, u8>
-    ensures { result ≡ equal_by (λ x y. Ok (nat_eq x y)) (results left.items)
-        (results right.items) }
-{
-    convert(left.into_iter()).eq_by(convert(right.into_iter()), |x: u32, y: u16| {
-        Ok(x == u32::from(y))
-    })
 }
 
 /// The reading with n readings behind it.
