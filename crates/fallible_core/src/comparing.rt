@@ -5,6 +5,7 @@ ghost use Rattle.fallible_contract.specs.Comparing.{Compared, OneIsFinite, ReadW
 ghost use Rattle.fallible_contract.specs.Lists.{compared};
 
 use crate::joining::Zip;
+use crate::number::Number;
 use crate::traits::FallibleIterator;
 use crate::traits::conversion::IntoFallibleIterator;
 use fallible_contract::comparing::{Reading, Rule, decide};
@@ -38,6 +39,24 @@ where
             None => count = count.one_less(),
         }
     }
+}
+
+/// The two, and a bound of one of them, for a loop of rounds of one's own to count down by.
+pub fn number_of_either<L, R>(left: L, right: R) -> (L, R, Number)
+where
+    L: FallibleIterator,
+    L::Item: Drop,
+    R: FallibleIterator<Error = L::Error>,
+    R::Item: Drop,
+    requires { L.contract.is_finite left ⊎ R.contract.is_finite right }
+    ensures left { result.0 ≡ left }
+    ensures right { result.1 ≡ right }
+    ensures number { L.contract.bound left result.2.value ⊎ R.contract.bound right result.2.value }
+{
+    let both = Zip { left, right };
+    let number = both.number();
+    let Zip { left, right } = both;
+    (left, right, number)
 }
 
 /// Compares what the other value becomes with the iterator, by the rule, and reads the answer.

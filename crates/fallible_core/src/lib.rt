@@ -2,7 +2,7 @@
 #![tactic(auto)]
 
 pub mod bridges;
-mod comparing;
+pub mod comparing;
 pub mod cutting;
 pub mod ends;
 pub mod filtering;

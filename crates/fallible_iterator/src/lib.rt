@@ -4,6 +4,7 @@
 #![tactic(auto)]
 
 pub mod adapting;
+pub mod consuming;
 pub mod conversion;
 pub mod laws;
 pub mod prelude;

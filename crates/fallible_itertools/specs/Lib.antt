@@ -1,12 +1,18 @@
 -- What the clauses of `src/` cite, and in `Laws` what follows from it: lemmas that the ghost members cite.
 pub mod Coalesce
+pub mod ComparedBy
 pub mod Converting
 pub mod Copied
+pub mod Counted
 pub mod Dedup
 pub mod DedupByKey
+pub mod Few
+pub mod FromBehind
 pub mod Holding
+pub mod Joined
 pub mod Laws
 pub mod MergeBy
+pub mod MinMax
 pub mod PeekingTakeWhile
 pub mod Sides
 pub mod Sorting

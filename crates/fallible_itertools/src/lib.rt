@@ -4,13 +4,19 @@
 #![tactic(auto)]
 
 pub mod coalesce;
+pub mod compared;
 mod converting;
 pub mod copied;
+pub mod counted;
 pub mod dedup;
 pub mod dedup_by_key;
+pub mod double_ended;
+pub mod few;
 pub mod holding;
+pub mod joined;
 pub mod laws;
 pub mod merge_by;
+pub mod minmax;
 pub mod peeking_take_while;
 mod sides;
 mod sorting;
@@ -25,7 +31,10 @@ pub use coalesce::Coalesce;
 pub use copied::Copied;
 pub use dedup::Dedup;
 pub use dedup_by_key::DedupByKey;
+pub use double_ended::DoubleEndedFallibleItertools;
+pub use few::NotOne;
 pub use merge_by::MergeBy;
+pub use minmax::MinMaxResult;
 pub use peeking_take_while::{PeekingNext, PeekingTakeWhile};
 pub use stopping::FoldWhile;
 pub use take_while_inclusive::TakeWhileInclusive;

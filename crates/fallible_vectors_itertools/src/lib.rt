@@ -1,6 +1,11 @@
 //! Vectors: the calls of `fallible_itertools` on small inputs, with answers that come from outside, and callers that state what they compute.
 #![tactic(auto)]
 
+#[cfg(test)]
+mod ends;
+#[cfg(test)]
+mod extremes;
+pub mod extremes_called;
 pub mod holding;
 #[cfg(test)]
 mod holding_rows;

@@ -49,7 +49,7 @@ module _ {S A E : Type 0} {front back : S → Answered A E → S → Type 0} {s 
 -- ---- what a call from the front leaves: its draws are seen as draws of the list itself
 
 module _ {A E : Type 0} where
-  abbrev draws_list : List (Result A E) → Answered A E → List (Result A E) → Type 0
+  abbrev pub draws_list : List (Result A E) → Answered A E → List (Result A E) → Type 0
   draws_list l r k = TakesFirst (λ j. j ≡ k) r l
 
   gives_itself : (l : List (Result A E)) → AlwaysGives draws_list l l
@@ -76,7 +76,7 @@ module _ {S A E : Type 0} (front back : S → Answered A E → S → Type 0) whe
   one_drawn r t [] w = ([], (w.0, refl), w.1)
   one_drawn r t (y ∷ l) w = (l, (w.0, refl), w.1)
 
-  all_drawn : (trace : List (Answered A E)) (s t : S) (l : List (Result A E)) → ListsBothEnds front back s l → Run front s trace t → (k : List (Result A E)) × Run draws_list l trace k × ListsBothEnds front back t k
+  pub all_drawn : (trace : List (Answered A E)) (s t : S) (l : List (Result A E)) → ListsBothEnds front back s l → Run front s trace t → (k : List (Result A E)) × Run draws_list l trace k × ListsBothEnds front back t k
   all_drawn [] s t l i ran = (l, refl, subst (λ (u : S). ListsBothEnds front back u l) ran i)
   all_drawn (r ∷ trace) s t l i ran = let d = one_drawn r ran.0 l (takes_front i ran.1) in let others = all_drawn trace ran.0 t d.0 d.2 ran.2 in (others.0, (d.0, d.1, others.1), others.2)
 

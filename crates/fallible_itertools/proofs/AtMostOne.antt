@@ -1,0 +1,62 @@
+-- At most one item, by one draw or two.
+use Rattle.std.specs.Prelude.{◌≡◌, length, List, [], ◌∷◌, ◌++◌, map, Option, Some, None, Result, Ok, Err}
+use Rattle.std.proofs.Common.{refl, sym, ap, ◌∙◌, arith}
+use Rattle.fallible_contract.specs.Traces.{Answered, item}
+use Rattle.fallible_contract.specs.Folds.{Nth, NthExit}
+use Rattle.fallible_contract.specs.Lists.{Lists, behind_nth}
+use Rattle.fallible_contract.proofs.Lemmas.Folds.{drained_last}
+use Rattle.fallible_contract.proofs.Lemmas.Lists.Behind.{behind_nth_is}
+use Rattle.fallible_contract.proofs.Lemmas.Lists.Drawn.{LeftAt, drawn}
+use Rattle.fallible_itertools.specs.Few.{AtMostOneExit, AtMostOne, at_most_one_of}
+
+module _ {S A E : Type 0} {steps : S → Answered A E → S → Type 0} {s t : S} where
+  -- the first draw decides
+  pub one_draw : {r : Result (Result (Option A) (A × A)) E} (last : Answered A E) → steps s last t → AtMostOneExit [] last r → AtMostOne steps s r t
+  one_draw last step exit = drained_last last step (record { exit = exit })
+
+  -- the second does
+  pub two_draws : (u : S) {r : Result (Result (Option A) (A × A)) E} (x : A) (last : Answered A E) → steps s (item x) u → steps u last t → AtMostOneExit (x ∷ []) last r → AtMostOne steps s r t
+  two_draws u x last first second exit = record { items = x ∷ []; last = last; ran = (u, first, (t, second, refl)); at = record { exit = exit } }
+
+-- ---- over a list
+
+module _ {A E : Type 0} where
+  by_list : (items : List A) (last : Answered A E) (r : Result (Result (Option A) (A × A)) E) (rest : List (Result A E)) → LeftAt last rest → AtMostOneExit items last r → r ≡ at_most_one_of (map (λ x. Ok x) items ++ rest)
+  unfolding at_most_one_of
+  by_list [] (Ok None) r rest left exit = exit ∙ sym (ap at_most_one_of left)
+  by_list [] (Ok (Some x)) r rest left exit = absurd exit
+  by_list [] (Err e) r rest left exit = exit ∙ sym (ap at_most_one_of left.1)
+  by_list (x ∷ []) (Ok None) r rest left exit = exit ∙ sym (ap (λ (l : List (Result A E)). at_most_one_of (Ok x ∷ l)) left)
+  by_list (x ∷ []) (Ok (Some y)) r rest left exit = exit ∙ sym (ap (λ (l : List (Result A E)). at_most_one_of (Ok x ∷ l)) left.1)
+  by_list (x ∷ []) (Err e) r rest left exit = exit ∙ sym (ap (λ (l : List (Result A E)). at_most_one_of (Ok x ∷ l)) left.1)
+  by_list (x ∷ y ∷ items) last r rest left exit = absurd exit
+
+  -- the last answer, where it is no end, is the one that `nth(1)` would have
+  second_or_failure : (items : List A) (last : Answered A E) (r : Result (Result (Option A) (A × A)) E) → ¬ (last ≡ Ok None) → AtMostOneExit items last r → NthExit {A = A} {E = E} 1 (length items) last
+  second_or_failure [] (Ok None) r no_end exit = absurd (no_end refl)
+  second_or_failure [] (Ok (Some x)) r no_end exit = absurd exit
+  second_or_failure [] (Err e) r no_end exit = omega arith
+  second_or_failure (x ∷ []) (Ok None) r no_end exit = absurd (no_end refl)
+  second_or_failure (x ∷ []) (Ok (Some y)) r no_end exit = omega arith
+  second_or_failure (x ∷ []) (Err e) r no_end exit = omega arith
+  second_or_failure (x ∷ y ∷ items) last r no_end exit = absurd exit
+
+  no_end_drawn : (items : List A) (last : Answered A E) (r : Result (Result (Option A) (A × A)) E) → ((o : Option A) → ¬ (r ≡ Ok (Ok o))) → AtMostOneExit items last r → ¬ (last ≡ Ok None)
+  no_end_drawn [] (Ok None) r other exit is = other None exit
+  no_end_drawn [] (Ok (Some x)) r other exit is = exit
+  no_end_drawn [] (Err e) r other exit is = cc
+  no_end_drawn (x ∷ []) (Ok None) r other exit is = other (Some x) exit
+  no_end_drawn (x ∷ []) (Ok (Some y)) r other exit is = cc
+  no_end_drawn (x ∷ []) (Err e) r other exit is = cc
+  no_end_drawn (x ∷ y ∷ items) last r other exit is = exit
+
+module _ {S A E : Type 0} {steps : S → Answered A E → S → Type 0} {s t : S} where
+  pub at_most_one_is : {r : Result (Result (Option A) (A × A)) E} (l : List (Result A E)) → AtMostOne steps s r t → Lists steps s l → r ≡ at_most_one_of l
+  at_most_one_is {r = r} l c i = let d = drawn steps c.items c.last l s t i.runs c.ran in by_list c.items c.last r d.rest d.left c.at.exit ∙ sym (ap at_most_one_of d.list_is)
+
+  -- and so is what it leaves
+  pub left_of_few : {r : Result (Result (Option A) (A × A)) E} (l : List (Result A E)) → AtMostOne steps s r t → Lists steps s l → ((o : Option A) → ¬ (r ≡ Ok (Ok o))) → Lists steps t (behind_nth 1 l)
+  left_of_few {r = r} l c i other =
+      let no_end = no_end_drawn c.items c.last r other c.at.exit in
+      let c' : Nth steps s 1 c.last t = record { items = c.items; last = c.last; ran = c.ran; at = record { is = refl; exit = second_or_failure c.items c.last r no_end c.at.exit } } in
+      behind_nth_is l c' i no_end

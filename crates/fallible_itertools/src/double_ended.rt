@@ -1,0 +1,150 @@
+//! The trait that every fallible iterator with two ends has besides.
+ghost use Rattle.std.specs.Prelude.{◌≡◌, ◌-◌, ◌^◌, Bool, List, Option, Result, None, reverse};
+ghost use Rattle.fallible_iterator.specs.BothEnds.{ListsBothEnds};
+ghost use Rattle.fallible_iterator.specs.Clauses.{OverList, OverListWith};
+ghost use Rattle.fallible_iterator.specs.Closures.{call_on, takes_on, call_at, takes_at};
+ghost use Rattle.fallible_iterator.specs.Contract.{AtMost, KeptByDraws, Stays};
+ghost use Rattle.fallible_iterator.specs.Ends.{from_front, from_back};
+ghost use Rattle.fallible_iterator.specs.Folds.{Nth};
+ghost use Rattle.fallible_iterator.specs.Lists.{Acts, behind_nth, behind_true, found, nth_of};
+ghost use Rattle.fallible_iterator.specs.Searching.{CallableInSearch, Searched, any_pick, find_pick};
+ghost use Rattle.fallible_itertools.specs.FromBehind.{CountedWhere, PlacedFromBehind, last_position_in, left_of_position};
+
+use fallible_iterator::consuming::{AnyTurn, CountTurn, FindTest, FindTurn, answer_or, found};
+use fallible_iterator::{DoubleEndedFallibleIterator, FallibleIterator};
+
+// Passes over n items from behind, and draws one more answer.
+fn nth_from_behind<I>(it: &mut I, n: usize) -> Result<Option<I::Item>, I::Error>
+where
+    I: DoubleEndedFallibleIterator,
+    I::Item: Drop,
+    requires { I.ends.can_next it.old }
+    ensures { Nth I.ends.steps it.old n result it.new }
+{
+    let mut left = n;
+    while 0 < left {
+        match it.next_back() {
+            Ok(Some(_)) => {}
+            Ok(None) => return Ok(None),
+            Err(e) => return Err(e),
+        }
+        left -= 1;
+    }
+    it.next_back()
+}
+
+// Counts what is left, where an item was found.
+fn counted_where<I>(it: &mut I, found: Result<bool, I::Error>) -> Result<Option<usize>, I::Error>
+where
+    I: FallibleIterator,
+    I::Item: Drop,
+    requires can_next { I.contract.can_next it.old }
+    requires fits { AtMost I.contract it.old (2 ^ 64 - 1) }
+    ensures { CountedWhere I.contract.steps found it.old result it.new }
+{
+    if !found? {
+        return Ok(None);
+    }
+    let mut number = 0;
+    match it.drive(&mut number, &CountTurn) {
+        Ok(None) => Ok(Some(number)),
+        Ok(Some(never)) => match never {},
+        Err(e) => Err(e),
+    }
+}
+
+/// More calls on every fallible iterator with two ends.
+pub trait DoubleEndedFallibleItertools: DoubleEndedFallibleIterator {
+    /// The item with n items behind it; none where an end comes first.
+    ///
+    /// It draws at most n + 1 answers from behind: up to that item, or a failure or an end that comes first. It fails with that failure. Nothing is drawn after the answer, and what is left may be drawn from again, from either end.
+    ///
+    /// Asks that it may be drawn from, from either end.
+    ///
+    /// ```
+    /// assert_eq!(rt; it.nth_back(1), Ok(Some(4)));
+    /// ```
+    final fn nth_back(&mut self, n: usize) -> Result<Option<Self::Item>, Self::Error>
+    where
+        Self::Item: Drop,
+        requires { Self.ends.can_next self.old }
+        ensures nth { Nth Self.ends.steps self.old n result self.new }
+        ensures value { OverList Self.ends.steps self.old (λ l. result ≡ nth_of n l) }
+        ensures rest { (l : List (Result Self.Item Self.Error))
+            → ListsBothEnds Self.contract.steps Self.ends.steps self.old l
+            → (result ≡ nth_of n (reverse l))
+            × ListsBothEnds Self.contract.steps Self.ends.steps self.new
+            (reverse (behind_nth n (reverse l))) }
+        ensures stays { Stays (from_back Self.contract Self.ends) self.old self.new }
+    {
+        nth_from_behind(self, n)
+    }
+
+    /// The last item for which the predicate is true; none where no such item comes before the end from behind.
+    ///
+    /// It draws from behind up to the first item on which the predicate answers true or fails, the first failure or the end, and calls the predicate on each item drawn, the last one first. It fails with the failure that comes first, of this iterator or of the predicate. Nothing is drawn after the answer that decides, and what is left may be drawn from again, from either end.
+    ///
+    /// Asks that it may be drawn from, from either end, and is finite, and that the predicate may be called on a reference to each item that may come from behind until it decides.
+    ///
+    /// ```
+    /// assert_eq!(rt; it.rfind(at_below_three), Ok(Some(2)));
+    /// ```
+    final fn rfind<F>(&mut self, f: F) -> Result<Option<Self::Item>, Self::Error>
+    where
+        Self::Item: Drop,
+        F: FnMut(&Self::Item) -> Result<bool, Self::Error>,
+        requires can_next { Self.ends.can_next self.old }
+        requires finite { Self.contract.is_finite self.old }
+        requires callable { CallableInSearch (call_at F.FnMut) find_pick Self.ends.steps
+            (takes_at F.FnMut) self.old f }
+        ensures searched { (g : F) × Searched (call_at F.FnMut) find_pick Self.ends.steps None
+            self.old f result self.new g }
+        ensures value { OverListWith (Acts (call_at F.FnMut) f) Self.ends.steps self.old
+            (λ h l. result ≡ found h l) }
+        ensures rest { (h : Self.Item → Result Bool Self.Error)
+            (l : List (Result Self.Item Self.Error)) → Acts (call_at F.FnMut) f h
+            → ListsBothEnds Self.contract.steps Self.ends.steps self.old l
+            → (result ≡ found h (reverse l))
+            × ListsBothEnds Self.contract.steps Self.ends.steps self.new
+            (reverse (behind_true h (reverse l))) }
+        ensures stays { Stays (from_back Self.contract Self.ends) self.old self.new }
+    {
+        let mut f = f;
+        found(self.drive_back(&mut f, &FindTurn { test: &FindTest }))
+    }
+
+    /// How many items come before the last one on which the predicate answers true; none where no such item comes before the end from behind.
+    ///
+    /// It draws from behind up to the first item on which the predicate answers true or fails, the first failure or the end. Where the predicate answered true, it then draws from the front, up to the end or the first failure, and counts: a fallible iterator doesn't say how many items stand before that one. So nothing is left where it finds one, unlike std's.
+    ///
+    /// It fails with the failure that comes first: from behind one of this iterator or of the predicate, and then one of this iterator from the front. What is left may be drawn from again, from either end.
+    ///
+    /// Asks that it may be drawn from, from either end, that at most `usize::MAX` items are left, and that the predicate may be called on each item that may come from behind until it decides.
+    ///
+    /// ```
+    /// let place = it.rposition(below_three);
+    /// ```
+    final fn rposition<F>(&mut self, f: F) -> Result<Option<usize>, Self::Error>
+    where
+        Self::Item: Drop,
+        F: FnMut(Self::Item) -> Result<bool, Self::Error>,
+        requires can_next { Self.ends.can_next self.old }
+        requires fits { AtMost Self.contract self.old (2 ^ 64 - 1) }
+        requires callable { CallableInSearch (call_on F.FnMut) any_pick Self.ends.steps
+            (takes_on F.FnMut) self.old f }
+        ensures placed { PlacedFromBehind Self.contract.steps Self.ends.steps (call_on F.FnMut)
+            self.old f result self.new }
+        ensures rest { (h : Self.Item → Result Bool Self.Error)
+            (l : List (Result Self.Item Self.Error)) → Acts (call_on F.FnMut) f h
+            → ListsBothEnds Self.contract.steps Self.ends.steps self.old l
+            → (result ≡ last_position_in h l)
+            × ListsBothEnds Self.contract.steps Self.ends.steps self.new (left_of_position h l) }
+        ensures kept { KeptByDraws (from_front Self.contract Self.ends) self.old self.new }
+    {
+        let mut f = f;
+        let found = answer_or(self.drive_back(&mut f, &AnyTurn), false);
+        counted_where(self, found)
+    }
+}
+
+impl<I: DoubleEndedFallibleIterator> DoubleEndedFallibleItertools for I {}

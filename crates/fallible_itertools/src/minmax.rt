@@ -1,0 +1,63 @@
+//! The least and the greatest item in one pass.
+ghost use Rattle.std.specs.Prelude.{◌≡◌, ⊤};
+ghost use Rattle.fallible_itertools.specs.MinMax.{with_item};
+ghost use Rattle.std.specs.declared.ops.ControlFlow.TheVariants.{Continue};
+
+use fallible_iterator::Turn;
+use std::convert::Infallible;
+use std::mem::replace;
+use std::ops::ControlFlow;
+
+/// What `minmax` finds.
+#[derive(Clone, Copy, Debug, PartialEq, Eq, Drop)]
+pub enum MinMaxResult<T> {
+    /// no item came
+    NoElements,
+    /// one item came
+    OneElement(T),
+    /// the least item and the greatest
+    MinMax(T, T),
+}
+
+/// The least and the greatest after one more item: the first of equal least ones, and the last of equal greatest ones.
+pub fn widened<A: Ord + Drop>(so_far: MinMaxResult<A>, item: A) -> MinMaxResult<A>
+    ensures { result ≡ with_item A.cmp so_far item }
+{
+    match so_far {
+        MinMaxResult::NoElements => MinMaxResult::OneElement(item),
+        MinMaxResult::OneElement(only) => {
+            if only.cmp(&item).is_gt() {
+                MinMaxResult::MinMax(item, only)
+            } else {
+                MinMaxResult::MinMax(only, item)
+            }
+        }
+        MinMaxResult::MinMax(least, greatest) => {
+            if least.cmp(&item).is_gt() {
+                MinMaxResult::MinMax(item, greatest)
+            } else if greatest.cmp(&item).is_gt() {
+                MinMaxResult::MinMax(least, greatest)
+            } else {
+                MinMaxResult::MinMax(least, item)
+            }
+        }
+    }
+}
+
+/// The turn of `minmax`, whose state is the least and the greatest item so far.
+#[derive(Drop)]
+pub struct MinMaxTurn;
+
+impl<A: Ord + Drop> Turn<MinMaxResult<A>, A, Infallible> for MinMaxTurn {
+    ghost can_turn = { λ _ _ _. ⊤ };
+
+    ghost turns = { λ _ c x r d. (r ≡ Continue tt) × (d ≡ with_item A.cmp c x) };
+
+    /// The item beside those that are kept.
+    #[inline(always)]
+    fn turn(&self, state: &mut MinMaxResult<A>, item: A) -> ControlFlow<Infallible, ()> {
+        let so_far = replace(state, MinMaxResult::NoElements);
+        *state = widened(so_far, item);
+        ControlFlow::Continue(())
+    }
+}
