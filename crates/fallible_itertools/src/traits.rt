@@ -4,7 +4,6 @@ ghost use Rattle.std.specs.Prelude.{◌≡◌};
 use fallible_iterator::FallibleIterator;
 
 /// More calls on every fallible iterator.
-pub trait FallibleItertools: FallibleIterator {
-}
+pub trait FallibleItertools: FallibleIterator {}
 
 impl<I: FallibleIterator> FallibleItertools for I {}

@@ -3,25 +3,25 @@ use Rattle.std.specs.Prelude.{◌≡◌, Result, Some, None, Ok, Err, List, [], 
 use Rattle.std.proofs.Common.{refl, sym, ap, subst, ◌∙◌}
 use Rattle.fallible_contract.specs.Traces.{Answered, Run, item}
 use Rattle.fallible_contract.specs.Folds.{FoldExit, Folded}
-use Rattle.fallible_contract.specs.Lists.{ActsWith, nth_of, behind_first, behind_fold}
+use Rattle.fallible_contract.specs.Lists.{ActsWith, nth_of, rest_first, rest_fold}
 use Rattle.fallible_contract.specs.BothEnds.{TakesFirst, ListsBothEnds}
 use Rattle.fallible_contract.proofs.Lemmas.BothEnds.{takes_front, listed_swapped}
-use Rattle.fallible_contract.proofs.Lemmas.Lists.Behind.{front_fold, item_fold}
+use Rattle.fallible_contract.proofs.Lemmas.Lists.Rest.{front_fold, item_fold}
 
 -- ---- one draw
 
-took_first : {A E : Type 0} (P : List (Result A E) → Type 0) (r : Answered A E) (l : List (Result A E)) → TakesFirst P r l → (r ≡ nth_of 0 l) × P (behind_first l)
-unfolding nth_of behind_first
+took_first : {A E : Type 0} (P : List (Result A E) → Type 0) (r : Answered A E) (l : List (Result A E)) → TakesFirst P r l → (r ≡ nth_of 0 l) × P (rest_first l)
+unfolding nth_of rest_first
 took_first P r [] w = w
 took_first P r (Ok x ∷ l) w = w
 took_first P r (Err e ∷ l) w = w
 
 module _ {S A E : Type 0} {front back : S → Answered A E → S → Type 0} {s t : S} {r : Answered A E} (l : List (Result A E)) where
-  pub left_in_front : ListsBothEnds front back s l → front s r t → (r ≡ nth_of 0 l) × ListsBothEnds front back t (behind_first l)
-  left_in_front i step = took_first (λ k. ListsBothEnds front back t k) r l (takes_front i step)
+  pub left_at_front : ListsBothEnds front back s l → front s r t → (r ≡ nth_of 0 l) × ListsBothEnds front back t (rest_first l)
+  left_at_front i step = took_first (λ k. ListsBothEnds front back t k) r l (takes_front i step)
 
-  pub left_behind : ListsBothEnds front back s l → back s r t → (r ≡ nth_of 0 (reverse l)) × ListsBothEnds front back t (reverse (behind_first (reverse l)))
-  left_behind i step = let d = took_first (λ k. ListsBothEnds back front t k) r (reverse l) (takes_front (listed_swapped i) step) in (d.0, listed_swapped d.1)
+  pub left_at_back : ListsBothEnds front back s l → back s r t → (r ≡ nth_of 0 (reverse l)) × ListsBothEnds front back t (reverse (rest_first (reverse l)))
+  left_at_back i step = let d = took_first (λ k. ListsBothEnds back front t k) r (reverse l) (takes_front (listed_swapped i) step) in (d.0, listed_swapped d.1)
 
 -- ---- a fold
 
@@ -40,8 +40,8 @@ module _ {S A E : Type 0} (front back : S → Answered A E → S → Type 0) whe
       record { rest = d.rest; list_is = (let same : y ≡ x = (let q = h.0 in cc) in let is = d.list_is in cc); taken = d.taken }
 
   module _ {F B E' : Type 0} (call : F → B → A → Result B E' → F → Type 0) (from : E → E' → Type 0) (h : B → A → Result B E') (f : F) (acts : ActsWith call f h) where
-    fold_left : (last : Answered A E) (v : B) (r : Result B E') (rest : List (Result A E)) (t : S) → FoldExit call from v f last r → TakesFirst (λ k. ListsBothEnds front back t k) last rest → ListsBothEnds front back t (behind_fold h v rest)
-    unfolding behind_fold
+    fold_left : (last : Answered A E) (v : B) (r : Result B E') (rest : List (Result A E)) (t : S) → FoldExit call from v f last r → TakesFirst (λ k. ListsBothEnds front back t k) last rest → ListsBothEnds front back t (rest_fold h v rest)
+    unfolding rest_fold
     fold_left (Ok None) v r [] t exit taken = taken.1
     fold_left (Ok (Some x)) v r [] t exit taken = absurd (let q = taken.0 in cc)
     fold_left (Err e) v r [] t exit taken = absurd (let q = taken.0 in cc)
@@ -50,14 +50,14 @@ module _ {S A E : Type 0} (front back : S → Answered A E → S → Type 0) whe
     fold_left (Err e) v r (Ok y ∷ l) t exit taken = absurd (let q = taken.0 in cc)
     fold_left (Err e) v r (Err y ∷ l) t exit taken = taken.1
     fold_left (Ok (Some x)) v r (Err y ∷ l) t exit taken = absurd (let q = taken.0 in cc)
-    fold_left (Ok (Some x)) v r (Ok y ∷ l) t exit taken = let same : y ≡ x = (let q = taken.0 in cc) in subst (λ (k : List (Result A E)). ListsBothEnds front back t k) (sym (ap (λ (z : A). behind_fold h v (Ok z ∷ l)) same ∙ item_fold call from h f acts v x exit.1 exit.0 l exit.2)) taken.1
+    fold_left (Ok (Some x)) v r (Ok y ∷ l) t exit taken = let same : y ≡ x = (let q = taken.0 in cc) in subst (λ (k : List (Result A E)). ListsBothEnds front back t k) (sym (ap (λ (z : A). rest_fold h v (Ok z ∷ l)) same ∙ item_fold call from h f acts v x exit.1 exit.0 l exit.2)) taken.1
 
-    pub fold_left_in_front : {s t : S} {b : B} {r : Result B E'} (l : List (Result A E)) → Folded front call from s b f r t → ListsBothEnds front back s l → ListsBothEnds front back t (behind_fold h b l)
-    fold_left_in_front {s = s} {t = t} {b = b} {r = r} l c i =
+    pub fold_left_at_front : {s t : S} {b : B} {r : Result B E'} (l : List (Result A E)) → Folded front call from s b f r t → ListsBothEnds front back s l → ListsBothEnds front back t (rest_fold h b l)
+    fold_left_at_front {s = s} {t = t} {b = b} {r = r} l c i =
         let d = left_at_last c.items c.last l s t i c.ran in
         let p = front_fold call from h f acts c.items d.rest b c.at.value c.at.closure c.at.went in
-        subst (λ (k : List (Result A E)). ListsBothEnds front back t k) (sym (ap (behind_fold h b) d.list_is ∙ p.1)) (fold_left c.last c.at.value r d.rest t (subst (λ (g : F). FoldExit call from c.at.value g c.last r) p.0 c.at.exit) d.taken)
+        subst (λ (k : List (Result A E)). ListsBothEnds front back t k) (sym (ap (rest_fold h b) d.list_is ∙ p.1)) (fold_left c.last c.at.value r d.rest t (subst (λ (g : F). FoldExit call from c.at.value g c.last r) p.0 c.at.exit) d.taken)
 
--- the same from behind
-pub fold_left_behind : {S A E F B E' : Type 0} (front back : S → Answered A E → S → Type 0) (call : F → B → A → Result B E' → F → Type 0) (from : E → E' → Type 0) (h : B → A → Result B E') (f : F) → ActsWith call f h → {s t : S} {b : B} {r : Result B E'} (l : List (Result A E)) → Folded back call from s b f r t → ListsBothEnds front back s l → ListsBothEnds front back t (reverse (behind_fold h b (reverse l)))
-fold_left_behind front back call from h f acts l c i = listed_swapped (fold_left_in_front back front call from h f acts (reverse l) c (listed_swapped i))
+-- the same from the back
+pub fold_left_at_back : {S A E F B E' : Type 0} (front back : S → Answered A E → S → Type 0) (call : F → B → A → Result B E' → F → Type 0) (from : E → E' → Type 0) (h : B → A → Result B E') (f : F) → ActsWith call f h → {s t : S} {b : B} {r : Result B E'} (l : List (Result A E)) → Folded back call from s b f r t → ListsBothEnds front back s l → ListsBothEnds front back t (reverse (rest_fold h b (reverse l)))
+fold_left_at_back front back call from h f acts l c i = listed_swapped (fold_left_at_front back front call from h f acts (reverse l) c (listed_swapped i))
