@@ -19,8 +19,8 @@ use Rattle.fallible_iterator.proofs.Lemmas.Lent.{last_is_end}
 use Rattle.fallible_core.specs.declared.cutting.take_while.TakeWhile.{TakeWhile}
 
 module _ {S F X E : Type 0} (steps : S → Answered X E → S → Type 0) (call : F → X → Result Bool E → F → Type 0) (f : F) (h : X → Result Bool E) (acts : Acts call f h) where
-  abbrev until_refused : (S × F) × Bool → Answered X E → (S × F) × Bool → Type 0
-  until_refused = closing_step (place_drawn steps call) taken_answer is_refused
+  abbrev step_until_refused : (S × F) × Bool → Answered X E → (S × F) × Bool → Type 0
+  step_until_refused = closing_step (place_drawn steps call) taken_answer is_refused
 
   -- what the search goes on over, and what it decides
   all_of_rest : (n : ℕ) (x : X) (l : List (Result X E)) → h x ≡ Ok true → searched all_pick true h n (Ok x ∷ l) ≡ Ok false → searched all_pick true h (n + 1) l ≡ Ok false
@@ -68,7 +68,7 @@ module _ {S F X E : Type 0} (steps : S → Answered X E → S → Type 0) (call 
   kept end_at y s t j g at d is = absurd cc
 
   -- items that are kept, and then the end
-  left_at_end : (xs : List X) (n : ℕ) (l : List (Result X E)) (s t : S) (j g : F) (b : Bool) → j ≡ f → AlwaysGives steps s l → Run until_refused ((s, j), false) (map item xs ++ end ∷ []) ((t, g), b) → searched all_pick true h n l ≡ Ok false → AlwaysGives steps t (rest_stop not h l)
+  left_at_end : (xs : List X) (n : ℕ) (l : List (Result X E)) (s t : S) (j g : F) (b : Bool) → j ≡ f → AlwaysGives steps s l → Run step_until_refused ((s, j), false) (map item xs ++ end ∷ []) ((t, g), b) → searched all_pick true h n l ≡ Ok false → AlwaysGives steps t (rest_stop not h l)
   left_at_end [] n l s t j g b at a ran found = let w = ran.1 in at_end w.0 n l s t j g at a (subst (λ (p : S × F). place_drawn steps call (s, j) w.0 p) (ap (λ (p : (S × F) × Bool). p.0) ran.2) w.1) w.2 found
   left_at_end (x ∷ xs) n [] s t j g b at a ran found = absurd (none_false n found)
   left_at_end (x ∷ xs) n (Err e ∷ l) s t j g b at a ran found = absurd (let w = ran.1 in let k = kept w.0 x s (ran.0).0.0 j (ran.0).0.1 at w.1 w.2 in let q = (a (item x) (ran.0).0.0 k.0).0 in cc)
@@ -82,7 +82,7 @@ module _ {S F X E : Type 0} (steps : S → Answered X E → S → Type 0) (call 
       let made : h y ≡ Ok true = (let v = k.2 in cc) in
       let open_still : (ran.0).1 ≡ false = w.3 ∙ k.3 in
       subst (λ (m : List (Result X E)). AlwaysGives steps t m) (sym (left_on y l made))
-      (left_at_end xs (n + 1) l u t i g b k.1 q.1 (subst (λ (c : Bool). Run until_refused ((u, i), c) (map item xs ++ end ∷ []) ((t, g), b)) open_still ran.2) (all_of_rest n y l made found))
+      (left_at_end xs (n + 1) l u t i g b k.1 q.1 (subst (λ (c : Bool). Run step_until_refused ((u, i), c) (map item xs ++ end ∷ []) ((t, g), b)) open_still ran.2) (all_of_rest n y l made found))
 
 -- the steps of `take_while` of a borrow of what steps so
 abbrev pub until_steps : {S P A E : Type 0} → (S → Answered A E → S → Type 0) → Mut P (Bor A × Unit {0}) (Result Bool E) → TakeWhile (MutBor S) P → Answered A E → TakeWhile (MutBor S) P → Type 0

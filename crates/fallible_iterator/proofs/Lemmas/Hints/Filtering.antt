@@ -16,9 +16,9 @@ module _ {S F X E : Type 0} (m : Contract S X E) where
   found_hints (s, (true, f)) h e is = is
   found_hints (s, (false, f)) h e is = absurd cc
 
-  pub asked_hints : (p : S × (Bool × F)) (h : ℕ × Option ℕ) → (p.1).0 ≡ false → skip_while_hints m p h → upper_alone m p.0 h
-  asked_hints (s, (true, f)) h e is = absurd cc
-  asked_hints (s, (false, f)) h e is = is
+  pub upper_alone_while_asked : (p : S × (Bool × F)) (h : ℕ × Option ℕ) → (p.1).0 ≡ false → skip_while_hints m p h → upper_alone m p.0 h
+  upper_alone_while_asked (s, (true, f)) h e is = absurd cc
+  upper_alone_while_asked (s, (false, f)) h e is = is
 
 pub flag_cases : (b : Bool) → (b ≡ true) ⊎ (b ≡ false)
 flag_cases true = inl refl
