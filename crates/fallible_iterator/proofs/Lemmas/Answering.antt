@@ -7,7 +7,7 @@ use Rattle.fallible_contract.specs.Traces.{Answered, Run}
 use Rattle.fallible_contract.specs.ShownTraces.{answer_of, IsAnswers, IsAnswersAt}
 use Rattle.fallible_contract.specs.Lists.{AlwaysGives, Lists, result_answer, nth_of, rest_first}
 use Rattle.fallible_contract.specs.BothEnds.{step_at, RunAtEnds, ListsBothEnds}
-use Rattle.fallible_core.proofs.Lemmas.LeftAtEnds.{left_at_front, left_at_back}
+use Rattle.fallible_core.proofs.Lemmas.RestAtEnds.{rest_at_front, rest_at_back}
 use Rattle.fallible_iterator.specs.Answering.{fronts, backs, told, by_sides, answers_at_ends, rest_ends}
 use Rattle.fallible_contract.specs.declared.answers.Answer.{Answer}
 use Rattle.fallible_contract.specs.declared.answers.Answer.TheVariants.{End}
@@ -170,8 +170,8 @@ module _ {A E : Type 0} where
 
 module _ {S A E : Type 0} (front back : S → Answered A E → S → Type 0) where
   drawn_at : (side : Side) (s t : S) (r : Answered A E) (l : List (Result A E)) → ListsBothEnds front back s l → step_at front back side s r t → (answer_of r ≡ answer_of_side side l) × ListsBothEnds front back t (rest_at side l)
-  drawn_at Front s t r l i step = let d = left_at_front l i step in (ap answer_of d.0, d.1)
-  drawn_at Back s t r l i step = let d = left_at_back l i step in (ap answer_of d.0, d.1)
+  drawn_at Front s t r l i step = let d = rest_at_front l i step in (ap answer_of d.0, d.1)
+  drawn_at Back s t r l i step = let d = rest_at_back l i step in (ap answer_of d.0, d.1)
 
   told_at_ends : (pairs : List (Side × Answered A E)) (l : List (Result A E)) (s t : S) → ListsBothEnds front back s l → RunAtEnds front back s pairs t → (map (λ p. answer_of p.1) pairs ≡ answers_at_ends (map (λ p. p.0) pairs) l) × ListsBothEnds front back t (rest_ends (map (λ p. p.0) pairs) l)
   told_at_ends [] l s t i ran = (none_answered l, subst (λ (u : S). ListsBothEnds front back u (rest_ends [] l)) ran (subst (λ (k : List (Result A E)). ListsBothEnds front back s k) (sym (none_drawn l)) i))

@@ -63,16 +63,16 @@ module _ {S A E : Type 0} (steps : S → Answered A E → S → Type 0) where
   failed_nth zero e l = refl
   failed_nth (suc n) e l = refl
 
-  left_nth : (n skipped : ℕ) (r : Answered A E) (rest : List (Result A E)) (t : S) → NthExit n skipped r → ¬ (r ≡ Ok None) → GivesAfter steps t r rest → (k : ℕ) × (n ≡ skipped + k) × AlwaysGives steps t (rest_nth k rest)
+  gives_rest_nth : (n skipped : ℕ) (r : Answered A E) (rest : List (Result A E)) (t : S) → NthExit n skipped r → ¬ (r ≡ Ok None) → GivesAfter steps t r rest → (k : ℕ) × (n ≡ skipped + k) × AlwaysGives steps t (rest_nth k rest)
   unfolding rest_nth
-  left_nth n skipped (Ok (Some x)) rest t exit no_end given = (0, omega (arith, exit), subst (λ (l : List (Result A E)). AlwaysGives steps t (rest_nth 0 l)) (sym given.1) given.2)
-  left_nth n skipped (Ok None) rest t exit no_end given = absurd (no_end refl)
-  left_nth n skipped (Err e) rest t exit no_end given = (n - skipped, omega (arith, exit), subst (λ (l : List (Result A E)). AlwaysGives steps t l) (sym (ap (rest_nth (n - skipped)) given.1 ∙ failed_nth (n - skipped) e given.0)) given.2)
+  gives_rest_nth n skipped (Ok (Some x)) rest t exit no_end given = (0, omega (arith, exit), subst (λ (l : List (Result A E)). AlwaysGives steps t (rest_nth 0 l)) (sym given.1) given.2)
+  gives_rest_nth n skipped (Ok None) rest t exit no_end given = absurd (no_end refl)
+  gives_rest_nth n skipped (Err e) rest t exit no_end given = (n - skipped, omega (arith, exit), subst (λ (l : List (Result A E)). AlwaysGives steps t l) (sym (ap (rest_nth (n - skipped)) given.1 ∙ failed_nth (n - skipped) e given.0)) given.2)
 
 pub rest_nth_is : {S A E : Type 0} {steps : S → Answered A E → S → Type 0} {s t : S} {n : ℕ} {r : Answered A E} (l : List (Result A E)) → Nth steps s n r t → Lists steps s l → ¬ (r ≡ Ok None) → Lists steps t (rest_nth n l)
 rest_nth_is {steps = steps} {s = s} {t = t} {n = n} {r = r} l c i no_end =
     let d = drawn_then steps c.items r l s t i.runs (subst (λ (q : Answered _ _). Run steps s (map item c.items ++ q ∷ []) t) c.at.is c.ran) in
-    let k = left_nth steps n (length c.items) r d.rest t c.at.exit no_end d.given in
+    let k = gives_rest_nth steps n (length c.items) r d.rest t c.at.exit no_end d.given in
     record { runs = subst (λ (m : _). AlwaysGives steps t m) (sym (ap (rest_nth n) d.list_is ∙ front_nth steps c.items d.rest n k.0 k.1)) k.2 }
 
 -- ---- searches
@@ -100,16 +100,16 @@ module _ {A E F V R : Type 0} (call : F → A → Result V E → F → Type 0) (
   failed_stop e l = refl
 
   module _ {S : Type 0} (steps : S → Answered A E → S → Type 0) where
-    left_stop : (last : Answered A E) (n : ℕ) (r : Result R E) (g : F) (rest : List (Result A E)) (t : S) → SearchExit call pick none n f last r g → ¬ (r ≡ Ok none) → GivesAfter steps t last rest → AlwaysGives steps t (rest_stop stops h rest)
-    left_stop (Ok None) n r g rest t exit no_end given = absurd (no_end exit.0)
-    left_stop (Err e) n r g rest t exit no_end given = subst (λ (l : List (Result A E)). AlwaysGives steps t l) (sym (ap (rest_stop stops h) given.1 ∙ failed_stop e given.0)) given.2
-    left_stop (Ok (Some x)) n r g rest t exit no_end given = subst (λ (l : List (Result A E)). AlwaysGives steps t l) (sym (ap (rest_stop stops h) given.1 ∙ item_stop n x r g given.0 exit)) given.2
+    gives_rest_stop : (last : Answered A E) (n : ℕ) (r : Result R E) (g : F) (rest : List (Result A E)) (t : S) → SearchExit call pick none n f last r g → ¬ (r ≡ Ok none) → GivesAfter steps t last rest → AlwaysGives steps t (rest_stop stops h rest)
+    gives_rest_stop (Ok None) n r g rest t exit no_end given = absurd (no_end exit.0)
+    gives_rest_stop (Err e) n r g rest t exit no_end given = subst (λ (l : List (Result A E)). AlwaysGives steps t l) (sym (ap (rest_stop stops h) given.1 ∙ failed_stop e given.0)) given.2
+    gives_rest_stop (Ok (Some x)) n r g rest t exit no_end given = subst (λ (l : List (Result A E)). AlwaysGives steps t l) (sym (ap (rest_stop stops h) given.1 ∙ item_stop n x r g given.0 exit)) given.2
 
     rest_stop_is : {s t : S} {g : F} {r : Result R E} (l : List (Result A E)) → Searched call pick steps none s f r t g → Lists steps s l → ¬ (r ≡ Ok none) → Lists steps t (rest_stop stops h l)
     rest_stop_is {s = s} {t = t} {g = g} {r = r} l c i no_end =
         let d = drawn_then steps c.items c.last l s t i.runs c.ran in
         let p = front_stop c.items d.rest c.at.closure c.at.went in
-        let given = left_stop c.last (length c.items) r g d.rest t (subst (λ (k : F). SearchExit call pick none (length c.items) k c.last r g) p.0 c.at.exit) no_end d.given in
+        let given = gives_rest_stop c.last (length c.items) r g d.rest t (subst (λ (k : F). SearchExit call pick none (length c.items) k c.last r g) p.0 c.at.exit) no_end d.given in
         record { runs = subst (λ (m : List (Result A E)). AlwaysGives steps t m) (sym (ap (rest_stop stops h) d.list_is ∙ p.1)) given }
 
 -- each search stops at what it picks
@@ -176,14 +176,14 @@ module _ {A E F B E' : Type 0} (call : F → B → A → Result B E' → F → T
   item_fold b x e g l called = ap (λ (w : Result B E'). rest_failed w l (λ c. rest_fold h c l)) (sym (acts b x (Err e) g called).1)
 
   module _ {S : Type 0} (steps : S → Answered A E → S → Type 0) where
-    left_fold : (last : Answered A E) (v : B) (d : E') (rest : List (Result A E)) (t : S) → FoldExit call from v f last (Err d) → GivesAfter steps t last rest → AlwaysGives steps t (rest_fold h v rest)
-    left_fold (Ok None) v d rest t exit given = absurd cc
-    left_fold (Err e) v d rest t exit given = subst (λ (l : List (Result A E)). AlwaysGives steps t l) (sym (ap (rest_fold h v) given.1 ∙ failed_fold v e given.0)) given.2
-    left_fold (Ok (Some x)) v d rest t exit given = subst (λ (l : List (Result A E)). AlwaysGives steps t l) (sym (ap (rest_fold h v) given.1 ∙ item_fold v x exit.1 exit.0 given.0 exit.2)) given.2
+    gives_rest_fold : (last : Answered A E) (v : B) (d : E') (rest : List (Result A E)) (t : S) → FoldExit call from v f last (Err d) → GivesAfter steps t last rest → AlwaysGives steps t (rest_fold h v rest)
+    gives_rest_fold (Ok None) v d rest t exit given = absurd cc
+    gives_rest_fold (Err e) v d rest t exit given = subst (λ (l : List (Result A E)). AlwaysGives steps t l) (sym (ap (rest_fold h v) given.1 ∙ failed_fold v e given.0)) given.2
+    gives_rest_fold (Ok (Some x)) v d rest t exit given = subst (λ (l : List (Result A E)). AlwaysGives steps t l) (sym (ap (rest_fold h v) given.1 ∙ item_fold v x exit.1 exit.0 given.0 exit.2)) given.2
 
     pub rest_fold_is : {s t : S} {b : B} {r : Result B E'} (l : List (Result A E)) → Folded steps call from s b f r t → Lists steps s l → (d : E') → r ≡ Err d → Lists steps t (rest_fold h b l)
     rest_fold_is {s = s} {t = t} {b = b} {r = r} l c i e is =
         let d = drawn_then steps c.items c.last l s t i.runs c.ran in
         let p = front_fold c.items d.rest b c.at.value c.at.closure c.at.went in
         let exit = subst (λ (q : Result B E'). FoldExit call from c.at.value f c.last q) is (subst (λ (g : F). FoldExit call from c.at.value g c.last r) p.0 c.at.exit) in
-        record { runs = subst (λ (m : List (Result A E)). AlwaysGives steps t m) (sym (ap (rest_fold h b) d.list_is ∙ p.1)) (left_fold c.last c.at.value e d.rest t exit d.given) }
+        record { runs = subst (λ (m : List (Result A E)). AlwaysGives steps t m) (sym (ap (rest_fold h b) d.list_is ∙ p.1)) (gives_rest_fold c.last c.at.value e d.rest t exit d.given) }
