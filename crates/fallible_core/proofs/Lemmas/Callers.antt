@@ -175,4 +175,4 @@ module _ {S A E : Type 0} (steps : S → Answered A E → S → Type 0) where
       one_more n s ran.0.0 t x xs last ran.1.0 (subst (λ (j : ℕ). TakenRun steps j ran.0.0 xs last t) one_less (taken_at xs last ran.0.1 k ran.0.0 t ran.2))
 
 pub taken_run : {I A E : Type 0} (m : Contract I A E) (n : ℕ) (it : I) (s t : Take I) (xs : List A) (last : Answered A E) → take_parts s ≡ (it, n) → Run (seen_as take_parts (take_contract m)).steps s (map item xs ++ last ∷ []) t → TakenRun m.steps n it xs last t.it
-taken_run {I = I} m n it s t xs last parts ran = taken_at m.steps xs last n t.left it t.it (subst (λ (p : I × ℕ). Run (take_step m.steps) p (map item xs ++ last ∷ []) (take_parts t)) parts (run_seen take_parts _ (map item xs ++ last ∷ []) s t ran))
+taken_run {I = I} m n it s t xs last parts ran = taken_at m.steps xs last n t.to_take it t.it (subst (λ (p : I × ℕ). Run (take_step m.steps) p (map item xs ++ last ∷ []) (take_parts t)) parts (run_seen take_parts _ (map item xs ++ last ∷ []) s t ran))
