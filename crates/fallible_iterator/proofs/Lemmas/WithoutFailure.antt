@@ -47,7 +47,7 @@ taken_where_ok {S} {A} {E} {steps} {s} {it} {n} {l} parts i =
     let at : it ≡ s.it = sym (ap (λ (p : S × ℕ). p.0) parts) in
     let to_take : s.to_take ≡ n = ap (λ (p : S × ℕ). p.1) parts in
     let m : Contract S A E = unbounded_contract (ok_steps steps) in
-    lists_fewer _ _ (λ u r v w. take_ok steps (take_parts u) r (take_parts v) w.0 w.1) (taken n l) s (lists_taken m s n l (ap (λ (k : ℕ). (s.it, k)) left) (subst (λ (u : S). Lists (ok_steps steps) u l) at i))
+    lists_fewer _ _ (λ u r v w. take_ok steps (take_parts u) r (take_parts v) w.0 w.1) (taken n l) s (lists_taken m s n l (ap (λ (k : ℕ). (s.it, k)) to_take) (subst (λ (u : S). Lists (ok_steps steps) u l) at i))
 
 -- ---- `filter`
 
