@@ -48,9 +48,16 @@ pub row_number-no_number : (row : List ℕ) → (IsNumber row → ⊥) → row_n
 row_number-no_number row not_so =
     cond-false _ _ _ (false_from_ne_true _ (λ h. not_so (IsNumber-from_test row h)))
 
--- why a row is no number: a byte that is no digit
+-- why a row is no number: a byte that is no digit, or its value
 pub row_number-by_digit : (row : List ℕ) (i : ℕ) → i < length row → (IsInRange 48 57 (get_or row i 0) → ⊥) → row_number row ≡ None
 row_number-by_digit row i l none = row_number-no_number row (λ n. none (digit_at row i n.digits l))
+
+pub row_number-by_value : (row : List ℕ) (i : ℕ) → 18446744073709551615 < digits_value 10 (take i row) → row_number row ≡ None
+row_number-by_value row i large =
+    row_number-no_number row (λ n.
+    let fits = n.fits in
+    let part = digits_value-take-le 10 row i (lit≤ tt) in
+    omega arith)
 
 digit_value-digit : (c : ℕ) → IsInRange 48 57 c → digit_value c ≡ c - 48
 digit_value-digit c h = cond-false _ _ _ (le-ltb c 48 h.0) ∙ cond-true _ _ _ (lt-ltb c 58 (omega arith))
