@@ -2,7 +2,7 @@
 ghost use Rattle.std.specs.Prelude.{◌≡◌, ℕ, ◌+◌, ◌-◌, ◌%◌, ◌^◌, ◌<◌, ◌≤◌, Ok, Err, Some, None, List, Option, Result, length, sum, IfOk, MatchOption, filter, is_err, nat_lt, take, slice_index_or};
 ghost use Rattle.std.specs.Iterator.{IsFinite};
 ghost use Rattle.fallible_iterator.specs.Contract.{NeverFails};
-ghost use Rattle.fallible_iterator.specs.Lists.{Lists, items, results, counted, mapped, filtered, taken, nth_of, behind_first, behind_nth};
+ghost use Rattle.fallible_iterator.specs.Lists.{Lists, items, results, counted, mapped, filtered, taken, nth_of, rest_first, rest_nth};
 ghost use Rattle.fallible_iterator.specs.Bridges.Unwrap.{unwrapped};
 ghost use Rattle.std.specs.declared.convert.Infallible.{Infallible};
 
@@ -18,8 +18,8 @@ pub fn elements(readings: Vec<Result<u32, u8>>) -> usize
     convert(readings.into_iter()).iterator().count()
 }
 
-/// The same, counted from behind.
-pub fn elements_from_behind(readings: Vec<Result<u32, u8>>) -> usize
+/// The same, counted from the back.
+pub fn elements_from_back(readings: Vec<Result<u32, u8>>) -> usize
     ensures { result ≡ length (results readings.items) }
 {
     law_back_convert::<u32, u8, std::vec::IntoIter<Result<u32, u8>, Global>>();
@@ -51,8 +51,8 @@ where
     requires finite { IsFinite (I.contract.remaining it) }
     ensures value { (l : List (Result I.Item I.Error)) → Lists I.contract.steps it l
         → (x : I.Item) → nth_of 1 l ≡ Ok (Some x)
-        → IfOk result (λ last. MatchOption last (length (behind_nth 1 l) ≡ 0)
-        (λ y. y ≡ slice_index_or (behind_nth 1 l) (length (behind_nth 1 l) - 1) y)) }
+        → IfOk result (λ last. MatchOption last (length (rest_nth 1 l) ≡ 0)
+        (λ y. y ≡ slice_index_or (rest_nth 1 l) (length (rest_nth 1 l) - 1) y)) }
     ensures fails { (l : List (Result I.Item I.Error)) → Lists I.contract.steps it l
         → (e : I.Error) → nth_of 1 l ≡ Err e → result ≡ Err e }
 {
@@ -83,9 +83,9 @@ where
     requires sure { NeverFails I.contract it }
     ensures value { (l : List (Result I.Item I.Error)) → Lists I.contract.steps it l
         → (x : I.Item) → nth_of 0 l ≡ Ok (Some x)
-        → IfOk result (λ last. MatchOption last (length (unwrapped (behind_first l)) ≡ 0)
-        (λ y. y ≡ slice_index_or (unwrapped (behind_first l))
-        (length (unwrapped (behind_first l)) - 1) y)) }
+        → IfOk result (λ last. MatchOption last (length (unwrapped (rest_first l)) ≡ 0)
+        (λ y. y ≡ slice_index_or (unwrapped (rest_first l))
+        (length (unwrapped (rest_first l)) - 1) y)) }
 {
     it.draw()?;
     Ok(it.unwrap().last())

@@ -2,7 +2,7 @@
 ghost use Rattle.std.specs.Prelude.{◌≡◌, ◌+◌, ◌*◌, ◌%◌, ◌^◌, ℕ, Result, Ok, Err, IfOk, Option, length, map, nat_lt};
 ghost use Rattle.std.specs.Ordering.{nat_cmp};
 ghost use Rattle.fallible_iterator.specs.Fault.{Fault};
-ghost use Rattle.fallible_iterator.specs.Lists.{results, all_of, any_of, collected, last_of, on_value, reduced, greatest, least, PartedAs, UnzippedAs, mapped, filtered, numbered, skipped, taken};
+ghost use Rattle.fallible_iterator.specs.Lists.{results, all_of, any_of, collected, last_of, on_value, reduced, greatest, least, PartitionedAs, UnzippedAs, mapped, filtered, numbered, skipped, taken};
 
 use fallible_iterator::{FallibleIterator, Fault, convert};
 use std::alloc::Global;
@@ -68,11 +68,11 @@ pub fn last_above_100(readings: Vec<Result<u32, u8>>) -> Result<Option<u32>, u8>
 }
 
 /// The first ten readings, those above 100 and the others, where memory suffices.
-pub fn parted_at_100(
+pub fn partitioned_at_100(
     alloc: Global,
     readings: Vec<Result<u32, u8>>,
 ) -> Result<(Vec<u32>, Vec<u32>), Fault<u8>>
-    ensures { PartedAs (λ xs v. v.items ≡ xs) (λ x. Ok (nat_lt 100 x))
+    ensures { PartitionedAs (λ xs v. v.items ≡ xs) (λ x. Ok (nat_lt 100 x))
         (taken 10 (results readings.items)) result }
 {
     convert(readings.into_iter())

@@ -5,7 +5,7 @@ ghost use Rattle.fallible_iterator.specs.Showing.{TakesShown};
 ghost use Rattle.fallible_iterator.specs.Lists.{Lists, counted, cycled, filtered, flattened, folded, items, mapped, results, taken};
 ghost use Rattle.fallible_iterator.specs.Contract.{AtMost};
 ghost use Rattle.fallible_callers.specs.Runs.{below, numbers};
-ghost use Rattle.fallible_iterator.specs.Peeking.Peekable.{behind_held, peekable_held, peekable_source};
+ghost use Rattle.fallible_iterator.specs.Peeking.Peekable.{held_then, peekable_held, peekable_source};
 
 use fallible_iterator::laws::{answers, law_cycle_taken, law_flat_map_finite, law_peekable};
 use fallible_iterator::{
@@ -58,7 +58,7 @@ where
     requires can_next { ⟦<Peekable<I> as FallibleIterator>⟧.contract.can_next ahead }
     requires fits { AtMost ⟦<Peekable<I> as FallibleIterator>⟧.contract ahead (2 ^ 64 - 1) }
     ensures { (l : List (Result I.Item I.Error)) → Lists I.contract.steps (peekable_source ahead) l
-        → result ≡ counted (behind_held (peekable_held ahead) l) }
+        → result ≡ counted (held_then (peekable_held ahead) l) }
 {
     law_peekable::<I>();
     ahead.count()

@@ -3,8 +3,8 @@ use Rattle.std.specs.Prelude.{◌≡◌, ℕ, ◌≤◌, Bool, true, false, List
 use Rattle.std.specs.List.{FoldsTo}
 use Rattle.std.proofs.Common.{refl, sym, ap, subst, ◌∙◌, inl, inr}
 use Rattle.fallible_iterator.specs.Traces.{Answered}
-use Rattle.fallible_iterator.specs.Collecting.{answered_true, answered_false, Parts, SideRefuses, RefusesItem, Partitions}
-use Rattle.fallible_iterator.specs.Lists.{Lists, Acts, on_value, to_side, parted}
+use Rattle.fallible_iterator.specs.Collecting.{answered_true, answered_false, Sides, SideRefuses, RefusesItem, Partitions}
+use Rattle.fallible_iterator.specs.Lists.{Lists, Acts, on_value, to_side, partitioned}
 use Rattle.fallible_contract.proofs.Lemmas.Lists.Drawn.{drawn}
 use Rattle.fallible_callers_drawing.specs.Full.{SideFull}
 use Rattle.fallible_iterator.specs.Fault.{Fault}
@@ -19,17 +19,17 @@ to_one x false ps = refl
 
 module _ {E F : Type 0} (call : F → ℕ → Result Bool E → F → Type 0) (f : F) (h : ℕ → Result Bool E) (acts : Acts call f h) where
   -- the closure stays as it is, and both sides are those of the items
-  sides : (ps : List (ℕ × Bool)) (g : F) → FoldsTo {P = F} (λ g p k. call g p.0 (Ok p.1) k) f ps g → (g ≡ f) × (parted h (map (λ x. Ok x) (map (λ p. p.0) ps)) ≡ Ok (answered_true ps, answered_false ps))
-  unfolding parted
+  sides : (ps : List (ℕ × Bool)) (g : F) → FoldsTo {P = F} (λ g p k. call g p.0 (Ok p.1) k) f ps g → (g ≡ f) × (partitioned h (map (λ x. Ok x) (map (λ p. p.0) ps)) ≡ Ok (answered_true ps, answered_false ps))
+  unfolding partitioned
   sides [] g went = (sym went, refl)
   sides ((x, v) ∷ ps) g went =
       let a = acts x (Ok v) went.0 went.1 in
       let rest = sides ps g (subst (λ (k : F). FoldsTo {P = F} (λ g p k. call g p.0 (Ok p.1) k) k ps g) a.0 went.2) in
-      (rest.0, ap (λ (w : Result Bool E). on_value w (λ b. to_side x b (parted h (map (λ y. Ok y) (map (λ p. p.0) ps))))) (sym a.1) ∙ ap (to_side x v) rest.1 ∙ to_one x v ps)
+      (rest.0, ap (λ (w : Result Bool E). on_value w (λ b. to_side x b (partitioned h (map (λ y. Ok y) (map (λ p. p.0) ps))))) (sym a.1) ∙ ap (to_side x v) rest.1 ∙ to_one x v ps)
 
-  refused_full : {S : Type 0} {steps : S → Answered ℕ E → S → Type 0} {s : S} (l : List (Result ℕ E)) → Lists steps s l → RefusesItem {C = F × (Vec ℕ Global × Vec ℕ Global)} steps (Parts call (λ xs v. v.items ≡ xs) f) (SideRefuses call (λ v _. vec_capacity v ≤ vec_len v)) s → SideFull h l
+  refused_full : {S : Type 0} {steps : S → Answered ℕ E → S → Type 0} {s : S} (l : List (Result ℕ E)) → Lists steps s l → RefusesItem {C = F × (Vec ℕ Global × Vec ℕ Global)} steps (Sides call (λ xs v. v.items ≡ xs) f) (SideRefuses call (λ v _. vec_capacity v ≤ vec_len v)) s → SideFull h l
   refused_full {steps = steps} {s = s} l i k =
-      let d = drawn steps k.items (Ok (Some k.refused)) l s k.left i.runs k.ran in
+      let d = drawn steps k.items (Ok (Some k.refused)) l s k.after i.runs k.ran in
       let parts = k.is_made in
       let both = sides parts.answered k.collection.0 parts.called in
       let asked = k.refuses_it in
@@ -37,13 +37,13 @@ module _ {E F : Type 0} (call : F → ℕ → Result Bool E → F → Type 0) (f
       record {
         front = map (λ x. Ok x) k.items;
         item = k.refused;
-        rest = d.left.0;
+        rest = d.rest_is.0;
         side = asked.0;
         yes = k.collection.1.0;
         no = k.collection.1.1;
-        list_is = d.list_is ∙ ap (λ r. map (λ x. Ok x) k.items ++ r) d.left.1;
+        list_is = d.list_is ∙ ap (λ r. map (λ x. Ok x) k.items ++ r) d.rest_is.1;
         sent = sym a.1;
-        made = ap (λ (xs : List ℕ). parted h (map (λ x. Ok x) xs)) (sym parts.beside) ∙ both.1 ∙ (let yes = parts.first in let no = parts.second in cc);
+        made = ap (λ (xs : List ℕ). partitioned h (map (λ x. Ok x) xs)) (sym parts.beside) ∙ both.1 ∙ (let yes = parts.first in let no = parts.second in cc);
         full = asked.3;
       }
 

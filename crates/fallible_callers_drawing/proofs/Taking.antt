@@ -3,14 +3,14 @@ use Rattle.std.specs.Prelude.{◌≡◌, ℕ, ◌+◌, Bool, true, false, ⊤, L
 use Rattle.std.proofs.Common.{refl, sym, ap, subst, arith, ◌∙◌, inl, inr}
 use Rattle.fallible_iterator.specs.Traces.{Answered, item}
 use Rattle.fallible_iterator.specs.Contract.{Contract, Fewer, Lawful, Stays, seen_as}
-use Rattle.fallible_iterator.specs.Lists.{Lists, first_if, behind_if}
+use Rattle.fallible_iterator.specs.Lists.{Lists, first_if, rest_if}
 use Rattle.fallible_iterator.specs.Peeking.Peekable.{taken_by, left_by, Peeks, NextIf, TakenIf, peekable_contract, peekable_parts, held_items}
 use Rattle.fallible_iterator.proofs.Lemmas.Loops.{CountsDown, AnswersFromHere}
 use Rattle.fallible_core.specs.declared.peeking.peekable.Peekable.{Peekable}
 
 -- A call of `next_if` from s answered r and left t, by a closure that answers h x on each item x.
 abbrev pub TookIf : {S A E : Type 0} → (S → Answered A E → S → Type 0) → (A → Bool) → S → Answered A E → S → Type 0
-TookIf {A = A} {E = E} steps h s r t = (l : List (Result A E)) → Lists steps s l → (r ≡ first_if h l) × Lists steps t (behind_if h l)
+TookIf {A = A} {E = E} steps h s r t = (l : List (Result A E)) → Lists steps s l → (r ≡ first_if h l) × Lists steps t (rest_if h l)
 
 -- Nothing more is taken of the list: it is empty, or h is false of its first item.
 abbrev pub RefusesFirst : {A E : Type 0} → (A → Bool) → List (Result A E) → Type 0
@@ -23,8 +23,8 @@ module _ {S A E B R : Type 0} (steps : S → Answered A E → S → Type 0) (ans
   taken_as x y l true c v test is same k e = let at : y ≡ x = (let q = k.0 in cc) in (l, k.1, e ∙ ap (λ z. answers b (Ok z ∷ l)) at ∙ same l (ap h (sym at) ∙ test))
   taken_as x y l false c v test is same k e = absurd (let q = k.0 in cc)
 
-  item_taken : (x : A) (c : B) (v : R) (rest : List (Result A E)) → r ≡ Ok (Some x) → ((l : List (Result A E)) → h x ≡ true → answers b (Ok x ∷ l) ≡ answers c l) → (r ≡ first_if h rest) × Lists steps t (behind_if h rest) → v ≡ answers b rest → (l : List (Result A E)) × Lists steps t l × (v ≡ answers c l)
-  unfolding first_if behind_if
+  item_taken : (x : A) (c : B) (v : R) (rest : List (Result A E)) → r ≡ Ok (Some x) → ((l : List (Result A E)) → h x ≡ true → answers b (Ok x ∷ l) ≡ answers c l) → (r ≡ first_if h rest) × Lists steps t (rest_if h rest) → v ≡ answers b rest → (l : List (Result A E)) × Lists steps t l × (v ≡ answers c l)
+  unfolding first_if rest_if
   item_taken x c v [] is same k e = absurd (let q = k.0 in cc)
   item_taken x c v (Ok y ∷ l) is same k e = taken_as x y l (h y) c v refl is same k e
   item_taken x c v (Err d ∷ l) is same k e = absurd (let q = k.0 in cc)
@@ -33,8 +33,8 @@ module _ {S A E B R : Type 0} (steps : S → Answered A E → S → Type 0) (ans
   refused_as y l true test is k = absurd (let q = k.0 in cc)
   refused_as y l false test is k = (k.1, test)
 
-  item_refused : (rest : List (Result A E)) → r ≡ Ok None → (r ≡ first_if h rest) × Lists steps t (behind_if h rest) → Lists steps t rest × RefusesFirst h rest
-  unfolding first_if behind_if
+  item_refused : (rest : List (Result A E)) → r ≡ Ok None → (r ≡ first_if h rest) × Lists steps t (rest_if h rest) → Lists steps t rest × RefusesFirst h rest
+  unfolding first_if rest_if
   item_refused [] is k = (k.1, tt)
   item_refused (Ok y ∷ l) is k = refused_as y l (h y) refl is k
   item_refused (Err d ∷ l) is k = absurd (let q = k.0 in cc)

@@ -1,6 +1,6 @@
 -- Where a partition into vectors may be refused.
 use Rattle.std.specs.Prelude.{◌≡◌, ℕ, ◌≤◌, Bool, cond, List, ◌∷◌, ◌++◌, Result, Ok, vec_len, vec_capacity}
-use Rattle.fallible_iterator.specs.Lists.{parted}
+use Rattle.fallible_iterator.specs.Lists.{partitioned}
 use Rattle.std.specs.declared.alloc.Global.{Global}
 use Rattle.std.specs.declared.vec.Vec.{Vec}
 
@@ -14,5 +14,5 @@ pub record SideFull {E : Type 0} (h : ℕ → Result Bool E) (l : List (Result �
   pub no : Vec ℕ Global
   pub list_is : l ≡ front ++ Ok item ∷ rest
   pub sent : h item ≡ Ok side
-  pub made : parted h front ≡ Ok (yes.items, no.items)
+  pub made : partitioned h front ≡ Ok (yes.items, no.items)
   pub full : vec_capacity (cond side yes no) ≤ vec_len (cond side yes no)

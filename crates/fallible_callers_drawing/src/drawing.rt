@@ -1,6 +1,6 @@
 //! Draws by hand.
 ghost use Rattle.std.specs.Prelude.{◌≡◌, ◌+◌, ◌*◌, ◌%◌, ◌^◌, ℕ, List, [], ◌∷◌, Result, Option, Ok, Err, Some, None, false, nat_lt};
-ghost use Rattle.fallible_iterator.specs.Lists.{Lists, behind_first, behind_nth, chained, filtered, first_if, folded, items, looked_at, mapped, nth_of, on_value, results, taken, taken_while, zipped};
+ghost use Rattle.fallible_iterator.specs.Lists.{Lists, rest_first, rest_nth, chained, filtered, first_if, folded, items, look_of, mapped, nth_of, on_value, results, taken, taken_while, zipped};
 
 use fallible_iterator::laws::{law_next, law_peek};
 use fallible_iterator::{FallibleIterator, convert};
@@ -9,14 +9,14 @@ use fallible_iterator::{FallibleIterator, convert};
 pub fn third_draw(readings: Vec<Result<u32, u8>>) -> Result<Option<u64>, u8>
     ensures third { let l : List (Result ℕ ℕ) = mapped (λ x. Ok (x * 2))
         (filtered (λ x. Ok (nat_lt 100 x)) (taken 10 (results readings.items))) in (x y : ℕ)
-        → nth_of 0 l ≡ Ok (Some x) → nth_of 0 (behind_first l) ≡ Ok (Some y)
-        → result ≡ nth_of 0 (behind_first (behind_first l)) }
+        → nth_of 0 l ≡ Ok (Some x) → nth_of 0 (rest_first l) ≡ Ok (Some y)
+        → result ≡ nth_of 0 (rest_first (rest_first l)) }
     ensures first_fails { let l : List (Result ℕ ℕ) = mapped (λ x. Ok (x * 2))
         (filtered (λ x. Ok (nat_lt 100 x)) (taken 10 (results readings.items))) in (e : ℕ)
         → nth_of 0 l ≡ Err e → result ≡ Err e }
     ensures second_fails { let l : List (Result ℕ ℕ) = mapped (λ x. Ok (x * 2))
         (filtered (λ x. Ok (nat_lt 100 x)) (taken 10 (results readings.items))) in (x e : ℕ)
-        → nth_of 0 l ≡ Ok (Some x) → nth_of 0 (behind_first l) ≡ Err e → result ≡ Err e }
+        → nth_of 0 l ≡ Ok (Some x) → nth_of 0 (rest_first l) ≡ Err e → result ≡ Err e }
 {
     let mut doubled = convert(readings.into_iter())
         .take(10)
@@ -31,7 +31,7 @@ pub fn third_draw(readings: Vec<Result<u32, u8>>) -> Result<Option<u64>, u8>
 pub fn first_two(readings: Vec<Result<u32, u8>>) -> Result<(Option<u32>, Option<u32>), u8>
     ensures value { (first : ℕ) (rest : List (Result ℕ ℕ))
         → results readings.items ≡ Ok first ∷ rest
-        → result ≡ on_value (looked_at (λ x. x) rest) (λ second. Ok (Some first, second)) }
+        → result ≡ on_value (look_of (λ x. x) rest) (λ second. Ok (Some first, second)) }
     ensures fails { (e : ℕ) (rest : List (Result ℕ ℕ))
         → results readings.items ≡ Err e ∷ rest → result ≡ Err e }
     ensures none { readings.items ≡ [] → result ≡ Ok (None, None) }
@@ -49,7 +49,7 @@ where
     requires { I.contract.can_next it }
     ensures some { (l : List (Result ℕ I.Error)) (first : ℕ) → Lists I.contract.steps it l
         → nth_of 0 l ≡ Ok (Some first)
-        → result ≡ first_if (λ second. nat_lt first second) (behind_first l) }
+        → result ≡ first_if (λ second. nat_lt first second) (rest_first l) }
     ensures none { (l : List (Result ℕ I.Error)) → Lists I.contract.steps it l
         → nth_of 0 l ≡ Ok None → result ≡ Ok None }
     ensures fails { (l : List (Result ℕ I.Error)) (e : I.Error) → Lists I.contract.steps it l
@@ -108,7 +108,7 @@ where
     ensures rest { (l : List (Result ℕ I.Error)) (sum second : ℕ)
         → Lists I.contract.steps it.old l
         → result ≡ Ok sum → nth_of 1 l ≡ Ok (Some second)
-        → Lists I.contract.steps it.new (behind_nth 1 l) }
+        → Lists I.contract.steps it.new (rest_nth 1 l) }
     ensures can_next { I.contract.can_next it.new }
 {
     (&mut *it)
@@ -121,7 +121,7 @@ pub fn two_and_the_next(readings: Vec<Result<u32, u8>>) -> Result<(u32, Option<u
     ensures value { let l : List (Result ℕ ℕ) = filtered (λ r. Ok (nat_lt 100 r))
         (results readings.items) in (last : ℕ) → nth_of 1 l ≡ Ok (Some last)
         → result ≡ on_value (folded (λ e. e) (λ s x. Ok ((s + x) % 2 ^ 32)) 0 (taken 2 l))
-        (λ sum. on_value (nth_of 0 (behind_nth 1 l)) (λ next. Ok (sum, next))) }
+        (λ sum. on_value (nth_of 0 (rest_nth 1 l)) (λ next. Ok (sum, next))) }
     ensures fails { let l : List (Result ℕ ℕ) = filtered (λ r. Ok (nat_lt 100 r))
         (results readings.items) in (e : ℕ)
         → folded (λ e. e) (λ s x. Ok ((s + x) % 2 ^ 32)) 0 (taken 2 l) ≡ Err e → result ≡ Err e }
@@ -141,7 +141,7 @@ where
     ensures rest { (l : List (Result ℕ I.Error)) (n tenth : ℕ)
         → Lists I.contract.steps it.old l
         → result ≡ Ok n → nth_of 9 l ≡ Ok (Some tenth)
-        → Lists I.contract.steps it.new (behind_nth 9 l) }
+        → Lists I.contract.steps it.new (rest_nth 9 l) }
     ensures can_next { I.contract.can_next it.new }
 {
     (&mut *it)
@@ -157,7 +157,7 @@ where
     requires { I.contract.can_next it.old }
     ensures { (l : List (Result I.Item I.Error)) → Lists I.contract.steps it.old l
         → ¬ (nth_of 2 l ≡ Ok None)
-        → result ≡ on_value (nth_of 2 l) (λ _. nth_of 0 (behind_nth 2 l)) }
+        → result ≡ on_value (nth_of 2 l) (λ _. nth_of 0 (rest_nth 2 l)) }
 {
     (&mut *it).take(3).nth(2)?;
     it.draw()
@@ -175,7 +175,7 @@ where
         → Lists I.contract.steps left a → Lists J.contract.steps right b
         → ¬ (nth_of 0 (zipped a b) ≡ Ok None)
         → result ≡ on_value (nth_of 0 (zipped a b))
-        (λ _. nth_of 0 (chained (behind_first a) (behind_first b))) }
+        (λ _. nth_of 0 (chained (rest_first a) (rest_first b))) }
 {
     (&mut left).zip(&mut right).draw()?;
     left.chain(right).draw()
@@ -195,7 +195,7 @@ where
     ensures { (a : List (Result I.Item I.Error)) (b : List I.Item)
         → Lists I.contract.steps left a → Lists J.contract.steps right (items b)
         → ¬ (nth_of 0 a ≡ Ok None)
-        → result ≡ on_value (nth_of 0 a) (λ _. nth_of 0 (zipped (behind_first a) (items b))) }
+        → result ≡ on_value (nth_of 0 a) (λ _. nth_of 0 (zipped (rest_first a) (items b))) }
 {
     (&mut left).chain(&mut right).draw()?;
     left.zip(right).draw()
@@ -207,7 +207,7 @@ where
     I::Item: Drop,
     requires { I.contract.can_next it }
     ensures value { (l : List (Result I.Item I.Error)) (x : I.Item) → Lists I.contract.steps it l
-        → nth_of 0 l ≡ Ok (Some x) → result ≡ nth_of 0 (behind_first l) }
+        → nth_of 0 l ≡ Ok (Some x) → result ≡ nth_of 0 (rest_first l) }
     ensures fails { (l : List (Result I.Item I.Error)) (e : I.Error) → Lists I.contract.steps it l
         → nth_of 0 l ≡ Err e → result ≡ Err e }
 {

@@ -2,7 +2,7 @@
 ghost use Rattle.std.specs.Prelude.{◌≡◌, ◌+◌, ◌%◌, ◌^◌, ℕ, Bool, List, Option, Result, Some, None, Ok, Err, nat_lt};
 ghost use Rattle.fallible_iterator.specs.Closures.{IsCallable, call_at, takes_at};
 ghost use Rattle.fallible_iterator.specs.Filtering.Filter.{filter_parts};
-ghost use Rattle.fallible_iterator.specs.Lists.{Acts, Lists, behind_first, counted, filtered, folded, nth_of, results, skipped, taken};
+ghost use Rattle.fallible_iterator.specs.Lists.{Acts, Lists, rest_first, counted, filtered, folded, nth_of, results, skipped, taken};
 ghost use Rattle.fallible_callers_drawing.specs.declared.idioms.NoRow.{NoRow};
 
 use fallible_iterator::{FallibleIterator, Filter, Skip, Take, convert};
@@ -49,17 +49,17 @@ where
     I::Item: Drop,
     requires { I.contract.can_next rows }
     ensures one { (l : List (Result I.Item ℕ)) (x : I.Item) → Lists I.contract.steps rows l
-        → nth_of 0 l ≡ Ok (Some x) → nth_of 0 (behind_first l) ≡ Ok None → result ≡ Ok x }
+        → nth_of 0 l ≡ Ok (Some x) → nth_of 0 (rest_first l) ≡ Ok None → result ≡ Ok x }
     ensures none { (l : List (Result I.Item ℕ)) → Lists I.contract.steps rows l
         → nth_of 0 l ≡ Ok None → result ≡ Err NoRow.Missing }
     ensures several { (l : List (Result I.Item ℕ)) (x y : I.Item) → Lists I.contract.steps rows l
-        → nth_of 0 l ≡ Ok (Some x) → nth_of 0 (behind_first l) ≡ Ok (Some y)
+        → nth_of 0 l ≡ Ok (Some x) → nth_of 0 (rest_first l) ≡ Ok (Some y)
         → result ≡ Err NoRow.Several }
     ensures first_fails { (l : List (Result I.Item ℕ)) (e : ℕ) → Lists I.contract.steps rows l
         → nth_of 0 l ≡ Err e → result ≡ Err (NoRow.Failed e) }
     ensures second_fails { (l : List (Result I.Item ℕ)) (x : I.Item) (e : ℕ)
         → Lists I.contract.steps rows l → nth_of 0 l ≡ Ok (Some x)
-        → nth_of 0 (behind_first l) ≡ Err e → result ≡ Err (NoRow.Failed e) }
+        → nth_of 0 (rest_first l) ≡ Err e → result ≡ Err (NoRow.Failed e) }
 {
     let Some(first) = rows.draw()? else {
         return Err(NoRow::Missing);

@@ -2,7 +2,7 @@
 #![tactic(auto)]
 
 pub mod ascii;
-pub mod behind;
+pub mod back;
 pub mod digits;
 pub mod drawing;
 pub mod faults;

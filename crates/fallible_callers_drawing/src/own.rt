@@ -255,7 +255,7 @@ impl Between {
         ensures both { ListsBothEnds (listing shows_between).steps
             (listing_ends shows_between).steps result (numbers_between low high) }
         ensures lists { Lists (listing shows_between).steps result (numbers_between low high) }
-        ensures behind { Lists (listing_ends shows_between).steps result
+        ensures back { Lists (listing_ends shows_between).steps result
             (reversed (numbers_between low high)) }
         ensures sure { NeverFails (listing shows_between) result }
         ensures fits { AtMost (listing shows_between) result (high - low) }
@@ -264,7 +264,7 @@ impl Between {
     }
 }
 
-/// How many of the numbers from `low` to below `high` are even, counted from behind.
+/// How many of the numbers from `low` to below `high` are even, counted from the back.
 pub fn even_between(low: u32, high: u32) -> Result<usize, u8>
     ensures { result ≡ counted
         (filtered (λ x. Ok (eqb (x % 2) 0)) (reversed (numbers_between low high))) }

@@ -1,7 +1,7 @@
 //! The idioms of parsers: where something stands, and what stands behind it.
 ghost use Rattle.std.specs.Prelude.{◌≡◌, ◌+◌, ◌%◌, ◌^◌, ℕ, eqb, length, List, Result, Ok, Err, Option, Some, None, IfOk, false, is_err, nat_lt, if◌then◌else◌};
 ghost use Rattle.fallible_iterator.specs.Fault.{Fault};
-ghost use Rattle.fallible_iterator.specs.Lists.{Lists, all_of, behind_false, behind_true, folded, items, nth_of, numbered, on_value, parted, position_in, results, taken_while};
+ghost use Rattle.fallible_iterator.specs.Lists.{Lists, all_of, rest_false, rest_true, folded, items, nth_of, numbered, on_value, partitioned, position_in, results, taken_while};
 ghost use Rattle.fallible_callers_drawing.specs.Full.{SideFull};
 ghost use Rattle.fallible_callers_drawing.specs.declared.parsing.NoSum.{NoSum};
 ghost use Rattle.std.specs.declared.alloc.AllocError.{AllocError};
@@ -16,10 +16,10 @@ pub fn how_many_each(
     readings: Vec<Result<u32, u8>>,
 ) -> Result<(usize, usize), Fault<u8>>
     ensures value { IfOk result (λ both. Ok both ≡ on_value
-        (parted (λ x. Ok (nat_lt 100 x)) (results readings.items))
+        (partitioned (λ x. Ok (nat_lt 100 x)) (results readings.items))
         (λ sides. Ok (length sides.0, length sides.1))) }
     ensures failure { (e : ℕ) → result ≡ Err (Fault.Source e)
-        → parted (λ x. Ok (nat_lt 100 x)) (results readings.items) ≡ Err e }
+        → partitioned (λ x. Ok (nat_lt 100 x)) (results readings.items) ≡ Err e }
     ensures memory { (a : AllocError) → result ≡ Err (Fault.Memory a)
         → SideFull (λ x. Ok (nat_lt 100 x)) (results readings.items) }
 {
@@ -33,7 +33,7 @@ pub fn how_many_each(
 /// The second reading behind the first one that is 0; none where there is no such one, and the first failure before.
 pub fn second_behind_zero(readings: Vec<Result<u32, u8>>) -> Result<Option<u32>, u8>
     ensures some { (n : ℕ) → position_in (λ r. Ok (eqb r 0)) (results readings.items) ≡ Ok (Some n)
-        → result ≡ nth_of 1 (behind_true (λ r. Ok (eqb r 0)) (results readings.items)) }
+        → result ≡ nth_of 1 (rest_true (λ r. Ok (eqb r 0)) (results readings.items)) }
     ensures none { position_in (λ r. Ok (eqb r 0)) (results readings.items) ≡ Ok None
         → result ≡ Ok None }
     ensures fails { (e : ℕ) → position_in (λ r. Ok (eqb r 0)) (results readings.items) ≡ Err e
@@ -103,7 +103,7 @@ where
     ensures rest { (l : List (Result ℕ I.Error)) (sum : ℕ)
         → Lists I.contract.steps tokens.old l
         → result ≡ Ok sum → all_of (λ x. Ok (nat_lt x 10)) l ≡ Ok false
-        → Lists I.contract.steps tokens.new (behind_false (λ x. Ok (nat_lt x 10)) l) }
+        → Lists I.contract.steps tokens.new (rest_false (λ x. Ok (nat_lt x 10)) l) }
     ensures can_next { I.contract.can_next tokens.new }
 {
     (&mut *tokens).take_while(|token| Ok(*token < 10)).try_fold(
@@ -123,7 +123,7 @@ where
         → all_of (λ x. Ok (nat_lt x 10)) l ≡ Ok false
         → result ≡ on_value (folded (λ e. e) (λ s x. Ok ((s + x) % 2 ^ 64)) 0
         (taken_while (λ x. Ok (nat_lt x 10)) l)) (λ sum. on_value
-        (nth_of 0 (behind_false (λ x. Ok (nat_lt x 10)) l)) (λ next. Ok (sum, next))) }
+        (nth_of 0 (rest_false (λ x. Ok (nat_lt x 10)) l)) (λ next. Ok (sum, next))) }
     ensures fails { (l : List (Result ℕ I.Error)) (e : I.Error) → Lists I.contract.steps tokens l
         → folded (λ e. e) (λ s x. Ok ((s + x) % 2 ^ 64)) 0
         (taken_while (λ x. Ok (nat_lt x 10)) l) ≡ Err e → result ≡ Err e }

@@ -1,14 +1,14 @@
 //! What is left after a call through a borrow.
 ghost use Rattle.std.specs.Prelude.{◌≡◌, ◌-◌, ◌^◌, ℕ, eqb, List, Option, Result, Ok, Err, Some, None};
 ghost use Rattle.fallible_iterator.specs.Contract.{AtMost};
-ghost use Rattle.fallible_iterator.specs.Lists.{Lists, behind_first, behind_true, counted, found, looked_ahead, nth_of, on_value, position_in, results};
+ghost use Rattle.fallible_iterator.specs.Lists.{Lists, rest_first, rest_true, counted, found, looked_ahead, nth_of, on_value, position_in, results};
 
 use fallible_iterator::{FallibleIterator, convert};
 
 /// The reading behind the first one that is 0; none where there is no such one, and the first failure before.
 pub fn behind_zero(readings: Vec<Result<u32, u8>>) -> Result<Option<u32>, u8>
     ensures some { (x : ℕ) → found (λ r. Ok (eqb r 0)) (results readings.items) ≡ Ok (Some x)
-        → result ≡ nth_of 0 (behind_true (λ r. Ok (eqb r 0)) (results readings.items)) }
+        → result ≡ nth_of 0 (rest_true (λ r. Ok (eqb r 0)) (results readings.items)) }
     ensures none { found (λ r. Ok (eqb r 0)) (results readings.items) ≡ Ok None
         → result ≡ Ok None }
     ensures fails { (e : ℕ) → found (λ r. Ok (eqb r 0)) (results readings.items) ≡ Err e
@@ -29,7 +29,7 @@ where
     ensures some { (l : List (Result ℕ I.Error)) (n : ℕ)
         → Lists I.contract.steps it l
         → position_in (λ x. Ok (eqb x 0)) l ≡ Ok (Some n)
-        → result ≡ counted (behind_true (λ x. Ok (eqb x 0)) l) }
+        → result ≡ counted (rest_true (λ x. Ok (eqb x 0)) l) }
     ensures none { (l : List (Result ℕ I.Error))
         → Lists I.contract.steps it l
         → position_in (λ x. Ok (eqb x 0)) l ≡ Ok None → result ≡ Ok 0 }
@@ -46,11 +46,11 @@ where
 /// How many readings come behind the first two, or the first failure. No clause says what comes of fewer than two.
 pub fn count_behind_two(readings: Vec<Result<u32, u8>>) -> Result<usize, u8>
     ensures value { (x y : ℕ) → nth_of 0 (results readings.items) ≡ Ok (Some x)
-        → nth_of 0 (behind_first (results readings.items)) ≡ Ok (Some y)
-        → result ≡ counted (behind_first (behind_first (results readings.items))) }
+        → nth_of 0 (rest_first (results readings.items)) ≡ Ok (Some y)
+        → result ≡ counted (rest_first (rest_first (results readings.items))) }
     ensures first_fails { (e : ℕ) → nth_of 0 (results readings.items) ≡ Err e → result ≡ Err e }
     ensures second_fails { (x e : ℕ) → nth_of 0 (results readings.items) ≡ Ok (Some x)
-        → nth_of 0 (behind_first (results readings.items)) ≡ Err e → result ≡ Err e }
+        → nth_of 0 (rest_first (results readings.items)) ≡ Err e → result ≡ Err e }
 {
     let mut left = convert(readings.into_iter());
     left.draw()?;

@@ -5,7 +5,7 @@ pub mod Closing
 pub mod Collecting
 pub mod Comparing
 pub mod Contract
-pub mod Counting
+pub mod ByNumber
 pub mod Exchange
 pub mod Folding
 pub mod Folds
@@ -14,7 +14,7 @@ pub mod LawForm
 pub mod Lists
 pub mod Nth
 pub mod Overriding
-pub mod Parting
+pub mod Partitioning
 pub mod Passing
 pub mod Picking
 pub mod Searching

@@ -23,7 +23,7 @@ module _ {S A E : Type 0} (front back : S → Answered A E → S → Type 0) whe
   abbrev pub RunAtEnds : S → List (Side × Answered A E) → S → Type 0
   RunAtEnds s drawn t = FoldsTo (λ u d v. step_at d.0 u d.1 v) s drawn t
 
-  -- For n draws: each draw from the front takes the first of the list, each draw from behind the first of the list reversed, and what is left lists the rest for n - 1 draws.
+  -- For n draws: each draw from the front takes the first of the list, each draw from the back the first of the list reversed, and what is left lists the rest for n - 1 draws.
   abbrev pub ListsBothEndsFor : ℕ → S → List (Result A E) → Type 0
   ListsBothEndsFor zero s l = ⊤
   ListsBothEndsFor (suc n) s l = ((r : Answered A E) (t : S) → front s r t → TakesFirst (λ k. ListsBothEndsFor n t k) r l) × ((r : Answered A E) (t : S) → back s r t → TakesFirst (λ k. ListsBothEndsFor n t (reverse k)) r (reverse l))
@@ -46,23 +46,23 @@ answer_came (Ok (Some x)) l = Ok x ∷ l
 answer_came (Ok None) l = l
 answer_came (Err e) l = Err e ∷ l
 
--- what came from the front, in its order, and what came from behind, in its order
-abbrev pub came_in_front : {A E : Type 0} → List (Side × Answered A E) → List (Result A E)
-came_in_front [] = []
-came_in_front ((Front, r) ∷ drawn) = answer_came r (came_in_front drawn)
-came_in_front ((Back, r) ∷ drawn) = came_in_front drawn
+-- what came from the front, in its order, and what came from the back, in its order
+abbrev pub came_from_front : {A E : Type 0} → List (Side × Answered A E) → List (Result A E)
+came_from_front [] = []
+came_from_front ((Front, r) ∷ drawn) = answer_came r (came_from_front drawn)
+came_from_front ((Back, r) ∷ drawn) = came_from_front drawn
 
-abbrev pub came_behind : {A E : Type 0} → List (Side × Answered A E) → List (Result A E)
-came_behind [] = []
-came_behind ((Front, r) ∷ drawn) = came_behind drawn
-came_behind ((Back, r) ∷ drawn) = answer_came r (came_behind drawn)
+abbrev pub came_from_back : {A E : Type 0} → List (Side × Answered A E) → List (Result A E)
+came_from_back [] = []
+came_from_back ((Front, r) ∷ drawn) = came_from_back drawn
+came_from_back ((Back, r) ∷ drawn) = answer_came r (came_from_back drawn)
 
--- What came in front, what is left, and what came behind, reversed, make the list; and an end was answered only where nothing was left.
+-- What came from the front, what is left, and what came from the back, reversed, make the list; and an end was answered only where nothing was left.
 pub record Interleaves {S A E : Type 0} (front back : S → Answered A E → S → Type 0) (l : List (Result A E)) (drawn : List (Side × Answered A E)) (t : S) : Type 0 where
-  pub left : List (Result A E)
-  pub listed : ListsBothEnds front back t left
-  pub makes : l ≡ came_in_front drawn ++ left ++ reverse (came_behind drawn)
-  pub ends : (before after : List (Side × Answered A E)) (side : Side) → drawn ≡ before ++ (side, end) ∷ after → l ≡ came_in_front before ++ reverse (came_behind before)
+  pub after : List (Result A E)
+  pub listed : ListsBothEnds front back t after
+  pub makes : l ≡ came_from_front drawn ++ after ++ reverse (came_from_back drawn)
+  pub ends : (before after : List (Side × Answered A E)) (side : Side) → drawn ≡ before ++ (side, end) ∷ after → l ≡ came_from_front before ++ reverse (came_from_back before)
 
 -- ---- what an adapter lists whose closure is asked of each item
 

@@ -27,10 +27,10 @@ module _ {F X R : Type 0} (call : F → X → R → F → Type 0) where
     pub state : F
     pub argument : X
     pub answer : R
-    pub left : F
+    pub after : F
     pub reached : Reaches P f state
     pub given : P argument
-    pub called : call state argument answer left
+    pub called : call state argument answer after
     pub says : Q argument answer
 
 -- one call on an item itself, which may answer so and leave the closure so

@@ -12,16 +12,16 @@ use Rattle.fallible_contract.specs.declared.collecting.Fault.TheVariants.{Source
 -- The collection has the items that came, up to an end.
 pub record CollectsAll {S A E C : Type 0} (steps : S → Answered A E → S → Type 0) (made : List A → C → Type 0) (s : S) (c : C) : Type 0 where
   pub items : List A
-  pub left : S
-  pub ran : Run steps s (map item items ++ end ∷ []) left
+  pub after : S
+  pub ran : Run steps s (map item items ++ end ∷ []) after
   pub is_made : made items c
 
 -- The first failure came after items of which a collection was made, and nothing was drawn after it.
 pub record FailsWith {S A E C : Type 0} (steps : S → Answered A E → S → Type 0) (made : List A → C → Type 0) (s : S) (e : E) : Type 0 where
   pub items : List A
   pub collection : C
-  pub left : S
-  pub ran : Run steps s (map item items ++ failure e ∷ []) left
+  pub after : S
+  pub ran : Run steps s (map item items ++ failure e ∷ []) after
   pub is_made : made items collection
 
 -- A collection of the items that came refused the last item that was drawn.
@@ -29,8 +29,8 @@ pub record RefusesItem {S A E C : Type 0} (steps : S → Answered A E → S → 
   pub items : List A
   pub refused : A
   pub collection : C
-  pub left : S
-  pub ran : Run steps s (map item items ++ item refused ∷ []) left
+  pub after : S
+  pub ran : Run steps s (map item items ++ item refused ∷ []) after
   pub is_made : made items collection
   pub refuses_it : refuses collection refused
 
@@ -58,7 +58,7 @@ answered_false [] = []
 answered_false (p ∷ ps) = cond p.1 (answered_false ps) (p.0 ∷ answered_false ps)
 
 -- The closure f, called in order on the items, once each, gave the answers beside them, and is what stands beside the collections: the first is made of the items answered true, and the second of those answered false.
-pub record Parts {A E F B : Type 0} (call : F → A → Result Bool E → F → Type 0) (made : List A → B → Type 0) (f : F) (items : List A) (c : F × (B × B)) : Type 0 where
+pub record Sides {A E F B : Type 0} (call : F → A → Result Bool E → F → Type 0) (made : List A → B → Type 0) (f : F) (items : List A) (c : F × (B × B)) : Type 0 where
   pub answered : List (A × Bool)
   pub beside : map (λ p. p.0) answered ≡ items
   pub called : FoldsTo {P = F} (λ g p h. call g p.0 (Ok p.1) h) f answered c.0
@@ -86,23 +86,23 @@ module _ {A E F B : Type 0} (call : F → A → Result Bool E → F → Type 0) 
 
 -- What `partition` answers: both collections, made of all items up to an end; the first failure of the source or the closure, before which both were made of the items; or want of memory, where making an empty collection may be refused, or an item was refused.
 abbrev pub Partitions : {S A E F B : Type 0} → (S → Answered A E → S → Type 0) → (F → A → Result Bool E → F → Type 0) → (List A → B → Type 0) → Type 0 → (B → A → Type 0) → S → F → Result (B × B) (Fault E) → Type 0
-Partitions {F = F} steps call made empty_refuses refuses s f (Ok p) = (g : F) × CollectsAll steps (Parts call made f) s (g, p)
-Partitions {B = B} steps call made empty_refuses refuses s f (Err (Source e)) = FailsWith steps (Parts call made f) s e ⊎ RefusesItem steps (Parts call made f) (ClosureFails {B = B} call e) s
-Partitions steps call made empty_refuses refuses s f (Err (Memory a)) = empty_refuses ⊎ RefusesItem steps (Parts call made f) (SideRefuses call refuses) s
+Partitions {F = F} steps call made empty_refuses refuses s f (Ok p) = (g : F) × CollectsAll steps (Sides call made f) s (g, p)
+Partitions {B = B} steps call made empty_refuses refuses s f (Err (Source e)) = FailsWith steps (Sides call made f) s e ⊎ RefusesItem steps (Sides call made f) (ClosureFails {B = B} call e) s
+Partitions steps call made empty_refuses refuses s f (Err (Memory a)) = empty_refuses ⊎ RefusesItem steps (Sides call made f) (SideRefuses call refuses) s
 
 -- ---- unzip
 
 module _ {A B C D : Type 0} (made_first : List A → C → Type 0) (made_second : List B → D → Type 0) where
-  -- The first collection is made of the pairs' first parts, and the second of their second parts.
-  abbrev pub MadeOfParts : List (A × B) → C × D → Type 0
-  MadeOfParts pairs c = made_first (map (λ p. p.0) pairs) c.0 × made_second (map (λ p. p.1) pairs) c.1
+  -- The first collection is made of the pairs' first halves, and the second of their second halves.
+  abbrev pub MadeOfPairs : List (A × B) → C × D → Type 0
+  MadeOfPairs pairs c = made_first (map (λ p. p.0) pairs) c.0 × made_second (map (λ p. p.1) pairs) c.1
 
   module _ (first_refuses : C → A → Type 0) (second_refuses : D → B → Type 0) where
-    -- The first collection refuses the first part; or it takes it, and the second collection refuses the second part.
+    -- The first collection refuses the first half; or it takes it, and the second collection refuses the second half.
     abbrev pub PairRefused : C × D → A × B → Type 0
     PairRefused c x = first_refuses c.0 x.0 ⊎ ((d : C) × IsCollectTurn made_first first_refuses c.0 x.0 (Continue tt) d × second_refuses c.1 x.1)
 
-    -- One turn: the first part is pushed to the first collection, and then the second part to the second; or the pair is refused.
+    -- One turn: the first half is pushed to the first collection, and then the second half to the second; or the pair is refused.
     abbrev pub IsUnzipTurn : C × D → A × B → ControlFlow AllocError (Unit {0}) → C × D → Type 0
     IsUnzipTurn c x (Continue u) d = IsCollectTurn made_first first_refuses c.0 x.0 (Continue tt) d.0 × IsCollectTurn made_second second_refuses c.1 x.1 (Continue tt) d.1
     IsUnzipTurn c x (Break a) d = PairRefused c x

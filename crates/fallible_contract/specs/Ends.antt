@@ -7,7 +7,7 @@ use Rattle.fallible_contract.specs.Contract.{Contract, Lawful}
 pub record Ends (S A E : Type 0) : Type 1 where
   -- the condition of every draw, from either end
   pub can_next : S → Type 0
-  -- the step from behind: a draw from behind may answer this and leave that
+  -- the step from the back: a draw from the back may answer this and leave that
   pub steps : S → Answered A E → S → Type 0
   -- the item may still come, from one end or the other
   pub may_give : S → A → Type 0
@@ -15,11 +15,11 @@ pub record Ends (S A E : Type 0) : Type 1 where
   pub may_fail : S → E → Type 0
 
 module _ {S A E : Type 0} (m : Contract S A E) (e : Ends S A E) where
-  -- the contract of draws from the front, where draws from behind are made as well
+  -- the contract of draws from the front, where draws from the back are made as well
   abbrev pub from_front : Contract S A E
   from_front = record m { can_next = e.can_next; may_give = e.may_give; may_fail = e.may_fail }
 
-  -- the contract of draws from behind
+  -- the contract of draws from the back
   abbrev pub from_back : Contract S A E
   from_back = record m { can_next = e.can_next; steps = e.steps; may_give = e.may_give; may_fail = e.may_fail }
 
@@ -44,7 +44,7 @@ pub record LawfulEnds {S A E : Type 0} (m : Contract S A E) (e : Ends S A E) : T
   pub front : Lawful (from_front m e)
   pub back : Lawful (from_back m e)
 
--- The second end of a type that says how it steps from behind, and nothing else.
+-- The second end of a type that says how it steps from the back, and nothing else.
 abbrev pub counted_ends : {S A E : Type 0} → (S → Answered A E → S → Type 0) → Ends S A E
 counted_ends steps = record {
   can_next = λ _. ⊤;

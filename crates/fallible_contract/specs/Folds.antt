@@ -114,9 +114,9 @@ module _ {S A E C R : Type 0} (steps : S → Answered A E → S → Type 0) (tur
   abbrev pub Driven : S → C → Answered R E → S → C → Type 0
   Driven s c r t d = Drained steps (DrivenBy turns c r d) s t
 
--- One turn on a state that holds references: what `behind` reads of it goes as in `turns`, and the references stay the same, which `names` tells.
-abbrev pub TurnBehind : {X N A C R : Type 0} → (X → C) → (X → N) → (C → A → ControlFlow R (Unit {0}) → C → Type 0) → X → A → ControlFlow R (Unit {0}) → X → Type 0
-TurnBehind behind names turns b x r d = turns (behind b) x r (behind d) × (names d ≡ names b)
+-- One turn on a state that holds references: the values that they point to, `values`, go as in `turns`, and the references stay the same, which `names` tells.
+abbrev pub TurnThrough : {X N A C R : Type 0} → (X → C) → (X → N) → (C → A → ControlFlow R (Unit {0}) → C → Type 0) → X → A → ControlFlow R (Unit {0}) → X → Type 0
+TurnThrough values names turns b x r d = turns (values b) x r (values d) × (names d ≡ names b)
 
 -- the caller's state beside the adapter's, and the names of the references to both
 abbrev pub beside : {C P : Type 0} → Beside C P → C × P
@@ -149,7 +149,7 @@ pub record CountedBy {A E : Type 0} (r : Result ℕ E) (items : List A) (last : 
 
 -- The draws from s answered items and then an end or a failure; the result is the number of the items, or the failure.
 abbrev pub Counted : {S A E : Type 0} → (S → Answered A E → S → Type 0) → S → Result ℕ E → Type 0
-Counted {S = S} steps s r = (left : S) × Drained steps (CountedBy r) s left
+Counted {S = S} steps s r = (after : S) × Drained steps (CountedBy r) s after
 
 -- ---- last
 
@@ -164,7 +164,7 @@ pub record LastBy {A E : Type 0} (r : Result (Option A) E) (items : List A) (las
 
 -- The draws from s answered items and then an end or a failure; the result is the last of the items, none of no items, or the failure.
 abbrev pub LastOf : {S A E : Type 0} → (S → Answered A E → S → Type 0) → S → Result (Option A) E → Type 0
-LastOf {S = S} steps s r = (left : S) × Drained steps (LastBy r) s left
+LastOf {S = S} steps s r = (after : S) × Drained steps (LastBy r) s after
 
 -- ---- nth
 

@@ -3,7 +3,7 @@ pub mod BoundsRuns
 pub mod Closing
 pub mod Closures
 pub mod Contract
-pub mod Counting
+pub mod ByNumber
 pub mod Ends
 pub mod Exchange
 pub mod Own

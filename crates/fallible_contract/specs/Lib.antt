@@ -6,7 +6,7 @@ pub mod Closures
 pub mod Collecting
 pub mod Comparing
 pub mod Contract
-pub mod Counting
+pub mod ByNumber
 pub mod Ends
 pub mod Exchange
 pub mod Folding

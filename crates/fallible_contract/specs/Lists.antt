@@ -5,7 +5,7 @@ use Rattle.std.specs.List.{last_or}
 use Rattle.fallible_contract.specs.Traces.{Answered, Run, end}
 use Rattle.fallible_contract.specs.Picking.{better, better_key, item_of}
 use Rattle.fallible_contract.specs.Searching.{all_pick, any_pick, find_map_pick, find_pick, position_pick, each_pick}
-use Rattle.fallible_contract.specs.Collecting.{MadeOfParts}
+use Rattle.fallible_contract.specs.Collecting.{MadeOfPairs}
 use Rattle.std.specs.declared.option.Option.{Option}
 use Rattle.std.specs.declared.cmp.Ordering.{Ordering}
 use Rattle.std.specs.declared.cmp.Ordering.TheVariants.{Less, Equal, Greater}
@@ -56,9 +56,9 @@ ActsWithState {F} {T} {X} {R} call f next = (t : T) (x : X) (r : R) (q : T × F)
 abbrev pub RunsRead : {S X Z : Type 0} → (S → Option Z → S → Type 0) → (X → Z) → S → List X → Type 0
 RunsRead {X = X} gives h s l = EachRunFrom gives s (λ p. (p.len ≤ length l) × (p.whole ≡ true → p.len ≡ length l) × ((k : ℕ) (d : X) → k < p.len → p.at k ≡ Some (h (slice_index_or l k d))))
 
--- Whatever calls of a std iterator's `next_back` give from s, it reads the list from behind: the last element first, and `None` only after the first one.
-abbrev pub RunsReadBehind : {S X Z : Type 0} → (S → Option Z → S → Type 0) → (X → Z) → S → List X → Type 0
-RunsReadBehind {X = X} gives h s l = EachRunFrom gives s (λ p. (p.len ≤ length l) × (p.whole ≡ true → p.len ≡ length l) × ((k : ℕ) (d : X) → k < length l → length l - 1 - k < p.len → p.at (length l - 1 - k) ≡ Some (h (slice_index_or l k d))))
+-- Whatever calls of a std iterator's `next_back` give from s, it reads the list from the back: the last element first, and `None` only after the first one.
+abbrev pub RunsReadBack : {S X Z : Type 0} → (S → Option Z → S → Type 0) → (X → Z) → S → List X → Type 0
+RunsReadBack {X = X} gives h s l = EachRunFrom gives s (λ p. (p.len ≤ length l) × (p.whole ≡ true → p.len ≡ length l) × ((k : ℕ) (d : X) → k < length l → length l - 1 - k < p.len → p.at (length l - 1 - k) ≡ Some (h (slice_index_or l k d))))
 
 -- ---- lists of sources
 
@@ -169,10 +169,10 @@ to_side x false (Ok p) = Ok (p.0, x ∷ p.1)
 to_side x v (Err e) = Err e
 
 -- the items x for which h x is true, and those for which it is false; or the failure of the list or of h that comes first
-unfoldable pub parted : {A E : Type 0} → (A → Result Bool E) → List (Result A E) → Result (List A × List A) E
-parted h [] = Ok ([], [])
-parted h (Ok x ∷ l) = on_value (h x) (λ v. to_side x v (parted h l))
-parted h (Err e ∷ l) = Err e
+unfoldable pub partitioned : {A E : Type 0} → (A → Result Bool E) → List (Result A E) → Result (List A × List A) E
+partitioned h [] = Ok ([], [])
+partitioned h (Ok x ∷ l) = on_value (h x) (λ v. to_side x v (partitioned h l))
+partitioned h (Err e ∷ l) = Err e
 
 -- There is a value in r, and the collection is made of it.
 abbrev pub MadeOf : {X E C : Type 0} → (X → C → Type 0) → Result X E → C → Type 0
@@ -195,17 +195,17 @@ CollectedAs made l r = CollectedBy made l r
 
 -- What `unzip` answers over the list: what `collect` into the pair of the two collections answers.
 unfoldable pub UnzippedAs : {A B E C D : Type 0} → (List A → C → Type 0) → (List B → D → Type 0) → List (Result (A × B) E) → Result (C × D) (Fault E) → Type 0
-UnzippedAs made_first made_second l r = CollectedBy (MadeOfParts made_first made_second) l r
+UnzippedAs made_first made_second l r = CollectedBy (MadeOfPairs made_first made_second) l r
 
--- The collections are those of the two lists that `parted` makes, the failure is the one that it answers; want of memory says nothing of the list.
-abbrev pub PartedBy : {A E C : Type 0} → (List A → C → Type 0) → (A → Result Bool E) → List (Result A E) → Result (C × C) (Fault E) → Type 0
-PartedBy {A = A} made h l (Ok c) = (ps : List A × List A) × (parted h l ≡ Ok ps) × made ps.0 c.0 × made ps.1 c.1
-PartedBy made h l (Err (Source e)) = parted h l ≡ Err e
-PartedBy made h l (Err (Memory a)) = ⊤
+-- The collections are those of the two lists that `partitioned` makes, the failure is the one that it answers; want of memory says nothing of the list.
+abbrev pub PartitionedBy : {A E C : Type 0} → (List A → C → Type 0) → (A → Result Bool E) → List (Result A E) → Result (C × C) (Fault E) → Type 0
+PartitionedBy {A = A} made h l (Ok c) = (ps : List A × List A) × (partitioned h l ≡ Ok ps) × made ps.0 c.0 × made ps.1 c.1
+PartitionedBy made h l (Err (Source e)) = partitioned h l ≡ Err e
+PartitionedBy made h l (Err (Memory a)) = ⊤
 
 -- What `partition` answers over the list.
-unfoldable pub PartedAs : {A E C : Type 0} → (List A → C → Type 0) → (A → Result Bool E) → List (Result A E) → Result (C × C) (Fault E) → Type 0
-PartedAs made h l r = PartedBy made h l r
+unfoldable pub PartitionedAs : {A E C : Type 0} → (List A → C → Type 0) → (A → Result Bool E) → List (Result A E) → Result (C × C) (Fault E) → Type 0
+PartitionedAs made h l r = PartitionedBy made h l r
 
 -- the value that h makes of the value so far and each item, or its first failure, or the list's first, converted
 unfoldable pub folded : {A B E E' : Type 0} → (E → E') → (B → A → Result B E') → B → List (Result A E) → Result B E'
@@ -277,16 +277,16 @@ compared rule (Ok x ∷ a) (Err e ∷ b) = Err e
 -- ---- what a call leaves of a list, where it drew no end
 
 -- without the first answer
-unfoldable pub behind_first : {A E : Type 0} → List (Result A E) → List (Result A E)
-behind_first [] = []
-behind_first (y ∷ l) = l
+unfoldable pub rest_first : {A E : Type 0} → List (Result A E) → List (Result A E)
+rest_first [] = []
+rest_first (y ∷ l) = l
 
 -- what stands behind the item with n items before it, or behind the failure that comes first
-unfoldable pub behind_nth : {A E : Type 0} → ℕ → List (Result A E) → List (Result A E)
-behind_nth n [] = []
-behind_nth zero (Ok x ∷ l) = l
-behind_nth (suc n) (Ok x ∷ l) = behind_nth n l
-behind_nth n (Err e ∷ l) = l
+unfoldable pub rest_nth : {A E : Type 0} → ℕ → List (Result A E) → List (Result A E)
+rest_nth n [] = []
+rest_nth zero (Ok x ∷ l) = l
+rest_nth (suc n) (Ok x ∷ l) = rest_nth n l
+rest_nth n (Err e ∷ l) = l
 
 -- the list at which a search stops, or what it leaves of a later one
 abbrev pub stopped_or : {B : Type 0} → Bool → B → B → B
@@ -294,35 +294,35 @@ stopped_or true here later = here
 stopped_or false here later = later
 
 -- what a search leaves at an item: what stands behind it where the closure's answer stops the search, or the closure fails
-abbrev pub behind_answer : {A V E : Type 0} → (V → Bool) → Result V E → List (Result A E) → List (Result A E) → List (Result A E)
-behind_answer stops (Ok v) here later = stopped_or (stops v) here later
-behind_answer stops (Err e) here later = here
+abbrev pub rest_answer : {A V E : Type 0} → (V → Bool) → Result V E → List (Result A E) → List (Result A E) → List (Result A E)
+rest_answer stops (Ok v) here later = stopped_or (stops v) here later
+rest_answer stops (Err e) here later = here
 
 -- what stands behind the first item x where h x is an answer that stops, or a failure; or behind the failure of the list that comes first
-unfoldable pub behind_stop : {A V E : Type 0} → (V → Bool) → (A → Result V E) → List (Result A E) → List (Result A E)
-behind_stop stops h [] = []
-behind_stop stops h (Ok x ∷ l) = behind_answer stops (h x) l (behind_stop stops h l)
-behind_stop stops h (Err e ∷ l) = l
+unfoldable pub rest_stop : {A V E : Type 0} → (V → Bool) → (A → Result V E) → List (Result A E) → List (Result A E)
+rest_stop stops h [] = []
+rest_stop stops h (Ok x ∷ l) = rest_answer stops (h x) l (rest_stop stops h l)
+rest_stop stops h (Err e ∷ l) = l
 
 -- what `find`, `any` and `position` leave: what stands behind the first item x for which h x is true
-unfoldable pub behind_true : {A E : Type 0} → (A → Result Bool E) → List (Result A E) → List (Result A E)
-behind_true h l = behind_stop (λ v. v) h l
+unfoldable pub rest_true : {A E : Type 0} → (A → Result Bool E) → List (Result A E) → List (Result A E)
+rest_true h l = rest_stop (λ v. v) h l
 
 -- what `all` leaves: what stands behind the first item x for which h x is false
-unfoldable pub behind_false : {A E : Type 0} → (A → Result Bool E) → List (Result A E) → List (Result A E)
-behind_false h l = behind_stop not h l
+unfoldable pub rest_false : {A E : Type 0} → (A → Result Bool E) → List (Result A E) → List (Result A E)
+rest_false h l = rest_stop not h l
 
 -- what `find_map` leaves: what stands behind the first item x for which h x is a value
-unfoldable pub behind_value : {A B E : Type 0} → (A → Result (Option B) E) → List (Result A E) → List (Result A E)
-behind_value h l = behind_stop is_some h l
+unfoldable pub rest_value : {A B E : Type 0} → (A → Result (Option B) E) → List (Result A E) → List (Result A E)
+rest_value h l = rest_stop is_some h l
 
 -- what a fold leaves at an item: what stands behind it where h fails
-abbrev pub behind_failed : {B E E' A : Type 0} → Result B E' → List (Result A E) → (B → List (Result A E)) → List (Result A E)
-behind_failed (Ok c) here later = later c
-behind_failed (Err e) here later = here
+abbrev pub rest_failed : {B E E' A : Type 0} → Result B E' → List (Result A E) → (B → List (Result A E)) → List (Result A E)
+rest_failed (Ok c) here later = later c
+rest_failed (Err e) here later = here
 
 -- what `try_fold` leaves: what stands behind the first item on which h, called on the value so far and that item, fails; or behind the failure of the list that comes first
-unfoldable pub behind_fold : {A B E E' : Type 0} → (B → A → Result B E') → B → List (Result A E) → List (Result A E)
-behind_fold h b [] = []
-behind_fold h b (Ok x ∷ l) = behind_failed (h b x) l (λ c. behind_fold h c l)
-behind_fold h b (Err e ∷ l) = l
+unfoldable pub rest_fold : {A B E E' : Type 0} → (B → A → Result B E') → B → List (Result A E) → List (Result A E)
+rest_fold h b [] = []
+rest_fold h b (Ok x ∷ l) = rest_failed (h b x) l (λ c. rest_fold h c l)
+rest_fold h b (Err e ∷ l) = l

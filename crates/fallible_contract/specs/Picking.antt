@@ -44,8 +44,8 @@ module _ {A E F : Type 0} (keeps : Ordering) (call : F → A → A → Result Or
 
 -- The result is that of a fold that carries the best so far, from none on.
 pub record PickedByFold {S A E F : Type 0} (keeps : Ordering) (call : F → A → A → Result Ordering E → F → Type 0) (steps : S → Answered A E → S → Type 0) (s : S) (f : F) (r : Result (Option A) E) : Type 0 where
-  pub left : S
-  pub folded : Folded steps (PickCall keeps call) (λ e d. d ≡ e) s None f r left
+  pub after : S
+  pub folded : Folded steps (PickCall keeps call) (λ e d. d ≡ e) s None f r after
 
 module _ {A : Type 0} (keeps : Ordering) where
   -- From a best on, there is an order for each of these items, and each next best is the one before it, where the order beside the next item is `keeps`, else that item.
@@ -74,8 +74,8 @@ pub record Picked {S A E F : Type 0} (keeps : Ordering) (call : F → A → A �
   pub bests : List A
   pub last : Answered A E
   pub closure : F
-  pub left : S
-  pub ran : Run steps s (map item items ++ last ∷ []) left
+  pub after : S
+  pub ran : Run steps s (map item items ++ last ∷ []) after
   pub are : Bests keeps items orders bests
   pub called : Calls (λ g p o h. call g p.0 p.1 (Ok o) h) f (zip (zip bests (drop 1 items)) orders) closure
   pub exit : PickExit call bests closure last r
@@ -136,7 +136,7 @@ module _ {A : Type 0} (keeps : Ordering) (cmp : A → A → Ordering) where
 
   -- The draws answered items and then an end or a failure; the result is the best of them, or the failure.
   abbrev pub Best : {S E : Type 0} → (S → Answered A E → S → Type 0) → S → Result (Option A) E → Type 0
-  Best {S = S} steps s r = (left : S) × Drained steps (BestBy r) s left
+  Best {S = S} steps s r = (after : S) × Drained steps (BestBy r) s after
 
 -- ---- by an order of keys
 
@@ -152,7 +152,7 @@ module _ {A E F K : Type 0} (keeps : Ordering) (cmp : K → K → Ordering) (cal
     pub keyed : List (K × A)
     pub last : Answered A E
     pub closure : F
-    pub left : S
-    pub ran : Run steps s (map item (map (λ p. p.1) keyed) ++ last ∷ []) left
+    pub after : S
+    pub ran : Run steps s (map item (map (λ p. p.1) keyed) ++ last ∷ []) after
     pub called : FoldsTo {P = F} (λ g p h. call g p.1 (Ok p.0) h) f keyed closure
     pub exit : KeyExit keyed closure last r

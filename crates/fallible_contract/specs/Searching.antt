@@ -39,8 +39,8 @@ each_pick n x u = None
 
 module _ {A E F V R : Type 0} (call : F → A → Result V E → F → Type 0) (pick : ℕ → A → V → Option R) where
   -- One call of the closure, after which the search goes on, whatever number of items came before.
-  abbrev pub Passed : F → A → F → Type 0
-  Passed f x g = (v : V) × call f x (Ok v) g × ((n : ℕ) → pick n x v ≡ None)
+  abbrev pub WentOn : F → A → F → Type 0
+  WentOn f x g = (v : V) × call f x (Ok v) g × ((n : ℕ) → pick n x v ≡ None)
 
   -- One call of the closure, which decides with n items before: the answer is what is picked, or the closure's failure.
   abbrev pub Decided : ℕ → F → A → Result R E → F → Type 0
@@ -49,12 +49,12 @@ module _ {A E F V R : Type 0} (call : F → A → Result V E → F → Type 0) (
 
   -- one call, as the turn of a fold whose state is the closure
   abbrev pub IsSearchTurn : F → A → ControlFlow (Result R E) (Unit {0}) → F → Type 0
-  IsSearchTurn f x (Continue u) g = Passed f x g
+  IsSearchTurn f x (Continue u) g = WentOn f x g
   IsSearchTurn f x (Break r) g = (n : ℕ) → Decided n f x r g
 
   -- one call, as the turn of a fold whose state is the number of items before, and the closure
   abbrev pub IsPositionTurn : ℕ × F → A → ControlFlow (Result R E) (Unit {0}) → ℕ × F → Type 0
-  IsPositionTurn p x (Continue u) q = (q.0 ≡ p.0 + 1) × Passed p.1 x q.1
+  IsPositionTurn p x (Continue u) q = (q.0 ≡ p.0 + 1) × WentOn p.1 x q.1
   IsPositionTurn p x (Break r) q = Decided p.0 p.1 x r q.1
 
   -- The answer r by the last draw, with n items before it: `none` at an end; the failure; what the closure decided on the item. It leaves the closure as g.
@@ -66,13 +66,13 @@ module _ {A E F V R : Type 0} (call : F → A → Result V E → F → Type 0) (
   -- The closure was called on the items in order, and the search went on. Then came the last answer: an end, a failure, or an item on which the closure decided or failed. The calls left g.
   pub record SearchedBy (none : R) (f : F) (r : Result R E) (g : F) (items : List A) (last : Answered A E) : Type 0 where
     pub closure : F
-    pub went : FoldsTo Passed f items closure
+    pub went : FoldsTo WentOn f items closure
     pub exit : SearchExit none (length items) closure last r g
 
   module _ {S : Type 0} (steps : S → Answered A E → S → Type 0) where
     -- the closure may be called on each item that may come after items on which the search goes on
     abbrev pub CallableInSearch : (F → A → Type 0) → S → F → Type 0
-    CallableInSearch takes s f = HoldsAtEachTurn steps Passed takes s f
+    CallableInSearch takes s f = HoldsAtEachTurn steps WentOn takes s f
 
     -- The draws from s answered items and a last answer, and left t, by which the search with f answers r and leaves it as g.
     abbrev pub Searched : R → S → F → Result R E → S → F → Type 0
@@ -92,5 +92,5 @@ found_by (Ok (Some stop)) = stopped_answer stop
 
 -- One test, as the turn of the fold that `find` is: the test goes on, or it stops the fold with the item, or with its failure.
 abbrev pub IsFindTurn : {A E C : Type 0} → (C → A → Result Bool E → C → Type 0) → C → A → ControlFlow (Result A E) (Unit {0}) → C → Type 0
-IsFindTurn tests c x (Continue u) d = Passed tests find_pick c x d
+IsFindTurn tests c x (Continue u) d = WentOn tests find_pick c x d
 IsFindTurn tests c x (Break stop) d = (n : ℕ) → Decided tests find_pick n c x (stopped_answer stop) d

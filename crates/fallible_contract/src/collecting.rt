@@ -137,7 +137,7 @@ impl<A, B: Drop, C: Collect<A>, D: Collect<B>> Turn<(C, D), (A, B), AllocError> 
     ghost turns = { λ _ c x r d. IsUnzipTurn C.made D.made C.push_refuses D.push_refuses
         c x r d };
 
-    /// The first part is pushed to the first collection, and then the second part to the second.
+    /// The first half is pushed to the first collection, and then the second half to the second.
     #[inline(always)]
     fn turn(&self, state: &mut (C, D), item: (A, B)) -> ControlFlow<AllocError, ()> {
         let (a, b) = item;

@@ -1,4 +1,4 @@
-//! Folds, whose state stands behind a reference: the turns that they take.
+//! Folds, whose state a reference points to: the turns that they take.
 ghost use Rattle.std.specs.Prelude.{◌≡◌, ◌+◌, ◌-◌, ◌^◌, ◌<◌, ⊤, Result, Option, Some};
 ghost use Rattle.std.specs.Borrow.{MutBor};
 ghost use Rattle.fallible_contract.specs.Folds.{IsFoldTurn, IsFoldTurnInSlot, takes_in_slot, IsNthTurn, within, call_with, takes_with, ReduceCall, reduce_takes};

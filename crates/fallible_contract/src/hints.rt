@@ -25,24 +25,24 @@ pub fn less(hint: (usize, Option<usize>), n: usize) -> (usize, Option<usize>)
 }
 
 /// Each bound, of which the items are kept that come after the first `left` ones, at each step.
-pub fn kept(hint: (usize, Option<usize>), between: usize, left: usize) -> (usize, Option<usize>)
-    ensures { result ≡ hint_kept between left hint }
+pub fn kept(hint: (usize, Option<usize>), between: usize, to_skip: usize) -> (usize, Option<usize>)
+    ensures { result ≡ hint_kept between to_skip hint }
 {
     let high = match hint.1 {
-        Some(bound) => Some(kept_of_bound(bound, between, left)),
+        Some(bound) => Some(kept_of_bound(bound, between, to_skip)),
         None => None,
     };
-    (kept_of_bound(hint.0, between, left), high)
+    (kept_of_bound(hint.0, between, to_skip), high)
 }
 
 // How many of n items are kept, where `left` are left out first.
-fn kept_of_bound(n: usize, between: usize, left: usize) -> usize
-    ensures { result ≡ kept_of between left n }
+fn kept_of_bound(n: usize, between: usize, to_skip: usize) -> usize
+    ensures { result ≡ kept_of between to_skip n }
 {
-    if n <= left {
+    if n <= to_skip {
         0
     } else {
-        1 + whole_steps(n - 1 - left, between)
+        1 + whole_steps(n - 1 - to_skip, between)
     }
 }
 

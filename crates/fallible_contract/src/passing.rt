@@ -1,7 +1,7 @@
 //! What adapters make of the items that they let pass, and the turn of their folds.
 ghost use Rattle.std.specs.Prelude.{Option, Result};
 ghost use Rattle.fallible_contract.specs.Folding.{FoldingTakes, FoldingTurn};
-ghost use Rattle.fallible_contract.specs.Folds.{TurnBehind, beside, beside_names};
+ghost use Rattle.fallible_contract.specs.Folds.{TurnThrough, beside, beside_names};
 ghost use Rattle.fallible_contract.specs.Passing.{ItemPassed, PassAnswer, IfItem, LeavesNoneOut};
 ghost use Rattle.fallible_contract.specs.declared.passing.Outcome.{Outcome};
 
@@ -62,7 +62,7 @@ impl<'a, 'b, P, X, E, C, R, A: Pass<P, X, E>, K: Turn<C, A::Kept, R>> Turn<
         FoldingTakes (A.call k.adapter.now) (A.outcome k.adapter.now)
         (A.can_pass k.adapter.now) (K.can_turn k.turn.now) (beside b) x };
 
-    ghost turns = { λ k b x r d. TurnBehind beside beside_names
+    ghost turns = { λ k b x r d. TurnThrough beside beside_names
         (FoldingTurn (A.call k.adapter.now) (A.outcome k.adapter.now) (K.turns k.turn.now))
         b x r d };
 

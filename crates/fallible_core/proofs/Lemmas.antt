@@ -5,6 +5,6 @@ pub mod Callers
 pub mod Cutting
 pub mod Filtering
 pub mod Joining
-pub mod LeftAtEnds
+pub mod RestAtEnds
 pub mod OneToOne
 pub mod Peeking

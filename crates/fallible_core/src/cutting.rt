@@ -1,5 +1,5 @@
 //! Adapters that cut a trace off.
-mod counting;
+mod by_number;
 mod fuse;
 mod skip;
 mod step_by;

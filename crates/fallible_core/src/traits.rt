@@ -4,8 +4,8 @@ ghost use Rattle.std.specs.Iterator.Runs.{EachRunFrom, ItemsAre};
 ghost use Rattle.fallible_contract.specs.Clauses.{OverList, OverListWith, OverBoth};
 ghost use Rattle.fallible_contract.specs.Contract.{Contract, AtMost, Lawful, Stays, NeverFails, seen_as};
 ghost use Rattle.fallible_contract.specs.Closures.{IsCallable, call_on, takes_on, call_at, takes_at};
-ghost use Rattle.fallible_contract.specs.Collecting.{Collects, Asks, Partitions, MadeOfParts, PairRefused};
-ghost use Rattle.fallible_contract.specs.Lists.{behind_first, behind_nth, behind_true, behind_false, behind_value, behind_fold, items, Lists, ListsForGood, Acts, Repeats, repeated, counted, ActsWithState, CollectedAs, nth_of, folded, reduced, ActsWith, Converts, all_of, any_of, find_mapped, found, last_of, collected, parted, MadeOf, MadeOfSides, PartedAs, UnzippedAs, position_in, each_done, best_by, greatest, least, best_by_key, compared};
+ghost use Rattle.fallible_contract.specs.Collecting.{Collects, Asks, Partitions, MadeOfPairs, PairRefused};
+ghost use Rattle.fallible_contract.specs.Lists.{rest_first, rest_nth, rest_true, rest_false, rest_value, rest_fold, items, Lists, ListsForGood, Acts, Repeats, repeated, counted, ActsWithState, CollectedAs, nth_of, folded, reduced, ActsWith, Converts, all_of, any_of, find_mapped, found, last_of, collected, partitioned, MadeOf, MadeOfSides, PartitionedAs, UnzippedAs, position_in, each_done, best_by, greatest, least, best_by_key, compared};
 ghost use Rattle.fallible_contract.specs.Comparing.{OneIsFinite, by_cmp, by_eq, read_as, reads_eq, reads_ne, reads_lt, reads_le, reads_gt, reads_ge, ComparedWith, ReadWith};
 ghost use Rattle.fallible_contract.specs.Picking.{call_at_two, takes_at_two, PickCall, takes_in_pick, Picked, KeyCall, Best, BestByKey};
 ghost use Rattle.fallible_contract.specs.Searching.{CallableInSearch, Searched, all_pick, any_pick, find_map_pick, find_pick, position_pick, each_pick};
@@ -25,7 +25,7 @@ ghost use Rattle.fallible_core.specs.Cutting.Take.{take_parts, take_contract, ta
 ghost use Rattle.fallible_core.specs.Cutting.TakeWhile.{take_while_parts, take_while_contract, taken_while, take_while_source, take_while_predicate, take_while_refused};
 ghost use Rattle.fallible_core.specs.Cutting.Fuse.{fuse_parts, fuse_contract};
 ghost use Rattle.fallible_core.specs.Cutting.Skip.{skip_parts, skip_contract, skipped};
-ghost use Rattle.fallible_core.specs.Cutting.StepBy.{step_by_parts, step_by_contract, stepped, step_by_source, step_by_between, step_by_left};
+ghost use Rattle.fallible_core.specs.Cutting.StepBy.{step_by_parts, step_by_contract, stepped, step_by_source, step_by_between, step_by_to_skip};
 ghost use Rattle.fallible_core.specs.Joining.Chain.{chain_parts, chain_contract, chained, chain_first, chain_second, chain_still_drawn};
 ghost use Rattle.fallible_core.specs.Joining.Zip.{zip_parts, zip_contract, zipped, NoFailureAtEnd, zip_left, zip_right};
 ghost use Rattle.fallible_core.specs.Joining.Flatten.{flatten_parts, flatten_contract, EachLists, flattened, flatten_inner, flatten_source};
@@ -136,7 +136,7 @@ pub trait FallibleIterator: Drop + Sized {
         }
     }
 
-    /// For types that override folds: draws until an end, a failure or a turn that stops the fold, and answers as `next` does: none at an end, the failure, or what the turn stopped with. All that changes from turn to turn stands behind `state`. Every fold goes through it. A caller uses `try_fold`.
+    /// For types that override folds: draws until an end, a failure or a turn that stops the fold, and answers as `next` does: none at an end, the failure, or what the turn stopped with. `state` points to all that changes from turn to turn. Every fold goes through it. A caller uses `try_fold`.
     fn drive<C, R, K: Turn<C, Self::Item, R>>(
         &mut self,
         state: &mut C,
@@ -282,7 +282,7 @@ pub trait FallibleIterator: Drop + Sized {
         ensures nth { Nth contract.steps self.old n result self.new }
         ensures value { OverList contract.steps self.old (λ l. result ≡ nth_of n l) }
         ensures rest { OverList contract.steps self.old
-            (λ l. ¬ (result ≡ Ok None) → Lists contract.steps self.new (behind_nth n l)) }
+            (λ l. ¬ (result ≡ Ok None) → Lists contract.steps self.new (rest_nth n l)) }
         ensures stays { Stays contract self.old self.new }
     {
         self.drive_nth(n)
@@ -318,7 +318,7 @@ pub trait FallibleIterator: Drop + Sized {
             (λ h l. result ≡ folded convert h init l) }
         ensures rest { OverListWith (ActsWith (call_with F.FnMut) f) contract.steps self.old
             (λ h l. (e : E) → result ≡ Err e
-            → Lists contract.steps self.new (behind_fold h init l)) }
+            → Lists contract.steps self.new (rest_fold h init l)) }
         ensures stays { Stays contract self.old self.new }
     {
         let mut state = (Some(init), f);
@@ -478,7 +478,10 @@ pub trait FallibleIterator: Drop + Sized {
         ensures repeats { (x : Self.Item) → Repeats contract.steps self (Ok x)
             → Lists (seen_as take_parts (take_contract contract)).steps result (repeated n x) }
     {
-        Take { it: self, left: n }
+        Take {
+            it: self,
+            to_take: n,
+        }
     }
 
     /// Gives the items before the first one that the predicate refuses, which is lost, and ends there.
@@ -572,7 +575,7 @@ pub trait FallibleIterator: Drop + Sized {
         requires { 1 ≤ step }
         ensures source { step_by_source result ≡ self }
         ensures between { step_by_between result ≡ step - 1 }
-        ensures left { step_by_left result ≡ 0 }
+        ensures to_skip { step_by_to_skip result ≡ 0 }
         ensures lists { OverList contract.steps self
             (λ l. Lists (seen_as step_by_parts (step_by_contract contract)).steps
             result (stepped (step - 1) 0 l)) }
@@ -580,7 +583,7 @@ pub trait FallibleIterator: Drop + Sized {
         StepBy {
             it: self,
             between: step - 1,
-            left: 0,
+            to_skip: 0,
         }
     }
 
@@ -787,7 +790,7 @@ pub trait FallibleIterator: Drop + Sized {
         Cloned { it: self }
     }
 
-    /// Swaps the ends: a draw from the adapter is a draw from behind, and the other way round.
+    /// Swaps the ends: a draw from the adapter is a draw from the back, and the other way round.
     ///
     /// One call draws one answer, from the other end. It fails as that draw does. It is made and goes on as `map`.
     ///
@@ -1002,11 +1005,11 @@ pub trait FallibleIterator: Drop + Sized {
         ensures partitions { Partitions contract.steps (call_at F.FnMut) B.made B.empty_refuses
             B.push_refuses self f result }
         ensures value { OverListWith (Acts (call_at F.FnMut) f) contract.steps self
-            (λ h l. PartedAs B.made h l result) }
+            (λ h l. PartitionedAs B.made h l result) }
         ensures contents { OverListWith (Acts (call_at F.FnMut) f) contract.steps self
-            (λ h l. IfOk result (MadeOf (MadeOfSides B.made) (parted h l))) }
+            (λ h l. IfOk result (MadeOf (MadeOfSides B.made) (partitioned h l))) }
         ensures failure { OverListWith (Acts (call_at F.FnMut) f) contract.steps self
-            (λ h l. (e : Self.Error) → result ≡ Err (Source e) → parted h l ≡ Err e) }
+            (λ h l. (e : Self.Error) → result ≡ Err (Source e) → partitioned h l ≡ Err e) }
     {
         let first = match B::empty(alloc) {
             Ok(made) => made,
@@ -1026,7 +1029,7 @@ pub trait FallibleIterator: Drop + Sized {
         }
     }
 
-    /// The first parts of the pairs up to the end in one collection, and the second parts in another. Of equal items they keep what those of `collect` keep.
+    /// The first halves of the pairs up to the end in one collection, and the second halves in another. Of equal items they keep what those of `collect` keep.
     ///
     /// It draws, fails, asks and takes the iterator as `collect` does. Before a failure of the source all pairs were accepted. A pair that is refused is lost.
     ///
@@ -1042,13 +1045,13 @@ pub trait FallibleIterator: Drop + Sized {
         B: Drop,
         requires can_next { contract.can_next self }
         requires finite { contract.is_finite self }
-        ensures collects { Collects contract.steps (MadeOfParts FromA.made FromB.made)
+        ensures collects { Collects contract.steps (MadeOfPairs FromA.made FromB.made)
             (FromA.empty_refuses ⊎ FromB.empty_refuses)
             (PairRefused FromA.made FromB.made FromA.push_refuses FromB.push_refuses) self result }
         ensures value { OverList contract.steps self
             (λ l. UnzippedAs FromA.made FromB.made l result) }
         ensures contents { OverList contract.steps self
-            (λ l. IfOk result (MadeOf (MadeOfParts FromA.made FromB.made) (collected l))) }
+            (λ l. IfOk result (MadeOf (MadeOfPairs FromA.made FromB.made) (collected l))) }
         ensures failure { OverList contract.steps self
             (λ l. (e : Self.Error) → result ≡ Err (Source e) → collected l ≡ Err e) }
     {
@@ -1117,7 +1120,7 @@ pub trait FallibleIterator: Drop + Sized {
             (λ h l. result ≡ all_of h l) }
         ensures rest { OverListWith (Acts (call_on F.FnMut) f) contract.steps self.old
             (λ h l. ¬ (result ≡ Ok true)
-            → Lists contract.steps self.new (behind_false h l)) }
+            → Lists contract.steps self.new (rest_false h l)) }
         ensures stays { Stays contract self.old self.new }
     {
         let mut f = f;
@@ -1146,7 +1149,7 @@ pub trait FallibleIterator: Drop + Sized {
             (λ h l. result ≡ any_of h l) }
         ensures rest { OverListWith (Acts (call_on F.FnMut) f) contract.steps self.old
             (λ h l. ¬ (result ≡ Ok false)
-            → Lists contract.steps self.new (behind_true h l)) }
+            → Lists contract.steps self.new (rest_true h l)) }
         ensures stays { Stays contract self.old self.new }
     {
         let mut f = f;
@@ -1178,7 +1181,7 @@ pub trait FallibleIterator: Drop + Sized {
             (λ h l. result ≡ found h l) }
         ensures rest { OverListWith (Acts (call_at F.FnMut) f) contract.steps self.old
             (λ h l. ¬ (result ≡ Ok None)
-            → Lists contract.steps self.new (behind_true h l)) }
+            → Lists contract.steps self.new (rest_true h l)) }
         ensures stays { Stays contract self.old self.new }
     {
         let mut f = f;
@@ -1210,7 +1213,7 @@ pub trait FallibleIterator: Drop + Sized {
             (λ h l. result ≡ find_mapped h l) }
         ensures rest { OverListWith (Acts (call_on F.FnMut) f) contract.steps self.old
             (λ h l. ¬ (result ≡ Ok None)
-            → Lists contract.steps self.new (behind_value h l)) }
+            → Lists contract.steps self.new (rest_value h l)) }
         ensures stays { Stays contract self.old self.new }
     {
         let mut f = f;
@@ -1240,7 +1243,7 @@ pub trait FallibleIterator: Drop + Sized {
             (λ h l. result ≡ position_in h l) }
         ensures rest { OverListWith (Acts (call_on F.FnMut) f) contract.steps self.old
             (λ h l. ¬ (result ≡ Ok None)
-            → Lists contract.steps self.new (behind_true h l)) }
+            → Lists contract.steps self.new (rest_true h l)) }
         ensures stays { Stays contract self.old self.new }
     {
         answer_or_none(self.drive(&mut (0, f), &PositionTurn))
@@ -1676,7 +1679,7 @@ pub trait FallibleIterator: Drop + Sized {
         ensures drawn { contract.steps self.old result self.new }
         ensures value { OverList contract.steps self.old (λ l. result ≡ nth_of 0 l) }
         ensures rest { OverList contract.steps self.old
-            (λ l. ¬ (result ≡ Ok None) → Lists contract.steps self.new (behind_first l)) }
+            (λ l. ¬ (result ≡ Ok None) → Lists contract.steps self.new (rest_first l)) }
         ensures stays { Stays contract self.old self.new }
     {
         Self::next(self)

@@ -32,10 +32,10 @@ by_sides (Front ∷ sides) (x ∷ a) b = x ∷ by_sides sides a b
 by_sides (Back ∷ sides) a [] = End ∷ by_sides sides a []
 by_sides (Back ∷ sides) a (x ∷ b) = x ∷ by_sides sides a b
 
--- What is answered: for as many sides as the list has results, those of the list in order in front, and those of the list reversed behind; then ends.
+-- What is answered: for as many sides as the list has results, those of the list in order at the front, and those of the list reversed at the back; then ends.
 unfoldable pub answers_at_ends : {A E : Type 0} → List Side → List (Result A E) → List (Answer A E)
 answers_at_ends sides l = by_sides (take (length l) sides) (told l) (told (reverse l)) ++ map (λ _. End) (drop (length l) sides)
 
 -- What is left: the list without as many at its front as sides are the front, and without as many at its back as sides are the back.
-unfoldable pub behind_ends : {A E : Type 0} → List Side → List (Result A E) → List (Result A E)
-behind_ends sides l = drop (fronts sides) (take (length l - backs sides) l)
+unfoldable pub rest_ends : {A E : Type 0} → List Side → List (Result A E) → List (Result A E)
+rest_ends sides l = drop (fronts sides) (take (length l - backs sides) l)

@@ -44,13 +44,13 @@ pub record ListsReversed {V S A E : Type 0} (source_of : V → S) (lists_source 
 
 -- What stands before another value: just what that value lists.
 abbrev pub ListsTheSame : {V S A E : Type 0} → (V → S) → (S → List (Result A E) → Type 0) → (V → List (Result A E) → Type 0) → Type 0
-ListsTheSame {V = V} {A = A} {E = E} behind lists_source lists = (s : V) (l : List (Result A E)) → lists s l ↔ lists_source (behind s) l
+ListsTheSame {V = V} {A = A} {E = E} value lists_source lists = (s : V) (l : List (Result A E)) → lists s l ↔ lists_source (value s) l
 
 -- What stands before another value: draws from its ends are just draws from the same ends of that value.
 abbrev pub DrawsTheSame : {V S A E : Type 0} → (V → S) → (S → List (Side × Answered A E) → S → Type 0) → (V → List (Side × Answered A E) → V → Type 0) → Type 0
-DrawsTheSame {V = V} {A = A} {E = E} behind mixes_source mixes = (s : V) (drawn : List (Side × Answered A E)) (t : V) → mixes s drawn t ↔ mixes_source (behind s) drawn (behind t)
+DrawsTheSame {V = V} {A = A} {E = E} value mixes_source mixes = (s : V) (drawn : List (Side × Answered A E)) (t : V) → mixes s drawn t ↔ mixes_source (value s) drawn (value t)
 
--- Where these answers can be drawn from the ends of s and leave t, what came in front, what is left, and what came behind, reversed, make l.
+-- Where these answers can be drawn from the ends of s and leave t, what came from the front, what is left, and what came from the back, reversed, make l.
 abbrev pub DrawsInterleave : {S A E : Type 0} → (S → Answered A E → S → Type 0) → (S → Answered A E → S → Type 0) → List (Result A E) → S → List (Side × Answered A E) → S → Type 0
 DrawsInterleave steps steps_back l s drawn t = RunAtEnds steps steps_back s drawn t → Interleaves steps steps_back l drawn t
 

@@ -4,7 +4,7 @@ use Rattle.std.specs.Fn.{Mut}
 use Rattle.std.specs.Borrow.{Bor, MutBor}
 use Rattle.std.specs.Iterator.{Count}
 use Rattle.fallible_contract.specs.Traces.{Answered, Run}
-use Rattle.fallible_core.specs.Cutting.Take.{TakeTrace, take_left, take_source}
+use Rattle.fallible_core.specs.Cutting.Take.{TakeTrace, take_to_take, take_source}
 use Rattle.fallible_core.specs.OneToOne.Map.{MapTrace, map_parts}
 use Rattle.fallible_core.specs.Filtering.Filter.{FilterTrace, filter_parts}
 use Rattle.fallible_iterator.specs.Sources.Convert.{ConvertTrace, convert_parts}
@@ -40,11 +40,11 @@ pub record TakeMapFilterTrace {S P F X B E : Type 0} (steps : S → Answered X E
   pub drawn : Run steps (source_of s) source_trace (source_of t)
   pub filters : FilterTrace first_of predicate (source_trace, (filter_of s).1) kept ([], (filter_of t).1)
   pub maps : MapTrace first_of closure (kept, (map_of s).1) mapped ([], (map_of t).1)
-  pub takes : TakeTrace first_of (mapped, take_left s) trace ([], take_left t)
+  pub takes : TakeTrace first_of (mapped, take_to_take s) trace ([], take_to_take t)
 
 -- A `Take` of a borrowed `Convert`: the calls of the std iterator gave a list, place by place, the definition of `Take` makes of that list the trace, and what is borrowed holds the std iterator after just those calls, behind the same reference.
 pub record TakeBorrowedTrace {S A E : Type 0} (can : S → Type 0) (gives : S → Option (Result A E) → S → Type 0) (remaining : S → Count) (s : Take (MutBor (Convert S))) (trace : List (Answered A E)) (t : Take (MutBor (Convert S))) : Type 0 where
   pub source_trace : List (Answered A E)
   pub drawn : ConvertTrace can gives remaining (convert_parts (take_source s).now) source_trace (convert_parts (take_source t).now)
-  pub takes : TakeTrace first_of (source_trace, take_left s) trace ([], take_left t)
+  pub takes : TakeTrace first_of (source_trace, take_to_take s) trace ([], take_to_take t)
   pub same_reference : (take_source t).ghost_name ≡ (take_source s).ghost_name

@@ -98,7 +98,7 @@ fn collected<'a, C: Collect<Number<'a>>>(
 }
 
 // What `partition` makes of the even ones of the numbers from 1 to 4 and of the others through a borrow, and the next number of the source.
-fn parted<'a, C: Collect<Number<'a>>>(
+fn partitioned<'a, C: Collect<Number<'a>>>(
     alloc: Global,
     requests: &'a Requests,
 ) -> Result<(Came<(C, C)>, Option<u32>), AllocError> {
@@ -150,7 +150,7 @@ fn collect_and_partition_refused_an_item_leave_those_behind_it(
         } else {
             Came::Made((made_of(rt.alloc(), [2, 4])?, made_of(rt.alloc(), [1, 3])?))
         };
-        let got = parted::<Kept>(rt.alloc(), &requests)?;
+        let got = partitioned::<Kept>(rt.alloc(), &requests)?;
         assert_eq!(rt;
             (got, requests.made()),
             ((wanted, next), number.wrapping_add(1).min(4)),
@@ -175,7 +175,7 @@ fn unzipped<'a, C: Collect<Number<'a>>, D: Collect<Number<'a>>>(
     Ok((outcome_of(made), next_of(next)))
 }
 
-// Each pair asks twice, first for its first part; where that is refused, it asks no more.
+// Each pair asks twice, first for its first half; where that is refused, it asks no more.
 #[test]
 fn unzip_refused_a_part_leaves_the_pairs_behind_it(rt: HostRuntime) -> Result<(), Fail> {
     let after = [
@@ -215,7 +215,7 @@ fn a_making_that_is_refused_draws_nothing(rt: HostRuntime) -> Result<(), Fail> {
     let requests = Requests::refusing(u32::MAX);
     let got = collected::<Unmade>(rt.alloc(), &requests)?;
     assert_eq!(rt; got, (Came::Refused, Some(1)), "collect, making");
-    let got = parted::<Unmade>(rt.alloc(), &requests)?;
+    let got = partitioned::<Unmade>(rt.alloc(), &requests)?;
     assert_eq!(rt; got, (Came::Refused, Some(1)), "partition, making");
     let first = unzipped::<Unmade, Kept>(rt.alloc(), &requests)?;
     assert_eq!(rt; first, (Came::Refused, Some(1)), "unzip, first making");

@@ -35,9 +35,9 @@ is_taken row = is_refused row ≡ false
 -- ---- answers that are items
 
 -- a row whose answer is an item
-item_row : (place : ℕ) (row : List ℕ) (o : Option ℕ) (x : ℕ) → row_number row ≡ o → answer_of_number place o ≡ item x → is_taken row × (is_above row ≡ nat_lt 100 x)
-item_row place row (Some n) x is e = let same : n ≡ x = cc in (ap is_none is, ap (λ o. nat_lt 100 (unwrap_or o 0)) is ∙ ap (λ k. nat_lt 100 k) same)
-item_row place row None x is e = absurd cc
+item_is_taken : (place : ℕ) (row : List ℕ) (o : Option ℕ) (x : ℕ) → row_number row ≡ o → answer_of_number place o ≡ item x → is_taken row × (is_above row ≡ nat_lt 100 x)
+item_is_taken place row (Some n) x is e = let same : n ≡ x = cc in (ap is_none is, ap (λ o. nat_lt 100 (unwrap_or o 0)) is ∙ ap (λ k. nat_lt 100 k) same)
+item_is_taken place row None x is e = absurd cc
 
 -- rows whose answers are items
 pub record ItemRows (rs : List (List ℕ)) (xs : List ℕ) : Type 0 where
@@ -51,7 +51,7 @@ item_rows place [] (x ∷ xs) e = absurd cc
 item_rows place (row ∷ rest) [] e = absurd cc
 item_rows place (row ∷ rest) (x ∷ xs) e =
     let first : row_answer place row ≡ item x = cc in
-    let h = item_row place row (row_number row) x refl first in
+    let h = item_is_taken place row (row_number row) x refl first in
     let others = item_rows (place + 1) rest xs cc in
     record {
       numbers = All-cons is_taken row rest h.0 others.numbers;
@@ -84,7 +84,7 @@ refused_rows place (row ∷ []) [] e h =
 refused_rows place (row ∷ r ∷ rest) [] e h = absurd cc
 refused_rows place (row ∷ rest) (x ∷ xs) e h =
     let first : row_answer place row ≡ item x = cc in
-    let taken = item_row place row (row_number row) x refl first in
+    let taken = item_is_taken place row (row_number row) x refl first in
     let others = refused_rows (place + 1) rest xs e cc in
     let same : (place + 1) + length others.good ≡ place + length (row ∷ others.good) = omega arith in
     record {

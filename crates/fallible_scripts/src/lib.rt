@@ -2,7 +2,7 @@
 #![tactic(auto)]
 
 #[cfg(test)]
-mod behind;
+mod back;
 #[cfg(test)]
 mod calls;
 #[cfg(test)]

@@ -41,7 +41,7 @@ impl<T: Drop, E: Drop> FallibleIterator for Script<T, E> {
     ghost lawful = { Prim.search rules };
 }
 
-// From behind it gives the last answer first.
+// From the back it gives the last answer first.
 impl<T: Drop, E: Drop> DoubleEndedFallibleIterator for Script<T, E> {
     ghost ends = { counted_ends (λ s r t. MatchResult r
         (λ o. MatchOption o (into_iter_len t.answers ≤ into_iter_len s.answers)

@@ -21,17 +21,14 @@ behind_sign : (digits text : List ℕ) (byte : ℕ) → is_ascii_digit byte ≡ 
 unfolding tokens_behind
 behind_sign digits text byte e = rw e refl
 
-behind_all : (digits rest : List ℕ) → ((byte : ℕ) (more : List ℕ) → rest ≡ byte ∷ more → is_ascii_digit byte ≡ false) → tokens_behind digits rest ≡ with_number digits (tokens_of rest)
+rest_all : (digits rest : List ℕ) → ((byte : ℕ) (more : List ℕ) → rest ≡ byte ∷ more → is_ascii_digit byte ≡ false) → tokens_behind digits rest ≡ with_number digits (tokens_of rest)
 unfolding tokens_behind
-behind_all digits [] none = refl
-behind_all digits (byte ∷ more) none = behind_sign digits more byte (none byte more refl)
+rest_all digits [] none = refl
+rest_all digits (byte ∷ more) none = behind_sign digits more byte (none byte more refl)
 
 digit_is_ascii : (byte : ℕ) → is_ascii_digit byte ≡ true → IsAscii (byte ∷ [])
 digit_is_ascii byte e zero = let k = and_parts (nat_le 48 byte) (nat_le byte 57) e in omega (arith, leb-true byte 57 k.1)
 digit_is_ascii byte e (suc i) = omega arith
-
-pub no_digit : (text : List ℕ) → ReadsDigits text 0
-no_digit text = record { fits = omega arith; same = refl; ascii = λ i. omega arith }
 
 pub one_more : (text : List ℕ) (end : ℕ) → ReadsDigits text end → end < length text → is_ascii_digit (get_or text end 0) ≡ true → ReadsDigits text (end + 1)
 one_more text end h l e =
@@ -47,7 +44,7 @@ one_more text end h l e =
 pub all_read : (text : List ℕ) (end : ℕ) → ReadsDigits text end → (end < length text → is_ascii_digit (get_or text end 0) ≡ false) → tokens_of text ≡ with_number (take end text) (tokens_of (drop end text))
 all_read text end h stops =
     h.same
-    ∙ behind_all (take end text) (drop end text) (λ byte more e.
+    ∙ rest_all (take end text) (drop end text) (λ byte more e.
     let at : get_or text end 0 ≡ byte = grind (arith, get_or-drop end text 0 0, ap (λ k. get_or k 0 0) e) in
     subst (λ (b : ℕ). is_ascii_digit b ≡ false) at (stops (omega (arith, length-drop end text, ap length e))))
 

@@ -1,7 +1,7 @@
 //! Two sorted sources, merged.
 ghost use Rattle.std.specs.Prelude.{◌≡◌, ℕ, List, Result, Ok, None};
 ghost use Rattle.fallible_iterator.specs.Contract.{KeptByDraws, seen_as};
-ghost use Rattle.fallible_iterator.specs.Lists.{Lists, behind_first, nth_of};
+ghost use Rattle.fallible_iterator.specs.Lists.{Lists, rest_first, nth_of};
 ghost use Rattle.fallible_iterator.specs.Peeking.Peekable.{peekable_contract, peekable_parts};
 ghost use Rattle.fallible_uses.specs.Merging.{ListBoth, merged};
 
@@ -29,7 +29,7 @@ where
         → ¬ (result ≡ Ok None)
         → ListBoth (seen_as peekable_parts (peekable_contract I.contract)).steps
         (seen_as peekable_parts (peekable_contract J.contract)).steps
-        left.new right.new (behind_first (merged a b)) }
+        left.new right.new (rest_first (merged a b)) }
     ensures left { KeptByDraws (peekable_contract I.contract)
         (peekable_parts left.old) (peekable_parts left.new) }
     ensures right { KeptByDraws (peekable_contract J.contract)

@@ -1,6 +1,6 @@
 // The values of the callers on small inputs.
 use fallible_callers::bridging::{
-    elements, elements_from_behind, failures, number_of, one_more, there_and_back_of_ten, total,
+    elements, elements_from_back, failures, number_of, one_more, there_and_back_of_ten, total,
     up_to_ten,
 };
 use fallible_callers::computing::{
@@ -9,17 +9,17 @@ use fallible_callers::computing::{
 };
 use fallible_callers::consuming::{
     above_100_and_count, all_above_100, any_above_100, columns_exchanged, greatest_above_100,
-    last_above_100, least_double_above_1000, parted_at_100, sum_of_some, two_columns,
+    last_above_100, least_double_above_1000, partitioned_at_100, sum_of_some, two_columns,
 };
 use fallible_callers::making::{
     count_behind_two_answers, count_with_held, given_above_100, hundreds, numbers_above_100,
     sum_of_one_again, sum_of_rounds,
 };
 use fallible_callers::ranges::{count_and_sum, runs, sum_below};
-use fallible_callers_drawing::behind::{
-    above_100_from_behind, both_from_behind, count_between, count_trimmed, doubled_from_behind,
+use fallible_callers_drawing::back::{
+    above_100_from_back, both_from_back, count_between, count_trimmed, doubled_from_back,
     first_and_last, last_after_three, last_behind_zero, last_but_one, last_drawn, last_first,
-    read_alike, sum_from_behind, three_answers,
+    read_alike, sum_from_back, three_answers,
 };
 use fallible_callers_drawing::drawing::{
     after_a_pair, after_three, begins_above_100, draw_all, first_two, pair_behind_first,
@@ -81,7 +81,7 @@ fn counts_sums_and_means(rt: HostRuntime) -> Result<(), Fail> {
 #[test]
 fn bridges(rt: HostRuntime) -> Result<(), Fail> {
     assert_eq!(rt; elements(readings(rt.alloc())?), 7);
-    assert_eq!(rt; elements_from_behind(readings(rt.alloc())?), 7);
+    assert_eq!(rt; elements_from_back(readings(rt.alloc())?), 7);
     assert_eq!(rt; up_to_ten(convert(readings(rt.alloc())?.into_iter())), 7);
     assert_eq!(rt; failures(readings(rt.alloc())?), 1);
     let numbers = Vec::from_array(rt.alloc(), [5, 600, 7])?;
@@ -268,10 +268,10 @@ fn searches_and_the_best(rt: HostRuntime) -> Result<(), Fail> {
 
 #[test]
 fn two_collections(rt: HostRuntime) -> Result<(), Fail> {
-    let (above, others) = parted_at_100(rt.alloc(), good_readings(rt.alloc())?)?;
+    let (above, others) = partitioned_at_100(rt.alloc(), good_readings(rt.alloc())?)?;
     assert_eq!(rt; above.as_slice(), [600, 501].as_slice());
     assert_eq!(rt; others.as_slice(), [5, 100].as_slice());
-    let refused = parted_at_100(rt.alloc(), readings(rt.alloc())?);
+    let refused = partitioned_at_100(rt.alloc(), readings(rt.alloc())?);
     assert!(rt; matches!(refused, Err(Fault::Source(9))));
     let (places, column) = two_columns(rt.alloc(), good_readings(rt.alloc())?)?;
     assert_eq!(rt; places.as_slice(), [0, 1, 2, 3].as_slice());
@@ -341,7 +341,7 @@ fn both_ends_and_sides(rt: HostRuntime) -> Result<(), Fail> {
         alike_of(Vec::from_array(alloc, [Ok(7), Err(9), Ok(7)])?),
         Err(9)
     );
-    let both = both_from_behind(alloc, good_readings(alloc)?, good_readings(alloc)?);
+    let both = both_from_back(alloc, good_readings(alloc)?, good_readings(alloc)?);
     expect_collected(both, &[501, 100, 600, 5, 501, 100, 600, 5])?;
     let left = convert(good_readings(alloc)?.into_iter());
     assert_eq!(rt; after_a_pair(left, once(8)), Ok(Some(600)));
@@ -354,7 +354,7 @@ fn both_ends_and_sides(rt: HostRuntime) -> Result<(), Fail> {
     Ok(())
 }
 
-// What a search from the front and draws from behind give, `rev` over a map and a filter, and what comes of draws from both ends.
+// What a search from the front and draws from the back give, `rev` over a map and a filter, and what comes of draws from both ends.
 #[test]
 fn ends(rt: HostRuntime) -> Result<(), Fail> {
     let after = Vec::from_array(rt.alloc(), [Ok(5), Ok(0), Ok(600), Ok(501)])?;
@@ -362,9 +362,9 @@ fn ends(rt: HostRuntime) -> Result<(), Fail> {
     assert_eq!(rt; last_behind_zero(&mut it), Ok(Some(501)));
     assert_eq!(rt; it.draw_back(), Ok(Some(600)));
     assert_eq!(rt; it.draw_back(), Ok(None));
-    let doubled = doubled_from_behind(rt.alloc(), good_readings(rt.alloc())?);
+    let doubled = doubled_from_back(rt.alloc(), good_readings(rt.alloc())?);
     expect_collected(doubled, &[1002, 200, 1200, 10])?;
-    let above = above_100_from_behind(rt.alloc(), good_readings(rt.alloc())?);
+    let above = above_100_from_back(rt.alloc(), good_readings(rt.alloc())?);
     expect_collected(above, &[501, 600])?;
     assert_eq!(rt; last_drawn(good_readings(rt.alloc())?), Ok(Some(501)));
     assert_eq!(rt;
@@ -377,7 +377,7 @@ fn ends(rt: HostRuntime) -> Result<(), Fail> {
     expect_collected(backwards, &[501, 100, 600, 5])?;
     let failed = last_first(rt.alloc(), readings(rt.alloc())?);
     assert!(rt; matches!(failed, Err(Fault::Source(9))));
-    assert_eq!(rt; sum_from_behind(good_readings(rt.alloc())?), Ok(1206));
+    assert_eq!(rt; sum_from_back(good_readings(rt.alloc())?), Ok(1206));
     let three = three_answers(rt.alloc(), good_readings(rt.alloc())?)?;
     assert_eq!(rt;
         three.as_slice(),

@@ -260,7 +260,7 @@ fn partition_draws_nothing_after_a_failure_or_a_refusal(rt: HostRuntime) -> Resu
     Ok(())
 }
 
-// The first parts in one collection and the second ones in another, and what the next draw answers.
+// The first halves in one collection and the second ones in another, and what the next draw answers.
 fn unzip_of<A: Collect<i32>, B: Collect<i32>>(
     alloc: Global,
     answers: &[Result<(i32, i32), u32>],

@@ -90,8 +90,8 @@ fn answers_of_each(alloc: Global, decides: Drawn) -> Result<(Answers, [Drawn; 7]
     Ok((answers, after))
 }
 
-// Sums from behind, and what the next draw from behind answers.
-fn sum_from_behind(mut s: Script<u32, u32>) -> (Result<u32, u32>, Drawn) {
+// Sums from the back, and what the next draw from the back answers.
+fn sum_from_back(mut s: Script<u32, u32>) -> (Result<u32, u32>, Drawn) {
     (s.by_ref().rfold(0, add_up), s.next_back())
 }
 
@@ -104,9 +104,9 @@ fn folds_and_extrema_leave_what_follows(rt: HostRuntime) -> Result<(), Fail> {
     assert_eq!(rt; answers, (Err(9), Err(9), Err(9), [Err(9); 4]));
     assert_eq!(rt; after, [Ok(Some(2)); 7]);
     let s = scripted(rt.alloc(), [Ok(Some(2)), END, Ok(Some(1))])?;
-    assert_eq!(rt; sum_from_behind(s), (Ok(1), Ok(Some(2))));
+    assert_eq!(rt; sum_from_back(s), (Ok(1), Ok(Some(2))));
     let s = scripted(rt.alloc(), [Ok(Some(2)), FAILURE, Ok(Some(1))])?;
-    assert_eq!(rt; sum_from_behind(s), (Err(9), Ok(Some(2))));
+    assert_eq!(rt; sum_from_back(s), (Err(9), Ok(Some(2))));
     Ok(())
 }
 

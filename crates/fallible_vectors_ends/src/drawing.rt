@@ -78,7 +78,7 @@ fn chain_hints_what_both_ends_left_and_goes_on_after_a_failure(
 ) -> Result<(), Fail> {
     let (sides, expected) = ([Front, Back, Back], [Item(1), Item(3), Item(2)]);
     expect_chain(&rt, &[Ok(1), Ok(2)], &[Ok(3)], &sides, &expected)?;
-    // It fails from behind, and goes on in front of that.
+    // It fails from the back, and goes on in front of that.
     let (sides, expected) = ([Back, Back, Front], [Failure(9), Item(1), End]);
     expect_chain(&rt, &[Ok(1)], &[Err(9)], &sides, &expected)?;
     let (sides, expected) = ([Back, Back, Back], [Failure(9), Item(2), Item(1)]);

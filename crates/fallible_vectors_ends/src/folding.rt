@@ -1,4 +1,4 @@
-// Folds from behind.
+// Folds from the back.
 use fallible_iterator::Answer::{End, Item};
 use fallible_iterator::Side::{Back, Front};
 use fallible_iterator::{DoubleEndedFallibleIterator, FallibleIterator};

@@ -1,4 +1,4 @@
-//! Vectors: draws and folds from behind and from both ends, with answers that come from outside.
+//! Vectors: draws and folds from the back and from both ends, with answers that come from outside.
 #![tactic(auto)]
 
 #[cfg(test)]

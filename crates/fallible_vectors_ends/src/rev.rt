@@ -21,7 +21,7 @@ fn rev_of_a_chain_is_the_back_s_and_then_the_front_s(rt: HostRuntime) -> Result<
 }
 
 #[test]
-fn rev_counts_from_behind(rt: HostRuntime) {
+fn rev_counts_from_back(rt: HostRuntime) {
     let answers = [Ok(0), Err(1), Ok(2), Err(3)];
     let it = numbers(&answers);
     assert_eq!(rt; it.rev().count(), Err(3));
@@ -58,7 +58,7 @@ fn rev_of_rev_draws_the_front(rt: HostRuntime) -> Result<(), Fail> {
     expect_numbers_at(&rt, &mut it, &[Front, Back], &[Item(1), Item(2)])
 }
 
-// What is collected from behind of the answers that `even_thirds` lets pass.
+// What is collected from the back of the answers that `even_thirds` lets pass.
 fn collected_even_thirds(
     alloc: Global,
     answers: &[Result<u32, u32>],
@@ -67,14 +67,14 @@ fn collected_even_thirds(
 }
 
 #[test]
-fn filter_from_behind_keeps_the_same_or_fails_at_the_last_odd(rt: HostRuntime) -> Result<(), Fail> {
+fn filter_from_back_keeps_the_same_or_fails_at_the_last_odd(rt: HostRuntime) -> Result<(), Fail> {
     let made = collected_even_thirds(rt.alloc(), &[Ok(0), Ok(2), Ok(4), Ok(6)]);
     expect_collected(made, &[6, 0])?;
     let made = collected_even_thirds(rt.alloc(), &[Ok(0), Ok(1), Ok(2), Ok(3)]);
     expect_source_fault(made, 3)
 }
 
-// What is collected from behind of what `ten_more_of_even` makes of the answers.
+// What is collected from the back of what `ten_more_of_even` makes of the answers.
 fn collected_ten_more_of_even(
     alloc: Global,
     answers: &[Result<u32, u32>],
@@ -86,7 +86,7 @@ fn collected_ten_more_of_even(
 }
 
 #[test]
-fn filter_map_from_behind_gives_what_is_made_or_fails_at_5(rt: HostRuntime) -> Result<(), Fail> {
+fn filter_map_from_back_gives_what_is_made_or_fails_at_5(rt: HostRuntime) -> Result<(), Fail> {
     let answers = [Ok(0), Ok(2), Ok(3), Ok(4), Ok(6)];
     let made = collected_ten_more_of_even(rt.alloc(), &answers);
     expect_collected(made, &[16, 14, 12, 10])?;
@@ -94,16 +94,16 @@ fn filter_map_from_behind_gives_what_is_made_or_fails_at_5(rt: HostRuntime) -> R
     expect_source_fault(collected_ten_more_of_even(rt.alloc(), &answers), 5)
 }
 
-// What `find` answers from behind, where its predicate fails at 2 and answers `otherwise` elsewhere.
-fn found_from_behind(answers: &[Result<u32, u32>], otherwise: bool) -> Result<Option<u32>, u32> {
+// What `find` answers from the back, where its predicate fails at 2 and answers `otherwise` elsewhere.
+fn found_from_back(answers: &[Result<u32, u32>], otherwise: bool) -> Result<Option<u32>, u32> {
     numbers(answers).rev().find(move |x: &u32| if *x == 2 { Err(29) } else { Ok(otherwise) })
 }
 
 #[test]
-fn find_from_behind_meets_the_last_item_first_or_fails(rt: HostRuntime) {
+fn find_from_back_meets_the_last_item_first_or_fails(rt: HostRuntime) {
     let answers = [Ok(0), Ok(1), Ok(2), Ok(3)];
-    assert_eq!(rt; found_from_behind(&answers, true), Ok(Some(3)));
-    assert_eq!(rt; found_from_behind(&answers, false), Err(29));
+    assert_eq!(rt; found_from_back(&answers, true), Ok(Some(3)));
+    assert_eq!(rt; found_from_back(&answers, false), Err(29));
 }
 
 fn doubled(x: u32) -> Result<u32, u32> {
@@ -120,7 +120,7 @@ fn doubled_but_two(x: u32) -> Result<u32, u32> {
 }
 
 #[test]
-fn map_from_behind_and_where_it_fails_at_2(rt: HostRuntime) -> Result<(), Fail> {
+fn map_from_back_and_where_it_fails_at_2(rt: HostRuntime) -> Result<(), Fail> {
     let answers = [Ok(0), Ok(1), Ok(2), Ok(3), Ok(4)];
     let it = numbers(&answers).map(doubled);
     let made = it.rev().collect::<Vec<u32>>(rt.alloc());
@@ -136,14 +136,14 @@ fn same(e: u32) -> u32 {
 }
 
 #[test]
-fn map_err_from_behind_fails_with_3(rt: HostRuntime) -> Result<(), Fail> {
+fn map_err_from_back_fails_with_3(rt: HostRuntime) -> Result<(), Fail> {
     let answers = [Ok(0), Err(1), Ok(2), Err(3)];
     let it = numbers(&answers).map_err(same);
     expect_source_fault(it.rev().collect::<Vec<u32>>(rt.alloc()), 3)
 }
 
 #[test]
-fn cloned_from_behind(rt: HostRuntime) {
+fn cloned_from_back(rt: HostRuntime) {
     let items = [1, 2, 3];
     let made = IntoFallible::from(items.iter());
     let mut it = made.map_err(|_| AllocError).cloned().rev();

@@ -34,7 +34,7 @@ pub fn partition<C: Collect<u32> + Contents>(rt: &HostRuntime, name: &str) -> io
     println!(rt; "; then {:?}", it.next())
 }
 
-// The first parts of pairs in one collection and the second ones in another, by a borrow.
+// The first halves of pairs in one collection and the second ones in another, by a borrow.
 pub fn unzip<A: Collect<u32> + Contents, B: Collect<u32> + Contents>(
     rt: &HostRuntime,
     name: &str,

@@ -2,7 +2,7 @@
 use crate::answer::{Answer, Seen};
 use crate::case::{Case, Given, Run};
 use crate::lists::{LISTS, list_at};
-use crate::operation::{Behind, Borrowing, Operation, Outcome, Taking, wanted};
+use crate::operation::{Borrowing, FromBack, Operation, Outcome, Taking, wanted};
 use std::cell::Cell;
 use std::io;
 
@@ -129,9 +129,9 @@ fn compare_stops<C: Case>(
         Operation::Taking(Taking::Fold, j),
         Operation::Taking(Taking::ForEach, j),
         Operation::Position(j),
-        Operation::Behind(Behind::Draws, j),
-        Operation::Behind(Behind::TryRfold, j),
-        Operation::Behind(Behind::Rfold, j),
+        Operation::FromBack(FromBack::Draws, j),
+        Operation::FromBack(FromBack::TryRfold, j),
+        Operation::FromBack(FromBack::Rfold, j),
     ];
     if let Some(drawn) = performed::<C>(rt, answers, Operation::Draws(j))? {
         for operation in calls {

@@ -2,7 +2,7 @@
 #![tactic(auto)]
 
 mod answer;
-mod behind;
+mod back;
 mod case;
 mod comparing;
 mod consuming;
@@ -22,7 +22,7 @@ mod rows;
 mod rules;
 mod script;
 
-use behind::OverBehind;
+use back::OverBack;
 use comparing::drive_comparisons;
 use consuming::drive_consumers;
 use driving::{Tally, drive};
@@ -37,7 +37,7 @@ fn main(rt: HostRuntime) -> io::Result<()> {
     drive_cutting(&rt, &mut total)?;
     drive_joining(&rt, &mut total)?;
     drive_nests(&rt, &mut total)?;
-    drive_behind(&rt, &mut total)?;
+    drive_from_back(&rt, &mut total)?;
     drive_rows(&rt, &mut total)?;
     drive_consumers(&rt, &mut total)?;
     drive_comparisons(&rt, &mut total)?;
@@ -107,15 +107,15 @@ fn drive_nests(rt: &HostRuntime, total: &mut Tally) -> io::Result<()> {
     drive::<nests::FlattenedPeeked>(rt, total)
 }
 
-fn drive_behind(rt: &HostRuntime, total: &mut Tally) -> io::Result<()> {
-    drive::<behind::Reversed>(rt, total)?;
-    drive::<behind::ReversedTwice>(rt, total)?;
-    drive::<OverBehind<one_to_one::MappedByCalls>>(rt, total)?;
-    drive::<OverBehind<one_to_one::InspectedByCalls>>(rt, total)?;
-    drive::<OverBehind<one_to_one::FailuresMapped>>(rt, total)?;
-    drive::<OverBehind<one_to_one::ClonesOfMapped>>(rt, total)?;
-    drive::<OverBehind<filtering::FilteredByCalls>>(rt, total)?;
-    drive::<OverBehind<filtering::FilterMappedByCalls>>(rt, total)?;
-    drive::<OverBehind<joining::ChainedInFront>>(rt, total)?;
-    drive::<OverBehind<joining::ChainedBehind>>(rt, total)
+fn drive_from_back(rt: &HostRuntime, total: &mut Tally) -> io::Result<()> {
+    drive::<back::Reversed>(rt, total)?;
+    drive::<back::ReversedTwice>(rt, total)?;
+    drive::<OverBack<one_to_one::MappedByCalls>>(rt, total)?;
+    drive::<OverBack<one_to_one::InspectedByCalls>>(rt, total)?;
+    drive::<OverBack<one_to_one::FailuresMapped>>(rt, total)?;
+    drive::<OverBack<one_to_one::ClonesOfMapped>>(rt, total)?;
+    drive::<OverBack<filtering::FilteredByCalls>>(rt, total)?;
+    drive::<OverBack<filtering::FilterMappedByCalls>>(rt, total)?;
+    drive::<OverBack<joining::ChainedInFront>>(rt, total)?;
+    drive::<OverBack<joining::ChainedBehind>>(rt, total)
 }

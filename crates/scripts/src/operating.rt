@@ -52,7 +52,7 @@ where
             let decided = taken(run.alloc, it, call, j)?;
             Ok(Some(taking(run, decided)))
         }
-        Operation::Position(_) | Operation::Count | Operation::Behind(_, _) => Ok(None),
+        Operation::Position(_) | Operation::Count | Operation::FromBack(_, _) => Ok(None),
     }
 }
 

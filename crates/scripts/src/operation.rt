@@ -14,8 +14,8 @@ pub enum Operation {
     Position(u32),
     /// `count`
     Count,
-    /// a call from behind, of the nest itself and not of its `rev`, which stops at the item with that number
-    Behind(Behind, u32),
+    /// a call from the back, of the nest itself and not of its `rev`, which stops at the item with that number
+    FromBack(FromBack, u32),
 }
 
 /// A call that leaves the nest.
@@ -48,9 +48,9 @@ pub enum Taking {
     Collect,
 }
 
-/// A call from behind.
+/// A call from the back.
 #[derive(Clone, Copy, PartialEq, Eq, Debug)]
-pub enum Behind {
+pub enum FromBack {
     /// draws by `next_back` until the item, a failure or an end
     Draws,
     /// `try_rfold`, which fails with 7 on the item
@@ -106,8 +106,8 @@ pub struct Outcome {
 /// What the operation must come to, by what came of draws up to the same item.
 pub fn wanted(operation: Operation, drawn: Outcome) -> Outcome {
     match operation {
-        Operation::Draws(_) | Operation::Behind(Behind::Draws | Behind::TryRfold, _) => drawn,
-        Operation::Behind(Behind::Rfold, _) => wanted_of_taking(Taking::Fold, drawn),
+        Operation::Draws(_) | Operation::FromBack(FromBack::Draws | FromBack::TryRfold, _) => drawn,
+        Operation::FromBack(FromBack::Rfold, _) => wanted_of_taking(Taking::Fold, drawn),
         Operation::Borrowing(call, _) => wanted_of_borrowing(call, drawn),
         Operation::Taking(call, _) => wanted_of_taking(call, drawn),
         Operation::Position(_) => Outcome {

@@ -1,4 +1,4 @@
-//! Does an operation with any nest that has two ends, from behind.
+//! Does an operation with any nest that has two ends, from the back.
 ghost use Rattle.std.specs.Prelude.{◌-◌, ◌^◌};
 ghost use Rattle.fallible_iterator.specs.Contract.{AtMost, KeptByDraws};
 ghost use Rattle.fallible_iterator.specs.Ends.{from_back};
@@ -6,13 +6,13 @@ ghost use Rattle.fallible_iterator.specs.Ends.{from_back};
 use crate::answer::{Answer, Coded, Failed, Seen};
 use crate::case::Run;
 use crate::operating::{operate, stopped, taking};
-use crate::operation::{Behind, Operation, Outcome, Passed};
+use crate::operation::{FromBack, Operation, Outcome, Passed};
 use fallible_iterator::{DoubleEndedFallibleIterator, FallibleIterator};
 use std::alloc::AllocError;
 use std::cell::Cell;
 
-/// Does the operation of the run with the nest from behind: the calls from behind with the nest itself, and the others with its `rev`.
-pub fn operate_behind<I>(run: &Run<'_>, mut it: I) -> Result<Option<Outcome>, AllocError>
+/// Does the operation of the run with the nest from the back: the calls from the back with the nest itself, and the others with its `rev`.
+pub fn operate_back<I>(run: &Run<'_>, mut it: I) -> Result<Option<Outcome>, AllocError>
 where
     I: DoubleEndedFallibleIterator<Error = Failed>,
     I::Item: Coded,
@@ -21,20 +21,20 @@ where
     requires fits { AtMost I.contract it (2 ^ 64 - 1) }
 {
     match run.operation {
-        Operation::Behind(Behind::Draws, j) => {
+        Operation::FromBack(FromBack::Draws, j) => {
             let decided = drawn_back(&mut it, j);
             Ok(Some(and_after_back(run, &mut it, decided)))
         }
-        Operation::Behind(Behind::TryRfold, j) => {
+        Operation::FromBack(FromBack::TryRfold, j) => {
             let decided = try_rfolded(&mut it, j);
             Ok(Some(and_after_back(run, &mut it, decided)))
         }
-        Operation::Behind(Behind::Rfold, j) => Ok(Some(taking(run, rfolded(it, j)))),
+        Operation::FromBack(FromBack::Rfold, j) => Ok(Some(taking(run, rfolded(it, j)))),
         _ => operate(run, it.rev()),
     }
 }
 
-/// What decided, and the next eight answers from behind.
+/// What decided, and the next eight answers from the back.
 #[inline(never)]
 pub fn and_after_back<I>(run: &Run<'_>, it: &mut I, decided: (Passed, Answer)) -> Outcome
 where
@@ -52,7 +52,7 @@ where
     }
 }
 
-// One answer from behind.
+// One answer from the back.
 #[inline(never)]
 fn last_answer<I>(it: &mut I, draws: &Cell<u32>) -> Seen
 where
@@ -68,7 +68,7 @@ where
     }
 }
 
-// Eight answers from behind.
+// Eight answers from the back.
 #[inline(never)]
 fn last_answers<I>(it: &mut I, draws: &Cell<u32>) -> [Seen; 8]
 where
@@ -89,7 +89,7 @@ where
     ]
 }
 
-/// Draws from behind until item number j, a failure or an end.
+/// Draws from the back until item number j, a failure or an end.
 #[inline(never)]
 pub fn drawn_back<I>(it: &mut I, j: u32) -> (Passed, Answer)
 where

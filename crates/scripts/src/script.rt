@@ -57,7 +57,7 @@ impl<'a> FallibleIterator for Script<'a> {
     ghost lawful = { Prim.search rules };
 }
 
-/// One script for each end, drawn from on its own: what comes from the front says nothing of what comes from behind.
+/// One script for each end, drawn from on its own: what comes from the front says nothing of what comes from the back.
 #[derive(Clone, Copy)]
 pub struct Twin<'a> {
     front: Script<'a>,
@@ -65,7 +65,7 @@ pub struct Twin<'a> {
 }
 
 impl<'a> Twin<'a> {
-    /// Gives the answers of one script from the front, and those of another from behind.
+    /// Gives the answers of one script from the front, and those of another from the back.
     pub fn new(front: Script<'a>, back: Script<'a>) -> Twin<'a> {
         Twin { front, back }
     }

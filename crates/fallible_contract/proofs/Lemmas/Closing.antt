@@ -52,15 +52,15 @@ module _ {P Q B E : Type 0} (draws : P → Q → P → Type 0) (answer : Q → A
   abbrev Drawn : P → Bool → List (Answered B E) → P → Bool → Type 0
   Drawn p b trace q c = (places : List Q) × FoldsTo draws p places q × ClosingTrace answer closes b places trace c
 
-  nothing_drawn : (p : P) (b : Bool) → Drawn p b [] p b
-  nothing_drawn p b = ([], refl, record { ends = 0; answers = refl; last_alone = alone_none closes; shut = λ c. refl; over = λ h. absurd (omega arith); remaining = ((λ c. inl c), (λ h. elim h [ inl c ↦ c | inr c ↦ absurd (none_closes closes c) ])) })
+  drawn_none : (p : P) (b : Bool) → Drawn p b [] p b
+  drawn_none p b = ([], refl, record { ends = 0; answers = refl; last_alone = alone_none closes; shut = λ c. refl; over = λ h. absurd (omega arith); remaining = ((λ c. inl c), (λ h. elim h [ inl c ↦ c | inr c ↦ absurd (none_closes closes c) ])) })
 
-  end_more : (p : P) (places : List Q) (rest : List (Answered B E)) (q : P) (c : Bool) → FoldsTo draws p places q → ClosingTrace answer closes true places rest c → Drawn p true (end ∷ rest) q c
-  end_more p [] rest q c drawn h = ([], drawn, record { ends = suc h.ends; answers = ap {B = List (Answered B E)} (λ l. end ∷ l) h.answers; last_alone = alone_none closes; shut = λ k. refl; over = λ k. h.remaining.1 (inl refl); remaining = h.remaining })
-  end_more p (x ∷ places) rest q c drawn h = absurd (let none = h.shut refl in cc)
+  drawn_end_first : (p : P) (places : List Q) (rest : List (Answered B E)) (q : P) (c : Bool) → FoldsTo draws p places q → ClosingTrace answer closes true places rest c → Drawn p true (end ∷ rest) q c
+  drawn_end_first p [] rest q c drawn h = ([], drawn, record { ends = suc h.ends; answers = ap {B = List (Answered B E)} (λ l. end ∷ l) h.answers; last_alone = alone_none closes; shut = λ k. refl; over = λ k. h.remaining.1 (inl refl); remaining = h.remaining })
+  drawn_end_first p (x ∷ places) rest q c drawn h = absurd (let none = h.shut refl in cc)
 
-  place_more : (p u : P) (x : Q) (places : List Q) (rest : List (Answered B E)) (q : P) (c : Bool) → draws p x u → FoldsTo draws u places q → ClosingTrace answer closes (closes x) places rest c → Drawn p false (answer x ∷ rest) q c
-  place_more p u x places rest q c draw drawn h = (
+  drawn_place_first : (p u : P) (x : Q) (places : List Q) (rest : List (Answered B E)) (q : P) (c : Bool) → draws p x u → FoldsTo draws u places q → ClosingTrace answer closes (closes x) places rest c → Drawn p false (answer x ∷ rest) q c
+  drawn_place_first p u x places rest q c draw drawn h = (
     x ∷ places,
     (u, draw, drawn),
     record {
@@ -74,9 +74,9 @@ module _ {P Q B E : Type 0} (draws : P → Q → P → Type 0) (answer : Q → A
   )
 
   to_drawn : (trace : List (Answered B E)) (p : P) (b : Bool) (q : P) (c : Bool) → FoldsTo (closing_step draws answer closes) (p, b) trace (q, c) → Drawn p b trace q c
-  to_drawn [] p b q c e = let d : p ≡ q = ap (λ z. z.0) e in let k : b ≡ c = ap (λ z. z.1) e in rw (sym d, sym k) (nothing_drawn p b)
-  to_drawn (r ∷ rest) p true q c h = let d = to_drawn rest p true q c (rw (h.1.1, h.1.2) at h.2) in rw h.1.0 (end_more p d.0 rest q c d.1 d.2)
-  to_drawn (r ∷ rest) p false q c h = let d = to_drawn rest h.0.0 (closes h.1.0) q c (rw h.1.3 at h.2) in rw h.1.2 (place_more p h.0.0 h.1.0 d.0 rest q c h.1.1 d.1 d.2)
+  to_drawn [] p b q c e = let d : p ≡ q = ap (λ z. z.0) e in let k : b ≡ c = ap (λ z. z.1) e in rw (sym d, sym k) (drawn_none p b)
+  to_drawn (r ∷ rest) p true q c h = let d = to_drawn rest p true q c (rw (h.1.1, h.1.2) at h.2) in rw h.1.0 (drawn_end_first p d.0 rest q c d.1 d.2)
+  to_drawn (r ∷ rest) p false q c h = let d = to_drawn rest h.0.0 (closes h.1.0) q c (rw h.1.3 at h.2) in rw h.1.2 (drawn_place_first p h.0.0 h.1.0 d.0 rest q c h.1.1 d.1 d.2)
 
   closed_run : (ends : ℕ) (p : P) → FoldsTo (closing_step draws answer closes) (p, true) (replicate ends end) (p, true)
   closed_run zero p = refl

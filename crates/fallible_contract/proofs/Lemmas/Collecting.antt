@@ -5,7 +5,7 @@ use Rattle.std.specs.List.{FoldsTo}
 use Rattle.std.proofs.Common.{refl, sym, ap, subst, append_assoc, append-nil}
 use Rattle.fallible_contract.specs.Traces.{Answered, Run, item}
 use Rattle.fallible_contract.specs.Folds.{goes_on, DriveExit, Driven}
-use Rattle.fallible_contract.specs.Collecting.{CollectsAll, FailsWith, RefusesItem, IsCollectTurn, MadeOfParts, PairRefused, IsUnzipTurn}
+use Rattle.fallible_contract.specs.Collecting.{CollectsAll, FailsWith, RefusesItem, IsCollectTurn, MadeOfPairs, PairRefused, IsUnzipTurn}
 use Rattle.std.specs.declared.ops.ControlFlow.{ControlFlow}
 use Rattle.std.specs.declared.ops.ControlFlow.TheVariants.{Continue, Break}
 use Rattle.std.specs.declared.alloc.AllocError.{AllocError}
@@ -13,37 +13,37 @@ use Rattle.std.specs.declared.alloc.AllocError.{AllocError}
 -- Turns that go on add the item to what is made; one that stops with q stops as `stops` says.
 module _ {A C R : Type 0} (made : List A → C → Type 0) (turns : C → A → ControlFlow R (Unit {0}) → C → Type 0)
     (adds : (c : C) (x : A) (d : C) → turns c x (Continue tt) d → (items : List A) → made items c → made (items ++ x ∷ []) d) where
-  gathered : (before items : List A) (c d : C) → made before c → FoldsTo (goes_on turns) c items d → made (before ++ items) d
-  gathered before [] c d h went = subst (λ e. made (before ++ []) e) went (subst (λ l. made l c) (sym (append-nil before)) h)
-  gathered before (x ∷ items) c d h went = subst (λ l. made l d) (append_assoc before (x ∷ []) items) (gathered (before ++ x ∷ []) items went.0 d (adds c x went.0 went.1 before h) went.2)
+  made_after : (before items : List A) (c d : C) → made before c → FoldsTo (goes_on turns) c items d → made (before ++ items) d
+  made_after before [] c d h went = subst (λ e. made (before ++ []) e) went (subst (λ l. made l c) (sym (append-nil before)) h)
+  made_after before (x ∷ items) c d h went = subst (λ l. made l d) (append_assoc before (x ∷ []) items) (made_after (before ++ x ∷ []) items went.0 d (adds c x went.0 went.1 before h) went.2)
 
   module _ {S E : Type 0} (steps : S → Answered A E → S → Type 0) {s t : S} {c : C} (is_empty : made [] c) where
     made_by : {r : Answered R E} {d : C} → (w : Driven steps turns s c r t d) → made w.items w.at.carried
-    made_by w = gathered [] w.items c w.at.carried is_empty w.at.went
+    made_by w = made_after [] w.items c w.at.carried is_empty w.at.went
 
-    ended : (d : C) (w : Driven steps turns s c (Ok None) t d) (last : Answered A E) → Run steps s (map item w.items ++ last ∷ []) t → DriveExit turns w.at.carried last (Ok None) d → CollectsAll steps made s d
-    ended d w (Ok None) ran e = record { items = w.items; left = t; ran = ran; is_made = subst (λ z. made w.items z) (sym e.1) (made_by w) }
-    ended d w (Ok (Some x)) ran e = absurd (let f = e.2 in cc)
-    ended d w (Err f) ran e = absurd (let f = e.0 in cc)
+    gathered_at_end : (d : C) (w : Driven steps turns s c (Ok None) t d) (last : Answered A E) → Run steps s (map item w.items ++ last ∷ []) t → DriveExit turns w.at.carried last (Ok None) d → CollectsAll steps made s d
+    gathered_at_end d w (Ok None) ran e = record { items = w.items; after = t; ran = ran; is_made = subst (λ z. made w.items z) (sym e.1) (made_by w) }
+    gathered_at_end d w (Ok (Some x)) ran e = absurd (let f = e.2 in cc)
+    gathered_at_end d w (Err f) ran e = absurd (let f = e.0 in cc)
 
     pub gathered_all : (d : C) → Driven steps turns s c (Ok None) t d → CollectsAll steps made s d
-    gathered_all d w = ended d w w.last w.ran w.at.exit
+    gathered_all d w = gathered_at_end d w w.last w.ran w.at.exit
 
-    failed : (d : C) (e : E) (w : Driven steps turns s c (Err e) t d) (last : Answered A E) → Run steps s (map item w.items ++ last ∷ []) t → DriveExit turns w.at.carried last (Err e) d → FailsWith steps made s e
-    failed d e w (Ok None) ran h = absurd (let f = h.0 in cc)
-    failed d e w (Ok (Some x)) ran h = absurd (let f = h.2 in cc)
-    failed d e w (Err f) ran h = let same : f ≡ e = (let is = h.0 in cc) in record { items = w.items; collection = w.at.carried; left = t; ran = subst (λ z. Run steps s (map item w.items ++ Err z ∷ []) t) same ran; is_made = made_by w }
+    gathered_at_failure : (d : C) (e : E) (w : Driven steps turns s c (Err e) t d) (last : Answered A E) → Run steps s (map item w.items ++ last ∷ []) t → DriveExit turns w.at.carried last (Err e) d → FailsWith steps made s e
+    gathered_at_failure d e w (Ok None) ran h = absurd (let f = h.0 in cc)
+    gathered_at_failure d e w (Ok (Some x)) ran h = absurd (let f = h.2 in cc)
+    gathered_at_failure d e w (Err f) ran h = let same : f ≡ e = (let is = h.0 in cc) in record { items = w.items; collection = w.at.carried; after = t; ran = subst (λ z. Run steps s (map item w.items ++ Err z ∷ []) t) same ran; is_made = made_by w }
 
     pub gathered_failed : (d : C) (e : E) → Driven steps turns s c (Err e) t d → FailsWith steps made s e
-    gathered_failed d e w = failed d e w w.last w.ran w.at.exit
+    gathered_failed d e w = gathered_at_failure d e w w.last w.ran w.at.exit
 
-    stopped : (d : C) (q : R) (stops : C → A → Type 0) → ((c : C) (x : A) (d : C) → turns c x (Break q) d → stops c x) → (w : Driven steps turns s c (Ok (Some q)) t d) (last : Answered A E) → Run steps s (map item w.items ++ last ∷ []) t → DriveExit turns w.at.carried last (Ok (Some q)) d → RefusesItem steps made stops s
-    stopped d q stops by w (Ok None) ran h = absurd (let f = h.0 in cc)
-    stopped d q stops by w (Ok (Some x)) ran h = let same : h.0 ≡ q = (let f = h.2 in cc) in record { items = w.items; refused = x; collection = w.at.carried; left = t; ran = ran; is_made = made_by w; refuses_it = by w.at.carried x d (subst (λ (z : R). turns w.at.carried x (Break z) d) same h.1) }
-    stopped d q stops by w (Err f) ran h = absurd (let f = h.0 in cc)
+    gathered_at_stop : (d : C) (q : R) (stops : C → A → Type 0) → ((c : C) (x : A) (d : C) → turns c x (Break q) d → stops c x) → (w : Driven steps turns s c (Ok (Some q)) t d) (last : Answered A E) → Run steps s (map item w.items ++ last ∷ []) t → DriveExit turns w.at.carried last (Ok (Some q)) d → RefusesItem steps made stops s
+    gathered_at_stop d q stops by w (Ok None) ran h = absurd (let f = h.0 in cc)
+    gathered_at_stop d q stops by w (Ok (Some x)) ran h = let same : h.0 ≡ q = (let f = h.2 in cc) in record { items = w.items; refused = x; collection = w.at.carried; after = t; ran = ran; is_made = made_by w; refuses_it = by w.at.carried x d (subst (λ (z : R). turns w.at.carried x (Break z) d) same h.1) }
+    gathered_at_stop d q stops by w (Err f) ran h = absurd (let f = h.0 in cc)
 
     pub gathered_stopped : (d : C) (q : R) (stops : C → A → Type 0) → ((c : C) (x : A) (d : C) → turns c x (Break q) d → stops c x) → Driven steps turns s c (Ok (Some q)) t d → RefusesItem steps made stops s
-    gathered_stopped d q stops by w = stopped d q stops by w w.last w.ran w.at.exit
+    gathered_stopped d q stops by w = gathered_at_stop d q stops by w w.last w.ran w.at.exit
 
 -- ---- collect
 
@@ -67,6 +67,6 @@ parts_more h (y ∷ items) x = ap (λ l. h y ∷ l) (parts_more h items x)
 
 module _ {A B C D : Type 0} (made_first : List A → C → Type 0) (made_second : List B → D → Type 0) (first_refuses : C → A → Type 0) (second_refuses : D → B → Type 0) where
   -- a turn with a pair pushes it to the pair of the collections
-  pub pair_pushed : (c : C × D) (x : A × B) (r : ControlFlow AllocError (Unit {0})) (d : C × D) → IsUnzipTurn made_first made_second first_refuses second_refuses c x r d → IsCollectTurn (MadeOfParts made_first made_second) (PairRefused made_first made_second first_refuses second_refuses) c x r d
+  pub pair_pushed : (c : C × D) (x : A × B) (r : ControlFlow AllocError (Unit {0})) (d : C × D) → IsUnzipTurn made_first made_second first_refuses second_refuses c x r d → IsCollectTurn (MadeOfPairs made_first made_second) (PairRefused made_first made_second first_refuses second_refuses) c x r d
   pair_pushed c x (Continue u) d w = λ items h. (subst (λ l. made_first l d.0) (parts_more (λ p. p.0) items x) (w.0 (map (λ p. p.0) items) h.0), subst (λ l. made_second l d.1) (parts_more (λ p. p.1) items x) (w.1 (map (λ p. p.1) items) h.1))
   pair_pushed c x (Break a) d w = w

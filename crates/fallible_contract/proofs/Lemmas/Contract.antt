@@ -33,13 +33,13 @@ module _ {S A E : Type 0} {m : Contract S A E} where
 -- ---- draws from both ends
 
 module _ {S A E : Type 0} (m : Contract S A E) (e : Ends S A E) where
-  answer_at : (s t : S) (r : Answered A E) → OnAnswer (from_back m e) s r t → OnAnswer (from_front m e) s r t
-  answer_at s t (Ok (Some x)) h = h
-  answer_at s t (Ok None) h = h
-  answer_at s t (Err d) h = h
+  answer_from_front : (s t : S) (r : Answered A E) → OnAnswer (from_back m e) s r t → OnAnswer (from_front m e) s r t
+  answer_from_front s t (Ok (Some x)) h = h
+  answer_from_front s t (Ok None) h = h
+  answer_from_front s t (Err d) h = h
 
   -- from the end that is named
   pub kept_step_at : LawfulEnds m e → (side : Side) (r : Answered A E) (s t u : S) → KeptByDraws (from_front m e) s t → step_at m.steps e.steps side t r u → KeptByDraws (from_front m e) s u
   kept_step_at l Front r s t u p step = kept_then p (kept_after (l.front.kept_by_draw t r u p.can_next step))
   kept_step_at l Back r s t u p step = let g = l.back.kept_by_draw t r u p.can_next step in
-      let h : KeptByDraw (from_front m e) t r u = record { can_next = g.can_next; is_finite = g.is_finite; answer = answer_at t u r g.answer; may_give = g.may_give; may_fail = g.may_fail; lenders = g.lenders } in kept_then p (kept_after h)
+      let h : KeptByDraw (from_front m e) t r u = record { can_next = g.can_next; is_finite = g.is_finite; answer = answer_from_front t u r g.answer; may_give = g.may_give; may_fail = g.may_fail; lenders = g.lenders } in kept_then p (kept_after h)

@@ -28,15 +28,15 @@ module _ {S A E : Type 0} (front back : S → Answered A E → S → Type 0) whe
   abbrev Exchanged : S → List (Result E A) → Type 0
   Exchanged s k = (l : List (Result A E)) × (k ≡ map exchanged_result l) × ListsBothEnds front back s l
 
-  in_front : (s : S) (k : List (Result E A)) → Exchanged s k → (r : Answered E A) (t : S) → steps_exchanged front s r t → TakesFirst (λ j. Exchanged t j) r k
-  in_front s k h r t step = subst (λ (j : List (Result E A)). TakesFirst (λ i. Exchanged t i) r j) (sym h.1) (first_exchanged (λ j. Exchanged t j) (λ j i. (j, refl, i)) r h.0 (takes_front h.2 step))
+  at_front : (s : S) (k : List (Result E A)) → Exchanged s k → (r : Answered E A) (t : S) → steps_exchanged front s r t → TakesFirst (λ j. Exchanged t j) r k
+  at_front s k h r t step = subst (λ (j : List (Result E A)). TakesFirst (λ i. Exchanged t i) r j) (sym h.1) (first_exchanged (λ j. Exchanged t j) (λ j i. (j, refl, i)) r h.0 (takes_front h.2 step))
 
-  behind : (s : S) (k : List (Result E A)) → Exchanged s k → (r : Answered E A) (t : S) → steps_exchanged back s r t → TakesFirst (λ j. Exchanged t (reverse j)) r (reverse k)
-  behind s k h r t step = subst (λ (j : List (Result E A)). TakesFirst (λ i. Exchanged t (reverse i)) r j) (map-reverse exchanged_result h.0 ∙ ap reverse (sym h.1))
+  at_back : (s : S) (k : List (Result E A)) → Exchanged s k → (r : Answered E A) (t : S) → steps_exchanged back s r t → TakesFirst (λ j. Exchanged t (reverse j)) r (reverse k)
+  at_back s k h r t step = subst (λ (j : List (Result E A)). TakesFirst (λ i. Exchanged t (reverse i)) r j) (map-reverse exchanged_result h.0 ∙ ap reverse (sym h.1))
       (first_exchanged (λ j. Exchanged t (reverse j)) (λ j i. (reverse j, sym (map-reverse exchanged_result j), i)) r (reverse h.0) (takes_back h.2 step))
 
   pub listed_exchanged : (s : S) (l : List (Result A E)) → ListsBothEnds front back s l → ListsBothEnds (steps_exchanged front) (steps_exchanged back) s (map exchanged_result l)
-  listed_exchanged s l i = listed_by (steps_exchanged front) (steps_exchanged back) Exchanged in_front behind s (map exchanged_result l) (l, refl, i)
+  listed_exchanged s l i = listed_by (steps_exchanged front) (steps_exchanged back) Exchanged at_front at_back s (map exchanged_result l) (l, refl, i)
 
 pub list_exchanged_twice : {A E : Type 0} (l : List (Result A E)) → map exchanged_result (map exchanged_result l) ≡ l
 list_exchanged_twice [] = refl

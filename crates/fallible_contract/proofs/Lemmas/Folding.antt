@@ -6,12 +6,12 @@ use Rattle.fallible_contract.specs.Traces.{Answered, Run, Yields, item}
 use Rattle.fallible_contract.specs.Passing.{passing_step}
 use Rattle.fallible_contract.specs.Contract.{Contract, Lawful}
 use Rattle.fallible_contract.specs.Closures.{Reaches, IsCallable}
-use Rattle.fallible_contract.specs.Folds.{Drained, HoldsAtEachTurn, goes_on, DriveExit, Driven, TurnBehind, beside, beside_names, within}
+use Rattle.fallible_contract.specs.Folds.{Drained, HoldsAtEachTurn, goes_on, DriveExit, Driven, TurnThrough, beside, beside_names, within}
 use Rattle.fallible_contract.specs.Folding.{TurnedBy, FoldingTurn, FoldingTakes}
 use Rattle.fallible_contract.specs.Laws.Closures.{reaches_here, reaches_weaken, reaches_from}
 use Rattle.fallible_contract.specs.Laws.Passing.{done, end_passes, failure_passes, keeps, refuses, closes, leaves_out, to_passes, from_passes}
 use Rattle.fallible_contract.proofs.Lemmas.Contract.{given_after}
-use Rattle.fallible_contract.proofs.Lemmas.Folds.{holds_here, holds_after, driven_after, driven_end, driven_failure, driven_stop, driven_behind, names_kept}
+use Rattle.fallible_contract.proofs.Lemmas.Folds.{holds_here, holds_after, driven_after, driven_end, driven_failure, driven_stop, driven_through, names_kept}
 use Rattle.std.specs.declared.ops.ControlFlow.{ControlFlow}
 use Rattle.std.specs.declared.ops.ControlFlow.TheVariants.{Continue, Break}
 use Rattle.fallible_contract.specs.declared.folds.Beside.{Beside}
@@ -141,13 +141,13 @@ pub drives_through : {S C F X V B E R : Type 0} {steps : S → Answered X E → 
     → Driven steps (FoldingTurn call outcome turns) s p r t q → Driven (passing_step steps call outcome) turns (s, p.1) p.0 (within r) (t, q.1) q.0
 drives_through {steps = steps} {call = call} {outcome = outcome} {turns = turns} {s = s} {t = t} {p = p} {q = q} {r = r} w = items_through steps call outcome turns w.items w.last s t p w.at.carried q r w.ran w.at.went w.at.exit
 
--- The same, where the adapter's closure and the caller's state stand behind references. What was lent is what is behind those that came back, once they are known to be the same.
+-- The same, where the adapter's closure and the caller's state are lent by reference. What was lent is what those that came back point to, once they are known to be the same.
 pub drives_beside : {S C F X V B E R : Type 0} {steps : S → Answered X E → S → Type 0} {call : F → X → V → F → Type 0} {outcome : X → V → Outcome B E} {turns : C → B → ControlFlow R (Unit {0}) → C → Type 0} {s t : S} {b d : Beside C F} {r : Answered (Answered R E) E} (f : F) (c : C)
-    → Driven steps (TurnBehind beside beside_names (FoldingTurn call outcome turns)) s b r t d → (d.p.ghost_name ≡ b.p.ghost_name → f ≡ d.p.now) → (d.c.ghost_name ≡ b.c.ghost_name → c ≡ d.c.now) → Driven (passing_step steps call outcome) turns (s, b.p.now) b.c.now (within r) (t, f) c
+    → Driven steps (TurnThrough beside beside_names (FoldingTurn call outcome turns)) s b r t d → (d.p.ghost_name ≡ b.p.ghost_name → f ≡ d.p.now) → (d.c.ghost_name ≡ b.c.ghost_name → c ≡ d.c.now) → Driven (passing_step steps call outcome) turns (s, b.p.now) b.c.now (within r) (t, f) c
 drives_beside {steps = steps} {call = call} {outcome = outcome} {turns = turns} {s = s} {t = t} {b = b} {d = d} {r = r} f c w is_f is_c = let same = names_kept beside beside_names (FoldingTurn call outcome turns) w in
     subst (λ z. Driven (passing_step steps call outcome) turns (s, b.p.now) b.c.now (within r) (t, f) z) (sym (is_c (ap (λ z. z.0) same)))
     (subst (λ z. Driven (passing_step steps call outcome) turns (s, b.p.now) b.c.now (within r) (t, z) d.c.now) (sym (is_f (ap (λ z. z.1) same)))
-    (drives_through (driven_behind beside beside_names (FoldingTurn call outcome turns) w)))
+    (drives_through (driven_through beside beside_names (FoldingTurn call outcome turns) w)))
 
 -- calls of the source's turns bring the closure where calls on what comes do
 module _ {S C F X V B E R : Type 0} {m : Contract S X E} (l : Lawful m) (call : F → X → V → F → Type 0) (outcome : X → V → Outcome B E) (turns : C → B → ControlFlow R (Unit {0}) → C → Type 0) where

@@ -5,7 +5,7 @@ use Rattle.std.proofs.Common.{refl, sym, ap, ◌∙◌, subst, arith}
 use Rattle.fallible_contract.specs.Traces.{Answered, Run, Yields, item}
 use Rattle.fallible_contract.specs.Contract.{Contract, AtMost, Lawful}
 use Rattle.fallible_contract.proofs.Lemmas.Contract.{number_of_at_most}
-use Rattle.fallible_contract.specs.Folds.{Drained, CountExit, Counted, LastExit, LastOf, HoldsAtEachTurn, went_on_with, CallableInFold, IsFoldTurn, IsFoldTurnInSlot, takes_in_slot, FoldExit, Folded, goes_on, DriveExit, CallableDriving, Driven, TurnBehind}
+use Rattle.fallible_contract.specs.Folds.{Drained, CountExit, Counted, LastExit, LastOf, HoldsAtEachTurn, went_on_with, CallableInFold, IsFoldTurn, IsFoldTurnInSlot, takes_in_slot, FoldExit, Folded, goes_on, DriveExit, CallableDriving, Driven, TurnThrough}
 use Rattle.std.specs.declared.ops.ControlFlow.{ControlFlow}
 use Rattle.std.specs.declared.ops.ControlFlow.TheVariants.{Continue, Break}
 
@@ -66,27 +66,27 @@ module _ {S A E C R : Type 0} {steps : S → Answered A E → S → Type 0} {tur
 
 -- ---- a fold whose state holds references
 
-module _ {X N A C R : Type 0} (behind : X → C) (names : X → N) (turns : C → A → ControlFlow R (Unit {0}) → C → Type 0) where
-  went_behind : (items : List A) (c d : X) → FoldsTo (goes_on (TurnBehind behind names turns)) c items d → FoldsTo (goes_on turns) (behind c) items (behind d) × (names d ≡ names c)
-  went_behind [] c d e = (ap behind e, sym (ap names e))
-  went_behind (x ∷ items) c d w = let rest = went_behind items w.0 d w.2 in ((behind w.0, w.1.0, rest.0), rest.1 ∙ w.1.1)
+module _ {X N A C R : Type 0} (values : X → C) (names : X → N) (turns : C → A → ControlFlow R (Unit {0}) → C → Type 0) where
+  went_through : (items : List A) (c d : X) → FoldsTo (goes_on (TurnThrough values names turns)) c items d → FoldsTo (goes_on turns) (values c) items (values d) × (names d ≡ names c)
+  went_through [] c d e = (ap values e, sym (ap names e))
+  went_through (x ∷ items) c d w = let rest = went_through items w.0 d w.2 in ((values w.0, w.1.0, rest.0), rest.1 ∙ w.1.1)
 
-  exit_behind : {E : Type 0} (last : Answered A E) (r : Answered R E) (z d : X) → DriveExit (TurnBehind behind names turns) z last r d → DriveExit turns (behind z) last r (behind d) × (names d ≡ names z)
-  exit_behind (Ok None) r z d e = ((e.0, ap behind e.1), ap names e.1)
-  exit_behind (Ok (Some x)) r z d e = ((e.0, e.1.0, e.2), e.1.1)
-  exit_behind (Err f) r z d e = ((e.0, ap behind e.1), ap names e.1)
+  exit_through : {E : Type 0} (last : Answered A E) (r : Answered R E) (z d : X) → DriveExit (TurnThrough values names turns) z last r d → DriveExit turns (values z) last r (values d) × (names d ≡ names z)
+  exit_through (Ok None) r z d e = ((e.0, ap values e.1), ap names e.1)
+  exit_through (Ok (Some x)) r z d e = ((e.0, e.1.0, e.2), e.1.1)
+  exit_through (Err f) r z d e = ((e.0, ap values e.1), ap names e.1)
 
   module _ {S E : Type 0} {steps : S → Answered A E → S → Type 0} {s : S} {c : X} where
-    -- where the turn may be taken on what is behind the references, it may be taken on them
-    pub callable_behind : {can : C → A → Type 0} → CallableDriving steps turns can s (behind c) → CallableDriving steps (TurnBehind behind names turns) (λ d x. can (behind d) x) s c
-    callable_behind h = record { at = λ items t u d x ran went step. h.at items t u (behind d) x ran (went_behind items c d went).0 step }
+    -- where the turn may be taken on what the references point to, it may be taken on them
+    pub callable_through : {can : C → A → Type 0} → CallableDriving steps turns can s (values c) → CallableDriving steps (TurnThrough values names turns) (λ d x. can (values d) x) s c
+    callable_through h = record { at = λ items t u d x ran went step. h.at items t u (values d) x ran (went_through items c d went).0 step }
 
-    -- it is a fold on what is behind the references, and these come back
-    pub driven_behind : {t : S} {d : X} {r : Answered R E} → Driven steps (TurnBehind behind names turns) s c r t d → Driven steps turns s (behind c) r t (behind d)
-    driven_behind {d = d} {r = r} w = drained_map (λ items last h. record { carried = behind h.carried; went = (went_behind items c h.carried h.went).0; exit = (exit_behind last r h.carried d h.exit).0 }) w
+    -- it is a fold on what the references point to, and these come back
+    pub driven_through : {t : S} {d : X} {r : Answered R E} → Driven steps (TurnThrough values names turns) s c r t d → Driven steps turns s (values c) r t (values d)
+    driven_through {d = d} {r = r} w = drained_map (λ items last h. record { carried = values h.carried; went = (went_through items c h.carried h.went).0; exit = (exit_through last r h.carried d h.exit).0 }) w
 
-    pub names_kept : {t : S} {d : X} {r : Answered R E} → Driven steps (TurnBehind behind names turns) s c r t d → names d ≡ names c
-    names_kept {d = d} {r = r} w = (exit_behind w.last r w.at.carried d w.at.exit).1 ∙ (went_behind w.items c w.at.carried w.at.went).1
+    pub names_kept : {t : S} {d : X} {r : Answered R E} → Driven steps (TurnThrough values names turns) s c r t d → names d ≡ names c
+    names_kept {d = d} {r = r} w = (exit_through w.last r w.at.carried d w.at.exit).1 ∙ (went_through w.items c w.at.carried w.at.went).1
 
 -- ---- `count`
 

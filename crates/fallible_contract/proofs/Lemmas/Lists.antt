@@ -1,8 +1,8 @@
 -- Lists of answers: what callers state.
-pub mod Behind
+pub mod Rest
 pub mod Compared
 pub mod Drawn
 pub mod ForGood
-pub mod Parted
+pub mod Partitioned
 pub mod Passing
 pub mod Searched

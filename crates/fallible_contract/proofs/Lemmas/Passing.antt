@@ -11,7 +11,7 @@ use Rattle.fallible_contract.specs.Laws.Closures.{reaches_here, reaches_weaken, 
 use Rattle.fallible_contract.specs.Folds.{HoldsAtEachTurn}
 use Rattle.fallible_contract.proofs.Lemmas.Folds.{turns_map, holds_map}
 use Rattle.fallible_contract.specs.Passing.{ItemPassed, PassTest, PassAnswer, IfItem, outcome_answer, PassTrace}
-use Rattle.fallible_contract.specs.Searching.{Passed, Decided, SearchExit, CallableInSearch, Searched, find_pick}
+use Rattle.fallible_contract.specs.Searching.{WentOn, Decided, SearchExit, CallableInSearch, Searched, find_pick}
 use Rattle.fallible_contract.specs.Laws.Passing.{Passes, done, end_passes, failure_passes, keeps, refuses, closes, leaves_out, to_passes, from_passes}
 use Rattle.fallible_contract.specs.declared.passing.Outcome.{Outcome}
 use Rattle.fallible_contract.specs.declared.passing.Outcome.TheVariants.{Kept, LeftOut, Failure, End}
@@ -78,7 +78,7 @@ callable_turns {m = m} {call = call} outcome {s = s} {f = f} l c callable = reco
 
 module _ {S F X R E : Type 0} (steps : S → Answered X E → S → Type 0) (call : F → X → R → F → Type 0) (outcome : X → R → Outcome X E) where
   -- after a test on which the search goes on, the item is left out
-  left_by_test : (f : F) (x : X) (g : F) → Passed (PassTest call outcome) find_pick f x g → leaving steps call outcome f x g
+  left_by_test : (f : F) (x : X) (g : F) → WentOn (PassTest call outcome) find_pick f x g → leaving steps call outcome f x g
   left_by_test f x g (true, w, goes_on) = absurd (let none = goes_on 0 in cc)
   left_by_test f x g (false, w, goes_on) = w
 

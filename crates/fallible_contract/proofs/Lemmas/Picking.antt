@@ -133,7 +133,7 @@ module _ {A E F K : Type 0} {cmp : K → K → Ordering} (o : IsTotalOrder cmp) 
   pub best_of_keys : {S : Type 0} {steps : S → Answered A E → S → Type 0} {from : E → E → Type 0} {s t : S} {f : F} {kept : Result (Option (K × A)) E} (r : Result (Option A) E) → ((e d : E) → from e d → d ≡ e) → Folded steps (KeyCall keeps cmp call) from s None f kept t → r ≡ item_of kept → BestByKey keeps cmp call steps s f r
   best_of_keys {steps = steps} {from = from} {s = s} {t = t} {f = f} {kept = kept} r same h is =
       let a = key_items h.items f h.at.value h.at.closure h.at.went in
-      record { keyed = a.keyed; last = h.last; closure = h.at.closure; left = t; ran = subst (λ (xs : List A). Run steps s (map item xs ++ h.last ∷ []) t) (sym a.are) h.ran; called = a.called; exit = key_exit from same a.keyed h.at.value h.at.closure h.last kept r a.best h.at.exit is }
+      record { keyed = a.keyed; last = h.last; closure = h.at.closure; after = t; ran = subst (λ (xs : List A). Run steps s (map item xs ++ h.last ∷ []) t) (sym a.are) h.ran; called = a.called; exit = key_exit from same a.keyed h.at.value h.at.closure h.last kept r a.best h.at.exit is }
 
 -- ---- over a list
 
@@ -199,7 +199,7 @@ module _ {A E F : Type 0} (keeps : Ordering) (call : F → A → A → Result Or
   picked_of {f = f} {r = r} h =
       let by = h.folded in
       let a = picked_items by.items f by.at.value by.at.closure by.at.went in
-      record { items = by.items; orders = a.orders; bests = a.bests; last = by.last; closure = by.at.closure; left = h.left; ran = by.ran; are = a.are; called = a.called; exit = pick_exit a.bests by.at.value by.at.closure by.last r a.at_last by.at.exit }
+      record { items = by.items; orders = a.orders; bests = a.bests; last = by.last; closure = by.at.closure; after = h.after; ran = by.ran; are = a.are; called = a.called; exit = pick_exit a.bests by.at.value by.at.closure by.last r a.at_last by.at.exit }
 
 -- ---- by the order of the items
 

@@ -6,17 +6,17 @@ use Rattle.fallible_contract.specs.Traces.{Answered}
 use Rattle.fallible_contract.specs.Contract.{Contract, AtMost, Lawful}
 use Rattle.fallible_contract.specs.Folds.{HoldsAtEachTurn, goes_on, DriveExit, Driven}
 use Rattle.fallible_contract.proofs.Lemmas.Folds.{count_fits, drained_map, turns_map}
-use Rattle.fallible_contract.specs.Searching.{Passed, Decided, IsSearchTurn, IsPositionTurn, SearchExit, CallableInSearch, Searched, find_pick, IsFindTurn, answer_by, found_by}
+use Rattle.fallible_contract.specs.Searching.{WentOn, Decided, IsSearchTurn, IsPositionTurn, SearchExit, CallableInSearch, Searched, find_pick, IsFindTurn, answer_by, found_by}
 use Rattle.std.specs.declared.ops.ControlFlow.{ControlFlow}
 use Rattle.std.specs.declared.ops.ControlFlow.TheVariants.{Continue, Break}
 
 -- `At n c`: the state is c after n items. `closure c` is the closure in it.
 module _ {A E F V R C : Type 0} (call : F → A → Result V E → F → Type 0) (pick : ℕ → A → V → Option R) (turns : C → A → ControlFlow (Result R E) (Unit {0}) → C → Type 0) (closure : C → F) (At : ℕ → C → Type 0)
-    (passes : (n : ℕ) (c : C) (x : A) (d : C) → At n c → turns c x (Continue tt) d → Passed call pick (closure c) x (closure d) × At (n + 1) d)
+    (passes : (n : ℕ) (c : C) (x : A) (d : C) → At n c → turns c x (Continue tt) d → WentOn call pick (closure c) x (closure d) × At (n + 1) d)
     (stops : (n : ℕ) (c : C) (x : A) (r : Result R E) (d : C) → At n c → turns c x (Break r) d → Decided call pick n (closure c) x r (closure d)) where
-  passed_all : (items : List A) (n : ℕ) (c d : C) → At n c → FoldsTo (goes_on turns) c items d → FoldsTo (Passed call pick) (closure c) items (closure d) × At (n + length items) d
-  passed_all [] n c d at e = (ap closure e, subst (λ k. At k d) (omega arith) (subst (At n) e at))
-  passed_all (x ∷ items) n c d at w = let h = passes n c x w.0 at w.1 in let rest = passed_all items (n + 1) w.0 d h.1 w.2 in
+  went_on_all : (items : List A) (n : ℕ) (c d : C) → At n c → FoldsTo (goes_on turns) c items d → FoldsTo (WentOn call pick) (closure c) items (closure d) × At (n + length items) d
+  went_on_all [] n c d at e = (ap closure e, subst (λ k. At k d) (omega arith) (subst (At n) e at))
+  went_on_all (x ∷ items) n c d at w = let h = passes n c x w.0 at w.1 in let rest = went_on_all items (n + 1) w.0 d h.1 w.2 in
       ((closure w.0, h.0, rest.0), subst (λ k. At k d) (omega arith) rest.1)
 
   search_exit : (none : R) (last : Answered A E) (n : ℕ) (c d : C) (answer : Answered (Result R E) E) (r : Result R E) → At n c → DriveExit turns c last answer d → r ≡ answer_by none answer → SearchExit call pick none n (closure c) last r (closure d)
@@ -26,7 +26,7 @@ module _ {A E F V R C : Type 0} (call : F → A → Result V E → F → Type 0)
 
   pub searched_by : {S : Type 0} {steps : S → Answered A E → S → Type 0} {s t : S} {c d : C} {answer : Answered (Result R E) E} (none : R) (r : Result R E) → At 0 c → Driven steps turns s c answer t d → r ≡ answer_by none answer → Searched call pick steps none s (closure c) r t (closure d)
   searched_by {c = c} {d = d} {answer = answer} none r at h by =
-      drained_map (λ items last w. let p = passed_all items 0 c w.carried at w.went in record {
+      drained_map (λ items last w. let p = went_on_all items 0 c w.carried at w.went in record {
         closure = closure w.carried;
         went = p.0;
         exit = search_exit none last (length items) w.carried d answer r (subst (λ k. At k w.carried) (omega arith) p.1) w.exit by;
@@ -43,7 +43,7 @@ module _ {S A E F V R : Type 0} {steps : S → Answered A E → S → Type 0} {c
 
 -- where at most k items are to come, a search whose closure may be called may count the items before below k
 module _ {A E F V R : Type 0} (call : F → A → Result V E → F → Type 0) (pick : ℕ → A → V → Option R) where
-  placed_apart : (items : List A) (p q : ℕ × F) → FoldsTo {P = ℕ × F} (goes_on (IsPositionTurn call pick)) p items q → FoldsTo {P = ℕ} {A = A} (λ n x k. k ≡ n + 1) p.0 items q.0 × FoldsTo (Passed call pick) p.1 items q.1
+  placed_apart : (items : List A) (p q : ℕ × F) → FoldsTo {P = ℕ × F} (goes_on (IsPositionTurn call pick)) p items q → FoldsTo {P = ℕ} {A = A} (λ n x k. k ≡ n + 1) p.0 items q.0 × FoldsTo (WentOn call pick) p.1 items q.1
   placed_apart [] p q e = (ap (λ c. c.0) e, ap (λ c. c.1) e)
   placed_apart (x ∷ items) p q w = let h = placed_apart items w.0 q w.2 in ((w.0.0, w.1.0, h.0), (w.0.1, w.1.1, h.1))
 

@@ -1,5 +1,5 @@
 -- What calls of a stored closure lead to.
-use Rattle.std.specs.Prelude.{◌≡◌, List, [], ◌∷◌, ◌++◌}
+use Rattle.std.specs.Prelude.{List, [], ◌∷◌, ◌++◌}
 use Rattle.std.specs.List.{FoldsTo}
 use Rattle.std.proofs.Common.{refl, sym, subst}
 use Rattle.fallible_contract.specs.Closures.{Reaches, IsCallable, MayAnswer}
@@ -33,20 +33,7 @@ module _ {F X R : Type 0} {call : F → X → R → F → Type 0} where
 module _ {F X R : Type 0} {call : F → X → R → F → Type 0} {P : X → Type 0} {f : F} {Q : X → R → Type 0} where
   -- what may be answered after calls may be answered
   pub may_answer_after : {P' : X → Type 0} {g : F} → ((x : X) → P' x → P x) → Reaches call P f g → MayAnswer call P' g Q → MayAnswer call P f Q
-  may_answer_after h r a = record { state = a.state; argument = a.argument; answer = a.answer; left = a.left; reached = reaches_then r (reaches_weaken h a.reached); given = h a.argument a.given; called = a.called; says = a.says }
+  may_answer_after h r a = record { state = a.state; argument = a.argument; answer = a.answer; after = a.after; reached = reaches_then r (reaches_weaken h a.reached); given = h a.argument a.given; called = a.called; says = a.says }
 
   pub may_answer_here : (g : F) (x : X) (v : R) → P x → call f x v g → Q x v → MayAnswer call P f Q
-  may_answer_here g x v given called says = record { state = f; argument = x; answer = v; left = g; reached = reaches_here; given = given; called = called; says = says }
-
--- ---- what holds a closure: each call in there is one of the closure itself
-
-module _ {F H X R : Type 0} (call : F → X → R → F → Type 0) (held : H → X → R → H → Type 0) (into : F → H) (within : (f : F) (x : X) (v : R) (h : H) → held (into f) x v h → (g : F) × (h ≡ into g) × call f x v g) (P : X → Type 0) where
-  folds_within : (made : List (X × R)) (f : F) (h : H) → FoldsTo (λ p c q. P c.0 × held p c.0 c.1 q) (into f) made h → (g : F) × (h ≡ into g) × FoldsTo (λ p c q. P c.0 × call p c.0 c.1 q) f made g
-  folds_within [] f h w = (f, sym w, refl)
-  folds_within (c ∷ made) f h w =
-      let one = within f c.0 c.1 w.0 w.1.1 in
-      let rest = folds_within made one.0 h (subst (λ (k : H). FoldsTo (λ p d q. P d.0 × held p d.0 d.1 q) k made h) one.1 w.2) in
-      (rest.0, rest.1, (one.0, (w.1.0, one.2), rest.2))
-
-  pub reaches_within : (f : F) (h : H) → Reaches held P (into f) h → (g : F) × (h ≡ into g) × Reaches call P f g
-  reaches_within f h r = let k = folds_within r.made f h r.by in (k.0, k.1, record { made = r.made; by = k.2 })
+  may_answer_here g x v given called says = record { state = f; argument = x; answer = v; after = g; reached = reaches_here; given = given; called = called; says = says }

@@ -171,8 +171,8 @@ module _ {S A E : Type 0} (steps : S → Answered A E → S → Type 0) where
   taken_at [] last (suc n) k s t ran = inl ((t, subst (λ (u : S). steps s last u) (ap (λ p. p.0) ran.2) ran.1.0, refl), omega arith)
   taken_at (x ∷ xs) last zero k s t ran = absurd (let e = ran.1.0 in cc)
   taken_at (x ∷ xs) last (suc n) k s t ran =
-      let left : ran.0.1 ≡ n = let e = ran.1.1 in omega (arith, e) in
-      one_more n s ran.0.0 t x xs last ran.1.0 (subst (λ (j : ℕ). TakenRun steps j ran.0.0 xs last t) left (taken_at xs last ran.0.1 k ran.0.0 t ran.2))
+      let one_less : ran.0.1 ≡ n = let e = ran.1.1 in omega (arith, e) in
+      one_more n s ran.0.0 t x xs last ran.1.0 (subst (λ (j : ℕ). TakenRun steps j ran.0.0 xs last t) one_less (taken_at xs last ran.0.1 k ran.0.0 t ran.2))
 
 pub taken_run : {I A E : Type 0} (m : Contract I A E) (n : ℕ) (it : I) (s t : Take I) (xs : List A) (last : Answered A E) → take_parts s ≡ (it, n) → Run (seen_as take_parts (take_contract m)).steps s (map item xs ++ last ∷ []) t → TakenRun m.steps n it xs last t.it
-taken_run {I = I} m n it s t xs last parts ran = taken_at m.steps xs last n t.left it t.it (subst (λ (p : I × ℕ). Run (take_step m.steps) p (map item xs ++ last ∷ []) (take_parts t)) parts (run_seen take_parts _ (map item xs ++ last ∷ []) s t ran))
+taken_run {I = I} m n it s t xs last parts ran = taken_at m.steps xs last n t.to_take it t.it (subst (λ (p : I × ℕ). Run (take_step m.steps) p (map item xs ++ last ∷ []) (take_parts t)) parts (run_seen take_parts _ (map item xs ++ last ∷ []) s t ran))

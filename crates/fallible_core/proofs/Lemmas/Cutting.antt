@@ -1,5 +1,5 @@
--- Lemmas on the runs of such types: one file a type, and `Counting`, which `Skip` and `StepBy` share.
-pub mod Counting
+-- Lemmas on the runs of such types: one file a type, and `ByNumber`, which `Skip` and `StepBy` share.
+pub mod ByNumber
 pub mod Fuse
 pub mod FuseFolds
 pub mod Skip

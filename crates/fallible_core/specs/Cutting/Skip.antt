@@ -2,7 +2,7 @@
 use Rattle.std.specs.Prelude.{ℕ, Option, ◌≡◌, ◌-◌, ltb, List, [], ◌∷◌, zero, suc, Result, Ok, Err}
 use Rattle.fallible_contract.specs.Traces.{Answered}
 use Rattle.fallible_contract.specs.Contract.{Contract}
-use Rattle.fallible_contract.specs.Counting.{KeptByNumber}
+use Rattle.fallible_contract.specs.ByNumber.{KeptByNumber}
 use Rattle.fallible_contract.specs.WithSteps.{with_steps_contract}
 use Rattle.fallible_contract.specs.Hints.{hint_less}
 use Rattle.fallible_core.specs.declared.cutting.skip.Skip.{Skip}
@@ -12,12 +12,12 @@ abbrev pub skip_source : {I : Type 0} → Skip I → I
 skip_source s = s.it
 
 -- how many items it still leaves out
-abbrev pub skip_left : {I : Type 0} → Skip I → ℕ
-skip_left s = s.to_skip
+abbrev pub skip_to_skip : {I : Type 0} → Skip I → ℕ
+skip_to_skip s = s.to_skip
 
 -- the source, and how many items are still to be left out
 abbrev pub skip_parts : {I : Type 0} → Skip I → I × ℕ
-skip_parts s = (skip_source s, skip_left s)
+skip_parts s = (skip_source s, skip_to_skip s)
 
 -- `Skip` with n items to leave out: the source's trace without its first n items. What is left to leave out is n less the items drawn, and not below 0. The parts are the source and n.
 abbrev pub SkipTrace : {S A E : Type 0} → (S → Answered A E → S → Type 0) → S × ℕ → List (Answered A E) → S × ℕ → Type 0

@@ -2,7 +2,7 @@
 use Rattle.std.specs.Prelude.{ℕ, zero, suc, Bool, Option, ◌≡◌, ◌+◌, ◌-◌, ◌%◌, ltb, leb, eqb, cond, ◌&&◌, List, [], ◌∷◌, ⊤, Result, Ok, Err}
 use Rattle.fallible_contract.specs.Traces.{Answered}
 use Rattle.fallible_contract.specs.Contract.{Contract}
-use Rattle.fallible_contract.specs.Counting.{KeptByNumber}
+use Rattle.fallible_contract.specs.ByNumber.{KeptByNumber}
 use Rattle.fallible_contract.specs.WithSteps.{with_steps_contract}
 use Rattle.fallible_contract.specs.Hints.{hint_kept}
 use Rattle.fallible_contract.specs.declared.passing.Outcome.{Outcome}
@@ -18,24 +18,24 @@ abbrev pub step_by_between : {I : Type 0} → StepBy I → ℕ
 step_by_between s = s.between
 
 -- how many items it leaves out before the next one
-abbrev pub step_by_left : {I : Type 0} → StepBy I → ℕ
-step_by_left s = s.left
+abbrev pub step_by_to_skip : {I : Type 0} → StepBy I → ℕ
+step_by_to_skip s = s.to_skip
 
 -- the source, and how many items are left out between two and how many next
 abbrev pub step_by_parts : {I : Type 0} → StepBy I → I × (ℕ × ℕ)
-step_by_parts s = (step_by_source s, (step_by_between s, step_by_left s))
+step_by_parts s = (step_by_source s, (step_by_between s, step_by_to_skip s))
 
 -- whether the item with number k is kept, where r are left out at first: k is r + 1 plus a multiple of the step
 abbrev pub keeps_at_steps : ℕ → ℕ → ℕ → Bool
 keeps_at_steps between r k = ltb r k && eqb ((k - 1 - r) % (between + 1)) 0
 
 -- how many items are left out next, once k were drawn: of the first r those that are still to come, and else those up to the next multiple of the step
-abbrev pub left_after : ℕ → ℕ → ℕ → ℕ
-left_after between r k = cond (leb k r) (r - k) (between - (k - 1 - r) % (between + 1))
+abbrev pub to_skip_after : ℕ → ℕ → ℕ → ℕ
+to_skip_after between r k = cond (leb k r) (r - k) (between - (k - 1 - r) % (between + 1))
 
 -- `StepBy` with r items to leave out first: the source's trace with only those items whose number, from 1, is r + 1 plus a multiple of the step; failures and ends are kept. The parts are the source, the number of items between two that are kept, and r.
 abbrev pub StepByTrace : {S A E : Type 0} → (S → Answered A E → S → Type 0) → S × (ℕ × ℕ) → List (Answered A E) → S × (ℕ × ℕ) → Type 0
-StepByTrace steps p trace q = KeptByNumber (keeps_at_steps (p.1).0 (p.1).1) (left_after (p.1).0 (p.1).1) steps p.0 trace q.0 (q.1).1 × ((q.1).0 ≡ (p.1).0)
+StepByTrace steps p trace q = KeptByNumber (keeps_at_steps (p.1).0 (p.1).1) (to_skip_after (p.1).0 (p.1).1) steps p.0 trace q.0 (q.1).1 × ((q.1).0 ≡ (p.1).0)
 
 -- one answer
 abbrev pub step_by_step : {S A E : Type 0} → (S → Answered A E → S → Type 0) → S × (ℕ × ℕ) → Answered A E → S × (ℕ × ℕ) → Type 0
@@ -48,13 +48,13 @@ step_by_contract m = with_steps_contract m (step_by_step m.steps) (λ p h. (k : 
 -- ---- its fold, through the source's own
 
 -- how many items are left out next, once an item came where n were to be left out
-abbrev pub left_next : ℕ → ℕ → ℕ
-left_next between zero = between
-left_next between (suc n) = n
+abbrev pub to_skip_next : ℕ → ℕ → ℕ
+to_skip_next between zero = between
+to_skip_next between (suc n) = n
 
 -- an item is counted down
 abbrev pub count_call : {A : Type 0} → ℕ → ℕ → A → ℕ → ℕ → Type 0
-count_call between n x v k = (v ≡ n) × (k ≡ left_next between n)
+count_call between n x v k = (v ≡ n) × (k ≡ to_skip_next between n)
 
 -- it is kept where none was to be left out
 abbrev pub count_outcome : {A E : Type 0} → A → ℕ → Outcome A E

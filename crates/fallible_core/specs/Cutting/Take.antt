@@ -19,8 +19,8 @@ pub record TakeTrace {S A E : Type 0} (steps : S → Answered A E → S → Type
 
 -- One answer: an end without a draw where nothing is left to take, and else the source's answer, of which an item leaves one less.
 abbrev pub take_step : {S A E : Type 0} → (S → Answered A E → S → Type 0) → S × ℕ → Answered A E → S × ℕ → Type 0
-take_step steps (s, zero) r (t, left) = (r ≡ end) × (t ≡ s) × (left ≡ 0)
-take_step steps (s, suc n) r (t, left) = steps s r t × (left + items_in (r ∷ []) ≡ suc n)
+take_step steps (s, zero) r (t, to_take) = (r ≡ end) × (t ≡ s) × (to_take ≡ 0)
+take_step steps (s, suc n) r (t, to_take) = steps s r t × (to_take + items_in (r ∷ []) ≡ suc n)
 
 -- It always has an end: what is left to take is a bound, and so is each of the source's.
 abbrev pub take_contract : {S A E : Type 0} → Contract S A E → Contract (S × ℕ) A E
@@ -34,12 +34,12 @@ abbrev pub take_source : {I : Type 0} → Take I → I
 take_source s = s.it
 
 -- how many items it still gives
-abbrev pub take_left : {I : Type 0} → Take I → ℕ
-take_left s = s.left
+abbrev pub take_to_take : {I : Type 0} → Take I → ℕ
+take_to_take s = s.to_take
 
 -- the source, and how many items are still to be taken
 abbrev pub take_parts : {I : Type 0} → Take I → I × ℕ
-take_parts s = (take_source s, take_left s)
+take_parts s = (take_source s, take_to_take s)
 
 -- ---- what it lists
 

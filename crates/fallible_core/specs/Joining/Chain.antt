@@ -74,20 +74,20 @@ module _ {S U A E : Type 0} (first : Contract S A E) (second : Contract U A E) w
     lenders = λ p. lenders_of_both (first.lenders p.0) (second.lenders p.1);
   }
 
--- Seen from behind, the sides are swapped.
-abbrev pub sides_behind : StillDrawn → StillDrawn
-sides_behind Both = Both
-sides_behind FirstAlone = SecondAlone
-sides_behind SecondAlone = FirstAlone
+-- Seen from the back, the sides are swapped.
+abbrev pub sides_back : StillDrawn → StillDrawn
+sides_back Both = Both
+sides_back FirstAlone = SecondAlone
+sides_back SecondAlone = FirstAlone
 
-abbrev pub chain_behind : {S U : Type 0} → S × U × StillDrawn → U × S × StillDrawn
-chain_behind p = (p.1, p.0, sides_behind p.2)
+abbrev pub chain_back : {S U : Type 0} → S × U × StillDrawn → U × S × StillDrawn
+chain_back p = (p.1, p.0, sides_back p.2)
 
--- `Chain`'s second end: a draw from behind is one of the chain seen from behind, whose sides are drawn from behind.
+-- `Chain`'s second end: a draw from the back is one of the chain seen from the back, whose sides are drawn from the back.
 abbrev pub chain_ends : {S U A E : Type 0} → Ends S A E → Ends U A E → Ends (S × U × StillDrawn) A E
 chain_ends f e = record {
   can_next = λ p. f.can_next p.0 × e.can_next p.1;
-  steps = λ p r q. chain_step e.steps f.steps (chain_behind p) r (chain_behind q);
+  steps = λ p r q. chain_step e.steps f.steps (chain_back p) r (chain_back q);
   may_give = chain_may_come f.may_give e.may_give;
   may_fail = chain_may_come f.may_fail e.may_fail;
 }

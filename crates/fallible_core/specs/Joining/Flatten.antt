@@ -31,8 +31,8 @@ part_answers of_end = end ∷ []
 
 -- A finished inner iterator gave the answers, and then its end was drawn.
 pub record Finished {C B E : Type 0} (inner : C → Answered B E → C → Type 0) (c : C) (answers : List (Answered B E)) : Type 0 where
-  pub left : C
-  pub drawn : Run inner c (answers ++ end ∷ []) left
+  pub after : C
+  pub drawn : Run inner c (answers ++ end ∷ []) after
   pub no_end : NoEnd answers
 
 -- An unfinished one gave the answers, at least one and no end, and is then d.

@@ -18,7 +18,7 @@ pub record EnumerateTrace {S A E : Type 0} (steps : S → Answered A E → S →
   pub source_trace : List (Answered A E)
   pub drawn : Run steps p.0 source_trace q.0
   pub answers : trace ≡ numbered_from p.1 source_trace
-  pub left : q.1 ≡ p.1 + items_in source_trace
+  pub number_after : q.1 ≡ p.1 + items_in source_trace
 
 -- The source may be drawn from, and the numbers from n on of all items to come fit a `usize`.
 pub record IsNumberable {S A E : Type 0} (m : Contract S A E) (s : S) (n : ℕ) : Type 0 where

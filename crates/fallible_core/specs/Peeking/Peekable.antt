@@ -25,11 +25,11 @@ abbrev pub held_answers : {A E : Type 0} → Option (Option A) → List (Answere
 held_answers (Some o) = Ok o ∷ []
 held_answers None = []
 
--- what is listed behind what is held, where the source lists l: a held item and then l, nothing behind a held end, and l where nothing is held
-abbrev pub behind_held : {A E : Type 0} → Option (Option A) → List (Result A E) → List (Result A E)
-behind_held (Some (Some x)) l = Ok x ∷ l
-behind_held (Some None) l = []
-behind_held None l = l
+-- what is listed where the source lists l: a held item and then l, nothing more after a held end, and l where nothing is held
+abbrev pub held_then : {A E : Type 0} → Option (Option A) → List (Result A E) → List (Result A E)
+held_then (Some (Some x)) l = Ok x ∷ l
+held_then (Some None) l = []
+held_then None l = l
 
 -- the held answer, if there is one, and then the source's trace; nothing is held afterwards
 pub record HeldAndDrawn {S A E : Type 0} (steps : S → Answered A E → S → Type 0) (p : S × Option (Option A)) (trace : List (Answered A E)) (q : S × Option (Option A)) : Type 0 where
@@ -75,7 +75,7 @@ peekable_contract m = record {
 
 -- ---- looking ahead
 
--- what is behind the reference that is answered
+-- what the reference that is answered points to
 abbrev pub seen : {A E : Type 0} → Result (Option (Bor A)) E → Answered A E
 seen (Ok (Some x)) = item x.now
 seen (Ok None) = end
@@ -124,9 +124,9 @@ TakenIf steps test p (Err e) r q = (r ≡ failure e) × (q ≡ p)
 -- `next_if`: a peek, and then a draw where the test is true of the item; else what is held stays held, and the answer is an end, or the failure.
 pub record NextIf {S A E : Type 0} (steps : S → Answered A E → S → Type 0) (test : A → Bool → Type 0) (p : S × Option (Option A)) (r : Answered A E) (q : S × Option (Option A)) : Type 0 where
   pub peeked : Answered A E
-  pub left : S × Option (Option A)
-  pub peeks : Peeks steps p peeked left
-  pub taken : TakenIf steps test left peeked r q
+  pub after : S × Option (Option A)
+  pub peeks : Peeks steps p peeked after
+  pub taken : TakenIf steps test after peeked r q
 
 -- the test of an item by a closure, which may be called on a reference to it
 abbrev pub TestedBy : {F A : Type 0} → Shared F (Bor A × Unit {0}) Bool → F → A → Bool → Type 0
@@ -145,10 +145,10 @@ looked_ahead (Ok x ∷ l) = Ok x ∷ l
 looked_ahead (Err e ∷ l) = l
 
 -- h of the item that stands first; none where the list is empty, and the failure that stands first
-unfoldable pub looked_at : {A E R : Type 0} → (A → R) → List (Result A E) → Result (Option R) E
-looked_at h [] = Ok None
-looked_at h (Ok x ∷ l) = Ok (Some (h x))
-looked_at h (Err e ∷ l) = Err e
+unfoldable pub look_of : {A E R : Type 0} → (A → R) → List (Result A E) → Result (Option R) E
+look_of h [] = Ok None
+look_of h (Ok x ∷ l) = Ok (Some (h x))
+look_of h (Err e ∷ l) = Err e
 
 -- the item x, or none, by a test's answer on it
 abbrev pub taken_by : {A E : Type 0} → Bool → A → Answered A E
@@ -167,10 +167,10 @@ left_by true x l = l
 left_by false x l = Ok x ∷ l
 
 -- what `next_if` leaves: the list without its first item x, where h x is true, or without the failure that stands first
-unfoldable pub behind_if : {A E : Type 0} → (A → Bool) → List (Result A E) → List (Result A E)
-behind_if h [] = []
-behind_if h (Ok x ∷ l) = left_by (h x) x l
-behind_if h (Err e ∷ l) = l
+unfoldable pub rest_if : {A E : Type 0} → (A → Bool) → List (Result A E) → List (Result A E)
+rest_if h [] = []
+rest_if h (Ok x ∷ l) = left_by (h x) x l
+rest_if h (Err e ∷ l) = l
 
 -- The closure f answers h x on each item x.
 abbrev pub LooksAs : {F A R : Type 0} → Shared F (Bor A × Unit {0}) R → F → (A → R) → Type 0

@@ -44,7 +44,7 @@ impl<I: DoubleEndedFallibleIterator> std::iter::DoubleEndedIterator for Iterator
 
     ghost next_back_gives = { iterator_steps I.ends.steps };
 
-    /// Draws one answer of the source from behind.
+    /// Draws one answer of the source from the back.
     fn next_back(&mut self) -> Option<Result<I::Item, I::Error>> {
         self.it.next_back().transpose()
     }

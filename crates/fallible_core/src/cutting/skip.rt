@@ -5,7 +5,7 @@ ghost use Rattle.fallible_contract.specs.Laws.Contract.{lawful_seen};
 ghost use Rattle.fallible_core.specs.Cutting.Skip.{skip_contract, skip_parts};
 ghost use Rattle.fallible_core.specs.Laws.Cutting.Skip.{lawful_skip};
 
-use crate::cutting::counting::next_past;
+use crate::cutting::by_number::next_past;
 use crate::traits::FallibleIterator;
 use fallible_contract::folds::{NthTurn, Turn};
 use fallible_contract::hints::less;

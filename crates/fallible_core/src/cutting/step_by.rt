@@ -5,7 +5,7 @@ ghost use Rattle.fallible_contract.specs.Laws.Contract.{lawful_seen};
 ghost use Rattle.fallible_core.specs.Cutting.StepBy.{step_by_contract, step_by_parts, count_call, count_outcome, count_takes};
 ghost use Rattle.fallible_core.specs.Laws.Cutting.StepBy.{lawful_step_by};
 
-use crate::cutting::counting::next_past;
+use crate::cutting::by_number::next_past;
 use crate::passing::drive_passing;
 use crate::traits::FallibleIterator;
 use fallible_contract::folds::Turn;
@@ -19,7 +19,7 @@ pub struct StepBy<I> {
     // how many items are left out between two, which is one less than the step
     pub(crate) between: usize,
     // how many items are left out next
-    pub(crate) left: usize,
+    pub(crate) to_skip: usize,
 }
 
 impl<I: FallibleIterator> FallibleIterator for StepBy<I>
@@ -34,9 +34,9 @@ where
 
     /// Draws the items that are left out next, and then one answer. A failure or an end that comes among them is the answer, and the rest of them is left out from the next call on.
     fn next(&mut self) -> Result<Option<I::Item>, I::Error> {
-        match next_past(&mut self.it, &mut self.left) {
+        match next_past(&mut self.it, &mut self.to_skip) {
             Ok(Some(x)) => {
-                self.left = self.between;
+                self.to_skip = self.between;
                 Ok(Some(x))
             }
             Ok(None) => Ok(None),
@@ -45,7 +45,7 @@ where
     }
 
     fn size_hint(&self) -> (usize, Option<usize>) {
-        kept(self.it.size_hint(), self.between, self.left)
+        kept(self.it.size_hint(), self.between, self.to_skip)
     }
 
     /// One fold of the source, which counts down the items that are left out.
@@ -57,7 +57,7 @@ where
         let adapter = StepByPass {
             between: self.between,
         };
-        drive_passing(&mut self.it, &mut self.left, &adapter, state, turn)
+        drive_passing(&mut self.it, &mut self.to_skip, &adapter, state, turn)
     }
 
     ghost lawful = { lawful_seen step_by_parts (lawful_step_by I.lawful) };

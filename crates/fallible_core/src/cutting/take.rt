@@ -13,7 +13,7 @@ use fallible_contract::hints::up_to;
 pub struct Take<I> {
     pub(crate) it: I,
     // how many items are still to be taken
-    pub(crate) left: usize,
+    pub(crate) to_take: usize,
 }
 
 impl<I: FallibleIterator> FallibleIterator for Take<I> {
@@ -25,12 +25,12 @@ impl<I: FallibleIterator> FallibleIterator for Take<I> {
 
     /// Draws one answer, and none where nothing is left to take.
     fn next(&mut self) -> Result<Option<I::Item>, I::Error> {
-        if self.left == 0 {
+        if self.to_take == 0 {
             return Ok(None);
         }
         match self.it.next()? {
             Some(x) => {
-                self.left -= 1;
+                self.to_take -= 1;
                 Ok(Some(x))
             }
             None => Ok(None),
@@ -38,7 +38,7 @@ impl<I: FallibleIterator> FallibleIterator for Take<I> {
     }
 
     fn size_hint(&self) -> (usize, Option<usize>) {
-        up_to(self.it.size_hint(), self.left)
+        up_to(self.it.size_hint(), self.to_take)
     }
 
     ghost lawful = { lawful_seen take_parts (lawful_take I.lawful) };

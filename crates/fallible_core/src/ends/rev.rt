@@ -10,7 +10,7 @@ use crate::traits::FallibleIterator;
 use crate::traits::double_ended::DoubleEndedFallibleIterator;
 use fallible_contract::folds::Turn;
 
-/// The source with its ends swapped: a draw from the front is a draw of the source from behind, and the other way round.
+/// The source with its ends swapped: a draw from the front is a draw of the source from the back, and the other way round.
 #[derive(Clone, Debug, Drop)]
 pub struct Rev<I> {
     pub(crate) it: I,
@@ -23,7 +23,7 @@ impl<I: DoubleEndedFallibleIterator> FallibleIterator for Rev<I> {
 
     ghost contract = { seen_as rev_parts (rev_contract I.contract I.ends) };
 
-    /// Draws one answer of the source from behind.
+    /// Draws one answer of the source from the back.
     fn next(&mut self) -> Result<Option<I::Item>, I::Error> {
         self.it.next_back()
     }

@@ -62,7 +62,7 @@ where
     ghost ends = { ends_seen_as filter_parts
         (ends_of (filter_contract (from_back I.contract I.ends) F.FnMut)) };
 
-    /// Draws from behind until an item is kept, a failure comes or an end comes, and calls the predicate on each item.
+    /// Draws from the back until an item is kept, a failure comes or an end comes, and calls the predicate on each item.
     fn next_back(&mut self) -> Result<Option<I::Item>, I::Error> {
         self.drive_back(&mut (), &FirstTurn)
     }

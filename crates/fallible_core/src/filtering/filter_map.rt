@@ -57,7 +57,7 @@ impl<
     ghost ends = { ends_seen_as filter_map_parts
         (ends_of (filter_map_contract (from_back I.contract I.ends) F.FnMut)) };
 
-    /// Draws from behind until the closure answers a value, a failure comes or an end comes, and calls the closure on each item.
+    /// Draws from the back until the closure answers a value, a failure comes or an end comes, and calls the closure on each item.
     fn next_back(&mut self) -> Result<Option<B>, I::Error> {
         self.drive_back(&mut (), &FirstTurn)
     }

@@ -13,7 +13,7 @@ use fallible_contract::folds::Turn;
 use fallible_contract::hints::sum;
 use fallible_contract::searching::Test;
 
-// Which sides of a `Chain` are still drawn: `SecondAlone` once a draw from the front met the first source's end, and `FirstAlone` once a draw from behind met the second's.
+// Which sides of a `Chain` are still drawn: `SecondAlone` once a draw from the front met the first source's end, and `FirstAlone` once a draw from the back met the second's.
 #[derive(Clone, Debug, Drop)]
 pub(crate) enum StillDrawn {
     Both,
@@ -174,7 +174,7 @@ impl<
 > DoubleEndedFallibleIterator for Chain<T, U> {
     ghost ends = { ends_seen_as chain_parts (chain_ends T.ends U.ends) };
 
-    /// While both sides are drawn it draws one answer of the second from behind, and at its first end, in the same call, one of the first from behind, which alone is drawn from then on, from either end; a failure changes no side. Where one side alone is drawn, it draws one answer of that side from behind.
+    /// While both sides are drawn it draws one answer of the second from the back, and at its first end, in the same call, one of the first from the back, which alone is drawn from then on, from either end; a failure changes no side. Where one side alone is drawn, it draws one answer of that side from the back.
     fn next_back(&mut self) -> Result<Option<T::Item>, T::Error> {
         if !matches!(self.still_drawn, StillDrawn::FirstAlone) {
             match self.second.next_back() {
@@ -190,7 +190,7 @@ impl<
         self.first.next_back()
     }
 
-    /// The second's fold from behind, and at its end, in the same call, the first's; where one side alone is drawn, that side's.
+    /// The second's fold from the back, and at its end, in the same call, the first's; where one side alone is drawn, that side's.
     fn drive_back<C, R, K: Turn<C, T::Item, R>>(
         &mut self,
         state: &mut C,

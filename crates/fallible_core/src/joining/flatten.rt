@@ -1,7 +1,7 @@
 // The adapter that joins the answers of inner iterators.
 ghost use Rattle.std.specs.Prelude.{◌≡◌, ℕ, [], ◌∷◌, None, Ok, List, Option, Result};
 ghost use Rattle.fallible_contract.specs.Contract.{seen_as};
-ghost use Rattle.fallible_contract.specs.Folds.{CallableDriving, Driven, TurnBehind, beside, beside_names};
+ghost use Rattle.fallible_contract.specs.Folds.{CallableDriving, Driven, TurnThrough, beside, beside_names};
 ghost use Rattle.fallible_contract.specs.Laws.Contract.{lawful_seen};
 ghost use Rattle.fallible_core.specs.Joining.Flatten.{FlattenTrace, flatten_contract, JoiningTakes, IsFlattenTurn, flatten_parts};
 ghost use Rattle.fallible_core.specs.Laws.Joining.Flatten.{lawful_flatten};
@@ -171,7 +171,7 @@ impl<'a, 'b, U: IntoFallibleIterator, C, R, K: Turn<C, U::Item, R>> Turn<
     ghost can_turn = { λ k b x. JoiningTakes U.into_gives U.IntoFallibleIter.contract
         (K.turns k.turn.now) (K.can_turn k.turn.now) (beside b) x };
 
-    ghost turns = { λ k b x r d. TurnBehind beside beside_names
+    ghost turns = { λ k b x r d. TurnThrough beside beside_names
         (IsFlattenTurn U.into_gives U.IntoFallibleIter.contract (K.turns k.turn.now)) b x r d };
 
     #[inline(always)]

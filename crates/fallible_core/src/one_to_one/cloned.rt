@@ -61,7 +61,7 @@ where
     ghost ends = { ends_seen_as cloned_parts (ends_of (cloned_contract T.is_clone T.is_infallible
         I.Error.from_gives (from_back I.contract I.ends))) };
 
-    /// Draws one answer from behind, and clones what it points to where it is an item.
+    /// Draws one answer from the back, and clones what it points to where it is an item.
     fn next_back(&mut self) -> Result<Option<T>, I::Error> {
         passed(self.it.next_back(), &mut (), &ClonePass)
     }

@@ -62,7 +62,7 @@ where
     ghost ends = { ends_seen_as inspect_parts
         (ends_of (inspect_contract (from_back I.contract I.ends) F.FnMut)) };
 
-    /// Draws one answer from behind, and calls the closure where it is an item.
+    /// Draws one answer from the back, and calls the closure where it is an item.
     fn next_back(&mut self) -> Result<Option<I::Item>, I::Error> {
         passed(self.it.next_back(), &mut self.f, &InspectPass)
     }

@@ -66,7 +66,7 @@ impl<
     ghost ends = { ends_seen_as map_parts
         (ends_of (map_contract (from_back I.contract I.ends) F.FnMut)) };
 
-    /// Draws one answer from behind, and calls the closure where it is an item.
+    /// Draws one answer from the back, and calls the closure where it is an item.
     fn next_back(&mut self) -> Result<Option<B>, I::Error> {
         passed(self.it.next_back(), &mut self.f, &MapPass)
     }

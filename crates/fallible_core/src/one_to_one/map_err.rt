@@ -75,7 +75,7 @@ impl<I: DoubleEndedFallibleIterator, B, F: FnMut(I::Error) -> B> DoubleEndedFall
     ghost ends = { ends_seen_as map_err_parts
         (ends_of (map_err_contract (from_back I.contract I.ends) F.FnMut)) };
 
-    /// Draws one answer from behind, and calls the closure where it is a failure.
+    /// Draws one answer from the back, and calls the closure where it is a failure.
     fn next_back(&mut self) -> Result<Option<I::Item>, B> {
         answer(self.it.next_back(), &mut self.f)
     }

@@ -4,7 +4,7 @@ ghost use Rattle.fallible_contract.specs.Clauses.{OverList, OverListWith};
 ghost use Rattle.fallible_contract.specs.Contract.{seen_as, Fewer, Stays};
 ghost use Rattle.fallible_contract.specs.Lists.{Lists};
 ghost use Rattle.fallible_contract.specs.Laws.Contract.{lawful_seen};
-ghost use Rattle.fallible_core.specs.Peeking.Peekable.{peekable_contract, NextIf, TestedBy, IsTestable, peekable_parts, LooksAs, first_if, behind_if};
+ghost use Rattle.fallible_core.specs.Peeking.Peekable.{peekable_contract, NextIf, TestedBy, IsTestable, peekable_parts, LooksAs, first_if, rest_if};
 ghost use Rattle.fallible_core.specs.Laws.Peeking.Peekable.{lawful_peekable};
 
 use crate::traits::FallibleIterator;
@@ -92,7 +92,7 @@ where
             (seen_as peekable_parts (peekable_contract I.contract)).steps self.old
             (λ h l. (result ≡ first_if h l)
             × Lists (seen_as peekable_parts (peekable_contract I.contract)).steps
-            self.new (behind_if h l)) }
+            self.new (rest_if h l)) }
         ensures stays { Stays (peekable_contract I.contract)
             (peekable_parts self.old) (peekable_parts self.new) }
         ensures fewer { (x : I.Item) → result ≡ Ok (Some x)
@@ -138,7 +138,7 @@ where
             (seen_as peekable_parts (peekable_contract I.contract)).steps self.old
             (λ l. (result ≡ first_if (λ x. I.Item.eq x expected.now) l)
             × Lists (seen_as peekable_parts (peekable_contract I.contract)).steps self.new
-            (behind_if (λ x. I.Item.eq x expected.now) l)) }
+            (rest_if (λ x. I.Item.eq x expected.now) l)) }
         ensures stays { Stays (peekable_contract I.contract)
             (peekable_parts self.old) (peekable_parts self.new) }
         ensures fewer { (x : I.Item) → result ≡ Ok (Some x)

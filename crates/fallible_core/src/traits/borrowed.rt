@@ -1,4 +1,4 @@
-// A fallible iterator behind a `&mut` answers as it does itself.
+// A `&mut` of a fallible iterator answers as the iterator does.
 ghost use Rattle.std.specs.Prelude.{◌≡◌, Result, Option};
 ghost use Rattle.fallible_contract.specs.Ends.{from_back, ends_of};
 ghost use Rattle.fallible_core.specs.Borrowed.{borrowed};

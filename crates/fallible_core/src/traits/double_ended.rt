@@ -4,23 +4,23 @@ ghost use Rattle.fallible_contract.specs.BothEnds.{ListsBothEnds};
 ghost use Rattle.fallible_contract.specs.Clauses.{OverListWith};
 ghost use Rattle.fallible_contract.specs.Contract.{Stays};
 ghost use Rattle.fallible_contract.specs.Ends.{Ends, from_front, from_back, LawfulEnds};
-ghost use Rattle.fallible_contract.specs.Lists.{ActsWith, Converts, behind_first, behind_fold, folded, nth_of};
+ghost use Rattle.fallible_contract.specs.Lists.{ActsWith, Converts, rest_first, rest_fold, folded, nth_of};
 ghost use Rattle.fallible_contract.specs.Folds.{CallableDriving, Driven, CallableInFold, call_with, takes_with, Folded};
 
 use crate::traits::FallibleIterator;
 use fallible_contract::folds::{TryFoldTurn, Turn};
 use std::ops::ControlFlow;
 
-/// A fallible iterator that may be drawn from behind as well. Draws from both ends may be made one after another, in any order; a bound stays one after them all, and the hint is what the type's rule says of what is left.
+/// A fallible iterator that may be drawn from the back as well. Draws from both ends may be made one after another, in any order; a bound stays one after them all, and the hint is what the type's rule says of what is left.
 ///
-/// A type of one's own writes `next_back` and `ends`: its step from behind, and what may come from either end. `counted_ends` of `specs/Ends` makes that of a step. A search then finds `lawful_ends`.
+/// A type of one's own writes `next_back` and `ends`: its step from the back, and what may come from either end. `counted_ends` of `specs/Ends` makes that of a step. A search then finds `lawful_ends`.
 pub trait DoubleEndedFallibleIterator: FallibleIterator {
-    // What the contract says of draws from behind.
+    // What the contract says of draws from the back.
     ghost ends: { Ends Self Self.Item Self.Error };
 
-    /// One answer from behind: an item, a failure or an end. The step from behind says which.
+    /// One answer from the back: an item, a failure or an end. The step from the back says which.
     ///
-    /// It is one draw, from behind. It fails where the step says so. What is left is what the step says; by the type's law it may be drawn from again, from either end.
+    /// It is one draw, from the back. It fails where the step says so. What is left is what the step says; by the type's law it may be drawn from again, from either end.
     ///
     /// Asks that it may be drawn from, from either end.
     ///
@@ -31,7 +31,7 @@ pub trait DoubleEndedFallibleIterator: FallibleIterator {
         requires { ends.can_next self.old }
         ensures { ends.steps self.old result self.new };
 
-    /// `drive` from behind. Every fold from behind goes through it. A caller uses `try_rfold`.
+    /// `drive` from the back. Every fold from the back goes through it. A caller uses `try_rfold`.
     fn drive_back<C, R, K: Turn<C, Self::Item, R>>(
         &mut self,
         state: &mut C,
@@ -59,11 +59,11 @@ pub trait DoubleEndedFallibleIterator: FallibleIterator {
         }
     }
 
-    /// `try_fold` from behind: calls the closure on the value so far and each item, the last one first, and answers the last value at the end.
+    /// `try_fold` from the back: calls the closure on the value so far and each item, the last one first, and answers the last value at the end.
     ///
-    /// It draws from behind up to the end, the first failure or an item on which the closure fails. It fails with the iterator's failure, converted, or with the closure's error. Nothing is drawn after the answer that decides, and what is left may be drawn from again, from either end.
+    /// It draws from the back up to the end, the first failure or an item on which the closure fails. It fails with the iterator's failure, converted, or with the closure's error. Nothing is drawn after the answer that decides, and what is left may be drawn from again, from either end.
     ///
-    /// Asks that it may be drawn from, from either end, and is finite, and that the closure may be called on each item that may come from behind with the value so far.
+    /// Asks that it may be drawn from, from either end, and is finite, and that the closure may be called on each item that may come from the back with the value so far.
     ///
     /// ```
     /// let answers = [Ok(1), Err(2), Ok(3), Ok(4)];
@@ -90,7 +90,7 @@ pub trait DoubleEndedFallibleIterator: FallibleIterator {
             → ActsWith (call_with F.FnMut) f h
             → ListsBothEnds Self.contract.steps ends.steps self.old l
             → ListsBothEnds Self.contract.steps ends.steps self.new
-            (reverse (behind_fold h init (reverse l))) }
+            (reverse (rest_fold h init (reverse l))) }
         ensures stays { Stays (from_back Self.contract ends) self.old self.new }
     {
         let mut state = (Some(init), f);
@@ -154,7 +154,7 @@ pub trait DoubleEndedFallibleIterator: FallibleIterator {
         ensures rest { (l : List (Result Self.Item Self.Error))
             → ListsBothEnds Self.contract.steps ends.steps self.old l
             → (result ≡ nth_of 0 l)
-            × ListsBothEnds Self.contract.steps ends.steps self.new (behind_first l) }
+            × ListsBothEnds Self.contract.steps ends.steps self.new (rest_first l) }
         ensures stays { Stays (from_front Self.contract ends) self.old self.new }
     {
         self.next()
@@ -162,7 +162,7 @@ pub trait DoubleEndedFallibleIterator: FallibleIterator {
 
     /// The answer of `next_back`. Of what is listed from both ends it is the last.
     ///
-    /// It is one draw, from behind, and fails as `next_back` does. What is left may be drawn from again, from either end. Of what is listed from both ends it leaves what stands before the answer.
+    /// It is one draw, from the back, and fails as `next_back` does. What is left may be drawn from again, from either end. Of what is listed from both ends it leaves what stands before the answer.
     ///
     /// Asks that it may be drawn from, from either end.
     ///
@@ -182,7 +182,7 @@ pub trait DoubleEndedFallibleIterator: FallibleIterator {
             → ListsBothEnds Self.contract.steps ends.steps self.old l
             → (result ≡ nth_of 0 (reverse l))
             × ListsBothEnds Self.contract.steps ends.steps self.new
-            (reverse (behind_first (reverse l))) }
+            (reverse (rest_first (reverse l))) }
         ensures stays { Stays (from_back Self.contract ends) self.old self.new }
     {
         self.next_back()

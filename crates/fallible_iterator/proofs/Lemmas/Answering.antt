@@ -5,35 +5,35 @@ use Rattle.std.proofs.lemmas.List.{reverse-reverse, reverse-append, take-append-
 use Rattle.std.proofs.Math.Seq.{drop-nil, take-length}
 use Rattle.fallible_contract.specs.Traces.{Answered, Run}
 use Rattle.fallible_contract.specs.ShownTraces.{answer_of, IsAnswers, IsAnswersAt}
-use Rattle.fallible_contract.specs.Lists.{AlwaysGives, Lists, result_answer, nth_of, behind_first}
+use Rattle.fallible_contract.specs.Lists.{AlwaysGives, Lists, result_answer, nth_of, rest_first}
 use Rattle.fallible_contract.specs.BothEnds.{step_at, RunAtEnds, ListsBothEnds}
-use Rattle.fallible_core.proofs.Lemmas.LeftAtEnds.{left_in_front, left_behind}
-use Rattle.fallible_iterator.specs.Answering.{fronts, backs, told, by_sides, answers_at_ends, behind_ends}
+use Rattle.fallible_core.proofs.Lemmas.RestAtEnds.{rest_at_front, rest_at_back}
+use Rattle.fallible_iterator.specs.Answering.{fronts, backs, told, by_sides, answers_at_ends, rest_ends}
 use Rattle.fallible_contract.specs.declared.answers.Answer.{Answer}
 use Rattle.fallible_contract.specs.declared.answers.Answer.TheVariants.{End}
 use Rattle.fallible_contract.specs.declared.answers.Side.{Side}
 use Rattle.fallible_contract.specs.declared.answers.Side.TheVariants.{Front, Back}
 
 module _ {S A E : Type 0} (steps : S → Answered A E → S → Type 0) where
-  left_of_list : (trace : List (Answered A E)) (l : List (Result A E)) (s t : S) → AlwaysGives steps s l → Run steps s trace t → length trace ≤ length l → AlwaysGives steps t (drop (length trace) l)
-  left_of_list [] l s t a ran within = subst (λ (u : S). AlwaysGives steps u l) ran a
-  left_of_list (r ∷ trace) [] s t a ran within = absurd (omega (arith, within))
-  left_of_list (r ∷ trace) (y ∷ l) s t a ran within = left_of_list trace l ran.0 t (a r ran.0 ran.1).1 ran.2 (omega (arith, within))
+  rest_of_list : (trace : List (Answered A E)) (l : List (Result A E)) (s t : S) → AlwaysGives steps s l → Run steps s trace t → length trace ≤ length l → AlwaysGives steps t (drop (length trace) l)
+  rest_of_list [] l s t a ran within = subst (λ (u : S). AlwaysGives steps u l) ran a
+  rest_of_list (r ∷ trace) [] s t a ran within = absurd (omega (arith, within))
+  rest_of_list (r ∷ trace) (y ∷ l) s t a ran within = rest_of_list trace l ran.0 t (a r ran.0 ran.1).1 ran.2 (omega (arith, within))
 
   pub answers_left : {s t : S} {n : ℕ} {values : List (Answer A E)} (l : List (Result A E)) → IsAnswers steps s n values t → n ≤ length l → Lists steps s l → Lists steps t (drop n l)
-  answers_left {s} {t} {n} l p within i = record { runs = subst (λ (k : ℕ). AlwaysGives steps t (drop k l)) p.count (left_of_list p.trace l s t i.runs p.ran (let c = p.count in omega (arith, c, within))) }
+  answers_left {s} {t} {n} l p within i = record { runs = subst (λ (k : ℕ). AlwaysGives steps t (drop k l)) p.count (rest_of_list p.trace l s t i.runs p.ran (let c = p.count in omega (arith, c, within))) }
 
 -- ---- sides
 
--- the answer of one draw at a side of a list: its first in front, its last behind, and an end where it is empty
-abbrev answer_at : {A E : Type 0} → Side → List (Result A E) → Answer A E
-answer_at Front l = answer_of (nth_of 0 l)
-answer_at Back l = answer_of (nth_of 0 (reverse l))
+-- the answer of one draw at a side of a list: its first at the front, its last at the back, and an end where it is empty
+abbrev answer_of_side : {A E : Type 0} → Side → List (Result A E) → Answer A E
+answer_of_side Front l = answer_of (nth_of 0 l)
+answer_of_side Back l = answer_of (nth_of 0 (reverse l))
 
 -- what such a draw leaves: the list without its first, or without its last
-abbrev behind_at : {A E : Type 0} → Side → List (Result A E) → List (Result A E)
-behind_at Front l = behind_first l
-behind_at Back l = reverse (behind_first (reverse l))
+abbrev rest_at : {A E : Type 0} → Side → List (Result A E) → List (Result A E)
+rest_at Front l = rest_first l
+rest_at Back l = reverse (rest_first (reverse l))
 
 module _ {A E : Type 0} where
   -- a list is empty, or has a last
@@ -115,17 +115,17 @@ module _ {A E : Type 0} where
       ∙ ap (λ a. answer_of (result_answer y) ∷ (by_sides (take (length k) sides) a (told (reverse k)) ++ map (λ _. End) (drop (length k) sides))) (told-append k (y ∷ []))
       ∙ ap (λ b. answer_of (result_answer y) ∷ (b ++ map (λ _. End) (drop (length k) sides))) (more_in_front (take (length k) sides) (told k) (told (reverse k)) (told (y ∷ [])) few)
 
-  cut : (i : ℕ) (y : Result A E) (l : List (Result A E)) (m n : ℕ) → (m ≡ suc n) ⊎ ((m ≡ 0) × (n ≡ 0)) → drop (suc i) (take m (y ∷ l)) ≡ drop i (take n l)
-  cut i y l m n (inl more) = ap (λ k. drop (suc i) (take k (y ∷ l))) more
-  cut i y l m n (inr none) = ap (λ k. drop (suc i) (take k (y ∷ l))) none.0 ∙ sym (drop-nil i) ∙ sym (ap (λ k. drop i (take k l)) none.1)
+  drop_take_cons : (i : ℕ) (y : Result A E) (l : List (Result A E)) (m n : ℕ) → (m ≡ suc n) ⊎ ((m ≡ 0) × (n ≡ 0)) → drop (suc i) (take m (y ∷ l)) ≡ drop i (take n l)
+  drop_take_cons i y l m n (inl more) = ap (λ k. drop (suc i) (take k (y ∷ l))) more
+  drop_take_cons i y l m n (inr none) = ap (λ k. drop (suc i) (take k (y ∷ l))) none.0 ∙ sym (drop-nil i) ∙ sym (ap (λ k. drop i (take k l)) none.1)
 
   -- what one side more leaves
-  left_front : (sides : List Side) (y : Result A E) (l : List (Result A E)) → behind_ends (Front ∷ sides) (y ∷ l) ≡ behind_ends sides l
-  unfolding behind_ends
-  left_front sides y l = cut (fronts sides) y l (suc (length l) - backs sides) (length l - backs sides) (less_of_both (backs sides) (length l))
+  left_front : (sides : List Side) (y : Result A E) (l : List (Result A E)) → rest_ends (Front ∷ sides) (y ∷ l) ≡ rest_ends sides l
+  unfolding rest_ends
+  left_front sides y l = drop_take_cons (fronts sides) y l (suc (length l) - backs sides) (length l - backs sides) (less_of_both (backs sides) (length l))
 
-  left_back : (sides : List Side) (k : List (Result A E)) (y : Result A E) → behind_ends (Back ∷ sides) (k ++ y ∷ []) ≡ behind_ends sides k
-  unfolding behind_ends
+  left_back : (sides : List Side) (k : List (Result A E)) (y : Result A E) → rest_ends (Back ∷ sides) (k ++ y ∷ []) ≡ rest_ends sides k
+  unfolding rest_ends
   left_back sides k y =
       let less : length (k ++ y ∷ []) - suc (backs sides) ≡ length k - backs sides = (let e = length-append k (y ∷ []) in omega (arith, e)) in
       ap (λ n. drop (fronts sides) (take n (k ++ y ∷ []))) less
@@ -136,48 +136,48 @@ module _ {A E : Type 0} where
   none_left i (suc n) = drop-nil i
 
   -- what is drawn at the back of a list with a last
-  drawn_back : (k : List (Result A E)) (y : Result A E) → (answer_at Back (k ++ y ∷ []) ≡ answer_of (result_answer y)) × (behind_at Back (k ++ y ∷ []) ≡ k)
-  unfolding behind_first
+  drawn_back : (k : List (Result A E)) (y : Result A E) → (answer_of_side Back (k ++ y ∷ []) ≡ answer_of (result_answer y)) × (rest_at Back (k ++ y ∷ []) ≡ k)
+  unfolding rest_first
   drawn_back k y = let last = reverse-append k (y ∷ []) in
-      (ap (λ l. answer_of (nth_of 0 l)) last ∙ told_first y (reverse k), ap (λ l. reverse (behind_first l)) last ∙ reverse-reverse k)
+      (ap (λ l. answer_of (nth_of 0 l)) last ∙ told_first y (reverse k), ap (λ l. reverse (rest_first l)) last ∙ reverse-reverse k)
 
   none_answered : (l : List (Result A E)) → [] ≡ answers_at_ends [] l
   unfolding answers_at_ends by_sides
   none_answered [] = refl
   none_answered (y ∷ l) = refl
 
-  none_drawn : (l : List (Result A E)) → behind_ends [] l ≡ l
-  unfolding behind_ends
+  none_drawn : (l : List (Result A E)) → rest_ends [] l ≡ l
+  unfolding rest_ends
   none_drawn l = let all : length l - 0 ≡ length l = omega arith in ap (λ n. take n l) all ∙ take-length l
 
   abbrev OneMore : Side → List Side → List (Result A E) → Type 0
-  OneMore side sides l = (answers_at_ends (side ∷ sides) l ≡ answer_at side l ∷ answers_at_ends sides (behind_at side l)) × (behind_ends (side ∷ sides) l ≡ behind_ends sides (behind_at side l))
+  OneMore side sides l = (answers_at_ends (side ∷ sides) l ≡ answer_of_side side l ∷ answers_at_ends sides (rest_at side l)) × (rest_ends (side ∷ sides) l ≡ rest_ends sides (rest_at side l))
 
   more_of_none : (side : Side) (sides : List Side) → OneMore side sides []
-  unfolding answers_at_ends behind_ends nth_of behind_first by_sides told
+  unfolding answers_at_ends rest_ends nth_of rest_first by_sides told
   more_of_none Front sides = (refl, none_left (suc (fronts sides)) (0 - backs sides) ∙ sym (none_left (fronts sides) (0 - backs sides)))
   more_of_none Back sides = (refl, none_left (fronts sides) (0 - suc (backs sides)) ∙ sym (none_left (fronts sides) (0 - backs sides)))
 
   -- a side more is one draw and then the others, whatever the list
   one_more : (side : Side) (sides : List Side) (l : List (Result A E)) → OneMore side sides l
-  unfolding behind_first
+  unfolding rest_first
   one_more Front sides [] = more_of_none Front sides
   one_more Front sides (y ∷ l) = (answers_front sides y l ∙ ap (λ a. a ∷ answers_at_ends sides l) (sym (told_first y l)), left_front sides y l)
   one_more Back sides l = elim (last_view l) [
     | inl none ↦ subst (OneMore Back sides) (sym none) (more_of_none Back sides)
-    | inr s ↦ let d = drawn_back s.0 s.1 in subst (OneMore Back sides) (sym s.2) (answers_back sides s.0 s.1 ∙ ap (λ a. a ∷ answers_at_ends sides s.0) (sym d.0) ∙ ap (λ k. answer_at Back (s.0 ++ s.1 ∷ []) ∷ answers_at_ends sides k) (sym d.1), left_back sides s.0 s.1 ∙ ap (behind_ends sides) (sym d.1))
+    | inr s ↦ let d = drawn_back s.0 s.1 in subst (OneMore Back sides) (sym s.2) (answers_back sides s.0 s.1 ∙ ap (λ a. a ∷ answers_at_ends sides s.0) (sym d.0) ∙ ap (λ k. answer_of_side Back (s.0 ++ s.1 ∷ []) ∷ answers_at_ends sides k) (sym d.1), left_back sides s.0 s.1 ∙ ap (rest_ends sides) (sym d.1))
   ]
 
 module _ {S A E : Type 0} (front back : S → Answered A E → S → Type 0) where
-  drawn_at : (side : Side) (s t : S) (r : Answered A E) (l : List (Result A E)) → ListsBothEnds front back s l → step_at front back side s r t → (answer_of r ≡ answer_at side l) × ListsBothEnds front back t (behind_at side l)
-  drawn_at Front s t r l i step = let d = left_in_front l i step in (ap answer_of d.0, d.1)
-  drawn_at Back s t r l i step = let d = left_behind l i step in (ap answer_of d.0, d.1)
+  drawn_at : (side : Side) (s t : S) (r : Answered A E) (l : List (Result A E)) → ListsBothEnds front back s l → step_at front back side s r t → (answer_of r ≡ answer_of_side side l) × ListsBothEnds front back t (rest_at side l)
+  drawn_at Front s t r l i step = let d = rest_at_front l i step in (ap answer_of d.0, d.1)
+  drawn_at Back s t r l i step = let d = rest_at_back l i step in (ap answer_of d.0, d.1)
 
-  told_at_ends : (pairs : List (Side × Answered A E)) (l : List (Result A E)) (s t : S) → ListsBothEnds front back s l → RunAtEnds front back s pairs t → (map (λ p. answer_of p.1) pairs ≡ answers_at_ends (map (λ p. p.0) pairs) l) × ListsBothEnds front back t (behind_ends (map (λ p. p.0) pairs) l)
-  told_at_ends [] l s t i ran = (none_answered l, subst (λ (u : S). ListsBothEnds front back u (behind_ends [] l)) ran (subst (λ (k : List (Result A E)). ListsBothEnds front back s k) (sym (none_drawn l)) i))
-  told_at_ends (p ∷ pairs) l s t i ran = let d = drawn_at p.0 s ran.0 p.1 l i ran.1 in let rest = told_at_ends pairs (behind_at p.0 l) ran.0 t d.1 ran.2 in let more = one_more p.0 (map (λ q. q.0) pairs) l in
-      (ap (λ a. a ∷ map (λ q. answer_of q.1) pairs) d.0 ∙ ap (λ k. answer_at p.0 l ∷ k) rest.0 ∙ sym more.0, subst (λ (k : List (Result A E)). ListsBothEnds front back t k) (sym more.1) rest.1)
+  told_at_ends : (pairs : List (Side × Answered A E)) (l : List (Result A E)) (s t : S) → ListsBothEnds front back s l → RunAtEnds front back s pairs t → (map (λ p. answer_of p.1) pairs ≡ answers_at_ends (map (λ p. p.0) pairs) l) × ListsBothEnds front back t (rest_ends (map (λ p. p.0) pairs) l)
+  told_at_ends [] l s t i ran = (none_answered l, subst (λ (u : S). ListsBothEnds front back u (rest_ends [] l)) ran (subst (λ (k : List (Result A E)). ListsBothEnds front back s k) (sym (none_drawn l)) i))
+  told_at_ends (p ∷ pairs) l s t i ran = let d = drawn_at p.0 s ran.0 p.1 l i ran.1 in let rest = told_at_ends pairs (rest_at p.0 l) ran.0 t d.1 ran.2 in let more = one_more p.0 (map (λ q. q.0) pairs) l in
+      (ap (λ a. a ∷ map (λ q. answer_of q.1) pairs) d.0 ∙ ap (λ k. answer_of_side p.0 l ∷ k) rest.0 ∙ sym more.0, subst (λ (k : List (Result A E)). ListsBothEnds front back t k) (sym more.1) rest.1)
 
-  pub answers_at_told : {s t : S} {sides : List Side} {values : List (Answer A E)} (l : List (Result A E)) → IsAnswersAt front back s sides values t → ListsBothEnds front back s l → (values ≡ answers_at_ends sides l) × ListsBothEnds front back t (behind_ends sides l)
+  pub answers_at_told : {s t : S} {sides : List Side} {values : List (Answer A E)} (l : List (Result A E)) → IsAnswersAt front back s sides values t → ListsBothEnds front back s l → (values ≡ answers_at_ends sides l) × ListsBothEnds front back t (rest_ends sides l)
   answers_at_told {s} {t} {sides} l p i = let d = told_at_ends p.pairs l s t i p.ran in
-      (p.values_are ∙ d.0 ∙ ap (λ (k : List Side). answers_at_ends k l) p.sides_are, subst (λ (k : List Side). ListsBothEnds front back t (behind_ends k l)) p.sides_are d.1)
+      (p.values_are ∙ d.0 ∙ ap (λ (k : List Side). answers_at_ends k l) p.sides_are, subst (λ (k : List Side). ListsBothEnds front back t (rest_ends k l)) p.sides_are d.1)

@@ -4,11 +4,11 @@ use Rattle.std.proofs.Common.{refl, sym, ◌∙◌, ap, subst}
 use Rattle.std.proofs.lemmas.List.{reverse-reverse, reverse-append}
 use Rattle.fallible_contract.specs.Traces.{Answered, Run, end}
 use Rattle.fallible_contract.specs.Folds.{Nth}
-use Rattle.fallible_contract.specs.Searching.{Searched, find_pick, position_pick}
-use Rattle.fallible_contract.specs.Lists.{AlwaysGives, Lists, Acts, result_answer, behind_nth, behind_true}
+use Rattle.fallible_contract.specs.Searching.{Searched, find_pick}
+use Rattle.fallible_contract.specs.Lists.{AlwaysGives, Lists, Acts, result_answer, rest_nth, rest_true}
 use Rattle.fallible_contract.specs.BothEnds.{TakesFirst, RunAtEnds, ListsBothEnds}
 use Rattle.fallible_contract.proofs.Lemmas.BothEnds.{takes_front, takes_back}
-use Rattle.fallible_contract.proofs.Lemmas.Lists.Behind.{behind_nth_is, behind_find, behind_place}
+use Rattle.fallible_contract.proofs.Lemmas.Lists.Rest.{rest_nth_is, rest_find}
 use Rattle.fallible_core.proofs.Lemmas.Joining.Chain.{not_end}
 use Rattle.fallible_contract.specs.declared.answers.Side.{Side}
 use Rattle.fallible_contract.specs.declared.answers.Side.TheVariants.{Front, Back}
@@ -84,12 +84,9 @@ module _ {S A E : Type 0} {front back : S → Answered A E → S → Type 0} {s 
   left_is : (trace : List (Answered A E)) (k : List (Result A E)) → Run front s trace t → ((left : List (Result A E)) → Run draws_list l trace left → Lists draws_list left k) → ListsBothEnds front back t k
   left_is trace k ran lists = let d = all_drawn front back trace s t l i ran in subst (λ (j : List (Result A E)). ListsBothEnds front back t j) (gives_alone d.0 k (lists d.0 d.1).runs) d.2
 
-  pub nth_leaves : {n : ℕ} {r : Answered A E} → Nth front s n r t → ¬ (r ≡ Ok None) → ListsBothEnds front back t (behind_nth n l)
-  nth_leaves {n = n} c no_end = left_is _ (behind_nth n l) c.ran (λ left ran. behind_nth_is l (record { items = c.items; last = c.last; ran = ran; at = c.at }) (itself l) no_end)
+  pub nth_leaves : {n : ℕ} {r : Answered A E} → Nth front s n r t → ¬ (r ≡ Ok None) → ListsBothEnds front back t (rest_nth n l)
+  nth_leaves {n = n} c no_end = left_is _ (rest_nth n l) c.ran (λ left ran. rest_nth_is l (record { items = c.items; last = c.last; ran = ran; at = c.at }) (itself l) no_end)
 
   module _ {F : Type 0} {f g : F} {call : F → A → Result Bool E → F → Type 0} (h : A → Result Bool E) (acts : Acts call f h) where
-    pub find_leaves : {r : Result (Option A) E} → Searched call find_pick front None s f r t g → ¬ (r ≡ Ok None) → ListsBothEnds front back t (behind_true h l)
-    find_leaves c no_end = left_is _ (behind_true h l) c.ran (λ left ran. behind_find l (itself l) {call = call} h acts (record { items = c.items; last = c.last; ran = ran; at = c.at }) no_end)
-
-    pub position_leaves : {r : Result (Option ℕ) E} → Searched call position_pick front None s f r t g → ¬ (r ≡ Ok None) → ListsBothEnds front back t (behind_true h l)
-    position_leaves c no_end = left_is _ (behind_true h l) c.ran (λ left ran. behind_place l (itself l) {call = call} h acts (record { items = c.items; last = c.last; ran = ran; at = c.at }) no_end)
+    pub find_leaves : {r : Result (Option A) E} → Searched call find_pick front None s f r t g → ¬ (r ≡ Ok None) → ListsBothEnds front back t (rest_true h l)
+    find_leaves c no_end = left_is _ (rest_true h l) c.ran (λ left ran. rest_find l (itself l) {call = call} h acts (record { items = c.items; last = c.last; ran = ran; at = c.at }) no_end)

@@ -1,5 +1,5 @@
 -- Why hints are sound.
-pub mod Counting
+pub mod ByNumber
 pub mod Cutting
 pub mod Drawn
 pub mod Filtering

@@ -7,14 +7,14 @@ use Rattle.fallible_contract.specs.Traces.{Answered, Run, item, end}
 use Rattle.fallible_contract.specs.Contract.{Contract, seen_as, unbounded_contract}
 use Rattle.fallible_contract.specs.Closures.{call_at}
 use Rattle.fallible_contract.specs.Folds.{Folded, FoldExit, Nth, NthExit}
-use Rattle.fallible_contract.specs.Lists.{Acts, AlwaysGives, Lists, nth_of, on_value, behind_first, behind_nth}
+use Rattle.fallible_contract.specs.Lists.{Acts, AlwaysGives, Lists, nth_of, on_value, rest_first, rest_nth}
 use Rattle.fallible_core.specs.Borrowed.{borrowed}
 use Rattle.fallible_core.specs.Cutting.Take.{take_parts, take_contract, taken}
 use Rattle.fallible_core.specs.Filtering.Filter.{filter_parts, filter_contract}
 use Rattle.fallible_core.specs.Joining.Chain.{chain_step, chain_contract, chain_parts}
 use Rattle.fallible_core.specs.Joining.Zip.{ZipPlace, left_failed, both_drawn, left_answer, right_step, zip_answer, zip_contract, zip_parts, zipped}
-use Rattle.fallible_contract.proofs.Lemmas.Lists.Behind.{first_is, behind_first_is}
-use Rattle.fallible_core.proofs.Lemmas.Borrowed.{run_behind, lists_borrowed}
+use Rattle.fallible_contract.proofs.Lemmas.Lists.Rest.{first_is, rest_first_is}
+use Rattle.fallible_core.proofs.Lemmas.Borrowed.{run_through, lists_borrowed}
 use Rattle.fallible_core.proofs.Lemmas.Callers.{TakenRun, filtered_run, taken_run}
 use Rattle.fallible_core.specs.declared.cutting.take.Take.{Take}
 use Rattle.fallible_core.specs.declared.filtering.filter.Filter.{Filter}
@@ -25,8 +25,8 @@ use Rattle.fallible_core.specs.declared.joining.zip.Zip.{Zip}
 
 module _ {S A E : Type 0} (steps : S → Answered A E → S → Type 0) where
   -- what is given behind k + 1 items
-  items_behind : (xs : List A) (k : ℕ) (l : List (Result A E)) (s t : S) → length xs ≡ suc k → AlwaysGives steps s l → Run steps s (map item xs) t → AlwaysGives steps t (behind_nth k l)
-  unfolding behind_nth
+  items_behind : (xs : List A) (k : ℕ) (l : List (Result A E)) (s t : S) → length xs ≡ suc k → AlwaysGives steps s l → Run steps s (map item xs) t → AlwaysGives steps t (rest_nth k l)
+  unfolding rest_nth
   items_behind [] k l s t len a ran = absurd (omega (arith, len))
   items_behind (x ∷ xs) k [] s t len a ran = absurd (let h = a (Ok (Some x)) ran.0 ran.1 in cc)
   items_behind (x ∷ xs) k (Err e ∷ l) s t len a ran = absurd (let h = (a (Ok (Some x)) ran.0 ran.1).0 in cc)
@@ -46,29 +46,29 @@ module _ {S A E : Type 0} (steps : S → Answered A E → S → Type 0) where
   ends_before (x ∷ xs) (suc k) (Ok y ∷ l) s t few a ran = ends_before xs k l ran.0 t (omega (arith, few)) (a (Ok (Some x)) ran.0 ran.1).1 ran.2
   ends_before (x ∷ xs) k (Err e ∷ l) s t few a ran = absurd (let h = (a (Ok (Some x)) ran.0 ran.1).0 in cc)
 
-  left_behind : (xs : List A) (k : ℕ) (l : List (Result A E)) (s t : S) → AlwaysGives steps s l → ¬ (nth_of k l ≡ Ok None) → (Run steps s (map item xs ++ end ∷ []) t × (length xs < suc k)) ⊎ (Run steps s (map item xs) t × (length xs ≡ suc k)) → AlwaysGives steps t (behind_nth k l)
-  left_behind xs k l s t a no_end (inl d) = absurd (no_end (ends_before xs k l s t d.1 a d.0))
-  left_behind xs k l s t a no_end (inr d) = items_behind xs k l s t d.1 a d.0
+  rest_given : (xs : List A) (k : ℕ) (l : List (Result A E)) (s t : S) → AlwaysGives steps s l → ¬ (nth_of k l ≡ Ok None) → (Run steps s (map item xs ++ end ∷ []) t × (length xs < suc k)) ⊎ (Run steps s (map item xs) t × (length xs ≡ suc k)) → AlwaysGives steps t (rest_nth k l)
+  rest_given xs k l s t a no_end (inl d) = absurd (no_end (ends_before xs k l s t d.1 a d.0))
+  rest_given xs k l s t a no_end (inr d) = items_behind xs k l s t d.1 a d.0
 
-more : {A : Type 0} (xs : List A) (y : A) (k : ℕ) → length xs ≡ k → length (xs ++ y ∷ []) ≡ suc k
-more xs y k len = omega (arith, length-append xs (y ∷ []), len)
+length_one_more : {A : Type 0} (xs : List A) (y : A) (k : ℕ) → length xs ≡ k → length (xs ++ y ∷ []) ≡ suc k
+length_one_more xs y k len = omega (arith, length-append xs (y ∷ []), len)
 
 module _ {A E : Type 0} where
-  joined : (xs : List A) (y : A) → ◌≡◌ {A = List (Answered A E)} (map item xs ++ Ok (Some y) ∷ []) (map item (xs ++ y ∷ []))
-  joined [] y = refl
-  joined (x ∷ xs) y = ap {B = List (Answered A E)} (λ l. item x ∷ l) (joined xs y)
+  map_item_last : (xs : List A) (y : A) → ◌≡◌ {A = List (Answered A E)} (map item xs ++ Ok (Some y) ∷ []) (map item (xs ++ y ∷ []))
+  map_item_last [] y = refl
+  map_item_last (x ∷ xs) y = ap {B = List (Answered A E)} (λ l. item x ∷ l) (map_item_last xs y)
 
 module _ {S A E : Type 0} (m : Contract S A E) where
   of_lender : (xs : List A) (k : ℕ) (s t : MutBor S) → TakenRun (borrowed m).steps (suc k) s xs end t → (Run m.steps s.now (map item xs ++ end ∷ []) t.now × (length xs < suc k)) ⊎ (Run m.steps s.now (map item xs) t.now × (length xs ≡ suc k))
-  of_lender xs k s t (inl d) = inl (run_behind m.steps (map item xs ++ end ∷ []) s t d.0, d.1)
-  of_lender xs k s t (inr d) = inr (run_behind m.steps (map item xs) s t d.0, d.2)
+  of_lender xs k s t (inl d) = inl (run_through m.steps (map item xs ++ end ∷ []) s t d.0, d.1)
+  of_lender xs k s t (inr d) = inr (run_through m.steps (map item xs) s t d.0, d.2)
 
 module _ {S A E : Type 0} (m : Contract S A E) (k : ℕ) (l : List (Result A E)) (it t : MutBor S) (xs : List A) where
   -- what an `nth` of k leaves, that came to an item
-  item_behind : (o : Option A) → NthExit {A = A} {E = E} k (length xs) (Ok o) → ¬ (nth_of k l ≡ Ok None) → AlwaysGives m.steps it.now l → TakenRun (borrowed m).steps (suc k) it xs (Ok o) t → AlwaysGives m.steps t.now (behind_nth k l)
-  item_behind (Some y) exit no_end a (inl d) = items_behind m.steps (xs ++ y ∷ []) k l it.now t.now (more xs y k exit) a (subst (λ (z : List (Answered A E)). Run m.steps it.now z t.now) (joined xs y) (run_behind m.steps (map item xs ++ Ok (Some y) ∷ []) it t d.0))
+  item_behind : (o : Option A) → NthExit {A = A} {E = E} k (length xs) (Ok o) → ¬ (nth_of k l ≡ Ok None) → AlwaysGives m.steps it.now l → TakenRun (borrowed m).steps (suc k) it xs (Ok o) t → AlwaysGives m.steps t.now (rest_nth k l)
+  item_behind (Some y) exit no_end a (inl d) = items_behind m.steps (xs ++ y ∷ []) k l it.now t.now (length_one_more xs y k exit) a (subst (λ (z : List (Answered A E)). Run m.steps it.now z t.now) (map_item_last xs y) (run_through m.steps (map item xs ++ Ok (Some y) ∷ []) it t d.0))
   item_behind (Some y) exit no_end a (inr d) = absurd (let h = d.1 in cc)
-  item_behind None exit no_end a (inl d) = absurd (no_end (ends_before m.steps xs k l it.now t.now d.1 a (run_behind m.steps (map item xs ++ end ∷ []) it t d.0)))
+  item_behind None exit no_end a (inl d) = absurd (no_end (ends_before m.steps xs k l it.now t.now d.1 a (run_through m.steps (map item xs ++ end ∷ []) it t d.0)))
   item_behind None exit no_end a (inr d) = absurd (let all = d.2 in omega (arith, all, exit))
 
 pub last_is_end : {A B E E' F : Type 0} (call : F → B → A → Result B E' → F → Type 0) (from : E → E' → Type 0) (b : B) (f : F) (last : Answered A E) (v : B) → FoldExit call from b f last (Ok v) → last ≡ end
@@ -89,12 +89,12 @@ pub lists_lent : {S A E : Type 0} {steps : S → Answered A E → S → Type 0} 
 lists_lent {steps = steps} {it = it} {l = l} i = lists_borrowed (unbounded_contract steps) it l i
 
 -- After a fold over `take(k + 1)` of a borrow that came to its end, the lender lists what stands behind its first k + 1 items, where it has so many.
-pub behind_lent : {S A B E E' F : Type 0} {steps : S → Answered A E → S → Type 0} {it : MutBor S} {s t : Take (MutBor S)} {call : F → B → A → Result B E' → F → Type 0} {from : E → E' → Type 0} {b v : B} {f : F} {x : S} (k : ℕ) {l : List (Result A E)} → x ≡ t.it.now → take_parts s ≡ (it, suc k) → Folded (lent_steps steps) call from s b f (Ok v) t → Lists steps it.now l → ¬ (nth_of k l ≡ Ok None) → Lists steps x (behind_nth k l)
-behind_lent {S = S} {A = A} {E = E} {steps = steps} {it = it} {s = s} {t = t} {call = call} {from = from} {v = v} {x = x} k {l = l} back parts h i no_end =
+pub rest_lent : {S A B E E' F : Type 0} {steps : S → Answered A E → S → Type 0} {it : MutBor S} {s t : Take (MutBor S)} {call : F → B → A → Result B E' → F → Type 0} {from : E → E' → Type 0} {b v : B} {f : F} {x : S} (k : ℕ) {l : List (Result A E)} → x ≡ t.it.now → take_parts s ≡ (it, suc k) → Folded (lent_steps steps) call from s b f (Ok v) t → Lists steps it.now l → ¬ (nth_of k l ≡ Ok None) → Lists steps x (rest_nth k l)
+rest_lent {S = S} {A = A} {E = E} {steps = steps} {it = it} {s = s} {t = t} {call = call} {from = from} {v = v} {x = x} k {l = l} back parts h i no_end =
     let m : Contract S A E = unbounded_contract steps in
     let ended : h.last ≡ end = last_is_end call from h.at.value h.at.closure h.last v h.at.exit in
     let ran : Run (lent_steps steps) s (map item h.items ++ end ∷ []) t = subst (λ (r : Answered A E). Run (lent_steps steps) s (map item h.items ++ r ∷ []) t) ended h.ran in
-    let left : Lists steps t.it.now (behind_nth k l) = record { runs = left_behind steps h.items k l it.now t.it.now i.runs no_end (of_lender m h.items k it t.it (taken_run (borrowed m) (suc k) it s t h.items end parts ran)) } in
+    let left : Lists steps t.it.now (rest_nth k l) = record { runs = rest_given steps h.items k l it.now t.it.now i.runs no_end (of_lender m h.items k it t.it (taken_run (borrowed m) (suc k) it s t h.items end parts ran)) } in
     rw back left
 
 module _ {A E : Type 0} where
@@ -108,9 +108,9 @@ module _ {A E : Type 0} where
   nth_taken (suc n) (Err e ∷ l) = refl
 
 -- The same after `nth(k)` over it, which came to an item.
-pub behind_lent_nth : {S A E : Type 0} {steps : S → Answered A E → S → Type 0} {it : MutBor S} {s t : Take (MutBor S)} {o : Option A} {x : S} (k : ℕ) {l : List (Result A E)} → x ≡ t.it.now → take_parts s ≡ (it, suc k) → Nth (lent_steps steps) s k (Ok o) t → Lists steps it.now l → ¬ (nth_of k l ≡ Ok None) → Lists steps x (behind_nth k l)
-behind_lent_nth {A = A} {E = E} {steps = steps} {it = it} {s = s} {t = t} {o = o} {x = x} k {l = l} back parts h i no_end =
-    let left : Lists steps t.it.now (behind_nth k l) = record { runs = item_behind (unbounded_contract steps) k l it t.it h.items o h.at.exit no_end i.runs (taken_run (borrowed (unbounded_contract steps)) (suc k) it s t h.items (Ok o) parts (subst (λ (r : Answered A E). Run (lent_steps steps) s (map item h.items ++ r ∷ []) t) h.at.is h.ran)) } in
+pub rest_lent_nth : {S A E : Type 0} {steps : S → Answered A E → S → Type 0} {it : MutBor S} {s t : Take (MutBor S)} {o : Option A} {x : S} (k : ℕ) {l : List (Result A E)} → x ≡ t.it.now → take_parts s ≡ (it, suc k) → Nth (lent_steps steps) s k (Ok o) t → Lists steps it.now l → ¬ (nth_of k l ≡ Ok None) → Lists steps x (rest_nth k l)
+rest_lent_nth {A = A} {E = E} {steps = steps} {it = it} {s = s} {t = t} {o = o} {x = x} k {l = l} back parts h i no_end =
+    let left : Lists steps t.it.now (rest_nth k l) = record { runs = item_behind (unbounded_contract steps) k l it t.it h.items o h.at.exit no_end i.runs (taken_run (borrowed (unbounded_contract steps)) (suc k) it s t h.items (Ok o) parts (subst (λ (r : Answered A E). Run (lent_steps steps) s (map item h.items ++ r ∷ []) t) h.at.is h.ran)) } in
     rw back left
 
 -- ---- under a filter
@@ -121,11 +121,11 @@ lent_filter_steps steps g = (seen_as filter_parts (filter_contract (seen_as take
 
 module _ {S P A E : Type 0} {steps : S → Answered A E → S → Type 0} {g : Mut P (Bor A × Unit {0}) (Result Bool E)} {it : MutBor S} {tk : Take (MutBor S)} {p : P} (s t : Filter (Take (MutBor S)) P) {x : S} (k : ℕ) {l : List (Result A E)} (h : A → Bool) where
   -- After a run over `take(k + 1).filter(p)` of a borrow that came to its end, the lender lists what stands behind its first k + 1 items, where it has so many.
-  pub behind_lent_run : Acts (call_at g) p (λ y. Ok (h y)) → x ≡ t.it.it.now → take_parts tk ≡ (it, suc k) → filter_parts s ≡ (tk, p) → (xs : List A) → Run (lent_filter_steps steps g) s (map item xs ++ end ∷ []) t → Lists steps it.now l → ¬ (nth_of k l ≡ Ok None) → Lists steps x (behind_nth k l)
-  behind_lent_run acts back taken parts xs ran i no_end =
+  pub rest_lent_run : Acts (call_at g) p (λ y. Ok (h y)) → x ≡ t.it.it.now → take_parts tk ≡ (it, suc k) → filter_parts s ≡ (tk, p) → (xs : List A) → Run (lent_filter_steps steps g) s (map item xs ++ end ∷ []) t → Lists steps it.now l → ¬ (nth_of k l ≡ Ok None) → Lists steps x (rest_nth k l)
+  rest_lent_run acts back taken parts xs ran i no_end =
       let m : Contract S A E = unbounded_contract steps in
       let under = filtered_run (seen_as take_parts (take_contract (borrowed m))) g h p tk s t xs end acts parts ran in
-      let left : Lists steps t.it.it.now (behind_nth k l) = record { runs = left_behind steps under.items k l it.now t.it.it.now i.runs no_end (of_lender m under.items k it t.it.it (taken_run (borrowed m) (suc k) it tk t.it under.items end taken under.ran)) } in
+      let left : Lists steps t.it.it.now (rest_nth k l) = record { runs = rest_given steps under.items k l it.now t.it.it.now i.runs no_end (of_lender m under.items k it t.it.it (taken_run (borrowed m) (suc k) it tk t.it under.items end taken under.ran)) } in
       rw back left
 
 -- ---- a pair of two borrows
@@ -153,13 +153,13 @@ left_failed_at : {A B E : Type 0} {e : E} (p : ZipPlace A B E) → left_answer p
 left_failed_at (left_failed d) is = cc
 left_failed_at (both_drawn z r) is = absurd cc
 
--- what a step of a borrow makes of the value behind it
+-- what a step of a borrow makes of the value that it points to
 lent_step : {S A E : Type 0} (steps : S → Answered A E → S → Type 0) {it u : MutBor S} (v : MutBor S) (r : Answered A E) → u ≡ it → steps u.now r v.now → steps it.now r v.now
 lent_step steps v r same step = subst (λ (u : MutBor _). steps u.now r v.now) same step
 
 module _ {S U A B E : Type 0} {steps : S → Answered A E → S → Type 0} {others : U → Answered B E → U → Type 0} {it : MutBor S} {other : MutBor U} (s t : Zip (MutBor S) (MutBor U)) {r : Answered (A × B) E} where
   -- A draw over `zip` of two borrows answers the first pair, or the failure in its place, where the lists don't end there. A pair leaves each lender without its first.
-  pub pair_lent : (a : List (Result A E)) (b : List (Result B E)) → s.left ≡ it → s.right ≡ other → lent_zip_steps steps others s r t → Lists steps it.now a → Lists others other.now b → ¬ (nth_of 0 (zipped a b) ≡ Ok None) → (r ≡ nth_of 0 (zipped a b)) × ((p : Option (A × B)) → r ≡ Ok p → Lists steps t.left.now (behind_first a) × Lists others t.right.now (behind_first b))
+  pub pair_lent : (a : List (Result A E)) (b : List (Result B E)) → s.left ≡ it → s.right ≡ other → lent_zip_steps steps others s r t → Lists steps it.now a → Lists others other.now b → ¬ (nth_of 0 (zipped a b) ≡ Ok None) → (r ≡ nth_of 0 (zipped a b)) × ((p : Option (A × B)) → r ≡ Ok p → Lists steps t.left.now (rest_first a) × Lists others t.right.now (rest_first b))
   unfolding nth_of zipped
   pair_lent [] b left right w i j no_end = absurd (no_end refl)
   pair_lent (Ok x ∷ a) [] left right w i j no_end = absurd (no_end refl)
@@ -173,7 +173,7 @@ module _ {S U A B E : Type 0} {steps : S → Answered A E → S → Type 0} {oth
       let of_right : others other.now d.0 t.right.now = lent_step others t.right d.0 right d.1.0 in
       let same : d.0 ≡ Ok (Some y) = first_is t.right.now (Ok y ∷ b) of_right j in
       let pair : r ≡ Ok (Some (x, y)) = w.3 ∙ d.2 ∙ ap (paired x) same in
-      (pair, λ p is. (behind_first_is (Ok x ∷ a) of_left i (λ e. cc), behind_first_is (Ok y ∷ b) of_right j (λ e. cc)))
+      (pair, λ p is. (rest_first_is (Ok x ∷ a) of_left i (λ e. cc), rest_first_is (Ok y ∷ b) of_right j (λ e. cc)))
   pair_lent (Ok x ∷ a) (Err e ∷ b) left right w i j no_end =
       let of_left : steps it.now (left_answer w.0) t.left.now = lent_step steps t.left (left_answer w.0) left w.1.0 in
       let at_left : left_answer w.0 ≡ Ok (Some x) = first_is t.left.now (Ok x ∷ a) of_left i in
@@ -199,12 +199,12 @@ module _ {S U A E : Type 0} (steps : S → Answered A E → S → Type 0) (other
 
 module _ {S U A E : Type 0} {steps : S → Answered A E → S → Type 0} {others : U → Answered A E → U → Type 0} {it : MutBor S} {other : MutBor U} (s t : Chain (MutBor S) (MutBor U)) {r : Answered A E} {a b : List (Result A E)} where
   -- A draw over `chain` of two borrows of which the first doesn't end answers its first, and leaves the first lender without it, and the second as it was.
-  pub chain_lent : s.first ≡ it → s.second ≡ other → s.still_drawn ≡ Both → lent_chain_steps steps others s r t → Lists steps it.now a → Lists others other.now b → ¬ (nth_of 0 a ≡ Ok None) → (r ≡ nth_of 0 a) × Lists steps t.first.now (behind_first a) × Lists others t.second.now b
+  pub chain_lent : s.first ≡ it → s.second ≡ other → s.still_drawn ≡ Both → lent_chain_steps steps others s r t → Lists steps it.now a → Lists others other.now b → ¬ (nth_of 0 a ≡ Ok None) → (r ≡ nth_of 0 a) × Lists steps t.first.now (rest_first a) × Lists others t.second.now b
   chain_lent first second still w i j no_end =
       let listed : Lists steps s.first.now a = subst (λ (u : MutBor S). Lists steps u.now a) (sym first) i in
       let d = drawn_of_first steps others (chain_parts s) (chain_parts t) r a still w listed no_end in
       let is : r ≡ nth_of 0 a = first_is t.first.now a d.0 listed in
-      (is, behind_first_is a d.0 listed (λ e. no_end (sym is ∙ e)), subst (λ (u : MutBor U). Lists others u.now b) (sym (d.1 ∙ second)) j)
+      (is, rest_first_is a d.0 listed (λ e. no_end (sym is ∙ e)), subst (λ (u : MutBor U). Lists others u.now b) (sym (d.1 ∙ second)) j)
 
 -- what is listed of the value that a borrow left, which the lender is then
 pub returned : {S A E : Type 0} {steps : S → Answered A E → S → Type 0} {x y : S} {l : List (Result A E)} → x ≡ y → Lists steps y l → Lists steps x l

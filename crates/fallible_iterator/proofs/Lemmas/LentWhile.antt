@@ -10,7 +10,7 @@ use Rattle.fallible_contract.specs.Passing.{Place, asked, failure_at, end_at}
 use Rattle.fallible_contract.specs.Closing.{closing_step}
 use Rattle.fallible_contract.specs.Folds.{Folded}
 use Rattle.fallible_contract.specs.Searching.{all_pick}
-use Rattle.fallible_contract.specs.Lists.{AlwaysGives, Lists, Acts, decided, searched, all_of, behind_answer, behind_stop, behind_false}
+use Rattle.fallible_contract.specs.Lists.{AlwaysGives, Lists, Acts, decided, searched, all_of, rest_answer, rest_stop, rest_false}
 use Rattle.fallible_core.specs.Borrowed.{borrowed}
 use Rattle.fallible_core.specs.Cutting.TakeWhile.{taken_answer, is_refused, place_drawn, take_while_source, take_while_predicate, take_while_refused, take_while_parts, take_while_contract}
 use Rattle.fallible_core.proofs.Lemmas.Borrowed.{lists_borrowed}
@@ -19,28 +19,28 @@ use Rattle.fallible_iterator.proofs.Lemmas.Lent.{last_is_end}
 use Rattle.fallible_core.specs.declared.cutting.take_while.TakeWhile.{TakeWhile}
 
 module _ {S F X E : Type 0} (steps : S → Answered X E → S → Type 0) (call : F → X → Result Bool E → F → Type 0) (f : F) (h : X → Result Bool E) (acts : Acts call f h) where
-  abbrev until_refused : (S × F) × Bool → Answered X E → (S × F) × Bool → Type 0
-  until_refused = closing_step (place_drawn steps call) taken_answer is_refused
+  abbrev step_until_refused : (S × F) × Bool → Answered X E → (S × F) × Bool → Type 0
+  step_until_refused = closing_step (place_drawn steps call) taken_answer is_refused
 
   -- what the search goes on over, and what it decides
-  goes : (n : ℕ) (x : X) (l : List (Result X E)) → h x ≡ Ok true → searched all_pick true h n (Ok x ∷ l) ≡ Ok false → searched all_pick true h (n + 1) l ≡ Ok false
+  all_of_rest : (n : ℕ) (x : X) (l : List (Result X E)) → h x ≡ Ok true → searched all_pick true h n (Ok x ∷ l) ≡ Ok false → searched all_pick true h (n + 1) l ≡ Ok false
   unfolding searched
-  goes n x l is found = sym (ap (λ (v : Result Bool E). decided (all_pick n x) v (searched all_pick true h (n + 1) l)) is) ∙ found
+  all_of_rest n x l is found = sym (ap (λ (v : Result Bool E). decided (all_pick n x) v (searched all_pick true h (n + 1) l)) is) ∙ found
 
-  left_on : (x : X) (l : List (Result X E)) → h x ≡ Ok true → behind_stop not h (Ok x ∷ l) ≡ behind_stop not h l
-  unfolding behind_stop
-  left_on x l is = ap (λ (v : Result Bool E). behind_answer not v l (behind_stop not h l)) is
+  left_on : (x : X) (l : List (Result X E)) → h x ≡ Ok true → rest_stop not h (Ok x ∷ l) ≡ rest_stop not h l
+  unfolding rest_stop
+  left_on x l is = ap (λ (v : Result Bool E). rest_answer not v l (rest_stop not h l)) is
 
-  left_here : (x : X) (l : List (Result X E)) → h x ≡ Ok false → behind_stop not h (Ok x ∷ l) ≡ l
-  unfolding behind_stop
-  left_here x l is = ap (λ (v : Result Bool E). behind_answer not v l (behind_stop not h l)) is
+  left_here : (x : X) (l : List (Result X E)) → h x ≡ Ok false → rest_stop not h (Ok x ∷ l) ≡ l
+  unfolding rest_stop
+  left_here x l is = ap (λ (v : Result Bool E). rest_answer not v l (rest_stop not h l)) is
 
   none_false : (n : ℕ) → searched all_pick true h n [] ≡ Ok false → ⊥
   unfolding searched
   none_false n e = cc
 
   -- the end comes at the first item that is refused
-  at_end : (x : Place X (Result Bool E) E) (n : ℕ) (l : List (Result X E)) (s t : S) (j g : F) → j ≡ f → AlwaysGives steps s l → place_drawn steps call (s, j) x (t, g) → end ≡ taken_answer x → searched all_pick true h n l ≡ Ok false → AlwaysGives steps t (behind_stop not h l)
+  at_end : (x : Place X (Result Bool E) E) (n : ℕ) (l : List (Result X E)) (s t : S) (j g : F) → j ≡ f → AlwaysGives steps s l → place_drawn steps call (s, j) x (t, g) → end ≡ taken_answer x → searched all_pick true h n l ≡ Ok false → AlwaysGives steps t (rest_stop not h l)
   at_end (asked x (Ok true)) n l s t j g at a d is found = absurd cc
   at_end (asked x (Err e)) n l s t j g at a d is found = absurd cc
   at_end (failure_at e) n l s t j g at a d is found = absurd cc
@@ -68,7 +68,7 @@ module _ {S F X E : Type 0} (steps : S → Answered X E → S → Type 0) (call 
   kept end_at y s t j g at d is = absurd cc
 
   -- items that are kept, and then the end
-  left_at_end : (xs : List X) (n : ℕ) (l : List (Result X E)) (s t : S) (j g : F) (b : Bool) → j ≡ f → AlwaysGives steps s l → Run until_refused ((s, j), false) (map item xs ++ end ∷ []) ((t, g), b) → searched all_pick true h n l ≡ Ok false → AlwaysGives steps t (behind_stop not h l)
+  left_at_end : (xs : List X) (n : ℕ) (l : List (Result X E)) (s t : S) (j g : F) (b : Bool) → j ≡ f → AlwaysGives steps s l → Run step_until_refused ((s, j), false) (map item xs ++ end ∷ []) ((t, g), b) → searched all_pick true h n l ≡ Ok false → AlwaysGives steps t (rest_stop not h l)
   left_at_end [] n l s t j g b at a ran found = let w = ran.1 in at_end w.0 n l s t j g at a (subst (λ (p : S × F). place_drawn steps call (s, j) w.0 p) (ap (λ (p : (S × F) × Bool). p.0) ran.2) w.1) w.2 found
   left_at_end (x ∷ xs) n [] s t j g b at a ran found = absurd (none_false n found)
   left_at_end (x ∷ xs) n (Err e ∷ l) s t j g b at a ran found = absurd (let w = ran.1 in let k = kept w.0 x s (ran.0).0.0 j (ran.0).0.1 at w.1 w.2 in let q = (a (item x) (ran.0).0.0 k.0).0 in cc)
@@ -82,7 +82,7 @@ module _ {S F X E : Type 0} (steps : S → Answered X E → S → Type 0) (call 
       let made : h y ≡ Ok true = (let v = k.2 in cc) in
       let open_still : (ran.0).1 ≡ false = w.3 ∙ k.3 in
       subst (λ (m : List (Result X E)). AlwaysGives steps t m) (sym (left_on y l made))
-      (left_at_end xs (n + 1) l u t i g b k.1 q.1 (subst (λ (c : Bool). Run until_refused ((u, i), c) (map item xs ++ end ∷ []) ((t, g), b)) open_still ran.2) (goes n y l made found))
+      (left_at_end xs (n + 1) l u t i g b k.1 q.1 (subst (λ (c : Bool). Run step_until_refused ((u, i), c) (map item xs ++ end ∷ []) ((t, g), b)) open_still ran.2) (all_of_rest n y l made found))
 
 -- the steps of `take_while` of a borrow of what steps so
 abbrev pub until_steps : {S P A E : Type 0} → (S → Answered A E → S → Type 0) → Mut P (Bor A × Unit {0}) (Result Bool E) → TakeWhile (MutBor S) P → Answered A E → TakeWhile (MutBor S) P → Type 0
@@ -95,17 +95,17 @@ module _ {S A E : Type 0} (steps : S → Answered A E → S → Type 0) where
 
 module _ {S P A E : Type 0} (steps : S → Answered A E → S → Type 0) (g : Mut P (Bor A × Unit {0}) (Result Bool E)) (it : MutBor S) (p : P) (s t : TakeWhile (MutBor S) P) (l : List (Result A E)) (h : A → Result Bool E) (acts : Acts (call_at g) p h) (parts : take_while_parts s ≡ ((it, p), false)) where
   -- A run over `take_while` of a borrow that came to its end leaves the lender at what stands behind the first item that the predicate refuses, where there is one.
-  left_of_run : (xs : List A) → Run (until_steps steps g) s (map item xs ++ end ∷ []) t → Lists steps it.now l → all_of h l ≡ Ok false → Lists steps t.it.now (behind_false h l)
-  unfolding all_of behind_false
+  left_of_run : (xs : List A) → Run (until_steps steps g) s (map item xs ++ end ∷ []) t → Lists steps it.now l → all_of h l ≡ Ok false → Lists steps t.it.now (rest_false h l)
+  unfolding all_of rest_false
   left_of_run xs ran i found =
       let m : Contract (MutBor S) A E = borrowed (unbounded_contract steps) in
       let seen = subst (λ (q : (MutBor S × P) × Bool). Run (take_while_contract m g).steps q (map item xs ++ end ∷ []) (take_while_parts t)) parts (run_seen take_while_parts (take_while_contract m g).steps (map item xs ++ end ∷ []) s t ran) in
       let left = left_at_end m.steps (call_at g) p h acts xs 0 l it t.it p (take_while_predicate t) (take_while_refused t) refl (lists_borrowed (unbounded_contract steps) it l i).runs seen found in
-      record { runs = gives_lender steps (behind_false h l) t.it left }
+      record { runs = gives_lender steps (rest_false h l) t.it left }
 
 -- After a fold over `take_while` of a borrow that came to its end, the lender lists what stands behind the first item that the predicate refuses, where there is one.
-pub behind_lent_while : {S P A E B E' F : Type 0} {steps : S → Answered A E → S → Type 0} {g : Mut P (Bor A × Unit {0}) (Result Bool E)} {it : MutBor S} {p : P} {s t : TakeWhile (MutBor S) P} {l : List (Result A E)} {call : F → B → A → Result B E' → F → Type 0} {from : E → E' → Type 0} {b v : B} {f : F} {x : S} (h : A → Result Bool E) → Acts (call_at g) p h → x ≡ t.it.now → take_while_source s ≡ it → take_while_predicate s ≡ p → take_while_refused s ≡ false → Folded (until_steps steps g) call from s b f (Ok v) t → Lists steps it.now l → all_of h l ≡ Ok false → Lists steps x (behind_false h l)
-behind_lent_while {steps = steps} {g = g} {it = it} {p = p} {s = s} {t = t} {l = l} {call = call} {from = from} {v = v} h acts back source predicate refused d i found =
+pub rest_lent_while : {S P A E B E' F : Type 0} {steps : S → Answered A E → S → Type 0} {g : Mut P (Bor A × Unit {0}) (Result Bool E)} {it : MutBor S} {p : P} {s t : TakeWhile (MutBor S) P} {l : List (Result A E)} {call : F → B → A → Result B E' → F → Type 0} {from : E → E' → Type 0} {b v : B} {f : F} {x : S} (h : A → Result Bool E) → Acts (call_at g) p h → x ≡ t.it.now → take_while_source s ≡ it → take_while_predicate s ≡ p → take_while_refused s ≡ false → Folded (until_steps steps g) call from s b f (Ok v) t → Lists steps it.now l → all_of h l ≡ Ok false → Lists steps x (rest_false h l)
+rest_lent_while {steps = steps} {g = g} {it = it} {p = p} {s = s} {t = t} {l = l} {call = call} {from = from} {v = v} h acts back source predicate refused d i found =
     let parts : take_while_parts s ≡ ((it, p), false) = cc in
     let ended : d.last ≡ end = last_is_end call from d.at.value d.at.closure d.last v d.at.exit in
     let ran = subst (λ (r : Answered _ _). Run (until_steps steps g) s (map item d.items ++ r ∷ []) t) ended d.ran in

@@ -17,7 +17,7 @@ module _ {S A E R : Type 0} where
   pub record AnswersBetween (front back : S → Answered A E → S → Type 0) (of_whole : List (Result A E) → R) (s0 : S) (of_rest : List (Result A E) → R) (s : S) : Type 0 where
     pub at : (whole : List (Result A E)) → ListsBothEnds front back s0 whole → (rest : List (Result A E)) × ListsBothEnds front back s rest × (of_whole whole ≡ of_rest rest)
 
--- An item from the front and a draw from behind count the number down by one.
+-- An item from the front and a draw from the back count the number down by one.
 pub counts_turn : {S A E : Type 0} {m : Contract S A E} {e : Ends S A E} {s t u : S} {x : A} {left less : ℕ} → LawfulEnds m e → CountsDown (from_front m e) s left → m.steps s (Ok (Some x)) t → Stays (from_back m e) t u → less + 1 ≡ left → CountsDown (from_front m e) u less
 counts_turn {m = m} {s = s} {t = t} {x = x} law counts step stays one =
     let n = counts.1 in
@@ -35,32 +35,32 @@ module _ {A E : Type 0} (P : List (Result A E) → Type 0) (r : Answered A E) wh
   takes_none [] is w = cc
   takes_none (z ∷ l) is w = absurd (not_end z (sym is ∙ w.0))
 
-from_behind : {X : Type 0} (y : X) (l k : List X) → reverse l ≡ y ∷ k → l ≡ reverse k ++ y ∷ []
-from_behind y l k e = sym (reverse-reverse l) ∙ ap reverse e ∙ reverse-append (y ∷ []) k
+last_of_reverse : {X : Type 0} (y : X) (l k : List X) → reverse l ≡ y ∷ k → l ≡ reverse k ++ y ∷ []
+last_of_reverse y l k e = sym (reverse-reverse l) ∙ ap reverse e ∙ reverse-append (y ∷ []) k
 
-none_behind : {X : Type 0} (l : List X) → reverse l ≡ [] → l ≡ []
-none_behind l e = sym (reverse-reverse l) ∙ ap reverse e
+none_back : {X : Type 0} (l : List X) → reverse l ≡ [] → l ≡ []
+none_back l e = sym (reverse-reverse l) ∙ ap reverse e
 
 module _ {S A E R : Type 0} {front back : S → Answered A E → S → Type 0} {of_whole of_rest : List (Result A E) → R} {s0 s t : S} {r : Answered A E} where
   -- after a draw from the front that took the result y, which the loop goes on with
   pub goes_on_in_front : (y : Result A E) {of_left : List (Result A E) → R} → AnswersBetween front back of_whole s0 of_rest s → front s r t → r ≡ result_answer y → ((l : List (Result A E)) → of_rest (y ∷ l) ≡ of_left l) → AnswersBetween front back of_whole s0 of_left t
   goes_on_in_front y here drawn is same = record { at = λ whole i. let k = here.at whole i in let d = takes (λ j. ListsBothEnds front back t j) r y k.0 is (takes_front k.1 drawn) in (d.0, d.2, k.2 ∙ ap of_rest d.1 ∙ same d.0) }
 
-  -- the same from behind
-  pub goes_on_behind : (y : Result A E) {of_left : List (Result A E) → R} → AnswersBetween front back of_whole s0 of_rest s → back s r t → r ≡ result_answer y → ((l : List (Result A E)) → of_rest (l ++ y ∷ []) ≡ of_left l) → AnswersBetween front back of_whole s0 of_left t
-  goes_on_behind y here drawn is same = record { at = λ whole i. let k = here.at whole i in let d = takes (λ j. ListsBothEnds front back t (reverse j)) r y (reverse k.0) is (takes_back k.1 drawn) in (reverse d.0, d.2, k.2 ∙ ap of_rest (from_behind y k.0 d.0 d.1) ∙ same (reverse d.0)) }
+  -- the same from the back
+  pub goes_on_back : (y : Result A E) {of_left : List (Result A E) → R} → AnswersBetween front back of_whole s0 of_rest s → back s r t → r ≡ result_answer y → ((l : List (Result A E)) → of_rest (l ++ y ∷ []) ≡ of_left l) → AnswersBetween front back of_whole s0 of_left t
+  goes_on_back y here drawn is same = record { at = λ whole i. let k = here.at whole i in let d = takes (λ j. ListsBothEnds front back t (reverse j)) r y (reverse k.0) is (takes_back k.1 drawn) in (reverse d.0, d.2, k.2 ∙ ap of_rest (last_of_reverse y k.0 d.0 d.1) ∙ same (reverse d.0)) }
 
   -- at a result from the front with which the loop is left
   pub decides_in_front : (y : Result A E) {v : R} → AnswersBetween front back of_whole s0 of_rest s → front s r t → r ≡ result_answer y → ((l : List (Result A E)) → v ≡ of_rest (y ∷ l)) → (whole : List (Result A E)) → ListsBothEnds front back s0 whole → v ≡ of_whole whole
   decides_in_front y here drawn is same whole i = let k = here.at whole i in let d = takes (λ j. ListsBothEnds front back t j) r y k.0 is (takes_front k.1 drawn) in same d.0 ∙ sym (k.2 ∙ ap of_rest d.1)
 
-  -- the same from behind
-  pub decides_behind : (y : Result A E) {v : R} → AnswersBetween front back of_whole s0 of_rest s → back s r t → r ≡ result_answer y → ((l : List (Result A E)) → v ≡ of_rest (l ++ y ∷ [])) → (whole : List (Result A E)) → ListsBothEnds front back s0 whole → v ≡ of_whole whole
-  decides_behind y here drawn is same whole i = let k = here.at whole i in let d = takes (λ j. ListsBothEnds front back t (reverse j)) r y (reverse k.0) is (takes_back k.1 drawn) in same (reverse d.0) ∙ sym (k.2 ∙ ap of_rest (from_behind y k.0 d.0 d.1))
+  -- the same from the back
+  pub decides_back : (y : Result A E) {v : R} → AnswersBetween front back of_whole s0 of_rest s → back s r t → r ≡ result_answer y → ((l : List (Result A E)) → v ≡ of_rest (l ++ y ∷ [])) → (whole : List (Result A E)) → ListsBothEnds front back s0 whole → v ≡ of_whole whole
+  decides_back y here drawn is same whole i = let k = here.at whole i in let d = takes (λ j. ListsBothEnds front back t (reverse j)) r y (reverse k.0) is (takes_back k.1 drawn) in same (reverse d.0) ∙ sym (k.2 ∙ ap of_rest (last_of_reverse y k.0 d.0 d.1))
 
   -- at an end, from either side
   pub ends_in_front : {v : R} → AnswersBetween front back of_whole s0 of_rest s → front s r t → r ≡ Ok None → v ≡ of_rest [] → (whole : List (Result A E)) → ListsBothEnds front back s0 whole → v ≡ of_whole whole
   ends_in_front here drawn is same whole i = let k = here.at whole i in same ∙ sym (k.2 ∙ ap of_rest (takes_none (λ j. ListsBothEnds front back t j) r k.0 is (takes_front k.1 drawn)))
 
-  pub ends_behind : {v : R} → AnswersBetween front back of_whole s0 of_rest s → back s r t → r ≡ Ok None → v ≡ of_rest [] → (whole : List (Result A E)) → ListsBothEnds front back s0 whole → v ≡ of_whole whole
-  ends_behind here drawn is same whole i = let k = here.at whole i in same ∙ sym (k.2 ∙ ap of_rest (none_behind k.0 (takes_none (λ j. ListsBothEnds front back t (reverse j)) r (reverse k.0) is (takes_back k.1 drawn))))
+  pub ends_at_back : {v : R} → AnswersBetween front back of_whole s0 of_rest s → back s r t → r ≡ Ok None → v ≡ of_rest [] → (whole : List (Result A E)) → ListsBothEnds front back s0 whole → v ≡ of_whole whole
+  ends_at_back here drawn is same whole i = let k = here.at whole i in same ∙ sym (k.2 ∙ ap of_rest (none_back k.0 (takes_none (λ j. ListsBothEnds front back t (reverse j)) r (reverse k.0) is (takes_back k.1 drawn))))

@@ -45,9 +45,9 @@ take_ok steps (s, suc n) r (t, k) w ok = ((w.0, ok), w.1)
 pub taken_where_ok : {S A E : Type 0} {steps : S → Answered A E → S → Type 0} {s : Take S} {it : S} {n : ℕ} {l : List (Result A E)} → take_parts s ≡ (it, n) → ListsWhereOk steps it l → ListsWhereOk (λ (u : Take S) (r : Answered A E) (v : Take S). take_step steps (take_parts u) r (take_parts v)) s (taken n l)
 taken_where_ok {S} {A} {E} {steps} {s} {it} {n} {l} parts i =
     let at : it ≡ s.it = sym (ap (λ (p : S × ℕ). p.0) parts) in
-    let left : s.left ≡ n = ap (λ (p : S × ℕ). p.1) parts in
+    let to_take : s.to_take ≡ n = ap (λ (p : S × ℕ). p.1) parts in
     let m : Contract S A E = unbounded_contract (ok_steps steps) in
-    lists_fewer _ _ (λ u r v w. take_ok steps (take_parts u) r (take_parts v) w.0 w.1) (taken n l) s (lists_taken m s n l (ap (λ (k : ℕ). (s.it, k)) left) (subst (λ (u : S). Lists (ok_steps steps) u l) at i))
+    lists_fewer _ _ (λ u r v w. take_ok steps (take_parts u) r (take_parts v) w.0 w.1) (taken n l) s (lists_taken m s n l (ap (λ (k : ℕ). (s.it, k)) to_take) (subst (λ (u : S). Lists (ok_steps steps) u l) at i))
 
 -- ---- `filter`
 

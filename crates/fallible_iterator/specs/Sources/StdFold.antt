@@ -5,9 +5,9 @@ use Rattle.std.specs.Iterator.{Count, MakesProgress}
 use Rattle.std.specs.declared.ops.ControlFlow.{ControlFlow}
 use Rattle.std.specs.declared.ops.ControlFlow.TheVariants.{Continue, Break}
 use Rattle.fallible_contract.specs.Traces.{Answered}
-use Rattle.fallible_contract.specs.Folds.{TurnBehind}
+use Rattle.fallible_contract.specs.Folds.{TurnThrough}
 
--- One call of a std iterator behind a reference: it gave what std says and made progress, and the reference stays the same.
+-- One call of a std iterator that a reference points to: it gave what std says and made progress, and the reference stays the same.
 abbrev pub progressing : {S Z : Type 0} → (S → Type 0) → (S → Option Z → S → Type 0) → (S → Count) → MutBor S → Option Z → MutBor S → Type 0
 progressing can gives remaining s r t = gives s.now r t.now × MakesProgress can remaining s.now r t.now × (t.ghost_name ≡ s.ghost_name)
 
@@ -27,6 +27,6 @@ abbrev pub left_of : {C E R : Type 0} → Result C (C × Answered R E) → C
 left_of (Ok d) = d
 left_of (Err p) = p.0
 
--- a turn on a state behind a reference, which stays the same
+-- a turn on a state that a reference points to, which stays the same
 abbrev pub lent : {C A R : Type 0} → (C → A → ControlFlow R (Unit {0}) → C → Type 0) → MutBor C → A → ControlFlow R (Unit {0}) → MutBor C → Type 0
-lent turns b x r d = TurnBehind (λ (z : MutBor _). z.now) (λ (z : MutBor _). z.ghost_name) turns b x r d
+lent turns b x r d = TurnThrough (λ (z : MutBor _). z.now) (λ (z : MutBor _). z.ghost_name) turns b x r d

@@ -8,7 +8,7 @@ ghost use Rattle.std.specs.declared.alloc.Global.{Global};
 use fallible_core::traits::FallibleIterator;
 use fallible_core::traits::double_ended::DoubleEndedFallibleIterator;
 
-/// A `&mut I` and a `Box<I>` have the steps of `I`: a draw answers what a draw from the value behind it answers, and leaves there what that leaves. The `&mut` stays the same reference.
+/// A `&mut I` and a `Box<I>` have the steps of `I`: a draw answers what a draw from the value that it points to answers, and leaves there what that leaves. The `&mut` stays the same reference.
 pub fn law_borrowed<'a, I: FallibleIterator + 'a>()
     ensures borrowed { (s : MutBor I) (r : Answered I.Item I.Error) (t : MutBor I)
         → ⟦<&'a mut I as FallibleIterator>⟧.contract.steps s r t
@@ -30,7 +30,7 @@ pub fn law_borrowed<'a, I: FallibleIterator + 'a>()
         → Run ⟦<Box<I> as FallibleIterator>⟧.contract.steps s trace (record s { value = x }) }
 {}
 
-/// From behind a `&mut I` and a `Box<I>` have the steps of `I` from behind in the same way.
+/// From the back a `&mut I` and a `Box<I>` have the steps of `I` from the back in the same way.
 pub fn law_back_borrowed<'a, I: DoubleEndedFallibleIterator + 'a>()
     ensures borrowed { (s : MutBor I) (r : Answered I.Item I.Error) (t : MutBor I)
         → ⟦<&'a mut I as DoubleEndedFallibleIterator>⟧.ends.steps s r t

@@ -33,7 +33,7 @@ pub fn law_iterator<I: FallibleIterator>()
         → Lists ⟦<Convert<Iterator<I>> as FallibleIterator>⟧.contract.steps s l }
 {}
 
-/// The same from behind. Draws from either end may be made in any order, also of what was converted back.
+/// The same from the back. Draws from either end may be made in any order, also of what was converted back.
 pub fn law_back_iterator<I: DoubleEndedFallibleIterator>()
     ensures trace { TracesAre iterator_parts
         (λ s r t. ⟦<Iterator<I> as std::iter::DoubleEndedIterator>⟧.next_back_gives s

@@ -1,7 +1,7 @@
 // What one draw, and one look ahead, answers and leaves of a list.
 ghost use Rattle.std.specs.Prelude.{◌≡◌, List, Option, Result, Ok, None};
 ghost use Rattle.fallible_contract.specs.Traces.{Answered};
-ghost use Rattle.fallible_contract.specs.Lists.{Lists, behind_first, nth_of};
+ghost use Rattle.fallible_contract.specs.Lists.{Lists, rest_first, nth_of};
 ghost use Rattle.fallible_core.specs.Peeking.Peekable.{Peeks, looked_ahead, peekable_parts};
 ghost use Rattle.fallible_core.specs.declared.peeking.peekable.Peekable.{Peekable};
 
@@ -14,7 +14,7 @@ pub fn law_next<I: FallibleIterator>()
         → Lists I.contract.steps s l → I.contract.steps s r t → r ≡ nth_of 0 l }
     ensures rest { (s t : I) (r : Answered I.Item I.Error) (l : List (Result I.Item I.Error))
         → Lists I.contract.steps s l → I.contract.steps s r t → ¬ (r ≡ Ok None)
-        → Lists I.contract.steps t (behind_first l) }
+        → Lists I.contract.steps t (rest_first l) }
 {}
 
 /// A peek of a `Peekable` that lists l, which is what `peek` makes: it answers the first of l, and leaves l without a failure that stands first.

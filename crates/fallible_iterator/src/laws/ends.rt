@@ -1,4 +1,4 @@
-// What is drawn from both ends, and what from behind.
+// What is drawn from both ends, and what from the back.
 ghost use Rattle.std.specs.Prelude.{◌≡◌, ℕ, ◌++◌, ◌∷◌, [], map, reverse, Some, None, Ok, Bool, List, Option, Result};
 ghost use Rattle.fallible_contract.specs.Contract.{Stays};
 ghost use Rattle.fallible_contract.specs.Ends.{from_front};
@@ -6,7 +6,7 @@ ghost use Rattle.fallible_contract.specs.Traces.{Answered, Run, item};
 ghost use Rattle.fallible_contract.specs.Folds.{Folded, Nth, call_with};
 ghost use Rattle.fallible_contract.specs.LawForm.{TracesAre};
 ghost use Rattle.fallible_contract.specs.Closures.{call_on, call_at};
-ghost use Rattle.fallible_contract.specs.Lists.{Acts, behind_nth, result_answer};
+ghost use Rattle.fallible_contract.specs.Lists.{Acts, rest_nth, result_answer};
 ghost use Rattle.fallible_contract.specs.BothEnds.{ListsBothEnds, RunAtEnds, step_at, from_side, Interleaves};
 ghost use Rattle.fallible_core.specs.OneToOne.Map.{mapped, MapTrace, map_parts};
 ghost use Rattle.fallible_core.specs.Filtering.Filter.{filtered, FilterTrace, filter_parts};
@@ -14,7 +14,7 @@ ghost use Rattle.fallible_core.specs.OneToOne.Inspect.{InspectTrace, inspect_par
 ghost use Rattle.fallible_core.specs.OneToOne.Cloned.{ClonedTrace, cloned_parts};
 ghost use Rattle.fallible_core.specs.OneToOne.MapErr.{MapErrTrace, map_err_parts};
 ghost use Rattle.fallible_core.specs.Filtering.FilterMap.{FilterMapTrace, filter_map_parts};
-ghost use Rattle.fallible_core.specs.Joining.Chain.{chain_behind, chain_parts, ChainTrace};
+ghost use Rattle.fallible_core.specs.Joining.Chain.{chain_back, chain_parts, ChainTrace};
 ghost use Rattle.fallible_core.specs.Ends.Rev.{rev_parts};
 ghost use Rattle.fallible_iterator.specs.Listing.{DrawsInterleave, DrawsTheSame, ListsAtEachEnd, ListsTheSame};
 ghost use Rattle.fallible_contract.specs.declared.answers.Side.{Side};
@@ -31,7 +31,7 @@ use std::alloc::AllocError;
 
 // ---- draws from both ends
 
-/// The law of interleaving, of every type with two ends, and so of every nest of adapters: of draws from both ends of a value that lists l, what came in front, what is left, and what came behind, reversed, make l; and an end was answered only where nothing was left.
+/// The law of interleaving, of every type with two ends, and so of every nest of adapters: of draws from both ends of a value that lists l, what came from the front, what is left, and what came from the back, reversed, make l; and an end was answered only where nothing was left.
 pub fn law_interleave<I: DoubleEndedFallibleIterator>()
     ensures { (s t : I) (l : List (Result I.Item I.Error))
         (drawn : List (Side × Answered I.Item I.Error))
@@ -62,7 +62,7 @@ where
         → RunAtEnds I.contract.steps I.ends.steps s (drawn ++ others) u }
 {}
 
-/// The same of one nest of four types, written out: of draws from both ends of a `Rev` of a `Filter` of a `Map` over any source that lists l, what came in front, what is left, and what came behind, reversed, make the reverse of the filtered, mapped l.
+/// The same of one nest of four types, written out: of draws from both ends of a `Rev` of a `Filter` of a `Map` over any source that lists l, what came from the front, what is left, and what came from the back, reversed, make the reverse of the filtered, mapped l.
 pub fn law_interleave_nest<
     I: DoubleEndedFallibleIterator,
     B: Drop,
@@ -86,7 +86,7 @@ where
     law_interleave::<Rev<Filter<Map<I, F>, G>>>();
 }
 
-/// What both ends list, draw by draw: a draw from the front takes the first of it, and a draw from behind the last; and each end lists it.
+/// What both ends list, draw by draw: a draw from the front takes the first of it, and a draw from the back the last; and each end lists it.
 pub fn law_draws<I: DoubleEndedFallibleIterator>()
     ensures front { (s t : I) (r : Answered I.Item I.Error) (y : Result I.Item I.Error)
         (l : List (Result I.Item I.Error))
@@ -109,12 +109,12 @@ pub fn law_after_front<I: DoubleEndedFallibleIterator>()
         (l : List (Result I.Item I.Error))
         → ListsBothEnds I.contract.steps I.ends.steps s l
         → Nth I.contract.steps s n r t → ¬ (r ≡ Ok None)
-        → ListsBothEnds I.contract.steps I.ends.steps t (behind_nth n l) }
+        → ListsBothEnds I.contract.steps I.ends.steps t (rest_nth n l) }
 {}
 
-// ---- traces from behind
+// ---- traces from the back
 
-/// A trace of `Rev` is one of its source from behind, and a trace of it from behind one of its source.
+/// A trace of `Rev` is one of its source from the back, and a trace of it from the back one of its source.
 pub fn law_rev<I: DoubleEndedFallibleIterator>()
     ensures front { TracesAre rev_parts ⟦<Rev<I> as FallibleIterator>⟧.contract.steps
         (Run I.ends.steps) }
@@ -138,14 +138,14 @@ pub fn law_rev_rev<I: DoubleEndedFallibleIterator>()
         ⟦<Rev<Rev<I>> as DoubleEndedFallibleIterator>⟧.ends.steps) }
 {}
 
-/// From behind the answers of `Map` are the source's from behind, with the closure's answer in each item's place.
+/// From the back the answers of `Map` are the source's from the back, with the closure's answer in each item's place.
 pub fn law_back_map<I: DoubleEndedFallibleIterator, B, F: FnMut(I::Item) -> Result<B, I::Error>>()
 where
     ensures { TracesAre map_parts ⟦<Map<I, F> as DoubleEndedFallibleIterator>⟧.ends.steps
         (MapTrace I.ends.steps F.FnMut) }
 {}
 
-/// From behind the answers of `Inspect` are the source's from behind, with the closure's failure in the place of each item on which it failed.
+/// From the back the answers of `Inspect` are the source's from the back, with the closure's failure in the place of each item on which it failed.
 pub fn law_back_inspect<
     I: DoubleEndedFallibleIterator,
     F: FnMut(&I::Item) -> Result<(), I::Error>,
@@ -156,24 +156,24 @@ where
         (InspectTrace I.ends.steps F.FnMut) }
 {}
 
-/// From behind the answers of `MapErr` are the source's from behind, with the closure's answer in each failure's place.
+/// From the back the answers of `MapErr` are the source's from the back, with the closure's answer in each failure's place.
 pub fn law_back_map_err<I: DoubleEndedFallibleIterator, B, F: FnMut(I::Error) -> B>()
 where
     ensures { TracesAre map_err_parts ⟦<MapErr<I, F> as DoubleEndedFallibleIterator>⟧.ends.steps
         (MapErrTrace I.ends.steps (call_on F.FnMut)) }
 {}
 
-/// A trace of `Chain` from behind is the same with the sides swapped, both drawn from behind: the second's up to its first end, and from the draw that meets this end on the first's.
+/// A trace of `Chain` from the back is the same with the sides swapped, both drawn from the back: the second's up to its first end, and from the draw that meets this end on the first's.
 pub fn law_back_chain<
     T: DoubleEndedFallibleIterator,
     U: DoubleEndedFallibleIterator<Item = T::Item, Error = T::Error>,
 >()
-    ensures { TracesAre (λ s. chain_behind (chain_parts s))
+    ensures { TracesAre (λ s. chain_back (chain_parts s))
         ⟦<Chain<T, U> as DoubleEndedFallibleIterator>⟧.ends.steps
         (ChainTrace U.ends.steps T.ends.steps) }
 {}
 
-/// From behind the answers of `Cloned` are the source's from behind, with a clone in each item's place, or the failure made of its refusal.
+/// From the back the answers of `Cloned` are the source's from the back, with a clone in each item's place, or the failure made of its refusal.
 pub fn law_back_cloned<'a, T: Clone + 'a, I: DoubleEndedFallibleIterator<Item = &'a T>>()
 where
     I::Error: From<AllocError>,
@@ -181,7 +181,7 @@ where
         (ClonedTrace T.is_clone T.is_infallible I.Error.from_gives I.ends.steps) }
 {}
 
-/// From behind the answers of `Filter` are the source's from behind without the items refused, with the predicate's failure in the place of each item on which it failed.
+/// From the back the answers of `Filter` are the source's from the back without the items refused, with the predicate's failure in the place of each item on which it failed.
 pub fn law_back_filter<
     I: DoubleEndedFallibleIterator,
     F: FnMut(&I::Item) -> Result<bool, I::Error>,
@@ -192,7 +192,7 @@ where
         (FilterTrace I.ends.steps F.FnMut) }
 {}
 
-/// From behind the answers of `FilterMap` are the source's from behind without the items answered none, with the closure's value or failure in each other item's place.
+/// From the back the answers of `FilterMap` are the source's from the back without the items answered none, with the closure's value or failure in each other item's place.
 pub fn law_back_filter_map<
     I: DoubleEndedFallibleIterator,
     B,

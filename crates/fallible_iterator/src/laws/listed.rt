@@ -116,7 +116,7 @@ pub fn law_listed_rev<I: DoubleEndedFallibleIterator>()
         ⟦<Rev<I> as DoubleEndedFallibleIterator>⟧.ends.steps) }
 {}
 
-/// A `&mut I` and a `Box<I>` list just what the value behind them lists.
+/// A `&mut I` and a `Box<I>` list just what the value that they point to lists.
 pub fn law_listed_borrowed<'a, I: DoubleEndedFallibleIterator + 'a>()
     ensures borrowed { ListsTheSame
         (λ (s : MutBor I). s.now) (ListsBothEnds I.contract.steps I.ends.steps)
@@ -128,14 +128,14 @@ pub fn law_listed_borrowed<'a, I: DoubleEndedFallibleIterator + 'a>()
         ⟦<Box<I> as DoubleEndedFallibleIterator>⟧.ends.steps) }
 {}
 
-/// What lists l from both ends lists l from the front, and the reverse of l from behind, so what each call says of lists holds of it.
+/// What lists l from both ends lists l from the front, and the reverse of l from the back, so what each call says of lists holds of it.
 pub fn law_listed_each<I: DoubleEndedFallibleIterator>()
     ensures { ListsAtEachEnd I.contract.steps I.ends.steps }
 {}
 
-// ---- the same of one value, which is shown to the law, so that no type need be named; and what it lists from behind, from what its source lists from behind
+// ---- the same of one value, which is shown to the law, so that no type need be named; and what it lists from the back, from what its source lists from the back
 
-/// A `Map` lists, from both ends and from behind, what its closure answers on each item that its source lists there, in the item's place.
+/// A `Map` lists, from both ends and from the back, what its closure answers on each item that its source lists there, in the item's place.
 pub fn law_lists_map<I: DoubleEndedFallibleIterator, B, F: FnMut(I::Item) -> Result<B, I::Error>>(
     s: &Map<I, F>,
 )
@@ -146,7 +146,7 @@ where
         → ListsBothEnds I.contract.steps I.ends.steps it l
         → ListsBothEnds ⟦<Map<I, F> as FallibleIterator>⟧.contract.steps
         ⟦<Map<I, F> as DoubleEndedFallibleIterator>⟧.ends.steps s.now (mapped h l) }
-    ensures behind { (it : I) (f : F) (h : I.Item → Result B I.Error)
+    ensures back { (it : I) (f : F) (h : I.Item → Result B I.Error)
         (l : List (Result I.Item I.Error))
         → map_parts s.now ≡ (it, f) → Acts (call_on F.FnMut) f h
         → Lists I.ends.steps it l
@@ -155,7 +155,7 @@ where
     law_listed_map::<I, B, F>();
 }
 
-/// A `Filter` lists, from both ends and from behind, what its source lists there without the items refused, with the predicate's failure in the place of each item on which it failed.
+/// A `Filter` lists, from both ends and from the back, what its source lists there without the items refused, with the predicate's failure in the place of each item on which it failed.
 pub fn law_lists_filter<
     I: DoubleEndedFallibleIterator,
     F: FnMut(&I::Item) -> Result<bool, I::Error>,
@@ -168,7 +168,7 @@ where
         → ListsBothEnds I.contract.steps I.ends.steps it l
         → ListsBothEnds ⟦<Filter<I, F> as FallibleIterator>⟧.contract.steps
         ⟦<Filter<I, F> as DoubleEndedFallibleIterator>⟧.ends.steps s.now (filtered h l) }
-    ensures behind { (it : I) (f : F) (h : I.Item → Result Bool I.Error)
+    ensures back { (it : I) (f : F) (h : I.Item → Result Bool I.Error)
         (l : List (Result I.Item I.Error))
         → filter_parts s.now ≡ (it, f) → Acts (call_at F.FnMut) f h
         → Lists I.ends.steps it l
@@ -178,7 +178,7 @@ where
     law_listed_filter::<I, F>();
 }
 
-/// A `Chain` lists from both ends what its first lists and then what its second does, and from behind what its second lists there and then what its first does.
+/// A `Chain` lists from both ends what its first lists and then what its second does, and from the back what its second lists there and then what its first does.
 pub fn law_lists_chain<
     T: DoubleEndedFallibleIterator,
     U: DoubleEndedFallibleIterator<Item = T::Item, Error = T::Error>,
@@ -189,7 +189,7 @@ pub fn law_lists_chain<
         → ListsBothEnds U.contract.steps U.ends.steps u b
         → ListsBothEnds ⟦<Chain<T, U> as FallibleIterator>⟧.contract.steps
         ⟦<Chain<T, U> as DoubleEndedFallibleIterator>⟧.ends.steps s.now (chained a b) }
-    ensures behind { (t : T) (u : U) (a b : List (Result T.Item T.Error))
+    ensures back { (t : T) (u : U) (a b : List (Result T.Item T.Error))
         → chain_parts s.now ≡ (t, u, Both)
         → Lists T.ends.steps t a → Lists U.ends.steps u b
         → Lists ⟦<Chain<T, U> as DoubleEndedFallibleIterator>⟧.ends.steps s.now (chained b a) }

@@ -2,7 +2,7 @@
 ghost use Rattle.std.specs.Prelude.{List, Result};
 ghost use Rattle.fallible_contract.specs.LawForm.{TracesAre};
 ghost use Rattle.fallible_contract.specs.Lists.{Lists};
-ghost use Rattle.fallible_core.specs.Peeking.Peekable.{peekable_parts, PeekableTrace, behind_held, peekable_held, peekable_source};
+ghost use Rattle.fallible_core.specs.Peeking.Peekable.{peekable_parts, PeekableTrace, held_then, peekable_held, peekable_source};
 
 use fallible_core::peeking::Peekable;
 use fallible_core::traits::FallibleIterator;
@@ -16,5 +16,5 @@ where
     ensures lists { (s : Peekable I I.Item I.Error) (l : List (Result I.Item I.Error))
         → Lists I.contract.steps (peekable_source s) l
         → Lists ⟦<Peekable<I> as FallibleIterator>⟧.contract.steps s
-        (behind_held (peekable_held s) l) }
+        (held_then (peekable_held s) l) }
 {}

@@ -2,7 +2,7 @@
 ghost use Rattle.std.specs.Prelude.{◌≡◌, List, Option, Result, Ok, Err};
 ghost use Rattle.std.specs.Vec.Iter.{into_iter_items};
 ghost use Rattle.fallible_contract.specs.LawForm.{TracesAre};
-ghost use Rattle.fallible_contract.specs.Lists.{Lists, RunsReadBehind, results, items, reversed};
+ghost use Rattle.fallible_contract.specs.Lists.{Lists, RunsReadBack, results, items, reversed};
 ghost use Rattle.fallible_contract.specs.BothEnds.{ListsBothEnds};
 ghost use Rattle.fallible_contract.specs.Traces.{item, failure};
 ghost use Rattle.fallible_contract.specs.Held.{OnceTrace};
@@ -36,25 +36,25 @@ pub fn law_into_fallible<T, I: std::iter::Iterator<Item = T>>()
         (IntoFallibleTrace I.can_next I.next_gives I.remaining) }
 {}
 
-/// From behind: a trace of `Convert` is, place by place, what the std iterator answers from behind, and where the std iterator reads a list from behind, that is what is listed.
+/// From the back: a trace of `Convert` is, place by place, what the std iterator answers from the back, and where the std iterator reads a list from the back, that is what is listed.
 pub fn law_back_convert<T, E, I: std::iter::DoubleEndedIterator<Item = Result<T, E>>>()
     ensures trace { TracesAre convert_parts ⟦<Convert<I> as DoubleEndedFallibleIterator>⟧.ends.steps
         (ConvertTrace I.can_next_back I.next_back_gives I.remaining) }
     ensures results_back { (s : Convert I) (l : List (Result T E))
-        → RunsReadBehind I.next_back_gives (λ y. y) (convert_parts s) l
+        → RunsReadBack I.next_back_gives (λ y. y) (convert_parts s) l
         → Lists ⟦<Convert<I> as DoubleEndedFallibleIterator>⟧.ends.steps s (reversed (results l)) }
     ensures items_back { (s : Convert I) (l : List T)
-        → RunsReadBehind I.next_back_gives Ok (convert_parts s) l
+        → RunsReadBack I.next_back_gives Ok (convert_parts s) l
         → Lists ⟦<Convert<I> as DoubleEndedFallibleIterator>⟧.ends.steps s (reversed (items l)) }
 {}
 
-/// From behind: a trace of `IntoFallible` is, place by place, what the std iterator answers from behind, and where the std iterator reads a list from behind, its elements are what is listed.
+/// From the back: a trace of `IntoFallible` is, place by place, what the std iterator answers from the back, and where the std iterator reads a list from the back, its elements are what is listed.
 pub fn law_back_into_fallible<T, I: std::iter::DoubleEndedIterator<Item = T>>()
     ensures trace { TracesAre into_fallible_parts
         ⟦<IntoFallible<I> as DoubleEndedFallibleIterator>⟧.ends.steps
         (IntoFallibleTrace I.can_next_back I.next_back_gives I.remaining) }
     ensures lists_back { (s : IntoFallible I) (l : List T)
-        → RunsReadBehind I.next_back_gives (λ x. x) (into_fallible_parts s) l
+        → RunsReadBack I.next_back_gives (λ x. x) (into_fallible_parts s) l
         → Lists ⟦<IntoFallible<I> as DoubleEndedFallibleIterator>⟧.ends.steps s
         (reversed (items l)) }
 {}
@@ -127,7 +127,7 @@ pub fn law_repeat_err<T, E: Clone + From<AllocError>>()
         (RepeatErrTrace E.is_clone E.is_infallible E.from_gives) }
 {}
 
-/// What a trace of each source is, all together, and from behind that of each source that has two ends. The law of each says the same, and with the bounds that its source needs alone.
+/// What a trace of each source is, all together, and from the back that of each source that has two ends. The law of each says the same, and with the bounds that its source needs alone.
 pub fn law_sources<T, E, I, J, BackI, BackJ, F>()
 where
     T: Clone,

@@ -5,7 +5,7 @@ ghost use Rattle.fallible_contract.specs.Ends.{from_front};
 ghost use Rattle.fallible_contract.specs.ShownTraces.{answer_of, IsAnswers, IsAnswersAt, answers_of};
 ghost use Rattle.fallible_contract.specs.Lists.{Lists};
 ghost use Rattle.fallible_contract.specs.BothEnds.{step_at, ListsBothEnds};
-ghost use Rattle.fallible_iterator.specs.Answering.{answers_at_ends, behind_ends};
+ghost use Rattle.fallible_iterator.specs.Answering.{answers_at_ends, rest_ends};
 
 use fallible_contract::answers::{Answer, Side};
 use fallible_core::{DoubleEndedFallibleIterator, FallibleIterator};
@@ -69,7 +69,7 @@ where
     ensures rest { (l : List (Result I.Item I.Error))
         → ListsBothEnds I.contract.steps I.ends.steps it.old l
         → IfOk result (λ _. ListsBothEnds I.contract.steps I.ends.steps it.new
-        (behind_ends sides.now l)) }
+        (rest_ends sides.now l)) }
     ensures refused { IfErr result (λ _. it.new ≡ it.old) }
     ensures kept { KeptByDraws (from_front I.contract I.ends) it.old it.new }
 {

@@ -2,7 +2,7 @@
 ghost use Rattle.std.specs.Prelude.{◌≡◌, Some, Ok, Err, List, Result, Option};
 ghost use Rattle.fallible_contract.specs.Contract.{seen_as};
 ghost use Rattle.fallible_contract.specs.Ends.{ends_seen_as};
-ghost use Rattle.fallible_contract.specs.Lists.{Lists, RunsReadBehind, results, items, reversed};
+ghost use Rattle.fallible_contract.specs.Lists.{Lists, RunsReadBack, results, items, reversed};
 ghost use Rattle.fallible_contract.specs.Laws.Contract.{lawful_seen};
 ghost use Rattle.fallible_contract.specs.Laws.Ends.{lawful_ends_seen};
 ghost use Rattle.fallible_core.specs.Ends.Rev.{rev_parts};
@@ -63,7 +63,7 @@ impl<T, E, I: std::iter::DoubleEndedIterator<Item = Result<T, E>>> DoubleEndedFa
     ghost ends = { ends_seen_as convert_parts
         (convert_ends I.can_next I.can_next_back I.next_gives I.next_back_gives I.remaining) };
 
-    /// Draws one element of the std iterator from behind.
+    /// Draws one element of the std iterator from the back.
     fn next_back(&mut self) -> Result<Option<T>, E> {
         transpose(self.it.next_back())
     }
@@ -94,9 +94,9 @@ impl<T, E, I: std::iter::DoubleEndedIterator<Item = Result<T, E>>> DoubleEndedFa
         I.remaining) };
 }
 
-// `rev` of the trait, which says besides what a std iterator that has two ends lists from behind.
+// `rev` of the trait, which says besides what a std iterator that has two ends lists from the back.
 impl<T, E, I: std::iter::DoubleEndedIterator<Item = Result<T, E>>> Convert<I> {
-    /// Swaps the ends: a draw from the adapter is a draw from behind, and the other way round.
+    /// Swaps the ends: a draw from the adapter is a draw from the back, and the other way round.
     ///
     /// Making it draws nothing. One call draws one answer, from the other end. It fails as that draw does. After a failure and after an end the next call draws the source again.
     ///
@@ -111,11 +111,11 @@ impl<T, E, I: std::iter::DoubleEndedIterator<Item = Result<T, E>>> Convert<I> {
             → Lists ⟦<Convert<I> as DoubleEndedFallibleIterator>⟧.ends.steps self l
             → Lists ⟦<Rev<Convert<I>> as FallibleIterator>⟧.contract.steps result l }
         ensures results_back { (l : List (Result T E))
-            → RunsReadBehind I.next_back_gives (λ y. y) (convert_parts self) l
+            → RunsReadBack I.next_back_gives (λ y. y) (convert_parts self) l
             → Lists ⟦<Rev<Convert<I>> as FallibleIterator>⟧.contract.steps result
             (reversed (results l)) }
         ensures items_back { (l : List T)
-            → RunsReadBehind I.next_back_gives Ok (convert_parts self) l
+            → RunsReadBack I.next_back_gives Ok (convert_parts self) l
             → Lists ⟦<Rev<Convert<I>> as FallibleIterator>⟧.contract.steps result
             (reversed (items l)) }
     {

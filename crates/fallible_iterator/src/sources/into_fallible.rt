@@ -2,7 +2,7 @@
 ghost use Rattle.std.specs.Prelude.{◌≡◌, Ok, List, Result, Option};
 ghost use Rattle.fallible_contract.specs.Contract.{seen_as};
 ghost use Rattle.fallible_contract.specs.Ends.{ends_seen_as};
-ghost use Rattle.fallible_contract.specs.Lists.{Lists, RunsRead, RunsReadBehind, items, reversed};
+ghost use Rattle.fallible_contract.specs.Lists.{Lists, RunsRead, RunsReadBack, items, reversed};
 ghost use Rattle.fallible_contract.specs.Laws.Contract.{lawful_seen};
 ghost use Rattle.fallible_contract.specs.Laws.Ends.{lawful_ends_seen};
 ghost use Rattle.fallible_core.specs.Ends.Rev.{rev_parts};
@@ -65,7 +65,7 @@ impl<T, I: std::iter::DoubleEndedIterator<Item = T>> DoubleEndedFallibleIterator
         (into_fallible_ends I.can_next I.can_next_back I.next_gives I.next_back_gives
         I.remaining) };
 
-    /// Draws one element of the std iterator from behind.
+    /// Draws one element of the std iterator from the back.
     fn next_back(&mut self) -> Result<Option<T>, Infallible> {
         Ok(self.it.next_back())
     }
@@ -93,9 +93,9 @@ impl<T, I: std::iter::DoubleEndedIterator<Item = T>> DoubleEndedFallibleIterator
         I.remaining) };
 }
 
-// `rev` of the trait, which says besides what a std iterator that has two ends lists from behind.
+// `rev` of the trait, which says besides what a std iterator that has two ends lists from the back.
 impl<T, I: std::iter::DoubleEndedIterator<Item = T>> IntoFallible<I> {
-    /// Swaps the ends: a draw from the adapter is a draw from behind, and the other way round.
+    /// Swaps the ends: a draw from the adapter is a draw from the back, and the other way round.
     ///
     /// Making it draws nothing. One call draws one answer, from the other end. It fails as that draw does. After a failure and after an end the next call draws the source again.
     ///
@@ -112,7 +112,7 @@ impl<T, I: std::iter::DoubleEndedIterator<Item = T>> IntoFallible<I> {
             → Lists ⟦<IntoFallible<I> as DoubleEndedFallibleIterator>⟧.ends.steps self l
             → Lists ⟦<Rev<IntoFallible<I>> as FallibleIterator>⟧.contract.steps result l }
         ensures lists_back { (l : List T)
-            → RunsReadBehind I.next_back_gives (λ x. x) (into_fallible_parts self) l
+            → RunsReadBack I.next_back_gives (λ x. x) (into_fallible_parts self) l
             → Lists ⟦<Rev<IntoFallible<I>> as FallibleIterator>⟧.contract.steps result
             (reversed (items l)) }
     {

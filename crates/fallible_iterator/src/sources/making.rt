@@ -22,7 +22,7 @@ use std::marker::PhantomData;
 ///
 /// Making it draws nothing. One call draws one element of the std iterator. It fails with the value of an `Err`. After a failure and after an end the next call asks the std iterator again.
 ///
-/// Asks nothing. It may be drawn from where the std iterator may be asked again after every answer, also after `None`, and a bound that it states doesn't rise there; from both ends, where that holds after every answer from either end. Of a std iterator that doesn't say so, as `lines` of a reader, `convert_fused` makes one. What it lists from behind is said by `rev` and by `law_back_convert`, which ask that the std iterator has two ends.
+/// Asks nothing. It may be drawn from where the std iterator may be asked again after every answer, also after `None`, and a bound that it states doesn't rise there; from both ends, where that holds after every answer from either end. Of a std iterator that doesn't say so, as `lines` of a reader, `convert_fused` makes one. What it lists from the back is said by `rev` and by `law_back_convert`, which ask that the std iterator has two ends.
 ///
 /// ```
 /// convert(readings.into_iter())

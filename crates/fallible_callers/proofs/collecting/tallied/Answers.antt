@@ -17,13 +17,13 @@ tally_full : {S E : Type 0} {steps : S → Answered ℕ E → S → Type 0} {s :
 tally_full l i (Source e) a k is = absurd cc
 tally_full l i (Memory b) a (inl k) is = absurd k
 tally_full {E = E} {steps = steps} {s = s} l i (Memory b) a (inr k) is =
-    let d = drawn steps k.items (Ok (Some k.refused)) l s k.left i.runs k.ran in
+    let d = drawn steps k.items (Ok (Some k.refused)) l s k.after i.runs k.ran in
     let long = ap length d.list_is ∙ length-append (map (λ x. Ok x) k.items) d.rest in
     let front = length-map {B = Result ℕ E} k.items (λ x. Ok x) in
-    let behind = ap length d.left.1 in
+    let rest_is_long = ap length d.rest_is.1 in
     let made = k.is_made in
     let full = k.refuses_it in
-    omega (arith, long, front, behind, made, full)
+    omega (arith, long, front, rest_is_long, made, full)
 
 pub returns-in_err-tally-clause-memory : goal.returns-in_err-tally-clause-memory
 unfolding results

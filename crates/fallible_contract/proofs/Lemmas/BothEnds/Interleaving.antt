@@ -4,7 +4,7 @@ use Rattle.std.proofs.Common.{refl, sym, ap, subst, ◌∙◌, append_assoc}
 use Rattle.std.proofs.lemmas.List.{append-nil, reverse-append, reverse-reverse}
 use Rattle.fallible_contract.specs.Traces.{Answered, end}
 use Rattle.fallible_contract.specs.Lists.{result_answer}
-use Rattle.fallible_contract.specs.BothEnds.{TakesFirst, ListsBothEnds, step_at, RunAtEnds, answer_came, came_in_front, came_behind, Interleaves}
+use Rattle.fallible_contract.specs.BothEnds.{TakesFirst, ListsBothEnds, step_at, RunAtEnds, answer_came, came_from_front, came_from_back, Interleaves}
 use Rattle.fallible_contract.proofs.Lemmas.BothEnds.{takes_front, takes_back}
 use Rattle.fallible_contract.specs.declared.answers.Side.{Side}
 use Rattle.fallible_contract.specs.declared.answers.Side.TheVariants.{Front, Back}
@@ -19,26 +19,26 @@ module _ {A E : Type 0} where
   no_result_ends (Ok x) e = absurd cc
   no_result_ends (Err d) e = absurd cc
 
-  -- the answer of one draw, in front of what comes in front later, and of what comes behind later
+  -- the answer of one draw, before what comes from the front later, and before what comes from the back later
   abbrev with_front : Side → Answered A E → List (Result A E) → List (Result A E)
   with_front Front r m = answer_came r m
   with_front Back r m = m
 
-  abbrev with_behind : Side → Answered A E → List (Result A E) → List (Result A E)
-  with_behind Front r n = n
-  with_behind Back r n = answer_came r n
+  abbrev with_back : Side → Answered A E → List (Result A E) → List (Result A E)
+  with_back Front r n = n
+  with_back Back r n = answer_came r n
 
-  front_is : (side : Side) (r : Answered A E) (drawn : List (Side × Answered A E)) → with_front side r (came_in_front drawn) ≡ came_in_front ((side, r) ∷ drawn)
+  front_is : (side : Side) (r : Answered A E) (drawn : List (Side × Answered A E)) → with_front side r (came_from_front drawn) ≡ came_from_front ((side, r) ∷ drawn)
   front_is Front r drawn = refl
   front_is Back r drawn = refl
 
-  behind_is : (side : Side) (r : Answered A E) (drawn : List (Side × Answered A E)) → with_behind side r (came_behind drawn) ≡ came_behind ((side, r) ∷ drawn)
-  behind_is Front r drawn = refl
-  behind_is Back r drawn = refl
+  back_is : (side : Side) (r : Answered A E) (drawn : List (Side × Answered A E)) → with_back side r (came_from_back drawn) ≡ came_from_back ((side, r) ∷ drawn)
+  back_is Front r drawn = refl
+  back_is Back r drawn = refl
 
   -- What one draw took from the list l: what makes the rest makes l with its answer, and only the empty list gives an end.
   record OneTaken (l : List (Result A E)) (side : Side) (r : Answered A E) (rest : List (Result A E)) : Type 0 where
-    makes : (m w n : List (Result A E)) → rest ≡ m ++ w ++ reverse n → l ≡ with_front side r m ++ w ++ reverse (with_behind side r n)
+    makes : (m w n : List (Result A E)) → rest ≡ m ++ w ++ reverse n → l ≡ with_front side r m ++ w ++ reverse (with_back side r n)
     at_end : r ≡ end → l ≡ []
 
   end_taken : (l : List (Result A E)) (side : Side) (r : Answered A E) → l ≡ [] → r ≡ end → OneTaken l side r []
@@ -80,25 +80,25 @@ module _ {S A E : Type 0} (front back : S → Answered A E → S → Type 0) whe
 
   -- where an end was answered, later or at once, nothing was left
   empty_at_end : (l rest : List (Result A E)) (side : Side) (r : Answered A E) (drawn : List (Side × Answered A E)) → OneTaken l side r rest
-      → ((before after : List (Side × Answered A E)) (at : Side) → drawn ≡ before ++ (at, end) ∷ after → rest ≡ came_in_front before ++ reverse (came_behind before))
-      → (before after : List (Side × Answered A E)) (at : Side) → (side, r) ∷ drawn ≡ before ++ (at, end) ∷ after → l ≡ came_in_front before ++ reverse (came_behind before)
+      → ((before after : List (Side × Answered A E)) (at : Side) → drawn ≡ before ++ (at, end) ∷ after → rest ≡ came_from_front before ++ reverse (came_from_back before))
+      → (before after : List (Side × Answered A E)) (at : Side) → (side, r) ∷ drawn ≡ before ++ (at, end) ∷ after → l ≡ came_from_front before ++ reverse (came_from_back before)
   empty_at_end l rest side r drawn one later [] after at e = let same : (side, r) ≡ (at, end) = cc in one.at_end (ap (λ (d : Side × Answered A E). d.1) same)
   empty_at_end l rest side r drawn one later (d ∷ before) after at e =
       let same : (side, r) ≡ d = cc in
       let others : drawn ≡ before ++ (at, end) ∷ after = cc in
-      let made = one.makes (came_in_front before) [] (came_behind before) (later before after at others ∙ ap (λ j. j ++ reverse (came_behind before)) (sym (append-nil (came_in_front before)))) in
-      subst (λ (c : Side × Answered A E). l ≡ came_in_front (c ∷ before) ++ reverse (came_behind (c ∷ before))) same
-      (made ∙ ap (λ j. j ++ reverse (with_behind side r (came_behind before))) (append-nil (with_front side r (came_in_front before))) ∙ ap (λ j. j ++ reverse (with_behind side r (came_behind before))) (front_is side r before) ∙ ap (λ j. came_in_front ((side, r) ∷ before) ++ reverse j) (behind_is side r before))
+      let made = one.makes (came_from_front before) [] (came_from_back before) (later before after at others ∙ ap (λ j. j ++ reverse (came_from_back before)) (sym (append-nil (came_from_front before)))) in
+      subst (λ (c : Side × Answered A E). l ≡ came_from_front (c ∷ before) ++ reverse (came_from_back (c ∷ before))) same
+      (made ∙ ap (λ j. j ++ reverse (with_back side r (came_from_back before))) (append-nil (with_front side r (came_from_front before))) ∙ ap (λ j. j ++ reverse (with_back side r (came_from_back before))) (front_is side r before) ∙ ap (λ j. came_from_front ((side, r) ∷ before) ++ reverse j) (back_is side r before))
 
   interleaved : (drawn : List (Side × Answered A E)) (s t : S) (l : List (Result A E)) → ListsBothEnds front back s l → RunAtEnds front back s drawn t → Interleaves front back l drawn t
-  interleaved [] s t l i mixed = record { left = l; listed = subst (λ (u : S). ListsBothEnds front back u l) mixed i; makes = sym (append-nil l); ends = λ before after side e. absurd (no_draws before after (side, end) e) }
+  interleaved [] s t l i mixed = record { after = l; listed = subst (λ (u : S). ListsBothEnds front back u l) mixed i; makes = sym (append-nil l); ends = λ before after side e. absurd (no_draws before after (side, end) e) }
   interleaved ((side, r) ∷ drawn) s t l i mixed =
       let one = leaves side s mixed.0 r l i mixed.1 in
       let rest = interleaved drawn mixed.0 t one.0 one.1 mixed.2 in
       record {
-        left = rest.left;
+        after = rest.after;
         listed = rest.listed;
-        makes = one.2.makes (came_in_front drawn) rest.left (came_behind drawn) rest.makes ∙ ap (λ j. j ++ rest.left ++ reverse (with_behind side r (came_behind drawn))) (front_is side r drawn) ∙ ap (λ j. came_in_front ((side, r) ∷ drawn) ++ rest.left ++ reverse j) (behind_is side r drawn);
+        makes = one.2.makes (came_from_front drawn) rest.after (came_from_back drawn) rest.makes ∙ ap (λ j. j ++ rest.after ++ reverse (with_back side r (came_from_back drawn))) (front_is side r drawn) ∙ ap (λ j. came_from_front ((side, r) ∷ drawn) ++ rest.after ++ reverse j) (back_is side r drawn);
         ends = empty_at_end l one.0 side r drawn one.2 rest.ends;
       }
 

@@ -115,7 +115,7 @@ module _ {S F X R B E : Type 0} (front back : S → Answered X E → S → Type 
       let same : passed_list outcome asked ≡ passed_list outcome a.others = a.list_is ∙ ap (λ (o : Outcome B E). cons_option (outcome_listed o) (passed_list outcome a.others)) is in
       subst (λ (l : List (Result B E)). TakesFirst (λ l. Says (t, g) l) r l) (sym same) (front_taken a.others u t h g r a.listed a.steady rest)
 
--- ---- draws from behind are draws from the front of the ends swapped
+-- ---- draws from the back are draws from the front of the ends swapped
 
 module _ {S F X R B E : Type 0} (front back : S → Answered X E → S → Type 0) (call : F → X → R → F → Type 0) (outcome : X → R → Outcome B E) (never_ends : (x : X) (v : R) → outcome x v ≡ End → ⊥) where
   abbrev SaysBoth : S × F → List (Result B E) → Type 0
@@ -140,11 +140,11 @@ module _ {S F X R B E : Type 0} (front back : S → Answered X E → S → Type 
 -- ---- a closure that acts as a function
 
 -- an item beside what h makes of it
-abbrev pub beside : {X R E : Type 0} → (X → R) → Result X E → Result (X × R) E
-beside h (Ok x) = Ok (x, h x)
-beside h (Err e) = Err e
+abbrev pub with_answer : {X R E : Type 0} → (X → R) → Result X E → Result (X × R) E
+with_answer h (Ok x) = Ok (x, h x)
+with_answer h (Err e) = Err e
 
-pub source_beside : {X R E : Type 0} (h : X → R) (l : List (Result X E)) → source_list (map (beside h) l) ≡ l
+pub source_beside : {X R E : Type 0} (h : X → R) (l : List (Result X E)) → source_list (map (with_answer h) l) ≡ l
 source_beside h [] = refl
 source_beside h (Ok x ∷ l) = ap {B = List (Result _ _)} (λ k. Ok x ∷ k) (source_beside h l)
 source_beside h (Err e ∷ l) = ap {B = List (Result _ _)} (λ k. Err e ∷ k) (source_beside h l)
@@ -155,13 +155,13 @@ module _ {F X R : Type 0} (call : F → X → R → F → Type 0) (f : F) (h : X
   stays_acting [] p w = sym w
   stays_acting (c ∷ made) p w = stays_acting made p (subst (λ (g : F). Calls call g made p) (acts c.0 c.1 w.0 w.1).0 w.2)
 
-  given_acting : {E : Type 0} (q : F) (l : List (Result X E)) → All (GivesAt call f q) (items_listed (map (beside h) l))
+  given_acting : {E : Type 0} (q : F) (l : List (Result X E)) → All (GivesAt call f q) (items_listed (map (with_answer h) l))
   given_acting q [] = All-nil (GivesAt call f q)
-  given_acting q (Ok x ∷ l) = All-cons (GivesAt call f q) (x, h x) (items_listed (map (beside h) l)) (λ r called. (acts x r q called).1) (given_acting q l)
+  given_acting q (Ok x ∷ l) = All-cons (GivesAt call f q) (x, h x) (items_listed (map (with_answer h) l)) (λ r called. (acts x r q called).1) (given_acting q l)
   given_acting q (Err e ∷ l) = given_acting q l
 
-  steady_acting : {E : Type 0} (l : List (Result X E)) → Steady call f (items_listed (map (beside h) l))
-  steady_acting l = λ made p q w. subst (λ (g : F). All (GivesAt call g q) (items_listed (map (beside h) l))) (sym (stays_acting made p w)) (given_acting q l)
+  steady_acting : {E : Type 0} (l : List (Result X E)) → Steady call f (items_listed (map (with_answer h) l))
+  steady_acting l = λ made p q w. subst (λ (g : F). All (GivesAt call g q) (items_listed (map (with_answer h) l))) (sym (stays_acting made p w)) (given_acting q l)
 
 module _ {F X R B E : Type 0} (call : F → X → R → F → Type 0) (outcome : X → R → Outcome B E) (never_ends : (x : X) (v : R) → outcome x v ≡ End → ⊥) (f : F) (h : X → R) (acts : Acts call f h) where
   outcome_acting : (o : Outcome B E) → (o ≡ End → ⊥) → (l : List (Result B E)) → cons_option (outcome_listed o) l ≡ by_outcome o l
@@ -170,7 +170,7 @@ module _ {F X R B E : Type 0} (call : F → X → R → F → Type 0) (outcome :
   outcome_acting (Failure e) not_end l = refl
   outcome_acting End not_end l = absurd (not_end refl)
 
-  passed_acting : (l : List (Result X E)) → passed_list outcome (map (beside h) l) ≡ passed outcome (λ (p : Unit {0}) x. h x) (λ p x. p) tt l
+  passed_acting : (l : List (Result X E)) → passed_list outcome (map (with_answer h) l) ≡ passed outcome (λ (p : Unit {0}) x. h x) (λ p x. p) tt l
   passed_acting [] = refl
   passed_acting (Ok x ∷ l) = ap (cons_option (outcome_listed (outcome x (h x)))) (passed_acting l) ∙ outcome_acting (outcome x (h x)) (never_ends x (h x)) _
   passed_acting (Err e ∷ l) = ap {B = List (Result B E)} (λ k. Err e ∷ k) (passed_acting l)
@@ -179,4 +179,4 @@ module _ {F X R B E : Type 0} (call : F → X → R → F → Type 0) (outcome :
   pub listed_by_function : {S : Type 0} (front back : S → Answered X E → S → Type 0) (s : S) (l : List (Result X E)) → ListsBothEnds front back s l
       → ListsBothEnds (passing_step front call outcome) (passing_step back call outcome) (s, f) (passed outcome (λ (p : Unit {0}) x. h x) (λ p x. p) tt l)
   listed_by_function front back s l i = subst (λ (k : List (Result B E)). ListsBothEnds (passing_step front call outcome) (passing_step back call outcome) (s, f) k) (passed_acting l)
-      (listed_passed front back call outcome never_ends (map (beside h) l) s f (steady_acting call f h acts l) (subst (λ (k : List (Result X E)). ListsBothEnds front back s k) (sym (source_beside h l)) i))
+      (listed_passed front back call outcome never_ends (map (with_answer h) l) s f (steady_acting call f h acts l) (subst (λ (k : List (Result X E)). ListsBothEnds front back s k) (sym (source_beside h l)) i))

@@ -37,9 +37,9 @@ module _ {K : Type 0} (test : K → Bool) where
       by false h = h
 
   -- what is found passes, and is among the items
-  found_passes : (xs : List K) (y : K) → find test xs ≡ Some y → test y ≡ true
-  found_passes [] y e = absurd cc
-  found_passes (x ∷ xs) y e = by (test x) refl e (found_passes xs y)
+  found_is_true : (xs : List K) (y : K) → find test xs ≡ Some y → test y ≡ true
+  found_is_true [] y e = absurd cc
+  found_is_true (x ∷ xs) y e = by (test x) refl e (found_is_true xs y)
     where
       by : (b : Bool) → test x ≡ b → cond b (Some x) (find test xs) ≡ Some y → (find test xs ≡ Some y → test y ≡ true) → test y ≡ true
       by true t h later = let same : x ≡ y = cc in subst (λ z. test z ≡ true) same t
@@ -77,8 +77,8 @@ module _ {K : Type 0} {eq : K → K → Bool} (laws : IsEquivalence eq) where
       by true e later n = absurd (true≢false (sym t ∙ laws.congr q x y e ∙ n))
       by false e later n = later
 
-  moved : (q : K) (xs ys : List K) → IsPermutation xs ys → IsDistinct eq ys → (y : K) → find (eq q) xs ≡ Some y → find (eq q) ys ≡ Some y
-  moved q xs ys p d y e = found_is q ys d y (Contains-permutation xs ys y p (found_is_among (eq q) xs y e)) (found_passes (eq q) xs y e)
+  found_after_permutation : (q : K) (xs ys : List K) → IsPermutation xs ys → IsDistinct eq ys → (y : K) → find (eq q) xs ≡ Some y → find (eq q) ys ≡ Some y
+  found_after_permutation q xs ys p d y e = found_is q ys d y (Contains-permutation xs ys y p (found_is_among (eq q) xs y e)) (found_is_true (eq q) xs y e)
 
   -- items that differ are found whatever their order
   find_permuted : (q : K) (xs ys : List K) → IsPermutation xs ys → IsDistinct eq ys → find (eq q) ys ≡ find (eq q) xs
@@ -88,9 +88,9 @@ module _ {K : Type 0} {eq : K → K → Bool} (laws : IsEquivalence eq) where
       back = IsPermutation-sym xs ys p
 
       by : (o r : Option K) → find (eq q) xs ≡ o → find (eq q) ys ≡ r → r ≡ o
-      by (Some y) r e f = sym f ∙ moved q xs ys p d y e
+      by (Some y) r e f = sym f ∙ found_after_permutation q xs ys p d y e
       by None None e f = refl
-      by None (Some z) e f = sym (moved q ys xs back (IsDistinct-IsPermutation eq laws.symm ys xs back d) z f) ∙ e
+      by None (Some z) e f = sym (found_after_permutation q ys xs back (IsDistinct-IsPermutation eq laws.symm ys xs back d) z f) ∙ e
 
 -- ---- one more item
 
@@ -202,13 +202,13 @@ module _ {K S : Type 0} {eq : K → K → Bool} (laws : IsEquivalence eq) where
       let had = ap is_some o ∙ is_some-lookup (eq p.0) m.entries in
       let first = first_stays laws (keys_of pairs) (keys_of m.entries) (keys_of n.entries) p.0
       (λ h. stays (had ∙ h))
-      (λ h q. find_permuted laws q (p.0 ∷ keys_of m.entries) (keys_of n.entries) (moves old put (had ∙ h)) unique)
+      (λ h q. find_permuted laws q (p.0 ∷ keys_of m.entries) (keys_of n.entries) (put_permutes_keys old put (had ∙ h)) unique)
       (λ q. sym (lookup_key_is (eq q) m.entries) ∙ made.first q) in
       record {
         has_pairs = (λ q. updates.0 q ∙ update_all_push eq (λ _. None) (hash.get eq m) pairs p q (made.has_pairs.0 q), unique);
         first = λ q. lookup_key_is (eq q) n.entries ∙ first q ∙ ap (find (eq q)) (sym (map-append (λ e. e.0) pairs (p ∷ [])));
       }
     where
-      moves : (r : Option V) → hash.PutsEntry eq m n p.0 p.1 r → is_some r ≡ false → IsPermutation (p.0 ∷ keys_of m.entries) (keys_of n.entries)
-      moves None put h = IsPermutation-map (λ e. e.0) (p ∷ m.entries) n.entries put
-      moves (Some w) put h = absurd (true≢false h)
+      put_permutes_keys : (r : Option V) → hash.PutsEntry eq m n p.0 p.1 r → is_some r ≡ false → IsPermutation (p.0 ∷ keys_of m.entries) (keys_of n.entries)
+      put_permutes_keys None put h = IsPermutation-map (λ e. e.0) (p ∷ m.entries) n.entries put
+      put_permutes_keys (Some w) put h = absurd (true≢false h)

@@ -5,7 +5,7 @@ use Rattle.fallible_contract.specs.Traces.{Answered, Run, item}
 use Rattle.fallible_contract.specs.Picking.{OfEach}
 use Rattle.fallible_contract.specs.Lists.{AlwaysGives, Lists, unless_equal, compared}
 use Rattle.fallible_contract.specs.Comparing.{where_drawn, LastRound, Compared, ComparedWith, ReadWith, read_as}
-use Rattle.fallible_contract.proofs.Lemmas.Lists.Drawn.{LeftAt, left_at}
+use Rattle.fallible_contract.proofs.Lemmas.Lists.Drawn.{RestAt, rest_at}
 use Rattle.std.specs.declared.cmp.Ordering.{Ordering}
 use Rattle.std.specs.declared.cmp.Ordering.TheVariants.{Less, Equal, Greater}
 
@@ -25,9 +25,9 @@ module _ {A E : Type 0} (rule : A → A → Option Ordering) where
   -- what is left of the second list at the last round
   abbrev pub RightLeft : Option (Answered A E) → List (Result A E) → Type 0
   RightLeft None b = b ≡ b
-  RightLeft (Some y) b = LeftAt y b
+  RightLeft (Some y) b = RestAt y b
 
-  pub last_round : (x : Answered A E) (y : Option (Answered A E)) (r : Result (Option Ordering) E) (a b : List (Result A E)) → LeftAt x a → RightLeft y b → LastRound rule x y r → r ≡ compared rule a b
+  pub last_round : (x : Answered A E) (y : Option (Answered A E)) (r : Result (Option Ordering) E) (a b : List (Result A E)) → RestAt x a → RightLeft y b → LastRound rule x y r → r ≡ compared rule a b
   unfolding compared
   last_round (Err e) None r a b p q exit = exit ∙ sym (ap (λ l. compared rule l b) p.1)
   last_round (Err e) (Some y) r a b p q exit = absurd exit
@@ -43,12 +43,12 @@ module _ {A E : Type 0} (rule : A → A → Option Ordering) where
   module _ {T : Type 0} (right-steps : T → Answered A E → T → Type 0) where
     pub right_left : (y : Option (Answered A E)) (b : List (Result A E)) (t v : T) → AlwaysGives right-steps t b → Run right-steps t (where_drawn y) v → RightLeft y b
     right_left None b t v gives ran = refl
-    right_left (Some y) b t v gives ran = left_at right-steps y b t ran.0 gives ran.1
+    right_left (Some y) b t v gives ran = rest_at right-steps y b t ran.0 gives ran.1
 
   module _ {S T : Type 0} (left-steps : S → Answered A E → S → Type 0) (right-steps : T → Answered A E → T → Type 0) where
     compared_from : (pairs : List (A × A)) (x : Answered A E) (y : Option (Answered A E)) (r : Result (Option Ordering) E) (a b : List (Result A E)) (s u : S) (t v : T) → OfEach (λ p. rule p.0 p.1 ≡ Some Equal) pairs → AlwaysGives left-steps s a → AlwaysGives right-steps t b → Run left-steps s (map item (map (λ p. p.0) pairs) ++ x ∷ []) u → Run right-steps t (map item (map (λ p. p.1) pairs) ++ where_drawn y) v → LastRound rule x y r → r ≡ compared rule a b
     unfolding compared
-    compared_from [] x y r a b s u t v equal gives given ran run exit = last_round x y r a b (left_at left-steps x a s ran.0 gives ran.1) (right_left right-steps y b t v given run) exit
+    compared_from [] x y r a b s u t v equal gives given ran run exit = last_round x y r a b (rest_at left-steps x a s ran.0 gives ran.1) (right_left right-steps y b t v given run) exit
     compared_from (p ∷ pairs) x y r a b s u t v equal gives given ran run exit =
         let i = gives_item left-steps a s ran.0 p.0 gives ran.1 in
         let j = gives_item right-steps b t run.0 p.1 given run.1 in

@@ -4,7 +4,7 @@ use Rattle.std.specs.List.{FoldsTo, last_or}
 use Rattle.std.proofs.Common.{refl, sym, ap, subst, ◌∙◌, arith}
 use Rattle.fallible_contract.specs.Traces.{Answered, Run, item}
 use Rattle.fallible_contract.specs.Folds.{Counted, CountExit, LastOf, LastExit, Nth, NthExit, went_on_with, FoldExit, Folded, ReduceCall}
-use Rattle.fallible_contract.specs.Collecting.{Collects, MadeOfParts}
+use Rattle.fallible_contract.specs.Collecting.{Collects, MadeOfPairs}
 use Rattle.fallible_contract.specs.Lists.{AlwaysGives, Lists, one_more_than, counted, last_of, nth_of, before, collected, CollectedBy, CollectedAs, MadeOf, UnzippedAs, on_value, folded, ActsWith, Converts, reduce_of, reduced}
 use Rattle.std.specs.declared.alloc.AllocError.{AllocError}
 use Rattle.fallible_contract.specs.declared.collecting.Fault.{Fault}
@@ -12,35 +12,35 @@ use Rattle.fallible_contract.specs.declared.collecting.Fault.TheVariants.{Source
 
 module _ {A E : Type 0} where
   -- what is left of the list at the last answer that was drawn
-  abbrev pub LeftAt : Answered A E → List (Result A E) → Type 0
-  LeftAt (Ok (Some x)) l = (rest : List (Result A E)) × (l ≡ Ok x ∷ rest)
-  LeftAt (Ok None) l = l ≡ []
-  LeftAt (Err e) l = (rest : List (Result A E)) × (l ≡ Err e ∷ rest)
+  abbrev pub RestAt : Answered A E → List (Result A E) → Type 0
+  RestAt (Ok (Some x)) l = (rest : List (Result A E)) × (l ≡ Ok x ∷ rest)
+  RestAt (Ok None) l = l ≡ []
+  RestAt (Err e) l = (rest : List (Result A E)) × (l ≡ Err e ∷ rest)
 
   module _ {S : Type 0} (steps : S → Answered A E → S → Type 0) where
-    pub left_at : (last : Answered A E) (l : List (Result A E)) (s t : S) → AlwaysGives steps s l → steps s last t → LeftAt last l
-    left_at (Ok None) [] s t a w = refl
-    left_at (Ok (Some x)) [] s t a w = absurd (let h = a (Ok (Some x)) t w in cc)
-    left_at (Err e) [] s t a w = absurd (let h = a (Err e) t w in cc)
-    left_at (Ok None) (Ok y ∷ l) s t a w = absurd (let h = (a (Ok None) t w).0 in cc)
-    left_at (Ok None) (Err y ∷ l) s t a w = absurd (let h = (a (Ok None) t w).0 in cc)
-    left_at (Ok (Some x)) (Ok y ∷ l) s t a w = (l, let h = (a (Ok (Some x)) t w).0 in cc)
-    left_at (Ok (Some x)) (Err y ∷ l) s t a w = absurd (let h = (a (Ok (Some x)) t w).0 in cc)
-    left_at (Err e) (Ok y ∷ l) s t a w = absurd (let h = (a (Err e) t w).0 in cc)
-    left_at (Err e) (Err y ∷ l) s t a w = (l, let h = (a (Err e) t w).0 in cc)
+    pub rest_at : (last : Answered A E) (l : List (Result A E)) (s t : S) → AlwaysGives steps s l → steps s last t → RestAt last l
+    rest_at (Ok None) [] s t a w = refl
+    rest_at (Ok (Some x)) [] s t a w = absurd (let h = a (Ok (Some x)) t w in cc)
+    rest_at (Err e) [] s t a w = absurd (let h = a (Err e) t w in cc)
+    rest_at (Ok None) (Ok y ∷ l) s t a w = absurd (let h = (a (Ok None) t w).0 in cc)
+    rest_at (Ok None) (Err y ∷ l) s t a w = absurd (let h = (a (Ok None) t w).0 in cc)
+    rest_at (Ok (Some x)) (Ok y ∷ l) s t a w = (l, let h = (a (Ok (Some x)) t w).0 in cc)
+    rest_at (Ok (Some x)) (Err y ∷ l) s t a w = absurd (let h = (a (Ok (Some x)) t w).0 in cc)
+    rest_at (Err e) (Ok y ∷ l) s t a w = absurd (let h = (a (Err e) t w).0 in cc)
+    rest_at (Err e) (Err y ∷ l) s t a w = (l, let h = (a (Err e) t w).0 in cc)
 
     -- the list is the items that were drawn, and what was left at the last answer
     pub record Drawn (items : List A) (last : Answered A E) (l : List (Result A E)) : Type 0 where
       pub rest : List (Result A E)
       pub list_is : l ≡ map (λ x. Ok x) items ++ rest
-      pub left : LeftAt last rest
+      pub rest_is : RestAt last rest
 
     pub drawn : (items : List A) (last : Answered A E) (l : List (Result A E)) (s t : S) → AlwaysGives steps s l → Run steps s (map item items ++ last ∷ []) t → Drawn items last l
-    drawn [] last l s t a ran = record { rest = l; list_is = refl; left = left_at last l s ran.0 a ran.1 }
+    drawn [] last l s t a ran = record { rest = l; list_is = refl; rest_is = rest_at last l s ran.0 a ran.1 }
     drawn (x ∷ items) last [] s t a ran = absurd (let h = a (Ok (Some x)) ran.0 ran.1 in cc)
     drawn (x ∷ items) last (Err y ∷ l) s t a ran = absurd (let h = (a (Ok (Some x)) ran.0 ran.1).0 in cc)
     drawn (x ∷ items) last (Ok y ∷ l) s t a ran = let h = a (Ok (Some x)) ran.0 ran.1 in let d = drawn items last l ran.0 t h.1 ran.2 in
-        record { rest = d.rest; list_is = (let same : y ≡ x = (let q = h.0 in cc) in let is = d.list_is in cc); left = d.left }
+        record { rest = d.rest; list_is = (let same : y ≡ x = (let q = h.0 in cc) in let is = d.list_is in cc); rest_is = d.rest_is }
 
   -- ---- count
 
@@ -54,14 +54,14 @@ module _ {A E : Type 0} where
   failed_front [] rest e is = is
   failed_front (x ∷ items) rest e is = ap one_more_than (failed_front items rest e is)
 
-  counted_by : (items : List A) (last : Answered A E) (r : Result ℕ E) (l rest : List (Result A E)) → l ≡ map (λ x. Ok x) items ++ rest → LeftAt last rest → CountExit (length items) last r → r ≡ counted l
+  counted_by : (items : List A) (last : Answered A E) (r : Result ℕ E) (l rest : List (Result A E)) → l ≡ map (λ x. Ok x) items ++ rest → RestAt last rest → CountExit (length items) last r → r ≡ counted l
   unfolding counted
-  counted_by items (Ok None) r l rest is left exit = exit ∙ ap (λ k. Ok k) (omega arith) ∙ sym (counted_front items rest 0 (ap counted left)) ∙ ap counted (sym is)
-  counted_by items (Err e) r l rest is left exit = exit ∙ sym (failed_front items rest e (ap counted left.1)) ∙ ap counted (sym is)
-  counted_by items (Ok (Some x)) r l rest is left exit = absurd exit
+  counted_by items (Ok None) r l rest is rest_is exit = exit ∙ ap (λ k. Ok k) (omega arith) ∙ sym (counted_front items rest 0 (ap counted rest_is)) ∙ ap counted (sym is)
+  counted_by items (Err e) r l rest is rest_is exit = exit ∙ sym (failed_front items rest e (ap counted rest_is.1)) ∙ ap counted (sym is)
+  counted_by items (Ok (Some x)) r l rest is rest_is exit = absurd exit
 
 pub counted_is : {S A E : Type 0} {steps : S → Answered A E → S → Type 0} {s : S} {r : Result ℕ E} (l : List (Result A E)) → Counted steps s r → Lists steps s l → r ≡ counted l
-counted_is {steps = steps} {s = s} {r = r} l c i = let w = c.1 in let d = drawn steps w.items w.last l s c.0 i.runs w.ran in counted_by w.items w.last r l d.rest d.list_is d.left w.at.exit
+counted_is {steps = steps} {s = s} {r = r} l c i = let w = c.1 in let d = drawn steps w.items w.last l s c.0 i.runs w.ran in counted_by w.items w.last r l d.rest d.list_is d.rest_is w.at.exit
 
 -- ---- collect
 
@@ -78,10 +78,10 @@ module _ {A E : Type 0} where
 
 module _ {S A E C : Type 0} {steps : S → Answered A E → S → Type 0} (made : List A → C → Type 0) (empty_refuses : Type 0) (refuses : C → A → Type 0) {s : S} where
   collected_by : (r : Result C (Fault E)) (l : List (Result A E)) → Collects steps made empty_refuses refuses s r → Lists steps s l → CollectedBy made l r
-  collected_by (Ok c) l k i = let d = drawn steps k.items (Ok None) l s k.left i.runs k.ran in
-      (k.items, ap collected d.list_is ∙ ap (λ (rest : _). collected (map (λ x. Ok x) k.items ++ rest)) d.left ∙ collected_items k.items, k.is_made)
-  collected_by (Err (Source e)) l k i = let d = drawn steps k.items (Err e) l s k.left i.runs k.ran in
-      ap collected d.list_is ∙ ap (λ (rest : _). collected (map (λ x. Ok x) k.items ++ rest)) d.left.1 ∙ collected_failure k.items d.left.0 e
+  collected_by (Ok c) l k i = let d = drawn steps k.items (Ok None) l s k.after i.runs k.ran in
+      (k.items, ap collected d.list_is ∙ ap (λ (rest : _). collected (map (λ x. Ok x) k.items ++ rest)) d.rest_is ∙ collected_items k.items, k.is_made)
+  collected_by (Err (Source e)) l k i = let d = drawn steps k.items (Err e) l s k.after i.runs k.ran in
+      ap collected d.list_is ∙ ap (λ (rest : _). collected (map (λ x. Ok x) k.items ++ rest)) d.rest_is.1 ∙ collected_failure k.items d.rest_is.0 e
   collected_by (Err (Memory a)) l k i = tt
 
   pub collected_as : (r : Result C (Fault E)) (l : List (Result A E)) → Collects steps made empty_refuses refuses s r → Lists steps s l → CollectedAs made l r
@@ -89,9 +89,9 @@ module _ {S A E C : Type 0} {steps : S → Answered A E → S → Type 0} (made 
   collected_as r l k i = collected_by r l k i
 
 module _ {S A B E C D : Type 0} {steps : S → Answered (A × B) E → S → Type 0} (made_first : List A → C → Type 0) (made_second : List B → D → Type 0) (empty_refuses : Type 0) (refuses : C × D → A × B → Type 0) {s : S} where
-  pub unzipped_as : (r : Result (C × D) (Fault E)) (l : List (Result (A × B) E)) → Collects steps (MadeOfParts made_first made_second) empty_refuses refuses s r → Lists steps s l → UnzippedAs made_first made_second l r
+  pub unzipped_as : (r : Result (C × D) (Fault E)) (l : List (Result (A × B) E)) → Collects steps (MadeOfPairs made_first made_second) empty_refuses refuses s r → Lists steps s l → UnzippedAs made_first made_second l r
   unfolding UnzippedAs
-  unzipped_as r l k i = collected_by (MadeOfParts made_first made_second) empty_refuses refuses r l k i
+  unzipped_as r l k i = collected_by (MadeOfPairs made_first made_second) empty_refuses refuses r l k i
 
 -- want of memory says nothing of the list
 pub not_unzipped_as : {A B E C D : Type 0} (made_first : List A → C → Type 0) (made_second : List B → D → Type 0) (l : List (Result (A × B) E)) (a : AllocError) → UnzippedAs made_first made_second l (Err (Memory a))
@@ -108,7 +108,7 @@ unfolding CollectedAs
 contents_collected made l c w = rw w.1 w.2
 
 -- two collections are made of the parts of what is collected
-pub contents_unzipped : {A B E C D : Type 0} (made_first : List A → C → Type 0) (made_second : List B → D → Type 0) (l : List (Result (A × B) E)) (c : C × D) → UnzippedAs made_first made_second l (Ok c) → MadeOf (MadeOfParts made_first made_second) (collected l) c
+pub contents_unzipped : {A B E C D : Type 0} (made_first : List A → C → Type 0) (made_second : List B → D → Type 0) (l : List (Result (A × B) E)) (c : C × D) → UnzippedAs made_first made_second l (Ok c) → MadeOf (MadeOfPairs made_first made_second) (collected l) c
 unfolding UnzippedAs
 contents_unzipped made_first made_second l c w = rw w.1 w.2
 
@@ -120,19 +120,19 @@ failure_collected made l w is = subst (λ (r : Result _ (Fault _)). CollectedBy 
 -- and so is that which `unzip` answers
 pub failure_unzipped : {A B E C D : Type 0} (made_first : List A → C → Type 0) (made_second : List B → D → Type 0) (l : List (Result (A × B) E)) {r : Result (C × D) (Fault E)} {e : E} → UnzippedAs made_first made_second l r → r ≡ Err (Source e) → collected l ≡ Err e
 unfolding UnzippedAs
-failure_unzipped made_first made_second l w is = subst (λ (r : Result _ (Fault _)). CollectedBy (MadeOfParts made_first made_second) l r) is w
+failure_unzipped made_first made_second l w is = subst (λ (r : Result _ (Fault _)). CollectedBy (MadeOfPairs made_first made_second) l r) is w
 
 -- ---- last
 
 module _ {A E : Type 0} where
-  last_by : (items : List A) (last : Answered A E) (r : Result (Option A) E) (l rest : List (Result A E)) → l ≡ map (λ x. Ok x) items ++ rest → LeftAt last rest → LastExit items last r → r ≡ last_of l
+  last_by : (items : List A) (last : Answered A E) (r : Result (Option A) E) (l rest : List (Result A E)) → l ≡ map (λ x. Ok x) items ++ rest → RestAt last rest → LastExit items last r → r ≡ last_of l
   unfolding last_of
-  last_by items (Ok None) r l rest is left exit = exit ∙ sym (ap (λ (w : Result (List A) E). on_value w (λ xs. Ok (last_or None xs))) (ap collected is ∙ ap (λ (k : List (Result A E)). collected (map (λ x. Ok x) items ++ k)) left ∙ collected_items items))
-  last_by items (Err e) r l rest is left exit = exit ∙ sym (ap (λ (w : Result (List A) E). on_value w (λ xs. Ok (last_or None xs))) (ap collected is ∙ ap (λ (k : List (Result A E)). collected (map (λ x. Ok x) items ++ k)) left.1 ∙ collected_failure items left.0 e))
-  last_by items (Ok (Some x)) r l rest is left exit = absurd exit
+  last_by items (Ok None) r l rest is rest_is exit = exit ∙ sym (ap (λ (w : Result (List A) E). on_value w (λ xs. Ok (last_or None xs))) (ap collected is ∙ ap (λ (k : List (Result A E)). collected (map (λ x. Ok x) items ++ k)) rest_is ∙ collected_items items))
+  last_by items (Err e) r l rest is rest_is exit = exit ∙ sym (ap (λ (w : Result (List A) E). on_value w (λ xs. Ok (last_or None xs))) (ap collected is ∙ ap (λ (k : List (Result A E)). collected (map (λ x. Ok x) items ++ k)) rest_is.1 ∙ collected_failure items rest_is.0 e))
+  last_by items (Ok (Some x)) r l rest is rest_is exit = absurd exit
 
 pub last_is : {S A E : Type 0} {steps : S → Answered A E → S → Type 0} {s : S} {r : Result (Option A) E} (l : List (Result A E)) → LastOf steps s r → Lists steps s l → r ≡ last_of l
-last_is {steps = steps} {s = s} {r = r} l c i = let w = c.1 in let d = drawn steps w.items w.last l s c.0 i.runs w.ran in last_by w.items w.last r l d.rest d.list_is d.left w.at.exit
+last_is {steps = steps} {s = s} {r = r} l c i = let w = c.1 in let d = drawn steps w.items w.last l s c.0 i.runs w.ran in last_by w.items w.last r l d.rest d.list_is d.rest_is w.at.exit
 
 -- ---- nth
 
@@ -148,16 +148,16 @@ module _ {A E : Type 0} where
   nth_failure zero e l = refl
   nth_failure (suc n) e l = refl
 
-  nth_left : (n skipped : ℕ) (r : Answered A E) (rest : List (Result A E)) → NthExit n skipped r → LeftAt r rest → (k : ℕ) × (n ≡ skipped + k) × (nth_of k rest ≡ r)
+  nth_of_rest : (n skipped : ℕ) (r : Answered A E) (rest : List (Result A E)) → NthExit n skipped r → RestAt r rest → (k : ℕ) × (n ≡ skipped + k) × (nth_of k rest ≡ r)
   unfolding nth_of
-  nth_left n skipped (Ok (Some x)) rest exit left = (0, omega (arith, exit), ap (nth_of 0) left.1)
-  nth_left n skipped (Ok None) rest exit left = (n - skipped, omega (arith, exit), ap (nth_of (n - skipped)) left)
-  nth_left n skipped (Err e) rest exit left = (n - skipped, omega (arith, exit), ap (nth_of (n - skipped)) left.1 ∙ nth_failure (n - skipped) e left.0)
+  nth_of_rest n skipped (Ok (Some x)) rest exit rest_is = (0, omega (arith, exit), ap (nth_of 0) rest_is.1)
+  nth_of_rest n skipped (Ok None) rest exit rest_is = (n - skipped, omega (arith, exit), ap (nth_of (n - skipped)) rest_is)
+  nth_of_rest n skipped (Err e) rest exit rest_is = (n - skipped, omega (arith, exit), ap (nth_of (n - skipped)) rest_is.1 ∙ nth_failure (n - skipped) e rest_is.0)
 
 pub nth_is : {S A E : Type 0} {steps : S → Answered A E → S → Type 0} {s t : S} {n : ℕ} {r : Answered A E} (l : List (Result A E)) → Nth steps s n r t → Lists steps s l → r ≡ nth_of n l
 nth_is {steps = steps} {s = s} {t = t} {n = n} {r = r} l c i =
     let d = drawn steps c.items r l s t i.runs (subst (λ (q : Answered _ _). Run steps s (map item c.items ++ q ∷ []) t) c.at.is c.ran) in
-    let h = nth_left n (length c.items) r d.rest c.at.exit d.left in
+    let h = nth_of_rest n (length c.items) r d.rest c.at.exit d.rest_is in
     sym (ap (nth_of n) d.list_is ∙ nth_front c.items d.rest n h.0 h.1 ∙ h.2)
 
 -- ---- try_fold and fold
@@ -173,19 +173,19 @@ module _ {A E F B E' : Type 0} (call : F → B → A → Result B E' → F → T
       let d = folded_front items rest (went.0).0 v g others in
       (d.0, ap (λ (w : Result B E'). on_value w (λ c. folded convert h c (map (λ x. Ok x) items ++ rest))) (sym a.1) ∙ d.1)
 
-  folded_left : (last : Answered A E) (v : B) (r : Result B E') (rest : List (Result A E)) → FoldExit call from v f last r → LeftAt last rest → r ≡ folded convert h v rest
+  folded_rest : (last : Answered A E) (v : B) (r : Result B E') (rest : List (Result A E)) → FoldExit call from v f last r → RestAt last rest → r ≡ folded convert h v rest
   unfolding folded
-  folded_left (Ok None) v r rest exit left = exit ∙ sym (ap (folded convert h v) left)
-  folded_left (Err e) v r rest exit left = exit.2 ∙ ap (λ (k : E'). Err k) (converts e exit.0 exit.1) ∙ sym (ap (folded convert h v) left.1)
-  folded_left (Ok (Some x)) v r rest exit left =
+  folded_rest (Ok None) v r rest exit rest_is = exit ∙ sym (ap (folded convert h v) rest_is)
+  folded_rest (Err e) v r rest exit rest_is = exit.2 ∙ ap (λ (k : E'). Err k) (converts e exit.0 exit.1) ∙ sym (ap (folded convert h v) rest_is.1)
+  folded_rest (Ok (Some x)) v r rest exit rest_is =
       let a = acts v x (Err exit.1) exit.0 exit.2 in
-      exit.3 ∙ ap (λ (w : Result B E'). on_value w (λ c. folded convert h c left.0)) a.1 ∙ sym (ap (folded convert h v) left.1)
+      exit.3 ∙ ap (λ (w : Result B E'). on_value w (λ c. folded convert h c rest_is.0)) a.1 ∙ sym (ap (folded convert h v) rest_is.1)
 
   pub folded_is : {S : Type 0} {steps : S → Answered A E → S → Type 0} {s t : S} {b : B} {r : Result B E'} (l : List (Result A E)) → Folded steps call from s b f r t → Lists steps s l → r ≡ folded convert h b l
   folded_is {steps = steps} {s = s} {t = t} {b = b} {r = r} l c i =
       let d = drawn steps c.items c.last l s t i.runs c.ran in
       let p = folded_front c.items d.rest b c.at.value c.at.closure c.at.went in
-      folded_left c.last c.at.value r d.rest (subst (λ (g : F). FoldExit call from c.at.value g c.last r) p.0 c.at.exit) d.left ∙ sym (ap (folded convert h b) d.list_is ∙ p.1)
+      folded_rest c.last c.at.value r d.rest (subst (λ (g : F). FoldExit call from c.at.value g c.last r) p.0 c.at.exit) d.rest_is ∙ sym (ap (folded convert h b) d.list_is ∙ p.1)
 
 -- ---- a fold from the first item on
 

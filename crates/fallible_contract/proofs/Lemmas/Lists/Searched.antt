@@ -4,17 +4,17 @@ use Rattle.std.specs.List.{FoldsTo}
 use Rattle.std.proofs.Common.{sym, ap, subst, ◌∙◌, arith}
 use Rattle.fallible_contract.specs.Traces.{Answered}
 use Rattle.fallible_contract.specs.Lists.{Lists, Acts, decided, picked_or, searched, all_of, any_of, find_mapped, found, position_in, each_done}
-use Rattle.fallible_contract.specs.Searching.{Passed, Decided, SearchExit, Searched, all_pick, any_pick, find_map_pick, find_pick, position_pick, each_pick}
-use Rattle.fallible_contract.proofs.Lemmas.Lists.Drawn.{LeftAt, drawn}
+use Rattle.fallible_contract.specs.Searching.{WentOn, Decided, SearchExit, Searched, all_pick, any_pick, find_map_pick, find_pick, position_pick, each_pick}
+use Rattle.fallible_contract.proofs.Lemmas.Lists.Drawn.{RestAt, drawn}
 
 module _ {A E F V R : Type 0} (call : F → A → Result V E → F → Type 0) (pick : ℕ → A → V → Option R) (none : R) (h : A → Result V E) (f : F) (acts : Acts call f h) where
   -- the search went on over the items, and the closure stayed as it is
-  searched_front : (items : List A) (rest : List (Result A E)) (n : ℕ) (g : F) → FoldsTo (Passed call pick) f items g → (g ≡ f) × (searched pick none h n (map (λ x. Ok x) items ++ rest) ≡ searched pick none h (n + length items) rest)
+  searched_front : (items : List A) (rest : List (Result A E)) (n : ℕ) (g : F) → FoldsTo (WentOn call pick) f items g → (g ≡ f) × (searched pick none h n (map (λ x. Ok x) items ++ rest) ≡ searched pick none h (n + length items) rest)
   unfolding searched
   searched_front [] rest n g went = (sym went, ap (λ k. searched pick none h k rest) (omega arith))
   searched_front (x ∷ items) rest n g went =
       let a = acts x (Ok (went.1).0) went.0 (went.1).1 in
-      let others : FoldsTo (Passed call pick) f items g = subst (λ (k : F). FoldsTo (Passed call pick) k items g) a.0 went.2 in
+      let others : FoldsTo (WentOn call pick) f items g = subst (λ (k : F). FoldsTo (WentOn call pick) k items g) a.0 went.2 in
       let d = searched_front items rest (n + 1) g others in
       (d.0, ap (λ (w : Result V E). decided (pick n x) w (searched pick none h (n + 1) (map (λ y. Ok y) items ++ rest))) (sym a.1) ∙ ap (λ (w : Option R). picked_or w (searched pick none h (n + 1) (map (λ y. Ok y) items ++ rest))) ((went.1).2 n) ∙ d.1 ∙ ap (λ k. searched pick none h k rest) (omega arith))
 
@@ -23,17 +23,17 @@ module _ {A E F V R : Type 0} (call : F → A → Result V E → F → Type 0) (
   searched_item n x (Ok z) g l d = let a = acts x (Ok d.0) g d.1 in sym (ap (λ (w : Result V E). decided (pick n x) w (searched pick none h (n + 1) l)) (sym a.1) ∙ ap (λ (w : Option R). picked_or w (searched pick none h (n + 1) l)) d.2)
   searched_item n x (Err e) g l d = let a = acts x (Err e) g d in ap (λ (w : Result V E). decided (pick n x) w (searched pick none h (n + 1) l)) a.1
 
-  searched_left : (last : Answered A E) (n : ℕ) (r : Result R E) (g : F) (rest : List (Result A E)) → SearchExit call pick none n f last r g → LeftAt last rest → r ≡ searched pick none h n rest
+  searched_rest : (last : Answered A E) (n : ℕ) (r : Result R E) (g : F) (rest : List (Result A E)) → SearchExit call pick none n f last r g → RestAt last rest → r ≡ searched pick none h n rest
   unfolding searched
-  searched_left (Ok None) n r g rest exit left = exit.0 ∙ sym (ap (searched pick none h n) left)
-  searched_left (Err e) n r g rest exit left = exit.0 ∙ sym (ap (searched pick none h n) left.1)
-  searched_left (Ok (Some x)) n r g rest exit left = searched_item n x r g left.0 exit ∙ sym (ap (searched pick none h n) left.1)
+  searched_rest (Ok None) n r g rest exit rest_is = exit.0 ∙ sym (ap (searched pick none h n) rest_is)
+  searched_rest (Err e) n r g rest exit rest_is = exit.0 ∙ sym (ap (searched pick none h n) rest_is.1)
+  searched_rest (Ok (Some x)) n r g rest exit rest_is = searched_item n x r g rest_is.0 exit ∙ sym (ap (searched pick none h n) rest_is.1)
 
   pub searched_is : {S : Type 0} {steps : S → Answered A E → S → Type 0} {s t : S} {g : F} {r : Result R E} (l : List (Result A E)) → Searched call pick steps none s f r t g → Lists steps s l → r ≡ searched pick none h 0 l
   searched_is {steps = steps} {s = s} {t = t} {g = g} {r = r} l c i =
       let d = drawn steps c.items c.last l s t i.runs c.ran in
       let p = searched_front c.items d.rest 0 c.at.closure c.at.went in
-      searched_left c.last (length c.items) r g d.rest (subst (λ (k : F). SearchExit call pick none (length c.items) k c.last r g) p.0 c.at.exit) d.left ∙ ap (λ k. searched pick none h k d.rest) (omega arith) ∙ sym (ap (searched pick none h 0) d.list_is ∙ p.1)
+      searched_rest c.last (length c.items) r g d.rest (subst (λ (k : F). SearchExit call pick none (length c.items) k c.last r g) p.0 c.at.exit) d.rest_is ∙ ap (λ k. searched pick none h k d.rest) (omega arith) ∙ sym (ap (searched pick none h 0) d.list_is ∙ p.1)
 
 module _ {S A E F : Type 0} {steps : S → Answered A E → S → Type 0} {s t : S} {f g : F} (l : List (Result A E)) (i : Lists steps s l) where
   pub all_is : {call : F → A → Result Bool E → F → Type 0} (h : A → Result Bool E) {r : Result Bool E} → Acts call f h → Searched call all_pick steps true s f r t g → r ≡ all_of h l

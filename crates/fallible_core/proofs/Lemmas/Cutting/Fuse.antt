@@ -17,9 +17,9 @@ fuse_law steps p trace q = let law = closing_law steps (λ r. r) is_end p.0 p.1 
 
 -- ---- what it lists
 
-no_end : {A E : Type 0} (y : Result A E) → is_end (result_answer y) ≡ false
-no_end (Ok x) = refl
-no_end (Err e) = refl
+result_no_end : {A E : Type 0} (y : Result A E) → is_end (result_answer y) ≡ false
+result_no_end (Ok x) = refl
+result_no_end (Err e) = refl
 
 module _ {S A E : Type 0} (steps : S → Answered A E → S → Type 0) where
   abbrev fused_step : S × Bool → Answered A E → S × Bool → Type 0
@@ -27,7 +27,7 @@ module _ {S A E : Type 0} (steps : S → Answered A E → S → Type 0) where
 
   fused_gives : (l : List (Result A E)) (s : S) → AlwaysGives steps s l → AlwaysGives fused_step (s, false) l
   fused_gives [] s a = λ r t w. w.2 ∙ a w.0 t.0 w.1
-  fused_gives (y ∷ l) s a = λ r t w. let d = a w.0 t.0 w.1 in (w.2 ∙ d.0, subst (λ (b : Bool). AlwaysGives fused_step (t.0, b) l) (sym (w.3 ∙ ap is_end d.0 ∙ no_end y)) (fused_gives l t.0 d.1))
+  fused_gives (y ∷ l) s a = λ r t w. let d = a w.0 t.0 w.1 in (w.2 ∙ d.0, subst (λ (b : Bool). AlwaysGives fused_step (t.0, b) l) (sym (w.3 ∙ ap is_end d.0 ∙ result_no_end y)) (fused_gives l t.0 d.1))
 
 pub lists_fused : {S A E : Type 0} (m : Contract S A E) (s : Fuse S) (l : List (Result A E)) → fuse_parts s ≡ (s.it, false) → Lists m.steps s.it l → Lists (seen_as fuse_parts (fuse_contract m)).steps s l
 lists_fused m s l parts i = lists_seen fuse_parts (fuse_contract m).steps s parts refl (fused_gives m.steps l s.it i.runs)
@@ -49,7 +49,7 @@ module _ {S A E : Type 0} (steps : S → Answered A E → S → Type 0) where
 
   fused_for_good : (l : List (Result A E)) (s : S) → AlwaysGives steps s l → GivesForGood (fused_step steps) (s, false) l
   fused_for_good [] s a = record { each = λ trace t u r ran w. ends_after trace s t u r a ran w }
-  fused_for_good (y ∷ l) s a = λ r t w. let d = a w.0 t.0 w.1 in (w.2 ∙ d.0, subst (λ (b : Bool). GivesForGood (fused_step steps) (t.0, b) l) (sym (w.3 ∙ ap is_end d.0 ∙ no_end y)) (fused_for_good l t.0 d.1))
+  fused_for_good (y ∷ l) s a = λ r t w. let d = a w.0 t.0 w.1 in (w.2 ∙ d.0, subst (λ (b : Bool). GivesForGood (fused_step steps) (t.0, b) l) (sym (w.3 ∙ ap is_end d.0 ∙ result_no_end y)) (fused_for_good l t.0 d.1))
 
 pub lists_fused_for_good : {S A E : Type 0} (m : Contract S A E) (s : Fuse S) (l : List (Result A E)) → fuse_parts s ≡ (s.it, false) → Lists m.steps s.it l → ListsForGood (seen_as fuse_parts (fuse_contract m)).steps s l
 lists_fused_for_good m s l parts i = lists_for_good_seen fuse_parts (fuse_contract m).steps s parts refl (fused_for_good m.steps l s.it i.runs)

@@ -7,10 +7,10 @@ use Rattle.fallible_contract.specs.Contract.{Contract, seen_as}
 use Rattle.fallible_contract.specs.Lists.{AlwaysGives, Lists}
 use Rattle.fallible_contract.proofs.Lemmas.Lists.Passing.{lists_seen}
 use Rattle.fallible_contract.proofs.Lemmas.LawForm.{IsByAnswers, runs_by_answers}
-use Rattle.fallible_contract.proofs.Lemmas.Counting.{Fits, Leaves, none, keeps_item, keeps_end, keeps_failure, nothing_left, then_others, first_apart, by_number, from_number}
+use Rattle.fallible_contract.proofs.Lemmas.ByNumber.{Fits, Leaves, none, keeps_item, keeps_end, keeps_failure, leaves_nothing, leaves_then, leaves_split, by_number, from_number}
 use Rattle.fallible_core.specs.Cutting.Skip.{SkipTrace, skip_step, skip_parts, skip_contract, skipped}
 use Rattle.fallible_core.specs.Cutting.StepBy.{stepped}
-use Rattle.fallible_core.proofs.Lemmas.Cutting.Counting.{leaves_one, stepped_gives}
+use Rattle.fallible_core.proofs.Lemmas.Cutting.ByNumber.{leaves_one, stepped_gives}
 use Rattle.fallible_core.specs.declared.cutting.skip.Skip.{Skip}
 
 -- the items up to the n-th are left out
@@ -40,7 +40,7 @@ module _ {S A E : Type 0} (steps : S → Answered A E → S → Type 0) where
 
   skip_nothing : (p q : S × ℕ) → SkipTrace steps p [] q ↔ (p ≡ q)
   skip_nothing (s, n) (t, k) = (
-    (λ d. let h = nothing_left steps 0 (skip_leaves {p = (s, n)} {q = (t, k)} d) in rw (h.0, h.1) refl),
+    (λ d. let h = leaves_nothing steps 0 (skip_leaves {p = (s, n)} {q = (t, k)} d) in rw (h.0, h.1) refl),
     (λ e. leaves_skip {p = (s, n)} {q = (t, k)} (let h : s ≡ t = ap (λ z. z.0) e in let i : n ≡ k = ap (λ z. z.1) e in rw (h, i) none)),
   )
 
@@ -48,8 +48,8 @@ module _ {S A E : Type 0} (steps : S → Answered A E → S → Type 0) where
   skip_by_answers = record {
     none = λ p. (skip_nothing p p).1 refl;
     same = λ p q d. (skip_nothing p q).0 d;
-    joins = λ p u q r rest d e. leaves_skip {p = p} {q = q} (then_others steps 0 (skip_leaves {p = p} {q = u} d) (skip_leaves {p = u} {q = q} e));
-    splits = λ p q r rest d. let h = first_apart steps 0 (skip_leaves {p = p} {q = q} d) in record { then_at = (h.0, h.1); first = leaves_skip {p = p} {q = (h.0, h.1)} h.2; others = leaves_skip {p = (h.0, h.1)} {q = q} h.3 };
+    joins = λ p u q r rest d e. leaves_skip {p = p} {q = q} (leaves_then steps 0 (skip_leaves {p = p} {q = u} d) (skip_leaves {p = u} {q = q} e));
+    splits = λ p q r rest d. let h = leaves_split steps 0 (skip_leaves {p = p} {q = q} d) in record { then_at = (h.0, h.1); first = leaves_skip {p = p} {q = (h.0, h.1)} h.2; others = leaves_skip {p = (h.0, h.1)} {q = q} h.3 };
   }
 
   pub skip_law : (p : S × ℕ) (trace : List (Answered A E)) (q : S × ℕ) → Run (skip_step steps) p trace q ↔ SkipTrace steps p trace q

@@ -5,7 +5,7 @@ use Rattle.std.proofs.Common.{refl, sym, subst, ◌∙◌, arith}
 use Rattle.fallible_contract.specs.Traces.{Answered, Run, item}
 use Rattle.fallible_contract.specs.Contract.{Contract, seen_as}
 use Rattle.fallible_contract.specs.Folds.{HoldsAtEachTurn, goes_on, DriveExit, Driven, IsNthTurn}
-use Rattle.fallible_contract.proofs.Lemmas.Counting.{Leaves, none, keeps_item, keeps_end, keeps_failure, leaves_out, left_out_first, moved, nothing_left}
+use Rattle.fallible_contract.proofs.Lemmas.ByNumber.{Leaves, none, keeps_item, keeps_end, keeps_failure, leaves_out, left_out_first, leaves_from_equal, leaves_nothing}
 use Rattle.fallible_contract.proofs.Lemmas.Folding.{holds_into, drained_into}
 use Rattle.fallible_contract.proofs.Lemmas.Folds.{holds_after, driven_after}
 use Rattle.fallible_core.specs.Cutting.Skip.{skip_parts, skip_step, skip_contract}
@@ -15,7 +15,7 @@ use Rattle.fallible_core.specs.declared.cutting.skip.Skip.{Skip}
 
 module _ {S A E : Type 0} (steps : S → Answered A E → S → Type 0) where
   none_left : {s t : S} {n k : ℕ} {x : A} → Leaves steps 0 n s (item x ∷ []) t k → k ≡ 0
-  none_left (keeps_item x step more) = sym (nothing_left steps 0 more).1
+  none_left (keeps_item x step more) = sym (leaves_nothing steps 0 more).1
   none_left (leaves_out x step rest) = none_left rest
 
   -- a draw of the source, where nothing is left to leave out
@@ -26,16 +26,16 @@ module _ {S A E : Type 0} (steps : S → Answered A E → S → Type 0) where
 
   -- each turn that goes on leaves one item out, and then comes the last answer
   passed : (items : List A) (last : Answered A E) (n d k : ℕ) (s t : S) → FoldsTo (goes_on IsNthTurn) n items d → Run steps s (map item items ++ last ∷ []) t → ((u : S) → steps u last t → Leaves steps 0 d u (last ∷ []) t k) → Leaves steps 0 n s (last ∷ []) t k
-  passed [] last n d k s t went ran then = moved steps 0 refl went (then s (subst (λ (v : S). steps s last v) ran.2 ran.1))
+  passed [] last n d k s t went ran then = leaves_from_equal steps 0 refl went (then s (subst (λ (v : S). steps s last v) ran.2 ran.1))
   passed (x ∷ items) last n d k s t went ran then = let one : n ≡ went.0 + 1 = went.1 in
-      left_out_first steps 0 x n (omega (arith, one)) ran.1 (moved steps 0 refl (omega (arith, one)) (passed items last went.0 d k ran.0 t went.2 ran.2 then))
+      left_out_first steps 0 x n (omega (arith, one)) ran.1 (leaves_from_equal steps 0 refl (omega (arith, one)) (passed items last went.0 d k ran.0 t went.2 ran.2 then))
 
   reached_last : (items : List A) (last : Answered A E) (n d k : ℕ) (r : Answered A E) (s t : S) → FoldsTo (goes_on IsNthTurn) n items d → Run steps s (map item items ++ last ∷ []) t → DriveExit IsNthTurn d last r k → Leaves steps 0 n s (r ∷ []) t k
-  reached_last items (Ok None) n d k r s t went ran at = subst (λ (q : Answered A E). Leaves steps 0 n s (q ∷ []) t k) (sym at.0) (passed items (Ok None) n d k s t went ran (λ u step. moved steps 0 refl (sym at.1) (keeps_end step none)))
-  reached_last items (Err e) n d k r s t went ran at = subst (λ (q : Answered A E). Leaves steps 0 n s (q ∷ []) t k) (sym at.0) (passed items (Err e) n d k s t went ran (λ u step. moved steps 0 refl (sym at.1) (keeps_failure e step none)))
+  reached_last items (Ok None) n d k r s t went ran at = subst (λ (q : Answered A E). Leaves steps 0 n s (q ∷ []) t k) (sym at.0) (passed items (Ok None) n d k s t went ran (λ u step. leaves_from_equal steps 0 refl (sym at.1) (keeps_end step none)))
+  reached_last items (Err e) n d k r s t went ran at = subst (λ (q : Answered A E). Leaves steps 0 n s (q ∷ []) t k) (sym at.0) (passed items (Err e) n d k s t went ran (λ u step. leaves_from_equal steps 0 refl (sym at.1) (keeps_failure e step none)))
   reached_last items (Ok (Some x)) n d k r s t went ran at = let reached = at.1 in
       subst (λ (q : Answered A E). Leaves steps 0 n s (q ∷ []) t k) (sym at.2) (subst (λ (y : A). Leaves steps 0 n s (item y ∷ []) t k) (sym reached.1) (passed items (item x) n d k s t went ran
-      (λ u step. subst (λ (j : ℕ). Leaves steps 0 d u (item x ∷ []) t j) (sym (reached.2 ∙ reached.0)) (moved steps 0 refl reached.0 (keeps_item x step none)))))
+      (λ u step. subst (λ (j : ℕ). Leaves steps 0 d u (item x ∷ []) t j) (sym (reached.2 ∙ reached.0)) (leaves_from_equal steps 0 refl reached.0 (keeps_item x step none)))))
 
   -- such a fold is one draw of `Skip`
   pub skips_reached : {s t : S} {n k : ℕ} {r : Answered A E} → Driven steps IsNthTurn s n r t k → skip_step steps (s, n) r (t, k)

@@ -4,8 +4,8 @@ use Rattle.std.proofs.Common.{refl, sym, ap, subst, ◌∙◌, arith}
 use Rattle.fallible_contract.specs.Traces.{Answered, item}
 use Rattle.fallible_contract.specs.Passing.{passing_step}
 use Rattle.fallible_contract.specs.Laws.Passing.{Passes, done, end_passes, failure_passes, keeps, refuses, closes, leaves_out, to_passes}
-use Rattle.fallible_contract.proofs.Lemmas.Counting.{Leaves, none, keeps_item, keeps_end, keeps_failure, left_out_first}
-use Rattle.fallible_core.specs.Cutting.StepBy.{step_by_step, left_next, count_call, count_outcome}
+use Rattle.fallible_contract.proofs.Lemmas.ByNumber.{Leaves, none, keeps_item, keeps_end, keeps_failure, left_out_first}
+use Rattle.fallible_core.specs.Cutting.StepBy.{step_by_step, to_skip_next, count_call, count_outcome}
 use Rattle.fallible_core.proofs.Lemmas.Cutting.StepBy.{leaves_step_by}
 use Rattle.fallible_contract.specs.declared.passing.Outcome.TheVariants.{Kept}
 
@@ -27,7 +27,7 @@ module _ {S A E : Type 0} (steps : S → Answered A E → S → Type 0) (between
   counted s t n k _ (closes x zero step called is rest) = absurd cc
   counted s t n k _ (closes x (suc v) step called is rest) = absurd cc
   counted s t n k r (leaves_out x zero step called is rest) = absurd cc
-  counted s t n k r (leaves_out {u = u} {h = h} x (suc v) step called is rest) = let fewer : h ≡ v = called.1 ∙ ap (left_next between) (sym called.0) in let was : suc v ≡ n = called.0 in
+  counted s t n k r (leaves_out {u = u} {h = h} x (suc v) step called is rest) = let fewer : h ≡ v = called.1 ∙ ap (to_skip_next between) (sym called.0) in let was : suc v ≡ n = called.0 in
       left_out_first steps between x n (omega (arith, was)) step (subst (λ (j : ℕ). One u j r t k) (omega (arith, fewer, was)) (counted u t h k r rest))
 
 -- an item that is counted down or kept is one of `StepBy`

@@ -49,8 +49,8 @@ module _ {S F X E : Type 0} (steps : S → Answered X E → S → Type 0) (call 
   abbrev once_drawn : S × F → Answered X E → S × F → Type 0
   once_drawn = passing_step steps call take_while_outcome
 
-  abbrev until_refused : (S × F) × Bool → Answered X E → (S × F) × Bool → Type 0
-  until_refused = closing_step (place_drawn steps call) taken_answer is_refused
+  abbrev step_until_refused : (S × F) × Bool → Answered X E → (S × F) × Bool → Type 0
+  step_until_refused = closing_step (place_drawn steps call) taken_answer is_refused
 
   -- while no item was refused, a draw is one that lets answers pass
   one_passed : (x : Place X (Result Bool E) E) (p q : S × F) (r : Answered X E) → place_drawn steps call p x q → r ≡ taken_answer x → once_drawn p r q
@@ -69,10 +69,10 @@ module _ {S F X E : Type 0} (steps : S → Answered X E → S → Type 0) (call 
   not_refused (failure_at c) y e = refl
   not_refused end_at y e = refl
 
-  until_refused_gives : (l : List (Result X E)) (p : S × F) → AlwaysGives once_drawn p l → AlwaysGives until_refused (p, false) l
+  until_refused_gives : (l : List (Result X E)) (p : S × F) → AlwaysGives once_drawn p l → AlwaysGives step_until_refused (p, false) l
   until_refused_gives [] p a = λ r t w. a r t.0 (one_passed w.0 p t.0 r w.1 w.2)
   until_refused_gives (y ∷ l) p a = λ r t w. let d = a r t.0 (one_passed w.0 p t.0 r w.1 w.2) in
-      (d.0, subst (λ (b : Bool). AlwaysGives until_refused (t.0, b) l) (sym (w.3 ∙ not_refused w.0 y (sym w.2 ∙ d.0))) (until_refused_gives l t.0 d.1))
+      (d.0, subst (λ (b : Bool). AlwaysGives step_until_refused (t.0, b) l) (sym (w.3 ∙ not_refused w.0 y (sym w.2 ∙ d.0))) (until_refused_gives l t.0 d.1))
 
 by_outcome_is : {X E : Type 0} (x : X) (v : Result Bool E) (l : List (Result X E)) → by_outcome (take_while_outcome x v) l ≡ cons_while x v l
 by_outcome_is x (Ok true) l = refl

@@ -20,12 +20,12 @@ use Rattle.fallible_core.specs.declared.cutting.take_while.TakeWhile.{TakeWhile}
 -- ---- calls of the predicate, beside whether one refused
 
 module _ {F X E : Type 0} (call : F → X → Result Bool E → F → Type 0) where
-  calls_beside : (P : X → Type 0) (made : List (X × Result Bool E)) (p q : Bool × F) → FoldsTo (λ p c q. P c.0 × refusing_call call p c.0 c.1 q) p made q → FoldsTo (λ f c g. P c.0 × call f c.0 c.1 g) p.1 made q.1
-  calls_beside P [] p q e = ap (λ z. z.1) e
-  calls_beside P (c ∷ made) p q w = (w.0.1, (w.1.0, w.1.1.0), calls_beside P made w.0 q w.2)
+  calls_without_flag : (P : X → Type 0) (made : List (X × Result Bool E)) (p q : Bool × F) → FoldsTo (λ p c q. P c.0 × refusing_call call p c.0 c.1 q) p made q → FoldsTo (λ f c g. P c.0 × call f c.0 c.1 g) p.1 made q.1
+  calls_without_flag P [] p q e = ap (λ z. z.1) e
+  calls_without_flag P (c ∷ made) p q w = (w.0.1, (w.1.0, w.1.1.0), calls_without_flag P made w.0 q w.2)
 
   callable_beside : {pre : F → X → Type 0} {P : X → Type 0} (p : Bool × F) → IsCallable call pre P p.1 → IsCallable (refusing_call call) (λ q x. pre q.1 x) P p
-  callable_beside {P = P} p callable = record { at = λ q x reached given. callable.at q.1 x (record { made = reached.made; by = calls_beside P reached.made p q reached.by }) given }
+  callable_beside {P = P} p callable = record { at = λ q x reached given. callable.at q.1 x (record { made = reached.made; by = calls_without_flag P reached.made p q reached.by }) given }
 
 -- ---- of the struct
 

@@ -29,9 +29,9 @@ module _ {X E : Type 0} where
   until_cons p met after false e some h = ((e, h.0), h.1, kept_cons asked_outcome p met some h.2)
 
   -- a left-out item before the others, of which there are some
-  until_left_out : (p : Place X (Result Bool E) E) (met : List (Place X (Result Bool E) E)) (after : List (Answered X E)) (b : Bool) (r : Answered X E) (trace : List (Answered X E)) → false_at p ≡ false → r ∷ trace ≡ filter_map (answer_at asked_outcome) met ++ after → AskedUntilFalse false met after b → AskedUntilFalse false (p ∷ met) after b
-  until_left_out p met after true r trace e answers h = ends_at_cons p met e h
-  until_left_out p met after false r trace e answers h = let same : r ∷ trace ≡ filter_map (answer_at asked_outcome) met ++ [] = subst (λ (l : List (Answered X E)). r ∷ trace ≡ filter_map (answer_at asked_outcome) met ++ l) h.1 answers in
+  until_cons_left_out : (p : Place X (Result Bool E) E) (met : List (Place X (Result Bool E) E)) (after : List (Answered X E)) (b : Bool) (r : Answered X E) (trace : List (Answered X E)) → false_at p ≡ false → r ∷ trace ≡ filter_map (answer_at asked_outcome) met ++ after → AskedUntilFalse false met after b → AskedUntilFalse false (p ∷ met) after b
+  until_cons_left_out p met after true r trace e answers h = ends_at_cons p met e h
+  until_cons_left_out p met after false r trace e answers h = let same : r ∷ trace ≡ filter_map (answer_at asked_outcome) met ++ [] = subst (λ (l : List (Answered X E)). r ∷ trace ≡ filter_map (answer_at asked_outcome) met ++ l) h.1 answers in
       ((e, h.0), h.1, kept_before asked_outcome p met r trace (same ∙ append-nil (filter_map (answer_at asked_outcome) met)) h.2)
 
   -- and the other way: what holds of the others
@@ -115,7 +115,7 @@ module _ {S F X E : Type 0} (steps : S → Answered X E → S → Type 0) (call 
   before_false s t p q _ e (leaves_out x (Some (Ok false)) step called is h) = absurd cc
   before_false s t p q _ e (leaves_out x (Some (Err c)) step called is h) = absurd cc
   before_false s t p q _ e (leaves_out {u = u} {h = j} {r = r} {trace = rest} x (Some (Ok true)) step called is h) = let k = before_false u t j q (r ∷ rest) called.2 h in
-      record { met = asked x (Ok true) ∷ k.met; after = k.after; drawn = (u, step, k.drawn); called = (j.1, called.1, k.called); answers = k.answers; until_false = until_left_out (asked x (Ok true)) k.met k.after q.0 r rest refl k.answers k.until_false }
+      record { met = asked x (Ok true) ∷ k.met; after = k.after; drawn = (u, step, k.drawn); called = (j.1, called.1, k.called); answers = k.answers; until_false = until_cons_left_out (asked x (Ok true)) k.met k.after q.0 r rest refl k.answers k.until_false }
 
   -- a left-out item before an answer
   left_out_first : (met : List (Place X (Result Bool E) E)) (after : List (Answered X E)) (trace : List (Answered X E)) (x : X) (s u t : S) (f h : F) (q : Bool × F) → steps s (item x) u → call f x (Ok true) h → trace ≡ filter_map (answer_at asked_outcome) met ++ after → AskedUntilFalse false (asked x (Ok true) ∷ met) after q.0 → P u (false, h) trace t q → P s (false, f) trace t q

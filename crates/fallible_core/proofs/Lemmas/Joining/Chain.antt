@@ -5,7 +5,7 @@ use Rattle.fallible_contract.specs.Contract.{Contract, seen_as}
 use Rattle.fallible_contract.specs.Lists.{AlwaysGives, Lists, result_answer}
 use Rattle.fallible_contract.proofs.Lemmas.Lists.Passing.{lists_seen}
 use Rattle.fallible_contract.specs.Traces.{Answered, Run, end, NoEnd, is_end}
-use Rattle.fallible_core.specs.Joining.Chain.{chained, JoinedTrace, ChainTrace, chain_step, chain_parts, chain_behind, chain_contract}
+use Rattle.fallible_core.specs.Joining.Chain.{chained, JoinedTrace, ChainTrace, chain_step, chain_parts, chain_back, chain_contract}
 use Rattle.fallible_core.specs.declared.joining.chain.Chain.{Chain}
 use Rattle.fallible_core.specs.declared.joining.chain.StillDrawn.{StillDrawn}
 use Rattle.fallible_core.specs.declared.joining.chain.StillDrawn.TheVariants.{Both, FirstAlone, SecondAlone}
@@ -14,18 +14,18 @@ module _ {S U A E : Type 0} (steps : S → Answered A E → S → Type 0) (other
   abbrev Step : S × U × StillDrawn → Answered A E → S × U × StillDrawn → Type 0
   Step = chain_step steps others
 
-  to_first : (trace : List (Answered A E)) (s : S) (u : U) (t : S) (v : U) (left : StillDrawn) → Run Step (s, u, FirstAlone) trace (t, v, left) → ChainTrace steps others (s, u, FirstAlone) (trace) (t, v, left)
-  to_first [] s u t v left e = (ap (λ p. p.0) e, sym (ap (λ p. p.1) e), sym (ap (λ p. p.2) e))
-  to_first (r ∷ rest) s u t v left h = let p = to_first rest h.0.0 u t v left (rw (h.1.1, h.1.2) at h.2) in ((h.0.0, h.1.0, p.0), p.1, p.2)
+  to_first : (trace : List (Answered A E)) (s : S) (u : U) (t : S) (v : U) (after : StillDrawn) → Run Step (s, u, FirstAlone) trace (t, v, after) → ChainTrace steps others (s, u, FirstAlone) (trace) (t, v, after)
+  to_first [] s u t v after e = (ap (λ p. p.0) e, sym (ap (λ p. p.1) e), sym (ap (λ p. p.2) e))
+  to_first (r ∷ rest) s u t v after h = let p = to_first rest h.0.0 u t v after (rw (h.1.1, h.1.2) at h.2) in ((h.0.0, h.1.0, p.0), p.1, p.2)
 
-  to_second : (trace : List (Answered A E)) (s : S) (u : U) (t : S) (v : U) (left : StillDrawn) → Run Step (s, u, SecondAlone) trace (t, v, left) → ChainTrace steps others (s, u, SecondAlone) (trace) (t, v, left)
-  to_second [] s u t v left e = (ap (λ p. p.1) e, sym (ap (λ p. p.0) e), sym (ap (λ p. p.2) e))
-  to_second (r ∷ rest) s u t v left h = let p = to_second rest s h.0.1 t v left (rw (h.1.1, h.1.2) at h.2) in ((h.0.1, h.1.0, p.0), p.1, p.2)
+  to_second : (trace : List (Answered A E)) (s : S) (u : U) (t : S) (v : U) (after : StillDrawn) → Run Step (s, u, SecondAlone) trace (t, v, after) → ChainTrace steps others (s, u, SecondAlone) (trace) (t, v, after)
+  to_second [] s u t v after e = (ap (λ p. p.1) e, sym (ap (λ p. p.0) e), sym (ap (λ p. p.2) e))
+  to_second (r ∷ rest) s u t v after h = let p = to_second rest s h.0.1 t v after (rw (h.1.1, h.1.2) at h.2) in ((h.0.1, h.1.0, p.0), p.1, p.2)
 
   -- an answer of the first before those of a trace
-  first_first : (s x t : S) (u v : U) (left : StillDrawn) (r : Answered A E) (rest : List (Answered A E)) → steps s r x → is_end r ≡ false → ChainTrace steps others (x, u, Both) (rest) (t, v, left) → ChainTrace steps others (s, u, Both) (r ∷ rest) (t, v, left)
-  first_first s x t u v left r rest step e (inl p) = inl ((x, step, p.0), (e, p.1), p.2, p.3)
-  first_first s x t u v left r rest step e (inr p) = let j = p.0 in inr (
+  first_first : (s x t : S) (u v : U) (after : StillDrawn) (r : Answered A E) (rest : List (Answered A E)) → steps s r x → is_end r ≡ false → ChainTrace steps others (x, u, Both) (rest) (t, v, after) → ChainTrace steps others (s, u, Both) (r ∷ rest) (t, v, after)
+  first_first s x t u v after r rest step e (inl p) = inl ((x, step, p.0), (e, p.1), p.2, p.3)
+  first_first s x t u v after r rest step e (inr p) = let j = p.0 in inr (
     record { before_end = r ∷ j.before_end; second_trace = j.second_trace; first_drawn = (x, step, j.first_drawn); no_end = (e, j.no_end); second_drawn = j.second_drawn; not_empty = j.not_empty; answers = ap {B = List (Answered A E)} (λ l. r ∷ l) j.answers },
     p.1,
   )
@@ -34,11 +34,11 @@ module _ {S U A E : Type 0} (steps : S → Answered A E → S → Type 0) (other
   end_first : (s x t : S) (u y v : U) (r : Answered A E) (rest : List (Answered A E)) → steps s end x → others u r y → Run others y rest v → t ≡ x → JoinedTrace steps others s u (r ∷ rest) t v
   end_first s x t u y v r rest met step ran e = record { before_end = []; second_trace = r ∷ rest; first_drawn = (x, met, sym e); no_end = tt; second_drawn = (y, step, ran); not_empty = λ d. absurd cc; answers = refl }
 
-  to_both : (trace : List (Answered A E)) (s : S) (u : U) (t : S) (v : U) (left : StillDrawn) → Run Step (s, u, Both) trace (t, v, left) → ChainTrace steps others (s, u, Both) (trace) (t, v, left)
-  to_both [] s u t v left e = inl (ap (λ p. p.0) e, tt, sym (ap (λ p. p.1) e), sym (ap (λ p. p.2) e))
-  to_both (r ∷ rest) s u t v left h = elim h.1 [
-    | inl step ↦ first_first s h.0.0 t u v left r rest step.0 step.1 (to_both rest h.0.0 u t v left (rw (step.2, step.3) at h.2))
-    | inr step ↦ let p = to_second rest h.0.0 h.0.1 t v left (rw step.2 at h.2) in inr (end_first s h.0.0 t u h.0.1 v r rest step.0 step.1 p.0 p.1, p.2)
+  to_both : (trace : List (Answered A E)) (s : S) (u : U) (t : S) (v : U) (after : StillDrawn) → Run Step (s, u, Both) trace (t, v, after) → ChainTrace steps others (s, u, Both) (trace) (t, v, after)
+  to_both [] s u t v after e = inl (ap (λ p. p.0) e, tt, sym (ap (λ p. p.1) e), sym (ap (λ p. p.2) e))
+  to_both (r ∷ rest) s u t v after h = elim h.1 [
+    | inl step ↦ first_first s h.0.0 t u v after r rest step.0 step.1 (to_both rest h.0.0 u t v after (rw (step.2, step.3) at h.2))
+    | inr step ↦ let p = to_second rest h.0.0 h.0.1 t v after (rw step.2 at h.2) in inr (end_first s h.0.0 t u h.0.1 v r rest step.0 step.1 p.0 p.1, p.2)
   ]
 
   pub from_first : (trace : List (Answered A E)) (s : S) (u : U) (t : S) → Run steps s trace t → Run Step (s, u, FirstAlone) trace (t, u, FirstAlone)
@@ -58,33 +58,33 @@ module _ {S U A E : Type 0} (steps : S → Answered A E → S → Type 0) (other
   from_joined [] (r ∷ rest) s u t v ran no_end second some = rw⁻¹ ran.2 ((ran.0, second.0, SecondAlone), inr (ran.1, second.1, refl), from_second rest ran.0 second.0 v second.2)
   from_joined (r ∷ before) trace s u t v ran no_end second some = ((ran.0, u, Both), inl (ran.1, no_end.0, refl, refl), from_joined before trace ran.0 u t v ran.2 no_end.1 second some)
 
-  from_either : (trace : List (Answered A E)) (s : S) (u : U) (t : S) (v : U) (left : StillDrawn) → ChainTrace steps others (s, u, Both) (trace) (t, v, left) → Run Step (s, u, Both) trace (t, v, left)
-  from_either trace s u t v left (inl p) = rw (p.2, p.3) (from_both trace s u t p.0 p.1)
-  from_either trace s u t v left (inr p) = let j = p.0 in rw (j.answers, p.1) (from_joined j.before_end j.second_trace s u t v j.first_drawn j.no_end j.second_drawn j.not_empty)
+  from_either : (trace : List (Answered A E)) (s : S) (u : U) (t : S) (v : U) (after : StillDrawn) → ChainTrace steps others (s, u, Both) (trace) (t, v, after) → Run Step (s, u, Both) trace (t, v, after)
+  from_either trace s u t v after (inl p) = rw (p.2, p.3) (from_both trace s u t p.0 p.1)
+  from_either trace s u t v after (inr p) = let j = p.0 in rw (j.answers, p.1) (from_joined j.before_end j.second_trace s u t v j.first_drawn j.no_end j.second_drawn j.not_empty)
 
   pub chain_law : (p : S × U × StillDrawn) (trace : List (Answered A E)) (q : S × U × StillDrawn) → Run Step p trace q ↔ ChainTrace steps others p trace q
-  chain_law (s, u, Both) trace (t, v, left) = (to_both trace s u t v left, from_either trace s u t v left)
-  chain_law (s, u, FirstAlone) trace (t, v, left) = (to_first trace s u t v left, (λ p. rw (p.1, p.2) (from_first trace s u t p.0)))
-  chain_law (s, u, SecondAlone) trace (t, v, left) = (to_second trace s u t v left, (λ p. rw (p.1, p.2) (from_second trace s u v p.0)))
+  chain_law (s, u, Both) trace (t, v, after) = (to_both trace s u t v after, from_either trace s u t v after)
+  chain_law (s, u, FirstAlone) trace (t, v, after) = (to_first trace s u t v after, (λ p. rw (p.1, p.2) (from_first trace s u t p.0)))
+  chain_law (s, u, SecondAlone) trace (t, v, after) = (to_second trace s u t v after, (λ p. rw (p.1, p.2) (from_second trace s u v p.0)))
 
--- ---- values and their parts, from the front and from behind
+-- ---- values and their parts, from the front and from the back
 
 -- the value of its parts
 abbrev pub of_parts : {T U : Type 0} → T × U × StillDrawn → Chain T U
 of_parts p = record { first = p.0; second = p.1; still_drawn = p.2 }
 
--- the parts seen from behind, and the value of them
-abbrev pub seen_behind : {T U : Type 0} → Chain T U → U × T × StillDrawn
-seen_behind s = chain_behind (chain_parts s)
+-- the parts seen from the back, and the value of them
+abbrev pub chain_parts_back : {T U : Type 0} → Chain T U → U × T × StillDrawn
+chain_parts_back s = chain_back (chain_parts s)
 
-abbrev pub of_parts_behind : {T U : Type 0} → U × T × StillDrawn → Chain T U
-of_parts_behind p = of_parts (chain_behind p)
+abbrev pub of_parts_back : {T U : Type 0} → U × T × StillDrawn → Chain T U
+of_parts_back p = of_parts (chain_back p)
 
--- seen from behind twice, the sides are as they were
-pub behind_twice : {S U : Type 0} (p : S × U × StillDrawn) → chain_behind (chain_behind p) ≡ p
-behind_twice (s, u, Both) = refl
-behind_twice (s, u, FirstAlone) = refl
-behind_twice (s, u, SecondAlone) = refl
+-- seen from the back twice, the sides are as they were
+pub back_twice : {S U : Type 0} (p : S × U × StillDrawn) → chain_back (chain_back p) ≡ p
+back_twice (s, u, Both) = refl
+back_twice (s, u, FirstAlone) = refl
+back_twice (s, u, SecondAlone) = refl
 
 -- ---- what it lists
 

@@ -5,7 +5,7 @@ use Rattle.std.proofs.Common.{refl, sym, ◌∙◌, ap, subst, arith, length-app
 use Rattle.fallible_contract.specs.Traces.{Answered, item, end, is_end, items_in}
 use Rattle.fallible_contract.specs.Contract.{Contract, AtMost, Lawful, seen_as}
 use Rattle.fallible_contract.specs.Folds.{Drained, CountExit, CountedBy, Counted, LastExit, LastBy, LastOf}
-use Rattle.fallible_contract.specs.Searching.{Passed, Decided, SearchExit, SearchedBy, find_pick}
+use Rattle.fallible_contract.specs.Searching.{WentOn, Decided, SearchExit, SearchedBy, find_pick}
 use Rattle.fallible_contract.specs.Laws.Closures.{turns_then}
 use Rattle.fallible_contract.proofs.Lemmas.Contract.{number_of_at_most}
 use Rattle.fallible_contract.proofs.Lemmas.BoundsRuns.{items_at_most}
@@ -47,7 +47,7 @@ items_then (x ∷ items) last = let h = items_then items last in omega (arith, h
 
 -- what was counted is within a bound
 counted_within : {S A E : Type 0} {m : Contract S A E} → Lawful m → {s : S} (n k : ℕ) → m.can_next s → m.bound s n → Counted m.steps s (Ok k) → k ≤ n
-counted_within l {s} n k c b (left, h) = let most = items_at_most l (map item h.items ++ h.last ∷ []) s left n c b h.ran in
+counted_within l {s} n k c b (after, h) = let most = items_at_most l (map item h.items ++ h.last ∷ []) s after n c b h.ran in
     let over = count_at_end (length h.items) k h.last h.at.exit in let items = items_then h.items h.last in omega (arith, most, over.1, items)
 
 -- ---- last
@@ -123,8 +123,8 @@ module _ {A E F : Type 0} (tests : F → A → Result Bool E → F → Type 0) w
   search_later n k f g (Ok (Some x)) r h = decided_later n k f g x r h
 
   -- a search that found none met an end, and went on up to there; else it met none
-  pub search_met_end : {f g : F} (items : List A) (last : Answered A E) → SearchedBy tests find_pick None f (Ok None) g items last → (last ≡ end) × FoldsTo (Passed tests find_pick) f items g
-  search_met_end {f} {g} items last h = let over = search_at_end (length items) h.closure g last h.exit in (over.0, subst (λ (z : F). FoldsTo (Passed tests find_pick) f items z) (sym over.1) h.went)
+  pub search_met_end : {f g : F} (items : List A) (last : Answered A E) → SearchedBy tests find_pick None f (Ok None) g items last → (last ≡ end) × FoldsTo (WentOn tests find_pick) f items g
+  search_met_end {f} {g} items last h = let over = search_at_end (length items) h.closure g last h.exit in (over.0, subst (λ (z : F). FoldsTo (WentOn tests find_pick) f items z) (sym over.1) h.went)
 
   pub search_met_none : {f g : F} {r : Answered A E} → is_end r ≡ false → (items : List A) (last : Answered A E) → SearchedBy tests find_pick None f r g items last → is_end last ≡ false
   search_met_none {g = g} {r = r} goes items last h = search_no_end (length items) h.closure g last r goes h.exit
@@ -140,7 +140,7 @@ chain first second = seen_as chain_parts (chain_contract first second)
 
 -- draws up to a last answer, which left something
 abbrev Drains : {S A E : Type 0} → Contract S A E → (List A → Answered A E → Type 0) → S → Type 0
-Drains {S} m came s = (left : S) × Drained m.steps came s left
+Drains {S} m came s = (after : S) × Drained m.steps came s after
 
 module _ {S U A E : Type 0} (first : Contract S A E) (second : Contract U A E) {s : Chain S U} where
   module _ {came : List A → Answered A E → Type 0} where

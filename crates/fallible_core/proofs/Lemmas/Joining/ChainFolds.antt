@@ -1,4 +1,4 @@
--- Draws of `Chain` up to a last answer: those of the first, and after its end those of the second. From behind the sides are swapped.
+-- Draws of `Chain` up to a last answer: those of the first, and after its end those of the second. From the back the sides are swapped.
 use Rattle.std.specs.Prelude.{◌≡◌, ◌≢◌, false, List, [], ◌∷◌, ◌++◌, map, Some, None, Ok, Err}
 use Rattle.std.specs.List.{FoldsTo}
 use Rattle.std.proofs.Common.{refl, sym, ◌∙◌, ap, ap₂, subst, inl, inr, append_assoc}
@@ -9,7 +9,7 @@ use Rattle.fallible_contract.specs.Folds.{Drained, HoldsAtEachTurn, goes_on, Dri
 use Rattle.fallible_contract.specs.Laws.Closures.{turns_then}
 use Rattle.fallible_contract.proofs.Lemmas.Folding.{drained_into, holds_into}
 use Rattle.fallible_contract.proofs.Lemmas.Overriding.{holds_held, drained_held}
-use Rattle.fallible_core.specs.Joining.Chain.{chain_step, chain_contract, chain_is_finite, sides_behind}
+use Rattle.fallible_core.specs.Joining.Chain.{chain_step, chain_contract, chain_is_finite, sides_back}
 use Rattle.fallible_core.proofs.Lemmas.Joining.Chain.{from_both, from_joined}
 use Rattle.std.specs.declared.ops.ControlFlow.{ControlFlow}
 use Rattle.fallible_core.specs.declared.joining.chain.StillDrawn.{StillDrawn}
@@ -24,11 +24,11 @@ both_drawn SecondAlone second first = absurd (second refl)
 pub both_not_second : {d : StillDrawn} → d ≡ Both → d ≡ SecondAlone → ⊥
 both_not_second is second = absurd cc
 
--- from behind the second comes first
-pub second_drawn_behind : (d : StillDrawn) → (d ≡ FirstAlone → ⊥) → sides_behind d ≡ SecondAlone → ⊥
-second_drawn_behind Both first e = absurd cc
-second_drawn_behind FirstAlone first e = first refl
-second_drawn_behind SecondAlone first e = absurd cc
+-- from the back the second comes first
+pub second_drawn_back : (d : StillDrawn) → (d ≡ FirstAlone → ⊥) → sides_back d ≡ SecondAlone → ⊥
+second_drawn_back Both first e = absurd cc
+second_drawn_back FirstAlone first e = first refl
+second_drawn_back SecondAlone first e = absurd cc
 
 -- items and a last answer that isn't an end
 no_end : {A E : Type 0} (items : List A) (last : Answered A E) → is_end last ≡ false → NoEnd (map item items ++ last ∷ [])
@@ -154,7 +154,7 @@ module _ {S U A E : Type 0} (first : Contract S A E) (second : Contract U A E) w
   second_is_finite (s, u, FirstAlone) drawn h = absurd (drawn refl)
   second_is_finite (s, u, SecondAlone) drawn h = h
 
--- ---- of what is seen as a chain, as `Chain` is from the front, and from behind
+-- ---- of what is seen as a chain, as `Chain` is from the front, and from the back
 
 module _ {V S U A E : Type 0} (view : V → S × U × StillDrawn) (make : S × U × StillDrawn → V) (has : (p : S × U × StillDrawn) → view (make p) ≡ p) (first : Contract S A E) (second : Contract U A E) where
   abbrev pub Drawn : V → Answered A E → V → Type 0

@@ -6,32 +6,32 @@ use Rattle.fallible_contract.specs.Traces.{Answered, end, is_end}
 use Rattle.fallible_contract.specs.Lists.{result_answer}
 use Rattle.fallible_contract.specs.BothEnds.{TakesFirst, ListsBothEnds}
 use Rattle.fallible_contract.proofs.Lemmas.BothEnds.{takes_front, listed_by_swapping, listed_swapped}
-use Rattle.fallible_core.specs.Joining.Chain.{chained, chain_step, chain_behind}
+use Rattle.fallible_core.specs.Joining.Chain.{chained, chain_step, chain_back}
 use Rattle.fallible_core.specs.declared.joining.chain.StillDrawn.{StillDrawn}
 use Rattle.fallible_core.specs.declared.joining.chain.StillDrawn.TheVariants.{Both, FirstAlone, SecondAlone}
 
--- One answer from behind: a draw of the chain of the second and the first, each drawn from behind.
-abbrev pub chain_step_behind : {S U A E : Type 0} → (S → Answered A E → S → Type 0) → (U → Answered A E → U → Type 0) → S × U × StillDrawn → Answered A E → S × U × StillDrawn → Type 0
-chain_step_behind first_second second_second p r q = chain_step second_second first_second (chain_behind p) r (chain_behind q)
+-- One answer from the back: a draw of the chain of the second and the first, each drawn from the back.
+abbrev pub chain_step_back : {S U A E : Type 0} → (S → Answered A E → S → Type 0) → (U → Answered A E → U → Type 0) → S × U × StillDrawn → Answered A E → S × U × StillDrawn → Type 0
+chain_step_back first_second second_second p r q = chain_step second_second first_second (chain_back p) r (chain_back q)
 
 result_no_end : {A E : Type 0} (y : Result A E) (r : Answered A E) → r ≡ result_answer y → r ≡ end → ⊥
 result_no_end (Ok x) r e d = absurd cc
 result_no_end (Err x) r e d = absurd cc
 
-module _ {S U A E : Type 0} (steps behind : S → Answered A E → S → Type 0) (others others_behind : U → Answered A E → U → Type 0) where
+module _ {S U A E : Type 0} (steps back : S → Answered A E → S → Type 0) (others others_back : U → Answered A E → U → Type 0) where
   -- what a chain of these parts lists
   abbrev ChainLists : S × U × StillDrawn → List (Result A E) → Type 0
-  ChainLists (s, u, Both) l = (a : List (Result A E)) × (b : List (Result A E)) × (l ≡ a ++ b) × ListsBothEnds steps behind s a × ListsBothEnds others others_behind u b
-  ChainLists (s, u, FirstAlone) l = ListsBothEnds steps behind s l
-  ChainLists (s, u, SecondAlone) l = ListsBothEnds others others_behind u l
+  ChainLists (s, u, Both) l = (a : List (Result A E)) × (b : List (Result A E)) × (l ≡ a ++ b) × ListsBothEnds steps back s a × ListsBothEnds others others_back u b
+  ChainLists (s, u, FirstAlone) l = ListsBothEnds steps back s l
+  ChainLists (s, u, SecondAlone) l = ListsBothEnds others others_back u l
 
   -- an answer of the first, which isn't its end
-  before_end : (t : S) (u : U) (r : Answered A E) (a b : List (Result A E)) → is_end r ≡ false → TakesFirst (λ k. ListsBothEnds steps behind t k) r a → ListsBothEnds others others_behind u b → TakesFirst (λ k. ChainLists (t, u, Both) k) r (a ++ b)
+  before_end : (t : S) (u : U) (r : Answered A E) (a b : List (Result A E)) → is_end r ≡ false → TakesFirst (λ k. ListsBothEnds steps back t k) r a → ListsBothEnds others others_back u b → TakesFirst (λ k. ChainLists (t, u, Both) k) r (a ++ b)
   before_end t u r [] b no_end h j = absurd (let e = h.0 in let ends : is_end {A = A} {E = E} end ≡ false = subst (λ q. is_end q ≡ false) e no_end in cc)
   before_end t u r (y ∷ a) b no_end h j = (h.0, (a, b, refl, h.1, j))
 
   -- an answer of the second, in the draw that met the first's end
-  at_end : (s t : S) (v : U) (r : Answered A E) (a b : List (Result A E)) → TakesFirst (λ k. ListsBothEnds steps behind t k) end a → TakesFirst (λ k. ListsBothEnds others others_behind v k) r b → TakesFirst (λ k. ChainLists (t, v, SecondAlone) k) r (a ++ b)
+  at_end : (s t : S) (v : U) (r : Answered A E) (a b : List (Result A E)) → TakesFirst (λ k. ListsBothEnds steps back t k) end a → TakesFirst (λ k. ListsBothEnds others others_back v k) r b → TakesFirst (λ k. ChainLists (t, v, SecondAlone) k) r (a ++ b)
   at_end s t v r [] b h j = j
   at_end s t v r (y ∷ a) b h j = absurd (result_no_end y end h.0 refl)
 
@@ -41,43 +41,43 @@ module _ {S U A E : Type 0} (steps behind : S → Answered A E → S → Type 0)
   taken (s, u, FirstAlone) l h r (t, v, left) step = rw step.2 (takes_front h step.0)
   taken (s, u, SecondAlone) l h r (t, v, left) step = rw step.2 (takes_front h step.0)
 
-module _ {S U A E : Type 0} (steps behind : S → Answered A E → S → Type 0) (others others_behind : U → Answered A E → U → Type 0) where
-  -- the same, seen from behind
-  abbrev ListsBehind : S × U × StillDrawn → List (Result A E) → Type 0
-  ListsBehind p l = ChainLists others_behind others behind steps (chain_behind p) l
+module _ {S U A E : Type 0} (steps back : S → Answered A E → S → Type 0) (others others_back : U → Answered A E → U → Type 0) where
+  -- the same, seen from the back
+  abbrev ListsBack : S × U × StillDrawn → List (Result A E) → Type 0
+  ListsBack p l = ChainLists others_back others back steps (chain_back p) l
 
-  to_behind : (p : S × U × StillDrawn) (l : List (Result A E)) → ChainLists steps behind others others_behind p l → ListsBehind p (reverse l)
-  to_behind (s, u, Both) l h = (reverse h.1, reverse h.0, ap reverse h.2 ∙ reverse-append h.0 h.1, listed_swapped h.4, listed_swapped h.3)
-  to_behind (s, u, FirstAlone) l h = listed_swapped h
-  to_behind (s, u, SecondAlone) l h = listed_swapped h
+  to_seen_back : (p : S × U × StillDrawn) (l : List (Result A E)) → ChainLists steps back others others_back p l → ListsBack p (reverse l)
+  to_seen_back (s, u, Both) l h = (reverse h.1, reverse h.0, ap reverse h.2 ∙ reverse-append h.0 h.1, listed_swapped h.4, listed_swapped h.3)
+  to_seen_back (s, u, FirstAlone) l h = listed_swapped h
+  to_seen_back (s, u, SecondAlone) l h = listed_swapped h
 
-  from_behind : (p : S × U × StillDrawn) (l : List (Result A E)) → ListsBehind p l → ChainLists steps behind others others_behind p (reverse l)
-  from_behind (s, u, Both) l h = (reverse h.1, reverse h.0, ap reverse h.2 ∙ reverse-append h.0 h.1, listed_swapped h.4, listed_swapped h.3)
-  from_behind (s, u, FirstAlone) l h = listed_swapped h
-  from_behind (s, u, SecondAlone) l h = listed_swapped h
+  from_seen_back : (p : S × U × StillDrawn) (l : List (Result A E)) → ListsBack p l → ChainLists steps back others others_back p (reverse l)
+  from_seen_back (s, u, Both) l h = (reverse h.1, reverse h.0, ap reverse h.2 ∙ reverse-append h.0 h.1, listed_swapped h.4, listed_swapped h.3)
+  from_seen_back (s, u, FirstAlone) l h = listed_swapped h
+  from_seen_back (s, u, SecondAlone) l h = listed_swapped h
 
-  taken_behind : (p : S × U × StillDrawn) (l : List (Result A E)) → ListsBehind p l → (r : Answered A E) (q : S × U × StillDrawn) → chain_step_behind behind others_behind p r q → TakesFirst (λ k. ListsBehind q k) r l
-  taken_behind p l h r q step = taken others_behind others behind steps (chain_behind p) l h r (chain_behind q) step
+  taken_back : (p : S × U × StillDrawn) (l : List (Result A E)) → ListsBack p l → (r : Answered A E) (q : S × U × StillDrawn) → chain_step_back back others_back p r q → TakesFirst (λ k. ListsBack q k) r l
+  taken_back p l h r q step = taken others_back others back steps (chain_back p) l h r (chain_back q) step
 
-  chain_lists : (p : S × U × StillDrawn) (l : List (Result A E)) → ChainLists steps behind others others_behind p l → ListsBothEnds (chain_step steps others) (chain_step_behind behind others_behind) p l
-  chain_lists p l h = listed_by_swapping (chain_step steps others) (chain_step_behind behind others_behind) (ChainLists steps behind others others_behind) ListsBehind to_behind from_behind (taken steps behind others others_behind) taken_behind p l h
+  chain_lists : (p : S × U × StillDrawn) (l : List (Result A E)) → ChainLists steps back others others_back p l → ListsBothEnds (chain_step steps others) (chain_step_back back others_back) p l
+  chain_lists p l h = listed_by_swapping (chain_step steps others) (chain_step_back back others_back) (ChainLists steps back others others_back) ListsBack to_seen_back from_seen_back (taken steps back others others_back) taken_back p l h
 
 chained_is : {A E : Type 0} (a b : List (Result A E)) → a ++ b ≡ chained a b
 unfolding chained
 chained_is [] b = refl
 chained_is (y ∷ a) b = ap {B = List (Result _ _)} (λ k. y ∷ k) (chained_is a b)
 
-module _ {S U A E : Type 0} {steps behind : S → Answered A E → S → Type 0} {others others_behind : U → Answered A E → U → Type 0} {s : S} {u : U} where
+module _ {S U A E : Type 0} {steps back : S → Answered A E → S → Type 0} {others others_back : U → Answered A E → U → Type 0} {s : S} {u : U} where
   -- where both sides are still drawn, the first's list and then the second's
-  pub listed_chained : {a b : List (Result A E)} → ListsBothEnds steps behind s a → ListsBothEnds others others_behind u b → ListsBothEnds (chain_step steps others) (chain_step_behind behind others_behind) (s, u, Both) (chained a b)
-  listed_chained {a = a} {b = b} i j = chain_lists steps behind others others_behind (s, u, Both) (chained a b) (a, b, sym (chained_is a b), i, j)
+  pub listed_chained : {a b : List (Result A E)} → ListsBothEnds steps back s a → ListsBothEnds others others_back u b → ListsBothEnds (chain_step steps others) (chain_step_back back others_back) (s, u, Both) (chained a b)
+  listed_chained {a = a} {b = b} i j = chain_lists steps back others others_back (s, u, Both) (chained a b) (a, b, sym (chained_is a b), i, j)
 
-module _ {S U A E : Type 0} {steps behind : S → Answered A E → S → Type 0} {s : S} (others others_behind : U → Answered A E → U → Type 0) (u : U) where
+module _ {S U A E : Type 0} {steps back : S → Answered A E → S → Type 0} {s : S} (others others_back : U → Answered A E → U → Type 0) (u : U) where
   -- where the first alone is still drawn, its list
-  pub listed_first_alone : {l : List (Result A E)} → ListsBothEnds steps behind s l → ListsBothEnds (chain_step steps others) (chain_step_behind behind others_behind) (s, u, FirstAlone) l
-  listed_first_alone {l = l} i = chain_lists steps behind others others_behind (s, u, FirstAlone) l i
+  pub listed_first_alone : {l : List (Result A E)} → ListsBothEnds steps back s l → ListsBothEnds (chain_step steps others) (chain_step_back back others_back) (s, u, FirstAlone) l
+  listed_first_alone {l = l} i = chain_lists steps back others others_back (s, u, FirstAlone) l i
 
-module _ {S U A E : Type 0} {others others_behind : U → Answered A E → U → Type 0} {u : U} (steps behind : S → Answered A E → S → Type 0) (s : S) where
+module _ {S U A E : Type 0} {others others_back : U → Answered A E → U → Type 0} {u : U} (steps back : S → Answered A E → S → Type 0) (s : S) where
   -- where the second alone is still drawn, its list
-  pub listed_second_alone : {l : List (Result A E)} → ListsBothEnds others others_behind u l → ListsBothEnds (chain_step steps others) (chain_step_behind behind others_behind) (s, u, SecondAlone) l
-  listed_second_alone {l = l} i = chain_lists steps behind others others_behind (s, u, SecondAlone) l i
+  pub listed_second_alone : {l : List (Result A E)} → ListsBothEnds others others_back u l → ListsBothEnds (chain_step steps others) (chain_step_back back others_back) (s, u, SecondAlone) l
+  listed_second_alone {l = l} i = chain_lists steps back others others_back (s, u, SecondAlone) l i

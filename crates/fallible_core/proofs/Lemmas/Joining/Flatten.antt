@@ -32,7 +32,7 @@ module _ {S X C B E : Type 0} (outer : S → Answered X E → S → Type 0) (int
     parts = j.parts;
     last = j.last;
     drawn = j.drawn;
-    hand_finished = record { left = f.left; drawn = (d, step, f.drawn); no_end = (free, f.no_end) };
+    hand_finished = record { after = f.after; drawn = (d, step, f.drawn); no_end = (free, f.no_end) };
     finished = j.finished;
     at_last = j.at_last;
     answers = ap (λ l. r ∷ l) j.answers;
@@ -56,7 +56,7 @@ module _ {S X C B E : Type 0} (outer : S → Answered X E → S → Type 0) (int
   end_in_hand : (s t : S) (c d : C) (hand hand' : Option C) (r : Answered B E) (trace rest : List (Answered B E)) → inner c end d → hand ≡ None → trace ≡ r ∷ rest → D s hand trace t hand' → D s (Some c) trace t hand'
   end_in_hand s t c d _ _ r _ rest step e some nothing_drawn = absurd cc
   end_in_hand s _ c d _ _ r trace rest step e some (still_in_hand u) = absurd cc
-  end_in_hand s t c d hand hand' r trace rest step e some (outer_drawn j) = let none = none_in_hand hand j.in_hand e j.hand_finished in outer_drawn (record { in_hand = []; parts = j.parts; last = j.last; drawn = j.drawn; hand_finished = record { left = d; drawn = (d, step, refl); no_end = tt }; finished = j.finished; at_last = j.at_last; answers = subst (λ (l : List (Answered B E)). trace ≡ l ++ flat_map part_answers (j.parts ++ j.last ∷ [])) none j.answers })
+  end_in_hand s t c d hand hand' r trace rest step e some (outer_drawn j) = let none = none_in_hand hand j.in_hand e j.hand_finished in outer_drawn (record { in_hand = []; parts = j.parts; last = j.last; drawn = j.drawn; hand_finished = record { after = d; drawn = (d, step, refl); no_end = tt }; finished = j.finished; at_last = j.at_last; answers = subst (λ (l : List (Answered B E)). trace ≡ l ++ flat_map part_answers (j.parts ++ j.last ∷ [])) none j.answers })
 
   -- an answer of the outer source that is no item
   answer_by_itself : (s u t : S) (hand hand' : Option C) (p : Part X C B E) (r : Answered B E) (trace : List (Answered B E)) → outer s (outer_answer p) u → FinishedPart into inner p → (hand' ≡ None → LastPart into inner p hand') → part_answers p ≡ r ∷ [] → hand ≡ None → D u hand trace t hand' → D s None (r ∷ trace) t hand'

@@ -4,10 +4,10 @@ use Rattle.std.specs.List.{FoldsTo}
 use Rattle.std.proofs.Common.{refl, sym, ◌∙◌, ap, subst}
 use Rattle.fallible_contract.specs.Traces.{Answered, Run, Yields, item, end, is_end}
 use Rattle.fallible_contract.specs.Contract.{Contract, Lawful}
-use Rattle.fallible_contract.specs.Folds.{HoldsAtEachTurn, goes_on, DriveExit, Driven, within, TurnBehind, beside, beside_names}
+use Rattle.fallible_contract.specs.Folds.{HoldsAtEachTurn, goes_on, DriveExit, Driven, within, TurnThrough, beside, beside_names}
 use Rattle.fallible_contract.proofs.Lemmas.Contract.{given_after}
 use Rattle.fallible_contract.proofs.Lemmas.Folding.{drained_from, holds_from, holds_into}
-use Rattle.fallible_contract.proofs.Lemmas.Folds.{holds_after_items, driven_after_items, driven_end, driven_failure, driven_behind, names_kept}
+use Rattle.fallible_contract.proofs.Lemmas.Folds.{holds_after_items, driven_after_items, driven_end, driven_failure, driven_through, names_kept}
 use Rattle.fallible_core.specs.Joining.Flatten.{flatten_contract, IsFlattenTurn, JoiningTakes}
 use Rattle.fallible_core.proofs.Lemmas.Joining.Flatten.{flatten_in_hand, flatten_after_end, flatten_at_item, flatten_outer_failure, flatten_outer_end}
 use Rattle.fallible_core.proofs.Lemmas.Joining.ChainFolds.{yields_first, drive_met_end, drive_met_none}
@@ -91,13 +91,13 @@ module _ {S X C B E : Type 0} (m : Contract S X E) (into : X → C → Type 0) (
     driven_joined : {s t : S} {p q : V × Option C} {r : Answered (Answered R E) E} → p.1 ≡ None → Driven m.steps Joins s p r t q → Driven Draw turns (s, None) p.0 (within r) (t, q.1) q.0
     driven_joined {s = s} {t = t} {p = p} {q = q} {r = r} is f = items_joined f.items f.last s t p f.at.carried q r is f.ran f.at.went f.at.exit
 
-    -- The same, where the caller's state and the inner iterator in hand stand behind references. What was lent is what is behind those that came back, once they are known to be the same.
-    pub driven_beside : {s t : S} {b d : Beside V (Option C)} {r : Answered (Answered R E) E} (hand : Option C) (v : V) → b.p.now ≡ None → Driven m.steps (TurnBehind beside beside_names Joins) s b r t d
+    -- The same, where the caller's state and the inner iterator in hand are lent by reference. What was lent is what those that came back point to, once they are known to be the same.
+    pub driven_beside : {s t : S} {b d : Beside V (Option C)} {r : Answered (Answered R E) E} (hand : Option C) (v : V) → b.p.now ≡ None → Driven m.steps (TurnThrough beside beside_names Joins) s b r t d
         → (d.p.ghost_name ≡ b.p.ghost_name → hand ≡ d.p.now) → (d.c.ghost_name ≡ b.c.ghost_name → v ≡ d.c.now) → Driven Draw turns (s, None) b.c.now (within r) (t, hand) v
     driven_beside {s = s} {t = t} {b = b} {d = d} {r = r} hand v is w is_hand is_v = let same = names_kept beside beside_names Joins w in
         subst (λ z. Driven Draw turns (s, None) b.c.now (within r) (t, hand) z) (sym (is_v (ap (λ z. z.0) same)))
         (subst (λ z. Driven Draw turns (s, None) b.c.now (within r) (t, z) d.c.now) (sym (is_hand (ap (λ z. z.1) same)))
-        (driven_joined is (driven_behind beside beside_names Joins w)))
+        (driven_joined is (driven_through beside beside_names Joins w)))
 
     -- what holds at each turn of the whole holds at each after items of the outer source
     module _ (P : V → B → Type 0) where

@@ -63,16 +63,16 @@ module _ {S U A B E : Type 0} (steps : S → Answered A E → S → Type 0) (oth
   item_of_left y a s t u v (both_drawn (Some z) r) f step drawn = let h = f (Ok (Some z)) t step in (r, ap (λ (k : A). both_drawn (Some k) r) (let q = h.0 in cc), drawn, h.1)
 
   -- what is answered there
-  beside : (y : A) (x : ZipPlace A B E) (r k : Answered B E) (answer : Answered (A × B) E) → answer ≡ zip_answer x → x ≡ both_drawn (Some y) r → r ≡ k → answer ≡ zip_answer (both_drawn (Some y) k)
-  beside y x r k answer e is same = e ∙ ap zip_answer is ∙ ap (λ (w : Answered B E). zip_answer (both_drawn (Some y) w)) same
+  answer_of_pair : (y : A) (x : ZipPlace A B E) (r k : Answered B E) (answer : Answered (A × B) E) → answer ≡ zip_answer x → x ≡ both_drawn (Some y) r → r ≡ k → answer ≡ zip_answer (both_drawn (Some y) k)
+  answer_of_pair y x r k answer e is same = e ∙ ap zip_answer is ∙ ap (λ (w : Answered B E). zip_answer (both_drawn (Some y) w)) same
 
   zipped_gives : (a : List (Result A E)) (b : List (Result B E)) (s : S) (u : U) → NoFailureAtEnd a b → AlwaysGives steps s a → AlwaysGives others u b → AlwaysGives (zip_step steps others) (s, u) (zipped a b)
   unfolding zipped
   zipped_gives [] b s u clear f g = λ r q w. w.3 ∙ end_of_left b s q.0 u q.1 w.0 clear f g w.1 w.2
   zipped_gives (Err d ∷ a) b s u clear f g = λ r q w. let h = failure_of_left d a s q.0 u q.1 w.0 f w.1 w.2 in (w.3 ∙ h.0, rw h.2 (zipped_gives a b q.0 u clear h.1 g))
-  zipped_gives (Ok y ∷ a) [] s u clear f g = λ r q w. let h = item_of_left y a s q.0 u q.1 w.0 f w.1 w.2 in beside y w.0 h.0 end r w.3 h.1 (g h.0 q.1 h.2)
-  zipped_gives (Ok y ∷ a) (Ok z ∷ b) s u clear f g = λ r q w. let h = item_of_left y a s q.0 u q.1 w.0 f w.1 w.2 in let d = g h.0 q.1 h.2 in (beside y w.0 h.0 (Ok (Some z)) r w.3 h.1 d.0, zipped_gives a b q.0 q.1 clear h.3 d.1)
-  zipped_gives (Ok y ∷ a) (Err e ∷ b) s u clear f g = λ r q w. let h = item_of_left y a s q.0 u q.1 w.0 f w.1 w.2 in let d = g h.0 q.1 h.2 in (beside y w.0 h.0 (Err e) r w.3 h.1 d.0, zipped_gives a b q.0 q.1 clear h.3 d.1)
+  zipped_gives (Ok y ∷ a) [] s u clear f g = λ r q w. let h = item_of_left y a s q.0 u q.1 w.0 f w.1 w.2 in answer_of_pair y w.0 h.0 end r w.3 h.1 (g h.0 q.1 h.2)
+  zipped_gives (Ok y ∷ a) (Ok z ∷ b) s u clear f g = λ r q w. let h = item_of_left y a s q.0 u q.1 w.0 f w.1 w.2 in let d = g h.0 q.1 h.2 in (answer_of_pair y w.0 h.0 (Ok (Some z)) r w.3 h.1 d.0, zipped_gives a b q.0 q.1 clear h.3 d.1)
+  zipped_gives (Ok y ∷ a) (Err e ∷ b) s u clear f g = λ r q w. let h = item_of_left y a s q.0 u q.1 w.0 f w.1 w.2 in let d = g h.0 q.1 h.2 in (answer_of_pair y w.0 h.0 (Err e) r w.3 h.1 d.0, zipped_gives a b q.0 q.1 clear h.3 d.1)
 
 pub lists_zipped : {S U A B E : Type 0} (m : Contract S A E) (k : Contract U B E) (c : Zip S U) (s : S) (a : List (Result A E)) (b : List (Result B E)) → zip_parts c ≡ (s, c.right) → NoFailureAtEnd a b → Lists m.steps s a → Lists k.steps c.right b → Lists (seen_as zip_parts (zip_contract m k)).steps c (zipped a b)
 lists_zipped m k c s a b parts clear f g = lists_seen zip_parts (zip_step m.steps k.steps) c parts refl (zipped_gives m.steps k.steps a b s c.right clear f.runs g.runs)

@@ -8,7 +8,7 @@ use Rattle.fallible_contract.specs.Traces.{Answered}
 use Rattle.fallible_contract.specs.Passing.{passing_step}
 use Rattle.fallible_contract.specs.Lists.{Lists}
 use Rattle.fallible_contract.specs.BothEnds.{ListsBothEnds, items_listed, source_list, passed_list}
-use Rattle.fallible_contract.proofs.Lemmas.BothEnds.Passing.{GivesAt, beside, source_beside, listed_passed}
+use Rattle.fallible_contract.proofs.Lemmas.BothEnds.Passing.{GivesAt, with_answer, source_beside, listed_passed}
 use Rattle.fallible_contract.proofs.Lemmas.Lists.Passing.{passed, all_given, lists_seen}
 use Rattle.fallible_core.specs.OneToOne.Map.{map_outcome, mapped}
 use Rattle.fallible_core.specs.OneToOne.Cloned.{cloned_call, cloned_parts, cloned_contract, pointed_to}
@@ -76,7 +76,7 @@ module _ {T E : Type 0} (is_clone : T → T → Type 0) (is_infallible : T → T
 
 -- each item beside what it points to
 abbrev pub with_original : {T E : Type 0} → List (Result (Bor T) E) → List (Result (Bor T × T) E)
-with_original l = map (beside (λ x. x.now)) l
+with_original l = map (with_answer (λ x. x.now)) l
 
 pub originals_passed : {T E : Type 0} (l : List (Result (Bor T) E)) → passed_list map_outcome (map with_clone (with_original l)) ≡ pointed_to l
 unfolding pointed_to

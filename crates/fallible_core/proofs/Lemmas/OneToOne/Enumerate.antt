@@ -15,10 +15,10 @@ module _ {S A E : Type 0} (steps : S → Answered A E → S → Type 0) where
   M = Numbered steps
 
   from_numbered : (s t : S) (n k : ℕ) (trace : List (Answered (ℕ × A) E)) → M s n trace t k → EnumerateTrace steps (s, n) trace (t, k)
-  from_numbered s _ n _ _ numbered_none = record { source_trace = []; drawn = refl; answers = refl; left = omega arith }
-  from_numbered s t n k _ (numbered_item {u = u} {trace = trace} x step h) = let p = from_numbered u t (n + 1) k trace h in record { source_trace = item x ∷ p.source_trace; drawn = (u, step, p.drawn); answers = ap (λ (l : List (Answered (ℕ × A) E)). item (n, x) ∷ l) p.answers; left = omega (arith, p.left) }
-  from_numbered s t n k _ (numbered_end {u = u} {trace = trace} step h) = let p = from_numbered u t n k trace h in record { source_trace = Ok None ∷ p.source_trace; drawn = (u, step, p.drawn); answers = ap (λ (l : List (Answered (ℕ × A) E)). Ok None ∷ l) p.answers; left = p.left }
-  from_numbered s t n k _ (numbered_failure {u = u} {trace = trace} e step h) = let p = from_numbered u t n k trace h in record { source_trace = Err e ∷ p.source_trace; drawn = (u, step, p.drawn); answers = ap (λ (l : List (Answered (ℕ × A) E)). Err e ∷ l) p.answers; left = p.left }
+  from_numbered s _ n _ _ numbered_none = record { source_trace = []; drawn = refl; answers = refl; number_after = omega arith }
+  from_numbered s t n k _ (numbered_item {u = u} {trace = trace} x step h) = let p = from_numbered u t (n + 1) k trace h in record { source_trace = item x ∷ p.source_trace; drawn = (u, step, p.drawn); answers = ap (λ (l : List (Answered (ℕ × A) E)). item (n, x) ∷ l) p.answers; number_after = omega (arith, p.number_after) }
+  from_numbered s t n k _ (numbered_end {u = u} {trace = trace} step h) = let p = from_numbered u t n k trace h in record { source_trace = Ok None ∷ p.source_trace; drawn = (u, step, p.drawn); answers = ap (λ (l : List (Answered (ℕ × A) E)). Ok None ∷ l) p.answers; number_after = p.number_after }
+  from_numbered s t n k _ (numbered_failure {u = u} {trace = trace} e step h) = let p = from_numbered u t n k trace h in record { source_trace = Err e ∷ p.source_trace; drawn = (u, step, p.drawn); answers = ap (λ (l : List (Answered (ℕ × A) E)). Err e ∷ l) p.answers; number_after = p.number_after }
 
   numbered_same : (s t : S) (n k : ℕ) → M s n [] t k → ◌≡◌ {A = S × ℕ} (s, n) (t, k)
   numbered_same s _ n _ numbered_none = refl

@@ -8,7 +8,7 @@ use Rattle.fallible_contract.specs.Contract.{Contract, KeptByDraw, NeverFails, S
 use Rattle.fallible_contract.specs.Lists.{AlwaysGives, Lists}
 use Rattle.fallible_contract.proofs.Lemmas.Lists.Passing.{lists_seen}
 use Rattle.fallible_contract.specs.Laws.Contract.{stays_after, stays_here}
-use Rattle.fallible_core.specs.Peeking.Peekable.{peekable_parts, held_answers, behind_held, PeekableTrace, peekable_step, peekable_contract, seen, failure_told, held_of, held_item, Fills, Peeks, Looks, TakenIf, NextIf}
+use Rattle.fallible_core.specs.Peeking.Peekable.{peekable_parts, held_answers, held_then, PeekableTrace, peekable_step, peekable_contract, seen, failure_told, held_of, held_item, Fills, Peeks, Looks, TakenIf, NextIf}
 use Rattle.fallible_core.specs.Laws.Peeking.Peekable.{drawn_goes}
 use Rattle.fallible_core.specs.declared.peeking.peekable.Peekable.{Peekable}
 
@@ -73,17 +73,17 @@ module _ {S A E : Type 0} (steps : S → Answered A E → S → Type 0) where
 
   module _ (test : A → Bool → Type 0) where
     pub takes_item : (p q : S × Option (Option A)) (x : A) → peekable_step steps p (item x) q → test x true → NextIf steps test p (item x) q
-    takes_item p q x step true_of = record { peeked = item x; left = (q.0, Some (Some x)); peeks = peeks_again p q (Some x) step; taken = inl (true_of, refl, (refl, refl, none_held p q (Some x) step)) }
+    takes_item p q x step true_of = record { peeked = item x; after = (q.0, Some (Some x)); peeks = peeks_again p q (Some x) step; taken = inl (true_of, refl, (refl, refl, none_held p q (Some x) step)) }
 
     pub keeps_item : (p q : S × Option (Option A)) (x : A) → peekable_step steps p (item x) q → test x false → NextIf steps test p end (q.0, Some (Some x))
-    keeps_item p q x step false_of = record { peeked = item x; left = (q.0, Some (Some x)); peeks = peeks_again p q (Some x) step; taken = inr (false_of, refl, refl) }
+    keeps_item p q x step false_of = record { peeked = item x; after = (q.0, Some (Some x)); peeks = peeks_again p q (Some x) step; taken = inr (false_of, refl, refl) }
 
     pub keeps_end : (p q : S × Option (Option A)) → peekable_step steps p end q → NextIf steps test p end (q.0, Some None)
-    keeps_end p q step = record { peeked = end; left = (q.0, Some None); peeks = peeks_again p q None step; taken = (refl, refl) }
+    keeps_end p q step = record { peeked = end; after = (q.0, Some None); peeks = peeks_again p q None step; taken = (refl, refl) }
 
     pub takes_failure : (p q : S × Option (Option A)) (e : E) → peekable_step steps p (Err e) q → NextIf steps test p (Err e) q
     takes_failure (s, Some o) q e step = absurd (let d = step.0 in cc)
-    takes_failure (s, None) (t, held) e step = record { peeked = Err e; left = (t, held); peeks = step; taken = (refl, refl) }
+    takes_failure (s, None) (t, held) e step = record { peeked = Err e; after = (t, held); peeks = step; taken = (refl, refl) }
 
 pub stays_kept : {S A E : Type 0} {m : Contract S A E} → Lawful m → (p q : S × Option (Option A)) (o : Option A) → m.can_next p.0 → peekable_step m.steps p (Ok o) q → Stays (peekable_contract m) p (q.0, Some o)
 stays_kept {m = m} l p q o c step = stays_peek l p (Ok o) (q.0, Some o) c (peeks_again m.steps p q o step)
@@ -148,7 +148,7 @@ module _ {S A E : Type 0} (steps : S → Answered A E → S → Type 0) (test te
   taken_by p (Err e) r q h = h
 
   pub next_if_by : (p : S × Option (Option A)) (r : Answered A E) (q : S × Option (Option A)) → NextIf steps test p r q → NextIf steps test' p r q
-  next_if_by p r q n = record { peeked = n.peeked; left = n.left; peeks = n.peeks; taken = taken_by n.left n.peeked r q n.taken }
+  next_if_by p r q n = record { peeked = n.peeked; after = n.after; peeks = n.peeks; taken = taken_by n.after n.peeked r q n.taken }
 
 -- ---- looking
 
@@ -170,10 +170,10 @@ peekable_gives {A = A} steps (y ∷ l) s g = λ r q w. let d = g r q.0 w.0 in (d
 pub lists_peekable : {S A E : Type 0} (m : Contract S A E) (s : Peekable S A E) (l : List (Result A E)) → peekable_parts s ≡ (s.it, None) → Lists m.steps s.it l → Lists (seen_as peekable_parts (peekable_contract m)).steps s l
 lists_peekable m s l parts i = lists_seen peekable_parts (peekable_step m.steps) s parts refl (peekable_gives m.steps l s.it i.runs)
 
-held_gives : {S A E : Type 0} (steps : S → Answered A E → S → Type 0) (held : Option (Option A)) (l : List (Result A E)) (s : S) → AlwaysGives steps s l → AlwaysGives (peekable_step steps) (s, held) (behind_held held l)
+held_gives : {S A E : Type 0} (steps : S → Answered A E → S → Type 0) (held : Option (Option A)) (l : List (Result A E)) (s : S) → AlwaysGives steps s l → AlwaysGives (peekable_step steps) (s, held) (held_then held l)
 held_gives {S} {A} {E} steps (Some (Some x)) l s g = λ r q w. (w.0, subst (λ (t : S). AlwaysGives (peekable_step steps) (t, q.1) l) (sym w.1) (subst (λ (k : Option (Option A)). AlwaysGives (peekable_step steps) (s, k) l) (sym w.2) (peekable_gives steps l s g)))
 held_gives steps (Some None) l s g = λ r q w. w.0
 held_gives steps None l s g = peekable_gives steps l s g
 
-pub lists_held : {S A E : Type 0} (m : Contract S A E) (s : Peekable S A E) (l : List (Result A E)) → Lists m.steps s.it l → Lists (seen_as peekable_parts (peekable_contract m)).steps s (behind_held s.held l)
+pub lists_held : {S A E : Type 0} (m : Contract S A E) (s : Peekable S A E) (l : List (Result A E)) → Lists m.steps s.it l → Lists (seen_as peekable_parts (peekable_contract m)).steps s (held_then s.held l)
 lists_held m s l i = lists_seen peekable_parts (peekable_step m.steps) s refl refl (held_gives m.steps s.held l s.it i.runs)

@@ -7,7 +7,7 @@ use Rattle.fallible_contract.specs.Traces.{Answered, item}
 use Rattle.fallible_contract.specs.Contract.{Contract, seen_as}
 use Rattle.fallible_contract.specs.Lists.{AlwaysGives, Lists, nth_of}
 use Rattle.fallible_contract.proofs.Lemmas.Lists.Passing.{lists_seen}
-use Rattle.fallible_core.specs.Peeking.Peekable.{peekable_parts, peekable_step, peekable_contract, Peeks, Looks, LooksAt, LooksAs, TakenIf, NextIf, looked_ahead, looked_at, first_if, behind_if}
+use Rattle.fallible_core.specs.Peeking.Peekable.{peekable_parts, peekable_step, peekable_contract, Peeks, Looks, LooksAt, LooksAs, TakenIf, NextIf, looked_ahead, look_of, first_if, rest_if}
 use Rattle.fallible_core.specs.declared.peeking.peekable.Peekable.{Peekable}
 
 -- what is listed of a value is listed of its parts
@@ -42,8 +42,8 @@ module _ {S A E : Type 0} (steps : S → Answered A E → S → Type 0) where
   peeked (s, None) (t, k) (Ok (Some x)) (Err y ∷ l) a w = absurd (let h = (a (Ok (Some x)) (t, None) (w.0, refl)).0 in cc)
   peeked (s, None) (t, k) (Err e) (Err y ∷ l) a w = let d = a (Err e) (t, None) (w.0, refl) in (d.0, subst (λ (h : Option (Option A)). AlwaysGives Step (t, h) l) (sym w.1) d.1)
 
-  looked : {F R : Type 0} (g : Shared F (Bor A × Unit {0}) R) (f : F) (h : A → R) → LooksAs g f h → (a : Answered A E) (r : Result (Option R) E) (l : List (Result A E)) → a ≡ nth_of 0 l → LooksAt g f a r → r ≡ looked_at h l
-  unfolding nth_of looked_at
+  looked : {F R : Type 0} (g : Shared F (Bor A × Unit {0}) R) (f : F) (h : A → R) → LooksAs g f h → (a : Answered A E) (r : Result (Option R) E) (l : List (Result A E)) → a ≡ nth_of 0 l → LooksAt g f a r → r ≡ look_of h l
+  unfolding nth_of look_of
   looked g f h acts (Ok (Some x)) r [] is w = absurd cc
   looked g f h acts (Ok None) r [] is w = w
   looked g f h acts (Err e) r [] is w = absurd cc
@@ -55,8 +55,8 @@ module _ {S A E : Type 0} (steps : S → Answered A E → S → Type 0) where
   looked g f h acts (Err e) r (Err y ∷ l) is w = w ∙ ap (λ (d : E). Err d) (let same : e ≡ y = cc in same)
 
   -- a test by a function, and what it takes
-  taken : (test : A → Bool → Type 0) (h : A → Bool) → ((x : A) (b : Bool) → test x b → b ≡ h x) → (a r : Answered A E) (p q : S × Option (Option A)) (l : List (Result A E)) → a ≡ nth_of 0 l → AlwaysGives Step p (looked_ahead l) → TakenIf steps test p a r q → (r ≡ first_if h l) × AlwaysGives Step q (behind_if h l)
-  unfolding nth_of looked_ahead first_if behind_if
+  taken : (test : A → Bool → Type 0) (h : A → Bool) → ((x : A) (b : Bool) → test x b → b ≡ h x) → (a r : Answered A E) (p q : S × Option (Option A)) (l : List (Result A E)) → a ≡ nth_of 0 l → AlwaysGives Step p (looked_ahead l) → TakenIf steps test p a r q → (r ≡ first_if h l) × AlwaysGives Step q (rest_if h l)
+  unfolding nth_of looked_ahead first_if rest_if
   taken test h acts (Ok (Some x)) r p q [] is given w = absurd cc
   taken test h acts (Ok None) r p q [] is given w = (w.0, subst (λ (z : S × Option (Option A)). AlwaysGives {A = A} Step z []) (sym w.1) given)
   taken test h acts (Err e) r p q [] is given w = absurd cc
@@ -77,11 +77,11 @@ module _ {S A E : Type 0} (m : Contract S A E) (s t : Peekable S A E) (l : List 
   pub peek_listed : {r : Answered A E} → Peeks m.steps (peekable_parts s) r (peekable_parts t) → (r ≡ nth_of 0 l) × Lists (seen_as peekable_parts (peekable_contract m)).steps t (looked_ahead l)
   peek_listed {r = r} w = let d = peeked m.steps (peekable_parts s) (peekable_parts t) r l given_parts w in (d.0, lists_seen peekable_parts (peekable_step m.steps) t refl refl d.1)
 
-  pub look_listed : {F R : Type 0} {g : Shared F (Bor A × Unit {0}) R} {f : F} {r : Result (Option R) E} (h : A → R) → LooksAs g f h → Looks m.steps g f (peekable_parts s) r (peekable_parts t) → (r ≡ looked_at h l) × Lists (seen_as peekable_parts (peekable_contract m)).steps t (looked_ahead l)
+  pub look_listed : {F R : Type 0} {g : Shared F (Bor A × Unit {0}) R} {f : F} {r : Result (Option R) E} (h : A → R) → LooksAs g f h → Looks m.steps g f (peekable_parts s) r (peekable_parts t) → (r ≡ look_of h l) × Lists (seen_as peekable_parts (peekable_contract m)).steps t (looked_ahead l)
   look_listed {g = g} {f = f} {r = r} h acts w = let d = peek_listed w.1 in (looked m.steps g f h acts w.0 r l d.0 w.2, d.1)
 
-  pub next_if_listed : {test : A → Bool → Type 0} {r : Answered A E} (h : A → Bool) → ((x : A) (b : Bool) → test x b → b ≡ h x) → NextIf m.steps test (peekable_parts s) r (peekable_parts t) → (r ≡ first_if h l) × Lists (seen_as peekable_parts (peekable_contract m)).steps t (behind_if h l)
+  pub next_if_listed : {test : A → Bool → Type 0} {r : Answered A E} (h : A → Bool) → ((x : A) (b : Bool) → test x b → b ≡ h x) → NextIf m.steps test (peekable_parts s) r (peekable_parts t) → (r ≡ first_if h l) × Lists (seen_as peekable_parts (peekable_contract m)).steps t (rest_if h l)
   next_if_listed {test = test} {r = r} h acts w =
-      let d = peeked m.steps (peekable_parts s) w.left w.peeked l given_parts w.peeks in
-      let k = taken m.steps test h acts w.peeked r w.left (peekable_parts t) l d.0 d.1 w.taken in
+      let d = peeked m.steps (peekable_parts s) w.after w.peeked l given_parts w.peeks in
+      let k = taken m.steps test h acts w.peeked r w.after (peekable_parts t) l d.0 d.1 w.taken in
       (k.0, lists_seen peekable_parts (peekable_step m.steps) t refl refl k.1)

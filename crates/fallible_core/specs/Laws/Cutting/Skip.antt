@@ -1,7 +1,7 @@
 -- `Skip`'s contract is lawful where the source's is.
 use Rattle.std.specs.Prelude.{◌-◌, ltb}
 use Rattle.fallible_contract.specs.Contract.{Contract, Lawful}
-use Rattle.fallible_contract.specs.Laws.Counting.{goes_by_number}
+use Rattle.fallible_contract.specs.Laws.ByNumber.{goes_by_number}
 use Rattle.fallible_contract.specs.Laws.WithSteps.{lawful_with_steps}
 use Rattle.fallible_core.specs.Cutting.Skip.{skip_contract}
 

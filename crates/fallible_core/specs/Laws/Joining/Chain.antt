@@ -5,7 +5,7 @@ use Rattle.std.proofs.Common.{arith, inl, inr, refl, ap₂}
 use Rattle.fallible_contract.specs.Traces.{Answered, end, is_end}
 use Rattle.fallible_contract.specs.Contract.{Contract, OnAnswer, KeptByDraw, Lawful, lenders_of_both}
 use Rattle.fallible_contract.specs.Ends.{Ends, from_back, LawfulEnds}
-use Rattle.fallible_core.specs.Joining.Chain.{chain_may_come, chain_contract, chain_behind, chain_ends}
+use Rattle.fallible_core.specs.Joining.Chain.{chain_may_come, chain_contract, chain_back, chain_ends}
 use Rattle.fallible_core.specs.declared.joining.chain.StillDrawn.{StillDrawn}
 use Rattle.fallible_core.specs.declared.joining.chain.StillDrawn.TheVariants.{Both, FirstAlone, SecondAlone}
 
@@ -91,10 +91,10 @@ module _ {S U A E : Type 0} (first : Contract S A E) (second : Contract U A E) w
     }
 
     goes_chain : (p : S × U × StillDrawn) (r : Answered A E) (q : S × U × StillDrawn) → C.can_next p → C.steps p r q → KeptByDraw C p r q
-    goes_chain (s, u, Both) r (t, v, left) c (inl step) = rw (step.2, step.3) (before_end_goes s t u r c step.0 step.1)
-    goes_chain (s, u, Both) r (t, v, left) c (inr step) = rw step.2 (at_end_goes s t u v r c step.0 step.1)
-    goes_chain (s, u, FirstAlone) r (t, v, left) c step = rw (step.1, step.2) (first_goes s t u r c step.0)
-    goes_chain (s, u, SecondAlone) r (t, v, left) c step = rw (step.1, step.2) (second_goes s u v r c step.0)
+    goes_chain (s, u, Both) r (t, v, after) c (inl step) = rw (step.2, step.3) (before_end_goes s t u r c step.0 step.1)
+    goes_chain (s, u, Both) r (t, v, after) c (inr step) = rw step.2 (at_end_goes s t u v r c step.0 step.1)
+    goes_chain (s, u, FirstAlone) r (t, v, after) c step = rw (step.1, step.2) (first_goes s t u r c step.0)
+    goes_chain (s, u, SecondAlone) r (t, v, after) c step = rw (step.1, step.2) (second_goes s u v r c step.0)
 
     ends_chain : (p : S × U × StillDrawn) → C.is_finite p ↔ ((n : ℕ) × C.bound p n)
     ends_chain (s, u, Both) = (
@@ -116,60 +116,60 @@ may_come_more f g (s, u, FirstAlone) x h = f s x h
 may_come_more f g (s, u, SecondAlone) x h = g u x h
 
 -- the same may come from the sides swapped
-may_come_behind : {S U X : Type 0} (P : S → X → Type 0) (Q : U → X → Type 0) (p : S × U × StillDrawn) (x : X) → chain_may_come P Q p x ↔ chain_may_come Q P (chain_behind p) x
-may_come_behind P Q (s, u, Both) x = ((λ h. elim h [ inl a ↦ inr a | inr b ↦ inl b ]), (λ h. elim h [ inl b ↦ inr b | inr a ↦ inl a ]))
-may_come_behind P Q (s, u, FirstAlone) x = ((λ h. h), (λ h. h))
-may_come_behind P Q (s, u, SecondAlone) x = ((λ h. h), (λ h. h))
+may_come_back : {S U X : Type 0} (P : S → X → Type 0) (Q : U → X → Type 0) (p : S × U × StillDrawn) (x : X) → chain_may_come P Q p x ↔ chain_may_come Q P (chain_back p) x
+may_come_back P Q (s, u, Both) x = ((λ h. elim h [ inl a ↦ inr a | inr b ↦ inl b ]), (λ h. elim h [ inl b ↦ inr b | inr a ↦ inl a ]))
+may_come_back P Q (s, u, FirstAlone) x = ((λ h. h), (λ h. h))
+may_come_back P Q (s, u, SecondAlone) x = ((λ h. h), (λ h. h))
 
 module _ {S U A E : Type 0} (first : Contract S A E) (second : Contract U A E) where
   -- What else is said of the sides is said of them swapped.
-  bound_behind : (p : S × U × StillDrawn) (n : ℕ) → (C first second).bound p n ↔ (C second first).bound (chain_behind p) n
-  bound_behind (s, u, Both) n = ((λ h. (h.1, h.0, h.3, h.2, omega (arith, h.4))), (λ h. (h.1, h.0, h.3, h.2, omega (arith, h.4))))
-  bound_behind (s, u, FirstAlone) n = ((λ h. h), (λ h. h))
-  bound_behind (s, u, SecondAlone) n = ((λ h. h), (λ h. h))
+  bound_back : (p : S × U × StillDrawn) (n : ℕ) → (C first second).bound p n ↔ (C second first).bound (chain_back p) n
+  bound_back (s, u, Both) n = ((λ h. (h.1, h.0, h.3, h.2, omega (arith, h.4))), (λ h. (h.1, h.0, h.3, h.2, omega (arith, h.4))))
+  bound_back (s, u, FirstAlone) n = ((λ h. h), (λ h. h))
+  bound_back (s, u, SecondAlone) n = ((λ h. h), (λ h. h))
 
-  is_finite_behind : (p : S × U × StillDrawn) → (C first second).is_finite p ↔ (C second first).is_finite (chain_behind p)
-  is_finite_behind (s, u, Both) = ((λ h. (h.1, h.0)), (λ h. (h.1, h.0)))
-  is_finite_behind (s, u, FirstAlone) = ((λ h. h), (λ h. h))
-  is_finite_behind (s, u, SecondAlone) = ((λ h. h), (λ h. h))
+  is_finite_back : (p : S × U × StillDrawn) → (C first second).is_finite p ↔ (C second first).is_finite (chain_back p)
+  is_finite_back (s, u, Both) = ((λ h. (h.1, h.0)), (λ h. (h.1, h.0)))
+  is_finite_back (s, u, FirstAlone) = ((λ h. h), (λ h. h))
+  is_finite_back (s, u, SecondAlone) = ((λ h. h), (λ h. h))
 
-  finite_behind : (p : S × U × StillDrawn) → IsFinite ((C first second).remaining p) ↔ IsFinite ((C second first).remaining (chain_behind p))
-  finite_behind (s, u, Both) = (
+  finite_back : (p : S × U × StillDrawn) → IsFinite ((C first second).remaining p) ↔ IsFinite ((C second first).remaining (chain_back p))
+  finite_back (s, u, Both) = (
     (λ h. let b = both_finite (first.remaining s).bounded (second.remaining u).bounded h in sum_finite (second.remaining u).bounded (first.remaining s).bounded b.1 b.0),
     (λ h. let b = both_finite (second.remaining u).bounded (first.remaining s).bounded h in sum_finite (first.remaining s).bounded (second.remaining u).bounded b.1 b.0),
   )
-  finite_behind (s, u, FirstAlone) = ((λ h. h), (λ h. h))
-  finite_behind (s, u, SecondAlone) = ((λ h. h), (λ h. h))
+  finite_back (s, u, FirstAlone) = ((λ h. h), (λ h. h))
+  finite_back (s, u, SecondAlone) = ((λ h. h), (λ h. h))
 
-  size_behind : (p : S × U × StillDrawn) → size ((C first second).remaining p) ≡ size ((C second first).remaining (chain_behind p))
-  size_behind (s, u, Both) = omega arith
-  size_behind (s, u, FirstAlone) = refl
-  size_behind (s, u, SecondAlone) = refl
+  size_back : (p : S × U × StillDrawn) → size ((C first second).remaining p) ≡ size ((C second first).remaining (chain_back p))
+  size_back (s, u, Both) = omega arith
+  size_back (s, u, FirstAlone) = refl
+  size_back (s, u, SecondAlone) = refl
 
-  answer_behind : (p : S × U × StillDrawn) (r : Answered A E) (q : S × U × StillDrawn) → OnAnswer (C second first) (chain_behind p) r (chain_behind q) → OnAnswer (C first second) p r q
-  answer_behind p (Ok (Some x)) q a = (
-    (may_come_behind first.may_give second.may_give p x).1 a.0,
-    (λ n h. let k = a.1 n ((bound_behind p n).0 h) in (k.0, (bound_behind q k.0).1 k.1, k.2)),
-    (λ f. let k = a.2 ((finite_behind p).0 f) in ((finite_behind q).1 k.0, omega (arith, k.1, size_behind p, size_behind q))),
+  answer_back : (p : S × U × StillDrawn) (r : Answered A E) (q : S × U × StillDrawn) → OnAnswer (C second first) (chain_back p) r (chain_back q) → OnAnswer (C first second) p r q
+  answer_back p (Ok (Some x)) q a = (
+    (may_come_back first.may_give second.may_give p x).1 a.0,
+    (λ n h. let k = a.1 n ((bound_back p n).0 h) in (k.0, (bound_back q k.0).1 k.1, k.2)),
+    (λ f. let k = a.2 ((finite_back p).0 f) in ((finite_back q).1 k.0, omega (arith, k.1, size_back p, size_back q))),
   )
-  answer_behind p (Ok None) q a = (
-    (λ n h. let k = a.0 n ((bound_behind p n).0 h) in (k.0, (bound_behind q k.0).1 k.1, k.2)),
-    (λ f. let k = a.1 ((finite_behind p).0 f) in ((finite_behind q).1 k.0, omega (arith, k.1, size_behind p, size_behind q))),
+  answer_back p (Ok None) q a = (
+    (λ n h. let k = a.0 n ((bound_back p n).0 h) in (k.0, (bound_back q k.0).1 k.1, k.2)),
+    (λ f. let k = a.1 ((finite_back p).0 f) in ((finite_back q).1 k.0, omega (arith, k.1, size_back p, size_back q))),
   )
-  answer_behind p (Err e) q a = (
-    (may_come_behind first.may_fail second.may_fail p e).1 a.0,
-    (λ n h. let k = a.1 n ((bound_behind p n).0 h) in (k.0, (bound_behind q k.0).1 k.1, k.2)),
-    (λ f. let k = a.2 ((finite_behind p).0 f) in ((finite_behind q).1 k.0, omega (arith, k.1, size_behind p, size_behind q))),
+  answer_back p (Err e) q a = (
+    (may_come_back first.may_fail second.may_fail p e).1 a.0,
+    (λ n h. let k = a.1 n ((bound_back p n).0 h) in (k.0, (bound_back q k.0).1 k.1, k.2)),
+    (λ f. let k = a.2 ((finite_back p).0 f) in ((finite_back q).1 k.0, omega (arith, k.1, size_back p, size_back q))),
   )
 
-  -- A draw that goes, seen from behind, goes, whatever the steps are.
-  goes_behind : (steps : S × U × StillDrawn → Answered A E → S × U × StillDrawn → Type 0) (p : S × U × StillDrawn) (r : Answered A E) (q : S × U × StillDrawn) → KeptByDraw (C second first) (chain_behind p) r (chain_behind q) → KeptByDraw (record (C first second) { steps = steps }) p r q
-  goes_behind steps p r q g = record {
+  -- A draw that goes, seen from the back, goes, whatever the steps are.
+  goes_back : (steps : S × U × StillDrawn → Answered A E → S × U × StillDrawn → Type 0) (p : S × U × StillDrawn) (r : Answered A E) (q : S × U × StillDrawn) → KeptByDraw (C second first) (chain_back p) r (chain_back q) → KeptByDraw (record (C first second) { steps = steps }) p r q
+  goes_back steps p r q g = record {
     can_next = (g.can_next.1, g.can_next.0);
-    is_finite = λ h. (is_finite_behind q).1 (g.is_finite ((is_finite_behind p).0 h));
-    answer = answer_behind p r q g.answer;
-    may_give = λ x h. (may_come_behind first.may_give second.may_give p x).1 (g.may_give x ((may_come_behind first.may_give second.may_give q x).0 h));
-    may_fail = λ e h. (may_come_behind first.may_fail second.may_fail p e).1 (g.may_fail e ((may_come_behind first.may_fail second.may_fail q e).0 h));
+    is_finite = λ h. (is_finite_back q).1 (g.is_finite ((is_finite_back p).0 h));
+    answer = answer_back p r q g.answer;
+    may_give = λ x h. (may_come_back first.may_give second.may_give p x).1 (g.may_give x ((may_come_back first.may_give second.may_give q x).0 h));
+    may_fail = λ e h. (may_come_back first.may_fail second.may_fail p e).1 (g.may_fail e ((may_come_back first.may_fail second.may_fail q e).0 h));
     lenders = let e = g.lenders in ap₂ lenders_of_both (cc) (cc);
   }
 
@@ -180,7 +180,7 @@ lawful_ends_chain {first = first} {f = f} {second = second} {e = e} l k = record
   may_fail = may_come_more l.may_fail k.may_fail;
   front = lawful_chain l.front k.front;
   back = record {
-    kept_by_draw = λ p r q c step. goes_behind (from_back first f) (from_back second e) (chain_ends f e).steps p r q ((lawful_chain k.back l.back).kept_by_draw (chain_behind p) r (chain_behind q) (c.1, c.0) step);
+    kept_by_draw = λ p r q c step. goes_back (from_back first f) (from_back second e) (chain_ends f e).steps p r q ((lawful_chain k.back l.back).kept_by_draw (chain_back p) r (chain_back q) (c.1, c.0) step);
     bounded = (lawful_chain l.back k.back).bounded;
   };
 }

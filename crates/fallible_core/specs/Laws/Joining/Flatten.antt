@@ -58,7 +58,7 @@ module _ {S X C B E : Type 0} (outer : S → Answered X E → S → Type 0) (int
   some_after (q ∷ answers) r trace = λ e. absurd cc
 
   after_finished : (s t : S) (c : C) (hand : Option C) (answers trace : List (Answered B E)) → Finished inner c answers → Nonempty s None trace t hand → Nonempty s (Some c) (answers ++ trace) t hand
-  after_finished s t c hand answers trace f n = rw n.is (nonempty (answers ++ n.first ∷ n.others) s t (Some c) hand (some_after answers n.first n.others) (finished answers s t c f.left hand n.first n.others f.drawn f.no_end n.flattens))
+  after_finished s t c hand answers trace f n = rw n.is (nonempty (answers ++ n.first ∷ n.others) s t (Some c) hand (some_after answers n.first n.others) (finished answers s t c f.after hand n.first n.others f.drawn f.no_end n.flattens))
 
   -- the last part
   from_last : (last : Part X C B E) (s t : S) (hand : Option C) → Run outer s (outer_answer last ∷ []) t → LastPart into inner last hand → Nonempty s None (part_answers last) t hand

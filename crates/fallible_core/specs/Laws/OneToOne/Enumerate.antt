@@ -14,13 +14,13 @@ module _ {S A E : Type 0} (steps : S → Answered A E → S → Type 0) where
     numbered_failure : {s u t : S} {n k : ℕ} {trace : List (Answered (ℕ × A) E)} (e : E) → steps s (Err e) u → Numbered u n trace t k → Numbered s n (Err e ∷ trace) t k
 
   from_source : (source : List (Answered A E)) (s t : S) (n k : ℕ) → Run steps s source t → k ≡ n + items_in source → Numbered s n (numbered_from n source) t k
-  from_source [] s t n k ran left = subst (λ (u : S). Numbered s n [] u k) ran (let same : n ≡ k = omega (arith, left) in subst (λ (j : ℕ). Numbered s n [] s j) same numbered_none)
-  from_source (Ok (Some x) ∷ rest) s t n k ran left = numbered_item x ran.1 (from_source rest ran.0 t (n + 1) k ran.2 (omega (arith, left)))
-  from_source (Ok None ∷ rest) s t n k ran left = numbered_end ran.1 (from_source rest ran.0 t n k ran.2 left)
-  from_source (Err e ∷ rest) s t n k ran left = numbered_failure e ran.1 (from_source rest ran.0 t n k ran.2 left)
+  from_source [] s t n k ran number_after = subst (λ (u : S). Numbered s n [] u k) ran (let same : n ≡ k = omega (arith, number_after) in subst (λ (j : ℕ). Numbered s n [] s j) same numbered_none)
+  from_source (Ok (Some x) ∷ rest) s t n k ran number_after = numbered_item x ran.1 (from_source rest ran.0 t (n + 1) k ran.2 (omega (arith, number_after)))
+  from_source (Ok None ∷ rest) s t n k ran number_after = numbered_end ran.1 (from_source rest ran.0 t n k ran.2 number_after)
+  from_source (Err e ∷ rest) s t n k ran number_after = numbered_failure e ran.1 (from_source rest ran.0 t n k ran.2 number_after)
 
   pub to_numbered : (s t : S) (n k : ℕ) (trace : List (Answered (ℕ × A) E)) → EnumerateTrace steps (s, n) trace (t, k) → Numbered s n trace t k
-  to_numbered s t n k trace p = subst (λ (l : List (Answered (ℕ × A) E)). Numbered s n l t k) (sym p.answers) (from_source p.source_trace s t n k p.drawn p.left)
+  to_numbered s t n k trace p = subst (λ (l : List (Answered (ℕ × A) E)). Numbered s n l t k) (sym p.answers) (from_source p.source_trace s t n k p.drawn p.number_after)
 
 module _ {S A E : Type 0} (m : Contract S A E) (l : Lawful m) where
   abbrev M : Contract (S × ℕ) (ℕ × A) E

@@ -73,10 +73,10 @@ module _ {S F X E : Type 0} (steps : S → Answered X E → S → Type 0) (call 
 -- ---- `Take`
 
 module _ {S A E : Type 0} (steps : S → Answered A E → S → Type 0) where
-  took : (xs : List A) (s : S) (n : ℕ) (q : S × ℕ) → Yields (take_step steps) (s, n) xs q → Yields steps s xs q.0 × (q.1 + length xs ≡ n)
-  took [] s n q e = let left : n ≡ q.1 = ap (λ (p : S × ℕ). p.1) e in (ap (λ (p : S × ℕ). p.0) e, omega (arith, left))
-  took (x ∷ xs) s zero q ran = absurd (let e = ran.1.0 in cc)
-  took (x ∷ xs) s (suc n) q ran = let rest = took xs ran.0.0 ran.0.1 q ran.2 in ((ran.0.0, ran.1.0, rest.0), omega (arith, ran.1.1, rest.1))
+  take_yields : (xs : List A) (s : S) (n : ℕ) (q : S × ℕ) → Yields (take_step steps) (s, n) xs q → Yields steps s xs q.0 × (q.1 + length xs ≡ n)
+  take_yields [] s n q e = let left : n ≡ q.1 = ap (λ (p : S × ℕ). p.1) e in (ap (λ (p : S × ℕ). p.0) e, omega (arith, left))
+  take_yields (x ∷ xs) s zero q ran = absurd (let e = ran.1.0 in cc)
+  take_yields (x ∷ xs) s (suc n) q ran = let rest = take_yields xs ran.0.0 ran.0.1 q ran.2 in ((ran.0.0, ran.1.0, rest.0), omega (arith, ran.1.1, rest.1))
 
   end_or_full : (t : S) (n : ℕ) (q : S × ℕ) → take_step steps (t, n) end q → (n ≡ 0) ⊎ steps t end q.0
   end_or_full t zero q w = inl refl
@@ -88,8 +88,8 @@ module _ {S A E : Type 0} (steps : S → Answered A E → S → Type 0) where
 
   pub take_brackets : (p : S × ℕ) (k : ℕ × Option ℕ) → Brackets steps p.0 k → Brackets (take_step steps) p (hint_up_to p.1 k)
   take_brackets (s, n) k b = record {
-    above = λ xs q ran. let d = took xs s n q ran in at_most_both k.1 n (length xs) (omega (arith, d.1)) (b.above xs q.0 d.0);
-    below = λ xs q z ran w. let d = took xs s n q ran in elim (end_or_full q.0 q.1 z w) [
+    above = λ xs q ran. let d = take_yields xs s n q ran in at_most_both k.1 n (length xs) (omega (arith, d.1)) (b.above xs q.0 d.0);
+    below = λ xs q z ran w. let d = take_yields xs s n q ran in elim (end_or_full q.0 q.1 z w) [
       | inl full ↦ omega (arith, d.1, full)
       | inr step ↦ let le = b.below xs q.0 z.0 d.0 step in omega (arith, le)
     ];

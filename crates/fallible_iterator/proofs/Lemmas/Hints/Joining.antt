@@ -39,28 +39,28 @@ sum_above None b i j n same le ge = tt
 -- ---- `Chain`
 
 module _ {S U A E : Type 0} (steps : S → Answered A E → S → Type 0) (others : U → Answered A E → U → Type 0) where
-  abbrev chained : S × U × StillDrawn → Answered A E → S × U × StillDrawn → Type 0
-  chained = chain_step steps others
+  abbrev chained_step : S × U × StillDrawn → Answered A E → S × U × StillDrawn → Type 0
+  chained_step = chain_step steps others
 
   -- where one side alone is still drawn
-  first_item : (p q : S × U × StillDrawn) (r : Answered A E) → p.2 ≡ FirstAlone → chained p r q → steps p.0 r q.0 × (q.2 ≡ FirstAlone)
+  first_item : (p q : S × U × StillDrawn) (r : Answered A E) → p.2 ≡ FirstAlone → chained_step p r q → steps p.0 r q.0 × (q.2 ≡ FirstAlone)
   first_item (s, u, Both) q r e w = absurd cc
   first_item (s, u, FirstAlone) q r e w = (w.0, w.2)
   first_item (s, u, SecondAlone) q r e w = absurd cc
 
-  pub first_one : OneOfOne chained steps (λ p. p.0) (λ p. p.2 ≡ FirstAlone)
+  pub first_one : OneOfOne chained_step steps (λ p. p.0) (λ p. p.2 ≡ FirstAlone)
   first_one = record { item_drawn = λ p q x e w. let d = first_item p q (item x) e w in (x, d.0, d.1); end_drawn = λ p q e w. (first_item p q end e w).0 }
 
-  second_item : (p q : S × U × StillDrawn) (r : Answered A E) → p.2 ≡ SecondAlone → chained p r q → others p.1 r q.1 × (q.2 ≡ SecondAlone)
+  second_item : (p q : S × U × StillDrawn) (r : Answered A E) → p.2 ≡ SecondAlone → chained_step p r q → others p.1 r q.1 × (q.2 ≡ SecondAlone)
   second_item (s, u, Both) q r e w = absurd cc
   second_item (s, u, FirstAlone) q r e w = absurd cc
   second_item (s, u, SecondAlone) q r e w = (w.0, w.2)
 
-  pub second_one : OneOfOne chained others (λ p. p.1) (λ p. p.2 ≡ SecondAlone)
+  pub second_one : OneOfOne chained_step others (λ p. p.1) (λ p. p.2 ≡ SecondAlone)
   second_one = record { item_drawn = λ p q x e w. let d = second_item p q (item x) e w in (x, d.0, d.1); end_drawn = λ p q e w. (second_item p q end e w).0 }
 
   -- the first stays as it is once its end was met
-  first_stays : (xs : List A) (p q : S × U × StillDrawn) → p.2 ≡ SecondAlone → Yields chained p xs q → q.0 ≡ p.0
+  first_stays : (xs : List A) (p q : S × U × StillDrawn) → p.2 ≡ SecondAlone → Yields chained_step p xs q → q.0 ≡ p.0
   first_stays [] p q e ran = sym (ap (λ (z : S × U × StillDrawn). z.0) ran)
   first_stays (x ∷ xs) (s, u, Both) q e ran = absurd cc
   first_stays (x ∷ xs) (s, u, FirstAlone) q e ran = absurd cc
@@ -77,59 +77,59 @@ module _ {S U A E : Type 0} (steps : S → Answered A E → S → Type 0) (other
   record InBack (s : S) (u : U) (n : ℕ) (q : S × U × StillDrawn) : Type 0 where
     of_first : List A
     of_second : List A
-    left : S
-    ran : Yields steps s of_first left
-    ended : steps left end q.0
+    after : S
+    ran : Yields steps s of_first after
+    ended : steps after end q.0
     ran_second : Yields others u of_second q.1
     many : n ≡ length of_first + length of_second
     second : q.2 ≡ SecondAlone
 
   in_front : (x : A) (s t : S) (u : U) (n : ℕ) (q : S × U × StillDrawn) → steps s (item x) t → InFront t u n q ⊎ InBack t u n q → InFront s u (suc n) q ⊎ InBack s u (suc n) q
   in_front x s t u n q step (inl d) = inl (record { of_first = x ∷ d.of_first; ran = (t, step, d.ran); many = omega (arith, d.many); undrawn = d.undrawn; both = d.both })
-  in_front x s t u n q step (inr d) = inr (record { of_first = x ∷ d.of_first; of_second = d.of_second; left = d.left; ran = (t, step, d.ran); ended = d.ended; ran_second = d.ran_second; many = omega (arith, d.many); second = d.second })
+  in_front x s t u n q step (inr d) = inr (record { of_first = x ∷ d.of_first; of_second = d.of_second; after = d.after; ran = (t, step, d.ran); ended = d.ended; ran_second = d.ran_second; many = omega (arith, d.many); second = d.second })
 
-  runs : (xs : List A) (p : S × U × StillDrawn) (q : S × U × StillDrawn) → p.2 ≡ Both → Yields chained p xs q → InFront p.0 p.1 (length xs) q ⊎ InBack p.0 p.1 (length xs) q
+  runs : (xs : List A) (p : S × U × StillDrawn) (q : S × U × StillDrawn) → p.2 ≡ Both → Yields chained_step p xs q → InFront p.0 p.1 (length xs) q ⊎ InBack p.0 p.1 (length xs) q
   runs [] p q e ran = inl (record { of_first = []; ran = ap (λ (z : S × U × StillDrawn). z.0) ran; many = refl; undrawn = sym (ap (λ (z : S × U × StillDrawn). z.1) ran); both = subst (λ (z : S × U × StillDrawn). z.2 ≡ Both) ran e })
   runs (x ∷ xs) (s, u, FirstAlone) q e ran = absurd cc
   runs (x ∷ xs) (s, u, SecondAlone) q e ran = absurd cc
   runs (x ∷ xs) (s, u, Both) q e ran = elim ran.1 [
     | inl d ↦ in_front x s ran.0.0 u (length xs) q d.0 (subst (λ (v : U). InFront ran.0.0 v (length xs) q ⊎ InBack ran.0.0 v (length xs) q) d.2 (runs xs ran.0 q d.3 ran.2))
     | inr d ↦
-        let rest = as_many chained others (λ p. p.1) (λ p. p.2 ≡ SecondAlone) second_one.item_drawn xs ran.0 q d.2 ran.2 in
+        let rest = as_many chained_step others (λ p. p.1) (λ p. p.2 ≡ SecondAlone) second_one.item_drawn xs ran.0 q d.2 ran.2 in
         let stays : q.0 ≡ ran.0.0 = first_stays xs ran.0 q d.2 ran.2 in
-        inr (record { of_first = []; of_second = x ∷ rest.0; left = s; ran = refl; ended = subst (λ (t : S). steps s end t) (sym stays) d.0; ran_second = (ran.0.1, d.1, rest.1); many = omega (arith, rest.2); second = rest.3 })
+        inr (record { of_first = []; of_second = x ∷ rest.0; after = s; ran = refl; ended = subst (λ (t : S). steps s end t) (sym stays) d.0; ran_second = (ran.0.1, d.1, rest.1); many = omega (arith, rest.2); second = rest.3 })
   ]
 
   -- ---- bounds
 
-  ended_both : (p q : S × U × StillDrawn) → p.2 ≡ Both → chained p end q → steps p.0 end q.0 × others p.1 end q.1
+  ended_both : (p q : S × U × StillDrawn) → p.2 ≡ Both → chained_step p end q → steps p.0 end q.0 × others p.1 end q.1
   ended_both (s, u, Both) q e w = elim w [ inl d ↦ absurd (let no : is_end {A = A} {E = E} end ≡ false = d.1 in cc) | inr d ↦ (d.0, d.1) ]
   ended_both (s, u, FirstAlone) q e w = absurd cc
   ended_both (s, u, SecondAlone) q e w = absurd cc
 
   both_above : (p q : S × U × StillDrawn) (f b : ℕ × Option ℕ) (n : ℕ) → Brackets steps p.0 f → Brackets others p.1 b → InFront p.0 p.1 n q ⊎ InBack p.0 p.1 n q → IfSome (hint_sum f b).1 (λ m. n ≤ m)
   both_above p q f b n i j (inl d) = sum_above f.1 b.1 n 0 n (omega arith) (subst (λ (k : ℕ). IfSome f.1 (λ m. k ≤ m)) (sym d.many) (i.above d.of_first q.0 d.ran)) (j.above [] p.1 refl)
-  both_above p q f b n i j (inr d) = sum_above f.1 b.1 (length d.of_first) (length d.of_second) n d.many (i.above d.of_first d.left d.ran) (j.above d.of_second q.1 d.ran_second)
+  both_above p q f b n i j (inr d) = sum_above f.1 b.1 (length d.of_first) (length d.of_second) n d.many (i.above d.of_first d.after d.ran) (j.above d.of_second q.1 d.ran_second)
 
-  both_below : (p q z : S × U × StillDrawn) (f b : ℕ × Option ℕ) (n : ℕ) → Brackets steps p.0 f → Brackets others p.1 b → InFront p.0 p.1 n q ⊎ InBack p.0 p.1 n q → chained q end z → f.0 + b.0 ≤ n
+  both_below : (p q z : S × U × StillDrawn) (f b : ℕ × Option ℕ) (n : ℕ) → Brackets steps p.0 f → Brackets others p.1 b → InFront p.0 p.1 n q ⊎ InBack p.0 p.1 n q → chained_step q end z → f.0 + b.0 ≤ n
   both_below p q z f b n i j (inl d) w =
       let e = ended_both q z d.both w in
       let le = i.below d.of_first q.0 z.0 d.ran e.0 in
       let ge : b.0 ≤ 0 = j.below [] p.1 z.1 refl (subst (λ (v : U). others v end z.1) d.undrawn e.1) in
       omega (arith, le, ge, d.many)
   both_below p q z f b n i j (inr d) w =
-      let le = i.below d.of_first d.left q.0 d.ran d.ended in
+      let le = i.below d.of_first d.after q.0 d.ran d.ended in
       let ge = j.below d.of_second q.1 z.1 d.ran_second (second_item q z end d.second w).0 in
       omega (arith, le, ge, d.many)
 
-  pub both_brackets : (p : S × U × StillDrawn) (f b : ℕ × Option ℕ) → p.2 ≡ Both → Brackets steps p.0 f → Brackets others p.1 b → Brackets chained p (hint_sum f b)
+  pub both_brackets : (p : S × U × StillDrawn) (f b : ℕ × Option ℕ) → p.2 ≡ Both → Brackets steps p.0 f → Brackets others p.1 b → Brackets chained_step p (hint_sum f b)
   both_brackets p f b e i j = record {
     above = λ xs q ran. both_above p q f b (length xs) i j (runs xs p q e ran);
     below = λ xs q z ran w. let le = both_below p q z f b (length xs) i j (runs xs p q e ran) w in omega (arith, le);
   }
 
-  pub both_sound : (p : S × U × StillDrawn) (h f b : ℕ × Option ℕ) → p.2 ≡ Both → h ≡ hint_sum f b → AsSoundAsBoth chained p h steps p.0 f others p.1 b
-  both_sound p h f b e is = as_sound_as_both chained steps others p p.0 p.1 (λ i j. min (i + j) (2 ^ 64 - 1)) fitting_sum (λ j k i l. both_brackets p j k e i l) h f b is
+  pub both_sound : (p : S × U × StillDrawn) (h f b : ℕ × Option ℕ) → p.2 ≡ Both → h ≡ hint_sum f b → AsSoundAsBoth chained_step p h steps p.0 f others p.1 b
+  both_sound p h f b e is = as_sound_as_both chained_step steps others p p.0 p.1 (λ i j. min (i + j) (2 ^ 64 - 1)) fitting_sum (λ j k i l. both_brackets p j k e i l) h f b is
 
 module _ {S U A E : Type 0} (first : Contract S A E) (second : Contract U A E) where
   -- what its hints are made of, by the sides that are still drawn
@@ -151,8 +151,8 @@ module _ {S U A E : Type 0} (first : Contract S A E) (second : Contract U A E) w
 -- ---- `Zip`
 
 module _ {S U A B E : Type 0} (steps : S → Answered A E → S → Type 0) (others : U → Answered B E → U → Type 0) where
-  abbrev zipped : S × U → Answered (A × B) E → S × U → Type 0
-  zipped = zip_step steps others
+  abbrev zipped_step : S × U → Answered (A × B) E → S × U → Type 0
+  zipped_step = zip_step steps others
 
   item_pair : (p q : S × U) (z : A × B) (x : ZipPlace A B E) → steps p.0 (left_answer x) q.0 → right_step others p.1 x q.1 → item z ≡ zip_answer x → ((a : A) × steps p.0 (item a) q.0) × ((b : B) × others p.1 (item b) q.1)
   item_pair p q z (left_failed e) l r is = absurd cc
@@ -168,10 +168,10 @@ module _ {S U A B E : Type 0} (steps : S → Answered A E → S → Type 0) (oth
   end_pair p q (both_drawn (Some a) (Ok None)) l r is = inr r
   end_pair p q (both_drawn None (Ok y)) l r is = inl l
 
-  left_item : ItemOfItem zipped steps (λ p. p.0) (λ p. ⊤)
+  left_item : ItemOfItem zipped_step steps (λ p. p.0) (λ p. ⊤)
   left_item p q z _ w = let d = (item_pair p q z w.0 w.1 w.2 w.3).0 in (d.0, d.1, tt)
 
-  right_item : ItemOfItem zipped others (λ p. p.1) (λ p. ⊤)
+  right_item : ItemOfItem zipped_step others (λ p. p.1) (λ p. ⊤)
   right_item p q z _ w = let d = (item_pair p q z w.0 w.1 w.2 w.3).1 in (d.0, d.1, tt)
 
   smaller_above : (g k : Option ℕ) (i j n : ℕ) → i ≡ n → j ≡ n → IfSome g (λ m. i ≤ m) → IfSome k (λ m. j ≤ m) → IfSome (smaller_bound g k) (λ m. n ≤ m)
@@ -179,36 +179,36 @@ module _ {S U A B E : Type 0} (steps : S → Answered A E → S → Type 0) (oth
   smaller_above (Some x) None i j n e d le ge = omega (arith, e, le)
   smaller_above None k i j n e d le ge = subst (λ (m : ℕ). IfSome k (λ y. m ≤ y)) d ge
 
-  pub zip_brackets : (p : S × U) (g k : ℕ × Option ℕ) → Brackets steps p.0 g → Brackets others p.1 k → Brackets zipped p (hint_smaller g k)
+  pub zip_brackets : (p : S × U) (g k : ℕ × Option ℕ) → Brackets steps p.0 g → Brackets others p.1 k → Brackets zipped_step p (hint_smaller g k)
   zip_brackets p g k i j = record {
     above = λ zs q ran.
-        let a = as_many zipped steps (λ p. p.0) (λ p. ⊤) left_item zs p q tt ran in
-        let b = as_many zipped others (λ p. p.1) (λ p. ⊤) right_item zs p q tt ran in
+        let a = as_many zipped_step steps (λ p. p.0) (λ p. ⊤) left_item zs p q tt ran in
+        let b = as_many zipped_step others (λ p. p.1) (λ p. ⊤) right_item zs p q tt ran in
         smaller_above g.1 k.1 (length a.0) (length b.0) (length zs) a.2 b.2 (i.above a.0 q.0 a.1) (j.above b.0 q.1 b.1);
     below = λ zs q y ran w.
-        let a = as_many zipped steps (λ p. p.0) (λ p. ⊤) left_item zs p q tt ran in
-        let b = as_many zipped others (λ p. p.1) (λ p. ⊤) right_item zs p q tt ran in
+        let a = as_many zipped_step steps (λ p. p.0) (λ p. ⊤) left_item zs p q tt ran in
+        let b = as_many zipped_step others (λ p. p.1) (λ p. ⊤) right_item zs p q tt ran in
         elim (end_pair q y w.0 w.1 w.2 w.3) [
           | inl l ↦ let le = i.below a.0 q.0 y.0 a.1 l in omega (arith, le, a.2)
           | inr r ↦ let le = j.below b.0 q.1 y.1 b.1 r in omega (arith, le, b.2)
         ];
   }
 
-  pub zip_sound : (p : S × U) (h g k : ℕ × Option ℕ) → h ≡ hint_smaller g k → AsSoundAsBoth zipped p h steps p.0 g others p.1 k
-  zip_sound p h g k is = as_sound_as_both zipped steps others p p.0 p.1 min smaller_bound (λ f b i j. zip_brackets p f b i j) h g k is
+  pub zip_sound : (p : S × U) (h g k : ℕ × Option ℕ) → h ≡ hint_smaller g k → AsSoundAsBoth zipped_step p h steps p.0 g others p.1 k
+  zip_sound p h g k is = as_sound_as_both zipped_step steps others p p.0 p.1 min smaller_bound (λ f b i j. zip_brackets p f b i j) h g k is
 
 -- ---- `Cycle`
 
 module _ {S A E : Type 0} (is_clone : S → S → Type 0) (is_infallible : S → Type 0) (from : AllocError → E → Type 0) (steps : S → Answered A E → S → Type 0) where
-  abbrev cycled : S × S → Answered A E → S × S → Type 0
-  cycled = cycle_step is_clone is_infallible from steps
+  abbrev cycled_step : S × S → Answered A E → S × S → Type 0
+  cycled_step = cycle_step is_clone is_infallible from steps
 
-  kept_stays : (xs : List A) (p q : S × S) → Yields cycled p xs q → q.1 ≡ p.1
+  kept_stays : (xs : List A) (p q : S × S) → Yields cycled_step p xs q → q.1 ≡ p.1
   kept_stays [] p q ran = sym (ap (λ (z : S × S). z.1) ran)
   kept_stays (x ∷ xs) p q ran = kept_stays xs ran.0 q ran.2 ∙ ran.1.0
 
   -- an end comes only where a clone answers one at once
-  end_at_once : (p q : S × S) → cycled p end q → (c : S) × is_clone p.1 c × steps c end q.0
+  end_at_once : (p q : S × S) → cycled_step p end q → (c : S) × is_clone p.1 c × steps c end q.0
   end_at_once p q w = elim w.1 [
     | inl d ↦ absurd (let no : is_end {A = A} {E = E} end ≡ false = d.1 in cc)
     | inr d ↦ elim d [
@@ -218,22 +218,22 @@ module _ {S A E : Type 0} (is_clone : S → S → Type 0) (is_infallible : S →
   ]
 
   -- where the lower bound bounds what comes from each clone of the kept source
-  pub cycle_brackets : (p : S × S) (k : ℕ × Option ℕ) → ((c : S) → is_clone p.1 c → BoundsBelow steps c k.0) → Brackets cycled p (cycle_hint k)
-  cycle_brackets p (zero, high) b = nothing_said cycled p
-  cycle_brackets p (suc low, high) b = no_end cycled p (2 ^ 64 - 1) (λ xs q z ran w.
+  pub cycle_brackets : (p : S × S) (k : ℕ × Option ℕ) → ((c : S) → is_clone p.1 c → BoundsBelow steps c k.0) → Brackets cycled_step p (cycle_hint k)
+  cycle_brackets p (zero, high) b = nothing_said cycled_step p
+  cycle_brackets p (suc low, high) b = no_end cycled_step p (2 ^ 64 - 1) (λ xs q z ran w.
       let d = end_at_once q z w in
       let is : is_clone p.1 d.0 = subst (λ (k : S). is_clone k d.0) (kept_stays xs p q ran) d.1 in
       let few : suc low ≤ 0 = b d.0 is [] d.0 z.0 refl d.2 in
       omega (arith, few))
 
   -- it has no upper bound
-  cycle_above : (p : S × S) (k : ℕ × Option ℕ) → BoundsAbove cycled p (cycle_hint k).1
+  cycle_above : (p : S × S) (k : ℕ × Option ℕ) → BoundsAbove cycled_step p (cycle_hint k).1
   cycle_above p (zero, high) xs t ran = tt
   cycle_above p (suc low, high) xs t ran = tt
 
   -- where each clone equals the kept source
-  pub cycle_sound : (p : S × S) (h k : ℕ × Option ℕ) → ((c : S) → is_clone p.1 c → c ≡ p.1) → h ≡ cycle_hint k → AsSound cycled p h steps p.1 k
+  pub cycle_sound : (p : S × S) (h k : ℕ × Option ℕ) → ((c : S) → is_clone p.1 c → c ≡ p.1) → h ≡ cycle_hint k → AsSound cycled_step p h steps p.1 k
   cycle_sound p h k same is = record {
-    above = λ a. subst (λ (j : ℕ × Option ℕ). BoundsAbove cycled p j.1) (sym is) (cycle_above p k);
-    below = λ b. subst (λ (j : ℕ × Option ℕ). BoundsBelow cycled p j.0) (sym is) (cycle_brackets p k (λ c clone. subst (λ (s : S). BoundsBelow steps s k.0) (sym (same c clone)) b)).below;
+    above = λ a. subst (λ (j : ℕ × Option ℕ). BoundsAbove cycled_step p j.1) (sym is) (cycle_above p k);
+    below = λ b. subst (λ (j : ℕ × Option ℕ). BoundsBelow cycled_step p j.0) (sym is) (cycle_brackets p k (λ c clone. subst (λ (s : S). BoundsBelow steps s k.0) (sym (same c clone)) b)).below;
   }

@@ -9,8 +9,8 @@ use Rattle.fallible_contract.specs.Lists.{AlwaysGives, Lists}
 use Rattle.fallible_contract.specs.BothEnds.{ListsBothEnds, item_listed, items_listed, failure_listed, failures_listed, source_list, outcome_listed, passed_list}
 use Rattle.fallible_contract.specs.Hints.{hint_sum}
 use Rattle.fallible_contract.proofs.Lemmas.Lists.Passing.{passed, by_outcome}
-use Rattle.fallible_contract.proofs.Lemmas.BothEnds.{lists_first, lists_behind}
-use Rattle.fallible_contract.proofs.Lemmas.BothEnds.Passing.{filter_map-reverse, beside, source_beside}
+use Rattle.fallible_contract.proofs.Lemmas.BothEnds.{lists_first, lists_from_back}
+use Rattle.fallible_contract.proofs.Lemmas.BothEnds.Passing.{filter_map-reverse, with_answer, source_beside}
 use Rattle.fallible_core.specs.OneToOne.Map.{mapped}
 use Rattle.fallible_core.specs.OneToOne.MapErr.{failures_mapped}
 use Rattle.fallible_core.specs.OneToOne.Cloned.{pointed_to}
@@ -68,8 +68,8 @@ module _ {A E : Type 0} where
 pub listed_brackets : {S A E : Type 0} {front back : S → Answered A E → S → Type 0} (s : S) (l : List (Result A E)) (h : ℕ × Option ℕ) → ListsBothEnds front back s l → Bounds h l → Brackets front s h
 listed_brackets {front = front} s l h i b = bounds_brackets front s l h (lists_first i) b
 
-pub listed_brackets_behind : {S A E : Type 0} {front back : S → Answered A E → S → Type 0} (s : S) (l : List (Result A E)) (h : ℕ × Option ℕ) → ListsBothEnds front back s l → Bounds h l → Brackets back s h
-listed_brackets_behind {back = back} s l h i b = bounds_brackets back s (reverse l) h (lists_behind i) (bounds_reversed h l b)
+pub listed_brackets_back : {S A E : Type 0} {front back : S → Answered A E → S → Type 0} (s : S) (l : List (Result A E)) (h : ℕ × Option ℕ) → ListsBothEnds front back s l → Bounds h l → Brackets back s h
+listed_brackets_back {back = back} s l h i b = bounds_brackets back s (reverse l) h (lists_from_back i) (bounds_reversed h l b)
 
 -- a hint that is made as said
 pub bounds_made_of : {A E : Type 0} {h k : ℕ × Option ℕ} (l : List (Result A E)) → h ≡ k → Bounds k l → Bounds h l
@@ -142,20 +142,20 @@ module _ {X R B E : Type 0} (outcome : X → R → Outcome B E) (never_ends : (x
   outcome_acting (Failure e) not_end l = refl
   outcome_acting End not_end l = absurd (not_end refl)
 
-  passed_acting : (l : List (Result X E)) → passed_list outcome (map (beside f) l) ≡ passed outcome (λ (p : Unit {0}) x. f x) (λ p x. p) tt l
+  passed_acting : (l : List (Result X E)) → passed_list outcome (map (with_answer f) l) ≡ passed outcome (λ (p : Unit {0}) x. f x) (λ p x. p) tt l
   passed_acting [] = refl
   passed_acting (Ok x ∷ l) = ap (cons_option (outcome_listed (outcome x (f x)))) (passed_acting l) ∙ outcome_acting (outcome x (f x)) (never_ends x (f x)) _
   passed_acting (Err e ∷ l) = ap {B = List (Result B E)} (λ k. Err e ∷ k) (passed_acting l)
 
-  asked_bounds : (h : ℕ × Option ℕ) (l : List (Result X E)) → Bounds h l → Bounds h (source_list (map (beside f) l))
+  asked_bounds : (h : ℕ × Option ℕ) (l : List (Result X E)) → Bounds h l → Bounds h (source_list (map (with_answer f) l))
   asked_bounds h l b = subst (λ (k : List (Result X E)). Bounds h k) (sym (source_beside f l)) b
 
   -- the same of the adapter's list by its name
   pub upper_acting : (l : List (Result X E)) (k : List (Result B E)) (h : ℕ × Option ℕ) → passed outcome (λ (p : Unit {0}) x. f x) (λ p x. p) tt l ≡ k → Bounds h l → Bounds (0, h.1) k
-  upper_acting l k h is b = subst (λ (j : List (Result B E)). Bounds (0, h.1) j) (passed_acting l ∙ is) (upper_passed outcome (map (beside f) l) h (asked_bounds h l b))
+  upper_acting l k h is b = subst (λ (j : List (Result B E)). Bounds (0, h.1) j) (passed_acting l ∙ is) (upper_passed outcome (map (with_answer f) l) h (asked_bounds h l b))
 
   pub bounds_acting : ((x : X) (v : R) → outcome x v ≡ LeftOut → ⊥) → (l : List (Result X E)) (k : List (Result B E)) (h : ℕ × Option ℕ) → passed outcome (λ (p : Unit {0}) x. f x) (λ p x. p) tt l ≡ k → Bounds h l → Bounds h k
-  bounds_acting never_left_out l k h is b = subst (λ (j : List (Result B E)). Bounds h j) (passed_acting l ∙ is) (bounds_passed outcome never_left_out never_ends (map (beside f) l) h (asked_bounds h l b))
+  bounds_acting never_left_out l k h is b = subst (λ (j : List (Result B E)). Bounds h j) (passed_acting l ∙ is) (bounds_passed outcome never_left_out never_ends (map (with_answer f) l) h (asked_bounds h l b))
 
 -- ---- `Cloned`
 

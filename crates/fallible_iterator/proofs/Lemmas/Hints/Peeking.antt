@@ -9,31 +9,31 @@ use Rattle.fallible_iterator.specs.SoundHints.{Brackets, AsSound}
 use Rattle.fallible_iterator.proofs.Lemmas.Hints.Drawn.{OneOfOne, as_many, no_item}
 
 module _ {S A E : Type 0} (steps : S → Answered A E → S → Type 0) where
-  abbrev peeked : S × Option (Option A) → Answered A E → S × Option (Option A) → Type 0
-  peeked = peekable_step steps
+  abbrev peeked_step : S × Option (Option A) → Answered A E → S × Option (Option A) → Type 0
+  peeked_step = peekable_step steps
 
-  drawn : (p q : S × Option (Option A)) (r : Answered A E) → p.1 ≡ None → peeked p r q → steps p.0 r q.0 × (q.1 ≡ None)
+  drawn : (p q : S × Option (Option A)) (r : Answered A E) → p.1 ≡ None → peeked_step p r q → steps p.0 r q.0 × (q.1 ≡ None)
   drawn (s, Some o) q r e w = absurd cc
   drawn (s, None) q r e w = w
 
   -- where nothing is held
-  pub peekable_one : OneOfOne peeked steps (λ p. p.0) (λ p. p.1 ≡ None)
+  pub peekable_one : OneOfOne peeked_step steps (λ p. p.0) (λ p. p.1 ≡ None)
   peekable_one = record { item_drawn = λ p q x e w. let d = drawn p q (item x) e w in (x, d.0, d.1); end_drawn = λ p q e w. (drawn p q end e w).0 }
 
-  end_first : (p q : S × Option (Option A)) (x : A) → p.1 ≡ Some None → peeked p (item x) q → ⊥
+  end_first : (p q : S × Option (Option A)) (x : A) → p.1 ≡ Some None → peeked_step p (item x) q → ⊥
   end_first (s, None) q x e w = cc
   end_first (s, Some (Some y)) q x e w = cc
   end_first (s, Some None) q x e w = let d = w.0 in cc
 
   -- where an end is held
-  pub end_held : (p : S × Option (Option A)) → p.1 ≡ Some None → Brackets peeked p (0, Some 0)
-  end_held p e = no_item peeked p (λ x q w. end_first p q x e w)
+  pub end_held : (p : S × Option (Option A)) → p.1 ≡ Some None → Brackets peeked_step p (0, Some 0)
+  end_held p e = no_item peeked_step p (λ x q w. end_first p q x e w)
 
   -- where an item is held: it comes first, and then the source's
-  held_first : (xs : List A) (s : S) (y : A) (q : S × Option (Option A)) → Yields peeked (s, Some (Some y)) xs q → (length xs ≡ 0) ⊎ ((ys : List A) × Yields steps s ys q.0 × (length xs ≡ length ys + 1) × (q.1 ≡ None))
+  held_first : (xs : List A) (s : S) (y : A) (q : S × Option (Option A)) → Yields peeked_step (s, Some (Some y)) xs q → (length xs ≡ 0) ⊎ ((ys : List A) × Yields steps s ys q.0 × (length xs ≡ length ys + 1) × (q.1 ≡ None))
   held_first [] s y q ran = inl refl
   held_first (x ∷ xs) s y q ran =
-      let rest = as_many peeked steps (λ p. p.0) (λ p. p.1 ≡ None) peekable_one.item_drawn xs ran.0 q ran.1.2 ran.2 in
+      let rest = as_many peeked_step steps (λ p. p.0) (λ p. p.1 ≡ None) peekable_one.item_drawn xs ran.0 q ran.1.2 ran.2 in
       inr (rest.0, subst (λ (t : S). Yields steps t rest.0 q.0) ran.1.1 rest.1, omega (arith, rest.2), rest.3)
 
   one_above : (o u : Option ℕ) (n : ℕ) → MatchOption o (u ≡ None) (λ m. SomeIff u (m + 1 < 2 ^ 64) (m + 1)) → IfSome o (λ m. n ≤ m) → IfSome u (λ m. n + 1 ≤ m)
@@ -45,11 +45,11 @@ module _ {S A E : Type 0} (steps : S → Answered A E → S → Type 0) where
   none_above o None is = tt
   none_above o (Some z) is = omega arith
 
-  end_not_held : (s : S) (y : A) (q z : S × Option (Option A)) (xs : List A) → length xs ≡ 0 → Yields peeked (s, Some (Some y)) xs q → peeked q end z → ⊥
-  end_not_held s y q z [] e ran w = let d : peeked (s, Some (Some y)) end z = subst (λ (p : S × Option (Option A)). peeked p end z) (sym ran) w in let is = d.0 in cc
+  end_not_held : (s : S) (y : A) (q z : S × Option (Option A)) (xs : List A) → length xs ≡ 0 → Yields peeked_step (s, Some (Some y)) xs q → peeked_step q end z → ⊥
+  end_not_held s y q z [] e ran w = let d : peeked_step (s, Some (Some y)) end z = subst (λ (p : S × Option (Option A)). peeked_step p end z) (sym ran) w in let is = d.0 in cc
   end_not_held s y q z (x ∷ xs) e ran w = omega (arith, e)
 
-  item_held : (s : S) (y : A) (k h : ℕ × Option ℕ) → HintWithItem k h → Brackets steps s k → Brackets peeked (s, Some (Some y)) h
+  item_held : (s : S) (y : A) (k h : ℕ × Option ℕ) → HintWithItem k h → Brackets steps s k → Brackets peeked_step (s, Some (Some y)) h
   item_held s y k h is b = record {
     above = λ xs q ran. elim (held_first xs s y q ran) [
       | inl none ↦ subst (λ (n : ℕ). IfSome h.1 (λ m. n ≤ m)) (sym none) (none_above k.1 h.1 is.1)
@@ -61,10 +61,10 @@ module _ {S A E : Type 0} (steps : S → Answered A E → S → Type 0) where
     ];
   }
 
-  item_held_brackets : (p : S × Option (Option A)) (y : A) (k h : ℕ × Option ℕ) → p.1 ≡ Some (Some y) → HintWithItem k h → Brackets steps p.0 k → Brackets peeked p h
-  item_held_brackets p y k h e is b = subst (λ (o : Option (Option A)). Brackets peeked (p.0, o) h) (sym e) (item_held p.0 y k h is b)
+  item_held_brackets : (p : S × Option (Option A)) (y : A) (k h : ℕ × Option ℕ) → p.1 ≡ Some (Some y) → HintWithItem k h → Brackets steps p.0 k → Brackets peeked_step p h
+  item_held_brackets p y k h e is b = subst (λ (o : Option (Option A)). Brackets peeked_step (p.0, o) h) (sym e) (item_held p.0 y k h is b)
 
-  pub item_held_sound : (p : S × Option (Option A)) (y : A) (k h : ℕ × Option ℕ) → p.1 ≡ Some (Some y) → HintWithItem k h → AsSound peeked p h steps p.0 k
+  pub item_held_sound : (p : S × Option (Option A)) (y : A) (k h : ℕ × Option ℕ) → p.1 ≡ Some (Some y) → HintWithItem k h → AsSound peeked_step p h steps p.0 k
   item_held_sound p y k h e is = record {
     above = λ a. (item_held_brackets p y (0, k.1) (min (0 + 1) (2 ^ 64 - 1), h.1) e (refl, is.1) (record { above = a; below = λ xs t u ran step. omega arith })).above;
     below = λ b. (item_held_brackets p y (k.0, None) (h.0, None) e (is.0, refl) (record { above = λ xs t ran. tt; below = b })).below;

@@ -5,11 +5,11 @@ use Rattle.std.proofs.lemmas.List.{map-append, reverse-append}
 use Rattle.std.specs.Iterator.{Count}
 use Rattle.fallible_contract.specs.Traces.{Answered}
 use Rattle.fallible_contract.specs.Contract.{seen_as}
-use Rattle.fallible_contract.specs.Lists.{Lists, RunsRead, RunsReadBehind, result_answer, results, items, reversed}
+use Rattle.fallible_contract.specs.Lists.{Lists, RunsRead, RunsReadBack, result_answer, results, items, reversed}
 use Rattle.fallible_contract.proofs.Lemmas.Lists.Passing.{lists_seen}
 use Rattle.fallible_iterator.specs.Sources.Std.{element_by}
 use Rattle.fallible_iterator.specs.Sources.Convert.{convert_parts, convert_contract}
-use Rattle.fallible_iterator.proofs.Lemmas.Sources.Std.{gives_read, read_behind}
+use Rattle.fallible_iterator.proofs.Lemmas.Sources.Std.{gives_read, read_back}
 use Rattle.fallible_iterator.specs.declared.sources.convert.Convert.{Convert}
 
 pub results_are : {A E : Type 0} (l : List (Result A E)) → map (λ y. y) l ≡ results l
@@ -60,9 +60,9 @@ module _ {S A E : Type 0} (can : S → Type 0) (gives : S → Option (Result A E
   pub lists_items : (l : List A) → RunsRead gives Ok s.it l → Lists (seen_as convert_parts (convert_contract can gives remaining)).steps s (items l)
   lists_items l reads = lists_seen convert_parts (convert_contract can gives remaining).steps s refl (items_are l) (gives_read Ok Err can gives remaining (λ x. Ok x) (λ x. Ok x) (λ r x. answered r (Ok x)) l s.it reads)
 
-  -- from behind
-  pub lists_results_behind : (l : List (Result A E)) → RunsReadBehind gives (λ y. y) s.it l → Lists (seen_as convert_parts (convert_contract can gives remaining)).steps s (reversed (results l))
-  lists_results_behind l reads = subst (Lists (seen_as convert_parts (convert_contract can gives remaining)).steps s) (results_reversed l) (lists_results (reverse l) (read_behind gives (λ y. y) s.it l reads))
+  -- from the back
+  pub lists_results_back : (l : List (Result A E)) → RunsReadBack gives (λ y. y) s.it l → Lists (seen_as convert_parts (convert_contract can gives remaining)).steps s (reversed (results l))
+  lists_results_back l reads = subst (Lists (seen_as convert_parts (convert_contract can gives remaining)).steps s) (results_reversed l) (lists_results (reverse l) (read_back gives (λ y. y) s.it l reads))
 
-  pub lists_items_behind : (l : List A) → RunsReadBehind gives Ok s.it l → Lists (seen_as convert_parts (convert_contract can gives remaining)).steps s (reversed (items l))
-  lists_items_behind l reads = subst (Lists (seen_as convert_parts (convert_contract can gives remaining)).steps s) (items_reversed l) (lists_items (reverse l) (read_behind gives (λ x. Ok x) s.it l reads))
+  pub lists_items_back : (l : List A) → RunsReadBack gives Ok s.it l → Lists (seen_as convert_parts (convert_contract can gives remaining)).steps s (reversed (items l))
+  lists_items_back l reads = subst (Lists (seen_as convert_parts (convert_contract can gives remaining)).steps s) (items_reversed l) (lists_items (reverse l) (read_back gives (λ x. Ok x) s.it l reads))

@@ -4,11 +4,11 @@ use Rattle.std.specs.Iterator.{Count}
 use Rattle.std.proofs.Common.{refl, subst}
 use Rattle.fallible_contract.specs.Traces.{Answered}
 use Rattle.fallible_contract.specs.Contract.{seen_as}
-use Rattle.fallible_contract.specs.Lists.{Lists, RunsRead, RunsReadBehind, result_answer, items, reversed}
+use Rattle.fallible_contract.specs.Lists.{Lists, RunsRead, RunsReadBack, result_answer, items, reversed}
 use Rattle.fallible_contract.proofs.Lemmas.Lists.Passing.{lists_seen}
 use Rattle.fallible_iterator.specs.Sources.Std.{element_by}
 use Rattle.fallible_iterator.specs.Sources.IntoFallible.{into_fallible_parts, into_fallible_contract, never}
-use Rattle.fallible_iterator.proofs.Lemmas.Sources.Std.{gives_read, read_behind}
+use Rattle.fallible_iterator.proofs.Lemmas.Sources.Std.{gives_read, read_back}
 use Rattle.fallible_iterator.proofs.Lemmas.Sources.Convert.{items_are, items_reversed}
 use Rattle.std.specs.declared.convert.Infallible.{Infallible}
 use Rattle.fallible_iterator.specs.declared.sources.into_fallible.IntoFallible.{IntoFallible}
@@ -27,6 +27,6 @@ module _ {S A : Type 0} (can : S → Type 0) (gives : S → Option A → S → T
   pub lists_elements : (l : List A) → RunsRead gives (λ x. x) s.it l → Lists (seen_as into_fallible_parts (into_fallible_contract can gives remaining)).steps s (items l)
   lists_elements l reads = lists_seen into_fallible_parts (into_fallible_contract can gives remaining).steps s refl (items_are l) (gives_read (λ x. x) never can gives remaining (λ x. x) (λ x. Ok x) item_answered l s.it reads)
 
-  -- from behind
-  pub lists_elements_behind : (l : List A) → RunsReadBehind gives (λ x. x) s.it l → Lists (seen_as into_fallible_parts (into_fallible_contract can gives remaining)).steps s (reversed (items l))
-  lists_elements_behind l reads = subst (Lists (seen_as into_fallible_parts (into_fallible_contract can gives remaining)).steps s) (items_reversed l) (lists_elements (reverse l) (read_behind gives (λ x. x) s.it l reads))
+  -- from the back
+  pub lists_elements_back : (l : List A) → RunsReadBack gives (λ x. x) s.it l → Lists (seen_as into_fallible_parts (into_fallible_contract can gives remaining)).steps s (reversed (items l))
+  lists_elements_back l reads = subst (Lists (seen_as into_fallible_parts (into_fallible_contract can gives remaining)).steps s) (items_reversed l) (lists_elements (reverse l) (read_back gives (λ x. x) s.it l reads))

@@ -6,7 +6,7 @@ use Rattle.std.proofs.Common.{refl, sym, ap, subst, ◌∙◌, arith, true≢fal
 use Rattle.std.proofs.lemmas.List.{length-reverse, get_or-reverse}
 use Rattle.std.proofs.iter.runs.Made.{run, took, seen, at-is}
 use Rattle.fallible_contract.specs.Traces.{Answered, Run}
-use Rattle.fallible_contract.specs.Lists.{AlwaysGives, RunsRead, RunsReadBehind, result_answer}
+use Rattle.fallible_contract.specs.Lists.{AlwaysGives, RunsRead, RunsReadBack, result_answer}
 use Rattle.fallible_iterator.specs.Sources.Std.{std_step, StdTrace, element_by}
 
 module _ {S A E Z : Type 0} (of_item : A → Z) (of_failure : E → Z) (can : S → Type 0) (gives : S → Option Z → S → Type 0) (remaining : S → Count) where
@@ -70,15 +70,15 @@ module _ {S A E Z X : Type 0} (of_item : A → Z) (of_failure : E → Z) (can : 
 -- runs with the same items read the same list
 pub reads_alike : {S T X Z : Type 0} (gives : S → Option Z → S → Type 0) (others : T → Option Z → T → Type 0) (h : X → Z) (s : S) (t : T) (l : List X) → runs.EachRunFrom others t (λ p. runs.SomeRun gives s (λ q. runs.IsIdenticalRun p q)) → RunsRead gives h s l → RunsRead others h t l
 reads_alike gives others h s t l same reads p trigger from =
-    let behind = same p trigger from in
-    let q = reads behind.0 (seen _) behind.1 in
-    let long : behind.0.len ≡ p.len = behind.2.0.0 in
-    let few : behind.0.len ≤ length l = q.0 in
-    (omega (arith, few, long), (λ whole. sym long ∙ q.1 (behind.2.1 ∙ whole)), (λ k d lt. sym (behind.2.0.2 k) ∙ q.2 k d (omega (arith, lt, long))))
+    let same_run = same p trigger from in
+    let q = reads same_run.0 (seen _) same_run.1 in
+    let long : same_run.0.len ≡ p.len = same_run.2.0.0 in
+    let few : same_run.0.len ≤ length l = q.0 in
+    (omega (arith, few, long), (λ whole. sym long ∙ q.1 (same_run.2.1 ∙ whole)), (λ k d lt. sym (same_run.2.0.2 k) ∙ q.2 k d (omega (arith, lt, long))))
 
--- what is read from behind is the list reversed
-pub read_behind : {S X Z : Type 0} (back : S → Option Z → S → Type 0) (h : X → Z) (s : S) (l : List X) → RunsReadBehind back h s l → RunsRead back h s (reverse l)
-read_behind back h s l reads p seen at = let q = reads p seen at in let long = length-reverse l in (
+-- what is read from the back is the list reversed
+pub read_back : {S X Z : Type 0} (back : S → Option Z → S → Type 0) (h : X → Z) (s : S) (l : List X) → RunsReadBack back h s l → RunsRead back h s (reverse l)
+read_back back h s l reads p seen at = let q = reads p seen at in let long = length-reverse l in (
   omega (arith, q.0, long),
   (λ whole. let all : p.len ≡ length l = q.1 whole in omega (arith, all, long)),
   (λ k d lt. let le : p.len ≤ length l = q.0 in let j = length l - 1 - k in let same : length l - 1 - j ≡ k = omega (arith, lt, le) in

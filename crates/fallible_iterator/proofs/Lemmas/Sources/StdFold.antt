@@ -9,7 +9,7 @@ use Rattle.std.proofs.Common.{refl, sym, subst, ap, ◌∙◌}
 use Rattle.fallible_contract.specs.Traces.{Answered}
 use Rattle.fallible_contract.specs.Lists.{result_answer}
 use Rattle.fallible_contract.specs.Folds.{HoldsAtEachTurn, goes_on, Driven}
-use Rattle.fallible_contract.proofs.Lemmas.Folds.{holds_here, holds_after, driven_after, driven_end, driven_failure, driven_stop, driven_behind, names_kept}
+use Rattle.fallible_contract.proofs.Lemmas.Folds.{holds_here, holds_after, driven_after, driven_end, driven_failure, driven_stop, driven_through, names_kept}
 use Rattle.fallible_iterator.specs.Sources.Std.{std_step, element_by}
 use Rattle.fallible_iterator.specs.Sources.StdFold.{progressing, ElementTurn, answer_of, left_of, lent}
 use Rattle.std.specs.declared.ops.ControlFlow.{ControlFlow}
@@ -120,6 +120,6 @@ module _ {S A E Z F C R : Type 0} (of_item : A → Z) (of_failure : E → Z) (re
   pub keeps_lent : {s : Progressing S} {c : C} {r : Result C (C × Answered R E)} (u : Progressing S) → StdFolds s c r u → u.it.ghost_name ≡ s.it.ghost_name
   keeps_lent {s} u (xs, o, h, a, (t, y, w), went, is) = w.2 ∙ kept can gives remaining xs s t y
 
--- what is behind the reference that came back, once it is known to be the one that was lent
+-- what the reference that came back points to, once it is known to be the one that was lent
 pub drives_lent : {S A E C R : Type 0} {steps : S → Answered A E → S → Type 0} {turns : C → A → ControlFlow R (Unit {0}) → C → Type 0} {s t : S} {b d : MutBor C} {r : Answered R E} (c : C) → Driven steps (lent turns) s b r t d → (d.ghost_name ≡ b.ghost_name → c ≡ d.now) → Driven steps turns s b.now r t c
-drives_lent {steps = steps} {turns = turns} {s = s} {t = t} {b = b} {d = d} {r = r} c w is = subst (λ z. Driven steps turns s b.now r t z) (sym (is (names_kept (λ (z : MutBor _). z.now) (λ (z : MutBor _). z.ghost_name) turns w))) (driven_behind (λ (z : MutBor _). z.now) (λ (z : MutBor _). z.ghost_name) turns w)
+drives_lent {steps = steps} {turns = turns} {s = s} {t = t} {b = b} {d = d} {r = r} c w is = subst (λ z. Driven steps turns s b.now r t z) (sym (is (names_kept (λ (z : MutBor _). z.now) (λ (z : MutBor _). z.ghost_name) turns w))) (driven_through (λ (z : MutBor _). z.now) (λ (z : MutBor _). z.ghost_name) turns w)

@@ -16,17 +16,17 @@ module _ {F A E : Type 0} (g : Mut F (Unit {0}) (Answered A E)) where
   one_call : (f h : F) (r : Answered A E) → Called g f tt r h → Reaches (call_of_none g) (λ _. ⊤) f h
   one_call f h r called = reaches_from tt r tt called reaches_here
 
-  from_fn_answer : (f h : F) (r : Answered A E) → Called g f tt r h → OnAnswer FromFn f r h
-  from_fn_answer f h (Ok (Some x)) called = (may_answer_here h tt (item x) tt called refl, (λ n b. bounds_fewer x called b), (λ e. absurd e))
-  from_fn_answer f h (Ok None) called = ((λ n b. bounds_end called b), (λ e. absurd e))
-  from_fn_answer f h (Err e) called = (may_answer_here h tt (failure e) tt called refl, (λ n b. bounds_failure e called b), (λ d. absurd d))
+  answer_of_from_fn : (f h : F) (r : Answered A E) → Called g f tt r h → OnAnswer FromFn f r h
+  answer_of_from_fn f h (Ok (Some x)) called = (may_answer_here h tt (item x) tt called refl, (λ n b. bounds_fewer x called b), (λ e. absurd e))
+  answer_of_from_fn f h (Ok None) called = ((λ n b. bounds_end called b), (λ e. absurd e))
+  answer_of_from_fn f h (Err e) called = (may_answer_here h tt (failure e) tt called refl, (λ n b. bounds_failure e called b), (λ d. absurd d))
 
   pub lawful_from_fn : Lawful FromFn
   lawful_from_fn = record {
     kept_by_draw = λ f r h c called. record {
       can_next = callable_after (λ x p. p) (one_call f h r called) c;
-      is_finite = bound_stays FromFn f h r (from_fn_answer f h r called);
-      answer = from_fn_answer f h r called;
+      is_finite = bound_stays FromFn f h r (answer_of_from_fn f h r called);
+      answer = answer_of_from_fn f h r called;
       may_give = λ x a. may_answer_after (λ u p. p) (one_call f h r called) a;
       may_fail = λ e a. may_answer_after (λ u p. p) (one_call f h r called) a;
       lenders = refl;

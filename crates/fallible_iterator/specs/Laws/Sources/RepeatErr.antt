@@ -10,13 +10,13 @@ module _ {A E : Type 0} (is_clone : E → E → Type 0) (is_infallible : E → T
   abbrev RepeatErr : Contract E A E
   RepeatErr = repeat_err_contract is_clone is_infallible from
 
-  repeat_err_answer : (v : E) (r : Answered A E) → RepeatErrAnswer is_clone is_infallible from v r → OnAnswer RepeatErr v r v
-  repeat_err_answer v (Ok (Some x)) h = absurd h
-  repeat_err_answer v (Ok None) h = absurd h
-  repeat_err_answer v (Err e) h = (h, (λ n b. (n, tt, omega arith)), (λ f. absurd f))
+  answer_of_repeat_err : (v : E) (r : Answered A E) → RepeatErrAnswer is_clone is_infallible from v r → OnAnswer RepeatErr v r v
+  answer_of_repeat_err v (Ok (Some x)) h = absurd h
+  answer_of_repeat_err v (Ok None) h = absurd h
+  answer_of_repeat_err v (Err e) h = (h, (λ n b. (n, tt, omega arith)), (λ f. absurd f))
 
   goes_repeat_err : (v : E) (r : Answered A E) (w : E) → RepeatErr.steps v r w → KeptByDraw RepeatErr v r w
-  goes_repeat_err v r w step = subst (λ (u : E). KeptByDraw RepeatErr v r u) (sym step.1) (record { can_next = tt; is_finite = λ e. e; answer = repeat_err_answer v r step.0; may_give = λ x h. h; may_fail = λ e h. h; lenders = refl })
+  goes_repeat_err v r w step = subst (λ (u : E). KeptByDraw RepeatErr v r u) (sym step.1) (record { can_next = tt; is_finite = λ e. e; answer = answer_of_repeat_err v r step.0; may_give = λ x h. h; may_fail = λ e h. h; lenders = refl })
 
   pub lawful_repeat_err : Lawful RepeatErr
   lawful_repeat_err = record { kept_by_draw = λ v r w c step. goes_repeat_err v r w step; bounded = λ v. ((λ e. (0, tt)), (λ p. tt)) }

@@ -31,17 +31,17 @@ module _ {S A E Z : Type 0} (of_item : A → Z) (of_failure : E → Z) (can : S 
   finite_after s t (Ok None) w f = w.1.rests f
   finite_after s t (Err e) w f = (w.1.on f).1
 
-  std_answer : Follows → (s t : S) (r : Answered A E) → Askable s → step s r t → OnAnswer Over s r t
-  std_answer l s t (Ok (Some x)) c w = (l.here s t (item x) w, (λ n b. let p = w.1.on b.0 in (size (remaining t), (p.1, omega arith), omega (arith, p.2, b.1))), (λ f. let p = w.1.on f in (p.1, p.2)))
-  std_answer l s t (Err e) c w = (l.here s t (failure e) w, (λ n b. let p = w.1.on b.0 in (size (remaining t), (p.1, omega arith), omega (arith, p.2, b.1))), (λ f. let p = w.1.on f in (p.1, p.2)))
-  std_answer l s t (Ok None) c w = ((λ n b. let le = l.never_rises s t c w b.0 in (size (remaining t), (w.1.rests b.0, omega arith), omega (arith, le, b.1))), (λ f. (w.1.rests f, l.never_rises s t c w f)))
+  answer_of_std : Follows → (s t : S) (r : Answered A E) → Askable s → step s r t → OnAnswer Over s r t
+  answer_of_std l s t (Ok (Some x)) c w = (l.here s t (item x) w, (λ n b. let p = w.1.on b.0 in (size (remaining t), (p.1, omega arith), omega (arith, p.2, b.1))), (λ f. let p = w.1.on f in (p.1, p.2)))
+  answer_of_std l s t (Err e) c w = (l.here s t (failure e) w, (λ n b. let p = w.1.on b.0 in (size (remaining t), (p.1, omega arith), omega (arith, p.2, b.1))), (λ f. let p = w.1.on f in (p.1, p.2)))
+  answer_of_std l s t (Ok None) c w = ((λ n b. let le = l.never_rises s t c w b.0 in (size (remaining t), (w.1.rests b.0, omega arith), omega (arith, le, b.1))), (λ f. (w.1.rests f, l.never_rises s t c w f)))
 
   lawful_over : Follows → Lawful Over
   lawful_over l = record {
     kept_by_draw = λ s r t c w. record {
       can_next = l.again s t r c w;
       is_finite = finite_after s t r w;
-      answer = std_answer l s t r c w;
+      answer = answer_of_std l s t r c w;
       may_give = λ x. l.later s t r (item x) w;
       may_fail = λ e. l.later s t r (failure e) w;
       lenders = refl;
@@ -56,8 +56,8 @@ module _ {S A E Z : Type 0} (of_item : A → Z) (of_failure : E → Z) (can : S 
   follows = record {
     again = λ s t r c w. record { asked = λ trace u ran. c.asked (r ∷ trace) u (t, w, ran); never_rises = λ trace u v ran. c.never_rises (r ∷ trace) u v (t, w, ran) };
     never_rises = λ s t c w. c.never_rises [] s t refl w;
-    here = λ s t r w. record { before = []; from = s; left = t; ran = refl; drawn = w };
-    later = λ s t r q w c. record { before = r ∷ c.before; from = c.from; left = c.left; ran = (t, w, c.ran); drawn = c.drawn };
+    here = λ s t r w. record { before = []; from = s; after = t; ran = refl; drawn = w };
+    later = λ s t r q w c. record { before = r ∷ c.before; from = c.from; after = c.after; ran = (t, w, c.ran); drawn = c.drawn };
   }
 
   pub lawful_std : Lawful (std_contract {A = A} {E = E} of_item of_failure can gives remaining)
@@ -88,10 +88,10 @@ module _ {S A E Z : Type 0} (of_item : A → Z) (of_failure : E → Z) (can can_
   }
 
   here_at : (side : Side) (s t : S) (r : Answered A E) → step_at front back side s r t → ArrivesAtEnds s r
-  here_at side s t r w = record { before = []; from = s; side = side; left = t; ran = refl; drawn = w }
+  here_at side s t r w = record { before = []; from = s; side = side; after = t; ran = refl; drawn = w }
 
   later_at : (side : Side) (s t : S) (r q : Answered A E) → step_at front back side s r t → ArrivesAtEnds t q → ArrivesAtEnds s q
-  later_at side s t r q w c = record { before = (side, r) ∷ c.before; from = c.from; side = c.side; left = c.left; ran = (t, w, c.ran); drawn = c.drawn }
+  later_at side s t r q w c = record { before = (side, r) ∷ c.before; from = c.from; side = c.side; after = c.after; ran = (t, w, c.ran); drawn = c.drawn }
 
   -- draws from the front alone are draws from either end
   mixed : (trace : List (Answered A E)) (s t : S) → Run front s trace t → RunAtEnds front back s (map (λ r. (Front, r)) trace) t
@@ -105,7 +105,7 @@ module _ {S A E Z : Type 0} (of_item : A → Z) (of_failure : E → Z) (can can_
   }
 
   front_comes : (s : S) (r : Answered A E) → Comes of_item of_failure can gives remaining s r → ArrivesAtEnds s r
-  front_comes s r c = record { before = map (λ q. (Front, q)) c.before; from = c.from; side = Front; left = c.left; ran = mixed c.before s c.from c.ran; drawn = c.drawn }
+  front_comes s r c = record { before = map (λ q. (Front, q)) c.before; from = c.from; side = Front; after = c.after; ran = mixed c.before s c.from c.ran; drawn = c.drawn }
 
   follows_front : Follows of_item of_failure can gives remaining AtEnds ArrivesAtEnds
   follows_front = record { again = again_at Front; never_rises = λ s t c w. c.never_rises [] s t refl w; here = here_at Front; later = later_at Front }

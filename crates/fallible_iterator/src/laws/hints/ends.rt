@@ -1,4 +1,4 @@
-// The hints of what stands behind a `&mut` or in a `Box`, and of what is drawn from behind.
+// The hints of what a `&mut` or a `Box` points to, and of what is drawn from the back.
 ghost use Rattle.std.specs.Prelude.{◌≡◌, Result, Option};
 ghost use Rattle.std.specs.Borrow.{MutBor};
 ghost use Rattle.fallible_contract.specs.Ends.{from_back};
@@ -23,7 +23,7 @@ use fallible_core::traits::FallibleIterator;
 use fallible_core::traits::double_ended::DoubleEndedFallibleIterator;
 use std::alloc::AllocError;
 
-/// Each hint of a `&mut I` or a `Box<I>` is as sound as it is of the value behind it; so also from behind.
+/// Each hint of a `&mut I` or a `Box<I>` is as sound as it is of the value that it points to; so also from the back.
 pub fn law_hints_borrowed<'a, I: FallibleIterator + 'a, D: DoubleEndedFallibleIterator + 'a>()
     ensures borrowed { (s : MutBor I)
         → KeepsBrackets ⟦<&'a mut I as FallibleIterator>⟧.contract s I.contract s.now }
@@ -39,7 +39,7 @@ pub fn law_hints_borrowed<'a, I: FallibleIterator + 'a, D: DoubleEndedFallibleIt
         (from_back D.contract D.ends) s.value }
 {}
 
-/// Each hint of `Rev` is as sound as it is of its source from behind, and from behind as it is of its source.
+/// Each hint of `Rev` is as sound as it is of its source from the back, and from the back as it is of its source.
 pub fn law_hints_rev<I: DoubleEndedFallibleIterator>()
     ensures front { (s : Rev I)
         → KeepsBrackets ⟦<Rev<I> as FallibleIterator>⟧.contract s (from_back I.contract I.ends)
@@ -50,7 +50,7 @@ pub fn law_hints_rev<I: DoubleEndedFallibleIterator>()
         I.contract (rev_parts s) }
 {}
 
-/// From behind each hint of `Map` is as sound as the hint of its source that it is made of.
+/// From the back each hint of `Map` is as sound as the hint of its source that it is made of.
 pub fn law_hints_back_map<
     I: DoubleEndedFallibleIterator,
     B,
@@ -63,7 +63,7 @@ where
         (from_back I.contract I.ends) (map_source s) }
 {}
 
-/// From behind each hint of `Inspect` is as sound as the hint of its source that it is made of.
+/// From the back each hint of `Inspect` is as sound as the hint of its source that it is made of.
 pub fn law_hints_back_inspect<
     I: DoubleEndedFallibleIterator,
     F: FnMut(&I::Item) -> Result<(), I::Error>,
@@ -76,7 +76,7 @@ where
         (from_back I.contract I.ends) (inspect_source s) }
 {}
 
-/// From behind each hint of `MapErr` is as sound as the hint of its source that it is made of.
+/// From the back each hint of `MapErr` is as sound as the hint of its source that it is made of.
 pub fn law_hints_back_map_err<I: DoubleEndedFallibleIterator, B, F: FnMut(I::Error) -> B>()
 where
     ensures { (s : MapErr I F)
@@ -85,7 +85,7 @@ where
         (from_back I.contract I.ends) (map_err_source s) }
 {}
 
-/// From behind each hint of `Cloned` is as sound as the hint of its source that it is made of.
+/// From the back each hint of `Cloned` is as sound as the hint of its source that it is made of.
 pub fn law_hints_back_cloned<'a, T: Clone + 'a, I: DoubleEndedFallibleIterator<Item = &'a T>>()
 where
     I::Error: From<AllocError>,
@@ -95,7 +95,7 @@ where
         (from_back I.contract I.ends) (cloned_source s) }
 {}
 
-/// From behind each hint of `Filter` is as sound as the hint of its source that it is made of.
+/// From the back each hint of `Filter` is as sound as the hint of its source that it is made of.
 pub fn law_hints_back_filter<
     I: DoubleEndedFallibleIterator,
     F: FnMut(&I::Item) -> Result<bool, I::Error>,
@@ -108,7 +108,7 @@ where
         (from_back I.contract I.ends) (filter_source s) }
 {}
 
-/// From behind each hint of `FilterMap` is as sound as the hint of its source that it is made of.
+/// From the back each hint of `FilterMap` is as sound as the hint of its source that it is made of.
 pub fn law_hints_back_filter_map<
     I: DoubleEndedFallibleIterator,
     B,
@@ -121,7 +121,7 @@ where
         (from_back I.contract I.ends) (filter_map_source s) }
 {}
 
-/// From behind each hint of `Chain` is as sound as the hints of the sides that are still drawn.
+/// From the back each hint of `Chain` is as sound as the hints of the sides that are still drawn.
 pub fn law_hints_back_chain<
     T: DoubleEndedFallibleIterator,
     U: DoubleEndedFallibleIterator<Item = T::Item, Error = T::Error>,

@@ -1,4 +1,4 @@
-// What lists a list is bracketed by each hint that bounds the list, from the front and from behind; and each adapter's hint bounds its list wherever its source's does.
+// What lists a list is bracketed by each hint that bounds the list, from the front and from the back; and each adapter's hint bounds its list wherever its source's does.
 ghost use Rattle.std.specs.Prelude.{◌≡◌, ℕ, reverse, Ok, Bool, List, Option, Result};
 ghost use Rattle.std.specs.Iterator.{item_count};
 ghost use Rattle.std.specs.Borrow.{Bor, MutBor};
@@ -35,7 +35,7 @@ pub fn law_hints_lists<I: FallibleIterator>()
         → Lists I.contract.steps s l → Bounds h l → Brackets I.contract.steps s h }
 {}
 
-/// Where it lists the list from both ends, the hint brackets what comes from the front and what comes from behind.
+/// Where it lists the list from both ends, the hint brackets what comes from the front and what comes from the back.
 pub fn law_hints_listed<I: DoubleEndedFallibleIterator>()
     ensures front { (s : I) (l : List (Result I.Item I.Error)) (h : ℕ × Option ℕ)
         → ListsBothEnds I.contract.steps I.ends.steps s l → Bounds h l
@@ -165,7 +165,7 @@ pub fn law_hints_listed_rev<I: DoubleEndedFallibleIterator>()
         (rev_parts s) l }
 {}
 
-/// Each hint of a `&mut I` or a `Box<I>` bounds a list wherever it does so for the value behind it.
+/// Each hint of a `&mut I` or a `Box<I>` bounds a list wherever it does so for the value that it points to.
 pub fn law_hints_listed_borrowed<'a, I: FallibleIterator + 'a>()
     ensures borrowed { (s : MutBor I) (l : List (Result I.Item I.Error))
         → KeepsBounds ⟦<&'a mut I as FallibleIterator>⟧.contract s l I.contract s.now l }

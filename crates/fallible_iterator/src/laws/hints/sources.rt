@@ -19,7 +19,7 @@ pub fn law_hints_convert<T, E, I: std::iter::Iterator<Item = Result<T, E>>>()
         ⟦<Convert<I> as FallibleIterator>⟧.contract }
 {}
 
-/// The same of `Convert` from behind, by calls of `next_back`.
+/// The same of `Convert` from the back, by calls of `next_back`.
 pub fn law_hints_back_convert<T, E, I: std::iter::DoubleEndedIterator<Item = Result<T, E>>>()
     ensures brackets { (s : Convert I) (h : ℕ × Option ℕ)
         → BracketsCalls I.next_back_gives Ok (convert_parts s) h
@@ -43,7 +43,7 @@ pub fn law_hints_into_fallible<T, I: std::iter::Iterator<Item = T>>()
         ⟦<IntoFallible<I> as FallibleIterator>⟧.contract }
 {}
 
-/// The same of `IntoFallible` from behind, by calls of `next_back`.
+/// The same of `IntoFallible` from the back, by calls of `next_back`.
 pub fn law_hints_back_into_fallible<T, I: std::iter::DoubleEndedIterator<Item = T>>()
     ensures brackets { (s : IntoFallible I) (h : ℕ × Option ℕ)
         → BracketsCalls I.next_back_gives (λ (x : T). x) (into_fallible_parts s) h

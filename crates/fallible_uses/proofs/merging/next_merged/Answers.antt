@@ -1,6 +1,6 @@
 -- Each way out is one of the lemmas.
 use Rattle.std.proofs.Common.{rules, ◌≡◌, ◌∙◌, Ok, Err, Some, None, nat_lt, sym}
-use Rattle.fallible_iterator.specs.Lists.{behind_first, behind_if, looked_ahead, nth_of}
+use Rattle.fallible_iterator.specs.Lists.{rest_first, rest_if, looked_ahead, nth_of}
 use Rattle.fallible_uses.proofs.MergingLemmas.{left_fails, right_alone, right_fails, right_gives, left_gives, looked_first}
 use Rattle.fallible_uses.proofs.merging.next_merged.Goals as goal
 
@@ -31,7 +31,7 @@ returns-in_default-clause-rest g c a b la lb no_end =
     let looked = c.in_ok-first.ensures.lists a la in
     record {
       left = looked_ahead a;
-      right = behind_first b;
+      right = rest_first b;
       lists_left = looked.1;
       lists_right = c.draw.ensures.rest b lb no_end;
       is = (right_alone _ a b (rw (sym none) looked.0) (c.draw.ensures.value b lb)).1;
@@ -49,7 +49,7 @@ returns-in_err-second-clause-rest g c a b la lb no_end =
     let taken = c.in_err-second.ensures.lists (λ y. nat_lt y c.in-Some.first) b (search rules) lb in
     record {
       left = looked_ahead a;
-      right = behind_if (λ y. nat_lt y c.in-Some.first) b;
+      right = rest_if (λ y. nat_lt y c.in-Some.first) b;
       lists_left = looked.1;
       lists_right = taken.1;
       is = (right_fails c.in-Some.first _ a b (rw (sym c.in-Some.is) looked.0) taken.0).1;
@@ -66,7 +66,7 @@ returns-in-Some-2-clause-rest g c a b la lb no_end =
     let taken = c.in_ok-second.ensures.lists (λ y. nat_lt y c.in-Some.first) b (search rules) lb in
     record {
       left = looked_ahead a;
-      right = behind_if (λ y. nat_lt y c.in-Some.first) b;
+      right = rest_if (λ y. nat_lt y c.in-Some.first) b;
       lists_left = looked.1;
       lists_right = taken.1;
       is = (right_gives c.in-Some.first c.in-Some-2.second a b (rw (sym c.in-Some.is) looked.0) (rw (sym c.in-Some-2.is) taken.0)).1;
@@ -84,8 +84,8 @@ returns-in-None-clause-rest g c a b la lb no_end =
     let looked = c.in_ok-first.ensures.lists a la in
     let taken = c.in_ok-second.ensures.lists (λ y. nat_lt y c.in-Some.first) b (search rules) lb in
     record {
-      left = behind_first (looked_ahead a);
-      right = behind_if (λ y. nat_lt y c.in-Some.first) b;
+      left = rest_first (looked_ahead a);
+      right = rest_if (λ y. nat_lt y c.in-Some.first) b;
       lists_left = c.draw-in-None.ensures.rest _ looked.1 no_end;
       lists_right = taken.1;
       is = (left_gives _ a b (rw (sym c.in-Some.is) looked.0) (rw (sym c.in-None.is) taken.0)).1;

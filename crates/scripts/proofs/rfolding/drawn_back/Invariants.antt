@@ -1,4 +1,4 @@
--- The draws so far leave what may be drawn from behind again.
+-- The draws so far leave what may be drawn from the back again.
 use Rattle.fallible_iterator.specs.Contract.{Stays}
 use Rattle.fallible_iterator.specs.Ends.{from_back}
 use Rattle.scripts.proofs.rfolding.drawn_back.Given as goal

@@ -14,9 +14,9 @@ returns-clause-both c = lists_both_shown shows_between _
 pub returns-clause-lists : goal.returns-clause-lists
 returns-clause-lists c = lists_shown shows_between _
 
-pub returns-clause-behind : goal.returns-clause-behind
+pub returns-clause-back : goal.returns-clause-back
 unfolding reversed
-returns-clause-behind c = lists_shown (λ s. reverse (shows_between s)) _
+returns-clause-back c = lists_shown (λ s. reverse (shows_between s)) _
 
 pub returns-clause-sure : goal.returns-clause-sure
 returns-clause-sure c = never_fails_shown shows_between _ _ refl

@@ -1,4 +1,4 @@
--- What the one behind the reference lists.
+-- What the one that the reference points to lists.
 use Rattle.fallible_core.proofs.Lemmas.Borrowed.{lists_borrowed}
 use Rattle.fallible_core.proofs.traits.FallibleIterator.by_ref.Goals as goal
 

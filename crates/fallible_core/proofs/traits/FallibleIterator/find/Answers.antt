@@ -1,7 +1,7 @@
 -- The search whose state is the predicate.
 use Rattle.fallible_contract.specs.Closures.{call_at}
 use Rattle.fallible_contract.proofs.Lemmas.Lists.Searched.{find_is}
-use Rattle.fallible_contract.proofs.Lemmas.Lists.Behind.{behind_find}
+use Rattle.fallible_contract.proofs.Lemmas.Lists.Rest.{rest_find}
 use Rattle.fallible_contract.specs.Laws.Contract.{stays_run}
 use Rattle.fallible_core.proofs.traits.FallibleIterator.find.Goals as goal
 
@@ -12,7 +12,7 @@ pub returns-clause-value : goal.returns-clause-value
 returns-clause-value g c h l acts i = find_is l i {call = call_at g.F.FnMut} h acts c.drive_find.ensures
 
 pub returns-clause-rest : goal.returns-clause-rest
-returns-clause-rest g c h l acts i no_end = behind_find l i {call = call_at g.F.FnMut} h acts c.drive_find.ensures no_end
+returns-clause-rest g c h l acts i no_end = rest_find l i {call = call_at g.F.FnMut} h acts c.drive_find.ensures no_end
 
 pub returns-clause-stays : goal.returns-clause-stays
 returns-clause-stays g c = stays_run g.met.Self.FallibleIterator.lawful _ _ _ c.requires.can_next c.drive_find.ensures.ran

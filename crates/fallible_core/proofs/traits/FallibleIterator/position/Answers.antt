@@ -4,7 +4,7 @@ use Rattle.fallible_contract.specs.Closures.{call_on}
 use Rattle.fallible_contract.specs.Searching.{position_pick}
 use Rattle.fallible_contract.proofs.Lemmas.Searching.{searched_placed, placed_callable}
 use Rattle.fallible_contract.proofs.Lemmas.Lists.Searched.{position_is}
-use Rattle.fallible_contract.proofs.Lemmas.Lists.Behind.{behind_place}
+use Rattle.fallible_contract.proofs.Lemmas.Lists.Rest.{rest_place}
 use Rattle.fallible_contract.specs.Laws.Contract.{stays_run}
 use Rattle.fallible_core.proofs.traits.FallibleIterator.position.Goals as goal
 
@@ -18,7 +18,7 @@ pub returns-clause-value : goal.returns-clause-value
 returns-clause-value g c h l acts i = position_is l i {call = call_on g.F.FnMut} h acts (searched_placed {call = call_on g.F.FnMut} {pick = position_pick} None (λ p x r q w. w) c.drive.ensures c.answer_or_none.ensures)
 
 pub returns-clause-rest : goal.returns-clause-rest
-returns-clause-rest g c h l acts i no_end = behind_place l i {call = call_on g.F.FnMut} h acts (searched_placed {call = call_on g.F.FnMut} {pick = position_pick} None (λ p x r q w. w) c.drive.ensures c.answer_or_none.ensures) no_end
+returns-clause-rest g c h l acts i no_end = rest_place l i {call = call_on g.F.FnMut} h acts (searched_placed {call = call_on g.F.FnMut} {pick = position_pick} None (λ p x r q w. w) c.drive.ensures c.answer_or_none.ensures) no_end
 
 pub returns-clause-stays : goal.returns-clause-stays
 returns-clause-stays g c = stays_run g.met.Self.FallibleIterator.lawful _ _ _ c.requires.can_next c.drive.ensures.ran

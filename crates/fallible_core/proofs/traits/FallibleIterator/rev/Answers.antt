@@ -1,4 +1,4 @@
--- What the source lists from behind.
+-- What the source lists from the back.
 use Rattle.std.proofs.Common.{refl}
 use Rattle.fallible_contract.proofs.Lemmas.Lists.Passing.{lists_seen}
 use Rattle.fallible_core.specs.Ends.Rev.{rev_parts}

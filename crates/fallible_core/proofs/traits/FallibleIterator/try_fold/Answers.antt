@@ -2,7 +2,7 @@
 use Rattle.fallible_contract.specs.Folds.{call_with}
 use Rattle.fallible_contract.proofs.Lemmas.Folds.{slot_callable, slot_full, slot_folded_ended, slot_folded_failed, slot_folded_stopped}
 use Rattle.fallible_contract.proofs.Lemmas.Lists.Drawn.{folded_is}
-use Rattle.fallible_contract.proofs.Lemmas.Lists.Behind.{behind_fold_is}
+use Rattle.fallible_contract.proofs.Lemmas.Lists.Rest.{rest_fold_is}
 use Rattle.fallible_contract.specs.Laws.Contract.{stays_run}
 use Rattle.fallible_core.proofs.traits.FallibleIterator.try_fold.Goals as goal
 
@@ -25,7 +25,7 @@ pub returns-in-Some-clause-value : goal.returns-in-Some-clause-value
 returns-in-Some-clause-value g c convert converts h l acts i = folded_is _ _ convert h _ acts converts l (returns-in-Some-clause-folded g c) i
 
 pub returns-in-Some-clause-rest : goal.returns-in-Some-clause-rest
-returns-in-Some-clause-rest g c h l acts i = behind_fold_is _ _ h _ acts _ l (returns-in-Some-clause-folded g c) i
+returns-in-Some-clause-rest g c h l acts i = rest_fold_is _ _ h _ acts _ l (returns-in-Some-clause-folded g c) i
 
 pub returns-in-Some-clause-stays : goal.returns-in-Some-clause-stays
 returns-in-Some-clause-stays g c = stays_run g.met.Self.FallibleIterator.lawful _ _ _ c.requires.can_next (returns-in-Some-clause-folded g c).ran
@@ -34,7 +34,7 @@ pub returns-in-Ok-Some-clause-value : goal.returns-in-Ok-Some-clause-value
 returns-in-Ok-Some-clause-value g c convert converts h l acts i = folded_is _ _ convert h _ acts converts l (returns-in-Ok-Some-clause-folded g c) i
 
 pub returns-in-Ok-Some-clause-rest : goal.returns-in-Ok-Some-clause-rest
-returns-in-Ok-Some-clause-rest g c h l acts i = behind_fold_is _ _ h _ acts _ l (returns-in-Ok-Some-clause-folded g c) i
+returns-in-Ok-Some-clause-rest g c h l acts i = rest_fold_is _ _ h _ acts _ l (returns-in-Ok-Some-clause-folded g c) i
 
 pub returns-in-Ok-Some-clause-stays : goal.returns-in-Ok-Some-clause-stays
 returns-in-Ok-Some-clause-stays g c = stays_run g.met.Self.FallibleIterator.lawful _ _ _ c.requires.can_next (returns-in-Ok-Some-clause-folded g c).ran
@@ -43,7 +43,7 @@ pub returns-clause-value : goal.returns-clause-value
 returns-clause-value g c convert converts h l acts i = folded_is _ _ convert h _ acts converts l (returns-clause-folded g c) i
 
 pub returns-clause-rest : goal.returns-clause-rest
-returns-clause-rest g c h l acts i = behind_fold_is _ _ h _ acts _ l (returns-clause-folded g c) i
+returns-clause-rest g c h l acts i = rest_fold_is _ _ h _ acts _ l (returns-clause-folded g c) i
 
 pub returns-clause-stays : goal.returns-clause-stays
 returns-clause-stays g c = stays_run g.met.Self.FallibleIterator.lawful _ _ _ c.requires.can_next (returns-clause-folded g c).ran

@@ -1,7 +1,7 @@
 -- The fold whose state is both collections collects the pairs.
 use Rattle.std.specs.Prelude.{Ok, Err}
 use Rattle.std.proofs.Common.{inr}
-use Rattle.fallible_contract.specs.Collecting.{MadeOfParts, PairRefused}
+use Rattle.fallible_contract.specs.Collecting.{MadeOfPairs, PairRefused}
 use Rattle.fallible_contract.proofs.Lemmas.Collecting.{collected_all, collect_failed, collect_refused, pair_pushed}
 use Rattle.fallible_contract.proofs.Lemmas.Lists.Drawn.{unzipped_as, contents_unzipped, failure_unzipped, not_unzipped_as}
 use Rattle.fallible_contract.specs.declared.collecting.Fault.TheVariants.{Source}
@@ -14,13 +14,13 @@ pub returns-in-Ok-None-clause-value : goal.returns-in-Ok-None-clause-value
 returns-in-Ok-None-clause-value g c l i = unzipped_as g.FromA.Collect.made g.FromB.Collect.made ⊥ (PairRefused g.FromA.Collect.made g.FromB.Collect.made g.FromA.Collect.push_refuses g.FromB.Collect.push_refuses) (Ok _) l (returns-in-Ok-None-clause-collects g c) i
 
 pub returns-clause-collects : goal.returns-clause-collects
-returns-clause-collects g c = collect_failed {made = MadeOfParts g.FromA.Collect.made g.FromB.Collect.made} {refuses = PairRefused g.FromA.Collect.made g.FromB.Collect.made g.FromA.Collect.push_refuses g.FromB.Collect.push_refuses} (λ d x r e p. pair_pushed g.FromA.Collect.made g.FromB.Collect.made g.FromA.Collect.push_refuses g.FromB.Collect.push_refuses d x r e p) (c.in-Ok.ensures, c.in-Ok-empty.ensures) c.in-Err-drive.ensures
+returns-clause-collects g c = collect_failed {made = MadeOfPairs g.FromA.Collect.made g.FromB.Collect.made} {refuses = PairRefused g.FromA.Collect.made g.FromB.Collect.made g.FromA.Collect.push_refuses g.FromB.Collect.push_refuses} (λ d x r e p. pair_pushed g.FromA.Collect.made g.FromB.Collect.made g.FromA.Collect.push_refuses g.FromB.Collect.push_refuses d x r e p) (c.in-Ok.ensures, c.in-Ok-empty.ensures) c.in-Err-drive.ensures
 
 pub returns-clause-value : goal.returns-clause-value
 returns-clause-value g c l i = unzipped_as g.FromA.Collect.made g.FromB.Collect.made ⊥ (PairRefused g.FromA.Collect.made g.FromB.Collect.made g.FromA.Collect.push_refuses g.FromB.Collect.push_refuses) (Err (Source _)) l (returns-clause-collects g c) i
 
 pub returns-in-Ok-Some-clause-collects : goal.returns-in-Ok-Some-clause-collects
-returns-in-Ok-Some-clause-collects g c = inr (collect_refused {made = MadeOfParts g.FromA.Collect.made g.FromB.Collect.made} {refuses = PairRefused g.FromA.Collect.made g.FromB.Collect.made g.FromA.Collect.push_refuses g.FromB.Collect.push_refuses} (λ d x r e p. pair_pushed g.FromA.Collect.made g.FromB.Collect.made g.FromA.Collect.push_refuses g.FromB.Collect.push_refuses d x r e p) (c.in-Ok.ensures, c.in-Ok-empty.ensures) (rw c.in-Ok-Some.field-0-is at c.in-Ok-Some.ensures))
+returns-in-Ok-Some-clause-collects g c = inr (collect_refused {made = MadeOfPairs g.FromA.Collect.made g.FromB.Collect.made} {refuses = PairRefused g.FromA.Collect.made g.FromB.Collect.made g.FromA.Collect.push_refuses g.FromB.Collect.push_refuses} (λ d x r e p. pair_pushed g.FromA.Collect.made g.FromB.Collect.made g.FromA.Collect.push_refuses g.FromB.Collect.push_refuses d x r e p) (c.in-Ok.ensures, c.in-Ok-empty.ensures) (rw c.in-Ok-Some.field-0-is at c.in-Ok-Some.ensures))
 
 pub returns-in-Err-clause-value : goal.returns-in-Err-clause-value
 returns-in-Err-clause-value g c l i = not_unzipped_as g.FromA.Collect.made g.FromB.Collect.made l _

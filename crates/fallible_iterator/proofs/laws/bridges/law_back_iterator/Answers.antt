@@ -1,4 +1,4 @@
--- An element from behind is the answer that it becomes.
+-- An element from the back is the answer that it becomes.
 use Rattle.std.proofs.Common.{refl}
 use Rattle.fallible_contract.proofs.Lemmas.LawForm.{traces_of_parts}
 use Rattle.fallible_core.specs.Bridges.Iterator.{iterator_parts}

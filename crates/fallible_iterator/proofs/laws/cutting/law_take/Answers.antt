@@ -6,4 +6,4 @@ use Rattle.fallible_core.proofs.Lemmas.Cutting.Take.{take_law}
 use Rattle.fallible_iterator.proofs.laws.cutting.law_take.Goals as goal
 
 pub returns : goal.returns
-returns g c = traces_of_parts take_parts (λ p. record { it = p.0; left = p.1 }) (λ s. refl) (λ p. refl) _ _ (take_law _)
+returns g c = traces_of_parts take_parts (λ p. record { it = p.0; to_take = p.1 }) (λ s. refl) (λ p. refl) _ _ (take_law _)

@@ -1,4 +1,4 @@
--- Each draw is one from the value behind it.
+-- Each draw is one from the value that it points to.
 use Rattle.std.proofs.Common.{refl}
 use Rattle.fallible_contract.proofs.Lemmas.BothEnds.{listed_within, listed_seen, listed_as_seen}
 use Rattle.fallible_iterator.proofs.laws.listed.law_listed_borrowed.Goals as goal

@@ -1,4 +1,4 @@
--- A fold of the source is a fold from behind of what swaps its ends.
+-- A fold of the source is a fold from the back of what swaps its ends.
 use Rattle.std.proofs.Common.{refl}
 use Rattle.fallible_contract.specs.Ends.{from_front}
 use Rattle.fallible_contract.proofs.Lemmas.Overriding.{holds_held, drained_held}

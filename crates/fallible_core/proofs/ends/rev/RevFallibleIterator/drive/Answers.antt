@@ -1,4 +1,4 @@
--- A fold from behind of the source is a fold of what swaps its ends.
+-- A fold from the back of the source is a fold of what swaps its ends.
 use Rattle.std.proofs.Common.{refl}
 use Rattle.fallible_contract.specs.Ends.{from_back}
 use Rattle.fallible_contract.proofs.Lemmas.Overriding.{holds_held, drained_held}

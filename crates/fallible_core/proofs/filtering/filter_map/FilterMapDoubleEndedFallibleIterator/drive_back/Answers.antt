@@ -1,4 +1,4 @@
--- The fold of its source from behind.
+-- The fold of its source from the back.
 use Rattle.fallible_contract.specs.Closures.{call_on}
 use Rattle.fallible_contract.proofs.Lemmas.Folding.{takes_through, holds_into, drained_into}
 use Rattle.fallible_core.specs.Filtering.FilterMap.{filter_map_outcome}

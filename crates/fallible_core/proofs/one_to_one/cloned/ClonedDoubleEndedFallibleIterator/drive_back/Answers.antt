@@ -1,4 +1,4 @@
--- The fold of its source from behind, by the clones.
+-- The fold of its source from the back, by the clones.
 use Rattle.std.specs.Prelude.{⊤}
 use Rattle.fallible_contract.proofs.Lemmas.Folding.{takes_freely, holds_into, drained_into}
 use Rattle.fallible_core.specs.OneToOne.Map.{map_outcome}

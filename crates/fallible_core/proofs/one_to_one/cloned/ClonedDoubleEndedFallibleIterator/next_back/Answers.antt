@@ -1,4 +1,4 @@
--- One answer of the source from behind, and the clone of what it points to, are the trace of one answer.
+-- One answer of the source from the back, and the clone of what it points to, are the trace of one answer.
 use Rattle.fallible_contract.proofs.Lemmas.Passing.{answer_passed, freely}
 use Rattle.fallible_core.proofs.Lemmas.OneToOne.Map.{leaves_none_out}
 use Rattle.fallible_core.proofs.one_to_one.cloned.ClonedDoubleEndedFallibleIterator.next_back.Goals as goal

@@ -1,4 +1,4 @@
--- One answer of the source from behind, and what the closure makes of it, are the trace of one answer.
+-- One answer of the source from the back, and what the closure makes of it, are the trace of one answer.
 use Rattle.fallible_contract.proofs.Lemmas.Passing.{answer_passed, drawn_takes}
 use Rattle.fallible_core.proofs.Lemmas.OneToOne.Inspect.{leaves_none_out}
 use Rattle.fallible_core.proofs.one_to_one.inspect.InspectDoubleEndedFallibleIterator.next_back.Goals as goal

@@ -1,4 +1,4 @@
--- A fold of the source from behind, and the call where it met a failure.
+-- A fold of the source from the back, and the call where it met a failure.
 use Rattle.fallible_core.proofs.Lemmas.OneToOne.MapErrFolds.{drive_fails, drained_map_err, holds_map_err, takes_made}
 use Rattle.fallible_core.proofs.one_to_one.map_err.MapErrDoubleEndedFallibleIterator.drive_back.Goals as goal
 

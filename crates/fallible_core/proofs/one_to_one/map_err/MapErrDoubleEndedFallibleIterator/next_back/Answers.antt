@@ -1,4 +1,4 @@
--- One answer of the source from behind, and the call where it is a failure, are the trace of one answer.
+-- One answer of the source from the back, and the call where it is a failure, are the trace of one answer.
 use Rattle.fallible_core.proofs.Lemmas.OneToOne.MapErr.{map_err_answered}
 use Rattle.fallible_core.proofs.Lemmas.OneToOne.MapErrFolds.{takes_drawn}
 use Rattle.fallible_core.proofs.one_to_one.map_err.MapErrDoubleEndedFallibleIterator.next_back.Goals as goal

@@ -1,4 +1,4 @@
--- The draws of the one behind it are its own.
+-- The draws of the one that it points to are its own.
 use Rattle.std.proofs.Common.{refl}
 use Rattle.fallible_contract.proofs.Lemmas.Folding.{drained_into}
 use Rattle.fallible_core.proofs.traits.borrowed.RefMutFallibleIterator.drive_nth.Goals as goal

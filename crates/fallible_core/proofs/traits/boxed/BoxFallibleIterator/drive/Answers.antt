@@ -1,4 +1,4 @@
--- A fold of the one behind it is a fold of it.
+-- A fold of the one that it points to is a fold of it.
 use Rattle.fallible_contract.proofs.Lemmas.Folding.{holds_into, drained_into}
 use Rattle.fallible_core.proofs.traits.boxed.BoxFallibleIterator.drive.Goals as goal
 

@@ -1,7 +1,7 @@
 -- The first items are left out.
 use Rattle.fallible_core.specs.Cutting.Skip.{skip_parts}
 use Rattle.fallible_iterator.proofs.Lemmas.Hints.Drawn.{sound_seen}
-use Rattle.fallible_iterator.proofs.Lemmas.Hints.Counting.{skip_sound}
+use Rattle.fallible_iterator.proofs.Lemmas.Hints.ByNumber.{skip_sound}
 use Rattle.fallible_iterator.proofs.laws.hints.cutting.law_hints_skip.Goals as goal
 
 pub returns : goal.returns

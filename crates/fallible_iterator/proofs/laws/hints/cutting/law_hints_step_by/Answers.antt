@@ -1,7 +1,7 @@
 -- One item is kept at each step.
 use Rattle.fallible_core.specs.Cutting.StepBy.{step_by_parts}
 use Rattle.fallible_iterator.proofs.Lemmas.Hints.Drawn.{sound_seen}
-use Rattle.fallible_iterator.proofs.Lemmas.Hints.Counting.{step_by_sound}
+use Rattle.fallible_iterator.proofs.Lemmas.Hints.ByNumber.{step_by_sound}
 use Rattle.fallible_iterator.proofs.laws.hints.cutting.law_hints_step_by.Goals as goal
 
 pub returns : goal.returns

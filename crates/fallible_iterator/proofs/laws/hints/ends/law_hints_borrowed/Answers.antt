@@ -1,4 +1,4 @@
--- Each draw is one of the value behind it.
+-- Each draw is one of the value that it points to.
 use Rattle.fallible_iterator.proofs.Lemmas.Hints.Drawn.{sound_within}
 use Rattle.fallible_iterator.proofs.laws.hints.ends.law_hints_borrowed.Goals as goal
 

@@ -1,4 +1,4 @@
--- The hint is that of the value behind it.
+-- The hint is that of the value that it points to.
 
 use Rattle.fallible_iterator.proofs.laws.hints.listed.law_hints_listed_borrowed.Goals as goal
 

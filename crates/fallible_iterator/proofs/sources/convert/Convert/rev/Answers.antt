@@ -1,9 +1,9 @@
--- What the std iterator reads from behind is what is listed from behind.
-use Rattle.fallible_iterator.proofs.Lemmas.Sources.Convert.{lists_results_behind, lists_items_behind}
+-- What the std iterator reads from the back is what is listed from the back.
+use Rattle.fallible_iterator.proofs.Lemmas.Sources.Convert.{lists_results_back, lists_items_back}
 use Rattle.fallible_iterator.proofs.sources.convert.Convert.rev.Goals as goal
 
 pub returns-clause-results_back : goal.returns-clause-results_back
-returns-clause-results_back g c l reads = let i = g.I.DoubleEndedIterator in c.rev.ensures.lists _ (lists_results_behind i.can_next_back i.next_back_gives g.I.Iterator.remaining _ l reads)
+returns-clause-results_back g c l reads = let i = g.I.DoubleEndedIterator in c.rev.ensures.lists _ (lists_results_back i.can_next_back i.next_back_gives g.I.Iterator.remaining _ l reads)
 
 pub returns-clause-items_back : goal.returns-clause-items_back
-returns-clause-items_back g c l reads = let i = g.I.DoubleEndedIterator in c.rev.ensures.lists _ (lists_items_behind i.can_next_back i.next_back_gives g.I.Iterator.remaining _ l reads)
+returns-clause-items_back g c l reads = let i = g.I.DoubleEndedIterator in c.rev.ensures.lists _ (lists_items_back i.can_next_back i.next_back_gives g.I.Iterator.remaining _ l reads)
