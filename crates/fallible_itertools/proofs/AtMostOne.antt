@@ -3,9 +3,9 @@ use Rattle.std.specs.Prelude.{◌≡◌, length, List, [], ◌∷◌, ◌++◌, 
 use Rattle.std.proofs.Common.{refl, sym, ap, ◌∙◌, arith}
 use Rattle.fallible_contract.specs.Traces.{Answered, item}
 use Rattle.fallible_contract.specs.Folds.{Nth, NthExit}
-use Rattle.fallible_contract.specs.Lists.{Lists, behind_nth}
+use Rattle.fallible_contract.specs.Lists.{Lists, rest_nth}
 use Rattle.fallible_contract.proofs.Lemmas.Folds.{drained_last}
-use Rattle.fallible_contract.proofs.Lemmas.Lists.Behind.{behind_nth_is}
+use Rattle.fallible_contract.proofs.Lemmas.Lists.Rest.{rest_nth_is}
 use Rattle.fallible_contract.proofs.Lemmas.Lists.Drawn.{LeftAt, drawn}
 use Rattle.fallible_itertools.specs.Few.{AtMostOneExit, AtMostOne, at_most_one_of}
 
@@ -52,11 +52,11 @@ module _ {A E : Type 0} where
 
 module _ {S A E : Type 0} {steps : S → Answered A E → S → Type 0} {s t : S} where
   pub at_most_one_is : {r : Result (Result (Option A) (A × A)) E} (l : List (Result A E)) → AtMostOne steps s r t → Lists steps s l → r ≡ at_most_one_of l
-  at_most_one_is {r = r} l c i = let d = drawn steps c.items c.last l s t i.runs c.ran in by_list c.items c.last r d.rest d.left c.at.exit ∙ sym (ap at_most_one_of d.list_is)
+  at_most_one_is {r = r} l c i = let d = drawn steps c.items c.last l s t i.runs c.ran in by_list c.items c.last r d.rest d.rest_is c.at.exit ∙ sym (ap at_most_one_of d.list_is)
 
   -- and so is what it leaves
-  pub left_of_few : {r : Result (Result (Option A) (A × A)) E} (l : List (Result A E)) → AtMostOne steps s r t → Lists steps s l → ((o : Option A) → ¬ (r ≡ Ok (Ok o))) → Lists steps t (behind_nth 1 l)
+  pub left_of_few : {r : Result (Result (Option A) (A × A)) E} (l : List (Result A E)) → AtMostOne steps s r t → Lists steps s l → ((o : Option A) → ¬ (r ≡ Ok (Ok o))) → Lists steps t (rest_nth 1 l)
   left_of_few {r = r} l c i other =
       let no_end = no_end_drawn c.items c.last r other c.at.exit in
       let c' : Nth steps s 1 c.last t = record { items = c.items; last = c.last; ran = c.ran; at = record { is = refl; exit = second_or_failure c.items c.last r no_end c.at.exit } } in
-      behind_nth_is l c' i no_end
+      rest_nth_is l c' i no_end

@@ -4,11 +4,11 @@ use Rattle.std.specs.List.{FoldsTo}
 use Rattle.std.proofs.Common.{refl, sym, ap, subst, ◌∙◌}
 use Rattle.fallible_iterator.specs.Traces.{Answered, Run, item}
 use Rattle.fallible_iterator.specs.Folds.{DriveExit, Driven, FoldExit, Folded, went_on_with}
-use Rattle.fallible_iterator.specs.Searching.{Passed, Decided, SearchExit, Searched, each_pick, find_pick, position_pick}
-use Rattle.fallible_iterator.specs.Lists.{AlwaysGives, Lists, Acts, ActsWith, Converts, stopped_or, behind_failed, behind_fold, failures_mapped}
-use Rattle.fallible_contract.proofs.Lemmas.Lists.Behind.{behind_fold_is}
+use Rattle.fallible_iterator.specs.Searching.{WentOn, Decided, SearchExit, Searched, each_pick, find_pick, position_pick}
+use Rattle.fallible_iterator.specs.Lists.{AlwaysGives, Lists, Acts, ActsWith, Converts, stopped_or, rest_failed, rest_fold, failures_mapped}
+use Rattle.fallible_contract.proofs.Lemmas.Lists.Rest.{rest_fold_is}
 use Rattle.fallible_contract.proofs.Lemmas.Lists.Searched.{each_is, find_is, position_is}
-use Rattle.fallible_itertools.specs.Converting.{ConvertsTo, Converted, try_each_done, try_found, try_position_in, stops_by, behind_try_stop, behind_try_each, behind_try_true}
+use Rattle.fallible_itertools.specs.Converting.{ConvertsTo, Converted, try_each_done, try_found, try_position_in, stops_by, rest_try_stop, rest_try_each, rest_try_true}
 use Rattle.std.specs.declared.ops.ControlFlow.{ControlFlow}
 
 -- ---- draws
@@ -75,17 +75,17 @@ went_or_stopped true = Err tt
 went_or_stopped false = Ok tt
 
 -- what a fold with it leaves at an item
-item_is_fold : {A E : Type 0} (b : Bool) (here later : List (Result A E)) → behind_failed (went_or_stopped b) here (λ u. later) ≡ stopped_or b here later
+item_is_fold : {A E : Type 0} (b : Bool) (here later : List (Result A E)) → rest_failed (went_or_stopped b) here (λ u. later) ≡ stopped_or b here later
 item_is_fold true here later = refl
 item_is_fold false here later = refl
 
 module _ {A E' F V R : Type 0} (call : F → A → Result V E' → F → Type 0) (pick : ℕ → A → V → Option R) where
   -- its calls
   abbrev SearchCall : F → Unit {0} → A → Result (Unit {0}) (Unit {0}) → F → Type 0
-  SearchCall f u x (Ok v) g = Passed call pick f x g
+  SearchCall f u x (Ok v) g = WentOn call pick f x g
   SearchCall f u x (Err v) g = (n : ℕ) × (r : Result R E') × Decided call pick n f x r g
 
-  went_over : (items : List A) (f g : F) → FoldsTo (Passed call pick) f items g → FoldsTo {P = Unit {0} × F} (went_on_with SearchCall) (tt, f) items (tt, g)
+  went_over : (items : List A) (f g : F) → FoldsTo (WentOn call pick) f items g → FoldsTo {P = Unit {0} × F} (went_on_with SearchCall) (tt, f) items (tt, g)
   went_over [] f g e = ap (λ (h : F). (tt, h)) e
   went_over (x ∷ items) f g w = ((tt, w.0), w.1, went_over items w.0 g w.2)
 
@@ -114,14 +114,14 @@ module _ {A E' F V R : Type 0} (call : F → A → Result V E' → F → Type 0)
     search_acts f acts u x (Err v) g d = let a = decided_acts f acts d.0 x d.1 g d.2 in (a.0, ap went_or_stopped (sym a.1))
 
     -- so they leave what the search does
-    behind_is_fold : {E : Type 0} (l : List (Result A E)) → behind_fold search_acts_as tt l ≡ behind_try_stop stops h l
-    unfolding behind_fold behind_try_stop
-    behind_is_fold [] = refl
-    behind_is_fold (Ok x ∷ l) = item_is_fold (stops_by stops (h x)) l (behind_fold search_acts_as tt l) ∙ ap (stopped_or (stops_by stops (h x)) l) (behind_is_fold l)
-    behind_is_fold (Err e ∷ l) = refl
+    rest_is_fold : {E : Type 0} (l : List (Result A E)) → rest_fold search_acts_as tt l ≡ rest_try_stop stops h l
+    unfolding rest_fold rest_try_stop
+    rest_is_fold [] = refl
+    rest_is_fold (Ok x ∷ l) = item_is_fold (stops_by stops (h x)) l (rest_fold search_acts_as tt l) ∙ ap (stopped_or (stops_by stops (h x)) l) (rest_is_fold l)
+    rest_is_fold (Err e ∷ l) = refl
 
-    behind_search : {S E : Type 0} (from : E → E' → Type 0) (steps : S → Answered A E → S → Type 0) (s t : S) (f g : F) (r : Result R E') (none : R) (l : List (Result A E)) → Acts call f h → Lists steps s l → Searched call pick (Converted from steps) none s f r t g → ¬ (r ≡ Ok none) → Lists steps t (behind_try_stop stops h l)
-    behind_search from steps s t f g r none l acts i w no_end = subst (λ k. Lists steps t k) (behind_is_fold l) (behind_fold_is SearchCall (λ e v. ⊤) search_acts_as f (search_acts f acts) steps l (search_folded from steps none s t f g r w no_end) i tt refl)
+    rest_search : {S E : Type 0} (from : E → E' → Type 0) (steps : S → Answered A E → S → Type 0) (s t : S) (f g : F) (r : Result R E') (none : R) (l : List (Result A E)) → Acts call f h → Lists steps s l → Searched call pick (Converted from steps) none s f r t g → ¬ (r ≡ Ok none) → Lists steps t (rest_try_stop stops h l)
+    rest_search from steps s t f g r none l acts i w no_end = subst (λ k. Lists steps t k) (rest_is_fold l) (rest_fold_is SearchCall (λ e v. ⊤) search_acts_as f (search_acts f acts) steps l (search_folded from steps none s t f g r w no_end) i tt refl)
 
 true_stops : {A : Type 0} (n : ℕ) (x : A) (v : Bool) → is_some (find_pick n x v) ≡ v
 true_stops n x true = refl
@@ -132,17 +132,17 @@ true_places n x true = refl
 true_places n x false = refl
 
 module _ {S A E E' F : Type 0} {from : E → E' → Type 0} {steps : S → Answered A E → S → Type 0} {s t : S} {f g : F} (l : List (Result A E)) (i : Lists steps s l) where
-  pub behind_each : {call : F → A → Result (Unit {0}) E' → F → Type 0} (h : A → Result (Unit {0}) E') {r : Result (Unit {0}) E'} {e : E'} → Acts call f h → Searched call each_pick (Converted from steps) tt s f r t g → r ≡ Err e → Lists steps t (behind_try_each h l)
-  unfolding behind_try_each
-  behind_each {call = call} h {r = r} acts d is = behind_search call each_pick (λ u. false) (λ n x u. refl) h from steps s t f g r tt l acts i d (λ no. absurd cc)
+  pub rest_each : {call : F → A → Result (Unit {0}) E' → F → Type 0} (h : A → Result (Unit {0}) E') {r : Result (Unit {0}) E'} {e : E'} → Acts call f h → Searched call each_pick (Converted from steps) tt s f r t g → r ≡ Err e → Lists steps t (rest_try_each h l)
+  unfolding rest_try_each
+  rest_each {call = call} h {r = r} acts d is = rest_search call each_pick (λ u. false) (λ n x u. refl) h from steps s t f g r tt l acts i d (λ no. absurd cc)
 
-  pub behind_find : {call : F → A → Result Bool E' → F → Type 0} (h : A → Result Bool E') {r : Result (Option A) E'} → Acts call f h → Searched call find_pick (Converted from steps) None s f r t g → ¬ (r ≡ Ok None) → Lists steps t (behind_try_true h l)
-  unfolding behind_try_true
-  behind_find {call = call} h {r = r} acts d no_end = behind_search call find_pick (λ v. v) true_stops h from steps s t f g r None l acts i d no_end
+  pub rest_find : {call : F → A → Result Bool E' → F → Type 0} (h : A → Result Bool E') {r : Result (Option A) E'} → Acts call f h → Searched call find_pick (Converted from steps) None s f r t g → ¬ (r ≡ Ok None) → Lists steps t (rest_try_true h l)
+  unfolding rest_try_true
+  rest_find {call = call} h {r = r} acts d no_end = rest_search call find_pick (λ v. v) true_stops h from steps s t f g r None l acts i d no_end
 
-  pub behind_place : {call : F → A → Result Bool E' → F → Type 0} (h : A → Result Bool E') {r : Result (Option ℕ) E'} → Acts call f h → Searched call position_pick (Converted from steps) None s f r t g → ¬ (r ≡ Ok None) → Lists steps t (behind_try_true h l)
-  unfolding behind_try_true
-  behind_place {call = call} h {r = r} acts d no_end = behind_search call position_pick (λ v. v) true_places h from steps s t f g r None l acts i d no_end
+  pub rest_place : {call : F → A → Result Bool E' → F → Type 0} (h : A → Result Bool E') {r : Result (Option ℕ) E'} → Acts call f h → Searched call position_pick (Converted from steps) None s f r t g → ¬ (r ≡ Ok None) → Lists steps t (rest_try_true h l)
+  unfolding rest_try_true
+  rest_place {call = call} h {r = r} acts d no_end = rest_search call position_pick (λ v. v) true_places h from steps s t f g r None l acts i d no_end
 
 -- the calls that don't fail, as calls which might fail otherwise
 abbrev pub unfailing : {F A V E E' : Type 0} → (F → A → Result V E' → F → Type 0) → F → A → Result V E → F → Type 0

@@ -122,4 +122,4 @@ by_last cmp items (Err e) r rest left exit = exit ∙ sym (ap (λ (k : List (Res
 by_last cmp items (Ok (Some x)) r rest left exit = absurd exit
 
 pub minmaxed_is : {S A E : Type 0} {steps : S → Answered A E → S → Type 0} (cmp : A → A → Ordering) {s : S} {r : Result (MinMaxResult A) E} (l : List (Result A E)) → MinMaxed cmp steps s r → Lists steps s l → r ≡ minmaxed cmp l
-minmaxed_is {A = A} {E = E} {steps = steps} cmp {s = s} {r = r} l c i = let w = c.1 in let d = drawn steps w.items w.last l s c.0 i.runs w.ran in by_last cmp w.items w.last r d.rest d.left w.at.exit ∙ sym (ap (minmaxed cmp) d.list_is)
+minmaxed_is {A = A} {E = E} {steps = steps} cmp {s = s} {r = r} l c i = let w = c.1 in let d = drawn steps w.items w.last l s c.0 i.runs w.ran in by_last cmp w.items w.last r d.rest d.rest_is w.at.exit ∙ sym (ap (minmaxed cmp) d.list_is)

@@ -3,11 +3,11 @@ use Rattle.std.specs.Prelude.{◌≡◌, Option, Some, None, Result, Ok, Err, Li
 use Rattle.std.proofs.Common.{refl, sym, ap, subst, ◌∙◌}
 use Rattle.fallible_iterator.specs.Traces.{Answered}
 use Rattle.fallible_iterator.specs.Folds.{Driven, Folded, IsFoldTurnInSlot}
-use Rattle.fallible_iterator.specs.Lists.{Lists, ActsWith, on_value, folded, behind_failed, behind_fold}
+use Rattle.fallible_iterator.specs.Lists.{Lists, ActsWith, on_value, folded, rest_failed, rest_fold}
 use Rattle.fallible_contract.proofs.Lemmas.Folds.{slot_full, slot_folded_ended, slot_folded_failed, slot_folded_stopped}
 use Rattle.fallible_contract.proofs.Lemmas.Lists.Drawn.{folded_is}
-use Rattle.fallible_contract.proofs.Lemmas.Lists.Behind.{behind_fold_is}
-use Rattle.fallible_itertools.specs.Stopping.{while_answer, WhileCall, FoldedWhile, IsStop, while_going_on, folded_while, behind_done, behind_while}
+use Rattle.fallible_contract.proofs.Lemmas.Lists.Rest.{rest_fold_is}
+use Rattle.fallible_itertools.specs.Stopping.{while_answer, WhileCall, FoldedWhile, IsStop, while_going_on, folded_while, rest_done_at, rest_while}
 use Rattle.fallible_itertools.specs.declared.stopping.FoldWhile.{FoldWhile}
 use Rattle.fallible_itertools.specs.declared.stopping.FoldWhile.TheVariants.{Continue, Done}
 
@@ -52,16 +52,16 @@ module _ {A E B : Type 0} (h : B → A → Result (FoldWhile B) E) where
   folded_same b (Ok x ∷ l) = going_on (h b x) (λ c. folded (λ e. Err e) (λ c x. as_failing (h c x)) c l) (λ c. folded_while h c l) (λ c. folded_same c l)
   folded_same b (Err e ∷ l) = refl
 
-  staying_behind : (r : Result (FoldWhile B) E) (here : List (Result A E)) (p q : B → List (Result A E)) → ((c : B) → p c ≡ q c) → behind_failed (as_failing r) here p ≡ behind_done r here q
-  staying_behind (Ok (Continue c)) here p q e = e c
-  staying_behind (Ok (Done d)) here p q e = refl
-  staying_behind (Err d) here p q e = refl
+  staying_rest : (r : Result (FoldWhile B) E) (here : List (Result A E)) (p q : B → List (Result A E)) → ((c : B) → p c ≡ q c) → rest_failed (as_failing r) here p ≡ rest_done_at r here q
+  staying_rest (Ok (Continue c)) here p q e = e c
+  staying_rest (Ok (Done d)) here p q e = refl
+  staying_rest (Err d) here p q e = refl
 
-  behind_same : (b : B) (l : List (Result A E)) → behind_fold (λ c x. as_failing (h c x)) b l ≡ behind_while h b l
-  unfolding behind_fold behind_while
-  behind_same b [] = refl
-  behind_same b (Ok x ∷ l) = staying_behind (h b x) l (λ c. behind_fold (λ c x. as_failing (h c x)) c l) (λ c. behind_while h c l) (λ c. behind_same c l)
-  behind_same b (Err e ∷ l) = refl
+  rest_same : (b : B) (l : List (Result A E)) → rest_fold (λ c x. as_failing (h c x)) b l ≡ rest_while h b l
+  unfolding rest_fold rest_while
+  rest_same b [] = refl
+  rest_same b (Ok x ∷ l) = staying_rest (h b x) l (λ c. rest_fold (λ c x. as_failing (h c x)) c l) (λ c. rest_while h c l) (λ c. rest_same c l)
+  rest_same b (Err e ∷ l) = refl
 
   module _ {F : Type 0} (call : F → B → A → Result (FoldWhile B) E → F → Type 0) (f : F) (acts : ActsWith call f h) where
     acts_failing : ActsWith (WhileCall call) f (λ c x. as_failing (h c x))
@@ -71,11 +71,11 @@ module _ {A E B : Type 0} (h : B → A → Result (FoldWhile B) E) where
       pub folded_while_is : FoldedWhile call steps s b f r t → r ≡ folded_while h b l
       folded_while_is w = w.2 ∙ ap while_answer (folded_is (WhileCall call) (λ e d. d ≡ Err e) (λ e. Err e) (λ c x. as_failing (h c x)) f acts_failing (λ e d is. is) l w.1 i) ∙ folded_same b l
 
-      behind_stop : (d : Result B E) → FoldedWhile call steps s b f r t → as_failing r ≡ Err d → Lists steps t (behind_while h b l)
-      behind_stop d w is = subst (λ k. Lists steps t k) (behind_same b l) (behind_fold_is (WhileCall call) (λ e d. d ≡ Err e) (λ c x. as_failing (h c x)) f acts_failing steps l w.1 i d (sym (as_it_was w.0) ∙ ap as_failing (sym w.2) ∙ is))
+      rest_stop : (d : Result B E) → FoldedWhile call steps s b f r t → as_failing r ≡ Err d → Lists steps t (rest_while h b l)
+      rest_stop d w is = subst (λ k. Lists steps t k) (rest_same b l) (rest_fold_is (WhileCall call) (λ e d. d ≡ Err e) (λ c x. as_failing (h c x)) f acts_failing steps l w.1 i d (sym (as_it_was w.0) ∙ ap as_failing (sym w.2) ∙ is))
 
-      pub behind_while_done : (d : B) → FoldedWhile call steps s b f r t → r ≡ Ok (Done d) → Lists steps t (behind_while h b l)
-      behind_while_done d w is = behind_stop (Ok d) w (ap as_failing is)
+      pub rest_while_done : (d : B) → FoldedWhile call steps s b f r t → r ≡ Ok (Done d) → Lists steps t (rest_while h b l)
+      rest_while_done d w is = rest_stop (Ok d) w (ap as_failing is)
 
-      pub behind_while_failed : (e : E) → FoldedWhile call steps s b f r t → r ≡ Err e → Lists steps t (behind_while h b l)
-      behind_while_failed e w is = behind_stop (Err e) w (ap as_failing is)
+      pub rest_while_failed : (e : E) → FoldedWhile call steps s b f r t → r ≡ Err e → Lists steps t (rest_while h b l)
+      rest_while_failed e w is = rest_stop (Err e) w (ap as_failing is)

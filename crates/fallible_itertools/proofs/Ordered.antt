@@ -4,7 +4,7 @@ use Rattle.std.specs.List.{FoldsTo}
 use Rattle.std.proofs.Common.{refl, sym, ap, subst, ◌∙◌}
 use Rattle.fallible_iterator.specs.Traces.{Answered}
 use Rattle.fallible_iterator.specs.Lists.{Lists, Acts, on_value}
-use Rattle.fallible_iterator.specs.Searching.{Passed, SearchExit, Searched, Decided, all_pick}
+use Rattle.fallible_iterator.specs.Searching.{WentOn, SearchExit, Searched, Decided, all_pick}
 use Rattle.fallible_contract.proofs.Lemmas.Lists.Drawn.{LeftAt, drawn}
 use Rattle.fallible_itertools.specs.Sorting.{comes_after, OrderCall, while_in_order, sorted_after, sorted_by_key}
 use Rattle.std.specs.declared.cmp.Ordering.{Ordering}
@@ -25,7 +25,7 @@ module _ {A E K F : Type 0} (order : K → K → Option Ordering) (call : F → 
   at_key last x k g v l called is = ap (λ (w : Result K E). on_value w (λ k. while_in_order (comes_after order last k) (sorted_after order h (Some k) l))) (sym (acts x (Ok k) g called).1) ∙ ap (λ b. while_in_order b (sorted_after order h (Some k) l)) (sym is)
 
   -- the keys were in order over the items, and the closure stayed as it is
-  sorted_front : (items : List A) (rest : List (Result A E)) (last : Option K) (q : Option K × F) → FoldsTo (Passed (OrderCall order call) all_pick) (last, f) items q → (q.1 ≡ f) × (sorted_after order h last (map (λ x. Ok x) items ++ rest) ≡ sorted_after order h q.0 rest)
+  sorted_front : (items : List A) (rest : List (Result A E)) (last : Option K) (q : Option K × F) → FoldsTo (WentOn (OrderCall order call) all_pick) (last, f) items q → (q.1 ≡ f) × (sorted_after order h last (map (λ x. Ok x) items ++ rest) ≡ sorted_after order h q.0 rest)
   sorted_front [] rest last q e = (sym (ap (λ p. p.1) e), ap (λ p. sorted_after order h p.0 rest) e)
   sorted_front (x ∷ items) rest last q w =
       let mid = w.0 in
@@ -33,7 +33,7 @@ module _ {A E K F : Type 0} (order : K → K → Option Ordering) (call : F → 
       let c = (w.1).1 in
       let true_here = goes_on_true 0 x v ((w.1).2 0) in
       let same : mid ≡ (Some c.0, f) = ap (λ (o : Option K). (o, mid.1)) c.2 ∙ ap (λ (g : F). (Some c.0, g)) (acts x (Ok c.0) mid.1 c.1).0 in
-      let d = sorted_front items rest (Some c.0) q (subst (λ (p : Option K × F). FoldsTo (Passed (OrderCall order call) all_pick) p items q) same w.2) in
+      let d = sorted_front items rest (Some c.0) q (subst (λ (p : Option K × F). FoldsTo (WentOn (OrderCall order call) all_pick) p items q) same w.2) in
       (d.0, at_key last x c.0 mid.1 v (map (λ y. Ok y) items ++ rest) c.1 c.3 ∙ ap (λ b. while_in_order b (sorted_after order h (Some c.0) (map (λ y. Ok y) items ++ rest))) true_here ∙ d.1)
 
   sorted_item : (n : ℕ) (last : Option K) (x : A) (r : Result Bool E) (q : Option K × F) (l : List (Result A E)) → Decided (OrderCall order call) all_pick n (last, f) x r q → r ≡ sorted_after order h last (Ok x ∷ l)
@@ -54,4 +54,4 @@ module _ {A E K F : Type 0} (order : K → K → Option Ordering) (call : F → 
       let at = w.at.closure in
       let p = sorted_front w.items d.rest None at w.at.went in
       let exit = subst (λ (g : F). SearchExit (OrderCall order call) all_pick true (length w.items) (at.0, g) w.last r q) p.0 w.at.exit in
-      sorted_left w.last (length w.items) at.0 r q d.rest exit d.left ∙ sym (ap (sorted_after order h None) d.list_is ∙ p.1)
+      sorted_left w.last (length w.items) at.0 r q d.rest exit d.rest_is ∙ sym (ap (sorted_after order h None) d.list_is ∙ p.1)

@@ -34,4 +34,4 @@ module _ {N E : Type 0} (op : N → N → Option N) where
   totalled_is {steps = steps} {s = s} {start = start} {r = r} l c i =
       let w = c.1 in
       let d = drawn steps w.items w.last l s c.0 i.runs w.ran in
-      totalled_left w.last w.at.total r d.rest w.at.exit d.left ∙ sym (ap (totalled op start) d.list_is ∙ totalled_front w.items d.rest start w.at.total w.at.went)
+      totalled_left w.last w.at.total r d.rest w.at.exit d.rest_is ∙ sym (ap (totalled op start) d.list_is ∙ totalled_front w.items d.rest start w.at.total w.at.went)

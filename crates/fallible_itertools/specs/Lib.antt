@@ -7,7 +7,7 @@ pub mod Counted
 pub mod Dedup
 pub mod DedupByKey
 pub mod Few
-pub mod FromBehind
+pub mod FromBack
 pub mod Holding
 pub mod Joined
 pub mod Laws

@@ -48,4 +48,4 @@ pub record MinMaxBy {A E : Type 0} (cmp : A → A → Ordering) (r : Result (Min
 
 -- The draws from s answered items and then an end or a failure; the result is what the items make, or the failure.
 abbrev pub MinMaxed : {S A E : Type 0} → (A → A → Ordering) → (S → Answered A E → S → Type 0) → S → Result (MinMaxResult A) E → Type 0
-MinMaxed {S = S} cmp steps s r = (left : S) × Drained steps (MinMaxBy cmp r) s left
+MinMaxed {S = S} cmp steps s r = (after : S) × Drained steps (MinMaxBy cmp r) s after

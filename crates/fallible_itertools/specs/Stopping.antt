@@ -53,13 +53,13 @@ folded_while h b (Ok x ∷ l) = while_going_on (h b x) (λ c. folded_while h c l
 folded_while h b (Err e ∷ l) = Err e
 
 -- what the fold leaves at an item: what stands behind it where it is done or fails
-abbrev pub behind_done : {B E L : Type 0} → Result (FoldWhile B) E → L → (B → L) → L
-behind_done (Ok (Continue c)) here later = later c
-behind_done (Ok (Done d)) here later = here
-behind_done (Err e) here later = here
+abbrev pub rest_done_at : {B E L : Type 0} → Result (FoldWhile B) E → L → (B → L) → L
+rest_done_at (Ok (Continue c)) here later = later c
+rest_done_at (Ok (Done d)) here later = here
+rest_done_at (Err e) here later = here
 
 -- what it leaves: what stands behind the first item at which h, called on the value so far and that item, is done or fails; or behind the failure of the list that comes first
-unfoldable pub behind_while : {A B E : Type 0} → (B → A → Result (FoldWhile B) E) → B → List (Result A E) → List (Result A E)
-behind_while h b [] = []
-behind_while h b (Ok x ∷ l) = behind_done (h b x) l (λ c. behind_while h c l)
-behind_while h b (Err e ∷ l) = l
+unfoldable pub rest_while : {A B E : Type 0} → (B → A → Result (FoldWhile B) E) → B → List (Result A E) → List (Result A E)
+rest_while h b [] = []
+rest_while h b (Ok x ∷ l) = rest_done_at (h b x) l (λ c. rest_while h c l)
+rest_while h b (Err e ∷ l) = l

@@ -58,7 +58,7 @@ module _ {N : Type 0} (op : N → N → Option N) where
 
   -- The draws from s answered items and a last answer, by which the total from `start` on is r.
   abbrev pub Totalled : {S E : Type 0} → (S → Answered N E → S → Type 0) → N → S → Result (Option N) E → Type 0
-  Totalled {S = S} steps start s r = (left : S) × Drained steps (TotalledBy start r) s left
+  Totalled {S = S} steps start s r = (after : S) × Drained steps (TotalledBy start r) s after
 
 -- what a checked total answers, by what its fold answered and the total that it left
 abbrev pub total_by : {N E : Type 0} → N → Answered (Unit {0}) E → Result (Option N) E

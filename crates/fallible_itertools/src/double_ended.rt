@@ -6,15 +6,15 @@ ghost use Rattle.fallible_iterator.specs.Closures.{call_on, takes_on, call_at, t
 ghost use Rattle.fallible_iterator.specs.Contract.{AtMost, KeptByDraws, Stays};
 ghost use Rattle.fallible_iterator.specs.Ends.{from_front, from_back};
 ghost use Rattle.fallible_iterator.specs.Folds.{Nth};
-ghost use Rattle.fallible_iterator.specs.Lists.{Acts, behind_nth, behind_true, found, nth_of};
+ghost use Rattle.fallible_iterator.specs.Lists.{Acts, rest_nth, rest_true, found, nth_of};
 ghost use Rattle.fallible_iterator.specs.Searching.{CallableInSearch, Searched, any_pick, find_pick};
-ghost use Rattle.fallible_itertools.specs.FromBehind.{CountedWhere, PlacedFromBehind, last_position_in, left_of_position};
+ghost use Rattle.fallible_itertools.specs.FromBack.{CountedWhere, PlacedFromBack, last_position_in, rest_position};
 
 use fallible_iterator::consuming::{AnyTurn, CountTurn, FindTest, FindTurn, answer_or, found};
 use fallible_iterator::{DoubleEndedFallibleIterator, FallibleIterator};
 
-// Passes over n items from behind, and draws one more answer.
-fn nth_from_behind<I>(it: &mut I, n: usize) -> Result<Option<I::Item>, I::Error>
+// Passes over n items from the back, and draws one more answer.
+fn nth_from_back<I>(it: &mut I, n: usize) -> Result<Option<I::Item>, I::Error>
 where
     I: DoubleEndedFallibleIterator,
     I::Item: Drop,
@@ -57,7 +57,7 @@ where
 pub trait DoubleEndedFallibleItertools: DoubleEndedFallibleIterator {
     /// The item with n items behind it; none where an end comes first.
     ///
-    /// It draws at most n + 1 answers from behind: up to that item, or a failure or an end that comes first. It fails with that failure. Nothing is drawn after the answer, and what is left may be drawn from again, from either end.
+    /// It draws at most n + 1 answers from the back: up to that item, or a failure or an end that comes first. It fails with that failure. Nothing is drawn after the answer, and what is left may be drawn from again, from either end.
     ///
     /// Asks that it may be drawn from, from either end.
     ///
@@ -74,17 +74,17 @@ pub trait DoubleEndedFallibleItertools: DoubleEndedFallibleIterator {
             → ListsBothEnds Self.contract.steps Self.ends.steps self.old l
             → (result ≡ nth_of n (reverse l))
             × ListsBothEnds Self.contract.steps Self.ends.steps self.new
-            (reverse (behind_nth n (reverse l))) }
+            (reverse (rest_nth n (reverse l))) }
         ensures stays { Stays (from_back Self.contract Self.ends) self.old self.new }
     {
-        nth_from_behind(self, n)
+        nth_from_back(self, n)
     }
 
-    /// The last item for which the predicate is true; none where no such item comes before the end from behind.
+    /// The last item for which the predicate is true; none where no such item comes before the end from the back.
     ///
-    /// It draws from behind up to the first item on which the predicate answers true or fails, the first failure or the end, and calls the predicate on each item drawn, the last one first. It fails with the failure that comes first, of this iterator or of the predicate. Nothing is drawn after the answer that decides, and what is left may be drawn from again, from either end.
+    /// It draws from the back up to the first item on which the predicate answers true or fails, the first failure or the end, and calls the predicate on each item drawn, the last one first. It fails with the failure that comes first, of this iterator or of the predicate. Nothing is drawn after the answer that decides, and what is left may be drawn from again, from either end.
     ///
-    /// Asks that it may be drawn from, from either end, and is finite, and that the predicate may be called on a reference to each item that may come from behind until it decides.
+    /// Asks that it may be drawn from, from either end, and is finite, and that the predicate may be called on a reference to each item that may come from the back until it decides.
     ///
     /// ```
     /// assert_eq!(rt; it.rfind(at_below_three), Ok(Some(2)));
@@ -106,20 +106,20 @@ pub trait DoubleEndedFallibleItertools: DoubleEndedFallibleIterator {
             → ListsBothEnds Self.contract.steps Self.ends.steps self.old l
             → (result ≡ found h (reverse l))
             × ListsBothEnds Self.contract.steps Self.ends.steps self.new
-            (reverse (behind_true h (reverse l))) }
+            (reverse (rest_true h (reverse l))) }
         ensures stays { Stays (from_back Self.contract Self.ends) self.old self.new }
     {
         let mut f = f;
         found(self.drive_back(&mut f, &FindTurn { test: &FindTest }))
     }
 
-    /// How many items come before the last one on which the predicate answers true; none where no such item comes before the end from behind.
+    /// How many items come before the last one on which the predicate answers true; none where no such item comes before the end from the back.
     ///
-    /// It draws from behind up to the first item on which the predicate answers true or fails, the first failure or the end. Where the predicate answered true, it then draws from the front, up to the end or the first failure, and counts: a fallible iterator doesn't say how many items stand before that one. So nothing is left where it finds one, unlike std's.
+    /// It draws from the back up to the first item on which the predicate answers true or fails, the first failure or the end. Where the predicate answered true, it then draws from the front, up to the end or the first failure, and counts: a fallible iterator doesn't say how many items stand before that one. So nothing is left where it finds one, unlike std's.
     ///
-    /// It fails with the failure that comes first: from behind one of this iterator or of the predicate, and then one of this iterator from the front. What is left may be drawn from again, from either end.
+    /// It fails with the failure that comes first: from the back one of this iterator or of the predicate, and then one of this iterator from the front. What is left may be drawn from again, from either end.
     ///
-    /// Asks that it may be drawn from, from either end, that at most `usize::MAX` items are left, and that the predicate may be called on each item that may come from behind until it decides.
+    /// Asks that it may be drawn from, from either end, that at most `usize::MAX` items are left, and that the predicate may be called on each item that may come from the back until it decides.
     ///
     /// ```
     /// let place = it.rposition(below_three);
@@ -132,13 +132,13 @@ pub trait DoubleEndedFallibleItertools: DoubleEndedFallibleIterator {
         requires fits { AtMost Self.contract self.old (2 ^ 64 - 1) }
         requires callable { CallableInSearch (call_on F.FnMut) any_pick Self.ends.steps
             (takes_on F.FnMut) self.old f }
-        ensures placed { PlacedFromBehind Self.contract.steps Self.ends.steps (call_on F.FnMut)
+        ensures placed { PlacedFromBack Self.contract.steps Self.ends.steps (call_on F.FnMut)
             self.old f result self.new }
         ensures rest { (h : Self.Item → Result Bool Self.Error)
             (l : List (Result Self.Item Self.Error)) → Acts (call_on F.FnMut) f h
             → ListsBothEnds Self.contract.steps Self.ends.steps self.old l
             → (result ≡ last_position_in h l)
-            × ListsBothEnds Self.contract.steps Self.ends.steps self.new (left_of_position h l) }
+            × ListsBothEnds Self.contract.steps Self.ends.steps self.new (rest_position h l) }
         ensures kept { KeptByDraws (from_front Self.contract Self.ends) self.old self.new }
     {
         let mut f = f;

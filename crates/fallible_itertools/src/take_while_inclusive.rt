@@ -4,7 +4,7 @@ ghost use Rattle.fallible_iterator.specs.Closures.{call_at, takes_at};
 ghost use Rattle.fallible_iterator.specs.Contract.{seen_as};
 ghost use Rattle.fallible_iterator.specs.Cutting.TakeWhile.{refusing_call};
 ghost use Rattle.fallible_iterator.specs.Folding.{FoldingTakes, FoldingTurn};
-ghost use Rattle.fallible_iterator.specs.Folds.{CallableDriving, Driven, TurnBehind, beside, beside_names};
+ghost use Rattle.fallible_iterator.specs.Folds.{CallableDriving, Driven, TurnThrough, beside, beside_names};
 ghost use Rattle.fallible_iterator.specs.Laws.Contract.{lawful_seen};
 ghost use Rattle.fallible_itertools.specs.TakeWhileInclusive.{StoppingTurn, inclusive_contract, inclusive_outcome, inclusive_parts};
 ghost use Rattle.fallible_itertools.specs.Laws.TakeWhileInclusive.{lawful_inclusive};
@@ -106,7 +106,7 @@ impl<'a, 'b, X: Drop, E, C, R, P: FnMut(&X) -> Result<bool, E>, K: Turn<C, X, R>
     ghost can_turn = { λ k b x. FoldingTakes (refusing_call (call_at P.FnMut)) inclusive_outcome
         (λ p x. takes_at P.FnMut p.1 x) (K.can_turn k.turn.now) (beside b) x };
 
-    ghost turns = { λ k b x r d. TurnBehind beside beside_names
+    ghost turns = { λ k b x r d. TurnThrough beside beside_names
         (StoppingTurn (FoldingTurn (refusing_call (call_at P.FnMut)) inclusive_outcome
         (K.turns k.turn.now))) b x r d };
 

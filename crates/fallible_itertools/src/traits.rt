@@ -9,12 +9,12 @@ ghost use Rattle.fallible_iterator.specs.Comparing.{OneIsFinite, read_as, reads_
 ghost use Rattle.fallible_iterator.specs.Contract.{seen_as, AtMost, Stays};
 ghost use Rattle.fallible_iterator.specs.Fault.TheVariants.{Source};
 ghost use Rattle.fallible_iterator.specs.Folds.{call_with, takes_with, HoldsAtEachTurn, CallableInFold, goes_on};
-ghost use Rattle.fallible_iterator.specs.Lists.{Acts, ActsWith, Lists, ListsForGood, Converts, pointed_to, CollectedAs, MadeOf, behind_nth, collected};
+ghost use Rattle.fallible_iterator.specs.Lists.{Acts, ActsWith, Lists, ListsForGood, Converts, pointed_to, CollectedAs, MadeOf, rest_nth, collected};
 ghost use Rattle.fallible_iterator.specs.Picking.{call_at_two, takes_at_two};
-ghost use Rattle.fallible_iterator.specs.Searching.{CallableInSearch, Passed, Searched, all_pick, each_pick, find_pick, position_pick};
+ghost use Rattle.fallible_iterator.specs.Searching.{CallableInSearch, WentOn, Searched, all_pick, each_pick, find_pick, position_pick};
 ghost use Rattle.fallible_itertools.specs.Coalesce.{coalesce_asks, coalesce_contract, coalesce_parts, coalesce_takes, coalesced};
 ghost use Rattle.fallible_itertools.specs.ComparedBy.{CallableInRounds, ComparedByWith, IsCmpTurn, IsEqTurn, equal_by, ordered_by};
-ghost use Rattle.fallible_itertools.specs.Converting.{Converted, try_each_done, try_found, try_position_in, behind_try_each, behind_try_true};
+ghost use Rattle.fallible_itertools.specs.Converting.{Converted, try_each_done, try_found, try_position_in, rest_try_each, rest_try_true};
 ghost use Rattle.fallible_itertools.specs.Copied.{copied_contract, copied_parts};
 ghost use Rattle.fallible_itertools.specs.Counted.{IsCountsOf};
 ghost use Rattle.fallible_itertools.specs.Dedup.{dedup_contract, dedup_parts, deduped};
@@ -26,7 +26,7 @@ ghost use Rattle.fallible_itertools.specs.MergeBy.{call_on_two, merge_by_closure
 ghost use Rattle.fallible_itertools.specs.MinMax.{MinMaxed, minmaxed};
 ghost use Rattle.fallible_itertools.specs.Sides.{OverBothForGood};
 ghost use Rattle.fallible_itertools.specs.Sorting.{OrderCall, sorted_by_key};
-ghost use Rattle.fallible_itertools.specs.Stopping.{WhileCall, FoldedWhile, folded_while, behind_while};
+ghost use Rattle.fallible_itertools.specs.Stopping.{WhileCall, FoldedWhile, folded_while, rest_while};
 ghost use Rattle.fallible_itertools.specs.TakeWhileInclusive.{inclusive_contract, inclusive_parts, inclusive_predicate, inclusive_refused, inclusive_source, taken_while_inclusive};
 ghost use Rattle.fallible_itertools.specs.Totals.{Totalled, totalled};
 ghost use Rattle.fallible_itertools.specs.TupleWindows.{tuple_windows_contract, tuple_windows_parts, windowed};
@@ -216,7 +216,7 @@ pub trait FallibleItertools: FallibleIterator {
         requires can_next { Self.contract.can_next self.old }
         requires finite { Self.contract.is_finite self.old }
         requires callable { HoldsAtEachTurn Self.contract.steps
-            (Passed (call_on F.FnMut) each_pick) (takes_on F.FnMut) self.old f }
+            (WentOn (call_on F.FnMut) each_pick) (takes_on F.FnMut) self.old f }
         ensures searched { (g : F) × Searched (call_on F.FnMut) each_pick
             (Converted E.from_gives Self.contract.steps) tt self.old f result self.new g }
         ensures value { (convert : Self.Error → E) → Converts E.from_gives convert
@@ -224,7 +224,7 @@ pub trait FallibleItertools: FallibleIterator {
             (λ h l. result ≡ try_each_done convert h l) }
         ensures rest { OverListWith (Acts (call_on F.FnMut) f) Self.contract.steps self.old
             (λ h l. (e : E) → result ≡ Err e
-            → Lists Self.contract.steps self.new (behind_try_each h l)) }
+            → Lists Self.contract.steps self.new (rest_try_each h l)) }
         ensures stays { Stays Self.contract self.old self.new }
     {
         let mut f = f;
@@ -252,7 +252,7 @@ pub trait FallibleItertools: FallibleIterator {
         requires can_next { Self.contract.can_next self.old }
         requires finite { Self.contract.is_finite self.old }
         requires callable { HoldsAtEachTurn Self.contract.steps
-            (Passed (call_at F.FnMut) find_pick) (takes_at F.FnMut) self.old f }
+            (WentOn (call_at F.FnMut) find_pick) (takes_at F.FnMut) self.old f }
         ensures searched { (g : F) × Searched (call_at F.FnMut) find_pick
             (Converted E.from_gives Self.contract.steps) None self.old f result self.new g }
         ensures value { (convert : Self.Error → E) → Converts E.from_gives convert
@@ -260,7 +260,7 @@ pub trait FallibleItertools: FallibleIterator {
             (λ h l. result ≡ try_found convert h l) }
         ensures rest { OverListWith (Acts (call_at F.FnMut) f) Self.contract.steps self.old
             (λ h l. ¬ (result ≡ Ok None)
-            → Lists Self.contract.steps self.new (behind_try_true h l)) }
+            → Lists Self.contract.steps self.new (rest_try_true h l)) }
         ensures stays { Stays Self.contract self.old self.new }
     {
         let mut f = f;
@@ -287,7 +287,7 @@ pub trait FallibleItertools: FallibleIterator {
         requires can_next { Self.contract.can_next self.old }
         requires fits { AtMost Self.contract self.old (2 ^ 64 - 1) }
         requires callable { HoldsAtEachTurn Self.contract.steps
-            (Passed (call_on F.FnMut) position_pick) (takes_on F.FnMut) self.old f }
+            (WentOn (call_on F.FnMut) position_pick) (takes_on F.FnMut) self.old f }
         ensures searched { (g : F) × Searched (call_on F.FnMut) position_pick
             (Converted E.from_gives Self.contract.steps) None self.old f result self.new g }
         ensures value { (convert : Self.Error → E) → Converts E.from_gives convert
@@ -295,7 +295,7 @@ pub trait FallibleItertools: FallibleIterator {
             (λ h l. result ≡ try_position_in convert h l) }
         ensures rest { OverListWith (Acts (call_on F.FnMut) f) Self.contract.steps self.old
             (λ h l. ¬ (result ≡ Ok None)
-            → Lists Self.contract.steps self.new (behind_try_true h l)) }
+            → Lists Self.contract.steps self.new (rest_try_true h l)) }
         ensures stays { Stays Self.contract self.old self.new }
     {
         answer_or_none(converted(self.drive(&mut (0, f), &PositionTurn)))
@@ -377,10 +377,10 @@ pub trait FallibleItertools: FallibleIterator {
             (λ h l. result ≡ folded_while h init l) }
         ensures rest_done { OverListWith (ActsWith (call_with F.FnMut) f) Self.contract.steps
             self.old (λ h l. (b : B) → result ≡ Ok (Done b)
-            → Lists Self.contract.steps self.new (behind_while h init l)) }
+            → Lists Self.contract.steps self.new (rest_while h init l)) }
         ensures rest_failed { OverListWith (ActsWith (call_with F.FnMut) f) Self.contract.steps
             self.old (λ h l. (e : Self.Error) → result ≡ Err e
-            → Lists Self.contract.steps self.new (behind_while h init l)) }
+            → Lists Self.contract.steps self.new (rest_while h init l)) }
         ensures stays { Stays Self.contract self.old self.new }
     {
         let mut state = (Some(init), f);
@@ -593,12 +593,12 @@ pub trait FallibleItertools: FallibleIterator {
         requires { Self.contract.can_next self.old }
         ensures drawn { AtMostOne Self.contract.steps self.old result self.new }
         ensures value { OverList Self.contract.steps self.old (λ l. result ≡ at_most_one_of l) }
-        ensures behind_two { OverList Self.contract.steps self.old
+        ensures rest_two { OverList Self.contract.steps self.old
             (λ l. (p : Self.Item × Self.Item) → result ≡ Ok (Err p)
-            → Lists Self.contract.steps self.new (behind_nth 1 l)) }
-        ensures behind_failure { OverList Self.contract.steps self.old
+            → Lists Self.contract.steps self.new (rest_nth 1 l)) }
+        ensures rest_failure { OverList Self.contract.steps self.old
             (λ l. (e : Self.Error) → result ≡ Err e
-            → Lists Self.contract.steps self.new (behind_nth 1 l)) }
+            → Lists Self.contract.steps self.new (rest_nth 1 l)) }
         ensures stays { Stays Self.contract self.old self.new }
     {
         let first = match self.draw() {
@@ -628,12 +628,12 @@ pub trait FallibleItertools: FallibleIterator {
             × AtMostOne Self.contract.steps self.old r self.new × (result ≡ wanting_one r) }
         ensures value { OverList Self.contract.steps self.old
             (λ l. result ≡ wanting_one (at_most_one_of l)) }
-        ensures behind_two { OverList Self.contract.steps self.old
+        ensures rest_two { OverList Self.contract.steps self.old
             (λ l. (x y : Self.Item) → result ≡ Ok (Err (More x y))
-            → Lists Self.contract.steps self.new (behind_nth 1 l)) }
-        ensures behind_failure { OverList Self.contract.steps self.old
+            → Lists Self.contract.steps self.new (rest_nth 1 l)) }
+        ensures rest_failure { OverList Self.contract.steps self.old
             (λ l. (e : Self.Error) → result ≡ Err e
-            → Lists Self.contract.steps self.new (behind_nth 1 l)) }
+            → Lists Self.contract.steps self.new (rest_nth 1 l)) }
         ensures stays { Stays Self.contract self.old self.new }
     {
         match self.at_most_one() {

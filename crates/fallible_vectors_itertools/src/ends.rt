@@ -1,4 +1,4 @@
-// Calls from behind of what has two ends.
+// Calls from the back of what has two ends.
 use fallible_iterator::{DoubleEndedFallibleIterator, FallibleIterator};
 use fallible_itertools::DoubleEndedFallibleItertools;
 use fallible_testing::numbers::numbers;
@@ -14,7 +14,7 @@ fn at_below_three(x: &u32) -> Result<bool, u32> {
 }
 
 #[test]
-fn from_behind(rt: HostRuntime) -> Result<(), Fail> {
+fn from_the_back(rt: HostRuntime) -> Result<(), Fail> {
     let answers = [Ok(1), Ok(2), Err(9), Ok(3), Ok(4), Ok(5)];
     let mut it = numbers(&answers);
     assert_eq!(rt; it.nth_back(1), Ok(Some(4)));
@@ -37,7 +37,7 @@ fn placed(answers: &[Result<u32, u32>]) -> (Result<Option<usize>, u32>, Result<O
 }
 
 #[test]
-fn places_from_behind(rt: HostRuntime) -> Result<(), Fail> {
+fn places_from_back(rt: HostRuntime) -> Result<(), Fail> {
     assert_eq!(rt;
         placed(&[Ok(1), Ok(5), Ok(2), Ok(3), Ok(5)]),
         (Ok(Some(2)), Ok(None))

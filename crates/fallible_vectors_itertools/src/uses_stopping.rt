@@ -4,7 +4,7 @@ ghost use Rattle.std.specs.Ordering.{nat_cmp};
 ghost use Rattle.fallible_iterator.specs.Comparing.{by_cmp};
 ghost use Rattle.fallible_iterator.specs.Lists.{Lists, filtered, nth_of, results};
 ghost use Rattle.fallible_itertools.specs.Sorting.{sorted_by_key};
-ghost use Rattle.fallible_itertools.specs.Stopping.{behind_while, folded_while};
+ghost use Rattle.fallible_itertools.specs.Stopping.{rest_while, folded_while};
 ghost use Rattle.fallible_itertools.specs.declared.stopping.FoldWhile.TheVariants.{Continue, Done};
 
 use fallible_iterator::{FallibleIterator, convert};
@@ -35,7 +35,7 @@ where
     ensures { (l : List (Result ℕ I.Error)) (sum : ℕ) → Lists I.contract.steps it l
         → folded_while (λ s x. if eqb x 0 then Ok (Done s) else Ok (Continue ((s + x) % 2 ^ 32))) 0 l
         ≡ Ok (Done sum)
-        → result ≡ nth_of 0 (behind_while
+        → result ≡ nth_of 0 (rest_while
         (λ s x. if eqb x 0 then Ok (Done s) else Ok (Continue ((s + x) % 2 ^ 32))) 0 l) }
 {
     let sum = it.fold_while(

@@ -2,7 +2,7 @@
 ghost use Rattle.std.specs.Prelude.{◌≡◌, ◌-◌, ◌^◌, ℕ, eqb, List, Result, Some, None, Ok, Err, if◌then◌else◌, nat_lt};
 ghost use Rattle.fallible_iterator.specs.Contract.{AtMost};
 ghost use Rattle.fallible_iterator.specs.Lists.{Lists, filtered, nth_of, results};
-ghost use Rattle.fallible_itertools.specs.Converting.{behind_try_true, try_each_done, try_found, try_position_in};
+ghost use Rattle.fallible_itertools.specs.Converting.{rest_try_true, try_each_done, try_found, try_position_in};
 ghost use Rattle.fallible_vectors_itertools.specs.declared.uses_trying.Trouble.{Trouble};
 
 use fallible_iterator::{FallibleIterator, convert};
@@ -84,7 +84,7 @@ where
     ensures some { (l : List (Result ℕ ℕ)) (x y : ℕ) → Lists I.contract.steps it l
         → try_found (λ code. Trouble.Failed code)
         (λ x. if nat_lt 100 x then Err (Trouble.TooLarge x) else Ok (eqb x 7)) l ≡ Ok (Some x)
-        → nth_of 0 (behind_try_true
+        → nth_of 0 (rest_try_true
         (λ x. if nat_lt 100 x then Err (Trouble.TooLarge x) else Ok (eqb x 7)) l) ≡ Ok (Some y)
         → result ≡ Ok (Some y) }
     ensures none { (l : List (Result ℕ ℕ)) → Lists I.contract.steps it l

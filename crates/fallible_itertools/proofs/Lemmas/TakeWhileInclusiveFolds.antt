@@ -7,10 +7,10 @@ use Rattle.std.proofs.Common.{refl, sym, ap, subst, ◌∙◌}
 use Rattle.fallible_contract.specs.Traces.{Answered, Run, Yields, item}
 use Rattle.fallible_contract.specs.Closures.{IsCallable, call_at, takes_at}
 use Rattle.fallible_contract.specs.Contract.{Contract, Lawful, seen_as}
-use Rattle.fallible_contract.specs.Folds.{Drained, HoldsAtEachTurn, goes_on, DriveExit, Driven, TurnBehind, beside, beside_names, within}
+use Rattle.fallible_contract.specs.Folds.{Drained, HoldsAtEachTurn, goes_on, DriveExit, Driven, TurnThrough, beside, beside_names, within}
 use Rattle.fallible_contract.specs.Folding.{TurnedBy, FoldingTurn, FoldingTakes}
 use Rattle.fallible_contract.specs.Passing.{asked, failure_at, end_at, PassAnswer}
-use Rattle.fallible_contract.proofs.Lemmas.Folds.{holds_here, holds_after, driven_after, driven_end, driven_failure, driven_stop, driven_behind, names_kept, drained_last, turns_map}
+use Rattle.fallible_contract.proofs.Lemmas.Folds.{holds_here, holds_after, driven_after, driven_end, driven_failure, driven_stop, driven_through, names_kept, drained_last, turns_map}
 use Rattle.fallible_contract.proofs.Lemmas.Folding.{takes_through}
 use Rattle.fallible_core.specs.Cutting.TakeWhile.{refusing_call}
 use Rattle.fallible_itertools.specs.TakeWhileInclusive.{StoppingTurn, stopped_where, inclusive_outcome, inclusive_contract, inclusive_parts}
@@ -23,12 +23,12 @@ use Rattle.fallible_itertools.specs.declared.take_while_inclusive.TakeWhileInclu
 -- ---- calls of the predicate, beside whether one refused
 
 module _ {F X E : Type 0} (call : F → X → Result Bool E → F → Type 0) where
-  calls_beside : (P : X → Type 0) (made : List (X × Result Bool E)) (p q : Bool × F) → FoldsTo (λ p c q. P c.0 × refusing_call call p c.0 c.1 q) p made q → FoldsTo (λ f c g. P c.0 × call f c.0 c.1 g) p.1 made q.1
-  calls_beside P [] p q e = ap (λ z. z.1) e
-  calls_beside P (c ∷ made) p q w = (w.0.1, (w.1.0, w.1.1.0), calls_beside P made w.0 q w.2)
+  calls_without_flag : (P : X → Type 0) (made : List (X × Result Bool E)) (p q : Bool × F) → FoldsTo (λ p c q. P c.0 × refusing_call call p c.0 c.1 q) p made q → FoldsTo (λ f c g. P c.0 × call f c.0 c.1 g) p.1 made q.1
+  calls_without_flag P [] p q e = ap (λ z. z.1) e
+  calls_without_flag P (c ∷ made) p q w = (w.0.1, (w.1.0, w.1.1.0), calls_without_flag P made w.0 q w.2)
 
   callable_beside : {pre : F → X → Type 0} {P : X → Type 0} (p : Bool × F) → IsCallable call pre P p.1 → IsCallable (refusing_call call) (λ q x. pre q.1 x) P p
-  callable_beside {P = P} p callable = record { at = λ q x reached given. callable.at q.1 x (record { made = reached.made; by = calls_beside P reached.made p q reached.by }) given }
+  callable_beside {P = P} p callable = record { at = λ q x reached given. callable.at q.1 x (record { made = reached.made; by = calls_without_flag P reached.made p q reached.by }) given }
 
 -- ---- draws and turns
 
@@ -137,13 +137,13 @@ module _ {S F X E : Type 0} (m : Contract S X E) (a : Mut F (Bor X × Unit {0}) 
     pub inclusive_drives : {s t : S} {p q : C × (Bool × F)} {r : Answered (Answered R E) E} → p.1.0 ≡ false → Driven m.steps Stopping s p r t q → Drives s p (within r) t q
     inclusive_drives {s = s} {t = t} {p = p} {q = q} {r = r} unrefused w = items_through w.items w.last s t p w.at.carried q r unrefused w.ran w.at.went w.at.exit
 
-    -- the same, where both states stand behind references
-    pub inclusive_drives_beside : {s t : S} {b d : Beside C (Bool × F)} {r : Answered (Answered R E) E} (f : Bool × F) (c : C) → b.p.now.0 ≡ false → Driven m.steps (TurnBehind beside beside_names Stopping) s b r t d → (d.p.ghost_name ≡ b.p.ghost_name → f ≡ d.p.now) → (d.c.ghost_name ≡ b.c.ghost_name → c ≡ d.c.now)
+    -- the same, where both states are lent by reference
+    pub inclusive_drives_beside : {s t : S} {b d : Beside C (Bool × F)} {r : Answered (Answered R E) E} (f : Bool × F) (c : C) → b.p.now.0 ≡ false → Driven m.steps (TurnThrough beside beside_names Stopping) s b r t d → (d.p.ghost_name ≡ b.p.ghost_name → f ≡ d.p.now) → (d.c.ghost_name ≡ b.c.ghost_name → c ≡ d.c.now)
         → Driven Steps turns (parts s b.p.now) b.c.now (within r) (parts t f) c
     inclusive_drives_beside {s = s} {t = t} {b = b} {d = d} {r = r} f c unrefused w same_p same_c = let names = names_kept beside beside_names Stopping w in
         subst (λ (z : C). Driven Steps turns (parts s b.p.now) b.c.now (within r) (parts t f) z) (sym (same_c (ap (λ n. n.0) names)))
         (subst (λ (z : Bool × F). Driven Steps turns (parts s b.p.now) b.c.now (within r) (parts t z) d.c.now) (sym (same_p (ap (λ n. n.1) names)))
-        (inclusive_drives unrefused (driven_behind beside beside_names Stopping w)))
+        (inclusive_drives unrefused (driven_through beside beside_names Stopping w)))
 
     -- ---- where the source's turn may be taken
 

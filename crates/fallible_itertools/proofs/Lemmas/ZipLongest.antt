@@ -85,10 +85,10 @@ module _ {S U A B E : Type 0} (left : Contract S A E) (right : Contract U B E) (
 
 -- ---- whole traces
 
-none_behind : {A B E : Type 0} (h : Option B) (x : SidesPlace A B E (Unit {0})) → h ≡ None → right_behind (longest_rule {A = A} {B = B} {E = E}) h x ≡ None
-none_behind h (left_failed e) is = is
-none_behind h (right_failed x e) is = refl
-none_behind h (both_gave x y v) is = refl
+none_back : {A B E : Type 0} (h : Option B) (x : SidesPlace A B E (Unit {0})) → h ≡ None → right_behind (longest_rule {A = A} {B = B} {E = E}) h x ≡ None
+none_back h (left_failed e) is = is
+none_back h (right_failed x e) is = refl
+none_back h (both_gave x y v) is = refl
 
 module _ {S U A B E : Type 0} (steps : S → Answered A E → S → Type 0) (others : U → Answered B E → U → Type 0) where
   abbrev Sides : Type 0
@@ -105,7 +105,7 @@ module _ {S U A B E : Type 0} (steps : S → Answered A E → S → Type 0) (oth
 
   -- nothing is held of the right
   right_holds_none : (p q : Sides) (r : Answered (EitherOrBoth A B) E) → p.1.1 ≡ None → Zipped steps others p r q → q.1.1 ≡ None
-  right_holds_none p q r e w = w.4 ∙ none_behind p.1.1 w.0 e
+  right_holds_none p q r e w = w.4 ∙ none_back p.1.1 w.0 e
 
   to_sides : (trace : List (Answered (EitherOrBoth A B) E)) (s t : ZipLongest S U A E) → Run Seen s trace t → Run (Zipped steps others) (zip_longest_parts s) trace (zip_longest_parts t)
   to_sides [] s t e = ap zip_longest_parts e

@@ -1,4 +1,4 @@
--- The law says what `convert` lists from behind.
+-- The law says what `convert` lists from the back.
 use Rattle.std.proofs.Common.{rules}
 use Rattle.fallible_vectors_itertools.proofs.extremes_called.nth_last.Goals as goal
 

@@ -1,11 +1,11 @@
--- The fold from behind that stops at the item is the search.
+-- The fold from the back that stops at the item is the search.
 use Rattle.std.proofs.Common.{rules}
 use Rattle.fallible_contract.specs.Closures.{call_at}
 use Rattle.fallible_contract.proofs.Lemmas.Folds.{holds_map}
 use Rattle.fallible_contract.proofs.Lemmas.Searching.{found_search}
 use Rattle.fallible_contract.proofs.Lemmas.Lists.Searched.{find_is}
 use Rattle.fallible_contract.specs.Laws.Contract.{stays_run}
-use Rattle.fallible_itertools.proofs.FromBehind.{find_behind}
+use Rattle.fallible_itertools.proofs.FromBack.{find_at_back}
 use Rattle.fallible_itertools.proofs.double_ended.DoubleEndedFallibleItertools.rfind.Goals as goal
 
 pub drive_back-requires-clause-callable : goal.drive_back-requires-clause-callable
@@ -18,7 +18,7 @@ pub returns-clause-value : goal.returns-clause-value
 returns-clause-value g c h l acts i = find_is l i {call = call_at g.F.FnMut} h acts (returns-clause-searched g c).1
 
 pub returns-clause-rest : goal.returns-clause-rest
-returns-clause-rest g c h l acts i = find_behind l i {call = call_at g.F.FnMut} h acts (returns-clause-searched g c).1
+returns-clause-rest g c h l acts i = find_at_back l i {call = call_at g.F.FnMut} h acts (returns-clause-searched g c).1
 
 pub returns-clause-stays : goal.returns-clause-stays
 returns-clause-stays g c = stays_run g.met.Self.DoubleEndedFallibleIterator.lawful_ends.back _ _ _ c.requires.can_next c.drive_back.ensures.ran

@@ -1,20 +1,20 @@
--- The fold from behind whose state is the predicate, and then a count of what is left.
+-- The fold from the back whose state is the predicate, and then a count of what is left.
 use Rattle.std.proofs.Common.{false}
 use Rattle.fallible_contract.specs.Closures.{call_on}
 use Rattle.fallible_contract.specs.Searching.{any_pick}
 use Rattle.fallible_contract.proofs.Lemmas.Contract.{number_of_at_most}
 use Rattle.fallible_contract.proofs.Lemmas.Searching.{searched}
-use Rattle.fallible_itertools.proofs.FromBehind.{placed_is, kept_run_behind, kept_counted, fits_still}
+use Rattle.fallible_itertools.proofs.FromBack.{placed_is, kept_run_at_back, kept_counted, fits_still}
 use Rattle.fallible_itertools.proofs.double_ended.DoubleEndedFallibleItertools.rposition.Goals as goal
 
 pub drive_back-requires-clause-finite : goal.drive_back-requires-clause-finite
 drive_back-requires-clause-finite g c = let b = number_of_at_most g.Self.FallibleIterator.contract _ _ c.requires.fits in (g.met.Self.FallibleIterator.lawful.bounded _).1 (b.0, b.1)
 
 pub counted_where-requires-clause-can_next : goal.counted_where-requires-clause-can_next
-counted_where-requires-clause-can_next g c = g.met.Self.DoubleEndedFallibleIterator.lawful_ends.front_can _ (kept_run_behind g.met.Self.DoubleEndedFallibleIterator.lawful_ends _ c.requires.can_next c.drive_back.ensures.ran).can_next
+counted_where-requires-clause-can_next g c = g.met.Self.DoubleEndedFallibleIterator.lawful_ends.front_can _ (kept_run_at_back g.met.Self.DoubleEndedFallibleIterator.lawful_ends _ c.requires.can_next c.drive_back.ensures.ran).can_next
 
 pub counted_where-requires-clause-fits : goal.counted_where-requires-clause-fits
-counted_where-requires-clause-fits g c = fits_still g.met.Self.DoubleEndedFallibleIterator.lawful_ends _ (kept_run_behind g.met.Self.DoubleEndedFallibleIterator.lawful_ends _ c.requires.can_next c.drive_back.ensures.ran) c.requires.fits
+counted_where-requires-clause-fits g c = fits_still g.met.Self.DoubleEndedFallibleIterator.lawful_ends _ (kept_run_at_back g.met.Self.DoubleEndedFallibleIterator.lawful_ends _ c.requires.can_next c.drive_back.ensures.ran) c.requires.fits
 
 pub returns-clause-placed : goal.returns-clause-placed
 returns-clause-placed g c = record { found = _; closure = _; before = _; searched = searched {call = call_on g.F.FnMut} {pick = any_pick} false (λ f x r g w. w) c.drive_back.ensures c.answer_or-found.ensures; counts = c.counted_where.ensures }
@@ -23,4 +23,4 @@ pub returns-clause-rest : goal.returns-clause-rest
 returns-clause-rest g c h l acts i = placed_is l h (call_on g.F.FnMut) acts i (returns-clause-placed g c)
 
 pub returns-clause-kept : goal.returns-clause-kept
-returns-clause-kept g c = kept_counted g.met.Self.DoubleEndedFallibleIterator.lawful_ends _ _ (kept_run_behind g.met.Self.DoubleEndedFallibleIterator.lawful_ends _ c.requires.can_next c.drive_back.ensures.ran) c.counted_where.ensures
+returns-clause-kept g c = kept_counted g.met.Self.DoubleEndedFallibleIterator.lawful_ends _ _ (kept_run_at_back g.met.Self.DoubleEndedFallibleIterator.lawful_ends _ c.requires.can_next c.drive_back.ensures.ran) c.counted_where.ensures

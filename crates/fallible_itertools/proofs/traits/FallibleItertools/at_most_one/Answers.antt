@@ -15,8 +15,8 @@ returns-in-Err-clause-drawn g c = one_draw (Err c.in-Err.e) c.in-Err.ensures.dra
 pub returns-in-Err-clause-value : goal.returns-in-Err-clause-value
 returns-in-Err-clause-value g c l i = at_most_one_is l (returns-in-Err-clause-drawn g c) i
 
-pub returns-in-Err-clause-behind_failure : goal.returns-in-Err-clause-behind_failure
-returns-in-Err-clause-behind_failure g c l i e is = left_of_few l (returns-in-Err-clause-drawn g c) i (λ o q. cc)
+pub returns-in-Err-clause-rest_failure : goal.returns-in-Err-clause-rest_failure
+returns-in-Err-clause-rest_failure g c l i e is = left_of_few l (returns-in-Err-clause-drawn g c) i (λ o q. cc)
 
 pub returns-in-Ok-Some-draw-clause-drawn : goal.returns-in-Ok-Some-draw-clause-drawn
 returns-in-Ok-Some-draw-clause-drawn g c = two_draws _ c.in-Ok-Some.first (Ok (Some c.in-Ok-Some-draw.second)) (rw c.in-Ok-Some.field-0-is at c.in-Ok-Some.ensures.drawn) (rw c.in-Ok-Some-draw.field-0-is at c.in-Ok-Some-draw.ensures.drawn) refl
@@ -24,8 +24,8 @@ returns-in-Ok-Some-draw-clause-drawn g c = two_draws _ c.in-Ok-Some.first (Ok (S
 pub returns-in-Ok-Some-draw-clause-value : goal.returns-in-Ok-Some-draw-clause-value
 returns-in-Ok-Some-draw-clause-value g c l i = at_most_one_is l (returns-in-Ok-Some-draw-clause-drawn g c) i
 
-pub returns-in-Ok-Some-draw-clause-behind_two : goal.returns-in-Ok-Some-draw-clause-behind_two
-returns-in-Ok-Some-draw-clause-behind_two g c l i p is = left_of_few l (returns-in-Ok-Some-draw-clause-drawn g c) i (λ o q. cc)
+pub returns-in-Ok-Some-draw-clause-rest_two : goal.returns-in-Ok-Some-draw-clause-rest_two
+returns-in-Ok-Some-draw-clause-rest_two g c l i p is = left_of_few l (returns-in-Ok-Some-draw-clause-drawn g c) i (λ o q. cc)
 
 pub returns-in-Ok-None-draw-clause-drawn : goal.returns-in-Ok-None-draw-clause-drawn
 returns-in-Ok-None-draw-clause-drawn g c = two_draws _ c.in-Ok-Some.first (Ok None) (rw c.in-Ok-Some.field-0-is at c.in-Ok-Some.ensures.drawn) (rw c.in-Ok-None-draw.field-0-is at c.in-Ok-None-draw.ensures.drawn) refl
@@ -39,5 +39,5 @@ returns-in-Err-draw-clause-drawn g c = two_draws _ c.in-Ok-Some.first (Err c.in-
 pub returns-in-Err-draw-clause-value : goal.returns-in-Err-draw-clause-value
 returns-in-Err-draw-clause-value g c l i = at_most_one_is l (returns-in-Err-draw-clause-drawn g c) i
 
-pub returns-in-Err-draw-clause-behind_failure : goal.returns-in-Err-draw-clause-behind_failure
-returns-in-Err-draw-clause-behind_failure g c l i e is = left_of_few l (returns-in-Err-draw-clause-drawn g c) i (λ o q. cc)
+pub returns-in-Err-draw-clause-rest_failure : goal.returns-in-Err-draw-clause-rest_failure
+returns-in-Err-draw-clause-rest_failure g c l i e is = left_of_few l (returns-in-Err-draw-clause-drawn g c) i (λ o q. cc)

@@ -3,7 +3,7 @@ use Rattle.fallible_iterator.specs.Folds.{call_with}
 use Rattle.fallible_contract.proofs.Lemmas.Folds.{slot_callable}
 use Rattle.fallible_contract.specs.Laws.Contract.{stays_run}
 use Rattle.fallible_itertools.specs.Stopping.{WhileCall}
-use Rattle.fallible_itertools.proofs.FoldingWhile.{value_left, folded_while_by, folded_while_is, behind_while_done, behind_while_failed}
+use Rattle.fallible_itertools.proofs.FoldingWhile.{value_left, folded_while_by, folded_while_is, rest_while_done, rest_while_failed}
 use Rattle.fallible_itertools.proofs.traits.FallibleItertools.fold_while.Goals as goal
 
 pub drive-answer-requires-clause-callable : goal.drive-answer-requires-clause-callable
@@ -19,10 +19,10 @@ pub returns-clause-value : goal.returns-clause-value
 returns-clause-value g c h l acts i = folded_while_is h (call_with g.F.FnMut) _ acts l i (returns-clause-folded g c)
 
 pub returns-clause-rest_done : goal.returns-clause-rest_done
-returns-clause-rest_done g c h l acts i b is = behind_while_done h (call_with g.F.FnMut) _ acts l i b (returns-clause-folded g c) is
+returns-clause-rest_done g c h l acts i b is = rest_while_done h (call_with g.F.FnMut) _ acts l i b (returns-clause-folded g c) is
 
 pub returns-clause-rest_failed : goal.returns-clause-rest_failed
-returns-clause-rest_failed g c h l acts i e is = behind_while_failed h (call_with g.F.FnMut) _ acts l i e (returns-clause-folded g c) is
+returns-clause-rest_failed g c h l acts i e is = rest_while_failed h (call_with g.F.FnMut) _ acts l i e (returns-clause-folded g c) is
 
 pub returns-clause-stays : goal.returns-clause-stays
 returns-clause-stays g c = stays_run g.met.Self.FallibleIterator.lawful _ _ _ c.requires.can_next c.drive-answer.ensures.ran

@@ -4,7 +4,7 @@ use Rattle.fallible_iterator.specs.Closures.{call_on}
 use Rattle.fallible_iterator.specs.Searching.{position_pick}
 use Rattle.fallible_contract.proofs.Lemmas.Searching.{searched_placed, placed_callable}
 use Rattle.fallible_contract.specs.Laws.Contract.{stays_run}
-use Rattle.fallible_itertools.proofs.Conversions.{unfailing, driven_converted, try_position_is, behind_place}
+use Rattle.fallible_itertools.proofs.Conversions.{unfailing, driven_converted, try_position_is, rest_place}
 use Rattle.fallible_itertools.proofs.traits.FallibleItertools.try_position.Goals as goal
 
 pub drive-requires-clause-callable : goal.drive-requires-clause-callable
@@ -17,7 +17,7 @@ pub returns-clause-value : goal.returns-clause-value
 returns-clause-value g c convert converts h l acts i = try_position_is convert converts l i {call = call_on g.F.FnMut} h acts (returns-clause-searched g c).1
 
 pub returns-clause-rest : goal.returns-clause-rest
-returns-clause-rest g c h l acts i no_end = behind_place l i {call = call_on g.F.FnMut} h acts (returns-clause-searched g c).1 no_end
+returns-clause-rest g c h l acts i no_end = rest_place l i {call = call_on g.F.FnMut} h acts (returns-clause-searched g c).1 no_end
 
 pub returns-clause-stays : goal.returns-clause-stays
 returns-clause-stays g c = stays_run g.met.Self.FallibleIterator.lawful _ _ _ c.requires.can_next c.drive.ensures.ran

@@ -1,6 +1,6 @@
 -- What the search for the item with the rest of them to pass over does from here, the whole does.
 use Rattle.fallible_contract.specs.Folds.{Nth}
-use Rattle.fallible_itertools.proofs.double_ended.nth_from_behind.Given as goal
+use Rattle.fallible_itertools.proofs.double_ended.nth_from_back.Given as goal
 
 abbrev pub invariant-loop-left : goal.invariant-loop-left
 invariant-loop-left g l = let e = g.I.DoubleEndedFallibleIterator.ends in record {

@@ -1,10 +1,10 @@
--- What searches from behind answer and leave.
+-- What searches from the back answer and leave.
 use Rattle.std.specs.Prelude.{◌≡◌, ℕ, List, [], ◌∷◌, reverse, Bool, true, false, cond, Option, Some, None, Result, Ok, Err}
 use Rattle.fallible_iterator.specs.Traces.{Answered}
 use Rattle.fallible_iterator.specs.Folds.{CountedBy, Drained}
 use Rattle.fallible_iterator.specs.Searching.{Searched, any_pick}
 use Rattle.fallible_iterator.specs.Comparing.{read_as}
-use Rattle.fallible_iterator.specs.Lists.{on_value, any_of, counted, behind_true}
+use Rattle.fallible_iterator.specs.Lists.{on_value, any_of, counted, rest_true}
 
 -- Where the search was true of an item, what is left is counted: the answer is the number, or the failure. Else nothing more is drawn.
 abbrev pub CountedWhere : {S A E : Type 0} → (S → Answered A E → S → Type 0) → Result Bool E → S → Result (Option ℕ) E → S → Type 0
@@ -12,34 +12,34 @@ CountedWhere {E = E} steps (Ok true) s r t = (n : Result ℕ E) × Drained steps
 CountedWhere steps (Ok false) s r t = (r ≡ Ok None) × (t ≡ s)
 CountedWhere steps (Err e) s r t = (r ≡ Err e) × (t ≡ s)
 
--- The predicate was asked of the items from behind, up to the first of which it is true. Then what was left was counted from the front.
-pub record PlacedFromBehind {S A E F : Type 0} (front back : S → Answered A E → S → Type 0) (call : F → A → Result Bool E → F → Type 0) (s : S) (f : F) (r : Result (Option ℕ) E) (t : S) : Type 0 where
+-- The predicate was asked of the items from the back, up to the first of which it is true. Then what was left was counted from the front.
+pub record PlacedFromBack {S A E F : Type 0} (front back : S → Answered A E → S → Type 0) (call : F → A → Result Bool E → F → Type 0) (s : S) (f : F) (r : Result (Option ℕ) E) (t : S) : Type 0 where
   pub found : Result Bool E
   pub closure : F
   pub before : S
   pub searched : Searched call any_pick back false s f found before closure
   pub counts : CountedWhere front found before r t
 
--- what stands before the last item x for which h x is true, or before the failure of the list or of h that comes first from behind
+-- what stands before the last item x for which h x is true, or before the failure of the list or of h that comes first from the back
 unfoldable pub before_last_true : {A E : Type 0} → (A → Result Bool E) → List (Result A E) → List (Result A E)
-before_last_true h l = reverse (behind_true h (reverse l))
+before_last_true h l = reverse (rest_true h (reverse l))
 
 -- what stands behind the first failure; nothing where there is none
-unfoldable pub behind_failure : {A E : Type 0} → List (Result A E) → List (Result A E)
-behind_failure [] = []
-behind_failure (Ok x ∷ l) = behind_failure l
-behind_failure (Err e ∷ l) = l
+unfoldable pub rest_failure : {A E : Type 0} → List (Result A E) → List (Result A E)
+rest_failure [] = []
+rest_failure (Ok x ∷ l) = rest_failure l
+rest_failure (Err e ∷ l) = l
 
--- how many items stand before the last item x for which h x is true, if there is one; or the failure that comes first: from behind up to that item, and then from the front
+-- how many items stand before the last item x for which h x is true, if there is one; or the failure that comes first: from the back up to that item, and then from the front
 unfoldable pub last_position_in : {A E : Type 0} → (A → Result Bool E) → List (Result A E) → Result (Option ℕ) E
 last_position_in h l = on_value (any_of h (reverse l)) (λ is. cond is (read_as (λ n. Some n) (counted (before_last_true h l))) (Ok None))
 
 -- what a count leaves of what stands before, where it was counted
-abbrev pub left_where : {A E : Type 0} → Result Bool E → List (Result A E) → List (Result A E)
-left_where (Ok true) l = behind_failure l
-left_where (Ok false) l = l
-left_where (Err e) l = l
+abbrev pub rest_where : {A E : Type 0} → Result Bool E → List (Result A E) → List (Result A E)
+rest_where (Ok true) l = rest_failure l
+rest_where (Ok false) l = l
+rest_where (Err e) l = l
 
--- what `rposition` leaves: what stands before the failure that comes first from behind; or, where h x is true of an item x, what stands before the last such item and behind the first failure there
-unfoldable pub left_of_position : {A E : Type 0} → (A → Result Bool E) → List (Result A E) → List (Result A E)
-left_of_position h l = left_where (any_of h (reverse l)) (before_last_true h l)
+-- what `rposition` leaves: what stands before the failure that comes first from the back; or, where h x is true of an item x, what stands before the last such item and behind the first failure there
+unfoldable pub rest_position : {A E : Type 0} → (A → Result Bool E) → List (Result A E) → List (Result A E)
+rest_position h l = rest_where (any_of h (reverse l)) (before_last_true h l)

@@ -1,12 +1,12 @@
--- What a call from behind answers and leaves of what is listed from both ends.
+-- What a call from the back answers and leaves of what is listed from both ends.
 use Rattle.std.specs.Prelude.{◌≡◌, ℕ, ◌+◌, zero, suc, length, Bool, true, false, cond, is_some, Option, Some, None, Result, Ok, Err, List, [], ◌∷◌, ◌++◌, map, reverse}
 use Rattle.std.specs.List.{FoldsTo}
 use Rattle.std.proofs.Common.{refl, sym, ap, subst, ◌∙◌, arith, inr}
 use Rattle.fallible_contract.specs.Traces.{Answered, Run, item}
 use Rattle.fallible_contract.specs.Folds.{goes_on, DriveExit, Driven, CountExit, CountedBy, Drained, Nth, NthExit}
-use Rattle.fallible_contract.specs.Searching.{Passed, Decided, SearchExit, Searched, any_pick, find_pick}
+use Rattle.fallible_contract.specs.Searching.{WentOn, Decided, SearchExit, Searched, any_pick, find_pick}
 use Rattle.fallible_contract.specs.Comparing.{read_as}
-use Rattle.fallible_contract.specs.Lists.{Acts, on_value, any_of, found, counted, nth_of, behind_nth, stopped_or, behind_answer, behind_stop, behind_true}
+use Rattle.fallible_contract.specs.Lists.{Acts, on_value, any_of, found, counted, nth_of, rest_nth, stopped_or, rest_answer, rest_stop, rest_true}
 use Rattle.fallible_contract.specs.BothEnds.{ListsBothEnds}
 use Rattle.fallible_contract.specs.Contract.{Contract, AtMost, KeptByDraws}
 use Rattle.fallible_contract.specs.Ends.{Ends, LawfulEnds, from_front, from_back}
@@ -19,7 +19,7 @@ use Rattle.fallible_contract.proofs.Lemmas.BothEnds.{listed_swapped, lists_first
 use Rattle.fallible_contract.proofs.Lemmas.Lists.Drawn.{counted_is, nth_is}
 use Rattle.fallible_contract.proofs.Lemmas.Lists.Searched.{any_is, find_is}
 use Rattle.fallible_iterator.proofs.Lemmas.Ends.{draws_list, all_drawn}
-use Rattle.fallible_itertools.specs.FromBehind.{CountedWhere, PlacedFromBehind, before_last_true, behind_failure, last_position_in, left_where, left_of_position}
+use Rattle.fallible_itertools.specs.FromBack.{CountedWhere, PlacedFromBack, before_last_true, rest_failure, last_position_in, rest_where, rest_position}
 
 -- ---- nth
 
@@ -34,10 +34,10 @@ exit_less n k (Ok None) h = omega (arith, h)
 exit_less n k (Err e) h = omega (arith, h)
 
 module _ {A E : Type 0} where
-  nth_drawn : (items : List A) (r : Answered A E) (n : ℕ) (l k : List (Result A E)) → Run draws_list l (map item items ++ r ∷ []) k → NthExit n (length items) r → behind_nth n l ≡ k
-  unfolding behind_nth
+  nth_drawn : (items : List A) (r : Answered A E) (n : ℕ) (l k : List (Result A E)) → Run draws_list l (map item items ++ r ∷ []) k → NthExit n (length items) r → rest_nth n l ≡ k
+  unfolding rest_nth
   nth_drawn [] r n [] k ran exit = ran.1.1 ∙ ran.2
-  nth_drawn [] r n (Ok x ∷ l) k ran exit = let e : 0 ≡ n = subst (λ (q : Answered A E). NthExit n 0 q) ran.1.0 exit in ap (λ (j : ℕ). behind_nth j (Ok x ∷ l)) (sym e) ∙ ran.1.1 ∙ ran.2
+  nth_drawn [] r n (Ok x ∷ l) k ran exit = let e : 0 ≡ n = subst (λ (q : Answered A E). NthExit n 0 q) ran.1.0 exit in ap (λ (j : ℕ). rest_nth j (Ok x ∷ l)) (sym e) ∙ ran.1.1 ∙ ran.2
   nth_drawn [] r zero (Err e ∷ l) k ran exit = ran.1.1 ∙ ran.2
   nth_drawn [] r (suc n) (Err e ∷ l) k ran exit = ran.1.1 ∙ ran.2
   nth_drawn (x ∷ items) r n [] k ran exit = absurd (let q = ran.1.0 in cc)
@@ -48,13 +48,13 @@ module _ {A E : Type 0} where
 -- ---- searches
 
 module _ {A E F V R : Type 0} (call : F → A → Result V E → F → Type 0) (pick : ℕ → A → V → Option R) (none : R) (stops : V → Bool) (fits : (n : ℕ) (x : A) (v : V) → is_some (pick n x v) ≡ stops v) (h : A → Result V E) (f : F) (acts : Acts call f h) where
-  stop_here : (n : ℕ) (x : A) (r : Result R E) (g : F) (l : List (Result A E)) → Decided call pick n f x r g → behind_stop stops h (Ok x ∷ l) ≡ l
-  unfolding behind_stop
-  stop_here n x (Ok z) g l d = let a = acts x (Ok d.0) g d.1 in ap (λ (w : Result V E). behind_answer stops w l (behind_stop stops h l)) (sym a.1) ∙ ap (λ (b : Bool). stopped_or b l (behind_stop stops h l)) (sym (fits n x d.0) ∙ ap is_some d.2)
-  stop_here n x (Err e) g l d = let a = acts x (Err e) g d in ap (λ (w : Result V E). behind_answer stops w l (behind_stop stops h l)) (sym a.1)
+  stop_here : (n : ℕ) (x : A) (r : Result R E) (g : F) (l : List (Result A E)) → Decided call pick n f x r g → rest_stop stops h (Ok x ∷ l) ≡ l
+  unfolding rest_stop
+  stop_here n x (Ok z) g l d = let a = acts x (Ok d.0) g d.1 in ap (λ (w : Result V E). rest_answer stops w l (rest_stop stops h l)) (sym a.1) ∙ ap (λ (b : Bool). stopped_or b l (rest_stop stops h l)) (sym (fits n x d.0) ∙ ap is_some d.2)
+  stop_here n x (Err e) g l d = let a = acts x (Err e) g d in ap (λ (w : Result V E). rest_answer stops w l (rest_stop stops h l)) (sym a.1)
 
-  stop_drawn : (items : List A) (last : Answered A E) (n : ℕ) (r : Result R E) (g j : F) (l k : List (Result A E)) → Run draws_list l (map item items ++ last ∷ []) k → FoldsTo (Passed call pick) f items g → SearchExit call pick none n g last r j → behind_stop stops h l ≡ k
-  unfolding behind_stop
+  stop_drawn : (items : List A) (last : Answered A E) (n : ℕ) (r : Result R E) (g j : F) (l k : List (Result A E)) → Run draws_list l (map item items ++ last ∷ []) k → FoldsTo (WentOn call pick) f items g → SearchExit call pick none n g last r j → rest_stop stops h l ≡ k
+  unfolding rest_stop
   stop_drawn [] last n r g j [] k ran went exit = ran.1.1 ∙ ran.2
   stop_drawn [] last n r g j (Ok x ∷ l) k ran went exit =
       let d : Decided call pick n f x r j = subst (λ (c : F). SearchExit call pick none n c (item x) r j) (sym went) (subst (λ (q : Answered A E). SearchExit call pick none n g q r j) ran.1.0 exit) in
@@ -66,8 +66,8 @@ module _ {A E F V R : Type 0} (call : F → A → Result V E → F → Type 0) (
       let same : y ≡ x = (let q = ran.1.0 in cc) in
       let a = acts x (Ok went.1.0) went.0 went.1.1 in
       let goes : stops went.1.0 ≡ false = sym (fits 0 x went.1.0) ∙ ap is_some (went.1.2 0) in
-      let rest = stop_drawn items last n r g j l k (subst (λ (u : List (Result A E)). Run draws_list u (map item items ++ last ∷ []) k) (sym ran.1.1) ran.2) (subst (λ (c : F). FoldsTo (Passed call pick) c items g) a.0 went.2) exit in
-      ap (λ (z : A). behind_stop stops h (Ok z ∷ l)) same ∙ ap (λ (w : Result V E). behind_answer stops w l (behind_stop stops h l)) (sym a.1) ∙ ap (λ (b : Bool). stopped_or b l (behind_stop stops h l)) goes ∙ rest
+      let rest = stop_drawn items last n r g j l k (subst (λ (u : List (Result A E)). Run draws_list u (map item items ++ last ∷ []) k) (sym ran.1.1) ran.2) (subst (λ (c : F). FoldsTo (WentOn call pick) c items g) a.0 went.2) exit in
+      ap (λ (z : A). rest_stop stops h (Ok z ∷ l)) same ∙ ap (λ (w : Result V E). rest_answer stops w l (rest_stop stops h l)) (sym a.1) ∙ ap (λ (b : Bool). stopped_or b l (rest_stop stops h l)) goes ∙ rest
 
 any_stops : {A : Type 0} (n : ℕ) (x : A) (v : Bool) → is_some (any_pick n x v) ≡ v
 any_stops n x true = refl
@@ -79,8 +79,8 @@ find_stops n x false = refl
 
 -- ---- a count
 
-failure_drawn : {A E : Type 0} (items : List A) (last : Answered A E) (n : ℕ) (r : Result ℕ E) (l k : List (Result A E)) → Run draws_list l (map item items ++ last ∷ []) k → CountExit n last r → behind_failure l ≡ k
-unfolding behind_failure
+failure_drawn : {A E : Type 0} (items : List A) (last : Answered A E) (n : ℕ) (r : Result ℕ E) (l k : List (Result A E)) → Run draws_list l (map item items ++ last ∷ []) k → CountExit n last r → rest_failure l ≡ k
+unfolding rest_failure
 failure_drawn [] last n r [] k ran exit = ran.1.1 ∙ ran.2
 failure_drawn [] last n r (Ok x ∷ l) k ran exit = absurd (subst (λ q. CountExit n q r) ran.1.0 exit)
 failure_drawn [] last n r (Err e ∷ l) k ran exit = ran.1.1 ∙ ran.2
@@ -95,33 +95,33 @@ module _ {S A E : Type 0} {front back : S → Answered A E → S → Type 0} {s 
   left_as : (trace : List (Answered A E)) (k : List (Result A E)) → Run front s trace t → ((left : List (Result A E)) → Run draws_list l trace left → k ≡ left) → ListsBothEnds front back t k
   left_as trace k ran is = let d = all_drawn front back trace s t l i ran in subst (λ (j : List (Result A E)). ListsBothEnds front back t j) (sym (is d.0 d.1)) d.2
 
-  nth_left : {n : ℕ} {r : Answered A E} → Nth front s n r t → ListsBothEnds front back t (behind_nth n l)
-  nth_left {n = n} {r = r} c = left_as _ (behind_nth n l) c.ran (λ left ran. nth_drawn c.items c.last n l left ran (subst (λ (q : Answered A E). NthExit n (length c.items) q) (sym c.at.is) c.at.exit))
+  nth_left : {n : ℕ} {r : Answered A E} → Nth front s n r t → ListsBothEnds front back t (rest_nth n l)
+  nth_left {n = n} {r = r} c = left_as _ (rest_nth n l) c.ran (λ left ran. nth_drawn c.items c.last n l left ran (subst (λ (q : Answered A E). NthExit n (length c.items) q) (sym c.at.is) c.at.exit))
 
-  count_left : {n : Result ℕ E} → Drained front (CountedBy n) s t → ListsBothEnds front back t (behind_failure l)
-  count_left {n = n} c = left_as _ (behind_failure l) c.ran (λ left ran. failure_drawn c.items c.last (length c.items) n l left ran c.at.exit)
+  count_left : {n : Result ℕ E} → Drained front (CountedBy n) s t → ListsBothEnds front back t (rest_failure l)
+  count_left {n = n} c = left_as _ (rest_failure l) c.ran (λ left ran. failure_drawn c.items c.last (length c.items) n l left ran c.at.exit)
 
   module _ {F : Type 0} {f g : F} {call : F → A → Result Bool E → F → Type 0} (h : A → Result Bool E) (acts : Acts call f h) where
-    any_left : {r : Result Bool E} → Searched call any_pick front false s f r t g → ListsBothEnds front back t (behind_true h l)
-    unfolding behind_true
-    any_left {r = r} c = left_as _ (behind_stop (λ v. v) h l) c.ran (λ left ran. stop_drawn call any_pick false (λ v. v) any_stops h f acts c.items c.last (length c.items) r c.at.closure g l left ran c.at.went c.at.exit)
+    any_left : {r : Result Bool E} → Searched call any_pick front false s f r t g → ListsBothEnds front back t (rest_true h l)
+    unfolding rest_true
+    any_left {r = r} c = left_as _ (rest_stop (λ v. v) h l) c.ran (λ left ran. stop_drawn call any_pick false (λ v. v) any_stops h f acts c.items c.last (length c.items) r c.at.closure g l left ran c.at.went c.at.exit)
 
-    find_left : {r : Result (Option A) E} → Searched call find_pick front None s f r t g → ListsBothEnds front back t (behind_true h l)
-    unfolding behind_true
-    find_left {r = r} c = left_as _ (behind_stop (λ v. v) h l) c.ran (λ left ran. stop_drawn call find_pick None (λ v. v) find_stops h f acts c.items c.last (length c.items) r c.at.closure g l left ran c.at.went c.at.exit)
+    find_left : {r : Result (Option A) E} → Searched call find_pick front None s f r t g → ListsBothEnds front back t (rest_true h l)
+    unfolding rest_true
+    find_left {r = r} c = left_as _ (rest_stop (λ v. v) h l) c.ran (λ left ran. stop_drawn call find_pick None (λ v. v) find_stops h f acts c.items c.last (length c.items) r c.at.closure g l left ran c.at.went c.at.exit)
 
--- the same of draws from behind, with what is answered
+-- the same of draws from the back, with what is answered
 module _ {S A E : Type 0} {front back : S → Answered A E → S → Type 0} {s t : S} (l : List (Result A E)) (i : ListsBothEnds front back s l) where
-  pub nth_behind : {n : ℕ} {r : Answered A E} → Nth back s n r t → (r ≡ nth_of n (reverse l)) × ListsBothEnds front back t (reverse (behind_nth n (reverse l)))
-  nth_behind c = let j = listed_swapped i in (nth_is (reverse l) c (lists_first j), listed_swapped (nth_left (reverse l) j c))
+  pub nth_at_back : {n : ℕ} {r : Answered A E} → Nth back s n r t → (r ≡ nth_of n (reverse l)) × ListsBothEnds front back t (reverse (rest_nth n (reverse l)))
+  nth_at_back c = let j = listed_swapped i in (nth_is (reverse l) c (lists_first j), listed_swapped (nth_left (reverse l) j c))
 
   module _ {F : Type 0} {f g : F} {call : F → A → Result Bool E → F → Type 0} (h : A → Result Bool E) (acts : Acts call f h) where
-    pub find_behind : {r : Result (Option A) E} → Searched call find_pick back None s f r t g → (r ≡ found h (reverse l)) × ListsBothEnds front back t (reverse (behind_true h (reverse l)))
-    find_behind c = let j = listed_swapped i in (find_is (reverse l) (lists_first j) {call = call} h acts c, listed_swapped (find_left (reverse l) j {call = call} h acts c))
+    pub find_at_back : {r : Result (Option A) E} → Searched call find_pick back None s f r t g → (r ≡ found h (reverse l)) × ListsBothEnds front back t (reverse (rest_true h (reverse l)))
+    find_at_back c = let j = listed_swapped i in (find_is (reverse l) (lists_first j) {call = call} h acts c, listed_swapped (find_left (reverse l) j {call = call} h acts c))
 
-    any_behind : {r : Result Bool E} → Searched call any_pick back false s f r t g → (r ≡ any_of h (reverse l)) × ListsBothEnds front back t (before_last_true h l)
+    any_at_back : {r : Result Bool E} → Searched call any_pick back false s f r t g → (r ≡ any_of h (reverse l)) × ListsBothEnds front back t (before_last_true h l)
     unfolding before_last_true
-    any_behind c = let j = listed_swapped i in (any_is (reverse l) (lists_first j) {call = call} h acts c, listed_swapped (any_left (reverse l) j {call = call} h acts c))
+    any_at_back c = let j = listed_swapped i in (any_is (reverse l) (lists_first j) {call = call} h acts c, listed_swapped (any_left (reverse l) j {call = call} h acts c))
 
 -- ---- rposition
 
@@ -130,26 +130,26 @@ by_found h l w = on_value w (λ is. cond is (read_as (λ n. Some n) (counted (be
 
 module _ {S A E : Type 0} (front back : S → Answered A E → S → Type 0) (t : S) (l : List (Result A E)) (h : A → Result Bool E) where
   abbrev LeftBy : Result Bool E → Type 0
-  LeftBy w = ListsBothEnds front back t (left_where w (before_last_true h l))
+  LeftBy w = ListsBothEnds front back t (rest_where w (before_last_true h l))
 
   counted_where : (found : Result Bool E) (r : Result (Option ℕ) E) (u : S) → ListsBothEnds front back u (before_last_true h l) → CountedWhere front found u r t → (r ≡ by_found h l found) × LeftBy found
   counted_where (Ok true) r u j c = (c.2 ∙ ap (read_as (λ n. Some n)) (counted_is (before_last_true h l) (t, c.1) (lists_first j)), count_left (before_last_true h l) j c.1)
   counted_where (Ok false) r u j c = (c.0, subst (λ (v : S). ListsBothEnds front back v (before_last_true h l)) (sym c.1) j)
   counted_where (Err e) r u j c = (c.0, subst (λ (v : S). ListsBothEnds front back v (before_last_true h l)) (sym c.1) j)
 
-pub placed_is : {S A E F : Type 0} {front back : S → Answered A E → S → Type 0} {s t : S} (l : List (Result A E)) (h : A → Result Bool E) (call : F → A → Result Bool E → F → Type 0) {f : F} {r : Result (Option ℕ) E} → Acts call f h → ListsBothEnds front back s l → PlacedFromBehind front back call s f r t → (r ≡ last_position_in h l) × ListsBothEnds front back t (left_of_position h l)
-unfolding last_position_in left_of_position
-placed_is {front = front} {back = back} {t = t} l h call {r = r} acts i c = let p = any_behind l i {call = call} h acts c.searched in let d = counted_where front back t l h c.found r c.before p.1 c.counts in (d.0 ∙ ap (by_found h l) p.0, subst (LeftBy front back t l h) p.0 d.1)
+pub placed_is : {S A E F : Type 0} {front back : S → Answered A E → S → Type 0} {s t : S} (l : List (Result A E)) (h : A → Result Bool E) (call : F → A → Result Bool E → F → Type 0) {f : F} {r : Result (Option ℕ) E} → Acts call f h → ListsBothEnds front back s l → PlacedFromBack front back call s f r t → (r ≡ last_position_in h l) × ListsBothEnds front back t (rest_position h l)
+unfolding last_position_in rest_position
+placed_is {front = front} {back = back} {t = t} l h call {r = r} acts i c = let p = any_at_back l i {call = call} h acts c.searched in let d = counted_where front back t l h c.found r c.before p.1 c.counts in (d.0 ∙ ap (by_found h l) p.0, subst (LeftBy front back t l h) p.0 d.1)
 
 -- ---- what stays
 
 module _ {S A E : Type 0} {m : Contract S A E} {e : Ends S A E} (law : LawfulEnds m e) where
-  kept_behind : {s t : S} → KeptByDraws (from_back m e) s t → KeptByDraws (from_front m e) s t
-  kept_behind h = record { can_next = h.can_next; is_finite = h.is_finite; bound = h.bound; remaining = h.remaining; may_give = h.may_give; may_fail = h.may_fail; lenders = h.lenders }
+  kept_at_back : {s t : S} → KeptByDraws (from_back m e) s t → KeptByDraws (from_front m e) s t
+  kept_at_back h = record { can_next = h.can_next; is_finite = h.is_finite; bound = h.bound; remaining = h.remaining; may_give = h.may_give; may_fail = h.may_fail; lenders = h.lenders }
 
-  -- draws from behind
-  pub kept_run_behind : {s t : S} (trace : List (Answered A E)) → e.can_next s → Run e.steps s trace t → KeptByDraws (from_front m e) s t
-  kept_run_behind {s = s} {t = t} trace can ran = kept_behind (kept_run law.back s trace t can ran)
+  -- draws from the back
+  pub kept_run_at_back : {s t : S} (trace : List (Answered A E)) → e.can_next s → Run e.steps s trace t → KeptByDraws (from_front m e) s t
+  kept_run_at_back {s = s} {t = t} trace can ran = kept_at_back (kept_run law.back s trace t can ran)
 
   -- and a count of what is left
   pub kept_counted : {s t u : S} (found : Result Bool E) (r : Result (Option ℕ) E) → KeptByDraws (from_front m e) s t → CountedWhere m.steps found t r u → KeptByDraws (from_front m e) s u
