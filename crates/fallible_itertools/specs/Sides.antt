@@ -150,7 +150,7 @@ module _ {A E X : Type 0} (gave : X → Option (Answered A E)) (behind : Option 
     pub held : HeldThrough p.1 places q.1
 
 module _ {S U A B C E F V : Type 0} (steps : S → Answered A E → S → Type 0) (others : U → Answered B E → U → Type 0) (rule : Rule A B C E F V) where
-  -- A place for each answer. A failure of the left is answered, and the right isn't asked. A failure of the right is answered, and the left's item is held, so that it stands at the next place too; an end of the left isn't held. Of an item or an end of each the rule makes the answer; after an end both are asked again.
+  -- A place for each answer. A failure of the left is answered, and the right isn't asked. A failure of the right is answered, and the left's item is held, so that it stands at the next place too; an end of the left isn't held. Of an item or an end of each the rule makes the answer; an end closes nothing, and both are asked again. No memory is asked for, so nothing is refused.
   pub record SidesTrace (p : (S × Option A) × (U × Option B) × F) (trace : List (Answered C E)) (q : (S × Option A) × (U × Option B) × F) : Type 0 where
     pub places : List (SidesPlace A B E V)
     pub left : SideTrace left_gave (left_behind rule) steps p.0 places q.0

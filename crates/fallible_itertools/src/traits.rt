@@ -477,9 +477,9 @@ pub trait FallibleItertools: FallibleIterator {
 
     // ---- adapters that join
 
-    /// Merges the items of two sources: of an item and the next one of `other`, the closure answers whether the first of them goes first. Once a side has ended, the other's items are given without asking.
+    /// Merges the items of two sources: of an item and the next one of `other`, the closure answers whether the former goes first. Beside an end of one side the other's item is given without asking.
     ///
-    /// It is made without a draw. It holds at most one item of each side. One call draws this iterator where nothing of it is held, and then, where that isn't a failure, `other` where nothing of it is held; an end isn't remembered. It fails as either does, and loses nothing that is held. Where the closure fails, its failure is the answer, and the two items that it was asked of are lost. Its folds draw as its calls do.
+    /// It is made without a draw, and holds at most one item of each side. One call draws one answer where nothing of this side is held, and then, where that isn't a failure, one of `other` where nothing of that is held; an end isn't remembered. It fails as either does, and loses nothing that is held. Where the closure fails, its failure is the answer, and the two items that it was asked of are lost. Its folds draw as its calls do. A bound of each side, added up, bounds it.
     ///
     /// Asks that the closure may be called on references to two items, one that may come of each side. Draws ask that both sides may be drawn from, and that items can be let go. What it lists is known where both sides end for good, as after `fuse`.
     ///
@@ -534,7 +534,7 @@ pub trait FallibleItertools: FallibleIterator {
 
     /// Joins each item with one of `other`, place by place, up to the end of both. Where one side has an end beside an item, the item stands alone.
     ///
-    /// It is made without a draw. One call draws one answer, and then, where that isn't a failure, one of `other`, also at an end; an end isn't remembered. It fails as this iterator does, or else as `other` does. A failure of `other` loses nothing: the item beside it is held, and the next call draws `other` alone. Its folds draw as its calls do.
+    /// It is made without a draw. One call draws one answer where no item is held, and then, where that isn't a failure, one of `other`, also at an end; an end isn't remembered. It fails as this iterator does, or else as `other` does. A failure of `other` loses nothing: the item beside it is held, and the next call draws `other` alone. Its folds draw as its calls do. A bound of each side, added up, bounds it.
     ///
     /// Asks nothing. Draws ask that both sides may be drawn from, and that items can be let go. What it lists is known where both sides end for good, as after `fuse`.
     ///
