@@ -1,5 +1,8 @@
 -- Why the functions of `src/` do what their clauses say.
+pub mod ChunkBy
+pub mod Chunks
 pub mod Dedup
 pub mod Holding
 pub mod HoldingHints
 pub mod HoldingLists
+pub mod HoldingMade

@@ -94,13 +94,17 @@ module _ {S P X B E : Type 0} (steps : S → Answered X E → S → Type 0) (ask
     module _ (Q : C → B → Type 0) where
       items_to_end : (items : List B) (p q : S × P) (c d : C) → Run UpToEnd p (map item items ++ end ∷ []) q → FoldsTo (goes_on turns) c items d → ToTheEnd Q p c q d
       items_to_end [] p q c d ran went = record {
-        at = p; items = []; ran = refl;
+        at = p;
+        items = [];
+        ran = refl;
         ends = subst (λ (u : S × P). UpToEnd p end u) ran.2 ran.1;
         whole = λ r t e w. subst (λ (k : C). Driven Steps turns p k r t e) (sym went) w;
         holds = λ h. subst (λ (k : C). HoldsAtEachTurn Steps (goes_on turns) Q p k) went h;
       }
       items_to_end (y ∷ items) p q c d ran went = let step = step_before_end p (item y) ran.0 refl ran.1 in let k = items_to_end items ran.0 q went.0 d ran.2 went.2 in record {
-        at = k.at; items = y ∷ k.items; ran = (ran.0, step, k.ran);
+        at = k.at;
+        items = y ∷ k.items;
+        ran = (ran.0, step, k.ran);
         ends = k.ends;
         whole = λ r t e w. driven_after y step went.1 (k.whole r t e w);
         holds = λ h. k.holds (holds_after h step went.1);
