@@ -1,5 +1,6 @@
 -- Why the functions of `src/` do what their clauses say.
 pub mod ChunkBy
+pub mod Chunked
 pub mod Chunks
 pub mod Dedup
 pub mod Holding

@@ -1,5 +1,5 @@
 -- `Chunks`, which gives batches of n items.
-use Rattle.std.specs.Prelude.{◌≡◌, ℕ, ◌+◌, ◌<◌, ◌≤◌, Bool, true, false, Option, Some, None, Result, Ok, Err, List, [], ◌∷◌, ◌++◌, length, ltb, ⊤, vec_items}
+use Rattle.std.specs.Prelude.{◌≡◌, ℕ, ◌<◌, ◌≤◌, Bool, true, false, Option, Some, None, Result, Ok, Err, List, [], ◌∷◌, ◌++◌, length, ltb, ⊤, vec_items}
 use Rattle.fallible_iterator.specs.Traces.{Answered}
 use Rattle.fallible_iterator.specs.Contract.{Contract}
 use Rattle.fallible_itertools.specs.Growing.{Grown, NoRoom, SameHeld, IsRefusal}
@@ -64,6 +64,17 @@ module _ {A E : Type 0} where
   -- the items in batches of n, of which the last may have fewer; a failure between the items of a batch parts nothing, and comes before it
   unfoldable pub chunked : ℕ → List (Result A E) → List (Result (List A) E)
   chunked n l = chunked_from n [] l
+
+-- the batches joined
+abbrev pub joined : {A : Type 0} → List (List A) → List A
+joined [] = []
+joined (b ∷ bs) = b ++ joined bs
+
+-- Each batch has n items, but the last, which has some and at most n.
+abbrev pub BatchesOf : {A : Type 0} → ℕ → List (List A) → Type 0
+BatchesOf n [] = ⊤
+BatchesOf n (b ∷ []) = (0 < length b) × (length b ≤ n)
+BatchesOf n (b ∷ c ∷ bs) = (length b ≡ n) × BatchesOf n (c ∷ bs)
 
 -- the source
 abbrev pub chunks_source : {I A E : Type 0} → Chunks I A E → I

@@ -12,7 +12,7 @@ use fallible_iterator::{FallibleIterator, Turn};
 use std::alloc::{AllocError, Global};
 
 /// Groups of adjacent items of one key, each with its key. A group is held until an item of another key or an end comes. Where the key's closure fails, or memory for an item is refused, that failure is the answer, and the item is lost and no other.
-#[derive(Debug, Drop)]
+#[derive(Clone, Debug, Drop)]
 pub struct ChunkBy<I: FallibleIterator, K, F> {
     pub(crate) it: I,
     pub(crate) alloc: Global,

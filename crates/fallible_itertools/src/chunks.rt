@@ -12,7 +12,7 @@ use fallible_iterator::{FallibleIterator, Turn};
 use std::alloc::{AllocError, Global};
 
 /// Batches of n items, of which one before an end may have fewer. A batch is held until it has n items or an end comes. Where memory for an item is refused, the failure made of the refusal is the answer, and that item is lost and no other.
-#[derive(Debug, Drop)]
+#[derive(Clone, Debug, Drop)]
 pub struct Chunks<I: FallibleIterator> {
     pub(crate) it: I,
     pub(crate) alloc: Global,

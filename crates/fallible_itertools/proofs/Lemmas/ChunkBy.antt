@@ -1,5 +1,5 @@
 -- What `ChunkBy` makes of its source's answers.
-use Rattle.std.specs.Prelude.{◌≡◌, ℕ, ◌≤◌, Bool, true, false, Option, Some, None, Result, Ok, Err, List, [], ◌∷◌, ◌++◌, ⊤, ◌⊎◌, vec_items}
+use Rattle.std.specs.Prelude.{◌≡◌, ◌≤◌, Bool, true, false, Option, Some, None, Result, Ok, Err, List, [], ◌∷◌, ◌++◌, ⊤, ◌⊎◌, vec_items}
 use Rattle.std.specs.Fn.{Mut}
 use Rattle.std.specs.Borrow.{Bor}
 use Rattle.std.proofs.Common.{refl, sym, ap, subst, arith, inl, inr, ◌∙◌}
@@ -8,15 +8,13 @@ use Rattle.fallible_iterator.specs.Contract.{Contract, seen_as}
 use Rattle.fallible_iterator.specs.Lists.{Acts, ListsForGood}
 use Rattle.fallible_contract.proofs.Lemmas.Lists.Passing.{by_outcome}
 use Rattle.fallible_itertools.specs.ChunkBy.{Group, MadeGroup, by_its_key, chunk_by_asks, chunk_by_contract, chunk_by_parts, chunked_by, chunked_by_from, group_at, group_at_end, group_begun, group_by, group_grown, group_held, group_or}
-use Rattle.fallible_itertools.specs.Growing.{Grown, ListsMade}
+use Rattle.fallible_itertools.specs.Growing.{ListsMade}
 use Rattle.fallible_itertools.specs.Holding.{held_one}
 use Rattle.fallible_itertools.proofs.Lemmas.HoldingHints.{GivesHeld}
 use Rattle.fallible_itertools.proofs.Lemmas.HoldingLists.{held_list}
 use Rattle.fallible_itertools.proofs.Lemmas.HoldingMade.{Answers, OutcomeMade, Refuses, held_gives_made, lists_made_seen}
 use Rattle.fallible_iterator.specs.Outcome.{Outcome}
 use Rattle.fallible_iterator.specs.Outcome.TheVariants.{Kept, LeftOut, Failure, End}
-use Rattle.std.specs.declared.vec.Vec.{Vec}
-use Rattle.std.specs.declared.alloc.Global.{Global}
 use Rattle.std.specs.declared.alloc.AllocError.{AllocError}
 use Rattle.fallible_itertools.specs.declared.chunk_by.ChunkBy.{ChunkBy}
 

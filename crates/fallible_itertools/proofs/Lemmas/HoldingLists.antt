@@ -1,11 +1,11 @@
 -- What an adapter that holds lists, over a source that lists a list for good.
 use Rattle.std.specs.Prelude.{◌≡◌, Option, Some, None, Result, Ok, Err, List, [], ◌∷◌}
-use Rattle.std.proofs.Common.{refl, sym, ap, subst, ◌∙◌}
-use Rattle.fallible_iterator.specs.Traces.{Answered, Run, item, end}
-use Rattle.fallible_iterator.specs.Lists.{AlwaysGives, Lists, EndsForGood, GivesForGood, ListsForGood, result_answer}
+use Rattle.std.proofs.Common.{refl, sym, subst, ◌∙◌}
+use Rattle.fallible_iterator.specs.Traces.{Answered, item, end}
+use Rattle.fallible_iterator.specs.Lists.{AlwaysGives, EndsForGood, GivesForGood}
 use Rattle.fallible_iterator.specs.Passing.{passing_step}
 use Rattle.fallible_iterator.specs.Laws.Passing.{Passes, done, end_passes, failure_passes, keeps, refuses, closes, leaves_out, to_passes, from_passes}
-use Rattle.fallible_contract.proofs.Lemmas.Lists.Passing.{by_outcome, gives_if, lists_seen}
+use Rattle.fallible_contract.proofs.Lemmas.Lists.Passing.{by_outcome, gives_if}
 use Rattle.fallible_itertools.specs.Holding.{with_ends, as_answered}
 use Rattle.fallible_iterator.specs.Outcome.{Outcome}
 use Rattle.fallible_iterator.specs.Outcome.TheVariants.{Kept, LeftOut, Failure, End}

@@ -1,9 +1,9 @@
 -- What an adapter that holds lists up to a refusal, over a source that lists a list for good.
 use Rattle.std.specs.Prelude.{◌≡◌, Option, Some, None, Result, Ok, Err, List, [], ◌∷◌, ⊤, ◌⊎◌}
 use Rattle.std.proofs.Common.{refl, sym, subst, inl, inr, ◌∙◌}
-use Rattle.fallible_iterator.specs.Traces.{Answered, item, end}
+use Rattle.fallible_iterator.specs.Traces.{Answered, end}
 use Rattle.fallible_iterator.specs.Lists.{EndsForGood, GivesForGood}
-use Rattle.fallible_iterator.specs.Laws.Passing.{Passes, to_passes, from_passes}
+use Rattle.fallible_iterator.specs.Laws.Passing.{to_passes, from_passes}
 use Rattle.fallible_contract.proofs.Lemmas.Lists.Passing.{by_outcome}
 use Rattle.fallible_itertools.specs.Growing.{AnswersRefusal, GivesMade, IsMadeOf, IsRefusal, ListsMade}
 use Rattle.fallible_itertools.proofs.Lemmas.HoldingLists.{held_list, ByFirst, FirstOfAll, Steps, Whole, asked, failed, first_of_all}

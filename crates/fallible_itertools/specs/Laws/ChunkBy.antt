@@ -1,15 +1,15 @@
 -- The contract of `ChunkBy` is lawful where the source's is.
-use Rattle.std.specs.Prelude.{◌≡◌, ℕ, Bool, true, false, Option, Some, None, Result, Ok, Err, List, [], ◌∷◌, ⊤}
+use Rattle.std.specs.Prelude.{Bool, true, false, Option, Some, None, Result, Ok, Err, List, [], ◌∷◌}
 use Rattle.std.specs.Fn.{Mut}
 use Rattle.std.specs.Borrow.{Bor}
 use Rattle.std.specs.List.{FoldsTo}
-use Rattle.std.proofs.Common.{refl, ap, subst, arith}
+use Rattle.std.proofs.Common.{ap, subst, arith}
 use Rattle.fallible_iterator.specs.Contract.{Contract, KeptByDraw, Lawful}
 use Rattle.fallible_iterator.specs.Closures.{IsCallable, Reaches, call_at, takes_at}
 use Rattle.fallible_iterator.specs.Laws.Closures.{callable_after, reaches_here, reaches_from}
 use Rattle.fallible_iterator.specs.Laws.Passing.{to_passes}
 use Rattle.fallible_iterator.specs.Traces.{Answered}
-use Rattle.fallible_itertools.specs.Holding.{Holds, HeldAfter, MayBeAsked, OrEnd, held_one, holding_contract, one_at_least}
+use Rattle.fallible_itertools.specs.Holding.{Holds, HeldAfter, MayBeAsked, OrEnd, held_one, one_at_least}
 use Rattle.fallible_itertools.specs.ChunkBy.{Group, group_at, group_begun, group_grown, group_by, group_at_end, group_held, chunk_by_asks, chunk_by_contract, key_takes}
 use Rattle.fallible_itertools.specs.Laws.Holding.{gives_keep, gives_reach, lawful_holding}
 use Rattle.fallible_iterator.specs.Outcome.{Outcome}

@@ -1,12 +1,11 @@
 -- The contract of `Chunks` is lawful where the source's is.
-use Rattle.std.specs.Prelude.{◌≡◌, ℕ, Bool, true, false, Option, Some, None, ⊤}
+use Rattle.std.specs.Prelude.{◌≡◌, Option, Some, None, ⊤}
 use Rattle.std.proofs.Common.{refl, arith}
 use Rattle.fallible_iterator.specs.Contract.{Contract, Lawful}
 use Rattle.fallible_itertools.specs.Growing.{SameHeld}
-use Rattle.fallible_itertools.specs.Holding.{Holds, HeldAfter, held_one, one_at_least}
+use Rattle.fallible_itertools.specs.Holding.{Holds, held_one, one_at_least}
 use Rattle.fallible_itertools.specs.Chunks.{batch_held, chunks_asks, chunks_contract}
 use Rattle.fallible_itertools.specs.Laws.Holding.{lawful_holding}
-use Rattle.fallible_iterator.specs.Outcome.{Outcome}
 use Rattle.fallible_iterator.specs.Outcome.TheVariants.{Kept, LeftOut, Failure, End}
 use Rattle.std.specs.declared.vec.Vec.{Vec}
 use Rattle.std.specs.declared.alloc.Global.{Global}

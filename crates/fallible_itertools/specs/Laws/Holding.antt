@@ -1,12 +1,12 @@
 -- The contracts of the adapters that hold are lawful where the source's is.
-use Rattle.std.specs.Prelude.{◌≡◌, ℕ, ◌+◌, ◌≤◌, ◌<◌, Option, Some, None, Ok, Err, List, [], ◌∷◌, map}
+use Rattle.std.specs.Prelude.{ℕ, ◌+◌, ◌<◌, Option, Some, None, Ok, Err, List, [], ◌∷◌, map}
 use Rattle.std.specs.Iterator.{IsFinite, size}
-use Rattle.std.proofs.Common.{refl, subst, arith, inl, inr}
+use Rattle.std.proofs.Common.{subst, arith, inl, inr}
 use Rattle.fallible_iterator.specs.Traces.{Answered, Run}
 use Rattle.fallible_iterator.specs.Contract.{Contract, OnAnswer, NoMore, NoMoreRemains, Fewer, KeptByDraw, KeptByDraws, Lawful}
-use Rattle.fallible_iterator.specs.Closures.{IsCallable, Reaches}
+use Rattle.fallible_iterator.specs.Closures.{Reaches}
 use Rattle.fallible_iterator.specs.Passing.{source_answer}
-use Rattle.fallible_iterator.specs.Laws.Contract.{kept_run, kept_after}
+use Rattle.fallible_iterator.specs.Laws.Contract.{kept_run}
 use Rattle.fallible_iterator.specs.Laws.Closures.{reaches_here, reaches_weaken, reaches_from, callable_after, may_answer_here, may_answer_after}
 use Rattle.fallible_iterator.specs.Laws.Passing.{Passes, done, end_passes, failure_passes, keeps, refuses, closes, leaves_out, to_passes, from_passes}
 use Rattle.fallible_itertools.specs.Holding.{with_ends, as_answered, HeldAfter, Holds, MayBeAsked, holding_contract}

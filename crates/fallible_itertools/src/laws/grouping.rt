@@ -1,8 +1,10 @@
 // Of the adapters that give groups of items.
+ghost use Rattle.std.specs.Prelude.{◌≡◌, ℕ, ◌<◌, List, Result};
+ghost use Rattle.fallible_iterator.specs.BothEnds.{items_listed, failures_listed};
 ghost use Rattle.fallible_iterator.specs.LawForm.{TracesAre};
 ghost use Rattle.fallible_iterator.specs.SoundHints.{KeepsBrackets};
 ghost use Rattle.fallible_itertools.specs.ChunkBy.{ChunkByTrace, chunk_by_parts, chunk_by_source};
-ghost use Rattle.fallible_itertools.specs.Chunks.{ChunksTrace, chunks_parts, chunks_source};
+ghost use Rattle.fallible_itertools.specs.Chunks.{BatchesOf, ChunksTrace, chunked, chunks_parts, chunks_source, joined};
 
 use crate::chunk_by::ChunkBy;
 use crate::chunks::Chunks;
@@ -16,6 +18,16 @@ where
     I::Error: From<AllocError>,
     ensures { TracesAre chunks_parts ⟦<Chunks<I> as FallibleIterator>⟧.contract.steps
         (ChunksTrace I.Error.from_gives I.contract.steps) }
+{}
+
+/// The batches of a list joined are its items, each batch has n items but the last, which has some and at most n, and the failures are the list's.
+pub fn law_chunked<T, E>()
+    ensures items { (n : ℕ) → (l : List (Result T E))
+        → joined (items_listed (chunked n l)) ≡ items_listed l }
+    ensures sizes { (n : ℕ) → (l : List (Result T E))
+        → 0 < n → BatchesOf n (items_listed (chunked n l)) }
+    ensures failures { (n : ℕ) → (l : List (Result T E))
+        → failures_listed (chunked n l) ≡ failures_listed l }
 {}
 
 /// Each hint of `Chunks` is as sound as the hint of its source that it is made of.
