@@ -2,6 +2,7 @@
 pub mod ChunkBy
 pub mod Chunked
 pub mod Chunks
+pub mod ChunksHints
 pub mod Dedup
 pub mod Holding
 pub mod HoldingHints

@@ -1,9 +1,9 @@
 -- `Chunks`, which gives batches of n items.
-use Rattle.std.specs.Prelude.{◌≡◌, ℕ, ◌<◌, ◌≤◌, Bool, true, false, Option, Some, None, Result, Ok, Err, List, [], ◌∷◌, ◌++◌, length, ltb, ⊤, vec_items}
+use Rattle.std.specs.Prelude.{◌≡◌, ℕ, ◌+◌, ◌-◌, ◌/◌, ◌<◌, ◌≤◌, max, cond, leb, Bool, true, false, Option, Some, None, Result, Ok, Err, List, [], ◌∷◌, ◌++◌, length, ltb, ⊤, vec_items}
 use Rattle.fallible_iterator.specs.Traces.{Answered}
 use Rattle.fallible_iterator.specs.Contract.{Contract}
 use Rattle.fallible_itertools.specs.Growing.{Grown, NoRoom, SameHeld, IsRefusal}
-use Rattle.fallible_itertools.specs.Holding.{HoldingTrace, holding_contract, held_one, one_at_least}
+use Rattle.fallible_itertools.specs.Holding.{HoldingTrace, holding_contract, held_one}
 use Rattle.fallible_iterator.specs.Outcome.{Outcome}
 use Rattle.fallible_iterator.specs.Outcome.TheVariants.{Kept, LeftOut, Failure, End}
 use Rattle.std.specs.declared.vec.Vec.{Vec}
@@ -38,9 +38,22 @@ module _ {A E : Type 0} (from : AllocError → E → Type 0) where
 abbrev pub batch_held : {A : Type 0} → ℕ × Option (Vec A Global) → ℕ
 batch_held p = held_one p.1
 
+-- how many items the batch that is held takes yet, of which the next one is in any case one; none where none is held
+abbrev pub room_left : {A : Type 0} → ℕ → Option (Vec A Global) → ℕ
+room_left n None = 0
+room_left n (Some v) = max 1 (n - length (vec_items v))
+
+-- how many batches k items begin, where the first of them go into the room that is left, and from then on one of n begins a batch
+abbrev pub begun : ℕ → ℕ → ℕ → ℕ
+begun n room k = cond (leb k room) 0 (1 + (k - 1 - room) / max n 1)
+
+-- At least the batch that is held and those that the source's items begin. There is no upper bound: behind an end the source may go on.
+abbrev pub chunks_hints : {S A E : Type 0} → Contract S A E → S × (ℕ × Option (Vec A Global)) → ℕ × Option ℕ → Type 0
+chunks_hints m p h = (k : ℕ × Option ℕ) × m.hints p.0 k × (h ≡ (held_one p.1.1 + begun p.1.0 (room_left p.1.0 p.1.1) k.0, None))
+
 -- `Chunks`' contract
 abbrev pub chunks_contract : {S A E : Type 0} → (AllocError → E → Type 0) → Contract S A E → Contract (S × (ℕ × Option (Vec A Global))) (Vec A Global) E
-chunks_contract from m = holding_contract m (chunks_asks from) (λ p x. ⊤) batch_held (one_at_least m batch_held)
+chunks_contract from m = holding_contract m (chunks_asks from) (λ p x. ⊤) batch_held (chunks_hints m)
 
 -- ---- what it lists
 

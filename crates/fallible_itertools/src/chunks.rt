@@ -1,12 +1,13 @@
 // The adapter that gives batches of items.
-ghost use Rattle.std.specs.Prelude.{⊤, Option, Result};
+ghost use Rattle.std.specs.Prelude.{◌≡◌, ◌+◌, ⊤, Option, Result};
 ghost use Rattle.fallible_iterator.specs.Contract.{seen_as};
 ghost use Rattle.fallible_iterator.specs.Laws.Contract.{lawful_seen};
-ghost use Rattle.fallible_itertools.specs.Chunks.{Settles, batch_held, chunks_asks, chunks_contract, chunks_parts};
+ghost use Rattle.fallible_itertools.specs.Chunks.{Settles, batch_held, begun, room_left, chunks_asks, chunks_contract, chunks_parts};
+ghost use Rattle.fallible_itertools.specs.Holding.{held_one};
 ghost use Rattle.fallible_itertools.specs.Laws.Chunks.{holds_chunks, lawful_chunks};
 
 use crate::growing::{alone, pushed};
-use crate::holding::{Hold, at_least_one, drive_holding};
+use crate::holding::{Hold, drive_holding};
 use fallible_iterator::adapting::{FirstTurn, Outcome};
 use fallible_iterator::{FallibleIterator, Turn};
 use std::alloc::{AllocError, Global};
@@ -37,7 +38,10 @@ where
     }
 
     fn size_hint(&self) -> (usize, Option<usize>) {
-        at_least_one(self.it.size_hint().0, self.batch.1.is_some())
+        (
+            batches(self.it.size_hint().0, self.batch.0, &self.batch.1),
+            None,
+        )
     }
 
     fn drive<C, R, K: Turn<C, Vec<I::Item>, R>>(
@@ -100,5 +104,26 @@ fn settled<X: Drop, E>(holds: &mut (usize, Option<Vec<X>>), batch: Vec<X>) -> Ou
         Outcome::LeftOut
     } else {
         Outcome::Kept(batch)
+    }
+}
+
+// How many batches so many items make, with the one that is held.
+fn batches<X>(low: usize, n: usize, held: &Option<Vec<X>>) -> usize
+    ensures { result ≡ held_one held.now + begun n (room_left n held.now) low }
+{
+    match held {
+        None => begun_of(low, n, 0),
+        Some(batch) => 1 + begun_of(low, n, n.saturating_sub(batch.len()).max(1)),
+    }
+}
+
+// How many batches so many items begin, of which the first go into that room.
+fn begun_of(low: usize, n: usize, room: usize) -> usize
+    ensures { result ≡ begun n room low }
+{
+    if low <= room {
+        0
+    } else {
+        1 + (low - 1 - room) / n.max(1)
     }
 }

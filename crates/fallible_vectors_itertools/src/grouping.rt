@@ -5,6 +5,7 @@ use fallible_iterator::Answer::{End, Failure, Item};
 use fallible_iterator::{Answer, FallibleIterator, convert};
 use fallible_itertools::FallibleItertools;
 use fallible_testing::answered::expect_answers;
+use fallible_testing::course::{Hint, expect_course};
 use fallible_testing::scripted::Script;
 use fallible_testing::test_error::TestError::{self, Number};
 use std::alloc::Global;
@@ -39,6 +40,19 @@ fn expect_chunks(
     expect_answers(rt, &mut it, expected)
 }
 
+// The hints of batches of two, with a failure while one is held.
+fn expect_hints(rt: &HostRuntime) -> Result<(), Fail> {
+    let answers = [Ok(1), Ok(2), Ok(3), Err(Number(9)), Ok(4), Ok(5)];
+    let source = convert(Vec::from_array(rt.alloc(), answers)?.into_iter());
+    let mut it = source.chunks(rt.alloc(), 2).map(|batch| Ok(digits(batch)));
+    let course: [(Hint, &[Answer<u32, TestError>]); 3] = [
+        ((3, None), &[Item(12)]),
+        ((2, None), &[Failure(Number(9))]),
+        ((2, None), &[Item(34), Item(5), End]),
+    ];
+    expect_course(rt, &mut it, &course)
+}
+
 // How many batches of two the readings make.
 fn pairs(alloc: Global, readings: Vec<Result<u32, TestError>>) -> Result<usize, TestError> {
     convert(readings.into_iter()).chunks(alloc, 2).count()
@@ -63,7 +77,7 @@ fn chunks_batch_items_and_end_with_a_short_one(rt: HostRuntime) -> Result<(), Fa
     expect_chunks(&rt, 2, &script, &answers)?;
     let readings = Vec::from_array(rt.alloc(), [Ok(1), Ok(2), Ok(3), Ok(4), Ok(5)])?;
     assert_eq!(rt; pairs(rt.alloc(), readings), Ok(3));
-    Ok(())
+    expect_hints(&rt)
 }
 
 // Whether an item is odd. It fails with 0.
@@ -101,6 +115,20 @@ fn last_hundreds(
         .last()
 }
 
+// How many batches of n groups of odd and even items there are.
+fn batches_of_groups<I: FallibleIterator<Item = u32, Error = TestError>>(
+    alloc: Global,
+    it: I,
+    n: usize,
+) -> Result<usize, TestError>
+where
+    requires some { 0 < n }
+    requires can_next { I.contract.can_next it }
+    requires finite { I.contract.is_finite it }
+{
+    it.chunk_by(alloc, is_odd).chunks(alloc, n).count()
+}
+
 #[test]
 fn chunk_by_groups_adjacent_items_of_one_key(rt: HostRuntime) -> Result<(), Fail> {
     let script = [
@@ -128,5 +156,8 @@ fn chunk_by_groups_adjacent_items_of_one_key(rt: HostRuntime) -> Result<(), Fail
     expect_groups(&rt, &script, &answers)?;
     let readings = Vec::from_array(rt.alloc(), [Ok(110), Ok(230), Ok(105), Ok(107)])?;
     assert_eq!(rt; last_hundreds(rt.alloc(), readings), Ok(Some((1, 2))));
+    let readings = Vec::from_array(rt.alloc(), [Ok(1), Ok(3), Ok(2), Ok(5)])?;
+    let batches = batches_of_groups(rt.alloc(), convert(readings.into_iter()), 2);
+    assert_eq!(rt; batches, Ok(2));
     Ok(())
 }

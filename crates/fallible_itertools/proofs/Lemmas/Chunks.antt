@@ -1,13 +1,12 @@
 -- What `Chunks` makes of its source's answers.
 use Rattle.std.specs.Prelude.{◌≡◌, ℕ, ◌≤◌, ◌<◌, Bool, true, false, ltb, Option, Some, None, Result, Ok, Err, List, [], ◌∷◌, ◌++◌, length, ⊤, ◌⊎◌, vec_items}
-use Rattle.std.proofs.Common.{refl, sym, ap, subst, arith, inl, inr, ◌∙◌}
+use Rattle.std.proofs.Common.{refl, sym, ap, subst, inl, inr, ◌∙◌}
 use Rattle.std.proofs.lemmas.Bool.{lt-ltb, le-ltb}
 use Rattle.fallible_iterator.specs.Contract.{Contract, seen_as}
 use Rattle.fallible_iterator.specs.Lists.{ListsForGood}
 use Rattle.fallible_contract.proofs.Lemmas.Lists.Passing.{by_outcome}
-use Rattle.fallible_itertools.specs.Chunks.{Settles, batch_held, batch_or, chunked, chunked_from, chunks_asks, chunks_contract, chunks_parts, last_batch}
+use Rattle.fallible_itertools.specs.Chunks.{Settles, batch_or, chunked, chunked_from, chunks_asks, chunks_contract, chunks_parts, last_batch}
 use Rattle.fallible_itertools.specs.Growing.{Grown, ListsMade, held_items}
-use Rattle.fallible_itertools.proofs.Lemmas.HoldingHints.{GivesHeld}
 use Rattle.fallible_itertools.proofs.Lemmas.HoldingLists.{held_list}
 use Rattle.fallible_itertools.proofs.Lemmas.HoldingMade.{Answers, OutcomeMade, Refuses, held_gives_made, lists_made_seen}
 use Rattle.fallible_iterator.specs.Outcome.{Outcome}
@@ -162,15 +161,3 @@ module _ {A E : Type 0} (from : AllocError → E → Type 0) (n : ℕ) where
 
 pub lists_chunked : {S A E : Type 0} (m : Contract S A E) (from : AllocError → E → Type 0) (n : ℕ) (s : Chunks S A E) (l : List (Result A E)) → chunks_parts s ≡ (s.it, (n, None)) → ListsForGood m.steps s.it l → ListsMade (λ xs v. vec_items v ≡ xs) (seen_as chunks_parts (chunks_contract from m)).steps from s (chunked n l)
 lists_chunked m from n s l parts i = lists_made_seen chunks_parts (λ xs v. vec_items v ≡ xs) (chunks_contract from m).steps from s _ _ _ parts (chunked_is from n l) (held_gives_made m.steps (chunks_asks from) (λ xs v. vec_items v ≡ xs) from (At from n) (does n) (next n) (on_item from n) (on_end from n) Full (answers from n) (settles from n) (no_failure from n) (none_left from n) l s.it (n, None) [] (refl, tt) i.runs)
-
--- ---- its hint
-
-module _ {A E : Type 0} (from : AllocError → E → Type 0) where
-  left_held : (p : ℕ × Option (Vec A Global)) (x : A) (q : ℕ × Option (Vec A Global)) → chunks_asks from p (Some x) LeftOut q → 1 ≤ batch_held q
-  left_held p x q w = rw w.3 (omega arith)
-
-  none_held : (p q : ℕ × Option (Vec A Global)) → chunks_asks from p None End q → batch_held p ≡ 0
-  none_held p q w = rw w.0 refl
-
-  pub gives_held : GivesHeld (chunks_asks {A = A} from) batch_held
-  gives_held = record { left_out = left_held; at_end = none_held }

@@ -1,10 +1,6 @@
--- While nothing is held an end comes of an end alone.
-use Rattle.std.specs.Prelude.{⊤}
-use Rattle.fallible_itertools.specs.Chunks.{batch_held, chunks_asks, chunks_parts}
-use Rattle.fallible_itertools.specs.Laws.Chunks.{holds_chunks}
-use Rattle.fallible_itertools.proofs.Lemmas.Chunks.{gives_held}
-use Rattle.fallible_itertools.proofs.Lemmas.HoldingHints.{keeps_one}
+-- The items of the source up to its first end fill the batches up to the first end.
+use Rattle.fallible_itertools.proofs.Lemmas.ChunksHints.{keeps_chunks}
 use Rattle.fallible_itertools.proofs.laws.grouping.law_hints_chunks.Goals as goal
 
 pub returns : goal.returns
-returns g c = let from = g.I.Error.From.from_gives in keeps_one chunks_parts g.I.FallibleIterator.contract (chunks_asks from) (λ p x. ⊤) batch_held (holds_chunks from) (gives_held from)
+returns g c = keeps_chunks g.I.FallibleIterator.contract g.I.Error.From.from_gives
