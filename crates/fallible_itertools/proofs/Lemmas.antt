@@ -1,4 +1,8 @@
 -- The lemmas on each adapter, and on what adapters share.
+pub mod ChunkBy
+pub mod Chunked
+pub mod Chunks
+pub mod ChunksHints
 pub mod Coalesce
 pub mod Copied
 pub mod Dedup
@@ -6,6 +10,7 @@ pub mod DedupByKey
 pub mod Holding
 pub mod HoldingHints
 pub mod HoldingLists
+pub mod HoldingMade
 pub mod MergeBy
 pub mod PeekingTakeWhile
 pub mod Sides

@@ -1,5 +1,5 @@
 -- Adapters that hold what they drew until a later item or an end decides what becomes of it.
-use Rattle.std.specs.Prelude.{◌≡◌, ℕ, ◌+◌, ◌≤◌, ◌<◌, ◌⊎◌, min, ⊤, Option, Some, None, Ok, Err, List, [], ◌∷◌, Result}
+use Rattle.std.specs.Prelude.{◌≡◌, ℕ, ◌+◌, ◌≤◌, ◌<◌, ◌⊎◌, min, ⊤, Option, Some, None, Ok, Err, List, [], ◌∷◌}
 use Rattle.std.specs.Iterator.{count_map}
 use Rattle.fallible_iterator.specs.Traces.{Answered}
 use Rattle.fallible_iterator.specs.Contract.{Contract}

@@ -1,4 +1,6 @@
 -- What follows from the definitions: the lemmas that ghost members cite.
+pub mod ChunkBy
+pub mod Chunks
 pub mod Coalesce
 pub mod Copied
 pub mod Dedup

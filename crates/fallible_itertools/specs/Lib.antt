@@ -1,4 +1,6 @@
 -- What the clauses of `src/` cite, and in `Laws` what follows from it: lemmas that the ghost members cite.
+pub mod ChunkBy
+pub mod Chunks
 pub mod Coalesce
 pub mod ComparedBy
 pub mod Converting
@@ -8,6 +10,7 @@ pub mod Dedup
 pub mod DedupByKey
 pub mod Few
 pub mod FromBack
+pub mod Growing
 pub mod Holding
 pub mod Joined
 pub mod Laws

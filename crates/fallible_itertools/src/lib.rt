@@ -3,6 +3,8 @@
 //! Import the trait [`FallibleItertools`] to have them, and [`DoubleEndedFallibleItertools`] for those from the back.
 #![tactic(auto)]
 
+pub mod chunk_by;
+pub mod chunks;
 pub mod coalesce;
 pub mod compared;
 mod converting;
@@ -12,6 +14,7 @@ pub mod dedup;
 pub mod dedup_by_key;
 pub mod double_ended;
 pub mod few;
+pub mod growing;
 pub mod holding;
 pub mod joined;
 pub mod laws;
@@ -27,6 +30,8 @@ pub mod traits;
 pub mod tuple_windows;
 pub mod zip_longest;
 
+pub use chunk_by::ChunkBy;
+pub use chunks::Chunks;
 pub use coalesce::Coalesce;
 pub use copied::Copied;
 pub use dedup::Dedup;

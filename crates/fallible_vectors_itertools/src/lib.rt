@@ -6,6 +6,8 @@ mod ends;
 #[cfg(test)]
 mod extremes;
 pub mod extremes_called;
+#[cfg(test)]
+mod grouping;
 pub mod holding;
 #[cfg(test)]
 mod holding_rows;

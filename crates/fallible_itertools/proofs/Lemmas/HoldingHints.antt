@@ -1,15 +1,15 @@
 -- The hint of an adapter that holds and is at least one where the source's is, or where one is held.
-use Rattle.std.specs.Prelude.{◌≡◌, ℕ, ◌+◌, ◌≤◌, min, Option, Some, None, Ok, Err, List, [], ◌∷◌, length}
+use Rattle.std.specs.Prelude.{◌≡◌, ℕ, ◌+◌, ◌≤◌, min, Option, Some, None, Ok, List, [], ◌∷◌}
 use Rattle.std.proofs.Common.{refl, sym, ap, subst, arith}
-use Rattle.fallible_iterator.specs.Traces.{Answered, Yields, end}
+use Rattle.fallible_iterator.specs.Traces.{Answered, end}
 use Rattle.fallible_iterator.specs.Contract.{Contract, seen_as}
 use Rattle.fallible_iterator.specs.SoundHints.{BoundsAbove, BoundsBelow, AsSound, KeepsBrackets}
 use Rattle.fallible_iterator.specs.Passing.{passing_step}
-use Rattle.fallible_iterator.specs.Laws.Passing.{Passes, done, end_passes, failure_passes, keeps, refuses, closes, leaves_out, to_passes}
+use Rattle.fallible_iterator.specs.Laws.Passing.{Passes, end_passes, failure_passes, keeps, refuses, closes, leaves_out, to_passes}
 use Rattle.fallible_iterator.proofs.Lemmas.Hints.Drawn.{sound_seen}
 use Rattle.fallible_itertools.specs.Holding.{with_ends, as_answered, HeldAfter, Holds, holding_contract, one_at_least}
 use Rattle.fallible_iterator.specs.Outcome.{Outcome}
-use Rattle.fallible_iterator.specs.Outcome.TheVariants.{Kept, LeftOut, Failure, End}
+use Rattle.fallible_iterator.specs.Outcome.TheVariants.{LeftOut, End}
 
 -- What is left out is held, and while something is held an end isn't answered.
 pub record GivesHeld {P X B E : Type 0} (asks : P → Option X → Outcome B E → P → Type 0) (held : P → ℕ) : Type 0 where

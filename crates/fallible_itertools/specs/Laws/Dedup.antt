@@ -1,5 +1,5 @@
 -- The contract of `Dedup` is lawful where the source's is.
-use Rattle.std.specs.Prelude.{◌≡◌, Bool, true, false, Option, Some, None, ⊤}
+use Rattle.std.specs.Prelude.{Bool, true, false, Option, Some, None, ⊤}
 use Rattle.std.proofs.Common.{arith}
 use Rattle.fallible_iterator.specs.Contract.{Contract, Lawful}
 use Rattle.fallible_itertools.specs.Holding.{Holds, HeldAfter, held_one, one_at_least}

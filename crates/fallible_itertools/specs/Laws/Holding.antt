@@ -1,12 +1,12 @@
 -- The contracts of the adapters that hold are lawful where the source's is.
-use Rattle.std.specs.Prelude.{◌≡◌, ℕ, ◌+◌, ◌≤◌, ◌<◌, Option, Some, None, Ok, Err, List, [], ◌∷◌, map}
+use Rattle.std.specs.Prelude.{ℕ, ◌+◌, ◌<◌, Option, Some, None, Ok, Err, List, [], ◌∷◌, map}
 use Rattle.std.specs.Iterator.{IsFinite, size}
-use Rattle.std.proofs.Common.{refl, subst, arith, inl, inr}
+use Rattle.std.proofs.Common.{subst, arith, inl, inr}
 use Rattle.fallible_iterator.specs.Traces.{Answered, Run}
 use Rattle.fallible_iterator.specs.Contract.{Contract, OnAnswer, NoMore, NoMoreRemains, Fewer, KeptByDraw, KeptByDraws, Lawful}
-use Rattle.fallible_iterator.specs.Closures.{IsCallable, Reaches}
+use Rattle.fallible_iterator.specs.Closures.{Reaches}
 use Rattle.fallible_iterator.specs.Passing.{source_answer}
-use Rattle.fallible_iterator.specs.Laws.Contract.{kept_run, kept_after}
+use Rattle.fallible_iterator.specs.Laws.Contract.{kept_run}
 use Rattle.fallible_iterator.specs.Laws.Closures.{reaches_here, reaches_weaken, reaches_from, callable_after, may_answer_here, may_answer_after}
 use Rattle.fallible_iterator.specs.Laws.Passing.{Passes, done, end_passes, failure_passes, keeps, refuses, closes, leaves_out, to_passes, from_passes}
 use Rattle.fallible_itertools.specs.Holding.{with_ends, as_answered, HeldAfter, Holds, MayBeAsked, holding_contract}
@@ -44,14 +44,16 @@ module _ {S P X B E : Type 0} (m : Contract S X E) (l : Lawful m) (asks : P → 
   abbrev Gives : S → P → List (Answered B E) → S → P → Type 0
   Gives = Passes (with_ends m.steps) asks as_answered
 
-  gives_keep : (s t : S) (f g : P) (trace : List (Answered B E)) → m.can_next s → Gives s f trace t g → KeptByDraws m s t
+  -- what comes keeps of the source what draws do
+  pub gives_keep : (s t : S) (f g : P) (trace : List (Answered B E)) → m.can_next s → Gives s f trace t g → KeptByDraws m s t
   gives_keep s t f g trace c p = let q = from_passes p in kept_run l s _ t c (run_drawn m.steps (map source_answer q.places) s t q.drawn)
 
   -- one time it was asked, before others
   asked_first : (s u : S) (f h g : P) (asked : Option X) (o : Outcome B E) → KeptByDraw m s (Ok asked) u → asks f asked o h → Reaches asks (MayBeAsked m u) h g → Reaches asks (MayBeAsked m s) f g
   asked_first s u f h g asked o a called r = reaches_from asked o (drawn_asked m s u asked a.answer) called (reaches_weaken (asked_before m s u a.may_give) r)
 
-  gives_reach : (s t : S) (f g : P) (trace : List (Answered B E)) → m.can_next s → Gives s f trace t g → Reaches asks (MayBeAsked m s) f g
+  -- what comes brings it where calls on what may come bring it
+  pub gives_reach : (s t : S) (f g : P) (trace : List (Answered B E)) → m.can_next s → Gives s f trace t g → Reaches asks (MayBeAsked m s) f g
   gives_reach s _ f _ _ c done = reaches_here
   gives_reach s t f g _ c (end_passes step p) = absurd step
   gives_reach s t f g _ c (failure_passes {u = u} e step p) = let a = l.kept_by_draw s (Err e) u c step in reaches_weaken (asked_before m s u a.may_give) (gives_reach u t f g _ a.can_next p)

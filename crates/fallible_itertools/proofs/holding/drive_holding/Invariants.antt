@@ -1,9 +1,7 @@
 -- From each turn on the fold may go on, the bound is at most the one counted down, and what a fold from here does, the whole fold does.
-use Rattle.std.proofs.Common.{ℕ}
 use Rattle.std.specs.Prelude.{⊤}
 use Rattle.fallible_iterator.specs.Folds.{CallableDriving, Driven}
-use Rattle.fallible_iterator.specs.Passing.{passing_step}
-use Rattle.fallible_itertools.specs.Holding.{as_answered, holding_contract, with_ends}
+use Rattle.fallible_itertools.specs.Holding.{holding_contract}
 use Rattle.fallible_itertools.proofs.holding.drive_holding.Given as goal
 
 abbrev pub invariant-loop-stop : goal.invariant-loop-stop

@@ -1,0 +1,102 @@
+-- `Chunks`, which gives batches of n items.
+use Rattle.std.specs.Prelude.{◌≡◌, ℕ, ◌+◌, ◌-◌, ◌/◌, ◌<◌, ◌≤◌, max, cond, leb, Bool, true, false, Option, Some, None, Result, Ok, Err, List, [], ◌∷◌, ◌++◌, length, ltb, ⊤, vec_items}
+use Rattle.fallible_iterator.specs.Traces.{Answered}
+use Rattle.fallible_iterator.specs.Contract.{Contract}
+use Rattle.fallible_itertools.specs.Growing.{Grown, NoRoom, SameHeld, IsRefusal}
+use Rattle.fallible_itertools.specs.Holding.{HoldingTrace, holding_contract, held_one}
+use Rattle.fallible_iterator.specs.Outcome.{Outcome}
+use Rattle.fallible_iterator.specs.Outcome.TheVariants.{Kept, LeftOut, Failure, End}
+use Rattle.std.specs.declared.vec.Vec.{Vec}
+use Rattle.std.specs.declared.alloc.Global.{Global}
+use Rattle.std.specs.declared.alloc.AllocError.{AllocError}
+use Rattle.fallible_itertools.specs.declared.chunks.Chunks.{Chunks}
+
+-- the batch is answered, or held where it has fewer items than the size
+abbrev pub Settles : {A E : Type 0} → Vec A Global → ℕ × Option (Vec A Global) → Outcome (Vec A Global) E → ℕ × Option (Vec A Global) → Type 0
+Settles w p (Kept y) q = (y ≡ w) × (p.0 ≤ length (vec_items w)) × (q ≡ p)
+Settles w p LeftOut q = (length (vec_items w) < p.0) × (q ≡ (p.0, Some w))
+Settles w p (Failure e) q = ⊥
+Settles w p End q = ⊥
+
+module _ {A E : Type 0} (from : AllocError → E → Type 0) where
+  -- A batch is held until it has n items or an end comes: an item is put behind those that are held, and the batch that has n then is answered. An end answers the batch that is held. Where memory is refused the item is lost, and the items before it stay held.
+  abbrev pub chunks_asks : ℕ × Option (Vec A Global) → Option A → Outcome (Vec A Global) E → ℕ × Option (Vec A Global) → Type 0
+  chunks_asks p (Some x) (Kept w) q = Grown p.1 x w × (p.0 ≤ length (vec_items w)) × (q ≡ (p.0, None))
+  chunks_asks p (Some x) LeftOut q = (w : Vec A Global) × Grown p.1 x w × (length (vec_items w) < p.0) × (q ≡ (p.0, Some w))
+  chunks_asks p (Some x) (Failure e) q = IsRefusal from e × NoRoom p.1 × (q.0 ≡ p.0) × SameHeld p.1 q.1
+  chunks_asks p (Some x) End q = ⊥
+  chunks_asks p None (Kept w) q = (p.1 ≡ Some w) × (q ≡ (p.0, None))
+  chunks_asks p None LeftOut q = ⊥
+  chunks_asks p None (Failure e) q = ⊥
+  chunks_asks p None End q = (p.1 ≡ None) × (q ≡ p)
+
+  -- `Chunks`: the source's trace with its items in batches, each where its last item stands or an end; failures between the items part nothing.
+  abbrev pub ChunksTrace : {S : Type 0} → (S → Answered A E → S → Type 0) → S × (ℕ × Option (Vec A Global)) → List (Answered (Vec A Global) E) → S × (ℕ × Option (Vec A Global)) → Type 0
+  ChunksTrace steps p trace q = HoldingTrace steps chunks_asks p trace q
+
+-- a batch that is held, or none
+abbrev pub batch_held : {A : Type 0} → ℕ × Option (Vec A Global) → ℕ
+batch_held p = held_one p.1
+
+-- how many items the batch that is held takes yet, of which the next one is in any case one; none where none is held
+abbrev pub room_left : {A : Type 0} → ℕ → Option (Vec A Global) → ℕ
+room_left n None = 0
+room_left n (Some v) = max 1 (n - length (vec_items v))
+
+-- how many batches k items begin, where the first of them go into the room that is left, and from then on one of n begins a batch
+abbrev pub begun : ℕ → ℕ → ℕ → ℕ
+begun n room k = cond (leb k room) 0 (1 + (k - 1 - room) / max n 1)
+
+-- At least the batch that is held and those that the source's items begin. There is no upper bound: behind an end the source may go on.
+abbrev pub chunks_hints : {S A E : Type 0} → Contract S A E → S × (ℕ × Option (Vec A Global)) → ℕ × Option ℕ → Type 0
+chunks_hints m p h = (k : ℕ × Option ℕ) × m.hints p.0 k × (h ≡ (held_one p.1.1 + begun p.1.0 (room_left p.1.0 p.1.1) k.0, None))
+
+-- `Chunks`' contract
+abbrev pub chunks_contract : {S A E : Type 0} → (AllocError → E → Type 0) → Contract S A E → Contract (S × (ℕ × Option (Vec A Global))) (Vec A Global) E
+chunks_contract from m = holding_contract m (chunks_asks from) (λ p x. ⊤) batch_held (chunks_hints m)
+
+-- ---- what it lists
+
+module _ {A E : Type 0} where
+  -- the batch that is left at the end, where it has items
+  abbrev pub last_batch : List A → List (Result (List A) E)
+  last_batch [] = []
+  last_batch (x ∷ xs) = Ok (x ∷ xs) ∷ []
+
+  -- a batch that has too few items yet, or is whole
+  abbrev pub batch_or : List A → Bool → List (Result (List A) E) → List (Result (List A) E) → List (Result (List A) E)
+  batch_or xs true more other = more
+  batch_or xs false more other = Ok xs ∷ other
+
+  -- the batches of n items, where the items xs are held before the list
+  unfoldable pub chunked_from : ℕ → List A → List (Result A E) → List (Result (List A) E)
+  chunked_from n xs [] = last_batch xs
+  chunked_from n xs (Ok x ∷ l) = batch_or (xs ++ x ∷ []) (ltb (length (xs ++ x ∷ [])) n) (chunked_from n (xs ++ x ∷ []) l) (chunked_from n [] l)
+  chunked_from n xs (Err e ∷ l) = Err e ∷ chunked_from n xs l
+
+  -- the items in batches of n, of which the last may have fewer; a failure between the items of a batch parts nothing, and comes before it
+  unfoldable pub chunked : ℕ → List (Result A E) → List (Result (List A) E)
+  chunked n l = chunked_from n [] l
+
+-- the batches joined
+abbrev pub joined : {A : Type 0} → List (List A) → List A
+joined [] = []
+joined (b ∷ bs) = b ++ joined bs
+
+-- Each batch has n items, but the last, which has some and at most n.
+abbrev pub BatchesOf : {A : Type 0} → ℕ → List (List A) → Type 0
+BatchesOf n [] = ⊤
+BatchesOf n (b ∷ []) = (0 < length b) × (length b ≤ n)
+BatchesOf n (b ∷ c ∷ bs) = (length b ≡ n) × BatchesOf n (c ∷ bs)
+
+-- the source
+abbrev pub chunks_source : {I A E : Type 0} → Chunks I A E → I
+chunks_source s = s.it
+
+-- how many items a batch has
+abbrev pub chunks_size : {I A E : Type 0} → Chunks I A E → ℕ
+chunks_size s = s.batch.0
+
+-- the source, and beside the size the batch that is held
+abbrev pub chunks_parts : {I A E : Type 0} → Chunks I A E → I × (ℕ × Option (Vec A Global))
+chunks_parts s = (chunks_source s, s.batch)

@@ -1,0 +1,154 @@
+// The adapter that gives groups of adjacent items of one key.
+ghost use Rattle.std.specs.Prelude.{Option, Result};
+ghost use Rattle.fallible_iterator.specs.Contract.{seen_as};
+ghost use Rattle.fallible_iterator.specs.Laws.Contract.{lawful_seen};
+ghost use Rattle.fallible_itertools.specs.ChunkBy.{chunk_by_asks, chunk_by_contract, chunk_by_parts, group_at_end, group_by, group_held, key_takes};
+ghost use Rattle.fallible_itertools.specs.Laws.ChunkBy.{holds_chunk_by, lawful_chunk_by};
+
+use crate::growing::{alone, pushed};
+use crate::holding::{Hold, at_least_one, drive_holding};
+use fallible_iterator::adapting::{FirstTurn, Outcome};
+use fallible_iterator::{FallibleIterator, Turn};
+use std::alloc::{AllocError, Global};
+
+/// Groups of adjacent items of one key, each with its key. A group is held until an item of another key or an end comes. Where the key's closure fails, or memory for an item is refused, that failure is the answer, and the item is lost and no other.
+#[derive(Clone, Debug, Drop)]
+pub struct ChunkBy<I: FallibleIterator, K, F> {
+    pub(crate) it: I,
+    pub(crate) alloc: Global,
+    // the key's closure, and the group that is held, where there is one
+    pub(crate) group: (F, Option<(K, Vec<I::Item>)>),
+}
+
+impl<
+    I: FallibleIterator,
+    K: PartialEq + Drop,
+    F: FnMut(&I::Item) -> Result<K, I::Error>,
+> FallibleIterator for ChunkBy<I, K, F>
+where
+    I::Item: Drop,
+    I::Error: From<AllocError>,
+{
+    type Item = (K, Vec<I::Item>);
+
+    type Error = I::Error;
+
+    ghost contract = { seen_as chunk_by_parts
+        (chunk_by_contract I.Error.from_gives K.eq F.FnMut I.contract) };
+
+    /// Draws until an item has another key than the group that is held, or a failure or an end comes.
+    fn next(&mut self) -> Result<Option<(K, Vec<I::Item>)>, I::Error> {
+        self.drive(&mut (), &FirstTurn)
+    }
+
+    fn size_hint(&self) -> (usize, Option<usize>) {
+        at_least_one(self.it.size_hint().0, self.group.1.is_some())
+    }
+
+    fn drive<C, R, T: Turn<C, (K, Vec<I::Item>), R>>(
+        &mut self,
+        state: &mut C,
+        turn: &T,
+    ) -> Result<Option<R>, I::Error> {
+        let left = (*self).number();
+        let adapter = ChunkByHold { alloc: self.alloc };
+        drive_holding(&mut self.it, &mut self.group, &adapter, left, state, turn)
+    }
+
+    ghost lawful = { lawful_seen chunk_by_parts
+        (lawful_chunk_by I.Error.from_gives K.eq F.FnMut I.lawful) };
+}
+
+// What becomes of an item behind the group that is held.
+#[derive(Drop)]
+struct ChunkByHold {
+    alloc: Global,
+}
+
+impl<X: Drop, K: PartialEq + Drop, E: From<AllocError>, F: FnMut(&X) -> Result<K, E>> Hold<
+    (F, Option<(K, Vec<X>)>),
+    X,
+    E,
+> for ChunkByHold {
+    type Kept = (K, Vec<X>);
+
+    ghost can_ask = { λ _ p x. key_takes F.FnMut p x };
+
+    ghost asks = { λ _ p x o q. chunk_by_asks E.from_gives K.eq F.FnMut p x o q };
+
+    ghost held = { λ _ p. group_held p };
+
+    fn ask(&self, holds: &mut (F, Option<(K, Vec<X>)>), asked: Option<X>) -> Outcome<(K, Vec<X>), E>
+        requires { key_takes F.FnMut holds.old asked }
+        ensures { chunk_by_asks E.from_gives K.eq F.FnMut holds.old asked result holds.new }
+    {
+        match asked {
+            Some(x) => {
+                let key = (holds.0)(&x);
+                grouped(self.alloc, &mut holds.1, x, key)
+            }
+            None => ended(&mut holds.1),
+        }
+    }
+
+    ghost holds = { λ _. holds_chunk_by E.from_gives K.eq F.FnMut };
+}
+
+// What becomes of an item by its key.
+fn grouped<X: Drop, K: PartialEq + Drop, E: From<AllocError>>(
+    alloc: Global,
+    group: &mut Option<(K, Vec<X>)>,
+    item: X,
+    key: Result<K, E>,
+) -> Outcome<(K, Vec<X>), E>
+    ensures { group_by E.from_gives K.eq group.old item key result group.new }
+{
+    let key = match key {
+        Ok(key) => key,
+        Err(e) => return Outcome::Failure(e),
+    };
+    match group.take() {
+        Some((of, mut items)) => {
+            if of == key {
+                match pushed(&mut items, item) {
+                    Ok(()) => {
+                        *group = Some((of, items));
+                        Outcome::LeftOut
+                    }
+                    Err(refused) => {
+                        *group = Some((of, items));
+                        Outcome::Failure(E::from(refused))
+                    }
+                }
+            } else {
+                match alone(alloc, item) {
+                    Ok(first) => {
+                        *group = Some((key, first));
+                        Outcome::Kept((of, items))
+                    }
+                    Err(refused) => {
+                        *group = Some((of, items));
+                        Outcome::Failure(E::from(refused))
+                    }
+                }
+            }
+        }
+        None => match alone(alloc, item) {
+            Ok(first) => {
+                *group = Some((key, first));
+                Outcome::LeftOut
+            }
+            Err(refused) => Outcome::Failure(E::from(refused)),
+        },
+    }
+}
+
+// What becomes of an end.
+fn ended<X: Drop, K: Drop, E>(group: &mut Option<(K, Vec<X>)>) -> Outcome<(K, Vec<X>), E>
+    ensures { group_at_end group.old result group.new }
+{
+    match group.take() {
+        Some(group) => Outcome::Kept(group),
+        None => Outcome::End,
+    }
+}
