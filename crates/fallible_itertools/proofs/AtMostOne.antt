@@ -6,7 +6,7 @@ use Rattle.fallible_contract.specs.Folds.{Nth, NthExit}
 use Rattle.fallible_contract.specs.Lists.{Lists, rest_nth}
 use Rattle.fallible_contract.proofs.Lemmas.Folds.{drained_last}
 use Rattle.fallible_contract.proofs.Lemmas.Lists.Rest.{rest_nth_is}
-use Rattle.fallible_contract.proofs.Lemmas.Lists.Drawn.{LeftAt, drawn}
+use Rattle.fallible_contract.proofs.Lemmas.Lists.Drawn.{RestAt, drawn}
 use Rattle.fallible_itertools.specs.Few.{AtMostOneExit, AtMostOne, at_most_one_of}
 
 module _ {S A E : Type 0} {steps : S → Answered A E → S → Type 0} {s t : S} where
@@ -21,7 +21,7 @@ module _ {S A E : Type 0} {steps : S → Answered A E → S → Type 0} {s t : S
 -- ---- over a list
 
 module _ {A E : Type 0} where
-  by_list : (items : List A) (last : Answered A E) (r : Result (Result (Option A) (A × A)) E) (rest : List (Result A E)) → LeftAt last rest → AtMostOneExit items last r → r ≡ at_most_one_of (map (λ x. Ok x) items ++ rest)
+  by_list : (items : List A) (last : Answered A E) (r : Result (Result (Option A) (A × A)) E) (rest : List (Result A E)) → RestAt last rest → AtMostOneExit items last r → r ≡ at_most_one_of (map (λ x. Ok x) items ++ rest)
   unfolding at_most_one_of
   by_list [] (Ok None) r rest left exit = exit ∙ sym (ap at_most_one_of left)
   by_list [] (Ok (Some x)) r rest left exit = absurd exit

@@ -9,7 +9,7 @@ use Rattle.fallible_contract.specs.Folds.{goes_on, DriveExit, Driven}
 use Rattle.fallible_contract.specs.Picking.{better}
 use Rattle.fallible_contract.specs.Lists.{Lists, on_value, folded, pick_of, best_by, greatest}
 use Rattle.fallible_contract.proofs.Lemmas.Folds.{drained_map}
-use Rattle.fallible_contract.proofs.Lemmas.Lists.Drawn.{LeftAt, drawn}
+use Rattle.fallible_contract.proofs.Lemmas.Lists.Drawn.{RestAt, drawn}
 use Rattle.fallible_itertools.specs.MinMax.{with_item, or_less, first_least, both_of, minmaxed, MinMaxExit, MinMaxed}
 use Rattle.std.specs.declared.cmp.Ordering.{Ordering}
 use Rattle.std.specs.declared.cmp.Ordering.TheVariants.{Less, Equal, Greater}
@@ -116,7 +116,7 @@ minmaxed_failed cmp [] e rest = refl
 minmaxed_failed {A = A} {E = E} cmp (x ∷ []) e rest = refl
 minmaxed_failed {A = A} {E = E} cmp (x ∷ y ∷ items) e rest = ap (λ (r : Result (Option A) E). on_value r (λ a. on_value (folded (λ (d : E). d) (picks Greater cmp) (Some (better Greater (cmp x y) x y)) (map (λ z. Ok z) items ++ Err e ∷ rest)) (λ b. Ok (both_of a b)))) (folded_failed Less (λ y z. or_less (cmp y z)) items (Some (better Less (or_less (cmp x y)) x y)) e rest)
 
-by_last : {A E : Type 0} (cmp : A → A → Ordering) (items : List A) (last : Answered A E) (r : Result (MinMaxResult A) E) (rest : List (Result A E)) → LeftAt last rest → MinMaxExit cmp items last r → r ≡ minmaxed cmp (map (λ x. Ok x) items ++ rest)
+by_last : {A E : Type 0} (cmp : A → A → Ordering) (items : List A) (last : Answered A E) (r : Result (MinMaxResult A) E) (rest : List (Result A E)) → RestAt last rest → MinMaxExit cmp items last r → r ≡ minmaxed cmp (map (λ x. Ok x) items ++ rest)
 by_last cmp items (Ok None) r rest left exit = exit ∙ sym (ap (minmaxed cmp) (ap (λ (k : List (Result _ _)). map (λ x. Ok x) items ++ k) left ∙ append-nil (map (λ x. Ok x) items)))
 by_last cmp items (Err e) r rest left exit = exit ∙ sym (ap (λ (k : List (Result _ _)). minmaxed cmp (map (λ x. Ok x) items ++ k)) left.1 ∙ minmaxed_failed cmp items e left.0)
 by_last cmp items (Ok (Some x)) r rest left exit = absurd exit

@@ -5,7 +5,7 @@ use Rattle.std.proofs.Common.{refl, sym, ap, subst, ◌∙◌}
 use Rattle.fallible_iterator.specs.Traces.{Answered}
 use Rattle.fallible_iterator.specs.Lists.{Lists, Acts, on_value}
 use Rattle.fallible_iterator.specs.Searching.{WentOn, SearchExit, Searched, Decided, all_pick}
-use Rattle.fallible_contract.proofs.Lemmas.Lists.Drawn.{LeftAt, drawn}
+use Rattle.fallible_contract.proofs.Lemmas.Lists.Drawn.{RestAt, drawn}
 use Rattle.fallible_itertools.specs.Sorting.{comes_after, OrderCall, while_in_order, sorted_after, sorted_by_key}
 use Rattle.std.specs.declared.cmp.Ordering.{Ordering}
 
@@ -41,7 +41,7 @@ module _ {A E K F : Type 0} (order : K → K → Option Ordering) (call : F → 
   sorted_item n last x (Ok z) q l d = let s = stops_false n x d.0 z d.2 in let c = d.1 in ap (λ (b : Bool). Ok b) s.1 ∙ sym (at_key last x c.0 q.1 d.0 l c.1 c.3 ∙ ap (λ b. while_in_order b (sorted_after order h (Some c.0) l)) s.0)
   sorted_item n last x (Err e) q l d = ap (λ (w : Result K E). on_value w (λ k. while_in_order (comes_after order last k) (sorted_after order h (Some k) l))) (acts x (Err e) q.1 d).1
 
-  sorted_left : (ended : Answered A E) (n : ℕ) (last : Option K) (r : Result Bool E) (q : Option K × F) (rest : List (Result A E)) → SearchExit (OrderCall order call) all_pick true n (last, f) ended r q → LeftAt ended rest → r ≡ sorted_after order h last rest
+  sorted_left : (ended : Answered A E) (n : ℕ) (last : Option K) (r : Result Bool E) (q : Option K × F) (rest : List (Result A E)) → SearchExit (OrderCall order call) all_pick true n (last, f) ended r q → RestAt ended rest → r ≡ sorted_after order h last rest
   unfolding sorted_after
   sorted_left (Ok None) n last r q rest exit left = exit.0 ∙ sym (ap (sorted_after order h last) left)
   sorted_left (Err e) n last r q rest exit left = exit.0 ∙ sym (ap (sorted_after order h last) left.1)

@@ -6,7 +6,7 @@ use Rattle.fallible_contract.specs.Traces.{Answered, Run, item}
 use Rattle.fallible_contract.specs.Folds.{goes_on}
 use Rattle.fallible_contract.specs.Comparing.{where_drawn, read_as, equal_where}
 use Rattle.fallible_contract.specs.Lists.{AlwaysGives, Lists, ActsWith, on_value, unless_equal}
-use Rattle.fallible_contract.proofs.Lemmas.Lists.Drawn.{LeftAt, left_at}
+use Rattle.fallible_contract.proofs.Lemmas.Lists.Drawn.{RestAt, rest_at}
 use Rattle.fallible_itertools.specs.ComparedBy.{IsCmpTurn, IsEqTurn, CallableInRounds, LastTurnRound, ComparedBy, ComparedByWith, compared_by}
 use Rattle.std.specs.declared.cmp.Ordering.{Ordering}
 use Rattle.std.specs.declared.cmp.Ordering.TheVariants.{Less, Equal, Greater}
@@ -61,9 +61,9 @@ decided_by (Ok (Some Greater)) rest other = refl
 module _ {A B E C : Type 0} (turns : C → A × B → ControlFlow (Result (Option Ordering) E) (Unit {0}) → C → Type 0) (h : A → B → Result (Option Ordering) E) (c : C) (acts : TurnsAs turns h c) where
   abbrev RightLeft : Option (Answered B E) → List (Result B E) → Type 0
   RightLeft None b = b ≡ b
-  RightLeft (Some y) b = LeftAt y b
+  RightLeft (Some y) b = RestAt y b
 
-  by_last : (x : Answered A E) (y : Option (Answered B E)) (r : Result (Option Ordering) E) (a : List (Result A E)) (b : List (Result B E)) → LeftAt x a → RightLeft y b → LastTurnRound turns c x y r → r ≡ compared_by h a b
+  by_last : (x : Answered A E) (y : Option (Answered B E)) (r : Result (Option Ordering) E) (a : List (Result A E)) (b : List (Result B E)) → RestAt x a → RightLeft y b → LastTurnRound turns c x y r → r ≡ compared_by h a b
   unfolding compared_by
   by_last (Err e) None r a b p q exit = exit ∙ sym (ap (λ l. compared_by h l b) p.1)
   by_last (Err e) (Some y) r a b p q exit = absurd exit
@@ -79,12 +79,12 @@ module _ {A B E C : Type 0} (turns : C → A × B → ControlFlow (Result (Optio
 
   right_left : {T : Type 0} (right-steps : T → Answered B E → T → Type 0) (y : Option (Answered B E)) (b : List (Result B E)) (t v : T) → AlwaysGives right-steps t b → Run right-steps t (where_drawn y) v → RightLeft y b
   right_left right-steps None b t v gives ran = refl
-  right_left right-steps (Some y) b t v gives ran = left_at right-steps y b t ran.0 gives ran.1
+  right_left right-steps (Some y) b t v gives ran = rest_at right-steps y b t ran.0 gives ran.1
 
   module _ {S T : Type 0} (left-steps : S → Answered A E → S → Type 0) (right-steps : T → Answered B E → T → Type 0) where
     by_rounds : (pairs : List (A × B)) (x : Answered A E) (y : Option (Answered B E)) (r : Result (Option Ordering) E) (a : List (Result A E)) (b : List (Result B E)) (s u : S) (t v : T) (d : C) → FoldsTo (goes_on turns) c pairs d → AlwaysGives left-steps s a → AlwaysGives right-steps t b → Run left-steps s (map item (map (λ p. p.0) pairs) ++ x ∷ []) u → Run right-steps t (map item (map (λ p. p.1) pairs) ++ where_drawn y) v → LastTurnRound turns d x y r → r ≡ compared_by h a b
     unfolding compared_by
-    by_rounds [] x y r a b s u t v d went gives given ran run exit = by_last x y r a b (left_at left-steps x a s ran.0 gives ran.1) (right_left right-steps y b t v given run) (subst (λ (k : C). LastTurnRound turns k x y r) (sym went) exit)
+    by_rounds [] x y r a b s u t v d went gives given ran run exit = by_last x y r a b (rest_at left-steps x a s ran.0 gives ran.1) (right_left right-steps y b t v given run) (subst (λ (k : C). LastTurnRound turns k x y r) (sym went) exit)
     by_rounds (p ∷ pairs) x y r a b s u t v d went gives given ran run exit =
         let i = gives_item left-steps a s ran.0 p.0 gives ran.1 in
         let j = gives_item right-steps b t run.0 p.1 given run.1 in

@@ -39,10 +39,10 @@ module _ {A X : Type 0} (output : A → Option (List ℕ)) (separator : List ℕ
 
   module _ {S E : Type 0} {steps : S → Answered A E → S → Type 0} {s t : S} {c d : Bool × String X} (is_empty : Written [] c) where
     pub joined_all : Driven steps (IsJoinTurn output separator) s c (Ok None) t d → CollectsAll steps (JoinedAs output separator) s d.1
-    joined_all w = let h = gathered_all Written (IsJoinTurn output separator) written_more steps is_empty d w in record { items = h.items; left = h.left; ran = h.ran; is_made = h.is_made.1 }
+    joined_all w = let h = gathered_all Written (IsJoinTurn output separator) written_more steps is_empty d w in record { items = h.items; after = h.after; ran = h.ran; is_made = h.is_made.1 }
 
     pub join_failed : {e : E} → Driven steps (IsJoinTurn output separator) s c (Err e) t d → FailsWith {C = String X} steps (JoinedAs output separator) s e
-    join_failed {e = e} w = let h = gathered_failed Written (IsJoinTurn output separator) written_more steps is_empty d e w in record { items = h.items; collection = h.collection.1; left = h.left; ran = h.ran; is_made = h.is_made.1 }
+    join_failed {e = e} w = let h = gathered_failed Written (IsJoinTurn output separator) written_more steps is_empty d e w in record { items = h.items; collection = h.collection.1; after = h.after; ran = h.ran; is_made = h.is_made.1 }
 
     pub join_refused : {a : AllocError} → Driven steps (IsJoinTurn output separator) s c (Ok (Some a)) t d → RefusesItem {C = String X} steps (JoinedAs output separator) (λ _ _. Unit {0}) s
-    join_refused {a = a} w = let h = gathered_stopped Written (IsJoinTurn output separator) written_more steps is_empty d a (λ _ _. Unit {0}) (λ c x d p. tt) w in record { items = h.items; refused = h.refused; collection = h.collection.1; left = h.left; ran = h.ran; is_made = h.is_made.1; refuses_it = tt }
+    join_refused {a = a} w = let h = gathered_stopped Written (IsJoinTurn output separator) written_more steps is_empty d a (λ _ _. Unit {0}) (λ c x d p. tt) w in record { items = h.items; refused = h.refused; collection = h.collection.1; after = h.after; ran = h.ran; is_made = h.is_made.1; refuses_it = tt }

@@ -6,7 +6,7 @@ use Rattle.fallible_iterator.specs.Traces.{Answered}
 use Rattle.fallible_iterator.specs.Folds.{DriveExit, Driven}
 use Rattle.fallible_iterator.specs.Lists.{Lists}
 use Rattle.fallible_contract.proofs.Lemmas.Folds.{drained_map}
-use Rattle.fallible_contract.proofs.Lemmas.Lists.Drawn.{LeftAt, drawn}
+use Rattle.fallible_contract.proofs.Lemmas.Lists.Drawn.{RestAt, drawn}
 use Rattle.fallible_itertools.specs.Totals.{Grows, IsTotalTurn, TotalExit, Totalled, total_by, on_total, totalled}
 
 module _ {N E : Type 0} (op : N → N → Option N) where
@@ -24,7 +24,7 @@ module _ {N E : Type 0} (op : N → N → Option N) where
   totalled_front [] rest t u e = ap (λ (k : N). totalled op k rest) e
   totalled_front (x ∷ items) rest t u w = ap (λ (o : Option N). on_total o (λ v. totalled op v (map (λ x. Ok x) items ++ rest))) w.1 ∙ totalled_front items rest w.0 u w.2
 
-  totalled_left : (last : Answered N E) (t : N) (r : Result (Option N) E) (rest : List (Result N E)) → TotalExit op t last r → LeftAt last rest → r ≡ totalled op t rest
+  totalled_left : (last : Answered N E) (t : N) (r : Result (Option N) E) (rest : List (Result N E)) → TotalExit op t last r → RestAt last rest → r ≡ totalled op t rest
   unfolding totalled
   totalled_left (Ok None) t r rest exit left = exit ∙ sym (ap (totalled op t) left)
   totalled_left (Ok (Some x)) t r rest exit left = exit.1 ∙ ap (λ (o : Option N). on_total o (λ v. totalled op v left.0)) (sym exit.0) ∙ sym (ap (totalled op t) left.1)
