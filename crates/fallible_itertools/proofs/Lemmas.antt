@@ -1,6 +1,7 @@
 -- Why the functions of `src/` do what their clauses say.
 pub mod ChunkBy
 pub mod Chunked
+pub mod ChunkedBy
 pub mod Chunks
 pub mod ChunksHints
 pub mod Dedup

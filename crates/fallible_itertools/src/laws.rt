@@ -2,5 +2,7 @@
 mod grouping;
 mod holding;
 
-pub use grouping::{law_chunk_by, law_chunked, law_chunks, law_hints_chunk_by, law_hints_chunks};
+pub use grouping::{
+    law_chunk_by, law_chunked, law_chunked_by, law_chunks, law_hints_chunk_by, law_hints_chunks,
+};
 pub use holding::{law_dedup, law_hints_dedup};
