@@ -1,6 +1,7 @@
 -- The lemmas on each adapter, and on what adapters share.
 pub mod ChunkBy
 pub mod Chunked
+pub mod ChunkedBy
 pub mod Chunks
 pub mod ChunksHints
 pub mod Coalesce

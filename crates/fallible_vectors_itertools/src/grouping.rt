@@ -115,18 +115,21 @@ fn last_hundreds(
         .last()
 }
 
-// How many batches of n groups of odd and even items there are.
-fn batches_of_groups<I: FallibleIterator<Item = u32, Error = TestError>>(
+// How many groups of odd and even items the last batch of n groups has.
+fn last_batch_of_groups<I: FallibleIterator<Item = u32, Error = TestError>>(
     alloc: Global,
     it: I,
     n: usize,
-) -> Result<usize, TestError>
+) -> Result<Option<usize>, TestError>
 where
     requires some { 0 < n }
     requires can_next { I.contract.can_next it }
     requires finite { I.contract.is_finite it }
 {
-    it.chunk_by(alloc, is_odd).chunks(alloc, n).count()
+    it.chunk_by(alloc, is_odd)
+        .chunks(alloc, n)
+        .map(|batch| Ok(batch.len()))
+        .last()
 }
 
 #[test]
@@ -157,7 +160,7 @@ fn chunk_by_groups_adjacent_items_of_one_key(rt: HostRuntime) -> Result<(), Fail
     let readings = Vec::from_array(rt.alloc(), [Ok(110), Ok(230), Ok(105), Ok(107)])?;
     assert_eq!(rt; last_hundreds(rt.alloc(), readings), Ok(Some((1, 2))));
     let readings = Vec::from_array(rt.alloc(), [Ok(1), Ok(3), Ok(2), Ok(5)])?;
-    let batches = batches_of_groups(rt.alloc(), convert(readings.into_iter()), 2);
-    assert_eq!(rt; batches, Ok(2));
+    let last = last_batch_of_groups(rt.alloc(), convert(readings.into_iter()), 2);
+    assert_eq!(rt; last, Ok(Some(1)));
     Ok(())
 }

@@ -1,9 +1,9 @@
 // Of the adapters that give groups of items.
-ghost use Rattle.std.specs.Prelude.{◌≡◌, ℕ, ◌<◌, List, Result};
+ghost use Rattle.std.specs.Prelude.{◌≡◌, ℕ, ◌<◌, List, Ok, Result, map};
 ghost use Rattle.fallible_iterator.specs.BothEnds.{items_listed, failures_listed};
 ghost use Rattle.fallible_iterator.specs.LawForm.{TracesAre};
 ghost use Rattle.fallible_iterator.specs.SoundHints.{KeepsBrackets};
-ghost use Rattle.fallible_itertools.specs.ChunkBy.{ChunkByTrace, chunk_by_parts, chunk_by_source};
+ghost use Rattle.fallible_itertools.specs.ChunkBy.{ChunkByTrace, chunk_by_parts, chunk_by_source, chunked_by};
 ghost use Rattle.fallible_itertools.specs.Chunks.{BatchesOf, ChunksTrace, chunked, chunks_parts, chunks_source, joined};
 
 use crate::chunk_by::ChunkBy;
@@ -48,6 +48,13 @@ where
     I::Error: From<AllocError>,
     ensures { TracesAre chunk_by_parts ⟦<ChunkBy<I, K, F> as FallibleIterator>⟧.contract.steps
         (ChunkByTrace I.Error.from_gives K.eq F.FnMut I.contract.steps) }
+{}
+
+/// The groups of a list joined are its items, where each item has a key.
+pub fn law_chunked_by<T, K: PartialEq, E>()
+    ensures { (key : T → K) → (l : List (Result T E))
+        → joined (map (λ g. g.1) (items_listed (chunked_by K.eq (λ x. Ok (key x)) l)))
+        ≡ items_listed l }
 {}
 
 /// Each hint of `ChunkBy` is as sound as the hint of its source that it is made of.
