@@ -3,4 +3,5 @@ pub mod Coalesce
 pub mod Dedup
 pub mod DedupByKey
 pub mod Holding
+pub mod Intersperse
 pub mod TupleWindows

@@ -3,5 +3,6 @@ pub mod Coalesce
 pub mod Dedup
 pub mod DedupByKey
 pub mod Holding
+pub mod Intersperse
 pub mod Laws
 pub mod TupleWindows
