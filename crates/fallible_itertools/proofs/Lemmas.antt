@@ -5,5 +5,8 @@ pub mod DedupByKey
 pub mod Holding
 pub mod HoldingHints
 pub mod HoldingLists
+pub mod Intersperse
+pub mod IntersperseHints
+pub mod IntersperseTraces
 pub mod TupleWindows
 pub mod WindowHints

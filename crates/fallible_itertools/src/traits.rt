@@ -1,5 +1,5 @@
 //! The traits that every fallible iterator has besides.
-ghost use Rattle.std.specs.Prelude.{◌≡◌, List, None, Result};
+ghost use Rattle.std.specs.Prelude.{◌≡◌, List, None, Result, false};
 ghost use Rattle.fallible_iterator.specs.Contract.{seen_as};
 ghost use Rattle.fallible_iterator.specs.Lists.{Acts, ActsWith, Lists, ListsForGood};
 ghost use Rattle.fallible_iterator.specs.Closures.{IsCallable, call_at, takes_at};
@@ -8,11 +8,13 @@ ghost use Rattle.fallible_itertools.specs.Coalesce.{coalesce_asks, coalesce_cont
 ghost use Rattle.fallible_itertools.specs.Dedup.{dedup_contract, dedup_parts, deduped};
 ghost use Rattle.fallible_itertools.specs.DedupByKey.{dedup_by_key_contract, dedup_by_key_parts, dedup_key_asks, dedup_key_takes, deduped_by_key};
 ghost use Rattle.fallible_itertools.specs.Holding.{MayBeAsked};
+ghost use Rattle.fallible_itertools.specs.Intersperse.{intersperse_contract, intersperse_parts, interspersed};
 ghost use Rattle.fallible_itertools.specs.TupleWindows.{tuple_windows_contract, tuple_windows_parts, windowed};
 
 use crate::coalesce::Coalesce;
 use crate::dedup::Dedup;
 use crate::dedup_by_key::DedupByKey;
+use crate::intersperse::Intersperse;
 use crate::tuple_windows::TupleWindows;
 use fallible_iterator::FallibleIterator;
 use std::alloc::AllocError;
@@ -145,6 +147,37 @@ pub trait FallibleItertools: FallibleIterator {
         TupleWindows {
             it: self,
             held: None,
+        }
+    }
+
+    /// Gives the items with a clone of the separator between each two adjacent ones.
+    ///
+    /// Making it draws nothing. Where an item is held, one call gives it and draws nothing; else one call draws one answer. A later item than the first is held, and a clone of the separator is the answer before it. It fails as the source does. Where a clone is refused, the failure made of the refusal is the answer, and the item is held too, so none is lost. A failure or an end between two items parts nothing: the next item is a later one still.
+    ///
+    /// A fold draws one answer at a time.
+    ///
+    /// Asks nothing. Each draw asks that the source may be drawn from.
+    ///
+    /// ```
+    /// convert(readings.into_iter()).intersperse(0).count()
+    /// ```
+    final fn intersperse(self, separator: Self::Item) -> Intersperse<Self>
+    where
+        Self::Item: Clone + Drop,
+        Self::Error: From<AllocError>,
+        ensures parts { intersperse_parts result ≡ (self, (separator, (false, None))) }
+        ensures lists { (l : List (Result Self.Item Self.Error))
+            → Lists Self.contract.steps self l
+            → ((copy : Self.Item) → Self.Item.is_clone separator copy → copy ≡ separator)
+            → Self.Item.is_infallible separator
+            → Lists (seen_as intersperse_parts (intersperse_contract Self.Item.is_clone
+            Self.Item.is_infallible Self.Error.from_gives Self.contract)).steps result
+            (interspersed separator l) }
+    {
+        Intersperse {
+            it: self,
+            separator,
+            placing: (false, None),
         }
     }
 }
