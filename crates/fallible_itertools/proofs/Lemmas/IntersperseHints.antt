@@ -9,6 +9,10 @@ use Rattle.fallible_itertools.specs.Holding.{held_one}
 use Rattle.fallible_itertools.specs.Intersperse.{Separates, PlacedAs, intersperse_step, intersperse_contract, unparted, interspersed_items, interspersed_high, fitting}
 use Rattle.std.specs.declared.alloc.AllocError.{AllocError}
 
+one_unparted : (started : Bool) → unparted started ≤ 1
+one_unparted true = omega arith
+one_unparted false = omega arith
+
 -- more items come of more
 items_more : {A : Type 0} (k : Bool × Option A) (i j : ℕ) → i ≤ j → interspersed_items k i ≤ interspersed_items k j
 items_more k i j le = omega (arith, le)
@@ -47,7 +51,7 @@ module _ {A E : Type 0} (is_clone : A → A → Type 0) (is_infallible : A → T
     item_then : (n : ℕ) (p u q : State) (x : A) → Step p (item x) u → Taken n u q → Taken (n + 1) p q
     item_then n (s, (z, (started, Some y))) (u, (v, j)) q x step rest = let at = step.3 in (rest.0, subst (λ (w : S). Yields steps w rest.0 q.0) step.1 rest.1, (let many = subst (λ (i : Bool × Option A). n + held_one q.1.1.1 ≡ interspersed_items i (length rest.0)) at rest.2 in omega (arith, many)), (let left = subst (λ (i : Bool × Option A). unparted q.1.1.0 ≡ unparted i.0 - length rest.0) at rest.3 in left))
     item_then n (s, (z, (started, None))) (u, (v, j)) q x step rest = let d = step.1 in let k = placed_takes s u z started d.0 (item x) x j d.1 d.2 refl in
-        (k.0 ∷ rest.0, (u, subst (λ (a : Answered A E). steps s a u) k.1 d.1, rest.1), (let many = rest.2 in let one = k.2 in let none = k.3 in omega (arith, many, one, none)), (let left = rest.3 in let none = k.3 in omega (arith, left, none)))
+        (k.0 ∷ rest.0, (u, subst (λ (a : Answered A E). steps s a u) k.1 d.1, rest.1), (let many = rest.2 in let one = k.2 in let none = k.3 in let few = one_unparted started in omega (arith, many, one, none, few)), (let left = rest.3 in let none = k.3 in let few = one_unparted started in omega (arith, left, none, few)))
 
     run_takes : (xs : List A) (p q : State) → Yields Step p xs q → Taken (length xs) p q
     run_takes [] p q ran = subst (λ (u : State). Taken 0 p u) ran ([], refl, omega arith, omega arith)

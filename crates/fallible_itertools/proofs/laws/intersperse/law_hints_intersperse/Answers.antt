@@ -4,4 +4,4 @@ use Rattle.fallible_itertools.proofs.Lemmas.IntersperseHints.{keeps_interspersed
 use Rattle.fallible_itertools.proofs.laws.intersperse.law_hints_intersperse.Goals as goal
 
 pub returns : goal.returns
-returns g c s = keeps_interspersed _ _ _ intersperse_parts g.I.FallibleIterator.contract s
+returns g c s = keeps_interspersed g.I.Item.Clone.is_clone g.I.Item.Clone.is_infallible g.I.Error.From.from_gives intersperse_parts g.I.FallibleIterator.contract s
