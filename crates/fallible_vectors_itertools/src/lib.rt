@@ -4,3 +4,6 @@
 pub mod holding;
 #[cfg(test)]
 mod holding_rows;
+pub mod interspersing;
+#[cfg(test)]
+mod interspersing_rows;
