@@ -12,6 +12,9 @@ pub mod Holding
 pub mod HoldingHints
 pub mod HoldingLists
 pub mod HoldingMade
+pub mod Intersperse
+pub mod IntersperseHints
+pub mod IntersperseTraces
 pub mod MergeBy
 pub mod PeekingTakeWhile
 pub mod Sides

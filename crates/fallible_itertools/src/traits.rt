@@ -24,6 +24,7 @@ ghost use Rattle.fallible_itertools.specs.DedupByKey.{dedup_by_key_contract, ded
 ghost use Rattle.fallible_itertools.specs.Few.{AtMostOne, at_most_one_of, wanting_one};
 ghost use Rattle.fallible_itertools.specs.Growing.{ListsMade};
 ghost use Rattle.fallible_itertools.specs.Holding.{MayBeAsked};
+ghost use Rattle.fallible_itertools.specs.Intersperse.{intersperse_contract, intersperse_parts, interspersed};
 ghost use Rattle.fallible_itertools.specs.Joined.{JoinedAs};
 ghost use Rattle.fallible_itertools.specs.MergeBy.{call_on_two, merge_by_closure, merge_by_contract, merge_by_left, merge_by_left_held, merge_by_parts, merge_by_right, merge_by_right_held, merged};
 ghost use Rattle.fallible_itertools.specs.MinMax.{MinMaxed, minmaxed};
@@ -40,13 +41,14 @@ ghost use Rattle.fallible_itertools.specs.declared.stopping.FoldWhile.TheVariant
 use crate::chunk_by::ChunkBy;
 use crate::chunks::Chunks;
 use crate::coalesce::Coalesce;
-use crate::compared::{CmpTurn, EqTurn, compare_by};
+use crate::compared::{CmpTurn, compare_by, EqTurn};
 use crate::converting::converted;
 use crate::copied::Copied;
 use crate::counted::Tally;
 use crate::dedup::Dedup;
 use crate::dedup_by_key::DedupByKey;
 use crate::few::NotOne;
+use crate::intersperse::Intersperse;
 use crate::joined::JoinTurn;
 use crate::merge_by::MergeBy;
 use crate::minmax::{MinMaxResult, MinMaxTurn};
@@ -57,11 +59,9 @@ use crate::take_while_inclusive::TakeWhileInclusive;
 use crate::totals::{CheckedTotal, ProductTurn, SumTurn, total_or_none};
 use crate::tuple_windows::TupleWindows;
 use crate::zip_longest::ZipLongest;
-use fallible_iterator::consuming::{ReadEq, Reading, ordered};
-use fallible_iterator::searching::{
-    FindTest, FindTurn, ForEachTurn, PositionTurn, answer_or, answer_or_none, found,
-};
 use fallible_iterator::{FallibleIterator, Fault, IntoFallibleIterator};
+use fallible_iterator::consuming::{ordered, ReadEq, Reading};
+use fallible_iterator::searching::{answer_or, answer_or_none, FindTest, FindTurn, ForEachTurn, found, PositionTurn};
 use std::alloc::{AllocError, Global};
 use std::cmp::Ordering;
 use std::collections::HashMap;
@@ -876,6 +876,37 @@ pub trait FallibleItertools: FallibleIterator {
             it: self,
             alloc,
             group: (key, None),
+        }
+    }
+
+    /// Gives the items with a clone of the separator between each two adjacent ones.
+    ///
+    /// Making it draws nothing. Where an item is held, one call gives it and draws nothing; else one call draws one answer. A later item than the first is held, and a clone of the separator is the answer before it. It fails as the source does. Where a clone is refused, the failure made of the refusal is the answer, and the item is held too, so none is lost. A failure or an end between two items parts nothing: the next item is a later one still.
+    ///
+    /// A fold draws one answer at a time.
+    ///
+    /// Asks nothing. Each draw asks that the source may be drawn from.
+    ///
+    /// ```
+    /// convert(readings.into_iter()).intersperse(0).count()
+    /// ```
+    final fn intersperse(self, separator: Self::Item) -> Intersperse<Self>
+    where
+        Self::Item: Clone + Drop,
+        Self::Error: From<AllocError>,
+        ensures parts { intersperse_parts result ≡ (self, (separator, (false, None))) }
+        ensures lists { (l : List (Result Self.Item Self.Error))
+            → Lists Self.contract.steps self l
+            → ((copy : Self.Item) → Self.Item.is_clone separator copy → copy ≡ separator)
+            → Self.Item.is_infallible separator
+            → Lists (seen_as intersperse_parts (intersperse_contract Self.Item.is_clone
+            Self.Item.is_infallible Self.Error.from_gives Self.contract)).steps result
+            (interspersed separator l) }
+    {
+        Intersperse {
+            it: self,
+            separator,
+            placing: (false, None),
         }
     }
 }

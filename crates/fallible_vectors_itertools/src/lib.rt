@@ -11,6 +11,9 @@ mod grouping;
 pub mod holding;
 #[cfg(test)]
 mod holding_rows;
+pub mod interspersing;
+#[cfg(test)]
+mod interspersing_rows;
 pub mod joining;
 #[cfg(test)]
 mod joining_rows;
