@@ -1,6 +1,5 @@
 //! What a trace of each adapter is, and that hints are sound, as functions whose body is empty or calls other laws.
 
-
 mod copied;
 mod grouping;
 mod holding;
@@ -10,14 +9,21 @@ mod peeking_take_while;
 mod take_while_inclusive;
 mod zip_longest;
 
-pub use copied::{law_back_copied, law_copied, law_hints_back_copied, law_hints_copied, law_hints_listed_copied, law_listed_copied};
-pub use grouping::{law_chunk_by, law_chunked, law_chunked_by, law_chunks, law_hints_chunk_by, law_hints_chunks};
-pub use holding::{law_coalesce, law_dedup, law_dedup_by_key, law_hints_coalesce, law_hints_dedup, law_hints_dedup_by_key, law_hints_tuple_windows, law_tuple_windows};
+pub use copied::{
+    law_back_copied, law_copied, law_hints_back_copied, law_hints_copied, law_hints_listed_copied,
+    law_listed_copied,
+};
+pub use grouping::{
+    law_chunk_by, law_chunked, law_chunked_by, law_chunks, law_hints_chunk_by, law_hints_chunks,
+};
+pub use holding::{
+    law_coalesce, law_dedup, law_dedup_by_key, law_hints_coalesce, law_hints_dedup,
+    law_hints_dedup_by_key, law_hints_tuple_windows, law_tuple_windows,
+};
 pub use intersperse::{law_hints_intersperse, law_intersperse};
 pub use merge_by::{law_hints_merge_by, law_merge_by};
-pub use peeking_take_while::{law_hints_peeking_take_while, law_peeking_take_while, law_rest_peeking_take_while};
+pub use peeking_take_while::{
+    law_hints_peeking_take_while, law_peeking_take_while, law_rest_peeking_take_while,
+};
 pub use take_while_inclusive::{law_hints_take_while_inclusive, law_take_while_inclusive};
 pub use zip_longest::{law_hints_zip_longest, law_zip_longest};
-
-
-

@@ -41,7 +41,7 @@ ghost use Rattle.fallible_itertools.specs.declared.stopping.FoldWhile.TheVariant
 use crate::chunk_by::ChunkBy;
 use crate::chunks::Chunks;
 use crate::coalesce::Coalesce;
-use crate::compared::{CmpTurn, compare_by, EqTurn};
+use crate::compared::{CmpTurn, EqTurn, compare_by};
 use crate::converting::converted;
 use crate::copied::Copied;
 use crate::counted::Tally;
@@ -59,9 +59,11 @@ use crate::take_while_inclusive::TakeWhileInclusive;
 use crate::totals::{CheckedTotal, ProductTurn, SumTurn, total_or_none};
 use crate::tuple_windows::TupleWindows;
 use crate::zip_longest::ZipLongest;
+use fallible_iterator::consuming::{ReadEq, Reading, ordered};
+use fallible_iterator::searching::{
+    FindTest, FindTurn, ForEachTurn, PositionTurn, answer_or, answer_or_none, found,
+};
 use fallible_iterator::{FallibleIterator, Fault, IntoFallibleIterator};
-use fallible_iterator::consuming::{ordered, ReadEq, Reading};
-use fallible_iterator::searching::{answer_or, answer_or_none, FindTest, FindTurn, ForEachTurn, found, PositionTurn};
 use std::alloc::{AllocError, Global};
 use std::cmp::Ordering;
 use std::collections::HashMap;
