@@ -111,4 +111,4 @@ module _ {S A E C H : Type 0} {m : Contract S A E} (law : Lawful m) {s : S} (can
   pub not_counted : (fault : Fault E) → Collects m.steps Tallied ⊥ (λ c x. refuses (counts c) x) s (Err fault) → Collects m.steps (IsCountsOf eq) ⊥ refuses s (Err fault)
   not_counted (Source e) h = record { items = h.items; collection = counts h.collection; after = h.after; ran = h.ran; is_made = exact h.items h.collection (few h.items (Err e ∷ []) h.after h.ran) h.is_made }
   not_counted (Memory a) (inl never) = inl never
-  not_counted (Memory a) (inr h) = inr (record { items = h.items; refused = h.refused; collection = counts h.collection; after = h.after; ran = h.ran; is_made = exact h.items h.collection (few h.items (item h.refused ∷ []) h.left h.ran) h.is_made; refuses_it = h.refuses_it })
+  not_counted (Memory a) (inr h) = inr (record { items = h.items; refused = h.refused; collection = counts h.collection; after = h.after; ran = h.ran; is_made = exact h.items h.collection (few h.items (item h.refused ∷ []) h.after h.ran) h.is_made; refuses_it = h.refuses_it })
