@@ -6,6 +6,7 @@ pub mod Holding
 pub mod HoldingHints
 pub mod HoldingLists
 pub mod Intersperse
+pub mod IntersperseFolds
 pub mod IntersperseHints
 pub mod IntersperseTraces
 pub mod TupleWindows
