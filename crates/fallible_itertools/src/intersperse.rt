@@ -3,7 +3,7 @@ ghost use Rattle.std.specs.Prelude.{◌≡◌, Option, Some, None, Ok, Result, m
 ghost use Rattle.fallible_iterator.specs.Contract.{seen_as};
 ghost use Rattle.fallible_iterator.specs.Folds.{CallableDriving, Driven, TurnBehind, beside, beside_names, stopped_answer};
 ghost use Rattle.fallible_iterator.specs.Laws.Contract.{lawful_seen};
-ghost use Rattle.fallible_itertools.specs.Intersperse.{HeldTakes, IsHeldTurn, IsPartingTurn, PartingTakes, PlacedAs, intersperse_contract, intersperse_step, intersperse_parts, interspersed_items, interspersed_high, fitting};
+ghost use Rattle.fallible_itertools.specs.Intersperse.{HeldTakes, IsHeldTurn, IsPartingTurn, PartingTakes, PlacedAs, intersperse_contract, intersperse_step, intersperse_parts, interspersed_items, fitting};
 ghost use Rattle.fallible_itertools.specs.Laws.Intersperse.{lawful_intersperse};
 
 use fallible_iterator::adapting::{Beside, answer_within};
