@@ -13,6 +13,7 @@ pub mod HoldingHints
 pub mod HoldingLists
 pub mod HoldingMade
 pub mod Intersperse
+pub mod IntersperseFolds
 pub mod IntersperseHints
 pub mod IntersperseTraces
 pub mod MergeBy

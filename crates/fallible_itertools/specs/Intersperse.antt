@@ -1,11 +1,13 @@
 -- `Intersperse`, which puts a clone of a separator between each two adjacent items.
-use Rattle.std.specs.Prelude.{◌≡◌, ℕ, ◌+◌, ◌-◌, ◌*◌, ◌^◌, ◌≤◌, ◌⊎◌, min, cond, ltb, Bool, true, false, Option, Some, None, Result, Ok, Err, List, [], ◌∷◌}
+use Rattle.std.specs.Prelude.{◌≡◌, ℕ, ◌+◌, ◌-◌, ◌*◌, ◌^◌, ◌≤◌, ◌⊎◌, min, cond, ltb, Bool, true, false, Option, Some, None, Result, Ok, Err, List, [], ◌∷◌, ⊤}
 use Rattle.std.specs.Iterator.{count_map}
 use Rattle.fallible_iterator.specs.Traces.{Answered, item, failure, end}
 use Rattle.fallible_iterator.specs.Contract.{Contract}
 use Rattle.fallible_iterator.specs.Refusals.{RefusedAs}
 use Rattle.fallible_itertools.specs.Holding.{held_one}
 use Rattle.std.specs.declared.alloc.AllocError.{AllocError}
+use Rattle.std.specs.declared.ops.ControlFlow.{ControlFlow}
+use Rattle.std.specs.declared.ops.ControlFlow.TheVariants.{Continue, Break}
 use Rattle.fallible_itertools.specs.declared.intersperse.Intersperse.{Intersperse}
 
 module _ {A E : Type 0} (is_clone : A → A → Type 0) (is_infallible : A → Type 0) (from : AllocError → E → Type 0) where
@@ -46,6 +48,40 @@ module _ {A E : Type 0} (is_clone : A → A → Type 0) (is_infallible : A → T
   abbrev pub intersperse_step : {S : Type 0} → (S → Answered A E → S → Type 0) → S × (A × (Bool × Option A)) → Answered A E → S × (A × (Bool × Option A)) → Type 0
   intersperse_step steps (s, (z, (started, Some x))) r (t, (y, k)) = (r ≡ item x) × (t ≡ s) × (y ≡ z) × (k ≡ (started, None))
   intersperse_step steps (s, (z, (started, None))) r (t, (y, k)) = (y ≡ z) × ((drawn : Answered A E) × steps s drawn t × PlacedAs z started drawn r k)
+
+-- ---- its fold
+
+module _ {A C R : Type 0} (turns : C → A → ControlFlow R (Unit {0}) → C → Type 0) where
+  -- the caller's turn on an item, as the source's fold takes it: it goes on, or stops that fold with its answer
+  abbrev pub IsCallersTurn : {E : Type 0} → C → A → ControlFlow (Answered R E) (Unit {0}) → C → Type 0
+  IsCallersTurn c x r d = (turns c x (Continue tt) d × (r ≡ Continue tt)) ⊎ ((stop : R) × turns c x (Break stop) d × (r ≡ Break (Ok (Some stop))))
+
+  -- the caller's turn on the held item, if one is held
+  abbrev pub IsHeldTurn : {E : Type 0} → C → Bool × Option A → ControlFlow (Answered R E) (Unit {0}) → C × (Bool × Option A) → Type 0
+  IsHeldTurn c (started, None) r q = (r ≡ Continue tt) × (q.0 ≡ c) × (q.1 ≡ (started, None))
+  IsHeldTurn c (started, Some x) r q = IsCallersTurn c x r q.0 × (q.1 ≡ (started, None))
+
+  -- the caller's turn on what is answered where an item was drawn, and where it goes on, on the item that is held then
+  abbrev pub IsAnswersTurn : {E : Type 0} → C → Answered A E → Bool × Option A → ControlFlow (Answered R E) (Unit {0}) → C × (Bool × Option A) → Type 0
+  IsAnswersTurn c (Ok (Some y)) k r q = ((d : C) × turns c y (Continue tt) d × IsHeldTurn d k r q) ⊎ ((stop : R) × turns c y (Break stop) q.0 × (r ≡ Break (Ok (Some stop))) × (q.1 ≡ k))
+  IsAnswersTurn c (Ok None) k r q = ⊥
+  IsAnswersTurn c (Err e) k r q = (r ≡ Break (Err e)) × (q.0 ≡ c) × (q.1 ≡ k)
+
+  -- a turn may be taken on the held item
+  abbrev pub HeldTakes : (C → A → Type 0) → C → Bool × Option A → Type 0
+  HeldTakes can c (started, None) = ⊤
+  HeldTakes can c (started, Some x) = can c x
+
+module _ {A E C R : Type 0} (is_clone : A → A → Type 0) (is_infallible : A → Type 0) (from : AllocError → E → Type 0) (separator : A) (turns : C → A → ControlFlow R (Unit {0}) → C → Type 0) where
+  -- The turn of the source's fold: the item is placed, and the caller's turn is taken on what is answered, and then on the item if it is held.
+  abbrev pub IsPartingTurn : C × (Bool × Option A) → A → ControlFlow (Answered R E) (Unit {0}) → C × (Bool × Option A) → Type 0
+  IsPartingTurn p x r q = (a : Answered A E) × (k : Bool × Option A) × PlacedAs is_clone is_infallible from separator p.1.0 (Ok (Some x)) a k × IsAnswersTurn turns p.0 a k r q
+
+  -- It may be taken where nothing is held and the caller's may be on what is answered, and then on what is held.
+  abbrev pub PartingTakes : (C → A → Type 0) → C × (Bool × Option A) → A → Type 0
+  PartingTakes can p x = (p.1.1 ≡ None) × ((y : A) (k : Bool × Option A) → PlacedAs is_clone is_infallible from separator p.1.0 (Ok (Some x)) (Ok (Some y)) k → can p.0 y × ((d : C) → turns p.0 y (Continue tt) d → HeldTakes turns can d k))
+
+-- ---- its hint, and its contract
 
 -- how many items have nothing before them: the first one, while none came
 abbrev pub unparted : Bool → ℕ

@@ -885,8 +885,6 @@ pub trait FallibleItertools: FallibleIterator {
     ///
     /// Making it draws nothing. Where an item is held, one call gives it and draws nothing; else one call draws one answer. A later item than the first is held, and a clone of the separator is the answer before it. It fails as the source does. Where a clone is refused, the failure made of the refusal is the answer, and the item is held too, so none is lost. A failure or an end between two items parts nothing: the next item is a later one still.
     ///
-    /// A fold draws one answer at a time.
-    ///
     /// Asks nothing. Each draw asks that the source may be drawn from.
     ///
     /// ```

@@ -1,6 +1,6 @@
 -- The hint of `Intersperse`.
 use Rattle.std.specs.Prelude.{◌≡◌, ℕ, ◌+◌, ◌-◌, ◌^◌, ◌≤◌, min, cond, ltb, Bool, true, false, Option, Some, None, Ok, Err, List, [], ◌∷◌, length, IfSome}
-use Rattle.std.proofs.Common.{refl, sym, ap, subst, arith}
+use Rattle.std.proofs.Common.{refl, subst, arith}
 use Rattle.fallible_iterator.specs.Traces.{Answered, Yields, item, end}
 use Rattle.fallible_iterator.specs.Contract.{Contract, seen_as}
 use Rattle.fallible_iterator.specs.SoundHints.{Brackets, KeepsBrackets}

@@ -1,8 +1,8 @@
 -- The runs of `Intersperse` are the traces that its definition names.
-use Rattle.std.specs.Prelude.{◌≡◌, Bool, true, false, Option, Some, None, Ok, Err, List, [], ◌∷◌, ◌↔◌}
-use Rattle.std.proofs.Common.{refl, sym, ap, subst, inl, inr}
+use Rattle.std.specs.Prelude.{Bool, true, false, Option, Some, None, Ok, Err, List, [], ◌∷◌, ◌↔◌}
+use Rattle.std.proofs.Common.{refl, subst, inl, inr}
 use Rattle.fallible_iterator.specs.Traces.{Answered, Run, item, end}
-use Rattle.fallible_itertools.specs.Intersperse.{Separates, Interspersed, nothing_drawn, then_end, then_failure, then_first_item, then_later_item, later_item_held, HeldThen, PlacedAs, intersperse_step, IntersperseTrace}
+use Rattle.fallible_itertools.specs.Intersperse.{Interspersed, nothing_drawn, then_end, then_failure, then_first_item, then_later_item, later_item_held, HeldThen, PlacedAs, intersperse_step, IntersperseTrace}
 use Rattle.std.specs.declared.alloc.AllocError.{AllocError}
 
 module _ {S A E : Type 0} (is_clone : A → A → Type 0) (is_infallible : A → Type 0) (from : AllocError → E → Type 0) (steps : S → Answered A E → S → Type 0) where
