@@ -1,7 +1,7 @@
 // The adapter that puts a separator between items.
 ghost use Rattle.std.specs.Prelude.{◌≡◌, Option, Some, None, Ok, Result, min, ◌^◌, ◌-◌};
 ghost use Rattle.fallible_iterator.specs.Contract.{seen_as};
-ghost use Rattle.fallible_iterator.specs.Folds.{CallableDriving, Driven, TurnBehind, beside, beside_names, stopped_answer};
+ghost use Rattle.fallible_iterator.specs.Folds.{CallableDriving, Driven, TurnThrough, beside, beside_names, stopped_answer};
 ghost use Rattle.fallible_iterator.specs.Laws.Contract.{lawful_seen};
 ghost use Rattle.fallible_itertools.specs.Intersperse.{HeldTakes, IsHeldTurn, IsPartingTurn, PartingTakes, PlacedAs, intersperse_contract, intersperse_step, intersperse_parts, interspersed_items, fitting};
 ghost use Rattle.fallible_itertools.specs.Laws.Intersperse.{lawful_intersperse};
@@ -157,7 +157,7 @@ impl<'a, 'b, X: Clone + Drop, E: From<AllocError>, C, R, K: Turn<C, X, R>> Turn<
     ghost can_turn = { λ k b x. PartingTakes X.is_clone X.is_infallible E.from_gives
         k.separator.now (K.turns k.turn.now) (K.can_turn k.turn.now) (beside b) x };
 
-    ghost turns = { λ k b x r d. TurnBehind beside beside_names
+    ghost turns = { λ k b x r d. TurnThrough beside beside_names
         (IsPartingTurn X.is_clone X.is_infallible E.from_gives k.separator.now
         (K.turns k.turn.now)) b x r d };
 

@@ -4,9 +4,9 @@ use Rattle.std.specs.List.{FoldsTo}
 use Rattle.std.proofs.Common.{refl, sym, ap, subst, ◌∙◌, inl, inr}
 use Rattle.fallible_iterator.specs.Traces.{Answered, Run, Yields, item}
 use Rattle.fallible_iterator.specs.Contract.{Contract, seen_as}
-use Rattle.fallible_iterator.specs.Folds.{HoldsAtEachTurn, goes_on, DriveExit, Driven, TurnBehind, beside, beside_names, within}
+use Rattle.fallible_iterator.specs.Folds.{HoldsAtEachTurn, goes_on, DriveExit, Driven, TurnThrough, beside, beside_names, within}
 use Rattle.fallible_contract.proofs.Lemmas.Folding.{holds_into, drained_into}
-use Rattle.fallible_contract.proofs.Lemmas.Folds.{holds_here, holds_after, driven_after, driven_end, driven_failure, driven_stop, driven_behind, names_kept}
+use Rattle.fallible_contract.proofs.Lemmas.Folds.{holds_here, holds_after, driven_after, driven_end, driven_failure, driven_stop, driven_through, names_kept}
 use Rattle.fallible_itertools.specs.Intersperse.{PlacedAs, intersperse_step, intersperse_contract, intersperse_parts, IsHeldTurn, IsAnswersTurn, IsPartingTurn, HeldTakes, PartingTakes}
 use Rattle.std.specs.declared.alloc.AllocError.{AllocError}
 use Rattle.std.specs.declared.ops.ControlFlow.{ControlFlow}
@@ -91,8 +91,8 @@ module _ {S A E C R : Type 0} (is_clone : A → A → Type 0) (is_infallible : A
       answer_on s ran.0 t b c turned.0 turned.1 went.0 q (within r) (refl, (item x, ran.1, turned.2)) turned.3 (items_through items last ran.0 t went.0 k q r (none_after c turned.0 turned.1 went.0 turned.3) ran.2 went.2 at)
   items_through items last s t (c, (b, Some y)) k q r none ran went at = absurd cc
 
-  pub driven_parting : {s t : S} {b d : Beside C (Bool × Option A)} {r : Answered (Answered R E) E} (placing : Bool × Option A) (c : C) → b.p.now.1 ≡ None → Driven steps (TurnBehind beside beside_names Turned) s b r t d → (d.p.ghost_name ≡ b.p.ghost_name → placing ≡ d.p.now) → (d.c.ghost_name ≡ b.c.ghost_name → c ≡ d.c.now) → Driven Step turns (s, (z, b.p.now)) b.c.now (within r) (t, (z, placing)) c
-  driven_parting {s = s} {t = t} {b = b} {d = d} {r = r} placing c none w is_p is_c = let same = names_kept beside beside_names Turned w in let v = driven_behind beside beside_names Turned w in
+  pub driven_parting : {s t : S} {b d : Beside C (Bool × Option A)} {r : Answered (Answered R E) E} (placing : Bool × Option A) (c : C) → b.p.now.1 ≡ None → Driven steps (TurnThrough beside beside_names Turned) s b r t d → (d.p.ghost_name ≡ b.p.ghost_name → placing ≡ d.p.now) → (d.c.ghost_name ≡ b.c.ghost_name → c ≡ d.c.now) → Driven Step turns (s, (z, b.p.now)) b.c.now (within r) (t, (z, placing)) c
+  driven_parting {s = s} {t = t} {b = b} {d = d} {r = r} placing c none w is_p is_c = let same = names_kept beside beside_names Turned w in let v = driven_through beside beside_names Turned w in
       by_parts s t (beside b) (c, placing) (within r) (is_c (ap (λ i. i.0) same)) (is_p (ap (λ i. i.1) same)) (items_through v.items v.last s t (beside b) v.at.carried (beside d) r none v.ran v.at.went v.at.exit)
 
   -- ---- where the source's turn may be taken
@@ -160,8 +160,8 @@ module _ {S A E : Type 0} (is_clone : A → A → Type 0) (is_infallible : A →
     pub nothing_held : s.placing.1 ≡ None → k ≡ None → HoldsAtEachTurn whole on P s c → HoldsAtEachTurn parting on P left c
     nothing_held is none h = holds_into {held = whole} made (λ p x q step. step) (subst (λ (o : Option A). HoldsAtEachTurn whole on P (made (s.it, (s.separator, (s.placing.0, o)))) c) (is ∙ sym none) h)
 
-    pub behind_held : {d : C} (x : A) → s.placing.1 ≡ Some x → k ≡ None → on c x d → HoldsAtEachTurn whole on P s c → HoldsAtEachTurn parting on P left d
-    behind_held x is none turn h = holds_into {held = whole} made (λ p x q step. step) (holds_after h (held_comes x is none) turn)
+    pub held_then : {d : C} (x : A) → s.placing.1 ≡ Some x → k ≡ None → on c x d → HoldsAtEachTurn whole on P s c → HoldsAtEachTurn parting on P left d
+    held_then x is none turn h = holds_into {held = whole} made (λ p x q step. step) (holds_after h (held_comes x is none) turn)
 
   module _ {C R : Type 0} {turns : C → A → ControlFlow R (Unit {0}) → C → Type 0} {c d : C} {r : Answered R E} {q : S × (A × (Bool × Option A))} where
     pub driven_bare : s.placing.1 ≡ None → k ≡ None → Driven parting turns left c r q d → Driven whole turns s c r (made q) d

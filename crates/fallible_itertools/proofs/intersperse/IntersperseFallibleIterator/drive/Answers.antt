@@ -1,14 +1,14 @@
 -- The turn on a held item and then a fold of the source.
 use Rattle.std.proofs.Common.{sym}
 use Rattle.fallible_contract.proofs.Lemmas.Folds.{holds_here, driven_stop}
-use Rattle.fallible_itertools.proofs.Lemmas.IntersperseFolds.{held_comes, nothing_held, behind_held, driven_bare, driven_behind_held}
+use Rattle.fallible_itertools.proofs.Lemmas.IntersperseFolds.{held_comes, nothing_held, held_then, driven_bare, driven_behind_held}
 use Rattle.fallible_itertools.proofs.intersperse.IntersperseFallibleIterator.drive.Goals as goal
 
 pub turn-requires : goal.turn-requires
 turn-requires g c = holds_here c.requires.callable (held_comes g.I.Item.Clone.is_clone g.I.Item.Clone.is_infallible g.I.Error.From.from_gives g.I.FallibleIterator.contract c.args.self.now c.take.new.self _ (sym c.in-Some.ensures.value) c.take.ensures.after)
 
 pub drive_parting-requires-clause-callable : goal.drive_parting-requires-clause-callable
-drive_parting-requires-clause-callable g c = behind_held g.I.Item.Clone.is_clone g.I.Item.Clone.is_infallible g.I.Error.From.from_gives g.I.FallibleIterator.contract c.args.self.now c.take.new.self _ (sym c.in-Some.ensures.value) c.take.ensures.after c.in-Continue.ensures c.requires.callable
+drive_parting-requires-clause-callable g c = held_then g.I.Item.Clone.is_clone g.I.Item.Clone.is_infallible g.I.Error.From.from_gives g.I.FallibleIterator.contract c.args.self.now c.take.new.self _ (sym c.in-Some.ensures.value) c.take.ensures.after c.in-Continue.ensures c.requires.callable
 
 pub drive_parting-requires-in-None-clause-callable : goal.drive_parting-requires-in-None-clause-callable
 drive_parting-requires-in-None-clause-callable g c = nothing_held g.I.Item.Clone.is_clone g.I.Item.Clone.is_infallible g.I.Error.From.from_gives g.I.FallibleIterator.contract c.args.self.now c.take.new.self (sym c.in-None.ensures.value) c.take.ensures.after c.requires.callable
