@@ -1,5 +1,5 @@
 // `intersperse`. The source goes on behind an end.
-use crate::interspersing::{partitioned_by_nines, partitioned_by_zeros};
+use crate::interspersing::{separated_by_nines, separated_by_zeros};
 use fallible_iterator::Answer::{End, Failure, Item};
 use fallible_iterator::{FallibleIterator, convert};
 use fallible_itertools::FallibleItertools;
@@ -105,8 +105,8 @@ fn intersperse_holds_an_item_where_a_fold_stops_before_it(rt: HostRuntime) -> Re
 #[test]
 fn callers_of_intersperse(rt: HostRuntime) -> Result<(), Fail> {
     let readings = Vec::from_array(rt.alloc(), [Ok(3), Ok(4), Ok(5)])?;
-    assert_eq!(rt; partitioned_by_zeros(readings), Ok(5));
+    assert_eq!(rt; separated_by_zeros(readings), Ok(5));
     let digits = Vec::from_array(rt.alloc(), [Ok(1), Ok(2)])?;
-    assert_eq!(rt; partitioned_by_nines(digits), Ok(192));
+    assert_eq!(rt; separated_by_nines(digits), Ok(192));
     Ok(())
 }

@@ -40,12 +40,12 @@ module _ {A E : Type 0} (is_clone : A → A → Type 0) (is_infallible : A → T
         none (Ok None) r q is w = w.0
         none (Err e) r q is w = absurd cc
         none (Ok (Some x)) r q is w = absurd cc
-    later_given (Ok x ∷ l) s g = λ r q w. let d = g (w.1).0 q.0 (w.1).1 in partitioned (w.1).0 r q w.0 d.0 (w.1).2 (later_given l q.0 d.1)
+    later_given (Ok x ∷ l) s g = λ r q w. let d = g (w.1).0 q.0 (w.1).1 in separated (w.1).0 r q w.0 d.0 (w.1).2 (later_given l q.0 d.1)
       where
-        partitioned : (drawn r : Answered A E) (q : S × (A × (Bool × Option A))) → q.1.0 ≡ z → drawn ≡ item x → PlacedAs is_clone is_infallible from z true drawn r q.1.1 → AlwaysGives Step (q.0, (z, (true, None))) (each_after z l) → (r ≡ item z) × AlwaysGives Step q (Ok x ∷ each_after z l)
-        partitioned (Ok None) r q same is w rest = absurd cc
-        partitioned (Err e) r q same is w rest = absurd cc
-        partitioned (Ok (Some y)) r (t, (u, k)) same is w rest = let e : y ≡ x = cc in (separator_is r w.0, left_gives (t, (u, k)) (true, Some x) (Ok x ∷ each_after z l) same (w.1 ∙ ap (λ a. (true, Some a)) e) (held_given x (each_after z l) t rest))
+        separated : (drawn r : Answered A E) (q : S × (A × (Bool × Option A))) → q.1.0 ≡ z → drawn ≡ item x → PlacedAs is_clone is_infallible from z true drawn r q.1.1 → AlwaysGives Step (q.0, (z, (true, None))) (each_after z l) → (r ≡ item z) × AlwaysGives Step q (Ok x ∷ each_after z l)
+        separated (Ok None) r q same is w rest = absurd cc
+        separated (Err e) r q same is w rest = absurd cc
+        separated (Ok (Some y)) r (t, (u, k)) same is w rest = let e : y ≡ x = cc in (separator_is r w.0, left_gives (t, (u, k)) (true, Some x) (Ok x ∷ each_after z l) same (w.1 ∙ ap (λ a. (true, Some a)) e) (held_given x (each_after z l) t rest))
     later_given (Err e ∷ l) s g = λ r q w. let d = g (w.1).0 q.0 (w.1).1 in failed (w.1).0 r q w.0 d.0 (w.1).2 (later_given l q.0 d.1)
       where
         failed : (drawn r : Answered A E) (q : S × (A × (Bool × Option A))) → q.1.0 ≡ z → drawn ≡ Err e → PlacedAs is_clone is_infallible from z true drawn r q.1.1 → AlwaysGives Step (q.0, (z, (true, None))) (each_after z l) → (r ≡ Err e) × AlwaysGives Step q (each_after z l)

@@ -45,8 +45,8 @@ module _ {A E : Type 0} (is_clone : A → A → Type 0) (is_infallible : A → T
     answer_parted s t z x (Ok None) w a = absurd w
     answer_parted s t z x (Err e) w a = (inr w, (λ n d. let k = a.1 d.0 d.1 in (2 * k.0 + 1, (k.0, k.1, omega arith), omega (arith, k.2, d.2))), (λ f. let j = a.2 f in (j.0, omega (arith, j.1))))
 
-    partitioned_goes : (s t : S) (z x : A) (r : Answered A E) → Separates is_clone is_infallible from z r → KeptByDraw m s (item x) t → KeptByDraw P (s, (z, (true, None))) r (t, (z, (true, Some x)))
-    partitioned_goes s t z x r w a = record {
+    separated_goes : (s t : S) (z x : A) (r : Answered A E) → Separates is_clone is_infallible from z r → KeptByDraw m s (item x) t → KeptByDraw P (s, (z, (true, None))) r (t, (z, (true, Some x)))
+    separated_goes s t z x r w a = record {
       can_next = a.can_next;
       is_finite = a.is_finite;
       answer = answer_parted s t z x r w a.answer;
@@ -59,7 +59,7 @@ module _ {A E : Type 0} (is_clone : A → A → Type 0) (is_infallible : A → T
     placed_goes s t z started (Ok None) r k a w = rw (w.0, w.1) (drawn_goes s t z started started end a)
     placed_goes s t z started (Err e) r k a w = rw (w.0, w.1) (drawn_goes s t z started started (Err e) a)
     placed_goes s t z false (Ok (Some x)) r k a w = rw (w.0, w.1) (drawn_goes s t z false true (item x) a)
-    placed_goes s t z true (Ok (Some x)) r k a w = rw w.1 (partitioned_goes s t z x r w.0 a)
+    placed_goes s t z true (Ok (Some x)) r k a w = rw w.1 (separated_goes s t z x r w.0 a)
 
     goes_intersperse : Lawful m → (p : S × (A × (Bool × Option A))) (r : Answered A E) (q : S × (A × (Bool × Option A))) → P.can_next p → P.steps p r q → KeptByDraw P p r q
     goes_intersperse l (s, (z, (started, Some x))) r (t, (y, k)) c step = rw (step.0, step.1, step.2, step.3) (held_goes s z started x c)
