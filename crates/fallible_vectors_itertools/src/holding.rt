@@ -38,7 +38,11 @@ pub fn peaks(readings: Vec<Result<u32, u8>>) -> Result<usize, u8>
     convert(readings.into_iter())
         .fuse()
         .coalesce(|first: u32, second: u32| {
-            Ok(if second < first { Ok(first) } else { Err((first, second)) })
+            Ok(if second < first {
+                Ok(first)
+            } else {
+                Err((first, second))
+            })
         })
         .count()
 }

@@ -44,8 +44,14 @@ fn dedup_holds_the_first_up_to_another_or_an_end(rt: HostRuntime) -> Result<(), 
     let answers = [Item(1), Item(1), Failure(9), Item(2), Item(3), End];
     assert_eq!(rt; folded_after_dedup(&rt, &script, &answers)?, (Ok(0), END));
     // A fold goes on behind the end, and stops at the failure, which loses nothing.
-    assert_eq!(rt; folded_after_dedup(&rt, &script, &[])?, (Err(9), Ok(Some(2))));
-    assert_eq!(rt; folded_after_dedup(&rt, &script, &[Item(1), Item(1), Failure(9)])?, (Ok(23), END));
+    assert_eq!(rt;
+        folded_after_dedup(&rt, &script, &[])?,
+        (Err(9), Ok(Some(2)))
+    );
+    assert_eq!(rt;
+        folded_after_dedup(&rt, &script, &[Item(1), Item(1), Failure(9)])?,
+        (Ok(23), END)
+    );
     Ok(())
 }
 
@@ -81,7 +87,10 @@ fn dedup_by_key_loses_the_item_without_a_key_alone(rt: HostRuntime) -> Result<()
     ];
     let answers = [Failure(5), Item(11), Failure(9), Item(21), Item(22), End];
     assert_eq!(rt; folded_after_tens(&rt, &script, &answers)?, (Ok(0), END));
-    assert_eq!(rt; folded_after_tens(&rt, &script, &[Failure(5)])?, (Err(9), Ok(Some(29))));
+    assert_eq!(rt;
+        folded_after_tens(&rt, &script, &[Failure(5)])?,
+        (Err(9), Ok(Some(29)))
+    );
     Ok(())
 }
 
@@ -94,17 +103,18 @@ fn folded_after_sums(
     let mut source = Script {
         answers: script.to_vec(rt.alloc())?.into_iter(),
     };
-    let mut it = (&mut source).coalesce(
-        |first: u32, second: u32| -> Result<Result<u32, (u32, u32)>, u32> {
-            if second == 7 {
-                Err(70)
-            } else if second % 2 == 0 {
-                Ok(Ok(first.wrapping_add(second)))
-            } else {
-                Ok(Err((first, second)))
-            }
-        },
-    );
+    let mut it = (&mut source).coalesce(|first: u32, second: u32| -> Result<
+        Result<u32, (u32, u32)>,
+        u32,
+    > {
+        if second == 7 {
+            Err(70)
+        } else if second % 2 == 0 {
+            Ok(Ok(first.wrapping_add(second)))
+        } else {
+            Ok(Err((first, second)))
+        }
+    });
     expect_numbers(rt, &mut it, expected)?;
     let folded = it.try_fold(0, put_behind);
     Ok((folded, source.next()))
@@ -126,7 +136,10 @@ fn coalesce_goes_on_with_what_was_made_of_two(rt: HostRuntime) -> Result<(), Fai
     // 1 + 2 + 2 before 3, which 7 takes with it.
     let answers = [Item(5), Failure(9), Failure(70), Item(1), Item(2), End];
     assert_eq!(rt; folded_after_sums(&rt, &script, &answers)?, (Ok(0), END));
-    assert_eq!(rt; folded_after_sums(&rt, &script, &[Item(5), Failure(9)])?, (Err(70), Ok(Some(1))));
+    assert_eq!(rt;
+        folded_after_sums(&rt, &script, &[Item(5), Failure(9)])?,
+        (Err(70), Ok(Some(1)))
+    );
     Ok(())
 }
 
