@@ -86,7 +86,11 @@ pub trait FallibleItertools: FallibleIterator {
     /// convert(readings.into_iter())
     ///     .fuse()
     ///     .coalesce(|first: u32, second: u32| {
-    ///         Ok(if second < first { Ok(first) } else { Err((first, second)) })
+    ///         Ok(if second < first {
+    ///             Ok(first)
+    ///         } else {
+    ///             Err((first, second))
+    ///         })
     ///     })
     ///     .count()
     /// ```
