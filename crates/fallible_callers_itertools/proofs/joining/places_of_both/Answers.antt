@@ -1,7 +1,7 @@
 -- What both columns list, place by place.
 use Rattle.std.specs.Prelude.{◌^◌, ◌-◌}
 use Rattle.std.proofs.Common.{rules}
-use Rattle.fallible_vectors_itertools.proofs.joining.places_of_both.Goals as goal
+use Rattle.fallible_callers_itertools.proofs.joining.places_of_both.Goals as goal
 
 pub count-requires-clause-fits : goal.count-requires-clause-fits
 count-requires-clause-fits c = c.zip_longest.ensures.bounded (2 ^ 63) (2 ^ 63 - 1) _ (search rules) (search rules) (search rules)

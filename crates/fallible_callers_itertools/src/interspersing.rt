@@ -1,0 +1,26 @@
+//! Callers of `intersperse`.
+ghost use Rattle.std.specs.Prelude.{◌≡◌, ◌+◌, ◌*◌, ◌%◌, ◌^◌, Ok};
+ghost use Rattle.fallible_iterator.specs.Lists.{counted, folded, results};
+ghost use Rattle.fallible_itertools.specs.Intersperse.{interspersed};
+
+use fallible_iterator::{FallibleIterator, convert};
+use fallible_itertools::FallibleItertools;
+use std::alloc::AllocError;
+
+/// How many readings there are with a zero between each two adjacent ones, or the first failure.
+pub fn separated_by_zeros(readings: Vec<Result<u32, AllocError>>) -> Result<usize, AllocError>
+    ensures { result ≡ counted (interspersed 0 (results readings.items)) }
+{
+    convert(readings.into_iter()).intersperse(0).count()
+}
+
+/// The number whose digits are these with a nine between each two adjacent ones, modulo 2 ^ 64, or the first failure.
+pub fn separated_by_nines(digits: Vec<Result<u32, AllocError>>) -> Result<u64, AllocError>
+    ensures { result ≡ folded (λ e. e) (λ n d. Ok ((n * 10 % 2 ^ 64 + d) % 2 ^ 64)) 0
+        (interspersed 9 (results digits.items)) }
+{
+    convert(digits.into_iter()).intersperse(9).fold(
+        0,
+        |number: u64, digit: u32| Ok(number.wrapping_mul(10).wrapping_add(u64::from(digit))),
+    )
+}

@@ -1,0 +1,29 @@
+//! Callers of the adapters that join: each states what it computes, and the contracts of the calls prove it.
+ghost use Rattle.std.specs.Prelude.{◌≡◌, Ok, nat_le};
+ghost use Rattle.fallible_iterator.specs.Lists.{counted, results};
+ghost use Rattle.fallible_itertools.specs.MergeBy.{merged};
+ghost use Rattle.fallible_itertools.specs.ZipLongest.{zipped_longest};
+
+use fallible_iterator::{FallibleIterator, convert};
+use fallible_itertools::FallibleItertools;
+
+/// How many places two columns have, each filled by one of them at least, or the first failure.
+pub fn places_of_both(left: Vec<Result<u32, u8>>, right: Vec<Result<u32, u8>>) -> Result<usize, u8>
+    ensures { result ≡ counted (zipped_longest (results left.items) (results right.items)) }
+{
+    convert(left.into_iter())
+        .fuse()
+        .zip_longest(convert(right.into_iter()).fuse())
+        .count()
+}
+
+/// How many readings two sorted columns have together, or the first failure.
+pub fn readings_merged(left: Vec<Result<u32, u8>>, right: Vec<Result<u32, u8>>) -> Result<usize, u8>
+    ensures { result ≡ counted
+        (merged (λ x y. Ok (nat_le x y)) (results left.items) (results right.items)) }
+{
+    convert(left.into_iter())
+        .fuse()
+        .merge_by(convert(right.into_iter()).fuse(), |x, y| Ok(*x <= *y))
+        .count()
+}

@@ -1,0 +1,11 @@
+//! Callers of `fallible_itertools`: each states what it computes, and the contracts of the calls prove it.
+#![tactic(auto)]
+
+pub mod extremes;
+pub mod holding;
+pub mod interspersing;
+pub mod joining;
+pub mod passing;
+pub mod stopping;
+pub mod totals;
+pub mod trying;
