@@ -1,6 +1,6 @@
 -- What `TupleWindows` lists, where a clone equals its original and is never refused.
 use Rattle.std.specs.Prelude.{◌≡◌, Option, Some, None, Result, Ok, Err, List, [], ◌∷◌}
-use Rattle.std.proofs.Common.{refl, sym, ap, subst, ◌∙◌}
+use Rattle.std.proofs.Common.{refl, ap, subst}
 use Rattle.fallible_iterator.specs.Contract.{Contract, seen_as}
 use Rattle.fallible_iterator.specs.Lists.{Lists}
 use Rattle.fallible_contract.proofs.Lemmas.Lists.Passing.{lists_seen}

@@ -1,6 +1,6 @@
 -- The hint of `TupleWindows`.
-use Rattle.std.specs.Prelude.{◌≡◌, ℕ, ◌+◌, ◌-◌, ◌≤◌, option_map, Option, Some, None, Ok, Err, List, [], ◌∷◌, ◌++◌, length, IfSome, ⊤}
-use Rattle.std.proofs.Common.{refl, sym, ap, subst, arith, length-append}
+use Rattle.std.specs.Prelude.{◌≡◌, ℕ, ◌+◌, ◌-◌, ◌≤◌, option_map, Option, Some, None, Ok, List, [], ◌∷◌, ◌++◌, length, IfSome}
+use Rattle.std.proofs.Common.{refl, subst, arith, length-append}
 use Rattle.fallible_iterator.specs.Traces.{Answered, Yields, item, end}
 use Rattle.fallible_iterator.specs.Contract.{Contract, seen_as}
 use Rattle.fallible_iterator.specs.Hints.{hint_less}
@@ -12,7 +12,7 @@ use Rattle.fallible_itertools.specs.Holding.{with_ends, as_answered}
 use Rattle.fallible_itertools.specs.TupleWindows.{window_at, windows_asks, unheld, tuple_windows_contract}
 use Rattle.std.specs.declared.alloc.AllocError.{AllocError}
 use Rattle.fallible_iterator.specs.Outcome.{Outcome}
-use Rattle.fallible_iterator.specs.Outcome.TheVariants.{Kept, LeftOut, Failure, End}
+use Rattle.fallible_iterator.specs.Outcome.TheVariants.{Kept, LeftOut, End}
 
 module _ {A E : Type 0} (is_clone : A → A → Type 0) (is_infallible : A → Type 0) (from : AllocError → E → Type 0) where
   abbrev asks : Option A → Option A → Outcome (A × A) E → Option A → Type 0

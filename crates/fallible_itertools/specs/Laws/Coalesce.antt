@@ -1,5 +1,5 @@
 -- The contract of `Coalesce` is lawful where the source's is.
-use Rattle.std.specs.Prelude.{◌≡◌, Option, Some, None, Result, Ok, Err}
+use Rattle.std.specs.Prelude.{Option, Some, None, Result, Ok, Err}
 use Rattle.std.specs.Fn.{Mut}
 use Rattle.std.proofs.Common.{arith}
 use Rattle.fallible_iterator.specs.Contract.{Contract, Lawful}
