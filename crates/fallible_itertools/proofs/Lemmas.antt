@@ -16,6 +16,7 @@ pub mod Intersperse
 pub mod IntersperseFolds
 pub mod IntersperseHints
 pub mod IntersperseTraces
+pub mod LoopsMade
 pub mod MergeBy
 pub mod PeekingTakeWhile
 pub mod Sides

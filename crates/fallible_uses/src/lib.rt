@@ -6,7 +6,7 @@ pub mod edges;
 pub mod generic;
 pub mod lines;
 pub mod merging;
-mod numbers;
+pub mod numbers;
 pub mod pages;
 pub mod reading;
 pub mod report;

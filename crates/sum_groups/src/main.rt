@@ -5,16 +5,26 @@
 
 mod groups;
 
-use groups::{print_all, read_all, told};
+use fallible_iterator::convert_fused;
+use groups::{Fault, print_all, tell};
+use std::alloc::Global;
+use std::io::{Read, Write, read_to_string};
 use std::process::ExitCode;
 
 fn main(rt: HostRuntime) -> ExitCode {
-    let printed = match read_all(rt.alloc(), rt.stdin()) {
-        Ok(text) => print_all(rt.alloc(), text.as_str(), &mut rt.stdout()),
-        Err(fault) => Err(fault),
-    };
-    match printed {
+    match run(rt.alloc(), rt.stdin(), &mut rt.stdout()) {
         Ok(()) => ExitCode::from(0),
-        Err(fault) => ExitCode::from(told(&fault, &mut rt.stderr())),
+        Err(fault) => match tell(&fault, &mut rt.stderr()) {
+            Ok(status) | Err(status) => ExitCode::from(status),
+        },
     }
+}
+
+// Prints what the lines of an input come to.
+fn run<R: Read + Drop, W: Write>(alloc: Global, input: R, output: &mut W) -> Result<(), Fault> {
+    let Ok(text) = read_to_string(alloc, input) else {
+        return Err(Fault::Read);
+    };
+    let lines = convert_fused(text.as_str().lines().map(|line: &str| Ok(line)));
+    print_all(alloc, lines, output)
 }

@@ -1,0 +1,20 @@
+-- What an item, a failure and the end make of it.
+use Rattle.std.proofs.Common.{rules, vec_items}
+use Rattle.sum_groups.specs.Groups.{line_of}
+use Rattle.sum_groups.proofs.Printing.{begins, prints, printed, same_group}
+use Rattle.sum_groups.proofs.groups.print_each_group.Goals as goal
+
+pub loop-left-init : goal.loop-left-init
+loop-left-init g c = (search rules, begins)
+
+pub returns-in_err-key-clause-text : goal.returns-in_err-key-clause-text
+returns-in_err-key-clause-text g c l lists = search rules
+
+pub returns-in_err-print_line-clause-text : goal.returns-in_err-print_line-clause-text
+returns-in_err-print_line-clause-text g c l lists = search rules
+
+pub loop-left-preserved : goal.loop-left-preserved
+loop-left-preserved g c = (search rules, prints (c.in-Some.key, c.in-Some.group) {text = line_of c.in-Some.key (vec_items c.in-Some.group)} c.loop-left.invariant.1 c.draw.ensures.drawn (search rules) (λ x m. same_group x (c.in-Some.key, c.in-Some.group) m) (search rules))
+
+pub returns-clause-text : goal.returns-clause-text
+returns-clause-text g c = printed c.loop-left.invariant.1 c.draw.ensures.drawn (search rules)

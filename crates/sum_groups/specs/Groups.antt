@@ -1,0 +1,110 @@
+-- What lines of rows say, and what is printed of rows.
+use Rattle.std.specs.Prelude.{◌≡◌, ℕ, ◌+◌, ◌%◌, ◌^◌, Bool, ◌==◌, nat_eq, nat_lt, if◌then◌else◌, List, [], ◌∷◌, ◌++◌, length, Option, Some, None, Result, Ok, Err, OnOk, codes, decimal}
+use Rattle.std.specs.Borrow.{Bor}
+use Rattle.std.specs.List.{before_first, after_first, position_or_len}
+use Rattle.std.specs.Io.KnownBytes.{Appends}
+use Rattle.fallible_iterator.specs.Traces.{Answered}
+use Rattle.fallible_iterator.specs.Lists.{items, mapped, on_value, scanned}
+use Rattle.fallible_itertools.specs.ChunkBy.{chunked_by}
+use Rattle.fallible_itertools.specs.Chunks.{chunked}
+use Rattle.fallible_itertools.specs.Growing.{ListsMade}
+use Rattle.fallible_itertools.specs.Totals.{sum_below, totalled}
+use Rattle.fallible_uses.specs.Numbers.{number_of}
+use Rattle.std.specs.declared.alloc.AllocError.{AllocError}
+use Rattle.std.specs.declared.convert.Infallible.{Infallible}
+use Rattle.sum_groups.specs.declared.groups.Row.{Row}
+use Rattle.sum_groups.specs.declared.groups.Fault.{Fault}
+use Rattle.sum_groups.specs.declared.groups.Fault.TheVariants.{NoRow, Read, Memory, Print}
+
+-- ---- rows
+
+-- whether the byte is a comma
+abbrev pub is_comma : ℕ → Bool
+is_comma b = b == 44
+
+-- the row of a key and an amount, where both are numbers
+abbrev pub row_of : ℕ → Option ℕ → Option ℕ → Result Row Fault
+row_of place (Some k) (Some a) = Ok (record { key = k; amount = a })
+row_of place (Some k) None = Err (NoRow place)
+row_of place None a = Err (NoRow place)
+
+-- the row that the line at this place is: the numbers before and behind its first comma
+abbrev pub row_at : ℕ → List ℕ → Result Row Fault
+row_at place text = if nat_lt (position_or_len is_comma text) (length text)
+    then row_of place (number_of (before_first is_comma text)) (number_of (after_first is_comma text))
+    else Err (NoRow place)
+
+-- the rows that lines are, up to the first that is none; places count from 1 on
+abbrev pub rows_in : List (Result (Bor (List ℕ)) Fault) → List (Result Row Fault)
+rows_in lines = scanned (λ before line. let place = (before + 1) % 2 ^ 64 in (on_value (row_at place line.now) (λ r. Ok (Some r)), place)) 0 lines
+
+-- ---- lines
+
+-- the sum of the amounts, where it is below 2 ^ 64
+abbrev pub sum_of : {E : Type 0} → List Row → Result (Option ℕ) E
+sum_of rows = totalled (sum_below (2 ^ 64)) 0 (mapped (λ r. Ok r.amount) (items rows))
+
+-- the line of so many rows of this sum, under a name
+abbrev pub line_with : {E : Type 0} → ℕ → ℕ → Result (Option ℕ) E → List ℕ
+line_with name many (Ok (Some sum)) = decimal name ++ codes ": " ++ decimal many ++ codes " rows, " ++ decimal sum ++ 10 ∷ []
+line_with name many (Ok None) = decimal name ++ codes ": " ++ decimal many ++ codes " rows, too large" ++ 10 ∷ []
+line_with name many (Err e) = []
+
+-- the line of some rows under a name: the name, how many they are, and their sum
+abbrev pub line_of : ℕ → List Row → List ℕ
+line_of name rows = line_with {E = Infallible} name (length rows) (sum_of rows)
+
+-- the lines of a list's items, one after another
+abbrev pub text_of : {A E : Type 0} → (A → List ℕ) → List (Result A E) → List ℕ
+text_of line [] = []
+text_of line (Ok x ∷ l) = line x ++ text_of line l
+text_of line (Err e ∷ l) = text_of line l
+
+-- the line of a group, under its key
+abbrev pub group_line : ℕ × List Row → List ℕ
+group_line g = line_of g.0 g.1
+
+-- one line a group of adjacent rows of one key
+abbrev pub groups_text : List Row → List ℕ
+groups_text rows = text_of group_line (chunked_by {E = AllocError} nat_eq (λ r. Ok r.key) (items rows))
+
+-- the key of the first row
+abbrev pub first_key : List Row → ℕ
+first_key [] = 0
+first_key (r ∷ rows) = r.key
+
+-- the line of a batch, under the key of its first row
+abbrev pub batch_line : List Row → List ℕ
+batch_line rows = line_of (first_key rows) rows
+
+-- one line a batch of three rows
+abbrev pub batches_text : List Row → List ℕ
+batches_text rows = text_of batch_line (chunked {E = AllocError} 3 (items rows))
+
+-- a refusal becomes itself
+abbrev pub same_refusal : AllocError → AllocError → Type 0
+same_refusal refused e = e ≡ refused
+
+-- Where values made of a list's items come up to the end, the lines of those items were written.
+abbrev pub PrintsMade : {S X B : Type 0} → (X → B → Type 0) → (S → Answered B AllocError → S → Type 0) → (X → List ℕ) → S → Option (List ℕ) → Option (List ℕ) → Result (Unit {0}) Fault → Type 0
+PrintsMade {X = X} made steps line s old new r = (l : List (Result X AllocError)) → ListsMade made steps same_refusal s l → OnOk r (Appends old new (text_of line l))
+
+-- the groups, and then the batches
+abbrev pub report_of : List Row → List ℕ
+report_of rows = groups_text rows ++ batches_text rows
+
+-- ---- faults
+
+-- the status that the program ends with
+abbrev pub status_of : Fault → ℕ
+status_of (NoRow place) = 1
+status_of Read = 2
+status_of Memory = 3
+status_of Print = 4
+
+-- the line that tells the fault, with its newline; nothing where none is told
+abbrev pub fault_text : Fault → List ℕ
+fault_text (NoRow place) = codes "row " ++ decimal place ++ codes ": not a key and an amount\n"
+fault_text Read = []
+fault_text Memory = []
+fault_text Print = []
