@@ -1,7 +1,7 @@
 -- The runs of `Flatten` are the traces that its definition names, what one draw of it is, and what it lists.
 use Rattle.std.specs.Prelude.{◌≡◌, false, List, [], ◌∷◌, ◌++◌, Option, Result, Some, None, Ok, Err}
 use Rattle.std.specs.List.{flat_map}
-use Rattle.std.proofs.Common.{refl, sym, ◌∙◌, ap, subst}
+use Rattle.std.proofs.Common.{refl, sym, ap, subst}
 use Rattle.std.proofs.lemmas.List.{append-nil}
 use Rattle.fallible_contract.specs.Traces.{Answered, item, failure, end, is_end}
 use Rattle.fallible_contract.specs.Contract.{Contract, seen_as}
