@@ -120,8 +120,9 @@ module _ {A E' F V R : Type 0} (call : F → A → Result V E' → F → Type 0)
     rest_is_fold (Ok x ∷ l) = item_is_fold (stops_by stops (h x)) l (rest_fold search_acts_as tt l) ∙ ap (stopped_or (stops_by stops (h x)) l) (rest_is_fold l)
     rest_is_fold (Err e ∷ l) = refl
 
-    rest_search : {S E : Type 0} (from : E → E' → Type 0) (steps : S → Answered A E → S → Type 0) (s t : S) (f g : F) (r : Result R E') (none : R) (l : List (Result A E)) → Acts call f h → Lists steps s l → Searched call pick (Converted from steps) none s f r t g → ¬ (r ≡ Ok none) → Lists steps t (rest_try_stop stops h l)
-    rest_search from steps s t f g r none l acts i w no_end = subst (λ k. Lists steps t k) (rest_is_fold l) (rest_fold_is SearchCall (λ e v. ⊤) search_acts_as f (search_acts f acts) steps l (search_folded from steps none s t f g r w no_end) i tt refl)
+    module _ {S E : Type 0} (from : E → E' → Type 0) {steps : S → Answered A E → S → Type 0} {s t : S} {f g : F} {r : Result R E'} {none : R} {l : List (Result A E)} where
+      rest_search : Acts call f h → Lists steps s l → Searched call pick (Converted from steps) none s f r t g → ¬ (r ≡ Ok none) → Lists steps t (rest_try_stop stops h l)
+      rest_search acts i w no_end = subst (λ k. Lists steps t k) (rest_is_fold l) (rest_fold_is SearchCall (λ e v. ⊤) search_acts_as f (search_acts f acts) steps l (search_folded from steps none s t f g r w no_end) i tt refl)
 
 true_stops : {A : Type 0} (n : ℕ) (x : A) (v : Bool) → is_some (find_pick n x v) ≡ v
 true_stops n x true = refl
@@ -134,15 +135,15 @@ true_places n x false = refl
 module _ {S A E E' F : Type 0} {from : E → E' → Type 0} {steps : S → Answered A E → S → Type 0} {s t : S} {f g : F} (l : List (Result A E)) (i : Lists steps s l) where
   pub rest_each : {call : F → A → Result (Unit {0}) E' → F → Type 0} (h : A → Result (Unit {0}) E') {r : Result (Unit {0}) E'} {e : E'} → Acts call f h → Searched call each_pick (Converted from steps) tt s f r t g → r ≡ Err e → Lists steps t (rest_try_each h l)
   unfolding rest_try_each
-  rest_each {call = call} h {r = r} acts d is = rest_search call each_pick (λ u. false) (λ n x u. refl) h from steps s t f g r tt l acts i d (λ no. absurd cc)
+  rest_each {call = call} h acts d is = rest_search call each_pick (λ u. false) (λ n x u. refl) h from acts i d (λ no. absurd cc)
 
   pub rest_find : {call : F → A → Result Bool E' → F → Type 0} (h : A → Result Bool E') {r : Result (Option A) E'} → Acts call f h → Searched call find_pick (Converted from steps) None s f r t g → ¬ (r ≡ Ok None) → Lists steps t (rest_try_true h l)
   unfolding rest_try_true
-  rest_find {call = call} h {r = r} acts d no_end = rest_search call find_pick (λ v. v) true_stops h from steps s t f g r None l acts i d no_end
+  rest_find {call = call} h acts d no_end = rest_search call find_pick (λ v. v) true_stops h from acts i d no_end
 
   pub rest_place : {call : F → A → Result Bool E' → F → Type 0} (h : A → Result Bool E') {r : Result (Option ℕ) E'} → Acts call f h → Searched call position_pick (Converted from steps) None s f r t g → ¬ (r ≡ Ok None) → Lists steps t (rest_try_true h l)
   unfolding rest_try_true
-  rest_place {call = call} h {r = r} acts d no_end = rest_search call position_pick (λ v. v) true_places h from steps s t f g r None l acts i d no_end
+  rest_place {call = call} h acts d no_end = rest_search call position_pick (λ v. v) true_places h from acts i d no_end
 
 -- the calls that don't fail, as calls which might fail otherwise
 abbrev pub unfailing : {F A V E E' : Type 0} → (F → A → Result V E' → F → Type 0) → F → A → Result V E → F → Type 0

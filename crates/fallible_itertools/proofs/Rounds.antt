@@ -82,17 +82,20 @@ module _ {A B E C : Type 0} (turns : C → A × B → ControlFlow (Result (Optio
   right_left right-steps (Some y) b t v gives ran = rest_at right-steps y b t ran.0 gives ran.1
 
   module _ {S T : Type 0} (left-steps : S → Answered A E → S → Type 0) (right-steps : T → Answered B E → T → Type 0) where
-    by_rounds : (pairs : List (A × B)) (x : Answered A E) (y : Option (Answered B E)) (r : Result (Option Ordering) E) (a : List (Result A E)) (b : List (Result B E)) (s u : S) (t v : T) (d : C) → FoldsTo (goes_on turns) c pairs d → AlwaysGives left-steps s a → AlwaysGives right-steps t b → Run left-steps s (map item (map (λ p. p.0) pairs) ++ x ∷ []) u → Run right-steps t (map item (map (λ p. p.1) pairs) ++ where_drawn y) v → LastTurnRound turns d x y r → r ≡ compared_by h a b
-    unfolding compared_by
-    by_rounds [] x y r a b s u t v d went gives given ran run exit = by_last x y r a b (rest_at left-steps x a s ran.0 gives ran.1) (right_left right-steps y b t v given run) (subst (λ (k : C). LastTurnRound turns k x y r) (sym went) exit)
-    by_rounds (p ∷ pairs) x y r a b s u t v d went gives given ran run exit =
-        let i = gives_item left-steps a s ran.0 p.0 gives ran.1 in
-        let j = gives_item right-steps b t run.0 p.1 given run.1 in
-        let g = acts.goes p went.0 went.1 in
-        by_rounds pairs x y r i.0 j.0 ran.0 u run.0 v d (subst (λ (k : C). FoldsTo (goes_on turns) k pairs d) g.0 went.2) i.2 j.2 ran.2 run.2 exit ∙ sym (ap (λ l. compared_by h l b) i.1 ∙ ap (compared_by h (Ok p.0 ∷ i.0)) j.1 ∙ ap (λ (w : Result (Option Ordering) E). on_value w (λ o. unless_equal o (compared_by h i.0 j.0))) g.1)
+    -- the rounds before the last one
+    module _ (x : Answered A E) (y : Option (Answered B E)) (r : Result (Option Ordering) E) (u : S) (v : T) (d : C) (exit : LastTurnRound turns d x y r) where
+      by_rounds : (pairs : List (A × B)) (a : List (Result A E)) (b : List (Result B E)) (s : S) (t : T) → FoldsTo (goes_on turns) c pairs d → AlwaysGives left-steps s a → AlwaysGives right-steps t b → Run left-steps s (map item (map (λ p. p.0) pairs) ++ x ∷ []) u → Run right-steps t (map item (map (λ p. p.1) pairs) ++ where_drawn y) v → r ≡ compared_by h a b
+      unfolding compared_by
+      by_rounds [] a b s t went gives given ran run = by_last x y r a b (rest_at left-steps x a s ran.0 gives ran.1) (right_left right-steps y b t v given run) (subst (λ (k : C). LastTurnRound turns k x y r) (sym went) exit)
+      by_rounds (p ∷ pairs) a b s t went gives given ran run =
+          let i = gives_item left-steps a s ran.0 p.0 gives ran.1 in
+          let j = gives_item right-steps b t run.0 p.1 given run.1 in
+          let g = acts.goes p went.0 went.1 in
+          by_rounds pairs i.0 j.0 ran.0 run.0 (subst (λ (k : C). FoldsTo (goes_on turns) k pairs d) g.0 went.2) i.2 j.2 ran.2 run.2 ∙ sym (ap (λ l. compared_by h l b) i.1 ∙ ap (compared_by h (Ok p.0 ∷ i.0)) j.1 ∙ ap (λ (w : Result (Option Ordering) E). on_value w (λ o. unless_equal o (compared_by h i.0 j.0))) g.1)
 
-pub compared_by_is : {S T O A B E C : Type 0} {turns : C → A × B → ControlFlow (Result (Option Ordering) E) (Unit {0}) → C → Type 0} {left-steps : S → Answered A E → S → Type 0} {right-steps : T → Answered B E → T → Type 0} {into : O → T → Type 0} {s : S} {other : O} {c : C} {r : Result (Option Ordering) E} (h : A → B → Result (Option Ordering) E) → TurnsAs turns h c → (a : List (Result A E)) (b : List (Result B E)) → ComparedByWith turns into left-steps right-steps s other c r → Lists left-steps s a → ((right : T) → into other right → Lists right-steps right b) → r ≡ compared_by h a b
-compared_by_is {turns = turns} {left-steps = left-steps} {right-steps = right-steps} {s = s} {c = c} {r = r} h acts a b w i j = let k = w.compared in by_rounds turns h c acts left-steps right-steps k.pairs k.last_left k.last_right r a b s k.left w.right k.right k.state k.went i.runs (j w.right w.made).runs k.left_ran k.right_ran k.exit
+module _ {S T O A B E C : Type 0} {turns : C → A × B → ControlFlow (Result (Option Ordering) E) (Unit {0}) → C → Type 0} {left-steps : S → Answered A E → S → Type 0} {right-steps : T → Answered B E → T → Type 0} {into : O → T → Type 0} {s : S} {other : O} {c : C} {r : Result (Option Ordering) E} where
+  pub compared_by_is : (h : A → B → Result (Option Ordering) E) → TurnsAs turns h c → (a : List (Result A E)) (b : List (Result B E)) → ComparedByWith turns into left-steps right-steps s other c r → Lists left-steps s a → ((right : T) → into other right → Lists right-steps right b) → r ≡ compared_by h a b
+  compared_by_is h acts a b w i j = let k = w.compared in by_rounds turns h c acts left-steps right-steps k.last_left k.last_right r k.left k.right k.state k.exit k.pairs a b s w.right k.went i.runs (j w.right w.made).runs k.left_ran k.right_ran
 
 -- ---- the turns of `cmp_by` and `eq_by`
 

@@ -62,10 +62,10 @@ round_within (suc n) h = ap Some (omega (arith, h))
 
 -- ---- one more item
 
-module _ {K S : Type 0} {eq : K → K → Bool} (laws : IsEquivalence eq) where
-  pub tally_pushed : (items : List K) (m n : hash.HashMap K ℕ S) (x : K) (v : ℕ) (old : Option ℕ) → IsTally eq items m → v ≡ (unwrap_or (hash.get eq m x) 0 + 1) % 2 ^ 64
+module _ {K S : Type 0} {eq : K → K → Bool} (laws : IsEquivalence eq) (m n : hash.HashMap K ℕ S) (x : K) (v : ℕ) (old : Option ℕ) where
+  pub tally_pushed : (items : List K) → IsTally eq items m → v ≡ (unwrap_or (hash.get eq m x) 0 + 1) % 2 ^ 64
       → hash.PutsEntry eq m n x v old → old ≡ hash.get eq m x → hash.Updates eq m n x (Some v) → (IsSome old → hash.keys n ≡ hash.keys m) → hash.IsUnique eq n → IsTally eq (items ++ x ∷ []) n
-  tally_pushed items m n x v old t is put o updates stays unique = record {
+  tally_pushed items t is put o updates stays unique = record {
     pairs = t.pairs ++ (x, v) ∷ [];
     are = map-append (λ (p : K × ℕ). p.0) t.pairs ((x, v) ∷ []) ∙ ap (λ (l : List K). l ++ x ∷ []) t.are;
     made = hashed_map_pushed laws t.pairs m n (x, v) old t.made put o updates stays unique;

@@ -9,17 +9,21 @@ use Rattle.fallible_iterator.specs.Outcome.{Outcome}
 use Rattle.fallible_iterator.specs.Outcome.TheVariants.{Kept, LeftOut, Failure, End}
 use Rattle.fallible_itertools.specs.declared.coalesce.Coalesce.{Coalesce}
 
+-- what a closure answers on two items: one to go on in their place, or two that stay apart; or a failure
+abbrev pub OneOrBoth : Type 0 → Type 0 → Type 0
+OneOrBoth A E = Result (Result A (A × A)) E
+
 -- What becomes of two items by the closure's answer: one item that it makes of both is held in their place; of two the first is answered and the second held; where it fails, both are lost.
-abbrev pub coalesced_by : {A E : Type 0} → Result (Result A (A × A)) E → Outcome A E → Option A → Type 0
+abbrev pub coalesced_by : {A E : Type 0} → OneOrBoth A E → Outcome A E → Option A → Type 0
 coalesced_by (Ok (Ok z)) o q = (o ≡ LeftOut) × (q ≡ Some z)
 coalesced_by (Ok (Err both)) o q = (o ≡ Kept both.0) × (q ≡ Some both.1)
 coalesced_by (Err e) o q = (o ≡ Failure e) × (q ≡ None)
 
-module _ {A F E : Type 0} (call : F → A → A → Result (Result A (A × A)) E → F → Type 0) where
+module _ {A F E : Type 0} (call : F → A → A → OneOrBoth A E → F → Type 0) where
   -- An item is held beside the closure, which is called on it and the next one.
   abbrev pub coalesce_asks : Option A × F → Option A → Outcome A E → Option A × F → Type 0
   coalesce_asks (None, f) (Some x) o q = (o ≡ LeftOut) × (q ≡ (Some x, f))
-  coalesce_asks (Some y, f) (Some x) o q = (v : Result (Result A (A × A)) E) × call f y x v q.1 × coalesced_by v o q.0
+  coalesce_asks (Some y, f) (Some x) o q = (v : OneOrBoth A E) × call f y x v q.1 × coalesced_by v o q.0
   coalesce_asks (None, f) None o q = (o ≡ End) × (q ≡ (None, f))
   coalesce_asks (Some y, f) None o q = (o ≡ Kept y) × (q ≡ (None, f))
 
@@ -34,7 +38,7 @@ coalesce_takes takes (Some y, f) None = ⊤
 coalesce_takes takes (Some y, f) (Some x) = takes f y x
 
 -- `Coalesce`'s contract
-abbrev pub coalesce_contract : {S A F E : Type 0} → Contract S A E → Mut F (A × (A × Unit {0})) (Result (Result A (A × A)) E) → Contract (S × (Option A × F)) A E
+abbrev pub coalesce_contract : {S A F E : Type 0} → Contract S A E → Mut F (A × (A × Unit {0})) (OneOrBoth A E) → Contract (S × (Option A × F)) A E
 coalesce_contract m g = holding_contract m (coalesce_asks (call_with g)) (coalesce_takes (takes_with g)) held_beside (one_at_least m held_beside)
 
 -- the source
@@ -56,13 +60,13 @@ coalesce_parts s = (coalesce_source s, (coalesce_held s, coalesce_closure s))
 -- ---- what it lists
 
 -- what stands before the rest, by the closure's answer on two items; `rest` is the list of what comes where an item is held, or none
-abbrev pub coalesced_at : {A E : Type 0} → Result (Result A (A × A)) E → (Option A → List (Result A E)) → List (Result A E)
+abbrev pub coalesced_at : {A E : Type 0} → OneOrBoth A E → (Option A → List (Result A E)) → List (Result A E)
 coalesced_at (Ok (Ok z)) rest = rest (Some z)
 coalesced_at (Ok (Err both)) rest = Ok both.0 ∷ rest (Some both.1)
 coalesced_at (Err e) rest = Err e ∷ rest None
 
 -- the same as `coalesced`, where an item may be held before the list
-unfoldable pub coalesced_from : {A E : Type 0} → (A → A → Result (Result A (A × A)) E) → Option A → List (Result A E) → List (Result A E)
+unfoldable pub coalesced_from : {A E : Type 0} → (A → A → OneOrBoth A E) → Option A → List (Result A E) → List (Result A E)
 coalesced_from h None [] = []
 coalesced_from h (Some y) [] = Ok y ∷ []
 coalesced_from h None (Ok x ∷ l) = coalesced_from h (Some x) l
@@ -70,5 +74,5 @@ coalesced_from h (Some y) (Ok x ∷ l) = coalesced_at (h y x) (λ held. coalesce
 coalesced_from h held (Err e ∷ l) = Err e ∷ coalesced_from h held l
 
 -- Adjacent items x and y put together where h x y is one item, which goes on in their place; a failure between two parts nothing, and comes before the item that is held.
-unfoldable pub coalesced : {A E : Type 0} → (A → A → Result (Result A (A × A)) E) → List (Result A E) → List (Result A E)
+unfoldable pub coalesced : {A E : Type 0} → (A → A → OneOrBoth A E) → List (Result A E) → List (Result A E)
 coalesced h l = coalesced_from h None l

@@ -14,7 +14,7 @@ ghost use Rattle.fallible_iterator.specs.Picking.{call_at_two, takes_at_two};
 ghost use Rattle.fallible_iterator.specs.Searching.{CallableInSearch, WentOn, Searched, all_pick, each_pick, find_pick, position_pick};
 ghost use Rattle.fallible_itertools.specs.ChunkBy.{MadeGroup, chunk_by_contract, chunk_by_parts, chunked_by};
 ghost use Rattle.fallible_itertools.specs.Chunks.{chunked, chunks_contract, chunks_parts};
-ghost use Rattle.fallible_itertools.specs.Coalesce.{coalesce_asks, coalesce_contract, coalesce_parts, coalesce_takes, coalesced};
+ghost use Rattle.fallible_itertools.specs.Coalesce.{OneOrBoth, coalesce_asks, coalesce_contract, coalesce_parts, coalesce_takes, coalesced};
 ghost use Rattle.fallible_itertools.specs.ComparedBy.{CallableInRounds, ComparedByWith, IsCmpTurn, IsEqTurn, equal_by, ordered_by};
 ghost use Rattle.fallible_itertools.specs.Converting.{Converted, try_each_done, try_found, try_position_in, rest_try_each, rest_try_true};
 ghost use Rattle.fallible_itertools.specs.Copied.{copied_contract, copied_parts};
@@ -104,7 +104,8 @@ pub trait FallibleItertools: FallibleIterator {
         requires callable { IsCallable (coalesce_asks (call_with F.FnMut))
             (coalesce_takes (takes_with F.FnMut)) (MayBeAsked Self.contract self) (None, f) }
         ensures parts { coalesce_parts result ≡ (self, (None, f)) }
-        ensures lists { (h : Self.Item → Self.Item → Result (Result Self.Item (Self.Item × Self.Item)) Self.Error) (l : List (Result Self.Item Self.Error))
+        ensures lists { (h : Self.Item → Self.Item → OneOrBoth Self.Item Self.Error)
+            (l : List (Result Self.Item Self.Error))
             → ActsWith (call_with F.FnMut) f h → ListsForGood Self.contract.steps self l
             → Lists (seen_as coalesce_parts (coalesce_contract Self.contract F.FnMut)).steps result
             (coalesced h l) }

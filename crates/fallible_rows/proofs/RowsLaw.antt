@@ -64,53 +64,55 @@ module _ {B : Type 0} (left : B → Option (List ℕ)) (stays : Bool → B → B
   first_answer place place' row bytes one next =
       ap {B = Answers} (λ l. row_answer place row ∷ l) (ap (λ k. row_answers k (rows bytes)) next ∙ told_answers (place + 1) (rows bytes)) ∙ ap (row_answers place) (sym (rows-row row bytes one))
 
-  stops_later : (last : B) (a after : Ahead) (row closed unclosed : List ℕ) (trace : Answers) (p : B × Option Ahead) → IsOneRow row → after.left + length row + 1 ≡ a.left → after.place ≡ told_place (a.place + 1) → Stops last after closed unclosed trace p → Stops last a (row ++ 10 ∷ closed) unclosed (row_answer a.place row ∷ trace) p
-  stops_later last a after row closed unclosed trace p one limit next (inl s) =
-      let long = length-append row (10 ∷ closed) in
-      let many : length (rows (row ++ 10 ∷ closed)) ≡ length (row ∷ rows closed) = ap length (rows-row row closed one) in
-      let here = s.limit in let there = s.place in
-      inl (record {
-        after = s.after;
-        none_unclosed = s.none_unclosed;
-        limit = omega (arith, long, here, limit);
-        place = omega (arith, many, there, next);
-        is_left = s.is_left;
-        answers = ap {B = Answers} (λ l. row_answer a.place row ∷ l) s.answers ∙ first_answer a.place after.place row closed one next;
-      })
-  stops_later last a after row closed unclosed trace p one limit next (inr (inl s)) =
-      let long = length-append row (10 ∷ (closed ++ unclosed)) in
-      let joined : (row ++ 10 ∷ closed) ++ unclosed ≡ row ++ 10 ∷ (closed ++ unclosed) = append_assoc row (10 ∷ closed) unclosed in
-      let same : length ((row ++ 10 ∷ closed) ++ unclosed) ≡ length (row ++ 10 ∷ (closed ++ unclosed)) = ap length joined in
-      let here = s.limit in
-      inr (inl (record {
-        ends = s.ends;
-        met_end = s.met_end;
-        limit = omega (arith, long, same, here, limit);
-        is_left = s.is_left;
-        answers = ap {B = Answers} (λ l. row_answer a.place row ∷ l) s.answers ∙ ap (λ l. l ++ replicate s.ends end) (first_answer a.place after.place row (closed ++ unclosed) one next) ∙ ap (λ l. row_answers a.place (rows l) ++ replicate s.ends end) (sym joined);
-        ended = s.ended;
-      }))
-  stops_later last a after row closed unclosed trace p one limit next (inr (inr s)) =
-      let long = length-append row (10 ∷ (closed ++ unclosed)) in
-      let joined : (row ++ 10 ∷ closed) ++ unclosed ≡ row ++ 10 ∷ (closed ++ unclosed) = append_assoc row (10 ∷ closed) unclosed in
-      let same : length ((row ++ 10 ∷ closed) ++ unclosed) ≡ length (closed ++ unclosed) + length row + 1 = ap length joined ∙ omega (arith, long) in
-      inr (inr (record {
-        ends = s.ends;
-        missed = elim s.missed [ inl h ↦ inl (let e = h.0 in omega (arith, same, e, limit), h.1) | inr h ↦ inr (let e = h.0 in omega (arith, same, e, limit), h.1) ];
-        is_left = s.is_left;
-        answers = ap {B = Answers} (λ l. row_answer a.place row ∷ l) s.answers ∙ ap (λ l. l ++ failure Read ∷ replicate s.ends end) (first_answer a.place after.place row closed one next);
-      }))
+  -- after is where one more row leaves a
+  module _ (a after : Ahead) (row : List ℕ) (one : IsOneRow row) (limit : after.left + length row + 1 ≡ a.left) (next : after.place ≡ told_place (a.place + 1)) where
+    stops_later : (last : B) (closed unclosed : List ℕ) (trace : Answers) (p : B × Option Ahead) → Stops last after closed unclosed trace p → Stops last a (row ++ 10 ∷ closed) unclosed (row_answer a.place row ∷ trace) p
+    stops_later last closed unclosed trace p (inl s) =
+        let long = length-append row (10 ∷ closed) in
+        let many : length (rows (row ++ 10 ∷ closed)) ≡ length (row ∷ rows closed) = ap length (rows-row row closed one) in
+        let here = s.limit in let there = s.place in
+        inl (record {
+          after = s.after;
+          none_unclosed = s.none_unclosed;
+          limit = omega (arith, long, here, limit);
+          place = omega (arith, many, there, next);
+          is_left = s.is_left;
+          answers = ap {B = Answers} (λ l. row_answer a.place row ∷ l) s.answers ∙ first_answer a.place after.place row closed one next;
+        })
+    stops_later last closed unclosed trace p (inr (inl s)) =
+        let long = length-append row (10 ∷ (closed ++ unclosed)) in
+        let joined : (row ++ 10 ∷ closed) ++ unclosed ≡ row ++ 10 ∷ (closed ++ unclosed) = append_assoc row (10 ∷ closed) unclosed in
+        let same : length ((row ++ 10 ∷ closed) ++ unclosed) ≡ length (row ++ 10 ∷ (closed ++ unclosed)) = ap length joined in
+        let here = s.limit in
+        inr (inl (record {
+          ends = s.ends;
+          met_end = s.met_end;
+          limit = omega (arith, long, same, here, limit);
+          is_left = s.is_left;
+          answers = ap {B = Answers} (λ l. row_answer a.place row ∷ l) s.answers ∙ ap (λ l. l ++ replicate s.ends end) (first_answer a.place after.place row (closed ++ unclosed) one next) ∙ ap (λ l. row_answers a.place (rows l) ++ replicate s.ends end) (sym joined);
+          ended = s.ended;
+        }))
+    stops_later last closed unclosed trace p (inr (inr s)) =
+        let long = length-append row (10 ∷ (closed ++ unclosed)) in
+        let joined : (row ++ 10 ∷ closed) ++ unclosed ≡ row ++ 10 ∷ (closed ++ unclosed) = append_assoc row (10 ∷ closed) unclosed in
+        let same : length ((row ++ 10 ∷ closed) ++ unclosed) ≡ length (closed ++ unclosed) + length row + 1 = ap length joined ∙ omega (arith, long) in
+        inr (inr (record {
+          ends = s.ends;
+          missed = elim s.missed [ inl h ↦ inl (let e = h.0 in omega (arith, same, e, limit), h.1) | inr h ↦ inr (let e = h.0 in omega (arith, same, e, limit), h.1) ];
+          is_left = s.is_left;
+          answers = ap {B = Answers} (λ l. row_answer a.place row ∷ l) s.answers ∙ ap (λ l. l ++ failure Read ∷ replicate s.ends end) (first_answer a.place after.place row closed one next);
+        }))
 
-  row_before : (r q : B) (a after : Ahead) (row : List ℕ) (mid : B) (trace : Answers) (p : B × Option Ahead) → IsOneRow row → GivesBytes left stays r row mid → GivesByte left stays mid 10 q → after.left + length row + 1 ≡ a.left → after.place ≡ told_place (a.place + 1) → ReadsRows left stays q after trace p → ReadsRows left stays r a (row_answer a.place row ∷ trace) p
-  row_before r q a after row mid trace p one given newline limit next h = record {
-    closed = row ++ 10 ∷ h.closed;
-    unclosed = h.unclosed;
-    last = h.last;
-    given = more_given r q h.last row h.closed h.unclosed mid given newline h.given;
-    are_closed = IsClosed-row row h.closed h.are_closed;
-    one = h.one;
-    stopped = stops_later h.last a after row h.closed h.unclosed trace p one limit next h.stopped;
-  }
+    row_before : (r q mid : B) (trace : Answers) (p : B × Option Ahead) → GivesBytes left stays r row mid → GivesByte left stays mid 10 q → ReadsRows left stays q after trace p → ReadsRows left stays r a (row_answer a.place row ∷ trace) p
+    row_before r q mid trace p given newline h = record {
+      closed = row ++ 10 ∷ h.closed;
+      unclosed = h.unclosed;
+      last = h.last;
+      given = more_given r q h.last row h.closed h.unclosed mid given newline h.given;
+      are_closed = IsClosed-row row h.closed h.are_closed;
+      one = h.one;
+      stopped = stops_later h.last h.closed h.unclosed trace p h.stopped;
+    }
 
   -- ---- from runs to traces
 
@@ -159,7 +161,7 @@ module _ {B : Type 0} (left : B → Option (List ℕ)) (stays : Bool → B → B
   to_trace (x ∷ rest) r a p placed ran = let d : DrawsRow left stays r a x ran.0 = ran.1 in elim d.ended [
     | inl e ↦ let next = e.place in
         let others = to_trace rest ran.0.0 e.after p (omega (arith, next)) (subst (λ (o : Option Ahead). Run step (ran.0.0, o) rest p) e.is_left ran.2) in
-        subst (λ (y : Answered ℕ RowFault). ReadsRows left stays r a (y ∷ rest) p) (sym e.answered) (row_before r ran.0.0 a e.after d.row d.last rest p d.one d.given e.newline e.limit e.place others)
+        subst (λ (y : Answered ℕ RowFault). ReadsRows left stays r a (y ∷ rest) p) (sym e.answered) (row_before a e.after d.row d.one e.limit e.place r ran.0.0 d.last rest p d.given e.newline others)
     | inr s ↦ elim s [
       | inl e ↦ let h = over_to rest ran.0.0 ran.0.1 p e.is_left ran.2 in
           let same : p ≡ ran.0 = h.1 ∙ ap (λ (o : Option Ahead). (ran.0.0, o)) (sym e.is_left) in

@@ -106,17 +106,18 @@ module _ {S C F X V B E R : Type 0} (steps : S → Answered X E → S → Type 0
   last_through (Ok (Some x)) s t p q r step w = subst (λ a. Drives s p (within a) t q) (sym w.2) (let turned = w.1 in stops_at x turned.0 (outcome x turned.0) s t p q w.0 step turned.1 refl turned.2)
 
   -- an item on which the source's turn went on, before the rest of the fold
-  goes_on_at : (x : X) (v : V) (o : Outcome B E) (s u t : S) (p k q : C × F) (r : Answered R E) → steps s (item x) u → call p.1 x v k.1 → outcome x v ≡ o → TurnedBy {E = E} turns p.0 o (Continue tt) k.0 → Drives u k r t q → Drives s p r t q
-  goes_on_at x v (Kept y) s u t p k q r step called is (Continue z, w, e) rest = driven_after y (from_passes (keeps x v y step called is done)) w rest
-  goes_on_at x v (Kept y) s u t p k q r step called is (Break why, w, e) rest = absurd cc
-  goes_on_at x v LeftOut s u t p k q r step called is w rest = drained_from (left_same x v step called is) (subst (λ c. Drives u (c, k.1) r t q) w.1 rest)
-  goes_on_at x v (Failure d) s u t p k q r step called is w rest = absurd (let e = w.0 in cc)
-  goes_on_at x v End s u t p k q r step called is w rest = absurd (let e = w.0 in cc)
+  module _ (x : X) (v : V) (s u : S) (p k : C × F) (step : steps s (item x) u) (called : call p.1 x v k.1) where
+    goes_on_at : (o : Outcome B E) (t : S) (q : C × F) (r : Answered R E) → outcome x v ≡ o → TurnedBy {E = E} turns p.0 o (Continue tt) k.0 → Drives u k r t q → Drives s p r t q
+    goes_on_at (Kept y) t q r is (Continue z, w, e) rest = driven_after y (from_passes (keeps x v y step called is done)) w rest
+    goes_on_at (Kept y) t q r is (Break why, w, e) rest = absurd cc
+    goes_on_at LeftOut t q r is w rest = drained_from (left_same x v step called is) (subst (λ c. Drives u (c, k.1) r t q) w.1 rest)
+    goes_on_at (Failure d) t q r is w rest = absurd (let e = w.0 in cc)
+    goes_on_at End t q r is w rest = absurd (let e = w.0 in cc)
 
   items_through : (items : List X) (last : Answered X E) (s t : S) (p k q : C × F) (r : Answered (Answered R E) E) → Run steps s (map item items ++ last ∷ []) t → FoldsTo (goes_on Turned) p items k → DriveExit Turned k last r q → Drives s p (within r) t q
   items_through [] last s t p k q r ran went at = last_through last s t p q r (subst (λ (u : S). steps s last u) ran.2 ran.1) (subst (λ (z : C × F). DriveExit Turned z last r q) (sym went) at)
   items_through (x ∷ items) last s t p k q r ran went at = let turned = went.1 in
-      goes_on_at x turned.0 (outcome x turned.0) s ran.0 t p went.0 q (within r) ran.1 turned.1 refl turned.2 (items_through items last ran.0 t went.0 k q r ran.2 went.2 at)
+      goes_on_at x turned.0 s ran.0 p went.0 ran.1 turned.1 (outcome x turned.0) t q (within r) refl turned.2 (items_through items last ran.0 t went.0 k q r ran.2 went.2 at)
 
   -- ---- where the source's turn may be taken
 
@@ -141,13 +142,14 @@ pub drives_through : {S C F X V B E R : Type 0} {steps : S → Answered X E → 
     → Driven steps (FoldingTurn call outcome turns) s p r t q → Driven (passing_step steps call outcome) turns (s, p.1) p.0 (within r) (t, q.1) q.0
 drives_through {steps = steps} {call = call} {outcome = outcome} {turns = turns} {s = s} {t = t} {p = p} {q = q} {r = r} w = items_through steps call outcome turns w.items w.last s t p w.at.carried q r w.ran w.at.went w.at.exit
 
--- The same, where the adapter's closure and the caller's state are lent by reference. What was lent is what those that came back point to, once they are known to be the same.
-pub drives_beside : {S C F X V B E R : Type 0} {steps : S → Answered X E → S → Type 0} {call : F → X → V → F → Type 0} {outcome : X → V → Outcome B E} {turns : C → B → ControlFlow R (Unit {0}) → C → Type 0} {s t : S} {b d : Beside C F} {r : Answered (Answered R E) E} (f : F) (c : C)
-    → Driven steps (TurnThrough beside beside_names (FoldingTurn call outcome turns)) s b r t d → (d.p.ghost_name ≡ b.p.ghost_name → f ≡ d.p.now) → (d.c.ghost_name ≡ b.c.ghost_name → c ≡ d.c.now) → Driven (passing_step steps call outcome) turns (s, b.p.now) b.c.now (within r) (t, f) c
-drives_beside {steps = steps} {call = call} {outcome = outcome} {turns = turns} {s = s} {t = t} {b = b} {d = d} {r = r} f c w is_f is_c = let same = names_kept beside beside_names (FoldingTurn call outcome turns) w in
-    subst (λ z. Driven (passing_step steps call outcome) turns (s, b.p.now) b.c.now (within r) (t, f) z) (sym (is_c (ap (λ z. z.0) same)))
-    (subst (λ z. Driven (passing_step steps call outcome) turns (s, b.p.now) b.c.now (within r) (t, z) d.c.now) (sym (is_f (ap (λ z. z.1) same)))
-    (drives_through (driven_through beside beside_names (FoldingTurn call outcome turns) w)))
+module _ {S C F X V B E R : Type 0} {steps : S → Answered X E → S → Type 0} {call : F → X → V → F → Type 0} {outcome : X → V → Outcome B E} {turns : C → B → ControlFlow R (Unit {0}) → C → Type 0} {s t : S} {b d : Beside C F} {r : Answered (Answered R E) E} where
+  -- The same, where the adapter's closure and the caller's state are lent by reference. What was lent is what those that came back point to, once they are known to be the same.
+  pub drives_beside : (f : F) (c : C)
+      → Driven steps (TurnThrough beside beside_names (FoldingTurn call outcome turns)) s b r t d → (d.p.ghost_name ≡ b.p.ghost_name → f ≡ d.p.now) → (d.c.ghost_name ≡ b.c.ghost_name → c ≡ d.c.now) → Driven (passing_step steps call outcome) turns (s, b.p.now) b.c.now (within r) (t, f) c
+  drives_beside f c w is_f is_c = let same = names_kept beside beside_names (FoldingTurn call outcome turns) w in
+      subst (λ z. Driven (passing_step steps call outcome) turns (s, b.p.now) b.c.now (within r) (t, f) z) (sym (is_c (ap (λ z. z.0) same)))
+      (subst (λ z. Driven (passing_step steps call outcome) turns (s, b.p.now) b.c.now (within r) (t, z) d.c.now) (sym (is_f (ap (λ z. z.1) same)))
+      (drives_through (driven_through beside beside_names (FoldingTurn call outcome turns) w)))
 
 -- calls of the source's turns bring the closure where calls on what comes do
 module _ {S C F X V B E R : Type 0} {m : Contract S X E} (l : Lawful m) (call : F → X → V → F → Type 0) (outcome : X → V → Outcome B E) (turns : C → B → ControlFlow R (Unit {0}) → C → Type 0) where

@@ -53,20 +53,20 @@ module _ {S F X R B E : Type 0} {steps : S → Answered X E → S → Type 0} {c
   skip_first x v [] p rest step called is e close h = absurd (answered outcome p rest close (sym e))
   skip_first x v (r ∷ trace) p rest step called is e close h = leaves_out x v step called is h
 
-  from_asked : {s u t : S} {f h g : F} (x : X) (v : R) (o : Outcome B E) → outcome x v ≡ o → (rest : List (Place X R E)) (trace : List (Answered B E)) → steps s (item x) u → call f x v h
-      → trace ≡ cons_option (outcome_answer o) (filter_map (answer_at outcome) rest) → LastKept (has_answer outcome) (asked x v ∷ rest)
-      → Passes steps call outcome u h (filter_map (answer_at outcome) rest) t g → Passes steps call outcome s f trace t g
-  from_asked {s} {u} {t} {f} {h} {g} x v (Kept y) is rest trace step called e close rests = subst (λ (l : List (Answered B E)). Passes steps call outcome s f l t g) (sym e) (keeps x v y step called is rests)
-  from_asked {s} {u} {t} {f} {h} {g} x v (Failure d) is rest trace step called e close rests = subst (λ (l : List (Answered B E)). Passes steps call outcome s f l t g) (sym e) (refuses x v d step called is rests)
-  from_asked {s} {u} {t} {f} {h} {g} x v End is rest trace step called e close rests = subst (λ (l : List (Answered B E)). Passes steps call outcome s f l t g) (sym e) (closes x v step called is rests)
-  from_asked {s} {u} {t} {f} {h} {g} x v LeftOut is [] trace step called e close rests = absurd (let some : is_some (outcome_answer (outcome x v)) ≡ true = close in let none : is_some (outcome_answer {B = B} {E = E} LeftOut) ≡ true = subst (λ (o : Outcome B E). is_some (outcome_answer o) ≡ true) is some in cc)
-  from_asked {s} {u} {t} {f} {h} {g} x v LeftOut is (p ∷ rest) trace step called e close rests = subst (λ (l : List (Answered B E)). Passes steps call outcome s f l t g) (sym e) (skip_first x v (filter_map (answer_at outcome) (p ∷ rest)) p rest step called is refl close rests)
+  module _ {s u t : S} {f h g : F} (x : X) (v : R) (step : steps s (item x) u) (called : call f x v h) where
+    from_asked : (o : Outcome B E) → outcome x v ≡ o → (rest : List (Place X R E)) (trace : List (Answered B E)) → trace ≡ cons_option (outcome_answer o) (filter_map (answer_at outcome) rest) → LastKept (has_answer outcome) (asked x v ∷ rest)
+        → Passes steps call outcome u h (filter_map (answer_at outcome) rest) t g → Passes steps call outcome s f trace t g
+    from_asked (Kept y) is rest trace e close rests = subst (λ (l : List (Answered B E)). Passes steps call outcome s f l t g) (sym e) (keeps x v y step called is rests)
+    from_asked (Failure d) is rest trace e close rests = subst (λ (l : List (Answered B E)). Passes steps call outcome s f l t g) (sym e) (refuses x v d step called is rests)
+    from_asked End is rest trace e close rests = subst (λ (l : List (Answered B E)). Passes steps call outcome s f l t g) (sym e) (closes x v step called is rests)
+    from_asked LeftOut is [] trace e close rests = absurd (let some : is_some (outcome_answer (outcome x v)) ≡ true = close in let none : is_some (outcome_answer {B = B} {E = E} LeftOut) ≡ true = subst (λ (o : Outcome B E). is_some (outcome_answer o) ≡ true) is some in cc)
+    from_asked LeftOut is (p ∷ rest) trace e close rests = subst (λ (l : List (Answered B E)). Passes steps call outcome s f l t g) (sym e) (skip_first x v (filter_map (answer_at outcome) (p ∷ rest)) p rest step called is refl close rests)
 
   from_places : (places : List (Place X R E)) (s : S) (f : F) (trace : List (Answered B E)) (t : S) (g : F) → Run steps s (map source_answer places) t → Calls call f (filter_map call_of places) g → trace ≡ filter_map (answer_at outcome) places → LastKept (has_answer outcome) places → Passes steps call outcome s f trace t g
   from_places [] s f trace t g ran called e close = subst (λ (l : List (Answered B E)). Passes steps call outcome s f l t g) (sym e) (subst (λ (u : S). Passes steps call outcome s f [] u g) ran (subst (λ (h : F). Passes steps call outcome s f [] s h) called done))
   from_places (failure_at d ∷ places) s f trace t g ran called e close = subst (λ (l : List (Answered B E)). Passes steps call outcome s f l t g) (sym e) (failure_passes d ran.1 (from_places places ran.0 f _ t g ran.2 called refl (kept_tail outcome (failure_at d) places close)))
   from_places (end_at ∷ places) s f trace t g ran called e close = subst (λ (l : List (Answered B E)). Passes steps call outcome s f l t g) (sym e) (end_passes ran.1 (from_places places ran.0 f _ t g ran.2 called refl (kept_tail outcome end_at places close)))
-  from_places (asked x v ∷ places) s f trace t g ran called e close = from_asked x v (outcome x v) refl places trace ran.1 called.1 e close (from_places places ran.0 called.0 _ t g ran.2 called.2 refl (kept_tail outcome (asked x v) places close))
+  from_places (asked x v ∷ places) s f trace t g ran called e close = from_asked x v ran.1 called.1 (outcome x v) refl places trace e close (from_places places ran.0 called.0 _ t g ran.2 called.2 refl (kept_tail outcome (asked x v) places close))
 
   pub to_passes : {s t : S} {f g : F} {trace : List (Answered B E)} → PassTrace steps call outcome (s, f) trace (t, g) → Passes steps call outcome s f trace t g
   to_passes {s} {t} {f} {g} {trace} p = from_places p.places s f trace t g p.drawn p.called p.answers p.last_kept

@@ -150,10 +150,11 @@ module _ {S F X E : Type 0} (steps : S → Answered X E → S → Type 0) (call 
 acts_from : {F X R : Type 0} (call : F → X → R → F → Type 0) (f : F) (h : X → R) → Acts call f h → (k : F) (x : X) (v : R) (g : F) → k ≡ f → call k x v g → (g ≡ f) × (v ≡ h x)
 acts_from call f h acts k x v g e c = acts x v g (subst (λ z. call z x v g) e c)
 
-pub filtered_run : {I F X E : Type 0} (m : Contract I X E) (g : Mut F (Bor X × Unit {0}) (Result Bool E)) (h : X → Bool) (f : F) (it : I) (s t : Filter I F) (xs : List X) (last : Answered X E) → Acts (call_at g) f (λ x. Ok (h x)) → filter_parts s ≡ (it, f) → Run (seen_as filter_parts (filter_contract m g)).steps s (map item xs ++ last ∷ []) t → FilteredRun m.steps h it xs last t.it
-filtered_run {I = I} m g h f it s t xs last acts parts ran =
-    let at : s.it ≡ it = ap (λ p. p.0) parts in
-    subst (λ (i : I). FilteredRun m.steps h i xs last t.it) at (below_run m.steps (call_at g) f h (acts_from (call_at g) f (λ x. Ok (h x)) acts) xs last (filter_parts s) (filter_parts t) (ap (λ p. p.1) parts) (run_seen filter_parts _ (map item xs ++ last ∷ []) s t ran))
+module _ {I F X E : Type 0} (m : Contract I X E) (g : Mut F (Bor X × Unit {0}) (Result Bool E)) (h : X → Bool) (f : F) (it : I) where
+  pub filtered_run : (s t : Filter I F) (xs : List X) (last : Answered X E) → Acts (call_at g) f (λ x. Ok (h x)) → filter_parts s ≡ (it, f) → Run (seen_as filter_parts (filter_contract m g)).steps s (map item xs ++ last ∷ []) t → FilteredRun m.steps h it xs last t.it
+  filtered_run s t xs last acts parts ran =
+      let at : s.it ≡ it = ap (λ p. p.0) parts in
+      subst (λ (i : I). FilteredRun m.steps h i xs last t.it) at (below_run m.steps (call_at g) f h (acts_from (call_at g) f (λ x. Ok (h x)) acts) xs last (filter_parts s) (filter_parts t) (ap (λ p. p.1) parts) (run_seen filter_parts _ (map item xs ++ last ∷ []) s t ran))
 
 -- ---- `Take`
 

@@ -19,24 +19,26 @@ repeats_after steps s u r y i w = record { each = λ trace t v q ran step. i.eac
 
 module _ {A E : Type 0} (rule : A → A → Option Ordering) where
   module _ {S T : Type 0} (left-steps : S → Answered A E → S → Type 0) (right-steps : T → Answered A E → T → Type 0) where
-    compared_from : (pairs : List (A × A)) (last : Answered A E) (y : Option (Answered A E)) (r : Result (Option Ordering) E) (x : A) (b : List (Result A E)) (s u : S) (t v : T) → OfEach (λ p. rule p.0 p.1 ≡ Some Equal) pairs → Repeats left-steps s (Ok x) → AlwaysGives right-steps t b → Run left-steps s (map item (map (λ p. p.0) pairs) ++ last ∷ []) u → Run right-steps t (map item (map (λ p. p.1) pairs) ++ where_drawn y) v → LastRound rule last y r → r ≡ compared rule (Ok x ∷ repeated (length b) x) b
-    unfolding compared repeated
-    compared_from [] last y r x b s u t v equal again gives ran run exit =
-        let is : last ≡ Ok (Some x) = again.each [] s ran.0 last refl ran.1 in
-        last_round rule (Ok (Some x)) y r (Ok x ∷ repeated (length b) x) b (repeated (length b) x, refl) (right_left rule right-steps y b t v gives run) (subst (λ (z : Answered A E). LastRound rule z y r) is exit)
-    compared_from (p ∷ pairs) last y r x [] s u t v equal again gives ran run exit = absurd (let h = gives (Ok (Some p.1)) run.0 run.1 in cc)
-    compared_from (p ∷ pairs) last y r x (Err e ∷ b) s u t v equal again gives ran run exit = absurd (let h = (gives (Ok (Some p.1)) run.0 run.1).0 in cc)
-    compared_from (p ∷ pairs) last y r x (Ok z ∷ b) s u t v equal again gives ran run exit =
-        let left_is : Ok (Some p.0) ≡ Ok (Some x) = again.each [] s ran.0 (Ok (Some p.0)) refl ran.1 in
-        let h = gives (Ok (Some p.1)) run.0 run.1 in
-        let right_is : Ok (Some p.1) ≡ Ok (Some z) = h.0 in
-        let same : rule x z ≡ Some Equal = (let e = equal.0 in cc) in
-        compared_from pairs last y r x b ran.0 u run.0 v equal.1 (repeats_after left-steps s ran.0 (Ok (Some p.0)) (Ok x) again ran.1) h.1 ran.2 run.2 exit ∙ sym (ap (λ o. unless_equal o (compared rule (Ok x ∷ repeated (length b) x) b)) same)
+    -- the rounds before the last one
+    module _ (last : Answered A E) (y : Option (Answered A E)) (r : Result (Option Ordering) E) (x : A) (u : S) (v : T) (exit : LastRound rule last y r) where
+      compared_from : (pairs : List (A × A)) (b : List (Result A E)) (s : S) (t : T) → OfEach (λ p. rule p.0 p.1 ≡ Some Equal) pairs → Repeats left-steps s (Ok x) → AlwaysGives right-steps t b → Run left-steps s (map item (map (λ p. p.0) pairs) ++ last ∷ []) u → Run right-steps t (map item (map (λ p. p.1) pairs) ++ where_drawn y) v → r ≡ compared rule (Ok x ∷ repeated (length b) x) b
+      unfolding compared repeated
+      compared_from [] b s t equal again gives ran run =
+          let is : last ≡ Ok (Some x) = again.each [] s ran.0 last refl ran.1 in
+          last_round rule (Ok (Some x)) y r (Ok x ∷ repeated (length b) x) b (repeated (length b) x, refl) (right_left rule right-steps y b t v gives run) (subst (λ (z : Answered A E). LastRound rule z y r) is exit)
+      compared_from (p ∷ pairs) [] s t equal again gives ran run = absurd (let h = gives (Ok (Some p.1)) run.0 run.1 in cc)
+      compared_from (p ∷ pairs) (Err e ∷ b) s t equal again gives ran run = absurd (let h = (gives (Ok (Some p.1)) run.0 run.1).0 in cc)
+      compared_from (p ∷ pairs) (Ok z ∷ b) s t equal again gives ran run =
+          let left_is : Ok (Some p.0) ≡ Ok (Some x) = again.each [] s ran.0 (Ok (Some p.0)) refl ran.1 in
+          let h = gives (Ok (Some p.1)) run.0 run.1 in
+          let right_is : Ok (Some p.1) ≡ Ok (Some z) = h.0 in
+          let same : rule x z ≡ Some Equal = (let e = equal.0 in cc) in
+          compared_from pairs b ran.0 run.0 equal.1 (repeats_after left-steps s ran.0 (Ok (Some p.0)) (Ok x) again ran.1) h.1 ran.2 run.2 ∙ sym (ap (λ o. unless_equal o (compared rule (Ok x ∷ repeated (length b) x) b)) same)
 
 module _ {S T A E : Type 0} {rule : A → A → Option Ordering} {left-steps : S → Answered A E → S → Type 0} {right-steps : T → Answered A E → T → Type 0} {s : S} (x : A) (b : List (Result A E)) where
   -- a side that gives the item x without end compares as x does, repeated once more often than the other side is long
   pub compared_repeats : {t : T} {r : Result (Option Ordering) E} → Compared rule left-steps right-steps s t r → Repeats left-steps s (Ok x) → Lists right-steps t b → r ≡ compared rule (repeated (length b + 1) x) b
-  compared_repeats {t} {r} c again j = compared_from rule left-steps right-steps c.pairs c.last_left c.last_right r x b s c.left t c.right c.equal again j.runs c.left_ran c.right_ran c.exit ∙ ap (λ a. compared rule a b) (one_more_repeated (length b) x)
+  compared_repeats {t} {r} c again j = compared_from rule left-steps right-steps c.last_left c.last_right r x c.left c.right c.exit c.pairs b s t c.equal again j.runs c.left_ran c.right_ran ∙ ap (λ a. compared rule a b) (one_more_repeated (length b) x)
 
   pub compared_with_repeats : {O : Type 0} {into : O → T → Type 0} {other : O} {r : Result (Option Ordering) E} → ComparedWith rule into left-steps right-steps s other r → Repeats left-steps s (Ok x) → ((right : T) → into other right → Lists right-steps right b) → r ≡ compared rule (repeated (length b + 1) x) b
   compared_with_repeats c again j = compared_repeats c.compared again (j c.right c.made)

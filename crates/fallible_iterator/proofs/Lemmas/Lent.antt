@@ -88,14 +88,15 @@ lent_steps steps = (seen_as take_parts (take_contract (borrowed (unbounded_contr
 pub lists_lent : {S A E : Type 0} {steps : S → Answered A E → S → Type 0} {it : MutBor S} {l : List (Result A E)} → Lists steps it.now l → Lists (λ (s : MutBor S) (r : Answered A E) (t : MutBor S). steps s.now r t.now × (t.ghost_name ≡ s.ghost_name)) it l
 lists_lent {steps = steps} {it = it} {l = l} i = lists_borrowed (unbounded_contract steps) it l i
 
--- After a fold over `take(k + 1)` of a borrow that came to its end, the lender lists what stands behind its first k + 1 items, where it has so many.
-pub rest_lent : {S A B E E' F : Type 0} {steps : S → Answered A E → S → Type 0} {it : MutBor S} {s t : Take (MutBor S)} {call : F → B → A → Result B E' → F → Type 0} {from : E → E' → Type 0} {b v : B} {f : F} {x : S} (k : ℕ) {l : List (Result A E)} → x ≡ t.it.now → take_parts s ≡ (it, suc k) → Folded (lent_steps steps) call from s b f (Ok v) t → Lists steps it.now l → ¬ (nth_of k l ≡ Ok None) → Lists steps x (rest_nth k l)
-rest_lent {S = S} {A = A} {E = E} {steps = steps} {it = it} {s = s} {t = t} {call = call} {from = from} {v = v} {x = x} k {l = l} back parts h i no_end =
-    let m : Contract S A E = unbounded_contract steps in
-    let ended : h.last ≡ end = last_is_end call from h.at.value h.at.closure h.last v h.at.exit in
-    let ran : Run (lent_steps steps) s (map item h.items ++ end ∷ []) t = subst (λ (r : Answered A E). Run (lent_steps steps) s (map item h.items ++ r ∷ []) t) ended h.ran in
-    let left : Lists steps t.it.now (rest_nth k l) = record { runs = rest_given steps h.items k l it.now t.it.now i.runs no_end (of_lender m h.items k it t.it (taken_run (borrowed m) (suc k) it s t h.items end parts ran)) } in
-    rw back left
+module _ {S A B E E' F : Type 0} {steps : S → Answered A E → S → Type 0} {it : MutBor S} {s t : Take (MutBor S)} {call : F → B → A → Result B E' → F → Type 0} {from : E → E' → Type 0} {b v : B} {f : F} {x : S} {l : List (Result A E)} where
+  -- After a fold over `take(k + 1)` of a borrow that came to its end, the lender lists what stands behind its first k + 1 items, where it has so many.
+  pub rest_lent : (k : ℕ) → x ≡ t.it.now → take_parts s ≡ (it, suc k) → Folded (lent_steps steps) call from s b f (Ok v) t → Lists steps it.now l → ¬ (nth_of k l ≡ Ok None) → Lists steps x (rest_nth k l)
+  rest_lent k back parts h i no_end =
+      let m : Contract S A E = unbounded_contract steps in
+      let ended : h.last ≡ end = last_is_end call from h.at.value h.at.closure h.last v h.at.exit in
+      let ran : Run (lent_steps steps) s (map item h.items ++ end ∷ []) t = subst (λ (r : Answered A E). Run (lent_steps steps) s (map item h.items ++ r ∷ []) t) ended h.ran in
+      let left : Lists steps t.it.now (rest_nth k l) = record { runs = rest_given steps h.items k l it.now t.it.now i.runs no_end (of_lender m h.items k it t.it (taken_run (borrowed m) (suc k) it s t h.items end parts ran)) } in
+      rw back left
 
 module _ {A E : Type 0} where
   pub nth_taken : (n : ℕ) (l : List (Result A E)) → nth_of n (taken (suc n) l) ≡ nth_of n l
@@ -107,11 +108,12 @@ module _ {A E : Type 0} where
   nth_taken zero (Err e ∷ l) = refl
   nth_taken (suc n) (Err e ∷ l) = refl
 
--- The same after `nth(k)` over it, which came to an item.
-pub rest_lent_nth : {S A E : Type 0} {steps : S → Answered A E → S → Type 0} {it : MutBor S} {s t : Take (MutBor S)} {o : Option A} {x : S} (k : ℕ) {l : List (Result A E)} → x ≡ t.it.now → take_parts s ≡ (it, suc k) → Nth (lent_steps steps) s k (Ok o) t → Lists steps it.now l → ¬ (nth_of k l ≡ Ok None) → Lists steps x (rest_nth k l)
-rest_lent_nth {A = A} {E = E} {steps = steps} {it = it} {s = s} {t = t} {o = o} {x = x} k {l = l} back parts h i no_end =
-    let left : Lists steps t.it.now (rest_nth k l) = record { runs = item_behind (unbounded_contract steps) k l it t.it h.items o h.at.exit no_end i.runs (taken_run (borrowed (unbounded_contract steps)) (suc k) it s t h.items (Ok o) parts (subst (λ (r : Answered A E). Run (lent_steps steps) s (map item h.items ++ r ∷ []) t) h.at.is h.ran)) } in
-    rw back left
+module _ {S A E : Type 0} {steps : S → Answered A E → S → Type 0} {it : MutBor S} {s t : Take (MutBor S)} {o : Option A} {x : S} {l : List (Result A E)} where
+  -- The same after `nth(k)` over it, which came to an item.
+  pub rest_lent_nth : (k : ℕ) → x ≡ t.it.now → take_parts s ≡ (it, suc k) → Nth (lent_steps steps) s k (Ok o) t → Lists steps it.now l → ¬ (nth_of k l ≡ Ok None) → Lists steps x (rest_nth k l)
+  rest_lent_nth k back parts h i no_end =
+      let left : Lists steps t.it.now (rest_nth k l) = record { runs = item_behind (unbounded_contract steps) k l it t.it h.items o h.at.exit no_end i.runs (taken_run (borrowed (unbounded_contract steps)) (suc k) it s t h.items (Ok o) parts (subst (λ (r : Answered A E). Run (lent_steps steps) s (map item h.items ++ r ∷ []) t) h.at.is h.ran)) } in
+      rw back left
 
 -- ---- under a filter
 

@@ -76,12 +76,13 @@ module _ {S X E : Type 0} (steps : S → Answered X E → S → Type 0) where
     last_kept = d.last_kept;
   }
 
-pub filtered_where_ok : {S F X E : Type 0} {steps : S → Answered X E → S → Type 0} {g : Mut F (Bor X × Unit {0}) (Result Bool E)} {s : Filter S F} {it : S} {f : F} (h : X → Result Bool E) {l : List (Result X E)} → filter_parts s ≡ (it, f) → Acts (call_at g) f h → ListsWhereOk steps it l → ListsWhereOk (λ (u : Filter S F) (r : Answered X E) (v : Filter S F). PassTrace steps (call_at g) tested_outcome (filter_parts u) (r ∷ []) (filter_parts v)) s (filtered h l)
-filtered_where_ok {S} {F} {X} {E} {steps} {g} {s} {it} {f} h {l} parts acts i =
-    let at : it ≡ s.it = sym (ap (λ (p : S × F). p.0) parts) in
-    let same : s.f ≡ f = ap (λ (p : S × F). p.1) parts in
-    let m : Contract S X E = unbounded_contract (ok_steps steps) in
-    lists_fewer _ _ (λ u r v w. filter_ok steps (call_at g) tested_outcome (filter_parts u) r (filter_parts v) w.0 w.1) (filtered h l) s (lists_filtered m g s f h l (ap (λ (o : F). (s.it, o)) same) acts (subst (λ (u : S). Lists (ok_steps steps) u l) at i))
+module _ {S F X E : Type 0} {steps : S → Answered X E → S → Type 0} {g : Mut F (Bor X × Unit {0}) (Result Bool E)} {s : Filter S F} {it : S} {f : F} {l : List (Result X E)} where
+  pub filtered_where_ok : (h : X → Result Bool E) → filter_parts s ≡ (it, f) → Acts (call_at g) f h → ListsWhereOk steps it l → ListsWhereOk (λ (u : Filter S F) (r : Answered X E) (v : Filter S F). PassTrace steps (call_at g) tested_outcome (filter_parts u) (r ∷ []) (filter_parts v)) s (filtered h l)
+  filtered_where_ok h parts acts i =
+      let at : it ≡ s.it = sym (ap (λ (p : S × F). p.0) parts) in
+      let same : s.f ≡ f = ap (λ (p : S × F). p.1) parts in
+      let m : Contract S X E = unbounded_contract (ok_steps steps) in
+      lists_fewer _ _ (λ u r v w. filter_ok steps (call_at g) tested_outcome (filter_parts u) r (filter_parts v) w.0 w.1) (filtered h l) s (lists_filtered m g s f h l (ap (λ (o : F). (s.it, o)) same) acts (subst (λ (u : S). Lists (ok_steps steps) u l) at i))
 
 -- ---- `count`
 

@@ -1,6 +1,6 @@
 -- What `Chunks` makes of its source's answers.
 use Rattle.std.specs.Prelude.{◌≡◌, ℕ, ◌≤◌, ◌<◌, Bool, true, false, ltb, Option, Some, None, Result, Ok, Err, List, [], ◌∷◌, ◌++◌, length, ⊤, ◌⊎◌, vec_items}
-use Rattle.std.proofs.Common.{refl, sym, ap, subst, inl, inr, ◌∙◌}
+use Rattle.std.proofs.Common.{refl, sym, ap, subst, inl, inr}
 use Rattle.std.proofs.lemmas.Bool.{lt-ltb, le-ltb}
 use Rattle.fallible_iterator.specs.Contract.{Contract, seen_as}
 use Rattle.fallible_iterator.specs.Lists.{ListsForGood}
@@ -24,8 +24,8 @@ module _ {A E : Type 0} (from : AllocError → E → Type 0) where
   settled_as n held x w End q grown s = absurd s
 
   -- what settles with the item behind it is what was asked of that item
-  pub settled_grown : (n : ℕ) (held taken was left : Option (Vec A Global)) (asked : Option A) (x : A) (w : Vec A Global) (o : Outcome (Vec A Global) E) (q : ℕ × Option (Vec A Global)) → asked ≡ Some x → taken ≡ held → taken ≡ was → Grown was x w → left ≡ None → Settles w (n, left) o q → chunks_asks from (n, held) asked o q
-  settled_grown n held taken was left asked x w o q is at here grown none s = rw is (settled_as n held x w o q (subst (λ k. Grown k x w) (sym here ∙ at) grown) (subst (λ k. Settles w (n, k) o q) none s))
+  pub settled_grown : (n : ℕ) (held : Option (Vec A Global)) {was left : Option (Vec A Global)} {asked : Option A} (x : A) (w : Vec A Global) (o : Outcome (Vec A Global) E) (q : ℕ × Option (Vec A Global)) → asked ≡ Some x → was ≡ held → Grown was x w → left ≡ None → Settles w (n, left) o q → chunks_asks from (n, held) asked o q
+  settled_grown n held x w o q is same grown none s = rw is (settled_as n held x w o q (subst (λ k. Grown k x w) same grown) (subst (λ k. Settles w (n, k) o q) none s))
 
 -- ---- what it lists
 

@@ -6,7 +6,7 @@ use Rattle.fallible_iterator.specs.Contract.{Contract, seen_as}
 use Rattle.fallible_iterator.specs.Folds.{call_with}
 use Rattle.fallible_iterator.specs.Lists.{ActsWith, Lists, ListsForGood}
 use Rattle.fallible_contract.proofs.Lemmas.Lists.Passing.{by_outcome, lists_seen}
-use Rattle.fallible_itertools.specs.Coalesce.{coalesced_by, coalesce_asks, coalesced_at, coalesce_contract, coalesce_parts, coalesced, coalesced_from}
+use Rattle.fallible_itertools.specs.Coalesce.{OneOrBoth, coalesced_by, coalesce_asks, coalesced_at, coalesce_contract, coalesce_parts, coalesced, coalesced_from}
 use Rattle.fallible_itertools.specs.Holding.{held_beside, held_one}
 use Rattle.fallible_itertools.proofs.Lemmas.HoldingHints.{GivesHeld}
 use Rattle.fallible_itertools.proofs.Lemmas.HoldingLists.{held_list, held_gives}
@@ -15,22 +15,22 @@ use Rattle.fallible_iterator.specs.Outcome.TheVariants.{Kept, LeftOut, Failure, 
 use Rattle.fallible_itertools.specs.declared.coalesce.Coalesce.{Coalesce}
 
 module _ {A E : Type 0} where
-  abbrev next_by : Result (Result A (A × A)) E → Option A
+  abbrev next_by : OneOrBoth A E → Option A
   next_by (Ok (Ok z)) = Some z
   next_by (Ok (Err both)) = Some both.1
   next_by (Err e) = None
 
-  abbrev does_by : Result (Result A (A × A)) E → Outcome A E
+  abbrev does_by : OneOrBoth A E → Outcome A E
   does_by (Ok (Ok z)) = LeftOut
   does_by (Ok (Err both)) = Kept both.0
   does_by (Err e) = Failure e
 
-  by_is : (v : Result (Result A (A × A)) E) (o : Outcome A E) (q : Option A) → coalesced_by v o q → (q ≡ next_by v) × (o ≡ does_by v)
+  by_is : (v : OneOrBoth A E) (o : Outcome A E) (q : Option A) → coalesced_by v o q → (q ≡ next_by v) × (o ≡ does_by v)
   by_is (Ok (Ok z)) o q w = (w.1, w.0)
   by_is (Ok (Err both)) o q w = (w.1, w.0)
   by_is (Err e) o q w = (w.1, w.0)
 
-module _ {A E : Type 0} (h : A → A → Result (Result A (A × A)) E) where
+module _ {A E : Type 0} (h : A → A → OneOrBoth A E) where
   abbrev next : Option A → Option A → Option A
   next None (Some x) = Some x
   next (Some y) (Some x) = next_by (h y x)
@@ -55,7 +55,7 @@ module _ {A E : Type 0} (h : A → A → Result (Result A (A × A)) E) where
   none_left None is = absurd cc
   none_left (Some y) is = absurd cc
 
-  cons_at : (v : Result (Result A (A × A)) E) (l : List (Result A E)) → ((a : Option A) → held_list does next a l ≡ coalesced_from h a l) → by_outcome (does_by v) (held_list does next (next_by v) l) ≡ coalesced_at v (λ held. coalesced_from h held l)
+  cons_at : (v : OneOrBoth A E) (l : List (Result A E)) → ((a : Option A) → held_list does next a l ≡ coalesced_from h a l) → by_outcome (does_by v) (held_list does next (next_by v) l) ≡ coalesced_at v (λ held. coalesced_from h held l)
   cons_at (Ok (Ok z)) l rest = rest (Some z)
   cons_at (Ok (Err both)) l rest = ap (λ k. Ok both.0 ∷ k) (rest (Some both.1))
   cons_at (Err e) l rest = ap (λ k. Err e ∷ k) (rest None)
@@ -73,7 +73,7 @@ module _ {A E : Type 0} (h : A → A → Result (Result A (A × A)) E) where
   unfolding coalesced
   coalesced_is l = from_is None l
 
-  module _ {F : Type 0} (call : F → A → A → Result (Result A (A × A)) E → F → Type 0) (f : F) (acts_with : ActsWith call f h) where
+  module _ {F : Type 0} (call : F → A → A → OneOrBoth A E → F → Type 0) (f : F) (acts_with : ActsWith call f h) where
     pair_at : (q : Option A × F) {held : Option A} → q.0 ≡ held → q.1 ≡ f → q ≡ (held, f)
     pair_at (a, g) same is = rw (same, is) refl
 
@@ -90,14 +90,14 @@ module _ {A E : Type 0} (h : A → A → Result (Result A (A × A)) E) where
     acts : (p : Option A × F) (a x : Option A) (o : Outcome A E) (q : Option A × F) → At p a → coalesce_asks call p x o q → At q (next a x) × (o ≡ does a x)
     acts p a x o q at w = acts_on a x o q (subst (λ k. coalesce_asks call k x o q) at w)
 
-pub lists_coalesced : {S A F E : Type 0} (m : Contract S A E) (g : Mut F (A × (A × Unit {0})) (Result (Result A (A × A)) E)) (s : Coalesce S F A E) (f : F) (h : A → A → Result (Result A (A × A)) E) (l : List (Result A E)) → coalesce_parts s ≡ (s.it, (None, f)) → ActsWith (call_with g) f h → ListsForGood m.steps s.it l
+pub lists_coalesced : {S A F E : Type 0} (m : Contract S A E) (g : Mut F (A × (A × Unit {0})) (OneOrBoth A E)) (s : Coalesce S F A E) (f : F) (h : A → A → OneOrBoth A E) (l : List (Result A E)) → coalesce_parts s ≡ (s.it, (None, f)) → ActsWith (call_with g) f h → ListsForGood m.steps s.it l
     → Lists (seen_as coalesce_parts (coalesce_contract m g)).steps s (coalesced h l)
 lists_coalesced m g s f h l parts a i = lists_seen coalesce_parts (coalesce_contract m g).steps s parts (coalesced_is h l) (held_gives m.steps (coalesce_asks (call_with g)) (At h (call_with g) f a) (does h) (next h) (acts h (call_with g) f a) (settles h) (no_failure h) (none_left h) l s.it (None, f) None refl i.runs)
 
 -- ---- its hint
 
-module _ {A F E : Type 0} (call : F → A → A → Result (Result A (A × A)) E → F → Type 0) where
-  one_held : (v : Result (Result A (A × A)) E) (q : Option A) → coalesced_by v LeftOut q → 1 ≤ held_one q
+module _ {A F E : Type 0} (call : F → A → A → OneOrBoth A E → F → Type 0) where
+  one_held : (v : OneOrBoth A E) (q : Option A) → coalesced_by v LeftOut q → 1 ≤ held_one q
   one_held (Ok (Ok z)) q w = rw w.1 (omega arith)
   one_held (Ok (Err both)) q w = absurd (let is = w.0 in cc)
   one_held (Err e) q w = absurd (let is = w.0 in cc)
@@ -115,6 +115,6 @@ module _ {A F E : Type 0} (call : F → A → A → Result (Result A (A × A)) E
 
 -- ---- one item beside the one that is held
 
-module _ {A F E : Type 0} (call : F → A → A → Result (Result A (A × A)) E → F → Type 0) where
-  pub two_asked : (p : Option A × F) (asked : Option A) (y x : A) (v : Result (Result A (A × A)) E) (f : F) (o : Outcome A E) (q : Option A) → p.0 ≡ Some y → asked ≡ Some x → call p.1 y x v f → coalesced_by v o q → coalesce_asks call p asked o (q, f)
+module _ {A F E : Type 0} (call : F → A → A → OneOrBoth A E → F → Type 0) where
+  pub two_asked : (p : Option A × F) (asked : Option A) (y x : A) (v : OneOrBoth A E) (f : F) (o : Outcome A E) (q : Option A) → p.0 ≡ Some y → asked ≡ Some x → call p.1 y x v f → coalesced_by v o q → coalesce_asks call p asked o (q, f)
   two_asked (held, g) asked y x v f o q is same called by = rw (is, same) (v, called, by)

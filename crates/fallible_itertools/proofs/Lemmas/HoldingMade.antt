@@ -63,11 +63,6 @@ module _ {S P Q X Y B E : Type 0} (steps : S → Answered X E → S → Type 0) 
   refused : (o : Outcome B E) (u : S) (h : P) (r : Answered B E) (t : S) (g : P) → Refuses from o → ByFirst steps asks o u h r t g → AnswersRefusal from r
   refused o u h r t g w f = let k : ByFirst steps asks (Failure w.0) u h r t g = subst (λ (z : Outcome B E). ByFirst steps asks z u h r t g) w.1 f in (w.0, k.0, w.2)
 
-  asked_item : (x : X) (T : S → Type 0) (s : S) (p : P) (a : Q) → ((r : Answered X E) (t : S) → steps s r t → (r ≡ Ok (Some x)) × T t) → At p a → (r : Answered B E) (t : S) (g : P) → FirstOfAll steps asks s p r t g → AnswersRefusal from r ⊎ AskedOf (Some x) T a r t g
-  asked_item x T s p a known at r t g (failed e step is same) = absurd (let h = (known (Err e) t step).0 in cc)
-  asked_item x T s p a known at r t g (asked z w) = let d = known (Ok z) w.source w.step in let same : z ≡ Some x = (let h = d.0 in cc) in
-      elim (on_item p a x w.outcome w.holds at (subst (λ (k : Option X). asks p k w.outcome w.holds) same w.answered)) [ inl e ↦ inl (refused w.outcome w.source w.holds r t g e w.first) | inr c ↦ inr (record { source = w.source; holds = w.holds; outcome = w.outcome; then = d.1; at = c.0; is_made = c.1; first = w.first }) ]
-
   asked_end : (T : S → Type 0) (s : S) (p : P) (a : Q) → ((r : Answered X E) (t : S) → steps s r t → (r ≡ Ok None) × T t) → At p a → (r : Answered B E) (t : S) (g : P) → FirstOfAll steps asks s p r t g → AskedOf None T a r t g
   asked_end T s p a known at r t g (failed e step is same) = absurd (let h = (known (Err e) t step).0 in cc)
   asked_end T s p a known at r t g (asked z w) = let d = known (Ok z) w.source w.step in let same : z ≡ None = (let h = d.0 in cc) in
@@ -107,24 +102,32 @@ module _ {S P Q X Y B E : Type 0} (steps : S → Answered X E → S → Type 0) 
   gives_if [] s some f = absurd (some refl)
   gives_if (y ∷ rest) s some f = λ r t w. elim (f r t w) [ inl e ↦ inl e | inr k ↦ k.2 r t k.1 ]
 
-  -- where it was asked of x first, it gives what the outcome makes of the list from there on
-  gives_by : (x : X) (T : S → Type 0) (rest : List (Result Y E)) (s : S) (p : P) (a : Q) (o : Outcome Y E) → does a (Some x) ≡ o → (o ≡ LeftOut → rest ≡ [] → ⊥) → (o ≡ End → ⊥) → ((r : Answered X E) (t : S) → steps s r t → (r ≡ Ok (Some x)) × T t) → At p a → ((u : S) (h : P) → At h (next a (Some x)) → T u → Gives u h rest) → Gives s p (by_outcome o rest)
-  gives_by x T rest s p a (Kept z) is some no_end known at then = λ r t w. elim (asked_item x T s p a known at r t.0 t.1 (first_of_all steps asks s t.0 p t.1 r (to_passes w))) [
-    | inl e ↦ inl e
-    | inr k ↦
-        (let f = first_kept z k.outcome k.source k.holds r t.0 t.1 (subst (λ (o : Outcome Y E). OutcomeMade made o k.outcome) is k.is_made) k.first in inr (f.0, moved rest f.1 f.2 (then k.source k.holds k.at k.then)))
-  ]
-  gives_by x T rest s p a (Failure d) is some no_end known at then = λ r t w. elim (asked_item x T s p a known at r t.0 t.1 (first_of_all steps asks s t.0 p t.1 r (to_passes w))) [
-    | inl e ↦ inl e
-    | inr k ↦
-        (let f = first_failed d k.outcome k.source k.holds r t.0 t.1 (subst (λ (o : Outcome Y E). OutcomeMade made o k.outcome) is k.is_made) k.first in inr (f.0, moved rest f.1 f.2 (then k.source k.holds k.at k.then)))
-  ]
-  gives_by x T rest s p a End is some no_end known at then = absurd (no_end refl)
-  gives_by x T rest s p a LeftOut is some no_end known at then = gives_if rest (s, p) (some refl) (λ r t w. elim (asked_item x T s p a known at r t.0 t.1 (first_of_all steps asks s t.0 p t.1 r (to_passes w))) [
-    | inl e ↦ inl e
-    | inr k ↦
-        (let f = first_left k.outcome k.source k.holds r t.0 t.1 (subst (λ (o : Outcome Y E). OutcomeMade made o k.outcome) is k.is_made) k.first in inr ((k.source, k.holds), from_passes f, then k.source k.holds k.at k.then))
-  ])
+  -- ---- where it was asked of x first
+
+  module _ (x : X) (T : S → Type 0) (s : S) (p : P) (a : Q) (known : (r : Answered X E) (t : S) → steps s r t → (r ≡ Ok (Some x)) × T t) (at : At p a) where
+    asked_item : (r : Answered B E) (t : S) (g : P) → FirstOfAll steps asks s p r t g → AnswersRefusal from r ⊎ AskedOf (Some x) T a r t g
+    asked_item r t g (failed e step is same) = absurd (let h = (known (Err e) t step).0 in cc)
+    asked_item r t g (asked z w) = let d = known (Ok z) w.source w.step in let same : z ≡ Some x = (let h = d.0 in cc) in
+        elim (on_item p a x w.outcome w.holds at (subst (λ (k : Option X). asks p k w.outcome w.holds) same w.answered)) [ inl e ↦ inl (refused w.outcome w.source w.holds r t g e w.first) | inr c ↦ inr (record { source = w.source; holds = w.holds; outcome = w.outcome; then = d.1; at = c.0; is_made = c.1; first = w.first }) ]
+
+    -- it gives what the outcome makes of the list from there on
+    gives_by : (rest : List (Result Y E)) (o : Outcome Y E) → does a (Some x) ≡ o → (o ≡ LeftOut → rest ≡ [] → ⊥) → (o ≡ End → ⊥) → ((u : S) (h : P) → At h (next a (Some x)) → T u → Gives u h rest) → Gives s p (by_outcome o rest)
+    gives_by rest (Kept z) is some no_end then = λ r t w. elim (asked_item r t.0 t.1 (first_of_all steps asks s t.0 p t.1 r (to_passes w))) [
+      | inl e ↦ inl e
+      | inr k ↦
+          (let f = first_kept z k.outcome k.source k.holds r t.0 t.1 (subst (λ (o : Outcome Y E). OutcomeMade made o k.outcome) is k.is_made) k.first in inr (f.0, moved rest f.1 f.2 (then k.source k.holds k.at k.then)))
+    ]
+    gives_by rest (Failure d) is some no_end then = λ r t w. elim (asked_item r t.0 t.1 (first_of_all steps asks s t.0 p t.1 r (to_passes w))) [
+      | inl e ↦ inl e
+      | inr k ↦
+          (let f = first_failed d k.outcome k.source k.holds r t.0 t.1 (subst (λ (o : Outcome Y E). OutcomeMade made o k.outcome) is k.is_made) k.first in inr (f.0, moved rest f.1 f.2 (then k.source k.holds k.at k.then)))
+    ]
+    gives_by rest End is some no_end then = absurd (no_end refl)
+    gives_by rest LeftOut is some no_end then = gives_if rest (s, p) (some refl) (λ r t w. elim (asked_item r t.0 t.1 (first_of_all steps asks s t.0 p t.1 r (to_passes w))) [
+      | inl e ↦ inl e
+      | inr k ↦
+          (let f = first_left k.outcome k.source k.holds r t.0 t.1 (subst (λ (o : Outcome Y E). OutcomeMade made o k.outcome) is k.is_made) k.first in inr ((k.source, k.holds), from_passes f, then k.source k.holds k.at k.then))
+    ])
 
   failure_first : (e : E) (T : S → Type 0) (rest : List (Result Y E)) (s : S) (p : P) → ((r : Answered X E) (t : S) → steps s r t → (r ≡ Err e) × T t) → ((u : S) → T u → Gives u p rest) → (r : Answered B E) (t : S) (g : P) → FirstOfAll steps asks s p r t g → (r ≡ Err e) × Gives t g rest
   failure_first e T rest s p known then r t g (failed d step is same) = let k = known (Err d) t step in (is ∙ (let h = k.0 in cc), subst (λ (h : P). Gives t h rest) (sym same) (then t k.1))
@@ -150,7 +153,7 @@ module _ {S P Q X Y B E : Type 0} (steps : S → Answered X E → S → Type 0) 
 
     pub held_gives_made : (l : List (Result X E)) (s : S) (p : P) (a : Q) → At p a → GivesForGood steps s l → Gives s p (held_list does next a l)
     held_gives_made [] s p a at i = ended_gives (does a None) s p a refl i at
-    held_gives_made (Ok x ∷ l) s p a at i = gives_by x (λ u. GivesForGood steps u l) (held_list does next (next a (Some x)) l) s p a (does a (Some x)) refl (λ is. nonempty does next Full answers l (next a (Some x)) (answers.left_out a x is)) (answers.no_end a x) i at (λ u h b f. held_gives_made l u h (next a (Some x)) b f)
+    held_gives_made (Ok x ∷ l) s p a at i = gives_by x (λ u. GivesForGood steps u l) s p a i at (held_list does next (next a (Some x)) l) (does a (Some x)) refl (λ is. nonempty does next Full answers l (next a (Some x)) (answers.left_out a x is)) (answers.no_end a x) (λ u h b f. held_gives_made l u h (next a (Some x)) b f)
     held_gives_made (Err e ∷ l) s p a at i = λ r t w. inr (failure_first e (λ u. GivesForGood steps u l) (held_list does next a l) s p i (λ u f. held_gives_made l u p a at f) r t.0 t.1 (first_of_all steps asks s t.0 p t.1 r (to_passes w)))
 
 -- ---- what is seen as its parts

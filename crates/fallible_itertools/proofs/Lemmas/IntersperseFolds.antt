@@ -61,20 +61,21 @@ module _ {S A E C R : Type 0} (is_clone : A → A → Type 0) (is_infallible : A
   last_through (Ok (Some x)) s t b c q r step w = subst (λ a. Drives s (c, (b, None)) (within a) t q) (sym w.2) (let turned = w.1 in answer_stops s t b c turned.0 turned.1 q w.0 (refl, (item x, step, turned.2)) turned.3)
 
   -- after an item on which the source's turn went on nothing is held
-  held_on : (u t : S) (d : C) (j : Bool × Option A) (k q : C × (Bool × Option A)) (r : Answered R E) → IsHeldTurn turns {E = E} d j (Continue tt) k → Drives u k r t q → Drives u (d, j) r t q
-  held_on u t d (b, None) k q r w rest = from_parts u t k q r w.1 w.2 rest
-  held_on u t d (b, Some x) k q r w rest = elim w.0 [
-    | inl c ↦ driven_after x (refl, refl, refl, refl) c.0 (from_parts u t k q r refl w.1 rest)
-    | inr c ↦ absurd (let e = c.2 in cc)
-  ]
+  module _ (t : S) (q : C × (Bool × Option A)) (r : Answered R E) where
+    held_on : (u : S) (d : C) (j : Bool × Option A) (k : C × (Bool × Option A)) → IsHeldTurn turns {E = E} d j (Continue tt) k → Drives u k r t q → Drives u (d, j) r t q
+    held_on u d (b, None) k w rest = from_parts u t k q r w.1 w.2 rest
+    held_on u d (b, Some x) k w rest = elim w.0 [
+      | inl c ↦ driven_after x (refl, refl, refl, refl) c.0 (from_parts u t k q r refl w.1 rest)
+      | inr c ↦ absurd (let e = c.2 in cc)
+    ]
 
-  answer_on : (s u t : S) (b : Bool) (c : C) (a : Answered A E) (j : Bool × Option A) (k q : C × (Bool × Option A)) (r : Answered R E) → Step (s, (z, (b, None))) a (u, (z, j)) → IsAnswersTurn turns c a j (Continue tt) k → Drives u k r t q → Drives s (c, (b, None)) r t q
-  answer_on s u t b c (Ok None) j k q r step w rest = absurd w
-  answer_on s u t b c (Err e) j k q r step w rest = absurd (let h = w.0 in cc)
-  answer_on s u t b c (Ok (Some y)) j k q r step w rest = elim w [
-    | inl d ↦ driven_after y step d.1 (held_on u t d.0 j k q r d.2 rest)
-    | inr d ↦ absurd (let e = d.2 in cc)
-  ]
+    answer_on : (s u : S) (b : Bool) (c : C) (a : Answered A E) (j : Bool × Option A) (k : C × (Bool × Option A)) → Step (s, (z, (b, None))) a (u, (z, j)) → IsAnswersTurn turns c a j (Continue tt) k → Drives u k r t q → Drives s (c, (b, None)) r t q
+    answer_on s u b c (Ok None) j k step w rest = absurd w
+    answer_on s u b c (Err e) j k step w rest = absurd (let h = w.0 in cc)
+    answer_on s u b c (Ok (Some y)) j k step w rest = elim w [
+      | inl d ↦ driven_after y step d.1 (held_on u d.0 j k d.2 rest)
+      | inr d ↦ absurd (let e = d.2 in cc)
+    ]
 
   none_held : (d : C) (j : Bool × Option A) (k : C × (Bool × Option A)) → IsHeldTurn turns {E = E} d j (Continue tt) k → k.1.1 ≡ None
   none_held d (b, None) k w = ap (λ i. i.1) w.2
@@ -88,7 +89,7 @@ module _ {S A E C R : Type 0} (is_clone : A → A → Type 0) (is_infallible : A
   items_through : (items : List A) (last : Answered A E) (s t : S) (p k q : C × (Bool × Option A)) (r : Answered (Answered R E) E) → p.1.1 ≡ None → Run steps s (map item items ++ last ∷ []) t → FoldsTo (goes_on Turned) p items k → DriveExit Turned k last r q → Drives s p (within r) t q
   items_through [] last s t (c, (b, None)) k q r none ran went at = last_through last s t b c q r (subst (λ (u : S). steps s last u) ran.2 ran.1) (subst (λ (i : C × (Bool × Option A)). DriveExit Turned i last r q) (sym went) at)
   items_through (x ∷ items) last s t (c, (b, None)) k q r none ran went at = let turned = went.1 in
-      answer_on s ran.0 t b c turned.0 turned.1 went.0 q (within r) (refl, (item x, ran.1, turned.2)) turned.3 (items_through items last ran.0 t went.0 k q r (none_after c turned.0 turned.1 went.0 turned.3) ran.2 went.2 at)
+      answer_on t q (within r) s ran.0 b c turned.0 turned.1 went.0 (refl, (item x, ran.1, turned.2)) turned.3 (items_through items last ran.0 t went.0 k q r (none_after c turned.0 turned.1 went.0 turned.3) ran.2 went.2 at)
   items_through items last s t (c, (b, Some y)) k q r none ran went at = absurd cc
 
   pub driven_parting : {s t : S} {b d : Beside C (Bool × Option A)} {r : Answered (Answered R E) E} (placing : Bool × Option A) (c : C) → b.p.now.1 ≡ None → Driven steps (TurnThrough beside beside_names Turned) s b r t d → (d.p.ghost_name ≡ b.p.ghost_name → placing ≡ d.p.now) → (d.c.ghost_name ≡ b.c.ghost_name → c ≡ d.c.now) → Driven Step turns (s, (z, b.p.now)) b.c.now (within r) (t, (z, placing)) c

@@ -20,20 +20,25 @@ module _ {S A E : Type 0} (is_clone : A → A → Type 0) (is_infallible : A →
 
   -- ---- from runs
 
-  -- one draw before the rest, where nothing is held
-  drawn_then : (z : A) (s u t : S) (started : Bool) (drawn r : Answered A E) (rest : List (Answered A E)) (j k : Bool × Option A) → steps s drawn u → PlacedAs is_clone is_infallible from z started drawn r j → HeldThen is_clone is_infallible from steps z u j rest t k → Whole z s started (r ∷ rest) t k
-  drawn_then z s u t started (Ok None) r rest j k step w more = rw w.0 (then_end step (subst (λ (i : Bool × Option A). HeldThen is_clone is_infallible from steps z u i rest t k) w.1 more))
-  drawn_then z s u t started (Err e) r rest j k step w more = rw w.0 (then_failure e step (subst (λ (i : Bool × Option A). HeldThen is_clone is_infallible from steps z u i rest t k) w.1 more))
-  drawn_then z s u t false (Ok (Some x)) r rest j k step w more = rw w.0 (then_first_item x step (subst (λ (i : Bool × Option A). HeldThen is_clone is_infallible from steps z u i rest t k) w.1 more))
-  drawn_then z s u t true (Ok (Some x)) r rest j k step w more = elim (subst (λ (i : Bool × Option A). HeldThen is_clone is_infallible from steps z u i rest t k) w.1 more) [
-    | inl h ↦ rw (h.0, h.1, h.2) (later_item_held x r step w.0)
-    | inr h ↦ rw h.1 (then_later_item x r step w.0 h.2)
-  ]
+  module _ (z : A) (t : S) (k : Bool × Option A) (rest : List (Answered A E)) where
+    -- the rest comes where the source is u and i stands beside it
+    abbrev Then : S → Bool × Option A → Type 0
+    Then u i = HeldThen is_clone is_infallible from steps z u i rest t k
+
+    -- one draw before the rest, where nothing is held
+    drawn_then : (s u : S) (started : Bool) (drawn r : Answered A E) (j : Bool × Option A) → steps s drawn u → PlacedAs is_clone is_infallible from z started drawn r j → Then u j → Whole z s started (r ∷ rest) t k
+    drawn_then s u started (Ok None) r j step w more = rw w.0 (then_end step (subst (Then u) w.1 more))
+    drawn_then s u started (Err e) r j step w more = rw w.0 (then_failure e step (subst (Then u) w.1 more))
+    drawn_then s u false (Ok (Some x)) r j step w more = rw w.0 (then_first_item x step (subst (Then u) w.1 more))
+    drawn_then s u true (Ok (Some x)) r j step w more = elim (subst (Then u) w.1 more) [
+      | inl h ↦ rw (h.0, h.1, h.2) (later_item_held x r step w.0)
+      | inr h ↦ rw h.1 (then_later_item x r step w.0 h.2)
+    ]
 
   -- one step before the rest
   step_then : (p u q : State) (r : Answered A E) (rest : List (Answered A E)) → Step p r u → Trace u rest q → Trace p (r ∷ rest) q
   step_then (s, (z, (started, Some x))) (u, (y, j)) (t, (v, k)) r rest step (same, more) = let at : HeldThen is_clone is_infallible from steps z s (started, None) rest t k = subst (λ (i : Bool × Option A). HeldThen is_clone is_infallible from steps z s i rest t k) step.3 (subst (λ (w : S). HeldThen is_clone is_infallible from steps z w j rest t k) step.1 (subst (λ (a : A). HeldThen is_clone is_infallible from steps a u j rest t k) step.2 more)) in (rw (same, step.2) refl, inr (rest, rw step.0 refl, at))
-  step_then (s, (z, (started, None))) (u, (y, j)) (t, (v, k)) r rest step (same, more) = let d = step.1 in (rw (same, step.0) refl, drawn_then z s u t started d.0 r rest j k d.1 d.2 (subst (λ (a : A). HeldThen is_clone is_infallible from steps a u j rest t k) step.0 more))
+  step_then (s, (z, (started, None))) (u, (y, j)) (t, (v, k)) r rest step (same, more) = let d = step.1 in (rw (same, step.0) refl, drawn_then z t k rest s u started d.0 r j d.1 d.2 (subst (λ (a : A). HeldThen is_clone is_infallible from steps a u j rest t k) step.0 more))
 
   none_then : (p : State) → Trace p [] p
   none_then (s, (z, (started, None))) = (refl, nothing_drawn)

@@ -11,9 +11,9 @@ use Rattle.fallible_contract.specs.Closures.{Calls, call_at}
 use Rattle.fallible_contract.specs.Passing.{Place, asked, failure_at, end_at, source_answer, call_of}
 use Rattle.fallible_contract.proofs.Lemmas.Lists.Passing.{lists_seen}
 use Rattle.fallible_core.specs.Cutting.TakeWhile.{cons_while, is_refused, taken_answer, taken_while}
+use Rattle.fallible_core.proofs.Lemmas.Cutting.TakeWhile.{first_call, calls_apart}
 use Rattle.fallible_core.specs.Peeking.Peekable.{Fills, Peeks, failure_told, held_item, peekable_contract, peekable_parts, peekable_step}
 use Rattle.fallible_iterator.proofs.Lemmas.Hints.Drawn.{ItemsOfItems}
-use Rattle.fallible_itertools.proofs.Lemmas.TakeWhileInclusive.{first_call, calls_apart}
 use Rattle.fallible_itertools.specs.Laws.PeekingTakeWhile.{looked_step, held_step}
 use Rattle.fallible_itertools.specs.PeekingTakeWhile.{AcceptsHeld, AgainAt, AskedAgain, DrawnAt, LeftAt, LeftBehind, LooksAhead, PeekingTrace, rest_at, rest_by_while, let_go, peekable_looks, peeking_contract, peeking_parts, peeking_step}
 use Rattle.fallible_core.specs.declared.peeking.peekable.Peekable.{Peekable}
@@ -98,15 +98,19 @@ module _ {S F X E : Type 0} {m : Contract S X E} {looks : S → X → S → Type
   again_more z [] b again = tt
   again_more z (w ∷ places) b again = (b w, again)
 
-  keeps : (z : Z) (p mid : S) (f g : F) (q : S × F) (trace : List (Answered X E)) → let_go z ≡ Some (source_answer z) → ((u v : S) → v ≡ u → LeftBehind looks z u v) → ((w : Z) → AgainAt z w) → m.steps p (source_answer z) mid → Calls call f (filter_map call_of (z ∷ [])) g → Trace (mid, g) trace q → Trace (p, f) (taken_answer z ∷ trace) q
-  keeps z p mid f g q trace is left again step called t = record {
+  -- the place lets its answer go, and asks nothing of what stands behind it
+  abbrev LetsGo : Z → Type 0
+  LetsGo z = (let_go z ≡ Some (source_answer z)) × ((u v : S) → v ≡ u → LeftBehind looks z u v) × ((w : Z) → AgainAt z w)
+
+  keeps : (z : Z) (p mid : S) (f g : F) (q : S × F) (trace : List (Answered X E)) → LetsGo z → m.steps p (source_answer z) mid → Calls call f (filter_map call_of (z ∷ [])) g → Trace (mid, g) trace q → Trace (p, f) (taken_answer z ∷ trace) q
+  keeps z p mid f g q trace goes step called t = record {
     places = z ∷ t.places;
     between = t.between;
-    drawn = subst (λ (o : Option (Answered X E)). Run m.steps p (cons_option o (filter_map let_go t.places)) t.between) (sym is) (mid, step, t.drawn);
-    left = left_more z t.places t.between q.0 (left t.between q.0) t.left;
+    drawn = subst (λ (o : Option (Answered X E)). Run m.steps p (cons_option o (filter_map let_go t.places)) t.between) (sym goes.0) (mid, step, t.drawn);
+    left = left_more z t.places t.between q.0 (goes.1 t.between q.0) t.left;
     called = first_call m.steps call z t.places f g q.1 called t.called;
     answers = ap (λ (l : List (Answered X E)). taken_answer z ∷ l) t.answers;
-    again = again_more z t.places again t.again;
+    again = again_more z t.places goes.2 t.again;
   }
 
   -- behind a look at an item that item is asked of first
@@ -133,35 +137,30 @@ module _ {S F X E : Type 0} {m : Contract S X E} {looks : S → X → S → Type
   from_before (asked y (Ok false)) [] p t u q x look ran left = let d = k.again p x t y q look (subst (λ (v : S). looks v y q) (sym ran) left) in (p, refl, subst (λ (z : X). looks p z q) (sym d.0) d.1)
   from_before (asked y (Ok false)) (w ∷ places) p t u q x look ran left = from_before w places p t u q x look ran left
 
-  refused_first : (places : List Z) (x : X) (p t between : S) (f g : F) (q : S × F) (trace : List (Answered X E)) → looks p x t → Calls call f ((x, Ok false) ∷ []) g
-      → Run m.steps t (filter_map let_go places) between → LeftAt looks places between q.0 → Calls call g (filter_map call_of places) q.1 → trace ≡ map taken_answer places → AskedAgain places → Trace (p, f) (end ∷ trace) q
-  refused_first [] x p t between f g q trace look one ran left called answers again = record {
-    places = asked x (Ok false) ∷ [];
-    between = p;
-    drawn = refl;
-    left = subst (λ (v : S). looks p x v) (ran ∙ sym left) look;
-    called = first_call m.steps call (asked x (Ok false)) [] f g q.1 one called;
-    answers = ap (λ (l : List (Answered X E)). end ∷ l) answers;
-    again = tt;
-  }
-  refused_first (w ∷ places) x p t between f g q trace look one ran left called answers again =
-      let b = from_before w places p t between q.0 x look ran left in
+  -- a look at an item that is refused, before the others
+  look_before : (places : List Z) (x : X) (p t q : S) → looks p x t → Before places t q → AskedAgain places → Before (asked x (Ok false) ∷ places) p q × AskedAgain (asked x (Ok false) ∷ places)
+  look_before [] x p t q look (between, ran, left) again = ((p, refl, subst (λ (v : S). looks p x v) (ran ∙ sym left) look), tt)
+  look_before (w ∷ places) x p t q look (between, ran, left) again = (from_before w places p t between q x look ran left, (first_looked w places p t between q x look ran left again, again))
+
+  refused_first : (x : X) (p mid : S) (f g : F) (q : S × F) (trace : List (Answered X E)) → looks p x mid → Calls call f ((x, Ok false) ∷ []) g → Trace (mid, g) trace q → Trace (p, f) (end ∷ trace) q
+  refused_first x p mid f g q trace look called t =
+      let b = look_before t.places x p mid q.0 look (t.between, t.drawn, t.left) t.again in
       record {
-        places = asked x (Ok false) ∷ w ∷ places;
-        between = b.0;
-        drawn = b.1;
-        left = b.2;
-        called = first_call m.steps call (asked x (Ok false)) (w ∷ places) f g q.1 one called;
-        answers = ap (λ (l : List (Answered X E)). end ∷ l) answers;
-        again = (first_looked w places p t between q.0 x look ran left again, again);
+        places = asked x (Ok false) ∷ t.places;
+        between = b.0.0;
+        drawn = b.0.1;
+        left = b.0.2;
+        called = first_call m.steps call (asked x (Ok false)) t.places f g q.1 called t.called;
+        answers = ap (λ (l : List (Answered X E)). end ∷ l) t.answers;
+        again = b.1;
       }
 
   place_first : (z : Z) (p mid : S) (f g : F) (q : S × F) (trace : List (Answered X E)) → DrawnAt m.steps looks z p mid → Calls call f (filter_map call_of (z ∷ [])) g → Trace (mid, g) trace q → Trace (p, f) (taken_answer z ∷ trace) q
-  place_first (asked x (Ok true)) p mid f g q trace d one t = keeps (asked x (Ok true)) p mid f g q trace refl (λ u v e. e) (λ w. tt) d one t
-  place_first (asked x (Ok false)) p mid f g q trace d one t = refused_first t.places x p mid t.between f g q trace d one t.drawn t.left t.called t.answers t.again
-  place_first (asked x (Err e)) p mid f g q trace d one t = keeps (asked x (Err e)) p mid f g q trace refl (λ u v e. e) (λ w. tt) d one t
-  place_first (failure_at e) p mid f g q trace d one t = keeps (failure_at e) p mid f g q trace refl (λ u v e. e) (λ w. tt) d one t
-  place_first end_at p mid f g q trace d one t = keeps end_at p mid f g q trace refl (λ u v e. e) (λ w. tt) d one t
+  place_first (asked x (Ok true)) p mid f g q trace d one t = keeps (asked x (Ok true)) p mid f g q trace (refl, (λ u v e. e), λ w. tt) d one t
+  place_first (asked x (Ok false)) p mid f g q trace d one t = refused_first x p mid f g q trace d one t
+  place_first (asked x (Err e)) p mid f g q trace d one t = keeps (asked x (Err e)) p mid f g q trace (refl, (λ u v e. e), λ w. tt) d one t
+  place_first (failure_at e) p mid f g q trace d one t = keeps (failure_at e) p mid f g q trace (refl, (λ u v e. e), λ w. tt) d one t
+  place_first end_at p mid f g q trace d one t = keeps end_at p mid f g q trace (refl, (λ u v e. e), λ w. tt) d one t
 
   to_peeking : (trace : List (Answered X E)) (p q : S × F) → Run Step p trace q → Trace p trace q
   to_peeking [] p q e = record { places = []; between = p.0; drawn = refl; left = sym (ap (λ z. z.0) e); called = ap (λ z. z.1) e; answers = refl; again = tt }

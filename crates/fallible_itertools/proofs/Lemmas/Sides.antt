@@ -151,24 +151,26 @@ module _ {S U A B C E F V : Type 0} (steps : S → Answered A E → S → Type 0
   abbrev Together : Parts steps others rule → List (Result C E) → Type 0
   Together p l = (a : List (Result A E)) × (b : List (Result B E)) × SideLists steps p.0 a × SideLists others p.1 b × Q p.2 × (W a b ≡ l)
 
-  together_on : (x : SidesPlace A B E V) (p : Parts steps others rule) (t : S) (u : U) (g : F) (a : List (Result A E)) (b : List (Result B E)) → SideLists steps p.0 a → SideLists others p.1 b → Q p.2 → GivesIf steps p.0 (left_gave x) t → GivesIf others p.1 (right_gave x) u → place_decides rule p.2 x g → (place_answer rule x ≡ first_answer (W a b)) × Together ((t, left_behind rule p.0.1 x), (u, right_behind rule p.1.1 x), g) (rest_of (W a b))
-  together_on (left_failed e) p t u g a b i k c m n d =
-      let first = side_gives_first steps p.0 t (failure e) a i m in
-      let w = by.left_fails a b e first.0 in
-      (w.0, (rest_of a, b, first.1, subst (λ (z : U). SideLists others (z, p.1.1) b) (sym n) k, subst Q (sym d) c, w.1))
-  together_on (right_failed x e) p t u g a b i k c m n d =
-      let first = side_gives_first steps p.0 t (Ok x) a i m in
-      let second = side_gives_first others p.1 u (failure e) b k n in
-      let w = by.right_fails a b x e first.0 second.0 in
-      (w.0, (left_over x a, rest_of b, side_lists_on steps t x x a (inr refl) first.0 first.1, second.1, subst Q (sym d) c, w.1))
-  together_on (both_gave x y v) p t u g a b i k c m n d =
-      let first = side_gives_first steps p.0 t (Ok x) a i m in
-      let second = side_gives_first others p.1 u (Ok y) b k n in
-      let w = by.both_give a b x y v p.2 g c first.0 second.0 d in
-      (w.1, (left_over (rule.left_held x y v) a, left_over (rule.right_held x y v) b, side_lists_on steps t x (rule.left_held x y v) a (lawful.left_kept x y v) first.0 first.1, side_lists_on others u y (rule.right_held x y v) b (lawful.right_kept x y v) second.0 second.1, w.0, w.2))
+  -- one place, where the sides of p list a and b
+  module _ (p : Parts steps others rule) (a : List (Result A E)) (b : List (Result B E)) (i : SideLists steps p.0 a) (k : SideLists others p.1 b) (c : Q p.2) where
+    together_on : (x : SidesPlace A B E V) (t : S) (u : U) (g : F) → GivesIf steps p.0 (left_gave x) t → GivesIf others p.1 (right_gave x) u → place_decides rule p.2 x g → (place_answer rule x ≡ first_answer (W a b)) × Together ((t, left_behind rule p.0.1 x), (u, right_behind rule p.1.1 x), g) (rest_of (W a b))
+    together_on (left_failed e) t u g m n d =
+        let first = side_gives_first steps p.0 t (failure e) a i m in
+        let w = by.left_fails a b e first.0 in
+        (w.0, (rest_of a, b, first.1, subst (λ (z : U). SideLists others (z, p.1.1) b) (sym n) k, subst Q (sym d) c, w.1))
+    together_on (right_failed x e) t u g m n d =
+        let first = side_gives_first steps p.0 t (Ok x) a i m in
+        let second = side_gives_first others p.1 u (failure e) b k n in
+        let w = by.right_fails a b x e first.0 second.0 in
+        (w.0, (left_over x a, rest_of b, side_lists_on steps t x x a (inr refl) first.0 first.1, second.1, subst Q (sym d) c, w.1))
+    together_on (both_gave x y v) t u g m n d =
+        let first = side_gives_first steps p.0 t (Ok x) a i m in
+        let second = side_gives_first others p.1 u (Ok y) b k n in
+        let w = by.both_give a b x y v p.2 g c first.0 second.0 d in
+        (w.1, (left_over (rule.left_held x y v) a, left_over (rule.right_held x y v) b, side_lists_on steps t x (rule.left_held x y v) a (lawful.left_kept x y v) first.0 first.1, side_lists_on others u y (rule.right_held x y v) b (lawful.right_kept x y v) second.0 second.1, w.0, w.2))
 
   together_goes : (p q : Parts steps others rule) (r : Answered C E) (l : List (Result C E)) → Together p l → Step steps others rule p r q → (r ≡ first_answer l) × Together q (rest_of l)
-  together_goes p ((t, h), (u, k), g) r l i w = rw (w.2, w.4, w.6, ← i.5) (together_on w.0 p t u g i.0 i.1 i.2 i.3 i.4 w.1 w.3 w.5)
+  together_goes p ((t, h), (u, k), g) r l i w = rw (w.2, w.4, w.6, ← i.5) (together_on p i.0 i.1 i.2 i.3 i.4 w.0 t u g w.1 w.3 w.5)
 
   pub sides_for_good : (p : Parts steps others rule) (a : List (Result A E)) (b : List (Result B E)) → SideLists steps p.0 a → SideLists others p.1 b → Q p.2 → GivesForGood (Step steps others rule) p (W a b)
   sides_for_good p a b i k c = for_good_by (Step steps others rule) Together (λ s t r l d w. together_goes s t r l d w) (W a b) p (a, b, i, k, c, refl)

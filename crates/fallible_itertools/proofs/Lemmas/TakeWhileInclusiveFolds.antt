@@ -13,22 +13,13 @@ use Rattle.fallible_contract.specs.Passing.{asked, failure_at, end_at, PassAnswe
 use Rattle.fallible_contract.proofs.Lemmas.Folds.{holds_here, holds_after, driven_after, driven_end, driven_failure, driven_stop, driven_through, names_kept, drained_last, turns_map}
 use Rattle.fallible_contract.proofs.Lemmas.Folding.{takes_through}
 use Rattle.fallible_core.specs.Cutting.TakeWhile.{refusing_call}
+use Rattle.fallible_core.proofs.Lemmas.Cutting.TakeWhileFolds.{callable_beside}
 use Rattle.fallible_itertools.specs.TakeWhileInclusive.{StoppingTurn, stopped_where, inclusive_outcome, inclusive_contract, inclusive_parts}
 use Rattle.std.specs.declared.ops.ControlFlow.{ControlFlow}
 use Rattle.std.specs.declared.ops.ControlFlow.TheVariants.{Continue, Break}
 use Rattle.fallible_contract.specs.declared.folds.Beside.{Beside}
 use Rattle.fallible_contract.specs.declared.passing.Outcome.TheVariants.{Kept}
 use Rattle.fallible_itertools.specs.declared.take_while_inclusive.TakeWhileInclusive.{TakeWhileInclusive}
-
--- ---- calls of the predicate, beside whether one refused
-
-module _ {F X E : Type 0} (call : F → X → Result Bool E → F → Type 0) where
-  calls_without_flag : (P : X → Type 0) (made : List (X × Result Bool E)) (p q : Bool × F) → FoldsTo (λ p c q. P c.0 × refusing_call call p c.0 c.1 q) p made q → FoldsTo (λ f c g. P c.0 × call f c.0 c.1 g) p.1 made q.1
-  calls_without_flag P [] p q e = ap (λ z. z.1) e
-  calls_without_flag P (c ∷ made) p q w = (w.0.1, (w.1.0, w.1.1.0), calls_without_flag P made w.0 q w.2)
-
-  callable_beside : {pre : F → X → Type 0} {P : X → Type 0} (p : Bool × F) → IsCallable call pre P p.1 → IsCallable (refusing_call call) (λ q x. pre q.1 x) P p
-  callable_beside {P = P} p callable = record { at = λ q x reached given. callable.at q.1 x (record { made = reached.made; by = calls_without_flag P reached.made p q reached.by }) given }
 
 -- ---- draws and turns
 
@@ -93,41 +84,42 @@ module _ {S F X E : Type 0} (m : Contract S X E) (a : Mut F (Bor X × Unit {0}) 
       turn : goes_on turns p.0 x q.0
 
     -- what the source's turn answers, by the predicate's answer and the caller's turn
-    went_kept : (b : Bool) (s t : S) (p q : C × (Bool × F)) (x : X) (made : ControlFlow (Answered R E) (Unit {0})) → p.1.0 ≡ false → m.steps s (item x) t → Calls p.1 x (Ok b) q.1 → TurnedBy {E = E} turns p.0 (Kept x) made q.0 → Continue tt ≡ stopped_where made q.1.0 → WentOn s t p q x
-    went_kept true s t p q x made unrefused step called (Continue u, turn, is) on = record { unrefused = called.1 ∙ unrefused; drawn = item_step s t p.1 q.1 x true unrefused step called; turn = turn }
-    went_kept false s t p q x made unrefused step called (Continue u, turn, is) on = absurd (let e : Continue tt ≡ stopped_where (Continue tt) true = on ∙ ap (λ z. stopped_where z q.1.0) is ∙ ap (λ z. stopped_where (Continue tt) z) called.1 in cc)
-    went_kept b s t p q x made unrefused step called (Break stop, turn, is) on = absurd (let e : Continue tt ≡ Break (Ok (Some stop)) = on ∙ ap (λ z. stopped_where z q.1.0) is in cc)
+    module _ (s t : S) (p q : C × (Bool × F)) (x : X) (unrefused : p.1.0 ≡ false) (step : m.steps s (item x) t) where
+      went_kept : (b : Bool) (made : ControlFlow (Answered R E) (Unit {0})) → Calls p.1 x (Ok b) q.1 → TurnedBy {E = E} turns p.0 (Kept x) made q.0 → Continue tt ≡ stopped_where made q.1.0 → WentOn s t p q x
+      went_kept true made called (Continue u, turn, is) on = record { unrefused = called.1 ∙ unrefused; drawn = item_step s t p.1 q.1 x true unrefused step called; turn = turn }
+      went_kept false made called (Continue u, turn, is) on = absurd (let e : Continue tt ≡ stopped_where (Continue tt) true = on ∙ ap (λ z. stopped_where z q.1.0) is ∙ ap (λ z. stopped_where (Continue tt) z) called.1 in cc)
+      went_kept b made called (Break stop, turn, is) on = absurd (let e : Continue tt ≡ Break (Ok (Some stop)) = on ∙ ap (λ z. stopped_where z q.1.0) is in cc)
 
-    went_on : (v : Result Bool E) (s t : S) (p q : C × (Bool × F)) (x : X) (made : ControlFlow (Answered R E) (Unit {0})) → p.1.0 ≡ false → m.steps s (item x) t → Calls p.1 x v q.1 → TurnedBy turns p.0 (inclusive_outcome x v) made q.0 → Continue tt ≡ stopped_where made q.1.0 → WentOn s t p q x
-    went_on (Ok b) s t p q x made unrefused step called turned on = went_kept b s t p q x made unrefused step called turned on
-    went_on (Err d) s t p q x made unrefused step called turned on = absurd (let e : Continue tt ≡ Break (Err d) = on ∙ ap (λ z. stopped_where z q.1.0) turned.0 in cc)
+      went_on : (v : Result Bool E) (made : ControlFlow (Answered R E) (Unit {0})) → Calls p.1 x v q.1 → TurnedBy turns p.0 (inclusive_outcome x v) made q.0 → Continue tt ≡ stopped_where made q.1.0 → WentOn s t p q x
+      went_on (Ok b) made called turned on = went_kept b made called turned on
+      went_on (Err d) made called turned on = absurd (let e : Continue tt ≡ Break (Err d) = on ∙ ap (λ z. stopped_where z q.1.0) turned.0 in cc)
 
-    stopped_kept : (b : Bool) (s t : S) (p q : C × (Bool × F)) (x : X) (made : ControlFlow (Answered R E) (Unit {0})) (r : Answered R E) → p.1.0 ≡ false → m.steps s (item x) t → Calls p.1 x (Ok b) q.1 → TurnedBy {E = E} turns p.0 (Kept x) made q.0 → Break r ≡ stopped_where made q.1.0 → Drives s p r t q
-    stopped_kept true s t p q x made r unrefused step called (Continue u, turn, is) on = absurd (let e : Break r ≡ Continue tt = on ∙ ap (λ z. stopped_where z q.1.0) is ∙ ap (λ z. stopped_where (Continue tt) z) (called.1 ∙ unrefused) in cc)
-    stopped_kept false s t p q x made r unrefused step called (Continue u, turn, is) on =
-        let e : Break r ≡ Break (Ok None) = on ∙ ap (λ z. stopped_where z q.1.0) is ∙ ap (λ z. stopped_where (Continue tt) z) called.1 in
-        let same : r ≡ Ok None = cc in
-        subst (λ z. Drives s p z t q) (sym same) (driven_after x (item_step s t p.1 q.1 x false unrefused step called) turn (driven_end (closed_step t q.1 called.1)))
-    stopped_kept b s t p q x made r unrefused step called (Break stop, turn, is) on =
-        let e : Break r ≡ Break (Ok (Some stop)) = on ∙ ap (λ z. stopped_where z q.1.0) is in
-        let same : r ≡ Ok (Some stop) = cc in
-        subst (λ z. Drives s p z t q) (sym same) (driven_stop x (item_step s t p.1 q.1 x b unrefused step called) turn)
+      stopped_kept : (b : Bool) (made : ControlFlow (Answered R E) (Unit {0})) (r : Answered R E) → Calls p.1 x (Ok b) q.1 → TurnedBy {E = E} turns p.0 (Kept x) made q.0 → Break r ≡ stopped_where made q.1.0 → Drives s p r t q
+      stopped_kept true made r called (Continue u, turn, is) on = absurd (let e : Break r ≡ Continue tt = on ∙ ap (λ z. stopped_where z q.1.0) is ∙ ap (λ z. stopped_where (Continue tt) z) (called.1 ∙ unrefused) in cc)
+      stopped_kept false made r called (Continue u, turn, is) on =
+          let e : Break r ≡ Break (Ok None) = on ∙ ap (λ z. stopped_where z q.1.0) is ∙ ap (λ z. stopped_where (Continue tt) z) called.1 in
+          let same : r ≡ Ok None = cc in
+          subst (λ z. Drives s p z t q) (sym same) (driven_after x (item_step s t p.1 q.1 x false unrefused step called) turn (driven_end (closed_step t q.1 called.1)))
+      stopped_kept b made r called (Break stop, turn, is) on =
+          let e : Break r ≡ Break (Ok (Some stop)) = on ∙ ap (λ z. stopped_where z q.1.0) is in
+          let same : r ≡ Ok (Some stop) = cc in
+          subst (λ z. Drives s p z t q) (sym same) (driven_stop x (item_step s t p.1 q.1 x b unrefused step called) turn)
 
-    stopped_at : (v : Result Bool E) (s t : S) (p q : C × (Bool × F)) (x : X) (made : ControlFlow (Answered R E) (Unit {0})) (r : Answered R E) → p.1.0 ≡ false → m.steps s (item x) t → Calls p.1 x v q.1 → TurnedBy turns p.0 (inclusive_outcome x v) made q.0 → Break r ≡ stopped_where made q.1.0 → Drives s p r t q
-    stopped_at (Ok b) s t p q x made r unrefused step called turned on = stopped_kept b s t p q x made r unrefused step called turned on
-    stopped_at (Err d) s t p q x made r unrefused step called turned on =
-        let e : Break r ≡ Break (Err d) = on ∙ ap (λ z. stopped_where z q.1.0) turned.0 in
-        let same : r ≡ Err d = cc in
-        subst (λ z. Drives s p z t q) (sym same) (subst (λ c. Drives s p (Err d) t (c, q.1)) (sym turned.1) (driven_failure (refusal_step s t p.1 q.1 x d unrefused step called)))
+      stopped_at : (v : Result Bool E) (made : ControlFlow (Answered R E) (Unit {0})) (r : Answered R E) → Calls p.1 x v q.1 → TurnedBy turns p.0 (inclusive_outcome x v) made q.0 → Break r ≡ stopped_where made q.1.0 → Drives s p r t q
+      stopped_at (Ok b) made r called turned on = stopped_kept b made r called turned on
+      stopped_at (Err d) made r called turned on =
+          let e : Break r ≡ Break (Err d) = on ∙ ap (λ z. stopped_where z q.1.0) turned.0 in
+          let same : r ≡ Err d = cc in
+          subst (λ z. Drives s p z t q) (sym same) (subst (λ c. Drives s p (Err d) t (c, q.1)) (sym turned.1) (driven_failure (refusal_step s t p.1 q.1 x d unrefused step called)))
 
     -- one turn of the source's fold that went on, and its last answer
     one_went : (s t : S) (p q : C × (Bool × F)) (x : X) → p.1.0 ≡ false → m.steps s (item x) t → goes_on Stopping p x q → WentOn s t p q x
-    one_went s t p q x unrefused step w = went_on w.1.0 s t p q x w.0 unrefused step w.1.1 w.1.2 w.2
+    one_went s t p q x unrefused step w = went_on s t p q x unrefused step w.1.0 w.0 w.1.1 w.1.2 w.2
 
     last_through : (last : Answered X E) (s t : S) (p q : C × (Bool × F)) (r : Answered (Answered R E) E) → p.1.0 ≡ false → m.steps s last t → DriveExit Stopping p last r q → Drives s p (within r) t q
     last_through (Ok None) s t p q r unrefused step w = subst (λ a. Drives s p (within a) t q) (sym w.0) (subst (λ z. Drives s p (Ok None) t z) (sym w.1) (driven_end (end_step s t p.1 unrefused step)))
     last_through (Err d) s t p q r unrefused step w = subst (λ a. Drives s p (within a) t q) (sym w.0) (subst (λ z. Drives s p (Err d) t z) (sym w.1) (driven_failure (failure_step s t p.1 d unrefused step)))
-    last_through (Ok (Some x)) s t p q r unrefused step w = subst (λ a. Drives s p (within a) t q) (sym w.2) (let h = w.1 in stopped_at h.1.0 s t p q x h.0 w.0 unrefused step h.1.1 h.1.2 h.2)
+    last_through (Ok (Some x)) s t p q r unrefused step w = subst (λ a. Drives s p (within a) t q) (sym w.2) (let h = w.1 in stopped_at s t p q x unrefused step h.1.0 h.0 w.0 h.1.1 h.1.2 h.2)
 
     items_through : (items : List X) (last : Answered X E) (s t : S) (p k q : C × (Bool × F)) (r : Answered (Answered R E) E) → p.1.0 ≡ false → Run m.steps s (map item items ++ last ∷ []) t → FoldsTo (goes_on Stopping) p items k → DriveExit Stopping k last r q → Drives s p (within r) t q
     items_through [] last s t p k q r unrefused ran went at = last_through last s t p q r unrefused (subst (λ (u : S). m.steps s last u) ran.2 ran.1) (subst (λ (z : C × (Bool × F)). DriveExit Stopping z last r q) (sym went) at)

@@ -90,10 +90,10 @@ module _ {S P X B E : Type 0} (m : Contract S X E) (l : Lawful m) (asks : P → 
   none_more_closed s t f g None a h = ((λ n b. let k = a.0 b.0 b.1 in (k.0 + held g, (k.0, k.1, omega arith), omega (arith, k.2, b.2, h))), (λ e. let k = a.1 e in (k.0, omega (arith, k.1, h))))
 
   -- an answer after something that was left out
-  answer_after : (s u t : S) (f h g : P) (r : Answered B E) (asked : Option X) (o : Outcome B E) → KeptByDraw m s (Ok asked) u → asks f asked o h → NoneMore (s, f) (u, h) → OnAnswer M (u, h) r (t, g) → OnAnswer M (s, f) r (t, g)
-  answer_after s u t f h g (Ok (Some y)) asked o a called none b = (may_answer_after (asked_before m s u a.may_give) (reaches_from asked o (drawn_asked m s u asked a.answer) called reaches_here) b.0, (λ n c. let j = none.0 n c in let k = b.1 j.0 j.1 in (k.0, k.1, omega (arith, j.2, k.2))), (λ e. let j = none.1 e in let k = b.2 j.0 in (k.0, omega (arith, j.1, k.1))))
-  answer_after s u t f h g (Ok None) asked o a called none b = ((λ n c. let j = none.0 n c in let k = b.0 j.0 j.1 in (k.0, k.1, omega (arith, j.2, k.2))), (λ e. let j = none.1 e in let k = b.1 j.0 in (k.0, omega (arith, j.1, k.1))))
-  answer_after s u t f h g (Err d) asked o a called none b = (elim b.0 [ inl c ↦ inl (a.may_fail d c) | inr c ↦ inr (may_answer_after (asked_before m s u a.may_give) (reaches_from asked o (drawn_asked m s u asked a.answer) called reaches_here) c) ], (λ n c. let j = none.0 n c in let k = b.1 j.0 j.1 in (k.0, k.1, omega (arith, j.2, k.2))), (λ e. let j = none.1 e in let k = b.2 j.0 in (k.0, omega (arith, j.1, k.1))))
+  answer_after : (s u t : S) (f h g : P) (r : Answered B E) {asked : Option X} → KeptByDraw m s (Ok asked) u → Reaches asks (MayBeAsked m s) f h → NoneMore (s, f) (u, h) → OnAnswer M (u, h) r (t, g) → OnAnswer M (s, f) r (t, g)
+  answer_after s u t f h g (Ok (Some y)) a reached none b = (may_answer_after (asked_before m s u a.may_give) reached b.0, (λ n c. let j = none.0 n c in let k = b.1 j.0 j.1 in (k.0, k.1, omega (arith, j.2, k.2))), (λ e. let j = none.1 e in let k = b.2 j.0 in (k.0, omega (arith, j.1, k.1))))
+  answer_after s u t f h g (Ok None) a reached none b = ((λ n c. let j = none.0 n c in let k = b.0 j.0 j.1 in (k.0, k.1, omega (arith, j.2, k.2))), (λ e. let j = none.1 e in let k = b.1 j.0 in (k.0, omega (arith, j.1, k.1))))
+  answer_after s u t f h g (Err d) a reached none b = (elim b.0 [ inl c ↦ inl (a.may_fail d c) | inr c ↦ inr (may_answer_after (asked_before m s u a.may_give) reached c) ], (λ n c. let j = none.0 n c in let k = b.1 j.0 j.1 in (k.0, k.1, omega (arith, j.2, k.2))), (λ e. let j = none.1 e in let k = b.2 j.0 in (k.0, omega (arith, j.1, k.1))))
 
   -- a failure of the source, at which nothing that is held is lost
   answer_failed : (s t : S) (f : P) (e : E) → OnAnswer m s (Err e) t → OnAnswer M (s, f) (Err e) (t, f)
@@ -110,7 +110,7 @@ module _ {S P X B E : Type 0} (m : Contract S X E) (l : Lawful m) (asks : P → 
     gives_answer s t f g _ c (closes x o step called is done) = let a = (l.kept_by_draw s (Ok x) t c step).answer in
         none_more_closed s t f g x a (subst (λ z. HeldAfter (held f) x z (held g)) is (weighs f x o g called))
     gives_answer s t f g r c (leaves_out {u = u} {h = h} x o step called is rest) = let a = l.kept_by_draw s (Ok x) u c step in
-        answer_after s u t f h g r x o a called (none_more_left s u f h x a.answer (subst (λ z. HeldAfter (held f) x z (held h)) is (weighs f x o h called))) (gives_answer u t h g r a.can_next rest)
+        answer_after s u t f h g r a (reaches_from x o (drawn_asked m s u x a.answer) called reaches_here) (none_more_left s u f h x a.answer (subst (λ z. HeldAfter (held f) x z (held h)) is (weighs f x o h called))) (gives_answer u t h g r a.can_next rest)
 
     goes_holding : (p : S × P) (r : Answered B E) (q : S × P) → M.can_next p → M.steps p r q → KeptByDraw M p r q
     goes_holding (s, f) r (t, g) c step = let p = to_passes step in let a = gives_keep s t f g _ c.1 p in let reached = gives_reach s t f g _ c.1 p in record {

@@ -46,17 +46,19 @@ module _ {A E : Type 0} (rule : A → A → Option Ordering) where
     right_left (Some y) b t v gives ran = rest_at right-steps y b t ran.0 gives ran.1
 
   module _ {S T : Type 0} (left-steps : S → Answered A E → S → Type 0) (right-steps : T → Answered A E → T → Type 0) where
-    compared_from : (pairs : List (A × A)) (x : Answered A E) (y : Option (Answered A E)) (r : Result (Option Ordering) E) (a b : List (Result A E)) (s u : S) (t v : T) → OfEach (λ p. rule p.0 p.1 ≡ Some Equal) pairs → AlwaysGives left-steps s a → AlwaysGives right-steps t b → Run left-steps s (map item (map (λ p. p.0) pairs) ++ x ∷ []) u → Run right-steps t (map item (map (λ p. p.1) pairs) ++ where_drawn y) v → LastRound rule x y r → r ≡ compared rule a b
-    unfolding compared
-    compared_from [] x y r a b s u t v equal gives given ran run exit = last_round x y r a b (rest_at left-steps x a s ran.0 gives ran.1) (right_left right-steps y b t v given run) exit
-    compared_from (p ∷ pairs) x y r a b s u t v equal gives given ran run exit =
-        let i = gives_item left-steps a s ran.0 p.0 gives ran.1 in
-        let j = gives_item right-steps b t run.0 p.1 given run.1 in
-        compared_from pairs x y r i.0 j.0 ran.0 u run.0 v equal.1 i.2 j.2 ran.2 run.2 exit ∙ sym (ap (λ l. compared rule l b) i.1 ∙ ap (compared rule (Ok p.0 ∷ i.0)) j.1 ∙ ap (λ o. unless_equal o (compared rule i.0 j.0)) equal.0)
+    -- the rounds before the last one
+    module _ (x : Answered A E) (y : Option (Answered A E)) (r : Result (Option Ordering) E) (u : S) (v : T) (exit : LastRound rule x y r) where
+      compared_from : (pairs : List (A × A)) (a b : List (Result A E)) (s : S) (t : T) → OfEach (λ p. rule p.0 p.1 ≡ Some Equal) pairs → AlwaysGives left-steps s a → AlwaysGives right-steps t b → Run left-steps s (map item (map (λ p. p.0) pairs) ++ x ∷ []) u → Run right-steps t (map item (map (λ p. p.1) pairs) ++ where_drawn y) v → r ≡ compared rule a b
+      unfolding compared
+      compared_from [] a b s t equal gives given ran run = last_round x y r a b (rest_at left-steps x a s ran.0 gives ran.1) (right_left right-steps y b t v given run) exit
+      compared_from (p ∷ pairs) a b s t equal gives given ran run =
+          let i = gives_item left-steps a s ran.0 p.0 gives ran.1 in
+          let j = gives_item right-steps b t run.0 p.1 given run.1 in
+          compared_from pairs i.0 j.0 ran.0 run.0 equal.1 i.2 j.2 ran.2 run.2 ∙ sym (ap (λ l. compared rule l b) i.1 ∙ ap (compared rule (Ok p.0 ∷ i.0)) j.1 ∙ ap (λ o. unless_equal o (compared rule i.0 j.0)) equal.0)
 
 module _ {S T A E : Type 0} {rule : A → A → Option Ordering} {left-steps : S → Answered A E → S → Type 0} {right-steps : T → Answered A E → T → Type 0} {s : S} (a b : List (Result A E)) where
   pub compared_is : {t : T} {r : Result (Option Ordering) E} → Compared rule left-steps right-steps s t r → Lists left-steps s a → Lists right-steps t b → r ≡ compared rule a b
-  compared_is {t} {r} c i j = compared_from rule left-steps right-steps c.pairs c.last_left c.last_right r a b s c.left t c.right c.equal i.runs j.runs c.left_ran c.right_ran c.exit
+  compared_is {t} {r} c i j = compared_from rule left-steps right-steps c.last_left c.last_right r c.left c.right c.exit c.pairs a b s t c.equal i.runs j.runs c.left_ran c.right_ran
 
   pub compared_with_is : {O : Type 0} {into : O → T → Type 0} {other : O} {r : Result (Option Ordering) E} → ComparedWith rule into left-steps right-steps s other r → Lists left-steps s a → ((right : T) → into other right → Lists right-steps right b) → r ≡ compared rule a b
   compared_with_is c i j = compared_is c.compared i (j c.right c.made)

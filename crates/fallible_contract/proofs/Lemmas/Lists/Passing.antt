@@ -67,64 +67,63 @@ module _ {S F P X R B E : Type 0} (steps : S → Answered X E → S → Type 0) 
     at : At g (next p x)
     others : AlwaysGives steps u l
 
-  called_as : (l : List (Result X E)) (x : X) (o : Outcome B E) (s : S) (f : F) (p : P) → outcome x (answers p x) ≡ o → At f p → AlwaysGives steps s (Ok x ∷ l)
-      → (z : X) (v : R) (u : S) (g : F) → steps s (Ok (Some z)) u → call f z v g → CalledAs l p x z v o u g
-  called_as l x o s f p is at a z v u g step called = let h = a (Ok (Some z)) u step in let same : z ≡ x = (let q = h.0 in cc) in
-      let c = acts f p z v g at called in record {
-        outcome_is = ap (λ (w : R). outcome z w) c.1 ∙ ap (λ (y : X). outcome y (answers p y)) same ∙ is;
-        at = subst (λ (y : X). At g (next p y)) same c.0;
-        others = h.1;
-      }
+  -- one draw where an item is the first of the source's list
+  module _ (l : List (Result X E)) (x : X) (s : S) (f : F) (p : P) (at : At f p) (a : AlwaysGives steps s (Ok x ∷ l)) where
+    called_as : (o : Outcome B E) → outcome x (answers p x) ≡ o → (z : X) (v : R) (u : S) (g : F) → steps s (Ok (Some z)) u → call f z v g → CalledAs l p x z v o u g
+    called_as o is z v u g step called = let h = a (Ok (Some z)) u step in let same : z ≡ x = (let q = h.0 in cc) in
+        let c = acts f p z v g at called in record {
+          outcome_is = ap (λ (w : R). outcome z w) c.1 ∙ ap (λ (y : X). outcome y (answers p y)) same ∙ is;
+          at = subst (λ (y : X). At g (next p y)) same c.0;
+          others = h.1;
+        }
 
-  kept_given : (l : List (Result X E)) (rest : List (Result B E)) (x : X) (y : B) (s : S) (f : F) (p : P) → outcome x (answers p x) ≡ Kept y → At f p → AlwaysGives steps s (Ok x ∷ l)
-      → ((u : S) (g : F) → At g (next p x) → AlwaysGives steps u l → Gives u g rest) → (r : Answered B E) (t : S) (g : F) → Passes steps call outcome s f (r ∷ []) t g → (r ≡ Ok (Some y)) × Gives t g rest
-  kept_given l rest x y s f p is at a then _ t g (end_passes step c) = absurd (let h = (a (Ok None) _ step).0 in cc)
-  kept_given l rest x y s f p is at a then _ t g (failure_passes e step c) = absurd (let h = (a (Err e) _ step).0 in cc)
-  kept_given l rest x y s f p is at a then _ t g (keeps z v w step called out done) = let k = called_as l x (Kept y) s f p is at a z v t g step called in ((let q = sym out ∙ k.outcome_is in cc), then t g k.at k.others)
-  kept_given l rest x y s f p is at a then _ t g (refuses z v e step called out c) = absurd (let q = sym out ∙ (called_as l x (Kept y) s f p is at a z v _ _ step called).outcome_is in cc)
-  kept_given l rest x y s f p is at a then _ t g (closes z v step called out c) = absurd (let q = sym out ∙ (called_as l x (Kept y) s f p is at a z v _ _ step called).outcome_is in cc)
-  kept_given l rest x y s f p is at a then r t g (leaves_out z v step called out c) = absurd (let q = sym out ∙ (called_as l x (Kept y) s f p is at a z v _ _ step called).outcome_is in cc)
+    kept_given : (rest : List (Result B E)) (y : B) → outcome x (answers p x) ≡ Kept y
+        → ((u : S) (g : F) → At g (next p x) → AlwaysGives steps u l → Gives u g rest) → (r : Answered B E) (t : S) (g : F) → Passes steps call outcome s f (r ∷ []) t g → (r ≡ Ok (Some y)) × Gives t g rest
+    kept_given rest y is then _ t g (end_passes step c) = absurd (let h = (a (Ok None) _ step).0 in cc)
+    kept_given rest y is then _ t g (failure_passes e step c) = absurd (let h = (a (Err e) _ step).0 in cc)
+    kept_given rest y is then _ t g (keeps z v w step called out done) = let k = called_as (Kept y) is z v t g step called in ((let q = sym out ∙ k.outcome_is in cc), then t g k.at k.others)
+    kept_given rest y is then _ t g (refuses z v e step called out c) = absurd (let q = sym out ∙ (called_as (Kept y) is z v _ _ step called).outcome_is in cc)
+    kept_given rest y is then _ t g (closes z v step called out c) = absurd (let q = sym out ∙ (called_as (Kept y) is z v _ _ step called).outcome_is in cc)
+    kept_given rest y is then r t g (leaves_out z v step called out c) = absurd (let q = sym out ∙ (called_as (Kept y) is z v _ _ step called).outcome_is in cc)
 
-  failed_given : (l : List (Result X E)) (rest : List (Result B E)) (x : X) (d : E) (s : S) (f : F) (p : P) → outcome x (answers p x) ≡ Failure d → At f p → AlwaysGives steps s (Ok x ∷ l)
-      → ((u : S) (g : F) → At g (next p x) → AlwaysGives steps u l → Gives u g rest) → (r : Answered B E) (t : S) (g : F) → Passes steps call outcome s f (r ∷ []) t g → (r ≡ Err d) × Gives t g rest
-  failed_given l rest x d s f p is at a then _ t g (end_passes step c) = absurd (let h = (a (Ok None) _ step).0 in cc)
-  failed_given l rest x d s f p is at a then _ t g (failure_passes e step c) = absurd (let h = (a (Err e) _ step).0 in cc)
-  failed_given l rest x d s f p is at a then _ t g (keeps z v w step called out c) = absurd (let q = sym out ∙ (called_as l x (Failure d) s f p is at a z v _ _ step called).outcome_is in cc)
-  failed_given l rest x d s f p is at a then _ t g (refuses z v e step called out done) = let k = called_as l x (Failure d) s f p is at a z v t g step called in ((let q = sym out ∙ k.outcome_is in cc), then t g k.at k.others)
-  failed_given l rest x d s f p is at a then _ t g (closes z v step called out c) = absurd (let q = sym out ∙ (called_as l x (Failure d) s f p is at a z v _ _ step called).outcome_is in cc)
-  failed_given l rest x d s f p is at a then r t g (leaves_out z v step called out c) = absurd (let q = sym out ∙ (called_as l x (Failure d) s f p is at a z v _ _ step called).outcome_is in cc)
+    failed_given : (rest : List (Result B E)) (d : E) → outcome x (answers p x) ≡ Failure d
+        → ((u : S) (g : F) → At g (next p x) → AlwaysGives steps u l → Gives u g rest) → (r : Answered B E) (t : S) (g : F) → Passes steps call outcome s f (r ∷ []) t g → (r ≡ Err d) × Gives t g rest
+    failed_given rest d is then _ t g (end_passes step c) = absurd (let h = (a (Ok None) _ step).0 in cc)
+    failed_given rest d is then _ t g (failure_passes e step c) = absurd (let h = (a (Err e) _ step).0 in cc)
+    failed_given rest d is then _ t g (keeps z v w step called out c) = absurd (let q = sym out ∙ (called_as (Failure d) is z v _ _ step called).outcome_is in cc)
+    failed_given rest d is then _ t g (refuses z v e step called out done) = let k = called_as (Failure d) is z v t g step called in ((let q = sym out ∙ k.outcome_is in cc), then t g k.at k.others)
+    failed_given rest d is then _ t g (closes z v step called out c) = absurd (let q = sym out ∙ (called_as (Failure d) is z v _ _ step called).outcome_is in cc)
+    failed_given rest d is then r t g (leaves_out z v step called out c) = absurd (let q = sym out ∙ (called_as (Failure d) is z v _ _ step called).outcome_is in cc)
 
-  end_given : (l : List (Result X E)) (x : X) (s : S) (f : F) (p : P) → outcome x (answers p x) ≡ End → At f p → AlwaysGives steps s (Ok x ∷ l)
-      → (r : Answered B E) (t : S) (g : F) → Passes steps call outcome s f (r ∷ []) t g → r ≡ Ok None
-  end_given l x s f p is at a _ t g (end_passes step c) = refl
-  end_given l x s f p is at a _ t g (failure_passes e step c) = absurd (let h = (a (Err e) _ step).0 in cc)
-  end_given l x s f p is at a _ t g (keeps z v w step called out c) = absurd (let q = sym out ∙ (called_as l x End s f p is at a z v _ _ step called).outcome_is in cc)
-  end_given l x s f p is at a _ t g (refuses z v e step called out c) = absurd (let q = sym out ∙ (called_as l x End s f p is at a z v _ _ step called).outcome_is in cc)
-  end_given l x s f p is at a _ t g (closes z v step called out c) = refl
-  end_given l x s f p is at a r t g (leaves_out z v step called out c) = absurd (let q = sym out ∙ (called_as l x End s f p is at a z v _ _ step called).outcome_is in cc)
+    end_given : outcome x (answers p x) ≡ End → (r : Answered B E) (t : S) (g : F) → Passes steps call outcome s f (r ∷ []) t g → r ≡ Ok None
+    end_given is _ t g (end_passes step c) = refl
+    end_given is _ t g (failure_passes e step c) = absurd (let h = (a (Err e) _ step).0 in cc)
+    end_given is _ t g (keeps z v w step called out c) = absurd (let q = sym out ∙ (called_as End is z v _ _ step called).outcome_is in cc)
+    end_given is _ t g (refuses z v e step called out c) = absurd (let q = sym out ∙ (called_as End is z v _ _ step called).outcome_is in cc)
+    end_given is _ t g (closes z v step called out c) = refl
+    end_given is r t g (leaves_out z v step called out c) = absurd (let q = sym out ∙ (called_as End is z v _ _ step called).outcome_is in cc)
 
-  -- a state from which the draw is made once the item is left out
-  draw_after_left_out : (l : List (Result X E)) (rest : List (Result B E)) (x : X) (s : S) (f : F) (p : P) → outcome x (answers p x) ≡ LeftOut → At f p → AlwaysGives steps s (Ok x ∷ l)
-      → ((u : S) (g : F) → At g (next p x) → AlwaysGives steps u l → Gives u g rest) → (r : Answered B E) (t : S) (g : F) → Passes steps call outcome s f (r ∷ []) t g
-      → (q : S × F) × passing_step steps call outcome q r (t, g) × AlwaysGives (passing_step steps call outcome) q rest
-  draw_after_left_out l rest x s f p is at a then _ t g (end_passes step c) = absurd (let h = (a (Ok None) _ step).0 in cc)
-  draw_after_left_out l rest x s f p is at a then _ t g (failure_passes e step c) = absurd (let h = (a (Err e) _ step).0 in cc)
-  draw_after_left_out l rest x s f p is at a then _ t g (keeps z v w step called out c) = absurd (let q = sym out ∙ (called_as l x LeftOut s f p is at a z v _ _ step called).outcome_is in cc)
-  draw_after_left_out l rest x s f p is at a then _ t g (refuses z v e step called out c) = absurd (let q = sym out ∙ (called_as l x LeftOut s f p is at a z v _ _ step called).outcome_is in cc)
-  draw_after_left_out l rest x s f p is at a then _ t g (closes z v step called out c) = absurd (let q = sym out ∙ (called_as l x LeftOut s f p is at a z v _ _ step called).outcome_is in cc)
-  draw_after_left_out l rest x s f p is at a then r t g (leaves_out {u = u} {h = h} z v step called out c) = let k = called_as l x LeftOut s f p is at a z v u h step called in ((u, h), from_passes c, then u h k.at k.others)
+    -- a state from which the draw is made once the item is left out
+    draw_after_left_out : (rest : List (Result B E)) → outcome x (answers p x) ≡ LeftOut
+        → ((u : S) (g : F) → At g (next p x) → AlwaysGives steps u l → Gives u g rest) → (r : Answered B E) (t : S) (g : F) → Passes steps call outcome s f (r ∷ []) t g
+        → (q : S × F) × passing_step steps call outcome q r (t, g) × AlwaysGives (passing_step steps call outcome) q rest
+    draw_after_left_out rest is then _ t g (end_passes step c) = absurd (let h = (a (Ok None) _ step).0 in cc)
+    draw_after_left_out rest is then _ t g (failure_passes e step c) = absurd (let h = (a (Err e) _ step).0 in cc)
+    draw_after_left_out rest is then _ t g (keeps z v w step called out c) = absurd (let q = sym out ∙ (called_as LeftOut is z v _ _ step called).outcome_is in cc)
+    draw_after_left_out rest is then _ t g (refuses z v e step called out c) = absurd (let q = sym out ∙ (called_as LeftOut is z v _ _ step called).outcome_is in cc)
+    draw_after_left_out rest is then _ t g (closes z v step called out c) = absurd (let q = sym out ∙ (called_as LeftOut is z v _ _ step called).outcome_is in cc)
+    draw_after_left_out rest is then r t g (leaves_out {u = u} {h = h} z v step called out c) = let k = called_as LeftOut is z v u h step called in ((u, h), from_passes c, then u h k.at k.others)
 
-  item_given : (l : List (Result X E)) (rest : List (Result B E)) (x : X) (o : Outcome B E) (s : S) (f : F) (p : P) → outcome x (answers p x) ≡ o → At f p → AlwaysGives steps s (Ok x ∷ l)
-      → ((u : S) (g : F) → At g (next p x) → AlwaysGives steps u l → Gives u g rest) → Gives s f (by_outcome o rest)
-  item_given l rest x (Kept y) s f p is at a then = λ r t w. kept_given l rest x y s f p is at a then r t.0 t.1 (to_passes w)
-  item_given l rest x (Failure d) s f p is at a then = λ r t w. failed_given l rest x d s f p is at a then r t.0 t.1 (to_passes w)
-  item_given l rest x End s f p is at a then = λ r t w. end_given l x s f p is at a r t.0 t.1 (to_passes w)
-  item_given l rest x LeftOut s f p is at a then = gives_if (passing_step steps call outcome) rest (s, f) (λ r t w. draw_after_left_out l rest x s f p is at a then r t.0 t.1 (to_passes w))
+    item_given : (rest : List (Result B E)) (o : Outcome B E) → outcome x (answers p x) ≡ o → ((u : S) (g : F) → At g (next p x) → AlwaysGives steps u l → Gives u g rest) → Gives s f (by_outcome o rest)
+    item_given rest (Kept y) is then = λ r t w. kept_given rest y is then r t.0 t.1 (to_passes w)
+    item_given rest (Failure d) is then = λ r t w. failed_given rest d is then r t.0 t.1 (to_passes w)
+    item_given rest End is then = λ r t w. end_given is r t.0 t.1 (to_passes w)
+    item_given rest LeftOut is then = gives_if (passing_step steps call outcome) rest (s, f) (λ r t w. draw_after_left_out rest is then r t.0 t.1 (to_passes w))
 
   pub all_given : (l : List (Result X E)) (s : S) (f : F) (p : P) → At f p → AlwaysGives steps s l → Gives s f (passed outcome answers next p l)
   all_given [] s f p at a = λ r t w. none_given s f r t.0 t.1 a (to_passes w)
   all_given (Err d ∷ l) s f p at a = λ r t w. failure_given d l (passed outcome answers next p l) s f (λ u b. all_given l u f p at b) a r t.0 t.1 (to_passes w)
-  all_given (Ok x ∷ l) s f p at a = item_given l (passed outcome answers next (next p x) l) x (outcome x (answers p x)) s f p refl at a (λ u g k b. all_given l u g (next p x) k b)
+  all_given (Ok x ∷ l) s f p at a = item_given l x s f p at a (passed outcome answers next (next p x) l) (outcome x (answers p x)) refl (λ u g k b. all_given l u g (next p x) k b)
 
 -- ---- with a closure that acts as a function
 

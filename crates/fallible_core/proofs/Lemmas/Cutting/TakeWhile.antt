@@ -17,25 +17,25 @@ use Rattle.fallible_core.specs.declared.cutting.take_while.TakeWhile.{TakeWhile}
 
 module _ {S F X R E : Type 0} (steps : S → Answered X E → S → Type 0) (call : F → X → R → F → Type 0) where
   -- the call at a first place, and those at the others
-  first_call : (x : Place X R E) (places : List (Place X R E)) (f h g : F) → Calls call f (filter_map call_of (x ∷ [])) h → Calls call h (filter_map call_of places) g → Calls call f (filter_map call_of (x ∷ places)) g
+  pub first_call : (x : Place X R E) (places : List (Place X R E)) (f h g : F) → Calls call f (filter_map call_of (x ∷ [])) h → Calls call h (filter_map call_of places) g → Calls call f (filter_map call_of (x ∷ places)) g
   first_call (asked x v) places f h g one rest = (one.0, one.1, subst (λ (k : F). Calls call k (filter_map call_of places) g) (sym one.2) rest)
   first_call (failure_at e) places f h g one rest = subst (λ (k : F). Calls call k (filter_map call_of places) g) (sym one) rest
   first_call end_at places f h g one rest = subst (λ (k : F). Calls call k (filter_map call_of places) g) (sym one) rest
 
-  calls_apart : (x : Place X R E) (places : List (Place X R E)) (f g : F) → Calls call f (filter_map call_of (x ∷ places)) g → (h : F) × Calls call f (filter_map call_of (x ∷ [])) h × Calls call h (filter_map call_of places) g
+  pub calls_apart : (x : Place X R E) (places : List (Place X R E)) (f g : F) → Calls call f (filter_map call_of (x ∷ places)) g → (h : F) × Calls call f (filter_map call_of (x ∷ [])) h × Calls call h (filter_map call_of places) g
   calls_apart (asked x v) places f g c = (c.0, (c.0, c.1, refl), c.2)
   calls_apart (failure_at e) places f g c = (f, refl, c)
   calls_apart end_at places f g c = (f, refl, c)
 
   -- the draws from the source, and the calls at their places
-  abbrev Both : List (Place X R E) → S → F → S → F → Type 0
+  abbrev pub Both : List (Place X R E) → S → F → S → F → Type 0
   Both places s f t g = Run steps s (map source_answer places) t × Calls call f (filter_map call_of places) g
 
-  to_both : (places : List (Place X R E)) (s : S) (f : F) (t : S) (g : F) → FoldsTo (place_drawn steps call) (s, f) places (t, g) → Both places s f t g
+  pub to_both : (places : List (Place X R E)) (s : S) (f : F) (t : S) (g : F) → FoldsTo (place_drawn steps call) (s, f) places (t, g) → Both places s f t g
   to_both [] s f t g e = (ap (λ p. p.0) e, ap (λ p. p.1) e)
   to_both (x ∷ places) s f t g h = let b = to_both places h.0.0 h.0.1 t g h.2 in ((h.0.0, h.1.0, b.0), first_call x places f h.0.1 g h.1.1 b.1)
 
-  from_both : (places : List (Place X R E)) (s : S) (f : F) (t : S) (g : F) → Both places s f t g → FoldsTo (place_drawn steps call) (s, f) places (t, g)
+  pub from_both : (places : List (Place X R E)) (s : S) (f : F) (t : S) (g : F) → Both places s f t g → FoldsTo (place_drawn steps call) (s, f) places (t, g)
   from_both [] s f t g b = rw (b.0, b.1) refl
   from_both (x ∷ places) s f t g b = let c = calls_apart x places f g b.1 in (((b.0).0, c.0), ((b.0).1, c.1), from_both places (b.0).0 c.0 t g ((b.0).2, c.2))
 

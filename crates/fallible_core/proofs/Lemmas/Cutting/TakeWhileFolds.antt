@@ -24,7 +24,7 @@ module _ {F X E : Type 0} (call : F → X → Result Bool E → F → Type 0) wh
   calls_without_flag P [] p q e = ap (λ z. z.1) e
   calls_without_flag P (c ∷ made) p q w = (w.0.1, (w.1.0, w.1.1.0), calls_without_flag P made w.0 q w.2)
 
-  callable_beside : {pre : F → X → Type 0} {P : X → Type 0} (p : Bool × F) → IsCallable call pre P p.1 → IsCallable (refusing_call call) (λ q x. pre q.1 x) P p
+  pub callable_beside : {pre : F → X → Type 0} {P : X → Type 0} (p : Bool × F) → IsCallable call pre P p.1 → IsCallable (refusing_call call) (λ q x. pre q.1 x) P p
   callable_beside {P = P} p callable = record { at = λ q x reached given. callable.at q.1 x (record { made = reached.made; by = calls_without_flag P reached.made p q reached.by }) given }
 
 -- ---- of the struct

@@ -118,12 +118,13 @@ module _ {S F X E : Type 0} (steps : S → Answered X E → S → Type 0) (call 
       record { met = asked x (Ok true) ∷ k.met; after = k.after; drawn = (u, step, k.drawn); called = (j.1, called.1, k.called); answers = k.answers; until_false = until_cons_left_out (asked x (Ok true)) k.met k.after q.0 r rest refl k.answers k.until_false }
 
   -- a left-out item before an answer
-  left_out_first : (met : List (Place X (Result Bool E) E)) (after : List (Answered X E)) (trace : List (Answered X E)) (x : X) (s u t : S) (f h : F) (q : Bool × F) → steps s (item x) u → call f x (Ok true) h → trace ≡ filter_map (answer_at asked_outcome) met ++ after → AskedUntilFalse false (asked x (Ok true) ∷ met) after q.0 → P u (false, h) trace t q → P s (false, f) trace t q
-  left_out_first met after (r ∷ trace) x s u t f h q step called answers until rest = leaves_out x (Some (Ok true)) step (refl, called, refl) refl rest
-  left_out_first [] after [] x s u t f h (true, k) step called answers until rest = absurd cc
-  left_out_first (p ∷ met) after [] x s u t f h (true, k) step called answers until rest = absurd (ends_answered p met after until.1 (sym answers))
-  left_out_first [] after [] x s u t f h (false, k) step called answers until rest = absurd (let some : false ≡ true = until.2 in cc)
-  left_out_first (p ∷ met) after [] x s u t f h (false, k) step called answers until rest = absurd (answered asked_outcome p met until.2 (sym (append-nil (filter_map (answer_at asked_outcome) (p ∷ met))) ∙ ap (λ (l : List (Answered X E)). filter_map (answer_at asked_outcome) (p ∷ met) ++ l) (sym until.1) ∙ sym answers))
+  module _ (x : X) (s u : S) (f h : F) (step : steps s (item x) u) (called : call f x (Ok true) h) where
+    left_out_first : (met : List (Place X (Result Bool E) E)) (after : List (Answered X E)) (trace : List (Answered X E)) (t : S) (q : Bool × F) → trace ≡ filter_map (answer_at asked_outcome) met ++ after → AskedUntilFalse false (asked x (Ok true) ∷ met) after q.0 → P u (false, h) trace t q → P s (false, f) trace t q
+    left_out_first met after (r ∷ trace) t q answers until rest = leaves_out x (Some (Ok true)) step (refl, called, refl) refl rest
+    left_out_first [] after [] t (true, k) answers until rest = absurd cc
+    left_out_first (p ∷ met) after [] t (true, k) answers until rest = absurd (ends_answered p met after until.1 (sym answers))
+    left_out_first [] after [] t (false, k) answers until rest = absurd (let some : false ≡ true = until.2 in cc)
+    left_out_first (p ∷ met) after [] t (false, k) answers until rest = absurd (answered asked_outcome p met until.2 (sym (append-nil (filter_map (answer_at asked_outcome) (p ∷ met))) ∙ ap (λ (l : List (Answered X E)). filter_map (answer_at asked_outcome) (p ∷ met) ++ l) (sym until.1) ∙ sym answers))
 
   skips_passes : (met : List (Place X (Result Bool E) E)) (after : List (Answered X E)) (s t : S) (f : F) (q : Bool × F) → Run steps s (map source_answer met ++ after) t → Calls (call) f (filter_map call_of met) q.1 → AskedUntilFalse false met after q.0 → P s (false, f) (filter_map (answer_at asked_outcome) met ++ after) t q
   skips_passes [] after s t f (true, k) ran called until = absurd until
@@ -132,7 +133,7 @@ module _ {S F X E : Type 0} (steps : S → Answered X E → S → Type 0) (call 
   skips_passes (failure_at e ∷ met) after s t f q ran called until = failure_passes e ran.1 (skips_passes met after ran.0 t f q ran.2 called (until_tail (failure_at e) met after q.0 refl until))
   skips_passes (end_at ∷ met) after s t f q ran called until = end_passes ran.1 (skips_passes met after ran.0 t f q ran.2 called (until_tail end_at met after q.0 refl until))
   skips_passes (asked x (Err e) ∷ met) after s t f q ran called until = refuses x (Some (Err e)) e ran.1 (refl, called.1, refl) refl (skips_passes met after ran.0 t called.0 q ran.2 called.2 (until_tail (asked x (Err e)) met after q.0 refl until))
-  skips_passes (asked x (Ok true) ∷ met) after s t f q ran called until = left_out_first met after (filter_map (answer_at asked_outcome) met ++ after) x s ran.0 t f called.0 q ran.1 called.1 refl until (skips_passes met after ran.0 t called.0 q ran.2 called.2 (until_tail (asked x (Ok true)) met after q.0 refl until))
+  skips_passes (asked x (Ok true) ∷ met) after s t f q ran called until = left_out_first x s ran.0 f called.0 ran.1 called.1 met after (filter_map (answer_at asked_outcome) met ++ after) t q refl until (skips_passes met after ran.0 t called.0 q ran.2 called.2 (until_tail (asked x (Ok true)) met after q.0 refl until))
   skips_passes (asked x (Ok false) ∷ []) after s t f (true, k) ran called until = keeps x (Some (Ok false)) x ran.1 (refl, called.1, refl) refl (subst (λ (h : F). P ran.0 (true, called.0) after t (true, h)) called.2 (run_passes after ran.0 t called.0 ran.2))
   skips_passes (asked x (Ok false) ∷ p ∷ met) after s t f (true, k) ran called until = absurd (let d = until.0 in cc)
   skips_passes (asked x (Ok false) ∷ met) after s t f (false, k) ran called until = absurd (let d = until.0.0 in cc)

@@ -1,7 +1,7 @@
 -- The runs of `Flatten` are the traces that its definition names, what one draw of it is, and what it lists.
 use Rattle.std.specs.Prelude.{◌≡◌, false, List, [], ◌∷◌, ◌++◌, Option, Result, Some, None, Ok, Err}
 use Rattle.std.specs.List.{flat_map}
-use Rattle.std.proofs.Common.{refl, sym, ◌∙◌, ap, subst}
+use Rattle.std.proofs.Common.{refl, sym, ap, subst}
 use Rattle.std.proofs.lemmas.List.{append-nil}
 use Rattle.fallible_contract.specs.Traces.{Answered, item, failure, end, is_end}
 use Rattle.fallible_contract.specs.Contract.{Contract, seen_as}
@@ -53,32 +53,34 @@ module _ {S X C B E : Type 0} (outer : S → Answered X E → S → Type 0) (int
   hand_finished_at None c answers e h = absurd cc
 
   -- the inner iterator in hand ended
-  end_in_hand : (s t : S) (c d : C) (hand hand' : Option C) (r : Answered B E) (trace rest : List (Answered B E)) → inner c end d → hand ≡ None → trace ≡ r ∷ rest → D s hand trace t hand' → D s (Some c) trace t hand'
-  end_in_hand s t c d _ _ r _ rest step e some nothing_drawn = absurd cc
-  end_in_hand s _ c d _ _ r trace rest step e some (still_in_hand u) = absurd cc
-  end_in_hand s t c d hand hand' r trace rest step e some (outer_drawn j) = let none = none_in_hand hand j.in_hand e j.hand_finished in outer_drawn (record { in_hand = []; parts = j.parts; last = j.last; drawn = j.drawn; hand_finished = record { after = d; drawn = (d, step, refl); no_end = tt }; finished = j.finished; at_last = j.at_last; answers = subst (λ (l : List (Answered B E)). trace ≡ l ++ flat_map part_answers (j.parts ++ j.last ∷ [])) none j.answers })
+  end_in_hand : (s t : S) (c d : C) (hand hand' : Option C) (trace : List (Answered B E)) → inner c end d → hand ≡ None → (trace ≡ [] → ⊥) → D s hand trace t hand' → D s (Some c) trace t hand'
+  end_in_hand s t c d _ _ _ step e some nothing_drawn = absurd (some refl)
+  end_in_hand s _ c d _ _ trace step e some (still_in_hand u) = absurd cc
+  end_in_hand s t c d hand hand' trace step e some (outer_drawn j) = let none = none_in_hand hand j.in_hand e j.hand_finished in outer_drawn (record { in_hand = []; parts = j.parts; last = j.last; drawn = j.drawn; hand_finished = record { after = d; drawn = (d, step, refl); no_end = tt }; finished = j.finished; at_last = j.at_last; answers = subst (λ (l : List (Answered B E)). trace ≡ l ++ flat_map part_answers (j.parts ++ j.last ∷ [])) none j.answers })
 
-  -- an answer of the outer source that is no item
-  answer_by_itself : (s u t : S) (hand hand' : Option C) (p : Part X C B E) (r : Answered B E) (trace : List (Answered B E)) → outer s (outer_answer p) u → FinishedPart into inner p → (hand' ≡ None → LastPart into inner p hand') → part_answers p ≡ r ∷ [] → hand ≡ None → D u hand trace t hand' → D s None (r ∷ trace) t hand'
-  answer_by_itself s u _ hand _ p r _ step whole last is e nothing_drawn = outer_drawn (record { in_hand = []; parts = []; last = p; drawn = (u, step, refl); hand_finished = refl; finished = tt; at_last = last e; answers = sym (append-nil (part_answers p) ∙ is) })
-  answer_by_itself s u _ _ _ p r trace step whole last is e (still_in_hand k) = absurd cc
-  answer_by_itself s u t hand hand' p r trace step whole last is e (outer_drawn j) = let none = none_in_hand hand j.in_hand e j.hand_finished in let rest : trace ≡ flat_map part_answers (j.parts ++ j.last ∷ []) = subst (λ (l : List (Answered B E)). trace ≡ l ++ flat_map part_answers (j.parts ++ j.last ∷ [])) none j.answers in
-      outer_drawn (record { in_hand = []; parts = p ∷ j.parts; last = j.last; drawn = (u, step, j.drawn); hand_finished = refl; finished = (whole, j.finished); at_last = j.at_last; answers = rw (is, sym rest) refl })
+  -- an answer of the outer source, which left it as u
+  module _ (s u : S) where
+    -- one that is no item
+    answer_by_itself : (t : S) (hand hand' : Option C) (p : Part X C B E) (trace : List (Answered B E)) → outer s (outer_answer p) u → FinishedPart into inner p → (hand' ≡ None → LastPart into inner p hand') → hand ≡ None → D u hand trace t hand' → D s None (part_answers p ++ trace) t hand'
+    answer_by_itself _ hand _ p _ step whole last e nothing_drawn = outer_drawn (record { in_hand = []; parts = []; last = p; drawn = (u, step, refl); hand_finished = refl; finished = tt; at_last = last e; answers = refl })
+    answer_by_itself _ _ _ p trace step whole last e (still_in_hand k) = absurd cc
+    answer_by_itself t hand hand' p trace step whole last e (outer_drawn j) = let none = none_in_hand hand j.in_hand e j.hand_finished in let rest : trace ≡ flat_map part_answers (j.parts ++ j.last ∷ []) = subst (λ (l : List (Answered B E)). trace ≡ l ++ flat_map part_answers (j.parts ++ j.last ∷ [])) none j.answers in
+        outer_drawn (record { in_hand = []; parts = p ∷ j.parts; last = j.last; drawn = (u, step, j.drawn); hand_finished = refl; finished = (whole, j.finished); at_last = j.at_last; answers = ap (λ l. part_answers p ++ l) rest })
 
-  -- an item that became an inner iterator
-  begins_inner : (s u t : S) (c : C) (hand hand' : Option C) (x : X) (r : Answered B E) (trace rest : List (Answered B E)) → outer s (item x) u → into x c → hand ≡ Some c → trace ≡ r ∷ rest → D u hand trace t hand' → D s None trace t hand'
-  begins_inner s u t c hand _ x r _ rest step becomes e some nothing_drawn = absurd cc
-  begins_inner s u _ c _ _ x r trace rest step becomes e some (still_in_hand {c = k} {d = d} h) = let same : k ≡ c = cc in outer_drawn {hand' = Some d} (record { in_hand = []; parts = []; last = of_inner x c trace; drawn = (u, step, refl); hand_finished = refl; finished = tt; at_last = (becomes, (d, rw (sym same) h, refl)); answers = sym (append-nil trace) })
-  begins_inner s u t c hand hand' x r trace rest step becomes e some (outer_drawn j) = outer_drawn (record { in_hand = []; parts = of_inner x c j.in_hand ∷ j.parts; last = j.last; drawn = (u, step, j.drawn); hand_finished = refl; finished = ((becomes, hand_finished_at hand c j.in_hand e j.hand_finished), j.finished); at_last = j.at_last; answers = j.answers })
+    -- an item that became an inner iterator
+    begins_inner : (t : S) (c : C) (hand hand' : Option C) (x : X) (trace : List (Answered B E)) → outer s (item x) u → into x c → hand ≡ Some c → (trace ≡ [] → ⊥) → D u hand trace t hand' → D s None trace t hand'
+    begins_inner t c hand _ x _ step becomes e some nothing_drawn = absurd (some refl)
+    begins_inner _ c _ _ x trace step becomes e some (still_in_hand {c = k} {d = d} h) = let same : k ≡ c = cc in outer_drawn {hand' = Some d} (record { in_hand = []; parts = []; last = of_inner x c trace; drawn = (u, step, refl); hand_finished = refl; finished = tt; at_last = (becomes, (d, rw (sym same) h, refl)); answers = sym (append-nil trace) })
+    begins_inner t c hand hand' x trace step becomes e some (outer_drawn j) = outer_drawn (record { in_hand = []; parts = of_inner x c j.in_hand ∷ j.parts; last = j.last; drawn = (u, step, j.drawn); hand_finished = refl; finished = ((becomes, hand_finished_at hand c j.in_hand e j.hand_finished), j.finished); at_last = j.at_last; answers = j.answers })
 
   pub from_flattens : (s t : S) (hand hand' : Option C) (trace : List (Answered B E)) → F s hand trace t hand' → D s hand trace t hand'
   from_flattens s _ hand _ _ done = nothing_drawn
   from_flattens s t _ hand' _ (gives {c = c} {d = d} {trace = trace} y step f) = more_in_hand s t c d (Some d) hand' (item y) trace step refl refl (from_flattens s t (Some d) hand' trace f)
   from_flattens s t _ hand' _ (fails {c = c} {d = d} {trace = trace} e step f) = more_in_hand s t c d (Some d) hand' (failure e) trace step refl refl (from_flattens s t (Some d) hand' trace f)
-  from_flattens s t _ hand' _ (finishes {c = c} {d = d} {r = r} {trace = trace} step f) = end_in_hand s t c d None hand' r (r ∷ trace) trace step refl refl (from_flattens s t None hand' (r ∷ trace) f)
-  from_flattens s t _ hand' _ (begins {u = u} {c = c} {r = r} {trace = trace} x step becomes f) = begins_inner s u t c (Some c) hand' x r (r ∷ trace) trace step becomes refl refl (from_flattens u t (Some c) hand' (r ∷ trace) f)
-  from_flattens s t _ hand' _ (outer_fails {u = u} {trace = trace} e step f) = answer_by_itself s u t None hand' (of_failure e) (failure e) trace step tt (λ h. h) refl refl (from_flattens u t None hand' trace f)
-  from_flattens s t _ hand' _ (outer_ends {u = u} {trace = trace} step f) = answer_by_itself s u t None hand' of_end end trace step tt (λ h. h) refl refl (from_flattens u t None hand' trace f)
+  from_flattens s t _ hand' _ (finishes {c = c} {d = d} {r = r} {trace = trace} step f) = end_in_hand s t c d None hand' (r ∷ trace) step refl (λ e. cc) (from_flattens s t None hand' (r ∷ trace) f)
+  from_flattens s t _ hand' _ (begins {u = u} {c = c} {r = r} {trace = trace} x step becomes f) = begins_inner s u t c (Some c) hand' x (r ∷ trace) step becomes refl (λ e. cc) (from_flattens u t (Some c) hand' (r ∷ trace) f)
+  from_flattens s t _ hand' _ (outer_fails {u = u} {trace = trace} e step f) = answer_by_itself s u t None hand' (of_failure e) trace step tt (λ h. h) refl (from_flattens u t None hand' trace f)
+  from_flattens s t _ hand' _ (outer_ends {u = u} {trace = trace} step f) = answer_by_itself s u t None hand' of_end trace step tt (λ h. h) refl (from_flattens u t None hand' trace f)
 
   -- ---- a whole trace is its answers, one draw after another
 
@@ -132,7 +134,7 @@ module _ {S X C B E : Type 0} {outer : S → Answered X E → S → Type 0} {int
 
   -- the inner iterator in hand ended first
   pub flatten_after_end : {s t : S} {c : C} {hand hand' : Option C} {r : Answered B E} (d : C) → hand ≡ Some c → inner c end d → FlattenTrace outer into inner (s, None) (r ∷ []) (t, hand') → FlattenTrace outer into inner (s, hand) (r ∷ []) (t, hand')
-  flatten_after_end {s} {t} {c} {hand} {hand'} {r} d e step p = rw e (end_in_hand outer into inner s t c d None hand' r (r ∷ []) [] step refl refl p)
+  flatten_after_end {s} {t} {c} {hand} {hand'} {r} d e step p = rw e (end_in_hand outer into inner s t c d None hand' (r ∷ []) step refl (λ k. cc) p)
 
   -- where none is in hand, an item of the outer source becomes it, and a failure or an end is the answer
   pub flatten_at_item : {s u : S} {c : C} {q : S × Option C} {r : Answered B E} (x : X) → outer s (item x) u → into x c → FlattenTrace outer into inner (u, Some c) (r ∷ []) q → FlattenTrace outer into inner (s, None) (r ∷ []) q

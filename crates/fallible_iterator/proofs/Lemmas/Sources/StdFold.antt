@@ -80,23 +80,24 @@ module _ {S A E Z F C R : Type 0} (of_item : A → Z) (of_failure : E → Z) (re
       subst (λ (y : Result C (C × Answered R E)). Driven Step turns s.it.now c (answer_of y) t.it.now (left_of y)) (sym (err_is r d.0 is.1)) (stops_on c s t z (read z) d.0 refl w turn)
 
   -- the calls before it gave items on which the turns went on
-  folds : (xs : List Z) (o : Option Z) (s t u : Progressing S) (c a : C) (h : F) (r : Result C (C × Answered R E)) → Yields Made s xs t → Made t o u → FoldsTo Turn (f, c) xs (h, a) → Last h a o r → Driven Step turns s.it.now c (answer_of r) u.it.now (left_of r)
-  folds [] o s t u c a h r e w went is =
-      let now : Made s o u = subst (λ (z : Progressing S). Made z o u) (sym e) w in
-      let last : Last f c o r = subst (λ (p : F × C). Last p.0 p.1 o r) (sym went) is in
-      ended c s u o r now last
-  folds (z ∷ xs) o s t u c a h r y w went is =
-      let on = went_on c went.0.1 z went.0.0 went.1 in
-      let item_on = on_item c went.0.1 (read z) on.1 in
-      driven_after item_on.0 (drawn s y.0 z (Ok item_on.0) item_on.1 y.1) item_on.2
-      (folds xs o y.0 t u went.0.1 a h r y.2 w (subst (λ (k : F). FoldsTo Turn (k, went.0.1) xs (h, a)) on.0 went.2) is)
+  module _ (o : Option Z) (t u : Progressing S) (a : C) (h : F) (r : Result C (C × Answered R E)) (w : Made t o u) (is : Last h a o r) where
+    folds : (xs : List Z) (s : Progressing S) (c : C) → Yields Made s xs t → FoldsTo Turn (f, c) xs (h, a) → Driven Step turns s.it.now c (answer_of r) u.it.now (left_of r)
+    folds [] s c e went =
+        let now : Made s o u = subst (λ (z : Progressing S). Made z o u) (sym e) w in
+        let last : Last f c o r = subst (λ (p : F × C). Last p.0 p.1 o r) (sym went) is in
+        ended c s u o r now last
+    folds (z ∷ xs) s c y went =
+        let on = went_on c went.0.1 z went.0.0 went.1 in
+        let item_on = on_item c went.0.1 (read z) on.1 in
+        driven_after item_on.0 (drawn s y.0 z (Ok item_on.0) item_on.1 y.1) item_on.2
+        (folds xs y.0 went.0.1 y.2 (subst (λ (k : F). FoldsTo Turn (k, went.0.1) xs (h, a)) on.0 went.2))
 
   -- what std says of its fold
   abbrev StdFolds : Progressing S → C → Result C (C × Answered R E) → Progressing S → Type 0
   StdFolds s c r u = TryFoldsItems Made g (λ r b. r ≡ result_from_control_flow b) (λ d r. IsErr r × IsErrAnd r (λ y. y ≡ d.0)) s f c r u
 
   pub folds_std : {s : Progressing S} {c : C} {r : Result C (C × Answered R E)} (u : Progressing S) → StdFolds s c r u → Driven Step turns s.it.now c (answer_of r) u.it.now (left_of r)
-  folds_std {s} {c} {r} u (xs, o, h, a, (t, y, w), went, is) = folds xs o s t u c a h r y w went is
+  folds_std {s} {c} {r} u (xs, o, h, a, (t, y, w), went, is) = folds o t u a h r w is xs s c y went
 
   -- the closure may be called where the caller's turn may be taken on an item
   module _ (can_turn : C → A → Type 0) (takes : (c : C) (z : Z) → IfOk (read z) (can_turn c) → Takes g f (c, (z, tt))) where
