@@ -126,7 +126,7 @@ fn adapters_that_answer_at_no_end_fold_by_one_fold(rt: HostRuntime) -> Result<()
     ])
 }
 
-// A fold of the source would let go of what is held or stays next.
+// Two sides are drawn in turn, and a fold of the source would let go of the item that stays next.
 #[test]
 fn adapters_of_two_sides_and_peeking_take_while_draw_one_by_one(
     rt: HostRuntime,
