@@ -14,6 +14,8 @@ mod drawing;
 #[cfg(test)]
 mod expecting;
 #[cfg(test)]
+mod itertools;
+#[cfg(test)]
 mod listing;
 #[cfg(test)]
 mod requests;

@@ -58,6 +58,20 @@ impl Log {
             finds: self.finds.get(),
         }
     }
+
+    /// The numbers so far, and no call from here on.
+    pub fn take(&self) -> Calls {
+        Calls {
+            nexts: self.nexts.replace(0),
+            next_backs: self.next_backs.replace(0),
+            folds: self.folds.replace(0),
+            rfolds: self.rfolds.replace(0),
+            counts: self.counts.replace(0),
+            lasts: self.lasts.replace(0),
+            nths: self.nths.replace(0),
+            finds: self.finds.replace(0),
+        }
+    }
 }
 
 /// A fallible iterator that adds one to its log for each call from outside, and answers as the one that it holds. Each of its calls is that one's call of the same name, which is not counted.

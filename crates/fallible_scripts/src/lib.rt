@@ -10,6 +10,8 @@ mod counted;
 #[cfg(test)]
 mod front;
 #[cfg(test)]
+mod itertools;
+#[cfg(test)]
 mod joining;
 #[cfg(test)]
 mod nests;
