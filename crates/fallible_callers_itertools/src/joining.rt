@@ -1,6 +1,7 @@
 //! Callers of the adapters that join: each states what it computes, and the contracts of the calls prove it.
-ghost use Rattle.std.specs.Prelude.{◌≡◌, Ok, nat_le};
+ghost use Rattle.std.specs.Prelude.{◌≡◌, ◌%◌, Ok, nat_eq, nat_le};
 ghost use Rattle.fallible_iterator.specs.Lists.{counted, results};
+ghost use Rattle.fallible_itertools.specs.ComparedBy.{equal_by};
 ghost use Rattle.fallible_itertools.specs.MergeBy.{merged};
 ghost use Rattle.fallible_itertools.specs.ZipLongest.{zipped_longest};
 
@@ -26,4 +27,12 @@ pub fn readings_merged(left: Vec<Result<u32, u8>>, right: Vec<Result<u32, u8>>) 
         .fuse()
         .merge_by(convert(right.into_iter()).fuse(), |x, y| Ok(*x <= *y))
         .count()
+}
+
+/// Whether two columns have the same last digits, place by place, or the first failure.
+pub fn same_last_digits(left: Vec<Result<u32, u8>>, right: Vec<Result<u32, u8>>) -> Result<bool, u8>
+    ensures { result ≡ equal_by (λ x y. Ok (nat_eq (x % 10) (y % 10)))
+        (results left.items) (results right.items) }
+{
+    convert(left.into_iter()).eq_by(convert(right.into_iter()), |x, y| Ok(x % 10 == y % 10))
 }
