@@ -1,4 +1,5 @@
 //! What draws answer, as plain values.
+use fallible_itertools::EitherOrBoth;
 use std::alloc::AllocError;
 
 /// A failure of a source, of a closure or of a clone, as a number.
@@ -82,6 +83,45 @@ impl Coded for (u32, u32) {
     fn code(&self) -> u32 {
         pair_code(self.0, self.1)
     }
+}
+
+// Items behind nothing.
+impl Coded for Vec<u32> {
+    fn code(&self) -> u32 {
+        items_code(0, self.as_slice())
+    }
+}
+
+// Items behind a key.
+impl Coded for (u32, Vec<u32>) {
+    fn code(&self) -> u32 {
+        items_code(self.0, self.1.as_slice())
+    }
+}
+
+// A pair, in which 0 stands for no item.
+impl Coded for EitherOrBoth<u32, u32> {
+    fn code(&self) -> u32 {
+        match self {
+            EitherOrBoth::Both(x, y) => pair_code(*x, *y),
+            EitherOrBoth::Left(x) => pair_code(*x, 0),
+            EitherOrBoth::Right(y) => pair_code(0, *y),
+        }
+    }
+}
+
+/// One more item behind those that a number stands for.
+pub fn put_behind(read: u32, x: u32) -> u32 {
+    read.wrapping_mul(101).wrapping_add(x)
+}
+
+// The number of items behind what a number stands for.
+fn items_code(read: u32, items: &[u32]) -> u32 {
+    let mut read = read;
+    for x in items {
+        read = put_behind(read, *x);
+    }
+    read
 }
 
 /// The number of a pair.

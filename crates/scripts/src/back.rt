@@ -148,10 +148,10 @@ impl LayerBack for InspectedByCalls {
         I: DoubleEndedFallibleIterator<Item = u32, Error = Failed>,
     {
         let mut calls: u32 = 0;
-        let nest = it.inspect(|_: &u32| {
+        let nest = it.inspect(|x: &u32| {
             calls = calls.wrapping_add(1);
             if calls % 3 == 0 {
-                Err(Failed(8))
+                Err(Failed((*x).wrapping_add(8)))
             } else {
                 Ok(())
             }
@@ -191,9 +191,9 @@ impl LayerBack for FilteredByCalls {
         I: DoubleEndedFallibleIterator<Item = u32, Error = Failed>,
     {
         let mut calls: u32 = 0;
-        let nest = it.filter(|_: &u32| {
+        let nest = it.filter(|x: &u32| {
             calls = calls.wrapping_add(1);
-            by_calls(calls).map_err(Failed)
+            by_calls(calls, *x).map_err(Failed)
         });
         V::visit(run, nest)
     }
@@ -207,7 +207,7 @@ impl LayerBack for FilterMappedByCalls {
         let mut calls: u32 = 0;
         let nest = it.filter_map(|x: u32| {
             calls = calls.wrapping_add(1);
-            match by_calls(calls) {
+            match by_calls(calls, x) {
                 Ok(true) => Ok(Some(x.wrapping_mul(10).wrapping_add(calls))),
                 Ok(false) => Ok(None),
                 Err(e) => Err(Failed(e)),

@@ -1,5 +1,5 @@
 //! Calls that take a borrowed script.
-use crate::answer::{Answer, Failed};
+use crate::answer::{Answer, Failed, put_behind};
 use crate::case::Given;
 use crate::driving::Tally;
 use crate::lists::{LISTS, list_at};
@@ -116,11 +116,6 @@ fn both_read(made: Result<(Vec<u32>, Vec<u32>), Fault<Failed>>) -> Result<Answer
         Err(Fault::Source(e)) => Ok(Answer::Failure(e.0)),
         Err(Fault::Memory(refused)) => Err(refused),
     }
-}
-
-// One more item of those read.
-fn put_behind(read: u32, x: u32) -> u32 {
-    read.wrapping_mul(101).wrapping_add(x)
 }
 
 // What the call must come to, by the whole list: the first failure or the first end decides, and nothing is drawn after it.

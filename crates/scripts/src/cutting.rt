@@ -1,14 +1,13 @@
 //! Adapters that cut their source short, or leave items out by number.
 ghost use Rattle.std.specs.Prelude.{◌-◌, ◌^◌};
 
-use crate::answer::{Answer, Failed, Seen};
+use crate::answer::{Failed, Seen};
 use crate::case::{Case, Given, Run};
 use crate::layers::{Layer, Visit};
 use crate::operating::operate;
 use crate::operation::Outcome;
 use crate::rules::{
-    add_ends, by_calls, cut, fused, skipped, stepped, taken, taken_up_to_the_second,
-    taken_while_by_calls, taken_while_failing,
+    add_ends, by_calls, fused, skipped, stepped, taken, taken_while_by_calls, taken_while_failing,
 };
 use fallible_iterator::FallibleIterator;
 use std::alloc::{AllocError, Global};
@@ -53,31 +52,7 @@ impl Layer for TakenTwo {
     }
 }
 
-/// `take_while` of 1.
-pub struct TakenWhile;
-
-impl Case for TakenWhile {
-    fn name() -> &'static str {
-        "take_while"
-    }
-
-    fn perform(run: &Run<'_>) -> Result<Option<Outcome>, AllocError> {
-        let mut script = run.script();
-        operate(run, (&mut script).take_while(|x: &u32| Ok(*x == 1)))
-    }
-
-    fn expected(given: &Given) -> Result<Vec<Seen>, AllocError> {
-        cut(given.alloc, given.all.as_slice(), |answer: Answer| {
-            if answer == Answer::Item(2) {
-                (Answer::End, true)
-            } else {
-                (answer, false)
-            }
-        })
-    }
-}
-
-/// `take_while` by a closure that fails with 8 on its first call, is true on the second, and false on the third.
+/// `take_while` by a closure that fails on its first call, is true on the second, and false on the third.
 pub struct TakenWhileByCalls;
 
 impl Layer for TakenWhileByCalls {
@@ -90,39 +65,16 @@ impl Layer for TakenWhileByCalls {
         I: FallibleIterator<Item = u32, Error = Failed>,
     {
         let mut calls: u32 = 0;
-        let nest = it.take_while(|_: &u32| {
+        let nest = it.take_while(|x: &u32| {
             let before = calls;
             calls = calls.wrapping_add(1);
-            by_calls(before).map_err(Failed)
+            by_calls(before, *x).map_err(Failed)
         });
         V::visit(run, nest)
     }
 
     fn rule(alloc: Global, source: &[Seen], _made: u32) -> Result<Vec<Seen>, AllocError> {
         taken_while_by_calls(alloc, source)
-    }
-}
-
-/// `take_while` by a closure that is true on its odd calls: on the first, and not on the second.
-pub struct TakenWhileOddCalls;
-
-impl Case for TakenWhileOddCalls {
-    fn name() -> &'static str {
-        "take_while, true on odd calls"
-    }
-
-    fn perform(run: &Run<'_>) -> Result<Option<Outcome>, AllocError> {
-        let mut script = run.script();
-        let mut calls: u32 = 0;
-        let nest = (&mut script).take_while(|_: &u32| {
-            calls = calls.wrapping_add(1);
-            Ok(calls % 2 == 1)
-        });
-        operate(run, nest)
-    }
-
-    fn expected(given: &Given) -> Result<Vec<Seen>, AllocError> {
-        taken_up_to_the_second(given.alloc, given.all.as_slice())
     }
 }
 
@@ -228,23 +180,5 @@ impl Layer for SteppedByTwo {
 
     fn rule(alloc: Global, source: &[Seen], _made: u32) -> Result<Vec<Seen>, AllocError> {
         stepped(alloc, source, 2)
-    }
-}
-
-/// `step_by(3)`.
-pub struct SteppedByThree;
-
-impl Case for SteppedByThree {
-    fn name() -> &'static str {
-        "step_by(3)"
-    }
-
-    fn perform(run: &Run<'_>) -> Result<Option<Outcome>, AllocError> {
-        let mut script = run.script();
-        operate(run, (&mut script).step_by(3))
-    }
-
-    fn expected(given: &Given) -> Result<Vec<Seen>, AllocError> {
-        stepped(given.alloc, given.all.as_slice(), 3)
     }
 }

@@ -1,43 +1,19 @@
 //! Adapters that leave items out by a closure.
 ghost use Rattle.std.specs.Prelude.{◌-◌, ◌^◌};
 
-use crate::answer::{Answer, Failed, Seen};
+use crate::answer::{Failed, Seen};
 use crate::case::{Case, Given, Run};
 use crate::layers::{Layer, Visit};
 use crate::operating::operate;
 use crate::operation::Outcome;
 use crate::rules::{
-    by_calls, each, filter_mapped_by_calls, filtered_by_calls, skipped, skipped_while_by_calls,
+    by_calls, filter_mapped_by_calls, filtered_by_calls, skipped_while_by_calls,
     skipped_while_failing,
 };
 use fallible_iterator::FallibleIterator;
 use std::alloc::{AllocError, Global};
 
-/// `filter` that keeps 2.
-pub struct Filtered;
-
-impl Case for Filtered {
-    fn name() -> &'static str {
-        "filter"
-    }
-
-    fn perform(run: &Run<'_>) -> Result<Option<Outcome>, AllocError> {
-        let mut script = run.script();
-        operate(run, (&mut script).filter(|x: &u32| Ok(*x == 2)))
-    }
-
-    fn expected(given: &Given) -> Result<Vec<Seen>, AllocError> {
-        each(given.alloc, given.all.as_slice(), |answer: Answer| {
-            if answer == Answer::Item(1) {
-                None
-            } else {
-                Some(answer)
-            }
-        })
-    }
-}
-
-/// `filter` by a closure that is true on odd calls and fails with 8 on each third call.
+/// `filter` by a closure that is true on odd calls and fails on each third call.
 pub struct FilteredByCalls;
 
 impl Layer for FilteredByCalls {
@@ -50,9 +26,9 @@ impl Layer for FilteredByCalls {
         I: FallibleIterator<Item = u32, Error = Failed>,
     {
         let mut calls: u32 = 0;
-        let nest = it.filter(|_: &u32| {
+        let nest = it.filter(|x: &u32| {
             calls = calls.wrapping_add(1);
-            by_calls(calls).map_err(Failed)
+            by_calls(calls, *x).map_err(Failed)
         });
         V::visit(run, nest)
     }
@@ -62,34 +38,7 @@ impl Layer for FilteredByCalls {
     }
 }
 
-/// `filter_map` of 2 to 20.
-pub struct FilterMapped;
-
-impl Case for FilterMapped {
-    fn name() -> &'static str {
-        "filter_map"
-    }
-
-    fn perform(run: &Run<'_>) -> Result<Option<Outcome>, AllocError> {
-        let mut script = run.script();
-        let nest = (&mut script).filter_map(|x: u32| {
-            if x == 2 { Ok(Some(20)) } else { Ok(None) }
-        });
-        operate(run, nest)
-    }
-
-    fn expected(given: &Given) -> Result<Vec<Seen>, AllocError> {
-        each(given.alloc, given.all.as_slice(), |answer: Answer| {
-            match answer {
-                Answer::Item(1) => None,
-                Answer::Item(_) => Some(Answer::Item(20)),
-                other => Some(other),
-            }
-        })
-    }
-}
-
-/// `filter_map` to ten times the item and how often the closure was called, on odd calls; it fails with 8 on each third call.
+/// `filter_map` to ten times the item and how often the closure was called, on odd calls; it fails on each third call.
 pub struct FilterMappedByCalls;
 
 impl Layer for FilterMappedByCalls {
@@ -104,7 +53,7 @@ impl Layer for FilterMappedByCalls {
         let mut calls: u32 = 0;
         let nest = it.filter_map(|x: u32| {
             calls = calls.wrapping_add(1);
-            match by_calls(calls) {
+            match by_calls(calls, x) {
                 Ok(true) => Ok(Some(x.wrapping_mul(10).wrapping_add(calls))),
                 Ok(false) => Ok(None),
                 Err(e) => Err(Failed(e)),
@@ -118,33 +67,7 @@ impl Layer for FilterMappedByCalls {
     }
 }
 
-/// `skip_while` of 1.
-pub struct SkippedWhile;
-
-impl Case for SkippedWhile {
-    fn name() -> &'static str {
-        "skip_while"
-    }
-
-    fn perform(run: &Run<'_>) -> Result<Option<Outcome>, AllocError> {
-        let mut script = run.script();
-        operate(run, (&mut script).skip_while(|x: &u32| Ok(*x == 1)))
-    }
-
-    fn expected(given: &Given) -> Result<Vec<Seen>, AllocError> {
-        let mut found = false;
-        each(given.alloc, given.all.as_slice(), |answer: Answer| {
-            if let Answer::Item(x) = answer {
-                found = found || x == 2;
-                if found { Some(answer) } else { None }
-            } else {
-                Some(answer)
-            }
-        })
-    }
-}
-
-/// `skip_while` by a closure that fails with 8 on its first call, is true on the second, and false on the third.
+/// `skip_while` by a closure that fails on its first call, is true on the second, and false on the third.
 pub struct SkippedWhileByCalls;
 
 impl Layer for SkippedWhileByCalls {
@@ -157,39 +80,16 @@ impl Layer for SkippedWhileByCalls {
         I: FallibleIterator<Item = u32, Error = Failed>,
     {
         let mut calls: u32 = 0;
-        let nest = it.skip_while(|_: &u32| {
+        let nest = it.skip_while(|x: &u32| {
             let before = calls;
             calls = calls.wrapping_add(1);
-            by_calls(before).map_err(Failed)
+            by_calls(before, *x).map_err(Failed)
         });
         V::visit(run, nest)
     }
 
     fn rule(alloc: Global, source: &[Seen], _made: u32) -> Result<Vec<Seen>, AllocError> {
         skipped_while_by_calls(alloc, source)
-    }
-}
-
-/// `skip_while` by a closure that is true on its odd calls: on the first, and not on the second.
-pub struct SkippedWhileOddCalls;
-
-impl Case for SkippedWhileOddCalls {
-    fn name() -> &'static str {
-        "skip_while, true on odd calls"
-    }
-
-    fn perform(run: &Run<'_>) -> Result<Option<Outcome>, AllocError> {
-        let mut script = run.script();
-        let mut calls: u32 = 0;
-        let nest = (&mut script).skip_while(|_: &u32| {
-            calls = calls.wrapping_add(1);
-            Ok(calls % 2 == 1)
-        });
-        operate(run, nest)
-    }
-
-    fn expected(given: &Given) -> Result<Vec<Seen>, AllocError> {
-        skipped(given.alloc, given.all.as_slice(), 1)
     }
 }
 

@@ -9,9 +9,13 @@ mod consuming;
 mod cutting;
 mod driving;
 mod filtering;
+mod holding;
+mod itertools_rules;
 mod joining;
 mod layers;
 mod lists;
+mod looking;
+mod merging;
 mod nests;
 mod one_to_one;
 mod operating;
@@ -37,6 +41,7 @@ fn main(rt: HostRuntime) -> io::Result<()> {
     drive_cutting(&rt, &mut total)?;
     drive_joining(&rt, &mut total)?;
     drive_nests(&rt, &mut total)?;
+    drive_itertools(&rt, &mut total)?;
     drive_from_back(&rt, &mut total)?;
     drive_rows(&rt, &mut total)?;
     drive_consumers(&rt, &mut total)?;
@@ -48,9 +53,7 @@ fn main(rt: HostRuntime) -> io::Result<()> {
 
 fn drive_one_to_one(rt: &HostRuntime, total: &mut Tally) -> io::Result<()> {
     drive::<one_to_one::Borrowed>(rt, total)?;
-    drive::<one_to_one::Mapped>(rt, total)?;
     drive::<Over<one_to_one::MappedByCalls>>(rt, total)?;
-    drive::<one_to_one::Inspected>(rt, total)?;
     drive::<Over<one_to_one::InspectedByCalls>>(rt, total)?;
     drive::<Over<one_to_one::FailuresMapped>>(rt, total)?;
     drive::<one_to_one::Clones>(rt, total)?;
@@ -61,28 +64,21 @@ fn drive_one_to_one(rt: &HostRuntime, total: &mut Tally) -> io::Result<()> {
 }
 
 fn drive_filtering(rt: &HostRuntime, total: &mut Tally) -> io::Result<()> {
-    drive::<filtering::Filtered>(rt, total)?;
     drive::<Over<filtering::FilteredByCalls>>(rt, total)?;
-    drive::<filtering::FilterMapped>(rt, total)?;
     drive::<Over<filtering::FilterMappedByCalls>>(rt, total)?;
-    drive::<filtering::SkippedWhile>(rt, total)?;
     drive::<Over<filtering::SkippedWhileByCalls>>(rt, total)?;
-    drive::<filtering::SkippedWhileOddCalls>(rt, total)?;
     drive::<filtering::SkippedWhileFailing>(rt, total)
 }
 
 fn drive_cutting(rt: &HostRuntime, total: &mut Tally) -> io::Result<()> {
     drive::<cutting::TakenNone>(rt, total)?;
     drive::<Over<cutting::TakenTwo>>(rt, total)?;
-    drive::<cutting::TakenWhile>(rt, total)?;
     drive::<Over<cutting::TakenWhileByCalls>>(rt, total)?;
-    drive::<cutting::TakenWhileOddCalls>(rt, total)?;
     drive::<cutting::TakenWhileFailing>(rt, total)?;
     drive::<Over<cutting::Fused>>(rt, total)?;
     drive::<Over<cutting::SkippedOne>>(rt, total)?;
     drive::<cutting::SkippedTwo>(rt, total)?;
-    drive::<Over<cutting::SteppedByTwo>>(rt, total)?;
-    drive::<cutting::SteppedByThree>(rt, total)
+    drive::<Over<cutting::SteppedByTwo>>(rt, total)
 }
 
 fn drive_joining(rt: &HostRuntime, total: &mut Tally) -> io::Result<()> {
@@ -105,6 +101,23 @@ fn drive_nests(rt: &HostRuntime, total: &mut Tally) -> io::Result<()> {
     drive::<nests::ChainedFused>(rt, total)?;
     drive::<nests::FlattenedPeekable>(rt, total)?;
     drive::<nests::FlattenedPeeked>(rt, total)
+}
+
+fn drive_itertools(rt: &HostRuntime, total: &mut Tally) -> io::Result<()> {
+    drive::<Over<looking::CopiesOfMapped>>(rt, total)?;
+    drive::<Over<looking::TakenWhileInclusive>>(rt, total)?;
+    drive::<Over<looking::PeekedWhile>>(rt, total)?;
+    drive::<Over<holding::Deduped>>(rt, total)?;
+    drive::<Over<holding::DedupedByKey>>(rt, total)?;
+    drive::<Over<holding::Coalesced>>(rt, total)?;
+    drive::<holding::ChunkedByKey>(rt, total)?;
+    drive::<holding::InTwos>(rt, total)?;
+    drive::<holding::Windowed>(rt, total)?;
+    drive::<Over<holding::Separated>>(rt, total)?;
+    drive::<Over<merging::MergedLeft>>(rt, total)?;
+    drive::<Over<merging::MergedRight>>(rt, total)?;
+    drive::<merging::ZippedLongestLeft>(rt, total)?;
+    drive::<merging::ZippedLongestRight>(rt, total)
 }
 
 fn drive_from_back(rt: &HostRuntime, total: &mut Tally) -> io::Result<()> {

@@ -26,9 +26,9 @@ impl Case for FilteredMappedTaken {
         let mut asked: u32 = 0;
         let mut mapped: u32 = 0;
         let nest = (&mut script)
-            .filter(|_: &u32| {
+            .filter(|x: &u32| {
                 asked = asked.wrapping_add(1);
-                by_calls(asked).map_err(Failed)
+                by_calls(asked, *x).map_err(Failed)
             })
             .map(|x: u32| {
                 mapped = mapped.wrapping_add(1);

@@ -32,37 +32,6 @@ impl Case for Borrowed {
     }
 }
 
-/// `map` to ten times the item, which fails with 8 on 2.
-pub struct Mapped;
-
-impl Case for Mapped {
-    fn name() -> &'static str {
-        "map"
-    }
-
-    fn perform(run: &Run<'_>) -> Result<Option<Outcome>, AllocError> {
-        let mut script = run.script();
-        let nest = (&mut script).map(|x: u32| {
-            if x == 2 {
-                Err(Failed(8))
-            } else {
-                Ok(x.wrapping_mul(10))
-            }
-        });
-        operate(run, nest)
-    }
-
-    fn expected(given: &Given) -> Result<Vec<Seen>, AllocError> {
-        each(given.alloc, given.all.as_slice(), |answer: Answer| {
-            match answer {
-                Answer::Item(2) => Some(Answer::Failure(8)),
-                Answer::Item(x) => Some(Answer::Item(x.wrapping_mul(10))),
-                other => Some(other),
-            }
-        })
-    }
-}
-
 /// `map` to ten times the item and how often the closure was called, which fails with 8 on each third call.
 pub struct MappedByCalls;
 
@@ -92,33 +61,7 @@ impl Layer for MappedByCalls {
     }
 }
 
-/// `inspect`, which fails with 8 on 2.
-pub struct Inspected;
-
-impl Case for Inspected {
-    fn name() -> &'static str {
-        "inspect"
-    }
-
-    fn perform(run: &Run<'_>) -> Result<Option<Outcome>, AllocError> {
-        let mut script = run.script();
-        let nest = (&mut script).inspect(|x: &u32| {
-            if *x == 2 { Err(Failed(8)) } else { Ok(()) }
-        });
-        operate(run, nest)
-    }
-
-    fn expected(given: &Given) -> Result<Vec<Seen>, AllocError> {
-        each(given.alloc, given.all.as_slice(), |answer: Answer| {
-            match answer {
-                Answer::Item(2) => Some(Answer::Failure(8)),
-                other => Some(other),
-            }
-        })
-    }
-}
-
-/// `inspect`, which fails with 8 on each third call.
+/// `inspect`, which fails with 8 more than the item on each third call.
 pub struct InspectedByCalls;
 
 impl Layer for InspectedByCalls {
@@ -131,10 +74,10 @@ impl Layer for InspectedByCalls {
         I: FallibleIterator<Item = u32, Error = Failed>,
     {
         let mut calls: u32 = 0;
-        let nest = it.inspect(|_: &u32| {
+        let nest = it.inspect(|x: &u32| {
             calls = calls.wrapping_add(1);
             if calls % 3 == 0 {
-                Err(Failed(8))
+                Err(Failed((*x).wrapping_add(8)))
             } else {
                 Ok(())
             }
@@ -256,7 +199,7 @@ impl Case for Enumerated {
     }
 }
 
-/// `map_while` to ten times the item and how often the closure was called, on odd calls; it fails with 8 on each third call, and ends on the others.
+/// `map_while` to ten times the item and how often the closure was called, on odd calls; it fails on each third call, and ends on the others.
 pub struct MappedWhile;
 
 impl Layer for MappedWhile {
@@ -271,7 +214,7 @@ impl Layer for MappedWhile {
         let mut calls: u32 = 0;
         let nest = it.map_while(|x: u32| {
             calls = calls.wrapping_add(1);
-            match by_calls(calls) {
+            match by_calls(calls, x) {
                 Ok(true) => Ok(Some(x.wrapping_mul(10).wrapping_add(calls))),
                 Ok(false) => Ok(None),
                 Err(e) => Err(Failed(e)),

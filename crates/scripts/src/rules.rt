@@ -201,10 +201,10 @@ pub fn cycled(alloc: Global, source: &[Seen], made: u32) -> Result<Vec<Seen>, Al
     Ok(laps)
 }
 
-/// What a closure that is told how often it was called before says: a failure where that is a multiple of 3, and else whether it is odd.
-pub fn by_calls(calls: u32) -> Result<bool, u32> {
+/// What a closure that is told how often it was called says of an item: a failure, 8 more than the item, where that is a multiple of 3, and else whether it is odd.
+pub fn by_calls(calls: u32, x: u32) -> Result<bool, u32> {
     if calls % 3 == 0 {
-        Err(8)
+        Err(x.wrapping_add(8))
     } else {
         Ok(calls % 2 == 1)
     }
@@ -252,14 +252,14 @@ pub fn mapped_by_calls(alloc: Global, source: &[Seen]) -> Result<Vec<Seen>, Allo
     })
 }
 
-/// Each third item replaced by a failure.
+/// Each third item replaced by a failure that is 8 more than it.
 pub fn inspected_by_calls(alloc: Global, source: &[Seen]) -> Result<Vec<Seen>, AllocError> {
     let mut items: u32 = 0;
     each(alloc, source, |answer: Answer| {
-        if let Answer::Item(_) = answer {
+        if let Answer::Item(x) = answer {
             items = items.wrapping_add(1);
             if items % 3 == 0 {
-                Some(Answer::Failure(8))
+                Some(Answer::Failure(x.wrapping_add(8)))
             } else {
                 Some(answer)
             }
@@ -286,9 +286,9 @@ pub fn failures_mapped_by_calls(alloc: Global, source: &[Seen]) -> Result<Vec<Se
 pub fn filtered_by_calls(alloc: Global, source: &[Seen]) -> Result<Vec<Seen>, AllocError> {
     let mut items: u32 = 0;
     each(alloc, source, |answer: Answer| {
-        if let Answer::Item(_) = answer {
+        if let Answer::Item(x) = answer {
             items = items.wrapping_add(1);
-            match by_calls(items) {
+            match by_calls(items, x) {
                 Ok(true) => Some(answer),
                 Ok(false) => None,
                 Err(e) => Some(Answer::Failure(e)),
@@ -305,7 +305,7 @@ pub fn filter_mapped_by_calls(alloc: Global, source: &[Seen]) -> Result<Vec<Seen
     each(alloc, source, |answer: Answer| {
         if let Answer::Item(x) = answer {
             items = items.wrapping_add(1);
-            match by_calls(items) {
+            match by_calls(items, x) {
                 Ok(true) => Some(Answer::Item(x.wrapping_mul(10).wrapping_add(items))),
                 Ok(false) => None,
                 Err(e) => Some(Answer::Failure(e)),
@@ -322,7 +322,7 @@ pub fn mapped_while_by_calls(alloc: Global, source: &[Seen]) -> Result<Vec<Seen>
     each(alloc, source, |answer: Answer| {
         if let Answer::Item(x) = answer {
             items = items.wrapping_add(1);
-            match by_calls(items) {
+            match by_calls(items, x) {
                 Ok(true) => Some(Answer::Item(x.wrapping_mul(10).wrapping_add(items))),
                 Ok(false) => Some(Answer::End),
                 Err(e) => Some(Answer::Failure(e)),
@@ -397,10 +397,10 @@ pub fn stepped(alloc: Global, source: &[Seen], step: u32) -> Result<Vec<Seen>, A
 pub fn skipped_while_by_calls(alloc: Global, source: &[Seen]) -> Result<Vec<Seen>, AllocError> {
     let mut items: u32 = 0;
     each(alloc, source, |answer: Answer| {
-        if let Answer::Item(_) = answer {
+        if let Answer::Item(x) = answer {
             items = items.wrapping_add(1);
             match items {
-                1 => Some(Answer::Failure(8)),
+                1 => Some(Answer::Failure(x.wrapping_add(8))),
                 2 => None,
                 _ => Some(answer),
             }
@@ -414,10 +414,10 @@ pub fn skipped_while_by_calls(alloc: Global, source: &[Seen]) -> Result<Vec<Seen
 pub fn taken_while_by_calls(alloc: Global, source: &[Seen]) -> Result<Vec<Seen>, AllocError> {
     let mut items: u32 = 0;
     cut(alloc, source, |answer: Answer| {
-        if let Answer::Item(_) = answer {
+        if let Answer::Item(x) = answer {
             items = items.wrapping_add(1);
             match items {
-                1 => (Answer::Failure(8), false),
+                1 => (Answer::Failure(x.wrapping_add(8)), false),
                 2 => (answer, false),
                 _ => (Answer::End, true),
             }
@@ -446,23 +446,6 @@ pub fn skipped_while_failing(alloc: Global, source: &[Seen]) -> Result<Vec<Seen>
             }
         } else {
             Some(answer)
-        }
-    })
-}
-
-/// The list up to its second item, which is replaced by an end, and then ends without draws.
-pub fn taken_up_to_the_second(alloc: Global, source: &[Seen]) -> Result<Vec<Seen>, AllocError> {
-    let mut items: u32 = 0;
-    cut(alloc, source, |answer: Answer| {
-        if let Answer::Item(_) = answer {
-            items = items.wrapping_add(1);
-            if items == 1 {
-                (answer, false)
-            } else {
-                (Answer::End, true)
-            }
-        } else {
-            (answer, false)
         }
     })
 }

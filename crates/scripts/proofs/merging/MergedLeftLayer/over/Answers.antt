@@ -1,0 +1,7 @@
+-- The other script has at most four items.
+use Rattle.std.specs.Prelude.{◌+◌}
+use Rattle.std.proofs.Common.{rules, arith}
+use Rattle.scripts.proofs.merging.MergedLeftLayer.over.Goals as goal
+
+pub visit-requires-clause-fits : goal.visit-requires-clause-fits
+visit-requires-clause-fits g c = (c.requires.fits.0 + 4, rw c.merge_by-nest.ensures.left_held (rw c.merge_by-nest.ensures.right_held (c.requires.fits.0, 4, search rules, search rules, omega arith)), omega (arith, c.requires.fits.2))
