@@ -5,13 +5,13 @@ use Rattle.std.proofs.Common.{refl, sym, ap, subst, ◌∙◌, inl, inr}
 use Rattle.fallible_iterator.specs.Traces.{Answered}
 use Rattle.fallible_iterator.specs.Collecting.{answered_true, answered_false, Sides, SideRefuses, RefusesItem, Partitions}
 use Rattle.fallible_iterator.specs.Lists.{Lists, Acts, on_value, to_side, partitioned}
-use Rattle.fallible_contract.proofs.Lemmas.Lists.Drawn.{drawn}
+use Rattle.fallible_iterator.proofs.Lemmas.Lists.Drawn.{drawn}
 use Rattle.fallible_callers_drawing.specs.Full.{SideFull}
-use Rattle.fallible_iterator.specs.Fault.{Fault}
-use Rattle.fallible_iterator.specs.Fault.TheVariants.{Source, Memory}
 use Rattle.std.specs.declared.alloc.AllocError.{AllocError}
 use Rattle.std.specs.declared.alloc.Global.{Global}
 use Rattle.std.specs.declared.vec.Vec.{Vec}
+use Rattle.fallible_iterator.specs.Fault.{Fault}
+use Rattle.fallible_iterator.specs.Fault.TheVariants.{Source, Memory}
 
 to_one : {E : Type 0} (x : ℕ) (v : Bool) (ps : List (ℕ × Bool)) → to_side {E = E} x v (Ok (answered_true ps, answered_false ps)) ≡ Ok (answered_true ((x, v) ∷ ps), answered_false ((x, v) ∷ ps))
 to_one x true ps = refl

@@ -6,7 +6,7 @@ use Rattle.fallible_iterator.specs.Contract.{Contract, Fewer, Lawful, Stays, see
 use Rattle.fallible_iterator.specs.Lists.{Lists, first_if, rest_if}
 use Rattle.fallible_iterator.specs.Peeking.Peekable.{taken_by, left_by, Peeks, NextIf, TakenIf, peekable_contract, peekable_parts, held_items}
 use Rattle.fallible_iterator.proofs.Lemmas.Loops.{CountsDown, AnswersFromHere}
-use Rattle.fallible_core.specs.declared.peeking.peekable.Peekable.{Peekable}
+use Rattle.fallible_iterator.specs.Peekable.{Peekable}
 
 -- A call of `next_if` from s answered r and left t, by a closure that answers h x on each item x.
 abbrev pub TookIf : {S A E : Type 0} → (S → Answered A E → S → Type 0) → (A → Bool) → S → Answered A E → S → Type 0

@@ -108,7 +108,7 @@ pub fn even_in_loop(n: u32) -> Result<u32, u8> {
 }
 
 /// The sum of the numbers that are left, modulo 2 ^ 64.
-#[tactic(auto, using(fallible_contract::specs::Laws::Showing::shown_before), unfolding(fallible_contract::specs::Lists::folded))]
+#[tactic(auto, using(fallible_iterator::specs::Laws::Showing::shown_before), unfolding(fallible_iterator::specs::Lists::folded))]
 pub fn sum_down(mut numbers: Countdown) -> Result<u64, u8>
     ensures { result ≡ folded (λ e. e) (λ s x. Ok ((s + x) % 2 ^ 64)) 0 (counts_down numbers) }
 {
@@ -120,7 +120,7 @@ pub fn sum_down(mut numbers: Countdown) -> Result<u64, u8>
 }
 
 /// The sum of the doubled numbers that are left, modulo 2 ^ 64: what a fold behind `map` comes to, by a loop that maps nothing.
-#[tactic(auto, using(fallible_contract::specs::Laws::Showing::shown_before), unfolding(fallible_contract::specs::Lists::folded))]
+#[tactic(auto, using(fallible_iterator::specs::Laws::Showing::shown_before), unfolding(fallible_iterator::specs::Lists::folded))]
 pub fn sum_down_doubled(mut numbers: Countdown) -> Result<u64, u8>
     ensures { result ≡ folded (λ e. e) (λ s x. Ok ((s + x) % 2 ^ 64)) 0
         (mapped (λ x. Ok (x * 2)) (counts_down numbers)) }

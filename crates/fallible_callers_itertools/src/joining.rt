@@ -5,16 +5,15 @@ ghost use Rattle.fallible_itertools.specs.ComparedBy.{equal_by};
 ghost use Rattle.fallible_itertools.specs.MergeBy.{merged};
 ghost use Rattle.fallible_itertools.specs.ZipLongest.{zipped_longest};
 
-use fallible_iterator::{FallibleIterator, convert};
+use fallible_iterator::{FallibleIterator, convert, convert_fused};
 use fallible_itertools::FallibleItertools;
 
 /// How many places two columns have, each filled by one of them at least, or the first failure.
 pub fn places_of_both(left: Vec<Result<u32, u8>>, right: Vec<Result<u32, u8>>) -> Result<usize, u8>
     ensures { result ≡ counted (zipped_longest (results left.items) (results right.items)) }
 {
-    convert(left.into_iter())
-        .fuse()
-        .zip_longest(convert(right.into_iter()).fuse())
+    convert_fused(left.into_iter())
+        .zip_longest(convert_fused(right.into_iter()))
         .count()
 }
 
@@ -23,9 +22,8 @@ pub fn readings_merged(left: Vec<Result<u32, u8>>, right: Vec<Result<u32, u8>>) 
     ensures { result ≡ counted
         (merged (λ x y. Ok (nat_le x y)) (results left.items) (results right.items)) }
 {
-    convert(left.into_iter())
-        .fuse()
-        .merge_by(convert(right.into_iter()).fuse(), |x, y| Ok(*x <= *y))
+    convert_fused(left.into_iter())
+        .merge_by(convert_fused(right.into_iter()), |x, y| Ok(*x <= *y))
         .count()
 }
 

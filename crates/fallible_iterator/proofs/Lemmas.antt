@@ -1,4 +1,4 @@
--- Lemmas that no contract and no ghost member cites.
+-- Lemmas that no contract and no ghost member cites, those of the crates below handed on.
 pub mod Answering
 pub mod Bridges
 pub mod ComparedRepeats
@@ -17,3 +17,30 @@ pub mod Nests
 pub mod Sources
 pub mod WithoutFailure
 pub mod Words
+pub use Rattle.fallible_contract.proofs.Lemmas.BothEnds
+pub use Rattle.fallible_contract.proofs.Lemmas.BoundsRuns
+pub use Rattle.fallible_contract.proofs.Lemmas.ByNumber
+pub use Rattle.fallible_contract.proofs.Lemmas.Closing
+pub use Rattle.fallible_contract.proofs.Lemmas.Collecting
+pub use Rattle.fallible_contract.proofs.Lemmas.Contract
+pub use Rattle.fallible_contract.proofs.Lemmas.Exchange
+pub use Rattle.fallible_contract.proofs.Lemmas.Folding
+pub use Rattle.fallible_contract.proofs.Lemmas.Folds
+pub use Rattle.fallible_contract.proofs.Lemmas.Held
+pub use Rattle.fallible_contract.proofs.Lemmas.LawForm
+pub use Rattle.fallible_contract.proofs.Lemmas.Lists
+pub use Rattle.fallible_contract.proofs.Lemmas.Nth
+pub use Rattle.fallible_contract.proofs.Lemmas.Overriding
+pub use Rattle.fallible_contract.proofs.Lemmas.Partitioning
+pub use Rattle.fallible_contract.proofs.Lemmas.Passing
+pub use Rattle.fallible_contract.proofs.Lemmas.Picking
+pub use Rattle.fallible_contract.proofs.Lemmas.Searching
+pub use Rattle.fallible_contract.proofs.Lemmas.ShownTraces
+pub use Rattle.fallible_core.proofs.Lemmas.Borrowed
+pub use Rattle.fallible_core.proofs.Lemmas.Callers
+pub use Rattle.fallible_core.proofs.Lemmas.Cutting
+pub use Rattle.fallible_core.proofs.Lemmas.Filtering
+pub use Rattle.fallible_core.proofs.Lemmas.Joining
+pub use Rattle.fallible_core.proofs.Lemmas.OneToOne
+pub use Rattle.fallible_core.proofs.Lemmas.Peeking
+pub use Rattle.fallible_core.proofs.Lemmas.RestAtEnds

@@ -1,4 +1,5 @@
 -- What follows from the definitions: the lemmas that ghost members cite, those of the crates below handed on.
+pub mod Showing
 pub mod ShowingEnds
 pub mod Sources
 pub use Rattle.fallible_contract.specs.Laws.BoundsRuns
@@ -8,7 +9,6 @@ pub use Rattle.fallible_contract.specs.Laws.Contract
 pub use Rattle.fallible_contract.specs.Laws.Ends
 pub use Rattle.fallible_contract.specs.Laws.Own
 pub use Rattle.fallible_contract.specs.Laws.Passing
-pub use Rattle.fallible_contract.specs.Laws.Showing
 pub use Rattle.fallible_contract.specs.Laws.WithSteps
 pub use Rattle.fallible_core.specs.Laws.Borrowed
 pub use Rattle.fallible_core.specs.Laws.Cutting

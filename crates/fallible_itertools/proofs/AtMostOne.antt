@@ -1,12 +1,12 @@
 -- At most one item, by one draw or two.
 use Rattle.std.specs.Prelude.{◌≡◌, length, List, [], ◌∷◌, ◌++◌, map, Option, Some, None, Result, Ok, Err}
 use Rattle.std.proofs.Common.{refl, sym, ap, ◌∙◌, arith}
-use Rattle.fallible_contract.specs.Traces.{Answered, item}
-use Rattle.fallible_contract.specs.Folds.{Nth, NthExit}
-use Rattle.fallible_contract.specs.Lists.{Lists, rest_nth}
-use Rattle.fallible_contract.proofs.Lemmas.Folds.{drained_last}
-use Rattle.fallible_contract.proofs.Lemmas.Lists.Rest.{rest_nth_is}
-use Rattle.fallible_contract.proofs.Lemmas.Lists.Drawn.{RestAt, drawn}
+use Rattle.fallible_iterator.specs.Traces.{Answered, item}
+use Rattle.fallible_iterator.specs.Folds.{Nth, NthExit}
+use Rattle.fallible_iterator.specs.Lists.{Lists, rest_nth}
+use Rattle.fallible_iterator.proofs.Lemmas.Folds.{drained_last}
+use Rattle.fallible_iterator.proofs.Lemmas.Lists.Rest.{rest_nth_is}
+use Rattle.fallible_iterator.proofs.Lemmas.Lists.Drawn.{RestAt, drawn}
 use Rattle.fallible_itertools.specs.Few.{AtMostOneExit, AtMostOne, at_most_one_of}
 
 module _ {S A E : Type 0} {steps : S → Answered A E → S → Type 0} {s t : S} where

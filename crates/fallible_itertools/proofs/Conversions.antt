@@ -6,8 +6,8 @@ use Rattle.fallible_iterator.specs.Traces.{Answered, Run, item}
 use Rattle.fallible_iterator.specs.Folds.{DriveExit, Driven, FoldExit, Folded, went_on_with}
 use Rattle.fallible_iterator.specs.Searching.{WentOn, Decided, SearchExit, Searched, each_pick, find_pick, position_pick}
 use Rattle.fallible_iterator.specs.Lists.{AlwaysGives, Lists, Acts, ActsWith, Converts, stopped_or, rest_failed, rest_fold, failures_mapped}
-use Rattle.fallible_contract.proofs.Lemmas.Lists.Rest.{rest_fold_is}
-use Rattle.fallible_contract.proofs.Lemmas.Lists.Searched.{each_is, find_is, position_is}
+use Rattle.fallible_iterator.proofs.Lemmas.Lists.Rest.{rest_fold_is}
+use Rattle.fallible_iterator.proofs.Lemmas.Lists.Searched.{each_is, find_is, position_is}
 use Rattle.fallible_itertools.specs.Converting.{ConvertsTo, Converted, try_each_done, try_found, try_position_in, stops_by, rest_try_stop, rest_try_each, rest_try_true}
 use Rattle.std.specs.declared.ops.ControlFlow.{ControlFlow}
 

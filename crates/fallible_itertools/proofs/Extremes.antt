@@ -4,12 +4,12 @@ use Rattle.std.specs.List.{FoldsTo}
 use Rattle.std.specs.Cmp.{IsTotalOrder, upto}
 use Rattle.std.specs.Ordering.{ordering_reverse, is_gt}
 use Rattle.std.proofs.Common.{refl, sym, ap, subst, ◌∙◌, append-nil}
-use Rattle.fallible_contract.specs.Traces.{Answered}
-use Rattle.fallible_contract.specs.Folds.{goes_on, DriveExit, Driven}
-use Rattle.fallible_contract.specs.Picking.{better}
-use Rattle.fallible_contract.specs.Lists.{Lists, on_value, folded, pick_of, best_by, greatest}
-use Rattle.fallible_contract.proofs.Lemmas.Folds.{drained_map}
-use Rattle.fallible_contract.proofs.Lemmas.Lists.Drawn.{RestAt, drawn}
+use Rattle.fallible_iterator.specs.Traces.{Answered}
+use Rattle.fallible_iterator.specs.Folds.{goes_on, DriveExit, Driven}
+use Rattle.fallible_iterator.specs.Picking.{better}
+use Rattle.fallible_iterator.specs.Lists.{Lists, on_value, folded, pick_of, best_by, greatest}
+use Rattle.fallible_iterator.proofs.Lemmas.Folds.{drained_map}
+use Rattle.fallible_iterator.proofs.Lemmas.Lists.Drawn.{RestAt, drawn}
 use Rattle.fallible_itertools.specs.MinMax.{with_item, or_less, first_least, both_of, minmaxed, MinMaxExit, MinMaxed}
 use Rattle.std.specs.declared.cmp.Ordering.{Ordering}
 use Rattle.std.specs.declared.cmp.Ordering.TheVariants.{Less, Equal, Greater}

@@ -4,9 +4,9 @@ use Rattle.std.proofs.Common.{refl, sym, ap, subst, ◌∙◌}
 use Rattle.fallible_iterator.specs.Traces.{Answered}
 use Rattle.fallible_iterator.specs.Folds.{Driven, Folded, IsFoldTurnInSlot}
 use Rattle.fallible_iterator.specs.Lists.{Lists, ActsWith, on_value, folded, rest_failed, rest_fold}
-use Rattle.fallible_contract.proofs.Lemmas.Folds.{slot_full, slot_folded_ended, slot_folded_failed, slot_folded_stopped}
-use Rattle.fallible_contract.proofs.Lemmas.Lists.Drawn.{folded_is}
-use Rattle.fallible_contract.proofs.Lemmas.Lists.Rest.{rest_fold_is}
+use Rattle.fallible_iterator.proofs.Lemmas.Folds.{slot_full, slot_folded_ended, slot_folded_failed, slot_folded_stopped}
+use Rattle.fallible_iterator.proofs.Lemmas.Lists.Drawn.{folded_is}
+use Rattle.fallible_iterator.proofs.Lemmas.Lists.Rest.{rest_fold_is}
 use Rattle.fallible_itertools.specs.Stopping.{while_answer, WhileCall, FoldedWhile, IsStop, while_going_on, folded_while, rest_done_at, rest_while}
 use Rattle.fallible_itertools.specs.declared.stopping.FoldWhile.{FoldWhile}
 use Rattle.fallible_itertools.specs.declared.stopping.FoldWhile.TheVariants.{Continue, Done}

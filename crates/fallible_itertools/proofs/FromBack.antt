@@ -2,24 +2,24 @@
 use Rattle.std.specs.Prelude.{◌≡◌, ℕ, ◌+◌, zero, suc, length, Bool, true, false, cond, is_some, Option, Some, None, Result, Ok, Err, List, [], ◌∷◌, ◌++◌, map, reverse}
 use Rattle.std.specs.List.{FoldsTo}
 use Rattle.std.proofs.Common.{refl, sym, ap, subst, ◌∙◌, arith, inr}
-use Rattle.fallible_contract.specs.Traces.{Answered, Run, item}
-use Rattle.fallible_contract.specs.Folds.{goes_on, DriveExit, Driven, CountExit, CountedBy, Drained, Nth, NthExit}
-use Rattle.fallible_contract.specs.Searching.{WentOn, Decided, SearchExit, Searched, any_pick, find_pick}
-use Rattle.fallible_contract.specs.Comparing.{read_as}
-use Rattle.fallible_contract.specs.Lists.{Acts, on_value, any_of, found, counted, nth_of, rest_nth, stopped_or, rest_answer, rest_stop, rest_true}
-use Rattle.fallible_contract.specs.BothEnds.{ListsBothEnds}
-use Rattle.fallible_contract.specs.Contract.{Contract, AtMost, KeptByDraws}
-use Rattle.fallible_contract.specs.Ends.{Ends, LawfulEnds, from_front, from_back}
-use Rattle.fallible_contract.specs.Laws.Contract.{kept_run, kept_then}
-use Rattle.fallible_contract.proofs.Lemmas.Contract.{number_of_at_most}
-use Rattle.fallible_contract.proofs.Lemmas.Folds.{drained_map}
-use Rattle.std.specs.declared.ops.ControlFlow.{ControlFlow}
-use Rattle.std.specs.declared.ops.ControlFlow.TheVariants.{Continue}
-use Rattle.fallible_contract.proofs.Lemmas.BothEnds.{listed_swapped, lists_first}
-use Rattle.fallible_contract.proofs.Lemmas.Lists.Drawn.{counted_is, nth_is}
-use Rattle.fallible_contract.proofs.Lemmas.Lists.Searched.{any_is, find_is}
+use Rattle.fallible_iterator.specs.Traces.{Answered, Run, item}
+use Rattle.fallible_iterator.specs.Folds.{goes_on, DriveExit, Driven, CountExit, CountedBy, Drained, Nth, NthExit}
+use Rattle.fallible_iterator.specs.Searching.{WentOn, Decided, SearchExit, Searched, any_pick, find_pick}
+use Rattle.fallible_iterator.specs.Comparing.{read_as}
+use Rattle.fallible_iterator.specs.Lists.{Acts, on_value, any_of, found, counted, nth_of, rest_nth, stopped_or, rest_answer, rest_stop, rest_true}
+use Rattle.fallible_iterator.specs.BothEnds.{ListsBothEnds}
+use Rattle.fallible_iterator.specs.Contract.{Contract, AtMost, KeptByDraws}
+use Rattle.fallible_iterator.specs.Ends.{Ends, LawfulEnds, from_front, from_back}
+use Rattle.fallible_iterator.specs.Laws.Contract.{kept_run, kept_then}
+use Rattle.fallible_iterator.proofs.Lemmas.Contract.{number_of_at_most}
+use Rattle.fallible_iterator.proofs.Lemmas.Folds.{drained_map}
+use Rattle.fallible_iterator.proofs.Lemmas.BothEnds.{listed_swapped, lists_first}
+use Rattle.fallible_iterator.proofs.Lemmas.Lists.Drawn.{counted_is, nth_is}
+use Rattle.fallible_iterator.proofs.Lemmas.Lists.Searched.{any_is, find_is}
 use Rattle.fallible_iterator.proofs.Lemmas.Ends.{draws_list, all_drawn}
 use Rattle.fallible_itertools.specs.FromBack.{CountedWhere, PlacedFromBack, before_last_true, rest_failure, last_position_in, rest_where, rest_position}
+use Rattle.std.specs.declared.ops.ControlFlow.{ControlFlow}
+use Rattle.std.specs.declared.ops.ControlFlow.TheVariants.{Continue}
 
 -- ---- nth
 

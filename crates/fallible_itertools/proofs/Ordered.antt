@@ -5,7 +5,7 @@ use Rattle.std.proofs.Common.{refl, sym, ap, subst, ◌∙◌}
 use Rattle.fallible_iterator.specs.Traces.{Answered}
 use Rattle.fallible_iterator.specs.Lists.{Lists, Acts, on_value}
 use Rattle.fallible_iterator.specs.Searching.{WentOn, SearchExit, Searched, Decided, all_pick}
-use Rattle.fallible_contract.proofs.Lemmas.Lists.Drawn.{RestAt, drawn}
+use Rattle.fallible_iterator.proofs.Lemmas.Lists.Drawn.{RestAt, drawn}
 use Rattle.fallible_itertools.specs.Sorting.{comes_after, OrderCall, while_in_order, sorted_after, sorted_by_key}
 use Rattle.std.specs.declared.cmp.Ordering.{Ordering}
 

@@ -2,11 +2,11 @@
 use Rattle.std.specs.Prelude.{◌≡◌, List, [], ◌∷◌, ◌++◌, map, true, false, Option, Some, None, Result, Ok, Err, Bool}
 use Rattle.std.specs.List.{FoldsTo}
 use Rattle.std.proofs.Common.{refl, sym, ap, subst, ◌∙◌}
-use Rattle.fallible_contract.specs.Traces.{Answered, Run, item}
-use Rattle.fallible_contract.specs.Folds.{goes_on}
-use Rattle.fallible_contract.specs.Comparing.{where_drawn, read_as, equal_where}
-use Rattle.fallible_contract.specs.Lists.{AlwaysGives, Lists, ActsWith, on_value, unless_equal}
-use Rattle.fallible_contract.proofs.Lemmas.Lists.Drawn.{RestAt, rest_at}
+use Rattle.fallible_iterator.specs.Traces.{Answered, Run, item}
+use Rattle.fallible_iterator.specs.Folds.{goes_on}
+use Rattle.fallible_iterator.specs.Comparing.{where_drawn, read_as, equal_where}
+use Rattle.fallible_iterator.specs.Lists.{AlwaysGives, Lists, ActsWith, on_value, unless_equal}
+use Rattle.fallible_iterator.proofs.Lemmas.Lists.Drawn.{RestAt, rest_at}
 use Rattle.fallible_itertools.specs.ComparedBy.{IsCmpTurn, IsEqTurn, CallableInRounds, LastTurnRound, ComparedBy, ComparedByWith, compared_by}
 use Rattle.std.specs.declared.cmp.Ordering.{Ordering}
 use Rattle.std.specs.declared.cmp.Ordering.TheVariants.{Less, Equal, Greater}

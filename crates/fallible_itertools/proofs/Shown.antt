@@ -1,10 +1,10 @@
 -- A text made of the items by one fold.
 use Rattle.std.specs.Prelude.{◌≡◌, ℕ, List, [], ◌∷◌, ◌++◌, Bool, true, false, cond, Option, Some, None, Ok, Err}
 use Rattle.std.proofs.Common.{refl, sym, ap, ◌∙◌, append_assoc}
-use Rattle.fallible_contract.specs.Traces.{Answered}
-use Rattle.fallible_contract.specs.Folds.{Driven}
-use Rattle.fallible_contract.specs.Collecting.{CollectsAll, FailsWith, RefusesItem}
-use Rattle.fallible_contract.proofs.Lemmas.Collecting.{gathered_all, gathered_failed, gathered_stopped}
+use Rattle.fallible_iterator.specs.Traces.{Answered}
+use Rattle.fallible_iterator.specs.Folds.{Driven}
+use Rattle.fallible_iterator.specs.Collecting.{CollectsAll, FailsWith, RefusesItem}
+use Rattle.fallible_iterator.proofs.Lemmas.Collecting.{gathered_all, gathered_failed, gathered_stopped}
 use Rattle.fallible_itertools.specs.Joined.{joined, JoinedAs, IsJoinTurn}
 use Rattle.std.specs.declared.string.String.{String}
 use Rattle.std.specs.declared.ops.ControlFlow.TheVariants.{Continue}

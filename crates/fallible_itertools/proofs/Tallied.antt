@@ -6,16 +6,16 @@ use Rattle.std.specs.HashMap as hash
 use Rattle.std.proofs.Common.{refl, sym, ap, subst, ◌∙◌, arith, inl, inr}
 use Rattle.std.proofs.Math.Nat.{mod-add-mod}
 use Rattle.std.proofs.lemmas.List.{map-append}
-use Rattle.fallible_contract.specs.Traces.{Answered, Run, item, end, items_in}
-use Rattle.fallible_contract.specs.Contract.{Contract, AtMost, Lawful}
-use Rattle.fallible_contract.specs.Collecting.{CollectsAll, Collects}
-use Rattle.fallible_contract.specs.Collecting.Keyed.{FirstStays}
-use Rattle.fallible_contract.proofs.Lemmas.BoundsRuns.{items_at_most}
-use Rattle.fallible_contract.proofs.Lemmas.Contract.{number_of_at_most}
-use Rattle.fallible_contract.proofs.Lemmas.Collecting.Keyed.{hashed_map_pushed}
-use Rattle.fallible_contract.specs.declared.collecting.Fault.{Fault}
-use Rattle.fallible_contract.specs.declared.collecting.Fault.TheVariants.{Source, Memory}
+use Rattle.fallible_iterator.specs.Traces.{Answered, Run, item, end, items_in}
+use Rattle.fallible_iterator.specs.Contract.{Contract, AtMost, Lawful}
+use Rattle.fallible_iterator.specs.Collecting.{CollectsAll, Collects}
+use Rattle.fallible_iterator.specs.Collecting.Keyed.{FirstStays}
+use Rattle.fallible_iterator.proofs.Lemmas.BoundsRuns.{items_at_most}
+use Rattle.fallible_iterator.proofs.Lemmas.Contract.{number_of_at_most}
+use Rattle.fallible_iterator.proofs.Lemmas.Collecting.Keyed.{hashed_map_pushed}
 use Rattle.fallible_itertools.specs.Counted.{how_many, above_zero, times, IsCountsOf, IsTally}
+use Rattle.fallible_iterator.specs.Fault.{Fault}
+use Rattle.fallible_iterator.specs.Fault.TheVariants.{Source, Memory}
 
 -- ---- counts
 

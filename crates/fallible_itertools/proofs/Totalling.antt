@@ -5,8 +5,8 @@ use Rattle.std.proofs.Common.{sym, ap, ◌∙◌}
 use Rattle.fallible_iterator.specs.Traces.{Answered}
 use Rattle.fallible_iterator.specs.Folds.{DriveExit, Driven}
 use Rattle.fallible_iterator.specs.Lists.{Lists}
-use Rattle.fallible_contract.proofs.Lemmas.Folds.{drained_map}
-use Rattle.fallible_contract.proofs.Lemmas.Lists.Drawn.{RestAt, drawn}
+use Rattle.fallible_iterator.proofs.Lemmas.Folds.{drained_map}
+use Rattle.fallible_iterator.proofs.Lemmas.Lists.Drawn.{RestAt, drawn}
 use Rattle.fallible_itertools.specs.Totals.{Grows, IsTotalTurn, TotalExit, Totalled, total_by, on_total, totalled}
 
 module _ {N E : Type 0} (op : N → N → Option N) where

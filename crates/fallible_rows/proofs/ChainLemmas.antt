@@ -3,18 +3,18 @@ use Rattle.std.proofs.Common.{◌≡◌, ℕ, ◌++◌, ◌∷◌, [], ◌⊎◌
 use Rattle.std.specs.Fn.{Mut}
 use Rattle.std.specs.Borrow.{Bor}
 use Rattle.std.proofs.lemmas.List.Sums.{length-filter}
-use Rattle.fallible_core.proofs.Lemmas.Callers.{filtered_run, taken_run, run_seen}
 use Rattle.fallible_iterator.specs.Traces.{Answered, Run, item, end}
 use Rattle.fallible_iterator.specs.Contract.{Contract, seen_as, unbounded_contract}
 use Rattle.fallible_iterator.specs.Closures.{call_at}
 use Rattle.fallible_iterator.specs.Lists.{Acts}
 use Rattle.fallible_iterator.specs.Cutting.Take.{take_contract, take_parts}
 use Rattle.fallible_iterator.specs.Filtering.Filter.{filter_contract, filter_parts}
+use Rattle.fallible_iterator.proofs.Lemmas.Callers.{filtered_run, taken_run, run_seen}
 use Rattle.fallible_rows.specs.RowTraces.{rows_parts, row_step, ReadsRows}
 use Rattle.fallible_rows.proofs.ReportLemmas.{above}
 use Rattle.fallible_rows.proofs.RowsLaw.{to_trace}
-use Rattle.fallible_core.specs.declared.cutting.take.Take.{Take}
-use Rattle.fallible_core.specs.declared.filtering.filter.Filter.{Filter}
+use Rattle.fallible_iterator.specs.Take.{Take}
+use Rattle.fallible_iterator.specs.Filter.{Filter}
 use Rattle.fallible_rows.specs.declared.fault.RowFault.{RowFault}
 use Rattle.fallible_rows.specs.declared.rows.Ahead.{Ahead}
 use Rattle.fallible_rows.specs.declared.rows.Rows.{Rows}

@@ -4,9 +4,9 @@ use Rattle.std.specs.Prelude.{replicate}
 use Rattle.std.specs.Io.KnownBytes.{Consumes, IsAtEnd}
 use Rattle.std.proofs.KnownBytes.{Consumes-nil, Consumes-trans, Consumes-kept}
 use Rattle.std.proofs.lemmas.List.Elements.{All-take}
-use Rattle.fallible_core.proofs.Lemmas.Callers.{no_item-end, no_item-failure, items_then_last, not_items_with}
 use Rattle.fallible_iterator.specs.Traces.{Answered, item, failure, end}
 use Rattle.fallible_iterator.specs.Folds.{CountExit}
+use Rattle.fallible_iterator.proofs.Lemmas.Callers.{no_item-end, no_item-failure, items_then_last, not_items_with}
 use Rattle.fallible_rows.specs.Reading.{GivesEnd}
 use Rattle.fallible_rows.specs.Rows.{rows}
 use Rattle.fallible_rows.specs.Report.{row_limit, line_of_count}

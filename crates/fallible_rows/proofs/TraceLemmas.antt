@@ -1,9 +1,9 @@
 -- Lemmas on what draws from the rows of a reader answer.
 use Rattle.std.proofs.Common.{Bool, ◌↔◌, ◌≡◌, ◌≢◌, ℕ, ◌+◌, List, [], ◌∷◌, ◌++◌, Option, Some, None, refl, subst, ◌⊎◌, inl, inr}
 use Rattle.std.proofs.lemmas.List.Elements.{All-nil, All-cons, All-append}
-use Rattle.fallible_contract.proofs.Lemmas.LawForm.{traces_of_parts}
 use Rattle.fallible_iterator.specs.Traces.{Answered, Run, failure, end}
 use Rattle.fallible_iterator.specs.Laws.Closures.{turns_then}
+use Rattle.fallible_iterator.proofs.Lemmas.LawForm.{traces_of_parts}
 use Rattle.fallible_rows.specs.Digits.{TellsOf, ClosesAs, ReadsRow}
 use Rattle.fallible_rows.specs.Reading.{GivesByte}
 use Rattle.fallible_rows.specs.RowTraces.{rows_parts, told_place, row_answer, IsOneRow, GivesBytes, DrawsRow}

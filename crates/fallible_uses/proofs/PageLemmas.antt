@@ -1,10 +1,10 @@
 -- A cursor over pages that answer as a book does lists the rows of the book.
 use Rattle.std.specs.Prelude.{◌≡◌, ℕ, ◌+◌, ◌%◌, ◌^◌, List, [], ◌∷◌, ◌++◌, Result, Ok, Err}
 use Rattle.std.proofs.Common.{refl, sym, subst}
-use Rattle.fallible_contract.proofs.Lemmas.Lists.Passing.{lists_seen}
 use Rattle.fallible_iterator.specs.Traces.{Answered}
 use Rattle.fallible_iterator.specs.Contract.{unbounded_contract, seen_as}
 use Rattle.fallible_iterator.specs.Lists.{AlwaysGives, Lists, items}
+use Rattle.fallible_iterator.proofs.Lemmas.Lists.Passing.{lists_seen}
 use Rattle.fallible_uses.specs.Pages.{cursor_parts, at_start, DrawsRow, Opens, AnswersBook, rows_in, pages_left, TakesPage, GivesPage, pages_of}
 use Rattle.std.specs.declared.vec.Vec.{Vec}
 use Rattle.std.specs.declared.alloc.Global.{Global}

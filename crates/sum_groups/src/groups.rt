@@ -10,7 +10,7 @@ ghost use Rattle.std.specs.declared.alloc.Global.{Global};
 ghost use Rattle.fallible_iterator.specs.declared.Fault.TheVariants.{Source};
 ghost use Rattle.sum_groups.specs.declared.groups.Row.{Row};
 
-use fallible_iterator::{FallibleIterator, Fault as Collecting, convert};
+use fallible_iterator::{FallibleIterator, Fault as Collecting, convert, convert_fused};
 use fallible_itertools::FallibleItertools;
 use fallible_uses::numbers::number_of;
 use std::alloc::{AllocError, Global};
@@ -147,8 +147,7 @@ fn print_groups<W: Write>(alloc: Global, rows: &[Row], output: &mut W) -> Result
         (Appends (W.contents output.old) (W.contents output.new) (groups_text rows.now)) }
     ensures row { (place : ℕ) → result ≢ Err (Fault.NoRow place) }
 {
-    let groups = convert(rows.iter().copied().map(Ok))
-        .fuse()
+    let groups = convert_fused(rows.iter().copied().map(Ok))
         .chunk_by(alloc, |row: &Row| Ok(row.key));
     print_each_group(groups, output)
 }
@@ -159,8 +158,7 @@ fn print_batches<W: Write>(alloc: Global, rows: &[Row], output: &mut W) -> Resul
         (Appends (W.contents output.old) (W.contents output.new) (batches_text rows.now)) }
     ensures row { (place : ℕ) → result ≢ Err (Fault.NoRow place) }
 {
-    let batches = convert(rows.iter().copied().map(Ok))
-        .fuse()
+    let batches = convert_fused(rows.iter().copied().map(Ok))
         .chunks(alloc, BATCH);
     print_each_batch(batches, output)
 }

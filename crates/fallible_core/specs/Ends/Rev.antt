@@ -1,7 +1,7 @@
 -- `Rev`, which swaps the ends.
 use Rattle.fallible_contract.specs.Contract.{Contract}
 use Rattle.fallible_contract.specs.Ends.{Ends, from_back}
-use Rattle.fallible_core.specs.declared.ends.rev.Rev.{Rev}
+pub use Rattle.fallible_core.specs.declared.ends.rev.Rev.{Rev}
 
 -- `Rev`'s contract: a draw from it is a draw from the back of its source.
 abbrev pub rev_contract : {S A E : Type 0} → Contract S A E → Ends S A E → Contract S A E

@@ -11,6 +11,8 @@ use Rattle.fallible_contract.specs.Ends.{Ends, LawfulEnds, from_back}
 use Rattle.fallible_contract.specs.BothEnds.{RunAtEnds}
 use Rattle.fallible_contract.specs.Lists.{AlwaysGives, Lists}
 use Rattle.fallible_contract.specs.Laws.Contract.{kept_run}
+-- a lemma of `fallible_core`, handed on
+pub use Rattle.fallible_core.proofs.Lemmas.Bridges.{items_unwrapped}
 use Rattle.fallible_iterator.specs.Sources.Std.{std_step, element_by, IsAskable, IsAskableAtEnds}
 use Rattle.fallible_contract.specs.declared.answers.Side.{Side}
 use Rattle.fallible_contract.specs.declared.answers.Side.TheVariants.{Front, Back}

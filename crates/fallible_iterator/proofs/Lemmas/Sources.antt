@@ -1,5 +1,6 @@
 -- Lemmas on the runs of such types: one file a type.
 pub mod Convert
+pub mod ConvertFused
 pub mod Empty
 pub mod FromFn
 pub mod IntoFallible

@@ -2,7 +2,7 @@
 ghost use Rattle.std.specs.Prelude.{◌≡◌, false, Some, None, Ok, Err, List, [], ◌∷◌, Result, ⊤};
 ghost use Rattle.std.specs.Iterator.Adapters.{fuse_source, fuse_done};
 ghost use Rattle.fallible_contract.specs.Contract.{seen_as};
-ghost use Rattle.fallible_contract.specs.Lists.{Lists, RunsRead, Repeats, results, items};
+ghost use Rattle.fallible_contract.specs.Lists.{Lists, ListsForGood, RunsRead, Repeats, results, items};
 ghost use Rattle.fallible_contract.specs.Closures.{IsCallable};
 ghost use Rattle.fallible_iterator.specs.Sources.Convert.{convert_parts, convert_contract};
 ghost use Rattle.fallible_iterator.specs.Sources.FromFn.{from_fn_parts, from_fn_contract, call_of_none, CallsGive, CallsTakeShown};
@@ -62,6 +62,10 @@ pub fn convert_fused<T, E, I: Iterator<Item = Result<T, E>>>(it: I) -> Convert<F
         → Lists ⟦<Convert<Fuse<I>> as FallibleIterator>⟧.contract.steps result (results l) }
     ensures items { (l : List T) → RunsRead I.next_gives Ok it l
         → Lists ⟦<Convert<Fuse<I>> as FallibleIterator>⟧.contract.steps result (items l) }
+    ensures results_for_good { (l : List (Result T E)) → RunsRead I.next_gives (λ y. y) it l
+        → ListsForGood ⟦<Convert<Fuse<I>> as FallibleIterator>⟧.contract.steps result (results l) }
+    ensures items_for_good { (l : List T) → RunsRead I.next_gives Ok it l
+        → ListsForGood ⟦<Convert<Fuse<I>> as FallibleIterator>⟧.contract.steps result (items l) }
 {
     convert(it.fuse())
 }

@@ -6,16 +6,16 @@ use Rattle.std.proofs.Common.{refl, sym, ap, subst, arith, inl, inr, ◌∙◌}
 use Rattle.fallible_iterator.specs.Closures.{call_at}
 use Rattle.fallible_iterator.specs.Contract.{Contract, seen_as}
 use Rattle.fallible_iterator.specs.Lists.{Acts, ListsForGood}
-use Rattle.fallible_contract.proofs.Lemmas.Lists.Passing.{by_outcome}
+use Rattle.fallible_iterator.proofs.Lemmas.Lists.Passing.{by_outcome}
 use Rattle.fallible_itertools.specs.ChunkBy.{Group, MadeGroup, by_its_key, chunk_by_asks, chunk_by_contract, chunk_by_parts, chunked_by, chunked_by_from, group_at, group_at_end, group_begun, group_by, group_grown, group_held, group_or}
 use Rattle.fallible_itertools.specs.Growing.{ListsMade}
 use Rattle.fallible_itertools.specs.Holding.{held_one}
 use Rattle.fallible_itertools.proofs.Lemmas.HoldingHints.{GivesHeld}
 use Rattle.fallible_itertools.proofs.Lemmas.HoldingLists.{held_list}
 use Rattle.fallible_itertools.proofs.Lemmas.HoldingMade.{Answers, OutcomeMade, Refuses, held_gives_made, lists_made_seen}
+use Rattle.std.specs.declared.alloc.AllocError.{AllocError}
 use Rattle.fallible_iterator.specs.Outcome.{Outcome}
 use Rattle.fallible_iterator.specs.Outcome.TheVariants.{Kept, LeftOut, Failure, End}
-use Rattle.std.specs.declared.alloc.AllocError.{AllocError}
 use Rattle.fallible_itertools.specs.declared.chunk_by.ChunkBy.{ChunkBy}
 
 module _ {A K E : Type 0} (from : AllocError → E → Type 0) (eq : K → K → Bool) where

@@ -5,7 +5,7 @@ use Rattle.std.proofs.Common.{refl, ap, subst, arith, ◌∙◌}
 use Rattle.fallible_iterator.specs.Contract.{Contract, seen_as}
 use Rattle.fallible_iterator.specs.Folds.{call_with}
 use Rattle.fallible_iterator.specs.Lists.{ActsWith, Lists, ListsForGood}
-use Rattle.fallible_contract.proofs.Lemmas.Lists.Passing.{by_outcome, lists_seen}
+use Rattle.fallible_iterator.proofs.Lemmas.Lists.Passing.{by_outcome, lists_seen}
 use Rattle.fallible_itertools.specs.Coalesce.{OneOrBoth, coalesced_by, coalesce_asks, coalesced_at, coalesce_contract, coalesce_parts, coalesced, coalesced_from}
 use Rattle.fallible_itertools.specs.Holding.{held_beside, held_one}
 use Rattle.fallible_itertools.proofs.Lemmas.HoldingHints.{GivesHeld}

@@ -2,16 +2,16 @@
 use Rattle.std.specs.Prelude.{◌≡◌, Result, Ok, Err, List, [], ◌∷◌}
 use Rattle.std.specs.Borrow.{Bor}
 use Rattle.std.proofs.Common.{refl, ap}
-use Rattle.fallible_contract.specs.Contract.{Contract, seen_as}
-use Rattle.fallible_contract.specs.Traces.{Answered}
-use Rattle.fallible_contract.specs.Passing.{passing_step}
-use Rattle.fallible_contract.specs.Lists.{Lists}
-use Rattle.fallible_contract.specs.BothEnds.{ListsBothEnds}
-use Rattle.fallible_contract.proofs.Lemmas.BothEnds.Passing.{listed_by_function}
-use Rattle.fallible_contract.proofs.Lemmas.Lists.Passing.{passed, lists_seen, lists_passed}
-use Rattle.fallible_contract.specs.declared.passing.Outcome.TheVariants.{LeftOut, End}
-use Rattle.fallible_core.specs.OneToOne.Cloned.{pointed_to}
+use Rattle.fallible_iterator.specs.Contract.{Contract, seen_as}
+use Rattle.fallible_iterator.specs.Traces.{Answered}
+use Rattle.fallible_iterator.specs.Passing.{passing_step}
+use Rattle.fallible_iterator.specs.Lists.{Lists}
+use Rattle.fallible_iterator.specs.BothEnds.{ListsBothEnds}
+use Rattle.fallible_iterator.specs.OneToOne.Cloned.{pointed_to}
+use Rattle.fallible_iterator.proofs.Lemmas.BothEnds.Passing.{listed_by_function}
+use Rattle.fallible_iterator.proofs.Lemmas.Lists.Passing.{passed, lists_seen, lists_passed}
 use Rattle.fallible_itertools.specs.Copied.{copied_call, copied_contract, copied_outcome, copied_parts}
+use Rattle.fallible_iterator.specs.Outcome.TheVariants.{LeftOut, End}
 use Rattle.fallible_itertools.specs.declared.copied.Copied.{Copied}
 
 -- no item makes an end, and none is left out

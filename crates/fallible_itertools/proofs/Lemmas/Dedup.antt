@@ -3,7 +3,7 @@ use Rattle.std.specs.Prelude.{◌≡◌, ◌≤◌, Bool, true, false, Option, S
 use Rattle.std.proofs.Common.{refl, ap, subst, arith}
 use Rattle.fallible_iterator.specs.Contract.{Contract, seen_as}
 use Rattle.fallible_iterator.specs.Lists.{Lists, ListsForGood}
-use Rattle.fallible_contract.proofs.Lemmas.Lists.Passing.{by_outcome, lists_seen}
+use Rattle.fallible_iterator.proofs.Lemmas.Lists.Passing.{by_outcome, lists_seen}
 use Rattle.fallible_itertools.specs.Dedup.{dedup_at, dedup_asks, dedup_before, dedup_contract, dedup_parts, deduped, deduped_from}
 use Rattle.fallible_itertools.specs.Holding.{held_one}
 use Rattle.fallible_itertools.proofs.Lemmas.HoldingHints.{GivesHeld}

@@ -6,7 +6,7 @@ use Rattle.std.proofs.Common.{refl, ap, subst, arith, ◌∙◌}
 use Rattle.fallible_iterator.specs.Contract.{Contract, seen_as}
 use Rattle.fallible_iterator.specs.Closures.{IsCallable, call_at}
 use Rattle.fallible_iterator.specs.Lists.{Acts, Lists, ListsForGood}
-use Rattle.fallible_contract.proofs.Lemmas.Lists.Passing.{by_outcome, lists_seen}
+use Rattle.fallible_iterator.proofs.Lemmas.Lists.Passing.{by_outcome, lists_seen}
 use Rattle.fallible_itertools.specs.DedupByKey.{keyed_at, keyed_by, key_before, key_at, dedup_key_asks, dedup_key_takes, dedup_by_key_contract, dedup_by_key_parts, deduped_by_key, deduped_key_from}
 use Rattle.fallible_itertools.specs.Holding.{OrEnd, held_beside, held_one}
 use Rattle.fallible_itertools.proofs.Lemmas.Holding.{callable_beside}

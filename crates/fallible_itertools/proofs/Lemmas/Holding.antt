@@ -4,18 +4,14 @@ use Rattle.std.specs.List.{FoldsTo}
 use Rattle.std.proofs.Common.{refl, sym, subst}
 use Rattle.fallible_iterator.specs.Traces.{Answered, Run, item, end, is_end}
 use Rattle.fallible_iterator.specs.Closures.{Reaches, IsCallable}
-use Rattle.fallible_iterator.specs.Contract.{Contract}
-use Rattle.fallible_iterator.specs.Passing.{outcome_answer, passing_step}
+use Rattle.fallible_iterator.specs.Contract.{Contract, Lawful}
+use Rattle.fallible_iterator.specs.Passing.{outcome_answer, passing_step, leaving_out_contract}
 use Rattle.fallible_iterator.specs.Folds.{DriveExit, Driven, HoldsAtEachTurn, goes_on}
-use Rattle.fallible_iterator.specs.Laws.Closures.{reaches_here, reaches_from}
-use Rattle.fallible_iterator.specs.Laws.Passing.{Passes, done, end_passes, failure_passes, keeps, refuses, closes, leaves_out, to_passes, from_passes}
-use Rattle.fallible_contract.proofs.Lemmas.Folds.{holds_after, driven_after}
-use Rattle.fallible_contract.proofs.Lemmas.Folding.{holds_into}
-use Rattle.fallible_iterator.specs.Contract.{Lawful}
-use Rattle.fallible_iterator.specs.Passing.{leaving_out_contract}
+use Rattle.fallible_iterator.specs.Laws.Closures.{reaches_here, reaches_from, callable_after}
+use Rattle.fallible_iterator.specs.Laws.Passing.{Passes, done, end_passes, failure_passes, keeps, refuses, closes, leaves_out, to_passes, from_passes, lawful_leaving_out}
 use Rattle.fallible_iterator.specs.Laws.Contract.{kept_run}
-use Rattle.fallible_iterator.specs.Laws.Closures.{callable_after}
-use Rattle.fallible_iterator.specs.Laws.Passing.{lawful_leaving_out}
+use Rattle.fallible_iterator.proofs.Lemmas.Folds.{holds_after, driven_after}
+use Rattle.fallible_iterator.proofs.Lemmas.Folding.{holds_into}
 use Rattle.fallible_itertools.specs.Holding.{with_ends, as_answered, OrEnd, MayBeAsked, asks_item, as_answered_item, holding_contract}
 use Rattle.std.specs.declared.ops.ControlFlow.{ControlFlow}
 use Rattle.fallible_iterator.specs.Outcome.{Outcome}

@@ -5,7 +5,7 @@ use Rattle.fallible_iterator.specs.Traces.{Answered, item, end}
 use Rattle.fallible_iterator.specs.Lists.{AlwaysGives, EndsForGood, GivesForGood}
 use Rattle.fallible_iterator.specs.Passing.{passing_step}
 use Rattle.fallible_iterator.specs.Laws.Passing.{Passes, done, end_passes, failure_passes, keeps, refuses, closes, leaves_out, to_passes, from_passes}
-use Rattle.fallible_contract.proofs.Lemmas.Lists.Passing.{by_outcome, gives_if}
+use Rattle.fallible_iterator.proofs.Lemmas.Lists.Passing.{by_outcome, gives_if}
 use Rattle.fallible_itertools.specs.Holding.{with_ends, as_answered}
 use Rattle.fallible_iterator.specs.Outcome.{Outcome}
 use Rattle.fallible_iterator.specs.Outcome.TheVariants.{Kept, LeftOut, Failure, End}

@@ -4,12 +4,12 @@ use Rattle.std.proofs.Common.{refl, sym, subst, inl, inr, ◌∙◌}
 use Rattle.fallible_iterator.specs.Traces.{Answered, end}
 use Rattle.fallible_iterator.specs.Lists.{EndsForGood, GivesForGood}
 use Rattle.fallible_iterator.specs.Laws.Passing.{to_passes, from_passes}
-use Rattle.fallible_contract.proofs.Lemmas.Lists.Passing.{by_outcome}
+use Rattle.fallible_iterator.proofs.Lemmas.Lists.Passing.{by_outcome}
 use Rattle.fallible_itertools.specs.Growing.{AnswersRefusal, GivesMade, IsMadeOf, IsRefusal, ListsMade}
 use Rattle.fallible_itertools.proofs.Lemmas.HoldingLists.{held_list, ByFirst, FirstOfAll, Steps, Whole, asked, failed, first_of_all}
+use Rattle.std.specs.declared.alloc.AllocError.{AllocError}
 use Rattle.fallible_iterator.specs.Outcome.{Outcome}
 use Rattle.fallible_iterator.specs.Outcome.TheVariants.{Kept, LeftOut, Failure, End}
-use Rattle.std.specs.declared.alloc.AllocError.{AllocError}
 
 -- the outcome is one that is told, with a value made of the one that is told
 abbrev pub OutcomeMade : {Y B E : Type 0} → (Y → B → Type 0) → Outcome Y E → Outcome B E → Type 0

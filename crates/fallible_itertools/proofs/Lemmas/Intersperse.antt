@@ -4,7 +4,7 @@ use Rattle.std.proofs.Common.{refl, sym, ap, subst, ◌∙◌}
 use Rattle.fallible_iterator.specs.Traces.{Answered, item, end}
 use Rattle.fallible_iterator.specs.Contract.{Contract, seen_as}
 use Rattle.fallible_iterator.specs.Lists.{AlwaysGives, Lists}
-use Rattle.fallible_contract.proofs.Lemmas.Lists.Passing.{lists_seen}
+use Rattle.fallible_iterator.proofs.Lemmas.Lists.Passing.{lists_seen}
 use Rattle.fallible_itertools.specs.Intersperse.{Separates, PlacedAs, intersperse_step, intersperse_contract, intersperse_parts, each_after, interspersed}
 use Rattle.std.specs.declared.alloc.AllocError.{AllocError}
 use Rattle.fallible_itertools.specs.declared.intersperse.Intersperse.{Intersperse}

@@ -5,13 +5,13 @@ use Rattle.std.proofs.Common.{refl, sym, ap, subst, ◌∙◌, inl, inr}
 use Rattle.fallible_iterator.specs.Traces.{Answered, Run, Yields, item}
 use Rattle.fallible_iterator.specs.Contract.{Contract, seen_as}
 use Rattle.fallible_iterator.specs.Folds.{HoldsAtEachTurn, goes_on, DriveExit, Driven, TurnThrough, beside, beside_names, within}
-use Rattle.fallible_contract.proofs.Lemmas.Folding.{holds_into, drained_into}
-use Rattle.fallible_contract.proofs.Lemmas.Folds.{holds_here, holds_after, driven_after, driven_end, driven_failure, driven_stop, driven_through, names_kept}
+use Rattle.fallible_iterator.proofs.Lemmas.Folding.{holds_into, drained_into}
+use Rattle.fallible_iterator.proofs.Lemmas.Folds.{holds_here, holds_after, driven_after, driven_end, driven_failure, driven_stop, driven_through, names_kept}
 use Rattle.fallible_itertools.specs.Intersperse.{PlacedAs, intersperse_step, intersperse_contract, intersperse_parts, IsHeldTurn, IsAnswersTurn, IsPartingTurn, HeldTakes, PartingTakes}
 use Rattle.std.specs.declared.alloc.AllocError.{AllocError}
 use Rattle.std.specs.declared.ops.ControlFlow.{ControlFlow}
 use Rattle.std.specs.declared.ops.ControlFlow.TheVariants.{Continue, Break}
-use Rattle.fallible_contract.specs.declared.folds.Beside.{Beside}
+use Rattle.fallible_iterator.specs.Beside.{Beside}
 use Rattle.fallible_itertools.specs.declared.intersperse.Intersperse.{Intersperse}
 
 module _ {S A E C R : Type 0} (is_clone : A → A → Type 0) (is_infallible : A → Type 0) (from : AllocError → E → Type 0) (steps : S → Answered A E → S → Type 0) (z : A) (turns : C → A → ControlFlow R (Unit {0}) → C → Type 0) where

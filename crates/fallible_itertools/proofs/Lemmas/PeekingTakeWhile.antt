@@ -4,19 +4,19 @@ use Rattle.std.specs.List.{cons_option, filter_map}
 use Rattle.std.specs.Fn.{Mut}
 use Rattle.std.specs.Borrow.{Bor}
 use Rattle.std.proofs.Common.{refl, sym, ap, ap₂, subst, ◌∙◌, arith}
-use Rattle.fallible_contract.specs.Contract.{Contract, seen_as}
-use Rattle.fallible_contract.specs.Lists.{AlwaysGives, Lists, Acts, result_answer}
-use Rattle.fallible_contract.specs.Traces.{Answered, Run, Yields, item, end}
-use Rattle.fallible_contract.specs.Closures.{Calls, call_at}
-use Rattle.fallible_contract.specs.Passing.{Place, asked, failure_at, end_at, source_answer, call_of}
-use Rattle.fallible_contract.proofs.Lemmas.Lists.Passing.{lists_seen}
-use Rattle.fallible_core.specs.Cutting.TakeWhile.{cons_while, is_refused, taken_answer, taken_while}
-use Rattle.fallible_core.proofs.Lemmas.Cutting.TakeWhile.{first_call, calls_apart}
-use Rattle.fallible_core.specs.Peeking.Peekable.{Fills, Peeks, failure_told, held_item, peekable_contract, peekable_parts, peekable_step}
+use Rattle.fallible_iterator.specs.Contract.{Contract, seen_as}
+use Rattle.fallible_iterator.specs.Lists.{AlwaysGives, Lists, Acts, result_answer}
+use Rattle.fallible_iterator.specs.Traces.{Answered, Run, Yields, item, end}
+use Rattle.fallible_iterator.specs.Closures.{Calls, call_at}
+use Rattle.fallible_iterator.specs.Passing.{Place, asked, failure_at, end_at, source_answer, call_of}
+use Rattle.fallible_iterator.specs.Cutting.TakeWhile.{cons_while, is_refused, taken_answer, taken_while}
+use Rattle.fallible_iterator.specs.Peeking.Peekable.{Fills, Peeks, failure_told, held_item, peekable_contract, peekable_parts, peekable_step}
+use Rattle.fallible_iterator.proofs.Lemmas.Lists.Passing.{lists_seen}
+use Rattle.fallible_iterator.proofs.Lemmas.Cutting.TakeWhile.{first_call, calls_apart}
 use Rattle.fallible_iterator.proofs.Lemmas.Hints.Drawn.{ItemsOfItems}
 use Rattle.fallible_itertools.specs.Laws.PeekingTakeWhile.{looked_step, held_step}
 use Rattle.fallible_itertools.specs.PeekingTakeWhile.{AcceptsHeld, AgainAt, AskedAgain, DrawnAt, LeftAt, LeftBehind, LooksAhead, PeekingTrace, rest_at, rest_by_while, let_go, peekable_looks, peeking_contract, peeking_parts, peeking_step}
-use Rattle.fallible_core.specs.declared.peeking.peekable.Peekable.{Peekable}
+use Rattle.fallible_iterator.specs.Peekable.{Peekable}
 use Rattle.fallible_itertools.specs.declared.peeking_take_while.PeekingTakeWhile.{PeekingTakeWhile}
 
 -- ---- one answer of a `Peekable`

@@ -4,17 +4,17 @@ use Rattle.std.specs.List.{FoldsTo}
 use Rattle.std.specs.Fn.{Mut}
 use Rattle.std.specs.Borrow.{Bor}
 use Rattle.std.proofs.Common.{refl, sym, ap, subst, ◌∙◌, arith}
-use Rattle.fallible_contract.specs.Contract.{Contract, seen_as}
-use Rattle.fallible_contract.specs.Lists.{AlwaysGives, Lists, Acts}
-use Rattle.fallible_contract.specs.Traces.{Answered, Yields, item, end}
-use Rattle.fallible_contract.specs.Closures.{call_at}
-use Rattle.fallible_contract.specs.Passing.{LeavesNoneOut, Place, asked, failure_at, end_at, source_answer}
-use Rattle.fallible_contract.specs.Closing.{closing_step}
-use Rattle.fallible_contract.proofs.Lemmas.Closing.{closing_law}
-use Rattle.fallible_contract.proofs.Lemmas.Lists.Passing.{lists_seen}
-use Rattle.fallible_core.specs.Cutting.TakeWhile.{is_refused, place_drawn}
-use Rattle.fallible_core.proofs.Lemmas.Cutting.TakeWhile.{to_both, from_both}
+use Rattle.fallible_iterator.specs.Contract.{Contract, seen_as}
+use Rattle.fallible_iterator.specs.Lists.{AlwaysGives, Lists, Acts}
+use Rattle.fallible_iterator.specs.Traces.{Answered, Yields, item, end}
+use Rattle.fallible_iterator.specs.Closures.{call_at}
+use Rattle.fallible_iterator.specs.Passing.{LeavesNoneOut, Place, asked, failure_at, end_at, source_answer}
+use Rattle.fallible_iterator.specs.Closing.{closing_step}
+use Rattle.fallible_iterator.specs.Cutting.TakeWhile.{is_refused, place_drawn}
 use Rattle.fallible_iterator.specs.SoundHints.{BoundsBelow, AsSound}
+use Rattle.fallible_iterator.proofs.Lemmas.Closing.{closing_law}
+use Rattle.fallible_iterator.proofs.Lemmas.Lists.Passing.{lists_seen}
+use Rattle.fallible_iterator.proofs.Lemmas.Cutting.TakeWhile.{to_both, from_both}
 use Rattle.fallible_iterator.proofs.Lemmas.Hints.Drawn.{ItemsOfItems, above_of_source}
 use Rattle.fallible_itertools.specs.TakeWhileInclusive.{cons_through, taken_while_inclusive, inclusive_outcome, inclusive_answer, hint_of_first, InclusiveTrace, inclusive_parts, inclusive_contract}
 use Rattle.fallible_itertools.specs.declared.take_while_inclusive.TakeWhileInclusive.{TakeWhileInclusive}

@@ -4,21 +4,21 @@ use Rattle.std.specs.List.{FoldsTo}
 use Rattle.std.specs.Fn.{Mut}
 use Rattle.std.specs.Borrow.{Bor}
 use Rattle.std.proofs.Common.{refl, sym, ap, subst, ◌∙◌}
-use Rattle.fallible_contract.specs.Traces.{Answered, Run, Yields, item}
-use Rattle.fallible_contract.specs.Closures.{IsCallable, call_at, takes_at}
-use Rattle.fallible_contract.specs.Contract.{Contract, Lawful, seen_as}
-use Rattle.fallible_contract.specs.Folds.{Drained, HoldsAtEachTurn, goes_on, DriveExit, Driven, TurnThrough, beside, beside_names, within}
-use Rattle.fallible_contract.specs.Folding.{TurnedBy, FoldingTurn, FoldingTakes}
-use Rattle.fallible_contract.specs.Passing.{asked, failure_at, end_at, PassAnswer}
-use Rattle.fallible_contract.proofs.Lemmas.Folds.{holds_here, holds_after, driven_after, driven_end, driven_failure, driven_stop, driven_through, names_kept, drained_last, turns_map}
-use Rattle.fallible_contract.proofs.Lemmas.Folding.{takes_through}
-use Rattle.fallible_core.specs.Cutting.TakeWhile.{refusing_call}
-use Rattle.fallible_core.proofs.Lemmas.Cutting.TakeWhileFolds.{callable_beside}
+use Rattle.fallible_iterator.specs.Traces.{Answered, Run, Yields, item}
+use Rattle.fallible_iterator.specs.Closures.{IsCallable, call_at, takes_at}
+use Rattle.fallible_iterator.specs.Contract.{Contract, Lawful, seen_as}
+use Rattle.fallible_iterator.specs.Folds.{Drained, HoldsAtEachTurn, goes_on, DriveExit, Driven, TurnThrough, beside, beside_names, within}
+use Rattle.fallible_iterator.specs.Folding.{TurnedBy, FoldingTurn, FoldingTakes}
+use Rattle.fallible_iterator.specs.Passing.{asked, failure_at, end_at, PassAnswer}
+use Rattle.fallible_iterator.specs.Cutting.TakeWhile.{refusing_call}
+use Rattle.fallible_iterator.proofs.Lemmas.Folds.{holds_here, holds_after, driven_after, driven_end, driven_failure, driven_stop, driven_through, names_kept, drained_last, turns_map}
+use Rattle.fallible_iterator.proofs.Lemmas.Folding.{takes_through}
+use Rattle.fallible_iterator.proofs.Lemmas.Cutting.TakeWhileFolds.{callable_beside}
 use Rattle.fallible_itertools.specs.TakeWhileInclusive.{StoppingTurn, stopped_where, inclusive_outcome, inclusive_contract, inclusive_parts}
 use Rattle.std.specs.declared.ops.ControlFlow.{ControlFlow}
 use Rattle.std.specs.declared.ops.ControlFlow.TheVariants.{Continue, Break}
-use Rattle.fallible_contract.specs.declared.folds.Beside.{Beside}
-use Rattle.fallible_contract.specs.declared.passing.Outcome.TheVariants.{Kept}
+use Rattle.fallible_iterator.specs.Beside.{Beside}
+use Rattle.fallible_iterator.specs.Outcome.TheVariants.{Kept}
 use Rattle.fallible_itertools.specs.declared.take_while_inclusive.TakeWhileInclusive.{TakeWhileInclusive}
 
 -- ---- draws and turns

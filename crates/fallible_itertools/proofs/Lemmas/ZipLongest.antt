@@ -6,8 +6,8 @@ use Rattle.fallible_iterator.specs.LawForm.{TracesAre}
 use Rattle.fallible_iterator.specs.Contract.{Contract, seen_as}
 use Rattle.fallible_iterator.specs.Held.{held_count}
 use Rattle.fallible_iterator.specs.Lists.{Lists, ListsForGood}
-use Rattle.fallible_contract.proofs.Lemmas.Lists.ForGood.{lists_once, lists_for_good_seen}
 use Rattle.fallible_iterator.specs.SoundHints.{AsSoundAsBoth}
+use Rattle.fallible_iterator.proofs.Lemmas.Lists.ForGood.{lists_once, lists_for_good_seen}
 use Rattle.fallible_itertools.specs.Sides.{low_with, SidesPlace, left_failed, right_failed, both_gave, right_behind}
 use Rattle.fallible_itertools.specs.ZipLongest.{longest, longest_rule, zip_longest_parts, zip_longest_contract, ZipLongestTrace, zipped_longest}
 use Rattle.fallible_itertools.specs.Laws.ZipLongest.{lawful_longest}

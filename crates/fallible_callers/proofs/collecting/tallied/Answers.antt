@@ -4,13 +4,13 @@ use Rattle.std.proofs.Common.{rules, ap, arith, inl, inr, ◌∙◌}
 use Rattle.std.proofs.lemmas.List.{length-append, length-map}
 use Rattle.fallible_iterator.specs.Traces.{Answered}
 use Rattle.fallible_iterator.specs.Collecting.{Collects}
+use Rattle.fallible_iterator.specs.Lists.{Lists, results}
+use Rattle.fallible_iterator.proofs.Lemmas.Lists.Drawn.{drawn}
+use Rattle.fallible_callers.proofs.collecting.tallied.Goals as goal
+use Rattle.std.specs.declared.alloc.AllocError.{AllocError}
 use Rattle.fallible_iterator.specs.Fault.{Fault}
 use Rattle.fallible_iterator.specs.Fault.TheVariants.{Source, Memory}
-use Rattle.fallible_iterator.specs.Lists.{Lists, results}
-use Rattle.fallible_contract.proofs.Lemmas.Lists.Drawn.{drawn}
-use Rattle.fallible_callers.proofs.collecting.tallied.Goals as goal
 use Rattle.fallible_callers.specs.declared.collecting.Tally.{Tally}
-use Rattle.std.specs.declared.alloc.AllocError.{AllocError}
 
 -- A refused item stands behind the items that the tally counts.
 tally_full : {S E : Type 0} {steps : S → Answered ℕ E → S → Type 0} {s : S} (l : List (Result ℕ E)) → Lists steps s l → (fault : Fault E) (a : AllocError) → Collects {C = Tally} steps (λ items tally. tally.count ≡ length items) ⊥ (λ tally _. 1000 ≤ tally.count) s (Err fault) → fault ≡ Memory a → 1000 < length l

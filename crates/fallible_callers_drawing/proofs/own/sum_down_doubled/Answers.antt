@@ -1,6 +1,6 @@
 -- The fold behind `map` is the fold that doubles.
 use Rattle.std.proofs.Common.{◌≡◌, ◌∙◌, ◌+◌, ◌*◌, ◌%◌, ◌^◌, sym, rules, Ok}
-use Rattle.fallible_contract.specs.Laws.Showing.{shown_before}
+use Rattle.fallible_iterator.specs.Laws.Showing.{shown_before}
 use Rattle.fallible_iterator.specs.Lists.{folded}
 use Rattle.fallible_iterator.proofs.Lemmas.Words.{folded_mapped}
 use Rattle.fallible_callers_drawing.specs.Down.{counts_down}

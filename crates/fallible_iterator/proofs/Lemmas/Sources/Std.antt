@@ -58,7 +58,7 @@ module _ {S A E Z X : Type 0} (of_item : A → Z) (of_failure : E → Z) (can : 
   ended (Ok None) s t reads w = refl
 
   -- one call at an element
-  called : (r : Answered A E) (s t : S) (x : X) (l : List X) → RunsRead gives h s (x ∷ l) → gives s (element_by of_item of_failure r) t → (r ≡ result_answer (to x)) × RunsRead gives h t l
+  pub called : (r : Answered A E) (s t : S) (x : X) (l : List X) → RunsRead gives h s (x ∷ l) → gives s (element_by of_item of_failure r) t → (r ≡ result_answer (to x)) × RunsRead gives h t l
   called (Ok (Some y)) s t x l reads w = (back (Ok (Some y)) x (ap Some (first_read gives h s t (of_item y) x l reads w)), rest_read gives h s t (of_item y) x l reads w)
   called (Err e) s t x l reads w = (back (Err e) x (ap Some (first_read gives h s t (of_failure e) x l reads w)), rest_read gives h s t (of_failure e) x l reads w)
   called (Ok None) s t x l reads w = absurd (some_read gives h s t x l reads w)

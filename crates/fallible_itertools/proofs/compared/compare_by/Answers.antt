@@ -1,6 +1,6 @@
 -- Each round goes before the comparison from there on.
 use Rattle.std.proofs.Common.{refl, Ok, Err, Some, None}
-use Rattle.fallible_contract.proofs.Lemmas.Comparing.{either_begins, either_fewer}
+use Rattle.fallible_iterator.proofs.Lemmas.Comparing.{either_begins, either_fewer}
 use Rattle.fallible_itertools.proofs.Rounds.{callable_here, callable_after, rounds_after, round_left_failure, last_round, right_fails}
 use Rattle.fallible_itertools.proofs.compared.compare_by.Goals as goal
 

@@ -1,6 +1,6 @@
 -- Both sides may be drawn from, some bound of one of them is at most the one counted down, the turn may be taken from here on, and what a comparison from here answers, the whole answers.
-use Rattle.fallible_contract.proofs.Lemmas.Comparing.{EitherAtMost}
-use Rattle.fallible_contract.specs.Folds.{goes_on}
+use Rattle.fallible_iterator.specs.Folds.{goes_on}
+use Rattle.fallible_iterator.proofs.Lemmas.Comparing.{EitherAtMost}
 use Rattle.fallible_itertools.specs.ComparedBy.{CallableInRounds, ComparedBy}
 use Rattle.fallible_itertools.proofs.compared.compare_by.Given as goal
 

@@ -1,7 +1,7 @@
 -- The fold whose state is the number of items counts them.
 use Rattle.std.proofs.Common.{◌≡◌, true, Ok}
-use Rattle.fallible_contract.proofs.Lemmas.Contract.{number_of_at_most}
-use Rattle.fallible_contract.proofs.Lemmas.Folds.{holds_map, count_fits}
+use Rattle.fallible_iterator.proofs.Lemmas.Contract.{number_of_at_most}
+use Rattle.fallible_iterator.proofs.Lemmas.Folds.{holds_map, count_fits}
 use Rattle.fallible_itertools.proofs.FromBack.{counted_to_end, counted_to_failure}
 use Rattle.fallible_itertools.proofs.double_ended.counted_where.Goals as goal
 

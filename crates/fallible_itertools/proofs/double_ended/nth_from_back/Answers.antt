@@ -1,6 +1,6 @@
 -- Each item passed over goes before what is left of the call.
 use Rattle.std.proofs.Common.{arith}
-use Rattle.fallible_contract.proofs.Lemmas.Nth.{nth_after, nth_now, nth_next}
+use Rattle.fallible_iterator.proofs.Lemmas.Nth.{nth_after, nth_now, nth_next}
 use Rattle.fallible_itertools.proofs.double_ended.nth_from_back.Goals as goal
 
 pub loop-left-init : goal.loop-left-init

@@ -1,5 +1,5 @@
 -- What the search for the item with the rest of them to pass over does from here, the whole does.
-use Rattle.fallible_contract.specs.Folds.{Nth}
+use Rattle.fallible_iterator.specs.Folds.{Nth}
 use Rattle.fallible_itertools.proofs.double_ended.nth_from_back.Given as goal
 
 abbrev pub invariant-loop-left : goal.invariant-loop-left

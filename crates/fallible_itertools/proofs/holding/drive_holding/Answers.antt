@@ -2,13 +2,13 @@
 use Rattle.std.specs.Prelude.{⊤, Some}
 use Rattle.std.proofs.Common.{refl, arith}
 use Rattle.fallible_iterator.specs.Laws.Contract.{kept_run}
-use Rattle.fallible_contract.proofs.Lemmas.Folds.{holds_here, holds_after, driven_after, driven_end, driven_failure, driven_stop}
-use Rattle.fallible_contract.proofs.Lemmas.Folding.{takes_through}
+use Rattle.fallible_iterator.proofs.Lemmas.Folds.{holds_here, holds_after, driven_after, driven_end, driven_failure, driven_stop}
+use Rattle.fallible_iterator.proofs.Lemmas.Folding.{takes_through}
 use Rattle.fallible_itertools.specs.Holding.{asks_item, as_answered_item}
 use Rattle.fallible_itertools.specs.Laws.Holding.{lawful_holding}
 use Rattle.fallible_itertools.proofs.Lemmas.Holding.{driven_before_end, to_the_end, holds_to_end, step_at_end, callable_of_items, can_ask_of_end}
-use Rattle.fallible_iterator.specs.Outcome.TheVariants.{Kept, Failure, End}
 use Rattle.fallible_itertools.proofs.holding.drive_holding.Goals as goal
+use Rattle.fallible_iterator.specs.Outcome.TheVariants.{Kept, Failure, End}
 
 pub drive_passing-requires-clause-callable : goal.drive_passing-requires-clause-callable
 drive_passing-requires-clause-callable g c = let i = c.loop-stop.invariant in let m = g.I.FallibleIterator.contract in let asks = g.A.Hold.asks c.args.adapter.now in

@@ -1,7 +1,7 @@
 -- A fold of the source by the parting turn is one of the adapter by the caller's.
 use Rattle.std.proofs.Common.{rules}
 use Rattle.fallible_iterator.specs.Folds.{beside, beside_names}
-use Rattle.fallible_contract.proofs.Lemmas.Folds.{callable_through}
+use Rattle.fallible_iterator.proofs.Lemmas.Folds.{callable_through}
 use Rattle.fallible_itertools.specs.Intersperse.{IsPartingTurn}
 use Rattle.fallible_itertools.proofs.Lemmas.IntersperseFolds.{driven_parting, takes_parting}
 use Rattle.fallible_itertools.proofs.intersperse.drive_parting.Goals as goal

@@ -1,6 +1,6 @@
 -- The call on a reference to what is held.
 use Rattle.std.proofs.Common.{Option, refl, subst}
-use Rattle.fallible_contract.specs.Closures.{call_at}
+use Rattle.fallible_iterator.specs.Closures.{call_at}
 use Rattle.fallible_itertools.specs.PeekingTakeWhile.{AcceptsHeld}
 use Rattle.fallible_itertools.proofs.peeking_take_while.accepts_held.Goals as goal
 

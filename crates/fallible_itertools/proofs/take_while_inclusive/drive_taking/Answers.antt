@@ -1,7 +1,7 @@
 -- A fold of the source that stops behind a refused item is one of the adapter by the caller's turn.
 use Rattle.std.proofs.Common.{rules}
-use Rattle.fallible_contract.specs.Folds.{beside, beside_names}
-use Rattle.fallible_contract.proofs.Lemmas.Folds.{callable_through}
+use Rattle.fallible_iterator.specs.Folds.{beside, beside_names}
+use Rattle.fallible_iterator.proofs.Lemmas.Folds.{callable_through}
 use Rattle.fallible_itertools.proofs.Lemmas.TakeWhileInclusiveFolds.{Stopping, inclusive_drives_beside}
 use Rattle.fallible_itertools.proofs.take_while_inclusive.drive_taking.Goals as goal
 

@@ -1,19 +1,19 @@
 -- What the chain's rows answered is what was read, and the reader is the one that was lent.
 use Rattle.std.proofs.Common.{rules, tests, ◌≡◌, ◌-◌, ◌^◌, sym, subst, refl, lit≤}
-use Rattle.fallible_core.proofs.Lemmas.Callers.{fold_counted, callable_counting}
 use Rattle.fallible_iterator.specs.Laws.Contract.{lawful_seen}
 use Rattle.fallible_iterator.specs.Laws.BoundsRuns.{lawful_unbounded}
 use Rattle.fallible_iterator.specs.Cutting.Take.{take_parts}
 use Rattle.fallible_iterator.specs.Filtering.Filter.{filter_parts}
 use Rattle.fallible_iterator.specs.Laws.Cutting.Take.{lawful_take}
 use Rattle.fallible_iterator.specs.Laws.Filtering.Filter.{lawful_filter}
+use Rattle.fallible_iterator.proofs.Lemmas.Callers.{fold_counted, callable_counting}
 use Rattle.fallible_rows.specs.RowTraces.{rows_parts, row_step}
 use Rattle.fallible_rows.specs.Counting.{CountsPrefix}
 use Rattle.fallible_rows.proofs.ChainLemmas.{chain_reads}
 use Rattle.fallible_rows.proofs.ReportLemmas.{row_limit-is}
 use Rattle.fallible_rows.proofs.PrefixLemmas.{counts_prefix, reads_keep}
-use Rattle.fallible_rows.specs.declared.reading.Lent.{Lent}
 use Rattle.fallible_rows.proofs.counting.count_above.Goals as goal
+use Rattle.fallible_rows.specs.declared.reading.Lent.{Lent}
 
 pub try_fold-requires-clause-callable : goal.try_fold-requires-clause-callable
 try_fold-requires-clause-callable g c = callable_counting (2 ^ 64 - 1) (λ p x q h. search rules) (λ p x h. search rules) (lawful_seen filter_parts (lawful_filter _ (lawful_seen take_parts (lawful_take (lawful_seen rows_parts (lawful_unbounded (row_step _ _))))))) (search (rules, tests)) (search (rules, tests))

@@ -1,6 +1,6 @@
 -- One more draw.
-use Rattle.fallible_contract.proofs.Lemmas.Contract.{stays_step}
 use Rattle.fallible_iterator.specs.Laws.Contract.{stays_here}
+use Rattle.fallible_iterator.proofs.Lemmas.Contract.{stays_step}
 use Rattle.scripts.proofs.operating.drawn.Goals as goal
 
 pub loop-init : goal.loop-init

@@ -1,5 +1,5 @@
 -- The fold of what holds.
-use Rattle.fallible_contract.proofs.Lemmas.Folding.{holds_into, drained_into}
+use Rattle.fallible_iterator.proofs.Lemmas.Folding.{holds_into, drained_into}
 use Rattle.fallible_itertools.specs.Laws.ChunkBy.{asked_callable}
 use Rattle.fallible_itertools.proofs.chunk_by.ChunkByFallibleIterator.drive.Goals as goal
 

@@ -1,6 +1,6 @@
 -- The fold of its source from the back, by the copies.
 use Rattle.std.specs.Prelude.{⊤}
-use Rattle.fallible_contract.proofs.Lemmas.Folding.{takes_freely, holds_into, drained_into}
+use Rattle.fallible_iterator.proofs.Lemmas.Folding.{takes_freely, holds_into, drained_into}
 use Rattle.fallible_itertools.specs.Copied.{copied_call, copied_outcome}
 use Rattle.fallible_itertools.proofs.copied.CopiedDoubleEndedFallibleIterator.drive_back.Goals as goal
 

@@ -1,6 +1,6 @@
 -- One answer of the source, and the copy of what it points to, are the trace of one answer.
 use Rattle.std.proofs.Common.{refl}
-use Rattle.fallible_contract.proofs.Lemmas.Passing.{answer_passed, freely}
+use Rattle.fallible_iterator.proofs.Lemmas.Passing.{answer_passed, freely}
 use Rattle.fallible_itertools.proofs.copied.CopiedDoubleEndedFallibleIterator.next_back.Goals as goal
 
 pub passed-requires-clause-takes : goal.passed-requires-clause-takes

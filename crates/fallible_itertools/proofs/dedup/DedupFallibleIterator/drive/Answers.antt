@@ -1,5 +1,5 @@
 -- The fold of what holds.
-use Rattle.fallible_contract.proofs.Lemmas.Folding.{holds_into, drained_into}
+use Rattle.fallible_iterator.proofs.Lemmas.Folding.{holds_into, drained_into}
 use Rattle.fallible_itertools.proofs.dedup.DedupFallibleIterator.drive.Goals as goal
 
 pub drive_holding-requires-clause-callable : goal.drive_holding-requires-clause-callable

@@ -1,6 +1,6 @@
 -- What the list from the back says of the item, and of what is left.
-use Rattle.fallible_contract.proofs.Lemmas.Lists.Drawn.{nth_is}
-use Rattle.fallible_contract.specs.Laws.Contract.{stays_run}
+use Rattle.fallible_iterator.specs.Laws.Contract.{stays_run}
+use Rattle.fallible_iterator.proofs.Lemmas.Lists.Drawn.{nth_is}
 use Rattle.fallible_itertools.proofs.FromBack.{nth_at_back}
 use Rattle.fallible_itertools.proofs.double_ended.DoubleEndedFallibleItertools.nth_back.Goals as goal
 

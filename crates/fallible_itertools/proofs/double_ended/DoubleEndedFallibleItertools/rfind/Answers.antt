@@ -1,10 +1,10 @@
 -- The fold from the back that stops at the item is the search.
 use Rattle.std.proofs.Common.{rules}
-use Rattle.fallible_contract.specs.Closures.{call_at}
-use Rattle.fallible_contract.proofs.Lemmas.Folds.{holds_map}
-use Rattle.fallible_contract.proofs.Lemmas.Searching.{found_search}
-use Rattle.fallible_contract.proofs.Lemmas.Lists.Searched.{find_is}
-use Rattle.fallible_contract.specs.Laws.Contract.{stays_run}
+use Rattle.fallible_iterator.specs.Closures.{call_at}
+use Rattle.fallible_iterator.specs.Laws.Contract.{stays_run}
+use Rattle.fallible_iterator.proofs.Lemmas.Folds.{holds_map}
+use Rattle.fallible_iterator.proofs.Lemmas.Searching.{found_search}
+use Rattle.fallible_iterator.proofs.Lemmas.Lists.Searched.{find_is}
 use Rattle.fallible_itertools.proofs.FromBack.{find_at_back}
 use Rattle.fallible_itertools.proofs.double_ended.DoubleEndedFallibleItertools.rfind.Goals as goal
 

@@ -1,9 +1,9 @@
 -- The fold from the back whose state is the predicate, and then a count of what is left.
 use Rattle.std.proofs.Common.{false}
-use Rattle.fallible_contract.specs.Closures.{call_on}
-use Rattle.fallible_contract.specs.Searching.{any_pick}
-use Rattle.fallible_contract.proofs.Lemmas.Contract.{number_of_at_most}
-use Rattle.fallible_contract.proofs.Lemmas.Searching.{searched}
+use Rattle.fallible_iterator.specs.Closures.{call_on}
+use Rattle.fallible_iterator.specs.Searching.{any_pick}
+use Rattle.fallible_iterator.proofs.Lemmas.Contract.{number_of_at_most}
+use Rattle.fallible_iterator.proofs.Lemmas.Searching.{searched}
 use Rattle.fallible_itertools.proofs.FromBack.{placed_is, kept_run_at_back, kept_counted, fits_still}
 use Rattle.fallible_itertools.proofs.double_ended.DoubleEndedFallibleItertools.rposition.Goals as goal
 

@@ -1,6 +1,6 @@
 -- The turn on a held item and then a fold of the source.
 use Rattle.std.proofs.Common.{sym}
-use Rattle.fallible_contract.proofs.Lemmas.Folds.{holds_here, driven_stop}
+use Rattle.fallible_iterator.proofs.Lemmas.Folds.{holds_here, driven_stop}
 use Rattle.fallible_itertools.proofs.Lemmas.IntersperseFolds.{held_comes, nothing_held, held_then, driven_bare, driven_behind_held}
 use Rattle.fallible_itertools.proofs.intersperse.IntersperseFallibleIterator.drive.Goals as goal
 

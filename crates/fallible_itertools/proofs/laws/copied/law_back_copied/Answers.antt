@@ -1,7 +1,7 @@
 -- A run of the values is one of their parts, which is a trace, answer by answer.
 use Rattle.std.proofs.Common.{refl}
-use Rattle.fallible_contract.proofs.Lemmas.LawForm.{traces_of_parts, runs_by_answers}
-use Rattle.fallible_contract.proofs.Lemmas.Passing.{passing_by_answers}
+use Rattle.fallible_iterator.proofs.Lemmas.LawForm.{traces_of_parts, runs_by_answers}
+use Rattle.fallible_iterator.proofs.Lemmas.Passing.{passing_by_answers}
 use Rattle.fallible_itertools.specs.Copied.{copied_parts}
 use Rattle.fallible_itertools.proofs.laws.copied.law_back_copied.Goals as goal
 

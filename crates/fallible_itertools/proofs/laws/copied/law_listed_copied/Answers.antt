@@ -1,6 +1,6 @@
 -- What its parts list.
 use Rattle.std.proofs.Common.{refl}
-use Rattle.fallible_contract.proofs.Lemmas.BothEnds.{listed_seen_at}
+use Rattle.fallible_iterator.proofs.Lemmas.BothEnds.{listed_seen_at}
 use Rattle.fallible_itertools.specs.Copied.{copied_parts}
 use Rattle.fallible_itertools.proofs.Lemmas.Copied.{listed_copies, pointed_to_is}
 use Rattle.fallible_itertools.proofs.laws.copied.law_listed_copied.Goals as goal

@@ -1,6 +1,6 @@
 -- A run of the values is one of their parts, which is a trace.
 use Rattle.std.proofs.Common.{refl}
-use Rattle.fallible_contract.proofs.Lemmas.LawForm.{traces_of_parts}
+use Rattle.fallible_iterator.proofs.Lemmas.LawForm.{traces_of_parts}
 use Rattle.fallible_itertools.specs.Intersperse.{intersperse_parts}
 use Rattle.fallible_itertools.proofs.Lemmas.IntersperseTraces.{intersperse_law}
 use Rattle.fallible_itertools.proofs.laws.intersperse.law_intersperse.Goals as goal

@@ -1,5 +1,5 @@
 -- An item comes of one of the source.
-use Rattle.fallible_contract.specs.Closures.{call_at}
+use Rattle.fallible_iterator.specs.Closures.{call_at}
 use Rattle.fallible_iterator.proofs.Lemmas.Hints.Drawn.{upper_sound, sound_seen}
 use Rattle.fallible_itertools.specs.PeekingTakeWhile.{peeking_parts}
 use Rattle.fallible_itertools.proofs.Lemmas.PeekingTakeWhile.{peeking_items}

@@ -1,6 +1,6 @@
 -- A run of the values is one of their parts, which the law of the parts speaks of.
 use Rattle.std.proofs.Common.{refl}
-use Rattle.fallible_contract.proofs.Lemmas.LawForm.{traces_of_parts}
+use Rattle.fallible_iterator.proofs.Lemmas.LawForm.{traces_of_parts}
 use Rattle.fallible_itertools.specs.PeekingTakeWhile.{peeking_parts}
 use Rattle.fallible_itertools.proofs.Lemmas.PeekingTakeWhile.{peeking_law}
 use Rattle.fallible_itertools.proofs.laws.peeking_take_while.law_peeking_take_while.Goals as goal

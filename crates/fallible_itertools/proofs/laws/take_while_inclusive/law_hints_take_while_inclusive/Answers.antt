@@ -1,7 +1,7 @@
 -- Until an item was refused an item comes of one of the source, and the first end of an end; from then on none comes.
 use Rattle.std.specs.Prelude.{ℕ, Option, ◌≡◌}
-use Rattle.fallible_contract.specs.Closures.{call_at}
-use Rattle.fallible_core.specs.Cutting.TakeWhile.{place_drawn, is_refused}
+use Rattle.fallible_iterator.specs.Closures.{call_at}
+use Rattle.fallible_iterator.specs.Cutting.TakeWhile.{place_drawn, is_refused}
 use Rattle.fallible_iterator.proofs.Lemmas.Hints.Drawn.{brackets_seen, sound_seen}
 use Rattle.fallible_iterator.proofs.Lemmas.Hints.Cutting.{hint_open, closed_brackets}
 use Rattle.fallible_itertools.specs.TakeWhileInclusive.{inclusive_answer, inclusive_parts, hint_of_first}

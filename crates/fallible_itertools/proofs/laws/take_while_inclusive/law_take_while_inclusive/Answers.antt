@@ -1,6 +1,6 @@
 -- A run of the values is one of their parts, which the law of the parts speaks of.
 use Rattle.std.proofs.Common.{refl}
-use Rattle.fallible_contract.proofs.Lemmas.LawForm.{traces_of_parts}
+use Rattle.fallible_iterator.proofs.Lemmas.LawForm.{traces_of_parts}
 use Rattle.fallible_itertools.specs.TakeWhileInclusive.{inclusive_parts}
 use Rattle.fallible_itertools.proofs.Lemmas.TakeWhileInclusive.{inclusive_law}
 use Rattle.fallible_itertools.proofs.laws.take_while_inclusive.law_take_while_inclusive.Goals as goal

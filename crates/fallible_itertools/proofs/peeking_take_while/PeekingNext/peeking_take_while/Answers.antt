@@ -1,6 +1,6 @@
 -- What the one behind the reference lists, up to the first item that the closure refuses.
 use Rattle.std.proofs.Common.{refl}
-use Rattle.fallible_core.proofs.Lemmas.Borrowed.{lists_borrowed}
+use Rattle.fallible_iterator.proofs.Lemmas.Borrowed.{lists_borrowed}
 use Rattle.fallible_itertools.specs.Laws.PeekingTakeWhile.{borrowed_looking}
 use Rattle.fallible_itertools.proofs.Lemmas.PeekingTakeWhile.{lists_peeking}
 use Rattle.fallible_itertools.proofs.peeking_take_while.PeekingNext.peeking_take_while.Goals as goal

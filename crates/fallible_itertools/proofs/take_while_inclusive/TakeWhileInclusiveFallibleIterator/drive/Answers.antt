@@ -1,6 +1,6 @@
 -- The source's fold, which stops behind a refused item; once an item was refused, an end without a draw.
 use Rattle.std.proofs.Common.{refl}
-use Rattle.fallible_contract.proofs.Lemmas.Folding.{holds_into, drained_into}
+use Rattle.fallible_iterator.proofs.Lemmas.Folding.{holds_into, drained_into}
 use Rattle.fallible_itertools.proofs.Lemmas.TakeWhileInclusiveFolds.{of_parts, refused_drained, inclusive_takes}
 use Rattle.fallible_itertools.proofs.take_while_inclusive.TakeWhileInclusiveFallibleIterator.drive.Goals as goal
 

@@ -1,7 +1,7 @@
 -- The tally of few enough items counts them.
 use Rattle.std.specs.Prelude.{◌≡◌, Ok, Err, None}
 use Rattle.std.specs.HashMap.{get, spare}
-use Rattle.fallible_contract.proofs.Lemmas.Lists.Drawn.{collected_as, contents_collected}
+use Rattle.fallible_iterator.proofs.Lemmas.Lists.Drawn.{collected_as, contents_collected}
 use Rattle.fallible_itertools.specs.Counted.{IsCountsOf}
 use Rattle.fallible_itertools.proofs.Tallied.{counted_all, not_counted}
 use Rattle.fallible_itertools.proofs.traits.FallibleItertools.counts.Goals as goal

@@ -1,8 +1,8 @@
 -- The loop of rounds by the closure's answers is the comparison, and its answer is read.
-use Rattle.fallible_contract.specs.Comparing.{read_as, reads_eq}
-use Rattle.fallible_contract.specs.Folds.{call_with}
-use Rattle.fallible_contract.proofs.Lemmas.Comparing.{end_of_either}
 use Rattle.std.proofs.Common.{ap, ◌∙◌}
+use Rattle.fallible_iterator.specs.Comparing.{read_as, reads_eq}
+use Rattle.fallible_iterator.specs.Folds.{call_with}
+use Rattle.fallible_iterator.proofs.Lemmas.Comparing.{end_of_either}
 use Rattle.fallible_itertools.specs.ComparedBy.{equal_by}
 use Rattle.fallible_itertools.proofs.Rounds.{eq_acts, compared_by_is}
 use Rattle.fallible_itertools.proofs.traits.FallibleItertools.eq_by.Goals as goal

@@ -1,11 +1,11 @@
 -- The fold whose state is the text makes it.
 use Rattle.std.specs.Prelude.{Ok, Err}
 use Rattle.std.proofs.Common.{inr, refl}
-use Rattle.fallible_contract.proofs.Lemmas.Lists.Drawn.{collected_as, contents_collected, failure_collected, refused_as}
+use Rattle.fallible_iterator.proofs.Lemmas.Lists.Drawn.{collected_as, contents_collected, failure_collected, refused_as}
 use Rattle.fallible_itertools.specs.Joined.{JoinedAs}
 use Rattle.fallible_itertools.proofs.Shown.{joined_all, join_failed, join_refused}
-use Rattle.fallible_contract.specs.declared.collecting.Fault.TheVariants.{Source}
 use Rattle.fallible_itertools.proofs.traits.FallibleItertools.join.Goals as goal
+use Rattle.fallible_iterator.specs.Fault.TheVariants.{Source}
 
 pub returns-in-Ok-None-clause-collects : goal.returns-in-Ok-None-clause-collects
 returns-in-Ok-None-clause-collects g c = joined_all g.Self.Item.Display.output c.args.separator.now (refl, λ show shows. c.new.ensures.bytes) (rw c.in-Ok-None.field-0-is at c.in-Ok-None.ensures)

@@ -1,7 +1,7 @@
 -- The fold whose state is the predicate is the search.
 use Rattle.fallible_iterator.specs.Closures.{call_at}
-use Rattle.fallible_contract.proofs.Lemmas.Searching.{found_search}
-use Rattle.fallible_contract.specs.Laws.Contract.{stays_run}
+use Rattle.fallible_iterator.specs.Laws.Contract.{stays_run}
+use Rattle.fallible_iterator.proofs.Lemmas.Searching.{found_search}
 use Rattle.fallible_itertools.proofs.Conversions.{driven_converted, try_find_is, rest_find}
 use Rattle.fallible_itertools.proofs.traits.FallibleItertools.try_find.Goals as goal
 

@@ -1,8 +1,8 @@
 -- The fold whose state is the closure is the search.
 use Rattle.fallible_iterator.specs.Closures.{call_on}
 use Rattle.fallible_iterator.specs.Searching.{each_pick}
-use Rattle.fallible_contract.proofs.Lemmas.Searching.{searched}
-use Rattle.fallible_contract.specs.Laws.Contract.{stays_run}
+use Rattle.fallible_iterator.specs.Laws.Contract.{stays_run}
+use Rattle.fallible_iterator.proofs.Lemmas.Searching.{searched}
 use Rattle.fallible_itertools.proofs.Conversions.{driven_converted, try_each_is, rest_each}
 use Rattle.fallible_itertools.proofs.traits.FallibleItertools.try_for_each.Goals as goal
 

@@ -2,8 +2,8 @@
 use Rattle.std.proofs.Common.{None}
 use Rattle.fallible_iterator.specs.Closures.{call_on}
 use Rattle.fallible_iterator.specs.Searching.{position_pick}
-use Rattle.fallible_contract.proofs.Lemmas.Searching.{searched_placed, placed_callable}
-use Rattle.fallible_contract.specs.Laws.Contract.{stays_run}
+use Rattle.fallible_iterator.specs.Laws.Contract.{stays_run}
+use Rattle.fallible_iterator.proofs.Lemmas.Searching.{searched_placed, placed_callable}
 use Rattle.fallible_itertools.proofs.Conversions.{unfailing, driven_converted, try_position_is, rest_place}
 use Rattle.fallible_itertools.proofs.traits.FallibleItertools.try_position.Goals as goal
 

@@ -1,6 +1,6 @@
 -- The fold of the iterator that is held is that of the whole, since its steps are.
 use Rattle.std.proofs.Common.{refl}
-use Rattle.fallible_contract.proofs.Lemmas.Overriding.{holds_held, drained_held}
+use Rattle.fallible_iterator.proofs.Lemmas.Overriding.{holds_held, drained_held}
 use Rattle.fallible_vectors.proofs.overriding.WatchedFallibleIterator.drive.Goals as goal
 
 pub drive-requires-clause-callable : goal.drive-requires-clause-callable
