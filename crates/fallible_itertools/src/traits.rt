@@ -78,13 +78,12 @@ pub trait FallibleItertools: FallibleIterator {
     ///
     /// Making it draws nothing. What was made so far is held until the closure keeps two apart, or an end comes: one call draws up to that, or to a failure, and calls the closure on what is held and each further item. It fails as the source does, and what is held stays. Where the closure fails, its failure is the answer, and the two items that it was called on are lost. An end answers the held item, and the next call draws the source again.
     ///
-    /// What it lists is said over a source that ends for good, as one behind `fuse`.
+    /// What it lists is said over a source that ends for good, as `convert_fused` makes one, or `fuse`.
     ///
     /// Asks that the closure may be called on what is held and each item that may come. Each draw asks what one of `dedup` asks.
     ///
     /// ```
-    /// convert(readings.into_iter())
-    ///     .fuse()
+    /// convert_fused(readings.into_iter())
     ///     .coalesce(|first: u32, second: u32| {
     ///         Ok(if second < first {
     ///             Ok(first)
@@ -123,8 +122,7 @@ pub trait FallibleItertools: FallibleIterator {
     /// Asks that the closure may be called on a reference to each item that may come. Each draw asks what one of `dedup` asks.
     ///
     /// ```
-    /// convert(readings.into_iter())
-    ///     .fuse()
+    /// convert_fused(readings.into_iter())
     ///     .dedup_by_key(|reading| Ok(*reading / 10))
     /// ```
     final fn dedup_by_key<K, F>(self, f: F) -> DedupByKey<Self, K, F>
@@ -154,12 +152,12 @@ pub trait FallibleItertools: FallibleIterator {
     ///
     /// Making it draws nothing. The first of equal items is held until an item that differs comes, or an end: one call draws up to that, or to a failure. It fails as the source does, and what is held stays. An end answers the held item, and the next call draws the source again.
     ///
-    /// What it lists is said over a source that ends for good, as one behind `fuse`.
+    /// What it lists is said over a source that ends for good, as `convert_fused` makes one, or `fuse`.
     ///
     /// Asks nothing. Each draw asks that the source may be drawn from and is finite, since one draw may leave many items out.
     ///
     /// ```
-    /// convert(readings.into_iter()).fuse().dedup().count()
+    /// convert_fused(readings.into_iter()).dedup().count()
     /// ```
     final fn dedup(self) -> Dedup<Self>
     where
@@ -495,12 +493,11 @@ pub trait FallibleItertools: FallibleIterator {
     ///
     /// It is made without a draw, and holds at most one item of each side. One call draws one answer where nothing of this side is held, and then, where that isn't a failure, one of `other` where nothing of that is held; an end isn't remembered. It fails as either does, and loses nothing that is held. Where the closure fails, its failure is the answer, and the two items that it was asked of are lost. Its folds draw as its calls do. A bound of each side, added up, bounds it.
     ///
-    /// Asks that the closure may be called on references to two items, one that may come of each side. Draws ask that both sides may be drawn from, and that items can be let go. What it lists is known where both sides end for good, as after `fuse`.
+    /// Asks that the closure may be called on references to two items, one that may come of each side. Draws ask that both sides may be drawn from, and that items can be let go. What it lists is known where both sides end for good, as after `convert_fused` or `fuse`.
     ///
     /// ```
-    /// convert(left.into_iter())
-    ///     .fuse()
-    ///     .merge_by(convert(right.into_iter()).fuse(), |x, y| Ok(*x <= *y))
+    /// convert_fused(left.into_iter())
+    ///     .merge_by(convert_fused(right.into_iter()), |x, y| Ok(*x <= *y))
     ///     .count()
     /// ```
     final fn merge_by<I, F>(self, other: I, f: F) -> MergeBy<Self, I::IntoFallibleIter, F>
@@ -550,12 +547,11 @@ pub trait FallibleItertools: FallibleIterator {
     ///
     /// It is made without a draw. One call draws one answer where no item is held, and then, where that isn't a failure, one of `other`, also at an end; an end isn't remembered. It fails as this iterator does, or else as `other` does. A failure of `other` loses nothing: the item beside it is held, and the next call draws `other` alone. Its folds draw as its calls do. A bound of each side, added up, bounds it.
     ///
-    /// Asks nothing. Draws ask that both sides may be drawn from, and that items can be let go. What it lists is known where both sides end for good, as after `fuse`.
+    /// Asks nothing. Draws ask that both sides may be drawn from, and that items can be let go. What it lists is known where both sides end for good, as after `convert_fused` or `fuse`.
     ///
     /// ```
-    /// convert(left.into_iter())
-    ///     .fuse()
-    ///     .zip_longest(convert(right.into_iter()).fuse())
+    /// convert_fused(left.into_iter())
+    ///     .zip_longest(convert_fused(right.into_iter()))
     ///     .count()
     /// ```
     final fn zip_longest<I>(self, other: I) -> ZipLongest<Self, I::IntoFallibleIter>

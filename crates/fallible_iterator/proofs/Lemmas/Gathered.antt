@@ -1,10 +1,10 @@
 -- What an adapter of several draws lists, over a source that lists a list.
-use Rattle.std.specs.Prelude.{◌≡◌, ◌⊎◌, map, List, [], ◌∷◌, ◌++◌, Result, Ok, Err}
+use Rattle.std.specs.Prelude.{◌≡◌, ◌⊎◌, map, List, [], ◌∷◌, ◌++◌, Result}
 use Rattle.std.proofs.Common.{refl, sym, ap, subst, inl, inr}
 use Rattle.fallible_contract.specs.Traces.{Answered, Run, end}
 use Rattle.fallible_contract.specs.Contract.{Contract}
 use Rattle.fallible_contract.specs.Lists.{AlwaysGives, Lists, result_answer}
-use Rattle.fallible_contract.specs.Own.{gathering, Gathers}
+use Rattle.fallible_contract.specs.Own.{gathering}
 
 -- the first of the answers is r, and the others are left; where there is none, r is an end
 abbrev pub BeginsWith : {B F : Type 0} → List (Result B F) → Answered B F → List (Result B F) → Type 0

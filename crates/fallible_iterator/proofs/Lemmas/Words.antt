@@ -3,7 +3,6 @@ use Rattle.std.specs.Prelude.{◌≡◌, ℕ, zero, suc, ◌+◌, List, [], ◌�
 use Rattle.std.proofs.Common.{refl, sym, ap, ◌∙◌, arith}
 use Rattle.std.specs.List.{last_or, find, list_all, list_any}
 use Rattle.std.proofs.lemmas.List.{reverse-append, append-nil}
-use Rattle.fallible_contract.specs.Traces.{Answered}
 use Rattle.fallible_contract.specs.Lists.{items, reversed, on_value, one_more_than, counted, nth_of, searched, decided, picked_or, all_of, any_of, found, find_mapped, position_in, each_done, before, collected, last_of, folded}
 use Rattle.fallible_contract.specs.Searching.{all_pick, any_pick, find_pick, find_map_pick, position_pick, each_pick}
 use Rattle.fallible_core.specs.OneToOne.Map.{mapped}

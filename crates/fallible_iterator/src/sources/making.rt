@@ -45,7 +45,7 @@ pub fn convert<T, E, I: Iterator<Item = Result<T, E>>>(it: I) -> Convert<I>
 
 /// Makes a fallible iterator of a std iterator over results which may have more to come after it answered `None`, as `lines` of a reader. It is `convert` of the iterator's `fuse`.
 ///
-/// Making it draws nothing. One call draws one element of the std iterator. It fails with the value of an `Err`. After its first end the std iterator isn't asked again.
+/// Making it draws nothing. One call draws one element of the std iterator. It fails with the value of an `Err`. After its first end it ends for good: the std iterator isn't asked again. So the value of an adapter that holds an item, as `dedup`, is known behind it.
 ///
 /// Asks nothing. It may be drawn from where the std iterator may be asked again after every `Some`.
 ///

@@ -1,10 +1,8 @@
 -- What ends for good where its list is drawn.
-use Rattle.std.specs.Prelude.{◌≡◌, ◌≤◌, length, Result, Some, None, Ok, Err, List, [], ◌∷◌}
-use Rattle.std.specs.Iterator.{IsFinite, size}
-use Rattle.std.proofs.Common.{refl, sym, ap, subst, arith}
-use Rattle.fallible_contract.specs.Traces.{Answered, Run, end}
-use Rattle.fallible_contract.specs.Contract.{Contract, Lawful, OnAnswer}
-use Rattle.fallible_contract.specs.Lists.{AlwaysGives, Lists, EndsForGood, GivesForGood, ListsForGood, result_answer}
+use Rattle.std.specs.Prelude.{◌≡◌, Result, List, [], ◌∷◌}
+use Rattle.std.proofs.Common.{refl, sym, ap, subst}
+use Rattle.fallible_contract.specs.Traces.{Answered, Run}
+use Rattle.fallible_contract.specs.Lists.{AlwaysGives, Lists, GivesForGood, ListsForGood}
 
 -- ---- it lists so, and nothing more
 

@@ -3,7 +3,7 @@ use Rattle.std.specs.Prelude.{◌≡◌, Bool, true, false, List, [], ◌∷◌,
 use Rattle.std.specs.List.{FoldsTo}
 use Rattle.std.proofs.Common.{refl, sym, ap, subst, ◌∙◌}
 use Rattle.fallible_contract.specs.Contract.{Contract, seen_as}
-use Rattle.fallible_contract.specs.Lists.{AlwaysGives, Lists, EndsForGood, GivesForGood, ListsForGood, result_answer}
+use Rattle.fallible_contract.specs.Lists.{AlwaysGives, Lists, GivesForGood, ListsForGood, result_answer}
 use Rattle.fallible_contract.proofs.Lemmas.Lists.Passing.{lists_seen}
 use Rattle.fallible_contract.proofs.Lemmas.Lists.ForGood.{lists_for_good_seen}
 use Rattle.fallible_contract.specs.Traces.{Answered, Run, end, is_end}

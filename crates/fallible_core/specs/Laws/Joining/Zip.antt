@@ -1,5 +1,5 @@
 -- The contract of `Zip` is lawful where those of both sides are.
-use Rattle.std.specs.Prelude.{ℕ, ◌+◌, ◌≤◌, ◌<◌, Option, Some, None, Ok, Err, ◌↔◌}
+use Rattle.std.specs.Prelude.{ℕ, ◌<◌, Option, Some, None, Ok, Err, ◌↔◌}
 use Rattle.std.specs.Iterator.{IsFinite, size}
 use Rattle.std.proofs.Common.{arith, inl, inr, refl, ap₂}
 use Rattle.fallible_contract.specs.Traces.{Answered, item, failure}

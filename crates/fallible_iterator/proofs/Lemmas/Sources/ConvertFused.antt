@@ -1,7 +1,7 @@
 -- `convert` of a std iterator's `fuse` lists for good: behind the first `None` each answer is one.
 use Rattle.std.specs.Prelude.{◌≡◌, Bool, true, false, MatchBool, MatchOption, Option, Some, None, Result, Ok, Err, List, [], ◌∷◌, map}
 use Rattle.std.specs.Iterator.{Count}
-use Rattle.std.proofs.Common.{refl, sym, ap, subst}
+use Rattle.std.proofs.Common.{sym, ap, subst}
 use Rattle.fallible_contract.specs.Traces.{Answered, Run, end}
 use Rattle.fallible_contract.specs.Contract.{seen_as}
 use Rattle.fallible_contract.specs.Lists.{GivesForGood, ListsForGood, RunsRead, results, items, result_answer}
