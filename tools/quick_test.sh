@@ -1,0 +1,42 @@
+#!/usr/bin/env bash
+# Runs every test and every program of the repository without a proof, by `rt try`, and says a line for each crate. It is
+# no gate: what it passes is tested, and not proved. With names it runs these crates alone. The last line is
+# 'N passed, M failed'; the status is 0 where none failed.
+#
+# A program passes where it prints what its file `stdout` says of what its file `stdin` has.
+set -u
+cd "$(dirname "$0")/.."
+work=$(mktemp -d)
+trap 'rm -rf "$work"' EXIT
+mkdir "$work/copy" "$work/said"
+tools/lay.sh "$work/copy" scripts refusals fallible_speed || exit 1
+
+# Runs the tests of the crate $1, or its program, and says a line.
+run_crate() {
+    local crate="$work/copy/crates/$1" said="$work/said/$1" status=0
+    cd "$crate" || return
+    if grep -rqs '#\[test\]' src; then
+        rt try --test >"$said" 2>&1 || status=$?
+        sed -nE 's/^test result: \w+\. ([0-9]+) passed; ([0-9]+) failed.*/'"$1"': \1 passed, \2 failed/p' "$said" >"$said.line"
+        [ -s "$said.line" ] || echo "$1: 0 passed, 1 failed" >"$said.line"
+    else
+        rt try --steps 1 --seconds 600 <"$( [ -f stdin ] && echo stdin || echo /dev/null )" >"$said" 2>"$said.told" || status=$?
+        if [ "$status" = 0 ] && cmp -s "$said" stdout; then
+            echo "$1: 1 passed, 0 failed" >"$said.line"
+        else
+            echo "$1: 0 passed, 1 failed" >"$said.line"
+        fi
+    fi
+    cat "$said.line"
+    grep -q ' 0 failed' "$said.line" || tail -n 30 "$said" "$said.told" 2>/dev/null
+}
+export -f run_crate
+export work
+
+names=("$@")
+if [ $# -eq 0 ]; then
+    # The programs first, since some run for long.
+    mapfile -t names < <(cd "$work/copy/crates" && ls -S */src/main.rt | cut -d/ -f1; cd "$work/copy/crates" && grep -rl '#\[test\]' */src | cut -d/ -f1 | sort -u)
+fi
+printf '%s\n' "${names[@]}" | xargs -P "$(nproc)" -I{} bash -c 'run_crate {}'
+cat "$work"/said/*.line | awk '{ passed += $(NF - 3); failed += $(NF - 1) } END { print passed + 0 " passed, " failed + 0 " failed"; exit failed > 0 || passed == 0 }'
