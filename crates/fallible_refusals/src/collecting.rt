@@ -1,10 +1,10 @@
 // Collections that refuse to be made, or refuse each item in turn.
 ghost use Rattle.std.specs.Prelude.{⊤};
 
-use crate::asking::{Asking, Number};
-use crate::requests::Requests;
 use fallible_iterator::{Collect, FallibleIterator, Fault};
+use fallible_testing::asking::{Asking, Number};
 use fallible_testing::listed::listed;
+use fallible_testing::requests::Requests;
 use fallible_testing::test_error::TestError;
 use std::alloc::{AllocError, Global};
 use std::test::Fail;
@@ -60,14 +60,34 @@ impl<T: Drop> Collect<T> for Unmade {
 enum Came<C> {
     Made(C),
     Refused,
-    Failed(TestError),
+    Failed,
 }
 
 fn outcome_of<C: Drop>(made: Result<C, Fault<TestError>>) -> Came<C> {
     match made {
         Ok(collection) => Came::Made(collection),
         Err(Fault::Memory(_)) => Came::Refused,
-        Err(Fault::Source(failure)) => Came::Failed(failure),
+        Err(Fault::Source(_)) => Came::Failed,
+    }
+}
+
+// The numbers of a collection.
+fn numbers_of(came: &Came<Kept>) -> Came<&[u32]> {
+    match came {
+        Came::Made(kept) => Came::Made(kept.values.as_slice()),
+        Came::Refused => Came::Refused,
+        Came::Failed => Came::Failed,
+    }
+}
+
+// The numbers of two collections.
+fn numbers_of_both(came: &Came<(Kept, Kept)>) -> Came<(&[u32], &[u32])> {
+    match came {
+        Came::Made((first, second)) => {
+            Came::Made((first.values.as_slice(), second.values.as_slice()))
+        }
+        Came::Refused => Came::Refused,
+        Came::Failed => Came::Failed,
     }
 }
 
@@ -119,41 +139,45 @@ fn is_even(x: &Number<'_>) -> Result<bool, TestError> {
     Ok(x.value % 2 == 0)
 }
 
-// A collection of these numbers.
-fn made_of<const N: usize>(alloc: Global, values: [u32; N]) -> Result<Kept, AllocError> {
-    Ok(Kept {
-        values: Vec::from_array(alloc, values)?,
-    })
-}
+// The push that is refused, what `collect` makes then, the next number of the source, and how many pushes were made. No item is pushed after one that is refused.
+const COLLECTED: [(u32, Came<&[u32]>, Option<u32>, u32); 5] = [
+    (0, Came::Refused, Some(2), 1),
+    (1, Came::Refused, Some(3), 2),
+    (2, Came::Refused, Some(4), 3),
+    (3, Came::Refused, None, 4),
+    (4, Came::Made(&[1, 2, 3, 4]), None, 4),
+];
 
-// No item is pushed after one that is refused. The last row meets no refusal.
+// The same of `partition`.
+const PARTITIONED: [(u32, Came<(&[u32], &[u32])>, Option<u32>, u32); 5] = [
+    (0, Came::Refused, Some(2), 1),
+    (1, Came::Refused, Some(3), 2),
+    (2, Came::Refused, Some(4), 3),
+    (3, Came::Refused, None, 4),
+    (4, Came::Made((&[2, 4], &[1, 3])), None, 4),
+];
+
 #[test]
 fn collect_and_partition_refused_an_item_leave_those_behind_it(
     rt: HostRuntime,
 ) -> Result<(), Fail> {
-    for (number, next) in (0..).zip([Some(2), Some(3), Some(4), None, None]) {
-        let requests = Requests::refusing(number);
-        let wanted = if number < 4 {
-            Came::Refused
-        } else {
-            Came::Made(made_of(rt.alloc(), [1, 2, 3, 4])?)
-        };
-        let got = collected::<Kept>(rt.alloc(), &requests)?;
+    for (number, wanted, next, made) in &COLLECTED {
+        let requests = Requests::refusing(*number);
+        let (came, left) = collected::<Kept>(rt.alloc(), &requests)?;
+        assert_eq!(rt; numbers_of(&came), *wanted, "collect, push {number}");
         assert_eq!(rt;
-            (got, requests.made()),
-            ((wanted, next), number.wrapping_add(1).min(4)),
+            (left, requests.made()),
+            (*next, *made),
             "collect, push {number}"
         );
-        let requests = Requests::refusing(number);
-        let wanted = if number < 4 {
-            Came::Refused
-        } else {
-            Came::Made((made_of(rt.alloc(), [2, 4])?, made_of(rt.alloc(), [1, 3])?))
-        };
-        let got = partitioned::<Kept>(rt.alloc(), &requests)?;
+    }
+    for (number, wanted, next, made) in &PARTITIONED {
+        let requests = Requests::refusing(*number);
+        let (came, left) = partitioned::<Kept>(rt.alloc(), &requests)?;
+        assert_eq!(rt; numbers_of_both(&came), *wanted, "partition, push {number}");
         assert_eq!(rt;
-            (got, requests.made()),
-            ((wanted, next), number.wrapping_add(1).min(4)),
+            (left, requests.made()),
+            (*next, *made),
             "partition, push {number}"
         );
     }
@@ -175,35 +199,28 @@ fn unzipped<'a, C: Collect<Number<'a>>, D: Collect<Number<'a>>>(
     Ok((outcome_of(made), next_of(next)))
 }
 
-// Each pair asks twice, first for its first half; where that is refused, it asks no more.
+// The same of `unzip`. Each pair asks twice, first for its first half; where that is refused, it asks no more.
+const UNZIPPED: [(u32, Came<(&[u32], &[u32])>, Option<u32>, u32); 9] = [
+    (0, Came::Refused, Some(2), 1),
+    (1, Came::Refused, Some(2), 2),
+    (2, Came::Refused, Some(3), 3),
+    (3, Came::Refused, Some(3), 4),
+    (4, Came::Refused, Some(4), 5),
+    (5, Came::Refused, Some(4), 6),
+    (6, Came::Refused, None, 7),
+    (7, Came::Refused, None, 8),
+    (8, Came::Made((&[1, 2, 3, 4], &[1, 2, 3, 4])), None, 8),
+];
+
 #[test]
 fn unzip_refused_a_part_leaves_the_pairs_behind_it(rt: HostRuntime) -> Result<(), Fail> {
-    let after = [
-        Some(2),
-        Some(2),
-        Some(3),
-        Some(3),
-        Some(4),
-        Some(4),
-        None,
-        None,
-        None,
-    ];
-    for (number, next) in (0..).zip(after) {
-        let requests = Requests::refusing(number);
-        let wanted = if number < 8 {
-            Came::Refused
-        } else {
-            let both = (
-                made_of(rt.alloc(), [1, 2, 3, 4])?,
-                made_of(rt.alloc(), [1, 2, 3, 4])?,
-            );
-            Came::Made(both)
-        };
-        let got = unzipped::<Kept, Kept>(rt.alloc(), &requests)?;
+    for (number, wanted, next, made) in &UNZIPPED {
+        let requests = Requests::refusing(*number);
+        let (came, left) = unzipped::<Kept, Kept>(rt.alloc(), &requests)?;
+        assert_eq!(rt; numbers_of_both(&came), *wanted, "unzip, push {number}");
         assert_eq!(rt;
-            (got, requests.made()),
-            ((wanted, next), number.wrapping_add(1).min(8)),
+            (left, requests.made()),
+            (*next, *made),
             "unzip, push {number}"
         );
     }

@@ -1,8 +1,8 @@
 // Draws that clone, each clone refused in turn.
-use crate::asking::{Failure, Number};
-use crate::counting::Counting;
-use crate::requests::Requests;
 use fallible_iterator::{FallibleIterator, convert, repeat, repeat_err};
+use fallible_testing::asking::{Failure, Number};
+use fallible_testing::counting::Counting;
+use fallible_testing::requests::Requests;
 use fallible_testing::test_error::TestError;
 
 // What a draw answers, by the number of its item.
@@ -57,42 +57,64 @@ fn failing(requests: &Requests) -> [Drawn; 4] {
     [value(first), value(second), value(third), value(fourth)]
 }
 
-// `cloned` loses the item whose clone is refused. `repeat` keeps its value, and `repeat_err` its failure. The last row meets no refusal.
+// Four draws of what clones.
+#[derive(Clone, Copy, Debug)]
+enum Draws {
+    Cloned,
+    Repeat,
+    RepeatErr,
+}
+
+// What they answer.
+fn drawn(draws: Draws, requests: &Requests) -> [Drawn; 4] {
+    match draws {
+        Draws::Cloned => cloned(requests),
+        Draws::Repeat => repeated(requests),
+        Draws::RepeatErr => failing(requests),
+    }
+}
+
+// The answers of items and of the failure, of a refused clone, and of an end.
+const ONE: Drawn = Ok(Some(1));
+
+const TWO: Drawn = Ok(Some(2));
+
+const THREE: Drawn = Ok(Some(3));
+
+const FIVE: Drawn = Ok(Some(5));
+
+const SIX: Drawn = Err(TestError::Number(6));
+
+const MEMORY: Drawn = Err(TestError::Memory);
+
+const ENDED: Drawn = Ok(None);
+
+// The number of the refused clone, what the draws answer then, and whether that clone is asked for. `cloned` loses the item whose clone is refused. `repeat` keeps its value, and `repeat_err` its failure.
+const DRAWN: [(Draws, u32, [Drawn; 4], bool); 15] = [
+    (Draws::Cloned, 0, [MEMORY, TWO, THREE, ENDED], true),
+    (Draws::Cloned, 1, [ONE, MEMORY, THREE, ENDED], true),
+    (Draws::Cloned, 2, [ONE, TWO, MEMORY, ENDED], true),
+    (Draws::Cloned, 3, [ONE, TWO, THREE, ENDED], false),
+    (Draws::Cloned, 4, [ONE, TWO, THREE, ENDED], false),
+    (Draws::Repeat, 0, [MEMORY, FIVE, FIVE, FIVE], true),
+    (Draws::Repeat, 1, [FIVE, MEMORY, FIVE, FIVE], true),
+    (Draws::Repeat, 2, [FIVE, FIVE, MEMORY, FIVE], true),
+    (Draws::Repeat, 3, [FIVE, FIVE, FIVE, MEMORY], true),
+    (Draws::Repeat, 4, [FIVE, FIVE, FIVE, FIVE], false),
+    (Draws::RepeatErr, 0, [MEMORY, SIX, SIX, SIX], true),
+    (Draws::RepeatErr, 1, [SIX, MEMORY, SIX, SIX], true),
+    (Draws::RepeatErr, 2, [SIX, SIX, MEMORY, SIX], true),
+    (Draws::RepeatErr, 3, [SIX, SIX, SIX, MEMORY], true),
+    (Draws::RepeatErr, 4, [SIX, SIX, SIX, SIX], false),
+];
+
 #[test]
 fn draws_whose_clone_is_refused_answer_it_and_go_on(rt: HostRuntime) {
-    for number in 0..5 {
-        let mut clones = [Ok(Some(1)), Ok(Some(2)), Ok(Some(3)), Ok(None)];
-        let mut fives = [Ok(Some(5)), Ok(Some(5)), Ok(Some(5)), Ok(Some(5))];
-        let failure = || Err(TestError::Number(6));
-        let mut failures = [failure(), failure(), failure(), failure()];
-        if number < 3 {
-            clones[number as usize] = Err(TestError::Memory);
-        }
-        if number < 4 {
-            fives[number as usize] = Err(TestError::Memory);
-            failures[number as usize] = Err(TestError::Memory);
-        }
-        let requests = Requests::refusing(number);
-        let got = cloned(&requests);
-        assert_eq!(rt;
-            (got, requests.met()),
-            (clones, number < 3),
-            "cloned, clone {number}"
-        );
-        let requests = Requests::refusing(number);
-        let got = repeated(&requests);
-        assert_eq!(rt;
-            (got, requests.met()),
-            (fives, number < 4),
-            "repeat, clone {number}"
-        );
-        let requests = Requests::refusing(number);
-        let got = failing(&requests);
-        assert_eq!(rt;
-            (got, requests.met()),
-            (failures, number < 4),
-            "repeat_err, clone {number}"
-        );
+    for (draws, number, answers, met) in &DRAWN {
+        let requests = Requests::refusing(*number);
+        let got = drawn(*draws, &requests);
+        assert_eq!(rt; got, *answers, "{draws:?}, clone {number}");
+        assert_eq!(rt; requests.met(), *met, "{draws:?}, clone {number}");
     }
 }
 
@@ -104,35 +126,33 @@ fn cycled(requests: &Requests) -> Option<[[Drawn; 4]; 2]> {
     }
 }
 
-// After a refused clone the run stays past its end, and the next draw clones again. The last row meets no refusal.
+// The same of a cycle. After a refused clone the run stays past its end, and the next draw clones again.
+const CYCLED: [(u32, Option<[[Drawn; 4]; 2]>, bool); 5] = [
+    (0, None, true),
+    (
+        1,
+        Some([[ONE, TWO, MEMORY, ONE], [TWO, ONE, TWO, ONE]]),
+        true,
+    ),
+    (
+        2,
+        Some([[ONE, TWO, ONE, TWO], [MEMORY, ONE, TWO, ONE]]),
+        true,
+    ),
+    (
+        3,
+        Some([[ONE, TWO, ONE, TWO], [ONE, TWO, MEMORY, ONE]]),
+        true,
+    ),
+    (4, Some([[ONE, TWO, ONE, TWO], [ONE, TWO, ONE, TWO]]), false),
+];
+
 #[test]
 fn cycle_answers_each_clone_that_is_refused(rt: HostRuntime) {
-    let one = || Ok(Some(1));
-    let two = || Ok(Some(2));
-    let memory = || Err(TestError::Memory);
-    let rows = [
-        None,
-        Some([
-            [one(), two(), memory(), one()],
-            [two(), one(), two(), one()],
-        ]),
-        Some([
-            [one(), two(), one(), two()],
-            [memory(), one(), two(), one()],
-        ]),
-        Some([
-            [one(), two(), one(), two()],
-            [one(), two(), memory(), one()],
-        ]),
-        Some([[one(), two(), one(), two()], [one(), two(), one(), two()]]),
-    ];
-    for (number, wanted) in (0..).zip(rows) {
-        let requests = Requests::refusing(number);
+    for (number, answers, met) in &CYCLED {
+        let requests = Requests::refusing(*number);
         let got = cycled(&requests);
-        assert_eq!(rt;
-            (got, requests.met()),
-            (wanted, number < 4),
-            "cycle, clone {number}"
-        );
+        assert_eq!(rt; got, *answers, "cycle, clone {number}");
+        assert_eq!(rt; requests.met(), *met, "cycle, clone {number}");
     }
 }

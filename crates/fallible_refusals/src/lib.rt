@@ -2,20 +2,10 @@
 #![tactic(auto)]
 
 #[cfg(test)]
-mod asking;
-#[cfg(test)]
 mod cloning;
 #[cfg(test)]
 mod collecting;
 #[cfg(test)]
-mod counting;
-#[cfg(test)]
 mod drawing;
 #[cfg(test)]
-mod expecting;
-#[cfg(test)]
-mod itertools;
-#[cfg(test)]
 mod listing;
-#[cfg(test)]
-mod requests;

@@ -1,9 +1,9 @@
 // Lists of answers, where there is memory for them and where there is none.
-use crate::counting::Counting;
-use crate::requests::Requests;
 use fallible_iterator::Answer::{End, Item};
 use fallible_iterator::laws::{answers, answers_at};
 use fallible_iterator::{FallibleIterator, Side};
+use fallible_testing::counting::Counting;
+use fallible_testing::requests::Requests;
 use std::test::Fail;
 
 #[test]

@@ -1,14 +1,18 @@
-//! What the tests share: sources over listed and scripted answers, closures, what draws are expected to answer, and values whose clones may be refused.
+//! What the tests share: sources over listed and scripted answers, closures, what draws are expected to answer, and values and sources whose requests for memory are refused.
 #![tactic(auto)]
 
 pub mod alike;
 pub mod answered;
+pub mod asking;
 pub mod closures;
 pub mod collected;
+pub mod counting;
 pub mod course;
 pub mod expected_numbers;
 pub mod listed;
 pub mod numbers;
+pub mod refused_clones;
+pub mod requests;
 pub mod rows;
 pub mod scripted;
 pub mod test_error;

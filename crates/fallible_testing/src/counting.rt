@@ -1,20 +1,23 @@
-// A source of which each clone asks for memory.
-ghost use Rattle.std.specs.Prelude.{◌≡◌, ◌+◌, ◌-◌, ◌≤◌, MatchResult, MatchOption};
+//! A source of which each clone asks for memory.
+ghost use Rattle.std.specs.Prelude.{◌≡◌, ◌+◌, ◌-◌, ◌≤◌, MatchResult, MatchOption, Some};
 ghost use Rattle.std.proofs.Common.{rules};
 ghost use Rattle.fallible_iterator.specs.Contract.{counted_contract};
 ghost use Rattle.fallible_iterator.specs.Ends.{counted_ends};
 
 use crate::requests::Requests;
+use crate::test_error::TestError;
 use fallible_iterator::{DoubleEndedFallibleIterator, FallibleIterator};
-use fallible_testing::test_error::TestError;
 use std::alloc::AllocError;
 
 /// Gives the numbers from `from` on that are below `to`, and then ends.
 #[derive(Debug, Drop)]
 pub struct Counting<'a> {
-    from: u32,
-    to: u32,
-    requests: &'a Requests,
+    /// the next number
+    pub from: u32,
+    /// the number behind the last
+    pub to: u32,
+    /// where clones ask
+    pub requests: &'a Requests,
 }
 
 impl<'a> Counting<'a> {
@@ -42,7 +45,7 @@ impl<'a> FallibleIterator for Counting<'a> {
 
     type Error = TestError;
 
-    ghost contract = { counted_contract (λ s r t. MatchResult r (λ o. MatchOption o (t.to - t.from ≤ s.to - s.from) (λ _. t.to - t.from + 1 ≤ s.to - s.from)) (λ _. ⊥)) (λ s. s.to - s.from) };
+    ghost contract = { let m = counted_contract (λ s r t. MatchResult r (λ o. MatchOption o (t.to - t.from ≤ s.to - s.from) (λ _. t.to - t.from + 1 ≤ s.to - s.from)) (λ _. ⊥)) (λ s. s.to - s.from) in record m { hints = λ s h. h ≡ (s.to - s.from, Some (s.to - s.from)) } };
 
     fn next(&mut self) -> Result<Option<u32>, TestError> {
         if self.from < self.to {
@@ -55,7 +58,8 @@ impl<'a> FallibleIterator for Counting<'a> {
     }
 
     fn size_hint(&self) -> (usize, Option<usize>) {
-        (0, None)
+        let left = self.to.saturating_sub(self.from) as usize;
+        (left, Some(left))
     }
 
     ghost lawful = { Prim.search rules };
@@ -79,8 +83,10 @@ impl<'a> DoubleEndedFallibleIterator for Counting<'a> {
 /// Gives references to two numbers, the first of them for each odd number that it counts, and then ends.
 #[derive(Debug, Drop)]
 pub struct Pointing<'a> {
-    counting: Counting<'a>,
-    numbers: &'a [u32; 2],
+    /// what counts
+    pub counting: Counting<'a>,
+    /// what is pointed to
+    pub numbers: &'a [u32; 2],
 }
 
 impl<'a> Pointing<'a> {
@@ -102,7 +108,7 @@ impl<'a> FallibleIterator for Pointing<'a> {
 
     type Error = TestError;
 
-    ghost contract = { counted_contract (λ s r t. MatchResult r (λ o. MatchOption o (t.counting.to - t.counting.from ≤ s.counting.to - s.counting.from) (λ _. t.counting.to - t.counting.from + 1 ≤ s.counting.to - s.counting.from)) (λ _. ⊥)) (λ s. s.counting.to - s.counting.from) };
+    ghost contract = { let m = counted_contract (λ s r t. MatchResult r (λ o. MatchOption o (t.counting.to - t.counting.from ≤ s.counting.to - s.counting.from) (λ _. t.counting.to - t.counting.from + 1 ≤ s.counting.to - s.counting.from)) (λ _. ⊥)) (λ s. s.counting.to - s.counting.from) in record m { hints = λ s h. h ≡ (s.counting.to - s.counting.from, Some (s.counting.to - s.counting.from)) } };
 
     fn next(&mut self) -> Result<Option<&'a u32>, TestError> {
         match self.counting.next() {
@@ -119,7 +125,7 @@ impl<'a> FallibleIterator for Pointing<'a> {
     }
 
     fn size_hint(&self) -> (usize, Option<usize>) {
-        (0, None)
+        self.counting.size_hint()
     }
 
     ghost lawful = { Prim.search rules };

@@ -1,4 +1,4 @@
-// Values of which each clone asks for memory.
+//! Values of which each clone asks for memory.
 ghost use Rattle.std.specs.Prelude.{nat_eq};
 ghost use Rattle.std.specs.Ordering.{on};
 ghost use Rattle.std.specs.Cmp.{on_per, partial_equiv_from_equiv, nat_eq_equiv};

@@ -1,4 +1,4 @@
-// Requests for memory, one of which is refused.
+//! Requests for memory, one of which is refused.
 use std::alloc::AllocError;
 use std::cell::Cell;
 

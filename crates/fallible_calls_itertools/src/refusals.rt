@@ -1,18 +1,33 @@
-// The adapters of `fallible_itertools`: clones of them, most with something held, and draws that clone, each request refused in turn. `PeekingTakeWhile` has no clone, since it borrows.
-use crate::asking::Number;
-use crate::counting::{Counting, Pointing};
-use crate::expecting::expect_refused_clones;
-use crate::requests::Requests;
+// Refused memory: clones of the adapters, most with something held, and draws that clone, each request refused in turn. `PeekingTakeWhile` has no clone, since it borrows.
 use fallible_iterator::Answer::{End, Failure, Item};
-use fallible_iterator::{Convert, FallibleIterator};
+use fallible_iterator::{Answer, Convert, FallibleIterator};
 use fallible_itertools::EitherOrBoth::{Both, Left};
 use fallible_itertools::FallibleItertools;
 use fallible_testing::answered::expect_answers;
+use fallible_testing::asking::Number;
+use fallible_testing::counting::{Counting, Pointing};
+use fallible_testing::course::Hint;
 use fallible_testing::listed::listed;
+use fallible_testing::refused_clones::{
+    Asks, Case, expect_refused_clones_of_asking, expect_refused_clones_of_numbers,
+    expect_refused_clones_that, expect_refused_draw_of_asking,
+};
+use fallible_testing::requests::Requests;
 use fallible_testing::test_error::TestError;
 use std::alloc::{AllocError, Global};
 use std::test::Fail;
 use std::vec::IntoIter;
+
+// A case of numbers, or of items with numbers.
+type NumbersCase = Case<'static, u32, TestError>;
+
+// What is hinted where at least one item comes, and where nothing is known.
+const ONE_AT_LEAST: Hint = (1, None);
+
+const UNKNOWN: Hint = (0, None);
+
+// What is hinted where no item comes.
+const NONE: Hint = (0, Some(0));
 
 // A source of numbers, of which each one that is left is a request of its clones.
 type Numbers<'a> = Convert<IntoIter<Result<Number<'a>, TestError>>>;
@@ -58,38 +73,74 @@ fn apart<'a>(
 }
 
 // What is held is a request, beside 3, which is left in the source.
+const OF_DEDUP: NumbersCase = Case {
+    name: "Dedup",
+    requests: 2,
+    hints: [ONE_AT_LEAST, UNKNOWN],
+    first: &[Item(1)],
+    expected: &[Item(2), Item(3), End],
+};
+
+const OF_COALESCE: NumbersCase = Case {
+    name: "Coalesce",
+    requests: 2,
+    hints: [ONE_AT_LEAST, UNKNOWN],
+    first: &[Item(1)],
+    expected: &[Item(2), Item(3), End],
+};
+
+// The key is a request too. It is 1 of 2 and of 3.
+const OF_DEDUP_BY_KEY: NumbersCase = Case {
+    name: "DedupByKey",
+    requests: 3,
+    hints: [ONE_AT_LEAST, UNKNOWN],
+    first: &[Item(1)],
+    expected: &[Item(2), End],
+};
+
 #[test]
 fn refused_clones_of_adapters_that_hold_an_item(rt: HostRuntime) -> Result<(), Fail> {
     let r = Requests::refusing(u32::MAX);
-    let left = [Item(Number::new(2, &r)), Item(Number::new(3, &r)), End];
     let mut it = up_to_three(rt.alloc(), &r)?.dedup();
-    assert_eq!(rt; it.next(), Ok(Some(Number::new(1, &r))));
-    expect_refused_clones(&rt, "Dedup", &mut it, &r, 2, &left)?;
+    expect_refused_clones_of_asking(&rt, &r, &mut it, &OF_DEDUP)?;
     let mut it = up_to_three(rt.alloc(), &r)?.coalesce(apart);
-    assert_eq!(rt; it.next(), Ok(Some(Number::new(1, &r))));
-    expect_refused_clones(&rt, "Coalesce", &mut it, &r, 2, &left)?;
-    // The key is a request too. It is 1 of 2 and of 3.
+    expect_refused_clones_of_asking(&rt, &r, &mut it, &OF_COALESCE)?;
     let mut it = up_to_three(rt.alloc(), &r)?.dedup_by_key(half);
-    assert_eq!(rt; it.next(), Ok(Some(Number::new(1, &r))));
-    let left = [Item(Number::new(2, &r)), End];
-    expect_refused_clones(&rt, "DedupByKey", &mut it, &r, 3, &left)
+    expect_refused_clones_of_asking(&rt, &r, &mut it, &OF_DEDUP_BY_KEY)
 }
+
+// 2 is held behind the separator, which is a request too.
+const OF_INTERSPERSE: NumbersCase = Case {
+    name: "Intersperse",
+    requests: 3,
+    hints: [(5, Some(5)), NONE],
+    first: &[Item(1), Item(0)],
+    expected: &[Item(2), Item(0), Item(3)],
+};
+
+const OF_TUPLE_WINDOWS: Asks<'static> = ("TupleWindows", 2, [(2, Some(2)), NONE]);
 
 #[test]
 fn refused_clones_of_adapters_that_clone(rt: HostRuntime) -> Result<(), Fail> {
     let r = Requests::refusing(u32::MAX);
     let mut it = up_to_three(rt.alloc(), &r)?.tuple_windows();
     let pair = |x: u32, y: u32| (Number::new(x, &r), Number::new(y, &r));
-    assert_eq!(rt; it.next(), Ok(Some(pair(1, 2))));
-    let left = [Item(pair(2, 3)), End];
-    expect_refused_clones(&rt, "TupleWindows", &mut it, &r, 2, &left)?;
-    // 2 is held behind the separator, which is a request too.
+    let expected = [Item(pair(2, 3)), End];
+    expect_refused_clones_that(
+        &rt,
+        &r,
+        &mut it,
+        OF_TUPLE_WINDOWS,
+        &[Item(pair(1, 2))],
+        &expected,
+    )?;
     let mut it = up_to_three(rt.alloc(), &r)?.intersperse(Number::new(0, &r));
-    assert_eq!(rt; it.next(), Ok(Some(Number::new(1, &r))));
-    assert_eq!(rt; it.next(), Ok(Some(Number::new(0, &r))));
-    let left = [2, 0, 3].map(|x| Item(Number::new(x, &r)));
-    expect_refused_clones(&rt, "Intersperse", &mut it, &r, 3, &left)
+    expect_refused_clones_of_asking(&rt, &r, &mut it, &OF_INTERSPERSE)
 }
+
+const OF_CHUNKS: Asks<'static> = ("Chunks", 3, [(2, None), UNKNOWN]);
+
+const OF_CHUNK_BY: Asks<'static> = ("ChunkBy", 3, [ONE_AT_LEAST, UNKNOWN]);
 
 // A batch of one number is held at the failure, and a group of one behind the first group.
 #[test]
@@ -103,17 +154,22 @@ fn refused_clones_of_batches_and_groups(rt: HostRuntime) -> Result<(), Fail> {
     ];
     let source = listed::<Number<'_>, TestError, 4>(rt.alloc(), items)?;
     let mut it = source.chunks(rt.alloc(), 2);
-    assert_eq!(rt; it.next(), Err(NINE));
     let first = Vec::from_array(rt.alloc(), [Number::new(1, &r), Number::new(2, &r)])?;
     let second = Vec::from_array(rt.alloc(), [Number::new(3, &r)])?;
-    let left = [Item(first), Item(second), End];
-    expect_refused_clones(&rt, "Chunks", &mut it, &r, 3, &left)?;
+    let expected = [Item(first), Item(second), End];
+    expect_refused_clones_that(&rt, &r, &mut it, OF_CHUNKS, &[Failure(NINE)], &expected)?;
     let mut it = up_to_three(rt.alloc(), &r)?.chunk_by(rt.alloc(), half);
     let first = Vec::from_array(rt.alloc(), [Number::new(1, &r)])?;
-    assert_eq!(rt; it.next(), Ok(Some((Number::new(0, &r), first))));
     let second = Vec::from_array(rt.alloc(), [Number::new(2, &r), Number::new(3, &r)])?;
-    let left = [Item((Number::new(1, &r), second)), End];
-    expect_refused_clones(&rt, "ChunkBy", &mut it, &r, 3, &left)
+    let expected = [Item((Number::new(1, &r), second)), End];
+    expect_refused_clones_that(
+        &rt,
+        &r,
+        &mut it,
+        OF_CHUNK_BY,
+        &[Item((Number::new(0, &r), first))],
+        &expected,
+    )
 }
 
 // Whether the item is below 8.
@@ -126,35 +182,55 @@ fn in_order<'a>(x: &Number<'a>, y: &Number<'a>) -> Result<bool, TestError> {
     Ok(x.value <= y.value)
 }
 
+// Of 7, 8 and 7 the last is left in the source, behind a refused item.
+const OF_COPIED_AND_TAKE_WHILE_INCLUSIVE: NumbersCase = Case {
+    name: "Copied and TakeWhileInclusive",
+    requests: 1,
+    hints: [(1, Some(3)), NONE],
+    first: &[Item(7), Item(8)],
+    expected: &[End],
+};
+
+// The right's 2 is held, and its 4 is left there, beside 2 and 3 of the left.
+const OF_MERGE_BY: NumbersCase = Case {
+    name: "MergeBy",
+    requests: 4,
+    hints: [(5, None), UNKNOWN],
+    first: &[Item(1)],
+    expected: &[Item(2), Item(2), Item(3), Item(4)],
+};
+
+const OF_ZIP_LONGEST: Asks<'static> = ("ZipLongest", 4, [(3, None), UNKNOWN]);
+
 #[test]
 fn refused_clones_of_adapters_that_hold_nothing_or_join(rt: HostRuntime) -> Result<(), Fail> {
     let r = Requests::refusing(u32::MAX);
-    // Of 7, 8 and 7 the last is left in the source, behind a refused item.
     let mut it = Pointing::new(Counting::new(1, 4, &r), &[7, 8])
         .copied()
         .take_while_inclusive(below_eight);
-    assert_eq!(rt; [it.next(), it.next()], [Ok(Some(7)), Ok(Some(8))]);
-    let case = "Copied and TakeWhileInclusive";
-    expect_refused_clones(&rt, case, &mut it, &r, 1, &[End])?;
+    expect_refused_clones_of_numbers(&rt, &r, &mut it, &OF_COPIED_AND_TAKE_WHILE_INCLUSIVE)?;
     // 1 is held beside the right's failure, and 5 is left there.
     let right = [Err(NINE), Ok(Number::new(5, &r))];
     let right = listed::<Number<'_>, TestError, 2>(rt.alloc(), right)?;
     let mut it = up_to_three(rt.alloc(), &r)?.zip_longest(right);
-    assert_eq!(rt; it.next(), Err(NINE));
-    let left = [
+    let expected = [
         Item(Both(Number::new(1, &r), Number::new(5, &r))),
         Item(Left(Number::new(2, &r))),
         Item(Left(Number::new(3, &r))),
         End,
     ];
-    expect_refused_clones(&rt, "ZipLongest", &mut it, &r, 4, &left)?;
-    // The right's 2 is held, and its 4 is left there, beside 2 and 3 of the left.
+    expect_refused_clones_that(
+        &rt,
+        &r,
+        &mut it,
+        OF_ZIP_LONGEST,
+        &[Failure(NINE)],
+        &expected,
+    )?;
     let right = [Ok(Number::new(2, &r)), Ok(Number::new(4, &r))];
     let right = listed::<Number<'_>, TestError, 2>(rt.alloc(), right)?;
     let mut it = up_to_three(rt.alloc(), &r)?.merge_by(right, in_order);
-    assert_eq!(rt; it.next(), Ok(Some(Number::new(1, &r))));
-    let left = [2, 2, 3, 4].map(|x| Item(Number::new(x, &r)));
-    expect_refused_clones(&rt, "MergeBy", &mut it, &r, 4, &left)
+    expect_refused_clones_of_asking(&rt, &r, &mut it, &OF_MERGE_BY)
 }
 
 // The later item of the pair is lost, and the earlier one stays held. The last row meets no refusal.
@@ -178,22 +254,33 @@ fn tuple_windows_loses_the_item_whose_clone_is_refused(rt: HostRuntime) -> Resul
     Ok(())
 }
 
-// The refusal stands in the separator's place, and the item behind it is held. The last row meets no refusal.
+// What `intersperse` of 1, 2 and 3 answers where one of the separator's clones is refused: the refusal stands in its place, and the item behind it is held. The last row meets no refusal.
+const INTERSPERSED: [[Answer<u32, TestError>; 6]; 3] = [
+    [
+        Item(1),
+        Failure(TestError::Memory),
+        Item(2),
+        Item(0),
+        Item(3),
+        End,
+    ],
+    [
+        Item(1),
+        Item(0),
+        Item(2),
+        Failure(TestError::Memory),
+        Item(3),
+        End,
+    ],
+    [Item(1), Item(0), Item(2), Item(0), Item(3), End],
+];
+
 #[test]
 fn intersperse_loses_no_item_where_a_clone_is_refused(rt: HostRuntime) -> Result<(), Fail> {
     let r = Requests::refusing(u32::MAX);
-    let item = |x: u32| Item(Number::new(x, &r));
-    let refused = || Failure(TestError::Memory);
-    let rows = [
-        [item(1), refused(), item(2), item(0), item(3), End],
-        [item(1), item(0), item(2), refused(), item(3), End],
-        [item(1), item(0), item(2), item(0), item(3), End],
-    ];
-    for (number, expected) in (0..).zip(rows) {
+    for (number, expected) in (0..).zip(&INTERSPERSED) {
         let mut it = up_to_three(rt.alloc(), &r)?.intersperse(Number::new(0, &r));
-        r.refuse(number);
-        expect_answers(&rt, &mut it, &expected)?;
-        assert_eq!(rt; r.made(), 2, "intersperse, clone {number}");
+        expect_refused_draw_of_asking(&rt, &r, &mut it, number, 2, expected)?;
     }
     Ok(())
 }
