@@ -1,7 +1,6 @@
 //! What the tests share: sources over listed and scripted answers, closures, what draws are expected to answer, and values and sources whose requests for memory are refused.
 #![tactic(auto)]
 
-pub mod alike;
 pub mod answered;
 pub mod asking;
 pub mod closures;

@@ -1,8 +1,6 @@
-//! Vectors: the adapters that join, repeat or look ahead, and clones of all, on small inputs, with answers that come from outside.
+//! Vectors: the adapters that join, repeat or look ahead, on small inputs, with answers that come from outside.
 #![tactic(auto)]
 
-#[cfg(test)]
-mod cloning;
 #[cfg(test)]
 mod cycle;
 #[cfg(test)]
