@@ -13,8 +13,6 @@ use std::test::Fail;
 
 type Drawn = Result<Option<u32>, TestError>;
 
-const END: Drawn = Ok(None);
-
 // The items as digits.
 fn digits(items: Vec<u32>) -> u32 {
     let mut digits: u32 = 0;
@@ -24,8 +22,30 @@ fn digits(items: Vec<u32>) -> u32 {
     digits
 }
 
-// What batches of n items of the script are, as digits.
-fn expect_chunks(
+const FOUR: [Drawn; 4] = [Ok(Some(1)), Ok(Some(2)), Ok(Some(3)), Ok(Some(4))];
+
+// How many items a batch has, what the source answers, and what the batches are, as digits.
+const BATCHES: [(usize, &[Drawn], &[Answer<u32, TestError>]); 4] = [
+    (2, &FOUR, &[Item(12), Item(34), End, End]),
+    (3, &FOUR, &[Item(123), Item(4), End]),
+    (1, &FOUR, &[Item(1), Item(2), Item(3), Item(4), End]),
+    // An end answers the short batch, and the next call goes on; a failure loses nothing.
+    (
+        2,
+        &[
+            Ok(Some(1)),
+            Ok(None),
+            Ok(Some(2)),
+            Err(Number(9)),
+            Ok(Some(3)),
+            Ok(Some(4)),
+        ],
+        &[Item(1), Failure(Number(9)), Item(23), Item(4), End, End],
+    ),
+];
+
+// Fails the test where the batches of n items are others.
+fn expect_batches(
     rt: &HostRuntime,
     n: usize,
     script: &[Drawn],
@@ -40,18 +60,16 @@ fn expect_chunks(
     expect_answers(rt, &mut it, expected)
 }
 
+const HINTED: [Result<u32, TestError>; 6] = [Ok(1), Ok(2), Ok(3), Err(Number(9)), Ok(4), Ok(5)];
+
 // The hints of batches of two, with a failure while one is held.
-fn expect_hints(rt: &HostRuntime) -> Result<(), Fail> {
-    let answers = [Ok(1), Ok(2), Ok(3), Err(Number(9)), Ok(4), Ok(5)];
-    let source = convert(Vec::from_array(rt.alloc(), answers)?.into_iter());
-    let mut it = source.chunks(rt.alloc(), 2).map(|batch| Ok(digits(batch)));
-    let course: [(Hint, &[Answer<u32, TestError>]); 3] = [
-        ((3, None), &[Item(12)]),
-        ((2, None), &[Failure(Number(9))]),
-        ((2, None), &[Item(34), Item(5), End]),
-    ];
-    expect_course(rt, &mut it, &course)
-}
+const HINTS: [(Hint, &[Answer<u32, TestError>]); 3] = [
+    ((3, None), &[Item(12)]),
+    ((2, None), &[Failure(Number(9))]),
+    ((2, None), &[Item(34), Item(5), End]),
+];
+
+const FIVE: [Result<u32, TestError>; 5] = [Ok(1), Ok(2), Ok(3), Ok(4), Ok(5)];
 
 // How many batches of two the readings make.
 fn pairs(alloc: Global, readings: Vec<Result<u32, TestError>>) -> Result<usize, TestError> {
@@ -60,24 +78,17 @@ fn pairs(alloc: Global, readings: Vec<Result<u32, TestError>>) -> Result<usize, 
 
 #[test]
 fn chunks_batch_items_and_end_with_a_short_one(rt: HostRuntime) -> Result<(), Fail> {
-    let script = [Ok(Some(1)), Ok(Some(2)), Ok(Some(3)), Ok(Some(4))];
-    expect_chunks(&rt, 2, &script, &[Item(12), Item(34), End, End])?;
-    expect_chunks(&rt, 3, &script, &[Item(123), Item(4), End])?;
-    expect_chunks(&rt, 1, &script, &[Item(1), Item(2), Item(3), Item(4), End])?;
-    // An end answers the short batch, and the next call goes on; a failure loses nothing.
-    let script = [
-        Ok(Some(1)),
-        END,
-        Ok(Some(2)),
-        Err(Number(9)),
-        Ok(Some(3)),
-        Ok(Some(4)),
-    ];
-    let answers = [Item(1), Failure(Number(9)), Item(23), Item(4), End, End];
-    expect_chunks(&rt, 2, &script, &answers)?;
-    let readings = Vec::from_array(rt.alloc(), [Ok(1), Ok(2), Ok(3), Ok(4), Ok(5)])?;
+    for (n, script, batches) in &BATCHES {
+        if *n == 0 {
+            return Err(Fail::new("no batch has 0 items"));
+        }
+        expect_batches(&rt, *n, script, batches)?;
+    }
+    let readings = Vec::from_array(rt.alloc(), FIVE)?;
     assert_eq!(rt; pairs(rt.alloc(), readings), Ok(3));
-    expect_hints(&rt)
+    let source = convert(Vec::from_array(rt.alloc(), HINTED)?.into_iter());
+    let mut it = source.chunks(rt.alloc(), 2).map(|batch| Ok(digits(batch)));
+    expect_course(&rt, &mut it, &HINTS)
 }
 
 // Whether an item is odd. It fails with 0.
@@ -89,20 +100,34 @@ fn is_odd(x: &u32) -> Result<bool, TestError> {
     }
 }
 
-// What the groups of odd and even items of the script are, as digits beside their key.
-fn expect_groups(
-    rt: &HostRuntime,
-    script: &[Drawn],
-    expected: &[Answer<(bool, u32), TestError>],
-) -> Result<(), Fail> {
-    let source = Script {
-        answers: script.to_vec(rt.alloc())?.into_iter(),
-    };
-    let mut it = source
-        .chunk_by(rt.alloc(), is_odd)
-        .map(|(odd, group)| Ok((odd, digits(group))));
-    expect_answers(rt, &mut it, expected)
-}
+const ODD_AND_EVEN: [Drawn; 10] = [
+    Ok(Some(1)),
+    Ok(Some(3)),
+    Ok(Some(2)),
+    Ok(Some(0)),
+    Ok(Some(4)),
+    Ok(None),
+    Ok(Some(6)),
+    Err(Number(9)),
+    Ok(Some(8)),
+    Ok(Some(5)),
+];
+
+// The groups of odd and of even items, as digits beside their key.
+const GROUPS: [Answer<(bool, u32), TestError>; 8] = [
+    Item((true, 13)),
+    Failure(Number(0)),
+    Item((false, 24)),
+    Failure(Number(9)),
+    Item((false, 68)),
+    Item((true, 5)),
+    End,
+    End,
+];
+
+const HUNDREDS: [Result<u32, TestError>; 4] = [Ok(110), Ok(230), Ok(105), Ok(107)];
+
+const THREE_GROUPS: [Result<u32, TestError>; 4] = [Ok(1), Ok(3), Ok(2), Ok(5)];
 
 // How many times in a row the last hundreds came.
 fn last_hundreds(
@@ -134,32 +159,16 @@ where
 
 #[test]
 fn chunk_by_groups_adjacent_items_of_one_key(rt: HostRuntime) -> Result<(), Fail> {
-    let script = [
-        Ok(Some(1)),
-        Ok(Some(3)),
-        Ok(Some(2)),
-        Ok(Some(0)),
-        Ok(Some(4)),
-        END,
-        Ok(Some(6)),
-        Err(Number(9)),
-        Ok(Some(8)),
-        Ok(Some(5)),
-    ];
-    let answers = [
-        Item((true, 13)),
-        Failure(Number(0)),
-        Item((false, 24)),
-        Failure(Number(9)),
-        Item((false, 68)),
-        Item((true, 5)),
-        End,
-        End,
-    ];
-    expect_groups(&rt, &script, &answers)?;
-    let readings = Vec::from_array(rt.alloc(), [Ok(110), Ok(230), Ok(105), Ok(107)])?;
+    let source = Script {
+        answers: ODD_AND_EVEN.to_vec(rt.alloc())?.into_iter(),
+    };
+    let mut it = source
+        .chunk_by(rt.alloc(), is_odd)
+        .map(|(odd, group)| Ok((odd, digits(group))));
+    expect_answers(&rt, &mut it, &GROUPS)?;
+    let readings = Vec::from_array(rt.alloc(), HUNDREDS)?;
     assert_eq!(rt; last_hundreds(rt.alloc(), readings), Ok(Some((1, 2))));
-    let readings = Vec::from_array(rt.alloc(), [Ok(1), Ok(3), Ok(2), Ok(5)])?;
+    let readings = Vec::from_array(rt.alloc(), THREE_GROUPS)?;
     let last = last_batch_of_groups(rt.alloc(), convert(readings.into_iter()), 2);
     assert_eq!(rt; last, Ok(Some(1)));
     Ok(())

@@ -1,39 +1,25 @@
 // The adapters that join.
+use crate::rows::{Drawn, END, expect_same, script};
 use fallible_iterator::Answer::{End, Failure, Item};
 use fallible_iterator::{Answer, FallibleIterator};
 use fallible_itertools::EitherOrBoth::{Both, Left, Right};
 use fallible_itertools::{EitherOrBoth, FallibleItertools};
 use fallible_testing::course::{Hint, expect_course};
+use fallible_testing::expected_numbers::expect_hinted_numbers;
 use fallible_testing::numbers::numbers;
-use fallible_testing::scripted::Script;
 use std::test::Fail;
 
-type Drawn = Result<Option<u32>, u32>;
+type Numbers = &'static [Result<u32, u32>];
 
-const END: Drawn = Ok(None);
+// What both sides answer, and what is hinted and drawn.
+type Places = (
+    &'static [Drawn],
+    &'static [Drawn],
+    &'static [(Hint, &'static [Answer<EitherOrBoth<u32, u32>, u32>])],
+);
 
-// A source of these answers, and then ends.
-fn script(rt: &HostRuntime, answers: &[Drawn]) -> Result<Script<u32, u32>, Fail> {
-    Ok(Script {
-        answers: answers.to_vec(rt.alloc())?.into_iter(),
-    })
-}
-
-// Expects this course of the places of two scripts.
-fn expect_longest(
-    rt: &HostRuntime,
-    left: &[Drawn],
-    right: &[Drawn],
-    expected: &[(Hint, &[Answer<EitherOrBoth<u32, u32>, u32>])],
-) -> Result<(), Fail> {
-    let mut it = script(rt, left)?.zip_longest(script(rt, right)?);
-    expect_course(rt, &mut it, expected)
-}
-
-#[test]
-fn zip_longest_holds_the_item_beside_a_failure(rt: HostRuntime) -> Result<(), Fail> {
-    expect_longest(
-        &rt,
+const LONGEST: [Places; 2] = [
+    (
         &[Ok(Some(1)), Err(7), Ok(Some(2)), END, Ok(Some(3))],
         &[Err(8), Err(9), Ok(Some(10)), END, Ok(Some(20))],
         &[
@@ -46,43 +32,42 @@ fn zip_longest_holds_the_item_beside_a_failure(rt: HostRuntime) -> Result<(), Fa
                 &[Item(Left(2)), Item(Right(20)), Item(Left(3)), End],
             ),
         ],
-    )?;
+    ),
     // An end isn't held beside a failure.
-    expect_longest(
-        &rt,
+    (
         &[END, Ok(Some(4))],
         &[Err(9), Ok(Some(5))],
         &[((0, None), &[Failure(9), Item(Both(4, 5)), End])],
-    )?;
-    let it = numbers(&[Ok(1), Ok(2)]).zip_longest(numbers(&[Ok(3)]));
-    assert_eq!(rt; it.size_hint(), (2, None));
-    let it = numbers(&[Ok(1)]).zip_longest(numbers(&[Ok(3), Err(4)]));
-    assert_eq!(rt; it.size_hint(), (2, None));
+    ),
+];
+
+const LONGEST_HINTS: [(Numbers, Numbers, Hint); 2] = [
+    (&[Ok(1), Ok(2)], &[Ok(3)], (2, None)),
+    (&[Ok(1)], &[Ok(3), Err(4)], (2, None)),
+];
+
+#[test]
+fn zip_longest_holds_the_item_beside_a_failure(rt: HostRuntime) -> Result<(), Fail> {
+    for (left, right, course) in &LONGEST {
+        let mut it = script(&rt, left)?.zip_longest(script(&rt, right)?);
+        expect_course(&rt, &mut it, course)?;
+    }
+    for (left, right, hint) in &LONGEST_HINTS {
+        let it = numbers(left).zip_longest(numbers(right));
+        expect_same(&it.size_hint(), hint)?;
+    }
     Ok(())
 }
 
-// Expects this course of two scripts merged by a closure, which says that the smaller goes first, the left's of two equal ones, and fails on 50.
-fn expect_merged(
-    rt: &HostRuntime,
-    left: &[Drawn],
-    right: &[Drawn],
-    expected: &[(Hint, &[Answer<u32, u32>])],
-) -> Result<(), Fail> {
-    let order = |x: &u32, y: &u32| {
-        if *x == 50 || *y == 50 {
-            Err(99)
-        } else {
-            Ok(*x <= *y)
-        }
-    };
-    let mut it = script(rt, left)?.merge_by(script(rt, right)?, order);
-    expect_course(rt, &mut it, expected)
-}
+// What both sides answer, and what is hinted and drawn.
+type Merged = (
+    &'static [Drawn],
+    &'static [Drawn],
+    &'static [(Hint, &'static [Answer<u32, u32>])],
+);
 
-#[test]
-fn merge_by_holds_one_item_of_each_side(rt: HostRuntime) -> Result<(), Fail> {
-    expect_merged(
-        &rt,
+const MERGED: [Merged; 2] = [
+    (
         &[
             Ok(Some(1)),
             Err(7),
@@ -104,16 +89,33 @@ fn merge_by_holds_one_item_of_each_side(rt: HostRuntime) -> Result<(), Fail> {
             ((1, None), &[Item(9)]),
             ((0, None), &[Item(2), End]),
         ],
-    )?;
+    ),
     // The closure's failure loses the two items.
-    expect_merged(
-        &rt,
+    (
         &[Ok(Some(50)), Ok(Some(4))],
         &[Ok(Some(1)), Ok(Some(2)), Ok(Some(50))],
         &[((0, None), &[Failure(99), Item(2), Failure(99), End])],
-    )?;
-    let left = numbers(&[Ok(1), Ok(2)]);
-    let it = left.merge_by(numbers(&[Ok(3)]), |x, y| Ok(*x <= *y));
-    assert_eq!(rt; it.size_hint(), (3, None));
-    Ok(())
+    ),
+];
+
+const TWO: [Result<u32, u32>; 2] = [Ok(1), Ok(2)];
+
+const ONE: [Result<u32, u32>; 1] = [Ok(3)];
+
+// The smaller item goes first, the left's of two equal ones. The closure fails on 50.
+#[test]
+fn merge_by_holds_one_item_of_each_side(rt: HostRuntime) -> Result<(), Fail> {
+    for (left, right, course) in &MERGED {
+        let order = |x: &u32, y: &u32| {
+            if *x == 50 || *y == 50 {
+                Err(99)
+            } else {
+                Ok(*x <= *y)
+            }
+        };
+        let mut it = script(&rt, left)?.merge_by(script(&rt, right)?, order);
+        expect_hinted_numbers(&rt, &mut it, course)?;
+    }
+    let it = numbers(&TWO).merge_by(numbers(&ONE), |x, y| Ok(*x <= *y));
+    expect_same(&it.size_hint(), &(3, None))
 }

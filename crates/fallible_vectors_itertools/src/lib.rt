@@ -16,6 +16,8 @@ mod joining;
 #[cfg(test)]
 mod passing;
 #[cfg(test)]
+mod rows;
+#[cfg(test)]
 mod stopping;
 #[cfg(test)]
 mod totals;
