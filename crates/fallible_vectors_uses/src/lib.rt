@@ -1,4 +1,4 @@
-//! Vectors: what the uses of `fallible_uses` answer on values worked out by hand. They stand apart, so that the uses are proved once.
+//! Vectors: what the uses of `fallible_uses` answer where no clause of theirs says it. They stand apart, so that the uses are proved once.
 #![tactic(auto)]
 
 #[cfg(test)]
