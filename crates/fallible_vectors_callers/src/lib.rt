@@ -1,23 +1,15 @@
-//! Vectors: what the callers of `fallible_callers` and `fallible_callers_drawing` compute on small inputs. They stand apart, so that the callers are proved once.
+//! Vectors: of the callers of `fallible_callers` and `fallible_callers_drawing` what no clause of theirs says, types of one's own, and the pages' examples. They stand apart, so that the callers are proved once.
 #![tactic(auto)]
 
 #[cfg(test)]
-mod bridging;
-#[cfg(test)]
 mod collecting;
-#[cfg(test)]
-mod comparing;
-#[cfg(test)]
-mod equal;
 #[cfg(test)]
 mod examples;
 #[cfg(test)]
 mod first;
 #[cfg(test)]
-mod idioms;
-#[cfg(test)]
-mod looping;
+mod leaving;
 #[cfg(test)]
 mod own;
 #[cfg(test)]
-mod values;
+mod reading;
