@@ -1,5 +1,5 @@
 //! Chains that compute what other chains say.
-ghost use Rattle.std.specs.Prelude.{◌≡◌, ◌*◌, Result, Ok, nat_lt, length};
+ghost use Rattle.std.specs.Prelude.{◌≡◌, ◌*◌, Result, Ok, nat_lt};
 ghost use Rattle.fallible_iterator.specs.Lists.{counted, filtered, mapped, results};
 
 use fallible_iterator::{FallibleIterator, convert};
@@ -11,14 +11,5 @@ pub fn doubled_and_above_100(readings: Vec<Result<u32, u8>>) -> Result<usize, u8
 {
     convert(readings.into_iter())
         .filter(|reading| Ok(u64::from(*reading) * 2 > 100))
-        .count()
-}
-
-/// How many halves of numbers there are: as many as numbers.
-pub fn how_many_halves(numbers: &[u32]) -> Result<usize, u8>
-    ensures { result ≡ Ok (length numbers.now) }
-{
-    convert(numbers.iter().copied().map(Ok))
-        .map(|number| Ok(number / 2))
         .count()
 }

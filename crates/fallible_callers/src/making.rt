@@ -1,5 +1,5 @@
-//! Sources made by `from` and by a closure, and what answers leave of them.
-ghost use Rattle.std.specs.Prelude.{◌≡◌, ℕ, ◌+◌, ◌-◌, ◌%◌, ◌^◌, ◌≤◌, [], ◌∷◌, length, drop, List, Option, Result, Ok, IfOk, nat_lt};
+//! What a closure gives, what answers leave, what is held, rounds, and runs one after the other.
+ghost use Rattle.std.specs.Prelude.{◌≡◌, ℕ, ◌+◌, ◌-◌, ◌%◌, ◌^◌, ◌≤◌, length, drop, List, Option, Result, Ok, IfOk, nat_lt};
 ghost use Rattle.std.specs.Vec.Iter.{into_iter_items};
 ghost use Rattle.fallible_iterator.specs.Showing.{TakesShown};
 ghost use Rattle.fallible_iterator.specs.Lists.{Lists, counted, cycled, filtered, flattened, folded, items, mapped, results, taken};
@@ -8,20 +8,9 @@ ghost use Rattle.fallible_callers.specs.Runs.{below, numbers};
 ghost use Rattle.fallible_iterator.specs.Peeking.Peekable.{held_then, peekable_held, peekable_source};
 
 use fallible_iterator::laws::{answers, law_cycle_taken, law_flat_map_finite, law_peekable};
-use fallible_iterator::{
-    FallibleIterator, IntoFallible, IteratorExt, Peekable, convert, from_fn, once,
-};
+use fallible_iterator::{FallibleIterator, IteratorExt, Peekable, convert, from_fn};
 use std::alloc::{AllocError, Global};
 use std::convert::Infallible;
-
-/// How many of the numbers are above 100.
-pub fn numbers_above_100(numbers: Vec<u32>) -> Result<usize, Infallible>
-    ensures { result ≡ counted (filtered (λ x. Ok (nat_lt 100 x)) (items numbers.items)) }
-{
-    IntoFallible::from(numbers.into_iter())
-        .filter(|number| Ok(*number > 100))
-        .count()
-}
 
 /// How many of the first ten readings, which a closure gives one by one, are above 100.
 pub fn given_above_100(readings: Vec<Result<u32, u8>>) -> Result<usize, u8>
@@ -80,13 +69,6 @@ where
     it.cycle()?
         .take(n)
         .fold(0, |sum: u64, x: u32| Ok(sum.wrapping_add(u64::from(x))))
-}
-
-/// The sum of n times the same number, modulo 2 ^ 64.
-pub fn sum_of_one_again(x: u32, n: usize) -> Result<u64, AllocError>
-    ensures { result ≡ folded (λ e. e) (λ s x. Ok ((s + x) % 2 ^ 64)) 0 (cycled n (x ∷ [])) }
-{
-    sum_of_rounds(once(x), n)
 }
 
 /// How many numbers below 100 come, once for each reading, modulo 2 ^ 64.

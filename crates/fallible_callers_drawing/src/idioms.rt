@@ -1,8 +1,8 @@
 //! Idioms of Rust, over fallible iterators.
-ghost use Rattle.std.specs.Prelude.{◌≡◌, ◌+◌, ◌%◌, ◌^◌, ℕ, Bool, List, Option, Result, Some, None, Ok, Err, nat_lt};
+ghost use Rattle.std.specs.Prelude.{◌≡◌, ◌+◌, ◌%◌, ◌^◌, ℕ, Bool, List, Option, Result, Some, None, Ok, Err};
 ghost use Rattle.fallible_iterator.specs.Closures.{IsCallable, call_at, takes_at};
 ghost use Rattle.fallible_iterator.specs.Filtering.Filter.{filter_parts};
-ghost use Rattle.fallible_iterator.specs.Lists.{Acts, Lists, rest_first, counted, filtered, folded, nth_of, results, skipped, taken};
+ghost use Rattle.fallible_iterator.specs.Lists.{Acts, Lists, rest_first, filtered, folded, nth_of, results, skipped, taken};
 ghost use Rattle.fallible_callers_drawing.specs.declared.idioms.NoRow.{NoRow};
 
 use fallible_iterator::{FallibleIterator, Filter, Skip, Take, convert};
@@ -96,17 +96,6 @@ where
         → Lists ⟦<Filter<I, F> as FallibleIterator>⟧.contract.steps result (filtered h l) }
 {
     it.filter(keep)
-}
-
-/// How many of the readings are above 100, or the first failure.
-pub fn count_kept(readings: Vec<Result<u32, u8>>) -> Result<usize, u8>
-    ensures { result ≡ counted (filtered (λ x. Ok (nat_lt 100 x)) (results readings.items)) }
-{
-    kept_by(
-        convert(readings.into_iter()),
-        |reading: &u32| Ok(*reading > 100),
-    )
-    .count()
 }
 
 // The sum of a number and the items, modulo 2 ^ 64, or the first failure.

@@ -1,14 +1,13 @@
-//! The idioms of parsers: where something stands, and what stands behind it.
-ghost use Rattle.std.specs.Prelude.{◌≡◌, ◌+◌, ◌%◌, ◌^◌, ℕ, eqb, length, List, Result, Ok, Err, Option, Some, None, IfOk, false, is_err, nat_lt, if◌then◌else◌};
+//! The idioms of parsers: how many of each kind, a sum or why there is none, and what stands behind the items that were added up.
+ghost use Rattle.std.specs.Prelude.{◌≡◌, ◌+◌, ◌%◌, ◌^◌, ℕ, length, List, Result, Ok, Err, Option, IfOk, false, nat_lt, if◌then◌else◌};
 ghost use Rattle.fallible_iterator.specs.Fault.{Fault};
-ghost use Rattle.fallible_iterator.specs.Lists.{Lists, all_of, rest_false, rest_true, folded, items, nth_of, numbered, on_value, partitioned, position_in, results, taken_while};
+ghost use Rattle.fallible_iterator.specs.Lists.{Lists, all_of, rest_false, folded, nth_of, numbered, on_value, partitioned, results, taken_while};
 ghost use Rattle.fallible_callers_drawing.specs.Full.{SideFull};
 ghost use Rattle.fallible_callers_drawing.specs.declared.parsing.NoSum.{NoSum};
 ghost use Rattle.std.specs.declared.alloc.AllocError.{AllocError};
 
-use fallible_iterator::{FallibleIterator, Fault, IteratorExt, convert};
+use fallible_iterator::{FallibleIterator, Fault, convert};
 use std::alloc::Global;
-use std::convert::Infallible;
 
 /// How many of the readings are above 100, and how many are not, or the first failure, where memory suffices. It is refused only where a vector of one side is full when a reading comes to it.
 pub fn how_many_each(
@@ -28,32 +27,6 @@ pub fn how_many_each(
         |reading| Ok(*reading > 100),
     )?;
     Ok((above.len(), others.len()))
-}
-
-/// The second reading behind the first one that is 0; none where there is no such one, and the first failure before.
-pub fn second_behind_zero(readings: Vec<Result<u32, u8>>) -> Result<Option<u32>, u8>
-    ensures some { (n : ℕ) → position_in (λ r. Ok (eqb r 0)) (results readings.items) ≡ Ok (Some n)
-        → result ≡ nth_of 1 (rest_true (λ r. Ok (eqb r 0)) (results readings.items)) }
-    ensures none { position_in (λ r. Ok (eqb r 0)) (results readings.items) ≡ Ok None
-        → result ≡ Ok None }
-    ensures fails { (e : ℕ) → position_in (λ r. Ok (eqb r 0)) (results readings.items) ≡ Err e
-        → result ≡ Err e }
-{
-    let mut left = convert(readings.into_iter());
-    match left.position(|reading| Ok(reading == 0))? {
-        Some(_) => left.nth(1),
-        None => Ok(None),
-    }
-}
-
-/// The place, from 0 on, of the first failure; none where there is no failure. Here each reading is an item, also one that failed.
-pub fn place_of_failure(readings: Vec<Result<u32, u8>>) -> Result<Option<usize>, Infallible>
-    ensures { result ≡ position_in (λ r. Ok (is_err r)) (items readings.items) }
-{
-    readings
-        .into_iter()
-        .into_fallible()
-        .position(|reading| Ok(reading.is_err()))
 }
 
 /// Why there is no sum.
