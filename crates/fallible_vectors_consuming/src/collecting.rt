@@ -47,57 +47,54 @@ fn hash_map(
     collected(alloc, answers)
 }
 
+const TWO_ONE_TWO: [Result<u32, u32>; 3] = [Ok(2), Ok(1), Ok(2)];
+
+const FAILING: [Result<u32, u32>; 3] = [Ok(0), Err(9), Ok(2)];
+
+// A set has each once, and a deque keeps the order.
+const ONCE_EACH: (usize, bool, bool) = (2, true, true);
+
+const IN_ORDER: [Option<u32>; 4] = [Some(2), Some(1), Some(2), None];
+
 #[test]
 fn collect_into_sets_and_a_deque_or_fails_with_the_source(rt: HostRuntime) -> Result<(), Fail> {
-    let (answers, failing) = ([Ok(2), Ok(1), Ok(2)], [Ok(0), Err(9), Ok(2)]);
-    // A set has each once.
-    let set = btree_set(rt.alloc(), &answers).expect(&rt, "a set");
-    assert_eq!(rt;
-        (set.len(), set.contains(&1), set.contains(&2)),
-        (2, true, true)
-    );
-    expect_source_fault(btree_set(rt.alloc(), &failing), 9)?;
-    let set = hash_set(rt.alloc(), &answers).expect(&rt, "a set");
-    assert_eq!(rt;
-        (set.len(), set.contains(&1), set.contains(&2)),
-        (2, true, true)
-    );
-    expect_source_fault(hash_set(rt.alloc(), &failing), 9)?;
-    // A deque keeps the order.
-    let mut made = deque(rt.alloc(), &answers).expect(&rt, "a deque");
+    let tree = btree_set(rt.alloc(), &TWO_ONE_TWO)?;
+    let hashed = hash_set(rt.alloc(), &TWO_ONE_TWO)?;
     assert_eq!(rt;
         [
-            made.pop_front(),
-            made.pop_front(),
-            made.pop_front(),
-            made.pop_front()
+            (tree.len(), tree.contains(&1), tree.contains(&2)),
+            (hashed.len(), hashed.contains(&1), hashed.contains(&2))
         ],
-        [Some(2), Some(1), Some(2), None]
+        [ONCE_EACH; 2]
     );
-    expect_source_fault(deque(rt.alloc(), &failing), 9)
+    expect_source_fault(btree_set(rt.alloc(), &FAILING), 9)?;
+    expect_source_fault(hash_set(rt.alloc(), &FAILING), 9)?;
+    let mut made = deque(rt.alloc(), &TWO_ONE_TWO)?;
+    for item in &IN_ORDER {
+        assert_eq!(rt; made.pop_front(), *item);
+    }
+    expect_source_fault(deque(rt.alloc(), &FAILING), 9)
 }
+
+const LETTERS: [Result<(u32, char), u32>; 3] = [Ok((1, 'a')), Ok((2, 'b')), Ok((1, 'c'))];
+
+const FAILING_LETTERS: [Result<(u32, char), u32>; 3] = [Ok((0, 'a')), Err(9), Ok((2, 'b'))];
+
+const LAST_OF_EACH: (usize, Option<&char>, Option<&char>) = (2, Some(&'c'), Some(&'b'));
 
 #[test]
 fn collect_into_a_map_keeps_the_last_value_or_fails(rt: HostRuntime) -> Result<(), Fail> {
-    let answers = [Ok((1, 'a')), Ok((2, 'b')), Ok((1, 'c'))];
-    let failing = [Ok((0, 'a')), Err(9), Ok((2, 'b'))];
-    let map = btree_map(rt.alloc(), &answers).expect(&rt, "a map");
+    let tree = btree_map(rt.alloc(), &LETTERS)?;
+    let hashed = hash_map(rt.alloc(), &LETTERS)?;
     assert_eq!(rt;
-        (map.len(), map.get(&1), map.get(&2)),
-        (2, Some(&'c'), Some(&'b'))
+        [
+            (tree.len(), tree.get(&1), tree.get(&2)),
+            (hashed.len(), hashed.get(&1), hashed.get(&2))
+        ],
+        [LAST_OF_EACH; 2]
     );
-    expect_source_fault(btree_map(rt.alloc(), &failing), 9)?;
-    let map = hash_map(rt.alloc(), &answers).expect(&rt, "a map");
-    assert_eq!(rt;
-        (map.len(), map.get(&1), map.get(&2)),
-        (2, Some(&'c'), Some(&'b'))
-    );
-    expect_source_fault(hash_map(rt.alloc(), &failing), 9)
-}
-
-// An item of that key and tag.
-fn tagged(key: u32, tag: char) -> Tagged {
-    Tagged { key, tag }
+    expect_source_fault(btree_map(rt.alloc(), &FAILING_LETTERS), 9)?;
+    expect_source_fault(hash_map(rt.alloc(), &FAILING_LETTERS), 9)
 }
 
 // The tag of an item that a set holds.
@@ -110,43 +107,61 @@ fn entry(found: Option<(&Tagged, &u32)>) -> Option<(char, u32)> {
     found.map(|(key, value)| (key.tag, *value))
 }
 
+// Equal to the first and the last item, and to the item between them.
+const ONE: Tagged = Tagged { key: 1, tag: 'd' };
+
+const TWO: Tagged = Tagged { key: 2, tag: 'd' };
+
+const TAGGED: [Result<Tagged, u32>; 3] = [
+    Ok(Tagged { key: 1, tag: 'a' }),
+    Ok(Tagged { key: 2, tag: 'b' }),
+    Ok(Tagged { key: 1, tag: 'c' }),
+];
+
+const FIRST_TAGS: (usize, Option<char>, Option<char>) = (2, Some('a'), Some('b'));
+
+const TAGGED_KEYS: [Result<(Tagged, u32), u32>; 3] = [
+    Ok((Tagged { key: 1, tag: 'a' }, 10)),
+    Ok((Tagged { key: 2, tag: 'b' }, 20)),
+    Ok((Tagged { key: 1, tag: 'c' }, 30)),
+];
+
+// The value is the last one.
+const FIRST_KEYS: (usize, Option<(char, u32)>, Option<(char, u32)>) = (
+    2,
+    Some(('a', 30)),
+    Some(('b', 20)),
+);
+
 #[test]
-fn collect_keeps_the_first_of_equal_items_and_of_equal_keys(rt: HostRuntime) {
-    let answers = [Ok(tagged(1, 'a')), Ok(tagged(2, 'b')), Ok(tagged(1, 'c'))];
-    let set = collected::<BTreeSet<Tagged>, Tagged>(rt.alloc(), &answers).expect(&rt, "a set");
-    let tags = [tag(set.get(&tagged(1, 'd'))), tag(set.get(&tagged(2, 'd')))];
-    assert_eq!(rt; (set.len(), tags), (2, [Some('a'), Some('b')]));
-    let set = collected::<HashSet<Tagged>, Tagged>(rt.alloc(), &answers).expect(&rt, "a set");
-    let tags = [tag(set.get(&tagged(1, 'd'))), tag(set.get(&tagged(2, 'd')))];
-    assert_eq!(rt; (set.len(), tags), (2, [Some('a'), Some('b')]));
-    // The value is the last one.
-    let answers = [
-        Ok((tagged(1, 'a'), 10)),
-        Ok((tagged(2, 'b'), 20)),
-        Ok((tagged(1, 'c'), 30)),
-    ];
-    let map = collected::<BTreeMap<Tagged, u32>, (Tagged, u32)>(rt.alloc(), &answers).expect(
-        &rt, "a map",
-    );
-    let entries = [
-        entry(map.get_key_value(&tagged(1, 'd'))),
-        entry(map.get_key_value(&tagged(2, 'd'))),
-    ];
+fn collect_keeps_the_first_of_equal_items_and_of_equal_keys(rt: HostRuntime) -> Result<(), Fail> {
+    let tree = collected::<BTreeSet<Tagged>, Tagged>(rt.alloc(), &TAGGED)?;
+    let hashed = collected::<HashSet<Tagged>, Tagged>(rt.alloc(), &TAGGED)?;
     assert_eq!(rt;
-        (map.len(), entries),
-        (2, [Some(('a', 30)), Some(('b', 20))])
+        [
+            (tree.len(), tag(tree.get(&ONE)), tag(tree.get(&TWO))),
+            (hashed.len(), tag(hashed.get(&ONE)), tag(hashed.get(&TWO)))
+        ],
+        [FIRST_TAGS; 2]
     );
-    let map = collected::<HashMap<Tagged, u32>, (Tagged, u32)>(rt.alloc(), &answers).expect(
-        &rt, "a map",
-    );
-    let entries = [
-        entry(map.get_key_value(&tagged(1, 'd'))),
-        entry(map.get_key_value(&tagged(2, 'd'))),
-    ];
+    let tree = collected::<BTreeMap<Tagged, u32>, (Tagged, u32)>(rt.alloc(), &TAGGED_KEYS)?;
+    let hashed = collected::<HashMap<Tagged, u32>, (Tagged, u32)>(rt.alloc(), &TAGGED_KEYS)?;
     assert_eq!(rt;
-        (map.len(), entries),
-        (2, [Some(('a', 30)), Some(('b', 20))])
+        [
+            (
+                tree.len(),
+                entry(tree.get_key_value(&ONE)),
+                entry(tree.get_key_value(&TWO))
+            ),
+            (
+                hashed.len(),
+                entry(hashed.get_key_value(&ONE)),
+                entry(hashed.get_key_value(&TWO))
+            )
+        ],
+        [FIRST_KEYS; 2]
     );
+    Ok(())
 }
 
 // Making a collection takes no room. The sorted ones tell of none; the program `refusals` makes them too.
@@ -236,27 +251,30 @@ fn vectors_by_even(
     partition_by_even(alloc, answers)
 }
 
+const FOUR: [Result<i32, u32>; 4] = [Ok(0), Ok(1), Ok(2), Ok(3)];
+
+// The even items, the others, and the next draw.
+const SIDES: (&[i32], &[i32], Result<Option<i32>, u32>) = (&[0, 2], &[1, 3], Ok(None));
+
+const ONE_FAILS: [Result<i32, u32>; 3] = [Ok(0), Err(9), Ok(2)];
+
+const MOSTLY_EVEN: [Result<i32, u32>; 5] = [Ok(0), Ok(1), Ok(2), Ok(4), Ok(6)];
+
+// What follows a failure and a refused item is left; where the making is refused, all is.
+const LEFT: [Result<Option<i32>, u32>; 3] = [Ok(Some(2)), Ok(Some(6)), Ok(Some(0))];
+
 #[test]
 fn partition_draws_nothing_after_a_failure_or_a_refusal(rt: HostRuntime) -> Result<(), Fail> {
-    let (sides, next) = vectors_by_even(rt.alloc(), &[Ok(0), Ok(1), Ok(2), Ok(3)]);
-    let (even, odd) = sides.expect(&rt, "two collections");
-    assert_eq!(rt;
-        (even.as_slice(), odd.as_slice(), next),
-        ([0, 2].as_slice(), [1, 3].as_slice(), Ok(None))
-    );
-    let (sides, failed) = vectors_by_even(rt.alloc(), &[Ok(0), Err(9), Ok(2)]);
+    let (sides, next) = vectors_by_even(rt.alloc(), &FOUR);
+    let (even, odd) = sides?;
+    assert_eq!(rt; (even.as_slice(), odd.as_slice(), next), SIDES);
+    let (sides, failed) = vectors_by_even(rt.alloc(), &ONE_FAILS);
     expect_source_fault(sides, 9)?;
-    // What follows a refused item is left.
-    let answers = [Ok(0), Ok(1), Ok(2), Ok(4), Ok(6)];
-    let (sides, refused) = partition_by_even::<Two>(rt.alloc(), &answers);
+    let (sides, refused) = partition_by_even::<Two>(rt.alloc(), &MOSTLY_EVEN);
     expect_refused(sides)?;
-    // Where the making is refused, all is left.
-    let (sides, unmade) = partition_by_even::<Never>(rt.alloc(), &[Ok(0), Ok(1)]);
+    let (sides, unmade) = partition_by_even::<Never>(rt.alloc(), &FOUR);
     expect_refused(sides)?;
-    assert_eq!(rt;
-        [failed, refused, unmade],
-        [Ok(Some(2)), Ok(Some(6)), Ok(Some(0))]
-    );
+    assert_eq!(rt; [failed, refused, unmade], LEFT);
     Ok(())
 }
 
@@ -281,46 +299,53 @@ fn vectors_unzipped(
     unzip_of(alloc, answers)
 }
 
+const PAIRS: [Result<(i32, i32), u32>; 4] = [Ok((0, 0)), Ok((1, -1)), Ok((2, -2)), Ok((3, -3))];
+
+// The first halves, the second ones, and the next draw.
+const HALVES: (&[i32], &[i32], Result<Option<(i32, i32)>, u32>) = (
+    &[0, 1, 2, 3],
+    &[0, -1, -2, -3],
+    Ok(None),
+);
+
+const ONE_PAIR_FAILS: [Result<(i32, i32), u32>; 3] = [Ok((0, 1)), Err(9), Ok((2, 3))];
+
+const MORE_PAIRS: [Result<(i32, i32), u32>; 4] = [Ok((0, 1)), Ok((2, 3)), Ok((4, 5)), Ok((6, 7))];
+
+// What follows a failure and a refused part is left; where the second making is refused, all is.
+const PAIRS_LEFT: [Result<Option<(i32, i32)>, u32>; 3] = [
+    Ok(Some((2, 3))),
+    Ok(Some((6, 7))),
+    Ok(Some((0, 1))),
+];
+
 #[test]
 fn unzip_draws_nothing_after_a_failure_or_a_refusal(rt: HostRuntime) -> Result<(), Fail> {
-    let pairs = [Ok((0, 0)), Ok((1, -1)), Ok((2, -2)), Ok((3, -3))];
-    let (both, next) = vectors_unzipped(rt.alloc(), &pairs);
-    let (first, second) = both.expect(&rt, "two collections");
-    assert_eq!(rt;
-        (first.as_slice(), second.as_slice(), next),
-        (
-            [0, 1, 2, 3].as_slice(),
-            [0, -1, -2, -3].as_slice(),
-            Ok(None)
-        )
-    );
-    let (both, failed) = vectors_unzipped(rt.alloc(), &[Ok((0, 1)), Err(9), Ok((2, 3))]);
+    let (both, next) = vectors_unzipped(rt.alloc(), &PAIRS);
+    let (first, second) = both?;
+    assert_eq!(rt; (first.as_slice(), second.as_slice(), next), HALVES);
+    let (both, failed) = vectors_unzipped(rt.alloc(), &ONE_PAIR_FAILS);
     expect_source_fault(both, 9)?;
-    // What follows a refused part is left.
-    let pairs = [Ok((0, 1)), Ok((2, 3)), Ok((4, 5)), Ok((6, 7))];
-    let (both, refused) = unzip_of::<Vec<i32>, Two>(rt.alloc(), &pairs);
+    let (both, refused) = unzip_of::<Vec<i32>, Two>(rt.alloc(), &MORE_PAIRS);
     expect_refused(both)?;
-    // Where the second making is refused, all is left.
-    let (both, unmade) = unzip_of::<Vec<i32>, Never>(rt.alloc(), &[Ok((0, 1)), Ok((2, 3))]);
+    let (both, unmade) = unzip_of::<Vec<i32>, Never>(rt.alloc(), &MORE_PAIRS);
     expect_refused(both)?;
-    assert_eq!(rt;
-        [failed, refused, unmade],
-        [Ok(Some((2, 3))), Ok(Some((6, 7))), Ok(Some((0, 1)))]
-    );
+    assert_eq!(rt; [failed, refused, unmade], PAIRS_LEFT);
     Ok(())
 }
 
+const EQUAL_PAIRS: [Result<(i32, i32), u32>; 3] = [Ok((2, 7)), Ok((1, 8)), Ok((2, 7))];
+
 #[test]
-fn unzip_into_a_deque_and_a_set(rt: HostRuntime) {
-    let pairs = [Ok((2, 7)), Ok((1, 8)), Ok((2, 7))];
-    let (both, next) = unzip_of::<VecDeque<i32>, BTreeSet<i32>>(rt.alloc(), &pairs);
-    let (mut first, second) = both.expect(&rt, "two collections");
+fn unzip_into_a_deque_and_a_set(rt: HostRuntime) -> Result<(), Fail> {
+    let (both, next) = unzip_of::<VecDeque<i32>, BTreeSet<i32>>(rt.alloc(), &EQUAL_PAIRS);
+    let (mut first, second) = both?;
     assert_eq!(rt;
-        [first.pop_front(), first.pop_front(), first.pop_front()],
-        [Some(2), Some(1), Some(2)]
+        (
+            [first.pop_front(), first.pop_front(), first.pop_front()],
+            (second.len(), second.contains(&8), next)
+        ),
+        ([Some(2), Some(1), Some(2)], (2, true, Ok(None)))
     );
-    assert_eq!(rt;
-        (second.len(), second.contains(&8), next),
-        (2, true, Ok(None))
-    );
+    Ok(())
 }

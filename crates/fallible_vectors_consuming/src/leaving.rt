@@ -17,23 +17,35 @@ const END: Drawn = Ok(None);
 
 const FAILURE: Drawn = Err(9);
 
+const TWO: Drawn = Ok(Some(2));
+
 // Gives 1, then what decides, and then the item that follows.
 fn around(alloc: Global, decides: Drawn, follows: u32) -> Result<Script<u32, u32>, AllocError> {
     scripted(alloc, [Ok(Some(1)), decides, Ok(Some(follows))])
 }
 
-// The item that follows.
-fn next_of(s: &mut Script<u32, u32>) -> Drawn {
-    s.next()
+// A consumer, with what it answers.
+#[derive(Debug, PartialEq, Eq, Drop)]
+enum Consumer {
+    // `count`
+    Count(Result<usize, u32>),
+    // `for_each`
+    ForEach(Result<(), u32>),
+    // `fold` to the sum
+    Sum(Result<u32, u32>),
+    // `last`
+    Last(Drawn),
+    // `max`
+    Max(Drawn),
+    // `max_by`
+    MaxBy(Drawn),
+    // `max_by_key`
+    MaxByKey(Drawn),
+    // `rfold` to the sum
+    SumFromBack(Result<u32, u32>),
 }
 
-fn count_of(mut s: Script<u32, u32>) -> (Result<usize, u32>, Drawn) {
-    (s.by_ref().count(), next_of(&mut s))
-}
-
-fn last_of(mut s: Script<u32, u32>) -> (Drawn, Drawn) {
-    (s.by_ref().last(), next_of(&mut s))
-}
+use Consumer::{Count, ForEach, Last, Max, MaxBy, MaxByKey, Sum, SumFromBack};
 
 fn accept(_x: u32) -> Result<(), u32> {
     Ok(())
@@ -43,140 +55,163 @@ fn each_of(mut s: Script<u32, u32>) -> (Result<(), u32>, Drawn) {
     (s.by_ref().for_each(accept), s.next())
 }
 
-fn sum_of(mut s: Script<u32, u32>) -> (Result<u32, u32>, Drawn) {
-    (s.by_ref().fold(0, add_up), next_of(&mut s))
-}
-
-fn greatest_of(mut s: Script<u32, u32>) -> (Drawn, Drawn) {
-    (s.by_ref().max(), next_of(&mut s))
-}
-
-fn greatest_by(mut s: Script<u32, u32>) -> (Drawn, Drawn) {
-    let greatest = s.by_ref().max_by(|x: &u32, y: &u32| Ok(x.cmp(y)));
-    (greatest, next_of(&mut s))
-}
-
-fn greatest_by_key(mut s: Script<u32, u32>) -> (Drawn, Drawn) {
-    (s.by_ref().max_by_key(|x: &u32| Ok(*x)), next_of(&mut s))
-}
-
-// What `count`, `for_each` and `fold` answer; and `last`, `max`, `max_by` and `max_by_key`.
-type Answers = (
-    Result<usize, u32>,
-    Result<(), u32>,
-    Result<u32, u32>,
-    [Drawn; 4],
-);
-
-// What the consumers answer, and what the next draw after each does.
-fn answers_of_each(alloc: Global, decides: Drawn) -> Result<(Answers, [Drawn; 7]), AllocError> {
-    let (count, after_count) = count_of(around(alloc, decides, 2)?);
-    let (each, after_each) = each_of(around(alloc, decides, 2)?);
-    let (sum, after_sum) = sum_of(around(alloc, decides, 2)?);
-    let (last, after_last) = last_of(around(alloc, decides, 2)?);
-    let (greatest, after_greatest) = greatest_of(around(alloc, decides, 2)?);
-    let (by, after_by) = greatest_by(around(alloc, decides, 2)?);
-    let (by_key, after_by_key) = greatest_by_key(around(alloc, decides, 2)?);
-    let answers = (count, each, sum, [last, greatest, by, by_key]);
-    let after = [
-        after_count,
-        after_each,
-        after_sum,
-        after_last,
-        after_greatest,
-        after_by,
-        after_by_key,
-    ];
-    Ok((answers, after))
-}
-
-// Sums from the back, and what the next draw from the back answers.
+// The sum from the back, and what the next draw from the back answers.
 fn sum_from_back(mut s: Script<u32, u32>) -> (Result<u32, u32>, Drawn) {
     (s.by_ref().rfold(0, add_up), s.next_back())
 }
 
+// What the consumer that is named answers, and what the next draw does.
+fn consumed(mut s: Script<u32, u32>, named: &Consumer) -> (Consumer, Drawn) {
+    let came = match named {
+        Count(_) => Count(s.by_ref().count()),
+        ForEach(_) => {
+            let (done, next) = each_of(s);
+            return (ForEach(done), next);
+        }
+        Sum(_) => Sum(s.by_ref().fold(0, add_up)),
+        Last(_) => Last(s.by_ref().last()),
+        Max(_) => Max(s.by_ref().max()),
+        MaxBy(_) => MaxBy(s.by_ref().max_by(|x: &u32, y: &u32| Ok(x.cmp(y)))),
+        MaxByKey(_) => MaxByKey(s.by_ref().max_by_key(|x: &u32| Ok(*x))),
+        SumFromBack(_) => {
+            let (sum, next) = sum_from_back(s);
+            return (SumFromBack(sum), next);
+        }
+    };
+    (came, s.next())
+}
+
+const UP_TO_THE_END: [Drawn; 3] = [Ok(Some(1)), END, TWO];
+
+const UP_TO_THE_FAILURE: [Drawn; 3] = [Ok(Some(1)), FAILURE, TWO];
+
+// A script, what a consumer of it answers, and what the next draw does: from the back after a fold from there.
+const CONSUMED: [([Drawn; 3], Consumer, Drawn); 16] = [
+    (UP_TO_THE_END, Count(Ok(1)), TWO),
+    (UP_TO_THE_END, ForEach(Ok(())), TWO),
+    (UP_TO_THE_END, Sum(Ok(1)), TWO),
+    (UP_TO_THE_END, Last(Ok(Some(1))), TWO),
+    (UP_TO_THE_END, Max(Ok(Some(1))), TWO),
+    (UP_TO_THE_END, MaxBy(Ok(Some(1))), TWO),
+    (UP_TO_THE_END, MaxByKey(Ok(Some(1))), TWO),
+    (UP_TO_THE_FAILURE, Count(Err(9)), TWO),
+    (UP_TO_THE_FAILURE, ForEach(Err(9)), TWO),
+    (UP_TO_THE_FAILURE, Sum(Err(9)), TWO),
+    (UP_TO_THE_FAILURE, Last(Err(9)), TWO),
+    (UP_TO_THE_FAILURE, Max(Err(9)), TWO),
+    (UP_TO_THE_FAILURE, MaxBy(Err(9)), TWO),
+    (UP_TO_THE_FAILURE, MaxByKey(Err(9)), TWO),
+    ([TWO, END, Ok(Some(1))], SumFromBack(Ok(1)), TWO),
+    ([TWO, FAILURE, Ok(Some(1))], SumFromBack(Err(9)), TWO),
+];
+
 #[test]
 fn folds_and_extrema_leave_what_follows(rt: HostRuntime) -> Result<(), Fail> {
-    let (answers, after) = answers_of_each(rt.alloc(), END)?;
-    assert_eq!(rt; answers, (Ok(1), Ok(()), Ok(1), [Ok(Some(1)); 4]));
-    assert_eq!(rt; after, [Ok(Some(2)); 7]);
-    let (answers, after) = answers_of_each(rt.alloc(), FAILURE)?;
-    assert_eq!(rt; answers, (Err(9), Err(9), Err(9), [Err(9); 4]));
-    assert_eq!(rt; after, [Ok(Some(2)); 7]);
-    let s = scripted(rt.alloc(), [Ok(Some(2)), END, Ok(Some(1))])?;
-    assert_eq!(rt; sum_from_back(s), (Ok(1), Ok(Some(2))));
-    let s = scripted(rt.alloc(), [Ok(Some(2)), FAILURE, Ok(Some(1))])?;
-    assert_eq!(rt; sum_from_back(s), (Err(9), Ok(Some(2))));
+    for (script, expected, next) in &CONSUMED {
+        let (came, drawn) = consumed(scripted(rt.alloc(), *script)?, expected);
+        if came != *expected || drawn != *next {
+            return Err(Fail::new(format_args!(
+                "{came:?} and then {drawn:?}, and not {expected:?} and {next:?}"
+            )));
+        }
+    }
     Ok(())
 }
 
-fn collection_of(alloc: Global, mut s: Script<u32, u32>) -> (Result<Vec<u32>, Fault<u32>>, Drawn) {
-    (s.by_ref().collect(alloc), next_of(&mut s))
+// The items of a `Vec`, or the failure.
+type Gathered = Result<&'static [u32], u32>;
+
+// The items of two, or the failure.
+type GatheredTwice = Result<(&'static [u32], &'static [u32]), u32>;
+
+// Fails the test where another answer than the one expected came.
+fn expect_gathered(made: Result<Vec<u32>, Fault<u32>>, expected: Gathered) -> Result<(), Fail> {
+    match expected {
+        Ok(items) => expect_collected(made, items),
+        Err(failure) => expect_source_fault(made, failure),
+    }
+}
+
+// The same of two collections.
+fn expect_gathered_twice(
+    made: Result<(Vec<u32>, Vec<u32>), Fault<u32>>,
+    expected: GatheredTwice,
+) -> Result<(), Fail> {
+    match expected {
+        Ok((first, second)) => {
+            let (left, right) = made?;
+            expect_collected::<u32, u32>(Ok(left), first)?;
+            expect_collected::<u32, u32>(Ok(right), second)
+        }
+        Err(failure) => expect_source_fault(made, failure),
+    }
 }
 
 fn is_even(x: &u32) -> Result<bool, u32> {
     Ok(*x % 2 == 0)
 }
 
-fn sides_of(
-    alloc: Global,
-    mut s: Script<u32, u32>,
-) -> (Result<(Vec<u32>, Vec<u32>), Fault<u32>>, Drawn) {
-    (s.by_ref().partition(alloc, is_even), next_of(&mut s))
-}
-
-fn parts_of(
-    alloc: Global,
-    mut s: Script<(u32, u32), u32>,
-) -> (Result<(Vec<u32>, Vec<u32>), Fault<u32>>, DrawnPair) {
-    (s.by_ref().unzip(alloc), s.next())
-}
+// What decides, and what `collect` and `partition` by even items gather up to it.
+const GATHERED: [(Drawn, Gathered, GatheredTwice); 2] = [
+    (END, Ok(&[1]), Ok((&[], &[1]))),
+    (FAILURE, Err(9), Err(9)),
+];
 
 #[test]
 fn collect_and_partition_leave_what_follows(rt: HostRuntime) -> Result<(), Fail> {
-    let (made, first) = collection_of(rt.alloc(), around(rt.alloc(), END, 2)?);
-    expect_collected(made, &[1])?;
-    let (made, second) = collection_of(rt.alloc(), around(rt.alloc(), FAILURE, 2)?);
-    expect_source_fault(made, 9)?;
-    let (sides, third) = sides_of(rt.alloc(), around(rt.alloc(), END, 2)?);
-    let (even, odd) = sides.expect(&rt, "two collections");
-    assert_eq!(rt; (even.len(), odd.as_slice()), (0, [1].as_slice()));
-    let (sides, fourth) = sides_of(rt.alloc(), around(rt.alloc(), FAILURE, 2)?);
-    expect_source_fault(sides, 9)?;
-    assert_eq!(rt; [first, second, third, fourth], [Ok(Some(2)); 4]);
+    for (decides, items, sides) in &GATHERED {
+        let mut first = around(rt.alloc(), *decides, 2)?;
+        expect_gathered(first.by_ref().collect(rt.alloc()), *items)?;
+        let mut second = around(rt.alloc(), *decides, 2)?;
+        expect_gathered_twice(second.by_ref().partition(rt.alloc(), is_even), *sides)?;
+        assert_eq!(rt; [first.next(), second.next()], [TWO; 2]);
+    }
     Ok(())
 }
+
+// What decides, and what `unzip` gathers up to it.
+const UNZIPPED: [(DrawnPair, GatheredTwice); 2] = [(Ok(None), Ok((&[1], &[3]))), (Err(9), Err(9))];
 
 #[test]
 fn unzip_leaves_what_follows(rt: HostRuntime) -> Result<(), Fail> {
-    let s = scripted(rt.alloc(), [Ok(Some((1, 3))), Ok(None), Ok(Some((2, 4)))])?;
-    let (parts, next) = parts_of(rt.alloc(), s);
-    let (first, second) = parts.expect(&rt, "two collections");
-    assert_eq!(rt;
-        (first.as_slice(), second.as_slice(), next),
-        ([1].as_slice(), [3].as_slice(), Ok(Some((2, 4))))
-    );
-    let s = scripted(rt.alloc(), [Ok(Some((1, 3))), Err(9), Ok(Some((2, 4)))])?;
-    let (parts, next) = parts_of(rt.alloc(), s);
-    expect_source_fault(parts, 9)?;
-    assert_eq!(rt; next, Ok(Some((2, 4))));
+    for (decides, parts) in &UNZIPPED {
+        let mut s = scripted(rt.alloc(), [Ok(Some((1, 3))), *decides, Ok(Some((2, 4)))])?;
+        expect_gathered_twice(s.by_ref().unzip(rt.alloc()), *parts)?;
+        assert_eq!(rt; s.next(), Ok(Some((2, 4))));
+    }
     Ok(())
 }
 
-// What a second draw on the left and on the right answers, after an item that is the same, how the two compare then, and what the next draw on the right answers.
-type Round = (Drawn, Drawn, Result<Ordering, u32>, Drawn);
+// What a second draw on the left and on the right answers, after an item that is the same, how the two compare then, whether they are equal, and what the next draw on the right answers.
+type Round = (
+    Drawn,
+    Drawn,
+    Result<Ordering, u32>,
+    Result<bool, u32>,
+    Drawn,
+);
 
 // A left failure decides before the right is drawn.
-fn rounds() -> [Round; 6] {
-    [
-        (END, END, Ok(Ordering::Equal), Ok(Some(3))),
-        (END, Ok(Some(5)), Ok(Ordering::Less), Ok(Some(3))),
-        (Ok(Some(5)), END, Ok(Ordering::Greater), Ok(Some(3))),
-        (Ok(Some(5)), Ok(Some(6)), Ok(Ordering::Less), Ok(Some(3))),
-        (Ok(Some(5)), FAILURE, Err(9), Ok(Some(3))),
-        (FAILURE, Ok(Some(6)), Err(9), Ok(Some(6))),
-    ]
-}
+const ROUNDS: [Round; 6] = [
+    (END, END, Ok(Ordering::Equal), Ok(true), Ok(Some(3))),
+    (END, Ok(Some(5)), Ok(Ordering::Less), Ok(false), Ok(Some(3))),
+    (
+        Ok(Some(5)),
+        END,
+        Ok(Ordering::Greater),
+        Ok(false),
+        Ok(Some(3)),
+    ),
+    (
+        Ok(Some(5)),
+        Ok(Some(6)),
+        Ok(Ordering::Less),
+        Ok(false),
+        Ok(Some(3)),
+    ),
+    (Ok(Some(5)), FAILURE, Err(9), Err(9), Ok(Some(3))),
+    (FAILURE, Ok(Some(6)), Err(9), Err(9), Ok(Some(6))),
+];
 
 // How the two compare, and what the next draws on the left and on the right answer.
 fn cmp_of(
@@ -184,7 +219,7 @@ fn cmp_of(
     mut right: Script<u32, u32>,
 ) -> (Result<Ordering, u32>, [Drawn; 2]) {
     let answer = left.by_ref().cmp(right.by_ref());
-    (answer, [next_of(&mut left), next_of(&mut right)])
+    (answer, [left.next(), right.next()])
 }
 
 // Whether the two are equal, and what the next draws on the left and on the right answer.
@@ -193,24 +228,24 @@ fn eq_of(
     mut right: Script<u32, u32>,
 ) -> (Result<bool, u32>, [Drawn; 2]) {
     let answer = left.by_ref().eq(right.by_ref());
-    (answer, [next_of(&mut left), next_of(&mut right)])
+    (answer, [left.next(), right.next()])
 }
 
 #[test]
 fn cmp_and_eq_leave_what_follows_on_both_sides(rt: HostRuntime) -> Result<(), Fail> {
-    for (left, right, order, next) in rounds() {
-        let compared = cmp_of(around(rt.alloc(), left, 2)?, around(rt.alloc(), right, 3)?);
-        assert_eq!(rt;
-            compared,
-            (order, [Ok(Some(2)), next]),
-            "cmp of {left:?} and {right:?}"
+    for (left, right, order, equal, next) in &ROUNDS {
+        let compared = cmp_of(
+            around(rt.alloc(), *left, 2)?,
+            around(rt.alloc(), *right, 3)?,
         );
-        let compared = eq_of(around(rt.alloc(), left, 2)?, around(rt.alloc(), right, 3)?);
-        let equal = order.map(|order| order == Ordering::Equal);
+        let same = eq_of(
+            around(rt.alloc(), *left, 2)?,
+            around(rt.alloc(), *right, 3)?,
+        );
         assert_eq!(rt;
-            compared,
-            (equal, [Ok(Some(2)), next]),
-            "eq of {left:?} and {right:?}"
+            (compared, same),
+            ((*order, [TWO, *next]), (*equal, [TWO, *next])),
+            "{left:?} and {right:?}"
         );
     }
     Ok(())

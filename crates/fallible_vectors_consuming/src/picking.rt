@@ -3,11 +3,9 @@ ghost use Rattle.std.specs.Prelude.{◌^◌, ◌-◌};
 
 use crate::tagged::Tagged;
 use fallible_iterator::{Convert, FallibleIterator, convert};
-use fallible_testing::rows::expect_rows;
 use std::cmp::Ordering;
 use std::iter::Copied;
 use std::slice::Iter;
-use std::test::Fail;
 
 // `convert` of the answers.
 fn copied_of<'a, T: Copy>(
@@ -21,47 +19,70 @@ fn copied_of<'a, T: Copy>(
     convert(answers.iter().copied())
 }
 
-// The greatest item, and what the next draw answers.
-fn max_of(answers: &[Result<i32, u32>]) -> (Result<Option<i32>, u32>, Result<Option<i32>, u32>) {
-    let mut it = copied_of(answers);
-    (it.by_ref().max(), it.next())
+// Which of the items is answered.
+#[derive(Clone, Copy, Debug)]
+enum Best {
+    // `max`
+    Max,
+    // `min`
+    Min,
 }
 
-// The tag of an item.
-fn tag(best: Result<Option<Tagged>, u32>) -> Result<Option<char>, u32> {
-    best.map(|best| best.map(|item| item.tag))
+use Best::{Max, Min};
+
+// The best item, and what the next draw answers.
+fn best_of<T: Copy + Ord>(
+    best: Best,
+    answers: &[Result<T, u32>],
+) -> (Result<Option<T>, u32>, Result<Option<T>, u32>) {
+    let mut it = copied_of(answers);
+    let came = match best {
+        Max => it.by_ref().max(),
+        Min => it.by_ref().min(),
+    };
+    (came, it.next())
 }
+
+// what a draw answers
+type Drawn = Result<Option<i32>, u32>;
+
+// The best of what, which it is, and what the next draw answers. It stops at a failure.
+const BEST: [(Best, &[Result<i32, u32>], Drawn, Drawn); 4] = [
+    (Max, &[Ok(0), Ok(3), Ok(1), Ok(-10)], Ok(Some(3)), Ok(None)),
+    (Max, &[], Ok(None), Ok(None)),
+    (Max, &[Ok(1), Err(7), Ok(2)], Err(7), Ok(Some(2))),
+    (
+        Min,
+        &[Ok(0), Ok(3), Ok(-10), Ok(1)],
+        Ok(Some(-10)),
+        Ok(None),
+    ),
+];
+
+const TAGGED: [Result<Tagged, u32>; 4] = [
+    Ok(Tagged { key: 1, tag: 'a' }),
+    Ok(Tagged { key: 2, tag: 'b' }),
+    Ok(Tagged { key: 2, tag: 'c' }),
+    Ok(Tagged { key: 1, tag: 'd' }),
+];
+
+// Of equal items each is the last.
+const LAST_OF_EQUAL: [(Best, char); 2] = [(Max, 'c'), (Min, 'd')];
 
 #[test]
-fn max_and_min_are_none_without_an_item_and_the_last_of_equal_items(
-    rt: HostRuntime,
-) -> Result<(), Fail> {
-    expect_rows(&[
-        (
-            max_of(&[Ok(0), Ok(3), Ok(1), Ok(-10)]),
-            (Ok(Some(3)), Ok(None)),
-        ),
-        (max_of(&[]), (Ok(None), Ok(None))),
-        // It stops at a failure.
-        (max_of(&[Ok(1), Err(7), Ok(2)]), (Err(7), Ok(Some(2)))),
-    ])?;
-    let answers = [Ok(0), Ok(3), Ok(-10), Ok(1)];
-    assert_eq!(rt; copied_of(&answers).min(), Ok(Some(-10)));
-    // Of equal items each is the last.
-    let answers = [
-        Ok(Tagged { key: 1, tag: 'a' }),
-        Ok(Tagged { key: 2, tag: 'b' }),
-        Ok(Tagged { key: 2, tag: 'c' }),
-        Ok(Tagged { key: 1, tag: 'd' }),
-    ];
-    assert_eq!(rt;
-        [
-            tag(copied_of(&answers).max()),
-            tag(copied_of(&answers).min())
-        ],
-        [Ok(Some('c')), Ok(Some('d'))]
-    );
-    Ok(())
+fn max_and_min_are_none_without_an_item_and_the_last_of_equal_items(rt: HostRuntime) {
+    for (best, answers, came, next) in &BEST {
+        assert_eq!(rt;
+            best_of(*best, answers),
+            (*came, *next),
+            "{best:?} of {answers:?}"
+        );
+    }
+    for (best, tag) in &LAST_OF_EQUAL {
+        let (came, _) = best_of(*best, &TAGGED);
+        let found = came.map(|item| item.map(|item| item.tag));
+        assert_eq!(rt; found, Ok(Some(*tag)));
+    }
 }
 
 // no item is this
@@ -101,25 +122,48 @@ fn min_by_product(
     (least, it.next())
 }
 
+// what a draw of what is compared so answers
+type Compared = Result<Option<i32>, (i32, i32)>;
+
+const FIVE_TWO_SEVEN: [Result<i32, (i32, i32)>; 3] = [Ok(5), Ok(2), Ok(7)];
+
+// Answers, the sign, the item at which comparing fails, the greatest item, the least, and what the next draw behind that answers. By the order back they are the least and the greatest.
+const BY_PRODUCT: [(
+    &[Result<i32, (i32, i32)>],
+    i32,
+    i32,
+    Compared,
+    (Compared, Compared),
+); 3] = [
+    (
+        &[Ok(0), Ok(3), Ok(1), Ok(-10)],
+        -1,
+        NOWHERE,
+        Ok(Some(-10)),
+        (Ok(Some(3)), Ok(None)),
+    ),
+    (&FIVE_TWO_SEVEN, 1, 7, Err((5, 7)), (Err((2, 7)), Ok(None))),
+    (
+        &FIVE_TWO_SEVEN,
+        1,
+        2,
+        Err((5, 2)),
+        (Err((5, 2)), Ok(Some(7))),
+    ),
+];
+
 #[test]
 fn max_by_and_min_by_ask_with_the_best_so_far_first_and_stop(rt: HostRuntime) {
-    // By the order back they are the least and the greatest.
-    let answers = [Ok(0), Ok(3), Ok(1), Ok(-10)];
-    let three = [Ok(5), Ok(2), Ok(7)];
-    assert_eq!(rt;
-        [
-            max_by_product(&answers, -1, NOWHERE),
-            max_by_product(&three, 1, 7)
-        ],
-        [Ok(Some(-10)), Err((5, 7))]
-    );
-    assert_eq!(rt;
-        [
-            min_by_product(&answers, -1, NOWHERE),
-            min_by_product(&three, 1, 2)
-        ],
-        [(Ok(Some(3)), Ok(None)), (Err((5, 2)), Ok(Some(7)))]
-    );
+    for (answers, sign, failing, greatest, least) in &BY_PRODUCT {
+        assert_eq!(rt;
+            (
+                max_by_product(answers, *sign, *failing),
+                min_by_product(answers, *sign, *failing)
+            ),
+            (*greatest, *least),
+            "{answers:?} with {sign}, failing at {failing}"
+        );
+    }
 }
 
 // The product of an item with `sign`, which fails with the item above `bound`.
@@ -156,26 +200,58 @@ fn min_by_key_of(
     it.min_by_key(|x: &(i32, char)| product(sign, bound, x.0))
 }
 
+const FOUR: [Result<i32, i32>; 4] = [Ok(0), Ok(3), Ok(1), Ok(-10)];
+
+// Answers, the sign, the bound above which a key fails, the item with the greatest key, and how often a key was made: once for each item.
+const BY_KEY: [(
+    &[Result<i32, i32>],
+    i32,
+    i32,
+    (Result<Option<i32>, i32>, u32),
+); 4] = [
+    (&FOUR, -1, NOWHERE, (Ok(Some(-10)), 4)),
+    (&FOUR, -1, -1, (Err(0), 1)),
+    (&FOUR, -1, 0, (Err(3), 2)),
+    (&[Ok(3), Ok(1), Ok(3), Ok(2)], 1, NOWHERE, (Ok(Some(3)), 4)),
+];
+
+// what a draw of pairs answers
+type Paired = Result<Option<(i32, char)>, i32>;
+
+const FOUR_PAIRS: [Result<(i32, char), i32>; 4] = [
+    Ok((0, 'a')),
+    Ok((3, 'b')),
+    Ok((1, 'c')),
+    Ok((-10, 'd')),
+];
+
+// The same of pairs, with the least key. Of equal keys it is the last.
+const PAIRS_BY_KEY: [(&[Result<(i32, char), i32>], i32, i32, Paired); 4] = [
+    (&FOUR_PAIRS, -1, NOWHERE, Ok(Some((3, 'b')))),
+    (&FOUR_PAIRS, -1, -1, Err(0)),
+    (&FOUR_PAIRS, -1, 0, Err(3)),
+    (
+        &[Ok((1, 'a')), Ok((0, 'b')), Ok((0, 'c'))],
+        1,
+        NOWHERE,
+        Ok(Some((0, 'c'))),
+    ),
+];
+
 #[test]
-fn max_by_key_and_min_by_key_answer_an_item_or_fail_by_their_closure() -> Result<(), Fail> {
-    // Each key is made once.
-    let answers = [Ok(0), Ok(3), Ok(1), Ok(-10)];
-    expect_rows(&[
-        (max_by_key_of(&answers, -1, NOWHERE), (Ok(Some(-10)), 4)),
-        (max_by_key_of(&answers, -1, -1), (Err(0), 1)),
-        (max_by_key_of(&answers, -1, 0), (Err(3), 2)),
-        (
-            max_by_key_of(&[Ok(3), Ok(1), Ok(3), Ok(2)], 1, NOWHERE),
-            (Ok(Some(3)), 4),
-        ),
-    ])?;
-    // Of equal keys it is the last.
-    let answers = [Ok((0, 'a')), Ok((3, 'b')), Ok((1, 'c')), Ok((-10, 'd'))];
-    let equal = [Ok((1, 'a')), Ok((0, 'b')), Ok((0, 'c'))];
-    expect_rows(&[
-        (min_by_key_of(&answers, -1, NOWHERE), Ok(Some((3, 'b')))),
-        (min_by_key_of(&answers, -1, -1), Err(0)),
-        (min_by_key_of(&answers, -1, 0), Err(3)),
-        (min_by_key_of(&equal, 1, NOWHERE), Ok(Some((0, 'c')))),
-    ])
+fn max_by_key_and_min_by_key_answer_an_item_or_fail_by_their_closure(rt: HostRuntime) {
+    for (answers, sign, bound, greatest) in &BY_KEY {
+        assert_eq!(rt;
+            max_by_key_of(answers, *sign, *bound),
+            *greatest,
+            "{answers:?} with {sign}, up to {bound}"
+        );
+    }
+    for (answers, sign, bound, least) in &PAIRS_BY_KEY {
+        assert_eq!(rt;
+            min_by_key_of(answers, *sign, *bound),
+            *least,
+            "{answers:?} with {sign}, up to {bound}"
+        );
+    }
 }

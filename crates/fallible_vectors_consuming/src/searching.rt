@@ -1,12 +1,10 @@
 // Searches end with the item that decides, and the next draw goes on after it.
 ghost use Rattle.std.specs.Prelude.{◌^◌, ◌-◌};
+ghost use Rattle.fallible_iterator.specs.Contract.{AtMost, KeptByDraws};
 
-use fallible_iterator::{Convert, FallibleIterator, from_fn, once};
+use fallible_iterator::{FallibleIterator, from_fn, once};
 use fallible_testing::listed::listed;
 use fallible_testing::numbers::numbers;
-use fallible_testing::rows::expect_rows;
-use std::iter::Copied;
-use std::slice::Iter;
 use std::test::Fail;
 
 // what a draw answers
@@ -14,6 +12,23 @@ type Drawn = Result<Option<u32>, u32>;
 
 // no item is this
 const NOWHERE: u32 = 100;
+
+const FOUR: [Result<u32, u32>; 4] = [Ok(0), Ok(1), Ok(2), Ok(3)];
+
+// What `for_each` is called on, the item at which its closure fails with 20, its answer, the items that the closure took, and what the next draw answers.
+type Visit = (
+    &'static [Result<u32, u32>],
+    u32,
+    Result<(), u32>,
+    &'static [u32],
+    Drawn,
+);
+
+const VISITS: [Visit; 3] = [
+    (&FOUR, NOWHERE, Ok(()), &[0, 1, 2, 3], Ok(None)),
+    (&[Ok(1), Ok(2), Ok(3)], 2, Err(20), &[1], Ok(Some(3))),
+    (&[Ok(1), Err(2), Ok(3)], NOWHERE, Err(2), &[1], Ok(Some(3))),
+];
 
 // What `for_each` answers, whose closure pushes the items and fails with 20 at `failing`, and what the next draw does.
 fn push_each(
@@ -36,28 +51,15 @@ fn push_each(
 
 #[test]
 fn for_each_is_called_on_each_item_in_order_up_to_either_failure(rt: HostRuntime) {
-    let mut seen = Vec::new(rt.alloc());
-    let four = [Ok(0), Ok(1), Ok(2), Ok(3)];
-    assert_eq!(rt; push_each(&mut seen, &four, NOWHERE), (Ok(()), Ok(None)));
-    assert_eq!(rt; seen.as_slice(), [0, 1, 2, 3].as_slice());
-    let three = [Ok(1), Ok(2), Ok(3)];
-    assert_eq!(rt; push_each(&mut seen, &three, 2), (Err(20), Ok(Some(3))));
-    let failing = [Ok(1), Err(2), Ok(3)];
-    assert_eq!(rt;
-        push_each(&mut seen, &failing, NOWHERE),
-        (Err(2), Ok(Some(3)))
-    );
-}
-
-// Whether all items are below 4, of a predicate that fails with 20 at `failing`, and what the next draw answers.
-fn all_below_4(answers: &[Result<u32, u32>], failing: u32) -> (Result<bool, u32>, Drawn) {
-    let mut it = numbers(answers);
-    let all = it.all(|x: u32| if x == failing { Err(20) } else { Ok(x < 4) });
-    (all, it.next())
+    for (answers, failing, done, items, next) in &VISITS {
+        let mut seen = Vec::new(rt.alloc());
+        let answered = push_each(&mut seen, answers, *failing);
+        assert_eq!(rt; (answered, seen.as_slice()), ((*done, *next), *items));
+    }
 }
 
 #[test]
-fn all_over_a_fuse_meets_the_end_once(rt: HostRuntime) -> Result<(), Fail> {
+fn all_over_a_fuse_meets_the_end_once(rt: HostRuntime) {
     let mut calls = 0u32;
     let source = from_fn(|| -> Result<Option<u32>, ()> {
         calls = calls.wrapping_add(1);
@@ -68,86 +70,166 @@ fn all_over_a_fuse_meets_the_end_once(rt: HostRuntime) -> Result<(), Fail> {
         })
     });
     let mut it = source.take(5).fuse();
-    assert_eq!(rt; it.all(|_: u32| Ok(true)), Ok(true));
-    assert_eq!(rt; it.next(), Ok(None));
+    let answered = (it.all(|_: u32| Ok(true)), it.next());
     drop(it);
-    assert_eq!(rt; calls, 2);
+    assert_eq!(rt; (answered, calls), ((Ok(true), Ok(None)), 2));
+}
+
+// A search or a draw, with what it answers.
+#[derive(Debug, PartialEq, Eq, Drop)]
+enum Search {
+    // `all` whose items are below 4. The predicate fails with 20.
+    All(Result<bool, u32>),
+    // `any` item that is 3. The predicate fails with 20.
+    Any(Result<bool, u32>),
+    // `find` of the number, and how often the predicate was called. It fails with 29.
+    Find(u32, Drawn, u32),
+    // `find` of an odd number
+    FindOdd(Drawn),
+    // `position` of the number. The predicate fails with 42.
+    Position(u32, Result<Option<usize>, u32>),
+    // `next`
+    Draw(Drawn),
+}
+
+use Search::{All, Any, Draw, Find, FindOdd, Position};
+
+// What is searched, the item at which a predicate fails, and the searches, one after another.
+type Row = (&'static [Result<u32, u32>], u32, &'static [Search]);
+
+// Makes the search or draw that is named, of which a predicate fails at `failing`.
+fn made_by<I: FallibleIterator<Item = u32, Error = u32>>(
+    it: &mut I,
+    failing: u32,
+    named: &Search,
+) -> Search
+where
+    requires can_next { I.contract.can_next it.old }
+    requires finite { I.contract.is_finite it.old }
+    requires fits { AtMost I.contract it.old (2 ^ 64 - 1) }
+    ensures { KeptByDraws I.contract it.old it.new }
+{
+    match named {
+        All(_) => {
+            return All(it.all(|x: u32| if x == failing { Err(20) } else { Ok(x < 4) }));
+        }
+        Any(_) => {
+            return Any(it.any(|x: u32| if x == failing { Err(20) } else { Ok(x == 3) }));
+        }
+        Find(wanted, _, _) => {
+            let mut calls = 0u32;
+            let found = it.find(|x: &u32| {
+                calls = calls.wrapping_add(1);
+                if *x == failing {
+                    Err(29)
+                } else {
+                    Ok(*x == *wanted)
+                }
+            });
+            return Find(*wanted, found, calls);
+        }
+        FindOdd(_) => return FindOdd(it.find(|x: &u32| Ok(*x % 2 == 1))),
+        Position(wanted, _) => {
+            let place = it.position(|x: u32| if x == failing {
+                Err(42)
+            } else {
+                Ok(x == *wanted)
+            });
+            return Position(*wanted, place);
+        }
+        Draw(_) => return Draw(it.draw()),
+    }
+}
+
+// Makes the searches, one after another. Fails the test where one answers otherwise.
+fn expect_searches<I: FallibleIterator<Item = u32, Error = u32>>(
+    it: &mut I,
+    failing: u32,
+    searches: &[Search],
+) -> Result<(), Fail>
+where
+    requires can_next { I.contract.can_next it.old }
+    requires finite { I.contract.is_finite it.old }
+    requires fits { I.contract.bound it.old (2 ^ 64 - 1) }
+    ensures { KeptByDraws I.contract it.old it.new }
+{
+    for search in searches {
+        let made = made_by(it, failing, search);
+        if made != *search {
+            return Err(Fail::new(format_args!("{made:?}, and not {search:?}")));
+        }
+    }
     Ok(())
 }
 
-// Whether any item is 3, of a predicate that fails with 20 at `failing`, and what the next draw answers.
-fn any_is_3(answers: &[Result<u32, u32>], failing: u32) -> (Result<bool, u32>, Drawn) {
-    let mut it = numbers(answers);
-    let any = it.any(|x: u32| if x == failing { Err(20) } else { Ok(x == 3) });
-    (any, it.next())
+// Makes the searches of each row over its answers.
+fn expect_each(rows: &[Row]) -> Result<(), Fail> {
+    for (answers, failing, searches) in rows {
+        expect_searches(&mut numbers(answers), *failing, searches)?;
+    }
+    Ok(())
 }
+
+const LAST_ABOVE: [Result<u32, u32>; 4] = [Ok(0), Ok(1), Ok(2), Ok(4)];
+
+const ALL_AND_ANY: [Row; 9] = [
+    (&FOUR, NOWHERE, &[All(Ok(true)), Draw(Ok(None))]),
+    (&LAST_ABOVE, NOWHERE, &[All(Ok(false)), Draw(Ok(None))]),
+    (
+        &[Ok(0), Ok(4), Ok(1), Ok(2)],
+        NOWHERE,
+        &[All(Ok(false)), Draw(Ok(Some(1)))],
+    ),
+    (&LAST_ABOVE, 0, &[All(Err(20)), Draw(Ok(Some(1)))]),
+    (
+        &[Ok(0), Err(9), Ok(2)],
+        NOWHERE,
+        &[All(Err(9)), Draw(Ok(Some(2)))],
+    ),
+    (&FOUR, NOWHERE, &[Any(Ok(true)), Draw(Ok(None))]),
+    (
+        &[Ok(0), Ok(3), Ok(1), Ok(2)],
+        NOWHERE,
+        &[Any(Ok(true)), Draw(Ok(Some(1)))],
+    ),
+    (&LAST_ABOVE, NOWHERE, &[Any(Ok(false)), Draw(Ok(None))]),
+    (&LAST_ABOVE, 0, &[Any(Err(20)), Draw(Ok(Some(1)))]),
+];
 
 #[test]
 fn all_and_any_stop_at_the_first_item_that_decides_or_fails() -> Result<(), Fail> {
-    let four = [Ok(0), Ok(1), Ok(2), Ok(3)];
-    let last_above = [Ok(0), Ok(1), Ok(2), Ok(4)];
-    let one_above = [Ok(0), Ok(4), Ok(1), Ok(2)];
-    let failing = [Ok(0), Err(9), Ok(2)];
-    let one_is = [Ok(0), Ok(3), Ok(1), Ok(2)];
-    expect_rows(&[
-        (all_below_4(&four, NOWHERE), (Ok(true), Ok(None))),
-        (all_below_4(&last_above, NOWHERE), (Ok(false), Ok(None))),
-        (all_below_4(&one_above, NOWHERE), (Ok(false), Ok(Some(1)))),
-        (all_below_4(&last_above, 0), (Err(20), Ok(Some(1)))),
-        (all_below_4(&failing, NOWHERE), (Err(9), Ok(Some(2)))),
-        (any_is_3(&four, NOWHERE), (Ok(true), Ok(None))),
-        (any_is_3(&one_is, NOWHERE), (Ok(true), Ok(Some(1)))),
-        (any_is_3(&last_above, NOWHERE), (Ok(false), Ok(None))),
-        (any_is_3(&last_above, 0), (Err(20), Ok(Some(1)))),
-    ])
+    expect_each(&ALL_AND_ANY)
 }
 
-// What a search for `wanted` finds, with a predicate that fails with 29 at `failing`, how often the predicate was called, and what the next draw answers.
-fn find_one(answers: &[Result<u32, u32>], wanted: u32, failing: u32) -> (Drawn, u32, Drawn) {
-    let mut it = numbers(answers);
-    let mut calls = 0u32;
-    let found = it.find(|x: &u32| {
-        calls = calls.wrapping_add(1);
-        if *x == failing {
-            Err(29)
-        } else {
-            Ok(*x == wanted)
-        }
-    });
-    (found, calls, it.next())
-}
-
-// whether the item is 2
-fn is_two(x: &u32) -> Result<bool, u32> {
-    Ok(*x == 2)
-}
-
-// What three searches for 2 find, one after another.
-fn find_two_thrice(answers: &[Result<u32, u32>]) -> [Drawn; 3] {
-    let mut it = numbers(answers);
-    [it.find(is_two), it.find(is_two), it.find(is_two)]
-}
+// The last one goes on after a failure.
+const FINDS: [Row; 6] = [
+    (
+        &FOUR,
+        NOWHERE,
+        &[Find(1, Ok(Some(1)), 2), Draw(Ok(Some(2)))],
+    ),
+    (
+        &FOUR,
+        NOWHERE,
+        &[Find(2, Ok(Some(2)), 3), Draw(Ok(Some(3)))],
+    ),
+    (&FOUR, 2, &[Find(NOWHERE, Err(29), 3), Draw(Ok(Some(3)))]),
+    (&FOUR, 2, &[Find(0, Ok(Some(0)), 1), Draw(Ok(Some(1)))]),
+    (&FOUR, NOWHERE, &[FindOdd(Ok(Some(1))), Draw(Ok(Some(2)))]),
+    (
+        &[Ok(0), Err(9), Ok(2)],
+        NOWHERE,
+        &[
+            Find(2, Err(9), 1),
+            Find(2, Ok(Some(2)), 1),
+            Find(2, Ok(None), 0),
+        ],
+    ),
+];
 
 #[test]
-fn find_stops_at_the_first_item_that_decides(rt: HostRuntime) -> Result<(), Fail> {
-    let four = [Ok(0), Ok(1), Ok(2), Ok(3)];
-    expect_rows(&[
-        (find_one(&four, 1, NOWHERE), (Ok(Some(1)), 2, Ok(Some(2)))),
-        (find_one(&four, 2, NOWHERE), (Ok(Some(2)), 3, Ok(Some(3)))),
-        (find_one(&four, NOWHERE, 2), (Err(29), 3, Ok(Some(3)))),
-        (find_one(&four, 0, 2), (Ok(Some(0)), 1, Ok(Some(1)))),
-    ])?;
-    let mut it = numbers(&four);
-    assert_eq!(rt;
-        [it.find(|x: &u32| Ok(*x % 2 == 1)), it.next()],
-        [Ok(Some(1)), Ok(Some(2))]
-    );
-    // It goes on after a failure.
-    assert_eq!(rt;
-        find_two_thrice(&[Ok(0), Err(9), Ok(2)]),
-        [Err(9), Ok(Some(2)), Ok(None)]
-    );
-    Ok(())
+fn find_stops_at_the_first_item_that_decides() -> Result<(), Fail> {
+    expect_each(&FINDS)
 }
 
 #[test]
@@ -209,59 +291,41 @@ fn find_within_a_flatten_keeps_the_inner_iterator(rt: HostRuntime) -> Result<(),
     Ok(())
 }
 
-// What a search for the item `wanted` counts, with a predicate that fails with 42 at `failing`.
-fn position_of<'a>(
-    it: &mut Convert<Copied<Iter<'a, Result<u32, u32>>>>,
-    wanted: u32,
-    failing: u32,
-) -> Result<Option<usize>, u32>
-    requires finite { ⟦<Convert<Copied<Iter<'a, Result<u32, u32>>>> as FallibleIterator>⟧.contract.bound
-        it.old (2 ^ 64 - 1) }
-    ensures finite { ⟦<Convert<Copied<Iter<'a, Result<u32, u32>>>> as FallibleIterator>⟧.contract.bound
-        it.new (2 ^ 64 - 1) }
-{
-    it.position(|x: u32| if x == failing {
-        Err(42)
-    } else {
-        Ok(x == wanted)
-    })
-}
+const ONE_TO_FOUR: [Result<u32, u32>; 4] = [Ok(1), Ok(2), Ok(3), Ok(4)];
 
-// What three searches for the items `wanted` count, one after another, with a predicate that fails with 42 at `failing`.
-fn positions(
-    answers: &[Result<u32, u32>],
-    wanted: [u32; 3],
-    failing: u32,
-) -> [Result<Option<usize>, u32>; 3] {
-    let mut it = numbers(answers);
-    let [first, second, third] = wanted;
-    [
-        position_of(&mut it, first, failing),
-        position_of(&mut it, second, failing),
-        position_of(&mut it, third, failing),
-    ]
-}
+// In the last one nothing is drawn after the predicate fails.
+const POSITIONS: [Row; 4] = [
+    (
+        &ONE_TO_FOUR,
+        NOWHERE,
+        &[
+            Position(2, Ok(Some(1))),
+            Position(3, Ok(Some(0))),
+            Position(5, Ok(None)),
+        ],
+    ),
+    (
+        &ONE_TO_FOUR,
+        3,
+        &[
+            Position(2, Ok(Some(1))),
+            Position(4, Err(42)),
+            Position(4, Ok(Some(0))),
+        ],
+    ),
+    (
+        &ONE_TO_FOUR,
+        3,
+        &[
+            Position(4, Err(42)),
+            Position(4, Ok(Some(0))),
+            Position(4, Ok(None)),
+        ],
+    ),
+    (&ONE_TO_FOUR, 3, &[Position(4, Err(42)), Draw(Ok(Some(4)))]),
+];
 
 #[test]
-fn position_counts_the_items_before_or_fails_by_its_predicate(rt: HostRuntime) -> Result<(), Fail> {
-    let four = [Ok(1), Ok(2), Ok(3), Ok(4)];
-    expect_rows(&[
-        (
-            positions(&four, [2, 3, 5], NOWHERE),
-            [Ok(Some(1)), Ok(Some(0)), Ok(None)],
-        ),
-        (
-            positions(&four, [2, 4, 4], 3),
-            [Ok(Some(1)), Err(42), Ok(Some(0))],
-        ),
-        (
-            positions(&four, [4, 4, 4], 3),
-            [Err(42), Ok(Some(0)), Ok(None)],
-        ),
-    ])?;
-    // It draws nothing after its predicate fails.
-    let mut it = numbers(&four);
-    assert_eq!(rt; position_of(&mut it, 4, 3), Err(42));
-    assert_eq!(rt; it.next(), Ok(Some(4)));
-    Ok(())
+fn position_counts_the_items_before_or_fails_by_its_predicate() -> Result<(), Fail> {
+    expect_each(&POSITIONS)
 }
