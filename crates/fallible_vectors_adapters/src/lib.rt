@@ -9,3 +9,5 @@ mod filtering;
 mod fuse;
 #[cfg(test)]
 mod one_to_one;
+#[cfg(test)]
+mod script;
