@@ -1,7 +1,7 @@
 // Folds from the back.
 use fallible_iterator::Answer::{End, Item};
 use fallible_iterator::Side::{Back, Front};
-use fallible_iterator::{DoubleEndedFallibleIterator, FallibleIterator};
+use fallible_iterator::{Answer, DoubleEndedFallibleIterator, FallibleIterator, Side};
 use fallible_testing::closures::{add_up, put_behind};
 use fallible_testing::expected_numbers::expect_numbers_at;
 use fallible_testing::numbers::numbers;
@@ -11,14 +11,15 @@ fn is_odd(x: &u32) -> Result<bool, u32> {
     Ok(*x % 2 == 1)
 }
 
+const UP_TO_FIVE: [Result<u32, u32>; 5] = [Ok(1), Ok(2), Ok(3), Ok(4), Ok(5)];
+
 #[test]
 fn rfold_meets_the_last_item_first(rt: HostRuntime) {
     let answers = [Ok(1), Ok(2), Ok(3)];
     let it = numbers(&answers);
     assert_eq!(rt; it.rfold(0, put_behind), Ok(321));
     // It meets what a filter keeps.
-    let answers = [Ok(1), Ok(2), Ok(3), Ok(4), Ok(5)];
-    let odd = numbers(&answers).filter(is_odd);
+    let odd = numbers(&UP_TO_FIVE).filter(is_odd);
     assert_eq!(rt; odd.rfold(0, put_behind), Ok(531));
 }
 
@@ -39,23 +40,29 @@ fn stop(_: u32, _: u32) -> Result<u32, u32> {
     Err(7)
 }
 
+const UP_TO_FOUR: [Result<u32, u32>; 4] = [Ok(1), Ok(2), Ok(3), Ok(4)];
+
+const BACK_AND_TWICE_FRONT: [Side; 3] = [Back, Front, Front];
+
+const BELOW_THIRTY: [Answer<u32, u32>; 3] = [Item(20), Item(10), End];
+
+const ONE_AND_TWO: [Result<u32, u32>; 2] = [Ok(1), Ok(2)];
+
+const THREE_AND_FOUR: [Result<u32, u32>; 2] = [Ok(3), Ok(4)];
+
+const BACK_AND_FRONT: [Side; 2] = [Back, Front];
+
+const THREE_AND_ONE: [Answer<u32, u32>; 2] = [Item(3), Item(1)];
+
 #[test]
 fn try_rfold_stops_and_leaves_both_ends(rt: HostRuntime) -> Result<(), Fail> {
-    let answers = [Ok(1), Ok(2), Ok(3), Ok(4)];
-    let mut it = numbers(&answers).map(ten_times);
+    let mut it = numbers(&UP_TO_FOUR).map(ten_times);
     assert_eq!(rt; it.try_rfold(0, sum_up_to_thirty), Err(7));
-    expect_numbers_at(
-        &rt,
-        &mut it,
-        &[Back, Front, Front],
-        &[Item(20), Item(10), End],
-    )?;
+    expect_numbers_at(&rt, &mut it, &BACK_AND_TWICE_FRONT, &BELOW_THIRTY)?;
     // Stopped in the second of a chain, it goes on there.
-    let first = [Ok(1), Ok(2)];
-    let second = [Ok(3), Ok(4)];
-    let mut it = numbers(&first).chain(numbers(&second));
+    let mut it = numbers(&ONE_AND_TWO).chain(numbers(&THREE_AND_FOUR));
     assert_eq!(rt; it.try_rfold(0, stop), Err(7));
-    expect_numbers_at(&rt, &mut it, &[Back, Front], &[Item(3), Item(1)])
+    expect_numbers_at(&rt, &mut it, &BACK_AND_FRONT, &THREE_AND_ONE)
 }
 
 #[test]

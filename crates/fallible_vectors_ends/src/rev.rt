@@ -2,29 +2,52 @@
 use fallible_iterator::Answer::{Failure, Item};
 use fallible_iterator::Side::{Back, Front};
 use fallible_iterator::{
-    DoubleEndedFallibleIterator, FallibleIterator, Fault, IntoFallible, convert,
+    Answer, DoubleEndedFallibleIterator, FallibleIterator, IntoFallible, Side, convert,
 };
 use fallible_testing::closures::{even_thirds, ten_more_of_even};
 use fallible_testing::collected::{expect_collected, expect_source_fault};
 use fallible_testing::expected_numbers::{expect_numbers, expect_numbers_at};
 use fallible_testing::numbers::numbers;
-use std::alloc::{AllocError, Global};
+use std::alloc::AllocError;
 use std::test::Fail;
+
+// What is collected: the items, or the failure of the source.
+type Made = Result<&'static [u32], u32>;
+
+// Collects from the back, and fails the test where anything else comes.
+fn expect_collected_back<I: DoubleEndedFallibleIterator<Item = u32, Error = u32>>(
+    rt: &HostRuntime,
+    it: I,
+    expected: Result<&[u32], u32>,
+) -> Result<(), Fail>
+where
+    requires can_next { I.ends.can_next it }
+    requires finite { I.contract.is_finite it }
+{
+    let made = it.rev().collect::<Vec<u32>>(rt.alloc());
+    match expected {
+        Ok(items) => expect_collected(made, items),
+        Err(failure) => expect_source_fault(made, failure),
+    }
+}
+
+const UP_TO_THREE: [Result<u32, u32>; 4] = [Ok(0), Ok(1), Ok(2), Ok(3)];
+
+const FOUR_TO_SEVEN: [Result<u32, u32>; 4] = [Ok(4), Ok(5), Ok(6), Ok(7)];
+
+const SEVEN_TO_ZERO: Made = Ok(&[7, 6, 5, 4, 3, 2, 1, 0]);
 
 #[test]
 fn rev_of_a_chain_is_the_back_s_and_then_the_front_s(rt: HostRuntime) -> Result<(), Fail> {
-    let first = [Ok(0), Ok(1), Ok(2), Ok(3)];
-    let second = [Ok(4), Ok(5), Ok(6), Ok(7)];
-    let it = numbers(&first).chain(numbers(&second));
-    let made = it.rev().collect::<Vec<u32>>(rt.alloc());
-    expect_collected(made, &[7, 6, 5, 4, 3, 2, 1, 0])
+    let it = numbers(&UP_TO_THREE).chain(numbers(&FOUR_TO_SEVEN));
+    expect_collected_back(&rt, it, SEVEN_TO_ZERO)
 }
+
+const FAILING_TWICE: [Result<u32, u32>; 4] = [Ok(0), Err(1), Ok(2), Err(3)];
 
 #[test]
 fn rev_counts_from_back(rt: HostRuntime) {
-    let answers = [Ok(0), Err(1), Ok(2), Err(3)];
-    let it = numbers(&answers);
-    assert_eq!(rt; it.rev().count(), Err(3));
+    assert_eq!(rt; numbers(&FAILING_TWICE).rev().count(), Err(3));
 }
 
 // The letters of a text, in which a space is a failure.
@@ -43,67 +66,80 @@ fn counted_letters(text: &str, from_behind: bool, as_elements: bool) -> Result<u
     }
 }
 
+// Whether it counts from behind, whether as elements, and what it answers.
+const COUNTED_LETTERS: [(bool, bool, Result<usize, ()>); 4] = [
+    (false, false, Err(())),
+    (true, false, Err(())),
+    (false, true, Ok(5)),
+    (true, true, Ok(5)),
+];
+
 #[test]
 fn letters_are_counted_up_to_a_space_and_both_as_elements(rt: HostRuntime) {
-    assert_eq!(rt; counted_letters("ab cd", false, false), Err(()));
-    assert_eq!(rt; counted_letters("ab cd", true, false), Err(()));
-    assert_eq!(rt; counted_letters("ab cd", false, true), Ok(5));
-    assert_eq!(rt; counted_letters("ab cd", true, true), Ok(5));
+    for row in &COUNTED_LETTERS {
+        let (from_behind, as_elements, _) = *row;
+        let counted = counted_letters("ab cd", from_behind, as_elements);
+        assert_eq!(rt; (from_behind, as_elements, counted), *row);
+    }
 }
+
+const ONE_AND_TWO: [Result<u32, u32>; 2] = [Ok(1), Ok(2)];
+
+const FRONT_AND_BACK: [Side; 2] = [Front, Back];
+
+const ITEMS_ONE_AND_TWO: [Answer<u32, u32>; 2] = [Item(1), Item(2)];
 
 #[test]
 fn rev_of_rev_draws_the_front(rt: HostRuntime) -> Result<(), Fail> {
-    let answers = [Ok(1), Ok(2)];
-    let mut it = numbers(&answers).rev().rev();
-    expect_numbers_at(&rt, &mut it, &[Front, Back], &[Item(1), Item(2)])
+    let mut it = numbers(&ONE_AND_TWO).rev().rev();
+    expect_numbers_at(&rt, &mut it, &FRONT_AND_BACK, &ITEMS_ONE_AND_TWO)
 }
 
-// What is collected from the back of the answers that `even_thirds` lets pass.
-fn collected_even_thirds(
-    alloc: Global,
-    answers: &[Result<u32, u32>],
-) -> Result<Vec<u32>, Fault<u32>> {
-    numbers(answers).filter(even_thirds).rev().collect(alloc)
-}
+// What the source of `filter` with `even_thirds` gives, and what is collected from the back.
+const EVEN_THIRDS: [(&[Result<u32, u32>], Made); 2] = [
+    (&[Ok(0), Ok(2), Ok(4), Ok(6)], Ok(&[6, 0])),
+    (&[Ok(0), Ok(1), Ok(2), Ok(3)], Err(3)),
+];
 
 #[test]
 fn filter_from_back_keeps_the_same_or_fails_at_the_last_odd(rt: HostRuntime) -> Result<(), Fail> {
-    let made = collected_even_thirds(rt.alloc(), &[Ok(0), Ok(2), Ok(4), Ok(6)]);
-    expect_collected(made, &[6, 0])?;
-    let made = collected_even_thirds(rt.alloc(), &[Ok(0), Ok(1), Ok(2), Ok(3)]);
-    expect_source_fault(made, 3)
+    for (given, made) in &EVEN_THIRDS {
+        expect_collected_back(&rt, numbers(given).filter(even_thirds), *made)?;
+    }
+    Ok(())
 }
 
-// What is collected from the back of what `ten_more_of_even` makes of the answers.
-fn collected_ten_more_of_even(
-    alloc: Global,
-    answers: &[Result<u32, u32>],
-) -> Result<Vec<u32>, Fault<u32>> {
-    numbers(answers)
-        .filter_map(ten_more_of_even)
-        .rev()
-        .collect(alloc)
-}
+// What the source of `filter_map` with `ten_more_of_even` gives, and what is collected from the back.
+const TEN_MORE_OF_EVEN: [(&[Result<u32, u32>], Made); 2] = [
+    (&[Ok(0), Ok(2), Ok(3), Ok(4), Ok(6)], Ok(&[16, 14, 12, 10])),
+    (&[Ok(0), Ok(1), Ok(2), Ok(3), Ok(4), Ok(5), Ok(6)], Err(5)),
+];
 
 #[test]
 fn filter_map_from_back_gives_what_is_made_or_fails_at_5(rt: HostRuntime) -> Result<(), Fail> {
-    let answers = [Ok(0), Ok(2), Ok(3), Ok(4), Ok(6)];
-    let made = collected_ten_more_of_even(rt.alloc(), &answers);
-    expect_collected(made, &[16, 14, 12, 10])?;
-    let answers = [Ok(0), Ok(1), Ok(2), Ok(3), Ok(4), Ok(5), Ok(6)];
-    expect_source_fault(collected_ten_more_of_even(rt.alloc(), &answers), 5)
+    for (given, made) in &TEN_MORE_OF_EVEN {
+        expect_collected_back(&rt, numbers(given).filter_map(ten_more_of_even), *made)?;
+    }
+    Ok(())
 }
 
-// What `find` answers from the back, where its predicate fails at 2 and answers `otherwise` elsewhere.
-fn found_from_back(answers: &[Result<u32, u32>], otherwise: bool) -> Result<Option<u32>, u32> {
-    numbers(answers).rev().find(move |x: &u32| if *x == 2 { Err(29) } else { Ok(otherwise) })
-}
+// What the predicate of `find` answers, but at 2, where it fails with 29; and what `find` answers from the back.
+const FOUND_FROM_BACK: [(bool, Result<Option<u32>, u32>); 2] = [
+    (true, Ok(Some(3))),
+    (false, Err(29)),
+];
 
 #[test]
 fn find_from_back_meets_the_last_item_first_or_fails(rt: HostRuntime) {
-    let answers = [Ok(0), Ok(1), Ok(2), Ok(3)];
-    assert_eq!(rt; found_from_back(&answers, true), Ok(Some(3)));
-    assert_eq!(rt; found_from_back(&answers, false), Err(29));
+    for row in &FOUND_FROM_BACK {
+        let (otherwise, _) = *row;
+        let found = numbers(&UP_TO_THREE).rev().find(move |x: &u32| if *x == 2 {
+            Err(29)
+        } else {
+            Ok(otherwise)
+        });
+        assert_eq!(rt; (otherwise, found), *row);
+    }
 }
 
 fn doubled(x: u32) -> Result<u32, u32> {
@@ -119,16 +155,21 @@ fn doubled_but_two(x: u32) -> Result<u32, u32> {
     }
 }
 
+const UP_TO_FOUR: [Result<u32, u32>; 5] = [Ok(0), Ok(1), Ok(2), Ok(3), Ok(4)];
+
+const DOUBLED_FROM_BACK: Made = Ok(&[8, 6, 4, 2, 0]);
+
+const DOUBLED_BUT_TWO: [Answer<u32, u32>; 3] = [Item(0), Item(2), Failure(0)];
+
+const DOUBLED_BUT_TWO_FROM_BACK: [Answer<u32, u32>; 3] = [Item(8), Item(6), Failure(0)];
+
 #[test]
 fn map_from_back_and_where_it_fails_at_2(rt: HostRuntime) -> Result<(), Fail> {
-    let answers = [Ok(0), Ok(1), Ok(2), Ok(3), Ok(4)];
-    let it = numbers(&answers).map(doubled);
-    let made = it.rev().collect::<Vec<u32>>(rt.alloc());
-    expect_collected(made, &[8, 6, 4, 2, 0])?;
-    let mut it = numbers(&answers).map(doubled_but_two);
+    expect_collected_back(&rt, numbers(&UP_TO_FOUR).map(doubled), DOUBLED_FROM_BACK)?;
+    let mut it = numbers(&UP_TO_FOUR).map(doubled_but_two);
     let mut clone = it.clone()?.rev();
-    expect_numbers(&rt, &mut it, &[Item(0), Item(2), Failure(0)])?;
-    expect_numbers(&rt, &mut clone, &[Item(8), Item(6), Failure(0)])
+    expect_numbers(&rt, &mut it, &DOUBLED_BUT_TWO)?;
+    expect_numbers(&rt, &mut clone, &DOUBLED_BUT_TWO_FROM_BACK)
 }
 
 fn same(e: u32) -> u32 {
@@ -137,9 +178,7 @@ fn same(e: u32) -> u32 {
 
 #[test]
 fn map_err_from_back_fails_with_3(rt: HostRuntime) -> Result<(), Fail> {
-    let answers = [Ok(0), Err(1), Ok(2), Err(3)];
-    let it = numbers(&answers).map_err(same);
-    expect_source_fault(it.rev().collect::<Vec<u32>>(rt.alloc()), 3)
+    expect_collected_back(&rt, numbers(&FAILING_TWICE).map_err(same), Err(3))
 }
 
 #[test]
