@@ -1,10 +1,12 @@
 // Borrowed sources.
 use fallible_iterator::Answer::{End, Failure, Item};
-use fallible_iterator::FallibleIterator;
-use fallible_testing::answered::expect_answers;
+use fallible_iterator::{Answer, FallibleIterator};
+use fallible_testing::expected_numbers::expect_numbers;
 use fallible_testing::listed::listed;
 use fallible_testing::numbers::numbers;
 use std::test::Fail;
+
+const ONE_A_FAILURE_AND_AN_END: [Answer<u32, u32>; 3] = [Item(1), Failure(2), End];
 
 // What is drawn from a borrow is drawn from it.
 #[test]
@@ -17,5 +19,5 @@ fn a_borrow_and_a_box_answer_as_what_they_hold(rt: HostRuntime) -> Result<(), Fa
     assert_eq!(rt; it.next(), Ok(None));
     let it = listed::<u32, u32, 2>(rt.alloc(), [Ok(1), Err(2)])?;
     let mut boxed = Box::new(rt.alloc(), it)?;
-    expect_answers(&rt, &mut boxed, &[Item(1), Failure(2), End])
+    expect_numbers(&rt, &mut boxed, &ONE_A_FAILURE_AND_AN_END)
 }

@@ -40,22 +40,26 @@ fn counted_behind_a_peek(pages: &[&[u32]]) -> Result<usize, Infallible> {
         .count()
 }
 
+const PAGES: [&[u32]; 3] = [&[1, 2], &[], &[3]];
+
+const COLLECTED: [u32; 3] = [1, 2, 3];
+
+const FAILING_PAGES: [&[u32]; 2] = [&[1, 2], &[3, 0, 4]];
+
+const COUNTED_PAGES: [&[u32]; 3] = [&[5, 6], &[], &[7]];
+
+const BOTH_THREE: [Result<usize, Infallible>; 2] = [Ok(3), Ok(3)];
+
 #[test]
 fn lent_pages_are_collected_up_to_a_failure_and_counted(rt: HostRuntime) -> Result<(), Fail> {
-    let (first, second, third) = ([1, 2], [], [3]);
-    let pages = [first.as_slice(), second.as_slice(), third.as_slice()];
-    expect_collected(listed_numbers(rt.alloc(), pages.as_slice()), &[1, 2, 3])?;
-    let failing = [3, 0, 4];
-    let pages = [first.as_slice(), failing.as_slice()];
-    expect_source_fault(listed_numbers(rt.alloc(), pages.as_slice()), 3)?;
-    let (first, second, third) = ([5, 6], [], [7]);
-    let pages = [first.as_slice(), second.as_slice(), third.as_slice()];
+    expect_collected(listed_numbers(rt.alloc(), &PAGES), &COLLECTED)?;
+    expect_source_fault(listed_numbers(rt.alloc(), &FAILING_PAGES), 3)?;
     assert_eq!(rt;
         [
-            counted_items(pages.as_slice()),
-            counted_behind_a_peek(pages.as_slice())
+            counted_items(&COUNTED_PAGES),
+            counted_behind_a_peek(&COUNTED_PAGES)
         ],
-        [Ok(3), Ok(3)]
+        BOTH_THREE
     );
     Ok(())
 }
@@ -96,22 +100,29 @@ fn short_words_after_a_short_one(text: &str) -> Result<usize, ()> {
     words.take_while(|word: &&str| Ok(word.len() == 3)).count()
 }
 
+// A text, and what `short_words_after_a_short_one` answers.
+const SHORT_WORDS: [(&str, Result<usize, ()>); 2] = [
+    ("one two six three ten", Ok(2)),
+    ("three ten", Ok(0)),
+];
+// A text, and its first word.
+const FIRST_WORDS: [(&str, Result<Option<&str>, ()>); 2] = [
+    ("\n  one two\nthree", Ok(Some("one"))),
+    ("\n \n", Ok(None)),
+];
+
+const NUMBERS: [u32; 3] = [1, 2, 3];
+
 #[test]
 fn borrowed_words_and_numbers_are_drained_and_peeked_at(rt: HostRuntime) -> Result<(), Fail> {
-    assert_eq!(rt;
-        [
-            counted_words("one two\n\n  three\n"),
-            short_words_after_a_short_one("one two six three ten"),
-            short_words_after_a_short_one("three ten")
-        ],
-        [Ok(3), Ok(2), Ok(0)]
-    );
-    assert_eq!(rt;
-        [first_word("\n  one two\nthree"), first_word("\n \n")],
-        [Ok(Some("one")), Ok(None)]
-    );
-    let numbers = [1u32, 2, 3];
-    let mut it = IntoFallible::from(numbers.iter()).peekable();
+    assert_eq!(rt; counted_words("one two\n\n  three\n"), Ok(3));
+    for row in &SHORT_WORDS {
+        assert_eq!(rt; (row.0, short_words_after_a_short_one(row.0)), *row);
+    }
+    for row in &FIRST_WORDS {
+        assert_eq!(rt; (row.0, first_word(row.0)), *row);
+    }
+    let mut it = IntoFallible::from(NUMBERS.iter()).peekable();
     assert_eq!(rt; it.peek(), Ok(Some(&&1)));
     assert_eq!(rt; it.next(), Ok(Some(&1)));
     let made: Result<Vec<u32>, Fault<Infallible>> = it

@@ -1,48 +1,52 @@
 // The std iterators over fallible ones.
 use fallible_iterator::{FallibleIterator, IteratorExt, convert, once_err};
 use fallible_testing::numbers::numbers;
-use fallible_testing::rows::expect_rows;
-use fallible_testing::scripted::scripted;
+use fallible_testing::scripted::Script;
 use std::alloc::AllocError;
 use std::test::Fail;
 
-// What three draws of the std iterator over it give. It hints at nothing.
-fn three_elements<I: FallibleIterator>(
+// Fails the test where three draws of the std iterator over it give other elements, or where it hints at anything.
+fn expect_elements<I: FallibleIterator<Item = u32, Error = u32>>(
     it: I,
-) -> (
-    (usize, Option<usize>),
-    [Option<Result<I::Item, I::Error>>; 3],
-)
+    expected: &[Option<Result<u32, u32>>; 3],
+) -> Result<(), Fail>
 where
     I: Drop,
     requires { I.contract.can_next it }
 {
     let mut it = it.iterator();
-    (it.size_hint(), [it.next(), it.next(), it.next()])
+    let hint = it.size_hint();
+    let drawn = [it.next(), it.next(), it.next()];
+    if hint == (0, None) && drawn == *expected {
+        Ok(())
+    } else {
+        Err(Fail::new(format_args!("hinted {hint:?} and gave {drawn:?}, and not {expected:?}")))
+    }
 }
+
+const ONE_AND_A_FAILURE: [Result<u32, u32>; 2] = [Ok(1), Err(2)];
+
+const THEIR_ELEMENTS: [Option<Result<u32, u32>>; 3] = [Some(Ok(1)), Some(Err(2)), None];
+
+const A_FAILURE_AND_ENDS: [Option<Result<u32, u32>>; 3] = [Some(Err(4)), None, None];
+
+const ENDED_BETWEEN: [Result<Option<u32>, u32>; 3] = [Ok(Some(1)), Ok(None), Ok(Some(2))];
+
+const AN_END_BETWEEN: [Option<Result<u32, u32>>; 3] = [Some(Ok(1)), None, Some(Ok(2))];
+
+const FAILING_SECOND: [Result<u32, u32>; 3] = [Ok(1), Err(2), Ok(3)];
 
 #[test]
 fn iterator_gives_each_failure_as_an_element(rt: HostRuntime) -> Result<(), Fail> {
-    let nothing = (0, None);
-    let again = [Ok(Some(1)), Ok(None), Ok(Some(2))];
-    expect_rows(&[
-        (
-            three_elements(numbers(&[Ok(1), Err(2)])),
-            (nothing, [Some(Ok(1)), Some(Err(2)), None]),
-        ),
-        (
-            three_elements(once_err(4)),
-            (nothing, [Some(Err(4)), None, None]),
-        ),
-        // It draws again after an end.
-        (
-            three_elements(scripted(rt.alloc(), again)?),
-            (nothing, [Some(Ok(1)), None, Some(Ok(2))]),
-        ),
-    ])?;
+    expect_elements(numbers(&ONE_AND_A_FAILURE), &THEIR_ELEMENTS)?;
+    expect_elements(once_err(4), &A_FAILURE_AND_ENDS)?;
+    // It draws again after an end.
+    let source = Script {
+        answers: ENDED_BETWEEN.to_vec(rt.alloc())?.into_iter(),
+    };
+    expect_elements(source, &AN_END_BETWEEN)?;
     // It has two ends and a clone.
-    let answers = [Ok(1), Err(2), Ok(3)];
-    let mut it = numbers(&answers).iterator();
+    let mut it = numbers(&FAILING_SECOND).iterator();
     let mut clone = it.clone()?;
     assert_eq!(rt;
         [it.next(), it.next_back(), it.next_back(), it.next()],

@@ -20,54 +20,65 @@ fn collected(
     (it.by_ref().collect(alloc), it.next())
 }
 
-// What `collect` makes of the answers, whose failures are that much greater.
-fn collected_with_greater_failures(
-    alloc: Global,
-    answers: &[Result<u32, u32>],
-    more: u32,
-) -> Result<Vec<u32>, Fault<u32>> {
-    numbers(answers)
-        .map_err(move |e: u32| e.wrapping_add(more))
-        .collect(alloc)
+// What is collected: the items, or the failure of the source.
+type Made = Result<&'static [u32], u32>;
+
+// Collects, and fails the test where anything else comes.
+fn expect_collects<I: FallibleIterator<Item = u32, Error = u32>>(
+    rt: &HostRuntime,
+    it: I,
+    expected: Result<&[u32], u32>,
+) -> Result<(), Fail>
+where
+    requires can_next { I.contract.can_next it }
+    requires finite { I.contract.is_finite it }
+{
+    let made = it.collect::<Vec<u32>>(rt.alloc());
+    match expected {
+        Ok(items) => expect_collected(made, items),
+        Err(failure) => expect_source_fault(made, failure),
+    }
 }
 
-// What `collect` makes of the answers that `even_thirds` lets pass.
-fn collected_even_thirds(
-    alloc: Global,
-    answers: &[Result<u32, u32>],
-) -> Result<Vec<u32>, Fault<u32>> {
-    numbers(answers).filter(even_thirds).collect(alloc)
-}
+const UP_TO_FOUR: [Result<u32, u32>; 5] = [Ok(0), Ok(1), Ok(2), Ok(3), Ok(4)];
 
-// What `collect` makes of what `ten_more_of_even` makes of the answers.
-fn collected_ten_more_of_even(
-    alloc: Global,
-    answers: &[Result<u32, u32>],
-) -> Result<Vec<u32>, Fault<u32>> {
-    numbers(answers).filter_map(ten_more_of_even).collect(alloc)
-}
+const DOUBLED: Made = Ok(&[0, 2, 4, 6, 8]);
+
+// How much greater failures are, what the source gives, and what is collected.
+const WITH_GREATER_FAILURES: [(u32, &[Result<u32, u32>], Made); 2] = [
+    (100, &[Ok(1), Err(5)], Err(105)),
+    (0, &[Ok(0), Err(1), Ok(2), Err(3)], Err(1)),
+];
+
+// What the source of `filter` with `even_thirds` gives, and what is collected.
+const EVEN_THIRDS: [(&[Result<u32, u32>], Made); 2] = [
+    (&[Ok(0), Ok(2), Ok(4), Ok(6)], Ok(&[0, 6])),
+    (&[Ok(0), Ok(1), Ok(2), Ok(3)], Err(1)),
+];
+
+// What the source of `filter_map` with `ten_more_of_even` gives, and what is collected.
+const TEN_MORE_OF_EVEN: [(&[Result<u32, u32>], Made); 2] = [
+    (&[Ok(0), Ok(2), Ok(3), Ok(4), Ok(6)], Ok(&[10, 12, 14, 16])),
+    (&[Ok(0), Ok(1), Ok(2), Ok(3), Ok(4), Ok(5), Ok(6)], Err(1)),
+];
 
 #[test]
 fn collect_over_an_adapter_makes_its_items_or_fails_as_it_does(
     rt: HostRuntime,
 ) -> Result<(), Fail> {
-    let answers = [Ok(0), Ok(1), Ok(2), Ok(3), Ok(4)];
-    let it = numbers(&answers).map(|x: u32| Ok(x.wrapping_mul(2)));
-    expect_collected(it.collect(rt.alloc()), &[0, 2, 4, 6, 8])?;
-    let made = collected_with_greater_failures(rt.alloc(), &[Ok(1), Err(5)], 100);
-    expect_source_fault(made, 105)?;
-    let answers = [Ok(0), Err(1), Ok(2), Err(3)];
-    let made = collected_with_greater_failures(rt.alloc(), &answers, 0);
-    expect_source_fault(made, 1)?;
-    let made = collected_even_thirds(rt.alloc(), &[Ok(0), Ok(2), Ok(4), Ok(6)]);
-    expect_collected(made, &[0, 6])?;
-    let made = collected_even_thirds(rt.alloc(), &[Ok(0), Ok(1), Ok(2), Ok(3)]);
-    expect_source_fault(made, 1)?;
-    let answers = [Ok(0), Ok(2), Ok(3), Ok(4), Ok(6)];
-    let made = collected_ten_more_of_even(rt.alloc(), &answers);
-    expect_collected(made, &[10, 12, 14, 16])?;
-    let answers = [Ok(0), Ok(1), Ok(2), Ok(3), Ok(4), Ok(5), Ok(6)];
-    expect_source_fault(collected_ten_more_of_even(rt.alloc(), &answers), 1)
+    let it = numbers(&UP_TO_FOUR).map(|x: u32| Ok(x.wrapping_mul(2)));
+    expect_collects(&rt, it, DOUBLED)?;
+    for (more, given, made) in &WITH_GREATER_FAILURES {
+        let it = numbers(given).map_err(|e: u32| e.wrapping_add(*more));
+        expect_collects(&rt, it, *made)?;
+    }
+    for (given, made) in &EVEN_THIRDS {
+        expect_collects(&rt, numbers(given).filter(even_thirds), *made)?;
+    }
+    for (given, made) in &TEN_MORE_OF_EVEN {
+        expect_collects(&rt, numbers(given).filter_map(ten_more_of_even), *made)?;
+    }
+    Ok(())
 }
 
 // What `collect` makes of the numbers of a range.
@@ -78,16 +89,14 @@ fn collected_range(
     it.collect(alloc)
 }
 
+const ZERO_TO_THREE: [u32; 4] = [0, 1, 2, 3];
+
 #[test]
 fn collect_from_a_std_iterator_goes_on_where_its_room_is_full(rt: HostRuntime) -> Result<(), Fail> {
-    expect_collected(
-        collected_range(rt.alloc(), IntoFallible::from(0..4)),
-        &[0, 1, 2, 3],
-    )?;
-    expect_collected(
-        collected_range(rt.alloc(), (0..4).into_fallible()),
-        &[0, 1, 2, 3],
-    )?;
+    let made = collected_range(rt.alloc(), IntoFallible::from(0..4));
+    expect_collected(made, &ZERO_TO_THREE)?;
+    let made = collected_range(rt.alloc(), (0..4).into_fallible());
+    expect_collected(made, &ZERO_TO_THREE)?;
     // It has no room at first, and asks for more again and again.
     let made = collected_range(rt.alloc(), IntoFallible::from(0..1000));
     let items = made.expect(&rt, "a collection");
@@ -163,29 +172,33 @@ fn collect_into_a_vec_whose_request_may_be_refused(rt: HostRuntime) -> Result<()
     Ok(())
 }
 
+// What a source that fails with 1 gives: `collect` leaves 2 as its next draw.
+const FAILING: [&[Result<u32, u32>]; 2] = [
+    &[Ok(0), Err(1), Ok(2), Err(3)],
+    &[Ok(0), Err(1), Ok(2)],
+];
+
+const ONE_TO_THREE: [Result<u32, u32>; 3] = [Ok(1), Ok(2), Ok(3)];
+
 #[test]
 fn collect_draws_no_more_after_a_failure_or_a_refusal(rt: HostRuntime) -> Result<(), Fail> {
-    let (made, first) = collected(rt.alloc(), &[Ok(0), Err(1), Ok(2), Err(3)]);
-    expect_source_fault(made, 1)?;
-    let (made, second) = collected(rt.alloc(), &[Ok(0), Err(1), Ok(2)]);
-    expect_source_fault(made, 1)?;
-    let answers = [Ok(1), Ok(2), Ok(3)];
-    let mut it = numbers(&answers);
+    for given in &FAILING {
+        let (made, next) = collected(rt.alloc(), given);
+        expect_source_fault(made, 1)?;
+        assert_eq!(rt; next, Ok(Some(2)));
+    }
+    let mut it = numbers(&ONE_TO_THREE);
     expect_refused(it.by_ref().collect::<Hungry>(rt.alloc()))?;
-    assert_eq!(rt;
-        [first, second, it.next()],
-        [Ok(Some(2)), Ok(Some(2)), Ok(Some(2))]
-    );
+    assert_eq!(rt; it.next(), Ok(Some(2)));
     Ok(())
 }
 
 #[test]
 fn collect_takes_no_room_ahead_and_counts_into_a_counter(rt: HostRuntime) -> Result<(), Fail> {
     // A `Vec` grows with its items, by a factor: for five of them it has nowhere near 1,000 places.
-    let (made, _) = collected(rt.alloc(), &[Ok(0), Ok(1), Ok(2), Ok(3), Ok(4)]);
+    let (made, _) = collected(rt.alloc(), &UP_TO_FOUR);
     assert!(rt; made.expect(&rt, "a collection").capacity() < 1_000);
-    let answers = [Ok(1), Ok(2), Ok(3)];
-    let made = numbers(&answers).collect::<Total>(rt.alloc());
+    let made = numbers(&ONE_TO_THREE).collect::<Total>(rt.alloc());
     assert_eq!(rt; made.expect(&rt, "a collection").count, 3);
     // A failure becomes a fault of the source.
     expect_source_fault::<(), u32>(Err(Fault::from(7)), 7)

@@ -42,21 +42,24 @@ impl Collect<u32> for Greedy {
     }
 }
 
+const FAILING_SECOND: [Result<u32, u32>; 3] = [Ok(1), Err(2), Ok(3)];
+
+const ABOVE_FOUR_SECOND: [Result<u32, u32>; 3] = [Ok(1), Ok(5), Ok(3)];
+
+const ONE_AND_TWO: [Result<u32, u32>; 2] = [Ok(1), Ok(2)];
+
 #[test]
 fn count_fold_and_collect_draw_nothing_after_what_decides(rt: HostRuntime) -> Result<(), Fail> {
-    let answers = [Ok(1), Err(2), Ok(3)];
-    let mut it = numbers(&answers);
+    let mut it = numbers(&FAILING_SECOND);
     assert_eq!(rt; (it.by_ref().count(), it.next()), (Err(2), Ok(Some(3))));
     // Its closure fails.
-    let answers = [Ok(1), Ok(5), Ok(3)];
-    let mut it = numbers(&answers);
+    let mut it = numbers(&ABOVE_FOUR_SECOND);
     assert_eq!(rt;
         (it.by_ref().fold(0, low_sum), it.next()),
         (Err(5), Ok(Some(3)))
     );
     // Its collection is refused.
-    let answers = [Ok(1), Ok(2)];
-    let mut it = numbers(&answers);
+    let mut it = numbers(&ONE_AND_TWO);
     expect_refused(it.by_ref().collect::<Greedy>(rt.alloc()))?;
     assert_eq!(rt; it.next(), Ok(Some(1)));
     Ok(())

@@ -4,7 +4,7 @@ ghost use Rattle.std.proofs.Common.{rules};
 ghost use Rattle.fallible_iterator.specs.Contract.{counted_contract};
 
 use fallible_iterator::Answer::{End, Item};
-use fallible_iterator::FallibleIterator;
+use fallible_iterator::{Answer, FallibleIterator};
 use fallible_testing::answered::expect_answers;
 use std::test::Fail;
 
@@ -40,11 +40,13 @@ impl FallibleIterator for Threes {
     ghost lawful = { Prim.search rules };
 }
 
+const NUMBERED_THREES: [Answer<(usize, u32), ()>; 3] = [Item((0, 3)), Item((1, 3)), End];
+
 #[test]
 fn is_counted_and_numbered(rt: HostRuntime) -> Result<(), Fail> {
     assert_eq!(rt; Threes { left: 4 }.count(), Ok(4));
     let mut it = Threes { left: 2 }.enumerate();
-    expect_answers(&rt, &mut it, &[Item((0, 3)), Item((1, 3)), End])?;
+    expect_answers(&rt, &mut it, &NUMBERED_THREES)?;
     // It is counted after it is numbered.
     let it = Threes { left: 4 };
     assert_eq!(rt; it.enumerate().map(|(n, _)| Ok(n)).count(), Ok(4));

@@ -49,12 +49,15 @@ fn up_to_a_power(sum: u32, x: u32) -> Result<u32, u32> {
     }
 }
 
+const POWERS_OF_TWO: [Result<u32, u32>; 4] = [Ok(1), Ok(2), Ok(4), Ok(8)];
+
+const FAILING_SECOND: [Result<u32, u32>; 3] = [Ok(1), Err(7), Ok(2)];
+
 #[test]
 fn folds_go_through_its_own_fold(rt: HostRuntime) {
     let folds = Cell::new(0);
-    let answers = [Ok(1), Ok(2), Ok(4), Ok(8)];
     let mut watched = Watched {
-        it: numbers(&answers),
+        it: numbers(&POWERS_OF_TWO),
         folds: &folds,
     };
     let stopped = watched.try_fold(0, up_to_a_power);
@@ -62,9 +65,8 @@ fn folds_go_through_its_own_fold(rt: HostRuntime) {
     assert_eq!(rt; watched.next(), Ok(Some(4)));
     // It fails as its source.
     folds.set(0);
-    let answers = [Ok(1), Err(7), Ok(2)];
     let watched = Watched {
-        it: numbers(&answers),
+        it: numbers(&FAILING_SECOND),
         folds: &folds,
     };
     let failed = watched.fold(0, |sum, x| Ok(x.wrapping_add(sum)));

@@ -1,15 +1,20 @@
 // Sources.
 use fallible_iterator::Answer::{End, Failure, Item};
 use fallible_iterator::{
-    FallibleIterator, IteratorExt, convert_fused, empty, from_fn, once, once_err, repeat,
+    Answer, FallibleIterator, IteratorExt, convert_fused, empty, from_fn, once, once_err, repeat,
     repeat_err,
 };
 use fallible_testing::answered::expect_answers;
 use fallible_testing::collected::expect_collected;
+use fallible_testing::expected_numbers::expect_numbers;
 use fallible_testing::test_error::TestError;
 use fallible_testing::text::Text;
 use std::cell::Cell;
 use std::test::Fail;
+
+const GOING_ON: [Answer<u32, u32>; 4] = [Item(1), End, Item(2), End];
+
+const ENDING_FOR_GOOD: [Answer<u32, u32>; 5] = [Item(1), Failure(9), Item(3), End, End];
 
 #[test]
 fn from_fn_convert_fused_and_transposed_give_each_answer(rt: HostRuntime) -> Result<(), Fail> {
@@ -23,7 +28,7 @@ fn from_fn_convert_fused_and_transposed_give_each_answer(rt: HostRuntime) -> Res
             _ => Ok(None),
         }
     });
-    expect_answers(&rt, &mut it, &[Item(1), End, Item(2), End])?;
+    expect_numbers(&rt, &mut it, &GOING_ON)?;
     // It only ends after its first end.
     let mut calls = 0u32;
     let source = from_fn(move || {
@@ -35,14 +40,15 @@ fn from_fn_convert_fused_and_transposed_give_each_answer(rt: HostRuntime) -> Res
         }
     });
     let mut it = convert_fused(source.iterator());
-    let expected = [Item(1), Failure(9), Item(3), End, End];
-    expect_answers(&rt, &mut it, &expected)?;
+    expect_numbers(&rt, &mut it, &ENDING_FOR_GOOD)?;
     let answers: [Result<u32, u32>; 2] = [Ok(1), Err(2)];
     let mut it = answers.iter().copied().transpose_into_fallible();
     let drawn = [it.next(), it.next(), it.next()];
     assert_eq!(rt; drawn, [Ok(Some(1)), Err(2), Ok(None)]);
     Ok(())
 }
+
+const NO_DRAW: [Answer<u32, u32>; 0] = [];
 
 #[test]
 fn empty_once_and_once_err_end(rt: HostRuntime) -> Result<(), Fail> {
@@ -51,7 +57,7 @@ fn empty_once_and_once_err_end(rt: HostRuntime) -> Result<(), Fail> {
     let mut it = once::<u32, u32>(5);
     assert_eq!(rt; [it.next(), it.next()], [Ok(Some(5)), Ok(None)]);
     let mut it = once::<u32, u32>(5);
-    expect_answers(&rt, &mut it, &[])?;
+    expect_numbers(&rt, &mut it, &NO_DRAW)?;
     assert_eq!(rt; it.next(), Ok(Some(5)));
     let mut it = once_err::<u32, u32>(4);
     assert_eq!(rt;
@@ -60,6 +66,12 @@ fn empty_once_and_once_err_end(rt: HostRuntime) -> Result<(), Fail> {
     );
     Ok(())
 }
+
+const SECOND_REFUSED: [Answer<&str, TestError>; 3] = [
+    Item("x"),
+    Failure(TestError::Memory),
+    Item("x"),
+];
 
 #[test]
 fn repeat_and_repeat_err_go_on(rt: HostRuntime) -> Result<(), Fail> {
@@ -76,8 +88,7 @@ fn repeat_and_repeat_err_go_on(rt: HostRuntime) -> Result<(), Fail> {
         clones: &clones,
     };
     let mut it = repeat::<Text<'_>, TestError>(value).map(|clone: Text<'_>| Ok(clone.text));
-    let refused = Failure(TestError::Memory);
-    expect_answers(&rt, &mut it, &[Item("x"), refused, Item("x")])?;
+    expect_answers(&rt, &mut it, &SECOND_REFUSED)?;
     let it = repeat::<u32, TestError>(5).take(2);
     expect_collected(it.collect(rt.alloc()), &[5, 5])
 }

@@ -2,8 +2,8 @@
 ghost use Rattle.std.specs.Prelude.{◌≡◌, Ok};
 
 use fallible_iterator::Answer::{End, Failure, Item};
-use fallible_iterator::{FallibleIterator, convert, once};
-use fallible_testing::answered::expect_answers;
+use fallible_iterator::{Answer, FallibleIterator, convert, once};
+use fallible_testing::expected_numbers::expect_numbers;
 use fallible_testing::numbers::numbers;
 use std::test::Fail;
 
@@ -14,16 +14,6 @@ fn checked_sum(sum: u32, x: u32) -> Result<u32, u32> {
     } else {
         Ok(sum.wrapping_add(x))
     }
-}
-
-// How many items the answers have.
-fn counted(answers: &[Result<u32, u32>]) -> Result<usize, u32> {
-    numbers(answers).count()
-}
-
-// What `checked_sum` makes of the answers.
-fn summed(answers: &[Result<u32, u32>]) -> Result<u32, u32> {
-    numbers(answers).fold(0, checked_sum)
 }
 
 // The contract alone says what a fold answers: here the closure's answer on the one item.
@@ -38,43 +28,53 @@ fn folded_once(x: u32) -> Result<u32, u32>
     )
 }
 
+// What a source gives, and how many items it has.
+const COUNTED: [(&[Result<u32, u32>], Result<usize, u32>); 2] = [
+    (&[Ok(0), Ok(1), Ok(2), Ok(3)], Ok(4)),
+    (&[Ok(0), Err(7), Err(8)], Err(7)),
+];
+
+// What a source gives, and what `checked_sum` makes of it.
+const SUMMED: [(&[Result<u32, u32>], Result<u32, u32>); 2] = [
+    (&[Ok(0), Ok(1), Ok(2), Ok(1)], Ok(4)),
+    (&[Ok(0), Ok(1), Ok(3), Ok(2)], Err(3)),
+];
+
 #[test]
 fn count_and_fold_tell_of_the_items_or_fail(rt: HostRuntime) {
-    let four = [Ok(0), Ok(1), Ok(2), Ok(3)];
-    assert_eq!(rt;
-        [counted(&four), counted(&[Ok(0), Err(7), Err(8)])],
-        [Ok(4), Err(7)]
-    );
-    let at_three = [Ok(0), Ok(1), Ok(3), Ok(2)];
-    assert_eq!(rt;
-        [
-            summed(&[Ok(0), Ok(1), Ok(2), Ok(1)]),
-            summed(&at_three),
-            folded_once(5)
-        ],
-        [Ok(4), Err(3), Ok(5)]
-    );
+    for row in &COUNTED {
+        assert_eq!(rt; (row.0, numbers(row.0).count()), *row);
+    }
+    for row in &SUMMED {
+        assert_eq!(rt; (row.0, numbers(row.0).fold(0, checked_sum)), *row);
+    }
+    assert_eq!(rt; folded_once(5), Ok(5));
 }
+
+// The sum, which fails with 7 on 2.
+fn sum_but_two(sum: u32, x: u32) -> Result<u32, u32> {
+    if x == 2 {
+        Err(7)
+    } else {
+        Ok(sum.wrapping_add(x))
+    }
+}
+
+const FAILING_LAST: [Result<u32, u32>; 4] = [Ok(1), Ok(2), Ok(3), Err(9)];
+
+const AFTER_TWO: [Answer<u32, u32>; 2] = [Item(3), Failure(9)];
+
+const FAILING_SECOND: [Result<u32, u32>; 3] = [Ok(1), Err(2), Ok(3)];
+
+const AND_TWO_ENDS: [Answer<u32, u32>; 5] = [Item(1), Failure(2), Item(3), End, End];
 
 #[test]
 fn draws_go_on_after_a_fold_that_stops_and_after_a_failure(rt: HostRuntime) -> Result<(), Fail> {
-    let answers = [Ok(1), Ok(2), Ok(3), Err(9)];
-    let mut it = numbers(&answers);
-    let stopped: Result<u32, u32> = it.try_fold(0, |sum: u32, x: u32| {
-        if x == 2 {
-            Err(7)
-        } else {
-            Ok(sum.wrapping_add(x))
-        }
-    });
-    assert_eq!(rt; stopped, Err(7));
-    expect_answers(&rt, &mut it, &[Item(3), Failure(9)])?;
-    let answers = [Ok(1), Err(2), Ok(3)];
-    let mut it = numbers(&answers);
-    let expected = [Item(1), Failure(2), Item(3), End];
-    expect_answers(&rt, &mut it, &expected)?;
-    assert_eq!(rt; it.next(), Ok(None));
-    Ok(())
+    let mut it = numbers(&FAILING_LAST);
+    assert_eq!(rt; it.try_fold(0, sum_but_two), Err(7));
+    expect_numbers(&rt, &mut it, &AFTER_TWO)?;
+    let mut it = numbers(&FAILING_SECOND);
+    expect_numbers(&rt, &mut it, &AND_TWO_ENDS)
 }
 
 // The number of items, of a source that nothing is known of. It wraps round at 2 ^ 32.
@@ -85,11 +85,6 @@ where
     requires finite { I.contract.is_finite it }
 {
     it.fold(0, |n, _x| Ok(n.wrapping_add(1)))
-}
-
-// How many steps the answers take.
-fn steps_over(answers: &[Result<u32, u32>]) -> Result<u32, u32> {
-    steps_taken(numbers(answers))
 }
 
 // The greatest length of the items, 0 where there are none.
@@ -123,19 +118,22 @@ where
     })
 }
 
+// What a source gives, and how many steps it takes.
+const STEPS_TAKEN: [(&[Result<u32, u32>], Result<u32, u32>); 2] = [
+    (&[Ok(5), Ok(6), Ok(7)], Ok(3)),
+    (&[Ok(5), Err(6), Ok(7)], Err(6)),
+];
+
+const TWO_FIVES: [Result<u32, u32>; 3] = [Ok(5), Ok(6), Ok(5)];
+
 #[test]
 fn fold_in_a_generic_function(rt: HostRuntime) {
-    assert_eq!(rt;
-        [
-            steps_taken(once::<u32, u32>(5)),
-            steps_over(&[Ok(5), Ok(6), Ok(7)]),
-            steps_over(&[Ok(5), Err(6), Ok(7)])
-        ],
-        [Ok(1), Ok(3), Err(6)]
-    );
+    assert_eq!(rt; steps_taken(once::<u32, u32>(5)), Ok(1));
+    for row in &STEPS_TAKEN {
+        assert_eq!(rt; (row.0, steps_taken(numbers(row.0))), *row);
+    }
     // It calls a method of its items' bound.
-    let answers = [Ok(5), Ok(6), Ok(5)];
-    assert_eq!(rt; equal_to(numbers(&answers), &5), Ok(2));
+    assert_eq!(rt; equal_to(numbers(&TWO_FIVES), &5), Ok(2));
 }
 
 // A line is an item.
