@@ -1,52 +1,47 @@
 // Folds from the back go through the source's own.
-ghost use Rattle.fallible_iterator.specs.Contract.{KeptByDraws};
-ghost use Rattle.fallible_iterator.specs.Ends.{from_back};
-
-use crate::calls::Calls;
-use crate::counted::{Counted, Log};
-use crate::shared::{counted, hundred_more, is_even, tens_of_even};
 use fallible_iterator::{DoubleEndedFallibleIterator, FallibleIterator, convert};
-use fallible_testing::closures::{add_up, put_behind};
+use fallible_testing::calls::{
+    Calls, NO_CALL, ONE_FOLD, ONE_FOLD_ONE_RFOLD, ONE_NEXT, ONE_NEXT_BACK_ONE_RFOLD,
+    ONE_NEXT_ONE_NEXT_BACK_ONE_RFOLD, ONE_RFOLD, THREE_RFOLDS, TWO_RFOLDS,
+};
+use fallible_testing::closures::{hundred_more, is_even, tens_of_even};
+use fallible_testing::counted::{Counted, Log};
+use fallible_testing::counted_numbers::counted;
+use fallible_testing::steps::Do::StopWithItem;
+use fallible_testing::steps::{CountStep, Step, expect_count, expect_steps};
+use fallible_testing::steps_back::DoBack::{
+    DigitsBack, Next, NextBack, StopBack, StopBackAt, SumBack,
+};
+use fallible_testing::steps_back::{StepBack, expect_steps_back};
 use fallible_testing::test_error::TestError;
 use std::test::Fail;
 
-// The items from the back as digits, by the iterator's own `try_rfold`, whatever type it has, or the failure.
-fn digits_from_back<I: DoubleEndedFallibleIterator<Item = u32, Error = u32>>(
-    it: &mut I,
-) -> Result<u32, u32>
-where
-    requires can_next { I.ends.can_next it.old }
-    requires finite { I.contract.is_finite it.old }
-    ensures { KeptByDraws (from_back I.contract I.ends) it.old it.new }
-{
-    it.try_rfold(0, put_behind)
-}
+const REV_COUNTED: CountStep<'static> = (Err(3), &[ONE_RFOLD]);
 
-// Fails with its first item.
-fn stop(_: u32, x: u32) -> Result<u32, u32> {
-    Err(x)
-}
+const REV_FROM_BACK: [StepBack<'static>; 1] = [(StopBack, Err(1), &[ONE_FOLD])];
+
+const REV_FROM_FRONT: [Step<'static>; 1] = [(StopWithItem, Err(3), &[ONE_FOLD_ONE_RFOLD])];
 
 #[test]
-fn rev_counts_and_folds_by_one_fold_of_the_other_end(rt: HostRuntime) {
+fn rev_counts_and_folds_by_one_fold_of_the_other_end() -> Result<(), Fail> {
     let log = Log::new();
     let answers = [Ok(0), Err(1), Ok(2), Err(3)];
-    assert_eq!(rt;
-        (counted(&answers, &log).rev().count(), log.calls()),
-        (Err(3), Calls::none().rfolds(1))
-    );
+    expect_count(counted(&answers, &log).rev(), &[&log], &REV_COUNTED)?;
     let log = Log::new();
     let answers = [Ok(1), Ok(2), Ok(3)];
     let mut it = counted(&answers, &log).rev();
-    assert_eq!(rt; it.try_rfold(0, stop), Err(1));
-    assert_eq!(rt;
-        (it.try_fold(0, stop), log.calls()),
-        (Err(3), Calls::none().folds(1).rfolds(1))
-    );
+    expect_steps_back(&mut it, &[&log], &REV_FROM_BACK)?;
+    expect_steps(&mut it, &[&log], &REV_FROM_FRONT)
 }
 
+const MAP: [StepBack<'static>; 3] = [
+    (StopBackAt(2, 32), Err(7), &[ONE_RFOLD]),
+    (NextBack, Ok(Some(23)), &[ONE_NEXT_BACK_ONE_RFOLD]),
+    (Next, Ok(Some(14)), &[ONE_NEXT_ONE_NEXT_BACK_ONE_RFOLD]),
+];
+
 #[test]
-fn map_stopped_from_back_goes_on_at_both_ends(rt: HostRuntime) {
+fn map_stopped_from_back_goes_on_at_both_ends() -> Result<(), Fail> {
     let log = Log::new();
     let answers = [Ok(1), Ok(2), Ok(3), Ok(4)];
     let mut calls: u32 = 0;
@@ -54,45 +49,37 @@ fn map_stopped_from_back_goes_on_at_both_ends(rt: HostRuntime) {
         calls = calls.wrapping_add(1);
         Ok(x.wrapping_mul(10).wrapping_add(calls))
     });
-    let (mut seen, mut on): (u32, u32) = (0, 0);
-    let stopped: Result<u32, u32> = it.try_rfold(0, |_: u32, x: u32| {
-        seen = seen.wrapping_add(1);
-        on = x;
-        if seen == 2 { Err(7) } else { Ok(x) }
-    });
-    assert_eq!(rt; (stopped, on), (Err(7), 32));
-    let drawn = [it.draw_back(), it.draw_front()];
-    assert_eq!(rt;
-        (drawn, log.calls()),
-        (
-            [Ok(Some(23)), Ok(Some(14))],
-            Calls::none().nexts(1).next_backs(1).rfolds(1)
-        )
-    );
+    expect_steps_back(&mut it, &[&log], &MAP)
 }
 
+const FILTER_DRAWN: [StepBack<'static>; 2] = [
+    (NextBack, Ok(Some(4)), &[ONE_RFOLD]),
+    (NextBack, Ok(Some(2)), &[TWO_RFOLDS]),
+];
+
+const FILTER_FOLDED: [StepBack<'static>; 1] = [(DigitsBack, Ok(Some(42)), &[THREE_RFOLDS])];
+
+const FILTER_MAP: [StepBack<'static>; 2] = [
+    (NextBack, Ok(Some(40)), &[ONE_RFOLD]),
+    (SumBack, Ok(Some(20)), &[TWO_RFOLDS]),
+];
+
 #[test]
-fn filter_and_filter_map_draw_and_fold_from_back_by_folds(rt: HostRuntime) {
+fn filter_and_filter_map_draw_and_fold_from_back_by_folds() -> Result<(), Fail> {
     let log = Log::new();
     let answers = [Ok(1), Ok(2), Ok(3), Ok(4)];
     let mut it = counted(&answers, &log).filter(is_even);
-    let drawn = [it.draw_back(), it.draw_back()];
-    assert_eq!(rt;
-        (drawn, log.calls()),
-        ([Ok(Some(4)), Ok(Some(2))], Calls::none().rfolds(2))
-    );
+    expect_steps_back(&mut it, &[&log], &FILTER_DRAWN)?;
     let mut it = counted(&answers, &log).filter(is_even);
-    assert_eq!(rt;
-        (it.try_rfold(0, put_behind), log.calls()),
-        (Ok(42), Calls::none().rfolds(3))
-    );
+    expect_steps_back(&mut it, &[&log], &FILTER_FOLDED)?;
     let log = Log::new();
     let mut it = counted(&answers, &log).filter_map(tens_of_even);
-    assert_eq!(rt;
-        (it.draw_back(), it.try_rfold(0, add_up), log.calls()),
-        (Ok(Some(40)), Ok(20), Calls::none().rfolds(2))
-    );
+    expect_steps_back(&mut it, &[&log], &FILTER_MAP)
 }
+
+const REFERENCE: [StepBack<'static>; 1] = [(DigitsBack, Ok(Some(65)), &[ONE_RFOLD])];
+
+const BOX: [StepBack<'static>; 1] = [(DigitsBack, Err(5), &[TWO_RFOLDS])];
 
 #[test]
 fn references_and_boxes_pass_folds_from_back_on(rt: HostRuntime) -> Result<(), Fail> {
@@ -100,38 +87,25 @@ fn references_and_boxes_pass_folds_from_back_on(rt: HostRuntime) -> Result<(), F
     let answers = [Ok(5), Ok(6)];
     let mut it = counted(&answers, &log);
     let mut borrowed = &mut it;
-    assert_eq!(rt;
-        (digits_from_back(&mut borrowed), log.calls()),
-        (Ok(65), Calls::none().rfolds(1))
-    );
+    expect_steps_back(&mut borrowed, &[&log], &REFERENCE)?;
     let answers = [Err(5), Ok(6)];
     let mut boxed = Box::new(rt.alloc(), counted(&answers, &log))?;
-    assert_eq!(rt;
-        (digits_from_back(&mut boxed), log.calls()),
-        (Err(5), Calls::none().rfolds(2))
-    );
-    Ok(())
+    expect_steps_back(&mut boxed, &[&log], &BOX)
 }
 
+// The calls of the first source, and of the second.
+const CHAIN: [StepBack<'static>; 3] = [
+    (StopBackAt(1, 4), Err(7), &[NO_CALL, ONE_RFOLD]),
+    (NextBack, Ok(Some(3)), &[NO_CALL, ONE_NEXT_BACK_ONE_RFOLD]),
+    (Next, Ok(Some(1)), &[ONE_NEXT, ONE_NEXT_BACK_ONE_RFOLD]),
+];
+
 #[test]
-fn chain_stopped_in_its_second_goes_on_there(rt: HostRuntime) {
+fn chain_stopped_in_its_second_goes_on_there() -> Result<(), Fail> {
     let (firsts, seconds) = (Log::new(), Log::new());
     let (first, second) = ([Ok(1), Ok(2)], [Ok(3), Ok(4)]);
     let mut it = counted(&first, &firsts).chain(counted(&second, &seconds));
-    let mut on = 0;
-    let stopped: Result<u32, u32> = it.try_rfold(0, |_: u32, x: u32| {
-        on = x;
-        Err(7)
-    });
-    assert_eq!(rt; (stopped, on), (Err(7), 4));
-    assert_eq!(rt; [it.next_back(), it.next()], [Ok(Some(3)), Ok(Some(1))]);
-    assert_eq!(rt;
-        [firsts.calls(), seconds.calls()],
-        [
-            Calls::none().nexts(1),
-            Calls::none().next_backs(1).rfolds(1)
-        ]
-    );
+    expect_steps_back(&mut it, &[&firsts, &seconds], &CHAIN)
 }
 
 // Fails with 9 on 1.
@@ -144,21 +118,20 @@ fn stop_at_clone(_: u32, x: u32) -> Result<u32, TestError> {
     Err(TestError::Number(x))
 }
 
+const INSPECT_MAP_ERR: [StepBack<'static>; 1] = [(SumBack, Err(109), &[ONE_RFOLD])];
+
+const CLONED: (Result<u32, TestError>, Calls) = (Err(TestError::Number(2)), ONE_RFOLD);
+
 #[test]
-fn inspect_map_err_and_cloned_fold_from_back_by_one_fold(rt: HostRuntime) {
+fn inspect_map_err_and_cloned_fold_from_back_by_one_fold(rt: HostRuntime) -> Result<(), Fail> {
     let log = Log::new();
     let answers = [Ok(1), Ok(2), Ok(3)];
     let mut it = counted(&answers, &log).inspect(look).map_err(hundred_more);
-    assert_eq!(rt;
-        (it.try_rfold(0, add_up), log.calls()),
-        (Err(109), Calls::none().rfolds(1))
-    );
+    expect_steps_back(&mut it, &[&log], &INSPECT_MAP_ERR)?;
     let log = Log::new();
     let numbers = [1, 2];
     let it = convert(numbers.iter().map(|x| Ok::<&u32, TestError>(x)));
     let mut it = Counted::new(it, &log).cloned();
-    assert_eq!(rt;
-        (it.try_rfold(0, stop_at_clone), log.calls()),
-        (Err(TestError::Number(2)), Calls::none().rfolds(1))
-    );
+    assert_eq!(rt; (it.try_rfold(0, stop_at_clone), log.calls()), CLONED);
+    Ok(())
 }

@@ -1,94 +1,91 @@
 // Folds across several sources go through each one's own.
 ghost use Rattle.std.specs.Prelude.{◌-◌, ◌^◌};
 
-use crate::calls::Calls;
-use crate::counted::{Counted, Log};
-use crate::shared::counted;
-use fallible_iterator::{FallibleIterator, IteratorExt, once};
-use fallible_testing::closures::add_up;
+use fallible_iterator::{FallibleIterator, IteratorExt, Once, once};
+use fallible_testing::calls::{
+    Calls, NO_CALL, ONE_COUNT, ONE_FIND, ONE_FOLD, ONE_LAST, ONE_NEXT, ONE_NEXT_ONE_FOLD, TWO_FOLDS,
+};
+use fallible_testing::counted::{Counted, Log};
+use fallible_testing::counted_numbers::counted;
+use fallible_testing::numbers::numbers;
+use fallible_testing::scripted::{Script, scripted};
+use fallible_testing::steps::Do::{Digits, Find, Next, Sum, SumToThree};
+use fallible_testing::steps::{Answered, LastStep, Step, expect_last, expect_steps};
+use std::alloc::{AllocError, Global};
 use std::convert::Infallible;
+use std::test::Fail;
 
-// The sum so far, with which it fails at 3.
-fn add_up_to_three(sum: u32, x: u32) -> Result<u32, u32> {
-    if x == 3 {
-        Err(sum)
-    } else {
-        Ok(sum.wrapping_add(x))
-    }
-}
+// The calls of the first side, and of the second.
+const CHAIN_STOPPED: [Step<'static>; 2] = [
+    (SumToThree, Err(3), &[ONE_FOLD, ONE_FOLD]),
+    (Next, Ok(Some(4)), &[ONE_FOLD, ONE_NEXT_ONE_FOLD]),
+];
+// After a failure it folds its first on.
+const CHAIN_FAILED: [Step<'static>; 2] = [
+    (Sum, Err(9), &[ONE_FOLD, NO_CALL]),
+    (Sum, Ok(Some(6)), &[TWO_FOLDS, ONE_FOLD]),
+];
 
 #[test]
-fn chain_folds_each_side_once_and_goes_on(rt: HostRuntime) {
+fn chain_folds_each_side_once_and_goes_on() -> Result<(), Fail> {
     let (firsts, seconds) = (Log::new(), Log::new());
     let (first, second) = ([Ok(1), Ok(2)], [Ok(3), Ok(4)]);
     let mut it = counted(&first, &firsts).chain(counted(&second, &seconds));
-    assert_eq!(rt;
-        (it.try_fold(0, add_up_to_three), it.next()),
-        (Err(3), Ok(Some(4)))
-    );
-    assert_eq!(rt;
-        [firsts.calls(), seconds.calls()],
-        [Calls::none().folds(1), Calls::none().nexts(1).folds(1)]
-    );
-    // After a failure it folds its first on.
+    expect_steps(&mut it, &[&firsts, &seconds], &CHAIN_STOPPED)?;
     let (firsts, seconds) = (Log::new(), Log::new());
     let (first, second) = ([Ok(1), Err(9), Ok(2)], [Ok(4)]);
     let mut it = counted(&first, &firsts).chain(counted(&second, &seconds));
-    assert_eq!(rt;
-        (it.try_fold(0, add_up), [firsts.calls(), seconds.calls()]),
-        (Err(9), [Calls::none().folds(1), Calls::none()])
-    );
-    assert_eq!(rt;
-        (it.try_fold(0, add_up), [firsts.calls(), seconds.calls()]),
-        (Ok(6), [Calls::none().folds(2), Calls::none().folds(1)])
-    );
+    expect_steps(&mut it, &[&firsts, &seconds], &CHAIN_FAILED)
 }
 
-// Whether the item is 3.
-fn is_three(x: &u32) -> Result<bool, u32> {
-    Ok(*x == 3)
-}
+const CHAIN_COUNTED: (Result<usize, Infallible>, [Calls; 2]) = (Ok(3), [ONE_COUNT, ONE_COUNT]);
+
+const CHAIN_LAST: LastStep<'static> = (Ok(Some(3)), &[ONE_LAST, ONE_LAST]);
+
+const CHAIN_SEARCHED: [Step<'static>; 1] = [(Find(3), Ok(Some(3)), &[ONE_FIND, ONE_FIND])];
 
 #[test]
-fn chain_counts_searches_and_takes_the_last_of_each_side_once(rt: HostRuntime) {
+fn chain_counts_searches_and_takes_the_last_of_each_side_once(rt: HostRuntime) -> Result<(), Fail> {
     // Two ranges, whose bounds add up to one that fits.
     let (firsts, seconds) = (Log::new(), Log::new());
     let first = Counted::new((1u32..3).into_fallible(), &firsts);
     let second = Counted::new((3u32..4).into_fallible(), &seconds);
     let count = first.chain(second).count();
-    assert_eq!(rt;
-        (count, [firsts.calls(), seconds.calls()]),
-        (Ok(3), [Calls::none().counts(1), Calls::none().counts(1)])
-    );
+    assert_eq!(rt; (count, [firsts.calls(), seconds.calls()]), CHAIN_COUNTED);
     let (firsts, seconds) = (Log::new(), Log::new());
     let (first, second) = ([Ok(1), Ok(2)], [Ok(3)]);
     let it = counted(&first, &firsts).chain(counted(&second, &seconds));
-    let last = it.last();
-    assert_eq!(rt;
-        (last, [firsts.calls(), seconds.calls()]),
-        (
-            Ok(Some(3)),
-            [Calls::none().lasts(1), Calls::none().lasts(1)]
-        )
-    );
+    expect_last(it, &[&firsts, &seconds], &CHAIN_LAST)?;
     let (firsts, seconds) = (Log::new(), Log::new());
     let mut it = counted(&first, &firsts).chain(counted(&second, &seconds));
-    let found = it.find(is_three);
-    assert_eq!(rt;
-        (found, [firsts.calls(), seconds.calls()]),
-        (
-            Ok(Some(3)),
-            [Calls::none().finds(1), Calls::none().finds(1)]
-        )
-    );
+    expect_steps(&mut it, &[&firsts, &seconds], &CHAIN_SEARCHED)
 }
 
-// The sum of the items of two inner iterators, which `log` sees the outer source of drawn.
-fn summed_flat<U: FallibleIterator<Item = u32, Error = u32>>(
+// The logs of a `flatten`: of its outer source, and of its two inner iterators.
+#[derive(Drop)]
+struct Logs {
+    outer: Log,
+    first: Log,
+    second: Log,
+}
+
+impl Logs {
+    fn new() -> Logs {
+        Logs {
+            outer: Log::new(),
+            first: Log::new(),
+            second: Log::new(),
+        }
+    }
+}
+
+// Makes the calls of a `flatten` over two inner iterators.
+fn expect_flat<U: FallibleIterator<Item = u32, Error = u32>>(
     first: U,
     second: U,
-    log: &Log,
-) -> Result<u32, u32>
+    logs: &Logs,
+    steps: &[Step<'_>],
+) -> Result<(), Fail>
 where
     requires first { U.contract.can_next first }
     requires second { U.contract.can_next second }
@@ -96,26 +93,8 @@ where
     requires second_ends { U.contract.bound second (2 ^ 64 - 1) }
 {
     let outer = once::<U, u32>(first).chain(once::<U, u32>(second));
-    Counted::new(outer, log).flatten().try_fold(0, add_up)
-}
-
-// The first item, and the sum of the others, of which the inner iterator in hand has some.
-fn first_and_sum_of_others<U: FallibleIterator<Item = u32, Error = u32>>(
-    first: U,
-    second: U,
-    log: &Log,
-) -> (Result<Option<u32>, u32>, Result<u32, u32>)
-where
-    requires first { U.contract.can_next first }
-    requires second { U.contract.can_next second }
-    requires first_ends { U.contract.bound first (2 ^ 64 - 1) }
-    requires second_ends { U.contract.bound second (2 ^ 64 - 1) }
-{
-    let outer = once::<U, u32>(first).chain(once::<U, u32>(second));
-    let mut it = Counted::new(outer, log).flatten();
-    let head = it.draw();
-    let others = it.try_fold(0, add_up);
-    (head, others)
+    let mut it = Counted::new(outer, &logs.outer).flatten();
+    expect_steps(&mut it, &[&logs.outer, &logs.first, &logs.second], steps)
 }
 
 // The items as digits of a `flat_map` whose closure makes two inner iterators.
@@ -128,36 +107,80 @@ fn digits_mapped_flat(outer: &Log, inners: &Log) -> Result<u32, Infallible> {
         )
 }
 
+// The calls of the outer source, and of the inner ones together.
+const FLAT_MAP: (Option<u32>, [Calls; 2]) = (Some(3434), [ONE_FOLD, TWO_FOLDS]);
+// The calls of the outer source, of the first inner iterator and of the second.
+const FLATTEN: [Step<'static>; 1] = [(Sum, Ok(Some(6)), &[ONE_FOLD, ONE_FOLD, ONE_FOLD])];
+// The inner iterator in hand is folded first.
+const FLATTEN_IN_HAND: [Step<'static>; 2] = [
+    (Next, Ok(Some(1)), &[ONE_NEXT, ONE_NEXT, NO_CALL]),
+    (
+        Sum,
+        Ok(Some(5)),
+        &[ONE_NEXT_ONE_FOLD, ONE_NEXT_ONE_FOLD, ONE_FOLD],
+    ),
+];
+
 #[test]
-fn flatten_and_flat_map_fold_each_source_once(rt: HostRuntime) {
+fn flatten_and_flat_map_fold_each_source_once(rt: HostRuntime) -> Result<(), Fail> {
     let (outer, inners) = (Log::new(), Log::new());
     let digits = digits_mapped_flat(&outer, &inners).ok();
-    assert_eq!(rt;
-        (digits, [outer.calls(), inners.calls()]),
-        (Some(3434), [Calls::none().folds(1), Calls::none().folds(2)])
-    );
-    let (outer, firsts, seconds) = (Log::new(), Log::new(), Log::new());
+    assert_eq!(rt; (digits, [outer.calls(), inners.calls()]), FLAT_MAP);
     let (first, second) = ([Ok(1), Ok(2)], [Ok(3)]);
-    let sum = summed_flat(counted(&first, &firsts), counted(&second, &seconds), &outer);
-    let one_fold = || Calls::none().folds(1);
-    assert_eq!(rt;
-        (sum, [outer.calls(), firsts.calls(), seconds.calls()]),
-        (Ok(6), [one_fold(), one_fold(), one_fold()])
-    );
-    // The inner iterator in hand is folded first.
-    let (outer, firsts, seconds) = (Log::new(), Log::new(), Log::new());
-    let both = first_and_sum_of_others(
-        counted(&first, &firsts),
-        counted(&second, &seconds),
-        &outer,
-    );
-    assert_eq!(rt; both, (Ok(Some(1)), Ok(5)));
-    assert_eq!(rt;
-        [outer.calls(), firsts.calls(), seconds.calls()],
-        [
-            Calls::none().nexts(1).folds(1),
-            Calls::none().nexts(1).folds(1),
-            Calls::none().folds(1)
-        ]
-    );
+    let logs = Logs::new();
+    let (left, right) = (counted(&first, &logs.first), counted(&second, &logs.second));
+    expect_flat(left, right, &logs, &FLATTEN)?;
+    let logs = Logs::new();
+    let (left, right) = (counted(&first, &logs.first), counted(&second, &logs.second));
+    expect_flat(left, right, &logs, &FLATTEN_IN_HAND)
+}
+
+const ENDED_IN_HAND: [Answered; 2] = [Ok(Some(1)), Ok(None)];
+// An end that it holds ends a fold, and the next fold goes on behind it.
+const ENDED_FOLDED: [Step<'static>; 2] = [(Digits, Ok(Some(0)), &[]), (Digits, Ok(Some(3)), &[])];
+
+const ENDED_DRAWN: [Step<'static>; 4] = [
+    (Next, Ok(Some(1)), &[]),
+    (Next, Ok(None), &[]),
+    (Next, Ok(Some(3)), &[]),
+    (Next, Ok(None), &[]),
+];
+
+#[test]
+fn chain_under_peekable_ends_at_a_held_end(rt: HostRuntime) -> Result<(), Fail> {
+    let first = [Ok(1)];
+    let second = scripted::<u32, u32, 2>(rt.alloc(), [Ok(None), Ok(Some(3))])?;
+    let mut it = numbers(&first).chain(second).peekable();
+    assert_eq!(rt; [it.draw(), it.peek_copied()], ENDED_IN_HAND);
+    expect_steps(&mut it, &[], &ENDED_FOLDED)?;
+    let second = scripted::<u32, u32, 2>(rt.alloc(), [Ok(None), Ok(Some(3))])?;
+    expect_steps(
+        &mut numbers(&first).chain(second).peekable(),
+        &[],
+        &ENDED_DRAWN,
+    )
+}
+
+// An iterator of 1, an end, and an iterator of 2.
+fn inners_over_an_end(alloc: Global) -> Result<Script<Once<u32, u32>, u32>, AllocError> {
+    scripted(alloc, [Ok(Some(once(1))), Ok(None), Ok(Some(once(2)))])
+}
+
+// Makes the calls of a `flatten` over a `fuse`, whose inner iterators have one item each.
+fn expect_flat_fused(it: Script<Once<u32, u32>, u32>, steps: &[Step<'_>]) -> Result<(), Fail> {
+    expect_steps(&mut it.fuse().flatten(), &[], steps)
+}
+
+const FUSE_FOLDED: [Step<'static>; 2] = [(Digits, Ok(Some(1)), &[]), (Digits, Ok(Some(0)), &[])];
+
+const FUSE_DRAWN: [Step<'static>; 3] = [
+    (Next, Ok(Some(1)), &[]),
+    (Next, Ok(None), &[]),
+    (Next, Ok(None), &[]),
+];
+
+#[test]
+fn flatten_over_fuse_folds_up_to_its_end(rt: HostRuntime) -> Result<(), Fail> {
+    expect_flat_fused(inners_over_an_end(rt.alloc())?, &FUSE_FOLDED)?;
+    expect_flat_fused(inners_over_an_end(rt.alloc())?, &FUSE_DRAWN)
 }

@@ -1,19 +1,11 @@
-//! Scripts: an iterator that counts the calls which it gets, and what adapters call of it.
+//! Scripts: which calls adapters make of their source, by an iterator that counts the calls which it gets.
 #![tactic(auto)]
 
 #[cfg(test)]
 mod back;
 #[cfg(test)]
-mod calls;
-#[cfg(test)]
-mod counted;
-#[cfg(test)]
 mod front;
-#[cfg(test)]
-mod itertools;
 #[cfg(test)]
 mod joining;
 #[cfg(test)]
-mod nests;
-#[cfg(test)]
-mod shared;
+mod numbering;

@@ -1,10 +1,13 @@
-//! What the tests share: sources over listed and scripted answers, closures, what draws are expected to answer, and values and sources whose requests for memory are refused.
+//! What the tests share: sources over listed and scripted answers, closures, what draws are expected to answer, iterators that count the calls which they get, and values and sources whose requests for memory are refused.
 #![tactic(auto)]
 
 pub mod answered;
 pub mod asking;
+pub mod calls;
 pub mod closures;
 pub mod collected;
+pub mod counted;
+pub mod counted_numbers;
 pub mod counting;
 pub mod course;
 pub mod expected_numbers;
@@ -14,5 +17,7 @@ pub mod refused_clones;
 pub mod requests;
 pub mod rows;
 pub mod scripted;
+pub mod steps;
+pub mod steps_back;
 pub mod test_error;
 pub mod text;

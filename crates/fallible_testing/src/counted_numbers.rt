@@ -1,9 +1,9 @@
-//! A source whose calls are counted, and what the tests hand to its adapters.
+//! A source of numbers whose calls are counted.
 ghost use Rattle.std.specs.Prelude.{◌^◌, ◌-◌};
 
 use crate::counted::{Counted, Log};
+use crate::numbers::numbers;
 use fallible_iterator::{Convert, DoubleEndedFallibleIterator, FallibleIterator};
-use fallible_testing::numbers::numbers;
 use std::iter::Copied;
 use std::slice::Iter;
 
@@ -20,38 +20,4 @@ pub fn counted<'a>(answers: &'a [Result<u32, u32>], log: &'a Log) -> Numbers<'a>
         result (2 ^ 64 - 1) }
 {
     Counted::new(numbers(answers), log)
-}
-
-/// Fails with 3 on any item.
-pub fn stop(_: u32, _: u32) -> Result<u32, u32> {
-    Err(3)
-}
-
-/// Ten times the item.
-pub fn ten_times(x: u32) -> Result<u32, u32> {
-    Ok(x.wrapping_mul(10))
-}
-
-/// Whether the item is even.
-pub fn is_even(x: &u32) -> Result<bool, u32> {
-    Ok(*x % 2 == 0)
-}
-
-/// Whether the item is below 3.
-pub fn below_three(x: &u32) -> Result<bool, u32> {
-    Ok(*x < 3)
-}
-
-/// Ten times an even item, and nothing of an odd one.
-pub fn tens_of_even(x: u32) -> Result<Option<u32>, u32> {
-    if x % 2 == 0 {
-        Ok(Some(x.wrapping_mul(10)))
-    } else {
-        Ok(None)
-    }
-}
-
-/// The failure and 100 more.
-pub fn hundred_more(e: u32) -> u32 {
-    e.wrapping_add(100)
 }

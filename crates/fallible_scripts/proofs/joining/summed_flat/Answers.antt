@@ -1,6 +1,0 @@
--- The number of each inner iterator serves for both that may come.
-use Rattle.std.proofs.Common.{rules, ◌^◌, ◌-◌}
-use Rattle.fallible_scripts.proofs.joining.summed_flat.Goals as goal
-
-pub try_fold-requires-clause-finite : goal.try_fold-requires-clause-finite
-try_fold-requires-clause-finite g c = (search rules, search rules, (2 ^ 64 - 1, record { at = λ x inner came becomes. (2 ^ 64 - 1, search rules, search rules) }))
