@@ -22,26 +22,35 @@ fn with_test_error(answer: Result<u32, u32>) -> Result<u32, TestError> {
     }
 }
 
-// Expects this course of a cycle of these answers.
-fn expect_cycled(
-    rt: &HostRuntime,
-    answers: &[Result<u32, u32>],
-    course: &[(Hint, &[Answer<u32, TestError>])],
-) -> Result<(), Fail> {
-    let mut it = convert(answers.iter().copied().map(with_test_error)).cycle()?;
-    expect_course(rt, &mut it, course)
-}
+// Answers, and the course of a cycle of them.
+type Row = (
+    &'static [Result<u32, u32>],
+    &'static [(Hint, &'static [Answer<u32, TestError>])],
+);
+
+const CYCLED: [Row; 2] = [
+    (&[], &[((0, None), &[End, End])]),
+    (
+        &[Ok(1), Err(2)],
+        &[(
+            (usize::MAX, None),
+            &[
+                Item(1),
+                Failure(TestError::Number(2)),
+                Item(1),
+                Failure(TestError::Number(2)),
+            ],
+        )],
+    ),
+];
 
 #[test]
 fn cycle_of_nothing_ends_and_another_passes_failures(rt: HostRuntime) -> Result<(), Fail> {
-    expect_cycled(&rt, &[], &[((0, None), &[End, End])])?;
-    let passed = [
-        Item(1),
-        Failure(TestError::Number(2)),
-        Item(1),
-        Failure(TestError::Number(2)),
-    ];
-    expect_cycled(&rt, &[Ok(1), Err(2)], &[((usize::MAX, None), &passed)])
+    for (answers, course) in &CYCLED {
+        let mut it = convert(answers.iter().copied().map(with_test_error)).cycle()?;
+        expect_course(&rt, &mut it, course)?;
+    }
+    Ok(())
 }
 
 // What a cycle of these numbers hints at. Fails the test where it begins with other items than those expected.
@@ -52,14 +61,17 @@ fn expect_cycle(rt: &HostRuntime, numbers: &[u32], expected: &[u32]) -> Result<H
     Ok(hint)
 }
 
+// Numbers, and what a cycle of them begins with.
+const BEGINNINGS: [(&[u32], &[u32]); 2] = [
+    (&[1], &[1, 1, 1]),
+    (&[0, 1, 2, 3], &[0, 1, 2, 3, 0, 1]),
+];
+
 #[test]
 fn cycle_of_one_and_of_four_items(rt: HostRuntime) -> Result<(), Fail> {
-    let endless = (usize::MAX, None);
-    assert_eq!(rt; expect_cycle(&rt, &[1], &[1, 1, 1])?, endless);
-    assert_eq!(rt;
-        expect_cycle(&rt, &[0, 1, 2, 3], &[0, 1, 2, 3, 0, 1])?,
-        endless
-    );
+    for (numbers, expected) in &BEGINNINGS {
+        assert_eq!(rt; expect_cycle(&rt, numbers, expected)?, (usize::MAX, None));
+    }
     Ok(())
 }
 
@@ -142,12 +154,22 @@ fn is_cycled(
     }
 }
 
+// How many clones were made, whether the pair is cycled, and what the cycle then answers.
+const REFUSED: [(u32, bool, &[Answer<u32, TestError>]); 2] = [
+    (
+        0,
+        true,
+        &[Item(1), Item(2), Failure(TestError::Memory), Item(1)],
+    ),
+    (1, false, &[]),
+];
+
 #[test]
 fn cycle_is_refused_where_its_clone_is_and_goes_on_after_another(
     rt: HostRuntime,
 ) -> Result<(), Fail> {
-    let answers = [Item(1), Item(2), Failure(TestError::Memory), Item(1)];
-    assert!(rt; is_cycled(&rt, 0, &answers)?);
-    assert!(rt; !is_cycled(&rt, 1, &[])?);
+    for (clones, expected, answers) in &REFUSED {
+        assert_eq!(rt; is_cycled(&rt, *clones, answers)?, *expected);
+    }
     Ok(())
 }

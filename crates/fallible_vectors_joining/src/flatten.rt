@@ -52,7 +52,7 @@ fn flatten_and_flat_map_of_three_ranges(rt: HostRuntime) -> Result<(), Fail> {
 }
 
 // The first answer of joined inner iterators, the outcome of a fold that was stopped at the next item, and the item that its closure saw.
-#[derive(Drop)]
+#[derive(Debug, PartialEq, Eq, Drop)]
 struct Stopped {
     first: Drawn,
     outcome: Result<u32, u32>,
@@ -157,32 +157,31 @@ fn drawn_and_left(alloc: Global, inner: &[Drawn]) -> Result<[([Drawn; 2], Drawn)
     ])
 }
 
+const ONE_END_TWO: [Drawn; 3] = [Ok(Some(1)), END, Ok(Some(2))];
+
+// What the inner iterator gives, what two draws answer, and what it gives next.
+const DRAWN: [(&[Drawn], ([Drawn; 2], Drawn)); 2] = [
+    (&ONE_END_TWO, ([Ok(Some(1)), END], Ok(Some(2)))),
+    (&[END, Ok(Some(2))], ([END, END], Ok(Some(2)))),
+];
+
 #[test]
-fn flatten_and_flat_map_draw_nothing_after_an_inner_end(rt: HostRuntime) {
-    let one_end_two = [Ok(Some(1)), END, Ok(Some(2))];
-    assert_eq!(rt;
-        drawn_and_left(rt.alloc(), &one_end_two),
-        Ok([([Ok(Some(1)), END], Ok(Some(2))); 2])
-    );
-    let end_two = [END, Ok(Some(2))];
-    assert_eq!(rt;
-        drawn_and_left(rt.alloc(), &end_two),
-        Ok([([END, END], Ok(Some(2))); 2])
-    );
+fn flatten_and_flat_map_draw_nothing_after_an_inner_end(rt: HostRuntime) -> Result<(), Fail> {
+    for (inner, expected) in &DRAWN {
+        assert_eq!(rt; drawn_and_left(rt.alloc(), inner)?, [*expected; 2]);
+    }
+    Ok(())
 }
 
 #[test]
 fn folds_of_flatten_and_flat_map_draw_nothing_after_an_inner_end(
     rt: HostRuntime,
 ) -> Result<(), Fail> {
-    let one_end_two = [Ok(Some(1)), END, Ok(Some(2))];
-    let mut flat = given(rt.alloc(), &one_end_two)?;
-    assert_eq!(rt; (sums_flat(&mut flat), flat.next()), (Ok(1), Ok(Some(2))));
-    let mut mapped = given(rt.alloc(), &one_end_two)?;
-    assert_eq!(rt;
-        (sums_flat_mapped(&mut mapped), mapped.next()),
-        (Ok(1), Ok(Some(2)))
-    );
+    let mut flat = given(rt.alloc(), &ONE_END_TWO)?;
+    let mut mapped = given(rt.alloc(), &ONE_END_TWO)?;
+    let sums = [sums_flat(&mut flat), sums_flat_mapped(&mut mapped)];
+    let left = [flat.next(), mapped.next()];
+    assert_eq!(rt; (sums, left), ([Ok(1); 2], [Ok(Some(2)); 2]));
     Ok(())
 }
 
@@ -193,22 +192,40 @@ fn stopped_and_left(alloc: Global, inner: &[Drawn]) -> Result<(Stopped, [Drawn; 
     Ok((stopped, [inner.next(), inner.next()]))
 }
 
+// What the inner iterator gives, what a draw and a fold that is stopped come to, and what it gives next. In the second the end is met by the inner iterator in hand.
+const STOPPED: [(&[Drawn], Stopped, [Drawn; 2]); 2] = [
+    (
+        &[Ok(Some(1)), Ok(Some(2)), END, Ok(Some(3))],
+        Stopped {
+            first: Ok(Some(1)),
+            outcome: Err(7),
+            item: Some(2),
+        },
+        [END, Ok(Some(3))],
+    ),
+    (
+        &ONE_END_TWO,
+        Stopped {
+            first: Ok(Some(1)),
+            outcome: Ok(0),
+            item: None,
+        },
+        [Ok(Some(2)), END],
+    ),
+];
+
 #[test]
 fn a_fold_of_flatten_draws_no_inner_end_ahead_and_nothing_after_it(
     rt: HostRuntime,
 ) -> Result<(), Fail> {
-    let inner = [Ok(Some(1)), Ok(Some(2)), END, Ok(Some(3))];
-    let (stopped, left) = stopped_and_left(rt.alloc(), &inner)?;
-    assert_eq!(rt; stopped.first, Ok(Some(1)));
-    assert_eq!(rt; stopped.outcome, Err(7));
-    assert_eq!(rt; stopped.item, Some(2));
-    assert_eq!(rt; left, [END, Ok(Some(3))]);
-    // The end is met by the inner iterator in hand.
-    let inner = [Ok(Some(1)), END, Ok(Some(2))];
-    let (ended, left) = stopped_and_left(rt.alloc(), &inner)?;
-    assert_eq!(rt; ended.first, Ok(Some(1)));
-    assert_eq!(rt; ended.outcome, Ok(0));
-    assert_eq!(rt; left, [Ok(Some(2)), END]);
+    for (inner, expected, left) in &STOPPED {
+        let (stopped, rest) = stopped_and_left(rt.alloc(), inner)?;
+        if stopped != *expected || rest != *left {
+            return Err(Fail::new(format_args!(
+                "{stopped:?} and then {rest:?}, and not {expected:?} and {left:?}"
+            )));
+        }
+    }
     Ok(())
 }
 

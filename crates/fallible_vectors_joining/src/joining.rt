@@ -29,18 +29,19 @@ fn chain_hint(first: usize, second: usize) -> Hint {
         .size_hint()
 }
 
+// The lengths of two ranges, and what their chain hints at.
+const CHAIN_HINTS: [(usize, usize, Hint); 4] = [
+    (usize::MAX, 0, (usize::MAX, Some(usize::MAX))),
+    (usize::MAX - 1, 1, (usize::MAX, Some(usize::MAX))),
+    (usize::MAX - 2, 1, (usize::MAX - 1, Some(usize::MAX - 1))),
+    (usize::MAX, 1, (usize::MAX, None)),
+];
+
 #[test]
 fn chain_hints_at_no_more_than_fits(rt: HostRuntime) {
-    assert_eq!(rt; chain_hint(usize::MAX, 0), (usize::MAX, Some(usize::MAX)));
-    assert_eq!(rt;
-        chain_hint(usize::MAX - 1, 1),
-        (usize::MAX, Some(usize::MAX))
-    );
-    assert_eq!(rt;
-        chain_hint(usize::MAX - 2, 1),
-        (usize::MAX - 1, Some(usize::MAX - 1))
-    );
-    assert_eq!(rt; chain_hint(usize::MAX, 1), (usize::MAX, None));
+    for (first, second, hint) in &CHAIN_HINTS {
+        assert_eq!(rt; chain_hint(*first, *second), *hint, "{first} and {second}");
+    }
     let first = repeat::<u32, TestError>(5);
     assert_eq!(rt; first.chain(once(1)).size_hint(), (usize::MAX, None));
     // An endless side is counted up to a failure.
@@ -48,21 +49,12 @@ fn chain_hints_at_no_more_than_fits(rt: HostRuntime) {
     assert_eq!(rt; it.count(), Err(TestError::Number(2)));
 }
 
-// Expects this course of the front's answers, chained with one item.
-fn expect_chained(
-    rt: &HostRuntime,
-    front: &[Result<u32, u32>],
-    item: u32,
-    course: &[(Hint, &[Answer<u32, u32>])],
-) -> Result<(), Fail> {
-    expect_hinted_numbers(rt, &mut numbers(front).chain(once(item)), course)
-}
+// A course of hints and answers.
+type Course = &'static [(Hint, &'static [Answer<u32, u32>])];
 
-#[test]
-fn chain_hints_at_the_sides_that_are_still_drawn(rt: HostRuntime) -> Result<(), Fail> {
-    // It goes on after a failure of the first.
-    expect_chained(
-        &rt,
+// What the front answers, the one item behind it, and the course of their chain. It draws the front on after a failure.
+const CHAINED: [(&[Result<u32, u32>], u32, Course); 3] = [
+    (
         &[Ok(1), Err(9)],
         2,
         &[
@@ -70,10 +62,8 @@ fn chain_hints_at_the_sides_that_are_still_drawn(rt: HostRuntime) -> Result<(), 
             ((2, Some(2)), &[Failure(9), Item(2)]),
             ((0, Some(0)), &[End]),
         ],
-    )?;
-    // It draws the first on after a failure.
-    expect_chained(
-        &rt,
+    ),
+    (
         &[Ok(1), Err(9), Ok(3)],
         2,
         &[
@@ -81,9 +71,8 @@ fn chain_hints_at_the_sides_that_are_still_drawn(rt: HostRuntime) -> Result<(), 
             ((3, Some(3)), &[Failure(9), Item(3)]),
             ((1, Some(1)), &[Item(2)]),
         ],
-    )?;
-    expect_chained(
-        &rt,
+    ),
+    (
         &[Ok(1), Ok(2)],
         3,
         &[
@@ -91,78 +80,81 @@ fn chain_hints_at_the_sides_that_are_still_drawn(rt: HostRuntime) -> Result<(), 
             ((2, Some(2)), &[Item(2), Item(3)]),
             ((0, Some(0)), &[End]),
         ],
-    )
-}
-
-// What the first gives next after this course of it, chained with the second.
-fn next_of_the_first(
-    rt: &HostRuntime,
-    first: &[Drawn],
-    second: &[Result<u32, u32>],
-    course: &[(Hint, &[Answer<u32, u32>])],
-) -> Result<Drawn, Fail> {
-    let mut first = Script {
-        answers: first.to_vec(rt.alloc())?.into_iter(),
-    };
-    let mut it = (&mut first).chain(numbers(second));
-    expect_hinted_numbers(rt, &mut it, course)?;
-    Ok(first.next())
-}
+    ),
+];
 
 #[test]
-fn chain_draws_the_first_up_to_its_end(rt: HostRuntime) -> Result<(), Fail> {
-    // The second is drawn at that end.
-    let left = next_of_the_first(
-        &rt,
-        &[Ok(None)],
-        &[Ok(2)],
-        &[((1, None), &[Item(2)]), ((0, Some(0)), &[])],
-    )?;
-    assert_eq!(rt; left, Ok(None));
-    let first = [Ok(Some(1)), Ok(None), Ok(Some(7))];
-    let left = next_of_the_first(&rt, &first, &[], &[((0, None), &[Item(1), End, End])])?;
-    assert_eq!(rt; left, Ok(Some(7)));
+fn chain_hints_at_the_sides_that_are_still_drawn(rt: HostRuntime) -> Result<(), Fail> {
+    for (front, item, course) in &CHAINED {
+        expect_hinted_numbers(&rt, &mut numbers(front).chain(once(*item)), course)?;
+    }
     Ok(())
 }
 
-// What the right gives next after this course of a zip.
-fn next_of_the_right(
-    rt: &HostRuntime,
-    left: &[Result<u32, u32>],
-    right: &[Result<u32, u32>],
-    course: &[(Hint, &[Answer<(u32, u32), u32>])],
-) -> Result<Drawn, Fail> {
-    let mut right = numbers(right);
-    let mut it = numbers(left).zip(&mut right);
-    expect_course(rt, &mut it, course)?;
-    Ok(right.next())
-}
+// What the first and the second give, the course of their chain, and what the first gives next. The second is drawn at the first's end.
+const UP_TO_THE_END: [(&[Drawn], &[Result<u32, u32>], Course, Drawn); 2] = [
+    (
+        &[Ok(None)],
+        &[Ok(2)],
+        &[((1, None), &[Item(2)]), ((0, Some(0)), &[])],
+        Ok(None),
+    ),
+    (
+        &[Ok(Some(1)), Ok(None), Ok(Some(7))],
+        &[],
+        &[((0, None), &[Item(1), End, End])],
+        Ok(Some(7)),
+    ),
+];
 
 #[test]
-fn zip_draws_the_right_beside_all_but_a_failure_of_the_left(rt: HostRuntime) -> Result<(), Fail> {
-    let right = [Ok(10), Ok(20), Ok(30)];
-    let left = next_of_the_right(
-        &rt,
+fn chain_draws_the_first_up_to_its_end(rt: HostRuntime) -> Result<(), Fail> {
+    for (first, second, course, next) in &UP_TO_THE_END {
+        let mut script = Script {
+            answers: first.to_vec(rt.alloc())?.into_iter(),
+        };
+        let mut it = (&mut script).chain(numbers(second));
+        expect_hinted_numbers(&rt, &mut it, course)?;
+        assert_eq!(rt; script.next(), *next);
+    }
+    Ok(())
+}
+
+// A course of hints and pairs.
+type PairCourse = &'static [(Hint, &'static [Answer<(u32, u32), u32>])];
+
+const TENS: [Result<u32, u32>; 3] = [Ok(10), Ok(20), Ok(30)];
+
+// What the left and the right give, the course of their zip, and what the right gives next. It hints at the shorter side.
+const ZIPPED: [(&[Result<u32, u32>], &[Result<u32, u32>], PairCourse, Drawn); 3] = [
+    (
         &[Ok(1)],
-        &right,
+        &TENS,
         &[((1, Some(1)), &[Item((1, 10)), End])],
-    )?;
-    assert_eq!(rt; left, Ok(Some(30)));
-    let left = next_of_the_right(
-        &rt,
+        Ok(Some(30)),
+    ),
+    (
         &[Err(5), Ok(1)],
         &[Ok(10)],
         &[((1, Some(1)), &[Failure(5), Item((1, 10))])],
-    )?;
-    assert_eq!(rt; left, Ok(None));
-    // It hints at the shorter side.
-    let left = next_of_the_right(
-        &rt,
+        Ok(None),
+    ),
+    (
         &[Ok(1), Ok(2)],
-        &right,
+        &TENS,
         &[((2, Some(2)), &[Item((1, 10)), Item((2, 20))])],
-    )?;
-    assert_eq!(rt; left, Ok(Some(30)));
+        Ok(Some(30)),
+    ),
+];
+
+#[test]
+fn zip_draws_the_right_beside_all_but_a_failure_of_the_left(rt: HostRuntime) -> Result<(), Fail> {
+    for (left, right, course, next) in &ZIPPED {
+        let mut rest = numbers(right);
+        let mut it = numbers(left).zip(&mut rest);
+        expect_course(&rt, &mut it, course)?;
+        assert_eq!(rt; rest.next(), *next);
+    }
     Ok(())
 }
 
@@ -173,19 +165,19 @@ fn beside_an_endless_side(left: &[u32]) -> (Hint, Result<usize, TestError>) {
     (it.size_hint(), it.count())
 }
 
+// Numbers, what their zip with an endless side hints at, and its count.
+const BESIDE: [(&[u32], Hint, usize); 2] = [(&[1, 2], (2, Some(2)), 2), (&[1], (1, Some(1)), 1)];
+
 #[test]
 fn zip_with_an_endless_side_hints_at_the_other(rt: HostRuntime) {
-    assert_eq!(rt; beside_an_endless_side(&[1, 2]), ((2, Some(2)), Ok(2)));
-    assert_eq!(rt; beside_an_endless_side(&[1]), ((1, Some(1)), Ok(1)));
-    let left = repeat::<u32, TestError>(5);
+    for (left, hint, count) in &BESIDE {
+        assert_eq!(rt; beside_an_endless_side(left), (*hint, Ok(*count)));
+    }
+    let one = repeat::<u32, TestError>(5).zip(once::<u32, TestError>(1));
+    let endless = repeat::<u32, TestError>(5).zip(repeat::<u32, TestError>(6));
     assert_eq!(rt;
-        left.zip(once::<u32, TestError>(1)).size_hint(),
-        (1, Some(1))
-    );
-    let left = repeat::<u32, TestError>(5);
-    assert_eq!(rt;
-        left.zip(repeat::<u32, TestError>(6)).size_hint(),
-        (usize::MAX, None)
+        [one.size_hint(), endless.size_hint()],
+        [(1, Some(1)), (usize::MAX, None)]
     );
 }
 
@@ -193,8 +185,7 @@ fn zip_with_an_endless_side_hints_at_the_other(rt: HostRuntime) {
 fn zip_draws_the_right_at_an_end_of_the_left(rt: HostRuntime) -> Result<(), Fail> {
     let script = [Ok(Some(1)), Ok(None), Ok(Some(2))];
     let left = scripted::<u32, u32, 3>(rt.alloc(), script)?;
-    let right = [Ok(10), Ok(20), Ok(30)];
-    let mut it = left.zip(numbers(&right));
+    let mut it = left.zip(numbers(&TENS));
     expect_answers(&rt, &mut it, &[Item((1, 10)), End, Item((2, 30))])
 }
 
@@ -206,8 +197,7 @@ fn both(pair: (u32, u32)) -> Result<u32, u32> {
 #[test]
 fn a_nest_of_joins_is_drained(rt: HostRuntime) -> Result<(), Fail> {
     let left = [Ok(1), Ok(2)];
-    let right = [Ok(10), Ok(20), Ok(30)];
     let it = numbers(&left).chain(once(3)).chain(once(4));
-    let sums = it.zip(numbers(&right)).map(both);
+    let sums = it.zip(numbers(&TENS)).map(both);
     expect_collected(sums.collect(rt.alloc()), &[11, 22, 33])
 }

@@ -77,10 +77,19 @@ fn expect_looks(rt: &HostRuntime, script: &[Drawn], expected: &[Look]) -> Result
     Ok(())
 }
 
-#[test]
-fn peek_holds_an_item_and_no_failure(rt: HostRuntime) -> Result<(), Fail> {
-    expect_looks(
-        &rt,
+// A script, and the calls of what looks ahead in it.
+type Row = (&'static [Drawn], &'static [Look]);
+
+// The same of each row.
+fn expect_each(rt: &HostRuntime, rows: &[Row]) -> Result<(), Fail> {
+    for (script, looks) in rows {
+        expect_looks(rt, script, looks)?;
+    }
+    Ok(())
+}
+
+const PEEKS: [Row; 3] = [
+    (
         &[Err(4), Ok(Some(5))],
         &[
             Peeks(Failure(4)),
@@ -91,9 +100,8 @@ fn peek_holds_an_item_and_no_failure(rt: HostRuntime) -> Result<(), Fail> {
             Draws(End),
             Draws(End),
         ],
-    )?;
-    expect_looks(
-        &rt,
+    ),
+    (
         &[Ok(Some(0)), Ok(Some(1))],
         &[
             Peeks(Item(0)),
@@ -104,9 +112,8 @@ fn peek_holds_an_item_and_no_failure(rt: HostRuntime) -> Result<(), Fail> {
             Draws(End),
             Draws(End),
         ],
-    )?;
-    expect_looks(
-        &rt,
+    ),
+    (
         &[Ok(Some(1)), Err(2), Ok(Some(3))],
         &[
             Peeks(Item(1)),
@@ -117,7 +124,12 @@ fn peek_holds_an_item_and_no_failure(rt: HostRuntime) -> Result<(), Fail> {
             Draws(Item(3)),
             Draws(End),
         ],
-    )
+    ),
+];
+
+#[test]
+fn peek_holds_an_item_and_no_failure(rt: HostRuntime) -> Result<(), Fail> {
+    expect_each(&rt, &PEEKS)
 }
 
 #[test]
@@ -130,12 +142,8 @@ fn peek_draws_once(rt: HostRuntime) {
     assert_eq!(rt; it.next(), Ok(Some(2)));
 }
 
-#[test]
-fn next_if_takes_an_item_that_is_accepted_and_answers_a_failure(
-    rt: HostRuntime,
-) -> Result<(), Fail> {
-    expect_looks(
-        &rt,
+const TAKES: [Row; 2] = [
+    (
         &[Ok(Some(1)), Ok(Some(2))],
         &[
             TakesAbove(1, End),
@@ -144,9 +152,8 @@ fn next_if_takes_an_item_that_is_accepted_and_answers_a_failure(
             Takes(2, End),
             Takes(2, End),
         ],
-    )?;
-    expect_looks(
-        &rt,
+    ),
+    (
         &[Err(4), Ok(Some(1)), Err(5)],
         &[
             TakesAbove(1, Failure(4)),
@@ -155,25 +162,33 @@ fn next_if_takes_an_item_that_is_accepted_and_answers_a_failure(
             Takes(1, Item(1)),
             Takes(1, Failure(5)),
         ],
-    )
+    ),
+];
+
+#[test]
+fn next_if_takes_an_item_that_is_accepted_and_answers_a_failure(
+    rt: HostRuntime,
+) -> Result<(), Fail> {
+    expect_each(&rt, &TAKES)
 }
+
+const HELD_ENDS: [Row; 1] = [(
+    &[Ok(None), Ok(Some(7)), Ok(None), Ok(Some(7))],
+    &[
+        Peeks(End),
+        Peeks(End),
+        Draws(End),
+        Draws(Item(7)),
+        Takes(7, End),
+        Peeks(End),
+        Draws(End),
+        Takes(7, Item(7)),
+    ],
+)];
 
 #[test]
 fn peek_and_next_if_hold_the_end_that_they_draw(rt: HostRuntime) -> Result<(), Fail> {
-    expect_looks(
-        &rt,
-        &[Ok(None), Ok(Some(7)), Ok(None), Ok(Some(7))],
-        &[
-            Peeks(End),
-            Peeks(End),
-            Draws(End),
-            Draws(Item(7)),
-            Takes(7, End),
-            Peeks(End),
-            Draws(End),
-            Takes(7, Item(7)),
-        ],
-    )?;
+    expect_each(&rt, &HELD_ENDS)?;
     let mut it = scripted::<u32, u32, 2>(rt.alloc(), [Ok(None), Ok(Some(7))])?.peekable();
     assert_eq!(rt; it.next_if_eq(&7), Ok(None));
     assert_eq!(rt; it.peek(), Ok(None));
@@ -182,11 +197,9 @@ fn peek_and_next_if_hold_the_end_that_they_draw(rt: HostRuntime) -> Result<(), F
     Ok(())
 }
 
-#[test]
-fn a_held_answer_belongs_to_one_fold(rt: HostRuntime) -> Result<(), Fail> {
-    // A held end ends it.
-    expect_looks(
-        &rt,
+// A held end ends the fold, and a fold that stops takes the held item.
+const FOLDS: [Row; 3] = [
+    (
         &[Ok(None), Ok(Some(7))],
         &[
             Peeks(End),
@@ -195,30 +208,30 @@ fn a_held_answer_belongs_to_one_fold(rt: HostRuntime) -> Result<(), Fail> {
             Folds(Ok(0)),
             Draws(Item(7)),
         ],
-    )?;
-    // A fold that stops takes the held item.
-    let script = [Ok(Some(2)), Ok(Some(3)), Ok(Some(4))];
-    expect_looks(
-        &rt,
-        &script,
+    ),
+    (
+        &[Ok(Some(2)), Ok(Some(3)), Ok(Some(4))],
         &[
             Peeks(Item(2)),
             Folds(Err(7)),
             Peeks(Item(3)),
             Draws(Item(3)),
         ],
-    )?;
-    let script = [Ok(Some(1)), Ok(Some(2)), Ok(Some(3))];
-    expect_looks(
-        &rt,
-        &script,
+    ),
+    (
+        &[Ok(Some(1)), Ok(Some(2)), Ok(Some(3))],
         &[
             Peeks(Item(1)),
             Folds(Err(7)),
             Peeks(Item(3)),
             Draws(Item(3)),
         ],
-    )
+    ),
+];
+
+#[test]
+fn a_held_answer_belongs_to_one_fold(rt: HostRuntime) -> Result<(), Fail> {
+    expect_each(&rt, &FOLDS)
 }
 
 #[test]
@@ -285,27 +298,29 @@ where
 fn what_is_looked_at_is_the_next_item(rt: HostRuntime) {
     let answers = [Ok(1), Err(2)];
     let mut it = numbers(&answers).peekable();
-    assert_eq!(rt; take_looked_at(&mut it), Ok(Some(1)));
-    assert_eq!(rt; take_looked_at(&mut it), Err(2));
-    assert_eq!(rt; take_looked_at(&mut it), Ok(None));
+    for answer in &[Ok(Some(1)), Err(2), Ok(None)] {
+        assert_eq!(rt; take_looked_at(&mut it), *answer);
+    }
 }
+
+// Whether the closure accepts the item, what is answered, and how often it was called by then.
+const CALLS: [(bool, Drawn, u32); 3] = [
+    (false, Ok(None), 1),
+    (true, Ok(Some(1)), 2),
+    (true, Err(2), 2),
+];
 
 #[test]
 fn next_if_calls_its_closure_once(rt: HostRuntime) {
     let calls = Cell::new(0u32);
     let answers = [Ok(1), Err(2)];
     let mut it = numbers(&answers).peekable();
-    let rows = [
-        (false, Ok(None), 1),
-        (true, Ok(Some(1)), 2),
-        (true, Err(2), 2),
-    ];
-    for (accepts, answer, called) in rows {
+    for (accepts, answer, called) in &CALLS {
         let taken = it.next_if(|_x: &u32| {
             calls.set(calls.get().wrapping_add(1));
-            accepts
+            *accepts
         });
-        assert_eq!(rt; (taken, calls.get()), (answer, called));
+        assert_eq!(rt; (taken, calls.get()), (*answer, *called));
     }
 }
 
