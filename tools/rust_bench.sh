@@ -42,20 +42,21 @@ instructions() {
         awk '/Collected/ { print $4 }'
 }
 
+count=200000
+declare -A none=([ours]=$(instructions ours fold chain 0) [original]=$(instructions original fold chain 0))
+
 # The instructions for each number.
 figure() {
-    awk -v all="$(instructions "$1" "$2" "$3" $count)" -v none="$(instructions "$1" "$2" "$3" 0)" -v count=$count \
-        'BEGIN { printf "%.1f", (all - none) / count }'
+    awk -v all="$(instructions "$1" "$2" "$3" $count)" -v none="${none[$1]}" -v count=$count \
+        'BEGIN { printf "%.2f", (all - none) / count }'
 }
 
 # Both sides' figures of one way, and what ours is of the original's.
 pair() {
-    ours=$(figure ours "$1" "$2")
-    theirs=$(figure original "$1" "$2")
-    awk -v ours="$ours" -v theirs="$theirs" 'BEGIN { printf " %s | %s | %.2f |", ours, theirs, ours / theirs }'
+    awk -v ours="$(figure ours "$1" "$2")" -v theirs="$(figure original "$1" "$2")" \
+        'BEGIN { printf " %.1f | %.1f | %.2f |", ours, theirs, ours / theirs }'
 }
 
-count=200000
 differs=0
 echo "$(rustc --version); the original: $(sed -n 's/^version *= *"\(.*\)"/\1/p' "$original/Cargo.toml" | head -1)"
 echo
@@ -68,6 +69,6 @@ while read -r name; do
             [ "$("$work/bench-$side" $way "$name" 1000)" = "$wanted" ] || { echo "$name, $side by $way: differs"; differs=1; }
         done
     done
-    echo "| $name | $(figure ours loop "$name") |$(pair fold "$name")$(pair next "$name")"
+    echo "| $name | $(printf %.1f "$(figure ours loop "$name")") |$(pair fold "$name")$(pair next "$name")"
 done < <("$work/bench-ours" names)
 exit $differs

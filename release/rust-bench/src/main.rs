@@ -7,12 +7,23 @@ mod draining;
 mod eight;
 mod loops;
 
+use chains::{Converted, Own};
 use draining::{Answer, Fold, Next};
 
 type Chain = fn(u64) -> Answer;
 type Loop = fn(u64) -> u64;
 
+/// A chain's name in a table, itself by a fold and by `next`, and the loop. A chain whose source is std's alone names no
+/// other.
 macro_rules! chain {
+    ($name:literal, $chain:ident::<$source:ident>, $by_hand:ident) => {
+        (
+            $name,
+            chains::$chain::<Fold, $source>,
+            chains::$chain::<Next, $source>,
+            loops::$by_hand,
+        )
+    };
     ($name:literal, $chain:ident, $by_hand:ident) => {
         (
             $name,
@@ -23,32 +34,49 @@ macro_rules! chain {
     };
 }
 
-/// Each chain: its name in a table, by a fold, by `next`, and the loop.
-const CHAINS: [(&str, Chain, Chain, Loop); 20] = [
-    chain!("map.filter, count", count, count),
-    chain!("map.filter, fold", fold, fold),
-    chain!("filter_map", filter_map, filter_map),
-    chain!("filter that keeps one of a hundred", sparse, sparse),
-    chain!("chain", chain, chain),
+const CHAINS: [(&str, Chain, Chain, Loop); 26] = [
+    chain!("map.filter, count", count::<Converted>, count),
+    chain!("map.filter, fold", fold::<Converted>, fold),
+    chain!("filter_map", filter_map::<Converted>, filter_map),
+    chain!(
+        "filter that keeps one of a hundred",
+        sparse::<Converted>,
+        sparse
+    ),
+    chain!("chain", chain::<Converted>, chain),
     chain!("convert of std's chain", std_chain, chain),
-    chain!("flat_map over ranges of 100", flatten, flatten),
-    chain!("flat_map over ranges of 1 to 3", short, short),
+    chain!("flat_map over ranges of 100", flatten::<Converted>, flatten),
+    chain!("flat_map over ranges of 1 to 3", short::<Converted>, short),
     chain!(
         "chain.flat_map over ranges of 3",
-        chain_flat_map,
+        chain_flat_map::<Converted>,
         chain_flat_map
     ),
-    chain!("skip_while", skip_while, skip_while),
-    chain!("take_while.skip.step_by(3)", step_by, step_by),
-    chain!("peekable, after a look", peekable, plain),
-    chain!("map, collect", collect, collect),
-    chain!("map, a fold into eight numbers", eight, eight),
+    chain!("skip_while", skip_while::<Converted>, skip_while),
+    chain!("take_while.skip.step_by(3)", step_by::<Converted>, step_by),
+    chain!("peekable, after a look", peekable::<Converted>, plain),
+    chain!("map, collect", collect::<Converted>, collect),
+    chain!("map, a fold into eight numbers", eight::<Converted>, eight),
     chain!("one failure in three, map_err", failures, failures),
-    chain!("map.filter.iterator(), by std", iterator, fold),
-    chain!("zip.map", zip, zip),
-    chain!("scan", scan, scan),
-    chain!("nest: ten adapters", nest, nest),
-    chain!("chains: a chain in a chain", chains, chains),
+    chain!("map.filter.iterator(), by std", iterator::<Converted>, fold),
+    chain!("zip.map", zip::<Converted>, zip),
+    chain!("scan", scan::<Converted>, scan),
+    chain!("nest: ten adapters", nest::<Converted>, nest),
+    chain!("chains: a chain in a chain", chains::<Converted>, chains),
+    chain!("own source: map.filter, count", count::<Own>, count),
+    chain!("own source: map.filter, fold", fold::<Own>, fold),
+    chain!("own source: filter_map", filter_map::<Own>, filter_map),
+    chain!(
+        "own source: chain.flat_map over ranges of 3",
+        chain_flat_map::<Own>,
+        chain_flat_map
+    ),
+    chain!(
+        "own source: take_while.skip.step_by(3)",
+        step_by::<Own>,
+        step_by
+    ),
+    chain!("own source: nest: ten adapters", nest::<Own>, nest),
 ];
 
 /// The answer of a task, if the arguments are one.
