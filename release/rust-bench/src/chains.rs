@@ -20,6 +20,21 @@ impl Source for Converted {
     }
 }
 
+/// A chain of std's, converted.
+pub struct Chained;
+
+impl Source for Chained {
+    #[inline(always)]
+    fn numbers(range: Range<u64>) -> impl FallibleIterator<Item = u64, Error = Failure> {
+        let half = range.start + (range.end - range.start) / 2;
+        convert(
+            (range.start..half)
+                .chain(half..range.end)
+                .map(Ok::<u64, Failure>),
+        )
+    }
+}
+
 /// A type of one's own, which writes `next` alone.
 pub struct Own;
 
@@ -73,10 +88,10 @@ pub fn chain<W: Way, S: Source>(n: u64) -> Answer {
     W::drained(S::numbers(0..n / 2).chain(S::numbers(0..n / 2)))
 }
 
-/// A chain of std's, converted.
+/// The source alone.
 #[inline(never)]
-pub fn std_chain<W: Way>(n: u64) -> Answer {
-    W::drained(convert((0..n / 2).chain(0..n / 2).map(Ok::<u64, Failure>)))
+pub fn plain<W: Way, S: Source>(n: u64) -> Answer {
+    W::drained(S::numbers(0..n))
 }
 
 #[inline(never)]

@@ -7,7 +7,7 @@ mod draining;
 mod eight;
 mod loops;
 
-use chains::{Converted, Own};
+use chains::{Chained, Converted, Own};
 use draining::{Answer, Fold, Next};
 
 type Chain = fn(u64) -> Answer;
@@ -34,7 +34,7 @@ macro_rules! chain {
     };
 }
 
-const CHAINS: [(&str, Chain, Chain, Loop); 26] = [
+const CHAINS: [(&str, Chain, Chain, Loop); 33] = [
     chain!("map.filter, count", count::<Converted>, count),
     chain!("map.filter, fold", fold::<Converted>, fold),
     chain!("filter_map", filter_map::<Converted>, filter_map),
@@ -44,7 +44,6 @@ const CHAINS: [(&str, Chain, Chain, Loop); 26] = [
         sparse
     ),
     chain!("chain", chain::<Converted>, chain),
-    chain!("convert of std's chain", std_chain, chain),
     chain!("flat_map over ranges of 100", flatten::<Converted>, flatten),
     chain!("flat_map over ranges of 1 to 3", short::<Converted>, short),
     chain!(
@@ -63,6 +62,14 @@ const CHAINS: [(&str, Chain, Chain, Loop); 26] = [
     chain!("scan", scan::<Converted>, scan),
     chain!("nest: ten adapters", nest::<Converted>, nest),
     chain!("chains: a chain in a chain", chains::<Converted>, chains),
+    chain!("convert of std's chain", plain::<Chained>, plain),
+    chain!("std's chain: map.filter, count", count::<Chained>, count),
+    chain!("std's chain: map.filter, fold", fold::<Chained>, fold),
+    chain!("std's chain: filter_map", filter_map::<Chained>, filter_map),
+    chain!("std's chain: map, collect", collect::<Chained>, collect),
+    chain!("std's chain: skip_while", skip_while::<Chained>, skip_while),
+    chain!("std's chain: nest", nest::<Chained>, nest),
+    chain!("std's chain: chains", chains::<Chained>, chains),
     chain!("own source: map.filter, count", count::<Own>, count),
     chain!("own source: map.filter, fold", fold::<Own>, fold),
     chain!("own source: filter_map", filter_map::<Own>, filter_map),
@@ -76,7 +83,7 @@ const CHAINS: [(&str, Chain, Chain, Loop); 26] = [
         step_by::<Own>,
         step_by
     ),
-    chain!("own source: nest: ten adapters", nest::<Own>, nest),
+    chain!("own source: nest", nest::<Own>, nest),
 ];
 
 /// The answer of a task, if the arguments are one.
