@@ -48,7 +48,7 @@ declare -A none=([ours]=$(instructions ours fold chain 0) [original]=$(instructi
 # The instructions for each number.
 figure() {
     awk -v all="$(instructions "$1" "$2" "$3" $count)" -v none="${none[$1]}" -v count=$count \
-        'BEGIN { printf "%.2f", (all - none) / count }'
+        'BEGIN { printf "%.4f", (all - none) / count }'
 }
 
 # Both sides' figures of one way, and what ours is of the original's.
