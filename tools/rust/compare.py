@@ -1,0 +1,102 @@
+"""Comparing: each function's body as it is written with the proved source's, token by token."""
+import re
+from collections import defaultdict
+
+from source import Refused, code, functions
+
+# What is not word for word the proved body: the file, the function, what, and why. Each row is used.
+REASONS = [
+    (r"fallible_contract/collecting(/\w+)?\.rs", r"Collect for \w+\.(empty|push_one)", "left out",
+     "`collect` goes by Rust's `FromIterator`"),
+    (r"fallible_contract/collecting\.rs", r"Collect for Extended\.push_one", "new",
+     "`partition` and `unzip` fill whatever extends"),
+    (r"memory\.rs", r"TryClone\.try_clone", "new", "the proved bodies ask for a clone that may be refused"),
+    (r"fallible_core/joining/flat_map\.rs", r"\w+ for FlatMap\.(clone|fmt)", "new",
+     "what `derive_where` writes"),
+    (r"fallible_core/joining/cycle\.rs|fallible_core/one_to_one/cloned\.rs|sources/repeat\w*\.rs"
+     r"|intersperse\.rs|tuple_windows\.rs", r".*\.(next|pass)|placed|pair", "changed",
+     "a clone is never refused: `clone` is `try_clone`, and the refusal's arm has no value"),
+    (r"sources/(convert|into_fallible)\.rs", r".*\.(drive|drive_back)", "changed",
+     "the std iterator's own fold; the proved body calls it through `Progressing`, whose fold is by `next`"),
+    (r"sources/std_fold\.rs", r".*Progressing\.(next|next_back)", "left out", "no fold needs `Progressing`"),
+    (r"fallible_core/traits/b\w+\.rs", r".*\.(drive|drive_back)", "left out",
+     "`I` may have no size; the trait's own loop serves"),
+    (r"fallible_core/traits\.rs", r"FallibleIterator\.collect", "changed",
+     "into any `FromIterator`: the proved `iterator`, and std's `collect` of results"),
+    (r"fallible_core/traits\.rs", r"FallibleIterator\.(partition|unzip)", "changed",
+     "into any `Default + Extend`, by the proved turns"),
+    (r"fallible_core/traits\.rs", r"FallibleIterator\.cycle", "changed", "answers no `Result`"),
+    (r"fallible_core/traits\.rs", r"FallibleIterator\.chain", "changed", "the result's type names the argument"),
+    (r"fallible_core/traits\.rs", r"FallibleIterator\.step_by", "changed", "`assert!(step != 0)` for the precondition"),
+    (r"fallible_core/traits\.rs", r"FallibleIterator\.size_hint", "new", "a default"),
+    (r"fallible_core/comparing\.rs", r"compare", "changed", "one more parameter of a call: items of two types"),
+    (r"fallible_core/number\.rs", r"Drop for Number\.drop", "left out", "it only takes the value apart"),
+    (r"chunk\w+\.rs", r".*\.(drive|ask)|grouped", "changed",
+     "no allocator is passed, and the refusal's arm has no value"),
+    (r"growing\.rs", r"alone|pushed", "changed", "no allocator is passed, and `push` answers nothing"),
+    (r"counted\.rs", r"Collect for Tally\.empty", "left out", "`counts` makes the empty map"),
+    (r"counted\.rs", r"Collect for Tally\.push_one", "changed", "`insert` is never refused"),
+    (r"joined\.rs", r"append", "changed", "`push_str` is never refused; a failing `Display` panics, as in `to_string`"),
+    (r"traits\.rs", r"FallibleItertools\.counts", "changed", "the fold of the proved `collect`, into an empty map"),
+    (r"traits\.rs", r"FallibleItertools\.(join|chunks|chunk_by)", "changed",
+     "no allocator is passed, and the refusal's arm has no value"),
+]
+
+
+def by_name(s):
+    """The functions of a text by what they stand in and their name, in order."""
+    found = defaultdict(list)
+    for f in functions(s):
+        found["%s.%s" % (f.label, f.name) if f.label else f.name].append(f)
+    return found
+
+
+def body(s, f):
+    """A function's body, or none where it has none."""
+    return None if f.open is None else code(s[f.open:f.end])
+
+
+def differences(written, source):
+    """Yields each function of the two texts, and how what is written differs, if it does."""
+    ours, proved = by_name(written), by_name(source)
+    for name in dict.fromkeys([*proved, *ours]):
+        pairs = max(len(ours[name]), len(proved[name]))
+        for k in range(pairs):
+            new = body(written, ours[name][k]) if k < len(ours[name]) else None
+            old = body(source, proved[name][k]) if k < len(proved[name]) else None
+            if old is not None or new is not None:
+                yield name, (None if new == old else "new" if old is None else
+                             "left out" if new is None else "changed")
+
+
+def compare(files, sources):
+    """How many bodies are word for word the proved ones, and the table's rows with their places."""
+    same, rows = 0, defaultdict(list)
+    for path in sorted({*files, *sources}):
+        for name, how in differences(files.get(path, ""), sources.get(path, "")):
+            if how is None:
+                same += 1
+                continue
+            for k, (where, what, kind, _) in enumerate(REASONS):
+                if kind == how and re.fullmatch(where, path) and re.fullmatch(what, name):
+                    rows[k].append((path, name))
+                    break
+            else:
+                raise Refused("%s: compare: the body of `%s` is %s, and no row says why" % (path, name, how))
+    return same, rows
+
+
+def table(same, rows):
+    """The table of what is not word for word the proved body."""
+    for k, row in enumerate(REASONS):
+        if k not in rows:
+            raise Refused("compare: no body is of the row %r" % (row,))
+    lines = ["%d bodies are word for word the proved ones. %d are not:" % (
+        same, sum(map(len, rows.values()))), "", "| What | How | Why |", "|---|---|---|"]
+    for k in sorted(rows):
+        places = defaultdict(list)
+        for path, name in rows[k]:
+            places[path].append("`%s`" % name)
+        what = "; ".join("%s: %s" % (p, ", ".join(names)) for p, names in places.items())
+        lines.append("| %s | %s | %s |" % (what, REASONS[k][2], REASONS[k][3]))
+    return "\n".join(lines)

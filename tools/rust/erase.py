@@ -1,0 +1,93 @@
+"""Erasing: what only the prover reads is cut out. Nothing is added or moved."""
+import re
+from collections import Counter
+
+from source import Refused, after_braces, tokens
+
+COUNTS = Counter()
+OWN_COMMENT = re.compile(r"\s*(//(?![/!])|#\[tactic)")
+TAKEN_APART = re.compile(r"\s*let [\w:]+ \{[^}]*\} = self;\s*")
+
+
+def whole_lines(s, start, end, comments):
+    """The span of an item with its indentation, its line's end and, if told so, its own comments."""
+    begin = s.rfind("\n", 0, start) + 1
+    if s[begin:start].strip() not in ("", "pub"):
+        return (len(s[:start].rstrip()), end)
+    while begin and comments:
+        above = s.rfind("\n", 0, begin - 1) + 1
+        if not OWN_COMMENT.match(s[above:begin]):
+            break
+        begin = above
+    return (begin, end + 1 if s[end:end + 1] == "\n" else end)
+
+
+def ghosts(text):
+    """Ghost items, fields and imports, clauses, and `final`."""
+    spans, s = [], text.s
+    for t in tokens(s):
+        if t.kind == "ghost":
+            imports = t.text[5:].lstrip().startswith("use ")
+            COUNTS["ghost imports" if imports else "ghost members and fields"] += 1
+            spans.append(whole_lines(s, t.start, t.end, not imports))
+        elif t.kind == "clause":
+            COUNTS["clauses"] += 1
+            spans.append((len(s[:t.start].rstrip()), t.end))
+        elif t.text == "final" and t.kind == "word" and s.startswith(" fn ", t.end):
+            COUNTS["`final`"] += 1
+            spans.append((t.start, t.end + 1))
+    text.cut(spans)
+
+
+def blocks(text):
+    """`impl Model`, which holds ghosts alone, and a `drop` that only takes the value apart."""
+    spans = []
+    for m in re.finditer(r"^impl(<[^{]*>)? (Model|Drop) for [^{]*\{", text.s, re.M):
+        end = after_braces(text.s, m.start())
+        if m.group(2) == "Drop":
+            body = text.s[text.s.index("fn drop(self)", m.start()):end]
+            inner = body[body.index("{") + 1:body.rindex("}", 0, body.rindex("}"))]
+            if not TAKEN_APART.fullmatch(inner):
+                raise Refused("%s: erase: a `drop` that does something" % text.at(m.start()))
+        COUNTS["`impl Model` and `impl Drop`"] += 1
+        spans.append((m.start(), end + 1))
+    text.cut(spans)
+
+
+def drops(text):
+    """`Drop` as a bound or a derive says that a value may be let go, as any may in Rust."""
+    lines = []
+    for block in re.finditer(r"^[ \t]*where\n(?:[ \t]+[^{;\n]*\n)*", text.s, re.M):
+        lines += [m.span() for m in re.finditer(r"^[ \t]*[\w:]+: Drop,\n", text.s[:block.end()], re.M)
+                  if m.start() >= block.start()]
+    text.cut(lines)
+    n = len(lines)
+    n += text.cut_all(r"\s*\+ Drop\b")
+    n += text.cut_all(r"(?<=: )Drop \+ ")
+    n += text.cut_all(r": Drop\b(?!,? \})")
+    n += text.cut_all(r"^[ \t]*#\[derive\(Drop\)\]\n")
+    n += text.cut_all(r"#\[derive\([^)]*?(, Drop)\b", 1)
+    COUNTS["`Drop` bounds and derives"] += n
+
+
+def layout(text):
+    """Blanks that are left over, and a `where` with no predicate."""
+    text.cut_all(r"[ \t]+$")
+    text.cut_all(r"\s+where(?=\s*[;{])")
+    text.cut_all(r"\s+(?=;)")
+    text.cut_all(r"\bfn \w+(?:(?!\bwhere\b)[^;{}])*?[^\s;{}](\n[ ]*)(?= \{)", 1)
+    text.cut_all(r"\| -> [^;{}]*?[^\s;{}](\n\s*)(?= \{)", 1)
+    text.cut_all(r"(?<=\n\n)\n+")
+    text.cut_all(r"(?<=\{\n)\n+")
+    text.cut_all(r"\n(?=\n[ \t]*\}$)")
+    text.cut_all(r"\A\n+")
+
+
+def erase(text):
+    """Cuts out all that only the prover reads."""
+    ghosts(text)
+    COUNTS["tactic attributes"] += text.cut_all(r"[ \t]*#!?\[(?:tactic|cycle)\([^\]]*\)\]\n?")
+    blocks(text)
+    drops(text)
+    COUNTS["law modules"] += text.cut_all(r"^pub mod laws;\n")
+    layout(text)

@@ -1,0 +1,130 @@
+"""The face: the exact signatures of the Rust crate fallible-iterator 0.3.0, where Rattle's differ."""
+import re
+from pathlib import Path
+
+from rules import apply
+
+PIECES = Path(__file__).parent / "pieces"
+TRAIT, ENDS = r"fallible_core/traits\.rs", r"fallible_core/traits/double_ended\.rs"
+COMPARE, ROUNDS = r"fallible_contract/comparing\.rs", r"fallible_core/comparing\.rs"
+POINTED = r"fallible_core/traits/b(?:orrowed|oxed)\.rs"
+PEEKABLE = r"fallible_core/peeking/peekable\.rs"
+FLAT_MAP = r"fallible_core/joining/flat_map\.rs"
+
+
+def body(name):
+    """The pattern of a whole method of the trait."""
+    return r"^    fn %s\b(?:.*\n)*?    \}\n" % name
+
+
+COLLECT = """    fn collect<T>(self) -> Result<T, Self::Error>
+    where
+        T: core::iter::FromIterator<Self::Item>,
+    {
+        self.iterator().collect()
+    }
+"""
+PARTITION = """    fn partition<B, F>(mut self, f: F) -> Result<(B, B), Self::Error>
+    where
+        B: Default + Extend<Self::Item>,
+        F: FnMut(&Self::Item) -> Result<bool, Self::Error>,
+    {
+        let mut state = (f, (Extended(B::default()), Extended(B::default())));
+        let answer = self.drive(&mut state, &PartitionTurn);
+        let (_, sides) = state;
+        match answer {
+            Ok(None) => Ok((sides.0.0, sides.1.0)),
+            Ok(Some(Fault::Source(e))) => Err(e),
+            Ok(Some(Fault::Memory(refused))) => match refused {},
+            Err(e) => Err(e),
+        }
+    }
+"""
+UNZIP = """    fn unzip<A, B, FromA, FromB>(mut self) -> Result<(FromA, FromB), Self::Error>
+    where
+        Self: FallibleIterator<Item = (A, B)>,
+        FromA: Default + Extend<A>,
+        FromB: Default + Extend<B>,
+    {
+        let mut both = (Extended(FromA::default()), Extended(FromB::default()));
+        match self.drive(&mut both, &UnzipTurn) {
+            Ok(None) => Ok((both.0.0, both.1.0)),
+            Ok(Some(refusal)) => match refusal {},
+            Err(e) => Err(e),
+        }
+    }
+"""
+CYCLE = """    fn cycle(self) -> Cycle<Self>
+    where
+        Self: Clone,
+    {
+        Cycle {
+            it: self.clone(),
+            kept: self,
+        }
+    }
+"""
+
+RULES = [
+    (TRAIT, body("collect"), COLLECT, 1),
+    (TRAIT, body("partition"), PARTITION, 1),
+    (TRAIT, body("unzip"), UNZIP, 1),
+    (TRAIT, body("cycle"), CYCLE, 1),
+    (TRAIT, r"\{Collect, CollectTurn, Fault, Part", "{Extended, Fault, Part", 1),
+    # What a Rust caller can break: `requires { 1 ≤ step }`.
+    (TRAIT, r"(fn step_by\(self, step: usize\) -> StepBy<Self> \{\n)", r"\1        assert!(step != 0);\n", 1),
+    (TRAIT, r"(fn size_hint\(&self\) -> \(usize, Option<usize>\));", r"\1 {\n        (0, None)\n    }", 1),
+    (TRAIT, r"-> Chain<Self, I::IntoFallibleIter>", "-> Chain<Self, I>", 1),
+    (TRAIT, r"second: it\.into_fallible_iter\(\)", "second: it", 1),
+    # Iterators without a size: no folds through a reference or a box, and `Self: Sized` below.
+    (TRAIT, r"pub trait FallibleIterator: Sized \{", "pub trait FallibleIterator {", 1),
+    (POINTED, r"impl<I: (\w+)> \1 for", r"impl<I: \1 + ?Sized> \1 for", 4),
+    (POINTED, r"\n    fn drive(?:_back)?<C(?:.*\n)*?    \}\n", "", 4),
+    (POINTED, r"^use crate::fallible_contract::folds::Turn;\n", "", 2),
+    # Comparisons with items of another type.
+    (COMPARE, r"pub trait Rule<A> \{", "pub trait Rule<A, B> {", 1),
+    (COMPARE, r"fn compare\(left: &A, right: &A\)", "fn compare(left: &A, right: &B)", 4),
+    (COMPARE, r"impl<A: Ord> Rule<A> for ByCmp \{(\s*)fn compare\(left: &A, right: &B\)",
+     r"impl<A: Ord> Rule<A, A> for ByCmp {\1fn compare(left: &A, right: &A)", 1),
+    (COMPARE, r"impl<A: Partial(Ord|Eq)> Rule<A>", r"impl<A: Partial\1<B>, B> Rule<A, B>", 2),
+    (COMPARE, r"decide<A, K: Rule<A>>\(left: Option<A>, right: Option<A>\)",
+     "decide<A, B, K: Rule<A, B>>(left: Option<A>, right: Option<B>)", 1),
+    (ROUNDS, r"R: FallibleIterator<Item = L::Item, Error", "R: FallibleIterator<Error", 1),
+    (ROUNDS, r"I: IntoFallibleIterator<Item = L::Item, Error", "I: IntoFallibleIterator<Error", 1),
+    (ROUNDS, r"(fn compare<[^{]*)K: Rule<L::Item>", r"\1K: Rule<L::Item, R::Item>", 1),
+    (ROUNDS, r"(fn compare_read<[^{]*)K: Rule<L::Item>", r"\1K: Rule<L::Item, I::Item>", 1),
+    (ROUNDS, r"decide::<L::Item, K>", "decide::<L::Item, R::Item, K>", 1),
+    (TRAIT, r"I: IntoFallibleIterator<Item = Self::Item, Error = Self::Error>,\n(\s*)Self::Item: (Partial\w+),",
+     r"I: IntoFallibleIterator<Error = Self::Error>,\n\1Self::Item: \2<I::Item>,", 7),
+    # `next_if` and `next_if_eq`.
+    (PEEKABLE, r"fn next_if<F: Fn\(&I::Item\) -> bool>\(&mut self, f: F\)",
+     "fn next_if(&mut self, f: impl Fn(&I::Item) -> bool)", 1),
+    (PEEKABLE, r"fn next_if_eq\(&mut self, expected: &I::Item\)(.*\n\s*where\n\s*)I::Item: PartialEq,",
+     r"fn next_if_eq<T: ?Sized>(&mut self, expected: &T)\1I::Item: PartialEq<T>,", 1),
+    # New code.
+    (r"fallible_contract/collecting\.rs", r"\Z", (PIECES / "extended.rs").read_text(), 1),
+    (FLAT_MAP, r"\Z", (PIECES / "flat_map.rs").read_text(), 1),
+]
+# The methods that need no size.
+UNSIZED = {"next", "next_back", "size_hint", "nth", "drive_nth", "number"}
+
+
+def sized(text):
+    """`Self: Sized` at each method of a trait with a body, but those that need no size."""
+    for m in reversed(list(re.finditer(r"^    fn (\w+)[^;{]*?(?=\s*\{$)", text.s, re.M))):
+        if m.group(1) in UNSIZED:
+            continue
+        where = m.group().find("\n    where\n")
+        if where >= 0:
+            text.replace(m.start() + where + 11, m.start() + where + 11, "        Self: Sized,\n")
+        else:
+            brace = text.s.index("{", m.end())
+            text.replace(m.end(), brace, "\n    where\n        Self: Sized,\n    ")
+
+
+def to_rust(crate, files):
+    """Gives the first crate its face. The second has none but its own."""
+    if crate == "fallible-iterator":
+        apply("face", files, RULES)
+        for path in ("fallible_core/traits.rs", "fallible_core/traits/double_ended.rs"):
+            sized(files[path])

@@ -1,0 +1,128 @@
+"""Mapping: std of Rattle to std of Rust. Memory is never refused there: a refusal has no value."""
+from rules import ANY, apply, drop_files
+
+C, K, I = r"fallible_contract(?:/.*)?\.rs|fallible_contract\.rs", r"fallible_core(?:/.*)?\.rs", r".*"
+ARM = r"Err\(refused\) => (?:[\w:]+\([\w:]+::from\(refused\)\),|\{[^{}]*::from\(refused\)\)\s*\})"
+NO_VALUE = r"Err(refused) => match refused {},"
+PROGRESSING = (r"let mut drawn = Progressing \{ it: &mut self\.it \};\n\s*match drawn\.", "match self.it.")
+
+HEAD = """#![no_std]
+#![forbid(unsafe_code)]
+#![warn(missing_docs)]
+
+#[cfg(feature = "alloc")]
+extern crate alloc;
+#[cfg(feature = "std")]
+extern crate std;
+
+"""
+
+STD = [
+    # Bounds that a refusal asked for.
+    (I, r"^ *where\n *[\w:]+::Error: From<AllocError>,\n(?=\{)", "", ANY),
+    (I, r"^ *where\n *[\w:]+::Error: From<AllocError>,\n *(?=\{)", "", ANY),
+    (I, r"^ *[\w:]+::Error: From<AllocError>,\n", "", ANY),
+    (I, r": From<AllocError>(?=[>,])", "", ANY),
+    (I, r" \+ From<AllocError>(?=[>,])", "", ANY),
+    (I, r"^use std::alloc::.*;\n", "", ANY),
+    (I, r"\bstd::(?!collections)(?=\w)", "core::", ANY),
+]
+
+ITERATOR = [
+    # The three crates are modules of one.
+    (C, r"(?<![\w:])crate::", "crate::fallible_contract::", ANY),
+    (K, r"(?<![\w:])crate::", "crate::fallible_core::", ANY),
+    (I, r"(?<![\w:])(fallible_contract|fallible_core)::", r"crate::\1::", ANY),
+    # Collections: Rust's `collect` goes by `FromIterator`, so what is left is `push_one`.
+    (r"fallible_contract/collecting\.rs", r"^mod (?:deque|hashed|sorted);\n", "", 3),
+    (r"fallible_contract/collecting\.rs", r"^impl<T> Collect<T> for Vec<T> \{(?:\n|    .*\n)*\}\n\n", "", 1),
+    (r"fallible_contract/collecting\.rs", r"^    /// Makes the collection.*\n    fn empty\(.*;\n\n", "", 1),
+    (r"fallible_contract/collecting\.rs", r"^use core::ops", "use crate::memory::AllocError;\nuse core::ops", 1),
+    # Clones, and the arm of a refused one.
+    (r"fallible_core/joining/cycle\.rs", r"self\.kept\.clone\(\)", "self.kept.try_clone()", 1),
+    (r"fallible_core/one_to_one/cloned\.rs", r"T::clone\(", "T::try_clone(", 1),
+    (r"sources/repeat\.rs", r"self\.value\.clone\(\)", "self.value.try_clone()", 1),
+    (r"sources/repeat_err\.rs", r"self\.error\.clone\(\)", "self.error.try_clone()", 1),
+    (r".*/(?:cycle|cloned|repeat|repeat_err)\.rs", ARM, NO_VALUE, 4),
+    (r".*/(?:cycle|cloned|repeat|repeat_err)\.rs", r"\A((?://.*\n)+\n)", r"\1use crate::memory::TryClone;\n", 4),
+    # Folds of a std iterator: `Progressing`, which a proof wants, hides the iterator's own.
+    (r"sources/(?:convert|into_fallible)\.rs", *PROGRESSING, 4),
+    (r"sources/(?:convert|into_fallible)\.rs", r"\{Progressing, turn_of_element\}", "turn_of_element", 2),
+    (r"sources/std_fold\.rs", r"^// A std iterator that a[^§]*(?=^// One turn of std's fold)", "", 1),
+    # What Rust writes otherwise.
+    (r"fallible_core/one_to_one/map\.rs", r"fn fmt<W: fmt::Write>\(&self, f: &mut fmt::Formatter<W>\)",
+     "fn fmt(&self, f: &mut fmt::Formatter<'_>)", 1),
+    (r"fallible_core/number\.rs", r"\{Model, PhantomData\}", "PhantomData", 1),
+    (r"fallible_core/bridges/unwrap\.rs", r"(core::iter::Iterator for Unwrap<I>) \{",
+     r"\1\nwhere\n    I::Error: core::fmt::Debug,\n{", 1),
+    (r"fallible_core/joining/flat_map\.rs", r"^ *#\[derive_where\(.*\)\]\n", "", 3),
+    # Features.
+    (r"fallible_core/traits\.rs", r"^mod boxed;", '#[cfg(feature = "alloc")]\nmod boxed;', 1),
+    (r"fallible_core/traits/boxed\.rs", r"^use crate::fallible_core::traits::Fall",
+     "use alloc::boxed::Box;\nuse crate::fallible_core::traits::Fall", 1),
+    (r"sources/making\.rs", r"^use crate::fallible_core::FallibleIterator;\n", "", 1),
+    (r"lib\.rs", r"^pub mod adapting;", HEAD + "#[doc(hidden)]\npub mod fallible_contract;\n#[doc(hidden)]\n"
+     "pub mod fallible_core;\n#[doc(hidden)]\npub mod memory;\n\n#[doc(hidden)]\npub mod adapting;", 1),
+]
+
+GROUPS = r"(?:chunks|chunk_by)\.rs"
+ITERTOOLS = [
+    (r"(?:intersperse|tuple_windows)\.rs", r"\b(separator|x)\.clone\(\)", r"\1.try_clone()", 2),
+    (r"(?:intersperse|tuple_windows)\.rs", r"^use fallible_iterator::adapting", "use fallible_iterator::memory::TryClone;\nuse fallible_iterator::adapting", 2),
+    # No allocator is passed.
+    (GROUPS, r"^    pub\(crate\) alloc: Global,\n", "", 2),
+    (GROUPS, r"^struct (Chunk\w+) \{\n    alloc: Global,\n\}", r"struct \1;", 2),
+    (GROUPS, r"let adapter = (\w+) \{ alloc: self\.alloc \};", r"let adapter = \1;", 2),
+    (GROUPS, r"\b(alone|grouped)\((?:self\.)?alloc, ", r"\1(", 4),
+    (r"chunk_by\.rs", r"^    alloc: Global,\n", "", 1),
+    (r"traits\.rs", r"^            alloc,\n", "", 2),
+    (r"traits\.rs", r"\bself, alloc: Global, ", "self, ", 3),
+    (r"growing\.rs", r"\(alloc: Global, ", "(", 1),
+    (r"growing\.rs", r"Vec::new\(alloc\)", "Vec::new()", 1),
+    (r"growing\.rs", r"match items\.push\(item\) \{[^{}]*\}", "items.push(item);\n    Ok(())", 1),
+    (r"(?:chunks|chunk_by|intersperse|tuple_windows)\.rs", ARM, NO_VALUE, 7),
+    # `counts` and `join`: the same folds, into what `new` makes.
+    (r"counted\.rs", r"^    fn empty\((?:.*\n)*?    \}\n\n", "", 1),
+    (r"counted\.rs", r"match self\.counts\.insert\(([^\n]*)\) \{[^{}]*\}", r"self.counts.insert(\1);\n        Ok(())", 1),
+    (r"joined\.rs", r"text\.push_str\(separator\)\?;", "text.push_str(separator);", 1),
+    (r"joined\.rs", r"text\.write\(item\)", 'let written = write!(text, "{item}");\n    written.expect("a Display implementation returned an error");\n    Ok(())', 1),
+    (r"traits\.rs", r"fn counts\(self, alloc: Global\) -> Result<(.*), Fault<Self::Error>>",
+     r"fn counts(mut self) -> Result<\1, Self::Error>", 1),
+    (r"traits\.rs", r"match self\.collect::<Tally<Self::Item>>\(alloc\) \{[^{}]*\}",
+     "let mut made = Tally {\n            counts: HashMap::new(),\n        };\n"
+     "        match self.drive(&mut made, &CollectTurn) {\n            Ok(None) => Ok(made.counts),\n"
+     "            Ok(Some(refused)) => match refused {},\n            Err(e) => Err(e),\n        }", 1),
+    (r"traits\.rs", r"Result<String, Fault<Self::Error>>", "Result<String, Self::Error>", 1),
+    (r"traits\.rs", r"String::new\(alloc\)", "String::new()", 1),
+    (r"traits\.rs", r"Ok\(Some\(refused\)\) => Err\(Fault::Memory\(refused\)\),\n(.*)Err\(e\) => Err\(Fault::Source\(e\)\),",
+     r"Ok(Some(refused)) => match refused {},\n\1Err(e) => Err(e),", 1),
+    (r"traits\.rs", r"^use fallible_iterator::\{FallibleIterator, Fault, Into", "use fallible_iterator::"
+     "fallible_contract::collecting::CollectTurn;\nuse fallible_iterator::{FallibleIterator, Into", 1),
+    (r"joined\.rs", r"^use core::fmt::Display;", "use alloc::string::String;\nuse core::fmt::{Display, Write};", 1),
+    # The trait of the Rust crate is for types without a size too.
+    (r"(?:traits|double_ended|peeking_take_while)\.rs", r"^(pub trait \w+: \w+) \{", r"\1 + Sized {", 3),
+    # Features.
+    (r"lib\.rs", r"^pub mod (?:chunk_by|chunks|growing|joined);", r'#[cfg(feature = "alloc")]\n\g<0>', 4),
+    (r"lib\.rs", r"^pub use (?:chunk_by|chunks)::", r'#[cfg(feature = "alloc")]\n\g<0>', 2),
+    (r"lib\.rs", r"^pub mod counted;", r'#[cfg(feature = "std")]\n\g<0>', 1),
+    (r"(?:chunk_by|chunks|growing)\.rs", r"\A(//.*\n\n)", r"\1use alloc::vec::Vec;\n", 3),
+    (r"traits\.rs", r"^use crate::(?:chunk_by|chunks|joined)::", r'#[cfg(feature = "alloc")]\n\g<0>', 3),
+    (r"traits\.rs", r"^use (?:core::fmt::Display;)", r'#[cfg(feature = "alloc")]\nuse alloc::string::String;\n#[cfg(feature = "alloc")]\n\g<0>', 1),
+    (r"traits\.rs", r"^use (?:crate::counted::|core::hash::|std::coll|fallible_iterator::fallible_contract)",
+     r'#[cfg(feature = "std")]\n\g<0>', 4),
+    (r"traits\.rs", r"^    fn (?:chunks|chunk_by|join)\b", r'    #[cfg(feature = "alloc")]\n\g<0>', 3),
+    (r"traits\.rs", r"^    fn counts\b", r'    #[cfg(feature = "std")]\n\g<0>', 1),
+    (r"lib\.rs", r"\A((?://!.*\n)+\n)", r"\1" + HEAD, 1),
+    (r"(?:growing|counted|joined)\.rs", r"\A(//!.*\n\n)", r"\1use fallible_iterator::memory::AllocError;\n", 3),
+]
+
+# Collections of std that are made by Rust's own `collect`.
+LEFT_OUT = ["fallible_contract/collecting/%s.rs" % name for name in ("deque", "hashed", "sorted")]
+
+
+def to_rust(crate, files):
+    """Maps the files of one of the two crates."""
+    if crate == "fallible-iterator":
+        drop_files("map", files, LEFT_OUT)
+    apply("map", files, STD)
+    apply("map", files, ITERATOR if crate == "fallible-iterator" else ITERTOOLS)

@@ -1,0 +1,186 @@
+"""Texts of Rattle and Rust: their tokens, their functions, and the source lines that they came from."""
+import re
+from collections import namedtuple
+
+
+class Refused(Exception):
+    """Why nothing is written: the file, the line and the rule."""
+
+
+Token = namedtuple("Token", "kind text start end")
+Function = namedtuple("Function", "name label docs start open end clauses")
+
+TOKEN = re.compile(r"""
+    (?P<space>\s+)
+  | (?P<comment>//[^\n]*|/\*.*?\*/)
+  | (?P<string>b?"(?:\\.|[^"\\])*")
+  | (?P<char>b?'(?:\\.[^']*|[^'\\\n])')
+  | (?P<life>'\w+)
+  | (?P<word>\w+)
+  | (?P<sign>->|=>|::|.)
+""", re.S | re.X)
+CLAUSE = re.compile(r"(requires|ensures)\b\*?\s*\w*\s*\{")
+GHOST_USE = re.compile(r"ghost\s+use\s[^;]*;")
+GHOST_VALUE = re.compile(r"\s*=\s*\{")
+
+
+class Text:
+    """A file's text. Each character knows the line of the source that it came from."""
+
+    def __init__(self, place, s):
+        self.place, self.s = place, s
+        self.lines, line = [], 1
+        for c in s:
+            self.lines.append(line)
+            line += c == "\n"
+
+    def at(self, i):
+        """The source's file and line at the i-th character."""
+        return "%s:%d" % (self.place, self.lines[min(i, len(self.lines) - 1)] if self.lines else 1)
+
+    def replace(self, start, end, new):
+        """Puts `new` in the place of what stands between the two."""
+        line = self.lines[min(start, len(self.lines) - 1)] if self.lines else 1
+        self.s = self.s[:start] + new + self.s[end:]
+        self.lines[start:end] = [line] * len(new)
+
+    def cut(self, spans):
+        """Deletes the spans, and so adds and moves nothing."""
+        for start, end in sorted(spans, reverse=True):
+            self.replace(start, end, "")
+
+    def cut_all(self, pattern, group=0, flags=re.M):
+        """Deletes each match, or a group of it, and says how many there were."""
+        spans = [m.span(group) for m in re.finditer(pattern, self.s, flags)]
+        self.cut(spans)
+        return len(spans)
+
+
+def after_braces(s, i):
+    """Behind the block that begins at the first `{` from i on. Clauses are antt: only braces count."""
+    i = s.index("{", i)
+    depth = 0
+    while True:
+        depth += (s[i] == "{") - (s[i] == "}")
+        i += 1
+        if depth == 0:
+            return i
+
+
+def ghost_end(s, i):
+    """Behind the ghost item that begins at i."""
+    use = GHOST_USE.match(s, i)
+    if use:
+        return use.end()
+    i = after_braces(s, i)
+    value = GHOST_VALUE.match(s, i)
+    if value:
+        i = after_braces(s, i)
+    return i + 1 if s[i:i + 1] in (";", ",") else i
+
+
+def tokens(s):
+    """The tokens, where a clause and a ghost item are one each."""
+    i = 0
+    while i < len(s):
+        m = TOKEN.match(s, i)
+        kind, end = m.lastgroup, m.end()
+        if kind == "word" and CLAUSE.match(s, i):
+            kind, end = "clause", after_braces(s, i)
+        elif kind == "word" and m.group() == "ghost" and re.match(r"ghost\s+\w", s[i:i + 20]):
+            kind, end = "ghost", ghost_end(s, i)
+        yield Token(kind, s[i:end], i, end)
+        i = end
+
+
+def code(s):
+    """The words and signs alone: no blanks, comments, clauses or ghosts."""
+    return [t.text for t in tokens(s) if t.kind not in ("space", "comment", "clause", "ghost")]
+
+
+def close(ts, k):
+    """Behind the bracket that closes the one at ts[k]."""
+    depth = 0
+    while True:
+        depth += (ts[k].text in ("{", "(", "[")) - (ts[k].text in ("}", ")", "]"))
+        k += 1
+        if depth == 0:
+            return k
+
+
+def head_end(ts, k):
+    """Where the item's head that begins at ts[k] ends: at its `{` or `;`."""
+    while ts[k].text not in ("{", ";"):
+        k = close(ts, k) if ts[k].text in ("(", "[") else k + 1
+    return k
+
+
+def label_of(head):
+    """`Trait for Type` of an `impl`, or the type's or the trait's name, without parameters."""
+    words, depth = [], 0
+    for t in head:
+        if t.text == "where" and depth == 0:
+            break
+        depth -= t.text == ">"
+        if depth == 0 and t.kind not in ("clause", "ghost") and t.text not in (">", "pub"):
+            words.append(t.text)
+        depth += t.text == "<"
+    text = " ".join(w for w in words if w != "<")
+    text = re.sub(r"\w+ :: |^(impl|trait) | : .*", "", text)
+    return text.replace("& ", "&")
+
+
+def functions(s):
+    """Each function of a file, with what it stands in, its docs and its clauses."""
+    every = list(tokens(s))
+    ts = [t for t in every if t.kind not in ("space", "comment")]
+    labels, k, found = [], 0, []
+    while k < len(ts):
+        word = ts[k].text
+        if word in ("impl", "trait") and ts[k].kind == "word":
+            end = head_end(ts, k)
+            labels.append(label_of(ts[k:end]))
+            k = end + 1
+        elif word == "fn" and ts[k].kind == "word":
+            end = head_end(ts, k)
+            clauses = [t.text for t in ts[k:end] if t.kind == "clause"]
+            last = close(ts, end) if ts[end].text == "{" else end + 1
+            begin = head_begin(ts, k)
+            found.append(Function(
+                ts[k + 1].text, next((x for x in reversed(labels) if x), ""),
+                docs_before(s, begin), begin, ts[end].start if ts[end].text == "{" else None,
+                ts[last - 1].end, clauses))
+            k = last
+        else:
+            labels += [""] * (word == "{")
+            if word == "}" and labels:
+                labels.pop()
+            k += 1
+    return found
+
+
+def head_begin(ts, k):
+    """Where the function whose `fn` is ts[k] begins, with its visibility."""
+    while k and (ts[k - 1].text in ("pub", "final", "const") or ts[k - 1].text == ")"
+                 and ts[k - 3].text == "(" and ts[k - 4].text == "pub"):
+        k -= 4 if ts[k - 1].text == ")" else 1
+    return ts[k].start
+
+
+def docs_before(s, i):
+    """The span of the `///` lines above what begins at i, over attributes between."""
+    lines_end = s.rfind("\n", 0, i) + 1
+    end = lines_end
+    while True:
+        start = s.rfind("\n", 0, max(end - 1, 0)) + 1
+        if end and s[start:end].strip().startswith("#["):
+            end = start
+        else:
+            break
+    start = end
+    while start:
+        above = s.rfind("\n", 0, start - 1) + 1
+        if not s[above:start].strip().startswith("///"):
+            break
+        start = above
+    return (start, end)
