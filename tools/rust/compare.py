@@ -92,11 +92,11 @@ def table(same, rows):
         if k not in rows:
             raise Refused("compare: no body is of the row %r" % (row,))
     lines = ["%d bodies are word for word the proved ones. %d are not:" % (
-        same, sum(map(len, rows.values()))), "", "| What | How | Why |", "|---|---|---|"]
+        same, sum(map(len, rows.values()))), "", "| Where | How | Why |", "|---|---|---|"]
     for k in sorted(rows):
         places = defaultdict(list)
-        for path, name in rows[k]:
-            places[path].append("`%s`" % name)
-        what = "; ".join("%s: %s" % (p, ", ".join(names)) for p, names in places.items())
+        for crate, path, name in rows[k]:
+            places["%s: `%s`" % (crate, path)].append("`%s`" % name)
+        what = "; ".join("%s %s" % (p, ", ".join(names)) for p, names in places.items())
         lines.append("| %s | %s | %s |" % (what, REASONS[k][2], REASONS[k][3]))
     return "\n".join(lines)

@@ -4,7 +4,7 @@ from pathlib import Path
 
 from rules import apply
 
-PIECES = Path(__file__).parent / "pieces"
+PIECES = Path(__file__).parent / "static/pieces"
 TRAIT, ENDS = r"fallible_core/traits\.rs", r"fallible_core/traits/double_ended\.rs"
 COMPARE, ROUNDS = r"fallible_contract/comparing\.rs", r"fallible_core/comparing\.rs"
 POINTED = r"fallible_core/traits/b(?:orrowed|oxed)\.rs"

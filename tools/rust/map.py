@@ -6,9 +6,13 @@ ARM = r"Err\(refused\) => (?:[\w:]+\([\w:]+::from\(refused\)\),|\{[^{}]*::from\(
 NO_VALUE = r"Err(refused) => match refused {},"
 PROGRESSING = (r"let mut drawn = Progressing \{ it: &mut self\.it \};\n\s*match drawn\.", "match self.it.")
 
-HEAD = """#![no_std]
+HEAD = """#![doc = include_str!("../README.md")]
+#![no_std]
 #![forbid(unsafe_code)]
 #![warn(missing_docs)]
+// The bodies stay as they are proved.
+#![allow(clippy::manual_map, clippy::multiple_bound_locations, clippy::question_mark)]
+#![allow(clippy::single_match, clippy::type_complexity, clippy::wrong_self_convention)]
 
 #[cfg(feature = "alloc")]
 extern crate alloc;
@@ -61,8 +65,11 @@ ITERATOR = [
     (r"fallible_core/traits/boxed\.rs", r"^use crate::fallible_core::traits::Fall",
      "use alloc::boxed::Box;\nuse crate::fallible_core::traits::Fall", 1),
     (r"sources/making\.rs", r"^use crate::fallible_core::FallibleIterator;\n", "", 1),
-    (r"lib\.rs", r"^pub mod adapting;", HEAD + "#[doc(hidden)]\npub mod fallible_contract;\n#[doc(hidden)]\n"
-     "pub mod fallible_core;\n#[doc(hidden)]\npub mod memory;\n\n#[doc(hidden)]\npub mod adapting;", 1),
+    (r"lib\.rs", r"\A(?://!.*\n)+\n", HEAD + "".join("pub mod %s;\n" % m for m in ("fallible_contract", "fallible_core", "memory")), 1),
+    # What users need not see.
+    (r"lib\.rs", r"^pub mod (?!prelude)\w+;", r"#[doc(hidden)]\n\g<0>", 8),
+    (r"lib\.rs", r"^pub use .*(?:answers::|\{Collect, Fault|Number;)", r"#[doc(hidden)]\n\g<0>", 3),
+    (r"fallible_core/traits\.rs", r"^    fn (?:number|drive_\w+)\b", r"    #[doc(hidden)]\n\g<0>", 5),
 ]
 
 GROUPS = r"(?:chunks|chunk_by)\.rs"
@@ -112,7 +119,8 @@ ITERTOOLS = [
      r'#[cfg(feature = "std")]\n\g<0>', 4),
     (r"traits\.rs", r"^    fn (?:chunks|chunk_by|join)\b", r'    #[cfg(feature = "alloc")]\n\g<0>', 3),
     (r"traits\.rs", r"^    fn counts\b", r'    #[cfg(feature = "std")]\n\g<0>', 1),
-    (r"lib\.rs", r"\A((?://!.*\n)+\n)", r"\1" + HEAD, 1),
+    (r"lib\.rs", r"\A(?://!.*\n)+\n", HEAD, 1),
+    (r"lib\.rs", r"^pub mod \w+;", r"#[doc(hidden)]\n\g<0>", 23),
     (r"(?:growing|counted|joined)\.rs", r"\A(//!.*\n\n)", r"\1use fallible_iterator::memory::AllocError;\n", 3),
 ]
 

@@ -1,0 +1,146 @@
+"""Documentation: sentences for Rust, examples as doc tests, and the clauses under *Contract*."""
+import re
+
+from source import Refused, functions
+from examples import doc_test
+
+# What is said of proofs, handles or memory alone: the words, and what stands in their place.
+SAYS = [
+    # Preconditions that any value and any closure of Rust meets.
+    (r"Asks that the type's own condition[^.]*\.", ""),
+    (r", and that the (?:closure|predicate) may be called[^.]*", ""),
+    (r", and of the (?:closure|predicate) what `map` asks(?: of its closure)?", ""),
+    (r"Asks that the (?:closure|predicate) may be called[^.]*\.", ""),
+    (r"Asks (?:what|of the)\b[^.]*\.", ""),
+    (r"Asks that each of its clones[^.]*\.", ""),
+    (r"Asks nothing\.( The text is known[^.]*\.)?", ""),
+    (r" The text is known of items[^.]*\.", ""),
+    (r"Asks that it may be drawn from(?:, from either end,)? and is finite", "Asks that it is finite"),
+    (r"Asks that (?:it|both sides) may be drawn from, (?:from either end, )?(?:and )?that", "Asks that"),
+    (r"Asks that (?:it|both sides) may be drawn from(?:, from either end)?\.", ""),
+    (r" ?(?:Draws|Each draw) asks? (?:that|what)\b[^.]*\.", ""),
+    (r" It asks that (?:each clone|the inner)[^.]*\.", ""),
+    (r" A std loop over it asks a bound.*", ""),
+    # Preconditions that `face` checks.
+    (r"Asks that the step is at least 1\.", "It panics where the step is 0."),
+    (r"Asks that no failure can ever come, and so it never panics\.", "It panics at a failure."),
+    (r"Asks that (?=it|at most|one|n)", "Precondition, which is not checked: "),
+    (r"In place of a bound it asks that at most", "Precondition, which is not checked: at most"),
+    (r"([Dd]raws, fails), asks and", r"\1 and"),
+    (r"Draws, fails and asks as (`\w+`) does\.", r"It draws and fails as \1 does, and has its precondition."),
+    # Clauses and laws.
+    (r", and no clause says what is left", ""),
+    (r"by the type's law ", ""),
+    (r", and a caller's proof knows what is held", ""),
+    (r" after which a caller's proof knows what is held", ""),
+    (r", which the clauses of `next` don't say[^.]*", ""),
+    (r" A caller whose proof goes on[^.]*\.", ""),
+    (r" The clause says the rule;[^.]*\.", ""),
+    (r" The step(?: from the back)? says? which\.| The step of the type says which\.| The step from the back says which\.", ""),
+    (r" It fails where the step says so\. What is left is what the step says; it", " It"),
+    (r"A type of one's own writes `next`, `size_hint` and `contract`.*",
+     "A type of one's own writes `next`, and `size_hint` where it knows bounds."),
+    (r"A type of one's own writes `next_back` and `ends`.*", "A type of one's own writes `next_back`."),
+    (r"; a bound stays one after them all, and the hint is what the type's rule says of what is left", ""),
+    (r": `into_gives` says which", ""),
+    (r" What it lists from the back is said by `rev`[^.]*\.", ""),
+    (r" It may be drawn from where the std iterator[^.]*\.", ""),
+    (r", and after an item each bound is lower", ""),
+    (r"It states no bound, so it is drained", "It may have no end, and is drained"),
+    (r" Of a std iterator that doesn't say so,", "Of a std iterator that may go on after `None`,"),
+    (r" Where the closure's state shows what it will answer, that is listed\.", ""),
+    # Memory.
+    (r" ?Where (?:a|the) clone(?: for the first run)? is refused,[^.]*\.", ""),
+    (r" ?Where memory[^.]*is refused[^.]*\.", ""),
+    (r", and where a clone is refused, with the failure made of the refusal", ""),
+    (r"; where memory is refused, the failure made of the refusal is", ""),
+    (r", or memory for an item is refused, that failure", ", its failure"),
+    (r", calls nothing and takes no memory", " and calls nothing"),
+    (r" and takes no memory", ""),
+    (r" The run goes on after either\.", ""),
+    (r"the end, the first failure or an item that (?:the collection refuses|the map refuses|can't be appended)",
+     "the end or the first failure"),
+    (r" That the collection is made before the first draw[^.]*\.", ""),
+    (r"It fails with `Fault::Source` of the first failure.*? It takes", "It fails with that failure. It takes"),
+    (r"with `Fault::Source` of its failure", "with its failure"),
+    (r" Before a failure of the source all pairs were accepted\. A pair that is refused is lost\.", ""),
+    (r" Of equal items (?:a set keeps|they keep)[^.]*\.", ""),
+    # Signatures.
+    (r" It calls `into_fallible_iter` once, and keeps what that gives\.", ""),
+]
+# Calls whose example is no doc test, and why.
+NO_TEST = {"number": "only proofs read it"}
+CONTRACT = ["# Contract", "", "As it is proved, in the words of `docs/INDEX.md` of the repository:", "", "```text"]
+
+
+class Docs:
+    """What was said and run."""
+
+    def __init__(self, pool):
+        self.pool, self.said, self.run, self.compiled, self.left = pool, set(), 0, [], []
+
+    def sentence(self, line):
+        """One paragraph, in the words of Rust."""
+        for k, (old, new) in enumerate(SAYS):
+            line, n = re.subn(old, new, line)
+            if n:
+                self.said.add(k)
+        return line.strip()
+
+    def example(self, name, lines):
+        """The lines of a doc test, or none."""
+        test = None if name in NO_TEST else doc_test(self.pool, lines)
+        if test is None:
+            self.left.append(name)
+            return []
+        if test[1]:
+            self.run += 1
+        else:
+            self.compiled.append(name)
+        return ["```", *test[0], "```"]
+
+    def comment(self, name, lines, clauses):
+        """A `///` comment of a function, rewritten."""
+        blocks, k = [], 0
+        while k < len(lines):
+            if lines[k] == "```":
+                end = lines.index("```", k + 1)
+                blocks.append(self.example(name, lines[k + 1:end]))
+                k = end
+            elif lines[k]:
+                blocks.append([self.sentence(lines[k])])
+            k += 1
+        if clauses:
+            blocks.append(CONTRACT + [x for c in clauses for x in clause(c)] + ["```"])
+        blocks = [b for b in blocks if any(b)]
+        return [x for k, b in enumerate(blocks) for x in ([""] * (k > 0) + b)]
+
+    def rewrite(self, s, source):
+        """A file's comments, with the clauses of its source's functions."""
+        proved = {}
+        for f in functions(source):
+            proved.setdefault((f.label, f.name), []).append(f.clauses)
+        traits = set(re.findall(r"^pub trait (\w+)", s, re.M))
+        for f in reversed(functions(s)):
+            clauses = (proved.get((f.label, f.name)) or [[]])[0]
+            public = f.label in traits or s.startswith("pub fn", f.start)
+            start, end = f.docs
+            if start == end:
+                continue
+            indent = re.match(r"\s*", s[start:end]).group()
+            lines = [x.strip()[3:].removeprefix(" ") for x in s[start:end].rstrip("\n").split("\n")]
+            new = self.comment(f.name, lines, clauses if public else [])
+            s = s[:start] + "".join((indent + "/// " + x).rstrip() + "\n" for x in new) + s[end:]
+        return re.sub(r"(?m)^(\s*//[/!] )(?!# )(\S.*)$", lambda m: m.group(1) + self.sentence(m.group(2)), s)
+
+    def check(self):
+        """Refuses a rule that no sentence needs."""
+        for k, (old, _) in enumerate(SAYS):
+            if k not in self.said:
+                raise Refused("docs: no sentence has %r" % old)
+
+
+def clause(text):
+    """A clause's lines, indented by itself."""
+    first, *rest = [x.strip() for x in text.split("\n")]
+    return [first, *("    " + x for x in rest)]

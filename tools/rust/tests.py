@@ -1,0 +1,76 @@
+"""The repository's callers and tests as Rust: erased, and without allocators and the runtime."""
+import re
+
+from source import code, tokens
+import erase
+
+HANDLE = r"(?:rt\.alloc\(\)|self\.alloc|alloc|&rt|rt)"
+PLAIN = [
+    (r"^use std::(?:alloc|test|process)::.*;\n", ""),
+    (r"^([ \t]*)(?:alloc: Global|rt: &?HostRuntime|rt: &impl \w+),\n", ""),
+    (r"\b(?:alloc: Global|rt: &?HostRuntime|rt: &impl \w+)(?:, )?", ""),
+    (r"\b(assert|assert_eq|assert_ne|panic|println)!\(\s*&?rt;\s*", r"\1!("),
+    (r"\bprove(\w*)!\(", r"assert\1!("),
+    (r"\bformat!\(in [^;]*;\s*", "format!("),
+    (r"\bvec!\[in [^;]*;\s*", "vec!["),
+    (r"(?<=\()\s*%s,\s+" % HANDLE, ""),
+    (r",\s+%s(?=\s*,?\s*\))" % HANDLE, ""),
+    (r",\s+%s(?=,\s)" % HANDLE, ""),
+    (r"(?<=\()%s(?=\))" % HANDLE, ""),
+    (r"\b(?:: | \+ )?From<AllocError>(?=[>,])", lambda m: ""),
+    (r"^[ \t]*[\w:]+::Error: From<AllocError>,\n", ""),
+    (r"fn fmt<W: fmt::Write>\(&self, f: &mut fmt::Formatter<W>\)", "fn fmt(&self, f: &mut fmt::Formatter<'_>)"),
+    (r"\s*\.map_err\(\|_\| AllocError\)", ""),
+]
+# Calls that may be refused in Rattle: the name, its name in Rust.
+NEVER_REFUSED = [
+    ("Vec::from_array", "Vec::from"), ("String::from_str", "String::from"), (".to_vec", ".to_vec"),
+    (".clone", ".clone"), (".push", ".push"), ("Box::new", "Box::new"), ("format!", "format!"),
+    ("vec!", "vec!"), (".cycle", ".cycle"), (".insert", ".insert"), (".to_string", ".to_string"),
+    ("Vec::with_capacity", "Vec::with_capacity"), (".push_reserved", ".push"),
+    (".push_back", ".push_back"), (".extend_from_slice", ".extend_from_slice"),
+]
+
+
+def closing(s, i):
+    """Behind the bracket that closes the one at i."""
+    depth = 0
+    for t in tokens(s[i:]):
+        depth += (t.text in ("(", "[")) - (t.text in (")", "]")) if t.kind == "sign" else 0
+        if depth == 0:
+            return i + t.end
+
+
+def without_question(text, old, new):
+    """A call that Rust never refuses: no `?` behind it."""
+    for m in reversed(list(re.finditer(r"%s(?:::<[^()]*>)?(?=[(\[])" % re.escape(old), text.s))):
+        end = closing(text.s, m.end())
+        if text.s[end:end + 1] == "?":
+            text.replace(end, end + 1, "")
+        text.replace(m.start(), m.start() + len(old), new)
+
+
+def unwrapped(text, name):
+    """`name(x)` is x."""
+    for m in reversed(list(re.finditer(r"\b%s\(" % name, text.s))):
+        end = closing(text.s, m.end() - 1)
+        text.replace(end - 1, end, "")
+        text.replace(m.start(), m.end(), "")
+
+
+def as_rust(text):
+    """Erases a file of callers or tests, and maps it to Rust."""
+    erase.erase(text)
+    for pattern, new in PLAIN:
+        for m in reversed(list(re.finditer(pattern, text.s, re.M))):
+            text.replace(m.start(), m.end(), new(m) if callable(new) else m.expand(new))
+    for old, new in NEVER_REFUSED:
+        without_question(text, old, new)
+    unwrapped(text, "Fault::Source")
+    for m in reversed(list(re.finditer(r"\bFault<", text.s))):
+        depth, end = 1, m.end()
+        while depth:
+            depth += (text.s[end] == "<") - (text.s[end] == ">")
+            end += 1
+        text.replace(end - 1, end, "")
+        text.replace(m.start(), m.end(), "")
