@@ -70,7 +70,8 @@ SAYS = [
 ]
 # Calls whose example is no doc test, and why.
 NO_TEST = {"number": "only proofs read it"}
-CONTRACT = ["# Contract", "", "As it is proved, in the words of `docs/INDEX.md` of the repository:", "", "```text"]
+# Calls whose signature is another in Rust.
+OTHER = {"collect", "partition", "unzip", "cycle", "chain", "counts", "join"}
 
 
 class Docs:
@@ -111,7 +112,9 @@ class Docs:
                 blocks.append([self.sentence(lines[k])])
             k += 1
         if clauses:
-            blocks.append(CONTRACT + [x for c in clauses for x in clause(c)] + ["```"])
+            proved = "As it is proved, " + "where its signature is another, " * (name in OTHER)
+            blocks.append(["# Contract", "", proved + "in the words of `docs/INDEX.md` of the repository:",
+                           "", "```text"] + [x for c in clauses for x in clause(c)] + ["```"])
         blocks = [b for b in blocks if any(b)]
         return [x for k, b in enumerate(blocks) for x in ([""] * (k > 0) + b)]
 

@@ -23,6 +23,7 @@ ARGUMENTS = [
     (r"&mut Peekable<[IJ]>", "&mut fallible_iterator::convert::<u32, u8, _>(%s.into_iter()).peekable()" % READINGS),
     (r"&mut [IJ]", "&mut fallible_iterator::convert::<u32, u8, _>(%s.into_iter())" % READINGS),
     (r"[IJ]", "fallible_iterator::convert::<{Item}, u8, _>(%s.into_iter())" % READINGS),
+    (r"Script<u32, u32>", "Script { answers: vec![Ok(Some(1)), Err(2)].into_iter() }"),
     (r"R", 'b"20\\n22\\n".as_slice()'),
     (r"[ui]\d+", "5"),
 ]

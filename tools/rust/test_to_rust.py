@@ -1,0 +1,89 @@
+#!/usr/bin/env python3
+"""What to_rust refuses: each time it says where and why, and writes nothing."""
+import shutil
+import subprocess
+import sys
+import tempfile
+import unittest
+from pathlib import Path
+
+TOP = Path(__file__).resolve().parent.parent.parent
+CORE = "crates/fallible_core/src/"
+
+
+class Refusals(unittest.TestCase):
+    def setUp(self):
+        self.folder = Path(tempfile.mkdtemp())
+        self.tree, self.out = self.folder / "tree", self.folder / "out"
+        for path in TOP.glob("crates/*/src"):
+            shutil.copytree(path, self.tree / path.relative_to(TOP))
+        shutil.copy(TOP / "LICENSE", self.tree)
+
+    def tearDown(self):
+        shutil.rmtree(self.folder)
+
+    def run_it(self):
+        run = [sys.executable, str(TOP / "tools/to_rust"), str(self.out), "--tree", str(self.tree)]
+        done = subprocess.run(run, capture_output=True, text=True)
+        return done.returncode, done.stderr
+
+    def edit(self, path, old, new):
+        file = self.tree / path
+        text = file.read_text(encoding="utf-8")
+        self.assertIn(old, text)
+        file.write_text(text.replace(old, new, 1), encoding="utf-8")
+
+    def refused(self, *words):
+        status, said = self.run_it()
+        self.assertEqual(status, 1, said)
+        for word in words:
+            self.assertIn(word, said)
+        self.assertNotIn("Traceback", said)
+
+    def test_an_item_is_missing(self):
+        self.edit(CORE + "joining/cycle.rt", "self.kept.clone()", "self.kept.copy()")
+        self.refused(CORE + "joining/cycle.rt:1:", "fits 0 times, not 1")
+        self.assertFalse(self.out.exists())
+
+    def test_an_item_stands_twice(self):
+        self.edit(CORE + "number.rt", "use std::marker::{Model, PhantomData};",
+                  "use std::marker::{Model, PhantomData};\nuse std::marker::{Model, PhantomData};")
+        self.refused(CORE + "number.rt:", "fits 2 times, not 1")
+        self.assertFalse(self.out.exists())
+
+    def test_a_file_is_missing(self):
+        (self.tree / "crates/fallible_contract/src/collecting/hashed.rt").unlink()
+        self.refused("fallible_contract/collecting/hashed.rs is not there")
+        self.assertFalse(self.out.exists())
+
+    def test_a_drop_does_something(self):
+        self.edit(CORE + "number.rt", "let Self { marker: _ } = self;", "tell(self);")
+        self.refused(CORE + "number.rt:", "a `drop` that does something")
+        self.assertFalse(self.out.exists())
+
+    def test_the_folder_holds_something_else(self):
+        self.out.mkdir()
+        (self.out / "letter").write_text("mine")
+        self.refused("holds letter")
+        self.assertEqual([p.name for p in self.out.iterdir()], ["letter"])
+
+    def test_the_folder_was_changed(self):
+        self.assertEqual(self.run_it()[0], 0)
+        self.assertEqual(self.run_it()[0], 0)
+        (self.out / "fallible-iterator/Cargo.lock").write_text("of cargo")
+        self.assertEqual(self.run_it()[0], 0)
+        (self.out / "fallible-iterator/README.md").write_text("mine")
+        self.refused("holds fallible-iterator/README.md")
+        self.assertEqual((self.out / "fallible-iterator/README.md").read_text(), "mine")
+
+    def test_a_link_leads_out(self):
+        self.out.mkdir()
+        elsewhere = self.folder / "elsewhere"
+        elsewhere.mkdir()
+        (self.out / "fallible-iterator").symlink_to(elsewhere)
+        self.refused("holds fallible-iterator")
+        self.assertEqual(list(elsewhere.iterdir()), [])
+
+
+if __name__ == "__main__":
+    unittest.main()
