@@ -13,7 +13,7 @@ PLAIN = [
     (r"\bprove(\w*)!\(", r"assert\1!("),
     (r"\bformat!\(in [^;]*;\s*", "format!("),
     (r"\bvec!\[in [^;]*;\s*", "vec!["),
-    (r"(?<=\()\s*%s,\s+" % HANDLE, ""),
+    (r"(?<=\()(?:\s*%s,\s+)+" % HANDLE, ""),
     (r",\s+%s(?=\s*,?\s*\))" % HANDLE, ""),
     (r",\s+%s(?=,\s)" % HANDLE, ""),
     (r"(?<=\()%s(?=\))" % HANDLE, ""),
@@ -21,6 +21,16 @@ PLAIN = [
     (r"^[ \t]*[\w:]+::Error: From<AllocError>,\n", ""),
     (r"fn fmt<W: fmt::Write>\(&self, f: &mut fmt::Formatter<W>\)", "fn fmt(&self, f: &mut fmt::Formatter<'_>)"),
     (r"\s*\.map_err\(\|_\| AllocError\)", ""),
+    (r"^ *Err\(Fault::Memory\(\w+\)\) => [^{\n]*,\n", ""),
+    (r", Global>", ">"),
+    # Laws are called for their clauses alone.
+    (r"^ *law_\w+(?:::<[^;]*>)?\([^;]*\);\n", ""),
+    (r"\blaw_\w+, |,\s*law_\w+(?=[,}])|^use [\w:]+::law_\w+;\n|\{law_\w+\}", ""),
+    (r"^use [\w:]+::\{law_\w+\};\n", ""),
+    (r"^ *[\w:]+::Error,\n(?=\{)", ""),
+    (r"^ *let alloc = .*;\n|^ *alloc(?:: [\w.()]+)?,\n", ""),
+    (r"\.try_collect\(\)", ".collect::<Result<Vec<_>, _>>()"),
+    (r"\bmatch ((?:self\.)?\w+\.push\([^()]*\)) \{", r"match Ok::<(), AllocError>(\1) {"),
 ]
 # Calls that may be refused in Rattle: the name, its name in Rust.
 NEVER_REFUSED = [
