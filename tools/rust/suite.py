@@ -1,8 +1,9 @@
 """The repository's own tests as the Rust crates' integration tests."""
 import re
+from pathlib import Path
 
-from source import Refused, Text, functions
-from examples import ITEM
+from source import Text, functions
+from examples import ITEM, use_names
 import tests
 
 # The crates of callers and tests that each Rust crate's tests are made of.
@@ -17,7 +18,7 @@ SUITES = {
 # Items that are left out, with those that use them: a pattern of their text, and why.
 LEFT_OUT = [
     (r"\bFault::Memory\b|\bAllocError\)|-> AllocError|\bexpect_refused\b", "memory is refused"),
-    (r"-> Result<\w+(?:<.*?>)?, AllocError> \{[^§]*\.clones\b", "a clone is refused"),
+    (r"Result<\w+, AllocError> = \w+\.clone\(", "a clone is refused"),
     (r"\bCollect<", "a `Collect` of one's own"),
     (r"\bReadingFault\b", "`collect` has a failure of its own"),
     (r"Result<Vec<u32>, AllocError>\s*\{[^;]*\.collect\(\)\s*\}|\.push\([^()]*\)\.is_err|Vec::from_slice", "std refuses memory"),
@@ -65,13 +66,13 @@ def leave_out(files, count):
     while more:
         more = False
         for path, blocks in files.items():
-            whole = "\n\n".join(blocks)
+            imported = " ".join(use_names("\n\n".join(blocks)))
             for item in blocks[:]:
                 if not ITEM.search(item):
                     continue
                 code = re.sub(r"//.*", "", item[ITEM.search(item).start():])
-                used = [gone[w] for w in set(re.findall(r"\w+", code)) & set(gone)
-                        if gone[w][0] == path or re.search(r"^use [^;]*\b%s\b" % w, whole, re.M)]
+                used = [gone[w] for w in sorted(set(re.findall(r"\w+", code)) & set(gone))
+                        if gone[w][0] == path or "%s::%s" % (Path(gone[w][0]).stem, w) in imported]
                 why = next((w for p, w in LEFT_OUT if re.search(p, code)), used[0][1] if used else None)
                 if why:
                     more = True
@@ -84,7 +85,8 @@ def leave_out(files, count):
     for blocks in files.values():
         for k, item in enumerate(blocks):
             for use in re.findall(r"^use [^;]*;", item, re.M):
-                names = [n for n in gone if re.search(r"\b%s\b" % n, use)]
+                paths = " ".join(use_names(use))
+                names = [n for n in gone if "%s::%s" % (Path(gone[n][0]).stem, n) in paths]
                 less = use
                 for n in names:
                     less = re.sub(r"\b%s,\s*|,\s*%s(?=\s*,?\s*\})|^use [\w:]+::%s;|(?<=\{)%s(?=\})" % (n, n, n, n), "", less)

@@ -1,7 +1,7 @@
 """The repository's callers and tests as Rust: erased, and without allocators and the runtime."""
 import re
 
-from source import code, tokens
+from source import functions, tokens
 import erase
 
 HANDLE = r"(?:rt\.alloc\(\)|self\.alloc|alloc|&rt|rt)"
@@ -68,6 +68,15 @@ def unwrapped(text, name):
         text.replace(m.start(), m.end(), "")
 
 
+def clones(text):
+    """A `clone` of one's own answers the value."""
+    for f in reversed(functions(text.s)):
+        kind = re.search(r"-> Result<(.*), AllocError> $", text.s[f.start:f.open]) if f.name == "clone" else None
+        if kind:
+            text.replace(f.end, f.end, ")().unwrap()\n    }")
+            text.replace(f.start + kind.start(), f.open, "-> %s {\n        (|| %s" % (kind.group(1), kind.group()))
+
+
 def as_rust(text):
     """Erases a file of callers or tests, and maps it to Rust."""
     erase.erase(text)
@@ -76,6 +85,7 @@ def as_rust(text):
             text.replace(m.start(), m.end(), new(m) if callable(new) else m.expand(new))
     for old, new in NEVER_REFUSED:
         without_question(text, old, new)
+    clones(text)
     unwrapped(text, "Fault::Source")
     for m in reversed(list(re.finditer(r"\bFault<", text.s))):
         depth, end = 1, m.end()
