@@ -21,14 +21,14 @@ PLAIN = [
     (r"^[ \t]*[\w:]+::Error: From<AllocError>,\n", ""),
     (r"fn fmt<W: fmt::Write>\(&self, f: &mut fmt::Formatter<W>\)", "fn fmt(&self, f: &mut fmt::Formatter<'_>)"),
     (r"\s*\.map_err\(\|_\| AllocError\)", ""),
-    (r"^ *Err\(Fault::Memory\(\w+\)\) => [^{\n]*,\n", ""),
+    (r"^ *(?:Err\()?Fault::Memory\(\w+\)\)? => [^{\n]*,\n", ""),
     (r", Global>", ">"),
     # Laws are called for their clauses alone.
     (r"^ *law_\w+(?:::<[^;]*>)?\([^;]*\);\n", ""),
     (r"\blaw_\w+, |,\s*law_\w+(?=[,}])|^use [\w:]+::law_\w+;\n|\{law_\w+\}", ""),
     (r"^use [\w:]+::\{law_\w+\};\n", ""),
     (r"^ *[\w:]+::Error,\n(?=\{)", ""),
-    (r"^ *let alloc = .*;\n|^ *alloc(?:: [\w.()]+)?,\n", ""),
+    (r"^ *let (?:alloc|_) = (?:rt\.alloc\(\)|alloc);\n|^ *alloc(?:: [\w.()]+)?,\n", ""),
     (r"\.try_collect\(\)", ".collect::<Result<Vec<_>, _>>()"),
     (r"\bmatch ((?:self\.)?\w+\.push\([^()]*\)) \{", r"match Ok::<(), AllocError>(\1) {"),
 ]
