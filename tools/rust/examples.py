@@ -2,16 +2,11 @@
 import re
 from collections import defaultdict
 
-from source import Text, functions, label_of, tokens
+from source import Text, functions, tokens
 import tests
 
 # The crates whose functions and types examples are from, and the laws' functions that show answers.
 POOL = re.compile(r"crates/(?!fallible_(contract|core|itertools|calls)|fallible_iterator/src/(?!laws/traces))")
-SUPPORT = """
-struct Fail;
-impl Fail { fn new(what: impl std::fmt::Display) -> Fail { panic!("{what}") } }
-impl<E: std::fmt::Debug> From<E> for Fail { fn from(e: E) -> Fail { panic!("{e:?}") } }
-"""
 # What a hidden `main` passes, by the parameter's type.
 READINGS = "[Ok(150), Ok(7), Ok(700), Ok(0), Ok(600)]"
 ARGUMENTS = [
@@ -28,7 +23,6 @@ ARGUMENTS = [
     (r"[ui]\d+", "5"),
 ]
 TRAITS = re.compile(r"^(Write|Read|BufRead|PeekingNext|Hash|(DoubleEnded)?Fallible\w+|\w+Ext)$")
-ITEM = re.compile(r"^(?:#\[.*\]\n)*(?:pub(?:\([^)]*\))? )?(fn|struct|enum|trait|const|type|static|impl)\b", re.M)
 
 
 def dedented(lines):
@@ -74,21 +68,14 @@ class Pool:
         if place in self.items:
             return
         text = Text(place, self.raw[place])
-        tests.as_rust(text)
-        self.files[place] = text.s
         self.items[place], self.impls[place] = {}, defaultdict(list)
-        for block in re.split(r"\n\n(?=[^\s}])", text.s):
-            head = ITEM.search(block)
-            if not head:
-                continue
-            item = block[head.start():].rstrip()
-            item = "\n".join(x for x in item.split("\n") if not re.match(r"\s*//", x))
-            if head.group(1) == "impl":
-                ts = [t for t in tokens(item[:item.index("{")]) if t.kind not in ("space", "comment")]
-                self.impls[place][re.split(r"\W+", label_of(ts).split(" for ")[-1])[0]].append(item)
-            else:
-                name = re.match(r"[^{(=;]*?\b%s (\w+)" % head.group(1), item[item.index(head.group(1)):])
-                self.items[place][name.group(1)] = item
+        for item in tests.items(text):
+            code = re.sub(r"^\s*//.*\n", "", item.text[item.head:].rstrip(), flags=re.M)
+            if item.kind == "impl":
+                self.impls[place][item.name].append(code)
+            elif item.kind:
+                self.items[place][item.name] = code
+        self.files[place] = text.s
 
     def place_of(self, path):
         """The file that a `use` path of the repository's own names, and the name in it."""
@@ -127,7 +114,7 @@ class Pool:
             texts = [self.items[place][name] if items else main, *self.impls[place].get(name, [])]
             items[place, name] = texts
             words = {t.text for x in texts for t in tokens(x) if t.kind == "word"}
-            todo += [(place, w) for w in words if w in self.items[place]]
+            todo += [(place, w) for w in sorted(words) if w in self.items[place]]
             for path in use_names(self.files[place]):
                 full = re.sub(r"^crate::", place.split("/")[1] + "::", path)
                 last = full.split("::")[-1]
@@ -206,7 +193,7 @@ def doc_test(pool, lines):
     if re.search(r"\bAllocError\b", every):
         before.append("use fallible_iterator::memory::AllocError;")
     if re.search(r"\bFail\b", every):
-        before += SUPPORT.strip().split("\n")
+        before += tests.FAIL.split("\n")[1:]
     before += [x for t in sum(items[1:], []) for x in t.split("\n")] + parts[0]
     after = parts[1] + ["fn main() { %s }" % (run or "")]
     return hidden(before) + want + hidden(after), run is not None

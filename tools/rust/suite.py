@@ -2,9 +2,9 @@
 import re
 from pathlib import Path
 
-from source import Text, functions
-from examples import ITEM, use_names
 import tests
+from examples import use_names
+from source import Text, functions
 
 # The crates of callers and tests that each Rust crate's tests are made of.
 SUITES = {
@@ -37,86 +37,53 @@ def modules(top, crate, count):
         for path in sorted(src.rglob("*.rt")):
             rel = path.relative_to(src).with_suffix(".rs")
             rel = source + ".rs" if str(rel) == "lib.rs" else "%s/%s" % (source, rel)
-            files[rel] = items(Text(str(path.relative_to(top)), path.read_text(encoding="utf-8")))
+            files[rel] = list(tests.items(Text(str(path.relative_to(top)), path.read_text(encoding="utf-8"))))
     traces = top / "crates/fallible_iterator/src/laws/traces.rt"
-    files["laws.rs"] = items(Text(str(traces), traces.read_text(encoding="utf-8")))
+    files["laws.rs"] = list(tests.items(Text(str(traces), traces.read_text(encoding="utf-8"))))
     leave_out(files, count)
     out = {"tests/proved/" + path: module(path, blocks, count) for path, blocks in files.items()}
     out["tests/proved/main.rs"] = MAIN + "".join("mod %s;\n" % m for m in ["laws", *SUITES[crate]])
     return out
 
 
-def items(text):
-    """The items of a file, as Rust."""
-    tests.as_rust(text)
-    s = re.sub(r"^//!.*\n|^#!\[.*\]\n", "", text.s, flags=re.M)
-    return re.split(r"\n\n(?=[^\s}])", s)
-
-
-def name_of(item):
-    """The name of an item, or of the type whose `impl` it is."""
-    head = ITEM.search(item)
-    if not head:
-        return None
-    if head.group(1) == "impl":
-        return re.sub(r"<[^{]*?> |<.*", "", item[head.start():].split("{")[0].split(" for ")[-1]).split()[-1]
-    return re.search(r"\b%s (\w+)" % head.group(1), item).group(1)
-
-
 def leave_out(files, count):
-    """Leaves out what has no place in Rust, and what uses it."""
+    """Leaves out what has no place in Rust, and what uses it, with its imports."""
     gone, more = {}, True
     while more:
         more = False
-        for path, blocks in files.items():
-            imported = " ".join(use_names("\n\n".join(blocks)))
-            for item in blocks[:]:
-                if not ITEM.search(item):
-                    continue
-                code = re.sub(r"//.*", "", item[ITEM.search(item).start():])
+        for path, items in files.items():
+            imported = " ".join(use_names("\n\n".join(item.text for item in items)))
+            for item in [x for x in items if x.kind]:
+                code = re.sub(r"//.*", "", item.text[item.head:])
                 words = set(re.findall(r"\w+", code))
                 used = [of for (at, name), of in sorted(gone.items()) if name in words
                         and (at == path or "%s::%s" % (Path(at).stem, name) in imported)]
                 why = next((w for p, w in LEFT_OUT if re.search(p, code)), used[0] if used else None)
                 if why:
                     more = True
-                    blocks.remove(item)
-                    name = name_of(item)
-                    if "#[test]" in item:
+                    items.remove(item)
+                    if "#[test]" in code:
                         count[why] = count.get(why, 0) + 1
-                    elif name and not item.startswith("impl From"):
-                        gone[path, name] = why
-    for blocks in files.values():
-        for k, item in enumerate(blocks):
-            for use in re.findall(r"^use [^;]*;", item, re.M):
-                paths = " ".join(use_names(use))
-                names = [n for at, n in gone if "%s::%s" % (Path(at).stem, n) in paths]
-                less = use
-                for n in names:
-                    less = re.sub(r"\b%s,\s*|,\s*%s(?=\s*,?\s*\})|^use [\w:]+::%s;|(?<=\{)%s(?=\})" % (n, n, n, n), "", less)
-                item = item.replace(use, less)
-            blocks[k] = item
+                    elif not code.startswith("impl From"):
+                        gone[path, item.name] = why
+    for path, items in files.items():
+        files[path] = [re.sub(r"^use [^;]*;", lambda m: fewer(m.group(), gone), x.text, flags=re.M) for x in items]
+
+
+def fewer(use, gone):
+    """An import without the names that are gone."""
+    paths = " ".join(use_names(use))
+    for at, name in gone:
+        if "%s::%s" % (Path(at).stem, name) in paths:
+            use = re.sub(r"\bN,\s*|,\s*N(?=\s*,?\s*\})|^use [\w:]+::N;|(?<=\{)N(?=\})".replace("N", name), "", use)
+    return use
 
 
 MAIN = """//! The tests of the proved libraries, erased in the same way.
 #![allow(dead_code, unused, clippy::all)]
 
-/// What a test fails with: it panics where it is made.
-pub struct Fail;
-
-impl Fail {
-    fn new(what: impl std::fmt::Display) -> Fail {
-        panic!("{what}")
-    }
-}
-
-impl<E: std::fmt::Debug> From<E> for Fail {
-    fn from(e: E) -> Fail {
-        panic!("{e:?}")
-    }
-}
-
-"""
+%s
+""" % tests.FAIL
 
 
 def module(path, blocks, count):

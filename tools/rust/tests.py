@@ -1,8 +1,15 @@
 """The repository's callers and tests as Rust: erased, and without allocators and the runtime."""
 import re
+from collections import namedtuple
+from pathlib import Path
 
-from source import functions, tokens
 import erase
+from source import functions, label_of, tokens
+
+FAIL = (Path(__file__).parent / "static/pieces/fail.rs").read_text(encoding="utf-8")
+# A top-level item: what it is, its name or that of the type whose `impl` it is, its text and where its head begins.
+Item = namedtuple("Item", "kind name text head")
+ITEM = re.compile(r"^(?:#\[.*\]\n)*(?:pub(?:\([^)]*\))? )?(fn|struct|enum|trait|const|type|static|impl)\b", re.M)
 
 HANDLE = r"(?:rt\.alloc\(\)|self\.alloc|alloc|&rt|rt)"
 PLAIN = [
@@ -94,3 +101,20 @@ def as_rust(text):
             end += 1
         text.replace(end - 1, end, "")
         text.replace(m.start(), m.end(), "")
+
+
+def items(text):
+    """The items of a file as Rust. What is none, as imports, has no kind."""
+    as_rust(text)
+    s = re.sub(r"^//!.*\n|^#!\[.*\]\n", "", text.s, flags=re.M)
+    for block in re.split(r"\n\n(?=[^\s}])", s):
+        head = ITEM.search(block)
+        if not head:
+            yield Item(None, None, block, 0)
+        elif head.group(1) == "impl":
+            at = head.start(1)
+            ts = [t for t in tokens(block[at:block.index("{", at)]) if t.kind not in ("space", "comment")]
+            yield Item("impl", re.findall(r"\w+", label_of(ts).split(" for ")[-1])[0], block, head.start())
+        else:
+            name = re.match(r"\w+ (?:mut )?(\w+)", block[head.start(1):]).group(1)
+            yield Item(head.group(1), name, block, head.start())
