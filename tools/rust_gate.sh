@@ -6,9 +6,12 @@ if ! command -v cargo > /dev/null; then
     echo "rust: no cargo is here, so the Rust crates are not built"
     exit 0
 fi
-python3 tools/rust/test_to_rust.py --quiet
 folder=$(mktemp -d)
 trap 'rm -rf "$folder"' EXIT
+python3 tools/rust/test_to_rust.py 2> "$folder/refusals" || {
+    cat "$folder/refusals" >&2
+    exit 1
+}
 tools/to_rust "$folder/out" > "$folder/said"
 tools/to_rust --table > "$folder/table"
 if ! sed -n '/<!-- to_rust --table -->/,/<!-- end -->/p' docs/RUST.md | sed '1d;$d' | cmp -s - "$folder/table"; then
