@@ -4,7 +4,9 @@ from rules import ANY, apply, drop_files
 C, K, I = r"fallible_contract(?:/.*)?\.rs|fallible_contract\.rs", r"fallible_core(?:/.*)?\.rs", r".*"
 ARM = r"Err\(refused\) => (?:[\w:]+\([\w:]+::from\(refused\)\),|\{[^{}]*::from\(refused\)\)\s*\})"
 NO_VALUE = r"Err(refused) => match refused {},"
-PROGRESSING = (r"let mut drawn = Progressing \{ it: &mut self\.it \};\n\s*match drawn\.", "match self.it.")
+DRAWN = (r"let mut drawn = Progressing \{ it: &mut self\.it \};\n\s*match drawn\.(try_r?fold)\(\s*state,\s*\|state, (\w+)\| "
+         r"(turn_of_element\(turn, state, (?:element|Ok\(x\))\)),?\s*\) \{\n(?:.*\n)*?        \}\n")
+BORROWED = r"match self.it.\1((), |(), \2| \3) {\n            Ok(()) => Ok(None),\n            Err(answer) => answer,\n        }\n"
 
 HEAD = """#![doc = include_str!("../README.md")]
 #![no_std]
@@ -49,10 +51,17 @@ ITERATOR = [
     (r"sources/repeat_err\.rs", r"self\.error\.clone\(\)", "self.error.try_clone()", 1),
     (r".*/(?:cycle|cloned|repeat|repeat_err)\.rs", ARM, NO_VALUE, 4),
     (r".*/(?:cycle|cloned|repeat|repeat_err)\.rs", r"\A((?://.*\n)+\n)", r"\1use crate::memory::TryClone;\n", 4),
-    # Folds of a std iterator: `Progressing`, which a proof wants, hides the iterator's own.
-    (r"sources/(?:convert|into_fallible)\.rs", *PROGRESSING, 4),
+    # Folds of a std iterator: `Progressing`, which a proof wants, hides the iterator's own; and the
+    # closure borrows the state, which a proof wants carried from turn to turn.
+    (r"sources/(?:convert|into_fallible)\.rs", DRAWN, BORROWED, 4),
     (r"sources/(?:convert|into_fallible)\.rs", r"\{Progressing, turn_of_element\}", "turn_of_element", 2),
     (r"sources/std_fold\.rs", r"^// A std iterator that a[^§]*(?=^// One turn of std's fold)", "", 1),
+    (r"sources/std_fold\.rs", r" The caller's state is what std's fold carries\.", "", 1),
+    (r"sources/std_fold\.rs", r"<'a, C,", "<C,", 1),
+    (r"sources/std_fold\.rs", r"Result<&'a mut C, \(&'a mut C, Result<Option<R>, E>\)>", "Result<(), Result<Option<R>, E>>", 1),
+    (r"sources/std_fold\.rs", r"&'a mut C", "&mut C", 1),
+    (r"sources/std_fold\.rs", r"Ok\(state\)", "Ok(())", 1),
+    (r"sources/std_fold\.rs", r"\(state, (Ok\(Some\(stop\)\)|Err\(e\))\)", r"\1", 2),
     # What Rust writes otherwise.
     (r"fallible_core/one_to_one/map\.rs", r"fn fmt<W: fmt::Write>\(&self, f: &mut fmt::Formatter<W>\)",
      "fn fmt(&self, f: &mut fmt::Formatter<'_>)", 1),
