@@ -61,6 +61,11 @@ class Refusals(unittest.TestCase):
         self.refused(CORE + "number.rt:", "a `drop` that does something")
         self.assertFalse(self.out.exists())
 
+    def test_a_body_is_changed_for_no_reason(self):
+        self.edit(CORE + "ends/rev.rt", "self.it.next_back()", "std::convert::identity(self.it.next_back())")
+        self.refused("fallible_core/ends/rev.rs", "is changed, and no row says why")
+        self.assertFalse(self.out.exists())
+
     def test_the_folder_holds_something_else(self):
         self.out.mkdir()
         (self.out / "letter").write_text("mine")
