@@ -14,7 +14,8 @@ SUITES = {
         "fallible_vectors_ends", "fallible_vectors_callers", "fallible_uses", "fallible_vectors_uses",
         "fallible_elf", "fallible_vectors_elf", "fallible_rows", "fallible_vectors_rows",
     ],
-    "fallible-itertools": ["fallible_testing", "fallible_callers_itertools", "fallible_vectors_itertools", "fallible_scripts"],
+    "fallible-itertools": ["fallible_testing", "fallible_callers_itertools", "fallible_vectors_itertools", "fallible_scripts",
+                           "fallible_calls_itertools"],
 }
 # Items that are left out, with those that use them: a pattern of their text, and why.
 LEFT_OUT = [
@@ -31,8 +32,8 @@ LEFT_OUT = [
 
 def modules(top, crate, count):
     """The suite's files by path. `count` gets how many tests there are, and are left out for each reason."""
-    files = {}
-    for source in SUITES[crate]:
+    files, crates = {}, [x for x in SUITES[crate] if (top / "crates" / x / "src").is_dir()]
+    for source in crates:
         src = top / "crates" / source / "src"
         for path in sorted(src.rglob("*.rt")):
             rel = path.relative_to(src).with_suffix(".rs")
@@ -42,7 +43,7 @@ def modules(top, crate, count):
     files["laws.rs"] = list(tests.items(Text(str(traces), traces.read_text(encoding="utf-8"))))
     leave_out(files, count)
     out = {"tests/proved/" + path: module(path, blocks, count) for path, blocks in files.items()}
-    out["tests/proved/main.rs"] = MAIN + "".join("mod %s;\n" % m for m in ["laws", *SUITES[crate]])
+    out["tests/proved/main.rs"] = MAIN + "".join("mod %s;\n" % m for m in ["laws", *crates])
     return out
 
 
@@ -90,7 +91,7 @@ def module(path, blocks, count):
     """One file as a module of the suite."""
     s = "\n\n".join(blocks)
     s = re.sub(r"\bcrate::", "crate::%s::" % re.split(r"[/.]", path)[0], s)
-    s = re.sub(r"(?<![\w:])(fallible_(?:testing|callers\w*|vectors\w*|uses|elf|rows|scripts))::", r"crate::\1::", s)
+    s = re.sub(r"(?<![\w:])(fallible_(?:testing|callers\w*|vectors\w*|uses|elf|rows|scripts|calls\w*))::", r"crate::\1::", s)
     s = re.sub(r"\bfallible_iterator::laws::", "crate::laws::", s)
     s = re.sub(r"(?<![\w:])fallible_(contract|core)::", r"fallible_iterator::fallible_\1::", s)
     s = re.sub(r"(?<=[{ ])Fault, |, Fault(?=[,}])", "", s)
