@@ -36,7 +36,7 @@ SAYS = [
     (r", which the clauses of `next` don't say[^.]*", ""),
     (r" A caller whose proof goes on[^.]*\.", ""),
     (r" The clause says the rule;[^.]*\.", ""),
-    (r" The step(?: from the back)? says? which\.| The step of the type says which\.| The step from the back says which\.", ""),
+    (r" The step (?:of the type|from the back) says which\.", ""),
     (r" It fails where the step says so\. What is left is what the step says; it", " It"),
     (r"A type of one's own writes `next`, `size_hint` and `contract`.*",
      "A type of one's own writes `next`, and `size_hint` where it knows bounds."),

@@ -81,11 +81,9 @@ class Pool:
         """The file that a `use` path of the repository's own names, and the name in it."""
         parts = path.replace("fallible_iterator::laws::a", "fallible_iterator::laws::traces::a").split("::")
         for n in range(len(parts) - 1, 0, -1):
-            rest = "/".join(parts[1:n])
-            for tail in ("%s.rt" % rest if rest else "lib.rt",):
-                place = "crates/%s/src/%s" % (parts[0], tail)
-                if place in self.raw:
-                    return place, parts[n], "::".join(parts[n:])
+            place = "crates/%s/src/%s.rt" % (parts[0], "/".join(parts[1:n]) or "lib")
+            if place in self.raw:
+                return place, parts[n], "::".join(parts[n:])
         return None
 
     def find(self, lines):
@@ -144,7 +142,8 @@ def call(item, name):
     head = item[item.index("fn " + name):item.index("{")]
     generics, rest = head.split("(", 1)
     inside = rest[:tests.closing("(" + rest, 0) - 2]
-    kinds = [re.sub(r"\s+", " ", p.split(": ", 1)[1]).strip(", ") for p in re.split(r",\s+(?=(?:mut )?\w+: )", inside.strip()) if ": " in p]
+    parameters = re.split(r",\s+(?=(?:mut )?\w+: )", inside.strip())
+    kinds = [re.sub(r"\s+", " ", p.split(": ", 1)[1]).strip(", ") for p in parameters if ": " in p]
     values = [argument(k, head) for k in kinds]
     return None if None in values else "let _ = %s(%s);" % (name, ", ".join(values))
 

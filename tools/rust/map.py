@@ -1,12 +1,14 @@
 """Mapping: std of Rattle to std of Rust. Memory is never refused there: a refusal has no value."""
 from rules import ANY, apply, drop_files
 
-C, K, I = r"fallible_contract(?:/.*)?\.rs|fallible_contract\.rs", r"fallible_core(?:/.*)?\.rs", r".*"
+CONTRACT, CORE, EVERY = r"fallible_contract(?:/.*)?\.rs", r"fallible_core(?:/.*)?\.rs", r".*"
 ARM = r"Err\(refused\) => (?:[\w:]+\([\w:]+::from\(refused\)\),|\{[^{}]*::from\(refused\)\)\s*\})"
 NO_VALUE = r"Err(refused) => match refused {},"
-DRAWN = (r"let mut drawn = Progressing \{ it: &mut self\.it \};\n\s*match drawn\.(try_r?fold)\(\s*state,\s*\|state, (\w+)\| "
+DRAWN = (r"let mut drawn = Progressing \{ it: &mut self\.it \};\n\s*"
+         r"match drawn\.(try_r?fold)\(\s*state,\s*\|state, (\w+)\| "
          r"(turn_of_element\(turn, state, (?:element|Ok\(x\))\)),?\s*\) \{\n(?:.*\n)*?        \}\n")
-BORROWED = r"match self.it.\1((), |(), \2| \3) {\n            Ok(()) => Ok(None),\n            Err(answer) => answer,\n        }\n"
+BORROWED = (r"match self.it.\1((), |(), \2| \3) {\n"
+            r"            Ok(()) => Ok(None),\n            Err(answer) => answer,\n        }\n")
 
 HEAD = """#![doc = include_str!("../README.md")]
 #![no_std]
@@ -25,20 +27,20 @@ extern crate std;
 
 STD = [
     # Bounds that a refusal asked for.
-    (I, r"^ *where\n *[\w:]+::Error: From<AllocError>,\n(?=\{)", "", ANY),
-    (I, r"^ *where\n *[\w:]+::Error: From<AllocError>,\n *(?=\{)", "", ANY),
-    (I, r"^ *[\w:]+::Error: From<AllocError>,\n", "", ANY),
-    (I, r": From<AllocError>(?=[>,])", "", ANY),
-    (I, r" \+ From<AllocError>(?=[>,])", "", ANY),
-    (I, r"^use std::alloc::.*;\n", "", ANY),
-    (I, r"\bstd::(?!collections)(?=\w)", "core::", ANY),
+    (EVERY, r"^ *where\n *[\w:]+::Error: From<AllocError>,\n(?=\{)", "", ANY),
+    (EVERY, r"^ *where\n *[\w:]+::Error: From<AllocError>,\n *(?=\{)", "", ANY),
+    (EVERY, r"^ *[\w:]+::Error: From<AllocError>,\n", "", ANY),
+    (EVERY, r": From<AllocError>(?=[>,])", "", ANY),
+    (EVERY, r" \+ From<AllocError>(?=[>,])", "", ANY),
+    (EVERY, r"^use std::alloc::.*;\n", "", ANY),
+    (EVERY, r"\bstd::(?!collections)(?=\w)", "core::", ANY),
 ]
 
 ITERATOR = [
     # The three crates are modules of one.
-    (C, r"(?<![\w:])crate::", "crate::fallible_contract::", ANY),
-    (K, r"(?<![\w:])crate::", "crate::fallible_core::", ANY),
-    (I, r"(?<![\w:])(fallible_contract|fallible_core)::", r"crate::\1::", ANY),
+    (CONTRACT, r"(?<![\w:])crate::", "crate::fallible_contract::", ANY),
+    (CORE, r"(?<![\w:])crate::", "crate::fallible_core::", ANY),
+    (EVERY, r"(?<![\w:])(fallible_contract|fallible_core)::", r"crate::\1::", ANY),
     # Collections: Rust's `collect` goes by `FromIterator`, so what is left is `push_one`.
     (r"fallible_contract/collecting\.rs", r"^mod (?:deque|hashed|sorted);\n", "", 3),
     (r"fallible_contract/collecting\.rs", r"^impl<T> Collect<T> for Vec<T> \{(?:\n|    .*\n)*\}\n\n", "", 1),
@@ -58,7 +60,8 @@ ITERATOR = [
     (r"sources/std_fold\.rs", r"^// A std iterator that a[^§]*(?=^// One turn of std's fold)", "", 1),
     (r"sources/std_fold\.rs", r" The caller's state is what std's fold carries\.", "", 1),
     (r"sources/std_fold\.rs", r"<'a, C,", "<C,", 1),
-    (r"sources/std_fold\.rs", r"Result<&'a mut C, \(&'a mut C, Result<Option<R>, E>\)>", "Result<(), Result<Option<R>, E>>", 1),
+    (r"sources/std_fold\.rs", r"Result<&'a mut C, \(&'a mut C, Result<Option<R>, E>\)>", 
+     "Result<(), Result<Option<R>, E>>", 1),
     (r"sources/std_fold\.rs", r"&'a mut C", "&mut C", 1),
     (r"sources/std_fold\.rs", r"Ok\(state\)", "Ok(())", 1),
     (r"sources/std_fold\.rs", r"\(state, (Ok\(Some\(stop\)\)|Err\(e\))\)", r"\1", 2),
@@ -74,7 +77,8 @@ ITERATOR = [
     (r"fallible_core/traits/boxed\.rs", r"^use crate::fallible_core::traits::Fall",
      "use alloc::boxed::Box;\nuse crate::fallible_core::traits::Fall", 1),
     (r"sources/making\.rs", r"^use crate::fallible_core::FallibleIterator;\n", "", 1),
-    (r"lib\.rs", r"\A(?://!.*\n)+\n", HEAD + "".join("pub mod %s;\n" % m for m in ("fallible_contract", "fallible_core", "memory")), 1),
+    (r"lib\.rs", r"\A(?://!.*\n)+\n", 
+     HEAD + "pub mod fallible_contract;\npub mod fallible_core;\npub mod memory;\n", 1),
     # What users need not see.
     (r"lib\.rs", r"^pub mod (?!prelude)\w+;", r"#[doc(hidden)]\n\g<0>", 8),
     (r"lib\.rs", r"^pub use .*(?:answers::|\{Collect, Fault|Number;)", r"#[doc(hidden)]\n\g<0>", 3),
@@ -84,7 +88,8 @@ ITERATOR = [
 GROUPS = r"(?:chunks|chunk_by)\.rs"
 ITERTOOLS = [
     (r"(?:intersperse|tuple_windows)\.rs", r"\b(separator|x)\.clone\(\)", r"\1.try_clone()", 2),
-    (r"(?:intersperse|tuple_windows)\.rs", r"^use fallible_iterator::adapting", "use fallible_iterator::memory::TryClone;\nuse fallible_iterator::adapting", 2),
+    (r"(?:intersperse|tuple_windows)\.rs", r"^use fallible_iterator::adapting",
+     r"use fallible_iterator::memory::TryClone;\n\g<0>", 2),
     # No allocator is passed.
     (GROUPS, r"^    pub\(crate\) alloc: Global,\n", "", 2),
     (GROUPS, r"^struct (Chunk\w+) \{\n    alloc: Global,\n\}", r"struct \1;", 2),
@@ -99,9 +104,11 @@ ITERTOOLS = [
     (r"(?:chunks|chunk_by|intersperse|tuple_windows)\.rs", ARM, NO_VALUE, 7),
     # `counts` and `join`: the same folds, into what `new` makes.
     (r"counted\.rs", r"^    fn empty\((?:.*\n)*?    \}\n\n", "", 1),
-    (r"counted\.rs", r"match self\.counts\.insert\(([^\n]*)\) \{[^{}]*\}", r"self.counts.insert(\1);\n        Ok(())", 1),
+    (r"counted\.rs", r"match self\.counts\.insert\(([^\n]*)\) \{[^{}]*\}",
+     r"self.counts.insert(\1);\n        Ok(())", 1),
     (r"joined\.rs", r"text\.push_str\(separator\)\?;", "text.push_str(separator);", 1),
-    (r"joined\.rs", r"text\.write\(item\)", 'let written = write!(text, "{item}");\n    written.expect("a Display implementation returned an error");\n    Ok(())', 1),
+    (r"joined\.rs", r"text\.write\(item\)", 'let written = write!(text, "{item}");\n'
+     '    written.expect("a Display implementation returned an error");\n    Ok(())', 1),
     (r"traits\.rs", r"fn counts\(self, alloc: Global\) -> Result<(.*), Fault<Self::Error>>",
      r"fn counts(mut self) -> Result<\1, Self::Error>", 1),
     (r"traits\.rs", r"match self\.collect::<Tally<Self::Item>>\(alloc\) \{[^{}]*\}",
@@ -110,7 +117,8 @@ ITERTOOLS = [
      "            Ok(Some(refused)) => match refused {},\n            Err(e) => Err(e),\n        }", 1),
     (r"traits\.rs", r"Result<String, Fault<Self::Error>>", "Result<String, Self::Error>", 1),
     (r"traits\.rs", r"String::new\(alloc\)", "String::new()", 1),
-    (r"traits\.rs", r"Ok\(Some\(refused\)\) => Err\(Fault::Memory\(refused\)\),\n(.*)Err\(e\) => Err\(Fault::Source\(e\)\),",
+    (r"traits\.rs", r"Ok\(Some\(refused\)\) => Err\(Fault::Memory\(refused\)\),\n"
+     r"(.*)Err\(e\) => Err\(Fault::Source\(e\)\),",
      r"Ok(Some(refused)) => match refused {},\n\1Err(e) => Err(e),", 1),
     (r"traits\.rs", r"^use fallible_iterator::\{FallibleIterator, Fault, Into", "use fallible_iterator::"
      "fallible_contract::collecting::CollectTurn;\nuse fallible_iterator::{FallibleIterator, Into", 1),
@@ -123,7 +131,8 @@ ITERTOOLS = [
     (r"lib\.rs", r"^pub mod counted;", r'#[cfg(feature = "std")]\n\g<0>', 1),
     (r"(?:chunk_by|chunks|growing)\.rs", r"\A(//.*\n\n)", r"\1use alloc::vec::Vec;\n", 3),
     (r"traits\.rs", r"^use crate::(?:chunk_by|chunks|joined)::", r'#[cfg(feature = "alloc")]\n\g<0>', 3),
-    (r"traits\.rs", r"^use (?:core::fmt::Display;)", r'#[cfg(feature = "alloc")]\nuse alloc::string::String;\n#[cfg(feature = "alloc")]\n\g<0>', 1),
+    (r"traits\.rs", r"^use core::fmt::Display;",
+     r'#[cfg(feature = "alloc")]\nuse alloc::string::String;\n#[cfg(feature = "alloc")]\n\g<0>', 1),
     (r"traits\.rs", r"^use (?:crate::counted::|core::hash::|std::coll|fallible_iterator::fallible_contract)",
      r'#[cfg(feature = "std")]\n\g<0>', 4),
     (r"traits\.rs", r"^    fn (?:chunks|chunk_by|join)\b", r'    #[cfg(feature = "alloc")]\n\g<0>', 3),
