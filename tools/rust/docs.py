@@ -57,6 +57,8 @@ SAYS = [
     (r", or memory for an item is refused, that failure", ", its failure"),
     (r", calls nothing and takes no memory", " and calls nothing"),
     (r" and takes no memory", ""),
+    (r" Where it fails, memory was refused, and the item is dropped\.", ""),
+    (r" It fails where memory is refused(?:, and the item is lost\.|; then the item is lost, and no other\.)", ""),
     (r" The run goes on after either\.", ""),
     (r"the end, the first failure or an item that (?:the collection refuses|the map refuses|can't be appended)",
      "the end or the first failure"),
@@ -70,6 +72,9 @@ SAYS = [
 ]
 # Calls whose example is no doc test, and why.
 NO_TEST = {"number": "only proofs read it"}
+# What no sentence of a public call says.
+PROOFS = re.compile(r"\bAsks (?:that|what|nothing)\b|\basks that\b|\bclauses?\b|\bproofs?\b|search finds|`Fault|"
+                    r"\bAllocError\b|memory\b.*refused|clone is refused")
 # Calls whose signature is another in Rust.
 OTHER = {"collect", "partition", "unzip", "cycle", "chain", "counts", "join"}
 
@@ -110,6 +115,8 @@ class Docs:
                 k = end
             elif lines[k]:
                 blocks.append([self.sentence(lines[k])])
+                if PROOFS.search(blocks[-1][0]) and clauses and name not in NO_TEST:
+                    raise Refused("%s: docs: `%s` says: %s" % (self.place, name, blocks[-1][0]))
             k += 1
         if clauses:
             proved = "As it is proved, " + "where its signature is another, " * (name in OTHER)
@@ -118,8 +125,9 @@ class Docs:
         blocks = [b for b in blocks if any(b)]
         return [x for k, b in enumerate(blocks) for x in ([""] * (k > 0) + b)]
 
-    def rewrite(self, s, source):
+    def rewrite(self, s, source, place):
         """A file's comments, with the clauses of its source's functions."""
+        self.place = place
         proved = {}
         for f in functions(source):
             proved.setdefault((f.label, f.name), []).append(f.clauses)

@@ -27,7 +27,6 @@ extern crate std;
 
 STD = [
     # Bounds that a refusal asked for.
-    (EVERY, r"^ *where\n *[\w:]+::Error: From<AllocError>,\n(?=\{)", "", ANY),
     (EVERY, r"^ *where\n *[\w:]+::Error: From<AllocError>,\n *(?=\{)", "", ANY),
     (EVERY, r"^ *[\w:]+::Error: From<AllocError>,\n", "", ANY),
     (EVERY, r": From<AllocError>(?=[>,])", "", ANY),
@@ -60,7 +59,7 @@ ITERATOR = [
     (r"sources/std_fold\.rs", r"^// A std iterator that a[^§]*(?=^// One turn of std's fold)", "", 1),
     (r"sources/std_fold\.rs", r" The caller's state is what std's fold carries\.", "", 1),
     (r"sources/std_fold\.rs", r"<'a, C,", "<C,", 1),
-    (r"sources/std_fold\.rs", r"Result<&'a mut C, \(&'a mut C, Result<Option<R>, E>\)>", 
+    (r"sources/std_fold\.rs", r"Result<&'a mut C, \(&'a mut C, Result<Option<R>, E>\)>",
      "Result<(), Result<Option<R>, E>>", 1),
     (r"sources/std_fold\.rs", r"&'a mut C", "&mut C", 1),
     (r"sources/std_fold\.rs", r"Ok\(state\)", "Ok(())", 1),
@@ -77,7 +76,7 @@ ITERATOR = [
     (r"fallible_core/traits/boxed\.rs", r"^use crate::fallible_core::traits::Fall",
      "use alloc::boxed::Box;\nuse crate::fallible_core::traits::Fall", 1),
     (r"sources/making\.rs", r"^use crate::fallible_core::FallibleIterator;\n", "", 1),
-    (r"lib\.rs", r"\A(?://!.*\n)+\n", 
+    (r"lib\.rs", r"\A(?://!.*\n)+\n",
      HEAD + "pub mod fallible_contract;\npub mod fallible_core;\npub mod memory;\n", 1),
     # What users need not see.
     (r"lib\.rs", r"^pub mod (?!prelude)\w+;", r"#[doc(hidden)]\n\g<0>", 8),
