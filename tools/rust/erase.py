@@ -22,10 +22,23 @@ def whole_lines(s, start, end, comments):
     return (begin, end + 1 if s[end:end + 1] == "\n" else end)
 
 
+def check(text, ts):
+    """Clauses stand before a body or a `;`, and ghost items between items or fields: never within code."""
+    ts = [t for t in ts if t.kind not in ("space", "comment")]
+    for before, t, after in zip([None, *ts], ts, [*ts[1:], None]):
+        if t.kind == "clause" and not (after and (after.kind == "clause" or after.text in ("{", ";"))):
+            raise Refused("%s: erase: a clause before no body" % text.at(t.start))
+        if t.kind == "ghost" and before and before.kind != "ghost":
+            if before.text not in ("{", "}", ";", ",", "pub", "]"):
+                raise Refused("%s: erase: a ghost item within code" % text.at(t.start))
+
+
 def ghosts(text):
     """Ghost items, fields and imports, clauses, and `final`."""
     spans, s = [], text.s
-    for t in tokens(s):
+    ts = list(tokens(s))
+    check(text, ts)
+    for t in ts:
         if t.kind == "ghost":
             imports = t.text[5:].lstrip().startswith("use ")
             COUNTS["ghost imports" if imports else "ghost members and fields"] += 1
