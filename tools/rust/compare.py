@@ -88,16 +88,21 @@ def compare(files, sources):
 
 
 def table(same, rows):
-    """The table of what is not word for word the proved body."""
+    """The tables of what is not word for word the proved body, by crate. Each row of REASONS is used."""
     for k, row in enumerate(REASONS):
         if k not in rows:
             raise Refused("compare: no body is of the row %r" % (row,))
-    lines = ["%d bodies are word for word the proved ones. %d are not:" % (
-        same, sum(map(len, rows.values()))), "", "| Where | How | Why |", "|---|---|---|"]
-    for k in sorted(rows):
-        places = defaultdict(list)
-        for crate, path, name in rows[k]:
-            places["%s: `%s`" % (crate, path)].append("`%s`" % name)
-        what = "; ".join("%s %s" % (p, ", ".join(names)) for p, names in places.items())
-        lines.append("| %s | %s | %s |" % (what, REASONS[k][2], REASONS[k][3]))
-    return "\n".join(lines)
+    lines = []
+    for crate, alike in same.items():
+        cells, unlike = [], 0
+        for k in sorted(rows):
+            places = defaultdict(list)
+            for of, path, name in rows[k]:
+                if of == crate:
+                    places[path].append("`%s`" % name)
+            unlike += sum(map(len, places.values()))
+            where = "; ".join("%s: %s" % (path, ", ".join(names)) for path, names in places.items())
+            cells += ["| %s | %s | %s |" % (where, REASONS[k][2], REASONS[k][3])] * bool(places)
+        lines += ["In `%s` %d bodies are word for word the proved ones. %d are not:" % (crate, alike, unlike),
+                  "", "| Where | How | Why |", "|---|---|---|", *cells, ""]
+    return "\n".join(lines[:-1])
