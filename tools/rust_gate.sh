@@ -8,27 +8,35 @@ if ! command -v cargo > /dev/null; then
 fi
 folder=$(mktemp -d)
 trap 'rm -rf "$folder"' EXIT
-python3 tools/rust/test_to_rust.py 2> "$folder/refusals" || {
-    cat "$folder/refusals" >&2
-    exit 1
+
+# Runs a command, and prints what it said where it fails.
+quietly() {
+    "$@" >> "$folder/log" 2>&1 || {
+        cat "$folder/log" >&2
+        exit 1
+    }
 }
+
+quietly python3 tools/rust/test_to_rust.py
 tools/to_rust "$folder/out" > "$folder/said"
-tools/to_rust --table > "$folder/table"
+head -n -4 "$folder/said" > "$folder/table"
 if ! sed -n '/<!-- to_rust --table -->/,/<!-- end -->/p' docs/RUST.md | sed '1d;$d' | cmp -s - "$folder/table"; then
     echo "rust: the table of docs/RUST.md is not what tools/to_rust --table prints" >&2
     exit 1
 fi
 export CARGO_TARGET_DIR=$folder/target CARGO_INCREMENTAL=0 RUSTFLAGS="-D warnings" RUSTDOCFLAGS="-D warnings"
-for crate in fallible-iterator fallible-itertools; do
-    for features in "--no-default-features" "--features alloc" "--features std"; do
-        # shellcheck disable=SC2086
-        cargo build --quiet --offline --manifest-path "$folder/out/$crate/Cargo.toml" $features
+crates=("$folder/out/fallible-iterator/Cargo.toml" "$folder/out/fallible-itertools/Cargo.toml")
+for crate in "${crates[@]}"; do
+    for features in "" alloc std; do
+        quietly cargo build --offline --manifest-path "$crate" --no-default-features --features "$features"
     done
-    cargo test --quiet --offline --manifest-path "$folder/out/$crate/Cargo.toml" --features std > "$folder/tests" || {
-        cat "$folder/tests" >&2
-        exit 1
-    }
-    echo "rust: $crate: $(awk '/^test result/ { n += $4 } END { print n }' "$folder/tests") tests and doc tests pass"
 done
-tail -1 "$folder/said"
+quietly cargo test --offline --manifest-path "$folder/out/Cargo.toml" --all-features --tests
+# In edition 2024 the doc tests are compiled as one.
+if rustc --edition 2024 --print sysroot > /dev/null 2>&1; then
+    sed -i 's/^edition = .*/edition = "2024"/; /^rust-version/d' "${crates[@]}"
+fi
+quietly cargo test --offline --manifest-path "$folder/out/Cargo.toml" --all-features --doc
+awk '/^test result/ { n += $4 } END { print "rust: " n " tests and doc tests pass" }' "$folder/log"
+tail -2 "$folder/said"
 rustc --version

@@ -188,7 +188,7 @@ def doc_test(pool, lines):
     main = "\n".join(parts[0] + want + parts[1])
     items, imports = pool.closure(place, name, main)
     run, every = call(main, name), repr(items)
-    before = ["#![allow(unused)]"] + ["use %s;" % p for p in sorted(imports)]
+    before = ["use %s;" % p for p in sorted(imports)]
     if re.search(r"\bAllocError\b", every):
         before.append("use fallible_iterator::memory::AllocError;")
     if re.search(r"\bFail\b", every):

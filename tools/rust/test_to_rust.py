@@ -74,7 +74,6 @@ class Refusals(unittest.TestCase):
 
     def test_the_folder_was_changed(self):
         self.assertEqual(self.run_it()[0], 0)
-        self.assertEqual(self.run_it()[0], 0)
         (self.out / "fallible-iterator/Cargo.lock").write_text("of cargo")
         self.assertEqual(self.run_it()[0], 0)
         (self.out / "fallible-iterator/README.md").write_text("mine")
