@@ -3,3 +3,4 @@ mod RangeLemmas
 mod ReportLemmas
 mod SectionLemmas
 mod SetLemmas
+mod TextLemmas

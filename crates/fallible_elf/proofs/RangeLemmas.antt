@@ -1,8 +1,9 @@
 -- What a draw takes of the ranges that are left, and what all of them are.
 use Rattle.std.specs.Prelude.{◌≡◌, ℕ, suc, ◌+◌, ◌⊎◌, List, [], ◌∷◌, true, false, Option, Some, None, Result, Ok, Err}
-use Rattle.std.proofs.Common.{refl, ap, inl, inr}
+use Rattle.std.proofs.Common.{refl, ap, subst, inl, inr}
 use Rattle.std.proofs.lemmas.Bool.{eq-eqb, ne_eqb, and_from, and_left, and_right}
-use Rattle.fallible_iterator.specs.Lists.{mapped, flattened, chained}
+use Rattle.fallible_iterator.specs.Fault.{Fault}
+use Rattle.fallible_iterator.specs.Lists.{mapped, flattened, chained, CollectedAs}
 use Rattle.fallible_iterator.specs.Showing.{TakesShown}
 use Rattle.fallible_elf.specs.Numbers.{u64_at}
 use Rattle.fallible_elf.specs.Sets.{range_at, is_last, ranges_from}
@@ -39,3 +40,7 @@ unfolding flattened mapped
 flattened_mapped inner h [] = refl
 flattened_mapped inner h (Ok x ∷ l) = ap (chained (inner (h x))) (flattened_mapped inner h l)
 flattened_mapped inner h (Err e ∷ l) = ap (λ k. Err e ∷ k) (flattened_mapped inner h l)
+
+-- what is collected of a list is collected of the same list
+pub same_collected : {A E C : Type 0} (made : List A → C → Type 0) {l l' : List (Result A E)} (r : Result C (Fault E)) → l ≡ l' → CollectedAs made l r → CollectedAs made l' r
+same_collected made r e h = subst (λ l. CollectedAs made l r) e h

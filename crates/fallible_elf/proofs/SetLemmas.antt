@@ -1,12 +1,13 @@
 -- What a draw takes of the sets and of the ranges that are left.
-use Rattle.std.specs.Prelude.{◌≡◌, ℕ, zero, suc, ◌+◌, ◌-◌, ◌<◌, ◌≤◌, List, ◌∷◌, nat_lt, if◌then◌else◌, Option, Some, None, Result, Ok, Err}
+use Rattle.std.specs.Prelude.{◌≡◌, ℕ, zero, suc, ◌+◌, ◌-◌, ◌<◌, ◌≤◌, List, ◌∷◌, Bool, true, false, nat_lt, if◌then◌else◌, Option, Some, None, Result, Ok, Err}
 use Rattle.std.proofs.Common.{refl, sym, ap, arith}
 use Rattle.std.proofs.lemmas.Bool.{lt-ltb, le-ltb}
 use Rattle.fallible_iterator.specs.Lists.{on_value}
 use Rattle.fallible_iterator.specs.Showing.{TakesShown}
 use Rattle.fallible_elf.specs.Faults.{fault_in, first_fault}
-use Rattle.fallible_elf.specs.Sets.{set_checks, set_at, set_then, sets_from, sets_between, region_of, sets_in, sets_of}
+use Rattle.fallible_elf.specs.Sets.{form_checks, short_checks, long_checks, is_long, short_set, long_set, set_at, set_then, sets_from, sets_between, region_of, sets_of_region, sets_in}
 use Rattle.fallible_elf.specs.declared.fault.ElfFault.{ElfFault}
+use Rattle.fallible_elf.specs.declared.section.Section.{Section}
 use Rattle.fallible_elf.specs.declared.set.Region.{Region}
 use Rattle.fallible_elf.specs.declared.set.Set.{Set}
 
@@ -16,10 +17,26 @@ made : (r : Result (Unit {0}) ElfFault) (s t : Set) → on_value r (λ _. Ok s) 
 made (Ok u) s t e = cc
 made (Err f) s t e = absurd (cc)
 
--- a set ends behind its place
+made_by : (r : Result (Unit {0}) ElfFault) (s : Result Set ElfFault) (t : Set) → on_value r (λ _. s) ≡ Ok t → s ≡ Ok t
+made_by (Ok u) s t e = e
+made_by (Err f) s t e = absurd (cc)
+
+-- a set ends behind its place, whatever its form
+short_behind : (bytes : List ℕ) (limit place : ℕ) (set : Set) → short_set bytes limit place ≡ Ok set → place < set.end
+unfolding short_set
+short_behind bytes limit place set e = let h = ap (λ (s : Set). s.end) (made (first_fault (short_checks bytes limit place)) _ set e) in omega (arith, h)
+
+long_behind : (bytes : List ℕ) (limit place : ℕ) (set : Set) → long_set bytes limit place ≡ Ok set → place < set.end
+unfolding long_set
+long_behind bytes limit place set e = let h = ap (λ (s : Set). s.end) (made (first_fault (long_checks bytes limit place)) _ set e) in omega (arith, h)
+
+either_behind : (long : Bool) (bytes : List ℕ) (limit place : ℕ) (set : Set) → (if long then long_set bytes limit place else short_set bytes limit place) ≡ Ok set → place < set.end
+either_behind true bytes limit place set e = long_behind bytes limit place set e
+either_behind false bytes limit place set e = short_behind bytes limit place set e
+
 ends_behind : (bytes : List ℕ) (limit place : ℕ) (set : Set) → set_at bytes limit place ≡ Ok set → place < set.end
 unfolding set_at
-ends_behind bytes limit place set e = let h = ap (λ (s : Set). s.end) (made (first_fault (set_checks bytes limit place)) _ set e) in omega (arith, h)
+ends_behind bytes limit place set e = either_behind (is_long bytes place) bytes limit place set (made_by (first_fault (form_checks bytes limit place)) _ set e)
 
 -- where two bounds on how many come are large enough, the same sets come
 then_alike : (bytes : List ℕ) (limit place : ℕ) (y : Result Set ElfFault) (rest rest' : Set → List (Result Set ElfFault)) → ((set : Set) → y ≡ Ok set → rest set ≡ rest' set) → set_then y rest ≡ set_then y rest'
@@ -59,11 +76,11 @@ module _ (bytes : List ℕ) (limit place : ℕ) where
   pub takes_damaged : (f : Option ElfFault) (e : ElfFault) → place < limit → Err e ≡ set_at bytes limit place → TakesShown (sets_between f bytes place limit) (Err e) (sets_between None bytes limit limit)
   takes_damaged f e before is = takes_damaged_of f (limit - place - 1) e before (omega arith) (sym is)
 
--- the sets of the region that the file has, or its fault
-pub sets_are : (bytes : List ℕ) (region : Region) → Ok region ≡ region_of bytes → sets_between None bytes region.place region.end ≡ sets_of bytes
-unfolding sets_of
-sets_are bytes region e = ap (sets_in bytes) e
+-- the sets of the region that a section has, or its fault
+pub sets_are : (bytes : List ℕ) (section : Section) (region : Region) → Ok region ≡ region_of bytes section → sets_between None bytes region.place region.end ≡ sets_in bytes section
+unfolding sets_in
+sets_are bytes section region e = ap (sets_of_region bytes) e
 
-pub fault_is : (bytes : List ℕ) (f : ElfFault) → Err f ≡ region_of bytes → sets_between (Some f) bytes 0 0 ≡ sets_of bytes
-unfolding sets_of sets_from
-fault_is bytes f e = ap (sets_in bytes) e
+pub fault_is : (bytes : List ℕ) (section : Section) (f : ElfFault) → Err f ≡ region_of bytes section → sets_between (Some f) bytes 0 0 ≡ sets_in bytes section
+unfolding sets_in sets_from
+fault_is bytes section f e = ap (sets_of_region bytes) e

@@ -31,7 +31,7 @@ header_place bytes number = table_place bytes + 64 * number
 abbrev pub section_count : List ℕ → ℕ
 section_count bytes = if eqb (u16_at bytes 60) 0 then u64_at bytes (table_place bytes + 32) else u16_at bytes 60
 
--- the number of the section that has the names: the two bytes at 62; where these are 65535, the link of section 0
+-- the number of the section that has the names: the two bytes at 62; where these are 65535, the link of section 0; 0 where the sections have no names
 abbrev pub names_number : List ℕ → ℕ
 names_number bytes = if eqb (u16_at bytes 62) 65535 then u32_at bytes (table_place bytes + 40) else u16_at bytes 62
 
@@ -55,29 +55,33 @@ names_checks bytes =
     ∷ (nat_lt 0 (names_size bytes) && eqb (slice_index bytes (names_place bytes + names_size bytes - 1)) 0, fault_at (names_header bytes + 32) NamesNotEnded)
     ∷ []
 
--- A header has 64 bytes, by the two bytes at 58. The first one and all of them lie in the file. Then come the names.
+-- A header has 64 bytes, by the two bytes at 58. The first one and all of them lie in the file.
 abbrev pub table_checks : List ℕ → List (Bool × ElfFault)
 table_checks bytes =
     (eqb (u16_at bytes 58) 64, fault_at 58 EntrySize)
     ∷ (nat_le (table_place bytes + 64) (length bytes), fault_at 40 TableOutOfRange)
     ∷ (nat_le (header_place bytes (section_count bytes)) (length bytes), fault_at 40 TableOutOfRange)
-    ∷ names_checks bytes
+    ∷ []
 
 -- the table: where the headers begin and how many there are, and where their names begin and how many bytes these have
 abbrev pub full_table : List ℕ → Table
 full_table bytes = record { place = table_place bytes; count = section_count bytes; names = names_place bytes; names_size = names_size bytes }
 
+-- the same without names, of which there are no bytes then
+abbrev pub nameless_table : List ℕ → Table
+nameless_table bytes = record { place = table_place bytes; count = section_count bytes; names = 0; names_size = 0 }
+
 -- the table of no section
 abbrev pub no_table : Table
 no_table = record { place = 0; count = 0; names = 0; names_size = 0 }
 
--- the table where all these are so, or the first fault
-abbrev pub full_table_where : List (Bool × ElfFault) → List ℕ → Result Table ElfFault
-full_table_where checks bytes = on_value (first_fault checks) (λ _. Ok (full_table bytes))
+-- the table of headers that lie in the file: without names where their number is 0, and else with them, or the first fault of the names
+abbrev pub named_table : List ℕ → Result Table ElfFault
+named_table bytes = if eqb (names_number bytes) 0 then Ok (nameless_table bytes) else on_value (first_fault (names_checks bytes)) (λ _. Ok (full_table bytes))
 
 -- what stands behind a good header: no table, where its place is 0, and else the table
 abbrev pub table_behind : List ℕ → Result Table ElfFault
-table_behind bytes = if eqb (table_place bytes) 0 then Ok no_table else full_table_where (table_checks bytes) bytes
+table_behind bytes = if eqb (table_place bytes) 0 then Ok no_table else on_value (first_fault (table_checks bytes)) (λ _. named_table bytes)
 
 -- the table of a file, or the first fault of its header and its table
 abbrev pub table_of : List ℕ → Result Table ElfFault

@@ -7,3 +7,4 @@ pub mod Report
 pub mod Sections
 pub mod Sets
 pub mod Shown
+pub mod Text

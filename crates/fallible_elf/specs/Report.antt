@@ -1,8 +1,9 @@
--- What a run over a file reads and tells.
+-- What a run over a file reads and writes, and what it tells of a fault.
 use Rattle.std.specs.Prelude.{◌≡◌, ℕ, List, [], ◌∷◌, ◌++◌, Option, Some, None, Result, Ok, Err, codes, decimal}
-use Rattle.std.specs.Io.KnownBytes.{Consumes, IsAtEnd}
-use Rattle.fallible_iterator.specs.Lists.{collected}
+use Rattle.std.specs.Io.KnownBytes.{Appends, Consumes, IsAtEnd}
+use Rattle.fallible_iterator.specs.Lists.{collected, on_value}
 use Rattle.fallible_elf.specs.Sections.{headers_of}
+use Rattle.fallible_elf.specs.Text.{text_where, sections_text, sets_text, ranges_text}
 use Rattle.fallible_elf.specs.Sets.{sets_of, ranges_of}
 use Rattle.fallible_iterator.specs.Fault.{Fault}
 use Rattle.fallible_iterator.specs.Fault.TheVariants.{Source}
@@ -14,10 +15,27 @@ use Rattle.fallible_elf.specs.declared.report.RunFault.TheVariants.{Elf, Read, M
 use Rattle.fallible_elf.specs.declared.section.Section.{Section}
 use Rattle.fallible_elf.specs.declared.set.Range.{Range}
 use Rattle.fallible_elf.specs.declared.set.Set.{Set}
+use Rattle.fallible_elf.specs.declared.tables.Found.{Found}
+use Rattle.fallible_elf.specs.declared.tables.Tables.{Tables}
 
--- These are all the section headers of a file, all its sets and all their ranges.
-abbrev pub HasTables : List ℕ → List Section → List Set → List Range → Type 0
-HasTables bytes sections sets ranges = (collected (headers_of bytes) ≡ Ok sections) × (collected (sets_of bytes) ≡ Ok sets) × (collected (ranges_of bytes) ≡ Ok ranges)
+-- ---- what a file has
+
+-- the sets of a file and their ranges, or the first fault: of the sets, then of their ranges
+abbrev pub found_of : List ℕ → Result (List Set × List Range) ElfFault
+found_of bytes = on_value (collected (sets_of bytes)) (λ sets. on_value (collected (ranges_of bytes)) (λ ranges. Ok (sets, ranges)))
+
+-- These are the sets and the ranges, or the first fault of these.
+abbrev pub IsFound : List ℕ → Result Found ElfFault → Type 0
+IsFound bytes (Ok found) = found_of bytes ≡ Ok (found.sets.items, found.ranges.items)
+IsFound bytes (Err f) = found_of bytes ≡ Err f
+
+-- These are all the sections of a file, and its sets and ranges or the first fault of these.
+abbrev pub HasTables : List ℕ → Tables → Type 0
+HasTables bytes tables = (collected (headers_of bytes) ≡ Ok tables.sections.items) × IsFound bytes tables.found
+
+-- No section of a file has a fault.
+abbrev pub HasSections : List ℕ → Type 0
+HasSections bytes = (sections : List Section) × (collected (headers_of bytes) ≡ Ok sections)
 
 -- a fault, or else what comes behind
 abbrev pub fault_or : {A : Type 0} → Result A ElfFault → Option ElfFault → Option ElfFault
@@ -26,11 +44,27 @@ fault_or (Err f) rest = Some f
 
 -- the first fault of a file, where it has one: of its headers, then of its sets, then of their ranges
 abbrev pub first_damage : List ℕ → Option ElfFault
-first_damage bytes = fault_or (collected (headers_of bytes)) (fault_or (collected (sets_of bytes)) (fault_or (collected (ranges_of bytes)) None))
+first_damage bytes = fault_or (collected (headers_of bytes)) (fault_or (found_of bytes) None)
 
--- A reader's bytes were read up to its end, and this is the first fault of a file of them.
-abbrev pub ReadsFile : Option (List ℕ) → Option (List ℕ) → Option ElfFault → Type 0
-ReadsFile unread unread' fault = (bytes : List ℕ) × Consumes unread unread' bytes × IsAtEnd unread' × (first_damage bytes ≡ fault)
+-- ---- what is written
+
+-- the text of sections, and behind it that of the sets and ranges of the file, where none of these has a fault
+abbrev pub report_with : List ℕ → List Section → List ℕ
+report_with bytes sections = sections_text bytes sections ++ text_where (λ (sets, ranges). sets_text sets ++ ranges_text ranges) (found_of bytes)
+
+-- what is written of a file: nothing, where a section has a fault
+abbrev pub report_of : List ℕ → List ℕ
+report_of bytes = text_where (report_with bytes) (collected (headers_of bytes))
+
+-- This is the first fault of a file, where it has one, and its report was written, and nothing else.
+abbrev pub Reports : List ℕ → Option ElfFault → Option (List ℕ) → Option (List ℕ) → Type 0
+Reports bytes fault written written' = (first_damage bytes ≡ fault) × Appends written written' (report_of bytes)
+
+-- A reader's bytes were read up to its end, and this holds of them.
+abbrev pub ReadsFile : Option (List ℕ) → Option (List ℕ) → (List ℕ → Type 0) → Type 0
+ReadsFile unread unread' Holds = (bytes : List ℕ) × Consumes unread unread' bytes × IsAtEnd unread' × Holds bytes
+
+-- ---- faults
 
 -- what a fault of `collect` is for a run
 abbrev pub as_run_fault : Fault ElfFault → RunFault
@@ -69,12 +103,16 @@ text_of Write = codes "write failed"
 abbrev pub line_of : RunFault → List ℕ
 line_of fault = text_of fault ++ 10 ∷ []
 
--- the status of a file with such a damage: 5 where it is no file of the kind that is read, else 1
+-- the status of a file with such a damage: 5 where it is no file of the kind that is read, 6 where its address ranges are valid and of no kind that is read, else 1
 abbrev pub damage_status : Damage → ℕ
 damage_status NotElf = 5
 damage_status NotWide = 5
 damage_status NotLittleEndian = 5
-damage_status SetsCompressed = 5
+damage_status SetsCompressed = 6
+damage_status SetForm = 6
+damage_status SetVersion = 6
+damage_status AddressSize = 6
+damage_status SegmentSize = 6
 damage_status damage = 1
 
 -- the status that a program ends with

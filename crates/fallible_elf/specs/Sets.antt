@@ -1,7 +1,7 @@
--- The sets of address ranges that stand in a file, and their ranges, as DWARF writes them in the section `.debug_aranges`.
-use Rattle.std.specs.Prelude.{ℕ, zero, suc, ◌+◌, ◌-◌, ◌*◌, ◌/◌, ◌%◌, min, drop, List, [], ◌∷◌, ◌++◌, length, slice_index, Bool, not, Option, Some, None, Result, Ok, Err, nat_le, nat_lt, nat_eq, eqb, ◌&&◌, if◌then◌else◌, codes}
+-- The sets of address ranges that stand in a file, and their ranges, as DWARF writes them in sections `.debug_aranges`.
+use Rattle.std.specs.Prelude.{ℕ, zero, suc, ◌+◌, ◌-◌, ◌*◌, ◌/◌, ◌%◌, min, drop, List, [], ◌∷◌, ◌++◌, length, slice_index, Bool, false, not, Option, Some, None, Result, Ok, Err, nat_le, nat_lt, nat_eq, eqb, ◌&&◌, ◌||◌, if◌then◌else◌, codes}
 use Rattle.std.specs.List.{starts_with}
-use Rattle.fallible_iterator.specs.Lists.{on_value, found, flattened}
+use Rattle.fallible_iterator.specs.Lists.{on_value, filtered, flattened}
 use Rattle.fallible_elf.specs.Faults.{fault_at, fault_in, first_fault}
 use Rattle.fallible_elf.specs.Numbers.{u16_at, u32_at, u64_at}
 use Rattle.fallible_elf.specs.Sections.{headers_of}
@@ -14,24 +14,57 @@ use Rattle.fallible_elf.specs.declared.set.Range.{Range}
 
 -- ---- one set
 
--- Where the set ends that begins at a place: its first four bytes say how many bytes come behind them.
-abbrev pub set_end : List ℕ → ℕ → ℕ
-set_end bytes place = place + 4 + u32_at bytes place
+-- A set has one of two forms. In the short one four bytes say how many bytes come behind them, fewer than 2 ^ 32 - 16, and the offset of the unit has four bytes. In the long one four bytes of 255 come first, then eight that say how many bytes come behind them, and the offset of the unit has eight bytes.
 
--- The set at a place of a section that ends at the limit: 16 bytes stand before its ranges. Its length has four bytes, which lie below 2 ^ 32 - 16, and it ends in the section, behind those 16 bytes. Its version, at 4, is 2. At 10 stands the size of an address, 8, and at 11 that of a segment, 0.
-abbrev pub set_checks : List ℕ → ℕ → ℕ → List (Bool × ElfFault)
-set_checks bytes limit place =
+-- whether the set at a place has the long form
+abbrev pub is_long : List ℕ → ℕ → Bool
+is_long bytes place = eqb (u32_at bytes place) 4294967295
+
+-- where a set of the short form ends that begins at a place
+abbrev pub short_end : List ℕ → ℕ → ℕ
+short_end bytes place = place + 4 + u32_at bytes place
+
+-- where a set of the long form ends that begins at a place
+abbrev pub long_end : List ℕ → ℕ → ℕ
+long_end bytes place = place + 12 + u64_at bytes (place + 4)
+
+-- The set at a place of a section that ends at the limit has the short or the long form. Each has at least 16 bytes.
+abbrev pub form_checks : List ℕ → ℕ → ℕ → List (Bool × ElfFault)
+form_checks bytes limit place =
     (nat_le (place + 16) limit, fault_at place SetCut)
-    ∷ (nat_lt (u32_at bytes place) 4294967280, fault_at place SetForm)
-    ∷ (nat_le (place + 16) (set_end bytes place) && nat_le (set_end bytes place) limit, fault_at place SetCut)
+    ∷ (nat_lt (u32_at bytes place) 4294967280 || is_long bytes place, fault_at place SetForm)
+    ∷ []
+
+-- A set of the short form: 16 bytes stand before its ranges. It ends in the section, behind those 16 bytes. Its version, at 4, is 2. At 10 stands the size of an address, 8, and at 11 that of a segment, 0.
+abbrev pub short_checks : List ℕ → ℕ → ℕ → List (Bool × ElfFault)
+short_checks bytes limit place =
+    (nat_le (place + 16) (short_end bytes place) && nat_le (short_end bytes place) limit, fault_at place SetCut)
     ∷ (eqb (u16_at bytes (place + 4)) 2, fault_at (place + 4) SetVersion)
     ∷ (eqb (slice_index bytes (place + 10)) 8, fault_at (place + 10) AddressSize)
     ∷ (eqb (slice_index bytes (place + 11)) 0, fault_at (place + 11) SegmentSize)
     ∷ []
 
--- the set, where all this is so, or its first fault: at 6 stands the offset of its unit
+-- A set of the long form: 32 bytes stand before its ranges. It ends in the section, behind those 32 bytes. Its version, at 12, is 2. At 22 stands the size of an address, 8, and at 23 that of a segment, 0.
+abbrev pub long_checks : List ℕ → ℕ → ℕ → List (Bool × ElfFault)
+long_checks bytes limit place =
+    (nat_le (place + 32) limit, fault_at place SetCut)
+    ∷ (nat_le (place + 32) (long_end bytes place) && nat_le (long_end bytes place) limit, fault_at place SetCut)
+    ∷ (eqb (u16_at bytes (place + 12)) 2, fault_at (place + 12) SetVersion)
+    ∷ (eqb (slice_index bytes (place + 22)) 8, fault_at (place + 22) AddressSize)
+    ∷ (eqb (slice_index bytes (place + 23)) 0, fault_at (place + 23) SegmentSize)
+    ∷ []
+
+-- the set of the short form, or its first fault: at 6 stands the offset of its unit
+unfoldable pub short_set : List ℕ → ℕ → ℕ → Result Set ElfFault
+short_set bytes limit place = on_value (first_fault (short_checks bytes limit place)) (λ _. Ok (record { unit = u32_at bytes (place + 6); place = place + 16; end = short_end bytes place }))
+
+-- the set of the long form, or its first fault: at 14 stands the offset of its unit
+unfoldable pub long_set : List ℕ → ℕ → ℕ → Result Set ElfFault
+long_set bytes limit place = on_value (first_fault (long_checks bytes limit place)) (λ _. Ok (record { unit = u64_at bytes (place + 14); place = place + 32; end = long_end bytes place }))
+
+-- the set at a place, by its form, or its first fault
 unfoldable pub set_at : List ℕ → ℕ → ℕ → Result Set ElfFault
-set_at bytes limit place = on_value (first_fault (set_checks bytes limit place)) (λ _. Ok (record { unit = u32_at bytes (place + 6); place = place + 16; end = set_end bytes place }))
+set_at bytes limit place = on_value (first_fault (form_checks bytes limit place)) (λ _. if is_long bytes place then long_set bytes limit place else short_set bytes limit place)
 
 -- ---- the sets of a section
 
@@ -51,9 +84,14 @@ sets_between f bytes place limit = sets_from f bytes limit place (limit - place)
 
 -- ---- the sets of a file
 
--- whether a section has the address ranges: its type is 1, and its name is `.debug_aranges`
+-- whether this is the place of the name `.debug_aranges`
+abbrev pub names_ranges : List ℕ → Option ℕ → Bool
+names_ranges bytes None = false
+names_ranges bytes (Some place) = starts_with nat_eq (drop place bytes) (codes ".debug_aranges" ++ 0 ∷ [])
+
+-- whether a section has address ranges: its type is 1, and its name is `.debug_aranges`
 unfoldable pub has_ranges : List ℕ → Section → Bool
-has_ranges bytes section = eqb section.kind 1 && starts_with nat_eq (drop section.name bytes) (codes ".debug_aranges" ++ 0 ∷ [])
+has_ranges bytes section = eqb section.kind 1 && names_ranges bytes section.name
 
 -- The bytes of a section lie in the file, and are not compressed, which bit 11 of the flags would say.
 abbrev pub region_checks : List ℕ → Section → List (Bool × ElfFault)
@@ -62,23 +100,26 @@ region_checks bytes section =
     ∷ (not (eqb (section.flags / 2048 % 2) 1), fault_at section.offset SetsCompressed)
     ∷ []
 
--- the bytes of a section, where there is one: from its offset on, so many as its size says; else none
-abbrev pub region_in : List ℕ → Option Section → Result Region ElfFault
-region_in bytes None = Ok (record { place = 0; end = 0 })
-region_in bytes (Some section) = on_value (first_fault (region_checks bytes section)) (λ _. Ok (record { place = section.offset; end = section.offset + section.size }))
-
--- the bytes of the first section that has the address ranges, or the first fault up to there
-abbrev pub region_of : List ℕ → Result Region ElfFault
-region_of bytes = on_value (found (λ section. Ok (has_ranges bytes section)) (headers_of bytes)) (region_in bytes)
+-- the bytes of a section: from its offset on, so many as its size says
+abbrev pub region_of : List ℕ → Section → Result Region ElfFault
+region_of bytes section = on_value (first_fault (region_checks bytes section)) (λ _. Ok (record { place = section.offset; end = section.offset + section.size }))
 
 -- the sets of a region, or the fault for which there is none
-abbrev pub sets_in : List ℕ → Result Region ElfFault → List (Result Set ElfFault)
-sets_in bytes (Ok region) = sets_between None bytes region.place region.end
-sets_in bytes (Err f) = Err f ∷ []
+abbrev pub sets_of_region : List ℕ → Result Region ElfFault → List (Result Set ElfFault)
+sets_of_region bytes (Ok region) = sets_between None bytes region.place region.end
+sets_of_region bytes (Err f) = Err f ∷ []
 
--- the sets of a file up to the first fault
-unfoldable pub sets_of : List ℕ → List (Result Set ElfFault)
-sets_of bytes = sets_in bytes (region_of bytes)
+-- the sets of a section up to the first fault
+unfoldable pub sets_in : List ℕ → Section → List (Result Set ElfFault)
+sets_in bytes section = sets_of_region bytes (region_of bytes section)
+
+-- the sections that have address ranges, in the order of their headers, and the faults of headers
+abbrev pub range_sections : List ℕ → List (Result Section ElfFault)
+range_sections bytes = filtered (λ section. Ok (has_ranges bytes section)) (headers_of bytes)
+
+-- the sets of all these sections
+abbrev pub sets_of : List ℕ → List (Result Set ElfFault)
+sets_of bytes = flattened (sets_in bytes) (range_sections bytes)
 
 -- ---- the ranges
 

@@ -2,7 +2,7 @@
 ghost use Rattle.std.specs.Prelude.{◌≡◌};
 ghost use Rattle.fallible_elf.specs.Faults.{fault_at};
 
-/// What is wrong with a file.
+/// What is wrong with a file, or why its address ranges aren't read.
 #[derive(Clone, Copy, Debug, PartialEq, Eq)]
 pub enum Damage {
     /// It doesn't begin as an ELF file does.

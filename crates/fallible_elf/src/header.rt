@@ -1,7 +1,7 @@
 //! The header of a file, and where it has its section headers.
 ghost use Rattle.std.specs.Prelude.{◌≡◌, ◌+◌, ◌*◌, ◌<◌, ◌≤◌, length, IfOk, OnOk};
 ghost use Rattle.fallible_elf.specs.Faults.{first_fault};
-ghost use Rattle.fallible_elf.specs.Headers.{header_checks, table_place, header_place, section_count, names_number, names_checks, full_table_where, table_behind, table_of};
+ghost use Rattle.fallible_elf.specs.Headers.{header_checks, table_place, header_place, section_count, names_number, named_table, table_behind, table_of};
 
 use crate::fault::{Damage, ElfFault};
 use crate::numbers::{u16_at, u32_at, u64_at};
@@ -15,7 +15,7 @@ pub struct Table {
     pub count: usize,
     /// Where their names begin.
     pub names: usize,
-    /// How many bytes these have.
+    /// How many bytes these have: none, where the sections have no names.
     pub names_size: usize,
 }
 
@@ -58,7 +58,7 @@ fn section_count(file: &[u8], place: usize) -> usize
     }
 }
 
-// The number of the section that has the names.
+// The number of the section that has the names, or 0 where there are none.
 fn names_number(file: &[u8], place: usize) -> usize
     requires table { place ≡ table_place file.now }
     requires within { place + 64 ≤ length file.now }
@@ -70,15 +70,23 @@ fn names_number(file: &[u8], place: usize) -> usize
     }
 }
 
-// The table of so many headers, where the names are good.
+// The table of so many headers, where the names are good, or there are none.
 fn table_with_names(file: &[u8], place: usize, count: usize) -> Result<Table, ElfFault>
     requires table { place ≡ table_place file.now }
     requires count { count ≡ section_count file.now }
     requires within { place + 64 * count ≤ length file.now }
     requires some { place + 64 ≤ length file.now }
-    ensures { result ≡ full_table_where (names_checks file.now) file.now }
+    ensures { result ≡ named_table file.now }
 {
     let number = names_number(file, place);
+    if number == 0 {
+        return Ok(Table {
+            place,
+            count,
+            names: 0,
+            names_size: 0,
+        });
+    }
     if count <= number {
         return Err(ElfFault::at(62, Damage::NamesNumber));
     }

@@ -4,6 +4,7 @@
 pub mod fault;
 pub mod header;
 pub mod laws;
+pub mod lines;
 pub mod names;
 pub mod numbers;
 pub mod ranges;
@@ -12,3 +13,5 @@ pub mod section;
 pub mod sections;
 pub mod set;
 pub mod sets;
+pub mod tables;
+pub mod writing;

@@ -1,6 +1,6 @@
 //! The names of sections.
 ghost use Rattle.std.specs.Prelude.{◌≡◌};
-ghost use Rattle.fallible_elf.specs.Names.{name_length, name_at};
+ghost use Rattle.fallible_elf.specs.Names.{name_length, name_at, name_or_none};
 
 // How many bytes stand before the first 0.
 fn length_of(bytes: &[u8]) -> usize
@@ -22,4 +22,14 @@ pub fn name_of(file: &[u8], place: usize) -> &[u8]
     }
     let rest = &file[place..];
     &rest[..length_of(rest)]
+}
+
+/// The name that begins at a place, or no bytes where there is none.
+pub fn name_or_none(file: &[u8], place: Option<usize>) -> &[u8]
+    ensures { result.now ≡ name_or_none file.now place }
+{
+    match place {
+        Some(place) => name_of(file, place),
+        None => &[],
+    }
 }

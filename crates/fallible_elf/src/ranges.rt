@@ -9,8 +9,9 @@ ghost use Rattle.fallible_elf.specs.Sets.{ranges_from, ranges_in, ranges_of};
 
 use crate::fault::{Damage, ElfFault};
 use crate::numbers::u64_at;
+use crate::sections::sections_of;
 use crate::set::{Range, Set};
-use crate::sets::sets_of;
+use crate::sets::{SectionIn, has_ranges};
 use fallible_iterator::laws::law_flat_map_finite;
 use fallible_iterator::{FallibleIterator, Fault, IntoFallibleIterator};
 use std::alloc::Global;
@@ -23,7 +24,7 @@ pub struct Ranges<'a> {
     place: usize,
     // For how many there is room.
     left: usize,
-    unit: u32,
+    unit: u64,
     // What is answered where the room ends.
     fault: Option<ElfFault>,
     ghost within: { 16 * left ≤ length file.now - place },
@@ -106,7 +107,11 @@ impl<'a> IntoFallibleIterator for SetIn<'a> {
 pub fn all_ranges(alloc: Global, file: &[u8]) -> Result<Vec<Range>, Fault<ElfFault>>
     ensures { CollectedAs (λ all v. v.items ≡ all) (ranges_of file.now) result }
 {
-    let joined = sets_of(file).flat_map(|set| Ok(SetIn { file, set }));
+    let sets = sections_of(file)
+        .filter(|section| Ok(has_ranges(file, section)))
+        .flat_map(|section| Ok(SectionIn { file, section }));
+    law_flat_map_finite(&sets, usize::MAX);
+    let joined = sets.flat_map(|set| Ok(SetIn { file, set }));
     law_flat_map_finite(&joined, MOST);
     joined.collect(alloc)
 }

@@ -1,21 +1,20 @@
 //! The sections and the address ranges of a file that a reader gives, as lines of text.
-ghost use Rattle.std.specs.Prelude.{◌≡◌, ◌≢◌, Err, Some, None, OnOk, OnErr, IfOk, MatchResult};
+ghost use Rattle.std.specs.Prelude.{◌≡◌, ◌≢◌, ◌⊎◌, ⊤, Err, Some, None, OnOk, OnErr, MatchResult};
 ghost use Rattle.std.specs.IoError.{error_kind};
 ghost use Rattle.std.specs.Io.KnownBytes.{Appends, Keeps};
-ghost use Rattle.fallible_elf.specs.Report.{HasTables, first_damage, ReadsFile, damage_text, line_of, status_of, as_run_fault};
+ghost use Rattle.fallible_elf.specs.Report.{HasTables, HasSections, ReadsFile, Reports, report_of, damage_text, line_of, status_of, as_run_fault};
 ghost use Rattle.fallible_elf.specs.declared.fault.ElfFault.{ElfFault};
+ghost use Rattle.std.specs.declared.io.ErrorKind.{ErrorKind};
 
 use crate::fault::{Damage, ElfFault};
-use crate::names::name_of;
-use crate::ranges::all_ranges;
-use crate::section::Section;
-use crate::sections::all_sections;
-use crate::set::{Range, Set};
-use crate::sets::all_sets;
+use crate::lines::{write_ranges, write_sections, write_sets};
+use crate::tables::{Tables, tables_of};
+use crate::writing::WriteText;
 use fallible_iterator::Fault;
+use fallible_uses::reading::ReadWhole;
 use std::alloc::Global;
 use std::io;
-use std::io::{ErrorKind, Read, Write};
+use std::io::ErrorKind;
 
 /// Why a run gave no report.
 #[derive(Clone, Copy, Debug, PartialEq, Eq)]
@@ -41,78 +40,10 @@ impl From<Fault<ElfFault>> for RunFault {
     }
 }
 
-/// What is read of a file.
-#[derive(Drop)]
-pub struct Tables {
-    /// Its sections.
-    pub sections: Vec<Section>,
-    /// Its sets of address ranges.
-    pub sets: Vec<Set>,
-    /// The ranges of all sets.
-    pub ranges: Vec<Range>,
-}
-
-/// The sections of a file, then its sets, then their ranges, or the first fault of these.
-pub fn tables_of(alloc: Global, file: &[u8]) -> Result<Tables, RunFault>
-    ensures ok { IfOk result (λ tables. HasTables file.now
-        tables.sections.items tables.sets.items tables.ranges.items) }
-    ensures fault { (fault : ElfFault) → result ≡ Err (RunFault.Elf fault)
-        → first_damage file.now ≡ Some fault }
-    ensures read { result ≢ Err RunFault.Read }
-    ensures write { result ≢ Err RunFault.Write }
-{
-    let sections = all_sections(alloc, file)?;
-    let sets = all_sets(alloc, file)?;
-    let ranges = all_ranges(alloc, file)?;
-    Ok(Tables {
-        sections,
-        sets,
-        ranges,
-    })
-}
-
-// Writes the sections of a file, a line for each.
-fn write_sections<W: Write>(file: &[u8], sections: &[Section], writer: &mut W) -> io::Result<()> {
-    writeln!(writer, "sections {}", sections.len())?;
-    for (number, section) in sections.iter().enumerate() {
-        let name = name_of(file, section.name).escape_ascii();
-        writeln!(
-            writer,
-            "{number} type {} address {:#x} offset {:#x} size {:#x} name {name}",
-            section.kind, section.address, section.offset, section.size
-        )?;
-    }
-    Ok(())
-}
-
-// Writes the sets and their ranges, a line for each.
-fn write_ranges<W: Write>(sets: &[Set], ranges: &[Range], writer: &mut W) -> io::Result<()> {
-    writeln!(writer, "sets {}", sets.len())?;
-    for set in sets {
-        writeln!(
-            writer,
-            "unit {:#x} from {:#x} to {:#x}",
-            set.unit, set.place, set.end
-        )?;
-    }
-    writeln!(writer, "ranges {}", ranges.len())?;
-    for range in ranges {
-        writeln!(
-            writer,
-            "unit {:#x} address {:#x} length {:#x}",
-            range.unit, range.address, range.length
-        )?;
-    }
-    Ok(())
-}
-
-fn write_tables<W: Write>(file: &[u8], tables: &Tables, writer: &mut W) -> io::Result<()> {
-    write_sections(file, tables.sections.as_slice(), writer)?;
-    write_ranges(tables.sets.as_slice(), tables.ranges.as_slice(), writer)
-}
-
 // What a failed read comes to.
 fn fault_of_read(error: &io::Error) -> RunFault
+    ensures memory { result ≡ RunFault.Memory → error_kind error.now ≡ ErrorKind.OutOfMemory }
+    ensures read { result ≡ RunFault.Read → error_kind error.now ≢ ErrorKind.OutOfMemory }
     ensures elf { (fault : ElfFault) → result ≢ RunFault.Elf fault }
     ensures write { result ≢ RunFault.Write }
 {
@@ -122,24 +53,72 @@ fn fault_of_read(error: &io::Error) -> RunFault
     }
 }
 
-/// Reads a file up to the end of `reader`, and writes its sections, its sets and their ranges to `writer`. It fails with `Elf` and the file's first fault, with `Read` where a read fails, with `Memory` where there is none, and with `Write` where the writer fails. An interrupted read is tried again. Only at `Ok` and `Write` may something have been written.
-pub fn run<R: Read, W: Write>(alloc: Global, reader: &mut R, writer: &mut W) -> Result<(), RunFault>
-    ensures ok { OnOk result (ReadsFile (R.remaining reader.old) (R.remaining reader.new) None) }
-    ensures fault { (fault : ElfFault) → result ≡ Err (RunFault.Elf fault)
-        → ReadsFile (R.remaining reader.old) (R.remaining reader.new) (Some fault) }
-    ensures write { result ≡ Err RunFault.Write
-        → ReadsFile (R.remaining reader.old) (R.remaining reader.new) None }
-    ensures unwritten { result ≢ Err RunFault.Write
-        → OnErr result (Keeps (W.contents writer.old) (W.contents writer.new)) }
+// Writes the tables of a file.
+fn write_tables<W: WriteText>(file: &[u8], tables: &Tables, writer: &mut W) -> io::Result<()>
+    requires { HasTables file.now tables.now }
+    ensures text { OnOk result
+        (Appends (W.written writer.old) (W.written writer.new) (report_of file.now)) }
+    ensures failed { OnErr result (W.failed writer.new) }
 {
-    let mut file = Vec::new(alloc);
-    if let Err(e) = reader.read_to_end(&mut file) {
-        return Err(fault_of_read(&e));
+    write_sections(file, tables.sections.as_slice(), writer)?;
+    if let Ok(found) = &tables.found {
+        write_sets(found.sets.as_slice(), writer)?;
+        write_ranges(found.ranges.as_slice(), writer)?;
     }
-    let tables = tables_of(alloc, file.as_slice())?;
-    match write_tables(file.as_slice(), &tables, writer) {
-        Ok(()) => Ok(()),
-        Err(_) => Err(RunFault::Write),
+    Ok(())
+}
+
+/// Writes the sections of a file to `writer`, and then its sets and their ranges. At a fault of a section nothing is written, and at one of a set or a range the sections alone. It fails with `Elf` and the file's first fault, with `Memory` where there is none, before anything is written, and with `Write` where the writer fails.
+pub fn report<W: WriteText>(alloc: Global, file: &[u8], writer: &mut W) -> Result<(), RunFault>
+    ensures ok { OnOk result (Reports file.now None
+        (W.written writer.old) (W.written writer.new)) }
+    ensures fault { (fault : ElfFault) → result ≡ Err (RunFault.Elf fault)
+        → Reports file.now (Some fault) (W.written writer.old) (W.written writer.new) }
+    ensures memory { result ≡ Err RunFault.Memory
+        → Keeps (W.written writer.old) (W.written writer.new) }
+    ensures write { result ≡ Err RunFault.Write
+        → HasSections file.now × W.failed writer.new }
+    ensures read { result ≢ Err RunFault.Read }
+{
+    let tables = tables_of(alloc, file)?;
+    if write_tables(file, &tables, writer).is_err() {
+        return Err(RunFault::Write);
+    }
+    match tables.found {
+        Ok(_) => Ok(()),
+        Err(fault) => Err(RunFault::Elf(fault)),
+    }
+}
+
+/// Reads a file up to the end of `reader`, which may be any reader of std, and writes its report to `writer`, as `report` does. It also fails with `Read` where a read fails, and with `Memory` where there is none for the file. An interrupted read is tried again. At `Read` and `Memory` nothing is written.
+pub fn run<R: ReadWhole, W: WriteText>(
+    alloc: Global,
+    reader: &mut R,
+    writer: &mut W,
+) -> Result<(), RunFault>
+    ensures ok { OnOk result (ReadsFile (R.left reader.old) (R.left reader.new)
+        (λ bytes. Reports bytes None (W.written writer.old) (W.written writer.new))) }
+    ensures fault { (fault : ElfFault) → result ≡ Err (RunFault.Elf fault)
+        → ReadsFile (R.left reader.old) (R.left reader.new)
+        (λ bytes. Reports bytes (Some fault) (W.written writer.old) (W.written writer.new)) }
+    ensures write { result ≡ Err RunFault.Write
+        → ReadsFile (R.left reader.old) (R.left reader.new) HasSections × W.failed writer.new }
+
+    // Reading failed, and of which kind.
+    ensures read { result ≡ Err RunFault.Read
+        → ((kind : ErrorKind) × (kind ≢ ErrorKind.OutOfMemory)
+        × R.fails kind reader.old reader.new)
+        × Keeps (W.written writer.old) (W.written writer.new) }
+
+    // Reading failed for want of memory, or the file was read, and there was none for its tables.
+    ensures memory { result ≡ Err RunFault.Memory
+        → (R.fails ErrorKind.OutOfMemory reader.old reader.new
+        ⊎ ReadsFile (R.left reader.old) (R.left reader.new) (λ _. ⊤))
+        × Keeps (W.written writer.old) (W.written writer.new) }
+{
+    match reader.read_whole(alloc) {
+        Ok(file) => report(alloc, file.as_slice(), writer),
+        Err(e) => Err(fault_of_read(&e)),
     }
 }
 
@@ -176,10 +155,12 @@ impl RunFault {
     {
         match self {
             RunFault::Elf(fault) => match fault.damage {
-                Damage::NotElf
-                | Damage::NotWide
-                | Damage::NotLittleEndian
-                | Damage::SetsCompressed => 5,
+                Damage::NotElf | Damage::NotWide | Damage::NotLittleEndian => 5,
+                Damage::SetsCompressed
+                | Damage::SetForm
+                | Damage::SetVersion
+                | Damage::AddressSize
+                | Damage::SegmentSize => 6,
                 _ => 1,
             },
             RunFault::Read => 2,
@@ -189,28 +170,31 @@ impl RunFault {
     }
 }
 
-fn write_line<W: Write>(fault: &RunFault, err: &mut W) -> io::Result<()>
-    ensures { OnOk result
-        (Appends (W.contents err.old) (W.contents err.new) (line_of fault.now)) }
+// Writes the line that tells of a fault.
+fn write_line<W: WriteText>(fault: &RunFault, err: &mut W) -> io::Result<()>
+    ensures line { OnOk result
+        (Appends (W.written err.old) (W.written err.new) (line_of fault.now)) }
+    ensures failed { OnErr result (W.failed err.new) }
 {
     match fault {
         RunFault::Elf(fault) => {
             let place = fault.place;
             let text = text_of(fault.damage);
-            writeln!(err, "byte {place}: {text}")
+            err.write_text(format_args!("byte {place}: {text}\n"))
         }
-        RunFault::Read => writeln!(err, "read failed"),
-        RunFault::Memory => writeln!(err, "no memory"),
-        RunFault::Write => writeln!(err, "write failed"),
+        RunFault::Read => err.write_text("read failed\n"),
+        RunFault::Memory => err.write_text("no memory\n"),
+        RunFault::Write => err.write_text("write failed\n"),
     }
 }
 
-/// Writes the one line that tells of `fault` to `err`, and answers the status that a program ends with after it: 1 for a damaged file and 5 for one that is no ELF file of 64 bits whose numbers begin with their least byte, 2 for `Read`, 3 for `Memory`, 4 for `Write`. Where the line could not be written, the status is an `Err`.
-pub fn fault_line<W: Write>(fault: &RunFault, err: &mut W) -> Result<u8, u8>
+/// Writes the one line that tells of `fault` to `err`, and answers the status that a program ends with after it: 1 for a damaged file, 5 for one that is no ELF file of 64 bits whose numbers begin with their least byte, and 6 for one whose address ranges aren't read; 2 for `Read`, 3 for `Memory`, 4 for `Write`. Where the line could not be written, the status is an `Err`.
+pub fn fault_line<W: WriteText>(fault: &RunFault, err: &mut W) -> Result<u8, u8>
     ensures status { MatchResult result (λ status. status ≡ status_of fault.now)
         (λ status. status ≡ status_of fault.now) }
     ensures line { OnOk result
-        (Appends (W.contents err.old) (W.contents err.new) (line_of fault.now)) }
+        (Appends (W.written err.old) (W.written err.new) (line_of fault.now)) }
+    ensures failed { OnErr result (W.failed err.new) }
 {
     let status = fault.status();
     match write_line(fault, err) {

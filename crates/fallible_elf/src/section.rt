@@ -1,15 +1,15 @@
 //! A section.
-ghost use Rattle.std.specs.Prelude.{◌≡◌, ◌+◌, ◌<◌, ◌≤◌, ◌^◌, length};
-ghost use Rattle.fallible_elf.specs.Numbers.{u32_at};
-ghost use Rattle.fallible_elf.specs.Sections.{section_at};
+ghost use Rattle.std.specs.Prelude.{◌≡◌, ◌+◌, ◌≤◌, length};
+ghost use Rattle.fallible_elf.specs.Sections.{section_at, header_at};
 
+use crate::fault::{Damage, ElfFault};
 use crate::numbers::{u32_at, u64_at};
 
 /// What the header of a section says.
 #[derive(Clone, Copy, Debug, PartialEq, Eq)]
 pub struct Section {
-    /// The place in the file where its name begins, which ends with a 0.
-    pub name: usize,
+    /// The place in the file where its name begins, which ends with a 0. None, where the file has no names.
+    pub name: Option<usize>,
     /// Its type.
     pub kind: u32,
     /// Its flags.
@@ -23,19 +23,39 @@ pub struct Section {
 }
 
 impl Section {
-    // The section whose header begins at a place, where the names begin at another.
-    pub(crate) fn at(names: usize, file: &[u8], place: usize) -> Section
-        requires within { place + 64 ≤ length file.now }
-        requires fits { names + u32_at file.now place < 2 ^ 64 }
-        ensures { result ≡ section_at names file.now place }
+    // The section whose header begins at a place, with the place of its name.
+    fn at(name: Option<usize>, file: &[u8], place: usize) -> Section
+        requires { place + 64 ≤ length file.now }
+        ensures { result ≡ section_at name file.now place }
     {
         Section {
-            name: names + u32_at(file, place) as usize,
+            name,
             kind: u32_at(file, place + 4),
             flags: u64_at(file, place + 8),
             address: u64_at(file, place + 16),
             offset: u64_at(file, place + 24),
             size: u64_at(file, place + 32),
         }
+    }
+
+    // The section whose header begins at a place, where the names begin at another and have so many bytes, or the fault of its name.
+    pub(crate) fn named_at(
+        names: usize,
+        names_size: usize,
+        file: &[u8],
+        place: usize,
+    ) -> Result<Section, ElfFault>
+        requires within { place + 64 ≤ length file.now }
+        requires names { names + names_size ≤ length file.now }
+        ensures { result ≡ header_at names names_size file.now place }
+    {
+        if names_size == 0 {
+            return Ok(Section::at(None, file, place));
+        }
+        let at = u32_at(file, place) as usize;
+        if names_size <= at {
+            return Err(ElfFault::at(place, Damage::NameOutOfRange));
+        }
+        Ok(Section::at(Some(names + at), file, place))
     }
 }

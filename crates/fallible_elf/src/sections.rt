@@ -8,9 +8,8 @@ ghost use Rattle.fallible_iterator.specs.Own.{bounded_by};
 ghost use Rattle.fallible_iterator.specs.Showing.{listing};
 ghost use Rattle.fallible_elf.specs.Sections.{headers_from, headers_of};
 
-use crate::fault::{Damage, ElfFault};
+use crate::fault::ElfFault;
 use crate::header::table_of;
-use crate::numbers::u32_at;
 use crate::section::Section;
 use fallible_iterator::{FallibleIterator, Fault};
 use std::alloc::Global;
@@ -49,10 +48,10 @@ impl FallibleIterator for Sections<'_> {
         let place = self.place;
         self.left -= 1;
         self.place += 64;
-        if self.names_size <= u32_at(self.file, place) as usize {
-            return Err(ElfFault::at(place, Damage::NameOutOfRange));
+        match Section::named_at(self.names, self.names_size, self.file, place) {
+            Ok(section) => Ok(Some(section)),
+            Err(fault) => Err(fault),
         }
-        Ok(Some(Section::at(self.names, self.file, place)))
     }
 
     fn size_hint(&self) -> (usize, Option<usize>) {

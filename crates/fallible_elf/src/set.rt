@@ -1,9 +1,9 @@
 //! A set of address ranges.
-ghost use Rattle.std.specs.Prelude.{◌≡◌, ◌<◌, ◌≤◌, length, IfOk};
-ghost use Rattle.fallible_elf.specs.Sets.{set_at};
+ghost use Rattle.std.specs.Prelude.{◌≡◌, ◌+◌, ◌<◌, ◌≤◌, length, IfOk};
+ghost use Rattle.fallible_elf.specs.Sets.{short_set, long_set, set_at};
 
 use crate::fault::{Damage, ElfFault};
-use crate::numbers::{u16_at, u32_at};
+use crate::numbers::{u16_at, u32_at, u64_at};
 
 /// Bytes of a file.
 #[derive(Clone, Copy, Debug, PartialEq, Eq)]
@@ -18,7 +18,7 @@ pub struct Region {
 #[derive(Clone, Copy, Debug, PartialEq, Eq)]
 pub struct Set {
     /// The offset of the unit in the section `.debug_info`.
-    pub unit: u32,
+    pub unit: u64,
     /// Where its ranges begin in the file.
     pub place: usize,
     /// Where it ends.
@@ -29,7 +29,7 @@ pub struct Set {
 #[derive(Clone, Copy, Debug, PartialEq, Eq)]
 pub struct Range {
     /// The offset of the unit in the section `.debug_info`.
-    pub unit: u32,
+    pub unit: u64,
     /// The first address.
     pub address: u64,
     /// How many addresses there are.
@@ -37,21 +37,15 @@ pub struct Range {
 }
 
 impl Set {
-    #[tactic(auto, unfolding(crate::specs::Sets::set_at))]
-    // The set at a place of a section that ends at `limit`, or its first fault.
-    pub(crate) fn at(file: &[u8], limit: usize, place: usize) -> Result<Set, ElfFault>
+    // The set of the short form at a place of a section that ends at `limit`, or its first fault.
+    #[tactic(auto, unfolding(crate::specs::Sets::short_set))]
+    fn short_at(file: &[u8], limit: usize, place: usize) -> Result<Set, ElfFault>
         requires within { limit ≤ length file.now }
-        requires before { place ≤ limit }
-        ensures value { result ≡ set_at file.now limit place }
+        requires room { place + 16 ≤ limit }
+        ensures value { result ≡ short_set file.now limit place }
         ensures behind { IfOk result (λ set. place < set.end) }
     {
-        if limit - place < 16 {
-            return Err(ElfFault::at(place, Damage::SetCut));
-        }
         let length = u32_at(file, place) as usize;
-        if length >= 0xffff_fff0 {
-            return Err(ElfFault::at(place, Damage::SetForm));
-        }
         if length < 12 || limit - place - 4 < length {
             return Err(ElfFault::at(place, Damage::SetCut));
         }
@@ -65,9 +59,61 @@ impl Set {
             return Err(ElfFault::at(place + 11, Damage::SegmentSize));
         }
         Ok(Set {
-            unit: u32_at(file, place + 6),
+            unit: u64::from(u32_at(file, place + 6)),
             place: place + 16,
             end: place + 4 + length,
         })
+    }
+
+    // The set of the long form at a place of a section that ends at `limit`, or its first fault.
+    #[tactic(auto, unfolding(crate::specs::Sets::long_set))]
+    fn long_at(file: &[u8], limit: usize, place: usize) -> Result<Set, ElfFault>
+        requires within { limit ≤ length file.now }
+        requires room { place + 16 ≤ limit }
+        ensures value { result ≡ long_set file.now limit place }
+        ensures behind { IfOk result (λ set. place < set.end) }
+    {
+        if limit - place < 32 {
+            return Err(ElfFault::at(place, Damage::SetCut));
+        }
+        let length = u64_at(file, place + 4) as usize;
+        if length < 20 || limit - place - 12 < length {
+            return Err(ElfFault::at(place, Damage::SetCut));
+        }
+        if u16_at(file, place + 12) != 2 {
+            return Err(ElfFault::at(place + 12, Damage::SetVersion));
+        }
+        if file[place + 22] != 8 {
+            return Err(ElfFault::at(place + 22, Damage::AddressSize));
+        }
+        if file[place + 23] != 0 {
+            return Err(ElfFault::at(place + 23, Damage::SegmentSize));
+        }
+        Ok(Set {
+            unit: u64_at(file, place + 14),
+            place: place + 32,
+            end: place + 12 + length,
+        })
+    }
+
+    // The set at a place of a section that ends at `limit`, or its first fault.
+    #[tactic(auto, unfolding(crate::specs::Sets::set_at))]
+    pub(crate) fn at(file: &[u8], limit: usize, place: usize) -> Result<Set, ElfFault>
+        requires within { limit ≤ length file.now }
+        requires before { place ≤ limit }
+        ensures value { result ≡ set_at file.now limit place }
+        ensures behind { IfOk result (λ set. place < set.end) }
+    {
+        if limit - place < 16 {
+            return Err(ElfFault::at(place, Damage::SetCut));
+        }
+        let length = u32_at(file, place);
+        if length == 0xffff_ffff {
+            return Set::long_at(file, limit, place);
+        }
+        if length >= 0xffff_fff0 {
+            return Err(ElfFault::at(place, Damage::SetForm));
+        }
+        Set::short_at(file, limit, place)
     }
 }

@@ -1,37 +1,43 @@
 //! The sets of address ranges of a file.
-ghost use Rattle.std.specs.Prelude.{◌≡◌, ◌-◌, ◌≤◌, length, IfOk};
+ghost use Rattle.std.specs.Prelude.{◌≡◌, ◌-◌, ◌^◌, ◌<◌, ◌≤◌, length, IfOk};
 ghost use Rattle.fallible_iterator.specs.Laws.Own.{lawful_bounded_by};
 ghost use Rattle.fallible_iterator.specs.Laws.Showing.{lawful_listing};
-ghost use Rattle.fallible_iterator.specs.Lists.{Lists, CollectedAs};
+ghost use Rattle.fallible_iterator.specs.Lists.{CollectedAs};
 ghost use Rattle.fallible_iterator.specs.Own.{bounded_by};
 ghost use Rattle.fallible_iterator.specs.Showing.{listing};
-ghost use Rattle.fallible_elf.specs.Sets.{has_ranges, region_in, region_of, sets_between, sets_of};
+ghost use Rattle.fallible_elf.specs.Sets.{names_ranges, has_ranges, region_of, sets_between, sets_in, sets_of};
 
 use crate::fault::{Damage, ElfFault};
 use crate::section::Section;
 use crate::sections::sections_of;
 use crate::set::{Region, Set};
-use fallible_iterator::{FallibleIterator, Fault};
+use fallible_iterator::laws::law_flat_map_finite;
+use fallible_iterator::{FallibleIterator, Fault, IntoFallibleIterator};
 use std::alloc::Global;
 
-// Whether a section has the address ranges.
-#[tactic(auto, unfolding(crate::specs::Sets::has_ranges))]
-fn has_ranges(file: &[u8], section: &Section) -> bool
-    ensures { result ≡ has_ranges file.now section.now }
+// Whether this is the place of the name `.debug_aranges`.
+fn names_ranges(file: &[u8], name: Option<usize>) -> bool
+    ensures { result ≡ names_ranges file.now name }
 {
-    section.kind == 1
-        && section.name <= file.len()
-        && file[section.name..].starts_with(b".debug_aranges\0")
+    match name {
+        Some(place) => place <= file.len() && file[place..].starts_with(b".debug_aranges\0"),
+        None => false,
+    }
 }
 
-// The bytes of a section, where there is one.
-fn region_in(file: &[u8], section: Option<Section>) -> Result<Region, ElfFault>
-    ensures value { result ≡ region_in file.now section }
+// Whether a section has address ranges.
+#[tactic(auto, unfolding(crate::specs::Sets::has_ranges))]
+pub(crate) fn has_ranges(file: &[u8], section: &Section) -> bool
+    ensures { result ≡ has_ranges file.now section.now }
+{
+    section.kind == 1 && names_ranges(file, section.name)
+}
+
+// The bytes of a section.
+fn region_of(file: &[u8], section: &Section) -> Result<Region, ElfFault>
+    ensures value { result ≡ region_of file.now section.now }
     ensures within { IfOk result (λ region. region.end ≤ length file.now) }
 {
-    let Some(section) = section else {
-        return Ok(Region { place: 0, end: 0 });
-    };
     let place = section.offset as usize;
     let size = section.size as usize;
     if file.len() < place || file.len() - place < size {
@@ -46,16 +52,7 @@ fn region_in(file: &[u8], section: Option<Section>) -> Result<Region, ElfFault>
     })
 }
 
-// The bytes of the first section that has the address ranges.
-fn region_of(file: &[u8]) -> Result<Region, ElfFault>
-    ensures value { result ≡ region_of file.now }
-    ensures within { IfOk result (λ region. region.end ≤ length file.now) }
-{
-    let section = sections_of(file).find(|section| Ok(has_ranges(file, section)))?;
-    region_in(file, section)
-}
-
-/// The sets of a file, in their order. A draw reads the header of one set. Behind a fault it ends. Where the file has a fault before its sets, that is the one answer before the end.
+/// The sets of a section, in their order. A draw reads the header of one set. Behind a fault it ends. Where the section has a fault before its sets, that is the one answer before the end.
 #[derive(Drop)]
 pub struct Sets<'a> {
     file: &'a [u8],
@@ -104,32 +101,54 @@ impl FallibleIterator for Sets<'_> {
         (lawful_listing (λ s. sets_between s.fault s.file.now s.place s.end)) };
 }
 
-/// The sets of a file. Making them reads the headers of its sections up to that of the address ranges.
-pub fn sets_of<'a>(file: &'a [u8]) -> Sets<'a>
-    ensures { Lists ⟦<Sets<'a> as FallibleIterator>⟧.contract.steps result (sets_of file.now) }
-{
-    let region = match region_of(file) {
-        Ok(region) => region,
-        Err(fault) => {
-            return Sets {
-                file,
-                place: 0,
-                end: 0,
-                fault: Some(fault),
-            };
+/// A section that has address ranges, and the file in which it stands. It becomes the sets of the section.
+#[derive(Clone, Copy, Drop)]
+pub struct SectionIn<'a> {
+    /// The file.
+    pub file: &'a [u8],
+    /// The section.
+    pub section: Section,
+}
+
+impl<'a> IntoFallibleIterator for SectionIn<'a> {
+    type Item = Set;
+
+    type Error = ElfFault;
+
+    type IntoFallibleIter = Sets<'a>;
+
+    ghost into_gives = { λ of it. (sets_between it.fault it.file.now it.place it.end
+        ≡ sets_in of.file.now of.section) × (it.end < 2 ^ 64) };
+
+    fn into_fallible_iter(self) -> Sets<'a> {
+        let file = self.file;
+        let region = match region_of(file, &self.section) {
+            Ok(region) => region,
+            Err(fault) => {
+                return Sets {
+                    file,
+                    place: 0,
+                    end: 0,
+                    fault: Some(fault),
+                };
+            }
+        };
+        Sets {
+            file,
+            place: region.place,
+            end: region.end,
+            fault: None,
         }
-    };
-    Sets {
-        file,
-        place: region.place,
-        end: region.end,
-        fault: None,
     }
 }
 
-/// The sets of a file, all of them, or its first fault.
+/// The sets of all sections of a file that have address ranges, or its first fault.
 pub fn all_sets(alloc: Global, file: &[u8]) -> Result<Vec<Set>, Fault<ElfFault>>
     ensures { CollectedAs (λ all v. v.items ≡ all) (sets_of file.now) result }
 {
-    sets_of(file).collect(alloc)
+    let joined = sections_of(file)
+        .filter(|section| Ok(has_ranges(file, section)))
+        .flat_map(|section| Ok(SectionIn { file, section }));
+    law_flat_map_finite(&joined, usize::MAX);
+    joined.collect(alloc)
 }

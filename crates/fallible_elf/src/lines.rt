@@ -1,0 +1,160 @@
+//! The lines of sections, sets and ranges.
+ghost use Rattle.std.specs.Prelude.{◌≡◌, ◌<◌, length, OnOk, OnErr};
+ghost use Rattle.std.specs.Char.{digit_char};
+ghost use Rattle.std.specs.Char.Escape.{escape_ascii};
+ghost use Rattle.std.specs.Io.KnownBytes.{Appends};
+ghost use Rattle.fallible_elf.specs.Text.{shown, section_type, section_extent, section_line, set_line, range_line, sections_text, sets_text, ranges_text};
+
+use crate::names::name_or_none;
+use crate::section::Section;
+use crate::set::{Range, Set};
+use crate::writing::WriteText;
+use std::io;
+
+// The digit of a number below 16.
+fn digit_of(number: u8) -> u8
+    requires { number < 16 }
+    ensures { result ≡ digit_char number }
+{
+    if number < 10 {
+        48 + number
+    } else {
+        87 + number
+    }
+}
+
+// Writes a byte of a name.
+fn write_byte<W: WriteText>(byte: u8, writer: &mut W) -> io::Result<()>
+    ensures text { OnOk result
+        (Appends (W.written writer.old) (W.written writer.new) (escape_ascii byte)) }
+    ensures failed { OnErr result (W.failed writer.new) }
+{
+    match byte {
+        b'\t' => writer.write_bytes(b"\\t"),
+        b'\r' => writer.write_bytes(b"\\r"),
+        b'\n' => writer.write_bytes(b"\\n"),
+        b'\'' => writer.write_bytes(b"\\'"),
+        b'"' => writer.write_bytes(b"\\\""),
+        b'\\' => writer.write_bytes(b"\\\\"),
+        32..=126 => writer.write_bytes(&[byte]),
+        _ => writer.write_bytes(&[b'\\', b'x', digit_of(byte / 16), digit_of(byte % 16)]),
+    }
+}
+
+// Writes a name.
+fn write_name<W: WriteText>(name: &[u8], writer: &mut W) -> io::Result<()>
+    ensures text { OnOk result
+        (Appends (W.written writer.old) (W.written writer.new) (shown name.now)) }
+    ensures failed { OnErr result (W.failed writer.new) }
+{
+    for byte in name {
+        write_byte(*byte, writer)?;
+    }
+    Ok(())
+}
+
+// Writes the type and the address of a section.
+fn write_type<W: WriteText>(section: &Section, writer: &mut W) -> io::Result<()>
+    ensures text { OnOk result
+        (Appends (W.written writer.old) (W.written writer.new) (section_type section.now)) }
+    ensures failed { OnErr result (W.failed writer.new) }
+{
+    writer.write_text(format_args!(" type {} address 0x{:x}", section.kind, section.address))
+}
+
+// Writes the offset and the size of a section, and the word before its name.
+fn write_extent<W: WriteText>(section: &Section, writer: &mut W) -> io::Result<()>
+    ensures text { OnOk result
+        (Appends (W.written writer.old) (W.written writer.new) (section_extent section.now)) }
+    ensures failed { OnErr result (W.failed writer.new) }
+{
+    writer.write_text(format_args!(
+        " offset 0x{:x} size 0x{:x} name ",
+        section.offset, section.size
+    ))
+}
+
+// Writes the line of a section.
+fn write_section<W: WriteText>(
+    file: &[u8],
+    number: usize,
+    section: &Section,
+    writer: &mut W,
+) -> io::Result<()>
+    ensures text { OnOk result (Appends (W.written writer.old) (W.written writer.new)
+        (section_line file.now number section.now)) }
+    ensures failed { OnErr result (W.failed writer.new) }
+{
+    writer.write_text(number)?;
+    write_type(section, writer)?;
+    write_extent(section, writer)?;
+    write_name(name_or_none(file, section.name), writer)?;
+    writer.write_bytes(b"\n")
+}
+
+/// Writes the sections of a file, a line for each.
+pub fn write_sections<W: WriteText>(
+    file: &[u8],
+    sections: &[Section],
+    writer: &mut W,
+) -> io::Result<()>
+    ensures text { OnOk result (Appends (W.written writer.old) (W.written writer.new)
+        (sections_text file.now sections.now)) }
+    ensures failed { OnErr result (W.failed writer.new) }
+{
+    writer.write_text(format_args!("sections {}\n", sections.len()))?;
+    for (number, section) in sections.iter().enumerate() {
+        write_section(file, number, section, writer)?;
+    }
+    Ok(())
+}
+
+// Writes the line of a set.
+fn write_set<W: WriteText>(set: &Set, writer: &mut W) -> io::Result<()>
+    ensures text { OnOk result
+        (Appends (W.written writer.old) (W.written writer.new) (set_line set.now)) }
+    ensures failed { OnErr result (W.failed writer.new) }
+{
+    writer.write_text(format_args!(
+        "unit 0x{:x} from 0x{:x} to 0x{:x}\n",
+        set.unit, set.place, set.end
+    ))
+}
+
+/// Writes sets, a line for each.
+pub fn write_sets<W: WriteText>(sets: &[Set], writer: &mut W) -> io::Result<()>
+    ensures text { OnOk result
+        (Appends (W.written writer.old) (W.written writer.new) (sets_text sets.now)) }
+    ensures failed { OnErr result (W.failed writer.new) }
+{
+    writer.write_text(format_args!("sets {}\n", sets.len()))?;
+    for set in sets {
+        write_set(set, writer)?;
+    }
+    Ok(())
+}
+
+// Writes the line of a range.
+fn write_range<W: WriteText>(range: &Range, writer: &mut W) -> io::Result<()>
+    ensures text { OnOk result
+        (Appends (W.written writer.old) (W.written writer.new) (range_line range.now)) }
+    ensures failed { OnErr result (W.failed writer.new) }
+{
+    writer.write_text(format_args!(
+        "unit 0x{:x} address 0x{:x} length 0x{:x}\n",
+        range.unit, range.address, range.length
+    ))
+}
+
+/// Writes ranges, a line for each.
+pub fn write_ranges<W: WriteText>(ranges: &[Range], writer: &mut W) -> io::Result<()>
+    ensures text { OnOk result
+        (Appends (W.written writer.old) (W.written writer.new) (ranges_text ranges.now)) }
+    ensures failed { OnErr result (W.failed writer.new) }
+{
+    writer.write_text(format_args!("ranges {}\n", ranges.len()))?;
+    for range in ranges {
+        write_range(range, writer)?;
+    }
+    Ok(())
+}
