@@ -1,43 +1,58 @@
 // The program, over any input and any two outputs.
-ghost use Rattle.std.specs.Prelude.{◌≡◌, ◌≢◌, [], Some, None, Err, OnOk, MatchResult};
+ghost use Rattle.std.specs.Prelude.{◌≢◌, [], MatchResult};
 ghost use Rattle.std.specs.Io.KnownBytes.{Appends};
 ghost use Rattle.elf_tables.specs.Program.{ComesTo, EndsWith};
 
 use fallible_elf::report::{RunFault, fault_line, run};
+use fallible_elf::writing::WriteText;
+use fallible_uses::reading::ReadWhole;
 use std::alloc::Global;
-use std::io::{BufWriter, Read, Write};
 
-// Runs over `input`, and writes to `output` by whole buffers.
-fn run_buffered<R: Read, W: Write + Drop>(
+// `run` over `input`. The report is made in memory, so it is written whole, and nothing where there is no memory for it.
+fn run_whole<R: ReadWhole, W: WriteText>(
     alloc: Global,
     input: &mut R,
-    output: W,
+    output: &mut W,
 ) -> Result<(), RunFault>
-    ensures { ComesTo (R.remaining input.old) (R.remaining input.new) result }
+    ensures { ComesTo R.left R.fails input.old input.new W.failed
+        (W.written output.old) (W.written output.new) output.new result }
 {
-    let Ok(mut lines) = BufWriter::new(alloc, output) else {
-        return Err(RunFault::Memory);
-    };
-    run(alloc, input, &mut lines)?;
-    match lines.flush() {
-        Ok(()) => Ok(()),
-        Err(_) => Err(RunFault::Write),
+    let mut text = Vec::new(alloc);
+    match run(alloc, input, &mut text) {
+        Ok(()) => match output.write_bytes(text.as_slice()) {
+            Ok(()) => Ok(()),
+            Err(_) => Err(RunFault::Write),
+        },
+        Err(RunFault::Elf(fault)) => {
+            if text.is_empty() {
+                return Err(RunFault::Elf(fault));
+            }
+            match output.write_bytes(text.as_slice()) {
+                Ok(()) => Err(RunFault::Elf(fault)),
+                Err(_) => Err(RunFault::Write),
+            }
+        }
+        Err(RunFault::Read) => Err(RunFault::Read),
+        Err(RunFault::Memory | RunFault::Write) => Err(RunFault::Memory),
     }
 }
 
 // Runs over `input`, and tells `errors` of a fault. The status that the program ends with; an `Err` where there was a line to tell and it could not be written.
-pub(crate) fn program<R: Read, W: Write + Drop, E: Write>(
+pub(crate) fn program<R: ReadWhole, W: WriteText, E: WriteText>(
     alloc: Global,
     input: &mut R,
-    output: W,
+    output: &mut W,
     errors: &mut E,
 ) -> Result<u8, u8>
     ensures { MatchResult result
-        (EndsWith (R.remaining input.old) (R.remaining input.new)
-        (Appends (E.contents errors.old) (E.contents errors.new)))
-        (EndsWith (R.remaining input.old) (R.remaining input.new) (λ line. line ≢ [])) }
+        (EndsWith R.left R.fails input.old input.new W.failed
+        (W.written output.old) (W.written output.new) output.new
+        (Appends (E.written errors.old) (E.written errors.new)))
+        (EndsWith R.left R.fails input.old input.new W.failed
+        (W.written output.old) (W.written output.new) output.new
+        (λ line. (line ≢ []) × E.failed errors.new)) }
 {
-    match run_buffered(alloc, input, output) {
+    match run_whole(alloc, input, output) {
         Ok(()) => Ok(0),
         Err(fault) => fault_line(&fault, errors),
     }
