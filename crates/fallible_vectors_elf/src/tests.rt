@@ -1,10 +1,12 @@
 // What is read of a real object, and of damaged copies of it. What `readelf` says of it stands in the comments.
 use crate::object::OBJECT;
 use fallible_elf::fault::{Damage, ElfFault};
+use fallible_elf::lines::write_sections;
 use fallible_elf::names::name_of;
-use fallible_elf::report::{RunFault, fault_line, run, tables_of};
+use fallible_elf::report::{RunFault, fault_line, run};
 use fallible_elf::section::Section;
 use fallible_elf::set::{Range, Set};
+use fallible_elf::tables::{Found, tables_of};
 use std::alloc::{AllocError, Global};
 use std::io;
 use std::io::{ErrorKind, Read, Write};
@@ -13,20 +15,35 @@ use std::test::Fail;
 
 // The fault of a file, where it has one.
 fn judged(alloc: Global, file: &[u8]) -> Result<(), RunFault> {
-    tables_of(alloc, file)?;
-    Ok(())
+    match tables_of(alloc, file)?.found {
+        Ok(_) => Ok(()),
+        Err(fault) => Err(RunFault::Elf(fault)),
+    }
+}
+
+// The sets and ranges of a file, or none where they have a fault.
+fn found(alloc: Global, file: &[u8]) -> Result<Found, RunFault> {
+    match tables_of(alloc, file)?.found {
+        Ok(found) => Ok(found),
+        Err(fault) => Err(RunFault::Elf(fault)),
+    }
 }
 
 fn fault(damage: Damage, place: usize) -> Result<(), RunFault> {
     Err(RunFault::Elf(ElfFault { damage, place }))
 }
 
-// The object, with the bytes from a place on in the place of its own.
-fn with(alloc: Global, place: usize, bytes: &[u8]) -> Result<Vec<u8>, AllocError> {
-    let mut file = Vec::from_slice(alloc, &OBJECT)?;
+// Puts bytes in the place of a file's own.
+fn put(file: &mut Vec<u8>, place: usize, bytes: &[u8]) {
     for (at, byte) in file.iter_mut().skip(place).zip(bytes.iter()) {
         *at = *byte;
     }
+}
+
+// The object, with the bytes from a place on in the place of its own.
+fn with(alloc: Global, place: usize, bytes: &[u8]) -> Result<Vec<u8>, AllocError> {
+    let mut file = Vec::from_slice(alloc, &OBJECT)?;
+    put(&mut file, place, bytes);
     Ok(file)
 }
 
@@ -39,11 +56,39 @@ fn turned(alloc: Global, place: usize) -> Result<Vec<u8>, AllocError> {
     Ok(file)
 }
 
+// The sets of the object.
+const SETS: [Set; 2] = [
+    Set {
+        unit: 0,
+        place: 215,
+        end: 247,
+    },
+    Set {
+        unit: 0x67,
+        place: 263,
+        end: 295,
+    },
+];
+
+// 00000000004000b0 0000000000000011, and 00000000004000c1 0000000000000006
+const RANGES: [Range; 2] = [
+    Range {
+        unit: 0,
+        address: 0x4000b0,
+        length: 0x11,
+    },
+    Range {
+        unit: 0x67,
+        address: 0x4000c1,
+        length: 6,
+    },
+];
+
 #[test]
 fn object_is_read(rt: HostRuntime) -> Result<(), Fail> {
     let tables = tables_of(rt.alloc(), &OBJECT)?;
     let section = |name, kind, flags, address, offset, size| Section {
-        name,
+        name: Some(name),
         kind,
         flags,
         address,
@@ -60,17 +105,9 @@ fn object_is_read(rt: HostRuntime) -> Result<(), Fail> {
         section(489, 3, 0, 0, 0x1d8, 0x30),
     ];
     assert_eq!(rt; tables.sections.as_slice(), wanted.as_slice());
-    let set = |unit, place, end| Set { unit, place, end };
-    let wanted = [set(0, 215, 247), set(0x67, 263, 295)];
-    assert_eq!(rt; tables.sets.as_slice(), wanted.as_slice());
-    // 00000000004000b0 0000000000000011, and 00000000004000c1 0000000000000006
-    let range = |unit, address, length| Range {
-        unit,
-        address,
-        length,
-    };
-    let wanted = [range(0, 0x4000b0, 0x11), range(0x67, 0x4000c1, 6)];
-    assert_eq!(rt; tables.ranges.as_slice(), wanted.as_slice());
+    let found = found(rt.alloc(), &OBJECT)?;
+    assert_eq!(rt; found.sets.as_slice(), SETS.as_slice());
+    assert_eq!(rt; found.ranges.as_slice(), RANGES.as_slice());
     assert_eq!(rt; name_of(&OBJECT, 505), b".debug_aranges".as_slice());
     assert_eq!(rt; name_of(&OBJECT, 472), b"".as_slice());
     assert_eq!(rt; name_of(&OBJECT, 904), b"".as_slice());
@@ -141,13 +178,26 @@ fn bytes_exchanged(rt: HostRuntime) -> Result<(), Fail> {
         (40, [0; 8].as_slice(), good),
         // The count, and the number of the names, are those in section 0: none, and 0.
         (60, [0, 0].as_slice(), fault(Damage::NamesNumber, 62)),
-        (62, [255, 255].as_slice(), fault(Damage::NamesNotEnded, 552)),
+        (62, [255, 255].as_slice(), good),
+        // No section has names.
+        (62, [0, 0].as_slice(), good),
         (62, [6, 0].as_slice(), fault(Damage::NamesNumber, 62)),
-        // A length of 2 ^ 32 - 16, of 2 ^ 32 - 17, of 44 and one more, of 11.
+        // A length of 2 ^ 32 - 16, of 2 ^ 32 - 2, of 2 ^ 32 - 17, of 44 and one more, of 11.
         (
             199,
             [240, 255, 255, 255].as_slice(),
             fault(Damage::SetForm, 199),
+        ),
+        (
+            199,
+            [254, 255, 255, 255].as_slice(),
+            fault(Damage::SetForm, 199),
+        ),
+        // The long form, with a length of 2 ^ 51 + 2.
+        (
+            199,
+            [255, 255, 255, 255].as_slice(),
+            fault(Damage::SetCut, 199),
         ),
         (
             199,
@@ -189,13 +239,96 @@ fn bytes_exchanged(rt: HostRuntime) -> Result<(), Fail> {
 fn counts_in_section_0(rt: HostRuntime) -> Result<(), Fail> {
     let alloc = rt.alloc();
     let mut file = with(alloc, 60, &[0, 0, 255, 255])?;
-    for (at, byte) in file.iter_mut().skip(552).zip([6, 0, 0, 0, 0, 0, 0, 0, 5]) {
-        *at = byte;
-    }
+    put(&mut file, 552, &[6, 0, 0, 0, 0, 0, 0, 0, 5]);
     assert_eq!(rt; judged(alloc, file.as_slice()), Ok(()));
     let tables = tables_of(alloc, file.as_slice())?;
     assert_eq!(rt; tables.sections.len(), 6);
-    assert_eq!(rt; tables.ranges.len(), 2);
+    assert_eq!(rt; found(alloc, file.as_slice())?.ranges.len(), 2);
+    Ok(())
+}
+
+// Without names the sections are those of the object, and none of them has address ranges.
+#[test]
+fn no_names(rt: HostRuntime) -> Result<(), Fail> {
+    let alloc = rt.alloc();
+    let file = with(alloc, 62, &[0, 0])?;
+    let tables = tables_of(alloc, file.as_slice())?;
+    assert_eq!(rt; tables.sections.len(), 6);
+    for section in tables.sections.as_slice() {
+        assert_eq!(rt; section.name, None);
+    }
+    assert_eq!(rt; found(alloc, file.as_slice())?.sets.len(), 0);
+    Ok(())
+}
+
+// A set of the long form, as `gcc -gdwarf64` writes it, of the unit 2 ^ 32 + 103: 12 bytes for its length of 84, the version, the unit, the sizes, 8 bytes up to the ranges, which are those of the object, and 16 behind their end.
+const LONG_SET: [u8; 96] = [
+    255, 255, 255, 255, 84, 0, 0, 0, 0, 0, 0, 0, 2, 0, 103, 0, //
+    0, 0, 1, 0, 0, 0, 8, 0, 0, 0, 0, 0, 0, 0, 0, 0, //
+    176, 0, 64, 0, 0, 0, 0, 0, 17, 0, 0, 0, 0, 0, 0, 0, //
+    193, 0, 64, 0, 0, 0, 0, 0, 6, 0, 0, 0, 0, 0, 0, 0, //
+    0, 0, 0, 0, 0, 0, 0, 0, 0, 0, 0, 0, 0, 0, 0, 0, //
+    0, 0, 0, 0, 0, 0, 0, 0, 0, 0, 0, 0, 0, 0, 0, 0, //
+];
+
+// Bytes in the place of those of the object with the long set, and the damage and its place.
+const LONG_DAMAGES: [(usize, &[u8], Damage, usize); 8] = [
+    // A length of 84 and one more, of 19, of 20 where no set comes behind, of 2 ^ 64 - 1.
+    (203, &[85], Damage::SetCut, 199),
+    (203, &[19], Damage::SetCut, 199),
+    (203, &[20], Damage::SetCut, 231),
+    (203, &[255; 8], Damage::SetCut, 199),
+    // A section of 31 bytes.
+    (680, &[31], Damage::SetCut, 199),
+    (211, &[5], Damage::SetVersion, 211),
+    (221, &[4], Damage::AddressSize, 221),
+    (222, &[1], Damage::SegmentSize, 222),
+];
+
+#[test]
+fn long_sets(rt: HostRuntime) -> Result<(), Fail> {
+    let alloc = rt.alloc();
+    let mut file = with(alloc, 199, &LONG_SET)?;
+    let read = found(alloc, file.as_slice())?;
+    let unit = 0x1_0000_0067;
+    let set = Set {
+        unit,
+        place: 231,
+        end: 295,
+    };
+    assert_eq!(rt; read.sets.as_slice(), [set].as_slice());
+    let wanted = RANGES.map(|range| Range { unit, ..range });
+    assert_eq!(rt; read.ranges.as_slice(), wanted.as_slice());
+    for (place, bytes, damage, at) in LONG_DAMAGES {
+        put(&mut file, 199, &LONG_SET);
+        put(&mut file, 680, &[96]);
+        put(&mut file, place, bytes);
+        assert_eq!(rt;
+            judged(alloc, file.as_slice()),
+            fault(damage, at),
+            "{place} {bytes:?}"
+        );
+    }
+    Ok(())
+}
+
+// Each set of the object in a section of its own, the second in that of the symbols: sizes, name, type and offset.
+#[test]
+fn two_sections_of_sets(rt: HostRuntime) -> Result<(), Fail> {
+    let alloc = rt.alloc();
+    let mut file = with(alloc, 680, &[48])?;
+    put(&mut file, 712, &[33, 0, 0, 0, 1]);
+    put(&mut file, 736, &[247, 0]);
+    put(&mut file, 744, &[48]);
+    let read = found(alloc, file.as_slice())?;
+    assert_eq!(rt; read.sets.as_slice(), SETS.as_slice());
+    assert_eq!(rt; read.ranges.as_slice(), RANGES.as_slice());
+    // The second one compressed.
+    put(&mut file, 721, &[8]);
+    assert_eq!(rt;
+        judged(alloc, file.as_slice()),
+        fault(Damage::SetsCompressed, 247)
+    );
     Ok(())
 }
 
@@ -256,6 +389,15 @@ impl Write for BrokenWriter {
     }
 }
 
+// The lines of the object's sections.
+const SECTION_LINES: &[u8] = b"sections 6
+0 type 0 address 0x0 offset 0x0 size 0x0 name \n1 type 1 address 0x4000b0 offset 0xb0 size 0x17 name .text
+2 type 1 address 0x0 offset 0xc7 size 0x60 name .debug_aranges
+3 type 2 address 0x0 offset 0x128 size 0x90 name .symtab
+4 type 3 address 0x0 offset 0x1b8 size 0x20 name .strtab
+5 type 3 address 0x0 offset 0x1d8 size 0x30 name .shstrtab
+";
+
 const REPORT: &[u8] = b"sections 6
 0 type 0 address 0x0 offset 0x0 size 0x0 name \n1 type 1 address 0x4000b0 offset 0xb0 size 0x17 name .text
 2 type 1 address 0x0 offset 0xc7 size 0x60 name .debug_aranges
@@ -283,6 +425,33 @@ fn reports(rt: HostRuntime) -> Result<(), Fail> {
         fault(Damage::TableOutOfRange, 40)
     );
     assert!(rt; written.is_empty());
+    // At a fault of a set the sections are written.
+    let file = turned(rt.alloc(), 203)?;
+    let mut version = file.as_slice();
+    assert_eq!(rt;
+        run(rt.alloc(), &mut version, &mut written),
+        fault(Damage::SetVersion, 203)
+    );
+    assert_eq!(rt; written.as_slice(), SECTION_LINES);
+    Ok(())
+}
+
+// A name with each kind of byte, as Rust's `escape_ascii` shows it.
+#[test]
+fn names_are_shown(rt: HostRuntime) -> Result<(), Fail> {
+    let section = Section {
+        name: Some(1),
+        kind: 1,
+        flags: 2,
+        address: 0xffff_ffff_ffff_ffff,
+        offset: 10,
+        size: 0,
+    };
+    let mut written = Vec::new(rt.alloc());
+    write_sections(b"- ~\t\r\n'\"\\\x01\x7f\xfaz\0-", &[section], &mut written)?;
+    let wanted =
+        b"sections 1\n0 type 1 address 0xffffffffffffffff offset 0xa size 0x0 name  ~\\t\\r\\n\\'\\\"\\\\\\x01\\x7f\\xfaz\n";
+    assert_eq!(rt; written.as_slice(), wanted.as_slice());
     Ok(())
 }
 
@@ -342,6 +511,18 @@ fn fault_line_tells_each_fault(rt: HostRuntime) {
             5,
             b"byte 5: numbers don't begin with their least byte\n".as_slice(),
             5,
+        ),
+        (
+            Damage::SetsCompressed,
+            199,
+            b"byte 199: the address ranges are compressed\n".as_slice(),
+            6,
+        ),
+        (
+            Damage::SetVersion,
+            203,
+            b"byte 203: a set has an unknown version\n".as_slice(),
+            6,
         ),
         (
             Damage::RangesNotEnded,
