@@ -2,10 +2,11 @@
 """Compares the program elf_tables with readelf, and with rules of its own.
 
 It runs the program over the files of crates/elf_tables/data and compares what it prints with what is stored there. It runs
-it over each ELF file of 64 bits below /usr/bin and /usr/lib (or the folders that are named), and compares the rows with
-those of `readelf -SW` and `readelf --debug-dump=aranges`. And it runs it over damaged copies of three files: each byte of
-the headers and of the address ranges turned over, and cut at many lengths. There it compares the fault and its place with
-what this script reads by itself, and the rows with those of readelf. It also runs it over inputs and outputs that refuse.
+it over each ELF file of 64 bits below /usr/bin and /usr/lib (or the folders that are named), over files of each form that
+gcc and objcopy write, as sets of the long form, compressed ones, and files without names, and over damaged copies of four
+files: each byte of the headers and of the address ranges turned over, and cut at many lengths. It compares the status and
+both outputs with what this script reads by itself, and the rows with those of `readelf -SW` and of `readelf
+--debug-dump=aranges`. It also runs it over inputs and outputs that refuse.
 
 It proves and builds the program first, where that is not done yet. It says each difference, and how many rows were the
 same. The status is 0 where nothing differs but what is named as readelf's own way.
@@ -36,10 +37,10 @@ RANGE = re.compile(r"unit 0x([0-9a-f]+) address 0x([0-9a-f]+) length 0x([0-9a-f]
 
 
 def run(path):
-    """The program's status, the lines that it prints, and the line on standard error."""
+    """The program's status, what it prints, and the line on standard error."""
     with open(path, "rb") as it:
         done = subprocess.run([PROGRAM], stdin=it, capture_output=True, timeout=60)
-    return done.returncode, done.stdout.decode("latin-1").split("\n")[:-1], done.stderr.decode("latin-1")
+    return done.returncode, done.stdout.decode("latin-1"), done.stderr.decode("latin-1")
 
 
 def shown(name):
@@ -48,8 +49,9 @@ def shown(name):
     return "".join(f"^{chr(ord(c) + 64)}" if ord(c) < 32 else c for c in plain)
 
 
-def rows_of(lines):
+def rows_of(text):
     """The sections and the ranges that the program printed."""
+    lines = text.split("\n")[:-1]
     sections = [OURS.fullmatch(line) for line in lines]
     ranges = [RANGE.fullmatch(line) for line in lines]
     return (
@@ -76,7 +78,8 @@ def readelf(path):
     for line in one.stdout.decode("latin-1").split("\n"):
         m = SECTION.match(line)
         if m:
-            sections.append((int(m[1]), m[2].strip(), kind_of(m[3]), int(m[4], 16), int(m[5], 16), int(m[6], 16)))
+            name = m[2].strip().replace("<no-strings>", "")
+            sections.append((int(m[1]), name, kind_of(m[3]), int(m[4], 16), int(m[5], 16), int(m[6], 16)))
     ranges, unit, over = [], None, False
     for line in two.stdout.decode("latin-1").split("\n"):
         if "Offset into .debug_info" in line:
@@ -99,8 +102,8 @@ def check(is_so, place, text):
         raise Fault(f"byte {place}: {text}\n")
 
 
-def read(file):
-    """What this script reads of a file by itself: nothing, or a Fault with the line that tells it."""
+def sections_in(file):
+    """The sections of a file: name, type, flags, address, offset and size, or a Fault with the line that tells it."""
     size = len(file)
     check(file[:4] == b"\x7fELF", 0, "no ELF file")
     check(size >= 64, size, "the header is cut short")
@@ -109,7 +112,7 @@ def read(file):
     table, = struct.unpack_from("<Q", file, 40)
     entry, count, names = struct.unpack_from("<HHH", file, 58)
     if table == 0:
-        return
+        return []
     check(entry == 64, 58, "section headers have another size than 64")
     outside = "section headers lie outside the file"
     check(table + 64 <= size, 40, outside)
@@ -119,51 +122,92 @@ def read(file):
     if names == 0xFFFF:
         names = header(0)[6]
     check(table + 64 * count <= size, 40, outside)
+    if names == 0:
+        return [(b"", *header(n)[1:6]) for n in range(count)]
     check(names < count, 62, "no section has the names")
     at, length = header(names)[4:6]
     check(at + length <= size, table + 64 * names + 24, "the names lie outside the file")
     check(length > 0 and file[at + length - 1] == 0, table + 64 * names + 32, "the last name has no end")
-    sets = None
+    found = []
     for n in range(count):
-        name, kind, flags, _, offset, bytes_, *_ = header(n)
+        name = header(n)[0]
         check(name < length, table + 64 * n, "a section's name lies outside the names")
-        if sets is None and kind == 1 and file[at + name:].startswith(b".debug_aranges\0"):
-            sets = offset, bytes_, flags
-    if sets is None:
-        return
-    check(sets[0] + sets[1] <= size, sets[0], "the address ranges lie outside the file")
-    check(sets[2] >> 11 & 1 == 0, sets[0], COMPRESSED)
-    place, end, found = sets[0], sets[0] + sets[1], []
-    while place < end:
-        check(place + 16 <= end, place, "a set of ranges is cut short")
-        length, version, unit, address, segment = struct.unpack_from("<IHIBB", file, place)
-        check(length < 0xFFFFFFF0, place, "a set's length has an unknown form")
-        check(12 <= length and place + 4 + length <= end, place, "a set of ranges is cut short")
-        check(version == 2, place + 4, "a set has an unknown version")
-        check(address == 8, place + 10, "addresses have another size than 8")
-        check(segment == 0, place + 11, "ranges have segments")
-        found.append((place + 16, place + 4 + length))
-        place += 4 + length
-    for place, end in found:
+        found.append((file[at + name:file.index(b"\0", at + name)], *header(n)[1:6]))
+    return found
+
+
+def set_at(file, place, end):
+    """The set at a place of a section that ends there: its unit, where its ranges begin, and where it ends."""
+    check(place + 16 <= end, place, "a set of ranges is cut short")
+    length, = struct.unpack_from("<I", file, place)
+    long = length == 0xFFFFFFFF
+    check(long or length < 0xFFFFFFF0, place, "a set's length has an unknown form")
+    behind, start, shape = (12, 32, "<HQBB") if long else (4, 16, "<HIBB")
+    check(place + start <= end, place, "a set of ranges is cut short")
+    if long:
+        length, = struct.unpack_from("<Q", file, place + 4)
+    stop = place + behind + length
+    check(place + start <= stop <= end, place, "a set of ranges is cut short")
+    version, unit, address, segment = struct.unpack_from(shape, file, place + behind)
+    sizes = place + behind + struct.calcsize(shape) - 2
+    check(version == 2, place + behind, "a set has an unknown version")
+    check(address == 8, sizes, "addresses have another size than 8")
+    check(segment == 0, sizes + 1, "ranges have segments")
+    return unit, place + start, stop
+
+
+def ranges_in(file, sections):
+    """The sets of all sections of address ranges, and their ranges, or a Fault."""
+    sets, ranges = [], []
+    for name, kind, flags, _, place, size in sections:
+        if kind != 1 or name != b".debug_aranges":
+            continue
+        check(place + size <= len(file), place, "the address ranges lie outside the file")
+        check(flags >> 11 & 1 == 0, place, COMPRESSED)
+        end = place + size
+        while place < end:
+            sets.append(set_at(file, place, end))
+            place = sets[-1][2]
+    for unit, place, end in sets:
         while True:
             check(place + 16 <= end, place, "the ranges of a set have no end")
-            if struct.unpack_from("<QQ", file, place) == (0, 0):
+            address, length = struct.unpack_from("<QQ", file, place)
+            if (address, length) == (0, 0):
                 break
+            ranges.append((unit, address, length))
             place += 16
+    return sets, ranges
+
+
+def escaped(name):
+    """A name as Rust's escape_ascii shows it."""
+    short = {9: "\\t", 10: "\\n", 13: "\\r", 34: "\\\"", 39: "\\'", 92: "\\\\"}
+    return "".join(short.get(c) or (chr(c) if 32 <= c < 127 else f"\\x{c:02x}") for c in name)
 
 
 def wanted_of(file):
+    """The status of a run over a file, what is printed, and the line on standard error, by the rules of this script."""
+    lines = []
     try:
-        read(file)
+        sections = sections_in(file)
+        lines.append(f"sections {len(sections)}")
+        for n, (name, kind, _, address, offset, size) in enumerate(sections):
+            lines.append(f"{n} type {kind} address {address:#x} offset {offset:#x} size {size:#x} name {escaped(name)}")
+        sets, ranges = ranges_in(file, sections)
     except Fault as fault:
-        return str(fault)
-    return ""
+        told = str(fault)
+        return status_of(told), "".join(line + "\n" for line in lines), told
+    lines.append(f"sets {len(sets)}")
+    lines += [f"unit {unit:#x} from {place:#x} to {end:#x}" for unit, place, end in sets]
+    lines.append(f"ranges {len(ranges)}")
+    lines += [f"unit {unit:#x} address {address:#x} length {length:#x}" for unit, address, length in ranges]
+    return 0, "".join(line + "\n" for line in lines), ""
 
 
 def status_of(line):
-    if line == "":
-        return 0
-    return 5 if re.search(r"no ELF file|64 bits|least byte|compressed", line) else 1
+    if re.search(r"no ELF file|64 bits|least byte", line):
+        return 5
+    return 6 if re.search(r"compressed|unknown form|unknown version|another size than 8|segments", line) else 1
 
 
 class Tally:
@@ -178,9 +222,10 @@ class Tally:
         print(f"differs: {what}")
 
 
-def compare_rows(tally, name, lines, theirs):
-    sections, ranges = rows_of(lines)
-    for what, mine, other in (("section", sections, theirs[0]), ("range", ranges, theirs[1])):
+def compare_rows(tally, name, text, theirs, status):
+    """Compares the sections, and where there is no fault the ranges, with those of readelf."""
+    sections, ranges = rows_of(text)
+    for what, mine, other in (("section", sections, theirs[0]), ("range", ranges, theirs[1] if status == 0 else [])):
         for n in range(max(len(mine), len(other))):
             a = mine[n] if n < len(mine) else None
             b = other[n] if n < len(other) else None
@@ -191,11 +236,13 @@ def compare_rows(tally, name, lines, theirs):
 
 
 def stored(tally):
-    for file, output in (("stdin", "stdout"), ("data/triangle.o", "stdout"), ("data/ends", "data/ends.txt")):
-        status, lines, told = run(f"{CRATE}/{file}")
+    data = [f"data/{name}" for name in ("ends", "ends64", "nameless", "two_sections", "compressed")]
+    for file, output in [("stdin", "stdout"), ("data/triangle.o", "stdout")] + [(it, f"{it}.txt") for it in data]:
+        status, text, told = run(f"{CRATE}/{file}")
+        wanted = (6, "byte 240: the address ranges are compressed\n") if file == "data/compressed" else (0, "")
         with open(f"{CRATE}/{output}", encoding="latin-1") as it:
-            if (status, "".join(line + "\n" for line in lines), told) != (0, it.read(), ""):
-                tally.differs(f"{file}: not what is stored in {output}")
+            if (text, status, told) != (it.read(), *wanted):
+                tally.differs(f"{file}: not what is stored in {output}: {status}, {told!r}")
         tally.count["stored runs"] += 1
 
 
@@ -209,6 +256,8 @@ def devices(tally):
         ("input in pieces", f"(head -c 100 {file}; sleep 0.2; tail -c +101 {file}) | {PROGRAM}", (0, "")),
         ("output closed", f"{PROGRAM} <{file} >&-", (4, "write failed\n")),
         ("output full", f"{PROGRAM} <{file} >/dev/full", (4, "write failed\n")),
+        ("output full, sets not read", f"{PROGRAM} <{CRATE}/data/compressed >/dev/full", (4, "write failed\n")),
+        ("output full, no ELF file", f"{PROGRAM} </dev/null >/dev/full", (5, "byte 0: no ELF file\n")),
         ("error closed, no ELF file", f"{PROGRAM} </dev/null 2>&-", (5, "")),
         ("all closed", f"{PROGRAM} <&- >&- 2>&-", (2, "")),
     ):
@@ -232,18 +281,52 @@ def elf_files(folders):
 
 
 def compare_file(tally, path):
-    status, lines, told = run(path)
+    """Compares a file that is no damaged one with the rules of this script and with readelf."""
+    status, text, told = run(path)
     with open(path, "rb") as it:
         wanted = wanted_of(it.read())
     tally.count["files"] += 1
-    if (status, told) != (status_of(wanted), wanted):
-        tally.differs(f"{path}: status {status}, {told!r}, wanted {wanted!r}")
-    elif COMPRESSED in told:
-        tally.count["files whose ranges are compressed"] += 1
-    elif status != 0:
+    if (status, text, told) != wanted:
+        tally.differs(f"{path}: status {status}, {told!r}, wanted {wanted[0]}, {wanted[2]!r}")
+    elif status not in (0, 6):
         tally.differs(f"{path}: {told.strip()}")
     else:
-        compare_rows(tally, path, lines, readelf(path))
+        tally.count["files whose ranges aren't read"] += status == 6
+        compare_rows(tally, path, text, readelf(path), status)
+
+
+def forms(room):
+    """Files of each form that compilers write, made in a folder."""
+    data = f"{CRATE}/data"
+    for name in ("ends", "ends64", "nameless", "two_sections", "compressed"):
+        yield f"{data}/{name}"
+    for flags in ("-gdwarf-4", "-gdwarf-5", "-gdwarf64 -gdwarf-4", "-gdwarf64 -gdwarf-5"):
+        path = f"{room}/{flags.replace(' ', '')}"
+        make = f"gcc -g {flags} -Os -ffunction-sections -nostdlib -static -fno-stack-protector -o {path} start.c status.c"
+        subprocess.run(make, shell=True, check=True, cwd=data)
+        yield path
+        subprocess.run(["objcopy", "--compress-debug-sections", path, path + "-z"], check=True)
+        yield path + "-z"
+        with open(path, "rb") as it:
+            file = bytearray(it.read())
+        for what, place, bytes_ in (("nameless", 62, b"\0\0"), ("nameless in section 0", 62, b"\xff\xff")):
+            with open(f"{path}-{what}", "wb") as it:
+                it.write(file[:place] + bytes_ + file[place + 2:])
+            yield f"{path}-{what}"
+        section = next(s for s in sections_in(file) if s[0] == b".debug_aranges")
+        for version in (1, 3, 5, 65535):
+            at = section[4] + (12 if "64" in flags else 4)
+            with open(f"{path}-version-{version}", "wb") as it:
+                it.write(file[:at] + struct.pack("<H", version) + file[at + 2:])
+            yield f"{path}-version-{version}"
+    # As the kernel writes a core of 65,536 segments: one section header without names, whose info is the count.
+    with open(f"{data}/ends", "rb") as it:
+        file = bytearray(it.read())
+    struct.pack_into("<Q", file, 40, len(file))
+    struct.pack_into("<HHHH", file, 56, 0xFFFF, 64, 1, 0)
+    with open(f"{room}/core", "wb") as it:
+        it.write(file + struct.pack("<IIQQQQIIQQ", 0, 0, 0, 0, 0, 1, 0, 65536, 0, 0))
+    yield f"{room}/core"
 
 
 def damaged(path):
@@ -256,6 +339,9 @@ def damaged(path):
     at = file.find(struct.pack("<HIBB", 2, 0, 8, 0), 64)
     if at > 4:
         places += range(at - 4, min(at + 124, len(file)))
+    at = file.find(struct.pack("<HQBB", 2, 0, 8, 0), 64)
+    if at > 12:
+        places += range(at - 12, min(at + 148, len(file)))
     for place in places:
         copy = bytearray(file)
         copy[place] ^= 255
@@ -284,15 +370,16 @@ def compare_damaged(tally, room, n, name, copy):
     path = f"{room}/{n}"
     with open(path, "wb") as it:
         it.write(copy)
-    status, lines, told = run(path)
+    status, text, told = run(path)
     wanted = wanted_of(copy)
     tally.count["damaged copies"] += 1
-    if (status, told) != (status_of(wanted), wanted) or (status != 0 and lines):
-        tally.differs(f"{name}: status {status}, {told!r}, wanted {wanted!r}")
+    if (status, text, told) != wanted:
+        tally.differs(f"{name}: status {status}, {told!r}, wanted {wanted[0]}, {wanted[2]!r}")
     if status != 0:
         tally.count["damaged copies with a fault"] += 1
+        tally.count["of these with sections printed"] += text != ""
     else:
-        compare_good(tally, name, copy, rows_of(lines), readelf(path))
+        compare_good(tally, name, copy, rows_of(text), readelf(path))
     os.remove(path)
 
 
@@ -306,7 +393,8 @@ def main(folders):
     with ThreadPoolExecutor(2) as pool:
         list(pool.map(lambda path: compare_file(tally, path), elf_files(folders)))
         with tempfile.TemporaryDirectory() as room:
-            for path in (f"{CRATE}/data/triangle.o", f"{CRATE}/data/ends", "/usr/bin/true"):
+            list(pool.map(lambda path: compare_file(tally, path), forms(room)))
+            for path in (f"{CRATE}/data/triangle.o", f"{CRATE}/data/ends", f"{CRATE}/data/ends64", "/usr/bin/true"):
                 list(pool.map(lambda it: compare_damaged(tally, room, it[0], *it[1]), enumerate(damaged(path))))
     for what, count in tally.count.items():
         print(f"{what}: {count}")

@@ -6,7 +6,7 @@ use fallible_elf::names::name_of;
 use fallible_elf::report::{RunFault, fault_line, run};
 use fallible_elf::section::Section;
 use fallible_elf::set::{Range, Set};
-use fallible_elf::tables::{Found, tables_of};
+use fallible_elf::tables::{Found, Tables, tables_of};
 use std::alloc::{AllocError, Global};
 use std::io;
 use std::io::{ErrorKind, Read, Write};
@@ -21,9 +21,10 @@ fn judged(alloc: Global, file: &[u8]) -> Result<(), RunFault> {
     }
 }
 
-// The sets and ranges of a file, or none where they have a fault.
+// The sets and ranges of a file, or their fault.
 fn found(alloc: Global, file: &[u8]) -> Result<Found, RunFault> {
-    match tables_of(alloc, file)?.found {
+    let Tables { sections: _, found } = tables_of(alloc, file)?;
+    match found {
         Ok(found) => Ok(found),
         Err(fault) => Err(RunFault::Elf(fault)),
     }
