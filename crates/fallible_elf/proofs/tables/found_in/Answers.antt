@@ -1,5 +1,4 @@
 -- Each collection is that of its list, and the first that fails has the first fault.
-use Rattle.fallible_elf.specs.Sets.{sets_of, ranges_of}
 use Rattle.fallible_elf.proofs.ReportLemmas.{items_are, fault_is, found_are, no_sets, no_ranges}
 use Rattle.fallible_elf.proofs.tables.found_in.Goals as goal
 
