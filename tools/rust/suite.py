@@ -26,7 +26,7 @@ LEFT_OUT = [
     (r"\bCollect<", "a `Collect` of one's own"),
     (r"\bReadingFault\b", "`collect` has a failure of its own"),
     (r"Result<Vec<u32>, AllocError>\s*\{[^;]*\.collect\(\)\s*\}", "std refuses memory"),
-    (r"\.push\([^()]*\)\.is_err|Vec::from_slice", "std refuses memory"),
+    (r"\.push\([^()]*\)\.is_err", "std refuses memory"),
     (r"\breferences_and_boxes_pass", "no fold goes through a reference or a box"),
     (r"=> input\.extend_from_slice", "std refuses memory"),
     (r"\.chain\(span", "`chain` of what only becomes an iterator"),

@@ -30,6 +30,7 @@ PLAIN = [
     (r"\s*\.map_err\(\|_\| AllocError\)", ""),
     (r"^ *(?:Err\()?Fault::Memory\(\w+\)\)? => [^{\n]*,\n", ""),
     (r", Global>", ">"),
+    (r"\bself\.write_fmt\((\w+)\)", r'write!(self, "{\1}")'),
     # Laws are called for their clauses alone.
     (r"^ *law_\w+(?:::<[^;]*>)?\([^;]*\);\n", ""),
     (r"\blaw_\w+, |,\s*law_\w+(?=[,}])|^use [\w:]+::law_\w+;\n|\{law_\w+\}", ""),
@@ -41,7 +42,7 @@ PLAIN = [
 ]
 # Calls that may be refused in Rattle: the name, its name in Rust.
 NEVER_REFUSED = [
-    ("Vec::from_array", "Vec::from"), ("String::from_str", "String::from"), (".to_vec", ".to_vec"),
+    ("Vec::from_array", "Vec::from"), ("Vec::from_slice", "Vec::from"), ("String::from_str", "String::from"), (".to_vec", ".to_vec"),
     (".clone", ".clone"), (".push", ".push"), ("Box::new", "Box::new"), ("format!", "format!"),
     ("vec!", "vec!"), (".cycle", ".cycle"), (".insert", ".insert"), (".to_string", ".to_string"),
     ("Vec::with_capacity", "Vec::with_capacity"), (".push_reserved", ".push"),
