@@ -19,7 +19,7 @@ quietly() {
 
 quietly python3 tools/rust/test_to_rust.py
 tools/to_rust "$folder/out" > "$folder/said"
-head -n -4 "$folder/said" > "$folder/table"
+head -n -5 "$folder/said" > "$folder/table"
 if ! sed -n '/<!-- to_rust --table -->/,/<!-- end -->/p' docs/RUST.md | sed '1d;$d' | cmp -s - "$folder/table"; then
     echo "rust: the table of docs/RUST.md is not what tools/to_rust --table prints" >&2
     exit 1
@@ -38,5 +38,5 @@ if rustc --edition 2024 --print sysroot > /dev/null 2>&1; then
 fi
 quietly cargo test --offline --manifest-path "$folder/out/Cargo.toml" --all-features --doc
 awk '/^test result/ { n += $4 } END { print "rust: " n " tests and doc tests pass" }' "$folder/log"
-tail -2 "$folder/said"
+tail -n 3 "$folder/said" | head -n 2
 rustc --version
