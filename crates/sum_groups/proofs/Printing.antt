@@ -63,6 +63,6 @@ pub ok_with : {T E P Q : Type 0} (r : Result T E) → (P → Q) → OnOk r P →
 ok_with (Ok x) f p = f p
 ok_with (Err e) f p = tt
 
--- the groups and then the batches of the same rows are the report
-pub printed_both : (rows first second : List Row) (old now more : Option (List ℕ)) → first ≡ rows → second ≡ rows → Appends old now (groups_text first) → Appends now more (batches_text second) → Appends old more (report_of rows)
-printed_both rows first second old now more f s groups batches = Appends-trans old now more (groups_text rows) (batches_text rows) (subst (λ z. Appends old now (groups_text z)) f groups) (subst (λ z. Appends now more (batches_text z)) s batches)
+-- the groups and then the batches of rows are the report
+pub printed_both : (rows : List Row) (old now more : Option (List ℕ)) → Appends old now (groups_text rows) → Appends now more (batches_text rows) → Appends old more (report_of rows)
+printed_both rows old now more groups batches = Appends-trans old now more (groups_text rows) (batches_text rows) groups batches

@@ -1,10 +1,11 @@
 -- What lines of rows say, and what is printed of rows.
-use Rattle.std.specs.Prelude.{◌≡◌, ℕ, ◌+◌, ◌%◌, ◌^◌, Bool, ◌==◌, nat_eq, nat_lt, if◌then◌else◌, List, [], ◌∷◌, ◌++◌, length, Option, Some, None, Result, Ok, Err, OnOk, codes, decimal}
-use Rattle.std.specs.Borrow.{Bor}
+use Rattle.std.specs.Prelude.{◌≡◌, ⊤, ℕ, ◌+◌, ◌%◌, ◌^◌, Bool, ◌==◌, nat_eq, nat_lt, if◌then◌else◌, List, [], ◌∷◌, ◌++◌, length, map, Option, Some, None, Result, Ok, Err, OnOk, codes, decimal}
+use Rattle.std.specs.Option.{ok_or}
 use Rattle.std.specs.List.{before_first, after_first, position_or_len}
+use Rattle.std.specs.Str.Lines.{lines}
 use Rattle.std.specs.Io.KnownBytes.{Appends}
 use Rattle.fallible_iterator.specs.Traces.{Answered}
-use Rattle.fallible_iterator.specs.Lists.{items, mapped, on_value, scanned}
+use Rattle.fallible_iterator.specs.Lists.{collected, items, mapped, on_value, scanned, taken}
 use Rattle.fallible_itertools.specs.ChunkBy.{chunked_by}
 use Rattle.fallible_itertools.specs.Chunks.{chunked}
 use Rattle.fallible_itertools.specs.Growing.{ListsMade}
@@ -13,8 +14,8 @@ use Rattle.fallible_uses.specs.Numbers.{number_of}
 use Rattle.std.specs.declared.alloc.AllocError.{AllocError}
 use Rattle.std.specs.declared.convert.Infallible.{Infallible}
 use Rattle.sum_groups.specs.declared.groups.Row.{Row}
-use Rattle.sum_groups.specs.declared.groups.Fault.{Fault}
-use Rattle.sum_groups.specs.declared.groups.Fault.TheVariants.{NoRow, Read, Memory, Print}
+use Rattle.sum_groups.specs.declared.fault.Fault.{Fault}
+use Rattle.sum_groups.specs.declared.fault.Fault.TheVariants.{NotText, NoRow, Read, Memory, Print}
 
 -- ---- rows
 
@@ -23,20 +24,28 @@ abbrev pub is_comma : ℕ → Bool
 is_comma b = b == 44
 
 -- the row of a key and an amount, where both are numbers
-abbrev pub row_of : ℕ → Option ℕ → Option ℕ → Result Row Fault
-row_of place (Some k) (Some a) = Ok (record { key = k; amount = a })
-row_of place (Some k) None = Err (NoRow place)
-row_of place None a = Err (NoRow place)
+abbrev pub row_with : Option ℕ → Option ℕ → Option Row
+row_with (Some k) (Some a) = Some (record { key = k; amount = a })
+row_with (Some k) None = None
+row_with None a = None
 
--- the row that the line at this place is: the numbers before and behind its first comma
-abbrev pub row_at : ℕ → List ℕ → Result Row Fault
-row_at place text = if nat_lt (position_or_len is_comma text) (length text)
-    then row_of place (number_of (before_first is_comma text)) (number_of (after_first is_comma text))
-    else Err (NoRow place)
+-- the row that a line is, where it is one: the numbers before and behind its first comma
+abbrev pub row_of : List ℕ → Option Row
+row_of text = if nat_lt (position_or_len is_comma text) (length text)
+    then row_with (number_of (before_first is_comma text)) (number_of (after_first is_comma text))
+    else None
 
--- the rows that lines are, up to the first that is none; places count from 1 on
-abbrev pub rows_in : List (Result (Bor (List ℕ)) Fault) → List (Result Row Fault)
-rows_in lines = scanned (λ before line. let place = (before + 1) % 2 ^ 64 in (on_value (row_at place line.now) (λ r. Ok (Some r)), place)) 0 lines
+-- the row, or the fault that tells the place of a line that is none
+abbrev pub row_at : ℕ → Option Row → Result Row Fault
+row_at place found = ok_or found (NoRow place)
+
+-- the rows that were found, up to the first line that is none; places count from 1 on
+abbrev pub rows_in : List (Result (Option Row) Fault) → List (Result Row Fault)
+rows_in found = scanned (λ before row. let place = (before + 1) % 2 ^ 64 in (on_value (row_at place row) (λ r. Ok (Some r)), place)) 0 found
+
+-- the rows that the lines of a text are, the first 1,000,000 of them, or the fault of the first line that is none
+abbrev pub rows_of : List ℕ → Result (List Row) Fault
+rows_of text = collected (taken 1000000 (rows_in (items (map row_of (lines text)))))
 
 -- ---- lines
 
@@ -93,18 +102,10 @@ PrintsMade {X = X} made steps line s old new r = (l : List (Result X AllocError)
 abbrev pub report_of : List Row → List ℕ
 report_of rows = groups_text rows ++ batches_text rows
 
--- ---- faults
-
--- the status that the program ends with
-abbrev pub status_of : Fault → ℕ
-status_of (NoRow place) = 1
-status_of Read = 2
-status_of Memory = 3
-status_of Print = 4
-
--- the line that tells the fault, with its newline; nothing where none is told
-abbrev pub fault_text : Fault → List ℕ
-fault_text (NoRow place) = codes "row " ++ decimal place ++ codes ": not a key and an amount\n"
-fault_text Read = []
-fault_text Memory = []
-fault_text Print = []
+-- What a fault says of a text whose report could not be made: that the line at this place is the first that is no row, or that there was no memory.
+abbrev pub IsFaultOf : List ℕ → Fault → Type 0
+IsFaultOf text (NotText place) = ⊥
+IsFaultOf text (NoRow place) = rows_of text ≡ Err (NoRow place)
+IsFaultOf text Read = ⊥
+IsFaultOf text Memory = ⊤
+IsFaultOf text Print = ⊥

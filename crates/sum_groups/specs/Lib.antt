@@ -1,2 +1,4 @@
 -- What the clauses of `src/` cite.
+pub mod Faults
 pub mod Groups
+pub mod Program

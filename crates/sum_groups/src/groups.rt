@@ -1,21 +1,20 @@
 // The rows of lines, and their groups and batches, each printed as a line.
-ghost use Rattle.std.specs.Prelude.{◌≡◌, ◌≢◌, ℕ, List, Result, Ok, Err, OnOk, MatchResult, vec_items};
-ghost use Rattle.std.specs.Borrow.{Bor};
+ghost use Rattle.std.specs.Prelude.{◌≡◌, ◌≢◌, ℕ, List, Option, Result, Ok, Err, OnOk, MatchResult, vec_items};
 ghost use Rattle.std.specs.Io.KnownBytes.{Appends};
 ghost use Rattle.fallible_iterator.specs.Lists.{Lists, collected, taken};
 ghost use Rattle.fallible_itertools.specs.ChunkBy.{MadeGroup};
-ghost use Rattle.sum_groups.specs.Groups.{PrintsMade, batch_line, batches_text, fault_text, first_key, group_line, groups_text, line_of, report_of, row_at, rows_in, status_of, sum_of};
+ghost use Rattle.sum_groups.specs.Groups.{IsFaultOf, PrintsMade, batch_line, batches_text, first_key, group_line, groups_text, line_of, report_of, row_at, row_of, rows_in, rows_of, sum_of};
 ghost use Rattle.std.specs.declared.vec.Vec.{Vec};
 ghost use Rattle.std.specs.declared.alloc.Global.{Global};
 ghost use Rattle.fallible_iterator.specs.declared.Fault.TheVariants.{Source};
 ghost use Rattle.sum_groups.specs.declared.groups.Row.{Row};
 
+use crate::fault::Fault;
 use fallible_iterator::{FallibleIterator, Fault as Collecting, convert, convert_fused};
 use fallible_itertools::FallibleItertools;
 use fallible_uses::numbers::number_of;
 use std::alloc::{AllocError, Global};
 use std::convert::Infallible;
-use std::io;
 use std::io::Write;
 
 /// How many rows are read at most.
@@ -24,16 +23,6 @@ const MAX_ROWS: usize = 1_000_000;
 /// How many rows a batch has.
 const BATCH: usize = 3;
 
-// Why the rows can't be printed.
-#[derive(Debug, Drop)]
-pub(crate) enum Fault {
-    // the row at this place, from 1, is no key and amount
-    NoRow(u64),
-    Read,
-    Memory,
-    Print,
-}
-
 // A row: its key and its amount.
 #[derive(Clone, Copy, Debug)]
 pub(crate) struct Row {
@@ -41,41 +30,57 @@ pub(crate) struct Row {
     amount: u64,
 }
 
-// The row that the line at this place is.
-fn row_at(place: u64, line: &str) -> Result<Row, Fault>
-    ensures { result ≡ row_at place line.now }
+// The row that a line is, where it is one.
+fn row_of(line: &str) -> Option<Row>
+    ensures { result ≡ row_of line.now }
 {
-    let Some((key, amount)) = line.split_once(',') else {
-        return Err(Fault::NoRow(place));
-    };
+    let (key, amount) = line.split_once(',')?;
     match (number_of(key), number_of(amount)) {
-        (Some(key), Some(amount)) => Ok(Row { key, amount }),
-        _ => Err(Fault::NoRow(place)),
+        (Some(key), Some(amount)) => Some(Row { key, amount }),
+        _ => None,
     }
 }
 
-// The rows that lines are, at most `MAX_ROWS`, or the first fault.
-fn rows_of<'a, I: FallibleIterator<Item = &'a str, Error = Fault>>(
+// The row that the line at this place is, if one was found there.
+fn row_at(place: u64, found: Option<Row>) -> Result<Row, Fault>
+    ensures { result ≡ row_at place found }
+{
+    found.ok_or(Fault::NoRow(place))
+}
+
+// The rows that were found, at most `MAX_ROWS`, or the first fault.
+fn rows_found<I: FallibleIterator<Item = Option<Row>, Error = Fault>>(
     alloc: Global,
-    lines: I,
+    found: I,
 ) -> Result<Vec<Row>, Collecting<Fault>>
 where
-    requires can_next { I.contract.can_next lines }
-    requires finite { I.contract.is_finite lines }
-    ensures ok { (l : List (Result (Bor (List ℕ)) Fault)) → Lists I.contract.steps lines l
+    requires can_next { I.contract.can_next found }
+    requires finite { I.contract.is_finite found }
+    ensures ok { (l : List (Result (Option Row) Fault)) → Lists I.contract.steps found l
         → (rows : Vec Row Global) → result ≡ Ok rows
         → collected (taken 1000000 (rows_in l)) ≡ Ok rows.items }
-    ensures fault { (l : List (Result (Bor (List ℕ)) Fault)) → Lists I.contract.steps lines l
+    ensures fault { (l : List (Result (Option Row) Fault)) → Lists I.contract.steps found l
         → (fault : Fault) → result ≡ Err (Source fault)
         → collected (taken 1000000 (rows_in l)) ≡ Err fault }
 {
-    lines
-        .scan(0, |place: &mut u64, line: &str| {
+    found
+        .scan(0, |place: &mut u64, row: Option<Row>| {
             *place = place.wrapping_add(1);
-            Ok(Some(row_at(*place, line)?))
+            Ok(Some(row_at(*place, row)?))
         })
         .take(MAX_ROWS)
         .collect(alloc)
+}
+
+// The rows that the lines of a text are, at most `MAX_ROWS`, or the fault of the first that is none.
+fn rows_of(alloc: Global, text: &str) -> Result<Vec<Row>, Collecting<Fault>>
+    ensures ok { (rows : Vec Row Global) → result ≡ Ok rows → rows_of text.now ≡ Ok rows.items }
+    ensures fault { (fault : Fault) → result ≡ Err (Source fault) → rows_of text.now ≡ Err fault }
+{
+    rows_found(
+        alloc,
+        convert_fused(text.lines().map(|line: &str| Ok(row_of(line)))),
+    )
 }
 
 // The sum of the amounts, where it fits.
@@ -174,67 +179,28 @@ fn first_key(rows: &[Row]) -> u64
     }
 }
 
-// Writes the groups and then the batches of the rows that lines are. It fails with the first fault of the lines, and nothing is written then.
-pub(crate) fn print_all<'a, I, W: Write>(
-    alloc: Global,
-    lines: I,
-    output: &mut W,
-) -> Result<(), Fault>
-where
-    I: FallibleIterator<Item = &'a str, Error = Fault>,
-    requires can_next { I.contract.can_next lines }
-    requires finite { I.contract.is_finite lines }
-    ensures text { (l : List (Result (Bor (List ℕ)) Fault)) → Lists I.contract.steps lines l
-        → OnOk result ((rows : List Row) × (collected (taken 1000000 (rows_in l)) ≡ Ok rows)
-        × Appends (W.contents output.old) (W.contents output.new) (report_of rows)) }
-    ensures row { (l : List (Result (Bor (List ℕ)) Fault)) → Lists I.contract.steps lines l
-        → (place : ℕ) → result ≡ Err (Fault.NoRow place)
-        → collected (taken 1000000 (rows_in l)) ≡ Err (Fault.NoRow place) }
-{
-    let rows = match rows_of(alloc, lines) {
-        Ok(rows) => rows,
-        Err(Collecting::Source(fault)) => return Err(fault),
-        Err(Collecting::Memory(_)) => return Err(Fault::Memory),
-    };
-    print_groups(alloc, rows.as_slice(), output)?;
-    print_batches(alloc, rows.as_slice(), output)
-}
-
-impl Fault {
-    // The status that the program ends with.
-    fn status(&self) -> u8
-        ensures { result ≡ status_of self.now }
-    {
-        match self {
-            Fault::NoRow(_) => 1,
-            Fault::Read => 2,
-            Fault::Memory => 3,
-            Fault::Print => 4,
-        }
-    }
-}
-
-// Writes the line of a row that is none.
-fn print_fault<W: Write>(fault: &Fault, errors: &mut W) -> io::Result<()>
+// Writes the groups and then the batches of rows.
+fn print_both<W: Write>(alloc: Global, rows: &[Row], output: &mut W) -> Result<(), Fault>
     ensures { OnOk result
-        (Appends (W.contents errors.old) (W.contents errors.new) (fault_text fault.now)) }
+        (Appends (W.contents output.old) (W.contents output.new) (report_of rows.now)) }
 {
-    match fault {
-        Fault::NoRow(place) => writeln!(errors, "row {place}: not a key and an amount"),
-        _ => Ok(()),
-    }
+    print_groups(alloc, rows, output)?;
+    print_batches(alloc, rows, output)
 }
 
-// Tells of a row that is none, and answers the status that the program ends with, as an `Err` where the line can't be written.
-pub(crate) fn tell<W: Write>(fault: &Fault, errors: &mut W) -> Result<u8, u8>
-    ensures status { MatchResult result (λ status. status ≡ status_of fault.now)
-        (λ status. status ≡ status_of fault.now) }
-    ensures line { OnOk result
-        (Appends (W.contents errors.old) (W.contents errors.new) (fault_text fault.now)) }
+// The report of the rows that the lines of a text are, made in memory, or the fault of the first line that is none.
+pub(crate) fn report_of(alloc: Global, text: &str) -> Result<Vec<u8>, Fault>
+    ensures { MatchResult result (λ report. (rows : List Row) × (rows_of text.now ≡ Ok rows)
+        × (vec_items report ≡ report_of rows)) (IsFaultOf text.now) }
 {
-    let status = fault.status();
-    match print_fault(fault, errors) {
-        Ok(()) => Ok(status),
-        Err(_) => Err(status),
+    let rows = match rows_of(alloc, text) {
+        Ok(rows) => rows,
+        Err(Collecting::Source(Fault::NoRow(place))) => return Err(Fault::NoRow(place)),
+        Err(_) => return Err(Fault::Memory),
+    };
+    let mut report = Vec::new(alloc);
+    match print_both(alloc, rows.as_slice(), &mut report) {
+        Ok(()) => Ok(report),
+        Err(_) => Err(Fault::Memory),
     }
 }

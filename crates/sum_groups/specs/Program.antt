@@ -1,0 +1,61 @@
+-- What the program does, by how it ends.
+use Rattle.std.specs.Prelude.{◌≡◌, ◌≢◌, ◌⊎◌, ⊤, ℕ, List, [], Option, Result, Ok, Err}
+use Rattle.std.specs.Str.{IsUtf8, IsValidUpTo}
+use Rattle.std.specs.Io.KnownBytes.{Appends, Keeps}
+use Rattle.std.specs.declared.io.ErrorKind.{ErrorKind}
+use Rattle.std.specs.declared.io.ErrorKind.TheVariants.{OutOfMemory}
+use Rattle.fallible_elf.specs.Report.{ReadsFile}
+use Rattle.sum_groups.specs.Faults.{line_of, status_of}
+use Rattle.sum_groups.specs.Groups.{IsFaultOf, report_of, rows_of}
+use Rattle.sum_groups.specs.declared.fault.Fault.{Fault}
+use Rattle.sum_groups.specs.declared.fault.Fault.TheVariants.{NotText, NoRow, Read, Memory, Print}
+use Rattle.sum_groups.specs.declared.groups.Row.{Row}
+
+-- The bytes are UTF-8, and these are the rows that their lines are.
+abbrev pub AreRowsOf : List ℕ → List Row → Type 0
+AreRowsOf bytes rows = IsUtf8 bytes × (rows_of bytes ≡ Ok rows)
+
+-- The bytes are UTF-8, and the line at this place is the first that is no row.
+abbrev pub HasNoRowAt : List ℕ → ℕ → Type 0
+HasNoRowAt bytes place = IsUtf8 bytes × (rows_of bytes ≡ Err (NoRow place))
+
+-- The bytes are no UTF-8, and those before this place are the longest front that is.
+abbrev pub IsNoTextAt : List ℕ → ℕ → Type 0
+IsNoTextAt bytes place = ¬ (IsUtf8 bytes) × IsValidUpTo bytes place
+
+-- What a fault says of bytes whose report could not be made: where they are no UTF-8, or what it says of the text that they are.
+abbrev pub HasFault : List ℕ → Fault → Type 0
+HasFault bytes (NotText place) = IsNoTextAt bytes place
+HasFault bytes fault = IsUtf8 bytes × IsFaultOf bytes fault
+
+-- These bytes are the report of the rows that the bytes are.
+abbrev pub IsReportOf : List ℕ → List ℕ → Type 0
+IsReportOf bytes report = (rows : List Row) × AreRowsOf bytes rows × (report ≡ report_of rows)
+
+-- the status of an outcome: 0, or that of its fault
+abbrev pub status_at : {T : Type 0} → Result T Fault → ℕ
+status_at (Ok done) = 0
+status_at (Err fault) = status_of fault
+
+-- the line that is told of an outcome: none, or that of its fault
+abbrev pub line_at : {T : Type 0} → Result T Fault → List ℕ
+line_at (Ok done) = []
+line_at (Err fault) = line_of fault
+
+module _ {R W : Type 0} (left : R → Option (List ℕ)) (fails : ErrorKind → R → R → Type 0) (input input' : R) (failed : W → Type 0) (written written' : Option (List ℕ)) (output' : W) where
+  -- The input was read up to its end, and this holds of its bytes.
+  abbrev pub ReadAs : (List ℕ → Type 0) → Type 0
+  ReadAs Holds = ReadsFile (left input) (left input') Holds
+
+  -- What an outcome says of the input, and of what was written: that its lines are rows, and their report was written and nothing else; that it is no UTF-8 at this place; that the line at this place is the first that is no row; that reading failed, for want of memory or else; that the input was read, and there was no memory for its rows or their report; or that its lines are rows, and writing failed.
+  abbrev pub ComesTo : {T : Type 0} → Result T Fault → Type 0
+  ComesTo (Ok done) = ReadAs (λ bytes. (rows : List Row) × AreRowsOf bytes rows × Appends written written' (report_of rows))
+  ComesTo (Err (NotText place)) = ReadAs (λ bytes. IsNoTextAt bytes place) × Keeps written written'
+  ComesTo (Err (NoRow place)) = ReadAs (λ bytes. HasNoRowAt bytes place) × Keeps written written'
+  ComesTo (Err Read) = ((kind : ErrorKind) × (kind ≢ OutOfMemory) × fails kind input input') × Keeps written written'
+  ComesTo (Err Memory) = (fails OutOfMemory input input' ⊎ ReadAs (λ _. ⊤)) × Keeps written written'
+  ComesTo (Err Print) = ReadAs (λ bytes. (rows : List Row) × AreRowsOf bytes rows) × failed output'
+
+  -- It ended with the status of an outcome, and this holds of the line that was to be told.
+  abbrev pub EndsWith : (List ℕ → Type 0) → ℕ → Type 0
+  EndsWith Tells status = (outcome : Result (Unit {0}) Fault) × ComesTo outcome × Tells (line_at outcome) × (status ≡ status_at outcome)
