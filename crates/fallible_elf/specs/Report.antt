@@ -1,6 +1,6 @@
 -- What a run over a file reads and writes, and what it tells of a fault.
 use Rattle.std.specs.Prelude.{◌≡◌, ℕ, List, [], ◌∷◌, ◌++◌, Option, Some, None, Result, Ok, Err, codes, decimal}
-use Rattle.std.specs.Io.KnownBytes.{Appends, Consumes, IsAtEnd}
+use Rattle.std.specs.Io.KnownBytes.{Appends}
 use Rattle.fallible_iterator.specs.Lists.{collected, on_value}
 use Rattle.fallible_elf.specs.Sections.{headers_of}
 use Rattle.fallible_elf.specs.Text.{text_where, sections_text, sets_text, ranges_text}
@@ -59,10 +59,6 @@ report_of bytes = text_where (report_with bytes) (collected (headers_of bytes))
 -- This is the first fault of a file, where it has one, and its report was written, and nothing else.
 abbrev pub Reports : List ℕ → Option ElfFault → Option (List ℕ) → Option (List ℕ) → Type 0
 Reports bytes fault written written' = (first_damage bytes ≡ fault) × Appends written written' (report_of bytes)
-
--- A reader's bytes were read up to its end, and this holds of them.
-abbrev pub ReadsFile : Option (List ℕ) → Option (List ℕ) → (List ℕ → Type 0) → Type 0
-ReadsFile unread unread' Holds = (bytes : List ℕ) × Consumes unread unread' bytes × IsAtEnd unread' × Holds bytes
 
 -- ---- faults
 

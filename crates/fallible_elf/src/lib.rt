@@ -14,4 +14,3 @@ pub mod sections;
 pub mod set;
 pub mod sets;
 pub mod tables;
-pub mod writing;

@@ -2,16 +2,17 @@
 ghost use Rattle.std.specs.Prelude.{◌≡◌, ◌≢◌, ◌⊎◌, ⊤, Err, Some, None, OnOk, OnErr, MatchResult};
 ghost use Rattle.std.specs.IoError.{error_kind};
 ghost use Rattle.std.specs.Io.KnownBytes.{Appends, Keeps};
-ghost use Rattle.fallible_elf.specs.Report.{HasTables, HasSections, ReadsFile, Reports, report_of, damage_text, line_of, status_of, as_run_fault};
+ghost use Rattle.fallible_uses.specs.Reading.{ReadsAll};
+ghost use Rattle.fallible_elf.specs.Report.{HasTables, HasSections, Reports, report_of, damage_text, line_of, status_of, as_run_fault};
 ghost use Rattle.fallible_elf.specs.declared.fault.ElfFault.{ElfFault};
 ghost use Rattle.std.specs.declared.io.ErrorKind.{ErrorKind};
 
 use crate::fault::{Damage, ElfFault};
 use crate::lines::{write_ranges, write_sections, write_sets};
 use crate::tables::{Tables, tables_of};
-use crate::writing::WriteText;
 use fallible_iterator::Fault;
 use fallible_uses::reading::ReadWhole;
+use fallible_uses::writing::WriteText;
 use std::alloc::Global;
 use std::io;
 use std::io::ErrorKind;
@@ -96,13 +97,13 @@ pub fn run<R: ReadWhole, W: WriteText>(
     reader: &mut R,
     writer: &mut W,
 ) -> Result<(), RunFault>
-    ensures ok { OnOk result (ReadsFile (R.left reader.old) (R.left reader.new)
+    ensures ok { OnOk result (ReadsAll (R.left reader.old) (R.left reader.new)
         (λ bytes. Reports bytes None (W.written writer.old) (W.written writer.new))) }
     ensures fault { (fault : ElfFault) → result ≡ Err (RunFault.Elf fault)
-        → ReadsFile (R.left reader.old) (R.left reader.new)
+        → ReadsAll (R.left reader.old) (R.left reader.new)
         (λ bytes. Reports bytes (Some fault) (W.written writer.old) (W.written writer.new)) }
     ensures write { result ≡ Err RunFault.Write
-        → ReadsFile (R.left reader.old) (R.left reader.new) HasSections × W.failed writer.new }
+        → ReadsAll (R.left reader.old) (R.left reader.new) HasSections × W.failed writer.new }
 
     // Reading failed, and of which kind.
     ensures read { result ≡ Err RunFault.Read
@@ -113,7 +114,7 @@ pub fn run<R: ReadWhole, W: WriteText>(
     // Reading failed for want of memory, or the file was read, and there was none for its tables.
     ensures memory { result ≡ Err RunFault.Memory
         → (R.fails ErrorKind.OutOfMemory reader.old reader.new
-        ⊎ ReadsFile (R.left reader.old) (R.left reader.new) (λ _. ⊤))
+        ⊎ ReadsAll (R.left reader.old) (R.left reader.new) (λ _. ⊤))
         × Keeps (W.written writer.old) (W.written writer.new) }
 {
     match reader.read_whole(alloc) {

@@ -11,6 +11,10 @@ use Rattle.std.specs.declared.vec.Vec.{Vec}
 abbrev pub TakesSome : Option (List ℕ) → Option (List ℕ) → Type 0
 TakesSome old new = (bytes : List ℕ) × Consumes old new bytes
 
+-- A reader's bytes were read up to its end, and this holds of them.
+abbrev pub ReadsAll : Option (List ℕ) → Option (List ℕ) → (List ℕ → Type 0) → Type 0
+ReadsAll unread unread' Holds = (bytes : List ℕ) × Consumes unread unread' bytes × IsAtEnd unread' × Holds bytes
+
 module _ {R : Type 0} (left : R → Option (List ℕ)) (fails : ErrorKind → R → R → Type 0) where
   -- it gave all bytes that were left, and is at its end; or it failed
   abbrev pub ReadsWhole : R → Result (Vec ℕ Global) Error → R → Type 0

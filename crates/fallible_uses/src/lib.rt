@@ -12,3 +12,4 @@ pub mod reading;
 pub mod report;
 pub mod table;
 pub mod tokens;
+pub mod writing;

@@ -4,7 +4,7 @@ use Rattle.std.specs.Str.{IsUtf8, IsValidUpTo}
 use Rattle.std.specs.Io.KnownBytes.{Appends, Keeps}
 use Rattle.std.specs.declared.io.ErrorKind.{ErrorKind}
 use Rattle.std.specs.declared.io.ErrorKind.TheVariants.{OutOfMemory}
-use Rattle.fallible_elf.specs.Report.{ReadsFile}
+use Rattle.fallible_uses.specs.Reading.{ReadsAll}
 use Rattle.sum_groups.specs.Faults.{line_of, status_of}
 use Rattle.sum_groups.specs.Groups.{IsFaultOf, report_of, rows_of}
 use Rattle.sum_groups.specs.declared.fault.Fault.{Fault}
@@ -45,7 +45,7 @@ line_at (Err fault) = line_of fault
 module _ {R W : Type 0} (left : R → Option (List ℕ)) (fails : ErrorKind → R → R → Type 0) (input input' : R) (failed : W → Type 0) (written written' : Option (List ℕ)) (output' : W) where
   -- The input was read up to its end, and this holds of its bytes.
   abbrev pub ReadAs : (List ℕ → Type 0) → Type 0
-  ReadAs Holds = ReadsFile (left input) (left input') Holds
+  ReadAs Holds = ReadsAll (left input) (left input') Holds
 
   -- What an outcome says of the input, and of what was written: that its lines are rows, and their report was written and nothing else; that it is no UTF-8 at this place; that the line at this place is the first that is no row; that reading failed, for want of memory or else; that the input was read, and there was no memory for its rows or their report; or that its lines are rows, and writing failed.
   abbrev pub ComesTo : {T : Type 0} → Result T Fault → Type 0
