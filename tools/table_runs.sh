@@ -1,20 +1,23 @@
 #!/usr/bin/env bash
-# Runs the program sum_table over good, bad and cut tables and over devices that refuse, and compares its status and what
-# it writes with what is wanted. It proves and builds the program first, where that is not done yet.
+# Runs the programs sum_table and sum_groups over good and bad input and over devices that refuse, and compares their
+# status and what they write with what is wanted. It proves and builds each first, where that is not done yet.
 # The status is 0 where every run is as wanted.
 set -eu
 cd "$(dirname "$0")/.."
 work=$(mktemp -d)
 trap 'rm -rf "$work"' EXIT
 
-(cd crates/sum_table && rt run) </dev/null >"$work/built" 2>&1 || {
-    cat "$work/built"
-    echo 'table runs: sum_table is not built'
-    exit 1
+# Builds a program, and begins to count its runs.
+build() {
+    (cd "crates/$1" && rt run) </dev/null >"$work/built" 2>&1 || {
+        cat "$work/built"
+        echo "table runs: $1 is not built"
+        exit 1
+    }
+    program=$PWD/crates/$1/out/$1
+    compared=0
 }
-program=$PWD/crates/sum_table/out/sum_table
 
-compared=0
 differ=0
 # One record, 1 and 258; a bad one, 3 and 2; three bytes of a third.
 printf '\1\0\0\0\2\1\0\0' >"$work/good"
@@ -46,6 +49,8 @@ begin() {
     : >"$work/out"
     : >"$work/err"
 }
+
+build sum_table
 
 begin
 "$program" <"$work/good" >"$work/out" 2>"$work/err" || status=$?
@@ -94,5 +99,93 @@ begin
 "$program" <&- >&- 2>&- || status=$?
 compare 'all closed' 2 '' ''
 
-echo "table runs: $compared runs compared, $differ differ"
+echo "table runs of sum_table: $compared runs compared"
+
+build sum_groups
+# Rows that end as on Windows, with a plus and with no newline at the end.
+printf '7,10\r\n7,+20\r\n+8,1' >"$work/rows"
+groups='7: 2 rows, 30
+8: 1 rows, 1
+7: 3 rows, 31'
+printf '7,10\n7;20\n8\n' >"$work/no_row"
+printf '7,10\n\n8,1\n' >"$work/empty_line"
+printf '7,10\n7,18446744073709551616\n' >"$work/too_large"
+printf '7,10\n7,20\n8,1\n10,\377\n' >"$work/no_text"
+printf '7;10\n7,\303' >"$work/cut_character"
+
+begin
+"$program" <"$work/rows" >"$work/out" 2>"$work/err" || status=$?
+compare 'three rows' 0 "$groups" ''
+
+begin
+{ printf '7,1'; sleep 0.2; printf '0\r'; sleep 0.2; printf '\n7,+20\n8,1'; } | "$program" >"$work/out" 2>"$work/err" || status=$?
+compare 'rows in pieces' 0 "$groups" ''
+
+begin
+"$program" <"$work/none" >"$work/out" 2>"$work/err" || status=$?
+compare 'no row' 0 '' ''
+
+begin
+"$program" <"$work/no_row" >"$work/out" 2>"$work/err" || status=$?
+compare 'a bad row' 1 '' 'row 2: not a key and an amount'
+
+begin
+"$program" <"$work/empty_line" >"$work/out" 2>"$work/err" || status=$?
+compare 'an empty row' 1 '' 'row 2: not a key and an amount'
+
+begin
+"$program" <"$work/too_large" >"$work/out" 2>"$work/err" || status=$?
+compare 'an amount of 2 ^ 64' 1 '' 'row 2: not a key and an amount'
+
+begin
+"$program" <"$work/no_text" >"$work/out" 2>"$work/err" || status=$?
+compare 'a byte 0xff' 1 '' 'byte 17: not UTF-8'
+
+begin
+"$program" <"$work/cut_character" >"$work/out" 2>"$work/err" || status=$?
+compare 'a character cut short, behind a bad row' 1 '' 'byte 7: not UTF-8'
+
+begin
+"$program" <&- >"$work/out" 2>"$work/err" || status=$?
+compare 'rows closed' 2 '' 'read failed'
+
+begin
+"$program" </ >"$work/out" 2>"$work/err" || status=$?
+compare 'rows a folder' 2 '' 'read failed'
+
+begin
+"$program" <"$work/rows" >&- 2>"$work/err" || status=$?
+compare 'groups closed' 4 '' 'write failed'
+
+begin
+"$program" <"$work/rows" >/dev/full 2>"$work/err" || status=$?
+compare 'groups full' 4 '' 'write failed'
+
+begin
+"$program" <"$work/rows" 1</dev/null 2>"$work/err" || status=$?
+compare 'groups open for reading' 4 '' 'write failed'
+
+begin
+"$program" <"$work/no_row" >&- 2>"$work/err" || status=$?
+compare 'groups closed, a bad row' 1 '' 'row 2: not a key and an amount'
+
+begin
+"$program" <"$work/rows" >"$work/out" 2>&- || status=$?
+compare 'error closed' 0 "$groups" ''
+
+# Where the fault cannot be told, its status still says it.
+begin
+"$program" <"$work/no_row" >"$work/out" 2>&- || status=$?
+compare 'error closed, a bad row' 1 '' ''
+
+begin
+"$program" <"$work/rows" >/dev/full 2>/dev/full || status=$?
+compare 'groups and error full' 4 '' ''
+
+begin
+"$program" <&- >&- 2>&- || status=$?
+compare 'all closed' 2 '' ''
+
+echo "table runs of sum_groups: $compared runs compared"
+echo "table runs: $differ differ"
 [ "$differ" = 0 ]
