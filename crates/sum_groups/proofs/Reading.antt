@@ -1,4 +1,4 @@
--- What std's chain over the lines of a text reads, and what a report says of bytes.
+-- What a chain of std over the lines of a text reads.
 use Rattle.std.proofs.Common.{◌≡◌, ℕ, zero, suc, ◌≤◌, ◌<◌, List, [], ◌∷◌, map, length, slice_index_or, Option, Some, None, refl, sym, subst, ap, ◌∙◌, arith}
 use Rattle.std.specs.List.{slice_get}
 use Rattle.std.specs.Iterator.{Yields, YieldsThen}
