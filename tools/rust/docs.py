@@ -120,7 +120,7 @@ class Docs:
             k += 1
         if clauses:
             proved = "As it is proved, " + "where its signature is another, " * (name in OTHER)
-            blocks.append(["# Contract", "", proved + "in the words of `docs/INDEX.md` of the repository:",
+            blocks.append(["# Contract", "", proved + "in [these words](crate::words):",
                            "", "```text"] + [x for c in clauses for x in clause(c)] + ["```"])
         blocks = [b for b in blocks if any(b)]
         return [x for k, b in enumerate(blocks) for x in ([""] * (k > 0) + b)]

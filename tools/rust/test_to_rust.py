@@ -18,6 +18,8 @@ class Refusals(unittest.TestCase):
         for path in TOP.glob("crates/*/src"):
             shutil.copytree(path, self.tree / path.relative_to(TOP))
         shutil.copy(TOP / "LICENSE", self.tree)
+        (self.tree / "docs").mkdir()
+        shutil.copy(TOP / "docs/INDEX.md", self.tree / "docs")
 
     def tearDown(self):
         shutil.rmtree(self.folder)
