@@ -82,7 +82,7 @@ ITERATOR = [
     (r"lib\.rs", r"\A(?://!.*\n)+\n",
      HEAD + "pub mod fallible_contract;\npub mod fallible_core;\npub mod memory;\n", 1),
     # What users need not see.
-    (r"lib\.rs", r"^pub mod (?!prelude)\w+;", r"#[doc(hidden)]\n\g<0>", 8),
+    (r"lib\.rs", r"^pub mod (?!prelude)\w+;", r"#[doc(hidden)]\n\g<0>", 6),
     (r"lib\.rs", r"^pub use .*(?:answers::|searching::Test;|\{Collect, Fault|Number;)", r"#[doc(hidden)]\n\g<0>", 4),
     (r"fallible_core/traits\.rs", r"^    fn (?:number|drive_\w+)\b", r"    #[doc(hidden)]\n\g<0>", 5),
 ]
@@ -90,7 +90,7 @@ ITERATOR = [
 GROUPS = r"(?:chunks|chunk_by)\.rs"
 ITERTOOLS = [
     (r"(?:intersperse|tuple_windows)\.rs", r"\b(separator|x)\.clone\(\)", r"\1.try_clone()", 2),
-    (r"(?:intersperse|tuple_windows)\.rs", r"^use fallible_iterator::adapting",
+    (r"(?:intersperse|tuple_windows)\.rs", r"^use fallible_iterator::extending",
      r"use fallible_iterator::memory::TryClone;\n\g<0>", 2),
     # No allocator is passed.
     (GROUPS, r"^    pub\(crate\) alloc: Global,\n", "", 2),

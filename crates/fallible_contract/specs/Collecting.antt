@@ -16,7 +16,7 @@ pub record CollectsAll {S A E C : Type 0} (steps : S → Answered A E → S → 
   pub ran : Run steps s (map item items ++ end ∷ []) after
   pub is_made : made items c
 
--- The first failure came after items of which a collection was made, and nothing was drawn after it.
+-- The first failure came after items of which a collection was made.
 pub record FailsWith {S A E C : Type 0} (steps : S → Answered A E → S → Type 0) (made : List A → C → Type 0) (s : S) (e : E) : Type 0 where
   pub items : List A
   pub collection : C

@@ -138,6 +138,21 @@ within (Err e) = Err e
 
 -- ---- count
 
+-- an end, or the failure
+abbrev pub OverExit : {A E : Type 0} → Answered A E → Result (Unit {0}) E → Type 0
+OverExit (Ok None) r = r ≡ Ok tt
+OverExit (Err e) r = r ≡ Err e
+OverExit (Ok (Some x)) r = ⊥
+
+-- A number went from n to k, one more for each item. An end or a failure came last.
+pub record CountedUp {A E : Type 0} (n : ℕ) (r : Result (Unit {0}) E) (k : ℕ) (items : List A) (last : Answered A E) : Type 0 where
+  pub number : k ≡ n + length items
+  pub exit : OverExit last r
+
+-- The draws from s answered items and then an end or a failure, and left t. The number went from n to k, one more for each item, also before a failure. The result is the failure, if one came.
+abbrev pub CountedOn : {S A E : Type 0} → (S → Answered A E → S → Type 0) → S → ℕ → Result (Unit {0}) E → S → ℕ → Type 0
+CountedOn steps s n r t k = Drained steps (CountedUp n r k) s t
+
 -- the number of items n at an end, or the failure
 abbrev pub CountExit : {A E : Type 0} → ℕ → Answered A E → Result ℕ E → Type 0
 CountExit n (Ok None) r = r ≡ Ok n
@@ -147,9 +162,9 @@ CountExit n (Ok (Some x)) r = ⊥
 pub record CountedBy {A E : Type 0} (r : Result ℕ E) (items : List A) (last : Answered A E) : Type 0 where
   pub exit : CountExit (length items) last r
 
--- The draws from s answered items and then an end or a failure; the result is the number of the items, or the failure.
-abbrev pub Counted : {S A E : Type 0} → (S → Answered A E → S → Type 0) → S → Result ℕ E → Type 0
-Counted {S = S} steps s r = (after : S) × Drained steps (CountedBy r) s after
+-- The draws from s answered items and then an end or a failure, and left t; the result is the number of the items, or the failure.
+abbrev pub Counted : {S A E : Type 0} → (S → Answered A E → S → Type 0) → S → Result ℕ E → S → Type 0
+Counted steps s r t = Drained steps (CountedBy r) s t
 
 -- ---- last
 
@@ -162,9 +177,9 @@ LastExit items (Ok (Some x)) r = ⊥
 pub record LastBy {A E : Type 0} (r : Result (Option A) E) (items : List A) (last : Answered A E) : Type 0 where
   pub exit : LastExit items last r
 
--- The draws from s answered items and then an end or a failure; the result is the last of the items, none of no items, or the failure.
-abbrev pub LastOf : {S A E : Type 0} → (S → Answered A E → S → Type 0) → S → Result (Option A) E → Type 0
-LastOf {S = S} steps s r = (after : S) × Drained steps (LastBy r) s after
+-- The draws from s answered items and then an end or a failure, and left t; the result is the last of the items, none of no items, or the failure.
+abbrev pub LastOf : {S A E : Type 0} → (S → Answered A E → S → Type 0) → S → Result (Option A) E → S → Type 0
+LastOf steps s r t = Drained steps (LastBy r) s t
 
 -- ---- nth
 

@@ -9,7 +9,7 @@ ghost use Rattle.fallible_contract.specs.Lists.{rest_first, rest_nth, rest_true,
 ghost use Rattle.fallible_contract.specs.Comparing.{OneIsFinite, by_cmp, by_eq, read_as, reads_eq, reads_ne, reads_lt, reads_le, reads_gt, reads_ge, ComparedWith, ReadWith};
 ghost use Rattle.fallible_contract.specs.Picking.{call_at_two, takes_at_two, PickCall, takes_in_pick, Picked, KeyCall, Best, BestByKey};
 ghost use Rattle.fallible_contract.specs.Searching.{CallableInSearch, Searched, all_pick, any_pick, find_map_pick, find_pick, position_pick, each_pick};
-ghost use Rattle.fallible_contract.specs.Folds.{HoldsAtEachTurn, CallableDriving, Driven, CallableInFold, call_with, takes_with, Folded, Counted, LastOf, Nth, ReduceCall, reduce_takes};
+ghost use Rattle.fallible_contract.specs.Folds.{HoldsAtEachTurn, CallableDriving, Driven, CallableInFold, call_with, takes_with, Folded, CountedOn, Counted, LastOf, Nth, ReduceCall, reduce_takes};
 ghost use Rattle.fallible_core.specs.OneToOne.Enumerate.{IsNumberable, enumerate_parts, enumerate_contract, numbered};
 ghost use Rattle.fallible_core.specs.Filtering.SkipWhile.{skip_call, skip_takes, skip_while_parts, skip_while_contract, skipped_while, skip_while_source, skip_while_found, skip_while_predicate};
 ghost use Rattle.fallible_core.specs.OneToOne.Scan.{scan_call, scan_takes, scan_parts, scan_contract, scanned, scan_source, scan_state, scan_closure};
@@ -164,17 +164,16 @@ pub trait FallibleIterator: Drop + Sized {
         }
     }
 
-    /// For types that override it: `count`, without what it says of a list.
-    fn drive_count(mut self) -> Result<usize, Self::Error>
+    /// For types that override it: draws up to the end or the first failure, and adds one to `number` for each item, also for those before a failure. `count` goes through it. A caller uses `count`.
+    fn drive_count(&mut self, number: &mut usize) -> Result<(), Self::Error>
     where
         Self::Item: Drop,
-        requires can_next { contract.can_next self }
-        requires fits { AtMost contract self (2 ^ 64 - 1) }
-        ensures { Counted contract.steps self result }
+        requires can_next { contract.can_next self.old }
+        requires fits { AtMost contract self.old (2 ^ 64 - 1 - number.old) }
+        ensures { CountedOn contract.steps self.old number.old result self.new number.new }
     {
-        let mut number = 0;
-        match self.drive(&mut number, &CountTurn) {
-            Ok(None) => Ok(number),
+        match self.drive(number, &CountTurn) {
+            Ok(None) => Ok(()),
             Ok(Some(never)) => match never {},
             Err(e) => Err(e),
         }
@@ -192,24 +191,28 @@ pub trait FallibleIterator: Drop + Sized {
     ///     .filter(|reading| Ok(*reading > 100))
     ///     .count()
     /// ```
-    final fn count(self) -> Result<usize, Self::Error>
+    final fn count(mut self) -> Result<usize, Self::Error>
     where
         Self::Item: Drop,
         requires can_next { contract.can_next self }
         requires fits { AtMost contract self (2 ^ 64 - 1) }
-        ensures counted { Counted contract.steps self result }
+        ensures counted { (after : Self) × Counted contract.steps self result after }
         ensures value { OverList contract.steps self (λ l. result ≡ counted l) }
     {
-        self.drive_count()
+        let mut number = 0;
+        match self.drive_count(&mut number) {
+            Ok(()) => Ok(number),
+            Err(e) => Err(e),
+        }
     }
 
-    /// For types that override it: `last`, without what it says of a list.
-    fn drive_last(mut self) -> Result<Option<Self::Item>, Self::Error>
+    /// For types that override it: `last`, without what it says of a list. A caller uses `last`.
+    fn drive_last(&mut self) -> Result<Option<Self::Item>, Self::Error>
     where
         Self::Item: Drop,
-        requires can_next { contract.can_next self }
-        requires finite { contract.is_finite self }
-        ensures { LastOf contract.steps self result }
+        requires can_next { contract.can_next self.old }
+        requires finite { contract.is_finite self.old }
+        ensures { LastOf contract.steps self.old result self.new }
     {
         let mut last = None;
         match self.drive(&mut last, &LastTurn) {
@@ -231,12 +234,12 @@ pub trait FallibleIterator: Drop + Sized {
     ///     .filter(|reading| Ok(*reading > 100))
     ///     .last()
     /// ```
-    final fn last(self) -> Result<Option<Self::Item>, Self::Error>
+    final fn last(mut self) -> Result<Option<Self::Item>, Self::Error>
     where
         Self::Item: Drop,
         requires can_next { contract.can_next self }
         requires finite { contract.is_finite self }
-        ensures last { LastOf contract.steps self result }
+        ensures last { (after : Self) × LastOf contract.steps self result after }
         ensures value { OverList contract.steps self (λ l. result ≡ last_of l) }
     {
         self.drive_last()

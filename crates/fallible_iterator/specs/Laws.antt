@@ -3,10 +3,12 @@ pub mod Showing
 pub mod ShowingEnds
 pub mod Sources
 pub use Rattle.fallible_contract.specs.Laws.BoundsRuns
+pub use Rattle.fallible_contract.specs.Laws.ByNumber
 pub use Rattle.fallible_contract.specs.Laws.Closing
 pub use Rattle.fallible_contract.specs.Laws.Closures
 pub use Rattle.fallible_contract.specs.Laws.Contract
 pub use Rattle.fallible_contract.specs.Laws.Ends
+pub use Rattle.fallible_contract.specs.Laws.Exchange
 pub use Rattle.fallible_contract.specs.Laws.Own
 pub use Rattle.fallible_contract.specs.Laws.Passing
 pub use Rattle.fallible_contract.specs.Laws.WithSteps

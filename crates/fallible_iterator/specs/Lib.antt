@@ -10,6 +10,7 @@ pub mod ShowingEnds
 pub mod SoundHints
 pub mod Sources
 pub use Rattle.fallible_contract.specs.BothEnds
+pub use Rattle.fallible_contract.specs.ByNumber
 pub use Rattle.fallible_contract.specs.Clauses
 pub use Rattle.fallible_contract.specs.Closing
 pub use Rattle.fallible_contract.specs.Closures
@@ -17,6 +18,7 @@ pub use Rattle.fallible_contract.specs.Collecting
 pub use Rattle.fallible_contract.specs.Comparing
 pub use Rattle.fallible_contract.specs.Contract
 pub use Rattle.fallible_contract.specs.Ends
+pub use Rattle.fallible_contract.specs.Exchange
 pub use Rattle.fallible_contract.specs.Folding
 pub use Rattle.fallible_contract.specs.Folds
 pub use Rattle.fallible_contract.specs.Held

@@ -3,12 +3,10 @@
 //! A crate above names this one alone. The trait and its adapters are those of `fallible_core`, and what is said of them is `fallible_contract`; both are handed on, as are their specifications. The sources are this crate's own.
 #![tactic(auto)]
 
-pub mod adapting;
-pub mod consuming;
 pub mod conversion;
+pub mod extending;
 pub mod laws;
 pub mod prelude;
-pub mod searching;
 pub mod sources;
 
 pub use conversion::IteratorExt;

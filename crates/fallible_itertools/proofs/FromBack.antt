@@ -133,7 +133,7 @@ module _ {S A E : Type 0} (front back : S → Answered A E → S → Type 0) (t 
   LeftBy w = ListsBothEnds front back t (rest_where w (before_last_true h l))
 
   counted_where : (found : Result Bool E) (r : Result (Option ℕ) E) (u : S) → ListsBothEnds front back u (before_last_true h l) → CountedWhere front found u r t → (r ≡ by_found h l found) × LeftBy found
-  counted_where (Ok true) r u j c = (c.2 ∙ ap (read_as (λ n. Some n)) (counted_is (before_last_true h l) (t, c.1) (lists_first j)), count_left (before_last_true h l) j c.1)
+  counted_where (Ok true) r u j c = (c.2 ∙ ap (read_as (λ n. Some n)) (counted_is (before_last_true h l) c.1 (lists_first j)), count_left (before_last_true h l) j c.1)
   counted_where (Ok false) r u j c = (c.0, subst (λ (v : S). ListsBothEnds front back v (before_last_true h l)) (sym c.1) j)
   counted_where (Err e) r u j c = (c.0, subst (λ (v : S). ListsBothEnds front back v (before_last_true h l)) (sym c.1) j)
 

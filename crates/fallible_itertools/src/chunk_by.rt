@@ -7,7 +7,7 @@ ghost use Rattle.fallible_itertools.specs.Laws.ChunkBy.{holds_chunk_by, lawful_c
 
 use crate::growing::{alone, pushed};
 use crate::holding::{Hold, at_least_one, drive_holding};
-use fallible_iterator::adapting::{FirstTurn, Outcome};
+use fallible_iterator::extending::{FirstTurn, Outcome};
 use fallible_iterator::{FallibleIterator, Turn};
 use std::alloc::{AllocError, Global};
 

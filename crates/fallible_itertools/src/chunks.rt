@@ -8,7 +8,7 @@ ghost use Rattle.fallible_itertools.specs.Laws.Chunks.{holds_chunks, lawful_chun
 
 use crate::growing::{alone, pushed};
 use crate::holding::{Hold, drive_holding};
-use fallible_iterator::adapting::{FirstTurn, Outcome};
+use fallible_iterator::extending::{FirstTurn, Outcome};
 use fallible_iterator::{FallibleIterator, Turn};
 use std::alloc::{AllocError, Global};
 

@@ -8,7 +8,7 @@ ghost use Rattle.fallible_itertools.specs.Holding.{held_beside};
 ghost use Rattle.fallible_itertools.specs.Laws.Coalesce.{holds_coalesce, lawful_coalesce};
 
 use crate::holding::{Hold, at_least_one, drive_holding};
-use fallible_iterator::adapting::{FirstTurn, Outcome};
+use fallible_iterator::extending::{FirstTurn, Outcome};
 use fallible_iterator::{FallibleIterator, Turn};
 
 /// Adjacent items put together where the closure makes one of two. What was made so far is held until the closure keeps two apart, or an end comes.

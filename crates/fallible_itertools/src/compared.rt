@@ -3,7 +3,7 @@ ghost use Rattle.std.specs.Prelude.{◌≡◌, ◌⊎◌, Option};
 ghost use Rattle.fallible_iterator.specs.Folds.{call_with, goes_on, takes_with};
 ghost use Rattle.fallible_itertools.specs.ComparedBy.{CallableInRounds, ComparedBy, IsCmpTurn, IsEqTurn};
 
-use fallible_iterator::consuming::number_of_either;
+use fallible_iterator::extending::number_of_either;
 use fallible_iterator::{FallibleIterator, Turn};
 use std::cmp::Ordering;
 use std::ops::ControlFlow;

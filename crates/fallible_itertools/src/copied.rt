@@ -7,7 +7,7 @@ ghost use Rattle.fallible_iterator.specs.Laws.Ends.{lawful_ends_seen};
 ghost use Rattle.fallible_itertools.specs.Copied.{copied_call, copied_contract, copied_outcome, copied_parts};
 ghost use Rattle.fallible_itertools.specs.Laws.Copied.{lawful_copied, lawful_ends_copied};
 
-use fallible_iterator::adapting::{Outcome, Pass, drive_back_passing, drive_passing, passed};
+use fallible_iterator::extending::{Outcome, Pass, drive_back_passing, drive_passing, passed};
 use fallible_iterator::{DoubleEndedFallibleIterator, FallibleIterator, Turn};
 
 /// A copy of what each item points to. Failures and ends pass.

@@ -7,7 +7,7 @@ ghost use Rattle.fallible_itertools.specs.Holding.{held_one};
 ghost use Rattle.fallible_itertools.specs.Laws.Dedup.{holds_dedup, lawful_dedup};
 
 use crate::holding::{Hold, at_least_one, drive_holding};
-use fallible_iterator::adapting::{FirstTurn, Outcome};
+use fallible_iterator::extending::{FirstTurn, Outcome};
 use fallible_iterator::{FallibleIterator, Turn};
 
 /// Of adjacent equal items the first. It is held until an item that differs comes, or an end.

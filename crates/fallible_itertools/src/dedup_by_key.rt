@@ -8,7 +8,7 @@ ghost use Rattle.fallible_itertools.specs.Holding.{held_beside};
 ghost use Rattle.fallible_itertools.specs.Laws.DedupByKey.{holds_dedup_key, lawful_dedup_by_key};
 
 use crate::holding::{Hold, at_least_one, drive_holding};
-use fallible_iterator::adapting::{FirstTurn, Outcome};
+use fallible_iterator::extending::{FirstTurn, Outcome};
 use fallible_iterator::{FallibleIterator, Turn};
 
 /// Of adjacent items with equal keys the first. It is held, with its key, until an item with another key comes, or an end.

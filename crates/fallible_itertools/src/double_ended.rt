@@ -10,7 +10,7 @@ ghost use Rattle.fallible_iterator.specs.Lists.{Acts, rest_nth, rest_true, found
 ghost use Rattle.fallible_iterator.specs.Searching.{CallableInSearch, Searched, any_pick, find_pick};
 ghost use Rattle.fallible_itertools.specs.FromBack.{CountedWhere, PlacedFromBack, last_position_in, rest_position};
 
-use fallible_iterator::consuming::{AnyTurn, CountTurn, FindTest, FindTurn, answer_or, found};
+use fallible_iterator::extending::{AnyTurn, CountTurn, FindTest, FindTurn, answer_or, found};
 use fallible_iterator::{DoubleEndedFallibleIterator, FallibleIterator};
 
 // Passes over n items from the back, and draws one more answer.

@@ -5,7 +5,7 @@ ghost use Rattle.fallible_iterator.specs.Passing.{passing_step};
 ghost use Rattle.fallible_itertools.specs.Holding.{Holds, as_answered, holding_contract, with_ends};
 ghost use Rattle.fallible_iterator.specs.Outcome.{Outcome};
 
-use fallible_iterator::adapting::{Outcome, Pass, drive_passing};
+use fallible_iterator::extending::{Outcome, Pass, drive_passing};
 use fallible_iterator::{FallibleIterator, Number, Turn};
 use std::ops::ControlFlow;
 

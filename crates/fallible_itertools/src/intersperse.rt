@@ -6,7 +6,7 @@ ghost use Rattle.fallible_iterator.specs.Laws.Contract.{lawful_seen};
 ghost use Rattle.fallible_itertools.specs.Intersperse.{HeldTakes, IsHeldTurn, IsPartingTurn, PartingTakes, PlacedAs, intersperse_contract, intersperse_step, intersperse_parts, interspersed_items, fitting};
 ghost use Rattle.fallible_itertools.specs.Laws.Intersperse.{lawful_intersperse};
 
-use fallible_iterator::adapting::{Beside, answer_within};
+use fallible_iterator::extending::{Beside, answer_within};
 use fallible_iterator::{FallibleIterator, Turn};
 use std::alloc::AllocError;
 use std::ops::ControlFlow;

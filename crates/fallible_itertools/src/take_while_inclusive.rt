@@ -9,7 +9,7 @@ ghost use Rattle.fallible_iterator.specs.Laws.Contract.{lawful_seen};
 ghost use Rattle.fallible_itertools.specs.TakeWhileInclusive.{StoppingTurn, inclusive_contract, inclusive_outcome, inclusive_parts};
 ghost use Rattle.fallible_itertools.specs.Laws.TakeWhileInclusive.{lawful_inclusive};
 
-use fallible_iterator::adapting::{Beside, Outcome, Pass, PassTurn, answer_within, passed};
+use fallible_iterator::extending::{Beside, Outcome, Pass, PassTurn, answer_within, passed};
 use fallible_iterator::{FallibleIterator, Turn};
 use std::ops::ControlFlow;
 

@@ -59,9 +59,9 @@ use crate::take_while_inclusive::TakeWhileInclusive;
 use crate::totals::{CheckedTotal, ProductTurn, SumTurn, total_or_none};
 use crate::tuple_windows::TupleWindows;
 use crate::zip_longest::ZipLongest;
-use fallible_iterator::consuming::{ReadEq, Reading, ordered};
-use fallible_iterator::searching::{
-    FindTest, FindTurn, ForEachTurn, PositionTurn, answer_or, answer_or_none, found,
+use fallible_iterator::extending::{
+    FindTest, FindTurn, ForEachTurn, PositionTurn, ReadEq, Reading, answer_or, answer_or_none,
+    found, ordered,
 };
 use fallible_iterator::{FallibleIterator, Fault, IntoFallibleIterator};
 use std::alloc::{AllocError, Global};

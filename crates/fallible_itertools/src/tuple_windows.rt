@@ -6,7 +6,7 @@ ghost use Rattle.fallible_itertools.specs.TupleWindows.{tuple_windows_contract, 
 ghost use Rattle.fallible_itertools.specs.Laws.TupleWindows.{holds_windows, lawful_tuple_windows};
 
 use crate::holding::{Hold, drive_holding};
-use fallible_iterator::adapting::{FirstTurn, Outcome};
+use fallible_iterator::extending::{FirstTurn, Outcome};
 use fallible_iterator::{FallibleIterator, Turn};
 use std::alloc::AllocError;
 

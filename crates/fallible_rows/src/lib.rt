@@ -44,6 +44,7 @@ pub fn run<R: Read, W: Write>(alloc: Global, reader: &mut R, writer: &mut W) -> 
         → OnErr result (Keeps (W.contents writer.old) (W.contents writer.new)) }
     ensures taken { TakesFromPrefix (R.remaining reader.old) (R.remaining reader.new) }
 {
+    // Unused: the `run` of each program is called in one form, and the others allocate. `Memory` is for the caller, whose buffer of the input may be refused.
     let _ = alloc;
     let count = counting::count_above(reader)?;
     match writeln!(writer, "{count}") {

@@ -120,15 +120,15 @@ impl<'a, I: FallibleIterator> FallibleIterator for Counted<'a, I> {
         self.it.drive(state, turn)
     }
 
-    fn drive_count(self) -> Result<usize, I::Error>
+    fn drive_count(&mut self, number: &mut usize) -> Result<(), I::Error>
     where
         I::Item: Drop,
     {
         add(&self.log.counts);
-        self.it.drive_count()
+        self.it.drive_count(number)
     }
 
-    fn drive_last(self) -> Result<Option<I::Item>, I::Error>
+    fn drive_last(&mut self) -> Result<Option<I::Item>, I::Error>
     where
         I::Item: Drop,
     {

@@ -1,8 +1,9 @@
 -- A bound bounds the items of every run, and of draws from both ends.
-use Rattle.std.specs.Prelude.{◌≡◌, ℕ, ◌+◌, ◌≤◌, List, [], ◌∷◌, Some, None, Ok, Err}
+use Rattle.std.specs.Prelude.{◌≡◌, ℕ, ◌+◌, ◌≤◌, length, List, [], ◌∷◌, ◌++◌, map, Result, Some, None, Ok, Err}
 use Rattle.std.proofs.Common.{arith}
 use Rattle.fallible_contract.specs.Traces.{Answered, Run, item, end, items_in}
 use Rattle.fallible_contract.specs.Contract.{Contract, Lawful}
+use Rattle.fallible_contract.specs.Folds.{CountedOn}
 use Rattle.fallible_contract.specs.Ends.{Ends, LawfulEnds}
 use Rattle.fallible_contract.specs.BothEnds.{step_at, RunAtEnds, answers_drawn}
 use Rattle.fallible_contract.specs.declared.answers.Side.{Side}
@@ -14,6 +15,14 @@ module _ {S A E : Type 0} {m : Contract S A E} (l : Lawful m) where
   items_at_most (Ok (Some x) ∷ rest) s t n c b ran = let g = l.kept_by_draw s (item x) ran.0 c ran.1 in let k = g.answer.1 n b in let h = items_at_most rest ran.0 t k.0 g.can_next k.1 ran.2 in omega (arith, k.2, h)
   items_at_most (Ok None ∷ rest) s t n c b ran = let g = l.kept_by_draw s end ran.0 c ran.1 in let k = g.answer.0 n b in let h = items_at_most rest ran.0 t k.0 g.can_next k.1 ran.2 in omega (arith, k.2, h)
   items_at_most (Err e ∷ rest) s t n c b ran = let g = l.kept_by_draw s (Err e) ran.0 c ran.1 in let k = g.answer.1 n b in let h = items_at_most rest ran.0 t k.0 g.can_next k.1 ran.2 in omega (arith, k.2, h)
+
+  items_then : (items : List A) (last : Answered A E) → length items ≤ items_in (map item items ++ last ∷ [])
+  items_then [] last = omega arith
+  items_then (x ∷ items) last = let h = items_then items last in omega (arith, h)
+
+  -- a count goes up by no more than a bound
+  pub counted_within : {s t : S} {n k b : ℕ} {r : Result (Unit {0}) E} → m.can_next s → m.bound s b → CountedOn m.steps s n r t k → k ≤ n + b
+  counted_within {s} {t} {n} {k} {b} c bounds w = let most = items_at_most (map item w.items ++ w.last ∷ []) s t b c bounds w.ran in let items = items_then w.items w.last in let up = w.at.number in omega (arith, most, items, up)
 
 -- ---- draws from both ends
 

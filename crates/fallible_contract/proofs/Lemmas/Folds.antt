@@ -1,11 +1,11 @@
 -- Folds, one turn at a time.
-use Rattle.std.specs.Prelude.{◌≡◌, ℕ, ◌+◌, ◌<◌, length, List, [], ◌∷◌, ◌++◌, map, Option, Result, Some, None, Ok, Err}
+use Rattle.std.specs.Prelude.{◌≡◌, ℕ, ◌+◌, ◌-◌, ◌<◌, length, List, [], ◌∷◌, ◌++◌, map, Option, Result, Some, None, Ok, Err}
 use Rattle.std.specs.List.{FoldsTo, last_or}
 use Rattle.std.proofs.Common.{refl, sym, ap, ◌∙◌, subst, arith}
 use Rattle.fallible_contract.specs.Traces.{Answered, Run, Yields, item}
 use Rattle.fallible_contract.specs.Contract.{Contract, AtMost, Lawful}
 use Rattle.fallible_contract.proofs.Lemmas.Contract.{number_of_at_most}
-use Rattle.fallible_contract.specs.Folds.{Drained, CountExit, Counted, LastExit, LastOf, HoldsAtEachTurn, went_on_with, CallableInFold, IsFoldTurn, IsFoldTurnInSlot, takes_in_slot, FoldExit, Folded, goes_on, DriveExit, CallableDriving, Driven, TurnThrough}
+use Rattle.fallible_contract.specs.Folds.{Drained, OverExit, CountedOn, CountExit, Counted, LastExit, LastOf, HoldsAtEachTurn, went_on_with, CallableInFold, IsFoldTurn, IsFoldTurnInSlot, takes_in_slot, FoldExit, Folded, goes_on, DriveExit, CallableDriving, Driven, TurnThrough}
 use Rattle.std.specs.declared.ops.ControlFlow.{ControlFlow}
 use Rattle.std.specs.declared.ops.ControlFlow.TheVariants.{Continue, Break}
 
@@ -107,6 +107,10 @@ module _ {S A E : Type 0} {m : Contract S A E} where
   pub count_fits : {s : S} (n : ℕ) → Lawful m → m.can_next s → AtMost m s n → HoldsAtEachTurn m.steps counts (λ k x. k < n) s 0
   count_fits {s} n l c h = let b = number_of_at_most m s n h in record { at = λ items t u k x ran went step. let below = came_below l s items t u x b.0 c b.1 ran step in let e = counted_up items 0 k went in omega (arith, below, e, b.2) }
 
+  -- the same from k on, where at most n - k are to come
+  pub count_fits_from : {s : S} (n k : ℕ) → Lawful m → m.can_next s → AtMost m s (n - k) → HoldsAtEachTurn m.steps counts (λ j x. j < n) s k
+  count_fits_from {s} n k l c h = let b = number_of_at_most m s (n - k) h in record { at = λ items t u j x ran went step. let below = came_below l s items t u x b.0 c b.1 ran step in let e = counted_up items k j went in omega (arith, below, e, b.2) }
+
 -- a turn of `count` and one of `last`
 abbrev Counts : {A R : Type 0} → ℕ → A → ControlFlow R (Unit {0}) → ℕ → Type 0
 Counts n x r k = (r ≡ Continue tt) × (k ≡ n + 1)
@@ -115,26 +119,45 @@ abbrev Keeps : {A R : Type 0} → Option A → A → ControlFlow R (Unit {0}) �
 Keeps o x r d = (r ≡ Continue tt) × (d ≡ Some x)
 
 module _ {A E : Type 0} (R : Type 0) where
-  count_ended : (last : Answered A E) (n k : ℕ) → DriveExit (Counts {R = R}) n last (Ok None) k → CountExit n last (Ok k)
-  count_ended (Ok None) n k h = ap Ok h.1
-  count_ended (Ok (Some x)) n k h = absurd (let e = h.1.0 in cc)
-  count_ended (Err e) n k h = absurd (let f = h.0 in cc)
+  over_ended : (last : Answered A E) (n k : ℕ) → DriveExit (Counts {R = R}) n last (Ok None) k → (k ≡ n) × OverExit last (Ok tt)
+  over_ended (Ok None) n k h = (h.1, refl)
+  over_ended (Ok (Some x)) n k h = absurd (let e = h.1.0 in cc)
+  over_ended (Err e) n k h = absurd (let f = h.0 in cc)
 
-  count_failed : (last : Answered A E) (n k : ℕ) (e : E) → DriveExit (Counts {R = R}) n last (Err e) k → CountExit n last (Err e)
-  count_failed (Ok None) n k e h = absurd (let f = h.0 in cc)
-  count_failed (Ok (Some x)) n k e h = absurd (let f = h.1.0 in cc)
-  count_failed (Err d) n k e h = let same : e ≡ d = (let f = h.0 in cc) in ap Err same
+  over_failed : (last : Answered A E) (n k : ℕ) (e : E) → DriveExit (Counts {R = R}) n last (Err e) k → (k ≡ n) × OverExit last (Err e)
+  over_failed (Ok None) n k e h = absurd (let f = h.0 in cc)
+  over_failed (Ok (Some x)) n k e h = absurd (let f = h.1.0 in cc)
+  over_failed (Err d) n k e h = let same : e ≡ d = (let f = h.0 in cc) in (h.1, ap Err same)
 
-counted_at : {A : Type 0} (R : Type 0) (items : List A) (n : ℕ) → FoldsTo (goes_on (Counts {R = R})) 0 items n → n ≡ length items
-counted_at R items n w = let e = counted_up items 0 n (turns_map (λ c x d h. h.1) items 0 n w) in omega (arith, e)
+turned_up : {A : Type 0} (R : Type 0) (items : List A) (n k : ℕ) → FoldsTo (goes_on (Counts {R = R})) n items k → k ≡ n + length items
+turned_up R items n k w = counted_up items n k (turns_map (λ c x d h. h.1) items n k w)
 
-module _ {S A E R : Type 0} {steps : S → Answered A E → S → Type 0} {s t : S} where
-  -- the fold whose state is the number of items counts them
-  pub counted_ended : {n : ℕ} → Driven steps (Counts {R = R}) s 0 (Ok None) t n → Counted steps s (Ok n)
-  counted_ended {n} w = (t, drained_map (λ items last h. record { exit = subst (λ (k : ℕ). CountExit k last (Ok n)) (counted_at R items h.carried h.went) (count_ended R last h.carried n h.exit) }) w)
+module _ {S A E R : Type 0} {steps : S → Answered A E → S → Type 0} {s t : S} {n k : ℕ} where
+  -- the fold whose state is the number counts the items on
+  pub counted_ended : Driven steps (Counts {R = R}) s n (Ok None) t k → CountedOn steps s n (Ok tt) t k
+  counted_ended w = drained_map (λ items last h. let over = over_ended R last h.carried k h.exit in record { number = over.0 ∙ turned_up R items n h.carried h.went; exit = over.1 }) w
 
-  pub counted_failed : {n : ℕ} {e : E} → Driven steps (Counts {R = R}) s 0 (Err e) t n → Counted steps s (Err e)
-  counted_failed {n} {e} w = (t, drained_map (λ items last h. record { exit = subst (λ (k : ℕ). CountExit k last (Err e)) (counted_at R items h.carried h.went) (count_failed R last h.carried n e h.exit) }) w)
+  pub counted_failed : {e : E} → Driven steps (Counts {R = R}) s n (Err e) t k → CountedOn steps s n (Err e) t k
+  counted_failed {e} w = drained_map (λ items last h. let over = over_failed R last h.carried k e h.exit in record { number = over.0 ∙ turned_up R items n h.carried h.went; exit = over.1 }) w
+
+module _ {A E : Type 0} where
+  count_ended : (last : Answered A E) (n k : ℕ) → k ≡ 0 + n → OverExit last (Ok tt) → CountExit n last (Ok k)
+  count_ended (Ok None) n k is h = ap Ok (omega (arith, is))
+  count_ended (Ok (Some x)) n k is h = absurd h
+  count_ended (Err e) n k is h = absurd cc
+
+  count_failed : (last : Answered A E) (n : ℕ) (e : E) → OverExit last (Err e) → CountExit n last (Err e)
+  count_failed (Ok None) n e h = absurd cc
+  count_failed (Ok (Some x)) n e h = absurd h
+  count_failed (Err d) n e h = let same : e ≡ d = (let f = h in cc) in ap Err same
+
+module _ {S A E : Type 0} {steps : S → Answered A E → S → Type 0} {s t : S} {k : ℕ} where
+  -- counted on from 0, the number is the count
+  pub count_to_end : CountedOn steps s 0 (Ok tt) t k → Counted steps s (Ok k) t
+  count_to_end w = drained_map (λ items last h. record { exit = count_ended last (length items) k h.number h.exit }) w
+
+  pub count_to_failure : {e : E} → CountedOn steps s 0 (Err e) t k → Counted steps s (Err e) t
+  count_to_failure {e} w = drained_map (λ items last h. record { exit = count_failed last (length items) e h.exit }) w
 
 -- ---- `last`
 
@@ -155,11 +178,11 @@ module _ {A : Type 0} (R : Type 0) where
 
 module _ {S A E R : Type 0} {steps : S → Answered A E → S → Type 0} {s t : S} where
   -- the fold whose state is the item that came last ends with the last one
-  pub last_ended : {p : Option A} → Driven steps (Keeps {R = R}) s None (Ok None) t p → LastOf steps s (Ok p)
-  last_ended {p} w = (t, drained_map (λ items last h. record { exit = last_exit R items last h.carried p (last_kept R items None h.carried h.went) h.exit }) w)
+  pub last_ended : {p : Option A} → Driven steps (Keeps {R = R}) s None (Ok None) t p → LastOf steps s (Ok p) t
+  last_ended {p} w = drained_map (λ items last h. record { exit = last_exit R items last h.carried p (last_kept R items None h.carried h.went) h.exit }) w
 
-  pub last_failed : {p : Option A} {e : E} → Driven steps (Keeps {R = R}) s None (Err e) t p → LastOf steps s (Err e)
-  last_failed {p} {e} w = (t, drained_map (λ items last h. record { exit = last_failure R items last h.carried p e h.exit }) w)
+  pub last_failed : {p : Option A} {e : E} → Driven steps (Keeps {R = R}) s None (Err e) t p → LastOf steps s (Err e) t
+  last_failed {p} {e} w = drained_map (λ items last h. record { exit = last_failure R items last h.carried p e h.exit }) w
 
 -- ---- folds whose state is the value and the closure
 

@@ -29,7 +29,3 @@ module _ {S P : Type 0} (view : S → P) (put : S → P → S) (viewed : (s : S)
     -- draws of the held value are draws of the whole
     pub drained_held : {came : List A → Answered A E → Type 0} {t : S} → Drained m.steps came (view s) (view t) → Drained (seen_as view m).steps came s t
     drained_held {t = t} h = record { items = h.items; last = h.last; ran = run_up m.steps (map item h.items) h.last s t h.ran; at = h.at }
-
-    -- the same, where no clause says what is left
-    pub drained_held_left : {came : List A → Answered A E → Type 0} → (after : P) × Drained m.steps came (view s) after → (after : S) × Drained (seen_as view m).steps came s after
-    drained_held_left {came = came} h = (put s h.0, drained_held (subst (λ (p : P). Drained m.steps came (view s) p) (sym (viewed s h.0)) h.1))

@@ -64,25 +64,39 @@ impl<I: FallibleIterator> FallibleIterator for Fuse<I> {
         }
     }
 
-    /// The source's count, and 0 once its end was met.
-    fn drive_count(self) -> Result<usize, I::Error>
+    /// The source's count, and no item once its end was met.
+    fn drive_count(&mut self, number: &mut usize) -> Result<(), I::Error>
     where
         I::Item: Drop,
     {
-        if self.ended {
-            return Ok(0);
+        let Fuse { it, ended } = self;
+        if *ended {
+            return Ok(());
         }
-        self.it.drive_count()
+        match it.drive_count(number) {
+            Ok(()) => {
+                *ended = true;
+                Ok(())
+            }
+            Err(e) => Err(e),
+        }
     }
 
-    fn drive_last(self) -> Result<Option<I::Item>, I::Error>
+    fn drive_last(&mut self) -> Result<Option<I::Item>, I::Error>
     where
         I::Item: Drop,
     {
-        if self.ended {
+        let Fuse { it, ended } = self;
+        if *ended {
             return Ok(None);
         }
-        self.it.drive_last()
+        match it.drive_last() {
+            Ok(last) => {
+                *ended = true;
+                Ok(last)
+            }
+            Err(e) => Err(e),
+        }
     }
 
     /// The source's `nth`, whose none is its end and closes it; a failure doesn't.

@@ -88,8 +88,8 @@ impl<T: FallibleIterator, U: FallibleIterator<Item = T::Item, Error = T::Error>>
         }
     }
 
-    /// The first's count, and then the second's, added up.
-    fn drive_count(self) -> Result<usize, T::Error>
+    /// The first's count, and at its end, in the same call, the second's, of one number.
+    fn drive_count(&mut self, number: &mut usize) -> Result<(), T::Error>
     where
         T::Item: Drop,
     {
@@ -99,20 +99,20 @@ impl<T: FallibleIterator, U: FallibleIterator<Item = T::Item, Error = T::Error>>
             still_drawn,
         } = self;
         match still_drawn {
-            StillDrawn::Both => match first.drive_count() {
-                Ok(before) => match second.drive_count() {
-                    Ok(after) => Ok(before + after),
-                    Err(e) => Err(e),
-                },
+            StillDrawn::Both => match first.drive_count(number) {
+                Ok(()) => {
+                    *still_drawn = StillDrawn::SecondAlone;
+                    second.drive_count(number)
+                }
                 Err(e) => Err(e),
             },
-            StillDrawn::FirstAlone => first.drive_count(),
-            StillDrawn::SecondAlone => second.drive_count(),
+            StillDrawn::FirstAlone => first.drive_count(number),
+            StillDrawn::SecondAlone => second.drive_count(number),
         }
     }
 
     /// The second's last, or where it has none the first's. Where the first fails, the second isn't drawn.
-    fn drive_last(self) -> Result<Option<T::Item>, T::Error>
+    fn drive_last(&mut self) -> Result<Option<T::Item>, T::Error>
     where
         T::Item: Drop,
     {
@@ -123,11 +123,14 @@ impl<T: FallibleIterator, U: FallibleIterator<Item = T::Item, Error = T::Error>>
         } = self;
         match still_drawn {
             StillDrawn::Both => match first.drive_last() {
-                Ok(before) => match second.drive_last() {
-                    Ok(Some(x)) => Ok(Some(x)),
-                    Ok(None) => Ok(before),
-                    Err(e) => Err(e),
-                },
+                Ok(before) => {
+                    *still_drawn = StillDrawn::SecondAlone;
+                    match second.drive_last() {
+                        Ok(Some(x)) => Ok(Some(x)),
+                        Ok(None) => Ok(before),
+                        Err(e) => Err(e),
+                    }
+                }
                 Err(e) => Err(e),
             },
             StillDrawn::FirstAlone => first.drive_last(),

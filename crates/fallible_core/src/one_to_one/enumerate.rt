@@ -45,9 +45,12 @@ where
         drive_passing(&mut self.it, &mut self.count, &EnumeratePass, state, turn)
     }
 
-    /// The source's count.
-    fn drive_count(self) -> Result<usize, I::Error> {
-        self.it.drive_count()
+    /// The source's count, which takes its own number on by as much, also before a failure.
+    fn drive_count(&mut self, number: &mut usize) -> Result<(), I::Error> {
+        let before = *number;
+        let counted = self.it.drive_count(number);
+        self.count += *number - before;
+        counted
     }
 
     /// One fold of the source, which counts each item that it gives.

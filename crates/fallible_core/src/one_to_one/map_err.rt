@@ -44,20 +44,18 @@ impl<I: FallibleIterator, B, F: FnMut(I::Error) -> B> FallibleIterator for MapEr
     }
 
     /// The source's count, or the closure's value on the failure that it met.
-    fn drive_count(self) -> Result<usize, B>
+    fn drive_count(&mut self, number: &mut usize) -> Result<(), B>
     where
         I::Item: Drop,
     {
-        let MapErr { it, mut f } = self;
-        answer(it.drive_count(), &mut f)
+        answer(self.it.drive_count(number), &mut self.f)
     }
 
-    fn drive_last(self) -> Result<Option<I::Item>, B>
+    fn drive_last(&mut self) -> Result<Option<I::Item>, B>
     where
         I::Item: Drop,
     {
-        let MapErr { it, mut f } = self;
-        answer(it.drive_last(), &mut f)
+        answer(self.it.drive_last(), &mut self.f)
     }
 
     fn drive_nth(&mut self, n: usize) -> Result<Option<I::Item>, B>

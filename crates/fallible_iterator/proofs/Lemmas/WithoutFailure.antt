@@ -91,11 +91,11 @@ module _ {S A E : Type 0} (steps : S → Answered A E → S → Type 0) where
   run_ok [] s t ran = (ran.0, (ran.1, refl), ran.2)
   run_ok (x ∷ items) s t ran = (ran.0, (ran.1, refl), run_ok items ran.0 t ran.2)
 
-  counted_ok : (s t : S) (items : List A) (last : Answered A E) (n : ℕ) → Run steps s (map item items ++ last ∷ []) t → CountExit (length items) last (Ok n) → Counted (ok_steps steps) s (Ok n)
-  counted_ok s t items (Ok None) n ran exit = (t, record { items = items; last = Ok None; ran = run_ok items s t ran; at = record { exit = exit } })
+  counted_ok : (s t : S) (items : List A) (last : Answered A E) (n : ℕ) → Run steps s (map item items ++ last ∷ []) t → CountExit (length items) last (Ok n) → Counted (ok_steps steps) s (Ok n) t
+  counted_ok s t items (Ok None) n ran exit = record { items = items; last = Ok None; ran = run_ok items s t ran; at = record { exit = exit } }
   counted_ok s t items (Ok (Some x)) n ran exit = absurd exit
   counted_ok s t items (Err e) n ran exit = absurd cc
 
-pub counted_where_ok : {S A E : Type 0} {steps : S → Answered A E → S → Type 0} {s : S} {l : List (Result A E)} (r : Result ℕ E) → Counted steps s r → ListsWhereOk steps s l → IsOk r → r ≡ counted l
-counted_where_ok {steps = steps} {s = s} {l = l} (Ok n) c i ok = counted_is l (counted_ok steps s c.0 c.1.items c.1.last n c.1.ran c.1.at.exit) i
+pub counted_where_ok : {S A E : Type 0} {steps : S → Answered A E → S → Type 0} {s t : S} {l : List (Result A E)} (r : Result ℕ E) → Counted steps s r t → ListsWhereOk steps s l → IsOk r → r ≡ counted l
+counted_where_ok {steps = steps} {s = s} {t = t} {l = l} (Ok n) c i ok = counted_is l (counted_ok steps s t c.items c.last n c.ran c.at.exit) i
 counted_where_ok (Err e) c i ok = absurd cc

@@ -5,4 +5,4 @@ use Rattle.fallible_callers_drawing.proofs.KnownBytes.{bytes_listed}
 use Rattle.fallible_callers_drawing.proofs.reading.newlines_of_three.Goals as goal
 
 pub returns : goal.returns
-returns g c bytes known ok = counted_where_ok c.count.result c.count.ensures.counted (filtered_where_ok (λ x. Ok (nat_eq x 10)) c.filter.ensures.parts (search rules) (taken_where_ok c.take.ensures.parts (bytes_listed g.R.Read.remaining (λ s. s.reader) known))) ok
+returns g c bytes known ok = counted_where_ok c.count.result c.count.ensures.counted.1 (filtered_where_ok (λ x. Ok (nat_eq x 10)) c.filter.ensures.parts (search rules) (taken_where_ok c.take.ensures.parts (bytes_listed g.R.Read.remaining (λ s. s.reader) known))) ok

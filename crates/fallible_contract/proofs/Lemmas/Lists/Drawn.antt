@@ -60,8 +60,8 @@ module _ {A E : Type 0} where
   counted_by items (Err e) r l rest is rest_is exit = exit ∙ sym (failed_front items rest e (ap counted rest_is.1)) ∙ ap counted (sym is)
   counted_by items (Ok (Some x)) r l rest is rest_is exit = absurd exit
 
-pub counted_is : {S A E : Type 0} {steps : S → Answered A E → S → Type 0} {s : S} {r : Result ℕ E} (l : List (Result A E)) → Counted steps s r → Lists steps s l → r ≡ counted l
-counted_is {steps = steps} {s = s} {r = r} l c i = let w = c.1 in let d = drawn steps w.items w.last l s c.0 i.runs w.ran in counted_by w.items w.last r l d.rest d.list_is d.rest_is w.at.exit
+pub counted_is : {S A E : Type 0} {steps : S → Answered A E → S → Type 0} {s t : S} {r : Result ℕ E} (l : List (Result A E)) → Counted steps s r t → Lists steps s l → r ≡ counted l
+counted_is {steps = steps} {s = s} {t = t} {r = r} l w i = let d = drawn steps w.items w.last l s t i.runs w.ran in counted_by w.items w.last r l d.rest d.list_is d.rest_is w.at.exit
 
 -- ---- collect
 
@@ -131,8 +131,8 @@ module _ {A E : Type 0} where
   last_by items (Err e) r l rest is rest_is exit = exit ∙ sym (ap (λ (w : Result (List A) E). on_value w (λ xs. Ok (last_or None xs))) (ap collected is ∙ ap (λ (k : List (Result A E)). collected (map (λ x. Ok x) items ++ k)) rest_is.1 ∙ collected_failure items rest_is.0 e))
   last_by items (Ok (Some x)) r l rest is rest_is exit = absurd exit
 
-pub last_is : {S A E : Type 0} {steps : S → Answered A E → S → Type 0} {s : S} {r : Result (Option A) E} (l : List (Result A E)) → LastOf steps s r → Lists steps s l → r ≡ last_of l
-last_is {steps = steps} {s = s} {r = r} l c i = let w = c.1 in let d = drawn steps w.items w.last l s c.0 i.runs w.ran in last_by w.items w.last r l d.rest d.list_is d.rest_is w.at.exit
+pub last_is : {S A E : Type 0} {steps : S → Answered A E → S → Type 0} {s t : S} {r : Result (Option A) E} (l : List (Result A E)) → LastOf steps s r t → Lists steps s l → r ≡ last_of l
+last_is {steps = steps} {s = s} {t = t} {r = r} l w i = let d = drawn steps w.items w.last l s t i.runs w.ran in last_by w.items w.last r l d.rest d.list_is d.rest_is w.at.exit
 
 -- ---- nth
 

@@ -4,7 +4,7 @@ use Rattle.std.proofs.Common.{refl, sym, ap, subst, ◌∙◌}
 use Rattle.fallible_contract.specs.Traces.{Answered, Run, item, is_end}
 use Rattle.fallible_contract.specs.Closing.{closing_step}
 use Rattle.fallible_contract.specs.Contract.{Contract, seen_as}
-use Rattle.fallible_contract.specs.Folds.{Drained, HoldsAtEachTurn, DriveExit, Driven, Counted, LastOf, Nth}
+use Rattle.fallible_contract.specs.Folds.{Drained, HoldsAtEachTurn, DriveExit, Driven, OverExit, CountedOn, LastExit, LastOf, Nth}
 use Rattle.fallible_contract.proofs.Lemmas.Folding.{holds_into, drained_into}
 use Rattle.fallible_core.specs.Cutting.Fuse.{fuse_parts, fuse_contract}
 use Rattle.std.specs.declared.ops.ControlFlow.{ControlFlow}
@@ -15,6 +15,21 @@ exit_end : {C A E R : Type 0} (turns : C → A → ControlFlow R (Unit {0}) → 
 exit_end turns c (Ok None) r d at = ap is_end at.0
 exit_end turns c (Err e) r d at = ap is_end at.0
 exit_end turns c (Ok (Some x)) r d at = ap is_end at.2
+
+-- a count and a last item are found where the last answer is an end
+abbrev pub is_found : {C E : Type 0} → Result C E → Bool
+is_found (Ok v) = true
+is_found (Err e) = false
+
+count_found : {A E : Type 0} (last : Answered A E) (r : Result (Unit {0}) E) → OverExit last r → is_found r ≡ is_end last
+count_found (Ok None) r h = ap is_found h
+count_found (Err e) r h = ap is_found h
+count_found (Ok (Some x)) r h = absurd h
+
+last_found : {A E : Type 0} (items : List A) (last : Answered A E) (r : Result (Option A) E) → LastExit items last r → is_found r ≡ is_end last
+last_found items (Ok None) r h = ap is_found h
+last_found items (Err e) r h = ap is_found h
+last_found items (Ok (Some x)) r h = absurd h
 
 module _ {S A E : Type 0} (steps : S → Answered A E → S → Type 0) where
   -- items leave it open
@@ -46,11 +61,11 @@ module _ {S A E : Type 0} (m : Contract S A E) (s : Fuse S) where
   pub open_nth : {n : ℕ} {r : Answered A E} {t : S} (closed : Bool) → s.ended ≡ false → closed ≡ is_end r → Nth m.steps s.it n r t → Nth steps s n r (record { it = t; ended = closed })
   open_nth closed is met w = open_drained closed is w (met ∙ sym (ap is_end w.at.is))
 
-  pub open_counted : {r : Result ℕ E} → s.ended ≡ false → Counted m.steps s.it r → Counted steps s r
-  open_counted is w = (record { it = w.0; ended = is_end w.1.last }, open_drained (is_end w.1.last) is w.1 refl)
+  pub open_counted : {n k : ℕ} {r : Result (Unit {0}) E} {t : S} (closed : Bool) → s.ended ≡ false → closed ≡ is_found r → CountedOn m.steps s.it n r t k → CountedOn steps s n r (record { it = t; ended = closed }) k
+  open_counted {r = r} closed is met w = open_drained closed is w (met ∙ count_found w.last r w.at.exit)
 
-  pub open_last : {r : Result (Option A) E} → s.ended ≡ false → LastOf m.steps s.it r → LastOf steps s r
-  open_last is w = (record { it = w.0; ended = is_end w.1.last }, open_drained (is_end w.1.last) is w.1 refl)
+  pub open_last : {r : Result (Option A) E} {t : S} (closed : Bool) → s.ended ≡ false → closed ≡ is_found r → LastOf m.steps s.it r t → LastOf steps s r (record { it = t; ended = closed })
+  open_last {r = r} closed is met w = open_drained closed is w (met ∙ last_found w.items w.last r w.at.exit)
 
   -- where it is closed, a drain is an end without a draw
   closed_step : s.ended ≡ true → steps s (Ok None) s

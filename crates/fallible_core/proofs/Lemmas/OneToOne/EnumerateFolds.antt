@@ -1,11 +1,11 @@
 -- A fold of the source that numbers its items is a fold of `Enumerate`, and a count of the source is a count of it.
-use Rattle.std.specs.Prelude.{◌≡◌, ℕ, suc, ◌+◌, length, List, [], ◌∷◌, ◌++◌, map, Result, Some, None, Ok, Err}
+use Rattle.std.specs.Prelude.{◌≡◌, ℕ, suc, ◌+◌, ◌-◌, length, List, [], ◌∷◌, ◌++◌, map, Result, Some, None, Ok, Err}
 use Rattle.std.specs.List.{FoldsTo}
 use Rattle.std.proofs.Common.{refl, sym, ap, subst, ◌∙◌, arith, inl}
 use Rattle.fallible_contract.specs.Traces.{Answered, Run, item}
 use Rattle.fallible_contract.specs.Passing.{IfItem, passing_step}
 use Rattle.fallible_contract.specs.Contract.{Contract, Lawful}
-use Rattle.fallible_contract.specs.Folds.{HoldsAtEachTurn, goes_on, CountExit, Counted}
+use Rattle.fallible_contract.specs.Folds.{HoldsAtEachTurn, goes_on, OverExit, CountedOn}
 use Rattle.fallible_contract.specs.Folding.{FoldingTurn, FoldingTakes}
 use Rattle.fallible_contract.specs.Laws.Passing.{Passes, done, end_passes, failure_passes, keeps, refuses, closes, leaves_out, to_passes}
 use Rattle.fallible_contract.proofs.Lemmas.Folds.{count_fits}
@@ -70,27 +70,18 @@ module _ {S A E : Type 0} (steps : S → Answered A E → S → Type 0) where
   run_numbered (x ∷ items) last answer s t n then ran = let same : n + 1 + length items ≡ n + suc (length items) = omega arith in
       ((ran.0, n + 1), enumerate_item x ran.1, subst (λ (k : ℕ). Run (numbered_step steps) (ran.0, n + 1) (map item (beside_numbers (n + 1) items) ++ answer ∷ []) (t, k)) same (run_numbered items last answer ran.0 t (n + 1) then ran.2))
 
-  counted_last : (items : List A) (last : Answered A E) (s t : S) (n : ℕ) (r : Result ℕ E) → Run steps s (map item items ++ last ∷ []) t → CountExit (length items) last r → Counted (numbered_step steps) (s, n) r
-  counted_last items (Ok None) s t n r ran exit = (
-    (t, n + length items),
-    record {
-      items = beside_numbers n items;
-      last = Ok None;
-      ran = run_numbered items (Ok None) (Ok None) s t n (λ u v k step. enumerate_end step) ran;
-      at = record { exit = subst (λ (k : ℕ). r ≡ Ok k) (sym (as_many items n)) exit };
-    },
-  )
-  counted_last items (Err e) s t n r ran exit = (
-    (t, n + length items),
-    record {
-      items = beside_numbers n items;
-      last = Err e;
-      ran = run_numbered items (Err e) (Err e) s t n (λ u v k step. enumerate_failure step) ran;
-      at = record { exit = exit };
-    },
-  )
-  counted_last items (Ok (Some x)) s t n r ran exit = absurd exit
+  -- an end or a failure is the same of it
+  over_numbered : (last : Answered A E) (r : Result (Unit {0}) E) → OverExit last r → (answer : Answered (ℕ × A) E) × OverExit answer r × ((u v : S) (k : ℕ) → steps u last v → numbered_step steps (u, k) answer (v, k))
+  over_numbered (Ok None) r exit = (Ok None, exit, (λ u v k step. enumerate_end step))
+  over_numbered (Err e) r exit = (Err e, exit, (λ u v k step. enumerate_failure step))
+  over_numbered (Ok (Some x)) r exit = absurd exit
 
--- the source's count is that of `Enumerate`
-pub counted_numbered : {S A E : Type 0} {steps : S → Answered A E → S → Type 0} {s : S} {n : ℕ} {r : Result ℕ E} → Counted steps s r → Counted (numbered_step steps) (s, n) r
-counted_numbered {steps = steps} {s = s} {n = n} {r = r} w = counted_last steps w.1.items w.1.last s w.0 n r w.1.ran w.1.at.exit
+-- the source's count is one of `Enumerate`, whose own number goes up by as much
+pub counted_numbered : {S A E : Type 0} {steps : S → Answered A E → S → Type 0} {s t : S} {n i k : ℕ} {r : Result (Unit {0}) E} → CountedOn steps s i r t k → CountedOn (numbered_step steps) (s, n) i r (t, n + (k - i)) k
+counted_numbered {steps = steps} {s = s} {t = t} {n = n} {i = i} {k = k} {r = r} w = let last = over_numbered steps w.last r w.at.exit in let up = w.at.number in
+    let same : n + length w.items ≡ n + (k - i) = omega (arith, up) in record {
+      items = beside_numbers n w.items;
+      last = last.0;
+      ran = subst (λ (j : ℕ). Run (numbered_step steps) (s, n) (map item (beside_numbers n w.items) ++ last.0 ∷ []) (t, j)) same (run_numbered steps w.items w.last last.0 s t n last.2 w.ran);
+      at = record { number = (let many = as_many w.items n in omega (arith, up, many)); exit = last.1 };
+    }

@@ -5,7 +5,7 @@ use Rattle.std.proofs.Common.{refl, sym, subst}
 use Rattle.fallible_contract.specs.Traces.{Answered, Run, item}
 use Rattle.fallible_contract.specs.Contract.{Contract, Lawful}
 use Rattle.fallible_contract.specs.Closures.{IsCallable, call_on, takes_on}
-use Rattle.fallible_contract.specs.Folds.{Drained, HoldsAtEachTurn, DrivenBy, CountedBy, LastBy, NthExit, NthBy}
+use Rattle.fallible_contract.specs.Folds.{Drained, HoldsAtEachTurn, DrivenBy, CountedUp, LastBy, NthExit, NthBy}
 use Rattle.fallible_contract.specs.Laws.Closures.{reaches_here, callable_after}
 use Rattle.fallible_contract.proofs.Lemmas.Folding.{holds_into}
 use Rattle.fallible_core.specs.OneToOne.MapErr.{MapErrTrace, MapErrAnswer, TakesFailure, map_err_parts}
@@ -30,12 +30,13 @@ module _ {X D E C R : Type 0} (turns : C → X → ControlFlow R (Unit {0}) → 
   drive_fails = record { at_value = drive_value; at_failure = λ made items e at. (at.exit.0, (λ f. record { carried = at.carried; went = at.went; exit = (refl, at.exit.1) })) }
 
 module _ {X D E : Type 0} where
-  count_value : (made : Result ℕ D) (items : List X) (v : Option X) → CountedBy made items (Ok v) → (w : ℕ) × (made ≡ Ok w) × CountedBy {E = E} (Ok w) items (Ok v)
-  count_value made items None at = (length items, at.exit, record { exit = refl })
-  count_value made items (Some x) at = absurd at.exit
+  count_value : (n k : ℕ) (made : Result (Unit {0}) D) (items : List X) (v : Option X) → CountedUp n made k items (Ok v) → (w : Unit {0}) × (made ≡ Ok w) × CountedUp {E = E} n (Ok w) k items (Ok v)
+  count_value n k made items None at = (tt, at.exit, record { number = at.number; exit = refl })
+  count_value n k made items (Some x) at = absurd at.exit
 
-  pub count_fails : FailsLast (CountedBy {A = X} {E = D}) (CountedBy {A = X} {E = E})
-  count_fails = record { at_value = count_value; at_failure = λ made items d at. (at.exit, (λ e. record { exit = refl })) }
+  -- a count, from the number n to k
+  pub count_fails : (n k : ℕ) → FailsLast (λ made. CountedUp {A = X} {E = D} n made k) (λ made. CountedUp {A = X} {E = E} n made k)
+  count_fails n k = record { at_value = count_value n k; at_failure = λ made items d at. (at.exit, (λ e. record { number = at.number; exit = refl })) }
 
   last_value : (made : Result (Option X) D) (items : List X) (v : Option X) → LastBy made items (Ok v) → (w : Option X) × (made ≡ Ok w) × LastBy {E = E} (Ok w) items (Ok v)
   last_value made items None at = (_, at.exit, record { exit = refl })

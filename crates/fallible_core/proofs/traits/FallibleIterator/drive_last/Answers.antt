@@ -5,5 +5,5 @@ use Rattle.fallible_core.proofs.traits.FallibleIterator.drive_last.Goals as goal
 pub returns-in-Ok-None : goal.returns-in-Ok-None
 returns-in-Ok-None g c = last_ended (rw c.in-Ok-None.field-0-is at c.in-Ok-None.ensures)
 
-pub returns : goal.returns
-returns g c = last_failed c.in-Err.ensures
+pub returns-in-Err : goal.returns-in-Err
+returns-in-Err g c = last_failed c.in-Err.ensures

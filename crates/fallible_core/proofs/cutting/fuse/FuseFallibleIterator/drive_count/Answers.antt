@@ -1,10 +1,13 @@
--- While it is open its count is the source's; once closed it has no items.
-use Rattle.std.proofs.Common.{refl}
+-- While it is open its count is the source's, which closes it; once closed it has no items.
+use Rattle.std.proofs.Common.{refl, true, arith}
 use Rattle.fallible_core.proofs.Lemmas.Cutting.FuseFolds.{open_counted, closed_drained}
 use Rattle.fallible_core.proofs.cutting.fuse.FuseFallibleIterator.drive_count.Goals as goal
 
-pub returns-then-self : goal.returns-then-self
-returns-then-self g c = (c.args.self, closed_drained g.I.FallibleIterator.contract c.args.self c.if-self.true (record { exit = refl }))
+pub returns-then-ended : goal.returns-then-ended
+returns-then-ended g c = closed_drained g.I.FallibleIterator.contract c.args.self.now c.if-ended.true (record { number = omega arith; exit = refl })
 
-pub returns : goal.returns
-returns g c = open_counted g.I.FallibleIterator.contract c.args.self c.if-self.false c.drive_count.ensures
+pub returns-in-Ok : goal.returns-in-Ok
+returns-in-Ok g c = open_counted g.I.FallibleIterator.contract c.args.self.now true c.if-ended.false refl c.in-Ok.ensures
+
+pub returns-in-Err : goal.returns-in-Err
+returns-in-Err g c = open_counted g.I.FallibleIterator.contract c.args.self.now c.args.self.now.ended c.if-ended.false c.if-ended.false c.in-Err.ensures

@@ -1,23 +1,23 @@
--- What the first counts, and then the second, are added up; where one side alone is still drawn, it is what that side counts.
-use Rattle.std.specs.Prelude.{◌^◌, ◌-◌, Ok, Err}
-use Rattle.std.proofs.Common.{arith}
-use Rattle.fallible_core.proofs.Lemmas.Joining.ChainConsuming.{counts_over, counts_failure, left_first_alone, left_second_alone, sum_fits}
+-- What the first counts, and then the second from that number on; where one side alone is still drawn, it is what that side counts.
+use Rattle.std.specs.Prelude.{◌^◌, ◌-◌}
+use Rattle.std.proofs.Common.{refl}
+use Rattle.fallible_core.specs.Joining.Chain.{chain_parts}
+use Rattle.fallible_core.proofs.Lemmas.Joining.Chain.{of_parts}
+use Rattle.fallible_core.proofs.Lemmas.Joining.ChainFolds.{both_not_second, drains_first, drains_first_alone, drains_second_alone, drains_over}
+use Rattle.fallible_core.proofs.Lemmas.Joining.ChainConsuming.{count_joins, over_no_end, rest_fits}
 use Rattle.fallible_core.proofs.joining.chain.ChainFallibleIterator.drive_count.Goals as goal
 
-pub overflow_add-result : goal.overflow_add-result
-overflow_add-result g c = let fits = sum_fits g.T.FallibleIterator.contract g.U.FallibleIterator.contract (2 ^ 64 - 1) c.in-Ok.before c.in-Ok-drive_count.after g.met.T.FallibleIterator.lawful g.met.U.FallibleIterator.lawful c.requires.can_next.0 c.requires.can_next.1 c.in-Both.is c.requires.fits c.in-Ok.ensures c.in-Ok-drive_count.ensures in omega (arith, fits)
+pub drive_count-requires-in-Ok-clause-fits : goal.drive_count-requires-in-Ok-clause-fits
+drive_count-requires-in-Ok-clause-fits g c = rest_fits g.T.FallibleIterator.contract g.U.FallibleIterator.contract (2 ^ 64 - 1) g.met.T.FallibleIterator.lawful c.requires.can_next.0 c.in-Both.is c.requires.fits c.in-Ok.ensures
 
-pub returns-in-Ok-drive_count : goal.returns-in-Ok-drive_count
-returns-in-Ok-drive_count g c = counts_over g.T.FallibleIterator.contract g.U.FallibleIterator.contract (Ok c.in-Ok-drive_count.after) c.in-Both.is c.in-Ok.ensures c.in-Ok-drive_count.ensures
-
-pub returns-in-Err-drive_count : goal.returns-in-Err-drive_count
-returns-in-Err-drive_count g c = counts_over g.T.FallibleIterator.contract g.U.FallibleIterator.contract (Err c.in-Err-drive_count.e) c.in-Both.is c.in-Ok.ensures c.in-Err-drive_count.ensures
+pub returns-in-Ok : goal.returns-in-Ok
+returns-in-Ok g c = drains_over chain_parts of_parts (λ p. refl) g.T.FallibleIterator.contract g.U.FallibleIterator.contract c.in-Both.is refl count_joins c.in-Ok.ensures c.drive_count-in-Ok.ensures
 
 pub returns-in-Err : goal.returns-in-Err
-returns-in-Err g c = counts_failure g.T.FallibleIterator.contract g.U.FallibleIterator.contract c.in-Both.is c.in-Err.ensures
+returns-in-Err g c = drains_first chain_parts of_parts (λ p. refl) g.T.FallibleIterator.contract g.U.FallibleIterator.contract (both_not_second c.in-Both.is) refl refl (λ items last k. over_no_end last c.in-Err.e k.exit) c.in-Err.ensures
 
 pub returns-in-FirstAlone : goal.returns-in-FirstAlone
-returns-in-FirstAlone g c = left_first_alone g.T.FallibleIterator.contract g.U.FallibleIterator.contract c.in-FirstAlone.is c.drive_count-in-FirstAlone.ensures
+returns-in-FirstAlone g c = drains_first_alone chain_parts of_parts (λ p. refl) g.T.FallibleIterator.contract g.U.FallibleIterator.contract c.in-FirstAlone.is refl c.in-FirstAlone.is c.drive_count-in-FirstAlone.ensures
 
 pub returns-in-SecondAlone : goal.returns-in-SecondAlone
-returns-in-SecondAlone g c = left_second_alone g.T.FallibleIterator.contract g.U.FallibleIterator.contract c.in-SecondAlone.is c.drive_count-in-SecondAlone.ensures
+returns-in-SecondAlone g c = drains_second_alone chain_parts of_parts (λ p. refl) g.T.FallibleIterator.contract g.U.FallibleIterator.contract c.in-SecondAlone.is refl c.in-SecondAlone.is c.drive_count-in-SecondAlone.ensures

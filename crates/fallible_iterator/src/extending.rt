@@ -1,0 +1,10 @@
+//! What an adapter, a search or a consumer of one's own is made of: what becomes of an item, the turns of folds and searches, what is read off their answers, the folds of the source, and the hints' arithmetic.
+pub use fallible_contract::comparing::{ReadEq, Reading, ordered};
+pub use fallible_contract::folds::{Beside, CountTurn, FirstTurn, NthTurn, answer_within};
+pub use fallible_contract::hints::{kept, less, one_more, smaller, sum, up_to};
+pub use fallible_contract::passing::{Outcome, Pass, PassTurn, passed};
+pub use fallible_contract::searching::{
+    AnyTurn, FindTest, FindTurn, ForEachTurn, PositionTurn, answer_or, answer_or_none, found,
+};
+pub use fallible_core::comparing::number_of_either;
+pub use fallible_core::passing::{drive_back_passing, drive_passing};
