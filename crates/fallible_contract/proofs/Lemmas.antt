@@ -7,6 +7,8 @@ pub mod Comparing
 pub mod Contract
 pub mod ByNumber
 pub mod Exchange
+pub mod Failing
+pub mod FailingFolds
 pub mod Folding
 pub mod Folds
 pub mod Held

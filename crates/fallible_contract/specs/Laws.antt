@@ -6,6 +6,7 @@ pub mod Contract
 pub mod ByNumber
 pub mod Ends
 pub mod Exchange
+pub mod Failing
 pub mod Own
 pub mod Passing
 pub mod Showing

@@ -9,6 +9,7 @@ pub mod Contract
 pub mod ByNumber
 pub mod Ends
 pub mod Exchange
+pub mod Failing
 pub mod Folding
 pub mod Folds
 pub mod Held

@@ -4,6 +4,7 @@
 pub mod answers;
 pub mod collecting;
 pub mod comparing;
+pub mod failing;
 pub mod folds;
 pub mod hints;
 pub mod passing;

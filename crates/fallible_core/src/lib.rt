@@ -5,6 +5,7 @@ pub mod bridges;
 pub mod comparing;
 pub mod cutting;
 pub mod ends;
+pub mod failing;
 pub mod filtering;
 pub mod joining;
 pub mod number;

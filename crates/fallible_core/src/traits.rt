@@ -9,6 +9,7 @@ ghost use Rattle.fallible_contract.specs.Lists.{rest_first, rest_nth, rest_true,
 ghost use Rattle.fallible_contract.specs.Comparing.{OneIsFinite, by_cmp, by_eq, read_as, reads_eq, reads_ne, reads_lt, reads_le, reads_gt, reads_ge, ComparedWith, ReadWith};
 ghost use Rattle.fallible_contract.specs.Picking.{call_at_two, takes_at_two, PickCall, takes_in_pick, Picked, KeyCall, Best, BestByKey};
 ghost use Rattle.fallible_contract.specs.Searching.{CallableInSearch, Searched, all_pick, any_pick, find_map_pick, find_pick, position_pick, each_pick};
+ghost use Rattle.fallible_contract.specs.Failing.{failures_mapped};
 ghost use Rattle.fallible_contract.specs.Folds.{HoldsAtEachTurn, CallableDriving, Driven, CallableInFold, call_with, takes_with, Folded, CountedOn, Counted, LastOf, Nth, ReduceCall, reduce_takes};
 ghost use Rattle.fallible_core.specs.OneToOne.Enumerate.{IsNumberable, enumerate_parts, enumerate_contract, numbered};
 ghost use Rattle.fallible_core.specs.Filtering.SkipWhile.{skip_call, skip_takes, skip_while_parts, skip_while_contract, skipped_while, skip_while_source, skip_while_found, skip_while_predicate};
@@ -18,7 +19,7 @@ ghost use Rattle.fallible_core.specs.OneToOne.Inspect.{inspect_parts, inspect_co
 ghost use Rattle.fallible_core.specs.Filtering.Filter.{filter_parts, filter_contract, filtered};
 ghost use Rattle.fallible_core.specs.Filtering.FilterMap.{filter_map_parts, filter_map_contract, filter_mapped};
 ghost use Rattle.fallible_core.specs.OneToOne.MapWhile.{map_while_parts, map_while_contract, mapped_while};
-ghost use Rattle.fallible_core.specs.OneToOne.MapErr.{map_err_parts, map_err_contract, failures_mapped};
+ghost use Rattle.fallible_core.specs.OneToOne.MapErr.{map_err_parts, map_err_contract};
 ghost use Rattle.fallible_core.specs.OneToOne.Cloned.{cloned_parts, cloned_contract, pointed_to};
 ghost use Rattle.fallible_core.specs.Ends.Rev.{rev_parts, rev_contract};
 ghost use Rattle.fallible_core.specs.Cutting.Take.{take_parts, take_contract, taken};

@@ -6,5 +6,4 @@ pub mod Inspect
 pub mod Map
 pub mod MapErr
 pub mod MapWhile
-pub mod MapErrFolds
 pub mod Scan

@@ -1,15 +1,17 @@
 // The adapter that calls a closure on each failure.
-ghost use Rattle.std.specs.Prelude.{Some, Result, Option};
+ghost use Rattle.std.specs.Prelude.{Result, Option};
 ghost use Rattle.fallible_contract.specs.Contract.{seen_as};
 ghost use Rattle.fallible_contract.specs.Closures.{call_on, takes_on};
 ghost use Rattle.fallible_contract.specs.Ends.{from_back, ends_of, ends_seen_as};
 ghost use Rattle.fallible_contract.specs.Laws.Contract.{lawful_seen};
 ghost use Rattle.fallible_contract.specs.Laws.Ends.{lawful_ends_seen};
-ghost use Rattle.fallible_core.specs.OneToOne.MapErr.{MapErrAnswer, TakesFailure, map_err_contract, map_err_parts};
+ghost use Rattle.fallible_core.specs.OneToOne.MapErr.{map_err_contract, map_err_parts};
 ghost use Rattle.fallible_core.specs.Laws.OneToOne.MapErr.{lawful_map_err, lawful_ends_map_err};
 
+use crate::failing::{drive_back_failing, drive_failing};
 use crate::traits::FallibleIterator;
 use crate::traits::double_ended::DoubleEndedFallibleIterator;
+use fallible_contract::failing::{Fail, failed};
 use fallible_contract::folds::Turn;
 
 /// The source with each failure replaced by the closure's value on it. Its failures are those values; items and ends pass.
@@ -28,7 +30,7 @@ impl<I: FallibleIterator, B, F: FnMut(I::Error) -> B> FallibleIterator for MapEr
 
     /// Draws one answer, and calls the closure where it is a failure.
     fn next(&mut self) -> Result<Option<I::Item>, B> {
-        answer(self.it.next(), &mut self.f)
+        failed(self.it.next(), &mut self.f, &MapErrFail)
     }
 
     fn size_hint(&self) -> (usize, Option<usize>) {
@@ -40,7 +42,7 @@ impl<I: FallibleIterator, B, F: FnMut(I::Error) -> B> FallibleIterator for MapEr
         state: &mut C,
         turn: &K,
     ) -> Result<Option<R>, B> {
-        answer(self.it.drive(state, turn), &mut self.f)
+        drive_failing(&mut self.it, &mut self.f, &MapErrFail, state, turn)
     }
 
     /// The source's count, or the closure's value on the failure that it met.
@@ -48,21 +50,21 @@ impl<I: FallibleIterator, B, F: FnMut(I::Error) -> B> FallibleIterator for MapEr
     where
         I::Item: Drop,
     {
-        answer(self.it.drive_count(number), &mut self.f)
+        failed(self.it.drive_count(number), &mut self.f, &MapErrFail)
     }
 
     fn drive_last(&mut self) -> Result<Option<I::Item>, B>
     where
         I::Item: Drop,
     {
-        answer(self.it.drive_last(), &mut self.f)
+        failed(self.it.drive_last(), &mut self.f, &MapErrFail)
     }
 
     fn drive_nth(&mut self, n: usize) -> Result<Option<I::Item>, B>
     where
         I::Item: Drop,
     {
-        answer(self.it.drive_nth(n), &mut self.f)
+        failed(self.it.drive_nth(n), &mut self.f, &MapErrFail)
     }
 
     ghost lawful = { lawful_seen map_err_parts (lawful_map_err F.FnMut I.lawful) };
@@ -75,7 +77,7 @@ impl<I: DoubleEndedFallibleIterator, B, F: FnMut(I::Error) -> B> DoubleEndedFall
 
     /// Draws one answer from the back, and calls the closure where it is a failure.
     fn next_back(&mut self) -> Result<Option<I::Item>, B> {
-        answer(self.it.next_back(), &mut self.f)
+        failed(self.it.next_back(), &mut self.f, &MapErrFail)
     }
 
     fn drive_back<C, R, K: Turn<C, I::Item, R>>(
@@ -83,20 +85,26 @@ impl<I: DoubleEndedFallibleIterator, B, F: FnMut(I::Error) -> B> DoubleEndedFall
         state: &mut C,
         turn: &K,
     ) -> Result<Option<R>, B> {
-        answer(self.it.drive_back(state, turn), &mut self.f)
+        drive_back_failing(&mut self.it, &mut self.f, &MapErrFail, state, turn)
     }
 
     ghost lawful_ends = { lawful_ends_seen map_err_parts
         (lawful_ends_map_err F.FnMut I.lawful_ends) };
 }
 
-// What the closure makes of one answer of the source, or of what a call of the source answers: it is called where that is a failure.
-fn answer<C, D, E, F: FnMut(D) -> E>(made: Result<C, D>, f: &mut F) -> Result<C, E>
-    requires { TakesFailure (takes_on F.FnMut) f.old made }
-    ensures { MapErrAnswer (call_on F.FnMut) f.old made result f.new }
-{
-    match made {
-        Ok(c) => Ok(c),
-        Err(e) => Err(f(e)),
+// The closure's value on a failure.
+#[derive(Drop)]
+struct MapErrFail;
+
+impl<D, E, F: FnMut(D) -> E> Fail<F, D> for MapErrFail {
+    type Failure = E;
+
+    ghost can_fail = { λ _ f d. takes_on F.FnMut f d };
+
+    ghost call = { λ _ f d e g. call_on F.FnMut f d e g };
+
+    #[inline(always)]
+    fn fail(&self, state: &mut F, failure: D) -> E {
+        state(failure)
     }
 }

@@ -1,72 +1,17 @@
--- The runs of `MapErr` are the traces that its definition names, and what it lists.
-use Rattle.std.specs.Prelude.{◌≡◌, List, [], ◌∷◌, map, Result, Some, None, Ok, Err}
+-- What `MapErr` lists.
+use Rattle.std.specs.Prelude.{◌≡◌, List, Result}
 use Rattle.std.specs.Fn.{Mut}
-use Rattle.std.proofs.Common.{refl, sym, ap, subst, ◌∙◌}
-use Rattle.fallible_contract.specs.Traces.{Answered}
-use Rattle.fallible_contract.specs.Closures.{Steady, call_on}
+use Rattle.std.proofs.Common.{refl, subst}
+use Rattle.fallible_contract.specs.Closures.{call_on}
 use Rattle.fallible_contract.specs.Contract.{Contract, seen_as}
-use Rattle.fallible_contract.specs.Exchange.{exchanged, exchanged_result, steps_exchanged}
-use Rattle.fallible_contract.specs.Passing.{passing_step}
+use Rattle.fallible_contract.specs.Failing.{failures_mapped}
 use Rattle.fallible_contract.specs.Lists.{Lists, Acts}
-use Rattle.fallible_contract.specs.BothEnds.{ListsBothEnds, items_listed, failures_listed, source_list, passed_list}
-use Rattle.fallible_contract.proofs.Lemmas.LawForm.{IsByAnswers, answers_renamed}
-use Rattle.fallible_contract.proofs.Lemmas.Passing.{passing_by_answers, answer_passed}
-use Rattle.fallible_contract.proofs.Lemmas.Exchange.{gives_exchanged, listed_exchanged, list_exchanged_twice}
-use Rattle.fallible_contract.proofs.Lemmas.Lists.Passing.{passed, lists_seen, lists_passed}
-use Rattle.fallible_contract.proofs.Lemmas.BothEnds.Passing.{listed_passed, listed_by_function}
-use Rattle.fallible_core.specs.OneToOne.MapErr.{failures_mapped, map_err_outcome, MapErrTrace, MapErrAnswer, map_err_parts, map_err_contract}
-use Rattle.fallible_contract.specs.declared.passing.Outcome.TheVariants.{End}
+use Rattle.fallible_contract.proofs.Lemmas.Failing.{gives_failing}
+use Rattle.fallible_contract.proofs.Lemmas.Lists.Passing.{lists_seen}
+use Rattle.fallible_core.specs.OneToOne.MapErr.{map_err_parts, map_err_contract}
 use Rattle.fallible_core.specs.declared.one_to_one.map_err.MapErr.{MapErr}
-
-pub map_err_by_answers : {S F X D E : Type 0} (steps : S → Answered X D → S → Type 0) (call : F → D → E → F → Type 0) → IsByAnswers (MapErrTrace steps call)
-map_err_by_answers steps call = answers_renamed exchanged (passing_by_answers (steps_exchanged steps) call map_err_outcome)
-
--- what it makes of one answer of its source is its trace of one answer
-pub map_err_answered : {S F X D E : Type 0} (steps : S → Answered X D → S → Type 0) {call : F → D → E → F → Type 0} {s t : S} {f g : F} (r : Answered X E) (drawn : Answered X D) → steps s drawn t → MapErrAnswer call f drawn r g → MapErrTrace steps call (s, f) (r ∷ []) (t, g)
-map_err_answered steps r (Ok (Some x)) step made = answer_passed (Err x) step (ap exchanged made.0, made.1)
-map_err_answered steps r (Ok None) step made = answer_passed (Ok None) step (ap exchanged made.0, made.1)
-map_err_answered steps r (Err d) step made = answer_passed (Ok (Some d)) step (made.0, made.1, ap (λ q. Some (exchanged q)) (sym made.2))
-
--- ---- what it lists is what `Map` does, exchanged
-
-never_ends : {X D E : Type 0} (d : D) (e : E) → map_err_outcome {X = X} d e ≡ End → ⊥
-never_ends d e is = absurd cc
-
--- What replaces the items of a list and nothing else replaces the failures of the list exchanged.
-module _ {X D E : Type 0} (k : List (Result D X) → List (Result E X)) (h : D → E) (none : k [] ≡ []) (at_item : (d : D) (l : List (Result D X)) → k (Ok d ∷ l) ≡ Ok (h d) ∷ k l) (at_failure : (x : X) (l : List (Result D X)) → k (Err x ∷ l) ≡ Err x ∷ k l) where
-  mapped_exchanged : (l : List (Result X D)) → k (map exchanged_result l) ≡ map exchanged_result (failures_mapped h l)
-  unfolding failures_mapped
-  mapped_exchanged [] = none
-  mapped_exchanged (Ok x ∷ l) = at_failure x (map exchanged_result l) ∙ ap {B = List (Result E X)} (λ j. Err x ∷ j) (mapped_exchanged l)
-  mapped_exchanged (Err d ∷ l) = at_item d (map exchanged_result l) ∙ ap {B = List (Result E X)} (λ j. Ok (h d) ∷ j) (mapped_exchanged l)
-
-mapped_back : {X D E : Type 0} (h : D → E) (l : List (Result X D)) → map exchanged_result (passed map_err_outcome (λ (p : Unit {0}) d. h d) (λ p d. p) tt (map exchanged_result l)) ≡ failures_mapped h l
-mapped_back h l = ap (map exchanged_result) (mapped_exchanged (passed map_err_outcome (λ (p : Unit {0}) d. h d) (λ p d. p) tt) h refl (λ d k. refl) (λ x k. refl) l) ∙ list_exchanged_twice (failures_mapped h l)
 
 pub lists_failures_mapped : {S F X D E : Type 0} (m : Contract S X D) (g : Mut F (D × Unit {0}) E) (s : MapErr S F) (f : F) (h : D → E) (l : List (Result X D)) → map_err_parts s ≡ (s.it, f) → Acts (call_on g) f h → Lists m.steps s.it l
     → Lists (seen_as map_err_parts (map_err_contract m g)).steps s (failures_mapped h l)
-lists_failures_mapped m g s f h l parts a i = lists_seen map_err_parts (map_err_contract m g).steps s parts (mapped_back h l)
-    (gives_exchanged (passing_step (steps_exchanged m.steps) (call_on g) map_err_outcome) _ (s.it, f) (lists_passed (call_on g) f h a (steps_exchanged m.steps) map_err_outcome s.it (map exchanged_result l) (gives_exchanged m.steps l s.it i.runs)))
-
--- the failures of a list are the items of the list exchanged
-asked_exchanged : {A E : Type 0} (l : List (Result A E)) → items_listed (map exchanged_result l) ≡ failures_listed l
-asked_exchanged [] = refl
-asked_exchanged (Ok x ∷ l) = asked_exchanged l
-asked_exchanged (Err e ∷ l) = ap (λ k. e ∷ k) (asked_exchanged l)
-
-module _ {S F X D E : Type 0} (front back : S → Answered X D → S → Type 0) (call : F → D → E → F → Type 0) (s : S) (f : F) where
-  abbrev ListsMapped : List (Result X E) → Type 0
-  ListsMapped l = ListsBothEnds (λ p r q. MapErrTrace front call p (r ∷ []) q) (λ p r q. MapErrTrace back call p (r ∷ []) q) (s, f) l
-
-  back_exchanged : (k : List (Result E X)) (l : List (Result X E)) → map exchanged_result k ≡ l → ListsBothEnds (passing_step (steps_exchanged front) call map_err_outcome) (passing_step (steps_exchanged back) call map_err_outcome) (s, f) k → ListsMapped l
-  back_exchanged k l is i = subst (λ (j : List (Result X E)). ListsMapped j) is (listed_exchanged (passing_step (steps_exchanged front) call map_err_outcome) (passing_step (steps_exchanged back) call map_err_outcome) (s, f) k i)
-
-  -- the closure's answers on the failures, where it is steady on them
-  pub listed_failures : (asked : List (Result X (D × E))) → Steady call f (failures_listed asked) → ListsBothEnds front back s (failures_mapped (λ c. c.0) asked) → ListsMapped (failures_mapped (λ c. c.1) asked)
-  listed_failures asked steady i = back_exchanged _ _ (ap (map exchanged_result) (mapped_exchanged (passed_list map_err_outcome) (λ c. c.1) refl (λ c k. refl) (λ x k. refl) asked) ∙ list_exchanged_twice (failures_mapped (λ c. c.1) asked))
-      (listed_passed (steps_exchanged front) (steps_exchanged back) call map_err_outcome never_ends (map exchanged_result asked) s f (subst (λ (c : List (D × E)). Steady call f c) (sym (asked_exchanged asked)) steady)
-      (subst (λ (k : List (Result D X)). ListsBothEnds (steps_exchanged front) (steps_exchanged back) s k) (sym (mapped_exchanged source_list (λ c. c.0) refl (λ c k. refl) (λ x k. refl) asked)) (listed_exchanged front back s (failures_mapped (λ c. c.0) asked) i)))
-
-  -- the same, where it acts as a function
-  pub listed_function : (h : D → E) → Acts call f h → (l : List (Result X D)) → ListsBothEnds front back s l → ListsMapped (failures_mapped h l)
-  listed_function h acts l i = back_exchanged _ _ (mapped_back h l) (listed_by_function call map_err_outcome never_ends f h acts (steps_exchanged front) (steps_exchanged back) s (map exchanged_result l) (listed_exchanged front back s l i))
+lists_failures_mapped {F = F} m g s f h l parts a i = lists_seen map_err_parts (map_err_contract m g).steps s parts refl
+    (gives_failing (call_on g) (λ k. k ≡ f) h (λ k d e n at called. a d e n (subst (λ (z : F). call_on g z d e n) at called)) m.steps s.it f l refl i.runs)

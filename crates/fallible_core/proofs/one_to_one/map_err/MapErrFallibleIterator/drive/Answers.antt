@@ -1,12 +1,9 @@
--- A fold of the source, and the call where it met a failure.
-use Rattle.fallible_core.proofs.Lemmas.OneToOne.MapErrFolds.{drive_fails, drained_map_err, holds_map_err, takes_made}
+-- The fold of such an adapter.
+use Rattle.fallible_contract.proofs.Lemmas.Folding.{holds_into, drained_into}
 use Rattle.fallible_core.proofs.one_to_one.map_err.MapErrFallibleIterator.drive.Goals as goal
 
-pub drive-requires-clause-callable : goal.drive-requires-clause-callable
-drive-requires-clause-callable g c = holds_map_err c.args.self.now.f c.requires.callable
-
-pub answer-requires : goal.answer-requires
-answer-requires g c = takes_made g.met.I.FallibleIterator.lawful g.F.FnMut (drive_fails (g.K.Turn.turns c.args.turn.now) _ _) c.requires.can_next c.drive.ensures
+pub drive_failing-requires-clause-callable : goal.drive_failing-requires-clause-callable
+drive_failing-requires-clause-callable g c = holds_into (λ p. record { it = p.0; f = p.1 }) (λ p x q step. step) c.requires.callable
 
 pub returns : goal.returns
-returns g c = drained_map_err _ _ (drive_fails (g.K.Turn.turns c.args.turn.now) _ _) c.drive.ensures c.answer.ensures
+returns g c = drained_into (λ p. record { it = p.0; f = p.1 }) (λ p r q step. step) c.drive_failing.ensures

@@ -1,9 +1,11 @@
 -- The source's count, and the call where it met a failure.
-use Rattle.fallible_core.proofs.Lemmas.OneToOne.MapErrFolds.{count_fails, drained_map_err, takes_made}
+use Rattle.fallible_contract.specs.Closures.{call_on, takes_on}
+use Rattle.fallible_contract.proofs.Lemmas.FailingFolds.{count_fails, drained_failing, takes_made}
+use Rattle.fallible_contract.proofs.Lemmas.Folding.{drained_into}
 use Rattle.fallible_core.proofs.one_to_one.map_err.MapErrFallibleIterator.drive_count.Goals as goal
 
-pub answer-requires : goal.answer-requires
-answer-requires g c = takes_made g.met.I.FallibleIterator.lawful g.F.FnMut (count_fails _ _) c.requires.can_next c.drive_count.ensures
+pub failed-requires : goal.failed-requires
+failed-requires g c = takes_made g.met.I.FallibleIterator.lawful (call_on g.F.FnMut) (takes_on g.F.FnMut) (count_fails _ _) c.requires.can_next c.drive_count.ensures
 
 pub returns : goal.returns
-returns g c = drained_map_err _ _ (count_fails _ _) c.drive_count.ensures c.answer.ensures
+returns g c = drained_into (λ p. record { it = p.0; f = p.1 }) (λ p r q step. step) (drained_failing _ _ (count_fails _ _) c.drive_count.ensures c.failed.ensures)

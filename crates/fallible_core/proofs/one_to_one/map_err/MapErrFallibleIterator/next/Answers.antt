@@ -1,10 +1,11 @@
 -- One answer of the source, and the call where it is a failure, are the trace of one answer.
-use Rattle.fallible_core.proofs.Lemmas.OneToOne.MapErr.{map_err_answered}
-use Rattle.fallible_core.proofs.Lemmas.OneToOne.MapErrFolds.{takes_drawn}
+use Rattle.fallible_contract.specs.Closures.{call_on, takes_on}
+use Rattle.fallible_contract.proofs.Lemmas.Failing.{failing_answered}
+use Rattle.fallible_contract.proofs.Lemmas.FailingFolds.{takes_drawn}
 use Rattle.fallible_core.proofs.one_to_one.map_err.MapErrFallibleIterator.next.Goals as goal
 
-pub answer-requires : goal.answer-requires
-answer-requires g c = takes_drawn g.met.I.FallibleIterator.lawful g.F.FnMut c.requires _ c.next.ensures
+pub failed-requires : goal.failed-requires
+failed-requires g c = takes_drawn g.met.I.FallibleIterator.lawful (call_on g.F.FnMut) (takes_on g.F.FnMut) c.requires _ c.next.ensures
 
 pub returns : goal.returns
-returns g c = map_err_answered g.I.FallibleIterator.contract.steps _ _ c.next.ensures c.answer.ensures
+returns g c = failing_answered g.I.FallibleIterator.contract.steps _ _ c.next.ensures c.failed.ensures

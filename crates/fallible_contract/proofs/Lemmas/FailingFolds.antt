@@ -1,17 +1,15 @@
--- What a call of the source answers, and the call of the closure where it met a failure, are what that call of `MapErr` answers: so of a fold, a count, a last item and an `nth`.
+-- What a call of the source answers, and the call of the closure where it met a failure, are what that call of an adapter whose closure is called on failures answers: so of a fold, a count, a last item and an `nth`.
 use Rattle.std.specs.Prelude.{◌≡◌, ℕ, length, List, [], ◌∷◌, ◌++◌, map, Option, Result, Some, None, Ok, Err}
-use Rattle.std.specs.Fn.{Mut}
 use Rattle.std.proofs.Common.{refl, sym, subst}
 use Rattle.fallible_contract.specs.Traces.{Answered, Run, item}
 use Rattle.fallible_contract.specs.Contract.{Contract, Lawful}
-use Rattle.fallible_contract.specs.Closures.{IsCallable, call_on, takes_on}
+use Rattle.fallible_contract.specs.Closures.{IsCallable}
+use Rattle.fallible_contract.specs.Failing.{failing_step, FailingAnswer, TakesFailure}
 use Rattle.fallible_contract.specs.Folds.{Drained, HoldsAtEachTurn, DrivenBy, CountedUp, LastBy, NthExit, NthBy}
 use Rattle.fallible_contract.specs.Laws.Closures.{reaches_here, callable_after}
+use Rattle.fallible_contract.proofs.Lemmas.Failing.{failing_answered}
 use Rattle.fallible_contract.proofs.Lemmas.Folding.{holds_into}
-use Rattle.fallible_core.specs.OneToOne.MapErr.{MapErrTrace, MapErrAnswer, TakesFailure, map_err_parts}
-use Rattle.fallible_core.proofs.Lemmas.OneToOne.MapErr.{map_err_answered}
 use Rattle.std.specs.declared.ops.ControlFlow.{ControlFlow}
-use Rattle.fallible_core.specs.declared.one_to_one.map_err.MapErr.{MapErr}
 
 -- ---- what a call answers, by what came
 
@@ -57,36 +55,30 @@ module _ {X D E : Type 0} where
 module _ {F X C D E : Type 0} (call : F → D → E → F → Type 0) (f h : F) {came : Result C D → List X → Answered X D → Type 0} {becomes : Result C E → List X → Answered X E → Type 0} (fails : FailsLast came becomes) where
   -- an answer with which the call comes to what the closure makes of what the source's came to
   abbrev Becomes : List X → Answered X D → Result C E → Type 0
-  Becomes items last r = (answer : Answered X E) × MapErrAnswer call f last answer h × becomes r items answer
+  Becomes items last r = (answer : Answered X E) × FailingAnswer call f last answer h × becomes r items answer
 
-  last_becomes : (items : List X) (last : Answered X D) (made : Result C D) (r : Result C E) → came made items last → MapErrAnswer call f made r h → Becomes items last r
-  last_becomes items (Ok v) made r at k = let value = fails.at_value made items v at in let j = subst (λ z. MapErrAnswer call f z r h) value.1 k in
+  last_becomes : (items : List X) (last : Answered X D) (made : Result C D) (r : Result C E) → came made items last → FailingAnswer call f made r h → Becomes items last r
+  last_becomes items (Ok v) made r at k = let value = fails.at_value made items v at in let j = subst (λ z. FailingAnswer call f z r h) value.1 k in
       (Ok v, (refl, j.1), subst (λ z. becomes z items (Ok v)) (sym j.0) value.2)
-  last_becomes items (Err d) made r at k = let failure = fails.at_failure made items d at in let j = subst (λ z. MapErrAnswer call f z r h) failure.0 k in
+  last_becomes items (Err d) made r at k = let failure = fails.at_failure made items d at in let j = subst (λ z. FailingAnswer call f z r h) failure.0 k in
       (Err j.0, (j.0, j.1, refl), subst (λ z. becomes z items (Err j.0)) (sym j.2) (failure.1 j.0))
 
 -- ---- draws of the source are draws of it
 
-module _ {S F X D E : Type 0} (steps : S → Answered X D → S → Type 0) (g : Mut F (D × Unit {0}) E) where
-  abbrev steps_mapped : MapErr S F → Answered X E → MapErr S F → Type 0
-  steps_mapped p r q = MapErrTrace steps (call_on g) (map_err_parts p) (r ∷ []) (map_err_parts q)
-
-  abbrev at : S → F → MapErr S F
-  at s f = record { it = s; f = f }
-
+module _ {S F X D E : Type 0} (steps : S → Answered X D → S → Type 0) (call : F → D → E → F → Type 0) where
   -- items, and what becomes of the last answer
-  run_to : (items : List X) (last : Answered X D) (answer : Answered X E) (s t : S) (f h : F) → MapErrAnswer (call_on g) f last answer h → Run steps s (map item items ++ last ∷ []) t → Run steps_mapped (at s f) (map item items ++ answer ∷ []) (at t h)
-  run_to [] last answer s t f h made ran = (at t h, map_err_answered steps answer last (subst (λ (u : S). steps s last u) ran.2 ran.1) made, refl)
-  run_to (x ∷ items) last answer s t f h made ran = (at ran.0 f, map_err_answered steps (item x) (item x) ran.1 (refl, refl), run_to items last answer ran.0 t f h made ran.2)
+  run_to : (items : List X) (last : Answered X D) (answer : Answered X E) (s t : S) (f h : F) → FailingAnswer call f last answer h → Run steps s (map item items ++ last ∷ []) t → Run (failing_step steps call) (s, f) (map item items ++ answer ∷ []) (t, h)
+  run_to [] last answer s t f h made ran = ((t, h), failing_answered steps answer last (subst (λ (u : S). steps s last u) ran.2 ran.1) made, refl)
+  run_to (x ∷ items) last answer s t f h made ran = ((ran.0, f), failing_answered steps (item x) (item x) ran.1 (refl, refl), run_to items last answer ran.0 t f h made ran.2)
 
-pub drained_map_err : {S F X C D E : Type 0} {steps : S → Answered X D → S → Type 0} {g : Mut F (D × Unit {0}) E} {s t : S} (f h : F) {came : Result C D → List X → Answered X D → Type 0} {becomes : Result C E → List X → Answered X E → Type 0} → FailsLast came becomes
-    → {made : Result C D} {r : Result C E} → Drained steps (came made) s t → MapErrAnswer (call_on g) f made r h → Drained (steps_mapped steps g) (becomes r) (at steps g s f) (at steps g t h)
-drained_map_err {steps = steps} {g = g} {s = s} {t = t} f h fails {made = made} {r = r} w k = let last = last_becomes (call_on g) f h fails w.items w.last made r w.at k in
-    record { items = w.items; last = last.0; ran = run_to steps g w.items w.last last.0 s t f h last.1 w.ran; at = last.2 }
+pub drained_failing : {S F X C D E : Type 0} {steps : S → Answered X D → S → Type 0} {call : F → D → E → F → Type 0} {s t : S} (f h : F) {came : Result C D → List X → Answered X D → Type 0} {becomes : Result C E → List X → Answered X E → Type 0} → FailsLast came becomes
+    → {made : Result C D} {r : Result C E} → Drained steps (came made) s t → FailingAnswer call f made r h → Drained (failing_step steps call) (becomes r) (s, f) (t, h)
+drained_failing {steps = steps} {call = call} {s = s} {t = t} f h fails {made = made} {r = r} w k = let last = last_becomes call f h fails w.items w.last made r w.at k in
+    record { items = w.items; last = last.0; ran = run_to steps call w.items w.last last.0 s t f h last.1 w.ran; at = last.2 }
 
 -- a turn of it may be taken where one of the source may
-pub holds_map_err : {S F X D E C : Type 0} {steps : S → Answered X D → S → Type 0} {g : Mut F (D × Unit {0}) E} {goes : C → X → C → Type 0} {P : C → X → Type 0} {s : S} {c : C} (f : F) → HoldsAtEachTurn (steps_mapped steps g) goes P (at steps g s f) c → HoldsAtEachTurn steps goes P s c
-holds_map_err {steps = steps} {g = g} f holds = holds_into {held = steps_mapped steps g} (λ u. at steps g u f) (λ u x v step. map_err_answered steps (item x) (item x) step (refl, refl)) holds
+pub holds_failing : {S F X D E C : Type 0} {steps : S → Answered X D → S → Type 0} {call : F → D → E → F → Type 0} {goes : C → X → C → Type 0} {P : C → X → Type 0} {s : S} {c : C} (f : F) → HoldsAtEachTurn (failing_step steps call) goes P (s, f) c → HoldsAtEachTurn steps goes P s c
+holds_failing {steps = steps} {call = call} f holds = holds_into {held = failing_step steps call} (λ u. (u, f)) (λ u x v step. failing_answered steps (item x) (item x) step (refl, refl)) holds
 
 -- ---- the closure may be called on the failure that was met
 
@@ -94,14 +86,14 @@ made_takes : {F X C D E : Type 0} (takes : F → D → Type 0) {came : Result C 
 made_takes takes fails items (Ok v) made f at k = subst (TakesFailure takes f) (sym (fails.at_value made items v at).1) tt
 made_takes takes fails items (Err d) made f at k = subst (TakesFailure takes f) (sym (fails.at_failure made items d at).0) k
 
-module _ {S F X D E : Type 0} {m : Contract S X D} (l : Lawful m) (g : Mut F (D × Unit {0}) E) where
-  takes_at_last : (items : List X) (last : Answered X D) (s t : S) (f : F) → m.can_next s × IsCallable (call_on g) (takes_on g) (m.may_fail s) f → Run m.steps s (map item items ++ last ∷ []) t → TakesFailure (takes_on g) f last
+module _ {S F X D E : Type 0} {m : Contract S X D} (l : Lawful m) (call : F → D → E → F → Type 0) (takes : F → D → Type 0) where
+  takes_at_last : (items : List X) (last : Answered X D) (s t : S) (f : F) → m.can_next s × IsCallable call takes (m.may_fail s) f → Run m.steps s (map item items ++ last ∷ []) t → TakesFailure takes f last
   takes_at_last [] (Ok v) s t f can ran = tt
   takes_at_last [] (Err d) s t f can ran = can.1.at f d reaches_here ((l.kept_by_draw s (Err d) ran.0 can.0 ran.1).answer.0)
   takes_at_last (x ∷ items) last s t f can ran = let a = l.kept_by_draw s (item x) ran.0 can.0 ran.1 in takes_at_last items last ran.0 t f (a.can_next, callable_after a.may_fail reaches_here can.1) ran.2
 
-  pub takes_drawn : {s t : S} {f : F} → m.can_next s × IsCallable (call_on g) (takes_on g) (m.may_fail s) f → (drawn : Answered X D) → m.steps s drawn t → TakesFailure (takes_on g) f drawn
+  pub takes_drawn : {s t : S} {f : F} → m.can_next s × IsCallable call takes (m.may_fail s) f → (drawn : Answered X D) → m.steps s drawn t → TakesFailure takes f drawn
   takes_drawn {s = s} {t = t} {f = f} can drawn step = takes_at_last [] drawn s t f can (t, step, refl)
 
-  pub takes_made : {C : Type 0} {came : Result C D → List X → Answered X D → Type 0} {becomes : Result C E → List X → Answered X E → Type 0} {s t : S} {f : F} {made : Result C D} → FailsLast came becomes → m.can_next s × IsCallable (call_on g) (takes_on g) (m.may_fail s) f → Drained m.steps (came made) s t → TakesFailure (takes_on g) f made
-  takes_made {s = s} {t = t} {f = f} {made = made} fails can w = made_takes (takes_on g) fails w.items w.last made f w.at (takes_at_last w.items w.last s t f can w.ran)
+  pub takes_made : {C : Type 0} {came : Result C D → List X → Answered X D → Type 0} {becomes : Result C E → List X → Answered X E → Type 0} {s t : S} {f : F} {made : Result C D} → FailsLast came becomes → m.can_next s × IsCallable call takes (m.may_fail s) f → Drained m.steps (came made) s t → TakesFailure takes f made
+  takes_made {s = s} {t = t} {f = f} {made = made} fails can w = made_takes takes fails w.items w.last made f w.at (takes_at_last w.items w.last s t f can w.ran)

@@ -1,0 +1,84 @@
+-- Adapters whose closure is called on failures. They are those that call one on items, with items and failures exchanged.
+use Rattle.std.specs.Prelude.{◌≡◌, ℕ, Option, List, [], ◌∷◌, map, Result, Some, None, Ok, Err, ⊤}
+use Rattle.std.specs.Iterator.{IsFinite, size}
+use Rattle.fallible_contract.specs.Traces.{Answered}
+use Rattle.fallible_contract.specs.Contract.{Contract}
+use Rattle.fallible_contract.specs.Closures.{IsCallable, MayAnswer}
+use Rattle.fallible_contract.specs.Exchange.{exchanged, steps_exchanged}
+use Rattle.fallible_contract.specs.Passing.{PassTrace, leaving_out_contract}
+use Rattle.fallible_contract.specs.declared.passing.Outcome.{Outcome}
+use Rattle.fallible_contract.specs.declared.passing.Outcome.TheVariants.{Kept, LeftOut, Failure}
+
+-- ---- each failure has another in its place
+
+-- what the closure answers on a failure stands in its place
+abbrev pub failing_outcome : {X D E : Type 0} → D → E → Outcome E X
+failing_outcome d e = Kept e
+
+-- The source's trace, where what the closure answers on a failure stands in its place: items and failures exchanged, it is that of an adapter that keeps each item as another. So the closure is called on the failures in order, and on nothing else. The parts are the source and what holds the closure.
+abbrev pub FailingTrace : {S F X D E : Type 0} → (S → Answered X D → S → Type 0) → (F → D → E → F → Type 0) → S × F → List (Answered X E) → S × F → Type 0
+FailingTrace steps call p trace q = PassTrace (steps_exchanged steps) call failing_outcome p (map exchanged trace) q
+
+-- one draw of such an adapter: its trace of one answer
+abbrev pub failing_step : {S F X D E : Type 0} → (S → Answered X D → S → Type 0) → (F → D → E → F → Type 0) → S × F → Answered X E → S × F → Type 0
+failing_step steps call p r q = FailingTrace steps call p (r ∷ []) q
+
+-- The contract of such an adapter: the closure may be called on each failure that may come, in each state that such calls bring it to; all else is the source's.
+abbrev pub failing_contract : {S F X D E : Type 0} → Contract S X D → (F → D → E → F → Type 0) → (F → D → Type 0) → Contract (S × F) X E
+failing_contract m call takes = record {
+  can_next = λ p. m.can_next p.0 × IsCallable call takes (m.may_fail p.0) p.1;
+  steps = λ p r q. FailingTrace m.steps call p (r ∷ []) q;
+  bound = λ p n. m.bound p.0 n;
+  is_finite = λ p. m.is_finite p.0;
+  remaining = λ p. m.remaining p.0;
+  may_give = λ p x. m.may_give p.0 x;
+  may_fail = λ p e. MayAnswer call (m.may_fail p.0) p.1 (λ d v. v ≡ e);
+  hints = λ p h. m.hints p.0 h;
+  lenders = λ p. m.lenders p.0;
+}
+
+-- What such an adapter makes of one answer of its source, or of what a call of its source answers: a failure becomes the closure's answer on it; all else passes, without a call.
+abbrev pub FailingAnswer : {F C D E : Type 0} → (F → D → E → F → Type 0) → F → Result C D → Result C E → F → Type 0
+FailingAnswer call f (Ok v) r g = (r ≡ Ok v) × (g ≡ f)
+FailingAnswer {E = E} call f (Err d) r g = (e : E) × call f d e g × (r ≡ Err e)
+
+-- where that is a failure, the closure may be called on it
+abbrev pub TakesFailure : {F C D : Type 0} → (F → D → Type 0) → F → Result C D → Type 0
+TakesFailure pre f (Ok v) = ⊤
+TakesFailure pre f (Err d) = pre f d
+
+-- h e in the place of each failure e
+unfoldable pub failures_mapped : {A D E : Type 0} → (D → E) → List (Result A D) → List (Result A E)
+failures_mapped h [] = []
+failures_mapped h (Ok x ∷ l) = Ok x ∷ failures_mapped h l
+failures_mapped h (Err e ∷ l) = Err (h e) ∷ failures_mapped h l
+
+-- ---- a failure may become an item, or nothing
+
+-- a contract with items and failures exchanged: its items are the failures to come, so its bound is what remains
+abbrev pub exchanged_contract : {S A E : Type 0} → Contract S A E → Contract S E A
+exchanged_contract m = record {
+  can_next = λ s. m.can_next s;
+  steps = steps_exchanged m.steps;
+  bound = λ s n. IsFinite (m.remaining s) × (size (m.remaining s) ≡ n);
+  is_finite = λ s. IsFinite (m.remaining s);
+  remaining = λ s. m.remaining s;
+  may_give = λ s e. m.may_fail s e;
+  may_fail = λ s x. m.may_give s x;
+  hints = λ s h. m.hints s h;
+  lenders = λ s. m.lenders s;
+}
+
+-- A failure is replaced by the item that the closure answers, left out where it answers none, and replaced by a failure of it.
+abbrev pub recovering_outcome : {X D E : Type 0} → D → Result (Option X) E → Outcome E X
+recovering_outcome d (Ok (Some x)) = Failure x
+recovering_outcome d (Ok None) = LeftOut
+recovering_outcome d (Err e) = Kept e
+
+-- The source's trace without the failures on which the closure answers none, where what it answers on each other failure stands in its place. It doesn't end in a failure that is left out.
+abbrev pub RecoveringTrace : {S F X D E : Type 0} → (S → Answered X D → S → Type 0) → (F → D → Result (Option X) E → F → Type 0) → S × F → List (Answered X E) → S × F → Type 0
+RecoveringTrace steps call p trace q = PassTrace (steps_exchanged steps) call recovering_outcome p (map exchanged trace) q
+
+-- The contract of such an adapter is that of one that leaves items out, with items and failures exchanged. So it asks that what remains of the source has a bound, which is its own bound too. Nothing is known of how many items come, so its hint says nothing.
+abbrev pub recovering_contract : {S F X D E : Type 0} → Contract S X D → (F → D → Result (Option X) E → F → Type 0) → (F → D → Type 0) → Contract (S × F) X E
+recovering_contract m call takes = exchanged_contract (leaving_out_contract (exchanged_contract m) call (λ P f. IsCallable call takes P f) recovering_outcome (λ p h. h ≡ (0, None)))
