@@ -19,5 +19,6 @@ pub mod Overriding
 pub mod Partitioning
 pub mod Passing
 pub mod Picking
+pub mod Recovering
 pub mod Searching
 pub mod ShownTraces

@@ -1,5 +1,5 @@
 -- Adapters whose closure is called on failures. They are those that call one on items, with items and failures exchanged.
-use Rattle.std.specs.Prelude.{◌≡◌, ℕ, Option, List, [], ◌∷◌, map, Result, Some, None, Ok, Err, ⊤}
+use Rattle.std.specs.Prelude.{◌≡◌, ℕ, ◌≤◌, Option, List, [], ◌∷◌, map, Result, Some, None, Ok, Err, ⊤}
 use Rattle.std.specs.Iterator.{IsFinite, size}
 use Rattle.fallible_contract.specs.Traces.{Answered}
 use Rattle.fallible_contract.specs.Contract.{Contract}
@@ -7,7 +7,7 @@ use Rattle.fallible_contract.specs.Closures.{IsCallable, MayAnswer}
 use Rattle.fallible_contract.specs.Exchange.{exchanged, steps_exchanged}
 use Rattle.fallible_contract.specs.Passing.{PassTrace, leaving_out_contract}
 use Rattle.fallible_contract.specs.declared.passing.Outcome.{Outcome}
-use Rattle.fallible_contract.specs.declared.passing.Outcome.TheVariants.{Kept, LeftOut, Failure}
+use Rattle.fallible_contract.specs.declared.passing.Outcome.TheVariants.{Kept, LeftOut, Failure, End}
 
 -- ---- each failure has another in its place
 
@@ -55,13 +55,13 @@ failures_mapped h (Err e ∷ l) = Err (h e) ∷ failures_mapped h l
 
 -- ---- a failure may become an item, or nothing
 
--- a contract with items and failures exchanged: its items are the failures to come, so its bound is what remains
+-- A contract with items and failures exchanged. Its items are the source's failures, so what remains of the source bounds them; it is finite where the source is and what remains has a bound.
 abbrev pub exchanged_contract : {S A E : Type 0} → Contract S A E → Contract S E A
 exchanged_contract m = record {
   can_next = λ s. m.can_next s;
   steps = steps_exchanged m.steps;
-  bound = λ s n. IsFinite (m.remaining s) × (size (m.remaining s) ≡ n);
-  is_finite = λ s. IsFinite (m.remaining s);
+  bound = λ s n. m.is_finite s × IsFinite (m.remaining s) × (size (m.remaining s) ≤ n);
+  is_finite = λ s. m.is_finite s × IsFinite (m.remaining s);
   remaining = λ s. m.remaining s;
   may_give = λ s e. m.may_fail s e;
   may_fail = λ s x. m.may_give s x;
@@ -69,16 +69,21 @@ exchanged_contract m = record {
   lenders = λ s. m.lenders s;
 }
 
--- A failure is replaced by the item that the closure answers, left out where it answers none, and replaced by a failure of it.
-abbrev pub recovering_outcome : {X D E : Type 0} → D → Result (Option X) E → Outcome E X
-recovering_outcome d (Ok (Some x)) = Failure x
-recovering_outcome d (Ok None) = LeftOut
-recovering_outcome d (Err e) = Kept e
+-- an outcome with item and failure exchanged
+abbrev pub outcome_exchanged : {B E : Type 0} → Outcome B E → Outcome E B
+outcome_exchanged (Kept y) = Failure y
+outcome_exchanged LeftOut = LeftOut
+outcome_exchanged (Failure e) = Kept e
+outcome_exchanged End = End
 
--- The source's trace without the failures on which the closure answers none, where what it answers on each other failure stands in its place. It doesn't end in a failure that is left out.
-abbrev pub RecoveringTrace : {S F X D E : Type 0} → (S → Answered X D → S → Type 0) → (F → D → Result (Option X) E → F → Type 0) → S × F → List (Answered X E) → S × F → Type 0
-RecoveringTrace steps call p trace q = PassTrace (steps_exchanged steps) call recovering_outcome p (map exchanged trace) q
+-- The source's trace, where what becomes of each failure by the closure's answer stands in its place: an item, nothing, a failure or an end. Items and failures exchanged, it is that of an adapter that lets answers pass; so it doesn't end in a failure that is left out.
+abbrev pub RecoveringTrace : {S F X D V E : Type 0} → (S → Answered X D → S → Type 0) → (F → D → V → F → Type 0) → (D → V → Outcome X E) → S × F → List (Answered X E) → S × F → Type 0
+RecoveringTrace steps call outcome p trace q = PassTrace (steps_exchanged steps) call (λ d v. outcome_exchanged (outcome d v)) p (map exchanged trace) q
 
--- The contract of such an adapter is that of one that leaves items out, with items and failures exchanged. So it asks that what remains of the source has a bound, which is its own bound too. Nothing is known of how many items come, so its hint says nothing.
-abbrev pub recovering_contract : {S F X D E : Type 0} → Contract S X D → (F → D → Result (Option X) E → F → Type 0) → (F → D → Type 0) → Contract (S × F) X E
-recovering_contract m call takes = exchanged_contract (leaving_out_contract (exchanged_contract m) call (λ P f. IsCallable call takes P f) recovering_outcome (λ p h. h ≡ (0, None)))
+-- one draw of such an adapter: its trace of one answer
+abbrev pub recovering_step : {S F X D V E : Type 0} → (S → Answered X D → S → Type 0) → (F → D → V → F → Type 0) → (D → V → Outcome X E) → S × F → Answered X E → S × F → Type 0
+recovering_step steps call outcome p r q = RecoveringTrace steps call outcome p (r ∷ []) q
+
+-- The contract of such an adapter is that of one that leaves items out, with items and failures exchanged. So it asks that the source is finite and what remains of it has a bound, which is its own bound too. Nothing is known of how many items come, so its hint says nothing.
+abbrev pub recovering_contract : {S F X D V E : Type 0} → Contract S X D → (F → D → V → F → Type 0) → (F → D → Type 0) → (D → V → Outcome X E) → Contract (S × F) X E
+recovering_contract m call takes outcome = exchanged_contract (leaving_out_contract (exchanged_contract m) call (λ P f. IsCallable call takes P f) (λ d v. outcome_exchanged (outcome d v)) (λ p h. h ≡ (0, None)))

@@ -1,22 +1,25 @@
 //! The folds of the adapters whose closure is called on failures, through their sources' own. The closure is called on the failure that comes back, and so never on what a turn stops with.
 ghost use Rattle.fallible_contract.specs.Closures.{IsCallable};
-ghost use Rattle.fallible_contract.specs.Failing.{failing_step};
+ghost use Rattle.fallible_contract.specs.Ends.{from_back};
+ghost use Rattle.fallible_contract.specs.Failing.{failing_step, recovering_contract, recovering_step};
 ghost use Rattle.fallible_contract.specs.Folds.{CallableDriving, Driven};
 
+use crate::number::Number;
 use crate::traits::FallibleIterator;
 use crate::traits::double_ended::DoubleEndedFallibleIterator;
-use fallible_contract::failing::{Fail, failed};
+use fallible_contract::failing::{Fail, failed, turn_on_failure};
 use fallible_contract::folds::Turn;
+use fallible_contract::passing::Pass;
+use std::ops::ControlFlow;
 
 /// The fold from the front of such an adapter: the source's, and what becomes of the failure that it met.
-pub fn drive_failing<
-    I: FallibleIterator,
-    P,
-    A: Fail<P, I::Error>,
-    C,
-    R,
-    K: Turn<C, I::Item, R>,
->(it: &mut I, p: &mut P, adapter: &A, state: &mut C, turn: &K) -> Result<Option<R>, A::Failure>
+pub fn drive_failing<I: FallibleIterator, P, A: Fail<P, I::Error>, C, R, K: Turn<C, I::Item, R>>(
+    it: &mut I,
+    p: &mut P,
+    adapter: &A,
+    state: &mut C,
+    turn: &K,
+) -> Result<Option<R>, A::Failure>
 where
     requires can_next { I.contract.can_next it.old }
     requires finite { I.contract.is_finite it.old }
@@ -50,4 +53,74 @@ where
         (K.turns turn.now) (it.old, p.old) state.old result (it.new, p.new) state.new }
 {
     failed(it.drive_back(state, turn), p, adapter)
+}
+
+/// The fold from the front of an adapter by which a failure may become an item, nothing or another failure: the source's fold up to a failure, and the turn on that; and again, where that turn goes on. Each further fold of the source has fewer answers to come, by the bound `left`.
+pub fn drive_recovering<
+    I: FallibleIterator,
+    P,
+    E,
+    A: Pass<P, I::Error, E, Kept = I::Item>,
+    C,
+    R,
+    K: Turn<C, I::Item, R>,
+>(it: &mut I, p: &mut P, adapter: &A, left: Number, state: &mut C, turn: &K) -> Result<Option<R>, E>
+where
+    requires can_next { (recovering_contract I.contract (A.call adapter.now)
+        (A.can_pass adapter.now) (A.outcome adapter.now)).can_next (it.old, p.old) }
+    requires bounded { (recovering_contract I.contract (A.call adapter.now)
+        (A.can_pass adapter.now) (A.outcome adapter.now)).bound (it.old, p.old) left.value }
+    requires callable { CallableDriving
+        (recovering_step I.contract.steps (A.call adapter.now) (A.outcome adapter.now))
+        (K.turns turn.now) (K.can_turn turn.now) (it.old, p.old) state.old }
+    ensures { Driven
+        (recovering_step I.contract.steps (A.call adapter.now) (A.outcome adapter.now))
+        (K.turns turn.now) (it.old, p.old) state.old result (it.new, p.new) state.new }
+{
+    let mut left = left;
+    loop {
+        match it.drive(state, turn) {
+            Ok(value) => return Ok(value),
+            Err(d) => match turn_on_failure(d, p, adapter, state, turn) {
+                ControlFlow::Continue(()) => {}
+                ControlFlow::Break(answer) => return answer,
+            },
+        }
+        left = left.one_less();
+    }
+}
+
+/// The same from the back.
+pub fn drive_back_recovering<
+    I: DoubleEndedFallibleIterator,
+    P,
+    E,
+    A: Pass<P, I::Error, E, Kept = I::Item>,
+    C,
+    R,
+    K: Turn<C, I::Item, R>,
+>(it: &mut I, p: &mut P, adapter: &A, left: Number, state: &mut C, turn: &K) -> Result<Option<R>, E>
+where
+    requires can_next { (recovering_contract (from_back I.contract I.ends) (A.call adapter.now)
+        (A.can_pass adapter.now) (A.outcome adapter.now)).can_next (it.old, p.old) }
+    requires bounded { (recovering_contract (from_back I.contract I.ends) (A.call adapter.now)
+        (A.can_pass adapter.now) (A.outcome adapter.now)).bound (it.old, p.old) left.value }
+    requires callable { CallableDriving
+        (recovering_step I.ends.steps (A.call adapter.now) (A.outcome adapter.now))
+        (K.turns turn.now) (K.can_turn turn.now) (it.old, p.old) state.old }
+    ensures { Driven
+        (recovering_step I.ends.steps (A.call adapter.now) (A.outcome adapter.now))
+        (K.turns turn.now) (it.old, p.old) state.old result (it.new, p.new) state.new }
+{
+    let mut left = left;
+    loop {
+        match it.drive_back(state, turn) {
+            Ok(value) => return Ok(value),
+            Err(d) => match turn_on_failure(d, p, adapter, state, turn) {
+                ControlFlow::Continue(()) => {}
+                ControlFlow::Break(answer) => return answer,
+            },
+        }
+        left = left.one_less();
+    }
 }

@@ -24,6 +24,8 @@ pub use Rattle.fallible_contract.proofs.Lemmas.Closing
 pub use Rattle.fallible_contract.proofs.Lemmas.Collecting
 pub use Rattle.fallible_contract.proofs.Lemmas.Contract
 pub use Rattle.fallible_contract.proofs.Lemmas.Exchange
+pub use Rattle.fallible_contract.proofs.Lemmas.Failing
+pub use Rattle.fallible_contract.proofs.Lemmas.FailingFolds
 pub use Rattle.fallible_contract.proofs.Lemmas.Folding
 pub use Rattle.fallible_contract.proofs.Lemmas.Folds
 pub use Rattle.fallible_contract.proofs.Lemmas.Held
@@ -34,6 +36,7 @@ pub use Rattle.fallible_contract.proofs.Lemmas.Overriding
 pub use Rattle.fallible_contract.proofs.Lemmas.Partitioning
 pub use Rattle.fallible_contract.proofs.Lemmas.Passing
 pub use Rattle.fallible_contract.proofs.Lemmas.Picking
+pub use Rattle.fallible_contract.proofs.Lemmas.Recovering
 pub use Rattle.fallible_contract.proofs.Lemmas.Searching
 pub use Rattle.fallible_contract.proofs.Lemmas.ShownTraces
 pub use Rattle.fallible_core.proofs.Lemmas.Borrowed

@@ -19,6 +19,7 @@ pub use Rattle.fallible_contract.specs.Comparing
 pub use Rattle.fallible_contract.specs.Contract
 pub use Rattle.fallible_contract.specs.Ends
 pub use Rattle.fallible_contract.specs.Exchange
+pub use Rattle.fallible_contract.specs.Failing
 pub use Rattle.fallible_contract.specs.Folding
 pub use Rattle.fallible_contract.specs.Folds
 pub use Rattle.fallible_contract.specs.Held

@@ -7,7 +7,7 @@ use Rattle.fallible_contract.specs.Closures.{Steady}
 use Rattle.fallible_contract.specs.Lists.{Lists, Acts}
 use Rattle.fallible_contract.specs.BothEnds.{ListsBothEnds, RunAtEnds, Interleaves, items_listed, failures_listed, source_list, passed_list}
 use Rattle.fallible_core.specs.OneToOne.Map.{mapped}
-use Rattle.fallible_core.specs.OneToOne.MapErr.{failures_mapped}
+use Rattle.fallible_contract.specs.Failing.{failures_mapped}
 use Rattle.fallible_core.specs.OneToOne.Cloned.{pointed_to}
 use Rattle.fallible_core.specs.Joining.Chain.{chained}
 use Rattle.fallible_iterator.specs.Sources.Std.{element_by}

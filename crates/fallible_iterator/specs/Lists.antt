@@ -8,7 +8,7 @@ pub use Rattle.fallible_core.specs.OneToOne.Scan.{cons_or_end}
 unfoldable pub use Rattle.fallible_core.specs.OneToOne.Scan.{scanned}
 unfoldable pub use Rattle.fallible_core.specs.OneToOne.MapWhile.{mapped_while}
 unfoldable pub use Rattle.fallible_core.specs.OneToOne.Enumerate.{numbered}
-unfoldable pub use Rattle.fallible_core.specs.OneToOne.MapErr.{failures_mapped}
+unfoldable pub use Rattle.fallible_contract.specs.Failing.{failures_mapped}
 unfoldable pub use Rattle.fallible_core.specs.OneToOne.Cloned.{pointed_to}
 pub use Rattle.fallible_core.specs.Filtering.Filter.{cons_if}
 unfoldable pub use Rattle.fallible_core.specs.Filtering.Filter.{filtered}

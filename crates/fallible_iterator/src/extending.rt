@@ -1,5 +1,6 @@
-//! What an adapter, a search or a consumer of one's own is made of: what becomes of an item, the turns of folds and searches, what is read off their answers, the folds of the source, and the hints' arithmetic.
+//! What an adapter, a search or a consumer of one's own is made of: what becomes of an item or of a failure, the turns of folds and searches, what is read off their answers, the folds of the source, and the hints' arithmetic.
 pub use fallible_contract::comparing::{ReadEq, Reading, ordered};
+pub use fallible_contract::failing::{Fail, failed};
 pub use fallible_contract::folds::{Beside, CountTurn, FirstTurn, NthTurn, answer_within};
 pub use fallible_contract::hints::{kept, less, one_more, smaller, sum, up_to};
 pub use fallible_contract::passing::{Outcome, Pass, PassTurn, passed};
@@ -7,4 +8,7 @@ pub use fallible_contract::searching::{
     AnyTurn, FindTest, FindTurn, ForEachTurn, PositionTurn, answer_or, answer_or_none, found,
 };
 pub use fallible_core::comparing::number_of_either;
+pub use fallible_core::failing::{
+    drive_back_failing, drive_back_recovering, drive_failing, drive_recovering,
+};
 pub use fallible_core::passing::{drive_back_passing, drive_passing};

@@ -4,7 +4,7 @@ use Rattle.std.proofs.Common.{refl, sym, ap, subst, ◌∙◌}
 use Rattle.fallible_contract.specs.Traces.{Answered}
 use Rattle.fallible_contract.specs.Closures.{Steady}
 use Rattle.fallible_contract.specs.Exchange.{exchanged, exchanged_result, steps_exchanged}
-use Rattle.fallible_contract.specs.Failing.{failing_outcome, FailingTrace, failing_step, FailingAnswer, failures_mapped, recovering_outcome, RecoveringTrace}
+use Rattle.fallible_contract.specs.Failing.{failing_outcome, FailingTrace, failing_step, FailingAnswer, failures_mapped, outcome_exchanged, RecoveringTrace}
 use Rattle.fallible_contract.specs.Passing.{passing_step}
 use Rattle.fallible_contract.specs.Lists.{AlwaysGives, Acts}
 use Rattle.fallible_contract.specs.BothEnds.{ListsBothEnds, items_listed, failures_listed, source_list, passed_list}
@@ -13,13 +13,14 @@ use Rattle.fallible_contract.proofs.Lemmas.Passing.{passing_by_answers, answer_p
 use Rattle.fallible_contract.proofs.Lemmas.Exchange.{gives_exchanged, listed_exchanged, list_exchanged_twice}
 use Rattle.fallible_contract.proofs.Lemmas.Lists.Passing.{passed, all_given}
 use Rattle.fallible_contract.proofs.Lemmas.BothEnds.Passing.{listed_passed, listed_by_function}
+use Rattle.fallible_contract.specs.declared.passing.Outcome.{Outcome}
 use Rattle.fallible_contract.specs.declared.passing.Outcome.TheVariants.{End}
 
 pub failing_by_answers : {S F X D E : Type 0} (steps : S → Answered X D → S → Type 0) (call : F → D → E → F → Type 0) → IsByAnswers (FailingTrace steps call)
 failing_by_answers steps call = answers_renamed exchanged (passing_by_answers (steps_exchanged steps) call failing_outcome)
 
-pub recovering_by_answers : {S F X D E : Type 0} (steps : S → Answered X D → S → Type 0) (call : F → D → Result (Option X) E → F → Type 0) → IsByAnswers (RecoveringTrace steps call)
-recovering_by_answers steps call = answers_renamed exchanged (passing_by_answers (steps_exchanged steps) call recovering_outcome)
+pub recovering_by_answers : {S F X D V E : Type 0} (steps : S → Answered X D → S → Type 0) (call : F → D → V → F → Type 0) (outcome : D → V → Outcome X E) → IsByAnswers (RecoveringTrace steps call outcome)
+recovering_by_answers steps call outcome = answers_renamed exchanged (passing_by_answers (steps_exchanged steps) call (λ d v. outcome_exchanged (outcome d v)))
 
 -- what it makes of one answer of its source is its trace of one answer
 pub failing_answered : {S F X D E : Type 0} (steps : S → Answered X D → S → Type 0) {call : F → D → E → F → Type 0} {s t : S} {f g : F} (r : Answered X E) (drawn : Answered X D) → steps s drawn t → FailingAnswer call f drawn r g → FailingTrace steps call (s, f) (r ∷ []) (t, g)

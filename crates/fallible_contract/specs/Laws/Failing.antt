@@ -7,11 +7,12 @@ use Rattle.fallible_contract.specs.Contract.{Contract, OnAnswer, KeptByDraw, Law
 use Rattle.fallible_contract.specs.Closures.{Reaches, IsCallable}
 use Rattle.fallible_contract.specs.Ends.{Ends, from_back, ends_of, LawfulEnds}
 use Rattle.fallible_contract.specs.Exchange.{exchanged, steps_exchanged}
-use Rattle.fallible_contract.specs.Failing.{failing_outcome, FailingTrace, FailingAnswer, failing_contract, exchanged_contract, recovering_outcome, recovering_contract}
+use Rattle.fallible_contract.specs.Failing.{failing_outcome, FailingTrace, FailingAnswer, failing_contract, exchanged_contract, outcome_exchanged, recovering_contract}
 use Rattle.fallible_contract.specs.Passing.{leaving_out_contract}
 use Rattle.fallible_contract.specs.Laws.Closures.{reaches_here, reaches_from, callable_after, may_answer_here, may_answer_after}
 use Rattle.fallible_contract.specs.Laws.Exchange.{exchanged_twice}
 use Rattle.fallible_contract.specs.Laws.Passing.{Passes, done, end_passes, failure_passes, keeps, refuses, closes, leaves_out, to_passes, lawful_leaving_out}
+use Rattle.fallible_contract.specs.declared.passing.Outcome.{Outcome}
 
 module _ {S F X D E : Type 0} (steps : S → Answered X D → S → Type 0) (call : F → D → E → F → Type 0) where
   -- one answer of the source, and what becomes of it
@@ -65,10 +66,10 @@ lawful_ends_failing call takes l = record {
 -- ---- items and failures exchanged
 
 module _ {S A E : Type 0} (m : Contract S A E) where
-  answer_exchanged : (s t : S) (r : Answered E A) → OnAnswer m s (exchanged r) t → OnAnswer (exchanged_contract m) s r t
-  answer_exchanged s t (Ok (Some e)) h = (h.0, (λ n b. let k = h.2 b.0 in (size (m.remaining t), (k.0, refl), omega (arith, k.1, b.1))), h.2)
-  answer_exchanged s t (Ok None) h = ((λ n b. let k = h.1 b.0 in (size (m.remaining t), (k.0, refl), omega (arith, k.1, b.1))), h.1)
-  answer_exchanged s t (Err x) h = (h.0, (λ n b. let k = h.2 b.0 in (size (m.remaining t), (k.0, refl), omega (arith, k.1, b.1))), h.2)
+  answer_exchanged : (s t : S) (r : Answered E A) → (m.is_finite s → m.is_finite t) → OnAnswer m s (exchanged r) t → OnAnswer (exchanged_contract m) s r t
+  answer_exchanged s t (Ok (Some e)) still h = (h.0, (λ n b. let k = h.2 b.1 in (size (m.remaining t), (still b.0, k.0, omega arith), omega (arith, k.1, b.2))), h.2)
+  answer_exchanged s t (Ok None) still h = ((λ n b. let k = h.1 b.1 in (size (m.remaining t), (still b.0, k.0, omega arith), omega (arith, k.1, b.2))), h.1)
+  answer_exchanged s t (Err x) still h = (h.0, (λ n b. let k = h.2 b.1 in (size (m.remaining t), (still b.0, k.0, omega arith), omega (arith, k.1, b.2))), h.2)
 
   finite_after : (s t : S) (r : Answered A E) → OnAnswer m s r t → IsFinite (m.remaining s) → IsFinite (m.remaining t)
   finite_after s t (Ok (Some x)) h f = (h.2 f).0
@@ -76,24 +77,24 @@ module _ {S A E : Type 0} (m : Contract S A E) where
   finite_after s t (Err e) h f = (h.2 f).0
 
   goes_exchanged : (s t : S) (r : Answered E A) → KeptByDraw m s (exchanged r) t → KeptByDraw (exchanged_contract m) s r t
-  goes_exchanged s t r g = record { can_next = g.can_next; is_finite = finite_after s t (exchanged r) g.answer; answer = answer_exchanged s t r g.answer; may_give = g.may_fail; may_fail = g.may_give; lenders = g.lenders }
+  goes_exchanged s t r g = record { can_next = g.can_next; is_finite = λ f. (g.is_finite f.0, finite_after s t (exchanged r) g.answer f.1); answer = answer_exchanged s t r g.is_finite g.answer; may_give = g.may_fail; may_fail = g.may_give; lenders = g.lenders }
 
 pub lawful_exchanged : {S A E : Type 0} {m : Contract S A E} → Lawful m → Lawful (exchanged_contract m)
 lawful_exchanged {m = m} l = record {
   kept_by_draw = λ s r t c step. goes_exchanged m s t r (l.kept_by_draw s (exchanged r) t c step);
-  bounded = λ s. ((λ f. (size (m.remaining s), (f, refl))), (λ b. b.1.0));
+  bounded = λ s. ((λ f. (size (m.remaining s), (f.0, f.1, omega arith))), (λ b. (b.1.0, b.1.1)));
 }
 
 -- ---- where a failure may become an item
 
-pub lawful_recovering : {S F X D E : Type 0} {m : Contract S X D} (call : F → D → Result (Option X) E → F → Type 0) (takes : F → D → Type 0) → Lawful m → Lawful (recovering_contract m call takes)
-lawful_recovering {m = m} call takes l = lawful_exchanged (lawful_leaving_out call (λ P f. IsCallable call takes P f) recovering_outcome (λ p h. h ≡ (0, None)) (λ P Q f h weak reached c. callable_after weak reached c) (lawful_exchanged l))
+pub lawful_recovering : {S F X D V E : Type 0} {m : Contract S X D} (call : F → D → V → F → Type 0) (takes : F → D → Type 0) (outcome : D → V → Outcome X E) → Lawful m → Lawful (recovering_contract m call takes outcome)
+lawful_recovering {m = m} call takes outcome l = lawful_exchanged (lawful_leaving_out call (λ P f. IsCallable call takes P f) (λ d v. outcome_exchanged (outcome d v)) (λ p h. h ≡ (0, None)) (λ P Q f h weak reached c. callable_after weak reached c) (lawful_exchanged l))
 
-pub lawful_ends_recovering : {S F X D E : Type 0} {m : Contract S X D} {e : Ends S X D} (call : F → D → Result (Option X) E → F → Type 0) (takes : F → D → Type 0) → LawfulEnds m e → LawfulEnds (recovering_contract m call takes) (ends_of (recovering_contract (from_back m e) call takes))
-lawful_ends_recovering call takes l = record {
+pub lawful_ends_recovering : {S F X D V E : Type 0} {m : Contract S X D} {e : Ends S X D} (call : F → D → V → F → Type 0) (takes : F → D → Type 0) (outcome : D → V → Outcome X E) → LawfulEnds m e → LawfulEnds (recovering_contract m call takes outcome) (ends_of (recovering_contract (from_back m e) call takes outcome))
+lawful_ends_recovering call takes outcome l = record {
   front_can = λ p c. (c.0, (l.front_can p.0 c.1.0, callable_after (l.may_fail p.0) reaches_here c.1.1));
   may_give = λ p x h. elim h [ inl b ↦ inl (l.may_give p.0 x b) | inr b ↦ inr (may_answer_after (l.may_fail p.0) reaches_here b) ];
   may_fail = λ p d h. may_answer_after (l.may_fail p.0) reaches_here h;
-  front = lawful_recovering call takes l.front;
-  back = lawful_recovering call takes l.back;
+  front = lawful_recovering call takes outcome l.front;
+  back = lawful_recovering call takes outcome l.back;
 }

@@ -2,6 +2,7 @@
 pub mod ByNumber
 pub mod Cutting
 pub mod Drawn
+pub mod Failing
 pub mod Filtering
 pub mod Joining
 pub mod ListsBothEnds

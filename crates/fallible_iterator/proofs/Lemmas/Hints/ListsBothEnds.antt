@@ -12,7 +12,7 @@ use Rattle.fallible_contract.proofs.Lemmas.Lists.Passing.{passed, by_outcome}
 use Rattle.fallible_contract.proofs.Lemmas.BothEnds.{lists_first, lists_from_back}
 use Rattle.fallible_contract.proofs.Lemmas.BothEnds.Passing.{filter_map-reverse, with_answer, source_beside}
 use Rattle.fallible_core.specs.OneToOne.Map.{mapped}
-use Rattle.fallible_core.specs.OneToOne.MapErr.{failures_mapped}
+use Rattle.fallible_contract.specs.Failing.{failures_mapped}
 use Rattle.fallible_core.specs.OneToOne.Cloned.{pointed_to}
 use Rattle.fallible_core.specs.Joining.Chain.{chained}
 use Rattle.fallible_iterator.specs.SoundHints.{Brackets, Bounds}

@@ -2,13 +2,14 @@
 ghost use Rattle.std.specs.Prelude.{◌≡◌, ℕ, reverse, Ok, Bool, List, Option, Result};
 ghost use Rattle.std.specs.Iterator.{item_count};
 ghost use Rattle.std.specs.Borrow.{Bor, MutBor};
+ghost use Rattle.fallible_contract.specs.Failing.{failures_mapped};
 ghost use Rattle.fallible_contract.specs.Lists.{Lists, results, items};
 ghost use Rattle.fallible_contract.specs.BothEnds.{ListsBothEnds, source_list, passed_list};
 ghost use Rattle.fallible_core.specs.OneToOne.Map.{mapped, map_outcome, map_source};
 ghost use Rattle.fallible_core.specs.OneToOne.Inspect.{inspected, inspect_outcome, inspect_source};
 ghost use Rattle.fallible_core.specs.Filtering.Filter.{filtered, tested_outcome, filter_source};
 ghost use Rattle.fallible_core.specs.Filtering.FilterMap.{filter_mapped, filter_map_outcome, filter_map_source};
-ghost use Rattle.fallible_core.specs.OneToOne.MapErr.{failures_mapped, map_err_source};
+ghost use Rattle.fallible_core.specs.OneToOne.MapErr.{map_err_source};
 ghost use Rattle.fallible_core.specs.OneToOne.Cloned.{pointed_to, cloned_source};
 ghost use Rattle.fallible_core.specs.Joining.Chain.{chained, chain_first, chain_second, chain_still_drawn};
 ghost use Rattle.fallible_core.specs.Ends.Rev.{rev_parts};

@@ -2,8 +2,8 @@
 use Rattle.std.proofs.Common.{refl}
 use Rattle.fallible_contract.specs.Closures.{call_on}
 use Rattle.fallible_contract.proofs.Lemmas.BothEnds.{listed_seen_at}
+use Rattle.fallible_contract.proofs.Lemmas.Failing.{listed_failures, listed_function}
 use Rattle.fallible_core.specs.OneToOne.MapErr.{map_err_parts}
-use Rattle.fallible_core.proofs.Lemmas.OneToOne.MapErr.{listed_failures, listed_function}
 use Rattle.fallible_iterator.proofs.laws.listed.law_listed_map_err.Goals as goal
 
 pub returns : goal.returns
