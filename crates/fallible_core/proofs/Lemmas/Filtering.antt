@@ -1,4 +1,5 @@
 -- Lemmas on the runs of such types: one file a type.
+pub mod Drawing
 pub mod Filter
 pub mod FilterMap
 pub mod SkipWhile

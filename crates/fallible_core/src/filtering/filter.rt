@@ -11,8 +11,9 @@ ghost use Rattle.fallible_core.specs.Laws.Filtering.Filter.{lawful_filter, lawfu
 use crate::passing::{drive_back_passing, drive_passing};
 use crate::traits::FallibleIterator;
 use crate::traits::double_ended::DoubleEndedFallibleIterator;
-use fallible_contract::folds::{FirstTurn, Turn};
+use fallible_contract::folds::Turn;
 use fallible_contract::passing::{Outcome, Pass};
+use fallible_contract::searching::{FindTest, FindTurn, found};
 
 /// The items to which the predicate answers true. An item on which it fails is lost, and its failure is the answer.
 #[derive(Clone, Debug, Drop)]
@@ -34,7 +35,8 @@ where
 
     /// Draws until an item is kept, a failure comes or an end comes, and calls the predicate on each item.
     fn next(&mut self) -> Result<Option<I::Item>, I::Error> {
-        self.drive(&mut (), &FirstTurn)
+        let turn = FindTurn { test: &FindTest };
+        found(self.it.drive(&mut self.f, &turn))
     }
 
     fn size_hint(&self) -> (usize, Option<usize>) {
@@ -64,7 +66,8 @@ where
 
     /// Draws from the back until an item is kept, a failure comes or an end comes, and calls the predicate on each item.
     fn next_back(&mut self) -> Result<Option<I::Item>, I::Error> {
-        self.drive_back(&mut (), &FirstTurn)
+        let turn = FindTurn { test: &FindTest };
+        found(self.it.drive_back(&mut self.f, &turn))
     }
 
     fn drive_back<C, R, K: Turn<C, I::Item, R>>(

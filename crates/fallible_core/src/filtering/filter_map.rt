@@ -11,8 +11,9 @@ ghost use Rattle.fallible_core.specs.Laws.Filtering.FilterMap.{lawful_filter_map
 use crate::passing::{drive_back_passing, drive_passing};
 use crate::traits::FallibleIterator;
 use crate::traits::double_ended::DoubleEndedFallibleIterator;
-use fallible_contract::folds::{FirstTurn, Turn};
+use fallible_contract::folds::{Turn, answer_within};
 use fallible_contract::passing::{Outcome, Pass};
+use fallible_contract::searching::FindMapTurn;
 
 /// The values that the closure answers. An item on which it answers none is left out; an item on which it fails is lost, and its failure is the answer.
 #[derive(Clone, Debug, Drop)]
@@ -31,7 +32,7 @@ impl<I: FallibleIterator, B, F: FnMut(I::Item) -> Result<Option<B>, I::Error>> F
 
     /// Draws until the closure answers a value, a failure comes or an end comes, and calls the closure on each item.
     fn next(&mut self) -> Result<Option<B>, I::Error> {
-        self.drive(&mut (), &FirstTurn)
+        answer_within(self.it.drive(&mut self.f, &FindMapTurn))
     }
 
     fn size_hint(&self) -> (usize, Option<usize>) {
@@ -59,7 +60,7 @@ impl<
 
     /// Draws from the back until the closure answers a value, a failure comes or an end comes, and calls the closure on each item.
     fn next_back(&mut self) -> Result<Option<B>, I::Error> {
-        self.drive_back(&mut (), &FirstTurn)
+        answer_within(self.it.drive_back(&mut self.f, &FindMapTurn))
     }
 
     fn drive_back<C, R, K: Turn<C, B, R>>(

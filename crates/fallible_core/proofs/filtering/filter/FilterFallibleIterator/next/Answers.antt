@@ -1,6 +1,10 @@
--- Its fold that stops with the first item is one draw.
-use Rattle.fallible_contract.proofs.Lemmas.Folds.{first_drawn}
+-- The source's fold, which stops with the item that is kept, or the predicate's failure, is one draw.
+use Rattle.fallible_contract.specs.Closures.{call_at}
+use Rattle.fallible_core.proofs.Lemmas.Filtering.Drawing.{filter_callable, filter_drawn}
 use Rattle.fallible_core.proofs.filtering.filter.FilterFallibleIterator.next.Goals as goal
 
+pub drive-requires-clause-callable : goal.drive-requires-clause-callable
+drive-requires-clause-callable g c = filter_callable g.met.I.FallibleIterator.lawful c.requires.1.0 c.requires.1.1
+
 pub returns : goal.returns
-returns g c = first_drawn c.drive.ensures
+returns g c = filter_drawn {call = call_at g.F.FnMut} c.drive.ensures c.found.ensures

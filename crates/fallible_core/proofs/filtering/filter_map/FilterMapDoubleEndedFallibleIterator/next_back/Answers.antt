@@ -1,6 +1,10 @@
--- Its fold from the back that stops with the first item is one draw.
-use Rattle.fallible_contract.proofs.Lemmas.Folds.{first_drawn}
+-- The source's fold from the back, which stops with the value that is kept, or the closure's failure, is one draw.
+use Rattle.fallible_contract.specs.Closures.{call_on}
+use Rattle.fallible_core.proofs.Lemmas.Filtering.Drawing.{filter_map_callable, filter_map_drawn}
 use Rattle.fallible_core.proofs.filtering.filter_map.FilterMapDoubleEndedFallibleIterator.next_back.Goals as goal
 
+pub drive_back-requires-clause-callable : goal.drive_back-requires-clause-callable
+drive_back-requires-clause-callable g c = filter_map_callable g.met.I.DoubleEndedFallibleIterator.lawful_ends.back c.requires.1.0 c.requires.1.1
+
 pub returns : goal.returns
-returns g c = first_drawn c.drive_back.ensures
+returns g c = filter_map_drawn {call = call_on g.F.FnMut} c.drive_back.ensures c.answer_within.ensures
