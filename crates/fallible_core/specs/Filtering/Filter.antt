@@ -1,5 +1,5 @@
 -- `Filter`, which leaves out the items that a predicate refuses.
-use Rattle.std.specs.Prelude.{Result, Ok, Err, List, Bool, true, false, [], ◌∷◌}
+use Rattle.std.specs.Prelude.{◌≡◌, ◌+◌, ℕ, Result, Ok, Err, List, Bool, true, false, [], ◌∷◌}
 use Rattle.std.specs.Fn.{Mut}
 use Rattle.std.specs.Borrow.{Bor}
 use Rattle.fallible_contract.specs.Traces.{Answered}
@@ -8,6 +8,8 @@ use Rattle.fallible_contract.specs.Closures.{call_at, takes_at, IsCallable}
 use Rattle.fallible_contract.specs.Passing.{PassTrace, leaving_out_contract}
 pub use Rattle.fallible_contract.specs.Passing.{tested_outcome}
 use Rattle.fallible_contract.specs.Hints.{upper_alone}
+use Rattle.std.specs.declared.ops.ControlFlow.{ControlFlow}
+use Rattle.std.specs.declared.ops.ControlFlow.TheVariants.{Continue}
 use Rattle.fallible_core.specs.declared.filtering.filter.Filter.{Filter}
 
 -- `Filter`: the source's trace without the items refused, where an item whose predicate failed is replaced by that failure; it doesn't end in a refused item.
@@ -29,6 +31,12 @@ filter_predicate s = s.f
 -- the source, and the predicate
 abbrev pub filter_parts : {I F : Type 0} → Filter I F → I × F
 filter_parts s = (filter_source s, filter_predicate s)
+
+-- ---- its count, through the source's own fold
+
+-- a turn goes on, with one more
+abbrev pub CountsOne : {A R : Type 0} → ℕ → A → ControlFlow R (Unit {0}) → ℕ → Type 0
+CountsOne n x r k = (r ≡ Continue tt) × (k ≡ n + 1)
 
 -- ---- what it lists
 

@@ -1,7 +1,8 @@
 -- One draw of `Filter` and of `FilterMap` is a fold of the source, which stops with the item that is kept.
-use Rattle.std.specs.Prelude.{◌≡◌, ℕ, Result, Ok, Err, Option, Some, None, Bool, true, false, List, [], ◌∷◌}
+use Rattle.std.specs.Prelude.{◌≡◌, ◌+◌, ℕ, Result, Ok, Err, Option, Some, None, is_some, Bool, true, false, List, [], ◌∷◌}
+use Rattle.std.specs.Int.{from_bool}
 use Rattle.std.specs.List.{FoldsTo}
-use Rattle.std.proofs.Common.{refl, sym, ap, subst}
+use Rattle.std.proofs.Common.{refl, sym, ap, subst, arith}
 use Rattle.fallible_contract.specs.Traces.{Answered}
 use Rattle.fallible_contract.specs.Contract.{Contract, Lawful}
 use Rattle.fallible_contract.specs.Closures.{IsCallable}
@@ -13,10 +14,12 @@ use Rattle.fallible_contract.proofs.Lemmas.Folds.{holds_map, drained_map, first_
 use Rattle.fallible_contract.proofs.Lemmas.Folding.{drives_through}
 use Rattle.fallible_contract.proofs.Lemmas.Passing.{callable_turns, passes_search}
 use Rattle.fallible_contract.proofs.Lemmas.Searching.{found_search}
+use Rattle.fallible_core.specs.Filtering.Filter.{CountsOne}
 use Rattle.fallible_core.specs.Filtering.FilterMap.{filter_map_outcome}
+use Rattle.std.specs.declared.convert.Infallible.{Infallible}
 use Rattle.std.specs.declared.ops.ControlFlow.{ControlFlow}
 use Rattle.std.specs.declared.ops.ControlFlow.TheVariants.{Continue, Break}
-use Rattle.fallible_contract.specs.declared.passing.Outcome.TheVariants.{LeftOut}
+use Rattle.fallible_contract.specs.declared.passing.Outcome.TheVariants.{Kept, LeftOut}
 
 -- ---- `Filter`
 
@@ -34,6 +37,11 @@ module _ {F X E : Type 0} (call : F → X → Result Bool E → F → Type 0) wh
   by_test : (f : F) (x : X) (r : ControlFlow (Result X E) (Unit {0})) (g : F) → IsFindTurn call f x r g → IsFindTurn (PassTest call tested_outcome) f x r g
   by_test f x (Continue u) g w = (w.0, (Ok w.0, w.1, refl), w.2)
   by_test f x (Break stop) g w = λ n. test_decides n f x (stopped_answer stop) g (w n)
+
+  -- where the test's answer is added as a number, that is the turn of the fold that counts
+  pub added : {n k : ℕ} {f g : F} (x : X) (b : Bool) → call f x (Ok b) g → k ≡ n + from_bool b → FoldingTurn {B = X} {E = E} call tested_outcome (CountsOne {R = Infallible}) (n, f) x (Continue tt) (k, g)
+  added x true called is = (Ok true, called, (Continue tt, (refl, is), refl))
+  added {n} x false called is = (Ok false, called, (refl, omega (arith, is)))
 
 module _ {S F X E : Type 0} {m : Contract S X E} {call : F → X → Result Bool E → F → Type 0} where
   pub filter_callable : {pre : F → X → Type 0} {s : S} {f : F} → Lawful m → m.can_next s → IsCallable call pre (m.may_give s) f → HoldsAtEachTurn m.steps (goes_on (IsFindTurn call)) pre s f
@@ -73,6 +81,16 @@ module _ {F X B E : Type 0} (call : F → X → Result (Option B) E → F → Ty
   exit_by_search (Ok None) f g r e = (e.0, ap (λ h. (tt, h)) e.1)
   exit_by_search (Ok (Some x)) f g r e = (e.0, by_search f x (Break e.0) g e.1, e.2)
   exit_by_search (Err d) f g r e = (e.0, ap (λ h. (tt, h)) e.1)
+
+  -- where it is added whether the closure answers a value, that is the turn of the fold that counts
+  pub added_made : {n k : ℕ} {f g : F} (x : X) (made : Option B) → call f x (Ok made) g → k ≡ n + from_bool (is_some made) → FoldingTurn {B = B} {E = E} call filter_map_outcome (CountsOne {R = Infallible}) (n, f) x (Continue tt) (k, g)
+  added_made x (Some y) called is = (Ok (Some y), called, (Continue tt, (refl, is), refl))
+  added_made {n} x None called is = (Ok None, called, (refl, omega (arith, is)))
+
+  -- and the number stays one
+  pub made_fits : {f g : F} {P : Type 0} (x : X) (made : Option B) → ((v : Result (Option B) E) (h : F) (y : B) → call f x v h → filter_map_outcome x v ≡ Kept y → P) → call f x (Ok made) g → is_some made ≡ true → P
+  made_fits {g = g} x (Some y) takes called is = takes (Ok (Some y)) g y called refl
+  made_fits x None takes called is = absurd cc
 
 module _ {S F X B E : Type 0} {call : F → X → Result (Option B) E → F → Type 0} where
   pub filter_map_callable : {m : Contract S X E} {pre : F → X → Type 0} {s : S} {f : F} → Lawful m → m.can_next s → IsCallable call pre (m.may_give s) f → HoldsAtEachTurn m.steps (goes_on (IsSearchTurn call find_map_pick)) pre s f
