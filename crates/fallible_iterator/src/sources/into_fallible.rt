@@ -1,4 +1,6 @@
 // The fallible iterator of a std iterator over any values.
+//
+// `let _ = &*state;`: only of a reference that is read does the check learn what it points to at the return.
 ghost use Rattle.std.specs.Prelude.{◌≡◌, Ok, List, Result, Option};
 ghost use Rattle.fallible_contract.specs.Contract.{seen_as};
 ghost use Rattle.fallible_contract.specs.Ends.{ends_seen_as};
