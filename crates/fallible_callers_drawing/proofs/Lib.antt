@@ -4,5 +4,4 @@ pub mod Between
 pub mod Down
 pub mod Full
 pub mod KnownBytes
-pub mod Taking
 pub mod TwoByTwo

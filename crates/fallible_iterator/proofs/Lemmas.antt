@@ -15,6 +15,7 @@ pub mod Loops
 pub mod LoopsAtEnds
 pub mod Nests
 pub mod Sources
+pub mod Taking
 pub mod WithoutFailure
 pub mod Words
 pub use Rattle.fallible_contract.proofs.Lemmas.BothEnds

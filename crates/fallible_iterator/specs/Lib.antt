@@ -9,6 +9,7 @@ pub mod Nests
 pub mod ShowingEnds
 pub mod SoundHints
 pub mod Sources
+pub mod Taking
 pub use Rattle.fallible_contract.specs.BothEnds
 pub use Rattle.fallible_contract.specs.ByNumber
 pub use Rattle.fallible_contract.specs.Clauses

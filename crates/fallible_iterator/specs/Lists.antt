@@ -30,3 +30,4 @@ unfoldable pub use Rattle.fallible_core.specs.Peeking.Peekable.{looked_ahead, lo
 unfoldable pub use Rattle.fallible_iterator.specs.Answering.{told, by_sides, answers_at_ends, rest_ends}
 pub use Rattle.fallible_iterator.specs.Answering.{fronts, backs}
 unfoldable pub use Rattle.fallible_iterator.specs.Cycled.{cycled_from, cycled}
+unfoldable pub use Rattle.fallible_iterator.specs.Taking.{folded_if, rest_fold_if}

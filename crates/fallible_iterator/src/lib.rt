@@ -8,6 +8,7 @@ pub mod extending;
 pub mod laws;
 pub mod prelude;
 pub mod sources;
+pub mod taking;
 
 pub use conversion::IteratorExt;
 pub use fallible_contract::answers::{Answer, Side};
@@ -24,3 +25,4 @@ pub use sources::making::{
     convert, convert_fused, empty, from_fn, once, once_err, repeat, repeat_err,
 };
 pub use sources::{Convert, Empty, FromFn, IntoFallible, Once, OnceErr, Repeat, RepeatErr};
+pub use taking::fold_if;

@@ -1,5 +1,6 @@
 // What callers leave of which no clause says a value.
 use fallible_callers_drawing::back::last_behind_zero;
+use fallible_callers_drawing::digits::number_ahead;
 use fallible_callers_drawing::drawing::draw_all;
 use fallible_callers_drawing::looping::{drop_below_ten, drop_small, drop_up_to_zero};
 use fallible_iterator::{DoubleEndedFallibleIterator, FallibleIterator, convert};
@@ -9,6 +10,9 @@ type Reading = Result<u32, u8>;
 
 // A 0, items above and below 10 behind it, and a failure.
 const LOOPED: [Reading; 6] = [Ok(5), Ok(0), Ok(7), Ok(12), Ok(3), Err(9)];
+
+// Digits, what is none, and a failure.
+const TYPED: [Result<u8, u8>; 4] = [Ok(b'1'), Ok(b'2'), Ok(b'x'), Err(9)];
 
 // A failure with an item behind it.
 const FAILING: [Reading; 3] = [Ok(101), Err(9), Ok(700)];
@@ -36,5 +40,15 @@ fn draws_leave_what_stands_behind(rt: HostRuntime) -> Result<(), Fail> {
     let mut it = convert(Vec::from_array(rt.alloc(), BEHIND)?.into_iter());
     let last = (last_behind_zero(&mut it), it.draw_back(), it.draw_back());
     assert_eq!(rt; last, (Ok(Some(501)), Ok(Some(600)), Ok(None)));
+    Ok(())
+}
+
+#[test]
+fn a_number_leaves_what_is_no_digit(rt: HostRuntime) -> Result<(), Fail> {
+    let mut ahead = convert(Vec::from_array(rt.alloc(), TYPED)?.into_iter()).peekable();
+    let read = (number_ahead(&mut ahead), ahead.next());
+    assert_eq!(rt; read, (Ok(12), Ok(Some(b'x'))));
+    let failed = (number_ahead(&mut ahead), number_ahead(&mut ahead));
+    assert_eq!(rt; failed, (Err(9), Ok(0)));
     Ok(())
 }
