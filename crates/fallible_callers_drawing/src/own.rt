@@ -1,12 +1,12 @@
 //! Sources of one's own that show what they list.
-ghost use Rattle.std.specs.Prelude.{◌≡◌, ℕ, ◌+◌, ◌-◌, ◌*◌, ◌%◌, ◌^◌, ◌<◌, ◌≤◌, eqb, length, List, Result, Ok, IfOk};
+ghost use Rattle.std.specs.Prelude.{◌≡◌, ℕ, ◌+◌, ◌-◌, ◌*◌, ◌%◌, ◌^◌, ◌<◌, ◌≤◌, eqb, length, nat_lt, List, Result, Ok, IfOk};
 ghost use Rattle.fallible_iterator.specs.BothEnds.{ListsBothEnds};
 ghost use Rattle.fallible_iterator.specs.Bridges.Unwrap.{unwrapped};
 ghost use Rattle.fallible_iterator.specs.Contract.{AtMost, NeverFails};
 ghost use Rattle.fallible_iterator.specs.Laws.Own.{lawful_giving};
 ghost use Rattle.fallible_iterator.specs.Laws.Showing.{lawful_listing};
 ghost use Rattle.fallible_iterator.specs.Laws.ShowingEnds.{lawful_listing_ends};
-ghost use Rattle.fallible_iterator.specs.Lists.{Lists, CollectedAs, chained, counted, filtered, flattened, folded, mapped, repeated, results, reversed, taken, zipped};
+ghost use Rattle.fallible_iterator.specs.Lists.{Lists, CollectedAs, chained, counted, filtered, flattened, folded, found, mapped, repeated, results, reversed, taken, zipped};
 ghost use Rattle.fallible_iterator.specs.Own.{giving};
 ghost use Rattle.fallible_iterator.specs.Showing.{listing};
 ghost use Rattle.fallible_iterator.specs.ShowingEnds.{listing_ends};
@@ -14,7 +14,7 @@ ghost use Rattle.fallible_callers_drawing.specs.Between.{numbers_between, shows_
 ghost use Rattle.fallible_callers_drawing.specs.Down.{counting_from, counts_down, down_from};
 ghost use Rattle.fallible_callers_drawing.specs.Rounds.{shows_rounds};
 
-use fallible_iterator::laws::law_flatten_finite;
+use fallible_iterator::laws::{law_flat_map_finite, law_flatten_finite};
 use fallible_iterator::{
     DoubleEndedFallibleIterator, FallibleIterator, Fault, IntoFallibleIterator, convert,
 };
@@ -201,6 +201,23 @@ pub fn numbers_in_rounds(left: u32, from: u8) -> Result<u64, u8>
     let joined = Rounds { left, from }.flatten();
     law_flatten_finite(&joined, 255);
     joined.fold(0, |n: u64, _| Ok(n.wrapping_add(1)))
+}
+
+/// The first number above 100 of the countdowns from each number, one after the other, or the failure before it. The source may have no bound.
+pub fn first_above_100<I: FallibleIterator<Item = u8, Error = u8>>(
+    numbers: I,
+) -> Result<Option<u32>, u8>
+where
+    requires { I.contract.can_next numbers }
+    ensures { (l : List (Result ℕ ℕ)) → Lists I.contract.steps numbers l
+        → result ≡ found (λ x. Ok (nat_lt 100 x))
+        (flattened counts_down (mapped (λ n. Ok (counting_from n)) (taken (2 ^ 64 - 1) l))) }
+{
+    let mut joined = numbers.take(usize::MAX).flat_map(|number: u8| Ok(Countdown {
+        left: u32::from(number),
+    }));
+    law_flat_map_finite(&joined, 255);
+    joined.find(|number| Ok(*number > 100))
 }
 
 /// The numbers from `low` to below `high`, from either end.

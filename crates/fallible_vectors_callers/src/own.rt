@@ -2,12 +2,14 @@
 use fallible_callers_drawing::ascii::{Ascii, answers_in, first_line_end, line_ends};
 use fallible_callers_drawing::own::{
     Between, Countdown, Span, collected_between, even_below, even_between, even_in_loop,
-    numbers_down, numbers_in_rounds, pairs_down, same_in_pairs, sum_down, sum_down_doubled,
-    sum_with, tried_between,
+    first_above_100, numbers_down, numbers_in_rounds, pairs_down, same_in_pairs, sum_down,
+    sum_down_doubled, sum_with, tried_between,
 };
 use fallible_callers_drawing::pairing::{Pairs, count_pairs, sum_of_pairs};
 use fallible_iterator::Answer::{End, Failure, Item};
-use fallible_iterator::{Answer, DoubleEndedFallibleIterator, FallibleIterator, convert, once};
+use fallible_iterator::{
+    Answer, DoubleEndedFallibleIterator, FallibleIterator, convert, from_fn, once,
+};
 use fallible_testing::answered::expect_answers;
 use std::cmp::Ordering;
 use std::test::Fail;
@@ -128,4 +130,14 @@ fn spans_are_joined(rt: HostRuntime) -> Result<(), Fail> {
         &mut below,
         &[Item(0), Item(0), Item(1), Item(0), Item(1), Item(2), End],
     )
+}
+
+#[test]
+fn pages_without_end_are_searched(rt: HostRuntime) {
+    let mut page: u8 = 98;
+    let pages = from_fn(|| {
+        page = page.wrapping_add(1);
+        Ok(Some(page))
+    });
+    assert_eq!(rt; first_above_100(pages), Ok(Some(101)));
 }
