@@ -6,7 +6,6 @@
 //! printed.
 #![tactic(auto)]
 
-mod by_byte;
 mod program;
 
 use program::program;

@@ -3,8 +3,7 @@ ghost use Rattle.std.specs.Prelude.{◌≢◌, [], MatchResult};
 ghost use Rattle.std.specs.Io.KnownBytes.{Appends};
 ghost use Rattle.count_rows.specs.Program.{ComesTo, EndsWith};
 
-use crate::by_byte::ByByte;
-use fallible_rows::{RowFault, fault_line, run};
+use fallible_rows::{Buffered, RowFault, fault_line, run};
 use std::alloc::Global;
 use std::io::{BufReader, Read, Write};
 
@@ -17,7 +16,7 @@ fn run_buffered<R: Read + Drop, W: Write>(
     ensures { ComesTo (R.remaining input) (W.contents output.old) (W.contents output.new) result }
 {
     match BufReader::new(alloc, input) {
-        Ok(reader) => run(alloc, &mut ByByte { reader }, output),
+        Ok(reader) => run(alloc, &mut Buffered::new(reader), output),
         Err(_) => Err(RowFault::Memory),
     }
 }

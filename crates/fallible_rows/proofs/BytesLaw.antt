@@ -10,7 +10,8 @@ use Rattle.std.proofs.lemmas.Grind.{replicate_next}
 use Rattle.fallible_iterator.specs.Traces.{Answered, Run, failure, end}
 use Rattle.fallible_iterator.proofs.Lemmas.Callers.{turns_split}
 use Rattle.fallible_rows.specs.Rows.{rows, is_newline}
-use Rattle.fallible_rows.specs.RowTraces.{row_answer, row_answers, IsOneRow, IsClosed, GivesBytes, row_step, ReadsRows, AnswersRowsOf, NeverFailsToRead, BeginsWith, CanGiveAll}
+use Rattle.fallible_rows.specs.Reading.{GivesBytes}
+use Rattle.fallible_rows.specs.RowTraces.{row_answer, row_answers, IsOneRow, IsClosed, row_step, ReadsRows, AnswersRowsOf, NeverFailsToRead, BeginsWith, CanGiveAll}
 use Rattle.fallible_rows.proofs.RowLemmas.{not_newline, rows-closed}
 use Rattle.fallible_rows.proofs.RowsLaw.{to_trace, from_trace}
 use Rattle.fallible_rows.proofs.PrefixLemmas.{gives_consumes, end_consumes}

@@ -2,6 +2,7 @@ pub mod BytesLaw
 pub mod ChainLemmas
 pub mod ListsLaw
 pub mod PrefixLemmas
+pub mod ReadingLemmas
 pub mod ReportLemmas
 pub mod RowLemmas
 pub mod RowsLaw

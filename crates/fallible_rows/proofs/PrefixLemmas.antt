@@ -7,11 +7,11 @@ use Rattle.std.proofs.lemmas.List.Elements.{All-take}
 use Rattle.fallible_iterator.specs.Traces.{Answered, item, failure, end}
 use Rattle.fallible_iterator.specs.Folds.{CountExit}
 use Rattle.fallible_iterator.proofs.Lemmas.Callers.{no_item-end, no_item-failure, items_then_last, not_items_with}
-use Rattle.fallible_rows.specs.Reading.{GivesEnd}
+use Rattle.fallible_rows.specs.Reading.{GivesBytes, GivesEnd}
 use Rattle.fallible_rows.specs.Rows.{rows}
 use Rattle.fallible_rows.specs.Report.{row_limit, line_of_count}
 use Rattle.fallible_rows.specs.Run.{byte_limit}
-use Rattle.fallible_rows.specs.RowTraces.{told_place, row_answers, IsClosed, IsOneRow, GivesBytes, MissesByte, StopsBetween, StopsAtEnd, ReadsRows}
+use Rattle.fallible_rows.specs.RowTraces.{told_place, row_answers, IsClosed, IsOneRow, MissesByte, StopsBetween, StopsAtEnd, ReadsRows}
 use Rattle.fallible_rows.specs.Counting.{CountsPrefix}
 use Rattle.fallible_rows.proofs.ReportLemmas.{row_limit-is, above, is_taken, item_rows, refused_rows, no_end, tally-numbers, tally-refused, prefix_at_end, prefix_full, prefix_refused, prefix_refused_at_end}
 use Rattle.fallible_rows.proofs.ChainLemmas.{ReadsAtMost}

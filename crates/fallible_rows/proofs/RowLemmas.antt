@@ -1,19 +1,20 @@
 -- Lemmas on rows and on the numbers that they write.
-use Rattle.std.proofs.Common.{◌≡◌, ◌≢◌, ℕ, ◌+◌, ◌-◌, ◌*◌, ◌<◌, ◌≤◌, Bool, true, false, List, [], ◌∷◌, ◌++◌, length, take, get_or, eqb, lit≤, refl, sym, ap, subst, ◌∙◌, arith, append_assoc, Some, None, inl, inr}
+use Rattle.std.proofs.Common.{◌≡◌, ◌≢◌, ℕ, suc, ◌+◌, ◌-◌, ◌*◌, ◌<◌, ◌≤◌, Bool, true, false, List, [], ◌∷◌, ◌++◌, length, take, drop, get_or, eqb, lit≤, refl, sym, ap, subst, ◌∙◌, arith, append_assoc, Some, None, inl, inr}
 use Rattle.std.specs.List.{All, slice_split}
 use Rattle.std.specs.Str.{all_ascii_digits}
 use Rattle.std.specs.Str.Parse.{AllDigits, digits_value}
 use Rattle.std.specs.Char.{digit_value}
 use Rattle.std.specs.Int.{IsInRange}
-use Rattle.std.proofs.Math.Seq.{get_or-append_seam}
+use Rattle.std.proofs.Math.Seq.{get_or-append_seam, take-suc}
 use Rattle.std.proofs.lemmas.Bool.{and_parts, and_from, lt-ltb, le-ltb, leb-true, le-leb, false_from_ne_true, cond-true, cond-false, ne_eqb, eqb-true, eqb-false}
 use Rattle.std.proofs.lemmas.List.Splits.{slice_split_at, slice_split_none, length-slice_split}
 use Rattle.std.proofs.lemmas.List.Elements.{All-nil, All-cons}
-use Rattle.std.proofs.lemmas.List.{get_or_push, take_at, length_push, length-append}
-use Rattle.std.proofs.lemmas.Str.Parse.{tells_all_ascii_digits, numerals_by_value, IsNumeralModel, digit_at, digits_value-take-le}
-use Rattle.std.proofs.lemmas.Int.Digits.{digits_push, digits_value_push}
+use Rattle.std.proofs.lemmas.List.{get_or_push, take_at, length_push, length-append, length-take, take-append-drop, drop_more}
+use Rattle.std.proofs.lemmas.Str.Parse.{tells_all_ascii_digits, numerals_by_value, IsNumeralModel, digit_at, digit_from_value, digits_value_short, digits_value-take-le}
+use Rattle.std.proofs.lemmas.Int.Digits.{digits_push, digits_value_push, digits_value_more}
 use Rattle.fallible_rows.specs.Rows.{rows, is_newline, is_number, row_number, without_empty_last}
 use Rattle.fallible_rows.specs.RowTraces.{IsOneRow, IsClosed}
+use Rattle.fallible_rows.specs.Digits.{HasNumberAhead}
 
 -- what the test of a number says
 pub record IsNumber (row : List ℕ) : Type 0 where
@@ -95,6 +96,45 @@ row_number-more bytes byte n is few h fits =
     let same : digits_value 10 (bytes ++ byte ∷ []) ≡ n * 10 + (byte - 48) = omega (arith, value, before.1) in
     let number : IsNumber (bytes ++ byte ∷ []) = record { digits = digits_push 10 bytes byte before.0.digits below; some = omega (arith, length_push bytes byte); few = omega (arith, length_push bytes byte); fits = omega (arith, same) } in
     row_number-number (bytes ++ byte ∷ []) number ∙ ap (λ v. Some v) same
+
+-- digits are one row, and up to 18 of them are a number
+pub IsOneRow-digits : (row : List ℕ) → AllDigits 10 row → IsOneRow row
+IsOneRow-digits [] h = All-nil (λ byte. byte ≢ 10)
+IsOneRow-digits (c ∷ cs) h = All-cons (λ byte. byte ≢ 10) c cs (λ e. omega (arith, digit_from_value c h.0)) (IsOneRow-digits cs h.1)
+
+pub short_value : (row : List ℕ) → AllDigits 10 row → length row ≤ 18 → digits_value 10 row < 1000000000000000000
+short_value row h few = digits_value_short digits_model row 18 (digits_model.from row h) few
+
+pub row_number-digits : (row : List ℕ) → AllDigits 10 row → 0 < length row → length row ≤ 18 → row_number row ≡ Some (digits_value 10 row)
+row_number-digits row h some few =
+    let fits = short_value row h few in
+    row_number-number row (record { digits = h; some = omega (arith, some); few = omega (arith, few); fits = omega (arith, fits) })
+
+-- ---- a number at the front of bytes
+
+pub AllDigits-more : (bytes : List ℕ) (n : ℕ) → n < length bytes → AllDigits 10 (take n bytes) → IsInRange 48 57 (get_or bytes n 0) → AllDigits 10 (take (n + 1) bytes)
+AllDigits-more bytes n l h digit =
+    let below : digit_value (get_or bytes n 0) < 10 = omega (arith, digit_value-digit (get_or bytes n 0) digit, digit.0, digit.1) in
+    let next : n + 1 ≡ suc n = omega arith in
+    subst (AllDigits 10) (sym (ap (λ k. take k bytes) next ∙ take-suc bytes n 0 l)) (digits_push 10 (take n bytes) (get_or bytes n 0) h below)
+
+pub digits_value-next : (bytes : List ℕ) (n : ℕ) → n < length bytes → IsInRange 48 57 (get_or bytes n 0) → digits_value 10 (take (n + 1) bytes) ≡ digits_value 10 (take n bytes) * 10 + (get_or bytes n 0 - 48)
+digits_value-next bytes n l digit = digits_value_more 10 bytes n l ∙ ap (λ d. digits_value 10 (take n bytes) * 10 + d) (digit_value-digit (get_or bytes n 0) digit)
+
+pub value_ahead : (bytes : List ℕ) (n : ℕ) → AllDigits 10 (take n bytes) → n ≤ 18 → digits_value 10 (take n bytes) < 1000000000000000000
+value_ahead bytes n h few = short_value (take n bytes) h (omega (arith, few, length-take n bytes))
+
+pub number_ahead-is : (bytes : List ℕ) (n : ℕ) → AllDigits 10 (take n bytes) → 0 < n → n ≤ 18 → n < length bytes → get_or bytes n 0 ≡ 10 → HasNumberAhead bytes n (digits_value 10 (take n bytes))
+number_ahead-is bytes n h some few l newline =
+    let long : length (take n bytes) ≡ n = omega (arith, length-take n bytes, l) in
+    record {
+      row = take n bytes;
+      rest = drop (n + 1) bytes;
+      are = sym (take-append-drop n bytes) ∙ ap (λ r. take n bytes ++ r) (drop_more bytes n 0 l ∙ ap (λ byte. byte ∷ drop (n + 1) bytes) newline);
+      one = IsOneRow-digits (take n bytes) h;
+      number = row_number-digits (take n bytes) h (omega (arith, long, some)) (omega (arith, long, few));
+      long = long;
+    }
 
 -- rows that are no number, whatever follows
 pub row_number-other_byte : (bytes : List ℕ) (byte : ℕ) (more : List ℕ) → (IsInRange 48 57 byte → ⊥) → row_number ((bytes ++ byte ∷ []) ++ more) ≡ None

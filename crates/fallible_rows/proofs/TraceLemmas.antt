@@ -1,16 +1,19 @@
 -- Lemmas on what draws from the rows of a reader answer.
-use Rattle.std.proofs.Common.{Bool, ◌↔◌, ◌≡◌, ◌≢◌, ℕ, ◌+◌, List, [], ◌∷◌, ◌++◌, Option, Some, None, refl, subst, ◌⊎◌, inl, inr}
+use Rattle.std.proofs.Common.{Bool, ◌↔◌, ◌≡◌, ◌≢◌, ℕ, ◌+◌, List, [], ◌∷◌, ◌++◌, length, take, Option, Some, None, refl, sym, ap, subst, ◌∙◌, arith, append_assoc, ◌⊎◌, inl, inr}
+use Rattle.std.proofs.lemmas.List.{take_at, length_push}
 use Rattle.std.proofs.lemmas.List.Elements.{All-nil, All-cons, All-append}
 use Rattle.fallible_iterator.specs.Traces.{Answered, Run, failure, end}
 use Rattle.fallible_iterator.specs.Laws.Closures.{turns_then}
+use Rattle.fallible_iterator.proofs.Lemmas.Callers.{turns_split}
 use Rattle.fallible_iterator.proofs.Lemmas.LawForm.{traces_of_parts}
-use Rattle.fallible_rows.specs.Digits.{TellsOf, ClosesAs, ReadsRow}
-use Rattle.fallible_rows.specs.Reading.{GivesByte}
-use Rattle.fallible_rows.specs.RowTraces.{rows_parts, told_place, row_answer, IsOneRow, GivesBytes, DrawsRow}
+use Rattle.fallible_rows.specs.Digits.{TellsOf, HasNumberAhead, ClosesAs, ReadsRow}
+use Rattle.fallible_rows.specs.Reading.{GivesByte, GivesBytes}
+use Rattle.fallible_rows.specs.RowTraces.{rows_parts, told_place, row_answer, IsOneRow, DrawsRow}
 use Rattle.fallible_rows.proofs.RowLemmas.{not_newline}
 use Rattle.fallible_rows.specs.declared.fault.RowFault.{RowFault}
 use Rattle.fallible_rows.specs.declared.fault.RowFault.TheVariants.{Read}
 use Rattle.fallible_rows.specs.declared.digits.Digits.{Digits}
+use Rattle.fallible_rows.specs.declared.digits.Digits.TheVariants.{Number}
 use Rattle.fallible_rows.specs.declared.rows.Ahead.{Ahead}
 use Rattle.fallible_rows.specs.declared.rows.Rows.{Rows}
 use Rattle.fallible_rows.specs.declared.rows.Close.{Close}
@@ -21,6 +24,22 @@ IsOneRow-more row byte one other = All-append not_newline row (byte ∷ []) one 
 
 pub gives_more : {B : Type 0} (left : B → Option (List ℕ)) (stays : Bool → B → B → Type 0) (row : List ℕ) (byte : ℕ) (p q r : B) → GivesBytes left stays p row q → GivesByte left stays q byte r → GivesBytes left stays p (row ++ byte ∷ []) r
 gives_more left stays row byte p q r h k = turns_then (GivesByte left stays) row (byte ∷ []) p q r h (r, k, refl)
+
+-- a row that stands whole in what a reader holds, and was given with its newline
+pub row_ahead : {B : Type 0} (left : B → Option (List ℕ)) (stays : Bool → B → B → Type 0) (r q : B) (held : List ℕ) (count value more limit : ℕ) → HasNumberAhead held count value → GivesBytes left stays r (take (count + 1) held) q → more + count + 1 ≡ limit → ReadsRow left stays r limit (Number count value, Newline more) q
+row_ahead left stays r q held count value more limit h given at =
+    let whole : held ≡ (h.row ++ 10 ∷ []) ++ h.rest = h.are ∙ sym (append_assoc h.row (10 ∷ []) h.rest) in
+    let long : length (h.row ++ 10 ∷ []) ≡ count + 1 = let row = h.long in omega (arith, length_push h.row 10, row) in
+    let taken : take (count + 1) held ≡ h.row ++ 10 ∷ [] = ap (take (count + 1)) whole ∙ take_at (h.row ++ 10 ∷ []) h.rest (count + 1) long in
+    let parts = turns_split (GivesByte left stays) h.row (10 ∷ []) r q (subst (λ l. GivesBytes left stays r l q) taken given) in
+    record {
+      row = h.row;
+      one = h.one;
+      last = parts.0;
+      given = parts.1;
+      tells = (h.number, h.long);
+      closed = (subst (GivesByte left stays parts.0 10) parts.2.2 parts.2.1, let row = h.long in omega (arith, row, at));
+    }
 
 -- the value of these parts
 abbrev pub rows_of : {B : Type 0} → B × Option Ahead → Rows B

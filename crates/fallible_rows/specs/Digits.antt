@@ -1,8 +1,8 @@
 -- What is kept of the bytes of a row, and what a draw reads of one.
-use Rattle.std.specs.Prelude.{Bool, ◌≡◌, ◌≢◌, ℕ, ◌+◌, ◌<◌, List, [], ◌++◌, length, Option, Some, None}
-use Rattle.fallible_rows.specs.Reading.{GivesByte, GivesEnd}
+use Rattle.std.specs.Prelude.{Bool, ◌≡◌, ◌≢◌, ℕ, ◌+◌, ◌<◌, List, [], ◌∷◌, ◌++◌, length, Option, Some, None}
+use Rattle.fallible_rows.specs.Reading.{GivesByte, GivesBytes, GivesEnd}
 use Rattle.fallible_rows.specs.Rows.{row_number}
-use Rattle.fallible_rows.specs.RowTraces.{IsOneRow, GivesBytes, MissesByte}
+use Rattle.fallible_rows.specs.RowTraces.{IsOneRow, MissesByte}
 use Rattle.fallible_rows.specs.declared.digits.Digits.{Digits}
 use Rattle.fallible_rows.specs.declared.digits.Digits.TheVariants.{Empty, Number, Refused}
 use Rattle.fallible_rows.specs.declared.rows.Close.{Close}
@@ -13,6 +13,15 @@ abbrev pub TellsOf : Digits → List ℕ → Type 0
 TellsOf Empty bytes = bytes ≡ []
 TellsOf (Number count value) bytes = (row_number bytes ≡ Some value) × (length bytes ≡ count)
 TellsOf Refused bytes = (bytes ≢ []) × ((more : List ℕ) → row_number (bytes ++ more) ≡ None)
+
+-- bytes begin with a row that a newline ends, and that is a number of so many digits
+pub record HasNumberAhead (bytes : List ℕ) (count value : ℕ) : Type 0 where
+  pub row : List ℕ
+  pub rest : List ℕ
+  pub are : bytes ≡ row ++ 10 ∷ rest
+  pub one : IsOneRow row
+  pub number : row_number row ≡ Some value
+  pub long : length row ≡ count
 
 module _ {B : Type 0} (left : B → Option (List ℕ)) (stays : Bool → B → B → Type 0) where
   -- what ended a row of which at most so many bytes might be read

@@ -1,6 +1,9 @@
--- What one read of one byte does to the bytes that a reader has left, where they are known.
-use Rattle.std.specs.Prelude.{Bool, true, false, ℕ, List, [], ◌∷◌, Option, Some, None, Result, Ok, Err}
-use Rattle.std.specs.Io.KnownBytes.{Consumes, Keeps, IsAtEnd}
+-- What reads of one byte do to the bytes that a reader has left, where they are known.
+use Rattle.std.specs.Prelude.{Bool, true, false, ℕ, List, [], ◌∷◌, drop, ◌==◌, if◌then◌else◌, Option, Some, None, Result, Ok, Err}
+use Rattle.std.specs.List.{FoldsTo}
+use Rattle.std.specs.Io.Buffered.{reader_buffer, reader_capacity, reader_inner}
+use Rattle.std.specs.Io.KnownBytes.{Consumes, Keeps, IsAtEnd, prepend_known}
+use Rattle.fallible_rows.specs.declared.reading.Buffered.{Buffered}
 use Rattle.fallible_rows.specs.declared.reading.Bytes.{Bytes}
 
 module _ {R : Type 0} (left : R → Option (List ℕ)) (stays : Bool → R → R → Type 0) where
@@ -22,6 +25,10 @@ module _ {R : Type 0} (left : R → Option (List ℕ)) (stays : Bool → R → R
   ReadsOne r (Ok None) q = GivesEnd r q
   ReadsOne r (Err e) q = FailsToRead r q
 
+  -- the reader gave these bytes, one at a time
+  abbrev pub GivesBytes : R → List ℕ → R → Type 0
+  GivesBytes r bytes q = FoldsTo GivesByte r bytes q
+
 -- no read of any such reader fails
 abbrev pub NoReadFails : {R : Type 0} → (Bool → R → R → Type 0) → Type 0
 NoReadFails {R} stays = (r q : R) → stays true r q → ⊥
@@ -29,3 +36,11 @@ NoReadFails {R} stays = (r q : R) → stays true r q → ⊥
 -- what is left of bytes: they themselves
 abbrev pub bytes_left : Bytes → Option (List ℕ)
 bytes_left s = Some s.bytes.now
+
+-- the bytes that a buffered reader holds and has not given
+abbrev pub held_bytes : {R : Type 0} → Buffered R → List ℕ
+held_bytes s = drop s.given (reader_buffer s.reader)
+
+-- what is left of a buffered reader: those bytes and then what the reader below has left, where that is known; `None` with no capacity
+abbrev pub buffered_left : {R : Type 0} → (R → Option (List ℕ)) → Buffered R → Option (List ℕ)
+buffered_left remaining s = if reader_capacity s.reader == 0 then None else prepend_known (held_bytes s) (remaining (reader_inner s.reader))

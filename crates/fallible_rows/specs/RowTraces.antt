@@ -1,10 +1,9 @@
 -- What draws from the rows of a reader answer, and what they read.
 use Rattle.std.specs.Prelude.{Bool, ◌≡◌, ◌≢◌, ℕ, ◌+◌, ◌<◌, ◌≤◌, ◌⊎◌, min, List, [], ◌∷◌, ◌++◌, length, take, replicate, All, Option, Some, None, Result, ⊤}
-use Rattle.std.specs.List.{FoldsTo}
 use Rattle.std.specs.Option.{ok_or}
 use Rattle.fallible_iterator.specs.Traces.{Answered, item, failure, end}
 use Rattle.fallible_rows.specs.Rows.{rows, row_number}
-use Rattle.fallible_rows.specs.Reading.{GivesByte, GivesEnd, FailsToRead}
+use Rattle.fallible_rows.specs.Reading.{GivesByte, GivesBytes, GivesEnd, FailsToRead}
 use Rattle.fallible_rows.specs.declared.fault.RowFault.{RowFault}
 use Rattle.fallible_rows.specs.declared.fault.RowFault.TheVariants.{Row, Read}
 use Rattle.fallible_rows.specs.declared.rows.Ahead.{Ahead}
@@ -63,10 +62,6 @@ abbrev pub IsClosed : List ℕ → Type 0
 IsClosed bytes = (bytes ≡ []) ⊎ ((prefix : List ℕ) × (bytes ≡ prefix ++ 10 ∷ []))
 
 module _ {B : Type 0} (left : B → Option (List ℕ)) (stays : Bool → B → B → Type 0) where
-  -- the reader gave these bytes, one at a time
-  abbrev pub GivesBytes : B → List ℕ → B → Type 0
-  GivesBytes r bytes q = FoldsTo (GivesByte left stays) r bytes q
-
   -- a byte more was wanted than may be read, or the read of it failed
   abbrev pub MissesByte : ℕ → ℕ → B → B → Type 0
   MissesByte limit count r q = ((count ≡ limit) × (q ≡ r)) ⊎ ((count < limit) × FailsToRead left stays r q)
@@ -100,7 +95,7 @@ module _ {B : Type 0} (left : B → Option (List ℕ)) (stays : Bool → B → B
     pub row : List ℕ
     pub one : IsOneRow row
     pub last : B
-    pub given : GivesBytes r row last
+    pub given : GivesBytes left stays r row last
     pub ended : EndsByNewline last a row answer p ⊎ (EndsByEnd last a row answer p ⊎ EndsByFailure last a row answer p)
 
   -- One answer: a row, and an end without a read once they have ended for good.
@@ -140,7 +135,7 @@ module _ {B : Type 0} (left : B → Option (List ℕ)) (stays : Bool → B → B
     pub closed : List ℕ
     pub unclosed : List ℕ
     pub last : B
-    pub given : GivesBytes r (closed ++ unclosed) last
+    pub given : GivesBytes left stays r (closed ++ unclosed) last
     pub are_closed : IsClosed closed
     pub one : IsOneRow unclosed
     pub stopped : StopsBetween last a closed unclosed trace p ⊎ (StopsAtEnd last a closed unclosed trace p ⊎ StopsAtFailure last a closed unclosed trace p)

@@ -3,10 +3,9 @@ ghost use Rattle.std.specs.Prelude.{◌≡◌, ◌+◌, ◌-◌, ◌^◌, ◌<�
 ghost use Rattle.fallible_rows.specs.Counting.{CountsPrefix};
 
 use crate::fault::RowFault;
-use crate::reading::Lent;
+use crate::reading::{Lent, ReadByte};
 use crate::rows::Rows;
 use fallible_iterator::FallibleIterator;
-use std::io::Read;
 
 // How many rows are looked at.
 const MAX_ROWS: usize = 1_000_000;
@@ -16,8 +15,8 @@ const LIMIT: u64 = 100;
 
 // How many of the first `MAX_ROWS` rows are above `LIMIT`. `Row` of the place, from 1, of the first of
 // them that is not a number; `Read` where a read fails before.
-pub(crate) fn count_above<R: Read>(reader: &mut R) -> Result<usize, RowFault>
-    ensures { CountsPrefix (R.remaining reader.old) (R.remaining reader.new) result }
+pub(crate) fn count_above<R: ReadByte>(reader: &mut R) -> Result<usize, RowFault>
+    ensures { CountsPrefix (R.left reader.old) (R.left reader.new) result }
 {
     let mut above = Rows::new(Lent { reader })
         .take(MAX_ROWS)

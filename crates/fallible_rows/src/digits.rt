@@ -1,6 +1,7 @@
 //! Rows, judged byte by byte.
-ghost use Rattle.std.specs.Prelude.{◌≡◌, ℕ, ◌+◌, ◌*◌, ◌<◌, ◌^◌, List, [], ◌∷◌, ◌++◌, ◌≤◌, MatchOption, IsTrue, ◌↔◌};
+ghost use Rattle.std.specs.Prelude.{◌≡◌, ℕ, ◌+◌, ◌*◌, ◌<◌, ◌^◌, List, [], ◌∷◌, ◌++◌, ◌≤◌, MatchOption, IsTrue, ◌↔◌, IfSome};
 ghost use Rattle.fallible_rows.specs.RowTraces.{row_answer};
+ghost use Rattle.fallible_rows.specs.Digits.{HasNumberAhead};
 
 use crate::fault::RowFault;
 
@@ -74,4 +75,25 @@ fn longer(value: u64, digit: u64) -> Option<u64>
         (λ v. (v ≡ value * 10 + digit) × (v < 2 ^ 64)) }
 {
     value.checked_mul(10)?.checked_add(digit)
+}
+
+// How many digits are read without a test for an overflow: a value below 10 ^ 18 and one more digit fit `u64`.
+const PLAIN_DIGITS: usize = 18;
+
+// How many digits the row has that these bytes begin with, and its value, where a newline among the bytes ends it and it has 1 to `PLAIN_DIGITS` digits and nothing else.
+pub(crate) fn number_ahead(bytes: &[u8]) -> Option<(u8, u64)>
+    ensures { IfSome result (λ p. HasNumberAhead bytes.now p.0 p.1) }
+{
+    let mut value = 0u64;
+    for count in 0..bytes.len().min(PLAIN_DIGITS + 1) {
+        let byte = bytes[count];
+        if byte.is_ascii_digit() {
+            value = value * 10 + u64::from(byte - b'0');
+        } else if byte == b'\n' && count > 0 {
+            return Some((count as u8, value));
+        } else {
+            return None;
+        }
+    }
+    None
 }

@@ -1,8 +1,9 @@
-//! Readers that are asked for one byte at a time.
-ghost use Rattle.std.specs.Prelude.{◌≡◌, ℕ, Bool, false, List, Option, Some, ⊤};
-ghost use Rattle.fallible_rows.specs.Reading.{ReadsOne, bytes_left};
+//! Readers that are asked for one byte at a time, and tell what they hold in a buffer.
+ghost use Rattle.std.specs.Prelude.{◌≡◌, ◌≤◌, ℕ, Bool, false, List, [], length, take, Option, Some, ⊤};
+ghost use Rattle.std.specs.Io.Buffered.{reader_remaining};
+ghost use Rattle.fallible_rows.specs.Reading.{ReadsOne, GivesBytes, bytes_left, held_bytes, buffered_left};
 
-use std::io::Read;
+use std::io::{BufRead, BufReader, Read};
 
 /// A read failed.
 #[derive(Debug, Drop)]
@@ -16,9 +17,21 @@ pub trait ReadByte: Drop + Sized {
     // What every read keeps as it was, by whether it failed.
     ghost stays: { Bool → Self → Self → Type 0 };
 
+    // The bytes that it holds in a buffer.
+    ghost in_buffer: { Self → List ℕ };
+
     /// The next byte, or none at the end. A failed read takes no byte.
     fn read_byte(&mut self) -> Result<Option<u8>, ReadFailed>
         ensures { ReadsOne left stays self.old result self.new };
+
+    /// The bytes that it holds in a buffer, and gives next.
+    fn buffered(&self) -> &[u8]
+        ensures { result.now ≡ in_buffer self.now };
+
+    /// Takes the first `count` of the bytes that it holds in a buffer, as so many calls of `read_byte` would.
+    fn consume_buffered(&mut self, count: usize)
+        requires { count ≤ length (in_buffer self.old) }
+        ensures { GivesBytes left stays self.old (take count (in_buffer self.old)) self.new };
 }
 
 // One read, for one byte. An interrupted read fails too.
@@ -38,8 +51,19 @@ impl<R: Read + Drop> ReadByte for R {
 
     ghost stays = { λ _ _ _. ⊤ };
 
+    ghost in_buffer = { λ _. [] };
+
     fn read_byte(&mut self) -> Result<Option<u8>, ReadFailed> {
         byte_of(self)
+    }
+
+    /// None: what any reader holds is not known.
+    fn buffered(&self) -> &[u8] {
+        &[]
+    }
+
+    fn consume_buffered(&mut self, count: usize) {
+        let _ = count;
     }
 }
 
@@ -49,13 +73,69 @@ pub(crate) struct Lent<'a, R> {
     pub(crate) reader: &'a mut R,
 }
 
-impl<R: Read> ReadByte for Lent<'_, R> {
-    ghost left = { λ s. R.remaining s.reader.now };
+impl<R: ReadByte> ReadByte for Lent<'_, R> {
+    ghost left = { λ s. R.left s.reader.now };
 
     ghost stays = { λ _ s t. t.reader.ghost_name ≡ s.reader.ghost_name };
 
+    ghost in_buffer = { λ s. R.in_buffer s.reader.now };
+
     fn read_byte(&mut self) -> Result<Option<u8>, ReadFailed> {
-        byte_of(&mut *self.reader)
+        self.reader.read_byte()
+    }
+
+    fn buffered(&self) -> &[u8] {
+        self.reader.buffered()
+    }
+
+    fn consume_buffered(&mut self, count: usize) {
+        self.reader.consume_buffered(count)
+    }
+}
+
+/// A buffered reader that tells what its buffer holds, so that a row that stands there whole is read at once.
+#[derive(Drop)]
+pub struct Buffered<R> {
+    reader: BufReader<R>,
+    // how many bytes of its buffer were given
+    given: usize,
+}
+
+impl<R: Read> Buffered<R> {
+    /// The bytes of `reader`. It reads nothing.
+    pub fn new(reader: BufReader<R>) -> Buffered<R>
+        ensures { buffered_left R.remaining result ≡ reader_remaining R.remaining reader }
+    {
+        Buffered { reader, given: 0 }
+    }
+}
+
+impl<R: Read + Drop> ReadByte for Buffered<R> {
+    ghost left = { buffered_left R.remaining };
+
+    ghost stays = { λ _ _ _. ⊤ };
+
+    ghost in_buffer = { held_bytes };
+
+    /// The next byte of the buffer, and where that is empty what one read gives, which fills it.
+    fn read_byte(&mut self) -> Result<Option<u8>, ReadFailed> {
+        let Some(byte) = self.buffered().first() else {
+            self.reader.consume(self.given);
+            self.given = 0;
+            return byte_of(&mut self.reader);
+        };
+        let byte = *byte;
+        self.given += 1;
+        Ok(Some(byte))
+    }
+
+    fn buffered(&self) -> &[u8] {
+        let held = self.reader.buffer();
+        &held[self.given.min(held.len())..]
+    }
+
+    fn consume_buffered(&mut self, count: usize) {
+        self.given += count;
     }
 }
 
@@ -79,11 +159,23 @@ impl ReadByte for Bytes<'_> {
 
     ghost stays = { λ failed _ _. failed ≡ false };
 
+    ghost in_buffer = { λ s. s.bytes.now };
+
     fn read_byte(&mut self) -> Result<Option<u8>, ReadFailed> {
         let Some((first, rest)) = self.bytes.split_first() else {
             return Ok(None);
         };
         self.bytes = rest;
         Ok(Some(*first))
+    }
+
+    fn buffered(&self) -> &[u8] {
+        self.bytes
+    }
+
+    fn consume_buffered(&mut self, count: usize) {
+        if count > 0 {
+            self.bytes = &self.bytes[count..];
+        }
     }
 }

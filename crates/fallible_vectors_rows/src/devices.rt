@@ -1,8 +1,8 @@
 //! Readers and writers that fail at each call in turn or come in pieces, and inputs that a generator makes, against a rule over the whole input.
-use fallible_rows::{RowFault, run};
+use fallible_rows::{Buffered, RowFault, run};
 use std::alloc::{AllocError, Global};
 use std::io;
-use std::io::{ErrorKind, Read, Write};
+use std::io::{BufReader, ErrorKind, Read, Write};
 use std::process::Abort;
 use std::test::Fail;
 
@@ -108,11 +108,20 @@ fn closed(bytes: &[u8]) -> &[u8] {
     }
 }
 
-// What `run` answers over the device, and what it wrote.
-fn run_on(alloc: Global, device: &mut Device<'_>) -> (Result<(), RowFault>, Vec<u8>) {
+// What `run` answers over the device, and what it wrote: through a buffer of so many bytes, or with none by single bytes.
+fn run_on(
+    alloc: Global,
+    device: &mut Device<'_>,
+    capacity: usize,
+) -> io::Result<(Result<(), RowFault>, Vec<u8>)> {
     let mut written = Vec::new(alloc);
-    let outcome = run(alloc, device, &mut written);
-    (outcome, written)
+    let outcome = if capacity == 0 {
+        run(alloc, device, &mut written)
+    } else {
+        let reader = BufReader::with_capacity(alloc, capacity, device)?;
+        run(alloc, &mut Buffered::new(reader), &mut written)
+    };
+    Ok((outcome, written))
 }
 
 // The same as it is to be, where the whole input has that answer.
@@ -137,6 +146,7 @@ fn expect_each_read_failed(
     alloc: Global,
     input: &[u8],
     piece: usize,
+    capacity: usize,
     kind: ErrorKind,
 ) -> Result<(), Fail> {
     for failing in 0..100 {
@@ -147,7 +157,7 @@ fn expect_each_read_failed(
             kind,
             reads: 0,
         };
-        let got = run_on(alloc, &mut device);
+        let got = run_on(alloc, &mut device, capacity)?;
         let met = device.reads > failing;
         let answer = if met {
             let count = input.len().saturating_sub(device.bytes.len());
@@ -162,7 +172,7 @@ fn expect_each_read_failed(
         assert_eq!(rt;
             got,
             wanted,
-            "{input:?} by {piece}: {kind:?} at read {failing}"
+            "{input:?} by {piece} through {capacity}: {kind:?} at read {failing}"
         );
         if !met {
             return Ok(());
@@ -181,14 +191,14 @@ fn run_over_readers_that_fail_at_each_read_in_turn(rt: HostRuntime) -> Result<()
         b"7\n\n",
         b"",
     ] {
-        for piece in [1, 2, usize::MAX] {
+        for (piece, capacity) in [(1, 0), (2, 0), (usize::MAX, 0), (2, 5), (usize::MAX, 5)] {
             for kind in [
                 ErrorKind::Other,
                 ErrorKind::Interrupted,
                 ErrorKind::UnexpectedEof,
                 ErrorKind::WouldBlock,
             ] {
-                expect_each_read_failed(&rt, rt.alloc(), input, piece, kind)?;
+                expect_each_read_failed(&rt, rt.alloc(), input, piece, capacity, kind)?;
             }
         }
     }
@@ -436,7 +446,7 @@ fn run_refuses_200_malformed_inputs_at_the_row_that_the_rule_names(
                 kind: ErrorKind::Other,
                 reads: 0,
             };
-            let got = run_on(alloc, &mut device);
+            let got = run_on(alloc, &mut device, 0)?;
             let wanted = (Err(RowFault::Row(place)), Vec::new(alloc));
             assert_eq!(rt; got, wanted, "case {case} by {piece}: {input:?}");
             let length = length_of(alloc, input.as_slice(), place)?;
@@ -476,21 +486,23 @@ fn run_answers_2000_mixed_inputs_as_the_rule_does(rt: HostRuntime) -> Result<(),
     let (mut reports, mut refusals) = (0u32, 0u32);
     for case in 0..2_000u32 {
         let input = mixed(alloc, &mut generator)?;
-        let mut device = Device {
-            bytes: input.as_slice(),
-            piece: 1,
-            failing: u32::MAX,
-            kind: ErrorKind::Other,
-            reads: 0,
-        };
-        let got = run_on(alloc, &mut device);
         let wanted = report_of(alloc, answer_of(alloc, input.as_slice())?)?;
         if wanted.0.is_ok() {
             reports = reports.wrapping_add(1);
         } else {
             refusals = refusals.wrapping_add(1);
         }
-        assert_eq!(rt; got, wanted, "case {case}: {input:?}");
+        for capacity in [0, 9] {
+            let mut device = Device {
+                bytes: input.as_slice(),
+                piece: 6,
+                failing: u32::MAX,
+                kind: ErrorKind::Other,
+                reads: 0,
+            };
+            let got = run_on(alloc, &mut device, capacity)?;
+            assert_eq!(rt; &got, &wanted, "case {case} through {capacity}: {input:?}");
+        }
     }
     assert!(rt;
         reports > 100 && refusals > 100,

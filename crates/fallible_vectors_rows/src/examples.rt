@@ -1,10 +1,10 @@
 //! What no clause says: the numbers of the examples, and calls that fail or come in pieces.
 use fallible_iterator::laws::answers;
 use fallible_iterator::{Answer, FallibleIterator};
-use fallible_rows::{RowFault, Rows, fault_line, run, sum_of_rows};
+use fallible_rows::{Buffered, ReadByte, RowFault, Rows, fault_line, run, sum_of_rows};
 use std::alloc::{AllocError, Global};
 use std::io;
-use std::io::{ErrorKind, Read, Write};
+use std::io::{BufReader, ErrorKind, Read, Write};
 use std::process::Abort;
 use std::test::Fail;
 
@@ -82,13 +82,13 @@ impl Write for BrokenWriter {
 }
 
 // What `run` answers, and what it wrote.
-fn run_on<R: Read>(alloc: Global, reader: &mut R) -> (Result<(), RowFault>, Vec<u8>) {
+fn run_on<R: Read + Drop>(alloc: Global, reader: &mut R) -> (Result<(), RowFault>, Vec<u8>) {
     let mut written = Vec::new(alloc);
     let outcome = run(alloc, reader, &mut written);
     (outcome, written)
 }
 
-fn expect_count_by<R: Read>(rt: &impl Abort, alloc: Global, reader: &mut R, output: &[u8]) {
+fn expect_count_by<R: Read + Drop>(rt: &impl Abort, alloc: Global, reader: &mut R, output: &[u8]) {
     let (outcome, written) = run_on(alloc, reader);
     assert_eq!(rt; outcome, Ok(()));
     assert_eq!(rt; written.as_slice(), output);
@@ -272,6 +272,18 @@ fn run_leaves_what_follows_row_1_000_000(rt: HostRuntime) -> Result<(), Fail> {
     Ok(())
 }
 
+// Row 1,000,000 stands in the buffer with what follows it.
+#[test]
+fn run_leaves_what_follows_row_1_000_000_in_the_buffer(rt: HostRuntime) -> Result<(), Fail> {
+    let alloc = rt.alloc();
+    let input = rows_of(alloc, b"7\n", 1_000_000, b"x\n8")?;
+    let mut reader = Buffered::new(BufReader::new(alloc, input.as_slice())?);
+    let mut written = Vec::new(alloc);
+    assert_eq!(rt; run(alloc, &mut reader, &mut written), Ok(()));
+    assert_eq!(rt; reader.buffered(), b"x\n8".as_slice());
+    Ok(())
+}
+
 #[test]
 fn run_answers_each_write_that_fails(rt: HostRuntime) {
     for (room, outcome) in [
@@ -380,6 +392,38 @@ fn rows_fails_inside_a_row_that_is_no_number(rt: HostRuntime) {
     assert_eq!(rt; rows.next(), Ok(Some(1)));
     assert_eq!(rt; rows.next(), Err(RowFault::Read));
     assert_eq!(rt; rows.next(), Ok(None));
+}
+
+// Rows of 1 to 20 digits, some with zeros in front, and three that are no number.
+const LONG_ROWS: &[u8] =
+    b"12\n\n00345\nfern\n18446744073709551615\n99999999999999999999\n1234567890123456789\n123456789012345678\n6";
+
+const LONG_ANSWERS: [Answer<u64, RowFault>; 10] = [
+    Answer::Item(12),
+    Answer::Failure(RowFault::Row(2)),
+    Answer::Item(345),
+    Answer::Failure(RowFault::Row(4)),
+    Answer::Item(18_446_744_073_709_551_615),
+    Answer::Failure(RowFault::Row(6)),
+    Answer::Item(1_234_567_890_123_456_789),
+    Answer::Item(123_456_789_012_345_678),
+    Answer::Item(6),
+    Answer::End,
+];
+
+// A row stands whole in the buffer, or over its end.
+#[test]
+fn rows_of_a_buffered_reader_are_the_same_by_each_capacity(rt: HostRuntime) -> Result<(), Fail> {
+    for capacity in 1..=30 {
+        let reader = BufReader::with_capacity(rt.alloc(), capacity, LONG_ROWS)?;
+        let drawn = answers(rt.alloc(), &mut Rows::new(Buffered::new(reader)), 10)?;
+        assert_eq!(rt;
+            drawn.as_slice(),
+            LONG_ANSWERS.as_slice(),
+            "through {capacity}"
+        );
+    }
+    Ok(())
 }
 
 // Tells how many reads were made, and for how many bytes at most.

@@ -25,5 +25,5 @@ returns g c =
     let read = chain_reads _ _ _ _ c.new.result c.new.ensures.parts (lit≤ tt) _ c.filter-above.result c.try_fold.new.self c.take.result _ _ counted.items counted.last (λ x r h k. search (rules, tests)) c.filter-above.ensures.parts c.take.ensures.parts counted.ran in
     let names = sym (reads_keep _ _ (λ (s : Lent g.row.R.Denot). s.reader.ghost_name) (λ failed r q k. k) _ _ _ _ _ _ read.reads) in
     let holds = counts_prefix _ _ _ _ _ refl refl read.items _ read.count_is _ row_limit-is counted.last c.try_fold.result read.reads exit in
-    let finally = λ (x : g.row.R.Denot) (same : x ≡ c.try_fold.new.self.it.it.reader.reader.now). subst (λ y. CountsPrefix (g.R.Read.remaining c.args.reader.now) (g.R.Read.remaining y) c.try_fold.result) (sym same) holds in
+    let finally = λ (x : g.row.R.Denot) (same : x ≡ c.try_fold.new.self.it.it.reader.reader.now). subst (λ y. CountsPrefix (g.R.ReadByte.left c.args.reader.now) (g.R.ReadByte.left y) c.try_fold.result) (sym same) holds in
     finally _ (search (rules, names))

@@ -1,7 +1,8 @@
 use Rattle.std.proofs.Common.{◌≡◌, ℕ, List, length}
 use Rattle.fallible_rows.specs.Digits.{TellsOf}
-use Rattle.fallible_rows.specs.RowTraces.{IsOneRow, GivesBytes}
-use Rattle.fallible_rows.proofs.rows.read_row.Given as goal
+use Rattle.fallible_rows.specs.Reading.{GivesBytes}
+use Rattle.fallible_rows.specs.RowTraces.{IsOneRow}
+use Rattle.fallible_rows.proofs.rows.read_row_by_byte.Given as goal
 
 abbrev pub invariant-loop-read : goal.invariant-loop-read
 invariant-loop-read g l = record {
