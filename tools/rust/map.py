@@ -82,7 +82,7 @@ ITERATOR = [
     (r"lib\.rs", r"\A(?://!.*\n)+\n",
      HEAD + "pub mod fallible_contract;\npub mod fallible_core;\npub mod memory;\n", 1),
     # What users need not see.
-    (r"lib\.rs", r"^pub mod (?!prelude)\w+;", r"#[doc(hidden)]\n\g<0>", 6),
+    (r"lib\.rs", r"^pub mod (?!prelude)\w+;", r"#[doc(hidden)]\n\g<0>", 7),
     (r"lib\.rs", r"^pub use .*(?:answers::|searching::Test;|\{Collect, Fault|Number;)", r"#[doc(hidden)]\n\g<0>", 4),
     (r"fallible_core/traits\.rs", r"^    fn (?:number|drive_\w+)\b", r"    #[doc(hidden)]\n\g<0>", 5),
 ]
