@@ -46,6 +46,7 @@ NEVER_REFUSED = [
     (".clone", ".clone"), (".push", ".push"), ("Box::new", "Box::new"), ("format!", "format!"),
     ("vec!", "vec!"), (".cycle", ".cycle"), (".insert", ".insert"), (".to_string", ".to_string"),
     ("Vec::with_capacity", "Vec::with_capacity"), (".push_reserved", ".push"),
+    ("BufReader::new", "BufReader::new"), ("BufReader::with_capacity", "BufReader::with_capacity"),
     (".push_back", ".push_back"), (".extend_from_slice", ".extend_from_slice"),
 ]
 

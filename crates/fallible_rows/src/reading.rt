@@ -1,6 +1,6 @@
 //! Readers that are asked for one byte at a time, and tell what they hold in a buffer.
 ghost use Rattle.std.specs.Prelude.{◌≡◌, ◌≤◌, ℕ, Bool, false, List, [], length, take, Option, Some, ⊤};
-ghost use Rattle.std.specs.Io.Buffered.{reader_remaining};
+ghost use Rattle.std.specs.Io.Buffered.{reader_buffer, reader_remaining};
 ghost use Rattle.fallible_rows.specs.Reading.{ReadsOne, GivesBytes, bytes_left, held_bytes, buffered_left};
 
 use std::io::{BufRead, BufReader, Read};
@@ -104,7 +104,8 @@ pub struct Buffered<R> {
 impl<R: Read> Buffered<R> {
     /// The bytes of `reader`. It reads nothing.
     pub fn new(reader: BufReader<R>) -> Buffered<R>
-        ensures { buffered_left R.remaining result ≡ reader_remaining R.remaining reader }
+        ensures left { buffered_left R.remaining result ≡ reader_remaining R.remaining reader }
+        ensures held { held_bytes result ≡ reader_buffer reader }
     {
         Buffered { reader, given: 0 }
     }
