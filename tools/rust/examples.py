@@ -9,13 +9,14 @@ import tests
 POOL = re.compile(r"crates/(?!fallible_(contract|core|itertools|calls)|fallible_iterator/src/(?!laws/traces))")
 # What a hidden `main` passes, by the parameter's type.
 READINGS = "[Ok(150), Ok(7), Ok(700), Ok(0), Ok(600)]"
+BYTES = "[Ok(b'1'), Ok(b'2'), Ok(b';')]"
 ARGUMENTS = [
     (r"Vec<Result<&u32, .*", "vec![Ok(&1), Ok(&2)]"),
     (r"Vec<Result<u32, .*", "vec!%s" % READINGS),
     (r"Vec<u32>", "vec![1, 2, 3]"),
     (r"&\[u32\]", "&[150, 7, 700]"),
     (r"&\[Result<.*", "&[]"),
-    (r"&mut Peekable<[IJ]>", "&mut fallible_iterator::convert::<u32, u8, _>(%s.into_iter()).peekable()" % READINGS),
+    (r"&mut Peekable<[IJ]>", "&mut fallible_iterator::convert::<{Item}, u8, _>({items}.into_iter()).peekable()"),
     (r"&mut [IJ]", "&mut fallible_iterator::convert::<u32, u8, _>(%s.into_iter())" % READINGS),
     (r"[IJ]", "fallible_iterator::convert::<{Item}, u8, _>(%s.into_iter())" % READINGS),
     (r"Script<u32, u32>", "Script { answers: vec![Ok(Some(1)), Err(2)].into_iter() }"),
@@ -132,8 +133,10 @@ def argument(kind, generics):
     """What `main` passes for a parameter of that type, or none."""
     for pattern, value in ARGUMENTS:
         if re.fullmatch(pattern, kind):
-            item = re.search(r"\b%s: \w+<Item = (\w+)" % kind, generics)
-            return value.replace("{Item}", item.group(1) if item else "u32")
+            source = re.search(r"\b[IJ]\b", kind)
+            bound = source and re.search(r"\b%s: \w+<Item = (\w+)" % source[0], generics)
+            item = bound[1] if bound else "u32"
+            return value.replace("{Item}", item).replace("{items}", BYTES if item == "u8" else READINGS)
     return None
 
 
