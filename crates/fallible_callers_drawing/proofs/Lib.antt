@@ -1,5 +1,6 @@
 -- Lemmas that the answers of this crate cite.
 pub mod Alike
+pub mod AskedAgain
 pub mod Between
 pub mod Down
 pub mod Full

@@ -7,4 +7,5 @@ pub mod Full
 pub mod Means
 pub mod Pairs
 pub mod Reading
+pub mod Retried
 pub mod Rounds

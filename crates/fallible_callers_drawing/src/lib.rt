@@ -14,3 +14,4 @@ pub mod pairing;
 pub mod parsing;
 pub mod reading;
 pub mod resting;
+pub mod retrying;

@@ -1,4 +1,5 @@
 -- What follows from the definitions: the lemmas that ghost members cite, those of the crates below handed on.
+pub mod Gathering
 pub mod Showing
 pub mod ShowingEnds
 pub mod Sources

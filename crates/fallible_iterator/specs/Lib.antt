@@ -2,6 +2,7 @@
 pub mod Agreement
 pub mod Answering
 pub mod Cycled
+pub mod Gathering
 pub mod Laws
 pub mod Listing
 pub mod Lists

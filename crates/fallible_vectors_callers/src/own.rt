@@ -6,6 +6,7 @@ use fallible_callers_drawing::own::{
     sum_down_doubled, sum_with, tried_between,
 };
 use fallible_callers_drawing::pairing::{Pairs, count_pairs, sum_of_pairs};
+use fallible_callers_drawing::retrying::Retried;
 use fallible_iterator::Answer::{End, Failure, Item};
 use fallible_iterator::{
     Answer, DoubleEndedFallibleIterator, FallibleIterator, convert, from_fn, once,
@@ -140,4 +141,26 @@ fn pages_without_end_are_searched(rt: HostRuntime) {
         Ok(Some(page))
     });
     assert_eq!(rt; first_above_100(pages), Ok(Some(101)));
+}
+
+// Two failures before an item, three before the next one, and one before the end.
+const FAILING: [Result<u32, u8>; 8] = [
+    Err(1),
+    Err(2),
+    Ok(5),
+    Err(3),
+    Err(4),
+    Err(6),
+    Ok(7),
+    Err(8),
+];
+
+#[test]
+fn a_source_is_asked_again(rt: HostRuntime) -> Result<(), Fail> {
+    let it = convert(Vec::from_array(rt.alloc(), FAILING)?.into_iter());
+    let mut retried = Retried::new(it, 2);
+    expect_answers(&rt, &mut retried, &[Item(5), Failure(6), Item(7), End])?;
+    let it = convert(Vec::from_array(rt.alloc(), FAILING)?.into_iter());
+    let mut once_each = Retried::new(it, 0);
+    expect_answers(&rt, &mut once_each, &[Failure(1), Failure(2), Item(5), Failure(3)])
 }

@@ -1,10 +1,11 @@
 -- What an adapter of several draws lists, over a source that lists a list.
 use Rattle.std.specs.Prelude.{◌≡◌, ◌⊎◌, map, List, [], ◌∷◌, ◌++◌, Result}
-use Rattle.std.proofs.Common.{refl, sym, ap, subst, inl, inr}
+use Rattle.std.proofs.Common.{refl, sym, ap, subst, ◌∙◌, inl, inr}
 use Rattle.fallible_contract.specs.Traces.{Answered, Run, end}
 use Rattle.fallible_contract.specs.Contract.{Contract}
 use Rattle.fallible_contract.specs.Lists.{AlwaysGives, Lists, result_answer}
-use Rattle.fallible_contract.specs.Own.{gathering}
+use Rattle.fallible_contract.specs.Own.{Gathers, gathering}
+use Rattle.fallible_iterator.specs.Gathering.{gathering_by}
 
 -- the first of the answers is r, and the others are left; where there is none, r is an end
 abbrev pub BeginsWith : {B F : Type 0} → List (Result B F) → Answered B F → List (Result B F) → Type 0
@@ -55,3 +56,14 @@ module _ {S P A E B F : Type 0} (view : S → P) (made : List (Answered A E) →
   -- it lists the answers that are made of the list
   pub lists_gathered : {s : S} {l : List (Result A E)} → Lists m.steps (view s) l → Lists (gathering view made m).steps s (answers l)
   lists_gathered {s = s} {l = l} i = record { runs = gives (answers l) s l refl i.runs }
+
+-- ---- where a part that stays says what is made
+
+module _ {S P K A E B F : Type 0} (view : S → P) (key : S → K) (made : K → List (Answered A E) → Answered B F → Type 0) (m : Contract P A E) where
+  gives_by : (k : K) (s : S) (out : List (Result B F)) → key s ≡ k → AlwaysGives (gathering view (made k) m).steps s out → AlwaysGives (gathering_by view key made m).steps s out
+  gives_by k s [] same i = λ r t w. i r t (subst (λ z. Gathers m.steps (made z) (view s) r (view t)) same w.0)
+  gives_by k s (y ∷ out) same i = λ r t w. let h = i r t (subst (λ z. Gathers m.steps (made z) (view s) r (view t)) same w.0) in (h.0, gives_by k t out (w.1 ∙ same) h.1)
+
+  -- it lists the answers that are made of the list, as its part says
+  pub lists_gathered_by : (answers : K → List (Result A E) → List (Result B F)) → ((k : K) → Cuts (made k) (answers k)) → {s : S} {l : List (Result A E)} → Lists m.steps (view s) l → Lists (gathering_by view key made m).steps s (answers (key s) l)
+  lists_gathered_by answers cuts {s = s} {l = l} i = record { runs = gives_by (key s) s (answers (key s) l) refl (lists_gathered view (made (key s)) m (answers (key s)) (cuts (key s)) i).runs }
