@@ -1,19 +1,59 @@
 //! Callers of the adapters that hold: each states what it computes, and the contracts of the calls prove it.
-ghost use Rattle.std.specs.Prelude.{◌≡◌, ◌+◌, ◌-◌, ◌%◌, ◌/◌, ◌^◌, Ok, Err, if◌then◌else◌, nat_eq, nat_lt};
-ghost use Rattle.fallible_iterator.specs.Lists.{counted, mapped, folded, results};
+ghost use Rattle.std.specs.Prelude.{◌≡◌, ℕ, ◌+◌, ◌-◌, ◌%◌, ◌/◌, ◌^◌, List, Result, Some, Ok, Err, if◌then◌else◌, nat_eq, nat_lt};
+ghost use Rattle.fallible_iterator.specs.Lists.{Lists, counted, filtered, folded, nth_of, rest_first, results, taken};
 ghost use Rattle.fallible_itertools.specs.Coalesce.{coalesced};
 ghost use Rattle.fallible_itertools.specs.Dedup.{deduped};
 ghost use Rattle.fallible_itertools.specs.DedupByKey.{deduped_by_key};
 ghost use Rattle.fallible_itertools.specs.TupleWindows.{windowed};
 
-use fallible_iterator::{FallibleIterator, convert_fused};
+use fallible_iterator::{FallibleIterator, convert};
 use fallible_itertools::FallibleItertools;
 
 /// How many readings differ from the one before them, the first one counted, or the first failure.
 pub fn changes(readings: Vec<Result<u32, u8>>) -> Result<usize, u8>
     ensures { result ≡ counted (deduped nat_eq (results readings.items)) }
 {
-    convert_fused(readings.into_iter()).dedup().count()
+    convert(readings.into_iter()).dedup().count()
+}
+
+/// The same of the first ten that are above 100.
+pub fn changes_above_100(readings: Vec<Result<u32, u8>>) -> Result<usize, u8>
+    ensures { result ≡ counted (deduped nat_eq
+        (taken 10 (filtered (λ x. Ok (nat_lt 100 x)) (results readings.items)))) }
+{
+    convert(readings.into_iter())
+        .filter(|reading| Ok(*reading > 100))
+        .take(10)
+        .dedup()
+        .count()
+}
+
+/// The same over any source that lists a list: it may go on after its end.
+pub fn changes_of<I: FallibleIterator<Item = u32>>(it: I) -> Result<u64, I::Error>
+where
+    I::Error: Drop,
+    requires can_next { I.contract.can_next it }
+    requires finite { I.contract.is_finite it }
+    ensures { (l : List (Result ℕ I.Error)) → Lists I.contract.steps it l
+        → result ≡ folded (λ e. e) (λ n _. Ok ((n + 1) % 2 ^ 64)) 0 (deduped nat_eq l) }
+{
+    it.dedup()
+        .fold(0, |n: u64, _reading: u32| Ok(n.wrapping_add(1)))
+}
+
+/// How many changes come behind the first; where a failure comes first, those behind it.
+pub fn changes_behind(readings: Vec<Result<u32, u8>>) -> Result<usize, u8>
+    ensures behind_item { (x : ℕ) → nth_of 0 (deduped nat_eq (results readings.items)) ≡ Ok (Some x)
+        → result ≡ counted (rest_first (deduped nat_eq (results readings.items))) }
+    ensures behind_failure { (e : ℕ) → nth_of 0 (deduped nat_eq (results readings.items)) ≡ Err e
+        → result ≡ counted (rest_first (deduped nat_eq (results readings.items))) }
+{
+    let mut it = convert(readings.into_iter()).dedup();
+    match it.draw() {
+        Ok(Some(_)) => it.count(),
+        Ok(None) => Ok(0),
+        Err(_) => it.count(),
+    }
 }
 
 /// The sum of the first of each ten that readings stay in, modulo 2 ^ 64, or the first failure.
@@ -21,7 +61,7 @@ pub fn first_of_each_ten(readings: Vec<Result<u32, u8>>) -> Result<u64, u8>
     ensures { result ≡ folded (λ e. e) (λ s x. Ok ((s + x) % 2 ^ 64)) 0
         (deduped_by_key nat_eq (λ x. Ok (x / 10)) (results readings.items)) }
 {
-    convert_fused(readings.into_iter())
+    convert(readings.into_iter())
         .dedup_by_key(|reading| Ok(*reading / 10))
         .fold(
             0,
@@ -34,7 +74,7 @@ pub fn peaks(readings: Vec<Result<u32, u8>>) -> Result<usize, u8>
     ensures { result ≡ counted (coalesced
         (λ x y. Ok (if nat_lt y x then Ok x else Err (x, y))) (results readings.items)) }
 {
-    convert_fused(readings.into_iter())
+    convert(readings.into_iter())
         .coalesce(|first: u32, second: u32| {
             Ok(if second < first {
                 Ok(first)

@@ -6,9 +6,7 @@ use fallible_itertools::MinMaxResult::MinMax;
 use fallible_itertools::{
     DoubleEndedFallibleItertools, FallibleItertools, FoldWhile, MinMaxResult, NotOne, PeekingNext,
 };
-use fallible_testing::calls::{
-    Calls, NO_CALL, ONE_FOLD, ONE_NEXT, THREE_FOLDS, TWO_FOLDS, TWO_NEXTS,
-};
+use fallible_testing::calls::{Calls, NO_CALL, ONE_FOLD, ONE_NEXT, TWO_FOLDS, TWO_NEXTS};
 use fallible_testing::counted::{Counted, Log};
 use fallible_testing::counted_numbers::counted;
 use fallible_testing::scripted::{Script, scripted};
@@ -79,33 +77,40 @@ fn in_order(x: &u32, y: &u32) -> Result<bool, TestError> {
 
 const TWO_BY_TWO_FOLDS: Folded = (Ok(2), TWO_FOLDS);
 
-const THREE_BY_THREE_FOLDS: Folded = (Ok(3), THREE_FOLDS);
-
 const DRAWN: (Result<Option<u32>, TestError>, Calls) = (Ok(Some(1)), ONE_FOLD);
 
 const ONE_BY_ONE_FOLD: Folded = (Ok(1), ONE_FOLD);
 
-// What is held at an end is answered there, and then the source is folded on: a fold for each end at which something is held, and one for the end at which nothing is.
+const DUE: (Result<Option<u32>, TestError>, Calls) = (Ok(None), NO_CALL);
+
+// What is held is answered before the end, which is due then: a fold goes no further, and the end takes no draw.
 #[test]
-fn adapters_that_hold_fold_on_behind_an_end_that_answers(rt: HostRuntime) -> Result<(), Fail> {
+fn adapters_that_hold_fold_up_to_an_end(rt: HostRuntime) -> Result<(), Fail> {
     let (alloc, log) = (rt.alloc(), Log::new());
     let answers = [Ok(Some(1)), Ok(None), Ok(Some(1)), Ok(Some(2))];
-    let over_an_end = Counted::new(scripted(alloc, answers)?, &log);
-    expect_folded(
-        &mut one_one_two(alloc, &log)?.dedup(),
-        &log,
-        &TWO_BY_TWO_FOLDS,
-    )?;
-    expect_folded(&mut over_an_end.dedup(), &log, &THREE_BY_THREE_FOLDS)?;
+    let mut over_an_end = Counted::new(scripted(alloc, answers)?, &log).dedup();
+    expect_folded(&mut over_an_end, &log, &ONE_BY_ONE_FOLD)?;
+    expect_folded(&mut over_an_end, &log, &TWO_BY_ONE_FOLD)?;
+    let mut it = one_one_two(alloc, &log)?.dedup();
+    expect_folded(&mut it, &log, &TWO_BY_ONE_FOLD)?;
     let mut it = one_one_two(alloc, &log)?.dedup_by_key(itself);
-    expect_folded(&mut it, &log, &TWO_BY_TWO_FOLDS)?;
+    expect_folded(&mut it, &log, &TWO_BY_ONE_FOLD)?;
     let mut it = one_one_two(alloc, &log)?.coalesce(one_of_equal);
-    expect_folded(&mut it, &log, &TWO_BY_TWO_FOLDS)?;
+    expect_folded(&mut it, &log, &TWO_BY_ONE_FOLD)?;
+    // A draw is a fold too, which stops.
+    let answers = [Ok(Some(1)), Ok(Some(1))];
+    let mut drawn = Counted::new(scripted(alloc, answers)?, &log).dedup();
+    assert_eq!(rt; (drawn.next(), log.take()), DRAWN);
+    assert_eq!(rt; (drawn.next(), log.take()), DUE);
+    Ok(())
+}
+
+// What is held at an end is answered there, and then the source is folded on: a fold for each end at which something is held, and one for the end at which nothing is.
+#[test]
+fn adapters_that_group_fold_on_behind_an_end_that_answers(rt: HostRuntime) -> Result<(), Fail> {
+    let (alloc, log) = (rt.alloc(), Log::new());
     let mut it = one_one_two(alloc, &log)?.chunk_by(alloc, itself);
     expect_folded(&mut it, &log, &TWO_BY_TWO_FOLDS)?;
-    // A draw is a fold too, which stops.
-    let mut drawn = one_one_two(alloc, &log)?.dedup();
-    assert_eq!(rt; (drawn.next(), log.take()), DRAWN);
     // No batch of three is held at the end.
     let mut twos = one_one_two(alloc, &log)?.chunks(alloc, 2);
     expect_folded(&mut twos, &log, &TWO_BY_TWO_FOLDS)?;

@@ -26,6 +26,9 @@ const ONE_AT_LEAST: Hint = (1, None);
 
 const UNKNOWN: Hint = (0, None);
 
+// What is hinted where at least one of three comes.
+const UP_TO_THREE: Hint = (1, Some(3));
+
 // What is hinted where no item comes.
 const NONE: Hint = (0, Some(0));
 
@@ -76,7 +79,7 @@ fn apart<'a>(
 const OF_DEDUP: NumbersCase = Case {
     name: "Dedup",
     requests: 2,
-    hints: [ONE_AT_LEAST, UNKNOWN],
+    hints: [UP_TO_THREE, NONE],
     first: &[Item(1)],
     expected: &[Item(2), Item(3), End],
 };
@@ -84,7 +87,7 @@ const OF_DEDUP: NumbersCase = Case {
 const OF_COALESCE: NumbersCase = Case {
     name: "Coalesce",
     requests: 2,
-    hints: [ONE_AT_LEAST, UNKNOWN],
+    hints: [UP_TO_THREE, NONE],
     first: &[Item(1)],
     expected: &[Item(2), Item(3), End],
 };
@@ -93,7 +96,7 @@ const OF_COALESCE: NumbersCase = Case {
 const OF_DEDUP_BY_KEY: NumbersCase = Case {
     name: "DedupByKey",
     requests: 3,
-    hints: [ONE_AT_LEAST, UNKNOWN],
+    hints: [UP_TO_THREE, NONE],
     first: &[Item(1)],
     expected: &[Item(2), End],
 };

@@ -9,8 +9,12 @@ pub mod Copied
 pub mod Dedup
 pub mod DedupByKey
 pub mod Holding
+pub mod HoldingEnds
+pub mod HoldingEndsHints
+pub mod HoldingEndsLists
 pub mod HoldingHints
 pub mod HoldingLists
+pub mod HoldingTraces
 pub mod HoldingMade
 pub mod Intersperse
 pub mod IntersperseFolds

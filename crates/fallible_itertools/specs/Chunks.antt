@@ -3,7 +3,7 @@ use Rattle.std.specs.Prelude.{◌≡◌, ℕ, ◌+◌, ◌-◌, ◌/◌, ◌<◌
 use Rattle.fallible_iterator.specs.Traces.{Answered}
 use Rattle.fallible_iterator.specs.Contract.{Contract}
 use Rattle.fallible_itertools.specs.Growing.{Grown, NoRoom, SameHeld, IsRefusal}
-use Rattle.fallible_itertools.specs.Holding.{HoldingTrace, holding_contract, held_one}
+use Rattle.fallible_itertools.specs.HoldingEnds.{HoldingTrace, holding_contract, held_one}
 use Rattle.fallible_iterator.specs.Outcome.{Outcome}
 use Rattle.fallible_iterator.specs.Outcome.TheVariants.{Kept, LeftOut, Failure, End}
 use Rattle.std.specs.declared.vec.Vec.{Vec}

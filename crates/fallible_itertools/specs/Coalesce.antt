@@ -27,8 +27,8 @@ module _ {A F E : Type 0} (call : F → A → A → OneOrBoth A E → F → Type
   coalesce_asks (None, f) None o q = (o ≡ End) × (q ≡ (None, f))
   coalesce_asks (Some y, f) None o q = (o ≡ Kept y) × (q ≡ (None, f))
 
-  -- `Coalesce`: the source's trace, where adjacent items stand put together, each where the next one that isn't put to it stands or an end; failures between them part nothing.
-  abbrev pub CoalesceTrace : {S : Type 0} → (S → Answered A E → S → Type 0) → S × (Option A × F) → List (Answered A E) → S × (Option A × F) → Type 0
+  -- `Coalesce`: adjacent items put together, each where the next one that isn't put to it stands or a stop; the closure's failure is a stop.
+  abbrev pub CoalesceTrace : {S : Type 0} → (S → Answered A E → S → Type 0) → S × ((Option A × F) × Option (Option E)) → List (Answered A E) → S × ((Option A × F) × Option (Option E)) → Type 0
   CoalesceTrace steps p trace q = HoldingTrace steps coalesce_asks p trace q
 
 -- the closure may be called on what is held and the item
@@ -38,7 +38,7 @@ coalesce_takes takes (Some y, f) None = ⊤
 coalesce_takes takes (Some y, f) (Some x) = takes f y x
 
 -- `Coalesce`'s contract
-abbrev pub coalesce_contract : {S A F E : Type 0} → Contract S A E → Mut F (A × (A × Unit {0})) (OneOrBoth A E) → Contract (S × (Option A × F)) A E
+abbrev pub coalesce_contract : {S A F E : Type 0} → Contract S A E → Mut F (A × (A × Unit {0})) (OneOrBoth A E) → Contract (S × ((Option A × F) × Option (Option E))) A E
 coalesce_contract m g = holding_contract m (coalesce_asks (call_with g)) (coalesce_takes (takes_with g)) held_beside (one_at_least m held_beside)
 
 -- the source
@@ -53,9 +53,13 @@ coalesce_held s = s.coalescing.0
 abbrev pub coalesce_closure : {I A E F : Type 0} → Coalesce I F A E → F
 coalesce_closure s = s.coalescing.1
 
--- the source, and what is held beside the closure
-abbrev pub coalesce_parts : {I A E F : Type 0} → Coalesce I F A E → I × (Option A × F)
-coalesce_parts s = (coalesce_source s, (coalesce_held s, coalesce_closure s))
+-- the stop that is due, if one is
+abbrev pub coalesce_due : {I A E F : Type 0} → Coalesce I F A E → Option (Option E)
+coalesce_due s = s.due
+
+-- the source, what is held beside the closure, and the stop that is due
+abbrev pub coalesce_parts : {I A E F : Type 0} → Coalesce I F A E → I × ((Option A × F) × Option (Option E))
+coalesce_parts s = (s.it, (s.coalescing, s.due))
 
 -- ---- what it lists
 
@@ -71,8 +75,9 @@ coalesced_from h None [] = []
 coalesced_from h (Some y) [] = Ok y ∷ []
 coalesced_from h None (Ok x ∷ l) = coalesced_from h (Some x) l
 coalesced_from h (Some y) (Ok x ∷ l) = coalesced_at (h y x) (λ held. coalesced_from h held l)
-coalesced_from h held (Err e ∷ l) = Err e ∷ coalesced_from h held l
+coalesced_from h None (Err e ∷ l) = Err e ∷ coalesced_from h None l
+coalesced_from h (Some y) (Err e ∷ l) = Ok y ∷ Err e ∷ coalesced_from h None l
 
--- Adjacent items x and y put together where h x y is one item, which goes on in their place; a failure between two parts nothing, and comes before the item that is held.
+-- Adjacent items x and y put together where h x y is one item, which goes on in their place. Before a failure comes the item that is held, so a failure parts them.
 unfoldable pub coalesced : {A E : Type 0} → (A → A → OneOrBoth A E) → List (Result A E) → List (Result A E)
 coalesced h l = coalesced_from h None l

@@ -29,8 +29,8 @@ module _ {A K : Type 0} (eq : K → K → Bool) where
     dedup_key_asks (None, f) None o q = (o ≡ End) × (q ≡ (None, f))
     dedup_key_asks (Some held, f) None o q = (o ≡ Kept held.1) × (q ≡ (None, f))
 
-    -- `DedupByKey`: the source's trace with the first of adjacent items with equal keys alone, each where the next one that differs stands or an end, and the closure's failure in the place of an item on which it failed; failures between items part nothing.
-    abbrev pub DedupByKeyTrace : {S : Type 0} → (S → Answered A E → S → Type 0) → S × (Option (K × A) × F) → List (Answered A E) → S × (Option (K × A) × F) → Type 0
+    -- `DedupByKey`: the first of adjacent items with equal keys, each where the next one that differs stands or a stop; the closure's failure is a stop.
+    abbrev pub DedupByKeyTrace : {S : Type 0} → (S → Answered A E → S → Type 0) → S × ((Option (K × A) × F) × Option (Option E)) → List (Answered A E) → S × ((Option (K × A) × F) × Option (Option E)) → Type 0
     DedupByKeyTrace steps p trace q = HoldingTrace steps dedup_key_asks p trace q
 
   -- ---- what it lists
@@ -42,7 +42,8 @@ module _ {A K : Type 0} (eq : K → K → Bool) where
 
   -- what stands before the rest, by the key of an item, beside one that may be held; `rest` is the list of what comes where that one is held, or none
   abbrev pub key_at : {E : Type 0} → Option (K × A) → A → Result K E → (Option (K × A) → List (Result A E)) → List (Result A E)
-  key_at held x (Err e) rest = Err e ∷ rest held
+  key_at None x (Err e) rest = Err e ∷ rest None
+  key_at (Some held) x (Err e) rest = Ok held.1 ∷ Err e ∷ rest None
   key_at None x (Ok k) rest = rest (Some (k, x))
   key_at (Some held) x (Ok k) rest = key_before held (eq held.0 k) (rest (Some held)) (rest (Some (k, x)))
 
@@ -51,9 +52,10 @@ module _ {A K : Type 0} (eq : K → K → Bool) where
   deduped_key_from h None [] = []
   deduped_key_from h (Some held) [] = Ok held.1 ∷ []
   deduped_key_from h held (Ok x ∷ l) = key_at held x (h x) (λ p. deduped_key_from h p l)
-  deduped_key_from h held (Err e ∷ l) = Err e ∷ deduped_key_from h held l
+  deduped_key_from h None (Err e ∷ l) = Err e ∷ deduped_key_from h None l
+  deduped_key_from h (Some held) (Err e ∷ l) = Ok held.1 ∷ Err e ∷ deduped_key_from h None l
 
-  -- The first of adjacent items with equal keys, which h makes; where h fails, its failure in the item's place; a failure between two parts nothing, and comes before the item that is held.
+  -- The first of adjacent items with equal keys, which h makes; where h fails, its failure in the item's place. Before a failure comes the item that is held.
   unfoldable pub deduped_by_key : {E : Type 0} → (A → Result K E) → List (Result A E) → List (Result A E)
   deduped_by_key h l = deduped_key_from h None l
 
@@ -63,7 +65,7 @@ dedup_key_takes takes p None = ⊤
 dedup_key_takes takes p (Some x) = takes p.1 x
 
 -- `DedupByKey`'s contract
-abbrev pub dedup_by_key_contract : {S A K F E : Type 0} → (K → K → Bool) → Contract S A E → Mut F (Bor A × Unit {0}) (Result K E) → Contract (S × (Option (K × A) × F)) A E
+abbrev pub dedup_by_key_contract : {S A K F E : Type 0} → (K → K → Bool) → Contract S A E → Mut F (Bor A × Unit {0}) (Result K E) → Contract (S × ((Option (K × A) × F) × Option (Option E))) A E
 dedup_by_key_contract eq m g = holding_contract m (dedup_key_asks eq (call_at g)) (dedup_key_takes (takes_at g)) held_beside (one_at_least m held_beside)
 
 -- the source
@@ -74,6 +76,10 @@ dedup_by_key_source s = s.it
 abbrev pub dedup_by_key_keying : {I A E K F : Type 0} → DedupByKey I K F A E → Option (K × A) × F
 dedup_by_key_keying s = s.keying
 
--- the source, and what is held beside the closure
-abbrev pub dedup_by_key_parts : {I A E K F : Type 0} → DedupByKey I K F A E → I × (Option (K × A) × F)
-dedup_by_key_parts s = (dedup_by_key_source s, dedup_by_key_keying s)
+-- the stop that is due, if one is
+abbrev pub dedup_by_key_due : {I A E K F : Type 0} → DedupByKey I K F A E → Option (Option E)
+dedup_by_key_due s = s.due
+
+-- the source, what is held beside the closure, and the stop that is due
+abbrev pub dedup_by_key_parts : {I A E K F : Type 0} → DedupByKey I K F A E → I × ((Option (K × A) × F) × Option (Option E))
+dedup_by_key_parts s = (s.it, (s.keying, s.due))

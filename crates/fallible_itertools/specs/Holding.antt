@@ -1,28 +1,104 @@
--- Adapters that hold what they drew until a later item or an end decides what becomes of it.
-use Rattle.std.specs.Prelude.{◌≡◌, ℕ, ◌+◌, ◌≤◌, ◌<◌, ◌⊎◌, min, ⊤, Option, Some, None, Ok, Err, List, [], ◌∷◌}
+-- Adapters that hold what they drew until a later item or a stop decides what becomes of it. What is held is given first: a stop that was met then, an end or a failure, is due, and is the next answer.
+use Rattle.std.specs.Prelude.{◌≡◌, ℕ, ◌+◌, ◌≤◌, ◌<◌, ◌⊎◌, min, ⊤, Option, Some, None, Ok, Err, List, [], ◌∷◌, ◌++◌, length, map}
 use Rattle.std.specs.Iterator.{count_map}
-use Rattle.fallible_iterator.specs.Traces.{Answered}
+use Rattle.std.specs.List.{FoldsTo, flat_map}
+use Rattle.fallible_iterator.specs.Traces.{Answered, Run}
 use Rattle.fallible_iterator.specs.Contract.{Contract}
 use Rattle.fallible_iterator.specs.Closures.{IsCallable, MayAnswer}
-use Rattle.fallible_iterator.specs.Passing.{PassTrace}
+use Rattle.fallible_iterator.specs.Passing.{passing_step}
+use Rattle.fallible_iterator.specs.Hints.{fitting_sum}
 use Rattle.fallible_iterator.specs.Outcome.{Outcome}
 use Rattle.fallible_iterator.specs.Outcome.TheVariants.{Kept, LeftOut, Failure, End}
+use Rattle.std.specs.declared.ops.ControlFlow.{ControlFlow}
+use Rattle.std.specs.declared.ops.ControlFlow.TheVariants.{Continue, Break}
 
--- The draws of a source whose ends are taken for items: `Some x` is the item x, `None` is an end, and a failure stays one.
-abbrev pub with_ends : {S X E : Type 0} → (S → Answered X E → S → Type 0) → S → Answered (Option X) E → S → Type 0
-with_ends steps s (Ok (Some asked)) t = steps s (Ok asked) t
-with_ends steps s (Ok None) t = ⊥
-with_ends steps s (Err e) t = steps s (Err e) t
+-- A stop is an end, `None`, or a failure, `Some e`: this answer.
+abbrev pub stop_answer : {B E : Type 0} → Option E → Answered B E
+stop_answer None = Ok None
+stop_answer (Some e) = Err e
 
--- what becomes of what the adapter was asked of: what it answered
-abbrev pub as_answered : {X B E : Type 0} → Option X → Outcome B E → Outcome B E
-as_answered asked o = o
+-- the answer of the stop that is due, if one is
+abbrev pub due_answer : {B E : Type 0} → Option (Option E) → List (Answered B E)
+due_answer None = []
+due_answer (Some stop) = stop_answer stop ∷ []
 
--- Such an adapter is asked of each item, `Some x`, and of each end, `None`, in order: `asks p asked o q` says that it may answer o, and what it holds is then q. Its trace is what was answered, where nothing stands for what was left out; the source's failures stand in their places, and nothing that is held is lost at them. What was drawn doesn't end in something left out.
-abbrev pub HoldingTrace : {S P X B E : Type 0} → (S → Answered X E → S → Type 0) → (P → Option X → Outcome B E → P → Type 0) → S × P → List (Answered B E) → S × P → Type 0
-HoldingTrace steps asks p trace q = PassTrace (with_ends steps) asks as_answered p trace q
+-- `asks p asked o q`: the adapter holds p, and is asked of an item, `Some x`, or of a stop, `None`; it answers o, and holds q then. Of an item:
+abbrev pub asks_item : {P X B E : Type 0} → (P → Option X → Outcome B E → P → Type 0) → P → X → Outcome B E → P → Type 0
+asks_item asks p x o q = asks p (Some x) o q
 
--- How many answers are held, before and after it was asked: an item makes at most one more, none where something was answered, and no end; at an end what is answered was held, and nothing is left out.
+abbrev pub as_answered_item : {X B E : Type 0} → X → Outcome B E → Outcome B E
+as_answered_item x o = o
+
+-- What is answered at a stop, and which stop is due then: what is held, before the stop, or the stop where nothing is given.
+abbrev pub BeforeStop : {B E : Type 0} → Option E → Outcome B E → Answered B E → Option (Option E) → Type 0
+BeforeStop stop (Kept y) r due = (r ≡ Ok (Some y)) × (due ≡ Some stop)
+BeforeStop stop (Failure e) r due = (r ≡ Err e) × (due ≡ Some stop)
+BeforeStop stop End r due = (r ≡ stop_answer stop) × (due ≡ None)
+BeforeStop stop LeftOut r due = ⊥
+
+module _ {P X B E : Type 0} (asks : P → Option X → Outcome B E → P → Type 0) where
+  -- at a stop the adapter is asked of it
+  abbrev pub AtStop : P → Option E → Answered B E → P × Option (Option E) → Type 0
+  AtStop h stop r q = (o : Outcome B E) × asks h None o q.0 × BeforeStop stop o r q.1
+
+  -- What is answered where z is what the source's next answers made: an item as it is, and before a stop what is held.
+  abbrev pub Behind : P → Answered B E → Answered B E → P × Option (Option E) → Type 0
+  Behind h (Ok (Some y)) r q = (r ≡ Ok (Some y)) × (q ≡ (h, None))
+  Behind h (Ok None) r q = AtStop h None r q
+  Behind h (Err e) r q = AtStop h (Some e) r q
+
+  module _ {S : Type 0} (steps : S → Answered X E → S → Type 0) where
+    -- one answer where no stop is due: the source is drawn up to an item that is answered, or a stop
+    abbrev pub Draws : S → P → Answered B E → S → P × Option (Option E) → Type 0
+    Draws s p r t q = (h : P) × (z : Answered B E) × passing_step steps (asks_item asks) as_answered_item (s, p) z (t, h) × Behind h z r q
+
+    -- One answer: the stop that is due, which takes no draw, or else what is drawn.
+    abbrev pub holding_step : S × (P × Option (Option E)) → Answered B E → S × (P × Option (Option E)) → Type 0
+    holding_step (s, (p, Some stop)) r (t, q) = (r ≡ stop_answer stop) × (t ≡ s) × (q ≡ (p, None))
+    holding_step (s, (p, None)) r (t, q) = Draws s p r t q
+
+-- ---- a whole trace
+
+-- what a stop makes: what is held, before it
+abbrev pub StopMade : {B E : Type 0} → Option E → Outcome B E → List (Answered B E) → Type 0
+StopMade stop (Kept y) made = made ≡ Ok (Some y) ∷ stop_answer stop ∷ []
+StopMade stop (Failure e) made = made ≡ Err e ∷ stop_answer stop ∷ []
+StopMade stop End made = made ≡ stop_answer stop ∷ []
+StopMade stop LeftOut made = ⊥
+
+module _ {P X B E : Type 0} (asks : P → Option X → Outcome B E → P → Type 0) where
+  -- the answers that a stop makes, where p is held before it and q behind it
+  abbrev pub MadeOfStop : Option E → P → List (Answered B E) → P → Type 0
+  MadeOfStop stop p made q = (o : Outcome B E) × asks p None o q × StopMade stop o made
+
+  -- the answers that an item makes by what was answered of it, where h is held then: what the closure failed with is a stop
+  abbrev pub MadeOfItem : Outcome B E → P → List (Answered B E) → P → Type 0
+  MadeOfItem (Kept y) h made q = (made ≡ Ok (Some y) ∷ []) × (q ≡ h)
+  MadeOfItem LeftOut h made q = (made ≡ []) × (q ≡ h)
+  MadeOfItem (Failure e) h made q = MadeOfStop (Some e) h made q
+  MadeOfItem End h made q = MadeOfStop None h made q
+
+  -- an answer of the source, and the answers that it makes
+  abbrev pub DrawMade : P → Answered X E × List (Answered B E) → P → Type 0
+  DrawMade p (Ok (Some x), made) q = (o : Outcome B E) × (h : P) × asks p (Some x) o h × MadeOfItem o h made q
+  DrawMade p (Ok None, made) q = MadeOfStop None p made q
+  DrawMade p (Err e, made) q = MadeOfStop (Some e) p made q
+
+-- the last draw, if there was one, made more than n answers
+abbrev pub LastMade : {X B : Type 0} → ℕ → List (X × List B) → Type 0
+LastMade n [] = ⊤
+LastMade n (d ∷ []) = n < length d.1
+LastMade n (d ∷ next ∷ rest) = LastMade n (next ∷ rest)
+
+-- The trace of such an adapter: the stop that was due before it, and what each draw made; without the stop that is due behind it. The last draw made an answer of the trace.
+pub record HoldingTrace {S P X B E : Type 0} (steps : S → Answered X E → S → Type 0) (asks : P → Option X → Outcome B E → P → Type 0) (p : S × (P × Option (Option E))) (trace : List (Answered B E)) (q : S × (P × Option (Option E))) : Type 0 where
+  pub draws : List (Answered X E × List (Answered B E))
+  pub drawn : Run steps p.0 (map (λ d. d.0) draws) q.0
+  pub made : FoldsTo (DrawMade asks) p.1.0 draws q.1.0
+  pub answers : due_answer p.1.1 ++ flat_map (λ d. d.1) draws ≡ trace ++ due_answer q.1.1
+  pub last : LastMade (length (due_answer {B = B} {E = E} q.1.1)) draws
+
+-- How many answers are held, before and after it was asked: an item makes at most one more, none where something was answered, and no end; at a stop what is answered was held, and nothing is left out.
 abbrev pub HeldAfter : {X B E : Type 0} → ℕ → Option X → Outcome B E → ℕ → Type 0
 HeldAfter before (Some x) (Kept y) after = after ≤ before
 HeldAfter before (Some x) LeftOut after = after ≤ before + 1
@@ -38,34 +114,46 @@ abbrev pub Holds : {P X B E : Type 0} → (P → Option X → Outcome B E → P 
 Holds {P = P} {X = X} {B = B} {E = E} asks held = (p : P) (asked : Option X) (o : Outcome B E) (q : P) → asks p asked o q → HeldAfter (held p) asked o (held q)
 
 -- where an item is asked of, P holds of it
-abbrev pub OrEnd : {X : Type 0} → (X → Type 0) → Option X → Type 0
-OrEnd P (Some x) = P x
-OrEnd P None = ⊤
+abbrev pub OrStop : {X : Type 0} → (X → Type 0) → Option X → Type 0
+OrStop P (Some x) = P x
+OrStop P None = ⊤
 
--- an item may be asked of where it may come, and an end always
+-- an item may be asked of where it may come, and a stop always
 abbrev pub MayBeAsked : {S X E : Type 0} → Contract S X E → S → Option X → Type 0
-MayBeAsked m s asked = OrEnd (m.may_give s) asked
+MayBeAsked m s asked = OrStop (m.may_give s) asked
+
+-- a failure that is due
+abbrev pub due_failures : {E : Type 0} → Option (Option E) → ℕ
+due_failures (Some (Some e)) = 1
+due_failures (Some None) = 0
+due_failures None = 0
 
 -- The contract of such an adapter, which holds so many answers. It asks for a bound of the source, since one draw may leave many items out.
-abbrev pub holding_contract : {S P X B E : Type 0} → Contract S X E → (P → Option X → Outcome B E → P → Type 0) → (P → Option X → Type 0) → (P → ℕ) → (S × P → ℕ × Option ℕ → Type 0) → Contract (S × P) B E
+abbrev pub holding_contract : {S P X B E : Type 0} → Contract S X E → (P → Option X → Outcome B E → P → Type 0) → (P → Option X → Type 0) → (P → ℕ) → (S × (P × Option (Option E)) → ℕ × Option ℕ → Type 0) → Contract (S × (P × Option (Option E))) B E
 holding_contract m asks pre held hints = record {
-  can_next = λ p. m.is_finite p.0 × m.can_next p.0 × IsCallable asks pre (MayBeAsked m p.0) p.1;
-  steps = λ p r q. HoldingTrace m.steps asks p (r ∷ []) q;
-  bound = λ p n. (k : ℕ) × m.bound p.0 k × (k + held p.1 ≤ n);
+  can_next = λ p. m.is_finite p.0 × m.can_next p.0 × IsCallable asks pre (MayBeAsked m p.0) p.1.0;
+  steps = λ p r q. holding_step asks m.steps p r q;
+  bound = λ p n. (k : ℕ) × m.bound p.0 k × (k + held p.1.0 ≤ n);
   is_finite = λ p. m.is_finite p.0;
-  remaining = λ p. count_map (λ n. n + held p.1) (m.remaining p.0);
-  may_give = λ p y. MayAnswer asks (MayBeAsked m p.0) p.1 (λ asked o. o ≡ Kept y);
-  may_fail = λ p e. m.may_fail p.0 e ⊎ MayAnswer asks (MayBeAsked m p.0) p.1 (λ asked o. o ≡ Failure e);
+  remaining = λ p. count_map (λ n. n + (held p.1.0 + due_failures p.1.1)) (m.remaining p.0);
+  may_give = λ p y. MayAnswer asks (MayBeAsked m p.0) p.1.0 (λ asked o. o ≡ Kept y);
+  may_fail = λ p e. (p.1.1 ≡ Some (Some e)) ⊎ (m.may_fail p.0 e ⊎ MayAnswer asks (MayBeAsked m p.0) p.1.0 (λ asked o. o ≡ Failure e));
   hints = hints;
   lenders = λ p. m.lenders p.0;
 }
 
--- what is asked of an item
-abbrev pub asks_item : {P X B E : Type 0} → (P → Option X → Outcome B E → P → Type 0) → P → X → Outcome B E → P → Type 0
-asks_item asks p x o q = asks p (Some x) o q
+-- ---- the fold at a stop
 
-abbrev pub as_answered_item : {X B E : Type 0} → X → Outcome B E → Outcome B E
-as_answered_item x o = o
+module _ {P X B E C R : Type 0} (asks : P → Option X → Outcome B E → P → Type 0) (turns : C → B → ControlFlow R (Unit {0}) → C → Type 0) where
+  -- The caller's turn on what is held, and then the stop; it is due where the turn stops the fold.
+  abbrev pub TurnBefore : Option E → C → Outcome B E → Answered R E → Option (Option E) → C → Type 0
+  TurnBefore stop c (Kept y) r due d = (turns c y (Continue tt) d × (r ≡ stop_answer stop) × (due ≡ None)) ⊎ ((why : R) × turns c y (Break why) d × (r ≡ Ok (Some why)) × (due ≡ Some stop))
+  TurnBefore stop c (Failure e) r due d = (r ≡ Err e) × (due ≡ Some stop) × (d ≡ c)
+  TurnBefore stop c End r due d = (r ≡ stop_answer stop) × (due ≡ None) × (d ≡ c)
+  TurnBefore stop c LeftOut r due d = ⊥
+
+  abbrev pub StoppedBehind : Option E → P × C → Answered R E → P × Option (Option E) → C → Type 0
+  StoppedBehind stop (p, c) r (q, due) d = (o : Outcome B E) × asks p None o q × TurnBefore stop c o r due d
 
 -- ---- how many are held, and the hint
 
@@ -74,10 +162,15 @@ abbrev pub held_one : {A : Type 0} → Option A → ℕ
 held_one (Some x) = 1
 held_one None = 0
 
--- At least one where the source has at least one or one is held. There is no upper bound: what is held comes at an end, and behind it the source may go on.
-abbrev pub one_at_least : {S P X E : Type 0} → Contract S X E → (P → ℕ) → S × P → ℕ × Option ℕ → Type 0
-one_at_least m held p h = (k : ℕ × Option ℕ) × m.hints p.0 k × (h ≡ (min (k.0 + held p.1) 1, None))
-
 -- the same beside a closure
 abbrev pub held_beside : {A F : Type 0} → Option A × F → ℕ
 held_beside p = held_one p.0
+
+-- the hint where no stop is due: at least one where the source has at least one or one is held, and at most what the source has and what is held, where that fits
+abbrev pub HintHeld : ℕ → ℕ × Option ℕ → ℕ × Option ℕ → Type 0
+HintHeld held k h = (h.0 ≡ min (k.0 + held) 1) × (h.1 ≡ fitting_sum k.1 (Some held))
+
+-- The hint: none where a stop is due.
+abbrev pub one_at_least : {S P X E : Type 0} → Contract S X E → (P → ℕ) → S × (P × Option (Option E)) → ℕ × Option ℕ → Type 0
+one_at_least m held (s, (p, Some stop)) h = h ≡ (0, Some 0)
+one_at_least m held (s, (p, None)) h = (k : ℕ × Option ℕ) × m.hints s k × HintHeld (held p) k h

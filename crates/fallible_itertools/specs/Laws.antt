@@ -6,6 +6,7 @@ pub mod Copied
 pub mod Dedup
 pub mod DedupByKey
 pub mod Holding
+pub mod HoldingEnds
 pub mod Intersperse
 pub mod MergeBy
 pub mod PeekingTakeWhile

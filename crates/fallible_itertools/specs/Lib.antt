@@ -12,6 +12,7 @@ pub mod Few
 pub mod FromBack
 pub mod Growing
 pub mod Holding
+pub mod HoldingEnds
 pub mod Intersperse
 pub mod Joined
 pub mod Laws

@@ -4,7 +4,7 @@ use Rattle.fallible_iterator.specs.Traces.{Answered}
 use Rattle.fallible_iterator.specs.Contract.{Contract}
 use Rattle.fallible_iterator.specs.Hints.{hint_less}
 use Rattle.fallible_iterator.specs.Refusals.{RefusedAs}
-use Rattle.fallible_itertools.specs.Holding.{HoldingTrace, holding_contract}
+use Rattle.fallible_itertools.specs.HoldingEnds.{HoldingTrace, holding_contract}
 use Rattle.std.specs.declared.alloc.AllocError.{AllocError}
 use Rattle.fallible_iterator.specs.Outcome.{Outcome}
 use Rattle.fallible_iterator.specs.Outcome.TheVariants.{Kept, LeftOut, Failure, End}

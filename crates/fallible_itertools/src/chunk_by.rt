@@ -6,7 +6,7 @@ ghost use Rattle.fallible_itertools.specs.ChunkBy.{chunk_by_asks, chunk_by_contr
 ghost use Rattle.fallible_itertools.specs.Laws.ChunkBy.{holds_chunk_by, lawful_chunk_by};
 
 use crate::growing::{alone, pushed};
-use crate::holding::{Hold, at_least_one, drive_holding};
+use crate::holding_ends::{Hold, at_least_one, drive_holding};
 use fallible_iterator::extending::{FirstTurn, Outcome};
 use fallible_iterator::{FallibleIterator, Turn};
 use std::alloc::{AllocError, Global};

@@ -3,11 +3,11 @@ ghost use Rattle.std.specs.Prelude.{◌≡◌, ◌+◌, ⊤, Option, Result};
 ghost use Rattle.fallible_iterator.specs.Contract.{seen_as};
 ghost use Rattle.fallible_iterator.specs.Laws.Contract.{lawful_seen};
 ghost use Rattle.fallible_itertools.specs.Chunks.{Settles, batch_held, begun, room_left, chunks_asks, chunks_contract, chunks_parts};
-ghost use Rattle.fallible_itertools.specs.Holding.{held_one};
+ghost use Rattle.fallible_itertools.specs.HoldingEnds.{held_one};
 ghost use Rattle.fallible_itertools.specs.Laws.Chunks.{holds_chunks, lawful_chunks};
 
 use crate::growing::{alone, pushed};
-use crate::holding::{Hold, drive_holding};
+use crate::holding_ends::{Hold, drive_holding};
 use fallible_iterator::extending::{FirstTurn, Outcome};
 use fallible_iterator::{FallibleIterator, Turn};
 use std::alloc::{AllocError, Global};

@@ -7,16 +7,18 @@ ghost use Rattle.fallible_itertools.specs.Coalesce.{coalesce_asks, coalesce_cont
 ghost use Rattle.fallible_itertools.specs.Holding.{held_beside};
 ghost use Rattle.fallible_itertools.specs.Laws.Coalesce.{holds_coalesce, lawful_coalesce};
 
-use crate::holding::{Hold, at_least_one, drive_holding};
+use crate::holding::{Hold, drive_holding, with_held};
 use fallible_iterator::extending::{FirstTurn, Outcome};
 use fallible_iterator::{FallibleIterator, Turn};
 
-/// Adjacent items put together where the closure makes one of two. What was made so far is held until the closure keeps two apart, or an end comes.
+/// Adjacent items put together where the closure makes one of two. What was made so far is held until the closure keeps two apart, or a stop comes: an end or a failure, which is answered next.
 #[derive(Clone, Debug, Drop)]
 pub struct Coalesce<I: FallibleIterator, F> {
     pub(crate) it: I,
     // the item that is held, and the closure
     pub(crate) coalescing: (Option<I::Item>, F),
+    // the stop that is due: an end, or a failure
+    pub(crate) due: Option<Option<I::Error>>,
 }
 
 impl<
@@ -25,6 +27,7 @@ impl<
 > FallibleIterator for Coalesce<I, F>
 where
     I::Item: Drop,
+    I::Error: Drop,
 {
     type Item = I::Item;
 
@@ -32,13 +35,17 @@ where
 
     ghost contract = { seen_as coalesce_parts (coalesce_contract I.contract F.FnMut) };
 
-    /// Draws until the closure keeps two items apart or fails, or a failure or an end comes.
+    /// Answers the stop that is due, without a draw, or draws until the closure keeps two items apart, or a stop comes.
     fn next(&mut self) -> Result<Option<I::Item>, I::Error> {
         self.drive(&mut (), &FirstTurn)
     }
 
     fn size_hint(&self) -> (usize, Option<usize>) {
-        at_least_one(self.it.size_hint().0, self.coalescing.0.is_some())
+        if self.due.is_some() {
+            (0, Some(0))
+        } else {
+            with_held(self.it.size_hint(), self.coalescing.0.is_some())
+        }
     }
 
     fn drive<C, R, K: Turn<C, I::Item, R>>(
@@ -46,12 +53,11 @@ where
         state: &mut C,
         turn: &K,
     ) -> Result<Option<R>, I::Error> {
-        let left = (*self).number();
         drive_holding(
             &mut self.it,
             &mut self.coalescing,
+            &mut self.due,
             &CoalesceHold,
-            left,
             state,
             turn,
         )
@@ -74,6 +80,7 @@ impl<X: Drop, E, F: FnMut(X, X) -> Result<Result<X, (X, X)>, E>> Hold<(Option<X>
 
     ghost held = { λ _ p. held_beside p };
 
+    #[inline(always)]
     fn ask(&self, holds: &mut (Option<X>, F), asked: Option<X>) -> Outcome<X, E>
         requires { coalesce_takes (takes_with F.FnMut) holds.old asked }
         ensures { coalesce_asks (call_with F.FnMut) holds.old asked result holds.new }

@@ -6,21 +6,24 @@ ghost use Rattle.fallible_itertools.specs.Dedup.{dedup_asks, dedup_contract, ded
 ghost use Rattle.fallible_itertools.specs.Holding.{held_one};
 ghost use Rattle.fallible_itertools.specs.Laws.Dedup.{holds_dedup, lawful_dedup};
 
-use crate::holding::{Hold, at_least_one, drive_holding};
+use crate::holding::{Hold, drive_holding, with_held};
 use fallible_iterator::extending::{FirstTurn, Outcome};
 use fallible_iterator::{FallibleIterator, Turn};
 
-/// Of adjacent equal items the first. It is held until an item that differs comes, or an end.
+/// Of adjacent equal items the first. It is held until an item that differs comes, or a stop: an end or a failure, which is answered next.
 #[derive(Clone, Debug, Drop)]
 pub struct Dedup<I: FallibleIterator> {
     pub(crate) it: I,
     // the first of equal items, which hasn't come yet
     pub(crate) held: Option<I::Item>,
+    // the stop that is due: an end, or a failure
+    pub(crate) due: Option<Option<I::Error>>,
 }
 
 impl<I: FallibleIterator> FallibleIterator for Dedup<I>
 where
     I::Item: PartialEq + Drop,
+    I::Error: Drop,
 {
     type Item = I::Item;
 
@@ -28,13 +31,17 @@ where
 
     ghost contract = { seen_as dedup_parts (dedup_contract I.Item.eq I.contract) };
 
-    /// Draws until an item differs from the one that is held, or a failure or an end comes.
+    /// Answers the stop that is due, without a draw, or draws until an item differs from the one that is held, or a stop comes.
     fn next(&mut self) -> Result<Option<I::Item>, I::Error> {
         self.drive(&mut (), &FirstTurn)
     }
 
     fn size_hint(&self) -> (usize, Option<usize>) {
-        at_least_one(self.it.size_hint().0, self.held.is_some())
+        if self.due.is_some() {
+            (0, Some(0))
+        } else {
+            with_held(self.it.size_hint(), self.held.is_some())
+        }
     }
 
     fn drive<C, R, K: Turn<C, I::Item, R>>(
@@ -42,8 +49,14 @@ where
         state: &mut C,
         turn: &K,
     ) -> Result<Option<R>, I::Error> {
-        let left = (*self).number();
-        drive_holding(&mut self.it, &mut self.held, &DedupHold, left, state, turn)
+        drive_holding(
+            &mut self.it,
+            &mut self.held,
+            &mut self.due,
+            &DedupHold,
+            state,
+            turn,
+        )
     }
 
     ghost lawful = { lawful_seen dedup_parts (lawful_dedup I.Item.eq I.lawful) };
@@ -62,6 +75,7 @@ impl<X: PartialEq + Drop, E> Hold<Option<X>, X, E> for DedupHold {
 
     ghost held = { λ _ p. held_one p };
 
+    #[inline(always)]
     fn ask(&self, holds: &mut Option<X>, asked: Option<X>) -> Outcome<X, E>
         ensures { dedup_asks X.eq holds.old asked result holds.new }
     {

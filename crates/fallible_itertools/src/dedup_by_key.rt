@@ -7,16 +7,18 @@ ghost use Rattle.fallible_itertools.specs.DedupByKey.{dedup_by_key_contract, ded
 ghost use Rattle.fallible_itertools.specs.Holding.{held_beside};
 ghost use Rattle.fallible_itertools.specs.Laws.DedupByKey.{holds_dedup_key, lawful_dedup_by_key};
 
-use crate::holding::{Hold, at_least_one, drive_holding};
+use crate::holding::{Hold, drive_holding, with_held};
 use fallible_iterator::extending::{FirstTurn, Outcome};
 use fallible_iterator::{FallibleIterator, Turn};
 
-/// Of adjacent items with equal keys the first. It is held, with its key, until an item with another key comes, or an end.
+/// Of adjacent items with equal keys the first. It is held, with its key, until an item with another key comes, or a stop, which is answered next.
 #[derive(Clone, Debug, Drop)]
 pub struct DedupByKey<I: FallibleIterator, K, F> {
     pub(crate) it: I,
     // the key and the item that are held, and the closure
     pub(crate) keying: (Option<(K, I::Item)>, F),
+    // the stop that is due: an end, or a failure
+    pub(crate) due: Option<Option<I::Error>>,
 }
 
 impl<
@@ -26,6 +28,7 @@ impl<
 > FallibleIterator for DedupByKey<I, K, F>
 where
     I::Item: Drop,
+    I::Error: Drop,
 {
     type Item = I::Item;
 
@@ -33,13 +36,17 @@ where
 
     ghost contract = { seen_as dedup_by_key_parts (dedup_by_key_contract K.eq I.contract F.FnMut) };
 
-    /// Draws until an item has another key than the one that is held, or a failure or an end comes.
+    /// Answers the stop that is due, without a draw, or draws until an item has another key than the one that is held, or a stop comes.
     fn next(&mut self) -> Result<Option<I::Item>, I::Error> {
         self.drive(&mut (), &FirstTurn)
     }
 
     fn size_hint(&self) -> (usize, Option<usize>) {
-        at_least_one(self.it.size_hint().0, self.keying.0.is_some())
+        if self.due.is_some() {
+            (0, Some(0))
+        } else {
+            with_held(self.it.size_hint(), self.keying.0.is_some())
+        }
     }
 
     fn drive<C, R, T: Turn<C, I::Item, R>>(
@@ -47,8 +54,14 @@ where
         state: &mut C,
         turn: &T,
     ) -> Result<Option<R>, I::Error> {
-        let left = (*self).number();
-        drive_holding(&mut self.it, &mut self.keying, &KeyHold, left, state, turn)
+        drive_holding(
+            &mut self.it,
+            &mut self.keying,
+            &mut self.due,
+            &KeyHold,
+            state,
+            turn,
+        )
     }
 
     ghost lawful = { lawful_seen dedup_by_key_parts (lawful_dedup_by_key K.eq F.FnMut I.lawful) };
@@ -68,6 +81,7 @@ impl<X: Drop, E, K: PartialEq + Drop, F: FnMut(&X) -> Result<K, E>> Hold<(Option
 
     ghost held = { λ _ p. held_beside p };
 
+    #[inline(always)]
     fn ask(&self, holds: &mut (Option<(K, X)>, F), asked: Option<X>) -> Outcome<X, E>
         requires { dedup_key_takes (takes_at F.FnMut) holds.old asked }
         ensures { dedup_key_asks K.eq (call_at F.FnMut) holds.old asked result holds.new }

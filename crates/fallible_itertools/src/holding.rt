@@ -1,15 +1,15 @@
-//! The folds of the adapters that hold what they drew, through their sources' own.
-ghost use Rattle.std.specs.Prelude.{◌≡◌, ℕ, ◌+◌, min, if◌then◌else◌, Option, Some, None, ⊤};
+//! The fold of the adapters that hold what they drew, through their sources' own.
+ghost use Rattle.std.specs.Prelude.{◌≡◌, ℕ, if◌then◌else◌, Option, Result, Some, None, Ok, Err, ⊤};
 ghost use Rattle.fallible_iterator.specs.Folds.{CallableDriving, Driven};
-ghost use Rattle.fallible_iterator.specs.Passing.{passing_step};
-ghost use Rattle.fallible_itertools.specs.Holding.{Holds, as_answered, holding_contract, with_ends};
 ghost use Rattle.fallible_iterator.specs.Outcome.{Outcome};
+ghost use Rattle.fallible_iterator.specs.Outcome.TheVariants.{Kept};
+ghost use Rattle.fallible_itertools.specs.Holding.{Holds, HintHeld, StoppedBehind, stop_answer, holding_contract, holding_step};
 
 use fallible_iterator::extending::{Outcome, Pass, drive_passing};
-use fallible_iterator::{FallibleIterator, Number, Turn};
+use fallible_iterator::{FallibleIterator, Turn};
 use std::ops::ControlFlow;
 
-/// What an adapter does that holds what it drew: asked of an item, `Some`, or of an end of its source, `None`, it answers what becomes of it.
+/// What an adapter does that holds what it drew: asked of an item, `Some`, or of a stop of its source, `None`, it answers what becomes of it.
 pub trait Hold<P, X, E> {
     /// What the adapter gives.
     type Kept;
@@ -23,7 +23,7 @@ pub trait Hold<P, X, E> {
     // How many answers are held.
     ghost held: { Self → P → ℕ };
 
-    /// Asks of an item or an end.
+    /// Asks of an item or a stop.
     fn ask(&self, holds: &mut P, asked: Option<X>) -> Outcome<Self::Kept, E>
         requires { can_ask self.now holds.old asked }
         ensures { asks self.now holds.old asked result holds.new };
@@ -55,7 +55,7 @@ impl<'a, P, X, E, A: Hold<P, X, E>> Pass<P, X, E> for OfItems<'a, A> {
     }
 }
 
-/// The fold of such an adapter: the source's fold up to an end of it, which is asked of; and again, where something that was held was answered there and the caller's turn on it goes on. Each further fold of the source has fewer answers to come, by the bound `left`.
+/// The fold of such an adapter: the stop that is due, without a draw; or else the source's fold, and at its stop the turn on what is held. Where that turn stops the fold, the stop is due.
 pub fn drive_holding<
     I: FallibleIterator,
     P,
@@ -66,49 +66,84 @@ pub fn drive_holding<
 >(
     it: &mut I,
     holds: &mut P,
+    due: &mut Option<Option<I::Error>>,
     adapter: &A,
-    left: Number,
     state: &mut C,
     turn: &K,
 ) -> Result<Option<R>, I::Error>
 where
+    I::Error: Drop,
     requires can_next { (holding_contract I.contract (A.asks adapter.now) (A.can_ask adapter.now)
-        (A.held adapter.now) (λ _ _. ⊤)).can_next (it.old, holds.old) }
-    requires bounded { (holding_contract I.contract (A.asks adapter.now) (A.can_ask adapter.now)
-        (A.held adapter.now) (λ _ _. ⊤)).bound (it.old, holds.old) left.value }
-    requires callable { CallableDriving
-        (passing_step (with_ends I.contract.steps) (A.asks adapter.now) as_answered)
-        (K.turns turn.now) (K.can_turn turn.now) (it.old, holds.old) state.old }
-    ensures { Driven (passing_step (with_ends I.contract.steps) (A.asks adapter.now) as_answered)
-        (K.turns turn.now) (it.old, holds.old) state.old result (it.new, holds.new) state.new }
+        (A.held adapter.now) (λ _ _. ⊤)).can_next (it.old, (holds.old, due.old)) }
+    requires callable { CallableDriving (holding_step (A.asks adapter.now) I.contract.steps)
+        (K.turns turn.now) (K.can_turn turn.now) (it.old, (holds.old, due.old)) state.old }
+    ensures { Driven (holding_step (A.asks adapter.now) I.contract.steps)
+        (K.turns turn.now) (it.old, (holds.old, due.old)) state.old result
+        (it.new, (holds.new, due.new)) state.new }
 {
-    let mut left = left;
-    loop {
-        match drive_passing(it, holds, &OfItems { adapter }, state, turn) {
-            Ok(None) => {}
-            Ok(Some(stop)) => return Ok(Some(stop)),
-            Err(e) => return Err(e),
-        }
-        match adapter.ask(holds, None) {
-            Outcome::Kept(y) => match turn.turn(state, y) {
-                ControlFlow::Continue(()) => {}
-                ControlFlow::Break(stop) => return Ok(Some(stop)),
-            },
-            Outcome::LeftOut => unreachable!(),
-            Outcome::Failure(e) => return Err(e),
-            Outcome::End => return Ok(None),
-        }
-        left = left.one_less();
+    match due.take() {
+        Some(Some(e)) => Err(e),
+        Some(None) => Ok(None),
+        None => match drive_passing(it, holds, &OfItems { adapter }, state, turn) {
+            Ok(Some(stop)) => Ok(Some(stop)),
+            Ok(None) => before_stop(None, holds, due, adapter, state, turn),
+            Err(e) => before_stop(Some(e), holds, due, adapter, state, turn),
+        },
     }
 }
 
-/// The hint of such an adapter: at least one item where the source has at least one or one is held.
-pub fn at_least_one(low: usize, is_held: bool) -> (usize, Option<usize>)
-    ensures { result ≡ (min (low + (if is_held then 1 else 0)) 1, None) }
+// At a stop: the caller's turn on what is held, and then the stop.
+fn before_stop<P, X, E: Drop, A: Hold<P, X, E>, C, R, K: Turn<C, A::Kept, R>>(
+    stop: Option<E>,
+    holds: &mut P,
+    due: &mut Option<Option<E>>,
+    adapter: &A,
+    state: &mut C,
+    turn: &K,
+) -> Result<Option<R>, E>
+where
+    requires none_due { due.old ≡ None }
+    requires can_ask { A.can_ask adapter.now holds.old None }
+    requires callable { (y : A.Kept) (q : P) → A.asks adapter.now holds.old None (Kept y) q
+        → K.can_turn turn.now state.old y }
+    ensures { StoppedBehind (A.asks adapter.now) (K.turns turn.now) stop
+        (holds.old, state.old) result (holds.new, due.new) state.new }
 {
-    if low > 0 || is_held {
-        (1, None)
-    } else {
-        (0, None)
+    match adapter.ask(holds, None) {
+        Outcome::Kept(y) => match turn.turn(state, y) {
+            ControlFlow::Continue(()) => answered(stop),
+            ControlFlow::Break(why) => {
+                *due = Some(stop);
+                Ok(Some(why))
+            }
+        },
+        Outcome::LeftOut => unreachable!(),
+        Outcome::Failure(e) => {
+            *due = Some(stop);
+            Err(e)
+        }
+        Outcome::End => answered(stop),
     }
+}
+
+// The answer that a stop is.
+fn answered<R, E>(stop: Option<E>) -> Result<Option<R>, E>
+    ensures { result ≡ stop_answer stop }
+{
+    match stop {
+        Some(e) => Err(e),
+        None => Ok(None),
+    }
+}
+
+/// The hint of such an adapter where no stop is due: at least one item where the source has at least one or one is held, and at most the source's and what is held.
+pub fn with_held(hint: (usize, Option<usize>), is_held: bool) -> (usize, Option<usize>)
+    ensures { HintHeld (if is_held then 1 else 0) hint result }
+{
+    let low = if hint.0 > 0 || is_held { 1 } else { 0 };
+    let high = match hint.1 {
+        Some(bound) => bound.checked_add(if is_held { 1 } else { 0 }),
+        None => None,
+    };
+    (low, high)
 }

@@ -16,6 +16,7 @@ pub mod double_ended;
 pub mod few;
 pub mod growing;
 pub mod holding;
+pub mod holding_ends;
 pub mod intersperse;
 pub mod joined;
 pub mod laws;

@@ -76,14 +76,12 @@ pub trait FallibleItertools: FallibleIterator {
 
     /// Puts adjacent items together where the closure makes one of two, `Ok(one)`; two that it keeps apart it hands back, `Err((first, second))`.
     ///
-    /// Making it draws nothing. What was made so far is held until the closure keeps two apart, or an end comes: one call draws up to that, or to a failure, and calls the closure on what is held and each further item. It fails as the source does, and what is held stays. Where the closure fails, its failure is the answer, and the two items that it was called on are lost. An end answers the held item, and the next call draws the source again.
-    ///
-    /// What it lists is said over a source that ends for good, as `convert_fused` makes one, or `fuse`.
+    /// Making it draws nothing. What was made so far is held until the closure keeps two apart, or a stop comes: an end or a failure. One call draws up to that, and calls the closure on what is held and each further item. What is held is yielded first, and the stop is the next answer, which takes no draw. Where the closure fails, its failure is the answer, and the two items that it was called on are lost. Behind a stop nothing is held, so items on both sides of it stay apart.
     ///
     /// Asks that the closure may be called on what is held and each item that may come. Each draw asks what one of `dedup` asks.
     ///
     /// ```
-    /// convert_fused(readings.into_iter())
+    /// convert(readings.into_iter())
     ///     .coalesce(|first: u32, second: u32| {
     ///         Ok(if second < first {
     ///             Ok(first)
@@ -96,48 +94,51 @@ pub trait FallibleItertools: FallibleIterator {
     final fn coalesce<F>(self, f: F) -> Coalesce<Self, F>
     where
         Self::Item: Drop,
+        Self::Error: Drop,
         F: FnMut(
             Self::Item,
             Self::Item,
         ) -> Result<Result<Self::Item, (Self::Item, Self::Item)>, Self::Error>,
         requires callable { IsCallable (coalesce_asks (call_with F.FnMut))
             (coalesce_takes (takes_with F.FnMut)) (MayBeAsked Self.contract self) (None, f) }
-        ensures parts { coalesce_parts result ≡ (self, (None, f)) }
+        ensures parts { coalesce_parts result ≡ (self, ((None, f), None)) }
         ensures lists { (h : Self.Item → Self.Item → OneOrBoth Self.Item Self.Error)
             (l : List (Result Self.Item Self.Error))
-            → ActsWith (call_with F.FnMut) f h → ListsForGood Self.contract.steps self l
+            → ActsWith (call_with F.FnMut) f h → Lists Self.contract.steps self l
             → Lists (seen_as coalesce_parts (coalesce_contract Self.contract F.FnMut)).steps result
             (coalesced h l) }
     {
         Coalesce {
             it: self,
             coalescing: (None, f),
+            due: None,
         }
     }
 
     /// Gives of adjacent items with equal keys the first. The closure makes the key, once of each item.
     ///
-    /// It is made, draws and ends as `dedup` does. Where the closure fails, its failure is the answer and that item is lost, and no other.
+    /// It is made, draws and ends as `dedup` does. Where the closure fails, its failure is a stop: what is held is yielded first. That item is lost, and no other.
     ///
     /// Asks that the closure may be called on a reference to each item that may come. Each draw asks what one of `dedup` asks.
     ///
     /// ```
-    /// convert_fused(readings.into_iter())
+    /// convert(readings.into_iter())
     ///     .dedup_by_key(|reading| Ok(*reading / 10))
     /// ```
     final fn dedup_by_key<K, F>(self, f: F) -> DedupByKey<Self, K, F>
     where
         Self::Item: Drop,
+        Self::Error: Drop,
         K: PartialEq + Drop,
         F: FnMut(&Self::Item) -> Result<K, Self::Error>,
         requires callable { IsCallable (call_at F.FnMut) (takes_at F.FnMut)
             (Self.contract.may_give self) f }
-        ensures parts { dedup_by_key_parts result ≡ (self, (None, f)) }
+        ensures parts { dedup_by_key_parts result ≡ (self, ((None, f), None)) }
         ensures callable { IsCallable (dedup_key_asks K.eq (call_at F.FnMut))
             (dedup_key_takes (takes_at F.FnMut)) (MayBeAsked Self.contract self) (None, f) }
         ensures lists { (h : Self.Item → Result K Self.Error)
             (l : List (Result Self.Item Self.Error)) → Acts (call_at F.FnMut) f h
-            → ListsForGood Self.contract.steps self l
+            → Lists Self.contract.steps self l
             → Lists (seen_as dedup_by_key_parts
             (dedup_by_key_contract K.eq Self.contract F.FnMut)).steps result
             (deduped_by_key K.eq h l) }
@@ -145,32 +146,33 @@ pub trait FallibleItertools: FallibleIterator {
         DedupByKey {
             it: self,
             keying: (None, f),
+            due: None,
         }
     }
 
     /// Gives of adjacent equal items the first.
     ///
-    /// Making it draws nothing. The first of equal items is held until an item that differs comes, or an end: one call draws up to that, or to a failure. It fails as the source does, and what is held stays. An end answers the held item, and the next call draws the source again.
-    ///
-    /// What it lists is said over a source that ends for good, as `convert_fused` makes one, or `fuse`.
+    /// Making it draws nothing. The first of equal items is held until an item that differs comes, or a stop: an end or a failure. One call draws up to that. What is held is yielded first, and the stop is the next answer, which takes no draw. Behind a stop nothing is held, so equal items on both sides of it are both yielded.
     ///
     /// Asks nothing. Each draw asks that the source may be drawn from and is finite, since one draw may leave many items out.
     ///
     /// ```
-    /// convert_fused(readings.into_iter()).dedup().count()
+    /// convert(readings.into_iter()).dedup().count()
     /// ```
     final fn dedup(self) -> Dedup<Self>
     where
         Self::Item: PartialEq + Drop,
-        ensures parts { dedup_parts result ≡ (self, None) }
+        Self::Error: Drop,
+        ensures parts { dedup_parts result ≡ (self, (None, None)) }
         ensures lists { (l : List (Result Self.Item Self.Error))
-            → ListsForGood Self.contract.steps self l
+            → Lists Self.contract.steps self l
             → Lists (seen_as dedup_parts (dedup_contract Self.Item.eq Self.contract)).steps result
             (deduped Self.Item.eq l) }
     {
         Dedup {
             it: self,
             held: None,
+            due: None,
         }
     }
 

@@ -5,7 +5,7 @@ ghost use Rattle.fallible_iterator.specs.Laws.Contract.{lawful_seen};
 ghost use Rattle.fallible_itertools.specs.TupleWindows.{tuple_windows_contract, tuple_windows_parts, window_at, windows_asks};
 ghost use Rattle.fallible_itertools.specs.Laws.TupleWindows.{holds_windows, lawful_tuple_windows};
 
-use crate::holding::{Hold, drive_holding};
+use crate::holding_ends::{Hold, drive_holding};
 use fallible_iterator::extending::{FirstTurn, Outcome};
 use fallible_iterator::{FallibleIterator, Turn};
 use std::alloc::AllocError;

@@ -21,19 +21,33 @@ const EQUAL: [Drawn; 8] = [
     Ok(Some(3)),
 ];
 
-// A fold goes on behind the end, and stops at the failure, which loses nothing.
-const DEDUPED: [Folded; 3] = [
+// What is held comes before the end or the failure, which is the next answer. A fold stops there, and the next one goes on behind it.
+const DEDUPED: [Folded; 4] = [
     (
         &EQUAL,
-        &[Item(1), Item(1), Failure(9), Item(2), Item(3), End],
+        &[
+            Item(1),
+            End,
+            Item(1),
+            Item(2),
+            Failure(9),
+            Item(2),
+            Item(3),
+            End,
+        ],
         (Ok(0), END),
     ),
-    (&EQUAL, &[], (Err(9), Ok(Some(2)))),
-    (&EQUAL, &[Item(1), Item(1), Failure(9)], (Ok(23), END)),
+    (&EQUAL, &[], (Ok(1), Ok(Some(1)))),
+    (&EQUAL, &[Item(1)], (Ok(0), Ok(Some(1)))),
+    (
+        &EQUAL,
+        &[Item(1), End, Item(1), Item(2), Failure(9)],
+        (Ok(23), END),
+    ),
 ];
 
 #[test]
-fn dedup_holds_the_first_up_to_another_or_an_end(rt: HostRuntime) -> Result<(), Fail> {
+fn dedup_gives_what_is_held_before_a_stop(rt: HostRuntime) -> Result<(), Fail> {
     for (answers, drawn, expected) in &DEDUPED {
         let mut source = script(&rt, answers)?;
         let mut it = (&mut source).dedup();
@@ -55,13 +69,25 @@ const TENS: [Drawn; 9] = [
     Ok(Some(22)),
 ];
 
-const DEDUPED_TENS: [Folded; 2] = [
+// 11 comes before the key's failure on 77, 13 before 21, and 21 before the failure 9.
+const DEDUPED_TENS: [Folded; 3] = [
     (
         &TENS,
-        &[Failure(5), Item(11), Failure(9), Item(21), Item(22), End],
+        &[
+            Item(11),
+            Failure(5),
+            Item(13),
+            Item(21),
+            Failure(9),
+            Item(29),
+            End,
+            Item(22),
+            End,
+        ],
         (Ok(0), END),
     ),
-    (&TENS, &[Failure(5)], (Err(9), Ok(Some(29)))),
+    (&TENS, &[], (Err(5), Ok(Some(13)))),
+    (&TENS, &[Item(11), Failure(5)], (Err(9), Ok(Some(29)))),
 ];
 
 // The key is the tens. It fails on 77.
@@ -78,26 +104,40 @@ fn dedup_by_key_loses_the_item_without_a_key_alone(rt: HostRuntime) -> Result<()
     Ok(())
 }
 
-const SUMMED: [Drawn; 9] = [
+const SUMMED: [Drawn; 10] = [
     Ok(Some(1)),
     Ok(Some(2)),
     Ok(Some(2)),
     Ok(Some(3)),
     Err(9),
+    Ok(Some(5)),
     Ok(Some(7)),
     Ok(Some(1)),
     END,
     Ok(Some(2)),
 ];
 
-// 1 + 2 + 2 before 3, which 7 takes with it.
+// 1 + 2 + 2 before 3, which comes before the failure 9; 5 takes 7 with it, and 1 stands alone before the end.
 const COALESCED: [Folded; 2] = [
     (
         &SUMMED,
-        &[Item(5), Failure(9), Failure(70), Item(1), Item(2), End],
+        &[
+            Item(5),
+            Item(3),
+            Failure(9),
+            Failure(70),
+            Item(1),
+            End,
+            Item(2),
+            End,
+        ],
         (Ok(0), END),
     ),
-    (&SUMMED, &[Item(5), Failure(9)], (Err(70), Ok(Some(1)))),
+    (
+        &SUMMED,
+        &[Item(5), Item(3), Failure(9)],
+        (Err(70), Ok(Some(1))),
+    ),
 ];
 
 // An even item is added to the one before it. The closure fails on 7.
@@ -125,7 +165,12 @@ fn coalesce_goes_on_with_what_was_made_of_two(rt: HostRuntime) -> Result<(), Fai
 
 const TWO_EQUAL: [Result<u32, u32>; 2] = [Ok(4), Ok(4)];
 
-const HINTED: [(Hint, &[Answer<u32, u32>]); 2] = [((1, None), &[Item(4), End]), ((0, None), &[])];
+// Where the end is due, nothing comes before it.
+const HINTED: [(Hint, &[Answer<u32, u32>]); 3] = [
+    ((1, Some(2)), &[Item(4)]),
+    ((0, Some(0)), &[End]),
+    ((0, Some(0)), &[]),
+];
 
 #[test]
 fn holding_adapters_hint_at_one_item_where_one_is_held(rt: HostRuntime) -> Result<(), Fail> {

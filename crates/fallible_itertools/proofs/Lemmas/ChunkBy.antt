@@ -9,9 +9,9 @@ use Rattle.fallible_iterator.specs.Lists.{Acts, ListsForGood}
 use Rattle.fallible_iterator.proofs.Lemmas.Lists.Passing.{by_outcome}
 use Rattle.fallible_itertools.specs.ChunkBy.{Group, MadeGroup, by_its_key, chunk_by_asks, chunk_by_contract, chunk_by_parts, chunked_by, chunked_by_from, group_at, group_at_end, group_begun, group_by, group_grown, group_held, group_or}
 use Rattle.fallible_itertools.specs.Growing.{ListsMade}
-use Rattle.fallible_itertools.specs.Holding.{held_one}
-use Rattle.fallible_itertools.proofs.Lemmas.HoldingHints.{GivesHeld}
-use Rattle.fallible_itertools.proofs.Lemmas.HoldingLists.{held_list}
+use Rattle.fallible_itertools.specs.HoldingEnds.{held_one}
+use Rattle.fallible_itertools.proofs.Lemmas.HoldingEndsHints.{GivesHeld}
+use Rattle.fallible_itertools.proofs.Lemmas.HoldingEndsLists.{held_list}
 use Rattle.fallible_itertools.proofs.Lemmas.HoldingMade.{Answers, OutcomeMade, Refuses, held_gives_made, lists_made_seen}
 use Rattle.std.specs.declared.alloc.AllocError.{AllocError}
 use Rattle.fallible_iterator.specs.Outcome.{Outcome}

@@ -7,7 +7,7 @@ use Rattle.fallible_iterator.specs.Lists.{ListsForGood}
 use Rattle.fallible_iterator.proofs.Lemmas.Lists.Passing.{by_outcome}
 use Rattle.fallible_itertools.specs.Chunks.{Settles, batch_or, chunked, chunked_from, chunks_asks, chunks_contract, chunks_parts, last_batch}
 use Rattle.fallible_itertools.specs.Growing.{Grown, ListsMade, held_items}
-use Rattle.fallible_itertools.proofs.Lemmas.HoldingLists.{held_list}
+use Rattle.fallible_itertools.proofs.Lemmas.HoldingEndsLists.{held_list}
 use Rattle.fallible_itertools.proofs.Lemmas.HoldingMade.{Answers, OutcomeMade, Refuses, held_gives_made, lists_made_seen}
 use Rattle.std.specs.declared.vec.Vec.{Vec}
 use Rattle.std.specs.declared.alloc.Global.{Global}

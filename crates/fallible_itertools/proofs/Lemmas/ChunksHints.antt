@@ -11,7 +11,7 @@ use Rattle.fallible_iterator.specs.Laws.Passing.{Passes, done, end_passes, failu
 use Rattle.fallible_iterator.proofs.Lemmas.Hints.Drawn.{sound_seen}
 use Rattle.fallible_itertools.specs.Chunks.{begun, chunks_asks, chunks_contract, chunks_parts, room_left}
 use Rattle.fallible_itertools.specs.Growing.{Grown}
-use Rattle.fallible_itertools.specs.Holding.{with_ends, as_answered, held_one}
+use Rattle.fallible_itertools.specs.HoldingEnds.{with_ends, as_answered, held_one}
 use Rattle.fallible_iterator.specs.Outcome.{Outcome}
 use Rattle.fallible_iterator.specs.Outcome.TheVariants.{Kept, LeftOut, End}
 use Rattle.std.specs.declared.vec.Vec.{Vec}

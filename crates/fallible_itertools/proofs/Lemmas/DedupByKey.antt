@@ -1,17 +1,17 @@
 -- What `DedupByKey` lists, and its hint.
-use Rattle.std.specs.Prelude.{◌≡◌, ◌≤◌, Bool, true, false, Option, Some, None, Result, Ok, Err, List, [], ◌∷◌}
+use Rattle.std.specs.Prelude.{◌≡◌, ◌≤◌, Bool, true, false, Option, Some, None, Result, Ok, Err, List, [], ◌∷◌, ◌++◌}
 use Rattle.std.specs.Fn.{Mut}
 use Rattle.std.specs.Borrow.{Bor}
-use Rattle.std.proofs.Common.{refl, ap, subst, arith, ◌∙◌}
+use Rattle.std.proofs.Common.{refl, sym, ap, subst, arith, ◌∙◌}
 use Rattle.fallible_iterator.specs.Contract.{Contract, seen_as}
 use Rattle.fallible_iterator.specs.Closures.{IsCallable, call_at}
-use Rattle.fallible_iterator.specs.Lists.{Acts, Lists, ListsForGood}
-use Rattle.fallible_iterator.proofs.Lemmas.Lists.Passing.{by_outcome, lists_seen}
+use Rattle.fallible_iterator.specs.Lists.{Acts, Lists}
+use Rattle.fallible_iterator.proofs.Lemmas.Lists.Passing.{lists_seen}
 use Rattle.fallible_itertools.specs.DedupByKey.{keyed_at, keyed_by, key_before, key_at, dedup_key_asks, dedup_key_takes, dedup_by_key_contract, dedup_by_key_parts, deduped_by_key, deduped_key_from}
-use Rattle.fallible_itertools.specs.Holding.{OrEnd, held_beside, held_one}
+use Rattle.fallible_itertools.specs.Holding.{OrStop, held_beside, held_one}
 use Rattle.fallible_itertools.proofs.Lemmas.Holding.{callable_beside}
 use Rattle.fallible_itertools.proofs.Lemmas.HoldingHints.{GivesHeld}
-use Rattle.fallible_itertools.proofs.Lemmas.HoldingLists.{held_list, held_gives}
+use Rattle.fallible_itertools.proofs.Lemmas.HoldingLists.{by_outcome, before_stop, held_list, listed_parts, held_gives}
 use Rattle.fallible_iterator.specs.Outcome.{Outcome}
 use Rattle.fallible_iterator.specs.Outcome.TheVariants.{Kept, LeftOut, Failure, End}
 use Rattle.fallible_itertools.specs.declared.dedup_by_key.DedupByKey.{DedupByKey}
@@ -55,26 +55,31 @@ module _ {A K E : Type 0} (eq : K → K → Bool) where
     does None None = End
     does (Some held) None = Kept held.1
 
-    settles : (a : Option (K × A)) (y : A) → does a None ≡ Kept y → does (next a None) None ≡ End
-    settles a y is = refl
-
-    no_failure : (a : Option (K × A)) (e : E) → does a None ≡ Failure e → ⊥
-    no_failure None e is = absurd cc
-    no_failure (Some y) e is = absurd cc
-
     none_left : (a : Option (K × A)) → does a None ≡ LeftOut → ⊥
     none_left None is = absurd cc
     none_left (Some y) is = absurd cc
 
-    cons_before : (held this : K × A) (b : Bool) (l : List (Result A E)) → ((a : Option (K × A)) → held_list does next a l ≡ deduped_key_from eq h a l) → by_outcome (does_at held b) (held_list does next (next_at held this b) l) ≡ key_before eq held b (deduped_key_from eq h (Some held) l) (deduped_key_from eq h (Some this) l)
-    cons_before held this true l rest = rest (Some held)
-    cons_before held this false l rest = ap (λ k. Ok held.1 ∷ k) (rest (Some this))
+    no_end_at : (held : K × A) (b : Bool) → does_at held b ≡ End → ⊥
+    no_end_at held true is = absurd cc
+    no_end_at held false is = absurd cc
 
-    cons_at : (a : Option (K × A)) (x : A) (v : Result K E) (l : List (Result A E)) → ((a : Option (K × A)) → held_list does next a l ≡ deduped_key_from eq h a l) → by_outcome (does_by a x v) (held_list does next (next_by a x v) l) ≡ key_at eq a x v (λ p. deduped_key_from eq h p l)
+    no_end_by : (a : Option (K × A)) (x : A) (v : Result K E) → does_by a x v ≡ End → ⊥
+    no_end_by a x (Err e) is = absurd cc
+    no_end_by None x (Ok k) is = absurd cc
+    no_end_by (Some held) x (Ok k) is = no_end_at held (eq held.0 k) is
+
+    no_end : (a : Option (K × A)) (x : A) → does a (Some x) ≡ End → ⊥
+    no_end a x is = no_end_by a x (h x) is
+
+    cons_before : (held this : K × A) (b : Bool) (l : List (Result A E)) (failed : E → List (Result A E)) → ((a : Option (K × A)) → held_list does next a l ≡ deduped_key_from eq h a l) → by_outcome (does_at held b) (held_list does next (next_at held this b) l) failed ≡ key_before eq held b (deduped_key_from eq h (Some held) l) (deduped_key_from eq h (Some this) l)
+    cons_before held this true l failed rest = rest (Some held)
+    cons_before held this false l failed rest = ap (λ k. Ok held.1 ∷ k) (rest (Some this))
+
+    cons_at : (a : Option (K × A)) (x : A) (v : Result K E) (l : List (Result A E)) → ((a : Option (K × A)) → held_list does next a l ≡ deduped_key_from eq h a l) → by_outcome (does_by a x v) (held_list does next (next_by a x v) l) (λ e. before_stop (does (next_by a x v) None) (Err e ∷ held_list does next None l)) ≡ key_at eq a x v (λ p. deduped_key_from eq h p l)
     cons_at None x (Err e) l rest = ap (λ k. Err e ∷ k) (rest None)
-    cons_at (Some held) x (Err e) l rest = ap (λ k. Err e ∷ k) (rest (Some held))
+    cons_at (Some held) x (Err e) l rest = ap (λ k. Ok held.1 ∷ Err e ∷ k) (rest None)
     cons_at None x (Ok k) l rest = rest (Some (k, x))
-    cons_at (Some held) x (Ok k) l rest = cons_before held (k, x) (eq held.0 k) l rest
+    cons_at (Some held) x (Ok k) l rest = cons_before held (k, x) (eq held.0 k) l _ rest
 
     from_is : (a : Option (K × A)) (l : List (Result A E)) → held_list does next a l ≡ deduped_key_from eq h a l
     unfolding deduped_key_from
@@ -83,11 +88,18 @@ module _ {A K E : Type 0} (eq : K → K → Bool) where
     from_is None (Ok x ∷ l) = cons_at None x (h x) l (λ a. from_is a l)
     from_is (Some held) (Ok x ∷ l) = cons_at (Some held) x (h x) l (λ a. from_is a l)
     from_is None (Err e ∷ l) = ap (λ k. Err e ∷ k) (from_is None l)
-    from_is (Some held) (Err e ∷ l) = ap (λ k. Err e ∷ k) (from_is (Some held) l)
+    from_is (Some held) (Err e ∷ l) = ap (λ k. Ok held.1 ∷ Err e ∷ k) (from_is None l)
 
     deduped_is : (l : List (Result A E)) → held_list does next None l ≡ deduped_by_key eq h l
     unfolding deduped_by_key
     deduped_is l = from_is None l
+
+    settles : (a : Option (K × A)) → next a None ≡ None
+    settles a = refl
+
+    -- What stands before a failure is deduped by itself, and so is what stands behind it.
+    pub deduped_by_key_in_parts : (a : List (Result A E)) (e : E) (b : List (Result A E)) → deduped_by_key eq h (a ++ Err e ∷ b) ≡ deduped_by_key eq h a ++ Err e ∷ deduped_by_key eq h b
+    deduped_by_key_in_parts a e b = listed_parts does next None settles no_end (deduped_by_key eq h) deduped_is a e b
 
     module _ {F : Type 0} (call : F → A → Result K E → F → Type 0) (f : F) (acts_as : Acts call f h) where
       pair_at : (q : Option (K × A) × F) {held : Option (K × A)} → q.0 ≡ held → q.1 ≡ f → q ≡ (held, f)
@@ -105,9 +117,9 @@ module _ {A K E : Type 0} (eq : K → K → Bool) where
       acts : (p : Option (K × A) × F) (a : Option (K × A)) (x : Option A) (o : Outcome A E) (q : Option (K × A) × F) → At p a → dedup_key_asks eq call p x o q → At q (next a x) × (o ≡ does a x)
       acts p a x o q at w = acts_on a x o q (subst (λ k. dedup_key_asks eq call k x o q) at w)
 
-pub lists_deduped_by_key : {S A K F E : Type 0} (m : Contract S A E) (eq : K → K → Bool) (g : Mut F (Bor A × Unit {0}) (Result K E)) (s : DedupByKey S K F A E) (f : F) (h : A → Result K E) (l : List (Result A E)) → dedup_by_key_parts s ≡ (s.it, (None, f)) → Acts (call_at g) f h → ListsForGood m.steps s.it l
+pub lists_deduped_by_key : {S A K F E : Type 0} (m : Contract S A E) (eq : K → K → Bool) (g : Mut F (Bor A × Unit {0}) (Result K E)) (s : DedupByKey S K F A E) (f : F) (h : A → Result K E) (l : List (Result A E)) → dedup_by_key_parts s ≡ (s.it, ((None, f), None)) → Acts (call_at g) f h → Lists m.steps s.it l
     → Lists (seen_as dedup_by_key_parts (dedup_by_key_contract eq m g)).steps s (deduped_by_key eq h l)
-lists_deduped_by_key m eq g s f h l parts a i = lists_seen dedup_by_key_parts (dedup_by_key_contract eq m g).steps s parts (deduped_is eq h l) (held_gives m.steps (dedup_key_asks eq (call_at g)) (At eq h (call_at g) f a) (does eq h) (next eq h) (acts eq h (call_at g) f a) (settles eq h) (no_failure eq h) (none_left eq h) l s.it (None, f) None refl i.runs)
+lists_deduped_by_key m eq g s f h l parts a i = lists_seen dedup_by_key_parts (dedup_by_key_contract eq m g).steps s parts (deduped_is eq h l) (held_gives m.steps (dedup_key_asks eq (call_at g)) (At eq h (call_at g) f a) (does eq h) (next eq h) (acts eq h (call_at g) f a) (no_end eq h) (none_left eq h) l s.it (None, f) None refl i.runs)
 
 -- ---- its hint
 
@@ -125,12 +137,12 @@ module _ {A K F E : Type 0} (eq : K → K → Bool) (call : F → A → Result K
   left_out : (p : Option (K × A) × F) (x : A) (q : Option (K × A) × F) → dedup_key_asks eq call p (Some x) LeftOut q → 1 ≤ held_beside q
   left_out p x q w = one_held p.0 x w.0 q.0 w.2
 
-  at_end : (p q : Option (K × A) × F) → dedup_key_asks eq call p None End q → held_beside p ≡ 0
-  at_end (None, f) q w = refl
-  at_end (Some held, f) q w = absurd (let is = w.0 in cc)
+  at_stop : (p q : Option (K × A) × F) → dedup_key_asks eq call p None End q → held_beside p ≡ 0
+  at_stop (None, f) q w = refl
+  at_stop (Some held, f) q w = absurd (let is = w.0 in cc)
 
   pub gives_held : GivesHeld {E = E} (dedup_key_asks eq call) held_beside
-  gives_held = record { left_out = left_out; at_end = at_end }
+  gives_held = record { left_out = left_out; at_stop = at_stop }
 
 -- ---- where the closure may be called
 
@@ -139,7 +151,7 @@ module _ {A K F E : Type 0} (eq : K → K → Bool) (call : F → A → Result K
   closure_kept (None, f) o q w = ap (λ z. z.1) w.1
   closure_kept (Some held, f) o q w = ap (λ z. z.1) w.1
 
-  pub callable_dedup_key : {takes : F → A → Type 0} {P : A → Type 0} {f : F} → IsCallable call takes P f → IsCallable (dedup_key_asks eq call) (dedup_key_takes takes) (OrEnd P) (None, f)
+  pub callable_dedup_key : {takes : F → A → Type 0} {P : A → Type 0} {f : F} → IsCallable call takes P f → IsCallable (dedup_key_asks eq call) (dedup_key_takes takes) (OrStop P) (None, f)
   callable_dedup_key {takes = takes} {P = P} {f = f} c = callable_beside (dedup_key_asks eq call) call (λ p. p.1) (λ p x o q w. (w.0, w.1)) closure_kept (dedup_key_takes takes) (λ p x t. t) (λ p. tt) c
 
   -- one item, on which the closure was called

@@ -1,123 +1,125 @@
--- A fold of an adapter that holds, by folds of its source and what is asked of its ends.
-use Rattle.std.specs.Prelude.{◌≡◌, ℕ, ⊤, Option, Some, None, Ok, Err, List, [], ◌∷◌, ◌++◌, map, false}
+-- A fold of an adapter that holds, by the fold of its source up to a stop, and what is asked of that stop.
+use Rattle.std.specs.Prelude.{◌≡◌, ⊤, Option, Some, None, Ok, Err, List, [], ◌∷◌, ◌++◌, map}
 use Rattle.std.specs.List.{FoldsTo}
-use Rattle.std.proofs.Common.{refl, sym, subst}
-use Rattle.fallible_iterator.specs.Traces.{Answered, Run, item, end, is_end}
+use Rattle.std.proofs.Common.{refl, sym, subst, inl, inr}
+use Rattle.fallible_iterator.specs.Traces.{Answered, Run, item}
 use Rattle.fallible_iterator.specs.Closures.{Reaches, IsCallable}
 use Rattle.fallible_iterator.specs.Contract.{Contract, Lawful}
-use Rattle.fallible_iterator.specs.Passing.{outcome_answer, passing_step, leaving_out_contract}
+use Rattle.fallible_iterator.specs.Passing.{passing_step, leaving_out_contract}
 use Rattle.fallible_iterator.specs.Folds.{DriveExit, Driven, HoldsAtEachTurn, goes_on}
 use Rattle.fallible_iterator.specs.Laws.Closures.{reaches_here, reaches_from, callable_after}
-use Rattle.fallible_iterator.specs.Laws.Passing.{Passes, done, end_passes, failure_passes, keeps, refuses, closes, leaves_out, to_passes, from_passes, lawful_leaving_out}
+use Rattle.fallible_iterator.specs.Laws.Passing.{lawful_leaving_out}
 use Rattle.fallible_iterator.specs.Laws.Contract.{kept_run}
-use Rattle.fallible_iterator.proofs.Lemmas.Folds.{holds_after, driven_after}
+use Rattle.fallible_iterator.proofs.Lemmas.Folds.{holds_here, holds_after, driven_after, driven_end, driven_failure, driven_stop}
 use Rattle.fallible_iterator.proofs.Lemmas.Folding.{holds_into}
-use Rattle.fallible_itertools.specs.Holding.{with_ends, as_answered, OrEnd, MayBeAsked, asks_item, as_answered_item, holding_contract}
+use Rattle.fallible_itertools.specs.Holding.{asks_item, as_answered_item, stop_answer, BeforeStop, holding_step, OrStop, MayBeAsked, TurnBefore, StoppedBehind}
 use Rattle.std.specs.declared.ops.ControlFlow.{ControlFlow}
+use Rattle.std.specs.declared.ops.ControlFlow.TheVariants.{Break}
 use Rattle.fallible_iterator.specs.Outcome.{Outcome}
 use Rattle.fallible_iterator.specs.Outcome.TheVariants.{Kept, LeftOut, Failure, End}
 
 module _ {S P X B E : Type 0} (steps : S → Answered X E → S → Type 0) (asks : P → Option X → Outcome B E → P → Type 0) where
-  -- draws of the adapter up to the source's end, and draws of the adapter
-  abbrev ToEnd : S → P → List (Answered B E) → S → P → Type 0
-  ToEnd = Passes steps (asks_item asks) as_answered_item
+  -- answers of the adapter up to the source's stop, and answers of the adapter
+  abbrev UpTo : S × P → Answered B E → S × P → Type 0
+  UpTo = passing_step steps (asks_item asks) as_answered_item
 
-  abbrev Whole : S → P → List (Answered B E) → S → P → Type 0
-  Whole = Passes (with_ends steps) asks as_answered
+  abbrev Steps : S × (P × Option (Option E)) → Answered B E → S × (P × Option (Option E)) → Type 0
+  Steps = holding_step asks steps
 
-  abbrev UpToEnd : S × P → Answered B E → S × P → Type 0
-  UpToEnd = passing_step steps (asks_item asks) as_answered_item
+  -- where no stop is due
+  abbrev None_due : S × P → S × (P × Option (Option E))
+  None_due p = (p.0, (p.1, None))
 
-  abbrev Steps : S × P → Answered B E → S × P → Type 0
-  Steps = passing_step (with_ends steps) asks as_answered
-
-  -- an answer that comes before the source's end is one of the adapter
-  before_end : (s t : S) (f g : P) (r : Answered B E) → is_end r ≡ false → ToEnd s f (r ∷ []) t g → Whole s f (r ∷ []) t g
-  before_end s t f g _ no_end (end_passes step done) = absurd cc
-  before_end s t f g _ no_end (failure_passes e step done) = failure_passes e step done
-  before_end s t f g _ no_end (keeps x o y step called is done) = keeps (Some x) o y step called is done
-  before_end s t f g _ no_end (refuses x o e step called is done) = refuses (Some x) o e step called is done
-  before_end s t f g _ no_end (closes x o step called is done) = absurd cc
-  before_end s t f g r no_end (leaves_out {u = u} {h = h} x o step called is rest) = leaves_out (Some x) o step called is (before_end u t h g r no_end rest)
-
-  pub step_before_end : (p : S × P) (r : Answered B E) (q : S × P) → is_end r ≡ false → UpToEnd p r q → Steps p r q
-  step_before_end p r q no_end step = from_passes (before_end p.0 q.0 p.1 q.1 r no_end (to_passes step))
-
-  module _ (no_end : (p : P) (x : X) (q : P) → asks p (Some x) End q → ⊥) where
-    -- what was answered of the source's end
-    of_end : (s t : S) (g h : P) (o : Outcome B E) (r : Answered B E) → steps s (Ok None) t → asks g None o h → outcome_answer o ≡ Some r → Whole s g (r ∷ []) t h
-    of_end s t g h (Kept y) r step asked is = let same : item y ≡ r = cc in subst (λ z. Whole s g (z ∷ []) t h) same (keeps None (Kept y) y step asked refl done)
-    of_end s t g h LeftOut r step asked is = absurd cc
-    of_end s t g h (Failure e) r step asked is = let same : Err e ≡ r = cc in subst (λ z. Whole s g (z ∷ []) t h) same (refuses None (Failure e) e step asked refl done)
-    of_end s t g h End r step asked is = let same : Ok None ≡ r = cc in subst (λ z. Whole s g (z ∷ []) t h) same (closes None End step asked refl done)
-
-    at_end : (s t : S) (f g h : P) (o : Outcome B E) (r z : Answered B E) → asks g None o h → outcome_answer o ≡ Some r → ToEnd s f (z ∷ []) t g → z ≡ end → Whole s f (r ∷ []) t h
-    at_end s t f g h o r _ asked is (end_passes step done) ended = of_end s t g h o r step asked is
-    at_end s t f g h o r _ asked is (failure_passes e step done) ended = absurd cc
-    at_end s t f g h o r _ asked is (keeps x v y step called kept done) ended = absurd cc
-    at_end s t f g h o r _ asked is (refuses x v e step called failed done) ended = absurd cc
-    at_end s t f g h o r _ asked is (closes x v step called closed done) ended = absurd (no_end f x g (subst (λ k. asks f (Some x) k g) closed called))
-    at_end s t f g h o r z asked is (leaves_out {u = u} {h = j} x v step called left rest) ended = leaves_out (Some x) v step called left (at_end u t j g h o r z asked is rest ended)
-
-    pub step_at_end : (p : S × P) (q : S × P) (h : P) (o : Outcome B E) (r : Answered B E) → UpToEnd p end q → asks q.1 None o h → outcome_answer o ≡ Some r → Steps p r (q.0, h)
-    step_at_end p q h o r step asked is = from_passes (at_end p.0 q.0 p.1 q.1 h o r end asked is (to_passes step) refl)
-
-  -- ---- folds
+  -- an item that comes before the source's stop is one of the adapter
+  pub item_before : (p : S × P) (y : B) (q : S × P) → UpTo p (item y) q → Steps (None_due p) (item y) (None_due q)
+  item_before p y q step = (q.1, item y, step, (refl, refl))
 
   module _ {C R : Type 0} (turns : C → B → ControlFlow R (Unit {0}) → C → Type 0) where
-    run_before_end : (items : List B) (last : Answered B E) (p q : S × P) → is_end last ≡ false → Run UpToEnd p (map item items ++ last ∷ []) q → Run Steps p (map item items ++ last ∷ []) q
-    run_before_end [] last p q no_end ran = (ran.0, step_before_end p last ran.0 no_end ran.1, ran.2)
-    run_before_end (y ∷ items) last p q no_end ran = (ran.0, step_before_end p (item y) ran.0 refl ran.1, run_before_end items last ran.0 q no_end ran.2)
+    pub holds_before : {Q : C → B → Type 0} {p : S × P} {c : C} → HoldsAtEachTurn Steps (goes_on turns) Q (None_due p) c → HoldsAtEachTurn UpTo (goes_on turns) Q p c
+    holds_before h = holds_into {held = Steps} None_due (λ p y q step. item_before p y q step) h
 
-    exits_before : (last : Answered B E) (c d : C) (r : Answered R E) → is_end r ≡ false → DriveExit turns c last r d → is_end last ≡ false
-    exits_before (Ok None) c d r no_end at = absurd (let same = at.0 in cc)
-    exits_before (Ok (Some y)) c d r no_end at = refl
-    exits_before (Err e) c d r no_end at = refl
+    -- where it is known that none is due
+    pub holds_undue : {Q : C → B → Type 0} {s : S} {p : P} {due : Option (Option E)} {c : C} → due ≡ None → HoldsAtEachTurn Steps (goes_on turns) Q (s, (p, due)) c → HoldsAtEachTurn Steps (goes_on turns) Q (s, (p, None)) c
+    holds_undue {Q = Q} {s = s} {p = p} {c = c} is h = subst (λ (d : Option (Option E)). HoldsAtEachTurn Steps (goes_on turns) Q (s, (p, d)) c) is h
 
-    -- a fold that doesn't come to the source's end
-    pub driven_before_end : {p q : S × P} {c d : C} {r : Answered R E} → is_end r ≡ false → Driven UpToEnd turns p c r q d → Driven Steps turns p c r q d
-    driven_before_end {p = p} {q = q} {c = c} {d = d} {r = r} no_end w = record { items = w.items; last = w.last; ran = run_before_end w.items w.last p q (exits_before w.last w.at.carried d r no_end w.at.exit) w.ran; at = w.at }
+    -- ---- a fold that the caller's turn stops before the source's stop
 
-    -- A fold that comes to the source's end, at the place before that end: what comes from there comes after the items before.
-    pub record ToTheEnd (Q : C → B → Type 0) (p : S × P) (c : C) (q : S × P) (d : C) : Type 0 where
+    last_item : (last : Answered B E) (p q : S × P) (c d : C) (why : R) → UpTo p last q → DriveExit turns c last (Ok (Some why)) d → Driven Steps turns (None_due p) c (Ok (Some why)) (None_due q) d
+    last_item (Ok None) p q c d why step at = absurd (let same = at.0 in cc)
+    last_item (Err e) p q c d why step at = absurd (let same = at.0 in cc)
+    last_item (Ok (Some y)) p q c d why step at = let same : why ≡ at.0 = (let e = at.2 in cc) in driven_stop y (item_before p y q step) (subst (λ z. turns c y (Break z) d) (sym same) at.1)
+
+    items_before : (items : List B) (last : Answered B E) (p q : S × P) (c k d : C) (why : R) → Run UpTo p (map item items ++ last ∷ []) q → FoldsTo (goes_on turns) c items k → DriveExit turns k last (Ok (Some why)) d → Driven Steps turns (None_due p) c (Ok (Some why)) (None_due q) d
+    items_before [] last p q c k d why ran went at = last_item last p q c d why (subst (λ (u : S × P). UpTo p last u) ran.2 ran.1) (subst (λ (z : C). DriveExit turns z last (Ok (Some why)) d) (sym went) at)
+    items_before (y ∷ items) last p q c k d why ran went at = driven_after y (item_before p y ran.0 ran.1) went.1 (items_before items last ran.0 q went.0 k d why ran.2 went.2 at)
+
+    pub driven_before : {p q : S × P} {c d : C} {why : R} → Driven UpTo turns p c (Ok (Some why)) q d → Driven Steps turns (None_due p) c (Ok (Some why)) (None_due q) d
+    driven_before {p = p} {q = q} {c = c} {d = d} {why = why} w = items_before w.items w.last p q c w.at.carried d why w.ran w.at.went w.at.exit
+
+    -- ---- a fold that comes to the source's stop
+
+    -- The place before that stop: what comes from there comes after the items before.
+    pub record ToTheStop (Q : C → B → Type 0) (p : S × P) (c : C) (stop : Option E) (q : S × P) (d : C) : Type 0 where
       pub at : S × P
-      pub items : List B
-      pub ran : Run Steps p (map item items) at
-      pub ends : UpToEnd at end q
-      pub whole : (r : Answered R E) (t : S × P) (e : C) → Driven Steps turns at d r t e → Driven Steps turns p c r t e
-      pub holds : HoldsAtEachTurn Steps (goes_on turns) Q p c → HoldsAtEachTurn Steps (goes_on turns) Q at d
+      pub stops : UpTo at (stop_answer stop) q
+      pub whole : (r : Answered R E) (t : S × (P × Option (Option E))) (e : C) → Driven Steps turns (None_due at) d r t e → Driven Steps turns (None_due p) c r t e
+      pub holds : HoldsAtEachTurn Steps (goes_on turns) Q (None_due p) c → HoldsAtEachTurn Steps (goes_on turns) Q (None_due at) d
 
     module _ (Q : C → B → Type 0) where
-      items_to_end : (items : List B) (p q : S × P) (c d : C) → Run UpToEnd p (map item items ++ end ∷ []) q → FoldsTo (goes_on turns) c items d → ToTheEnd Q p c q d
-      items_to_end [] p q c d ran went = record {
+      items_to_stop : (stop : Option E) (items : List B) (p q : S × P) (c d : C) → Run UpTo p (map item items ++ stop_answer stop ∷ []) q → FoldsTo (goes_on turns) c items d → ToTheStop Q p c stop q d
+      items_to_stop stop [] p q c d ran went = record {
         at = p;
-        items = [];
-        ran = refl;
-        ends = subst (λ (u : S × P). UpToEnd p end u) ran.2 ran.1;
-        whole = λ r t e w. subst (λ (k : C). Driven Steps turns p k r t e) (sym went) w;
-        holds = λ h. subst (λ (k : C). HoldsAtEachTurn Steps (goes_on turns) Q p k) went h;
+        stops = subst (λ (u : S × P). UpTo p (stop_answer stop) u) ran.2 ran.1;
+        whole = λ r t e w. subst (λ (k : C). Driven Steps turns (None_due p) k r t e) (sym went) w;
+        holds = λ h. subst (λ (k : C). HoldsAtEachTurn Steps (goes_on turns) Q (None_due p) k) went h;
       }
-      items_to_end (y ∷ items) p q c d ran went = let step = step_before_end p (item y) ran.0 refl ran.1 in let k = items_to_end items ran.0 q went.0 d ran.2 went.2 in record {
+      items_to_stop stop (y ∷ items) p q c d ran went = let step = item_before p y ran.0 ran.1 in let k = items_to_stop stop items ran.0 q went.0 d ran.2 went.2 in record {
         at = k.at;
-        items = y ∷ k.items;
-        ran = (ran.0, step, k.ran);
-        ends = k.ends;
+        stops = k.stops;
         whole = λ r t e w. driven_after y step went.1 (k.whole r t e w);
         holds = λ h. k.holds (holds_after h step went.1);
       }
 
-      last_is_end : (last : Answered B E) (c d : C) (r : Answered R E) → r ≡ Ok None → DriveExit turns c last r d → (last ≡ end) × (d ≡ c)
-      last_is_end (Ok None) c d r is at = (refl, at.1)
-      last_is_end (Ok (Some y)) c d r is at = absurd (let same = at.2 in cc)
-      last_is_end (Err e) c d r is at = absurd (let same = at.0 in cc)
+      last_is_stop : (stop : Option E) (last : Answered B E) (c d : C) → DriveExit turns c last (stop_answer stop) d → (last ≡ stop_answer stop) × (d ≡ c)
+      last_is_stop None (Ok None) c d at = (refl, at.1)
+      last_is_stop None (Ok (Some y)) c d at = absurd (let same = at.2 in cc)
+      last_is_stop None (Err e) c d at = absurd (let same = at.0 in cc)
+      last_is_stop (Some f) (Ok None) c d at = absurd (let same = at.0 in cc)
+      last_is_stop (Some f) (Ok (Some y)) c d at = absurd (let same = at.2 in cc)
+      last_is_stop (Some f) (Err e) c d at = ((let same = at.0 in cc), at.1)
 
-      pub to_the_end : {p q : S × P} {c d : C} {r : Answered R E} → r ≡ Ok None → Driven UpToEnd turns p c r q d → ToTheEnd Q p c q d
-      to_the_end {p = p} {q = q} {c = c} {d = d} {r = r} is w = let k = last_is_end w.last w.at.carried d r is w.at.exit in
-          items_to_end w.items p q c d (subst (λ (z : Answered B E). Run UpToEnd p (map item w.items ++ z ∷ []) q) k.0 w.ran) (subst (λ (e : C). FoldsTo (goes_on turns) c w.items e) (sym k.1) w.at.went)
+      pub to_the_stop : {p q : S × P} {c d : C} (stop : Option E) → Driven UpTo turns p c (stop_answer stop) q d → ToTheStop Q p c stop q d
+      to_the_stop {p = p} {q = q} {c = c} {d = d} stop w = let k = last_is_stop stop w.last w.at.carried d w.at.exit in
+          items_to_stop stop w.items p q c d (subst (λ (z : Answered B E). Run UpTo p (map item w.items ++ z ∷ []) q) k.0 w.ran) (subst (λ (e : C). FoldsTo (goes_on turns) c w.items e) (sym k.1) w.at.went)
 
-    -- what holds at each turn of the adapter holds at each turn up to the source's end
-    pub holds_to_end : {Q : C → B → Type 0} {p : S × P} {c : C} → HoldsAtEachTurn Steps (goes_on turns) Q p c → HoldsAtEachTurn UpToEnd (goes_on turns) Q p c
-    holds_to_end h = holds_into {held = Steps} (λ p. p) (λ p y q step. step_before_end p (item y) q refl step) h
+    -- one answer at the stop
+    step_at_stop : (stop : Option E) (p q : S × P) (o : Outcome B E) (g : P) (r : Answered B E) (due : Option (Option E)) → UpTo p (stop_answer stop) q → asks q.1 None o g → BeforeStop stop o r due → Steps (None_due p) r (q.0, (g, due))
+    step_at_stop None p q o g r due step asked is = (q.1, Ok None, step, (o, asked, is))
+    step_at_stop (Some e) p q o g r due step asked is = (q.1, Err e, step, (o, asked, is))
+
+    -- the stop that is due
+    pub driven_due : (stop : Option E) {s : S} {p : P} {c : C} → Driven Steps turns (s, (p, Some stop)) c (stop_answer stop) (s, (p, None)) c
+    driven_due None = driven_end (refl, refl, refl)
+    driven_due (Some e) = driven_failure (refl, refl, refl)
+
+    driven_stopped : (stop : Option E) {p : S × P} {c : C} {t : S} {g : P} → Steps (None_due p) (stop_answer stop) (t, (g, None)) → Driven Steps turns (None_due p) c (stop_answer stop) (t, (g, None)) c
+    driven_stopped None step = driven_end step
+    driven_stopped (Some e) step = driven_failure step
+
+    at_stop : (stop : Option E) (p q : S × P) (c d : C) (o : Outcome B E) (r : Answered R E) (g : P) (due : Option (Option E)) → UpTo p (stop_answer stop) q → asks q.1 None o g → TurnBefore asks turns stop c o r due d → Driven Steps turns (None_due p) c r (q.0, (g, due)) d
+    at_stop stop p q c d (Kept y) r g due step asked (inl w) = rw (w.1, w.2) (driven_after y (step_at_stop stop p q (Kept y) g (item y) (Some stop) step asked (refl, refl)) w.0 (driven_due stop))
+    at_stop stop p q c d (Kept y) r g due step asked (inr w) = rw (w.2, w.3) (driven_stop y (step_at_stop stop p q (Kept y) g (item y) (Some stop) step asked (refl, refl)) w.1)
+    at_stop stop p q c d (Failure e) r g due step asked w = rw (w.0, w.1, w.2) (driven_failure (step_at_stop stop p q (Failure e) g (Err e) (Some stop) step asked (refl, refl)))
+    at_stop stop p q c d End r g due step asked w = rw (w.0, w.1, w.2) (driven_stopped stop (step_at_stop stop p q End g (stop_answer stop) None step asked (refl, refl)))
+    at_stop stop p q c d LeftOut r g due step asked w = absurd w
+
+    -- the whole fold: up to the stop, and what comes at it
+    pub driven_to_stop : {p q : S × P} {c k d : C} {r : Answered R E} {g : P} {due : Option (Option E)} (stop : Option E) → Driven UpTo turns p c (stop_answer stop) q k → StoppedBehind asks turns stop (q.1, k) r (g, due) d → Driven Steps turns (None_due p) c r (q.0, (g, due)) d
+    driven_to_stop {q = q} {k = k} {d = d} {r = r} {g = g} {due = due} stop w b = let at = to_the_stop (λ c y. ⊤) stop w in at.whole r _ d (at_stop stop at.at q k d b.0 r g due at.stops b.1 b.2)
+
+    -- where the caller's turn may be taken on what is held
+    pub turn_at_stop : {Q : C → B → Type 0} {p q : S × P} {c k : C} (stop : Option E) → HoldsAtEachTurn Steps (goes_on turns) Q (None_due p) c → Driven UpTo turns p c (stop_answer stop) q k → (y : B) (g : P) → asks q.1 None (Kept y) g → Q k y
+    turn_at_stop {Q = Q} {q = q} stop h w y g asked = let at = to_the_stop Q stop w in holds_here (at.holds h) (step_at_stop stop at.at q (Kept y) g (item y) (Some stop) at.stops asked (refl, refl))
 
 -- ---- what may be asked of
 
@@ -136,45 +138,45 @@ module _ {S P X B E : Type 0} (m : Contract S X E) (asks : P → Option X → Ou
   pub callable_of_items : {pre : P → Option X → Type 0} {s : S} {f : P} → IsCallable asks pre (MayBeAsked m s) f → IsCallable (asks_item asks) (λ p x. pre p (Some x)) (m.may_give s) f
   callable_of_items {s = s} {f = f} c = record { at = λ g x r may. c.at g (Some x) (record { made = map (λ (k : X × Outcome B E). (Some k.0, k.1)) r.made; by = items_reach s r.made f g r.by }) may }
 
--- ---- what stays up to the source's end
+-- ---- what stays up to the stop
 
 module _ {X : Type 0} where
-  or_end_weaker : {P Q : X → Type 0} → ((x : X) → Q x → P x) → (asked : Option X) → OrEnd Q asked → OrEnd P asked
-  or_end_weaker weak (Some x) q = weak x q
-  or_end_weaker weak None q = tt
+  or_stop_weaker : {P Q : X → Type 0} → ((x : X) → Q x → P x) → (asked : Option X) → OrStop Q asked → OrStop P asked
+  or_stop_weaker weak (Some x) q = weak x q
+  or_stop_weaker weak None q = tt
 
 module _ {P X B E : Type 0} (asks : P → Option X → Outcome B E → P → Type 0) where
-  items_asked : (Q : X → Type 0) (made : List (X × Outcome B E)) (f g : P) → FoldsTo (λ p (c : X × Outcome B E) q. Q c.0 × asks_item asks p c.0 c.1 q) f made g → FoldsTo (λ p (c : Option X × Outcome B E) q. OrEnd Q c.0 × asks p c.0 c.1 q) f (map (λ (c : X × Outcome B E). (Some c.0, c.1)) made) g
+  items_asked : (Q : X → Type 0) (made : List (X × Outcome B E)) (f g : P) → FoldsTo (λ p (c : X × Outcome B E) q. Q c.0 × asks_item asks p c.0 c.1 q) f made g → FoldsTo (λ p (c : Option X × Outcome B E) q. OrStop Q c.0 × asks p c.0 c.1 q) f (map (λ (c : X × Outcome B E). (Some c.0, c.1)) made) g
   items_asked Q [] f g w = w
   items_asked Q (c ∷ made) f g w = (w.0, w.1, items_asked Q made w.0 g w.2)
 
-  -- what items may be asked of brings it where what items and ends may be asked of does
-  reach_items : {Q : X → Type 0} {f g : P} → Reaches (asks_item asks) Q f g → Reaches asks (OrEnd Q) f g
+  -- what items may be asked of brings it where what items and stops may be asked of does
+  reach_items : {Q : X → Type 0} {f g : P} → Reaches (asks_item asks) Q f g → Reaches asks (OrStop Q) f g
   reach_items {Q = Q} {f = f} {g = g} r = record { made = map (λ (c : X × Outcome B E). (Some c.0, c.1)) r.made; by = items_asked Q r.made f g r.by }
 
-module _ {S P X B E : Type 0} {m : Contract S X E} (l : Lawful m) (asks : P → Option X → Outcome B E → P → Type 0) (pre : P → Option X → Type 0) (held : P → ℕ) where
-  abbrev UpTo : Contract (S × P) B E
-  UpTo = leaving_out_contract m (asks_item asks) (λ Q f. IsCallable asks pre (OrEnd Q) f) as_answered_item (λ p h. ⊤)
+module _ {S P X B E : Type 0} {m : Contract S X E} (l : Lawful m) (asks : P → Option X → Outcome B E → P → Type 0) (pre : P → Option X → Type 0) where
+  abbrev Passing : Contract (S × P) B E
+  Passing = leaving_out_contract m (asks_item asks) (λ Q f. IsCallable asks pre (OrStop Q) f) as_answered_item (λ p h. ⊤)
 
-  lawful_up_to : Lawful UpTo
-  lawful_up_to = lawful_leaving_out (asks_item asks) (λ Q f. IsCallable asks pre (OrEnd Q) f) as_answered_item (λ p h. ⊤) (λ Q T f g weak reached c. callable_after (or_end_weaker weak) (reach_items asks reached) c) l
+  lawful_up_to : Lawful Passing
+  lawful_up_to = lawful_leaving_out (asks_item asks) (λ Q f. IsCallable asks pre (OrStop Q) f) as_answered_item (λ p h. ⊤) (λ Q T f g weak reached c. callable_after (or_stop_weaker weak) (reach_items asks reached) c) l
 
-  -- once its source ended, it may be asked of that end
-  pub can_ask_of_end : {C R : Type 0} {turns : C → B → ControlFlow R (Unit {0}) → C → Type 0} {p q : S × P} {c d : C} {r : Answered R E} → (holding_contract m asks pre held (λ p h. ⊤)).can_next p → Driven (UpToEnd m.steps asks) turns p c r q d → pre q.1 None
-  can_ask_of_end {p = p} {q = q} can w = (kept_run lawful_up_to p _ q (can.0, (can.1, can.2)) w.ran).can_next.1.1.at q.1 None reaches_here tt
+  -- once its source stopped, it may be asked of that stop
+  pub can_ask_of_stop : {C R : Type 0} {turns : C → B → ControlFlow R (Unit {0}) → C → Type 0} {p q : S × P} {c d : C} {r : Answered R E} → m.is_finite p.0 × m.can_next p.0 × IsCallable asks pre (MayBeAsked m p.0) p.1 → Driven (UpTo m.steps asks) turns p c r q d → pre q.1 None
+  can_ask_of_stop {p = p} {q = q} can w = (kept_run lawful_up_to p _ q (can.0, (can.1, can.2)) w.ran).can_next.1.1.at q.1 None reaches_here tt
 
 -- ---- a closure that is called once on each item, beside what is held
 
-module _ {P F X V B E : Type 0} (asks : P → Option X → Outcome B E → P → Type 0) (call : F → X → V → F → Type 0) (closure : P → F) (on_item : (p : P) (x : X) (o : Outcome B E) (q : P) → asks p (Some x) o q → (v : V) × call (closure p) x v (closure q)) (on_end : (p : P) (o : Outcome B E) (q : P) → asks p None o q → closure q ≡ closure p) where
-  reach_closure : {Q : X → Type 0} (made : List (Option X × Outcome B E)) (p q : P) → FoldsTo (λ p (c : Option X × Outcome B E) q. OrEnd Q c.0 × asks p c.0 c.1 q) p made q → Reaches call Q (closure p) (closure q)
+module _ {P F X V B E : Type 0} (asks : P → Option X → Outcome B E → P → Type 0) (call : F → X → V → F → Type 0) (closure : P → F) (on_item : (p : P) (x : X) (o : Outcome B E) (q : P) → asks p (Some x) o q → (v : V) × call (closure p) x v (closure q)) (on_stop : (p : P) (o : Outcome B E) (q : P) → asks p None o q → closure q ≡ closure p) where
+  reach_closure : {Q : X → Type 0} (made : List (Option X × Outcome B E)) (p q : P) → FoldsTo (λ p (c : Option X × Outcome B E) q. OrStop Q c.0 × asks p c.0 c.1 q) p made q → Reaches call Q (closure p) (closure q)
   reach_closure {Q = Q} [] p q w = subst (λ (z : P). Reaches call Q (closure p) (closure z)) w reaches_here
   reach_closure {Q = Q} ((Some x, o) ∷ made) p q w = let v = on_item p x o w.0 w.1.1 in reaches_from x v.0 w.1.0 v.1 (reach_closure made w.0 q w.2)
-  reach_closure {Q = Q} ((None, o) ∷ made) p q w = subst (λ (f : F). Reaches call Q f (closure q)) (on_end p o w.0 w.1.1) (reach_closure made w.0 q w.2)
+  reach_closure {Q = Q} ((None, o) ∷ made) p q w = subst (λ (f : F). Reaches call Q f (closure q)) (on_stop p o w.0 w.1.1) (reach_closure made w.0 q w.2)
 
   -- where the closure may be called on what comes, the adapter may be asked of it
-  pub callable_beside : {takes : F → X → Type 0} (pre : P → Option X → Type 0) → ((p : P) (x : X) → takes (closure p) x → pre p (Some x)) → ((p : P) → pre p None) → {Q : X → Type 0} {p : P} → IsCallable call takes Q (closure p) → IsCallable asks pre (OrEnd Q) p
-  callable_beside {takes = takes} pre at_item at_end {Q = Q} {p = p} c = record { at = λ q asked r may. callable_at q asked r may }
+  pub callable_beside : {takes : F → X → Type 0} (pre : P → Option X → Type 0) → ((p : P) (x : X) → takes (closure p) x → pre p (Some x)) → ((p : P) → pre p None) → {Q : X → Type 0} {p : P} → IsCallable call takes Q (closure p) → IsCallable asks pre (OrStop Q) p
+  callable_beside {takes = takes} pre at_item at_stop {Q = Q} {p = p} c = record { at = λ q asked r may. callable_at q asked r may }
     where
-      callable_at : (q : P) (asked : Option X) → Reaches asks (OrEnd Q) p q → OrEnd Q asked → pre q asked
+      callable_at : (q : P) (asked : Option X) → Reaches asks (OrStop Q) p q → OrStop Q asked → pre q asked
       callable_at q (Some x) r may = at_item q x (c.at (closure q) x (reach_closure r.made p q r.by) may)
-      callable_at q None r may = at_end q
+      callable_at q None r may = at_stop q

@@ -1,136 +1,167 @@
--- What an adapter that holds lists, over a source that lists a list for good.
-use Rattle.std.specs.Prelude.{◌≡◌, Option, Some, None, Result, Ok, Err, List, [], ◌∷◌}
-use Rattle.std.proofs.Common.{refl, sym, subst, ◌∙◌}
-use Rattle.fallible_iterator.specs.Traces.{Answered, item, end}
-use Rattle.fallible_iterator.specs.Lists.{AlwaysGives, EndsForGood, GivesForGood}
-use Rattle.fallible_iterator.specs.Passing.{passing_step}
+-- What an adapter that holds lists, over a source that lists a list: it may go on after its end.
+use Rattle.std.specs.Prelude.{◌≡◌, ⊤, Option, Some, None, Result, Ok, Err, List, [], ◌∷◌, ◌++◌}
+use Rattle.std.proofs.Common.{refl, sym, ap, subst, ◌∙◌}
+use Rattle.fallible_iterator.specs.Traces.{Answered, item}
+use Rattle.fallible_iterator.specs.Lists.{AlwaysGives}
 use Rattle.fallible_iterator.specs.Laws.Passing.{Passes, done, end_passes, failure_passes, keeps, refuses, closes, leaves_out, to_passes, from_passes}
-use Rattle.fallible_iterator.proofs.Lemmas.Lists.Passing.{by_outcome, gives_if}
-use Rattle.fallible_itertools.specs.Holding.{with_ends, as_answered}
+use Rattle.fallible_iterator.proofs.Lemmas.Lists.Passing.{gives_if}
+use Rattle.fallible_itertools.specs.Holding.{asks_item, as_answered_item, BeforeStop, AtStop, Behind, holding_step}
 use Rattle.fallible_iterator.specs.Outcome.{Outcome}
 use Rattle.fallible_iterator.specs.Outcome.TheVariants.{Kept, LeftOut, Failure, End}
 
-module _ {P X B E : Type 0} (does : P → Option X → Outcome B E) (next : P → Option X → P) where
-  -- what is answered where the source has ended for good
-  abbrev at_the_end : P → List (Result B E)
-  at_the_end p = by_outcome (does p None) []
+-- what an outcome puts before the rest; what its closure failed with is a stop, of which `failed` says what comes
+abbrev pub by_outcome : {B E : Type 0} → Outcome B E → List (Result B E) → (E → List (Result B E)) → List (Result B E)
+by_outcome (Kept y) rest failed = Ok y ∷ rest
+by_outcome LeftOut rest failed = rest
+by_outcome (Failure e) rest failed = failed e
+by_outcome End rest failed = []
 
-  -- The list of an adapter that holds p: asked of x it answers `does p x`, and holds `next p x` then.
-  abbrev pub held_list : P → List (Result X E) → List (Result B E)
-  held_list p [] = at_the_end p
-  held_list p (Ok x ∷ l) = by_outcome (does p (Some x)) (held_list (next p (Some x)) l)
-  held_list p (Err e ∷ l) = Err e ∷ held_list p l
+-- what is held comes before what a stop puts before the rest
+abbrev pub before_stop : {B E : Type 0} → Outcome B E → List (Result B E) → List (Result B E)
+before_stop (Kept y) rest = Ok y ∷ rest
+before_stop LeftOut rest = rest
+before_stop (Failure e) rest = Err e ∷ rest
+before_stop End rest = rest
 
-module _ {S P X B E : Type 0} (steps : S → Answered X E → S → Type 0) (asks : P → Option X → Outcome B E → P → Type 0) where
-  abbrev pub Whole : S → P → List (Answered B E) → S → P → Type 0
-  Whole = Passes (with_ends steps) asks as_answered
+module _ {Q X B E : Type 0} (does : Q → Option X → Outcome B E) (next : Q → Option X → Q) where
+  -- The list of an adapter that holds a: asked of x it answers `does a x`, and holds `next a x` then.
+  abbrev pub held_list : Q → List (Result X E) → List (Result B E)
+  held_list a [] = before_stop (does a None) []
+  held_list a (Ok x ∷ l) = by_outcome (does a (Some x)) (held_list (next a (Some x)) l) (λ e. before_stop (does (next a (Some x)) None) (Err e ∷ held_list (next (next a (Some x)) None) l))
+  held_list a (Err e ∷ l) = before_stop (does a None) (Err e ∷ held_list (next a None) l)
 
-  abbrev pub Steps : S × P → Answered B E → S × P → Type 0
-  Steps = passing_step (with_ends steps) asks as_answered
+  -- ---- a failure parts a list
 
-  -- what one answer is, by the outcome of what was asked of first
-  abbrev pub ByFirst : Outcome B E → S → P → Answered B E → S → P → Type 0
-  ByFirst (Kept y) u h r t g = (r ≡ item y) × (t ≡ u) × (g ≡ h)
-  ByFirst LeftOut u h r t g = Whole u h (r ∷ []) t g
-  ByFirst (Failure e) u h r t g = (r ≡ Err e) × (t ≡ u) × (g ≡ h)
-  ByFirst End u h r t g = (r ≡ end) × (t ≡ u) × (g ≡ h)
+  stop_parts : (o : Outcome B E) (e : E) (rest : List (Result B E)) → before_stop o (Err e ∷ rest) ≡ before_stop o [] ++ Err e ∷ rest
+  stop_parts (Kept y) e rest = refl
+  stop_parts LeftOut e rest = refl
+  stop_parts (Failure d) e rest = refl
+  stop_parts End e rest = refl
 
-  pub record Asked (s : S) (p : P) (asked : Option X) (r : Answered B E) (t : S) (g : P) : Type 0 where
-    pub source : S
-    pub holds : P
-    pub outcome : Outcome B E
-    pub step : steps s (Ok asked) source
-    pub answered : asks p asked outcome holds
-    pub first : ByFirst outcome source holds r t g
+  before_parts : (o : Outcome B E) (a whole tail : List (Result B E)) → whole ≡ a ++ tail → before_stop o whole ≡ before_stop o a ++ tail
+  before_parts (Kept y) a whole tail is = ap (λ k. Ok y ∷ k) is
+  before_parts LeftOut a whole tail is = is
+  before_parts (Failure d) a whole tail is = ap (λ k. Err d ∷ k) is
+  before_parts End a whole tail is = is
 
-  -- one answer: a failure of the source, or what was answered first and what comes of it
-  pub data FirstOfAll (s : S) (p : P) (r : Answered B E) (t : S) (g : P) : Type 0 where
-    failed : (e : E) → steps s (Err e) t → r ≡ Err e → g ≡ p → FirstOfAll s p r t g
-    asked : (x : Option X) → Asked s p x r t g → FirstOfAll s p r t g
+  outcome_parts : (o : Outcome B E) (a whole tail : List (Result B E)) (failed failed_whole : E → List (Result B E)) → (o ≡ End → ⊥) → whole ≡ a ++ tail → ((d : E) → failed_whole d ≡ failed d ++ tail) → by_outcome o whole failed_whole ≡ by_outcome o a failed ++ tail
+  outcome_parts (Kept y) a whole tail failed failed_whole no_end is fails = ap (λ k. Ok y ∷ k) is
+  outcome_parts LeftOut a whole tail failed failed_whole no_end is fails = is
+  outcome_parts (Failure d) a whole tail failed failed_whole no_end is fails = fails d
+  outcome_parts End a whole tail failed failed_whole no_end is fails = absurd (no_end refl)
 
-  by_first : (o z : Outcome B E) (u : S) (h : P) (r : Answered B E) (t : S) (g : P) → o ≡ z → ByFirst z u h r t g → ByFirst o u h r t g
-  by_first o z u h r t g is w = subst (λ (k : Outcome B E). ByFirst k u h r t g) (sym is) w
+  held_parts : (none : Q) → ((a : Q) → next a None ≡ none) → ((a : Q) (x : X) → does a (Some x) ≡ End → ⊥) → (a : Q) (l : List (Result X E)) (e : E) (k : List (Result X E)) → held_list a (l ++ Err e ∷ k) ≡ held_list a l ++ Err e ∷ held_list none k
+  held_parts none settles no_end a [] e k = subst (λ (n : Q). before_stop (does a None) (Err e ∷ held_list n k) ≡ before_stop (does a None) [] ++ Err e ∷ held_list none k) (sym (settles a)) (stop_parts (does a None) e (held_list none k))
+  held_parts none settles no_end a (Ok x ∷ l) e k = let n = next a (Some x) in outcome_parts (does a (Some x)) (held_list n l) (held_list n (l ++ Err e ∷ k)) (Err e ∷ held_list none k) (λ d. before_stop (does n None) (Err d ∷ held_list (next n None) l)) (λ d. before_stop (does n None) (Err d ∷ held_list (next n None) (l ++ Err e ∷ k))) (no_end a x) (held_parts none settles no_end n l e k) (λ d. before_parts (does n None) (Err d ∷ held_list (next n None) l) _ (Err e ∷ held_list none k) (ap (λ r. Err d ∷ r) (held_parts none settles no_end (next n None) l e k)))
+  held_parts none settles no_end a (Err d ∷ l) e k = before_parts (does a None) (Err d ∷ held_list (next a None) l) _ (Err e ∷ held_list none k) (ap (λ r. Err d ∷ r) (held_parts none settles no_end (next a None) l e k))
 
-  pub first_of_all : (s t : S) (p g : P) (r : Answered B E) → Whole s p (r ∷ []) t g → FirstOfAll s p r t g
-  first_of_all s t p g _ (end_passes step d) = absurd step
-  first_of_all s t p g _ (failure_passes e step done) = failed e step refl refl
-  first_of_all s t p g _ (keeps x o y step called is done) = asked x (record { source = t; holds = g; outcome = o; step = step; answered = called; first = by_first o (Kept y) t g _ t g is (refl, refl, refl) })
-  first_of_all s t p g _ (refuses x o e step called is done) = asked x (record { source = t; holds = g; outcome = o; step = step; answered = called; first = by_first o (Failure e) t g _ t g is (refl, refl, refl) })
-  first_of_all s t p g _ (closes x o step called is done) = asked x (record { source = t; holds = g; outcome = o; step = step; answered = called; first = by_first o End t g _ t g is (refl, refl, refl) })
-  first_of_all s t p g r (leaves_out {u = u} {h = h} x o step called is rest) = asked x (record { source = u; holds = h; outcome = o; step = step; answered = called; first = by_first o LeftOut u h r t g is rest })
-
-module _ {S P Q X B E : Type 0} (steps : S → Answered X E → S → Type 0) (asks : P → Option X → Outcome B E → P → Type 0)
-    (At : P → Q → Type 0) (does : Q → Option X → Outcome B E) (next : Q → Option X → Q) (acts : (p : P) (a : Q) (x : Option X) (o : Outcome B E) (q : P) → At p a → asks p x o q → At q (next a x) × (o ≡ does a x)) where
-  -- ---- where it is known what the source answers first
-
-  -- what was asked of was x, and afterwards T holds of the source
-  record AskedOf (x : Option X) (T : S → Type 0) (a : Q) (r : Answered B E) (t : S) (g : P) : Type 0 where
-    source : S
-    holds : P
-    then : T source
-    at : At holds (next a x)
-    first : ByFirst steps asks (does a x) source holds r t g
-
-  asked_of : (x : Option X) (T : S → Type 0) (s : S) (p : P) (a : Q) → ((r : Answered X E) (t : S) → steps s r t → (r ≡ Ok x) × T t) → At p a → (r : Answered B E) (t : S) (g : P) → FirstOfAll steps asks s p r t g → AskedOf x T a r t g
-  asked_of x T s p a known at r t g (failed e step is same) = absurd (let h = (known (Err e) t step).0 in cc)
-  asked_of x T s p a known at r t g (asked z w) = let d = known (Ok z) w.source w.step in let same : z ≡ x = (let h = d.0 in cc) in
-      let c = acts p a x w.outcome w.holds at (subst (λ (k : Option X). asks p k w.outcome w.holds) same w.answered) in record {
-        source = w.source;
-        holds = w.holds;
-        then = d.1;
-        at = c.0;
-        first = subst (λ (o : Outcome B E). ByFirst steps asks o w.source w.holds r t g) c.1 w.first;
-      }
-
-  abbrev Gives : S → P → List (Result B E) → Type 0
-  Gives s p l = AlwaysGives (Steps steps asks) (s, p) l
-
-  -- where it gives a list after it was asked of x first, it gives what the outcome makes of that list
-  gives_by : (x : Option X) (T : S → Type 0) (rest : List (Result B E)) (s : S) (p : P) (a : Q) (o : Outcome B E) → does a x ≡ o → ((r : Answered X E) (t : S) → steps s r t → (r ≡ Ok x) × T t) → At p a → ((u : S) (h : P) → At h (next a x) → T u → Gives u h rest) → Gives s p (by_outcome o rest)
-  gives_by x T rest s p a (Kept y) is known at then = λ r t w. let k = asked_of x T s p a known at r t.0 t.1 (first_of_all steps asks s t.0 p t.1 r (to_passes w)) in
-      let f = subst (λ (o : Outcome B E). ByFirst steps asks o k.source k.holds r t.0 t.1) is k.first in (f.0, subst (λ (u : S). Gives u t.1 rest) (sym f.1) (subst (λ (h : P). Gives k.source h rest) (sym f.2) (then k.source k.holds k.at k.then)))
-  gives_by x T rest s p a (Failure e) is known at then = λ r t w. let k = asked_of x T s p a known at r t.0 t.1 (first_of_all steps asks s t.0 p t.1 r (to_passes w)) in
-      let f = subst (λ (o : Outcome B E). ByFirst steps asks o k.source k.holds r t.0 t.1) is k.first in (f.0, subst (λ (u : S). Gives u t.1 rest) (sym f.1) (subst (λ (h : P). Gives k.source h rest) (sym f.2) (then k.source k.holds k.at k.then)))
-  gives_by x T rest s p a End is known at then = λ r t w. let k = asked_of x T s p a known at r t.0 t.1 (first_of_all steps asks s t.0 p t.1 r (to_passes w)) in
-      (subst (λ (o : Outcome B E). ByFirst steps asks o k.source k.holds r t.0 t.1) is k.first).0
-  gives_by x T rest s p a LeftOut is known at then = gives_if (Steps steps asks) rest (s, p) (λ r t w. let k = asked_of x T s p a known at r t.0 t.1 (first_of_all steps asks s t.0 p t.1 r (to_passes w)) in
-      let f : Whole steps asks k.source k.holds (r ∷ []) t.0 t.1 = subst (λ (o : Outcome B E). ByFirst steps asks o k.source k.holds r t.0 t.1) is k.first in ((k.source, k.holds), from_passes f, then k.source k.holds k.at k.then))
-
-  failure_first : (e : E) (T : S → Type 0) (rest : List (Result B E)) (s : S) (p : P) → ((r : Answered X E) (t : S) → steps s r t → (r ≡ Err e) × T t) → ((u : S) → T u → Gives u p rest) → (r : Answered B E) (t : S) (g : P) → FirstOfAll steps asks s p r t g → (r ≡ Err e) × Gives t g rest
-  failure_first e T rest s p known then r t g (failed d step is same) = let k = known (Err d) t step in (is ∙ (let h = k.0 in cc), subst (λ (h : P). Gives t h rest) (sym same) (then t k.1))
-  failure_first e T rest s p known then r t g (asked x w) = absurd (let h = (known (Ok x) w.source w.step).0 in cc)
-
-  -- what ends for good answers an end, and ends for good then
-  ends_on : (s : S) → EndsForGood {A = X} {E = E} steps s → (r : Answered X E) (t : S) → steps s r t → (r ≡ end) × EndsForGood {A = X} {E = E} steps t
-  ends_on s e r t step = (e.each [] s t r refl step, record { each = λ trace u v q ran last. e.each (r ∷ trace) u v q (t, step, ran) last })
-
-  module _ (settles : (a : Q) (y : B) → does a None ≡ Kept y → does (next a None) None ≡ End) (no_failure : (a : Q) (e : E) → does a None ≡ Failure e → ⊥) (none_left : (a : Q) → does a None ≡ LeftOut → ⊥) where
-    -- nothing comes once an end answers an end
-    over : (s : S) (p : P) (a : Q) → does a None ≡ End → EndsForGood {A = X} {E = E} steps s → At p a → Gives s p []
-    over s p a is e at = λ r t w. let k = asked_of None (λ u. EndsForGood {A = X} {E = E} steps u) s p a (ends_on s e) at r t.0 t.1 (first_of_all steps asks s t.0 p t.1 r (to_passes w)) in (subst (λ (o : Outcome B E). ByFirst steps asks o k.source k.holds r t.0 t.1) is k.first).0
-
-    ended_gives : (o : Outcome B E) (s : S) (p : P) (a : Q) → does a None ≡ o → EndsForGood {A = X} {E = E} steps s → At p a → Gives s p (by_outcome o [])
-    ended_gives (Kept y) s p a is e at = gives_by None (λ u. EndsForGood {A = X} {E = E} steps u) [] s p a (Kept y) is (ends_on s e) at (λ u h b f. over u h (next a None) (settles a y is) f b)
-    ended_gives LeftOut s p a is e at = absurd (none_left a is)
-    ended_gives (Failure d) s p a is e at = absurd (no_failure a d is)
-    ended_gives End s p a is e at = over s p a is e at
-
-    pub held_gives : (l : List (Result X E)) (s : S) (p : P) (a : Q) → At p a → GivesForGood steps s l → Gives s p (held_list does next a l)
-    held_gives [] s p a at i = ended_gives (does a None) s p a refl i at
-    held_gives (Ok x ∷ l) s p a at i = gives_by (Some x) (λ u. GivesForGood steps u l) (held_list does next (next a (Some x)) l) s p a (does a (Some x)) refl i at (λ u h b f. held_gives l u h (next a (Some x)) b f)
-    held_gives (Err e ∷ l) s p a at i = λ r t w. failure_first e (λ u. GivesForGood steps u l) (held_list does next a l) s p i (λ u f. held_gives l u p a at f) r t.0 t.1 (first_of_all steps asks s t.0 p t.1 r (to_passes w))
-
--- ---- where no end is answered by an item
+  -- What stands before a failure is listed by itself, and so is what stands behind it, where nothing is held.
+  pub listed_parts : (none : Q) → ((a : Q) → next a None ≡ none) → ((a : Q) (x : X) → does a (Some x) ≡ End → ⊥) → (f : List (Result X E) → List (Result B E)) → ((l : List (Result X E)) → held_list none l ≡ f l) → (a : List (Result X E)) (e : E) (b : List (Result X E)) → f (a ++ Err e ∷ b) ≡ f a ++ Err e ∷ f b
+  listed_parts none settles no_end f is a e b = sym (is (a ++ Err e ∷ b)) ∙ held_parts none settles no_end none a e b ∙ ap (λ l. l ++ Err e ∷ held_list none b) (is a) ∙ ap (λ l. f a ++ Err e ∷ l) (is b)
 
 module _ {S P Q X B E : Type 0} (steps : S → Answered X E → S → Type 0) (asks : P → Option X → Outcome B E → P → Type 0)
-    (At : P → Q → Type 0) (does : Q → Option X → Outcome B E) (next : Q → Option X → Q) (acts : (p : P) (a : Q) (x : Option X) (o : Outcome B E) (q : P) → At p a → asks p x o q → At q (next a x) × (o ≡ does a x)) (ends : (a : Q) → does a None ≡ End) where
-  end_is : (s : S) → AlwaysGives {A = X} {E = E} steps s [] → (r : Answered X E) (t : S) → steps s r t → (r ≡ end) × Unit {0}
-  end_is s i r t step = (i r t step, tt)
+    (At : P → Q → Type 0) (does : Q → Option X → Outcome B E) (next : Q → Option X → Q) (acts : (p : P) (a : Q) (x : Option X) (o : Outcome B E) (q : P) → At p a → asks p x o q → At q (next a x) × (o ≡ does a x)) (no_end : (a : Q) (x : X) → does a (Some x) ≡ End → ⊥) (none_left : (a : Q) → does a None ≡ LeftOut → ⊥) where
+  abbrev Steps : S × (P × Option (Option E)) → Answered B E → S × (P × Option (Option E)) → Type 0
+  Steps = holding_step asks steps
 
-  ends_at : (s : S) (p : P) (a : Q) → AlwaysGives {A = X} {E = E} steps s [] → At p a → Gives steps asks At does next acts s p (by_outcome (does a None) [])
-  ends_at s p a i at = subst (λ (o : Outcome B E). Gives steps asks At does next acts s p (by_outcome o [])) (sym (ends a)) (λ r t w. let k = asked_of steps asks At does next acts None (λ u. Unit {0}) s p a (end_is s i) at r t.0 t.1 (first_of_all steps asks s t.0 p t.1 r (to_passes w)) in (subst (λ (o : Outcome B E). ByFirst steps asks o k.source k.holds r t.0 t.1) (ends a) k.first).0)
+  abbrev UpTo : S → P → List (Answered B E) → S → P → Type 0
+  UpTo = Passes steps (asks_item asks) as_answered_item
 
-  pub held_gives_once : (l : List (Result X E)) (s : S) (p : P) (a : Q) → At p a → AlwaysGives steps s l → Gives steps asks At does next acts s p (held_list does next a l)
-  held_gives_once [] s p a at i = ends_at s p a i at
-  held_gives_once (Ok x ∷ l) s p a at i = gives_by steps asks At does next acts (Some x) (λ u. AlwaysGives steps u l) (held_list does next (next a (Some x)) l) s p a (does a (Some x)) refl i at (λ u h b f. held_gives_once l u h (next a (Some x)) b f)
-  held_gives_once (Err e ∷ l) s p a at i = λ r t w. failure_first steps asks At does next acts e (λ u. AlwaysGives steps u l) (held_list does next a l) s p i (λ u f. held_gives_once l u p a at f) r t.0 t.1 (first_of_all steps asks s t.0 p t.1 r (to_passes w))
+  abbrev pub Gives : S → P → List (Result B E) → Type 0
+  Gives s p l = AlwaysGives Steps (s, (p, None)) l
+
+  -- ---- a stop
+
+  -- the stop, and then what comes
+  abbrev StopThen : Option E → List (Result B E) → List (Result B E)
+  StopThen None rest = []
+  StopThen (Some e) rest = Err e ∷ rest
+
+  -- behind an end nothing is said
+  abbrev ThenGives : Option E → S → P → List (Result B E) → Type 0
+  ThenGives None s p rest = ⊤
+  ThenGives (Some e) s p rest = Gives s p rest
+
+  gives_due : (stop : Option E) (s : S) (p : P) (rest : List (Result B E)) → ThenGives stop s p rest → AlwaysGives Steps (s, (p, Some stop)) (StopThen stop rest)
+  gives_due None s p rest g = λ r t w. w.0
+  gives_due (Some e) s p rest g = λ r t w. (w.0, subst (λ (u : S × (P × Option (Option E))). AlwaysGives Steps u rest) (sym (ap (λ (u : S). (u, t.1)) w.1 ∙ ap (λ (k : P × Option (Option E)). (s, k)) w.2)) g)
+
+  -- what is known of a draw that met a stop, where what is held is then as b says
+  abbrev Met : Option E → (S → Type 0) → Q → Answered B E → S → P × Option (Option E) → Type 0
+  Met stop T b r t q = (h : P) × At h b × T t × AtStop asks h stop r q
+
+  -- which outcome it was, and what holds then
+  met_as : (stop : Option E) (o : Outcome B E) (T : S → Type 0) (b : Q) (r : Answered B E) (t : S) (q : P × Option (Option E)) → does b None ≡ o → Met stop T b r t q → At q.0 (next b None) × BeforeStop stop o r q.1
+  met_as stop o T b r t q is k = let a = k.3 in let c = acts k.0 b None a.0 q.0 k.1 a.1 in (c.0, subst (λ z. BeforeStop stop z r q.1) (c.1 ∙ is) a.2)
+
+  due_then : (stop : Option E) (t : S) (q : P × Option (Option E)) (rest : List (Result B E)) → q.1 ≡ Some stop → ThenGives stop t q.0 rest → AlwaysGives Steps (t, q) (StopThen stop rest)
+  due_then stop t q rest is g = subst (λ (d : Option (Option E)). AlwaysGives Steps (t, (q.0, d)) (StopThen stop rest)) (sym is) (gives_due stop t q.0 rest g)
+
+  at_stop_given : (stop : Option E) (o : Outcome B E) (T : S → Type 0) (s : S) (p : P) (b : Q) (rest : List (Result B E)) → does b None ≡ o → ((r : Answered B E) (t : S) (q : P × Option (Option E)) → Steps (s, (p, None)) r (t, q) → Met stop T b r t q) → ((u : S) (h : P) → At h (next b None) → T u → ThenGives stop u h rest) → Gives s p (before_stop o (StopThen stop rest))
+  at_stop_given stop (Kept y) T s p b rest is meets then = λ r t w. let k = meets r t.0 t.1 w in let c = met_as stop (Kept y) T b r t.0 t.1 is k in
+      (c.1.0, due_then stop t.0 t.1 rest c.1.1 (then t.0 t.1.0 c.0 k.2))
+  at_stop_given stop (Failure e) T s p b rest is meets then = λ r t w. let k = meets r t.0 t.1 w in let c = met_as stop (Failure e) T b r t.0 t.1 is k in
+      (c.1.0, due_then stop t.0 t.1 rest c.1.1 (then t.0 t.1.0 c.0 k.2))
+  at_stop_given None End T s p b rest is meets then = λ r t w. let k = meets r t.0 t.1 w in let c = met_as None End T b r t.0 t.1 is k in c.1.0
+  at_stop_given (Some e) End T s p b rest is meets then = λ r t w. let k = meets r t.0 t.1 w in let c = met_as (Some e) End T b r t.0 t.1 is k in
+      (c.1.0, subst (λ (d : Option (Option E)). AlwaysGives Steps (t.0, (t.1.0, d)) rest) (sym c.1.1) (then t.0 t.1.0 c.0 k.2))
+  at_stop_given None LeftOut T s p b rest is meets then = absurd (none_left b is)
+  at_stop_given (Some e) LeftOut T s p b rest is meets then = absurd (none_left b is)
+
+  -- ---- what draws come to, where it is known what the source answers first
+
+  -- at an end
+  to_end : (s t : S) (p h : P) (a : Q) (z r : Answered B E) (q : P × Option (Option E)) → At p a → AlwaysGives {A = X} {E = E} steps s [] → UpTo s p (z ∷ []) t h → Behind asks h z r q → Met None (λ u. ⊤) a r t q
+  to_end s t p h a _ r q at i (end_passes step done) b = (p, at, tt, b)
+  to_end s t p h a _ r q at i (failure_passes e step d) b = absurd (let k = i (Err e) _ step in cc)
+  to_end s t p h a _ r q at i (keeps x o y step called is d) b = absurd (let k = i (Ok (Some x)) _ step in cc)
+  to_end s t p h a _ r q at i (refuses x o e step called is d) b = absurd (let k = i (Ok (Some x)) _ step in cc)
+  to_end s t p h a _ r q at i (closes x o step called is d) b = absurd (let k = i (Ok (Some x)) _ step in cc)
+  to_end s t p h a z r q at i (leaves_out x o step called is d) b = absurd (let k = i (Ok (Some x)) _ step in cc)
+
+  -- at a failure
+  to_failure : (e : E) (T : S → Type 0) (s t : S) (p h : P) (a : Q) (z r : Answered B E) (q : P × Option (Option E)) → At p a → ((r : Answered X E) (t : S) → steps s r t → (r ≡ Err e) × T t) → UpTo s p (z ∷ []) t h → Behind asks h z r q → Met (Some e) T a r t q
+  to_failure e T s t p h a _ r q at i (end_passes step d) b = absurd (let k = (i (Ok None) _ step).0 in cc)
+  to_failure e T s t p h a _ r q at i (failure_passes d step done) b = let k = i (Err d) t step in let same : d ≡ e = (let c = k.0 in cc) in (p, at, k.1, subst (λ (c : E). AtStop asks p (Some c) r q) same b)
+  to_failure e T s t p h a _ r q at i (keeps x o y step called is d) b = absurd (let k = (i (Ok (Some x)) _ step).0 in cc)
+  to_failure e T s t p h a _ r q at i (refuses x o d step called is c) b = absurd (let k = (i (Ok (Some x)) _ step).0 in cc)
+  to_failure e T s t p h a _ r q at i (closes x o step called is d) b = absurd (let k = (i (Ok (Some x)) _ step).0 in cc)
+  to_failure e T s t p h a z r q at i (leaves_out x o step called is d) b = absurd (let k = (i (Ok (Some x)) _ step).0 in cc)
+
+  -- at an item x: what it was asked of first, by the outcome
+  abbrev ByFirst : Q → X → (S → Type 0) → Outcome B E → Answered B E → S → P × Option (Option E) → Type 0
+  ByFirst a x T (Kept y) r t q = (r ≡ item y) × (q.1 ≡ None) × At q.0 (next a (Some x)) × T t
+  ByFirst a x T LeftOut r t q = (u : S) × (h : P) × At h (next a (Some x)) × T u × Steps (u, (h, None)) r (t, q)
+  ByFirst a x T (Failure e) r t q = Met (Some e) T (next a (Some x)) r t q
+  ByFirst a x T End r t q = ⊥
+
+  module _ (x : X) (T : S → Type 0) (s : S) (p : P) (a : Q) (i : (r : Answered X E) (t : S) → steps s r t → (r ≡ Ok (Some x)) × T t) (at : At p a) where
+    asked_as : (z : X) (o w : Outcome B E) (u : S) (h : P) → steps s (Ok (Some z)) u → asks p (Some z) o h → o ≡ w → At h (next a (Some x)) × (does a (Some x) ≡ w) × T u
+    asked_as z o w u h step called is = let k = i (Ok (Some z)) u step in let same : z ≡ x = (let c = k.0 in cc) in
+        let c = acts p a (Some x) o h at (subst (λ (y : X). asks p (Some y) o h) same called) in (c.0, sym c.1 ∙ is, k.1)
+
+    by_first : (z r : Answered B E) (t : S) (h : P) (q : P × Option (Option E)) → UpTo s p (z ∷ []) t h → Behind asks h z r q → ByFirst a x T (does a (Some x)) r t q
+    by_first _ r t h q (end_passes step d) b = absurd (let k = (i (Ok None) _ step).0 in cc)
+    by_first _ r t h q (failure_passes e step d) b = absurd (let k = (i (Err e) _ step).0 in cc)
+    by_first _ r t h q (keeps z o y step called is done) b = let k = asked_as z o (Kept y) t h step called is in
+        subst (λ v. ByFirst a x T v r t q) (sym k.1) (b.0, ap (λ (d : P × Option (Option E)). d.1) b.1, subst (λ (g : P). At g (next a (Some x))) (sym (ap (λ (d : P × Option (Option E)). d.0) b.1)) k.0, k.2)
+    by_first _ r t h q (refuses z o e step called is done) b = let k = asked_as z o (Failure e) t h step called is in subst (λ v. ByFirst a x T v r t q) (sym k.1) (h, k.0, k.2, b)
+    by_first _ r t h q (closes z o step called is done) b = absurd (no_end a x (asked_as z o End t h step called is).1)
+    by_first z r t h q (leaves_out {u = u} {h = g} y o step called is rest) b = let k = asked_as y o LeftOut u g step called is in
+        subst (λ v. ByFirst a x T v r t q) (sym k.1) (u, g, k.0, k.2, (h, z, from_passes rest, b))
+
+    first_as : (o : Outcome B E) → does a (Some x) ≡ o → (r : Answered B E) (t : S) (q : P × Option (Option E)) → Steps (s, (p, None)) r (t, q) → ByFirst a x T o r t q
+    first_as o is r t q w = subst (λ v. ByFirst a x T v r t q) is (by_first w.1 r t w.0 q (to_passes w.2) w.3)
+
+    -- what the outcome makes of the list that comes then
+    item_given : (o : Outcome B E) (l : List (Result B E)) (failed : List (Result B E)) → does a (Some x) ≡ o → ((u : S) (h : P) → At h (next a (Some x)) → T u → Gives u h l) → ((u : S) (h : P) → At h (next (next a (Some x)) None) → T u → Gives u h failed)
+        → Gives s p (by_outcome o l (λ e. before_stop (does (next a (Some x)) None) (Err e ∷ failed)))
+    item_given (Kept y) l failed is then fails = λ r t w. let k = first_as (Kept y) is r t.0 t.1 w in (k.0, subst (λ (d : Option (Option E)). AlwaysGives Steps (t.0, (t.1.0, d)) l) (sym k.1) (then t.0 t.1.0 k.2 k.3))
+    item_given LeftOut l failed is then fails = gives_if Steps l (s, (p, None)) (λ r t w. let k = first_as LeftOut is r t.0 t.1 w in ((k.0, (k.1, None)), k.4, then k.0 k.1 k.2 k.3))
+    item_given (Failure e) l failed is then fails = at_stop_given (Some e) (does (next a (Some x)) None) T s p (next a (Some x)) failed refl (λ r t q w. first_as (Failure e) is r t q w) fails
+    item_given End l failed is then fails = absurd (no_end a x is)
+
+  pub held_gives : (l : List (Result X E)) (s : S) (p : P) (a : Q) → At p a → AlwaysGives steps s l → Gives s p (held_list does next a l)
+  held_gives [] s p a at i = at_stop_given None (does a None) (λ u. ⊤) s p a [] refl (λ r t q w. to_end s t p w.0 a w.1 r q at i (to_passes w.2) w.3) (λ u h b f. tt)
+  held_gives (Ok x ∷ l) s p a at i = item_given x (λ u. AlwaysGives steps u l) s p a i at (does a (Some x)) (held_list does next (next a (Some x)) l) (held_list does next (next (next a (Some x)) None) l) refl (λ u h b f. held_gives l u h (next a (Some x)) b f) (λ u h b f. held_gives l u h (next (next a (Some x)) None) b f)
+  held_gives (Err e ∷ l) s p a at i = at_stop_given (Some e) (does a None) (λ u. AlwaysGives steps u l) s p a (held_list does next (next a None) l) refl (λ r t q w. to_failure e (λ u. AlwaysGives steps u l) s t p w.0 a w.1 r q at i (to_passes w.2) w.3) (λ u h b f. held_gives l u h (next a None) b f)

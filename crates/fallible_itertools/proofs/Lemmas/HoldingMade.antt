@@ -6,7 +6,7 @@ use Rattle.fallible_iterator.specs.Lists.{EndsForGood, GivesForGood}
 use Rattle.fallible_iterator.specs.Laws.Passing.{to_passes, from_passes}
 use Rattle.fallible_iterator.proofs.Lemmas.Lists.Passing.{by_outcome}
 use Rattle.fallible_itertools.specs.Growing.{AnswersRefusal, GivesMade, IsMadeOf, IsRefusal, ListsMade}
-use Rattle.fallible_itertools.proofs.Lemmas.HoldingLists.{held_list, ByFirst, FirstOfAll, Steps, Whole, asked, failed, first_of_all}
+use Rattle.fallible_itertools.proofs.Lemmas.HoldingEndsLists.{held_list, ByFirst, FirstOfAll, Steps, Whole, asked, failed, first_of_all}
 use Rattle.std.specs.declared.alloc.AllocError.{AllocError}
 use Rattle.fallible_iterator.specs.Outcome.{Outcome}
 use Rattle.fallible_iterator.specs.Outcome.TheVariants.{Kept, LeftOut, Failure, End}

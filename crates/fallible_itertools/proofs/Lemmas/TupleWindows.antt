@@ -5,7 +5,7 @@ use Rattle.fallible_iterator.specs.Contract.{Contract, seen_as}
 use Rattle.fallible_iterator.specs.Lists.{Lists}
 use Rattle.fallible_iterator.proofs.Lemmas.Lists.Passing.{lists_seen}
 use Rattle.fallible_itertools.specs.TupleWindows.{window_at, windows_asks, tuple_windows_contract, tuple_windows_parts, windowed, windows_from}
-use Rattle.fallible_itertools.proofs.Lemmas.HoldingLists.{held_list, held_gives_once}
+use Rattle.fallible_itertools.proofs.Lemmas.HoldingEndsLists.{held_list, held_gives_once}
 use Rattle.std.specs.declared.alloc.AllocError.{AllocError}
 use Rattle.fallible_iterator.specs.Outcome.{Outcome}
 use Rattle.fallible_iterator.specs.Outcome.TheVariants.{Kept, LeftOut, Failure, End}

@@ -8,7 +8,7 @@ use Rattle.fallible_iterator.specs.SoundHints.{Brackets, KeepsBrackets}
 use Rattle.fallible_iterator.specs.Passing.{passing_step}
 use Rattle.fallible_iterator.specs.Laws.Passing.{Passes, done, end_passes, failure_passes, keeps, refuses, closes, leaves_out, to_passes}
 use Rattle.fallible_iterator.proofs.Lemmas.Hints.Drawn.{as_sound, sound_seen, yields_after}
-use Rattle.fallible_itertools.specs.Holding.{with_ends, as_answered}
+use Rattle.fallible_itertools.specs.HoldingEnds.{with_ends, as_answered}
 use Rattle.fallible_itertools.specs.TupleWindows.{window_at, windows_asks, unheld, tuple_windows_contract}
 use Rattle.std.specs.declared.alloc.AllocError.{AllocError}
 use Rattle.fallible_iterator.specs.Outcome.{Outcome}

@@ -9,9 +9,9 @@ use Rattle.fallible_iterator.specs.Closures.{IsCallable, Reaches, call_at, takes
 use Rattle.fallible_iterator.specs.Laws.Closures.{callable_after, reaches_here, reaches_from}
 use Rattle.fallible_iterator.specs.Laws.Passing.{to_passes}
 use Rattle.fallible_iterator.specs.Traces.{Answered}
-use Rattle.fallible_itertools.specs.Holding.{Holds, HeldAfter, MayBeAsked, OrEnd, held_one, one_at_least}
+use Rattle.fallible_itertools.specs.HoldingEnds.{Holds, HeldAfter, MayBeAsked, OrEnd, held_one, one_at_least}
 use Rattle.fallible_itertools.specs.ChunkBy.{Group, group_at, group_begun, group_grown, group_by, group_at_end, group_held, chunk_by_asks, chunk_by_contract, key_takes}
-use Rattle.fallible_itertools.specs.Laws.Holding.{gives_keep, gives_reach, lawful_holding}
+use Rattle.fallible_itertools.specs.Laws.HoldingEnds.{gives_keep, gives_reach, lawful_holding}
 use Rattle.fallible_iterator.specs.Outcome.{Outcome}
 use Rattle.fallible_iterator.specs.Outcome.TheVariants.{Kept, LeftOut, Failure, End}
 use Rattle.std.specs.declared.alloc.AllocError.{AllocError}

@@ -3,9 +3,9 @@ use Rattle.std.specs.Prelude.{◌≡◌, Option, Some, None, ⊤}
 use Rattle.std.proofs.Common.{refl, arith}
 use Rattle.fallible_iterator.specs.Contract.{Contract, Lawful}
 use Rattle.fallible_itertools.specs.Growing.{SameHeld}
-use Rattle.fallible_itertools.specs.Holding.{Holds, held_one}
+use Rattle.fallible_itertools.specs.HoldingEnds.{Holds, held_one}
 use Rattle.fallible_itertools.specs.Chunks.{batch_held, chunks_asks, chunks_contract, chunks_hints}
-use Rattle.fallible_itertools.specs.Laws.Holding.{lawful_holding}
+use Rattle.fallible_itertools.specs.Laws.HoldingEnds.{lawful_holding}
 use Rattle.fallible_iterator.specs.Outcome.TheVariants.{Kept, LeftOut, Failure, End}
 use Rattle.std.specs.declared.vec.Vec.{Vec}
 use Rattle.std.specs.declared.alloc.Global.{Global}

@@ -3,9 +3,9 @@ use Rattle.std.specs.Prelude.{◌≡◌, ℕ, Option, Some, None, ⊤}
 use Rattle.std.proofs.Common.{arith}
 use Rattle.fallible_iterator.specs.Contract.{Contract, Lawful}
 use Rattle.fallible_iterator.specs.Hints.{hint_less}
-use Rattle.fallible_itertools.specs.Holding.{Holds, HeldAfter}
+use Rattle.fallible_itertools.specs.HoldingEnds.{Holds, HeldAfter}
 use Rattle.fallible_itertools.specs.TupleWindows.{window_at, windows_asks, unheld, tuple_windows_contract}
-use Rattle.fallible_itertools.specs.Laws.Holding.{lawful_holding}
+use Rattle.fallible_itertools.specs.Laws.HoldingEnds.{lawful_holding}
 use Rattle.std.specs.declared.alloc.AllocError.{AllocError}
 use Rattle.fallible_iterator.specs.Outcome.{Outcome}
 use Rattle.fallible_iterator.specs.Outcome.TheVariants.{Kept, LeftOut, Failure, End}

@@ -1,12 +1,12 @@
 // Of the adapters that hold.
-ghost use Rattle.std.specs.Prelude.{Option, Result};
+ghost use Rattle.std.specs.Prelude.{◌≡◌, ◌++◌, ◌∷◌, List, Option, Result, Some, None, Err};
 ghost use Rattle.fallible_iterator.specs.LawForm.{TracesAre};
-ghost use Rattle.fallible_iterator.specs.SoundHints.{KeepsBrackets};
+ghost use Rattle.fallible_iterator.specs.SoundHints.{KeepsBrackets, SoundHints};
 ghost use Rattle.fallible_iterator.specs.Closures.{call_at};
 ghost use Rattle.fallible_iterator.specs.Folds.{call_with};
-ghost use Rattle.fallible_itertools.specs.Coalesce.{CoalesceTrace, coalesce_parts, coalesce_source};
-ghost use Rattle.fallible_itertools.specs.DedupByKey.{DedupByKeyTrace, dedup_by_key_parts, dedup_by_key_source};
-ghost use Rattle.fallible_itertools.specs.Dedup.{DedupTrace, dedup_parts, dedup_source};
+ghost use Rattle.fallible_itertools.specs.Coalesce.{CoalesceTrace, OneOrBoth, coalesce_due, coalesce_parts, coalesce_source, coalesced};
+ghost use Rattle.fallible_itertools.specs.DedupByKey.{DedupByKeyTrace, dedup_by_key_due, dedup_by_key_parts, dedup_by_key_source, deduped_by_key};
+ghost use Rattle.fallible_itertools.specs.Dedup.{DedupTrace, dedup_due, dedup_parts, dedup_source, deduped};
 ghost use Rattle.fallible_itertools.specs.TupleWindows.{TupleWindowsTrace, tuple_windows_parts, tuple_windows_source};
 
 use crate::coalesce::Coalesce;
@@ -16,46 +16,67 @@ use crate::tuple_windows::TupleWindows;
 use fallible_iterator::FallibleIterator;
 use std::alloc::AllocError;
 
-/// The answers of `Dedup` are the source's with the first of adjacent equal items alone, each where the next one that differs stands or an end.
+/// The answers of `Dedup` are the stop that is due, the first of adjacent equal items, each where the next one that differs stands or a stop, and each stop behind what was held before it.
 pub fn law_dedup<I: FallibleIterator>()
 where
     I::Item: PartialEq + Drop,
+    I::Error: Drop,
     ensures { TracesAre dedup_parts ⟦<Dedup<I> as FallibleIterator>⟧.contract.steps
         (DedupTrace I.Item.eq I.contract.steps) }
 {}
 
-/// Each hint of `Dedup` is as sound as the hint of its source that it is made of.
+/// A failure parts a list: what stands before it is deduped by itself, and so is what stands behind it.
+pub fn law_deduped<T: PartialEq, E>()
+    ensures { (a : List (Result T E)) (e : E) (b : List (Result T E))
+        → deduped T.eq (a ++ Err e ∷ b) ≡ deduped T.eq a ++ Err e ∷ deduped T.eq b }
+{}
+
+/// Each hint of `Dedup` is as sound as the hint of its source that it is made of; where a stop is due it is sound by itself.
 pub fn law_hints_dedup<I: FallibleIterator>()
 where
     I::Item: PartialEq + Drop,
-    ensures { (s : Dedup I I.Item I.Error)
+    I::Error: Drop,
+    ensures none_due { (s : Dedup I I.Item I.Error) → dedup_due s ≡ None
         → KeepsBrackets ⟦<Dedup<I> as FallibleIterator>⟧.contract s I.contract (dedup_source s) }
+    ensures due { (s : Dedup I I.Item I.Error) (stop : Option I.Error) → dedup_due s ≡ Some stop
+        → SoundHints ⟦<Dedup<I> as FallibleIterator>⟧.contract s }
 {}
 
-/// The answers of `Coalesce` are the source's where adjacent items stand put together, each where the next one that isn't put to it stands or an end, with the closure's failure in the place of an item on which it failed.
+/// The answers of `Coalesce` are the stop that is due, adjacent items put together, each where the next one that isn't put to it stands or a stop, and each stop behind what was held before it. The closure's failure is a stop.
 pub fn law_coalesce<
     I: FallibleIterator,
     F: FnMut(I::Item, I::Item) -> Result<Result<I::Item, (I::Item, I::Item)>, I::Error>,
 >()
 where
     I::Item: Drop,
+    I::Error: Drop,
     ensures { TracesAre coalesce_parts ⟦<Coalesce<I, F> as FallibleIterator>⟧.contract.steps
         (CoalesceTrace (call_with F.FnMut) I.contract.steps) }
 {}
 
-/// Each hint of `Coalesce` is as sound as the hint of its source that it is made of.
+/// A failure parts a list: what stands before it is put together by itself, and so is what stands behind it.
+pub fn law_coalesced<T, E>()
+    ensures { (h : T → T → OneOrBoth T E) (a : List (Result T E)) (e : E) (b : List (Result T E))
+        → coalesced h (a ++ Err e ∷ b) ≡ coalesced h a ++ Err e ∷ coalesced h b }
+{}
+
+/// Each hint of `Coalesce` is as sound as the hint of its source that it is made of; where a stop is due it is sound by itself.
 pub fn law_hints_coalesce<
     I: FallibleIterator,
     F: FnMut(I::Item, I::Item) -> Result<Result<I::Item, (I::Item, I::Item)>, I::Error>,
 >()
 where
     I::Item: Drop,
-    ensures { (s : Coalesce I F I.Item I.Error)
+    I::Error: Drop,
+    ensures none_due { (s : Coalesce I F I.Item I.Error) → coalesce_due s ≡ None
         → KeepsBrackets ⟦<Coalesce<I, F> as FallibleIterator>⟧.contract s I.contract
         (coalesce_source s) }
+    ensures due { (s : Coalesce I F I.Item I.Error) (stop : Option I.Error)
+        → coalesce_due s ≡ Some stop
+        → SoundHints ⟦<Coalesce<I, F> as FallibleIterator>⟧.contract s }
 {}
 
-/// The answers of `DedupByKey` are the source's with the first of adjacent items with equal keys alone, each where the next one that differs stands or an end, with the closure's failure in the place of an item on which it failed.
+/// The answers of `DedupByKey` are the stop that is due, the first of adjacent items with equal keys, each where the next one that differs stands or a stop, and each stop behind what was held before it. The closure's failure is a stop.
 pub fn law_dedup_by_key<
     I: FallibleIterator,
     K: PartialEq + Drop,
@@ -63,12 +84,20 @@ pub fn law_dedup_by_key<
 >()
 where
     I::Item: Drop,
+    I::Error: Drop,
     ensures { TracesAre dedup_by_key_parts
         ⟦<DedupByKey<I, K, F> as FallibleIterator>⟧.contract.steps
         (DedupByKeyTrace K.eq (call_at F.FnMut) I.contract.steps) }
 {}
 
-/// Each hint of `DedupByKey` is as sound as the hint of its source that it is made of.
+/// A failure parts a list: what stands before it is deduped by itself, and so is what stands behind it.
+pub fn law_deduped_by_key<T, K: PartialEq, E>()
+    ensures { (h : T → Result K E) (a : List (Result T E)) (e : E) (b : List (Result T E))
+        → deduped_by_key K.eq h (a ++ Err e ∷ b)
+        ≡ deduped_by_key K.eq h a ++ Err e ∷ deduped_by_key K.eq h b }
+{}
+
+/// Each hint of `DedupByKey` is as sound as the hint of its source that it is made of; where a stop is due it is sound by itself.
 pub fn law_hints_dedup_by_key<
     I: FallibleIterator,
     K: PartialEq + Drop,
@@ -76,9 +105,13 @@ pub fn law_hints_dedup_by_key<
 >()
 where
     I::Item: Drop,
-    ensures { (s : DedupByKey I K F I.Item I.Error)
+    I::Error: Drop,
+    ensures none_due { (s : DedupByKey I K F I.Item I.Error) → dedup_by_key_due s ≡ None
         → KeepsBrackets ⟦<DedupByKey<I, K, F> as FallibleIterator>⟧.contract s I.contract
         (dedup_by_key_source s) }
+    ensures due { (s : DedupByKey I K F I.Item I.Error) (stop : Option I.Error)
+        → dedup_by_key_due s ≡ Some stop
+        → SoundHints ⟦<DedupByKey<I, K, F> as FallibleIterator>⟧.contract s }
 {}
 
 /// The answers of `TupleWindows` are the source's where each item but the first is replaced by the pair of the one before it and itself, or by the failure made of a refused clone.

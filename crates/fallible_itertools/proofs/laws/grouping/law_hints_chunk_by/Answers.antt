@@ -2,7 +2,7 @@
 use Rattle.fallible_itertools.specs.ChunkBy.{chunk_by_asks, chunk_by_parts, group_held, key_takes}
 use Rattle.fallible_itertools.specs.Laws.ChunkBy.{holds_chunk_by}
 use Rattle.fallible_itertools.proofs.Lemmas.ChunkBy.{gives_held}
-use Rattle.fallible_itertools.proofs.Lemmas.HoldingHints.{keeps_one}
+use Rattle.fallible_itertools.proofs.Lemmas.HoldingEndsHints.{keeps_one}
 use Rattle.fallible_itertools.proofs.laws.grouping.law_hints_chunk_by.Goals as goal
 
 pub returns : goal.returns

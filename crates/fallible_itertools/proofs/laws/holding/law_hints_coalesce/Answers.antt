@@ -1,11 +1,15 @@
--- While nothing is held an end comes of an end alone.
+-- What is left out is held, and what is held comes before a stop.
+use Rattle.std.proofs.Common.{ap}
 use Rattle.fallible_iterator.specs.Folds.{call_with, takes_with}
 use Rattle.fallible_itertools.specs.Coalesce.{coalesce_parts, coalesce_asks, coalesce_takes}
 use Rattle.fallible_itertools.specs.Holding.{held_beside}
 use Rattle.fallible_itertools.specs.Laws.Coalesce.{holds_coalesce}
 use Rattle.fallible_itertools.proofs.Lemmas.Coalesce.{gives_held}
-use Rattle.fallible_itertools.proofs.Lemmas.HoldingHints.{keeps_one}
+use Rattle.fallible_itertools.proofs.Lemmas.HoldingHints.{keeps_held, sound_due}
 use Rattle.fallible_itertools.proofs.laws.holding.law_hints_coalesce.Goals as goal
 
-pub returns : goal.returns
-returns g c = keeps_one coalesce_parts g.I.FallibleIterator.contract (coalesce_asks (call_with g.F.FnMut)) (coalesce_takes (takes_with g.F.FnMut)) held_beside (holds_coalesce (call_with g.F.FnMut)) (gives_held (call_with g.F.FnMut))
+pub returns-clause-none_due : goal.returns-clause-none_due
+returns-clause-none_due g c s is = keeps_held coalesce_parts g.I.FallibleIterator.contract (coalesce_asks (call_with g.F.FnMut)) (coalesce_takes (takes_with g.F.FnMut)) held_beside (holds_coalesce (call_with g.F.FnMut)) (gives_held (call_with g.F.FnMut)) s s.it s.coalescing (ap (λ d. (s.it, (s.coalescing, d))) is)
+
+pub returns-clause-due : goal.returns-clause-due
+returns-clause-due g c s stop is = sound_due coalesce_parts g.I.FallibleIterator.contract (coalesce_asks (call_with g.F.FnMut)) (coalesce_takes (takes_with g.F.FnMut)) held_beside (holds_coalesce (call_with g.F.FnMut)) (gives_held (call_with g.F.FnMut)) s s.it s.coalescing stop (ap (λ d. (s.it, (s.coalescing, d))) is)

@@ -1,11 +1,15 @@
--- While nothing is held an end comes of an end alone.
+-- What is left out is held, and what is held comes before a stop.
 use Rattle.std.specs.Prelude.{⊤}
+use Rattle.std.proofs.Common.{ap}
 use Rattle.fallible_itertools.specs.Dedup.{dedup_parts, dedup_asks}
 use Rattle.fallible_itertools.specs.Holding.{held_one}
 use Rattle.fallible_itertools.specs.Laws.Dedup.{holds_dedup}
 use Rattle.fallible_itertools.proofs.Lemmas.Dedup.{gives_held}
-use Rattle.fallible_itertools.proofs.Lemmas.HoldingHints.{keeps_one}
+use Rattle.fallible_itertools.proofs.Lemmas.HoldingHints.{keeps_held, sound_due}
 use Rattle.fallible_itertools.proofs.laws.holding.law_hints_dedup.Goals as goal
 
-pub returns : goal.returns
-returns g c = keeps_one dedup_parts g.I.FallibleIterator.contract (dedup_asks g.I.Item.PartialEq.eq) (λ p x. ⊤) held_one (holds_dedup g.I.Item.PartialEq.eq) (gives_held _ g.I.Item.PartialEq.eq)
+pub returns-clause-none_due : goal.returns-clause-none_due
+returns-clause-none_due g c s is = keeps_held dedup_parts g.I.FallibleIterator.contract (dedup_asks g.I.Item.PartialEq.eq) (λ p x. ⊤) held_one (holds_dedup g.I.Item.PartialEq.eq) (gives_held _ g.I.Item.PartialEq.eq) s s.it s.held (ap (λ d. (s.it, (s.held, d))) is)
+
+pub returns-clause-due : goal.returns-clause-due
+returns-clause-due g c s stop is = sound_due dedup_parts g.I.FallibleIterator.contract (dedup_asks g.I.Item.PartialEq.eq) (λ p x. ⊤) held_one (holds_dedup g.I.Item.PartialEq.eq) (gives_held _ g.I.Item.PartialEq.eq) s s.it s.held stop (ap (λ d. (s.it, (s.held, d))) is)

@@ -1,8 +1,8 @@
 -- From each turn on the fold may go on, the bound is at most the one counted down, and what a fold from here does, the whole fold does.
 use Rattle.std.specs.Prelude.{⊤}
 use Rattle.fallible_iterator.specs.Folds.{CallableDriving, Driven}
-use Rattle.fallible_itertools.specs.Holding.{holding_contract}
-use Rattle.fallible_itertools.proofs.holding.drive_holding.Given as goal
+use Rattle.fallible_itertools.specs.HoldingEnds.{holding_contract}
+use Rattle.fallible_itertools.proofs.holding_ends.drive_holding.Given as goal
 
 abbrev pub invariant-loop-stop : goal.invariant-loop-stop
 invariant-loop-stop g l = let m = holding_contract g.I.FallibleIterator.contract (g.A.Hold.asks l.adapter) (g.A.Hold.can_ask l.adapter) (g.A.Hold.held l.adapter) (λ _ _. ⊤) in record {
