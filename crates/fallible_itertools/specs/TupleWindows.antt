@@ -4,7 +4,8 @@ use Rattle.fallible_iterator.specs.Traces.{Answered}
 use Rattle.fallible_iterator.specs.Contract.{Contract}
 use Rattle.fallible_iterator.specs.Hints.{hint_less}
 use Rattle.fallible_iterator.specs.Refusals.{RefusedAs}
-use Rattle.fallible_itertools.specs.HoldingEnds.{HoldingTrace, holding_contract}
+use Rattle.fallible_iterator.specs.Passing.{PassTrace, passing_contract}
+use Rattle.fallible_itertools.specs.Holding.{as_answered_item}
 use Rattle.std.specs.declared.alloc.AllocError.{AllocError}
 use Rattle.fallible_iterator.specs.Outcome.{Outcome}
 use Rattle.fallible_iterator.specs.Outcome.TheVariants.{Kept, LeftOut, Failure, End}
@@ -18,24 +19,23 @@ module _ {A E : Type 0} (is_clone : A → A → Type 0) (is_infallible : A → T
   window_at y x (Failure e) q = RefusedAs is_infallible from x e × (q ≡ Some y)
   window_at y x End q = ⊥
 
-  -- The last item is held, and stays held at an end.
-  abbrev pub windows_asks : Option A → Option A → Outcome (A × A) E → Option A → Type 0
-  windows_asks None (Some x) o q = (o ≡ LeftOut) × (q ≡ Some x)
-  windows_asks (Some y) (Some x) o q = window_at y x o q
-  windows_asks p None o q = (o ≡ End) × (q ≡ p)
+  -- The last item is held. The first one is left out.
+  abbrev pub windows_asks : Option A → A → Outcome (A × A) E → Option A → Type 0
+  windows_asks None x o q = (o ≡ LeftOut) × (q ≡ Some x)
+  windows_asks (Some y) x o q = window_at y x o q
 
   -- `TupleWindows`: the source's trace where each item but the first is replaced by the pair of the one before it and itself; failures and ends between two part nothing.
   abbrev pub TupleWindowsTrace : {S : Type 0} → (S → Answered A E → S → Type 0) → S × Option A → List (Answered (A × A) E) → S × Option A → Type 0
-  TupleWindowsTrace steps p trace q = HoldingTrace steps windows_asks p trace q
+  TupleWindowsTrace steps p trace q = PassTrace steps windows_asks as_answered_item p trace q
 
   -- how many items come before the next pair
   abbrev pub unheld : Option A → ℕ
   unheld None = 1
   unheld (Some y) = 0
 
-  -- `TupleWindows`' contract: what is held is no answer by itself.
+  -- `TupleWindows`' contract. It asks no bound of the source: one draw leaves out one item at most.
   abbrev pub tuple_windows_contract : {S : Type 0} → Contract S A E → Contract (S × Option A) (A × A) E
-  tuple_windows_contract m = holding_contract m windows_asks (λ p x. ⊤) (λ p. 0) (λ p h. (k : ℕ × Option ℕ) × m.hints p.0 k × (h ≡ hint_less (unheld p.1) k))
+  tuple_windows_contract m = passing_contract m windows_asks (λ Q p. ⊤) as_answered_item (λ p h. (k : ℕ × Option ℕ) × m.hints p.0 k × (h ≡ hint_less (unheld p.1) k))
 
 -- the source
 abbrev pub tuple_windows_source : {I A E : Type 0} → TupleWindows I A E → I

@@ -180,7 +180,7 @@ pub trait FallibleItertools: FallibleIterator {
     ///
     /// Making it draws nothing. One call draws one answer, and two for the first pair. It fails as the source does. Where a clone is refused, the failure made of the refusal is the answer and the later item is lost. The last item stays held at a failure and at an end, so the next pair begins with it.
     ///
-    /// Asks nothing. Each draw asks that the source may be drawn from and is finite.
+    /// Asks nothing. Each draw asks that the source may be drawn from.
     ///
     /// ```
     /// let mut it = (&mut source).tuple_windows();

@@ -1,12 +1,13 @@
 // The adapter that gives each two adjacent items.
-ghost use Rattle.std.specs.Prelude.{⊤, Option, Result};
+ghost use Rattle.std.specs.Prelude.{◌≡◌, ⊤, Option, Result, Some};
 ghost use Rattle.fallible_iterator.specs.Contract.{seen_as};
 ghost use Rattle.fallible_iterator.specs.Laws.Contract.{lawful_seen};
+ghost use Rattle.fallible_iterator.specs.Passing.{passing_step};
+ghost use Rattle.fallible_itertools.specs.Holding.{as_answered_item};
 ghost use Rattle.fallible_itertools.specs.TupleWindows.{tuple_windows_contract, tuple_windows_parts, window_at, windows_asks};
-ghost use Rattle.fallible_itertools.specs.Laws.TupleWindows.{holds_windows, lawful_tuple_windows};
+ghost use Rattle.fallible_itertools.specs.Laws.TupleWindows.{lawful_tuple_windows};
 
-use crate::holding_ends::{Hold, drive_holding};
-use fallible_iterator::extending::{FirstTurn, Outcome};
+use fallible_iterator::extending::{Outcome, Pass, drive_passing};
 use fallible_iterator::{FallibleIterator, Turn};
 use std::alloc::AllocError;
 
@@ -33,7 +34,14 @@ where
 
     /// Draws one answer where an item is held, and else until a second item, a failure or an end comes.
     fn next(&mut self) -> Result<Option<(I::Item, I::Item)>, I::Error> {
-        self.drive(&mut (), &FirstTurn)
+        match self.held.take() {
+            Some(before) => behind(&mut self.it, &mut self.held, before),
+            None => match self.it.draw() {
+                Ok(Some(first)) => behind(&mut self.it, &mut self.held, first),
+                Ok(None) => Ok(None),
+                Err(e) => Err(e),
+            },
+        }
     }
 
     fn size_hint(&self) -> (usize, Option<usize>) {
@@ -53,8 +61,7 @@ where
         state: &mut C,
         turn: &K,
     ) -> Result<Option<R>, I::Error> {
-        let left = (*self).number();
-        drive_holding(&mut self.it, &mut self.held, &WindowHold, left, state, turn)
+        drive_passing(&mut self.it, &mut self.held, &WindowPass, state, turn)
     }
 
     ghost lawful = { lawful_seen tuple_windows_parts
@@ -63,34 +70,61 @@ where
 
 // An item beside the one before it.
 #[derive(Drop)]
-struct WindowHold;
+struct WindowPass;
 
-impl<X: Clone + Drop, E: From<AllocError>> Hold<Option<X>, X, E> for WindowHold {
+impl<X: Clone + Drop, E: From<AllocError>> Pass<Option<X>, X, E> for WindowPass {
     type Kept = (X, X);
 
-    ghost can_ask = { λ _ p x. ⊤ };
+    type Answer = Outcome<(X, X), E>;
 
-    ghost asks = { λ _ p x o q. windows_asks X.is_clone X.is_infallible E.from_gives p x o q };
+    ghost can_pass = { λ _ p x. ⊤ };
 
-    ghost held = { λ _ p. 0 };
+    ghost call = { λ _ p x o q. windows_asks X.is_clone X.is_infallible E.from_gives p x o q };
 
-    fn ask(&self, holds: &mut Option<X>, asked: Option<X>) -> Outcome<(X, X), E>
-        ensures { windows_asks X.is_clone X.is_infallible E.from_gives
-            holds.old asked result holds.new }
-    {
-        match asked {
-            Some(x) => match holds.take() {
-                Some(y) => pair(holds, y, x),
-                None => {
-                    *holds = Some(x);
-                    Outcome::LeftOut
-                }
-            },
-            None => Outcome::End,
+    ghost outcome = { λ _ _ o. o };
+
+    #[inline(always)]
+    fn pass(&self, held: &mut Option<X>, item: X) -> Outcome<(X, X), E> {
+        match held.take() {
+            Some(before) => pair(held, before, item),
+            None => {
+                *held = Some(item);
+                Outcome::LeftOut
+            }
         }
     }
+}
 
-    ghost holds = { λ _. holds_windows X.is_clone X.is_infallible E.from_gives };
+// One draw behind that item.
+fn behind<I: FallibleIterator>(
+    it: &mut I,
+    held: &mut Option<I::Item>,
+    before: I::Item,
+) -> Result<Option<(I::Item, I::Item)>, I::Error>
+where
+    I::Item: Clone + Drop,
+    I::Error: From<AllocError>,
+    requires { I.contract.can_next it.old }
+    ensures { passing_step I.contract.steps
+        (windows_asks I.Item.is_clone I.Item.is_infallible I.Error.from_gives) as_answered_item
+        (it.old, Some before) result (it.new, held.new) }
+{
+    match it.next() {
+        Ok(Some(x)) => match pair(held, before, x) {
+            Outcome::Kept(both) => Ok(Some(both)),
+            Outcome::LeftOut => unreachable!(),
+            Outcome::Failure(e) => Err(e),
+            Outcome::End => unreachable!(),
+        },
+        Ok(None) => {
+            *held = Some(before);
+            Ok(None)
+        }
+        Err(e) => {
+            *held = Some(before);
+            Err(e)
+        }
+    }
 }
 
 // Both items, the later one as a clone, which is held then.

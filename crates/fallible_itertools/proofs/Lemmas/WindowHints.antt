@@ -8,14 +8,14 @@ use Rattle.fallible_iterator.specs.SoundHints.{Brackets, KeepsBrackets}
 use Rattle.fallible_iterator.specs.Passing.{passing_step}
 use Rattle.fallible_iterator.specs.Laws.Passing.{Passes, done, end_passes, failure_passes, keeps, refuses, closes, leaves_out, to_passes}
 use Rattle.fallible_iterator.proofs.Lemmas.Hints.Drawn.{as_sound, sound_seen, yields_after}
-use Rattle.fallible_itertools.specs.HoldingEnds.{with_ends, as_answered}
+use Rattle.fallible_itertools.specs.Holding.{as_answered_item}
 use Rattle.fallible_itertools.specs.TupleWindows.{window_at, windows_asks, unheld, tuple_windows_contract}
 use Rattle.std.specs.declared.alloc.AllocError.{AllocError}
 use Rattle.fallible_iterator.specs.Outcome.{Outcome}
 use Rattle.fallible_iterator.specs.Outcome.TheVariants.{Kept, LeftOut, End}
 
 module _ {A E : Type 0} (is_clone : A → A → Type 0) (is_infallible : A → Type 0) (from : AllocError → E → Type 0) where
-  abbrev asks : Option A → Option A → Outcome (A × A) E → Option A → Type 0
+  abbrev asks : Option A → A → Outcome (A × A) E → Option A → Type 0
   asks = windows_asks is_clone is_infallible from
 
   abbrev left : Option A → ℕ
@@ -23,43 +23,37 @@ module _ {A E : Type 0} (is_clone : A → A → Type 0) (is_infallible : A → T
 
   module _ {S : Type 0} (steps : S → Answered A E → S → Type 0) where
     abbrev Whole : S → Option A → List (Answered (A × A) E) → S → Option A → Type 0
-    Whole = Passes (with_ends steps) asks as_answered
+    Whole = Passes steps asks as_answered_item
 
     abbrev Steps : S × Option A → Answered (A × A) E → S × Option A → Type 0
-    Steps = passing_step (with_ends steps) asks as_answered
+    Steps = passing_step steps asks as_answered_item
 
-    -- what was kept was asked of an item, beside one that was held; and then one is held
-    kept_of : (p : Option A) (asked : Option A) (o : Outcome (A × A) E) (q : Option A) (y : A × A) → asks p asked o q → o ≡ Kept y → (x : A) × (asked ≡ Some x) × (left p ≡ 0) × (left q ≡ 0)
-    kept_of None (Some x) o q y w is = absurd (let same = w.0 in cc)
-    kept_of (Some z) (Some x) o q y w is = let k = subst (λ (c : Outcome (A × A) E). window_at is_clone is_infallible from z x c q) is w in (x, refl, refl, rw k.2 refl)
-    kept_of None None o q y w is = absurd (let same = w.0 in cc)
-    kept_of (Some z) None o q y w is = absurd (let same = w.0 in cc)
+    -- what was kept stands beside one that was held; and then one is held
+    kept_of : (p : Option A) (x : A) (o : Outcome (A × A) E) (q : Option A) (y : A × A) → asks p x o q → o ≡ Kept y → (left p ≡ 0) × (left q ≡ 0)
+    kept_of None x o q y w is = absurd (let same = w.0 in cc)
+    kept_of (Some z) x o q y w is = let k = subst (λ (c : Outcome (A × A) E). window_at is_clone is_infallible from z x c q) is w in (refl, rw k.2 refl)
 
     -- what was left out was the first item, which is held then
-    left_of : (p : Option A) (asked : Option A) (o : Outcome (A × A) E) (q : Option A) → asks p asked o q → o ≡ LeftOut → (x : A) × (asked ≡ Some x) × (left p ≡ 1) × (left q ≡ 0)
-    left_of None (Some x) o q w is = (x, refl, refl, rw w.1 refl)
-    left_of (Some z) (Some x) o q w is = absurd (subst (λ (c : Outcome (A × A) E). window_at is_clone is_infallible from z x c q) is w)
-    left_of None None o q w is = absurd (let same = w.0 in cc)
-    left_of (Some z) None o q w is = absurd (let same = w.0 in cc)
+    left_of : (p : Option A) (x : A) (o : Outcome (A × A) E) (q : Option A) → asks p x o q → o ≡ LeftOut → (left p ≡ 1) × (left q ≡ 0)
+    left_of None x o q w is = (refl, rw w.1 refl)
+    left_of (Some z) x o q w is = absurd (subst (λ (c : Outcome (A × A) E). window_at is_clone is_infallible from z x c q) is w)
 
-    end_of : (p : Option A) (asked : Option A) (o : Outcome (A × A) E) (q : Option A) → asks p asked o q → o ≡ End → asked ≡ None
-    end_of None (Some x) o q w is = absurd (let same = w.0 in cc)
-    end_of (Some z) (Some x) o q w is = absurd (subst (λ (c : Outcome (A × A) E). window_at is_clone is_infallible from z x c q) is w)
-    end_of None None o q w is = refl
-    end_of (Some z) None o q w is = refl
+    no_end : (p : Option A) (x : A) (o : Outcome (A × A) E) (q : Option A) → asks p x o q → o ≡ End → ⊥
+    no_end None x o q w is = let same = w.0 in cc
+    no_end (Some z) x o q w is = subst (λ (c : Outcome (A × A) E). window_at is_clone is_infallible from z x c q) is w
 
     abbrev Taken : S → Option A → S → Option A → Type 0
     Taken s p t q = (ys : List A) × Yields steps s ys t × (length ys ≡ 1 + left p) × (left q ≡ 0)
 
     pair_takes : (s t : S) (p q : Option A) (r : Answered (A × A) E) (y : A × A) → Whole s p (r ∷ []) t q → r ≡ item y → Taken s p t q
-    pair_takes s t p q _ y (end_passes step d) is = absurd step
+    pair_takes s t p q _ y (end_passes step d) is = absurd cc
     pair_takes s t p q _ y (failure_passes e step d) is = absurd cc
     pair_takes s t p q _ y (keeps x o z step called out done) is = let k = kept_of p x o q z called out in
-        (k.0 ∷ [], (t, subst (λ (a : Option A). steps s (Ok a) t) k.1 step, refl), (let none = k.2 in omega (arith, none)), k.3)
+        (x ∷ [], (t, step, refl), (let none = k.0 in omega (arith, none)), k.1)
     pair_takes s t p q _ y (refuses x o e step called out d) is = absurd cc
     pair_takes s t p q _ y (closes x o step called out d) is = absurd cc
     pair_takes s t p q r y (leaves_out {u = u} {h = h} x o step called out rest) is = let k = left_of p x o h called out in let d = pair_takes u t h q r y rest is in
-        (k.0 ∷ d.0, (u, subst (λ (a : Option A). steps s (Ok a) u) k.1 step, d.1), (let one = k.2 in let none = k.3 in let long = d.2 in omega (arith, one, none, long)), d.3)
+        (x ∷ d.0, (u, step, d.1), (let one = k.0 in let none = k.1 in let long = d.2 in omega (arith, one, none, long)), d.3)
 
     -- a run of pairs takes as many items, and one more where none was held
     abbrev RunTaken : List (A × A) → S × Option A → S × Option A → Type 0
@@ -75,13 +69,13 @@ module _ {A E : Type 0} (is_clone : A → A → Type 0) (is_infallible : A → T
     EndTaken s p = (ys : List A) × (u : S) × (v : S) × Yields steps s ys u × steps u end v × (length ys ≤ left p)
 
     end_takes : (s t : S) (p q : Option A) (r : Answered (A × A) E) → Whole s p (r ∷ []) t q → r ≡ end → EndTaken s p
-    end_takes s t p q _ (end_passes step d) is = absurd step
+    end_takes s t p q _ (end_passes {u = u} step d) is = ([], s, u, refl, step, omega arith)
     end_takes s t p q _ (failure_passes e step d) is = absurd cc
     end_takes s t p q _ (keeps x o z step called out d) is = absurd cc
     end_takes s t p q _ (refuses x o e step called out d) is = absurd cc
-    end_takes s t p q _ (closes {u = u} {h = h} x o step called out d) is = ([], s, u, refl, subst (λ (a : Option A). steps s (Ok a) u) (end_of p x o h called out) step, omega arith)
+    end_takes s t p q _ (closes {h = h} x o step called out d) is = absurd (no_end p x o h called out)
     end_takes s t p q r (leaves_out {u = u} {h = h} x o step called out rest) is = let k = left_of p x o h called out in let d = end_takes u t h q r rest is in
-        (k.0 ∷ d.0, d.1, d.2, (u, subst (λ (a : Option A). steps s (Ok a) u) k.1 step, d.3), d.4, (let one = k.2 in let none = k.3 in let few = d.5 in omega (arith, one, none, few)))
+        (x ∷ d.0, d.1, d.2, (u, step, d.3), d.4, (let one = k.0 in let none = k.1 in let few = d.5 in omega (arith, one, none, few)))
 
     above_less : (high : Option ℕ) (n i j : ℕ) → i + n ≤ j → IfSome high (λ u. j ≤ u) → IfSome (option_map (λ u. u - n) high) (λ u. i ≤ u)
     above_less None n i j le h = tt
