@@ -9,3 +9,4 @@ pub mod consuming;
 pub mod equal;
 pub mod making;
 pub mod ranges;
+pub mod sources;

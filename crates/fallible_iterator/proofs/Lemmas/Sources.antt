@@ -7,5 +7,6 @@ pub mod IntoFallible
 pub mod Once
 pub mod Repeat
 pub mod Std
+pub mod StdChains
 pub mod StdFold
 pub mod StdListed

@@ -4,7 +4,7 @@ ghost use Rattle.std.specs.Iterator.Adapters.{fuse_source, fuse_done};
 ghost use Rattle.fallible_contract.specs.Contract.{seen_as};
 ghost use Rattle.fallible_contract.specs.Lists.{Lists, ListsForGood, RunsRead, Repeats, results, items};
 ghost use Rattle.fallible_contract.specs.Closures.{IsCallable};
-ghost use Rattle.fallible_iterator.specs.Sources.Convert.{convert_parts, convert_contract};
+ghost use Rattle.fallible_iterator.specs.Sources.Convert.{ItemsRead, convert_parts, convert_contract};
 ghost use Rattle.fallible_iterator.specs.Sources.FromFn.{from_fn_parts, from_fn_contract, call_of_none, CallsGive, CallsTakeShown};
 ghost use Rattle.fallible_iterator.specs.Sources.Once.{once_parts, once_contract};
 ghost use Rattle.fallible_iterator.specs.Sources.Empty.{empty_contract};
@@ -35,7 +35,7 @@ pub fn convert<T, E, I: Iterator<Item = Result<T, E>>>(it: I) -> Convert<I>
     ensures results { (l : List (Result T E)) → RunsRead I.next_gives (λ y. y) it l
         → Lists (seen_as convert_parts (convert_contract I.can_next I.next_gives I.remaining)).steps
         result (results l) }
-    ensures items { (l : List T) → RunsRead I.next_gives Ok it l
+    ensures items { (l : List T) → ItemsRead I.next_gives it l
         → Lists (seen_as convert_parts
         (convert_contract {A = T} {E = E} I.can_next I.next_gives I.remaining)).steps result
         (items l) }
