@@ -1,11 +1,88 @@
-//! A collection of one's own.
-ghost use Rattle.std.specs.Prelude.{◌≡◌, ◌≤◌, ◌<◌, ℕ, Ok, Err, IfOk, length};
+//! Collections: std's six, and one of one's own.
+ghost use Rattle.std.specs.Prelude.{◌≡◌, ◌≤◌, ◌<◌, ◌*◌, ℕ, Ok, Err, IfOk, length, nat_eq};
+ghost use Rattle.std.specs.Ordering.{nat_cmp};
+ghost use Rattle.fallible_iterator.specs.Collecting.Keyed.{IsHashedMapOf, IsHashedSetOf, IsSortedMapOf, IsSortedSetOf};
 ghost use Rattle.fallible_iterator.specs.Fault.{Fault};
-ghost use Rattle.fallible_iterator.specs.Lists.{collected, on_value, results};
+ghost use Rattle.fallible_iterator.specs.Lists.{CollectedAs, collected, items, mapped, on_value, results};
 ghost use Rattle.std.specs.declared.alloc.AllocError.{AllocError};
 
 use fallible_iterator::{Collect, FallibleIterator, Fault, convert};
 use std::alloc::{AllocError, Global};
+use std::collections::{BTreeMap, BTreeSet, HashMap, HashSet, VecDeque};
+
+/// The doubled numbers as a vector and as a deque, each where memory suffices.
+pub fn doubled_in_order(
+    alloc: Global,
+    numbers: &[u32],
+) -> (
+    Result<Vec<u64>, Fault<u8>>,
+    Result<VecDeque<u64>, Fault<u8>>,
+)
+    ensures vector { CollectedAs (λ xs c. c.items ≡ xs)
+        (mapped (λ x. Ok (x * 2)) (items numbers.now)) result.0 }
+    ensures deque { CollectedAs (λ xs c. c.items ≡ xs)
+        (mapped (λ x. Ok (x * 2)) (items numbers.now)) result.1 }
+{
+    let vector = convert(numbers.iter().copied().map(Ok))
+        .map(|number| Ok(u64::from(number) * 2))
+        .collect(alloc);
+    let deque = convert(numbers.iter().copied().map(Ok))
+        .map(|number| Ok(u64::from(number) * 2))
+        .collect(alloc);
+    (vector, deque)
+}
+
+/// The doubled readings as a sorted set, where memory suffices.
+pub fn doubled_sorted_set(
+    alloc: Global,
+    readings: Vec<Result<u32, u8>>,
+) -> Result<BTreeSet<u64>, Fault<u8>>
+    ensures { CollectedAs (λ xs c. IsSortedSetOf nat_cmp xs c)
+        (mapped (λ x. Ok (x * 2)) (results readings.items)) result }
+{
+    convert(readings.into_iter())
+        .map(|reading| Ok(u64::from(reading) * 2))
+        .collect(alloc)
+}
+
+/// The doubled readings as a hashed set, where memory suffices.
+pub fn doubled_hashed_set(
+    alloc: Global,
+    readings: Vec<Result<u32, u8>>,
+) -> Result<HashSet<u64>, Fault<u8>>
+    ensures { CollectedAs (λ xs c. IsHashedSetOf nat_eq xs c)
+        (mapped (λ x. Ok (x * 2)) (results readings.items)) result }
+{
+    convert(readings.into_iter())
+        .map(|reading| Ok(u64::from(reading) * 2))
+        .collect(alloc)
+}
+
+/// The double of each reading, in a sorted map, where memory suffices.
+pub fn doubled_sorted_map(
+    alloc: Global,
+    readings: Vec<Result<u32, u8>>,
+) -> Result<BTreeMap<u32, u64>, Fault<u8>>
+    ensures { CollectedAs (λ xs c. IsSortedMapOf nat_cmp xs c)
+        (mapped (λ x. Ok (x, x * 2)) (results readings.items)) result }
+{
+    convert(readings.into_iter())
+        .map(|reading| Ok((reading, u64::from(reading) * 2)))
+        .collect(alloc)
+}
+
+/// The double of each reading, in a hashed map, where memory suffices.
+pub fn doubled_hashed_map(
+    alloc: Global,
+    readings: Vec<Result<u32, u8>>,
+) -> Result<HashMap<u32, u64>, Fault<u8>>
+    ensures { CollectedAs (λ xs c. IsHashedMapOf nat_eq xs c)
+        (mapped (λ x. Ok (x, x * 2)) (results readings.items)) result }
+{
+    convert(readings.into_iter())
+        .map(|reading| Ok((reading, u64::from(reading) * 2)))
+        .collect(alloc)
+}
 
 /// How many items came. It refuses each behind the thousandth.
 #[derive(Drop)]
