@@ -2,7 +2,7 @@
 ghost use Rattle.std.specs.Prelude.{◌≡◌, ◌+◌, ◌%◌, ◌^◌, ℕ, Bool, List, Option, Result, Some, None, Ok, Err};
 ghost use Rattle.fallible_iterator.specs.Closures.{IsCallable, call_at, takes_at};
 ghost use Rattle.fallible_iterator.specs.Filtering.Filter.{filter_parts};
-ghost use Rattle.fallible_iterator.specs.Lists.{Acts, Lists, rest_first, filtered, folded, nth_of, results, skipped, taken};
+ghost use Rattle.fallible_iterator.specs.Lists.{Acts, Lists, failures_mapped, rest_first, filtered, folded, nth_of, results, skipped, taken};
 ghost use Rattle.fallible_callers_drawing.specs.declared.idioms.NoRow.{NoRow};
 
 use fallible_iterator::{FallibleIterator, Filter, Skip, Take, convert};
@@ -61,6 +61,56 @@ where
         → Lists I.contract.steps rows l → nth_of 0 l ≡ Ok (Some x)
         → nth_of 0 (rest_first l) ≡ Err e → result ≡ Err (NoRow.Failed e) }
 {
+    let Some(first) = rows.draw()? else {
+        return Err(NoRow::Missing);
+    };
+    match rows.draw()? {
+        Some(_) => Err(NoRow::Several),
+        None => Ok(first),
+    }
+}
+
+/// The only row of the readings; or why there is none. Each failure is the program's own before it is drawn.
+pub fn only_row(readings: Vec<Result<u32, u8>>) -> Result<u32, NoRow>
+    ensures one { let l : List (Result ℕ NoRow) = failures_mapped (λ e. NoRow.Failed e)
+        (results readings.items) in (x : ℕ) → nth_of 0 l ≡ Ok (Some x)
+        → nth_of 0 (rest_first l) ≡ Ok None → result ≡ Ok x }
+    ensures none { let l : List (Result ℕ NoRow) = failures_mapped (λ e. NoRow.Failed e)
+        (results readings.items) in nth_of 0 l ≡ Ok None → result ≡ Err NoRow.Missing }
+    ensures several { let l : List (Result ℕ NoRow) = failures_mapped (λ e. NoRow.Failed e)
+        (results readings.items) in (x y : ℕ) → nth_of 0 l ≡ Ok (Some x)
+        → nth_of 0 (rest_first l) ≡ Ok (Some y) → result ≡ Err NoRow.Several }
+    ensures first_fails { let l : List (Result ℕ NoRow) = failures_mapped (λ e. NoRow.Failed e)
+        (results readings.items) in (why : NoRow) → nth_of 0 l ≡ Err why → result ≡ Err why }
+    ensures second_fails { let l : List (Result ℕ NoRow) = failures_mapped (λ e. NoRow.Failed e)
+        (results readings.items) in (x : ℕ) (why : NoRow) → nth_of 0 l ≡ Ok (Some x)
+        → nth_of 0 (rest_first l) ≡ Err why → result ≡ Err why }
+{
+    let mut rows = convert(readings.into_iter()).map_err(|code: u8| NoRow::Failed(code));
+    let Some(first) = rows.draw()? else {
+        return Err(NoRow::Missing);
+    };
+    match rows.draw()? {
+        Some(_) => Err(NoRow::Several),
+        None => Ok(first),
+    }
+}
+
+/// The only reading; or why there is none. Each failure becomes the program's own where it is drawn.
+pub fn only_reading(readings: Vec<Result<u32, u8>>) -> Result<u32, NoRow>
+    ensures one { (x : ℕ) → nth_of 0 (results readings.items) ≡ Ok (Some x)
+        → nth_of 0 (rest_first (results readings.items)) ≡ Ok None → result ≡ Ok x }
+    ensures none { nth_of 0 (results readings.items) ≡ Ok None → result ≡ Err NoRow.Missing }
+    ensures several { (x y : ℕ) → nth_of 0 (results readings.items) ≡ Ok (Some x)
+        → nth_of 0 (rest_first (results readings.items)) ≡ Ok (Some y)
+        → result ≡ Err NoRow.Several }
+    ensures first_fails { (e : ℕ) → nth_of 0 (results readings.items) ≡ Err e
+        → result ≡ Err (NoRow.Failed e) }
+    ensures second_fails { (x e : ℕ) → nth_of 0 (results readings.items) ≡ Ok (Some x)
+        → nth_of 0 (rest_first (results readings.items)) ≡ Err e
+        → result ≡ Err (NoRow.Failed e) }
+{
+    let mut rows = convert(readings.into_iter());
     let Some(first) = rows.draw()? else {
         return Err(NoRow::Missing);
     };
