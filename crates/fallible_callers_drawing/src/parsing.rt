@@ -1,13 +1,17 @@
 //! The idioms of parsers: how many of each kind, a sum or why there is none, and what stands behind the items that were added up.
 ghost use Rattle.std.specs.Prelude.{◌≡◌, ◌+◌, ◌%◌, ◌^◌, ℕ, length, List, Result, Ok, Err, Option, IfOk, false, nat_lt, if◌then◌else◌};
+ghost use Rattle.std.specs.Fmt.{decimal};
+ghost use Rattle.std.specs.String.{string_bytes};
 ghost use Rattle.fallible_iterator.specs.Fault.{Fault};
-ghost use Rattle.fallible_iterator.specs.Lists.{Lists, all_of, rest_false, folded, nth_of, numbered, on_value, partitioned, results, taken_while};
+ghost use Rattle.fallible_iterator.specs.Lists.{Lists, all_of, rest_false, folded, mapped, nth_of, numbered, on_value, partitioned, results, taken_while};
+ghost use Rattle.fallible_iterator.specs.Making.{CollectedMade};
 ghost use Rattle.fallible_callers_drawing.specs.Full.{SideFull};
 ghost use Rattle.fallible_callers_drawing.specs.declared.parsing.NoSum.{NoSum};
+ghost use Rattle.fallible_callers_drawing.specs.declared.parsing.NoText.{NoText};
 ghost use Rattle.std.specs.declared.alloc.AllocError.{AllocError};
 
 use fallible_iterator::{FallibleIterator, Fault, convert};
-use std::alloc::Global;
+use std::alloc::{AllocError, Global};
 
 /// How many of the readings are above 100, and how many are not, or the first failure, where memory suffices. It is refused only where a vector of one side is full when a reading comes to it.
 pub fn how_many_each(
@@ -63,6 +67,40 @@ pub fn sum_or_place(readings: Vec<Result<u32, u8>>) -> Result<u64, NoSum>
             Ok(sum.wrapping_add(u64::from(placed.1)))
         },
     )
+}
+
+/// Why there is no text.
+#[derive(Debug, Drop, PartialEq)]
+pub enum NoText {
+    /// A reading failed, with this code.
+    Failed(u8),
+    /// Memory doesn't suffice.
+    Memory,
+}
+
+impl From<AllocError> for NoText {
+    ghost use Rattle.fallible_callers_drawing.specs.declared.parsing.NoText.TheVariants.{Memory};
+
+    ghost from_gives = { λ refused why. why ≡ Memory };
+
+    /// `NoText::Memory`
+    fn from(_: AllocError) -> NoText {
+        NoText::Memory
+    }
+}
+
+/// The readings as texts, or the first failure, up to a refused request for memory. The closure asks for memory at each reading.
+pub fn texts_of(
+    alloc: Global,
+    readings: Vec<Result<u32, NoText>>,
+) -> Result<Vec<String>, Fault<NoText>>
+    ensures { CollectedMade (λ bytes text. string_bytes text ≡ bytes)
+        (λ refused why. why ≡ NoText.Memory) (λ texts v. v.items ≡ texts)
+        (mapped (λ x. Ok (decimal x)) (results readings.items)) result }
+{
+    convert(readings.into_iter())
+        .map(|reading: u32| Ok(reading.to_string(alloc)?))
+        .collect(alloc)
 }
 
 /// The sum of the items below 10 that stand first, modulo 2 ^ 64, which are taken of a borrow. The item that ends them is drawn and lost.

@@ -13,6 +13,7 @@ pub mod Looking
 pub mod Looped
 pub mod Loops
 pub mod LoopsAtEnds
+pub mod Making
 pub mod Nests
 pub mod Sources
 pub mod Taking

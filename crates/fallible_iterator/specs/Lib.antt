@@ -6,6 +6,7 @@ pub mod Gathering
 pub mod Laws
 pub mod Listing
 pub mod Lists
+pub mod Making
 pub mod Nests
 pub mod ShowingEnds
 pub mod SoundHints
