@@ -120,7 +120,7 @@ impl<R: Read + Drop> ReadByte for Buffered<R> {
 
     /// The next byte of the buffer, and where that is empty what one read gives, which fills it.
     fn read_byte(&mut self) -> Result<Option<u8>, ReadFailed> {
-        let Some(byte) = self.buffered().first() else {
+        let Some(byte) = self.reader.buffer().get(self.given) else {
             self.reader.consume(self.given);
             self.given = 0;
             return byte_of(&mut self.reader);
@@ -175,6 +175,7 @@ impl ReadByte for Bytes<'_> {
     }
 
     fn consume_buffered(&mut self, count: usize) {
+        // Where none is taken, the value stays as it is.
         if count > 0 {
             self.bytes = &self.bytes[count..];
         }

@@ -18,7 +18,7 @@ use fallible_iterator::FallibleIterator;
 ///
 /// The bytes are cut at each newline (byte 10), and an empty last piece is no row. A row is a number where it is 1 to 20 ASCII digits with a value of at most 18446744073709551615; zeros may come first, and a sign, a blank or a carriage return may not.
 ///
-/// A draw asks the reader for one byte at a time, up to and with the newline that ends a row, or to the input's end; a row is judged then, also where it was known before to be no number. A row that stands whole in the reader's buffer (`ReadByte::buffered`) may be taken from there at once, and no byte behind its newline is. Where a read fails, for whatever reason, or a byte is wanted when as many as the limit were read, it answers the failure `Read`; the input's end wanted after the limit counts as a byte. An interrupted read isn't tried again. After `Read` and after the input's end it ends for good and reads no more.
+/// A draw asks the reader for one byte at a time, up to and with the newline that ends a row, or to the input's end; a row is judged then, also where it was known before to be no number. A row that stands whole in the reader's buffer (`ReadByte::buffered`) may be taken from there at once, with its newline and no byte behind it. Where a read fails, for whatever reason, or a byte is wanted when as many as the limit were read, it answers the failure `Read`; the input's end wanted after the limit counts as a byte. An interrupted read isn't tried again. After `Read` and after the input's end it ends for good and reads no more.
 ///
 /// It states no bound, so it is drained through `take`. Neither its making nor a draw takes memory.
 #[derive(Drop)]
