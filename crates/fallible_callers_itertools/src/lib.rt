@@ -2,6 +2,7 @@
 #![tactic(auto)]
 
 pub mod extremes;
+pub mod failing;
 pub mod holding;
 pub mod interspersing;
 pub mod joining;

@@ -16,12 +16,14 @@ pub mod HoldingHints
 pub mod HoldingLists
 pub mod HoldingTraces
 pub mod HoldingMade
+pub mod InspectErr
 pub mod Intersperse
 pub mod IntersperseFolds
 pub mod IntersperseHints
 pub mod IntersperseTraces
 pub mod LoopsMade
 pub mod MergeBy
+pub mod OrElse
 pub mod PeekingTakeWhile
 pub mod Sides
 pub mod TakeWhileInclusive

@@ -7,8 +7,10 @@ pub mod Dedup
 pub mod DedupByKey
 pub mod Holding
 pub mod HoldingEnds
+pub mod InspectErr
 pub mod Intersperse
 pub mod MergeBy
+pub mod OrElse
 pub mod PeekingTakeWhile
 pub mod Sides
 pub mod TakeWhileInclusive

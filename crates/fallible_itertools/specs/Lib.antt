@@ -13,11 +13,13 @@ pub mod FromBack
 pub mod Growing
 pub mod Holding
 pub mod HoldingEnds
+pub mod InspectErr
 pub mod Intersperse
 pub mod Joined
 pub mod Laws
 pub mod MergeBy
 pub mod MinMax
+pub mod OrElse
 pub mod PeekingTakeWhile
 pub mod Sides
 pub mod Sorting

@@ -1,6 +1,7 @@
 //! What a trace of each adapter is, and that hints are sound, as functions whose body is empty or calls other laws.
 
 mod copied;
+mod failing;
 mod grouping;
 mod holding;
 mod intersperse;
@@ -12,6 +13,11 @@ mod zip_longest;
 pub use copied::{
     law_back_copied, law_copied, law_hints_back_copied, law_hints_copied, law_hints_listed_copied,
     law_listed_copied,
+};
+pub use failing::{
+    law_back_inspect_err, law_back_or_else, law_hints_back_inspect_err, law_hints_inspect_err,
+    law_hints_listed_inspect_err, law_hints_or_else, law_inspect_err, law_listed_inspect_err,
+    law_listed_or_else, law_or_else,
 };
 pub use grouping::{
     law_chunk_by, law_chunked, law_chunked_by, law_chunks, law_hints_chunk_by, law_hints_chunks,

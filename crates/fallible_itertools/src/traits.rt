@@ -24,6 +24,8 @@ ghost use Rattle.fallible_itertools.specs.DedupByKey.{dedup_by_key_contract, ded
 ghost use Rattle.fallible_itertools.specs.Few.{AtMostOne, at_most_one_of, wanting_one};
 ghost use Rattle.fallible_itertools.specs.Growing.{ListsMade};
 ghost use Rattle.fallible_itertools.specs.Holding.{MayBeAsked};
+ghost use Rattle.fallible_itertools.specs.InspectErr.{inspect_err_contract, inspect_err_parts, seen_call};
+ghost use Rattle.fallible_itertools.specs.OrElse.{or_else_contract, or_else_parts, recovered};
 ghost use Rattle.fallible_itertools.specs.Intersperse.{intersperse_contract, intersperse_parts, interspersed};
 ghost use Rattle.fallible_itertools.specs.Joined.{JoinedAs};
 ghost use Rattle.fallible_itertools.specs.MergeBy.{call_on_two, merge_by_closure, merge_by_contract, merge_by_left, merge_by_left_held, merge_by_parts, merge_by_right, merge_by_right_held, merged};
@@ -48,10 +50,12 @@ use crate::counted::Tally;
 use crate::dedup::Dedup;
 use crate::dedup_by_key::DedupByKey;
 use crate::few::NotOne;
+use crate::inspect_err::InspectErr;
 use crate::intersperse::Intersperse;
 use crate::joined::JoinTurn;
 use crate::merge_by::MergeBy;
 use crate::minmax::{MinMaxResult, MinMaxTurn};
+use crate::or_else::OrElse;
 use crate::sides::Holding;
 use crate::sorting::SortedTurn;
 use crate::stopping::{FoldWhile, FoldWhileTurn, while_or_stop};
@@ -487,6 +491,56 @@ pub trait FallibleItertools: FallibleIterator {
             it: self,
             taking: (false, predicate),
         }
+    }
+
+    // ---- adapters that act on failures
+
+    /// Shows each failure to the closure, and answers it then.
+    ///
+    /// Making it draws nothing. One call draws one answer, and calls the closure once where it is a failure. It fails as the source does. After a failure and after an end the next call draws the source again. It has a second end where the source has one.
+    ///
+    /// Asks that the closure may be called on a reference to each failure that may come.
+    ///
+    /// ```
+    /// convert(rows.into_iter())
+    ///     .inspect_err(|code| *noted = Some(*code))
+    ///     .count()
+    /// ```
+    final fn inspect_err<F>(self, f: F) -> InspectErr<Self, F>
+    where
+        F: FnMut(&Self::Error),
+        requires { IsCallable (call_at F.FnMut) (takes_at F.FnMut)
+            (Self.contract.may_fail self) f }
+        ensures parts { inspect_err_parts result ≡ (self, f) }
+        ensures callable { IsCallable (seen_call F.FnMut) (takes_at F.FnMut)
+            (Self.contract.may_fail self) f }
+        ensures lists { OverList Self.contract.steps self
+            (λ l. Lists (seen_as inspect_err_parts
+            (inspect_err_contract Self.contract F.FnMut)).steps result l) }
+    {
+        InspectErr { it: self, f }
+    }
+
+    /// Puts in the place of each failure what the closure makes of it: an item, nothing or another failure.
+    ///
+    /// Making it draws nothing. One call draws up to an item, an end, or a failure on which the closure answers an item or fails; it calls the closure once on each failure. It fails with the closure's failures alone. After a failure and after an end the next call draws the source again. It has a second end where the source has one.
+    ///
+    /// Asks that the closure may be called on each failure that may come. Each draw asks that the source may be drawn from and is finite, and that what remains of it has a bound, since one draw may leave many failures out.
+    ///
+    /// ```
+    /// convert(rows.into_iter()).or_else(|_| Ok(None)).count()
+    /// ```
+    final fn or_else<E, F>(self, f: F) -> OrElse<Self, F>
+    where
+        F: FnMut(Self::Error) -> Result<Option<Self::Item>, E>,
+        requires { IsCallable (call_on F.FnMut) (takes_on F.FnMut)
+            (Self.contract.may_fail self) f }
+        ensures parts { or_else_parts result ≡ (self, f) }
+        ensures lists { OverListWith (Acts (call_on F.FnMut) f) Self.contract.steps self
+            (λ h l. Lists (seen_as or_else_parts (or_else_contract Self.contract F.FnMut)).steps
+            result (recovered h l)) }
+    {
+        OrElse { it: self, f }
     }
 
     // ---- adapters that join

@@ -1,0 +1,107 @@
+// The laws of the adapters that act on failures.
+ghost use Rattle.std.specs.Prelude.{List, Result, Option};
+ghost use Rattle.fallible_iterator.specs.BothEnds.{ListsBothEnds};
+ghost use Rattle.fallible_iterator.specs.Closures.{call_on};
+ghost use Rattle.fallible_iterator.specs.Ends.{from_back};
+ghost use Rattle.fallible_iterator.specs.LawForm.{TracesAre};
+ghost use Rattle.fallible_iterator.specs.Lists.{Acts};
+ghost use Rattle.fallible_iterator.specs.SoundHints.{KeepsBounds, KeepsBrackets, SoundHints};
+ghost use Rattle.fallible_itertools.specs.InspectErr.{InspectErrTrace, inspect_err_parts, inspect_err_source};
+ghost use Rattle.fallible_itertools.specs.OrElse.{OrElseTrace, or_else_closure, or_else_parts, or_else_source, recovered};
+
+use crate::inspect_err::InspectErr;
+use crate::or_else::OrElse;
+use fallible_iterator::{DoubleEndedFallibleIterator, FallibleIterator};
+
+// ---- `InspectErr`
+
+/// The answers of `InspectErr` are the source's, and its closure is called on a reference to each failure, in order.
+pub fn law_inspect_err<I: FallibleIterator, F: FnMut(&I::Error)>()
+where
+    ensures { TracesAre inspect_err_parts
+        ⟦<InspectErr<I, F> as FallibleIterator>⟧.contract.steps
+        (InspectErrTrace I.contract.steps F.FnMut) }
+{}
+
+/// From the back the answers of `InspectErr` are the source's from the back, and its closure is called on a reference to each failure, in order.
+pub fn law_back_inspect_err<I: DoubleEndedFallibleIterator, F: FnMut(&I::Error)>()
+where
+    ensures { TracesAre inspect_err_parts
+        ⟦<InspectErr<I, F> as DoubleEndedFallibleIterator>⟧.ends.steps
+        (InspectErrTrace I.ends.steps F.FnMut) }
+{}
+
+/// Each hint of `InspectErr` is as sound as the hint of its source that it is made of.
+pub fn law_hints_inspect_err<I: FallibleIterator, F: FnMut(&I::Error)>()
+where
+    ensures { (s : InspectErr I F)
+        → KeepsBrackets ⟦<InspectErr<I, F> as FallibleIterator>⟧.contract s I.contract
+        (inspect_err_source s) }
+{}
+
+/// From the back each hint of `InspectErr` is as sound as the hint of its source that it is made of.
+pub fn law_hints_back_inspect_err<I: DoubleEndedFallibleIterator, F: FnMut(&I::Error)>()
+where
+    ensures { (s : InspectErr I F)
+        → KeepsBrackets (from_back ⟦<InspectErr<I, F> as FallibleIterator>⟧.contract
+        ⟦<InspectErr<I, F> as DoubleEndedFallibleIterator>⟧.ends) s
+        (from_back I.contract I.ends) (inspect_err_source s) }
+{}
+
+/// From both ends `InspectErr` lists what its source lists.
+pub fn law_listed_inspect_err<I: DoubleEndedFallibleIterator, F: FnMut(&I::Error)>()
+where
+    ensures { (s : InspectErr I F) (l : List (Result I.Item I.Error))
+        → ListsBothEnds I.contract.steps I.ends.steps (inspect_err_source s) l
+        → ListsBothEnds ⟦<InspectErr<I, F> as FallibleIterator>⟧.contract.steps
+        ⟦<InspectErr<I, F> as DoubleEndedFallibleIterator>⟧.ends.steps s l }
+{}
+
+/// Each hint of `InspectErr` bounds its list wherever a hint of its source bounds the source's list.
+pub fn law_hints_listed_inspect_err<I: FallibleIterator, F: FnMut(&I::Error)>()
+where
+    ensures { (s : InspectErr I F) (l : List (Result I.Item I.Error))
+        → KeepsBounds ⟦<InspectErr<I, F> as FallibleIterator>⟧.contract s l I.contract
+        (inspect_err_source s) l }
+{}
+
+// ---- `OrElse`
+
+/// The answers of `OrElse` are the source's without the failures answered none, with the item or the failure that the closure answers in each other failure's place.
+pub fn law_or_else<I: FallibleIterator, E, F: FnMut(I::Error) -> Result<Option<I::Item>, E>>()
+where
+    ensures { TracesAre or_else_parts ⟦<OrElse<I, F> as FallibleIterator>⟧.contract.steps
+        (OrElseTrace I.contract.steps F.FnMut) }
+{}
+
+/// From the back the answers of `OrElse` are the source's from the back without the failures answered none, with the item or the failure that the closure answers in each other failure's place.
+pub fn law_back_or_else<
+    I: DoubleEndedFallibleIterator,
+    E,
+    F: FnMut(I::Error) -> Result<Option<I::Item>, E>,
+>()
+where
+    ensures { TracesAre or_else_parts
+        ⟦<OrElse<I, F> as DoubleEndedFallibleIterator>⟧.ends.steps
+        (OrElseTrace I.ends.steps F.FnMut) }
+{}
+
+/// Each hint of `OrElse` brackets what comes, since it says nothing.
+pub fn law_hints_or_else<I: FallibleIterator, E, F: FnMut(I::Error) -> Result<Option<I::Item>, E>>()
+where
+    ensures { (s : OrElse I F) → SoundHints ⟦<OrElse<I, F> as FallibleIterator>⟧.contract s }
+{}
+
+/// From both ends `OrElse` lists what its closure makes of each failure of its source's list in the failure's place, where the closure acts as a function.
+pub fn law_listed_or_else<
+    I: DoubleEndedFallibleIterator,
+    E,
+    F: FnMut(I::Error) -> Result<Option<I::Item>, E>,
+>()
+where
+    ensures { (s : OrElse I F) (h : I.Error → Result (Option I.Item) E)
+        (l : List (Result I.Item I.Error)) → Acts (call_on F.FnMut) (or_else_closure s) h
+        → ListsBothEnds I.contract.steps I.ends.steps (or_else_source s) l
+        → ListsBothEnds ⟦<OrElse<I, F> as FallibleIterator>⟧.contract.steps
+        ⟦<OrElse<I, F> as DoubleEndedFallibleIterator>⟧.ends.steps s (recovered h l) }
+{}
