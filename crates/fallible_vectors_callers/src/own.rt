@@ -162,5 +162,9 @@ fn a_source_is_asked_again(rt: HostRuntime) -> Result<(), Fail> {
     expect_answers(&rt, &mut retried, &[Item(5), Failure(6), Item(7), End])?;
     let it = convert(Vec::from_array(rt.alloc(), FAILING)?.into_iter());
     let mut once_each = Retried::new(it, 0);
-    expect_answers(&rt, &mut once_each, &[Failure(1), Failure(2), Item(5), Failure(3)])
+    expect_answers(
+        &rt,
+        &mut once_each,
+        &[Failure(1), Failure(2), Item(5), Failure(3)],
+    )
 }
