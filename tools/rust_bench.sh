@@ -19,7 +19,8 @@ if [ -z "$crate" ]; then
     crate=$work/made/fallible-iterator
 fi
 if [ -z "$original" ] && ! ls -d /usr/share/cargo/registry/fallible-iterator-[0-9]* >/dev/null 2>&1; then
-    (cd "$work" && apt-get download librust-fallible-iterator-dev >/dev/null 2>&1 && dpkg-deb -x librust-*.deb debian)
+    (cd "$work" && apt-get download librust-fallible-iterator-dev >/dev/null 2>&1 && dpkg-deb -x librust-*.deb debian) ||
+        { echo "apt-get download finds no librust-fallible-iterator-dev: run apt-get update" >&2; exit 2; }
     original=$(echo "$work"/debian/usr/share/cargo/registry/fallible-iterator-[0-9]*)
 fi
 original=${original:-$(echo /usr/share/cargo/registry/fallible-iterator-[0-9]*)}
