@@ -84,6 +84,26 @@ fn counted_and_joined(rt: HostRuntime) -> Result<(), Fail> {
     }
 }
 
+// So many that their text has 1,003 bytes.
+const MANY: [Result<u32, u32>; 201] = [Ok(100); 201];
+
+// Memory is not refused after some keys, or some bytes.
+#[test]
+fn many_are_counted_and_joined(rt: HostRuntime) -> Result<(), Fail> {
+    let counts = numbers(&MANY)
+        .enumerate()
+        .map(|(n, _)| Ok(n))
+        .counts(rt.alloc());
+    match counts {
+        Ok(counts) => expect_same(&counts.len(), &201)?,
+        Err(_) => return Err(Fail::new("nothing was counted")),
+    }
+    match numbers(&MANY).join(rt.alloc(), ", ") {
+        Ok(text) => expect_same(&text.len(), &1003),
+        Err(_) => Err(Fail::new("nothing was joined")),
+    }
+}
+
 // Orders the last digits; a failure of 50 at 5.
 fn last_digits(x: u32, y: u32) -> Result<Ordering, u32> {
     if x == 5 {
