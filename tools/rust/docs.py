@@ -53,7 +53,7 @@ SAYS = [
     (r" ?Where (?:a|the) clone(?: for the first run)? is refused,[^.]*\.", ""),
     (r" ?Where memory[^.]*is refused[^.]*\.", ""),
     (r", and where a clone is refused, with the failure made of the refusal", ""),
-    (r"; where memory is refused, the failure made of the refusal is", ""),
+    (r", and so is the failure made of a refused request for memory", ""),
     (r", or memory for an item is refused, that failure", ", its failure"),
     (r", calls nothing and takes no memory", " and calls nothing"),
     (r" and takes no memory", ""),

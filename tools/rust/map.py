@@ -95,7 +95,7 @@ ITERTOOLS = [
     # No allocator is passed.
     (GROUPS, r"^    pub\(crate\) alloc: Global,\n", "", 2),
     (GROUPS, r"^struct (Chunk\w+) \{\n    alloc: Global,\n\}", r"struct \1;", 2),
-    (GROUPS, r"let adapter = (\w+) \{ alloc: self\.alloc \};", r"let adapter = \1;", 2),
+    (GROUPS, r"let adapter = (\w+) \{ alloc: self\.alloc \};", r"let adapter = \1;", 3),
     (GROUPS, r"\b(alone|grouped)\((?:self\.)?alloc, ", r"\1(", 4),
     (r"chunk_by\.rs", r"^    alloc: Global,\n", "", 1),
     (r"traits\.rs", r"^            alloc,\n", "", 2),

@@ -75,8 +75,6 @@ fn in_order(x: &u32, y: &u32) -> Result<bool, TestError> {
     Ok(*x <= *y)
 }
 
-const TWO_BY_TWO_FOLDS: Folded = (Ok(2), TWO_FOLDS);
-
 const DRAWN: (Result<Option<u32>, TestError>, Calls) = (Ok(Some(1)), ONE_FOLD);
 
 const ONE_BY_ONE_FOLD: Folded = (Ok(1), ONE_FOLD);
@@ -97,25 +95,23 @@ fn adapters_that_hold_fold_up_to_an_end(rt: HostRuntime) -> Result<(), Fail> {
     expect_folded(&mut it, &log, &TWO_BY_ONE_FOLD)?;
     let mut it = one_one_two(alloc, &log)?.coalesce(one_of_equal);
     expect_folded(&mut it, &log, &TWO_BY_ONE_FOLD)?;
+    let mut it = one_one_two(alloc, &log)?.chunk_by(alloc, itself);
+    expect_folded(&mut it, &log, &TWO_BY_ONE_FOLD)?;
+    let mut twos = one_one_two(alloc, &log)?.chunks(alloc, 2);
+    expect_folded(&mut twos, &log, &TWO_BY_ONE_FOLD)?;
+    let mut threes = one_one_two(alloc, &log)?.chunks(alloc, 3);
+    expect_folded(&mut threes, &log, &ONE_BY_ONE_FOLD)?;
     // A draw is a fold too, which stops.
     let answers = [Ok(Some(1)), Ok(Some(1))];
     let mut drawn = Counted::new(scripted(alloc, answers)?, &log).dedup();
     assert_eq!(rt; (drawn.next(), log.take()), DRAWN);
     assert_eq!(rt; (drawn.next(), log.take()), DUE);
+    // One of `chunks` is draws, as many as a batch has items.
+    let mut twos = one_one_two(alloc, &log)?
+        .chunks(alloc, 2)
+        .map(|batch| Ok(batch.len()));
+    assert_eq!(rt; (twos.next(), log.take()), (Ok(Some(2)), TWO_NEXTS));
     Ok(())
-}
-
-// What is held at an end is answered there, and then the source is folded on: a fold for each end at which something is held, and one for the end at which nothing is.
-#[test]
-fn adapters_that_group_fold_on_behind_an_end_that_answers(rt: HostRuntime) -> Result<(), Fail> {
-    let (alloc, log) = (rt.alloc(), Log::new());
-    let mut it = one_one_two(alloc, &log)?.chunk_by(alloc, itself);
-    expect_folded(&mut it, &log, &TWO_BY_TWO_FOLDS)?;
-    // No batch of three is held at the end.
-    let mut twos = one_one_two(alloc, &log)?.chunks(alloc, 2);
-    expect_folded(&mut twos, &log, &TWO_BY_TWO_FOLDS)?;
-    let mut threes = one_one_two(alloc, &log)?.chunks(alloc, 3);
-    expect_folded(&mut threes, &log, &ONE_BY_ONE_FOLD)
 }
 
 const TWO_BY_ONE_FOLD: Folded = (Ok(2), ONE_FOLD);

@@ -21,9 +21,7 @@ use std::vec::IntoIter;
 // A case of numbers, or of items with numbers.
 type NumbersCase = Case<'static, u32, TestError>;
 
-// What is hinted where at least one item comes, and where nothing is known.
-const ONE_AT_LEAST: Hint = (1, None);
-
+// What is hinted where nothing is known.
 const UNKNOWN: Hint = (0, None);
 
 // What is hinted where at least one of three comes.
@@ -141,11 +139,11 @@ fn refused_clones_of_adapters_that_clone(rt: HostRuntime) -> Result<(), Fail> {
     expect_refused_clones_of_asking(&rt, &r, &mut it, &OF_INTERSPERSE)
 }
 
-const OF_CHUNKS: Asks<'static> = ("Chunks", 3, [(2, None), UNKNOWN]);
+const OF_CHUNKS: Asks<'static> = ("Chunks", 2, [(2, Some(4)), NONE]);
 
-const OF_CHUNK_BY: Asks<'static> = ("ChunkBy", 3, [ONE_AT_LEAST, UNKNOWN]);
+const OF_CHUNK_BY: Asks<'static> = ("ChunkBy", 3, [UP_TO_THREE, NONE]);
 
-// A batch of one number is held at the failure, and a group of one behind the first group.
+// The failure is due behind a batch of one number, and a group of one is held behind the first group.
 #[test]
 fn refused_clones_of_batches_and_groups(rt: HostRuntime) -> Result<(), Fail> {
     let r = Requests::refusing(u32::MAX);
@@ -157,10 +155,10 @@ fn refused_clones_of_batches_and_groups(rt: HostRuntime) -> Result<(), Fail> {
     ];
     let source = listed::<Number<'_>, TestError, 4>(rt.alloc(), items)?;
     let mut it = source.chunks(rt.alloc(), 2);
-    let first = Vec::from_array(rt.alloc(), [Number::new(1, &r), Number::new(2, &r)])?;
-    let second = Vec::from_array(rt.alloc(), [Number::new(3, &r)])?;
-    let expected = [Item(first), Item(second), End];
-    expect_refused_clones_that(&rt, &r, &mut it, OF_CHUNKS, &[Failure(NINE)], &expected)?;
+    let first = Vec::from_array(rt.alloc(), [Number::new(1, &r)])?;
+    let second = Vec::from_array(rt.alloc(), [Number::new(2, &r), Number::new(3, &r)])?;
+    let expected = [Failure(NINE), Item(second), End];
+    expect_refused_clones_that(&rt, &r, &mut it, OF_CHUNKS, &[Item(first)], &expected)?;
     let mut it = up_to_three(rt.alloc(), &r)?.chunk_by(rt.alloc(), half);
     let first = Vec::from_array(rt.alloc(), [Number::new(1, &r)])?;
     let second = Vec::from_array(rt.alloc(), [Number::new(2, &r), Number::new(3, &r)])?;

@@ -9,9 +9,6 @@ pub mod Copied
 pub mod Dedup
 pub mod DedupByKey
 pub mod Holding
-pub mod HoldingEnds
-pub mod HoldingEndsHints
-pub mod HoldingEndsLists
 pub mod HoldingHints
 pub mod HoldingLists
 pub mod HoldingTraces

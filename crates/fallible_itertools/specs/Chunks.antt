@@ -3,7 +3,8 @@ use Rattle.std.specs.Prelude.{◌≡◌, ℕ, ◌+◌, ◌-◌, ◌/◌, ◌<◌
 use Rattle.fallible_iterator.specs.Traces.{Answered}
 use Rattle.fallible_iterator.specs.Contract.{Contract}
 use Rattle.fallible_itertools.specs.Growing.{Grown, NoRoom, SameHeld, IsRefusal}
-use Rattle.fallible_itertools.specs.HoldingEnds.{HoldingTrace, holding_contract, held_one}
+use Rattle.fallible_iterator.specs.Hints.{fitting_sum}
+use Rattle.fallible_itertools.specs.Holding.{HoldingTrace, filling_contract, held_one}
 use Rattle.fallible_iterator.specs.Outcome.{Outcome}
 use Rattle.fallible_iterator.specs.Outcome.TheVariants.{Kept, LeftOut, Failure, End}
 use Rattle.std.specs.declared.vec.Vec.{Vec}
@@ -19,7 +20,7 @@ Settles w p (Failure e) q = ⊥
 Settles w p End q = ⊥
 
 module _ {A E : Type 0} (from : AllocError → E → Type 0) where
-  -- A batch is held until it has n items or an end comes: an item is put behind those that are held, and the batch that has n then is answered. An end answers the batch that is held. Where memory is refused the item is lost, and the items before it stay held.
+  -- A batch is held until it has n items or a stop comes: an item is put behind those that are held, and the batch that has n then is answered. A stop gives the batch that is held. Where memory is refused the item is lost, and that is a stop.
   abbrev pub chunks_asks : ℕ × Option (Vec A Global) → Option A → Outcome (Vec A Global) E → ℕ × Option (Vec A Global) → Type 0
   chunks_asks p (Some x) (Kept w) q = Grown p.1 x w × (p.0 ≤ length (vec_items w)) × (q ≡ (p.0, None))
   chunks_asks p (Some x) LeftOut q = (w : Vec A Global) × Grown p.1 x w × (length (vec_items w) < p.0) × (q ≡ (p.0, Some w))
@@ -30,8 +31,8 @@ module _ {A E : Type 0} (from : AllocError → E → Type 0) where
   chunks_asks p None (Failure e) q = ⊥
   chunks_asks p None End q = (p.1 ≡ None) × (q ≡ p)
 
-  -- `Chunks`: the source's trace with its items in batches, each where its last item stands or an end; failures between the items part nothing.
-  abbrev pub ChunksTrace : {S : Type 0} → (S → Answered A E → S → Type 0) → S × (ℕ × Option (Vec A Global)) → List (Answered (Vec A Global) E) → S × (ℕ × Option (Vec A Global)) → Type 0
+  -- `Chunks`: the items in batches, each where its last item stands or a stop. A refused request is a stop.
+  abbrev pub ChunksTrace : {S : Type 0} → (S → Answered A E → S → Type 0) → S × ((ℕ × Option (Vec A Global)) × Option (Option E)) → List (Answered (Vec A Global) E) → S × ((ℕ × Option (Vec A Global)) × Option (Option E)) → Type 0
   ChunksTrace steps p trace q = HoldingTrace steps chunks_asks p trace q
 
 -- a batch that is held, or none
@@ -47,21 +48,22 @@ room_left n (Some v) = max 1 (n - length (vec_items v))
 abbrev pub begun : ℕ → ℕ → ℕ → ℕ
 begun n room k = cond (leb k room) 0 (1 + (k - 1 - room) / max n 1)
 
--- At least the batch that is held and those that the source's items begin. There is no upper bound: behind an end the source may go on.
-abbrev pub chunks_hints : {S A E : Type 0} → Contract S A E → S × (ℕ × Option (Vec A Global)) → ℕ × Option ℕ → Type 0
-chunks_hints m p h = (k : ℕ × Option ℕ) × m.hints p.0 k × (h ≡ (held_one p.1.1 + begun p.1.0 (room_left p.1.0 p.1.1) k.0, None))
+-- At least the batch that is held and those that the source's items begin, and at most the one that is held and as many as the source has items, where that fits. None where a stop is due.
+abbrev pub chunks_hints : {S A E : Type 0} → Contract S A E → S × ((ℕ × Option (Vec A Global)) × Option (Option E)) → ℕ × Option ℕ → Type 0
+chunks_hints m (s, (p, Some stop)) h = h ≡ (0, Some 0)
+chunks_hints m (s, (p, None)) h = (k : ℕ × Option ℕ) × m.hints s k × (h.0 ≡ held_one p.1 + begun p.0 (room_left p.0 p.1) k.0) × (h.1 ≡ fitting_sum k.1 (Some (held_one p.1)))
 
--- `Chunks`' contract
-abbrev pub chunks_contract : {S A E : Type 0} → (AllocError → E → Type 0) → Contract S A E → Contract (S × (ℕ × Option (Vec A Global))) (Vec A Global) E
-chunks_contract from m = holding_contract m (chunks_asks from) (λ p x. ⊤) batch_held (chunks_hints m)
+-- `Chunks`' contract. It asks no bound of the source: one draw leaves out fewer items than a batch has.
+abbrev pub chunks_contract : {S A E : Type 0} → (AllocError → E → Type 0) → Contract S A E → Contract (S × ((ℕ × Option (Vec A Global)) × Option (Option E))) (Vec A Global) E
+chunks_contract from m = filling_contract m (chunks_asks from) (λ p x. ⊤) batch_held (chunks_hints m)
 
 -- ---- what it lists
 
 module _ {A E : Type 0} where
-  -- the batch that is left at the end, where it has items
-  abbrev pub last_batch : List A → List (Result (List A) E)
-  last_batch [] = []
-  last_batch (x ∷ xs) = Ok (x ∷ xs) ∷ []
+  -- the batch that is held, where it has items, before what comes at a stop
+  abbrev pub short_batch : List A → List (Result (List A) E) → List (Result (List A) E)
+  short_batch [] rest = rest
+  short_batch (x ∷ xs) rest = Ok (x ∷ xs) ∷ rest
 
   -- a batch that has too few items yet, or is whole
   abbrev pub batch_or : List A → Bool → List (Result (List A) E) → List (Result (List A) E) → List (Result (List A) E)
@@ -70,11 +72,11 @@ module _ {A E : Type 0} where
 
   -- the batches of n items, where the items xs are held before the list
   unfoldable pub chunked_from : ℕ → List A → List (Result A E) → List (Result (List A) E)
-  chunked_from n xs [] = last_batch xs
+  chunked_from n xs [] = short_batch xs []
   chunked_from n xs (Ok x ∷ l) = batch_or (xs ++ x ∷ []) (ltb (length (xs ++ x ∷ [])) n) (chunked_from n (xs ++ x ∷ []) l) (chunked_from n [] l)
-  chunked_from n xs (Err e ∷ l) = Err e ∷ chunked_from n xs l
+  chunked_from n xs (Err e ∷ l) = short_batch xs (Err e ∷ chunked_from n [] l)
 
-  -- the items in batches of n, of which the last may have fewer; a failure between the items of a batch parts nothing, and comes before it
+  -- the items in batches of n, of which one before a failure and the last may have fewer
   unfoldable pub chunked : ℕ → List (Result A E) → List (Result (List A) E)
   chunked n l = chunked_from n [] l
 
@@ -82,6 +84,11 @@ module _ {A E : Type 0} where
 abbrev pub joined : {A : Type 0} → List (List A) → List A
 joined [] = []
 joined (b ∷ bs) = b ++ joined bs
+
+-- each batch has some items, and at most n
+abbrev pub BatchesUpTo : {A : Type 0} → ℕ → List (List A) → Type 0
+BatchesUpTo n [] = ⊤
+BatchesUpTo n (b ∷ bs) = (0 < length b) × (length b ≤ n) × BatchesUpTo n bs
 
 -- Each batch has n items, but the last, which has some and at most n.
 abbrev pub BatchesOf : {A : Type 0} → ℕ → List (List A) → Type 0
@@ -97,6 +104,10 @@ chunks_source s = s.it
 abbrev pub chunks_size : {I A E : Type 0} → Chunks I A E → ℕ
 chunks_size s = s.batch.0
 
--- the source, and beside the size the batch that is held
-abbrev pub chunks_parts : {I A E : Type 0} → Chunks I A E → I × (ℕ × Option (Vec A Global))
-chunks_parts s = (chunks_source s, s.batch)
+-- the stop that is due, if one is
+abbrev pub chunks_due : {I A E : Type 0} → Chunks I A E → Option (Option E)
+chunks_due s = s.due
+
+-- the source, beside the size the batch that is held, and the stop that is due
+abbrev pub chunks_parts : {I A E : Type 0} → Chunks I A E → I × ((ℕ × Option (Vec A Global)) × Option (Option E))
+chunks_parts s = (s.it, (s.batch, s.due))

@@ -128,10 +128,10 @@ due_failures (Some (Some e)) = 1
 due_failures (Some None) = 0
 due_failures None = 0
 
--- The contract of such an adapter, which holds so many answers. It asks for a bound of the source, since one draw may leave many items out.
-abbrev pub holding_contract : {S P X B E : Type 0} → Contract S X E → (P → Option X → Outcome B E → P → Type 0) → (P → Option X → Type 0) → (P → ℕ) → (S × (P × Option (Option E)) → ℕ × Option ℕ → Type 0) → Contract (S × (P × Option (Option E))) B E
-holding_contract m asks pre held hints = record {
-  can_next = λ p. m.is_finite p.0 × m.can_next p.0 × IsCallable asks pre (MayBeAsked m p.0) p.1.0;
+-- The contract of such an adapter, which holds so many answers. It asks no bound of its source, so it serves one of which a draw leaves out a known number of items at most.
+abbrev pub filling_contract : {S P X B E : Type 0} → Contract S X E → (P → Option X → Outcome B E → P → Type 0) → (P → Option X → Type 0) → (P → ℕ) → (S × (P × Option (Option E)) → ℕ × Option ℕ → Type 0) → Contract (S × (P × Option (Option E))) B E
+filling_contract m asks pre held hints = record {
+  can_next = λ p. m.can_next p.0 × IsCallable asks pre (MayBeAsked m p.0) p.1.0;
   steps = λ p r q. holding_step asks m.steps p r q;
   bound = λ p n. (k : ℕ) × m.bound p.0 k × (k + held p.1.0 ≤ n);
   is_finite = λ p. m.is_finite p.0;
@@ -141,6 +141,10 @@ holding_contract m asks pre held hints = record {
   hints = hints;
   lenders = λ p. m.lenders p.0;
 }
+
+-- That of one that may leave out many: it asks for a bound of the source besides.
+abbrev pub holding_contract : {S P X B E : Type 0} → Contract S X E → (P → Option X → Outcome B E → P → Type 0) → (P → Option X → Type 0) → (P → ℕ) → (S × (P × Option (Option E)) → ℕ × Option ℕ → Type 0) → Contract (S × (P × Option (Option E))) B E
+holding_contract m asks pre held hints = record (filling_contract m asks pre held hints) { can_next = λ p. m.is_finite p.0 × m.can_next p.0 × IsCallable asks pre (MayBeAsked m p.0) p.1.0 }
 
 -- ---- the fold at a stop
 

@@ -6,7 +6,6 @@ pub mod Copied
 pub mod Dedup
 pub mod DedupByKey
 pub mod Holding
-pub mod HoldingEnds
 pub mod InspectErr
 pub mod Intersperse
 pub mod MergeBy

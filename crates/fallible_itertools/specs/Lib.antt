@@ -12,7 +12,6 @@ pub mod Few
 pub mod FromBack
 pub mod Growing
 pub mod Holding
-pub mod HoldingEnds
 pub mod InspectErr
 pub mod Intersperse
 pub mod Joined

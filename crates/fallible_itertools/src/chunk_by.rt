@@ -2,22 +2,24 @@
 ghost use Rattle.std.specs.Prelude.{Option, Result};
 ghost use Rattle.fallible_iterator.specs.Contract.{seen_as};
 ghost use Rattle.fallible_iterator.specs.Laws.Contract.{lawful_seen};
-ghost use Rattle.fallible_itertools.specs.ChunkBy.{chunk_by_asks, chunk_by_contract, chunk_by_parts, group_at_end, group_by, group_held, key_takes};
+ghost use Rattle.fallible_itertools.specs.ChunkBy.{chunk_by_asks, chunk_by_contract, chunk_by_parts, group_at_stop, group_by, group_held, key_takes};
 ghost use Rattle.fallible_itertools.specs.Laws.ChunkBy.{holds_chunk_by, lawful_chunk_by};
 
 use crate::growing::{alone, pushed};
-use crate::holding_ends::{Hold, at_least_one, drive_holding};
+use crate::holding::{Hold, drive_holding, with_held};
 use fallible_iterator::extending::{FirstTurn, Outcome};
 use fallible_iterator::{FallibleIterator, Turn};
 use std::alloc::{AllocError, Global};
 
-/// Groups of adjacent items of one key, each with its key. A group is held until an item of another key or an end comes. Where the key's closure fails, or memory for an item is refused, that failure is the answer, and the item is lost and no other.
+/// Groups of adjacent items of one key, each with its key. A group is held until an item of another key comes, or a stop: an end or a failure, which is answered next. Where the key's closure fails, or memory for an item is refused, that failure is a stop, and the item is lost and no other.
 #[derive(Clone, Debug, Drop)]
 pub struct ChunkBy<I: FallibleIterator, K, F> {
     pub(crate) it: I,
     pub(crate) alloc: Global,
     // the key's closure, and the group that is held, where there is one
     pub(crate) group: (F, Option<(K, Vec<I::Item>)>),
+    // the stop that is due: an end, or a failure
+    pub(crate) due: Option<Option<I::Error>>,
 }
 
 impl<
@@ -27,7 +29,7 @@ impl<
 > FallibleIterator for ChunkBy<I, K, F>
 where
     I::Item: Drop,
-    I::Error: From<AllocError>,
+    I::Error: Drop + From<AllocError>,
 {
     type Item = (K, Vec<I::Item>);
 
@@ -36,13 +38,17 @@ where
     ghost contract = { seen_as chunk_by_parts
         (chunk_by_contract I.Error.from_gives K.eq F.FnMut I.contract) };
 
-    /// Draws until an item has another key than the group that is held, or a failure or an end comes.
+    /// Answers the stop that is due, without a draw, or draws until an item has another key than the group that is held, or a stop comes.
     fn next(&mut self) -> Result<Option<(K, Vec<I::Item>)>, I::Error> {
         self.drive(&mut (), &FirstTurn)
     }
 
     fn size_hint(&self) -> (usize, Option<usize>) {
-        at_least_one(self.it.size_hint().0, self.group.1.is_some())
+        if self.due.is_some() {
+            (0, Some(0))
+        } else {
+            with_held(self.it.size_hint(), self.group.1.is_some())
+        }
     }
 
     fn drive<C, R, T: Turn<C, (K, Vec<I::Item>), R>>(
@@ -50,9 +56,15 @@ where
         state: &mut C,
         turn: &T,
     ) -> Result<Option<R>, I::Error> {
-        let left = (*self).number();
         let adapter = ChunkByHold { alloc: self.alloc };
-        drive_holding(&mut self.it, &mut self.group, &adapter, left, state, turn)
+        drive_holding(
+            &mut self.it,
+            &mut self.group,
+            &mut self.due,
+            &adapter,
+            state,
+            turn,
+        )
     }
 
     ghost lawful = { lawful_seen chunk_by_parts
@@ -78,6 +90,7 @@ impl<X: Drop, K: PartialEq + Drop, E: From<AllocError>, F: FnMut(&X) -> Result<K
 
     ghost held = { λ _ p. group_held p };
 
+    #[inline(always)]
     fn ask(&self, holds: &mut (F, Option<(K, Vec<X>)>), asked: Option<X>) -> Outcome<(K, Vec<X>), E>
         requires { key_takes F.FnMut holds.old asked }
         ensures { chunk_by_asks E.from_gives K.eq F.FnMut holds.old asked result holds.new }
@@ -87,7 +100,7 @@ impl<X: Drop, K: PartialEq + Drop, E: From<AllocError>, F: FnMut(&X) -> Result<K
                 let key = (holds.0)(&x);
                 grouped(self.alloc, &mut holds.1, x, key)
             }
-            None => ended(&mut holds.1),
+            None => stopped(&mut holds.1),
         }
     }
 
@@ -143,9 +156,9 @@ fn grouped<X: Drop, K: PartialEq + Drop, E: From<AllocError>>(
     }
 }
 
-// What becomes of an end.
-fn ended<X: Drop, K: Drop, E>(group: &mut Option<(K, Vec<X>)>) -> Outcome<(K, Vec<X>), E>
-    ensures { group_at_end group.old result group.new }
+// What becomes of a stop.
+fn stopped<X: Drop, K: Drop, E>(group: &mut Option<(K, Vec<X>)>) -> Outcome<(K, Vec<X>), E>
+    ensures { group_at_stop group.old result group.new }
 {
     match group.take() {
         Some(group) => Outcome::Kept(group),

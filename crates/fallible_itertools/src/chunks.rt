@@ -1,30 +1,32 @@
 // The adapter that gives batches of items.
-ghost use Rattle.std.specs.Prelude.{◌≡◌, ◌+◌, ⊤, Option, Result};
+ghost use Rattle.std.specs.Prelude.{◌≡◌, ◌+◌, ⊤, None, Option, Result};
 ghost use Rattle.fallible_iterator.specs.Contract.{seen_as};
 ghost use Rattle.fallible_iterator.specs.Laws.Contract.{lawful_seen};
 ghost use Rattle.fallible_itertools.specs.Chunks.{Settles, batch_held, begun, room_left, chunks_asks, chunks_contract, chunks_parts};
-ghost use Rattle.fallible_itertools.specs.HoldingEnds.{held_one};
+ghost use Rattle.fallible_itertools.specs.Holding.{held_one, holding_step};
 ghost use Rattle.fallible_itertools.specs.Laws.Chunks.{holds_chunks, lawful_chunks};
 
 use crate::growing::{alone, pushed};
-use crate::holding_ends::{Hold, drive_holding};
-use fallible_iterator::extending::{FirstTurn, Outcome};
+use crate::holding::{Hold, at_stop, drive_holding, with_held};
+use fallible_iterator::extending::Outcome;
 use fallible_iterator::{FallibleIterator, Turn};
 use std::alloc::{AllocError, Global};
 
-/// Batches of n items, of which one before an end may have fewer. A batch is held until it has n items or an end comes. Where memory for an item is refused, the failure made of the refusal is the answer, and that item is lost and no other.
+/// Batches of n items, of which one before a stop may have fewer. A batch is held until it has n items, or a stop comes: an end or a failure, which is answered next. Where memory for an item is refused, the failure made of the refusal is a stop, and that item is lost and no other.
 #[derive(Clone, Debug, Drop)]
 pub struct Chunks<I: FallibleIterator> {
     pub(crate) it: I,
     pub(crate) alloc: Global,
     // how many items a batch has, and the batch that is held, where it has any
     pub(crate) batch: (usize, Option<Vec<I::Item>>),
+    // the stop that is due: an end, or a failure
+    pub(crate) due: Option<Option<I::Error>>,
 }
 
 impl<I: FallibleIterator> FallibleIterator for Chunks<I>
 where
     I::Item: Drop,
-    I::Error: From<AllocError>,
+    I::Error: Drop + From<AllocError>,
 {
     type Item = Vec<I::Item>;
 
@@ -32,16 +34,26 @@ where
 
     ghost contract = { seen_as chunks_parts (chunks_contract I.Error.from_gives I.contract) };
 
-    /// Draws until the batch has n items, or a failure or an end comes.
+    /// Answers the stop that is due, without a draw, or draws until the batch has n items, or a stop comes.
     fn next(&mut self) -> Result<Option<Vec<I::Item>>, I::Error> {
-        self.drive(&mut (), &FirstTurn)
+        match self.due.take() {
+            Some(Some(e)) => Err(e),
+            Some(None) => Ok(None),
+            None => {
+                let adapter = ChunksHold { alloc: self.alloc };
+                filled(&mut self.it, &mut self.batch, &mut self.due, &adapter)
+            }
+        }
     }
 
     fn size_hint(&self) -> (usize, Option<usize>) {
-        (
-            batches(self.it.size_hint().0, self.batch.0, &self.batch.1),
-            None,
-        )
+        if self.due.is_some() {
+            (0, Some(0))
+        } else {
+            let hint = self.it.size_hint();
+            let low = batches(hint.0, self.batch.0, &self.batch.1);
+            (low, with_held(hint, self.batch.1.is_some()).1)
+        }
     }
 
     fn drive<C, R, K: Turn<C, Vec<I::Item>, R>>(
@@ -49,12 +61,47 @@ where
         state: &mut C,
         turn: &K,
     ) -> Result<Option<R>, I::Error> {
-        let left = (*self).number();
         let adapter = ChunksHold { alloc: self.alloc };
-        drive_holding(&mut self.it, &mut self.batch, &adapter, left, state, turn)
+        drive_holding(
+            &mut self.it,
+            &mut self.batch,
+            &mut self.due,
+            &adapter,
+            state,
+            turn,
+        )
     }
 
     ghost lawful = { lawful_seen chunks_parts (lawful_chunks I.Error.from_gives I.lawful) };
+}
+
+// Draws until a batch is whole or a stop comes: at most as many answers as a batch has items. No stop is due.
+fn filled<I: FallibleIterator>(
+    it: &mut I,
+    batch: &mut (usize, Option<Vec<I::Item>>),
+    due: &mut Option<Option<I::Error>>,
+    adapter: &ChunksHold,
+) -> Result<Option<Vec<I::Item>>, I::Error>
+where
+    I::Item: Drop,
+    I::Error: Drop + From<AllocError>,
+    requires none_due { due.old ≡ None }
+    requires can_next { I.contract.can_next it.old }
+    ensures { holding_step (chunks_asks I.Error.from_gives) I.contract.steps
+        (it.old, (batch.old, None)) result (it.new, (batch.new, due.new)) }
+{
+    loop {
+        match it.draw() {
+            Ok(Some(x)) => match adapter.ask(batch, Some(x)) {
+                Outcome::Kept(whole) => return Ok(Some(whole)),
+                Outcome::LeftOut => {}
+                Outcome::Failure(e) => return at_stop(Some(e), batch, due, adapter),
+                Outcome::End => unreachable!(),
+            },
+            Ok(None) => return at_stop(None, batch, due, adapter),
+            Err(e) => return at_stop(Some(e), batch, due, adapter),
+        }
+    }
 }
 
 // What becomes of an item behind the batch that is held.
@@ -72,6 +119,7 @@ impl<X: Drop, E: From<AllocError>> Hold<(usize, Option<Vec<X>>), X, E> for Chunk
 
     ghost held = { λ _ p. batch_held p };
 
+    #[inline(always)]
     fn ask(&self, holds: &mut (usize, Option<Vec<X>>), asked: Option<X>) -> Outcome<Vec<X>, E>
         ensures { chunks_asks E.from_gives holds.old asked result holds.new }
     {

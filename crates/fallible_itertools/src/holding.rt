@@ -3,9 +3,9 @@ ghost use Rattle.std.specs.Prelude.{◌≡◌, ℕ, if◌then◌else◌, Option,
 ghost use Rattle.fallible_iterator.specs.Folds.{CallableDriving, Driven};
 ghost use Rattle.fallible_iterator.specs.Outcome.{Outcome};
 ghost use Rattle.fallible_iterator.specs.Outcome.TheVariants.{Kept};
-ghost use Rattle.fallible_itertools.specs.Holding.{Holds, HintHeld, StoppedBehind, stop_answer, holding_contract, holding_step};
+ghost use Rattle.fallible_itertools.specs.Holding.{AtStop, Holds, HintHeld, StoppedBehind, stop_answer, holding_contract, holding_step};
 
-use fallible_iterator::extending::{Outcome, Pass, drive_passing};
+use fallible_iterator::extending::{FirstTurn, Outcome, Pass, drive_passing};
 use fallible_iterator::{FallibleIterator, Turn};
 use std::ops::ControlFlow;
 
@@ -90,6 +90,21 @@ where
             Err(e) => before_stop(Some(e), holds, due, adapter, state, turn),
         },
     }
+}
+
+/// One answer at a stop: what is held, and then the stop is due, or the stop itself where nothing is given.
+pub fn at_stop<P, X, E: Drop, A: Hold<P, X, E>>(
+    stop: Option<E>,
+    holds: &mut P,
+    due: &mut Option<Option<E>>,
+    adapter: &A,
+) -> Result<Option<A::Kept>, E>
+where
+    requires none_due { due.old ≡ None }
+    requires can_ask { A.can_ask adapter.now holds.old None }
+    ensures { AtStop (A.asks adapter.now) holds.old stop result (holds.new, due.new) }
+{
+    before_stop(stop, holds, due, adapter, &mut (), &FirstTurn)
 }
 
 // At a stop: the caller's turn on what is held, and then the stop.

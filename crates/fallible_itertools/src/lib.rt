@@ -16,7 +16,6 @@ pub mod double_ended;
 pub mod few;
 pub mod growing;
 pub mod holding;
-pub mod holding_ends;
 pub mod inspect_err;
 pub mod intersperse;
 pub mod joined;

@@ -22,7 +22,7 @@ ghost use Rattle.fallible_itertools.specs.Counted.{IsCountsOf};
 ghost use Rattle.fallible_itertools.specs.Dedup.{dedup_contract, dedup_parts, deduped};
 ghost use Rattle.fallible_itertools.specs.DedupByKey.{dedup_by_key_contract, dedup_by_key_parts, dedup_key_asks, dedup_key_takes, deduped_by_key};
 ghost use Rattle.fallible_itertools.specs.Few.{AtMostOne, at_most_one_of, wanting_one};
-ghost use Rattle.fallible_itertools.specs.Growing.{ListsMade};
+ghost use Rattle.fallible_itertools.specs.Growing.{ListsUpToRefusal};
 ghost use Rattle.fallible_itertools.specs.Holding.{MayBeAsked};
 ghost use Rattle.fallible_itertools.specs.InspectErr.{inspect_err_contract, inspect_err_parts, seen_call};
 ghost use Rattle.fallible_itertools.specs.OrElse.{or_else_contract, or_else_parts, recovered};
@@ -870,13 +870,13 @@ pub trait FallibleItertools: FallibleIterator {
         ReadEq::read(answer)
     }
 
-    /// Gives the items in batches of n, of which one before an end may have fewer.
+    /// Gives the items in batches of n, of which one before an end or a failure may have fewer.
     ///
-    /// Making it draws nothing and takes no memory. One call draws until the batch has n items, or a failure or an end comes. An end answers the batch that is held, if there is one, and the next call draws from the source again; else the end is the answer.
+    /// Making it draws nothing and takes no memory. One call draws until the batch has n items, or a stop comes: an end or a failure. The batch that is held is yielded first, if there is one, and the stop is the next answer, which takes no draw.
     ///
-    /// It fails as the source does, and loses nothing of the batch then. Where memory is refused for the first item of a batch, or for one for which the batch has no room, the failure made of the refusal is the answer: that item is lost, and no other. After a failure and after an end the next call goes on.
+    /// It fails as the source does. Where memory is refused for the first item of a batch, or for one for which the batch has no room, the failure made of the refusal is a stop too: that item is lost, and no other. After a failure and after an end the next call goes on.
     ///
-    /// Asks that n is not 0. Draws ask that the source is finite, and that items can be let go.
+    /// Asks that n is not 0. Draws ask that the source may be drawn from, and that items can be let go. They ask no bound: one makes at most n draws of the source.
     ///
     /// ```
     /// convert(readings.into_iter()).chunks(alloc, 2).count()
@@ -884,12 +884,12 @@ pub trait FallibleItertools: FallibleIterator {
     final fn chunks(self, alloc: Global, n: usize) -> Chunks<Self>
     where
         Self::Item: Drop,
-        Self::Error: From<AllocError>,
+        Self::Error: Drop + From<AllocError>,
         requires { 0 < n }
-        ensures parts { chunks_parts result ≡ (self, (n, None)) }
+        ensures parts { chunks_parts result ≡ (self, ((n, None), None)) }
         ensures lists { (l : List (Result Self.Item Self.Error))
-            → ListsForGood Self.contract.steps self l
-            → ListsMade (λ xs v. vec_items v ≡ xs)
+            → Lists Self.contract.steps self l
+            → ListsUpToRefusal (λ xs v. vec_items v ≡ xs)
             (seen_as chunks_parts (chunks_contract Self.Error.from_gives Self.contract)).steps
             Self.Error.from_gives result (chunked n l) }
     {
@@ -897,14 +897,15 @@ pub trait FallibleItertools: FallibleIterator {
             it: self,
             alloc,
             batch: (n, None),
+            due: None,
         }
     }
 
     /// Gives groups of adjacent items of one key, each with its key.
     ///
-    /// Making it draws nothing, calls nothing and takes no memory. One call draws until an item has another key than the group that is held, or a failure or an end comes. It makes the key of each item once. An end answers the group that is held, if there is one, and the next call draws from the source again; else the end is the answer.
+    /// Making it draws nothing, calls nothing and takes no memory. One call draws until an item has another key than the group that is held, or a stop comes: an end or a failure. It makes the key of each item once. The group that is held is yielded first, if there is one, and the stop is the next answer, which takes no draw. Behind a stop a new group begins.
     ///
-    /// It fails as the source does, and loses nothing of the group then. Where the key's closure fails, its failure is the answer; where memory is refused, the failure made of the refusal is. Then the item is lost, and no other. After a failure and after an end the next call goes on.
+    /// It fails as the source does. The failure of the key's closure is a stop too, and so is the failure made of a refused request for memory. Then the item is lost, and no other. After a failure and after an end the next call goes on.
     ///
     /// Asks of the key's closure what `map` asks of its closure. Draws ask that the source is finite, and that items can be let go.
     ///
@@ -919,15 +920,15 @@ pub trait FallibleItertools: FallibleIterator {
         K: PartialEq + Drop,
         F: FnMut(&Self::Item) -> Result<K, Self::Error>,
         Self::Item: Drop,
-        Self::Error: From<AllocError>,
+        Self::Error: Drop + From<AllocError>,
         requires callable { IsCallable (call_at F.FnMut) (takes_at F.FnMut)
             (Self.contract.may_give self) key }
-        ensures parts { chunk_by_parts result ≡ (self, (key, None)) }
+        ensures parts { chunk_by_parts result ≡ (self, ((key, None), None)) }
         ensures lists { (h : Self.Item → Result K Self.Error)
             → (l : List (Result Self.Item Self.Error))
             → Acts (call_at F.FnMut) key h
-            → ListsForGood Self.contract.steps self l
-            → ListsMade MadeGroup (seen_as chunk_by_parts
+            → Lists Self.contract.steps self l
+            → ListsUpToRefusal MadeGroup (seen_as chunk_by_parts
             (chunk_by_contract Self.Error.from_gives K.eq F.FnMut Self.contract)).steps
             Self.Error.from_gives result (chunked_by K.eq h l) }
     {
@@ -935,6 +936,7 @@ pub trait FallibleItertools: FallibleIterator {
             it: self,
             alloc,
             group: (key, None),
+            due: None,
         }
     }
 

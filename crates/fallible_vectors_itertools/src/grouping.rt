@@ -29,7 +29,7 @@ const BATCHES: [(usize, &[Drawn], &[Answer<u32, TestError>]); 4] = [
     (2, &FOUR, &[Item(12), Item(34), End, End]),
     (3, &FOUR, &[Item(123), Item(4), End]),
     (1, &FOUR, &[Item(1), Item(2), Item(3), Item(4), End]),
-    // An end answers the short batch, and the next call goes on; a failure loses nothing.
+    // An end and a failure come behind the short batch, and the next call goes on.
     (
         2,
         &[
@@ -40,7 +40,15 @@ const BATCHES: [(usize, &[Drawn], &[Answer<u32, TestError>]); 4] = [
             Ok(Some(3)),
             Ok(Some(4)),
         ],
-        &[Item(1), Failure(Number(9)), Item(23), Item(4), End, End],
+        &[
+            Item(1),
+            End,
+            Item(2),
+            Failure(Number(9)),
+            Item(34),
+            End,
+            End,
+        ],
     ),
 ];
 
@@ -62,11 +70,12 @@ fn expect_batches(
 
 const HINTED: [Result<u32, TestError>; 6] = [Ok(1), Ok(2), Ok(3), Err(Number(9)), Ok(4), Ok(5)];
 
-// The hints of batches of two, with a failure while one is held.
-const HINTS: [(Hint, &[Answer<u32, TestError>]); 3] = [
-    ((3, None), &[Item(12)]),
-    ((2, None), &[Failure(Number(9))]),
-    ((2, None), &[Item(34), Item(5), End]),
+// The hints of batches of two. Where the failure is due, nothing comes before it.
+const HINTS: [(Hint, &[Answer<u32, TestError>]); 4] = [
+    ((3, Some(6)), &[Item(12)]),
+    ((2, Some(4)), &[Item(3)]),
+    ((0, Some(0)), &[Failure(Number(9))]),
+    ((1, Some(2)), &[Item(45), End]),
 ];
 
 const FIVE: [Result<u32, TestError>; 5] = [Ok(1), Ok(2), Ok(3), Ok(4), Ok(5)];
@@ -114,12 +123,15 @@ const ODD_AND_EVEN: [Drawn; 10] = [
 ];
 
 // The groups of odd and of even items, as digits beside their key.
-const GROUPS: [Answer<(bool, u32), TestError>; 8] = [
+const GROUPS: [Answer<(bool, u32), TestError>; 11] = [
     Item((true, 13)),
+    Item((false, 2)),
     Failure(Number(0)),
-    Item((false, 24)),
+    Item((false, 4)),
+    End,
+    Item((false, 6)),
     Failure(Number(9)),
-    Item((false, 68)),
+    Item((false, 8)),
     Item((true, 5)),
     End,
     End,

@@ -3,8 +3,8 @@ use Rattle.std.proofs.Common.{◌≡◌, ℕ, List, [], ◌++◌, Option, Result
 use Rattle.std.specs.Io.KnownBytes.{Appends}
 use Rattle.std.proofs.KnownBytes.{Appends-nil, Appends-trans}
 use Rattle.fallible_iterator.specs.Traces.{Answered}
-use Rattle.fallible_itertools.specs.Growing.{ListsMade}
-use Rattle.fallible_itertools.proofs.Lemmas.LoopsMade.{MadeFromHere, goes_on, ends}
+use Rattle.fallible_itertools.specs.Growing.{ListsUpToRefusal}
+use Rattle.fallible_itertools.proofs.Lemmas.LoopsMade.{MadeFromHere, begins, goes_on, ends}
 use Rattle.sum_groups.specs.Groups.{batch_line, batches_text, first_key, group_line, groups_text, line_of, report_of, same_refusal, text_of}
 use Rattle.sum_groups.specs.declared.groups.Row.{Row}
 use Rattle.fallible_itertools.specs.ChunkBy.{MadeGroup}
@@ -25,11 +25,11 @@ module _ {S X B : Type 0} (made : X → B → Type 0) (steps : S → Answered B 
 
 -- Whatever list of values the whole gives, of its text some was written so far, and what s still gives is the rest.
 abbrev pub PrintsOn : {S X B : Type 0} → (X → B → Type 0) → (S → Answered B AllocError → S → Type 0) → (X → List ℕ) → Option (List ℕ) → Option (List ℕ) → S → S → Type 0
-PrintsOn {X = X} made steps line old now s0 s = (l : List (Result X AllocError)) → ListsMade made steps same_refusal s0 l → PrintsFromHere made steps same_refusal line (text_of line l) old now s
+PrintsOn {X = X} made steps line old now s0 s = (l : List (Result X AllocError)) → ListsUpToRefusal made steps same_refusal s0 l → PrintsFromHere made steps same_refusal line (text_of line l) old now s
 
 module _ {S X B : Type 0} {made : X → B → Type 0} {steps : S → Answered B AllocError → S → Type 0} {from : AllocError → AllocError → Type 0} {line : X → List ℕ} where
-  begins_at : {old : Option (List ℕ)} {s : S} (l : List (Result X AllocError)) → ListsMade made steps from s l → PrintsFromHere made steps from line (text_of line l) old old s
-  begins_at {old = old} l lists = record { written = []; appended = Appends-nil old; here = record { rest = l; lists = lists; same = refl } }
+  begins_at : {old : Option (List ℕ)} {s : S} (l : List (Result X AllocError)) → ListsUpToRefusal made steps from s l → PrintsFromHere made steps from line (text_of line l) old old s
+  begins_at {old = old} l lists = record { written = []; appended = Appends-nil old; here = begins made steps from (with_lines made steps from line) l lists }
 
   prints_at : {whole : List ℕ} {old now more : Option (List ℕ)} {s t : S} (y : B) {text : List ℕ} → PrintsFromHere made steps from line whole old now s → steps s (Ok (Some y)) t → ((x : X) → made x y → line x ≡ text) → Appends now more text → PrintsFromHere made steps from line whole old more t
   prints_at {old = old} {now = now} {more = more} y {text = text} p drawn same printed = record { written = p.written ++ text; appended = Appends-trans old now more p.written text p.appended printed; here = goes_on made steps from (with_lines made steps from line) y p.here drawn (λ x k m. ap (λ z. p.written ++ (z ++ text_of line k)) (same x m) ∙ sym (append_assoc p.written text (text_of line k))) }
@@ -39,15 +39,15 @@ module _ {S X B : Type 0} {made : X → B → Type 0} {steps : S → Answered B 
 
 module _ {S X B : Type 0} {made : X → B → Type 0} {steps : S → Answered B AllocError → S → Type 0} {line : X → List ℕ} {old : Option (List ℕ)} {s0 : S} where
   -- before the first line
-  pub begins : PrintsOn made steps line old old s0 s0
-  begins l lists = begins_at l lists
+  pub begins_printing : PrintsOn made steps line old old s0 s0
+  begins_printing l lists = begins_at l lists
 
   -- after a line
   pub prints : {now more : Option (List ℕ)} {s t : S} {r : Answered B AllocError} (y : B) {text : List ℕ} → PrintsOn made steps line old now s0 s → steps s r t → r ≡ Ok (Some y) → ((x : X) → made x y → line x ≡ text) → Appends now more text → PrintsOn made steps line old more s0 t
   prints {s = s} {t = t} y on drawn is same printed l lists = prints_at y (on l lists) (subst (λ r. steps s r t) is drawn) same printed
 
   -- at the end
-  pub printed : {now : Option (List ℕ)} {s t : S} {r : Answered B AllocError} → PrintsOn made steps line old now s0 s → steps s r t → r ≡ Ok None → (l : List (Result X AllocError)) → ListsMade made steps same_refusal s0 l → Appends old now (text_of line l)
+  pub printed : {now : Option (List ℕ)} {s t : S} {r : Answered B AllocError} → PrintsOn made steps line old now s0 s → steps s r t → r ≡ Ok None → (l : List (Result X AllocError)) → ListsUpToRefusal made steps same_refusal s0 l → Appends old now (text_of line l)
   printed {s = s} {t = t} on drawn is l lists = printed_at (on l lists) (subst (λ r. steps s r t) is drawn)
 
 -- a group's line is that of the group that it is made of

@@ -8,7 +8,7 @@ use Rattle.fallible_iterator.specs.Traces.{Answered}
 use Rattle.fallible_iterator.specs.Lists.{collected, items, mapped, on_value, scanned, taken}
 use Rattle.fallible_itertools.specs.ChunkBy.{chunked_by}
 use Rattle.fallible_itertools.specs.Chunks.{chunked}
-use Rattle.fallible_itertools.specs.Growing.{ListsMade}
+use Rattle.fallible_itertools.specs.Growing.{ListsUpToRefusal}
 use Rattle.fallible_itertools.specs.Totals.{sum_below, totalled}
 use Rattle.fallible_uses.specs.Numbers.{number_of}
 use Rattle.std.specs.declared.alloc.AllocError.{AllocError}
@@ -96,7 +96,7 @@ same_refusal refused e = e ≡ refused
 
 -- Where values made of a list's items come up to the end, the lines of those items were written.
 abbrev pub PrintsMade : {S X B : Type 0} → (X → B → Type 0) → (S → Answered B AllocError → S → Type 0) → (X → List ℕ) → S → Option (List ℕ) → Option (List ℕ) → Result (Unit {0}) Fault → Type 0
-PrintsMade {X = X} made steps line s old new r = (l : List (Result X AllocError)) → ListsMade made steps same_refusal s l → OnOk r (Appends old new (text_of line l))
+PrintsMade {X = X} made steps line s old new r = (l : List (Result X AllocError)) → ListsUpToRefusal made steps same_refusal s l → OnOk r (Appends old new (text_of line l))
 
 -- the groups, and then the batches
 abbrev pub report_of : List Row → List ℕ

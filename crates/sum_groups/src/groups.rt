@@ -152,7 +152,7 @@ fn print_groups<W: Write>(alloc: Global, rows: &[Row], output: &mut W) -> Result
         (Appends (W.contents output.old) (W.contents output.new) (groups_text rows.now)) }
     ensures row { (place : ℕ) → result ≢ Err (Fault.NoRow place) }
 {
-    let groups = convert_fused(rows.iter().copied().map(Ok)).chunk_by(
+    let groups = convert(rows.iter().copied().map(Ok)).chunk_by(
         alloc,
         |row: &Row| Ok(row.key),
     );
@@ -165,7 +165,7 @@ fn print_batches<W: Write>(alloc: Global, rows: &[Row], output: &mut W) -> Resul
         (Appends (W.contents output.old) (W.contents output.new) (batches_text rows.now)) }
     ensures row { (place : ℕ) → result ≢ Err (Fault.NoRow place) }
 {
-    let batches = convert_fused(rows.iter().copied().map(Ok)).chunks(alloc, BATCH);
+    let batches = convert(rows.iter().copied().map(Ok)).chunks(alloc, BATCH);
     print_each_batch(batches, output)
 }
 

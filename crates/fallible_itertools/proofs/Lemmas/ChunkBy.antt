@@ -5,13 +5,12 @@ use Rattle.std.specs.Borrow.{Bor}
 use Rattle.std.proofs.Common.{refl, sym, ap, subst, arith, inl, inr, ◌∙◌}
 use Rattle.fallible_iterator.specs.Closures.{call_at}
 use Rattle.fallible_iterator.specs.Contract.{Contract, seen_as}
-use Rattle.fallible_iterator.specs.Lists.{Acts, ListsForGood}
-use Rattle.fallible_iterator.proofs.Lemmas.Lists.Passing.{by_outcome}
-use Rattle.fallible_itertools.specs.ChunkBy.{Group, MadeGroup, by_its_key, chunk_by_asks, chunk_by_contract, chunk_by_parts, chunked_by, chunked_by_from, group_at, group_at_end, group_begun, group_by, group_grown, group_held, group_or}
-use Rattle.fallible_itertools.specs.Growing.{ListsMade}
-use Rattle.fallible_itertools.specs.HoldingEnds.{held_one}
-use Rattle.fallible_itertools.proofs.Lemmas.HoldingEndsHints.{GivesHeld}
-use Rattle.fallible_itertools.proofs.Lemmas.HoldingEndsLists.{held_list}
+use Rattle.fallible_iterator.specs.Lists.{Acts, Lists}
+use Rattle.fallible_itertools.specs.ChunkBy.{Group, MadeGroup, by_its_key, chunk_by_asks, chunk_by_contract, chunk_by_parts, chunked_by, chunked_by_from, group_at, group_at_stop, group_begun, group_by, group_grown, group_held, group_or}
+use Rattle.fallible_itertools.specs.Growing.{ListsUpToRefusal}
+use Rattle.fallible_itertools.specs.Holding.{held_one}
+use Rattle.fallible_itertools.proofs.Lemmas.HoldingHints.{GivesHeld}
+use Rattle.fallible_itertools.proofs.Lemmas.HoldingLists.{by_outcome, before_stop, held_list, listed_parts}
 use Rattle.fallible_itertools.proofs.Lemmas.HoldingMade.{Answers, OutcomeMade, Refuses, held_gives_made, lists_made_seen}
 use Rattle.std.specs.declared.alloc.AllocError.{AllocError}
 use Rattle.fallible_iterator.specs.Outcome.{Outcome}
@@ -111,14 +110,14 @@ module _ {A K E : Type 0} (from : AllocError → E → Type 0) (eq : K → K →
     on_item p a x o q at (v, called, w) = let k = acts x v q.0 (subst (λ (z : F). call_at c z x v q.0) at.0 called) in
         elim (by_on p.1 a x (h x) o q.1 at.1 (subst (λ (z : Result K E). group_by from eq p.1 x z o q.1) k.1 w)) [ inl e ↦ inl e | inr d ↦ inr ((k.0, d.0), d.1) ]
 
-    end_on : (g : Option (Group K A)) (a : Option (K × List A)) (o : Outcome (Group K A) E) (q : Option (Group K A)) → HeldAs g a → group_at_end g o q → HeldAs q None × OutcomeMade MadeGroup (does eq h a None) o
-    end_on None None o q same (is, at) = (subst (λ z. HeldAs z None) (sym at) tt, subst (λ (z : Outcome (Group K A) E). OutcomeMade {Y = K × List A} MadeGroup End z) (sym is) tt)
-    end_on None (Some k) o q same w = absurd same
-    end_on (Some g) None o q same w = absurd same
-    end_on (Some g) (Some k) o q same (is, at) = (subst (λ z. HeldAs z None) (sym at) tt, subst (λ (z : Outcome (Group K A) E). OutcomeMade MadeGroup (Kept k) z) (sym is) same)
+    stop_on : (g : Option (Group K A)) (a : Option (K × List A)) (o : Outcome (Group K A) E) (q : Option (Group K A)) → HeldAs g a → group_at_stop g o q → HeldAs q None × OutcomeMade MadeGroup (does eq h a None) o
+    stop_on None None o q same (is, at) = (subst (λ z. HeldAs z None) (sym at) tt, subst (λ (z : Outcome (Group K A) E). OutcomeMade {Y = K × List A} MadeGroup End z) (sym is) tt)
+    stop_on None (Some k) o q same w = absurd same
+    stop_on (Some g) None o q same w = absurd same
+    stop_on (Some g) (Some k) o q same (is, at) = (subst (λ z. HeldAs z None) (sym at) tt, subst (λ (z : Outcome (Group K A) E). OutcomeMade MadeGroup (Kept k) z) (sym is) same)
 
-    on_end : (p : F × Option (Group K A)) (a : Option (K × List A)) (o : Outcome (Group K A) E) (q : F × Option (Group K A)) → At p a → chunk_by_asks from eq c p None o q → At q (next eq h a None) × OutcomeMade MadeGroup (does eq h a None) o
-    on_end p a o q at w = let k = end_on p.1 a o q.1 at.1 w.1 in ((w.0 ∙ at.0, k.0), k.1)
+    on_stop : (p : F × Option (Group K A)) (a : Option (K × List A)) (o : Outcome (Group K A) E) (q : F × Option (Group K A)) → At p a → chunk_by_asks from eq c p None o q → At q (next eq h a None) × OutcomeMade MadeGroup (does eq h a None) o
+    on_stop p a o q at w = let k = stop_on p.1 a o q.1 at.1 w.1 in ((w.0 ∙ at.0, k.0), k.1)
 
 module _ {A K E : Type 0} (eq : K → K → Bool) (h : A → Result K E) where
   full_at : (g : K × List A) (x : A) (j : K) (b : Bool) → Full (next_at g x j b)
@@ -141,57 +140,66 @@ module _ {A K E : Type 0} (eq : K → K → Bool) (h : A → Result K E) where
   no_end_by None (Err e) is = cc
   no_end_by (Some g) (Err e) is = cc
 
-  at_end_full : (a : Option (K × List A)) → Full a → (y : K × List A) × (does eq h a None ≡ Kept y)
-  at_end_full None full = absurd full
-  at_end_full (Some g) full = (g, refl)
-
-  answers : Answers {X = A} {Y = K × List A} {E = E} (does eq h) (next eq h) Full
-  answers = record {
-    left_out = λ a x is. left_out_by a x (h x) is;
-    at_end = at_end_full;
-    no_end = λ a x is. no_end_by a (h x) is;
-  }
-
-  settles : (a : Option (K × List A)) (y : K × List A) → does eq h a None ≡ Kept y → does eq h (next eq h a None) None ≡ End
-  settles a y is = refl
-
-  no_failure : (a : Option (K × List A)) (e : E) → does eq h a None ≡ Failure e → ⊥
-  no_failure None e is = cc
-  no_failure (Some g) e is = cc
+  at_stop_full : (a : Option (K × List A)) → Full a → (y : K × List A) × (does eq h a None ≡ Kept y)
+  at_stop_full None full = absurd full
+  at_stop_full (Some g) full = (g, refl)
 
   none_left : (a : Option (K × List A)) → does eq h a None ≡ LeftOut → ⊥
   none_left None is = cc
   none_left (Some g) is = cc
 
+  answers : Answers {X = A} {Y = K × List A} {E = E} (does eq h) (next eq h) Full
+  answers = record {
+    left_out = λ a x is. left_out_by a x (h x) is;
+    at_stop = at_stop_full;
+    no_end = λ a x is. no_end_by a (h x) is;
+    none_left = none_left;
+  }
+
   abbrev Listed : Option (K × List A) → List (Result A E) → List (Result (K × List A) E)
   Listed a l = held_list (does eq h) (next eq h) a l
 
-  cons_at : (g : K × List A) (x : A) (j : K) (b : Bool) (l : List (Result A E)) (more other : List (Result (K × List A) E)) → Listed (Some (g.0, g.1 ++ x ∷ [])) l ≡ more → Listed (Some (j, x ∷ [])) l ≡ other → by_outcome (does_at E g b) (Listed (next_at g x j b) l) ≡ group_or eq h g b more other
-  cons_at g x j true l more other is_more is_other = is_more
-  cons_at g x j false l more other is_more is_other = ap (λ k. Ok g ∷ k) is_other
+  cons_at : (g : K × List A) (x : A) (j : K) (b : Bool) (l : List (Result A E)) (more other : List (Result (K × List A) E)) (failed : E → List (Result (K × List A) E)) → Listed (Some (g.0, g.1 ++ x ∷ [])) l ≡ more → Listed (Some (j, x ∷ [])) l ≡ other → by_outcome (does_at E g b) (Listed (next_at g x j b) l) failed ≡ group_or eq h g b more other
+  cons_at g x j true l more other failed is_more is_other = is_more
+  cons_at g x j false l more other failed is_more is_other = ap (λ k. Ok g ∷ k) is_other
 
-  cons_by : (g : K × List A) (x : A) (v : Result K E) (l : List (Result A E)) → ((k : K) (xs : List A) → Listed (Some (k, xs)) l ≡ chunked_by_from eq h k xs l) → by_outcome (does_by eq (Some g) v) (Listed (next_by eq (Some g) x v) l) ≡ by_its_key eq h v (λ j. group_or eq h g (eq g.0 j) (chunked_by_from eq h g.0 (g.1 ++ x ∷ []) l) (chunked_by_from eq h j (x ∷ []) l)) (chunked_by_from eq h g.0 g.1 l)
-  cons_by g x (Ok j) l later = cons_at g x j (eq g.0 j) l _ _ (later g.0 (g.1 ++ x ∷ [])) (later j (x ∷ []))
-  cons_by g x (Err e) l later = ap (λ k. Err e ∷ k) (later g.0 g.1)
+  abbrev From : Option (K × List A) → List (Result A E) → List (Result (K × List A) E)
+  From a l = chunked_by_from eq h a l
 
-  from_is : (l : List (Result A E)) (k : K) (xs : List A) → Listed (Some (k, xs)) l ≡ chunked_by_from eq h k xs l
+  -- what the closure's failure makes
+  abbrev lost_at : Option (K × List A) → List (Result A E) → E → List (Result (K × List A) E)
+  lost_at a l e = before_stop (does eq h a None) (Err e ∷ Listed None l)
+
+  begun_by : (x : A) (v : Result K E) (l : List (Result A E)) → ((a : Option (K × List A)) → Listed a l ≡ From a l) → by_outcome (does_by eq None v) (Listed (next_by eq None x v) l) (lost_at (next_by eq None x v) l) ≡ by_its_key eq h None v (λ k. From (Some (k, x ∷ [])) l) (From None l)
+  begun_by x (Ok k) l later = later (Some (k, x ∷ []))
+  begun_by x (Err e) l later = ap (λ z. Err e ∷ z) (later None)
+
+  cons_by : (g : K × List A) (x : A) (v : Result K E) (l : List (Result A E)) → ((a : Option (K × List A)) → Listed a l ≡ From a l) → by_outcome (does_by eq (Some g) v) (Listed (next_by eq (Some g) x v) l) (lost_at (next_by eq (Some g) x v) l) ≡ by_its_key eq h (Some g) v (λ j. group_or eq h g (eq g.0 j) (From (Some (g.0, g.1 ++ x ∷ [])) l) (From (Some (j, x ∷ [])) l)) (From None l)
+  cons_by g x (Ok j) l later = cons_at g x j (eq g.0 j) l _ _ _ (later (Some (g.0, g.1 ++ x ∷ []))) (later (Some (j, x ∷ [])))
+  cons_by g x (Err e) l later = ap (λ k. Ok g ∷ Err e ∷ k) (later None)
+
+  from_is : (a : Option (K × List A)) (l : List (Result A E)) → Listed a l ≡ From a l
   unfolding chunked_by_from
-  from_is [] k xs = refl
-  from_is (Ok x ∷ l) k xs = cons_by (k, xs) x (h x) l (from_is l)
-  from_is (Err e ∷ l) k xs = ap (λ z. Err e ∷ z) (from_is l k xs)
-
-  begun_by : (x : A) (v : Result K E) (l : List (Result A E)) → Listed None l ≡ chunked_by eq h l → by_outcome (does_by eq None v) (Listed (next_by eq None x v) l) ≡ by_its_key eq h v (λ k. chunked_by_from eq h k (x ∷ []) l) (chunked_by eq h l)
-  begun_by x (Ok k) l later = from_is l k (x ∷ [])
-  begun_by x (Err e) l later = ap (λ z. Err e ∷ z) later
+  from_is None [] = refl
+  from_is (Some g) [] = refl
+  from_is None (Ok x ∷ l) = begun_by x (h x) l (λ a. from_is a l)
+  from_is (Some g) (Ok x ∷ l) = cons_by g x (h x) l (λ a. from_is a l)
+  from_is None (Err e ∷ l) = ap (λ z. Err e ∷ z) (from_is None l)
+  from_is (Some g) (Err e ∷ l) = ap (λ z. Ok g ∷ Err e ∷ z) (from_is None l)
 
   pub chunked_by_is : (l : List (Result A E)) → Listed None l ≡ chunked_by eq h l
   unfolding chunked_by
-  chunked_by_is [] = refl
-  chunked_by_is (Ok x ∷ l) = begun_by x (h x) l (chunked_by_is l)
-  chunked_by_is (Err e ∷ l) = ap (λ z. Err e ∷ z) (chunked_by_is l)
+  chunked_by_is l = from_is None l
 
-pub lists_chunked_by : {S F A K E : Type 0} (m : Contract S A E) (from : AllocError → E → Type 0) (eq : K → K → Bool) (c : Mut F (Bor A × Unit {0}) (Result K E)) (f : F) (h : A → Result K E) → Acts (call_at c) f h → (s : ChunkBy S K F A E) (l : List (Result A E)) → chunk_by_parts s ≡ (s.it, (f, None)) → ListsForGood m.steps s.it l → ListsMade MadeGroup (seen_as chunk_by_parts (chunk_by_contract from eq c m)).steps from s (chunked_by eq h l)
-lists_chunked_by m from eq c f h acts s l parts i = lists_made_seen chunk_by_parts MadeGroup (chunk_by_contract from eq c m).steps from s _ _ _ parts (chunked_by_is eq h l) (held_gives_made m.steps (chunk_by_asks from eq c) MadeGroup from (At from eq c f h acts) (does eq h) (next eq h) (on_item from eq c f h acts) (on_end from eq c f h acts) Full (answers eq h) (settles eq h) (no_failure eq h) (none_left eq h) l s.it (f, None) None (refl, tt) i.runs)
+  settles : (a : Option (K × List A)) → next eq h a None ≡ None
+  settles a = refl
+
+  -- What stands before a failure is grouped by itself, and so is what stands behind it.
+  pub chunked_by_in_parts : (a : List (Result A E)) (e : E) (b : List (Result A E)) → chunked_by eq h (a ++ Err e ∷ b) ≡ chunked_by eq h a ++ Err e ∷ chunked_by eq h b
+  chunked_by_in_parts a e b = listed_parts (does eq h) (next eq h) None settles (λ a x is. no_end_by a (h x) is) (chunked_by eq h) chunked_by_is a e b
+
+pub lists_chunked_by : {S F A K E : Type 0} (m : Contract S A E) (from : AllocError → E → Type 0) (eq : K → K → Bool) (c : Mut F (Bor A × Unit {0}) (Result K E)) (f : F) (h : A → Result K E) → Acts (call_at c) f h → (s : ChunkBy S K F A E) (l : List (Result A E)) → chunk_by_parts s ≡ (s.it, ((f, None), None)) → Lists m.steps s.it l → ListsUpToRefusal MadeGroup (seen_as chunk_by_parts (chunk_by_contract from eq c m)).steps from s (chunked_by eq h l)
+lists_chunked_by m from eq c f h acts s l parts i = lists_made_seen chunk_by_parts MadeGroup (chunk_by_contract from eq c m).steps from s _ _ _ parts (chunked_by_is eq h l) (held_gives_made m.steps (chunk_by_asks from eq c) MadeGroup from (At from eq c f h acts) (does eq h) (next eq h) (on_item from eq c f h acts) (on_stop from eq c f h acts) Full (answers eq h) l s.it (f, None) None (refl, tt) i.runs)
 
 -- ---- its hint
 
@@ -206,9 +214,9 @@ module _ {A K E F : Type 0} (from : AllocError → E → Type 0) (eq : K → K �
   held_by None x (Err e) q w = absurd (let is = w.0 in cc)
   held_by (Some g) x (Err e) q w = absurd (let is = w.0 in cc)
 
-  none_held : (g q : Option (Group K A)) → group_at_end {E = E} g End q → held_one g ≡ 0
+  none_held : (g q : Option (Group K A)) → group_at_stop {E = E} g End q → held_one g ≡ 0
   none_held None q w = refl
   none_held (Some g) q w = absurd (let is = w.0 in cc)
 
   pub gives_held : GivesHeld (chunk_by_asks from eq c) group_held
-  gives_held = record { left_out = λ p x q w. held_by p.1 x w.0 q.1 w.2; at_end = λ p q w. none_held p.1 q.1 w.1 }
+  gives_held = record { left_out = λ p x q w. held_by p.1 x w.0 q.1 w.2; at_stop = λ p q w. none_held p.1 q.1 w.1 }

@@ -1,5 +1,5 @@
 -- What the groups of a list are.
-use Rattle.std.specs.Prelude.{◌≡◌, Bool, true, false, Result, Ok, Err, List, [], ◌∷◌, ◌++◌, map}
+use Rattle.std.specs.Prelude.{◌≡◌, Bool, true, false, Option, Some, None, Result, Ok, Err, List, [], ◌∷◌, ◌++◌, map}
 use Rattle.std.proofs.Common.{refl, ap, append_assoc, ◌∙◌}
 use Rattle.fallible_iterator.specs.BothEnds.{items_listed}
 use Rattle.fallible_itertools.specs.ChunkBy.{chunked_by, chunked_by_from, group_or}
@@ -16,14 +16,20 @@ module _ {A K : Type 0} (E : Type 0) (eq : K → K → Bool) (key : A → K) whe
   joined_or g rest true more other is_more is_other = is_more
   joined_or g rest false more other is_more is_other = ap (λ (k : List A). g.1 ++ k) is_other
 
-  joined_from : (k : K) (xs : List A) (l : List (Result A E)) → parts (chunked_by_from eq h k xs l) ≡ xs ++ items_listed l
+  -- the items that are held
+  abbrev held : Option (K × List A) → List A
+  held None = []
+  held (Some g) = g.1
+
+  joined_from : (a : Option (K × List A)) (l : List (Result A E)) → parts (chunked_by_from eq h a l) ≡ held a ++ items_listed l
   unfolding chunked_by_from
-  joined_from k xs [] = refl
-  joined_from k xs (Ok x ∷ l) = joined_or (k, xs) (x ∷ items_listed l) (eq k (key x)) _ _ (joined_from k (xs ++ x ∷ []) l ∙ append_assoc xs (x ∷ []) (items_listed l)) (joined_from (key x) (x ∷ []) l)
-  joined_from k xs (Err e ∷ l) = joined_from k xs l
+  joined_from None [] = refl
+  joined_from (Some g) [] = refl
+  joined_from None (Ok x ∷ l) = joined_from (Some (key x, x ∷ [])) l
+  joined_from (Some g) (Ok x ∷ l) = joined_or g (x ∷ items_listed l) (eq g.0 (key x)) _ _ (joined_from (Some (g.0, g.1 ++ x ∷ [])) l ∙ append_assoc g.1 (x ∷ []) (items_listed l)) (joined_from (Some (key x, x ∷ [])) l)
+  joined_from None (Err e ∷ l) = joined_from None l
+  joined_from (Some g) (Err e ∷ l) = ap (λ (k : List A). g.1 ++ k) (joined_from None l)
 
   pub all_joined : (l : List (Result A E)) → parts (chunked_by eq h l) ≡ items_listed l
   unfolding chunked_by
-  all_joined [] = refl
-  all_joined (Ok x ∷ l) = joined_from (key x) (x ∷ []) l
-  all_joined (Err e ∷ l) = all_joined l
+  all_joined l = joined_from None l

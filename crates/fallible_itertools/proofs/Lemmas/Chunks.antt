@@ -3,11 +3,10 @@ use Rattle.std.specs.Prelude.{◌≡◌, ℕ, ◌≤◌, ◌<◌, Bool, true, fa
 use Rattle.std.proofs.Common.{refl, sym, ap, subst, inl, inr}
 use Rattle.std.proofs.lemmas.Bool.{lt-ltb, le-ltb}
 use Rattle.fallible_iterator.specs.Contract.{Contract, seen_as}
-use Rattle.fallible_iterator.specs.Lists.{ListsForGood}
-use Rattle.fallible_iterator.proofs.Lemmas.Lists.Passing.{by_outcome}
-use Rattle.fallible_itertools.specs.Chunks.{Settles, batch_or, chunked, chunked_from, chunks_asks, chunks_contract, chunks_parts, last_batch}
-use Rattle.fallible_itertools.specs.Growing.{Grown, ListsMade, held_items}
-use Rattle.fallible_itertools.proofs.Lemmas.HoldingEndsLists.{held_list}
+use Rattle.fallible_iterator.specs.Lists.{Lists}
+use Rattle.fallible_itertools.specs.Chunks.{Settles, batch_or, chunked, chunked_from, chunks_asks, chunks_contract, chunks_parts, short_batch}
+use Rattle.fallible_itertools.specs.Growing.{Grown, ListsUpToRefusal, held_items}
+use Rattle.fallible_itertools.proofs.Lemmas.HoldingLists.{by_outcome, before_stop, held_list, listed_parts}
 use Rattle.fallible_itertools.proofs.Lemmas.HoldingMade.{Answers, OutcomeMade, Refuses, held_gives_made, lists_made_seen}
 use Rattle.std.specs.declared.vec.Vec.{Vec}
 use Rattle.std.specs.declared.alloc.Global.{Global}
@@ -105,11 +104,11 @@ module _ {A E : Type 0} (from : AllocError → E → Type 0) (n : ℕ) where
   none_at_end None (x ∷ xs) h is = absurd h
   none_at_end (Some v) a h is = absurd cc
 
-  on_end : (p : ℕ × Option (Vec A Global)) (a : List A) (o : Outcome (Vec A Global) E) (q : ℕ × Option (Vec A Global)) → At p a → chunks_asks from p None o q → At q (next n a None) × OutcomeMade made (does n a None) o
-  on_end p a (Kept w) q at (held, is) = (subst (λ k. At k []) (sym is) (at.0, tt), held_at_end p.1 a w at.1 held)
-  on_end p a LeftOut q at w = absurd w
-  on_end p a (Failure e) q at w = absurd w
-  on_end p a End q at (none, is) = (subst (λ k. At k []) (sym is) (at.0, subst (λ k. HeldAs k []) (sym none) tt), none_at_end p.1 a at.1 none)
+  on_stop : (p : ℕ × Option (Vec A Global)) (a : List A) (o : Outcome (Vec A Global) E) (q : ℕ × Option (Vec A Global)) → At p a → chunks_asks from p None o q → At q (next n a None) × OutcomeMade made (does n a None) o
+  on_stop p a (Kept w) q at (held, is) = (subst (λ k. At k []) (sym is) (at.0, tt), held_at_end p.1 a w at.1 held)
+  on_stop p a LeftOut q at w = absurd w
+  on_stop p a (Failure e) q at w = absurd w
+  on_stop p a End q at (none, is) = (subst (λ k. At k []) (sym is) (at.0, subst (λ k. HeldAs k []) (sym none) tt), none_at_end p.1 a at.1 none)
 
   left_out_at : (xs : List A) (b : Bool) → Full xs → does_at E xs b ≡ LeftOut → Full (next_at xs b)
   left_out_at xs true full is = full
@@ -119,45 +118,46 @@ module _ {A E : Type 0} (from : AllocError → E → Type 0) (n : ℕ) where
   no_end_at xs true is = cc
   no_end_at xs false is = cc
 
-  at_end_full : (a : List A) → Full a → (y : List A) × (does {E = E} n a None ≡ Kept y)
-  at_end_full [] full = absurd full
-  at_end_full (x ∷ xs) full = (x ∷ xs, refl)
-
-  answers : Answers {X = A} {Y = List A} {E = E} (does n) (next n) Full
-  answers = record {
-    left_out = λ a x is. left_out_at (a ++ x ∷ []) (ltb (length (a ++ x ∷ [])) n) (full_more a x) is;
-    at_end = at_end_full;
-    no_end = λ a x is. no_end_at (a ++ x ∷ []) (ltb (length (a ++ x ∷ [])) n) is;
-  }
-
-  settles : (a y : List A) → does {E = E} n a None ≡ Kept y → does {E = E} n (next n a None) None ≡ End
-  settles a y is = refl
-
-  no_failure : (a : List A) (e : E) → does n a None ≡ Failure e → ⊥
-  no_failure [] e is = cc
-  no_failure (x ∷ xs) e is = cc
+  at_stop_full : (a : List A) → Full a → (y : List A) × (does {E = E} n a None ≡ Kept y)
+  at_stop_full [] full = absurd full
+  at_stop_full (x ∷ xs) full = (x ∷ xs, refl)
 
   none_left : (a : List A) → does {E = E} n a None ≡ LeftOut → ⊥
   none_left [] is = cc
   none_left (x ∷ xs) is = cc
 
-  cons_at : (xs : List A) (b : Bool) (l : List (Result A E)) (more other : List (Result (List A) E)) → held_list (does n) (next n) xs l ≡ more → held_list (does n) (next n) [] l ≡ other → by_outcome (does_at E xs b) (held_list (does n) (next n) (next_at xs b) l) ≡ batch_or xs b more other
-  cons_at xs true l more other is_more is_other = is_more
-  cons_at xs false l more other is_more is_other = ap (λ k. Ok xs ∷ k) is_other
+  answers : Answers {X = A} {Y = List A} {E = E} (does n) (next n) Full
+  answers = record {
+    left_out = λ a x is. left_out_at (a ++ x ∷ []) (ltb (length (a ++ x ∷ [])) n) (full_more a x) is;
+    at_stop = at_stop_full;
+    no_end = λ a x is. no_end_at (a ++ x ∷ []) (ltb (length (a ++ x ∷ [])) n) is;
+    none_left = none_left;
+  }
 
-  at_the_end : (a : List A) → held_list {E = E} (does n) (next n) a [] ≡ last_batch a
-  at_the_end [] = refl
-  at_the_end (x ∷ xs) = refl
+  cons_at : (xs : List A) (b : Bool) (l : List (Result A E)) (more other : List (Result (List A) E)) (failed : E → List (Result (List A) E)) → held_list (does n) (next n) xs l ≡ more → held_list (does n) (next n) [] l ≡ other → by_outcome (does_at E xs b) (held_list (does n) (next n) (next_at xs b) l) failed ≡ batch_or xs b more other
+  cons_at xs true l more other failed is_more is_other = is_more
+  cons_at xs false l more other failed is_more is_other = ap (λ k. Ok xs ∷ k) is_other
+
+  stopped_at : (a : List A) (rest rest' : List (Result (List A) E)) → rest ≡ rest' → before_stop (does n a None) rest ≡ short_batch a rest'
+  stopped_at [] rest rest' is = is
+  stopped_at (x ∷ xs) rest rest' is = ap (λ k. Ok (x ∷ xs) ∷ k) is
 
   from_is : (a : List A) (l : List (Result A E)) → held_list (does n) (next n) a l ≡ chunked_from n a l
   unfolding chunked_from
-  from_is a [] = at_the_end a
-  from_is a (Ok x ∷ l) = cons_at (a ++ x ∷ []) (ltb (length (a ++ x ∷ [])) n) l _ _ (from_is (a ++ x ∷ []) l) (from_is [] l)
-  from_is a (Err e ∷ l) = ap (λ k. Err e ∷ k) (from_is a l)
+  from_is a [] = stopped_at a [] [] refl
+  from_is a (Ok x ∷ l) = cons_at (a ++ x ∷ []) (ltb (length (a ++ x ∷ [])) n) l _ _ _ (from_is (a ++ x ∷ []) l) (from_is [] l)
+  from_is a (Err e ∷ l) = stopped_at a _ _ (ap (λ k. Err e ∷ k) (from_is [] l))
 
   chunked_is : (l : List (Result A E)) → held_list (does n) (next n) [] l ≡ chunked n l
   unfolding chunked
   chunked_is l = from_is [] l
 
-pub lists_chunked : {S A E : Type 0} (m : Contract S A E) (from : AllocError → E → Type 0) (n : ℕ) (s : Chunks S A E) (l : List (Result A E)) → chunks_parts s ≡ (s.it, (n, None)) → ListsForGood m.steps s.it l → ListsMade (λ xs v. vec_items v ≡ xs) (seen_as chunks_parts (chunks_contract from m)).steps from s (chunked n l)
-lists_chunked m from n s l parts i = lists_made_seen chunks_parts (λ xs v. vec_items v ≡ xs) (chunks_contract from m).steps from s _ _ _ parts (chunked_is from n l) (held_gives_made m.steps (chunks_asks from) (λ xs v. vec_items v ≡ xs) from (At from n) (does n) (next n) (on_item from n) (on_end from n) Full (answers from n) (settles from n) (no_failure from n) (none_left from n) l s.it (n, None) [] (refl, tt) i.runs)
+  settles : (a : List A) → next n a None ≡ []
+  settles a = refl
+
+  -- What stands before a failure is batched by itself, and so is what stands behind it.
+  pub chunked_in_parts : (a : List (Result A E)) (e : E) (b : List (Result A E)) → chunked n (a ++ Err e ∷ b) ≡ chunked n a ++ Err e ∷ chunked n b
+  chunked_in_parts a e b = listed_parts (does n) (next n) [] settles (λ a x is. no_end_at (a ++ x ∷ []) (ltb (length (a ++ x ∷ [])) n) is) (chunked n) chunked_is a e b
+
+pub lists_chunked : {S A E : Type 0} (m : Contract S A E) (from : AllocError → E → Type 0) (n : ℕ) (s : Chunks S A E) (l : List (Result A E)) → chunks_parts s ≡ (s.it, ((n, None), None)) → Lists m.steps s.it l → ListsUpToRefusal (λ xs v. vec_items v ≡ xs) (seen_as chunks_parts (chunks_contract from m)).steps from s (chunked n l)
+lists_chunked m from n s l parts i = lists_made_seen chunks_parts (λ xs v. vec_items v ≡ xs) (chunks_contract from m).steps from s _ _ _ parts (chunked_is from n l) (held_gives_made m.steps (chunks_asks from) (λ xs v. vec_items v ≡ xs) from (At from n) (does n) (next n) (on_item from n) (on_stop from n) Full (answers from n) l s.it (n, None) [] (refl, tt) i.runs)

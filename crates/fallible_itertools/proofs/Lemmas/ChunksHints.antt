@@ -1,19 +1,21 @@
--- The hint of `Chunks`: how many batches come at least.
-use Rattle.std.specs.Prelude.{◌≡◌, ℕ, ◌+◌, ◌-◌, ◌*◌, ◌/◌, ◌≤◌, ◌<◌, suc, max, cond, leb, Bool, true, false, Option, Some, None, Ok, List, [], ◌∷◌, length, vec_items}
+-- The hint of `Chunks`: how many batches come at least, and at most.
+use Rattle.std.specs.Prelude.{◌≡◌, ℕ, ◌+◌, ◌-◌, ◌*◌, ◌/◌, ◌≤◌, ◌<◌, suc, max, cond, leb, Bool, true, false, Option, Some, None, Ok, Err, List, [], ◌∷◌, length, vec_items}
 use Rattle.std.proofs.Common.{refl, sym, ap, subst, arith, length-append, ◌∙◌}
 use Rattle.std.proofs.lemmas.Bool.{leb-false}
 use Rattle.std.proofs.Math.Nat.{div-lt_iff_lt-mul, div-le_self, suc-mul}
 use Rattle.fallible_iterator.specs.Traces.{Answered, Yields, end, item}
 use Rattle.fallible_iterator.specs.Contract.{Contract, seen_as}
-use Rattle.fallible_iterator.specs.Passing.{passing_step}
-use Rattle.fallible_iterator.specs.SoundHints.{BoundsAbove, BoundsBelow, AsSound, KeepsBrackets}
+use Rattle.fallible_iterator.specs.SoundHints.{BoundsAbove, BoundsBelow, AsSound, Brackets, KeepsBrackets, SoundHints}
 use Rattle.fallible_iterator.specs.Laws.Passing.{Passes, done, end_passes, failure_passes, keeps, refuses, closes, leaves_out, to_passes}
-use Rattle.fallible_iterator.proofs.Lemmas.Hints.Drawn.{sound_seen}
-use Rattle.fallible_itertools.specs.Chunks.{begun, chunks_asks, chunks_contract, chunks_parts, room_left}
+use Rattle.fallible_iterator.proofs.Lemmas.Hints.Drawn.{brackets_seen, sound_seen}
+use Rattle.fallible_itertools.specs.Chunks.{batch_held, begun, chunks_asks, chunks_contract, chunks_due, chunks_hints, chunks_parts, room_left}
 use Rattle.fallible_itertools.specs.Growing.{Grown}
-use Rattle.fallible_itertools.specs.HoldingEnds.{with_ends, as_answered, held_one}
+use Rattle.fallible_iterator.specs.Hints.{fitting_sum}
+use Rattle.fallible_itertools.specs.Holding.{asks_item, as_answered_item, BeforeStop, Behind, held_one, holding_step}
+use Rattle.fallible_itertools.specs.Laws.Chunks.{holds_chunks}
+use Rattle.fallible_itertools.proofs.Lemmas.HoldingHints.{GivesHeld, above_held, due_sound}
 use Rattle.fallible_iterator.specs.Outcome.{Outcome}
-use Rattle.fallible_iterator.specs.Outcome.TheVariants.{Kept, LeftOut, End}
+use Rattle.fallible_iterator.specs.Outcome.TheVariants.{Kept, LeftOut, Failure, End}
 use Rattle.std.specs.declared.vec.Vec.{Vec}
 use Rattle.std.specs.declared.alloc.Global.{Global}
 use Rattle.std.specs.declared.alloc.AllocError.{AllocError}
@@ -39,8 +41,17 @@ pub begun_less : (n room k : ℕ) → 1 ≤ room → begun n room k ≤ k - 1
 begun_less n room k some = less_at n room k (leb k room) refl some
 
 module _ {S A E : Type 0} (from : AllocError → E → Type 0) (steps : S → Answered A E → S → Type 0) where
-  abbrev Whole : S → ℕ × Option (Vec A Global) → List (Answered (Vec A Global) E) → S → ℕ × Option (Vec A Global) → Type 0
-  Whole = Passes (with_ends steps) (chunks_asks from) as_answered
+  abbrev Held : Type 0
+  Held = ℕ × Option (Vec A Global)
+
+  abbrev State : Type 0
+  State = S × (Held × Option (Option E))
+
+  abbrev UpTo : S → Held → List (Answered (Vec A Global) E) → S → Held → Type 0
+  UpTo = Passes steps (asks_item (chunks_asks from)) as_answered_item
+
+  abbrev Steps : State → Answered (Vec A Global) E → State → Type 0
+  Steps = holding_step (chunks_asks from) steps
 
   -- so many items are enough for m batches and no more, with the one that is held
   abbrev Enough : ℕ → Option (Vec A Global) → ℕ → ℕ → Type 0
@@ -58,9 +69,8 @@ module _ {S A E : Type 0} (from : AllocError → E → Type 0) (steps : S → An
   kept_enough n low m None x w is full few = let k : suc m * max n 1 ≡ m * max n 1 + max n 1 = suc-mul m (max n 1) in omega (arith, k, few)
   kept_enough n low m (Some v) x w is full few = (m, refl, omega (arith, few))
 
-  kept_case : (s u : S) (p q : ℕ × Option (Vec A Global)) (asked : Option A) (y : Vec A Global) → steps s (Ok asked) u → chunks_asks from p asked (Kept y) q → (m : ℕ) → ((low : ℕ) → BoundsBelow steps u low → Enough q.0 q.1 low m) → (low : ℕ) → BoundsBelow steps s low → Enough p.0 p.1 low (suc m)
-  kept_case s u p q (Some x) y step (grown, full, at) m later low below = kept_enough p.0 low m p.1 x y grown full (subst (λ (z : ℕ × Option (Vec A Global)). Enough z.0 z.1 (low - 1) m) at (later (low - 1) (less_below s u x low step below)))
-  kept_case s u p q None y step (held, at) m later low below = let none : low ≤ 0 = none_below s u low step below in subst (λ (z : Option (Vec A Global)). Enough p.0 z low (suc m)) (sym held) (m, refl, omega (arith, none))
+  kept_case : (s u : S) (p h : Held) (x : A) (y : Vec A Global) → steps s (Ok (Some x)) u → chunks_asks from p (Some x) (Kept y) h → (m : ℕ) → ((low : ℕ) → BoundsBelow steps u low → Enough h.0 h.1 low m) → (low : ℕ) → BoundsBelow steps s low → Enough p.0 p.1 low (suc m)
+  kept_case s u p h x y step (grown, full, at) m later low below = kept_enough p.0 low m p.1 x y grown full (subst (λ (z : Held). Enough z.0 z.1 (low - 1) m) at (later (low - 1) (less_below s u x low step below)))
 
   -- a batch that is held with the item
   left_enough : (n low m : ℕ) (held : Option (Vec A Global)) (x : A) (w : Vec A Global) → Grown held x w → length (vec_items w) < n → Enough n (Some w) (low - 1) m → Enough n held low m
@@ -68,47 +78,101 @@ module _ {S A E : Type 0} (from : AllocError → E → Type 0) (steps : S → An
       subst (λ (j : ℕ). low ≤ j * max n 1) (sym at) (omega (arith, one, more, fewer, few))
   left_enough n low m (Some v) x w is fewer (k, at, few) = let one : length (vec_items w) ≡ length (vec_items v) + 1 = ap length is ∙ length-append (vec_items v) (x ∷ []) in (k, at, omega (arith, one, fewer, few))
 
-  left_case : (s u : S) (p h : ℕ × Option (Vec A Global)) (asked : Option A) → steps s (Ok asked) u → chunks_asks from p asked LeftOut h → (m : ℕ) → ((low : ℕ) → BoundsBelow steps u low → Enough h.0 h.1 low m) → (low : ℕ) → BoundsBelow steps s low → Enough p.0 p.1 low m
-  left_case s u p h (Some x) step (w, grown, fewer, at) m later low below = left_enough p.0 low m p.1 x w grown fewer (subst (λ (z : ℕ × Option (Vec A Global)). Enough z.0 z.1 (low - 1) m) at (later (low - 1) (less_below s u x low step below)))
-  left_case s u p h None step w m later low below = absurd w
+  left_case : (s u : S) (p h : Held) (x : A) → steps s (Ok (Some x)) u → chunks_asks from p (Some x) LeftOut h → (m : ℕ) → ((low : ℕ) → BoundsBelow steps u low → Enough h.0 h.1 low m) → (low : ℕ) → BoundsBelow steps s low → Enough p.0 p.1 low m
+  left_case s u p h x step (w, grown, fewer, at) m later low below = left_enough p.0 low m p.1 x w grown fewer (subst (λ (z : Held). Enough z.0 z.1 (low - 1) m) at (later (low - 1) (less_below s u x low step below)))
 
-  at_item : (s t : S) (p q : ℕ × Option (Vec A Global)) (r : Answered (Vec A Global) E) → Whole s p (r ∷ []) t q → (y : Vec A Global) → r ≡ item y → (m : ℕ) → ((low : ℕ) → BoundsBelow steps t low → Enough q.0 q.1 low m) → (low : ℕ) → BoundsBelow steps s low → Enough p.0 p.1 low (suc m)
-  at_item s t p q _ (end_passes step d) y same m later low below = absurd step
-  at_item s t p q _ (failure_passes e step d) y same m later low below = absurd cc
-  at_item s t p q _ (keeps x o z step called is done) y same m later low below = kept_case s t p q x z step (subst (λ (k : Outcome (Vec A Global) E). chunks_asks from p x k q) is called) m later low below
-  at_item s t p q _ (refuses x o e step called is d) y same m later low below = absurd cc
-  at_item s t p q _ (closes x o step called is d) y same m later low below = absurd cc
-  at_item s t p q r (leaves_out {u = u} {h = h} x o step called is rest) y same m later low below = left_case s u p h x step (subst (λ (k : Outcome (Vec A Global) E). chunks_asks from p x k h) is called) (suc m) (at_item u t h q r rest y same m later) low below
+  -- ---- a batch that comes
 
-  end_case : (s u : S) (p q : ℕ × Option (Vec A Global)) (asked : Option A) → steps s (Ok asked) u → chunks_asks from p asked End q → (low : ℕ) → BoundsBelow steps s low → Enough p.0 p.1 low 0
-  end_case s u p q (Some x) step w low below = absurd w
-  end_case s u p q None step (held, at) low below = let none : low ≤ 0 = none_below s u low step below in subst (λ (z : Option (Vec A Global)). Enough p.0 z low 0) (sym held) (omega (arith, none))
+  -- before a failure it isn't one of those that come before an end
+  failure_due : (e : E) (o : Outcome (Vec A Global) E) (y : Vec A Global) (due : Option (Option E)) → BeforeStop (Some e) o (item y) due → ((d : E) → due ≡ Some (Some d) → ⊥) → ⊥
+  failure_due e (Kept v) y due w none = none e w.1
+  failure_due e (Failure d) y due w none = let k = w.0 in cc
+  failure_due e End y due w none = let k = w.0 in cc
+  failure_due e LeftOut y due w none = w
 
-  at_end : (s t : S) (p q : ℕ × Option (Vec A Global)) (r : Answered (Vec A Global) E) → Whole s p (r ∷ []) t q → r ≡ end → (low : ℕ) → BoundsBelow steps s low → Enough p.0 p.1 low 0
-  at_end s t p q _ (end_passes step d) same low below = absurd step
-  at_end s t p q _ (failure_passes e step d) same low below = absurd cc
-  at_end s t p q _ (keeps x o z step called is d) same low below = absurd cc
-  at_end s t p q _ (refuses x o e step called is d) same low below = absurd cc
-  at_end s t p q _ (closes {u = u} {h = h} x o step called is d) same low below = end_case s u p h x step (subst (λ (k : Outcome (Vec A Global) E). chunks_asks from p x k h) is called) low below
-  at_end s t p q r (leaves_out {u = u} {h = h} x o step called is rest) same low below = left_case s u p h x step (subst (λ (k : Outcome (Vec A Global) E). chunks_asks from p x k h) is called) 0 (at_end u t h q r rest same) low below
+  end_enough : (p : Held) (q : Held × Option (Option E)) (o : Outcome (Vec A Global) E) (y : Vec A Global) (m low : ℕ) → chunks_asks from p None o q.0 → BeforeStop None o (item y) q.1 → low ≤ 0 → Enough p.0 p.1 low (suc m)
+  end_enough p q (Kept v) y m low asked w few = subst (λ (z : Option (Vec A Global)). Enough p.0 z low (suc m)) (sym asked.0) (m, refl, omega (arith, few))
+  end_enough p q (Failure d) y m low asked w few = absurd asked
+  end_enough p q End y m low asked w few = absurd (let k = w.0 in cc)
+  end_enough p q LeftOut y m low asked w few = absurd asked
 
-  abbrev Steps : S × (ℕ × Option (Vec A Global)) → Answered (Vec A Global) E → S × (ℕ × Option (Vec A Global)) → Type 0
-  Steps = passing_step (with_ends steps) (chunks_asks from) as_answered
+  at_item : (s t : S) (p h : Held) (q : Held × Option (Option E)) (z : Answered (Vec A Global) E) (y : Vec A Global) (m : ℕ) → UpTo s p (z ∷ []) t h → Behind (chunks_asks from) h z (item y) q → (q.1 ≡ None → (low : ℕ) → BoundsBelow steps t low → Enough q.0.0 q.0.1 low m) → ((d : E) → q.1 ≡ Some (Some d) → ⊥) → (low : ℕ) → BoundsBelow steps s low → Enough p.0 p.1 low (suc m)
+  at_item s t p h q _ y m (end_passes step done) b later none low below = end_enough p q b.0 y m low b.1 b.2 (none_below s t low step below)
+  at_item s t p h q _ y m (failure_passes e step done) b later none low below = absurd (failure_due e b.0 y q.1 b.2 none)
+  at_item s t p h q _ y m (keeps x o w step called is done) b later none low below = kept_case s t p h x w step (subst (λ (k : Outcome (Vec A Global) E). chunks_asks from p (Some x) k h) is called) m (subst (λ (z : Held). (low : ℕ) → BoundsBelow steps t low → Enough z.0 z.1 low m) (ap (λ (d : Held × Option (Option E)). d.0) b.1) (later (ap (λ (d : Held × Option (Option E)). d.1) b.1))) low below
+  at_item s t p h q _ y m (refuses x o e step called is done) b later none low below = absurd (failure_due e b.0 y q.1 b.2 none)
+  at_item s t p h q _ y m (closes x o step called is done) b later none low below = absurd (subst (λ (k : Outcome (Vec A Global) E). chunks_asks from p (Some x) k h) is called)
+  at_item s t p h q z y m (leaves_out {u = u} {h = g} x o step called is rest) b later none low below = left_case s u p g x step (subst (λ (k : Outcome (Vec A Global) E). chunks_asks from p (Some x) k g) is called) (suc m) (λ few under. at_item u t g h q z y m rest b later none few under) low below
 
-  all_enough : (xs : List (Vec A Global)) (s : S) (p : ℕ × Option (Vec A Global)) (t u : S × (ℕ × Option (Vec A Global))) → Yields Steps (s, p) xs t → Steps t end u → (low : ℕ) → BoundsBelow steps s low → Enough p.0 p.1 low (length xs)
-  all_enough [] s p t u ran last low below = at_end s u.0 p u.1 end (to_passes (subst (λ (v : S × (ℕ × Option (Vec A Global))). Steps v end u) (sym ran) last)) refl low below
-  all_enough (y ∷ xs) s p t u ran last low below = at_item s (ran.0).0 p (ran.0).1 (item y) (to_passes ran.1) y refl (length xs) (λ few b. all_enough xs (ran.0).0 (ran.0).1 t u ran.2 last few b) low below
+  -- ---- an end
+
+  end_alone : (p : Held) (q : Held × Option (Option E)) (o : Outcome (Vec A Global) E) (low : ℕ) → chunks_asks from p None o q.0 → BeforeStop None o end q.1 → low ≤ 0 → Enough p.0 p.1 low 0
+  end_alone p q (Kept v) low asked w few = absurd (let k = w.0 in cc)
+  end_alone p q (Failure d) low asked w few = absurd asked
+  end_alone p q End low asked w few = subst (λ (z : Option (Vec A Global)). Enough p.0 z low 0) (sym asked.0) (omega (arith, few))
+  end_alone p q LeftOut low asked w few = absurd asked
+
+  no_end_at : (e : E) (o : Outcome (Vec A Global) E) (due : Option (Option E)) → BeforeStop (Some e) o end due → ⊥
+  no_end_at e (Kept v) due w = let k = w.0 in cc
+  no_end_at e (Failure d) due w = let k = w.0 in cc
+  no_end_at e End due w = let k = w.0 in cc
+  no_end_at e LeftOut due w = w
+
+  at_end : (s t : S) (p h : Held) (q : Held × Option (Option E)) (z : Answered (Vec A Global) E) → UpTo s p (z ∷ []) t h → Behind (chunks_asks from) h z end q → (low : ℕ) → BoundsBelow steps s low → Enough p.0 p.1 low 0
+  at_end s t p h q _ (end_passes step done) b low below = end_alone p q b.0 low b.1 b.2 (none_below s t low step below)
+  at_end s t p h q _ (failure_passes e step done) b low below = absurd (no_end_at e b.0 q.1 b.2)
+  at_end s t p h q _ (keeps x o w step called is done) b low below = absurd (let k = b.0 in cc)
+  at_end s t p h q _ (refuses x o e step called is done) b low below = absurd (no_end_at e b.0 q.1 b.2)
+  at_end s t p h q _ (closes x o step called is done) b low below = absurd (subst (λ (k : Outcome (Vec A Global) E). chunks_asks from p (Some x) k h) is called)
+  at_end s t p h q z (leaves_out {u = u} {h = g} x o step called is rest) b low below = left_case s u p g x step (subst (λ (k : Outcome (Vec A Global) E). chunks_asks from p (Some x) k g) is called) 0 (λ few under. at_end u t g h q z rest b few under) low below
+
+  -- ---- a run of batches
+
+  -- behind a failure that is due comes no end
+  due_no_end : (e : E) (xs : List (Vec A Global)) (s : S) (p : Held) (t u : State) → Yields Steps (s, (p, Some (Some e))) xs t → Steps t end u → ⊥
+  due_no_end e [] s p t u ran last = let w : Steps (s, (p, Some (Some e))) end u = subst (λ (v : State). Steps v end u) (sym ran) last in let k = w.0 in cc
+  due_no_end e (y ∷ xs) s p t u ran last = let k = ran.1.0 in cc
+
+  all_enough : (xs : List (Vec A Global)) (s : S) (p : Held) (t u : State) → Yields Steps (s, (p, None)) xs t → Steps t end u → (low : ℕ) → BoundsBelow steps s low → Enough p.0 p.1 low (length xs)
+  all_enough [] s p t u ran last low below = let w : Steps (s, (p, None)) end u = subst (λ (v : State). Steps v end u) (sym ran) last in at_end s u.0 p w.0 u.1 w.1 (to_passes w.2) w.3 low below
+  all_enough (y ∷ xs) s p t u ran last low below = let v = ran.0 in let w = ran.1 in at_item s v.0 p w.0 v.1 w.1 y (length xs) (to_passes w.2) w.3
+      (λ undue few under. all_enough xs v.0 v.1.0 t u (subst (λ (d : Option (Option E)). Yields Steps (v.0, (v.1.0, d)) xs t) undue ran.2) last few under)
+      (λ d due. due_no_end d xs v.0 v.1.0 t u (subst (λ (k : Option (Option E)). Yields Steps (v.0, (v.1.0, k)) xs t) due ran.2) last) low below
 
   bound_of : (n low m : ℕ) (held : Option (Vec A Global)) → Enough n held low m → held_one held + begun n (room_left n held) low ≤ m
   bound_of n low m None few = let k : begun n 0 low ≤ m = begun_fits n 0 low m (omega (arith, few)) in omega (arith, k)
   bound_of n low m (Some v) (k, at, few) = let j : begun n (room_left n (Some v)) low ≤ k = begun_fits n (room_left n (Some v)) low k few in omega (arith, j, at)
 
-  chunks_sound : (s : S) (p : ℕ × Option (Vec A Global)) (h k : ℕ × Option ℕ) → h ≡ (held_one p.1 + begun p.0 (room_left p.0 p.1) k.0, None) → AsSound Steps (s, p) h steps s k
+  left_out : (p : Held) (x : A) (q : Held) → chunks_asks from p (Some x) LeftOut q → 1 ≤ batch_held q
+  left_out p x q w = rw w.3 (omega arith)
+
+  none_held : (p q : Held) → chunks_asks from p None End q → batch_held p ≡ 0
+  none_held p q w = rw w.0 refl
+
+  gives_held : GivesHeld {P = Held} {X = A} {B = Vec A Global} {E = E} (chunks_asks from) batch_held
+  gives_held = record { left_out = left_out; at_stop = none_held }
+
+  chunks_sound : (s : S) (p : Held) (h k : ℕ × Option ℕ) → (h.0 ≡ held_one p.1 + begun p.0 (room_left p.0 p.1) k.0) × (h.1 ≡ fitting_sum k.1 (Some (held_one p.1))) → AsSound Steps (s, (p, None)) h steps s k
   chunks_sound s p h k is = record {
-    above = λ a. subst (λ (o : Option ℕ). BoundsAbove Steps (s, p) o) (sym (ap (λ (z : ℕ × Option ℕ). z.1) is)) (λ xs t ran. tt);
-    below = λ b. subst (λ (n : ℕ). BoundsBelow Steps (s, p) n) (sym (ap (λ (z : ℕ × Option ℕ). z.0) is)) (λ xs t u ran last. bound_of p.0 k.0 (length xs) p.1 (all_enough xs s p t u ran last k.0 b));
+    above = λ a. subst (λ (o : Option ℕ). BoundsAbove Steps (s, (p, None)) o) (sym is.1) (above_held steps (chunks_asks from) batch_held (holds_chunks from) gives_held k.1 s p a);
+    below = λ b. subst (λ (n : ℕ). BoundsBelow Steps (s, (p, None)) n) (sym is.0) (λ xs t u ran last. bound_of p.0 k.0 (length xs) p.1 (all_enough xs s p t u ran last k.0 b));
   }
 
--- Each hint of `Chunks` is as sound as that of its source.
-pub keeps_chunks : {S A E : Type 0} (m : Contract S A E) (from : AllocError → E → Type 0) (s : Chunks S A E) → KeepsBrackets (seen_as chunks_parts (chunks_contract from m)) s m s.it
-keeps_chunks m from s h is = (is.0, is.1, sound_seen chunks_parts _ s h (chunks_sound from m.steps s.it s.batch h is.0 is.2))
+  stop_sound : (stop : Option E) (s : S) (p : Held) → Brackets Steps (s, (p, Some stop)) (0, Some 0)
+  stop_sound stop s p = due_sound steps (chunks_asks from) batch_held (holds_chunks from) gives_held stop s p
+
+module _ {S A E : Type 0} (m : Contract S A E) (from : AllocError → E → Type 0) (s : Chunks S A E) where
+  abbrev Given : Type 0
+  Given = S × ((ℕ × Option (Vec A Global)) × Option (Option E))
+
+  -- Each hint of `Chunks` is as sound as that of its source.
+  pub keeps_chunks : chunks_due s ≡ None → KeepsBrackets (seen_as chunks_parts (chunks_contract from m)) s m s.it
+  keeps_chunks undue h is = let at : chunks_parts s ≡ (s.it, (s.batch, None)) = ap (λ (d : Option (Option E)). (s.it, (s.batch, d))) undue in
+      let k : chunks_hints m (s.it, (s.batch, None)) h = subst (λ (p : Given). chunks_hints m p h) at is in
+      (k.0, k.1, sound_seen chunks_parts _ s h (subst (λ (p : Given). AsSound (holding_step (chunks_asks from) m.steps) p h m.steps s.it k.0) (sym at) (chunks_sound from m.steps s.it s.batch h k.0 (k.2, k.3))))
+
+  -- Where a stop is due, nothing comes before it.
+  pub sound_chunks : (stop : Option E) → chunks_due s ≡ Some stop → SoundHints (seen_as chunks_parts (chunks_contract from m)) s
+  sound_chunks stop due h is = let at : chunks_parts s ≡ (s.it, (s.batch, Some stop)) = ap (λ (d : Option (Option E)). (s.it, (s.batch, d))) due in
+      let k : h ≡ (0, Some 0) = subst (λ (p : Given). chunks_hints m p h) at is in
+      brackets_seen chunks_parts _ s h (subst (λ (j : ℕ × Option ℕ). Brackets (holding_step (chunks_asks from) m.steps) (chunks_parts s) j) (sym k) (subst (λ (p : Given). Brackets (holding_step (chunks_asks from) m.steps) p (0, Some 0)) (sym at) (stop_sound from m.steps stop s.it s.batch)))

@@ -91,7 +91,7 @@ module _ {S P X B E : Type 0} (steps : S → Answered X E → S → Type 0) (ask
   at_least [] s f t ran = ([], s, refl, omega arith)
   at_least (y ∷ ys) s f t ran = let w = ran.1 in let k = first_and w.1 y ys s ran.0.0 f w.0 ran.0.1 t (items_drawn s ran.0.0 f w.0 w.1 (to_passes w.2)) w.3 ran.2 (λ r. at_least ys ran.0.0 w.0 t r) in (k.0, k.1, k.2, omega (arith, k.3))
 
-  above_held : (k : Option ℕ) (s : S) (f : P) → BoundsAbove steps s k → BoundsAbove Steps (s, (f, None)) (fitting_sum k (Some (held f)))
+  pub above_held : (k : Option ℕ) (s : S) (f : P) → BoundsAbove steps s k → BoundsAbove Steps (s, (f, None)) (fitting_sum k (Some (held f)))
   above_held k s f above = λ xs t ran. let a = at_least xs s f t ran in no_greater (fitting_sum k (Some (held f))) (length xs) (length a.0 + held f) a.3 (sum_above k (Some (held f)) (length a.0) (held f) (length a.0 + held f) refl (above a.0 a.1 a.2) (omega arith))
 
   -- ---- below

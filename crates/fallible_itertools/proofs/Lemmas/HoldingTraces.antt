@@ -5,7 +5,7 @@ use Rattle.std.proofs.Common.{refl, sym, ap, subst, arith, inl, inr, length-appe
 use Rattle.std.proofs.lemmas.List.{append-nil}
 use Rattle.fallible_iterator.specs.Traces.{Answered, Run, item}
 use Rattle.fallible_iterator.specs.Laws.Passing.{Passes, done, end_passes, failure_passes, keeps, refuses, closes, leaves_out, to_passes, from_passes, passes_item, passes_refusal, passes_end, passes_failure, passes_closing}
-use Rattle.fallible_itertools.specs.Holding.{asks_item, as_answered_item, stop_answer, due_answer, BeforeStop, Behind, holding_step, StopMade, MadeOfStop, MadeOfItem, DrawMade, LastMade, HoldingTrace}
+use Rattle.fallible_itertools.specs.Holding.{asks_item, as_answered_item, stop_answer, due_answer, BeforeStop, AtStop, Behind, holding_step, StopMade, MadeOfStop, MadeOfItem, DrawMade, LastMade, HoldingTrace}
 use Rattle.fallible_iterator.specs.Outcome.{Outcome}
 use Rattle.fallible_iterator.specs.Outcome.TheVariants.{Kept, LeftOut, Failure, End}
 
@@ -141,8 +141,24 @@ module _ {S P X B E : Type 0} (steps : S → Answered X E → S → Type 0) (ask
   first_made (Err e) s u p g m step w = let k = stop_first (Some e) w.0 m w.2 in inr (k.0, k.1, k.2, (p, Err e, passes_failure step, (w.0, w.1, k.3)))
 
   -- an item that was left out before an answer
-  left_before : (s u : S) (p g : P) (x : X) (r : Answered B E) (v : State) → steps s (item x) u → asks p (Some x) LeftOut g → Steps (u, (g, None)) r v → Steps (s, (p, None)) r v
+  pub left_before : (s u : S) (p g : P) (x : X) (r : Answered B E) (v : State) → steps s (item x) u → asks p (Some x) LeftOut g → Steps (u, (g, None)) r v → Steps (s, (p, None)) r v
   left_before s u p g x r (t, q) step called w = (w.0, w.1, from_passes (leaves_out x LeftOut step called refl (to_passes w.2)), w.3)
+
+  -- ---- one answer by hand
+
+  pub item_step : {s u : S} {p g : P} {due : Option (Option E)} (x : X) (y : B) → steps s (item x) u → asks p (Some x) (Kept y) g → due ≡ None → Steps (s, (p, None)) (item y) (u, (g, due))
+  item_step {g = g} x y step called is = (g, item y, passes_item x (Kept y) y step called refl, (refl, ap (λ (d : Option (Option E)). (g, d)) is))
+
+  pub refused_step : {s u : S} {p h : P} {r : Answered B E} {q : P × Option (Option E)} (x : X) (e : E) → steps s (item x) u → asks p (Some x) (Failure e) h → AtStop asks h (Some e) r q → Steps (s, (p, None)) r (u, q)
+  refused_step {h = h} x e step called w = (h, Err e, passes_refusal x (Failure e) e step called refl, w)
+
+  pub end_step : {s u : S} {p : P} {r : Answered B E} {q : P × Option (Option E)} → steps s (Ok None) u → AtStop asks p None r q → Steps (s, (p, None)) r (u, q)
+  end_step {p = p} step w = (p, Ok None, passes_end step, w)
+
+  pub failure_step : {s u : S} {p : P} {r : Answered B E} {q : P × Option (Option E)} (e : E) → steps s (Err e) u → AtStop asks p (Some e) r q → Steps (s, (p, None)) r (u, q)
+  failure_step {p = p} e step w = (p, Err e, passes_failure step, w)
+
+  -- ---- draws that are a trace
 
   module _ (d : Option (Option E)) (q : State) where
     -- where no stop is due

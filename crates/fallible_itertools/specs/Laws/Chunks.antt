@@ -3,9 +3,9 @@ use Rattle.std.specs.Prelude.{◌≡◌, Option, Some, None, ⊤}
 use Rattle.std.proofs.Common.{refl, arith}
 use Rattle.fallible_iterator.specs.Contract.{Contract, Lawful}
 use Rattle.fallible_itertools.specs.Growing.{SameHeld}
-use Rattle.fallible_itertools.specs.HoldingEnds.{Holds, held_one}
+use Rattle.fallible_itertools.specs.Holding.{Holds, held_one}
 use Rattle.fallible_itertools.specs.Chunks.{batch_held, chunks_asks, chunks_contract, chunks_hints}
-use Rattle.fallible_itertools.specs.Laws.HoldingEnds.{lawful_holding}
+use Rattle.fallible_itertools.specs.Laws.Holding.{lawful_filling}
 use Rattle.fallible_iterator.specs.Outcome.TheVariants.{Kept, LeftOut, Failure, End}
 use Rattle.std.specs.declared.vec.Vec.{Vec}
 use Rattle.std.specs.declared.alloc.Global.{Global}
@@ -30,4 +30,4 @@ module _ {A E : Type 0} (from : AllocError → E → Type 0) where
   holds_chunks p None End q w = rw w.1 (omega arith)
 
 pub lawful_chunks : {S A E : Type 0} {m : Contract S A E} (from : AllocError → E → Type 0) → Lawful m → Lawful (chunks_contract from m)
-lawful_chunks {m = m} from l = lawful_holding (chunks_asks from) (λ p x. ⊤) batch_held (chunks_hints m) (holds_chunks from) l
+lawful_chunks {m = m} from l = lawful_filling (chunks_asks from) (λ p x. ⊤) batch_held (chunks_hints m) (holds_chunks from) l

@@ -1,14 +1,14 @@
 -- The contracts of the adapters that hold are lawful where the source's is.
 use Rattle.std.specs.Prelude.{◌≡◌, ℕ, ◌+◌, ◌<◌, ◌≤◌, ◌⊎◌, ⊤, Option, Some, None, Ok, Err, List, [], ◌∷◌}
 use Rattle.std.specs.Iterator.{IsFinite, size}
-use Rattle.std.proofs.Common.{subst, arith, refl, inl, inr}
+use Rattle.std.proofs.Common.{subst, arith, refl, sym, ap, inl, inr}
 use Rattle.fallible_iterator.specs.Traces.{Answered}
 use Rattle.fallible_iterator.specs.Contract.{Contract, OnAnswer, KeptByDraw, KeptByDraws, Lawful}
 use Rattle.fallible_iterator.specs.Closures.{Reaches, MayAnswer}
-use Rattle.fallible_iterator.specs.Laws.Contract.{kept_after, kept_then}
+use Rattle.fallible_iterator.specs.Laws.Contract.{kept_after, kept_here, kept_then}
 use Rattle.fallible_iterator.specs.Laws.Closures.{reaches_here, reaches_weaken, reaches_then, reaches_from, callable_after, may_answer_here, may_answer_after}
 use Rattle.fallible_iterator.specs.Laws.Passing.{Passes, done, end_passes, failure_passes, keeps, refuses, closes, leaves_out, to_passes}
-use Rattle.fallible_itertools.specs.Holding.{asks_item, as_answered_item, stop_answer, BeforeStop, Behind, HeldAfter, Holds, OrStop, MayBeAsked, holding_contract}
+use Rattle.fallible_itertools.specs.Holding.{asks_item, as_answered_item, stop_answer, BeforeStop, Behind, HeldAfter, Holds, OrStop, MayBeAsked, filling_contract, holding_contract}
 use Rattle.fallible_iterator.specs.Outcome.{Outcome}
 use Rattle.fallible_iterator.specs.Outcome.TheVariants.{Kept, LeftOut, Failure, End}
 
@@ -17,9 +17,14 @@ or_stop_weaker : {X : Type 0} {P Q : X → Type 0} → ((x : X) → P x → Q x)
 or_stop_weaker weak (Some x) p = weak x p
 or_stop_weaker weak None p = tt
 
+-- what one answer keeps of the source, and what asking brings the adapter to
+pub record Moved {S P X B E : Type 0} (m : Contract S X E) (asks : P → Option X → Outcome B E → P → Type 0) (s : S) (f : P) (t : S) (g : P) : Type 0 where
+  pub kept : KeptByDraws m s t
+  pub reached : Reaches asks (MayBeAsked m s) f g
+
 module _ {S P X B E : Type 0} (m : Contract S X E) (l : Lawful m) (asks : P → Option X → Outcome B E → P → Type 0) (pre : P → Option X → Type 0) (held : P → ℕ) (hints : S × (P × Option (Option E)) → ℕ × Option ℕ → Type 0) (weighs : Holds asks held) where
   abbrev M : Contract (S × (P × Option (Option E))) B E
-  M = holding_contract m asks pre held hints
+  M = filling_contract m asks pre held hints
 
   abbrev UpTo : S → P → List (Answered B E) → S → P → Type 0
   UpTo = Passes m.steps (asks_item asks) as_answered_item
@@ -175,7 +180,7 @@ module _ {S P X B E : Type 0} (m : Contract S X E) (l : Lawful m) (asks : P → 
 
     goes_before : (stop : Option E) (o : Outcome B E) (r : Answered B E) (due : Option (Option E)) → M.can_next (Before s f) → KeptByDraws m s t → Stopped s f stop t h g o → BeforeStop stop o r due → KeptByDraw M (Before s f) r (t, (g, due))
     goes_before stop o r due c kept k is = let reached = reaches_then k.reached (reaches_from None o tt k.asked reaches_here) in record {
-      can_next = (kept.is_finite c.0, kept.can_next, callable_after (or_stop_weaker kept.may_give) reached c.2);
+      can_next = (kept.can_next, callable_after (or_stop_weaker kept.may_give) reached c.1);
       is_finite = kept.is_finite;
       answer = answer_before stop o r due k is;
       may_give = λ y a. may_answer_after (or_stop_weaker kept.may_give) reached a;
@@ -185,7 +190,7 @@ module _ {S P X B E : Type 0} (m : Contract S X E) (l : Lawful m) (asks : P → 
 
   goes_behind : (s t : S) (f h g : P) (due : Option (Option E)) (z r : Answered B E) → M.can_next (Before s f) → Comes s f z t h → Behind asks h z r (g, due) → KeptByDraw M (Before s f) r (t, (g, due))
   goes_behind s t f h g due (Ok (Some y)) r c k is = rw (is.0, is.1) (record {
-    can_next = (k.kept.is_finite c.0, k.kept.can_next, callable_after (or_stop_weaker k.kept.may_give) k.reached c.2);
+    can_next = (k.kept.can_next, callable_after (or_stop_weaker k.kept.may_give) k.reached c.1);
     is_finite = k.kept.is_finite;
     answer = item_comes s t f h y k;
     may_give = λ y a. may_answer_after (or_stop_weaker k.kept.may_give) k.reached a;
@@ -222,12 +227,47 @@ module _ {S P X B E : Type 0} (m : Contract S X E) (l : Lawful m) (asks : P → 
     lenders = refl;
   }
 
-  goes_holding : (p : S × (P × Option (Option E))) (r : Answered B E) (q : S × (P × Option (Option E))) → M.can_next p → M.steps p r q → KeptByDraw M p r q
-  goes_holding (s, (f, Some stop)) r (t, q) c step = rw (step.0, step.1, step.2) (goes_due s f stop c)
-  goes_holding (s, (f, None)) r (t, (g, due)) c step = goes_behind s t f step.0 g due step.1 r c (comes s t f step.0 step.1 c.1 (to_passes step.2)) step.3
+  moved_behind : (s t : S) (f h g : P) (due : Option (Option E)) (z r : Answered B E) → Comes s f z t h → Behind asks h z r (g, due) → Moved m asks s f t g
+  moved_behind s t f h g due (Ok (Some y)) r k is = record { kept = k.kept; reached = subst (λ (p : P). Reaches asks (MayBeAsked m s) f p) (sym (ap (λ (d : P × Option (Option E)). d.0) is.1)) k.reached }
+  moved_behind s t f h g due (Ok None) r k is = record { kept = k.kept; reached = reaches_then k.reached (reaches_from None is.0 tt is.1 reaches_here) }
+  moved_behind s t f h g due (Err e) r k is = record { kept = k.kept; reached = reaches_then k.reached (reaches_from None is.0 tt is.1 reaches_here) }
 
-pub lawful_holding : {S P X B E : Type 0} {m : Contract S X E} (asks : P → Option X → Outcome B E → P → Type 0) (pre : P → Option X → Type 0) (held : P → ℕ) (hints : S × (P × Option (Option E)) → ℕ × Option ℕ → Type 0) → Holds asks held → Lawful m → Lawful (holding_contract m asks pre held hints)
-lawful_holding {m = m} asks pre held hints weighs l = record {
-  kept_by_draw = goes_holding m l asks pre held hints weighs;
-  bounded = λ p. ((λ e. let k = (l.bounded p.0).0 e in (k.0 + held p.1.0, (k.0, k.1, omega arith))), (λ h. (l.bounded p.0).1 ((h.1).0, (h.1).1)));
-}
+  pub step_moves : (p : S × (P × Option (Option E))) (r : Answered B E) (q : S × (P × Option (Option E))) → m.can_next p.0 → M.steps p r q → Moved m asks p.0 p.1.0 q.0 q.1.0
+  step_moves (s, (f, Some stop)) r (t, q) c step = subst (λ (v : S). Moved m asks s f v q.0) (sym step.1) (subst (λ (d : P × Option (Option E)). Moved m asks s f s d.0) (sym step.2) (record { kept = kept_here c; reached = reaches_here }))
+  step_moves (s, (f, None)) r (t, (g, due)) c step = moved_behind s t f step.0 g due step.1 r (comes s t f step.0 step.1 c (to_passes step.2)) step.3
+
+  goes_filling : (p : S × (P × Option (Option E))) (r : Answered B E) (q : S × (P × Option (Option E))) → M.can_next p → M.steps p r q → KeptByDraw M p r q
+  goes_filling (s, (f, Some stop)) r (t, q) c step = rw (step.0, step.1, step.2) (goes_due s f stop c)
+  goes_filling (s, (f, None)) r (t, (g, due)) c step = goes_behind s t f step.0 g due step.1 r c (comes s t f step.0 step.1 c.0 (to_passes step.2)) step.3
+
+  -- a bound of the source, asked besides, stays
+  abbrev Bounded : Contract (S × (P × Option (Option E))) B E
+  Bounded = holding_contract m asks pre held hints
+
+  answer_bounded : (p : S × (P × Option (Option E))) (r : Answered B E) (q : S × (P × Option (Option E))) → OnAnswer M p r q → OnAnswer Bounded p r q
+  answer_bounded p (Ok (Some y)) q a = a
+  answer_bounded p (Ok None) q a = a
+  answer_bounded p (Err e) q a = a
+
+  goes_holding : (p : S × (P × Option (Option E))) (r : Answered B E) (q : S × (P × Option (Option E))) → Bounded.can_next p → Bounded.steps p r q → KeptByDraw Bounded p r q
+  goes_holding p r q c step = let k = goes_filling p r q (c.1, c.2) step in record {
+    can_next = (k.is_finite c.0, k.can_next.0, k.can_next.1);
+    is_finite = k.is_finite;
+    answer = answer_bounded p r q k.answer;
+    may_give = k.may_give;
+    may_fail = k.may_fail;
+    lenders = k.lenders;
+  }
+
+module _ {S P X B E : Type 0} {m : Contract S X E} (asks : P → Option X → Outcome B E → P → Type 0) (pre : P → Option X → Type 0) (held : P → ℕ) (hints : S × (P × Option (Option E)) → ℕ × Option ℕ → Type 0) (weighs : Holds asks held) (l : Lawful m) where
+  pub lawful_filling : Lawful (filling_contract m asks pre held hints)
+  lawful_filling = record {
+    kept_by_draw = goes_filling m l asks pre held hints weighs;
+    bounded = λ p. ((λ e. let k = (l.bounded p.0).0 e in (k.0 + held p.1.0, (k.0, k.1, omega arith))), (λ h. (l.bounded p.0).1 ((h.1).0, (h.1).1)));
+  }
+
+  pub lawful_holding : Lawful (holding_contract m asks pre held hints)
+  lawful_holding = record {
+    kept_by_draw = goes_holding m l asks pre held hints weighs;
+    bounded = λ p. ((λ e. let k = (l.bounded p.0).0 e in (k.0 + held p.1.0, (k.0, k.1, omega arith))), (λ h. (l.bounded p.0).1 ((h.1).0, (h.1).1)));
+  }

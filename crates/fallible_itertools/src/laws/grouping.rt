@@ -1,70 +1,83 @@
 // Of the adapters that give groups of items.
-ghost use Rattle.std.specs.Prelude.{◌≡◌, ℕ, ◌<◌, List, Ok, Result, map};
+ghost use Rattle.std.specs.Prelude.{◌≡◌, ℕ, ◌<◌, ◌++◌, ◌∷◌, List, None, Ok, Err, Option, Result, Some, map};
 ghost use Rattle.fallible_iterator.specs.BothEnds.{items_listed, failures_listed};
 ghost use Rattle.fallible_iterator.specs.LawForm.{TracesAre};
-ghost use Rattle.fallible_iterator.specs.SoundHints.{KeepsBrackets};
-ghost use Rattle.fallible_itertools.specs.ChunkBy.{ChunkByTrace, chunk_by_parts, chunk_by_source, chunked_by};
-ghost use Rattle.fallible_itertools.specs.Chunks.{BatchesOf, ChunksTrace, chunked, chunks_parts, chunks_source, joined};
+ghost use Rattle.fallible_iterator.specs.Lists.{items};
+ghost use Rattle.fallible_iterator.specs.SoundHints.{KeepsBrackets, SoundHints};
+ghost use Rattle.fallible_itertools.specs.ChunkBy.{ChunkByTrace, chunk_by_due, chunk_by_parts, chunk_by_source, chunked_by};
+ghost use Rattle.fallible_itertools.specs.Chunks.{BatchesOf, BatchesUpTo, ChunksTrace, chunked, chunks_due, chunks_parts, chunks_source, joined};
 
 use crate::chunk_by::ChunkBy;
 use crate::chunks::Chunks;
 use fallible_iterator::FallibleIterator;
 use std::alloc::AllocError;
 
-/// The answers of `Chunks` are the source's with its items in batches, each where its last item stands or an end.
+/// The answers of `Chunks` are the stop that is due, the items in batches, each where its last item stands or a stop, and each stop behind the batch that was held before it. A refused request is a stop.
 pub fn law_chunks<I: FallibleIterator>()
 where
     I::Item: Drop,
-    I::Error: From<AllocError>,
+    I::Error: Drop + From<AllocError>,
     ensures { TracesAre chunks_parts ⟦<Chunks<I> as FallibleIterator>⟧.contract.steps
         (ChunksTrace I.Error.from_gives I.contract.steps) }
 {}
 
-/// The batches of a list joined are its items, each batch has n items but the last, which has some and at most n, and the failures are the list's.
+/// The batches of a list joined are its items, each batch has some and at most n, and the failures are the list's. What stands before a failure is batched by itself, and so is what stands behind it; where nothing fails each batch has n items but the last.
 pub fn law_chunked<T, E>()
     ensures items { (n : ℕ) → (l : List (Result T E))
         → joined (items_listed (chunked n l)) ≡ items_listed l }
     ensures sizes { (n : ℕ) → (l : List (Result T E))
-        → 0 < n → BatchesOf n (items_listed (chunked n l)) }
+        → 0 < n → BatchesUpTo n (items_listed (chunked n l)) }
+    ensures whole { (n : ℕ) → (xs : List T)
+        → 0 < n → BatchesOf n (items_listed (chunked {E = E} n (items xs))) }
     ensures failures { (n : ℕ) → (l : List (Result T E))
         → failures_listed (chunked n l) ≡ failures_listed l }
+    ensures parts { (n : ℕ) (a : List (Result T E)) (e : E) (b : List (Result T E))
+        → chunked n (a ++ Err e ∷ b) ≡ chunked n a ++ Err e ∷ chunked n b }
 {}
 
-/// Each hint of `Chunks` is as sound as the hint of its source that it is made of.
+/// Each hint of `Chunks` is as sound as the hint of its source that it is made of; where a stop is due it is sound by itself.
 pub fn law_hints_chunks<I: FallibleIterator>()
 where
     I::Item: Drop,
-    I::Error: From<AllocError>,
-    ensures { (s : Chunks I I.Item I.Error)
+    I::Error: Drop + From<AllocError>,
+    ensures none_due { (s : Chunks I I.Item I.Error) → chunks_due s ≡ None
         → KeepsBrackets ⟦<Chunks<I> as FallibleIterator>⟧.contract s I.contract (chunks_source s) }
+    ensures due { (s : Chunks I I.Item I.Error) (stop : Option I.Error) → chunks_due s ≡ Some stop
+        → SoundHints ⟦<Chunks<I> as FallibleIterator>⟧.contract s }
 {}
 
-/// The answers of `ChunkBy` are the source's with its items in groups of one key, each where the next key differs or an end stands.
+/// The answers of `ChunkBy` are the stop that is due, the items in groups of one key, each where the next key differs or a stop stands, and each stop behind the group that was held before it. The closure's failure and a refused request are stops.
 pub fn law_chunk_by<I: FallibleIterator, K, F>()
 where
     K: PartialEq + Drop,
     F: FnMut(&I::Item) -> Result<K, I::Error>,
     I::Item: Drop,
-    I::Error: From<AllocError>,
+    I::Error: Drop + From<AllocError>,
     ensures { TracesAre chunk_by_parts ⟦<ChunkBy<I, K, F> as FallibleIterator>⟧.contract.steps
         (ChunkByTrace I.Error.from_gives K.eq F.FnMut I.contract.steps) }
 {}
 
-/// The groups of a list joined are its items, where each item has a key.
+/// The groups of a list joined are its items, where each item has a key. What stands before a failure is grouped by itself, and so is what stands behind it.
 pub fn law_chunked_by<T, K: PartialEq, E>()
-    ensures { (key : T → K) → (l : List (Result T E))
+    ensures items { (key : T → K) → (l : List (Result T E))
         → joined (map (λ g. g.1) (items_listed (chunked_by K.eq (λ x. Ok (key x)) l)))
         ≡ items_listed l }
+    ensures parts { (h : T → Result K E) (a : List (Result T E)) (e : E) (b : List (Result T E))
+        → chunked_by K.eq h (a ++ Err e ∷ b)
+        ≡ chunked_by K.eq h a ++ Err e ∷ chunked_by K.eq h b }
 {}
 
-/// Each hint of `ChunkBy` is as sound as the hint of its source that it is made of.
+/// Each hint of `ChunkBy` is as sound as the hint of its source that it is made of; where a stop is due it is sound by itself.
 pub fn law_hints_chunk_by<I: FallibleIterator, K, F>()
 where
     K: PartialEq + Drop,
     F: FnMut(&I::Item) -> Result<K, I::Error>,
     I::Item: Drop,
-    I::Error: From<AllocError>,
-    ensures { (s : ChunkBy I K F I.Item I.Error)
+    I::Error: Drop + From<AllocError>,
+    ensures none_due { (s : ChunkBy I K F I.Item I.Error) → chunk_by_due s ≡ None
         → KeepsBrackets ⟦<ChunkBy<I, K, F> as FallibleIterator>⟧.contract s I.contract
         (chunk_by_source s) }
+    ensures due { (s : ChunkBy I K F I.Item I.Error) (stop : Option I.Error)
+        → chunk_by_due s ≡ Some stop
+        → SoundHints ⟦<ChunkBy<I, K, F> as FallibleIterator>⟧.contract s }
 {}

@@ -1,11 +1,11 @@
 -- What an item, a failure and the end make of it.
 use Rattle.std.proofs.Common.{rules, vec_items}
 use Rattle.sum_groups.specs.Groups.{line_of}
-use Rattle.sum_groups.proofs.Printing.{begins, prints, printed, same_group}
+use Rattle.sum_groups.proofs.Printing.{begins_printing, prints, printed, same_group}
 use Rattle.sum_groups.proofs.groups.print_each_group.Goals as goal
 
 pub loop-left-init : goal.loop-left-init
-loop-left-init g c = (search rules, begins)
+loop-left-init g c = (search rules, begins_printing)
 
 pub returns-in_err-key-clause-text : goal.returns-in_err-key-clause-text
 returns-in_err-key-clause-text g c l lists = search rules

@@ -1,5 +1,7 @@
 -- By the list, with the items that are held before it.
-use Rattle.fallible_itertools.proofs.Lemmas.Chunked.{all_joined, all_sized, failures_stay}
+use Rattle.std.specs.Prelude.{⊤}
+use Rattle.fallible_itertools.proofs.Lemmas.Chunked.{all_joined, all_sized, all_whole, failures_stay}
+use Rattle.fallible_itertools.proofs.Lemmas.Chunks.{chunked_in_parts}
 use Rattle.fallible_itertools.proofs.laws.grouping.law_chunked.Goals as goal
 
 pub returns-clause-items : goal.returns-clause-items
@@ -8,5 +10,11 @@ returns-clause-items g c n l = all_joined _ n l
 pub returns-clause-sizes : goal.returns-clause-sizes
 returns-clause-sizes g c n l some = all_sized _ n l some
 
+pub returns-clause-whole : goal.returns-clause-whole
+returns-clause-whole g c n xs some = all_whole _ n xs some
+
 pub returns-clause-failures : goal.returns-clause-failures
 returns-clause-failures g c n l = failures_stay _ n l
+
+pub returns-clause-parts : goal.returns-clause-parts
+returns-clause-parts g c n a e b = chunked_in_parts (λ r d. ⊤) n a e b
