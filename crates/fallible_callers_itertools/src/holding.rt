@@ -28,7 +28,7 @@ pub fn changes_above_100(readings: Vec<Result<u32, u8>>) -> Result<usize, u8>
         .count()
 }
 
-/// The same over any source that lists a list: it may go on after its end.
+/// The same over any source that lists a list, also one that goes on after its end.
 pub fn changes_of<I: FallibleIterator<Item = u32>>(it: I) -> Result<u64, I::Error>
 where
     I::Error: Drop,

@@ -2,7 +2,7 @@
 ghost use Rattle.std.specs.Prelude.{◌<◌};
 
 use fallible_iterator::Answer::{End, Failure, Item};
-use fallible_iterator::{Answer, FallibleIterator, convert};
+use fallible_iterator::{Answer, FallibleIterator, convert, repeat};
 use fallible_itertools::FallibleItertools;
 use fallible_testing::answered::expect_answers;
 use fallible_testing::course::{Hint, expect_course};
@@ -98,6 +98,22 @@ fn chunks_batch_items_and_end_with_a_short_one(rt: HostRuntime) -> Result<(), Fa
     let source = convert(Vec::from_array(rt.alloc(), HINTED)?.into_iter());
     let mut it = source.chunks(rt.alloc(), 2).map(|batch| Ok(digits(batch)));
     expect_course(&rt, &mut it, &HINTS)
+}
+
+const BEHIND: (
+    Result<Option<u32>, TestError>,
+    Result<Option<(u32, u32)>, TestError>,
+) = (Ok(Some(777)), Ok(Some((7, 7))));
+
+// A draw asks no bound of its source.
+#[test]
+fn batches_and_pairs_come_of_a_source_with_no_end(rt: HostRuntime) -> Result<(), Fail> {
+    let mut batches = repeat::<u32, TestError>(7)
+        .chunks(rt.alloc(), 3)
+        .map(|batch| Ok(digits(batch)));
+    let mut pairs = repeat::<u32, TestError>(7).tuple_windows();
+    assert_eq!(rt; (batches.next(), pairs.next()), BEHIND);
+    Ok(())
 }
 
 // Whether an item is odd. It fails with 0.
