@@ -140,7 +140,7 @@ ITERTOOLS = [
     (r"traits\.rs", r"^    fn (?:chunks|chunk_by|join)\b", r'    #[cfg(feature = "alloc")]\n\g<0>', 3),
     (r"traits\.rs", r"^    fn counts\b", r'    #[cfg(feature = "std")]\n\g<0>', 1),
     (r"lib\.rs", r"\A(?://!.*\n)+\n", HEAD, 1),
-    (r"lib\.rs", r"^pub mod \w+;", r"#[doc(hidden)]\n\g<0>", 23),
+    (r"lib\.rs", r"^pub mod \w+;", r"#[doc(hidden)]\n\g<0>", 25),
     (r"(?:growing|counted|joined)\.rs", r"\A(//!.*\n\n)", r"\1use fallible_iterator::memory::AllocError;\n", 3),
 ]
 
