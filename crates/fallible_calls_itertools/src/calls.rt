@@ -6,7 +6,10 @@ use fallible_itertools::MinMaxResult::MinMax;
 use fallible_itertools::{
     DoubleEndedFallibleItertools, FallibleItertools, FoldWhile, MinMaxResult, NotOne, PeekingNext,
 };
-use fallible_testing::calls::{Calls, NO_CALL, ONE_FOLD, ONE_NEXT, TWO_FOLDS, TWO_NEXTS};
+use fallible_testing::calls::{
+    Calls, NO_CALL, ONE_FOLD, ONE_NEXT, THREE_FOLDS, TWO_FOLDS, TWO_NEXTS,
+};
+use fallible_testing::closures::add_up;
 use fallible_testing::counted::{Counted, Log};
 use fallible_testing::counted_numbers::counted;
 use fallible_testing::scripted::{Script, scripted};
@@ -137,6 +140,36 @@ fn adapters_that_answer_at_no_end_fold_by_one_fold(rt: HostRuntime) -> Result<()
     expect_folded(&mut up_to_two, &log, &NONE_BY_NO_FOLD)?;
     let mut parted = one_one_two(alloc, &log)?.intersperse(0);
     expect_folded(&mut parted, &log, &FIVE_BY_ONE_FOLD)
+}
+
+// What `or_else` and `inspect_err` add up, and the calls that come for both.
+const AROUND_A_FAILURE: ([Result<u32, u32>; 2], Calls) = ([Ok(12), Err(9)], THREE_FOLDS);
+
+// What `inspect_err` counts.
+const COUNTED: (Result<usize, u32>, Calls) = (
+    Err(9),
+    Calls {
+        counts: 1,
+        ..NO_CALL
+    },
+);
+
+// `or_else` folds up to the failure, and from there on where an item stands in its place.
+#[test]
+fn adapters_that_act_on_failures_fold_by_folds(rt: HostRuntime) {
+    let log = Log::new();
+    let answers = [Ok(1), Err(9), Ok(2)];
+    let sums = [
+        counted(&answers, &log)
+            .or_else(|e: u32| Ok::<_, u32>(Some(e)))
+            .fold(0, add_up),
+        counted(&answers, &log)
+            .inspect_err(|_: &u32| {})
+            .fold(0, add_up),
+    ];
+    assert_eq!(rt; (sums, log.take()), AROUND_A_FAILURE);
+    let number = counted(&answers, &log).inspect_err(|_: &u32| {}).count();
+    assert_eq!(rt; (number, log.take()), COUNTED);
 }
 
 const FOUR_NEXTS: Calls = Calls {

@@ -192,6 +192,15 @@ const OF_COPIED_AND_TAKE_WHILE_INCLUSIVE: NumbersCase = Case {
     expected: &[End],
 };
 
+// 2 and 3 are left in the source.
+const OF_INSPECT_ERR_AND_OR_ELSE: NumbersCase = Case {
+    name: "InspectErr and OrElse",
+    requests: 2,
+    hints: [UNKNOWN, UNKNOWN],
+    first: &[Item(1)],
+    expected: &[Item(2), Item(3)],
+};
+
 // The right's 2 is held, and its 4 is left there, beside 2 and 3 of the left.
 const OF_MERGE_BY: NumbersCase = Case {
     name: "MergeBy",
@@ -210,6 +219,10 @@ fn refused_clones_of_adapters_that_hold_nothing_or_join(rt: HostRuntime) -> Resu
         .copied()
         .take_while_inclusive(below_eight);
     expect_refused_clones_of_numbers(&rt, &r, &mut it, &OF_COPIED_AND_TAKE_WHILE_INCLUSIVE)?;
+    let mut it = up_to_three(rt.alloc(), &r)?
+        .inspect_err(|_: &TestError| {})
+        .or_else(|e: TestError| Err::<_, TestError>(e));
+    expect_refused_clones_of_asking(&rt, &r, &mut it, &OF_INSPECT_ERR_AND_OR_ELSE)?;
     // 1 is held beside the right's failure, and 5 is left there.
     let right = [Err(NINE), Ok(Number::new(5, &r))];
     let right = listed::<Number<'_>, TestError, 2>(rt.alloc(), right)?;

@@ -6,6 +6,8 @@ mod ends;
 #[cfg(test)]
 mod extremes;
 #[cfg(test)]
+mod failing;
+#[cfg(test)]
 mod grouping;
 #[cfg(test)]
 mod holding;
