@@ -1,5 +1,6 @@
 //! Callers of the adapters that act on failures.
 ghost use Rattle.std.specs.Prelude.{◌≡◌, ◌-◌, ◌^◌, List, None, Ok, Result, Some};
+ghost use Rattle.std.specs.Iterator.{UpTo};
 ghost use Rattle.fallible_iterator.specs.Closures.{IsCallable, call_at, takes_at};
 ghost use Rattle.fallible_iterator.specs.Contract.{AtMost};
 ghost use Rattle.fallible_iterator.specs.Lists.{Lists, counted, folded, mapped, results};
@@ -36,6 +37,20 @@ pub fn count_good(rows: Vec<Result<u32, u8>>) -> Result<usize, u8>
     ensures { result ≡ counted (recovered (λ _. Ok None) (results rows.items)) }
 {
     convert(rows.into_iter()).or_else(|_| Ok(None)).count()
+}
+
+/// How many items a source has, its failures left out. Items and failures together are few enough for a `usize`.
+pub fn count_good_of<I: FallibleIterator>(it: I) -> Result<usize, u8>
+where
+    I::Item: Drop,
+    I::Error: Drop,
+    requires can_next { I.contract.can_next it }
+    requires fits { AtMost I.contract it (2 ^ 64 - 1) }
+    requires left { UpTo (I.contract.remaining it) (2 ^ 64 - 1) }
+    ensures { (l : List (Result I.Item I.Error)) → Lists I.contract.steps it l
+        → result ≡ counted (recovered (λ _. Ok None) l) }
+{
+    it.or_else(|_: I::Error| Ok(None)).count()
 }
 
 /// How many rows there are, or the first failure, which `noted` holds then.

@@ -192,7 +192,7 @@ const OF_COPIED_AND_TAKE_WHILE_INCLUSIVE: NumbersCase = Case {
     expected: &[End],
 };
 
-// 2 and 3 are left in the source.
+// The failures of 2 and 3, which ask, are left in the source.
 const OF_INSPECT_ERR_AND_OR_ELSE: NumbersCase = Case {
     name: "InspectErr and OrElse",
     requests: 2,
@@ -219,10 +219,11 @@ fn refused_clones_of_adapters_that_hold_nothing_or_join(rt: HostRuntime) -> Resu
         .copied()
         .take_while_inclusive(below_eight);
     expect_refused_clones_of_numbers(&rt, &r, &mut it, &OF_COPIED_AND_TAKE_WHILE_INCLUSIVE)?;
-    let mut it = up_to_three(rt.alloc(), &r)?
-        .inspect_err(|_: &TestError| {})
-        .or_else(|e: TestError| Err::<_, TestError>(e));
-    expect_refused_clones_of_asking(&rt, &r, &mut it, &OF_INSPECT_ERR_AND_OR_ELSE)?;
+    let faulty = [Ok(1), Err(Number::new(2, &r)), Err(Number::new(3, &r))];
+    let mut it = listed::<u32, Number<'_>, 3>(rt.alloc(), faulty)?
+        .inspect_err(|_: &Number<'_>| {})
+        .or_else(|e: Number<'_>| Ok::<_, TestError>(Some(e.value)));
+    expect_refused_clones_of_numbers(&rt, &r, &mut it, &OF_INSPECT_ERR_AND_OR_ELSE)?;
     // 1 is held beside the right's failure, and 5 is left there.
     let right = [Err(NINE), Ok(Number::new(5, &r))];
     let right = listed::<Number<'_>, TestError, 2>(rt.alloc(), right)?;
