@@ -152,10 +152,7 @@ fn print_groups<W: Write>(alloc: Global, rows: &[Row], output: &mut W) -> Result
         (Appends (W.contents output.old) (W.contents output.new) (groups_text rows.now)) }
     ensures row { (place : ℕ) → result ≢ Err (Fault.NoRow place) }
 {
-    let groups = convert(rows.iter().copied().map(Ok)).chunk_by(
-        alloc,
-        |row: &Row| Ok(row.key),
-    );
+    let groups = convert(rows.iter().copied().map(Ok)).chunk_by(alloc, |row: &Row| Ok(row.key));
     print_each_group(groups, output)
 }
 
