@@ -41,7 +41,7 @@ where
         .fold(0, |n: u64, _reading: u32| Ok(n.wrapping_add(1)))
 }
 
-/// How many changes come behind the first; where a failure comes first, those behind it.
+/// How many changes come after the first; if a failure comes first, those after it.
 pub fn changes_behind(readings: Vec<Result<u32, u8>>) -> Result<usize, u8>
     ensures behind_item { (x : ℕ) → nth_of 0 (deduped nat_eq (results readings.items)) ≡ Ok (Some x)
         → result ≡ counted (rest_first (deduped nat_eq (results readings.items))) }

@@ -194,7 +194,7 @@ module _ {A K E : Type 0} (eq : K → K → Bool) (h : A → Result K E) where
   settles : (a : Option (K × List A)) → next eq h a None ≡ None
   settles a = refl
 
-  -- What stands before a failure is grouped by itself, and so is what stands behind it.
+  -- What stands before a failure is grouped by itself, and so is what comes after it.
   pub chunked_by_in_parts : (a : List (Result A E)) (e : E) (b : List (Result A E)) → chunked_by eq h (a ++ Err e ∷ b) ≡ chunked_by eq h a ++ Err e ∷ chunked_by eq h b
   chunked_by_in_parts a e b = listed_parts (does eq h) (next eq h) None settles (λ a x is. no_end_by a (h x) is) (chunked_by eq h) chunked_by_is a e b
 

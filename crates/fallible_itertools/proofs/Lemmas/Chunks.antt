@@ -155,7 +155,7 @@ module _ {A E : Type 0} (from : AllocError → E → Type 0) (n : ℕ) where
   settles : (a : List A) → next n a None ≡ []
   settles a = refl
 
-  -- What stands before a failure is batched by itself, and so is what stands behind it.
+  -- What stands before a failure is batched by itself, and so is what comes after it.
   pub chunked_in_parts : (a : List (Result A E)) (e : E) (b : List (Result A E)) → chunked n (a ++ Err e ∷ b) ≡ chunked n a ++ Err e ∷ chunked n b
   chunked_in_parts a e b = listed_parts (does n) (next n) [] settles (λ a x is. no_end_at (a ++ x ∷ []) (ltb (length (a ++ x ∷ [])) n) is) (chunked n) chunked_is a e b
 

@@ -78,7 +78,7 @@ module _ {A E : Type 0} (h : A → A → OneOrBoth A E) where
   unfolding coalesced
   coalesced_is l = from_is None l
 
-  -- What stands before a failure is put together by itself, and so is what stands behind it.
+  -- What stands before a failure is put together by itself, and so is what comes after it.
   pub coalesced_in_parts : (a : List (Result A E)) (e : E) (b : List (Result A E)) → coalesced h (a ++ Err e ∷ b) ≡ coalesced h a ++ Err e ∷ coalesced h b
   coalesced_in_parts a e b = listed_parts does next None settles no_end (coalesced h) coalesced_is a e b
 

@@ -80,7 +80,7 @@ module _ {A E : Type 0} (eq : A → A → Bool) where
   unfolding deduped
   deduped_is l = held_is None l
 
-  -- What stands before a failure is deduped by itself, and so is what stands behind it.
+  -- What stands before a failure is deduped by itself, and so is what comes after it.
   pub deduped_in_parts : (a : List (Result A E)) (e : E) (b : List (Result A E)) → deduped eq (a ++ Err e ∷ b) ≡ deduped eq a ++ Err e ∷ deduped eq b
   deduped_in_parts a e b = listed_parts does (next eq) None (settles eq) no_end (deduped eq) deduped_is a e b
 

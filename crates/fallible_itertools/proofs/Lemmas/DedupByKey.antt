@@ -97,7 +97,7 @@ module _ {A K E : Type 0} (eq : K → K → Bool) where
     settles : (a : Option (K × A)) → next a None ≡ None
     settles a = refl
 
-    -- What stands before a failure is deduped by itself, and so is what stands behind it.
+    -- What stands before a failure is deduped by itself, and so is what comes after it.
     pub deduped_by_key_in_parts : (a : List (Result A E)) (e : E) (b : List (Result A E)) → deduped_by_key eq h (a ++ Err e ∷ b) ≡ deduped_by_key eq h a ++ Err e ∷ deduped_by_key eq h b
     deduped_by_key_in_parts a e b = listed_parts does next None settles no_end (deduped_by_key eq h) deduped_is a e b
 

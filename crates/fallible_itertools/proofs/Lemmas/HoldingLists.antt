@@ -55,7 +55,7 @@ module _ {Q X B E : Type 0} (does : Q → Option X → Outcome B E) (next : Q �
   held_parts none settles no_end a (Ok x ∷ l) e k = let n = next a (Some x) in outcome_parts (does a (Some x)) (held_list n l) (held_list n (l ++ Err e ∷ k)) (Err e ∷ held_list none k) (λ d. before_stop (does n None) (Err d ∷ held_list (next n None) l)) (λ d. before_stop (does n None) (Err d ∷ held_list (next n None) (l ++ Err e ∷ k))) (no_end a x) (held_parts none settles no_end n l e k) (λ d. before_parts (does n None) (Err d ∷ held_list (next n None) l) _ (Err e ∷ held_list none k) (ap (λ r. Err d ∷ r) (held_parts none settles no_end (next n None) l e k)))
   held_parts none settles no_end a (Err d ∷ l) e k = before_parts (does a None) (Err d ∷ held_list (next a None) l) _ (Err e ∷ held_list none k) (ap (λ r. Err d ∷ r) (held_parts none settles no_end (next a None) l e k))
 
-  -- What stands before a failure is listed by itself, and so is what stands behind it, where nothing is held.
+  -- What stands before a failure is listed by itself, and so is what comes after it, where nothing is held.
   pub listed_parts : (none : Q) → ((a : Q) → next a None ≡ none) → ((a : Q) (x : X) → does a (Some x) ≡ End → ⊥) → (f : List (Result X E) → List (Result B E)) → ((l : List (Result X E)) → held_list none l ≡ f l) → (a : List (Result X E)) (e : E) (b : List (Result X E)) → f (a ++ Err e ∷ b) ≡ f a ++ Err e ∷ f b
   listed_parts none settles no_end f is a e b = sym (is (a ++ Err e ∷ b)) ∙ held_parts none settles no_end none a e b ∙ ap (λ l. l ++ Err e ∷ held_list none b) (is a) ∙ ap (λ l. f a ++ Err e ∷ l) (is b)
 

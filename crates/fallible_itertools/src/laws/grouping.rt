@@ -21,7 +21,7 @@ where
         (ChunksTrace I.Error.from_gives I.contract.steps) }
 {}
 
-/// The batches of a list joined are its items, each batch has some and at most n, and the failures are the list's. What stands before a failure is batched by itself, and so is what stands behind it; where nothing fails each batch has n items but the last.
+/// The batches of a list joined are its items, each batch has some and at most n, and the failures are the list's. What stands before a failure is batched by itself, and so is what comes after it; where nothing fails each batch has n items but the last.
 pub fn law_chunked<T, E>()
     ensures items { (n : ℕ) → (l : List (Result T E))
         → joined (items_listed (chunked n l)) ≡ items_listed l }
@@ -57,7 +57,7 @@ where
         (ChunkByTrace I.Error.from_gives K.eq F.FnMut I.contract.steps) }
 {}
 
-/// The groups of a list joined are its items, where each item has a key. What stands before a failure is grouped by itself, and so is what stands behind it.
+/// The groups of a list joined are its items, where each item has a key. What stands before a failure is grouped by itself, and so is what comes after it.
 pub fn law_chunked_by<T, K: PartialEq, E>()
     ensures items { (key : T → K) → (l : List (Result T E))
         → joined (map (λ g. g.1) (items_listed (chunked_by K.eq (λ x. Ok (key x)) l)))

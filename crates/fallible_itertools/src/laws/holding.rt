@@ -25,7 +25,7 @@ where
         (DedupTrace I.Item.eq I.contract.steps) }
 {}
 
-/// A failure parts a list: what stands before it is deduped by itself, and so is what stands behind it.
+/// A failure parts a list: what stands before it is deduped by itself, and so is what comes after it.
 pub fn law_deduped<T: PartialEq, E>()
     ensures { (a : List (Result T E)) (e : E) (b : List (Result T E))
         → deduped T.eq (a ++ Err e ∷ b) ≡ deduped T.eq a ++ Err e ∷ deduped T.eq b }
@@ -54,7 +54,7 @@ where
         (CoalesceTrace (call_with F.FnMut) I.contract.steps) }
 {}
 
-/// A failure parts a list: what stands before it is put together by itself, and so is what stands behind it.
+/// A failure parts a list: what stands before it is put together by itself, and so is what comes after it.
 pub fn law_coalesced<T, E>()
     ensures { (h : T → T → OneOrBoth T E) (a : List (Result T E)) (e : E) (b : List (Result T E))
         → coalesced h (a ++ Err e ∷ b) ≡ coalesced h a ++ Err e ∷ coalesced h b }
@@ -90,7 +90,7 @@ where
         (DedupByKeyTrace K.eq (call_at F.FnMut) I.contract.steps) }
 {}
 
-/// A failure parts a list: what stands before it is deduped by itself, and so is what stands behind it.
+/// A failure parts a list: what stands before it is deduped by itself, and so is what comes after it.
 pub fn law_deduped_by_key<T, K: PartialEq, E>()
     ensures { (h : T → Result K E) (a : List (Result T E)) (e : E) (b : List (Result T E))
         → deduped_by_key K.eq h (a ++ Err e ∷ b)
