@@ -1,17 +1,17 @@
 #!/usr/bin/env bash
-# Refuses each request for memory of each call of the program release/refusals in turn, by the toolchain, and compares
+# Refuses each request for memory of each call of the program release/drive_refused_memory in turn, by the toolchain, and compares
 # what is printed with what is allowed. It proves nothing, and takes some seven minutes.
 #
 # Run number N refuses the N-th request of each call. A call that meets it must print the outcome that `allowed` gives
 # for N. A call that makes fewer requests must have made as many as `requests` says, and must print its line of
-# release/refusals/stdout. The status is 0 where every outcome is allowed.
+# release/drive_refused_memory/stdout. The status is 0 where every outcome is allowed.
 set -eu
 cd "$(dirname "$0")/.."
 work=$(mktemp -d)
 trap 'rm -rf "$work"' EXIT
 mkdir "$work/copy"
-tools/lay.sh "$work/copy" refusals
-program="$work/copy/crates/refusals"
+tools/lay.sh "$work/copy" drive_refused_memory
+program="$work/copy/crates/drive_refused_memory"
 
 compared=0
 differ=0

@@ -124,7 +124,7 @@ class Pool:
                     todo.append(own[:2])
                 if own and "::" in own[2]:
                     imports.add(own[2])
-                elif not own and last != "Fault" and not full.startswith("fallible_testing"):
+                elif not own and last != "Fault" and not full.startswith("test_support"):
                     imports.add(re.sub(r"^fallible_(contract|core)::(.*::)?", "fallible_iterator::", full))
         return list(items.values()), imports
 

@@ -9,14 +9,14 @@ from source import Text, functions
 # The crates of callers and tests that each Rust crate's tests are made of.
 SUITES = {
     "fallible-iterator": [
-        "fallible_testing", "fallible_callers", "fallible_callers_drawing", "fallible_vectors",
-        "fallible_vectors_adapters", "fallible_vectors_joining", "fallible_vectors_consuming",
-        "fallible_vectors_ends", "fallible_vectors_callers", "fallible_uses", "fallible_vectors_uses",
-        "fallible_elf", "fallible_vectors_elf", "fallible_rows", "fallible_vectors_rows",
+        "test_support", "example_chains", "example_by_hand", "fallible_vectors",
+        "test_adapters", "test_joining", "test_consumers",
+        "test_ends", "test_examples", "example_tasks", "test_tasks",
+        "fallible_elf", "test_elf", "fallible_rows", "test_rows",
     ],
     "fallible-itertools": [
-        "fallible_testing", "fallible_callers_itertools", "fallible_vectors_itertools", "fallible_scripts",
-        "fallible_calls_itertools",
+        "test_support", "example_itertools", "test_itertools", "fallible_scripts",
+        "test_calls_itertools",
     ],
 }
 # Items that are left out, with those that use them: a pattern of their text, and why.

@@ -1,7 +1,7 @@
 #!/usr/bin/env bash
 # Makes the objects: triangle.o, which is compiled, and has a set of two ranges; ends, which is linked of two files, and
 # has two sets; ends64, which is ends with sets of the long form; few, which has of ends no more than its code and its
-# sets, and whose bytes stand in the tests of fallible_vectors_elf; two_sections, which is few with its sets in a second
+# sets, and whose bytes stand in the tests of test_elf; two_sections, which is few with its sets in a second
 # section too; compressed, whose sets are compressed; and nameless, which is ends and says that its sections have no
 # names. They were made by gcc 12.2.0 and binutils 2.40 of Debian 12.
 set -eu

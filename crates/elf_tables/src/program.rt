@@ -3,9 +3,9 @@ ghost use Rattle.std.specs.Prelude.{◌≢◌, [], MatchResult};
 ghost use Rattle.std.specs.Io.KnownBytes.{Appends};
 ghost use Rattle.elf_tables.specs.Program.{ComesTo, EndsWith};
 
+use example_tasks::reading::ReadWhole;
+use example_tasks::writing::WriteText;
 use fallible_elf::report::{RunFault, fault_line, run};
-use fallible_uses::reading::ReadWhole;
-use fallible_uses::writing::WriteText;
 use std::alloc::Global;
 
 // `run` over `input`. The report is made in memory, so it is written whole, and nothing where there is no memory for it.

@@ -7,7 +7,7 @@ use Rattle.fallible_iterator.specs.Lists.{Lists, rest_nth}
 use Rattle.fallible_iterator.proofs.Lemmas.Folds.{drained_last}
 use Rattle.fallible_iterator.proofs.Lemmas.Lists.Rest.{rest_nth_is}
 use Rattle.fallible_iterator.proofs.Lemmas.Lists.Drawn.{RestAt, drawn}
-use Rattle.fallible_itertools.specs.Few.{AtMostOneExit, AtMostOne, at_most_one_of}
+use Rattle.fallible_itertools.specs.ExactlyOne.{AtMostOneExit, AtMostOne, at_most_one_of}
 
 module _ {S A E : Type 0} {steps : S → Answered A E → S → Type 0} {s t : S} where
   -- the first draw decides

@@ -5,7 +5,7 @@ use Rattle.std.specs.Borrow.{Bor}
 use Rattle.fallible_iterator.specs.Closures.{IsCallable, call_at, takes_at}
 use Rattle.fallible_iterator.specs.Traces.{Answered}
 use Rattle.fallible_iterator.specs.Contract.{Contract}
-use Rattle.fallible_itertools.specs.Growing.{Grown, NoRoom, SameHeld, IsRefusal}
+use Rattle.fallible_itertools.specs.Batch.{Grown, NoRoom, SameHeld, IsRefusal}
 use Rattle.fallible_itertools.specs.Holding.{HoldingTrace, OrStop, holding_contract, held_one, one_at_least}
 use Rattle.fallible_iterator.specs.Outcome.{Outcome}
 use Rattle.fallible_iterator.specs.Outcome.TheVariants.{Kept, LeftOut, Failure, End}

@@ -2,7 +2,7 @@
 use Rattle.std.specs.Prelude.{◌≡◌, ℕ, ◌+◌, ◌-◌, ◌/◌, ◌<◌, ◌≤◌, max, cond, leb, Bool, true, false, Option, Some, None, Result, Ok, Err, List, [], ◌∷◌, ◌++◌, length, ltb, ⊤, vec_items}
 use Rattle.fallible_iterator.specs.Traces.{Answered}
 use Rattle.fallible_iterator.specs.Contract.{Contract}
-use Rattle.fallible_itertools.specs.Growing.{Grown, NoRoom, SameHeld, IsRefusal}
+use Rattle.fallible_itertools.specs.Batch.{Grown, NoRoom, SameHeld, IsRefusal}
 use Rattle.fallible_iterator.specs.Hints.{fitting_sum}
 use Rattle.fallible_itertools.specs.Holding.{HoldingTrace, filling_contract, held_one}
 use Rattle.fallible_iterator.specs.Outcome.{Outcome}

@@ -6,7 +6,7 @@ ghost use Rattle.fallible_itertools.specs.Chunks.{Settles, batch_held, begun, ro
 ghost use Rattle.fallible_itertools.specs.Holding.{held_one, holding_step};
 ghost use Rattle.fallible_itertools.specs.Laws.Chunks.{holds_chunks, lawful_chunks};
 
-use crate::growing::{alone, pushed};
+use crate::batch::{alone, pushed};
 use crate::holding::{Hold, at_stop, drive_holding, with_held};
 use fallible_iterator::extending::Outcome;
 use fallible_iterator::{FallibleIterator, Turn};

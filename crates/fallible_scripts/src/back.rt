@@ -1,20 +1,18 @@
 // Folds from the back go through the source's own.
 use fallible_iterator::{DoubleEndedFallibleIterator, FallibleIterator, convert};
-use fallible_testing::calls::{
+use std::test::Fail;
+use test_support::calls::{
     Calls, NO_CALL, ONE_FOLD, ONE_FOLD_ONE_RFOLD, ONE_NEXT, ONE_NEXT_BACK_ONE_RFOLD,
     ONE_NEXT_ONE_NEXT_BACK_ONE_RFOLD, ONE_RFOLD, THREE_RFOLDS, TWO_RFOLDS,
 };
-use fallible_testing::closures::{hundred_more, is_even, tens_of_even};
-use fallible_testing::counted::{Counted, Log};
-use fallible_testing::counted_numbers::counted;
-use fallible_testing::steps::Do::StopWithItem;
-use fallible_testing::steps::{CountStep, Step, expect_count, expect_steps};
-use fallible_testing::steps_back::DoBack::{
-    DigitsBack, Next, NextBack, StopBack, StopBackAt, SumBack,
-};
-use fallible_testing::steps_back::{StepBack, expect_steps_back};
-use fallible_testing::test_error::TestError;
-use std::test::Fail;
+use test_support::closures::{hundred_more, is_even, tens_of_even};
+use test_support::counted::{Counted, Log};
+use test_support::counted_numbers::counted;
+use test_support::steps::Do::StopWithItem;
+use test_support::steps::{CountStep, Step, expect_count, expect_steps};
+use test_support::steps_back::DoBack::{DigitsBack, Next, NextBack, StopBack, StopBackAt, SumBack};
+use test_support::steps_back::{StepBack, expect_steps_back};
+use test_support::test_error::TestError;
 
 const REV_COUNTED: CountStep<'static> = (Err(3), &[ONE_RFOLD]);
 

@@ -1,19 +1,19 @@
 // Folds from the front go through the source's own.
 use fallible_iterator::{FallibleIterator, convert};
-use fallible_testing::calls::{
+use std::test::Fail;
+use test_support::calls::{
     Calls, ONE_COUNT, ONE_FIND, ONE_FOLD, ONE_FOLD_ONE_FIND, ONE_LAST, ONE_NEXT_ONE_FIND,
     ONE_NEXT_ONE_FOLD, ONE_NTH, THREE_FOLDS, TWO_COUNTS, TWO_FOLDS, TWO_LASTS, TWO_NEXTS_ONE_FOLD,
     TWO_NTHS,
 };
-use fallible_testing::closures::{add_up, hundred_more, is_even, tens_of_even};
-use fallible_testing::counted::{Counted, Log};
-use fallible_testing::counted_numbers::counted;
-use fallible_testing::steps::Do::{Next, Nth, Stop, StopAt, Sum};
-use fallible_testing::steps::{
+use test_support::closures::{add_up, hundred_more, is_even, tens_of_even};
+use test_support::counted::{Counted, Log};
+use test_support::counted_numbers::counted;
+use test_support::steps::Do::{Next, Nth, Stop, StopAt, Sum};
+use test_support::steps::{
     Answered, CountStep, LastStep, Step, expect_count, expect_last, expect_steps,
 };
-use fallible_testing::test_error::TestError;
-use std::test::Fail;
+use test_support::test_error::TestError;
 
 // Ten times the item.
 fn ten_times(x: u32) -> Result<u32, u32> {

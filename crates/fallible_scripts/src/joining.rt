@@ -2,18 +2,18 @@
 ghost use Rattle.std.specs.Prelude.{◌-◌, ◌^◌};
 
 use fallible_iterator::{FallibleIterator, IteratorExt, Once, once};
-use fallible_testing::calls::{
-    Calls, NO_CALL, ONE_COUNT, ONE_FIND, ONE_FOLD, ONE_LAST, ONE_NEXT, ONE_NEXT_ONE_FOLD, TWO_FOLDS,
-};
-use fallible_testing::counted::{Counted, Log};
-use fallible_testing::counted_numbers::counted;
-use fallible_testing::numbers::numbers;
-use fallible_testing::scripted::{Script, scripted};
-use fallible_testing::steps::Do::{Digits, Find, Next, Sum, SumToThree};
-use fallible_testing::steps::{Answered, LastStep, Step, expect_last, expect_steps};
 use std::alloc::{AllocError, Global};
 use std::convert::Infallible;
 use std::test::Fail;
+use test_support::calls::{
+    Calls, NO_CALL, ONE_COUNT, ONE_FIND, ONE_FOLD, ONE_LAST, ONE_NEXT, ONE_NEXT_ONE_FOLD, TWO_FOLDS,
+};
+use test_support::counted::{Counted, Log};
+use test_support::counted_numbers::counted;
+use test_support::numbers::numbers;
+use test_support::scripted::{Script, scripted};
+use test_support::steps::Do::{Digits, Find, Next, Sum, SumToThree};
+use test_support::steps::{Answered, LastStep, Step, expect_last, expect_steps};
 
 // The calls of the first side, and of the second.
 const CHAIN_STOPPED: [Step<'static>; 2] = [

@@ -2,12 +2,12 @@
 ghost use Rattle.fallible_iterator.specs.Contract.{KeptByDraws};
 
 use fallible_iterator::FallibleIterator;
-use fallible_testing::calls::{Calls, ONE_FOLD, ONE_NEXT_ONE_FOLD, TWO_FOLDS};
-use fallible_testing::counted::{Counted, Log};
-use fallible_testing::counted_numbers::counted;
-use fallible_testing::numbers::numbers;
-use fallible_testing::steps::expect_calls;
 use std::test::Fail;
+use test_support::calls::{Calls, ONE_FOLD, ONE_NEXT_ONE_FOLD, TWO_FOLDS};
+use test_support::counted::{Counted, Log};
+use test_support::counted_numbers::counted;
+use test_support::numbers::numbers;
+use test_support::steps::expect_calls;
 
 // A call of a nest of numbered items.
 #[derive(Clone, Copy, Debug)]

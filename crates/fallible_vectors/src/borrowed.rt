@@ -1,10 +1,10 @@
 // Borrowed sources.
 use fallible_iterator::Answer::{End, Failure, Item};
 use fallible_iterator::{Answer, FallibleIterator};
-use fallible_testing::expected_numbers::expect_numbers;
-use fallible_testing::listed::listed;
-use fallible_testing::numbers::numbers;
 use std::test::Fail;
+use test_support::expected_numbers::expect_numbers;
+use test_support::listed::listed;
+use test_support::numbers::numbers;
 
 const ONE_A_FAILURE_AND_AN_END: [Answer<u32, u32>; 3] = [Item(1), Failure(2), End];
 

@@ -1,9 +1,9 @@
 // Items and inner iterators that borrow from what a caller lends.
 use fallible_iterator::{FallibleIterator, Fault, IntoFallible, convert};
-use fallible_testing::collected::{expect_collected, expect_source_fault};
 use std::alloc::Global;
 use std::convert::Infallible;
 use std::test::Fail;
+use test_support::collected::{expect_collected, expect_source_fault};
 
 // The numbers on the pages, in order, up to 9 of them. A 0 fails with the number of its page's items.
 fn listed_numbers(alloc: Global, pages: &[&[u32]]) -> Result<Vec<u32>, Fault<usize>> {

@@ -1,9 +1,9 @@
 // The std iterators over fallible ones.
 use fallible_iterator::{FallibleIterator, IteratorExt, convert, once_err};
-use fallible_testing::numbers::numbers;
-use fallible_testing::scripted::Script;
 use std::alloc::AllocError;
 use std::test::Fail;
+use test_support::numbers::numbers;
+use test_support::scripted::Script;
 
 // Fails the test where three draws of the std iterator over it give other elements, or where it hints at anything.
 fn expect_elements<I: FallibleIterator<Item = u32, Error = u32>>(

@@ -2,14 +2,14 @@
 ghost use Rattle.std.specs.Prelude.{⊤};
 
 use fallible_iterator::{Collect, FallibleIterator, Fault, IntoFallible, IteratorExt};
-use fallible_testing::closures::{even_thirds, ten_more_of_even};
-use fallible_testing::collected::{expect_collected, expect_refused, expect_source_fault};
-use fallible_testing::listed::listed;
-use fallible_testing::numbers::numbers;
 use std::alloc::{AllocError, Global};
 use std::convert::Infallible;
 use std::ops::Range;
 use std::test::Fail;
+use test_support::closures::{even_thirds, ten_more_of_even};
+use test_support::collected::{expect_collected, expect_refused, expect_source_fault};
+use test_support::listed::listed;
+use test_support::numbers::numbers;
 
 // What `collect` through a reference makes of the answers, and what the next draw answers.
 fn collected(

@@ -2,10 +2,10 @@
 ghost use Rattle.std.specs.Prelude.{⊤};
 
 use fallible_iterator::{Collect, FallibleIterator};
-use fallible_testing::collected::expect_refused;
-use fallible_testing::numbers::numbers;
 use std::alloc::{AllocError, Global};
 use std::test::Fail;
+use test_support::collected::expect_refused;
+use test_support::numbers::numbers;
 
 // The sum, which fails with an item above 4.
 fn low_sum(sum: u32, x: u32) -> Result<u32, u32> {

@@ -5,8 +5,8 @@ ghost use Rattle.fallible_iterator.specs.Contract.{counted_contract};
 
 use fallible_iterator::Answer::{End, Item};
 use fallible_iterator::{Answer, FallibleIterator};
-use fallible_testing::answered::expect_answers;
 use std::test::Fail;
+use test_support::answered::expect_answers;
 
 // Gives 3 as many times as is left, and then ends.
 #[derive(Drop)]

@@ -3,8 +3,8 @@ ghost use Rattle.fallible_iterator.specs.Contract.{seen_as};
 ghost use Rattle.fallible_iterator.specs.Laws.Contract.{lawful_seen};
 
 use fallible_iterator::{FallibleIterator, Turn};
-use fallible_testing::numbers::numbers;
 use std::cell::Cell;
+use test_support::numbers::numbers;
 
 // Numbers from a source, and how often their fold was called.
 #[derive(Drop)]

@@ -4,13 +4,13 @@ use fallible_iterator::{
     Answer, FallibleIterator, IteratorExt, convert_fused, empty, from_fn, once, once_err, repeat,
     repeat_err,
 };
-use fallible_testing::answered::expect_answers;
-use fallible_testing::collected::expect_collected;
-use fallible_testing::expected_numbers::expect_numbers;
-use fallible_testing::test_error::TestError;
-use fallible_testing::text::Text;
 use std::cell::Cell;
 use std::test::Fail;
+use test_support::answered::expect_answers;
+use test_support::collected::expect_collected;
+use test_support::expected_numbers::expect_numbers;
+use test_support::test_error::TestError;
+use test_support::text::Text;
 
 const GOING_ON: [Answer<u32, u32>; 4] = [Item(1), End, Item(2), End];
 

@@ -3,9 +3,9 @@ ghost use Rattle.std.specs.Prelude.{◌≡◌, Ok};
 
 use fallible_iterator::Answer::{End, Failure, Item};
 use fallible_iterator::{Answer, FallibleIterator, convert, once};
-use fallible_testing::expected_numbers::expect_numbers;
-use fallible_testing::numbers::numbers;
 use std::test::Fail;
+use test_support::expected_numbers::expect_numbers;
+use test_support::numbers::numbers;
 
 // The sum, which fails with an item above 2.
 fn checked_sum(sum: u32, x: u32) -> Result<u32, u32> {

@@ -3,7 +3,7 @@ use Rattle.std.proofs.Common.{◌≡◌, ℕ, List, [], ◌++◌, Option, Result
 use Rattle.std.specs.Io.KnownBytes.{Appends}
 use Rattle.std.proofs.KnownBytes.{Appends-nil, Appends-trans}
 use Rattle.fallible_iterator.specs.Traces.{Answered}
-use Rattle.fallible_itertools.specs.Growing.{ListsUpToRefusal}
+use Rattle.fallible_itertools.specs.Batch.{ListsUpToRefusal}
 use Rattle.fallible_itertools.proofs.Lemmas.LoopsMade.{MadeFromHere, begins, goes_on, ends}
 use Rattle.sum_groups.specs.Groups.{batch_line, batches_text, first_key, group_line, groups_text, line_of, report_of, same_refusal, text_of}
 use Rattle.sum_groups.specs.declared.groups.Row.{Row}

@@ -4,7 +4,7 @@ use Rattle.std.specs.Str.{IsUtf8, IsValidUpTo}
 use Rattle.std.specs.Io.KnownBytes.{Appends, Keeps}
 use Rattle.std.specs.declared.io.ErrorKind.{ErrorKind}
 use Rattle.std.specs.declared.io.ErrorKind.TheVariants.{OutOfMemory}
-use Rattle.fallible_uses.specs.Reading.{ReadsAll}
+use Rattle.example_tasks.specs.Reading.{ReadsAll}
 use Rattle.sum_groups.specs.Faults.{line_of, status_of}
 use Rattle.sum_groups.specs.Groups.{IsFaultOf, report_of, rows_of}
 use Rattle.sum_groups.specs.declared.fault.Fault.{Fault}

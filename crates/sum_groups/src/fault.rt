@@ -4,7 +4,7 @@ ghost use Rattle.std.specs.IoError.{error_kind};
 ghost use Rattle.std.specs.Io.KnownBytes.{Appends};
 ghost use Rattle.sum_groups.specs.Faults.{IsFaultOfRead, line_of, status_of};
 
-use fallible_uses::writing::WriteText;
+use example_tasks::writing::WriteText;
 use std::io;
 use std::io::ErrorKind;
 

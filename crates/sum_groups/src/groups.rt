@@ -10,9 +10,9 @@ ghost use Rattle.fallible_iterator.specs.declared.Fault.TheVariants.{Source};
 ghost use Rattle.sum_groups.specs.declared.groups.Row.{Row};
 
 use crate::fault::Fault;
+use example_tasks::numbers::number_of;
 use fallible_iterator::{FallibleIterator, Fault as Collecting, convert, convert_fused};
 use fallible_itertools::FallibleItertools;
-use fallible_uses::numbers::number_of;
 use std::alloc::{AllocError, Global};
 use std::convert::Infallible;
 use std::io::Write;

@@ -5,8 +5,8 @@ ghost use Rattle.sum_groups.specs.Program.{ComesTo, EndsWith, HasFault, IsReport
 
 use crate::fault::{Fault, fault_of_read, tell};
 use crate::groups::report_of;
-use fallible_uses::reading::ReadWhole;
-use fallible_uses::writing::WriteText;
+use example_tasks::reading::ReadWhole;
+use example_tasks::writing::WriteText;
 use std::alloc::Global;
 use std::str::from_utf8;
 

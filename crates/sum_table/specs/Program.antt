@@ -3,9 +3,9 @@ use Rattle.std.specs.Prelude.{◌≡◌, ◌≢◌, ℕ, List, [], Option, Resul
 use Rattle.std.specs.Io.KnownBytes.{Keeps}
 use Rattle.std.specs.declared.io.ErrorKind.{ErrorKind}
 use Rattle.std.specs.declared.io.ErrorKind.TheVariants.{OutOfMemory}
-use Rattle.fallible_uses.specs.Report.{ReadsTable, WritesReport, HasTotals, status_of, line_of}
-use Rattle.fallible_uses.specs.declared.report.RunFault.{RunFault}
-use Rattle.fallible_uses.specs.declared.report.RunFault.TheVariants.{Table, Read, Memory, Write}
+use Rattle.example_tasks.specs.Report.{ReadsTable, WritesReport, HasTotals, status_of, line_of}
+use Rattle.example_tasks.specs.declared.report.RunFault.{RunFault}
+use Rattle.example_tasks.specs.declared.report.RunFault.TheVariants.{Table, Read, Memory, Write}
 
 -- the status of an outcome: 0, or that of its fault
 abbrev pub status_at : {T : Type 0} → Result T RunFault → ℕ

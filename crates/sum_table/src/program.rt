@@ -3,8 +3,8 @@ ghost use Rattle.std.specs.Prelude.{◌≢◌, [], MatchResult};
 ghost use Rattle.std.specs.Io.KnownBytes.{Appends};
 ghost use Rattle.sum_table.specs.Program.{EndsWith};
 
-use fallible_uses::reading::ReadWhole;
-use fallible_uses::report::{fault_line, run};
+use example_tasks::reading::ReadWhole;
+use example_tasks::report::{fault_line, run};
 use std::alloc::Global;
 use std::io::Write;
 

@@ -7,7 +7,7 @@ use Rattle.fallible_iterator.specs.Closures.{call_at}
 use Rattle.fallible_iterator.specs.Contract.{Contract, seen_as}
 use Rattle.fallible_iterator.specs.Lists.{Acts, Lists}
 use Rattle.fallible_itertools.specs.ChunkBy.{Group, MadeGroup, by_its_key, chunk_by_asks, chunk_by_contract, chunk_by_parts, chunked_by, chunked_by_from, group_at, group_at_stop, group_begun, group_by, group_grown, group_held, group_or}
-use Rattle.fallible_itertools.specs.Growing.{ListsUpToRefusal}
+use Rattle.fallible_itertools.specs.Batch.{ListsUpToRefusal}
 use Rattle.fallible_itertools.specs.Holding.{held_one}
 use Rattle.fallible_itertools.proofs.Lemmas.HoldingHints.{GivesHeld}
 use Rattle.fallible_itertools.proofs.Lemmas.HoldingLists.{by_outcome, before_stop, held_list, listed_parts}

@@ -5,7 +5,7 @@ use Rattle.std.proofs.lemmas.Bool.{lt-ltb, le-ltb}
 use Rattle.fallible_iterator.specs.Contract.{Contract, seen_as}
 use Rattle.fallible_iterator.specs.Lists.{Lists}
 use Rattle.fallible_itertools.specs.Chunks.{Settles, batch_or, chunked, chunked_from, chunks_asks, chunks_contract, chunks_parts, short_batch}
-use Rattle.fallible_itertools.specs.Growing.{Grown, ListsUpToRefusal, held_items}
+use Rattle.fallible_itertools.specs.Batch.{Grown, ListsUpToRefusal, held_items}
 use Rattle.fallible_itertools.proofs.Lemmas.HoldingLists.{by_outcome, before_stop, held_list, listed_parts}
 use Rattle.fallible_itertools.proofs.Lemmas.HoldingMade.{Answers, OutcomeMade, Refuses, held_gives_made, lists_made_seen}
 use Rattle.std.specs.declared.vec.Vec.{Vec}

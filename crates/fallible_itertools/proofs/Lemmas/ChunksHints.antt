@@ -9,7 +9,7 @@ use Rattle.fallible_iterator.specs.SoundHints.{BoundsAbove, BoundsBelow, AsSound
 use Rattle.fallible_iterator.specs.Laws.Passing.{Passes, done, end_passes, failure_passes, keeps, refuses, closes, leaves_out, to_passes}
 use Rattle.fallible_iterator.proofs.Lemmas.Hints.Drawn.{brackets_seen, sound_seen}
 use Rattle.fallible_itertools.specs.Chunks.{batch_held, begun, chunks_asks, chunks_contract, chunks_due, chunks_hints, chunks_parts, room_left}
-use Rattle.fallible_itertools.specs.Growing.{Grown}
+use Rattle.fallible_itertools.specs.Batch.{Grown}
 use Rattle.fallible_iterator.specs.Hints.{fitting_sum}
 use Rattle.fallible_itertools.specs.Holding.{asks_item, as_answered_item, BeforeStop, Behind, held_one, holding_step}
 use Rattle.fallible_itertools.specs.Laws.Chunks.{holds_chunks}

@@ -4,7 +4,7 @@ use Rattle.std.proofs.Common.{refl, sym, ap, subst, inl, inr, ◌∙◌}
 use Rattle.fallible_iterator.specs.Traces.{Answered, item}
 use Rattle.fallible_iterator.specs.Lists.{AlwaysGives}
 use Rattle.fallible_iterator.specs.Laws.Passing.{Passes, done, end_passes, failure_passes, keeps, refuses, closes, leaves_out, to_passes, from_passes}
-use Rattle.fallible_itertools.specs.Growing.{AnswersRefusal, RefusesNext, AtRefusal, GivesUpToRefusal, IsMadeOf, IsRefusal, ListsUpToRefusal}
+use Rattle.fallible_itertools.specs.Batch.{AnswersRefusal, RefusesNext, AtRefusal, GivesUpToRefusal, IsMadeOf, IsRefusal, ListsUpToRefusal}
 use Rattle.fallible_itertools.specs.Holding.{asks_item, as_answered_item, BeforeStop, AtStop, Behind, holding_step}
 use Rattle.fallible_itertools.proofs.Lemmas.HoldingLists.{by_outcome, before_stop, held_list}
 use Rattle.std.specs.declared.alloc.AllocError.{AllocError}

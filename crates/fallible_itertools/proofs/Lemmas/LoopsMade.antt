@@ -2,7 +2,7 @@
 use Rattle.std.specs.Prelude.{◌≡◌, ◌≢◌, Some, None, Result, Ok, Err, List, [], ◌∷◌, ◌⊎◌}
 use Rattle.std.proofs.Common.{refl, inl, inr, ◌∙◌}
 use Rattle.fallible_iterator.specs.Traces.{Answered, end}
-use Rattle.fallible_itertools.specs.Growing.{AnswersRefusal, RefusesNext, AtRefusal, GivesUpToRefusal, IsMadeOf, ListsUpToRefusal}
+use Rattle.fallible_itertools.specs.Batch.{AnswersRefusal, RefusesNext, AtRefusal, GivesUpToRefusal, IsMadeOf, ListsUpToRefusal}
 use Rattle.std.specs.declared.alloc.AllocError.{AllocError}
 
 module _ {S X B E : Type 0} (made : X → B → Type 0) (steps : S → Answered B E → S → Type 0) (from : AllocError → E → Type 0) where

@@ -2,7 +2,7 @@
 use Rattle.std.specs.Prelude.{◌≡◌, Option, Some, None, ⊤}
 use Rattle.std.proofs.Common.{refl, arith}
 use Rattle.fallible_iterator.specs.Contract.{Contract, Lawful}
-use Rattle.fallible_itertools.specs.Growing.{SameHeld}
+use Rattle.fallible_itertools.specs.Batch.{SameHeld}
 use Rattle.fallible_itertools.specs.Holding.{Holds, held_one}
 use Rattle.fallible_itertools.specs.Chunks.{batch_held, chunks_asks, chunks_contract, chunks_hints}
 use Rattle.fallible_itertools.specs.Laws.Holding.{lawful_filling}

@@ -1,7 +1,7 @@
 -- No stop is due, and an answer from here is one from the beginning. The batch has one item more at each turn.
 use Rattle.std.specs.Prelude.{◌≡◌, ◌-◌, length, None}
 use Rattle.fallible_itertools.specs.Chunks.{chunks_asks}
-use Rattle.fallible_itertools.specs.Growing.{held_items}
+use Rattle.fallible_itertools.specs.Batch.{held_items}
 use Rattle.fallible_itertools.specs.Holding.{holding_step}
 use Rattle.fallible_itertools.proofs.chunks.filled.Given as goal
 

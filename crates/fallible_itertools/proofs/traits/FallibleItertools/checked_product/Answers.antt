@@ -1,5 +1,5 @@
 -- The fold that stops where the product doesn't fit is the product.
-use Rattle.fallible_itertools.proofs.Totalling.{totalled_by, totalled_is}
+use Rattle.fallible_itertools.proofs.CheckedSum.{totalled_by, totalled_is}
 use Rattle.fallible_itertools.proofs.traits.FallibleItertools.checked_product.Goals as goal
 
 pub returns-clause-product : goal.returns-clause-product

@@ -1,5 +1,5 @@
 -- The fold that stops where the sum doesn't fit is the sum.
-use Rattle.fallible_itertools.proofs.Totalling.{totalled_by, totalled_is}
+use Rattle.fallible_itertools.proofs.CheckedSum.{totalled_by, totalled_is}
 use Rattle.fallible_itertools.proofs.traits.FallibleItertools.checked_sum.Goals as goal
 
 pub returns-clause-sum : goal.returns-clause-sum

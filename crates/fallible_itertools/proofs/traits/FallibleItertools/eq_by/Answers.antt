@@ -3,8 +3,8 @@ use Rattle.std.proofs.Common.{ap, ◌∙◌}
 use Rattle.fallible_iterator.specs.Comparing.{read_as, reads_eq}
 use Rattle.fallible_iterator.specs.Folds.{call_with}
 use Rattle.fallible_iterator.proofs.Lemmas.Comparing.{end_of_either}
-use Rattle.fallible_itertools.specs.ComparedBy.{equal_by}
-use Rattle.fallible_itertools.proofs.Rounds.{eq_acts, compared_by_is}
+use Rattle.fallible_itertools.specs.CmpBy.{equal_by}
+use Rattle.fallible_itertools.proofs.CmpBy.{eq_acts, compared_by_is}
 use Rattle.fallible_itertools.proofs.traits.FallibleItertools.eq_by.Goals as goal
 
 pub compare_by-answer-requires-clause-right : goal.compare_by-answer-requires-clause-right

@@ -3,8 +3,8 @@ use Rattle.std.proofs.Common.{true}
 use Rattle.fallible_iterator.specs.Closures.{call_on}
 use Rattle.fallible_iterator.specs.Searching.{all_pick}
 use Rattle.fallible_iterator.proofs.Lemmas.Searching.{searched}
-use Rattle.fallible_itertools.specs.Sorting.{OrderCall}
-use Rattle.fallible_itertools.proofs.Ordered.{sorted_is}
+use Rattle.fallible_itertools.specs.IsSorted.{OrderCall}
+use Rattle.fallible_itertools.proofs.IsSorted.{sorted_is}
 use Rattle.fallible_itertools.proofs.traits.FallibleItertools.is_sorted_by_key.Goals as goal
 
 pub returns-clause-sorted : goal.returns-clause-sorted

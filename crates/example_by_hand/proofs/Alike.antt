@@ -1,0 +1,64 @@
+-- What a draw from each end makes of a list that reads the same from both.
+use Rattle.std.specs.Prelude.{◌≡◌, ◌≢◌, ℕ, ◌+◌, ◌/◌, ◌≤◌, zero, suc, eqb, cond, length, reverse, List, [], ◌∷◌, ◌++◌, Result, Ok, Err, Bool, true, false}
+use Rattle.std.proofs.Common.{refl, ap, ◌∙◌, arith, inl, inr}
+use Rattle.std.proofs.lemmas.List.{reverse-append, length-append, length-reverse}
+use Rattle.std.proofs.lemmas.Bool.Decides.{eqb_tells}
+use Rattle.example_by_hand.specs.Alike.{first_alike, alike}
+
+same : (x : ℕ) → eqb x x ≡ true
+same x = elim (eqb_tells x x) [ inl e ↦ e.0 | inr e ↦ absurd (e.1 refl) ]
+
+module _ {E : Type 0} where
+  -- more behind both lists, of which no more is read
+  more_behind : (n : ℕ) (a b c d : List (Result ℕ E)) → n ≤ length a → n ≤ length b → first_alike n (a ++ c) (b ++ d) ≡ first_alike n a b
+  unfolding first_alike
+  more_behind zero a b c d few less = refl
+  more_behind (suc n) [] b c d few less = absurd (omega (arith, few))
+  more_behind (suc n) (Err e ∷ a) b c d few less = refl
+  more_behind (suc n) (Ok x ∷ a) [] c d few less = absurd (omega (arith, less))
+  more_behind (suc n) (Ok x ∷ a) (Err e ∷ b) c d few less = refl
+  more_behind (suc n) (Ok x ∷ a) (Ok y ∷ b) c d few less = ap (λ r. cond (eqb x y) r (Ok false)) (more_behind n a b c d (omega (arith, few)) (omega (arith, less)))
+
+  -- what the item x in front and the result y behind make of what is between them
+  abbrev pub at_ends : ℕ → Result ℕ E → Result Bool E → Result Bool E
+  at_ends x (Ok y) r = cond (eqb x y) r (Ok false)
+  at_ends x (Err e) r = Err e
+
+  at_first : (n x : ℕ) (y : Result ℕ E) (a b : List (Result ℕ E)) → first_alike (suc n) (Ok x ∷ a) (y ∷ b) ≡ at_ends x y (first_alike n a b)
+  unfolding first_alike
+  at_first n x (Ok y) a b = refl
+  at_first n x (Err e) a b = refl
+
+  pub alike_between : (x : ℕ) (y : Result ℕ E) (l : List (Result ℕ E)) → alike (Ok x ∷ (l ++ y ∷ [])) ≡ at_ends x y (alike l)
+  unfolding alike
+  alike_between x y l =
+      let whole : List (Result ℕ E) = Ok x ∷ (l ++ y ∷ []) in
+      let half : (length whole + 1) / 2 ≡ suc ((length l + 1) / 2) = (let e = length-append l (y ∷ []) in omega (arith, e)) in
+      let turned : reverse whole ≡ y ∷ (reverse l ++ Ok x ∷ []) = reverse-append (Ok x ∷ []) (l ++ y ∷ []) ∙ ap (λ k. k ++ Ok x ∷ []) (reverse-append l (y ∷ [])) in
+      let n = (length l + 1) / 2 in
+      ap (λ k. first_alike k whole (reverse whole)) half ∙ ap (first_alike (suc n) whole) turned
+      ∙ at_first n x y (l ++ y ∷ []) (reverse l ++ Ok x ∷ [])
+      ∙ ap (at_ends x y) (more_behind n l (reverse l) (y ∷ []) (Ok x ∷ []) (omega arith) (let e = length-reverse l in omega (arith, e)))
+
+  pub alike_alone : (x : ℕ) → alike {E = E} (Ok x ∷ []) ≡ Ok true
+  unfolding alike first_alike
+  alike_alone x = ap (λ b. cond b (Ok true) (Ok false)) (same x)
+
+  pub alike_none : alike {E = E} [] ≡ Ok true
+  unfolding alike first_alike
+  alike_none = refl
+
+  -- a failure in front
+  pub alike_failed : (e : E) (l : List (Result ℕ E)) → alike (Err e ∷ l) ≡ Err e
+  unfolding alike first_alike
+  alike_failed e l = let half : (length (Err e ∷ l) + 1) / 2 ≡ suc (length l / 2) = omega arith in ap (λ k. first_alike k (Err e ∷ l) (reverse (Err e ∷ l))) half
+
+  -- two items that differ, two that are the same, and a failure behind
+  pub alike_differ : (x y : ℕ) (l : List (Result ℕ E)) → x ≢ y → alike (Ok x ∷ (l ++ Ok y ∷ [])) ≡ Ok false
+  alike_differ x y l differ = alike_between x (Ok y) l ∙ elim (eqb_tells x y) [ inl e ↦ absurd (differ e.1) | inr e ↦ ap (λ b. cond b (alike l) (Ok false)) e.0 ]
+
+  pub alike_same : (x y : ℕ) (l : List (Result ℕ E)) → x ≡ y → alike (Ok x ∷ (l ++ Ok y ∷ [])) ≡ alike l
+  alike_same x y l is = alike_between x (Ok y) l ∙ elim (eqb_tells x y) [ inl e ↦ ap (λ b. cond b (alike l) (Ok false)) e.0 | inr e ↦ absurd (e.1 is) ]
+
+  pub alike_failed_behind : (x : ℕ) (e : E) (l : List (Result ℕ E)) → alike (Ok x ∷ (l ++ Err e ∷ [])) ≡ Err e
+  alike_failed_behind x e l = alike_between x (Err e) l

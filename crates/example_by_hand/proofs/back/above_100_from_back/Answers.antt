@@ -1,0 +1,6 @@
+-- What the filter lists from the back, of what the source does.
+use Rattle.std.proofs.Common.{rules}
+use Rattle.example_by_hand.proofs.back.above_100_from_back.Goals as goal
+
+pub returns : goal.returns
+returns c = c.collect.ensures.value _ (c.rev.ensures.lists _ (c.law_lists_filter.ensures.back _ _ _ _ c.filter-above.ensures.parts (search rules) (c.law_back_convert.ensures.results_back _ _ (search rules))))

@@ -1,0 +1,88 @@
+//! An adapter of one's own that takes two items for an answer.
+ghost use Rattle.std.specs.Prelude.{◌≡◌, ℕ, ◌+◌, ◌-◌, ◌%◌, ◌^◌, ◌<◌, List, Result, Ok};
+ghost use Rattle.fallible_iterator.specs.Contract.{AtMost};
+ghost use Rattle.fallible_iterator.specs.Laws.Own.{lawful_gathering};
+ghost use Rattle.fallible_iterator.specs.Lists.{Lists, counted, folded, mapped};
+ghost use Rattle.fallible_iterator.specs.Own.{gathering};
+ghost use Rattle.example_by_hand.specs.Pairs.{MakesPair, paired};
+
+use fallible_iterator::FallibleIterator;
+
+/// The items two by two. The first of two is let go where an end or a failure comes behind it.
+#[derive(Drop)]
+pub struct Pairs<I> {
+    /// What is drawn from.
+    pub it: I,
+}
+
+impl<I: FallibleIterator> FallibleIterator for Pairs<I>
+where
+    I::Item: Drop,
+{
+    type Item = (I::Item, I::Item);
+
+    type Error = I::Error;
+
+    ghost contract = { gathering (λ s. s.it) MakesPair I.contract };
+
+    /// Draws once, and again behind an item.
+    fn next(&mut self) -> Result<Option<(I::Item, I::Item)>, I::Error> {
+        let Some(first) = self.it.next()? else {
+            return Ok(None);
+        };
+        let Some(second) = self.it.next()? else {
+            return Ok(None);
+        };
+        Ok(Some((first, second)))
+    }
+
+    fn size_hint(&self) -> (usize, Option<usize>) {
+        (0, None)
+    }
+
+    ghost lawful = { lawful_gathering (λ s. s.it) MakesPair I.lawful };
+}
+
+impl<I: FallibleIterator> Pairs<I>
+where
+    I::Item: Drop,
+{
+    /// The items of an iterator two by two.
+    pub fn new(it: I) -> Pairs<I>
+        ensures holds { result.it ≡ it }
+        ensures lists { (l : List (Result I.Item I.Error)) → Lists I.contract.steps it l
+            → Lists ⟦<Pairs<I> as FallibleIterator>⟧.contract.steps result (paired l) }
+    {
+        Pairs { it }
+    }
+}
+
+/// How many pairs an iterator gives, or its first failure.
+pub fn count_pairs<I: FallibleIterator>(it: I) -> Result<usize, I::Error>
+where
+    I::Item: Drop,
+    requires can_next { I.contract.can_next it }
+    requires fits { AtMost I.contract it (2 ^ 64 - 1) }
+    ensures { (l : List (Result I.Item I.Error)) → Lists I.contract.steps it l
+        → result ≡ counted (paired l) }
+{
+    Pairs::new(it).count()
+}
+
+/// The sums of all pairs, added up modulo 2 ^ 64, or the first failure. Each sum fits, since each item that may come is below 2 ^ 31.
+pub fn sum_of_pairs<I: FallibleIterator<Item = u32>>(it: I) -> Result<u64, I::Error>
+where
+    requires can_next { I.contract.can_next it }
+    requires finite { I.contract.is_finite it }
+    requires small { (x : ℕ) → I.contract.may_give it x → x < 2 ^ 31 }
+    ensures { (l : List (Result ℕ I.Error)) → Lists I.contract.steps it l
+        → result ≡ folded (λ e. e) (λ s x. Ok ((s + x) % 2 ^ 64)) 0
+        (mapped (λ both. Ok (both.0 + both.1)) (paired l)) }
+{
+    Pairs::new(it)
+        .map(|both: (u32, u32)| Ok(both.0 + both.1))
+        .fold(
+            0,
+            |sum: u64, both: u32| Ok(sum.wrapping_add(u64::from(both))),
+        )
+}

@@ -1,0 +1,57 @@
+//! An adapter of one's own that asks its source again at a failure.
+ghost use Rattle.std.specs.Prelude.{◌≡◌, List, Result};
+ghost use Rattle.fallible_iterator.specs.Gathering.{gathering_by};
+ghost use Rattle.fallible_iterator.specs.Laws.Gathering.{lawful_gathering_by};
+ghost use Rattle.fallible_iterator.specs.Lists.{Lists};
+ghost use Rattle.example_by_hand.specs.Retried.{MakesRetried, retried};
+
+use fallible_iterator::FallibleIterator;
+
+/// The answers of a source that is asked again at a failure, up to a number of times for each answer.
+#[derive(Drop)]
+pub struct Retried<I> {
+    it: I,
+    retries: u32,
+}
+
+impl<I: FallibleIterator> FallibleIterator for Retried<I>
+where
+    I::Error: Drop,
+{
+    type Item = I::Item;
+
+    type Error = I::Error;
+
+    ghost contract = { gathering_by (λ s. s.it) (λ s. s.retries) MakesRetried I.contract };
+
+    /// Draws up to an item, an end or the last failure that may come.
+    fn next(&mut self) -> Result<Option<I::Item>, I::Error> {
+        let mut left = self.retries;
+        while left > 0 {
+            match self.it.next() {
+                Ok(answer) => return Ok(answer),
+                Err(_) => left -= 1,
+            }
+        }
+        self.it.next()
+    }
+
+    fn size_hint(&self) -> (usize, Option<usize>) {
+        (0, None)
+    }
+
+    ghost lawful = { lawful_gathering_by (λ s. s.it) (λ s. s.retries) MakesRetried I.lawful };
+}
+
+impl<I: FallibleIterator> Retried<I>
+where
+    I::Error: Drop,
+{
+    /// The answers of an iterator, which is asked again up to so many times for each.
+    pub fn new(it: I, retries: u32) -> Retried<I>
+        ensures { (l : List (Result I.Item I.Error)) → Lists I.contract.steps it l
+            → Lists ⟦<Retried<I> as FallibleIterator>⟧.contract.steps result (retried retries l) }
+    {
+        Retried { it, retries }
+    }
+}

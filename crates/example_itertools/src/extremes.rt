@@ -1,0 +1,71 @@
+//! Callers of what is in `fallible_itertools` about extremes, counts, comparisons and the second end, with what they compute.
+ghost use Rattle.std.specs.Prelude.{◌≡◌, Ok, nat_eq, nat_lt};
+ghost use Rattle.std.specs.Ordering.{nat_cmp};
+ghost use Rattle.fallible_iterator.specs.Clauses.{OverList};
+ghost use Rattle.fallible_iterator.specs.Lists.{CollectedAs, filtered, found, nth_of, results, reversed, taken};
+ghost use Rattle.fallible_itertools.specs.Counts.{IsCountsOf};
+ghost use Rattle.fallible_itertools.specs.ExactlyOne.{at_most_one_of, wanting_one};
+ghost use Rattle.fallible_itertools.specs.MinMax.{minmaxed};
+
+use fallible_iterator::laws::law_back_convert;
+use fallible_iterator::{FallibleIterator, Fault, convert};
+use fallible_itertools::{DoubleEndedFallibleItertools, FallibleItertools, MinMaxResult, NotOne};
+use std::alloc::Global;
+use std::collections::HashMap;
+
+/// The least and the greatest reading above 100, or the first failure.
+pub fn span_above_100(readings: Vec<Result<u32, u8>>) -> Result<MinMaxResult<u32>, u8>
+    ensures { result ≡ minmaxed nat_cmp (filtered (λ x. Ok (nat_lt 100 x))
+        (results readings.items)) }
+{
+    convert(readings.into_iter())
+        .filter(|reading| Ok(*reading > 100))
+        .minmax()
+}
+
+/// The only reading above 100, if there is one, or else the first two.
+pub fn only_above_100(readings: Vec<Result<u32, u8>>) -> Result<Result<Option<u32>, (u32, u32)>, u8>
+    ensures { result ≡ at_most_one_of (filtered (λ x. Ok (nat_lt 100 x))
+        (results readings.items)) }
+{
+    convert(readings.into_iter())
+        .filter(|reading| Ok(*reading > 100))
+        .at_most_one()
+}
+
+/// The only one of the first ten items of any fallible iterator.
+pub fn only_of_ten<I: FallibleIterator>(it: I) -> Result<Result<I::Item, NotOne<I::Item>>, I::Error>
+where
+    I::Item: Drop,
+    requires { I.contract.can_next it }
+    ensures { OverList I.contract.steps it
+        (λ l. result ≡ wanting_one (at_most_one_of (taken 10 l))) }
+{
+    it.take(10).exactly_one()
+}
+
+/// How often each of the readings comes.
+pub fn tally(
+    alloc: Global,
+    readings: Vec<Result<u32, u8>>,
+) -> Result<HashMap<u32, usize>, Fault<u8>>
+    ensures { CollectedAs (IsCountsOf nat_eq) (results readings.items) result }
+{
+    convert(readings.into_iter()).counts(alloc)
+}
+
+/// The reading with n readings behind it.
+pub fn nth_last(readings: Vec<Result<u32, u8>>, n: usize) -> Result<Option<u32>, u8>
+    ensures { result ≡ nth_of n (reversed (results readings.items)) }
+{
+    law_back_convert::<u32, u8, std::vec::IntoIter<Result<u32, u8>, Global>>();
+    convert(readings.into_iter()).nth_back(n)
+}
+
+/// The last reading above 100.
+pub fn last_above_100(readings: Vec<Result<u32, u8>>) -> Result<Option<u32>, u8>
+    ensures { result ≡ found (λ x. Ok (nat_lt 100 x)) (reversed (results readings.items)) }
+{
+    law_back_convert::<u32, u8, std::vec::IntoIter<Result<u32, u8>, Global>>();
+    convert(readings.into_iter()).rfind(|reading| Ok(*reading > 100))
+}

@@ -1,0 +1,80 @@
+//! Callers of the adapters that act on failures.
+ghost use Rattle.std.specs.Prelude.{◌≡◌, ◌-◌, ◌^◌, List, None, Ok, Result, Some};
+ghost use Rattle.std.specs.Iterator.{UpTo};
+ghost use Rattle.fallible_iterator.specs.Closures.{IsCallable, call_at, takes_at};
+ghost use Rattle.fallible_iterator.specs.Contract.{AtMost};
+ghost use Rattle.fallible_iterator.specs.Lists.{Lists, counted, folded, mapped, results};
+ghost use Rattle.fallible_itertools.specs.OrElse.{recovered};
+ghost use Rattle.example_itertools.specs.Rows.{with_row};
+
+use fallible_iterator::{FallibleIterator, convert};
+use fallible_itertools::FallibleItertools;
+
+/// A hundred rows are bad.
+#[derive(Clone, Copy, Debug, Drop, PartialEq)]
+pub struct TooManyBad;
+
+/// The sum of the good rows, modulo 2 ^ 64, and the number of bad ones. It stops at the hundredth bad one.
+pub fn sum_good(rows: Vec<Result<u32, u8>>) -> Result<(u64, u32), TooManyBad>
+    ensures { result ≡ folded (λ e. e) with_row (0, 0)
+        (recovered (λ _. Ok (Some None)) (mapped (λ x. Ok (Some x)) (results rows.items))) }
+{
+    convert(rows.into_iter())
+        .map(|good| Ok(Some(good)))
+        .or_else(|_| Ok(Some(None)))
+        .fold((0, 0), |tally: (u64, u32), row: Option<u32>| match row {
+            Some(good) => Ok((tally.0.wrapping_add(u64::from(good)), tally.1)),
+            None => if tally.1 < 99 {
+                Ok((tally.0, tally.1 + 1))
+            } else {
+                Err(TooManyBad)
+            },
+        })
+}
+
+/// How many rows are good.
+pub fn count_good(rows: Vec<Result<u32, u8>>) -> Result<usize, u8>
+    ensures { result ≡ counted (recovered (λ _. Ok None) (results rows.items)) }
+{
+    convert(rows.into_iter()).or_else(|_| Ok(None)).count()
+}
+
+/// How many items a source has, its failures left out. Items and failures together are few enough for a `usize`.
+pub fn count_good_of<I: FallibleIterator>(it: I) -> Result<usize, u8>
+where
+    I::Item: Drop,
+    I::Error: Drop,
+    requires can_next { I.contract.can_next it }
+    requires fits { AtMost I.contract it (2 ^ 64 - 1) }
+    requires left { UpTo (I.contract.remaining it) (2 ^ 64 - 1) }
+    ensures { (l : List (Result I.Item I.Error)) → Lists I.contract.steps it l
+        → result ≡ counted (recovered (λ _. Ok None) l) }
+{
+    it.or_else(|_: I::Error| Ok(None)).count()
+}
+
+/// How many rows there are, or the first failure, which `noted` holds then.
+pub fn count_noting(rows: Vec<Result<u32, u8>>, noted: &mut Option<u8>) -> Result<usize, u8>
+    ensures { result ≡ counted (results rows.items) }
+{
+    convert(rows.into_iter())
+        .inspect_err(|code| *noted = Some(*code))
+        .count()
+}
+
+/// How many items there are, or the first failure, which is shown to `log`.
+pub fn count_logged<I: FallibleIterator, L: FnMut(&I::Error)>(
+    it: I,
+    log: L,
+) -> Result<usize, I::Error>
+where
+    I::Item: Drop,
+    requires can_next { I.contract.can_next it }
+    requires fits { AtMost I.contract it (2 ^ 64 - 1) }
+    requires callable { IsCallable (call_at L.FnMut) (takes_at L.FnMut)
+        (I.contract.may_fail it) log }
+    ensures { (l : List (Result I.Item I.Error)) → Lists I.contract.steps it l
+        → result ≡ counted l }
+{
+    it.inspect_err(log).count()
+}

@@ -1,0 +1,36 @@
+//! Callers of the adapters that join: each states what it computes, and the contracts of the calls prove it.
+ghost use Rattle.std.specs.Prelude.{◌≡◌, ◌%◌, Ok, nat_eq, nat_le};
+ghost use Rattle.fallible_iterator.specs.Lists.{counted, results};
+ghost use Rattle.fallible_itertools.specs.CmpBy.{equal_by};
+ghost use Rattle.fallible_itertools.specs.MergeBy.{merged};
+ghost use Rattle.fallible_itertools.specs.ZipLongest.{zipped_longest};
+
+use fallible_iterator::{FallibleIterator, convert, convert_fused};
+use fallible_itertools::FallibleItertools;
+
+/// How many places two columns have, each filled by one of them at least, or the first failure.
+pub fn places_of_both(left: Vec<Result<u32, u8>>, right: Vec<Result<u32, u8>>) -> Result<usize, u8>
+    ensures { result ≡ counted (zipped_longest (results left.items) (results right.items)) }
+{
+    convert_fused(left.into_iter())
+        .zip_longest(convert_fused(right.into_iter()))
+        .count()
+}
+
+/// How many readings two sorted columns have together, or the first failure.
+pub fn readings_merged(left: Vec<Result<u32, u8>>, right: Vec<Result<u32, u8>>) -> Result<usize, u8>
+    ensures { result ≡ counted
+        (merged (λ x y. Ok (nat_le x y)) (results left.items) (results right.items)) }
+{
+    convert_fused(left.into_iter())
+        .merge_by(convert_fused(right.into_iter()), |x, y| Ok(*x <= *y))
+        .count()
+}
+
+/// Whether two columns have the same last digits, place by place, or the first failure.
+pub fn same_last_digits(left: Vec<Result<u32, u8>>, right: Vec<Result<u32, u8>>) -> Result<bool, u8>
+    ensures { result ≡ equal_by (λ x y. Ok (nat_eq (x % 10) (y % 10)))
+        (results left.items) (results right.items) }
+{
+    convert(left.into_iter()).eq_by(convert(right.into_iter()), |x, y| Ok(x % 10 == y % 10))
+}

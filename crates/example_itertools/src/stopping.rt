@@ -1,0 +1,63 @@
+//! Folds that stop before the end, and keys that come in order.
+ghost use Rattle.std.specs.Prelude.{◌≡◌, ◌+◌, ◌%◌, ◌^◌, ℕ, eqb, List, Result, Ok, Err, if◌then◌else◌, nat_lt};
+ghost use Rattle.std.specs.Ordering.{nat_cmp};
+ghost use Rattle.fallible_iterator.specs.Comparing.{by_cmp};
+ghost use Rattle.fallible_iterator.specs.Lists.{Lists, filtered, nth_of, results};
+ghost use Rattle.fallible_itertools.specs.IsSorted.{sorted_by_key};
+ghost use Rattle.fallible_itertools.specs.FoldWhile.{rest_while, folded_while};
+ghost use Rattle.fallible_itertools.specs.declared.fold_while.FoldWhile.TheVariants.{Continue, Done};
+
+use fallible_iterator::{FallibleIterator, convert};
+use fallible_itertools::{FallibleItertools, FoldWhile};
+
+/// The sum of the readings up to the first 0, modulo 2 ^ 32, or the first failure before.
+pub fn sum_up_to_zero(readings: Vec<Result<u32, u8>>) -> Result<FoldWhile<u32>, u8>
+    ensures { result ≡ folded_while
+        (λ s x. if eqb x 0 then Ok (Done s) else Ok (Continue ((s + x) % 2 ^ 32))) 0
+        (results readings.items) }
+{
+    let mut it = convert(readings.into_iter());
+    it.fold_while(
+        0,
+        |sum: u32, reading: u32| if reading == 0 {
+            Ok(FoldWhile::Done(sum))
+        } else {
+            Ok(FoldWhile::Continue(sum.wrapping_add(reading)))
+        },
+    )
+}
+
+/// The item behind the first 0, or the first failure; none where there is no 0.
+pub fn item_behind_zero<I: FallibleIterator<Item = u32>>(mut it: I) -> Result<Option<u32>, I::Error>
+where
+    requires can_next { I.contract.can_next it }
+    requires finite { I.contract.is_finite it }
+    ensures { (l : List (Result ℕ I.Error)) (sum : ℕ) → Lists I.contract.steps it l
+        → folded_while (λ s x. if eqb x 0 then Ok (Done s) else Ok (Continue ((s + x) % 2 ^ 32))) 0 l
+        ≡ Ok (Done sum)
+        → result ≡ nth_of 0 (rest_while
+        (λ s x. if eqb x 0 then Ok (Done s) else Ok (Continue ((s + x) % 2 ^ 32))) 0 l) }
+{
+    let sum = it.fold_while(
+        0,
+        |sum: u32, reading: u32| if reading == 0 {
+            Ok(FoldWhile::Done(sum))
+        } else {
+            Ok(FoldWhile::Continue(sum.wrapping_add(reading)))
+        },
+    )?;
+    match sum {
+        FoldWhile::Done(_) => it.draw(),
+        FoldWhile::Continue(_) => Ok(None),
+    }
+}
+
+/// Whether the last digits of the readings above 100 never go down, or the first failure.
+pub fn last_digits_sorted(readings: Vec<Result<u32, u8>>) -> Result<bool, u8>
+    ensures { result ≡ sorted_by_key (by_cmp nat_cmp) (λ x. Ok (x % 10))
+        (filtered (λ x. Ok (nat_lt 100 x)) (results readings.items)) }
+{
+    convert(readings.into_iter())
+        .filter(|reading| Ok(*reading > 100))
+        .is_sorted_by_key(|reading: u32| Ok(reading % 10))
+}

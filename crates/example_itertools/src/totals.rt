@@ -1,0 +1,27 @@
+//! Sums and products that may not fit.
+ghost use Rattle.std.specs.Prelude.{◌≡◌, ◌^◌, ℤ, pos, List, Result, Ok, nat_lt};
+ghost use Rattle.fallible_iterator.specs.Lists.{Lists, filtered, results, taken};
+ghost use Rattle.fallible_itertools.specs.CheckedSum.{product_within, sum_below, totalled};
+
+use fallible_iterator::{FallibleIterator, convert};
+use fallible_itertools::FallibleItertools;
+
+/// The sum of the readings above 100, or the first failure; none where it is 2 ^ 32 or more.
+pub fn sum_above_100(readings: Vec<Result<u32, u8>>) -> Result<Option<u32>, u8>
+    ensures { result ≡ totalled (sum_below (2 ^ 32)) 0
+        (filtered (λ x. Ok (nat_lt 100 x)) (results readings.items)) }
+{
+    convert(readings.into_iter())
+        .filter(|reading| Ok(*reading > 100))
+        .checked_sum()
+}
+
+/// The product of the first three items, or the first failure among them; none where it doesn't fit.
+pub fn product_of_three<I: FallibleIterator<Item = i64>>(it: I) -> Result<Option<i64>, I::Error>
+where
+    requires { I.contract.can_next it }
+    ensures { (l : List (Result ℤ I.Error)) → Lists I.contract.steps it l
+        → result ≡ totalled (product_within (2 ^ 63)) (pos 1) (taken 3 l) }
+{
+    it.take(3).checked_product()
+}

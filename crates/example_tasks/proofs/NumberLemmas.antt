@@ -1,0 +1,22 @@
+-- What a text parses to is the number that it writes.
+use Rattle.std.proofs.Common.{◌≡◌, ℕ, ◌<◌, ◌^◌, true, List, sym, ap, ◌∙◌, Some, Ok, Err}
+use Rattle.std.specs.Result.{result_ok}
+use Rattle.std.specs.Str.{all_ascii_digits}
+use Rattle.std.specs.Str.Parse.{IsNumeral, ParsesUnsigned, digits_value, without_leading_plus}
+use Rattle.std.proofs.lemmas.Bool.{and_parts, and_from, lt-ltb, ltb-true, leb-true, le-leb, false_from_ne_true, cond-true, cond-false}
+use Rattle.std.proofs.lemmas.Str.Parse.{tells_all_ascii_digits, numerals_by_value, IsNumeralModel}
+use Rattle.example_tasks.specs.Numbers.{is_number, number_of}
+use Rattle.std.specs.declared.result.Result.{Result}
+
+digits_model : IsNumeralModel (λ ds. all_ascii_digits ds ≡ true) (digits_value 10)
+digits_model = numerals_by_value _ tells_all_ascii_digits
+
+test_of : (ds : List ℕ) → IsNumeral 10 ds → digits_value 10 ds < 2 ^ 64 → is_number ds ≡ true
+test_of ds n fits = and_from _ _ (and_from _ _ (digits_model.from ds n.1) (le-leb _ _ n.0)) (lt-ltb _ _ fits)
+
+of_test : (ds : List ℕ) → is_number ds ≡ true → IsNumeral 10 ds × (digits_value 10 ds < 2 ^ 64)
+of_test ds h = let outer = and_parts _ _ h in let inner = and_parts _ _ outer.0 in ((leb-true _ _ inner.1, digits_model.to ds inner.0), ltb-true _ _ outer.1)
+
+pub parsed : {E : Type 0} (text : List ℕ) (r : Result ℕ E) → ParsesUnsigned 64 10 text r → result_ok r ≡ number_of text
+parsed text (Ok x) h = ap (λ v. Some v) h.1 ∙ sym (cond-true _ _ _ (test_of (without_leading_plus text) h.0.0 h.0.1))
+parsed text (Err e) h = sym (cond-false _ _ _ (false_from_ne_true _ (λ t. h (of_test (without_leading_plus text) t))))

@@ -1,0 +1,130 @@
+//! The totals of a table that a reader gives, as lines of text.
+ghost use Rattle.std.specs.Prelude.{◌≡◌, ◌≢◌, Err, OnOk, OnErr, MatchResult};
+ghost use Rattle.std.specs.IoError.{error_kind};
+ghost use Rattle.std.specs.Io.KnownBytes.{Appends, Keeps};
+ghost use Rattle.example_tasks.specs.Report.{report_of, ReadsTable, WritesReport, HasTotals, status_of, line_of};
+ghost use Rattle.std.specs.declared.io.ErrorKind.{ErrorKind};
+ghost use Rattle.example_tasks.specs.declared.table.TableFault.{TableFault};
+
+use crate::reading::ReadWhole;
+use crate::table::{TableFault, Totals, sum_up};
+use std::alloc::Global;
+use std::io;
+use std::io::{ErrorKind, Write};
+
+/// Why a run gave no report.
+#[derive(Clone, Copy, Debug, PartialEq, Eq)]
+pub enum RunFault {
+    /// The table has a fault.
+    Table(TableFault),
+    /// A read failed.
+    Read,
+    /// There was no memory for the table.
+    Memory,
+    /// The report could not be written.
+    Write,
+}
+
+// What a failed read comes to.
+fn fault_of_read(error: &io::Error) -> RunFault
+    ensures memory { result ≡ RunFault.Memory → error_kind error.now ≡ ErrorKind.OutOfMemory }
+    ensures read { result ≡ RunFault.Read → error_kind error.now ≢ ErrorKind.OutOfMemory }
+    ensures table { (fault : TableFault) → result ≢ RunFault.Table fault }
+    ensures write { result ≢ RunFault.Write }
+{
+    match error.kind() {
+        ErrorKind::OutOfMemory => RunFault::Memory,
+        _ => RunFault::Read,
+    }
+}
+
+// Writes the totals.
+fn write_report<W: Write>(totals: Totals, writer: &mut W) -> io::Result<()>
+    ensures { OnOk result
+        (Appends (W.contents writer.old) (W.contents writer.new) (report_of totals)) }
+{
+    writeln!(
+        writer,
+        "records {}\nlow {}\nhigh {}",
+        totals.records, totals.low, totals.high
+    )
+}
+
+/// Reads a table up to the end of `reader`, which may be any reader of std, and writes its totals to `writer`. It fails with `Table` and the table's first fault, with `Read` where a read fails, with `Memory` where there is none for the table, and with `Write` where the writer fails. An interrupted read is tried again. After `Ok` and `Table` the reader is at its end. Only at `Ok` and `Write` may something have been written.
+pub fn run<R: ReadWhole, W: Write>(
+    alloc: Global,
+    reader: &mut R,
+    writer: &mut W,
+) -> Result<(), RunFault>
+    ensures ok { OnOk result (WritesReport (R.left reader.old) (R.left reader.new)
+        (W.contents writer.old) (W.contents writer.new)) }
+    ensures table { (fault : TableFault) → result ≡ Err (RunFault.Table fault)
+        → ReadsTable (R.left reader.old) (R.left reader.new) (Err fault) }
+    ensures write { result ≡ Err RunFault.Write
+        → HasTotals (R.left reader.old) (R.left reader.new) }
+
+    // Reading failed, and of which kind.
+    ensures read { result ≡ Err RunFault.Read → (kind : ErrorKind)
+        × (kind ≢ ErrorKind.OutOfMemory) × R.fails kind reader.old reader.new }
+    ensures memory { result ≡ Err RunFault.Memory
+        → R.fails ErrorKind.OutOfMemory reader.old reader.new }
+
+    ensures unwritten { result ≢ Err RunFault.Write
+        → OnErr result (Keeps (W.contents writer.old) (W.contents writer.new)) }
+{
+    let bytes = match reader.read_whole(alloc) {
+        Ok(bytes) => bytes,
+        Err(e) => return Err(fault_of_read(&e)),
+    };
+    match sum_up(bytes.as_slice()) {
+        Ok(totals) => match write_report(totals, writer) {
+            Ok(()) => Ok(()),
+            Err(_) => Err(RunFault::Write),
+        },
+        Err(fault) => Err(RunFault::Table(fault)),
+    }
+}
+
+impl RunFault {
+    // The status that a program ends with.
+    fn status(&self) -> u8
+        ensures { result ≡ status_of self.now }
+    {
+        match self {
+            RunFault::Table(TableFault::Bad(_)) => 1,
+            RunFault::Read => 2,
+            RunFault::Memory => 3,
+            RunFault::Write => 4,
+            RunFault::Table(TableFault::Cut(_)) => 5,
+        }
+    }
+}
+
+fn write_line<W: Write>(fault: &RunFault, err: &mut W) -> io::Result<()>
+    ensures { OnOk result
+        (Appends (W.contents err.old) (W.contents err.new) (line_of fault.now)) }
+{
+    match fault {
+        RunFault::Table(TableFault::Bad(place)) => {
+            writeln!(err, "record {place}: the first number is above the second")
+        }
+        RunFault::Table(TableFault::Cut(place)) => writeln!(err, "record {place}: cut short"),
+        RunFault::Read => writeln!(err, "read failed"),
+        RunFault::Memory => writeln!(err, "no memory"),
+        RunFault::Write => writeln!(err, "write failed"),
+    }
+}
+
+/// Writes the one line that tells of `fault` to `err`, and answers the status that a program ends with after it: 1 and 5 for a bad record and one cut short, 2 for `Read`, 3 for `Memory`, 4 for `Write`. Where the line could not be written, the status is an `Err`.
+pub fn fault_line<W: Write>(fault: &RunFault, err: &mut W) -> Result<u8, u8>
+    ensures status { MatchResult result (λ status. status ≡ status_of fault.now)
+        (λ status. status ≡ status_of fault.now) }
+    ensures line { OnOk result
+        (Appends (W.contents err.old) (W.contents err.new) (line_of fault.now)) }
+{
+    let status = fault.status();
+    match write_line(fault, err) {
+        Ok(()) => Ok(status),
+        Err(_) => Err(status),
+    }
+}

@@ -1,6 +1,0 @@
--- The numbers are listed, each in an `Ok`, and filtered.
-use Rattle.std.proofs.Common.{rules}
-use Rattle.fallible_callers.proofs.sources.above_100_of_numbers.Goals as goal
-
-pub returns : goal.returns
-returns c = c.count.ensures.value _ (c.filter.ensures.lists _ _ (search rules) (c.convert.ensures.items _ (search rules)))

@@ -1,7 +1,0 @@
--- What both columns list, compared place by place.
-use Rattle.std.specs.Prelude.{◌%◌, Ok, nat_eq}
-use Rattle.std.proofs.Common.{rules}
-use Rattle.fallible_callers_itertools.proofs.joining.same_last_digits.Goals as goal
-
-pub returns : goal.returns
-returns c = c.eq_by.ensures.value (λ x y. Ok (nat_eq (x % 10) (y % 10))) (search rules) _ _ (c.convert.ensures.results _ (search (rules, c.into_iter.ensures.runs))) (λ right same. rw same (c.convert-2.ensures.results _ (search (rules, c.into_iter-2.ensures.runs))))

@@ -1,0 +1,196 @@
+//! Sums and products that may not fit.
+ghost use Rattle.std.specs.Prelude.{◌≡◌, ◌^◌, ⊤, Option, Result, ℤ, pos};
+ghost use Rattle.fallible_itertools.specs.CheckedSum.{IsTotalTurn, total_by, sum_below, product_below, sum_within, product_within};
+
+use fallible_iterator::Turn;
+use std::ops::ControlFlow;
+
+/// Numbers whose sums and products may not fit: `u32`, `u64`, `usize` and `i64` are such.
+pub trait CheckedTotal: Drop + Sized {
+    // What sums begin with.
+    ghost zero: { Self };
+
+    // What products begin with.
+    ghost one: { Self };
+
+    // The sum of two, where it fits.
+    ghost plus: { Self → Self → Option Self };
+
+    // The product of two, where it fits.
+    ghost times: { Self → Self → Option Self };
+
+    /// What sums begin with: 0.
+    fn zero() -> Self
+        ensures { result ≡ zero };
+
+    /// What products begin with: 1.
+    fn one() -> Self
+        ensures { result ≡ one };
+
+    /// The sum of the two; none where it doesn't fit.
+    fn plus(&self, other: Self) -> Option<Self>
+        ensures { result ≡ plus self.now other };
+
+    /// The product of the two; none where it doesn't fit.
+    fn times(&self, other: Self) -> Option<Self>
+        ensures { result ≡ times self.now other };
+}
+
+impl CheckedTotal for u32 {
+    ghost zero = { 0 };
+
+    ghost one = { 1 };
+
+    ghost plus = { sum_below (2 ^ 32) };
+
+    ghost times = { product_below (2 ^ 32) };
+
+    fn zero() -> u32 {
+        0
+    }
+
+    fn one() -> u32 {
+        1
+    }
+
+    fn plus(&self, other: u32) -> Option<u32> {
+        self.checked_add(other)
+    }
+
+    fn times(&self, other: u32) -> Option<u32> {
+        self.checked_mul(other)
+    }
+}
+
+impl CheckedTotal for u64 {
+    ghost zero = { 0 };
+
+    ghost one = { 1 };
+
+    ghost plus = { sum_below (2 ^ 64) };
+
+    ghost times = { product_below (2 ^ 64) };
+
+    fn zero() -> u64 {
+        0
+    }
+
+    fn one() -> u64 {
+        1
+    }
+
+    fn plus(&self, other: u64) -> Option<u64> {
+        self.checked_add(other)
+    }
+
+    fn times(&self, other: u64) -> Option<u64> {
+        self.checked_mul(other)
+    }
+}
+
+impl CheckedTotal for usize {
+    ghost zero = { 0 };
+
+    ghost one = { 1 };
+
+    ghost plus = { sum_below (2 ^ 64) };
+
+    ghost times = { product_below (2 ^ 64) };
+
+    fn zero() -> usize {
+        0
+    }
+
+    fn one() -> usize {
+        1
+    }
+
+    fn plus(&self, other: usize) -> Option<usize> {
+        self.checked_add(other)
+    }
+
+    fn times(&self, other: usize) -> Option<usize> {
+        self.checked_mul(other)
+    }
+}
+
+impl CheckedTotal for i64 {
+    ghost zero = { pos 0 };
+
+    ghost one = { pos 1 };
+
+    ghost plus = { sum_within (2 ^ 63) };
+
+    ghost times = { product_within (2 ^ 63) };
+
+    fn zero() -> i64 {
+        0
+    }
+
+    fn one() -> i64 {
+        1
+    }
+
+    fn plus(&self, other: i64) -> Option<i64> {
+        self.checked_add(other)
+    }
+
+    fn times(&self, other: i64) -> Option<i64> {
+        self.checked_mul(other)
+    }
+}
+
+/// The turn of `checked_sum`, whose state is the sum so far: it stops at the first item with which the sum doesn't fit.
+#[derive(Drop)]
+pub struct SumTurn;
+
+impl<N: CheckedTotal> Turn<N, N, ()> for SumTurn {
+    ghost can_turn = { λ _ _ _. ⊤ };
+
+    ghost turns = { λ _ t x r u. IsTotalTurn N.plus t x r u };
+
+    /// The item, added.
+    #[inline(always)]
+    fn turn(&self, state: &mut N, item: N) -> ControlFlow<(), ()> {
+        match state.plus(item) {
+            Some(sum) => {
+                *state = sum;
+                ControlFlow::Continue(())
+            }
+            None => ControlFlow::Break(()),
+        }
+    }
+}
+
+/// The turn of `checked_product`, whose state is the product so far: it stops at the first item with which the product doesn't fit.
+#[derive(Drop)]
+pub struct ProductTurn;
+
+impl<N: CheckedTotal> Turn<N, N, ()> for ProductTurn {
+    ghost can_turn = { λ _ _ _. ⊤ };
+
+    ghost turns = { λ _ t x r u. IsTotalTurn N.times t x r u };
+
+    /// The item, multiplied.
+    #[inline(always)]
+    fn turn(&self, state: &mut N, item: N) -> ControlFlow<(), ()> {
+        match state.times(item) {
+            Some(product) => {
+                *state = product;
+                ControlFlow::Continue(())
+            }
+            None => ControlFlow::Break(()),
+        }
+    }
+}
+
+/// What a checked total answers, by what its fold answered and the total that it left: the total at the end, none where the fold stopped, or the source's failure.
+pub fn total_or_none<N: Drop, E>(answer: Result<Option<()>, E>, total: N) -> Result<Option<N>, E>
+    ensures { result ≡ total_by total answer }
+{
+    match answer {
+        Ok(None) => Ok(Some(total)),
+        Ok(Some(())) => Ok(None),
+        Err(e) => Err(e),
+    }
+}

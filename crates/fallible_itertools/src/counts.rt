@@ -1,0 +1,49 @@
+//! How often each item comes.
+ghost use Rattle.std.specs.Prelude.{◌≡◌, ◌+◌, ◌%◌, ◌^◌, None, unwrap_or};
+ghost use Rattle.std.specs.HashMap as hash;
+ghost use Rattle.fallible_itertools.specs.Counts.{IsTally};
+
+use fallible_iterator::Collect;
+use std::alloc::{AllocError, Global};
+use std::collections::HashMap;
+use std::hash::Hash;
+
+/// A map from each item to the number of times that it was pushed, as a collection that is made of the items. A number goes round at `usize::MAX`.
+#[derive(Drop)]
+pub struct Tally<K: Eq + Hash> {
+    /// how often each item was pushed
+    pub counts: HashMap<K, usize>,
+}
+
+// How often the item was pushed.
+fn count_at<K: Eq + Hash>(counts: &HashMap<K, usize>, item: &K) -> usize
+    ensures { result ≡ unwrap_or (hash.get K.eq counts.now item.now) 0 }
+{
+    match counts.get(item) {
+        Some(count) => *count,
+        None => 0,
+    }
+}
+
+// Of equal items the first stands in the map. Only a new one may be refused, where no room is spare.
+impl<K: Eq + Hash + Drop> Collect<K> for Tally<K> {
+    ghost made = { λ items t. IsTally K.eq items t.counts };
+
+    ghost empty_refuses = { ⊥ };
+
+    ghost push_refuses = { λ t x. (hash.get K.eq t.counts x ≡ None) × (hash.spare t.counts ≡ 0) };
+
+    fn empty(alloc: Global) -> Result<Tally<K>, AllocError> {
+        Ok(Tally {
+            counts: HashMap::new(alloc),
+        })
+    }
+
+    fn push_one(&mut self, item: K) -> Result<(), AllocError> {
+        let count = count_at(&self.counts, &item);
+        match self.counts.insert(item, count.wrapping_add(1)) {
+            Ok(_) => Ok(()),
+            Err(refused) => Err(AllocError::from(refused)),
+        }
+    }
+}

@@ -1,0 +1,49 @@
+//! Whether keys come in order.
+ghost use Rattle.std.specs.Prelude.{◌≡◌};
+ghost use Rattle.fallible_iterator.specs.Closures.{call_on, takes_on};
+ghost use Rattle.fallible_iterator.specs.Searching.{IsSearchTurn, all_pick};
+ghost use Rattle.fallible_itertools.specs.IsSorted.{OrderCall, comes_after};
+
+use fallible_iterator::Turn;
+use std::ops::ControlFlow;
+
+/// Whether a key may come after the last one: where there is none, and where it isn't below it. Keys without an order are out of order.
+pub fn may_come_after<K: PartialOrd>(last: &Option<K>, key: &K) -> bool
+    ensures { result ≡ comes_after K.partial_cmp last.now key.now }
+{
+    match last {
+        Some(last) => last <= key,
+        None => true,
+    }
+}
+
+/// The turn of `is_sorted_by_key`, whose state is the last key, if an item came, and the closure: it stops at the first item whose key is out of order, or where the closure fails.
+#[derive(Drop)]
+pub struct SortedTurn;
+
+impl<A, K: PartialOrd + Drop, E, F: FnMut(A) -> Result<K, E>> Turn<
+    (Option<K>, F),
+    A,
+    Result<bool, E>,
+> for SortedTurn {
+    ghost can_turn = { λ _ p x. takes_on F.FnMut p.1 x };
+
+    ghost turns = { λ _ p x r q. IsSearchTurn (OrderCall K.partial_cmp (call_on F.FnMut)) all_pick
+        p x r q };
+
+    /// The item's key, made once, which is the last one then.
+    #[inline(always)]
+    fn turn(&self, state: &mut (Option<K>, F), item: A) -> ControlFlow<Result<bool, E>, ()> {
+        let key = match (state.1)(item) {
+            Ok(key) => key,
+            Err(e) => return ControlFlow::Break(Err(e)),
+        };
+        let in_order = may_come_after(&state.0, &key);
+        state.0 = Some(key);
+        if in_order {
+            ControlFlow::Continue(())
+        } else {
+            ControlFlow::Break(Ok(false))
+        }
+    }
+}

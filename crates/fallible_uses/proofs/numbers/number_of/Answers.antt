@@ -1,7 +1,0 @@
--- The number that a text writes is what it parses to.
-use Rattle.std.proofs.Common.{◌∙◌}
-use Rattle.fallible_uses.proofs.NumberLemmas.{parsed}
-use Rattle.fallible_uses.proofs.numbers.number_of.Goals as goal
-
-pub returns : goal.returns
-returns c = c.ok.ensures.value ∙ parsed c.args.text.now _ c.parse.ensures.value.0

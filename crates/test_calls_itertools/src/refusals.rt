@@ -1,0 +1,301 @@
+// Refused memory: clones of the adapters, most with something held, and draws that clone, each request refused in turn. `PeekingTakeWhile` has no clone, since it borrows.
+use fallible_iterator::Answer::{End, Failure, Item};
+use fallible_iterator::{Answer, Convert, FallibleIterator};
+use fallible_itertools::EitherOrBoth::{Both, Left};
+use fallible_itertools::FallibleItertools;
+use std::alloc::{AllocError, Global};
+use std::test::Fail;
+use std::vec::IntoIter;
+use test_support::answered::expect_answers;
+use test_support::asking::Number;
+use test_support::counting::{Counting, Pointing};
+use test_support::course::Hint;
+use test_support::listed::listed;
+use test_support::refused_clones::{
+    Asks, Case, expect_refused_clones_of_asking, expect_refused_clones_of_numbers,
+    expect_refused_clones_that, expect_refused_draw_of_asking,
+};
+use test_support::requests::Requests;
+use test_support::test_error::TestError;
+
+// A case of numbers, or of items with numbers.
+type NumbersCase = Case<'static, u32, TestError>;
+
+// What is hinted where nothing is known.
+const UNKNOWN: Hint = (0, None);
+
+// What is hinted where at least one of three comes.
+const UP_TO_THREE: Hint = (1, Some(3));
+
+// What is hinted where no item comes.
+const NONE: Hint = (0, Some(0));
+
+// A source of numbers, of which each one that is left is a request of its clones.
+type Numbers<'a> = Convert<IntoIter<Result<Number<'a>, TestError>>>;
+
+const NINE: TestError = TestError::Number(9);
+
+// The numbers 1, 2 and 3.
+fn up_to_three<'a>(alloc: Global, requests: &'a Requests) -> Result<Numbers<'a>, AllocError> {
+    listed::<Number<'a>, TestError, 3>(
+        alloc,
+        [
+            Ok(Number::new(1, requests)),
+            Ok(Number::new(2, requests)),
+            Ok(Number::new(3, requests)),
+        ],
+    )
+}
+
+// The numbers 1, 2, 3 and 4.
+fn up_to_four<'a>(alloc: Global, requests: &'a Requests) -> Result<Numbers<'a>, AllocError> {
+    listed::<Number<'a>, TestError, 4>(
+        alloc,
+        [
+            Ok(Number::new(1, requests)),
+            Ok(Number::new(2, requests)),
+            Ok(Number::new(3, requests)),
+            Ok(Number::new(4, requests)),
+        ],
+    )
+}
+
+// Half the number.
+fn half<'a>(x: &Number<'a>) -> Result<Number<'a>, TestError> {
+    Ok(Number::new(x.value / 2, x.requests))
+}
+
+// The two as they are.
+fn apart<'a>(
+    first: Number<'a>,
+    second: Number<'a>,
+) -> Result<Result<Number<'a>, (Number<'a>, Number<'a>)>, TestError> {
+    Ok(Err((first, second)))
+}
+
+// What is held is a request, beside 3, which is left in the source.
+const OF_DEDUP: NumbersCase = Case {
+    name: "Dedup",
+    requests: 2,
+    hints: [UP_TO_THREE, NONE],
+    first: &[Item(1)],
+    expected: &[Item(2), Item(3), End],
+};
+
+const OF_COALESCE: NumbersCase = Case {
+    name: "Coalesce",
+    requests: 2,
+    hints: [UP_TO_THREE, NONE],
+    first: &[Item(1)],
+    expected: &[Item(2), Item(3), End],
+};
+
+// The key is a request too. It is 1 of 2 and of 3.
+const OF_DEDUP_BY_KEY: NumbersCase = Case {
+    name: "DedupByKey",
+    requests: 3,
+    hints: [UP_TO_THREE, NONE],
+    first: &[Item(1)],
+    expected: &[Item(2), End],
+};
+
+#[test]
+fn refused_clones_of_adapters_that_hold_an_item(rt: HostRuntime) -> Result<(), Fail> {
+    let r = Requests::refusing(u32::MAX);
+    let mut it = up_to_three(rt.alloc(), &r)?.dedup();
+    expect_refused_clones_of_asking(&rt, &r, &mut it, &OF_DEDUP)?;
+    let mut it = up_to_three(rt.alloc(), &r)?.coalesce(apart);
+    expect_refused_clones_of_asking(&rt, &r, &mut it, &OF_COALESCE)?;
+    let mut it = up_to_three(rt.alloc(), &r)?.dedup_by_key(half);
+    expect_refused_clones_of_asking(&rt, &r, &mut it, &OF_DEDUP_BY_KEY)
+}
+
+// 2 is held behind the separator, which is a request too.
+const OF_INTERSPERSE: NumbersCase = Case {
+    name: "Intersperse",
+    requests: 3,
+    hints: [(5, Some(5)), NONE],
+    first: &[Item(1), Item(0)],
+    expected: &[Item(2), Item(0), Item(3)],
+};
+
+const OF_TUPLE_WINDOWS: Asks<'static> = ("TupleWindows", 2, [(2, Some(2)), NONE]);
+
+#[test]
+fn refused_clones_of_adapters_that_clone(rt: HostRuntime) -> Result<(), Fail> {
+    let r = Requests::refusing(u32::MAX);
+    let mut it = up_to_three(rt.alloc(), &r)?.tuple_windows();
+    let pair = |x: u32, y: u32| (Number::new(x, &r), Number::new(y, &r));
+    let expected = [Item(pair(2, 3)), End];
+    expect_refused_clones_that(
+        &rt,
+        &r,
+        &mut it,
+        OF_TUPLE_WINDOWS,
+        &[Item(pair(1, 2))],
+        &expected,
+    )?;
+    let mut it = up_to_three(rt.alloc(), &r)?.intersperse(Number::new(0, &r));
+    expect_refused_clones_of_asking(&rt, &r, &mut it, &OF_INTERSPERSE)
+}
+
+const OF_CHUNKS: Asks<'static> = ("Chunks", 2, [(2, Some(4)), NONE]);
+
+const OF_CHUNK_BY: Asks<'static> = ("ChunkBy", 3, [UP_TO_THREE, NONE]);
+
+// The failure is due behind a batch of one number, and a group of one is held behind the first group.
+#[test]
+fn refused_clones_of_batches_and_groups(rt: HostRuntime) -> Result<(), Fail> {
+    let r = Requests::refusing(u32::MAX);
+    let items = [
+        Ok(Number::new(1, &r)),
+        Err(NINE),
+        Ok(Number::new(2, &r)),
+        Ok(Number::new(3, &r)),
+    ];
+    let source = listed::<Number<'_>, TestError, 4>(rt.alloc(), items)?;
+    let mut it = source.chunks(rt.alloc(), 2);
+    let first = Vec::from_array(rt.alloc(), [Number::new(1, &r)])?;
+    let second = Vec::from_array(rt.alloc(), [Number::new(2, &r), Number::new(3, &r)])?;
+    let expected = [Failure(NINE), Item(second), End];
+    expect_refused_clones_that(&rt, &r, &mut it, OF_CHUNKS, &[Item(first)], &expected)?;
+    let mut it = up_to_three(rt.alloc(), &r)?.chunk_by(rt.alloc(), half);
+    let first = Vec::from_array(rt.alloc(), [Number::new(1, &r)])?;
+    let second = Vec::from_array(rt.alloc(), [Number::new(2, &r), Number::new(3, &r)])?;
+    let expected = [Item((Number::new(1, &r), second)), End];
+    expect_refused_clones_that(
+        &rt,
+        &r,
+        &mut it,
+        OF_CHUNK_BY,
+        &[Item((Number::new(0, &r), first))],
+        &expected,
+    )
+}
+
+// Whether the item is below 8.
+fn below_eight(x: &u32) -> Result<bool, TestError> {
+    Ok(*x < 8)
+}
+
+// Whether the first goes first.
+fn in_order<'a>(x: &Number<'a>, y: &Number<'a>) -> Result<bool, TestError> {
+    Ok(x.value <= y.value)
+}
+
+// Of 7, 8 and 7 the last is left in the source, behind a refused item.
+const OF_COPIED_AND_TAKE_WHILE_INCLUSIVE: NumbersCase = Case {
+    name: "Copied and TakeWhileInclusive",
+    requests: 1,
+    hints: [(1, Some(3)), NONE],
+    first: &[Item(7), Item(8)],
+    expected: &[End],
+};
+
+// The failures of 2 and 3, which ask, are left in the source.
+const OF_INSPECT_ERR_AND_OR_ELSE: NumbersCase = Case {
+    name: "InspectErr and OrElse",
+    requests: 2,
+    hints: [UNKNOWN, UNKNOWN],
+    first: &[Item(1)],
+    expected: &[Item(2), Item(3)],
+};
+
+// The right's 2 is held, and its 4 is left there, beside 2 and 3 of the left.
+const OF_MERGE_BY: NumbersCase = Case {
+    name: "MergeBy",
+    requests: 4,
+    hints: [(5, None), UNKNOWN],
+    first: &[Item(1)],
+    expected: &[Item(2), Item(2), Item(3), Item(4)],
+};
+
+const OF_ZIP_LONGEST: Asks<'static> = ("ZipLongest", 4, [(3, None), UNKNOWN]);
+
+#[test]
+fn refused_clones_of_adapters_that_hold_nothing_or_join(rt: HostRuntime) -> Result<(), Fail> {
+    let r = Requests::refusing(u32::MAX);
+    let mut it = Pointing::new(Counting::new(1, 4, &r), &[7, 8])
+        .copied()
+        .take_while_inclusive(below_eight);
+    expect_refused_clones_of_numbers(&rt, &r, &mut it, &OF_COPIED_AND_TAKE_WHILE_INCLUSIVE)?;
+    let faulty = [Ok(1), Err(Number::new(2, &r)), Err(Number::new(3, &r))];
+    let mut it = listed::<u32, Number<'_>, 3>(rt.alloc(), faulty)?
+        .inspect_err(|_: &Number<'_>| {})
+        .or_else(|e: Number<'_>| Ok::<_, TestError>(Some(e.value)));
+    expect_refused_clones_of_numbers(&rt, &r, &mut it, &OF_INSPECT_ERR_AND_OR_ELSE)?;
+    // 1 is held beside the right's failure, and 5 is left there.
+    let right = [Err(NINE), Ok(Number::new(5, &r))];
+    let right = listed::<Number<'_>, TestError, 2>(rt.alloc(), right)?;
+    let mut it = up_to_three(rt.alloc(), &r)?.zip_longest(right);
+    let expected = [
+        Item(Both(Number::new(1, &r), Number::new(5, &r))),
+        Item(Left(Number::new(2, &r))),
+        Item(Left(Number::new(3, &r))),
+        End,
+    ];
+    expect_refused_clones_that(
+        &rt,
+        &r,
+        &mut it,
+        OF_ZIP_LONGEST,
+        &[Failure(NINE)],
+        &expected,
+    )?;
+    let right = [Ok(Number::new(2, &r)), Ok(Number::new(4, &r))];
+    let right = listed::<Number<'_>, TestError, 2>(rt.alloc(), right)?;
+    let mut it = up_to_three(rt.alloc(), &r)?.merge_by(right, in_order);
+    expect_refused_clones_of_asking(&rt, &r, &mut it, &OF_MERGE_BY)
+}
+
+// The later item of the pair is lost, and the earlier one stays held. The last row meets no refusal.
+#[test]
+fn tuple_windows_loses_the_item_whose_clone_is_refused(rt: HostRuntime) -> Result<(), Fail> {
+    let r = Requests::refusing(u32::MAX);
+    let pair = |x: u32, y: u32| Item((Number::new(x, &r), Number::new(y, &r)));
+    let refused = || Failure(TestError::Memory);
+    let rows = [
+        [refused(), pair(1, 3), pair(3, 4), End],
+        [pair(1, 2), refused(), pair(2, 4), End],
+        [pair(1, 2), pair(2, 3), refused(), End],
+        [pair(1, 2), pair(2, 3), pair(3, 4), End],
+    ];
+    for (number, expected) in (0..).zip(rows) {
+        let mut it = up_to_four(rt.alloc(), &r)?.tuple_windows();
+        r.refuse(number);
+        expect_answers(&rt, &mut it, &expected)?;
+        assert_eq!(rt; r.made(), 3, "tuple_windows, clone {number}");
+    }
+    Ok(())
+}
+
+// What `intersperse` of 1, 2 and 3 answers where one of the separator's clones is refused: the refusal stands in its place, and the item behind it is held. The last row meets no refusal.
+const INTERSPERSED: [[Answer<u32, TestError>; 6]; 3] = [
+    [
+        Item(1),
+        Failure(TestError::Memory),
+        Item(2),
+        Item(0),
+        Item(3),
+        End,
+    ],
+    [
+        Item(1),
+        Item(0),
+        Item(2),
+        Failure(TestError::Memory),
+        Item(3),
+        End,
+    ],
+    [Item(1), Item(0), Item(2), Item(0), Item(3), End],
+];
+
+#[test]
+fn intersperse_loses_no_item_where_a_clone_is_refused(rt: HostRuntime) -> Result<(), Fail> {
+    let r = Requests::refusing(u32::MAX);
+    for (number, expected) in (0..).zip(&INTERSPERSED) {
+        let mut it = up_to_three(rt.alloc(), &r)?.intersperse(Number::new(0, &r));
+        expect_refused_draw_of_asking(&rt, &r, &mut it, number, 2, expected)?;
+    }
+    Ok(())
+}

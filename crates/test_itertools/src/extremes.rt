@@ -1,0 +1,150 @@
+// Extremes, counts, comparisons.
+use crate::rows::{Drawn, expect_same};
+use fallible_iterator::FallibleIterator;
+use fallible_itertools::MinMaxResult::{MinMax, NoElements, OneElement};
+use fallible_itertools::{FallibleItertools, MinMaxResult, NotOne};
+use std::cmp::Ordering;
+use std::test::Fail;
+use test_support::numbers::numbers;
+
+type Numbers = &'static [Result<u32, u32>];
+
+// What `at_most_one` and `exactly_one` answer, one after the other, and what comes then.
+type Few = (
+    Result<Result<Option<u32>, (u32, u32)>, u32>,
+    Result<Result<u32, NotOne<u32>>, u32>,
+    Drawn,
+);
+
+const FEW: [(Numbers, Few); 5] = [
+    (&[], (Ok(Ok(None)), Ok(Err(NotOne::NoItem)), Ok(None))),
+    (
+        &[Ok(1)],
+        (Ok(Ok(Some(1))), Ok(Err(NotOne::NoItem)), Ok(None)),
+    ),
+    (
+        &[Ok(1), Ok(2), Ok(3)],
+        (Ok(Err((1, 2))), Ok(Ok(3)), Ok(None)),
+    ),
+    (
+        &[Ok(1), Err(8), Ok(3), Ok(4), Ok(5)],
+        (Err(8), Ok(Err(NotOne::More(3, 4))), Ok(Some(5))),
+    ),
+    (
+        &[Err(7), Ok(1), Err(8), Ok(2)],
+        (Err(7), Err(8), Ok(Some(2))),
+    ),
+];
+
+#[test]
+fn few_items() -> Result<(), Fail> {
+    for (answers, expected) in &FEW {
+        let mut it = numbers(answers);
+        expect_same(&(it.at_most_one(), it.exactly_one(), it.next()), expected)?;
+    }
+    Ok(())
+}
+
+const EXTREMES: [(Numbers, Result<MinMaxResult<u32>, u32>); 4] = [
+    (&[], Ok(NoElements)),
+    (&[Ok(3)], Ok(OneElement(3))),
+    (&[Ok(3), Ok(1), Ok(4), Ok(2)], Ok(MinMax(1, 4))),
+    (&[Ok(3), Err(9), Ok(4)], Err(9)),
+];
+
+#[test]
+fn both_extremes() -> Result<(), Fail> {
+    for (answers, expected) in &EXTREMES {
+        expect_same(&numbers(answers).minmax(), expected)?;
+    }
+    Ok(())
+}
+
+// How often 5 and 7 come, and how many keys there are.
+const COUNTS: (Option<usize>, Option<usize>, usize) = (Some(2), Some(1), 2);
+
+#[test]
+fn counted_and_joined(rt: HostRuntime) -> Result<(), Fail> {
+    let counts = numbers(&[Ok(5), Ok(7), Ok(5)]).counts(rt.alloc());
+    match counts {
+        Ok(counts) => {
+            let found = (
+                counts.get(&5).copied(),
+                counts.get(&7).copied(),
+                counts.len(),
+            );
+            expect_same(&found, &COUNTS)?;
+        }
+        Err(_) => return Err(Fail::new("nothing was counted")),
+    }
+    let text = numbers(&[Ok(1), Ok(20), Ok(3)]).join(rt.alloc(), ", ");
+    match text {
+        Ok(text) => expect_same(&text.as_str(), &"1, 20, 3"),
+        Err(_) => Err(Fail::new("nothing was joined")),
+    }
+}
+
+// So many that their text has 1,003 bytes.
+const MANY: [Result<u32, u32>; 201] = [Ok(100); 201];
+
+// Memory is not refused after some keys, or some bytes.
+#[test]
+fn many_are_counted_and_joined(rt: HostRuntime) -> Result<(), Fail> {
+    let counts = numbers(&MANY)
+        .enumerate()
+        .map(|(n, _)| Ok(n))
+        .counts(rt.alloc());
+    match counts {
+        Ok(counts) => expect_same(&counts.len(), &201)?,
+        Err(_) => return Err(Fail::new("nothing was counted")),
+    }
+    match numbers(&MANY).join(rt.alloc(), ", ") {
+        Ok(text) => expect_same(&text.len(), &1003),
+        Err(_) => Err(Fail::new("nothing was joined")),
+    }
+}
+
+// Orders the last digits; a failure of 50 at 5.
+fn last_digits(x: u32, y: u32) -> Result<Ordering, u32> {
+    if x == 5 {
+        Err(50)
+    } else {
+        Ok((x % 10).cmp(&(y % 10)))
+    }
+}
+
+fn same_last_digit(x: u32, y: u32) -> Result<bool, u32> {
+    if x == 5 {
+        Err(50)
+    } else {
+        Ok(x % 10 == y % 10)
+    }
+}
+
+// Both sides, and what `cmp_by` and `eq_by` answer.
+const COMPARED: [(Numbers, Numbers, (Result<Ordering, u32>, Result<bool, u32>)); 6] = [
+    (
+        &[Ok(1), Ok(12)],
+        &[Ok(21), Ok(2)],
+        (Ok(Ordering::Equal), Ok(true)),
+    ),
+    (&[Ok(1)], &[Ok(21), Ok(2)], (Ok(Ordering::Less), Ok(false))),
+    (
+        &[Ok(19), Ok(5)],
+        &[Ok(21), Err(2)],
+        (Ok(Ordering::Greater), Ok(false)),
+    ),
+    (&[Ok(1), Err(3)], &[Ok(1), Err(2)], (Err(3), Err(3))),
+    (&[Ok(1), Ok(5)], &[Ok(1), Ok(5)], (Err(50), Err(50))),
+    (&[Ok(1)], &[Ok(1), Err(2)], (Err(2), Err(2))),
+];
+
+#[test]
+fn compared_by_closures() -> Result<(), Fail> {
+    for (left, right, expected) in &COMPARED {
+        let order = numbers(left).cmp_by(numbers(right), last_digits);
+        let equal = numbers(left).eq_by(numbers(right), same_last_digit);
+        expect_same(&(order, equal), expected)?;
+    }
+    Ok(())
+}

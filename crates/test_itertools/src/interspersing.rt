@@ -1,0 +1,118 @@
+// `intersperse`. The source goes on behind an end.
+use crate::rows::expect_same;
+use fallible_iterator::Answer::{End, Failure, Item};
+use fallible_iterator::{Answer, FallibleIterator, convert};
+use fallible_itertools::FallibleItertools;
+use std::cell::Cell;
+use std::test::Fail;
+use test_support::answered::expect_answers;
+use test_support::course::{Hint, expect_course};
+use test_support::listed::listed;
+use test_support::scripted::scripted;
+use test_support::test_error::TestError;
+use test_support::text::Text;
+
+type Drawn = Result<Option<u32>, TestError>;
+
+const NINE: TestError = TestError::Number(9);
+
+const SCRIPT: [Drawn; 7] = [
+    Err(NINE),
+    Ok(None),
+    Ok(Some(1)),
+    Ok(Some(2)),
+    Err(NINE),
+    Ok(None),
+    Ok(Some(3)),
+];
+
+const PARTED: [Answer<u32, TestError>; 10] = [
+    Failure(NINE),
+    End,
+    Item(1),
+    Item(0),
+    Item(2),
+    Failure(NINE),
+    End,
+    Item(0),
+    Item(3),
+    End,
+];
+
+#[test]
+fn intersperse_parts_items_across_failures_and_ends(rt: HostRuntime) -> Result<(), Fail> {
+    let mut it = scripted(rt.alloc(), SCRIPT)?.intersperse(0);
+    expect_answers(&rt, &mut it, &PARTED)
+}
+
+const THREE: [Result<u32, TestError>; 3] = [Ok(1), Ok(2), Ok(3)];
+
+const COUNTED: [(Hint, &[Answer<u32, TestError>]); 5] = [
+    ((5, Some(5)), &[Item(1)]),
+    ((4, Some(4)), &[Item(0)]),
+    ((3, Some(3)), &[Item(2), Item(0)]),
+    ((1, Some(1)), &[Item(3)]),
+    ((0, Some(0)), &[End]),
+];
+
+#[test]
+fn intersperse_counts_what_comes(rt: HostRuntime) -> Result<(), Fail> {
+    let mut it = listed(rt.alloc(), THREE)?.intersperse(0);
+    expect_course(&rt, &mut it, &COUNTED)
+}
+
+const TEXTS: [Answer<&str, TestError>; 8] = [
+    Item("a"),
+    Item("-"),
+    Item("b"),
+    Failure(TestError::Memory),
+    Item("c"),
+    Item("-"),
+    Item("d"),
+    End,
+];
+
+#[test]
+fn intersperse_loses_nothing_where_a_clone_is_refused(rt: HostRuntime) -> Result<(), Fail> {
+    let clones = Cell::new(0);
+    let separator = Text {
+        text: "-",
+        clones: &clones,
+    };
+    let texts = ["a", "b", "c", "d"].map(|text| Text {
+        text,
+        clones: &clones,
+    });
+    let mut it = convert(
+        Vec::from_array(rt.alloc(), texts)?
+            .into_iter()
+            .map(|text| Ok::<Text<'_>, TestError>(text)),
+    )
+    .intersperse(separator)
+    .map(|text: Text<'_>| Ok(text.text));
+    expect_answers(&rt, &mut it, &TEXTS)
+}
+
+const FOUR: [Result<u32, TestError>; 4] = [Ok(1), Ok(2), Ok(7), Ok(3)];
+
+// The separator, what the fold gives that stops at a 7, and what is drawn next.
+const STOPPED: [(u32, (Result<u32, TestError>, Drawn)); 2] = [
+    (7, (Err(TestError::Number(1)), Ok(Some(2)))),
+    (0, (Err(TestError::Number(1020)), Ok(Some(0)))),
+];
+
+#[test]
+fn intersperse_holds_an_item_where_a_fold_stops_before_it(rt: HostRuntime) -> Result<(), Fail> {
+    for (separator, expected) in &STOPPED {
+        let mut it = listed(rt.alloc(), FOUR)?.intersperse(*separator);
+        let folded = it.try_fold(0, |number: u32, x: u32| {
+            if x == 7 {
+                Err(TestError::Number(number))
+            } else {
+                Ok(number.wrapping_mul(10).wrapping_add(x))
+            }
+        });
+        expect_same(&(folded, it.next()), expected)?;
+    }
+    Ok(())
+}

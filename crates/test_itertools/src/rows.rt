@@ -1,0 +1,53 @@
+// One call for a nest: it draws, folds and compares.
+ghost use Rattle.fallible_iterator.specs.Contract.{KeptByDraws};
+
+use fallible_iterator::{Answer, FallibleIterator};
+use std::fmt::Debug;
+use std::test::Fail;
+use test_support::closures::put_behind;
+use test_support::expected_numbers::expect_numbers;
+use test_support::scripted::Script;
+
+/// What a draw answers.
+pub type Drawn = Result<Option<u32>, u32>;
+
+/// An end.
+pub const END: Drawn = Ok(None);
+
+/// What a source answers, what is drawn first, and then the fold of what is left, as digits, and what the source gives next.
+pub type Folded = (
+    &'static [Drawn],
+    &'static [Answer<u32, u32>],
+    (Result<u32, u32>, Drawn),
+);
+
+/// A source of these answers, which ends then.
+pub fn script(rt: &HostRuntime, answers: &[Drawn]) -> Result<Script<u32, u32>, Fail> {
+    Ok(Script {
+        answers: answers.to_vec(rt.alloc())?.into_iter(),
+    })
+}
+
+/// Draws, and fails the test where other answers come. Then it folds what is left to digits.
+pub fn folded_after<I: FallibleIterator<Item = u32, Error = u32>>(
+    rt: &HostRuntime,
+    it: &mut I,
+    drawn: &[Answer<u32, u32>],
+) -> Result<Result<u32, u32>, Fail>
+where
+    requires can_next { I.contract.can_next it.old }
+    requires finite { I.contract.is_finite it.old }
+    ensures { KeptByDraws I.contract it.old it.new }
+{
+    expect_numbers(rt, it, drawn)?;
+    Ok(it.try_fold(0, put_behind))
+}
+
+/// Fails the test where the answer isn't the one expected.
+pub fn expect_same<T: Debug + PartialEq>(answered: &T, expected: &T) -> Result<(), Fail> {
+    if answered == expected {
+        Ok(())
+    } else {
+        Err(Fail::new(format_args!("answered {answered:?}, and not {expected:?}")))
+    }
+}

@@ -1,0 +1,357 @@
+// The adapter that looks one item ahead.
+ghost use Rattle.std.specs.Prelude.{◌≡◌, ◌==◌, ⊤, Some, None, Ok, MatchResult};
+ghost use Rattle.std.proofs.Common.{rules};
+ghost use Rattle.std.specs.Cmp.Rules.{comparing};
+ghost use Rattle.fallible_iterator.specs.Peeking.Peekable.{Fills, peekable_parts};
+
+use fallible_iterator::Answer::{End, Failure, Item};
+use fallible_iterator::{Answer, FallibleIterator, IteratorExt, Peekable, convert, once, repeat};
+use std::cell::Cell;
+use std::test::Fail;
+use test_support::answered::expect_answers;
+use test_support::course::Hint;
+use test_support::listed::listed;
+use test_support::numbers::numbers;
+use test_support::scripted::{Script, scripted};
+use test_support::test_error::TestError;
+
+type Drawn = Result<Option<u32>, u32>;
+
+// A call of what looks ahead, with what it answers.
+#[derive(Debug, PartialEq, Eq, Drop)]
+enum Look {
+    // `peek`
+    Peeks(Answer<u32, u32>),
+    // `next`
+    Draws(Answer<u32, u32>),
+    // `next_if` of an item above the number
+    TakesAbove(u32, Answer<u32, u32>),
+    // `next_if_eq` of the number
+    Takes(u32, Answer<u32, u32>),
+    // `size_hint`
+    Hints(Hint),
+    // a fold that adds up, and fails with 7 at 2
+    Folds(Result<u32, u32>),
+}
+
+use Look::{Draws, Folds, Hints, Peeks, Takes, TakesAbove};
+
+fn told(answer: Drawn) -> Answer<u32, u32> {
+    match answer {
+        Ok(Some(x)) => Item(x),
+        Ok(None) => End,
+        Err(e) => Failure(e),
+    }
+}
+
+// A copy of what `peek` looked at.
+fn copied(looked_at: Result<Option<&u32>, u32>) -> Drawn {
+    Ok(looked_at?.copied())
+}
+
+fn sum_up_to_two(total: u32, x: u32) -> Result<u32, u32> {
+    if x == 2 {
+        Err(7)
+    } else {
+        Ok(total.wrapping_add(x))
+    }
+}
+
+// Makes the calls of what looks ahead in a script, one after another. Fails the test where one answers otherwise.
+fn expect_looks(rt: &HostRuntime, script: &[Drawn], expected: &[Look]) -> Result<(), Fail> {
+    let answers = script.to_vec(rt.alloc())?.into_iter();
+    let mut it = Script { answers }.peekable();
+    for call in expected {
+        let made = match call {
+            Peeks(_) => Peeks(told(copied(it.peek()))),
+            Draws(_) => Draws(told(it.next())),
+            TakesAbove(least, _) => { TakesAbove(*least, told(it.next_if(|x: &u32| *x > *least))) }
+            Takes(wanted, _) => Takes(*wanted, told(it.next_if_eq(wanted))),
+            Hints(_) => Hints(it.size_hint()),
+            Folds(_) => Folds(it.try_fold(0, sum_up_to_two)),
+        };
+        if made != *call {
+            return Err(Fail::new(format_args!("{made:?}, and not {call:?}")));
+        }
+    }
+    Ok(())
+}
+
+// A script, and the calls of what looks ahead in it.
+type Row = (&'static [Drawn], &'static [Look]);
+
+// The same of each row.
+fn expect_each(rt: &HostRuntime, rows: &[Row]) -> Result<(), Fail> {
+    for (script, looks) in rows {
+        expect_looks(rt, script, looks)?;
+    }
+    Ok(())
+}
+
+const PEEKS: [Row; 3] = [
+    (
+        &[Err(4), Ok(Some(5))],
+        &[
+            Peeks(Failure(4)),
+            Peeks(Item(5)),
+            Draws(Item(5)),
+            Draws(End),
+            Peeks(End),
+            Draws(End),
+            Draws(End),
+        ],
+    ),
+    (
+        &[Ok(Some(0)), Ok(Some(1))],
+        &[
+            Peeks(Item(0)),
+            Peeks(Item(0)),
+            Draws(Item(0)),
+            Draws(Item(1)),
+            Peeks(End),
+            Draws(End),
+            Draws(End),
+        ],
+    ),
+    (
+        &[Ok(Some(1)), Err(2), Ok(Some(3))],
+        &[
+            Peeks(Item(1)),
+            Peeks(Item(1)),
+            Draws(Item(1)),
+            Draws(Failure(2)),
+            Peeks(Item(3)),
+            Draws(Item(3)),
+            Draws(End),
+        ],
+    ),
+];
+
+#[test]
+fn peek_holds_an_item_and_no_failure(rt: HostRuntime) -> Result<(), Fail> {
+    expect_each(&rt, &PEEKS)
+}
+
+#[test]
+fn peek_draws_once(rt: HostRuntime) {
+    let answers = [Ok(1), Ok(2), Ok(3)];
+    let mut it = numbers(&answers);
+    let mut ahead = (&mut it).peekable();
+    assert_eq!(rt; ahead.peek(), Ok(Some(&1)));
+    assert_eq!(rt; ahead.peek(), Ok(Some(&1)));
+    assert_eq!(rt; it.next(), Ok(Some(2)));
+}
+
+const TAKES: [Row; 2] = [
+    (
+        &[Ok(Some(1)), Ok(Some(2))],
+        &[
+            TakesAbove(1, End),
+            TakesAbove(0, Item(1)),
+            Takes(2, Item(2)),
+            Takes(2, End),
+            Takes(2, End),
+        ],
+    ),
+    (
+        &[Err(4), Ok(Some(1)), Err(5)],
+        &[
+            TakesAbove(1, Failure(4)),
+            TakesAbove(3, End),
+            Takes(3, End),
+            Takes(1, Item(1)),
+            Takes(1, Failure(5)),
+        ],
+    ),
+];
+
+#[test]
+fn next_if_takes_an_item_that_is_accepted_and_answers_a_failure(
+    rt: HostRuntime,
+) -> Result<(), Fail> {
+    expect_each(&rt, &TAKES)
+}
+
+const HELD_ENDS: [Row; 1] = [(
+    &[Ok(None), Ok(Some(7)), Ok(None), Ok(Some(7))],
+    &[
+        Peeks(End),
+        Peeks(End),
+        Draws(End),
+        Draws(Item(7)),
+        Takes(7, End),
+        Peeks(End),
+        Draws(End),
+        Takes(7, Item(7)),
+    ],
+)];
+
+#[test]
+fn peek_and_next_if_hold_the_end_that_they_draw(rt: HostRuntime) -> Result<(), Fail> {
+    expect_each(&rt, &HELD_ENDS)?;
+    let mut it = scripted::<u32, u32, 2>(rt.alloc(), [Ok(None), Ok(Some(7))])?.peekable();
+    assert_eq!(rt; it.next_if_eq(&7), Ok(None));
+    assert_eq!(rt; it.peek(), Ok(None));
+    assert_eq!(rt; it.next(), Ok(None));
+    assert_eq!(rt; it.next_if_eq(&7), Ok(Some(7)));
+    Ok(())
+}
+
+// A held end ends the fold, and a fold that stops takes the held item.
+const FOLDS: [Row; 3] = [
+    (
+        &[Ok(None), Ok(Some(7))],
+        &[
+            Peeks(End),
+            Hints((0, Some(0))),
+            TakesAbove(0, End),
+            Folds(Ok(0)),
+            Draws(Item(7)),
+        ],
+    ),
+    (
+        &[Ok(Some(2)), Ok(Some(3)), Ok(Some(4))],
+        &[
+            Peeks(Item(2)),
+            Folds(Err(7)),
+            Peeks(Item(3)),
+            Draws(Item(3)),
+        ],
+    ),
+    (
+        &[Ok(Some(1)), Ok(Some(2)), Ok(Some(3))],
+        &[
+            Peeks(Item(1)),
+            Folds(Err(7)),
+            Peeks(Item(3)),
+            Draws(Item(3)),
+        ],
+    ),
+];
+
+#[test]
+fn a_held_answer_belongs_to_one_fold(rt: HostRuntime) -> Result<(), Fail> {
+    expect_each(&rt, &FOLDS)
+}
+
+#[test]
+fn peek_at_borrowed_items(rt: HostRuntime) -> Result<(), Fail> {
+    let numbers = [1u32, 2];
+    let mut it = convert(numbers.iter().map(|x| Ok::<&u32, u32>(x))).peekable();
+    assert_eq!(rt; it.peek(), Ok(Some(&&1)));
+    expect_answers(&rt, &mut it, &[Item(&1), Item(&2), End])
+}
+
+#[test]
+fn peekable_counts_the_held_item(rt: HostRuntime) -> Result<(), Fail> {
+    let mut it = listed::<u32, u32, 3>(rt.alloc(), [Ok(1), Ok(2), Ok(3)])?
+        .take(2)
+        .peekable();
+    assert_eq!(rt; it.peek(), Ok(Some(&1)));
+    assert_eq!(rt; it.count(), Ok(2));
+    Ok(())
+}
+
+#[test]
+fn peekable_hint_counts_the_held_item_up_to_the_greatest_number(rt: HostRuntime) {
+    let mut it = once::<u32, u32>(1).peekable();
+    assert_eq!(rt; it.size_hint(), (1, Some(1)));
+    assert_eq!(rt; it.peek(), Ok(Some(&1)));
+    assert_eq!(rt; it.size_hint(), (1, Some(1)));
+    let mut it = repeat::<u32, TestError>(1).peekable();
+    assert_eq!(rt; it.peek(), Ok(Some(&1)));
+    assert_eq!(rt; it.size_hint(), (usize::MAX, None));
+    let mut it = (0..usize::MAX).into_fallible().peekable();
+    assert_eq!(rt; it.peek(), Ok(Some(&0)));
+    assert_eq!(rt; it.size_hint(), (usize::MAX, Some(usize::MAX)));
+}
+
+// Takes what is looked at. After `fill`, `held` tells whether it is an item or an end, and `next` is known to answer that without a draw.
+fn take_looked_at<I: FallibleIterator>(it: &mut Peekable<I>) -> Result<Option<I::Item>, I::Error>
+where
+    I::Item: Drop,
+    requires { ⟦<Peekable<I> as FallibleIterator>⟧.contract.can_next it.old }
+    ensures { MatchResult result
+        (λ o. (s : I) × Fills I.contract.steps (peekable_parts it.old) (Ok tt) (s, Some o)
+        × (peekable_parts it.new ≡ (s, None)))
+        (λ _. ⊤) }
+{
+    match it.fill() {
+        Ok(()) => {}
+        Err(e) => return Err(e),
+    }
+    let is_item = (*it).held().is_some();
+    match it.next() {
+        Ok(Some(x)) => {
+            prove!(is_item);
+            Ok(Some(x))
+        }
+        Ok(None) => {
+            prove!(!is_item);
+            Ok(None)
+        }
+        Err(_) => unreachable!(),
+    }
+}
+
+#[test]
+fn what_is_looked_at_is_the_next_item(rt: HostRuntime) {
+    let answers = [Ok(1), Err(2)];
+    let mut it = numbers(&answers).peekable();
+    for answer in &[Ok(Some(1)), Err(2), Ok(None)] {
+        assert_eq!(rt; take_looked_at(&mut it), *answer);
+    }
+}
+
+// Whether the closure accepts the item, what is answered, and how often it was called by then.
+const CALLS: [(bool, Drawn, u32); 3] = [
+    (false, Ok(None), 1),
+    (true, Ok(Some(1)), 2),
+    (true, Err(2), 2),
+];
+
+#[test]
+fn next_if_calls_its_closure_once(rt: HostRuntime) {
+    let calls = Cell::new(0u32);
+    let answers = [Ok(1), Err(2)];
+    let mut it = numbers(&answers).peekable();
+    for (accepts, answer, called) in &CALLS {
+        let taken = it.next_if(|_x: &u32| {
+            calls.set(calls.get().wrapping_add(1));
+            *accepts
+        });
+        assert_eq!(rt; (taken, calls.get()), (*answer, *called));
+    }
+}
+
+// A number that counts its comparisons.
+#[derive(Debug, Drop)]
+struct Compared<'a> {
+    number: u32,
+    comparisons: &'a Cell<u32>,
+}
+
+impl PartialEq for Compared<'_> {
+    ghost eq = { λ a b. a.number == b.number };
+
+    ghost laws = { Prim.search (comparing, rules) };
+
+    fn eq(&self, other: &Compared<'_>) -> bool {
+        self.comparisons.set(self.comparisons.get().wrapping_add(1));
+        self.number == other.number
+    }
+}
+
+#[test]
+fn next_if_eq_compares_once(rt: HostRuntime) {
+    let comparisons = Cell::new(0u32);
+    let compared = |number: u32| Compared {
+        number,
+        comparisons: &comparisons,
+    };
+    let mut it = once::<Compared<'_>, u32>(compared(1)).peekable();
+    for (number, is_taken, made) in [(2, false, 1), (1, true, 2)] {
+        let taken = it.next_if_eq(&compared(number)).expect(&rt, "no failure");
+        assert_eq!(rt; (taken.is_some(), comparisons.get()), (is_taken, made));
+    }
+}
