@@ -100,16 +100,16 @@ ITERTOOLS = [
     (r"chunk_by\.rs", r"^    alloc: Global,\n", "", 1),
     (r"traits\.rs", r"^            alloc,\n", "", 2),
     (r"traits\.rs", r"\bself, alloc: Global, ", "self, ", 3),
-    (r"growing\.rs", r"\(alloc: Global, ", "(", 1),
-    (r"growing\.rs", r"Vec::new\(alloc\)", "Vec::new()", 1),
-    (r"growing\.rs", r"match items\.push\(item\) \{[^{}]*\}", "items.push(item);\n    Ok(())", 1),
+    (r"batch\.rs", r"\(alloc: Global, ", "(", 1),
+    (r"batch\.rs", r"Vec::new\(alloc\)", "Vec::new()", 1),
+    (r"batch\.rs", r"match items\.push\(item\) \{[^{}]*\}", "items.push(item);\n    Ok(())", 1),
     (r"(?:chunks|chunk_by|intersperse|tuple_windows)\.rs", ARM, NO_VALUE, 7),
     # `counts` and `join`: the same folds, into what `new` makes.
-    (r"counted\.rs", r"^    fn empty\((?:.*\n)*?    \}\n\n", "", 1),
-    (r"counted\.rs", r"match self\.counts\.insert\(([^\n]*)\) \{[^{}]*\}",
+    (r"counts\.rs", r"^    fn empty\((?:.*\n)*?    \}\n\n", "", 1),
+    (r"counts\.rs", r"match self\.counts\.insert\(([^\n]*)\) \{[^{}]*\}",
      r"self.counts.insert(\1);\n        Ok(())", 1),
-    (r"joined\.rs", r"text\.push_str\(separator\)\?;", "text.push_str(separator);", 1),
-    (r"joined\.rs", r"text\.write\(item\)", 'let written = write!(text, "{item}");\n'
+    (r"join\.rs", r"text\.push_str\(separator\)\?;", "text.push_str(separator);", 1),
+    (r"join\.rs", r"text\.write\(item\)", 'let written = write!(text, "{item}");\n'
      '    written.expect("a Display implementation returned an error");\n    Ok(())', 1),
     (r"traits\.rs", r"fn counts\(self, alloc: Global\) -> Result<(.*), Fault<Self::Error>>",
      r"fn counts(mut self) -> Result<\1, Self::Error>", 1),
@@ -124,24 +124,24 @@ ITERTOOLS = [
      r"Ok(Some(refused)) => match refused {},\n\1Err(e) => Err(e),", 1),
     (r"traits\.rs", r"^use fallible_iterator::\{FallibleIterator, Fault, Into", "use fallible_iterator::"
      "fallible_contract::collecting::CollectTurn;\nuse fallible_iterator::{FallibleIterator, Into", 1),
-    (r"joined\.rs", r"^use core::fmt::Display;", "use alloc::string::String;\nuse core::fmt::{Display, Write};", 1),
+    (r"join\.rs", r"^use core::fmt::Display;", "use alloc::string::String;\nuse core::fmt::{Display, Write};", 1),
     # The trait of the Rust crate is for types without a size too.
     (r"(?:traits|double_ended|peeking_take_while)\.rs", r"^(pub trait \w+: \w+) \{", r"\1 + Sized {", 3),
     # Features.
-    (r"lib\.rs", r"^pub mod (?:chunk_by|chunks|growing|joined);", r'#[cfg(feature = "alloc")]\n\g<0>', 4),
+    (r"lib\.rs", r"^pub mod (?:batch|chunk_by|chunks|join);", r'#[cfg(feature = "alloc")]\n\g<0>', 4),
     (r"lib\.rs", r"^pub use (?:chunk_by|chunks)::", r'#[cfg(feature = "alloc")]\n\g<0>', 2),
-    (r"lib\.rs", r"^pub mod counted;", r'#[cfg(feature = "std")]\n\g<0>', 1),
-    (r"(?:chunk_by|chunks|growing)\.rs", r"\A(//.*\n\n)", r"\1use alloc::vec::Vec;\n", 3),
-    (r"traits\.rs", r"^use crate::(?:chunk_by|chunks|joined)::", r'#[cfg(feature = "alloc")]\n\g<0>', 3),
+    (r"lib\.rs", r"^pub mod counts;", r'#[cfg(feature = "std")]\n\g<0>', 1),
+    (r"(?:batch|chunk_by|chunks)\.rs", r"\A(//.*\n\n)", r"\1use alloc::vec::Vec;\n", 3),
+    (r"traits\.rs", r"^use crate::(?:chunk_by|chunks|join)::", r'#[cfg(feature = "alloc")]\n\g<0>', 3),
     (r"traits\.rs", r"^use core::fmt::Display;",
      r'#[cfg(feature = "alloc")]\nuse alloc::string::String;\n#[cfg(feature = "alloc")]\n\g<0>', 1),
-    (r"traits\.rs", r"^use (?:crate::counted::|core::hash::|std::coll|fallible_iterator::fallible_contract)",
+    (r"traits\.rs", r"^use (?:crate::counts::|core::hash::|std::coll|fallible_iterator::fallible_contract)",
      r'#[cfg(feature = "std")]\n\g<0>', 4),
     (r"traits\.rs", r"^    fn (?:chunks|chunk_by|join)\b", r'    #[cfg(feature = "alloc")]\n\g<0>', 3),
     (r"traits\.rs", r"^    fn counts\b", r'    #[cfg(feature = "std")]\n\g<0>', 1),
     (r"lib\.rs", r"\A(?://!.*\n)+\n", HEAD, 1),
     (r"lib\.rs", r"^pub mod \w+;", r"#[doc(hidden)]\n\g<0>", 25),
-    (r"(?:growing|counted|joined)\.rs", r"\A(//!.*\n\n)", r"\1use fallible_iterator::memory::AllocError;\n", 3),
+    (r"(?:batch|counts|join)\.rs", r"\A(//!.*\n\n)", r"\1use fallible_iterator::memory::AllocError;\n", 3),
 ]
 
 # Collections of std that are made by Rust's own `collect`.
