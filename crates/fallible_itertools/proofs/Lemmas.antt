@@ -1,4 +1,4 @@
--- The lemmas on each adapter, and on what adapters share.
+-- The lemmas on each adapter, on what adapters share, and on consumers that have the name of their module.
 pub mod ChunkBy
 pub mod Chunked
 pub mod ChunkedBy
@@ -6,8 +6,10 @@ pub mod Chunks
 pub mod ChunksHints
 pub mod Coalesce
 pub mod Copied
+pub mod Counts
 pub mod Dedup
 pub mod DedupByKey
+pub mod FoldWhile
 pub mod Holding
 pub mod HoldingHints
 pub mod HoldingLists
@@ -18,8 +20,10 @@ pub mod Intersperse
 pub mod IntersperseFolds
 pub mod IntersperseHints
 pub mod IntersperseTraces
+pub mod Join
 pub mod LoopsMade
 pub mod MergeBy
+pub mod MinMax
 pub mod OrElse
 pub mod PeekingTakeWhile
 pub mod Sides

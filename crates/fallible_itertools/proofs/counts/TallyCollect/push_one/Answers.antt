@@ -1,6 +1,6 @@
 -- The item's number is one more.
 use Rattle.std.proofs.Common.{BuildHasherDefault, FoldHasher, ap, ◌+◌, ◌%◌, ◌^◌}
-use Rattle.fallible_itertools.proofs.Counts.{tally_pushed}
+use Rattle.fallible_itertools.proofs.Lemmas.Counts.{tally_pushed}
 use Rattle.fallible_itertools.proofs.counts.TallyCollect.push_one.Goals as goal
 
 pub returns-in-Ok : goal.returns-in-Ok

@@ -3,7 +3,7 @@ use Rattle.std.specs.Prelude.{◌≡◌, Ok, Err, None}
 use Rattle.std.specs.HashMap.{get, spare}
 use Rattle.fallible_iterator.proofs.Lemmas.Lists.Drawn.{collected_as, contents_collected}
 use Rattle.fallible_itertools.specs.Counts.{IsCountsOf}
-use Rattle.fallible_itertools.proofs.Counts.{counted_all, not_counted}
+use Rattle.fallible_itertools.proofs.Lemmas.Counts.{counted_all, not_counted}
 use Rattle.fallible_itertools.proofs.traits.FallibleItertools.counts.Goals as goal
 
 pub returns-in-Ok-clause-collects : goal.returns-in-Ok-clause-collects

@@ -3,7 +3,7 @@ use Rattle.fallible_iterator.specs.Folds.{call_with}
 use Rattle.fallible_iterator.specs.Laws.Contract.{stays_run}
 use Rattle.fallible_iterator.proofs.Lemmas.Folds.{slot_callable}
 use Rattle.fallible_itertools.specs.FoldWhile.{WhileCall}
-use Rattle.fallible_itertools.proofs.FoldWhile.{value_left, folded_while_by, folded_while_is, rest_while_done, rest_while_failed}
+use Rattle.fallible_itertools.proofs.Lemmas.FoldWhile.{value_left, folded_while_by, folded_while_is, rest_while_done, rest_while_failed}
 use Rattle.fallible_itertools.proofs.traits.FallibleItertools.fold_while.Goals as goal
 
 pub drive-answer-requires-clause-callable : goal.drive-answer-requires-clause-callable

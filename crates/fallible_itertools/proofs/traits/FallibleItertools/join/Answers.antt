@@ -3,7 +3,7 @@ use Rattle.std.specs.Prelude.{Ok, Err}
 use Rattle.std.proofs.Common.{inr, refl}
 use Rattle.fallible_iterator.proofs.Lemmas.Lists.Drawn.{collected_as, contents_collected, failure_collected, refused_as}
 use Rattle.fallible_itertools.specs.Join.{JoinedAs}
-use Rattle.fallible_itertools.proofs.Join.{joined_all, join_failed, join_refused}
+use Rattle.fallible_itertools.proofs.Lemmas.Join.{joined_all, join_failed, join_refused}
 use Rattle.fallible_itertools.proofs.traits.FallibleItertools.join.Goals as goal
 use Rattle.fallible_iterator.specs.Fault.TheVariants.{Source}
 

@@ -1,5 +1,5 @@
 -- The fold whose state is what is kept finds both.
-use Rattle.fallible_itertools.proofs.MinMax.{minmaxed_to_end, minmaxed_to_failure, minmaxed_is}
+use Rattle.fallible_itertools.proofs.Lemmas.MinMax.{minmaxed_to_end, minmaxed_to_failure, minmaxed_is}
 use Rattle.fallible_itertools.proofs.traits.FallibleItertools.minmax.Goals as goal
 
 pub returns-in-Ok-None-clause-minmaxed : goal.returns-in-Ok-None-clause-minmaxed
