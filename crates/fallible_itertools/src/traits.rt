@@ -1,4 +1,4 @@
-//! The traits that every fallible iterator has besides.
+//! The extension trait of every fallible iterator.
 ghost use Rattle.std.specs.HashMap.{get, spare};
 ghost use Rattle.std.specs.Prelude.{◌≡◌, ℕ, ◌+◌, ◌≤◌, List, None, Result, ◌-◌, ◌^◌, true, Option, Ok, Err, false, Bool, Some, IfOk, ⊤, ◌<◌, vec_items};
 ghost use Rattle.std.specs.declared.cmp.Ordering.{Ordering};
@@ -76,13 +76,13 @@ use std::hash::Hash;
 
 /// More calls on every fallible iterator.
 pub trait FallibleItertools: FallibleIterator {
-    // ---- adapters that hold
+    // ---- adapters that buffer
 
-    /// Puts adjacent items together where the closure makes one of two, `Ok(one)`; two that it keeps apart it hands back, `Err((first, second))`.
+    /// Merges adjacent items for which the closure returns `Ok(one)`. For two that stay apart it hands both back, as `Err((first, second))`.
     ///
-    /// Making it draws nothing. What was made so far is held until the closure keeps two apart, or a stop comes: an end or a failure. One call draws up to that, and calls the closure on what is held and each further item. What is held is yielded first, and the stop is the next answer, which takes no draw. Where the closure fails, its failure is the answer, and the two items that it was called on are lost. Behind a stop nothing is held, so items on both sides of it stay apart.
+    /// Creating it draws nothing. The item merged so far is buffered until the closure keeps two apart, or a stop comes: `Ok(None)` or a failure. `next` draws up to that, and calls the closure on the buffered item and each further one. The buffered item is yielded first. The stop is what the next call returns, without a draw. If the closure fails, its failure is yielded, and the two items that it was called on are lost. After a stop nothing is buffered, so items before and after it stay apart.
     ///
-    /// Asks that the closure may be called on what is held and each item that may come. Each draw asks what one of `dedup` asks.
+    /// Requires that the closure may be called on what is buffered and each item that may come. `next` requires what that of `dedup` requires.
     ///
     /// ```
     /// convert(readings.into_iter())
@@ -119,11 +119,11 @@ pub trait FallibleItertools: FallibleIterator {
         }
     }
 
-    /// Gives of adjacent items with equal keys the first. The closure makes the key, once of each item.
+    /// Yields the first of adjacent items with equal keys. The closure returns the key, and is called once on each item.
     ///
-    /// It is made, draws and ends as `dedup` does. Where the closure fails, its failure is a stop: what is held is yielded first. That item is lost, and no other.
+    /// Laziness, draws and behaviour at a stop: as `dedup`. If the closure fails, its failure is a stop too: the buffered item is yielded first. The item that it was called on is lost, and no other.
     ///
-    /// Asks that the closure may be called on a reference to each item that may come. Each draw asks what one of `dedup` asks.
+    /// Requires that the closure may be called on a reference to each item that may come. `next` requires what that of `dedup` requires.
     ///
     /// ```
     /// convert(readings.into_iter())
@@ -154,11 +154,11 @@ pub trait FallibleItertools: FallibleIterator {
         }
     }
 
-    /// Gives of adjacent equal items the first.
+    /// Yields the first of adjacent equal items.
     ///
-    /// Making it draws nothing. The first of equal items is held until an item that differs comes, or a stop: an end or a failure. One call draws up to that. What is held is yielded first, and the stop is the next answer, which takes no draw. Behind a stop nothing is held, so equal items on both sides of it are both yielded.
+    /// Creating it draws nothing. The first of equal items is buffered until an item that differs comes, or a stop: `Ok(None)` or a failure. `next` draws up to that. The buffered item is yielded first. The stop is what the next call returns, without a draw. After a stop nothing is buffered, so equal items before and after it are both yielded.
     ///
-    /// Asks nothing. Each draw asks that the source may be drawn from and is finite, since one draw may leave many items out.
+    /// Requires nothing. `next` requires that it may be called on the source, and that the source is finite, since one call may leave many items out.
     ///
     /// ```
     /// convert(readings.into_iter()).dedup().count()
@@ -180,11 +180,11 @@ pub trait FallibleItertools: FallibleIterator {
         }
     }
 
-    /// Gives each two adjacent items, as pairs. The later one of a pair is a clone.
+    /// Yields each two adjacent items as a pair. The later one of a pair is a clone.
     ///
-    /// Making it draws nothing. One call draws one answer, and two for the first pair. It fails as the source does. Where a clone is refused, the failure made of the refusal is the answer and the later item is lost. The last item stays held at a failure and at an end, so the next pair begins with it.
+    /// Creating it draws nothing. `next` draws once, and twice for the first pair. It fails as the source does. If a clone can't be allocated, the failure converted from `AllocError` is yielded, and the later item is lost. The last item stays buffered at a failure and at an `Ok(None)`, so the next pair begins with it.
     ///
-    /// Asks nothing. Each draw asks that the source may be drawn from.
+    /// Requires nothing. `next` requires that it may be called on the source.
     ///
     /// ```
     /// let mut it = (&mut source).tuple_windows();
@@ -212,11 +212,11 @@ pub trait FallibleItertools: FallibleIterator {
 
     // ---- searches, sums and folds
 
-    /// `for_each` through a borrow, where the closure fails with an error of its own.
+    /// Calls the closure on each item, through a borrow. The closure fails with an error of its own.
     ///
-    /// It draws up to the end, the first failure or an item on which the closure fails. It fails with the iterator's failure, converted, or with the closure's error. Nothing is drawn after the answer that decides, and what is left may be drawn from again.
+    /// It draws up to `Ok(None)`, the first failure or an item on which the closure fails. It fails with the iterator's failure, converted, or with the closure's error. Nothing is drawn after that, and the iterator may be used again.
     ///
-    /// Asks that it may be drawn from and is finite, and that the closure may be called on each item that may come.
+    /// Requires that `next` may be called and that the iterator is finite, and that the closure may be called on each item that may come.
     ///
     /// ```
     /// convert(readings.into_iter())
@@ -249,11 +249,11 @@ pub trait FallibleItertools: FallibleIterator {
         answer_or(converted(self.drive(&mut f, &ForEachTurn)), ())
     }
 
-    /// `find`, where the predicate fails with an error of its own.
+    /// Returns the first item on which the predicate returns true. The predicate fails with an error of its own.
     ///
-    /// It draws up to the first item on which the predicate answers true or fails, the first failure or the end. It fails with the iterator's failure, converted, or with the predicate's error. Nothing is drawn after the answer that decides, and what is left may be drawn from again.
+    /// It draws up to the first item on which the predicate returns true or fails, the first failure or `Ok(None)`. It fails with the iterator's failure, converted, or with the predicate's error. Nothing is drawn after that, and the iterator may be used again.
     ///
-    /// Asks that it may be drawn from and is finite, and that the predicate may be called on each item that may come until it decides.
+    /// Requires that `next` may be called and that the iterator is finite, and that the predicate may be called on each item that may come until it decides.
     ///
     /// ```
     /// convert(readings.into_iter()).try_find(|reading: &u32| if *reading > 100 {
@@ -285,11 +285,11 @@ pub trait FallibleItertools: FallibleIterator {
         found(converted(self.drive(&mut f, &FindTurn { test: &FindTest })))
     }
 
-    /// `position`, where the predicate fails with an error of its own.
+    /// Returns the position of the first item on which the predicate returns true. The predicate fails with an error of its own.
     ///
-    /// It draws, fails and leaves the iterator as `try_find` does.
+    /// Draws, errors and what is left: as `try_find`.
     ///
-    /// Asks what `try_find` asks, and that at most `usize::MAX` items are left, so that each number fits.
+    /// Requires what `try_find` requires, and that at most `usize::MAX` items are left, so that each position fits.
     ///
     /// ```
     /// it.try_position(|reading: u32| if reading > 100 {
@@ -319,11 +319,11 @@ pub trait FallibleItertools: FallibleIterator {
         answer_or_none(converted(self.drive(&mut (0, f), &PositionTurn)))
     }
 
-    /// The sum of the items, 0 of none, where it fits with each of them; none where it doesn't.
+    /// Returns the sum of the items, 0 for none. If it overflows at one of them, it returns `Ok(None)`.
     ///
-    /// It draws up to the first item with which the sum doesn't fit, the first failure or the end. Nothing is drawn after the answer that decides, so it answers none also where a failure would have come later. It fails with the failure. It takes the iterator, and no clause says what is left.
+    /// It draws up to the first item at which the sum overflows, the first failure or `Ok(None)`. Nothing is drawn after that, so an overflow is returned also where a failure would come later. It fails with the first failure. It consumes the iterator, and no clause says what is left.
     ///
-    /// Asks that it may be drawn from and is finite.
+    /// Requires that `next` may be called and that the iterator is finite.
     ///
     /// ```
     /// convert(readings.into_iter())
@@ -344,9 +344,9 @@ pub trait FallibleItertools: FallibleIterator {
         total_or_none(answer, sum)
     }
 
-    /// The product of the items, 1 of none, where it fits with each of them; none where it doesn't, also where a 0 would have come later.
+    /// Returns the product of the items, 1 for none. If it overflows at one of them, it returns `Ok(None)`, also where a 0 would come later.
     ///
-    /// It draws, fails, asks and takes the iterator as `checked_sum` does.
+    /// Draws, errors and precondition: as `checked_sum`. It consumes the iterator too.
     ///
     /// ```
     /// it.take(3).checked_product()
@@ -365,11 +365,11 @@ pub trait FallibleItertools: FallibleIterator {
         total_or_none(answer, product)
     }
 
-    /// Calls the closure on the value so far and each item in order, until it answers `Done`. Answers `Done` of its value, or `Continue` of the last value at the end.
+    /// Folds the items, until the closure returns `Done`. It returns that `Done`, or `Continue` of the last value at `Ok(None)`.
     ///
-    /// It draws up to the item on which the closure answers `Done` or fails, the first failure or the end. It fails with the failure that comes first, of this iterator or of the closure. Nothing is drawn after the answer that decides, and what is left may be drawn from again.
+    /// It draws up to the item on which the closure returns `Done` or fails, the first failure or `Ok(None)`. It fails with the first failure, of this iterator or of the closure. Nothing is drawn after that, and the iterator may be used again.
     ///
-    /// Asks that it may be drawn from and is finite, and that the closure may be called on each item that may come with the value so far.
+    /// Requires that `next` may be called and that the iterator is finite, and that the closure may be called on the value so far and each item that may come.
     ///
     /// ```
     /// it.fold_while(
@@ -407,11 +407,11 @@ pub trait FallibleItertools: FallibleIterator {
         while_or_stop(answer, value)
     }
 
-    /// Whether the keys that the closure makes of the items never go down. A key that has no order with the one before it goes down.
+    /// Returns whether the keys that the closure makes of the items never go down. A key that can't be compared with the one before it goes down.
     ///
-    /// It draws up to the first item whose key goes down or on which the closure fails, the first failure or the end. Nothing is drawn after the answer that decides. It fails with the failure that comes first, of this iterator or of the closure. It takes the iterator, and no clause says what is left.
+    /// It draws up to the first item whose key goes down or on which the closure fails, the first failure or `Ok(None)`. Nothing is drawn after that. It fails with the first failure, of this iterator or of the closure. It consumes the iterator, and no clause says what is left.
     ///
-    /// Asks that it may be drawn from and is finite, and that the closure may be called on each item that may come.
+    /// Requires that `next` may be called and that the iterator is finite, and that the closure may be called on each item that may come.
     ///
     /// ```
     /// convert(readings.into_iter())
@@ -437,13 +437,13 @@ pub trait FallibleItertools: FallibleIterator {
         answer_or(self.drive(&mut state, &SortedTurn), true)
     }
 
-    // ---- adapters that let answers pass
+    // ---- adapters that let results pass
 
-    /// Replaces each item by a copy of what it points to.
+    /// Yields a copy of what each item points to.
     ///
-    /// Making it draws nothing. One call draws one answer. It fails as the source does. After a failure and after an end the next call draws the source again. It has a second end where the source has one.
+    /// Creating it draws nothing. `next` draws once. It fails as the source does. After a failure and after `Ok(None)` the next call draws again. It is double-ended if the source is.
     ///
-    /// Asks nothing.
+    /// Requires nothing.
     ///
     /// ```
     /// convert(readings.into_iter()).copied().fold(
@@ -463,11 +463,11 @@ pub trait FallibleItertools: FallibleIterator {
         Copied { it: self }
     }
 
-    /// Gives the items up to and with the first one that the predicate refuses, and ends there.
+    /// Yields the items up to the first one that the predicate rejects, and that one too. Then it is exhausted.
     ///
-    /// Making it draws nothing and calls nothing. Up to the refused item one call draws one answer. It fails as the source does. Where the predicate fails, its failure is the answer, and the item is lost; that ends nothing, and nor does an end of the source. After the refused item it draws nothing, and ends for good.
+    /// Creating it draws nothing and calls nothing. Up to the rejected item `next` draws once. It fails as the source does. If the predicate fails, its failure is yielded, and the item is lost. Neither that nor an `Ok(None)` of the source exhausts it. After the rejected item it draws nothing, and each call returns `Ok(None)`.
     ///
-    /// Asks that the predicate may be called on each item that may come, in each state that such calls bring it to. Draws ask that items can be let go.
+    /// Requires that the predicate may be called on each item that may come, in each state that such calls bring it to. `next` requires that it may be called on the source, and `Item: Drop`.
     ///
     /// ```
     /// convert(readings.into_iter())
@@ -495,11 +495,11 @@ pub trait FallibleItertools: FallibleIterator {
 
     // ---- adapters that act on failures
 
-    /// Shows each failure to the closure, and answers it then.
+    /// Calls the closure on a reference to each failure, and then yields the failure.
     ///
-    /// Making it draws nothing. One call draws one answer, and calls the closure once where it is a failure. It fails as the source does. After a failure and after an end the next call draws the source again. It has a second end where the source has one.
+    /// Creating it draws nothing. `next` draws once, and calls the closure once if a failure came. It fails as the source does. After a failure and after `Ok(None)` the next call draws again. It is double-ended if the source is.
     ///
-    /// Asks that the closure may be called on a reference to each failure that may come.
+    /// Requires that the closure may be called on a reference to each failure that may come.
     ///
     /// ```
     /// convert(rows.into_iter())
@@ -521,11 +521,11 @@ pub trait FallibleItertools: FallibleIterator {
         InspectErr { it: self, f }
     }
 
-    /// Puts in the place of each failure what the closure makes of it: an item, nothing or another failure.
+    /// Replaces each failure by what the closure returns for it: an item, nothing or another failure.
     ///
-    /// Making it draws nothing. One call draws up to an item, an end, or a failure on which the closure answers an item or fails; it calls the closure once on each failure. It fails with the closure's failures alone. After a failure and after an end the next call draws the source again. It has a second end where the source has one.
+    /// Creating it draws nothing. `next` draws up to an item, an `Ok(None)`, or a failure for which the closure returns an item or fails. It calls the closure once on each failure. It fails with the closure's failures alone. After a failure and after `Ok(None)` the next call draws again. It is double-ended if the source is.
     ///
-    /// Asks that the closure may be called on each failure that may come. Each draw asks that the source may be drawn from and is finite, and that what remains of it has a bound, since one draw may leave many failures out.
+    /// Requires that the closure may be called on each failure that may come. `next` requires that it may be called on the source, that the source is finite, and that its items and failures together have a bound, since one call may leave many failures out.
     ///
     /// ```
     /// convert(rows.into_iter()).or_else(|_| Ok(None)).count()
@@ -545,11 +545,11 @@ pub trait FallibleItertools: FallibleIterator {
 
     // ---- adapters that join
 
-    /// Merges the items of two sources: of an item and the next one of `other`, the closure answers whether the former goes first. Beside an end of one side the other's item is given without asking.
+    /// Merges the items of two sources. Of an item of this iterator and the next one of `other`, the closure returns whether the former goes first. If one side returned `Ok(None)`, the other's item is yielded without a call of the closure.
     ///
-    /// It is made without a draw, and holds at most one item of each side. One call draws one answer where nothing of this side is held, and then, where that isn't a failure, one of `other` where nothing of that is held; an end isn't remembered. It fails as either does, and loses nothing that is held. Where the closure fails, its failure is the answer, and the two items that it was asked of are lost. Its folds draw as its calls do. A bound of each side, added up, bounds it.
+    /// Creating it draws nothing. It buffers at most one item of each side. `next` draws this side once if nothing of it is buffered. Then, unless that failed, it draws `other` once if nothing of `other` is buffered. An `Ok(None)` of a side isn't remembered. It fails as either side does, and loses nothing that is buffered. If the closure fails, its failure is yielded, and the two items that it was called on are lost. Its folds draw as `next` does. Bounds of both sides, added up, bound it.
     ///
-    /// Asks that the closure may be called on references to two items, one that may come of each side. Draws ask that both sides may be drawn from, and that items can be let go. What it lists is known where both sides end for good, as after `convert_fused` or `fuse`.
+    /// Requires that the closure may be called on references to two items, one that may come of each side. `next` requires that it may be called on both sides, and `Item: Drop`. What it lists is known if both sides are fused, as after `convert_fused` or `fuse`.
     ///
     /// ```
     /// convert_fused(left.into_iter())
@@ -599,11 +599,11 @@ pub trait FallibleItertools: FallibleIterator {
         }
     }
 
-    /// Joins each item with one of `other`, place by place, up to the end of both. Where one side has an end beside an item, the item stands alone.
+    /// Pairs the items of both sides by their positions, up to `Ok(None)` of both. If one side returns `Ok(None)` where the other has an item, that item stands alone.
     ///
-    /// It is made without a draw. One call draws one answer where no item is held, and then, where that isn't a failure, one of `other`, also at an end; an end isn't remembered. It fails as this iterator does, or else as `other` does. A failure of `other` loses nothing: the item beside it is held, and the next call draws `other` alone. Its folds draw as its calls do. A bound of each side, added up, bounds it.
+    /// Creating it draws nothing. `next` draws this side once if no item of it is buffered. Then, unless that failed, it draws `other` once, also after an `Ok(None)`. An `Ok(None)` of a side isn't remembered. It fails as this iterator does, or else as `other` does. A failure of `other` loses nothing: the item of this side is buffered, and the next call draws `other` alone. Its folds draw as `next` does. Bounds of both sides, added up, bound it.
     ///
-    /// Asks nothing. Draws ask that both sides may be drawn from, and that items can be let go. What it lists is known where both sides end for good, as after `convert_fused` or `fuse`.
+    /// Requires nothing. `next` requires that it may be called on both sides, and `Item: Drop`. What it lists is known if both sides are fused, as after `convert_fused` or `fuse`.
     ///
     /// ```
     /// convert_fused(left.into_iter())
@@ -640,11 +640,11 @@ pub trait FallibleItertools: FallibleIterator {
 
     // ---- extremes, counts, comparisons
 
-    /// The only item: none where no item comes before the end, and the first two, as an `Err` within the answer, where more than one comes.
+    /// Returns the only item: `Ok(Ok(None))` if none comes, and `Ok(Err(two))` with the first two if more than one comes.
     ///
-    /// It draws at most two answers: up to an end, a failure or the second item. It fails with that failure, and an item that came before it is lost then. Nothing is drawn after the answer that decides, and what is left may be drawn from again.
+    /// It draws at most twice: up to `Ok(None)`, a failure or the second item. It fails with that failure, and drops an item that came before it. Nothing is drawn after that, and the iterator may be used again.
     ///
-    /// Asks that it may be drawn from.
+    /// Requires that `next` may be called.
     ///
     /// ```
     /// convert(readings.into_iter())
@@ -679,9 +679,9 @@ pub trait FallibleItertools: FallibleIterator {
         }
     }
 
-    /// The only item, where exactly one comes before the end. `NotOne` within the answer says that none came, or hands back the first two.
+    /// Returns the only item, if exactly one comes. Otherwise it returns an `Ok(Err(_))`: a `NotOne` that says that none came, or hands back the first two.
     ///
-    /// It draws, fails, asks and goes on as `at_most_one` does.
+    /// Draws, errors, precondition and what is left: as `at_most_one`.
     ///
     /// ```
     /// it.take(10).exactly_one()
@@ -710,11 +710,11 @@ pub trait FallibleItertools: FallibleIterator {
         }
     }
 
-    /// The first of the least items and the last of the greatest, in one pass; one item by itself, and nothing of no items.
+    /// Returns the first of the least items and the last of the greatest, in one pass. A single item stands alone, and of no items there are none.
     ///
-    /// It draws up to the end or the first failure. It fails with that failure. It takes the iterator, and no clause says what is left.
+    /// It draws up to `Ok(None)` or the first failure. It fails with that failure. It consumes the iterator, and no clause says what is left.
     ///
-    /// Asks that it may be drawn from and is finite.
+    /// Requires that `next` may be called and that the iterator is finite.
     ///
     /// ```
     /// convert(readings.into_iter())
@@ -738,11 +738,11 @@ pub trait FallibleItertools: FallibleIterator {
         }
     }
 
-    /// How often each item comes: a map from the items, of equal ones the first, to the number of those that are equal to it.
+    /// Returns how often each item comes, as a map. A key is the first of equal items, its value the number of items equal to it.
     ///
-    /// It draws up to the end, the first failure or an item that the map refuses. It fails with `Fault::Source` of the first failure, and with `Fault::Memory` where the map refused the item that was drawn last: one that is equal to none before it, where memory was refused. It takes the iterator, and no clause says what is left.
+    /// It draws up to `Ok(None)`, the first failure or an item that the map rejects. It fails with `Fault::Source` of the first failure. It fails with `Fault::Memory` if the map rejected the last item drawn: no item before equals it, and an allocation failed. It consumes the iterator, and no clause says what is left.
     ///
-    /// Asks that it may be drawn from, and that at most `usize::MAX` items are left, so that each number fits.
+    /// Requires that `next` may be called, and that at most `usize::MAX` items are left, so that each number fits.
     ///
     /// ```
     /// let counts = numbers(&[Ok(5), Ok(7), Ok(5)]).counts(rt.alloc());
@@ -767,11 +767,11 @@ pub trait FallibleItertools: FallibleIterator {
         }
     }
 
-    /// The items as they are shown, with the separator between each two.
+    /// Returns the items as `Display` shows them, with the separator between each two.
     ///
-    /// It draws up to the end, the first failure or an item that can't be appended. It fails with `Fault::Source` of the first failure, and with `Fault::Memory` where the text refused the item that was drawn last: memory was refused, or showing the item failed. It takes the iterator, and no clause says what is left.
+    /// It draws up to `Ok(None)`, the first failure or an item that can't be appended. It fails with `Fault::Source` of the first failure. It fails with `Fault::Memory` if the last item drawn couldn't be appended: an allocation failed, or its `Display` did. It consumes the iterator, and no clause says what is left.
     ///
-    /// Asks that it may be drawn from and is finite. The text is known of items whose type says how they are shown.
+    /// Requires that `next` may be called and that the iterator is finite. The text is known of items whose type says how they are shown.
     ///
     /// ```
     /// let text = numbers(&[Ok(1), Ok(20), Ok(3)]).join(rt.alloc(), ", ");
@@ -798,11 +798,11 @@ pub trait FallibleItertools: FallibleIterator {
         }
     }
 
-    /// How the two compare by the closure, which is called on the two items of each round: as the first two that it doesn't find equal, and where there are none, the side that ends alone is less.
+    /// Compares two iterators by the closure, which is called on the two items of each round. The first two that aren't equal decide. If there are none, the side that ends alone is less.
     ///
-    /// It draws in rounds, this iterator and then the other, until a failure, an end or two items that decide. Where this one ended, the other is still drawn in that round; where this one failed, it is not. It fails with the failure that comes first: in each round one of this iterator before one of the other, and that before one of the closure. It takes both, and no clause says what is left.
+    /// It draws in rounds, this iterator and then the other, until a failure, an `Ok(None)` or two items that decide. If this one returned `Ok(None)`, the other is still drawn in that round; if this one failed, it is not. It fails with the first failure: in each round one of this iterator comes before one of the other, and that before one of the closure. It consumes both, and no clause says what is left.
     ///
-    /// Asks that both sides may be drawn from, that one of them is finite, and that the closure may be called on each two items that may come in one round.
+    /// Requires that `next` may be called on both sides and that one of them is finite, and that the closure may be called on each two items that may come in one round.
     ///
     /// ```
     /// let order = numbers(left).cmp_by(numbers(right), last_digits);
@@ -835,9 +835,9 @@ pub trait FallibleItertools: FallibleIterator {
         ordered(answer)
     }
 
-    /// Whether the closure finds the two items of each round equal, and the two end together.
+    /// Returns whether the closure finds the two items of each round equal, and both end together.
     ///
-    /// Draws, fails and asks as `cmp_by` does.
+    /// Draws, errors and precondition: as `cmp_by`.
     ///
     /// ```
     /// let equal = numbers(left).eq_by(numbers(right), same_last_digit);
@@ -870,13 +870,13 @@ pub trait FallibleItertools: FallibleIterator {
         ReadEq::read(answer)
     }
 
-    /// Gives the items in batches of n, of which one before an end or a failure may have fewer.
+    /// Yields the items in batches of n. A batch before an `Ok(None)` or a failure may have fewer.
     ///
-    /// Making it draws nothing and takes no memory. One call draws until the batch has n items, or a stop comes: an end or a failure. The batch that is held is yielded first, if there is one, and the stop is the next answer, which takes no draw.
+    /// Creating it draws nothing and allocates nothing. `next` draws until the batch has n items, or a stop comes: `Ok(None)` or a failure. A buffered batch is yielded first. The stop is what the next call returns, without a draw.
     ///
-    /// It fails as the source does. Where memory is refused for the first item of a batch, or for one for which the batch has no room, the failure made of the refusal is a stop too: that item is lost, and no other. After a failure and after an end the next call goes on.
+    /// It fails as the source does. If an allocation fails, for the first item of a batch or for one for which the batch has no room, the failure converted from `AllocError` is a stop too: that item is lost, and no other. After a failure and after `Ok(None)` the next call draws again.
     ///
-    /// Asks that n is not 0. Draws ask that the source may be drawn from, and that items can be let go. They ask no bound: one makes at most n draws of the source.
+    /// Requires that n is not 0. `next` requires that it may be called on the source, and `Item: Drop`. It requires no bound: one call draws at most n times.
     ///
     /// ```
     /// convert(readings.into_iter()).chunks(alloc, 2).count()
@@ -901,13 +901,13 @@ pub trait FallibleItertools: FallibleIterator {
         }
     }
 
-    /// Gives groups of adjacent items of one key, each with its key.
+    /// Yields groups of adjacent items with equal keys, each with its key.
     ///
-    /// Making it draws nothing, calls nothing and takes no memory. One call draws until an item has another key than the group that is held, or a stop comes: an end or a failure. It makes the key of each item once. The group that is held is yielded first, if there is one, and the stop is the next answer, which takes no draw. Behind a stop a new group begins.
+    /// Creating it draws nothing, calls nothing and allocates nothing. `next` draws until an item has another key than the buffered group, or a stop comes: `Ok(None)` or a failure. It calls the closure once on each item. A buffered group is yielded first. The stop is what the next call returns, without a draw. After a stop a new group begins.
     ///
-    /// It fails as the source does. The failure of the key's closure is a stop too, and so is the failure made of a refused request for memory. Then the item is lost, and no other. After a failure and after an end the next call goes on.
+    /// It fails as the source does. The closure's failure is a stop too, and so is the failure converted from `AllocError` if an allocation fails. Then the item is lost, and no other. After a failure and after `Ok(None)` the next call draws again.
     ///
-    /// Asks of the key's closure what `map` asks of its closure. Draws ask that the source is finite, and that items can be let go.
+    /// Requires that the closure may be called on a reference to each item that may come, in each state that such calls bring it to. `next` requires that it may be called on the source, that the source is finite, and `Item: Drop`.
     ///
     /// ```
     /// convert(readings.into_iter())
@@ -940,11 +940,11 @@ pub trait FallibleItertools: FallibleIterator {
         }
     }
 
-    /// Gives the items with a clone of the separator between each two adjacent ones.
+    /// Yields the items, with a clone of the separator between each two adjacent ones.
     ///
-    /// Making it draws nothing. Where an item is held, one call gives it and draws nothing; else one call draws one answer. A later item than the first is held, and a clone of the separator is the answer before it. It fails as the source does. Where a clone is refused, the failure made of the refusal is the answer, and the item is held too, so none is lost. A failure or an end between two items parts nothing: the next item is a later one still.
+    /// Creating it draws nothing. If an item is buffered, `next` yields it and draws nothing; otherwise it draws once. An item after the first is buffered, and a clone of the separator is yielded before it. It fails as the source does. If a clone can't be allocated, the failure converted from `AllocError` is yielded. The item is buffered then too, so none is lost. A failure or an `Ok(None)` between two items doesn't start anew: the next item gets a separator before it.
     ///
-    /// Asks nothing. Each draw asks that the source may be drawn from.
+    /// Requires nothing. `next` requires that it may be called on the source.
     ///
     /// ```
     /// convert(readings.into_iter()).intersperse(0).count()
