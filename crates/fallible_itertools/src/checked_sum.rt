@@ -1,11 +1,11 @@
-//! Sums and products that may not fit.
+//! Sums and products that may overflow.
 ghost use Rattle.std.specs.Prelude.{◌≡◌, ◌^◌, ⊤, Option, Result, ℤ, pos};
 ghost use Rattle.fallible_itertools.specs.CheckedSum.{IsTotalTurn, total_by, sum_below, product_below, sum_within, product_within};
 
 use fallible_iterator::Turn;
 use std::ops::ControlFlow;
 
-/// Numbers whose sums and products may not fit: `u32`, `u64`, `usize` and `i64` are such.
+/// Numbers whose sums and products may overflow: `u32`, `u64`, `usize` and `i64`.
 pub trait CheckedTotal: Drop + Sized {
     // What sums begin with.
     ghost zero: { Self };
@@ -19,19 +19,19 @@ pub trait CheckedTotal: Drop + Sized {
     // The product of two, where it fits.
     ghost times: { Self → Self → Option Self };
 
-    /// What sums begin with: 0.
+    /// Returns what sums begin with: 0.
     fn zero() -> Self
         ensures { result ≡ zero };
 
-    /// What products begin with: 1.
+    /// Returns what products begin with: 1.
     fn one() -> Self
         ensures { result ≡ one };
 
-    /// The sum of the two; none where it doesn't fit.
+    /// Returns the sum of the two; `None` if it overflows.
     fn plus(&self, other: Self) -> Option<Self>
         ensures { result ≡ plus self.now other };
 
-    /// The product of the two; none where it doesn't fit.
+    /// Returns the product of the two; `None` if it overflows.
     fn times(&self, other: Self) -> Option<Self>
         ensures { result ≡ times self.now other };
 }
@@ -140,7 +140,7 @@ impl CheckedTotal for i64 {
     }
 }
 
-/// The turn of `checked_sum`, whose state is the sum so far: it stops at the first item with which the sum doesn't fit.
+/// The turn of `checked_sum`, whose state is the sum so far: it stops at the first item at which the sum overflows.
 #[derive(Drop)]
 pub struct SumTurn;
 
@@ -162,7 +162,7 @@ impl<N: CheckedTotal> Turn<N, N, ()> for SumTurn {
     }
 }
 
-/// The turn of `checked_product`, whose state is the product so far: it stops at the first item with which the product doesn't fit.
+/// The turn of `checked_product`, whose state is the product so far: it stops at the first item at which the product overflows.
 #[derive(Drop)]
 pub struct ProductTurn;
 
@@ -184,7 +184,7 @@ impl<N: CheckedTotal> Turn<N, N, ()> for ProductTurn {
     }
 }
 
-/// What a checked total answers, by what its fold answered and the total that it left: the total at the end, none where the fold stopped, or the source's failure.
+/// What a checked total returns, from what its fold returned and the total that it left: the total at `Ok(None)`, `Ok(None)` if the fold stopped, or the source's failure.
 pub fn total_or_none<N: Drop, E>(answer: Result<Option<()>, E>, total: N) -> Result<Option<N>, E>
     ensures { result ≡ total_by total answer }
 {

@@ -1,4 +1,4 @@
-// The adapter that gives groups of adjacent items of one key.
+// The adapter that yields groups of adjacent items with equal keys.
 ghost use Rattle.std.specs.Prelude.{Option, Result};
 ghost use Rattle.fallible_iterator.specs.Contract.{seen_as};
 ghost use Rattle.fallible_iterator.specs.Laws.Contract.{lawful_seen};
@@ -11,14 +11,14 @@ use fallible_iterator::extending::{FirstTurn, Outcome};
 use fallible_iterator::{FallibleIterator, Turn};
 use std::alloc::{AllocError, Global};
 
-/// Groups of adjacent items of one key, each with its key. A group is held until an item of another key comes, or a stop: an end or a failure, which is answered next. Where the key's closure fails, or memory for an item is refused, that failure is a stop, and the item is lost and no other.
+/// Groups of adjacent items with equal keys, each with its key. A group is buffered until an item with another key comes, or a stop: `Ok(None)` or a failure, which the next call returns. The closure's failure is a stop, and so is a failed allocation. Then the item is lost, and no other.
 #[derive(Clone, Debug, Drop)]
 pub struct ChunkBy<I: FallibleIterator, K, F> {
     pub(crate) it: I,
     pub(crate) alloc: Global,
-    // the key's closure, and the group that is held, where there is one
+    // the closure, and the buffered group, if there is one
     pub(crate) group: (F, Option<(K, Vec<I::Item>)>),
-    // the stop that is due: an end, or a failure
+    // the stop that is due: `Ok(None)`, or a failure
     pub(crate) due: Option<Option<I::Error>>,
 }
 
@@ -38,7 +38,7 @@ where
     ghost contract = { seen_as chunk_by_parts
         (chunk_by_contract I.Error.from_gives K.eq F.FnMut I.contract) };
 
-    /// Answers the stop that is due, without a draw, or draws until an item has another key than the group that is held, or a stop comes.
+    /// Returns the stop that is due, without a draw. Otherwise it draws until an item has another key than the buffered group, or a stop comes.
     fn next(&mut self) -> Result<Option<(K, Vec<I::Item>)>, I::Error> {
         self.drive(&mut (), &FirstTurn)
     }
@@ -71,7 +71,7 @@ where
         (lawful_chunk_by I.Error.from_gives K.eq F.FnMut I.lawful) };
 }
 
-// What becomes of an item behind the group that is held.
+// What becomes of an item after the buffered group.
 #[derive(Drop)]
 struct ChunkByHold {
     alloc: Global,

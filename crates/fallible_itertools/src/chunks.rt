@@ -1,4 +1,4 @@
-// The adapter that gives batches of items.
+// The adapter that yields batches of items.
 ghost use Rattle.std.specs.Prelude.{◌≡◌, ◌+◌, ⊤, None, Option, Result};
 ghost use Rattle.fallible_iterator.specs.Contract.{seen_as};
 ghost use Rattle.fallible_iterator.specs.Laws.Contract.{lawful_seen};
@@ -12,14 +12,14 @@ use fallible_iterator::extending::Outcome;
 use fallible_iterator::{FallibleIterator, Turn};
 use std::alloc::{AllocError, Global};
 
-/// Batches of n items, of which one before a stop may have fewer. A batch is held until it has n items, or a stop comes: an end or a failure, which is answered next. Where memory for an item is refused, the failure made of the refusal is a stop, and that item is lost and no other.
+/// Batches of n items. A batch before a stop may have fewer. A batch is buffered until it has n items, or a stop comes: `Ok(None)` or a failure, which the next call returns. If an allocation for an item fails, the failure converted from `AllocError` is a stop. Then that item is lost, and no other.
 #[derive(Clone, Debug, Drop)]
 pub struct Chunks<I: FallibleIterator> {
     pub(crate) it: I,
     pub(crate) alloc: Global,
-    // how many items a batch has, and the batch that is held, where it has any
+    // how many items a batch has, and the buffered batch, if it has any
     pub(crate) batch: (usize, Option<Vec<I::Item>>),
-    // the stop that is due: an end, or a failure
+    // the stop that is due: `Ok(None)`, or a failure
     pub(crate) due: Option<Option<I::Error>>,
 }
 
@@ -34,7 +34,7 @@ where
 
     ghost contract = { seen_as chunks_parts (chunks_contract I.Error.from_gives I.contract) };
 
-    /// Answers the stop that is due, without a draw, or draws until the batch has n items, or a stop comes.
+    /// Returns the stop that is due, without a draw. Otherwise it draws until the batch has n items, or a stop comes.
     fn next(&mut self) -> Result<Option<Vec<I::Item>>, I::Error> {
         match self.due.take() {
             Some(Some(e)) => Err(e),
@@ -75,7 +75,7 @@ where
     ghost lawful = { lawful_seen chunks_parts (lawful_chunks I.Error.from_gives I.lawful) };
 }
 
-// Draws until a batch is whole or a stop comes: at most as many answers as a batch has items. No stop is due.
+// Draws until a batch is full or a stop comes: at most as often as a batch has items. No stop is due.
 fn filled<I: FallibleIterator>(
     it: &mut I,
     batch: &mut (usize, Option<Vec<I::Item>>),
@@ -104,7 +104,7 @@ where
     }
 }
 
-// What becomes of an item behind the batch that is held.
+// What becomes of an item after the buffered batch.
 #[derive(Drop)]
 struct ChunksHold {
     alloc: Global,
@@ -143,7 +143,7 @@ impl<X: Drop, E: From<AllocError>> Hold<(usize, Option<Vec<X>>), X, E> for Chunk
     ghost holds = { λ _. holds_chunks E.from_gives };
 }
 
-// The batch, where it has enough items; else it is held.
+// The batch, if it has enough items; otherwise it is buffered.
 fn settled<X: Drop, E>(holds: &mut (usize, Option<Vec<X>>), batch: Vec<X>) -> Outcome<Vec<X>, E>
     ensures { Settles batch holds.old result holds.new }
 {
@@ -155,7 +155,7 @@ fn settled<X: Drop, E>(holds: &mut (usize, Option<Vec<X>>), batch: Vec<X>) -> Ou
     }
 }
 
-// How many batches so many items make, with the one that is held.
+// How many batches so many items make, with the buffered one.
 fn batches<X>(low: usize, n: usize, held: &Option<Vec<X>>) -> usize
     ensures { result ≡ held_one held.now + begun n (room_left n held.now) low }
 {

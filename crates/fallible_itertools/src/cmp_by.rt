@@ -1,4 +1,4 @@
-//! Comparisons by a closure on two items: one loop of rounds, and the turns that it takes.
+//! Comparisons by a closure on two items: one loop of rounds, and its turns.
 ghost use Rattle.std.specs.Prelude.{◌≡◌, ◌⊎◌, Option};
 ghost use Rattle.fallible_iterator.specs.Folds.{call_with, goes_on, takes_with};
 ghost use Rattle.fallible_itertools.specs.CmpBy.{CallableInRounds, ComparedBy, IsCmpTurn, IsEqTurn};
@@ -8,7 +8,7 @@ use fallible_iterator::{FallibleIterator, Turn};
 use std::cmp::Ordering;
 use std::ops::ControlFlow;
 
-/// Draws the left and then the right in each round, until a failure, an end, or a turn on the two items that stops.
+/// Draws the left and then the right in each round, until a failure, an `Ok(None)`, or a turn on the two items that stops.
 pub fn compare_by<L, R, C, K>(
     left: L,
     right: R,
@@ -53,7 +53,7 @@ where
     }
 }
 
-/// The turn of `cmp_by`, whose state is the closure: it stops at two items that aren't equal, or where the closure fails.
+/// The turn of `cmp_by`, whose state is the closure: it stops at two items that aren't equal, or if the closure fails.
 #[derive(Drop)]
 pub struct CmpTurn;
 
@@ -63,7 +63,7 @@ impl<A, B, E, F: FnMut(A, B) -> Result<Ordering, E>> Turn<F, (A, B), Result<Opti
 
     ghost turns = { λ _ f p r g. IsCmpTurn (call_with F.FnMut) f p r g };
 
-    /// The call, made once.
+    /// Calls the closure once.
     #[inline(always)]
     fn turn(&self, state: &mut F, item: (A, B)) -> ControlFlow<Result<Option<Ordering>, E>, ()> {
         match state(item.0, item.1) {
@@ -74,7 +74,7 @@ impl<A, B, E, F: FnMut(A, B) -> Result<Ordering, E>> Turn<F, (A, B), Result<Opti
     }
 }
 
-/// The turn of `eq_by`, whose state is the closure: it stops, with no order, at two items that aren't equal, or where the closure fails.
+/// The turn of `eq_by`, whose state is the closure: it stops, with no order, at two items that aren't equal, or if the closure fails.
 #[derive(Drop)]
 pub struct EqTurn;
 
@@ -84,7 +84,7 @@ impl<A, B, E, F: FnMut(A, B) -> Result<bool, E>> Turn<F, (A, B), Result<Option<O
 
     ghost turns = { λ _ f p r g. IsEqTurn (call_with F.FnMut) f p r g };
 
-    /// The call, made once.
+    /// Calls the closure once.
     #[inline(always)]
     fn turn(&self, state: &mut F, item: (A, B)) -> ControlFlow<Result<Option<Ordering>, E>, ()> {
         match state(item.0, item.1) {

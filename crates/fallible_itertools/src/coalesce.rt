@@ -1,4 +1,4 @@
-// The adapter that puts adjacent items together.
+// The adapter that merges adjacent items.
 ghost use Rattle.std.specs.Prelude.{Option, Result};
 ghost use Rattle.fallible_iterator.specs.Contract.{seen_as};
 ghost use Rattle.fallible_iterator.specs.Folds.{call_with, takes_with};
@@ -11,13 +11,13 @@ use crate::holding::{Hold, drive_holding, with_held};
 use fallible_iterator::extending::{FirstTurn, Outcome};
 use fallible_iterator::{FallibleIterator, Turn};
 
-/// Adjacent items put together where the closure makes one of two. What was made so far is held until the closure keeps two apart, or a stop comes: an end or a failure, which is answered next.
+/// Adjacent items, merged where the closure makes one of two. The item merged so far is buffered until the closure keeps two apart, or a stop comes: `Ok(None)` or a failure, which the next call returns.
 #[derive(Clone, Debug, Drop)]
 pub struct Coalesce<I: FallibleIterator, F> {
     pub(crate) it: I,
-    // the item that is held, and the closure
+    // the buffered item, and the closure
     pub(crate) coalescing: (Option<I::Item>, F),
-    // the stop that is due: an end, or a failure
+    // the stop that is due: `Ok(None)`, or a failure
     pub(crate) due: Option<Option<I::Error>>,
 }
 
@@ -35,7 +35,7 @@ where
 
     ghost contract = { seen_as coalesce_parts (coalesce_contract I.contract F.FnMut) };
 
-    /// Answers the stop that is due, without a draw, or draws until the closure keeps two items apart, or a stop comes.
+    /// Returns the stop that is due, without a draw. Otherwise it draws until the closure keeps two items apart, or a stop comes.
     fn next(&mut self) -> Result<Option<I::Item>, I::Error> {
         self.drive(&mut (), &FirstTurn)
     }
@@ -66,7 +66,7 @@ where
     ghost lawful = { lawful_seen coalesce_parts (lawful_coalesce F.FnMut I.lawful) };
 }
 
-// What the closure makes of the item that is held and the next one.
+// What the closure makes of the buffered item and the next one.
 #[derive(Drop)]
 struct CoalesceHold;
 

@@ -1,7 +1,7 @@
 //! What a call makes of its fold whose closure fails with an error of its own.
 ghost use Rattle.fallible_itertools.specs.Converting.{ConvertsTo};
 
-/// A fold's answer, in which the source's failure is converted.
+/// What a fold returned, with the source's failure converted.
 pub fn converted<R, E, D: From<E>>(answer: Result<Option<R>, E>) -> Result<Option<R>, D>
     ensures { ConvertsTo D.from_gives answer result }
 {

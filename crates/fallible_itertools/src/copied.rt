@@ -10,7 +10,7 @@ ghost use Rattle.fallible_itertools.specs.Laws.Copied.{lawful_copied, lawful_end
 use fallible_iterator::extending::{Outcome, Pass, drive_back_passing, drive_passing, passed};
 use fallible_iterator::{DoubleEndedFallibleIterator, FallibleIterator, Turn};
 
-/// A copy of what each item points to. Failures and ends pass.
+/// A copy of what each item points to. Failures and `Ok(None)` pass.
 #[derive(Clone, Debug, Drop)]
 pub struct Copied<I> {
     pub(crate) it: I,
@@ -23,7 +23,7 @@ impl<'a, T: Copy + 'a, I: FallibleIterator<Item = &'a T>> FallibleIterator for C
 
     ghost contract = { seen_as copied_parts (copied_contract I.contract) };
 
-    /// Draws one answer, and copies what it points to where it is an item.
+    /// Draws once, and returns a copy of what the item points to.
     fn next(&mut self) -> Result<Option<T>, I::Error> {
         passed(self.it.next(), &mut (), &CopyPass)
     }
@@ -48,7 +48,7 @@ impl<'a, T: Copy + 'a, I: DoubleEndedFallibleIterator<Item = &'a T>> DoubleEnded
     ghost ends = { ends_seen_as copied_parts
         (ends_of (copied_contract (from_back I.contract I.ends))) };
 
-    /// Draws one answer from the back, and copies what it points to where it is an item.
+    /// Draws once from the back, and returns a copy of what the item points to.
     fn next_back(&mut self) -> Result<Option<T>, I::Error> {
         passed(self.it.next_back(), &mut (), &CopyPass)
     }

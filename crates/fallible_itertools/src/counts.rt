@@ -8,7 +8,7 @@ use std::alloc::{AllocError, Global};
 use std::collections::HashMap;
 use std::hash::Hash;
 
-/// A map from each item to the number of times that it was pushed, as a collection that is made of the items. A number goes round at `usize::MAX`.
+/// A map from each item to the number of times that it was pushed: a collection that `collect` makes. A number wraps at `usize::MAX`.
 #[derive(Drop)]
 pub struct Tally<K: Eq + Hash> {
     /// how often each item was pushed
@@ -25,7 +25,7 @@ fn count_at<K: Eq + Hash>(counts: &HashMap<K, usize>, item: &K) -> usize
     }
 }
 
-// Of equal items the first stands in the map. Only a new one may be refused, where no room is spare.
+// Of equal items the first is the key. Only for a new item an allocation may fail, if no room is spare.
 impl<K: Eq + Hash + Drop> Collect<K> for Tally<K> {
     ghost made = { λ items t. IsTally K.eq items t.counts };
 

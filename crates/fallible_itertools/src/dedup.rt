@@ -1,4 +1,4 @@
-// The adapter that gives of adjacent equal items the first.
+// The adapter that yields the first of adjacent equal items.
 ghost use Rattle.std.specs.Prelude.{⊤, Option, Result};
 ghost use Rattle.fallible_iterator.specs.Contract.{seen_as};
 ghost use Rattle.fallible_iterator.specs.Laws.Contract.{lawful_seen};
@@ -10,13 +10,13 @@ use crate::holding::{Hold, drive_holding, with_held};
 use fallible_iterator::extending::{FirstTurn, Outcome};
 use fallible_iterator::{FallibleIterator, Turn};
 
-/// Of adjacent equal items the first. It is held until an item that differs comes, or a stop: an end or a failure, which is answered next.
+/// The first of adjacent equal items. It is buffered until an item that differs comes, or a stop: `Ok(None)` or a failure, which the next call returns.
 #[derive(Clone, Debug, Drop)]
 pub struct Dedup<I: FallibleIterator> {
     pub(crate) it: I,
-    // the first of equal items, which hasn't come yet
+    // the first of equal items, which wasn't yielded yet
     pub(crate) held: Option<I::Item>,
-    // the stop that is due: an end, or a failure
+    // the stop that is due: `Ok(None)`, or a failure
     pub(crate) due: Option<Option<I::Error>>,
 }
 
@@ -31,7 +31,7 @@ where
 
     ghost contract = { seen_as dedup_parts (dedup_contract I.Item.eq I.contract) };
 
-    /// Answers the stop that is due, without a draw, or draws until an item differs from the one that is held, or a stop comes.
+    /// Returns the stop that is due, without a draw. Otherwise it draws until an item differs from the buffered one, or a stop comes.
     fn next(&mut self) -> Result<Option<I::Item>, I::Error> {
         self.drive(&mut (), &FirstTurn)
     }
@@ -62,7 +62,7 @@ where
     ghost lawful = { lawful_seen dedup_parts (lawful_dedup I.Item.eq I.lawful) };
 }
 
-// What becomes of an item beside the one that is held.
+// What becomes of an item after the buffered one.
 #[derive(Drop)]
 struct DedupHold;
 

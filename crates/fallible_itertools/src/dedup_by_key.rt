@@ -1,4 +1,4 @@
-// The adapter that gives of adjacent items with equal keys the first.
+// The adapter that yields the first of adjacent items with equal keys.
 ghost use Rattle.std.specs.Prelude.{Ok, Option, Result};
 ghost use Rattle.fallible_iterator.specs.Closures.{call_at, takes_at};
 ghost use Rattle.fallible_iterator.specs.Contract.{seen_as};
@@ -11,13 +11,13 @@ use crate::holding::{Hold, drive_holding, with_held};
 use fallible_iterator::extending::{FirstTurn, Outcome};
 use fallible_iterator::{FallibleIterator, Turn};
 
-/// Of adjacent items with equal keys the first. It is held, with its key, until an item with another key comes, or a stop, which is answered next.
+/// The first of adjacent items with equal keys. It is buffered, with its key, until an item with another key comes, or a stop, which the next call returns.
 #[derive(Clone, Debug, Drop)]
 pub struct DedupByKey<I: FallibleIterator, K, F> {
     pub(crate) it: I,
-    // the key and the item that are held, and the closure
+    // the buffered item with its key, and the closure
     pub(crate) keying: (Option<(K, I::Item)>, F),
-    // the stop that is due: an end, or a failure
+    // the stop that is due: `Ok(None)`, or a failure
     pub(crate) due: Option<Option<I::Error>>,
 }
 
@@ -36,7 +36,7 @@ where
 
     ghost contract = { seen_as dedup_by_key_parts (dedup_by_key_contract K.eq I.contract F.FnMut) };
 
-    /// Answers the stop that is due, without a draw, or draws until an item has another key than the one that is held, or a stop comes.
+    /// Returns the stop that is due, without a draw. Otherwise it draws until an item has another key than the buffered one, or a stop comes.
     fn next(&mut self) -> Result<Option<I::Item>, I::Error> {
         self.drive(&mut (), &FirstTurn)
     }
@@ -101,7 +101,7 @@ impl<X: Drop, E, K: PartialEq + Drop, F: FnMut(&X) -> Result<K, E>> Hold<(Option
     ghost holds = { λ _. holds_dedup_key K.eq (call_at F.FnMut) };
 }
 
-// An item with its key beside the one that is held, if one is.
+// An item with its key after the buffered one, if there is one.
 fn beside<X: Drop, E, K: PartialEq + Drop>(held: &mut Option<(K, X)>, key: K, x: X) -> Outcome<X, E>
     ensures { keyed_by K.eq held.old x (Ok key) result held.new }
 {

@@ -1,4 +1,4 @@
-//! The trait that every fallible iterator with two ends has besides.
+//! The extension trait of every double-ended fallible iterator.
 ghost use Rattle.std.specs.Prelude.{◌≡◌, ◌-◌, ◌^◌, Bool, List, Option, Result, None, reverse};
 ghost use Rattle.fallible_iterator.specs.BothEnds.{ListsBothEnds};
 ghost use Rattle.fallible_iterator.specs.Clauses.{OverList, OverListWith};
@@ -13,7 +13,7 @@ ghost use Rattle.fallible_itertools.specs.FromBack.{CountedWhere, PlacedFromBack
 use fallible_iterator::extending::{AnyTurn, CountTurn, FindTest, FindTurn, answer_or, found};
 use fallible_iterator::{DoubleEndedFallibleIterator, FallibleIterator};
 
-// Passes over n items from the back, and draws one more answer.
+// Skips n items from the back, and draws once more.
 fn nth_from_back<I>(it: &mut I, n: usize) -> Result<Option<I::Item>, I::Error>
 where
     I: DoubleEndedFallibleIterator,
@@ -33,7 +33,7 @@ where
     it.next_back()
 }
 
-// Counts what is left, where an item was found.
+// Counts what is left, if an item was found.
 fn counted_where<I>(it: &mut I, found: Result<bool, I::Error>) -> Result<Option<usize>, I::Error>
 where
     I: FallibleIterator,
@@ -53,13 +53,13 @@ where
     }
 }
 
-/// More calls on every fallible iterator with two ends.
+/// More calls on every double-ended fallible iterator.
 pub trait DoubleEndedFallibleItertools: DoubleEndedFallibleIterator {
-    /// The item with n items behind it; none where an end comes first.
+    /// Returns the item with n items after it; `Ok(None)` if the iterator ends first.
     ///
-    /// It draws at most n + 1 answers from the back: up to that item, or a failure or an end that comes first. It fails with that failure. Nothing is drawn after the answer, and what is left may be drawn from again, from either end.
+    /// It draws at most n + 1 times from the back: up to that item, or a failure or `Ok(None)` before it. It fails with that failure. Nothing is drawn after that, and the iterator may be used again, from either end.
     ///
-    /// Asks that it may be drawn from, from either end.
+    /// Requires that `next` and `next_back` may be called.
     ///
     /// ```
     /// assert_eq!(rt; it.nth_back(1), Ok(Some(4)));
@@ -80,11 +80,11 @@ pub trait DoubleEndedFallibleItertools: DoubleEndedFallibleIterator {
         nth_from_back(self, n)
     }
 
-    /// The last item for which the predicate is true; none where no such item comes before the end from the back.
+    /// Returns the last item on which the predicate returns true; `Ok(None)` if there is none.
     ///
-    /// It draws from the back up to the first item on which the predicate answers true or fails, the first failure or the end, and calls the predicate on each item drawn, the last one first. It fails with the failure that comes first, of this iterator or of the predicate. Nothing is drawn after the answer that decides, and what is left may be drawn from again, from either end.
+    /// It draws from the back up to the first item on which the predicate returns true or fails, the first failure or `Ok(None)`. It calls the predicate on each item drawn, the last one first. It fails with the first failure, of this iterator or of the predicate. Nothing is drawn after that, and the iterator may be used again, from either end.
     ///
-    /// Asks that it may be drawn from, from either end, and is finite, and that the predicate may be called on a reference to each item that may come from the back until it decides.
+    /// Requires that `next` and `next_back` may be called and that the iterator is finite, and that the predicate may be called on a reference to each item that may come from the back until it decides.
     ///
     /// ```
     /// assert_eq!(rt; it.rfind(at_below_three), Ok(Some(2)));
@@ -113,13 +113,13 @@ pub trait DoubleEndedFallibleItertools: DoubleEndedFallibleIterator {
         found(self.drive_back(&mut f, &FindTurn { test: &FindTest }))
     }
 
-    /// How many items come before the last one on which the predicate answers true; none where no such item comes before the end from the back.
+    /// Returns how many items come before the last one on which the predicate returns true; `Ok(None)` if there is none.
     ///
-    /// It draws from the back up to the first item on which the predicate answers true or fails, the first failure or the end. Where the predicate answered true, it then draws from the front, up to the end or the first failure, and counts: a fallible iterator doesn't say how many items stand before that one. So nothing is left where it finds one, unlike std's.
+    /// It draws from the back up to the first item on which the predicate returns true or fails, the first failure or `Ok(None)`. If the predicate returned true, it then draws from the front, up to `Ok(None)` or the first failure, and counts: a fallible iterator doesn't know how many items stand before that one. So it consumes what is left if it finds one, unlike std's.
     ///
-    /// It fails with the failure that comes first: from the back one of this iterator or of the predicate, and then one of this iterator from the front. What is left may be drawn from again, from either end.
+    /// It fails with the first failure: from the back one of this iterator or of the predicate, and then one of this iterator from the front. The iterator may be used again, from either end.
     ///
-    /// Asks that it may be drawn from, from either end, that at most `usize::MAX` items are left, and that the predicate may be called on each item that may come from the back until it decides.
+    /// Requires that `next` and `next_back` may be called and that at most `usize::MAX` items are left, and that the predicate may be called on each item that may come from the back until it decides.
     ///
     /// ```
     /// let place = it.rposition(below_three);

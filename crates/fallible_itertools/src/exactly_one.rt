@@ -1,6 +1,6 @@
 //! Why there isn't exactly one item.
 
-/// What `exactly_one` found in the place of one item.
+/// What `exactly_one` found instead of one item.
 #[derive(Clone, Copy, Debug, PartialEq, Eq, Drop)]
 pub enum NotOne<T> {
     /// no item came

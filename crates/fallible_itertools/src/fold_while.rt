@@ -1,4 +1,4 @@
-//! Folds that stop before the end.
+//! Folds that may stop early.
 ghost use Rattle.std.specs.Prelude.{◌≡◌, IsSome, Ok, None, Result};
 ghost use Rattle.fallible_iterator.specs.Folds.{IsFoldTurnInSlot, takes_in_slot, call_with, takes_with};
 ghost use Rattle.fallible_itertools.specs.FoldWhile.{WhileCall, IsStop, while_answer, value_of, is_done_at};
@@ -9,14 +9,14 @@ use std::ops::ControlFlow;
 /// A value so far, and whether its fold goes on.
 #[derive(Clone, Copy, Debug, Drop, PartialEq, Eq)]
 pub enum FoldWhile<B> {
-    /// It goes on with this value, or met the end with it.
+    /// It goes on with this value, or the iterator returned `Ok(None)`.
     Continue(B),
     /// It is done, with this value.
     Done(B),
 }
 
 impl<B> FoldWhile<B> {
-    /// The value, of either variant.
+    /// Returns the value, of either variant.
     pub fn into_inner(self) -> B
         ensures { result ≡ value_of self }
     {
@@ -26,7 +26,7 @@ impl<B> FoldWhile<B> {
         }
     }
 
-    /// Whether it is `Done`.
+    /// Returns whether it is `Done`.
     pub fn is_done(&self) -> bool
         ensures { result ≡ is_done_at self.now }
     {
@@ -44,7 +44,7 @@ impl<A, B: Drop, E, F: FnMut(B, A) -> Result<FoldWhile<B>, E>> Turn<(Option<B>, 
 
     ghost turns = { λ _ p x r q. IsFoldTurnInSlot (WhileCall (call_with F.FnMut)) p x r q };
 
-    /// The closure's answer on the value so far and the item.
+    /// Calls the closure on the value so far and the item.
     #[inline(always)]
     fn turn(&self, state: &mut (Option<B>, F), item: A) -> ControlFlow<Result<B, E>, ()> {
         match state.0.take() {
@@ -61,7 +61,7 @@ impl<A, B: Drop, E, F: FnMut(B, A) -> Result<FoldWhile<B>, E>> Turn<(Option<B>, 
     }
 }
 
-/// What `fold_while` answers, by what its fold answered and the value that it left: that value at the end, what the fold stopped with, or the source's failure.
+/// What `fold_while` returns, from what its fold returned and the value that it left: that value at `Ok(None)`, what the fold stopped with, or the source's failure.
 pub fn while_or_stop<B: Drop, E>(
     answer: Result<Option<Result<B, E>>, E>,
     value: Option<B>,

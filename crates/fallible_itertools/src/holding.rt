@@ -1,4 +1,4 @@
-//! The fold of the adapters that hold what they drew, through their sources' own.
+//! The fold of the adapters that buffer what they drew, through their sources' own.
 ghost use Rattle.std.specs.Prelude.{◌≡◌, ℕ, if◌then◌else◌, Option, Result, Some, None, Ok, Err, ⊤};
 ghost use Rattle.fallible_iterator.specs.Folds.{CallableDriving, Driven};
 ghost use Rattle.fallible_iterator.specs.Outcome.{Outcome};
@@ -9,30 +9,30 @@ use fallible_iterator::extending::{FirstTurn, Outcome, Pass, drive_passing};
 use fallible_iterator::{FallibleIterator, Turn};
 use std::ops::ControlFlow;
 
-/// What an adapter does that holds what it drew: asked of an item, `Some`, or of a stop of its source, `None`, it answers what becomes of it.
+/// What an adapter that buffers does with an item, `Some`, or with a stop of its source, `None`: it says what becomes of it.
 pub trait Hold<P, X, E> {
-    /// What the adapter gives.
+    /// What the adapter yields.
     type Kept;
 
-    // Holds of what is held and of what may be asked of then.
+    // Holds of what is buffered and of what the call may be made on then.
     ghost can_ask: { Self → P → Option X → Type 0 };
 
-    // Holds of those, of what is answered, and of what is held then.
+    // Holds of what was buffered and the argument, of what the call returned, and of what is buffered then.
     ghost asks: { Self → P → Option X → Outcome Self.Kept E → P → Type 0 };
 
-    // How many answers are held.
+    // How many items are buffered.
     ghost held: { Self → P → ℕ };
 
-    /// Asks of an item or a stop.
+    /// What becomes of an item or a stop.
     fn ask(&self, holds: &mut P, asked: Option<X>) -> Outcome<Self::Kept, E>
         requires { can_ask self.now holds.old asked }
         ensures { asks self.now holds.old asked result holds.new };
 
-    // An answer was held or drawn.
+    // An item that is yielded was buffered or drawn.
     ghost holds: { (adapter : Self) → Holds (asks adapter) (held adapter) };
 }
 
-// The same, asked of items alone.
+// The same adapter, called on items alone.
 #[derive(Drop)]
 struct OfItems<'a, A> {
     adapter: &'a A,
@@ -55,7 +55,7 @@ impl<'a, P, X, E, A: Hold<P, X, E>> Pass<P, X, E> for OfItems<'a, A> {
     }
 }
 
-/// The fold of such an adapter: the stop that is due, without a draw; or else the source's fold, and at its stop the turn on what is held. Where that turn stops the fold, the stop is due.
+/// The fold of such an adapter: the stop that is due, without a draw; otherwise the source's fold, and at its stop the turn on what is buffered. If that turn stops the fold, the stop is due.
 pub fn drive_holding<
     I: FallibleIterator,
     P,
@@ -92,7 +92,7 @@ where
     }
 }
 
-/// One answer at a stop: what is held, and then the stop is due, or the stop itself where nothing is given.
+/// What one call returns at a stop: what is buffered, and then the stop is due; or the stop itself if nothing is yielded.
 pub fn at_stop<P, X, E: Drop, A: Hold<P, X, E>>(
     stop: Option<E>,
     holds: &mut P,
@@ -107,7 +107,7 @@ where
     before_stop(stop, holds, due, adapter, &mut (), &FirstTurn)
 }
 
-// At a stop: the caller's turn on what is held, and then the stop.
+// At a stop: the caller's turn on what is buffered, and then the stop.
 fn before_stop<P, X, E: Drop, A: Hold<P, X, E>, C, R, K: Turn<C, A::Kept, R>>(
     stop: Option<E>,
     holds: &mut P,
@@ -141,7 +141,7 @@ where
     }
 }
 
-// The answer that a stop is.
+// The stop as a result of the fold.
 fn answered<R, E>(stop: Option<E>) -> Result<Option<R>, E>
     ensures { result ≡ stop_answer stop }
 {
@@ -151,7 +151,7 @@ fn answered<R, E>(stop: Option<E>) -> Result<Option<R>, E>
     }
 }
 
-/// The hint of such an adapter where no stop is due: at least one item where the source has at least one or one is held, and at most the source's and what is held.
+/// The hint of such an adapter if no stop is due: at least one item if the source has at least one or one is buffered, and at most the source's and what is buffered.
 pub fn with_held(hint: (usize, Option<usize>), is_held: bool) -> (usize, Option<usize>)
     ensures { HintHeld (if is_held then 1 else 0) hint result }
 {

@@ -1,4 +1,4 @@
-//! The adapter that shows each failure to a closure.
+//! The adapter that calls a closure on each failure.
 ghost use Rattle.std.specs.Prelude.{Result, Option};
 ghost use Rattle.fallible_iterator.specs.Closures.{takes_at};
 ghost use Rattle.fallible_iterator.specs.Contract.{seen_as};
@@ -11,7 +11,7 @@ ghost use Rattle.fallible_itertools.specs.Laws.InspectErr.{lawful_inspect_err, l
 use fallible_iterator::extending::{Fail, drive_back_failing, drive_failing, failed};
 use fallible_iterator::{DoubleEndedFallibleIterator, FallibleIterator, Turn};
 
-/// The answers of the source, each failure shown to the closure first.
+/// What the source returns. The closure is called on a reference to each failure first.
 #[derive(Clone, Debug, Drop)]
 pub struct InspectErr<I, F> {
     pub(crate) it: I,
@@ -25,7 +25,7 @@ impl<I: FallibleIterator, F: FnMut(&I::Error)> FallibleIterator for InspectErr<I
 
     ghost contract = { seen_as inspect_err_parts (inspect_err_contract I.contract F.FnMut) };
 
-    /// Draws one answer, and calls the closure where it is a failure.
+    /// Draws once, and calls the closure if a failure came.
     fn next(&mut self) -> Result<Option<I::Item>, I::Error> {
         failed(self.it.next(), &mut self.f, &InspectErrFail)
     }
@@ -42,7 +42,7 @@ impl<I: FallibleIterator, F: FnMut(&I::Error)> FallibleIterator for InspectErr<I
         drive_failing(&mut self.it, &mut self.f, &InspectErrFail, state, turn)
     }
 
-    /// The source's count; a failure that it met is shown to the closure.
+    /// The source's count. The closure is called on a failure that it met.
     fn drive_count(&mut self, number: &mut usize) -> Result<(), I::Error>
     where
         I::Item: Drop,
@@ -72,7 +72,7 @@ impl<I: DoubleEndedFallibleIterator, F: FnMut(&I::Error)> DoubleEndedFallibleIte
     ghost ends = { ends_seen_as inspect_err_parts
         (ends_of (inspect_err_contract (from_back I.contract I.ends) F.FnMut)) };
 
-    /// Draws one answer from the back, and calls the closure where it is a failure.
+    /// Draws once from the back, and calls the closure if a failure came.
     fn next_back(&mut self) -> Result<Option<I::Item>, I::Error> {
         failed(self.it.next_back(), &mut self.f, &InspectErrFail)
     }
@@ -89,7 +89,7 @@ impl<I: DoubleEndedFallibleIterator, F: FnMut(&I::Error)> DoubleEndedFallibleIte
         (lawful_ends_inspect_err F.FnMut I.lawful_ends) };
 }
 
-// The failure itself, once the closure saw it.
+// The failure itself, after the closure's call.
 #[derive(Drop)]
 struct InspectErrFail;
 

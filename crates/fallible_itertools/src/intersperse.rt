@@ -11,12 +11,12 @@ use fallible_iterator::{FallibleIterator, Turn};
 use std::alloc::AllocError;
 use std::ops::ControlFlow;
 
-/// The items of the source with a clone of the separator between each two adjacent ones. An item that was drawn is held while the separator before it is given.
+/// The items of the source with a clone of the separator between each two adjacent ones. An item that was drawn is buffered while the separator before it is yielded.
 #[derive(Clone, Debug, Drop)]
 pub struct Intersperse<I: FallibleIterator> {
     pub(crate) it: I,
     pub(crate) separator: I::Item,
-    // whether an item came, and the item that is held
+    // whether an item came, and the buffered item
     pub(crate) placing: (bool, Option<I::Item>),
 }
 
@@ -33,7 +33,7 @@ where
         (intersperse_contract I.Item.is_clone I.Item.is_infallible I.Error.from_gives
         I.contract) };
 
-    /// Gives the held item without a draw, and draws one answer where none is held.
+    /// Yields the buffered item without a draw, and draws once if none is buffered.
     fn next(&mut self) -> Result<Option<I::Item>, I::Error> {
         match self.placing.1.take() {
             Some(held) => Ok(Some(held)),
@@ -48,7 +48,7 @@ where
         }
     }
 
-    /// The turn on the held item, and then the source's fold, whose turn is one on what stands before the item and one on the item.
+    /// The turn on the buffered item, and then the source's fold, whose turn is one on what stands before the item and one on the item.
     fn drive<C, R, K: Turn<C, I::Item, R>>(
         &mut self,
         state: &mut C,
@@ -89,7 +89,7 @@ where
         (lawful_intersperse I.Item.is_clone I.Item.is_infallible I.Error.from_gives I.lawful) };
 }
 
-// What is answered where an item was drawn: the first item itself, and for a later one, which is held, a clone of the separator.
+// What is yielded when an item was drawn: the first item itself, and for a later one, which is buffered, a clone of the separator.
 fn placed<X: Clone + Drop, E: From<AllocError>>(
     separator: &X,
     placing: &mut (bool, Option<X>),
@@ -112,7 +112,7 @@ where
     }
 }
 
-// The fold where nothing is held: one of the source.
+// The fold if nothing is buffered: one of the source.
 fn drive_parting<I: FallibleIterator, C, R, K: Turn<C, I::Item, R>>(
     it: &mut I,
     separator: &I::Item,
@@ -142,7 +142,7 @@ where
     answer_within(answer)
 }
 
-// The turn of the source's fold: the caller's turn on what is answered where the item was drawn, and where that goes on, on the item if it is held.
+// The turn of the source's fold: the caller's turn on what is yielded when the item was drawn, and if that goes on, on the item if it is buffered.
 #[derive(Drop)]
 struct IntersperseTurn<'a, X, K> {
     separator: &'a X,
@@ -177,7 +177,7 @@ impl<'a, 'b, X: Clone + Drop, E: From<AllocError>, C, R, K: Turn<C, X, R>> Turn<
     }
 }
 
-// The caller's turn on the item that is held, if one is.
+// The caller's turn on the buffered item, if there is one.
 fn held_turn<X: Drop, E, C, R, K: Turn<C, X, R>>(
     placing: &mut (bool, Option<X>),
     state: &mut C,
@@ -214,7 +214,7 @@ fn items_at_least<X>(low: usize, placing: &(bool, Option<X>)) -> usize
     }
 }
 
-// How many items come of so many items of the source, where that fits.
+// How many items come of so many items of the source, if that fits.
 fn items_at_most<X>(high: usize, placing: &(bool, Option<X>)) -> Option<usize>
     ensures { result ≡ fitting (interspersed_items placing.now high) }
 {

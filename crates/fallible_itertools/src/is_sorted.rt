@@ -7,7 +7,7 @@ ghost use Rattle.fallible_itertools.specs.IsSorted.{OrderCall, comes_after};
 use fallible_iterator::Turn;
 use std::ops::ControlFlow;
 
-/// Whether a key may come after the last one: where there is none, and where it isn't below it. Keys without an order are out of order.
+/// Whether a key may come after the last one: if there is none, or if it isn't below it. Keys that can't be compared are out of order.
 pub fn may_come_after<K: PartialOrd>(last: &Option<K>, key: &K) -> bool
     ensures { result ≡ comes_after K.partial_cmp last.now key.now }
 {
@@ -17,7 +17,7 @@ pub fn may_come_after<K: PartialOrd>(last: &Option<K>, key: &K) -> bool
     }
 }
 
-/// The turn of `is_sorted_by_key`, whose state is the last key, if an item came, and the closure: it stops at the first item whose key is out of order, or where the closure fails.
+/// The turn of `is_sorted_by_key`, whose state is the last key, if an item came, and the closure: it stops at the first item whose key is out of order, or if the closure fails.
 #[derive(Drop)]
 pub struct SortedTurn;
 
@@ -31,7 +31,7 @@ impl<A, K: PartialOrd + Drop, E, F: FnMut(A) -> Result<K, E>> Turn<
     ghost turns = { λ _ p x r q. IsSearchTurn (OrderCall K.partial_cmp (call_on F.FnMut)) all_pick
         p x r q };
 
-    /// The item's key, made once, which is the last one then.
+    /// Calls the closure once. Its key is the last one then.
     #[inline(always)]
     fn turn(&self, state: &mut (Option<K>, F), item: A) -> ControlFlow<Result<bool, E>, ()> {
         let key = match (state.1)(item) {

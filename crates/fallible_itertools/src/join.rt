@@ -7,7 +7,7 @@ use std::alloc::AllocError;
 use std::fmt::Display;
 use std::ops::ControlFlow;
 
-// Appends the separator, where it stands between two items, and then the item.
+// Appends the separator, if an item stands before it, and then the item.
 fn append<T: Display + Drop>(
     text: &mut String,
     begun: bool,
@@ -34,7 +34,7 @@ impl<'a, A: Display + Drop> Turn<(bool, String), A, AllocError> for JoinTurn<'a>
 
     ghost turns = { λ k c x r d. IsJoinTurn A.output k.separator.now c x r d };
 
-    /// The item after the others.
+    /// Appends the item to the others.
     #[inline(always)]
     fn turn(&self, state: &mut (bool, String), item: A) -> ControlFlow<AllocError, ()> {
         match append(&mut state.1, state.0, self.separator, item) {

@@ -19,7 +19,7 @@ pub enum MinMaxResult<T> {
     MinMax(T, T),
 }
 
-/// The least and the greatest after one more item: the first of equal least ones, and the last of equal greatest ones.
+/// Returns the least and the greatest after one more item: the first of equal least ones, and the last of equal greatest ones.
 pub fn widened<A: Ord + Drop>(so_far: MinMaxResult<A>, item: A) -> MinMaxResult<A>
     ensures { result ≡ with_item A.cmp so_far item }
 {
@@ -53,7 +53,7 @@ impl<A: Ord + Drop> Turn<MinMaxResult<A>, A, Infallible> for MinMaxTurn {
 
     ghost turns = { λ _ c x r d. (r ≡ Continue tt) × (d ≡ with_item A.cmp c x) };
 
-    /// The item beside those that are kept.
+    /// Compares the item with those that are kept.
     #[inline(always)]
     fn turn(&self, state: &mut MinMaxResult<A>, item: A) -> ControlFlow<Infallible, ()> {
         let so_far = replace(state, MinMaxResult::NoElements);

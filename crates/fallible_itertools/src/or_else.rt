@@ -1,4 +1,4 @@
-//! The adapter by whose closure a failure becomes an item, nothing or another failure.
+//! The adapter that replaces failures: by an item, nothing or another failure.
 ghost use Rattle.std.specs.Prelude.{Result, Option};
 ghost use Rattle.fallible_iterator.specs.Closures.{call_on, takes_on};
 ghost use Rattle.fallible_iterator.specs.Contract.{seen_as};
@@ -13,7 +13,7 @@ use fallible_iterator::extending::{
 };
 use fallible_iterator::{DoubleEndedFallibleIterator, FallibleIterator, Turn};
 
-/// The answers of the source, with what the closure makes of each failure in its place: an item, nothing or another failure. Items and ends pass.
+/// What the source returns, with each failure replaced by what the closure returns for it: an item, nothing or another failure. Items and `Ok(None)` pass.
 #[derive(Clone, Debug, Drop)]
 pub struct OrElse<I, F> {
     pub(crate) it: I,
@@ -28,7 +28,7 @@ impl<I: FallibleIterator, E, F: FnMut(I::Error) -> Result<Option<I::Item>, E>> F
 
     ghost contract = { seen_as or_else_parts (or_else_contract I.contract F.FnMut) };
 
-    /// Draws until an item or an end comes, or a failure on which the closure answers an item or fails.
+    /// Draws until an item or an `Ok(None)` comes, or a failure for which the closure returns an item or fails.
     fn next(&mut self) -> Result<Option<I::Item>, E> {
         self.drive(&mut (), &FirstTurn)
     }
@@ -57,7 +57,7 @@ impl<
     ghost ends = { ends_seen_as or_else_parts
         (ends_of (or_else_contract (from_back I.contract I.ends) F.FnMut)) };
 
-    /// Draws from the back until an item or an end comes, or a failure on which the closure answers an item or fails.
+    /// Draws from the back until an item or an `Ok(None)` comes, or a failure for which the closure returns an item or fails.
     fn next_back(&mut self) -> Result<Option<I::Item>, E> {
         self.drive_back(&mut (), &FirstTurn)
     }
@@ -75,7 +75,7 @@ impl<
         (lawful_ends_or_else F.FnMut I.lawful_ends) };
 }
 
-// What becomes of a failure by the closure's answer.
+// What becomes of a failure by the closure's result.
 #[derive(Drop)]
 struct OrElsePass;
 

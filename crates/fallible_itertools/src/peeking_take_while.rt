@@ -1,4 +1,4 @@
-//! The adapter that leaves the first refused item in the iterator that it borrows.
+//! The adapter that leaves the first rejected item in the iterator that it borrows.
 ghost use Rattle.std.specs.Prelude.{◌≡◌, Some, Result, Option};
 ghost use Rattle.fallible_iterator.specs.Borrowed.{borrowed};
 ghost use Rattle.fallible_iterator.specs.Clauses.{OverListWith};
@@ -17,11 +17,11 @@ pub trait PeekingNext: FallibleIterator {
     // Holds of a value, of its next item, and of what a look at that item leaves.
     ghost looks: { Self → Self.Item → Self → Type 0 };
 
-    /// For types that look ahead: one answer, where an item is shown to the closure first. One that it refuses stays next, and the answer is none. A caller uses `peeking_take_while`.
+    /// For types that look ahead: as `next`, but the closure is called on an item first. If the closure rejects the item, it stays next, and the call returns `Ok(None)`. A caller uses `peeking_take_while`.
     ///
-    /// It is one draw, or a look where the item is refused. It fails as `next` does. Where the closure fails, its failure is the answer, and the item is lost. What is left may be drawn from again.
+    /// It draws once, or looks ahead if the item is rejected. It fails as `next` does. If the closure fails, its failure is returned, and the item is lost. The iterator may be used again.
     ///
-    /// Asks that it may be drawn from, and that the closure may be called on each item that may come, in each state that such calls bring it to.
+    /// Requires that `next` may be called, and that the closure may be called on each item that may come, in each state that such calls bring it to.
     fn next_accepted<F>(&mut self, accept: &mut F) -> Result<Option<Self::Item>, Self::Error>
     where
         F: FnMut(&Self::Item) -> Result<bool, Self::Error>,
@@ -34,13 +34,13 @@ pub trait PeekingNext: FallibleIterator {
     // What a look keeps, and that the item comes next as it would have come.
     ghost looking: { LooksAhead Self.contract looks };
 
-    /// Gives the items up to the first one that the closure refuses, which stays next in this iterator.
+    /// Yields the items up to the first one that the closure rejects, which stays next in this iterator.
     ///
-    /// Making it draws nothing and calls nothing. One call draws one answer. It fails as this iterator does. Where the closure fails, its failure is the answer, and the item is lost. An end stands in the place of a refused item, and the next call asks of the same item again. A failure and an end of this iterator are let go, and end nothing.
+    /// Creating it draws nothing and calls nothing. `next` draws once. It fails as this iterator does. If the closure fails, its failure is yielded, and the item is lost. A call at a rejected item returns `Ok(None)`, and the next call calls the closure on the same item again. A failure and an `Ok(None)` of this iterator pass, and exhaust nothing.
     ///
-    /// This iterator goes on with what is left: the refused item comes next, also of a look ahead.
+    /// This iterator goes on with what is left: the rejected item comes next, also for `peek`.
     ///
-    /// Asks that the closure may be called on each item that may come, in each state that such calls bring it to.
+    /// Requires that the closure may be called on each item that may come, in each state that such calls bring it to.
     ///
     /// ```
     /// ahead
@@ -90,7 +90,7 @@ where
     ghost looking = { peekable_looking I.lawful };
 }
 
-// What the closure answers on the held item, and true where none is held.
+// What the closure returns on the buffered item, and true if none is buffered.
 fn accepts_held<I: FallibleIterator, F: FnMut(&I::Item) -> Result<bool, I::Error>>(
     it: &Peekable<I>,
     accept: &mut F,
@@ -121,7 +121,7 @@ impl<P: PeekingNext> PeekingNext for &mut P {
     ghost looking = { borrowed_looking P.looking };
 }
 
-/// The items of what looks ahead up to the first one that the closure refuses, which stays next: an end stands in its place, and the next call asks of the same item again. An item on which the closure fails is lost, and its failure is the answer.
+/// The items of what looks ahead up to the first one that the closure rejects, which stays next. A call there returns `Ok(None)`, and the next call calls the closure on the same item again. An item on which the closure fails is lost, and its failure is yielded.
 #[derive(Clone, Debug, Drop)]
 pub struct PeekingTakeWhile<P, F> {
     pub(crate) it: P,
@@ -136,7 +136,7 @@ impl<P: PeekingNext, F: FnMut(&P::Item) -> Result<bool, P::Error>> FallibleItera
 
     ghost contract = { seen_as peeking_parts (peeking_contract P.contract P.looks F.FnMut) };
 
-    /// One draw, and a call of the closure where it is an item; a refused item stays next. Folds are made of such draws: a fold of the source would have let go of the refused item.
+    /// Draws once, and calls the closure on an item; a rejected item stays next. Folds are made of such draws: a fold of the source would drop the rejected item.
     fn next(&mut self) -> Result<Option<P::Item>, P::Error> {
         self.it.next_accepted(&mut self.accept)
     }

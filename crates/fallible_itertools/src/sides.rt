@@ -1,10 +1,10 @@
-// A side of what joins two sources and holds at most one item of each.
+// A side of what joins two sources and buffers at most one item of each.
 ghost use Rattle.std.specs.Prelude.{◌≡◌, Option, Result, None};
 ghost use Rattle.fallible_itertools.specs.Sides.{Gives, OffersLow, holding_held, holding_parts, holding_source};
 
 use fallible_iterator::FallibleIterator;
 
-// A source, and the item of it that is held, if there is one.
+// A source, and its buffered item, if there is one.
 #[derive(Clone, Debug, Drop)]
 pub(crate) struct Holding<I, X> {
     pub(crate) it: I,
@@ -15,7 +15,7 @@ impl<I: FallibleIterator> Holding<I, I::Item>
 where
     I::Item: Drop,
 {
-    // The held item without a draw, and else one answer of the source.
+    // Takes the buffered item without a draw, or draws once.
     pub(crate) fn give(&mut self) -> Result<Option<I::Item>, I::Error>
         requires { I.contract.can_next (holding_source self.old) }
         ensures given { Gives I.contract.steps (holding_parts self.old)
@@ -28,7 +28,7 @@ where
         }
     }
 
-    // The source's lower bound, one more where an item is held.
+    // The source's lower bound, one more if an item is buffered.
     pub(crate) fn low(&self) -> usize
         ensures { OffersLow I.contract (holding_parts self.now) result }
     {

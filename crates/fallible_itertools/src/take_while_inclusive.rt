@@ -1,4 +1,4 @@
-//! The adapter that ends behind the first item which a predicate refuses.
+//! The adapter that ends after the first item that a predicate rejects.
 ghost use Rattle.std.specs.Prelude.{◌≡◌, false, Result, Option};
 ghost use Rattle.fallible_iterator.specs.Closures.{call_at, takes_at};
 ghost use Rattle.fallible_iterator.specs.Contract.{seen_as};
@@ -13,11 +13,11 @@ use fallible_iterator::extending::{Beside, Outcome, Pass, PassTurn, answer_withi
 use fallible_iterator::{FallibleIterator, Turn};
 use std::ops::ControlFlow;
 
-/// The answers of the source up to and with the first item that the predicate refuses, and from there on ends. An item on which the predicate fails is lost, and its failure is the answer; neither it nor an end of the source ends anything.
+/// What the source returns up to the first item that the predicate rejects, and that one too. Then each call returns `Ok(None)`. An item on which the predicate fails is lost, and its failure is yielded; neither it nor an `Ok(None)` of the source exhausts anything.
 #[derive(Clone, Debug, Drop)]
 pub struct TakeWhileInclusive<I, P> {
     pub(crate) it: I,
-    // whether an item was refused, and the predicate
+    // whether an item was rejected, and the predicate
     pub(crate) taking: (bool, P),
 }
 
@@ -32,7 +32,7 @@ where
 
     ghost contract = { seen_as inclusive_parts (inclusive_contract I.contract P.FnMut) };
 
-    /// Draws one answer and calls the predicate where it is an item; draws none once an item was refused.
+    /// Draws once, and calls the predicate on an item; draws nothing once an item was rejected.
     fn next(&mut self) -> Result<Option<I::Item>, I::Error> {
         if self.taking.0 {
             return Ok(None);
@@ -49,7 +49,7 @@ where
         }
     }
 
-    /// The source's fold, which the refused item stops.
+    /// The source's fold, which stops after the rejected item.
     fn drive<C, R, K: Turn<C, I::Item, R>>(
         &mut self,
         state: &mut C,
@@ -64,7 +64,7 @@ where
     ghost lawful = { lawful_seen inclusive_parts (lawful_inclusive P.FnMut I.lawful) };
 }
 
-// An item is kept unless the predicate fails on it. Beside the predicate stands whether it refused one.
+// An item is kept unless the predicate fails on it. The flag beside the predicate says whether it rejected one.
 #[derive(Drop)]
 struct InclusivePass;
 
@@ -92,7 +92,7 @@ impl<X: Drop, E, P: FnMut(&X) -> Result<bool, E>> Pass<(bool, P), X, E> for Incl
     }
 }
 
-// The turn of the fold: what becomes of the item, and the caller's turn on it. Behind a refused item the fold ends, also where the caller's turn went on.
+// The turn of the fold: what becomes of the item, and the caller's turn on it. After a rejected item the fold ends, also if the caller's turn went on.
 #[derive(Drop)]
 struct InclusiveTurn<'a, K> {
     turn: &'a K,
@@ -133,7 +133,7 @@ impl<'a, 'b, X: Drop, E, C, R, P: FnMut(&X) -> Result<bool, E>, K: Turn<C, X, R>
     }
 }
 
-// The fold from where no item was refused yet.
+// The fold while no item was rejected yet.
 fn drive_taking<
     I: FallibleIterator,
     P: FnMut(&I::Item) -> Result<bool, I::Error>,

@@ -1,4 +1,4 @@
-// The adapter that gives each two adjacent items.
+// The adapter that yields each two adjacent items.
 ghost use Rattle.std.specs.Prelude.{◌≡◌, ⊤, Option, Result, Some};
 ghost use Rattle.fallible_iterator.specs.Contract.{seen_as};
 ghost use Rattle.fallible_iterator.specs.Laws.Contract.{lawful_seen};
@@ -11,7 +11,7 @@ use fallible_iterator::extending::{Outcome, Pass, drive_passing};
 use fallible_iterator::{FallibleIterator, Turn};
 use std::alloc::AllocError;
 
-/// Each two adjacent items. The last item is held, and a clone of it given.
+/// Each two adjacent items, as pairs. The last item is buffered, and the pair has a clone of it.
 #[derive(Clone, Debug, Drop)]
 pub struct TupleWindows<I: FallibleIterator> {
     pub(crate) it: I,
@@ -32,7 +32,7 @@ where
         (tuple_windows_contract I.Item.is_clone I.Item.is_infallible I.Error.from_gives
         I.contract) };
 
-    /// Draws one answer where an item is held, and else until a second item, a failure or an end comes.
+    /// Draws once if an item is buffered, and otherwise until a second item, a failure or an `Ok(None)` comes.
     fn next(&mut self) -> Result<Option<(I::Item, I::Item)>, I::Error> {
         match self.held.take() {
             Some(before) => behind(&mut self.it, &mut self.held, before),
@@ -68,7 +68,7 @@ where
         (lawful_tuple_windows I.Item.is_clone I.Item.is_infallible I.Error.from_gives I.lawful) };
 }
 
-// An item beside the one before it.
+// An item after the one before it.
 #[derive(Drop)]
 struct WindowPass;
 
@@ -95,7 +95,7 @@ impl<X: Clone + Drop, E: From<AllocError>> Pass<Option<X>, X, E> for WindowPass 
     }
 }
 
-// One draw behind that item.
+// One draw after that item.
 fn behind<I: FallibleIterator>(
     it: &mut I,
     held: &mut Option<I::Item>,
@@ -127,7 +127,7 @@ where
     }
 }
 
-// Both items, the later one as a clone, which is held then.
+// Both items. The later one is a clone of what is buffered then.
 fn pair<X: Clone + Drop, E: From<AllocError>>(
     holds: &mut Option<X>,
     y: X,

@@ -1,4 +1,4 @@
-// The adapter that joins the items of two sources up to the end of the longer one.
+// The adapter that pairs the items of two sources up to `Ok(None)` of both.
 ghost use Rattle.std.specs.Prelude.{◌≡◌, Option, Result, None};
 ghost use Rattle.fallible_iterator.specs.Contract.{seen_as};
 ghost use Rattle.fallible_iterator.specs.Laws.Contract.{lawful_seen};
@@ -19,7 +19,7 @@ pub enum EitherOrBoth<A, B> {
     Right(B),
 }
 
-/// The items of two sources, place by place, up to the end of both. A failure of the left is the answer, and then the right isn't drawn. A failure of the right is the answer, and the left's item beside it is held for the next call.
+/// The items of two sources by their positions, up to `Ok(None)` of both. If the left fails, the right isn't drawn. If the right fails, the left's item is buffered for the next call.
 #[derive(Clone, Debug, Drop)]
 pub struct ZipLongest<T: FallibleIterator, U> {
     pub(crate) left: Holding<T, T::Item>,
@@ -38,7 +38,7 @@ where
 
     ghost contract = { seen_as zip_longest_parts (zip_longest_contract T.contract U.contract) };
 
-    /// Takes the left's held item, or else draws one answer of the left, and then, where that isn't a failure, draws one of the right. Each fold draws so too.
+    /// Takes the left's buffered item, or draws the left once. Then, unless that failed, it draws the right once. Each fold draws so too.
     fn next(&mut self) -> Result<Option<EitherOrBoth<T::Item, U::Item>>, T::Error> {
         let left = self.left.give()?;
         match self.right.next() {

@@ -67,14 +67,14 @@ where
 
 // ---- `OrElse`
 
-/// The answers of `OrElse` are the source's without the failures answered none, with the item or the failure that the closure answers in each other failure's place.
+/// The answers of `OrElse` are the source's, each failure replaced by the item or the failure that the closure returns for it, or left out.
 pub fn law_or_else<I: FallibleIterator, E, F: FnMut(I::Error) -> Result<Option<I::Item>, E>>()
 where
     ensures { TracesAre or_else_parts ⟦<OrElse<I, F> as FallibleIterator>⟧.contract.steps
         (OrElseTrace I.contract.steps F.FnMut) }
 {}
 
-/// From the back the answers of `OrElse` are the source's from the back without the failures answered none, with the item or the failure that the closure answers in each other failure's place.
+/// From the back the answers of `OrElse` are the source's from the back, each failure replaced by the item or the failure that the closure returns for it, or left out.
 pub fn law_back_or_else<
     I: DoubleEndedFallibleIterator,
     E,
@@ -86,13 +86,13 @@ where
         (OrElseTrace I.ends.steps F.FnMut) }
 {}
 
-/// Each hint of `OrElse` brackets what comes, since it says nothing.
+/// Each hint of `OrElse` is sound: it says that at least 0 items come.
 pub fn law_hints_or_else<I: FallibleIterator, E, F: FnMut(I::Error) -> Result<Option<I::Item>, E>>()
 where
     ensures { (s : OrElse I F) → SoundHints ⟦<OrElse<I, F> as FallibleIterator>⟧.contract s }
 {}
 
-/// From both ends `OrElse` lists what its closure makes of each failure of its source's list in the failure's place, where the closure acts as a function.
+/// From both ends `OrElse` lists what its source lists, each failure replaced by what its closure makes of it, if the closure acts as a function.
 pub fn law_listed_or_else<
     I: DoubleEndedFallibleIterator,
     E,

@@ -1,4 +1,4 @@
-// Of the adapters that give groups of items.
+// The laws of the adapters that yield groups of items.
 ghost use Rattle.std.specs.Prelude.{◌≡◌, ℕ, ◌<◌, ◌++◌, ◌∷◌, List, None, Ok, Err, Option, Result, Some, map};
 ghost use Rattle.fallible_iterator.specs.BothEnds.{items_listed, failures_listed};
 ghost use Rattle.fallible_iterator.specs.LawForm.{TracesAre};
@@ -12,7 +12,7 @@ use crate::chunks::Chunks;
 use fallible_iterator::FallibleIterator;
 use std::alloc::AllocError;
 
-/// The answers of `Chunks` are the stop that is due, the items in batches, each where its last item stands or a stop, and each stop behind the batch that was held before it. A refused request is a stop.
+/// The answers of `Chunks` are the stop that is due, and then the source's in batches: each batch stands where its last item or a stop came, and each stop after the batch that was buffered before it. A failed allocation is a stop.
 pub fn law_chunks<I: FallibleIterator>()
 where
     I::Item: Drop,
@@ -21,7 +21,7 @@ where
         (ChunksTrace I.Error.from_gives I.contract.steps) }
 {}
 
-/// The batches of a list joined are its items, each batch has some and at most n, and the failures are the list's. What stands before a failure is batched by itself, and so is what comes after it; where nothing fails each batch has n items but the last.
+/// The batches of a list joined are its items, each batch has some and at most n, and the failures are the list's. What stands before a failure is batched by itself, and so is what comes after it. If nothing fails, each batch but the last has n items.
 pub fn law_chunked<T, E>()
     ensures items { (n : ℕ) → (l : List (Result T E))
         → joined (items_listed (chunked n l)) ≡ items_listed l }
@@ -35,7 +35,7 @@ pub fn law_chunked<T, E>()
         → chunked n (a ++ Err e ∷ b) ≡ chunked n a ++ Err e ∷ chunked n b }
 {}
 
-/// Each hint of `Chunks` is as sound as the hint of its source that it is made of; where a stop is due it is sound by itself.
+/// Each hint of `Chunks` is as sound as the hint of its source that it is made of; if a stop is due it is sound by itself.
 pub fn law_hints_chunks<I: FallibleIterator>()
 where
     I::Item: Drop,
@@ -46,7 +46,7 @@ where
         → SoundHints ⟦<Chunks<I> as FallibleIterator>⟧.contract s }
 {}
 
-/// The answers of `ChunkBy` are the stop that is due, the items in groups of one key, each where the next key differs or a stop stands, and each stop behind the group that was held before it. The closure's failure and a refused request are stops.
+/// The answers of `ChunkBy` are the stop that is due, and then the source's in groups of equal keys: each group stands where the next key differs or a stop came, and each stop after the group that was buffered before it. The closure's failure and a failed allocation are stops.
 pub fn law_chunk_by<I: FallibleIterator, K, F>()
 where
     K: PartialEq + Drop,
@@ -57,7 +57,7 @@ where
         (ChunkByTrace I.Error.from_gives K.eq F.FnMut I.contract.steps) }
 {}
 
-/// The groups of a list joined are its items, where each item has a key. What stands before a failure is grouped by itself, and so is what comes after it.
+/// The groups of a list joined are its items, if each item has a key. What stands before a failure is grouped by itself, and so is what comes after it.
 pub fn law_chunked_by<T, K: PartialEq, E>()
     ensures items { (key : T → K) → (l : List (Result T E))
         → joined (map (λ g. g.1) (items_listed (chunked_by K.eq (λ x. Ok (key x)) l)))
@@ -67,7 +67,7 @@ pub fn law_chunked_by<T, K: PartialEq, E>()
         ≡ chunked_by K.eq h a ++ Err e ∷ chunked_by K.eq h b }
 {}
 
-/// Each hint of `ChunkBy` is as sound as the hint of its source that it is made of; where a stop is due it is sound by itself.
+/// Each hint of `ChunkBy` is as sound as the hint of its source that it is made of; if a stop is due it is sound by itself.
 pub fn law_hints_chunk_by<I: FallibleIterator, K, F>()
 where
     K: PartialEq + Drop,

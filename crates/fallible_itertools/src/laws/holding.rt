@@ -1,4 +1,4 @@
-// Of the adapters that hold.
+// The laws of the adapters that buffer.
 ghost use Rattle.std.specs.Prelude.{◌≡◌, ◌++◌, ◌∷◌, List, Option, Result, Some, None, Err};
 ghost use Rattle.fallible_iterator.specs.LawForm.{TracesAre};
 ghost use Rattle.fallible_iterator.specs.SoundHints.{KeepsBrackets, SoundHints};
@@ -16,7 +16,7 @@ use crate::tuple_windows::TupleWindows;
 use fallible_iterator::FallibleIterator;
 use std::alloc::AllocError;
 
-/// The answers of `Dedup` are the stop that is due, the first of adjacent equal items, each where the next one that differs stands or a stop, and each stop behind what was held before it.
+/// The answers of `Dedup` are the stop that is due, and then the first of adjacent equal items: each stands where the next one that differs or a stop came, and each stop after what was buffered before it.
 pub fn law_dedup<I: FallibleIterator>()
 where
     I::Item: PartialEq + Drop,
@@ -31,7 +31,7 @@ pub fn law_deduped<T: PartialEq, E>()
         → deduped T.eq (a ++ Err e ∷ b) ≡ deduped T.eq a ++ Err e ∷ deduped T.eq b }
 {}
 
-/// Each hint of `Dedup` is as sound as the hint of its source that it is made of; where a stop is due it is sound by itself.
+/// Each hint of `Dedup` is as sound as the hint of its source that it is made of; if a stop is due it is sound by itself.
 pub fn law_hints_dedup<I: FallibleIterator>()
 where
     I::Item: PartialEq + Drop,
@@ -42,7 +42,7 @@ where
         → SoundHints ⟦<Dedup<I> as FallibleIterator>⟧.contract s }
 {}
 
-/// The answers of `Coalesce` are the stop that is due, adjacent items put together, each where the next one that isn't put to it stands or a stop, and each stop behind what was held before it. The closure's failure is a stop.
+/// The answers of `Coalesce` are the stop that is due, and then adjacent items merged: each stands where the next one that isn't merged with it or a stop came, and each stop after what was buffered before it. The closure's failure is a stop.
 pub fn law_coalesce<
     I: FallibleIterator,
     F: FnMut(I::Item, I::Item) -> Result<Result<I::Item, (I::Item, I::Item)>, I::Error>,
@@ -54,13 +54,13 @@ where
         (CoalesceTrace (call_with F.FnMut) I.contract.steps) }
 {}
 
-/// A failure parts a list: what stands before it is put together by itself, and so is what comes after it.
+/// A failure parts a list: what stands before it is merged by itself, and so is what comes after it.
 pub fn law_coalesced<T, E>()
     ensures { (h : T → T → OneOrBoth T E) (a : List (Result T E)) (e : E) (b : List (Result T E))
         → coalesced h (a ++ Err e ∷ b) ≡ coalesced h a ++ Err e ∷ coalesced h b }
 {}
 
-/// Each hint of `Coalesce` is as sound as the hint of its source that it is made of; where a stop is due it is sound by itself.
+/// Each hint of `Coalesce` is as sound as the hint of its source that it is made of; if a stop is due it is sound by itself.
 pub fn law_hints_coalesce<
     I: FallibleIterator,
     F: FnMut(I::Item, I::Item) -> Result<Result<I::Item, (I::Item, I::Item)>, I::Error>,
@@ -76,7 +76,7 @@ where
         → SoundHints ⟦<Coalesce<I, F> as FallibleIterator>⟧.contract s }
 {}
 
-/// The answers of `DedupByKey` are the stop that is due, the first of adjacent items with equal keys, each where the next one that differs stands or a stop, and each stop behind what was held before it. The closure's failure is a stop.
+/// The answers of `DedupByKey` are the stop that is due, and then the first of adjacent items with equal keys: each stands where the next one that differs or a stop came, and each stop after what was buffered before it. The closure's failure is a stop.
 pub fn law_dedup_by_key<
     I: FallibleIterator,
     K: PartialEq + Drop,
@@ -97,7 +97,7 @@ pub fn law_deduped_by_key<T, K: PartialEq, E>()
         ≡ deduped_by_key K.eq h a ++ Err e ∷ deduped_by_key K.eq h b }
 {}
 
-/// Each hint of `DedupByKey` is as sound as the hint of its source that it is made of; where a stop is due it is sound by itself.
+/// Each hint of `DedupByKey` is as sound as the hint of its source that it is made of; if a stop is due it is sound by itself.
 pub fn law_hints_dedup_by_key<
     I: FallibleIterator,
     K: PartialEq + Drop,
@@ -114,7 +114,7 @@ where
         → SoundHints ⟦<DedupByKey<I, K, F> as FallibleIterator>⟧.contract s }
 {}
 
-/// The answers of `TupleWindows` are the source's where each item but the first is replaced by the pair of the one before it and itself, or by the failure made of a refused clone.
+/// The answers of `TupleWindows` are the source's, where each item but the first is replaced by the pair of the one before it and itself, or by the failure of its clone.
 pub fn law_tuple_windows<I: FallibleIterator>()
 where
     I::Item: Clone + Drop,

@@ -6,7 +6,7 @@ ghost use Rattle.fallible_itertools.specs.MergeBy.{MergeByTrace, merge_by_left, 
 use crate::merge_by::MergeBy;
 use fallible_iterator::FallibleIterator;
 
-/// A trace of `MergeBy` has an answer for each place: the left's failure, without a draw of the right, of which what is held stays; the right's failure, behind which the left's item stands at the next place too; else the first of two items by the closure, which holds the other, its failure, an item alone, or an end.
+/// A trace of `MergeBy` has an answer for each position. The left's failure takes no draw of the right, whose buffered item stays. After the right's failure the left's item stands at the next position too. Otherwise the answer is the first of two items by the closure, which buffers the other, or the closure's failure, an item alone, or `Ok(None)`.
 pub fn law_merge_by<
     T: FallibleIterator,
     U: FallibleIterator<Item = T::Item, Error = T::Error>,

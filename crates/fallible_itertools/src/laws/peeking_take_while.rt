@@ -1,4 +1,4 @@
-// The laws of the adapter that leaves the first refused item in the iterator that it borrows.
+// The laws of the adapter that leaves the first rejected item in the iterator that it borrows.
 ghost use Rattle.std.specs.Prelude.{[], ◌∷◌, ◌++◌, Bool, IfSome, List, Result, map};
 ghost use Rattle.fallible_iterator.specs.Closures.{call_at};
 ghost use Rattle.fallible_iterator.specs.LawForm.{TracesAre};
@@ -10,7 +10,7 @@ ghost use Rattle.fallible_itertools.specs.PeekingTakeWhile.{PeekingTrace, rest_b
 use crate::peeking_take_while::{PeekingNext, PeekingTakeWhile};
 use fallible_iterator::FallibleIterator;
 
-/// A trace of `PeekingTakeWhile` is the source's, with the closure's failure in the place of each item on which it failed, and an end in the place of each item that it refuses, which is asked of again at the next place; where it is refused at the last, it stays next in the source.
+/// A trace of `PeekingTakeWhile` is the source's, with the closure's failure in the place of each item on which it failed, and `Ok(None)` in the place of each item that it rejects. The closure is called on that item again at the next position. An item rejected at the last position stays next in the source.
 pub fn law_peeking_take_while<P: PeekingNext, F: FnMut(&P::Item) -> Result<bool, P::Error>>()
 where
     ensures { TracesAre peeking_parts
@@ -26,7 +26,7 @@ where
         (peeking_source s) }
 {}
 
-/// What it leaves: over a source that lists l, with a closure that acts as h, draws up to the end in the place of a refused item leave a source that lists that item and what stands behind it.
+/// What `PeekingTakeWhile` leaves: over a source that lists l, with a closure that acts as h, draws up to `Ok(None)` at a rejected item leave a source that lists that item and what comes after it.
 pub fn law_rest_peeking_take_while<P: PeekingNext, F: FnMut(&P::Item) -> Result<bool, P::Error>>()
 where
     ensures { (s t : PeekingTakeWhile P F) (h : P.Item → Result Bool P.Error)

@@ -1,4 +1,4 @@
-// The laws of the adapter that ends behind the first item which a predicate refuses.
+// The laws of the adapter that ends after the first item that a predicate rejects.
 ghost use Rattle.std.specs.Prelude.{◌≡◌, Result, true, false};
 ghost use Rattle.fallible_iterator.specs.Closures.{call_at};
 ghost use Rattle.fallible_iterator.specs.LawForm.{TracesAre};
@@ -8,7 +8,7 @@ ghost use Rattle.fallible_itertools.specs.TakeWhileInclusive.{InclusiveTrace, in
 use crate::take_while_inclusive::TakeWhileInclusive;
 use fallible_iterator::FallibleIterator;
 
-/// A trace of `TakeWhileInclusive` is the source's, with the predicate's failure in the place of each item on which it failed, up to and with the first item that it refuses; and then ends without draws.
+/// A trace of `TakeWhileInclusive` is the source's, with the predicate's failure in the place of each item on which it failed, up to the first item that it rejects, and that one too; and then `Ok(None)` at each call, without draws.
 pub fn law_take_while_inclusive<I: FallibleIterator, P: FnMut(&I::Item) -> Result<bool, I::Error>>()
 where
     I::Item: Drop,
@@ -17,7 +17,7 @@ where
         (InclusiveTrace I.contract.steps (call_at P.FnMut)) }
 {}
 
-/// Until an item was refused each hint of `TakeWhileInclusive` is as sound as the hint of its source that it is made of; from then on each brackets what comes.
+/// Until an item was rejected each hint of `TakeWhileInclusive` is as sound as the hint of its source that it is made of; from then on each is sound by itself.
 pub fn law_hints_take_while_inclusive<
     I: FallibleIterator,
     P: FnMut(&I::Item) -> Result<bool, I::Error>,

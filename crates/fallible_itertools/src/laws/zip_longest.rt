@@ -6,7 +6,7 @@ ghost use Rattle.fallible_itertools.specs.ZipLongest.{ZipLongestTrace, zip_longe
 use crate::zip_longest::ZipLongest;
 use fallible_iterator::FallibleIterator;
 
-/// A trace of `ZipLongest` has an answer for each place: the left's failure, without a draw of the right; the right's failure, behind which the left's item stands at the next place too; else what both gave, the items of both, an item alone, or an end.
+/// A trace of `ZipLongest` has an answer for each position. The left's failure takes no draw of the right. After the right's failure the left's item stands at the next position too. Otherwise the answer is the items of both, an item alone, or `Ok(None)`.
 pub fn law_zip_longest<T: FallibleIterator, U: FallibleIterator<Error = T::Error>>()
 where
     T::Item: Drop,
