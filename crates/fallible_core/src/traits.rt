@@ -74,24 +74,24 @@ use std::fmt::Debug;
 use std::marker::PhantomData;
 use std::ops::ControlFlow;
 
-/// An iterator whose `next` may fail. It may go on after an end and after a failure.
+/// An iterator whose `next` may fail. It may go on after `Ok(None)` and after a failure.
 ///
 /// A type of one's own writes `next`, `size_hint` and `contract`: its step, and what it says of what is still to come. `counted_contract` of `specs/Contract` makes that of a step and a bound, and a search then finds `lawful`; `listing` of `specs/Showing` makes it of the list that a value shows.
 pub trait FallibleIterator: Drop + Sized {
-    /// What it gives.
+    /// The type of its items.
     type Item;
 
-    /// What it fails with.
+    /// The type of its failures.
     type Error;
 
     // All that the contract says of the values of this type.
     ghost contract: { Contract Self Self.Item Self.Error };
 
-    /// One answer: an item, a failure or an end. The step of the type says which.
+    /// Returns the next item, a failure or `Ok(None)`. The step of the type says which.
     ///
-    /// It is one draw. It fails where the step says so. What is left is what the step says; by the type's law it may be drawn from again.
+    /// It is one draw. It fails where the step says so. What is left is what the step says; by the type's law `next` may be called again.
     ///
-    /// Asks that the type's own condition, `can_next`, holds: a search finds it of what sources and adapters make, and each draw keeps it.
+    /// Requires that the type's own condition, `can_next`, holds: a search finds it for what sources and adapters make, and each draw keeps it.
     ///
     /// ```
     /// let answers: [Result<u32, u32>; 2] = [Ok(1), Err(2)];
@@ -103,7 +103,7 @@ pub trait FallibleIterator: Drop + Sized {
         requires { contract.can_next self.old }
         ensures { contract.steps self.old result self.new };
 
-    /// Bounds on the items of a run up to its first end, where it has no failure, by the type's rule. The clause says the rule; that such bounds hold is said by `laws::hints` of `fallible_iterator`. A type with nothing to say answers `(0, None)`.
+    /// Returns bounds on the number of items up to the first `Ok(None)`, if no failure comes before it, by the type's rule. The clause says the rule; that such bounds hold is said by `laws::hints` of `fallible_iterator`. A type that knows no bounds returns `(0, None)`.
     ///
     /// It draws nothing and never fails. The iterator is as before.
     ///
@@ -114,13 +114,13 @@ pub trait FallibleIterator: Drop + Sized {
     fn size_hint(&self) -> (usize, Option<usize>)
         ensures { contract.hints self.now result };
 
-    /// A bound, for a loop of one's own to count down by; it has no bytes, and only clauses read it.
+    /// Returns a bound, for a loop of one's own to count down by. It has no bytes, and only clauses read it.
     ///
-    /// `let mut left = it.number();` before the loop, `left = left.one_less();` after each item, and `left.value` as the measure: the invariant is that the iterator may be drawn from, and that some bound of it is at most `left.value`.
+    /// `let mut left = it.number();` before the loop, `left = left.one_less();` after each item, and `left.value` as the measure. The invariant is that `next` may be called, and that some bound of the iterator is at most `left.value`.
     ///
     /// It draws nothing and never fails. The iterator is as before.
     ///
-    /// Asks that it is finite.
+    /// Requires that the iterator is finite.
     ///
     /// ```
     /// let mut left = (*it).number();
@@ -137,7 +137,7 @@ pub trait FallibleIterator: Drop + Sized {
         }
     }
 
-    /// For types that override folds: draws until an end, a failure or a turn that stops the fold, and answers as `next` does: none at an end, the failure, or what the turn stopped with. `state` points to all that changes from turn to turn. Every fold goes through it. A caller uses `try_fold`.
+    /// For types that override folds: draws until `Ok(None)`, a failure or a turn that stops the fold. It returns what `next` could: `Ok(None)`, the failure, or what the turn stopped with. `state` points to all that changes from turn to turn. Every fold goes through it. A caller uses `try_fold`.
     fn drive<C, R, K: Turn<C, Self::Item, R>>(
         &mut self,
         state: &mut C,
@@ -165,7 +165,7 @@ pub trait FallibleIterator: Drop + Sized {
         }
     }
 
-    /// For types that override it: draws up to the end or the first failure, and adds one to `number` for each item, also for those before a failure. `count` goes through it. A caller uses `count`.
+    /// For types that override it: draws up to `Ok(None)` or the first failure, and adds one to `number` for each item, also for those before a failure. `count` goes through it. A caller uses `count`.
     fn drive_count(&mut self, number: &mut usize) -> Result<(), Self::Error>
     where
         Self::Item: Drop,
@@ -180,11 +180,11 @@ pub trait FallibleIterator: Drop + Sized {
         }
     }
 
-    /// The number of items up to the end.
+    /// Returns the number of items up to `Ok(None)`.
     ///
-    /// It draws up to the end or the first failure. It fails with that failure. It takes the iterator, and no clause says what is left.
+    /// It draws up to `Ok(None)` or the first failure. It fails with that failure. It consumes the iterator, and no clause says what is left.
     ///
-    /// Asks that it may be drawn from, and that at most `usize::MAX` items are left.
+    /// Requires that `next` may be called, and that at most `usize::MAX` items are left.
     ///
     /// ```
     /// convert(readings.into_iter())
@@ -223,11 +223,11 @@ pub trait FallibleIterator: Drop + Sized {
         }
     }
 
-    /// The last item up to the end; none where no item comes before it.
+    /// Returns the last item before `Ok(None)`; `Ok(None)` if there is none.
     ///
-    /// It draws, fails and takes the iterator as `count` does.
+    /// Draws and errors: as `count`. It consumes the iterator too.
     ///
-    /// Asks that it may be drawn from and is finite.
+    /// Requires that `next` may be called and that the iterator is finite.
     ///
     /// ```
     /// convert(readings.into_iter())
@@ -265,11 +265,11 @@ pub trait FallibleIterator: Drop + Sized {
         self.next()
     }
 
-    /// The item with n items before it; none where an end comes first.
+    /// Returns the item with n items before it; `Ok(None)` if the iterator ends first.
     ///
-    /// It draws at most n + 1 answers: up to that item, or a failure or an end that comes first. It fails with that failure. Nothing is drawn after the answer, and what is left may be drawn from again.
+    /// It draws at most n + 1 times: up to that item, or a failure or `Ok(None)` before it. It fails with that failure. Nothing is drawn after that, and the iterator may be used again.
     ///
-    /// Asks that it may be drawn from.
+    /// Requires that `next` may be called.
     ///
     /// ```
     /// let answers = [Ok(0), Ok(1), Ok(2), Ok(3)];
@@ -292,11 +292,11 @@ pub trait FallibleIterator: Drop + Sized {
         self.drive_nth(n)
     }
 
-    /// Calls the closure on the value so far and each item in order, and answers the last value at the end.
+    /// Calls the closure on the value so far and each item in order, and returns the last value at `Ok(None)`.
     ///
-    /// It draws up to the end, the first failure or an item on which the closure fails. It fails with the iterator's failure, converted, or with the closure's error. Nothing is drawn after the answer that decides, and what is left may be drawn from again.
+    /// It draws up to `Ok(None)`, the first failure or an item on which the closure fails. It fails with the iterator's failure, converted, or with the closure's error. Nothing is drawn after that, and the iterator may be used again.
     ///
-    /// Asks that it may be drawn from and is finite, and that the closure may be called on each item that may come with the value so far.
+    /// Requires that `next` may be called and that the iterator is finite, and that the closure may be called on the value so far and each item that may come.
     ///
     /// ```
     /// let mut above = convert(readings.into_iter()).filter(|reading| Ok(*reading > 100));
@@ -338,11 +338,11 @@ pub trait FallibleIterator: Drop + Sized {
         }
     }
 
-    /// `try_fold` on the iterator itself, where the closure fails with the iterator's own error.
+    /// As `try_fold`, but the closure fails with the iterator's own error, and the iterator is consumed.
     ///
-    /// It draws up to the end, the first failure or an item on which the closure fails. It fails with the failure that comes first, of this iterator or of the closure. It takes the iterator, and no clause says what is left.
+    /// It draws up to `Ok(None)`, the first failure or an item on which the closure fails. It fails with the first failure, of this iterator or of the closure. No clause says what is left.
     ///
-    /// Asks what `try_fold` asks.
+    /// Requires what `try_fold` requires.
     ///
     /// ```
     /// convert(readings.into_iter()).fold(
@@ -366,9 +366,9 @@ pub trait FallibleIterator: Drop + Sized {
         self.try_fold(init, f)
     }
 
-    /// `fold` from the first item on: that item is the value so far, and the closure is called on it and each further item. None where no item comes.
+    /// As `fold`, from the first item on: that item is the value so far, and the closure is called on it and each further item. It returns `Ok(None)` if no item comes.
     ///
-    /// It draws, fails, asks and takes the iterator as `fold` does.
+    /// Draws, errors and precondition: as `fold`. It consumes the iterator too.
     ///
     /// ```
     /// convert(readings.into_iter()).reduce(|sum, reading| Ok(sum.wrapping_add(reading)))
@@ -396,7 +396,7 @@ pub trait FallibleIterator: Drop + Sized {
         }
     }
 
-    /// For types that override searches: draws until the test accepts an item or fails on it, a failure or an end comes. `find` goes through it, which a caller uses.
+    /// For types that override searches: draws until the test accepts an item or fails on it, or a failure or `Ok(None)` comes. `find` goes through it, which a caller uses.
     fn drive_find<C, K: Test<C, Self::Item, Self::Error>>(
         &mut self,
         state: &mut C,
@@ -417,11 +417,11 @@ pub trait FallibleIterator: Drop + Sized {
     // What the other functions know of a draw: see `KeptByDraw`.
     ghost lawful: { Lawful contract };
 
-    /// Replaces each item by the closure's answer on it.
+    /// Yields what the closure returns for each item.
     ///
-    /// Making it draws nothing and calls nothing. One call draws one answer. It fails as the source does. Where the closure fails, its failure is the answer, and the item is lost. After a failure and after an end the next call draws the source again.
+    /// Creating it draws nothing and calls nothing. `next` draws once. It fails as the source does. If the closure fails, its failure is yielded, and the item is lost. After a failure and after `Ok(None)` the next call draws again.
     ///
-    /// Asks that the closure may be called on each item that may come, in each state that such calls bring it to.
+    /// Requires that the closure may be called on each item that may come, in each state that such calls bring it to.
     ///
     /// ```
     /// convert(readings.into_iter())
@@ -440,11 +440,11 @@ pub trait FallibleIterator: Drop + Sized {
         Map { it: self, f }
     }
 
-    /// Keeps the items to which the predicate answers true, and loses those to which it answers false.
+    /// Yields the items for which the predicate returns true. The others are dropped.
     ///
-    /// Making it draws nothing and calls nothing. One call draws until an item is kept, a failure comes or an end. It fails as the source does. Where the predicate fails, its failure is the answer, and the item is lost. After a failure and after an end the next call goes on.
+    /// Creating it draws nothing and calls nothing. `next` draws until an item is kept, or a failure or `Ok(None)` comes. It fails as the source does. If the predicate fails, its failure is yielded, and the item is lost. After a failure and after `Ok(None)` the next call draws again.
     ///
-    /// Asks that it is finite, since one call may leave many items out, and of the predicate what `map` asks of its closure. Draws ask that items can be let go.
+    /// Requires that the iterator is finite, since one call may leave many items out, and of the predicate what `map` requires of its closure. `next` requires `Item: Drop`.
     ///
     /// ```
     /// convert(numbers.iter().copied().map(Ok))
@@ -465,9 +465,9 @@ pub trait FallibleIterator: Drop + Sized {
         Filter { it: self, f }
     }
 
-    /// Gives the source's answers up to the n-th item, and then ends. Failures and ends of the source pass, and don't count.
+    /// Yields the source's items up to the n-th, and then `Ok(None)`. Failures and `Ok(None)` of the source pass, and don't count.
     ///
-    /// Making it draws nothing. One call draws one answer, and none after the n-th item. It fails as the source does. Up to the n-th item it goes on as `map`. After that item it ends for good.
+    /// Creating it draws nothing. `next` draws once, and nothing after the n-th item. It fails as the source does. Up to the n-th item it behaves as `map` after a failure and after `Ok(None)`. After that item each call returns `Ok(None)`.
     ///
     /// ```
     /// Bytes { reader }
@@ -488,11 +488,11 @@ pub trait FallibleIterator: Drop + Sized {
         }
     }
 
-    /// Gives the items before the first one that the predicate refuses, which is lost, and ends there.
+    /// Yields the items before the first one that the predicate rejects. That one is lost, and the adapter is exhausted.
     ///
-    /// Up to the refused item it is made, draws, fails and goes on as `map`. After that item it draws nothing, and ends for good.
+    /// Up to the rejected item: laziness, draws, errors and behaviour after `Ok(None)` as `map`. After that item it draws nothing, and each call returns `Ok(None)`.
     ///
-    /// Asks of the predicate what `map` asks of its closure. Draws ask that items can be let go.
+    /// Requires of the predicate what `map` requires of its closure. `next` requires `Item: Drop`.
     ///
     /// ```
     /// convert(readings.into_iter())
@@ -517,9 +517,9 @@ pub trait FallibleIterator: Drop + Sized {
         }
     }
 
-    /// Gives the source's answers up to its first end, and ends for good there.
+    /// Yields what the source yields up to its first `Ok(None)`. From there on each call returns `Ok(None)`.
     ///
-    /// Making it draws nothing. One call draws one answer, and none after that end. It fails as the source does. A failure ends nothing: the next call draws the source again.
+    /// Creating it draws nothing. `next` draws once, and nothing after that `Ok(None)`. It fails as the source does. A failure doesn't exhaust it: the next call draws again.
     ///
     /// ```
     /// let mut source = ended_after_two(rt.alloc())?;
@@ -542,11 +542,11 @@ pub trait FallibleIterator: Drop + Sized {
         }
     }
 
-    /// Leaves out the first n items.
+    /// Skips the first n items.
     ///
-    /// Making it draws nothing. One call draws at most n + 1 answers. It fails as the source does. A failure or an end that comes among the first n items is the answer, and the rest of them is left out after it.
+    /// Creating it draws nothing. `next` draws at most n + 1 times. It fails as the source does. A failure or an `Ok(None)` among the first n items is returned, and the rest of them is skipped after it.
     ///
-    /// Asks nothing. Draws ask that items can be let go.
+    /// Requires nothing. `next` requires `Item: Drop`.
     ///
     /// ```
     /// convert(readings.into_iter())
@@ -564,11 +564,11 @@ pub trait FallibleIterator: Drop + Sized {
         }
     }
 
-    /// Keeps the first item, and then one item at each step, so that of each `step` items one is kept. Failures and ends pass, and don't count.
+    /// Yields the first item, and then every `step`-th one. Failures and `Ok(None)` pass, and don't count.
     ///
-    /// Making it draws nothing. One call draws at most `step` answers. It fails as the source does. After a failure and after an end it counts on.
+    /// Creating it draws nothing. `next` draws at most `step` times. It fails as the source does. After a failure and after `Ok(None)` it goes on counting.
     ///
-    /// Asks that the step is at least 1. Draws ask that items can be let go.
+    /// Requires that the step is at least 1. `next` requires `Item: Drop`.
     ///
     /// ```
     /// let answers = [Ok(0), Ok(1), Ok(2), Ok(3), Ok(4)];
@@ -591,11 +591,11 @@ pub trait FallibleIterator: Drop + Sized {
         }
     }
 
-    /// Replaces each item by the value that the closure answers on it, and leaves it out where the answer is none.
+    /// Yields the values that the closure returns for the items. An item for which it returns `None` is left out.
     ///
-    /// It is made, draws, fails and goes on as `filter`.
+    /// Laziness, draws, errors and behaviour after `Ok(None)`: as `filter`.
     ///
-    /// Asks that it is finite, as `filter` does, and of the closure what `map` asks.
+    /// Requires that the iterator is finite, as `filter` does, and of the closure what `map` requires.
     ///
     /// ```
     /// let answers = [Ok(1), Ok(2), Ok(3), Ok(4)];
@@ -617,11 +617,11 @@ pub trait FallibleIterator: Drop + Sized {
         FilterMap { it: self, f }
     }
 
-    /// Shows each item to the closure, and answers it then.
+    /// Calls the closure on a reference to each item, and then yields the item.
     ///
-    /// It is made, draws, fails and goes on as `map`.
+    /// Laziness, draws, errors and behaviour after `Ok(None)`: as `map`.
     ///
-    /// Asks what `map` asks, of calls on a reference to each item. Draws ask that items can be let go.
+    /// Requires what `map` requires, of calls on a reference to each item. `next` requires `Item: Drop`.
     ///
     /// ```
     /// let answers = [Ok(1), Ok(2), Ok(3)];
@@ -640,11 +640,11 @@ pub trait FallibleIterator: Drop + Sized {
         Inspect { it: self, f }
     }
 
-    /// Replaces each failure by the closure's value on it, which is called once for each failure and for nothing else.
+    /// Replaces each failure by what the closure returns for it. The closure is called once on each failure, and on nothing else.
     ///
-    /// It is made, draws and goes on as `map`. It fails where the source does, with the closure's value.
+    /// Laziness, draws and behaviour after `Ok(None)`: as `map`. It fails where the source does, with what the closure returns.
     ///
-    /// Asks that the closure may be called on each failure that may come.
+    /// Requires that the closure may be called on each failure that may come.
     ///
     /// ```
     /// let answers = [Ok(1), Err(5)];
@@ -664,11 +664,11 @@ pub trait FallibleIterator: Drop + Sized {
         MapErr { it: self, f }
     }
 
-    /// Puts each item beside the number of items drawn before it, from 0 on; failures and ends don't count.
+    /// Pairs each item with the number of items before it, from 0 on. Failures and `Ok(None)` don't count.
     ///
-    /// It is made, draws and goes on as `map`. It fails as the source does.
+    /// Laziness, draws and behaviour after `Ok(None)`: as `map`. It fails as the source does.
     ///
-    /// Asks that at most `usize::MAX` items are still to come, so that each number fits. Draws ask that items can be let go, as its `count` and `nth` do.
+    /// Requires that at most `usize::MAX` items are still to come, so that each number fits. `next` requires `Item: Drop`, and so do its `count` and `nth`.
     ///
     /// ```
     /// convert(readings.into_iter()).enumerate().unzip(alloc)
@@ -684,11 +684,11 @@ pub trait FallibleIterator: Drop + Sized {
         Enumerate { it: self, count: 0 }
     }
 
-    /// Leaves out the items before the first one to which the predicate answers false, and asks it no more from there on.
+    /// Skips the items before the first one for which the predicate returns false. The predicate isn't called after that.
     ///
-    /// It is made, draws, fails and goes on as `filter`. Where the predicate fails, the skipping goes on.
+    /// Laziness, draws, errors and behaviour after `Ok(None)`: as `filter`. If the predicate fails, the skipping goes on.
     ///
-    /// Asks that it is finite, as `filter` does, and that the predicate may be called on a reference to each item that may come until it first answers false. Draws ask that items can be let go.
+    /// Requires that the iterator is finite, as `filter` does, and that the predicate may be called on a reference to each item that may come until it first returns false. `next` requires `Item: Drop`.
     ///
     /// ```
     /// convert(readings.into_iter())
@@ -716,9 +716,9 @@ pub trait FallibleIterator: Drop + Sized {
         }
     }
 
-    /// Replaces each item by the value that the closure answers on it, up to the first none, which is an end.
+    /// Yields the values that the closure returns for the items. Where it returns `None`, the adapter returns `Ok(None)`.
     ///
-    /// It is made, draws, fails, asks and goes on as `map`, also after a none.
+    /// Laziness, draws, errors, precondition and behaviour after `Ok(None)`: as `map`, also after a `None` of the closure.
     ///
     /// ```
     /// convert(readings.into_iter())
@@ -737,11 +737,11 @@ pub trait FallibleIterator: Drop + Sized {
         MapWhile { it: self, f }
     }
 
-    /// Replaces each item by the closure's answer on the state and the item, where none is an end.
+    /// Yields the values that the closure returns for the state and each item. Where it returns `None`, the adapter returns `Ok(None)`.
     ///
-    /// It is made, draws, fails and goes on as `map`, also after a none. The state stays as the closure left it.
+    /// Laziness, draws, errors and behaviour after `Ok(None)`: as `map`, also after a `None` of the closure. The state stays as the closure left it.
     ///
-    /// Asks that the closure may be called on each item that may come, with each state that such calls lead to.
+    /// Requires that the closure may be called on each item that may come, with each state that such calls lead to.
     ///
     /// ```
     /// convert(readings.into_iter())
@@ -769,9 +769,9 @@ pub trait FallibleIterator: Drop + Sized {
         }
     }
 
-    /// Replaces each item by a clone of what it points to.
+    /// Yields a clone of what each item points to.
     ///
-    /// It is made, draws and goes on as `map`. It fails as the source does. Where the clone is refused, the failure made of the refusal is the answer, and the item is lost.
+    /// Laziness, draws and behaviour after `Ok(None)`: as `map`. It fails as the source does. If a clone can't be allocated, the failure converted from `AllocError` is yielded, and the item is lost.
     ///
     /// ```
     /// let items = [1, 2, 3];
@@ -794,11 +794,11 @@ pub trait FallibleIterator: Drop + Sized {
         Cloned { it: self }
     }
 
-    /// Swaps the ends: a draw from the adapter is a draw from the back, and the other way round.
+    /// Swaps the two ends: a draw from the front of the adapter is a draw from the back of the source, and the other way round.
     ///
-    /// One call draws one answer, from the other end. It fails as that draw does. It is made and goes on as `map`.
+    /// Each call draws once, from the other end. It fails as that draw does. Laziness and behaviour after `Ok(None)`: as `map`.
     ///
-    /// Asks nothing. Each draw asks that the source may be drawn from, from either end.
+    /// Requires nothing. `next` requires that `next` and `next_back` may be called on the source.
     ///
     /// ```
     /// convert(readings.into_iter()).rev().collect(alloc)
@@ -814,11 +814,11 @@ pub trait FallibleIterator: Drop + Sized {
         Rev { it: self }
     }
 
-    /// Gives the answers up to the first end, and then those of `it`.
+    /// Yields what this iterator yields up to its first `Ok(None)`, and then what `it` yields.
     ///
-    /// Making it draws nothing. It calls `into_fallible_iter` once, and keeps what that gives. One call draws one answer; the draw that meets the first end draws `it` at once. It fails as the side does that is drawn: a failure passes, and changes no side. From the first end on only `it` is drawn.
+    /// Creating it draws nothing. It calls `into_fallible_iter` once, and keeps the iterator. `next` draws once; if that draw is the first `Ok(None)`, it draws `it` in the same call. It fails as the side does that is drawn. A failure passes, and changes no side. From the first `Ok(None)` on only `it` is drawn.
     ///
-    /// Asks nothing. Each draw asks that both sides may be drawn from.
+    /// Requires nothing. `next` requires that it may be called on both sides.
     ///
     /// ```
     /// convert(left.iter().copied().map(Ok))
@@ -843,11 +843,11 @@ pub trait FallibleIterator: Drop + Sized {
         }
     }
 
-    /// Pairs each item with one of `o`. Two items make a pair, and where neither fails, an end of either is an end.
+    /// Pairs each item with one of `o`. If neither side fails and one of them returns `Ok(None)`, so does the adapter.
     ///
-    /// It is made as `chain`. One call draws one answer, and then, where that isn't a failure, one of `o`, also at an end. It fails as this iterator does, or else as `o` does. An item beside a failure or an end is lost, and the next call draws both again.
+    /// Laziness: as `chain`. `next` draws once. Then, unless that failed, it draws `o` once, also after an `Ok(None)`. It fails as this iterator does, or else as `o` does. An item beside a failure or an `Ok(None)` is lost, and the next call draws both again.
     ///
-    /// Asks nothing. Draws ask that both sides may be drawn from, and that items can be let go.
+    /// Requires nothing. `next` requires that it may be called on both sides, and `Item: Drop`.
     ///
     /// ```
     /// (&mut left).zip(&mut right).draw()?;
@@ -877,11 +877,11 @@ pub trait FallibleIterator: Drop + Sized {
         }
     }
 
-    /// Joins the answers of the inner iterators that the items become: the one in hand answers until its end, at which it is dropped, and then the next item is drawn.
+    /// Yields what the inner iterators yield that the items become. The current one is drawn until its `Ok(None)`, and is dropped then. Then the next item is drawn.
     ///
-    /// Making it draws nothing. One call draws the inner iterator in hand, and this one only where none is in hand, or it ended. It fails as either does. A failure of the inner iterator keeps it in hand. After a failure or an end of this iterator the next call draws from it again.
+    /// Creating it draws nothing. `next` draws the current inner iterator, and this one only if there is no current one, or it ended. It fails as either does. After a failure of the inner iterator it stays the current one. After a failure or an `Ok(None)` of this iterator the next call draws this iterator again.
     ///
-    /// Asks that it is finite, since many inner iterators may end at once. Each draw asks that the inner iterator in hand and each that may come may be drawn from; a drain also asks that the one in hand is finite, and one bound that serves for each that may come.
+    /// Requires that the iterator is finite, since many inner iterators may end in one call. `next` requires that it may be called on the current inner iterator and on each that may come. A drain also requires that the current one is finite, and one bound that serves for each that may come.
     ///
     /// ```
     /// let inner = IntoFallible::from(1..3u32);
@@ -908,11 +908,11 @@ pub trait FallibleIterator: Drop + Sized {
         }
     }
 
-    /// Joins the answers of the inner iterators that the closure makes of the items, as `flatten` does.
+    /// Yields what the inner iterators yield that the closure makes of the items, as `flatten`.
     ///
-    /// It is made, draws, fails and goes on as `flatten` of `map`.
+    /// Laziness, draws, errors and behaviour after `Ok(None)`: as `flatten` of `map`.
     ///
-    /// Asks what `flatten` asks, at its making, a draw and a drain, and of the closure what `map` asks.
+    /// Requires what `flatten` requires, at its creation, at `next` and at a drain, and of the closure what `map` requires.
     ///
     /// ```
     /// convert(bounds.into_iter())
@@ -944,13 +944,13 @@ pub trait FallibleIterator: Drop + Sized {
         }
     }
 
-    /// Makes a collection of the items up to the end. Of equal items a set keeps the first; a map keeps the first of equal keys, with its last value.
+    /// Returns a collection of the items up to `Ok(None)`. Of equal items a set keeps the first; a map keeps the first of equal keys, with its last value.
     ///
-    /// It draws up to the end, the first failure or an item that the collection refuses. That the collection is made before the first draw, so that nothing is drawn where it is refused, and that no room is taken ahead, is tested and no part of the contract.
+    /// It draws up to `Ok(None)`, the first failure or an item that the collection rejects. Tested, not proved: the collection is created before the first draw, so nothing is drawn if that fails, and no capacity is reserved.
     ///
-    /// It fails with `Fault::Source` of the first failure, and with `Fault::Memory` where the collection refused: it is of a type whose making may be refused, or the item that it refused was the last one drawn. Of a collection that never refuses `Fault::Memory` is never answered. It takes the iterator, and no clause says what is left.
+    /// It fails with `Fault::Source` of the first failure. It fails with `Fault::Memory` if the collection fails with an `AllocError`: at its creation, if that of its type may fail, or at the last item drawn. For a collection that never fails `Fault::Memory` is never returned. It consumes the iterator, and no clause says what is left.
     ///
-    /// Asks that it may be drawn from and is finite.
+    /// Requires that `next` may be called and that the iterator is finite.
     ///
     /// ```
     /// convert(readings.into_iter())
@@ -983,11 +983,11 @@ pub trait FallibleIterator: Drop + Sized {
         }
     }
 
-    /// Makes two collections of the items up to the end: of those on which the predicate answers true, and of the others. The predicate is called once on each item. Of equal items they keep what those of `collect` keep.
+    /// Returns two collections of the items up to `Ok(None)`: of those for which the predicate returns true, and of the others. The predicate is called once on each item. Of equal items they keep what `collect` keeps.
     ///
-    /// It draws, fails and takes the iterator as `collect` does. It stops also where the predicate fails, with `Fault::Source` of its failure.
+    /// Draws and errors: as `collect`. It consumes the iterator too. If the predicate fails, it stops and fails with `Fault::Source` of that failure.
     ///
-    /// Asks that it may be drawn from and is finite, and that the predicate may be called on each item that may come.
+    /// Requires that `next` may be called and that the iterator is finite, and that the predicate may be called on each item that may come.
     ///
     /// ```
     /// convert(readings.into_iter())
@@ -1033,9 +1033,9 @@ pub trait FallibleIterator: Drop + Sized {
         }
     }
 
-    /// The first halves of the pairs up to the end in one collection, and the second halves in another. Of equal items they keep what those of `collect` keep.
+    /// Returns the first halves of the pairs up to `Ok(None)` in one collection, and the second halves in another. Of equal items they keep what `collect` keeps.
     ///
-    /// It draws, fails, asks and takes the iterator as `collect` does. Before a failure of the source all pairs were accepted. A pair that is refused is lost.
+    /// Draws, errors and precondition: as `collect`. It consumes the iterator too. Before a failure of the source all pairs were accepted. A pair that is rejected is lost.
     ///
     /// ```
     /// convert(readings.into_iter()).enumerate().unzip(alloc)
@@ -1075,11 +1075,11 @@ pub trait FallibleIterator: Drop + Sized {
         }
     }
 
-    /// Calls the closure on each item in order, up to the end.
+    /// Calls the closure on each item in order, up to `Ok(None)`.
     ///
-    /// It draws, fails and takes the iterator as `fold` does.
+    /// Draws and errors: as `fold`. It consumes the iterator too.
     ///
-    /// Asks that it may be drawn from and is finite, and that the closure may be called on each item that may come.
+    /// Requires that `next` may be called and that the iterator is finite, and that the closure may be called on each item that may come.
     ///
     /// ```
     /// (s.by_ref().for_each(accept), s.next())
@@ -1100,11 +1100,11 @@ pub trait FallibleIterator: Drop + Sized {
         answer_or(self.drive(&mut f, &ForEachTurn), ())
     }
 
-    /// Whether the predicate answers true on each item up to the end.
+    /// Returns whether the predicate returns true for each item up to `Ok(None)`.
     ///
-    /// It draws up to the first item on which the predicate answers false or fails, the first failure or the end. It fails with the failure that comes first, of this iterator or of the predicate. Nothing is drawn after the answer that decides, and what is left may be drawn from again.
+    /// It draws up to the first item on which the predicate returns false or fails, the first failure or `Ok(None)`. It fails with the first failure, of this iterator or of the predicate. Nothing is drawn after that, and the iterator may be used again.
     ///
-    /// Asks that it may be drawn from and is finite, and that the predicate may be called on each item that may come until it decides.
+    /// Requires that `next` may be called and that the iterator is finite, and that the predicate may be called on each item that may come until it decides.
     ///
     /// ```
     /// convert(readings.into_iter())
@@ -1131,9 +1131,9 @@ pub trait FallibleIterator: Drop + Sized {
         answer_or(self.drive(&mut f, &AllTurn), true)
     }
 
-    /// Whether the predicate answers true on an item before the end.
+    /// Returns whether the predicate returns true for an item before `Ok(None)`.
     ///
-    /// It draws up to the first item on which the predicate answers true or fails, the first failure or the end. All else is as with `all`.
+    /// It draws up to the first item on which the predicate returns true or fails, the first failure or `Ok(None)`. Errors, precondition and what is left: as `all`.
     ///
     /// ```
     /// convert(readings.into_iter())
@@ -1160,9 +1160,9 @@ pub trait FallibleIterator: Drop + Sized {
         answer_or(self.drive(&mut f, &AnyTurn), false)
     }
 
-    /// The first item for which the predicate is true; none where no such item comes before the end.
+    /// Returns the first item for which the predicate returns true; `Ok(None)` if there is none.
     ///
-    /// It draws up to the first item on which the predicate answers true or fails, the first failure or the end, and calls the predicate on each item drawn, in order. All else is as with `all`, of calls on a reference to each item.
+    /// It draws up to the first item on which the predicate returns true or fails, the first failure or `Ok(None)`. It calls the predicate on a reference to each item drawn, in order. Errors, precondition and what is left: as `all`.
     ///
     /// ```
     /// let mut left = convert(readings.into_iter());
@@ -1192,9 +1192,9 @@ pub trait FallibleIterator: Drop + Sized {
         self.drive_find(&mut f, &FindTest)
     }
 
-    /// The first value that the closure answers on the items in order, each of which it is called on once; none where no value comes before the end.
+    /// Returns the first value that the closure returns for the items in order; `Ok(None)` if there is none. The closure is called once on each item drawn.
     ///
-    /// It draws up to the first item on which the closure answers a value or fails, the first failure or the end. All else is as with `all`.
+    /// It draws up to the first item on which the closure returns a value or fails, the first failure or `Ok(None)`. Errors, precondition and what is left: as `all`.
     ///
     /// ```
     /// let found = it.find_map(|x: u32| {
@@ -1224,9 +1224,9 @@ pub trait FallibleIterator: Drop + Sized {
         answer_or_none(self.drive(&mut f, &FindMapTurn))
     }
 
-    /// How many items come before the first one on which the predicate answers true; none where no such item comes before the end.
+    /// Returns how many items come before the first one for which the predicate returns true; `Ok(None)` if there is none.
     ///
-    /// It draws up to the first item on which the predicate answers true or fails, the first failure or the end. In place of a bound it asks that at most `usize::MAX` items are left. All else is as with `all`.
+    /// It draws up to the first item on which the predicate returns true or fails, the first failure or `Ok(None)`. Errors, precondition and what is left: as `all`. Instead of a bound it requires that at most `usize::MAX` items are left.
     ///
     /// ```
     /// match it.position(|x| Ok(x == 0))? {
@@ -1253,11 +1253,11 @@ pub trait FallibleIterator: Drop + Sized {
         answer_or_none(self.drive(&mut (0, f), &PositionTurn))
     }
 
-    /// The greatest item, of equal ones the last; none where no item comes before the end.
+    /// Returns the greatest item, of equal ones the last; `Ok(None)` if no item comes.
     ///
-    /// It draws, fails and takes the iterator as `count` does.
+    /// Draws and errors: as `count`. It consumes the iterator too.
     ///
-    /// Asks that it may be drawn from and is finite.
+    /// Requires that `next` may be called and that the iterator is finite.
     ///
     /// ```
     /// convert(readings.into_iter())
@@ -1278,7 +1278,7 @@ pub trait FallibleIterator: Drop + Sized {
         best_by(self, Ordering::Greater, compare)
     }
 
-    /// The least item. All else is as with `max`.
+    /// Returns the least item, of equal ones the last; `Ok(None)` if no item comes. Draws, errors and precondition: as `max`.
     ///
     /// ```
     /// convert(readings.into_iter())
@@ -1301,11 +1301,11 @@ pub trait FallibleIterator: Drop + Sized {
         best_by(self, Ordering::Less, compare)
     }
 
-    /// The item of the greatest key, of equal ones the last; none where no item comes before the end. The closure makes the key of each item once, in order.
+    /// Returns the item with the greatest key, of equal ones the last; `Ok(None)` if no item comes. The closure is called once on each item, in order, and returns its key.
     ///
-    /// It draws, fails and takes the iterator as `fold` does.
+    /// Draws and errors: as `fold`. It consumes the iterator too.
     ///
-    /// Asks that it may be drawn from and is finite, and that the closure may be called on each item that may come.
+    /// Requires that `next` may be called and that the iterator is finite, and that the closure may be called on each item that may come.
     ///
     /// ```
     /// let it = convert(answers.iter().copied());
@@ -1331,7 +1331,7 @@ pub trait FallibleIterator: Drop + Sized {
         without_key(best_by_key(self, Ordering::Greater, f))
     }
 
-    /// The item of the least key. All else is as with `max_by_key`.
+    /// Returns the item with the least key, of equal ones the last; `Ok(None)` if no item comes. Draws, errors and precondition: as `max_by_key`.
     ///
     /// ```
     /// let it = convert(answers.iter().copied());
@@ -1353,11 +1353,11 @@ pub trait FallibleIterator: Drop + Sized {
         without_key(best_by_key(self, Ordering::Less, f))
     }
 
-    /// The greatest item by the closure, which is called on the best item so far and the next one; of equal ones the last, and none where no item comes before the end.
+    /// Returns the greatest item by the closure, of equal ones the last; `Ok(None)` if no item comes. The closure is called on the best item so far and the next one.
     ///
-    /// It draws, fails and takes the iterator as `fold` does.
+    /// Draws and errors: as `fold`. It consumes the iterator too.
     ///
-    /// Asks that it may be drawn from and is finite, and that the closure may be called on the best item so far and each item that may come.
+    /// Requires that `next` may be called and that the iterator is finite, and that the closure may be called on the best item so far and each item that may come.
     ///
     /// ```
     /// let it = convert(answers.iter().copied());
@@ -1378,7 +1378,7 @@ pub trait FallibleIterator: Drop + Sized {
         best_by(self, Ordering::Greater, f)
     }
 
-    /// The least item by the closure. All else is as with `max_by`.
+    /// Returns the least item by the closure, of equal ones the last; `Ok(None)` if no item comes. Draws, errors and precondition: as `max_by`.
     ///
     /// ```
     /// let mut it = convert(answers.iter().copied());
@@ -1402,11 +1402,11 @@ pub trait FallibleIterator: Drop + Sized {
         best_by(self, Ordering::Less, f)
     }
 
-    /// How the two compare by the order of their items: as the first two items that aren't equal; where there are none, the side that ends alone is less.
+    /// Compares two iterators by the order of their items. The first two that aren't equal decide. If there are none, the side that ends alone is less.
     ///
-    /// It draws in rounds, this iterator and then the other, until a failure, an end or two items that decide. Where this one ended, the other is still drawn in that round; where this one failed, it is not. It fails with the failure that comes first: in each round one of this iterator before one of the other. It takes both, and no clause says what is left.
+    /// It draws in rounds, this iterator and then the other, until a failure, an `Ok(None)` or two items that decide. If this one returned `Ok(None)`, the other is still drawn in that round; if this one failed, it is not. It fails with the first failure: in each round one of this iterator comes before one of the other. It consumes both, and no clause says what is left.
     ///
-    /// Asks that both sides may be drawn from, and that one of them is finite.
+    /// Requires that `next` may be called on both sides and that one of them is finite.
     ///
     /// ```
     /// convert(left.into_iter())
@@ -1432,9 +1432,9 @@ pub trait FallibleIterator: Drop + Sized {
         ordered(answer)
     }
 
-    /// How the two compare by the order of their items: as the first two items that aren't equal, none where those have no order, and where there are none, the side that ends alone is less.
+    /// Compares two iterators by the partial order of their items. The first two that aren't equal decide; if they can't be compared, it returns `Ok(None)`. If there are none, the side that ends alone is less.
     ///
-    /// Draws, fails and asks as `cmp` does.
+    /// Draws, errors and precondition: as `cmp`.
     ///
     /// ```
     /// convert(left.into_iter())
@@ -1459,9 +1459,9 @@ pub trait FallibleIterator: Drop + Sized {
         compare::<Self, I::IntoFallibleIter, ByPartialCmp>(self, other.into_fallible_iter())
     }
 
-    /// Whether the two give equal items, one by one, and end together.
+    /// Returns whether the two yield equal items, one by one, and end together.
     ///
-    /// Draws, fails and asks as `cmp` does.
+    /// Draws, errors and precondition: as `cmp`.
     ///
     /// ```
     /// convert(left.into_iter()).eq(convert(right.into_iter()))
@@ -1484,9 +1484,9 @@ pub trait FallibleIterator: Drop + Sized {
         compare_read::<Self, I, ByEq, ReadEq>(self, other)
     }
 
-    /// Whether the two differ: the opposite of `eq`.
+    /// Returns whether the two differ: the opposite of `eq`.
     ///
-    /// Draws, fails and asks as `cmp` does.
+    /// Draws, errors and precondition: as `cmp`.
     ///
     /// ```
     /// convert(left.into_iter())
@@ -1511,9 +1511,9 @@ pub trait FallibleIterator: Drop + Sized {
         compare_read::<Self, I, ByEq, ReadNe>(self, other)
     }
 
-    /// Whether this one is less than the other, by `partial_cmp`; false where two items have no order.
+    /// Returns whether this one is less than the other, by `partial_cmp`; false if two items can't be compared.
     ///
-    /// Draws, fails and asks as `cmp` does.
+    /// Draws, errors and precondition: as `cmp`.
     ///
     /// ```
     /// let mut right = convert(right.iter().copied());
@@ -1538,9 +1538,9 @@ pub trait FallibleIterator: Drop + Sized {
         compare_read::<Self, I, ByPartialCmp, ReadLt>(self, other)
     }
 
-    /// Whether this one is less than the other or equal, by `partial_cmp`; false where two items have no order.
+    /// Returns whether this one is less than the other or equal, by `partial_cmp`; false if two items can't be compared.
     ///
-    /// Draws, fails and asks as `cmp` does.
+    /// Draws, errors and precondition: as `cmp`.
     ///
     /// ```
     /// convert(left.into_iter()).le(convert(right.into_iter()).map(|reading: u32| Ok(
@@ -1565,9 +1565,9 @@ pub trait FallibleIterator: Drop + Sized {
         compare_read::<Self, I, ByPartialCmp, ReadLe>(self, other)
     }
 
-    /// Whether this one is greater than the other, by `partial_cmp`; false where two items have no order.
+    /// Returns whether this one is greater than the other, by `partial_cmp`; false if two items can't be compared.
     ///
-    /// Draws, fails and asks as `cmp` does.
+    /// Draws, errors and precondition: as `cmp`.
     ///
     /// ```
     /// convert(left.into_iter()).gt(convert(right.into_iter()).filter(|reading| Ok(*reading > 100)))
@@ -1590,9 +1590,9 @@ pub trait FallibleIterator: Drop + Sized {
         compare_read::<Self, I, ByPartialCmp, ReadGt>(self, other)
     }
 
-    /// Whether this one is greater than the other or equal, by `partial_cmp`; false where two items have no order.
+    /// Returns whether this one is greater than the other or equal, by `partial_cmp`; false if two items can't be compared.
     ///
-    /// Draws, fails and asks as `cmp` does.
+    /// Draws, errors and precondition: as `cmp`.
     ///
     /// ```
     /// convert(left.into_iter())
@@ -1617,9 +1617,9 @@ pub trait FallibleIterator: Drop + Sized {
         compare_read::<Self, I, ByPartialCmp, ReadGe>(self, other)
     }
 
-    /// Lets the next answer be looked at ahead: an item or an end that `peek` saw is held, and comes first.
+    /// Lets `peek` look at what comes next. What `peek` saw, an item or an `Ok(None)`, is buffered, and comes first.
     ///
-    /// Making it draws nothing, and holds nothing. One call draws one answer, and none where an answer is held. It fails as the source does. It goes on as `map`.
+    /// Creating it draws nothing, and buffers nothing. `next` draws once, and nothing if something is buffered. It fails as the source does. Behaviour after a failure and after `Ok(None)`: as `map`.
     ///
     /// ```
     /// let mut ahead = it.peekable();
@@ -1637,13 +1637,13 @@ pub trait FallibleIterator: Drop + Sized {
         }
     }
 
-    /// Begins anew at each end, with a clone of this iterator, which is kept.
+    /// Starts anew at each `Ok(None)`, with a clone of this iterator, which is kept.
     ///
-    /// Making it makes one clone, for the first run, and draws nothing. One call draws one answer, and at a run's end one more, of a fresh clone.
+    /// Creating it makes one clone, for the first run, and draws nothing. `next` draws once, and at a run's `Ok(None)` once more, from a fresh clone.
     ///
-    /// Where the clone for the first run is refused, this iterator is dropped and the answer is `Err(AllocError)`. A draw fails as the run does, and where a clone is refused, with the failure made of the refusal. The run goes on after either. It states no bound, so it is drained through `take`.
+    /// If the clone for the first run can't be allocated, this iterator is dropped and the call returns `Err(AllocError)`. `next` fails as the run does. If a later clone can't be allocated, it fails with the failure converted from `AllocError`. The run goes on after either. It states no bound, so it is drained through `take`.
     ///
-    /// Asks that each of its clones may be drawn from, as is so where clones equal their originals.
+    /// Requires that `next` may be called on each of its clones, as is so if clones equal their originals.
     ///
     /// ```
     /// let it = convert(numbers.iter().map(|x| Ok::<u32, TestError>(*x))).cycle()?;
@@ -1666,11 +1666,11 @@ pub trait FallibleIterator: Drop + Sized {
         })
     }
 
-    /// The answer of `next`. Over a list it is the first.
+    /// Returns what `next` returns. Over a list it is the first.
     ///
-    /// It is one draw, and fails as `next` does. What is left may be drawn from again, which the clauses of `next` don't say: so a proof that draws several times by hand goes on by itself. Over a list it leaves the rest.
+    /// It is one draw, and fails as `next` does. `next` may be called again, which the clauses of `next` don't say: so a proof that draws several times by hand goes on by itself. Over a list it leaves the rest.
     ///
-    /// Asks that it may be drawn from.
+    /// Requires that `next` may be called.
     ///
     /// ```
     /// let mut left = convert(readings.into_iter());
@@ -1689,9 +1689,9 @@ pub trait FallibleIterator: Drop + Sized {
         Self::next(self)
     }
 
-    /// Itself, borrowed: what is drawn from the borrow is drawn from it.
+    /// Borrows the iterator: what is drawn from the borrow is drawn from it.
     ///
-    /// Making it draws nothing and never fails. A draw of the borrow answers and fails as that of the iterator does.
+    /// Creating it draws nothing and never fails. `next` of the borrow returns and fails as that of the iterator does.
     ///
     /// ```
     /// let answers = [Ok(1), Err(2), Ok(3)];
@@ -1710,11 +1710,11 @@ pub trait FallibleIterator: Drop + Sized {
         self
     }
 
-    /// A std iterator over the answers: each item is an `Ok`, each failure an `Err`, and an end is none.
+    /// Returns a std iterator: each item is an `Ok`, each failure an `Err`, and `Ok(None)` is `None`.
     ///
-    /// Making it draws nothing. One call of its `next` draws one answer, and never fails. It draws again whenever it is asked again.
+    /// Creating it draws nothing. Its `next` draws once, and never fails. After a `None` it draws again.
     ///
-    /// Asks nothing. A std loop over it asks a bound on the items and failures together. `convert` and `into_fallible` have one where their std iterator does, and so have the adapters over them but `flatten`, `flat_map` and `cycle`; `chain` and `zip` where both sides have. Where there is none, std's `take` gives one.
+    /// Requires nothing. A std loop over it requires a bound on the items and failures together. `convert` and `into_fallible` have one if their std iterator does, and so have the adapters over them but `flatten`, `flat_map` and `cycle`; `chain` and `zip` if both sides have. If there is none, std's `take` makes one.
     ///
     /// ```
     /// for reading in convert(readings.into_iter()).iterator() {
@@ -1731,11 +1731,11 @@ pub trait FallibleIterator: Drop + Sized {
         Iterator { it: self }
     }
 
-    /// A std iterator over the items.
+    /// Returns a std iterator over the items.
     ///
-    /// It is made and drawn from as `iterator`.
+    /// Laziness and draws: as `iterator`.
     ///
-    /// Asks that no failure can ever come, and so it never panics.
+    /// Requires that no failure can ever come, and so it never panics.
     ///
     /// ```
     /// numbers.into_iter().into_fallible().unwrap().count()

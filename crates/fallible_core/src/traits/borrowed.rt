@@ -1,4 +1,4 @@
-// A `&mut` of a fallible iterator answers as the iterator does.
+// A `&mut` of a fallible iterator draws from it.
 ghost use Rattle.std.specs.Prelude.{◌≡◌, Result, Option};
 ghost use Rattle.fallible_contract.specs.Ends.{from_back, ends_of};
 ghost use Rattle.fallible_core.specs.Borrowed.{borrowed};

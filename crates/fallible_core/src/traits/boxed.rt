@@ -1,4 +1,4 @@
-// A fallible iterator in a `Box` answers as it does itself.
+// A fallible iterator in a `Box` behaves as the iterator itself.
 ghost use Rattle.std.specs.Prelude.{Result, Option};
 ghost use Rattle.fallible_contract.specs.Contract.{seen_as};
 ghost use Rattle.fallible_contract.specs.Ends.{ends_seen_as};

@@ -3,12 +3,12 @@ ghost use Rattle.std.specs.Prelude.{◌≡◌};
 
 use crate::traits::FallibleIterator;
 
-/// A value that becomes a fallible iterator. Every fallible iterator is one, and gives itself.
+/// A value that becomes a fallible iterator. Every fallible iterator is one, and becomes itself.
 pub trait IntoFallibleIterator {
-    /// What the fallible iterator gives.
+    /// The type of its items.
     type Item;
 
-    /// What it fails with.
+    /// The type of its failures.
     type Error;
 
     /// The fallible iterator that the value becomes.
@@ -17,7 +17,7 @@ pub trait IntoFallibleIterator {
     // Holds of the value and of what it may become.
     ghost into_gives: { Self → Self.IntoFallibleIter → Type 0 };
 
-    /// The fallible iterator that the value becomes: `into_gives` says which. A fallible iterator gives itself, and draws nothing.
+    /// Returns the fallible iterator that the value becomes: `into_gives` says which. A fallible iterator returns itself, and draws nothing.
     fn into_fallible_iter(self) -> Self::IntoFallibleIter
         ensures { into_gives self result };
 }

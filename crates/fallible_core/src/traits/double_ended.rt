@@ -11,18 +11,18 @@ use crate::traits::FallibleIterator;
 use fallible_contract::folds::{TryFoldTurn, Turn};
 use std::ops::ControlFlow;
 
-/// A fallible iterator that may be drawn from the back as well. Draws from both ends may be made one after another, in any order; a bound stays one after them all, and the hint is what the type's rule says of what is left.
+/// A fallible iterator that is double-ended: it may be drawn from the back as well. Draws from both ends may follow one another in any order; a bound stays one after them all, and the hint is what the type's rule says of what is left.
 ///
 /// A type of one's own writes `next_back` and `ends`: its step from the back, and what may come from either end. `counted_ends` of `specs/Ends` makes that of a step. A search then finds `lawful_ends`.
 pub trait DoubleEndedFallibleIterator: FallibleIterator {
     // What the contract says of draws from the back.
     ghost ends: { Ends Self Self.Item Self.Error };
 
-    /// One answer from the back: an item, a failure or an end. The step from the back says which.
+    /// Returns the next item from the back, a failure or `Ok(None)`. The step from the back says which.
     ///
-    /// It is one draw, from the back. It fails where the step says so. What is left is what the step says; by the type's law it may be drawn from again, from either end.
+    /// It is one draw, from the back. It fails where the step says so. What is left is what the step says; by the type's law the iterator may be used again, from either end.
     ///
-    /// Asks that it may be drawn from, from either end.
+    /// Requires that `next` and `next_back` may be called.
     ///
     /// ```
     /// convert(readings.into_iter()).next_back()
@@ -59,11 +59,11 @@ pub trait DoubleEndedFallibleIterator: FallibleIterator {
         }
     }
 
-    /// `try_fold` from the back: calls the closure on the value so far and each item, the last one first, and answers the last value at the end.
+    /// Calls the closure on the value so far and each item, the last one first, and returns the last value at `Ok(None)`.
     ///
-    /// It draws from the back up to the end, the first failure or an item on which the closure fails. It fails with the iterator's failure, converted, or with the closure's error. Nothing is drawn after the answer that decides, and what is left may be drawn from again, from either end.
+    /// It draws from the back up to `Ok(None)`, the first failure or an item on which the closure fails. It fails with the iterator's failure, converted, or with the closure's error. Nothing is drawn after that, and the iterator may be used again, from either end.
     ///
-    /// Asks that it may be drawn from, from either end, and is finite, and that the closure may be called on each item that may come from the back with the value so far.
+    /// Requires that `next` and `next_back` may be called and that the iterator is finite, and that the closure may be called on the value so far and each item that may come from the back.
     ///
     /// ```
     /// let answers = [Ok(1), Err(2), Ok(3), Ok(4)];
@@ -106,11 +106,11 @@ pub trait DoubleEndedFallibleIterator: FallibleIterator {
         }
     }
 
-    /// `try_rfold` on the iterator itself, where the closure fails with the iterator's own error.
+    /// As `try_rfold`, but the closure fails with the iterator's own error, and the iterator is consumed.
     ///
-    /// It draws and fails as `try_rfold` does, and converts no failure. It takes the iterator, and no clause says what is left.
+    /// Draws and errors: as `try_rfold`, but no failure is converted. No clause says what is left.
     ///
-    /// Asks what `try_rfold` asks.
+    /// Requires what `try_rfold` requires.
     ///
     /// ```
     /// let answers = [Ok(1), Ok(2), Ok(3)];
@@ -136,11 +136,11 @@ pub trait DoubleEndedFallibleIterator: FallibleIterator {
     // What the other functions know of draws from both ends: see `KeptByDraw`.
     ghost lawful_ends: { LawfulEnds Self.contract ends };
 
-    /// The answer of `next`. Of what is listed from both ends it is the first.
+    /// Returns what `next` returns. Of what is listed from both ends it is the first.
     ///
-    /// It is one draw, and fails as `next` does. What is left may be drawn from again, from either end, where `draw` says it of the front alone. Of what is listed from both ends it leaves the rest.
+    /// It is one draw, and fails as `next` does. The iterator may be used again, from either end, where `draw` says it of the front alone. Of what is listed from both ends it leaves the rest.
     ///
-    /// Asks that it may be drawn from, from either end.
+    /// Requires that `next` and `next_back` may be called.
     ///
     /// ```
     /// it.draw_back()?;
@@ -160,11 +160,11 @@ pub trait DoubleEndedFallibleIterator: FallibleIterator {
         self.next()
     }
 
-    /// The answer of `next_back`. Of what is listed from both ends it is the last.
+    /// Returns what `next_back` returns. Of what is listed from both ends it is the last.
     ///
-    /// It is one draw, from the back, and fails as `next_back` does. What is left may be drawn from again, from either end. Of what is listed from both ends it leaves what stands before the answer.
+    /// It is one draw, from the back, and fails as `next_back` does. The iterator may be used again, from either end. Of what is listed from both ends it leaves what stands before it.
     ///
-    /// Asks that it may be drawn from, from either end.
+    /// Requires that `next` and `next_back` may be called.
     ///
     /// ```
     /// let mut it = convert(readings.into_iter())
