@@ -11,7 +11,7 @@ use crate::traits::conversion::IntoFallibleIterator;
 use fallible_contract::comparing::{Reading, Rule, decide};
 use std::cmp::Ordering;
 
-/// Draws the left and then the right in each round, until a failure, an end, or two items that aren't equal by the rule.
+/// Draws the left and then the right in each round, until a failure, an `Ok(None)`, or two items that aren't equal by the rule.
 pub fn compare<L, R, K>(left: L, right: R) -> Result<Option<Ordering>, L::Error>
 where
     L: FallibleIterator,
@@ -41,7 +41,7 @@ where
     }
 }
 
-/// The two, and a bound of one of them, for a loop of rounds of one's own to count down by.
+/// Returns the two, and a bound of one of them, for a loop of rounds of one's own to count down by.
 pub fn number_of_either<L, R>(left: L, right: R) -> (L, R, Number)
 where
     L: FallibleIterator,
@@ -59,7 +59,7 @@ where
     (left, right, number)
 }
 
-/// Compares what the other value becomes with the iterator, by the rule, and reads the answer.
+/// Compares the iterator with what the other value becomes, by the rule, and reads the result.
 pub fn compare_read<L, I, K, R>(left: L, other: I) -> Result<bool, L::Error>
 where
     L: FallibleIterator,

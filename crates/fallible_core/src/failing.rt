@@ -1,4 +1,4 @@
-//! The folds of the adapters whose closure is called on failures, through their sources' own. The closure is called on the failure that comes back, and so never on what a turn stops with.
+//! The folds of the adapters whose closure is called on failures, through their sources' own. The closure is called on the failure that the source's fold returns, and so never on what a turn stops with.
 ghost use Rattle.fallible_contract.specs.Closures.{IsCallable};
 ghost use Rattle.fallible_contract.specs.Ends.{from_back};
 ghost use Rattle.fallible_contract.specs.Failing.{failing_step, recovering_contract, recovering_step};
@@ -33,7 +33,7 @@ where
     failed(it.drive(state, turn), p, adapter)
 }
 
-/// The same from the back.
+/// The fold from the back of such an adapter: the source's from the back, and what becomes of the failure that it met.
 pub fn drive_back_failing<
     I: DoubleEndedFallibleIterator,
     P,
@@ -55,7 +55,7 @@ where
     failed(it.drive_back(state, turn), p, adapter)
 }
 
-/// The fold from the front of an adapter by which a failure may become an item, nothing or another failure: the source's fold up to a failure, and the turn on that; and again, where that turn goes on. Each further fold of the source has fewer answers to come, by the bound `left`.
+/// The fold from the front of an adapter by which a failure may become an item, nothing or another failure: the source's fold up to a failure, and the turn on that; and again, if that turn goes on. Each further fold of the source has fewer draws to make, by the bound `left`.
 pub fn drive_recovering<
     I: FallibleIterator,
     P,
@@ -90,7 +90,7 @@ where
     }
 }
 
-/// The same from the back.
+/// The fold from the back of an adapter by which a failure may become an item, nothing or another failure.
 pub fn drive_back_recovering<
     I: DoubleEndedFallibleIterator,
     P,

@@ -1,4 +1,4 @@
-//! Adapters with one answer for each draw.
+//! Adapters that draw once in each call.
 mod cloned;
 mod enumerate;
 mod inspect;

@@ -1,4 +1,4 @@
-//! The folds of the adapters that let answers pass, through their sources' own. The adapter's state stands beside the caller's, and a reference points to each.
+//! The folds of the adapters that let items pass, through their sources' own. The adapter's state stands beside the caller's, and a reference points to each.
 ghost use Rattle.fallible_contract.specs.Folding.{FoldingTakes, FoldingTurn};
 ghost use Rattle.fallible_contract.specs.Folds.{CallableDriving, Driven};
 ghost use Rattle.fallible_contract.specs.Passing.{passing_step};
@@ -33,7 +33,7 @@ where
     answer_within(answer)
 }
 
-/// The same from the back.
+/// The fold from the back of an adapter: what becomes of each item of the source, and the caller's turn on what is kept.
 pub fn drive_back_passing<
     I: DoubleEndedFallibleIterator,
     P,

@@ -32,7 +32,7 @@ where
     }
 }
 
-/// The item of the best key, beside its key.
+/// The item with the best key, and its key.
 pub fn best_by_key<I, K, F>(it: I, keeps: Ordering, f: F) -> Result<Option<(K, I::Item)>, I::Error>
 where
     I: FallibleIterator,

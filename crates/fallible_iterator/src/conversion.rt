@@ -7,13 +7,13 @@ ghost use Rattle.fallible_iterator.specs.Sources.IntoFallible.{into_fallible_par
 
 use crate::sources::{Convert, IntoFallible};
 
-/// What every std iterator has besides: two ways to become a fallible one. Neither draws anything.
+/// Two ways in which a std iterator becomes a fallible one. Neither draws anything.
 pub trait IteratorExt: std::iter::Iterator {
-    /// The fallible iterator whose items are the values of `Ok`, and whose failures are those of `Err`.
+    /// Returns the fallible iterator whose items are the values of `Ok`, and whose failures are those of `Err`.
     ///
-    /// Making it draws nothing. One call draws one element of the std iterator. It fails with the value of an `Err`. After a failure and after an end the next call asks the std iterator again.
+    /// Creating it draws nothing. `next` draws the std iterator once. It fails with the value of an `Err`. After a failure and after `Ok(None)` the next call draws the std iterator again.
     ///
-    /// Asks nothing. Each draw asks what one of `convert` asks.
+    /// Requires nothing. `next` requires what that of `convert` requires.
     ///
     /// ```
     /// let answers: [Result<u32, u32>; 2] = [Ok(1), Err(2)];
@@ -33,11 +33,11 @@ pub trait IteratorExt: std::iter::Iterator {
         Convert { it: self }
     }
 
-    /// The fallible iterator that gives the same elements.
+    /// Returns the fallible iterator that yields the same elements.
     ///
-    /// Making it draws nothing. One call draws one element of the std iterator. It never fails. After an end the next call asks the std iterator again.
+    /// Creating it draws nothing. `next` draws the std iterator once. It never fails. After `Ok(None)` the next call draws the std iterator again.
     ///
-    /// Asks nothing. Each draw asks what one of `convert` asks.
+    /// Requires nothing. `next` requires what that of `convert` requires.
     ///
     /// ```
     /// (0..end).into_fallible().fold(

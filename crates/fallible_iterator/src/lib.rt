@@ -1,6 +1,6 @@
 //! Fallible iterators: iterators whose `next` may fail, with adapters and folds, where every call is proved to meet its contract.
 //!
-//! A crate above names this one alone. The trait and its adapters are those of `fallible_core`, and what is said of them is `fallible_contract`; both are handed on, as are their specifications. The sources are this crate's own.
+//! A crate above names this one alone. The trait and its adapters are those of `fallible_core`, and what is said of them is `fallible_contract`; both are reexported, as are their specifications. The sources are this crate's own.
 #![tactic(auto)]
 
 pub mod conversion;

@@ -9,11 +9,11 @@ ghost use Rattle.fallible_iterator.specs.Taking.{FoldsAs, IsFolding, MayTake, fo
 
 use fallible_core::{FallibleIterator, Peekable};
 
-/// The loop `while let Some(x) = ahead.next_if(test)? { value = f(value, x)?; }`: calls `f` on the value so far and each item in order, as long as the test answers true on the next one, and answers the last value.
+/// The loop `while let Some(x) = ahead.next_if(test)? { value = f(value, x)?; }`: calls `f` on the value so far and each item in order, as long as the test returns true for the next one, and returns the last value.
 ///
-/// It draws up to the first item that the test refuses, the end, the first failure or an item on which `f` fails. An item that is refused stays next, and an end is held. It fails with the failure that comes first, of the source or of `f`. What is left may be drawn from again.
+/// It draws up to the first item that the test rejects, `Ok(None)`, the first failure or an item on which `f` fails. A rejected item stays next, and an `Ok(None)` is buffered. It fails with the first failure, of the source or of `f`. The iterator may be used again.
 ///
-/// Asks that it may be drawn from and is finite, that the test may be called on a reference to each item that may come, and `f` on any value and each such item on which the test may answer true.
+/// Requires that `next` may be called and that the iterator is finite, that the test may be called on a reference to each item that may come, and `f` on any value and each such item for which the test may return true.
 ///
 /// ```
 /// fold_if(

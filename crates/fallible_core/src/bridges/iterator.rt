@@ -1,4 +1,4 @@
-// The std iterator over a fallible iterator's answers.
+// The std iterator over what a fallible iterator returns.
 ghost use Rattle.std.specs.Prelude.{◌≡◌, Some, None, IfSome};
 ghost use Rattle.std.specs.Iterator.{UpTo};
 ghost use Rattle.std.specs.Iterator.SizeHint.{IsWithinCount};
@@ -7,9 +7,9 @@ ghost use Rattle.fallible_core.specs.Bridges.Iterator.{iterator_parts, iterator_
 use crate::traits::FallibleIterator;
 use crate::traits::double_ended::DoubleEndedFallibleIterator;
 
-/// A std iterator over results: each item is an `Ok`, each failure an `Err`, and an end is none. It goes on after a failure, and draws again whenever it is asked again.
+/// A std iterator over results: each item is an `Ok`, each failure an `Err`, and `Ok(None)` is `None`. After a failure and after a `None` the next call draws again.
 ///
-/// It has std's two ends where its source has two.
+/// It is double-ended if its source is.
 #[derive(Clone, Debug, Drop)]
 pub struct Iterator<I> {
     pub(crate) it: I,
@@ -24,12 +24,12 @@ impl<I: FallibleIterator> std::iter::Iterator for Iterator<I> {
 
     ghost remaining = { λ s. I.contract.remaining (iterator_parts s) };
 
-    /// Draws one answer of the source.
+    /// Draws the source once.
     fn next(&mut self) -> Option<Result<I::Item, I::Error>> {
         self.it.next().transpose()
     }
 
-    /// Nothing: a source's hint counts items alone, and here failures are elements too.
+    /// Returns `(0, None)`: a source's hint counts items alone, and here failures are elements too.
     fn size_hint(&self) -> (usize, Option<usize>)
         ensures lower { IsWithinCount result.0 (I.contract.remaining (iterator_parts self.now)) }
         ensures upper { IfSome result.1 (UpTo (I.contract.remaining (iterator_parts self.now))) }
@@ -44,7 +44,7 @@ impl<I: DoubleEndedFallibleIterator> std::iter::DoubleEndedIterator for Iterator
 
     ghost next_back_gives = { iterator_steps I.ends.steps };
 
-    /// Draws one answer of the source from the back.
+    /// Draws the source once from the back.
     fn next_back(&mut self) -> Option<Result<I::Item, I::Error>> {
         self.it.next_back().transpose()
     }

@@ -7,7 +7,7 @@ ghost use Rattle.fallible_core.specs.Bridges.Unwrap.{unwrap_parts, unwrap_steps}
 
 use crate::traits::FallibleIterator;
 
-/// A std iterator over the items of a source that can never fail again; an end is none. It draws again whenever it is asked again.
+/// A std iterator over the items of a source that can never fail again; `Ok(None)` is `None`. After a `None` the next call draws again.
 #[derive(Clone, Debug, Drop)]
 pub struct Unwrap<I> {
     pub(crate) it: I,
@@ -23,12 +23,12 @@ impl<I: FallibleIterator> std::iter::Iterator for Unwrap<I> {
 
     ghost remaining = { λ s. I.contract.remaining (unwrap_parts s) };
 
-    /// Draws one answer of the source, which is no failure.
+    /// Draws the source once. It doesn't fail.
     fn next(&mut self) -> Option<I::Item> {
         self.it.next().unwrap()
     }
 
-    /// Nothing, as `Iterator`'s.
+    /// Returns `(0, None)`, as `Iterator`.
     fn size_hint(&self) -> (usize, Option<usize>)
         ensures lower { IsWithinCount result.0 (I.contract.remaining (unwrap_parts self.now)) }
         ensures upper { IfSome result.1 (UpTo (I.contract.remaining (unwrap_parts self.now))) }

@@ -1,10 +1,10 @@
-// The draws that leave items out, and count down how many.
+// The draws that skip items, and count down how many.
 ghost use Rattle.std.specs.Prelude.{[], ◌∷◌};
 ghost use Rattle.fallible_core.specs.Cutting.Skip.{SkipTrace};
 
 use crate::traits::FallibleIterator;
 
-// Leaves out as many items as `to_skip` says, and answers the item after them, or a failure or an end that comes before it. Each left-out item lowers `to_skip` by one.
+// Skips as many items as `to_skip` says, and returns the item after them, or a failure or an `Ok(None)` before it. Each skipped item lowers `to_skip` by one.
 pub(crate) fn next_past<I: FallibleIterator>(
     it: &mut I,
     to_skip: &mut usize,

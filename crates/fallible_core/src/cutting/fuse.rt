@@ -1,4 +1,4 @@
-// The adapter that ends for good at the first end.
+// The adapter that is exhausted at the first `Ok(None)`.
 ghost use Rattle.std.specs.Prelude.{Result, Option};
 ghost use Rattle.fallible_contract.specs.Contract.{seen_as};
 ghost use Rattle.fallible_contract.specs.Laws.Contract.{lawful_seen};
@@ -8,11 +8,11 @@ ghost use Rattle.fallible_core.specs.Laws.Cutting.Fuse.{lawful_fuse};
 use crate::traits::FallibleIterator;
 use fallible_contract::folds::Turn;
 
-/// The answers of the source up to its first end, and then ends. A failure ends nothing.
+/// What the source yields up to its first `Ok(None)`. From there on each call returns `Ok(None)`. A failure exhausts nothing.
 #[derive(Clone, Debug, Drop)]
 pub struct Fuse<I> {
     pub(crate) it: I,
-    // whether the source's end was met
+    // whether the source returned `Ok(None)`
     pub(crate) ended: bool,
 }
 
@@ -23,7 +23,7 @@ impl<I: FallibleIterator> FallibleIterator for Fuse<I> {
 
     ghost contract = { seen_as fuse_parts (fuse_contract I.contract) };
 
-    /// Draws one answer, and none once the source's end was met.
+    /// Draws once, and nothing once the source returned `Ok(None)`.
     fn next(&mut self) -> Result<Option<I::Item>, I::Error> {
         if self.ended {
             return Ok(None);
@@ -64,7 +64,7 @@ impl<I: FallibleIterator> FallibleIterator for Fuse<I> {
         }
     }
 
-    /// The source's count, and no item once its end was met.
+    /// The source's count, and no item once it returned `Ok(None)`.
     fn drive_count(&mut self, number: &mut usize) -> Result<(), I::Error>
     where
         I::Item: Drop,
@@ -99,7 +99,7 @@ impl<I: FallibleIterator> FallibleIterator for Fuse<I> {
         }
     }
 
-    /// The source's `nth`, whose none is its end and closes it; a failure doesn't.
+    /// The source's `nth`. Its `Ok(None)` exhausts the adapter; a failure doesn't.
     fn drive_nth(&mut self, n: usize) -> Result<Option<I::Item>, I::Error>
     where
         I::Item: Drop,

@@ -1,4 +1,4 @@
-// The adapter that leaves out the first items.
+// The adapter that skips the first items.
 ghost use Rattle.std.specs.Prelude.{Result, Option};
 ghost use Rattle.fallible_contract.specs.Contract.{seen_as};
 ghost use Rattle.fallible_contract.specs.Laws.Contract.{lawful_seen};
@@ -11,11 +11,11 @@ use fallible_contract::folds::{NthTurn, Turn};
 use fallible_contract::hints::less;
 use std::ops::ControlFlow;
 
-/// The source's answers without its first n items. Failures and ends stay, and don't count.
+/// What the source yields without its first n items. Failures and `Ok(None)` stay, and don't count.
 #[derive(Clone, Debug, Drop)]
 pub struct Skip<I> {
     pub(crate) it: I,
-    // how many items are still to be left out
+    // how many items are still to be skipped
     pub(crate) to_skip: usize,
 }
 
@@ -29,7 +29,7 @@ where
 
     ghost contract = { seen_as skip_parts (skip_contract I.contract) };
 
-    /// Draws the items that are still to be left out, and then one answer. A failure or an end that comes among them is the answer, and the rest of them is left out from the next call on.
+    /// Draws the items that are still to be skipped, and then once more. A failure or an `Ok(None)` among them is returned, and the rest of them is skipped from the next call on.
     fn next(&mut self) -> Result<Option<I::Item>, I::Error> {
         next_past(&mut self.it, &mut self.to_skip)
     }

@@ -1,4 +1,4 @@
-// The adapter that keeps one item at each step.
+// The adapter that keeps every k-th item.
 ghost use Rattle.std.specs.Prelude.{Result, Option};
 ghost use Rattle.fallible_contract.specs.Contract.{seen_as};
 ghost use Rattle.fallible_contract.specs.Laws.Contract.{lawful_seen};
@@ -12,7 +12,7 @@ use fallible_contract::folds::Turn;
 use fallible_contract::hints::kept;
 use fallible_contract::passing::{Outcome, Pass};
 
-/// The source's first item, and from then on one item at each step. Failures and ends stay, and don't count.
+/// The source's first item, and then every k-th one. Failures and `Ok(None)` stay, and don't count.
 #[derive(Clone, Debug, Drop)]
 pub struct StepBy<I> {
     pub(crate) it: I,
@@ -32,7 +32,7 @@ where
 
     ghost contract = { seen_as step_by_parts (step_by_contract I.contract) };
 
-    /// Draws the items that are left out next, and then one answer. A failure or an end that comes among them is the answer, and the rest of them is left out from the next call on.
+    /// Draws the items that are left out next, and then once more. A failure or an `Ok(None)` among them is returned, and the rest of them is left out from the next call on.
     fn next(&mut self) -> Result<Option<I::Item>, I::Error> {
         match next_past(&mut self.it, &mut self.to_skip) {
             Ok(Some(x)) => {

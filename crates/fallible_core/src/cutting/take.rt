@@ -8,7 +8,7 @@ ghost use Rattle.fallible_core.specs.Laws.Cutting.Take.{lawful_take};
 use crate::traits::FallibleIterator;
 use fallible_contract::hints::up_to;
 
-/// The answers of the source up to its n-th item, and then ends. Failures and ends of the source pass, and don't count.
+/// What the source yields up to its n-th item. Then each call returns `Ok(None)`. Failures and `Ok(None)` of the source pass, and don't count.
 #[derive(Clone, Debug, Drop)]
 pub struct Take<I> {
     pub(crate) it: I,
@@ -23,7 +23,7 @@ impl<I: FallibleIterator> FallibleIterator for Take<I> {
 
     ghost contract = { seen_as take_parts (take_contract I.contract) };
 
-    /// Draws one answer, and none where nothing is left to take.
+    /// Draws once, and nothing if no item is left to take.
     fn next(&mut self) -> Result<Option<I::Item>, I::Error> {
         if self.to_take == 0 {
             return Ok(None);

@@ -1,4 +1,4 @@
-// The adapter that ends at the first item which a predicate refuses.
+// The adapter that ends at the first item that a predicate rejects.
 ghost use Rattle.std.specs.Prelude.{Result, Option};
 ghost use Rattle.fallible_contract.specs.Contract.{seen_as};
 ghost use Rattle.fallible_contract.specs.Closures.{call_at, takes_at};
@@ -11,11 +11,11 @@ use crate::traits::FallibleIterator;
 use fallible_contract::folds::Turn;
 use fallible_contract::passing::{Outcome, Pass, passed};
 
-/// The answers of the source up to the first item that the predicate refuses, which is lost, and from there on ends. An item on which the predicate fails is lost, and its failure is the answer; neither it nor an end of the source ends anything.
+/// What the source yields up to the first item that the predicate rejects. That one is lost, and from there on each call returns `Ok(None)`. An item on which the predicate fails is lost, and its failure is yielded; neither it nor an `Ok(None)` of the source exhausts anything.
 #[derive(Clone, Debug, Drop)]
 pub struct TakeWhile<I, P> {
     pub(crate) it: I,
-    // whether an item was refused, and the predicate
+    // whether an item was rejected, and the predicate
     pub(crate) taking: (bool, P),
 }
 
@@ -30,7 +30,7 @@ where
 
     ghost contract = { seen_as take_while_parts (take_while_contract I.contract P.FnMut) };
 
-    /// Draws one answer and calls the predicate where it is an item; draws none once an item was refused.
+    /// Draws once, and calls the predicate on an item; draws nothing once an item was rejected.
     fn next(&mut self) -> Result<Option<I::Item>, I::Error> {
         if self.taking.0 {
             return Ok(None);
@@ -60,7 +60,7 @@ where
     ghost lawful = { lawful_seen take_while_parts (lawful_take_while P.FnMut I.lawful) };
 }
 
-// An item that the predicate accepts; one that it refuses makes an end. Beside the predicate stands whether it refused one.
+// An item that the predicate accepts; at one that it rejects the call returns `Ok(None)`. The flag beside the predicate says whether it rejected one.
 #[derive(Drop)]
 struct TakeWhilePass;
 

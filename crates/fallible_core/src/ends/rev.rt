@@ -23,7 +23,7 @@ impl<I: DoubleEndedFallibleIterator> FallibleIterator for Rev<I> {
 
     ghost contract = { seen_as rev_parts (rev_contract I.contract I.ends) };
 
-    /// Draws one answer of the source from the back.
+    /// Draws the source once from the back.
     fn next(&mut self) -> Result<Option<I::Item>, I::Error> {
         self.it.next_back()
     }
@@ -46,7 +46,7 @@ impl<I: DoubleEndedFallibleIterator> FallibleIterator for Rev<I> {
 impl<I: DoubleEndedFallibleIterator> DoubleEndedFallibleIterator for Rev<I> {
     ghost ends = { ends_seen_as rev_parts (ends_of (from_front I.contract I.ends)) };
 
-    /// Draws one answer of the source from the front.
+    /// Draws the source once from the front.
     fn next_back(&mut self) -> Result<Option<I::Item>, I::Error> {
         self.it.next()
     }

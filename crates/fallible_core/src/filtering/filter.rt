@@ -1,4 +1,4 @@
-// The adapter that leaves out the items which a predicate refuses.
+// The adapter that leaves out the items that a predicate rejects.
 ghost use Rattle.std.specs.Prelude.{◌≡◌, ◌+◌, ◌-◌, ◌^◌, ◌<◌, true, Some, Result, Option};
 ghost use Rattle.std.specs.Int.{from_bool};
 ghost use Rattle.fallible_contract.specs.Contract.{seen_as};
@@ -22,7 +22,7 @@ use fallible_contract::searching::{FindTest, FindTurn, found};
 use std::convert::Infallible;
 use std::ops::ControlFlow;
 
-/// The items to which the predicate answers true. An item on which it fails is lost, and its failure is the answer.
+/// The items for which the predicate returns true. An item on which it fails is lost, and its failure is yielded.
 #[derive(Clone, Debug, Drop)]
 pub struct Filter<I, F> {
     pub(crate) it: I,
@@ -40,7 +40,7 @@ where
 
     ghost contract = { seen_as filter_parts (filter_contract I.contract F.FnMut) };
 
-    /// Draws until an item is kept, a failure comes or an end comes, and calls the predicate on each item.
+    /// Draws until an item is kept, or a failure or `Ok(None)` comes. It calls the predicate on each item.
     fn next(&mut self) -> Result<Option<I::Item>, I::Error> {
         let turn = FindTurn { test: &FindTest };
         found(self.it.drive(&mut self.f, &turn))
@@ -58,7 +58,7 @@ where
         drive_passing(&mut self.it, &mut self.f, &FilterPass, state, turn)
     }
 
-    /// One fold of the source, with one more at each item that is kept.
+    /// One fold of the source, which adds one for each item that is kept.
     fn drive_count(&mut self, number: &mut usize) -> Result<(), I::Error> {
         match drive_kept(&mut self.it, &mut self.f, number) {
             Ok(None) => Ok(()),
@@ -80,7 +80,7 @@ where
     ghost ends = { ends_seen_as filter_parts
         (ends_of (filter_contract (from_back I.contract I.ends) F.FnMut)) };
 
-    /// Draws from the back until an item is kept, a failure comes or an end comes, and calls the predicate on each item.
+    /// Draws from the back until an item is kept, or a failure or `Ok(None)` comes. It calls the predicate on each item.
     fn next_back(&mut self) -> Result<Option<I::Item>, I::Error> {
         let turn = FindTurn { test: &FindTest };
         found(self.it.drive_back(&mut self.f, &turn))
@@ -98,7 +98,7 @@ where
         filter_parts (lawful_ends_filter F.FnMut I.lawful_ends) };
 }
 
-// What becomes of an item by the predicate's answer.
+// What becomes of an item by the predicate's result.
 #[derive(Drop)]
 struct FilterPass;
 
@@ -123,7 +123,7 @@ impl<X: Drop, E, F: FnMut(&X) -> Result<bool, E>> Pass<F, X, E> for FilterPass {
     }
 }
 
-// The fold that counts the items to which the predicate answers true.
+// The fold that counts the items for which the predicate returns true.
 fn drive_kept<I: FallibleIterator, F: FnMut(&I::Item) -> Result<bool, I::Error>>(
     it: &mut I,
     f: &mut F,
@@ -145,7 +145,7 @@ where
     answer_within(answer)
 }
 
-// The turn of that fold: one more where the item is kept.
+// The turn of that fold: it adds one if the item is kept.
 #[derive(Drop)]
 struct FilterCountTurn;
 
@@ -178,7 +178,7 @@ impl<'b, X: Drop, E, F: FnMut(&X) -> Result<bool, E>> Turn<
     }
 }
 
-// One more where the item is kept. The sum has no branch.
+// Adds one if the item is kept. The sum has no branch.
 #[inline(always)]
 pub(crate) fn count_if(number: &mut usize, kept: bool)
 where

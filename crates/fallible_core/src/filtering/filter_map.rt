@@ -1,4 +1,4 @@
-// The adapter that leaves out the items on which its closure answers none.
+// The adapter that leaves out the items for which its closure returns `None`.
 ghost use Rattle.std.specs.Prelude.{◌-◌, ◌^◌, ◌<◌, Some, Result, Option};
 ghost use Rattle.std.specs.declared.convert.Infallible.{Infallible};
 ghost use Rattle.fallible_contract.specs.Contract.{seen_as};
@@ -23,7 +23,7 @@ use fallible_contract::searching::FindMapTurn;
 use std::convert::Infallible;
 use std::ops::ControlFlow;
 
-/// The values that the closure answers. An item on which it answers none is left out; an item on which it fails is lost, and its failure is the answer.
+/// The values that the closure returns. An item for which it returns `None` is left out; an item on which it fails is lost, and its failure is yielded.
 #[derive(Clone, Debug, Drop)]
 pub struct FilterMap<I, F> {
     pub(crate) it: I,
@@ -38,7 +38,7 @@ impl<I: FallibleIterator, B, F: FnMut(I::Item) -> Result<Option<B>, I::Error>> F
 
     ghost contract = { seen_as filter_map_parts (filter_map_contract I.contract F.FnMut) };
 
-    /// Draws until the closure answers a value, a failure comes or an end comes, and calls the closure on each item.
+    /// Draws until the closure returns a value, or a failure or `Ok(None)` comes. It calls the closure on each item.
     fn next(&mut self) -> Result<Option<B>, I::Error> {
         answer_within(self.it.drive(&mut self.f, &FindMapTurn))
     }
@@ -55,7 +55,7 @@ impl<I: FallibleIterator, B, F: FnMut(I::Item) -> Result<Option<B>, I::Error>> F
         drive_passing(&mut self.it, &mut self.f, &FilterMapPass, state, turn)
     }
 
-    /// One fold of the source, with one more at each item on which the closure answers a value.
+    /// One fold of the source, which adds one for each item for which the closure returns a value.
     fn drive_count(&mut self, number: &mut usize) -> Result<(), I::Error>
     where
         B: Drop,
@@ -78,7 +78,7 @@ impl<
     ghost ends = { ends_seen_as filter_map_parts
         (ends_of (filter_map_contract (from_back I.contract I.ends) F.FnMut)) };
 
-    /// Draws from the back until the closure answers a value, a failure comes or an end comes, and calls the closure on each item.
+    /// Draws from the back until the closure returns a value, or a failure or `Ok(None)` comes. It calls the closure on each item.
     fn next_back(&mut self) -> Result<Option<B>, I::Error> {
         answer_within(self.it.drive_back(&mut self.f, &FindMapTurn))
     }
@@ -95,7 +95,7 @@ impl<
         (lawful_ends_filter_map F.FnMut I.lawful_ends) };
 }
 
-// What becomes of an item by the closure's answer.
+// What becomes of an item by the closure's result.
 #[derive(Drop)]
 struct FilterMapPass;
 
@@ -120,7 +120,7 @@ impl<X, B, E, F: FnMut(X) -> Result<Option<B>, E>> Pass<F, X, E> for FilterMapPa
     }
 }
 
-// The fold that counts the items on which the closure answers a value.
+// The fold that counts the items for which the closure returns a value.
 fn drive_made<I: FallibleIterator, B: Drop, F: FnMut(I::Item) -> Result<Option<B>, I::Error>>(
     it: &mut I,
     f: &mut F,
@@ -142,7 +142,7 @@ where
     answer_within(answer)
 }
 
-// The turn of that fold: one more where the closure answers a value.
+// The turn of that fold: it adds one if the closure returns a value.
 #[derive(Drop)]
 struct FilterMapCountTurn;
 

@@ -1,4 +1,4 @@
-// The adapter that leaves out items up to the first one which a predicate refuses.
+// The adapter that skips items up to the first one that a predicate rejects.
 ghost use Rattle.std.specs.Prelude.{Some, Result, Option};
 ghost use Rattle.fallible_contract.specs.Closures.{call_at, takes_at};
 ghost use Rattle.fallible_contract.specs.Contract.{seen_as};
@@ -12,11 +12,11 @@ use fallible_contract::folds::Turn;
 use fallible_contract::searching::Test;
 use std::ops::ControlFlow;
 
-/// The items from the first one on to which the predicate answers false. It is asked up to and with that item and never again; an item on which it fails is lost, and its failure is the answer.
+/// The items from the first one on for which the predicate returns false. The predicate is called up to that item and never after it; an item on which it fails is lost, and its failure is yielded.
 #[derive(Clone, Debug, Drop)]
 pub struct SkipWhile<I, P> {
     pub(crate) it: I,
-    // whether the predicate answered false, and the predicate
+    // whether the predicate returned false, and the predicate
     pub(crate) skipping: (bool, P),
 }
 
@@ -31,7 +31,7 @@ where
 
     ghost contract = { seen_as skip_while_parts (skip_while_contract I.contract P.FnMut) };
 
-    /// Draws until an item is kept, a failure comes or an end comes, and asks the predicate of each item until it first answered false. Once it did, one call draws one answer.
+    /// Draws until an item is kept, or a failure or `Ok(None)` comes. It calls the predicate on each item until it first returned false. From then on it draws once.
     fn next(&mut self) -> Result<Option<I::Item>, I::Error> {
         if self.skipping.0 {
             self.it.next()
@@ -67,7 +67,7 @@ where
     ghost lawful = { lawful_seen skip_while_parts (lawful_skip_while P.FnMut I.lawful) };
 }
 
-// The test of the search in `next`, whose state is the flag beside the predicate: it accepts an item once the predicate answered false, or where it does so on it.
+// The test of the search in `next`, whose state is the flag beside the predicate: it accepts an item once the predicate returned false, or if it does so for this one.
 #[derive(Drop)]
 struct SkipWhileTest;
 

@@ -1,4 +1,4 @@
-// The adapter that draws one source up to its first end, and then another.
+// The adapter that draws one source up to its first `Ok(None)`, and then another.
 ghost use Rattle.std.specs.Prelude.{◌≡◌, Result, Option};
 ghost use Rattle.fallible_contract.specs.Contract.{seen_as};
 ghost use Rattle.fallible_contract.specs.Ends.{ends_seen_as};
@@ -13,7 +13,7 @@ use fallible_contract::folds::Turn;
 use fallible_contract::hints::sum;
 use fallible_contract::searching::Test;
 
-// Which sides of a `Chain` are still drawn: `SecondAlone` once a draw from the front met the first source's end, and `FirstAlone` once a draw from the back met the second's.
+// Which sides of a `Chain` are still drawn: `SecondAlone` once a draw from the front of the first returned `Ok(None)`, and `FirstAlone` once a draw from the back of the second did.
 #[derive(Clone, Debug, Drop)]
 pub(crate) enum StillDrawn {
     Both,
@@ -21,7 +21,7 @@ pub(crate) enum StillDrawn {
     SecondAlone,
 }
 
-/// The answers of the first source up to its first end, and from then on those of the second. A failure changes no side.
+/// What the first source yields up to its first `Ok(None)`, and then what the second yields. A failure changes no side.
 #[derive(Clone, Debug, Drop)]
 pub struct Chain<T, U> {
     pub(crate) first: T,
@@ -37,7 +37,7 @@ impl<T: FallibleIterator, U: FallibleIterator<Item = T::Item, Error = T::Error>>
 
     ghost contract = { seen_as chain_parts (chain_contract T.contract U.contract) };
 
-    /// While both sides are drawn it draws one answer of the first, and at its first end, in the same call, one of the second, which alone is drawn from then on; a failure changes no side. Where one side alone is drawn, it draws one answer of that side.
+    /// While both sides are drawn it draws the first once. If that is its first `Ok(None)`, it draws the second once in the same call, which alone is drawn from then on. A failure changes no side. If one side alone is drawn, it draws that side once.
     fn next(&mut self) -> Result<Option<T::Item>, T::Error> {
         if !matches!(self.still_drawn, StillDrawn::SecondAlone) {
             match self.first.next() {
@@ -61,7 +61,7 @@ impl<T: FallibleIterator, U: FallibleIterator<Item = T::Item, Error = T::Error>>
         }
     }
 
-    /// The first's fold, and at its end, in the same call, the second's; where one side alone is drawn, that side's.
+    /// The first's fold, and after its `Ok(None)`, in the same call, the second's; if one side alone is drawn, that side's.
     fn drive<C, R, K: Turn<C, T::Item, R>>(
         &mut self,
         state: &mut C,
@@ -88,7 +88,7 @@ impl<T: FallibleIterator, U: FallibleIterator<Item = T::Item, Error = T::Error>>
         }
     }
 
-    /// The first's count, and at its end, in the same call, the second's, of one number.
+    /// The first's count, and after its `Ok(None)`, in the same call, the second's, into one number.
     fn drive_count(&mut self, number: &mut usize) -> Result<(), T::Error>
     where
         T::Item: Drop,
@@ -111,7 +111,7 @@ impl<T: FallibleIterator, U: FallibleIterator<Item = T::Item, Error = T::Error>>
         }
     }
 
-    /// The second's last, or where it has none the first's. Where the first fails, the second isn't drawn.
+    /// The second's last item, or the first's if it has none. If the first fails, the second isn't drawn.
     fn drive_last(&mut self) -> Result<Option<T::Item>, T::Error>
     where
         T::Item: Drop,
@@ -138,7 +138,7 @@ impl<T: FallibleIterator, U: FallibleIterator<Item = T::Item, Error = T::Error>>
         }
     }
 
-    /// The first's search, and where it found none, in the same call, the second's; where one side alone is drawn, that side's.
+    /// The first's search, and if it found none, in the same call, the second's; if one side alone is drawn, that side's.
     fn drive_find<C, K: Test<C, T::Item, T::Error>>(
         &mut self,
         state: &mut C,
@@ -177,7 +177,7 @@ impl<
 > DoubleEndedFallibleIterator for Chain<T, U> {
     ghost ends = { ends_seen_as chain_parts (chain_ends T.ends U.ends) };
 
-    /// While both sides are drawn it draws one answer of the second from the back, and at its first end, in the same call, one of the first from the back, which alone is drawn from then on, from either end; a failure changes no side. Where one side alone is drawn, it draws one answer of that side from the back.
+    /// While both sides are drawn it draws the second once from the back. If that is its first `Ok(None)`, it draws the first once from the back in the same call, which alone is drawn from then on, from either end. A failure changes no side. If one side alone is drawn, it draws that side once from the back.
     fn next_back(&mut self) -> Result<Option<T::Item>, T::Error> {
         if !matches!(self.still_drawn, StillDrawn::FirstAlone) {
             match self.second.next_back() {

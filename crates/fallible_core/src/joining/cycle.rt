@@ -1,4 +1,4 @@
-// The adapter that begins anew at each end.
+// The adapter that starts anew at each `Ok(None)`.
 ghost use Rattle.std.specs.Prelude.{Result, Option};
 ghost use Rattle.fallible_contract.specs.Contract.{seen_as};
 ghost use Rattle.fallible_contract.specs.Laws.Contract.{lawful_seen};
@@ -8,7 +8,7 @@ ghost use Rattle.fallible_core.specs.Laws.Joining.Cycle.{lawful_cycle};
 use crate::traits::FallibleIterator;
 use std::alloc::AllocError;
 
-/// The answers of a run, and at its end those of a fresh clone of the kept source, and so on. The ends that close the runs are not answered; an end or a failure that a clone begins with is.
+/// What a run yields, and at its `Ok(None)` what a fresh clone of the kept source yields, and so on. The `Ok(None)` that closes a run isn't returned; an `Ok(None)` or a failure that a clone begins with is.
 #[derive(Clone, Debug, Drop)]
 pub struct Cycle<I> {
     // the current run
@@ -28,7 +28,7 @@ where
     ghost contract = { seen_as cycle_parts
         (cycle_contract I.is_clone I.is_infallible I.Error.from_gives I.contract) };
 
-    /// Draws one answer of the current run. It asks that each clone of the kept source may be drawn from. Where that is an end, it clones the kept source, which is the current run then, and draws one answer of it, whatever it is. Where the clone is refused, the answer is the failure made of the refusal, and the run stays as drawn past its end. The kept source stays in each case.
+    /// Draws the current run once. It requires that `next` may be called on each clone of the kept source. At `Ok(None)` it clones the kept source. The clone is the current run then, and is drawn once, whatever comes. If the clone can't be allocated, the call fails with the failure converted from `AllocError`, and the run stays as drawn past its `Ok(None)`. The kept source stays in each case.
     fn next(&mut self) -> Result<Option<I::Item>, I::Error> {
         match self.it.next() {
             Ok(Some(x)) => Ok(Some(x)),

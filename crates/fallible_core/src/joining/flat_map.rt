@@ -1,4 +1,4 @@
-// The adapter that joins the answers of the inner iterators which a closure makes.
+// The adapter that yields what the inner iterators yield which a closure makes.
 ghost use Rattle.std.specs.Prelude.{Option, Result};
 ghost use Rattle.fallible_contract.specs.Contract.{seen_as};
 ghost use Rattle.fallible_contract.specs.Laws.Contract.{lawful_seen};
@@ -12,7 +12,7 @@ use crate::traits::conversion::IntoFallibleIterator;
 use fallible_contract::folds::Turn;
 use std::marker::PhantomData;
 
-/// The answers of the inner iterators that the closure makes of the items, as `Flatten` joins them. `J` is what an answer of the closure becomes, and no caller writes it. Where the closure fails, its failure is the answer, and that item is lost.
+/// What the inner iterators yield that the closure makes of the items, as `Flatten`. `J` is what a result of the closure becomes, and no caller writes it. If the closure fails, its failure is yielded, and that item is lost.
 #[derive(Drop)]
 #[derive_where(Clone; I, F, J)]
 #[derive_where(Debug; I, J)]
@@ -44,7 +44,7 @@ impl<
         (0, None)
     }
 
-    /// The fold of the inner iterator in hand, and at its end, in the same call, that of the source, whose items the closure makes inner iterators of.
+    /// The fold of the current inner iterator, and after its `Ok(None)`, in the same call, that of the source, of whose items the closure makes inner iterators.
     fn drive<C, R, K: Turn<C, U::Item, R>>(
         &mut self,
         state: &mut C,

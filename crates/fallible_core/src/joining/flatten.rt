@@ -1,4 +1,4 @@
-// The adapter that joins the answers of inner iterators.
+// The adapter that yields what inner iterators yield.
 ghost use Rattle.std.specs.Prelude.{◌≡◌, ℕ, [], ◌∷◌, None, Ok, List, Option, Result};
 ghost use Rattle.fallible_contract.specs.Contract.{seen_as};
 ghost use Rattle.fallible_contract.specs.Folds.{CallableDriving, Driven, TurnThrough, beside, beside_names};
@@ -11,7 +11,7 @@ use crate::traits::conversion::IntoFallibleIterator;
 use fallible_contract::folds::{Beside, Turn, answer_within};
 use std::ops::ControlFlow;
 
-/// The answers of the inner iterators that the items become, one inner iterator after the other. `J` is what an item becomes, and no caller writes it. The one in hand answers until its end, at which it is dropped; then the next item is drawn. A failure of the inner iterator keeps it. A failure or an end of the outer source is the answer, and the next call draws from it again.
+/// What the inner iterators yield that the items become, one inner iterator after the other. `J` is what an item becomes, and no caller writes it. The current one is drawn until its `Ok(None)`, and is dropped then. Then the next item is drawn. After a failure of the inner iterator it stays the current one. After a failure or an `Ok(None)` of the outer source the next call draws that source again.
 #[derive(Clone, Debug, Drop)]
 pub struct Flatten<
     I,
@@ -30,7 +30,7 @@ impl<U: IntoFallibleIterator, I: FallibleIterator<Item = U, Error = U::Error>> F
     ghost contract = { seen_as flatten_parts
         (flatten_contract I.contract U.into_gives U.IntoFallibleIter.contract) };
 
-    /// Draws from the inner iterator in hand; where there is none or it ended, draws from the outer source until an item becomes an inner iterator that does not end at once, a failure comes or an end comes. It asks that the inner iterator in hand and each that may come may be drawn from.
+    /// Draws the current inner iterator. If there is none or it ended, it draws the outer source until an item becomes an inner iterator that does not end at once, or a failure or `Ok(None)` comes. It requires that `next` may be called on the current inner iterator and on each that may come.
     fn next(&mut self) -> Result<Option<U::Item>, U::Error> {
         next_joined(&mut self.it, &mut self.in_hand)
     }
@@ -39,7 +39,7 @@ impl<U: IntoFallibleIterator, I: FallibleIterator<Item = U, Error = U::Error>> F
         (0, None)
     }
 
-    /// The fold of the inner iterator in hand, and at its end, in the same call, the outer source's.
+    /// The fold of the current inner iterator, and after its `Ok(None)`, in the same call, the outer source's.
     fn drive<C, R, K: Turn<C, U::Item, R>>(
         &mut self,
         state: &mut C,
@@ -52,7 +52,7 @@ impl<U: IntoFallibleIterator, I: FallibleIterator<Item = U, Error = U::Error>> F
         (lawful_flatten _ I.lawful U.into_gives _ U.IntoFallibleIter.lawful) };
 }
 
-// One answer of the joined inner iterators. The one in hand is dropped at its end, and then the next item is drawn.
+// One call of `next` of the joined inner iterators. The current one is dropped at its `Ok(None)`, and then the next item is drawn.
 pub(crate) fn next_joined<U: IntoFallibleIterator, O: FallibleIterator<Item = U, Error = U::Error>>(
     outer: &mut O,
     in_hand: &mut Option<U::IntoFallibleIter>,
@@ -83,7 +83,7 @@ where
     }
 }
 
-// One fold of the joined inner iterators: of the one in hand, which is dropped at its end, and then of the outer source. The one in which the fold stopped stays in hand.
+// One fold of the joined inner iterators: of the current one, which is dropped at its `Ok(None)`, and then of the outer source. The one in which the fold stopped stays the current one.
 pub(crate) fn drive_joined<
     U: IntoFallibleIterator,
     O: FallibleIterator<Item = U, Error = U::Error>,
@@ -122,7 +122,7 @@ where
     drive_outer(outer, in_hand, state, turn)
 }
 
-// The fold where no inner iterator is in hand: one of the outer source.
+// The fold if there is no current inner iterator: one of the outer source.
 fn drive_outer<
     U: IntoFallibleIterator,
     O: FallibleIterator<Item = U, Error = U::Error>,
@@ -157,7 +157,7 @@ where
     answer_within(answer)
 }
 
-// The turn of the outer source's fold: the inner iterator that the item becomes is folded by the caller's turn. The outer fold goes on where that fold ended, and else stops with its answer and the inner iterator in hand.
+// The turn of the outer source's fold: the inner iterator that the item becomes is folded by the caller's turn. The outer fold goes on if that fold returned `Ok(None)`. Otherwise it stops with what that fold returned, and the inner iterator is the current one.
 #[derive(Drop)]
 struct FlattenTurn<'a, K> {
     turn: &'a K,

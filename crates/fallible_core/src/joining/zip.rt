@@ -8,7 +8,7 @@ ghost use Rattle.fallible_core.specs.Laws.Joining.Zip.{lawful_zip};
 use crate::traits::FallibleIterator;
 use fallible_contract::hints::smaller;
 
-/// The pairs of the left's items and the right's, place by place. A failure of either side is the answer, and else an end of either is an end; an item beside a failure or an end is lost.
+/// The pairs of the left's items and the right's, position by position. A failure of either side is yielded. Otherwise an `Ok(None)` of either side is returned. An item beside a failure or an `Ok(None)` is lost.
 #[derive(Clone, Debug, Drop)]
 pub struct Zip<T, U> {
     pub(crate) left: T,
@@ -26,7 +26,7 @@ where
 
     ghost contract = { seen_as zip_parts (zip_contract T.contract U.contract) };
 
-    /// Draws one answer of the left, and then, where that isn't a failure, one of the right.
+    /// Draws the left once, and then, unless that failed, the right once.
     fn next(&mut self) -> Result<Option<(T::Item, U::Item)>, T::Error> {
         let left = self.left.next()?;
         let right = self.right.next()?;

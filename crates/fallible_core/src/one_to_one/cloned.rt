@@ -15,7 +15,7 @@ use fallible_contract::folds::Turn;
 use fallible_contract::passing::{Outcome, Pass, passed};
 use std::alloc::AllocError;
 
-/// A clone of what each item points to. Where the clone is refused, the failure made of the refusal is the answer and the item is lost.
+/// A clone of what each item points to. If a clone can't be allocated, the failure converted from `AllocError` is yielded, and the item is lost.
 #[derive(Clone, Debug, Drop)]
 pub struct Cloned<I> {
     pub(crate) it: I,
@@ -32,7 +32,7 @@ where
     ghost contract = { seen_as cloned_parts (cloned_contract T.is_clone T.is_infallible
         I.Error.from_gives I.contract) };
 
-    /// Draws one answer, and clones what it points to where it is an item.
+    /// Draws once, and returns a clone of what the item points to.
     fn next(&mut self) -> Result<Option<T>, I::Error> {
         passed(self.it.next(), &mut (), &ClonePass)
     }
@@ -61,7 +61,7 @@ where
     ghost ends = { ends_seen_as cloned_parts (ends_of (cloned_contract T.is_clone T.is_infallible
         I.Error.from_gives (from_back I.contract I.ends))) };
 
-    /// Draws one answer from the back, and clones what it points to where it is an item.
+    /// Draws once from the back, and returns a clone of what the item points to.
     fn next_back(&mut self) -> Result<Option<T>, I::Error> {
         passed(self.it.next_back(), &mut (), &ClonePass)
     }

@@ -10,7 +10,7 @@ use crate::traits::FallibleIterator;
 use fallible_contract::folds::{NthTurn, Turn};
 use fallible_contract::passing::{Outcome, Pass, passed};
 
-/// Each item beside the number of items drawn before it. Failures and ends pass, and don't count.
+/// Each item with the number of items before it. Failures and `Ok(None)` pass, and don't count.
 #[derive(Clone, Debug, Drop)]
 pub struct Enumerate<I> {
     pub(crate) it: I,
@@ -27,7 +27,7 @@ where
 
     ghost contract = { seen_as enumerate_parts (enumerate_contract I.contract) };
 
-    /// Draws one answer, and counts it where it is an item.
+    /// Draws once, and counts an item.
     fn next(&mut self) -> Result<Option<(usize, I::Item)>, I::Error> {
         passed(self.it.next(), &mut self.count, &EnumeratePass)
     }
@@ -36,7 +36,7 @@ where
         self.it.size_hint()
     }
 
-    /// The count goes on for each item that the source gives, also for the one where the turn stops.
+    /// The count goes on for each item that the source yields, also for the one where the turn stops.
     fn drive<C, R, K: Turn<C, (usize, I::Item), R>>(
         &mut self,
         state: &mut C,
@@ -45,7 +45,7 @@ where
         drive_passing(&mut self.it, &mut self.count, &EnumeratePass, state, turn)
     }
 
-    /// The source's count, which takes its own number on by as much, also before a failure.
+    /// The source's count. Its own number goes up by as much, also before a failure.
     fn drive_count(&mut self, number: &mut usize) -> Result<(), I::Error> {
         let before = *number;
         let counted = self.it.drive_count(number);
@@ -53,7 +53,7 @@ where
         counted
     }
 
-    /// One fold of the source, which counts each item that it gives.
+    /// One fold of the source, which counts each item.
     fn drive_nth(&mut self, n: usize) -> Result<Option<(usize, I::Item)>, I::Error> {
         let mut left = n;
         self.drive(&mut left, &NthTurn)
@@ -62,7 +62,7 @@ where
     ghost lawful = { lawful_seen enumerate_parts (lawful_enumerate I.lawful) };
 }
 
-// An item beside its number. Its state is the number of the next item.
+// An item with its number. Its state is the number of the next item.
 #[derive(Drop)]
 struct EnumeratePass;
 

@@ -1,4 +1,4 @@
-// The adapter that shows each item to a closure.
+// The adapter that calls a closure on a reference to each item.
 ghost use Rattle.std.specs.Prelude.{Some, Result, Option};
 ghost use Rattle.fallible_contract.specs.Contract.{seen_as};
 ghost use Rattle.fallible_contract.specs.Closures.{call_at, takes_at};
@@ -14,7 +14,7 @@ use crate::traits::double_ended::DoubleEndedFallibleIterator;
 use fallible_contract::folds::Turn;
 use fallible_contract::passing::{Outcome, Pass, passed};
 
-/// The items of the source, each shown to the closure first. An item on which the closure fails is lost, and its failure is the answer.
+/// The items of the source. The closure is called on a reference to each first. An item on which it fails is lost, and its failure is yielded.
 #[derive(Clone, Debug, Drop)]
 pub struct Inspect<I, F> {
     pub(crate) it: I,
@@ -32,7 +32,7 @@ where
 
     ghost contract = { seen_as inspect_parts (inspect_contract I.contract F.FnMut) };
 
-    /// Draws one answer, and calls the closure where it is an item.
+    /// Draws once, and calls the closure on an item.
     fn next(&mut self) -> Result<Option<I::Item>, I::Error> {
         passed(self.it.next(), &mut self.f, &InspectPass)
     }
@@ -62,7 +62,7 @@ where
     ghost ends = { ends_seen_as inspect_parts
         (ends_of (inspect_contract (from_back I.contract I.ends) F.FnMut)) };
 
-    /// Draws one answer from the back, and calls the closure where it is an item.
+    /// Draws once from the back, and calls the closure on an item.
     fn next_back(&mut self) -> Result<Option<I::Item>, I::Error> {
         passed(self.it.next_back(), &mut self.f, &InspectPass)
     }
@@ -79,7 +79,7 @@ where
         (lawful_ends_inspect F.FnMut I.lawful_ends) };
 }
 
-// What becomes of an item once the closure saw it.
+// What becomes of an item after the closure's call.
 #[derive(Drop)]
 struct InspectPass;
 

@@ -15,14 +15,14 @@ use fallible_contract::folds::Turn;
 use fallible_contract::passing::{Outcome, Pass, passed};
 use std::fmt;
 
-/// Each item replaced by the closure's answer on it; where the closure fails, its failure is the answer and the item is lost.
+/// What the closure returns for each item. If it fails, its failure is yielded, and the item is lost.
 #[derive(Clone, Drop)]
 pub struct Map<T, F> {
     pub(crate) it: T,
     pub(crate) f: F,
 }
 
-// It asks nothing of the closure.
+// It requires nothing of the closure.
 impl<T: fmt::Debug, F> fmt::Debug for Map<T, F> {
     fn fmt<W: fmt::Write>(&self, f: &mut fmt::Formatter<W>) -> fmt::Result {
         let it = &self.it;
@@ -38,7 +38,7 @@ impl<I: FallibleIterator, B, F: FnMut(I::Item) -> Result<B, I::Error>> FallibleI
 
     ghost contract = { seen_as map_parts (map_contract I.contract F.FnMut) };
 
-    /// Draws one answer, and calls the closure where it is an item.
+    /// Draws once, and calls the closure on an item.
     fn next(&mut self) -> Result<Option<B>, I::Error> {
         passed(self.it.next(), &mut self.f, &MapPass)
     }
@@ -66,7 +66,7 @@ impl<
     ghost ends = { ends_seen_as map_parts
         (ends_of (map_contract (from_back I.contract I.ends) F.FnMut)) };
 
-    /// Draws one answer from the back, and calls the closure where it is an item.
+    /// Draws once from the back, and calls the closure on an item.
     fn next_back(&mut self) -> Result<Option<B>, I::Error> {
         passed(self.it.next_back(), &mut self.f, &MapPass)
     }

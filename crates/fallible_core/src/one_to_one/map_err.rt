@@ -14,7 +14,7 @@ use crate::traits::double_ended::DoubleEndedFallibleIterator;
 use fallible_contract::failing::{Fail, failed};
 use fallible_contract::folds::Turn;
 
-/// The source with each failure replaced by the closure's value on it. Its failures are those values; items and ends pass.
+/// The source with each failure replaced by what the closure returns for it. Items and `Ok(None)` pass.
 #[derive(Clone, Debug, Drop)]
 pub struct MapErr<I, F> {
     pub(crate) it: I,
@@ -28,7 +28,7 @@ impl<I: FallibleIterator, B, F: FnMut(I::Error) -> B> FallibleIterator for MapEr
 
     ghost contract = { seen_as map_err_parts (map_err_contract I.contract F.FnMut) };
 
-    /// Draws one answer, and calls the closure where it is a failure.
+    /// Draws once, and calls the closure if a failure came.
     fn next(&mut self) -> Result<Option<I::Item>, B> {
         failed(self.it.next(), &mut self.f, &MapErrFail)
     }
@@ -45,7 +45,7 @@ impl<I: FallibleIterator, B, F: FnMut(I::Error) -> B> FallibleIterator for MapEr
         drive_failing(&mut self.it, &mut self.f, &MapErrFail, state, turn)
     }
 
-    /// The source's count, or the closure's value on the failure that it met.
+    /// The source's count, or what the closure returns for the failure that it met.
     fn drive_count(&mut self, number: &mut usize) -> Result<(), B>
     where
         I::Item: Drop,
@@ -75,7 +75,7 @@ impl<I: DoubleEndedFallibleIterator, B, F: FnMut(I::Error) -> B> DoubleEndedFall
     ghost ends = { ends_seen_as map_err_parts
         (ends_of (map_err_contract (from_back I.contract I.ends) F.FnMut)) };
 
-    /// Draws one answer from the back, and calls the closure where it is a failure.
+    /// Draws once from the back, and calls the closure if a failure came.
     fn next_back(&mut self) -> Result<Option<I::Item>, B> {
         failed(self.it.next_back(), &mut self.f, &MapErrFail)
     }
@@ -92,7 +92,7 @@ impl<I: DoubleEndedFallibleIterator, B, F: FnMut(I::Error) -> B> DoubleEndedFall
         (lawful_ends_map_err F.FnMut I.lawful_ends) };
 }
 
-// The closure's value on a failure.
+// What the closure returns for a failure.
 #[derive(Drop)]
 struct MapErrFail;
 

@@ -1,4 +1,4 @@
-// The adapter that maps each item, and ends where its closure answers none.
+// The adapter that maps each item, and returns `Ok(None)` where its closure returns `None`.
 ghost use Rattle.fallible_contract.specs.Contract.{seen_as};
 ghost use Rattle.fallible_contract.specs.Closures.{call_on, takes_on};
 ghost use Rattle.fallible_contract.specs.Laws.Contract.{lawful_seen};
@@ -11,7 +11,7 @@ use crate::traits::FallibleIterator;
 use fallible_contract::folds::Turn;
 use fallible_contract::passing::{Outcome, Pass, passed};
 
-/// The value that the closure answers in the place of each item. None is an end, and the next call goes on; where the closure fails, its failure is the answer and the item is lost.
+/// What the closure returns for each item. Where that is `None`, the adapter returns `Ok(None)`, and the next call draws again. If the closure fails, its failure is yielded, and the item is lost.
 #[derive(Clone, Debug, Drop)]
 pub struct MapWhile<I, F> {
     pub(crate) it: I,
@@ -26,7 +26,7 @@ impl<I: FallibleIterator, B, F: FnMut(I::Item) -> Result<Option<B>, I::Error>> F
 
     ghost contract = { seen_as map_while_parts (map_while_contract I.contract F.FnMut) };
 
-    /// Draws one answer, and calls the closure where it is an item.
+    /// Draws once, and calls the closure on an item.
     fn next(&mut self) -> Result<Option<B>, I::Error> {
         passed(self.it.next(), &mut self.f, &MapWhilePass)
     }

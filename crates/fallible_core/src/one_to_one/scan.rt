@@ -10,7 +10,7 @@ use crate::traits::FallibleIterator;
 use fallible_contract::folds::Turn;
 use fallible_contract::passing::{Outcome, Pass, passed};
 
-/// Each item replaced by the closure's answer on the state and the item. None is an end, and the next call goes on; where the closure fails, its failure is the answer and the item is lost.
+/// What the closure returns for the state and each item. Where that is `None`, the adapter returns `Ok(None)`, and the next call draws again. If the closure fails, its failure is yielded, and the item is lost.
 #[derive(Clone, Debug, Drop)]
 pub struct Scan<I, St, F> {
     pub(crate) it: I,
@@ -30,7 +30,7 @@ impl<
 
     ghost contract = { seen_as scan_parts (scan_contract I.contract F.FnMut) };
 
-    /// Draws one answer, and calls the closure where it is an item.
+    /// Draws once, and calls the closure on an item.
     fn next(&mut self) -> Result<Option<B>, I::Error> {
         passed(self.it.next(), &mut self.scanning, &ScanPass)
     }

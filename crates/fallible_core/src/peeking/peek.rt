@@ -15,13 +15,13 @@ impl<I: FallibleIterator> Peekable<I>
 where
     I::Item: Drop,
 {
-    /// The next item: a reference to it, or none at an end. Where an answer is held it is that one.
+    /// Returns a reference to the next item, or `Ok(None)`. If something is buffered, it is that.
     ///
-    /// It draws once where nothing is held, and else nothing. It fails as the source does; a failure is answered, and is not held. An item or an end is held then, so that `next` answers it without a draw. What is left may be drawn from again.
+    /// It draws once if nothing is buffered, and otherwise nothing. It fails as the source does; a failure isn't buffered. An item or an `Ok(None)` is buffered then, so that `next` returns it without a draw. The iterator may be used again.
     ///
-    /// The reference keeps the whole borrowed while it is used. A caller whose proof goes on after it takes `look`, which hands the item to a closure, or `peek_copied`.
+    /// The reference borrows the whole iterator while it is used. A caller whose proof goes on after it takes `look`, which passes the item to a closure, or `peek_copied`.
     ///
-    /// Asks that it may be drawn from.
+    /// Requires that `next` may be called.
     ///
     /// ```
     /// let answers = [Ok(1), Ok(2), Ok(3)];
@@ -47,11 +47,11 @@ where
         Self::joined(filled, held)
     }
 
-    /// What the closure answers on a reference to the next item, or none at an end.
+    /// Returns what the closure returns for a reference to the next item, or `Ok(None)`.
     ///
-    /// It draws, fails and holds as `peek` does. What is left may be drawn from again, and a caller's proof knows what is held.
+    /// Draws, errors and what is buffered: as `peek`. The iterator may be used again, and a caller's proof knows what is buffered.
     ///
-    /// Asks that it may be drawn from, and that the closure may be called on a reference to each item that may come.
+    /// Requires that `next` may be called, and that the closure may be called on a reference to each item that may come.
     ///
     /// ```
     /// let mut ahead = convert(readings.into_iter()).peekable();
@@ -81,11 +81,11 @@ where
         }
     }
 
-    /// A copy of the next item, or none at an end.
+    /// Returns a copy of the next item, or `Ok(None)`.
     ///
-    /// It draws, fails and holds as `peek` does. What is left may be drawn from again, and a caller's proof knows what is held.
+    /// Draws, errors and what is buffered: as `peek`. The iterator may be used again, and a caller's proof knows what is buffered.
     ///
-    /// Asks that it may be drawn from.
+    /// Requires that `next` may be called.
     ///
     /// ```
     /// let mut ahead = it.peekable();
@@ -110,11 +110,11 @@ where
         Ok(self.held().copied())
     }
 
-    /// Answers `()` where an item or an end is held. With `held` it does what `peek` does, in two steps after which a caller's proof knows what is held.
+    /// Buffers what comes next, an item or an `Ok(None)`, as `peek` does, and returns `Ok(())`. Then `held` returns the item: with it this is `peek` in two steps, after which a caller's proof knows what is buffered.
     ///
-    /// It draws, fails and holds as `peek` does. What is left may be drawn from again.
+    /// Draws, errors and what is buffered: as `peek`. The iterator may be used again.
     ///
-    /// Asks that it may be drawn from.
+    /// Requires that `next` may be called.
     ///
     /// ```
     /// match it.fill() {
@@ -137,7 +137,7 @@ where
         }
     }
 
-    // Draws once, where nothing is held, and holds an item or an end.
+    // Draws once, if nothing is buffered, and buffers an item or an `Ok(None)`.
     fn hold(&mut self) -> Result<(), I::Error>
     where
         requires can_next { (peekable_contract I.contract).can_next (peekable_parts self.old) }
@@ -154,9 +154,9 @@ where
         }
     }
 
-    /// The held item, and none where an end or nothing is held.
+    /// Returns the buffered item, and `None` if an `Ok(None)` or nothing is buffered.
     ///
-    /// It draws nothing and never fails. What is held stays held.
+    /// It draws nothing and never fails. What is buffered stays so.
     ///
     /// ```
     /// let is_item = (*it).held().is_some();
@@ -172,7 +172,7 @@ where
         }
     }
 
-    // The held item, lent by the whole.
+    // The buffered item, borrowed from the whole.
     fn lend(&mut self) -> Option<&I::Item>
     where
         ensures shown { option_copied result ≡ held_item self.old.held }
@@ -183,7 +183,7 @@ where
         (*self).held()
     }
 
-    // The held item, or the failure.
+    // The buffered item, or the failure.
     fn joined(
         filled: Result<(), I::Error>,
         held: Option<&I::Item>,

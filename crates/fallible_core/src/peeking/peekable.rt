@@ -12,11 +12,11 @@ use fallible_contract::folds::Turn;
 use fallible_contract::hints::one_more;
 use std::ops::ControlFlow;
 
-/// The answers of the source, the next of which can be looked at ahead. An item or an end that was looked at is held, and comes first; a failure is not held.
+/// What the source yields; the next item can be looked at ahead. An item or an `Ok(None)` that was looked at is buffered, and comes first; a failure isn't buffered.
 #[derive(Clone, Debug, Drop)]
 pub struct Peekable<I: FallibleIterator> {
     pub(crate) it: I,
-    // the answer that was looked at, an item or an end, and hasn't come yet
+    // what was looked at, an item or an `Ok(None)`, and wasn't returned yet
     pub(crate) held: Option<Option<I::Item>>,
 }
 
@@ -30,7 +30,7 @@ where
 
     ghost contract = { seen_as peekable_parts (peekable_contract I.contract) };
 
-    /// Gives the held answer without a draw, and draws one answer where none is held.
+    /// Returns what is buffered without a draw, and draws once if nothing is.
     fn next(&mut self) -> Result<Option<I::Item>, I::Error> {
         match self.held.take() {
             Some(answer) => Ok(answer),
@@ -46,7 +46,7 @@ where
         }
     }
 
-    /// The turn on a held item, and then the source's fold; a held end ends the fold without a draw.
+    /// The turn on a buffered item, and then the source's fold; a buffered `Ok(None)` ends the fold without a draw.
     fn drive<C, R, K: Turn<C, I::Item, R>>(
         &mut self,
         state: &mut C,
@@ -69,11 +69,11 @@ impl<I: FallibleIterator> Peekable<I>
 where
     I::Item: Drop,
 {
-    /// The next item, where the closure answers true on it, and else none. At an end it is none, and the closure isn't called.
+    /// Returns the next item, if the closure returns true for it, and otherwise `Ok(None)`. At an `Ok(None)` the closure isn't called.
     ///
-    /// It draws once where nothing is held, and else nothing. It fails as the source does; a failure is answered, and is not held. An item that is refused stays held, and so does an end. What is left may be drawn from again, and after an item each bound is lower.
+    /// It draws once if nothing is buffered, and otherwise nothing. It fails as the source does; a failure isn't buffered. An item that is rejected stays buffered, and so does an `Ok(None)`. The iterator may be used again, and after an item each bound is lower.
     ///
-    /// Asks that it may be drawn from, and that the closure may be called on a reference to each item that may come.
+    /// Requires that `next` may be called, and that the closure may be called on a reference to each item that may come.
     ///
     /// ```
     /// match right.next_if(|second| *second < first)? {
@@ -116,11 +116,11 @@ where
         }
     }
 
-    /// The next item, where it equals the one expected, and else none.
+    /// Returns the next item, if it equals the expected one, and otherwise `Ok(None)`.
     ///
-    /// It draws, fails and holds as `next_if` does. What is left may be drawn from again.
+    /// Draws, errors and what is buffered: as `next_if`. The iterator may be used again.
     ///
-    /// Asks that it may be drawn from.
+    /// Requires that `next` may be called.
     ///
     /// ```
     /// assert_eq!(rt; it.next_if_eq(&7), Ok(None));

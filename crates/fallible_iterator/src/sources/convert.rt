@@ -16,7 +16,7 @@ use crate::sources::std_fold::{Progressing, turn_of_element};
 use fallible_contract::folds::Turn;
 use fallible_core::{DoubleEndedFallibleIterator, FallibleIterator, Rev};
 
-/// The fallible iterator of a std iterator over results: each `Ok` is an item, each `Err` a failure, and none is an end.
+/// The fallible iterator of a std iterator over results: each `Ok` is an item, each `Err` a failure, and `None` is `Ok(None)`.
 #[derive(Clone, Debug, Drop)]
 pub struct Convert<I> {
     pub(crate) it: I,
@@ -30,7 +30,7 @@ impl<T, E, I: std::iter::Iterator<Item = Result<T, E>>> FallibleIterator for Con
     ghost contract = { seen_as convert_parts
         (convert_contract I.can_next I.next_gives I.remaining) };
 
-    /// Draws one element of the std iterator.
+    /// Draws the std iterator once.
     fn next(&mut self) -> Result<Option<T>, E> {
         transpose(self.it.next())
     }
@@ -65,7 +65,7 @@ impl<T, E, I: std::iter::DoubleEndedIterator<Item = Result<T, E>>> DoubleEndedFa
     ghost ends = { ends_seen_as convert_parts
         (convert_ends I.can_next I.can_next_back I.next_gives I.next_back_gives I.remaining) };
 
-    /// Draws one element of the std iterator from the back.
+    /// Draws the std iterator once from the back.
     fn next_back(&mut self) -> Result<Option<T>, E> {
         transpose(self.it.next_back())
     }
@@ -96,13 +96,13 @@ impl<T, E, I: std::iter::DoubleEndedIterator<Item = Result<T, E>>> DoubleEndedFa
         I.remaining) };
 }
 
-// `rev` of the trait, which says besides what a std iterator that has two ends lists from the back.
+// `rev` of the trait, which also says what a double-ended std iterator lists from the back.
 impl<T, E, I: std::iter::DoubleEndedIterator<Item = Result<T, E>>> Convert<I> {
-    /// Swaps the ends: a draw from the adapter is a draw from the back, and the other way round.
+    /// Swaps the two ends: a draw from the front of the adapter is a draw from the back of the source, and the other way round.
     ///
-    /// Making it draws nothing. One call draws one answer, from the other end. It fails as that draw does. After a failure and after an end the next call draws the source again.
+    /// Creating it draws nothing. Each call draws once, from the other end. It fails as that draw does. After a failure and after `Ok(None)` the next call draws again.
     ///
-    /// Asks nothing. Each draw asks that the source may be drawn from, from either end.
+    /// Requires nothing. `next` requires that `next` and `next_back` may be called on the source.
     ///
     /// ```
     /// convert(readings.into_iter()).rev().collect(alloc)
@@ -125,7 +125,7 @@ impl<T, E, I: std::iter::DoubleEndedIterator<Item = Result<T, E>>> Convert<I> {
     }
 }
 
-// The answer that an element of the std iterator is: `Ok` an item, `Err` a failure, none an end.
+// What an element of the std iterator becomes: `Ok` an item, `Err` a failure, `None` an `Ok(None)`.
 fn transpose<T, E>(element: Option<Result<T, E>>) -> Result<Option<T>, E>
     ensures { element ≡ element_by Ok Err result }
 {

@@ -1,4 +1,4 @@
-// The source that only ends.
+// The source of nothing.
 ghost use Rattle.std.specs.Prelude.{Some, Ok, Result, Option};
 ghost use Rattle.fallible_iterator.specs.Sources.Empty.{empty_contract};
 ghost use Rattle.fallible_iterator.specs.Laws.Sources.Empty.{lawful_empty};
@@ -6,7 +6,7 @@ ghost use Rattle.fallible_iterator.specs.Laws.Sources.Empty.{lawful_empty};
 use fallible_core::FallibleIterator;
 use std::marker::PhantomData;
 
-/// Only ends.
+/// Yields nothing: each call returns `Ok(None)`.
 #[derive(Clone, Debug, Drop)]
 pub struct Empty<T, E> {
     pub(crate) item: PhantomData<T>,

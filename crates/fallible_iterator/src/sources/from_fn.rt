@@ -7,7 +7,7 @@ ghost use Rattle.fallible_iterator.specs.Laws.Sources.FromFn.{lawful_from_fn};
 
 use fallible_core::FallibleIterator;
 
-/// The fallible iterator of a closure: each draw is one call, and its answer is the closure's.
+/// The fallible iterator of a closure: each `next` is one call, and returns what the closure returns.
 #[derive(Clone, Debug, Drop)]
 pub struct FromFn<F> {
     pub(crate) fun: F,

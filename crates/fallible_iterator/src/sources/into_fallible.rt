@@ -16,7 +16,7 @@ use fallible_contract::folds::Turn;
 use fallible_core::{DoubleEndedFallibleIterator, FallibleIterator, Rev};
 use std::convert::Infallible;
 
-/// The fallible iterator of a std iterator over any values: each is an item, and none is an end. It never fails.
+/// The fallible iterator of a std iterator over any values: each is an item, and `None` is `Ok(None)`. It never fails.
 #[derive(Clone, Debug, Drop)]
 pub struct IntoFallible<I> {
     pub(crate) it: I,
@@ -30,7 +30,7 @@ impl<T, I: std::iter::Iterator<Item = T>> FallibleIterator for IntoFallible<I> {
     ghost contract = { seen_as into_fallible_parts
         (into_fallible_contract I.can_next I.next_gives I.remaining) };
 
-    /// Draws one element of the std iterator.
+    /// Draws the std iterator once.
     fn next(&mut self) -> Result<Option<T>, Infallible> {
         Ok(self.it.next())
     }
@@ -67,7 +67,7 @@ impl<T, I: std::iter::DoubleEndedIterator<Item = T>> DoubleEndedFallibleIterator
         (into_fallible_ends I.can_next I.can_next_back I.next_gives I.next_back_gives
         I.remaining) };
 
-    /// Draws one element of the std iterator from the back.
+    /// Draws the std iterator once from the back.
     fn next_back(&mut self) -> Result<Option<T>, Infallible> {
         Ok(self.it.next_back())
     }
@@ -95,13 +95,13 @@ impl<T, I: std::iter::DoubleEndedIterator<Item = T>> DoubleEndedFallibleIterator
         I.remaining) };
 }
 
-// `rev` of the trait, which says besides what a std iterator that has two ends lists from the back.
+// `rev` of the trait, which also says what a double-ended std iterator lists from the back.
 impl<T, I: std::iter::DoubleEndedIterator<Item = T>> IntoFallible<I> {
-    /// Swaps the ends: a draw from the adapter is a draw from the back, and the other way round.
+    /// Swaps the two ends: a draw from the front of the adapter is a draw from the back of the source, and the other way round.
     ///
-    /// Making it draws nothing. One call draws one answer, from the other end. It fails as that draw does. After a failure and after an end the next call draws the source again.
+    /// Creating it draws nothing. Each call draws once, from the other end. It fails as that draw does. After a failure and after `Ok(None)` the next call draws again.
     ///
-    /// Asks nothing. Each draw asks that the source may be drawn from, from either end.
+    /// Requires nothing. `next` requires that `next` and `next_back` may be called on the source.
     ///
     /// ```
     /// let mut it = IntoFallible::from(1..4u32).rev();
@@ -125,9 +125,9 @@ impl<T, I: std::iter::DoubleEndedIterator<Item = T>> IntoFallible<I> {
 impl<T, I: std::iter::Iterator<Item = T>> From<I> for IntoFallible<I> {
     ghost from_gives = { λ it s. into_fallible_parts s ≡ it };
 
-    /// The fallible iterator that gives the elements of a std iterator, as `into_fallible` makes it.
+    /// Returns the fallible iterator that yields the elements of a std iterator, as `into_fallible`.
     ///
-    /// Making it draws nothing. One call draws one element of the std iterator. It never fails. After an end the next call asks the std iterator again.
+    /// Creating it draws nothing. `next` draws the std iterator once. It never fails. After `Ok(None)` the next call draws the std iterator again.
     ///
     /// ```
     /// let it = IntoFallible::from(0..4u32).chain(IntoFallible::from(4..8u32));

@@ -18,11 +18,11 @@ use std::alloc::AllocError;
 use std::iter::Fuse;
 use std::marker::PhantomData;
 
-/// Makes a fallible iterator of a std iterator over results: an `Ok` is an item, an `Err` a failure, and none an end.
+/// Creates a fallible iterator of a std iterator over results: an `Ok` is an item, an `Err` a failure, and `None` is `Ok(None)`.
 ///
-/// Making it draws nothing. One call draws one element of the std iterator. It fails with the value of an `Err`. After a failure and after an end the next call asks the std iterator again.
+/// Creating it draws nothing. `next` draws the std iterator once. It fails with the value of an `Err`. After a failure and after `Ok(None)` the next call draws the std iterator again.
 ///
-/// Asks nothing. It may be drawn from where the std iterator may be asked again after every answer, also after `None`, and a bound that it states doesn't rise there; from both ends, where that holds after every answer from either end. Of a std iterator that doesn't say so, as `lines` of a reader, `convert_fused` makes one. What it lists from the back is said by `rev` and by `law_back_convert`, which ask that the std iterator has two ends.
+/// Requires nothing. `next` requires that the std iterator may be drawn again after each element and after `None`, and that a bound that it states doesn't rise there; from both ends, if that holds after every draw from either end. For a std iterator that doesn't say so, as `lines` of a reader, use `convert_fused`. What it lists from the back is said by `rev` and by `law_back_convert`, which require a double-ended std iterator.
 ///
 /// ```
 /// convert(readings.into_iter())
@@ -43,11 +43,11 @@ pub fn convert<T, E, I: Iterator<Item = Result<T, E>>>(it: I) -> Convert<I>
     Convert { it }
 }
 
-/// Makes a fallible iterator of a std iterator over results which may have more to come after it answered `None`, as `lines` of a reader. It is `convert` of the iterator's `fuse`.
+/// Creates a fallible iterator of a std iterator over results that may go on after a `None`, as `lines` of a reader. It is `convert` of the iterator's `fuse`.
 ///
-/// Making it draws nothing. One call draws one element of the std iterator. It fails with the value of an `Err`. After its first end it ends for good: the std iterator isn't asked again. So the value of an adapter that holds an item, as `dedup`, is known behind it.
+/// Creating it draws nothing. `next` draws the std iterator once. It fails with the value of an `Err`. It is fused: after the first `Ok(None)` the std iterator isn't drawn again. So the value of an adapter that requires a fused source, as `zip_longest`, is known over it.
 ///
-/// Asks nothing. It may be drawn from where the std iterator may be asked again after every `Some`.
+/// Requires nothing. `next` requires that the std iterator may be drawn again after each `Some`.
 ///
 /// ```
 /// convert_fused(reader.lines(alloc))
@@ -70,9 +70,9 @@ pub fn convert_fused<T, E, I: Iterator<Item = Result<T, E>>>(it: I) -> Convert<F
     convert(it.fuse())
 }
 
-/// Makes a fallible iterator of one item, which then ends.
+/// Creates a fallible iterator that yields one item.
 ///
-/// Making it draws nothing. It never fails. After the item it ends for good.
+/// Creating it draws nothing. It never fails. After the item each call returns `Ok(None)`.
 ///
 /// ```
 /// let mut it = once::<u32, u32>(5);
@@ -89,9 +89,9 @@ pub fn once<T, E>(value: T) -> Once<T, E>
     }
 }
 
-/// Makes a fallible iterator of one failure, which then ends.
+/// Creates a fallible iterator that yields one failure.
 ///
-/// Making it draws nothing. It fails once. After the failure it ends for good.
+/// Creating it draws nothing. It fails once. After the failure each call returns `Ok(None)`.
 ///
 /// ```
 /// let mut it = once_err::<u32, u32>(4);
@@ -111,11 +111,11 @@ pub fn once_err<T, E>(error: E) -> OnceErr<T, E>
     }
 }
 
-/// Makes a fallible iterator of a closure, whose answer is that of the draw.
+/// Creates a fallible iterator whose `next` returns what the closure returns.
 ///
-/// Making it draws nothing and calls nothing. One draw calls the closure once, also after an end or a failure. It fails as the closure does. It states no bound, so it is drained through `take`. Where the closure's state shows what it will answer, that is listed.
+/// Creating it draws nothing and calls nothing. `next` calls the closure once, also after an `Ok(None)` or a failure. It fails as the closure does. It states no bound, so it is drained through `take`. If the closure's state shows what it will return, that is listed.
 ///
-/// Asks that the closure may be called in each state that such calls bring it to.
+/// Requires that the closure may be called in each state that such calls bring it to.
 ///
 /// ```
 /// let mut calls = 0u32;
@@ -136,9 +136,9 @@ pub fn from_fn<I, E, F: FnMut() -> Result<Option<I>, E>>(fun: F) -> FromFn<F>
     FromFn { fun }
 }
 
-/// Makes a fallible iterator that only ends.
+/// Creates a fallible iterator that yields nothing: each call returns `Ok(None)`.
 ///
-/// Making it draws nothing. It never fails.
+/// Creating it draws nothing. It never fails.
 ///
 /// ```
 /// let mut it = empty::<u32, u32>();
@@ -153,9 +153,9 @@ pub fn empty<T, E>() -> Empty<T, E>
     }
 }
 
-/// Makes a fallible iterator that always gives a clone of `value`.
+/// Creates a fallible iterator that always yields a clone of `value`.
 ///
-/// Making it draws nothing. Where a clone is refused, it fails with the failure made of the refusal. The value stays, and the next call clones it again. It states no bound, so it is drained through `take`.
+/// Creating it draws nothing. If a clone can't be allocated, it fails with the failure converted from `AllocError`. The value stays, and the next call clones it again. It states no bound, so it is drained through `take`.
 ///
 /// ```
 /// let it = repeat::<u32, TestError>(5).take(2);
@@ -174,9 +174,9 @@ pub fn repeat<T: Clone, E: From<AllocError>>(value: T) -> Repeat<T, E>
     }
 }
 
-/// Makes a fallible iterator that always fails with a clone of `error`.
+/// Creates a fallible iterator that always fails with a clone of `error`.
 ///
-/// Making it draws nothing. Where a clone is refused, it fails with the failure made of the refusal. The error stays, and the next call clones it again.
+/// Creating it draws nothing. If a clone can't be allocated, it fails with the failure converted from `AllocError`. The error stays, and the next call clones it again.
 ///
 /// ```
 /// let mut it = repeat_err::<u32, TestError>(TestError::Number(4));

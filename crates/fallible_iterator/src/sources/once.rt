@@ -8,7 +8,7 @@ ghost use Rattle.fallible_iterator.specs.Laws.Sources.Once.{lawful_once};
 use fallible_core::FallibleIterator;
 use std::marker::PhantomData;
 
-/// One item, and then ends.
+/// One item. Then each call returns `Ok(None)`.
 #[derive(Clone, Debug, Drop)]
 pub struct Once<T, E> {
     pub(crate) value: Option<T>,

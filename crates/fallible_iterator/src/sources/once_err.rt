@@ -8,7 +8,7 @@ ghost use Rattle.fallible_iterator.specs.Laws.Sources.OnceErr.{lawful_once_err};
 use fallible_core::FallibleIterator;
 use std::marker::PhantomData;
 
-/// One failure, and then ends.
+/// One failure. Then each call returns `Ok(None)`.
 #[derive(Clone, Debug, Drop)]
 pub struct OnceErr<T, E> {
     pub(crate) item: PhantomData<T>,

@@ -9,7 +9,7 @@ use fallible_core::FallibleIterator;
 use std::alloc::AllocError;
 use std::marker::PhantomData;
 
-/// A clone of one value as each item. Where a clone is refused, the answer is the failure made of the refusal, and the value stays.
+/// A clone of one value as each item. If a clone can't be allocated, the failure converted from `AllocError` is yielded, and the value stays.
 #[derive(Clone, Debug, Drop)]
 pub struct Repeat<T, E> {
     pub(crate) value: T,

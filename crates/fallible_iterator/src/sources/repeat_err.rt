@@ -9,7 +9,7 @@ use fallible_core::FallibleIterator;
 use std::alloc::AllocError;
 use std::marker::PhantomData;
 
-/// A clone of one error as each failure. Where a clone is refused, the failure is the one made of the refusal, and the error stays.
+/// A clone of one error as each failure. If a clone can't be allocated, the failure is the one converted from `AllocError`, and the error stays.
 #[derive(Clone, Debug, Drop)]
 pub struct RepeatErr<T, E> {
     pub(crate) item: PhantomData<T>,

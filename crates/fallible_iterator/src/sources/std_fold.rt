@@ -5,7 +5,7 @@ ghost use Rattle.fallible_iterator.specs.Sources.StdFold.{progressing, ElementTu
 use fallible_contract::folds::Turn;
 use std::ops::ControlFlow;
 
-// A std iterator that a reference points to, of each of whose calls it is known besides that it made progress.
+// A std iterator that a reference points to, each of whose calls is known besides to have made progress.
 #[derive(Drop)]
 pub(crate) struct Progressing<'a, I> {
     pub(crate) it: &'a mut I,
