@@ -1,13 +1,13 @@
-//! What draws answer, as values that a test or a caller can look at.
+//! What draws returned, as values that a test or a caller can look at.
 
-/// What one draw answered.
+/// What one draw returned.
 #[derive(Debug, PartialEq, Eq, Drop)]
 pub enum Answer<T, E> {
     /// an item
     Item(T),
     /// a failure
     Failure(E),
-    /// an end
+    /// `Ok(None)`
     End,
 }
 

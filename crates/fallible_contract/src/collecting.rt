@@ -16,29 +16,29 @@ pub trait Collect<T>: Drop + Sized {
     // Holds of the items pushed so far and of the collection that they made.
     ghost made: { List T → Self → Type 0 };
 
-    // Holds where making the empty collection may be refused.
+    // Holds if creating the empty collection may fail.
     ghost empty_refuses: { Type 0 };
 
-    // Holds of a collection and an item that it may refuse.
+    // Holds of a collection and an item that it may reject, since an allocation may fail.
     ghost push_refuses: { Self → T → Type 0 };
 
-    /// Makes the collection of no items. It fails only where memory is refused.
+    /// Creates the collection of no items. It fails only if an allocation fails.
     fn empty(alloc: Global) -> Result<Self, AllocError>
         ensures { MatchResult result (made []) (λ _. empty_refuses) };
 
-    /// Adds one item after the others. Where it fails, memory was refused, and the item is dropped.
+    /// Appends one item to the others. If it fails, an allocation failed, and the item is dropped.
     fn push_one(&mut self, item: T) -> Result<(), AllocError>
         ensures { MatchResult result
             (λ _. (items : List T) → made items self.old → made (items ++ item ∷ []) self.new)
             (λ _. push_refuses self.old item) };
 }
 
-/// Why a collection was not made: the source failed, or memory was refused.
+/// Why a collection was not made: the source failed, or an allocation did.
 #[derive(Debug, Drop)]
 pub enum Fault<E> {
     /// the first failure of the source or of a closure
     Source(E),
-    /// making the collection or adding an item was refused
+    /// an allocation of the collection failed
     Memory(AllocError),
 }
 
@@ -60,7 +60,7 @@ impl<T: Drop> Collect<T> for Vec<T> {
 
     ghost push_refuses = { λ v _. vec_capacity v ≤ vec_len v };
 
-    /// No memory is taken.
+    /// Nothing is allocated.
     fn empty(alloc: Global) -> Result<Vec<T>, AllocError>
         ensures made { MatchResult result (λ v. v.items ≡ []) (λ _. ⊥) }
         ensures no_room { IfOk result (λ v. vec_capacity v ≡ 0) }
@@ -76,7 +76,7 @@ impl<T: Drop> Collect<T> for Vec<T> {
     }
 }
 
-/// The turn of `collect`, whose state is the collection. It stops where that refuses an item.
+/// The turn of `collect`, whose state is the collection. It stops if that rejects an item.
 #[derive(Drop)]
 pub struct CollectTurn;
 
@@ -85,7 +85,7 @@ impl<A, C: Collect<A>> Turn<C, A, AllocError> for CollectTurn {
 
     ghost turns = { λ _ c x r d. IsCollectTurn C.made C.push_refuses c x r d };
 
-    /// The item after the others.
+    /// Appends the item to the others.
     #[inline(always)]
     fn turn(&self, state: &mut C, item: A) -> ControlFlow<AllocError, ()> {
         match state.push_one(item) {
@@ -106,7 +106,7 @@ impl<A: Drop, E, B: Collect<A>, F: FnMut(&A) -> Result<bool, E>> Turn<(F, (B, B)
     ghost turns = { λ _ c x r d. IsPartitionTurn (call_at F.FnMut) B.made B.push_refuses
         c x r d };
 
-    /// The predicate is asked once, and the item is pushed to the side of its answer.
+    /// Calls the predicate once, and pushes the item to the side that it returns.
     #[inline(always)]
     fn turn(&self, state: &mut (F, (B, B)), item: A) -> ControlFlow<Fault<E>, ()> {
         let answer = match (state.0)(&item) {
@@ -137,7 +137,7 @@ impl<A, B: Drop, C: Collect<A>, D: Collect<B>> Turn<(C, D), (A, B), AllocError> 
     ghost turns = { λ _ c x r d. IsUnzipTurn C.made D.made C.push_refuses D.push_refuses
         c x r d };
 
-    /// The first half is pushed to the first collection, and then the second half to the second.
+    /// Pushes the first half to the first collection, and then the second half to the second.
     #[inline(always)]
     fn turn(&self, state: &mut (C, D), item: (A, B)) -> ControlFlow<AllocError, ()> {
         let (a, b) = item;

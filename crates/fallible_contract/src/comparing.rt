@@ -5,7 +5,7 @@ ghost use Rattle.std.specs.declared.cmp.Ordering.{Ordering};
 
 use std::cmp::Ordering;
 
-/// How two items compare; none where they have no order.
+/// How two items compare; `None` if they can't be compared.
 pub trait Rule<A> {
     // What the rule says of two items.
     ghost rule: { A → A → Option Ordering };
@@ -26,7 +26,7 @@ impl<A: Ord> Rule<A> for ByCmp {
     }
 }
 
-/// By an order of the items in which two may have none.
+/// By a partial order of the items.
 pub struct ByPartialCmp;
 
 impl<A: PartialOrd> Rule<A> for ByPartialCmp {
@@ -37,7 +37,7 @@ impl<A: PartialOrd> Rule<A> for ByPartialCmp {
     }
 }
 
-/// By the equality of the items: unlike ones have no order.
+/// By the equality of the items: unlike ones can't be compared.
 pub struct ByEq;
 
 impl<A: PartialEq> Rule<A> for ByEq {
@@ -52,7 +52,7 @@ impl<A: PartialEq> Rule<A> for ByEq {
     }
 }
 
-/// What the answers of one round decide, where neither side failed: none where both are items that are equal by the rule, so that the comparison goes on.
+/// What one round decides, if neither side failed: `None` for two items that are equal by the rule, so that the comparison goes on.
 pub fn decide<A: Drop, K: Rule<A>>(left: Option<A>, right: Option<A>) -> Option<Option<Ordering>>
     ensures { result ≡ decided_round K.rule left right }
 {
@@ -67,12 +67,12 @@ pub fn decide<A: Drop, K: Rule<A>>(left: Option<A>, right: Option<A>) -> Option<
     }
 }
 
-/// What is read off a comparison's answer.
+/// What is read off a comparison's result.
 pub trait Reading {
     // What an order, or the lack of one, is read as.
     ghost reads: { Option Ordering → Bool };
 
-    /// Reads the answer, where it is no failure.
+    /// Reads the result, unless it is a failure.
     fn read<E>(answer: Result<Option<Ordering>, E>) -> Result<bool, E>
         ensures { result ≡ read_as reads answer };
 }
@@ -143,7 +143,7 @@ impl Reading for ReadGe {
     }
 }
 
-/// The order, where a comparison found one.
+/// The order, if a comparison found one.
 pub fn ordered<E>(answer: Result<Option<Ordering>, E>) -> Result<Ordering, E>
     requires { ¬ (answer ≡ Ok None) }
     ensures { read_as (λ o. Some o) result ≡ answer }

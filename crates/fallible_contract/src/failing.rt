@@ -24,7 +24,7 @@ pub trait Fail<P, D> {
         ensures { call self.now state.old failure result state.new };
 }
 
-/// What such an adapter makes of one answer of its source, or of what a call of its source answers: the closure is called where that is a failure.
+/// What such an adapter makes of one answer of its source, or of the result of a call on its source: the closure is called if that is a failure.
 #[inline(always)]
 pub fn failed<C, P, D, A: Fail<P, D>>(
     made: Result<C, D>,
@@ -40,7 +40,7 @@ pub fn failed<C, P, D, A: Fail<P, D>>(
     }
 }
 
-/// What becomes of a failure that a fold of the source met, and the caller's turn on the item that it becomes: whether the fold goes on, or what it answers.
+/// What becomes of a failure that a fold of the source met, and the caller's turn on the item that it becomes: whether the fold goes on, or what it returns.
 #[inline(always)]
 pub fn turn_on_failure<P, D, E, A: Pass<P, D, E>, C, R, K: Turn<C, A::Kept, R>>(
     failure: D,

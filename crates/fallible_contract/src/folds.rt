@@ -1,4 +1,4 @@
-//! Folds, whose state a reference points to: the turns that they take.
+//! Folds, whose state a reference points to: their turns.
 ghost use Rattle.std.specs.Prelude.{◌≡◌, ◌+◌, ◌-◌, ◌^◌, ◌<◌, ⊤, Result, Option, Some};
 ghost use Rattle.std.specs.Borrow.{MutBor};
 ghost use Rattle.fallible_contract.specs.Folds.{IsFoldTurn, IsFoldTurnInSlot, takes_in_slot, IsNthTurn, within, call_with, takes_with, ReduceCall, reduce_takes};
@@ -8,15 +8,15 @@ ghost use Rattle.std.specs.declared.ops.ControlFlow.TheVariants.{Continue, Break
 use std::convert::Infallible;
 use std::ops::ControlFlow;
 
-/// One turn of a fold: on the fold's state and an item it goes on, or stops the fold with an answer. Every closure of this shape is one.
+/// One turn of a fold: on the fold's state and an item it goes on, or stops the fold with a result. Every closure of this shape is one.
 pub trait Turn<C, A, R> {
     // Holds of a state and an item on which the turn may be taken.
     ghost can_turn: { Self → C → A → Type 0 };
 
-    // Holds of those, of what the turn may answer, and of the state that it leaves.
+    // Holds of those, of what the turn may return, and of the state that it leaves.
     ghost turns: { Self → C → A → ControlFlow R (Unit {0}) → C → Type 0 };
 
-    /// Takes the turn: `Continue` where the fold goes on, or `Break` with what it stops with.
+    /// Takes the turn: `Continue` if the fold goes on, or `Break` with what it stops with.
     fn turn(&self, state: &mut C, item: A) -> ControlFlow<R, ()>
         requires { can_turn self.now state.old item }
         ensures { turns self.now state.old item result state.new };
@@ -43,7 +43,7 @@ pub struct Beside<'a, C, P> {
     pub p: &'a mut P,
 }
 
-/// What is answered by a fold of the source whose turn stops with an answer: that answer, or the source's end or failure.
+/// What a fold of the source returns whose turn stops with a result: that result, or the source's `Ok(None)` or failure.
 #[inline(always)]
 pub fn answer_within<R, E>(answer: Result<Option<Result<Option<R>, E>>, E>) -> Result<Option<R>, E>
     ensures { result ≡ within answer }
@@ -64,7 +64,7 @@ impl<A: Drop> Turn<usize, A, Infallible> for CountTurn {
 
     ghost turns = { λ _ n _ r k. (r ≡ Continue tt) × (k ≡ n + 1) };
 
-    /// One more.
+    /// Adds one.
     #[inline(always)]
     fn turn(&self, state: &mut usize, _item: A) -> ControlFlow<Infallible, ()> {
         *state += 1;
@@ -81,7 +81,7 @@ impl<A: Drop> Turn<Option<A>, A, Infallible> for LastTurn {
 
     ghost turns = { λ _ _ x r d. (r ≡ Continue tt) × (d ≡ Some x) };
 
-    /// The item in the place of the one before.
+    /// Replaces the item by the next one.
     #[inline(always)]
     fn turn(&self, state: &mut Option<A>, item: A) -> ControlFlow<Infallible, ()> {
         *state = Some(item);
@@ -98,7 +98,7 @@ impl<A, B: Drop, E, F: FnMut(B, A) -> Result<B, E>> Turn<(Option<B>, F), A, E> f
 
     ghost turns = { λ _ p x r q. IsFoldTurnInSlot (call_with F.FnMut) p x r q };
 
-    /// The closure's answer on the value so far and the item.
+    /// Calls the closure on the value so far and the item.
     #[inline(always)]
     fn turn(&self, state: &mut (Option<B>, F), item: A) -> ControlFlow<E, ()> {
         match state.0.take() {
@@ -123,7 +123,7 @@ impl<A: Drop, E, F: FnMut(A, A) -> Result<A, E>> Turn<(Option<A>, F), A, E> for 
 
     ghost turns = { λ _ p x r q. IsFoldTurn (ReduceCall (call_with F.FnMut)) p x r q };
 
-    /// The first item without a call; then the closure's answer on the value so far and the item.
+    /// Takes the first item without a call; then it calls the closure on the value so far and the item.
     #[inline(always)]
     fn turn(&self, state: &mut (Option<A>, F), item: A) -> ControlFlow<E, ()> {
         let value = match state.0.take() {
@@ -138,7 +138,7 @@ impl<A: Drop, E, F: FnMut(A, A) -> Result<A, E>> Turn<(Option<A>, F), A, E> for 
     }
 }
 
-/// The turn of an `nth` that is one fold, whose state is how many items are still to be passed over. It stops with the item that comes when none are.
+/// The turn of an `nth` that is one fold, whose state is how many items are still to be skipped. It stops with the item that comes when none are.
 #[derive(Drop)]
 pub struct NthTurn;
 
@@ -147,7 +147,7 @@ impl<A: Drop> Turn<usize, A, A> for NthTurn {
 
     ghost turns = { λ _ n x r k. IsNthTurn n x r k };
 
-    /// One fewer, or the item.
+    /// Subtracts one, or stops with the item.
     #[inline(always)]
     fn turn(&self, state: &mut usize, item: A) -> ControlFlow<A, ()> {
         if *state == 0 {
@@ -168,7 +168,7 @@ impl<A> Turn<(), A, A> for FirstTurn {
 
     ghost turns = { λ _ _ x r _. r ≡ Break x };
 
-    /// The item.
+    /// Stops with the item.
     #[inline(always)]
     fn turn(&self, _state: &mut (), item: A) -> ControlFlow<A, ()> {
         ControlFlow::Break(item)

@@ -53,7 +53,7 @@ fn whole_steps(n: usize, between: usize) -> usize
     if n <= between { 0 } else { n / (between + 1) }
 }
 
-/// One more on each bound: the lower at most `usize::MAX`, and no upper where it would be past that.
+/// One more on each bound: the lower at most `usize::MAX`, and `None` for an upper one that would be past that.
 pub fn one_more(hint: (usize, Option<usize>)) -> (usize, Option<usize>)
     ensures { HintWithItem hint result }
 {

@@ -17,25 +17,25 @@ pub enum Outcome<B, E> {
     LeftOut,
     /// a failure in its place
     Failure(E),
-    /// an end in its place
+    /// an `Ok(None)` in its place
     End,
 }
 
 /// What an adapter makes of one item of its source, with the state that it keeps from item to item: its closure, or a count.
 pub trait Pass<P, X, E> {
-    /// What the adapter gives.
+    /// What the adapter yields.
     type Kept;
 
-    /// What the closure answers on an item.
+    /// What the closure returns for an item.
     type Answer;
 
     // Holds of a state and an item on which the closure may be called.
     ghost can_pass: { Self → P → X → Type 0 };
 
-    // Holds of those, of what the closure may answer, and of the state that it leaves.
+    // Holds of those, of what the closure may return, and of the state that it leaves.
     ghost call: { Self → P → X → Self.Answer → P → Type 0 };
 
-    // What becomes of an item by the closure's answer.
+    // What becomes of an item by the closure's result.
     ghost outcome: { Self → X → Self.Answer → Outcome Self.Kept E };
 
     /// Calls the closure once on the item.
@@ -66,7 +66,7 @@ impl<'a, 'b, P, X, E, C, R, A: Pass<P, X, E>, K: Turn<C, A::Kept, R>> Turn<
         (FoldingTurn (A.call k.adapter.now) (A.outcome k.adapter.now) (K.turns k.turn.now))
         b x r d };
 
-    /// The call, made once, and the caller's turn where the item is kept.
+    /// Calls the closure once, and takes the caller's turn if the item is kept.
     #[inline(always)]
     fn turn(&self, state: &mut Beside<'b, C, P>, item: X) -> ControlFlow<Result<Option<R>, E>, ()> {
         match self.adapter.pass(state.p, item) {
@@ -81,7 +81,7 @@ impl<'a, 'b, P, X, E, C, R, A: Pass<P, X, E>, K: Turn<C, A::Kept, R>> Turn<
     }
 }
 
-/// What an adapter that leaves nothing out makes of one answer of its source: the closure is called where that is an item.
+/// What an adapter that leaves nothing out makes of one answer of its source: the closure is called if that is an item.
 pub fn passed<P, X, E, A: Pass<P, X, E>>(
     drawn: Result<Option<X>, E>,
     state: &mut P,

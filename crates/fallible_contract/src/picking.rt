@@ -9,7 +9,7 @@ use crate::folds::Turn;
 use std::cmp::Ordering;
 use std::ops::ControlFlow;
 
-// Whether the best so far stays the best, where it compares so with the next item.
+// Whether the best so far stays the best, if it compares so with the next item.
 fn stays_best(keeps: Ordering, order: Ordering) -> bool
     ensures { result ≡ same_order keeps order }
 {
@@ -32,7 +32,7 @@ impl<A: Drop, E, F: FnMut(&A, &A) -> Result<Ordering, E>> Turn<(Option<A>, F), A
 
     ghost turns = { λ k p x r q. IsFoldTurn (PickCall k.keeps (call_at_two F.FnMut)) p x r q };
 
-    /// The first item without a call; then the closure is asked once.
+    /// Takes the first item without a call; then it calls the closure once.
     #[inline(always)]
     fn turn(&self, state: &mut (Option<A>, F), item: A) -> ControlFlow<E, ()> {
         let best = match state.0.take() {
@@ -53,7 +53,7 @@ impl<A: Drop, E, F: FnMut(&A, &A) -> Result<Ordering, E>> Turn<(Option<A>, F), A
     }
 }
 
-/// The turn of a fold that keeps the item of the best key. Its state is that item beside its key, if there is one, and the closure.
+/// The turn of a fold that keeps the item with the best key. Its state is that item with its key, if there is one, and the closure.
 #[derive(Drop)]
 pub struct BestKeyTurn {
     /// how the best key so far compares with a key that it stays before
@@ -66,7 +66,7 @@ impl<A: Drop, E, K: Ord + Drop, F: FnMut(&A) -> Result<K, E>> Turn<(Option<(K, A
 
     ghost turns = { λ k p x r q. IsFoldTurn (KeyCall k.keeps K.cmp (call_at F.FnMut)) p x r q };
 
-    /// The key is made once, and compared with the best so far.
+    /// Calls the closure once for the key, and compares it with the best so far.
     #[inline(always)]
     fn turn(&self, state: &mut (Option<(K, A)>, F), item: A) -> ControlFlow<E, ()> {
         let key = match (state.1)(&item) {
@@ -88,7 +88,7 @@ impl<A: Drop, E, K: Ord + Drop, F: FnMut(&A) -> Result<K, E>> Turn<(Option<(K, A
     }
 }
 
-/// The item beside its key, where there is one.
+/// The item of the pair, if there is one.
 pub fn without_key<A, E, K: Drop>(best: Result<Option<(K, A)>, E>) -> Result<Option<A>, E>
     ensures { result ≡ item_of best }
 {

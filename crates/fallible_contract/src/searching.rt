@@ -7,7 +7,7 @@ ghost use Rattle.fallible_contract.specs.Searching.{IsFindTurn, IsSearchTurn, Is
 use crate::folds::Turn;
 use std::ops::ControlFlow;
 
-/// What a search answers, by what its fold answered: `none` at the end, the source's failure, or what the fold stopped with.
+/// What a search returns, from what its fold returned: `none` at `Ok(None)`, the source's failure, or what the fold stopped with.
 pub fn answer_or<R: Drop, E>(answer: Result<Option<Result<R, E>>, E>, none: R) -> Result<R, E>
     ensures { result ≡ answer_by none answer }
 {
@@ -18,7 +18,7 @@ pub fn answer_or<R: Drop, E>(answer: Result<Option<Result<R, E>>, E>, none: R) -
     }
 }
 
-/// What a search for a value answers, by what its fold answered: none at the end, the source's failure, or what the fold stopped with.
+/// What a search for a value returns, from what its fold returned: `Ok(None)` at the end, the source's failure, or what the fold stopped with.
 pub fn answer_or_none<R, E>(answer: Result<Option<Result<Option<R>, E>>, E>) -> Result<Option<R>, E>
     ensures { result ≡ answer_by None answer }
 {
@@ -29,7 +29,7 @@ pub fn answer_or_none<R, E>(answer: Result<Option<Result<Option<R>, E>>, E>) -> 
     }
 }
 
-/// What `find` answers, by what its fold answered: none at the end, the source's failure, or the item or the failure that the fold stopped with.
+/// What `find` returns, from what its fold returned: `Ok(None)` at the end, the source's failure, or the item or the failure that the fold stopped with.
 pub fn found<A, E>(answer: Result<Option<Result<A, E>>, E>) -> Result<Option<A>, E>
     ensures { result ≡ found_by answer }
 {
@@ -41,12 +41,12 @@ pub fn found<A, E>(answer: Result<Option<Result<A, E>>, E>) -> Result<Option<A>,
     }
 }
 
-/// One test of a search: on the search's state and an item it answers whether the search ends there. Every closure of this shape is one.
+/// One test of a search: on the search's state and an item it returns whether the search ends there. Every closure of this shape is one.
 pub trait Test<C, A, E> {
     // Holds of a state and an item on which the test may be made.
     ghost can_test: { Self → C → A → Type 0 };
 
-    // Holds of those, of what the test may answer, and of the state that it leaves.
+    // Holds of those, of what the test may return, and of the state that it leaves.
     ghost tests: { Self → C → A → Result Bool E → C → Type 0 };
 
     /// Makes the test: `Ok(true)` ends the search with the item, `Ok(false)` goes on, and a failure ends it.
@@ -68,7 +68,7 @@ impl<C, A, E, F: Fn(&mut C, &A) -> Result<bool, E>> Test<C, A, E> for F {
     }
 }
 
-/// The turn of the fold that `find` is: it stops at an item that the test accepts or fails on, and goes on after one that it refuses.
+/// The turn of the fold that `find` is: it stops at an item that the test accepts or fails on, and goes on after one that it rejects.
 #[derive(Drop)]
 pub struct FindTurn<'a, K> {
     /// the test
@@ -80,7 +80,7 @@ impl<'a, C, A: Drop, E, K: Test<C, A, E>> Turn<C, A, Result<A, E>> for FindTurn<
 
     ghost turns = { λ k c x r d. IsFindTurn (K.tests k.test.now) c x r d };
 
-    /// The test, made once.
+    /// Makes the test once.
     #[inline(always)]
     fn turn(&self, state: &mut C, item: A) -> ControlFlow<Result<A, E>, ()> {
         match self.test.test(state, &item) {
@@ -91,7 +91,7 @@ impl<'a, C, A: Drop, E, K: Test<C, A, E>> Turn<C, A, Result<A, E>> for FindTurn<
     }
 }
 
-/// The test of `find`, whose state is the predicate, which it asks.
+/// The test of `find`, whose state is the predicate, which it calls.
 #[derive(Drop)]
 pub struct FindTest;
 
@@ -100,14 +100,14 @@ impl<A, E, F: FnMut(&A) -> Result<bool, E>> Test<F, A, E> for FindTest {
 
     ghost tests = { λ _ f x v g. call_at F.FnMut f x v g };
 
-    /// The predicate's answer, asked once.
+    /// Calls the predicate once.
     #[inline(always)]
     fn test(&self, state: &mut F, item: &A) -> Result<bool, E> {
         state(item)
     }
 }
 
-/// The turn of `for_each`, whose state is the closure: it calls it on each item, and stops where it fails.
+/// The turn of `for_each`, whose state is the closure: it calls it on each item, and stops if it fails.
 #[derive(Drop)]
 pub struct ForEachTurn;
 
@@ -116,7 +116,7 @@ impl<A, E, F: FnMut(A) -> Result<(), E>> Turn<F, A, Result<(), E>> for ForEachTu
 
     ghost turns = { λ _ f x r g. IsSearchTurn (call_on F.FnMut) each_pick f x r g };
 
-    /// The call, made once.
+    /// Calls the closure once.
     #[inline(always)]
     fn turn(&self, state: &mut F, item: A) -> ControlFlow<Result<(), E>, ()> {
         match state(item) {
@@ -126,7 +126,7 @@ impl<A, E, F: FnMut(A) -> Result<(), E>> Turn<F, A, Result<(), E>> for ForEachTu
     }
 }
 
-/// The turn of `all`, whose state is the predicate: it stops at the first item on which that answers false, or fails.
+/// The turn of `all`, whose state is the predicate: it stops at the first item for which that returns false, or fails.
 #[derive(Drop)]
 pub struct AllTurn;
 
@@ -135,7 +135,7 @@ impl<A, E, F: FnMut(A) -> Result<bool, E>> Turn<F, A, Result<bool, E>> for AllTu
 
     ghost turns = { λ _ f x r g. IsSearchTurn (call_on F.FnMut) all_pick f x r g };
 
-    /// The predicate's answer, asked once.
+    /// Calls the predicate once.
     #[inline(always)]
     fn turn(&self, state: &mut F, item: A) -> ControlFlow<Result<bool, E>, ()> {
         match state(item) {
@@ -146,7 +146,7 @@ impl<A, E, F: FnMut(A) -> Result<bool, E>> Turn<F, A, Result<bool, E>> for AllTu
     }
 }
 
-/// The turn of `any`, whose state is the predicate: it stops at the first item on which that answers true, or fails.
+/// The turn of `any`, whose state is the predicate: it stops at the first item for which that returns true, or fails.
 #[derive(Drop)]
 pub struct AnyTurn;
 
@@ -155,7 +155,7 @@ impl<A, E, F: FnMut(A) -> Result<bool, E>> Turn<F, A, Result<bool, E>> for AnyTu
 
     ghost turns = { λ _ f x r g. IsSearchTurn (call_on F.FnMut) any_pick f x r g };
 
-    /// The predicate's answer, asked once.
+    /// Calls the predicate once.
     #[inline(always)]
     fn turn(&self, state: &mut F, item: A) -> ControlFlow<Result<bool, E>, ()> {
         match state(item) {
@@ -166,7 +166,7 @@ impl<A, E, F: FnMut(A) -> Result<bool, E>> Turn<F, A, Result<bool, E>> for AnyTu
     }
 }
 
-/// The turn of `find_map`, whose state is the closure: it stops at the first value that this answers, or where it fails.
+/// The turn of `find_map`, whose state is the closure: it stops at the first value that this returns, or if it fails.
 #[derive(Drop)]
 pub struct FindMapTurn;
 
@@ -176,7 +176,7 @@ impl<A, B, E, F: FnMut(A) -> Result<Option<B>, E>> Turn<F, A, Result<Option<B>, 
 
     ghost turns = { λ _ f x r g. IsSearchTurn (call_on F.FnMut) find_map_pick f x r g };
 
-    /// The closure's answer, asked once.
+    /// Calls the closure once.
     #[inline(always)]
     fn turn(&self, state: &mut F, item: A) -> ControlFlow<Result<Option<B>, E>, ()> {
         match state(item) {
@@ -187,7 +187,7 @@ impl<A, B, E, F: FnMut(A) -> Result<Option<B>, E>> Turn<F, A, Result<Option<B>, 
     }
 }
 
-/// The turn of `position`, whose state is the number of items before and the predicate: it stops at the first item on which that answers true, or fails.
+/// The turn of `position`, whose state is the number of items before and the predicate: it stops at the first item for which that returns true, or fails.
 #[derive(Drop)]
 pub struct PositionTurn;
 
@@ -197,7 +197,7 @@ impl<A, E, F: FnMut(A) -> Result<bool, E>> Turn<(usize, F), A, Result<Option<usi
 
     ghost turns = { λ _ p x r q. IsPositionTurn (call_on F.FnMut) position_pick p x r q };
 
-    /// The predicate's answer, asked once, and one more item before the next.
+    /// Calls the predicate once, and adds one for the next item.
     #[inline(always)]
     fn turn(&self, state: &mut (usize, F), item: A) -> ControlFlow<Result<Option<usize>, E>, ()> {
         match (state.1)(item) {

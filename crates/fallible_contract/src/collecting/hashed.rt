@@ -9,7 +9,7 @@ use std::alloc::{AllocError, Global};
 use std::collections::{HashMap, HashSet};
 use std::hash::Hash;
 
-// The items, of equal ones the first. Only a new one may be refused, where no room is spare.
+// The items, of equal ones the first. Only for a new one an allocation may fail, if no room is spare.
 impl<K: Eq + Hash + Drop> Collect<K> for HashSet<K> {
     ghost made = { λ items s. IsHashedSetOf K.eq items s };
 
@@ -29,7 +29,7 @@ impl<K: Eq + Hash + Drop> Collect<K> for HashSet<K> {
     }
 }
 
-// The keys, of equal ones the first, and each with its last value. Only a new key may be refused, where no room is spare.
+// The keys, of equal ones the first, and each with its last value. Only for a new key an allocation may fail, if no room is spare.
 impl<K: Eq + Hash + Drop, V: Drop> Collect<(K, V)> for HashMap<K, V> {
     ghost made = { λ items m. IsHashedMapOf K.eq items m };
 

@@ -8,7 +8,7 @@ use crate::collecting::Collect;
 use std::alloc::{AllocError, Global};
 use std::collections::{BTreeMap, BTreeSet};
 
-// The items, in order, of equal ones the first. Only a new one may be refused.
+// The items, in order, of equal ones the first. Only for a new one an allocation may fail.
 impl<K: Ord + Drop> Collect<K> for BTreeSet<K> {
     ghost made = { λ items s. IsSortedSetOf K.cmp items s };
 
@@ -28,7 +28,7 @@ impl<K: Ord + Drop> Collect<K> for BTreeSet<K> {
     }
 }
 
-// The keys, in order, of equal ones the first, and each with its last value. Only a new key may be refused.
+// The keys, in order, of equal ones the first, and each with its last value. Only for a new key an allocation may fail.
 impl<K: Ord + Drop, V: Drop> Collect<(K, V)> for BTreeMap<K, V> {
     ghost made = { λ items m. IsSortedMapOf K.cmp items m };
 

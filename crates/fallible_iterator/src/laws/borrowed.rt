@@ -1,4 +1,4 @@
-//! A borrowed fallible iterator has the runs of its own.
+//! A borrowed fallible iterator has the runs of the iterator itself.
 ghost use Rattle.std.specs.Prelude.{◌≡◌, ◌↔◌, List, Option, Result};
 ghost use Rattle.std.specs.Borrow.{MutBor};
 ghost use Rattle.fallible_contract.specs.Traces.{Answered, Run};
@@ -8,7 +8,7 @@ ghost use Rattle.std.specs.declared.alloc.Global.{Global};
 use fallible_core::traits::FallibleIterator;
 use fallible_core::traits::double_ended::DoubleEndedFallibleIterator;
 
-/// A `&mut I` and a `Box<I>` have the steps of `I`: a draw answers what a draw from the value that it points to answers, and leaves there what that leaves. The `&mut` stays the same reference.
+/// A `&mut I` and a `Box<I>` have the steps of `I`: a draw returns what a draw from the value that it points to returns, and leaves there what that leaves. The `&mut` stays the same reference.
 pub fn law_borrowed<'a, I: FallibleIterator + 'a>()
     ensures borrowed { (s : MutBor I) (r : Answered I.Item I.Error) (t : MutBor I)
         → ⟦<&'a mut I as FallibleIterator>⟧.contract.steps s r t

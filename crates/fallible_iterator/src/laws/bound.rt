@@ -7,7 +7,7 @@ ghost use Rattle.fallible_contract.specs.declared.answers.Side.{Side};
 use fallible_core::traits::FallibleIterator;
 use fallible_core::traits::double_ended::DoubleEndedFallibleIterator;
 
-/// No run from a value that may be drawn from has more items than a bound of it. Failures and ends aren't counted.
+/// No run from a value that `next` may be called on has more items than a bound of it. Failures and `Ok(None)` aren't counted.
 pub fn law_bound<I: FallibleIterator>()
     ensures { (s : I) (n : ℕ) (trace : List (Answered I.Item I.Error)) (t : I)
         → I.contract.can_next s

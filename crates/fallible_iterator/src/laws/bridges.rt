@@ -16,7 +16,7 @@ use crate::sources::Convert;
 use fallible_core::bridges::{Iterator, Unwrap};
 use fallible_core::{DoubleEndedFallibleIterator, FallibleIterator};
 
-/// Place by place, the elements that std's `next` gives of an `Iterator` are its source's answers: an item or a failure is an element, an end is none. It may be converted back, and drawn from then, wherever its source may be drawn from.
+/// Position by position, the elements that std's `next` of an `Iterator` returns are its source's answers: an item or a failure is an element, an `Ok(None)` is `None`. It may be converted back, and drawn from then, wherever its source may be drawn from.
 pub fn law_iterator<I: FallibleIterator>()
     ensures trace { TracesAre iterator_parts
         (λ s r t. ⟦<Iterator<I> as std::iter::Iterator>⟧.next_gives s (result_transpose r) t)
@@ -33,7 +33,7 @@ pub fn law_iterator<I: FallibleIterator>()
         → Lists ⟦<Convert<Iterator<I>> as FallibleIterator>⟧.contract.steps s l }
 {}
 
-/// The same from the back. Draws from either end may be made in any order, also of what was converted back.
+/// Position by position, the elements that std's `next_back` of an `Iterator` returns are its source's answers from the back. Draws from either end may follow one another in any order, also of what was converted back.
 pub fn law_back_iterator<I: DoubleEndedFallibleIterator>()
     ensures trace { TracesAre iterator_parts
         (λ s r t. ⟦<Iterator<I> as std::iter::DoubleEndedIterator>⟧.next_back_gives s
@@ -51,7 +51,7 @@ pub fn law_back_iterator<I: DoubleEndedFallibleIterator>()
         (λ p. ItemsAre p l) }
 {}
 
-/// Place by place, what std's `next` gives of an `Unwrap` are its source's items and ends: none is a failure.
+/// Position by position, what std's `next` of an `Unwrap` returns are its source's items and `Ok(None)`s: none is a failure.
 pub fn law_unwrap<I: FallibleIterator>()
     ensures { (s : Unwrap I) (given : List (Option I.Item)) (t : Unwrap I)
         → FoldsTo ⟦<Unwrap<I> as std::iter::Iterator>⟧.next_gives s given t

@@ -8,7 +8,7 @@ ghost use Rattle.std.specs.declared.cmp.Ordering.{Ordering};
 use fallible_core::traits::FallibleIterator;
 use fallible_core::traits::conversion::IntoFallibleIterator;
 
-/// `eq` is true just where `cmp` is `Equal`, over lists and over iterators that list them: whatever `eq` answers, it is what `cmp` answers read as whether that is `Equal`, and where one fails, the other fails with the same failure. Of the order nothing is asked but what std's `Ord` states, that items are equal just where their order is `Equal`.
+/// `eq` is true exactly if `cmp` is `Equal`, over lists and over iterators that list them: `eq` returns whether `cmp` returns `Equal`, and if one fails, the other fails with the same failure. Of the order nothing is required but what std's `Ord` states, that items are equal exactly if their order is `Equal`.
 pub fn law_eq_is_cmp_equal<I, J>()
 where
     I: FallibleIterator,

@@ -11,19 +11,19 @@ ghost use Rattle.fallible_core.specs.Cutting.TakeWhile.{take_while_parts, TakeWh
 use fallible_core::cutting::{Fuse, Skip, StepBy, Take, TakeWhile};
 use fallible_core::traits::FallibleIterator;
 
-/// A trace of `Take` is the source's until it has n items, and then ends without draws.
+/// A trace of `Take` is the source's until it has n items. Then each call returns `Ok(None)` without a draw.
 pub fn law_take<I: FallibleIterator>()
     ensures { TracesAre take_parts ⟦<Take<I> as FallibleIterator>⟧.contract.steps
         (TakeTrace I.contract.steps) }
 {}
 
-/// A trace of `Fuse` is the source's up to its first end, and then ends without draws.
+/// A trace of `Fuse` is the source's up to its first `Ok(None)`. Then each call returns `Ok(None)` without a draw.
 pub fn law_fuse<I: FallibleIterator>()
     ensures { TracesAre fuse_parts ⟦<Fuse<I> as FallibleIterator>⟧.contract.steps
         (FuseTrace I.contract.steps) }
 {}
 
-/// A trace of `TakeWhile` is the source's, with the predicate's failure in the place of each item on which it failed, up to the first item that it refuses; in that place is an end, and then ends without draws.
+/// A trace of `TakeWhile` is the source's, with the predicate's failure in the place of each item on which it failed, up to the first item that it rejects. In that place and after it is `Ok(None)`, after it without draws.
 pub fn law_take_while<I: FallibleIterator, P: FnMut(&I::Item) -> Result<bool, I::Error>>()
 where
     I::Item: Drop,
@@ -31,7 +31,7 @@ where
         (TakeWhileTrace I.contract.steps (call_at P.FnMut)) }
 {}
 
-/// A trace of `Skip` is the source's without its first n items; failures and ends stay, and don't count. It doesn't end in a left-out item.
+/// A trace of `Skip` is the source's without its first n items; failures and `Ok(None)` stay, and don't count. It doesn't end in a skipped item.
 pub fn law_skip<I: FallibleIterator>()
 where
     I::Item: Drop,
@@ -39,7 +39,7 @@ where
         (SkipTrace I.contract.steps) }
 {}
 
-/// A trace of `StepBy` is the source's with only those items whose number, from 1, is r + 1 plus a multiple of the step, where r items are left out first, none at the beginning; failures and ends stay, and don't count. It doesn't end in a left-out item.
+/// A trace of `StepBy` is the source's with only those items whose number, from 1, is r + 1 plus a multiple of the step, where r items are left out first, none at the beginning; failures and `Ok(None)` stay, and don't count. It doesn't end in a left-out item.
 pub fn law_step_by<I: FallibleIterator>()
 where
     I::Item: Drop,

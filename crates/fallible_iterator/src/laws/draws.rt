@@ -1,4 +1,4 @@
-// What one draw, and one look ahead, answers and leaves of a list.
+// What one draw, and one look ahead, returns and leaves of a list.
 ghost use Rattle.std.specs.Prelude.{◌≡◌, List, Option, Result, Ok, None};
 ghost use Rattle.fallible_contract.specs.Traces.{Answered};
 ghost use Rattle.fallible_contract.specs.Lists.{Lists, rest_first, nth_of};
@@ -8,7 +8,7 @@ ghost use Rattle.fallible_core.specs.declared.peeking.peekable.Peekable.{Peekabl
 use fallible_core::peeking::Peekable;
 use fallible_core::traits::FallibleIterator;
 
-/// A step of any type that lists l, which is what `next` makes: it answers the first of l, and, where that is no end, leaves l without it.
+/// A step of any type that lists l, which is what `next` makes: it returns the first of l, and leaves l without it, unless it returns `Ok(None)`.
 pub fn law_next<I: FallibleIterator>()
     ensures value { (s t : I) (r : Answered I.Item I.Error) (l : List (Result I.Item I.Error))
         → Lists I.contract.steps s l → I.contract.steps s r t → r ≡ nth_of 0 l }
@@ -17,7 +17,7 @@ pub fn law_next<I: FallibleIterator>()
         → Lists I.contract.steps t (rest_first l) }
 {}
 
-/// A peek of a `Peekable` that lists l, which is what `peek` makes: it answers the first of l, and leaves l without a failure that stands first.
+/// A peek of a `Peekable` that lists l, which is what `peek` makes: it returns the first of l, and leaves l without a failure that stands first.
 pub fn law_peek<I: FallibleIterator>()
 where
     I::Item: Drop,

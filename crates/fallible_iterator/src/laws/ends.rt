@@ -31,7 +31,7 @@ use std::alloc::AllocError;
 
 // ---- draws from both ends
 
-/// The law of interleaving, of every type with two ends, and so of every nest of adapters: of draws from both ends of a value that lists l, what came from the front, what is left, and what came from the back, reversed, make l; and an end was answered only where nothing was left.
+/// The law of interleaving, of every type with two ends, and so of every nest of adapters: of draws from both ends of a value that lists l, what came from the front, what is left, and what came from the back, reversed, make l; and `Ok(None)` was returned only where nothing was left.
 pub fn law_interleave<I: DoubleEndedFallibleIterator>()
     ensures { (s t : I) (l : List (Result I.Item I.Error))
         (drawn : List (Side × Answered I.Item I.Error))
@@ -40,7 +40,7 @@ pub fn law_interleave<I: DoubleEndedFallibleIterator>()
         → Interleaves I.contract.steps I.ends.steps l drawn t }
 {}
 
-/// Runs and folds from one end are draws like others, also a fold that stopped: it drew its items and the answer that decided. Draws may come before them and after them, so `law_interleave` speaks of them too.
+/// Runs and folds from one end are draws like others, also a fold that stopped: it drew its items and the answer that stopped it. Draws may come before them and after them, so `law_interleave` speaks of them too.
 pub fn law_interleave_folds<I: DoubleEndedFallibleIterator, B, E, F>()
 where
     E: From<I::Error>,
@@ -62,7 +62,7 @@ where
         → RunAtEnds I.contract.steps I.ends.steps s (drawn ++ others) u }
 {}
 
-/// The same of one nest of four types, written out: of draws from both ends of a `Rev` of a `Filter` of a `Map` over any source that lists l, what came from the front, what is left, and what came from the back, reversed, make the reverse of the filtered, mapped l.
+/// The law of interleaving of one nest of four types, written out: of draws from both ends of a `Rev` of a `Filter` of a `Map` over any source that lists l, what came from the front, what is left, and what came from the back, reversed, make the reverse of the filtered, mapped l.
 pub fn law_interleave_nest<
     I: DoubleEndedFallibleIterator,
     B: Drop,
@@ -101,7 +101,7 @@ pub fn law_draws<I: DoubleEndedFallibleIterator>()
     law_listed_each::<I>();
 }
 
-/// After draws from the front, as those of a search, a value that may be drawn from both ends still may be; and `nth` leaves what stands behind the item, of what both ends list.
+/// After draws from the front, as those of a search, a value that may be drawn from both ends still may be; and `nth` leaves what comes after the item, of what both ends list.
 pub fn law_after_front<I: DoubleEndedFallibleIterator>()
     ensures stays { (s t : I) (trace : List (Answered I.Item I.Error)) → I.ends.can_next s
         → Run I.contract.steps s trace t → Stays (from_front I.contract I.ends) s t }
@@ -138,7 +138,7 @@ pub fn law_rev_rev<I: DoubleEndedFallibleIterator>()
         ⟦<Rev<Rev<I>> as DoubleEndedFallibleIterator>⟧.ends.steps) }
 {}
 
-/// From the back the answers of `Map` are the source's from the back, with the closure's answer in each item's place.
+/// From the back the answers of `Map` are the source's from the back, with the closure's result in each item's place.
 pub fn law_back_map<I: DoubleEndedFallibleIterator, B, F: FnMut(I::Item) -> Result<B, I::Error>>()
 where
     ensures { TracesAre map_parts ⟦<Map<I, F> as DoubleEndedFallibleIterator>⟧.ends.steps
@@ -156,14 +156,14 @@ where
         (InspectTrace I.ends.steps F.FnMut) }
 {}
 
-/// From the back the answers of `MapErr` are the source's from the back, with the closure's answer in each failure's place.
+/// From the back the answers of `MapErr` are the source's from the back, with the closure's result in each failure's place.
 pub fn law_back_map_err<I: DoubleEndedFallibleIterator, B, F: FnMut(I::Error) -> B>()
 where
     ensures { TracesAre map_err_parts ⟦<MapErr<I, F> as DoubleEndedFallibleIterator>⟧.ends.steps
         (MapErrTrace I.ends.steps (call_on F.FnMut)) }
 {}
 
-/// A trace of `Chain` from the back is the same with the sides swapped, both drawn from the back: the second's up to its first end, and from the draw that meets this end on the first's.
+/// A trace of `Chain` from the back is one from the front with the sides swapped, both drawn from the back: the second's up to its first `Ok(None)`, and from the draw that meets it on the first's.
 pub fn law_back_chain<
     T: DoubleEndedFallibleIterator,
     U: DoubleEndedFallibleIterator<Item = T::Item, Error = T::Error>,
@@ -173,7 +173,7 @@ pub fn law_back_chain<
         (ChainTrace U.ends.steps T.ends.steps) }
 {}
 
-/// From the back the answers of `Cloned` are the source's from the back, with a clone in each item's place, or the failure made of its refusal.
+/// From the back the answers of `Cloned` are the source's from the back, with a clone in each item's place, or the failure of that clone.
 pub fn law_back_cloned<'a, T: Clone + 'a, I: DoubleEndedFallibleIterator<Item = &'a T>>()
 where
     I::Error: From<AllocError>,
@@ -181,7 +181,7 @@ where
         (ClonedTrace T.is_clone T.is_infallible I.Error.from_gives I.ends.steps) }
 {}
 
-/// From the back the answers of `Filter` are the source's from the back without the items refused, with the predicate's failure in the place of each item on which it failed.
+/// From the back the answers of `Filter` are the source's from the back without the rejected items, with the predicate's failure in the place of each item on which it failed.
 pub fn law_back_filter<
     I: DoubleEndedFallibleIterator,
     F: FnMut(&I::Item) -> Result<bool, I::Error>,
@@ -192,7 +192,7 @@ where
         (FilterTrace I.ends.steps F.FnMut) }
 {}
 
-/// From the back the answers of `FilterMap` are the source's from the back without the items answered none, with the closure's value or failure in each other item's place.
+/// From the back the answers of `FilterMap` are the source's from the back without the items for which the closure returns `None`, with the closure's value or failure in each other item's place.
 pub fn law_back_filter_map<
     I: DoubleEndedFallibleIterator,
     B,

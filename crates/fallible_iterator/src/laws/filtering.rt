@@ -8,7 +8,7 @@ ghost use Rattle.fallible_core.specs.Filtering.SkipWhile.{SkipWhileTrace, skip_w
 use fallible_core::filtering::{Filter, FilterMap, SkipWhile};
 use fallible_core::traits::FallibleIterator;
 
-/// The answers of `Filter` are the source's without the items refused, with the predicate's failure in the place of each item on which it failed.
+/// The answers of `Filter` are the source's without the rejected items, with the predicate's failure in the place of each item on which it failed.
 pub fn law_filter<I: FallibleIterator, F: FnMut(&I::Item) -> Result<bool, I::Error>>()
 where
     I::Item: Drop,
@@ -16,14 +16,14 @@ where
         (FilterTrace I.contract.steps F.FnMut) }
 {}
 
-/// The answers of `FilterMap` are the source's without the items answered none, with the closure's value or failure in each other item's place.
+/// The answers of `FilterMap` are the source's without the items for which the closure returns `None`, with the closure's value or failure in each other item's place.
 pub fn law_filter_map<I: FallibleIterator, B, F: FnMut(I::Item) -> Result<Option<B>, I::Error>>()
 where
     ensures { TracesAre filter_map_parts ⟦<FilterMap<I, F> as FallibleIterator>⟧.contract.steps
         (FilterMapTrace I.contract.steps F.FnMut) }
 {}
 
-/// The answers of `SkipWhile` are the source's without the items that the predicate answers true on before its first false, with the predicate's failure in the place of each item on which it failed; from its first false on it isn't asked.
+/// The answers of `SkipWhile` are the source's without the items for which the predicate returns true before its first false, with the predicate's failure in the place of each item on which it failed. After its first false it isn't called.
 pub fn law_skip_while<I: FallibleIterator, P: FnMut(&I::Item) -> Result<bool, I::Error>>()
 where
     I::Item: Drop,

@@ -17,13 +17,13 @@ use fallible_core::traits::FallibleIterator;
 use fallible_core::traits::conversion::IntoFallibleIterator;
 use std::alloc::AllocError;
 
-/// A trace of `Chain` is the first's up to its first end, and from the draw that meets this end on the second's; where one side alone is still drawn, it is that side's.
+/// A trace of `Chain` is the first's up to its first `Ok(None)`, and from the draw that meets it on the second's; if one side alone is still drawn, it is that side's.
 pub fn law_chain<T: FallibleIterator, U: FallibleIterator<Item = T::Item, Error = T::Error>>()
     ensures { TracesAre chain_parts ⟦<Chain<T, U> as FallibleIterator>⟧.contract.steps
         (ChainTrace T.contract.steps U.contract.steps) }
 {}
 
-/// A trace of `Zip` has an answer for each answer of the left's trace: the left's failure, without a draw of the right; else, beside an answer of the right, the right's failure, the pair of two items, or an end.
+/// A trace of `Zip` has an answer for each answer of the left's trace. The left's failure takes no draw of the right. Otherwise it is the right's failure, the pair of two items, or `Ok(None)`.
 pub fn law_zip<T: FallibleIterator, U: FallibleIterator<Error = T::Error>>()
 where
     T::Item: Drop,
@@ -32,7 +32,7 @@ where
         (ZipTrace T.contract.steps U.contract.steps) }
 {}
 
-/// A trace of `Flatten` joins the answers of the inner iterators, each up to its end, and the outer source's failures and ends; the last inner iterator, where its end was not drawn, stays in hand.
+/// A trace of `Flatten` joins the answers of the inner iterators, each up to its `Ok(None)`, and the outer source's failures and `Ok(None)`s. The last inner iterator stays the current one, if its `Ok(None)` was not drawn.
 pub fn law_flatten<U: IntoFallibleIterator, I: FallibleIterator<Item = U, Error = U::Error>>()
     ensures { TracesAre flatten_parts ⟦<Flatten<I> as FallibleIterator>⟧.contract.steps
         (FlattenTrace I.contract.steps U.into_gives U.IntoFallibleIter.contract.steps) }
@@ -50,7 +50,7 @@ where
         U.IntoFallibleIter.contract.steps) }
 {}
 
-/// A trace of `Cycle` is laps: answers of one run up to its end, which is not answered, and then those of a fresh clone, or the failure made of a refused clone, after which the next lap goes on over the same run. The kept source stays.
+/// A trace of `Cycle` is laps: the answers of one run up to its `Ok(None)`, which is not returned, and then those of a fresh clone. If a clone fails, its failure is the answer, and the next lap goes on over the same run. The kept source stays.
 pub fn law_cycle<I: FallibleIterator + Clone>()
 where
     I::Error: From<AllocError>,
@@ -58,7 +58,7 @@ where
         (CycleTrace I.is_clone I.is_infallible I.Error.from_gives I.contract.steps) }
 {}
 
-/// The first n answers of a `Cycle` of items: those of one round after another. It asks that the kept source's clone is not refused, and that each clone lists the same items.
+/// The first n answers of a `Cycle` of items: those of one round after another. It requires that the clone of the kept source doesn't fail, and that each clone lists the same items.
 pub fn law_cycle_taken<I: FallibleIterator + Clone>()
 where
     I::Error: From<AllocError>,
@@ -70,7 +70,7 @@ where
         → Lists ⟦<Take<Cycle<I>> as FallibleIterator>⟧.contract.steps s (cycled n xs) }
 {}
 
-/// A `Flatten` is finite where its outer source and the inner iterator in hand are, and `each` is a bound of each inner iterator that may come. So a drain of it asks no term where a caller names that number.
+/// A `Flatten` is finite if its outer source and the current inner iterator are, and `each` is a bound of each inner iterator that may come. So a drain of it needs no term if a caller names that number.
 pub fn law_flatten_finite<U: IntoFallibleIterator, I: FallibleIterator<Item = U, Error = U::Error>>(
     it: &Flatten<I>,
     each: usize,
@@ -83,7 +83,7 @@ where
     ensures { ⟦<Flatten<I> as FallibleIterator>⟧.contract.is_finite it.now }
 {}
 
-/// A `FlatMap` is finite where its source and the inner iterator in hand are, and `each` is a bound of each inner iterator that the closure may make. So a drain of it asks no term where a caller names that number.
+/// A `FlatMap` is finite if its source and the current inner iterator are, and `each` is a bound of each inner iterator that the closure may make. So a drain of it needs no term if a caller names that number.
 pub fn law_flat_map_finite<
     I: FallibleIterator,
     U: IntoFallibleIterator<Error = I::Error>,

@@ -29,9 +29,9 @@ use fallible_core::traits::FallibleIterator;
 use fallible_core::traits::double_ended::DoubleEndedFallibleIterator;
 use std::alloc::AllocError;
 
-// ---- one law an adapter: where its closure gives the answers beside the items, in whatever state its calls bring it to; so also where it acts as a function
+// ---- one law an adapter: where its closure's results stand beside the items, in whatever state its calls bring it to; so also if it acts as a function
 
-/// `Map` lists what its closure answers on each item of its source's list, in the item's place.
+/// `Map` lists what its closure returns for each item of its source's list, in the item's place.
 pub fn law_listed_map<I: DoubleEndedFallibleIterator, B, F: FnMut(I::Item) -> Result<B, I::Error>>()
 where
     ensures { ListsByClosure map_parts (call_on F.FnMut) map_outcome mapped
@@ -53,7 +53,7 @@ where
         ⟦<Inspect<I, F> as DoubleEndedFallibleIterator>⟧.ends.steps) }
 {}
 
-/// `Filter` lists its source's list without the items refused, with the predicate's failure in the place of each item on which it failed.
+/// `Filter` lists its source's list without the rejected items, with the predicate's failure in the place of each item on which it failed.
 pub fn law_listed_filter<
     I: DoubleEndedFallibleIterator,
     F: FnMut(&I::Item) -> Result<bool, I::Error>,
@@ -66,7 +66,7 @@ where
         ⟦<Filter<I, F> as DoubleEndedFallibleIterator>⟧.ends.steps) }
 {}
 
-/// `FilterMap` lists its source's list without the items answered none, with the closure's value or failure in each other item's place.
+/// `FilterMap` lists its source's list without the items for which its closure returns `None`, with the closure's value or failure in each other item's place.
 pub fn law_listed_filter_map<
     I: DoubleEndedFallibleIterator,
     B,
@@ -79,7 +79,7 @@ where
         ⟦<FilterMap<I, F> as DoubleEndedFallibleIterator>⟧.ends.steps) }
 {}
 
-/// `Cloned` lists a clone in each item's place, where none is refused and each item has one clone alone; where a clone equals its original, it lists what the items point to.
+/// `Cloned` lists a clone in each item's place, if no clone fails and each item has one clone alone; if a clone equals its original, it lists what the items point to.
 pub fn law_listed_cloned<'a, T: Clone + 'a, I: DoubleEndedFallibleIterator<Item = &'a T>>()
 where
     I::Error: From<AllocError>,
@@ -89,7 +89,7 @@ where
         ⟦<Cloned<I> as DoubleEndedFallibleIterator>⟧.ends.steps) }
 {}
 
-/// `MapErr` lists what its closure answers on each failure of its source's list, in the failure's place.
+/// `MapErr` lists what its closure returns for each failure of its source's list, in the failure's place.
 pub fn law_listed_map_err<I: DoubleEndedFallibleIterator, B, F: FnMut(I::Error) -> B>()
 where
     ensures { ListsFailures map_err_parts
@@ -98,7 +98,7 @@ where
         ⟦<MapErr<I, F> as DoubleEndedFallibleIterator>⟧.ends.steps) }
 {}
 
-/// `Chain` lists what its first lists and then what its second lists; where one side alone is still drawn, what that side lists, the other being drawn no more.
+/// `Chain` lists what its first lists and then what its second lists; if one side alone is still drawn, what that side lists, since the other is drawn no more.
 pub fn law_listed_chain<
     T: DoubleEndedFallibleIterator,
     U: DoubleEndedFallibleIterator<Item = T::Item, Error = T::Error>,
@@ -116,7 +116,7 @@ pub fn law_listed_rev<I: DoubleEndedFallibleIterator>()
         ⟦<Rev<I> as DoubleEndedFallibleIterator>⟧.ends.steps) }
 {}
 
-/// A `&mut I` and a `Box<I>` list just what the value that they point to lists.
+/// A `&mut I` and a `Box<I>` list what the value that they point to lists.
 pub fn law_listed_borrowed<'a, I: DoubleEndedFallibleIterator + 'a>()
     ensures borrowed { ListsTheSame
         (λ (s : MutBor I). s.now) (ListsBothEnds I.contract.steps I.ends.steps)
@@ -133,9 +133,9 @@ pub fn law_listed_each<I: DoubleEndedFallibleIterator>()
     ensures { ListsAtEachEnd I.contract.steps I.ends.steps }
 {}
 
-// ---- the same of one value, which is shown to the law, so that no type need be named; and what it lists from the back, from what its source lists from the back
+// ---- the laws of one value, which is passed to the law, so that no type need be named; and what it lists from the back, from what its source lists from the back
 
-/// A `Map` lists, from both ends and from the back, what its closure answers on each item that its source lists there, in the item's place.
+/// A `Map` lists, from both ends and from the back, what its closure returns for each item that its source lists there, in the item's place.
 pub fn law_lists_map<I: DoubleEndedFallibleIterator, B, F: FnMut(I::Item) -> Result<B, I::Error>>(
     s: &Map<I, F>,
 )
@@ -155,7 +155,7 @@ where
     law_listed_map::<I, B, F>();
 }
 
-/// A `Filter` lists, from both ends and from the back, what its source lists there without the items refused, with the predicate's failure in the place of each item on which it failed.
+/// A `Filter` lists, from both ends and from the back, what its source lists there without the rejected items, with the predicate's failure in the place of each item on which it failed.
 pub fn law_lists_filter<
     I: DoubleEndedFallibleIterator,
     F: FnMut(&I::Item) -> Result<bool, I::Error>,

@@ -33,7 +33,7 @@ where
     law_take::<Map<Filter<I, P>, F>>();
 }
 
-/// A trace of a `Take` of a borrowed `Convert` is the front, up to the n-th item, of what the std iterator gives, place by place; the lender is left with the std iterator after just those calls. The other way round any such front is a trace, which leaves the borrow the reference that it was.
+/// A trace of a `Take` of a borrowed `Convert` is the front, up to the n-th item, of what the std iterator yields, position by position; the lender is left with the std iterator after just those calls. The other way round any such front is a trace, which leaves the borrow the reference that it was.
 pub fn law_nest_borrowed<'a, T: 'a, E: 'a, J: std::iter::Iterator<Item = Result<T, E>> + 'a>()
     ensures trace { (s : Take (MutBor (Convert J))) (trace : List (Answered T E))
         (t : Take (MutBor (Convert J)))

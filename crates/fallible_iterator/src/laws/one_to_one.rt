@@ -1,4 +1,4 @@
-// What a trace of each adapter with one answer for each draw is.
+// What a trace of each adapter is that draws once in each call.
 ghost use Rattle.fallible_contract.specs.LawForm.{TracesAre};
 ghost use Rattle.fallible_contract.specs.Closures.{call_on};
 ghost use Rattle.fallible_core.specs.OneToOne.Map.{MapTrace, map_parts};
@@ -13,7 +13,7 @@ use fallible_core::one_to_one::{Cloned, Enumerate, Inspect, Map, MapErr, MapWhil
 use fallible_core::traits::FallibleIterator;
 use std::alloc::AllocError;
 
-/// The answers of `Map` are the source's, with the closure's answer in each item's place.
+/// The answers of `Map` are the source's, with the closure's result in each item's place.
 pub fn law_map<I: FallibleIterator, B, F: FnMut(I::Item) -> Result<B, I::Error>>()
 where
     ensures { TracesAre map_parts ⟦<Map<I, F> as FallibleIterator>⟧.contract.steps
@@ -28,14 +28,14 @@ where
         (InspectTrace I.contract.steps F.FnMut) }
 {}
 
-/// The answers of `MapErr` are the source's, with the closure's answer in each failure's place.
+/// The answers of `MapErr` are the source's, with the closure's result in each failure's place.
 pub fn law_map_err<I: FallibleIterator, B, F: FnMut(I::Error) -> B>()
 where
     ensures { TracesAre map_err_parts ⟦<MapErr<I, F> as FallibleIterator>⟧.contract.steps
         (MapErrTrace I.contract.steps (call_on F.FnMut)) }
 {}
 
-/// The answers of `Enumerate` are the source's, with each item beside the number of items before it.
+/// The answers of `Enumerate` are the source's, each item paired with the number of items before it.
 pub fn law_enumerate<I: FallibleIterator>()
 where
     I::Item: Drop,
@@ -43,7 +43,7 @@ where
         (EnumerateTrace I.contract.steps) }
 {}
 
-/// The answers of `Scan` are the source's, with the closure's answer on the state and the item in each item's place, none being an end.
+/// The answers of `Scan` are the source's, with the closure's result for the state and the item in each item's place; its `None` is an `Ok(None)`.
 pub fn law_scan<
     I: FallibleIterator,
     St: Drop,
@@ -55,14 +55,14 @@ where
         (ScanTrace I.contract.steps F.FnMut) }
 {}
 
-/// The answers of `MapWhile` are the source's, with the value that the closure answers in each item's place, none being an end.
+/// The answers of `MapWhile` are the source's, with the closure's result in each item's place; its `None` is an `Ok(None)`.
 pub fn law_map_while<I: FallibleIterator, B, F: FnMut(I::Item) -> Result<Option<B>, I::Error>>()
 where
     ensures { TracesAre map_while_parts ⟦<MapWhile<I, F> as FallibleIterator>⟧.contract.steps
         (MapWhileTrace I.contract.steps F.FnMut) }
 {}
 
-/// The answers of `Cloned` are the source's, with a clone in each item's place, or the failure made of its refusal.
+/// The answers of `Cloned` are the source's, with a clone in each item's place, or the failure of that clone.
 pub fn law_cloned<'a, T: Clone + 'a, I: FallibleIterator<Item = &'a T>>()
 where
     I::Error: From<AllocError>,

@@ -7,7 +7,7 @@ ghost use Rattle.fallible_core.specs.Peeking.Peekable.{peekable_parts, PeekableT
 use fallible_core::peeking::Peekable;
 use fallible_core::traits::FallibleIterator;
 
-/// A trace of `Peekable` is the held answer, an item or an end, if there is one, and then the source's trace; nothing is held then. Where there are no answers, nothing changes. Over a source that lists l it lists l behind what is held.
+/// A trace of `Peekable` is what is buffered, an item or an `Ok(None)`, if there is something, and then the source's trace; nothing is buffered then. Without draws nothing changes. Over a source that lists l it lists l after what is buffered.
 pub fn law_peekable<I: FallibleIterator>()
 where
     I::Item: Drop,

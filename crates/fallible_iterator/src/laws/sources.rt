@@ -24,19 +24,19 @@ use fallible_core::{DoubleEndedFallibleIterator, FallibleIterator};
 use std::alloc::{AllocError, Global};
 use std::vec;
 
-/// A trace of `Convert` is, place by place, the std iterator's answers, each with the progress that std's contract states: `Ok` is an item, `Err` a failure, none an end.
+/// A trace of `Convert` is, position by position, what the std iterator returns, each with the progress that std's contract states: `Ok` is an item, `Err` a failure, `None` an `Ok(None)`.
 pub fn law_convert<T, E, I: std::iter::Iterator<Item = Result<T, E>>>()
     ensures { TracesAre convert_parts ⟦<Convert<I> as FallibleIterator>⟧.contract.steps
         (ConvertTrace I.can_next I.next_gives I.remaining) }
 {}
 
-/// A trace of `IntoFallible` is, place by place, the std iterator's answers, each with the progress that std's contract states: each element is an item, none an end.
+/// A trace of `IntoFallible` is, position by position, what the std iterator returns, each with the progress that std's contract states: each element is an item, `None` an `Ok(None)`.
 pub fn law_into_fallible<T, I: std::iter::Iterator<Item = T>>()
     ensures { TracesAre into_fallible_parts ⟦<IntoFallible<I> as FallibleIterator>⟧.contract.steps
         (IntoFallibleTrace I.can_next I.next_gives I.remaining) }
 {}
 
-/// From the back: a trace of `Convert` is, place by place, what the std iterator answers from the back, and where the std iterator reads a list from the back, that is what is listed.
+/// From the back: a trace of `Convert` is, position by position, what the std iterator returns from the back, and if the std iterator reads a list from the back, that is what is listed.
 pub fn law_back_convert<T, E, I: std::iter::DoubleEndedIterator<Item = Result<T, E>>>()
     ensures trace { TracesAre convert_parts ⟦<Convert<I> as DoubleEndedFallibleIterator>⟧.ends.steps
         (ConvertTrace I.can_next_back I.next_back_gives I.remaining) }
@@ -48,7 +48,7 @@ pub fn law_back_convert<T, E, I: std::iter::DoubleEndedIterator<Item = Result<T,
         → Lists ⟦<Convert<I> as DoubleEndedFallibleIterator>⟧.ends.steps s (reversed (items l)) }
 {}
 
-/// From the back: a trace of `IntoFallible` is, place by place, what the std iterator answers from the back, and where the std iterator reads a list from the back, its elements are what is listed.
+/// From the back: a trace of `IntoFallible` is, position by position, what the std iterator returns from the back, and if the std iterator reads a list from the back, its elements are what is listed.
 pub fn law_back_into_fallible<T, I: std::iter::DoubleEndedIterator<Item = T>>()
     ensures trace { TracesAre into_fallible_parts
         ⟦<IntoFallible<I> as DoubleEndedFallibleIterator>⟧.ends.steps
@@ -59,7 +59,7 @@ pub fn law_back_into_fallible<T, I: std::iter::DoubleEndedIterator<Item = T>>()
         (reversed (items l)) }
 {}
 
-/// `Convert` lists what the std iterator lists, call by call from both ends; so also what is left of one whose state shows that, where each `next` gives the first of it and each `next_back` the last.
+/// `Convert` lists what the std iterator lists, call by call from both ends; so also what is left of one whose state shows that, if each `next` returns the first of it and each `next_back` the last.
 pub fn law_listed_convert<T, E, I: std::iter::DoubleEndedIterator<Item = Result<T, E>>>()
     ensures { ListsElements convert_parts Ok Err results I.next_gives I.next_back_gives
         (ListsBothEnds ⟦<Convert<I> as FallibleIterator>⟧.contract.steps
@@ -91,37 +91,37 @@ pub fn law_listed_into_fallible<T, I: std::iter::DoubleEndedIterator<Item = T>>(
         ⟦<IntoFallible<I> as DoubleEndedFallibleIterator>⟧.ends.steps) }
 {}
 
-/// A trace of `FromFn` is the closure's answers, one call a draw.
+/// A trace of `FromFn` is the closure's results, one call a draw.
 pub fn law_from_fn<T, E, F: FnMut() -> Result<Option<T>, E>>()
     ensures { TracesAre from_fn_parts ⟦<FromFn<F> as FallibleIterator>⟧.contract.steps
         (FromFnTrace F.FnMut) }
 {}
 
-/// A trace of `Empty` has only ends.
+/// A trace of `Empty` is `Ok(None)` at each position.
 pub fn law_empty<T, E>()
     ensures { TracesAre (λ s. s) ⟦<Empty<T, E> as FallibleIterator>⟧.contract.steps
         (λ _ trace _. EmptyTrace trace) }
 {}
 
-/// A trace of `Once` is its item, and then ends.
+/// A trace of `Once` is its item, and then `Ok(None)` at each position.
 pub fn law_once<T: Drop, E>()
     ensures { TracesAre once_parts ⟦<Once<T, E> as FallibleIterator>⟧.contract.steps
         (OnceTrace item) }
 {}
 
-/// A trace of `OnceErr` is its failure, and then ends.
+/// A trace of `OnceErr` is its failure, and then `Ok(None)` at each position.
 pub fn law_once_err<T, E: Drop>()
     ensures { TracesAre once_err_parts ⟦<OnceErr<T, E> as FallibleIterator>⟧.contract.steps
         (OnceTrace failure) }
 {}
 
-/// A trace of `Repeat` has clones of its value as items, and, where a clone was refused, the failure made of the refusal.
+/// A trace of `Repeat` has clones of its value as items, and the failure of each clone that failed.
 pub fn law_repeat<T: Clone, E: From<AllocError>>()
     ensures { TracesAre repeat_parts ⟦<Repeat<T, E> as FallibleIterator>⟧.contract.steps
         (RepeatTrace T.is_clone T.is_infallible E.from_gives) }
 {}
 
-/// A trace of `RepeatErr` has clones of its error as failures, and, where a clone was refused, the failure made of the refusal.
+/// A trace of `RepeatErr` has clones of its error as failures, and the failure of each clone that failed.
 pub fn law_repeat_err<T, E: Clone + From<AllocError>>()
     ensures { TracesAre repeat_err_parts ⟦<RepeatErr<T, E> as FallibleIterator>⟧.contract.steps
         (RepeatErrTrace E.is_clone E.is_infallible E.from_gives) }

@@ -11,11 +11,11 @@ use fallible_contract::answers::{Answer, Side};
 use fallible_core::{DoubleEndedFallibleIterator, FallibleIterator};
 use std::alloc::{AllocError, Global};
 
-/// The answers of `n` draws, in order.
+/// Returns the answers of `n` draws, in order.
 ///
-/// It draws n answers. It fails with `AllocError` where its room is refused: it takes all of it first, and nothing was drawn then. What is left may be drawn from again. Over a list of n answers or more it lists those behind them.
+/// It draws n times. It fails with `AllocError` if the allocation of its `Vec` fails: it allocates first, and nothing was drawn then. The iterator may be used again. Over a list of n answers or more it lists those after them.
 ///
-/// Asks that it may be drawn from.
+/// Requires that `next` may be called.
 ///
 /// ```
 /// let mut rows = Rows::new(b"1\nx\n3\n".as_slice());
@@ -44,11 +44,11 @@ where
     Ok(made)
 }
 
-/// The answers of one draw for each of the sides, from the end that it names, in order.
+/// Returns the answers of one draw for each of the sides, from the end that it names, in order.
 ///
-/// It draws one answer for each side. It fails with `AllocError` where its room is refused: it takes all of it first, and nothing was drawn then. What is left may be drawn from again, from either end. Over what both ends list they list what is between.
+/// It draws once for each side. It fails with `AllocError` if the allocation of its `Vec` fails: it allocates first, and nothing was drawn then. The iterator may be used again, from either end. Over what both ends list they list what is between.
 ///
-/// Asks that it may be drawn from, from either end.
+/// Requires that `next` and `next_back` may be called.
 ///
 /// ```
 /// let mut it = convert(readings.into_iter());

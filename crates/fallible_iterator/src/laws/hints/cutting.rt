@@ -16,7 +16,7 @@ pub fn law_hints_take<I: FallibleIterator>()
         → KeepsBrackets ⟦<Take<I> as FallibleIterator>⟧.contract s I.contract (take_source s) }
 {}
 
-/// Until the source's end was met each hint of `Fuse` is as sound as the source's; from then on each brackets what comes.
+/// Until the source returned `Ok(None)` each hint of `Fuse` is as sound as the source's; from then on each brackets what comes.
 pub fn law_hints_fuse<I: FallibleIterator>()
     ensures open { (s : Fuse I) → fuse_ended s ≡ false
         → KeepsBrackets ⟦<Fuse<I> as FallibleIterator>⟧.contract s I.contract (fuse_source s) }
@@ -24,7 +24,7 @@ pub fn law_hints_fuse<I: FallibleIterator>()
         → SoundHints ⟦<Fuse<I> as FallibleIterator>⟧.contract s }
 {}
 
-/// Until an item was refused each hint of `TakeWhile` is as sound as the hint of its source that it is made of; from then on each brackets what comes.
+/// Until an item was rejected each hint of `TakeWhile` is as sound as the hint of its source that it is made of; from then on each brackets what comes.
 pub fn law_hints_take_while<I: FallibleIterator, P: FnMut(&I::Item) -> Result<bool, I::Error>>()
 where
     I::Item: Drop,

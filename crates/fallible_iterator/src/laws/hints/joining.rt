@@ -49,7 +49,7 @@ where
     ensures { (s : _) → SoundHints ⟦<FlatMap<I, U, F> as FallibleIterator>⟧.contract s }
 {}
 
-/// Each hint of `Cycle` brackets what comes from it wherever the lower bound of the kept source's hint bounds what comes from each clone of it; so, where each clone equals the kept source, it is as sound as the kept source's hint.
+/// Each hint of `Cycle` brackets what comes from it wherever the lower bound of the kept source's hint bounds what comes from each clone of it; so, if each clone equals the kept source, it is as sound as the kept source's hint.
 pub fn law_hints_cycle<I: FallibleIterator + Clone>()
 where
     I::Error: From<AllocError>,

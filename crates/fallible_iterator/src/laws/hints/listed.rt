@@ -36,7 +36,7 @@ pub fn law_hints_lists<I: FallibleIterator>()
         → Lists I.contract.steps s l → Bounds h l → Brackets I.contract.steps s h }
 {}
 
-/// Where it lists the list from both ends, the hint brackets what comes from the front and what comes from the back.
+/// If a value lists the list from both ends, the hint brackets what comes from the front and what comes from the back.
 pub fn law_hints_listed<I: DoubleEndedFallibleIterator>()
     ensures front { (s : I) (l : List (Result I.Item I.Error)) (h : ℕ × Option ℕ)
         → ListsBothEnds I.contract.steps I.ends.steps s l → Bounds h l
@@ -45,7 +45,7 @@ pub fn law_hints_listed<I: DoubleEndedFallibleIterator>()
         → ListsBothEnds I.contract.steps I.ends.steps s l → Bounds h l → Brackets I.ends.steps s h }
 {}
 
-/// Each hint of `Convert` bounds the list of the std iterator's results, where what remains is the length of that list.
+/// Each hint of `Convert` bounds the list of the std iterator's results, if what remains is the length of that list.
 pub fn law_hints_listed_convert<T, E, I: std::iter::Iterator<Item = Result<T, E>>>()
     ensures { (rest : I → List (Result T E)) (s : Convert I)
         → I.remaining (convert_parts s) ≡ item_count rest (convert_parts s) → (h : ℕ × Option ℕ)
@@ -53,7 +53,7 @@ pub fn law_hints_listed_convert<T, E, I: std::iter::Iterator<Item = Result<T, E>
         → Bounds h (results (rest (convert_parts s))) }
 {}
 
-/// Each hint of `IntoFallible` bounds the list of the std iterator's elements, where what remains is the length of that list.
+/// Each hint of `IntoFallible` bounds the list of the std iterator's elements, if what remains is the length of that list.
 pub fn law_hints_listed_into_fallible<T, I: std::iter::Iterator<Item = T>>()
     ensures { (rest : I → List T) (s : IntoFallible I)
         → I.remaining (into_fallible_parts s) ≡ item_count rest (into_fallible_parts s)

@@ -1,4 +1,4 @@
-// The hints of the adapters with one answer for each draw.
+// The hints of the adapters that draw once in each call.
 ghost use Rattle.std.specs.Prelude.{Result, Option};
 ghost use Rattle.fallible_core.specs.OneToOne.Map.{map_source};
 ghost use Rattle.fallible_core.specs.OneToOne.Inspect.{inspect_source};

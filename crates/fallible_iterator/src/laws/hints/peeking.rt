@@ -6,7 +6,7 @@ ghost use Rattle.fallible_iterator.specs.SoundHints.{KeepsBrackets, SoundHints};
 use fallible_core::peeking::Peekable;
 use fallible_core::traits::FallibleIterator;
 
-/// Where nothing is held, and where an item is, each hint of `Peekable` is as sound as the hint of its source that it is made of; where an end is held each brackets what comes.
+/// If nothing or an item is buffered, each hint of `Peekable` is as sound as the hint of its source that it is made of; if an `Ok(None)` is buffered, each brackets what comes.
 pub fn law_hints_peekable<I: FallibleIterator>()
 where
     I::Item: Drop,

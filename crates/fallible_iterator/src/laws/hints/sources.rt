@@ -9,7 +9,7 @@ use crate::sources::{Convert, Empty, FromFn, IntoFallible, Once, OnceErr, Repeat
 use fallible_core::{DoubleEndedFallibleIterator, FallibleIterator};
 use std::alloc::AllocError;
 
-/// A hint brackets what comes from `Convert` wherever it brackets, of the std iterator's calls of `next`, those that give `Ok` alone. The upper bound of each hint is never too low; and where what the std iterator says remains is just what calls count down, each hint brackets.
+/// A hint brackets what comes from `Convert` wherever it brackets those of the std iterator's calls of `next` that return `Ok`. The upper bound of each hint is never too low; and if calls count down exactly what the std iterator says remains, each hint brackets.
 pub fn law_hints_convert<T, E, I: std::iter::Iterator<Item = Result<T, E>>>()
     ensures brackets { (s : Convert I) (h : ℕ × Option ℕ)
         → BracketsCalls I.next_gives Ok (convert_parts s) h
@@ -19,7 +19,7 @@ pub fn law_hints_convert<T, E, I: std::iter::Iterator<Item = Result<T, E>>>()
         ⟦<Convert<I> as FallibleIterator>⟧.contract }
 {}
 
-/// The same of `Convert` from the back, by calls of `next_back`.
+/// A hint brackets what comes from `Convert` from the back wherever it brackets those of the std iterator's calls of `next_back` that return `Ok`.
 pub fn law_hints_back_convert<T, E, I: std::iter::DoubleEndedIterator<Item = Result<T, E>>>()
     ensures brackets { (s : Convert I) (h : ℕ × Option ℕ)
         → BracketsCalls I.next_back_gives Ok (convert_parts s) h
@@ -32,7 +32,7 @@ pub fn law_hints_back_convert<T, E, I: std::iter::DoubleEndedIterator<Item = Res
         ⟦<Convert<I> as DoubleEndedFallibleIterator>⟧.ends) }
 {}
 
-/// A hint brackets what comes from `IntoFallible` wherever it brackets what calls of the std iterator's `next` give. The upper bound of each hint is never too low; and where what the std iterator says remains is just what calls count down, each hint brackets.
+/// A hint brackets what comes from `IntoFallible` wherever it brackets what calls of the std iterator's `next` return. The upper bound of each hint is never too low; and if calls count down exactly what the std iterator says remains, each hint brackets.
 pub fn law_hints_into_fallible<T, I: std::iter::Iterator<Item = T>>()
     ensures brackets { (s : IntoFallible I) (h : ℕ × Option ℕ)
         → BracketsCalls I.next_gives (λ (x : T). x) (into_fallible_parts s) h
@@ -43,7 +43,7 @@ pub fn law_hints_into_fallible<T, I: std::iter::Iterator<Item = T>>()
         ⟦<IntoFallible<I> as FallibleIterator>⟧.contract }
 {}
 
-/// The same of `IntoFallible` from the back, by calls of `next_back`.
+/// A hint brackets what comes from `IntoFallible` from the back wherever it brackets what calls of the std iterator's `next_back` return.
 pub fn law_hints_back_into_fallible<T, I: std::iter::DoubleEndedIterator<Item = T>>()
     ensures brackets { (s : IntoFallible I) (h : ℕ × Option ℕ)
         → BracketsCalls I.next_back_gives (λ (x : T). x) (into_fallible_parts s) h
@@ -76,12 +76,12 @@ pub fn law_hints_once_err<T, E: Drop>()
     ensures { (s : OnceErr T E) → SoundHints ⟦<OnceErr<T, E> as FallibleIterator>⟧.contract s }
 {}
 
-/// Each hint of `Repeat` brackets what comes from it: no end ever comes.
+/// Each hint of `Repeat` brackets what comes from it: it never returns `Ok(None)`.
 pub fn law_hints_repeat<T: Clone, E: From<AllocError>>()
     ensures { (s : Repeat T E) → SoundHints ⟦<Repeat<T, E> as FallibleIterator>⟧.contract s }
 {}
 
-/// Each hint of `RepeatErr` brackets what comes from it: no item ever comes.
+/// Each hint of `RepeatErr` brackets what comes from it: it never yields an item.
 pub fn law_hints_repeat_err<T, E: Clone + From<AllocError>>()
     ensures { (s : RepeatErr T E) → SoundHints ⟦<RepeatErr<T, E> as FallibleIterator>⟧.contract s }
 {}
