@@ -43,7 +43,7 @@ ITERATOR = [
     # Collections: Rust's `collect` goes by `FromIterator`, so what is left is `push_one`.
     (r"fallible_contract/collecting\.rs", r"^mod (?:deque|hashed|sorted);\n", "", 3),
     (r"fallible_contract/collecting\.rs", r"^impl<T> Collect<T> for Vec<T> \{(?:\n|    .*\n)*\}\n\n", "", 1),
-    (r"fallible_contract/collecting\.rs", r"^    /// Makes the collection.*\n    fn empty\(.*;\n\n", "", 1),
+    (r"fallible_contract/collecting\.rs", r"^    /// Creates the collection.*\n    fn empty\(.*;\n\n", "", 1),
     (r"fallible_contract/collecting\.rs", r"^use core::ops", "use crate::memory::AllocError;\nuse core::ops", 1),
     # Clones, and the arm of a refused one.
     (r"fallible_core/joining/cycle\.rs", r"self\.kept\.clone\(\)", "self.kept.try_clone()", 1),

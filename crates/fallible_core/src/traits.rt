@@ -467,7 +467,7 @@ pub trait FallibleIterator: Drop + Sized {
 
     /// Yields the source's items up to the n-th, and then `Ok(None)`. Failures and `Ok(None)` of the source pass, and don't count.
     ///
-    /// Creating it draws nothing. `next` draws once, and nothing after the n-th item. It fails as the source does. Up to the n-th item it behaves as `map` after a failure and after `Ok(None)`. After that item each call returns `Ok(None)`.
+    /// Creating it draws nothing. `next` draws once, and nothing after the n-th item. It fails as the source does. Behaviour after a failure and after `Ok(None)`, up to the n-th item: as `map`. After that item each call returns `Ok(None)`.
     ///
     /// ```
     /// Bytes { reader }
@@ -877,7 +877,7 @@ pub trait FallibleIterator: Drop + Sized {
         }
     }
 
-    /// Yields what the inner iterators yield that the items become. The current one is drawn until its `Ok(None)`, and is dropped then. Then the next item is drawn.
+    /// Turns each item into an inner iterator, and yields what these yield, one after another. The current one is drawn until its `Ok(None)`, and is dropped then. Then the next item is drawn.
     ///
     /// Creating it draws nothing. `next` draws the current inner iterator, and this one only if there is no current one, or it ended. It fails as either does. After a failure of the inner iterator it stays the current one. After a failure or an `Ok(None)` of this iterator the next call draws this iterator again.
     ///
@@ -908,7 +908,7 @@ pub trait FallibleIterator: Drop + Sized {
         }
     }
 
-    /// Yields what the inner iterators yield that the closure makes of the items, as `flatten`.
+    /// Yields what the inner iterators yield that the closure returns for the items, as `flatten`.
     ///
     /// Laziness, draws, errors and behaviour after `Ok(None)`: as `flatten` of `map`.
     ///
@@ -1226,7 +1226,7 @@ pub trait FallibleIterator: Drop + Sized {
 
     /// Returns how many items come before the first one for which the predicate returns true; `Ok(None)` if there is none.
     ///
-    /// It draws up to the first item on which the predicate returns true or fails, the first failure or `Ok(None)`. Errors, precondition and what is left: as `all`. Instead of a bound it requires that at most `usize::MAX` items are left.
+    /// It draws up to the first item on which the predicate returns true or fails, the first failure or `Ok(None)`. Instead of a bound it requires that at most `usize::MAX` items are left. Errors, what is left and the rest of the precondition: as `all`.
     ///
     /// ```
     /// match it.position(|x| Ok(x == 0))? {
@@ -1406,7 +1406,7 @@ pub trait FallibleIterator: Drop + Sized {
     ///
     /// It draws in rounds, this iterator and then the other, until a failure, an `Ok(None)` or two items that decide. If this one returned `Ok(None)`, the other is still drawn in that round; if this one failed, it is not. It fails with the first failure: in each round one of this iterator comes before one of the other. It consumes both, and no clause says what is left.
     ///
-    /// Requires that `next` may be called on both sides and that one of them is finite.
+    /// Requires that `next` may be called on both sides and that one of the two is finite.
     ///
     /// ```
     /// convert(left.into_iter())

@@ -710,7 +710,7 @@ pub trait FallibleItertools: FallibleIterator {
         }
     }
 
-    /// Returns the first of the least items and the last of the greatest, in one pass. A single item stands alone, and of no items there are none.
+    /// Returns the first of the least items and the last of the greatest, in one pass. For one item it returns `OneElement`, for none `NoElements`.
     ///
     /// It draws up to `Ok(None)` or the first failure. It fails with that failure. It consumes the iterator, and no clause says what is left.
     ///
@@ -802,7 +802,7 @@ pub trait FallibleItertools: FallibleIterator {
     ///
     /// It draws in rounds, this iterator and then the other, until a failure, an `Ok(None)` or two items that decide. If this one returned `Ok(None)`, the other is still drawn in that round; if this one failed, it is not. It fails with the first failure: in each round one of this iterator comes before one of the other, and that before one of the closure. It consumes both, and no clause says what is left.
     ///
-    /// Requires that `next` may be called on both sides and that one of them is finite, and that the closure may be called on each two items that may come in one round.
+    /// Requires that `next` may be called on both sides and that one of the two is finite, and that the closure may be called on each two items that may come in one round.
     ///
     /// ```
     /// let order = numbers(left).cmp_by(numbers(right), last_digits);
@@ -942,7 +942,7 @@ pub trait FallibleItertools: FallibleIterator {
 
     /// Yields the items, with a clone of the separator between each two adjacent ones.
     ///
-    /// Creating it draws nothing. If an item is buffered, `next` yields it and draws nothing; otherwise it draws once. An item after the first is buffered, and a clone of the separator is yielded before it. It fails as the source does. If a clone can't be allocated, the failure converted from `AllocError` is yielded. The item is buffered then too, so none is lost. A failure or an `Ok(None)` between two items doesn't start anew: the next item gets a separator before it.
+    /// Creating it draws nothing. If an item is buffered, `next` yields it and draws nothing; otherwise it draws once. An item after the first is buffered, and a clone of the separator is yielded before it. It fails as the source does. If a clone can't be allocated, the failure converted from `AllocError` is yielded. The item is buffered then too, so none is lost. After a failure or an `Ok(None)` the next item still has a separator before it.
     ///
     /// Requires nothing. `next` requires that it may be called on the source.
     ///

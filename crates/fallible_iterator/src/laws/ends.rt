@@ -173,7 +173,7 @@ pub fn law_back_chain<
         (ChainTrace U.ends.steps T.ends.steps) }
 {}
 
-/// From the back the answers of `Cloned` are the source's from the back, with a clone in each item's place, or the failure of that clone.
+/// From the back the answers of `Cloned` are the source's from the back, with a clone in each item's place, or the failure converted from its `AllocError`.
 pub fn law_back_cloned<'a, T: Clone + 'a, I: DoubleEndedFallibleIterator<Item = &'a T>>()
 where
     I::Error: From<AllocError>,

@@ -62,7 +62,7 @@ where
         (MapWhileTrace I.contract.steps F.FnMut) }
 {}
 
-/// The answers of `Cloned` are the source's, with a clone in each item's place, or the failure of that clone.
+/// The answers of `Cloned` are the source's, with a clone in each item's place, or the failure converted from its `AllocError`.
 pub fn law_cloned<'a, T: Clone + 'a, I: FallibleIterator<Item = &'a T>>()
 where
     I::Error: From<AllocError>,

@@ -115,13 +115,13 @@ pub fn law_once_err<T, E: Drop>()
         (OnceTrace failure) }
 {}
 
-/// A trace of `Repeat` has clones of its value as items, and the failure of each clone that failed.
+/// A trace of `Repeat` has clones of its value as items, and the failure converted from the `AllocError` of each clone that failed.
 pub fn law_repeat<T: Clone, E: From<AllocError>>()
     ensures { TracesAre repeat_parts ⟦<Repeat<T, E> as FallibleIterator>⟧.contract.steps
         (RepeatTrace T.is_clone T.is_infallible E.from_gives) }
 {}
 
-/// A trace of `RepeatErr` has clones of its error as failures, and the failure of each clone that failed.
+/// A trace of `RepeatErr` has clones of its error as failures, and the failure converted from the `AllocError` of each clone that failed.
 pub fn law_repeat_err<T, E: Clone + From<AllocError>>()
     ensures { TracesAre repeat_err_parts ⟦<RepeatErr<T, E> as FallibleIterator>⟧.contract.steps
         (RepeatErrTrace E.is_clone E.is_infallible E.from_gives) }

@@ -114,7 +114,7 @@ where
         → SoundHints ⟦<DedupByKey<I, K, F> as FallibleIterator>⟧.contract s }
 {}
 
-/// The answers of `TupleWindows` are the source's, where each item but the first is replaced by the pair of the one before it and itself, or by the failure of its clone.
+/// The answers of `TupleWindows` are the source's, where each item but the first is replaced by the pair of the one before it and itself, or by the failure converted from the `AllocError` of its clone.
 pub fn law_tuple_windows<I: FallibleIterator>()
 where
     I::Item: Clone + Drop,

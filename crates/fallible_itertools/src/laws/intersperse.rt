@@ -8,7 +8,7 @@ use crate::intersperse::Intersperse;
 use fallible_iterator::FallibleIterator;
 use std::alloc::AllocError;
 
-/// The answers of `Intersperse` are the source's with a clone of the separator, or the failure of that clone, before each item but the first.
+/// The answers of `Intersperse` are the source's with a clone of the separator, or the failure converted from its `AllocError`, before each item but the first.
 pub fn law_intersperse<I: FallibleIterator>()
 where
     I::Item: Clone + Drop,

@@ -1,10 +1,10 @@
-//! What stands in the place of refused memory: nothing, since Rust ends the process there.
+//! What stands in the place of an allocation failure: nothing, since Rust ends the process then.
 
-/// A refusal of memory. It has no value.
+/// An allocation failure. It has no value.
 #[derive(Debug, Clone, Copy, PartialEq, Eq)]
 pub enum AllocError {}
 
-/// A clone as the proved code asks for one: it might be refused, and never is.
+/// A clone as the proved code makes one: it might fail, and never does.
 pub trait TryClone: Clone {
     /// The clone.
     #[inline(always)]
