@@ -19,7 +19,7 @@ module _ {S A E : Type 0} (front back : S → Answered A E → S → Type 0) whe
   step_at Front = front
   step_at Back = back
 
-  -- From s, draws from the ends named, one after another, can give the answers beside them, and leave t.
+  -- From s, draws from the ends named, one after another, can return the answers beside them, and leave t.
   abbrev pub RunAtEnds : S → List (Side × Answered A E) → S → Type 0
   RunAtEnds s drawn t = FoldsTo (λ u d v. step_at d.0 u d.1 v) s drawn t
 
@@ -57,14 +57,14 @@ came_from_back [] = []
 came_from_back ((Front, r) ∷ drawn) = came_from_back drawn
 came_from_back ((Back, r) ∷ drawn) = answer_came r (came_from_back drawn)
 
--- What came from the front, what is left, and what came from the back, reversed, make the list; and an end was answered only where nothing was left.
+-- What came from the front, what is left, and what came from the back, reversed, make the list; and `Ok(None)` was returned only where nothing was left.
 pub record Interleaves {S A E : Type 0} (front back : S → Answered A E → S → Type 0) (l : List (Result A E)) (drawn : List (Side × Answered A E)) (t : S) : Type 0 where
   pub after : List (Result A E)
   pub listed : ListsBothEnds front back t after
   pub makes : l ≡ came_from_front drawn ++ after ++ reverse (came_from_back drawn)
   pub ends : (before after : List (Side × Answered A E)) (side : Side) → drawn ≡ before ++ (side, end) ∷ after → l ≡ came_from_front before ++ reverse (came_from_back before)
 
--- ---- what an adapter lists whose closure is asked of each item
+-- ---- what an adapter lists whose closure is called on each item
 
 -- the items of a list, in order, and its failures
 abbrev pub item_listed : {A E : Type 0} → Result A E → Option A
@@ -81,7 +81,7 @@ failure_listed (Err e) = Some e
 abbrev pub failures_listed : {A E : Type 0} → List (Result A E) → List E
 failures_listed l = filter_map failure_listed l
 
--- A list whose items stand each beside what a closure answers on it says both what a source lists and what an adapter makes of that. What the source lists: the items themselves, and the failures.
+-- A list whose items stand each beside what a closure returns for it says both what a source lists and what an adapter makes of that. What the source lists: the items themselves, and the failures.
 abbrev pub source_result : {X R E : Type 0} → Result (X × R) E → Result X E
 source_result (Ok c) = Ok c.0
 source_result (Err e) = Err e

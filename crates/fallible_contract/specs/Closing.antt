@@ -1,4 +1,4 @@
--- Adapters that one place closes for good: what they answer is what the source answers, and then ends without draws.
+-- Adapters that one place closes, so that they are exhausted: what they return is what the source returns, and then ends without draws.
 use Rattle.std.specs.Prelude.{◌≡◌, ℕ, ◌<◌, List, [], ◌∷◌, ◌++◌, map, replicate, Option, Some, Bool, true, false, ◌⊎◌, ◌↔◌}
 use Rattle.fallible_contract.specs.Traces.{Answered, end}
 use Rattle.fallible_contract.specs.Contract.{Contract}
@@ -17,7 +17,7 @@ pub record ClosingTrace {Q B E : Type 0} (answer : Q → Answered B E) (closes :
   pub over : 0 < ends → closed' ≡ true
   pub remaining : (closed' ≡ true) ↔ (closed ≡ true ⊎ ClosesLast closes places)
 
--- One answer: an end without a draw where the value is closed, and else that of one place, which may close it.
+-- One answer: an end without a draw if the value is closed, and otherwise that of one place, which may close it.
 abbrev pub closing_step : {P Q B E : Type 0} → (P → Q → P → Type 0) → (Q → Answered B E) → (Q → Bool) → P × Bool → Answered B E → P × Bool → Type 0
 closing_step draws answer closes (p, true) r (q, closed') = (r ≡ end) × (q ≡ p) × (closed' ≡ true)
 closing_step {Q = Q} draws answer closes (p, false) r (q, closed') = (x : Q) × draws p x q × (r ≡ answer x) × (closed' ≡ closes x)

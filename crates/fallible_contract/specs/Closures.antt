@@ -1,15 +1,15 @@
--- Calls of stored closures, which may keep state: `call f x r g` says that the closure f, called on x, may answer r and is then g.
+-- Calls of stored closures, which may keep state: `call f x r g` says that the closure f, called on x, may return r and is then g.
 use Rattle.std.specs.Prelude.{◌≡◌, List, All}
 use Rattle.std.specs.List.{FoldsTo}
 use Rattle.std.specs.Fn.{Called, CalledAt, Takes, TakesAt, Mut}
 use Rattle.std.specs.Borrow.{Bor}
 
 module _ {F X R : Type 0} (call : F → X → R → F → Type 0) where
-  -- Called in order on the arguments of the pairs, f can give the answers beside them, and is then g.
+  -- Called in order on the arguments of the pairs, f can return the results beside them, and is then g.
   abbrev pub Calls : F → List (X × R) → F → Type 0
   Calls f pairs g = FoldsTo (λ p c q. call p c.0 c.1 q) f pairs g
 
-  -- In whatever state its calls bring it to, f gives to each argument of the pairs the answer beside it.
+  -- In whatever state its calls bring it to, f returns for each argument of the pairs the result beside it.
   abbrev pub Steady : F → List (X × R) → Type 0
   Steady f pairs = (made : List (X × R)) (p q : F) → Calls f made p → All (λ c. (r : R) → call p c.0 r q → r ≡ c.1) pairs
 
@@ -22,7 +22,7 @@ module _ {F X R : Type 0} (call : F → X → R → F → Type 0) where
   pub record IsCallable (pre : F → X → Type 0) (P : X → Type 0) (f : F) : Type 0 where
     pub at : (g : F) (x : X) → Reaches P f g → P x → pre g x
 
-  -- In a state that calls on arguments of which P holds bring f to, called on such an argument, it may answer as Q says.
+  -- In a state that calls on arguments of which P holds bring f to, called on such an argument, f may return what Q says.
   pub record MayAnswer (P : X → Type 0) (f : F) (Q : X → R → Type 0) : Type 0 where
     pub state : F
     pub argument : X
@@ -33,11 +33,11 @@ module _ {F X R : Type 0} (call : F → X → R → F → Type 0) where
     pub called : call state argument answer after
     pub says : Q argument answer
 
--- one call on an item itself, which may answer so and leave the closure so
+-- one call on an item itself, which may return so and leave the closure so
 abbrev pub call_on : {F A R : Type 0} → Mut F (A × Unit {0}) R → F → A → R → F → Type 0
 call_on g f x r f' = Called g f (x, tt) r f'
 
--- it may be called on the item
+-- the closure may be called on the item
 abbrev pub takes_on : {F A R : Type 0} → Mut F (A × Unit {0}) R → F → A → Type 0
 takes_on g f x = Takes g f (x, tt)
 
@@ -45,6 +45,6 @@ takes_on g f x = Takes g f (x, tt)
 abbrev pub call_at : {F A R : Type 0} → Mut F (Bor A × Unit {0}) R → F → A → R → F → Type 0
 call_at g f x r f' = CalledAt g f x r f'
 
--- it may be called on a reference to the item
+-- the closure may be called on a reference to the item
 abbrev pub takes_at : {F A R : Type 0} → Mut F (Bor A × Unit {0}) R → F → A → Type 0
 takes_at g f x = TakesAt g f x

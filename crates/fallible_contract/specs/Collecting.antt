@@ -24,7 +24,7 @@ pub record FailsWith {S A E C : Type 0} (steps : S → Answered A E → S → Ty
   pub ran : Run steps s (map item items ++ failure e ∷ []) after
   pub is_made : made items collection
 
--- A collection of the items that came refused the last item that was drawn.
+-- A collection of the items that came rejected the last item that was drawn.
 pub record RefusesItem {S A E C : Type 0} (steps : S → Answered A E → S → Type 0) (made : List A → C → Type 0) (refuses : C → A → Type 0) (s : S) : Type 0 where
   pub items : List A
   pub refused : A
@@ -34,13 +34,13 @@ pub record RefusesItem {S A E C : Type 0} (steps : S → Answered A E → S → 
   pub is_made : made items collection
   pub refuses_it : refuses collection refused
 
--- What `collect` answers: the collection of all items up to an end; the first failure; or want of memory, where making an empty collection may be refused, or an item was refused.
+-- What `collect` returns: the collection of all items up to an end; the first failure; or an allocation failure, if creating an empty collection may fail, or an item was rejected.
 abbrev pub Collects : {S A E C : Type 0} → (S → Answered A E → S → Type 0) → (List A → C → Type 0) → Type 0 → (C → A → Type 0) → S → Result C (Fault E) → Type 0
 Collects steps made empty_refuses refuses s (Ok c) = CollectsAll steps made s c
 Collects steps made empty_refuses refuses s (Err (Source e)) = FailsWith steps made s e
 Collects steps made empty_refuses refuses s (Err (Memory a)) = empty_refuses ⊎ RefusesItem steps made refuses s
 
--- one push: the collection of the items becomes one of the items and one more, or refuses it
+-- one push: the collection of the items becomes one of the items and one more, or rejects it
 abbrev pub IsCollectTurn : {A C : Type 0} → (List A → C → Type 0) → (C → A → Type 0) → C → A → ControlFlow AllocError (Unit {0}) → C → Type 0
 IsCollectTurn {A} made refuses c x (Continue u) d = (items : List A) → made items c → made (items ++ x ∷ []) d
 IsCollectTurn made refuses c x (Break a) d = refuses c x
@@ -57,7 +57,7 @@ abbrev pub answered_false : {A : Type 0} → List (A × Bool) → List A
 answered_false [] = []
 answered_false (p ∷ ps) = cond p.1 (answered_false ps) (p.0 ∷ answered_false ps)
 
--- The closure f, called in order on the items, once each, gave the answers beside them, and is what stands beside the collections: the first is made of the items answered true, and the second of those answered false.
+-- The closure f, called in order on the items, once each, returned what stands beside them, and is what stands beside the collections: the first is made of the items for which it returned true, and the second of those for which it returned false.
 pub record Sides {A E F B : Type 0} (call : F → A → Result Bool E → F → Type 0) (made : List A → B → Type 0) (f : F) (items : List A) (c : F × (B × B)) : Type 0 where
   pub answered : List (A × Bool)
   pub beside : map (λ p. p.0) answered ≡ items
@@ -65,7 +65,7 @@ pub record Sides {A E F B : Type 0} (call : F → A → Result Bool E → F → 
   pub first : made (answered_true answered) c.1.0
   pub second : made (answered_false answered) c.1.1
 
--- The closure is called on the item, and answers.
+-- The closure is called on the item, and returns.
 abbrev pub Asks : {A E F : Type 0} → (F → A → Result Bool E → F → Type 0) → F → A → F → Type 0
 Asks call g x h = (v : Bool) × call g x (Ok v) h
 
@@ -74,17 +74,17 @@ module _ {A E F B : Type 0} (call : F → A → Result Bool E → F → Type 0) 
   abbrev pub ClosureFails : E → F × (B × B) → A → Type 0
   ClosureFails e c x = (g : F) × call c.0 x (Err e) g
 
-  -- The collection refuses the item to whose side the closure's answer sends it.
+  -- The collection rejects the item to whose side the closure's result sends it.
   abbrev pub SideRefuses : (B → A → Type 0) → F × (B × B) → A → Type 0
   SideRefuses refuses c x = (v : Bool) × (g : F) × call c.0 x (Ok v) g × refuses (cond v c.1.0 c.1.1) x
 
-  -- One turn: the closure is called on the item, which is pushed to the side of the answer; or the closure fails, or the item is refused.
+  -- One turn: the closure is called on the item, which is pushed to the side that it returned; or the closure fails, or the item is rejected.
   abbrev pub IsPartitionTurn : (List A → B → Type 0) → (B → A → Type 0) → F × (B × B) → A → ControlFlow (Fault E) (Unit {0}) → F × (B × B) → Type 0
   IsPartitionTurn made refuses c x (Continue u) d = (v : Bool) × call c.0 x (Ok v) d.0 × ((xs ys : List A) → made xs c.1.0 → made ys c.1.1 → made (cond v (xs ++ x ∷ []) xs) d.1.0 × made (cond v ys (ys ++ x ∷ [])) d.1.1)
   IsPartitionTurn made refuses c x (Break (Source e)) d = ClosureFails e c x
   IsPartitionTurn made refuses c x (Break (Memory a)) d = SideRefuses refuses c x
 
--- What `partition` answers: both collections, made of all items up to an end; the first failure of the source or the closure, before which both were made of the items; or want of memory, where making an empty collection may be refused, or an item was refused.
+-- What `partition` returns: both collections, made of all items up to an end; the first failure of the source or the closure, before which both were made of the items; or an allocation failure, if creating an empty collection may fail, or an item was rejected.
 abbrev pub Partitions : {S A E F B : Type 0} → (S → Answered A E → S → Type 0) → (F → A → Result Bool E → F → Type 0) → (List A → B → Type 0) → Type 0 → (B → A → Type 0) → S → F → Result (B × B) (Fault E) → Type 0
 Partitions {F = F} steps call made empty_refuses refuses s f (Ok p) = (g : F) × CollectsAll steps (Sides call made f) s (g, p)
 Partitions {B = B} steps call made empty_refuses refuses s f (Err (Source e)) = FailsWith steps (Sides call made f) s e ⊎ RefusesItem steps (Sides call made f) (ClosureFails {B = B} call e) s
@@ -98,11 +98,11 @@ module _ {A B C D : Type 0} (made_first : List A → C → Type 0) (made_second 
   MadeOfPairs pairs c = made_first (map (λ p. p.0) pairs) c.0 × made_second (map (λ p. p.1) pairs) c.1
 
   module _ (first_refuses : C → A → Type 0) (second_refuses : D → B → Type 0) where
-    -- The first collection refuses the first half; or it takes it, and the second collection refuses the second half.
+    -- The first collection rejects the first half; or it takes it, and the second collection rejects the second half.
     abbrev pub PairRefused : C × D → A × B → Type 0
     PairRefused c x = first_refuses c.0 x.0 ⊎ ((d : C) × IsCollectTurn made_first first_refuses c.0 x.0 (Continue tt) d × second_refuses c.1 x.1)
 
-    -- One turn: the first half is pushed to the first collection, and then the second half to the second; or the pair is refused.
+    -- One turn: the first half is pushed to the first collection, and then the second half to the second; or the pair is rejected.
     abbrev pub IsUnzipTurn : C × D → A × B → ControlFlow AllocError (Unit {0}) → C × D → Type 0
     IsUnzipTurn c x (Continue u) d = IsCollectTurn made_first first_refuses c.0 x.0 (Continue tt) d.0 × IsCollectTurn made_second second_refuses c.1 x.1 (Continue tt) d.1
     IsUnzipTurn c x (Break a) d = PairRefused c x

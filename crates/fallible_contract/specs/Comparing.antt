@@ -10,7 +10,7 @@ use Rattle.std.specs.declared.cmp.Ordering.TheVariants.{Less, Equal, Greater}
 abbrev pub OneOf : Type 0 → Type 0 → Type 0
 OneOf A B = (B → A ⊎ B) → (A → A ⊎ B) → A ⊎ B
 
--- One of the two sides is finite: the left, or whatever the value given may become.
+-- One of the two sides is finite: the left, or whatever the other value may become.
 abbrev pub OneIsFinite : {S O T A B E D : Type 0} → Contract S A E → (O → T → Type 0) → Contract T B D → S → O → Type 0
 OneIsFinite {T = T} left into right s other = OneOf (left.is_finite s) ((t : T) → into other t → right.is_finite t)
 
@@ -97,7 +97,7 @@ module _ {A E : Type 0} (rule : A → A → Option Ordering) where
   LastRound (Ok (Some x)) (Some (Ok None)) r = r ≡ Ok (Some Greater)
   LastRound (Ok (Some x)) (Some (Ok (Some y))) r = (r ≡ Ok (rule x y)) × ¬ (rule x y ≡ Some Equal)
 
-  -- Both sides answered pairs of items that compare equal, one by one; then came the last round, which decided.
+  -- Both sides yielded pairs of items that compare equal, one by one; then came the last round, which decided.
   pub record Compared {S T : Type 0} (left-steps : S → Answered A E → S → Type 0) (right-steps : T → Answered A E → T → Type 0) (s : S) (t : T) (r : Result (Option Ordering) E) : Type 0 where
     pub pairs : List (A × A)
     pub equal : OfEach (λ p. rule p.0 p.1 ≡ Some Equal) pairs
@@ -109,7 +109,7 @@ module _ {A E : Type 0} (rule : A → A → Option Ordering) where
     pub right_ran : Run right-steps t (map item (map (λ p. p.1) pairs) ++ where_drawn last_right) right
     pub exit : LastRound last_left last_right r
 
-  -- The value given became an iterator, as `into` allows, and the comparison with that one answered so.
+  -- The other value became an iterator, as `into` allows, and the comparison with that one returned so.
   pub record ComparedWith {S O T : Type 0} (into : O → T → Type 0) (left-steps : S → Answered A E → S → Type 0) (right-steps : T → Answered A E → T → Type 0) (s : S) (other : O) (r : Result (Option Ordering) E) : Type 0 where
     pub right : T
     pub made : into other right

@@ -18,7 +18,7 @@ pub data Lenders : Type 0 where
 pub record Contract (S A E : Type 0) : Type 1 where
   -- the condition of every call that draws
   pub can_next : S → Type 0
-  -- the step: a draw may answer this and leave that
+  -- the step: a draw may return this and leave that
   pub steps : S → Answered A E → S → Type 0
   -- a bound: no run from the value has more items than this
   pub bound : S → ℕ → Type 0
@@ -30,7 +30,7 @@ pub record Contract (S A E : Type 0) : Type 1 where
   pub may_give : S → A → Type 0
   -- the failure may still come
   pub may_fail : S → E → Type 0
-  -- `size_hint` may answer this
+  -- `size_hint` may return this
   pub hints : S → ℕ × Option ℕ → Type 0
   -- the names of the references that it draws through, which every draw keeps; those of inner iterators, which come and go, are not among them
   pub lenders : S → Lenders
@@ -67,7 +67,7 @@ module _ {S A E : Type 0} (m : Contract S A E) where
     pub may_fail : (e : E) → m.may_fail t e → m.may_fail s e
     pub lenders : m.lenders t ≡ m.lenders s
 
-  -- The same after any number of draws, from whichever end they were made.
+  -- What `KeptByDraw` says, after any number of draws, from whichever end they were made.
   pub record KeptByDraws (s t : S) : Type 0 where
     pub can_next : m.can_next t
     pub is_finite : m.is_finite s → m.is_finite t
@@ -81,7 +81,7 @@ module _ {S A E : Type 0} (m : Contract S A E) where
   abbrev pub NeverFails : S → Type 0
   NeverFails s = (trace : List (Answered A E)) (t u : S) (e : E) → Run m.steps s trace t → m.steps t (Err e) u → ⊥
 
-  -- The same after any number of draws from one end; and what can never fail can't fail afterwards.
+  -- What `KeptByDraws` says, after any number of draws from one end; and what can never fail can't fail afterwards.
   pub record Stays (s t : S) : Type 0 where
     pub can_next : m.can_next t
     pub is_finite : m.is_finite s → m.is_finite t

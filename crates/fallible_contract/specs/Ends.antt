@@ -7,7 +7,7 @@ use Rattle.fallible_contract.specs.Contract.{Contract, Lawful}
 pub record Ends (S A E : Type 0) : Type 1 where
   -- the condition of every draw, from either end
   pub can_next : S → Type 0
-  -- the step from the back: a draw from the back may answer this and leave that
+  -- the step from the back: a draw from the back may return this and leave that
   pub steps : S → Answered A E → S → Type 0
   -- the item may still come, from one end or the other
   pub may_give : S → A → Type 0

@@ -8,11 +8,11 @@ exchanged (Ok (Some x)) = Err x
 exchanged (Ok None) = Ok None
 exchanged (Err e) = Ok (Some e)
 
--- the same of one element of a list of results
+-- an element of a list of results, with its item as a failure and its failure as an item
 abbrev pub exchanged_result : {A E : Type 0} → Result A E → Result E A
 exchanged_result (Ok x) = Err x
 exchanged_result (Err e) = Ok e
 
--- the same of each answer of a step
+-- a step, with the item of its answer as a failure and the failure as an item
 abbrev pub steps_exchanged : {S A E : Type 0} → (S → Answered A E → S → Type 0) → S → Answered E A → S → Type 0
 steps_exchanged steps s r t = steps s (exchanged r) t

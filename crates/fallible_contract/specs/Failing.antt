@@ -11,11 +11,11 @@ use Rattle.fallible_contract.specs.declared.passing.Outcome.TheVariants.{Kept, L
 
 -- ---- each failure has another in its place
 
--- what the closure answers on a failure stands in its place
+-- what the closure returns for a failure stands in its place
 abbrev pub failing_outcome : {X D E : Type 0} → D → E → Outcome E X
 failing_outcome d e = Kept e
 
--- The source's trace, where what the closure answers on a failure stands in its place: items and failures exchanged, it is that of an adapter that keeps each item as another. So the closure is called on the failures in order, and on nothing else. The parts are the source and what holds the closure.
+-- The source's trace, where what the closure returns for a failure stands in its place: items and failures exchanged, it is that of an adapter that keeps each item as another. So the closure is called on the failures in order, and on nothing else. The parts are the source and what holds the closure.
 abbrev pub FailingTrace : {S F X D E : Type 0} → (S → Answered X D → S → Type 0) → (F → D → E → F → Type 0) → S × F → List (Answered X E) → S × F → Type 0
 FailingTrace steps call p trace q = PassTrace (steps_exchanged steps) call failing_outcome p (map exchanged trace) q
 
@@ -23,7 +23,7 @@ FailingTrace steps call p trace q = PassTrace (steps_exchanged steps) call faili
 abbrev pub failing_step : {S F X D E : Type 0} → (S → Answered X D → S → Type 0) → (F → D → E → F → Type 0) → S × F → Answered X E → S × F → Type 0
 failing_step steps call p r q = FailingTrace steps call p (r ∷ []) q
 
--- The contract of such an adapter: the closure may be called on each failure that may come, in each state that such calls bring it to; all else is the source's.
+-- The contract of an adapter that replaces failures: the closure may be called on each failure that may come, in each state that such calls bring it to; all else is the source's.
 abbrev pub failing_contract : {S F X D E : Type 0} → Contract S X D → (F → D → E → F → Type 0) → (F → D → Type 0) → Contract (S × F) X E
 failing_contract m call takes = record {
   can_next = λ p. m.can_next p.0 × IsCallable call takes (m.may_fail p.0) p.1;
@@ -37,7 +37,7 @@ failing_contract m call takes = record {
   lenders = λ p. m.lenders p.0;
 }
 
--- What such an adapter makes of one answer of its source, or of what a call of its source answers: a failure becomes the closure's answer on it; all else passes, without a call.
+-- What an adapter that replaces failures makes of one answer of its source, or of the result of a call on its source: a failure becomes what the closure returns for it; all else passes, without a call.
 abbrev pub FailingAnswer : {F C D E : Type 0} → (F → D → E → F → Type 0) → F → Result C D → Result C E → F → Type 0
 FailingAnswer call f (Ok v) r g = (r ≡ Ok v) × (g ≡ f)
 FailingAnswer {E = E} call f (Err d) r g = (e : E) × call f d e g × (r ≡ Err e)
@@ -76,7 +76,7 @@ outcome_exchanged LeftOut = LeftOut
 outcome_exchanged (Failure e) = Kept e
 outcome_exchanged End = End
 
--- The source's trace, where what becomes of each failure by the closure's answer stands in its place: an item, nothing, a failure or an end. Items and failures exchanged, it is that of an adapter that lets answers pass; so it doesn't end in a failure that is left out.
+-- The source's trace, where what becomes of each failure by the closure's result stands in its place: an item, nothing, a failure or an end. Items and failures exchanged, it is that of an adapter that lets items pass; so it doesn't end in a failure that is left out.
 abbrev pub RecoveringTrace : {S F X D V E : Type 0} → (S → Answered X D → S → Type 0) → (F → D → V → F → Type 0) → (D → V → Outcome X E) → S × F → List (Answered X E) → S × F → Type 0
 RecoveringTrace steps call outcome p trace q = PassTrace (steps_exchanged steps) call (λ d v. outcome_exchanged (outcome d v)) p (map exchanged trace) q
 
@@ -84,6 +84,6 @@ RecoveringTrace steps call outcome p trace q = PassTrace (steps_exchanged steps)
 abbrev pub recovering_step : {S F X D V E : Type 0} → (S → Answered X D → S → Type 0) → (F → D → V → F → Type 0) → (D → V → Outcome X E) → S × F → Answered X E → S × F → Type 0
 recovering_step steps call outcome p r q = RecoveringTrace steps call outcome p (r ∷ []) q
 
--- The contract of such an adapter is that of one that leaves items out, with items and failures exchanged. So it asks that the source is finite and what remains of it has a bound, which is its own bound too. Nothing is known of how many items come, so its hint says nothing.
+-- The contract of an adapter that may leave failures out is that of one that leaves items out, with items and failures exchanged. So it requires that the source is finite and what remains of it has a bound, which is its own bound too. Nothing is known of how many items come, so its hint says nothing.
 abbrev pub recovering_contract : {S F X D V E : Type 0} → Contract S X D → (F → D → V → F → Type 0) → (F → D → Type 0) → (D → V → Outcome X E) → Contract (S × F) X E
 recovering_contract m call takes outcome = exchanged_contract (leaving_out_contract (exchanged_contract m) call (λ P f. IsCallable call takes P f) (λ d v. outcome_exchanged (outcome d v)) (λ p h. h ≡ (0, None)))

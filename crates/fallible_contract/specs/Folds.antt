@@ -8,7 +8,7 @@ use Rattle.std.specs.declared.ops.ControlFlow.TheVariants.{Continue, Break}
 use Rattle.std.specs.Borrow.{GName}
 use Rattle.fallible_contract.specs.declared.folds.Beside.{Beside}
 
--- Draws answered items and then a last answer, and left t. `came` holds of the items and that answer.
+-- Draws returned items and then a last answer, and left t. `came` holds of the items and that answer.
 pub record Drained {S A E : Type 0} (steps : S → Answered A E → S → Type 0) (came : List A → Answered A E → Type 0) (s t : S) : Type 0 where
   pub items : List A
   pub last : Answered A E
@@ -21,11 +21,11 @@ pub record HoldsAtEachTurn {S A E C : Type 0} (steps : S → Answered A E → S 
 
 -- A closure is called on the value so far and an item.
 module _ {A F B R : Type 0} (g : Mut F (B × (A × Unit {0})) R) where
-  -- one call, which may answer r and leave the closure as f'
+  -- one call on the value so far and an item, which may return r and leave the closure as f'
   abbrev pub call_with : F → B → A → R → F → Type 0
   call_with f b x r f' = Called g f (b, (x, tt)) r f'
 
-  -- it may be called so
+  -- the closure may be called on the value so far and an item
   abbrev pub takes_with : F → B → A → Type 0
   takes_with f b x = Takes g f (b, (x, tt))
 
@@ -39,7 +39,7 @@ module _ {A F B E' : Type 0} (call : F → B → A → Result B E' → F → Typ
   IsFoldTurn p x (Continue u) q = went_on_with p x q
   IsFoldTurn p x (Break e') q = call p.1 p.0 x (Err e') q.1
 
-  -- the same, where the value stands in a slot that is full before each turn
+  -- One call, as the turn of a fold whose state is the value, in a slot that is full before each turn, and the closure.
   abbrev pub IsFoldTurnInSlot : Option B × F → A → ControlFlow E' (Unit {0}) → Option B × F → Type 0
   IsFoldTurnInSlot (None, f) x r q = ⊥
   IsFoldTurnInSlot (Some b, f) x (Continue u) q = IsSomeAnd q.0 (λ d. call f b x (Ok d) q.1)
@@ -57,7 +57,7 @@ ReduceCall call f (Some v) x (Ok None) g = ⊥
 ReduceCall call f (Some v) x (Ok (Some y)) g = call f v x (Ok y) g
 ReduceCall call f (Some v) x (Err e) g = call f v x (Err e) g
 
--- it may be made so
+-- the call of a fold from the first item on may be made
 abbrev pub reduce_takes : {A F : Type 0} → (F → A → A → Type 0) → F → Option A → A → Type 0
 reduce_takes takes f None x = ⊤
 reduce_takes takes f (Some v) x = takes f v x
@@ -81,13 +81,13 @@ module _ {S A E F B E' : Type 0} (steps : S → Answered A E → S → Type 0) (
   abbrev pub CallableInFold : (F → B → A → Type 0) → S → F → B → Type 0
   CallableInFold takes s f b = HoldsAtEachTurn {C = B × F} steps (went_on_with call) (λ p x. takes p.1 p.0 x) s (b, f)
 
-  -- The draws from s answered items and a last answer, and left t, by which the fold with f from b on answers r.
+  -- The draws from s returned items and a last answer, and left t, by which the fold with f from b on returns r.
   abbrev pub Folded : (E → E' → Type 0) → S → B → F → Result B E' → S → Type 0
   Folded from s b f r t = Drained steps (FoldedBy call from b f r) s t
 
 -- ---- the fold that every other one goes through
 
--- `turns c x r d` says that one turn on the state c and the item x may answer r and leave d: `Continue`, or `Break` where the fold stops.
+-- `turns c x r d` says that one turn on the state c and the item x may return r and leave d: `Continue`, or `Break` if the fold stops.
 module _ {A C R : Type 0} (turns : C → A → ControlFlow R (Unit {0}) → C → Type 0) where
   -- one turn that went on
   abbrev pub goes_on : C → A → C → Type 0
@@ -99,7 +99,7 @@ module _ {A C R : Type 0} (turns : C → A → ControlFlow R (Unit {0}) → C �
   DriveExit c (Err e) r d = (r ≡ Err e) × (d ≡ c)
   DriveExit c (Ok (Some x)) r d = (stop : R) × turns c x (Break stop) d × (r ≡ Ok (Some stop))
 
--- Turns on the items in order, from the state c on, went on. Then came the last answer, by which the fold answered r and left d of the state.
+-- Turns on the items in order, from the state c on, went on. Then came the last answer, by which the fold returned r and left d of the state.
 pub record DrivenBy {A E C R : Type 0} (turns : C → A → ControlFlow R (Unit {0}) → C → Type 0) (c : C) (r : Answered R E) (d : C) (items : List A) (last : Answered A E) : Type 0 where
   pub carried : C
   pub went : FoldsTo (goes_on turns) c items carried
@@ -110,7 +110,7 @@ module _ {S A E C R : Type 0} (steps : S → Answered A E → S → Type 0) (tur
   abbrev pub CallableDriving : (C → A → Type 0) → S → C → Type 0
   CallableDriving can s c = HoldsAtEachTurn steps (goes_on turns) can s c
 
-  -- The draws from s answered items and a last answer, and left t, by which the fold from the state c on answers r and leaves d.
+  -- The draws from s returned items and a last answer, and left t, by which the fold from the state c on returns r and leaves d.
   abbrev pub Driven : S → C → Answered R E → S → C → Type 0
   Driven s c r t d = Drained steps (DrivenBy turns c r d) s t
 
@@ -130,7 +130,7 @@ abbrev pub stopped_answer : {B E : Type 0} → Result B E → Answered B E
 stopped_answer (Ok y) = Ok (Some y)
 stopped_answer (Err e) = Err e
 
--- What is answered by a fold of the source whose turn stops with an answer: that answer, or the source's end or failure.
+-- What a fold of the source returns whose turn stops with a result: that result, or the source's end or failure.
 abbrev pub within : {R E : Type 0} → Answered (Answered R E) E → Answered R E
 within (Ok (Some answer)) = answer
 within (Ok None) = Ok None
@@ -149,7 +149,7 @@ pub record CountedUp {A E : Type 0} (n : ℕ) (r : Result (Unit {0}) E) (k : ℕ
   pub number : k ≡ n + length items
   pub exit : OverExit last r
 
--- The draws from s answered items and then an end or a failure, and left t. The number went from n to k, one more for each item, also before a failure. The result is the failure, if one came.
+-- The draws from s returned items and then an end or a failure, and left t. The number went from n to k, one more for each item, also before a failure. The result is the failure, if one came.
 abbrev pub CountedOn : {S A E : Type 0} → (S → Answered A E → S → Type 0) → S → ℕ → Result (Unit {0}) E → S → ℕ → Type 0
 CountedOn steps s n r t k = Drained steps (CountedUp n r k) s t
 
@@ -162,7 +162,7 @@ CountExit n (Ok (Some x)) r = ⊥
 pub record CountedBy {A E : Type 0} (r : Result ℕ E) (items : List A) (last : Answered A E) : Type 0 where
   pub exit : CountExit (length items) last r
 
--- The draws from s answered items and then an end or a failure, and left t; the result is the number of the items, or the failure.
+-- The draws from s returned items and then an end or a failure, and left t; the result is the number of the items, or the failure.
 abbrev pub Counted : {S A E : Type 0} → (S → Answered A E → S → Type 0) → S → Result ℕ E → S → Type 0
 Counted steps s r t = Drained steps (CountedBy r) s t
 
@@ -177,7 +177,7 @@ LastExit items (Ok (Some x)) r = ⊥
 pub record LastBy {A E : Type 0} (r : Result (Option A) E) (items : List A) (last : Answered A E) : Type 0 where
   pub exit : LastExit items last r
 
--- The draws from s answered items and then an end or a failure, and left t; the result is the last of the items, none of no items, or the failure.
+-- The draws from s returned items and then an end or a failure, and left t; the result is the last of the items, none if there are no items, or the failure.
 abbrev pub LastOf : {S A E : Type 0} → (S → Answered A E → S → Type 0) → S → Result (Option A) E → S → Type 0
 LastOf steps s r t = Drained steps (LastBy r) s t
 
@@ -193,7 +193,7 @@ pub record NthBy {A E : Type 0} (n : ℕ) (r : Answered A E) (skipped : List A) 
   pub is : last ≡ r
   pub exit : NthExit n (length skipped) r
 
--- The draws from s answered the skipped items and then r, the first answer that is the item with n items before it, a failure, or an end. They left t.
+-- The draws from s returned the skipped items and then r, the first answer that is the item with n items before it, a failure, or an end. They left t.
 abbrev pub Nth : {S A E : Type 0} → (S → Answered A E → S → Type 0) → S → ℕ → Answered A E → S → Type 0
 Nth steps s n r t = Drained steps (NthBy n r) s t
 

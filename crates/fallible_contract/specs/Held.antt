@@ -1,4 +1,4 @@
--- What a value holds and gives once.
+-- What a value holds and yields once.
 use Rattle.std.specs.Prelude.{◌≡◌, ℕ, List, [], ◌∷◌, ◌++◌, replicate, Option, Some, None, ◌⊎◌}
 use Rattle.fallible_contract.specs.Traces.{Answered, end}
 

@@ -16,7 +16,7 @@ hint_sum g h = (min (g.0 + h.0) (2 ^ 64 - 1), fitting_sum g.1 h.1)
 abbrev pub hint_up_to : ℕ → ℕ × Option ℕ → ℕ × Option ℕ
 hint_up_to n h = (min h.0 n, option_map (λ u. min u n) h.1)
 
--- The greatest lower bound and no upper one where the kept source has an item for certain, and else nothing.
+-- The greatest lower bound and no upper one if the kept source has an item for certain, and otherwise nothing.
 abbrev pub cycle_hint : ℕ × Option ℕ → ℕ × Option ℕ
 cycle_hint (zero, high) = (0, None)
 cycle_hint (suc low, high) = (2 ^ 64 - 1, None)

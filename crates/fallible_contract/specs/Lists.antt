@@ -44,19 +44,19 @@ module _ {S A E : Type 0} (steps : S → Answered A E → S → Type 0) where
   pub record Repeats (s : S) (y : Result A E) : Type 0 where
     pub each : (trace : List (Answered A E)) (t u : S) (r : Answered A E) → Run steps s trace t → steps t r u → r ≡ result_answer y
 
--- The closure f acts as the function h: called on x it answers h x, and stays as it is.
+-- The closure f acts as the function h: called on x it returns h x, and stays as it is.
 abbrev pub Acts : {F X R : Type 0} → (F → X → R → F → Type 0) → F → (X → R) → Type 0
 Acts {F} {X} {R} call f h = (x : X) (r : R) (g : F) → call f x r g → (g ≡ f) × (r ≡ h x)
 
--- The same with a state: called at state t on x the closure answers and leaves what `next t x` says, and stays as it is itself.
+-- The closure f acts as the function `next` with a state: called at state t on x the closure returns and leaves what `next t x` says, and stays as it is itself.
 abbrev pub ActsWithState : {F T X R : Type 0} → (T × F → X → R → T × F → Type 0) → F → (T → X → R × T) → Type 0
 ActsWithState {F} {T} {X} {R} call f next = (t : T) (x : X) (r : R) (q : T × F) → call (t, f) x r q → (q ≡ ((next t x).1, f)) × (r ≡ (next t x).0)
 
--- Whatever calls of a std iterator's `next` give from s, it reads the list: at each place h of the element there, and `None` only after the last one.
+-- Whatever calls of a std iterator's `next` return from s, it reads the list: at each place h of the element there, and `None` only after the last one.
 abbrev pub RunsRead : {S X Z : Type 0} → (S → Option Z → S → Type 0) → (X → Z) → S → List X → Type 0
 RunsRead {X = X} gives h s l = EachRunFrom gives s (λ p. (p.len ≤ length l) × (p.whole ≡ true → p.len ≡ length l) × ((k : ℕ) (d : X) → k < p.len → p.at k ≡ Some (h (slice_index_or l k d))))
 
--- Whatever calls of a std iterator's `next_back` give from s, it reads the list from the back: the last element first, and `None` only after the first one.
+-- Whatever calls of a std iterator's `next_back` return from s, it reads the list from the back: the last element first, and `None` only after the first one.
 abbrev pub RunsReadBack : {S X Z : Type 0} → (S → Option Z → S → Type 0) → (X → Z) → S → List X → Type 0
 RunsReadBack {X = X} gives h s l = EachRunFrom gives s (λ p. (p.len ≤ length l) × (p.whole ≡ true → p.len ≡ length l) × ((k : ℕ) (d : X) → k < length l → length l - 1 - k < p.len → p.at (length l - 1 - k) ≡ Some (h (slice_index_or l k d))))
 
@@ -107,17 +107,17 @@ nth_of zero (Ok x ∷ l) = Ok (Some x)
 nth_of (suc n) (Ok x ∷ l) = nth_of n l
 nth_of n (Err e ∷ l) = Err e
 
--- what is picked, or else what the rest of the search answers
+-- what is picked, or otherwise what the rest of the search returns
 abbrev pub picked_or : {E R : Type 0} → Option R → Result R E → Result R E
 picked_or (Some z) rest = Ok z
 picked_or None rest = rest
 
--- a search at an item: what is picked of the closure's answer, or else the rest of the search; or the closure's failure
+-- a search at an item: what is picked of the closure's result, or otherwise the rest of the search; or the closure's failure
 abbrev pub decided : {V E R : Type 0} → (V → Option R) → Result V E → Result R E → Result R E
 decided pick (Ok v) rest = picked_or (pick v) rest
 decided pick (Err e) rest = Err e
 
--- What a search answers that asks h of the items in order, the first of which has n items before it: what `pick` makes of the first answer of which it makes something, or a failure of the list or of h that comes before; `none` where there is neither.
+-- What a search returns that calls h on the items in order, the first of which has n items before it: what `pick` makes of the first result of which it makes something, or a failure of the list or of h that comes before; `none` if there is neither.
 unfoldable pub searched : {A E V R : Type 0} → (ℕ → A → V → Option R) → R → (A → Result V E) → ℕ → List (Result A E) → Result R E
 searched pick none h n [] = Ok none
 searched pick none h n (Ok x ∷ l) = decided (pick n x) (h x) (searched pick none h (n + 1) l)
@@ -143,7 +143,7 @@ found h l = searched find_pick None h 0 l
 unfoldable pub position_in : {A E : Type 0} → (A → Result Bool E) → List (Result A E) → Result (Option ℕ) E
 position_in h l = searched position_pick None h 0 l
 
--- nothing, where no item is a failure and h fails on none; else the failure that comes first
+-- nothing, if no item is a failure and h fails on none; otherwise the failure that comes first
 unfoldable pub each_done : {A E : Type 0} → (A → Result (Unit {0}) E) → List (Result A E) → Result (Unit {0}) E
 each_done h l = searched each_pick tt h 0 l
 
@@ -189,21 +189,21 @@ CollectedBy {A = A} made l (Ok c) = (xs : List A) × (collected l ≡ Ok xs) × 
 CollectedBy made l (Err (Source e)) = collected l ≡ Err e
 CollectedBy made l (Err (Memory a)) = ⊤
 
--- What `collect` answers over the list.
+-- What `collect` returns over the list.
 unfoldable pub CollectedAs : {A E C : Type 0} → (List A → C → Type 0) → List (Result A E) → Result C (Fault E) → Type 0
 CollectedAs made l r = CollectedBy made l r
 
--- What `unzip` answers over the list: what `collect` into the pair of the two collections answers.
+-- What `unzip` returns over the list: what `collect` into the pair of the two collections returns.
 unfoldable pub UnzippedAs : {A B E C D : Type 0} → (List A → C → Type 0) → (List B → D → Type 0) → List (Result (A × B) E) → Result (C × D) (Fault E) → Type 0
 UnzippedAs made_first made_second l r = CollectedBy (MadeOfPairs made_first made_second) l r
 
--- The collections are those of the two lists that `partitioned` makes, the failure is the one that it answers; want of memory says nothing of the list.
+-- The collections are those of the two lists that `partitioned` makes, the failure is the one that it returns; an allocation failure says nothing of the list.
 abbrev pub PartitionedBy : {A E C : Type 0} → (List A → C → Type 0) → (A → Result Bool E) → List (Result A E) → Result (C × C) (Fault E) → Type 0
 PartitionedBy {A = A} made h l (Ok c) = (ps : List A × List A) × (partitioned h l ≡ Ok ps) × made ps.0 c.0 × made ps.1 c.1
 PartitionedBy made h l (Err (Source e)) = partitioned h l ≡ Err e
 PartitionedBy made h l (Err (Memory a)) = ⊤
 
--- What `partition` answers over the list.
+-- What `partition` returns over the list.
 unfoldable pub PartitionedAs : {A E C : Type 0} → (List A → C → Type 0) → (A → Result Bool E) → List (Result A E) → Result (C × C) (Fault E) → Type 0
 PartitionedAs made h l r = PartitionedBy made h l r
 
@@ -213,7 +213,7 @@ folded convert h b [] = Ok b
 folded convert h b (Ok x ∷ l) = on_value (h b x) (λ c. folded convert h c l)
 folded convert h b (Err e ∷ l) = Err (convert e)
 
--- The closure f acts as the function h on a value and an item: it answers h of them, and stays as it is.
+-- The closure f acts as the function h on a value and an item: it returns h of them, and stays as it is.
 abbrev pub ActsWith : {F B A R : Type 0} → (F → B → A → R → F → Type 0) → F → (B → A → R) → Type 0
 ActsWith {F} {B} {A} {R} call f h = (b : B) (x : A) (r : R) (g : F) → call f b x r g → (g ≡ f) × (r ≡ h b x)
 
@@ -222,7 +222,7 @@ abbrev pub reduce_of : {A E : Type 0} → (A → A → Result A E) → Option A 
 reduce_of h None x = Ok (Some x)
 reduce_of h (Some v) x = on_value (h v x) (λ y. Ok (Some y))
 
--- the first item, and from then on h of the value so far and each item; none where there is no item, and the first failure
+-- the first item, and from then on h of the value so far and each item; none if there is no item, and the first failure
 unfoldable pub reduced : {A E : Type 0} → (A → A → Result A E) → List (Result A E) → Result (Option A) E
 reduced h l = folded (λ e. e) (reduce_of h) None l
 
@@ -281,7 +281,7 @@ unfoldable pub rest_first : {A E : Type 0} → List (Result A E) → List (Resul
 rest_first [] = []
 rest_first (y ∷ l) = l
 
--- what stands behind the item with n items before it, or behind the failure that comes first
+-- what comes after the item with n items before it, or after the failure that comes first
 unfoldable pub rest_nth : {A E : Type 0} → ℕ → List (Result A E) → List (Result A E)
 rest_nth n [] = []
 rest_nth zero (Ok x ∷ l) = l
@@ -293,35 +293,35 @@ abbrev pub stopped_or : {B : Type 0} → Bool → B → B → B
 stopped_or true here later = here
 stopped_or false here later = later
 
--- what a search leaves at an item: what stands behind it where the closure's answer stops the search, or the closure fails
+-- what a search leaves at an item: what comes after it if the closure's result stops the search, or the closure fails
 abbrev pub rest_answer : {A V E : Type 0} → (V → Bool) → Result V E → List (Result A E) → List (Result A E) → List (Result A E)
 rest_answer stops (Ok v) here later = stopped_or (stops v) here later
 rest_answer stops (Err e) here later = here
 
--- what stands behind the first item x where h x is an answer that stops, or a failure; or behind the failure of the list that comes first
+-- what comes after the first item x for which h x stops, or is a failure; or after the failure of the list that comes first
 unfoldable pub rest_stop : {A V E : Type 0} → (V → Bool) → (A → Result V E) → List (Result A E) → List (Result A E)
 rest_stop stops h [] = []
 rest_stop stops h (Ok x ∷ l) = rest_answer stops (h x) l (rest_stop stops h l)
 rest_stop stops h (Err e ∷ l) = l
 
--- what `find`, `any` and `position` leave: what stands behind the first item x for which h x is true
+-- what `find`, `any` and `position` leave: what comes after the first item x for which h x is true
 unfoldable pub rest_true : {A E : Type 0} → (A → Result Bool E) → List (Result A E) → List (Result A E)
 rest_true h l = rest_stop (λ v. v) h l
 
--- what `all` leaves: what stands behind the first item x for which h x is false
+-- what `all` leaves: what comes after the first item x for which h x is false
 unfoldable pub rest_false : {A E : Type 0} → (A → Result Bool E) → List (Result A E) → List (Result A E)
 rest_false h l = rest_stop not h l
 
--- what `find_map` leaves: what stands behind the first item x for which h x is a value
+-- what `find_map` leaves: what comes after the first item x for which h x is a value
 unfoldable pub rest_value : {A B E : Type 0} → (A → Result (Option B) E) → List (Result A E) → List (Result A E)
 rest_value h l = rest_stop is_some h l
 
--- what a fold leaves at an item: what stands behind it where h fails
+-- what a fold leaves at an item: what comes after it if h fails
 abbrev pub rest_failed : {B E E' A : Type 0} → Result B E' → List (Result A E) → (B → List (Result A E)) → List (Result A E)
 rest_failed (Ok c) here later = later c
 rest_failed (Err e) here later = here
 
--- what `try_fold` leaves: what stands behind the first item on which h, called on the value so far and that item, fails; or behind the failure of the list that comes first
+-- what `try_fold` leaves: what comes after the first item on which h, called on the value so far and that item, fails; or after the failure of the list that comes first
 unfoldable pub rest_fold : {A B E E' : Type 0} → (B → A → Result B E') → B → List (Result A E) → List (Result A E)
 rest_fold h b [] = []
 rest_fold h b (Ok x ∷ l) = rest_failed (h b x) l (λ c. rest_fold h c l)

@@ -77,7 +77,7 @@ module _ {P A E : Type 0} (m : Contract P A E) (s : P) where
     pub coming : AllCome taken
     pub answers : made taken r
 
--- The contract of an adapter over m that makes each answer of several draws: at most as many items come as of its source, made of what its source gives.
+-- The contract of an adapter over m that makes each answer of several draws: at most as many items come as of its source, made of what its source yields.
 abbrev pub gathering : {S P A E B F : Type 0} → (S → P) → (List (Answered A E) → Answered B F → Type 0) → Contract P A E → Contract S B F
 gathering view made m = record {
   can_next = λ s. m.can_next (view s);

@@ -1,4 +1,4 @@
--- Adapters that let the answers of one source pass: of each item a closure is asked, and by its answer the item is kept as another, left out, or replaced by a failure or an end.
+-- Adapters that let the items of one source pass: a closure is called on each item, and by its result the item is kept as another, left out, or replaced by a failure or an end.
 use Rattle.std.specs.Prelude.{◌≡◌, ℕ, Option, Result, Some, Ok, Err, List, [], ◌∷◌, map, None, is_some, IsSome, Bool, true, false, ⊤, ◌⊎◌}
 use Rattle.std.specs.List.{filter_map}
 use Rattle.fallible_contract.specs.Traces.{LastKept, Answered, Run, item, failure, end}
@@ -7,7 +7,7 @@ use Rattle.fallible_contract.specs.Closures.{Calls, MayAnswer}
 use Rattle.fallible_contract.specs.declared.passing.Outcome.{Outcome}
 use Rattle.fallible_contract.specs.declared.passing.Outcome.TheVariants.{Kept, LeftOut, Failure, End}
 
--- one answer of the source: an item on which the closure was called, with what it answered, a failure, or an end
+-- one answer of the source: an item on which the closure was called, with what it returned, a failure, or an end
 pub data Place (X R E : Type 0) : Type 0 where
   asked : X → R → Place X R E
   failure_at : E → Place X R E
@@ -25,7 +25,7 @@ call_of (asked x r) = Some (x, r)
 call_of (failure_at e) = None
 call_of end_at = None
 
--- the answer that an outcome is; none where the item is left out
+-- the answer that an outcome is; none if the item is left out
 abbrev pub outcome_answer : {B E : Type 0} → Outcome B E → Option (Answered B E)
 outcome_answer (Kept y) = Some (item y)
 outcome_answer LeftOut = None
@@ -33,7 +33,7 @@ outcome_answer (Failure e) = Some (failure e)
 outcome_answer End = Some end
 
 module _ {X R B E : Type 0} (outcome : X → R → Outcome B E) where
-  -- the adapter's answer at a place; none where the item is left out
+  -- the adapter's answer at a place; none if the item is left out
   abbrev pub answer_at : Place X R E → Option (Answered B E)
   answer_at (asked x r) = outcome_answer (outcome x r)
   answer_at (failure_at e) = Some (failure e)
@@ -51,7 +51,7 @@ pub record PassTrace {S F X R B E : Type 0} (steps : S → Answered X E → S �
   pub answers : trace ≡ filter_map (answer_at outcome) places
   pub last_kept : LastKept (has_answer outcome) places
 
--- The contract of such an adapter. It steps as its trace of one answer says. An item of it is what the closure may make of one that the source may give, and a failure of it one of the source's or the closure's.
+-- The contract of an adapter that lets items pass. It steps as its trace of one answer says. An item of it is what the closure may make of one that the source may yield, and a failure of it one of the source's or the closure's.
 abbrev pub passing_contract : {S F X R B E : Type 0} → Contract S X E → (F → X → R → F → Type 0) → ((X → Type 0) → F → Type 0) → (X → R → Outcome B E) → (S × F → ℕ × Option ℕ → Type 0) → Contract (S × F) B E
 passing_contract m call callable outcome hints = record {
   can_next = λ p. m.can_next p.0 × callable (m.may_give p.0) p.1;

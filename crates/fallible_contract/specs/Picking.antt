@@ -21,17 +21,17 @@ same_order Greater Less = false
 same_order Greater Equal = false
 same_order Greater Greater = true
 
--- The best so far stays where it compares with the next item as `keeps`, which is `Greater` for `max` and its kin and `Less` for `min` and its kin; else the next item is the best. So of equal items the last is the best.
+-- The best so far stays if it compares with the next item as `keeps`, which is `Greater` for `max` and its kin and `Less` for `min` and its kin; otherwise the next item is the best. So of equal items the last is the best.
 abbrev pub better : {A : Type 0} → Ordering → Ordering → A → A → A
 better keeps o best x = cond (same_order keeps o) best x
 
 -- ---- by a closure that compares two
 
--- one call on references to two items, which may answer so and leave the closure so
+-- one call on references to two items, which may return so and leave the closure so
 abbrev pub call_at_two : {F A R : Type 0} → Mut F (Bor A × (Bor A × Unit {0})) R → F → A → A → R → F → Type 0
 call_at_two g f x y r f' = CalledAtTwo g f x y r f'
 
--- it may be called on references to these two
+-- the closure may be called on references to these two
 abbrev pub takes_at_two : {F A R : Type 0} → Mut F (Bor A × (Bor A × Unit {0})) R → F → A → A → Type 0
 takes_at_two g f x y = TakesAtTwo g f x y
 
@@ -48,7 +48,7 @@ pub record PickedByFold {S A E F : Type 0} (keeps : Ordering) (call : F → A �
   pub folded : Folded steps (PickCall keeps call) (λ e d. d ≡ e) s None f r after
 
 module _ {A : Type 0} (keeps : Ordering) where
-  -- From a best on, there is an order for each of these items, and each next best is the one before it, where the order beside the next item is `keeps`, else that item.
+  -- From a best on, there is an order for each of these items, and each next best is the one before it, if the order beside the next item is `keeps`, and otherwise that item.
   abbrev pub NextBests : A → List A → List Ordering → List A → Type 0
   NextBests best [] [] bests = bests ≡ []
   NextBests best (x ∷ items) (o ∷ orders) (next ∷ bests) = (next ≡ better keeps o best x) × NextBests next items orders bests
@@ -67,7 +67,7 @@ module _ {A E F : Type 0} (call : F → A → A → Result Ordering E → F → 
   PickExit bests f (Err e) r = r ≡ Err e
   PickExit bests f (Ok (Some x)) r = IsSomeAnd (last_or None bests) (λ best. (e : E) × (g : F) × call f best x (Err e) g × (r ≡ Err e))
 
--- The draws answered items and a last answer. The closure was called in order on the best up to each item and the item after that one, and answered the orders, by which the bests go on. The last answer decides the result.
+-- The draws returned items and a last answer. The closure was called in order on the best up to each item and the item after that one, and returned the orders, by which the bests go on. The last answer decides the result.
 pub record Picked {S A E F : Type 0} (keeps : Ordering) (call : F → A → A → Result Ordering E → F → Type 0) (steps : S → Answered A E → S → Type 0) (s : S) (f : F) (r : Result (Option A) E) : Type 0 where
   pub items : List A
   pub orders : List Ordering
@@ -134,7 +134,7 @@ module _ {A : Type 0} (keeps : Ordering) (cmp : A → A → Ordering) where
   pub record BestBy {E : Type 0} (r : Result (Option A) E) (items : List A) (last : Answered A E) : Type 0 where
     pub exit : BestExit items last r
 
-  -- The draws answered items and then an end or a failure; the result is the best of them, or the failure.
+  -- The draws returned items and then an end or a failure; the result is the best of them, or the failure.
   abbrev pub Best : {S E : Type 0} → (S → Answered A E → S → Type 0) → S → Result (Option A) E → Type 0
   Best {S = S} steps s r = (after : S) × Drained steps (BestBy r) s after
 
@@ -147,7 +147,7 @@ module _ {A E F K : Type 0} (keeps : Ordering) (cmp : K → K → Ordering) (cal
   KeyExit keyed f (Err e) r = r ≡ Err e
   KeyExit keyed f (Ok (Some x)) r = (e : E) × (g : F) × call f x (Err e) g × (r ≡ Err e)
 
-  -- The closure was called once on each item in order, and made the keys beside them. Then came the last answer: at an end the result is the item at the last place of a best key; else it is the failure, or that of the closure on the item.
+  -- The closure was called once on each item in order, and returned the keys beside them. Then came the last answer: at an end the result is the item at the last place of a best key; otherwise it is the failure, or that of the closure on the item.
   pub record BestByKey {S : Type 0} (steps : S → Answered A E → S → Type 0) (s : S) (f : F) (r : Result (Option A) E) : Type 0 where
     pub keyed : List (K × A)
     pub last : Answered A E

@@ -6,29 +6,29 @@ use Rattle.fallible_contract.specs.Folds.{Drained, HoldsAtEachTurn, stopped_answ
 use Rattle.std.specs.declared.ops.ControlFlow.{ControlFlow}
 use Rattle.std.specs.declared.ops.ControlFlow.TheVariants.{Continue, Break}
 
--- ---- what each search picks: `pick n x v` is its answer where the closure answers v on x, the item with n items before it, and none where it goes on
+-- ---- what each search picks: `pick n x v` is its result if the closure returns v for x, the item with n items before it, and none if it goes on
 
--- `all` goes on where the predicate is true, and answers false where it isn't
+-- `all` goes on if the predicate is true, and returns false if it isn't
 abbrev pub all_pick : {A : Type 0} → ℕ → A → Bool → Option Bool
 all_pick n x true = None
 all_pick n x false = Some false
 
--- `any` goes on where the predicate is false, and answers true where it isn't
+-- `any` goes on if the predicate is false, and returns true if it isn't
 abbrev pub any_pick : {A : Type 0} → ℕ → A → Bool → Option Bool
 any_pick n x true = Some true
 any_pick n x false = None
 
--- `find_map` answers the first value that the closure answers
+-- `find_map` returns the first value that the closure returns
 abbrev pub find_map_pick : {A B : Type 0} → ℕ → A → Option B → Option (Option B)
 find_map_pick n x (Some y) = Some (Some y)
 find_map_pick n x None = None
 
--- `find` answers the first item for which the predicate is true
+-- `find` returns the first item for which the predicate is true
 abbrev pub find_pick : {A : Type 0} → ℕ → A → Bool → Option (Option A)
 find_pick n x true = Some (Some x)
 find_pick n x false = None
 
--- `position` answers how many items stand before the first for which the predicate is true
+-- `position` returns how many items stand before the first for which the predicate is true
 abbrev pub position_pick : {A : Type 0} → ℕ → A → Bool → Option (Option ℕ)
 position_pick n x true = Some (Some n)
 position_pick n x false = None
@@ -74,17 +74,17 @@ module _ {A E F V R : Type 0} (call : F → A → Result V E → F → Type 0) (
     abbrev pub CallableInSearch : (F → A → Type 0) → S → F → Type 0
     CallableInSearch takes s f = HoldsAtEachTurn steps WentOn takes s f
 
-    -- The draws from s answered items and a last answer, and left t, by which the search with f answers r and leaves it as g.
+    -- The draws from s returned items and a last answer, and left t, by which the search with f returns r and leaves it as g.
     abbrev pub Searched : R → S → F → Result R E → S → F → Type 0
     Searched none s f r t g = Drained steps (SearchedBy none f r g) s t
 
--- what a search answers, by what its fold answered, which stops with the answer
+-- what a search returns, from what its fold returned, which stops with the search's result
 abbrev pub answer_by : {E R : Type 0} → R → Answered (Result R E) E → Result R E
 answer_by none (Ok None) = Ok none
 answer_by none (Err e) = Err e
 answer_by none (Ok (Some r)) = r
 
--- what `find` answers, by what its fold answered, which stops with the item or the failure of the test
+-- what `find` returns, from what its fold returned, which stops with the item or the failure of the test
 abbrev pub found_by : {A E : Type 0} → Answered (Result A E) E → Answered A E
 found_by (Ok None) = Ok None
 found_by (Err e) = Err e

@@ -2,7 +2,7 @@
 use Rattle.std.specs.Prelude.{◌≡◌, ℕ, ◌+◌, Option, Result, List, [], ◌∷◌, Bool, true, false, ⊤, Some, None, Ok, Err}
 use Rattle.std.specs.List.{FoldsTo}
 
--- An answer is what one draw gives: an item, `Ok (Some x)`, a failure, `Err e`, or an end, `Ok None`.
+-- An answer is what one draw returns: an item, `Ok (Some x)`, a failure, `Err e`, or an end, `Ok None`.
 abbrev pub Answered : Type 0 → Type 0 → Type 0
 Answered A E = Result (Option A) E
 
@@ -26,11 +26,11 @@ abbrev pub NoEnd : {A E : Type 0} → List (Answered A E) → Type 0
 NoEnd [] = ⊤
 NoEnd (r ∷ rest) = (is_end r ≡ false) × NoEnd rest
 
--- A step relates a value, the answer of one draw and the value after it. A trace is the list of the answers to draws made one after another: from s, draws can answer the trace and leave t.
+-- A step relates a value, the answer of one draw and the value after it. A trace is the list of the answers to draws made one after another: from s, draws can return the trace and leave t.
 abbrev pub Run : {S A E : Type 0} → (S → Answered A E → S → Type 0) → S → List (Answered A E) → S → Type 0
 Run steps s trace t = FoldsTo steps s trace t
 
--- From s, draws can give the items xs and nothing else, and leave t.
+-- From s, draws can yield the items xs and nothing else, and leave t.
 abbrev pub Yields : {S A E : Type 0} → (S → Answered A E → S → Type 0) → S → List A → S → Type 0
 Yields steps s xs t = FoldsTo (λ u x v. steps u (item x) v) s xs t
 

@@ -20,11 +20,11 @@ module _ {S A E : Type 0} {steps : S → Answered A E → S → Type 0} where
   pub bounds_end : {s t : S} {n : ℕ} → steps s (Ok None) t → BoundsRuns steps s n → (k : ℕ) × BoundsRuns steps t k × (k ≤ n)
   bounds_end {s} {t} {n} step b = (n, record { at = λ trace u ran. b.at (Ok None ∷ trace) u (t, step, ran) }, omega arith)
 
--- so a number stays where there is one
+-- a value that has a bound has one after a draw
 pub bound_stays : {S A E : Type 0} (m : Contract S A E) (s t : S) (r : Answered A E) → OnAnswer m s r t → ((n : ℕ) × m.bound s n) → ((n : ℕ) × m.bound t n)
 bound_stays m s t r a p = let k = no_more m s t r a p.0 p.1 in (k.0, k.1)
 
--- so its contract is lawful
+-- a contract that bounds its runs is lawful
 module _ {S A E : Type 0} (steps : S → Answered A E → S → Type 0) where
   answer_unbounded : (s t : S) (r : Answered A E) → steps s r t → OnAnswer (unbounded_contract steps) s r t
   answer_unbounded s t (Ok (Some x)) step = (tt, (λ n b. bounds_fewer x step b), (λ f. absurd f))

@@ -1,4 +1,4 @@
--- The contract of an adapter that one place closes for good is lawful where its source's is.
+-- The contract of an adapter that one place closes is lawful if its source's is.
 use Rattle.std.specs.Prelude.{Bool, true, false}
 use Rattle.std.proofs.Common.{arith, refl}
 use Rattle.fallible_contract.specs.Traces.{Answered, end}

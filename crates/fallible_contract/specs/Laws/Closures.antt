@@ -31,7 +31,7 @@ module _ {F X R : Type 0} {call : F → X → R → F → Type 0} where
   callable_after h r c = record { at = λ k x s q. c.at k x (reaches_then r (reaches_weaken h s)) (h x q) }
 
 module _ {F X R : Type 0} {call : F → X → R → F → Type 0} {P : X → Type 0} {f : F} {Q : X → R → Type 0} where
-  -- what may be answered after calls may be answered
+  -- what may be returned after calls may be returned
   pub may_answer_after : {P' : X → Type 0} {g : F} → ((x : X) → P' x → P x) → Reaches call P f g → MayAnswer call P' g Q → MayAnswer call P f Q
   may_answer_after h r a = record { state = a.state; argument = a.argument; answer = a.answer; after = a.after; reached = reaches_then r (reaches_weaken h a.reached); given = h a.argument a.given; called = a.called; says = a.says }
 

@@ -29,7 +29,7 @@ lawful_ends_swapped l = record {
   back = l.front;
 }
 
--- ---- adapters that let the answers of one source pass
+-- ---- adapters that let the items of one source pass
 
 module _ {S F X R B E : Type 0} {m : Contract S X E} {e : Ends S X E} (call : F → X → R → F → Type 0) (callable : (X → Type 0) → F → Type 0) (outcome : X → R → Outcome B E) (hints : S × F → ℕ × Option ℕ → Type 0) (after : StaysCallable call callable) (l : LawfulEnds m e) where
   -- what may come from the front may come from either end

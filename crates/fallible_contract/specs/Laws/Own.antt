@@ -84,7 +84,7 @@ module _ {S A E : Type 0} (m : Contract S A E) (P : A → Type 0) where
 pub lawful_giving : {S A E : Type 0} {m : Contract S A E} (P : A → Type 0) → Lawful m → Lawful (giving P m)
 lawful_giving {m = m} P l = record { kept_by_draw = λ s r t c step. goes_giving m P s t r step.1 (l.kept_by_draw s r t c step.0); bounded = l.bounded }
 
--- it lists what m does
+-- m, with what is known of its items besides, lists what m does
 pub lists_giving : {S A E : Type 0} (m : Contract S A E) {s : S} {l : List (Result A E)} (P : A → Type 0) → Lists m.steps s l → Lists (giving P m).steps s l
 lists_giving m {s = s} {l = l} P i = record { runs = gives_narrowed m.steps (λ _ r _. IfItem P r) s l i.runs }
 

@@ -1,4 +1,4 @@
--- The contracts of the adapters that let answers pass are lawful where the source's is.
+-- The contracts of the adapters that let items pass are lawful if the source's is.
 use Rattle.std.specs.Prelude.{ℕ, Option, Some, None, Ok, Err, ◌≡◌, List, [], ◌∷◌, map, IsSome, is_some, true, false}
 use Rattle.std.specs.List.{filter_map, cons_option}
 use Rattle.std.proofs.Common.{refl, sym, ap, subst, arith, inl, inr}
@@ -12,7 +12,7 @@ use Rattle.fallible_contract.specs.declared.passing.Outcome.{Outcome}
 use Rattle.fallible_contract.specs.declared.passing.Outcome.TheVariants.{Kept, LeftOut, Failure, End}
 
 module _ {S F X R B E : Type 0} (steps : S → Answered X E → S → Type 0) (call : F → X → R → F → Type 0) (outcome : X → R → Outcome B E) where
-  -- the same as `PassTrace`, built from the first answer on
+  -- `PassTrace`, built from the first answer on
   pub data Passes : S → F → List (Answered B E) → S → F → Type 0 where
     done : {s : S} {f : F} → Passes s f [] s f
     end_passes : {s u t : S} {f g : F} {trace : List (Answered B E)} → steps s (Ok None) u → Passes u f trace t g → Passes s f (Ok None ∷ trace) t g
@@ -84,7 +84,7 @@ module _ {S F X R B E : Type 0} {steps : S → Answered X E → S → Type 0} {c
 abbrev pub StaysCallable : {F X R : Type 0} → (F → X → R → F → Type 0) → ((X → Type 0) → F → Type 0) → Type 1
 StaysCallable {F = F} {X = X} call callable = (P Q : X → Type 0) (f g : F) → ((x : X) → Q x → P x) → Reaches call P f g → callable P f → callable Q g
 
--- ---- the contract of what lets answers pass is lawful where the source's is
+-- ---- the contract of what lets items pass is lawful if the source's is
 
 module _ {S F X R B E : Type 0} (m : Contract S X E) (l : Lawful m) (call : F → X → R → F → Type 0) (outcome : X → R → Outcome B E) where
   abbrev P : S → F → List (Answered B E) → S → F → Type 0
@@ -130,11 +130,11 @@ module _ {S F X R B E : Type 0} (m : Contract S X E) (l : Lawful m) (call : F �
       lenders = a.lenders;
     }
 
--- It is so where the closure stays callable after calls on what comes.
+-- the contract is lawful if the closure stays callable after calls on what comes
 pub lawful_passing : {S F X R B E : Type 0} {m : Contract S X E} (call : F → X → R → F → Type 0) (callable : (X → Type 0) → F → Type 0) (outcome : X → R → Outcome B E) (hints : S × F → ℕ × Option ℕ → Type 0) → StaysCallable call callable → Lawful m → Lawful (passing_contract m call callable outcome hints)
 lawful_passing {m} call callable outcome hints after l = record { kept_by_draw = goes_passing m l call outcome callable hints after; bounded = λ p. l.bounded p.0 }
 
--- a bound of the source, asked as a condition besides, stays
+-- a bound of the source, required besides, stays
 module _ {S F A E : Type 0} (p : Contract (S × F) A E) (needs : S → Type 0) where
   abbrev needing : Contract (S × F) A E
   needing = record p { can_next = λ s. needs s.0 × p.can_next s }

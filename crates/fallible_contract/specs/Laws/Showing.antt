@@ -7,7 +7,7 @@ use Rattle.fallible_contract.specs.Lists.{AlwaysGives, Lists, items}
 use Rattle.fallible_contract.specs.Showing.{TakesShown, listing}
 
 module _ {A E : Type 0} where
-  -- what stood before a draw that answered r and left this list
+  -- what stood before a draw that returned r and left this list
   abbrev pub before_answer : Answered A E → List (Result A E) → List (Result A E)
   before_answer (Ok (Some x)) rest = Ok x ∷ rest
   before_answer (Ok None) rest = []
@@ -59,6 +59,6 @@ module _ {S A E : Type 0} (shows : S → List (Result A E)) where
   fails_nowhere [] s same (r ∷ rest) t u e ran fails = let h = subst (λ (k : List (Result A E)). TakesShown k r (shows ran.0)) same ran.1 in fails_nowhere [] ran.0 h.1 rest t u e ran.2 fails
   fails_nowhere (x ∷ xs) s same (r ∷ rest) t u e ran fails = let h = subst (λ (k : List (Result A E)). TakesShown k r (shows ran.0)) same ran.1 in fails_nowhere xs ran.0 h.1 rest t u e ran.2 fails
 
-  -- where it shows items alone, it never fails
+  -- a type that shows items alone never fails
   pub never_fails_shown : (s : S) (xs : List A) → shows s ≡ items xs → NeverFails (listing shows) s
   never_fails_shown s xs same = fails_nowhere xs s same
