@@ -1,4 +1,4 @@
--- `Iterator`, the std iterator over a fallible iterator's answers.
+-- `Iterator`, the std iterator over what a fallible iterator returns.
 use Rattle.std.specs.Prelude.{Option, Result}
 use Rattle.std.specs.Option.{option_transpose}
 use Rattle.fallible_contract.specs.Traces.{Answered}

@@ -7,7 +7,7 @@ use Rattle.fallible_core.specs.declared.bridges.unwrap.Unwrap.{Unwrap}
 abbrev pub unwrap_parts : {I : Type 0} → Unwrap I → I
 unwrap_parts s = s.it
 
--- One call of std's `next` is one draw of the source, which answers an item or an end.
+-- One call of std's `next` is one draw of the source, which returns an item or an end.
 abbrev pub unwrap_steps : {I A E : Type 0} → (I → Answered A E → I → Type 0) → Unwrap I → Option A → Unwrap I → Type 0
 unwrap_steps steps s item t = steps (unwrap_parts s) (Ok item) (unwrap_parts t)
 

@@ -1,4 +1,4 @@
--- `Fuse`, which ends for good at the first end.
+-- `Fuse`, which is exhausted at the first end.
 use Rattle.std.specs.Prelude.{List, Bool}
 use Rattle.fallible_contract.specs.Traces.{Answered, Run, is_end}
 use Rattle.fallible_contract.specs.Contract.{Contract}
@@ -19,7 +19,7 @@ fuse_contract m = closing_contract m m.steps (λ r. r) is_end
 abbrev pub fuse_source : {I : Type 0} → Fuse I → I
 fuse_source s = s.it
 
--- whether an end was given
+-- whether an end was returned
 abbrev pub fuse_ended : {I : Type 0} → Fuse I → Bool
 fuse_ended s = s.ended
 

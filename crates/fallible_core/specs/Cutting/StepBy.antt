@@ -29,7 +29,7 @@ step_by_parts s = (step_by_source s, (step_by_between s, step_by_to_skip s))
 abbrev pub keeps_at_steps : ℕ → ℕ → ℕ → Bool
 keeps_at_steps between r k = ltb r k && eqb ((k - 1 - r) % (between + 1)) 0
 
--- how many items are left out next, once k were drawn: of the first r those that are still to come, and else those up to the next multiple of the step
+-- how many items are left out next, once k were drawn: of the first r those that are still to come, and otherwise those up to the next multiple of the step
 abbrev pub to_skip_after : ℕ → ℕ → ℕ → ℕ
 to_skip_after between r k = cond (leb k r) (r - k) (between - (k - 1 - r) % (between + 1))
 
@@ -56,7 +56,7 @@ to_skip_next between (suc n) = n
 abbrev pub count_call : {A : Type 0} → ℕ → ℕ → A → ℕ → ℕ → Type 0
 count_call between n x v k = (v ≡ n) × (k ≡ to_skip_next between n)
 
--- it is kept where none was to be left out
+-- an item is kept if none was to be left out
 abbrev pub count_outcome : {A E : Type 0} → A → ℕ → Outcome A E
 count_outcome x zero = Kept x
 count_outcome x (suc n) = LeftOut

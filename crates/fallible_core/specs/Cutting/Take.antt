@@ -17,12 +17,12 @@ pub record TakeTrace {S A E : Type 0} (steps : S → Answered A E → S → Type
   pub over : 0 < ends → items_in source_trace ≡ p.1
   pub remaining : q.1 + items_in source_trace ≡ p.1
 
--- One answer: an end without a draw where nothing is left to take, and else the source's answer, of which an item leaves one less.
+-- One answer: an end without a draw if nothing is left to take, and otherwise the source's answer, of which an item leaves one less.
 abbrev pub take_step : {S A E : Type 0} → (S → Answered A E → S → Type 0) → S × ℕ → Answered A E → S × ℕ → Type 0
 take_step steps (s, zero) r (t, to_take) = (r ≡ end) × (t ≡ s) × (to_take ≡ 0)
 take_step steps (s, suc n) r (t, to_take) = steps s r t × (to_take + items_in (r ∷ []) ≡ suc n)
 
--- It always has an end: what is left to take is a bound, and so is each of the source's.
+-- `Take`'s contract. It is always finite: what is left to take is a bound, and so is each of the source's.
 abbrev pub take_contract : {S A E : Type 0} → Contract S A E → Contract (S × ℕ) A E
 take_contract m = record (with_steps_contract m (take_step m.steps) (λ p h. (k : ℕ × Option ℕ) × m.hints p.0 k × (h ≡ hint_up_to p.1 k))) {
   bound = λ p n. p.1 ≤ n ⊎ m.bound p.0 n;
@@ -33,7 +33,7 @@ take_contract m = record (with_steps_contract m (take_step m.steps) (λ p h. (k 
 abbrev pub take_source : {I : Type 0} → Take I → I
 take_source s = s.it
 
--- how many items it still gives
+-- how many items it still yields
 abbrev pub take_to_take : {I : Type 0} → Take I → ℕ
 take_to_take s = s.to_take
 

@@ -1,4 +1,4 @@
--- `TakeWhile`, which ends for good at the first item that a predicate refuses.
+-- `TakeWhile`, which is exhausted at the first item that a predicate rejects.
 use Rattle.std.specs.Prelude.{◌≡◌, List, [], ◌∷◌, map, Result, Ok, Err, Bool, true, false}
 use Rattle.std.specs.List.{filter_map}
 use Rattle.std.specs.Fn.{Mut}
@@ -13,13 +13,13 @@ use Rattle.fallible_contract.specs.declared.passing.Outcome.{Outcome}
 use Rattle.fallible_contract.specs.declared.passing.Outcome.TheVariants.{Kept, Failure, End}
 use Rattle.fallible_core.specs.declared.cutting.take_while.TakeWhile.{TakeWhile}
 
--- An item that the predicate accepts is kept; one that it refuses makes an end; a failure of it is the answer.
+-- An item that the predicate accepts is kept; one that it rejects makes an end; a failure of it is the answer.
 abbrev pub take_while_outcome : {X E : Type 0} → X → Result Bool E → Outcome X E
 take_while_outcome x (Ok true) = Kept x
 take_while_outcome x (Ok false) = End
 take_while_outcome x (Err e) = Failure e
 
--- the answer of `TakeWhile` at a place: an item that the predicate accepts, an end in place of one that it refuses, its failure; and the source's failures and ends
+-- the answer of `TakeWhile` at a place: an item that the predicate accepts, an end in place of one that it rejects, its failure; and the source's failures and ends
 abbrev pub taken_answer : {X E : Type 0} → Place X (Result Bool E) E → Answered X E
 taken_answer (asked x (Ok true)) = item x
 taken_answer (asked x (Ok false)) = end
@@ -27,7 +27,7 @@ taken_answer (asked x (Err e)) = failure e
 taken_answer (failure_at e) = failure e
 taken_answer end_at = end
 
--- whether the predicate refuses the item at a place
+-- whether the predicate rejects the item at a place
 abbrev pub is_refused : {X E : Type 0} → Place X (Result Bool E) E → Bool
 is_refused (asked x (Ok true)) = false
 is_refused (asked x (Ok false)) = true
@@ -35,7 +35,7 @@ is_refused (asked x (Err e)) = false
 is_refused (failure_at e) = false
 is_refused end_at = false
 
--- `TakeWhile`: the source's trace, with the predicate called on each item, in which an item is replaced by the predicate's failure on it, and the first refused one by an end, which closes. The parts are the source and the predicate, and whether an item was refused.
+-- `TakeWhile`: the source's trace, with the predicate called on each item, in which an item is replaced by the predicate's failure on it, and the first rejected one by an end, which closes. The parts are the source and the predicate, and whether an item was rejected.
 pub record TakeWhileTrace {S F X E : Type 0} (steps : S → Answered X E → S → Type 0) (call : F → X → Result Bool E → F → Type 0) (p : (S × F) × Bool) (trace : List (Answered X E)) (q : (S × F) × Bool) : Type 0 where
   pub places : List (Place X (Result Bool E) E)
   pub drawn : Run steps (p.0).0 (map source_answer places) (q.0).0
@@ -46,7 +46,7 @@ pub record TakeWhileTrace {S F X E : Type 0} (steps : S → Answered X E → S �
 abbrev pub place_drawn : {S F X R E : Type 0} → (S → Answered X E → S → Type 0) → (F → X → R → F → Type 0) → S × F → Place X R E → S × F → Type 0
 place_drawn steps call p x q = steps p.0 (source_answer x) q.0 × Calls call p.1 (filter_map call_of (x ∷ [])) q.1
 
--- `TakeWhile`'s contract, with the flag whether an item was refused: the predicate may be called on each item that may come, and until then the hint has the source's upper bound alone.
+-- `TakeWhile`'s contract, with the flag whether an item was rejected: the predicate may be called on each item that may come, and until then the hint has the source's upper bound alone.
 abbrev pub take_while_contract : {S F X E : Type 0} → Contract S X E → Mut F (Bor X × Unit {0}) (Result Bool E) → Contract ((S × F) × Bool) X E
 take_while_contract m g = closing_contract (passing_contract m (call_at g) (λ P f. IsCallable (call_at g) (takes_at g) P f) take_while_outcome (λ p h. upper_alone m p.0 h)) (place_drawn m.steps (call_at g)) taken_answer is_refused
 
@@ -58,29 +58,29 @@ take_while_source s = s.it
 abbrev pub take_while_predicate : {I P : Type 0} → TakeWhile I P → P
 take_while_predicate s = s.taking.1
 
--- whether an item was refused
+-- whether an item was rejected
 abbrev pub take_while_refused : {I P : Type 0} → TakeWhile I P → Bool
 take_while_refused s = s.taking.0
 
--- the source and the predicate, and whether an item was refused
+-- the source and the predicate, and whether an item was rejected
 abbrev pub take_while_parts : {I P : Type 0} → TakeWhile I P → (I × P) × Bool
 take_while_parts s = ((take_while_source s, take_while_predicate s), take_while_refused s)
 
 -- ---- its fold, through the source's own
 
--- whether an item was refused, once the predicate answered on one more
+-- whether an item was rejected, once the predicate returned on one more
 abbrev pub refused_by : {E : Type 0} → Bool → Result Bool E → Bool
 refused_by refused (Ok true) = refused
 refused_by refused (Ok false) = true
 refused_by refused (Err e) = refused
 
--- one call of the predicate, beside which stands whether an item was refused
+-- one call of the predicate, beside which stands whether an item was rejected
 abbrev pub refusing_call : {F X E : Type 0} → (F → X → Result Bool E → F → Type 0) → Bool × F → X → Result Bool E → Bool × F → Type 0
 refusing_call call p x v q = call p.1 x v q.1 × (q.0 ≡ refused_by p.0 v)
 
 -- ---- what it lists
 
--- an item before a list where the predicate's answer keeps it; where it refuses it, the list ends
+-- an item before a list if the predicate's result keeps it; if it rejects it, the list ends
 abbrev pub cons_while : {X E : Type 0} → X → Result Bool E → List (Result X E) → List (Result X E)
 cons_while x (Ok true) l = Ok x ∷ l
 cons_while x (Ok false) l = []

@@ -1,4 +1,4 @@
--- `Filter`, which leaves out the items that a predicate refuses.
+-- `Filter`, which leaves out the items that a predicate rejects.
 use Rattle.std.specs.Prelude.{◌≡◌, ◌+◌, ℕ, Result, Ok, Err, List, Bool, true, false, [], ◌∷◌}
 use Rattle.std.specs.Fn.{Mut}
 use Rattle.std.specs.Borrow.{Bor}
@@ -12,7 +12,7 @@ use Rattle.std.specs.declared.ops.ControlFlow.{ControlFlow}
 use Rattle.std.specs.declared.ops.ControlFlow.TheVariants.{Continue}
 use Rattle.fallible_core.specs.declared.filtering.filter.Filter.{Filter}
 
--- `Filter`: the source's trace without the items refused, where an item whose predicate failed is replaced by that failure; it doesn't end in a refused item.
+-- `Filter`: the source's trace without the rejected items, where an item whose predicate failed is replaced by that failure; it doesn't end in a rejected item.
 abbrev pub FilterTrace : {S F X E : Type 0} → (S → Answered X E → S → Type 0) → Mut F (Bor X × Unit {0}) (Result Bool E) → S × F → List (Answered X E) → S × F → Type 0
 FilterTrace steps g p trace q = PassTrace steps (call_at g) tested_outcome p trace q
 
@@ -40,7 +40,7 @@ CountsOne n x r k = (r ≡ Continue tt) × (k ≡ n + 1)
 
 -- ---- what it lists
 
--- an item before a list, where the predicate's answer keeps it; else nothing, or the predicate's failure
+-- an item before a list, if the predicate's result keeps it; otherwise nothing, or the predicate's failure
 abbrev pub cons_if : {X E : Type 0} → X → Result Bool E → List (Result X E) → List (Result X E)
 cons_if x (Ok true) l = Ok x ∷ l
 cons_if x (Ok false) l = l

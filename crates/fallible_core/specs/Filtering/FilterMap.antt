@@ -1,4 +1,4 @@
--- `FilterMap`, which leaves out the items on which its closure answers none.
+-- `FilterMap`, which leaves out the items for which its closure returns `None`.
 use Rattle.std.specs.Prelude.{Option, Result, Some, Ok, Err, List, None, [], ◌∷◌}
 use Rattle.std.specs.Fn.{Mut}
 use Rattle.fallible_contract.specs.Traces.{Answered}
@@ -10,13 +10,13 @@ use Rattle.fallible_contract.specs.declared.passing.Outcome.{Outcome}
 use Rattle.fallible_contract.specs.declared.passing.Outcome.TheVariants.{Kept, LeftOut, Failure}
 use Rattle.fallible_core.specs.declared.filtering.filter_map.FilterMap.{FilterMap}
 
--- An item is replaced by the value that the closure answers, left out where it answers none, and replaced by a failure of it.
+-- An item is replaced by the value that the closure returns, left out if it returns `None`, and replaced by a failure of it.
 abbrev pub filter_map_outcome : {X B E : Type 0} → X → Result (Option B) E → Outcome B E
 filter_map_outcome x (Ok (Some y)) = Kept y
 filter_map_outcome x (Ok None) = LeftOut
 filter_map_outcome x (Err e) = Failure e
 
--- `FilterMap`: the source's trace without the items answered none, where each other item is replaced by the value or the failure that the closure answers on it; it doesn't end in an item answered none.
+-- `FilterMap`: the source's trace without the items for which the closure returns `None`, where each other item is replaced by the value or the failure that the closure returns for it; it doesn't end in a left-out item.
 abbrev pub FilterMapTrace : {S F X B E : Type 0} → (S → Answered X E → S → Type 0) → Mut F (X × Unit {0}) (Result (Option B) E) → S × F → List (Answered B E) → S × F → Type 0
 FilterMapTrace steps g p trace q = PassTrace steps (call_on g) filter_map_outcome p trace q
 
@@ -38,7 +38,7 @@ filter_map_parts s = (filter_map_source s, filter_map_closure s)
 
 -- ---- what it lists
 
--- the value that a closure answers before a list; nothing where it answers none
+-- the value that a closure returns before a list; nothing if it returns `None`
 abbrev pub cons_some : {B E : Type 0} → Result (Option B) E → List (Result B E) → List (Result B E)
 cons_some (Ok (Some y)) l = Ok y ∷ l
 cons_some (Ok None) l = l

@@ -1,4 +1,4 @@
--- `SkipWhile`, which leaves out items up to the first one that a predicate refuses.
+-- `SkipWhile`, which skips items up to the first one that a predicate rejects.
 use Rattle.std.specs.Prelude.{◌≡◌, List, Option, Some, None, ℕ, ⊤, Result, Ok, Err, [], ◌∷◌, ◌++◌, map, Bool, true, false, MatchBool}
 use Rattle.std.specs.Fn.{Mut}
 use Rattle.std.specs.Borrow.{Bor}
@@ -12,56 +12,56 @@ use Rattle.fallible_contract.specs.declared.passing.Outcome.{Outcome}
 use Rattle.fallible_contract.specs.declared.passing.Outcome.TheVariants.{Kept, LeftOut, Failure}
 use Rattle.fallible_core.specs.declared.filtering.skip_while.SkipWhile.{SkipWhile}
 
--- the predicate answered false
+-- the predicate returned false
 abbrev pub answers_false : {E : Type 0} → Result Bool E → Bool
 answers_false (Ok false) = true
 answers_false (Ok true) = false
 answers_false (Err e) = false
 
--- An item meets the predicate until its first false, and the flag says whether that was; then it isn't asked any more, and nothing changes.
+-- The predicate is called on an item until its first false, and the flag says whether that was; then it isn't called any more, and nothing changes.
 abbrev pub skip_call : {F X E : Type 0} → (F → X → Result Bool E → F → Type 0) → Bool × F → X → Option (Result Bool E) → Bool × F → Type 0
 skip_call call p x None q = (p.0 ≡ true) × (q ≡ p)
 skip_call call p x (Some v) q = (p.0 ≡ false) × call p.1 x v q.1 × (q.0 ≡ answers_false v)
 
--- the predicate may be called on the item, where it is asked
+-- the predicate may be called on the item, if it is called
 abbrev pub skip_takes : {F X : Type 0} → (F → X → Type 0) → Bool × F → X → Type 0
 skip_takes takes p x = p.0 ≡ false → takes p.1 x
 
--- An item is kept where the predicate isn't asked or answers false, left out where it answers true, and replaced by a failure of it.
+-- An item is kept if the predicate isn't called or returns false, left out if it returns true, and replaced by a failure of it.
 abbrev pub skip_while_outcome : {X E : Type 0} → X → Option (Result Bool E) → Outcome X E
 skip_while_outcome x None = Kept x
 skip_while_outcome x (Some (Ok false)) = Kept x
 skip_while_outcome x (Some (Ok true)) = LeftOut
 skip_while_outcome x (Some (Err e)) = Failure e
 
--- the predicate was asked at the place and answered false
+-- the predicate was called at the place and returned false
 abbrev pub false_at : {X E : Type 0} → Place X (Result Bool E) E → Bool
 false_at (asked x v) = answers_false v
 false_at (failure_at e) = false
 false_at end_at = false
 
--- it answers false at none of the places
+-- the predicate returns false at none of the places
 abbrev pub NeverFalse : {X E : Type 0} → List (Place X (Result Bool E) E) → Type 0
 NeverFalse [] = ⊤
 NeverFalse (p ∷ rest) = (false_at p ≡ false) × NeverFalse rest
 
--- it answers false at the last of the places, and at no other
+-- the predicate returns false at the last of the places, and at no other
 abbrev pub EndsAtFalse : {X E : Type 0} → List (Place X (Result Bool E) E) → Type 0
 EndsAtFalse [] = ⊥
 EndsAtFalse (p ∷ []) = false_at p ≡ true
 EndsAtFalse (p ∷ q ∷ rest) = (false_at p ≡ false) × EndsAtFalse (q ∷ rest)
 
--- an item that the predicate is asked of: kept where it answers false, left out where it answers true, and replaced by a failure of it
+-- an item that the predicate is called on: kept if it returns false, left out if it returns true, and replaced by a failure of it
 abbrev pub asked_outcome : {X E : Type 0} → X → Result Bool E → Outcome X E
 asked_outcome x v = skip_while_outcome x (Some v)
 
--- The places at which the predicate is asked are those up to and with its first false: none where that came before them, and all where it doesn't come; these don't end in a left-out item.
+-- The places at which the predicate is called are those up to its first false, and that one: none if that came before them, and all if it doesn't come; these don't end in a left-out item.
 abbrev pub AskedUntilFalse : {X E : Type 0} → Bool → List (Place X (Result Bool E) E) → List (Answered X E) → Bool → Type 0
 AskedUntilFalse true met after found = (met ≡ []) × (found ≡ true)
 AskedUntilFalse false met after true = EndsAtFalse met
 AskedUntilFalse false met after false = NeverFalse met × (after ≡ []) × LastKept (has_answer asked_outcome) met
 
--- `SkipWhile`, with the flag beside the predicate: the source's trace is what came while the predicate was asked, up to and with its first false, and what came after. Its own trace is the first part without the items that the predicate answered true on, an item on which it failed being replaced by that failure, and then the whole second part.
+-- `SkipWhile`, with the flag beside the predicate: the source's trace is what came while the predicate was called, up to its first false, and what came after. Its own trace is the first part without the items for which the predicate returned true, an item on which it failed being replaced by that failure, and then the whole second part.
 pub record SkipWhileTrace {S F X E : Type 0} (steps : S → Answered X E → S → Type 0) (call : F → X → Result Bool E → F → Type 0) (p : S × (Bool × F)) (trace : List (Answered X E)) (q : S × (Bool × F)) : Type 0 where
   pub met : List (Place X (Result Bool E) E)
   pub after : List (Answered X E)
@@ -90,7 +90,7 @@ skip_while_found s = s.skipping.0
 abbrev pub skip_while_predicate : {I P : Type 0} → SkipWhile I P → P
 skip_while_predicate s = s.skipping.1
 
--- the source, and whether the predicate answered false beside the predicate
+-- the source, and whether the predicate returned false beside the predicate
 abbrev pub skip_while_parts : {I P : Type 0} → SkipWhile I P → I × (Bool × P)
 skip_while_parts s = (skip_while_source s, s.skipping)
 

@@ -20,7 +20,7 @@ pub record JoinedTrace {S U A E : Type 0} (steps : S → Answered A E → S → 
   pub answers : trace ≡ before_end ++ second_trace
 
 module _ {S U A E : Type 0} (steps : S → Answered A E → S → Type 0) (others : U → Answered A E → U → Type 0) where
-  -- `Chain` of which both sides are still drawn: the first's trace has no end and is the chain's, and the second isn't drawn; or the first met its end, the answers before it and then the second's trace are the chain's, and the second alone is still drawn. Where one side alone is still drawn, its trace is the chain's, and the other isn't drawn.
+  -- `Chain` of which both sides are still drawn: the first's trace has no end and is the chain's, and the second isn't drawn; or the first met its end, the answers before it and then the second's trace are the chain's, and the second alone is still drawn. If one side alone is still drawn, its trace is the chain's, and the other isn't drawn.
   abbrev pub ChainTrace : S × U × StillDrawn → List (Answered A E) → S × U × StillDrawn → Type 0
   ChainTrace (s, u, Both) trace q = (Run steps s trace q.0 × NoEnd trace × (q.1 ≡ u) × (q.2 ≡ Both)) ⊎ (JoinedTrace steps others s u trace q.0 q.1 × (q.2 ≡ SecondAlone))
   ChainTrace (s, u, FirstAlone) trace q = Run steps s trace q.0 × (q.1 ≡ u) × (q.2 ≡ FirstAlone)
@@ -38,7 +38,7 @@ chain_may_come first second (s, u, Both) x = first s x ⊎ second u x
 chain_may_come first second (s, u, FirstAlone) x = first s x
 chain_may_come first second (s, u, SecondAlone) x = second u x
 
--- All else is said by the sides that are still drawn: the sums where both are, and else what the one side says.
+-- All else is said by the sides that are still drawn: the sums if both are, and otherwise what the one side says.
 module _ {S U A E : Type 0} (first : Contract S A E) (second : Contract U A E) where
   abbrev pub chain_bound : S × U × StillDrawn → ℕ → Type 0
   chain_bound (s, u, Both) n = (a : ℕ) × (b : ℕ) × first.bound s a × second.bound u b × (a + b ≤ n)

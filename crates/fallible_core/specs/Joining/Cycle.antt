@@ -9,7 +9,7 @@ use Rattle.fallible_core.specs.declared.joining.cycle.Cycle.{Cycle}
 
 module _ {S A E : Type 0} (is_clone : S → S → Type 0) (is_infallible : S → Type 0) (from : AllocError → E → Type 0) where
   module _ (steps : S → Answered A E → S → Type 0) where
-    -- Laps over the kept source k, one after another, the first over the current run. A lap is answers of one run, of which none is an end but, in the lap of a clone, perhaps the first. Each lap but the last was drawn through the end that closes it, which is not answered. Then a fresh clone of k is the run, and its first answer, whatever it is, begins the next lap; or the clone is refused, the failure made of that is answered, and the next lap goes on over the same run.
+    -- Laps over the kept source k, one after another, the first over the current run. A lap is answers of one run, of which none is an end but, in the lap of a clone, perhaps the first. Each lap but the last was drawn through the end that closes it, which is not returned. Then a fresh clone of k is the run, and its first answer, whatever it is, begins the next lap; or the clone fails to allocate, the failure converted from its `AllocError` is returned, and the next lap goes on over the same run.
     pub data Laps (k : S) : S → List (Answered A E) → S → Type 0 where
       last_lap : (s t : S) (lap : List (Answered A E)) → NoEnd lap → Run steps s lap t → Laps k s lap t
       then_a_clone : (s ended clone run t : S) (lap : List (Answered A E)) (first : Answered A E) (rest : List (Answered A E)) → NoEnd lap → Run steps s (lap ++ end ∷ []) ended → is_clone k clone → steps clone first run → Laps k run rest t → Laps k s (lap ++ first ∷ rest) t
@@ -19,7 +19,7 @@ module _ {S A E : Type 0} (is_clone : S → S → Type 0) (is_infallible : S →
     abbrev pub CycleTrace : S × S → List (Answered A E) → S × S → Type 0
     CycleTrace p trace q = (q.1 ≡ p.1) × Laps p.1 p.0 trace q.0
 
-    -- One answer: that of the run, where it is no end; else the first answer of a fresh clone of k, or the failure made of a refusal.
+    -- One answer: that of the run, if it is no end; otherwise the first answer of a fresh clone of k, or the failure converted from its `AllocError`.
     abbrev pub CycleAnswer : S → S → Answered A E → S → Type 0
     CycleAnswer k s r t = (steps s r t × (is_end r ≡ false))
         ⊎ ((ended : S) × (clone : S) × steps s end ended × is_clone k clone × steps clone r t)

@@ -1,4 +1,4 @@
--- `FlatMap`: the closure's answers become inner iterators, whose answers are joined as `Flatten` joins them.
+-- `FlatMap`: the closure's results become inner iterators, whose answers are joined as `Flatten` joins them.
 use Rattle.std.specs.Prelude.{Option, Result}
 use Rattle.std.specs.Fn.{Mut}
 use Rattle.fallible_contract.specs.Contract.{Contract, seen_as}

@@ -29,13 +29,13 @@ part_answers (of_inner x c answers) = answers
 part_answers (of_failure e) = failure e ∷ []
 part_answers of_end = end ∷ []
 
--- A finished inner iterator gave the answers, and then its end was drawn.
+-- A finished inner iterator returned the answers, and then its end was drawn.
 pub record Finished {C B E : Type 0} (inner : C → Answered B E → C → Type 0) (c : C) (answers : List (Answered B E)) : Type 0 where
   pub after : C
   pub drawn : Run inner c (answers ++ end ∷ []) after
   pub no_end : NoEnd answers
 
--- An unfinished one gave the answers, at least one and no end, and is then d.
+-- An unfinished inner iterator returned the answers, at least one and no end, and is then d.
 pub record Unfinished {C B E : Type 0} (inner : C → Answered B E → C → Type 0) (c : C) (answers : List (Answered B E)) (d : C) : Type 0 where
   pub drawn : Run inner c answers d
   pub no_end : NoEnd answers
@@ -59,12 +59,12 @@ module _ {X C B E : Type 0} (into : X → C → Type 0) (inner : C → Answered 
   LastPart (of_failure e) hand = hand ≡ None
   LastPart of_end hand = hand ≡ None
 
--- the inner iterator in hand, if there is one, gave the answers and is finished
+-- the current inner iterator, if there is one, returned the answers and is finished
 abbrev pub FinishedInHand : {C B E : Type 0} → (C → Answered B E → C → Type 0) → Option C → List (Answered B E) → Type 0
 FinishedInHand inner (Some c) answers = Finished inner c answers
 FinishedInHand inner None answers = answers ≡ []
 
--- The outer source was drawn. The trace joins the answers of the inner iterator in hand, if there was one, and a part for each answer of the outer source.
+-- The outer source was drawn. The trace joins the answers of the current inner iterator, if there was one, and a part for each answer of the outer source.
 pub record Joined {S X C B E : Type 0} (outer : S → Answered X E → S → Type 0) (into : X → C → Type 0) (inner : C → Answered B E → C → Type 0) (s : S) (hand : Option C) (trace : List (Answered B E)) (t : S) (hand' : Option C) : Type 0 where
   pub in_hand : List (Answered B E)
   pub parts : List (Part X C B E)
@@ -75,7 +75,7 @@ pub record Joined {S X C B E : Type 0} (outer : S → Answered X E → S → Typ
   pub at_last : LastPart into inner last hand'
   pub answers : trace ≡ in_hand ++ flat_map part_answers (parts ++ last ∷ [])
 
--- The answers from an outer source at s: nothing was drawn; or the trace is that of the inner iterator in hand, which is unfinished; or the outer source was drawn.
+-- The answers from an outer source at s: nothing was drawn; or the trace is that of the current inner iterator, which is unfinished; or the outer source was drawn.
 pub data FlattenAnswers {S X C B E : Type 0} (outer : S → Answered X E → S → Type 0) (into : X → C → Type 0) (inner : C → Answered B E → C → Type 0) : S → Option C → List (Answered B E) → S → Option C → Type 0 where
   nothing_drawn : {s : S} {hand : Option C} → FlattenAnswers outer into inner s hand [] s hand
   still_in_hand : {s : S} {c d : C} {trace : List (Answered B E)} → Unfinished inner c trace d → FlattenAnswers outer into inner s (Some c) trace s (Some d)
@@ -93,7 +93,7 @@ NumberInHand (Some c) to_come k = to_come c k
 NumberInHand None to_come k = k ≡ 0
 
 module _ {S X C B E : Type 0} (m : Contract S X E) (into : X → C → Type 0) (inner : Contract C B E) where
-  -- an item that the outer source may still give becomes an inner iterator of which P holds
+  -- an item that the outer source may still yield becomes an inner iterator of which P holds
   pub record SomeInner (P : C → Type 0) (s : S) : Type 0 where
     pub argument : X
     pub iterator : C
@@ -101,7 +101,7 @@ module _ {S X C B E : Type 0} (m : Contract S X E) (into : X → C → Type 0) (
     pub becomes : into argument iterator
     pub holds : P iterator
 
-  -- each item that the outer source may still give becomes an inner iterator of which P holds
+  -- each item that the outer source may still yield becomes an inner iterator of which P holds
   pub record EachInner (P : C → Type 0) (s : S) : Type 0 where
     pub at : (x : X) (c : C) → m.may_give s x → into x c → P c
 
@@ -136,12 +136,12 @@ module _ {S X C B E : Type 0} (m : Contract S X E) (into : X → C → Type 0) (
 -- ---- a fold, as one of the outer source
 
 module _ {X C B E V R : Type 0} (into : X → C → Type 0) (inner : Contract C B E) (turns : V → B → ControlFlow R (Unit {0}) → V → Type 0) where
-  -- One turn, on the caller's state and the inner iterator in hand: the item became an inner iterator, and this was folded by the caller's turns. The fold goes on where that one ended, and else stops with its answer and that inner iterator in hand.
+  -- One turn, on the caller's state and the current inner iterator: the item became an inner iterator, and this was folded by the caller's turns. The fold goes on if that one ended. Otherwise it stops with what that one returned, and that inner iterator is the current one.
   abbrev pub IsFlattenTurn : V × Option C → X → ControlFlow (Answered R E) (Unit {0}) → V × Option C → Type 0
   IsFlattenTurn p x (Continue u) q = (c : C) × (d : C) × into x c × Driven inner.steps turns c p.0 (Ok None) d q.0 × (q.1 ≡ p.1)
   IsFlattenTurn p x (Break r) q = (c : C) × (d : C) × into x c × Driven inner.steps turns c p.0 r d q.0 × (r ≢ Ok None) × (q.1 ≡ Some d)
 
-  -- It may be taken where what the item may become may be folded so.
+  -- The turn may be taken if what the item may become may be folded so.
   abbrev pub JoiningTakes : (V → B → Type 0) → V × Option C → X → Type 0
   JoiningTakes can p x = (c : C) → into x c → inner.can_next c × inner.is_finite c × CallableDriving inner.steps turns can c p.0
 

@@ -34,7 +34,7 @@ abbrev pub right_answer : {A B E : Type 0} → ZipPlace A B E → Option (Answer
 right_answer (left_failed e) = None
 right_answer (both_drawn x r) = Some r
 
--- The answer at a place: the left's failure, else the right's failure, else the pair of two items, else an end.
+-- The answer at a place: the left's failure, or else the right's failure, or else the pair of two items, or else an end.
 abbrev pub zip_answer : {A B E : Type 0} → ZipPlace A B E → Answered (A × B) E
 zip_answer (left_failed e) = failure e
 zip_answer (both_drawn x (Err e)) = failure e
@@ -49,7 +49,7 @@ pub record ZipTrace {S U A B E : Type 0} (steps : S → Answered A E → S → T
   pub right_drawn : Run others p.1 (filter_map right_answer places) q.1
   pub answers : trace ≡ map zip_answer places
 
--- the right is drawn where it has an answer at the place, and else stays as it is
+-- the right is drawn if it has an answer at the place, and otherwise stays as it is
 abbrev pub right_step : {U A B E : Type 0} → (U → Answered B E → U → Type 0) → U → ZipPlace A B E → U → Type 0
 right_step others u (left_failed e) v = v ≡ u
 right_step others u (both_drawn x r) v = others u r v

@@ -10,16 +10,16 @@ use Rattle.std.specs.declared.alloc.AllocError.{AllocError}
 use Rattle.fallible_core.specs.declared.one_to_one.cloned.Cloned.{Cloned}
 
 module _ {T E : Type 0} (is_clone : T → T → Type 0) (is_infallible : T → Type 0) (from : AllocError → E → Type 0) where
-  -- the item's clone, or, where that may be refused, the failure made of the refusal
+  -- the item's clone, or, if that may fail to allocate, the failure converted from its `AllocError`
   abbrev pub cloned_call : Unit {0} → Bor T → Result T E → Unit {0} → Type 0
   cloned_call u x (Ok y) v = is_clone x.now y
   cloned_call u x (Err e) v = RefusedAs is_infallible from x.now e
 
-  -- `Cloned`: the source's trace, where each item is replaced by a clone of what it points to, or by the failure made of the refusal.
+  -- `Cloned`: the source's trace, where each item is replaced by a clone of what it points to, or by the failure converted from its `AllocError`.
   abbrev pub ClonedTrace : {S : Type 0} → (S → Answered (Bor T) E → S → Type 0) → S × Unit {0} → List (Answered T E) → S × Unit {0} → Type 0
   ClonedTrace steps p trace q = PassTrace steps cloned_call map_outcome p trace q
 
-  -- it asks nothing of a call
+  -- `Cloned`'s contract, which requires nothing of a call
   abbrev pub cloned_contract : {S : Type 0} → Contract S (Bor T) E → Contract (S × Unit {0}) T E
   cloned_contract m = passing_contract m cloned_call (λ P u. ⊤) map_outcome (λ p h. m.hints p.0 h)
 

@@ -1,4 +1,4 @@
--- `MapWhile`, which maps each item, and ends where its closure answers none.
+-- `MapWhile`, which maps each item, and ends where its closure returns `None`.
 use Rattle.std.specs.Prelude.{Option, Result, Ok, Err, List, [], ◌∷◌}
 use Rattle.std.specs.Fn.{Mut}
 use Rattle.fallible_contract.specs.Closures.{call_on, takes_on, IsCallable}

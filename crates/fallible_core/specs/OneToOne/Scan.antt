@@ -15,11 +15,11 @@ use Rattle.fallible_core.specs.declared.one_to_one.scan.Scan.{Scan}
 abbrev pub scan_call : {F T X R : Type 0} → Mut F (MutBor T × (X × Unit {0})) (R × (MutBor T × Unit {0})) → T × F → X → R → T × F → Type 0
 scan_call g p x r q = CalledWithState g p.1 p.0 x r q.1 q.0
 
--- it may be called so
+-- the closure may be called on the state and the item
 abbrev pub scan_takes : {F T X R : Type 0} → Mut F (MutBor T × (X × Unit {0})) (R × (MutBor T × Unit {0})) → T × F → X → Type 0
 scan_takes g p x = TakesWithState g p.1 p.0 x
 
--- An item is replaced by the value that the closure answers, by an end where it answers none, and by a failure of it.
+-- An item is replaced by the value that the closure returns, by an end if it returns `None`, and by a failure of it.
 abbrev pub scan_outcome : {X B E : Type 0} → X → Result (Option B) E → Outcome B E
 scan_outcome x (Ok (Some y)) = Kept y
 scan_outcome x (Ok None) = End
@@ -51,7 +51,7 @@ scan_parts s = (scan_source s, s.scanning)
 
 -- ---- what it lists
 
--- the value that a closure answers before a list; where it answers none, the list ends
+-- the value that a closure returns before a list; if it returns `None`, the list ends
 abbrev pub cons_or_end : {B E : Type 0} → Result (Option B) E → List (Result B E) → List (Result B E)
 cons_or_end (Ok (Some y)) l = Ok y ∷ l
 cons_or_end (Ok None) l = []

@@ -38,11 +38,11 @@ pub record HeldAndDrawn {S A E : Type 0} (steps : S → Answered A E → S → T
   pub answers : trace ≡ held_answers p.1 ++ source_trace
   pub let_go : q.1 ≡ None
 
--- `Peekable`: the held answer, if there is one, and then the source's trace, and nothing is held then; where there are no answers, nothing changes. The parts are the source and what is held.
+-- `Peekable`: the held answer, if there is one, and then the source's trace, and nothing is held then; if there are no answers, nothing changes. The parts are the source and what is held.
 abbrev pub PeekableTrace : {S A E : Type 0} → (S → Answered A E → S → Type 0) → S × Option (Option A) → List (Answered A E) → S × Option (Option A) → Type 0
 PeekableTrace steps p trace q = ((trace ≡ []) × (q ≡ p)) ⊎ HeldAndDrawn steps p trace q
 
--- One answer: the held one without a draw, and else the source's.
+-- One answer: the held one without a draw, and otherwise the source's.
 abbrev pub peekable_step : {S A E : Type 0} → (S → Answered A E → S → Type 0) → S × Option (Option A) → Answered A E → S × Option (Option A) → Type 0
 peekable_step steps (s, Some o) r (t, held) = (r ≡ Ok o) × (t ≡ s) × (held ≡ None)
 peekable_step steps (s, None) r (t, held) = steps s r t × (held ≡ None)
@@ -75,7 +75,7 @@ peekable_contract m = record {
 
 -- ---- looking ahead
 
--- what the reference that is answered points to
+-- what the reference that is returned points to
 abbrev pub seen : {A E : Type 0} → Result (Option (Bor A)) E → Answered A E
 seen (Ok (Some x)) = item x.now
 seen (Ok None) = end
@@ -86,7 +86,7 @@ abbrev pub held_of : {A E : Type 0} → Answered A E → Option (Option A)
 held_of (Ok o) = Some o
 held_of (Err e) = None
 
--- `peek`: where an answer is held it is that one, nothing is drawn and nothing changes; else one answer is drawn, and an item or an end is held.
+-- `peek`: if an answer is held it is that one, nothing is drawn and nothing changes; otherwise one answer is drawn, and an item or an end is held.
 abbrev pub Peeks : {S A E : Type 0} → (S → Answered A E → S → Type 0) → S × Option (Option A) → Answered A E → S × Option (Option A) → Type 0
 Peeks steps (s, Some o) r (t, held) = (r ≡ Ok o) × (t ≡ s) × (held ≡ Some o)
 Peeks steps (s, None) r (t, held) = steps s r t × (held ≡ held_of r)
@@ -105,23 +105,23 @@ abbrev pub held_item : {A : Type 0} → Option (Option A) → Option A
 held_item (Some o) = o
 held_item None = None
 
--- what a closure answers on the item that was looked at; none at an end, and the failure where one came
+-- what a closure returns for the item that was looked at; none at an end, and the failure if one came
 abbrev pub LooksAt : {F A R E : Type 0} → Shared F (Bor A × Unit {0}) R → F → Answered A E → Result (Option R) E → Type 0
 LooksAt {R = R} g f (Ok (Some x)) r = (v : R) × FnReturnsAt g f x v × (r ≡ Ok (Some v))
 LooksAt g f (Ok None) r = r ≡ Ok None
 LooksAt g f (Err e) r = r ≡ Err e
 
--- `look`: a peek, and what the closure answers on the item.
+-- `look`: a peek, and what the closure returns for the item.
 abbrev pub Looks : {S F A R E : Type 0} → (S → Answered A E → S → Type 0) → Shared F (Bor A × Unit {0}) R → F → S × Option (Option A) → Result (Option R) E → S × Option (Option A) → Type 0
 Looks {A = A} {E = E} steps g f p r q = (a : Answered A E) × Peeks steps p a q × LooksAt g f a r
 
--- what is done with what a peek answered, and left as p: an item that the test is true of is taken, and one that it is false of stays held, as an end does
+-- what is done with what a peek returned, and left as p: an item for which the test is true is taken, and one for which it is false stays held, as an end does
 abbrev pub TakenIf : {S A E : Type 0} → (S → Answered A E → S → Type 0) → (A → Bool → Type 0) → S × Option (Option A) → Answered A E → Answered A E → S × Option (Option A) → Type 0
 TakenIf steps test p (Ok (Some x)) r q = (test x true × (r ≡ item x) × peekable_step steps p r q) ⊎ (test x false × (r ≡ end) × (q ≡ p))
 TakenIf steps test p (Ok None) r q = (r ≡ end) × (q ≡ p)
 TakenIf steps test p (Err e) r q = (r ≡ failure e) × (q ≡ p)
 
--- `next_if`: a peek, and then a draw where the test is true of the item; else what is held stays held, and the answer is an end, or the failure.
+-- `next_if`: a peek, and then a draw if the test is true of the item; otherwise what is held stays held, and the result is an end, or the failure.
 pub record NextIf {S A E : Type 0} (steps : S → Answered A E → S → Type 0) (test : A → Bool → Type 0) (p : S × Option (Option A)) (r : Answered A E) (q : S × Option (Option A)) : Type 0 where
   pub peeked : Answered A E
   pub after : S × Option (Option A)
@@ -144,7 +144,7 @@ looked_ahead [] = []
 looked_ahead (Ok x ∷ l) = Ok x ∷ l
 looked_ahead (Err e ∷ l) = l
 
--- h of the item that stands first; none where the list is empty, and the failure that stands first
+-- h of the item that stands first; none if the list is empty, and the failure that stands first
 unfoldable pub look_of : {A E R : Type 0} → (A → R) → List (Result A E) → Result (Option R) E
 look_of h [] = Ok None
 look_of h (Ok x ∷ l) = Ok (Some (h x))
@@ -155,13 +155,13 @@ abbrev pub taken_by : {A E : Type 0} → Bool → A → Answered A E
 taken_by true x = item x
 taken_by false x = end
 
--- the item x that stands first, where h x is true; none where it is false or the list is empty, and the failure that stands first
+-- the item x that stands first, if h x is true; none if it is false or the list is empty, and the failure that stands first
 unfoldable pub first_if : {A E : Type 0} → (A → Bool) → List (Result A E) → Answered A E
 first_if h [] = end
 first_if h (Ok x ∷ l) = taken_by (h x) x
 first_if h (Err e ∷ l) = Err e
 
--- what stands behind an item, or the item too, by a test's answer on it
+-- what comes after an item, or the item too, by a test's result on it
 abbrev pub left_by : {A E : Type 0} → Bool → A → List (Result A E) → List (Result A E)
 left_by true x l = l
 left_by false x l = Ok x ∷ l
@@ -172,6 +172,6 @@ rest_if h [] = []
 rest_if h (Ok x ∷ l) = left_by (h x) x l
 rest_if h (Err e ∷ l) = l
 
--- The closure f answers h x on each item x.
+-- The closure f returns h x for each item x.
 abbrev pub LooksAs : {F A R : Type 0} → Shared F (Bor A × Unit {0}) R → F → (A → R) → Type 0
 LooksAs {A = A} {R = R} g f h = (x : A) (v : R) → FnReturnsAt g f x v → v ≡ h x

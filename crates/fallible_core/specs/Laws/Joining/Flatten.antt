@@ -10,7 +10,7 @@ use Rattle.fallible_contract.specs.Laws.Contract.{no_more, goes_later}
 use Rattle.fallible_core.specs.Joining.Flatten.{flatten_contract, NumberInHand, SomeInner, EachInner, FlattenNumber, Part, of_inner, of_failure, of_end, outer_answer, part_answers, Finished, FinishedParts, LastPart, FinishedInHand, Joined, FlattenAnswers, nothing_drawn, still_in_hand, outer_drawn}
 
 module _ {S X C B E : Type 0} (outer : S → Answered X E → S → Type 0) (into : X → C → Type 0) (inner : C → Answered B E → C → Type 0) where
-  -- the same as `FlattenAnswers`, built from the first answer on
+  -- `FlattenAnswers`, built from the first answer on
   pub data Flattens : S → Option C → List (Answered B E) → S → Option C → Type 0 where
     done : {s : S} {hand : Option C} → Flattens s hand [] s hand
     gives : {s t : S} {c d : C} {hand : Option C} {trace : List (Answered B E)} (y : B) → inner c (item y) d → Flattens s (Some d) trace t hand → Flattens s (Some c) (item y ∷ trace) t hand

@@ -6,7 +6,7 @@ use Rattle.fallible_contract.specs.Contract.{Contract, KeptByDraw, Lawful}
 use Rattle.fallible_core.specs.OneToOne.Enumerate.{numbered_from, EnumerateTrace, enumerate_contract}
 
 module _ {S A E : Type 0} (steps : S → Answered A E → S → Type 0) where
-  -- the same as `EnumerateTrace`, built from the first answer on
+  -- `EnumerateTrace`, built from the first answer on
   pub data Numbered : S → ℕ → List (Answered (ℕ × A) E) → S → ℕ → Type 0 where
     numbered_none : {s : S} {n : ℕ} → Numbered s n [] s n
     numbered_item : {s u t : S} {n k : ℕ} {trace : List (Answered (ℕ × A) E)} (x : A) → steps s (item x) u → Numbered u (n + 1) trace t k → Numbered s n (item (n, x) ∷ trace) t k
