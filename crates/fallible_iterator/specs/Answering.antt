@@ -32,7 +32,7 @@ by_sides (Front ∷ sides) (x ∷ a) b = x ∷ by_sides sides a b
 by_sides (Back ∷ sides) a [] = End ∷ by_sides sides a []
 by_sides (Back ∷ sides) a (x ∷ b) = x ∷ by_sides sides a b
 
--- What is answered: for as many sides as the list has results, those of the list in order at the front, and those of the list reversed at the back; then ends.
+-- What is returned: for as many sides as the list has results, those of the list in order at the front, and those of the list reversed at the back; then ends.
 unfoldable pub answers_at_ends : {A E : Type 0} → List Side → List (Result A E) → List (Answer A E)
 answers_at_ends sides l = by_sides (take (length l) sides) (told l) (told (reverse l)) ++ map (λ _. End) (drop (length l) sides)
 

@@ -1,4 +1,4 @@
--- What follows from the definitions: the lemmas that ghost members cite, those of the crates below handed on.
+-- What follows from the definitions: the lemmas that ghost members cite. Those of the crates below are reexported.
 pub mod Gathering
 pub mod Showing
 pub mod ShowingEnds

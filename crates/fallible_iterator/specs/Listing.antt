@@ -26,7 +26,7 @@ pub record ListsFailures {V S F X D E : Type 0} (parts : V → S × F) (call : F
   pub steady : (s : V) (it : S) (f : F) (asked : List (Result X (D × E))) → parts s ≡ (it, f) → Steady call f (failures_listed asked) → lists_source it (failures_mapped (λ c. c.0) asked) → lists s (failures_mapped (λ c. c.1) asked)
   pub acts : (s : V) (it : S) (f : F) (h : D → E) (l : List (Result X D)) → parts s ≡ (it, f) → Acts call f h → lists_source it l → lists s (failures_mapped h l)
 
--- One that clones what each item points to: the clones, where none is refused and each item has one clone alone; and what the items point to, where each clone equals its original.
+-- An adapter that clones what each item points to: the clones, if none fails and each item has one clone alone; and what the items point to, if each clone equals its original.
 pub record ListsClones {V S T E : Type 0} (parts : V → S × Unit {0}) (is_clone : T → T → Type 0) (is_infallible : T → Type 0) (lists_source : S → List (Result (Bor T) E) → Type 0) (lists : V → List (Result T E) → Type 0) : Type 0 where
   pub clones : (s : V) (it : S) (asked : List (Result (Bor T × T) E)) → parts s ≡ (it, tt) → All (λ c. is_infallible c.0.now × ((y : T) → is_clone c.0.now y → y ≡ c.1)) (items_listed asked) → lists_source it (source_list asked) → lists s (mapped (λ c. Ok c.1) asked)
   pub originals : (s : V) (it : S) (l : List (Result (Bor T) E)) → parts s ≡ (it, tt) → ((x y : T) → is_clone x y → y ≡ x) → ((x : T) → is_infallible x) → lists_source it l → lists s (pointed_to l)
@@ -50,11 +50,11 @@ ListsTheSame {V = V} {A = A} {E = E} value lists_source lists = (s : V) (l : Lis
 abbrev pub DrawsTheSame : {V S A E : Type 0} → (V → S) → (S → List (Side × Answered A E) → S → Type 0) → (V → List (Side × Answered A E) → V → Type 0) → Type 0
 DrawsTheSame {V = V} {A = A} {E = E} value mixes_source mixes = (s : V) (drawn : List (Side × Answered A E)) (t : V) → mixes s drawn t ↔ mixes_source (value s) drawn (value t)
 
--- Where these answers can be drawn from the ends of s and leave t, what came from the front, what is left, and what came from the back, reversed, make l.
+-- If these answers can be drawn from the ends of s and leave t, what came from the front, what is left, and what came from the back, reversed, make l.
 abbrev pub DrawsInterleave : {S A E : Type 0} → (S → Answered A E → S → Type 0) → (S → Answered A E → S → Type 0) → List (Result A E) → S → List (Side × Answered A E) → S → Type 0
 DrawsInterleave steps steps_back l s drawn t = RunAtEnds steps steps_back s drawn t → Interleaves steps steps_back l drawn t
 
--- A source over a std iterator: what that iterator lists, call by call from both ends; and what is left of one whose state shows it, where each call of `next` gives the first of it, and each of `next_back` the last.
+-- A source over a std iterator: what that iterator lists, call by call from both ends; and what is left of one whose state shows it, if each call of `next` returns the first of it, and each of `next_back` the last.
 pub record ListsElements {V S A E Z : Type 0} (parts : V → S) (of_item : A → Z) (of_failure : E → Z) (list : List Z → List (Result A E)) (gives gives_back : S → Option Z → S → Type 0) (lists : V → List (Result A E) → Type 0) : Type 0 where
   pub listed : (s : V) (l : List (Result A E)) → ListsBothEnds (λ a r b. gives a (element_by of_item of_failure r) b) (λ a r b. gives_back a (element_by of_item of_failure r) b) (parts s) l → lists s l
   pub rest : (rest : S → List Z) → ((a : S) (o : Option Z) (b : S) → gives a o b → YieldsFirst rest a o b) → ((a : S) (o : Option Z) (b : S) → gives_back a o b → YieldsLast rest a o b) → (s : V) → lists s (list (rest (parts s)))

@@ -1,4 +1,4 @@
--- Values that are made of items, of which each may be refused for want of memory.
+-- Values that are made of items, each of which may fail to allocate.
 use Rattle.std.specs.Prelude.{◌≡◌, Some, None, Result, Ok, Err, List, [], ◌∷◌, ⊤, ◌⊎◌}
 use Rattle.fallible_contract.specs.Traces.{Answered, end}
 use Rattle.fallible_contract.specs.Lists.{collected}
@@ -6,13 +6,13 @@ use Rattle.std.specs.declared.alloc.AllocError.{AllocError}
 use Rattle.fallible_contract.specs.declared.collecting.Fault.{Fault}
 use Rattle.fallible_contract.specs.declared.collecting.Fault.TheVariants.{Source, Memory}
 
--- the failure is made of a refused request for memory
+-- the failure is converted from an `AllocError`
 abbrev pub IsRefusal : {E : Type 0} → (AllocError → E → Type 0) → E → Type 0
 IsRefusal from e = (a : AllocError) × from a e
 
--- ---- what is listed up to a refusal
+-- ---- what is listed up to an allocation failure
 
--- the answer is a failure that is made of a refusal
+-- the answer is a failure that is converted from an `AllocError`
 abbrev pub AnswersRefusal : {B E : Type 0} → (AllocError → E → Type 0) → Answered B E → Type 0
 AnswersRefusal {E = E} from r = (e : E) × (r ≡ Err e) × IsRefusal from e
 
@@ -25,26 +25,26 @@ module _ {X B E : Type 0} (made : X → B → Type 0) where
   IsMadeOf (Err d) r = r ≡ Err d
 
   module _ {S : Type 0} (steps : S → Answered B E → S → Type 0) (from : AllocError → E → Type 0) where
-    -- Whatever is drawn from s, the answers are those of the list, in order, with values made of its items, and then an end; up to a refusal, behind which nothing is said.
+    -- Whatever is drawn from s, the answers are those of the list, in order, with values made of its items, and then an end; up to an allocation failure, after which nothing is said.
     abbrev pub GivesMade : S → List (Result X E) → Type 0
     GivesMade s [] = (r : Answered B E) (t : S) → steps s r t → r ≡ end
     GivesMade s (y ∷ l) = (r : Answered B E) (t : S) → steps s r t → AnswersRefusal from r ⊎ (IsMadeOf y r × GivesMade t l)
 
-    -- The answers of s, up to its first end, list l, with values made of its items; up to a refusal.
+    -- The answers of s, up to its first end, list l, with values made of its items; up to an allocation failure.
     pub record ListsMade (s : S) (l : List (Result X E)) : Type 0 where
       pub runs : GivesMade s l
 
 -- ---- a closure that makes values
 
 module _ {V B E : Type 0} (made : V → B → Type 0) (from : AllocError → E → Type 0) where
-  -- The answer is the one that is told: a value made of the one that is told, or the same failure; or it is a refusal.
+  -- The answer is the one that is told: a value made of the one that is told, or that failure; or it is an allocation failure.
   abbrev pub IsToldOrRefused : Result V E → Result B E → Type 0
   IsToldOrRefused (Ok v) (Ok y) = made v y
   IsToldOrRefused (Err d) (Ok y) = ⊥
   IsToldOrRefused (Ok v) (Err e) = IsRefusal from e
   IsToldOrRefused (Err d) (Err e) = (e ≡ d) ⊎ IsRefusal from e
 
-  -- The closure f acts as the function h up to a refusal: called on x it answers a value made of the one that h x is, or the failure that h x is, or a refusal; and it stays as it is.
+  -- The closure f acts as the function h up to an allocation failure: called on x it returns a value made of the one that h x is, or the failure that h x is, or an allocation failure; and it stays as it is.
   abbrev pub Makes : {F X : Type 0} → (F → X → Result B E → F → Type 0) → F → (X → Result V E) → Type 0
   Makes {F} {X} call f h = (x : X) (r : Result B E) (g : F) → call f x r g → (g ≡ f) × IsToldOrRefused (h x) r
 
@@ -55,7 +55,7 @@ EachMade made [] (y ∷ ys) = ⊥
 EachMade made (v ∷ vs) [] = ⊥
 EachMade made (v ∷ vs) (y ∷ ys) = made v y × EachMade made vs ys
 
--- What `collect` answers over what lists made values: the collection of values that are made of the list's items; the list's first failure, or a refusal; or want of memory, which says nothing of the list.
+-- What `collect` returns over what lists made values: the collection of values that are made of the list's items; the list's first failure, or an allocation failure of the source; or one of the collection, which says nothing of the list.
 abbrev pub CollectedMade : {V B E C : Type 0} → (V → B → Type 0) → (AllocError → E → Type 0) → (List B → C → Type 0) → List (Result V E) → Result C (Fault E) → Type 0
 CollectedMade {V} {B} made from into l (Ok c) = (vs : List V) × (ys : List B) × (collected l ≡ Ok vs) × EachMade made vs ys × into ys c
 CollectedMade made from into l (Err (Source e)) = (collected l ≡ Err e) ⊎ IsRefusal from e

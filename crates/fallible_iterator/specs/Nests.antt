@@ -1,4 +1,4 @@
--- Nests of adapters: the definition of each, applied to all that the one within it answers.
+-- Nests of adapters: the definition of each, applied to all that the one within it returns.
 use Rattle.std.specs.Prelude.{◌≡◌, ◌↔◌, List, [], ◌∷◌, Option, Result, Bool}
 use Rattle.std.specs.Fn.{Mut}
 use Rattle.std.specs.Borrow.{Bor, MutBor}
@@ -32,7 +32,7 @@ module _ {S P F : Type 0} where
   abbrev pub source_of : Take (Map (Filter S P) F) → S
   source_of s = (filter_of s).0
 
--- A `Take` of a `Map` of a `Filter`: the draws of the source answered a list, the definition of `Filter` makes of that list what is kept, that of `Map` makes of this what is mapped, and that of `Take` makes of this the trace.
+-- A `Take` of a `Map` of a `Filter`: the draws of the source returned a list, the definition of `Filter` makes of that list what is kept, that of `Map` makes of this what is mapped, and that of `Take` makes of this the trace.
 pub record TakeMapFilterTrace {S P F X B E : Type 0} (steps : S → Answered X E → S → Type 0) (predicate : Mut P (Bor X × Unit {0}) (Result Bool E)) (closure : Mut F (X × Unit {0}) (Result B E)) (s : Take (Map (Filter S P) F)) (trace : List (Answered B E)) (t : Take (Map (Filter S P) F)) : Type 0 where
   pub source_trace : List (Answered X E)
   pub kept : List (Answered X E)
@@ -42,7 +42,7 @@ pub record TakeMapFilterTrace {S P F X B E : Type 0} (steps : S → Answered X E
   pub maps : MapTrace first_of closure (kept, (map_of s).1) mapped ([], (map_of t).1)
   pub takes : TakeTrace first_of (mapped, take_to_take s) trace ([], take_to_take t)
 
--- A `Take` of a borrowed `Convert`: the calls of the std iterator gave a list, place by place, the definition of `Take` makes of that list the trace, and what is borrowed holds the std iterator after just those calls, behind the same reference.
+-- A `Take` of a borrowed `Convert`: the calls of the std iterator returned a list, position by position, the definition of `Take` makes of that list the trace, and what is borrowed holds the std iterator after just those calls, under the same reference.
 pub record TakeBorrowedTrace {S A E : Type 0} (can : S → Type 0) (gives : S → Option (Result A E) → S → Type 0) (remaining : S → Count) (s : Take (MutBor (Convert S))) (trace : List (Answered A E)) (t : Take (MutBor (Convert S))) : Type 0 where
   pub source_trace : List (Answered A E)
   pub drawn : ConvertTrace can gives remaining (convert_parts (take_source s).now) source_trace (convert_parts (take_source t).now)

@@ -5,15 +5,15 @@ use Rattle.std.specs.Borrow.{Bor}
 use Rattle.fallible_contract.specs.Lists.{on_value, rest_failed}
 
 module _ {F B A R : Type 0} (g : Shared F (B × (A × Unit {0})) R) (f : F) where
-  -- The closure f answers h b x on a value b and each item x of which p is true.
+  -- The closure f returns h b x for a value b and each item x of which p is true.
   abbrev pub FoldsAs : (A → Bool) → (B → A → R) → Type 0
   FoldsAs p h = (b : B) (x : A) (r : R) → p x ≡ true → FnReturns g f (b, (x, tt)) r → r ≡ h b x
 
-  -- It may be called on any value and each item of which P holds.
+  -- The closure may be called on any value and each item of which P holds.
   abbrev pub IsFolding : (A → Type 0) → Type 0
   IsFolding P = (b : B) (x : A) → P x → g.pre f (b, (x, tt))
 
--- the item may come, and the test may answer true on it
+-- the item may come, and the test may return true for it
 abbrev pub MayTake : {F A : Type 0} → Shared F (Bor A × Unit {0}) Bool → F → (A → Type 0) → A → Type 0
 MayTake g test P x = P x × FnReturnsAt g test x true
 
@@ -30,7 +30,7 @@ folded_if p h b [] = Ok b
 folded_if p h b (Ok x ∷ l) = by_test (p x) (on_value (h b x) (λ c. folded_if p h c l)) (Ok b)
 folded_if p h b (Err e ∷ l) = Err e
 
--- what it leaves: the list from the first item x on for which p x is false; or what stands behind the first item on which h, called on the value so far and that item, fails, or behind the failure of the list that comes first
+-- what `fold_if` leaves: the list from the first item x on for which p x is false; or what comes after the first item on which h, called on the value so far and that item, fails, or after the failure of the list that comes first
 unfoldable pub rest_fold_if : {A B E : Type 0} → (A → Bool) → (B → A → Result B E) → B → List (Result A E) → List (Result A E)
 rest_fold_if p h b [] = []
 rest_fold_if p h b (Ok x ∷ l) = by_test (p x) (rest_failed (h b x) l (λ c. rest_fold_if p h c l)) (Ok x ∷ l)

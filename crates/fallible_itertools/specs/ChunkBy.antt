@@ -1,4 +1,4 @@
--- `ChunkBy`, which gives groups of adjacent items of one key.
+-- `ChunkBy`, which yields groups of adjacent items with equal keys.
 use Rattle.std.specs.Prelude.{◌≡◌, ℕ, Bool, true, false, Option, Some, None, Result, Ok, Err, List, [], ◌∷◌, ◌++◌, vec_items}
 use Rattle.std.specs.Fn.{Mut}
 use Rattle.std.specs.Borrow.{Bor}
@@ -19,13 +19,13 @@ abbrev pub Group : Type 0 → Type 0 → Type 0
 Group K A = K × Vec A Global
 
 module _ {A K E : Type 0} where
-  -- a stop gives the group that is held
+  -- a stop yields the group that is held
   abbrev pub group_at_stop : Option (Group K A) → Outcome (Group K A) E → Option (Group K A) → Type 0
   group_at_stop None o q = (o ≡ End) × (q ≡ None)
   group_at_stop (Some g) o q = (o ≡ Kept g) × (q ≡ None)
 
 module _ {A K E : Type 0} (from : AllocError → E → Type 0) where
-  -- An item of the key k becomes the first of a group, and the one that was held is answered, if there was one. Where memory is refused the item is lost, and the group stays held.
+  -- An item of the key k becomes the first of a group, and the one that was held is yielded, if there was one. If an allocation fails the item is lost, and the group stays held.
   abbrev pub group_begun : Option (Group K A) → A → K → Outcome (Group K A) E → Option (Group K A) → Type 0
   group_begun None x k (Kept y) q = ⊥
   group_begun (Some g) x k (Kept y) q = (y ≡ g) × ((w : Vec A Global) × Grown None x w × (q ≡ Some (k, w)))
@@ -34,7 +34,7 @@ module _ {A K E : Type 0} (from : AllocError → E → Type 0) where
   group_begun g x k (Failure e) q = IsRefusal from e × (q ≡ g)
   group_begun g x k End q = ⊥
 
-  -- An item of the key of the group that is held is put behind its items. Where memory is refused the item is lost, and the others stay held.
+  -- An item of the key of the group that is held is put after its items. If an allocation fails the item is lost, and the others stay held.
   abbrev pub group_grown : Group K A → A → Outcome (Group K A) E → Option (Group K A) → Type 0
   group_grown g x (Kept y) q = ⊥
   group_grown g x LeftOut q = (w : Vec A Global) × Grown (Some g.1) x w × (q ≡ Some (g.0, w))
@@ -47,7 +47,7 @@ module _ {A K E : Type 0} (from : AllocError → E → Type 0) where
   group_at g x k false o q = group_begun (Some g) x k o q
 
   module _ (eq : K → K → Bool) where
-    -- what becomes of an item by its key, which is compared to that of the group that is held; where the key's closure failed, that is a stop, the item is lost, and the group stays held before it
+    -- what becomes of an item by its key, which is compared to that of the group that is held; if the key's closure failed, that is a stop, the item is lost, and the group stays held before it
     abbrev pub group_by : Option (Group K A) → A → Result K E → Outcome (Group K A) E → Option (Group K A) → Type 0
     group_by None x (Ok k) o q = group_begun None x k o q
     group_by (Some g) x (Ok k) o q = group_at g x k (eq g.0 k) o q
@@ -59,11 +59,11 @@ module _ {A K E : Type 0} (from : AllocError → E → Type 0) where
       chunk_by_asks p (Some x) o q = (v : Result K E) × call_at g p.0 x v q.0 × group_by p.1 x v o q.1
       chunk_by_asks p None o q = (q.0 ≡ p.0) × group_at_stop p.1 o q.1
 
-      -- `ChunkBy`: the items in groups, each where the next key differs or a stop stands. The closure's failure and a refused request are stops.
+      -- `ChunkBy`: the items in groups, each where the next key differs or a stop stands. The closure's failure and a failed allocation are stops.
       abbrev pub ChunkByTrace : {S : Type 0} → (S → Answered A E → S → Type 0) → S × ((F × Option (Group K A)) × Option (Option E)) → List (Answered (Group K A) E) → S × ((F × Option (Group K A)) × Option (Option E)) → Type 0
       ChunkByTrace steps p trace q = HoldingTrace steps chunk_by_asks p trace q
 
--- the closure may be called on an item that is asked of
+-- the closure may be called on the item
 abbrev pub key_takes : {F A K E : Type 0} → Mut F (Bor A × Unit {0}) (Result K E) → F × Option (Group K A) → Option A → Type 0
 key_takes g p asked = OrStop (takes_at g p.0) asked
 
@@ -89,7 +89,7 @@ module _ {A K E : Type 0} (eq : K → K → Bool) (h : A → Result K E) where
   by_its_key None (Err e) keyed lost = Err e ∷ lost
   by_its_key (Some g) (Err e) keyed lost = Ok g ∷ Err e ∷ lost
 
-  -- the same as `chunked_by`, where the group of a key with its items may be held before the list
+  -- what `chunked_by` makes of the list, if the group of a key with its items is held before it, or none is
   unfoldable pub chunked_by_from : Option (K × List A) → List (Result A E) → List (Result (K × List A) E)
   chunked_by_from None [] = []
   chunked_by_from (Some g) [] = Ok g ∷ []
@@ -98,7 +98,7 @@ module _ {A K E : Type 0} (eq : K → K → Bool) (h : A → Result K E) where
   chunked_by_from None (Err e ∷ l) = Err e ∷ chunked_by_from None l
   chunked_by_from (Some g) (Err e ∷ l) = Ok g ∷ Err e ∷ chunked_by_from None l
 
-  -- the adjacent items of one key, as h makes them, each group with its key; before a failure of the list or of h comes the group that is held, so a failure parts groups
+  -- the adjacent items with equal keys, as h makes them, each group with its key; before a failure of the list or of h comes the group that is held, so a failure parts groups
   unfoldable pub chunked_by : List (Result A E) → List (Result (K × List A) E)
   chunked_by l = chunked_by_from None l
 

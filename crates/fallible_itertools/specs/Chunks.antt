@@ -1,4 +1,4 @@
--- `Chunks`, which gives batches of n items.
+-- `Chunks`, which yields batches of n items.
 use Rattle.std.specs.Prelude.{◌≡◌, ℕ, ◌+◌, ◌-◌, ◌/◌, ◌<◌, ◌≤◌, max, cond, leb, Bool, true, false, Option, Some, None, Result, Ok, Err, List, [], ◌∷◌, ◌++◌, length, ltb, ⊤, vec_items}
 use Rattle.fallible_iterator.specs.Traces.{Answered}
 use Rattle.fallible_iterator.specs.Contract.{Contract}
@@ -12,7 +12,7 @@ use Rattle.std.specs.declared.alloc.Global.{Global}
 use Rattle.std.specs.declared.alloc.AllocError.{AllocError}
 use Rattle.fallible_itertools.specs.declared.chunks.Chunks.{Chunks}
 
--- the batch is answered, or held where it has fewer items than the size
+-- the batch is yielded, or held if it has fewer items than the size
 abbrev pub Settles : {A E : Type 0} → Vec A Global → ℕ × Option (Vec A Global) → Outcome (Vec A Global) E → ℕ × Option (Vec A Global) → Type 0
 Settles w p (Kept y) q = (y ≡ w) × (p.0 ≤ length (vec_items w)) × (q ≡ p)
 Settles w p LeftOut q = (length (vec_items w) < p.0) × (q ≡ (p.0, Some w))
@@ -20,7 +20,7 @@ Settles w p (Failure e) q = ⊥
 Settles w p End q = ⊥
 
 module _ {A E : Type 0} (from : AllocError → E → Type 0) where
-  -- A batch is held until it has n items or a stop comes: an item is put behind those that are held, and the batch that has n then is answered. A stop gives the batch that is held. Where memory is refused the item is lost, and that is a stop.
+  -- A batch is held until it has n items or a stop comes: an item is put after those that are held, and the batch that has n then is yielded. A stop yields the batch that is held. If an allocation fails the item is lost, and that is a stop.
   abbrev pub chunks_asks : ℕ × Option (Vec A Global) → Option A → Outcome (Vec A Global) E → ℕ × Option (Vec A Global) → Type 0
   chunks_asks p (Some x) (Kept w) q = Grown p.1 x w × (p.0 ≤ length (vec_items w)) × (q ≡ (p.0, None))
   chunks_asks p (Some x) LeftOut q = (w : Vec A Global) × Grown p.1 x w × (length (vec_items w) < p.0) × (q ≡ (p.0, Some w))
@@ -31,7 +31,7 @@ module _ {A E : Type 0} (from : AllocError → E → Type 0) where
   chunks_asks p None (Failure e) q = ⊥
   chunks_asks p None End q = (p.1 ≡ None) × (q ≡ p)
 
-  -- `Chunks`: the items in batches, each where its last item stands or a stop. A refused request is a stop.
+  -- `Chunks`: the items in batches, each where its last item stands or a stop. A failed allocation is a stop.
   abbrev pub ChunksTrace : {S : Type 0} → (S → Answered A E → S → Type 0) → S × ((ℕ × Option (Vec A Global)) × Option (Option E)) → List (Answered (Vec A Global) E) → S × ((ℕ × Option (Vec A Global)) × Option (Option E)) → Type 0
   ChunksTrace steps p trace q = HoldingTrace steps chunks_asks p trace q
 
@@ -39,7 +39,7 @@ module _ {A E : Type 0} (from : AllocError → E → Type 0) where
 abbrev pub batch_held : {A : Type 0} → ℕ × Option (Vec A Global) → ℕ
 batch_held p = held_one p.1
 
--- how many items the batch that is held takes yet, of which the next one is in any case one; none where none is held
+-- how many items the batch that is held takes yet, of which the next one is in any case one; none if none is held
 abbrev pub room_left : {A : Type 0} → ℕ → Option (Vec A Global) → ℕ
 room_left n None = 0
 room_left n (Some v) = max 1 (n - length (vec_items v))
@@ -48,12 +48,12 @@ room_left n (Some v) = max 1 (n - length (vec_items v))
 abbrev pub begun : ℕ → ℕ → ℕ → ℕ
 begun n room k = cond (leb k room) 0 (1 + (k - 1 - room) / max n 1)
 
--- At least the batch that is held and those that the source's items begin, and at most the one that is held and as many as the source has items, where that fits. None where a stop is due.
+-- At least the batch that is held and those that the source's items begin, and at most the one that is held and as many as the source has items, if that fits. None if a stop is due.
 abbrev pub chunks_hints : {S A E : Type 0} → Contract S A E → S × ((ℕ × Option (Vec A Global)) × Option (Option E)) → ℕ × Option ℕ → Type 0
 chunks_hints m (s, (p, Some stop)) h = h ≡ (0, Some 0)
 chunks_hints m (s, (p, None)) h = (k : ℕ × Option ℕ) × m.hints s k × (h.0 ≡ held_one p.1 + begun p.0 (room_left p.0 p.1) k.0) × (h.1 ≡ fitting_sum k.1 (Some (held_one p.1)))
 
--- `Chunks`' contract. It asks no bound of the source: one draw leaves out fewer items than a batch has.
+-- `Chunks`' contract. It requires no bound of the source: one draw leaves out fewer items than a batch has.
 abbrev pub chunks_contract : {S A E : Type 0} → (AllocError → E → Type 0) → Contract S A E → Contract (S × ((ℕ × Option (Vec A Global)) × Option (Option E))) (Vec A Global) E
 chunks_contract from m = filling_contract m (chunks_asks from) (λ p x. ⊤) batch_held (chunks_hints m)
 
@@ -70,7 +70,7 @@ module _ {A E : Type 0} where
   batch_or xs true more other = more
   batch_or xs false more other = Ok xs ∷ other
 
-  -- the batches of n items, where the items xs are held before the list
+  -- what `chunked n` makes of the list, if the items xs are held before it
   unfoldable pub chunked_from : ℕ → List A → List (Result A E) → List (Result (List A) E)
   chunked_from n xs [] = short_batch xs []
   chunked_from n xs (Ok x ∷ l) = batch_or (xs ++ x ∷ []) (ltb (length (xs ++ x ∷ [])) n) (chunked_from n (xs ++ x ∷ []) l) (chunked_from n [] l)

@@ -41,7 +41,7 @@ module _ {A B E C : Type 0} (turns : C → A × B → ControlFlow (Result (Optio
   LastTurnRound c (Ok (Some x)) (Some (Ok None)) r = r ≡ Ok (Some Greater)
   LastTurnRound c (Ok (Some x)) (Some (Ok (Some y))) r = (d : C) × turns c (x, y) (Break r) d
 
-  -- Both sides answered pairs of items, on which the turns went on, one by one; then came the last round, which decided.
+  -- Both sides yielded pairs of items, on which the turns went on, one by one; then came the last round, which decided.
   pub record ComparedBy {S T : Type 0} (left-steps : S → Answered A E → S → Type 0) (right-steps : T → Answered B E → T → Type 0) (s : S) (t : T) (c : C) (r : Result (Option Ordering) E) : Type 0 where
     pub pairs : List (A × B)
     pub state : C
@@ -54,7 +54,7 @@ module _ {A B E C : Type 0} (turns : C → A × B → ControlFlow (Result (Optio
     pub right_ran : Run right-steps t (map item (map (λ p. p.1) pairs) ++ where_drawn last_right) right
     pub exit : LastTurnRound state last_left last_right r
 
-  -- The value given became an iterator, as `into` allows, and the comparison with that one answered so.
+  -- The other value became an iterator, as `into` allows, and the comparison with that one returned so.
   pub record ComparedByWith {S O T : Type 0} (into : O → T → Type 0) (left-steps : S → Answered A E → S → Type 0) (right-steps : T → Answered B E → T → Type 0) (s : S) (other : O) (c : C) (r : Result (Option Ordering) E) : Type 0 where
     pub right : T
     pub made : into other right
@@ -70,7 +70,7 @@ compared_by h (Ok x ∷ a) [] = Ok (Some Greater)
 compared_by h (Ok x ∷ a) (Ok y ∷ b) = on_value (h x y) (λ o. unless_equal o (compared_by h a b))
 compared_by h (Ok x ∷ a) (Err e ∷ b) = Err e
 
--- how two lists compare by the orders that h answers on two items; there is always one
+-- how two lists compare by the orders that h returns for two items; there is always one
 unfoldable pub ordered_by : {A B E : Type 0} → (A → B → Result Ordering E) → List (Result A E) → List (Result B E) → Result (Option Ordering) E
 ordered_by h a b = compared_by (λ x y. read_as (λ o. Some o) (h x y)) a b
 

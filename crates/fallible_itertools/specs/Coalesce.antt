@@ -9,11 +9,11 @@ use Rattle.fallible_iterator.specs.Outcome.{Outcome}
 use Rattle.fallible_iterator.specs.Outcome.TheVariants.{Kept, LeftOut, Failure, End}
 use Rattle.fallible_itertools.specs.declared.coalesce.Coalesce.{Coalesce}
 
--- what a closure answers on two items: one to go on in their place, or two that stay apart; or a failure
+-- what a closure returns for two items: one to go on in their place, or two that stay apart; or a failure
 abbrev pub OneOrBoth : Type 0 → Type 0 → Type 0
 OneOrBoth A E = Result (Result A (A × A)) E
 
--- What becomes of two items by the closure's answer: one item that it makes of both is held in their place; of two the first is answered and the second held; where it fails, both are lost.
+-- What becomes of two items by the closure's result: one item that it makes of both is held in their place; of two the first is yielded and the second held; if it fails, both are lost.
 abbrev pub coalesced_by : {A E : Type 0} → OneOrBoth A E → Outcome A E → Option A → Type 0
 coalesced_by (Ok (Ok z)) o q = (o ≡ LeftOut) × (q ≡ Some z)
 coalesced_by (Ok (Err both)) o q = (o ≡ Kept both.0) × (q ≡ Some both.1)
@@ -69,7 +69,7 @@ coalesced_at (Ok (Ok z)) rest = rest (Some z)
 coalesced_at (Ok (Err both)) rest = Ok both.0 ∷ rest (Some both.1)
 coalesced_at (Err e) rest = Err e ∷ rest None
 
--- the same as `coalesced`, where an item may be held before the list
+-- what `coalesced` makes of the list, if an item is held before it, or none is
 unfoldable pub coalesced_from : {A E : Type 0} → (A → A → OneOrBoth A E) → Option A → List (Result A E) → List (Result A E)
 coalesced_from h None [] = []
 coalesced_from h (Some y) [] = Ok y ∷ []

@@ -33,16 +33,16 @@ abbrev pub stops_by : {V E' : Type 0} → (V → Bool) → Result V E' → Bool
 stops_by stops (Ok v) = stops v
 stops_by stops (Err e) = true
 
--- what stands behind the first item x where h x is an answer that stops, or a failure; or behind the failure of the list that comes first
+-- what comes after the first item x for which h x stops, or is a failure; or after the failure of the list that comes first
 unfoldable pub rest_try_stop : {A V E E' : Type 0} → (V → Bool) → (A → Result V E') → List (Result A E) → List (Result A E)
 rest_try_stop stops h [] = []
 rest_try_stop stops h (Ok x ∷ l) = stopped_or (stops_by stops (h x)) l (rest_try_stop stops h l)
 rest_try_stop stops h (Err e ∷ l) = l
 
--- what `try_for_each` leaves: what stands behind the first item on which h fails, or behind the failure of the list that comes first
+-- what `try_for_each` leaves: what comes after the first item on which h fails, or after the failure of the list that comes first
 unfoldable pub rest_try_each : {A E E' : Type 0} → (A → Result (Unit {0}) E') → List (Result A E) → List (Result A E)
 rest_try_each h l = rest_try_stop (λ u. false) h l
 
--- what `try_find` and `try_position` leave: what stands behind the first item x for which h x is true or fails, or behind the failure of the list that comes first
+-- what `try_find` and `try_position` leave: what comes after the first item x for which h x is true or fails, or after the failure of the list that comes first
 unfoldable pub rest_try_true : {A E E' : Type 0} → (A → Result Bool E') → List (Result A E) → List (Result A E)
 rest_try_true h l = rest_try_stop (λ v. v) h l

@@ -8,7 +8,7 @@ use Rattle.fallible_iterator.specs.Outcome.{Outcome}
 use Rattle.fallible_iterator.specs.Outcome.TheVariants.{Kept}
 use Rattle.fallible_itertools.specs.declared.copied.Copied.{Copied}
 
--- An item becomes the value that it points to; nothing is asked of a closure.
+-- An item becomes the value that it points to; no closure is called.
 abbrev pub copied_outcome : {T E : Type 0} → Bor T → Unit {0} → Outcome T E
 copied_outcome x u = Kept x.now
 
@@ -20,7 +20,7 @@ copied_call u x v w = ⊤
 abbrev pub CopiedTrace : {S T E : Type 0} → (S → Answered (Bor T) E → S → Type 0) → S × Unit {0} → List (Answered T E) → S × Unit {0} → Type 0
 CopiedTrace steps p trace q = PassTrace steps copied_call copied_outcome p trace q
 
--- It asks nothing more than the source, and has the source's hint.
+-- `Copied`'s contract. It requires nothing more than the source, and has the source's hint.
 abbrev pub copied_contract : {S T E : Type 0} → Contract S (Bor T) E → Contract (S × Unit {0}) T E
 copied_contract m = passing_contract m copied_call (λ P u. ⊤) copied_outcome (λ p h. m.hints p.0 h)
 

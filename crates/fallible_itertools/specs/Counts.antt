@@ -23,7 +23,7 @@ pub record IsCountsOf {K S : Type 0} (eq : K → K → Bool) (items : List K) (m
   pub counted : (k : K) → get eq m k ≡ times eq items k
   pub first : FirstStays eq items (get_key eq m)
 
--- The same, where the numbers go round; and the map is made of pairs with these items.
+-- The map holds how often each item was pushed, where the numbers wrap; and the map is made of pairs with these items.
 pub record IsTally {K S : Type 0} (eq : K → K → Bool) (items : List K) (m : HashMap K ℕ S) : Type 0 where
   pub pairs : List (K × ℕ)
   pub are : map (λ p. p.0) pairs ≡ items

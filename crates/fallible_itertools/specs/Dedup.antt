@@ -1,4 +1,4 @@
--- `Dedup`, which gives of adjacent equal items the first.
+-- `Dedup`, which yields the first of adjacent equal items.
 use Rattle.std.specs.Prelude.{◌≡◌, Bool, true, false, Option, Some, None, Result, Ok, Err, List, [], ◌∷◌, ⊤}
 use Rattle.fallible_iterator.specs.Traces.{Answered}
 use Rattle.fallible_iterator.specs.Contract.{Contract}
@@ -8,7 +8,7 @@ use Rattle.fallible_iterator.specs.Outcome.TheVariants.{Kept, LeftOut, End}
 use Rattle.fallible_itertools.specs.declared.dedup.Dedup.{Dedup}
 
 module _ {A : Type 0} (eq : A → A → Bool) where
-  -- an item y that is held, asked of an item x: x is left out where it equals y, and else y is answered and x is held
+  -- an item y is held and x comes: x is left out if it equals y, and otherwise y is yielded and x is held
   abbrev pub dedup_at : {E : Type 0} → A → A → Bool → Outcome A E → Option A → Type 0
   dedup_at y x true o q = (o ≡ LeftOut) × (q ≡ Some y)
   dedup_at y x false o q = (o ≡ Kept y) × (q ≡ Some x)

@@ -1,4 +1,4 @@
--- `DedupByKey`, which gives of adjacent items with equal keys the first.
+-- `DedupByKey`, which yields the first of adjacent items with equal keys.
 use Rattle.std.specs.Prelude.{◌≡◌, Bool, true, false, Option, Some, None, Result, Ok, Err, List, [], ◌∷◌, ⊤}
 use Rattle.std.specs.Fn.{Mut}
 use Rattle.std.specs.Borrow.{Bor}
@@ -16,7 +16,7 @@ module _ {A K : Type 0} (eq : K → K → Bool) where
   keyed_at held this true o q = (o ≡ LeftOut) × (q ≡ Some held)
   keyed_at held this false o q = (o ≡ Kept held.1) × (q ≡ Some this)
 
-  -- What becomes of an item by its key: it is left out where the key equals the one that is held, and else held in its place; an item that has no key, since the closure failed, is lost, and nothing else is.
+  -- What becomes of an item by its key: it is left out if the key equals the one that is held, and otherwise held in its place; an item that has no key, since the closure failed, is lost, and nothing else is.
   abbrev pub keyed_by : {E : Type 0} → Option (K × A) → A → Result K E → Outcome A E → Option (K × A) → Type 0
   keyed_by held x (Err e) o q = (o ≡ Failure e) × (q ≡ held)
   keyed_by None x (Ok k) o q = (o ≡ LeftOut) × (q ≡ Some (k, x))
@@ -47,7 +47,7 @@ module _ {A K : Type 0} (eq : K → K → Bool) where
   key_at None x (Ok k) rest = rest (Some (k, x))
   key_at (Some held) x (Ok k) rest = key_before held (eq held.0 k) (rest (Some held)) (rest (Some (k, x)))
 
-  -- the same as `deduped_by_key`, where an item with its key may be held before the list
+  -- what `deduped_by_key` makes of the list, if an item with its key is held before it, or none is
   unfoldable pub deduped_key_from : {E : Type 0} → (A → Result K E) → Option (K × A) → List (Result A E) → List (Result A E)
   deduped_key_from h None [] = []
   deduped_key_from h (Some held) [] = Ok held.1 ∷ []

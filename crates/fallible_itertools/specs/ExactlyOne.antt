@@ -5,7 +5,7 @@ use Rattle.fallible_iterator.specs.Folds.{Drained}
 use Rattle.fallible_itertools.specs.declared.exactly_one.NotOne.{NotOne}
 use Rattle.fallible_itertools.specs.declared.exactly_one.NotOne.TheVariants.{NoItem, More}
 
--- The answer by the items that came and the last answer: at an end the one item, if one came; two items are handed back; or the failure.
+-- The result by the items that came and the last answer: at an end the one item, if one came; two items; or the failure.
 abbrev pub AtMostOneExit : {A E : Type 0} → List A → Answered A E → Result (Result (Option A) (A × A)) E → Type 0
 AtMostOneExit [] (Ok None) r = r ≡ Ok (Ok None)
 AtMostOneExit [] (Ok (Some x)) r = ⊥
@@ -18,7 +18,7 @@ AtMostOneExit (x ∷ y ∷ items) last r = ⊥
 pub record AtMostOneBy {A E : Type 0} (r : Result (Result (Option A) (A × A)) E) (items : List A) (last : Answered A E) : Type 0 where
   pub exit : AtMostOneExit items last r
 
--- At most two draws from s, up to an end, a failure or the second item, answered r and left t.
+-- At most two draws from s, up to an end, a failure or the second item, returned r and left t.
 abbrev pub AtMostOne : {S A E : Type 0} → (S → Answered A E → S → Type 0) → S → Result (Result (Option A) (A × A)) E → S → Type 0
 AtMostOne steps s r t = Drained steps (AtMostOneBy r) s t
 
@@ -30,7 +30,7 @@ at_most_one_of (Ok x ∷ []) = Ok (Ok (Some x))
 at_most_one_of (Ok x ∷ Ok y ∷ l) = Ok (Err (x, y))
 at_most_one_of (Ok x ∷ Err e ∷ l) = Err e
 
--- the same where one item is wanted, and none is as wrong as two
+-- the only item, if there is one; a `NotOne` if there is none or there are two; or the failure
 abbrev pub wanting_one : {A E : Type 0} → Result (Result (Option A) (A × A)) E → Result (Result A (NotOne A)) E
 wanting_one (Ok (Ok (Some x))) = Ok (Ok x)
 wanting_one (Ok (Ok None)) = Ok (Err NoItem)

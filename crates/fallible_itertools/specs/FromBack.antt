@@ -1,4 +1,4 @@
--- What searches from the back answer and leave.
+-- What searches from the back return and leave.
 use Rattle.std.specs.Prelude.{◌≡◌, ℕ, List, [], ◌∷◌, reverse, Bool, true, false, cond, Option, Some, None, Result, Ok, Err}
 use Rattle.fallible_iterator.specs.Traces.{Answered}
 use Rattle.fallible_iterator.specs.Folds.{CountedBy, Drained}
@@ -6,13 +6,13 @@ use Rattle.fallible_iterator.specs.Searching.{Searched, any_pick}
 use Rattle.fallible_iterator.specs.Comparing.{read_as}
 use Rattle.fallible_iterator.specs.Lists.{on_value, any_of, counted, rest_true}
 
--- Where the search was true of an item, what is left is counted: the answer is the number, or the failure. Else nothing more is drawn.
+-- If the search was true of an item, what is left is counted: the result is the number, or the failure. Otherwise nothing more is drawn.
 abbrev pub CountedWhere : {S A E : Type 0} → (S → Answered A E → S → Type 0) → Result Bool E → S → Result (Option ℕ) E → S → Type 0
 CountedWhere {E = E} steps (Ok true) s r t = (n : Result ℕ E) × Drained steps (CountedBy n) s t × (r ≡ read_as (λ k. Some k) n)
 CountedWhere steps (Ok false) s r t = (r ≡ Ok None) × (t ≡ s)
 CountedWhere steps (Err e) s r t = (r ≡ Err e) × (t ≡ s)
 
--- The predicate was asked of the items from the back, up to the first of which it is true. Then what was left was counted from the front.
+-- The predicate was called on the items from the back, up to the first for which it is true. Then what was left was counted from the front.
 pub record PlacedFromBack {S A E F : Type 0} (front back : S → Answered A E → S → Type 0) (call : F → A → Result Bool E → F → Type 0) (s : S) (f : F) (r : Result (Option ℕ) E) (t : S) : Type 0 where
   pub found : Result Bool E
   pub closure : F
@@ -24,7 +24,7 @@ pub record PlacedFromBack {S A E F : Type 0} (front back : S → Answered A E �
 unfoldable pub before_last_true : {A E : Type 0} → (A → Result Bool E) → List (Result A E) → List (Result A E)
 before_last_true h l = reverse (rest_true h (reverse l))
 
--- what stands behind the first failure; nothing where there is none
+-- what comes after the first failure; nothing if there is none
 unfoldable pub rest_failure : {A E : Type 0} → List (Result A E) → List (Result A E)
 rest_failure [] = []
 rest_failure (Ok x ∷ l) = rest_failure l
@@ -40,6 +40,6 @@ rest_where (Ok true) l = rest_failure l
 rest_where (Ok false) l = l
 rest_where (Err e) l = l
 
--- what `rposition` leaves: what stands before the failure that comes first from the back; or, where h x is true of an item x, what stands before the last such item and behind the first failure there
+-- what `rposition` leaves: what stands before the failure that comes first from the back; or, if h x is true of an item x, what stands before the last such item and after the first failure there
 unfoldable pub rest_position : {A E : Type 0} → (A → Result Bool E) → List (Result A E) → List (Result A E)
 rest_position h l = rest_where (any_of h (reverse l)) (before_last_true h l)

@@ -1,4 +1,4 @@
--- Adapters that hold what they drew until a later item or a stop decides what becomes of it. What is held is given first: a stop that was met then, an end or a failure, is due, and is the next answer.
+-- Adapters that hold what they drew until a later item or a stop decides what becomes of it. What is held is yielded first: a stop that was met then, an end or a failure, is due, and is the next answer.
 use Rattle.std.specs.Prelude.{◌≡◌, ℕ, ◌+◌, ◌≤◌, ◌<◌, ◌⊎◌, min, ⊤, Option, Some, None, Ok, Err, List, [], ◌∷◌, ◌++◌, length, map}
 use Rattle.std.specs.Iterator.{count_map}
 use Rattle.std.specs.List.{FoldsTo, flat_map}
@@ -22,14 +22,14 @@ abbrev pub due_answer : {B E : Type 0} → Option (Option E) → List (Answered 
 due_answer None = []
 due_answer (Some stop) = stop_answer stop ∷ []
 
--- `asks p asked o q`: the adapter holds p, and is asked of an item, `Some x`, or of a stop, `None`; it answers o, and holds q then. Of an item:
+-- `asks p asked o q`: the adapter holds p, and is called on an item, `Some x`, or on a stop, `None`; it returns o, and holds q then. Of an item:
 abbrev pub asks_item : {P X B E : Type 0} → (P → Option X → Outcome B E → P → Type 0) → P → X → Outcome B E → P → Type 0
 asks_item asks p x o q = asks p (Some x) o q
 
 abbrev pub as_answered_item : {X B E : Type 0} → X → Outcome B E → Outcome B E
 as_answered_item x o = o
 
--- What is answered at a stop, and which stop is due then: what is held, before the stop, or the stop where nothing is given.
+-- What is returned at a stop, and which stop is due then: what is held, before the stop, or the stop if nothing is yielded.
 abbrev pub BeforeStop : {B E : Type 0} → Option E → Outcome B E → Answered B E → Option (Option E) → Type 0
 BeforeStop stop (Kept y) r due = (r ≡ Ok (Some y)) × (due ≡ Some stop)
 BeforeStop stop (Failure e) r due = (r ≡ Err e) × (due ≡ Some stop)
@@ -37,18 +37,18 @@ BeforeStop stop End r due = (r ≡ stop_answer stop) × (due ≡ None)
 BeforeStop stop LeftOut r due = ⊥
 
 module _ {P X B E : Type 0} (asks : P → Option X → Outcome B E → P → Type 0) where
-  -- at a stop the adapter is asked of it
+  -- at a stop the adapter is called on it
   abbrev pub AtStop : P → Option E → Answered B E → P × Option (Option E) → Type 0
   AtStop h stop r q = (o : Outcome B E) × asks h None o q.0 × BeforeStop stop o r q.1
 
-  -- What is answered where z is what the source's next answers made: an item as it is, and before a stop what is held.
+  -- What is returned if z is what the source's next answers made: an item as it is, and before a stop what is held.
   abbrev pub Behind : P → Answered B E → Answered B E → P × Option (Option E) → Type 0
   Behind h (Ok (Some y)) r q = (r ≡ Ok (Some y)) × (q ≡ (h, None))
   Behind h (Ok None) r q = AtStop h None r q
   Behind h (Err e) r q = AtStop h (Some e) r q
 
   module _ {S : Type 0} (steps : S → Answered X E → S → Type 0) where
-    -- one answer where no stop is due: the source is drawn up to an item that is answered, or a stop
+    -- one answer if no stop is due: the source is drawn up to an item that is yielded, or a stop
     abbrev pub Draws : S → P → Answered B E → S → P × Option (Option E) → Type 0
     Draws s p r t q = (h : P) × (z : Answered B E) × passing_step steps (asks_item asks) as_answered_item (s, p) z (t, h) × Behind h z r q
 
@@ -67,11 +67,11 @@ StopMade stop End made = made ≡ stop_answer stop ∷ []
 StopMade stop LeftOut made = ⊥
 
 module _ {P X B E : Type 0} (asks : P → Option X → Outcome B E → P → Type 0) where
-  -- the answers that a stop makes, where p is held before it and q behind it
+  -- the answers that a stop makes, if p is held before it and q after it
   abbrev pub MadeOfStop : Option E → P → List (Answered B E) → P → Type 0
   MadeOfStop stop p made q = (o : Outcome B E) × asks p None o q × StopMade stop o made
 
-  -- the answers that an item makes by what was answered of it, where h is held then: what the closure failed with is a stop
+  -- the answers that an item makes by what was returned for it, if h is held then: what the closure failed with is a stop
   abbrev pub MadeOfItem : Outcome B E → P → List (Answered B E) → P → Type 0
   MadeOfItem (Kept y) h made q = (made ≡ Ok (Some y) ∷ []) × (q ≡ h)
   MadeOfItem LeftOut h made q = (made ≡ []) × (q ≡ h)
@@ -90,7 +90,7 @@ LastMade n [] = ⊤
 LastMade n (d ∷ []) = n < length d.1
 LastMade n (d ∷ next ∷ rest) = LastMade n (next ∷ rest)
 
--- The trace of such an adapter: the stop that was due before it, and what each draw made; without the stop that is due behind it. The last draw made an answer of the trace.
+-- The trace of an adapter that holds: the stop that was due before it, and what each draw made; without the stop that is due after it. The last draw made an answer of the trace.
 pub record HoldingTrace {S P X B E : Type 0} (steps : S → Answered X E → S → Type 0) (asks : P → Option X → Outcome B E → P → Type 0) (p : S × (P × Option (Option E))) (trace : List (Answered B E)) (q : S × (P × Option (Option E))) : Type 0 where
   pub draws : List (Answered X E × List (Answered B E))
   pub drawn : Run steps p.0 (map (λ d. d.0) draws) q.0
@@ -98,7 +98,7 @@ pub record HoldingTrace {S P X B E : Type 0} (steps : S → Answered X E → S �
   pub answers : due_answer p.1.1 ++ flat_map (λ d. d.1) draws ≡ trace ++ due_answer q.1.1
   pub last : LastMade (length (due_answer {B = B} {E = E} q.1.1)) draws
 
--- How many answers are held, before and after it was asked: an item makes at most one more, none where something was answered, and no end; at a stop what is answered was held, and nothing is left out.
+-- How many answers are held, before and after the adapter was called: an item makes at most one more, none if something was returned, and no end; at a stop what is returned was held, and nothing is left out.
 abbrev pub HeldAfter : {X B E : Type 0} → ℕ → Option X → Outcome B E → ℕ → Type 0
 HeldAfter before (Some x) (Kept y) after = after ≤ before
 HeldAfter before (Some x) LeftOut after = after ≤ before + 1
@@ -109,16 +109,16 @@ HeldAfter before None LeftOut after = ⊥
 HeldAfter before None (Failure e) after = after < before
 HeldAfter before None End after = after ≤ before
 
--- so it is whenever it was asked
+-- `HeldAfter` holds of each call of the adapter.
 abbrev pub Holds : {P X B E : Type 0} → (P → Option X → Outcome B E → P → Type 0) → (P → ℕ) → Type 0
 Holds {P = P} {X = X} {B = B} {E = E} asks held = (p : P) (asked : Option X) (o : Outcome B E) (q : P) → asks p asked o q → HeldAfter (held p) asked o (held q)
 
--- where an item is asked of, P holds of it
+-- P holds of the argument, if it is an item
 abbrev pub OrStop : {X : Type 0} → (X → Type 0) → Option X → Type 0
 OrStop P (Some x) = P x
 OrStop P None = ⊤
 
--- an item may be asked of where it may come, and a stop always
+-- the adapter may be called on an item that may come, and on a stop always
 abbrev pub MayBeAsked : {S X E : Type 0} → Contract S X E → S → Option X → Type 0
 MayBeAsked m s asked = OrStop (m.may_give s) asked
 
@@ -128,7 +128,7 @@ due_failures (Some (Some e)) = 1
 due_failures (Some None) = 0
 due_failures None = 0
 
--- The contract of such an adapter, which holds so many answers. It asks no bound of its source, so it serves one of which a draw leaves out a known number of items at most.
+-- The contract of an adapter that holds so many answers. It requires no bound of its source, so it serves one of which a draw leaves out a known number of items at most.
 abbrev pub filling_contract : {S P X B E : Type 0} → Contract S X E → (P → Option X → Outcome B E → P → Type 0) → (P → Option X → Type 0) → (P → ℕ) → (S × (P × Option (Option E)) → ℕ × Option ℕ → Type 0) → Contract (S × (P × Option (Option E))) B E
 filling_contract m asks pre held hints = record {
   can_next = λ p. m.can_next p.0 × IsCallable asks pre (MayBeAsked m p.0) p.1.0;
@@ -142,7 +142,7 @@ filling_contract m asks pre held hints = record {
   lenders = λ p. m.lenders p.0;
 }
 
--- That of one that may leave out many: it asks for a bound of the source besides.
+-- The contract of an adapter that holds and may leave out many items: it requires a bound of the source besides.
 abbrev pub holding_contract : {S P X B E : Type 0} → Contract S X E → (P → Option X → Outcome B E → P → Type 0) → (P → Option X → Type 0) → (P → ℕ) → (S × (P × Option (Option E)) → ℕ × Option ℕ → Type 0) → Contract (S × (P × Option (Option E))) B E
 holding_contract m asks pre held hints = record (filling_contract m asks pre held hints) { can_next = λ p. m.is_finite p.0 × m.can_next p.0 × IsCallable asks pre (MayBeAsked m p.0) p.1.0 }
 
@@ -166,7 +166,7 @@ abbrev pub held_one : {A : Type 0} → Option A → ℕ
 held_one (Some x) = 1
 held_one None = 0
 
--- the same beside a closure
+-- an answer that is held beside a closure, or none
 abbrev pub held_beside : {A F : Type 0} → Option A × F → ℕ
 held_beside p = held_one p.0
 
@@ -174,7 +174,7 @@ held_beside p = held_one p.0
 abbrev pub HintHeld : ℕ → ℕ × Option ℕ → ℕ × Option ℕ → Type 0
 HintHeld held k h = (h.0 ≡ min (k.0 + held) 1) × (h.1 ≡ fitting_sum k.1 (Some held))
 
--- The hint: none where a stop is due.
+-- The hint of an adapter that holds: none if a stop is due, and otherwise `HintHeld` of the source's.
 abbrev pub one_at_least : {S P X E : Type 0} → Contract S X E → (P → ℕ) → S × (P × Option (Option E)) → ℕ × Option ℕ → Type 0
 one_at_least m held (s, (p, Some stop)) h = h ≡ (0, Some 0)
 one_at_least m held (s, (p, None)) h = (k : ℕ × Option ℕ) × m.hints s k × HintHeld (held p) k h

@@ -11,14 +11,14 @@ use Rattle.std.specs.declared.ops.ControlFlow.TheVariants.{Continue, Break}
 use Rattle.fallible_itertools.specs.declared.intersperse.Intersperse.{Intersperse}
 
 module _ {A E : Type 0} (is_clone : A → A → Type 0) (is_infallible : A → Type 0) (from : AllocError → E → Type 0) where
-  -- what is answered before a later item: a clone of the separator, or the failure made of a refused one
+  -- what is returned before a later item: a clone of the separator, or the failure converted from its `AllocError`
   abbrev pub Separates : A → Answered A E → Type 0
   Separates separator (Ok (Some copy)) = is_clone separator copy
   Separates separator (Ok None) = ⊥
   Separates separator (Err e) = RefusedAs is_infallible from separator e
 
   module _ {S : Type 0} (steps : S → Answered A E → S → Type 0) (separator : A) where
-    -- What is answered where nothing is held, by what is drawn: for a failure and an end itself; for the first item itself; for each later item a clone of the separator, or the failure made of a refused one, and then the item itself. The last of the draws may have given a later item that isn't answered yet: it is held. Whether an item came, and what is held, stands beside the source.
+    -- What is returned if nothing is held, by what is drawn: for a failure and an end itself; for the first item itself; for each later item a clone of the separator, or the failure converted from its `AllocError`, and then the item itself. The last of the draws may have yielded a later item that isn't returned yet: it is held. Whether an item came, and what is held, stands beside the source.
     pub data Interspersed : S → Bool → List (Answered A E) → S → Bool × Option A → Type 0 where
       nothing_drawn : {s : S} {started : Bool} → Interspersed s started [] s (started, None)
       then_end : {s u t : S} {started : Bool} {rest : List (Answered A E)} {k : Bool × Option A} → steps s end u → Interspersed u started rest t k → Interspersed s started (end ∷ rest) t k
@@ -27,7 +27,7 @@ module _ {A E : Type 0} (is_clone : A → A → Type 0) (is_infallible : A → T
       then_later_item : {s u t : S} {rest : List (Answered A E)} {k : Bool × Option A} (x : A) (r : Answered A E) → steps s (item x) u → Separates separator r → Interspersed u true rest t k → Interspersed s true (r ∷ item x ∷ rest) t k
       later_item_held : {s t : S} (x : A) (r : Answered A E) → steps s (item x) t → Separates separator r → Interspersed s true (r ∷ []) t (true, Some x)
 
-    -- the held item first, if one is held; nothing is drawn before it was answered
+    -- the held item first, if one is held; nothing is drawn before it was yielded
     abbrev pub HeldThen : S → Bool × Option A → List (Answered A E) → S → Bool × Option A → Type 0
     HeldThen s (started, None) trace t k = Interspersed s started trace t k
     HeldThen s (started, Some x) trace t k = ((trace ≡ []) × (t ≡ s) × (k ≡ (started, Some x))) ⊎ ((rest : List (Answered A E)) × (trace ≡ item x ∷ rest) × Interspersed s started rest t k)
@@ -37,14 +37,14 @@ module _ {A E : Type 0} (is_clone : A → A → Type 0) (is_infallible : A → T
     abbrev pub IntersperseTrace : S × (A × (Bool × Option A)) → List (Answered A E) → S × (A × (Bool × Option A)) → Type 0
     IntersperseTrace p trace q = (q.1.0 ≡ p.1.0) × HeldThen steps p.1.0 p.0 p.1.1 trace q.0 q.1.1
 
-  -- what becomes of an answer that was drawn where nothing is held: what is answered, and what is told and held then
+  -- what becomes of an answer that was drawn if nothing is held: what is returned, and what is told and held then
   abbrev pub PlacedAs : A → Bool → Answered A E → Answered A E → Bool × Option A → Type 0
   PlacedAs separator started (Ok None) r k = (r ≡ end) × (k ≡ (started, None))
   PlacedAs separator started (Err e) r k = (r ≡ failure e) × (k ≡ (started, None))
   PlacedAs separator false (Ok (Some x)) r k = (r ≡ item x) × (k ≡ (true, None))
   PlacedAs separator true (Ok (Some x)) r k = Separates separator r × (k ≡ (true, Some x))
 
-  -- One answer: the held item without a draw, and else what becomes of one answer of the source.
+  -- One answer: the held item without a draw, and otherwise what becomes of one answer of the source.
   abbrev pub intersperse_step : {S : Type 0} → (S → Answered A E → S → Type 0) → S × (A × (Bool × Option A)) → Answered A E → S × (A × (Bool × Option A)) → Type 0
   intersperse_step steps (s, (z, (started, Some x))) r (t, (y, k)) = (r ≡ item x) × (t ≡ s) × (y ≡ z) × (k ≡ (started, None))
   intersperse_step steps (s, (z, (started, None))) r (t, (y, k)) = (y ≡ z) × ((drawn : Answered A E) × steps s drawn t × PlacedAs z started drawn r k)
@@ -61,7 +61,7 @@ module _ {A C R : Type 0} (turns : C → A → ControlFlow R (Unit {0}) → C �
   IsHeldTurn c (started, None) r q = (r ≡ Continue tt) × (q.0 ≡ c) × (q.1 ≡ (started, None))
   IsHeldTurn c (started, Some x) r q = IsCallersTurn c x r q.0 × (q.1 ≡ (started, None))
 
-  -- the caller's turn on what is answered where an item was drawn, and where it goes on, on the item that is held then
+  -- the caller's turn on what is yielded when an item was drawn, and if it goes on, on the item that is held then
   abbrev pub IsAnswersTurn : {E : Type 0} → C → Answered A E → Bool × Option A → ControlFlow (Answered R E) (Unit {0}) → C × (Bool × Option A) → Type 0
   IsAnswersTurn c (Ok (Some y)) k r q = ((d : C) × turns c y (Continue tt) d × IsHeldTurn d k r q) ⊎ ((stop : R) × turns c y (Break stop) q.0 × (r ≡ Break (Ok (Some stop))) × (q.1 ≡ k))
   IsAnswersTurn c (Ok None) k r q = ⊥
@@ -73,11 +73,11 @@ module _ {A C R : Type 0} (turns : C → A → ControlFlow R (Unit {0}) → C �
   HeldTakes can c (started, Some x) = can c x
 
 module _ {A E C R : Type 0} (is_clone : A → A → Type 0) (is_infallible : A → Type 0) (from : AllocError → E → Type 0) (separator : A) (turns : C → A → ControlFlow R (Unit {0}) → C → Type 0) where
-  -- The turn of the source's fold: the item is placed, and the caller's turn is taken on what is answered, and then on the item if it is held.
+  -- The turn of the source's fold: the item is placed, and the caller's turn is taken on what is yielded, and then on the item if it is held.
   abbrev pub IsPartingTurn : C × (Bool × Option A) → A → ControlFlow (Answered R E) (Unit {0}) → C × (Bool × Option A) → Type 0
   IsPartingTurn p x r q = (a : Answered A E) × (k : Bool × Option A) × PlacedAs is_clone is_infallible from separator p.1.0 (Ok (Some x)) a k × IsAnswersTurn turns p.0 a k r q
 
-  -- It may be taken where nothing is held and the caller's may be on what is answered, and then on what is held.
+  -- The turn may be taken if nothing is held and the caller's may be on what is yielded, and then on what is held.
   abbrev pub PartingTakes : (C → A → Type 0) → C × (Bool × Option A) → A → Type 0
   PartingTakes can p x = (p.1.1 ≡ None) × ((y : A) (k : Bool × Option A) → PlacedAs is_clone is_infallible from separator p.1.0 (Ok (Some x)) (Ok (Some y)) k → can p.0 y × ((d : C) → turns p.0 y (Continue tt) d → HeldTakes turns can d k))
 

@@ -12,11 +12,11 @@ joined show separator [] = []
 joined show separator (x ∷ []) = show x
 joined show separator (x ∷ y ∷ items) = show x ++ (separator ++ joined show separator (y ∷ items))
 
--- Where each item is shown as `show` says, the text is that of the items.
+-- If each item is shown as `show` says, the text is that of the items.
 abbrev pub JoinedAs : {A X : Type 0} → (A → Option (List ℕ)) → List ℕ → List A → String X → Type 0
 JoinedAs {A = A} output separator items text = (show : A → List ℕ) → ((x : A) → output x ≡ Some (show x)) → string_bytes text ≡ joined show separator items
 
--- The separator was appended, where an item stands before, and then the item as it is shown. Or appending failed.
+-- The separator was appended, if an item stands before, and then the item as it is shown. Or appending failed.
 abbrev pub Appended : {A X : Type 0} → (A → Option (List ℕ)) → List ℕ → Bool → String X → A → Result (Unit {0}) AllocError → String X → Type 0
 Appended output separator begun text x (Ok u) longer = (shown : List ℕ) → output x ≡ Some shown → string_bytes longer ≡ string_bytes text ++ (cond begun separator [] ++ shown)
 Appended output separator begun text x (Err e) longer = ⊤

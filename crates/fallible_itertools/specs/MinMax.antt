@@ -46,6 +46,6 @@ MinMaxExit cmp items (Ok (Some x)) r = ⊥
 pub record MinMaxBy {A E : Type 0} (cmp : A → A → Ordering) (r : Result (MinMaxResult A) E) (items : List A) (last : Answered A E) : Type 0 where
   pub exit : MinMaxExit cmp items last r
 
--- The draws from s answered items and then an end or a failure; the result is what the items make, or the failure.
+-- The draws from s returned items and then an end or a failure; the result is what the items make, or the failure.
 abbrev pub MinMaxed : {S A E : Type 0} → (A → A → Ordering) → (S → Answered A E → S → Type 0) → S → Result (MinMaxResult A) E → Type 0
 MinMaxed {S = S} cmp steps s r = (after : S) × Drained steps (MinMaxBy cmp r) s after

@@ -9,11 +9,11 @@ use Rattle.fallible_iterator.specs.Filtering.FilterMap.{filter_map_outcome, cons
 use Rattle.fallible_iterator.specs.Outcome.{Outcome}
 use Rattle.fallible_itertools.specs.declared.or_else.OrElse.{OrElse}
 
--- A failure becomes what an item becomes by `filter_map`: the item that the closure answers, nothing where it answers none, and a failure of it.
+-- A failure becomes what an item becomes by `filter_map`: the item that the closure returns, nothing if it returns `None`, and a failure of it.
 abbrev pub or_else_outcome : {X D E : Type 0} → D → Result (Option X) E → Outcome X E
 or_else_outcome d v = filter_map_outcome d v
 
--- `OrElse`: the source's trace without the failures answered none, where each other failure is replaced by the item or the failure that the closure answers on it; it doesn't end in a failure answered none.
+-- `OrElse`: the source's trace without the failures for which the closure returns `None`, where each other failure is replaced by the item or the failure that the closure returns for it; it doesn't end in a failure that is left out.
 abbrev pub OrElseTrace : {S F X D E : Type 0} → (S → Answered X D → S → Type 0) → Mut F (D × Unit {0}) (Result (Option X) E) → S × F → List (Answered X E) → S × F → Type 0
 OrElseTrace steps g p trace q = RecoveringTrace steps (call_on g) or_else_outcome p trace q
 

@@ -1,4 +1,4 @@
--- `PeekingTakeWhile`, which leaves the first refused item in what it borrows, and what looks ahead so.
+-- `PeekingTakeWhile`, which leaves the first rejected item in what it borrows, and what looks ahead so.
 use Rattle.std.specs.Prelude.{◌≡◌, ⊤, List, [], ◌∷◌, map, Option, Result, Some, None, Ok, Err, Bool, true, false}
 use Rattle.std.specs.List.{filter_map}
 use Rattle.std.specs.Fn.{Mut}
@@ -17,17 +17,17 @@ use Rattle.fallible_itertools.specs.declared.peeking_take_while.PeekingTakeWhile
 
 -- A look at the next item: it comes next as it would have come, and nothing else is drawn. `looks s x t` says that the next item of s is x, and that a look at it leaves t.
 pub record LooksAhead {S X E : Type 0} (m : Contract S X E) (looks : S → X → S → Type 0) : Type 0 where
-  -- it keeps what a draw keeps that answers no item
+  -- a look keeps what a draw keeps that yields no item
   pub kept : (s : S) (x : X) (t : S) → m.can_next s → looks s x t → KeptByDraw m s end t
   -- the item is one to come
   pub given : (s : S) (x : X) (t : S) → m.can_next s → looks s x t → m.may_give s x
-  -- a draw would have given it
+  -- a draw would have yielded it
   pub comes : (s : S) (x : X) (t : S) → looks s x t → (u : S) × m.steps s (item x) u
-  -- a draw gives it, and leaves what a draw before the look would have left
+  -- a draw yields it, and leaves what a draw before the look would have left
   pub next : (s : S) (x : X) (t : S) (r : Answered X E) (u : S) → looks s x t → m.steps t r u → (r ≡ item x) × m.steps s (item x) u
   -- another look is at the same item
   pub again : (s : S) (x : X) (t : S) (y : X) (u : S) → looks s x t → looks t y u → (y ≡ x) × looks s x u
-  -- an item that a draw gives can be looked at before
+  -- an item that a draw yields can be looked at before
   pub first : (s : S) (x : X) (u : S) → m.steps s (item x) u → (t : S) × looks s x t × m.steps t (item x) u
   -- a look at what was looked at changes nothing
   pub same : (s : S) (x : X) (t : S) → looks s x t → looks t x t
@@ -36,7 +36,7 @@ pub record LooksAhead {S X E : Type 0} (m : Contract S X E) (looks : S → X →
 abbrev pub peekable_looks : {S X E : Type 0} → (S → Answered X E → S → Type 0) → Peekable S X E → X → Peekable S X E → Type 0
 peekable_looks steps s x t = Peeks steps (peekable_parts s) (item x) (peekable_parts t)
 
--- what the closure answers on the held item, and true where none is held
+-- what the closure returns for the held item, and true if none is held
 abbrev pub AcceptsHeld : {F X E : Type 0} → (F → X → Result Bool E → F → Type 0) → Option X → F → Result Bool E → F → Type 0
 AcceptsHeld call (Some x) f v g = call f x v g
 AcceptsHeld call None f v g = (v ≡ Ok true) × (g ≡ f)
@@ -47,7 +47,7 @@ borrowed_looks looks s x t = looks s.now x t.now × (t.ghost_name ≡ s.ghost_na
 
 -- ---- the adapter
 
--- the answer that was let go at a place: each but a refused item
+-- the answer that was taken at a place: each but a rejected item
 abbrev pub let_go : {X E : Type 0} → Place X (Result Bool E) E → Option (Answered X E)
 let_go (asked x (Ok true)) = Some (item x)
 let_go (asked x (Ok false)) = None
@@ -55,7 +55,7 @@ let_go (asked x (Err e)) = Some (item x)
 let_go (failure_at e) = Some (failure e)
 let_go end_at = Some end
 
--- behind a place where the item was refused stands one where the same item was asked of
+-- after a place where the item was rejected stands one where the closure was called on the same item
 abbrev pub AgainAt : {X E : Type 0} → Place X (Result Bool E) E → Place X (Result Bool E) E → Type 0
 AgainAt (asked x (Ok true)) w = ⊤
 AgainAt {E = E} (asked x (Ok false)) w = (v : Result Bool E) × (w ≡ asked x v)
@@ -69,7 +69,7 @@ AskedAgain (z ∷ []) = ⊤
 AskedAgain (z ∷ w ∷ places) = AgainAt z w × AskedAgain (w ∷ places)
 
 module _ {S X E : Type 0} (looks : S → X → S → Type 0) where
-  -- how the source is left at the last place: where the item was refused it was looked at
+  -- how the source is left at the last place: if the item was rejected it was looked at
   abbrev pub LeftBehind : Place X (Result Bool E) E → S → S → Type 0
   LeftBehind (asked x (Ok true)) u q = q ≡ u
   LeftBehind (asked x (Ok false)) u q = looks u x q
@@ -82,7 +82,7 @@ module _ {S X E : Type 0} (looks : S → X → S → Type 0) where
   LeftAt (z ∷ []) u q = LeftBehind z u q
   LeftAt (z ∷ w ∷ places) u q = LeftAt (w ∷ places) u q
 
--- `PeekingTakeWhile`: the closure is called on the item of each place, and an item is replaced by the closure's failure on it, and a refused one by an end. The answers that were let go are those of the source's draws; a refused item is asked of again at the next place, and where that is the last it was looked at and stays next. The parts are the source and the closure.
+-- `PeekingTakeWhile`: the closure is called on the item of each place, and an item is replaced by the closure's failure on it, and a rejected one by an end. The answers that were taken are those of the source's draws; on a rejected item the closure is called again at the next place, and if that is the last it was looked at and stays next. The parts are the source and the closure.
 pub record PeekingTrace {S F X E : Type 0} (steps : S → Answered X E → S → Type 0) (looks : S → X → S → Type 0) (call : F → X → Result Bool E → F → Type 0) (p : S × F) (trace : List (Answered X E)) (q : S × F) : Type 0 where
   pub places : List (Place X (Result Bool E) E)
   pub between : S
@@ -92,7 +92,7 @@ pub record PeekingTrace {S F X E : Type 0} (steps : S → Answered X E → S →
   pub answers : trace ≡ map taken_answer places
   pub again : AskedAgain places
 
--- the draw at a place, or the look at an item that was refused
+-- the draw at a place, or the look at an item that was rejected
 abbrev pub DrawnAt : {S X E : Type 0} → (S → Answered X E → S → Type 0) → (S → X → S → Type 0) → Place X (Result Bool E) E → S → S → Type 0
 DrawnAt steps looks (asked x (Ok true)) s t = steps s (item x) t
 DrawnAt steps looks (asked x (Ok false)) s t = looks s x t
@@ -122,13 +122,13 @@ peeking_parts s = (peeking_source s, peeking_closure s)
 
 -- ---- what it leaves
 
--- what is left of the list at an item that the closure answers so on: that item and what stands behind it, where it is refused
+-- what is left of the list at an item for which the closure returns so: that item and what comes after it, if it is rejected
 abbrev pub rest_at : {X E : Type 0} → X → Result Bool E → List (Result X E) → Option (List (Result X E)) → Option (List (Result X E))
 rest_at x (Ok true) l left = left
 rest_at x (Ok false) l left = Some (Ok x ∷ l)
 rest_at x (Err e) l left = left
 
--- the list from the first item x on for which h x is false; none where there is no such item
+-- the list from the first item x on for which h x is false; none if there is no such item
 unfoldable pub rest_by_while : {X E : Type 0} → (X → Result Bool E) → List (Result X E) → Option (List (Result X E))
 rest_by_while h [] = None
 rest_by_while h (Ok x ∷ l) = rest_at x (h x) l (rest_by_while h l)

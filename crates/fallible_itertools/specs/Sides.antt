@@ -1,4 +1,4 @@
--- What joins two sources and holds at most one item of each: each call asks the left and then the right, and a rule says what is made of what both give.
+-- What joins two sources and holds at most one item of each: each call draws the left and then the right, and a rule says what is made of what both yield.
 use Rattle.std.specs.Prelude.{ℕ, ◌+◌, ◌-◌, ◌^◌, ◌≤◌, min, Option, Some, None, ◌≡◌, List, [], ◌∷◌, map, Ok, ◌⊎◌, Result, ⊤}
 use Rattle.std.specs.List.{FoldsTo}
 use Rattle.std.specs.Iterator.{Count, count_add, count_map}
@@ -21,12 +21,12 @@ holding_held s = s.held
 abbrev pub holding_parts : {I A : Type 0} → Holding I A → I × Option A
 holding_parts s = (holding_source s, holding_held s)
 
--- What a side gives, where it is asked, and the source that it leaves: the held item without a draw, and else one answer that is drawn.
+-- What a side yields, if it is drawn, and the source that it leaves: the held item without a draw, and otherwise one answer that is drawn.
 abbrev pub Gives : {S A E : Type 0} → (S → Answered A E → S → Type 0) → S × Option A → Answered A E → S → Type 0
 Gives steps (s, Some x) r t = (r ≡ item x) × (t ≡ s)
 Gives steps (s, None) r t = steps s r t
 
--- the same where it may be that the side isn't asked
+-- what a side yields, if it is drawn, or no answer, if it isn't
 abbrev pub GivesIf : {S A E : Type 0} → (S → Answered A E → S → Type 0) → S × Option A → Option (Answered A E) → S → Type 0
 GivesIf steps p (Some r) t = Gives steps p r t
 GivesIf steps p None t = t ≡ p.0
@@ -58,7 +58,7 @@ OffersLow m p low = (h : ℕ × Option ℕ) × m.hints p.0 h × (low ≡ low_wit
 
 -- ---- both sides
 
--- What is made of what both sides gave, an item or an end of each.
+-- What is made of what both sides yielded, an item or an end of each.
 pub record Rule (A B C E F V : Type 0) : Type 1 where
   -- the closure f decides v of them, and is then g
   pub decides : F → Option A → Option B → V → F → Type 0
@@ -75,45 +75,45 @@ pub record Rule (A B C E F V : Type 0) : Type 1 where
   -- f may fail so on such items
   pub refuses : (A → Type 0) → (B → Type 0) → F → E → Type 0
 
--- One call: a failure of the left, beside which the right isn't asked; a failure of the right, beside an item or an end of the left; or an item or an end of each, and what was decided.
+-- One call: a failure of the left, beside which the right isn't drawn; a failure of the right, beside an item or an end of the left; or an item or an end of each, and what was decided.
 pub data SidesPlace (A B E V : Type 0) : Type 0 where
   left_failed : E → SidesPlace A B E V
   right_failed : Option A → E → SidesPlace A B E V
   both_gave : Option A → Option B → V → SidesPlace A B E V
 
 module _ {A B E V : Type 0} where
-  -- what the left gave at a place, which is always asked
+  -- what the left yielded at a place, which is always drawn
   abbrev pub left_gave : SidesPlace A B E V → Option (Answered A E)
   left_gave (left_failed e) = Some (failure e)
   left_gave (right_failed x e) = Some (Ok x)
   left_gave (both_gave x y v) = Some (Ok x)
 
-  -- what the right gave, if it was asked
+  -- what the right yielded, if it was drawn
   abbrev pub right_gave : SidesPlace A B E V → Option (Answered B E)
   right_gave (left_failed e) = None
   right_gave (right_failed x e) = Some (failure e)
   right_gave (both_gave x y v) = Some (Ok y)
 
 module _ {A B C E F V : Type 0} (rule : Rule A B C E F V) where
-  -- the answer at a place: a failure of a side, or what the rule makes of what both gave
+  -- the answer at a place: a failure of a side, or what the rule makes of what both yielded
   abbrev pub place_answer : SidesPlace A B E V → Answered C E
   place_answer (left_failed e) = failure e
   place_answer (right_failed x e) = failure e
   place_answer (both_gave x y v) = rule.answer x y v
 
-  -- what is held of the left behind a place: the item that stood beside a failure of the right, or what the rule says
+  -- what is held of the left after a place: the item that stood beside a failure of the right, or what the rule says
   abbrev pub left_behind : Option A → SidesPlace A B E V → Option A
   left_behind held (left_failed e) = None
   left_behind held (right_failed x e) = x
   left_behind held (both_gave x y v) = rule.left_held x y v
 
-  -- what is held of the right behind a place: what was held, where the left failed, or what the rule says
+  -- what is held of the right after a place: what was held, if the left failed, or what the rule says
   abbrev pub right_behind : Option B → SidesPlace A B E V → Option B
   right_behind held (left_failed e) = held
   right_behind held (right_failed x e) = None
   right_behind held (both_gave x y v) = rule.right_held x y v
 
-  -- the closure decides of what both gave, and else stays as it is
+  -- the closure decides on what both yielded, and otherwise stays as it is
   abbrev pub place_decides : F → SidesPlace A B E V → F → Type 0
   place_decides f (left_failed e) g = g ≡ f
   place_decides f (right_failed x e) g = g ≡ f
@@ -121,25 +121,25 @@ module _ {A B C E F V : Type 0} (rule : Rule A B C E F V) where
 
 -- ---- over whole traces
 
--- an answer that was drawn before others; where an item was held, or the side wasn't asked, none was
+-- an answer that was drawn before others; if an item was held, or the side wasn't drawn, none was
 abbrev pub before_drawn : {A E : Type 0} → Option A → Option (Answered A E) → List (Answered A E) → List (Answered A E)
 before_drawn (Some x) gave l = l
 before_drawn None None l = l
 before_drawn None (Some r) l = r ∷ l
 
--- what is held is what the side gives, where it is asked
+-- what is held is what the side yields, if it is drawn
 abbrev pub IsGiven : {A E : Type 0} → Option A → Option (Answered A E) → Type 0
 IsGiven (Some x) (Some r) = r ≡ item x
 IsGiven (Some x) None = ⊤
 IsGiven None gave = ⊤
 
 module _ {A E X : Type 0} (gave : X → Option (Answered A E)) (behind : Option A → X → Option A) where
-  -- the answers that one side drew at the places: what it gave where nothing of it was held
+  -- the answers that one side drew at the places: what it yielded if nothing of it was held
   abbrev pub drawn_at : Option A → List X → List (Answered A E)
   drawn_at held [] = []
   drawn_at held (x ∷ places) = before_drawn held (gave x) (drawn_at (behind held x) places)
 
-  -- what is held before each place is given there, where the side is asked, and `last` is held behind the last place
+  -- what is held before each place is yielded there, if the side is drawn, and `last` is held after the last place
   abbrev pub HeldThrough : Option A → List X → Option A → Type 0
   HeldThrough held [] last = last ≡ held
   HeldThrough held (x ∷ places) last = IsGiven held (gave x) × HeldThrough (behind held x) places last
@@ -150,7 +150,7 @@ module _ {A E X : Type 0} (gave : X → Option (Answered A E)) (behind : Option 
     pub held : HeldThrough p.1 places q.1
 
 module _ {S U A B C E F V : Type 0} (steps : S → Answered A E → S → Type 0) (others : U → Answered B E → U → Type 0) (rule : Rule A B C E F V) where
-  -- A place for each answer. A failure of the left is answered, and the right isn't asked. A failure of the right is answered, and the left's item is held, so that it stands at the next place too; an end of the left isn't held. Of an item or an end of each the rule makes the answer; an end closes nothing, and both are asked again. No memory is asked for, so nothing is refused.
+  -- A place for each answer. A failure of the left is returned, and the right isn't drawn. A failure of the right is returned, and the left's item is held, so that it stands at the next place too; an end of the left isn't held. Of an item or an end of each the rule makes the answer; an end closes nothing, and both are drawn again. Nothing is allocated, so no allocation fails.
   pub record SidesTrace (p : (S × Option A) × (U × Option B) × F) (trace : List (Answered C E)) (q : (S × Option A) × (U × Option B) × F) : Type 0 where
     pub places : List (SidesPlace A B E V)
     pub left : SideTrace left_gave (left_behind rule) steps p.0 places q.0
@@ -178,6 +178,6 @@ sides_contract left right rule hints = record {
 
 -- ---- what it lists
 
--- Over two sources that list a and b and then end for good, P a b.
+-- Over two sources that list a and b and are fused, P a b.
 abbrev pub OverBothForGood : {S A E T C B D : Type 0} → (S → Answered A E → S → Type 0) → S → (T → C → Type 0) → T → (C → Answered B D → C → Type 0) → (List (Result A E) → List (Result B D) → Type 0) → Type 0
 OverBothForGood {A = A} {E = E} {C = C} {B = B} {D = D} steps s into other others P = (a : List (Result A E)) (b : List (Result B D)) → ListsForGood steps s a → ((c : C) → into other c → ListsForGood others c b) → P a b

@@ -1,4 +1,4 @@
--- `TakeWhileInclusive`, which ends for good behind the first item that a predicate refuses.
+-- `TakeWhileInclusive`, which is exhausted after the first item that a predicate rejects.
 use Rattle.std.specs.Prelude.{◌≡◌, ℕ, min, List, [], ◌∷◌, map, Option, Result, Ok, Err, Bool, true, false}
 use Rattle.std.specs.List.{filter_map}
 use Rattle.std.specs.Fn.{Mut}
@@ -27,7 +27,7 @@ inclusive_answer (asked x (Err e)) = failure e
 inclusive_answer (failure_at e) = failure e
 inclusive_answer end_at = end
 
--- `TakeWhileInclusive`: the source's trace, with the predicate called on each item, in which an item is replaced by the predicate's failure on it, and which the first refused item closes. The parts are the source and the predicate, and whether an item was refused.
+-- `TakeWhileInclusive`: the source's trace, with the predicate called on each item, in which an item is replaced by the predicate's failure on it, and which the first rejected item closes. The parts are the source and the predicate, and whether an item was rejected.
 pub record InclusiveTrace {S F X E : Type 0} (steps : S → Answered X E → S → Type 0) (call : F → X → Result Bool E → F → Type 0) (p : (S × F) × Bool) (trace : List (Answered X E)) (q : (S × F) × Bool) : Type 0 where
   pub places : List (Place X (Result Bool E) E)
   pub drawn : Run steps (p.0).0 (map source_answer places) (q.0).0
@@ -38,7 +38,7 @@ pub record InclusiveTrace {S F X E : Type 0} (steps : S → Answered X E → S �
 abbrev pub hint_of_first : ℕ × Option ℕ → ℕ × Option ℕ
 hint_of_first k = (min k.0 1, k.1)
 
--- The contract, with the flag whether an item was refused: the predicate may be called on each item that may come. Until an item was refused the hint has the source's upper bound, and 1 below where the source has an item for certain: the first one comes, whatever the predicate says of it, or its failure.
+-- `TakeWhileInclusive`'s contract, with the flag whether an item was rejected: the predicate may be called on each item that may come. Until an item was rejected the hint has the source's upper bound, and 1 below if the source has an item for certain: the first one comes, whatever the predicate says of it, or its failure.
 abbrev pub inclusive_contract : {S F X E : Type 0} → Contract S X E → Mut F (Bor X × Unit {0}) (Result Bool E) → Contract ((S × F) × Bool) X E
 inclusive_contract m g = closing_contract (passing_contract m (call_at g) (λ P f. IsCallable (call_at g) (takes_at g) P f) inclusive_outcome (λ p h. (k : ℕ × Option ℕ) × m.hints p.0 k × (h ≡ hint_of_first k))) (place_drawn m.steps (call_at g)) inclusive_answer is_refused
 
@@ -50,29 +50,29 @@ inclusive_source s = s.it
 abbrev pub inclusive_predicate : {I P : Type 0} → TakeWhileInclusive I P → P
 inclusive_predicate s = s.taking.1
 
--- whether an item was refused
+-- whether an item was rejected
 abbrev pub inclusive_refused : {I P : Type 0} → TakeWhileInclusive I P → Bool
 inclusive_refused s = s.taking.0
 
--- the source and the predicate, and whether an item was refused
+-- the source and the predicate, and whether an item was rejected
 abbrev pub inclusive_parts : {I P : Type 0} → TakeWhileInclusive I P → (I × P) × Bool
 inclusive_parts s = ((inclusive_source s, inclusive_predicate s), inclusive_refused s)
 
 -- ---- its fold, through the source's own
 
--- what a turn answers, and whether the item was refused: where it went on behind a refused item, it stops with an end
+-- what a turn returns, and whether the item was rejected: if it went on after a rejected item, it stops with an end
 abbrev pub stopped_where : {R E : Type 0} → ControlFlow (Answered R E) (Unit {0}) → Bool → ControlFlow (Answered R E) (Unit {0})
 stopped_where (Continue u) true = Break end
 stopped_where (Continue u) false = Continue tt
 stopped_where (Break answer) refused = Break answer
 
--- a turn whose state has beside the caller's whether an item was refused, and which stops behind one
+-- a turn whose state has beside the caller's whether an item was rejected, and which stops after one
 abbrev pub StoppingTurn : {C F X R E : Type 0} → (C × (Bool × F) → X → ControlFlow (Answered R E) (Unit {0}) → C × (Bool × F) → Type 0) → C × (Bool × F) → X → ControlFlow (Answered R E) (Unit {0}) → C × (Bool × F) → Type 0
 StoppingTurn {R = R} {E = E} turned p x r q = (made : ControlFlow (Answered R E) (Unit {0})) × turned p x made q × (r ≡ stopped_where made q.1.0)
 
 -- ---- what it lists
 
--- an item before a list, or its failure; where the predicate refuses it, the list ends behind it
+-- an item before a list, or its failure; if the predicate rejects it, the list ends after it
 abbrev pub cons_through : {X E : Type 0} → X → Result Bool E → List (Result X E) → List (Result X E)
 cons_through x (Ok true) l = Ok x ∷ l
 cons_through x (Ok false) l = Ok x ∷ []

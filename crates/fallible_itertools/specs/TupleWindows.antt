@@ -1,4 +1,4 @@
--- `TupleWindows`, which gives each two adjacent items.
+-- `TupleWindows`, which yields each two adjacent items.
 use Rattle.std.specs.Prelude.{◌≡◌, ℕ, Option, Some, None, Result, Ok, Err, List, [], ◌∷◌, ⊤}
 use Rattle.fallible_iterator.specs.Traces.{Answered}
 use Rattle.fallible_iterator.specs.Contract.{Contract}
@@ -12,7 +12,7 @@ use Rattle.fallible_iterator.specs.Outcome.TheVariants.{Kept, LeftOut, Failure, 
 use Rattle.fallible_itertools.specs.declared.tuple_windows.TupleWindows.{TupleWindows}
 
 module _ {A E : Type 0} (is_clone : A → A → Type 0) (is_infallible : A → Type 0) (from : AllocError → E → Type 0) where
-  -- an item beside the one before it: both are answered, the later one as a clone; where that is refused, the failure made of the refusal is, and the later one is lost
+  -- an item beside the one before it: both are yielded, the later one as a clone; if that fails to allocate, the failure converted from its `AllocError` is, and the later one is lost
   abbrev pub window_at : A → A → Outcome (A × A) E → Option A → Type 0
   window_at y x (Kept both) q = (both.0 ≡ y) × is_clone x both.1 × (q ≡ Some x)
   window_at y x LeftOut q = ⊥
@@ -33,7 +33,7 @@ module _ {A E : Type 0} (is_clone : A → A → Type 0) (is_infallible : A → T
   unheld None = 1
   unheld (Some y) = 0
 
-  -- `TupleWindows`' contract. It asks no bound of the source: one draw leaves out one item at most.
+  -- `TupleWindows`' contract. It requires no bound of the source: one draw leaves out one item at most.
   abbrev pub tuple_windows_contract : {S : Type 0} → Contract S A E → Contract (S × Option A) (A × A) E
   tuple_windows_contract m = passing_contract m windows_asks (λ Q p. ⊤) as_answered_item (λ p h. (k : ℕ × Option ℕ) × m.hints p.0 k × (h ≡ hint_less (unheld p.1) k))
 

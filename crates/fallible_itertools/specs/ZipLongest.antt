@@ -36,7 +36,7 @@ OfEach P Q (Both x y) = P x × Q y
 OfEach P Q (Left x) = P x
 OfEach P Q (Right y) = Q y
 
--- The rule of `ZipLongest`: of what both gave it makes the answer, and holds nothing.
+-- The rule of `ZipLongest`: of what both yielded it makes the answer, and holds nothing.
 abbrev pub longest_rule : {A B E : Type 0} → Rule A B (EitherOrBoth A B) E (Unit {0}) (Unit {0})
 longest_rule = record {
   decides = λ f x y v g. ⊤;
@@ -52,7 +52,7 @@ longest_rule = record {
 abbrev pub ZipLongestTrace : {S U A B E : Type 0} → (S → Answered A E → S → Type 0) → (U → Answered B E → U → Type 0) → (S × Option A) × (U × Option B) × Unit {0} → List (Answered (EitherOrBoth A B) E) → (S × Option A) × (U × Option B) × Unit {0} → Type 0
 ZipLongestTrace steps others p trace q = SidesTrace steps others longest_rule p trace q
 
--- The greater of the lower bounds. There is no upper one, since a side may go on behind its end while the other still has items.
+-- The greater of the lower bounds. There is no upper one, since a side may go on after its end while the other still has items.
 abbrev pub zip_longest_hints : {S U A B E : Type 0} → Contract S A E → Contract U B E → (S × Option A) × (U × Option B) × Unit {0} → ℕ × Option ℕ → Type 0
 zip_longest_hints left right p h = (g : ℕ × Option ℕ) × (k : ℕ × Option ℕ) × left.hints p.0.0 g × right.hints p.1.0 k × (h ≡ (max (low_with p.0.1 g.0) k.0, None))
 

@@ -12,7 +12,7 @@ use Rattle.fallible_contract.specs.Laws.Showing.{lawful_listing}
 use Rattle.fallible_iterator.specs.ShowingEnds.{listing_ends}
 
 module _ {S A E : Type 0} (shows : S → List (Result A E)) where
-  -- as many are shown from the back
+  -- from the back as many are shown as from the front
   no_more : (s t : S) → NoMore (listing (λ u. reverse (shows u))) s t → NoMore (listing shows) s t
   no_more s t less n b = let d = less n (let e = length-reverse (shows s) in omega (arith, e, b)) in let e = length-reverse (shows t) in (d.0, (let k = d.1 in omega (arith, e, k)), d.2)
 
@@ -65,6 +65,6 @@ module _ {S A E : Type 0} (shows : S → List (Result A E)) where
     (λ r t step. shown_back n (reverse l) s t r (subst (λ (k : List (Result A E)). TakesShown (reverse k) r (reverse (shows t))) e step) (λ k same. shown_for n t k same)),
   )
 
-  -- It lists what it shows, from both ends.
+  -- A type whose value shows what it lists lists that from both ends.
   pub lists_both_shown : (s : S) → ListsBothEnds (listing shows).steps (listing_ends shows).steps s (shows s)
   lists_both_shown s = record { for = λ n. shown_for n s (shows s) refl }

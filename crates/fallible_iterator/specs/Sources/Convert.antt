@@ -26,6 +26,6 @@ module _ {S A E : Type 0} (can : S → Type 0) (gives : S → Option (Result A E
 abbrev pub convert_ends : {S A E : Type 0} → (can can_back : S → Type 0) (gives gives_back : S → Option (Result A E) → S → Type 0) → (S → Count) → Ends S A E
 convert_ends can can_back gives gives_back remaining = std_ends Ok Err can can_back gives gives_back remaining
 
--- Whatever calls of a std iterator's `next` give from s, it reads the list, each element in an `Ok`: what comes at a place is the element there, and `None` comes only after the last one.
+-- Whatever calls of a std iterator's `next` return from s, it reads the list, each element in an `Ok`: what comes at a place is the element there, and `None` comes only after the last one.
 abbrev pub ItemsRead : {S A E : Type 0} → (S → Option (Result A E) → S → Type 0) → S → List A → Type 0
 ItemsRead gives s l = EachRunFrom gives s (λ p. (p.len ≤ length l) × (p.whole ≡ true → p.len ≡ length l) × ((k : ℕ) → IfSome (p.at k) (λ y. HoldsAt (λ x. y ≡ Ok x) l k)))

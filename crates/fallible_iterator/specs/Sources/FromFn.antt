@@ -1,4 +1,4 @@
--- `FromFn`: the answers of a closure.
+-- `FromFn`: the results of a closure.
 use Rattle.std.specs.Prelude.{◌≡◌, List, Result, ⊤}
 use Rattle.std.specs.List.{FoldsTo}
 use Rattle.std.specs.Fn.{Called, Mut}
@@ -18,7 +18,7 @@ abbrev pub call_of_none : {F R : Type 0} → Mut F (Unit {0}) R → F → Unit {
 call_of_none g f x r h = Called g f x r h
 
 module _ {F A E : Type 0} (g : Mut F (Unit {0}) (Answered A E)) where
-  -- `FromFn`: the closure's answers, one call a draw.
+  -- `FromFn`: the closure's results, one call a draw.
   abbrev pub FromFnTrace : F → List (Answered A E) → F → Type 0
   FromFnTrace f trace h = FoldsTo (λ p r q. Called g p tt r q) f trace h
 
@@ -30,7 +30,7 @@ module _ {F A E : Type 0} (g : Mut F (Unit {0}) (Answered A E)) where
     may_fail = λ f e. MayAnswer (call_of_none g) (λ _. ⊤) f (λ _ r. r ≡ failure e);
   }
 
--- Called again and again, the closure answers the list's answers, in order, and then an end.
+-- Called again and again, the closure returns the list's answers, in order, and then an end.
 abbrev pub CallsGive : {F A E : Type 0} → (F → Unit {0} → Answered A E → F → Type 0) → F → List (Result A E) → Type 0
 CallsGive call f l = AlwaysGives (λ p r q. call p tt r q) f l
 

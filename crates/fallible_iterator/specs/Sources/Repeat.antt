@@ -17,7 +17,7 @@ module _ {A E : Type 0} (is_clone : A → A → Type 0) (is_infallible : A → T
   RepeatAnswer v (Ok None) = ⊥
   RepeatAnswer v (Err e) = RefusedAs is_infallible from v e
 
-  -- `Repeat`: always a clone, or, where the clone is refused, the failure made of the refusal.
+  -- `Repeat`: always a clone, or, if the clone fails to allocate, the failure converted from its `AllocError`.
   abbrev pub RepeatTrace : A → List (Answered A E) → A → Type 0
   RepeatTrace v trace w = All (RepeatAnswer v) trace × (w ≡ v)
 

@@ -17,7 +17,7 @@ module _ {A E : Type 0} (is_clone : E → E → Type 0) (is_infallible : E → T
   RepeatErrAnswer v (Ok x) = ⊥
   RepeatErrAnswer v (Err e) = is_clone v e ⊎ RefusedAs is_infallible from v e
 
-  -- `RepeatErr`: always a failure with a clone, or, where the clone is refused, the failure made of the refusal.
+  -- `RepeatErr`: always a failure with a clone, or, if the clone fails to allocate, the failure converted from its `AllocError`.
   abbrev pub RepeatErrTrace : E → List (Answered A E) → E → Type 0
   RepeatErrTrace v trace w = All (RepeatErrAnswer v) trace × (w ≡ v)
 

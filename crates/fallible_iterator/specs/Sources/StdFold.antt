@@ -7,18 +7,18 @@ use Rattle.std.specs.declared.ops.ControlFlow.TheVariants.{Continue, Break}
 use Rattle.fallible_contract.specs.Traces.{Answered}
 use Rattle.fallible_contract.specs.Folds.{TurnThrough}
 
--- One call of a std iterator that a reference points to: it gave what std says and made progress, and the reference stays the same.
+-- One call of a std iterator that a reference points to: it returned what std says and made progress, and the reference stays the same.
 abbrev pub progressing : {S Z : Type 0} → (S → Type 0) → (S → Option Z → S → Type 0) → (S → Count) → MutBor S → Option Z → MutBor S → Type 0
 progressing can gives remaining s r t = gives s.now r t.now × MakesProgress can remaining s.now r t.now × (t.ghost_name ≡ s.ghost_name)
 
--- One turn of std's fold on an element: the caller's turn on an item; a failure stops the fold. Where it stops, the state is handed back beside the answer.
+-- One turn of std's fold on an element: the caller's turn on an item; a failure stops the fold. If it stops, the state is returned beside the result.
 abbrev pub ElementTurn : {C A E R : Type 0} → (C → A → ControlFlow R (Unit {0}) → C → Type 0) → C → Result A E → Result C (C × Answered R E) → Type 0
 ElementTurn turns c (Ok x) (Ok d) = turns c x (Continue tt) d
 ElementTurn {R = R} turns c (Ok x) (Err p) = (stop : R) × turns c x (Break stop) p.0 × (p.1 ≡ Ok (Some stop))
 ElementTurn turns c (Err e) (Ok d) = ⊥
 ElementTurn turns c (Err e) (Err p) = p ≡ (c, Err e)
 
--- how the fold ended, by what std's fold answered, and the state that it left
+-- how the fold ended, from what std's fold returned, and the state that it left
 abbrev pub answer_of : {C E R : Type 0} → Result C (C × Answered R E) → Answered R E
 answer_of (Ok d) = Ok None
 answer_of (Err p) = p.1

@@ -53,7 +53,7 @@ module _ {A K E : Type 0} (from : AllocError → E → Type 0) (eq : K → K →
     abbrev Asked : (A → Type 0) → F × Option (Group K A) → Option A × Outcome (Group K A) E → F × Option (Group K A) → Type 0
     Asked P p c q = OrStop P c.0 × chunk_by_asks from eq g p c.0 c.1 q
 
-    -- what was asked of called the closure on items alone
+    -- what the adapter was called on called the closure on items alone
     keys_reach : (P : A → Type 0) (made : List (Option A × Outcome (Group K A) E)) (p q : F × Option (Group K A)) → FoldsTo (Asked P) p made q → Reaches (call_at g) P p.0 q.0
     keys_reach P [] p q w = subst (λ (f : F). Reaches (call_at g) P p.0 f) (ap (λ (k : F × Option (Group K A)). k.0) w) reaches_here
     keys_reach P ((Some x, o) ∷ made) p q w = let k = w.1.1 in reaches_from x k.0 w.1.0 k.1 (keys_reach P made w.0 q w.2)
@@ -63,7 +63,7 @@ module _ {A K E : Type 0} (from : AllocError → E → Type 0) (eq : K → K →
     takes_asked P p q (Some x) c r may = c.at q.0 x (keys_reach P r.made p q r.by) may
     takes_asked P p q None c r may = tt
 
-    -- where the closure may be called on what comes, it may be asked of
+    -- if the closure may be called on what comes, the adapter may be
     pub asked_callable : {S : Type 0} (m : Contract S A E) (s : S) (p : F × Option (Group K A)) → IsCallable (call_at g) (takes_at g) (m.may_give s) p.0 → IsCallable (chunk_by_asks from eq g) (key_takes g) (MayBeAsked m s) p
     asked_callable m s p c = record { at = λ q asked r may. takes_asked (m.may_give s) p q asked c r may }
 

@@ -12,7 +12,7 @@ use Rattle.fallible_itertools.specs.Holding.{asks_item, as_answered_item, stop_a
 use Rattle.fallible_iterator.specs.Outcome.{Outcome}
 use Rattle.fallible_iterator.specs.Outcome.TheVariants.{Kept, LeftOut, Failure, End}
 
--- nothing may be asked of that might not have been before
+-- after a draw the adapter may be called on no item that it might not be called on before
 or_stop_weaker : {X : Type 0} {P Q : X → Type 0} → ((x : X) → P x → Q x) → (asked : Option X) → OrStop P asked → OrStop Q asked
 or_stop_weaker weak (Some x) p = weak x p
 or_stop_weaker weak None p = tt
@@ -129,7 +129,7 @@ module _ {S P X B E : Type 0} (m : Contract S X E) (l : Lawful m) (asks : P → 
   a_failure (Some e) = 1
   a_failure None = 0
 
-  -- what is known at a stop, where it was asked of the stop
+  -- what is known at a stop, if the adapter was called on it
   record Stopped (s : S) (f : P) (stop : Option E) (t : S) (h g : P) (o : Outcome B E) : Type 0 where
     bound : (n : ℕ) → m.bound s n → (k : ℕ) × m.bound t k × (k + held h ≤ n + held f)
     remaining : IsFinite (m.remaining s) → IsFinite (m.remaining t) × (size (m.remaining t) + held h + a_failure stop ≤ size (m.remaining s) + held f)
@@ -240,7 +240,7 @@ module _ {S P X B E : Type 0} (m : Contract S X E) (l : Lawful m) (asks : P → 
   goes_filling (s, (f, Some stop)) r (t, q) c step = rw (step.0, step.1, step.2) (goes_due s f stop c)
   goes_filling (s, (f, None)) r (t, (g, due)) c step = goes_behind s t f step.0 g due step.1 r c (comes s t f step.0 step.1 c.0 (to_passes step.2)) step.3
 
-  -- a bound of the source, asked besides, stays
+  -- a bound of the source, required besides, stays
   abbrev Bounded : Contract (S × (P × Option (Option E))) B E
   Bounded = holding_contract m asks pre held hints
 

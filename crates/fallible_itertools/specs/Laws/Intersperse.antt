@@ -39,7 +39,7 @@ module _ {A E : Type 0} (is_clone : A → A → Type 0) (is_infallible : A → T
       lenders = a.lenders;
     }
 
-    -- a later item is held, and a clone of the separator comes, or the failure of a refused one
+    -- a later item is held, and a clone of the separator comes, or the failure of a failed one
     answer_parted : (s t : S) (z x : A) (r : Answered A E) → Separates is_clone is_infallible from z r → OnAnswer m s (item x) t → OnAnswer P (s, (z, (true, None))) r (t, (z, (true, Some x)))
     answer_parted s t z x (Ok (Some y)) w a = (inr (inr w), (λ n d. let k = a.1 d.0 d.1 in (2 * k.0 + 1, (k.0, k.1, omega arith), omega (arith, k.2, d.2))), (λ f. let j = a.2 f in (j.0, omega (arith, j.1))))
     answer_parted s t z x (Ok None) w a = absurd w

@@ -24,7 +24,7 @@ module _ {S X E : Type 0} (steps : S → Answered X E → S → Type 0) where
   abbrev H : Type 0
   H = S × Option (Option X)
 
-  -- what was looked at is held, and is what a draw gives
+  -- what was looked at is held, and is what a draw returns
   pub looked_step : (p q : H) (o : Option X) → Peeks steps p (Ok o) q → peekable_step steps p (Ok o) (q.0, None) × (q.1 ≡ Some o)
   looked_step (s, Some h) q o w = let same : o ≡ h = (let e = w.0 in cc) in ((w.0, w.1, refl), w.2 ∙ ap (λ z. Some z) (sym same))
   looked_step (s, None) q o w = ((w.0, refl), w.1)
@@ -43,7 +43,7 @@ module _ {S X E : Type 0} (steps : S → Answered X E → S → Type 0) where
   held_look (s, Some h) u o x is w = let same : h ≡ o = cc in let at : h ≡ Some x = (let e = w.0 in cc) in (sym same ∙ at, rw (← w.1, ← w.2) refl)
   held_look (s, None) u o x is w = absurd cc
 
-  -- an item that a draw gives, held
+  -- an item that a draw yields, held
   pub looks_first : (p u : H) (x : X) → peekable_step steps p (item x) u → Peeks steps p (item x) (u.0, Some (Some x))
   looks_first (s, Some h) u x w = let same : Some x ≡ h = (let e = w.0 in cc) in (w.0, w.1, ap (λ z. Some z) same)
   looks_first (s, None) u x w = (w.0, refl)

@@ -24,7 +24,7 @@ OfItem P None = ⊤
 -- ---- one side
 
 module _ {S A E : Type 0} (m : Contract S A E) where
-  -- A side goes from p to q, where i items and d items or failures are let go.
+  -- A side goes from p to q, where i items and d items or failures are consumed.
   pub record SideKept (p q : S × Option A) (i d : ℕ) : Type 0 where
     pub can_next : m.can_next q.0
     pub is_finite : m.is_finite p.0 → m.is_finite q.0
@@ -34,15 +34,15 @@ module _ {S A E : Type 0} (m : Contract S A E) where
     pub fails : (e : E) → m.may_fail q.0 e → m.may_fail p.0 e
     pub lenders : m.lenders q.0 ≡ m.lenders p.0
 
-  -- fewer are let go as well
+  -- a side that consumes so many consumes fewer as well
   fewer_let_go : (p q : S × Option A) {i j : ℕ} → SideKept p q i i → j ≤ i → SideKept p q j j
   fewer_let_go p q k le = record { can_next = k.can_next; is_finite = k.is_finite; bound = λ n b. let a = k.bound n b in (a.0, a.1, omega (arith, a.2, le)); remaining = λ f. let a = k.remaining f in (a.0, omega (arith, a.1, le)); gives = k.gives; fails = k.fails; lenders = k.lenders }
 
-  -- it isn't asked
+  -- a side that isn't drawn stays
   pub side_stays : (p : S × Option A) → m.can_next p.0 → SideKept p p 0 0
   side_stays p c = record { can_next = c; is_finite = λ h. h; bound = λ n b. (n, b, omega arith); remaining = λ f. (f, omega arith); gives = λ y h. h; fails = λ e h. h; lenders = refl }
 
-  -- it gives its held item
+  -- a side yields its held item
   held_given : (s : S) (x : A) → m.can_next s → SideKept (s, Some x) (s, None) 1 1
   held_given s x c = record { can_next = c; is_finite = λ h. h; bound = λ n b. b; remaining = λ f. (f, omega arith); gives = λ y h. inr h; fails = λ e h. h; lenders = refl }
 
@@ -61,14 +61,14 @@ module _ {S A E : Type 0} (m : Contract S A E) where
     side_fails (s, Some x) t e c g = absurd (let no = g.0 in cc)
     side_fails (s, None) t e c g = (failure_drawn s t e c g, (l.kept_by_draw s (failure e) t c g).answer.0)
 
-    -- a side gives an item or an end, and holds nothing then
+    -- a side yields an item or an end, and holds nothing then
     pub side_given : (p : S × Option A) (t : S) (x : Option A) → m.can_next p.0 → Gives m.steps p (Ok x) t → SideKept p (t, None) (held_count x) (held_count x) × OfItem (side_gives m p) x
     side_given (s, Some y) t (Some x) c g = let same : x ≡ y = (let e = g.0 in cc) in (subst (λ (u : S). SideKept (s, Some y) (u, None) 1 1) (sym g.1) (held_given s y c), inl same)
     side_given (s, Some y) t None c g = absurd (let no = g.0 in cc)
     side_given (s, None) t (Some x) c g = (item_drawn s t x c g, (l.kept_by_draw s (item x) t c g).answer.0)
     side_given (s, None) t None c g = (end_drawn s t c g, tt)
 
-    -- what was given is held again
+    -- what was yielded is held again
     put_back : (p : S × Option A) (t : S) (x : Option A) → SideKept p (t, None) (held_count x) (held_count x) → OfItem (side_gives m p) x → SideKept p (t, x) 0 0
     put_back p t None k g = k
     put_back p t (Some x) k g = record { can_next = k.can_next; is_finite = k.is_finite; bound = λ n b. let j = k.bound n b in (j.0 + 1, (j.0, j.1, omega arith), omega (arith, j.2)); remaining = λ f. let j = k.remaining f in (j.0, omega (arith, j.1)); gives = λ y h. elim h [ inl e ↦ subst (λ (z : A). side_gives m p z) (sym e) g | inr h ↦ k.gives y h ]; fails = k.fails; lenders = k.lenders }
@@ -76,7 +76,7 @@ module _ {S A E : Type 0} (m : Contract S A E) where
     pub side_puts_back : (p : S × Option A) (t : S) (x : Option A) → m.can_next p.0 → Gives m.steps p (Ok x) t → SideKept p (t, x) 0 0
     side_puts_back p t x c g = let k = side_given p t x c g in put_back p t x k.0 k.1
 
-    -- what was given is held again, or let go
+    -- what was yielded is held again, or dropped
     pub side_holds : (p : S × Option A) (t : S) (x h : Option A) → (h ≡ None) ⊎ (h ≡ x) → m.can_next p.0 → Gives m.steps p (Ok x) t → SideKept p (t, h) (held_count x - held_count h) (held_count x - held_count h)
     side_holds p t x h (inl e) c g = rw e (fewer_let_go p (t, None) (side_given p t x c g).0 (omega arith))
     side_holds p t x h (inr e) c g = rw e (fewer_let_go p (t, x) (side_puts_back p t x c g) (omega arith))
@@ -84,13 +84,13 @@ module _ {S A E : Type 0} (m : Contract S A E) where
 -- ---- both sides
 
 module _ {A B C E F V : Type 0} (rule : Rule A B C E F V) where
-  -- where a rule makes an answer, an item and a failure are those that it may make, and let go of one item at least of the n that are let go
+  -- if a rule makes an answer, an item and a failure are those that it may make, and take one item at least of the n that are consumed
   abbrev pub MadeBy : (A → Type 0) → (B → Type 0) → F → ℕ → Answered C E → Type 0
   MadeBy P Q f n (Ok (Some z)) = rule.gives P Q z × (1 ≤ n)
   MadeBy P Q f n (Ok None) = ⊤
   MadeBy P Q f n (Err e) = rule.refuses P Q f e × (1 ≤ n)
 
-  -- What is held was given, and what the rule says stays so as the sides and the closure go on.
+  -- What is held was yielded, and what the rule says stays so as the sides and the closure go on.
   pub record IsLawfulRule : Type 1 where
     pub left_kept : (x : Option A) (y : Option B) (v : V) → (rule.left_held x y v ≡ None) ⊎ (rule.left_held x y v ≡ x)
     pub right_kept : (x : Option A) (y : Option B) (v : V) → (rule.right_held x y v ≡ None) ⊎ (rule.right_held x y v ≡ y)
@@ -108,7 +108,7 @@ module _ {S U A B C E F V : Type 0} (left : Contract S A E) (right : Contract U 
   abbrev J : Contract Parts C E
   J = sides_contract left right rule hints
 
-  -- an item lets go of one item at least, and a failure of an item or a failure
+  -- an item consumes one item at least, and a failure an item or a failure
   abbrev Owed : Parts → Answered C E → ℕ → ℕ → Type 0
   Owed p (Ok (Some z)) i d = J.may_give p z × (1 ≤ i) × (1 ≤ d)
   Owed p (Ok None) i d = ⊤

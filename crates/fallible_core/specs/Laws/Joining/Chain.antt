@@ -115,7 +115,7 @@ may_come_more f g (s, u, Both) x h = elim h [ inl a ↦ inl (f s x a) | inr b �
 may_come_more f g (s, u, FirstAlone) x h = f s x h
 may_come_more f g (s, u, SecondAlone) x h = g u x h
 
--- an item may come from the sides swapped, if it may come from the sides
+-- what may come from the sides swapped is what may come from the sides
 may_come_back : {S U X : Type 0} (P : S → X → Type 0) (Q : U → X → Type 0) (p : S × U × StillDrawn) (x : X) → chain_may_come P Q p x ↔ chain_may_come Q P (chain_back p) x
 may_come_back P Q (s, u, Both) x = ((λ h. elim h [ inl a ↦ inr a | inr b ↦ inl b ]), (λ h. elim h [ inl b ↦ inr b | inr a ↦ inl a ]))
 may_come_back P Q (s, u, FirstAlone) x = ((λ h. h), (λ h. h))

@@ -20,7 +20,7 @@ module _ {S U A B E : Type 0} (left : Contract S A E) (right : Contract U B E) w
   no_more_remains_of_pairs : (s t : S) (u v : U) → NoMoreRemains left s t → NoMoreRemains right u v → NoMoreRemains Z (s, u) (t, v)
   no_more_remains_of_pairs s t u v p q f = let b = both_finite (left.remaining s).bounded (right.remaining u).bounded f in let j = p b.0 in let k = q b.1 in (sum_finite (left.remaining t).bounded (right.remaining v).bounded j.0 k.0, omega (arith, j.1, k.1))
 
-  -- less remains of both if less remains of one side
+  -- less remains of both sides at q than at p, and it is finite there, if it is finite at p
   abbrev LessRemains : S × U → S × U → Type 0
   LessRemains p q = IsFinite (Z.remaining p) → IsFinite (Z.remaining q) × (size (Z.remaining q) < size (Z.remaining p))
 

@@ -10,7 +10,7 @@ use Rattle.fallible_iterator.specs.Sources.Std.{std_step, std_contract, std_ends
 use Rattle.fallible_contract.specs.declared.answers.Side.{Side}
 use Rattle.fallible_contract.specs.declared.answers.Side.TheVariants.{Front, Back}
 
--- ---- draws that are each one call, whatever is asked of them and whatever may come
+-- ---- draws that are each one call, whatever is required of them and whatever may come
 
 module _ {S A E Z : Type 0} (of_item : A → Z) (of_failure : E → Z) (can : S → Type 0) (gives : S → Option Z → S → Type 0) (remaining : S → Count) (Askable : S → Type 0) (Arrives : S → Answered A E → Type 0) where
   abbrev step : S → Answered A E → S → Type 0
@@ -19,7 +19,7 @@ module _ {S A E Z : Type 0} (of_item : A → Z) (of_failure : E → Z) (can : S 
   abbrev Over : Contract S A E
   Over = record (std_contract of_item of_failure can gives remaining) { can_next = Askable; may_give = λ s x. Arrives s (item x); may_fail = λ s e. Arrives s (failure e) }
 
-  -- After a draw it may be asked again, and at an end the bound doesn't rise; what is drawn was to come, and what may come after a draw was to come before it.
+  -- After a draw the std iterator may be drawn again, and at an end the bound doesn't rise; what is drawn was to come, and what may come after a draw was to come before it.
   record Follows : Type 0 where
     again : (s t : S) (r : Answered A E) → Askable s → step s r t → Askable t
     never_rises : (s t : S) → Askable s → step s (Ok None) t → IsFinite (remaining s) → size (remaining t) ≤ size (remaining s)
