@@ -27,6 +27,6 @@ abbrev pub closing_hints : {P : Type 0} → (P → ℕ × Option ℕ → Type 0)
 closing_hints hints (p, true) h = h ≡ (0, Some 0)
 closing_hints hints (p, false) h = hints p h
 
--- The contract of such an adapter: that of its source but for the step and the hint, which the flag closes.
+-- The contract of an adapter that one place closes: that of its source but for the step and the hint, which the flag closes.
 abbrev pub closing_contract : {P Q B E : Type 0} → Contract P B E → (P → Q → P → Type 0) → (Q → Answered B E) → (Q → Bool) → Contract (P × Bool) B E
 closing_contract m draws answer closes = with_steps_contract m (closing_step draws answer closes) (closing_hints m.hints)

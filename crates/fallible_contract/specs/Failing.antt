@@ -19,7 +19,7 @@ failing_outcome d e = Kept e
 abbrev pub FailingTrace : {S F X D E : Type 0} → (S → Answered X D → S → Type 0) → (F → D → E → F → Type 0) → S × F → List (Answered X E) → S × F → Type 0
 FailingTrace steps call p trace q = PassTrace (steps_exchanged steps) call failing_outcome p (map exchanged trace) q
 
--- one draw of such an adapter: its trace of one answer
+-- one draw of an adapter that replaces failures: its trace of one answer
 abbrev pub failing_step : {S F X D E : Type 0} → (S → Answered X D → S → Type 0) → (F → D → E → F → Type 0) → S × F → Answered X E → S × F → Type 0
 failing_step steps call p r q = FailingTrace steps call p (r ∷ []) q
 
@@ -80,7 +80,7 @@ outcome_exchanged End = End
 abbrev pub RecoveringTrace : {S F X D V E : Type 0} → (S → Answered X D → S → Type 0) → (F → D → V → F → Type 0) → (D → V → Outcome X E) → S × F → List (Answered X E) → S × F → Type 0
 RecoveringTrace steps call outcome p trace q = PassTrace (steps_exchanged steps) call (λ d v. outcome_exchanged (outcome d v)) p (map exchanged trace) q
 
--- one draw of such an adapter: its trace of one answer
+-- one draw of an adapter that may leave failures out: its trace of one answer
 abbrev pub recovering_step : {S F X D V E : Type 0} → (S → Answered X D → S → Type 0) → (F → D → V → F → Type 0) → (D → V → Outcome X E) → S × F → Answered X E → S × F → Type 0
 recovering_step steps call outcome p r q = RecoveringTrace steps call outcome p (r ∷ []) q
 

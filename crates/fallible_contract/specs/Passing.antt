@@ -69,7 +69,7 @@ passing_contract m call callable outcome hints = record {
 abbrev pub leaving_out_contract : {S F X R B E : Type 0} → Contract S X E → (F → X → R → F → Type 0) → ((X → Type 0) → F → Type 0) → (X → R → Outcome B E) → (S × F → ℕ × Option ℕ → Type 0) → Contract (S × F) B E
 leaving_out_contract m call callable outcome hints = let p = passing_contract m call callable outcome hints in record p { can_next = λ s. m.is_finite s.0 × p.can_next s }
 
--- one draw of such an adapter: its trace of one answer
+-- one draw of an adapter that lets items pass: its trace of one answer
 abbrev pub passing_step : {S F X R B E : Type 0} → (S → Answered X E → S → Type 0) → (F → X → R → F → Type 0) → (X → R → Outcome B E) → S × F → Answered B E → S × F → Type 0
 passing_step steps call outcome p r q = PassTrace steps call outcome p (r ∷ []) q
 

@@ -35,7 +35,7 @@ module _ {S B E : Type 0} (steps : S → Answered B E → S → Type 0) (from : 
   abbrev pub RefusesNext : S → Type 0
   RefusesNext s = (r : Answered B E) (t : S) → steps s r t → AnswersRefusal from r
 
-  -- this answer is an allocation failure, or it is no end and the next one is one: what was held comes before it
+  -- the answer is an allocation failure, or it is no end and the next one is one: what was held comes before it
   abbrev pub AtRefusal : Answered B E → S → Type 0
   AtRefusal r t = AnswersRefusal from r ⊎ ((r ≢ end) × RefusesNext t)
 
