@@ -46,7 +46,7 @@ gives_item steps [] s u x a w = absurd (let h = a (Ok (Some x)) u w in cc)
 gives_item steps (Err y ∷ l) s u x a w = absurd (let h = (a (Ok (Some x)) u w).0 in cc)
 gives_item steps (Ok y ∷ l) s u x a w = let h = a (Ok (Some x)) u w in (l, (let q = h.0 in cc), h.1)
 
--- The turns act as h: they leave the state as it is, go on where h finds two items equal, and stop with what h answers elsewhere.
+-- The turns act as h: they leave the state as it is, go on where h finds two items equal, and stop with what h returns elsewhere.
 pub record TurnsAs {A B E C : Type 0} (turns : C → A × B → ControlFlow (Result (Option Ordering) E) (Unit {0}) → C → Type 0) (h : A → B → Result (Option Ordering) E) (c : C) : Type 0 where
   pub goes : (p : A × B) (d : C) → turns c p (Continue tt) d → (d ≡ c) × (h p.0 p.1 ≡ Ok (Some Equal))
   pub stops : (p : A × B) (r : Result (Option Ordering) E) (d : C) → turns c p (Break r) d → (h p.0 p.1 ≡ r) × ¬ (r ≡ Ok (Some Equal))

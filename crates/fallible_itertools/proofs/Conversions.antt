@@ -69,7 +69,7 @@ module _ {S A E E' F : Type 0} {from : E → E' → Type 0} {steps : S → Answe
 
 -- ---- what is left: such a search is a fold without a value, whose closure fails where the search stops
 
--- what such a closure answers
+-- what such a closure returns
 abbrev went_or_stopped : Bool → Result (Unit {0}) (Unit {0})
 went_or_stopped true = Err tt
 went_or_stopped false = Ok tt

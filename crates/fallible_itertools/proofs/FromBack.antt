@@ -110,7 +110,7 @@ module _ {S A E : Type 0} {front back : S → Answered A E → S → Type 0} {s 
     unfolding rest_true
     find_left {r = r} c = left_as _ (rest_stop (λ v. v) h l) c.ran (λ left ran. stop_drawn call find_pick None (λ v. v) find_stops h f acts c.items c.last (length c.items) r c.at.closure g l left ran c.at.went c.at.exit)
 
--- the same of draws from the back, with what is answered
+-- the same of draws from the back, with what is returned
 module _ {S A E : Type 0} {front back : S → Answered A E → S → Type 0} {s t : S} (l : List (Result A E)) (i : ListsBothEnds front back s l) where
   pub nth_at_back : {n : ℕ} {r : Answered A E} → Nth back s n r t → (r ≡ nth_of n (reverse l)) × ListsBothEnds front back t (reverse (rest_nth n (reverse l)))
   nth_at_back c = let j = listed_swapped i in (nth_is (reverse l) c (lists_first j), listed_swapped (nth_left (reverse l) j c))

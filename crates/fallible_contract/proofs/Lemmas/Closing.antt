@@ -1,4 +1,4 @@
--- The runs of an adapter that one place closes for good.
+-- The runs of an adapter that one place closes.
 use Rattle.std.specs.Prelude.{◌≡◌, ℕ, zero, suc, ◌<◌, List, [], ◌∷◌, ◌++◌, map, replicate, Bool, true, false, ◌⊎◌, ◌↔◌}
 use Rattle.std.specs.List.{FoldsTo}
 use Rattle.std.proofs.Common.{refl, sym, ap, arith, inl, inr}

@@ -1,4 +1,4 @@
--- What a call of the source answers, and the call of the closure where it met a failure, are what that call of an adapter whose closure is called on failures answers: so of a fold, a count, a last item and an `nth`.
+-- What a call of the source returns, and the call of the closure where it met a failure, are what that call of an adapter whose closure is called on failures answers: so of a fold, a count, a last item and an `nth`.
 use Rattle.std.specs.Prelude.{◌≡◌, ℕ, length, List, [], ◌∷◌, ◌++◌, map, Option, Result, Some, None, Ok, Err}
 use Rattle.std.proofs.Common.{refl, sym, subst}
 use Rattle.fallible_contract.specs.Traces.{Answered, Run, item}
@@ -11,9 +11,9 @@ use Rattle.fallible_contract.proofs.Lemmas.Failing.{failing_answered}
 use Rattle.fallible_contract.proofs.Lemmas.Folding.{holds_into}
 use Rattle.std.specs.declared.ops.ControlFlow.{ControlFlow}
 
--- ---- what a call answers, by what came
+-- ---- what a call returns, by what came
 
--- `came made items last` says that the call answers `made` where the items came, and then the last answer. A failure that comes last is the answer; else the answer is a value. `becomes` says the same where failures are others.
+-- `came made items last` says that the call returns `made` where the items came, and then the last answer. A failure that comes last is the answer; otherwise the answer is a value. `becomes` says the same where failures are others.
 pub record FailsLast {X C D E : Type 0} (came : Result C D → List X → Answered X D → Type 0) (becomes : Result C E → List X → Answered X E → Type 0) : Type 0 where
   pub at_value : (made : Result C D) (items : List X) (v : Option X) → came made items (Ok v) → (w : C) × (made ≡ Ok w) × becomes (Ok w) items (Ok v)
   pub at_failure : (made : Result C D) (items : List X) (d : D) → came made items (Err d) → (made ≡ Err d) × ((e : E) → becomes (Err e) items (Err e))

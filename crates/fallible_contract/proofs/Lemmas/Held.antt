@@ -1,4 +1,4 @@
--- The runs of what a value holds and gives once.
+-- The runs of what a value holds and yields once.
 use Rattle.std.specs.Prelude.{◌≡◌, ℕ, List, [], ◌∷◌, ◌++◌, replicate, Option, Some, None, ◌↔◌}
 use Rattle.std.proofs.Common.{refl, sym, subst, inl, inr, suc, zero}
 use Rattle.fallible_contract.specs.Traces.{Answered, Run, end}

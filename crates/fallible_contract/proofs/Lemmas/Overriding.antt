@@ -1,4 +1,4 @@
--- The folds of a type that hands them on to a value it holds: `view` is that value, and `put` has another one in its place.
+-- The folds of a type that passes them on to a value it holds: `view` is that value, and `put` has another one in its place.
 use Rattle.std.specs.Prelude.{◌≡◌, List, [], ◌∷◌, ◌++◌, map}
 use Rattle.std.specs.List.{FoldsTo}
 use Rattle.std.proofs.Common.{refl, sym, subst}

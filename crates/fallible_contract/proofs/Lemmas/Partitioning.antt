@@ -45,7 +45,7 @@ module _ {A E F B : Type 0} (call : F → A → Result Bool E → F → Type 0) 
   asked [] c d e = ap (λ z. z.0) e
   asked (x ∷ items) c d w = ((w.0).0, (w.1.0, w.1.1), asked items w.0 d w.2)
 
-  -- where the closure may be asked, the turn may be taken
+  -- where the closure may be called, the turn may be taken
   pub partition_callable : {S : Type 0} {steps : S → Answered A E → S → Type 0} {s : S} (takes : F → A → Type 0) (sides : B × B) → HoldsAtEachTurn steps (Asks call) takes s f → CallableDriving steps (IsPartitionTurn call made refuses) (λ c x. takes c.0 x) s (f, sides)
   partition_callable takes sides h = record { at = λ items t u d x ran went step. h.at items t u d.0 x ran (asked items (f, sides) d went) step }
 

@@ -1,4 +1,4 @@
--- A trace that lets answers pass, answer by answer.
+-- A trace that lets items pass, answer by answer.
 use Rattle.std.specs.Prelude.{◌≡◌, ℕ, length, true, false, List, [], ◌∷◌, ◌++◌, map, Option, Result, Some, None, Ok, Err}
 use Rattle.std.specs.List.{FoldsTo}
 use Rattle.std.proofs.Common.{refl, sym, subst}

@@ -149,7 +149,7 @@ module _ {S F X D V E C R : Type 0} (steps : S → Answered X D → S → Type 0
 
 -- ---- what a failure that was met leaves of the source
 
--- what a draw asks of the source and of the closure
+-- what a draw requires of the source and of the closure
 abbrev CanRecover : {S F X D V : Type 0} → Contract S X D → (F → D → V → F → Type 0) → (F → D → Type 0) → S → F → Type 0
 CanRecover m call takes s f = (m.is_finite s × IsFinite (m.remaining s)) × (m.can_next s × IsCallable call takes (m.may_fail s) f)
 

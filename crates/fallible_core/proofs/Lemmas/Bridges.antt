@@ -16,13 +16,13 @@ same : {A : Type 0} (l : List A) → map (λ y. y) l ≡ l
 same [] = refl
 same (x ∷ l) = ap {B = List _} (λ k. x ∷ k) (same l)
 
--- Values V are seen as those of a fallible iterator. What std's `next` gave is `answer` of it, and `shown` is what it gives of a list.
+-- Values V are seen as those of a fallible iterator. What std's `next` yielded is `answer` of it, and `shown` is what it yields of a list.
 module _ {V S A E Z : Type 0} (view : V → S) (steps : S → Answered A E → S → Type 0) (answer : Option Z → Answered A E) (shown : List (Result A E) → List Z) (nothing : shown [] ≡ [])
     (element : (o : Option Z) (y : Result A E) (l : List (Result A E)) → answer o ≡ result_answer y → (z : Z) × (o ≡ Some z) × (shown (y ∷ l) ≡ z ∷ shown l)) (none : (o : Option Z) → answer o ≡ Ok None → o ≡ None) where
   abbrev gives : V → Option Z → V → Type 0
   gives s o t = steps (view s) (answer o) (view t)
 
-  -- what calls gave is the front of what is shown, and what is left lists the rest
+  -- what calls returned is the front of what is shown, and what is left lists the rest
   rest_after : (l : List (Result A E)) (xs : List Z) (s t : V) → AlwaysGives steps (view s) l → Yields gives s xs t → (more : List (Result A E)) × (shown l ≡ xs ++ shown more) × AlwaysGives steps (view t) more
   rest_after l [] s t g y = (l, refl, subst (λ (u : V). AlwaysGives steps (view u) l) y g)
   rest_after [] (x ∷ xs) s t g y = absurd (let e = none (Some x) (g (answer (Some x)) (view y.0) y.1) in cc)
@@ -78,7 +78,7 @@ module _ {S A E : Type 0} (m : Contract S A E) where
   sure_after : (s t : S) (r : Answered A E) → NeverFails m s → m.steps s r t → NeverFails m t
   sure_after s t r sure step trace u v e ran fails = sure (r ∷ trace) u v e (t, step, ran) fails
 
-  -- a draw of what can never fail is a call of std's `next` as std asks it to be
+  -- a draw of what can never fail is a call of std's `next` as std requires it to be
   pub progress : {V : Type 0} (view : V → S) → Lawful m → (s t : V) (o : Option A) → m.can_next (view s) → NeverFails m (view s) → m.steps (view s) (Ok o) (view t) → MakesProgress {S = V} {A = A} (λ v. m.can_next (view v) × NeverFails m (view v)) (λ v. m.remaining (view v)) s o t
   progress view l s t (Some x) c sure step =
       let g = l.kept_by_draw (view s) (Ok (Some x)) (view t) c step in

@@ -104,7 +104,7 @@ module _ {X E : Type 0} where
   not_end x true h = cc
   not_end x false h = cc
 
--- what the run of a filter was drawn from: a run of its source, with the same last answer, of whose items these are those to which h answers true
+-- what the run of a filter was drawn from: a run of its source, with the same last answer, of whose items these are those to which h returns true
 pub record FilteredRun {S X E : Type 0} (steps : S → Answered X E → S → Type 0) (h : X → Bool) (s : S) (xs : List X) (last : Answered X E) (t : S) : Type 0 where
   pub items : List X
   pub ran : Run steps s (map item items ++ last ∷ []) t

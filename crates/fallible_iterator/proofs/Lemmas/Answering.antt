@@ -54,7 +54,7 @@ module _ {A E : Type 0} where
   told-length [] = refl
   told-length (y ∷ a) = ap suc (told-length a)
 
-  -- more values behind a list from which no more are taken than it has
+  -- more values after a list from which no more are taken than it has
   more_behind : (sides : List Side) (a b c : List (Answer A E)) → backs sides ≤ length b → by_sides sides a (b ++ c) ≡ by_sides sides a b
   unfolding by_sides
   more_behind [] a b c few = refl

@@ -11,7 +11,7 @@ use Rattle.fallible_contract.specs.Ends.{Ends, LawfulEnds, from_back}
 use Rattle.fallible_contract.specs.BothEnds.{RunAtEnds}
 use Rattle.fallible_contract.specs.Lists.{AlwaysGives, Lists}
 use Rattle.fallible_contract.specs.Laws.Contract.{kept_run}
--- a lemma of `fallible_core`, handed on
+-- a lemma of `fallible_core`, reexported
 pub use Rattle.fallible_core.proofs.Lemmas.Bridges.{items_unwrapped}
 use Rattle.fallible_iterator.specs.Sources.Std.{std_step, element_by, IsAskable, IsAskableAtEnds}
 use Rattle.fallible_contract.specs.declared.answers.Side.{Side}
@@ -96,7 +96,7 @@ module _ {V S A E : Type 0} (m : Contract S A E) (view : V → S) where
     never_rises = λ trace t u ran h. never_rises_at t u l (kept_run l (view s) trace (view t) c (run_below trace s t ran)).can_next h;
   }
 
-  -- each draw makes the progress that std asks
+  -- each draw makes the progress that std requires
   progresses : Lawful m → (s : V) (r : Answered A E) (t : V) → m.can_next (view s) → m.steps (view s) r (view t) → MakesProgress can remaining s (element_by {A = A} {E = E} Ok Err r) t
   progresses l s (Ok (Some x)) t c h = let g = l.kept_by_draw (view s) (Ok (Some x)) (view t) c h in record { on = λ f. let less = g.answer.2 f in (g.can_next, less.0, less.1); keeps = g.can_next; rests = λ f. tt }
   progresses l s (Ok None) t c h = let g = l.kept_by_draw (view s) (Ok None) (view t) c h in record { on = λ f. tt; keeps = tt; rests = λ f. (g.answer.1 f).0 }

@@ -1,4 +1,4 @@
--- What a comparison makes of a source that gives one item again and again, and of one whose answers are listed.
+-- What a comparison makes of a source that yields one item again and again, and of one whose answers are listed.
 use Rattle.std.specs.Prelude.{◌≡◌, ℕ, ◌+◌, suc, length, Option, Some, Result, Ok, Err, List, [], ◌∷◌, ◌++◌, map}
 use Rattle.std.proofs.Common.{refl, sym, ap, subst, arith, ◌∙◌}
 use Rattle.fallible_contract.specs.Traces.{Answered, Run, item}
@@ -36,7 +36,7 @@ module _ {A E : Type 0} (rule : A → A → Option Ordering) where
           compared_from pairs b ran.0 run.0 equal.1 (repeats_after left-steps s ran.0 (Ok (Some p.0)) (Ok x) again ran.1) h.1 ran.2 run.2 ∙ sym (ap (λ o. unless_equal o (compared rule (Ok x ∷ repeated (length b) x) b)) same)
 
 module _ {S T A E : Type 0} {rule : A → A → Option Ordering} {left-steps : S → Answered A E → S → Type 0} {right-steps : T → Answered A E → T → Type 0} {s : S} (x : A) (b : List (Result A E)) where
-  -- a side that gives the item x without end compares as x does, repeated once more often than the other side is long
+  -- a side that yields the item x without end compares as x does, repeated once more often than the other side is long
   pub compared_repeats : {t : T} {r : Result (Option Ordering) E} → Compared rule left-steps right-steps s t r → Repeats left-steps s (Ok x) → Lists right-steps t b → r ≡ compared rule (repeated (length b + 1) x) b
   compared_repeats {t} {r} c again j = compared_from rule left-steps right-steps c.last_left c.last_right r x c.left c.right c.exit c.pairs b s t c.equal again j.runs c.left_ran c.right_ran ∙ ap (λ a. compared rule a b) (one_more_repeated (length b) x)
 

@@ -5,7 +5,7 @@ use Rattle.std.proofs.Common.{refl, sym, ap, ◌∙◌}
 use Rattle.std.proofs.lemmas.Bool.{true≢false}
 use Rattle.fallible_contract.specs.Comparing.{by_cmp, by_eq, equal_where, read_as, reads_eq}
 use Rattle.fallible_contract.specs.Lists.{compared, unless_equal}
--- lemmas of `fallible_contract` on one comparison, handed on
+-- lemmas of `fallible_contract` on one comparison, reexported
 pub use Rattle.fallible_contract.proofs.Lemmas.Comparing.{EitherAtMost, either_begins, either_fewer, end_of_either}
 use Rattle.std.specs.declared.cmp.Ordering.{Ordering}
 use Rattle.std.specs.declared.cmp.Ordering.TheVariants.{Less, Equal, Greater}

@@ -17,7 +17,7 @@ module _ {S A E : Type 0} (is_clone : S → S → Type 0) (is_infallible : S →
   abbrev Around : Contract (Cycle S) A E
   Around = seen_as cycle_parts (cycle_contract is_clone is_infallible from m)
 
-  -- clones of the kept source list the items, and aren't refused
+  -- clones of the kept source list the items, and don't fail
   record Rounds (k : S) : Type 0 where
     granted : is_infallible k
     each : (c : S) → is_clone k c → AlwaysGives m.steps c (items xs)

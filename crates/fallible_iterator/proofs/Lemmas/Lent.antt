@@ -24,7 +24,7 @@ use Rattle.fallible_core.specs.declared.joining.chain.StillDrawn.TheVariants.{Bo
 use Rattle.fallible_core.specs.declared.joining.zip.Zip.{Zip}
 
 module _ {S A E : Type 0} (steps : S → Answered A E → S → Type 0) where
-  -- what is given behind k + 1 items
+  -- what is yielded after k + 1 items
   items_behind : (xs : List A) (k : ℕ) (l : List (Result A E)) (s t : S) → length xs ≡ suc k → AlwaysGives steps s l → Run steps s (map item xs) t → AlwaysGives steps t (rest_nth k l)
   unfolding rest_nth
   items_behind [] k l s t len a ran = absurd (omega (arith, len))
@@ -89,7 +89,7 @@ pub lists_lent : {S A E : Type 0} {steps : S → Answered A E → S → Type 0} 
 lists_lent {steps = steps} {it = it} {l = l} i = lists_borrowed (unbounded_contract steps) it l i
 
 module _ {S A B E E' F : Type 0} {steps : S → Answered A E → S → Type 0} {it : MutBor S} {s t : Take (MutBor S)} {call : F → B → A → Result B E' → F → Type 0} {from : E → E' → Type 0} {b v : B} {f : F} {x : S} {l : List (Result A E)} where
-  -- After a fold over `take(k + 1)` of a borrow that came to its end, the lender lists what stands behind its first k + 1 items, where it has so many.
+  -- After a fold over `take(k + 1)` of a borrow that came to its end, the lender lists what comes after its first k + 1 items, where it has so many.
   pub rest_lent : (k : ℕ) → x ≡ t.it.now → take_parts s ≡ (it, suc k) → Folded (lent_steps steps) call from s b f (Ok v) t → Lists steps it.now l → ¬ (nth_of k l ≡ Ok None) → Lists steps x (rest_nth k l)
   rest_lent k back parts h i no_end =
       let m : Contract S A E = unbounded_contract steps in
@@ -122,7 +122,7 @@ abbrev pub lent_filter_steps : {S P A E : Type 0} → (S → Answered A E → S 
 lent_filter_steps steps g = (seen_as filter_parts (filter_contract (seen_as take_parts (take_contract (borrowed (unbounded_contract steps)))) g)).steps
 
 module _ {S P A E : Type 0} {steps : S → Answered A E → S → Type 0} {g : Mut P (Bor A × Unit {0}) (Result Bool E)} {it : MutBor S} {tk : Take (MutBor S)} {p : P} (s t : Filter (Take (MutBor S)) P) {x : S} (k : ℕ) {l : List (Result A E)} (h : A → Bool) where
-  -- After a run over `take(k + 1).filter(p)` of a borrow that came to its end, the lender lists what stands behind its first k + 1 items, where it has so many.
+  -- After a run over `take(k + 1).filter(p)` of a borrow that came to its end, the lender lists what comes after its first k + 1 items, where it has so many.
   pub rest_lent_run : Acts (call_at g) p (λ y. Ok (h y)) → x ≡ t.it.it.now → take_parts tk ≡ (it, suc k) → filter_parts s ≡ (tk, p) → (xs : List A) → Run (lent_filter_steps steps g) s (map item xs ++ end ∷ []) t → Lists steps it.now l → ¬ (nth_of k l ≡ Ok None) → Lists steps x (rest_nth k l)
   rest_lent_run acts back taken parts xs ran i no_end =
       let m : Contract S A E = unbounded_contract steps in
@@ -142,7 +142,7 @@ paired x (Ok (Some y)) = Ok (Some (x, y))
 paired x (Ok None) = Ok None
 paired x (Err e) = Err e
 
--- where the left has an item, the right was drawn, and the place answers what both make
+-- where the left has an item, the right was drawn, and the place returns what both make
 right_drawn : {A B E U : Type 0} (x : A) (others : U → Answered B E → U → Type 0) (p : ZipPlace A B E) (u v : U) → left_answer p ≡ Ok (Some x) → right_step others u p v → (d : Answered B E) × others u d v × (zip_answer p ≡ paired x d)
 right_drawn x others (left_failed e) u v is step = absurd cc
 right_drawn x others (both_drawn None d) u v is step = absurd cc
@@ -150,7 +150,7 @@ right_drawn x others (both_drawn (Some z) (Ok (Some y))) u v is step = (Ok (Some
 right_drawn x others (both_drawn (Some z) (Ok None)) u v is step = (Ok None, step, refl)
 right_drawn x others (both_drawn (Some z) (Err e)) u v is step = (Err e, step, refl)
 
--- what a place answers at which the left failed
+-- what a place returns at which the left failed
 left_failed_at : {A B E : Type 0} {e : E} (p : ZipPlace A B E) → left_answer p ≡ Err e → zip_answer p ≡ Err e
 left_failed_at (left_failed d) is = cc
 left_failed_at (both_drawn z r) is = absurd cc

@@ -39,7 +39,7 @@ module _ {S F X E : Type 0} (steps : S → Answered X E → S → Type 0) (call 
   unfolding searched
   none_false n e = cc
 
-  -- the end comes at the first item that is refused
+  -- the end comes at the first item that is rejected
   at_end : (x : Place X (Result Bool E) E) (n : ℕ) (l : List (Result X E)) (s t : S) (j g : F) → j ≡ f → AlwaysGives steps s l → place_drawn steps call (s, j) x (t, g) → end ≡ taken_answer x → searched all_pick true h n l ≡ Ok false → AlwaysGives steps t (rest_stop not h l)
   at_end (asked x (Ok true)) n l s t j g at a d is found = absurd cc
   at_end (asked x (Err e)) n l s t j g at a d is found = absurd cc
@@ -94,7 +94,7 @@ module _ {S A E : Type 0} (steps : S → Answered A E → S → Type 0) where
   gives_lender (y ∷ l) s a = λ r t w. let u : MutBor S = record s { now = t } in let d = a r u (w, refl) in (d.0, gives_lender l u d.1)
 
 module _ {S P A E : Type 0} (steps : S → Answered A E → S → Type 0) (g : Mut P (Bor A × Unit {0}) (Result Bool E)) (it : MutBor S) (p : P) (s t : TakeWhile (MutBor S) P) (l : List (Result A E)) (h : A → Result Bool E) (acts : Acts (call_at g) p h) (parts : take_while_parts s ≡ ((it, p), false)) where
-  -- A run over `take_while` of a borrow that came to its end leaves the lender at what stands behind the first item that the predicate refuses, where there is one.
+  -- A run over `take_while` of a borrow that came to its end leaves the lender at what comes after the first item that the predicate rejects, where there is one.
   left_of_run : (xs : List A) → Run (until_steps steps g) s (map item xs ++ end ∷ []) t → Lists steps it.now l → all_of h l ≡ Ok false → Lists steps t.it.now (rest_false h l)
   unfolding all_of rest_false
   left_of_run xs ran i found =
@@ -104,7 +104,7 @@ module _ {S P A E : Type 0} (steps : S → Answered A E → S → Type 0) (g : M
       record { runs = gives_lender steps (rest_false h l) t.it left }
 
 module _ {S P A E B E' F : Type 0} {steps : S → Answered A E → S → Type 0} {g : Mut P (Bor A × Unit {0}) (Result Bool E)} {it : MutBor S} {p : P} {s t : TakeWhile (MutBor S) P} {l : List (Result A E)} {call : F → B → A → Result B E' → F → Type 0} {from : E → E' → Type 0} {b v : B} {f : F} {x : S} where
-  -- After a fold over `take_while` of a borrow that came to its end, the lender lists what stands behind the first item that the predicate refuses, where there is one.
+  -- After a fold over `take_while` of a borrow that came to its end, the lender lists what comes after the first item that the predicate rejects, where there is one.
   pub rest_lent_while : (h : A → Result Bool E) → Acts (call_at g) p h → x ≡ t.it.now → take_while_source s ≡ it → take_while_predicate s ≡ p → take_while_refused s ≡ false → Folded (until_steps steps g) call from s b f (Ok v) t → Lists steps it.now l → all_of h l ≡ Ok false → Lists steps x (rest_false h l)
   rest_lent_while h acts back source predicate refused d i found =
       let parts : take_while_parts s ≡ ((it, p), false) = cc in

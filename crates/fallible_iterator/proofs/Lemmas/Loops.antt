@@ -10,7 +10,7 @@ abbrev pub CountsDown : {S A E : Type 0} → Contract S A E → S → ℕ → Ty
 CountsDown m s left = m.can_next s × ((n : ℕ) × m.bound s n × (n ≤ left))
 
 module _ {S A E B R : Type 0} where
-  -- What the whole that s0 lists answers from the value b0 on is what the rest that s lists answers from b on.
+  -- What the whole that s0 lists returns from the value b0 on is what the rest that s lists returns from b on.
   pub record AnswersFromHere (steps : S → Answered A E → S → Type 0) (answers : B → List (Result A E) → R) (s0 : S) (b0 : B) (s : S) (b : B) : Type 0 where
     pub at : (whole : List (Result A E)) → Lists steps s0 whole → (rest : List (Result A E)) × Lists steps s rest × (answers b0 whole ≡ answers b rest)
 

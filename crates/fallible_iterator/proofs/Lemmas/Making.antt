@@ -1,4 +1,4 @@
--- What `map` lists whose closure makes values up to a refusal, and what `collect` makes of such a list.
+-- What `map` lists whose closure makes values up to an allocation failure, and what `collect` makes of such a list.
 use Rattle.std.specs.Prelude.{◌≡◌, Some, None, Result, Ok, Err, List, [], ◌∷◌, ◌++◌, map, ◌⊎◌}
 use Rattle.std.specs.Fn.{Mut}
 use Rattle.std.proofs.Common.{refl, sym, ap, subst, inl, inr}
@@ -63,7 +63,7 @@ module _ {S F X V B E : Type 0} (steps : S → Answered X E → S → Type 0) (c
   failed d l s _ t g a (closes x v step called is c) = absurd (let w = (a (Ok (Some x)) _ step).0 in cc)
   failed d l s r t g a (leaves_out x v step called is c) = absurd (let w = (a (Ok (Some x)) _ step).0 in cc)
 
-  -- what a call on the list's item answered
+  -- what a call on the list's item returned
   told : (x z : X) (v : Result B E) (g : F) → z ≡ x → call f z v g → (g ≡ f) × IsToldOrRefused made from (h x) v
   told x z v g same called = let c = makes z v g called in (c.0, subst (λ (k : X). IsToldOrRefused made from (h k) v) same c.1)
 
@@ -100,12 +100,12 @@ module _ {W P V B E : Type 0} (made : V → B → Type 0) (from : AllocError →
   rest_seen y l r t later (inl q) = inl q
   rest_seen y l r t later (inr k) = inr (k.0, later k.1)
 
-  -- a value whose answers are those of its parts gives what they give
+  -- a value whose answers are those of its parts yields what they yield
   made_seen : (l : List (Result V E)) (s : W) → GivesMade made steps from (view s) l → Seen s l
   made_seen [] s a = λ r t w. a r (view t) w
   made_seen (y ∷ l) s a = λ r t w. rest_seen y l r t (λ b. made_seen l t b) (a r (view t) w)
 
--- `map` whose closure makes what h says lists what h makes, up to a refusal
+-- `map` whose closure makes what h says lists what h makes, up to an allocation failure
 pub made_by_map : {S F X V B E : Type 0} (steps : S → Answered X E → S → Type 0) (g : Mut F (X × Unit {0}) (Result B E)) (made : V → B → Type 0) (from : AllocError → E → Type 0) (h : X → Result V E) {it : S} {f : F} (l : List (Result X E)) {s : Map S F} → map_parts s ≡ (it, f) → Makes made from (call_on g) f h → Lists steps it l
     → ListsMade made (λ u r v. passing_step steps (call_on g) map_outcome (map_parts u) r (map_parts v)) from s (mapped h l)
 made_by_map steps g made from h {it} {f} l {s} parts makes i = record { runs = made_seen made from map_parts (passing_step steps (call_on g) map_outcome) (mapped h l) s (subst (λ (q : _). GivesMade made (passing_step steps (call_on g) map_outcome) from q (mapped h l)) (sym parts) (all_made steps (call_on g) made from f h makes l it i.runs)) }

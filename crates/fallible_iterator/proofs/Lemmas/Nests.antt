@@ -14,7 +14,7 @@ module _ {A E : Type 0} where
   all_drawn [] = refl
   all_drawn (r ∷ rest) = (rest, refl, all_drawn rest)
 
-  -- and they answer nothing else
+  -- and they return nothing else
   drawn_all : (trace l : List (Answered A E)) → Run first_of l trace [] → l ≡ trace
   drawn_all [] l e = e
   drawn_all (r ∷ rest) l h = h.1 ∙ ap (λ (k : List (Answered A E)). r ∷ k) (drawn_all rest h.0 h.2)

@@ -1,4 +1,4 @@
--- Loops over `next_if`: what an item that is taken, one that is refused, a failure and the end make of what is listed.
+-- Loops over `next_if`: what an item that is taken, one that is rejected, a failure and the end make of what is listed.
 use Rattle.std.specs.Prelude.{◌≡◌, Bool, true, false, ⊤, List, [], ◌∷◌, Some, None, Result, Ok, Err}
 use Rattle.std.specs.Fn.{FnReturns, FnReturnsAt, Shared}
 use Rattle.std.specs.Borrow.{Bor}
@@ -14,7 +14,7 @@ use Rattle.fallible_core.specs.declared.peeking.peekable.Peekable.{Peekable}
 use Rattle.fallible_iterator.specs.Taking.{by_test, folded_if, rest_fold_if}
 use Rattle.fallible_iterator.proofs.Lemmas.Loops.{AnswersFromHere}
 
--- A call of `next_if` from s answered r and left t, by a test that answers p x on each item x.
+-- A call of `next_if` from s returned r and left t, by a test that returns p x on each item x.
 abbrev pub TookIf : {S A E : Type 0} → (S → Answered A E → S → Type 0) → (A → Bool) → S → Answered A E → S → Type 0
 TookIf {A = A} {E = E} steps p s r t = (l : List (Result A E)) → Lists steps s l → (r ≡ first_if p l) × Lists steps t (rest_if p l)
 
@@ -57,7 +57,7 @@ module _ {S P A E : Type 0} (view : S → P) (back : P → S) (same : (p : P) �
 pub stays_ahead : {S A E : Type 0} (m : Contract S A E) (s t : Peekable S A E) → Stays (peekable_contract m) (peekable_parts s) (peekable_parts t) → Stays (seen_as peekable_parts (peekable_contract m)) s t
 stays_ahead m s t h = stays_of_parts peekable_parts (λ p. record { it = p.0; held = p.1 }) (λ p. refl) (peekable_contract m) s t h
 
--- a test that calls another one answers as that one does
+-- a test that calls another one returns as that one does
 pub looks_through : {F G A R : Type 0} {k : Shared F (Bor A × Unit {0}) R} {g : Shared G (Bor A × Unit {0}) R} {f : F} {test : G} (p : A → R) → ((x : Bor A) (v : R) → FnReturns k f (x, tt) v → FnReturnsAt g test x.now v) → LooksAs g test p → LooksAs k f p
 looks_through {g = g} {test = test} p through acts x v w = acts x v (subst (λ z. FnReturnsAt g test z v) w.shows (through w.shown v w.says))
 
@@ -94,14 +94,14 @@ module _ {S A E : Type 0} (steps : S → Answered A E → S → Type 0) (p : A �
   failure_first d (Ok y ∷ l) r i = absurd (never_fails d y (p y) r)
   failure_first d (Err z ∷ l) r i = let same : z ≡ d = (let e = r in cc) in (l, ap (λ w. Err w ∷ l) same, i)
 
--- ---- what the whole answers, by the answer of a call
+-- ---- what the whole returns, by the answer of a call
 
 module _ {S A E B R : Type 0} {steps : S → Answered A E → S → Type 0} {answers : B → List (Result A E) → R} (p : A → Bool) {s0 s t : S} {b0 b : B} {r : Answered A E} (here : AnswersFromHere steps answers s0 b0 s b) (took : TookIf steps p s r t) (whole : List (Result A E)) (lists : Lists steps s0 whole) where
   -- an item was taken
   pub item_taken : (x : A) → r ≡ Ok (Some x) → (l : List (Result A E)) × Lists steps t l × (p x ≡ true) × (answers b0 whole ≡ answers b (Ok x ∷ l))
   item_taken x is = let k = here.at whole lists in let w = took k.0 k.1 in let d = item_first steps p t x k.0 (sym is ∙ w.0) w.1 in (d.0, d.3, d.2, k.2 ∙ ap (answers b) d.1)
 
-  -- an item was refused, or the end came
+  -- an item was rejected, or the end came
   pub none_taken : r ≡ Ok None → (l : List (Result A E)) × Lists steps t l × RefusesFirst p l × (answers b0 whole ≡ answers b l)
   none_taken is = let k = here.at whole lists in let w = took k.0 k.1 in let d = none_first steps p t k.0 (sym is ∙ w.0) w.1 in (k.0, d.0, d.1, k.2)
 
@@ -176,7 +176,7 @@ module _ {S A E B : Type 0} {steps : S → Answered A E → S → Type 0} (p : A
   pub fold_goes_on : {c : B} (x : A) → r ≡ Ok (Some x) → (p x ≡ true → h b x ≡ Ok c) → AnswersFromHere steps (comes_to p h) s0 b0 t c
   fold_goes_on {c = c} x is same = goes_on_taking p x here took is (λ l accepted. goes p h b c x l accepted (same accepted))
 
-  -- what is answered, and what is left
+  -- what is returned, and what is left
   abbrev Comes : Result B E → List (Result A E) → Type 0
   Comes v whole = (v ≡ folded_if p h b0 whole) × Lists steps t (rest_fold_if p h b0 whole)
 

@@ -1,4 +1,4 @@
--- A fold of an adapter that holds, by the fold of its source up to a stop, and what is asked of that stop.
+-- A fold of an adapter that holds, by the fold of its source up to a stop, and what is called on that stop.
 use Rattle.std.specs.Prelude.{◌≡◌, ⊤, Option, Some, None, Ok, Err, List, [], ◌∷◌, ◌++◌, map}
 use Rattle.std.specs.List.{FoldsTo}
 use Rattle.std.proofs.Common.{refl, sym, subst, inl, inr}
@@ -121,7 +121,7 @@ module _ {S P X B E : Type 0} (steps : S → Answered X E → S → Type 0) (ask
     pub turn_at_stop : {Q : C → B → Type 0} {p q : S × P} {c k : C} (stop : Option E) → HoldsAtEachTurn Steps (goes_on turns) Q (None_due p) c → Driven UpTo turns p c (stop_answer stop) q k → (y : B) (g : P) → asks q.1 None (Kept y) g → Q k y
     turn_at_stop {Q = Q} {q = q} stop h w y g asked = let at = to_the_stop Q stop w in holds_here (at.holds h) (step_at_stop stop at.at q (Kept y) g (item y) (Some stop) at.stops asked (refl, refl))
 
--- ---- what may be asked of
+-- ---- what may be called on
 
 module _ {S P X B E : Type 0} (m : Contract S X E) (asks : P → Option X → Outcome B E → P → Type 0) where
   -- calls on items, in an order
@@ -150,7 +150,7 @@ module _ {P X B E : Type 0} (asks : P → Option X → Outcome B E → P → Typ
   items_asked Q [] f g w = w
   items_asked Q (c ∷ made) f g w = (w.0, w.1, items_asked Q made w.0 g w.2)
 
-  -- what items may be asked of brings it where what items and stops may be asked of does
+  -- what items may be called on brings it where what items and stops may be called on does
   reach_items : {Q : X → Type 0} {f g : P} → Reaches (asks_item asks) Q f g → Reaches asks (OrStop Q) f g
   reach_items {Q = Q} {f = f} {g = g} r = record { made = map (λ (c : X × Outcome B E). (Some c.0, c.1)) r.made; by = items_asked Q r.made f g r.by }
 
@@ -161,7 +161,7 @@ module _ {S P X B E : Type 0} {m : Contract S X E} (l : Lawful m) (asks : P → 
   lawful_up_to : Lawful Passing
   lawful_up_to = lawful_leaving_out (asks_item asks) (λ Q f. IsCallable asks pre (OrStop Q) f) as_answered_item (λ p h. ⊤) (λ Q T f g weak reached c. callable_after (or_stop_weaker weak) (reach_items asks reached) c) l
 
-  -- once its source stopped, it may be asked of that stop
+  -- once its source stopped, it may be called on that stop
   pub can_ask_of_stop : {C R : Type 0} {turns : C → B → ControlFlow R (Unit {0}) → C → Type 0} {p q : S × P} {c d : C} {r : Answered R E} → m.is_finite p.0 × m.can_next p.0 × IsCallable asks pre (MayBeAsked m p.0) p.1 → Driven (UpTo m.steps asks) turns p c r q d → pre q.1 None
   can_ask_of_stop {p = p} {q = q} can w = (kept_run lawful_up_to p _ q (can.0, (can.1, can.2)) w.ran).can_next.1.1.at q.1 None reaches_here tt
 
@@ -173,7 +173,7 @@ module _ {P F X V B E : Type 0} (asks : P → Option X → Outcome B E → P →
   reach_closure {Q = Q} ((Some x, o) ∷ made) p q w = let v = on_item p x o w.0 w.1.1 in reaches_from x v.0 w.1.0 v.1 (reach_closure made w.0 q w.2)
   reach_closure {Q = Q} ((None, o) ∷ made) p q w = subst (λ (f : F). Reaches call Q f (closure q)) (on_stop p o w.0 w.1.1) (reach_closure made w.0 q w.2)
 
-  -- where the closure may be called on what comes, the adapter may be asked of it
+  -- where the closure may be called on what comes, the adapter may be called on it
   pub callable_beside : {takes : F → X → Type 0} (pre : P → Option X → Type 0) → ((p : P) (x : X) → takes (closure p) x → pre p (Some x)) → ((p : P) → pre p None) → {Q : X → Type 0} {p : P} → IsCallable call takes Q (closure p) → IsCallable asks pre (OrStop Q) p
   callable_beside {takes = takes} pre at_item at_stop {Q = Q} {p = p} c = record { at = λ q asked r may. callable_at q asked r may }
     where

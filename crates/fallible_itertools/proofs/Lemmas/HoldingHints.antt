@@ -1,4 +1,4 @@
--- The hint of an adapter that holds and gives what is held before a stop.
+-- The hint of an adapter that holds and yields what is held before a stop.
 use Rattle.std.specs.Prelude.{◌≡◌, ℕ, ◌+◌, ◌≤◌, ◌⊎◌, min, Option, Some, None, Ok, Err, List, [], ◌∷◌, ◌++◌, length}
 use Rattle.std.proofs.Common.{refl, sym, subst, arith, inl, inr, length-append}
 use Rattle.fallible_iterator.specs.Traces.{Answered, Yields, item, end}
@@ -12,7 +12,7 @@ use Rattle.fallible_itertools.specs.Holding.{asks_item, as_answered_item, Before
 use Rattle.fallible_iterator.specs.Outcome.{Outcome}
 use Rattle.fallible_iterator.specs.Outcome.TheVariants.{Kept, LeftOut, Failure, End}
 
--- What is left out is held, and while something is held it is given before a stop.
+-- What is left out is held, and while something is held it is yielded before a stop.
 pub record GivesHeld {P X B E : Type 0} (asks : P → Option X → Outcome B E → P → Type 0) (held : P → ℕ) : Type 0 where
   pub left_out : (p : P) (x : X) (q : P) → asks p (Some x) LeftOut q → 1 ≤ held q
   pub at_stop : (p q : P) → asks p None End q → held p ≡ 0
@@ -105,7 +105,7 @@ module _ {S P X B E : Type 0} (steps : S → Answered X E → S → Type 0) (ask
   end_held s t f h _ (closes {h = g} x o step called closed d) is = absurd (weighed f g x o End closed called)
   end_held s t f h z (leaves_out {u = u} {h = g} x o step called left rest) is = let some = gives.left_out f x g (subst (λ w. asks f (Some x) w g) left called) in elim (end_held u t g h z rest is) [ inl k ↦ inr (subst (λ (p : P). 1 ≤ held p) k.0 some) | inr k ↦ inr k ]
 
-  -- where an end comes first, nothing is held, and the source answers an end first
+  -- where an end comes first, nothing is held, and the source returns an end first
   end_first : (s u : S) (f h g : P) (due : Option (Option E)) (z : Answered B E) → UpTo s f (z ∷ []) u h → Behind asks h z end (g, due) → (held f ≡ 0) × steps s end u
   end_first s u f h g due (Ok (Some y)) p b = absurd (let k = b.0 in cc)
   end_first s u f h g due (Err e) p b = absurd (failure_no_end e b.0 b.2)

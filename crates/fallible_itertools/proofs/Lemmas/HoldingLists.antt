@@ -24,7 +24,7 @@ before_stop (Failure e) rest = Err e ∷ rest
 before_stop End rest = rest
 
 module _ {Q X B E : Type 0} (does : Q → Option X → Outcome B E) (next : Q → Option X → Q) where
-  -- The list of an adapter that holds a: asked of x it answers `does a x`, and holds `next a x` then.
+  -- The list of an adapter that holds a: called on x it returns `does a x`, and holds `next a x` then.
   abbrev pub held_list : Q → List (Result X E) → List (Result B E)
   held_list a [] = before_stop (does a None) []
   held_list a (Ok x ∷ l) = by_outcome (does a (Some x)) (held_list (next a (Some x)) l) (λ e. before_stop (does (next a (Some x)) None) (Err e ∷ held_list (next (next a (Some x)) None) l))
@@ -77,7 +77,7 @@ module _ {S P Q X B E : Type 0} (steps : S → Answered X E → S → Type 0) (a
   StopThen None rest = []
   StopThen (Some e) rest = Err e ∷ rest
 
-  -- behind an end nothing is said
+  -- after an end nothing is said
   abbrev ThenGives : Option E → S → P → List (Result B E) → Type 0
   ThenGives None s p rest = ⊤
   ThenGives (Some e) s p rest = Gives s p rest
@@ -108,7 +108,7 @@ module _ {S P Q X B E : Type 0} (steps : S → Answered X E → S → Type 0) (a
   at_stop_given None LeftOut T s p b rest is meets then = absurd (none_left b is)
   at_stop_given (Some e) LeftOut T s p b rest is meets then = absurd (none_left b is)
 
-  -- ---- what draws come to, where it is known what the source answers first
+  -- ---- what draws come to, where it is known what the source returns first
 
   -- at an end
   to_end : (s t : S) (p h : P) (a : Q) (z r : Answered B E) (q : P × Option (Option E)) → At p a → AlwaysGives {A = X} {E = E} steps s [] → UpTo s p (z ∷ []) t h → Behind asks h z r q → Met None (λ u. ⊤) a r t q
@@ -128,7 +128,7 @@ module _ {S P Q X B E : Type 0} (steps : S → Answered X E → S → Type 0) (a
   to_failure e T s t p h a _ r q at i (closes x o step called is d) b = absurd (let k = (i (Ok (Some x)) _ step).0 in cc)
   to_failure e T s t p h a z r q at i (leaves_out x o step called is d) b = absurd (let k = (i (Ok (Some x)) _ step).0 in cc)
 
-  -- at an item x: what it was asked of first, by the outcome
+  -- at an item x: what it was called on first, by the outcome
   abbrev ByFirst : Q → X → (S → Type 0) → Outcome B E → Answered B E → S → P × Option (Option E) → Type 0
   ByFirst a x T (Kept y) r t q = (r ≡ item y) × (q.1 ≡ None) × At q.0 (next a (Some x)) × T t
   ByFirst a x T LeftOut r t q = (u : S) × (h : P) × At h (next a (Some x)) × T u × Steps (u, (h, None)) r (t, q)

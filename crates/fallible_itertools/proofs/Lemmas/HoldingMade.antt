@@ -1,4 +1,4 @@
--- What an adapter that holds lists up to a refusal, over a source that lists a list.
+-- What an adapter that holds lists up to an allocation failure, over a source that lists a list.
 use Rattle.std.specs.Prelude.{◌≡◌, Option, Some, None, Result, Ok, Err, List, [], ◌∷◌, ⊤, ◌⊎◌}
 use Rattle.std.proofs.Common.{refl, sym, ap, subst, inl, inr, ◌∙◌}
 use Rattle.fallible_iterator.specs.Traces.{Answered, item}
@@ -19,12 +19,12 @@ OutcomeMade made LeftOut LeftOut = ⊤
 OutcomeMade made End End = ⊤
 OutcomeMade made a b = ⊥
 
--- a failure that is made of a refusal
+-- a failure that is converted from an `AllocError`
 abbrev pub Refuses : {B E : Type 0} → (AllocError → E → Type 0) → Outcome B E → Type 0
 Refuses {E = E} from o = (e : E) × (o ≡ Failure e) × IsRefusal from e
 
 module _ {Q X Y E : Type 0} (does : Q → Option X → Outcome Y E) (next : Q → Option X → Q) where
-  -- What is left out is held, and a stop gives what is held; an item makes no end.
+  -- What is left out is held, and a stop yields what is held; an item makes no end.
   pub record Answers (Full : Q → Type 0) : Type 0 where
     pub left_out : (a : Q) (x : X) → does a (Some x) ≡ LeftOut → Full (next a (Some x))
     pub at_stop : (a : Q) → Full a → (y : Y) × (does a None ≡ Kept y)
@@ -70,7 +70,7 @@ module _ {S P Q X Y B E : Type 0} (steps : S → Answered X E → S → Type 0) 
   abbrev Gives : S → P → List (Result Y E) → Type 0
   Gives s p l = Made (s, (p, None)) l
 
-  -- ---- a refusal
+  -- ---- an allocation failure
 
   abbrev Refused : Answered B E → State → Type 0
   Refused = AtRefusal Steps from
@@ -81,7 +81,7 @@ module _ {S P Q X Y B E : Type 0} (steps : S → Answered X E → S → Type 0) 
   due_next : (e : E) → IsRefusal from e → (t : S) (q : P × Option (Option E)) → q.1 ≡ Some (Some e) → RefusesNext Steps from (t, q)
   due_next e is t q due = subst (λ (d : Option (Option E)). RefusesNext Steps from (t, (q.0, d))) (sym due) (refusal_due e is t q.0)
 
-  -- a stop that is a refusal: it is answered, or is due
+  -- a stop that is an allocation failure: it is returned, or is due
   refused_by : (e : E) → IsRefusal from e → (o : Outcome B E) (r : Answered B E) (t : S) (q : P × Option (Option E)) → BeforeStop (Some e) o r q.1 → Refused r (t, q)
   refused_by e is (Kept y) r t q w = inr ((λ ended. let k = w.0 in cc), due_next e is t q w.1)
   refused_by e is (Failure d) r t q w = inr ((λ ended. let k = w.0 in cc), due_next e is t q w.1)
@@ -95,7 +95,7 @@ module _ {S P Q X Y B E : Type 0} (steps : S → Answered X E → S → Type 0) 
   StopThen None rest = []
   StopThen (Some e) rest = Err e ∷ rest
 
-  -- behind an end nothing is said
+  -- after an end nothing is said
   abbrev ThenGives : Option E → S → P → List (Result Y E) → Type 0
   ThenGives None s p rest = ⊤
   ThenGives (Some e) s p rest = Gives s p rest
@@ -111,7 +111,7 @@ module _ {S P Q X Y B E : Type 0} (steps : S → Answered X E → S → Type 0) 
   abbrev Met : Option E → (S → Type 0) → Q → Answered B E → S → P × Option (Option E) → Type 0
   Met stop T b r t q = (h : P) × At h b × T t × AtStop asks h stop r q
 
-  -- an end is met, and no refusal; a failure may be one
+  -- an end is met, and no allocation failure; a failure may be one
   abbrev OrRefused : Option E → Type 0 → Type 0 → Type 0
   OrRefused None refused P = P
   OrRefused (Some e) refused P = refused ⊎ P
@@ -157,7 +157,7 @@ module _ {S P Q X Y B E : Type 0} (steps : S → Answered X E → S → Type 0) 
   at_failure_given e End T s p b rest is meets then = λ r t w. elim (meets r t.0 t.1 w) [ inl d ↦ inl d | inr m ↦ (let k = met_as (Some e) End T b r t.0 t.1 is m in inr (failure_alone e k.1 r t.0 t.1 rest k.2 k.3 (then t.0 t.1.0 k.0 m.2))) ]
   at_failure_given e LeftOut T s p b rest is meets then = absurd (answers.none_left b is)
 
-  -- ---- what draws come to, where it is known what the source answers first
+  -- ---- what draws come to, where it is known what the source returns first
 
   -- at an end
   to_end : (s t : S) (p h : P) (a : Q) (z r : Answered B E) (q : P × Option (Option E)) → At p a → AlwaysGives {A = X} {E = E} steps s [] → UpTo s p (z ∷ []) t h → Behind asks h z r q → Met None (λ u. ⊤) a r t q
@@ -177,7 +177,7 @@ module _ {S P Q X Y B E : Type 0} (steps : S → Answered X E → S → Type 0) 
   to_failure e T s t p h a _ r q at i (closes x o step called is d) b = absurd (let k = (i (Ok (Some x)) _ step).0 in cc)
   to_failure e T s t p h a z r q at i (leaves_out x o step called is d) b = absurd (let k = (i (Ok (Some x)) _ step).0 in cc)
 
-  -- at an item x: what it was asked of first, by the outcome that is told
+  -- at an item x: what it was called on first, by the outcome that is told
   abbrev ByFirst : Q → X → (S → Type 0) → Outcome Y E → Answered B E → S → P × Option (Option E) → Type 0
   ByFirst a x T (Kept z) r t q = IsMadeOf made (Ok z) r × (q.1 ≡ None) × At q.0 (next a (Some x)) × T t
   ByFirst a x T LeftOut r t q = (u : S) × (h : P) × At h (next a (Some x)) × T u × Steps (u, (h, None)) r (t, q)
@@ -185,7 +185,7 @@ module _ {S P Q X Y B E : Type 0} (steps : S → Answered X E → S → Type 0) 
   ByFirst a x T End r t q = ⊥
 
   module _ (x : X) (T : S → Type 0) (s : S) (p : P) (a : Q) (i : (r : Answered X E) (t : S) → steps s r t → (r ≡ Ok (Some x)) × T t) (at : At p a) where
-    -- the outcome, unless it is a refusal
+    -- the outcome, unless it is an allocation failure
     asked_as : (z : X) (o w : Outcome B E) (u : S) (h : P) → steps s (Ok (Some z)) u → asks p (Some z) o h → o ≡ w → Refuses from w ⊎ (At h (next a (Some x)) × OutcomeMade made (does a (Some x)) w × T u)
     asked_as z o w u h step called is = let k = i (Ok (Some z)) u step in let same : z ≡ x = (let c = k.0 in cc) in
         elim (on_item p a x w h at (subst (λ (c : Outcome B E). asks p (Some x) c h) is (subst (λ (y : X). asks p (Some y) o h) same called))) [ inl e ↦ inl e | inr c ↦ inr (c.0, c.1, k.1) ]
@@ -231,7 +231,7 @@ module _ {S P Q X Y B E : Type 0} (steps : S → Answered X E → S → Type 0) 
     first_as : (o : Outcome Y E) → does a (Some x) ≡ o → (r : Answered B E) (t : S) (q : P × Option (Option E)) → Steps (s, (p, None)) r (t, q) → Refused r (t, q) ⊎ ByFirst a x T o r t q
     first_as o is r t q w = subst (λ (v : Outcome Y E). Refused r (t, q) ⊎ ByFirst a x T v r t q) is (by_first w.1 r t w.0 q (to_passes w.2) w.3)
 
-    -- what it gives where its first answer is that of another value, unless it is at a refusal
+    -- what it yields where its first answer is that of another value, unless it is at an allocation failure
     gives_if : (rest : List (Result Y E)) (s : State) → (rest ≡ [] → ⊥) → ((r : Answered B E) (t : State) → Steps s r t → Refused r t ⊎ ((u : State) × Steps u r t × Made u rest)) → Made s rest
     gives_if [] s some f = absurd (some refl)
     gives_if (y ∷ rest) s some f = λ r t w. elim (f r t w) [ inl e ↦ inl e | inr k ↦ k.2 r t k.1 ]

@@ -1,4 +1,4 @@
--- What `Intersperse` lists, where a clone of the separator equals it and is never refused.
+-- What `Intersperse` lists, where a clone of the separator equals it and is always made.
 use Rattle.std.specs.Prelude.{◌≡◌, Bool, true, false, Option, Some, None, Result, Ok, Err, List, [], ◌∷◌}
 use Rattle.std.proofs.Common.{refl, sym, ap, subst, ◌∙◌}
 use Rattle.fallible_iterator.specs.Traces.{Answered, item, end}
@@ -31,7 +31,7 @@ module _ {A E : Type 0} (is_clone : A → A → Type 0) (is_infallible : A → T
     held_given : (x : A) (l : List (Result A E)) (s : S) → AlwaysGives Step (s, (z, (true, None))) l → AlwaysGives Step (s, (z, (true, Some x))) (Ok x ∷ l)
     held_given x l s g = λ r q w. (w.0, subst (λ (p : S × (A × (Bool × Option A))). AlwaysGives Step p l) (sym (parts_are q w.1 w.2 w.3)) g)
 
-    -- where an item came, each further one stands behind the separator
+    -- where an item came, each further one stands after the separator
     later_given : (l : List (Result A E)) (s : S) → AlwaysGives steps s l → AlwaysGives Step (s, (z, (true, None))) (each_after z l)
     unfolding each_after
     later_given [] s g = λ r q w. none (w.1).0 r q (g (w.1).0 q.0 (w.1).1) (w.1).2

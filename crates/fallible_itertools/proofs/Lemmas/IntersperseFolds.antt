@@ -1,4 +1,4 @@
--- A fold of the source whose turn takes the caller's on what is answered and on what is held is a fold of `Intersperse` by the caller's turn.
+-- A fold of the source whose turn takes the caller's on what is returned and on what is held is a fold of `Intersperse` by the caller's turn.
 use Rattle.std.specs.Prelude.{◌≡◌, Bool, Option, Some, None, Ok, Err, List, [], ◌∷◌, ◌++◌, map}
 use Rattle.std.specs.List.{FoldsTo}
 use Rattle.std.proofs.Common.{refl, sym, ap, subst, ◌∙◌, inl, inr}

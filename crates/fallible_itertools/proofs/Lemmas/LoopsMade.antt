@@ -1,4 +1,4 @@
--- Loops by hand over what lists values that are made of a list's items, up to a refusal.
+-- Loops by hand over what lists values that are made of a list's items, up to an allocation failure.
 use Rattle.std.specs.Prelude.{◌≡◌, ◌≢◌, Some, None, Result, Ok, Err, List, [], ◌∷◌, ◌⊎◌}
 use Rattle.std.proofs.Common.{refl, inl, inr, ◌∙◌}
 use Rattle.fallible_iterator.specs.Traces.{Answered, end}
@@ -7,13 +7,13 @@ use Rattle.std.specs.declared.alloc.AllocError.{AllocError}
 
 module _ {S X B E : Type 0} (made : X → B → Type 0) (steps : S → Answered B E → S → Type 0) (from : AllocError → E → Type 0) where
   module _ {C R : Type 0} (answers : C → List (Result X E) → R) where
-    -- what the whole answers is what the rest that s lists answers from c on
+    -- what the whole returns is what the rest that s lists answers from c on
     pub record RestFromHere (whole : R) (s : S) (c : C) : Type 0 where
       pub rest : List (Result X E)
       pub lists : ListsUpToRefusal made steps from s rest
       pub same : whole ≡ answers c rest
 
-    -- It is so, unless the next answer is a refusal.
+    -- It is so, unless the next answer is an allocation failure.
     abbrev pub MadeFromHere : R → S → C → Type 0
     MadeFromHere whole s c = RefusesNext steps from s ⊎ RestFromHere whole s c
 

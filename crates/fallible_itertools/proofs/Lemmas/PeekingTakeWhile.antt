@@ -98,7 +98,7 @@ module _ {S F X E : Type 0} {m : Contract S X E} {looks : S → X → S → Type
   again_more z [] b again = tt
   again_more z (w ∷ places) b again = (b w, again)
 
-  -- the place lets its answer go, and asks nothing of what stands behind it
+  -- the place takes its answer, and requires nothing of what comes after it
   abbrev LetsGo : Z → Type 0
   LetsGo z = (let_go z ≡ Some (source_answer z)) × ((u v : S) → v ≡ u → LeftBehind looks z u v) × ((w : Z) → AgainAt z w)
 
@@ -113,7 +113,7 @@ module _ {S F X E : Type 0} {m : Contract S X E} {looks : S → X → S → Type
     again = again_more z t.places goes.2 t.again;
   }
 
-  -- behind a look at an item that item is asked of first
+  -- after a look at an item that item is called on first
   first_looked : (w : Z) (places : List Z) (s t u q : S) (x : X) → looks s x t → Run m.steps t (filter_map let_go (w ∷ places)) u → LeftAt looks (w ∷ places) u q → AskedAgain (w ∷ places) → (v : Result Bool E) × (w ≡ asked x v)
   first_looked (asked y (Ok true)) places s t u q x look ran left again = let d = (k.next s x t (item y) ran.0 look ran.1).0 in let same : y ≡ x = cc in (Ok true, ap (λ z. asked z (Ok true)) same)
   first_looked (asked y (Err e)) places s t u q x look ran left again = let d = (k.next s x t (item y) ran.0 look ran.1).0 in let same : y ≡ x = cc in (Err e, ap (λ z. asked z (Err e)) same)
@@ -122,7 +122,7 @@ module _ {S F X E : Type 0} {m : Contract S X E} {looks : S → X → S → Type
   first_looked (asked y (Ok false)) [] s t u q x look ran left again = let same = (k.again s x t y q look (subst (λ (v : S). looks v y q) (sym ran) left)).0 in (Ok false, ap (λ z. asked z (Ok false)) same)
   first_looked (asked y (Ok false)) (w ∷ places) s t u q x look ran left again = let first = first_looked w places s t u q x look ran left again.1 in let is = again.0 in let same : y ≡ x = (let e = sym is.1 ∙ first.1 in cc) in (Ok false, ap (λ z. asked z (Ok false)) same)
 
-  -- what comes behind a look comes from before it too
+  -- what comes after a look comes from before it too
   run_before : (r : Answered X E) (l : List (Answered X E)) (p t u : S) (x : X) → looks p x t → Run m.steps t (r ∷ l) u → Run m.steps p (r ∷ l) u
   run_before r l p t u x look ran = let d = k.next p x t r ran.0 look ran.1 in (ran.0, subst (λ (a : Answered X E). m.steps p a ran.0) (sym d.0) d.1, ran.2)
 
@@ -137,7 +137,7 @@ module _ {S F X E : Type 0} {m : Contract S X E} {looks : S → X → S → Type
   from_before (asked y (Ok false)) [] p t u q x look ran left = let d = k.again p x t y q look (subst (λ (v : S). looks v y q) (sym ran) left) in (p, refl, subst (λ (z : X). looks p z q) (sym d.0) d.1)
   from_before (asked y (Ok false)) (w ∷ places) p t u q x look ran left = from_before w places p t u q x look ran left
 
-  -- a look at an item that is refused, before the others
+  -- a look at an item that is rejected, before the others
   look_before : (places : List Z) (x : X) (p t q : S) → looks p x t → Before places t q → AskedAgain places → Before (asked x (Ok false) ∷ places) p q × AskedAgain (asked x (Ok false) ∷ places)
   look_before [] x p t q look (between, ran, left) again = ((p, refl, subst (λ (v : S). looks p x v) (ran ∙ sym left) look), tt)
   look_before (w ∷ places) x p t q look (between, ran, left) again = (from_before w places p t between q x look ran left, (first_looked w places p t between q x look ran left again, again))
@@ -176,7 +176,7 @@ module _ {S F X E : Type 0} {m : Contract S X E} {looks : S → X → S → Type
   again_less z [] again = tt
   again_less z (w ∷ places) again = again.1
 
-  -- the look at an item that is asked of, and the others from there
+  -- the look at an item that is called on, and the others from there
   abbrev Looked : List Z → X → S → S → Type 0
   Looked places x p q = (t : S) × looks p x t × Before places t q
 
@@ -219,7 +219,7 @@ module _ {S F X E : Type 0} {m : Contract S X E} {looks : S → X → S → Type
   abbrev Gives : S → F → List (Result X E) → Type 0
   Gives p g l = AlwaysGives (peeking_step m.steps looks call) (p, g) l
 
-  -- a place has an answer that the source gives
+  -- a place has an answer that the source yields
   given_at : (z : Place X (Result Bool E) E) (p q : S) → DrawnAt m.steps looks z p q → (u : S) × m.steps p (source_answer z) u
   given_at (asked x (Ok true)) p q d = (q, d)
   given_at (asked x (Ok false)) p q d = k.comes p x q d

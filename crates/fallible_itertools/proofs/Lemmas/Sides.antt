@@ -15,11 +15,11 @@ pub failed_with : {X E : Type 0} (r : Result X E) (e : E) → IsErrAnd r (λ d. 
 failed_with (Ok x) e h = absurd h
 failed_with (Err d) e h = ap Err h
 
--- what a side gave, known as another value
+-- what a side yielded, known as another value
 pub gave_item : {S A E : Type 0} (steps : S → Answered A E → S → Type 0) (p : S × Option A) (t : S) {x y : Option A} → x ≡ y → Gives steps p (Ok x) t → Gives steps p (Ok y) t
 gave_item steps p t same g = subst (λ (z : _). Gives steps p (Ok z) t) same g
 
--- an item that a side gave is one that might come
+-- an item that a side yielded is one that might come
 pub item_may_come : {S A E : Type 0} (m : Contract S A E) → Lawful m → (p : S × Option A) (t : S) {x : Option A} {y : A} → m.can_next p.0 → x ≡ Some y → Gives m.steps p (Ok x) t → side_gives m p y
 item_may_come m l p t {y = y} c same g = (side_given m l p t (Some y) c (gave_item m.steps p t same g)).1
 
@@ -100,7 +100,7 @@ rest_of [] = []
 rest_of (y ∷ l) = l
 
 module _ {S A E : Type 0} (steps : S → Answered A E → S → Type 0) where
-  -- a draw answers what stands first, and leaves what lists the rest for good
+  -- a draw returns what stands first, and leaves what lists the rest for good
   pub first_for_good : (l : List (Result A E)) (s t : S) (r : Answered A E) → GivesForGood steps s l → steps s r t → (r ≡ first_answer l) × GivesForGood steps t (rest_of l)
   first_for_good [] s t r i w = (i.each [] s t r refl w, record { each = λ trace u v a ran k. i.each (r ∷ trace) u v a (t, w, ran) k })
   first_for_good (y ∷ l) s t r i w = i r t w
@@ -121,14 +121,14 @@ SideLists {A = A} {E = E} steps (s, Some x) l = (k : List (Result A E)) × (l �
 SideLists steps (s, None) l = GivesForGood steps s l
 
 module _ {S A E : Type 0} (steps : S → Answered A E → S → Type 0) where
-  -- a side gives what stands first
+  -- a side yields what stands first
   pub side_gives_first : (p : S × Option A) (t : S) (r : Answered A E) (l : List (Result A E)) → SideLists steps p l → Gives steps p r t → (r ≡ first_answer l) × GivesForGood steps t (rest_of l)
   side_gives_first (s, Some x) t r l i g = rw i.1 (g.0, subst (λ (z : S). GivesForGood steps z i.0) (sym g.1) i.2)
   side_gives_first (s, None) t r l i g = first_for_good steps l s t r i g
 
 -- ---- what both sides list together
 
--- what a side lists once it gave what stands first: without it, or all where it is held again
+-- what a side lists once it yielded what stands first: without it, or all where it is held again
 abbrev pub left_over : {A E : Type 0} → Option A → List (Result A E) → List (Result A E)
 left_over None l = rest_of l
 left_over (Some x) l = l
@@ -201,14 +201,14 @@ module _ {S A E : Type 0} (steps : S → Answered A E → S → Type 0) where
   none_from (s, Some y) t g = absurd (let no = g.0 in cc)
   none_from (s, None) t g = record { came = []; left = s; last = t; ran = refl; ended = g; few = omega arith }
 
--- How many items are given where so many of each side are let go; an end is given at an end of both.
+-- How many items are yielded where so many of each side are consumed; an end is yielded at an end of both.
 pub record GivesAsMany {A B C E F V : Type 0} (rule : Rule A B C E F V) (many : ℕ → ℕ → ℕ) : Type 0 where
   pub item_given : (f g : F) (x : Option A) (y : Option B) (v : V) (z : C) (i j : ℕ) → rule.decides f x y v g → rule.answer x y v ≡ item z → many ((held_count x - held_count (rule.left_held x y v)) + i) ((held_count y - held_count (rule.right_held x y v)) + j) ≤ many i j + 1
   pub end_given : (f g : F) (x : Option A) (y : Option B) (v : V) → rule.decides f x y v g → rule.answer x y v ≡ end → (x ≡ None) × (y ≡ None)
   pub nothing : many 0 0 ≡ 0
 
 module _ {S U A B C E F V : Type 0} (steps : S → Answered A E → S → Type 0) (others : U → Answered B E → U → Type 0) (rule : Rule A B C E F V) (many : ℕ → ℕ → ℕ) (by : GivesAsMany rule many) (lawful : IsLawfulRule rule) where
-  -- Both sides give items and then an end, and as many as these make came at least.
+  -- Both sides yield items and then an end, and as many as these make came at least.
   pub record BothEnd (p : Parts steps others rule) (n : ℕ) : Type 0 where
     pub of_left : ℕ
     pub of_right : ℕ
@@ -242,7 +242,7 @@ module _ {S U A B C E F V : Type 0} (steps : S → Answered A E → S → Type 0
   both_end [] p q ((t, h), (u, k), g) ran w = subst (λ (z : Parts steps others rule). BothEnd z 0) (sym ran) (both_end_now q t u g w.0 w.1 w.3 w.5 (sym w.6))
   both_end (z ∷ zs) p q r ran w = let b = both_end_first p ran.0 z (length zs) ran.1 (both_end zs ran.0 q r ran.2 w) in record { of_left = b.of_left; of_right = b.of_right; left = b.left; right = b.right; few = omega (arith, b.few) }
 
--- a lower bound of a side's source bounds what the side gives
+-- a lower bound of a side's source bounds what the side yields
 pub low_of : {A : Type 0} (h : Option A) (n i j : ℕ) → i ≤ j → j + held_count h ≤ n → low_with h i ≤ n
 low_of (Some x) n i j le few = omega (arith, le, few)
 low_of None n i j le few = omega (arith, le, few)

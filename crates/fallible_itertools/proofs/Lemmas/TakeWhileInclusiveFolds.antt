@@ -1,4 +1,4 @@
--- A fold of the source that stops behind a refused item is a fold of `TakeWhileInclusive`.
+-- A fold of the source that stops after a rejected item is a fold of `TakeWhileInclusive`.
 use Rattle.std.specs.Prelude.{◌≡◌, Bool, true, false, List, [], ◌∷◌, ◌++◌, map, Result, Some, None, Ok, Err}
 use Rattle.std.specs.List.{FoldsTo}
 use Rattle.std.specs.Fn.{Mut}
@@ -34,7 +34,7 @@ module _ {S F X E : Type 0} (m : Contract S X E) (a : Mut F (Bor X × Unit {0}) 
   abbrev pub parts : S → Bool × F → (S × F) × Bool
   parts s p = ((s, p.1), p.0)
 
-  -- one draw where no item was refused, at an item by the predicate's answer, at a failure and at an end; and once one was
+  -- one draw where no item was rejected, at an item by the predicate's answer, at a failure and at an end; and once one was
   item_step : (s t : S) (p q : Bool × F) (x : X) (b : Bool) → p.0 ≡ false → m.steps s (item x) t → Calls p x (Ok b) q → Steps (parts s p) (item x) (parts t q)
   item_step s t (true, f) q x b unrefused step called = absurd cc
   item_step s t (false, f) q x true unrefused step called = (asked x (Ok true), (step, (q.1, called.0, refl)), refl, called.1)
@@ -77,7 +77,7 @@ module _ {S F X E : Type 0} (m : Contract S X E) (a : Mut F (Bor X × Unit {0}) 
     no_break : (answer : Answered R E) (refused : Bool) → ◌≡◌ {A = ControlFlow (Answered R E) (Unit {0})} (Continue tt) (stopped_where (Break answer) refused) → ⊥
     no_break answer refused e = cc
 
-    -- what is known of a turn that went on: no item was refused, the item is one draw, and the caller's turn went on
+    -- what is known of a turn that went on: no item was rejected, the item is one draw, and the caller's turn went on
     record WentOn (s t : S) (p q : C × (Bool × F)) (x : X) : Type 0 where
       unrefused : q.1.0 ≡ false
       drawn : Steps (parts s p.1) (item x) (parts t q.1)
@@ -155,7 +155,7 @@ module _ {S F X E : Type 0} (m : Contract S X E) (a : Mut F (Bor X × Unit {0}) 
       taken_at : {s : S} {p : C × (Bool × F)} → p.1.0 ≡ false → Holds s p → HoldsAtEachTurn m.steps (goes_on Stopping) (λ q x. (v : Result Bool E) (g : Bool × F) (y : X) → Calls q.1 x v g → inclusive_outcome x v ≡ Kept y → P q.0 y) s p
       taken_at {s = s} {p = p} unrefused holds = record { at = λ items t u q x ran went step. let on = holds_on items s t p q unrefused ran went holds in λ v g y called is. kept_at v t u q g x y on.0 step called is on.1 }
 
-    -- a turn that went on behind which no item was refused is one that went on
+    -- a turn that went on after which no item was rejected is one that went on
     narrowed : (p : C × (Bool × F)) (x : X) (made : ControlFlow (Answered R E) (Unit {0})) (q : C × (Bool × F)) → Turned p x made q → Continue tt ≡ stopped_where made q.1.0 → Turned p x (Continue tt) q
     narrowed p x (Continue u) q w on = w
     narrowed p x (Break stop) q w on = absurd (no_break stop q.1.0 on)
@@ -174,6 +174,6 @@ module _ {S F X E : Type 0} (m : Contract S X E) (a : Mut F (Bor X × Unit {0}) 
 abbrev pub of_parts : {S F : Type 0} → (S × F) × Bool → TakeWhileInclusive S F
 of_parts p = record { it = (p.0).0; taking = (p.1, (p.0).1) }
 
--- where an item was refused, an end without a draw
+-- where an item was rejected, an end without a draw
 pub refused_drained : {S F X E : Type 0} (m : Contract S X E) (a : Mut F (Bor X × Unit {0}) (Result Bool E)) (s : TakeWhileInclusive S F) {came : List X → Answered X E → Type 0} → s.taking.0 ≡ true → came [] (Ok None) → Drained (seen_as inclusive_parts (inclusive_contract m a)).steps came s s
 refused_drained m a s is at = drained_last (Ok None) (closed_step m a s.it s.taking is) at

@@ -64,7 +64,7 @@ module _ {A E : Type 0} (is_clone : A → A → Type 0) (is_infallible : A → T
     run_takes (x ∷ xs) p q ran = let d = pair_takes p.0 (ran.0).0 p.1 (ran.0).1 (item x) x (to_passes ran.1) refl in let rest = run_takes xs ran.0 q ran.2 in
         (d.0 ++ rest.0, yields_after steps d.0 rest.0 p.0 (ran.0).0 q.0 d.1 rest.1, (let long = length-append d.0 rest.0 in let one = d.2 in let none = d.3 in let more = rest.2 in omega (arith, long, one, none, more)), (let none = d.3 in let no_more = rest.3 in omega (arith, none, no_more)))
 
-    -- at an end the source ends, behind one item at most, which was the first
+    -- at an end the source ends, after one item at most, which was the first
     abbrev EndTaken : S → Option A → Type 0
     EndTaken s p = (ys : List A) × (u : S) × (v : S) × Yields steps s ys u × steps u end v × (length ys ≤ left p)
 

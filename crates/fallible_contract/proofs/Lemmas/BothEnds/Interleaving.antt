@@ -36,7 +36,7 @@ module _ {A E : Type 0} where
   back_is Front r drawn = refl
   back_is Back r drawn = refl
 
-  -- What one draw took from the list l: what makes the rest makes l with its answer, and only the empty list gives an end.
+  -- What one draw took from the list l: what makes the rest makes l with its answer, and only the empty list yields an end.
   record OneTaken (l : List (Result A E)) (side : Side) (r : Answered A E) (rest : List (Result A E)) : Type 0 where
     makes : (m w n : List (Result A E)) → rest ≡ m ++ w ++ reverse n → l ≡ with_front side r m ++ w ++ reverse (with_back side r n)
     at_end : r ≡ end → l ≡ []
@@ -78,7 +78,7 @@ module _ {S A E : Type 0} (front back : S → Answered A E → S → Type 0) whe
   no_draws [] after d e = absurd cc
   no_draws (c ∷ before) after d e = absurd cc
 
-  -- where an end was answered, later or at once, nothing was left
+  -- where an end was returned, later or at once, nothing was left
   empty_at_end : (l rest : List (Result A E)) (side : Side) (r : Answered A E) (drawn : List (Side × Answered A E)) → OneTaken l side r rest
       → ((before after : List (Side × Answered A E)) (at : Side) → drawn ≡ before ++ (at, end) ∷ after → rest ≡ came_from_front before ++ reverse (came_from_back before))
       → (before after : List (Side × Answered A E)) (at : Side) → (side, r) ∷ drawn ≡ before ++ (at, end) ∷ after → l ≡ came_from_front before ++ reverse (came_from_back before)

@@ -1,4 +1,4 @@
--- What an adapter that lets answers pass lists from both ends, from what its source lists.
+-- What an adapter that lets items pass lists from both ends, from what its source lists.
 use Rattle.std.specs.Prelude.{◌≡◌, Option, Result, Some, None, Ok, Err, List, [], ◌∷◌, ◌++◌, map, reverse, All}
 use Rattle.std.specs.List.{filter_map, cons_option}
 use Rattle.std.proofs.Common.{refl, sym, ap, subst, ◌∙◌}
@@ -36,7 +36,7 @@ All-reverse P (x ∷ xs) a = subst (λ (l : List _). All P l) (sym (reverse-appe
 -- ---- steady closures
 
 module _ {F X R : Type 0} (call : F → X → R → F → Type 0) where
-  -- at p the closure gives to the argument of the pair the answer beside it
+  -- at p the closure returns to the argument of the pair the answer beside it
   abbrev pub GivesAt : F → F → X × R → Type 0
   GivesAt p q c = (r : R) → call p c.0 r q → r ≡ c.1
 
@@ -133,7 +133,7 @@ module _ {S F X R B E : Type 0} (front back : S → Answered X E → S → Type 
   passed_front p l a r q step = subst (λ (k : List (Result B E)). TakesFirst (λ j. SaysBoth q j) r k) (sym a.list_is) (front_taken front back call outcome never_ends a.asked p.0 q.0 p.1 q.1 r a.listed a.steady (to_passes step))
 
 module _ {S F X R B E : Type 0} (front back : S → Answered X E → S → Type 0) (call : F → X → R → F → Type 0) (outcome : X → R → Outcome B E) (never_ends : (x : X) (v : R) → outcome x v ≡ End → ⊥) where
-  -- The source lists what it was asked of, and the closure gives the answers beside the items, in whatever state: the adapter lists what becomes of them.
+  -- The source lists what it was called on, and the closure returns the answers beside the items, in whatever state: the adapter lists what becomes of them.
   pub listed_passed : (asked : List (Result (X × R) E)) (s : S) (f : F) → Steady call f (items_listed asked) → ListsBothEnds front back s (source_list asked) → ListsBothEnds (passing_step front call outcome) (passing_step back call outcome) (s, f) (passed_list outcome asked)
   listed_passed asked s f steady i = listed_by_swapping (passing_step front call outcome) (passing_step back call outcome) (Says front back call outcome never_ends) (Says back front call outcome never_ends) (says_swapped back front call outcome never_ends) (says_swapped front back call outcome never_ends) (passed_front front back call outcome never_ends) (passed_front back front call outcome never_ends) (s, f) (passed_list outcome asked) (record { asked = asked; list_is = refl; listed = i; steady = steady })
 

@@ -157,7 +157,7 @@ stays_where : (added has : Bool) (P Q : Type 0) → added ≡ not has → MatchB
 stays_where false has P Q e p h = p
 stays_where true has P Q e p h = absurd (true≢false (e ∙ ap not h))
 
--- and where it answers true there is one more somewhere
+-- and where it returns true there is one more somewhere
 added_where : (added has : Bool) (P Q : Type 0) → added ≡ not has → MatchBool added P Q → has ≡ false → P
 added_where true has P Q e p h = p
 added_where false has P Q e p h = absurd (true≢false (sym (e ∙ ap not h)))

@@ -1,4 +1,4 @@
--- What ends for good where its list is drawn.
+-- What is exhausted where its list is drawn.
 use Rattle.std.specs.Prelude.{◌≡◌, Result, List, [], ◌∷◌}
 use Rattle.std.proofs.Common.{refl, sym, ap, subst}
 use Rattle.fallible_contract.specs.Traces.{Answered, Run}

@@ -1,4 +1,4 @@
--- What an adapter that lets answers pass lists, from what its source lists.
+-- What an adapter that lets items pass lists, from what its source lists.
 use Rattle.std.specs.Prelude.{◌≡◌, Result, Some, None, Ok, Err, List, [], ◌∷◌}
 use Rattle.std.proofs.Common.{refl, sym, ap, subst, ◌∙◌}
 use Rattle.fallible_contract.specs.Traces.{Answered}
@@ -8,7 +8,7 @@ use Rattle.fallible_contract.specs.Lists.{AlwaysGives, Lists, Acts}
 use Rattle.fallible_contract.specs.declared.passing.Outcome.{Outcome}
 use Rattle.fallible_contract.specs.declared.passing.Outcome.TheVariants.{Kept, LeftOut, Failure, End}
 
--- where each draw from s is one from a state that gives the list, s gives it
+-- where each draw from s is one from a state that yields the list, s yields it
 module _ {S A E : Type 0} (steps : S → Answered A E → S → Type 0) where
   pub gives_if : (l : List (Result A E)) (s : S) → ((r : Answered A E) (t : S) → steps s r t → (u : S) × steps u r t × AlwaysGives steps u l) → AlwaysGives steps s l
   gives_if [] s f = λ r t w. let d = f r t w in d.2 r t d.1
@@ -31,7 +31,7 @@ by_outcome (Failure e) rest = Err e ∷ rest
 by_outcome End rest = []
 
 module _ {P X R B E : Type 0} (outcome : X → R → Outcome B E) (answers : P → X → R) (next : P → X → P) where
-  -- the list of an adapter whose closure is at p: called on x it answers `answers p x`, and is then at `next p x`
+  -- the list of an adapter whose closure is at p: called on x it returns `answers p x`, and is then at `next p x`
   abbrev pub passed : P → List (Result X E) → List (Result B E)
   passed p [] = []
   passed p (Ok x ∷ l) = by_outcome (outcome x (answers p x)) (passed (next p x) l)
@@ -42,7 +42,7 @@ module _ {S F P X R B E : Type 0} (steps : S → Answered X E → S → Type 0) 
   abbrev Gives : S → F → List (Result B E) → Type 0
   Gives s f l = AlwaysGives (passing_step steps call outcome) (s, f) l
 
-  -- what one draw gives, where the source's list is empty
+  -- what one draw yields, where the source's list is empty
   none_given : (s : S) (f : F) (r : Answered B E) (t : S) (g : F) → AlwaysGives {A = X} steps s [] → Passes steps call outcome s f (r ∷ []) t g → r ≡ Ok None
   none_given s f _ t g a (end_passes step d) = refl
   none_given s f _ t g a (failure_passes e step d) = absurd (let h = a (Err e) _ step in cc)
@@ -131,7 +131,7 @@ module _ {F X R : Type 0} (call : F → X → R → F → Type 0) (f : F) (h : X
   acts_still : (g : F) (p : Unit {0}) (x : X) (v : R) (k : F) → g ≡ f → call g x v k → (k ≡ f) × (v ≡ h x)
   acts_still g p x v k e c = acts x v k (subst (λ (z : F). call z x v k) e c)
 
-  -- what an adapter lists whose closure is asked of each item
+  -- what an adapter lists whose closure is called on each item
   pub lists_passed : {S B E : Type 0} (steps : S → Answered X E → S → Type 0) (outcome : X → R → Outcome B E) (s : S) (l : List (Result X E)) → AlwaysGives steps s l
       → AlwaysGives (passing_step steps call outcome) (s, f) (passed outcome (λ (p : Unit {0}) x. h x) (λ p x. p) tt l)
   lists_passed steps outcome s l a = all_given steps call outcome (λ g p. g ≡ f) (λ p x. h x) (λ p x. p) (acts_still) l s f tt refl a

@@ -8,7 +8,7 @@ use Rattle.fallible_contract.specs.Lists.{AlwaysGives, Lists, Acts, ActsWith, nt
 use Rattle.fallible_contract.specs.Searching.{WentOn, Decided, SearchExit, Searched, all_pick, any_pick, find_map_pick, find_pick, position_pick}
 
 module _ {S A E : Type 0} (steps : S → Answered A E → S → Type 0) where
-  -- the list at the last answer that was drawn, and what is given after it, where that is no end
+  -- the list at the last answer that was drawn, and what is yielded after it, where that is no end
   abbrev GivesAfter : S → Answered A E → List (Result A E) → Type 0
   GivesAfter t (Ok (Some x)) l = (rest : List (Result A E)) × (l ≡ Ok x ∷ rest) × AlwaysGives steps t rest
   GivesAfter t (Ok None) l = ⊤

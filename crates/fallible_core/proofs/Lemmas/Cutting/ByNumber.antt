@@ -12,7 +12,7 @@ module _ {S A E : Type 0} (steps : S → Answered A E → S → Type 0) (between
   abbrev pub leaves_one : S × ℕ → Answered A E → S × ℕ → Type 0
   leaves_one p r q = Leaves steps between p.1 p.0 (r ∷ []) q.0 q.1
 
-  -- what one draw gives, where the source's list is empty
+  -- what one draw yields, where the source's list is empty
   end_left : (n : ℕ) (s : S) (r : Answered A E) (t : S) (k : ℕ) → AlwaysGives {A = A} steps s [] → Leaves steps between n s (r ∷ []) t k → r ≡ end
   end_left n s _ t k g (keeps_item x step more) = absurd (let h = g (item x) _ step in cc)
   end_left n s _ t k g (keeps_end step more) = refl
@@ -32,7 +32,7 @@ module _ {S A E : Type 0} (steps : S → Answered A E → S → Type 0) (between
   item_left x l s _ t k g (keeps_end step more) = absurd (let h = (g end _ step).0 in cc)
   item_left x l s _ t k g (keeps_failure e step more) = absurd (let h = (g (Err e) _ step).0 in cc)
 
-  -- one draw at an item that is left out is one from what stands behind it
+  -- one draw at an item that is left out is one from what comes after it
   past_item : (x : A) (l : List (Result A E)) (j : ℕ) (s : S) (r : Answered A E) (t : S) (k : ℕ) → AlwaysGives steps s (Ok x ∷ l) → Leaves steps between (suc j) s (r ∷ []) t k → (u : S) × Leaves steps between j u (r ∷ []) t k × AlwaysGives steps u l
   past_item x l j s _ t k g (keeps_end step more) = absurd (let h = (g end _ step).0 in cc)
   past_item x l j s _ t k g (keeps_failure e step more) = absurd (let h = (g (Err e) _ step).0 in cc)

@@ -52,7 +52,7 @@ module _ {S F X E : Type 0} (steps : S → Answered X E → S → Type 0) (call 
   abbrev step_until_refused : (S × F) × Bool → Answered X E → (S × F) × Bool → Type 0
   step_until_refused = closing_step (place_drawn steps call) taken_answer is_refused
 
-  -- while no item was refused, a draw is one that lets answers pass
+  -- while no item was rejected, a draw is one that lets items pass
   one_passed : (x : Place X (Result Bool E) E) (p q : S × F) (r : Answered X E) → place_drawn steps call p x q → r ≡ taken_answer x → once_drawn p r q
   one_passed (asked x (Ok true)) p q r d e = record { places = asked x (Ok true) ∷ []; drawn = (q.0, d.0, refl); called = d.1; answers = ap (λ k. k ∷ []) e; last_kept = refl }
   one_passed (asked x (Ok false)) p q r d e = record { places = asked x (Ok false) ∷ []; drawn = (q.0, d.0, refl); called = d.1; answers = ap (λ k. k ∷ []) e; last_kept = refl }
@@ -60,7 +60,7 @@ module _ {S F X E : Type 0} (steps : S → Answered X E → S → Type 0) (call 
   one_passed (failure_at c) p q r d e = record { places = failure_at c ∷ []; drawn = (q.0, d.0, refl); called = d.1; answers = ap (λ k. k ∷ []) e; last_kept = refl }
   one_passed end_at p q r d e = record { places = end_at ∷ []; drawn = (q.0, d.0, refl); called = d.1; answers = ap (λ k. k ∷ []) e; last_kept = refl }
 
-  -- what isn't an end is no refusal
+  -- what isn't an end is no rejection
   not_refused : (x : Place X (Result Bool E) E) (y : Result X E) → taken_answer x ≡ result_answer y → is_refused x ≡ false
   not_refused (asked x (Ok true)) y e = refl
   not_refused (asked x (Ok false)) (Ok y) e = absurd cc

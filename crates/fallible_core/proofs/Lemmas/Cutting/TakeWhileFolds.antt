@@ -1,4 +1,4 @@
--- A fold of the source by the predicate's answers is a fold of `TakeWhile`, which a refused item closes.
+-- A fold of the source by the predicate's answers is a fold of `TakeWhile`, which a rejected item closes.
 use Rattle.std.specs.Prelude.{◌≡◌, Bool, true, false, List, [], ◌∷◌, Result, None, Ok, Err}
 use Rattle.std.specs.List.{FoldsTo}
 use Rattle.std.specs.Fn.{Mut}
@@ -17,7 +17,7 @@ use Rattle.fallible_core.specs.Cutting.TakeWhile.{take_while_outcome, refusing_c
 use Rattle.std.specs.declared.ops.ControlFlow.{ControlFlow}
 use Rattle.fallible_core.specs.declared.cutting.take_while.TakeWhile.{TakeWhile}
 
--- ---- calls of the predicate, beside whether one refused
+-- ---- calls of the predicate, beside whether one was rejected
 
 module _ {F X E : Type 0} (call : F → X → Result Bool E → F → Type 0) where
   calls_without_flag : (P : X → Type 0) (made : List (X × Result Bool E)) (p q : Bool × F) → FoldsTo (λ p c q. P c.0 × refusing_call call p c.0 c.1 q) p made q → FoldsTo (λ f c g. P c.0 × call f c.0 c.1 g) p.1 made q.1
@@ -43,11 +43,11 @@ module _ {S F X E : Type 0} (m : Contract S X E) (a : Mut F (Bor X × Unit {0}) 
   abbrev of_parts : S × (Bool × F) → TakeWhile S F
   of_parts p = record { it = p.0; taking = p.1 }
 
-  -- no item was refused
+  -- no item was rejected
   abbrev IsOpen : S × (Bool × F) → Type 0
   IsOpen p = p.1.0 ≡ false
 
-  -- while no item was refused, one draw by the predicate's answer is one of `TakeWhile`
+  -- while no item was rejected, one draw by the predicate's answer is one of `TakeWhile`
   one_drawn : (s t : S) (f : F) (q : Bool × F) (r : Answered X E) → Passes m.steps Calls take_while_outcome s (false, f) (r ∷ []) t q → steps (of_parts (s, (false, f))) r (of_parts (t, q))
   one_drawn s t f _ _ (end_passes step done) = (end_at, (step, refl), refl, refl)
   one_drawn s t f _ _ (failure_passes e step done) = (failure_at e, (step, refl), refl, refl)
@@ -81,7 +81,7 @@ module _ {S F X E : Type 0} (m : Contract S X E) (a : Mut F (Bor X × Unit {0}) 
   stays_open p x q unrefused step = one_open p.0 q.0 p.1 q.1 x unrefused (to_passes step)
 
   module _ (s : TakeWhile S F) where
-    -- where an item was refused, an end without a draw
+    -- where an item was rejected, an end without a draw
     refused_step : s.taking.0 ≡ true → steps s (Ok None) s
     refused_step is = subst (λ (b : Bool). steps (of_parts (s.it, (b, s.taking.1))) (Ok None) (of_parts (s.it, (b, s.taking.1)))) (sym is) (refl, refl, refl)
 

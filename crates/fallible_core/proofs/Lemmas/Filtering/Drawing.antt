@@ -82,7 +82,7 @@ module _ {F X B E : Type 0} (call : F → X → Result (Option B) E → F → Ty
   exit_by_search (Ok (Some x)) f g r e = (e.0, by_search f x (Break e.0) g e.1, e.2)
   exit_by_search (Err d) f g r e = (e.0, ap (λ h. (tt, h)) e.1)
 
-  -- where it is added whether the closure answers a value, that is the turn of the fold that counts
+  -- where it is added whether the closure returns a value, that is the turn of the fold that counts
   pub added_made : {n k : ℕ} {f g : F} (x : X) (made : Option B) → call f x (Ok made) g → k ≡ n + from_bool (is_some made) → FoldingTurn {B = B} {E = E} call filter_map_outcome (CountsOne {R = Infallible}) (n, f) x (Continue tt) (k, g)
   added_made x (Some y) called is = (Ok (Some y), called, (Continue tt, (refl, is), refl))
   added_made {n} x None called is = (Ok None, called, (refl, omega (arith, is)))

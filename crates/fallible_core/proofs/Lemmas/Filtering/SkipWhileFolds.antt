@@ -1,4 +1,4 @@
--- After an item `SkipWhile` asks its predicate no more: from there on a fold of the source is one of it.
+-- After an item `SkipWhile` calls its predicate no more: from there on a fold of the source is one of it.
 use Rattle.std.specs.Prelude.{◌≡◌, Bool, true, false, Some, None, List, [], ◌∷◌, Result, Ok, Err}
 use Rattle.std.specs.Fn.{Mut}
 use Rattle.std.specs.Borrow.{Bor}
@@ -14,7 +14,7 @@ use Rattle.fallible_core.proofs.Lemmas.Filtering.SkipWhile.{after_false, run_pas
 use Rattle.fallible_core.specs.declared.filtering.skip_while.SkipWhile.{SkipWhile}
 
 module _ {S F X E : Type 0} (steps : S → Answered X E → S → Type 0) (call : F → X → Result Bool E → F → Type 0) where
-  -- where an item is the answer, the predicate has answered false
+  -- where an item is the answer, the predicate has returned false
   found_by_item : (s t : S) (p q : Bool × F) (trace : List (Answered X E)) (x : X) → trace ≡ item x ∷ [] → Passes steps (skip_call call) skip_while_outcome s p trace t q → q.0 ≡ true
   found_by_item s _ p _ _ x e done = absurd cc
   found_by_item s t p q _ x e (end_passes step h) = absurd cc
@@ -34,7 +34,7 @@ module _ {S F X E : Type 0} (m : Contract S X E) (g : Mut F (Bor X × Unit {0}) 
   abbrev steps : SkipWhile S F → Answered X E → SkipWhile S F → Type 0
   steps = (seen_as skip_while_parts (skip_while_contract m g)).steps
 
-  -- the predicate has answered false
+  -- the predicate has returned false
   abbrev past : F → S → SkipWhile S F
   past f s = record { it = s; skipping = (true, f) }
 

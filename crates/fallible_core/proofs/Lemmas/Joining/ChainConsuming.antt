@@ -102,7 +102,7 @@ module _ {A E F : Type 0} (tests : F → A → Result Bool E → F → Type 0) w
   search_later n k f g (Err e) r h = h
   search_later n k f g (Ok (Some x)) r h = decided_later n k f g x r h
 
-  -- a search that found none met an end, and went on up to there; else it met none
+  -- a search that found none met an end, and went on up to there; otherwise it met none
   pub search_met_end : {f g : F} (items : List A) (last : Answered A E) → SearchedBy tests find_pick None f (Ok None) g items last → (last ≡ end) × FoldsTo (WentOn tests find_pick) f items g
   search_met_end {f} {g} items last h = let over = search_at_end (length items) h.closure g last h.exit in (over.0, subst (λ (z : F). FoldsTo (WentOn tests find_pick) f items z) (sym over.1) h.went)
 

@@ -43,7 +43,7 @@ some_last : {A E : Type 0} (items : List A) (last : Answered A E) → map item i
 some_last [] last e = absurd cc
 some_last (x ∷ items) last e = absurd cc
 
--- draws that gave items and a last answer gave the items first
+-- draws that yielded items and a last answer yielded the items first
 pub yields_first : {S A E : Type 0} (steps : S → Answered A E → S → Type 0) (items : List A) (last : Answered A E) (s t : S) → Run steps s (map item items ++ last ∷ []) t → (u : S) × Yields steps s items u × steps u last t
 yields_first steps [] last s t ran = (s, refl, subst (λ z. steps s last z) ran.2 ran.1)
 yields_first steps (x ∷ items) last s t ran = let h = yields_first steps items last ran.0 t ran.2 in (h.0, (ran.0, ran.1, h.1), h.2)
@@ -61,7 +61,7 @@ module _ {A E C R : Type 0} (turns : C → A → ControlFlow R (Unit {0}) → C 
   exit_elsewhere z d (Err e) r other h = refl
   exit_elsewhere z d (Ok (Some x)) r other h = refl
 
-  -- a fold that ended met an end, and its turns went on up to there; else it met none
+  -- a fold that ended met an end, and its turns went on up to there; otherwise it met none
   pub drive_met_end : {c d : C} (items : List A) (last : Answered A E) → DrivenBy turns c (Ok None) d items last → (last ≡ end) × FoldsTo (goes_on turns) c items d
   drive_met_end {c} {d} items last h = let over = exit_at_end h.carried d last h.exit in (over.0, subst (λ (z : C). FoldsTo (goes_on turns) c items z) over.1 h.went)
 

@@ -159,7 +159,7 @@ module _ {S X C B E : Type 0} (outer : S → Answered X E → S → Type 0) (int
   abbrev One : S → Option C → Answered B E → S → Option C → Type 0
   One s hand r t hand' = Flattens outer into steps s hand (r ∷ []) t hand'
 
-  -- a state from which the same draw is one, and which gives the list
+  -- a state from which the same draw is one, and which yields the list
   record DrawnFrom (r : Answered B E) (q : S × Option C) (l : List (Result B E)) : Type 0 where
     from : S × Option C
     draws : Draw from r q

@@ -46,7 +46,7 @@ module _ {S X C B E : Type 0} (m : Contract S X E) (into : X → C → Type 0) (
     pub driven_in_hand : {s : S} {c d : C} {v z : V} {r : Answered R E} → r ≢ Ok None → Driven inner.steps turns c v r d z → Driven Draw turns (s, Some c) v r (s, Some d) z
     driven_in_hand {s = s} {c = c} {d = d} other f = record { items = f.items; last = f.last; ran = run_in_hand f.items f.last s c d (drive_met_none turns other f.items f.last f.at) f.ran; at = f.at }
 
-    -- where it ended, it gave items that the turns went on with, and then its end
+    -- where it ended, it yielded items that the turns went on with, and then its end
     record ToEnd (c : C) (v w : V) (d : C) : Type 0 where
       items : List B
       at_end : C

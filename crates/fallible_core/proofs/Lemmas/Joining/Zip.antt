@@ -62,7 +62,7 @@ module _ {S U A B E : Type 0} (steps : S → Answered A E → S → Type 0) (oth
   item_of_left y a s t u v (both_drawn None r) f step drawn = absurd (let h = (f (Ok None) t step).0 in cc)
   item_of_left y a s t u v (both_drawn (Some z) r) f step drawn = let h = f (Ok (Some z)) t step in (r, ap (λ (k : A). both_drawn (Some k) r) (let q = h.0 in cc), drawn, h.1)
 
-  -- what is answered there
+  -- what is returned there
   answer_of_pair : (y : A) (x : ZipPlace A B E) (r k : Answered B E) (answer : Answered (A × B) E) → answer ≡ zip_answer x → x ≡ both_drawn (Some y) r → r ≡ k → answer ≡ zip_answer (both_drawn (Some y) k)
   answer_of_pair y x r k answer e is same = e ∙ ap zip_answer is ∙ ap (λ (w : Answered B E). zip_answer (both_drawn (Some y) w)) same
 

@@ -1,4 +1,4 @@
--- What `Cloned` lists, where a clone equals its original and is never refused; and from both ends also where each item has one clone alone.
+-- What `Cloned` lists, where a clone equals its original and is always made; and from both ends also where each item has one clone alone.
 use Rattle.std.specs.Prelude.{◌≡◌, Result, Ok, Err, List, [], ◌∷◌, map, All}
 use Rattle.std.proofs.lemmas.List.Elements.{All-nil, All-cons, All-head, All-tail}
 use Rattle.std.specs.Borrow.{Bor}
@@ -50,7 +50,7 @@ clones_passed (Ok c ∷ asked) = ap {B = List (Result _ _)} (λ k. Ok c.1 ∷ k)
 clones_passed (Err e ∷ asked) = ap {B = List (Result _ _)} (λ k. Err e ∷ k) (clones_passed asked)
 
 module _ {T E : Type 0} (is_clone : T → T → Type 0) (is_infallible : T → Type 0) (from : AllocError → E → Type 0) where
-  -- the one clone of the item, which is never refused
+  -- the one clone of the item, which never fails
   abbrev OneClone : Bor T × T → Type 0
   OneClone c = is_infallible c.0.now × ((y : T) → is_clone c.0.now y → y ≡ c.1)
 

@@ -26,7 +26,7 @@ module _ {S A E : Type 0} (steps : S → Answered A E → S → Type 0) where
   item_held : (t : S) (y : A) (l : List (Result A E)) → AlwaysGives Step (t, None) l → AlwaysGives Step (t, Some (Some y)) (Ok y ∷ l)
   item_held t y l a = λ r q w. (w.0, subst (λ (u : S). AlwaysGives Step (u, q.1) l) (sym w.1) (subst (λ (k : Option (Option A)). AlwaysGives Step (t, k) l) (sym w.2) a))
 
-  -- a peek answers the first of the list, and leaves the list but for a failure
+  -- a peek returns the first of the list, and leaves the list but for a failure
   peeked : (p q : S × Option (Option A)) (r : Answered A E) (l : List (Result A E)) → AlwaysGives Step p l → Peeks steps p r q → (r ≡ nth_of 0 l) × AlwaysGives Step q (looked_ahead l)
   unfolding nth_of looked_ahead
   peeked (s, Some o) (t, k) r [] a w = (w.0 ∙ a (Ok o) (s, None) (refl, refl, refl), subst (λ (u : S). AlwaysGives {A = A} Step (u, k) []) (sym w.1) (subst (λ (h : Option (Option A)). AlwaysGives {A = A} Step (s, h) []) (sym w.2) a))

@@ -62,12 +62,12 @@ kept_at_most between r (suc m) b j le few = kept_of_some between r m b (omega (a
 -- ---- runs
 
 module _ {S A E : Type 0} (steps : S → Answered A E → S → Type 0) (between : ℕ) where
-  -- an item is the one behind those that are left out
+  -- an item is the one after those that are left out
   item_left : (j k : ℕ) (s t : S) (y : A) → Leaves steps between j s (item y ∷ []) t k → (xs : List A) × Yields steps s xs t × (length xs ≡ j + 1) × (k ≡ between)
   item_left zero k s t _ (keeps_item {u = u} x step last) = let z = leaves_nothing steps between last in (x ∷ [], (u, step, z.0), omega arith, sym z.1)
   item_left (suc j) k s t y (leaves_out {u = u} x step rest) = let d = item_left j k u t y rest in (x ∷ d.0, (u, step, d.1), omega (arith, d.2), d.3)
 
-  -- an end is one behind no more than those
+  -- an end is one after no more than those
   end_left : (j k : ℕ) (s t : S) → Leaves steps between j s (end ∷ []) t k → (xs : List A) × (u : S) × Yields steps s xs u × steps u end t × (length xs ≤ j)
   end_left j k s t (keeps_end step last) = let z = leaves_nothing steps between last in ([], s, refl, subst (λ (v : S). steps s end v) z.0 step, omega arith)
   end_left (suc j) k s t (leaves_out {u = u} x step rest) = let d = end_left j k u t rest in (x ∷ d.0, d.1, (u, step, d.2), d.3, omega (arith, d.4))

@@ -10,7 +10,7 @@ use Rattle.fallible_core.specs.Cutting.TakeWhile.{taken_answer, is_refused, plac
 use Rattle.fallible_iterator.specs.SoundHints.{Brackets, AsSound}
 use Rattle.fallible_iterator.proofs.Lemmas.Hints.Drawn.{as_sound, ItemsOfItems, OneOfOne, no_item}
 
--- ---- what is closed for good
+-- ---- what is closed
 
 module _ {P : Type 0} (hints : P → ℕ × Option ℕ → Type 0) where
   hint_closed : (p : P × Bool) (h : ℕ × Option ℕ) → p.1 ≡ true → closing_hints hints p h → h ≡ (0, Some 0)

@@ -31,6 +31,6 @@ module _ {S F X E : Type 0} (steps : S → Answered X E → S → Type 0) (call 
   after : (p q : S × (Bool × F)) (r : Answered X E) → (p.1).0 ≡ true → skipped_step p r q → steps p.0 r q.0 × ((q.1).0 ≡ true)
   after p q r e w = let d = after_false steps call p.0 q.0 p.1 q.1 (r ∷ []) e (to_passes w) in (subst (λ (t : S). steps p.0 r t) d.ran.2 d.ran.1, ap (λ (z : Bool × F). z.0) d.same ∙ e)
 
-  -- once the predicate has answered false
+  -- once the predicate has returned false
   pub skip_while_one : OneOfOne skipped_step steps (λ p. p.0) (λ p. (p.1).0 ≡ true)
   skip_while_one = record { item_drawn = λ p q x e w. let d = after p q (item x) e w in (x, d.0, d.1); end_drawn = λ p q e w. (after p q end e w).0 }

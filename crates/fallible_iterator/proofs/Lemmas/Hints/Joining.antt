@@ -207,7 +207,7 @@ module _ {S A E : Type 0} (is_clone : S → S → Type 0) (is_infallible : S →
   kept_stays [] p q ran = sym (ap (λ (z : S × S). z.1) ran)
   kept_stays (x ∷ xs) p q ran = kept_stays xs ran.0 q ran.2 ∙ ran.1.0
 
-  -- an end comes only where a clone answers one at once
+  -- an end comes only where a clone returns one at once
   end_at_once : (p q : S × S) → cycled_step p end q → (c : S) × is_clone p.1 c × steps c end q.0
   end_at_once p q w = elim w.1 [
     | inl d ↦ absurd (let no : is_end {A = A} {E = E} end ≡ false = d.1 in cc)

@@ -88,7 +88,7 @@ bounds_as_long h l k le same none b = record {
   below = λ sure. let low = b.below (none sure) in omega (arith, low, same);
 }
 
--- ---- what lets answers pass
+-- ---- what lets items pass
 
 module _ {X R B E : Type 0} (outcome : X → R → Outcome B E) where
   items_of_outcome : (o : Outcome B E) (l : List (Result B E)) → length (items_listed (cons_option (outcome_listed o) l)) ≤ length (items_listed l) + 1

@@ -13,7 +13,7 @@ module _ {S F X R B E : Type 0} (steps : S → Answered X E → S → Type 0) (c
   abbrev pub passing_step : S × F → Answered B E → S × F → Type 0
   passing_step p r q = PassTrace steps call outcome p (r ∷ []) q
 
-  -- an item comes of one that was kept, behind those that were left out
+  -- an item comes of one that was kept, after those that were left out
   item_of_items : (s t : S) (f g : F) (y : B) → Passes steps call outcome s f (item y ∷ []) t g → (xs : List X) × Yields steps s xs t × (1 ≤ length xs)
   item_of_items s t f g _ (keeps x v y step called is done) = (x ∷ [], (t, step, refl), omega arith)
   item_of_items s t f g y (leaves_out {u = u} {h = h} x v step called is rest) = let d = item_of_items u t h g y rest in (x ∷ d.0, (u, step, d.1), omega (arith, d.2))

@@ -104,7 +104,7 @@ module _ {A : Type 0} (E : Type 0) where
   no_more_items [] w ran = omega arith
   no_more_items (x ∷ xs) w ran = absurd (let d = ran.1.0 in cc)
 
-  -- what an item leaves gives no other
+  -- what an item leaves yields no other
   at_most_one : (xs : List A) (v w : Option A) → Yields one v xs w → length xs ≤ held_count v
   at_most_one xs None w ran = no_more_items xs w ran
   at_most_one [] (Some y) w ran = omega arith

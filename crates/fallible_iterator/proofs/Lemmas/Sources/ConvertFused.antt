@@ -1,4 +1,4 @@
--- `convert` of a std iterator's `fuse` lists for good: behind the first `None` each answer is one.
+-- `convert` of a std iterator's `fuse` lists for good: after the first `None` each answer is one.
 use Rattle.std.specs.Prelude.{◌≡◌, Bool, true, false, MatchBool, MatchOption, Option, Some, None, Result, Ok, Err, List, [], ◌∷◌, map}
 use Rattle.std.specs.Iterator.{Count}
 use Rattle.std.proofs.Common.{sym, ap, subst}
@@ -12,7 +12,7 @@ use Rattle.fallible_iterator.proofs.Lemmas.Sources.Std.{gives_read, called}
 use Rattle.fallible_iterator.proofs.Lemmas.Sources.Convert.{answered, none_converted, results_are, items_are}
 use Rattle.fallible_iterator.specs.declared.sources.convert.Convert.{Convert}
 
--- What a std `Fuse` gives, where `iter` is its iterator and `done` says that a `None` came: `fuse_steps` of std, whose struct can't be named here.
+-- What a std `Fuse` yields, where `iter` is its iterator and `done` says that a `None` came: `fuse_steps` of std, whose struct can't be named here.
 module _ {S V Z : Type 0} (iter : V → S) (done : V → Bool) (raw : S → Option Z → S → Type 0) where
   abbrev pub fused : V → Option Z → V → Type 0
   fused s o t = MatchBool (done s) (o ≡ None) (raw (iter s) o (iter t)) × MatchOption o (done t ≡ true) (λ _. done t ≡ false)

@@ -16,7 +16,7 @@ use Rattle.std.specs.declared.ops.ControlFlow.{ControlFlow}
 use Rattle.std.specs.declared.ops.ControlFlow.TheVariants.{Continue, Break}
 use Rattle.fallible_iterator.specs.declared.sources.std_fold.Progressing.{Progressing}
 
--- what is made of what `?` hands over
+-- what is made of what `?` yields
 err_is : {C X : Type 0} (r : Result C X) (x : X) → IsErrAnd r (λ y. y ≡ x) → r ≡ Err x
 err_is (Ok c) x h = absurd h
 err_is (Err y) x h = ap Err h
@@ -49,7 +49,7 @@ module _ {S A E Z F C R : Type 0} (of_item : A → Z) (of_failure : E → Z) (re
   abbrev Turn : F × C → Z → F × C → Type 0
   Turn = TryFoldTurn {B = C} g (λ r b. r ≡ result_from_control_flow b)
 
-  -- a call that gave an element is a draw of what is read of it
+  -- a call that returned an element is a draw of what is read of it
   drawn : (s t : Progressing S) (z : Z) (q : Result A E) → read z ≡ q → Made s (Some z) t → Step s.it.now (result_answer q) t.it.now
   drawn s t z q e w = let step : Step s.it.now (result_answer (read z)) t.it.now = subst (λ (o : Option Z). gives s.it.now o t.it.now × MakesProgress can remaining s.it.now o t.it.now) (sym (reads z)) (w.0, w.1) in
       subst (λ (y : Result A E). Step s.it.now (result_answer y) t.it.now) e step
@@ -79,7 +79,7 @@ module _ {S A E Z F C R : Type 0} (of_item : A → Z) (of_failure : E → Z) (re
       let turn : ElementTurn turns c (read z) (Err d.0) = subst (λ (y : Result C (C × Answered R E)). ElementTurn turns c (read z) y) broke (turned c z v h called).1 in
       subst (λ (y : Result C (C × Answered R E)). Driven Step turns s.it.now c (answer_of y) t.it.now (left_of y)) (sym (err_is r d.0 is.1)) (stops_on c s t z (read z) d.0 refl w turn)
 
-  -- the calls before it gave items on which the turns went on
+  -- the calls before it yielded items on which the turns went on
   module _ (o : Option Z) (t u : Progressing S) (a : C) (h : F) (r : Result C (C × Answered R E)) (w : Made t o u) (is : Last h a o r) where
     folds : (xs : List Z) (s : Progressing S) (c : C) → Yields Made s xs t → FoldsTo Turn (f, c) xs (h, a) → Driven Step turns s.it.now c (answer_of r) u.it.now (left_of r)
     folds [] s c e went =

@@ -1,4 +1,4 @@
--- What an item, a failure of either and an item that is refused make of the value and of what is left.
+-- What an item, a failure of either and an item that is rejected make of the value and of what is left.
 use Rattle.std.specs.Prelude.{◌≡◌, Err}
 use Rattle.std.proofs.Common.{rules, sym, ◌∙◌}
 use Rattle.fallible_iterator.proofs.Lemmas.Looking.{counts_taken}

@@ -1,4 +1,4 @@
--- A fold of the source that stops behind a refused item is one of the adapter by the caller's turn.
+-- A fold of the source that stops after a rejected item is one of the adapter by the caller's turn.
 use Rattle.std.proofs.Common.{rules}
 use Rattle.fallible_iterator.specs.Folds.{beside, beside_names}
 use Rattle.fallible_iterator.proofs.Lemmas.Folds.{callable_through}

@@ -1,4 +1,4 @@
--- One draw behind an item that is held.
+-- One draw after an item that is held.
 use Rattle.std.proofs.Common.{refl}
 use Rattle.fallible_iterator.specs.Laws.Passing.{passes_item, passes_refusal, passes_end, passes_failure}
 use Rattle.fallible_iterator.specs.Outcome.TheVariants.{Kept, Failure}

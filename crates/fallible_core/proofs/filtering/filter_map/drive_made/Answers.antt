@@ -1,4 +1,4 @@
--- The source's fold, which adds at each item whether the closure answers a value, is the fold that counts.
+-- The source's fold, which adds at each item whether the closure returns a value, is the fold that counts.
 use Rattle.std.proofs.Common.{rules}
 use Rattle.fallible_contract.specs.Closures.{call_on}
 use Rattle.fallible_contract.specs.Folds.{beside, beside_names}

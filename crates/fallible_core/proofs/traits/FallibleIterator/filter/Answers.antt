@@ -1,4 +1,4 @@
--- What the source lists, without what the predicate refuses.
+-- What the source lists, without what the predicate rejects.
 use Rattle.std.proofs.Common.{refl}
 use Rattle.fallible_core.proofs.Lemmas.Filtering.Filter.{lists_filtered}
 use Rattle.fallible_core.proofs.traits.FallibleIterator.filter.Goals as goal

@@ -1,4 +1,4 @@
--- What the source lists, from the first item on that the predicate answers false on.
+-- What the source lists, from the first item on that the predicate returns false on.
 use Rattle.std.proofs.Common.{refl}
 use Rattle.fallible_core.proofs.Lemmas.Filtering.SkipWhile.{lists_skipped_while}
 use Rattle.fallible_core.proofs.traits.FallibleIterator.skip_while.Goals as goal

@@ -1,4 +1,4 @@
--- What the source lists, up to the first item that the predicate refuses.
+-- What the source lists, up to the first item that the predicate rejects.
 use Rattle.std.proofs.Common.{refl}
 use Rattle.fallible_core.proofs.Lemmas.Cutting.TakeWhile.{lists_taken_while}
 use Rattle.fallible_core.proofs.traits.FallibleIterator.take_while.Goals as goal

@@ -1,4 +1,4 @@
--- What is given is the source's answer.
+-- What is yielded is the source's answer.
 use Rattle.std.proofs.Common.{refl}
 use Rattle.fallible_core.specs.Bridges.Unwrap.{unwrap_parts}
 use Rattle.fallible_iterator.proofs.Lemmas.Bridges.{runs_given}

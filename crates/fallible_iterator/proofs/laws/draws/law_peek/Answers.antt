@@ -1,4 +1,4 @@
--- A peek answers the first of the list.
+-- A peek returns the first of the list.
 use Rattle.fallible_core.proofs.Lemmas.Peeking.PeekableLists.{peek_listed}
 use Rattle.fallible_iterator.proofs.laws.draws.law_peek.Goals as goal
 

@@ -1,4 +1,4 @@
--- What its source lists from the back, without what the predicate refuses.
+-- What its source lists from the back, without what the predicate rejects.
 use Rattle.std.proofs.Common.{subst, ap, sym}
 use Rattle.fallible_contract.specs.Ends.{from_back}
 use Rattle.fallible_contract.specs.Lists.{Lists}

@@ -1,4 +1,4 @@
--- What the closure gives, call by call.
+-- What the closure returns, call by call.
 use Rattle.fallible_iterator.proofs.Lemmas.Sources.FromFn.{lists_calls, lists_shown_by}
 use Rattle.fallible_iterator.proofs.sources.making.from_fn.Goals as goal
 

@@ -1,4 +1,4 @@
--- A failure is a stop, behind which nothing is held.
+-- A failure is a stop, after which nothing is held.
 use Rattle.fallible_itertools.proofs.Lemmas.Dedup.{deduped_in_parts}
 use Rattle.fallible_itertools.proofs.laws.holding.law_deduped.Goals as goal
 

@@ -1,4 +1,4 @@
--- The refused item was looked at, and comes next.
+-- The rejected item was looked at, and comes next.
 use Rattle.fallible_itertools.proofs.Lemmas.PeekingTakeWhile.{rest_listed}
 use Rattle.fallible_itertools.proofs.laws.peeking_take_while.law_rest_peeking_take_while.Goals as goal
 

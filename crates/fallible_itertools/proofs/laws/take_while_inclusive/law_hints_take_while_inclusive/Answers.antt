@@ -1,4 +1,4 @@
--- Until an item was refused an item comes of one of the source, and the first end of an end; from then on none comes.
+-- Until an item was rejected an item comes of one of the source, and the first end of an end; from then on none comes.
 use Rattle.std.specs.Prelude.{ℕ, Option, ◌≡◌}
 use Rattle.fallible_iterator.specs.Closures.{call_at}
 use Rattle.fallible_iterator.specs.Cutting.TakeWhile.{place_drawn, is_refused}

@@ -1,4 +1,4 @@
--- The fold that goes on behind failures from the back.
+-- The fold that goes on after failures from the back.
 use Rattle.fallible_iterator.proofs.Lemmas.Folding.{holds_into, drained_into}
 use Rattle.fallible_itertools.proofs.or_else.OrElseDoubleEndedFallibleIterator.drive_back.Goals as goal
 

@@ -1,4 +1,4 @@
--- The fold that goes on behind failures.
+-- The fold that goes on after failures.
 use Rattle.fallible_iterator.proofs.Lemmas.Folding.{holds_into, drained_into}
 use Rattle.fallible_itertools.proofs.or_else.OrElseFallibleIterator.drive.Goals as goal
 

@@ -1,4 +1,4 @@
--- A failure of the source; what is held, drawn where the closure accepts it or fails on it; and a refused item, which stays held.
+-- A failure of the source; what is held, drawn where the closure accepts it or fails on it; and a rejected item, which stays held.
 use Rattle.fallible_iterator.specs.Closures.{call_at}
 use Rattle.fallible_itertools.proofs.Lemmas.PeekingTakeWhile.{fails_ahead, takes_ahead, refuses_ahead, loses_ahead}
 use Rattle.fallible_itertools.proofs.peeking_take_while.PeekablePeekingNext.next_accepted.Goals as goal

@@ -1,4 +1,4 @@
--- What the one behind the reference lists, up to the first item that the closure refuses.
+-- What the borrowed iterator lists, up to the first item that the closure rejects.
 use Rattle.std.proofs.Common.{refl}
 use Rattle.fallible_iterator.proofs.Lemmas.Borrowed.{lists_borrowed}
 use Rattle.fallible_itertools.specs.Laws.PeekingTakeWhile.{borrowed_looking}

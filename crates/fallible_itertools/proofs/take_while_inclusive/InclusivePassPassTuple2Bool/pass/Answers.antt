@@ -1,4 +1,4 @@
--- The call on a reference to the item, and whether it refused the item.
+-- The call on a reference to the item, and whether it rejected the item.
 use Rattle.std.proofs.Common.{true, false, Ok, Err, refl}
 use Rattle.fallible_itertools.proofs.take_while_inclusive.InclusivePassPassTuple2Bool.pass.Goals as goal
 

@@ -1,4 +1,4 @@
--- The source's fold, which stops behind a refused item; once an item was refused, an end without a draw.
+-- The source's fold, which stops after a rejected item; once an item was rejected, an end without a draw.
 use Rattle.std.proofs.Common.{refl}
 use Rattle.fallible_iterator.proofs.Lemmas.Folding.{holds_into, drained_into}
 use Rattle.fallible_itertools.proofs.Lemmas.TakeWhileInclusiveFolds.{of_parts, refused_drained, inclusive_takes}

@@ -1,4 +1,4 @@
--- What `at_most_one` leaves behind the first two.
+-- What `at_most_one` leaves after the first two.
 use Rattle.std.proofs.Common.{Ok, ap, ◌∙◌}
 use Rattle.fallible_itertools.proofs.traits.FallibleItertools.exactly_one.Goals as goal
 

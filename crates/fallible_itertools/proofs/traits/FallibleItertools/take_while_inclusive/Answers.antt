@@ -1,4 +1,4 @@
--- What the source lists, up to and with the first item that the predicate refuses.
+-- What the source lists, up to and with the first item that the predicate rejects.
 use Rattle.std.proofs.Common.{refl}
 use Rattle.fallible_itertools.proofs.Lemmas.TakeWhileInclusive.{lists_inclusive}
 use Rattle.fallible_itertools.proofs.traits.FallibleItertools.take_while_inclusive.Goals as goal

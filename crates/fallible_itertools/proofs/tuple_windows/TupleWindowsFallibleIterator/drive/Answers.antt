@@ -1,4 +1,4 @@
--- The fold of what lets answers pass.
+-- The fold of what lets items pass.
 use Rattle.fallible_iterator.proofs.Lemmas.Folding.{holds_into, drained_into, takes_freely}
 use Rattle.fallible_itertools.specs.Holding.{as_answered_item}
 use Rattle.fallible_itertools.specs.TupleWindows.{windows_asks}

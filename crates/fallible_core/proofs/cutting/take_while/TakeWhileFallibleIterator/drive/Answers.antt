@@ -1,4 +1,4 @@
--- The fold of its source by the predicate's answers; once an item was refused, an end without a draw.
+-- The fold of its source by the predicate's answers; once an item was rejected, an end without a draw.
 use Rattle.std.proofs.Common.{refl}
 use Rattle.fallible_core.proofs.Lemmas.Cutting.TakeWhileFolds.{refused_drained, taking_takes, taking_drained}
 use Rattle.fallible_core.proofs.cutting.take_while.TakeWhileFallibleIterator.drive.Goals as goal

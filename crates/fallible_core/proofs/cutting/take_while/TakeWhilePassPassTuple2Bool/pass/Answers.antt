@@ -1,4 +1,4 @@
--- The call on a reference to the item, whether it refused the item, and what becomes of that.
+-- The call on a reference to the item, whether it rejected the item, and what becomes of that.
 use Rattle.std.proofs.Common.{true, false, Ok, Err, refl}
 use Rattle.fallible_core.proofs.cutting.take_while.TakeWhilePassPassTuple2Bool.pass.Goals as goal
 

@@ -1,4 +1,4 @@
--- The call on a reference to the item, and one more where it answers true. No reference changes.
+-- The call on a reference to the item, and one more where it returns true. No reference changes.
 use Rattle.std.proofs.Common.{refl, Ok, Err}
 use Rattle.fallible_contract.specs.Closures.{call_at}
 use Rattle.fallible_core.proofs.Lemmas.Filtering.Drawing.{added}

@@ -1,4 +1,4 @@
--- The call on the item, and one more where it answers a value. No reference changes.
+-- The call on the item, and one more where it returns a value. No reference changes.
 use Rattle.std.proofs.Common.{refl, Ok, Err}
 use Rattle.fallible_contract.specs.Closures.{call_on}
 use Rattle.fallible_core.proofs.Lemmas.Filtering.Drawing.{added_made, made_fits}

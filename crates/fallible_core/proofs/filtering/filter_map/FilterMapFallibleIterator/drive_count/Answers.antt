@@ -1,4 +1,4 @@
--- The source's fold, which adds at each item whether the closure answers a value, is the fold that counts.
+-- The source's fold, which adds at each item whether the closure returns a value, is the fold that counts.
 use Rattle.fallible_contract.specs.Closures.{call_on}
 use Rattle.fallible_contract.specs.Laws.Contract.{lawful_seen}
 use Rattle.fallible_contract.proofs.Lemmas.Folds.{holds_map, count_fits_from, counted_ended, counted_failed}

@@ -1,4 +1,4 @@
--- The search that stops at the first item kept or failed is the trace of one answer; once the predicate answered false, so is one of the source.
+-- The search that stops at the first item kept or failed is the trace of one answer; once the predicate returned false, so is one of the source.
 use Rattle.fallible_contract.proofs.Lemmas.Passing.{callable_search, passes_search}
 use Rattle.fallible_core.specs.Filtering.SkipWhile.{skip_while_outcome}
 use Rattle.fallible_core.proofs.Lemmas.Filtering.SkipWhileFolds.{step_past}

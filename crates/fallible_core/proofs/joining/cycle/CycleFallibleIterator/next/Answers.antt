@@ -1,4 +1,4 @@
--- A refused clone of the kept source, after the run's end.
+-- A failed clone of the kept source, after the run's end.
 use Rattle.std.proofs.Common.{refl, inr}
 use Rattle.fallible_core.proofs.joining.cycle.CycleFallibleIterator.next.Goals as goal
 

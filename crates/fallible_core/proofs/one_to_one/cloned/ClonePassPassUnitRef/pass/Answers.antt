@@ -1,4 +1,4 @@
--- The clone of what the item points to, or its refusal.
+-- The clone of what the item points to, or its failure.
 use Rattle.std.proofs.Common.{Ok, Err, refl}
 use Rattle.fallible_core.proofs.one_to_one.cloned.ClonePassPassUnitRef.pass.Goals as goal
 

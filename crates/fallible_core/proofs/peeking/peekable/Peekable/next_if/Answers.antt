@@ -1,4 +1,4 @@
--- One draw, after which an item that the closure answers false on is put back, and an end.
+-- One draw, after which an item that the closure returns false on is put back, and an end.
 use Rattle.std.proofs.Common.{Some, None, refl}
 use Rattle.fallible_contract.specs.Traces.{item}
 use Rattle.fallible_contract.specs.Laws.Contract.{stays_here}

@@ -1,4 +1,4 @@
--- What is answered is the first of the list.
+-- What is returned is the first of the list.
 use Rattle.std.proofs.Common.{rules}
 use Rattle.fallible_core.proofs.Lemmas.Peeking.PeekableLists.{peek_listed}
 use Rattle.fallible_core.proofs.peeking.peekable.Peekable.peek_copied.Goals as goal

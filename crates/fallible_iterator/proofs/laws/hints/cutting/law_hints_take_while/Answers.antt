@@ -1,4 +1,4 @@
--- Until an item was refused an item comes of one of the source, and from then on none comes.
+-- Until an item was rejected an item comes of one of the source, and from then on none comes.
 use Rattle.fallible_contract.specs.Closures.{call_at}
 use Rattle.fallible_contract.specs.Hints.{upper_alone}
 use Rattle.fallible_core.specs.Cutting.TakeWhile.{take_while_parts, place_drawn, taken_answer, is_refused}

@@ -1,4 +1,4 @@
--- An item comes of an item of the source, and once the predicate isn't asked an end of an end.
+-- An item comes of an item of the source, and once the predicate isn't called an end of an end.
 use Rattle.std.proofs.Common.{inl, inr}
 use Rattle.fallible_core.specs.Filtering.SkipWhile.{skip_while_parts}
 use Rattle.fallible_iterator.proofs.Lemmas.Hints.Drawn.{same_sound, upper_sound, sound_seen}

@@ -1,4 +1,4 @@
--- An end comes only where a fresh clone of the kept source answers one at once.
+-- An end comes only where a fresh clone of the kept source returns one at once.
 use Rattle.fallible_core.specs.Joining.Cycle.{cycle_parts}
 use Rattle.fallible_iterator.proofs.Lemmas.Hints.Drawn.{brackets_seen, made_of, sound_seen}
 use Rattle.fallible_iterator.proofs.Lemmas.Hints.Joining.{cycle_brackets, cycle_sound}
