@@ -17,7 +17,7 @@ module _ {M : Type 1} {𝓤 : Ura M} (𝓛 : Logic 𝓤) where
   open 𝓛 use {H, A}
 
   module _ (κ : Lft) (q : Share) where
-    -- the way to end a lifetime inside κ, which yields κ's token back
+    -- the way to end a lifetime inside κ, which gives κ's token back
     abbrev pub Ends : ℕ → Share → SProp 𝓤
     Ends a s = wand 𝓤 (A.lft (a ∷ κ) s) (H.⇛ (sep 𝓤 (A.dead (a ∷ κ)) (A.lft κ q)))
 

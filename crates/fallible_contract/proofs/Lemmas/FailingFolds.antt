@@ -1,4 +1,4 @@
--- What a call of the source returns, and the call of the closure where it met a failure, are what that call of an adapter whose closure is called on failures answers: so of a fold, a count, a last item and an `nth`.
+-- What a call of the source returns, and the call of the closure where it met a failure, are what that call of an adapter whose closure is called on failures returns: so of a fold, a count, a last item and an `nth`.
 use Rattle.std.specs.Prelude.{◌≡◌, ℕ, length, List, [], ◌∷◌, ◌++◌, map, Option, Result, Some, None, Ok, Err}
 use Rattle.std.proofs.Common.{refl, sym, subst}
 use Rattle.fallible_contract.specs.Traces.{Answered, Run, item}

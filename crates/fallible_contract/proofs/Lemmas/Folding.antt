@@ -48,7 +48,7 @@ pub drained_into : {S P A E : Type 0} {steps : P → Answered A E → P → Type
     → {came : List A → Answered A E → Type 0} {p q : P} → Drained steps came p q → Drained held came (into p) (into q)
 drained_into {steps = steps} {held = held} into holds {p = p} {q = q} w = record { items = w.items; last = w.last; ran = run_into steps held into holds (map item w.items ++ w.last ∷ []) p q w.ran; at = w.at }
 
--- what holds at each turn requires of items alone
+-- what must hold at each turn concerns items alone
 module _ {S P A E : Type 0} (steps : P → Answered A E → P → Type 0) {D : Type 0} (held : S → Answered A D → S → Type 0) (into : P → S) (holds : (p : P) (x : A) (q : P) → steps p (item x) q → held (into p) (item x) (into q)) where
   yields_into : (items : List A) (p q : P) → Yields steps p items q → Yields held (into p) items (into q)
   yields_into [] p q e = ap into e
@@ -87,7 +87,7 @@ module _ {S C F X V B E R : Type 0} (steps : S → Answered X E → S → Type 0
   abbrev Drives : S → C × F → Answered R E → S → C × F → Type 0
   Drives s p r t q = Driven Steps turns (s, p.1) p.0 r (t, q.1) q.0
 
-  -- after an item that is left out, what may be answered is returned from before it
+  -- after an item that is left out, what may be returned may be returned from before it
   left_same : {s u : S} {f g : F} (x : X) (v : V) → steps s (item x) u → call f x v g → outcome x v ≡ LeftOut → (r : Answered B E) (q : S × F) → Steps (u, g) r q → Steps (s, f) r q
   left_same x v step called is r q p = from_passes (leaves_out x v step called is (to_passes p))
 

@@ -159,7 +159,7 @@ module _ {A E F K : Type 0} (keeps : Ordering) (cmp : K → K → Ordering) (cal
 -- ---- by a closure that compares two, as a list of bests
 
 module _ {A E F : Type 0} (keeps : Ordering) (call : F → A → A → Result Ordering E → F → Type 0) where
-  -- what the closure returned on the items after a best, and the bests that follow
+  -- what the closure returned for the items after a best, and the bests that follow
   record PickedFrom (f : F) (best : A) (items : List A) (v : Option A) (g : F) : Type 0 where
     orders : List Ordering
     bests : List A

@@ -142,7 +142,7 @@ paired x (Ok (Some y)) = Ok (Some (x, y))
 paired x (Ok None) = Ok None
 paired x (Err e) = Err e
 
--- where the left has an item, the right was drawn, and the place returns what both make
+-- where the left has an item, the right was drawn, and the answer is what both make
 right_drawn : {A B E U : Type 0} (x : A) (others : U → Answered B E → U → Type 0) (p : ZipPlace A B E) (u v : U) → left_answer p ≡ Ok (Some x) → right_step others u p v → (d : Answered B E) × others u d v × (zip_answer p ≡ paired x d)
 right_drawn x others (left_failed e) u v is step = absurd cc
 right_drawn x others (both_drawn None d) u v is step = absurd cc
@@ -150,7 +150,7 @@ right_drawn x others (both_drawn (Some z) (Ok (Some y))) u v is step = (Ok (Some
 right_drawn x others (both_drawn (Some z) (Ok None)) u v is step = (Ok None, step, refl)
 right_drawn x others (both_drawn (Some z) (Err e)) u v is step = (Err e, step, refl)
 
--- what a place returns at which the left failed
+-- the answer of a place at which the left failed
 left_failed_at : {A B E : Type 0} {e : E} (p : ZipPlace A B E) → left_answer p ≡ Err e → zip_answer p ≡ Err e
 left_failed_at (left_failed d) is = cc
 left_failed_at (both_drawn z r) is = absurd cc

@@ -22,7 +22,7 @@ module _ {A E : Type 0} (from : AllocError → E → Type 0) where
   settled_as n held x w (Failure e) q grown s = absurd s
   settled_as n held x w End q grown s = absurd s
 
-  -- what settles with the item after it is what was called on that item
+  -- what settles with the item after it is what becomes of that item
   pub settled_grown : (n : ℕ) (held : Option (Vec A Global)) {was left : Option (Vec A Global)} {asked : Option A} (x : A) (w : Vec A Global) (o : Outcome (Vec A Global) E) (q : ℕ × Option (Vec A Global)) → asked ≡ Some x → was ≡ held → Grown was x w → left ≡ None → Settles w (n, left) o q → chunks_asks from (n, held) asked o q
   settled_grown n held x w o q is same grown none s = rw is (settled_as n held x w o q (subst (λ k. Grown k x w) same grown) (subst (λ k. Settles w (n, k) o q) none s))
 

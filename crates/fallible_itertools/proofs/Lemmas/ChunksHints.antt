@@ -64,7 +64,7 @@ module _ {S A E : Type 0} (from : AllocError → E → Type 0) (steps : S → An
   none_below : (s u : S) (low : ℕ) → steps s (Ok None) u → BoundsBelow steps s low → low ≤ 0
   none_below s u low step below = below [] s u refl step
 
-  -- a batch that is returned with the item
+  -- a batch that is yielded with the item
   kept_enough : (n low m : ℕ) (held : Option (Vec A Global)) (x : A) (w : Vec A Global) → Grown held x w → n ≤ length (vec_items w) → low - 1 ≤ m * max n 1 → Enough n held low (suc m)
   kept_enough n low m None x w is full few = let k : suc m * max n 1 ≡ m * max n 1 + max n 1 = suc-mul m (max n 1) in omega (arith, k, few)
   kept_enough n low m (Some v) x w is full few = (m, refl, omega (arith, few))

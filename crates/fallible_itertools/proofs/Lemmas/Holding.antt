@@ -1,4 +1,4 @@
--- A fold of an adapter that holds, by the fold of its source up to a stop, and what is called on that stop.
+-- A fold of an adapter that holds, by the fold of its source up to a stop, and what becomes of that stop.
 use Rattle.std.specs.Prelude.{◌≡◌, ⊤, Option, Some, None, Ok, Err, List, [], ◌∷◌, ◌++◌, map}
 use Rattle.std.specs.List.{FoldsTo}
 use Rattle.std.proofs.Common.{refl, sym, subst, inl, inr}
@@ -121,7 +121,7 @@ module _ {S P X B E : Type 0} (steps : S → Answered X E → S → Type 0) (ask
     pub turn_at_stop : {Q : C → B → Type 0} {p q : S × P} {c k : C} (stop : Option E) → HoldsAtEachTurn Steps (goes_on turns) Q (None_due p) c → Driven UpTo turns p c (stop_answer stop) q k → (y : B) (g : P) → asks q.1 None (Kept y) g → Q k y
     turn_at_stop {Q = Q} {q = q} stop h w y g asked = let at = to_the_stop Q stop w in holds_here (at.holds h) (step_at_stop stop at.at q (Kept y) g (item y) (Some stop) at.stops asked (refl, refl))
 
--- ---- what may be called on
+-- ---- what the adapter may be called on
 
 module _ {S P X B E : Type 0} (m : Contract S X E) (asks : P → Option X → Outcome B E → P → Type 0) where
   -- calls on items, in an order
@@ -150,7 +150,7 @@ module _ {P X B E : Type 0} (asks : P → Option X → Outcome B E → P → Typ
   items_asked Q [] f g w = w
   items_asked Q (c ∷ made) f g w = (w.0, w.1, items_asked Q made w.0 g w.2)
 
-  -- what items may be called on brings it where what items and stops may be called on does
+  -- calls on items bring it where calls on items and stops may
   reach_items : {Q : X → Type 0} {f g : P} → Reaches (asks_item asks) Q f g → Reaches asks (OrStop Q) f g
   reach_items {Q = Q} {f = f} {g = g} r = record { made = map (λ (c : X × Outcome B E). (Some c.0, c.1)) r.made; by = items_asked Q r.made f g r.by }
 

@@ -1,4 +1,4 @@
--- What `Intersperse` lists, where a clone of the separator equals it and is always made.
+-- What `Intersperse` lists, where a clone of the separator equals it and never fails.
 use Rattle.std.specs.Prelude.{◌≡◌, Bool, true, false, Option, Some, None, Result, Ok, Err, List, [], ◌∷◌}
 use Rattle.std.proofs.Common.{refl, sym, ap, subst, ◌∙◌}
 use Rattle.fallible_iterator.specs.Traces.{Answered, item, end}

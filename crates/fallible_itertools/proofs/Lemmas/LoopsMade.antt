@@ -7,7 +7,7 @@ use Rattle.std.specs.declared.alloc.AllocError.{AllocError}
 
 module _ {S X B E : Type 0} (made : X → B → Type 0) (steps : S → Answered B E → S → Type 0) (from : AllocError → E → Type 0) where
   module _ {C R : Type 0} (answers : C → List (Result X E) → R) where
-    -- what the whole returns is what the rest that s lists answers from c on
+    -- what the whole returns is what the rest that s lists returns from c on
     pub record RestFromHere (whole : R) (s : S) (c : C) : Type 0 where
       pub rest : List (Result X E)
       pub lists : ListsUpToRefusal made steps from s rest

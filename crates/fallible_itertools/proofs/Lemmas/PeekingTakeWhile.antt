@@ -113,7 +113,7 @@ module _ {S F X E : Type 0} {m : Contract S X E} {looks : S → X → S → Type
     again = again_more z t.places goes.2 t.again;
   }
 
-  -- after a look at an item that item is called on first
+  -- after a look at an item the closure is called on that item first
   first_looked : (w : Z) (places : List Z) (s t u q : S) (x : X) → looks s x t → Run m.steps t (filter_map let_go (w ∷ places)) u → LeftAt looks (w ∷ places) u q → AskedAgain (w ∷ places) → (v : Result Bool E) × (w ≡ asked x v)
   first_looked (asked y (Ok true)) places s t u q x look ran left again = let d = (k.next s x t (item y) ran.0 look ran.1).0 in let same : y ≡ x = cc in (Ok true, ap (λ z. asked z (Ok true)) same)
   first_looked (asked y (Err e)) places s t u q x look ran left again = let d = (k.next s x t (item y) ran.0 look ran.1).0 in let same : y ≡ x = cc in (Err e, ap (λ z. asked z (Err e)) same)
@@ -176,7 +176,7 @@ module _ {S F X E : Type 0} {m : Contract S X E} {looks : S → X → S → Type
   again_less z [] again = tt
   again_less z (w ∷ places) again = again.1
 
-  -- the look at an item that is called on, and the others from there
+  -- the look at an item that the closure is called on, and the others from there
   abbrev Looked : List Z → X → S → S → Type 0
   Looked places x p q = (t : S) × looks p x t × Before places t q
 

@@ -1,4 +1,4 @@
--- What `TupleWindows` lists, where a clone equals its original and is always made.
+-- What `TupleWindows` lists, where a clone equals its original and never fails.
 use Rattle.std.specs.Prelude.{◌≡◌, Option, Some, None, Result, Ok, Err, List, [], ◌∷◌}
 use Rattle.std.proofs.Common.{refl, sym, ap, subst}
 use Rattle.fallible_iterator.specs.Traces.{Answered}

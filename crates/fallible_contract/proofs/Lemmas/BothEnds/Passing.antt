@@ -36,7 +36,7 @@ All-reverse P (x ∷ xs) a = subst (λ (l : List _). All P l) (sym (reverse-appe
 -- ---- steady closures
 
 module _ {F X R : Type 0} (call : F → X → R → F → Type 0) where
-  -- at p the closure returns to the argument of the pair the answer beside it
+  -- at p the closure returns for the argument of the pair the answer beside it
   abbrev pub GivesAt : F → F → X × R → Type 0
   GivesAt p q c = (r : R) → call p c.0 r q → r ≡ c.1
 

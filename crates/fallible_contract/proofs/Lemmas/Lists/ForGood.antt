@@ -1,4 +1,4 @@
--- What is exhausted where its list is drawn.
+-- What is fused once its list is drawn.
 use Rattle.std.specs.Prelude.{◌≡◌, Result, List, [], ◌∷◌}
 use Rattle.std.proofs.Common.{refl, sym, ap, subst}
 use Rattle.fallible_contract.specs.Traces.{Answered, Run}

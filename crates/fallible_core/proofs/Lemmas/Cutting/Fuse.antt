@@ -35,14 +35,14 @@ lists_fused m s l parts i = lists_seen fuse_parts (fuse_contract m).steps s part
 -- ---- what it lists for good
 
 module _ {S A E : Type 0} (steps : S → Answered A E → S → Type 0) where
-  -- once closed it is exhausted
+  -- once closed, each answer is an end
   closed_ends : (trace : List (Answered A E)) (p t u : S × Bool) (r : Answered A E) → p.1 ≡ true → Run (fused_step steps) p trace t → fused_step steps t r u → r ≡ end
   closed_ends [] (s, true) t u r is ran w = (subst (λ (q : S × Bool). fused_step steps q r u) (sym ran) w).0
   closed_ends [] (s, false) t u r is ran w = absurd cc
   closed_ends (y ∷ trace) (s, true) t u r is ran w = closed_ends trace ran.0 t u r ran.1.2 ran.2 w
   closed_ends (y ∷ trace) (s, false) t u r is ran w = absurd cc
 
-  -- where the source returns an end first, it is exhausted
+  -- where the source returns an end first, each further answer is an end
   ends_after : (trace : List (Answered A E)) (s : S) (t u : S × Bool) (r : Answered A E) → AlwaysGives {A = A} {E = E} steps s [] → Run (fused_step steps) (s, false) trace t → fused_step steps t r u → r ≡ end
   ends_after [] s t u r a ran w = let first = subst (λ (q : S × Bool). fused_step steps q r u) (sym ran) w in first.2 ∙ a first.0 u.0 first.1
   ends_after (y ∷ trace) s t u r a ran w = let first = ran.1 in closed_ends trace ran.0 t u r (first.3 ∙ ap is_end (a first.0 (ran.0).0 first.1)) ran.2 w

@@ -57,7 +57,7 @@ module _ {S F X E : Type 0} (steps : S → Answered X E → S → Type 0) (call 
   abbrev P : S → Bool × F → List (Answered X E) → S → Bool × F → Type 0
   P = Passes steps (skip_call call) skip_while_outcome
 
-  -- ---- after the first false all items pass, and nothing is called
+  -- ---- after the first false all items pass, and the predicate isn't called
 
   pub record Passed (s : S) (p : Bool × F) (trace : List (Answered X E)) (t : S) (q : Bool × F) : Type 0 where
     pub ran : Run steps s trace t
@@ -163,7 +163,7 @@ skip_while_law steps call p trace q = let law = runs_by_answers (PassTrace steps
 
 -- ---- what it lists
 
--- what the predicate returns on an item, where it is called, and the flag after it
+-- what the predicate returns for an item, where it is called, and the flag after it
 abbrev asked_by : {X E : Type 0} → (X → Result Bool E) → Bool → X → Option (Result Bool E)
 asked_by h true x = None
 asked_by h false x = Some (h x)

@@ -1,4 +1,4 @@
--- What `Cloned` lists, where a clone equals its original and is always made; and from both ends also where each item has one clone alone.
+-- What `Cloned` lists, where a clone equals its original and never fails; and from both ends also where each item has one clone alone.
 use Rattle.std.specs.Prelude.{◌≡◌, Result, Ok, Err, List, [], ◌∷◌, map, All}
 use Rattle.std.proofs.lemmas.List.Elements.{All-nil, All-cons, All-head, All-tail}
 use Rattle.std.specs.Borrow.{Bor}

@@ -95,7 +95,7 @@ module _ {S A E : Type 0} (steps : S → Answered A E → S → Type 0) where
   held_is (s, Some o) (t, held) a peeks = rw (peeks.0, peeks.2) refl
   held_is (s, None) (t, held) a peeks = peeks.1
 
-  -- what is returned, where a failure was told and else the held item is borrowed
+  -- what is returned, where a failure was told and otherwise the held item is borrowed
   answered_is : (a : Answered A E) (held : Option (Option A)) (shown : Option (Bor A)) (x : Result (Option (Bor A)) E) → held ≡ held_of a → option_copied shown ≡ held_item held → MatchResult (failure_told a) (λ _. x ≡ Ok shown) (λ e. x ≡ Err e) → seen x ≡ a
   answered_is (Ok (Some y)) held (Some z) x is copied joined = let same : Some z.now ≡ Some y = rw is at copied in let at : z.now ≡ y = cc in rw joined (ap (λ w. item w) at)
   answered_is (Ok (Some y)) held None x is copied joined = let none : None ≡ Some y = rw is at copied in absurd cc
@@ -157,7 +157,7 @@ filled_with steps (s, Some o) q a x w t h = cc
 filled_with steps (s, None) q (Ok o) x w t h = cc
 filled_with steps (s, None) q (Err e) x w t h = absurd cc
 
--- what a closure returns on the item that is held is what it returns on the one that was looked at
+-- what a closure returns for the item that is held is what it returns for the one that was looked at
 pub looks_at_held : {S F A R E : Type 0} (steps : S → Answered A E → S → Type 0) {g : Shared F (Bor A × Unit {0}) R} {f : F} (p q : S × Option (Option A)) (x : A) {v : R} → Fills steps p (Ok tt) q → held_item q.1 ≡ Some x → FnReturnsAt g f x v → Looks steps g f p (Ok (Some v)) q
 looks_at_held {A = A} {E = E} steps p q x {v = v} w h called = (Ok (Some x), subst (λ (a : Answered A E). Peeks steps p a q) (filled_with steps p q w.0 x w.1 w.2 h) w.1, (v, called, refl))
 

@@ -1,4 +1,4 @@
--- Both sides may be drawn from, some bound of one of them is at most the one counted down, and what a comparison from here answers, the whole returns.
+-- Both sides may be drawn from, some bound of one of them is at most the one counted down, and what a comparison from here returns, the whole returns.
 use Rattle.fallible_contract.proofs.Lemmas.Comparing.{EitherAtMost}
 use Rattle.fallible_contract.specs.Comparing.{Compared}
 use Rattle.fallible_core.proofs.comparing.compare.Given as goal

@@ -79,7 +79,7 @@ module _ {S A E Z F C R : Type 0} (of_item : A → Z) (of_failure : E → Z) (re
       let turn : ElementTurn turns c (read z) (Err d.0) = subst (λ (y : Result C (C × Answered R E)). ElementTurn turns c (read z) y) broke (turned c z v h called).1 in
       subst (λ (y : Result C (C × Answered R E)). Driven Step turns s.it.now c (answer_of y) t.it.now (left_of y)) (sym (err_is r d.0 is.1)) (stops_on c s t z (read z) d.0 refl w turn)
 
-  -- the calls before it yielded items on which the turns went on
+  -- the calls before it returned items on which the turns went on
   module _ (o : Option Z) (t u : Progressing S) (a : C) (h : F) (r : Result C (C × Answered R E)) (w : Made t o u) (is : Last h a o r) where
     folds : (xs : List Z) (s : Progressing S) (c : C) → Yields Made s xs t → FoldsTo Turn (f, c) xs (h, a) → Driven Step turns s.it.now c (answer_of r) u.it.now (left_of r)
     folds [] s c e went =

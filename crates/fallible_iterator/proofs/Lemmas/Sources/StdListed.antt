@@ -34,7 +34,7 @@ module _ {S Z : Type 0} (rest : S → List Z) where
   last_gives s t None h z e = absurd cc
   last_gives s t (Some y) h z e = let same : y ≡ z = cc in subst (λ (x : Z). reverse (rest s) ≡ x ∷ reverse (rest t)) same (ap reverse h ∙ reverse-append (rest t) (y ∷ []))
 
--- Where a call of `next` yields the first of what is left, and one of `next_back` the last, what is left is what both ends list.
+-- Where a call of `next` returns the first of what is left, and one of `next_back` the last, what is left is what both ends list.
 module _ {S A E Z : Type 0} (of_item : A → Z) (of_failure : E → Z) (next next_back : S → Option Z → S → Type 0) (rest : S → List Z) (to : Z → Result A E)
     (answered : (r : Answered A E) (z : Z) → element_by of_item of_failure r ≡ Some z → r ≡ result_answer (to z)) (none : (r : Answered A E) → element_by of_item of_failure r ≡ None → r ≡ Ok None)
     (first : (s : S) (o : Option Z) (t : S) → next s o t → YieldsFirst rest s o t) (last : (s : S) (o : Option Z) (t : S) → next_back s o t → YieldsLast rest s o t) where

@@ -1,4 +1,4 @@
--- Both sides may be drawn from, some bound of one of them is at most the one counted down, the turn may be taken from here on, and what a comparison from here answers, the whole returns.
+-- Both sides may be drawn from, some bound of one of them is at most the one counted down, the turn may be taken from here on, and what a comparison from here returns, the whole returns.
 use Rattle.fallible_iterator.specs.Folds.{goes_on}
 use Rattle.fallible_iterator.proofs.Lemmas.Comparing.{EitherAtMost}
 use Rattle.fallible_itertools.specs.CmpBy.{CallableInRounds, ComparedBy}

@@ -1,4 +1,4 @@
--- The stop that is due is one answer; a fold of the source up to its stop, and what is called on that stop, is a fold of the adapter.
+-- The stop that is due is one answer; a fold of the source up to its stop, and what becomes of that stop, is a fold of the adapter.
 use Rattle.std.specs.Prelude.{◌≡◌, Some, None}
 use Rattle.std.proofs.Common.{sym, ap, ◌∙◌}
 use Rattle.fallible_iterator.proofs.Lemmas.Folding.{takes_through}

@@ -1,4 +1,4 @@
--- What the source lists, each item replaced by the value returned on it, or left out.
+-- What the source lists, each item replaced by the value returned for it, or left out.
 use Rattle.std.proofs.Common.{refl}
 use Rattle.fallible_core.proofs.Lemmas.Filtering.FilterMap.{lists_filter_mapped}
 use Rattle.fallible_core.proofs.traits.FallibleIterator.filter_map.Goals as goal

@@ -1,4 +1,4 @@
--- What the source lists, each failure replaced by the value returned on it.
+-- What the source lists, each failure replaced by the value returned for it.
 use Rattle.std.proofs.Common.{refl}
 use Rattle.fallible_core.proofs.Lemmas.OneToOne.MapErr.{lists_failures_mapped}
 use Rattle.fallible_core.proofs.traits.FallibleIterator.map_err.Goals as goal

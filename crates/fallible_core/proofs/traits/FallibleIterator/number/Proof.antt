@@ -1,4 +1,4 @@
--- `number` makes a number of no bytes, whose ghost field is the bound that the law yields, since there is one.
+-- `number` makes a number of no bytes, whose ghost field is the bound that the law gives, since there is one.
 use Rattle.std.proofs.Common.{[], ◌∷◌, refl}
 use Rattle.std.proofs.raw_atomic.Walks.{proved}
 use mir.MapTy.{inst_fn}

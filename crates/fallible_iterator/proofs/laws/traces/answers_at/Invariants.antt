@@ -1,4 +1,4 @@
--- What was yielded are the answers of the draws at the sides so far, and there is room for the rest.
+-- What was returned are the answers of the draws at the sides so far, and there is room for the rest.
 use Rattle.std.proofs.Common.{◌≡◌, ◌≤◌, length, take, vec_len, vec_capacity}
 use Rattle.fallible_contract.specs.Contract.{KeptByDraws}
 use Rattle.fallible_contract.specs.Ends.{from_front}

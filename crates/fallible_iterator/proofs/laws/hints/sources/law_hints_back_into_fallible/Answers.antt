@@ -1,4 +1,4 @@
--- Each call yields one answer, and each element lowers what remains.
+-- Each call returns one element or `None`, and each element lowers what remains.
 use Rattle.fallible_iterator.specs.Sources.IntoFallible.{into_fallible_parts, never}
 use Rattle.fallible_iterator.specs.Sources.Std.{std_step}
 use Rattle.fallible_iterator.proofs.Lemmas.Hints.Drawn.{brackets_seen, above_seen}

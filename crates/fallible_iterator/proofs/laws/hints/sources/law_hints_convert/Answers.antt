@@ -1,4 +1,4 @@
--- Each call yields one answer, and each element lowers what remains.
+-- Each call returns one element or `None`, and each element lowers what remains.
 use Rattle.std.specs.Prelude.{Ok, Err}
 use Rattle.fallible_iterator.specs.Sources.Convert.{convert_parts}
 use Rattle.fallible_iterator.specs.Sources.Std.{std_step}

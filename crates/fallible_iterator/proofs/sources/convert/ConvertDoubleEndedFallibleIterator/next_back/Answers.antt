@@ -1,4 +1,4 @@
--- The std iterator may be called from the back now, after no answer.
+-- The std iterator may be drawn from the back now, after no answer.
 use Rattle.std.proofs.Common.{[], refl}
 use Rattle.fallible_iterator.proofs.sources.convert.ConvertDoubleEndedFallibleIterator.next_back.Goals as goal
 

@@ -1,4 +1,4 @@
--- The std iterator may be called now, after no answer.
+-- The std iterator may be drawn now, after no answer.
 use Rattle.std.proofs.Common.{[], refl}
 use Rattle.fallible_iterator.proofs.sources.into_fallible.IntoFallibleFallibleIterator.next.Goals as goal
 
