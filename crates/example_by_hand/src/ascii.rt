@@ -1,4 +1,4 @@
-//! A source of one's own over bytes in memory, and callers that count what it gives.
+//! A source of one's own over bytes in memory, and callers that count what it yields.
 ghost use Rattle.std.specs.Prelude.{◌≡◌, ◌-◌, ◌&&◌, eqb, nat_lt, length, map, Ok};
 ghost use Rattle.fallible_iterator.specs.Clauses.{OverList};
 ghost use Rattle.fallible_iterator.specs.Laws.Own.{lawful_bounded_with_failures};
@@ -10,7 +10,7 @@ ghost use Rattle.example_by_hand.specs.Ascii.{ascii, shows_ascii};
 
 use fallible_iterator::FallibleIterator;
 
-/// The bytes of a text. At one above 127 a draw fails with it, and the next draw goes on behind it.
+/// The bytes of a text. At one above 127 `next` fails with it, and the next call goes on after it.
 #[derive(Drop)]
 pub struct Ascii<'a> {
     bytes: &'a [u8],
@@ -58,7 +58,7 @@ impl<'a> Ascii<'a> {
     }
 }
 
-/// Where the first line of a text ends, or its first byte above 127 where that comes before.
+/// Where the first line of a text ends, or its first byte above 127 if that comes before.
 pub fn first_line_end(bytes: &[u8]) -> Result<Option<usize>, u8>
     ensures { result ≡ position_in (λ byte. Ok (eqb byte 10)) (map ascii bytes.now) }
 {
@@ -76,7 +76,7 @@ pub fn line_ends<'a>(text: Ascii<'a>) -> Result<usize, u8>
         .count()
 }
 
-/// How many answers come of the bytes of a text, which std counts.
+/// How many items and failures come of the bytes of a text, which std counts.
 pub fn answers_in(bytes: &[u8]) -> usize
     ensures { result ≡ length bytes.now }
 {

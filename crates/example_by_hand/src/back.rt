@@ -21,7 +21,7 @@ use fallible_iterator::{
 };
 use std::alloc::{AllocError, Global};
 
-/// The last reading, or a failure in its place; none where there is no reading.
+/// The last reading, or a failure in its place; `None` if there is no reading.
 pub fn last_drawn(readings: Vec<Result<u32, u8>>) -> Result<Option<u32>, u8>
     ensures last { (front : List (Result ℕ ℕ)) (last : ℕ)
         → readings.items ≡ front ++ Ok last ∷ [] → result ≡ Ok (Some last) }
@@ -32,7 +32,7 @@ pub fn last_drawn(readings: Vec<Result<u32, u8>>) -> Result<Option<u32>, u8>
     convert(readings.into_iter()).next_back()
 }
 
-/// The first reading and the last one, which are drawn in turn, or a failure in the place of one; none where there are fewer than two.
+/// The first reading and the last one, which are drawn in turn, or a failure in the place of one; `None` if there are fewer than two.
 pub fn first_and_last(readings: Vec<Result<u32, u8>>) -> Result<Option<(u32, u32)>, u8>
     ensures both { (first last : ℕ) (between : List (Result ℕ ℕ))
         → readings.items ≡ Ok first ∷ (between ++ Ok last ∷ []) → result ≡ Ok (Some (first, last)) }
@@ -53,7 +53,7 @@ pub fn first_and_last(readings: Vec<Result<u32, u8>>) -> Result<Option<(u32, u32
     }
 }
 
-/// How many readings there are besides the first and the last, or a failure: that of the first or of the last, and else the first between. It is 0 where there are fewer than two.
+/// How many readings there are besides the first and the last, or a failure: that of the first or of the last, and otherwise the first between. It is 0 if there are fewer than two.
 pub fn count_between(readings: Vec<Result<u32, u8>>) -> Result<usize, u8>
     ensures value { (first last : ℕ) (between : List (Result ℕ ℕ))
         → readings.items ≡ Ok first ∷ (between ++ Ok last ∷ []) → result ≡ counted between }
@@ -79,7 +79,7 @@ pub fn last_first(alloc: Global, readings: Vec<Result<u32, u8>>) -> Result<Vec<u
     convert(readings.into_iter()).rev().collect(alloc)
 }
 
-/// The sum of the readings from the back, modulo 2 ^ 64, or the first failure from the back. The law says what `convert` lists from the back, where no `rev` does.
+/// The sum of the readings from the back, modulo 2 ^ 64, or the first failure from the back. The law says what `convert` lists from the back; no `rev` is needed.
 pub fn sum_from_back(readings: Vec<Result<u32, u8>>) -> Result<u64, u8>
     ensures { result ≡ folded (λ e. e) (λ s x. Ok ((s + x) % 2 ^ 64)) 0
         (reversed (results readings.items)) }
@@ -91,7 +91,7 @@ pub fn sum_from_back(readings: Vec<Result<u32, u8>>) -> Result<u64, u8>
     )
 }
 
-/// What three draws answer, the first of which is from the front.
+/// What three draws return, the first of which is from the front.
 pub fn three_answers(
     alloc: Global,
     readings: Vec<Result<u32, u8>>,
@@ -139,7 +139,7 @@ pub fn last_but_one(readings: Vec<Result<u32, u8>>) -> Result<Option<u64>, u8>
     last_but_one_of(&mut above)
 }
 
-/// The last of the doubled readings, once the first three were passed over, or a failure among these; none where there are fewer than three.
+/// The last of the doubled readings after the first three, or a failure among these; `None` if there are fewer than three.
 pub fn last_after_three(readings: Vec<Result<u32, u8>>) -> Result<Option<u64>, u8>
     ensures value { (third : ℕ)
         → nth_of 2 (mapped (λ x. Ok (x * 2)) (results readings.items)) ≡ Ok (Some third)
@@ -178,7 +178,7 @@ pub fn law_readings()
     law_interleave::<Convert<std::vec::IntoIter<Result<u32, u8>, Global>>>();
 }
 
-/// The last item behind the first 0, of any fallible iterator with two ends; none where there is no 0, and the first failure before.
+/// The last item after the first 0, of any fallible iterator with two ends; `None` if there is no 0, and the first failure before.
 pub fn last_behind_zero<I: DoubleEndedFallibleIterator<Item = u32>>(
     it: &mut I,
 ) -> Result<Option<u32>, I::Error>
@@ -204,7 +204,7 @@ where
     }
 }
 
-/// How many readings come behind the first one that isn't 0, up to the last one that isn't: zeros at the front and at the back are left out. Or the failure that comes first: from the front up to that one, and then from the back.
+/// How many readings come after the first one that isn't 0, up to the last one that isn't: zeros at the front and at the back are left out. Or the failure that comes first: from the front up to that one, and then from the back.
 pub fn count_trimmed(readings: Vec<Result<u32, u8>>) -> Result<usize, u8>
     ensures some { (x : ℕ)
         → found (λ r. Ok (not (eqb r 0))) (results readings.items) ≡ Ok (Some x)

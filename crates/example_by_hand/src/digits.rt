@@ -6,7 +6,7 @@ ghost use Rattle.fallible_iterator.specs.Lists.{Lists, folded_if, rest_fold_if};
 
 use fallible_iterator::{FallibleIterator, Peekable, fold_if};
 
-/// The number that the digits at the front make, modulo 2 ^ 32, or the first failure among them. What stands behind the digits is left, and may be drawn from again.
+/// The number that the digits at the front make, modulo 2 ^ 32, or the first failure among them. What comes after the digits is left, and may be drawn.
 pub fn number_ahead<I: FallibleIterator<Item = u8>>(
     ahead: &mut Peekable<I>,
 ) -> Result<u32, I::Error>

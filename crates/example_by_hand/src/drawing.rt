@@ -5,7 +5,7 @@ ghost use Rattle.fallible_iterator.specs.Lists.{Lists, rest_first, rest_nth, cha
 use fallible_iterator::laws::{law_next, law_peek};
 use fallible_iterator::{FallibleIterator, convert};
 
-/// The third of the doubled readings above 100 among the first ten, or the failure of a draw before. No clause says what comes where there are fewer than two.
+/// The third of the doubled readings above 100 among the first ten, or the failure of a draw before. No clause says what it returns if there are fewer than two.
 pub fn third_draw(readings: Vec<Result<u32, u8>>) -> Result<Option<u64>, u8>
     ensures third { let l : List (Result ℕ ℕ) = mapped (λ x. Ok (x * 2))
         (filtered (λ x. Ok (nat_lt 100 x)) (taken 10 (results readings.items))) in (x y : ℕ)
@@ -27,7 +27,7 @@ pub fn third_draw(readings: Vec<Result<u32, u8>>) -> Result<Option<u64>, u8>
     doubled.draw()
 }
 
-/// The first two readings, of which the second is only looked at, or a failure in their place; none in the place of one that isn't there.
+/// The first two readings, of which the second is only looked at, or a failure in their place; `None` in the place of one that isn't there.
 pub fn first_two(readings: Vec<Result<u32, u8>>) -> Result<(Option<u32>, Option<u32>), u8>
     ensures value { (first : ℕ) (rest : List (Result ℕ ℕ))
         → results readings.items ≡ Ok first ∷ rest
@@ -43,7 +43,7 @@ pub fn first_two(readings: Vec<Result<u32, u8>>) -> Result<(Option<u32>, Option<
     Ok((first, second))
 }
 
-/// The second item, where it is above the first. Where it isn't, it is looked at and not drawn. A failure in the place of the first is the answer.
+/// The second item, if it is above the first. Otherwise it is looked at and not drawn. A failure in the place of the first is returned.
 pub fn second_if_above<I: FallibleIterator<Item = u32>>(it: I) -> Result<Option<u32>, I::Error>
 where
     requires { I.contract.can_next it }
@@ -62,7 +62,7 @@ where
     }
 }
 
-/// Draws until the end, or the first failure, and lets the items go.
+/// Draws until `Ok(None)`, or the first failure, and drops the items.
 pub fn draw_all<I: FallibleIterator>(it: &mut I) -> Result<(), I::Error>
 where
     I::Item: Drop,
@@ -116,7 +116,7 @@ where
         .try_fold(0, |sum: u32, x: u32| Ok(sum.wrapping_add(x)))
 }
 
-/// The sum of the first two readings above 100, and the one after them, or the first failure among the three. No clause says what comes where there are fewer than two.
+/// The sum of the first two readings above 100, and the one after them, or the first failure among the three. No clause says what it returns if there are fewer than two.
 pub fn two_and_the_next(readings: Vec<Result<u32, u8>>) -> Result<(u32, Option<u32>), u8>
     ensures value { let l : List (Result ℕ ℕ) = filtered (λ r. Ok (nat_lt 100 r))
         (results readings.items) in (last : ℕ) → nth_of 1 l ≡ Ok (Some last)
@@ -150,7 +150,7 @@ where
         .try_fold(0, |n: u64, _| Ok(n.wrapping_add(1)))
 }
 
-/// The item after the first three, which are let go, or the first failure among the four. No clause says what comes where there are fewer than three.
+/// The item after the first three, which are dropped, or the first failure among the four. No clause says what it returns if there are fewer than three.
 pub fn after_three<I: FallibleIterator>(it: &mut I) -> Result<Option<I::Item>, I::Error>
 where
     I::Item: Drop,
@@ -163,7 +163,7 @@ where
     it.draw()
 }
 
-/// The first item of a chain of both sides, once the first pair of both was let go, or a failure in the place of that pair. No clause says what comes where an end stands there.
+/// The first item of a chain of both sides, after the first pair of both, or a failure in the place of that pair. No clause says what it returns if there is no pair.
 pub fn after_a_pair<I, J>(mut left: I, mut right: J) -> Result<Option<I::Item>, I::Error>
 where
     I: FallibleIterator,
@@ -181,7 +181,7 @@ where
     left.chain(right).draw()
 }
 
-/// The first pair of both sides, once the first item of a chain of both was let go, or a failure in its place. No clause says what comes where the left has none, or where the right fails.
+/// The first pair of both sides, after the first item of a chain of both, or a failure in its place. No clause says what it returns if the left has none, or if the right fails.
 pub fn pair_behind_first<I, J>(
     mut left: I,
     mut right: J,
@@ -201,7 +201,7 @@ where
     left.zip(right).draw()
 }
 
-/// The second item, by two plain draws, the first of which is let go, or a failure in its place. No clause says what comes where an end stands there. The law says what each `next` answers and leaves.
+/// The second item, by two plain calls of `next`, the first of which is dropped, or a failure in its place. No clause says what it returns if there is no first one. The law says what each `next` returns and leaves.
 pub fn second_of<I: FallibleIterator>(mut it: I) -> Result<Option<I::Item>, I::Error>
 where
     I::Item: Drop,
@@ -216,7 +216,7 @@ where
     it.next()
 }
 
-/// Whether there is a first item and it is above 100, or a failure in its place. It is looked at and not drawn. The law says what `peek` answers.
+/// Whether there is a first item and it is above 100, or a failure in its place. It is looked at and not drawn. The law says what `peek` returns.
 pub fn begins_above_100<I: FallibleIterator<Item = u32>>(it: I) -> Result<bool, I::Error>
 where
     requires { I.contract.can_next it }

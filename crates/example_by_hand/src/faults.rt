@@ -13,7 +13,7 @@ use std::alloc::Global;
 pub enum ReadingFault {
     /// A reading failed, with this code.
     Failed(u8),
-    /// There was no memory.
+    /// An allocation failed.
     Memory,
 }
 
@@ -22,7 +22,7 @@ impl From<Fault<u8>> for ReadingFault {
         → why ≡ ReadingFault.Failed code)
         × ((refused : AllocError) → fault ≡ Fault.Memory refused → why ≡ ReadingFault.Memory) };
 
-    /// `ReadingFault::Failed` of a failure, and `ReadingFault::Memory` of a refusal
+    /// `ReadingFault::Failed` of a failure, and `ReadingFault::Memory` of an allocation failure
     fn from(fault: Fault<u8>) -> ReadingFault {
         match fault {
             Fault::Source(code) => ReadingFault::Failed(code),

@@ -36,7 +36,7 @@ pub fn sum_of_nest(readings: Vec<Result<u32, u8>>) -> Result<u64, u8>
     )
 }
 
-/// The mean of the items, none where there are none, or the first failure: the sum by the number, both modulo 2 ^ 64.
+/// The mean of the items, `None` if there are none, or the first failure: the sum by the number, both modulo 2 ^ 64.
 pub fn mean<I: FallibleIterator<Item = u32>>(it: I) -> Result<Option<u64>, I::Error>
 where
     requires can_next { I.contract.can_next it }
@@ -57,7 +57,7 @@ where
     }
 }
 
-/// The last item, or the first failure. Its bound fixes what it fails with, and not what it gives.
+/// The last item, or the first failure. Its bound fixes what it fails with, and not what it yields.
 pub fn last_or_code<I: FallibleIterator<Error = u8>>(it: I) -> Result<Option<I::Item>, u8>
 where
     I::Item: Drop,
@@ -68,7 +68,7 @@ where
     it.last()
 }
 
-/// The sum of the items that a `Peekable` gives, modulo 2 ^ 64, or the first failure.
+/// The sum of the items that a `Peekable` yields, modulo 2 ^ 64, or the first failure.
 pub fn sum_of_ahead<I: FallibleIterator<Item = u32>>(ahead: Peekable<I>) -> Result<u64, I::Error>
 where
     requires can_next { ⟦<Peekable<I> as FallibleIterator>⟧.contract.can_next ahead }
@@ -95,7 +95,7 @@ where
     sum_of(all.into_fallible_iter())
 }
 
-/// The sum of the rows that any std iterator gives, modulo 2 ^ 64, or the first failure.
+/// The sum of the rows that any std iterator yields, modulo 2 ^ 64, or the first failure.
 pub fn sum_of_rows<R: Iterator<Item = Result<u32, u8>> + Drop>(rows: R) -> Result<u64, u8>
 where
     requires askable { IsAskable Ok Err R.can_next R.next_gives R.remaining rows }

@@ -70,7 +70,7 @@ where
     }
 }
 
-/// The only row of the readings; or why there is none. Each failure is the program's own before it is drawn.
+/// The only row of the readings; or why there is none. Each failure is converted into the program's own before it is drawn.
 pub fn only_row(readings: Vec<Result<u32, u8>>) -> Result<u32, NoRow>
     ensures one { let l : List (Result ℕ NoRow) = failures_mapped (λ e. NoRow.Failed e)
         (results readings.items) in (x : ℕ) → nth_of 0 l ≡ Ok (Some x)
@@ -96,7 +96,7 @@ pub fn only_row(readings: Vec<Result<u32, u8>>) -> Result<u32, NoRow>
     }
 }
 
-/// The only reading; or why there is none. Each failure becomes the program's own where it is drawn.
+/// The only reading; or why there is none. Each failure is converted into the program's own as it is drawn.
 pub fn only_reading(readings: Vec<Result<u32, u8>>) -> Result<u32, NoRow>
     ensures one { (x : ℕ) → nth_of 0 (results readings.items) ≡ Ok (Some x)
         → nth_of 0 (rest_first (results readings.items)) ≡ Ok None → result ≡ Ok x }
@@ -131,7 +131,7 @@ where
     it.skip(first).take(size)
 }
 
-/// The items that a predicate keeps. A closure, which has no name, is a type parameter of the adapter that is returned.
+/// The items for which a predicate returns true. A closure, which has no name, is a type parameter of the adapter that is returned.
 pub fn kept_by<I, F>(it: I, keep: F) -> Filter<I, F>
 where
     I: FallibleIterator,

@@ -1,7 +1,7 @@
 //! Loops by hand over any iterator, of which the check proves that they end. No clause says what they leave; of the loops of `drawing` and `digits` one does.
 use fallible_iterator::{FallibleIterator, Peekable};
 
-/// Draws up to the first 0, which is drawn too, or to the end.
+/// Draws up to the first 0, which is drawn too, or to `Ok(None)`.
 pub fn drop_up_to_zero<I: FallibleIterator<Item = u32>>(it: &mut I) -> Result<(), I::Error>
 where
     requires can_next { I.contract.can_next it.old }

@@ -20,7 +20,7 @@ use fallible_iterator::{
 };
 use std::alloc::{AllocError, Global};
 
-/// Counts down to 1, and then ends.
+/// Counts down to 1. Then each call returns `Ok(None)`.
 #[derive(Drop)]
 pub struct Countdown {
     left: u32,
@@ -33,7 +33,7 @@ impl FallibleIterator for Countdown {
 
     ghost contract = { listing counts_down };
 
-    /// The next lower number.
+    /// Returns the next lower number.
     fn next(&mut self) -> Result<Option<u32>, u8> {
         if self.left == 0 {
             return Ok(None);
@@ -67,7 +67,7 @@ pub fn even_below(n: u32) -> Result<usize, u8>
     Countdown::new(n).filter(|x| Ok(*x % 2 == 0)).count()
 }
 
-/// How many numbers a countdown from n gives, which std counts behind a look ahead.
+/// How many numbers a countdown from n yields, which std counts after a look ahead.
 pub fn numbers_down(n: u32) -> usize
     ensures { result ≡ length (down_from n) }
 {
@@ -119,7 +119,7 @@ pub fn sum_down(mut numbers: Countdown) -> Result<u64, u8>
     Ok(sum)
 }
 
-/// The sum of the doubled numbers that are left, modulo 2 ^ 64: what a fold behind `map` comes to, by a loop that maps nothing.
+/// The sum of the doubled numbers that are left, modulo 2 ^ 64: what a fold after `map` comes to, by a loop that maps nothing.
 #[tactic(auto, using(fallible_iterator::specs::Laws::Showing::shown_before), unfolding(fallible_iterator::specs::Lists::folded))]
 pub fn sum_down_doubled(mut numbers: Countdown) -> Result<u64, u8>
     ensures { result ≡ folded (λ e. e) (λ s x. Ok ((s + x) % 2 ^ 64)) 0
@@ -132,14 +132,14 @@ pub fn sum_down_doubled(mut numbers: Countdown) -> Result<u64, u8>
     Ok(sum)
 }
 
-/// The numbers from `low` to below `high`, which std collects, where memory suffices.
+/// The numbers from `low` to below `high`, which std collects, unless an allocation fails.
 pub fn collected_between(alloc: Global, low: u32, high: u32) -> Result<Vec<u32>, AllocError>
     ensures { IfOk result (λ made. made.items ≡ unwrapped (numbers_between low high)) }
 {
     Between::new(low, high).unwrap().collect(alloc)
 }
 
-/// The numbers from `low` to below `high`, each as a result, which std collects, where memory suffices.
+/// The numbers from `low` to below `high`, each as a result, which std collects, unless an allocation fails.
 pub fn tried_between(alloc: Global, low: u32, high: u32) -> Result<Vec<u32>, AllocError>
     ensures { IfOk result (λ made. made.items ≡ unwrapped (numbers_between low high)) }
 {
@@ -149,7 +149,7 @@ pub fn tried_between(alloc: Global, low: u32, high: u32) -> Result<Vec<u32>, All
         .try_collect(alloc)
 }
 
-/// The countdowns from each number, one after the other, of which at most 1000 numbers come, where memory suffices.
+/// The countdowns from each number, one after the other, of which at most 1000 numbers come, unless an allocation fails.
 pub fn countdowns(alloc: Global, numbers: Vec<Result<u32, u8>>) -> Result<Vec<u32>, Fault<u8>>
     ensures { CollectedAs (λ xs v. v.items ≡ xs)
         (taken 1000
@@ -176,7 +176,7 @@ impl FallibleIterator for Rounds {
 
     ghost contract = { giving (λ round. round.left < 256) (listing shows_rounds) };
 
-    /// The next countdown.
+    /// Returns the next countdown.
     fn next(&mut self) -> Result<Option<Countdown>, u8> {
         if self.left == 0 {
             return Ok(None);
@@ -193,7 +193,7 @@ impl FallibleIterator for Rounds {
     ghost lawful = { lawful_giving (λ round. round.left < 256) (lawful_listing shows_rounds) };
 }
 
-/// How many numbers the rounds give that many countdowns make, modulo 2 ^ 64.
+/// How many numbers the rounds of so many countdowns yield, modulo 2 ^ 64.
 pub fn numbers_in_rounds(left: u32, from: u8) -> Result<u64, u8>
     ensures { result ≡ folded (λ e. e) (λ n _. Ok ((n + 1) % 2 ^ 64)) 0
         (flattened counts_down (repeated left (counting_from from))) }
@@ -234,7 +234,7 @@ impl FallibleIterator for Between {
 
     ghost contract = { listing shows_between };
 
-    /// The lowest number that is left.
+    /// Returns the lowest number that is left.
     fn next(&mut self) -> Result<Option<u32>, u8> {
         if self.low >= self.high {
             return Ok(None);
@@ -254,7 +254,7 @@ impl FallibleIterator for Between {
 impl DoubleEndedFallibleIterator for Between {
     ghost ends = { listing_ends shows_between };
 
-    /// The greatest number that is left.
+    /// Returns the greatest number that is left.
     fn next_back(&mut self) -> Result<Option<u32>, u8> {
         if self.low >= self.high {
             return Ok(None);

@@ -1,4 +1,4 @@
-//! An adapter of one's own that takes two items for an answer.
+//! An adapter of one's own that draws two items for one.
 ghost use Rattle.std.specs.Prelude.{◌≡◌, ℕ, ◌+◌, ◌-◌, ◌%◌, ◌^◌, ◌<◌, List, Result, Ok};
 ghost use Rattle.fallible_iterator.specs.Contract.{AtMost};
 ghost use Rattle.fallible_iterator.specs.Laws.Own.{lawful_gathering};
@@ -8,7 +8,7 @@ ghost use Rattle.example_by_hand.specs.Pairs.{MakesPair, paired};
 
 use fallible_iterator::FallibleIterator;
 
-/// The items two by two. The first of two is let go where an end or a failure comes behind it.
+/// The items two by two. The first of two is dropped if an `Ok(None)` or a failure comes after it.
 #[derive(Drop)]
 pub struct Pairs<I> {
     /// What is drawn from.
@@ -25,7 +25,7 @@ where
 
     ghost contract = { gathering (λ s. s.it) MakesPair I.contract };
 
-    /// Draws once, and again behind an item.
+    /// Draws once, and again after an item.
     fn next(&mut self) -> Result<Option<(I::Item, I::Item)>, I::Error> {
         let Some(first) = self.it.next()? else {
             return Ok(None);
@@ -57,7 +57,7 @@ where
     }
 }
 
-/// How many pairs an iterator gives, or its first failure.
+/// How many pairs an iterator yields, or its first failure.
 pub fn count_pairs<I: FallibleIterator>(it: I) -> Result<usize, I::Error>
 where
     I::Item: Drop,

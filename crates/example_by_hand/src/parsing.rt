@@ -1,4 +1,4 @@
-//! The idioms of parsers: how many of each kind, a sum or why there is none, and what stands behind the items that were added up.
+//! The idioms of parsers: how many of each kind, a sum or why there is none, and what comes after the items that were added up.
 ghost use Rattle.std.specs.Prelude.{◌≡◌, ◌+◌, ◌%◌, ◌^◌, ℕ, length, List, Result, Ok, Err, Option, IfOk, false, nat_lt, if◌then◌else◌};
 ghost use Rattle.std.specs.Fmt.{decimal};
 ghost use Rattle.std.specs.String.{string_bytes};
@@ -13,7 +13,7 @@ ghost use Rattle.std.specs.declared.alloc.AllocError.{AllocError};
 use fallible_iterator::{FallibleIterator, Fault, convert};
 use std::alloc::{AllocError, Global};
 
-/// How many of the readings are above 100, and how many are not, or the first failure, where memory suffices. It is refused only where a vector of one side is full when a reading comes to it.
+/// How many of the readings are above 100, and how many are not, or the first failure, unless an allocation fails. That may be only if a vector of one side is full when a reading comes to it.
 pub fn how_many_each(
     alloc: Global,
     readings: Vec<Result<u32, u8>>,
@@ -53,7 +53,7 @@ impl From<u8> for NoSum {
     }
 }
 
-/// The sum of the readings, modulo 2 ^ 64. Where one is above 100, the place of the first such, and where one failed before, its code.
+/// The sum of the readings, modulo 2 ^ 64. If one is above 100, the position of the first such, and if one failed before, its code.
 pub fn sum_or_place(readings: Vec<Result<u32, u8>>) -> Result<u64, NoSum>
     ensures { result ≡ folded (λ code. NoSum.Failed code)
         (λ s p. if nat_lt 100 p.1 then Err (NoSum.Above p.0) else Ok ((s + p.1) % 2 ^ 64)) 0
@@ -74,7 +74,7 @@ pub fn sum_or_place(readings: Vec<Result<u32, u8>>) -> Result<u64, NoSum>
 pub enum NoText {
     /// A reading failed, with this code.
     Failed(u8),
-    /// Memory doesn't suffice.
+    /// An allocation failed.
     Memory,
 }
 
@@ -89,7 +89,7 @@ impl From<AllocError> for NoText {
     }
 }
 
-/// The readings as texts, or the first failure, up to a refused request for memory. The closure asks for memory at each reading.
+/// The readings as texts, or the first failure, up to a failed allocation. The closure allocates for each reading.
 pub fn texts_of(
     alloc: Global,
     readings: Vec<Result<u32, NoText>>,
@@ -123,7 +123,7 @@ where
     )
 }
 
-/// The sum of the tokens below 10 that stand first, modulo 2 ^ 64, and the token after the one that ends them, or the first failure among them. No clause says what comes where no token ends them.
+/// The sum of the tokens below 10 that stand first, modulo 2 ^ 64, and the token after the one that ends them, or the first failure among them. No clause says what it returns if no token ends them.
 pub fn sum_and_next<I: FallibleIterator<Item = u32>>(
     mut tokens: I,
 ) -> Result<(u64, Option<u32>), I::Error>

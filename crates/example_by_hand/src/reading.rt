@@ -13,7 +13,7 @@ use std::io::Read;
 #[derive(Debug, Drop, PartialEq)]
 pub struct ReadFailed;
 
-/// The bytes of a reader, one read for each draw: of a failed read, too, there is one, which is tested and no part of the contract. It states no bound, so it is drained through `take`.
+/// The bytes of a reader, one read for each draw: that a failed read is one too is tested and no part of the contract. It states no bound, so it is drained through `take`.
 #[derive(Drop)]
 pub struct Bytes<R> {
     /// What is read.
@@ -44,7 +44,7 @@ impl<R: Read + Drop> FallibleIterator for Bytes<R> {
     ghost lawful = { Prim.search (rules, lawful_unbounded) };
 }
 
-/// How many of the first three bytes are newlines. The clause says it where the reader's bytes are known and the result is no failure. No clause says when it fails.
+/// How many of the first three bytes are newlines. The clause says it if the reader's bytes are known and the result is no failure. No clause says when it fails.
 pub fn newlines_of_three<R: Read + Drop>(reader: R) -> Result<usize, ReadFailed>
 where
     ensures { (bytes : List ℕ) → R.remaining reader ≡ Some bytes

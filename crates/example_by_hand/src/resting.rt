@@ -5,7 +5,7 @@ ghost use Rattle.fallible_iterator.specs.Lists.{Lists, rest_first, rest_true, co
 
 use fallible_iterator::{FallibleIterator, convert};
 
-/// The reading behind the first one that is 0; none where there is no such one, and the first failure before.
+/// The reading after the first one that is 0; `None` if there is no such one, and the first failure before.
 pub fn behind_zero(readings: Vec<Result<u32, u8>>) -> Result<Option<u32>, u8>
     ensures some { (x : ℕ) → found (λ r. Ok (eqb r 0)) (results readings.items) ≡ Ok (Some x)
         → result ≡ nth_of 0 (rest_true (λ r. Ok (eqb r 0)) (results readings.items)) }
@@ -21,7 +21,7 @@ pub fn behind_zero(readings: Vec<Result<u32, u8>>) -> Result<Option<u32>, u8>
     }
 }
 
-/// How many items come behind the first one that is 0; 0 where there is no such one, and the first failure.
+/// How many items come after the first one that is 0; 0 if there is no such one, and the first failure.
 pub fn count_behind<I: FallibleIterator<Item = u32>>(mut it: I) -> Result<usize, I::Error>
 where
     requires can_next { I.contract.can_next it }
@@ -43,7 +43,7 @@ where
     }
 }
 
-/// How many readings come behind the first two, or the first failure. No clause says what comes of fewer than two.
+/// How many readings come after the first two, or the first failure. No clause says what it returns if there are fewer than two.
 pub fn count_behind_two(readings: Vec<Result<u32, u8>>) -> Result<usize, u8>
     ensures value { (x y : ℕ) → nth_of 0 (results readings.items) ≡ Ok (Some x)
         → nth_of 0 (rest_first (results readings.items)) ≡ Ok (Some y)

@@ -1,4 +1,4 @@
-//! An adapter of one's own that asks its source again at a failure.
+//! An adapter of one's own that draws its source again after a failure.
 ghost use Rattle.std.specs.Prelude.{◌≡◌, List, Result};
 ghost use Rattle.fallible_iterator.specs.Gathering.{gathering_by};
 ghost use Rattle.fallible_iterator.specs.Laws.Gathering.{lawful_gathering_by};
@@ -7,7 +7,7 @@ ghost use Rattle.example_by_hand.specs.Retried.{MakesRetried, retried};
 
 use fallible_iterator::FallibleIterator;
 
-/// The answers of a source that is asked again at a failure, up to a number of times for each answer.
+/// What a source yields that is drawn again after a failure, up to a number of times for each call.
 #[derive(Drop)]
 pub struct Retried<I> {
     it: I,
@@ -24,7 +24,7 @@ where
 
     ghost contract = { gathering_by (λ s. s.it) (λ s. s.retries) MakesRetried I.contract };
 
-    /// Draws up to an item, an end or the last failure that may come.
+    /// Draws up to an item, an `Ok(None)` or the last failure that may come.
     fn next(&mut self) -> Result<Option<I::Item>, I::Error> {
         let mut left = self.retries;
         while left > 0 {
@@ -47,7 +47,7 @@ impl<I: FallibleIterator> Retried<I>
 where
     I::Error: Drop,
 {
-    /// The answers of an iterator, which is asked again up to so many times for each.
+    /// What an iterator yields that is drawn again after a failure, up to so many times for each call.
     pub fn new(it: I, retries: u32) -> Retried<I>
         ensures { (l : List (Result I.Item I.Error)) → Lists I.contract.steps it l
             → Lists ⟦<Retried<I> as FallibleIterator>⟧.contract.steps result (retried retries l) }

@@ -1,4 +1,4 @@
-//! Callers that hand a fallible iterator to std, and take it back.
+//! Callers that pass a fallible iterator to std, and take it back.
 ghost use Rattle.std.specs.Prelude.{◌≡◌, ℕ, ◌+◌, ◌-◌, ◌%◌, ◌^◌, ◌<◌, ◌≤◌, Ok, Err, Some, None, List, Option, Result, length, sum, IfOk, MatchOption, filter, is_err, nat_lt, take, slice_index_or};
 ghost use Rattle.std.specs.Iterator.{IsFinite};
 ghost use Rattle.fallible_iterator.specs.Contract.{NeverFails};
@@ -18,7 +18,7 @@ pub fn elements(readings: Vec<Result<u32, u8>>) -> usize
     convert(readings.into_iter()).iterator().count()
 }
 
-/// The same, counted from the back.
+/// How many readings there are, failures among them, counted from the back.
 pub fn elements_from_back(readings: Vec<Result<u32, u8>>) -> usize
     ensures { result ≡ length (results readings.items) }
 {
@@ -27,7 +27,7 @@ pub fn elements_from_back(readings: Vec<Result<u32, u8>>) -> usize
     convert(readings.into_iter()).iterator().rev().count()
 }
 
-/// How many answers of any fallible iterator come up to its end, but no more than ten, which std's `take` counts.
+/// How many items and failures of any fallible iterator come up to its `Ok(None)`, but no more than ten, which std's `take` counts.
 pub fn up_to_ten<I: FallibleIterator>(it: I) -> usize
 where
     I::Item: Drop,
@@ -40,7 +40,7 @@ where
     it.iterator().take(10).count()
 }
 
-/// The last answer behind the second item of any fallible iterator, which std reads: none where nothing comes behind it. Or the failure that comes before. No clause says what comes of fewer than two.
+/// The last item after the second one of any fallible iterator, which std reads: `None` if nothing comes after it. Or the failure that comes before. No clause says what it returns if there are fewer than two.
 pub fn last_behind_two<I: FallibleIterator>(
     mut it: I,
 ) -> Result<Option<Result<I::Item, I::Error>>, I::Error>
@@ -73,7 +73,7 @@ pub fn failures(readings: Vec<Result<u32, u8>>) -> u32
     failures
 }
 
-/// The last item behind the first of any fallible iterator that can't fail: none where nothing comes behind it. No clause says what comes where there is no first.
+/// The last item after the first of any fallible iterator that can't fail: `None` if nothing comes after it. No clause says what it returns if there is no first.
 pub fn last_behind_the_first<I: FallibleIterator>(mut it: I) -> Result<Option<I::Item>, I::Error>
 where
     I::Item: Drop,

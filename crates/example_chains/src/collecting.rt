@@ -10,7 +10,7 @@ use fallible_iterator::{Collect, FallibleIterator, Fault, convert};
 use std::alloc::{AllocError, Global};
 use std::collections::{BTreeMap, BTreeSet, HashMap, HashSet, VecDeque};
 
-/// The doubled numbers as a vector and as a deque, each where memory suffices.
+/// The doubled numbers as a vector and as a deque, each unless an allocation fails.
 pub fn doubled_in_order(
     alloc: Global,
     numbers: &[u32],
@@ -32,7 +32,7 @@ pub fn doubled_in_order(
     (vector, deque)
 }
 
-/// The doubled readings as a sorted set, where memory suffices.
+/// The doubled readings as a sorted set, unless an allocation fails.
 pub fn doubled_sorted_set(
     alloc: Global,
     readings: Vec<Result<u32, u8>>,
@@ -45,7 +45,7 @@ pub fn doubled_sorted_set(
         .collect(alloc)
 }
 
-/// The doubled readings as a hashed set, where memory suffices.
+/// The doubled readings as a hashed set, unless an allocation fails.
 pub fn doubled_hashed_set(
     alloc: Global,
     readings: Vec<Result<u32, u8>>,
@@ -58,7 +58,7 @@ pub fn doubled_hashed_set(
         .collect(alloc)
 }
 
-/// The double of each reading, in a sorted map, where memory suffices.
+/// The double of each reading, in a sorted map, unless an allocation fails.
 pub fn doubled_sorted_map(
     alloc: Global,
     readings: Vec<Result<u32, u8>>,
@@ -71,7 +71,7 @@ pub fn doubled_sorted_map(
         .collect(alloc)
 }
 
-/// The double of each reading, in a hashed map, where memory suffices.
+/// The double of each reading, in a hashed map, unless an allocation fails.
 pub fn doubled_hashed_map(
     alloc: Global,
     readings: Vec<Result<u32, u8>>,
@@ -84,7 +84,7 @@ pub fn doubled_hashed_map(
         .collect(alloc)
 }
 
-/// How many items came. It refuses each behind the thousandth.
+/// How many items came. It rejects each after the thousandth.
 #[derive(Drop)]
 pub struct Tally {
     count: u32,
@@ -102,7 +102,7 @@ impl<T: Drop> Collect<T> for Tally {
         Ok(Tally { count: 0 })
     }
 
-    /// One more.
+    /// Adds one.
     fn push_one(&mut self, _item: T) -> Result<(), AllocError> {
         if self.count >= 1000 {
             return Err(AllocError);
@@ -112,7 +112,7 @@ impl<T: Drop> Collect<T> for Tally {
     }
 }
 
-/// How many readings there are, or the first failure. Memory is wanted only where there are more than 1000.
+/// How many readings there are, or the first failure. It fails with `Fault::Memory` only if there are more than 1000.
 pub fn tallied(alloc: Global, readings: Vec<Result<u32, u8>>) -> Result<u32, Fault<u8>>
     ensures value { IfOk result (λ n. Ok n ≡ on_value
         (collected (results readings.items)) (λ xs. Ok (length xs))) }

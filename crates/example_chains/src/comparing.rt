@@ -114,7 +114,7 @@ pub fn at_least_ten(left: Vec<Result<u32, u8>>, right: Vec<Result<u32, u8>>) -> 
         .ge(convert(right.into_iter()).take(10))
 }
 
-/// How the limit, repeated without end, compares with the readings: as with the first one that is not the limit, and greater where there is none. The readings end, so the comparison does.
+/// How the limit, repeated without end, compares with the readings: as with the first one that is not the limit, and greater if there is none. The readings end, so the comparison does.
 pub fn limit_against(
     limit: u32,
     readings: Vec<Result<u32, AllocError>>,
@@ -125,7 +125,7 @@ pub fn limit_against(
     repeat(limit).cmp(convert(readings.into_iter()))
 }
 
-/// Whether two iterators give equal items, of which the left is known to end.
+/// Whether two iterators yield equal items, of which the left is known to end.
 pub fn same_as<I, J>(left: I, right: J) -> Result<bool, I::Error>
 where
     I: FallibleIterator,
@@ -167,7 +167,7 @@ where
     rises_ahead(it.peekable())
 }
 
-/// The same, of a source that looks ahead.
+/// How often an item is greater than the one before it, modulo 2 ^ 64, or the first failure, of a source that looks ahead.
 fn rises_ahead<J: FallibleIterator<Item = u32>>(mut ahead: Peekable<J>) -> Result<u64, J::Error>
 where
     requires can_next { (peekable_contract J.contract).can_next (peekable_parts ahead) }

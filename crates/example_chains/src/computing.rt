@@ -25,7 +25,7 @@ pub fn above_100_of_ten(readings: Vec<Result<u32, u8>>) -> Result<usize, u8>
         .count()
 }
 
-/// How many readings there are, where none is above 100, and else the first failure: the code 7 for a reading above 100.
+/// How many readings there are, if none is above 100, and otherwise the first failure: the code 7 for a reading above 100.
 pub fn all_up_to_100(readings: Vec<Result<u32, u8>>) -> Result<usize, u8>
     ensures { result ≡ counted
         (mapped (λ x. if nat_lt 100 x then Err 7 else Ok x) (results readings.items)) }
@@ -55,7 +55,7 @@ pub fn sum(readings: Vec<Result<u32, u8>>) -> Result<u64, u8>
     )
 }
 
-/// The sum of the doubled readings, or the first failure: the code 7 where the sum doesn't fit.
+/// The sum of the doubled readings, or the first failure: the code 7 if the sum overflows.
 pub fn checked_sum(readings: Vec<Result<u32, u8>>) -> Result<u64, u8>
     ensures { result ≡ folded (λ e. e)
         (λ s x. if nat_lt (s + x) (2 ^ 64) then Ok (s + x) else Err 7) 0
@@ -66,7 +66,7 @@ pub fn checked_sum(readings: Vec<Result<u32, u8>>) -> Result<u64, u8>
         .fold(0, |sum: u64, x: u64| sum.checked_add(x).ok_or(7))
 }
 
-/// The fourth of the readings above 100, or the failure or the end that comes first.
+/// The fourth of the readings above 100, or the failure or the `Ok(None)` that comes first.
 pub fn fourth_above_100(readings: Vec<Result<u32, u8>>) -> Result<Option<u32>, u8>
     ensures { result ≡ nth_of 3 (filtered (λ x. Ok (nat_lt 100 x)) (results readings.items)) }
 {
@@ -75,7 +75,7 @@ pub fn fourth_above_100(readings: Vec<Result<u32, u8>>) -> Result<Option<u32>, u
         .nth(3)
 }
 
-/// The readings above 100, where memory suffices.
+/// The readings above 100, unless an allocation fails.
 pub fn collected_above_100(
     alloc: Global,
     readings: Vec<Result<u32, u8>>,
@@ -88,7 +88,7 @@ pub fn collected_above_100(
         .collect(alloc)
 }
 
-/// The running sums of the readings, modulo 2 ^ 64, where memory suffices.
+/// The running sums of the readings, modulo 2 ^ 64, unless an allocation fails.
 pub fn running_sums(alloc: Global, readings: Vec<Result<u32, u8>>) -> Result<Vec<u64>, Fault<u8>>
     ensures { CollectedAs (λ xs v. v.items ≡ xs)
         (scanned (λ s x. (Ok (Some ((s + x) % 2 ^ 64)), (s + x) % 2 ^ 64)) 0
@@ -114,7 +114,7 @@ pub fn halves(alloc: Global, readings: Vec<Result<u32, u8>>) -> Result<Vec<u32>,
         .collect(alloc)
 }
 
-/// The sum of the products of two columns, place by place, modulo 2 ^ 64.
+/// The sum of the products of two columns, position by position, modulo 2 ^ 64.
 pub fn products(left: &[u32], right: &[u32]) -> Result<u64, u8>
     ensures { result ≡ folded (λ e. e) (λ s p. Ok ((s + p.0 * p.1) % 2 ^ 64)) 0
         (zipped (items left.now) (items right.now)) }

@@ -26,7 +26,7 @@ pub fn any_above_100(readings: Vec<Result<u32, u8>>) -> Result<bool, u8>
         .any(|reading| Ok(reading > 100))
 }
 
-/// The sum of the readings modulo 2 ^ 32, or the first failure; none where there is no reading.
+/// The sum of the readings modulo 2 ^ 32, or the first failure; `None` if there is no reading.
 pub fn sum_of_some(readings: Vec<Result<u32, u8>>) -> Result<Option<u32>, u8>
     ensures { result ≡ reduced (λ s x. Ok ((s + x) % 2 ^ 32)) (results readings.items) }
 {
@@ -67,7 +67,7 @@ pub fn last_above_100(readings: Vec<Result<u32, u8>>) -> Result<Option<u32>, u8>
         .last()
 }
 
-/// The first ten readings, those above 100 and the others, where memory suffices.
+/// The first ten readings, those above 100 and the others, unless an allocation fails.
 pub fn partitioned_at_100(
     alloc: Global,
     readings: Vec<Result<u32, u8>>,
@@ -80,7 +80,7 @@ pub fn partitioned_at_100(
         .partition(alloc, |reading| Ok(*reading > 100))
 }
 
-/// The places of the readings and the readings themselves, as two columns, where memory suffices.
+/// The places of the readings and the readings themselves, as two columns, unless an allocation fails.
 pub fn two_columns(
     alloc: Global,
     readings: Vec<Result<u32, u8>>,
@@ -91,7 +91,7 @@ pub fn two_columns(
     convert(readings.into_iter()).enumerate().unzip(alloc)
 }
 
-/// The readings above 100, and how many they are, or the first failure, where memory suffices.
+/// The readings above 100, and how many they are, or the first failure, unless an allocation fails.
 pub fn above_100_and_count(
     alloc: Global,
     readings: Vec<Result<u32, u8>>,
@@ -109,7 +109,7 @@ pub fn above_100_and_count(
     Ok((above, count))
 }
 
-/// The readings and their places, as two columns, or the first failure, where memory suffices.
+/// The readings and their places, as two columns, or the first failure, unless an allocation fails.
 pub fn columns_exchanged(
     alloc: Global,
     readings: Vec<Result<u32, u8>>,

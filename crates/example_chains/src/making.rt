@@ -1,4 +1,4 @@
-//! What a closure gives, what answers leave, what is held, rounds, and runs one after the other.
+//! What a closure yields, what draws leave, what is buffered, rounds, and runs one after the other.
 ghost use Rattle.std.specs.Prelude.{◌≡◌, ℕ, ◌+◌, ◌-◌, ◌%◌, ◌^◌, ◌≤◌, length, drop, List, Option, Result, Ok, IfOk, nat_lt};
 ghost use Rattle.std.specs.Vec.Iter.{into_iter_items};
 ghost use Rattle.fallible_iterator.specs.Showing.{TakesShown};
@@ -12,7 +12,7 @@ use fallible_iterator::{FallibleIterator, IteratorExt, Peekable, convert, from_f
 use std::alloc::{AllocError, Global};
 use std::convert::Infallible;
 
-/// How many of the first ten readings, which a closure gives one by one, are above 100.
+/// How many of the first ten readings, which a closure returns one by one, are above 100.
 pub fn given_above_100(readings: Vec<Result<u32, u8>>) -> Result<usize, u8>
     ensures { result ≡ counted
         (filtered (λ x. Ok (nat_lt 100 x)) (taken 10 (results readings.items))) }
@@ -27,7 +27,7 @@ pub fn given_above_100(readings: Vec<Result<u32, u8>>) -> Result<usize, u8>
         .count()
 }
 
-/// How many readings come behind the first two, which are let go, or the first failure behind them; or want of memory for those two. No clause says what comes of fewer than two.
+/// How many readings come after the first two, which are dropped, or the first failure after them; or an allocation failure for those two. No clause says what it returns if there are fewer than two.
 pub fn count_behind_two_answers(
     alloc: Global,
     readings: Vec<Result<u32, u8>>,
@@ -40,7 +40,7 @@ pub fn count_behind_two_answers(
     Ok(it.count())
 }
 
-/// How many items a `Peekable` gives, with the one that it may hold.
+/// How many items a `Peekable` yields, with the one that it may have buffered.
 pub fn count_with_held<I: FallibleIterator>(ahead: Peekable<I>) -> Result<usize, I::Error>
 where
     I::Item: Drop,
@@ -53,7 +53,7 @@ where
     ahead.count()
 }
 
-/// The sum of the first n items of an iterator that begins anew at each end, modulo 2 ^ 64.
+/// The sum of the first n items of an iterator that starts anew at each `Ok(None)`, modulo 2 ^ 64.
 pub fn sum_of_rounds<I: FallibleIterator<Item = u32> + Clone>(
     it: I,
     n: usize,

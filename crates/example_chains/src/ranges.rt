@@ -19,7 +19,7 @@ pub fn sum_below(end: u32) -> Result<u64, Infallible>
     )
 }
 
-/// How many of the numbers below `end` are above 100, counted over a clone, and then their sum, modulo 2 ^ 64, of the original; or want of memory for the clone.
+/// How many of the numbers below `end` are above 100, counted over a clone, and then their sum, modulo 2 ^ 64, of the original; or an allocation failure for the clone.
 pub fn count_and_sum(
     end: u32,
 ) -> Result<(Result<usize, Infallible>, Result<u64, Infallible>), AllocError>
@@ -40,7 +40,7 @@ pub fn count_and_sum(
     Ok((count, sum))
 }
 
-/// The numbers below each bound, one run after the other, of which at most 1000 come, where memory suffices.
+/// The numbers below each bound, one run after the other, of which at most 1000 come, unless an allocation fails.
 pub fn runs(
     alloc: Global,
     bounds: Vec<Result<u32, Infallible>>,

@@ -23,7 +23,7 @@ pub fn span_above_100(readings: Vec<Result<u32, u8>>) -> Result<MinMaxResult<u32
         .minmax()
 }
 
-/// The only reading above 100, if there is one, or else the first two.
+/// The only reading above 100, if there is one, and otherwise the first two.
 pub fn only_above_100(readings: Vec<Result<u32, u8>>) -> Result<Result<Option<u32>, (u32, u32)>, u8>
     ensures { result ≡ at_most_one_of (filtered (λ x. Ok (nat_lt 100 x))
         (results readings.items)) }
@@ -54,7 +54,7 @@ pub fn tally(
     convert(readings.into_iter()).counts(alloc)
 }
 
-/// The reading with n readings behind it.
+/// The reading with n readings after it.
 pub fn nth_last(readings: Vec<Result<u32, u8>>, n: usize) -> Result<Option<u32>, u8>
     ensures { result ≡ nth_of n (reversed (results readings.items)) }
 {

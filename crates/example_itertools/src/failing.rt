@@ -62,7 +62,7 @@ pub fn count_noting(rows: Vec<Result<u32, u8>>, noted: &mut Option<u8>) -> Resul
         .count()
 }
 
-/// How many items there are, or the first failure, which is shown to `log`.
+/// How many items there are, or the first failure, which `log` is called on.
 pub fn count_logged<I: FallibleIterator, L: FnMut(&I::Error)>(
     it: I,
     log: L,

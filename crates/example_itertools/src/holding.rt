@@ -1,4 +1,4 @@
-//! Callers of the adapters that hold: each states what it computes, and the contracts of the calls prove it.
+//! Callers of the adapters that buffer: each states what it computes, and the contracts of the calls prove it.
 ghost use Rattle.std.specs.Prelude.{◌≡◌, ℕ, ◌+◌, ◌-◌, ◌%◌, ◌/◌, ◌^◌, List, Result, Some, Ok, Err, if◌then◌else◌, nat_eq, nat_lt};
 ghost use Rattle.fallible_iterator.specs.Lists.{Lists, counted, filtered, folded, nth_of, rest_first, results, taken};
 ghost use Rattle.fallible_itertools.specs.Coalesce.{coalesced};
@@ -16,7 +16,7 @@ pub fn changes(readings: Vec<Result<u32, u8>>) -> Result<usize, u8>
     convert(readings.into_iter()).dedup().count()
 }
 
-/// The same of the first ten that are above 100.
+/// How many of the first ten readings above 100 differ from the one before them, the first one counted, or the first failure.
 pub fn changes_above_100(readings: Vec<Result<u32, u8>>) -> Result<usize, u8>
     ensures { result ≡ counted (deduped nat_eq
         (taken 10 (filtered (λ x. Ok (nat_lt 100 x)) (results readings.items)))) }
@@ -28,7 +28,7 @@ pub fn changes_above_100(readings: Vec<Result<u32, u8>>) -> Result<usize, u8>
         .count()
 }
 
-/// The same over any source that lists a list, also one that goes on after its end.
+/// How many items differ from the one before them, modulo 2 ^ 64, over any source that lists a list, also one that goes on after its `Ok(None)`.
 pub fn changes_of<I: FallibleIterator<Item = u32>>(it: I) -> Result<u64, I::Error>
 where
     I::Error: Drop,
@@ -69,7 +69,7 @@ pub fn first_of_each_ten(readings: Vec<Result<u32, u8>>) -> Result<u64, u8>
         )
 }
 
-/// How many readings are left where each that is below the one before it is put to that, or the first failure.
+/// How many readings are left if each that is below the one before it is merged with that, or the first failure.
 pub fn peaks(readings: Vec<Result<u32, u8>>) -> Result<usize, u8>
     ensures { result ≡ counted (coalesced
         (λ x y. Ok (if nat_lt y x then Ok x else Err (x, y))) (results readings.items)) }

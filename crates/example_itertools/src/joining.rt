@@ -8,7 +8,7 @@ ghost use Rattle.fallible_itertools.specs.ZipLongest.{zipped_longest};
 use fallible_iterator::{FallibleIterator, convert, convert_fused};
 use fallible_itertools::FallibleItertools;
 
-/// How many places two columns have, each filled by one of them at least, or the first failure.
+/// How many positions two columns have, each filled by one of them at least, or the first failure.
 pub fn places_of_both(left: Vec<Result<u32, u8>>, right: Vec<Result<u32, u8>>) -> Result<usize, u8>
     ensures { result ≡ counted (zipped_longest (results left.items) (results right.items)) }
 {
@@ -27,7 +27,7 @@ pub fn readings_merged(left: Vec<Result<u32, u8>>, right: Vec<Result<u32, u8>>) 
         .count()
 }
 
-/// Whether two columns have the same last digits, place by place, or the first failure.
+/// Whether two columns have the same last digits, position by position, or the first failure.
 pub fn same_last_digits(left: Vec<Result<u32, u8>>, right: Vec<Result<u32, u8>>) -> Result<bool, u8>
     ensures { result ≡ equal_by (λ x y. Ok (nat_eq (x % 10) (y % 10)))
         (results left.items) (results right.items) }

@@ -1,4 +1,4 @@
-//! Callers of the adapters that let answers pass: each states what it computes, and the contracts of the calls prove it.
+//! Callers of the adapters that let items pass: each states what it computes, and the contracts of the calls prove it.
 ghost use Rattle.std.specs.Prelude.{◌≡◌, ℕ, ◌+◌, ◌-◌, ◌%◌, ◌^◌, List, Ok, Result, nat_lt};
 ghost use Rattle.fallible_iterator.specs.Contract.{AtMost};
 ghost use Rattle.fallible_iterator.specs.Lists.{Lists, counted, folded, pointed_to, results, taken_while};
@@ -18,7 +18,7 @@ pub fn sum_of_copies(readings: Vec<Result<&u32, u8>>) -> Result<u64, u8>
     )
 }
 
-/// How many readings come up to and with the first one that isn't above 100, or the first failure before.
+/// How many readings come up to the first one that isn't above 100, and with it, or the first failure before.
 pub fn up_to_a_low_one(readings: Vec<Result<u32, u8>>) -> Result<usize, u8>
     ensures { result ≡ counted
         (taken_while_inclusive (λ x. Ok (nat_lt 100 x)) (results readings.items)) }

@@ -1,4 +1,4 @@
-//! Folds that stop before the end, and keys that come in order.
+//! Folds that may stop early, and keys that come in order.
 ghost use Rattle.std.specs.Prelude.{◌≡◌, ◌+◌, ◌%◌, ◌^◌, ℕ, eqb, List, Result, Ok, Err, if◌then◌else◌, nat_lt};
 ghost use Rattle.std.specs.Ordering.{nat_cmp};
 ghost use Rattle.fallible_iterator.specs.Comparing.{by_cmp};
@@ -27,7 +27,7 @@ pub fn sum_up_to_zero(readings: Vec<Result<u32, u8>>) -> Result<FoldWhile<u32>, 
     )
 }
 
-/// The item behind the first 0, or the first failure; none where there is no 0.
+/// The item after the first 0, or the first failure; `None` if there is no 0.
 pub fn item_behind_zero<I: FallibleIterator<Item = u32>>(mut it: I) -> Result<Option<u32>, I::Error>
 where
     requires can_next { I.contract.can_next it }

@@ -1,4 +1,4 @@
-//! Sums and products that may not fit.
+//! Sums and products that may overflow.
 ghost use Rattle.std.specs.Prelude.{◌≡◌, ◌^◌, ℤ, pos, List, Result, Ok, nat_lt};
 ghost use Rattle.fallible_iterator.specs.Lists.{Lists, filtered, results, taken};
 ghost use Rattle.fallible_itertools.specs.CheckedSum.{product_within, sum_below, totalled};
@@ -6,7 +6,7 @@ ghost use Rattle.fallible_itertools.specs.CheckedSum.{product_within, sum_below,
 use fallible_iterator::{FallibleIterator, convert};
 use fallible_itertools::FallibleItertools;
 
-/// The sum of the readings above 100, or the first failure; none where it is 2 ^ 32 or more.
+/// The sum of the readings above 100, or the first failure; `None` if it is 2 ^ 32 or more.
 pub fn sum_above_100(readings: Vec<Result<u32, u8>>) -> Result<Option<u32>, u8>
     ensures { result ≡ totalled (sum_below (2 ^ 32)) 0
         (filtered (λ x. Ok (nat_lt 100 x)) (results readings.items)) }
@@ -16,7 +16,7 @@ pub fn sum_above_100(readings: Vec<Result<u32, u8>>) -> Result<Option<u32>, u8>
         .checked_sum()
 }
 
-/// The product of the first three items, or the first failure among them; none where it doesn't fit.
+/// The product of the first three items, or the first failure among them; `None` if it overflows.
 pub fn product_of_three<I: FallibleIterator<Item = i64>>(it: I) -> Result<Option<i64>, I::Error>
 where
     requires { I.contract.can_next it }

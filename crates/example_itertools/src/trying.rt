@@ -28,7 +28,7 @@ impl From<u8> for Trouble {
     }
 }
 
-/// Nothing, where no reading above 0 is above 100; or the trouble that comes first.
+/// Nothing, if no reading above 0 is above 100; or the trouble that comes first.
 pub fn check_each(readings: Vec<Result<u32, u8>>) -> Result<(), Trouble>
     ensures { result ≡ try_each_done (λ code. Trouble.Failed code)
         (λ x. if nat_lt 100 x then Err (Trouble.TooLarge x) else Ok tt)
@@ -74,7 +74,7 @@ where
     })
 }
 
-/// The item behind the first one that is 7; none where there is no such one, and the trouble that comes first.
+/// The item after the first one that is 7; `None` if there is no such one, and the trouble that comes first.
 pub fn behind_seven<I: FallibleIterator<Item = u32, Error = u8>>(
     mut it: I,
 ) -> Result<Option<u32>, Trouble>
